@@ -1,0 +1,4 @@
+pub mod Ecn
+pub mod Ids
+pub mod Errors
+pub mod Config
