@@ -11,6 +11,7 @@ mod instant;
 mod list;
 mod packet;
 mod param;
+mod serial;
 
 pub use chunk::{
     Chunk, ChunkAbort, ChunkError, ChunkForwardTsn, ChunkHeartbeat, ChunkIForwardTsn, ChunkInit,
@@ -25,3 +26,4 @@ pub use instant::{EcnCodepoint, Instant};
 pub use list::List;
 pub use packet::{CommonHeader, Packet};
 pub use param::{Param, ParamOutgoingResetRequest, ParamReconfigResponse, ReconfigResult};
+pub use serial::{sna16gt, sna16gte, sna16lt, sna16lte, sna32gt, sna32gte, sna32lt, sna32lte};

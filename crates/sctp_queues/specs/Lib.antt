@@ -1,0 +1,7 @@
+pub mod Lending
+pub mod Message
+pub mod Outbound
+pub mod Reassembly
+pub mod Stats
+pub mod Stream
+pub mod Streams

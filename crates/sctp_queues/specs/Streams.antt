@@ -1,0 +1,47 @@
+-- The live streams of an association and their generations.
+use Rattle.std.specs.Prelude.{ℕ, Bool, List, [], ◌∷◌, ◌+◌, ◌-◌, ◌^◌, fold, map, min, nat_lt, Option, Some, None}
+use Rattle.std.specs.Ordering.{nat_cmp}
+use Rattle.std.specs.BTreeMap.{is_at, insert_entry}
+use Rattle.std.specs.Map.{lookup, set_value}
+use Rattle.sctp_wire_types.specs.declared.ids.PayloadProtocolIdentifier.{PayloadProtocolIdentifier}
+use Rattle.sctp_queues.specs.Reassembly.{bytes_held}
+use Rattle.sctp_queues.specs.Stream.{Stream, fresh_stream}
+
+pub record StreamMap : Type 0 where
+  -- the live streams by their identifiers, which ascend
+  pub by_id : List (ℕ × Stream)
+  -- the number of the next generation
+  pub next_generation : ℕ
+
+abbrev pub no_stream : StreamMap
+no_stream = record { by_id = []; next_generation = 0 }
+
+-- the live stream of an identifier
+abbrev pub stream_at : StreamMap → ℕ → Option Stream
+stream_at m id = lookup (is_at (nat_cmp id)) m.by_id
+
+-- the stream of this identifier, if it is live, is this one
+abbrev pub with_stream : StreamMap → ℕ → Stream → StreamMap
+with_stream m id s = record m { by_id = set_value (is_at (nat_cmp id)) m.by_id s }
+
+abbrev pub generation_left : StreamMap → Bool
+generation_left m = nat_lt m.next_generation (2 ^ 64 - 1)
+
+-- a new stream in the next generation
+abbrev pub made : StreamMap → ℕ → PayloadProtocolIdentifier → StreamMap
+made m id kind = record {
+  by_id = insert_entry nat_cmp m.by_id id (fresh_stream id m.next_generation kind);
+  next_generation = m.next_generation + 1;
+}
+
+-- the bytes that came and were not read, at most the greatest number of 64 bits
+abbrev pub bytes_waiting : StreamMap → ℕ
+bytes_waiting m = fold (λ sum s. min (sum + bytes_held s.reassembly.held) (2 ^ 64 - 1)) 0 (map (λ e. e.1) m.by_id)
+
+abbrev pub popped_from : List (ℕ × Stream) → ℕ → StreamMap × Option Stream
+popped_from [] next = (record { by_id = []; next_generation = next }, None)
+popped_from (e ∷ es) next = (record { by_id = es; next_generation = next }, Some e.1)
+
+-- what is left without the stream of the least identifier, and that stream
+abbrev pub popped : StreamMap → StreamMap × Option Stream
+popped m = popped_from m.by_id m.next_generation

@@ -1,0 +1,102 @@
+// The live streams of an association.
+ghost use Rattle.std.specs.Prelude.{◌≡◌, ◌+◌, ◌-◌, ◌<◌, ◌^◌, OnOk, OnErr, is_some};
+ghost use Rattle.std.specs.Option.{option_copied};
+ghost use Rattle.std.specs.Borrow.{sem};
+ghost use Rattle.sctp_queues.specs.Streams.{no_stream, stream_at, made, generation_left, bytes_waiting, popped};
+ghost use Rattle.sctp_queues.specs.Lending.{LendsStream};
+
+use crate::StreamState;
+use sctp_wire_types::{PayloadProtocolIdentifier, StreamId};
+use std::alloc::{AllocError, Global};
+use std::collections::BTreeMap;
+use std::marker::Model;
+
+/// Streams by their identifiers, and the number that the next generation gets.
+#[derive(Drop)]
+pub struct Streams {
+    by_id: BTreeMap<StreamId, StreamState>,
+    next_generation: u64,
+}
+
+impl Model for Streams {
+    ghost use Rattle.sctp_queues.specs.Streams.{StreamMap};
+
+    ghost Value = { StreamMap };
+
+    ghost view = { λ s. record { by_id = s.by_id.entries; next_generation = s.next_generation } };
+}
+
+impl Streams {
+    /// No stream; takes no memory.
+    pub fn new(alloc: Global) -> Self
+        ensures { result ≡ no_stream }
+    {
+        Streams {
+            by_id: BTreeMap::new(alloc),
+            next_generation: 0,
+        }
+    }
+
+    /// Whether a stream of this identifier is live.
+    pub fn contains(&self, id: StreamId) -> bool
+        ensures { result ≡ is_some (stream_at self.now id) }
+    {
+        self.by_id.contains_key(&id)
+    }
+
+    /// The live stream of this identifier.
+    pub fn get(&self, id: StreamId) -> Option<&StreamState>
+        ensures { option_copied result ≡ stream_at self.now id }
+    {
+        self.by_id.get(&id)
+    }
+
+    /// The live stream of this identifier, to be changed.
+    pub fn get_mut(&mut self, id: StreamId) -> Option<&mut StreamState>
+        ensures* lends { sem 𝓛 (LendsStream self.entry id result) }
+    {
+        self.by_id.get_mut(&id)
+    }
+
+    /// Whether a generation is left that a new stream can have.
+    pub fn has_generation(&self) -> bool
+        ensures { result ≡ generation_left self.now }
+    {
+        self.next_generation < u64::MAX
+    }
+
+    /// Makes a stream, in the next generation.
+    pub fn make(
+        &mut self,
+        alloc: Global,
+        id: StreamId,
+        default_payload_type: PayloadProtocolIdentifier,
+    ) -> Result<(), AllocError>
+        requires { self.old.next_generation < 2 ^ 64 - 1 }
+        ensures ok { OnOk result (self.new ≡ made self.old id default_payload_type) }
+        ensures err { OnErr result (self.new ≡ self.old) }
+    {
+        let stream = StreamState::new(alloc, id, self.next_generation, default_payload_type);
+        self.by_id.insert(id, stream)?;
+        self.next_generation += 1;
+        Ok(())
+    }
+
+    /// Bytes that came and were not read, of all streams, at most the greatest u64.
+    pub fn waiting_bytes(&self) -> u64
+        ensures { result ≡ bytes_waiting self.now }
+    {
+        self.by_id.values().fold(
+            0u64,
+            |sum, stream| sum.saturating_add(stream.waiting_bytes()),
+        )
+    }
+
+    /// The stream with the least identifier, taken out.
+    pub fn pop_first(&mut self) -> Option<StreamState>
+        ensures { popped self.old ≡ (self.new, result) }
+    {
+        let (_, stream) = self.by_id.pop_first()?;
+        Some(stream)
+    }
+}
