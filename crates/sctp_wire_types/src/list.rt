@@ -45,6 +45,15 @@ impl<T> List<T> {
         self.items.as_slice()
     }
 
+    /// The items as a `Vec`.
+    pub fn into_vec(self) -> Vec<T>
+        ensures { result.items ≡ self }
+    {
+        let List { items } = self;
+        items
+    }
+
+    /// Number of items.
     pub fn len(&self) -> usize
         ensures { result ≡ length self.now }
     {

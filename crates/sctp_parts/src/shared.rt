@@ -1,0 +1,45 @@
+// What an association and the endpoint that holds it tell each other.
+ghost use Rattle.std.specs.Prelude.{◌≡◌, ◌↔◌, IsTrue};
+
+pub use sctp_wire_types::{EcnCodepoint, Instant};
+
+/// A number by which the layer above knows an association. It is not sent.
+pub type AssociationId = u32;
+
+/// An association's number, and how many were issued before it.
+#[derive(Clone, Copy, Debug)]
+pub struct IssuedAid {
+    pub sequence: u64,
+    pub id: AssociationId,
+}
+
+/// What an association tells its endpoint.
+#[derive(Debug, Drop)]
+pub struct EndpointEvent {
+    inner: EndpointEventInner,
+}
+
+#[derive(Clone, Copy, Debug, PartialEq, Eq)]
+enum EndpointEventInner {
+    Drained,
+}
+
+impl EndpointEvent {
+    ghost use Rattle.sctp_parts.specs.Shared.{drained_event};
+
+    /// The event that the association will queue no more of them.
+    pub fn drained() -> Self
+        ensures { result ≡ drained_event }
+    {
+        EndpointEvent {
+            inner: EndpointEventInner::Drained,
+        }
+    }
+
+    /// Whether this is the last event of its association.
+    pub fn is_drained(&self) -> bool
+        ensures { IsTrue result ↔ (self.now ≡ drained_event) }
+    {
+        self.inner == EndpointEventInner::Drained
+    }
+}

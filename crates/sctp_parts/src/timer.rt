@@ -1,0 +1,443 @@
+// Timers of an association and the estimate of its retransmission timeout.
+ghost use Rattle.std.specs.Prelude.{◌≡◌, ◌↔◌, Some, None, IfSome, IsNone};
+ghost use Rattle.sctp_parts.specs.Estimate.{initial_estimate, measured, forgotten};
+
+use crate::shared::Instant;
+use std::marker::Model;
+
+/// Interval of the timer of delayed acknowledgements, in ms.
+pub const ACK_INTERVAL: u64 = 200;
+
+const RTO_INITIAL: u64 = 3000;
+const RTO_MIN: u64 = 1000;
+const RTO_MAX: u64 = 60_000;
+
+/// The timers of an association, in the order in which they are looked at.
+#[derive(Clone, Copy, Debug, PartialEq, Eq, PartialOrd, Ord)]
+pub enum Timer {
+    T1Init = 0,
+    T1Cookie = 1,
+    T2Shutdown = 2,
+    T3RTX = 3,
+    Reconfig = 4,
+    Ack = 5,
+}
+
+impl Timer {
+    /// All timers, in their order.
+    pub const VALUES: [Timer; 6] = [
+        Timer::T1Init,
+        Timer::T1Cookie,
+        Timer::T2Shutdown,
+        Timer::T3RTX,
+        Timer::Reconfig,
+        Timer::Ack,
+    ];
+}
+
+#[derive(Clone, Copy, Debug)]
+struct Entry {
+    moment: Option<Instant>,
+    retries: usize,
+    exempt: bool,
+}
+
+impl Model for Entry {
+    ghost use Rattle.sctp_parts.specs.Timers.{TimerState};
+
+    ghost Value = { TimerState };
+
+    ghost view = { λ e. record { moment = e.moment; retries = e.retries; exempt = e.exempt } };
+
+    ghost inverse = { λ s. record { moment = s.moment; retries = s.retries; exempt = s.exempt } };
+}
+
+/// When each timer expires, how often it did, and which expiry adds no retry.
+#[derive(Clone, Copy, Debug)]
+pub struct TimerTable {
+    t1_init: Entry,
+    t1_cookie: Entry,
+    t2_shutdown: Entry,
+    t3_rtx: Entry,
+    reconfig: Entry,
+    ack: Entry,
+    handshake_limit: Option<usize>,
+    data_limit: Option<usize>,
+    rto_max: u64,
+}
+
+impl Model for TimerTable {
+    ghost use Rattle.sctp_parts.specs.Timers.{Timers};
+
+    ghost Value = { Timers };
+
+    ghost view = { λ t. record {
+        t1_init = t.t1_init; t1_cookie = t.t1_cookie; t2_shutdown = t.t2_shutdown;
+        t3_rtx = t.t3_rtx; reconfig = t.reconfig; ack = t.ack;
+        handshake_limit = t.handshake_limit; data_limit = t.data_limit; rto_max = t.rto_max } };
+
+    ghost inverse = { λ t. record {
+        t1_init = t.t1_init; t1_cookie = t.t1_cookie; t2_shutdown = t.t2_shutdown;
+        t3_rtx = t.t3_rtx; reconfig = t.reconfig; ack = t.ack;
+        handshake_limit = t.handshake_limit; data_limit = t.data_limit; rto_max = t.rto_max } };
+}
+
+impl Default for TimerTable {
+    ghost use Rattle.std.specs.Prelude.{◌≡◌, None};
+    ghost use Rattle.sctp_parts.specs.Timers.{stopped_timers};
+
+    ghost is_default = { λ t. t ≡ stopped_timers None None 60000 };
+
+    /// No limits, and a greatest interval of 60,000 ms.
+    fn default() -> Self {
+        TimerTable::new(None, None, RTO_MAX)
+    }
+}
+
+impl TimerTable {
+    ghost use Rattle.sctp_parts.specs.Timers.{
+        stopped_timers, stopped, moment_of, with_moment, least_moment, IsNoneArmed, IsLeastArmed, started, restarted_if_stale,
+        with_stopped, without_retries, with_exemption, after_expiry, expiry_of, timer_at, with_timer,
+        limit_of, run_of, millis_later};
+
+    /// Six stopped timers. `max_init` limits the retries of T1Init, T1Cookie and Reconfig, `max_data` those of T3RTX;
+    /// None is no limit. `rto_max` is the greatest interval, in ms, to which a timer backs off.
+    pub fn new(max_init: Option<usize>, max_data: Option<usize>, rto_max: u64) -> Self
+        ensures { result ≡ stopped_timers max_init max_data rto_max }
+    {
+        let stopped = Entry::stopped();
+        TimerTable {
+            t1_init: stopped,
+            t1_cookie: stopped,
+            t2_shutdown: stopped,
+            t3_rtx: stopped,
+            reconfig: stopped,
+            ack: stopped,
+            handshake_limit: max_init,
+            data_limit: max_data,
+            rto_max,
+        }
+    }
+
+    /// Arms the timer at a moment, or disarms it, and leaves its retries and its exemption.
+    pub fn set(&mut self, timer: Timer, moment: Option<Instant>)
+        ensures { self.new ≡ with_moment timer moment self.old }
+    {
+        let mut entry = self.entry(timer);
+        entry.moment = moment;
+        self.set_entry(timer, entry);
+    }
+
+    /// When the timer expires, None where it is not armed.
+    pub fn get(&self, timer: Timer) -> Option<Instant>
+        ensures { result ≡ moment_of timer self.now }
+    {
+        self.entry(timer).moment
+    }
+
+    /// The least armed moment.
+    pub fn next_timeout(&self) -> Option<Instant>
+        ensures moment { result ≡ least_moment self.now }
+        ensures none { IsNone result ↔ IsNoneArmed self.now }
+        ensures least { IfSome result (λ moment. IsLeastArmed self.now moment) }
+    {
+        let handshake = earlier(self.t1_init.moment, self.t1_cookie.moment);
+        let sending = earlier(self.t2_shutdown.moment, self.t3_rtx.moment);
+        let others = earlier(self.reconfig.moment, self.ack.moment);
+        earlier(earlier(handshake, sending), others)
+    }
+
+    /// Arms the timer `interval` ms from `now`, backed off by its retries but for Ack.
+    pub fn start(&mut self, timer: Timer, now: Instant, interval: u64)
+        ensures { self.new ≡ started timer now interval self.old }
+    {
+        let run = self.run(timer, interval);
+        self.set(timer, Some(now.plus_millis(run)));
+    }
+
+    /// Starts the timer, unless it is armed at a moment that is not before `now`.
+    pub fn restart_if_stale(&mut self, timer: Timer, now: Instant, interval: u64)
+        ensures { self.new ≡ restarted_if_stale timer now interval self.old }
+    {
+        if let Some(moment) = self.get(timer) {
+            if moment >= now {
+                return;
+            }
+        }
+        self.start(timer, now, interval);
+    }
+
+    /// Disarms the timer and clears its retries and its exemption.
+    pub fn stop(&mut self, timer: Timer)
+        ensures { self.new ≡ with_stopped timer self.old }
+    {
+        self.set_entry(timer, Entry::stopped());
+    }
+
+    /// Clears the timer's retries and leaves its moment.
+    pub fn reset_retrans(&mut self, timer: Timer)
+        ensures { self.new ≡ without_retries timer self.old }
+    {
+        let mut entry = self.entry(timer);
+        entry.retries = 0;
+        self.set_entry(timer, entry);
+    }
+
+    /// Exempts the timer's next expiry: it will add no retry.
+    pub fn suppress_error_count(&mut self, timer: Timer)
+        ensures { self.new ≡ with_exemption timer self.old }
+    {
+        let mut entry = self.entry(timer);
+        entry.exempt = true;
+        self.set_entry(timer, entry);
+    }
+
+    /// Whether the timer is armed at a moment that is not after `after`; then whether this expiry passes its limit; and
+    /// its retries. An expiry adds one retry or uses up the exemption. The timer stays armed.
+    pub fn is_expired(&mut self, timer: Timer, after: Instant) -> (bool, bool, usize)
+        ensures state { self.new ≡ after_expiry timer after self.old }
+        ensures answer { result ≡ expiry_of timer after self.old }
+    {
+        let mut entry = self.entry(timer);
+        let expired = entry.is_due(after);
+        let mut failure = false;
+        if expired {
+            failure = entry.count_expiry(self.limit(timer));
+            self.set_entry(timer, entry);
+        }
+        (expired, failure, entry.retries)
+    }
+
+    fn entry(&self, timer: Timer) -> Entry
+        ensures { result ≡ timer_at timer self.now }
+    {
+        match timer {
+            Timer::T1Init => self.t1_init,
+            Timer::T1Cookie => self.t1_cookie,
+            Timer::T2Shutdown => self.t2_shutdown,
+            Timer::T3RTX => self.t3_rtx,
+            Timer::Reconfig => self.reconfig,
+            Timer::Ack => self.ack,
+        }
+    }
+
+    fn set_entry(&mut self, timer: Timer, entry: Entry)
+        ensures { self.new ≡ with_timer timer entry self.old }
+    {
+        match timer {
+            Timer::T1Init => self.t1_init = entry,
+            Timer::T1Cookie => self.t1_cookie = entry,
+            Timer::T2Shutdown => self.t2_shutdown = entry,
+            Timer::T3RTX => self.t3_rtx = entry,
+            Timer::Reconfig => self.reconfig = entry,
+            Timer::Ack => self.ack = entry,
+        }
+    }
+
+    fn limit(&self, timer: Timer) -> Option<usize>
+        ensures { result ≡ limit_of timer self.now }
+    {
+        match timer {
+            Timer::T1Init | Timer::T1Cookie | Timer::Reconfig => self.handshake_limit,
+            Timer::T3RTX => self.data_limit,
+            Timer::T2Shutdown | Timer::Ack => None,
+        }
+    }
+
+    // How long the timer runs, in ms.
+    fn run(&self, timer: Timer, interval: u64) -> u64
+        ensures { result ≡ run_of timer interval self.now }
+    {
+        if timer == Timer::Ack {
+            interval
+        } else {
+            calculate_next_timeout(interval, self.entry(timer).retries, self.rto_max)
+        }
+    }
+}
+
+impl Entry {
+    ghost use Rattle.std.specs.Prelude.{◌&&◌, not};
+    ghost use Rattle.sctp_parts.specs.Timers.{stopped, is_due, expired_state, passes};
+
+    fn stopped() -> Self
+        ensures { result ≡ stopped }
+    {
+        Entry {
+            moment: None,
+            retries: 0,
+            exempt: false,
+        }
+    }
+
+    fn is_due(&self, after: Instant) -> bool
+        ensures { result ≡ is_due self.now.moment after }
+    {
+        match self.moment {
+            Some(moment) => moment <= after,
+            None => false,
+        }
+    }
+
+    // Answers whether the retry that was added passes the limit.
+    fn count_expiry(&mut self, limit: Option<usize>) -> bool
+        ensures state { self.new ≡ expired_state self.old }
+        ensures failure { result ≡ (not self.old.exempt && passes self.new.retries limit) }
+    {
+        if self.exempt {
+            self.exempt = false;
+            return false;
+        }
+        self.retries = self.retries.saturating_add(1);
+        match limit {
+            Some(limit) => self.retries > limit,
+            None => false,
+        }
+    }
+}
+
+ghost use Rattle.sctp_parts.specs.Timers.{earlier as earlier_of, backed_off};
+
+fn earlier(a: Option<Instant>, b: Option<Instant>) -> Option<Instant>
+    ensures { result ≡ earlier_of a b }
+{
+    match (a, b) {
+        (Some(x), Some(y)) => Some(if x < y { x } else { y }),
+        (Some(x), None) => Some(x),
+        (None, y) => y,
+    }
+}
+
+/// The timeout `rto`, in ms, doubled `n_rtos` times, up to `rto_max` (RFC 4960 section 6.3.3, rule E2).
+pub fn calculate_next_timeout(rto: u64, n_rtos: usize, rto_max: u64) -> u64
+    ensures { result ≡ backed_off rto n_rtos rto_max }
+{
+    if n_rtos < 31 {
+        rto.saturating_mul(1 << n_rtos).min(rto_max)
+    } else {
+        rto_max
+    }
+}
+
+/// The estimate of the retransmission timeout (RFC 4960 section 6.3.1), in ms.
+#[derive(Debug, Drop)]
+pub struct RtoManager {
+    srtt: u64,
+    // Four times the variation of the round-trip time, with 16 fractional bits.
+    four_rttvar: u64,
+    rto: u64,
+    no_update: bool,
+    rto_initial: u64,
+    rto_min: u64,
+    rto_max: u64,
+}
+
+impl Model for RtoManager {
+    ghost use Rattle.sctp_parts.specs.Estimate.{Estimate};
+
+    ghost Value = { Estimate };
+
+    ghost view = { λ r. record {
+        srtt = r.srtt; four_rttvar = r.four_rttvar; rto = r.rto; no_update = r.no_update;
+        initial = r.rto_initial; least = r.rto_min; greatest = r.rto_max } };
+}
+
+impl Default for RtoManager {
+    ghost is_default = { λ r. r ≡ initial_estimate 3000 1000 60000 };
+
+    /// An initial timeout of 3000 ms, at least 1000 and at most 60,000.
+    fn default() -> Self {
+        RtoManager::new(RTO_INITIAL, RTO_MIN, RTO_MAX)
+    }
+}
+
+impl RtoManager {
+    /// No measurement yet. Where `least` is above `greatest` the timeout is `greatest`.
+    pub fn new(initial: u64, least: u64, greatest: u64) -> Self
+        ensures { result ≡ initial_estimate initial least greatest }
+    {
+        RtoManager {
+            srtt: 0,
+            four_rttvar: 0,
+            rto: initial,
+            no_update: false,
+            rto_initial: initial,
+            rto_min: least,
+            rto_max: greatest,
+        }
+    }
+
+    /// Takes in a measured round-trip time, in ms, and answers the smoothed one.
+    pub fn set_new_rtt(&mut self, rtt: u64) -> u64
+        ensures state { self.new ≡ measured rtt self.old }
+        ensures answer { result ≡ self.new.srtt }
+    {
+        if self.no_update {
+            return self.srtt;
+        }
+        self.four_rttvar = next_four_rttvar(self.srtt, self.four_rttvar, rtt);
+        self.srtt = next_srtt(self.srtt, rtt);
+        self.rto = timeout(self.srtt, self.four_rttvar, self.rto_min, self.rto_max);
+        self.srtt
+    }
+
+    /// The timeout, in ms.
+    pub fn get_rto(&self) -> u64
+        ensures { result ≡ self.now.rto }
+    {
+        self.rto
+    }
+
+    /// Forgets all measurements.
+    pub fn reset(&mut self)
+        ensures { self.new ≡ forgotten self.old }
+    {
+        if self.no_update {
+            return;
+        }
+        self.srtt = 0;
+        self.four_rttvar = 0;
+        self.rto = self.rto_initial;
+    }
+
+    /// Sets the timeout, in ms, and whether measurements and `reset` leave it as it is.
+    pub fn set_rto(&mut self, rto: u64, no_update: bool)
+        ensures { self.new ≡ record self.old { rto = rto; no_update = no_update } }
+    {
+        self.rto = rto;
+        self.no_update = no_update;
+    }
+}
+
+ghost use Rattle.sctp_parts.specs.Estimate.{
+    next_four_rttvar as four_rttvar_after, next_srtt as srtt_after, rto_of};
+ghost use Rattle.std.specs.Prelude.{min, ◌^◌, ◌-◌};
+
+fn next_four_rttvar(srtt: u64, four_rttvar: u64, rtt: u64) -> u64
+    ensures { result ≡ min (four_rttvar_after srtt four_rttvar rtt) (2 ^ 64 - 1) }
+{
+    let wide = if srtt == 0 {
+        2 * rtt as u128 * 65536
+    } else {
+        (6 * four_rttvar as u128 + 8 * srtt.abs_diff(rtt) as u128 * 65536) / 8
+    };
+    wide.min(u64::MAX as u128) as u64
+}
+
+fn next_srtt(srtt: u64, rtt: u64) -> u64
+    ensures { result ≡ srtt_after srtt rtt }
+{
+    if srtt == 0 {
+        rtt
+    } else {
+        ((7 * srtt as u128 + rtt as u128) / 8) as u64
+    }
+}
+
+fn timeout(srtt: u64, four_rttvar: u64, least: u64, greatest: u64) -> u64
+    ensures { result ≡ rto_of srtt four_rttvar least greatest }
+{
+    srtt.saturating_add(four_rttvar / 65536)
+        .max(least)
+        .min(greatest)
+}
