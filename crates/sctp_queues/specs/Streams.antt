@@ -1,11 +1,13 @@
 -- The live streams of an association and their generations.
-use Rattle.std.specs.Prelude.{ℕ, Bool, List, [], ◌∷◌, ◌+◌, ◌-◌, ◌^◌, fold, map, min, nat_lt, Option, Some, None}
+use Rattle.std.specs.Prelude.{ℕ, Bool, false, ◌==◌, if◌then◌else◌, List, [], ◌∷◌, ◌+◌, ◌-◌, ◌^◌, fold, map, min, nat_lt, Option, Some, None}
 use Rattle.std.specs.Ordering.{nat_cmp}
 use Rattle.std.specs.BTreeMap.{is_at, insert_entry}
 use Rattle.std.specs.Map.{lookup, set_value}
 use Rattle.sctp_wire_types.specs.declared.ids.PayloadProtocolIdentifier.{PayloadProtocolIdentifier}
-use Rattle.sctp_queues.specs.Reassembly.{bytes_held}
-use Rattle.sctp_queues.specs.Stream.{Stream, fresh_stream}
+use Rattle.sctp_queues.specs.declared.reassembly.HeldMessage.{HeldMessage}
+use Rattle.sctp_queues.specs.Message.{Message}
+use Rattle.sctp_queues.specs.Reassembly.{bytes_held, is_ready}
+use Rattle.sctp_queues.specs.Stream.{Stream, fresh_stream, released_from, stream_pushed, stream_read}
 
 pub record StreamMap : Type 0 where
   -- the live streams by their identifiers, which ascend
@@ -23,6 +25,47 @@ stream_at m id = lookup (is_at (nat_cmp id)) m.by_id
 -- the stream of this identifier, if it is live, is this one
 abbrev pub with_stream : StreamMap → ℕ → Stream → StreamMap
 with_stream m id s = record m { by_id = set_value (is_at (nat_cmp id)) m.by_id s }
+
+abbrev pub change_at : (Stream → Stream) → Option Stream → StreamMap → ℕ → StreamMap
+change_at f None m id = m
+change_at f (Some s) m id = with_stream m id (f s)
+
+-- the stream of this identifier, if it is live, is changed
+abbrev pub changed_stream : (Stream → Stream) → StreamMap → ℕ → StreamMap
+changed_stream f m id = change_at f (stream_at m id) m id
+
+-- a live stream is of this generation
+abbrev pub is_generation : Option Stream → ℕ → Bool
+is_generation None generation = false
+is_generation (Some s) generation = s.stats.generation == generation
+
+-- bytes of a generation are released, where it is still live
+abbrev pub released_in : StreamMap → ℕ → ℕ → ℕ → StreamMap
+released_in m id generation bytes =
+    if is_generation (stream_at m id) generation then changed_stream (λ s. released_from s bytes) m id else m
+
+abbrev pub pushed_at : Option Stream → StreamMap → ℕ → HeldMessage → StreamMap × Bool
+pushed_at None m id message = (m, false)
+pushed_at (Some s) m id message = (with_stream m id (stream_pushed s message).0, (stream_pushed s message).1)
+
+-- a message came on a stream, and whether it was kept
+abbrev pub pushed_in : StreamMap → ℕ → HeldMessage → StreamMap × Bool
+pushed_in m id message = pushed_at (stream_at m id) m id message
+
+abbrev pub read_at : Option Stream → StreamMap → ℕ → StreamMap × Option Message
+read_at None m id = (m, None)
+read_at (Some s) m id = (with_stream m id (stream_read s).0, (stream_read s).1)
+
+-- what a read on a stream leaves and gives
+abbrev pub read_in : StreamMap → ℕ → StreamMap × Option Message
+read_in m id = read_at (stream_at m id) m id
+
+abbrev pub is_readable_at : Option Stream → Bool
+is_readable_at None = false
+is_readable_at (Some s) = is_ready s.reassembly
+
+abbrev pub is_readable_in : StreamMap → ℕ → Bool
+is_readable_in m id = is_readable_at (stream_at m id)
 
 abbrev pub generation_left : StreamMap → Bool
 generation_left m = nat_lt m.next_generation (2 ^ 64 - 1)

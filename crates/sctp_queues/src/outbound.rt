@@ -84,6 +84,13 @@ impl OutboundQueue {
         self.pending.is_empty() && self.in_flight.is_empty()
     }
 
+    /// Number of pieces that wait.
+    pub fn pending_len(&self) -> usize
+        ensures { result ≡ length self.now.pending }
+    {
+        self.pending.len()
+    }
+
     /// Number of pieces in flight.
     pub fn inflight_len(&self) -> usize
         ensures { result ≡ length self.now.in_flight }

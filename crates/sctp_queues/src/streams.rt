@@ -1,12 +1,13 @@
 // The live streams of an association.
-ghost use Rattle.std.specs.Prelude.{◌≡◌, ◌+◌, ◌-◌, ◌<◌, ◌^◌, OnOk, OnErr, is_some};
-ghost use Rattle.std.specs.Option.{option_copied};
+ghost use Rattle.std.specs.Prelude.{◌≡◌, ◌+◌, ◌-◌, ◌<◌, ◌^◌, IfOk, IfSome, OnOk, OnErr, is_some};
+ghost use Rattle.std.specs.Option.{option_copied, option_copied_mut};
 ghost use Rattle.std.specs.Borrow.{sem};
-ghost use Rattle.sctp_queues.specs.Streams.{no_stream, stream_at, made, generation_left, bytes_waiting, popped};
+ghost use Rattle.sctp_queues.specs.Streams.{no_stream, stream_at, made, generation_left, bytes_waiting, popped, changed_stream, released_in, is_generation, pushed_in, read_in, is_readable_in};
+ghost use Rattle.sctp_queues.specs.Stream.{accepted_by};
 ghost use Rattle.sctp_queues.specs.Lending.{LendsStream};
 
-use crate::StreamState;
-use sctp_wire_types::{PayloadProtocolIdentifier, StreamId};
+use crate::{Chunks, HeldMessage, StreamState};
+use sctp_wire_types::{Error, PayloadProtocolIdentifier, StreamId};
 use std::alloc::{AllocError, Global};
 use std::collections::BTreeMap;
 use std::marker::Model;
@@ -54,8 +55,72 @@ impl Streams {
     /// The live stream of this identifier, to be changed.
     pub fn get_mut(&mut self, id: StreamId) -> Option<&mut StreamState>
         ensures* lends { sem 𝓛 (LendsStream self.entry id result) }
+        ensures value { option_copied_mut result ≡ stream_at self.old id }
     {
         self.by_id.get_mut(&id)
+    }
+
+    /// Counts an ordered message as accepted on a live stream.
+    pub fn accept(&mut self, id: StreamId, payload_type: PayloadProtocolIdentifier, bytes: u64)
+        requires { IfSome (stream_at self.old id) (λ s. s.buffered + bytes < 2 ^ 64) }
+        ensures { self.new ≡ changed_stream (λ s. accepted_by s payload_type bytes) self.old id }
+    {
+        if let Some(stream) = self.get_mut(id) {
+            stream.accept(payload_type, bytes);
+        }
+    }
+
+    /// Counts bytes of a generation as released, where it is still live.
+    pub fn release(&mut self, id: StreamId, generation: u64, bytes: u64)
+        ensures { self.new ≡ released_in self.old id generation bytes }
+    {
+        if self.is_live(id, generation) {
+            if let Some(stream) = self.get_mut(id) {
+                stream.release(bytes);
+            }
+        }
+    }
+
+    fn is_live(&self, id: StreamId, generation: u64) -> bool
+        ensures { result ≡ is_generation (stream_at self.now id) generation }
+    {
+        match self.get(id) {
+            Some(stream) => stream.stats().generation == generation,
+            None => false,
+        }
+    }
+
+    /// Keeps a message that came on a live stream, and answers whether it did; false where the stream is not live.
+    /// Where it is refused nothing changes.
+    #[tactic(auto, using(std::proofs::lemmas::Map::Steps::set_value_same))]
+    pub fn push(&mut self, id: StreamId, message: HeldMessage) -> Result<bool, Error>
+        ensures pushed { IfOk result (λ kept. pushed_in self.old id message ≡ (self.new, kept)) }
+        ensures unchanged { OnErr result (self.new ≡ self.old) }
+    {
+        match self.get_mut(id) {
+            Some(stream) => stream.push(message),
+            None => Ok(false),
+        }
+    }
+
+    /// Takes out the message of a live stream that is to be read next.
+    pub fn read(&mut self, id: StreamId) -> Option<Chunks>
+        ensures { read_in self.old id ≡ (self.new, result) }
+    {
+        match self.get_mut(id) {
+            Some(stream) => stream.read(),
+            None => None,
+        }
+    }
+
+    /// Whether a stream is live and a message of it can be read.
+    pub fn is_readable(&self, id: StreamId) -> bool
+        ensures { result ≡ is_readable_in self.now id }
+    {
+        match self.get(id) {
+            Some(stream) => stream.is_readable(),
+            None => false,
+        }
     }
 
     /// Whether a generation is left that a new stream can have.

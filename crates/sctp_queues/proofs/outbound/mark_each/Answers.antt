@@ -7,4 +7,4 @@ pub loop-piece-preserved : goal.loop-piece-preserved
 loop-piece-preserved c =
     rw (← c.piece-item.is)
     (map_over_more marked_again c.args.pieces.now c.loop-piece.pieces c.loop-piece.piece-index c.piece-item.result
-        (omega arith) c.loop-piece.invariant c.piece-item.is)
+    (omega arith) c.loop-piece.invariant c.piece-item.is)

@@ -1,0 +1,2 @@
+pub mod Handshake
+pub mod Receiver

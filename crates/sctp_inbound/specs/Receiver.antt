@@ -1,0 +1,66 @@
+-- What came from the peer and when it is acknowledged (RFC 4960 section 6.2).
+use Rattle.std.specs.Prelude.{ℕ, Bool, true, false, [], ◌+◌, ◌-◌, ◌%◌, ◌^◌, ◌==◌, ◌||◌, if◌then◌else◌}
+use Rattle.sctp_wire_types.specs.declared.chunk.ChunkSelectiveAck.{ChunkSelectiveAck}
+use Rattle.sctp_parts.specs.declared.state.AckState.{AckState}
+use Rattle.sctp_parts.specs.declared.state.AckState.TheVariants as states
+use Rattle.sctp_parts.specs.declared.timer.Timer.TheVariants as names
+use Rattle.sctp_parts.specs.Timers.{Timers, started, with_stopped}
+use Rattle.sctp_inbound.specs.declared.receiver.Receiver.{Receiver}
+use Rattle.sctp_inbound.specs.declared.receiver.AckWish.{AckWish}
+use Rattle.sctp_inbound.specs.declared.receiver.AckWish.TheVariants as wishes
+
+abbrev pub fresh_receiver : ℕ → ℕ → Receiver
+fresh_receiver size point = record { point = point; ack_state = states.Idle; buffer_size = size }
+
+-- the TSN after the cumulative TSN ack point
+abbrev pub is_next_after : Receiver → ℕ → Bool
+is_next_after r tsn = tsn == (r.point + 1) % 2 ^ 32
+
+abbrev pub taken_to : Receiver → ℕ → Receiver
+taken_to r tsn = record r { point = tsn }
+
+abbrev pub is_immediate : AckWish → Bool
+is_immediate wishes.None = false
+is_immediate wishes.Delayed = false
+is_immediate wishes.Immediate = true
+
+-- an acknowledgement waits already
+abbrev pub is_waiting : AckState → Bool
+is_waiting states.Idle = false
+is_waiting states.Immediate = true
+is_waiting states.Delay = true
+
+-- a packet is acknowledged at once where a chunk of it asks so or one before it waits for its acknowledgement
+abbrev pub asked : Receiver → AckWish → Bool → AckWish
+asked r wish immediate =
+    if immediate || is_immediate wish || is_waiting r.ack_state then wishes.Immediate else wishes.Delayed
+
+abbrev pub ended_packet : Receiver → AckWish → Receiver
+ended_packet r wishes.None = r
+ended_packet r wishes.Delayed = record r { ack_state = states.Delay }
+ended_packet r wishes.Immediate = record r { ack_state = states.Immediate }
+
+-- a delayed acknowledgement is due after 200 ms, an immediate one with the next packets
+abbrev pub ended_packet_timers : Timers → AckWish → ℕ → Timers
+ended_packet_timers t wishes.None now = t
+ended_packet_timers t wishes.Delayed now = started names.Ack now 200 t
+ended_packet_timers t wishes.Immediate now = with_stopped names.Ack t
+
+abbrev pub acknowledged_at_once : Receiver → Receiver
+acknowledged_at_once r = record r { ack_state = states.Immediate }
+
+-- the bytes that may still come while some wait
+abbrev pub credit_of : Receiver → ℕ → ℕ
+credit_of r waiting = r.buffer_size - waiting
+
+abbrev pub acknowledged : Receiver → Receiver
+acknowledged r = record r { ack_state = states.Idle }
+
+-- the acknowledgement that says what came (RFC 4960 section 3.3.4)
+abbrev pub sack_of : Receiver → ℕ → ChunkSelectiveAck
+sack_of r waiting = record {
+  cumulative_tsn_ack = r.point;
+  advertised_receiver_window_credit = credit_of r waiting;
+  gap_ack_blocks = [];
+  duplicate_tsn = [];
+}

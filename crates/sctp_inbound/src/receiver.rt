@@ -1,0 +1,112 @@
+// What came and when it is acknowledged.
+ghost use Rattle.std.specs.Prelude.{◌≡◌, IfOk};
+ghost use Rattle.sctp_inbound.specs.Receiver.{fresh_receiver, is_next_after, taken_to, asked, ended_packet, ended_packet_timers, credit_of, acknowledged_at_once, acknowledged, sack_of};
+
+use sctp_parts::state::AckState;
+use sctp_parts::timer::{ACK_INTERVAL, Timer, TimerTable};
+use sctp_wire_types::{ChunkSelectiveAck, Instant, List};
+use std::alloc::Global;
+
+/// How soon the chunks of one packet ask to be acknowledged.
+#[derive(Clone, Copy, Debug, PartialEq, Eq)]
+pub enum AckWish {
+    None,
+    Delayed,
+    Immediate,
+}
+
+/// The cumulative TSN ack point and the state of the acknowledgement (RFC 4960 section 6.2).
+#[derive(Clone, Copy, Debug)]
+pub struct Receiver {
+    /// Every TSN up to this one came or was skipped.
+    pub point: u32,
+    pub ack_state: AckState,
+    /// Bytes that may wait for their reader.
+    pub buffer_size: u32,
+}
+
+impl Receiver {
+    /// Nothing came; the first TSN to come is the one after `point`.
+    pub fn new(buffer_size: u32, point: u32) -> Self
+        ensures { result ≡ fresh_receiver buffer_size point }
+    {
+        Receiver {
+            point,
+            ack_state: AckState::Idle,
+            buffer_size,
+        }
+    }
+
+    /// Whether this is the TSN after the point.
+    pub fn is_next(&self, tsn: u32) -> bool
+        ensures { result ≡ is_next_after self.now tsn }
+    {
+        tsn == self.point.wrapping_add(1)
+    }
+
+    /// Moves the point to a TSN that came.
+    pub fn take(&mut self, tsn: u32)
+        ensures { self.new ≡ taken_to self.old tsn }
+    {
+        self.point = tsn;
+    }
+
+    /// The wish of a packet after one more chunk of it asked for an acknowledgement: at once where `immediate` is set
+    /// or the last packet waits already, else delayed.
+    pub fn ask(&self, wish: AckWish, immediate: bool) -> AckWish
+        ensures { result ≡ asked self.now wish immediate }
+    {
+        if immediate || wish == AckWish::Immediate || self.ack_state != AckState::Idle {
+            AckWish::Immediate
+        } else {
+            AckWish::Delayed
+        }
+    }
+
+    /// Carries out a packet's wish: acknowledge with the next poll, or 200 ms from `now` (RFC 4960 section 6.2).
+    pub fn end_of_packet(&mut self, timers: &mut TimerTable, wish: AckWish, now: Instant)
+        ensures state { self.new ≡ ended_packet self.old wish }
+        ensures timers { timers.new ≡ ended_packet_timers timers.old wish now }
+    {
+        match wish {
+            AckWish::None => {}
+            AckWish::Delayed => {
+                self.ack_state = AckState::Delay;
+                timers.start(Timer::Ack, now, ACK_INTERVAL);
+            }
+            AckWish::Immediate => {
+                self.ack_state = AckState::Immediate;
+                timers.stop(Timer::Ack);
+            }
+        }
+    }
+
+    /// The delay of an acknowledgement is over.
+    pub fn on_ack_timeout(&mut self)
+        ensures { self.new ≡ acknowledged_at_once self.old }
+    {
+        self.ack_state = AckState::Immediate;
+    }
+
+    /// Bytes that may still come while `waiting` bytes wait for their reader.
+    pub fn credit(&self, waiting: u64) -> u32
+        ensures { result ≡ credit_of self.now waiting }
+    {
+        let buffer = u64::from(self.buffer_size);
+        buffer.saturating_sub(waiting) as u32
+    }
+
+    /// The acknowledgement of what came (RFC 4960 section 3.3.4); none is due after it.
+    pub fn sack(&mut self, alloc: Global, waiting: u64) -> ChunkSelectiveAck
+        ensures state { self.new ≡ acknowledged self.old }
+        ensures sack { result ≡ sack_of self.old waiting }
+    {
+        self.ack_state = AckState::Idle;
+        ChunkSelectiveAck {
+            cumulative_tsn_ack: self.point,
+            advertised_receiver_window_credit: self.credit(waiting),
+            gap_ack_blocks: List::new(alloc),
+            duplicate_tsn: List::new(alloc),
+        }
+    }
+}
