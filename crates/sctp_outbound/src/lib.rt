@@ -1,13 +1,6 @@
-// A library with one function.
+//! What an association sends and how it learns that it came: the sender.
 #![tactic(auto)]
 
-ghost use Rattle.std.specs.Prelude.{◌≡◌};
-ghost use Rattle.sctp_outbound.specs.Echo.{echo_of};
+mod sender;
 
-// The `ensures` clause is the contract: what `echo` returns is `echo_of` of its argument, a definition
-// in `specs/Echo.antt`, which a caller's clause can cite too.
-pub fn echo(x: usize) -> usize
-    ensures { result ≡ echo_of x }
-{
-    x
-}
+pub use sender::{SackOutcome, Sender};
