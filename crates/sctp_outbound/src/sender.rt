@@ -1,5 +1,6 @@
 // The sender of DATA: windows, acknowledgements, retransmission.
 ghost use Rattle.sctp_parts.specs.Estimate.{measured};
+ghost use Rattle.sctp_queues.specs.Outbound.{all_marked};
 ghost use Rattle.sctp_queues.specs.Streams.{released_in};
 ghost use Rattle.std.specs.Prelude.{◌≡◌, ◌+◌, ◌-◌, ◌/◌, if◌then◌else◌, ◌≤◌, ◌<◌, ◌^◌, ◌++◌, ◌∷◌, [], OnErr, OnOk, IfOk, IfSome, length};
 ghost use Rattle.sctp_outbound.specs.Sender.{fresh_sender, window_left, marks, acked_point_of, points_to, sender_after_first, estimate_after_first, streams_after_first, chunk_of_piece, can_send_next, is_measured};
@@ -165,7 +166,9 @@ impl Sender {
     }
 
     /// Marks all that is in flight to be sent again (RFC 4960 section 6.3.3).
-    pub fn on_t3_timeout(&mut self) {
+    pub fn on_t3_timeout(&mut self)
+        ensures { self.new ≡ record self.old { queue = all_marked self.old.queue } }
+    {
         self.queue.mark_all_to_retransmit();
     }
 

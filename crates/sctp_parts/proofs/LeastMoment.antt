@@ -1,4 +1,4 @@
-use Rattle.std.proofs.Common.{◌≡◌, ◌↔◌, ℕ, ◌≤◌, min, Option, Some, None, IfSome, IsNone, refl, ap, sym, ◌∙◌, ◌⊎◌, inl, inr, ⊎_elim, arith, rules}
+use Rattle.std.proofs.Common.{◌≡◌, ◌↔◌, ℕ, ◌≤◌, min, Option, Some, None, IfSome, IsNone, refl, ap, sym, ◌∙◌, ◌⊎◌, ⊎_elim, arith, rules}
 use Rattle.sctp_parts.specs.declared.timer.Timer.{Timer}
 use Rattle.sctp_parts.specs.declared.timer.Timer.TheVariants.{T1Init, T1Cookie, T2Shutdown, T3RTX, Reconfig, Ack}
 use Rattle.sctp_parts.specs.Timers.{Timers, moment_of, earlier, least_moment, IsNoneArmed, IsLeastArmed}
@@ -37,12 +37,13 @@ least_at_most t timer =
     let above3 = at_most_trans _ e4 e3 above4 (left e3 _) in
     let above2 = at_most_trans _ e3 e2 above3 (left e2 _) in
     elim timer as (λ name. IsAtMost (least_moment t) (moment_of name t)) [
-        T1Init ↦ at_most_trans _ e2 _ above2 (left _ _)
+      | T1Init ↦ at_most_trans _ e2 _ above2 (left _ _)
       | T1Cookie ↦ at_most_trans _ e2 _ above2 (right t.t1_init.moment _)
       | T2Shutdown ↦ at_most_trans _ e3 _ above3 (right e2 _)
       | T3RTX ↦ at_most_trans _ e4 _ above4 (right e3 _)
       | Reconfig ↦ at_most_trans _ e5 _ above5 (right e4 _)
-      | Ack ↦ right e5 _ ]
+      | Ack ↦ right e5 _
+    ]
 
 -- a moment is that of one of the timers
 abbrev pub IsOfTimer : Timers → Option ℕ → Type 0
@@ -60,8 +61,8 @@ of_earlier t (Some a) (Some b) f g m e =
 least_of_timer : (t : Timers) → IsOfTimer t (least_moment t)
 least_of_timer t =
     of_earlier t _ _ (of_earlier t _ _ (of_earlier t _ _ (of_earlier t _ _ (of_earlier t _ _
-        (λ m e. (T1Init, e)) (λ m e. (T1Cookie, e))) (λ m e. (T2Shutdown, e))) (λ m e. (T3RTX, e)))
-        (λ m e. (Reconfig, e))) (λ m e. (Ack, e))
+    (λ m e. (T1Init, e)) (λ m e. (T1Cookie, e))) (λ m e. (T2Shutdown, e))) (λ m e. (T3RTX, e)))
+    (λ m e. (Reconfig, e))) (λ m e. (Ack, e))
 
 some_least : (o : Option ℕ) (P : ℕ → Type 0) → ((m : ℕ) → o ≡ Some m → P m) → IfSome o P
 some_least None P f = tt
@@ -70,8 +71,9 @@ some_least (Some m) P f = f m refl
 -- the least moment is armed and none is earlier
 pub least_armed : (t : Timers) → IfSome (least_moment t) (λ moment. IsLeastArmed t moment)
 least_armed t = some_least (least_moment t) _ (λ m e. record {
-    armed = least_of_timer t m e;
-    least = λ timer other is. let found = least_at_most t timer other is in omega (arith, found.2, same m found.0 (sym e ∙ found.1)) })
+  armed = least_of_timer t m e;
+  least = λ timer other is. let found = least_at_most t timer other is in omega (arith, found.2, same m found.0 (sym e ∙ found.1));
+})
   where
     same : (x y : ℕ) → Some x ≡ Some y → x ≡ y
     same x y h = grind (arith, rules, h)
@@ -86,8 +88,9 @@ is_none (Some m) e = grind (rules, e)
 
 -- there is no least moment exactly where no timer is armed
 pub none_armed : (t : Timers) → IsNone (least_moment t) ↔ IsNoneArmed t
-none_armed t =
-    ( (λ none timer. none_or (moment_of timer t) (λ x e. let found = least_at_most t timer x e in
-        grind (rules, sym (is_none (least_moment t) none) ∙ found.1)))
-    , (λ idle. let none = none_or (least_moment t) (λ m e. let found = least_of_timer t m e in
-        grind (rules, sym (idle found.0) ∙ found.1)) in rw none refl) )
+none_armed t = (
+  (λ none timer. none_or (moment_of timer t) (λ x e. let found = least_at_most t timer x e in
+      grind (rules, sym (is_none (least_moment t) none) ∙ found.1))),
+  (λ idle. let none = none_or (least_moment t) (λ m e. let found = least_of_timer t m e in
+      grind (rules, sym (idle found.0) ∙ found.1)) in rw none refl),
+)

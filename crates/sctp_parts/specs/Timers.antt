@@ -3,14 +3,15 @@ use Rattle.sctp_parts.specs.declared.timer.Timer.{Timer}
 use Rattle.sctp_parts.specs.declared.timer.Timer.TheVariants.{T1Init, T1Cookie, T2Shutdown, T3RTX, Reconfig, Ack}
 
 -- one timer: the moment, in ns, at which it expires (None where it is not armed), its retries, and whether its next
--- expiry is exempt, that is adds no retry
+-- expiry is exempt, that is adds no retry (RFC 4960 sections 6.3.2 and 8.1)
 pub record TimerState : Type 0 where
   pub moment : Option ℕ
   pub retries : ℕ
   pub exempt : Bool
 
 -- a map from the six names to their timers, with the limits on retries (None for no limit) of the handshake's timers
--- and of T3RTX, and the greatest interval, in ms, to which a timer backs off
+-- and of T3RTX, and the greatest interval, in ms, to which a timer backs off (RFC 4960 section 15: Max.Init.Retransmits,
+-- Association.Max.Retrans, RTO.Max)
 pub record Timers : Type 0 where
   pub t1_init : TimerState
   pub t1_cookie : TimerState
@@ -51,8 +52,16 @@ stopped = record { moment = None; retries = 0; exempt = false }
 -- the map of six stopped timers
 abbrev pub stopped_timers : Option ℕ → Option ℕ → ℕ → Timers
 stopped_timers handshake_limit data_limit rto_max = record {
-    t1_init = stopped; t1_cookie = stopped; t2_shutdown = stopped; t3_rtx = stopped; reconfig = stopped; ack = stopped;
-    handshake_limit = handshake_limit; data_limit = data_limit; rto_max = rto_max }
+  t1_init = stopped;
+  t1_cookie = stopped;
+  t2_shutdown = stopped;
+  t3_rtx = stopped;
+  reconfig = stopped;
+  ack = stopped;
+  handshake_limit = handshake_limit;
+  data_limit = data_limit;
+  rto_max = rto_max;
+}
 
 -- the moment at which a timer expires
 abbrev pub moment_of : Timer → Timers → Option ℕ
@@ -82,11 +91,11 @@ pub record IsLeastArmed (t : Timers) (moment : ℕ) : Type 0 where
   pub least : (timer : Timer) (other : ℕ) → moment_of timer t ≡ Some other → moment ≤ other
 
 -- the timeout, in ms, after a number of retries: doubled for each, up to a greatest one (RFC 4960 section 6.3.3, rule E2)
-abbrev pub backed_off : ℕ → ℕ → ℕ → ℕ
+unfoldable pub backed_off : ℕ → ℕ → ℕ → ℕ
 backed_off rto retries rto_max = if nat_lt retries 31 then min (rto * 2 ^ retries) rto_max else rto_max
 
 -- the moment a number of ms after another, up to the greatest moment
-abbrev pub millis_later : ℕ → ℕ → ℕ
+unfoldable pub millis_later : ℕ → ℕ → ℕ
 millis_later now millis = min (now + millis * 1000000) (2 ^ 64 - 1)
 
 -- how long a timer runs: acknowledgements do not back off

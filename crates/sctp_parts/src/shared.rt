@@ -3,10 +3,10 @@ ghost use Rattle.std.specs.Prelude.{◌≡◌, ◌↔◌, IsTrue};
 
 pub use sctp_wire_types::{EcnCodepoint, Instant};
 
-/// A number by which the layer above knows an association. It is not sent.
+/// The number by which an endpoint knows an association. It is never sent.
 pub type AssociationId = u32;
 
-/// An association's number, and how many were issued before it.
+/// A number issued for an association, and its place in the order of issue.
 #[derive(Clone, Copy, Debug)]
 pub struct IssuedAid {
     pub sequence: u64,
@@ -27,7 +27,7 @@ enum EndpointEventInner {
 impl EndpointEvent {
     ghost use Rattle.sctp_parts.specs.Shared.{drained_event};
 
-    /// The event that the association will queue no more of them.
+    /// The event that says that the association will queue no more events.
     pub fn drained() -> Self
         ensures { result ≡ drained_event }
     {

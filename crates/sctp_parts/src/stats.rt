@@ -20,12 +20,20 @@ impl Model for AssociationStats {
     ghost Value = { Counts };
 
     ghost view = { λ s. record {
-        datas = s.datas; sacks = s.sacks; t3timeouts = s.t3timeouts;
-        ack_timeouts = s.ack_timeouts; fast_retrans = s.fast_retrans } };
+      datas = s.datas;
+      sacks = s.sacks;
+      t3timeouts = s.t3timeouts;
+      ack_timeouts = s.ack_timeouts;
+      fast_retrans = s.fast_retrans;
+    } };
 
     ghost inverse = { λ c. record {
-        datas = c.datas; sacks = c.sacks; t3timeouts = c.t3timeouts;
-        ack_timeouts = c.ack_timeouts; fast_retrans = c.fast_retrans } };
+      datas = c.datas;
+      sacks = c.sacks;
+      t3timeouts = c.t3timeouts;
+      ack_timeouts = c.ack_timeouts;
+      fast_retrans = c.fast_retrans;
+    } };
 }
 
 impl Default for AssociationStats {

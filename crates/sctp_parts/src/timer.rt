@@ -1,6 +1,14 @@
 // Timers of an association and the estimate of its retransmission timeout.
-ghost use Rattle.std.specs.Prelude.{◌≡◌, ◌↔◌, Some, None, IfSome, IsNone};
-ghost use Rattle.sctp_parts.specs.Estimate.{initial_estimate, measured, forgotten};
+ghost use Rattle.std.specs.Prelude.{◌≡◌, ◌≢◌, ◌↔◌, ◌-◌, ◌^◌, ◌&&◌, not, min, IfSome, IsNone};
+ghost use Rattle.sctp_parts.specs.Estimate.{
+  initial_estimate,
+  measured,
+  forgotten,
+  next_four_rttvar,
+  next_srtt,
+  rto_of,
+};
+ghost use Rattle.sctp_parts.specs.Timers.{earlier, backed_off};
 
 use crate::shared::Instant;
 use std::marker::Model;
@@ -9,17 +17,25 @@ use std::marker::Model;
 pub const ACK_INTERVAL: u64 = 200;
 
 const RTO_INITIAL: u64 = 3000;
+
 const RTO_MIN: u64 = 1000;
+
 const RTO_MAX: u64 = 60_000;
 
 /// The timers of an association, in the order in which they are looked at.
 #[derive(Clone, Copy, Debug, PartialEq, Eq, PartialOrd, Ord)]
 pub enum Timer {
+    /// Waits for INIT ACK (RFC 4960 section 5.1).
     T1Init = 0,
+    /// Waits for COOKIE ACK (RFC 4960 section 5.1).
     T1Cookie = 1,
+    /// Waits for the answer to SHUTDOWN or SHUTDOWN ACK (RFC 4960 section 9.2).
     T2Shutdown = 2,
+    /// Waits for the acknowledgement of DATA (RFC 4960 section 6.3.2).
     T3RTX = 3,
+    /// Waits for the response to a reset request (RFC 6525 section 5.1.1).
     Reconfig = 4,
+    /// Delays an acknowledgement (RFC 4960 section 6.2).
     Ack = 5,
 }
 
@@ -35,6 +51,7 @@ impl Timer {
     ];
 }
 
+// One timer of the table.
 #[derive(Clone, Copy, Debug)]
 struct Entry {
     moment: Option<Instant>,
@@ -72,14 +89,28 @@ impl Model for TimerTable {
     ghost Value = { Timers };
 
     ghost view = { λ t. record {
-        t1_init = t.t1_init; t1_cookie = t.t1_cookie; t2_shutdown = t.t2_shutdown;
-        t3_rtx = t.t3_rtx; reconfig = t.reconfig; ack = t.ack;
-        handshake_limit = t.handshake_limit; data_limit = t.data_limit; rto_max = t.rto_max } };
+      t1_init = t.t1_init;
+      t1_cookie = t.t1_cookie;
+      t2_shutdown = t.t2_shutdown;
+      t3_rtx = t.t3_rtx;
+      reconfig = t.reconfig;
+      ack = t.ack;
+      handshake_limit = t.handshake_limit;
+      data_limit = t.data_limit;
+      rto_max = t.rto_max;
+    } };
 
     ghost inverse = { λ t. record {
-        t1_init = t.t1_init; t1_cookie = t.t1_cookie; t2_shutdown = t.t2_shutdown;
-        t3_rtx = t.t3_rtx; reconfig = t.reconfig; ack = t.ack;
-        handshake_limit = t.handshake_limit; data_limit = t.data_limit; rto_max = t.rto_max } };
+      t1_init = t.t1_init;
+      t1_cookie = t.t1_cookie;
+      t2_shutdown = t.t2_shutdown;
+      t3_rtx = t.t3_rtx;
+      reconfig = t.reconfig;
+      ack = t.ack;
+      handshake_limit = t.handshake_limit;
+      data_limit = t.data_limit;
+      rto_max = t.rto_max;
+    } };
 }
 
 impl Default for TimerTable {
@@ -95,10 +126,26 @@ impl Default for TimerTable {
 }
 
 impl TimerTable {
+    ghost use Rattle.sctp_parts.specs.declared.timer.Timer.{Timer};
     ghost use Rattle.sctp_parts.specs.Timers.{
-        stopped_timers, stopped, moment_of, with_moment, least_moment, IsNoneArmed, IsLeastArmed, started, restarted_if_stale,
-        with_stopped, without_retries, with_exemption, after_expiry, expiry_of, timer_at, with_timer,
-        limit_of, run_of, millis_later};
+      stopped_timers,
+      moment_of,
+      with_moment,
+      least_moment,
+      IsNoneArmed,
+      IsLeastArmed,
+      started,
+      restarted_if_stale,
+      with_stopped,
+      without_retries,
+      with_exemption,
+      after_expiry,
+      expiry_of,
+      timer_at,
+      with_timer,
+      limit_of,
+      run_of,
+    };
 
     /// Six stopped timers. `max_init` limits the retries of T1Init, T1Cookie and Reconfig, `max_data` those of T3RTX;
     /// None is no limit. `rto_max` is the greatest interval, in ms, to which a timer backs off.
@@ -141,13 +188,14 @@ impl TimerTable {
         ensures none { IsNone result ↔ IsNoneArmed self.now }
         ensures least { IfSome result (λ moment. IsLeastArmed self.now moment) }
     {
-        let handshake = earlier(self.t1_init.moment, self.t1_cookie.moment);
-        let sending = earlier(self.t2_shutdown.moment, self.t3_rtx.moment);
-        let others = earlier(self.reconfig.moment, self.ack.moment);
-        earlier(earlier(handshake, sending), others)
+        let handshake = least_of(self.t1_init.moment, self.t1_cookie.moment);
+        let sending = least_of(self.t2_shutdown.moment, self.t3_rtx.moment);
+        let others = least_of(self.reconfig.moment, self.ack.moment);
+        least_of(least_of(handshake, sending), others)
     }
 
     /// Arms the timer `interval` ms from `now`, backed off by its retries but for Ack.
+    #[tactic(auto, unfolding(crate::specs::Timers::millis_later))]
     pub fn start(&mut self, timer: Timer, now: Instant, interval: u64)
         ensures { self.new ≡ started timer now interval self.old }
     {
@@ -159,12 +207,10 @@ impl TimerTable {
     pub fn restart_if_stale(&mut self, timer: Timer, now: Instant, interval: u64)
         ensures { self.new ≡ restarted_if_stale timer now interval self.old }
     {
-        if let Some(moment) = self.get(timer) {
-            if moment >= now {
-                return;
-            }
+        match self.get(timer) {
+            Some(moment) if moment >= now => {}
+            _ => self.start(timer, now, interval),
         }
-        self.start(timer, now, interval);
     }
 
     /// Disarms the timer and clears its retries and its exemption.
@@ -222,7 +268,9 @@ impl TimerTable {
     }
 
     fn set_entry(&mut self, timer: Timer, entry: Entry)
-        ensures { self.new ≡ with_timer timer entry self.old }
+        ensures map { self.new ≡ with_timer timer entry self.old }
+        ensures this_one { timer_at timer self.new ≡ entry }
+        ensures others { (other : Timer) → other ≢ timer → timer_at other self.new ≡ timer_at other self.old }
     {
         match timer {
             Timer::T1Init => self.t1_init = entry,
@@ -257,7 +305,6 @@ impl TimerTable {
 }
 
 impl Entry {
-    ghost use Rattle.std.specs.Prelude.{◌&&◌, not};
     ghost use Rattle.sctp_parts.specs.Timers.{stopped, is_due, expired_state, passes};
 
     fn stopped() -> Self
@@ -296,19 +343,18 @@ impl Entry {
     }
 }
 
-ghost use Rattle.sctp_parts.specs.Timers.{earlier as earlier_of, backed_off};
-
-fn earlier(a: Option<Instant>, b: Option<Instant>) -> Option<Instant>
-    ensures { result ≡ earlier_of a b }
+fn least_of(a: Option<Instant>, b: Option<Instant>) -> Option<Instant>
+    ensures { result ≡ earlier a b }
 {
     match (a, b) {
-        (Some(x), Some(y)) => Some(if x < y { x } else { y }),
+        (Some(x), Some(y)) => Some(x.min(y)),
         (Some(x), None) => Some(x),
         (None, y) => y,
     }
 }
 
 /// The timeout `rto`, in ms, doubled `n_rtos` times, up to `rto_max` (RFC 4960 section 6.3.3, rule E2).
+#[tactic(auto, unfolding(crate::specs::Timers::backed_off))]
 pub fn calculate_next_timeout(rto: u64, n_rtos: usize, rto_max: u64) -> u64
     ensures { result ≡ backed_off rto n_rtos rto_max }
 {
@@ -338,8 +384,14 @@ impl Model for RtoManager {
     ghost Value = { Estimate };
 
     ghost view = { λ r. record {
-        srtt = r.srtt; four_rttvar = r.four_rttvar; rto = r.rto; no_update = r.no_update;
-        initial = r.rto_initial; least = r.rto_min; greatest = r.rto_max } };
+      srtt = r.srtt;
+      four_rttvar = r.four_rttvar;
+      rto = r.rto;
+      no_update = r.no_update;
+      initial = r.rto_initial;
+      least = r.rto_min;
+      greatest = r.rto_max;
+    } };
 }
 
 impl Default for RtoManager {
@@ -375,8 +427,8 @@ impl RtoManager {
         if self.no_update {
             return self.srtt;
         }
-        self.four_rttvar = next_four_rttvar(self.srtt, self.four_rttvar, rtt);
-        self.srtt = next_srtt(self.srtt, rtt);
+        self.four_rttvar = scaled_variation(self.srtt, self.four_rttvar, rtt);
+        self.srtt = smoothed(self.srtt, rtt);
         self.rto = timeout(self.srtt, self.four_rttvar, self.rto_min, self.rto_max);
         self.srtt
     }
@@ -409,12 +461,9 @@ impl RtoManager {
     }
 }
 
-ghost use Rattle.sctp_parts.specs.Estimate.{
-    next_four_rttvar as four_rttvar_after, next_srtt as srtt_after, rto_of};
-ghost use Rattle.std.specs.Prelude.{min, ◌^◌, ◌-◌};
-
-fn next_four_rttvar(srtt: u64, four_rttvar: u64, rtt: u64) -> u64
-    ensures { result ≡ min (four_rttvar_after srtt four_rttvar rtt) (2 ^ 64 - 1) }
+#[tactic(auto, unfolding(crate::specs::Estimate::next_four_rttvar))]
+fn scaled_variation(srtt: u64, four_rttvar: u64, rtt: u64) -> u64
+    ensures { result ≡ min (next_four_rttvar srtt four_rttvar rtt) (2 ^ 64 - 1) }
 {
     let wide = if srtt == 0 {
         2 * rtt as u128 * 65536
@@ -424,8 +473,9 @@ fn next_four_rttvar(srtt: u64, four_rttvar: u64, rtt: u64) -> u64
     wide.min(u64::MAX as u128) as u64
 }
 
-fn next_srtt(srtt: u64, rtt: u64) -> u64
-    ensures { result ≡ srtt_after srtt rtt }
+#[tactic(auto, unfolding(crate::specs::Estimate::next_srtt))]
+fn smoothed(srtt: u64, rtt: u64) -> u64
+    ensures { result ≡ next_srtt srtt rtt }
 {
     if srtt == 0 {
         rtt
@@ -434,6 +484,7 @@ fn next_srtt(srtt: u64, rtt: u64) -> u64
     }
 }
 
+#[tactic(auto, unfolding(crate::specs::Estimate::rto_of))]
 fn timeout(srtt: u64, four_rttvar: u64, least: u64, greatest: u64) -> u64
     ensures { result ≡ rto_of srtt four_rttvar least greatest }
 {

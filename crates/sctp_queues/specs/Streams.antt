@@ -5,6 +5,7 @@ use Rattle.std.specs.BTreeMap.{is_at, insert_entry}
 use Rattle.std.specs.Map.{lookup, set_value}
 use Rattle.sctp_wire_types.specs.declared.ids.PayloadProtocolIdentifier.{PayloadProtocolIdentifier}
 use Rattle.sctp_queues.specs.declared.reassembly.HeldMessage.{HeldMessage}
+use Rattle.sctp_queues.specs.declared.stats.DataChannelStats.{DataChannelStats}
 use Rattle.sctp_queues.specs.Message.{Message}
 use Rattle.sctp_queues.specs.Reassembly.{bytes_held, is_ready}
 use Rattle.sctp_queues.specs.Stream.{Stream, fresh_stream, released_from, stream_pushed, stream_read}
@@ -77,14 +78,29 @@ made m id kind = record {
   next_generation = m.next_generation + 1;
 }
 
+-- the live streams, identifiers ascending
+abbrev pub live_streams : StreamMap → List Stream
+live_streams m = map (λ e. e.1) m.by_id
+
 -- the bytes that came and were not read, at most the greatest number of 64 bits
 abbrev pub bytes_waiting : StreamMap → ℕ
-bytes_waiting m = fold (λ sum s. min (sum + bytes_held s.reassembly.held) (2 ^ 64 - 1)) 0 (map (λ e. e.1) m.by_id)
+bytes_waiting m = fold (λ sum s. min (sum + bytes_held s.reassembly.held) (2 ^ 64 - 1)) 0 (live_streams m)
 
-abbrev pub popped_from : List (ℕ × Stream) → ℕ → StreamMap × Option Stream
-popped_from [] next = (record { by_id = []; next_generation = next }, None)
-popped_from (e ∷ es) next = (record { by_id = es; next_generation = next }, Some e.1)
+abbrev pub first_ended_of : List (ℕ × Stream) → ℕ → StreamMap × Option DataChannelStats
+first_ended_of [] next = (record { by_id = []; next_generation = next }, None)
+first_ended_of (e ∷ es) next = (record { by_id = es; next_generation = next }, Some e.1.stats)
 
--- what is left without the stream of the least identifier, and that stream
-abbrev pub popped : StreamMap → StreamMap × Option Stream
-popped m = popped_from m.by_id m.next_generation
+-- what is left without the stream of the least identifier, and that stream's last counters
+abbrev pub first_ended : StreamMap → StreamMap × Option DataChannelStats
+first_ended m = first_ended_of m.by_id m.next_generation
+
+abbrev pub stats_of_each : List (ℕ × Stream) → List DataChannelStats
+stats_of_each [] = []
+stats_of_each (e ∷ es) = e.1.stats ∷ stats_of_each es
+
+-- the last counters of all live streams, identifiers ascending
+abbrev pub last_stats : StreamMap → List DataChannelStats
+last_stats m = stats_of_each m.by_id
+
+abbrev pub without_streams : StreamMap → StreamMap
+without_streams m = record m { by_id = [] }

@@ -1,12 +1,12 @@
 // The live streams of an association.
-ghost use Rattle.std.specs.Prelude.{◌≡◌, ◌+◌, ◌-◌, ◌<◌, ◌^◌, IfOk, IfSome, OnOk, OnErr, is_some};
+ghost use Rattle.std.specs.Prelude.{◌≡◌, ◌==◌, length, ◌+◌, ◌-◌, ◌<◌, ◌^◌, IfOk, IfSome, OnOk, OnErr, is_some};
 ghost use Rattle.std.specs.Option.{option_copied, option_copied_mut};
 ghost use Rattle.std.specs.Borrow.{sem};
-ghost use Rattle.sctp_queues.specs.Streams.{no_stream, stream_at, made, generation_left, bytes_waiting, popped, changed_stream, released_in, is_generation, pushed_in, read_in, is_readable_in};
+ghost use Rattle.sctp_queues.specs.Streams.{no_stream, stream_at, made, generation_left, bytes_waiting, first_ended, changed_stream, released_in, is_generation, pushed_in, read_in, is_readable_in};
 ghost use Rattle.sctp_queues.specs.Stream.{accepted_by};
 ghost use Rattle.sctp_queues.specs.Lending.{LendsStream};
 
-use crate::{Chunks, HeldMessage, StreamState};
+use crate::{Chunks, DataChannelStats, HeldMessage, StreamState};
 use sctp_wire_types::{Error, PayloadProtocolIdentifier, StreamId};
 use std::alloc::{AllocError, Global};
 use std::collections::BTreeMap;
@@ -157,11 +157,24 @@ impl Streams {
         )
     }
 
-    /// The stream with the least identifier, taken out.
-    pub fn pop_first(&mut self) -> Option<StreamState>
-        ensures { popped self.old ≡ (self.new, result) }
+    /// Number of live streams.
+    pub fn len(&self) -> usize
+        ensures { result ≡ length self.now.by_id }
+    {
+        self.by_id.len()
+    }
+
+    pub fn is_empty(&self) -> bool
+        ensures { result ≡ (length self.now.by_id == 0) }
+    {
+        self.by_id.is_empty()
+    }
+
+    /// Ends the live stream with the least identifier and gives its last counters.
+    pub fn end_first(&mut self) -> Option<DataChannelStats>
+        ensures { first_ended self.old ≡ (self.new, result) }
     {
         let (_, stream) = self.by_id.pop_first()?;
-        Some(stream)
+        Some(stream.stats())
     }
 }

@@ -1,0 +1,163 @@
+-- What the calls of an application do to an association.
+use Rattle.std.specs.Prelude.{◌≡◌, ℕ, Bool, true, false, List, [], ◌∷◌, ◌++◌, ◌==◌, ◌||◌, ◌+◌, ◌-◌, ◌^◌, if◌then◌else◌, length, map, min, nat_lt, Option, Some, None, Result, Ok, Err}
+use Rattle.sctp_wire_types.specs.declared.error.Error.{Error}
+use Rattle.sctp_wire_types.specs.declared.error.Error.TheVariants as errors
+use Rattle.sctp_wire_types.specs.declared.ids.PayloadProtocolIdentifier.{PayloadProtocolIdentifier}
+use Rattle.sctp_parts.specs.declared.state.AssociationState.{AssociationState}
+use Rattle.sctp_parts.specs.declared.state.AssociationState.TheVariants as states
+use Rattle.sctp_parts.specs.declared.timer.Timer.TheVariants as names
+use Rattle.sctp_parts.specs.Timers.{Timers, after_expiry, expiry_of, with_moment, started}
+use Rattle.sctp_parts.specs.Stats.{one_more}
+use Rattle.sctp_queues.specs.declared.event.AssociationError.{AssociationError}
+use Rattle.sctp_queues.specs.declared.event.Event.TheVariants.{AssociationLost, DataChannelStatsFinal}
+use Rattle.sctp_queues.specs.declared.outbound.Fragment.{Fragment}
+use Rattle.sctp_queues.specs.Message.{Message}
+use Rattle.sctp_queues.specs.Outbound.{all_marked}
+use Rattle.sctp_queues.specs.Stream.{Stream, accepted_by}
+use Rattle.sctp_queues.specs.Streams.{StreamMap, stream_at, changed_stream, made, read_in, last_stats, without_streams}
+use Rattle.sctp_inbound.specs.Receiver.{acknowledged_at_once}
+use Rattle.sctp_assoc.specs.Shown.{Shown, all_stopped}
+
+-- a call with a Result is refused on a failed association before anything else
+abbrev pub usable : Shown → Result (Unit {0}) Error
+usable a = if a.failed then Err errors.ErrAssociationFailed else Ok tt
+
+abbrev pub is_closed_state : AssociationState → Bool
+is_closed_state states.Closed = true
+is_closed_state states.CookieWait = false
+is_closed_state states.CookieEchoed = false
+is_closed_state states.Established = false
+is_closed_state states.ShutdownAckSent = false
+is_closed_state states.ShutdownPending = false
+is_closed_state states.ShutdownReceived = false
+is_closed_state states.ShutdownSent = false
+
+abbrev pub is_established : AssociationState → Bool
+is_established states.Closed = false
+is_established states.CookieWait = false
+is_established states.CookieEchoed = false
+is_established states.Established = true
+is_established states.ShutdownAckSent = false
+is_established states.ShutdownPending = false
+is_established states.ShutdownReceived = false
+is_established states.ShutdownSent = false
+
+abbrev pub closed_open : Shown → AssociationError → Shown
+closed_open a reason = record a {
+  state = states.Closed;
+  lost = true;
+  timers = all_stopped a.timers;
+  streams = without_streams a.streams;
+  events = a.events ++ map DataChannelStatsFinal (last_stats a.streams) ++ AssociationLost reason ∷ [];
+}
+
+-- an open association was closed: no timer runs on, each live stream gives its last counters, and the loss is the last
+-- event; a closed one stays as it is
+abbrev pub closed_by : Shown → AssociationError → Shown
+closed_by a reason = if is_closed_state a.state then a else closed_open a reason
+
+-- the retransmission timer expired: all that is in flight is to be sent again (RFC 4960 section 6.3.3)
+abbrev pub retransmits : Shown → ℕ → Shown
+retransmits a now = record a {
+  counts = (let c = a.counts in record c { t3timeouts = one_more c.t3timeouts });
+  sender = (let s = a.sender in record s { queue = all_marked s.queue });
+  timers = started names.T3RTX now a.estimate.rto a.timers;
+}
+
+abbrev pub t3_expired : Shown → ℕ → Shown
+t3_expired a now = record a { timers = with_moment names.T3RTX None (after_expiry names.T3RTX now a.timers) }
+
+-- the retransmission timer as it is at a moment; past its limit of retries it is disarmed and nothing else happens
+abbrev pub after_t3 : Shown → ℕ → Shown
+after_t3 a now =
+    if (expiry_of names.T3RTX now a.timers).0 then
+    (if (expiry_of names.T3RTX now a.timers).1 then t3_expired a now else retransmits (t3_expired a now) now)
+    else a
+
+-- the delay of an acknowledgement as it is at a moment (RFC 4960 section 6.2)
+abbrev pub after_ack_delay : Shown → ℕ → Shown
+after_ack_delay a now =
+    if (expiry_of names.Ack now a.timers).0 then record a {
+      timers = with_moment names.Ack None (after_expiry names.Ack now a.timers);
+      counts = (let c = a.counts in record c { ack_timeouts = one_more c.ack_timeouts });
+      receiver = acknowledged_at_once a.receiver;
+    }
+    else a
+
+abbrev pub after_timeouts : Shown → ℕ → Shown
+after_timeouts a now = after_ack_delay (after_t3 a now) now
+
+-- a new generation of a stream was made for the application
+abbrev pub opened : Shown → ℕ → PayloadProtocolIdentifier → Shown
+opened a id kind = record a { streams = made a.streams id kind }
+
+-- the call is refused exactly with this refusal, if there is one
+abbrev pub Refuses : {T : Type 0} → Result T Error → Option Error → Type 0
+Refuses (Ok answer) refusal = refusal ≡ None
+Refuses (Err e) refusal = refusal ≡ Some e
+
+-- the same of a call that is also refused where memory is
+abbrev pub RefusesOrLacksMemory : {T : Type 0} → Result T Error → Option Error → Type 0
+RefusesOrLacksMemory (Ok answer) refusal = refusal ≡ None
+RefusesOrLacksMemory (Err e) None = e ≡ errors.ErrNoMemory
+RefusesOrLacksMemory (Err e) (Some refusal) = e ≡ refusal
+
+-- why a read is refused
+abbrev pub read_refusal_at : Option Stream → Option Error
+read_refusal_at None = Some errors.ErrStreamClosed
+read_refusal_at (Some s) = None
+
+abbrev pub read_refusal : Shown → ℕ → Option Error
+read_refusal a id =
+    if a.failed then Some errors.ErrAssociationFailed else read_refusal_at (stream_at a.streams id)
+
+-- what a read leaves and gives
+abbrev pub read_from_stream : Shown → ℕ → Shown × Option Message
+read_from_stream a id = (record a { streams = (read_in a.streams id).0 }, (read_in a.streams id).1)
+
+abbrev pub size_refusal : Shown → Stream → ℕ → Option Error
+size_refusal a s size =
+    if size == 0 then Some errors.ErrEmptyMessage else
+    if nat_lt a.max_send_message_size size || nat_lt a.sender.max_payload_size size then Some errors.ErrOutboundPacketTooLarge
+    else None
+
+abbrev pub write_refusal_at : Shown → Option Stream → ℕ → Option Error
+write_refusal_at a None size = Some errors.ErrStreamClosed
+write_refusal_at a (Some s) size =
+    if is_established a.state then size_refusal a s size else Some errors.ErrPayloadDataStateNotExist
+
+-- why a write of this size is refused, want of memory aside
+abbrev pub write_refusal : Shown → ℕ → ℕ → Option Error
+write_refusal a id size =
+    if a.failed then Some errors.ErrAssociationFailed else write_refusal_at a (stream_at a.streams id) size
+
+abbrev pub fragment_of : Stream → ℕ → List ℕ → Fragment
+fragment_of s id bytes = record {
+  stream_identifier = id;
+  generation = s.stats.generation;
+  stream_sequence_number = s.next_ssn;
+  payload_type = s.default_payload_type;
+  user_data = bytes;
+}
+
+abbrev pub written_at : Option Stream → Shown → ℕ → List ℕ → Shown
+written_at None a id bytes = a
+written_at (Some s) a id bytes = record a {
+  streams = changed_stream (λ t. accepted_by t s.default_payload_type (length bytes)) a.streams id;
+  sender = (let t = a.sender in record t {
+    queue =
+        (let q = t.queue in record q { pending = q.pending ++ fragment_of s id bytes ∷ [] });
+  });
+}
+
+-- a message was accepted on a live stream
+abbrev pub written : Shown → ℕ → List ℕ → Shown
+written a id bytes = written_at (stream_at a.streams id) a id bytes
+
+abbrev pub buffered_at : Option Stream → Result ℕ Error
+buffered_at None = Err errors.ErrStreamClosed
+buffered_at (Some s) = Ok s.buffered
+
+-- the bytes that a stream accepted and did not release
+abbrev pub buffered_of : Shown → ℕ → Result ℕ Error
+buffered_of a id = if a.failed then Err errors.ErrAssociationFailed else buffered_at (stream_at a.streams id)

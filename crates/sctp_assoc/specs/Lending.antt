@@ -1,0 +1,21 @@
+-- A stream that an association lends, and how the association comes back.
+use Rattle.std.specs.Prelude.{◌≡◌, ℕ, Result, Option}
+use Rattle.std.specs.Borrow.{MutBor, Fml, GName, RestsIfErr}
+use Rattle.sctp_assoc.specs.declared.stream.Stream.{Stream}
+use Rattle.sctp_assoc.specs.Shown.{Shown}
+use Rattle.sctp_assoc.specs.contracts.association.Association.{the_row}
+
+-- the association that a stream borrows, as it stands
+abbrev pub lent : Stream → Shown
+lent s = s.association.now
+
+-- the loan by which a stream borrows it
+abbrev pub lender : Stream → GName
+lender s = s.association.ghost_name
+
+abbrev pub id_of : Stream → ℕ
+id_of s = s.id
+
+-- where no stream was lent the association ends as it was
+abbrev pub rests_if_refused : {E : Type 0} → MutBor Shown → Result Stream E → Fml
+rests_if_refused a r = RestsIfErr the_row a lender r (λ n. n ≡ a.now)

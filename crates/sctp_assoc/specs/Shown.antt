@@ -1,0 +1,48 @@
+-- An association as its contracts see it.
+use Rattle.std.specs.Prelude.{◌≡◌, ℕ, Bool, true, List, Option}
+use Rattle.std.specs.declared.net.ip_addr.IpAddr.{IpAddr}
+use Rattle.std.specs.declared.net.socket_addr.SocketAddr.{SocketAddr}
+use Rattle.sctp_wire_types.specs.declared.ids.Side.{Side}
+use Rattle.sctp_parts.specs.declared.state.AssociationState.{AssociationState}
+use Rattle.sctp_parts.specs.declared.timer.Timer.TheVariants as names
+use Rattle.sctp_parts.specs.Timers.{Timers, with_stopped}
+use Rattle.sctp_parts.specs.Estimate.{Estimate}
+use Rattle.sctp_parts.specs.Stats.{Counts}
+use Rattle.sctp_queues.specs.declared.event.Event.{Event}
+use Rattle.sctp_queues.specs.Streams.{StreamMap}
+use Rattle.sctp_inbound.specs.declared.handshake.Handshake.{Handshake}
+use Rattle.sctp_inbound.specs.declared.receiver.Receiver.{Receiver}
+use Rattle.sctp_outbound.specs.declared.sender.Sender.{Sender}
+
+pub record Shown : Type 0 where
+  pub side : Side
+  pub remote_addr : SocketAddr
+  pub local_ip : Option IpAddr
+  pub state : AssociationState
+  -- it was established and closed
+  pub lost : Bool
+  -- an earlier call found no memory in its middle
+  pub failed : Bool
+  pub max_send_message_size : ℕ
+  pub handshake : Handshake
+  pub receiver : Receiver
+  pub sender : Sender
+  pub streams : StreamMap
+  -- the events that nobody asked for yet, oldest first
+  pub events : List Event
+  pub timers : Timers
+  pub estimate : Estimate
+  pub counts : Counts
+
+-- the timers with each of them stopped
+abbrev pub all_stopped : Timers → Timers
+all_stopped t =
+    with_stopped names.Ack (with_stopped names.Reconfig (with_stopped names.T3RTX
+    (with_stopped names.T2Shutdown (with_stopped names.T1Cookie (with_stopped names.T1Init t)))))
+
+-- a call found no memory in its middle: no timer runs on, and the state is answered as it was before the call
+pub record HasFailed (state : AssociationState) (lost : Bool) (a : Shown) : Type 0 where
+  pub marked : a.failed ≡ true
+  pub state_stays : a.state ≡ state
+  pub loss_stays : a.lost ≡ lost
+  pub disarmed : a.timers ≡ all_stopped a.timers

@@ -1,0 +1,337 @@
+// The surface of an association.
+ghost use Rattle.std.specs.Prelude.{◌≡◌, ◌↔◌, ◌*◌, ◌++◌, ◌⊎◌, true, false, not, is_some, option_to_list, IsTrue, IsNone, OnOk, OnErr, IfOk, IsErrOf};
+ghost use Rattle.std.specs.Borrow.{sem};
+ghost use Rattle.std.specs.Duration.{as_nanos};
+ghost use Rattle.sctp_parts.specs.State.{is_closing};
+ghost use Rattle.sctp_parts.specs.Timers.{least_moment};
+ghost use Rattle.sctp_queues.specs.Streams.{stream_at, generation_left};
+ghost use Rattle.sctp_assoc.specs.Calls.{usable, opened, is_closed_state, after_t3, after_ack_delay, after_timeouts};
+ghost use Rattle.sctp_assoc.specs.Lending.{rests_if_refused, lent, lender, id_of};
+ghost use Rattle.sctp_assoc.specs.Shown.{HasFailed};
+
+use crate::{AssociationEvent, Stream};
+use bytes::Bytes;
+use sctp_inbound::{Handshake, Receiver};
+use sctp_outbound::Sender;
+use sctp_parts::state::AssociationState;
+use sctp_parts::stats::AssociationStats;
+use sctp_parts::timer::{RtoManager, Timer, TimerTable};
+use sctp_queues::{Event, Events, Streams};
+use sctp_wire::{Payload, Transmit, check_init};
+use sctp_wire_types::{
+    ChunkInit, Error, Instant, PayloadProtocolIdentifier, Side, StreamId, TransportConfig,
+};
+use std::alloc::Global;
+use std::marker::Model;
+use std::net::{IpAddr, SocketAddr};
+use std::time::Duration;
+
+/// Greatest payload of one DATA chunk, in bytes.
+const MAX_PAYLOAD_SIZE: u32 = 65_519;
+
+/// One side of an SCTP association. It reads no clock and no random source: moments and first numbers are handed in.
+/// A call that finds no memory may leave the association failed; then every call that answers a `Result` answers
+/// `ErrAssociationFailed`.
+#[derive(Drop)]
+pub struct Association {
+    pub(crate) alloc: Global,
+    pub(crate) side: Side,
+    pub(crate) remote_addr: SocketAddr,
+    pub(crate) local_ip: Option<IpAddr>,
+    pub(crate) state: AssociationState,
+    /// The association was established and closed.
+    pub(crate) lost: bool,
+    /// An earlier call found no memory in its middle.
+    pub(crate) failed: bool,
+    pub(crate) max_send_message_size: u32,
+    pub(crate) handshake: Handshake,
+    pub(crate) receiver: Receiver,
+    pub(crate) sender: Sender,
+    pub(crate) streams: Streams,
+    pub(crate) events: Events,
+    pub(crate) timers: TimerTable,
+    pub(crate) rto: RtoManager,
+    pub(crate) stats: AssociationStats,
+}
+
+impl Model for Association {
+    ghost use Rattle.sctp_assoc.specs.Shown.{Shown};
+
+    ghost Value = { Shown };
+
+    ghost view = { λ a. record {
+      side = a.side;
+      remote_addr = a.remote_addr;
+      local_ip = a.local_ip;
+      state = a.state;
+      lost = a.lost;
+      failed = a.failed;
+      max_send_message_size = a.max_send_message_size;
+      handshake = a.handshake;
+      receiver = a.receiver;
+      sender = a.sender;
+      streams = a.streams;
+      events = a.events;
+      timers = a.timers;
+      estimate = a.rto;
+      counts = a.stats;
+    } };
+}
+
+impl Association {
+    /// An association that is established at once, by two tokens that the sides exchanged in another way. Refused
+    /// where the payload size is not in 1 to 65,519 bytes, where a token would be refused as an INIT, and where memory
+    /// is.
+    pub fn new_with_out_of_band_init(
+        alloc: Global,
+        config: &TransportConfig,
+        max_payload_size: u32,
+        remote_addr: SocketAddr,
+        local_ip: Option<IpAddr>,
+        local_init: &ChunkInit,
+        remote_init: &ChunkInit,
+    ) -> Result<Association, Error> {
+        if max_payload_size == 0 || MAX_PAYLOAD_SIZE < max_payload_size {
+            return Err(Error::ErrBadPayloadSize);
+        }
+        if check_init(local_init).is_err() || check_init(remote_init).is_err() {
+            return Err(Error::ErrBadToken);
+        }
+        let handshake = Handshake::by_tokens(config, local_init, remote_init);
+        let point = remote_init.initial_tsn.wrapping_sub(1);
+        let window = remote_init.advertised_receiver_window_credit;
+        let mut events = Events::new(alloc);
+        events.push(Event::Connected)?;
+        Ok(Association {
+            alloc,
+            side: handshake.side_by_tags(),
+            remote_addr,
+            local_ip,
+            state: AssociationState::Established,
+            lost: false,
+            failed: false,
+            max_send_message_size: config.max_send_message_size(),
+            handshake,
+            receiver: Receiver::new(config.max_receive_buffer_size(), point),
+            sender: Sender::new(alloc, max_payload_size, local_init.initial_tsn, window),
+            streams: Streams::new(alloc),
+            events,
+            timers: TimerTable::new(
+                config.max_init_retransmits(),
+                config.max_data_retransmits(),
+                config.rto_max_ms(),
+            ),
+            rto: RtoManager::new(
+                config.rto_initial_ms(),
+                config.rto_min_ms(),
+                config.rto_max_ms(),
+            ),
+            stats: AssociationStats::default(),
+        })
+    }
+
+    /// The oldest event that nobody asked for yet.
+    pub fn poll(&mut self) -> Result<Option<Event>, Error>
+        ensures failed { IsErrOf result Error.ErrAssociationFailed ↔ (self.old.failed ≡ true) }
+        ensures ok { IfOk result (λ event. self.old ≡ record self.new { events = option_to_list event ++ self.new.events }) }
+        ensures err { OnErr result ((result ≡ Err Error.ErrAssociationFailed) × (self.new ≡ self.old)) }
+    {
+        self.check_usable()?;
+        Ok(self.events.pop())
+    }
+
+    /// The moment at which `handle_timeout` has something to do; None where no timer runs.
+    pub fn poll_timeout(&self) -> Option<Instant>
+        ensures { result ≡ least_moment self.now.timers }
+    {
+        self.timers.next_timeout()
+    }
+
+    /// All packets that are due at `now`, in the order in which they go out; None where none is.
+    pub fn poll_transmit(&mut self, now: Instant) -> Result<Option<Transmit>, Error>
+        ensures failed { IsErrOf result Error.ErrAssociationFailed ↔ (self.old.failed ≡ true) }
+        ensures refused { IsErrOf result Error.ErrAssociationFailed → self.new ≡ self.old }
+        ensures memory { IsErrOf result Error.ErrNoMemory → HasFailed self.old.state self.old.lost self.new }
+        ensures only { OnErr result ((result ≡ Err Error.ErrAssociationFailed) ⊎ (result ≡ Err Error.ErrNoMemory)) }
+        ensures stands { OnOk result (self.new.failed ≡ self.old.failed) }
+    {
+        self.check_usable()?;
+        let answers = self.answers();
+        match self.gather(now) {
+            Ok(packets) => Ok(self.transmit(packets, now)),
+            Err(_) => {
+                self.fail(answers);
+                Err(Error::ErrNoMemory)
+            }
+        }
+    }
+
+    fn transmit(&self, packets: Vec<Bytes>, now: Instant) -> Option<Transmit> {
+        if packets.is_empty() {
+            return None;
+        }
+        Some(Transmit {
+            now,
+            remote: self.remote_addr,
+            payload: Payload::RawEncode(packets),
+            ecn: None,
+            local_ip: self.local_ip,
+        })
+    }
+
+    /// Processes one datagram.
+    pub fn handle_event(&mut self, event: AssociationEvent) -> Result<(), Error>
+        ensures failed { IsErrOf result Error.ErrAssociationFailed ↔ (self.old.failed ≡ true) }
+        ensures refused { IsErrOf result Error.ErrAssociationFailed → self.new ≡ self.old }
+        ensures memory { IsErrOf result Error.ErrNoMemory → HasFailed self.old.state self.old.lost self.new }
+        ensures only { OnErr result ((result ≡ Err Error.ErrAssociationFailed) ⊎ (result ≡ Err Error.ErrNoMemory)) }
+        ensures stands { OnOk result (self.new.failed ≡ self.old.failed) }
+    {
+        self.check_usable()?;
+        let transmit = event.transmit;
+        let now = transmit.now;
+        match transmit.payload {
+            Payload::RawEncode(_) => Ok(()),
+            Payload::PartialDecode(datagram) => {
+                let answers = self.answers();
+                match self.on_datagram(datagram, now) {
+                    Ok(()) => Ok(()),
+                    Err(_) => {
+                        self.fail(answers);
+                        Err(Error::ErrNoMemory)
+                    }
+                }
+            }
+        }
+    }
+
+    /// Does what the timers that expired by `now` ask for.
+    pub fn handle_timeout(&mut self, now: Instant) -> Result<(), Error>
+        ensures failed { IsErrOf result Error.ErrAssociationFailed ↔ (self.old.failed ≡ true) }
+        ensures refused { OnErr result ((result ≡ Err Error.ErrAssociationFailed) × (self.new ≡ self.old)) }
+        ensures ok { OnOk result (self.new ≡ after_timeouts self.old now) }
+    {
+        self.check_usable()?;
+        self.on_t3(now);
+        self.on_ack(now);
+        Ok(())
+    }
+
+    fn on_t3(&mut self, now: Instant)
+        ensures { self.new ≡ after_t3 self.old now }
+    {
+        let (expired, failure, _) = self.timers.is_expired(Timer::T3RTX, now);
+        if expired {
+            self.timers.set(Timer::T3RTX, None);
+            if !failure {
+                self.stats.inc_t3timeouts();
+                self.sender.on_t3_timeout();
+                let rto = self.rto.get_rto();
+                self.timers.start(Timer::T3RTX, now, rto);
+            }
+        }
+    }
+
+    fn on_ack(&mut self, now: Instant)
+        ensures { self.new ≡ after_ack_delay self.old now }
+    {
+        let (expired, _, _) = self.timers.is_expired(Timer::Ack, now);
+        if expired {
+            self.timers.set(Timer::Ack, None);
+            self.stats.inc_ack_timeouts();
+            self.receiver.on_ack_timeout();
+        }
+    }
+
+    /// Makes a new generation of a stream. `default_payload_type` is that of messages written without one.
+    pub fn open_stream(
+        &mut self,
+        id: StreamId,
+        default_payload_type: PayloadProtocolIdentifier,
+    ) -> Result<Stream<'_>, Error>
+        ensures* lends { sem 𝓛 (rests_if_refused self.entry result) }
+        ensures failed { IsErrOf result Error.ErrAssociationFailed ↔ (self.old.failed ≡ true) }
+        ensures exists { IsErrOf result Error.ErrStreamAlreadyExist ↔ ((self.old.failed ≡ false) × IsTrue (is_some (stream_at self.old.streams id))) }
+        ensures used_up { IsErrOf result Error.ErrStreamCreateFailed ↔ ((self.old.failed ≡ false) × IsNone (stream_at self.old.streams id) × (generation_left self.old.streams ≡ false)) }
+        ensures ok { IfOk result (λ s. lent s ≡ opened self.old id default_payload_type) }
+        ensures same { IfOk result (λ s. lender s ≡ self.entry.ghost_name) }
+        ensures id { IfOk result (λ s. id_of s ≡ id) }
+    {
+        self.check_usable()?;
+        if self.streams.contains(id) {
+            return Err(Error::ErrStreamAlreadyExist);
+        }
+        if !self.streams.has_generation() {
+            return Err(Error::ErrStreamCreateFailed);
+        }
+        self.streams.make(self.alloc, id, default_payload_type)?;
+        Ok(Stream::new(self, id))
+    }
+
+    /// The live stream of this identifier.
+    pub fn stream(&mut self, id: StreamId) -> Result<Stream<'_>, Error>
+        ensures* lends { sem 𝓛 (rests_if_refused self.entry result) }
+        ensures failed { IsErrOf result Error.ErrAssociationFailed ↔ (self.old.failed ≡ true) }
+        ensures missing { IsErrOf result Error.ErrStreamNotExisted ↔ ((self.old.failed ≡ false) × IsNone (stream_at self.old.streams id)) }
+        ensures ok { IfOk result (λ s. lent s ≡ self.old) }
+        ensures same { IfOk result (λ s. lender s ≡ self.entry.ghost_name) }
+        ensures id { IfOk result (λ s. id_of s ≡ id) }
+    {
+        self.check_usable()?;
+        if !self.streams.contains(id) {
+            return Err(Error::ErrStreamNotExisted);
+        }
+        Ok(Stream::new(self, id))
+    }
+
+    /// Whether the association was never established.
+    pub fn is_handshaking(&self) -> bool
+        ensures { result ≡ not self.now.handshake.completed }
+    {
+        !self.handshake.completed
+    }
+
+    /// Whether the state is Closed; so also before a handshake began.
+    pub fn is_closed(&self) -> bool
+        ensures { result ≡ is_closed_state self.now.state }
+    {
+        self.state == AssociationState::Closed
+    }
+
+    /// Whether a shutdown has begun and the association is not closed yet.
+    pub fn is_closing(&self) -> bool
+        ensures { result ≡ is_closing self.now.state }
+    {
+        self.state.is_closing()
+    }
+
+    /// Whether the association was lost; nothing is left to do for it then.
+    pub fn is_drained(&self) -> bool
+        ensures { result ≡ self.now.lost }
+    {
+        self.lost
+    }
+
+    /// Whether an earlier call found no memory in its middle.
+    pub fn is_failed(&self) -> bool
+        ensures { result ≡ self.now.failed }
+    {
+        self.failed
+    }
+
+    /// The retransmission timeout, as the crate that this one is a port of answers here.
+    pub fn rtt(&self) -> Duration
+        ensures { as_nanos result ≡ self.now.estimate.rto * 1000000 }
+    {
+        Duration::from_millis(self.rto.get_rto())
+    }
+
+    pub(crate) fn check_usable(&self) -> Result<(), Error>
+        ensures { result ≡ usable self.now }
+    {
+        if self.failed {
+            return Err(Error::ErrAssociationFailed);
+        }
+        Ok(())
+    }
+}

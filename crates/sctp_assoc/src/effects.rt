@@ -1,0 +1,79 @@
+// What an association does to itself: it closes, or it fails for want of memory.
+ghost use Rattle.std.specs.Prelude.{◌≡◌, ◌++◌, map, OnOk};
+ghost use Rattle.sctp_queues.specs.Streams.{without_streams, last_stats};
+ghost use Rattle.sctp_queues.specs.declared.event.Event.TheVariants.{DataChannelStatsFinal};
+ghost use Rattle.sctp_assoc.specs.Calls.{closed_by};
+ghost use Rattle.sctp_assoc.specs.Frames.{ChangedByPacket};
+ghost use Rattle.sctp_assoc.specs.Shown.{HasFailed, all_stopped};
+
+use crate::Association;
+use sctp_parts::state::AssociationState;
+use sctp_parts::timer::{Timer, TimerTable};
+use sctp_queues::{AssociationError, Event, Events, Streams};
+use std::alloc::AllocError;
+
+/// What the questions about the state answered before a call.
+#[derive(Clone, Copy, Debug)]
+pub(crate) struct Answers {
+    pub(crate) state: AssociationState,
+    pub(crate) lost: bool,
+}
+
+impl Association {
+    // Closes an open association once: no timer runs on, each live stream gets its last counters, and the loss is the
+    // last event. In Closed nothing changes.
+    pub(crate) fn close_with(&mut self, reason: AssociationError) -> Result<(), AllocError>
+        ensures changed { ChangedByPacket self.old self.new }
+        ensures closed { OnOk result (self.new ≡ closed_by self.old reason) }
+    {
+        if self.state == AssociationState::Closed {
+            return Ok(());
+        }
+        self.state = AssociationState::Closed;
+        self.lost = true;
+        stop_all(&mut self.timers);
+        end_streams(&mut self.streams, &mut self.events)?;
+        self.events.push(Event::AssociationLost { reason })
+    }
+
+    // Marks the association failed: no timer runs on, and the questions about its state go on to answer as before.
+    pub(crate) fn fail(&mut self, answers: Answers)
+        ensures { HasFailed answers.state answers.lost self.new }
+    {
+        self.state = answers.state;
+        self.lost = answers.lost;
+        self.failed = true;
+        stop_all(&mut self.timers);
+    }
+
+    pub(crate) fn answers(&self) -> Answers
+        ensures { (result.state ≡ self.now.state) × (result.lost ≡ self.now.lost) }
+    {
+        Answers {
+            state: self.state,
+            lost: self.lost,
+        }
+    }
+}
+
+// Queues the last counters of each live stream, identifiers ascending, and leaves no stream.
+fn end_streams(streams: &mut Streams, events: &mut Events) -> Result<(), AllocError>
+    ensures ended { OnOk result (streams.new ≡ without_streams streams.old) }
+    ensures finals { OnOk result (events.new ≡ events.old ++ map DataChannelStatsFinal (last_stats streams.old)) }
+{
+    'ending: while let Some(stats) = streams.end_first() {
+        events.push(Event::DataChannelStatsFinal(stats))?;
+    }
+    Ok(())
+}
+
+fn stop_all(timers: &mut TimerTable)
+    ensures { timers.new ≡ all_stopped timers.old }
+{
+    timers.stop(Timer::T1Init);
+    timers.stop(Timer::T1Cookie);
+    timers.stop(Timer::T2Shutdown);
+    timers.stop(Timer::T3RTX);
+    timers.stop(Timer::Reconfig);
+    timers.stop(Timer::Ack);
+}

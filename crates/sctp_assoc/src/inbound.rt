@@ -1,0 +1,172 @@
+// One datagram, chunk by chunk.
+ghost use Rattle.std.specs.Prelude.{◌≡◌};
+ghost use Rattle.sctp_assoc.specs.Frames.{ChangedByChunk, ChangedByPacket};
+
+use crate::Association;
+use sctp_inbound::AckWish;
+use sctp_outbound::SackOutcome;
+use sctp_parts::state::AssociationState;
+use sctp_queues::{AssociationError, Event, HeldMessage};
+use sctp_wire::{PartialDecode, check_chunk, check_packet};
+use sctp_wire_types::{
+    Chunk, ChunkPayloadData, Error, Instant, Packet, PayloadProtocolIdentifier, StreamEvent,
+};
+use std::alloc::AllocError;
+
+/// How a packet goes on after one of its chunks.
+enum Flow {
+    /// With the next chunk; the wish is that of the packet so far.
+    Next(AckWish),
+    /// The chunk is a fault: it ends the packet and closes an open association.
+    Fault(Error),
+}
+
+impl Association {
+    // A datagram that does not decode or is refused as a packet changes nothing.
+    pub(crate) fn on_datagram(
+        &mut self,
+        datagram: PartialDecode,
+        now: Instant,
+    ) -> Result<(), AllocError>
+        ensures { ChangedByPacket self.old self.new }
+    {
+        match datagram.finish(self.alloc) {
+            Ok(packet) => self.on_packet(packet, now),
+            Err(Error::ErrNoMemory) => Err(AllocError),
+            Err(_) => Ok(()),
+        }
+    }
+
+    fn on_packet(&mut self, packet: Packet, now: Instant) -> Result<(), AllocError>
+        ensures { ChangedByPacket self.old self.new }
+    {
+        if self.lost || check_packet(&packet).is_err() {
+            return Ok(());
+        }
+        let mut wish = AckWish::None;
+        for chunk in packet.chunks.into_vec() {
+            match self.on_chunk(chunk, wish, now)? {
+                Flow::Next(next) => wish = next,
+                Flow::Fault(_) => return self.close_with(AssociationError::AssociationClosed),
+            }
+        }
+        self.receiver.end_of_packet(&mut self.timers, wish, now);
+        Ok(())
+    }
+
+    fn on_chunk(&mut self, chunk: Chunk, wish: AckWish, now: Instant) -> Result<Flow, AllocError>
+        ensures { ChangedByChunk self.old self.new }
+    {
+        if let Err(fault) = check_chunk(&chunk) {
+            return Ok(Flow::Fault(fault));
+        }
+        self.dispatch(chunk, wish, now)
+    }
+
+    fn dispatch(&mut self, chunk: Chunk, wish: AckWish, now: Instant) -> Result<Flow, AllocError>
+        ensures { ChangedByChunk self.old self.new }
+    {
+        match chunk {
+            Chunk::Data(data) => self.on_data(data, wish),
+            Chunk::SelectiveAck(sack) => Ok(self.on_sack(
+                sack.cumulative_tsn_ack,
+                sack.advertised_receiver_window_credit,
+                wish,
+                now,
+            )),
+            Chunk::Init(_) => Ok(Flow::Fault(Error::ErrHandleInitState)),
+            Chunk::InitAck(_) => Ok(Flow::Next(wish)),
+            _ => Ok(Flow::Fault(Error::ErrChunkTypeUnhandled)),
+        }
+    }
+
+    // DATA (RFC 4960 section 6.2). Only a whole ordered message at the TSN after the point is taken in.
+    fn on_data(&mut self, data: ChunkPayloadData, wish: AckWish) -> Result<Flow, AllocError>
+        ensures { ChangedByChunk self.old self.new }
+    {
+        self.stats.inc_datas();
+        let immediate = data.immediate_sack;
+        if self.receiver.is_next(data.tsn) && is_whole(&data) {
+            if !self.has_stream(data.stream_identifier)? {
+                return Ok(Flow::Next(wish));
+            }
+            if self.credit() > 0 {
+                if let Some(fault) = self.take_in(data)? {
+                    return Ok(Flow::Fault(fault));
+                }
+            }
+        }
+        Ok(Flow::Next(self.receiver.ask(wish, immediate)))
+    }
+
+    // Makes the stream where it is missing; false where no generation is left for it.
+    fn has_stream(&mut self, id: u16) -> Result<bool, AllocError>
+        ensures { ChangedByChunk self.old self.new }
+    {
+        if self.streams.contains(id) {
+            return Ok(true);
+        }
+        if !self.streams.has_generation() {
+            return Ok(false);
+        }
+        self.streams
+            .make(self.alloc, id, PayloadProtocolIdentifier::Unknown)?;
+        self.events.push(Event::Stream(StreamEvent::Opened { id }))?;
+        Ok(true)
+    }
+
+    // Hands a message to its stream and then moves the point; answers why the stream refuses it, if it does.
+    fn take_in(&mut self, data: ChunkPayloadData) -> Result<Option<Error>, AllocError>
+        ensures { ChangedByChunk self.old self.new }
+    {
+        let id = data.stream_identifier;
+        let tsn = data.tsn;
+        let message = HeldMessage {
+            stream_sequence_number: data.stream_sequence_number,
+            payload_type: data.payload_type,
+            user_data: data.user_data,
+        };
+        let kept = match self.streams.push(id, message) {
+            Ok(kept) => kept,
+            Err(Error::ErrNoMemory) => return Err(AllocError),
+            Err(fault) => return Ok(Some(fault)),
+        };
+        self.receiver.take(tsn);
+        self.events.push(Event::DatagramReceived)?;
+        if kept && self.streams.is_readable(id) {
+            self.events
+                .push(Event::Stream(StreamEvent::Readable { id }))?;
+        }
+        Ok(None)
+    }
+
+    fn credit(&self) -> u32 {
+        self.receiver.credit(self.streams.waiting_bytes())
+    }
+
+    // SACK (RFC 4960 section 6.2.1), read by its point and its window.
+    fn on_sack(&mut self, point: u32, window: u32, wish: AckWish, now: Instant) -> Flow
+        ensures { ChangedByChunk self.old self.new }
+    {
+        if self.state != AssociationState::Established {
+            return Flow::Next(wish);
+        }
+        self.stats.inc_sacks();
+        let outcome = self.sender.on_sack(
+            &mut self.timers,
+            &mut self.rto,
+            &mut self.streams,
+            point,
+            window,
+            now,
+        );
+        match outcome {
+            SackOutcome::NotInFlight => Flow::Fault(Error::ErrInflightQueueTsnPop),
+            _ => Flow::Next(wish),
+        }
+    }
+}
+
+fn is_whole(data: &ChunkPayloadData) -> bool {
+    !data.unordered && data.beginning_fragment && data.ending_fragment
+}

@@ -1,0 +1,27 @@
+//! The association layer of SCTP without input or output: datagrams, moments and calls of the application go in; events,
+//! deadlines and packets come out.
+#![tactic(auto)]
+
+mod association;
+mod effects;
+mod gather;
+mod inbound;
+mod shared;
+mod stream;
+mod stream_calls;
+
+pub use association::Association;
+pub use sctp_inbound::{Handshake, Receiver};
+pub use sctp_outbound::Sender;
+pub use sctp_parts::shared::{AssociationId, EndpointEvent, IssuedAid};
+pub use sctp_parts::state::{AckMode, AckState, AssociationState};
+pub use sctp_parts::stats::AssociationStats;
+pub use sctp_parts::timer::{RtoManager, Timer, TimerTable};
+pub use sctp_queues::{AssociationError, Chunks, DataChannelStats, Event};
+pub use sctp_wire::{Payload, Transmit};
+pub use sctp_wire_types::{
+    ChunkInit, EcnCodepoint, Error, Instant, PayloadProtocolIdentifier, Side, StreamEvent,
+    StreamId, TransportConfig,
+};
+pub use shared::AssociationEvent;
+pub use stream::Stream;

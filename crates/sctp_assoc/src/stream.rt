@@ -1,0 +1,64 @@
+// The calls of one stream.
+ghost use Rattle.std.specs.Prelude.{◌≡◌, length, OnOk, OnErr, IfOk};
+ghost use Rattle.sctp_assoc.specs.Lending.{lent, lender, id_of};
+ghost use Rattle.sctp_assoc.specs.Calls.{Refuses, RefusesOrLacksMemory, write_refusal, written, read_refusal, read_from_stream, buffered_of};
+
+use crate::Association;
+use sctp_queues::Chunks;
+use sctp_wire_types::{Error, StreamId};
+
+/// A live stream, lent by its association for the calls of one stream.
+#[derive(Drop)]
+pub struct Stream<'a> {
+    association: &'a mut Association,
+    id: StreamId,
+}
+
+impl<'a> Stream<'a> {
+    pub(crate) fn new(association: &'a mut Association, id: StreamId) -> Self
+        ensures same { lender result ≡ association.entry.ghost_name }
+        ensures value { lent result ≡ association.entry.now }
+        ensures id { id_of result ≡ id }
+    {
+        Stream { association, id }
+    }
+
+    /// The next message; None where none is ready.
+    pub fn read(&mut self) -> Result<Option<Chunks>, Error>
+        ensures same { lender self.new ≡ lender self.old }
+        ensures id { id_of self.new ≡ id_of self.old }
+        ensures refused { Refuses result (read_refusal (lent self.old) (id_of self.old)) }
+        ensures err { OnErr result (lent self.new ≡ lent self.old) }
+        ensures ok { IfOk result (λ message. read_from_stream (lent self.old) (id_of self.old) ≡ (lent self.new, message)) }
+    {
+        self.association.read_stream(self.id)
+    }
+
+    /// Accepts a message of the stream's own payload type and answers its length, in bytes. Refused outside
+    /// Established, for an empty message, for one that is longer than the greatest that may be sent, and where memory
+    /// is; then nothing changes. A message longer than one DATA chunk is not yet sent and is refused too.
+    pub fn write(&mut self, bytes: &[u8]) -> Result<usize, Error>
+        ensures same { lender self.new ≡ lender self.old }
+        ensures id { id_of self.new ≡ id_of self.old }
+        ensures refused { RefusesOrLacksMemory result (write_refusal (lent self.old) (id_of self.old) (length bytes.now)) }
+        ensures err { OnErr result (lent self.new ≡ lent self.old) }
+        ensures ok { IfOk result (λ n. n ≡ length bytes.now) }
+        ensures accepted { OnOk result (lent self.new ≡ written (lent self.old) (id_of self.old) bytes.now) }
+    {
+        self.association.write_stream(self.id, bytes)
+    }
+
+    /// Bytes that were accepted and are not released, of this generation.
+    pub fn buffered_amount(&self) -> Result<usize, Error>
+        ensures { result ≡ buffered_of (lent self.now) (id_of self.now) }
+    {
+        self.association.buffered_of_stream(self.id)
+    }
+
+    /// The stream's identifier.
+    pub fn stream_identifier(&self) -> StreamId
+        ensures { result ≡ id_of self.now }
+    {
+        self.id
+    }
+}

@@ -1,0 +1,92 @@
+// What an association does for the calls of its streams.
+ghost use Rattle.std.specs.Prelude.{◌≡◌, length, OnOk, OnErr, IfOk};
+ghost use Rattle.sctp_assoc.specs.Calls.{Refuses, RefusesOrLacksMemory, write_refusal, written, read_refusal, read_from_stream, buffered_of};
+
+use crate::Association;
+use bytes::Bytes;
+use sctp_parts::state::AssociationState;
+use sctp_queues::{Chunks, Fragment};
+use sctp_wire_types::{Error, StreamId};
+use std::alloc::AllocError;
+
+impl Association {
+    pub(crate) fn read_stream(&mut self, id: StreamId) -> Result<Option<Chunks>, Error>
+        ensures refused { Refuses result (read_refusal self.old id) }
+        ensures err { OnErr result (self.new ≡ self.old) }
+        ensures ok { IfOk result (λ message. read_from_stream self.old id ≡ (self.new, message)) }
+    {
+        self.check_usable()?;
+        if !self.streams.contains(id) {
+            return Err(Error::ErrStreamClosed);
+        }
+        Ok(self.streams.read(id))
+    }
+
+    pub(crate) fn write_stream(&mut self, id: StreamId, bytes: &[u8]) -> Result<usize, Error>
+        ensures refused { RefusesOrLacksMemory result (write_refusal self.old id (length bytes.now)) }
+        ensures err { OnErr result (self.new ≡ self.old) }
+        ensures ok { IfOk result (λ n. n ≡ length bytes.now) }
+        ensures accepted { OnOk result (self.new ≡ written self.old id bytes.now) }
+    {
+        self.check_write(id, bytes.len())?;
+        self.accept(id, bytes)?;
+        Ok(bytes.len())
+    }
+
+    // Refuses a write for any reason but memory.
+    fn check_write(&self, id: StreamId, size: usize) -> Result<(), Error>
+        ensures { Refuses result (write_refusal self.now id size) }
+    {
+        self.check_usable()?;
+        if !self.streams.contains(id) {
+            return Err(Error::ErrStreamClosed);
+        }
+        if !matches!(self.state, AssociationState::Established) {
+            return Err(Error::ErrPayloadDataStateNotExist);
+        }
+        if size == 0 {
+            return Err(Error::ErrEmptyMessage);
+        }
+        if size > self.max_send_message_size as usize
+            || size > self.sender.max_payload_size as usize
+        {
+            return Err(Error::ErrOutboundPacketTooLarge);
+        }
+        Ok(())
+    }
+
+    // Queues a message of a live stream and counts it. A buffered amount past the greatest u64 counts as want of memory.
+    fn accept(&mut self, id: StreamId, bytes: &[u8]) -> Result<(), AllocError>
+        ensures ok { OnOk result (self.new ≡ written self.old id bytes.now) }
+        ensures err { OnErr result (self.new ≡ self.old) }
+    {
+        let Some(stream) = self.streams.get(id) else {
+            return Ok(());
+        };
+        let payload_type = stream.default_payload_type();
+        let size = bytes.len() as u64;
+        if stream.buffered_amount() > u64::MAX - size {
+            return Err(AllocError);
+        }
+        let fragment = Fragment {
+            stream_identifier: id,
+            generation: stream.stats().generation,
+            stream_sequence_number: stream.next_ssn(),
+            payload_type,
+            user_data: Bytes::copy_from_slice(self.alloc, bytes)?,
+        };
+        self.sender.queue.push(fragment)?;
+        self.streams.accept(id, payload_type, size);
+        Ok(())
+    }
+
+    pub(crate) fn buffered_of_stream(&self, id: StreamId) -> Result<usize, Error>
+        ensures { result ≡ buffered_of self.now id }
+    {
+        self.check_usable()?;
+        match self.streams.get(id) {
+            Some(stream) => Ok(stream.buffered_amount() as usize),
+            None => Err(Error::ErrStreamClosed),
+        }
+    }
+}
