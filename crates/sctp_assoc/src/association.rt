@@ -17,7 +17,7 @@ use sctp_parts::state::AssociationState;
 use sctp_parts::stats::AssociationStats;
 use sctp_parts::timer::{RtoManager, Timer, TimerTable};
 use sctp_queues::{Event, Events, Streams};
-use sctp_wire::{Payload, Transmit, check_init};
+use sctp_wire::{Payload, Transmit};
 use sctp_wire_types::{
     ChunkInit, Error, Instant, PayloadProtocolIdentifier, Side, StreamId, TransportConfig,
 };
@@ -94,7 +94,7 @@ impl Association {
         if max_payload_size == 0 || MAX_PAYLOAD_SIZE < max_payload_size {
             return Err(Error::ErrBadPayloadSize);
         }
-        if check_init(local_init).is_err() || check_init(remote_init).is_err() {
+        if local_init.check().is_err() || remote_init.check().is_err() {
             return Err(Error::ErrBadToken);
         }
         let handshake = Handshake::by_tokens(config, local_init, remote_init);

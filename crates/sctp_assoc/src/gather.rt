@@ -5,8 +5,8 @@ use crate::Association;
 use bytes::Bytes;
 use sctp_parts::state::{AckState, AssociationState};
 use sctp_parts::timer::Timer;
-use sctp_wire::marshal;
-use sctp_wire_types::{Chunk, ChunkPayloadData, CommonHeader, Error, Instant, List, Packet};
+use sctp_wire::Packet;
+use sctp_wire_types::{Chunk, ChunkPayloadData, CommonHeader, Error, Instant, List};
 use std::alloc::{AllocError, Global};
 
 impl Association {
@@ -74,7 +74,7 @@ fn put_packet(
         common_header,
         chunks,
     };
-    match marshal(&packet, alloc) {
+    match packet.marshal(alloc) {
         Ok(bytes) => {
             packets.push(bytes)?;
             Ok(())

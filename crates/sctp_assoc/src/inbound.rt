@@ -7,9 +7,9 @@ use sctp_inbound::AckWish;
 use sctp_outbound::SackOutcome;
 use sctp_parts::state::AssociationState;
 use sctp_queues::{AssociationError, Event, HeldMessage};
-use sctp_wire::{PartialDecode, check_chunk, check_packet};
+use sctp_wire::{Packet, PartialDecode, check_packet};
 use sctp_wire_types::{
-    Chunk, ChunkPayloadData, Error, Instant, Packet, PayloadProtocolIdentifier, StreamEvent,
+    Chunk, ChunkPayloadData, Error, Instant, PayloadProtocolIdentifier, StreamEvent,
 };
 use std::alloc::AllocError;
 
@@ -57,7 +57,7 @@ impl Association {
     fn on_chunk(&mut self, chunk: Chunk, wish: AckWish, now: Instant) -> Result<Flow, AllocError>
         ensures { ChangedByChunk self.old self.new }
     {
-        if let Err(fault) = check_chunk(&chunk) {
+        if let Err(fault) = chunk.check() {
             return Ok(Flow::Fault(fault));
         }
         self.dispatch(chunk, wish, now)

@@ -3,3 +3,4 @@ pub mod Ids
 pub mod Errors
 pub mod Config
 pub mod Serial
+pub mod Checks

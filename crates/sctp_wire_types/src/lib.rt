@@ -2,6 +2,7 @@
 //! values of a packet, its chunks and its parameters. Reading and writing packets stands in `sctp_wire`.
 #![tactic(auto)]
 
+mod check;
 mod chunk;
 mod config;
 mod error;
@@ -24,6 +25,6 @@ pub use event::{StreamEvent, StreamResetError};
 pub use ids::{PayloadProtocolIdentifier, ReliabilityType, Side, StreamId};
 pub use instant::{EcnCodepoint, Instant};
 pub use list::List;
-pub use packet::{CommonHeader, Packet};
+pub use packet::CommonHeader;
 pub use param::{Param, ParamOutgoingResetRequest, ParamReconfigResponse, ReconfigResult};
 pub use serial::{sna16gt, sna16gte, sna16lt, sna16lte, sna32gt, sna32gte, sna32lt, sna32lte};

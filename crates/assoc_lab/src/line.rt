@@ -1,0 +1,166 @@
+// Lines of a session.
+use bytes::Bytes;
+use hex::FromHexError;
+use sctp_assoc::{Instant, PayloadProtocolIdentifier};
+use sctp_pair::{Side2, Step};
+use std::alloc::{AllocError, Global};
+
+/// What one line asks for.
+#[derive(Drop)]
+pub enum Line {
+    /// Join two associations by tokens.
+    Snap {
+        max_payload_size: u32,
+        tsn_a: u32,
+        tsn_b: u32,
+    },
+    Step(Step),
+    /// All five questions about the state of a side.
+    State(Side2),
+}
+
+/// Reads a line without its newline; None where it is no step. Fields are separated by one space.
+pub fn parse(alloc: Global, line: &[u8]) -> Result<Option<Line>, AllocError> {
+    let Ok(text) = str::from_utf8(line) else {
+        return Ok(None);
+    };
+    let fields: Vec<&str> = text.split(' ').collect(alloc)?;
+    match fields.as_slice() {
+        ["snap", size, tsn_a, tsn_b] => Ok(snap(size, tsn_a, tsn_b)),
+        ["write", side, id, bytes] => write(alloc, side, id, bytes),
+        ["state", side] => Ok(side_of(side).map(|side| Line::State(side))),
+        fields => Ok(other_step(fields).map(|step| Line::Step(step))),
+    }
+}
+
+fn snap(size: &str, tsn_a: &str, tsn_b: &str) -> Option<Line> {
+    Some(Line::Snap {
+        max_payload_size: number_u32(size)?,
+        tsn_a: number_u32(tsn_a)?,
+        tsn_b: number_u32(tsn_b)?,
+    })
+}
+
+fn write(alloc: Global, side: &str, id: &str, bytes: &str) -> Result<Option<Line>, AllocError> {
+    let (Some(side), Some(id)) = (side_of(side), number_u16(id)) else {
+        return Ok(None);
+    };
+    match bytes_of(alloc, bytes)? {
+        Some(bytes) => Ok(Some(Line::Step(Step::Write { side, id, bytes }))),
+        None => Ok(None),
+    }
+}
+
+// The steps that take no memory to read.
+fn other_step(fields: &[&str]) -> Option<Step> {
+    match fields {
+        ["open", side, id, payload_type] => Some(Step::OpenStream {
+            side: side_of(side)?,
+            id: number_u16(id)?,
+            payload_type: payload_type_of(payload_type)?,
+        }),
+        ["read", side, id] => Some(Step::Read {
+            side: side_of(side)?,
+            id: number_u16(id)?,
+        }),
+        ["buffered", side, id] => Some(Step::BufferedAmount {
+            side: side_of(side)?,
+            id: number_u16(id)?,
+        }),
+        ["deliver", side, number, now] => Some(Step::Deliver {
+            side: side_of(side)?,
+            number: number_u64(number)?,
+            now: moment(now)?,
+        }),
+        [name, side, now] => timed_step(name, side_of(side)?, moment(now)?),
+        [name, side] => plain_step(name, side_of(side)?),
+        _ => None,
+    }
+}
+
+fn timed_step(name: &str, side: Side2, now: Instant) -> Option<Step> {
+    match name {
+        "send" => Some(Step::PollTransmit { side, now }),
+        "time" => Some(Step::HandleTimeout { side, now }),
+        _ => None,
+    }
+}
+
+fn plain_step(name: &str, side: Side2) -> Option<Step> {
+    match name {
+        "deadline" => Some(Step::PollTimeout { side }),
+        "event" => Some(Step::Poll { side }),
+        "rtt" => Some(Step::Rtt { side }),
+        _ => None,
+    }
+}
+
+fn side_of(text: &str) -> Option<Side2> {
+    match text {
+        "A" => Some(Side2::A),
+        "B" => Some(Side2::B),
+        _ => None,
+    }
+}
+
+fn payload_type_of(text: &str) -> Option<PayloadProtocolIdentifier> {
+    match text {
+        "50" => Some(PayloadProtocolIdentifier::Dcep),
+        "51" => Some(PayloadProtocolIdentifier::String),
+        "53" => Some(PayloadProtocolIdentifier::Binary),
+        "56" => Some(PayloadProtocolIdentifier::StringEmpty),
+        "57" => Some(PayloadProtocolIdentifier::BinaryEmpty),
+        _ => None,
+    }
+}
+
+// A decimal number without sign or leading zeros.
+fn is_plain(text: &str) -> bool {
+    let digits = text.as_bytes();
+    digits.iter().all(|digit| digit.is_ascii_digit())
+        && (digits.len() == 1 || digits.first() != Some(&b'0'))
+}
+
+fn number_u16(text: &str) -> Option<u16> {
+    if is_plain(text) {
+        text.parse().ok()
+    } else {
+        None
+    }
+}
+
+fn number_u32(text: &str) -> Option<u32> {
+    if is_plain(text) {
+        text.parse().ok()
+    } else {
+        None
+    }
+}
+
+fn number_u64(text: &str) -> Option<u64> {
+    if is_plain(text) {
+        text.parse().ok()
+    } else {
+        None
+    }
+}
+
+// A moment in ms.
+fn moment(text: &str) -> Option<Instant> {
+    Some(Instant::from_millis(number_u64(text)?))
+}
+
+// Lower case hex; `-` is no byte.
+fn bytes_of(alloc: Global, text: &str) -> Result<Option<Bytes>, AllocError> {
+    if text == "-" {
+        return Ok(Some(Bytes::new()));
+    }
+    if text.is_empty() || text.bytes().any(|byte| byte.is_ascii_uppercase()) {
+        return Ok(None);
+    }
+    match hex::decode(alloc, text) {
+        Ok(bytes) => Ok(Some(Bytes::from_vec(bytes)?)),
+        Err(FromHexError::OutOfMemory) => Err(AllocError),
+        Err(_) => Ok(None),
+    }
+}

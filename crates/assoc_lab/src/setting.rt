@@ -1,0 +1,62 @@
+// The setting in which every session runs.
+use bytes::Bytes;
+use sctp_assoc::{ChunkInit, Error, TransportConfig};
+use sctp_pair::Pair;
+use sctp_wire_types::{List, Param};
+use std::alloc::{AllocError, Global};
+use std::net::{IpAddr, Ipv4Addr, SocketAddr};
+
+/// Initiate tags of the two sides.
+const TAG_A: u32 = 1;
+
+const TAG_B: u32 = 2;
+
+/// RE-CONFIG and FORWARD TSN, the extensions that both sides list.
+static EXTENSIONS: [u8; 2] = [130, 192];
+
+/// Two associations that tokens join, each with the default configuration.
+pub fn snapped(
+    alloc: Global,
+    max_payload_size: u32,
+    tsn_a: u32,
+    tsn_b: u32,
+) -> Result<Pair, Error> {
+    let config = TransportConfig::default();
+    let token_a = token(alloc, &config, TAG_A, tsn_a)?;
+    let token_b = token(alloc, &config, TAG_B, tsn_b)?;
+    Pair::snap(
+        alloc,
+        &config,
+        &config,
+        max_payload_size,
+        max_payload_size,
+        &token_a,
+        &token_b,
+        address(2),
+        address(1),
+    )
+}
+
+// What one side offers, as an INIT would say it.
+fn token(
+    alloc: Global,
+    config: &TransportConfig,
+    initiate_tag: u32,
+    initial_tsn: u32,
+) -> Result<ChunkInit, AllocError> {
+    let mut params = List::new(alloc);
+    params.push(Param::SupportedExtensions(Bytes::from_static(&EXTENSIONS)))?;
+    Ok(ChunkInit {
+        initiate_tag,
+        advertised_receiver_window_credit: config.max_receive_buffer_size(),
+        num_outbound_streams: config.max_num_outbound_streams(),
+        num_inbound_streams: config.max_num_inbound_streams(),
+        initial_tsn,
+        params,
+    })
+}
+
+// An address of the documentation range, at port 5000.
+fn address(host: u8) -> SocketAddr {
+    SocketAddr::new(IpAddr::V4(Ipv4Addr::new(192, 0, 2, host)), 5000)
+}

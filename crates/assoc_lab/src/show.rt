@@ -1,0 +1,95 @@
+// Replies as lines.
+use sctp_assoc::{AssociationError, Chunks, Event, StreamEvent};
+use sctp_pair::Reply;
+use std::alloc::{AllocError, Global};
+
+/// A reply without its newline.
+pub fn show(alloc: Global, reply: Reply) -> Result<String, AllocError> {
+    match reply {
+        Reply::Done => "ok".to_string(alloc),
+        Reply::Wrote(count) => format!(in alloc; "wrote {count}"),
+        Reply::Read(Some(message)) => show_message(alloc, message),
+        Reply::Read(None) => "none".to_string(alloc),
+        Reply::BufferedAmount(amount) => format!(in alloc; "{amount}"),
+        Reply::Event(Some(event)) => show_event(alloc, event),
+        Reply::Event(None) => "none".to_string(alloc),
+        other => show_number(alloc, other),
+    }
+}
+
+fn show_number(alloc: Global, reply: Reply) -> Result<String, AllocError> {
+    match reply {
+        Reply::Timeout(Some(moment)) => {
+            let millis = moment.as_nanos() / 1_000_000;
+            format!(in alloc; "at {millis}")
+        }
+        Reply::Sent { first, count } => format!(in alloc; "packets {first} {count}"),
+        Reply::State(answer) => flag(answer).to_string(alloc),
+        Reply::Rtt(timeout) => {
+            let millis = timeout.as_millis();
+            format!(in alloc; "{millis}")
+        }
+        Reply::Refused(number) => format!(in alloc; "refused {number}"),
+        Reply::NoSuchPacket => "no such packet".to_string(alloc),
+        _ => "none".to_string(alloc),
+    }
+}
+
+fn flag(answer: bool) -> &'static str {
+    if answer { "1" } else { "0" }
+}
+
+fn show_message(alloc: Global, message: Chunks) -> Result<String, AllocError> {
+    let mut message = message;
+    let number = message.payload_type().number();
+    let mut text = format!(in alloc; "message {number} ")?;
+    if message.is_empty() {
+        text.push_str("-")?;
+    }
+    for _ in 0..message.len() {
+        match message.next(usize::MAX) {
+            Ok(Some(cut)) => text.push_str(hex::encode(alloc, cut.as_slice())?.as_str())?,
+            Ok(None) => break,
+            Err(_) => return Err(AllocError),
+        }
+    }
+    Ok(text)
+}
+
+fn show_event(alloc: Global, event: Event) -> Result<String, AllocError> {
+    match event {
+        Event::Connected => "connected".to_string(alloc),
+        Event::HandshakeFailed { .. } => "handshake-failed".to_string(alloc),
+        Event::AssociationLost { reason } => show_loss(alloc, reason),
+        Event::Stream(event) => show_stream_event(alloc, event),
+        Event::DataChannelStatsFinal(stats) => {
+            let generation = stats.generation;
+            format!(in alloc; "final {generation}")
+        }
+        Event::DatagramReceived => "datagram".to_string(alloc),
+    }
+}
+
+fn show_loss(alloc: Global, reason: AssociationError) -> Result<String, AllocError> {
+    match reason {
+        AssociationError::AssociationClosed => "lost closed".to_string(alloc),
+        AssociationError::ReceiveBufferExhausted => "lost exhausted".to_string(alloc),
+        _ => "lost other".to_string(alloc),
+    }
+}
+
+fn show_stream_event(alloc: Global, event: StreamEvent) -> Result<String, AllocError> {
+    let (name, id) = match event {
+        StreamEvent::Opened { id } => ("opened", id),
+        StreamEvent::Readable { id } => ("readable", id),
+        StreamEvent::Writable { id } => ("writable", id),
+        StreamEvent::Finished { id } => ("finished", id),
+        StreamEvent::ResetComplete { id } => ("reset-complete", id),
+        StreamEvent::ResetFailed { id, .. } => ("reset-failed", id),
+        StreamEvent::Stopped { id, .. } => ("stopped", id),
+        StreamEvent::BufferedAmountLow { id } => ("low", id),
+        StreamEvent::BufferedAmountHigh { id } => ("high", id),
+        StreamEvent::Available => return "available".to_string(alloc),
+    };
+    format!(in alloc; "{name} {id}")
+}

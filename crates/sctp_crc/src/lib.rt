@@ -1,0 +1,7 @@
+//! CRC32c, the checksum of an SCTP packet (RFC 4960 section 6.8 and appendix B).
+#![tactic(auto)]
+
+mod sum;
+mod table;
+
+pub use sum::{crc32c, packet_sum};

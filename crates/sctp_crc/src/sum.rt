@@ -1,0 +1,84 @@
+// The sum, sixteen bytes a step out of one table.
+ghost use Rattle.std.specs.Prelude.{◌≡◌, ◌+◌, ◌*◌, ◌<◌, ◌≤◌, [], ◌∷◌, length};
+ghost use Rattle.sctp_crc.specs.Crc.{crc_bits, crc_run, crc32c as sum_of_bytes, sum_of_packet};
+
+use crate::table::TABLE;
+
+/// Where the checksum stands in a packet: after the ports and the verification tag.
+const SUM_AT: usize = 8;
+
+const SUM_LEN: usize = 4;
+
+/// What `byte` becomes after `8 * place + 8` bits.
+#[inline]
+fn looked_up(place: usize, byte: u8) -> u32
+    requires { place < 16 }
+    ensures { result ≡ crc_bits (8 * place + 8) byte }
+{
+    TABLE[256 * place + byte as usize]
+}
+
+// The lookups that do not need the state stand first, so that only four wait for it.
+fn run_sixteen(state: u32, block: &[u8]) -> u32
+    requires { length block.now ≡ 16 }
+    ensures { result ≡ crc_run state block.now }
+{
+    let x4 = looked_up(11, block[4]);
+    let x5 = looked_up(10, block[5]);
+    let x6 = looked_up(9, block[6]);
+    let x7 = looked_up(8, block[7]);
+    let x8 = looked_up(7, block[8]);
+    let x9 = looked_up(6, block[9]);
+    let x10 = looked_up(5, block[10]);
+    let x11 = looked_up(4, block[11]);
+    let x12 = looked_up(3, block[12]);
+    let x13 = looked_up(2, block[13]);
+    let x14 = looked_up(1, block[14]);
+    let x15 = looked_up(0, block[15]);
+    let x0 = looked_up(15, (state % 256) as u8 ^ block[0]);
+    let x1 = looked_up(14, (state / 256 % 256) as u8 ^ block[1]);
+    let x2 = looked_up(13, (state / 65_536 % 256) as u8 ^ block[2]);
+    let x3 = looked_up(12, (state / 16_777_216) as u8 ^ block[3]);
+    let high = x8 ^ (x9 ^ (x10 ^ (x11 ^ (x12 ^ (x13 ^ (x14 ^ x15))))));
+    x0 ^ (x1 ^ (x2 ^ (x3 ^ (x4 ^ (x5 ^ (x6 ^ (x7 ^ high)))))))
+}
+
+fn run_byte(state: u32, byte: u8) -> u32
+    ensures { result ≡ crc_run state (byte ∷ []) }
+{
+    looked_up(0, (state % 256) as u8 ^ byte) ^ (state / 256)
+}
+
+fn run(start: u32, bytes: &[u8]) -> u32
+    ensures { result ≡ crc_run start bytes.now }
+{
+    let mut state = start;
+    let mut rest = bytes;
+    'sixteens: while rest.len() >= 16 {
+        let (block, after) = rest.split_at(16);
+        state = run_sixteen(state, block);
+        rest = after;
+    }
+    for byte in rest {
+        state = run_byte(state, *byte);
+    }
+    state
+}
+
+/// The checksum of `bytes`.
+#[tactic(auto, unfolding(crate::specs::Crc::crc32c))]
+pub fn crc32c(bytes: &[u8]) -> u32
+    ensures { result ≡ sum_of_bytes bytes.now }
+{
+    !run(u32::MAX, bytes)
+}
+
+/// The checksum of a packet, its own field counting as 0.
+pub fn packet_sum(packet: &[u8]) -> u32
+    requires { 12 ≤ length packet.now }
+    ensures { result ≡ sum_of_packet packet.now }
+{
+    let (head, tail) = packet.split_at(SUM_AT);
+    let (_, chunks) = tail.split_at(SUM_LEN);
+    !run(run(run(u32::MAX, head), &[0, 0, 0, 0]), chunks)
+}

@@ -1,0 +1,8 @@
+use Rattle.std.proofs.Common.{◌≡◌, length, vec_len, vec_capacity}
+use Rattle.sctp_pair.proofs.pair.Pair.run.Given as goal
+
+abbrev pub invariant-loop-step : goal.invariant-loop-step
+invariant-loop-step l = record {
+  room : vec_capacity l.replies ≡ length l.steps;
+  count : vec_len l.replies ≡ l.step-index;
+}

@@ -1,0 +1,10 @@
+//! Two associations that face each other, and every packet that either ever gave out: the network is the list of these
+//! packets, of which any is delivered, again and in any order.
+#![tactic(auto)]
+
+mod calls;
+mod pair;
+mod step;
+
+pub use pair::Pair;
+pub use step::{Reply, Side2, Step};

@@ -1,0 +1,200 @@
+// The pair, and a run of steps on it.
+ghost use Rattle.std.specs.Prelude.{◌≡◌, length, OnErr, IfOk, vec_len};
+
+use crate::{Reply, Side2, Step, calls};
+use bytes::Bytes;
+use sctp_assoc::{
+    Association, ChunkInit, Error, Instant, PayloadProtocolIdentifier, StreamId, TransportConfig,
+};
+use std::alloc::Global;
+use std::net::SocketAddr;
+
+/// Two associations and all packets that they gave out, numbered 0, 1, 2 and so on for each side.
+#[derive(Drop)]
+pub struct Pair {
+    alloc: Global,
+    a: Association,
+    b: Association,
+    packets_a: Vec<Bytes>,
+    packets_b: Vec<Bytes>,
+    remote_a: SocketAddr,
+    remote_b: SocketAddr,
+}
+
+impl Pair {
+    /// A pair that two tokens join: `token_a` is A's own and what B knows of A, `token_b` the other way round.
+    /// `remote_of_a` is the address at which A reaches B. Refused where A would be refused, or else B.
+    pub fn snap(
+        alloc: Global,
+        config_a: &TransportConfig,
+        config_b: &TransportConfig,
+        max_payload_size_a: u32,
+        max_payload_size_b: u32,
+        token_a: &ChunkInit,
+        token_b: &ChunkInit,
+        remote_of_a: SocketAddr,
+        remote_of_b: SocketAddr,
+    ) -> Result<Pair, Error> {
+        let a = Association::new_with_out_of_band_init(
+            alloc,
+            config_a,
+            max_payload_size_a,
+            remote_of_a,
+            None,
+            token_a,
+            token_b,
+        )?;
+        let b = Association::new_with_out_of_band_init(
+            alloc,
+            config_b,
+            max_payload_size_b,
+            remote_of_b,
+            None,
+            token_b,
+            token_a,
+        )?;
+        Ok(Pair {
+            alloc,
+            a,
+            b,
+            packets_a: Vec::new(alloc),
+            packets_b: Vec::new(alloc),
+            remote_a: remote_of_a,
+            remote_b: remote_of_b,
+        })
+    }
+
+    /// The packet of this number that a side gave out.
+    pub fn packet(&self, side: Side2, number: u64) -> Option<&Bytes> {
+        match side {
+            Side2::A => self.packets_a.get(number as usize),
+            Side2::B => self.packets_b.get(number as usize),
+        }
+    }
+
+    /// One side, to be looked at.
+    pub fn association(&self, side: Side2) -> &Association {
+        match side {
+            Side2::A => &self.a,
+            Side2::B => &self.b,
+        }
+    }
+
+    /// Carries out the steps, in order. Refused for want of memory before the first step alone, with nothing changed.
+    pub fn run(&mut self, steps: &[Step]) -> Result<Vec<Reply>, Error>
+        ensures replies { IfOk result (λ replies. vec_len replies ≡ length steps.now) }
+    {
+        let mut replies = Vec::with_capacity(self.alloc, steps.len())?;
+        for step in steps {
+            let reply = self.step(step);
+            replies.push_reserved(reply);
+        }
+        Ok(replies)
+    }
+
+    /// Carries out one step.
+    pub fn step(&mut self, step: &Step) -> Reply {
+        match step {
+            Step::OpenStream {
+                side,
+                id,
+                payload_type,
+            } => self.open_stream(*side, *id, *payload_type),
+            Step::Stream { side, id } => self.stream(*side, *id),
+            Step::Write { side, id, bytes } => self.write(*side, *id, bytes),
+            Step::Read { side, id } => self.read(*side, *id),
+            Step::BufferedAmount { side, id } => self.buffered_amount(*side, *id),
+            Step::PollTransmit { side, now } => self.poll_transmit(*side, *now),
+            Step::HandleTimeout { side, now } => self.handle_timeout(*side, *now),
+            Step::Deliver { side, number, now } => self.deliver(*side, *number, *now),
+            Step::Poll { side } => self.poll(*side),
+            Step::PollTimeout { side } => Reply::Timeout(self.association(*side).poll_timeout()),
+            Step::Rtt { side } => Reply::Rtt(self.association(*side).rtt()),
+            Step::IsHandshaking { side } => Reply::State(self.association(*side).is_handshaking()),
+            Step::IsClosed { side } => Reply::State(self.association(*side).is_closed()),
+            Step::IsClosing { side } => Reply::State(self.association(*side).is_closing()),
+            Step::IsDrained { side } => Reply::State(self.association(*side).is_drained()),
+            Step::IsFailed { side } => Reply::State(self.association(*side).is_failed()),
+        }
+    }
+
+    fn open_stream(
+        &mut self,
+        side: Side2,
+        id: StreamId,
+        payload_type: PayloadProtocolIdentifier,
+    ) -> Reply {
+        match side {
+            Side2::A => calls::open_stream(&mut self.a, id, payload_type),
+            Side2::B => calls::open_stream(&mut self.b, id, payload_type),
+        }
+    }
+
+    fn stream(&mut self, side: Side2, id: StreamId) -> Reply {
+        match side {
+            Side2::A => calls::find_stream(&mut self.a, id),
+            Side2::B => calls::find_stream(&mut self.b, id),
+        }
+    }
+
+    fn write(&mut self, side: Side2, id: StreamId, bytes: &Bytes) -> Reply {
+        match side {
+            Side2::A => calls::write(&mut self.a, id, bytes),
+            Side2::B => calls::write(&mut self.b, id, bytes),
+        }
+    }
+
+    fn read(&mut self, side: Side2, id: StreamId) -> Reply {
+        match side {
+            Side2::A => calls::read(&mut self.a, id),
+            Side2::B => calls::read(&mut self.b, id),
+        }
+    }
+
+    fn buffered_amount(&mut self, side: Side2, id: StreamId) -> Reply {
+        match side {
+            Side2::A => calls::buffered_amount(&mut self.a, id),
+            Side2::B => calls::buffered_amount(&mut self.b, id),
+        }
+    }
+
+    fn poll(&mut self, side: Side2) -> Reply {
+        match side {
+            Side2::A => calls::poll(&mut self.a),
+            Side2::B => calls::poll(&mut self.b),
+        }
+    }
+
+    fn poll_transmit(&mut self, side: Side2, now: Instant) -> Reply {
+        match side {
+            Side2::A => calls::poll_transmit(&mut self.a, &mut self.packets_a, now),
+            Side2::B => calls::poll_transmit(&mut self.b, &mut self.packets_b, now),
+        }
+    }
+
+    fn handle_timeout(&mut self, side: Side2, now: Instant) -> Reply {
+        match side {
+            Side2::A => calls::handle_timeout(&mut self.a, now),
+            Side2::B => calls::handle_timeout(&mut self.b, now),
+        }
+    }
+
+    fn deliver(&mut self, side: Side2, number: u64, now: Instant) -> Reply {
+        match side {
+            Side2::A => calls::deliver(
+                &mut self.a,
+                self.packets_b.as_slice(),
+                number,
+                self.remote_a,
+                now,
+            ),
+            Side2::B => calls::deliver(
+                &mut self.b,
+                self.packets_a.as_slice(),
+                number,
+                self.remote_b,
+                now,
+            ),
+        }
+    }
+}

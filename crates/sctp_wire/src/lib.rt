@@ -1,0 +1,21 @@
+//! SCTP packets: read from datagrams, written as datagrams (RFC 4960 section 3), and the types that the layers above share.
+#![tactic(auto)]
+
+mod packet;
+mod partial;
+mod refuse;
+mod transmit;
+
+pub use packet::Packet;
+pub use partial::PartialDecode;
+pub use refuse::check_packet;
+pub use sctp_crc::crc32c;
+pub use sctp_wire_types::{
+    Chunk, ChunkAbort, ChunkError, ChunkForwardTsn, ChunkHeartbeat, ChunkIForwardTsn, ChunkInit,
+    ChunkPayloadData, ChunkReconfig, ChunkSelectiveAck, CommonHeader, EcnCodepoint, Error,
+    ErrorCause, Fault, GapAckBlock, IForwardTsnEntry, Instant, List, Param,
+    ParamOutgoingResetRequest, ParamReconfigResponse, PayloadProtocolIdentifier, ReconfigResult,
+    ReliabilityType, ServerConfig, Side, SkippedStream, StreamEvent, StreamId, StreamResetError,
+    TransportConfig, sna16gt, sna16gte, sna16lt, sna16lte, sna32gt, sna32gte, sna32lt, sna32lte,
+};
+pub use transmit::{Payload, Transmit};

@@ -1,0 +1,66 @@
+// A packet, and what it is written as.
+ghost use Rattle.std.specs.Prelude.{◌≡◌, ◌≤◌, ◌++◌, length, take, drop};
+ghost use Rattle.std.specs.Int.{w32, to_le_bytes};
+
+use bytes::Bytes;
+use sctp_crc::packet_sum;
+use sctp_wire_forms::WireError;
+use sctp_wire_types::{Chunk, CommonHeader, Error, List};
+use sctp_wire_write::{put_u16, put_u32, write_chunks};
+use std::alloc::{AllocError, Global};
+
+/// One packet, as it is or will be spelled in a datagram (RFC 4960 section 3).
+#[derive(Debug, Drop)]
+pub struct Packet {
+    pub common_header: CommonHeader,
+    pub chunks: List<Chunk>,
+}
+
+/// Bytes of the common header.
+const HEADER: usize = 12;
+
+/// Room that is reserved at first, about what a path takes.
+const ROOM: usize = 1200;
+
+fn set_sum(bytes: &mut [u8], sum: u32)
+    requires { 12 ≤ length bytes.old }
+    ensures { bytes.new ≡ take 8 bytes.old ++ to_le_bytes w32 sum ++ drop 12 bytes.old }
+{
+    bytes[8..12].copy_from_slice(&sum.to_le_bytes());
+}
+
+impl Packet {
+    ghost use Rattle.sctp_wire_forms.specs.Results.{Gives, Yields, Builds};
+    ghost use Rattle.sctp_wire.specs.Packets.{packet_fits, unsummed, spelling, written};
+
+    fn unsummed(&self, alloc: Global) -> Result<Vec<u8>, WireError>
+        ensures { Builds result (packet_fits self.now) (unsummed self.now) }
+    {
+        let mut out = Vec::with_capacity(alloc, ROOM)?;
+        let header = &self.common_header;
+        put_u16(&mut out, header.source_port)?;
+        put_u16(&mut out, header.destination_port)?;
+        put_u32(&mut out, header.verification_tag)?;
+        put_u32(&mut out, 0)?;
+        write_chunks(alloc, &mut out, self.chunks.as_slice())?;
+        Ok(out)
+    }
+
+    #[tactic(auto, unfolding(crate::specs::Packets::written, crate::specs::Packets::spelling))]
+    fn bytes(&self, alloc: Global) -> Result<Bytes, WireError>
+        ensures { Yields result (written self.now) }
+    {
+        let mut out = self.unsummed(alloc)?;
+        let sum = packet_sum(out.as_slice());
+        set_sum(out.as_mut_slice(), sum);
+        Ok(Bytes::from_vec(out)?)
+    }
+
+    /// The datagram that spells this packet, with its checksum. A chunk or a parameter that is too long for its 16-bit length
+    /// is refused with `Fault::Long`.
+    pub fn marshal(&self, alloc: Global) -> Result<Bytes, Error>
+        ensures exact { Gives result (written self.now) }
+    {
+        Ok(self.bytes(alloc)?)
+    }
+}

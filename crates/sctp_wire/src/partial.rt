@@ -1,0 +1,78 @@
+// A datagram of which the header was read.
+ghost use Rattle.std.specs.Prelude.{◌≡◌};
+
+use crate::Packet;
+use bytes::Bytes;
+use sctp_crc::packet_sum;
+use sctp_wire_forms::WireError;
+use sctp_wire_read::{read_chunks, read_u16, read_u32};
+use sctp_wire_types::{CommonHeader, Error, Fault};
+use std::alloc::Global;
+
+/// A datagram whose checksum is right and whose common header was read.
+#[derive(Debug, Drop)]
+pub struct PartialDecode {
+    pub common_header: CommonHeader,
+    /// The chunks, still to be read: a cut of the datagram.
+    pub remaining: Bytes,
+}
+
+impl PartialDecode {
+    ghost use Rattle.sctp_wire_forms.specs.Results.{Gives, Yields};
+    ghost use Rattle.sctp_wire.specs.Packets.{partial_at, finished};
+
+    #[tactic(auto, unfolding(crate::specs::Packets::partial_at))]
+    fn read(datagram: &Bytes) -> Result<PartialDecode, WireError>
+        ensures { Yields result (partial_at datagram.now) }
+    {
+        if datagram.len() < 12 {
+            return Err(WireError::Malformed(Fault::Short));
+        }
+        let bytes = datagram.as_slice();
+        let sum = u32::from_le_bytes([bytes[8], bytes[9], bytes[10], bytes[11]]);
+        if sum != packet_sum(bytes) {
+            return Err(WireError::Malformed(Fault::Checksum));
+        }
+        let common_header = CommonHeader {
+            source_port: read_u16(bytes, 0),
+            destination_port: read_u16(bytes, 2),
+            verification_tag: read_u32(bytes, 4),
+        };
+        let mut remaining = datagram.clone()?;
+        remaining.advance(12);
+        Ok(PartialDecode {
+            common_header,
+            remaining,
+        })
+    }
+
+    #[tactic(auto, unfolding(crate::specs::Packets::finished))]
+    fn read_rest(self, alloc: Global) -> Result<Packet, WireError>
+        ensures { Yields result (finished self) }
+    {
+        let PartialDecode {
+            common_header,
+            remaining,
+        } = self;
+        let chunks = read_chunks(alloc, remaining)?;
+        Ok(Packet {
+            common_header,
+            chunks,
+        })
+    }
+
+    /// Reads the common header of a datagram. One of fewer than 12 bytes is refused with `Fault::Short`, one whose checksum
+    /// differs with `Fault::Checksum`.
+    pub fn unmarshal(datagram: &Bytes) -> Result<PartialDecode, Error>
+        ensures exact { Gives result (partial_at datagram.now) }
+    {
+        Ok(PartialDecode::read(datagram)?)
+    }
+
+    /// Reads the chunks. The error is the first fault from left to right.
+    pub fn finish(self, alloc: Global) -> Result<Packet, Error>
+        ensures exact { Gives result (finished self) }
+    {
+        Ok(self.read_rest(alloc)?)
+    }
+}

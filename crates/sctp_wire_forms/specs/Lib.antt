@@ -1,0 +1,4 @@
+pub mod Results
+pub mod Frames
+pub mod Reading
+pub mod Spelling

@@ -1,0 +1,10 @@
+use Rattle.std.proofs.Common.{◌≡◌, Bool, ◌++◌, drop}
+use Rattle.std.specs.List.{list_all}
+use Rattle.sctp_wire_forms.specs.Frames.{joined, frame_fits}
+use Rattle.sctp_wire_forms.proofs.Writing.{owed}
+use Rattle.sctp_wire_write.proofs.items.put_items.Given as goal
+
+abbrev pub invariant-items : goal.invariant-items
+invariant-items g l =
+    (l.out.items ++ owed g.T.PutItem.frame_of l.last_len (drop l.item-index l.items) ≡ l.fn.out.items ++ joined g.T.PutItem.frame_of l.items)
+    × (list_all (λ x. frame_fits (g.T.PutItem.frame_of x)) (drop l.item-index l.items) ≡ list_all (λ x. frame_fits (g.T.PutItem.frame_of x)) l.items)
