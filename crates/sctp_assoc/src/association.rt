@@ -5,7 +5,10 @@ ghost use Rattle.std.specs.Duration.{as_nanos};
 ghost use Rattle.sctp_parts.specs.State.{is_closing};
 ghost use Rattle.sctp_parts.specs.Timers.{least_moment};
 ghost use Rattle.sctp_queues.specs.Streams.{stream_at, generation_left};
-ghost use Rattle.sctp_assoc.specs.Calls.{usable, opened, is_closed_state, after_t3, after_ack_delay, after_timeouts};
+ghost use Rattle.sctp_assoc.specs.Calls.{RefusesOrLacksMemory, usable, opened, is_closed_state, after_t3, after_ack_delay, after_timeouts};
+ghost use Rattle.sctp_assoc.specs.Frames.{ChangedByPacket, ChangedByPoll};
+ghost use Rattle.sctp_assoc.specs.Inbound.{packet_of};
+ghost use Rattle.sctp_assoc.specs.Join.{join_refusal, joined};
 ghost use Rattle.sctp_assoc.specs.Lending.{rests_if_refused, lent, lender, id_of};
 ghost use Rattle.sctp_assoc.specs.Shown.{HasFailed};
 
@@ -90,7 +93,10 @@ impl Association {
         local_ip: Option<IpAddr>,
         local_init: &ChunkInit,
         remote_init: &ChunkInit,
-    ) -> Result<Association, Error> {
+    ) -> Result<Association, Error>
+        ensures refused { RefusesOrLacksMemory result (join_refusal max_payload_size local_init.now remote_init.now) }
+        ensures joined { IfOk result (λ a. a ≡ joined config.now max_payload_size remote_addr local_ip local_init.now remote_init.now) }
+    {
         if max_payload_size == 0 || MAX_PAYLOAD_SIZE < max_payload_size {
             return Err(Error::ErrBadPayloadSize);
         }
@@ -153,7 +159,7 @@ impl Association {
         ensures refused { IsErrOf result Error.ErrAssociationFailed → self.new ≡ self.old }
         ensures memory { IsErrOf result Error.ErrNoMemory → HasFailed self.old.state self.old.lost self.new }
         ensures only { OnErr result ((result ≡ Err Error.ErrAssociationFailed) ⊎ (result ≡ Err Error.ErrNoMemory)) }
-        ensures stands { OnOk result (self.new.failed ≡ self.old.failed) }
+        ensures changed { OnOk result (ChangedByPoll self.old self.new) }
     {
         self.check_usable()?;
         let answers = self.answers();
@@ -185,7 +191,9 @@ impl Association {
         ensures refused { IsErrOf result Error.ErrAssociationFailed → self.new ≡ self.old }
         ensures memory { IsErrOf result Error.ErrNoMemory → HasFailed self.old.state self.old.lost self.new }
         ensures only { OnErr result ((result ≡ Err Error.ErrAssociationFailed) ⊎ (result ≡ Err Error.ErrNoMemory)) }
-        ensures stands { OnOk result (self.new.failed ≡ self.old.failed) }
+        ensures changed { OnOk result (ChangedByPacket self.old self.new) }
+        ensures ignored { packet_of event ≡ None → OnOk result (self.new ≡ self.old) }
+        ensures after_loss { self.old.lost ≡ true → OnOk result (self.new ≡ self.old) }
     {
         self.check_usable()?;
         let transmit = event.transmit;

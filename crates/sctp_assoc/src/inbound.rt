@@ -1,5 +1,7 @@
 // One datagram, chunk by chunk.
-ghost use Rattle.std.specs.Prelude.{◌≡◌};
+ghost use Rattle.std.specs.Prelude.{◌≡◌, true, None, IsErr};
+ghost use Rattle.sctp_wire.specs.Packets.{checked, finished};
+ghost use Rattle.sctp_assoc.specs.Inbound.{taken_packet};
 ghost use Rattle.sctp_assoc.specs.Frames.{ChangedByChunk, ChangedByPacket};
 
 use crate::Association;
@@ -28,7 +30,9 @@ impl Association {
         datagram: PartialDecode,
         now: Instant,
     ) -> Result<(), AllocError>
-        ensures { ChangedByPacket self.old self.new }
+        ensures changed { ChangedByPacket self.old self.new }
+        ensures ignored { taken_packet (finished datagram) ≡ None → self.new ≡ self.old }
+        ensures after_loss { self.old.lost ≡ true → self.new ≡ self.old }
     {
         match datagram.finish(self.alloc) {
             Ok(packet) => self.on_packet(packet, now),
@@ -38,13 +42,22 @@ impl Association {
     }
 
     fn on_packet(&mut self, packet: Packet, now: Instant) -> Result<(), AllocError>
-        ensures { ChangedByPacket self.old self.new }
+        ensures changed { ChangedByPacket self.old self.new }
+        ensures ignored { IsErr (checked packet) → self.new ≡ self.old }
+        ensures after_loss { self.old.lost ≡ true → self.new ≡ self.old }
     {
         if self.lost || check_packet(&packet).is_err() {
             return Ok(());
         }
+        self.on_chunks(packet.chunks.into_vec(), now)
+    }
+
+    // The chunks in order; a fault ends the packet and closes an open association.
+    fn on_chunks(&mut self, chunks: Vec<Chunk>, now: Instant) -> Result<(), AllocError>
+        ensures { ChangedByPacket self.old self.new }
+    {
         let mut wish = AckWish::None;
-        for chunk in packet.chunks.into_vec() {
+        for chunk in chunks {
             match self.on_chunk(chunk, wish, now)? {
                 Flow::Next(next) => wish = next,
                 Flow::Fault(_) => return self.close_with(AssociationError::AssociationClosed),

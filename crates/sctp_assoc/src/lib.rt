@@ -6,6 +6,7 @@ mod association;
 mod effects;
 mod gather;
 mod inbound;
+mod readers;
 mod shared;
 mod stream;
 mod stream_calls;

@@ -1,0 +1,81 @@
+// Values of an association that may be read at any time.
+ghost use Rattle.std.specs.Prelude.{◌≡◌};
+ghost use Rattle.sctp_outbound.specs.Sender.{window_left, marks};
+
+use crate::Association;
+use sctp_parts::state::AssociationState;
+
+impl Association {
+    /// The state (RFC 4960 section 4).
+    pub fn state(&self) -> AssociationState
+        ensures { result ≡ self.now.state }
+    {
+        self.state
+    }
+
+    /// Greatest packet, in bytes: the payload size and 28.
+    pub fn mtu(&self) -> u32
+        ensures { result ≡ self.now.sender.mtu }
+    {
+        self.sender.mtu
+    }
+
+    /// Congestion window, in bytes.
+    pub fn cwnd(&self) -> u32
+        ensures { result ≡ self.now.sender.cwnd }
+    {
+        self.sender.cwnd
+    }
+
+    /// Slow start threshold, in bytes.
+    pub fn ssthresh(&self) -> u32
+        ensures { result ≡ self.now.sender.ssthresh }
+    {
+        self.sender.ssthresh
+    }
+
+    /// The peer's receive window less what is in flight, in bytes.
+    pub fn rwnd(&self) -> u32
+        ensures { result ≡ window_left self.now.sender }
+    {
+        self.sender.rwnd()
+    }
+
+    /// The cumulative TSN ack point: every TSN up to it came.
+    pub fn point(&self) -> u32
+        ensures { result ≡ self.now.receiver.point }
+    {
+        self.receiver.point
+    }
+
+    /// The verification tag of the packets that are given out.
+    pub fn peer_tag(&self) -> u32
+        ensures { result ≡ self.now.handshake.peer_verification_tag }
+    {
+        self.handshake.peer_verification_tag
+    }
+
+    /// Streams that may be sent on and that may be received on.
+    pub fn stream_counts(&self) -> (u16, u16)
+        ensures { result ≡ (self.now.handshake.num_outbound_streams, self.now.handshake.num_inbound_streams) }
+    {
+        (
+            self.handshake.num_outbound_streams,
+            self.handshake.num_inbound_streams,
+        )
+    }
+
+    /// Whether messages may be skipped by FORWARD TSN (RFC 3758).
+    pub fn uses_forward_tsn(&self) -> bool
+        ensures { result ≡ self.now.handshake.use_forward_tsn }
+    {
+        self.handshake.use_forward_tsn
+    }
+
+    /// Whether the retransmission timer marked this TSN and it was neither sent again since nor acknowledged.
+    pub fn is_marked(&self, tsn: u32) -> bool
+        ensures { result ≡ marks self.now.sender tsn }
+    {
+        self.sender.is_marked(tsn)
+    }
+}
