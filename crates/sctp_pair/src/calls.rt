@@ -1,4 +1,6 @@
 // One call of one association, and its answer as a reply.
+ghost use Rattle.std.specs.Prelude.{◌≡◌, length, take};
+
 use crate::Reply;
 use bytes::Bytes;
 use sctp_assoc::{
@@ -78,7 +80,9 @@ pub(crate) fn poll_transmit(
     association: &mut Association,
     packets: &mut Vec<Bytes>,
     now: Instant,
-) -> Reply {
+) -> Reply
+    ensures { take (length packets.old.items) packets.new.items ≡ packets.old.items }
+{
     match association.poll_transmit(now) {
         Ok(None) => Reply::NothingSent,
         Ok(Some(transmit)) => keep_packets(packets, transmit),
@@ -87,7 +91,9 @@ pub(crate) fn poll_transmit(
 }
 
 // The packets whose room is refused, and those after it, are lost and get no number.
-fn keep_packets(packets: &mut Vec<Bytes>, transmit: Transmit) -> Reply {
+fn keep_packets(packets: &mut Vec<Bytes>, transmit: Transmit) -> Reply
+    ensures { take (length packets.old.items) packets.new.items ≡ packets.old.items }
+{
     let first = packets.len() as u64;
     match transmit.payload {
         Payload::PartialDecode(_) => Reply::NothingSent,
@@ -101,7 +107,9 @@ fn keep_packets(packets: &mut Vec<Bytes>, transmit: Transmit) -> Reply {
     }
 }
 
-fn keep_all(packets: &mut Vec<Bytes>, sent: Vec<Bytes>) -> Result<(), AllocError> {
+fn keep_all(packets: &mut Vec<Bytes>, sent: Vec<Bytes>) -> Result<(), AllocError>
+    ensures { take (length packets.old.items) packets.new.items ≡ packets.old.items }
+{
     for packet in sent {
         packets.push(packet)?;
     }

@@ -1,5 +1,8 @@
 // The pair, and a run of steps on it.
-ghost use Rattle.std.specs.Prelude.{◌≡◌, length, OnErr, IfOk, vec_len};
+ghost use Rattle.std.specs.Prelude.{◌≡◌, length, slice_get, [], None, OnErr, IfOk, vec_len};
+ghost use Rattle.std.specs.Option.{option_copied};
+ghost use Rattle.sctp_assoc.specs.Join.{join_refusal, joined};
+ghost use Rattle.sctp_pair.specs.Ends.{JoinRefuses, packets_of, end_of, side_of_step, ChangedAt, StepsAt};
 
 use crate::{Reply, Side2, Step, calls};
 use bytes::Bytes;
@@ -7,6 +10,7 @@ use sctp_assoc::{
     Association, ChunkInit, Error, Instant, PayloadProtocolIdentifier, StreamId, TransportConfig,
 };
 use std::alloc::Global;
+use std::marker::Model;
 use std::net::SocketAddr;
 
 /// Two associations and all packets that they gave out, numbered 0, 1, 2 and so on for each side.
@@ -19,6 +23,19 @@ pub struct Pair {
     packets_b: Vec<Bytes>,
     remote_a: SocketAddr,
     remote_b: SocketAddr,
+}
+
+impl Model for Pair {
+    ghost use Rattle.sctp_pair.specs.Ends.{Ends};
+
+    ghost Value = { Ends };
+
+    ghost view = { λ p. record {
+      a = p.a;
+      b = p.b;
+      packets_a = p.packets_a.items;
+      packets_b = p.packets_b.items;
+    } };
 }
 
 impl Pair {
@@ -34,7 +51,17 @@ impl Pair {
         token_b: &ChunkInit,
         remote_of_a: SocketAddr,
         remote_of_b: SocketAddr,
-    ) -> Result<Pair, Error> {
+    ) -> Result<Pair, Error>
+        ensures joined { IfOk result (λ p. p ≡ record {
+          a = joined config_a.now max_payload_size_a remote_of_a None token_a.now token_b.now;
+          b = joined config_b.now max_payload_size_b remote_of_b None token_b.now token_a.now;
+          packets_a = [];
+          packets_b = [];
+        }) }
+        ensures refused { JoinRefuses result
+            (join_refusal max_payload_size_a token_a.now token_b.now)
+            (join_refusal max_payload_size_b token_b.now token_a.now) }
+    {
         let a = Association::new_with_out_of_band_init(
             alloc,
             config_a,
@@ -65,7 +92,9 @@ impl Pair {
     }
 
     /// The packet of this number that a side gave out.
-    pub fn packet(&self, side: Side2, number: u64) -> Option<&Bytes> {
+    pub fn packet(&self, side: Side2, number: u64) -> Option<&Bytes>
+        ensures { option_copied result ≡ slice_get (packets_of side self.now) number }
+    {
         match side {
             Side2::A => self.packets_a.get(number as usize),
             Side2::B => self.packets_b.get(number as usize),
@@ -73,7 +102,9 @@ impl Pair {
     }
 
     /// One side, to be looked at.
-    pub fn association(&self, side: Side2) -> &Association {
+    pub fn association(&self, side: Side2) -> &Association
+        ensures { result.now ≡ end_of side self.now }
+    {
         match side {
             Side2::A => &self.a,
             Side2::B => &self.b,
@@ -83,6 +114,7 @@ impl Pair {
     /// Carries out the steps, in order. Refused for want of memory before the first step alone, with nothing changed.
     pub fn run(&mut self, steps: &[Step]) -> Result<Vec<Reply>, Error>
         ensures replies { IfOk result (λ replies. vec_len replies ≡ length steps.now) }
+        ensures refused { OnErr result ((result ≡ Err Error.ErrNoMemory) × (self.new ≡ self.old)) }
     {
         let mut replies = Vec::with_capacity(self.alloc, steps.len())?;
         for step in steps {
@@ -93,7 +125,9 @@ impl Pair {
     }
 
     /// Carries out one step.
-    pub fn step(&mut self, step: &Step) -> Reply {
+    pub fn step(&mut self, step: &Step) -> Reply
+        ensures { StepsAt (side_of_step step.now) self.old self.new }
+    {
         match step {
             Step::OpenStream {
                 side,
@@ -123,63 +157,81 @@ impl Pair {
         side: Side2,
         id: StreamId,
         payload_type: PayloadProtocolIdentifier,
-    ) -> Reply {
+    ) -> Reply
+        ensures { ChangedAt side self.old self.new }
+    {
         match side {
             Side2::A => calls::open_stream(&mut self.a, id, payload_type),
             Side2::B => calls::open_stream(&mut self.b, id, payload_type),
         }
     }
 
-    fn stream(&mut self, side: Side2, id: StreamId) -> Reply {
+    fn stream(&mut self, side: Side2, id: StreamId) -> Reply
+        ensures { ChangedAt side self.old self.new }
+    {
         match side {
             Side2::A => calls::find_stream(&mut self.a, id),
             Side2::B => calls::find_stream(&mut self.b, id),
         }
     }
 
-    fn write(&mut self, side: Side2, id: StreamId, bytes: &Bytes) -> Reply {
+    fn write(&mut self, side: Side2, id: StreamId, bytes: &Bytes) -> Reply
+        ensures { ChangedAt side self.old self.new }
+    {
         match side {
             Side2::A => calls::write(&mut self.a, id, bytes),
             Side2::B => calls::write(&mut self.b, id, bytes),
         }
     }
 
-    fn read(&mut self, side: Side2, id: StreamId) -> Reply {
+    fn read(&mut self, side: Side2, id: StreamId) -> Reply
+        ensures { ChangedAt side self.old self.new }
+    {
         match side {
             Side2::A => calls::read(&mut self.a, id),
             Side2::B => calls::read(&mut self.b, id),
         }
     }
 
-    fn buffered_amount(&mut self, side: Side2, id: StreamId) -> Reply {
+    fn buffered_amount(&mut self, side: Side2, id: StreamId) -> Reply
+        ensures { ChangedAt side self.old self.new }
+    {
         match side {
             Side2::A => calls::buffered_amount(&mut self.a, id),
             Side2::B => calls::buffered_amount(&mut self.b, id),
         }
     }
 
-    fn poll(&mut self, side: Side2) -> Reply {
+    fn poll(&mut self, side: Side2) -> Reply
+        ensures { ChangedAt side self.old self.new }
+    {
         match side {
             Side2::A => calls::poll(&mut self.a),
             Side2::B => calls::poll(&mut self.b),
         }
     }
 
-    fn poll_transmit(&mut self, side: Side2, now: Instant) -> Reply {
+    fn poll_transmit(&mut self, side: Side2, now: Instant) -> Reply
+        ensures { StepsAt side self.old self.new }
+    {
         match side {
             Side2::A => calls::poll_transmit(&mut self.a, &mut self.packets_a, now),
             Side2::B => calls::poll_transmit(&mut self.b, &mut self.packets_b, now),
         }
     }
 
-    fn handle_timeout(&mut self, side: Side2, now: Instant) -> Reply {
+    fn handle_timeout(&mut self, side: Side2, now: Instant) -> Reply
+        ensures { ChangedAt side self.old self.new }
+    {
         match side {
             Side2::A => calls::handle_timeout(&mut self.a, now),
             Side2::B => calls::handle_timeout(&mut self.b, now),
         }
     }
 
-    fn deliver(&mut self, side: Side2, number: u64, now: Instant) -> Reply {
+    fn deliver(&mut self, side: Side2, number: u64, now: Instant) -> Reply
+        ensures { ChangedAt side self.old self.new }
+    {
         match side {
             Side2::A => calls::deliver(
                 &mut self.a,
