@@ -1,4 +1,6 @@
 // A session: lines in, replies out.
+ghost use Rattle.std.specs.Prelude.{◌≡◌, ◌⊎◌};
+
 use crate::line::{Line, parse};
 use crate::setting::snapped;
 use crate::show::show;
@@ -35,7 +37,9 @@ pub fn session<R: Read + Drop, W: Write + Drop, E: Write + Drop>(
     input: R,
     output: W,
     errors: E,
-) -> u8 {
+) -> u8
+    ensures { (result ≡ 0) ⊎ (result ≡ 2) }
+{
     let mut errors = errors;
     match replay(alloc, input, output) {
         Ok(()) => 0,

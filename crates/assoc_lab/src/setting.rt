@@ -37,8 +37,8 @@ pub fn snapped(
     )
 }
 
-// What one side offers, as an INIT would say it.
-fn token(
+/// What one side offers, as an INIT would say it.
+pub fn token(
     alloc: Global,
     config: &TransportConfig,
     initiate_tag: u32,
@@ -56,7 +56,7 @@ fn token(
     })
 }
 
-// An address of the documentation range, at port 5000.
-fn address(host: u8) -> SocketAddr {
+/// An address of the documentation range, at port 5000.
+pub fn address(host: u8) -> SocketAddr {
     SocketAddr::new(IpAddr::V4(Ipv4Addr::new(192, 0, 2, host)), 5000)
 }

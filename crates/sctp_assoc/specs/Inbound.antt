@@ -2,10 +2,15 @@
 use Rattle.std.specs.Prelude.{List, is_ok, if◌then◌else◌, Result, Ok, Err, Option, Some, None}
 use Rattle.sctp_wire_types.specs.declared.error.Fault.{Fault}
 use Rattle.sctp_wire.specs.declared.packet.Packet.{Packet}
+use Rattle.sctp_wire.specs.declared.transmit.Transmit.{Transmit}
 use Rattle.sctp_wire.specs.declared.transmit.Payload.{Payload}
 use Rattle.sctp_wire.specs.declared.transmit.Payload.TheVariants as payloads
 use Rattle.sctp_wire.specs.Packets.{finished, checked}
 use Rattle.sctp_assoc.specs.declared.shared.AssociationEvent.{AssociationEvent}
+
+-- what an event hands in
+abbrev pub transmit_of : AssociationEvent → Transmit
+transmit_of event = event.transmit
 
 abbrev pub taken_packet : Result Packet Fault → Option Packet
 taken_packet (Ok packet) = if is_ok (checked packet) then Some packet else None
@@ -17,4 +22,4 @@ packet_within (payloads.RawEncode packets) = None
 
 -- the packet that an event brings; none where the datagram does not decode or is refused as a packet
 abbrev pub packet_of : AssociationEvent → Option Packet
-packet_of event = packet_within event.transmit.payload
+packet_of event = packet_within (transmit_of event).payload

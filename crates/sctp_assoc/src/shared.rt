@@ -1,4 +1,7 @@
 // What an endpoint hands to an association.
+ghost use Rattle.std.specs.Prelude.{◌≡◌};
+ghost use Rattle.sctp_assoc.specs.Inbound.{transmit_of};
+
 use sctp_wire::Transmit;
 
 /// A datagram for an association.
@@ -9,7 +12,9 @@ pub struct AssociationEvent {
 
 impl AssociationEvent {
     /// A datagram that came at the moment `transmit.now`.
-    pub fn datagram(transmit: Transmit) -> Self {
+    pub fn datagram(transmit: Transmit) -> Self
+        ensures { transmit_of result ≡ transmit }
+    {
         AssociationEvent { transmit }
     }
 }

@@ -1,13 +1,17 @@
 -- The sender of DATA (RFC 4960 sections 6 and 7).
-use Rattle.std.specs.Prelude.{ℕ, Bool, true, false, List, [], ◌∷◌, ◌+◌, ◌-◌, ◌*◌, ◌/◌, ◌%◌, ◌^◌, ◌==◌, ◌&&◌, if◌then◌else◌, length, min, max, nat_le, slice_get, Option, Some, None}
-use Rattle.sctp_wire_types.specs.Serial.{tsn_past, tsn_gte}
+use Rattle.std.specs.Prelude.{ℕ, is_some, zero, suc, not, nat_lt, ◌++◌, slice_set, Bool, true, false, List, [], ◌∷◌, ◌+◌, ◌-◌, ◌*◌, ◌/◌, ◌%◌, ◌^◌, ◌==◌, ◌&&◌, if◌then◌else◌, length, min, max, nat_le, slice_get, Option, Some, None}
+use Rattle.sctp_wire_types.specs.Serial.{tsn_past, tsn_gt, tsn_gte}
 use Rattle.sctp_wire_types.specs.declared.chunk.ChunkPayloadData.{ChunkPayloadData}
+use Rattle.sctp_parts.specs.declared.timer.Timer.TheVariants as names
+use Rattle.sctp_parts.specs.Timers.{Timers, with_moment, without_retries, restarted_if_stale, with_stopped}
 use Rattle.sctp_parts.specs.Estimate.{Estimate, measured}
 use Rattle.sctp_queues.specs.declared.outbound.Fragment.{Fragment}
 use Rattle.sctp_queues.specs.declared.outbound.InFlight.{InFlight}
-use Rattle.sctp_queues.specs.Outbound.{Outbound, empty_outbound, next_tsn_of, outstanding_of, without_first}
+use Rattle.sctp_queues.specs.Outbound.{Outbound, empty_outbound, next_tsn_of, outstanding_of, without_first, counted_again, sent_next}
 use Rattle.sctp_queues.specs.Streams.{StreamMap, released_in}
 use Rattle.sctp_outbound.specs.declared.sender.Sender.{Sender}
+use Rattle.sctp_outbound.specs.declared.sender.SackOutcome.{SackOutcome}
+use Rattle.sctp_outbound.specs.declared.sender.SackOutcome.TheVariants as outcomes
 
 -- the first congestion window of a packet size (RFC 4960 section 7.2.1)
 abbrev pub first_window : ℕ → ℕ
@@ -76,19 +80,123 @@ streams_after (Some p) m =
 abbrev pub streams_after_first : Sender → StreamMap → StreamMap
 streams_after_first s m = streams_after (slice_get s.queue.in_flight 0) m
 
+-- sender, estimate and streams once the first piece in flight is acknowledged
+unfoldable pub after_first : ℕ → Sender × Estimate × StreamMap → Sender × Estimate × StreamMap
+after_first now (s, e, m) = (sender_after_first s, estimate_after_first s now e, streams_after_first s m)
+
+-- sender, estimate and streams once the first n pieces in flight are acknowledged, in the order of their TSNs
+abbrev pub acknowledged : ℕ → ℕ → Sender × Estimate × StreamMap → Sender × Estimate × StreamMap
+acknowledged zero now all = all
+acknowledged (suc n) now all = acknowledged n now (after_first now all)
+
+-- what a cumulative TSN ack point is to the sender (RFC 4960 section 6.2.1): behind the one before it, beyond what is in
+-- flight, or taken
+abbrev pub sack_outcome : Sender → ℕ → SackOutcome
+sack_outcome s point =
+    if tsn_gt (acked_point_of s) point then outcomes.Older else
+    if nat_le (points_to s point) (length s.queue.in_flight) then outcomes.Taken else outcomes.NotInFlight
+
+abbrev pub with_window : Sender → ℕ → Sender
+with_window s window = record s { advertised_window = window }
+
+-- T3-rtx, without retries and disarmed where a SACK acknowledged something
+abbrev pub t3_cleared : Bool → Timers → Timers
+t3_cleared moved t = if moved then with_moment names.T3RTX None (without_retries names.T3RTX t) else t
+
+-- T3-rtx after a SACK (RFC 4960 section 6.3.2): with pieces left in flight it runs, from now on where something was
+-- acknowledged (rule R3); with none left it is stopped (rule R2)
+abbrev pub t3_after_sack : Bool → ℕ → ℕ → ℕ → Timers → Timers
+t3_after_sack moved left now rto t =
+    if nat_lt 0 left then restarted_if_stale names.T3RTX now rto (t3_cleared moved t) else
+    if moved then with_stopped names.T3RTX t else t
+
 -- a message that is one piece, as DATA (RFC 4960 section 3.3.1)
-abbrev pub chunk_of_piece : InFlight → ℕ → ChunkPayloadData
-chunk_of_piece p tsn = record {
+abbrev pub chunk_of : Fragment → ℕ → ChunkPayloadData
+chunk_of f tsn = record {
   unordered = false;
   beginning_fragment = true;
   ending_fragment = true;
   immediate_sack = false;
   tsn = tsn;
-  stream_identifier = p.fragment.stream_identifier;
-  stream_sequence_number = p.fragment.stream_sequence_number;
-  payload_type = p.fragment.payload_type;
-  user_data = p.fragment.user_data;
+  stream_identifier = f.stream_identifier;
+  stream_sequence_number = f.stream_sequence_number;
+  payload_type = f.payload_type;
+  user_data = f.user_data;
 }
+
+-- the TSN that is so many past the first one in flight
+abbrev pub tsn_at_place : ℕ → ℕ → ℕ
+tsn_at_place first place = (first + place % 2 ^ 32) % 2 ^ 32
+
+abbrev pub with_in_flight : Sender → List InFlight → Sender
+with_in_flight s pieces = record s { queue = (let q = s.queue in record q { in_flight = pieces }) }
+
+-- the DATA that is sent again: the marked pieces in the order of their TSNs, as long as they fit together into so many
+-- bytes (RFC 4960 section 6.3.3, rule E3)
+abbrev pub resent_chunks : ℕ → ℕ → ℕ → List InFlight → List ChunkPayloadData
+resent_chunks first place room [] = []
+resent_chunks first place room (p ∷ ps) =
+    if not p.retransmit then resent_chunks first (place + 1) room ps else
+    if nat_lt room (length p.fragment.user_data) then [] else
+    chunk_of p.fragment (tsn_at_place first place) ∷
+    resent_chunks first (place + 1) (room - length p.fragment.user_data) ps
+
+-- the pieces in flight after that: those that were sent again lost their mark and count one sending more
+abbrev pub resent_pieces : ℕ → List InFlight → List InFlight
+resent_pieces room [] = []
+resent_pieces room (p ∷ ps) =
+    if not p.retransmit then p ∷ resent_pieces room ps else
+    if nat_lt room (length p.fragment.user_data) then p ∷ ps else
+    counted_again p ∷ resent_pieces (room - length p.fragment.user_data) ps
+
+-- what is left of so many bytes for the pieces behind one: None where it is marked and does not fit
+abbrev pub tried_again : Option InFlight → Sender → ℕ → ℕ → List ChunkPayloadData → Sender × List ChunkPayloadData × Option ℕ
+tried_again None s place room out = (s, out, None)
+tried_again (Some p) s place room out =
+    if not p.retransmit then (s, out, Some room) else
+    if nat_lt room (length p.fragment.user_data) then (s, out, None) else (
+      with_in_flight s (slice_set s.queue.in_flight place (counted_again p)),
+      out ++ chunk_of p.fragment (tsn_at_place s.queue.first_tsn place) ∷ [],
+      Some (room - length p.fragment.user_data),
+    )
+
+abbrev pub alone_length_of : ℕ → Option InFlight → Option ℕ
+alone_length_of window None = None
+alone_length_of window (Some p) =
+    if p.retransmit && nat_lt window (length p.fragment.user_data) then Some (length p.fragment.user_data) else None
+
+-- the length of the first piece in flight, where it is marked and the peer's window is too small for it
+abbrev pub alone_length : Sender → Option ℕ
+alone_length s = alone_length_of (window_left s) (slice_get s.queue.in_flight 0)
+
+-- the first piece in flight goes alone
+abbrev pub resends_alone : Sender → Bool
+resends_alone s = is_some (alone_length s)
+
+abbrev pub first_chunk : ℕ → List InFlight → List ChunkPayloadData
+first_chunk first [] = []
+first_chunk first (p ∷ ps) = chunk_of p.fragment (tsn_at_place first 0) ∷ []
+
+abbrev pub first_counted : List InFlight → List InFlight
+first_counted [] = []
+first_counted (p ∷ ps) = counted_again p ∷ ps
+
+-- the lesser of the congestion window and what is left of the peer's window
+abbrev pub both_windows : Sender → ℕ
+both_windows s = min s.cwnd (window_left s)
+
+-- the DATA that a poll sends again: within both windows, or the first piece alone where the peer's window is too small
+-- for it (RFC 4960 section 6.1, rule A)
+abbrev pub resent_by : Sender → List ChunkPayloadData
+resent_by s =
+    if resends_alone s then first_chunk s.queue.first_tsn s.queue.in_flight else
+    resent_chunks s.queue.first_tsn 0 (both_windows s) s.queue.in_flight
+
+abbrev pub after_resending : Sender → Sender
+after_resending s =
+    with_in_flight s (
+    if resends_alone s then first_counted s.queue.in_flight else resent_pieces (both_windows s) s.queue.in_flight
+    )
 
 abbrev pub fits_windows : Sender → Option Fragment → Bool
 fits_windows s None = false
@@ -99,3 +207,24 @@ fits_windows s (Some f) =
 -- the next piece that waits is within the congestion window and the peer's window (RFC 4960 section 6.1)
 abbrev pub can_send_next : Sender → Bool
 can_send_next s = fits_windows s (slice_get s.queue.pending 0)
+
+-- the first of the pieces that wait goes out, under the next TSN
+unfoldable pub sent_one : List Fragment → Sender → List ChunkPayloadData → ℕ → Sender × List ChunkPayloadData
+sent_one [] s out now = (s, out)
+sent_one (f ∷ fs) s out now =
+    (record s { queue = sent_next s.queue now }, out ++ chunk_of f (next_tsn_of s.queue) ∷ [])
+
+-- of the pieces that wait those go out, in the order in which they were accepted, that both windows have room for
+abbrev pub sent_within : List Fragment → Sender → List ChunkPayloadData → ℕ → Sender × List ChunkPayloadData
+sent_within [] s out now = (s, out)
+sent_within (f ∷ fs) s out now =
+    if fits_windows s (Some f) then
+    (let sent = sent_one (f ∷ fs) s out now in sent_within fs sent.0 sent.1 now)
+    else (s, out)
+
+-- the DATA that a poll sends for the first time: within both windows, or, with nothing in flight, one piece that probes
+-- them (RFC 4960 section 6.1, rules A and B)
+abbrev pub sent_new : Sender → List ChunkPayloadData → ℕ → Sender × List ChunkPayloadData
+sent_new s out now =
+    if length s.queue.in_flight == 0 && not (can_send_next s) then sent_one s.queue.pending s out now else
+    sent_within s.queue.pending s out now

@@ -2,8 +2,8 @@
 ghost use Rattle.sctp_parts.specs.Estimate.{measured};
 ghost use Rattle.sctp_queues.specs.Outbound.{all_marked};
 ghost use Rattle.sctp_queues.specs.Streams.{released_in};
-ghost use Rattle.std.specs.Prelude.{◌≡◌, ◌+◌, ◌-◌, ◌/◌, if◌then◌else◌, ◌≤◌, ◌<◌, ◌^◌, ◌++◌, ◌∷◌, [], OnErr, OnOk, IfOk, IfSome, length};
-ghost use Rattle.sctp_outbound.specs.Sender.{fresh_sender, window_left, marks, acked_point_of, points_to, sender_after_first, estimate_after_first, streams_after_first, chunk_of_piece, can_send_next, is_measured};
+ghost use Rattle.std.specs.Prelude.{◌≡◌, ◌+◌, ◌-◌, ◌/◌, if◌then◌else◌, ◌≤◌, ◌<◌, ◌^◌, ◌++◌, ◌∷◌, [], OnErr, OnOk, IfOk, IfSome, length, drop, slice_get, nat_lt};
+ghost use Rattle.sctp_outbound.specs.Sender.{fresh_sender, window_left, marks, acked_point_of, points_to, after_first, acknowledged, sack_outcome, with_window, t3_after_sack, chunk_of, can_send_next, is_measured, after_resending, resent_by, alone_length, with_in_flight, resent_pieces, resent_chunks, tried_again, tsn_at_place, sent_new, sent_within, sent_one};
 
 use sctp_parts::timer::{RtoManager, Timer, TimerTable};
 use sctp_queues::{Fragment, InFlight, OutboundQueue, Streams};
@@ -91,6 +91,9 @@ impl Sender {
     ) -> SackOutcome
         ensures older { (result ≡ SackOutcome.Older) → (self.new ≡ self.old) × (timers.new ≡ timers.old) × (rto.new ≡ rto.old) × (streams.new ≡ streams.old) }
         ensures unknown { (result ≡ SackOutcome.NotInFlight) → (self.new ≡ self.old) × (timers.new ≡ timers.old) × (rto.new ≡ rto.old) × (streams.new ≡ streams.old) }
+        ensures outcome { result ≡ sack_outcome self.old point }
+        ensures taken { (result ≡ SackOutcome.Taken) → acknowledged (points_to self.old point) now (with_window self.old window, rto.old, streams.old) ≡ (self.new, rto.new, streams.new) }
+        ensures timer { (result ≡ SackOutcome.Taken) → timers.new ≡ t3_after_sack (nat_lt 0 (points_to self.old point)) (length self.new.queue.in_flight) now rto.new.rto timers.old }
     {
         if sna32gt(self.acked_point(), point) {
             return SackOutcome::Older;
@@ -99,20 +102,21 @@ impl Sender {
         if count as usize > self.queue.inflight_len() {
             return SackOutcome::NotInFlight;
         }
-        for _ in 0..count {
-            self.acknowledge_first(rto, streams, now);
-        }
         self.advertised_window = window;
-        if count > 0 {
-            timers.reset_retrans(Timer::T3RTX);
-            timers.set(Timer::T3RTX, None);
-        }
-        self.watch(timers, rto, count > 0, now);
+        self.acknowledge(rto, streams, count, now);
+        self.run_t3(timers, rto, count > 0, now);
         SackOutcome::Taken
     }
 
-    // Stops the retransmission timer where the last piece in flight was acknowledged, and lets it run where one is left.
-    fn watch(&self, timers: &mut TimerTable, rto: &RtoManager, moved: bool, now: Instant) {
+    // The retransmission timer after a SACK: begun anew where something was acknowledged, stopped where nothing is left
+    // in flight then, and running where something is (RFC 4960 section 6.3.2, rules R2 and R3).
+    fn run_t3(&self, timers: &mut TimerTable, rto: &RtoManager, moved: bool, now: Instant)
+        ensures { timers.new ≡ t3_after_sack moved (length self.now.queue.in_flight) now rto.now.rto timers.old }
+    {
+        if moved {
+            timers.reset_retrans(Timer::T3RTX);
+            timers.set(Timer::T3RTX, None);
+        }
         if self.queue.inflight_len() > 0 {
             timers.restart_if_stale(Timer::T3RTX, now, rto.get_rto());
         } else if moved {
@@ -133,11 +137,19 @@ impl Sender {
         point.wrapping_sub(self.acked_point())
     }
 
+    // The first `count` pieces in flight came, one after another.
+    fn acknowledge(&mut self, rto: &mut RtoManager, streams: &mut Streams, count: u32, now: Instant)
+        ensures { acknowledged count now (self.old, rto.old, streams.old) ≡ (self.new, rto.new, streams.new) }
+    {
+        for done in 0..count {
+            self.acknowledge_first(rto, streams, now);
+        }
+    }
+
     // The first piece in flight came: measure the round trip if it was sent once, and release its bytes.
+    #[tactic(auto, unfolding(crate::specs::Sender::after_first))]
     fn acknowledge_first(&mut self, rto: &mut RtoManager, streams: &mut Streams, now: Instant)
-        ensures sender { self.new ≡ sender_after_first self.old }
-        ensures estimate { rto.new ≡ estimate_after_first self.old now rto.old }
-        ensures streams { streams.new ≡ streams_after_first self.old streams.old }
+        ensures { after_first now (self.old, rto.old, streams.old) ≡ (self.new, rto.new, streams.new) }
     {
         let tsn = self.queue.first_tsn();
         let next_tsn = self.queue.next_tsn();
@@ -174,47 +186,79 @@ impl Sender {
 
     /// Sends marked DATA again, in TSN order, while the windows allow it. Where the peer's window is too small for the
     /// first TSN in flight, that one goes alone.
-    pub fn resend_marked(&mut self, out: &mut Vec<ChunkPayloadData>) -> Result<(), AllocError> {
-        let rwnd = self.rwnd();
-        let window = u64::from(self.cwnd.min(rwnd));
-        let mut chosen = 0u64;
-        for place in 0..self.queue.inflight_len() {
-            let Some(length) = self.marked_length(place) else {
-                continue;
-            };
-            let alone = place == 0 && u64::from(rwnd) < length;
-            if !alone && chosen.saturating_add(length) > window {
-                break;
-            }
-            self.resend(place, out)?;
-            if alone {
-                break;
-            }
-            chosen = chosen.saturating_add(length);
+    pub fn resend_marked(&mut self, out: &mut Vec<ChunkPayloadData>) -> Result<(), AllocError>
+        ensures sender { OnOk result (self.new ≡ after_resending self.old) }
+        ensures chunks { OnOk result (out.new.items ≡ out.old.items ++ resent_by self.old) }
+    {
+        if let Some(length) = self.alone_length() {
+            self.resend(0, length, out)?;
+            return Ok(());
         }
-        Ok(())
+        let window = self.cwnd.min(self.rwnd());
+        self.resend_within(u64::from(window), out)
     }
 
-    // The payload's length of a piece that is to be sent again.
-    fn marked_length(&self, place: usize) -> Option<u64> {
-        let piece = self.queue.get(place)?;
-        if piece.retransmit {
-            Some(piece.fragment.user_data.len() as u64)
+    // The length of the first piece in flight, where it is marked and the peer's window is too small for it.
+    fn alone_length(&self) -> Option<u64>
+        ensures { result ≡ alone_length self.now }
+    {
+        let piece = self.queue.get(0)?;
+        let length = piece.fragment.user_data.len() as u64;
+        if piece.retransmit && u64::from(self.rwnd()) < length {
+            Some(length)
         } else {
             None
         }
     }
 
-    fn resend(&mut self, place: usize, out: &mut Vec<ChunkPayloadData>) -> Result<(), AllocError> {
-        if let Some(piece) = self.queue.get(place) {
-            let tsn = self.tsn_at(place);
-            out.push(data_chunk(piece, tsn)?)?;
+    // Sends marked pieces again, in TSN order, until one does not fit into what is left of `room` bytes.
+    fn resend_within(
+        &mut self,
+        room: u64,
+        out: &mut Vec<ChunkPayloadData>,
+    ) -> Result<(), AllocError>
+        ensures sender { OnOk result (self.new ≡ with_in_flight self.old (resent_pieces room self.old.queue.in_flight)) }
+        ensures chunks { OnOk result (out.new.items ≡ out.old.items ++ resent_chunks self.old.queue.first_tsn 0 room self.old.queue.in_flight) }
+    {
+        let mut left = room;
+        for place in 0..self.queue.inflight_len() {
+            match self.resend(place, left, out)? {
+                Some(rest) => left = rest,
+                None => return Ok(()),
+            }
         }
-        self.queue.resend(place);
         Ok(())
     }
 
-    fn tsn_at(&self, place: usize) -> u32 {
+    // Sends the piece at a place again, where it is marked, and answers what is left of `room` bytes; None where it does
+    // not fit.
+    fn resend(
+        &mut self,
+        place: usize,
+        room: u64,
+        out: &mut Vec<ChunkPayloadData>,
+    ) -> Result<Option<u64>, AllocError>
+        ensures { IfOk result (λ rest. tried_again (slice_get self.old.queue.in_flight place) self.old place room out.old.items ≡ (self.new, out.new.items, rest)) }
+    {
+        let Some(piece) = self.queue.get(place) else {
+            return Ok(None);
+        };
+        if !piece.retransmit {
+            return Ok(Some(room));
+        }
+        let length = piece.fragment.user_data.len() as u64;
+        if length > room {
+            return Ok(None);
+        }
+        let chunk = data_chunk(&piece.fragment, self.tsn_at(place))?;
+        out.push(chunk)?;
+        self.queue.resend(place);
+        Ok(Some(room - length))
+    }
+
+    fn tsn_at(&self, place: usize) -> u32
+        ensures { result ≡ tsn_at_place self.now.queue.first_tsn place }
+    {
         let distance = (place as u64 % 0x1_0000_0000) as u32;
         self.queue.first_tsn().wrapping_add(distance)
     }
@@ -225,22 +269,44 @@ impl Sender {
         &mut self,
         out: &mut Vec<ChunkPayloadData>,
         now: Instant,
-    ) -> Result<bool, AllocError> {
-        let mut sent = false;
-        for _ in 0..self.queue.pending_len() {
-            let fits = self.next_fits();
-            let probes = self.queue.inflight_len() == 0;
-            if !fits && !probes {
-                break;
-            }
-            self.queue.send_next(now)?;
-            sent = true;
-            self.push_last(out)?;
-            if !fits {
-                break;
-            }
+    ) -> Result<bool, AllocError>
+        ensures sent { OnOk result (sent_new self.old out.old.items now ≡ (self.new, out.new.items)) }
+        ensures any { IfOk result (λ any. any ≡ nat_lt (length out.old.items) (length out.new.items)) }
+    {
+        let before = out.len();
+        if self.queue.inflight_len() == 0 && !self.next_fits() {
+            self.send_one(out, now)?;
+        } else {
+            self.send_within(out, now)?;
         }
-        Ok(sent)
+        Ok(before < out.len())
+    }
+
+    // Sends pieces that wait, in the order in which they were accepted, while both windows allow it.
+    fn send_within(
+        &mut self,
+        out: &mut Vec<ChunkPayloadData>,
+        now: Instant,
+    ) -> Result<(), AllocError>
+        ensures { OnOk result (sent_within self.old.queue.pending self.old out.old.items now ≡ (self.new, out.new.items)) }
+    {
+        while self.next_fits() {
+            self.send_one(out, now)?;
+        }
+        Ok(())
+    }
+
+    // Puts the next piece that waits in flight.
+    #[tactic(auto, unfolding(crate::specs::Sender::sent_one))]
+    fn send_one(&mut self, out: &mut Vec<ChunkPayloadData>, now: Instant) -> Result<(), AllocError>
+        ensures sent { OnOk result (sent_one self.old.queue.pending self.old out.old.items now ≡ (self.new, out.new.items)) }
+        ensures pending { OnOk result (self.new.queue.pending ≡ drop 1 self.old.queue.pending) }
+    {
+        if let Some(fragment) = self.queue.peek_pending() {
+            let chunk = data_chunk(fragment, self.queue.next_tsn())?;
+            out.push(chunk)?;
+        }
+        self.queue.send_next(now)
     }
 
     // Whether the next piece that waits is within both windows.
@@ -257,14 +323,6 @@ impl Sender {
             None => false,
         }
     }
-
-    fn push_last(&self, out: &mut Vec<ChunkPayloadData>) -> Result<(), AllocError> {
-        let place = self.queue.inflight_len().saturating_sub(1);
-        if let Some(piece) = self.queue.get(place) {
-            out.push(data_chunk(piece, self.tsn_at(place))?)?;
-        }
-        Ok(())
-    }
 }
 
 // Gives an acknowledged piece's bytes back to its stream.
@@ -279,10 +337,9 @@ fn release(streams: &mut Streams, fragment: &Fragment)
 }
 
 // A message that is one piece, as DATA.
-fn data_chunk(piece: &InFlight, tsn: u32) -> Result<ChunkPayloadData, AllocError>
-    ensures { IfOk result (λ chunk. chunk ≡ chunk_of_piece piece.now tsn) }
+fn data_chunk(fragment: &Fragment, tsn: u32) -> Result<ChunkPayloadData, AllocError>
+    ensures { IfOk result (λ chunk. chunk ≡ chunk_of fragment.now tsn) }
 {
-    let fragment: &Fragment = &piece.fragment;
     Ok(ChunkPayloadData {
         unordered: false,
         beginning_fragment: true,

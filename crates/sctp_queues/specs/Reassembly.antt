@@ -1,5 +1,5 @@
 -- The ordered messages of one stream that came (RFC 4960 section 6.6).
-use Rattle.std.specs.Prelude.{ℕ, Bool, true, false, List, [], ◌∷◌, ◌+◌, ◌-◌, ◌%◌, ◌^◌, ◌==◌, if◌then◌else◌, length, insert, position, unwrap_or, fold, min, Option, Some, None}
+use Rattle.std.specs.Prelude.{ℕ, Bool, true, false, List, [], ◌∷◌, ◌+◌, ◌-◌, ◌%◌, ◌^◌, ◌==◌, ◌&&◌, not, if◌then◌else◌, length, insert, position, unwrap_or, fold, min, Option, Some, None}
 use Rattle.std.specs.List.{list_any}
 use Rattle.sctp_wire_types.specs.Serial.{ssn_lt, ssn_lte}
 use Rattle.sctp_queues.specs.Message.{Message, message}
@@ -20,6 +20,11 @@ place_of ssn held = unwrap_or (position (λ m. ssn_lt ssn m.stream_sequence_numb
 
 abbrev pub has_ssn : ℕ → List HeldMessage → Bool
 has_ssn ssn held = list_any (λ m. m.stream_sequence_number == ssn) held
+
+-- a message that is not old has the SSN of one that is held
+abbrev pub contradicts : Reassembly → HeldMessage → Bool
+contradicts q m =
+    not (ssn_lt m.stream_sequence_number q.next_ssn) && has_ssn m.stream_sequence_number q.held
 
 -- a message that is older than the next SSN is not kept
 abbrev pub pushed : Reassembly → HeldMessage → Reassembly × Bool

@@ -7,7 +7,7 @@ use Rattle.sctp_wire_types.specs.declared.ids.PayloadProtocolIdentifier.{Payload
 use Rattle.sctp_queues.specs.declared.reassembly.HeldMessage.{HeldMessage}
 use Rattle.sctp_queues.specs.declared.stats.DataChannelStats.{DataChannelStats}
 use Rattle.sctp_queues.specs.Message.{Message}
-use Rattle.sctp_queues.specs.Reassembly.{bytes_held, is_ready}
+use Rattle.sctp_queues.specs.Reassembly.{bytes_held, is_ready, contradicts}
 use Rattle.sctp_queues.specs.Stream.{Stream, fresh_stream, released_from, stream_pushed, stream_read}
 
 pub record StreamMap : Type 0 where
@@ -52,6 +52,14 @@ pushed_at (Some s) m id message = (with_stream m id (stream_pushed s message).0,
 -- a message came on a stream, and whether it was kept
 abbrev pub pushed_in : StreamMap → ℕ → HeldMessage → StreamMap × Bool
 pushed_in m id message = pushed_at (stream_at m id) m id message
+
+abbrev pub contradicts_at : Option Stream → HeldMessage → Bool
+contradicts_at None message = false
+contradicts_at (Some s) message = contradicts s.reassembly message
+
+-- a message has the SSN of another one that its live stream holds
+abbrev pub contradicts_in : StreamMap → ℕ → HeldMessage → Bool
+contradicts_in m id message = contradicts_at (stream_at m id) message
 
 abbrev pub read_at : Option Stream → StreamMap → ℕ → StreamMap × Option Message
 read_at None m id = (m, None)

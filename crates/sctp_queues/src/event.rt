@@ -1,5 +1,5 @@
 // Events that an application asks for.
-ghost use Rattle.std.specs.Prelude.{◌≡◌, [], ◌∷◌, ◌++◌, ◌≤◌, OnOk, OnErr, option_to_list};
+ghost use Rattle.std.specs.Prelude.{◌≡◌, [], ◌∷◌, ◌++◌, ◌≤◌, OnOk, OnErr, option_to_list, slice_get};
 ghost use Rattle.sctp_queues.specs.declared.event.AssociationError.TheVariants.{HandshakeFailed};
 
 use crate::DataChannelStats;
@@ -86,7 +86,8 @@ impl Events {
 
     /// Takes out the oldest event.
     pub fn pop(&mut self) -> Option<Event>
-        ensures { self.old ≡ option_to_list result ++ self.new }
+        ensures oldest { result ≡ slice_get self.old 0 }
+        ensures rest { self.old ≡ option_to_list result ++ self.new }
     {
         self.queue.pop_front()
     }

@@ -1,7 +1,7 @@
 // Messages of one stream that came and were not read yet.
-ghost use Rattle.std.specs.Prelude.{◌≡◌, ◌≤◌, ◌<◌, length, position, IfOk, IfSome, OnErr};
+ghost use Rattle.std.specs.Prelude.{◌≡◌, ◌≤◌, ◌<◌, length, position, IfOk, IfSome, OnErr, IsErrOf, IsOk, IsTrue, ◌⊎◌, false};
 ghost use Rattle.sctp_wire_types.specs.Serial.{ssn_lt};
-ghost use Rattle.sctp_queues.specs.Reassembly.{empty_reassembly, is_ready, pushed, taken, place_of, bytes_held, has_ssn};
+ghost use Rattle.sctp_queues.specs.Reassembly.{empty_reassembly, is_ready, pushed, taken, place_of, bytes_held, has_ssn, contradicts};
 
 use crate::Chunks;
 use bytes::Bytes;
@@ -50,6 +50,9 @@ impl ReassemblyQueue {
     pub fn push(&mut self, message: HeldMessage) -> Result<bool, Error>
         ensures pushed { IfOk result (λ kept. pushed self.old message ≡ (self.new, kept)) }
         ensures unchanged { OnErr result (self.new ≡ self.old) }
+        ensures held_already { IsErrOf result Error.ErrContradictoryPieces → IsTrue (contradicts self.old message) }
+        ensures taken { IsOk result → contradicts self.old message ≡ false }
+        ensures only { OnErr result ((result ≡ Err Error.ErrContradictoryPieces) ⊎ (result ≡ Err Error.ErrNoMemory)) }
     {
         let ssn = message.stream_sequence_number;
         if sna16lt(ssn, self.next_ssn) {

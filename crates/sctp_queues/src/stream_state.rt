@@ -1,7 +1,7 @@
 // One live stream.
-ghost use Rattle.std.specs.Prelude.{◌≡◌, ◌+◌, ◌<◌, ◌^◌, ◌↔◌, IfOk, OnErr, IfSome, IsNone};
+ghost use Rattle.std.specs.Prelude.{◌≡◌, ◌+◌, ◌<◌, ◌^◌, ◌↔◌, IfOk, OnErr, IfSome, IsNone, IsErrOf, IsOk, IsTrue, ◌⊎◌, false};
 ghost use Rattle.sctp_queues.specs.Stream.{fresh_stream, accepted_by, released_from, stream_pushed, stream_read};
-ghost use Rattle.sctp_queues.specs.Reassembly.{is_ready, bytes_held};
+ghost use Rattle.sctp_queues.specs.Reassembly.{is_ready, bytes_held, contradicts};
 
 use crate::{Chunks, DataChannelStats, HeldMessage, ReassemblyQueue};
 use sctp_wire_types::{Error, PayloadProtocolIdentifier, StreamId};
@@ -101,6 +101,9 @@ impl StreamState {
     pub fn push(&mut self, message: HeldMessage) -> Result<bool, Error>
         ensures pushed { IfOk result (λ kept. stream_pushed self.old message ≡ (self.new, kept)) }
         ensures unchanged { OnErr result (self.new ≡ self.old) }
+        ensures held_already { IsErrOf result Error.ErrContradictoryPieces → IsTrue (contradicts self.old.reassembly message) }
+        ensures taken { IsOk result → contradicts self.old.reassembly message ≡ false }
+        ensures only { OnErr result ((result ≡ Err Error.ErrContradictoryPieces) ⊎ (result ≡ Err Error.ErrNoMemory)) }
     {
         self.reassembly.push(message)
     }

@@ -1,8 +1,8 @@
 // The live streams of an association.
-ghost use Rattle.std.specs.Prelude.{◌≡◌, ◌==◌, length, ◌+◌, ◌-◌, ◌<◌, ◌^◌, IfOk, IfSome, OnOk, OnErr, is_some};
+ghost use Rattle.std.specs.Prelude.{◌≡◌, ◌==◌, length, ◌+◌, ◌-◌, ◌<◌, ◌^◌, IfOk, IfSome, OnOk, OnErr, is_some, IsErrOf, IsOk, IsTrue, ◌⊎◌, false};
 ghost use Rattle.std.specs.Option.{option_copied, option_copied_mut};
 ghost use Rattle.std.specs.Borrow.{sem};
-ghost use Rattle.sctp_queues.specs.Streams.{no_stream, stream_at, made, generation_left, bytes_waiting, first_ended, changed_stream, released_in, is_generation, pushed_in, read_in, is_readable_in};
+ghost use Rattle.sctp_queues.specs.Streams.{no_stream, stream_at, made, generation_left, bytes_waiting, first_ended, changed_stream, released_in, is_generation, pushed_in, contradicts_in, read_in, is_readable_in};
 ghost use Rattle.sctp_queues.specs.Stream.{accepted_by};
 ghost use Rattle.sctp_queues.specs.Lending.{LendsStream};
 
@@ -96,6 +96,9 @@ impl Streams {
     pub fn push(&mut self, id: StreamId, message: HeldMessage) -> Result<bool, Error>
         ensures pushed { IfOk result (λ kept. pushed_in self.old id message ≡ (self.new, kept)) }
         ensures unchanged { OnErr result (self.new ≡ self.old) }
+        ensures held_already { IsErrOf result Error.ErrContradictoryPieces → IsTrue (contradicts_in self.old id message) }
+        ensures taken { IsOk result → contradicts_in self.old id message ≡ false }
+        ensures only { OnErr result ((result ≡ Err Error.ErrContradictoryPieces) ⊎ (result ≡ Err Error.ErrNoMemory)) }
     {
         match self.get_mut(id) {
             Some(stream) => stream.push(message),

@@ -1,0 +1,247 @@
+use Rattle.std.proofs.Common.{◌≡◌, ℕ, zero, suc, ◌+◌, ◌-◌, ◌<◌, ◌≤◌, Bool, true, false, not, nat_lt, List, [], ◌∷◌, ◌++◌, Option, Some, None, length, take, drop, set, slice_get, refl, ap, sym, ◌∙◌, ◌⊎◌, ⊎_elim, append_assoc, arith, rules}
+use Rattle.std.proofs.lemmas.List.{take_more, take_more_set, take_all, drop_more, drop_all, drop-set-lt, take-append-drop, append-nil, length-set}
+use Rattle.std.proofs.lemmas.Option.{get_or_from_slice_get, slice_get_within, slice_get-get_or}
+use Rattle.std.proofs.lemmas.Bool.{cases_Bool}
+use Rattle.std.proofs.lemmas.Bool.Decides.{nat_tests}
+use Rattle.sctp_wire_types.specs.declared.chunk.ChunkPayloadData.{ChunkPayloadData}
+use Rattle.sctp_parts.specs.Estimate.{Estimate}
+use Rattle.sctp_queues.specs.declared.outbound.Fragment.{Fragment}
+use Rattle.sctp_queues.specs.declared.outbound.InFlight.{InFlight}
+use Rattle.sctp_queues.specs.Outbound.{counted_again}
+use Rattle.sctp_queues.specs.Streams.{StreamMap}
+use Rattle.sctp_outbound.specs.declared.sender.Sender.{Sender}
+use Rattle.sctp_outbound.specs.Sender.{after_first, acknowledged, with_in_flight, resent_pieces, resent_chunks, tried_again, chunk_of, tsn_at_place, fits_windows, sent_one, sent_within}
+
+pub acknowledge_more : (n i now : ℕ) (all : Sender × Estimate × StreamMap) → i < n → acknowledged (n - (i + 1)) now (after_first now all) ≡ acknowledged (n - i) now all
+acknowledge_more n i now all below =
+    let e : n - i ≡ suc (n - (i + 1)) = omega arith in
+    rw e
+
+pub acknowledge_end : (n i now : ℕ) (all : Sender × Estimate × StreamMap) → n ≤ i → acknowledged (n - i) now all ≡ all
+acknowledge_end n i now all above =
+    let e : n - i ≡ 0 = omega arith in
+    rw e
+
+-- pieces that wait
+
+pub within_more : (fs : List Fragment) (s : Sender) (out : List ChunkPayloadData) (now : ℕ) → fits_windows s (slice_get fs 0) ≡ true → sent_within (drop 1 fs) (sent_one fs s out now).0 (sent_one fs s out now).1 now ≡ sent_within fs s out now
+within_more [] s out now fits = cc
+within_more (f ∷ fs) s out now fits = rw fits
+
+pub within_shorter : (fs : List Fragment) (s : Sender) → fits_windows s (slice_get fs 0) ≡ true → length (drop 1 fs) < length fs
+within_shorter [] s fits = absurd (cc)
+within_shorter (f ∷ fs) s fits = omega arith
+
+pub within_end : (fs : List Fragment) (s : Sender) (out : List ChunkPayloadData) (now : ℕ) → fits_windows s (slice_get fs 0) ≡ false → sent_within fs s out now ≡ (s, out)
+within_end [] s out now full = refl
+within_end (f ∷ fs) s out now full = rw full
+
+-- pieces in flight
+
+drop_get : (xs : List InFlight) (i : ℕ) (p : InFlight) → slice_get xs i ≡ Some p → drop i xs ≡ p ∷ drop (i + 1) xs
+drop_get xs i p e =
+    let same = get_or_from_slice_get xs i p p e in
+    rw (drop_more xs i p (slice_get_within xs i p e), same)
+
+take_get : (xs : List InFlight) (i : ℕ) (p : InFlight) → slice_get xs i ≡ Some p → take (i + 1) xs ≡ take i xs ++ p ∷ []
+take_get xs i p e =
+    let same = get_or_from_slice_get xs i p p e in
+    rw (take_more xs i p (slice_get_within xs i p e), same)
+
+pieces_skip : (p : InFlight) (ps : List InFlight) (room : ℕ) → p.retransmit ≡ false → resent_pieces room (p ∷ ps) ≡ p ∷ resent_pieces room ps
+pieces_skip p ps room unmarked = rw unmarked
+
+pieces_full : (p : InFlight) (ps : List InFlight) (room : ℕ) → p.retransmit ≡ true → nat_lt room (length p.fragment.user_data) ≡ true → resent_pieces room (p ∷ ps) ≡ p ∷ ps
+pieces_full p ps room marked full = rw (marked, full)
+
+pieces_sent : (p : InFlight) (ps : List InFlight) (room : ℕ) → p.retransmit ≡ true → nat_lt room (length p.fragment.user_data) ≡ false → resent_pieces room (p ∷ ps) ≡ counted_again p ∷ resent_pieces (room - length p.fragment.user_data) ps
+pieces_sent p ps room marked fits = rw (marked, fits)
+
+chunks_skip : (p : InFlight) (ps : List InFlight) (first place room : ℕ) → p.retransmit ≡ false → resent_chunks first place room (p ∷ ps) ≡ resent_chunks first (place + 1) room ps
+chunks_skip p ps first place room unmarked = rw unmarked
+
+chunks_full : (p : InFlight) (ps : List InFlight) (first place room : ℕ) → p.retransmit ≡ true → nat_lt room (length p.fragment.user_data) ≡ true → resent_chunks first place room (p ∷ ps) ≡ []
+chunks_full p ps first place room marked full = rw (marked, full)
+
+chunks_sent : (p : InFlight) (ps : List InFlight) (first place room : ℕ) → p.retransmit ≡ true → nat_lt room (length p.fragment.user_data) ≡ false → resent_chunks first place room (p ∷ ps) ≡ chunk_of p.fragment (tsn_at_place first place) ∷ resent_chunks first (place + 1) (room - length p.fragment.user_data) ps
+chunks_sent p ps first place room marked fits = rw (marked, fits)
+
+one_more : {A : Type 0} → (a b w r : List A) (q : A) → b ≡ a ++ q ∷ [] → w ≡ q ∷ r → b ++ r ≡ a ++ w
+one_more a b w r q e f = rw (e, f, append_assoc)
+
+tried_skip : (p : InFlight) (s : Sender) (place left : ℕ) (out : List ChunkPayloadData) → p.retransmit ≡ false → tried_again (Some p) s place left out ≡ (s, out, Some left)
+tried_skip p s place left out unmarked = rw unmarked
+
+tried_full : (p : InFlight) (s : Sender) (place left : ℕ) (out : List ChunkPayloadData) → p.retransmit ≡ true → nat_lt left (length p.fragment.user_data) ≡ true → tried_again (Some p) s place left out ≡ (s, out, None)
+tried_full p s place left out marked full = rw (marked, full)
+
+tried_sent : (p : InFlight) (s : Sender) (place left : ℕ) (out : List ChunkPayloadData) → p.retransmit ≡ true → nat_lt left (length p.fragment.user_data) ≡ false → tried_again (Some p) s place left out ≡ (with_in_flight s (set s.queue.in_flight place (counted_again p)), out ++ chunk_of p.fragment (tsn_at_place s.queue.first_tsn place) ∷ [], Some (left - length p.fragment.user_data))
+tried_sent p s place left out marked fits = rw (marked, fits)
+
+-- once the piece at a place is dealt with, the rest is resent as it was to be before
+pub record Stepped (s s2 : Sender) (place left left2 : ℕ) (out out2 : List ChunkPayloadData) : Type 0 where
+  pub count : length s2.queue.in_flight ≡ length s.queue.in_flight
+  pub rest : s2 ≡ with_in_flight s s2.queue.in_flight
+  pub pieces : take (place + 1) s2.queue.in_flight ++ resent_pieces left2 (drop (place + 1) s2.queue.in_flight) ≡ take place s.queue.in_flight ++ resent_pieces left (drop place s.queue.in_flight)
+  pub chunks : out2 ++ resent_chunks s2.queue.first_tsn (place + 1) left2 (drop (place + 1) s2.queue.in_flight) ≡ out ++ resent_chunks s.queue.first_tsn place left (drop place s.queue.in_flight)
+
+skipped : (p : InFlight) (s : Sender) (place left : ℕ) (out : List ChunkPayloadData) → slice_get s.queue.in_flight place ≡ Some p → p.retransmit ≡ false → Stepped s s place left left out out
+skipped p s place left out here unmarked =
+    let xs = s.queue.in_flight in
+    let ds = drop (place + 1) s.queue.in_flight in
+    record {
+      count = refl;
+      rest = refl;
+      pieces =
+          one_more (take place xs) (take (place + 1) xs) (resent_pieces left (drop place xs)) (resent_pieces left ds) p
+          (take_get xs place p here) (ap (resent_pieces left) (drop_get xs place p here) ∙ pieces_skip p ds left unmarked);
+      chunks =
+          ap (λ z. out ++ z) (sym (ap (resent_chunks s.queue.first_tsn place left) (drop_get xs place p here) ∙
+          chunks_skip p ds s.queue.first_tsn place left unmarked));
+    }
+
+sent_again_at : (p : InFlight) (s : Sender) (place left : ℕ) (out : List ChunkPayloadData) → slice_get s.queue.in_flight place ≡ Some p → p.retransmit ≡ true → nat_lt left (length p.fragment.user_data) ≡ false → Stepped s (with_in_flight s (set s.queue.in_flight place (counted_again p))) place left (left - length p.fragment.user_data) out (out ++ chunk_of p.fragment (tsn_at_place s.queue.first_tsn place) ∷ [])
+sent_again_at p s place left out here marked fits =
+    let xs = s.queue.in_flight in
+    let first = s.queue.first_tsn in
+    let q = counted_again p in
+    let left2 = left - length p.fragment.user_data in
+    let chunk = chunk_of p.fragment (tsn_at_place first place) in
+    let ys = set s.queue.in_flight place q in
+    let below = slice_get_within s.queue.in_flight place p here in
+    let same : drop (place + 1) ys ≡ drop (place + 1) xs = drop-set-lt (place + 1) xs place q (omega arith) in
+    record {
+      count = length-set xs place q;
+      rest = refl;
+      pieces =
+          one_more (take place xs) (take (place + 1) ys) (resent_pieces left (drop place xs))
+          (resent_pieces left2 (drop (place + 1) ys)) q (take_more_set xs place q below) (
+          ap (resent_pieces left) (drop_get xs place p here) ∙ pieces_sent p (drop (place + 1) xs) left marked fits ∙
+          ap (λ z. q ∷ resent_pieces left2 z) (sym same)
+          );
+      chunks =
+          one_more out (out ++ chunk ∷ []) (resent_chunks first place left (drop place xs))
+          (resent_chunks first (place + 1) left2 (drop (place + 1) ys)) chunk refl (
+          ap (resent_chunks first place left) (drop_get xs place p here) ∙
+          chunks_sent p (drop (place + 1) xs) first place left marked fits ∙
+          ap (λ z. chunk ∷ resent_chunks first (place + 1) left2 z) (sym same)
+          );
+    }
+
+none_or_some : (s s2 : Sender) (out out2 : List ChunkPayloadData) (left : ℕ) → ◌≡◌ {A = Sender × List ChunkPayloadData × Option ℕ} (s, out, None) (s2, out2, Some left) → ⊥
+none_or_some s s2 out out2 left e =
+    let m : None ≡ Some left = ap (λ (z : Sender × List ChunkPayloadData × Option ℕ). z.2) e in
+    cc
+
+moved_to : (s s2 s3 : Sender) (place left left2 left3 : ℕ) (out out2 out3 : List ChunkPayloadData) → ◌≡◌ {A = Sender × List ChunkPayloadData × Option ℕ} (s3, out3, Some left3) (s2, out2, Some left2) → Stepped s s3 place left left3 out out3 → Stepped s s2 place left left2 out out2
+moved_to s s2 s3 place left left2 left3 out out2 out3 e step =
+    let a : s3 ≡ s2 = ap (λ (z : Sender × List ChunkPayloadData × Option ℕ). z.0) e in
+    let b : out3 ≡ out2 = ap (λ (z : Sender × List ChunkPayloadData × Option ℕ). z.1) e in
+    let some : Some left3 ≡ Some left2 = ap (λ (z : Sender × List ChunkPayloadData × Option ℕ). z.2) e in
+    let d : left3 ≡ left2 = cc in
+    rw (← a, ← b, ← d) step
+
+step_of : (o : Option InFlight) (s s2 : Sender) (place left left2 : ℕ) (out out2 : List ChunkPayloadData) → slice_get s.queue.in_flight place ≡ o → tried_again o s place left out ≡ (s2, out2, Some left2) → Stepped s s2 place left left2 out out2
+step_of None s s2 place left left2 out out2 here e = absurd (none_or_some s s2 out out2 left2 e)
+step_of (Some p) s s2 place left left2 out out2 here e =
+    ⊎_elim (
+    λ (marked : p.retransmit ≡ true). ⊎_elim (
+    λ (full : nat_lt left (length p.fragment.user_data) ≡ true). absurd (none_or_some s s2 out out2 left2 (sym (tried_full p s place left out marked full) ∙ e))
+    ) (
+    λ (fits : nat_lt left (length p.fragment.user_data) ≡ false).
+    moved_to s s2 _ place left left2 _ out out2 _ (sym (tried_sent p s place left out marked fits) ∙ e)
+    (sent_again_at p s place left out here marked fits)
+    ) (cases_Bool (nat_lt left (length p.fragment.user_data)))
+    ) (
+    λ (unmarked : p.retransmit ≡ false).
+    moved_to s s2 s place left left2 left out out2 out (sym (tried_skip p s place left out unmarked) ∙ e)
+    (skipped p s place left out here unmarked)
+    ) (cases_Bool p.retransmit)
+
+none_past : (xs : List InFlight) (i : ℕ) → slice_get xs i ≡ None → length xs ≤ i
+none_past [] i e = omega arith
+none_past (x ∷ xs) zero e = absurd (cc)
+none_past (x ∷ xs) (suc i) e = let below = none_past xs i e in omega arith
+
+-- nothing more is resent from a place on
+pub record Stopped (s s2 : Sender) (place left : ℕ) (out out2 : List ChunkPayloadData) : Type 0 where
+  pub sender : s2 ≡ s
+  pub sent : out2 ≡ out
+  pub pieces : resent_pieces left (drop place s.queue.in_flight) ≡ drop place s.queue.in_flight
+  pub chunks : resent_chunks s.queue.first_tsn place left (drop place s.queue.in_flight) ≡ []
+
+past_end : (s : Sender) (place left : ℕ) (out : List ChunkPayloadData) → length s.queue.in_flight ≤ place → Stopped s s place left out out
+past_end s place left out past =
+    let none : drop place s.queue.in_flight ≡ [] = drop_all place s.queue.in_flight past in
+    record {
+      sender = refl;
+      sent = refl;
+      pieces = rw none;
+      chunks = rw none;
+    }
+
+does_not_fit : (p : InFlight) (s : Sender) (place left : ℕ) (out : List ChunkPayloadData) → slice_get s.queue.in_flight place ≡ Some p → p.retransmit ≡ true → nat_lt left (length p.fragment.user_data) ≡ true → Stopped s s place left out out
+does_not_fit p s place left out here marked full =
+    let xs = s.queue.in_flight in
+    let ds = drop (place + 1) s.queue.in_flight in
+    record {
+      sender = refl;
+      sent = refl;
+      pieces =
+          ap (resent_pieces left) (drop_get xs place p here) ∙ pieces_full p ds left marked full ∙
+          sym (drop_get xs place p here);
+      chunks =
+          ap (resent_chunks s.queue.first_tsn place left) (drop_get xs place p here) ∙
+          chunks_full p ds s.queue.first_tsn place left marked full;
+    }
+
+stopped_to : (s s2 s3 : Sender) (place left : ℕ) (out out2 out3 : List ChunkPayloadData) (o : Option ℕ) → ◌≡◌ {A = Sender × List ChunkPayloadData × Option ℕ} (s3, out3, o) (s2, out2, None) → Stopped s s3 place left out out3 → Stopped s s2 place left out out2
+stopped_to s s2 s3 place left out out2 out3 o e stop =
+    let a : s3 ≡ s2 = ap (λ (z : Sender × List ChunkPayloadData × Option ℕ). z.0) e in
+    let b : out3 ≡ out2 = ap (λ (z : Sender × List ChunkPayloadData × Option ℕ). z.1) e in
+    rw (← a, ← b) stop
+
+stop_of : (o : Option InFlight) (s s2 : Sender) (place left : ℕ) (out out2 : List ChunkPayloadData) → slice_get s.queue.in_flight place ≡ o → tried_again o s place left out ≡ (s2, out2, None) → Stopped s s2 place left out out2
+stop_of None s s2 place left out out2 here e =
+    stopped_to s s2 s place left out out2 out None e (past_end s place left out (none_past s.queue.in_flight place here))
+stop_of (Some p) s s2 place left out out2 here e =
+    ⊎_elim (
+    λ (marked : p.retransmit ≡ true). ⊎_elim (
+    λ (full : nat_lt left (length p.fragment.user_data) ≡ true).
+    stopped_to s s2 s place left out out2 out None (sym (tried_full p s place left out marked full) ∙ e)
+    (does_not_fit p s place left out here marked full)
+    ) (
+    λ (fits : nat_lt left (length p.fragment.user_data) ≡ false). absurd (none_or_some s2 _ out2 _ _ (sym e ∙ tried_sent p s place left out marked fits))
+    ) (cases_Bool (nat_lt left (length p.fragment.user_data)))
+    ) (
+    λ (unmarked : p.retransmit ≡ false). absurd (none_or_some s2 s out2 out left (sym e ∙ tried_skip p s place left out unmarked))
+    ) (cases_Bool p.retransmit)
+
+-- before a place the pieces are as they will stay; with what is resent of the rest they are what the whole was to become
+pub record ResendsOn (s0 s : Sender) (i end room left : ℕ) (out0 out : List ChunkPayloadData) : Type 0 where
+  pub count : end ≡ length s.queue.in_flight
+  pub rest : s ≡ with_in_flight s0 s.queue.in_flight
+  pub pieces : take i s.queue.in_flight ++ resent_pieces left (drop i s.queue.in_flight) ≡ resent_pieces room s0.queue.in_flight
+  pub chunks : out ++ resent_chunks s.queue.first_tsn i left (drop i s.queue.in_flight) ≡ out0 ++ resent_chunks s0.queue.first_tsn 0 room s0.queue.in_flight
+
+pub resends_on : (s0 s s2 : Sender) (i end room left left2 : ℕ) (out0 out out2 : List ChunkPayloadData) → ResendsOn s0 s i end room left out0 out → tried_again (slice_get s.queue.in_flight i) s i left out ≡ (s2, out2, Some left2) → ResendsOn s0 s2 (i + 1) end room left2 out0 out2
+resends_on s0 s s2 i end room left left2 out0 out out2 inv e =
+    let step = step_of (slice_get s.queue.in_flight i) s s2 i left left2 out out2 refl e in
+    record {
+      count = inv.count ∙ sym step.count;
+      rest = step.rest ∙ ap (λ (z : Sender). with_in_flight z s2.queue.in_flight) inv.rest;
+      pieces = step.pieces ∙ inv.pieces;
+      chunks = step.chunks ∙ inv.chunks;
+    }
+
+pub resent_sender : (s0 s s2 : Sender) (i end room left : ℕ) (out0 out out2 : List ChunkPayloadData) → ResendsOn s0 s i end room left out0 out → tried_again (slice_get s.queue.in_flight i) s i left out ≡ (s2, out2, None) → s2 ≡ with_in_flight s0 (resent_pieces room s0.queue.in_flight)
+resent_sender s0 s s2 i end room left out0 out out2 inv e =
+    let stop = stop_of (slice_get s.queue.in_flight i) s s2 i left out out2 refl e in
+    let xs = s.queue.in_flight in
+    let all : xs ≡ resent_pieces room s0.queue.in_flight = sym (take-append-drop i xs) ∙ ap (λ z. take i xs ++ z) (sym stop.pieces) ∙ inv.pieces in
+    stop.sender ∙ inv.rest ∙ ap (with_in_flight s0) all
+
+pub resent_out : (s0 s s2 : Sender) (i end room left : ℕ) (out0 out out2 : List ChunkPayloadData) → ResendsOn s0 s i end room left out0 out → tried_again (slice_get s.queue.in_flight i) s i left out ≡ (s2, out2, None) → out2 ≡ out0 ++ resent_chunks s0.queue.first_tsn 0 room s0.queue.in_flight
+resent_out s0 s s2 i end room left out0 out out2 inv e =
+    let stop = stop_of (slice_get s.queue.in_flight i) s s2 i left out out2 refl e in
+    stop.sent ∙ sym (append-nil out) ∙ ap (λ z. out ++ z) (sym stop.chunks) ∙ inv.chunks

@@ -1,0 +1,7 @@
+use Rattle.std.proofs.Common.{◌≡◌, ◌++◌, length, take, drop}
+use Rattle.sctp_outbound.specs.Sender.{with_in_flight, resent_pieces, resent_chunks}
+use Rattle.sctp_outbound.proofs.Sending.{ResendsOn}
+use Rattle.sctp_outbound.proofs.sender.Sender.resend_within.Given as goal
+
+abbrev pub invariant-loop-place : goal.invariant-loop-place
+invariant-loop-place l = ResendsOn l.fn.self l.self l.place l.place-end l.room l.left l.fn.out.items l.out.items

@@ -1,0 +1,11 @@
+use Rattle.std.proofs.Common.{◌≡◌, length}
+use Rattle.sctp_outbound.specs.Sender.{sent_within}
+use Rattle.sctp_outbound.proofs.sender.Sender.send_within.Given as goal
+
+abbrev pub invariant-loop-now : goal.invariant-loop-now
+invariant-loop-now l =
+    sent_within l.self.queue.pending l.self l.out.items l.now ≡
+    sent_within l.fn.self.queue.pending l.fn.self l.fn.out.items l.now
+
+abbrev pub decreases-loop-now : goal.decreases-loop-now
+decreases-loop-now l = length l.self.queue.pending

@@ -1,0 +1,12 @@
+//! Tests of what no clause of the association's crates says: values from outside of the proofs, and that each call
+//! succeeds where memory is ample.
+#![tactic(auto)]
+
+#[cfg(test)]
+mod inbound;
+#[cfg(test)]
+mod outbound;
+#[cfg(test)]
+mod queues;
+#[cfg(test)]
+mod timers;
