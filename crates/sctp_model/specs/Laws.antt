@@ -1,0 +1,38 @@
+-- The laws that stand on the contracts of this crate's functions.
+use Rattle.std.specs.Prelude.{ℕ, suc, ◌+◌, ◌*◌, ◌^◌, ◌<◌, ◌≤◌, ◌≡◌, ◌↔◌, ◌⊎◌, true, false, List, ◌++◌, take, Some, nat_lt}
+use Rattle.sctp_model.specs.Messages.{piece_of}
+use Rattle.sctp_model.specs.Packets.{mem, names}
+use Rattle.sctp_model.specs.Serial.{tsn, before_32, offset_near, offset_ahead}
+use Rattle.sctp_model.specs.Machine.{Event, Receiver, fresh, run, point, sack_of}
+use Rattle.sctp_model.specs.Safe.{IsSafe, StaysWithin}
+use Rattle.sctp_model.specs.Invariants.{Invariant}
+
+-- A TSN made from an offset less than 2^31 away is read as that offset, and of two such the earlier one is the one before.
+abbrev pub TsnsSpellOffsets : Type 0
+TsnsSpellOffsets = (initial point offset : ℕ) → offset < point + 2 ^ 31 → point < offset + 2 ^ 31
+    → (offset_near initial point (tsn initial offset) ≡ offset) × (before_32 (tsn initial point) (tsn initial offset) ≡ nat_lt point offset)
+
+abbrev pub TsnsAheadSpellOffsets : Type 0
+TsnsAheadSpellOffsets = (initial point offset : ℕ) → point ≤ offset → offset < point + 2 ^ 31
+    → offset_ahead initial point (tsn initial offset) ≡ Some offset
+
+-- Pieces, one after another, are the bytes.
+abbrev pub PiecesJoin : Type 0
+PiecesJoin = (size k : ℕ) (bytes : List ℕ) → take (size * k) bytes ++ piece_of size bytes k ≡ take (size * suc k) bytes
+
+-- The cumulative point is the greatest p such that each offset below p was taken in or passed over.
+abbrev pub PointIsGreatest : Type 0
+PointIsGreatest = (r : Receiver) → ((o : ℕ) → o < point r → (mem o r.taken ≡ true) ⊎ (o < r.passed)) × (r.passed ≤ point r) × (mem (point r) r.taken ≡ false)
+
+-- A SACK names all that lies below the point or was taken in, and nothing else.
+abbrev pub SacksAreExact : Type 0
+SacksAreExact = (r : Receiver) (o : ℕ) → (names (sack_of r) o ≡ true) ↔ ((o < point r) ⊎ (mem o r.taken ≡ true))
+
+-- Whatever happens, each stream within its span is safe, as long as the limits held after each event so far.
+abbrev pub OneDirectionIsSafe : Type 0
+OneDirectionIsSafe = (size : ℕ) → 0 < size → (events : List Event) → StaysWithin (fresh size) events
+    → (s : ℕ) → (run events (fresh size)).over s ≡ false → IsSafe (run events (fresh size)) s
+
+-- What is proved of every direction on the way, and later layers build on.
+abbrev pub TheInvariantHolds : Type 0
+TheInvariantHolds = (size : ℕ) → 0 < size → (events : List Event) → StaysWithin (fresh size) events → Invariant (run events (fresh size))

@@ -1,0 +1,9 @@
+pub mod Serial
+pub mod Messages
+pub mod Packets
+pub mod Reassembly
+pub mod Machine
+pub mod Safe
+pub mod Invariants
+pub mod Laws
+pub mod Runs

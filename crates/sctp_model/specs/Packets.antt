@@ -1,0 +1,49 @@
+-- What a packet says to the other side, in offsets. Points are numbers of offsets: `point` is one past the last offset meant.
+use Rattle.std.specs.Prelude.{ℕ, ◌%◌, Bool, false, List, [], ◌∷◌, ◌==◌, ◌||◌, nat_lt, Option}
+use Rattle.sctp_model.specs.Messages.{Plan, Place, place_at, message_of, piece_of, is_last}
+
+-- DATA (RFC 4960 section 3.3.1): `first` and `last` are the B and E bits, `ordered` is the U bit turned round. The stream
+-- sequence number of an unordered piece says nothing.
+pub record Data : Type 0 where
+  pub offset : ℕ
+  pub stream : ℕ
+  pub ssn : ℕ
+  pub ordered : Bool
+  pub first : Bool
+  pub last : Bool
+  pub payload_type : ℕ
+  pub bytes : List ℕ
+
+-- SACK (RFC 4960 section 3.3.4): every offset below the point, and the set of its gap ack blocks above.
+pub record Sack : Type 0 where
+  pub point : ℕ
+  pub above : List ℕ
+
+-- FORWARD TSN (RFC 3758 section 3.2): the new point, and by stream the sequence number up to which ordered messages are skipped.
+pub record Forward : Type 0 where
+  pub point : ℕ
+  pub skips : ℕ → Option ℕ
+
+-- o is a member of the set that the list spells
+abbrev pub mem : ℕ → List ℕ → Bool
+mem o [] = false
+mem o (x ∷ xs) = (x == o) || mem o xs
+
+abbrev pub names : Sack → ℕ → Bool
+names k o = nat_lt o k.point || mem o k.above
+
+-- the DATA chunk of an offset, at its first sending and at each later one
+abbrev pub data_of : Plan → ℕ → Place → Data
+data_of p o x = record {
+  offset = o;
+  stream = x.stream;
+  ssn = x.ssn % 65536;
+  ordered = (message_of p x).ordered;
+  first = x.piece == 0;
+  last = is_last p x;
+  payload_type = (message_of p x).payload_type;
+  bytes = piece_of p.size (message_of p x).bytes x.piece;
+}
+
+abbrev pub data_at : Plan → ℕ → Data
+data_at p o = data_of p o (place_at p o)
