@@ -5,7 +5,7 @@ use Rattle.std.specs.declared.net.socket_addr.SocketAddr.{SocketAddr}
 use Rattle.sctp_wire_types.specs.declared.error.Error.{Error}
 use Rattle.sctp_wire_types.specs.declared.error.Error.TheVariants as errors
 use Rattle.sctp_wire_types.specs.declared.chunk.ChunkInit.{ChunkInit}
-use Rattle.sctp_wire_types.specs.declared.config.TransportConfig.{TransportConfig}
+use Rattle.sctp_wire_types.specs.Config.{Settings}
 use Rattle.sctp_wire_types.specs.Checks.{checked_init}
 use Rattle.sctp_parts.specs.declared.state.AssociationState.TheVariants as states
 use Rattle.sctp_parts.specs.Timers.{stopped_timers}
@@ -25,7 +25,7 @@ join_refusal size own peer =
     if is_err (checked_init own) || is_err (checked_init peer) then Some errors.ErrBadToken else None
 
 -- the association that two tokens establish: nothing was sent, nothing came, and it is connected
-abbrev pub joined : TransportConfig → ℕ → SocketAddr → Option IpAddr → ChunkInit → ChunkInit → Shown
+abbrev pub joined : Settings → ℕ → SocketAddr → Option IpAddr → ChunkInit → ChunkInit → Shown
 joined config size remote_addr local_ip own peer = record {
   side = side_of (by_tokens_of config own peer);
   remote_addr = remote_addr;

@@ -12,17 +12,15 @@ mod stream;
 mod stream_calls;
 
 pub use association::Association;
-pub use sctp_inbound::{Handshake, Receiver};
-pub use sctp_outbound::Sender;
 pub use sctp_parts::shared::{AssociationId, EndpointEvent, IssuedAid};
 pub use sctp_parts::state::{AckMode, AckState, AssociationState};
 pub use sctp_parts::stats::AssociationStats;
-pub use sctp_parts::timer::{RtoManager, Timer, TimerTable};
+pub use sctp_parts::timer::{RtoManager, Timer, TimerTable, calculate_next_timeout};
 pub use sctp_queues::{AssociationError, Chunks, DataChannelStats, Event};
-pub use sctp_wire::{Payload, Transmit};
+pub use sctp_wire::{PartialDecode, Payload, Transmit};
 pub use sctp_wire_types::{
-    ChunkInit, EcnCodepoint, Error, Instant, PayloadProtocolIdentifier, Side, StreamEvent,
-    StreamId, TransportConfig,
+    ChunkInit, EcnCodepoint, Error, Instant, List, Param, PayloadProtocolIdentifier,
+    ReliabilityType, Side, StreamEvent, StreamId, StreamResetError, TransportConfig,
 };
 pub use shared::AssociationEvent;
 pub use stream::Stream;

@@ -7,7 +7,7 @@ use Rattle.sctp_wire_types.specs.declared.param.Param.{Param}
 use Rattle.sctp_wire_types.specs.declared.param.Param.TheVariants as params
 use Rattle.sctp_wire_types.specs.declared.chunk.ChunkInit.{ChunkInit}
 use Rattle.sctp_wire_types.specs.declared.packet.CommonHeader.{CommonHeader}
-use Rattle.sctp_wire_types.specs.declared.config.TransportConfig.{TransportConfig}
+use Rattle.sctp_wire_types.specs.Config.{Settings}
 use Rattle.sctp_inbound.specs.declared.handshake.Handshake.{Handshake}
 
 -- a Supported Extensions parameter that lists FORWARD TSN, chunk type 192 (RFC 5061 section 4.2.7, RFC 3758 section 3.1)
@@ -23,7 +23,7 @@ abbrev pub lists_forward_tsn : ChunkInit → Bool
 lists_forward_tsn init = list_any is_extensions_with_forward_tsn init.params
 
 -- the values that two tokens fix: each side sends on no more streams than the other takes
-abbrev pub by_tokens_of : TransportConfig → ChunkInit → ChunkInit → Handshake
+abbrev pub by_tokens_of : Settings → ChunkInit → ChunkInit → Handshake
 by_tokens_of config own peer = record {
   my_verification_tag = own.initiate_tag;
   peer_verification_tag = peer.initiate_tag;

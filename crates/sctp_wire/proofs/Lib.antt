@@ -1,1 +1,3 @@
 pub mod Marshalled
+pub mod PacketsAgain
+pub mod PacketsKept

@@ -1,6 +1,6 @@
 -- Packets (RFC 4960 section 3).
 use Rattle.std.specs.Prelude.{◌≡◌, ℕ, ◌+◌, ◌==◌, if◌then◌else◌, nat_lt, not, Bool, true, false, ◌&&◌, ◌||◌, List, [], ◌∷◌, ◌++◌, length, take, drop, Result, Ok, Err}
-use Rattle.std.specs.List.{flat_map, list_all, list_any}
+use Rattle.std.specs.List.{flat_map, list_all, list_any, AllByRecursion}
 use Rattle.std.specs.Int.{w16, w32, from_le_bytes, to_le_bytes, to_be_bytes}
 use Rattle.sctp_crc.specs.Crc.{sum_of_packet}
 use Rattle.sctp_wire_types.specs.declared.error.Error.{Error}
@@ -14,6 +14,7 @@ use Rattle.sctp_wire_forms.specs.Results.{◌>>=◌}
 use Rattle.sctp_wire_forms.specs.Frames.{u16_at, u32_at}
 use Rattle.sctp_wire_forms.specs.Reading.{chunks_at}
 use Rattle.sctp_wire_forms.specs.Spelling.{chunk_fits, chunk_bytes}
+use Rattle.sctp_wire_forms.specs.Ranges.{IsU16, IsU32, IsChunk, chunk_is_plain}
 use Rattle.sctp_wire.specs.declared.packet.Packet.{Packet}
 use Rattle.sctp_wire.specs.declared.partial.PartialDecode.{PartialDecode}
 
@@ -54,6 +55,17 @@ spelling packet = header_bytes packet.common_header ++ to_le_bytes w32 (sum_of_p
 
 unfoldable pub written : Packet → Result (List ℕ) Fault
 written packet = if packet_fits packet then Ok (spelling packet) else Err faults.Long
+
+-- whether nothing in it is kept under `Other` whose type has a variant of its own
+abbrev pub packet_is_plain : Packet → Bool
+packet_is_plain packet = list_all chunk_is_plain packet.chunks
+
+-- the ranges of the numbers in a packet
+abbrev pub IsHeader : CommonHeader → Type 0
+IsHeader header = IsU16 header.source_port × IsU16 header.destination_port × IsU32 header.verification_tag
+
+abbrev pub IsPacket : Packet → Type 0
+IsPacket packet = IsHeader packet.common_header × AllByRecursion IsChunk packet.chunks
 
 abbrev pub is_init : Chunk → Bool
 is_init (chunks.Init _) = true

@@ -1,5 +1,5 @@
 // A packet, and what it is written as.
-ghost use Rattle.std.specs.Prelude.{◌≡◌, ◌≤◌, ◌++◌, length, take, drop};
+ghost use Rattle.std.specs.Prelude.{◌≡◌, ◌≤◌, ◌++◌, length, take, drop, OnOk, IfOk, IsTrue};
 ghost use Rattle.std.specs.Int.{w32, to_le_bytes};
 
 use bytes::Bytes;
@@ -16,11 +16,13 @@ pub struct Packet {
     pub chunks: List<Chunk>,
 }
 
-/// Bytes of the common header.
-const HEADER: usize = 12;
-
-/// Room that is reserved at first, about what a path takes.
-const ROOM: usize = 1200;
+// Room for a whole datagram where DATA goes, and for a few fields elsewhere.
+fn room_for(chunks: &[Chunk]) -> usize {
+    match chunks {
+        [Chunk::Data(_), ..] => 1200,
+        _ => 64,
+    }
+}
 
 fn set_sum(bytes: &mut [u8], sum: u32)
     requires { 12 ≤ length bytes.old }
@@ -31,12 +33,13 @@ fn set_sum(bytes: &mut [u8], sum: u32)
 
 impl Packet {
     ghost use Rattle.sctp_wire_forms.specs.Results.{Gives, Yields, Builds};
-    ghost use Rattle.sctp_wire.specs.Packets.{packet_fits, unsummed, spelling, written};
+    ghost use Rattle.sctp_wire.specs.Packets.{packet_fits, packet_is_plain, packet_at, unsummed, spelling, written, IsPacket};
 
     fn unsummed(&self, alloc: Global) -> Result<Vec<u8>, WireError>
-        ensures { Builds result (packet_fits self.now) (unsummed self.now) }
+        ensures bytes { Builds result (packet_fits self.now) (unsummed self.now) }
+        ensures range { OnOk result (IsPacket self.now) }
     {
-        let mut out = Vec::with_capacity(alloc, ROOM)?;
+        let mut out = Vec::with_capacity(alloc, room_for(self.chunks.as_slice()))?;
         let header = &self.common_header;
         put_u16(&mut out, header.source_port)?;
         put_u16(&mut out, header.destination_port)?;
@@ -48,7 +51,8 @@ impl Packet {
 
     #[tactic(auto, unfolding(crate::specs::Packets::written, crate::specs::Packets::spelling))]
     fn bytes(&self, alloc: Global) -> Result<Bytes, WireError>
-        ensures { Yields result (written self.now) }
+        ensures exact { Yields result (written self.now) }
+        ensures range { OnOk result (IsPacket self.now) }
     {
         let mut out = self.unsummed(alloc)?;
         let sum = packet_sum(out.as_slice());
@@ -58,8 +62,12 @@ impl Packet {
 
     /// The datagram that spells this packet, with its checksum. A chunk or a parameter that is too long for its 16-bit length
     /// is refused with `Fault::Long`.
+    #[tactic(auto, using(crate::proofs::PacketsAgain::written_again))]
     pub fn marshal(&self, alloc: Global) -> Result<Bytes, Error>
         ensures exact { Gives result (written self.now) }
+
+        // It is read as this packet again.
+        ensures again { IfOk result (λ bytes. IsTrue (packet_is_plain self.now) → packet_at bytes ≡ Ok self.now) }
     {
         Ok(self.bytes(alloc)?)
     }

@@ -1,5 +1,6 @@
 // A datagram of which the header was read.
-ghost use Rattle.std.specs.Prelude.{◌≡◌};
+ghost use Rattle.std.specs.Prelude.{◌≡◌, ℕ, ◌<◌, slice_index, IfOk};
+ghost use Rattle.sctp_wire_forms.specs.Ranges.{IsU16, IsU32};
 
 use crate::Packet;
 use bytes::Bytes;
@@ -17,9 +18,17 @@ pub struct PartialDecode {
     pub remaining: Bytes,
 }
 
+// What the types say of a header and of bytes, as facts that a proof can use.
+fn note_ranges(source_port: u16, destination_port: u16, verification_tag: u32, bytes: &[u8])
+    ensures source { IsU16 source_port }
+    ensures destination { IsU16 destination_port }
+    ensures tag { IsU32 verification_tag }
+    ensures bytes { (i : ℕ) → slice_index bytes.now i < 256 }
+{}
+
 impl PartialDecode {
     ghost use Rattle.sctp_wire_forms.specs.Results.{Gives, Yields};
-    ghost use Rattle.sctp_wire.specs.Packets.{partial_at, finished};
+    ghost use Rattle.sctp_wire.specs.Packets.{partial_at, finished, packet_at, spelling, written};
 
     #[tactic(auto, unfolding(crate::specs::Packets::partial_at))]
     fn read(datagram: &Bytes) -> Result<PartialDecode, WireError>
@@ -48,12 +57,19 @@ impl PartialDecode {
 
     #[tactic(auto, unfolding(crate::specs::Packets::finished))]
     fn read_rest(self, alloc: Global) -> Result<Packet, WireError>
-        ensures { Yields result (finished self) }
+        ensures exact { Yields result (finished self) }
+        ensures content { IfOk result (λ packet. (written packet ≡ Ok (spelling packet)) × (packet_at (spelling packet) ≡ Ok packet)) }
     {
         let PartialDecode {
             common_header,
             remaining,
         } = self;
+        note_ranges(
+            common_header.source_port,
+            common_header.destination_port,
+            common_header.verification_tag,
+            remaining.as_slice(),
+        );
         let chunks = read_chunks(alloc, remaining)?;
         Ok(Packet {
             common_header,
@@ -72,6 +88,9 @@ impl PartialDecode {
     /// Reads the chunks. The error is the first fault from left to right.
     pub fn finish(self, alloc: Global) -> Result<Packet, Error>
         ensures exact { Gives result (finished self) }
+
+        // What is read can be written, and what is written of it is read as the same packet.
+        ensures content { IfOk result (λ packet. (written packet ≡ Ok (spelling packet)) × (packet_at (spelling packet) ≡ Ok packet)) }
     {
         Ok(self.read_rest(alloc)?)
     }

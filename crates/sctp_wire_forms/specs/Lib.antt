@@ -2,3 +2,4 @@ pub mod Results
 pub mod Frames
 pub mod Reading
 pub mod Spelling
+pub mod Ranges

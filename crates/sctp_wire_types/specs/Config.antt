@@ -1,8 +1,22 @@
-use Rattle.std.specs.Prelude.{Some, None}
-use Rattle.sctp_wire_types.specs.declared.config.TransportConfig.{TransportConfig}
+use Rattle.std.specs.Prelude.{ℕ, Option, Some, None}
+
+-- what an association is configured with
+pub record Settings : Type 0 where
+  pub max_receive_buffer_size : ℕ
+  pub max_send_message_size : ℕ
+  pub max_receive_message_size : ℕ
+  pub max_num_outbound_streams : ℕ
+  pub max_num_inbound_streams : ℕ
+  pub local_port : ℕ
+  pub remote_port : ℕ
+  pub rto_initial_ms : ℕ
+  pub rto_min_ms : ℕ
+  pub rto_max_ms : ℕ
+  pub max_init_retransmits : Option ℕ
+  pub max_data_retransmits : Option ℕ
 
 -- the values of a configuration that nobody changed
-abbrev pub default_config : TransportConfig
+abbrev pub default_config : Settings
 default_config = record {
   max_receive_buffer_size = 1048576;
   max_send_message_size = 65536;

@@ -1,5 +1,5 @@
 -- Serial numbers (RFC 4960 section 1.6, RFC 1982 section 3.2): SSNs of 16 bits, TSNs of 32 bits.
-use Rattle.std.specs.Prelude.{ℕ, Bool, ◌+◌, ◌-◌, ◌%◌, ◌^◌, ◌==◌, ◌&&◌, ◌||◌, not, nat_lt}
+use Rattle.std.specs.Prelude.{ℕ, Bool, ◌<◌, ◌+◌, ◌-◌, ◌%◌, ◌^◌, ◌==◌, ◌&&◌, ◌||◌, not, nat_lt}
 
 -- how far b is past a
 abbrev pub ssn_past : ℕ → ℕ → ℕ
@@ -32,3 +32,17 @@ tsn_gt a b = not (a == b) && not (tsn_lt a b)
 
 abbrev pub tsn_gte : ℕ → ℕ → Bool
 tsn_gte a b = a == b || tsn_gt a b
+
+-- the number that stands this far from the first one
+abbrev pub ssn_from : ℕ → ℕ → ℕ
+ssn_from first offset = (first + offset) % 2 ^ 16
+
+abbrev pub tsn_from : ℕ → ℕ → ℕ
+tsn_from first offset = (first + offset) % 2 ^ 32
+
+-- two offsets are less than half the range apart
+abbrev pub AreNear16 : ℕ → ℕ → Type 0
+AreNear16 a b = (a < b + 2 ^ 15) × (b < a + 2 ^ 15)
+
+abbrev pub AreNear32 : ℕ → ℕ → Type 0
+AreNear32 a b = (a < b + 2 ^ 31) × (b < a + 2 ^ 31)

@@ -1,5 +1,7 @@
 // What an association is configured with.
-ghost use Rattle.std.specs.Prelude.{◌≡◌, Some, None};
+ghost use Rattle.std.specs.Prelude.{◌≡◌};
+
+use std::marker::Model;
 
 /// Limits and timeouts of an association.
 #[derive(Clone, Copy, Debug)]
@@ -16,6 +18,42 @@ pub struct TransportConfig {
     rto_max_ms: u64,
     max_init_retransmits: Option<usize>,
     max_data_retransmits: Option<usize>,
+}
+
+impl Model for TransportConfig {
+    ghost use Rattle.sctp_wire_types.specs.Config.{Settings};
+
+    ghost Value = { Settings };
+
+    ghost view = { λ c. record {
+      max_receive_buffer_size = c.max_receive_buffer_size;
+      max_send_message_size = c.max_send_message_size;
+      max_receive_message_size = c.max_receive_message_size;
+      max_num_outbound_streams = c.max_num_outbound_streams;
+      max_num_inbound_streams = c.max_num_inbound_streams;
+      local_port = c.local_port;
+      remote_port = c.remote_port;
+      rto_initial_ms = c.rto_initial_ms;
+      rto_min_ms = c.rto_min_ms;
+      rto_max_ms = c.rto_max_ms;
+      max_init_retransmits = c.max_init_retransmits;
+      max_data_retransmits = c.max_data_retransmits;
+    } };
+
+    ghost inverse = { λ c. record {
+      max_receive_buffer_size = c.max_receive_buffer_size;
+      max_send_message_size = c.max_send_message_size;
+      max_receive_message_size = c.max_receive_message_size;
+      max_num_outbound_streams = c.max_num_outbound_streams;
+      max_num_inbound_streams = c.max_num_inbound_streams;
+      local_port = c.local_port;
+      remote_port = c.remote_port;
+      rto_initial_ms = c.rto_initial_ms;
+      rto_min_ms = c.rto_min_ms;
+      rto_max_ms = c.rto_max_ms;
+      max_init_retransmits = c.max_init_retransmits;
+      max_data_retransmits = c.max_data_retransmits;
+    } };
 }
 
 impl TransportConfig {

@@ -27,4 +27,7 @@ pub use instant::{EcnCodepoint, Instant};
 pub use list::List;
 pub use packet::CommonHeader;
 pub use param::{Param, ParamOutgoingResetRequest, ParamReconfigResponse, ReconfigResult};
-pub use serial::{sna16gt, sna16gte, sna16lt, sna16lte, sna32gt, sna32gte, sna32lt, sna32lte};
+pub use serial::{
+    sna16gt, sna16gte, sna16lt, sna16lte, sna32gt, sna32gte, sna32lt, sna32lte,
+    ssn_order_is_of_offsets, tsn_order_is_of_offsets,
+};

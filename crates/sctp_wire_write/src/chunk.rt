@@ -1,10 +1,11 @@
 // Writing chunks.
 ghost use Rattle.std.specs.Prelude.{◌≡◌, ◌≤◌, ◌<◌, ◌+◌, ◌*◌, ◌++◌, ◌&&◌, length, OnOk};
-ghost use Rattle.std.specs.List.{flat_map, list_all};
+ghost use Rattle.std.specs.List.{flat_map, list_all, AllByRecursion};
 ghost use Rattle.std.specs.Int.{w32, to_be_bytes};
 ghost use Rattle.sctp_wire_forms.specs.Results.{Writes};
 ghost use Rattle.sctp_wire_forms.specs.Frames.{padded, joined, frame_fits};
 ghost use Rattle.sctp_wire_forms.specs.Spelling.{framed, bit, payload_data_flags, payload_data_value, init_value, selective_ack_value, forward_tsn_value, i_forward_tsn_value, reconfig_list, reconfig_params, param_fits, param_frame, cause_fits, cause_frame, chunk_frame, parts_fit, chunk_fits, chunk_bytes};
+ghost use Rattle.sctp_wire_forms.specs.Ranges.{IsU32, IsParam, IsCause, IsPayloadData, IsInit, IsSack, IsForwardTsn, IsIForwardTsn, IsChunk};
 
 use crate::entries::put_entries;
 use crate::items::{MAX_VALUE, PutItem, put_head, put_items, put_padded};
@@ -33,7 +34,8 @@ fn flags_of(piece: &ChunkPayloadData) -> u16
 }
 
 fn put_payload_fields(out: &mut Vec<u8>, piece: &ChunkPayloadData) -> Result<(), AllocError>
-    ensures { OnOk result (out.new.items ≡ out.old.items ++ payload_data_value piece.now) }
+    ensures bytes { OnOk result (out.new.items ≡ out.old.items ++ payload_data_value piece.now) }
+    ensures range { OnOk result (IsPayloadData piece.now) }
 {
     put_u32(out, piece.tsn)?;
     put_u16(out, piece.stream_identifier)?;
@@ -45,8 +47,9 @@ fn put_payload_fields(out: &mut Vec<u8>, piece: &ChunkPayloadData) -> Result<(),
 
 // The payload goes straight into the output.
 fn put_payload_data(out: &mut Vec<u8>, piece: &ChunkPayloadData) -> Result<(), WireError>
-    ensures { Writes result (frame_fits (framed (payload_data_flags piece.now) (payload_data_value piece.now)))
+    ensures bytes { Writes result (frame_fits (framed (payload_data_flags piece.now) (payload_data_value piece.now)))
         out.old.items out.new.items (padded (framed (payload_data_flags piece.now) (payload_data_value piece.now))) }
+    ensures range { OnOk result (IsPayloadData piece.now) }
 {
     let len = 12 + piece.user_data.len();
     if len > MAX_VALUE {
@@ -59,8 +62,9 @@ fn put_payload_data(out: &mut Vec<u8>, piece: &ChunkPayloadData) -> Result<(), W
 }
 
 fn put_init(alloc: Global, out: &mut Vec<u8>, head: u16, init: &ChunkInit) -> Result<(), WireError>
-    ensures { Writes result (list_all param_fits init.now.params && frame_fits (framed head (init_value init.now)))
+    ensures bytes { Writes result (list_all param_fits init.now.params && frame_fits (framed head (init_value init.now)))
         out.old.items out.new.items (padded (framed head (init_value init.now))) }
+    ensures range { OnOk result (IsInit init.now) }
 {
     let mut value = Vec::new(alloc);
     put_u32(&mut value, init.initiate_tag)?;
@@ -75,7 +79,8 @@ fn put_init(alloc: Global, out: &mut Vec<u8>, head: u16, init: &ChunkInit) -> Re
 fn put_sack_fields(out: &mut Vec<u8>, sack: &ChunkSelectiveAck) -> Result<(), AllocError>
     requires blocks { length sack.now.gap_ack_blocks < 65536 }
     requires duplicates { length sack.now.duplicate_tsn < 65536 }
-    ensures { OnOk result (out.new.items ≡ out.old.items ++ selective_ack_value sack.now) }
+    ensures bytes { OnOk result (out.new.items ≡ out.old.items ++ selective_ack_value sack.now) }
+    ensures range { OnOk result (IsSack sack.now) }
 {
     put_u32(out, sack.cumulative_tsn_ack)?;
     put_u32(out, sack.advertised_receiver_window_credit)?;
@@ -87,8 +92,9 @@ fn put_sack_fields(out: &mut Vec<u8>, sack: &ChunkSelectiveAck) -> Result<(), Al
 }
 
 fn put_selective_ack(out: &mut Vec<u8>, sack: &ChunkSelectiveAck) -> Result<(), WireError>
-    ensures { Writes result (frame_fits (framed 768 (selective_ack_value sack.now)))
+    ensures bytes { Writes result (frame_fits (framed 768 (selective_ack_value sack.now)))
         out.old.items out.new.items (padded (framed 768 (selective_ack_value sack.now))) }
+    ensures range { OnOk result (IsSack sack.now) }
 {
     let blocks = sack.gap_ack_blocks.len();
     let duplicates = sack.duplicate_tsn.len();
@@ -114,8 +120,9 @@ fn put_params(
     head: u16,
     params: &[Param],
 ) -> Result<(), WireError>
-    ensures { Writes result (list_all param_fits params.now && frame_fits (framed head (joined param_frame params.now)))
+    ensures bytes { Writes result (list_all param_fits params.now && frame_fits (framed head (joined param_frame params.now)))
         out.old.items out.new.items (padded (framed head (joined param_frame params.now))) }
+    ensures range { OnOk result (AllByRecursion IsParam params.now) }
 {
     let mut value = Vec::new(alloc);
     put_items(alloc, &mut value, params)?;
@@ -128,8 +135,9 @@ fn put_causes(
     head: u16,
     causes: &[ErrorCause],
 ) -> Result<(), WireError>
-    ensures { Writes result (list_all cause_fits causes.now && frame_fits (framed head (joined cause_frame causes.now)))
+    ensures bytes { Writes result (list_all cause_fits causes.now && frame_fits (framed head (joined cause_frame causes.now)))
         out.old.items out.new.items (padded (framed head (joined cause_frame causes.now))) }
+    ensures range { OnOk result (AllByRecursion IsCause causes.now) }
 {
     let mut value = Vec::new(alloc);
     put_items(alloc, &mut value, causes)?;
@@ -137,8 +145,9 @@ fn put_causes(
 }
 
 fn put_point(out: &mut Vec<u8>, point: u32) -> Result<(), WireError>
-    ensures { Writes result (frame_fits (framed 1792 (to_be_bytes w32 point)))
+    ensures bytes { Writes result (frame_fits (framed 1792 (to_be_bytes w32 point)))
         out.old.items out.new.items (padded (framed 1792 (to_be_bytes w32 point))) }
+    ensures range { IsU32 point }
 {
     put_padded(out, 1792, &point.to_be_bytes())
 }
@@ -150,7 +159,8 @@ fn put_reconfig_params(
     first: &Param,
     second: &Option<Param>,
 ) -> Result<(), WireError>
-    ensures { Writes result (list_all param_fits (reconfig_list first.now second.now)) out.old.items out.new.items (joined param_frame (reconfig_list first.now second.now)) }
+    ensures bytes { Writes result (list_all param_fits (reconfig_list first.now second.now)) out.old.items out.new.items (joined param_frame (reconfig_list first.now second.now)) }
+    ensures range { OnOk result (AllByRecursion IsParam (reconfig_list first.now second.now)) }
 {
     let len = first.put(alloc, out)?;
     match second {
@@ -164,8 +174,9 @@ fn put_reconfig_params(
 }
 
 fn put_reconfig(alloc: Global, out: &mut Vec<u8>, reconfig: &ChunkReconfig) -> Result<(), WireError>
-    ensures { Writes result (list_all param_fits (reconfig_params reconfig.now) && frame_fits (framed 33280 (joined param_frame (reconfig_params reconfig.now))))
+    ensures bytes { Writes result (list_all param_fits (reconfig_params reconfig.now) && frame_fits (framed 33280 (joined param_frame (reconfig_params reconfig.now))))
         out.old.items out.new.items (padded (framed 33280 (joined param_frame (reconfig_params reconfig.now)))) }
+    ensures range { OnOk result (AllByRecursion IsParam (reconfig_params reconfig.now)) }
 {
     let mut value = Vec::new(alloc);
     put_reconfig_params(alloc, &mut value, &reconfig.first, &reconfig.second)?;
@@ -177,8 +188,9 @@ fn put_forward_tsn(
     out: &mut Vec<u8>,
     forward: &ChunkForwardTsn,
 ) -> Result<(), WireError>
-    ensures { Writes result (frame_fits (framed 49152 (forward_tsn_value forward.now)))
+    ensures bytes { Writes result (frame_fits (framed 49152 (forward_tsn_value forward.now)))
         out.old.items out.new.items (padded (framed 49152 (forward_tsn_value forward.now))) }
+    ensures range { OnOk result (IsForwardTsn forward.now) }
 {
     let mut value = Vec::new(alloc);
     put_u32(&mut value, forward.new_cumulative_tsn)?;
@@ -191,8 +203,9 @@ fn put_i_forward_tsn(
     out: &mut Vec<u8>,
     forward: &ChunkIForwardTsn,
 ) -> Result<(), WireError>
-    ensures { Writes result (frame_fits (framed 49664 (i_forward_tsn_value forward.now)))
+    ensures bytes { Writes result (frame_fits (framed 49664 (i_forward_tsn_value forward.now)))
         out.old.items out.new.items (padded (framed 49664 (i_forward_tsn_value forward.now))) }
+    ensures range { OnOk result (IsIForwardTsn forward.now) }
 {
     let mut value = Vec::new(alloc);
     put_u32(&mut value, forward.new_cumulative_tsn)?;
@@ -201,13 +214,15 @@ fn put_i_forward_tsn(
 }
 
 fn head_of(kind: u8, flags: u8) -> u16
-    ensures { result ≡ kind * 256 + flags }
+    ensures exact { result ≡ kind * 256 + flags }
+    ensures range { (kind < 256) × (flags < 256) }
 {
     256 * u16::from(kind) + u16::from(flags)
 }
 
 fn put_chunk(alloc: Global, out: &mut Vec<u8>, chunk: &Chunk) -> Result<(), WireError>
-    ensures { Writes result (chunk_fits chunk.now) out.old.items out.new.items (chunk_bytes chunk.now) }
+    ensures bytes { Writes result (chunk_fits chunk.now) out.old.items out.new.items (chunk_bytes chunk.now) }
+    ensures range { OnOk result (IsChunk chunk.now) }
 {
     match chunk {
         Chunk::Data(piece) => put_payload_data(out, piece),
@@ -234,7 +249,8 @@ fn put_chunk(alloc: Global, out: &mut Vec<u8>, chunk: &Chunk) -> Result<(), Wire
 
 /// The chunks, one behind the other, each with its padding.
 pub fn write_chunks(alloc: Global, out: &mut Vec<u8>, chunks: &[Chunk]) -> Result<(), WireError>
-    ensures { Writes result (list_all chunk_fits chunks.now) out.old.items out.new.items (flat_map chunk_bytes chunks.now) }
+    ensures bytes { Writes result (list_all chunk_fits chunks.now) out.old.items out.new.items (flat_map chunk_bytes chunks.now) }
+    ensures range { OnOk result (AllByRecursion IsChunk chunks.now) }
 {
     'chunks: for chunk in chunks {
         put_chunk(alloc, out, chunk)?;

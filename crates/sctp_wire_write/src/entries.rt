@@ -1,7 +1,8 @@
 // Lists of entries of one width.
 ghost use Rattle.std.specs.Prelude.{◌≡◌, ℕ, ◌++◌, List as Items, OnOk};
-ghost use Rattle.std.specs.List.{flat_map};
+ghost use Rattle.std.specs.List.{flat_map, AllByRecursion};
 ghost use Rattle.sctp_wire_forms.specs.Spelling.{block_bytes, tsn_bytes, identifier_bytes, skipped_bytes, message_skip_bytes};
+ghost use Rattle.sctp_wire_forms.specs.Ranges.{IsU16, IsU32, IsBlock, IsSkipped, IsMessageSkip};
 
 use crate::number::{put_u16, put_u32};
 use sctp_wire_types::{GapAckBlock, IForwardTsnEntry, SkippedStream};
@@ -11,13 +12,17 @@ use std::alloc::AllocError;
 pub trait PutEntry: Sized {
     ghost entry_bytes: { Self → Items ℕ };
 
+    ghost IsEntry: { Self → Type 0 };
+
     fn put(&self, out: &mut Vec<u8>) -> Result<(), AllocError>
-        ensures { OnOk result (out.new.items ≡ out.old.items ++ entry_bytes self.now) };
+        ensures bytes { OnOk result (out.new.items ≡ out.old.items ++ entry_bytes self.now) }
+        ensures range { OnOk result (IsEntry self.now) };
 }
 
 /// All entries, one behind the other.
 pub fn put_entries<T: PutEntry>(out: &mut Vec<u8>, entries: &[T]) -> Result<(), AllocError>
-    ensures { OnOk result (out.new.items ≡ out.old.items ++ flat_map T.entry_bytes entries.now) }
+    ensures bytes { OnOk result (out.new.items ≡ out.old.items ++ flat_map T.entry_bytes entries.now) }
+    ensures range { OnOk result (AllByRecursion T.IsEntry entries.now) }
 {
     for entry in entries {
         entry.put(out)?;
@@ -28,6 +33,8 @@ pub fn put_entries<T: PutEntry>(out: &mut Vec<u8>, entries: &[T]) -> Result<(), 
 impl PutEntry for GapAckBlock {
     ghost entry_bytes = { block_bytes };
 
+    ghost IsEntry = { IsBlock };
+
     fn put(&self, out: &mut Vec<u8>) -> Result<(), AllocError> {
         put_u16(out, self.start)?;
         put_u16(out, self.end)
@@ -37,6 +44,8 @@ impl PutEntry for GapAckBlock {
 impl PutEntry for u32 {
     ghost entry_bytes = { tsn_bytes };
 
+    ghost IsEntry = { IsU32 };
+
     fn put(&self, out: &mut Vec<u8>) -> Result<(), AllocError> {
         put_u32(out, *self)
     }
@@ -44,6 +53,8 @@ impl PutEntry for u32 {
 
 impl PutEntry for u16 {
     ghost entry_bytes = { identifier_bytes };
+
+    ghost IsEntry = { IsU16 };
 
     fn put(&self, out: &mut Vec<u8>) -> Result<(), AllocError> {
         put_u16(out, *self)
@@ -53,6 +64,8 @@ impl PutEntry for u16 {
 impl PutEntry for SkippedStream {
     ghost entry_bytes = { skipped_bytes };
 
+    ghost IsEntry = { IsSkipped };
+
     fn put(&self, out: &mut Vec<u8>) -> Result<(), AllocError> {
         put_u16(out, self.stream_identifier)?;
         put_u16(out, self.stream_sequence_number)
@@ -61,6 +74,8 @@ impl PutEntry for SkippedStream {
 
 impl PutEntry for IForwardTsnEntry {
     ghost entry_bytes = { message_skip_bytes };
+
+    ghost IsEntry = { IsMessageSkip };
 
     fn put(&self, out: &mut Vec<u8>) -> Result<(), AllocError> {
         put_u16(out, self.stream_identifier)?;

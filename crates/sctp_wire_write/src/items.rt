@@ -1,11 +1,12 @@
 // Frames, and the lists of frames inside a chunk.
 ghost use Rattle.std.specs.Prelude.{◌≡◌, ◌+◌, ◌<◌, ◌^◌, Bool, true, ◌++◌, length, OnOk};
 ghost use Rattle.std.specs.Int.{w16, to_be_bytes};
-ghost use Rattle.std.specs.List.{list_all};
+ghost use Rattle.std.specs.List.{list_all, AllByRecursion};
 ghost use Rattle.sctp_wire_forms.specs.declared.frame.Frame.{Frame as Framed};
 ghost use Rattle.sctp_wire_forms.specs.Results.{Writes};
 ghost use Rattle.sctp_wire_forms.specs.Frames.{WritesBare, bare, padded, joined, frame_fits};
 ghost use Rattle.sctp_wire_forms.specs.Spelling.{framed};
+ghost use Rattle.sctp_wire_forms.specs.Ranges.{IsU16};
 
 use crate::number::{put_padding, put_u16};
 use sctp_wire_forms::WireError;
@@ -26,7 +27,8 @@ pub fn put_head(out: &mut Vec<u8>, head: u16, len: usize) -> Result<(), AllocErr
 
 /// A frame without its padding; the answer is the length of its value.
 pub fn put_bare(out: &mut Vec<u8>, head: u16, value: &[u8]) -> Result<usize, WireError>
-    ensures { WritesBare result (framed head value.now) out.old.items out.new.items }
+    ensures bytes { WritesBare result (framed head value.now) out.old.items out.new.items }
+    ensures range { IsU16 head }
 {
     let len = value.len();
     if len > MAX_VALUE {
@@ -50,14 +52,18 @@ pub fn put_padded(out: &mut Vec<u8>, head: u16, value: &[u8]) -> Result<(), Wire
 pub trait PutItem: Sized {
     ghost frame_of: { Self → Framed };
 
+    ghost IsItem: { Self → Type 0 };
+
     /// Its frame without padding; the answer is the length of its value.
     fn put(&self, alloc: Global, out: &mut Vec<u8>) -> Result<usize, WireError>
-        ensures { WritesBare result (frame_of self.now) out.old.items out.new.items };
+        ensures bytes { WritesBare result (frame_of self.now) out.old.items out.new.items }
+        ensures range { OnOk result (IsItem self.now) };
 }
 
 /// All items, each but the last with its padding.
 pub fn put_items<T: PutItem>(alloc: Global, out: &mut Vec<u8>, items: &[T]) -> Result<(), WireError>
-    ensures { Writes result (list_all (λ x. frame_fits (T.frame_of x)) items.now) out.old.items out.new.items (joined T.frame_of items.now) }
+    ensures bytes { Writes result (list_all (λ x. frame_fits (T.frame_of x)) items.now) out.old.items out.new.items (joined T.frame_of items.now) }
+    ensures range { OnOk result (AllByRecursion T.IsItem items.now) }
 {
     let mut last_len = 0;
     'items: for item in items {

@@ -2,19 +2,22 @@
 ghost use Rattle.std.specs.Prelude.{◌≡◌, ◌++◌, OnOk};
 ghost use Rattle.std.specs.Int.{w16, w32, to_be_bytes};
 ghost use Rattle.sctp_wire_forms.specs.Frames.{zeros, pad_len};
+ghost use Rattle.sctp_wire_forms.specs.Ranges.{IsU16, IsU32};
 
 use std::alloc::AllocError;
 
 /// Two bytes more.
 pub fn put_u16(out: &mut Vec<u8>, number: u16) -> Result<(), AllocError>
-    ensures { OnOk result (out.new.items ≡ out.old.items ++ to_be_bytes w16 number) }
+    ensures bytes { OnOk result (out.new.items ≡ out.old.items ++ to_be_bytes w16 number) }
+    ensures range { IsU16 number }
 {
     out.extend_from_slice(&number.to_be_bytes())
 }
 
 /// Four bytes more.
 pub fn put_u32(out: &mut Vec<u8>, number: u32) -> Result<(), AllocError>
-    ensures { OnOk result (out.new.items ≡ out.old.items ++ to_be_bytes w32 number) }
+    ensures bytes { OnOk result (out.new.items ≡ out.old.items ++ to_be_bytes w32 number) }
+    ensures range { IsU32 number }
 {
     out.extend_from_slice(&number.to_be_bytes())
 }

@@ -1,6 +1,7 @@
 // Writing parameters and error causes.
 ghost use Rattle.std.specs.Prelude.{◌≡◌, ◌++◌, OnOk, IfOk};
 ghost use Rattle.sctp_wire_forms.specs.Spelling.{number_of_result, reset_request_value, reset_response_value, param_frame, cause_frame};
+ghost use Rattle.sctp_wire_forms.specs.Ranges.{IsResetRequest, IsResetResponse, IsParam, IsCause};
 
 use crate::entries::put_entries;
 use crate::items::{PutItem, put_bare};
@@ -30,7 +31,8 @@ fn reset_request_bytes(
     alloc: Global,
     request: &ParamOutgoingResetRequest,
 ) -> Result<Vec<u8>, AllocError>
-    ensures { IfOk result (λ v. v.items ≡ reset_request_value request.now) }
+    ensures bytes { IfOk result (λ v. v.items ≡ reset_request_value request.now) }
+    ensures range { OnOk result (IsResetRequest request.now) }
 {
     let mut value = Vec::new(alloc);
     put_u32(&mut value, request.reconfig_request_sequence_number)?;
@@ -44,7 +46,8 @@ fn reset_response_bytes(
     alloc: Global,
     response: &ParamReconfigResponse,
 ) -> Result<Vec<u8>, AllocError>
-    ensures { IfOk result (λ v. v.items ≡ reset_response_value response.now) }
+    ensures bytes { IfOk result (λ v. v.items ≡ reset_response_value response.now) }
+    ensures range { OnOk result (IsResetResponse response.now) }
 {
     let mut value = Vec::new(alloc);
     put_u32(&mut value, response.reconfig_response_sequence_number)?;
@@ -54,6 +57,8 @@ fn reset_response_bytes(
 
 impl PutItem for Param {
     ghost frame_of = { param_frame };
+
+    ghost IsItem = { IsParam };
 
     fn put(&self, alloc: Global, out: &mut Vec<u8>) -> Result<usize, WireError> {
         match self {
@@ -75,6 +80,8 @@ impl PutItem for Param {
 
 impl PutItem for ErrorCause {
     ghost frame_of = { cause_frame };
+
+    ghost IsItem = { IsCause };
 
     fn put(&self, _alloc: Global, out: &mut Vec<u8>) -> Result<usize, WireError> {
         put_bare(out, self.code, self.value.as_slice())

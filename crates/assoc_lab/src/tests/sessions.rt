@@ -56,6 +56,13 @@ fn sessions_give_their_replies(rt: HostRuntime) -> Result<(), Fail> {
             status: 0,
         },
         Case {
+            name: "the state of a side",
+            input: b"snap 1200 100 500\nstate A\n",
+            output: b"ok\n0 0 0 0 0\n",
+            errors: b"",
+            status: 0,
+        },
+        Case {
             name: "payload size 0",
             input: b"snap 0 100 500\n",
             output: b"refused 1\n",
