@@ -5,7 +5,7 @@ use Rattle.std.proofs.lemmas.Bool.{cases_Bool, cases_lt, and_parts, and_from, eq
 use Rattle.sctp_model.specs.Messages.{Place, Plan, IsAt, no_place, place_at, message_of, is_last}
 use Rattle.sctp_model.specs.Packets.{Forward, mem}
 use Rattle.sctp_model.specs.Machine.{Sender, is_gone, gone_among, gone_front, is_ordered_of, last_ssn, forward_of}
-use Rattle.sctp_model.specs.Invariants.{IsPlanned, IsSending, IsForward, IsReported, IsAccounted, gone_at}
+use Rattle.sctp_model.specs.Invariants.{IsPlanned, IsSending, IsForward, IsReported, IsLastReported, IsAccounted, gone_at}
 use Rattle.sctp_model.proofs.Growth.{IsExtended, last_kept, at_kept, at_before}
 
 -- A message's offsets are consecutive.
@@ -155,6 +155,26 @@ last_of p s m (y ∷ ys) found e = go (last_of p s m ys (cond (is_ordered_of p s
           },
         )
 
+-- one ordered place of a stream among some is enough for a number
+kept_some : (p : Plan) (s m : ℕ) (ys : List Place) → (k : ℕ) × (last_ssn p s ys (Some m) ≡ Some k)
+kept_some p s m [] = (m, refl)
+kept_some p s m (y ∷ ys) = ⊎_elim
+    (λ (b : is_ordered_of p s y ≡ true).
+    let r = kept_some p s (y.ssn % 65536) ys in
+    (r.0, ap (last_ssn p s ys) (cond-true (is_ordered_of p s y) (Some (y.ssn % 65536)) (Some m) b) ∙ r.1))
+    (λ (b : is_ordered_of p s y ≡ false).
+    let r = kept_some p s m ys in
+    (r.0, ap (last_ssn p s ys) (cond-false (is_ordered_of p s y) (Some (y.ssn % 65536)) (Some m) b) ∙ r.1))
+    (cases_Bool (is_ordered_of p s y))
+
+found_some : (p : Plan) (s : ℕ) (ys : List Place) (found : Option ℕ) (j : ℕ) → j < length ys → is_ordered_of p s (get_or ys j no_place) ≡ true
+    → (k : ℕ) × (last_ssn p s ys found ≡ Some k)
+found_some p s [] found j l h = absurd (omega arith)
+found_some p s (y ∷ ys) found zero l h =
+    let r = kept_some p s (y.ssn % 65536) ys in
+    (r.0, ap (last_ssn p s ys) (cond-true (is_ordered_of p s y) (Some (y.ssn % 65536)) found h) ∙ r.1)
+found_some p s (y ∷ ys) found (suc j) l h = found_some p s ys (cond (is_ordered_of p s y) (Some (y.ssn % 65536)) found) j (omega arith) h
+
 pub forward_made : (x : Sender) (over : ℕ → Bool) (taken : List ℕ) → IsPlanned x.plan over
     → IsSending x.plan x.current x.next x.ssn x.begun x.gone over
     → ((o : ℕ) → o < x.point → IsAccounted x.plan x.gone taken o) → length x.plan.places < x.point + 16384 → 0 < length (gone_front x)
@@ -168,8 +188,12 @@ forward_made x over taken h g below flight some = record {
       (λ (a : o < x.point). below o a)
       (λ (a : x.point ≤ o). inr (gone o a l))
       (cases_lt o x.point);
+  abandoned = gone;
+  complete = λ s o a from l. found_some x.plan s (gone_front x) None (o - x.point) (omega arith)
+      (subst (λ z. is_ordered_of x.plan s z ≡ true) (sym (among_same x rest (o - x.point) (omega arith) ∙ place o from)) (and_from _ _ (eq-eqb _ _ a.stream) a.kind));
   last = λ o e. gone o (omega arith) (omega arith);
   ends = λ o e. ends o e;
+  last_reported = λ s m e. last_reported s m (last_of x.plan s m (gone_front x) None e);
   reported = λ s m e v. reported s m v (last_of x.plan s m (gone_front x) None e);
 }
   where
@@ -213,6 +237,45 @@ forward_made x over taken h g below flight some = record {
             absurd (true≢false (sym (gone o (omega arith) (omega arith))
             ∙ ap (λ z. x.gone (place_at x.plan z).stream (place_at x.plan z).message) (sym same)
             ∙ ap (λ z. x.gone z (place_at x.plan go.last).message) (sym w.stream) ∙ ap (x.gone y.stream) (sym w.message) ∙ go.stays))
+
+    last_reported : (s m : ℕ)
+        → ((None ≡ Some m) × ((k : ℕ) → k < length (gone_front x) → is_ordered_of x.plan s (get_or (gone_front x) k no_place) ≡ false)) ⊎ ((j : ℕ) × IsLastOf x.plan s (gone_front x) m j)
+        → IsLastReported x.plan s x.point (x.point + length (gone_front x)) m
+    last_reported s m (inl r) = absurd (none_some r.0)
+      where
+        none_some : None ≡ Some m → ⊥
+        none_some h = cc
+    last_reported s m (inr r) = record {
+      offset = offset;
+      from = omega arith;
+      below = omega (arith, k.within);
+      at = record { known = omega (arith, k.within, known); stream = eqb-true _ _ parts.0; kind = parts.1 };
+      is = k.is ∙ ap (λ z. z.ssn % 65536) found;
+      last = up_to;
+    }
+      where
+        k : IsLastOf x.plan s (gone_front x) m r.0
+        k = r.1
+
+        offset : ℕ
+        offset = x.point + r.0
+
+        inside : (o : ℕ) → x.point ≤ o → o < x.point + length (gone_front x) → get_or (gone_front x) (o - x.point) no_place ≡ place_at x.plan o
+        inside o a l = among_same x rest (o - x.point) (omega arith) ∙ place o a
+
+        found : get_or (gone_front x) r.0 no_place ≡ place_at x.plan offset
+        found = ap (λ z. get_or (gone_front x) z no_place) (let e : r.0 ≡ offset - x.point = omega arith in e) ∙ inside offset (omega arith) (omega (arith, k.within))
+
+        parts : (eqb (place_at x.plan offset).stream s ≡ true) × ((message_of x.plan (place_at x.plan offset)).ordered ≡ true)
+        parts = and_parts _ _ (subst (λ z. is_ordered_of x.plan s z ≡ true) found k.here)
+
+        up_to : (o : ℕ) → IsAt x.plan s true o → o < x.point + length (gone_front x) → o ≤ offset
+        up_to o a l = ⊎_elim
+            (λ (b : offset < o). absurd (true≢false (
+            sym (subst (λ z. is_ordered_of x.plan s z ≡ true) (sym (inside o (omega arith) l)) (and_from _ _ (eq-eqb _ _ a.stream) a.kind))
+            ∙ k.none_later (o - x.point) (omega arith) (omega arith))))
+            (λ (b : o ≤ offset). b)
+            (cases_lt offset o)
 
     reported : (s m : ℕ) → over s ≡ false
         → ((None ≡ Some m) × ((k : ℕ) → k < length (gone_front x) → is_ordered_of x.plan s (get_or (gone_front x) k no_place) ≡ false)) ⊎ ((j : ℕ) × IsLastOf x.plan s (gone_front x) m j)
@@ -294,11 +357,24 @@ forward_grows p r gone gone' over taken f e more new h = record {
       (λ (m : mem o taken ≡ true). inl m)
       (λ (g : gone_at p gone o ≡ true). inr (gone_kept o (let a = h.known in omega arith) g))
       (h.accounted o l);
+  abandoned = λ o a l. gone_kept o (let b = h.known in omega arith) (h.abandoned o a l);
+  complete = λ s o a from l. h.complete s o (at_before p r e s o true (let b = h.known in omega arith) a) from l;
   last = λ o l. gone_kept o (let a = h.known in omega arith) (h.last o l);
   ends = λ o l. ⊎_elim
       (λ (a : is_last p (place_at p o) ≡ true). inl (last_kept p r e o (let b = h.known in omega arith) ∙ a))
       (λ (a : (place_at p o).marker ≡ true). inr (ap (λ z. z.marker) (e.places o (let b = h.known in omega arith)) ∙ a))
       (h.ends o l);
+  last_reported = λ s m k.
+      let q = h.last_reported s m k in
+      let at = q.at in
+      record {
+        offset = q.offset;
+        from = q.from;
+        below = q.below;
+        at = at_kept p r e s q.offset true q.at;
+        is = q.is ∙ ap (λ z. z.ssn % 65536) (sym (e.places q.offset at.known));
+        last = λ o a l. q.last o (at_before p r e s o true (let b = h.known in omega arith) a) l;
+      };
   reported = λ s m k v.
       let q = h.reported s m k v in
       let at = q.at in
@@ -336,7 +412,10 @@ forward_taken p gone over over' taken taken' f more spans h = record {
   known = h.known;
   near = h.near;
   accounted = λ o l. ⊎_elim (λ (m : mem o taken ≡ true). inl (more o m)) (λ (g : gone_at p gone o ≡ true). inr g) (h.accounted o l);
+  abandoned = h.abandoned;
+  complete = h.complete;
   last = h.last;
   ends = h.ends;
+  last_reported = h.last_reported;
   reported = λ s m k v. h.reported s m k (spans s v);
 }

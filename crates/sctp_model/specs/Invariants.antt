@@ -105,6 +105,15 @@ pub record IsReported (p : Plan) (gone : ℕ → ℕ → Bool) (s start point m 
   pub greatest : (o : ℕ) → IsAt p s true o → o < point → (place_at p o).ssn ≤ (place_at p offset).ssn
   pub all : (o : ℕ) → IsAt p s true o → (place_at p o).ssn ≤ (place_at p offset).ssn → o < point
 
+-- whatever became of the stream's span: m is the sequence number of the last ordered message of stream s from `start` to the point
+pub record IsLastReported (p : Plan) (s start point m : ℕ) : Type 0 where
+  pub offset : ℕ
+  pub from : start ≤ offset
+  pub below : offset < point
+  pub at : IsAt p s true offset
+  pub is : m ≡ (place_at p offset).ssn % 65536
+  pub last : (o : ℕ) → IsAt p s true o → o < point → o ≤ offset
+
 -- a FORWARD TSN: each offset below its point was taken in or belongs to an abandoned message, the last of them is an abandoned
 -- message's last, and it reports the greatest sequence numbers of the ordered messages abandoned past the acknowledged point
 pub record IsForward (p : Plan) (gone : ℕ → ℕ → Bool) (over : ℕ → Bool) (taken : List ℕ) (f : Forward) : Type 0 where
@@ -113,8 +122,11 @@ pub record IsForward (p : Plan) (gone : ℕ → ℕ → Bool) (over : ℕ → Bo
   pub known : f.point ≤ length p.places
   pub near : f.point ≤ start + 16384
   pub accounted : (o : ℕ) → o < f.point → IsAccounted p gone taken o
+  pub abandoned : (o : ℕ) → start ≤ o → o < f.point → gone_at p gone o ≡ true
+  pub complete : (s o : ℕ) → IsAt p s true o → start ≤ o → o < f.point → (m : ℕ) × (f.skips s ≡ Some m)
   pub last : (o : ℕ) → f.point ≡ suc o → gone_at p gone o ≡ true
   pub ends : (o : ℕ) → f.point ≡ suc o → (is_last p (place_at p o) ≡ true) ⊎ ((place_at p o).marker ≡ true)
+  pub last_reported : (s m : ℕ) → f.skips s ≡ Some m → IsLastReported p s start f.point m
   pub reported : (s m : ℕ) → f.skips s ≡ Some m → over s ≡ false → IsReported p gone s start f.point m
 
 -- One stream at the receiver.

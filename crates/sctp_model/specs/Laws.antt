@@ -1,10 +1,10 @@
 -- The laws that stand on the contracts of this crate's functions.
-use Rattle.std.specs.Prelude.{ℕ, suc, ◌+◌, ◌*◌, ◌^◌, ◌<◌, ◌≤◌, ◌≡◌, ◌↔◌, ◌⊎◌, true, false, List, ◌++◌, take, Some, nat_lt}
+use Rattle.std.specs.Prelude.{ℕ, suc, ◌+◌, ◌-◌, ◌*◌, ◌%◌, ◌^◌, ◌<◌, ◌≤◌, ◌≡◌, ◌↔◌, ◌⊎◌, true, false, List, ◌++◌, take, Some, None, nat_lt}
 use Rattle.sctp_model.specs.Messages.{piece_of}
 use Rattle.sctp_model.specs.Packets.{mem, names}
-use Rattle.sctp_model.specs.Serial.{tsn, before_32, offset_near, offset_ahead}
-use Rattle.sctp_model.specs.Machine.{Event, Receiver, fresh, run, point, sack_of}
-use Rattle.sctp_model.specs.Safe.{IsSafe, StaysWithin}
+use Rattle.sctp_model.specs.Serial.{tsn, before_16, before_32, offset_near, offset_spelt, offset_ahead}
+use Rattle.sctp_model.specs.Machine.{Direction, Event, Receiver, fresh, happens, run, point, sack_of}
+use Rattle.sctp_model.specs.Safe.{IsSafe, IsWithin, StaysWithin}
 use Rattle.sctp_model.specs.Invariants.{Invariant}
 
 -- A TSN made from an offset less than 2^31 away is read as that offset, and of two such the earlier one is the one before.
@@ -15,6 +15,18 @@ TsnsSpellOffsets = (initial point offset : ℕ) → offset < point + 2 ^ 31 → 
 abbrev pub TsnsAheadSpellOffsets : Type 0
 TsnsAheadSpellOffsets = (initial point offset : ℕ) → point ≤ offset → offset < point + 2 ^ 31
     → offset_ahead initial point (tsn initial offset) ≡ Some offset
+
+-- A TSN shortly before the initial one spells no offset, and any other is read as before.
+abbrev pub TsnsBeforeTheInitialSpellNone : Type 0
+TsnsBeforeTheInitialSpellNone = (initial point n : ℕ) → 0 < n → point + n < 2 ^ 31 → offset_spelt initial point ((initial + 2 ^ 32 - n) % 2 ^ 32) ≡ None
+
+abbrev pub TsnsPastTheInitialSpellSome : Type 0
+TsnsPastTheInitialSpellSome = (initial point offset : ℕ) → offset < point + 2 ^ 31 → point < offset + 2 ^ 31
+    → offset_spelt initial point (tsn initial offset) ≡ Some offset
+
+-- Stream sequence numbers compare as the numbers that they were before they wrapped, where those are less than 32,768 apart.
+abbrev pub SequenceNumbersCompare : Type 0
+SequenceNumbersCompare = (a b : ℕ) → a < b + 32768 → b < a + 32768 → before_16 (a % 65536) (b % 65536) ≡ nat_lt a b
 
 -- Pieces, one after another, are the bytes.
 abbrev pub PiecesJoin : Type 0
@@ -36,3 +48,11 @@ OneDirectionIsSafe = (size : ℕ) → 0 < size → (events : List Event) → Sta
 -- What is proved of every direction on the way, and later layers build on.
 abbrev pub TheInvariantHolds : Type 0
 TheInvariantHolds = (size : ℕ) → 0 < size → (events : List Event) → StaysWithin (fresh size) events → Invariant (run events (fresh size))
+
+-- From any direction on, not only from the start: each event keeps the invariant where the limits hold,
+abbrev pub EachEventKeepsTheInvariant : Type 0
+EachEventKeepsTheInvariant = (w : Direction) (e : Event) → IsWithin w → Invariant w → Invariant (happens w e)
+
+-- and the invariant with the limits is enough for the promise of each stream within its span.
+abbrev pub TheInvariantIsEnough : Type 0
+TheInvariantIsEnough = (w : Direction) → IsWithin w → Invariant w → (s : ℕ) → w.over s ≡ false → IsSafe w s

@@ -34,3 +34,9 @@ offset_near initial point t =
 abbrev pub offset_ahead : ℕ → ℕ → ℕ → Option ℕ
 offset_ahead initial point t =
     if nat_lt (past_32 (tsn initial point) t) (2 ^ 31) then Some (point + past_32 (tsn initial point) t) else None
+
+-- the offset nearest to `point` that the TSN t spells, none where that lies before offset 0
+abbrev pub offset_spelt : ℕ → ℕ → ℕ → Option ℕ
+offset_spelt initial point t =
+    if nat_lt (past_32 (tsn initial point) t) (2 ^ 31) then Some (point + past_32 (tsn initial point) t)
+    else if nat_lt (point + past_32 (tsn initial point) t) (2 ^ 32) then None else Some (point + past_32 (tsn initial point) t - 2 ^ 32)

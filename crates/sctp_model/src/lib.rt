@@ -1,13 +1,20 @@
 //! Two ends of an association as definitions, and what is proved over them.
 #![tactic(auto)]
 
-ghost use Rattle.sctp_model.specs.Laws.{OneDirectionIsSafe, TheInvariantHolds, PiecesJoin, PointIsGreatest, SacksAreExact, TsnsAheadSpellOffsets, TsnsSpellOffsets};
-ghost use Rattle.sctp_model.specs.Runs.{FirstAbandonedAndSkipped, LateForwardChangesNothing, PiecesOutOfOrder, SequenceNumbersWrap, UnorderedIsReadFirst};
+ghost use Rattle.sctp_model.specs.Laws.{EachEventKeepsTheInvariant, OneDirectionIsSafe, TheInvariantHolds, TheInvariantIsEnough, PiecesJoin, PointIsGreatest, SacksAreExact, SequenceNumbersCompare, TsnsAheadSpellOffsets, TsnsBeforeTheInitialSpellNone, TsnsPastTheInitialSpellSome, TsnsSpellOffsets};
+ghost use Rattle.sctp_model.specs.Runs.{ClosedReadsNothing, DroppedUnsent, FirstAbandonedAndSkipped, LateForwardChangesNothing, LateNumberLeavesTheCursor, PiecesOutOfOrder, SacksReleaseOnce, SequenceNumbersWrap, StreamsDoNotWait, UnorderedIsDropped, UnorderedIsReadFirst};
 
 /// Serial numbers of 32 bits, as long as the offsets that they spell are less than half the range apart (RFC 4960 section 1.6).
 pub fn tsns_spell_offsets()
     ensures near { TsnsSpellOffsets }
     ensures ahead { TsnsAheadSpellOffsets }
+    ensures before { TsnsBeforeTheInitialSpellNone }
+    ensures past { TsnsPastTheInitialSpellSome }
+{}
+
+/// Stream sequence numbers of 16 bits, as long as they are less than half the range apart (RFC 4960 sections 1.6 and 6.5).
+pub fn sequence_numbers_compare()
+    ensures { SequenceNumbersCompare }
 {}
 
 /// The cut of a message into pieces (RFC 4960 section 6.9).
@@ -28,6 +35,12 @@ pub fn runs_compute()
     ensures late { LateForwardChangesNothing }
     ensures unordered { UnorderedIsReadFirst }
     ensures wrap { SequenceNumbersWrap }
+    ensures cursor { LateNumberLeavesTheCursor }
+    ensures released { SacksReleaseOnce }
+    ensures dropped { UnorderedIsDropped }
+    ensures streams { StreamsDoNotWait }
+    ensures unsent { DroppedUnsent }
+    ensures closed { ClosedReadsNothing }
 {}
 
 /// One direction of an association over every list of what may happen, for many streams at once: what is read was accepted,
@@ -35,4 +48,11 @@ pub fn runs_compute()
 pub fn one_direction_is_safe()
     ensures safe { OneDirectionIsSafe }
     ensures invariant { TheInvariantHolds }
+{}
+
+/// What carries that theorem, for whoever builds on it: each event keeps the invariant from any direction on that is within the
+/// limits, and the invariant with the limits gives the promise.
+pub fn the_invariant_carries()
+    ensures kept { EachEventKeepsTheInvariant }
+    ensures enough { TheInvariantIsEnough }
 {}

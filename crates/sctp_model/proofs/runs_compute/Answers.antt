@@ -15,3 +15,21 @@ returns-clause-unordered c = Runs.unordered
 
 pub returns-clause-wrap : goal.returns-clause-wrap
 returns-clause-wrap c = Runs.wrap
+
+pub returns-clause-cursor : goal.returns-clause-cursor
+returns-clause-cursor c = Runs.cursor
+
+pub returns-clause-released : goal.returns-clause-released
+returns-clause-released c = Runs.released
+
+pub returns-clause-dropped : goal.returns-clause-dropped
+returns-clause-dropped c = Runs.dropped
+
+pub returns-clause-streams : goal.returns-clause-streams
+returns-clause-streams c = Runs.streams
+
+pub returns-clause-unsent : goal.returns-clause-unsent
+returns-clause-unsent c = Runs.unsent
+
+pub returns-clause-closed : goal.returns-clause-closed
+returns-clause-closed c = Runs.closed

@@ -1,0 +1,9 @@
+use Rattle.sctp_model.proofs.Safety.{safe_from}
+use Rattle.sctp_model.proofs.Steps.{happens_keeps}
+use Rattle.sctp_model.proofs.the_invariant_carries.Goals as goal
+
+pub returns-clause-kept : goal.returns-clause-kept
+returns-clause-kept c = happens_keeps
+
+pub returns-clause-enough : goal.returns-clause-enough
+returns-clause-enough c w l h s v = safe_from w s h l v
