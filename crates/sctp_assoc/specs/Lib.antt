@@ -1,6 +1,7 @@
 pub mod Calls
-pub mod Frames
+pub mod Chunks
 pub mod Inbound
 pub mod Join
 pub mod Lending
+pub mod Polled
 pub mod Shown

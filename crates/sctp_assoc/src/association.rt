@@ -1,15 +1,16 @@
 // The surface of an association.
-ghost use Rattle.std.specs.Prelude.{◌≡◌, ◌↔◌, ◌*◌, ◌++◌, ◌⊎◌, true, false, not, is_some, option_to_list, IsTrue, IsNone, OnOk, OnErr, IfOk, IsErrOf};
+ghost use Rattle.std.specs.Prelude.{◌≡◌, ◌↔◌, ◌*◌, ◌++◌, ◌⊎◌, [], true, false, not, is_some, option_to_list, IsTrue, IsNone, IfSome, OnOk, OnErr, IfOk, IsErrOf};
 ghost use Rattle.std.specs.Borrow.{sem};
 ghost use Rattle.std.specs.Duration.{as_nanos};
 ghost use Rattle.sctp_parts.specs.State.{is_closing};
 ghost use Rattle.sctp_parts.specs.Timers.{least_moment};
 ghost use Rattle.sctp_queues.specs.Streams.{stream_at, generation_left};
 ghost use Rattle.sctp_assoc.specs.Calls.{RefusesOrLacksMemory, usable, opened, is_closed_state, after_t3, after_ack_delay, after_timeouts};
-ghost use Rattle.sctp_assoc.specs.Frames.{ChangedByPacket, ChangedByPoll};
-ghost use Rattle.sctp_assoc.specs.Inbound.{packet_of};
+ghost use Rattle.sctp_assoc.specs.Chunks.{after_packet};
+ghost use Rattle.sctp_assoc.specs.Inbound.{packet_of, transmit_of};
 ghost use Rattle.sctp_assoc.specs.Join.{join_refusal, joined};
 ghost use Rattle.sctp_assoc.specs.Lending.{rests_if_refused, lent, lender, id_of};
+ghost use Rattle.sctp_assoc.specs.Polled.{IsAddressed, packets_of, polled};
 ghost use Rattle.sctp_assoc.specs.Shown.{HasFailed};
 
 use crate::{AssociationEvent, Stream};
@@ -159,7 +160,9 @@ impl Association {
         ensures refused { IsErrOf result Error.ErrAssociationFailed → self.new ≡ self.old }
         ensures memory { IsErrOf result Error.ErrNoMemory → HasFailed self.old.state self.old.lost self.new }
         ensures only { OnErr result ((result ≡ Err Error.ErrAssociationFailed) ⊎ (result ≡ Err Error.ErrNoMemory)) }
-        ensures changed { OnOk result (ChangedByPoll self.old self.new) }
+        ensures ok { IfOk result (λ given. polled self.old now ≡ (self.new, packets_of given)) }
+        ensures none { IfOk result (λ given. IsNone given ↔ (packets_of given ≡ [])) }
+        ensures addressed { IfOk result (λ given. IfSome given (λ t. IsAddressed self.new now t)) }
     {
         self.check_usable()?;
         let answers = self.answers();
@@ -172,7 +175,11 @@ impl Association {
         }
     }
 
-    fn transmit(&self, packets: Vec<Bytes>, now: Instant) -> Option<Transmit> {
+    fn transmit(&self, packets: Vec<Bytes>, now: Instant) -> Option<Transmit>
+        ensures packets { packets_of result ≡ packets.items }
+        ensures none { IsNone result ↔ (packets.items ≡ []) }
+        ensures addressed { IfSome result (λ t. IsAddressed self.now now t) }
+    {
         if packets.is_empty() {
             return None;
         }
@@ -191,9 +198,7 @@ impl Association {
         ensures refused { IsErrOf result Error.ErrAssociationFailed → self.new ≡ self.old }
         ensures memory { IsErrOf result Error.ErrNoMemory → HasFailed self.old.state self.old.lost self.new }
         ensures only { OnErr result ((result ≡ Err Error.ErrAssociationFailed) ⊎ (result ≡ Err Error.ErrNoMemory)) }
-        ensures changed { OnOk result (ChangedByPacket self.old self.new) }
-        ensures ignored { packet_of event ≡ None → OnOk result (self.new ≡ self.old) }
-        ensures after_loss { self.old.lost ≡ true → OnOk result (self.new ≡ self.old) }
+        ensures ok { OnOk result (self.new ≡ after_packet self.old (packet_of event) (transmit_of event).now) }
     {
         self.check_usable()?;
         let transmit = event.transmit;

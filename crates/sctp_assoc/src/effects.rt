@@ -3,7 +3,6 @@ ghost use Rattle.std.specs.Prelude.{◌≡◌, ◌++◌, map, OnOk};
 ghost use Rattle.sctp_queues.specs.Streams.{without_streams, last_stats};
 ghost use Rattle.sctp_queues.specs.declared.event.Event.TheVariants.{DataChannelStatsFinal};
 ghost use Rattle.sctp_assoc.specs.Calls.{closed_by};
-ghost use Rattle.sctp_assoc.specs.Frames.{ChangedByPacket};
 ghost use Rattle.sctp_assoc.specs.Shown.{HasFailed, all_stopped};
 
 use crate::Association;
@@ -23,8 +22,7 @@ impl Association {
     // Closes an open association once: no timer runs on, each live stream gets its last counters, and the loss is the
     // last event. In Closed nothing changes.
     pub(crate) fn close_with(&mut self, reason: AssociationError) -> Result<(), AllocError>
-        ensures changed { ChangedByPacket self.old self.new }
-        ensures closed { OnOk result (self.new ≡ closed_by self.old reason) }
+        ensures { OnOk result (self.new ≡ closed_by self.old reason) }
     {
         if self.state == AssociationState::Closed {
             return Ok(());

@@ -1,5 +1,6 @@
 // The packets of one poll, in the order in which they go out.
-ghost use Rattle.sctp_assoc.specs.Frames.{ChangedByPoll};
+ghost use Rattle.std.specs.Prelude.{◌≡◌, ◌++◌, OnOk, IfOk};
+ghost use Rattle.sctp_assoc.specs.Polled.{ack_polled, after_both, data_packets, data_polled, packet_bytes, polled};
 
 use crate::Association;
 use bytes::Bytes;
@@ -12,18 +13,20 @@ use std::alloc::{AllocError, Global};
 impl Association {
     // DATA that is sent again, then new DATA, then the acknowledgement.
     pub(crate) fn gather(&mut self, now: Instant) -> Result<Vec<Bytes>, AllocError>
-        ensures { ChangedByPoll self.old self.new }
+        ensures { IfOk result (λ packets. polled self.old now ≡ (self.new, packets.items)) }
     {
         let mut packets = Vec::new(self.alloc);
         if self.state == AssociationState::Established {
-            self.gather_data(&mut packets, now)?;
+            let pieces = self.gather_data(now)?;
+            put_data(&mut packets, self.alloc, self.handshake.header(), pieces)?;
             self.gather_ack(&mut packets)?;
         }
         Ok(packets)
     }
 
-    fn gather_data(&mut self, packets: &mut Vec<Bytes>, now: Instant) -> Result<(), AllocError>
-        ensures { ChangedByPoll self.old self.new }
+    #[tactic(auto, unfolding(crate::specs::Polled::data_polled))]
+    fn gather_data(&mut self, now: Instant) -> Result<Vec<ChunkPayloadData>, AllocError>
+        ensures { IfOk result (λ pieces. data_polled self.old now ≡ (self.new, pieces.items)) }
     {
         let mut chunks = Vec::new(self.alloc);
         self.sender.resend_marked(&mut chunks)?;
@@ -32,11 +35,12 @@ impl Association {
             let rto = self.rto.get_rto();
             self.timers.restart_if_stale(Timer::T3RTX, now, rto);
         }
-        put_data(packets, self.alloc, self.handshake.header(), chunks)
+        Ok(chunks)
     }
 
+    #[tactic(auto, unfolding(crate::specs::Polled::ack_polled))]
     fn gather_ack(&mut self, packets: &mut Vec<Bytes>) -> Result<(), AllocError>
-        ensures { ChangedByPoll self.old self.new }
+        ensures { OnOk result (after_both packets.old.items (ack_polled self.old) ≡ (self.new, packets.new.items)) }
     {
         if self.receiver.ack_state == AckState::Immediate {
             let waiting = self.streams.waiting_bytes();
@@ -54,7 +58,9 @@ fn put_data(
     alloc: Global,
     header: CommonHeader,
     chunks: Vec<ChunkPayloadData>,
-) -> Result<(), AllocError> {
+) -> Result<(), AllocError>
+    ensures { OnOk result (packets.new.items ≡ packets.old.items ++ data_packets header chunks.items) }
+{
     for chunk in chunks {
         put_packet(packets, alloc, header, Chunk::Data(chunk))?;
     }
@@ -62,12 +68,15 @@ fn put_data(
 }
 
 // Spells a packet of one chunk. A chunk that is longer than its length field can say is not sent.
+#[tactic(auto, unfolding(crate::specs::Polled::packet_bytes))]
 fn put_packet(
     packets: &mut Vec<Bytes>,
     alloc: Global,
     common_header: CommonHeader,
     chunk: Chunk,
-) -> Result<(), AllocError> {
+) -> Result<(), AllocError>
+    ensures { OnOk result (packets.new.items ≡ packets.old.items ++ packet_bytes common_header chunk) }
+{
     let mut chunks = List::new(alloc);
     chunks.push(chunk)?;
     let packet = Packet {

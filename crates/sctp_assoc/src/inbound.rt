@@ -1,8 +1,10 @@
 // One datagram, chunk by chunk.
-ghost use Rattle.std.specs.Prelude.{◌≡◌, true, None, IsErr};
+ghost use Rattle.std.specs.Prelude.{◌≡◌, true, false, is_ok, OnOk, IfOk, if◌then◌else◌};
 ghost use Rattle.sctp_wire.specs.Packets.{checked, finished};
+ghost use Rattle.sctp_inbound.specs.Receiver.{credit_of};
+ghost use Rattle.sctp_queues.specs.Streams.{bytes_waiting};
 ghost use Rattle.sctp_assoc.specs.Inbound.{taken_packet};
-ghost use Rattle.sctp_assoc.specs.Frames.{ChangedByChunk, ChangedByPacket};
+ghost use Rattle.sctp_assoc.specs.Chunks.{after_chunks, after_packet, dispatched, is_whole, on_chunk, on_data, on_sack, stream_found, taken_in};
 
 use crate::Association;
 use sctp_inbound::AckWish;
@@ -30,9 +32,7 @@ impl Association {
         datagram: PartialDecode,
         now: Instant,
     ) -> Result<(), AllocError>
-        ensures changed { ChangedByPacket self.old self.new }
-        ensures ignored { taken_packet (finished datagram) ≡ None → self.new ≡ self.old }
-        ensures after_loss { self.old.lost ≡ true → self.new ≡ self.old }
+        ensures { OnOk result (self.new ≡ after_packet self.old (taken_packet (finished datagram)) now) }
     {
         match datagram.finish(self.alloc) {
             Ok(packet) => self.on_packet(packet, now),
@@ -42,9 +42,7 @@ impl Association {
     }
 
     fn on_packet(&mut self, packet: Packet, now: Instant) -> Result<(), AllocError>
-        ensures changed { ChangedByPacket self.old self.new }
-        ensures ignored { IsErr (checked packet) → self.new ≡ self.old }
-        ensures after_loss { self.old.lost ≡ true → self.new ≡ self.old }
+        ensures { OnOk result (self.new ≡ after_packet self.old (taken_packet (Ok packet)) now) }
     {
         if self.lost || check_packet(&packet).is_err() {
             return Ok(());
@@ -54,7 +52,7 @@ impl Association {
 
     // The chunks in order; a fault ends the packet and closes an open association.
     fn on_chunks(&mut self, chunks: Vec<Chunk>, now: Instant) -> Result<(), AllocError>
-        ensures { ChangedByPacket self.old self.new }
+        ensures { OnOk result (self.new ≡ after_chunks chunks.items self.old AckWish.None now) }
     {
         let mut wish = AckWish::None;
         for chunk in chunks {
@@ -67,8 +65,9 @@ impl Association {
         Ok(())
     }
 
+    #[tactic(auto, unfolding(crate::specs::Chunks::on_chunk))]
     fn on_chunk(&mut self, chunk: Chunk, wish: AckWish, now: Instant) -> Result<Flow, AllocError>
-        ensures { ChangedByChunk self.old self.new }
+        ensures { IfOk result (λ flow. on_chunk self.old chunk wish now ≡ (self.new, flow)) }
     {
         if let Err(fault) = chunk.check() {
             return Ok(Flow::Fault(fault));
@@ -77,10 +76,10 @@ impl Association {
     }
 
     fn dispatch(&mut self, chunk: Chunk, wish: AckWish, now: Instant) -> Result<Flow, AllocError>
-        ensures { ChangedByChunk self.old self.new }
+        ensures { IfOk result (λ flow. dispatched self.old chunk wish now ≡ (self.new, flow)) }
     {
         match chunk {
-            Chunk::Data(data) => self.on_data(data, wish),
+            Chunk::Data(piece) => self.on_data(piece, wish),
             Chunk::SelectiveAck(sack) => Ok(self.on_sack(
                 sack.cumulative_tsn_ack,
                 sack.advertised_receiver_window_credit,
@@ -94,17 +93,18 @@ impl Association {
     }
 
     // DATA (RFC 4960 section 6.2). Only a whole ordered message at the TSN after the point is taken in.
-    fn on_data(&mut self, data: ChunkPayloadData, wish: AckWish) -> Result<Flow, AllocError>
-        ensures { ChangedByChunk self.old self.new }
+    #[tactic(auto, unfolding(crate::specs::Chunks::on_data))]
+    fn on_data(&mut self, piece: ChunkPayloadData, wish: AckWish) -> Result<Flow, AllocError>
+        ensures { IfOk result (λ flow. on_data self.old piece wish ≡ (self.new, flow)) }
     {
         self.stats.inc_datas();
-        let immediate = data.immediate_sack;
-        if self.receiver.is_next(data.tsn) && is_whole(&data) {
-            if !self.has_stream(data.stream_identifier)? {
+        let immediate = piece.immediate_sack;
+        if self.receiver.is_next(piece.tsn) && is_whole(&piece) {
+            if !self.has_stream(piece.stream_identifier)? {
                 return Ok(Flow::Next(wish));
             }
             if self.credit() > 0 {
-                if let Some(fault) = self.take_in(data)? {
+                if let Some(fault) = self.take_in(piece)? {
                     return Ok(Flow::Fault(fault));
                 }
             }
@@ -113,8 +113,9 @@ impl Association {
     }
 
     // Makes the stream where it is missing; false where no generation is left for it.
+    #[tactic(auto, unfolding(crate::specs::Chunks::stream_found))]
     fn has_stream(&mut self, id: u16) -> Result<bool, AllocError>
-        ensures { ChangedByChunk self.old self.new }
+        ensures { IfOk result (λ found. stream_found self.old id ≡ (self.new, found)) }
     {
         if self.streams.contains(id) {
             return Ok(true);
@@ -129,15 +130,16 @@ impl Association {
     }
 
     // Hands a message to its stream and then moves the point; answers why the stream refuses it, if it does.
-    fn take_in(&mut self, data: ChunkPayloadData) -> Result<Option<Error>, AllocError>
-        ensures { ChangedByChunk self.old self.new }
+    #[tactic(auto, unfolding(crate::specs::Chunks::taken_in))]
+    fn take_in(&mut self, piece: ChunkPayloadData) -> Result<Option<Error>, AllocError>
+        ensures { IfOk result (λ fault. taken_in self.old piece ≡ (self.new, fault)) }
     {
-        let id = data.stream_identifier;
-        let tsn = data.tsn;
+        let id = piece.stream_identifier;
+        let tsn = piece.tsn;
         let message = HeldMessage {
-            stream_sequence_number: data.stream_sequence_number,
-            payload_type: data.payload_type,
-            user_data: data.user_data,
+            stream_sequence_number: piece.stream_sequence_number,
+            payload_type: piece.payload_type,
+            user_data: piece.user_data,
         };
         let kept = match self.streams.push(id, message) {
             Ok(kept) => kept,
@@ -153,13 +155,16 @@ impl Association {
         Ok(None)
     }
 
-    fn credit(&self) -> u32 {
+    fn credit(&self) -> u32
+        ensures { result ≡ credit_of self.now.receiver (bytes_waiting self.now.streams) }
+    {
         self.receiver.credit(self.streams.waiting_bytes())
     }
 
     // SACK (RFC 4960 section 6.2.1), read by its point and its window.
+    #[tactic(auto, unfolding(crate::specs::Chunks::on_sack))]
     fn on_sack(&mut self, point: u32, window: u32, wish: AckWish, now: Instant) -> Flow
-        ensures { ChangedByChunk self.old self.new }
+        ensures { on_sack self.old point window wish now ≡ (self.new, result) }
     {
         if self.state != AssociationState::Established {
             return Flow::Next(wish);
@@ -180,6 +185,8 @@ impl Association {
     }
 }
 
-fn is_whole(data: &ChunkPayloadData) -> bool {
-    !data.unordered && data.beginning_fragment && data.ending_fragment
+fn is_whole(piece: &ChunkPayloadData) -> bool
+    ensures { result ≡ is_whole piece.now }
+{
+    !piece.unordered && piece.beginning_fragment && piece.ending_fragment
 }

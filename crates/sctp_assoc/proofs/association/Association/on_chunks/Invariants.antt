@@ -1,5 +1,8 @@
-use Rattle.sctp_assoc.specs.Frames.{ChangedByPacket}
+use Rattle.std.proofs.Common.{◌≡◌}
+use Rattle.std.specs.Vec.Iter.{into_iter_items}
+use Rattle.sctp_assoc.specs.Chunks.{after_chunks}
+use Rattle.sctp_inbound.specs.declared.receiver.AckWish.TheVariants as wishes
 use Rattle.sctp_assoc.proofs.association.Association.on_chunks.Given as goal
 
 abbrev pub invariant-loop-chunk : goal.invariant-loop-chunk
-invariant-loop-chunk l = ChangedByPacket l.fn.self l.self
+invariant-loop-chunk l = after_chunks (into_iter_items l.chunk-iterator) l.self l.wish l.now ≡ after_chunks l.fn.chunks.items l.fn.self wishes.None l.now

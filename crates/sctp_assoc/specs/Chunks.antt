@@ -1,0 +1,174 @@
+-- What the chunks of a packet do to an association (RFC 4960 sections 3.3 and 6.2).
+use Rattle.std.specs.Prelude.{ℕ, Bool, true, false, List, [], ◌∷◌, ◌++◌, ◌&&◌, if◌then◌else◌, not, is_some, length, nat_lt, Option, Some, None, Result, Ok, Err}
+use Rattle.sctp_wire_types.specs.declared.error.Error.{Error}
+use Rattle.sctp_wire_types.specs.declared.error.Error.TheVariants as errors
+use Rattle.sctp_wire_types.specs.declared.chunk.Chunk.{Chunk}
+use Rattle.sctp_wire_types.specs.declared.chunk.Chunk.TheVariants as chunks
+use Rattle.sctp_wire_types.specs.declared.chunk.ChunkPayloadData.{ChunkPayloadData}
+use Rattle.sctp_wire_types.specs.declared.ids.PayloadProtocolIdentifier.TheVariants as kinds
+use Rattle.sctp_wire_types.specs.declared.event.StreamEvent.TheVariants.{Opened, Readable}
+use Rattle.sctp_wire_types.specs.Checks.{checked_chunk}
+use Rattle.sctp_wire.specs.declared.packet.Packet.{Packet}
+use Rattle.sctp_parts.specs.Estimate.{Estimate}
+use Rattle.sctp_parts.specs.Stats.{one_more}
+use Rattle.sctp_queues.specs.declared.event.AssociationError.TheVariants as reasons
+use Rattle.sctp_queues.specs.declared.event.Event.TheVariants.{DatagramReceived}
+use Rattle.sctp_queues.specs.declared.event.Event.TheVariants as events
+use Rattle.sctp_queues.specs.declared.reassembly.HeldMessage.{HeldMessage}
+use Rattle.sctp_queues.specs.Streams.{StreamMap, stream_at, made, generation_left, bytes_waiting, contradicts_in, pushed_in, is_readable_in}
+use Rattle.sctp_inbound.specs.declared.receiver.AckWish.{AckWish}
+use Rattle.sctp_inbound.specs.declared.receiver.AckWish.TheVariants as wishes
+use Rattle.sctp_inbound.specs.Receiver.{is_next_after, taken_to, asked, credit_of, ended_packet, ended_packet_timers}
+use Rattle.sctp_outbound.specs.declared.sender.Sender.{Sender}
+use Rattle.sctp_outbound.specs.declared.sender.SackOutcome.{SackOutcome}
+use Rattle.sctp_outbound.specs.declared.sender.SackOutcome.TheVariants as outcomes
+use Rattle.sctp_outbound.specs.Sender.{sack_outcome, points_to, with_window, acknowledged, t3_after_sack}
+use Rattle.sctp_assoc.specs.declared.inbound.Flow.{Flow}
+use Rattle.sctp_assoc.specs.declared.inbound.Flow.TheVariants as flows
+use Rattle.sctp_assoc.specs.Calls.{is_established, closed_by}
+use Rattle.sctp_assoc.specs.Shown.{Shown}
+
+-- DATA
+
+abbrev pub counted_data : Shown → Shown
+counted_data a = record a { counts = (let c = a.counts in record c { datas = one_more c.datas }) }
+
+abbrev pub with_new_stream : Shown → ℕ → Shown
+with_new_stream a id = record a {
+  streams = made a.streams id kinds.Unknown;
+  events = a.events ++ events.Stream (Opened id) ∷ [];
+}
+
+-- the stream of an identifier is live, or is made with the event Opened; false where no generation is left for it
+unfoldable pub stream_found : Shown → ℕ → Shown × Bool
+stream_found a id =
+    if is_some (stream_at a.streams id) then (a, true) else
+    if not (generation_left a.streams) then (a, false) else (with_new_stream a id, true)
+
+-- a message that came in one piece
+abbrev pub message_in : ChunkPayloadData → HeldMessage
+message_in piece = record {
+  stream_sequence_number = piece.stream_sequence_number;
+  payload_type = piece.payload_type;
+  user_data = piece.user_data;
+}
+
+-- an ordered message in one piece (RFC 4960 section 3.3.1)
+abbrev pub is_whole : ChunkPayloadData → Bool
+is_whole piece = not piece.unordered && piece.beginning_fragment && piece.ending_fragment
+
+-- what is queued where a message came: DatagramReceived, and Readable where it was kept and its stream can be read
+abbrev pub told : Shown → ℕ → Bool → Shown
+told a id kept =
+    if kept && is_readable_in a.streams id then record a {
+      events = (a.events ++ DatagramReceived ∷ []) ++ events.Stream (Readable id) ∷ [];
+    }
+    else record a { events = a.events ++ DatagramReceived ∷ [] }
+
+abbrev pub with_message : Shown → ChunkPayloadData → StreamMap × Bool → Shown
+with_message a piece (streams, kept) =
+    told (record a { streams = streams; receiver = taken_to a.receiver piece.tsn }) piece.stream_identifier kept
+
+-- a message goes to its stream and the point moves to its TSN, or the stream refuses it
+unfoldable pub taken_in : Shown → ChunkPayloadData → Shown × Option Error
+taken_in a piece =
+    if contradicts_in a.streams piece.stream_identifier (message_in piece) then (a, Some errors.ErrContradictoryPieces) else
+    (with_message a piece (pushed_in a.streams piece.stream_identifier (message_in piece)), None)
+
+abbrev pub asks : Shown → ChunkPayloadData → AckWish → Shown × Flow
+asks a piece wish = (a, flows.Next (asked a.receiver wish piece.immediate_sack))
+
+abbrev pub asks_or_faults : Shown × Option Error → ChunkPayloadData → AckWish → Shown × Flow
+asks_or_faults (a, None) piece wish = asks a piece wish
+asks_or_faults (a, Some fault) piece wish = (a, flows.Fault fault)
+
+-- DATA that is next in order comes to a stream that was found; without credit it is left
+abbrev pub on_next_data : Shown × Bool → ChunkPayloadData → AckWish → Shown × Flow
+on_next_data (a, false) piece wish = (a, flows.Next wish)
+on_next_data (a, true) piece wish =
+    if nat_lt 0 (credit_of a.receiver (bytes_waiting a.streams)) then asks_or_faults (taken_in a piece) piece wish else
+    asks a piece wish
+
+abbrev pub on_counted_data : Shown → ChunkPayloadData → AckWish → Shown × Flow
+on_counted_data a piece wish =
+    if is_next_after a.receiver piece.tsn && is_whole piece then on_next_data (stream_found a piece.stream_identifier) piece wish else
+    asks a piece wish
+
+-- DATA is counted; an ordered message in one piece that is next in order is taken in, and any DATA asks to be acknowledged
+unfoldable pub on_data : Shown → ChunkPayloadData → AckWish → Shown × Flow
+on_data a piece wish = on_counted_data (counted_data a) piece wish
+
+-- SACK
+
+abbrev pub counted_sack : Shown → Shown
+counted_sack a = record a { counts = (let c = a.counts in record c { sacks = one_more c.sacks }) }
+
+abbrev pub with_acknowledged : Shown → Bool → ℕ → Sender × Estimate × StreamMap → Shown
+with_acknowledged a moved now (sender, estimate, streams) = record a {
+  sender = sender;
+  estimate = estimate;
+  streams = streams;
+  timers = t3_after_sack moved (length sender.queue.in_flight) now estimate.rto a.timers;
+}
+
+-- a SACK is taken: the pieces up to its point are acknowledged, and its window is the peer's
+abbrev pub after_sack : Shown → ℕ → ℕ → ℕ → Shown
+after_sack a point window now =
+    with_acknowledged a (nat_lt 0 (points_to a.sender point)) now
+    (acknowledged (points_to a.sender point) now (with_window a.sender window, a.estimate, a.streams))
+
+abbrev pub on_counted_sack : SackOutcome → Shown → ℕ → ℕ → AckWish → ℕ → Shown × Flow
+on_counted_sack outcomes.Older a point window wish now = (a, flows.Next wish)
+on_counted_sack outcomes.NotInFlight a point window wish now = (a, flows.Fault errors.ErrInflightQueueTsnPop)
+on_counted_sack outcomes.Taken a point window wish now = (after_sack a point window now, flows.Next wish)
+
+-- a SACK counts in Established alone; one whose point is not in flight is a fault
+unfoldable pub on_sack : Shown → ℕ → ℕ → AckWish → ℕ → Shown × Flow
+on_sack a point window wish now =
+    if is_established a.state then
+    on_counted_sack (sack_outcome a.sender point) (counted_sack a) point window wish now
+    else (a, flows.Next wish)
+
+-- Any chunk
+
+abbrev pub dispatched : Shown → Chunk → AckWish → ℕ → Shown × Flow
+dispatched a (chunks.Data piece) wish now = on_data a piece wish
+dispatched a (chunks.SelectiveAck sack) wish now =
+    on_sack a sack.cumulative_tsn_ack sack.advertised_receiver_window_credit wish now
+dispatched a (chunks.Init init) wish now = (a, flows.Fault errors.ErrHandleInitState)
+dispatched a (chunks.InitAck init) wish now = (a, flows.Next wish)
+dispatched a chunk wish now = (a, flows.Fault errors.ErrChunkTypeUnhandled)
+
+abbrev pub checked_first : Result (Unit {0}) Error → Shown → Chunk → AckWish → ℕ → Shown × Flow
+checked_first (Err fault) a chunk wish now = (a, flows.Fault fault)
+checked_first (Ok _) a chunk wish now = dispatched a chunk wish now
+
+-- a chunk that its own check refuses is a fault; INIT is one too, and so is any chunk that is not known
+unfoldable pub on_chunk : Shown → Chunk → AckWish → ℕ → Shown × Flow
+on_chunk a chunk wish now = checked_first (checked_chunk chunk) a chunk wish now
+
+-- A packet
+
+abbrev pub goes_on : Shown × Flow → (Shown → AckWish → Shown) → Shown
+goes_on (a, flows.Next wish) more = more a wish
+goes_on (a, flows.Fault fault) more = closed_by a reasons.AssociationClosed
+
+-- the acknowledgement that a packet's chunks asked for is arranged at its end
+abbrev pub ended : Shown → AckWish → ℕ → Shown
+ended a wish now = record a {
+  receiver = ended_packet a.receiver wish;
+  timers = ended_packet_timers a.timers wish now;
+}
+
+-- the chunks in order; a fault ends the packet and closes an open association
+abbrev pub after_chunks : List Chunk → Shown → AckWish → ℕ → Shown
+after_chunks [] a wish now = ended a wish now
+after_chunks (c ∷ cs) a wish now = goes_on (on_chunk a c wish now) (λ b next. after_chunks cs b next now)
+
+abbrev pub after_packet_of : Shown → Option Packet → ℕ → Shown
+after_packet_of a None now = a
+after_packet_of a (Some packet) now = after_chunks packet.chunks a wishes.None now
+
+-- what came is processed unless the association was lost
+abbrev pub after_packet : Shown → Option Packet → ℕ → Shown
+after_packet a packet now = if a.lost then a else after_packet_of a packet now
