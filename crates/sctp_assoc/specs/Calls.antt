@@ -1,12 +1,13 @@
 -- What the calls of an application do to an association.
-use Rattle.std.specs.Prelude.{◌≡◌, ℕ, Bool, true, false, List, [], ◌∷◌, ◌++◌, ◌==◌, ◌||◌, ◌+◌, ◌-◌, ◌^◌, if◌then◌else◌, length, map, min, nat_lt, Option, Some, None, Result, Ok, Err}
+use Rattle.std.specs.Prelude.{◌≡◌, ℕ, Bool, true, false, List, [], ◌∷◌, ◌++◌, ◌==◌, ◌||◌, ◌+◌, ◌-◌, ◌^◌, if◌then◌else◌, length, map, min, nat_lt, is_some, Option, Some, None, Result, Ok, Err}
 use Rattle.sctp_wire_types.specs.declared.error.Error.{Error}
 use Rattle.sctp_wire_types.specs.declared.error.Error.TheVariants as errors
 use Rattle.sctp_wire_types.specs.declared.ids.PayloadProtocolIdentifier.{PayloadProtocolIdentifier}
 use Rattle.sctp_parts.specs.declared.state.AssociationState.{AssociationState}
 use Rattle.sctp_parts.specs.declared.state.AssociationState.TheVariants as states
 use Rattle.sctp_parts.specs.declared.timer.Timer.TheVariants as names
-use Rattle.sctp_parts.specs.Timers.{Timers, after_expiry, expiry_of, with_moment, started}
+use Rattle.sctp_parts.specs.State.{is_closing}
+use Rattle.sctp_parts.specs.Timers.{Timers, least_moment, after_expiry, expiry_of, with_moment, started}
 use Rattle.sctp_parts.specs.Stats.{one_more}
 use Rattle.sctp_queues.specs.declared.event.AssociationError.{AssociationError}
 use Rattle.sctp_queues.specs.declared.event.Event.TheVariants.{AssociationLost, DataChannelStatsFinal}
@@ -14,7 +15,7 @@ use Rattle.sctp_queues.specs.declared.outbound.Fragment.{Fragment}
 use Rattle.sctp_queues.specs.Message.{Message}
 use Rattle.sctp_queues.specs.Outbound.{all_marked}
 use Rattle.sctp_queues.specs.Stream.{Stream, accepted_by}
-use Rattle.sctp_queues.specs.Streams.{StreamMap, stream_at, changed_stream, made, read_in, last_stats, without_streams}
+use Rattle.sctp_queues.specs.Streams.{StreamMap, stream_at, generation_left, changed_stream, made, read_in, last_stats, without_streams}
 use Rattle.sctp_inbound.specs.Receiver.{acknowledged_at_once}
 use Rattle.sctp_assoc.specs.Shown.{Shown, all_stopped}
 
@@ -102,6 +103,19 @@ RefusesOrLacksMemory (Ok answer) refusal = refusal ≡ None
 RefusesOrLacksMemory (Err e) None = e ≡ errors.ErrNoMemory
 RefusesOrLacksMemory (Err e) (Some refusal) = e ≡ refusal
 
+-- why a stream is not opened, want of memory aside
+abbrev pub open_refusal : Shown → ℕ → Option Error
+open_refusal a id =
+    if a.failed then Some errors.ErrAssociationFailed else
+    if is_some (stream_at a.streams id) then Some errors.ErrStreamAlreadyExist else
+    if generation_left a.streams then None else Some errors.ErrStreamCreateFailed
+
+-- why a live stream is not found
+abbrev pub stream_refusal : Shown → ℕ → Option Error
+stream_refusal a id =
+    if a.failed then Some errors.ErrAssociationFailed else
+    if is_some (stream_at a.streams id) then None else Some errors.ErrStreamNotExisted
+
 -- why a read is refused
 abbrev pub read_refusal_at : Option Stream → Option Error
 read_refusal_at None = Some errors.ErrStreamClosed
@@ -161,3 +175,11 @@ buffered_at (Some s) = Ok s.buffered
 -- the bytes that a stream accepted and did not release
 abbrev pub buffered_of : Shown → ℕ → Result ℕ Error
 buffered_of a id = if a.failed then Err errors.ErrAssociationFailed else buffered_at (stream_at a.streams id)
+
+-- the moment at which the next timer expires
+abbrev pub deadline_of : Shown → Option ℕ
+deadline_of a = least_moment a.timers
+
+-- a shutdown has begun and the association is not closed yet
+abbrev pub has_begun_closing : Shown → Bool
+has_begun_closing a = is_closing a.state

@@ -44,10 +44,13 @@ abbrev pub t3_after_sending : Bool → ℕ → ℕ → Timers → Timers
 t3_after_sending sent now rto t = if sent then restarted_if_stale names.T3RTX now rto t else t
 
 abbrev pub with_sent_data : Shown → ℕ → ℕ → Sender × List ChunkPayloadData → Shown × List ChunkPayloadData
-with_sent_data a count now (sender, pieces) = (record a {
-  sender = sender;
-  timers = t3_after_sending (nat_lt count (length pieces)) now a.estimate.rto a.timers;
-}, pieces)
+with_sent_data a count now (sender, pieces) = (
+  record a {
+    sender = sender;
+    timers = t3_after_sending (nat_lt count (length pieces)) now a.estimate.rto a.timers;
+  },
+  pieces,
+)
 
 -- the DATA of a poll, in order: that which the retransmission timer marked, and then new DATA
 unfoldable pub data_polled : Shown → ℕ → Shown × List ChunkPayloadData

@@ -1,11 +1,10 @@
 // The surface of an association.
-ghost use Rattle.std.specs.Prelude.{◌≡◌, ◌↔◌, ◌*◌, ◌++◌, ◌⊎◌, [], true, false, not, is_some, option_to_list, IsTrue, IsNone, IfSome, OnOk, OnErr, IfOk, IsErrOf};
+ghost use Rattle.std.specs.Prelude.{◌≡◌, ◌↔◌, ◌*◌, ◌++◌, ◌⊎◌, [], true, false, not, option_to_list, slice_get, IsNone, IfSome, OnOk, OnErr, IfOk, IsErrOf};
 ghost use Rattle.std.specs.Borrow.{sem};
 ghost use Rattle.std.specs.Duration.{as_nanos};
 ghost use Rattle.sctp_parts.specs.State.{is_closing};
 ghost use Rattle.sctp_parts.specs.Timers.{least_moment};
-ghost use Rattle.sctp_queues.specs.Streams.{stream_at, generation_left};
-ghost use Rattle.sctp_assoc.specs.Calls.{RefusesOrLacksMemory, usable, opened, is_closed_state, after_t3, after_ack_delay, after_timeouts};
+ghost use Rattle.sctp_assoc.specs.Calls.{Refuses, RefusesOrLacksMemory, open_refusal, stream_refusal, usable, opened, is_closed_state, after_t3, after_ack_delay, after_timeouts};
 ghost use Rattle.sctp_assoc.specs.Chunks.{after_packet};
 ghost use Rattle.sctp_assoc.specs.Inbound.{packet_of, transmit_of};
 ghost use Rattle.sctp_assoc.specs.Join.{join_refusal, joined};
@@ -140,7 +139,8 @@ impl Association {
     /// The oldest event that nobody asked for yet.
     pub fn poll(&mut self) -> Result<Option<Event>, Error>
         ensures failed { IsErrOf result Error.ErrAssociationFailed ↔ (self.old.failed ≡ true) }
-        ensures ok { IfOk result (λ event. self.old ≡ record self.new { events = option_to_list event ++ self.new.events }) }
+        ensures oldest { IfOk result (λ event. event ≡ slice_get self.old.events 0) }
+        ensures rest { IfOk result (λ event. self.old ≡ record self.new { events = option_to_list event ++ self.new.events }) }
         ensures err { OnErr result ((result ≡ Err Error.ErrAssociationFailed) × (self.new ≡ self.old)) }
     {
         self.check_usable()?;
@@ -263,9 +263,7 @@ impl Association {
         default_payload_type: PayloadProtocolIdentifier,
     ) -> Result<Stream<'_>, Error>
         ensures* lends { sem 𝓛 (rests_if_refused self.entry result) }
-        ensures failed { IsErrOf result Error.ErrAssociationFailed ↔ (self.old.failed ≡ true) }
-        ensures exists { IsErrOf result Error.ErrStreamAlreadyExist ↔ ((self.old.failed ≡ false) × IsTrue (is_some (stream_at self.old.streams id))) }
-        ensures used_up { IsErrOf result Error.ErrStreamCreateFailed ↔ ((self.old.failed ≡ false) × IsNone (stream_at self.old.streams id) × (generation_left self.old.streams ≡ false)) }
+        ensures refused { RefusesOrLacksMemory result (open_refusal self.old id) }
         ensures ok { IfOk result (λ s. lent s ≡ opened self.old id default_payload_type) }
         ensures same { IfOk result (λ s. lender s ≡ self.entry.ghost_name) }
         ensures id { IfOk result (λ s. id_of s ≡ id) }
@@ -284,8 +282,7 @@ impl Association {
     /// The live stream of this identifier.
     pub fn stream(&mut self, id: StreamId) -> Result<Stream<'_>, Error>
         ensures* lends { sem 𝓛 (rests_if_refused self.entry result) }
-        ensures failed { IsErrOf result Error.ErrAssociationFailed ↔ (self.old.failed ≡ true) }
-        ensures missing { IsErrOf result Error.ErrStreamNotExisted ↔ ((self.old.failed ≡ false) × IsNone (stream_at self.old.streams id)) }
+        ensures refused { Refuses result (stream_refusal self.old id) }
         ensures ok { IfOk result (λ s. lent s ≡ self.old) }
         ensures same { IfOk result (λ s. lender s ≡ self.entry.ghost_name) }
         ensures id { IfOk result (λ s. id_of s ≡ id) }

@@ -1,5 +1,11 @@
 // One call of one association, and its answer as a reply.
-ghost use Rattle.std.specs.Prelude.{◌≡◌, length, take};
+ghost use Rattle.std.specs.Prelude.{◌≡◌, ◌++◌, ◌⊎◌, ℕ, length, take, slice_get, IfOk, OnOk, OnErr};
+ghost use Rattle.sctp_wire.specs.Packets.{finished};
+ghost use Rattle.sctp_assoc.specs.Calls.{RefusesOrLacksMemory, written};
+ghost use Rattle.sctp_assoc.specs.Chunks.{after_packet};
+ghost use Rattle.sctp_assoc.specs.Inbound.{taken_packet};
+ghost use Rattle.sctp_assoc.specs.Polled.{bytes_within};
+ghost use Rattle.sctp_pair.specs.Steps.{Buffers, Delivers, Expires, Fails, Finds, GivesOut, HadFailed, Opens, Reads, Keeps, TakesIn, TakesPacket, Tells, Writes, refusal_to_write};
 
 use crate::Reply;
 use bytes::Bytes;
@@ -15,33 +21,46 @@ pub(crate) fn open_stream(
     association: &mut Association,
     id: StreamId,
     payload_type: PayloadProtocolIdentifier,
-) -> Reply {
+) -> Reply
+    ensures { Opens association.old id payload_type result association.new }
+{
     match association.open_stream(id, payload_type) {
         Ok(_) => Reply::Done,
         Err(error) => Reply::Refused(error.number()),
     }
 }
 
-pub(crate) fn find_stream(association: &mut Association, id: StreamId) -> Reply {
+pub(crate) fn find_stream(association: &mut Association, id: StreamId) -> Reply
+    ensures { Finds association.old id result association.new }
+{
     match association.stream(id) {
         Ok(_) => Reply::Done,
         Err(error) => Reply::Refused(error.number()),
     }
 }
 
-pub(crate) fn write(association: &mut Association, id: StreamId, bytes: &Bytes) -> Reply {
+pub(crate) fn write(association: &mut Association, id: StreamId, bytes: &Bytes) -> Reply
+    ensures { Writes association.old id bytes.now result association.new }
+{
     match write_on(association, id, bytes) {
         Ok(count) => Reply::Wrote(count),
         Err(error) => Reply::Refused(error.number()),
     }
 }
 
-fn write_on(association: &mut Association, id: StreamId, bytes: &Bytes) -> Result<usize, Error> {
+fn write_on(association: &mut Association, id: StreamId, bytes: &Bytes) -> Result<usize, Error>
+    ensures refused { RefusesOrLacksMemory result (refusal_to_write association.old id (length bytes.now)) }
+    ensures ok { IfOk result (λ n. n ≡ length bytes.now) }
+    ensures accepted { OnOk result (association.new ≡ written association.old id bytes.now) }
+    ensures err { OnErr result (association.new ≡ association.old) }
+{
     let mut stream = association.stream(id)?;
     stream.write(bytes.as_slice())
 }
 
-pub(crate) fn read(association: &mut Association, id: StreamId) -> Reply {
+pub(crate) fn read(association: &mut Association, id: StreamId) -> Reply
+    ensures { Reads association.old id result association.new }
+{
     match association.stream(id) {
         Ok(mut stream) => match stream.read() {
             Ok(message) => Reply::Read(message),
@@ -51,7 +70,9 @@ pub(crate) fn read(association: &mut Association, id: StreamId) -> Reply {
     }
 }
 
-pub(crate) fn buffered_amount(association: &mut Association, id: StreamId) -> Reply {
+pub(crate) fn buffered_amount(association: &mut Association, id: StreamId) -> Reply
+    ensures { Buffers association.old id result association.new }
+{
     match association.stream(id) {
         Ok(stream) => match stream.buffered_amount() {
             Ok(amount) => Reply::BufferedAmount(amount),
@@ -61,14 +82,18 @@ pub(crate) fn buffered_amount(association: &mut Association, id: StreamId) -> Re
     }
 }
 
-pub(crate) fn poll(association: &mut Association) -> Reply {
+pub(crate) fn poll(association: &mut Association) -> Reply
+    ensures { Tells association.old result association.new }
+{
     match association.poll() {
         Ok(event) => Reply::Event(event),
         Err(error) => Reply::Refused(error.number()),
     }
 }
 
-pub(crate) fn handle_timeout(association: &mut Association, now: Instant) -> Reply {
+pub(crate) fn handle_timeout(association: &mut Association, now: Instant) -> Reply
+    ensures { Expires association.old now result association.new }
+{
     match association.handle_timeout(now) {
         Ok(()) => Reply::Done,
         Err(error) => Reply::Refused(error.number()),
@@ -81,7 +106,7 @@ pub(crate) fn poll_transmit(
     packets: &mut Vec<Bytes>,
     now: Instant,
 ) -> Reply
-    ensures { take (length packets.old.items) packets.new.items ≡ packets.old.items }
+    ensures { GivesOut association.old packets.old.items now result association.new packets.new.items }
 {
     match association.poll_transmit(now) {
         Ok(None) => Reply::NothingSent,
@@ -92,7 +117,7 @@ pub(crate) fn poll_transmit(
 
 // The packets whose room is refused, and those after it, are lost and get no number.
 fn keep_packets(packets: &mut Vec<Bytes>, transmit: Transmit) -> Reply
-    ensures { take (length packets.old.items) packets.new.items ≡ packets.old.items }
+    ensures { Keeps packets.old.items (bytes_within transmit.payload) result packets.new.items }
 {
     let first = packets.len() as u64;
     match transmit.payload {
@@ -108,7 +133,8 @@ fn keep_packets(packets: &mut Vec<Bytes>, transmit: Transmit) -> Reply
 }
 
 fn keep_all(packets: &mut Vec<Bytes>, sent: Vec<Bytes>) -> Result<(), AllocError>
-    ensures { take (length packets.old.items) packets.new.items ≡ packets.old.items }
+    ensures ok { OnOk result (packets.new.items ≡ packets.old.items ++ sent.items) }
+    ensures err { OnErr result ((kept : ℕ) × (packets.new.items ≡ packets.old.items ++ take kept sent.items)) }
 {
     for packet in sent {
         packets.push(packet)?;
@@ -123,10 +149,23 @@ pub(crate) fn deliver(
     number: u64,
     remote: SocketAddr,
     now: Instant,
-) -> Reply {
-    let Some(packet) = packets.get(number as usize) else {
-        return Reply::NoSuchPacket;
-    };
+) -> Reply
+    ensures { Delivers association.old (slice_get packets.now number) now result association.new }
+{
+    match packets.get(number as usize) {
+        Some(packet) => take_datagram(association, packet, remote, now),
+        None => Reply::NoSuchPacket,
+    }
+}
+
+fn take_datagram(
+    association: &mut Association,
+    packet: &Bytes,
+    remote: SocketAddr,
+    now: Instant,
+) -> Reply
+    ensures { TakesIn association.old packet.now now result association.new }
+{
     match PartialDecode::unmarshal(packet) {
         Ok(datagram) => take(association, datagram, remote, now),
         Err(Error::ErrNoMemory) => Reply::Refused(Error::ErrNoMemory.number()),
@@ -139,7 +178,9 @@ fn take(
     datagram: PartialDecode,
     remote: SocketAddr,
     now: Instant,
-) -> Reply {
+) -> Reply
+    ensures { TakesPacket association.old (taken_packet (finished datagram)) now result association.new }
+{
     let event = AssociationEvent::datagram(Transmit {
         now,
         remote,

@@ -2,7 +2,8 @@
 ghost use Rattle.std.specs.Prelude.{◌≡◌, length, slice_get, [], None, OnErr, IfOk, vec_len};
 ghost use Rattle.std.specs.Option.{option_copied};
 ghost use Rattle.sctp_assoc.specs.Join.{join_refusal, joined};
-ghost use Rattle.sctp_pair.specs.Ends.{JoinRefuses, packets_of, end_of, side_of_step, ChangedAt, StepsAt};
+ghost use Rattle.sctp_pair.specs.Ends.{JoinRefuses, packets_of, end_of};
+ghost use Rattle.sctp_pair.specs.Steps.{AtSide, Buffers, ComesTo, Expires, Finds, Opens, Reads, Runs, SendsAt, Steps, Tells, Writes};
 
 use crate::{Reply, Side2, Step, calls};
 use bytes::Bytes;
@@ -112,8 +113,9 @@ impl Pair {
     }
 
     /// Carries out the steps, in order. Refused for want of memory before the first step alone, with nothing changed.
+    #[tactic(auto, using(crate::proofs::Running::run_next))]
     pub fn run(&mut self, steps: &[Step]) -> Result<Vec<Reply>, Error>
-        ensures replies { IfOk result (λ replies. vec_len replies ≡ length steps.now) }
+        ensures ok { IfOk result (λ replies. Runs steps.now replies.items self.old self.new) }
         ensures refused { OnErr result ((result ≡ Err Error.ErrNoMemory) × (self.new ≡ self.old)) }
     {
         let mut replies = Vec::with_capacity(self.alloc, steps.len())?;
@@ -126,7 +128,7 @@ impl Pair {
 
     /// Carries out one step.
     pub fn step(&mut self, step: &Step) -> Reply
-        ensures { StepsAt (side_of_step step.now) self.old self.new }
+        ensures { Steps step.now self.old result self.new }
     {
         match step {
             Step::OpenStream {
@@ -158,7 +160,7 @@ impl Pair {
         id: StreamId,
         payload_type: PayloadProtocolIdentifier,
     ) -> Reply
-        ensures { ChangedAt side self.old self.new }
+        ensures { AtSide side self.old (λ a b. Opens a id payload_type result b) self.new }
     {
         match side {
             Side2::A => calls::open_stream(&mut self.a, id, payload_type),
@@ -167,7 +169,7 @@ impl Pair {
     }
 
     fn stream(&mut self, side: Side2, id: StreamId) -> Reply
-        ensures { ChangedAt side self.old self.new }
+        ensures { AtSide side self.old (λ a b. Finds a id result b) self.new }
     {
         match side {
             Side2::A => calls::find_stream(&mut self.a, id),
@@ -176,7 +178,7 @@ impl Pair {
     }
 
     fn write(&mut self, side: Side2, id: StreamId, bytes: &Bytes) -> Reply
-        ensures { ChangedAt side self.old self.new }
+        ensures { AtSide side self.old (λ a b. Writes a id bytes.now result b) self.new }
     {
         match side {
             Side2::A => calls::write(&mut self.a, id, bytes),
@@ -185,7 +187,7 @@ impl Pair {
     }
 
     fn read(&mut self, side: Side2, id: StreamId) -> Reply
-        ensures { ChangedAt side self.old self.new }
+        ensures { AtSide side self.old (λ a b. Reads a id result b) self.new }
     {
         match side {
             Side2::A => calls::read(&mut self.a, id),
@@ -194,7 +196,7 @@ impl Pair {
     }
 
     fn buffered_amount(&mut self, side: Side2, id: StreamId) -> Reply
-        ensures { ChangedAt side self.old self.new }
+        ensures { AtSide side self.old (λ a b. Buffers a id result b) self.new }
     {
         match side {
             Side2::A => calls::buffered_amount(&mut self.a, id),
@@ -203,7 +205,7 @@ impl Pair {
     }
 
     fn poll(&mut self, side: Side2) -> Reply
-        ensures { ChangedAt side self.old self.new }
+        ensures { AtSide side self.old (λ a b. Tells a result b) self.new }
     {
         match side {
             Side2::A => calls::poll(&mut self.a),
@@ -212,7 +214,7 @@ impl Pair {
     }
 
     fn poll_transmit(&mut self, side: Side2, now: Instant) -> Reply
-        ensures { StepsAt side self.old self.new }
+        ensures { SendsAt side self.old now result self.new }
     {
         match side {
             Side2::A => calls::poll_transmit(&mut self.a, &mut self.packets_a, now),
@@ -221,7 +223,7 @@ impl Pair {
     }
 
     fn handle_timeout(&mut self, side: Side2, now: Instant) -> Reply
-        ensures { ChangedAt side self.old self.new }
+        ensures { AtSide side self.old (λ a b. Expires a now result b) self.new }
     {
         match side {
             Side2::A => calls::handle_timeout(&mut self.a, now),
@@ -230,7 +232,7 @@ impl Pair {
     }
 
     fn deliver(&mut self, side: Side2, number: u64, now: Instant) -> Reply
-        ensures { ChangedAt side self.old self.new }
+        ensures { ComesTo side self.old number now result self.new }
     {
         match side {
             Side2::A => calls::deliver(

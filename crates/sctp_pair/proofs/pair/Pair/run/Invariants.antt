@@ -1,8 +1,10 @@
-use Rattle.std.proofs.Common.{◌≡◌, length, vec_len, vec_capacity}
+use Rattle.std.proofs.Common.{◌≡◌, length, take, vec_len, vec_capacity}
+use Rattle.sctp_pair.specs.Steps.{Runs}
 use Rattle.sctp_pair.proofs.pair.Pair.run.Given as goal
 
 abbrev pub invariant-loop-step : goal.invariant-loop-step
 invariant-loop-step l = record {
   room : vec_capacity l.replies ≡ length l.steps;
   count : vec_len l.replies ≡ l.step-index;
+  run : Runs (take l.step-index l.steps) l.replies.items l.fn.self l.self;
 }

@@ -1,0 +1,186 @@
+-- What a step of a pair does and replies.
+use Rattle.std.specs.Prelude.{◌≡◌, ◌⊎◌, ℕ, Bool, true, false, not, is_some, if◌then◌else◌, List, [], ◌∷◌, ◌++◌, ◌*◌, length, take, slice_get, option_to_list, nat_lt, ◌<◌, Option, Some, None, Result, Ok, Err}
+use Rattle.std.specs.Duration.{as_nanos}
+use Rattle.sctp_wire_types.specs.declared.error.Error.{Error}
+use Rattle.sctp_wire_types.specs.declared.error.Error.TheVariants as errors
+use Rattle.sctp_wire_types.specs.declared.ids.PayloadProtocolIdentifier.{PayloadProtocolIdentifier}
+use Rattle.sctp_wire_types.specs.Errors.{refusal_number}
+use Rattle.sctp_wire.specs.declared.packet.Packet.{Packet}
+use Rattle.sctp_wire.specs.Packets.{packet_at}
+use Rattle.sctp_assoc.specs.Calls.{after_timeouts, buffered_of, deadline_of, has_begun_closing, is_closed_state, open_refusal, opened, read_from_stream, stream_refusal, write_refusal, written}
+use Rattle.sctp_assoc.specs.Chunks.{after_packet}
+use Rattle.sctp_assoc.specs.Inbound.{taken_packet}
+use Rattle.sctp_assoc.specs.Polled.{polled}
+use Rattle.sctp_assoc.specs.Shown.{HasFailed, Shown}
+use Rattle.sctp_pair.specs.declared.step.Reply.{Reply}
+use Rattle.sctp_pair.specs.declared.step.Reply.TheVariants as replies
+use Rattle.sctp_pair.specs.declared.step.Side2.{Side2}
+use Rattle.sctp_pair.specs.declared.step.Side2.TheVariants as sides
+use Rattle.sctp_pair.specs.declared.step.Step.{Step}
+use Rattle.sctp_pair.specs.declared.step.Step.TheVariants as steps
+use Rattle.sctp_pair.specs.Ends.{Ends}
+
+-- One call of one association: a is what it was, b what it is then.
+
+-- the number under which this refusal is reported
+abbrev pub IsNumberOf : Option Error → ℕ → Type 0
+IsNumberOf None n = ⊥
+IsNumberOf (Some e) n = n ≡ refusal_number e
+
+-- the same, or that of want of memory where nothing else refuses the call
+abbrev pub IsNumberOrMemory : Option Error → ℕ → Type 0
+IsNumberOrMemory None n = n ≡ refusal_number errors.ErrNoMemory
+IsNumberOrMemory (Some e) n = n ≡ refusal_number e
+
+-- a call of a stream is refused where the stream is, else for a reason of its own
+abbrev pub first_refusal : Option Error → Option Error → Option Error
+first_refusal None own = own
+first_refusal (Some e) own = Some e
+
+abbrev pub Opens : Shown → ℕ → PayloadProtocolIdentifier → Reply → Shown → Type 0
+Opens a id kind replies.Done b = (open_refusal a id ≡ None) × (b ≡ opened a id kind)
+Opens a id kind (replies.Refused n) b = IsNumberOrMemory (open_refusal a id) n × (b ≡ a)
+Opens a id kind _ b = ⊥
+
+abbrev pub Finds : Shown → ℕ → Reply → Shown → Type 0
+Finds a id replies.Done b = (stream_refusal a id ≡ None) × (b ≡ a)
+Finds a id (replies.Refused n) b = IsNumberOf (stream_refusal a id) n × (b ≡ a)
+Finds a id _ b = ⊥
+
+abbrev pub refusal_to_write : Shown → ℕ → ℕ → Option Error
+refusal_to_write a id size = first_refusal (stream_refusal a id) (write_refusal a id size)
+
+abbrev pub Writes : Shown → ℕ → List ℕ → Reply → Shown → Type 0
+Writes a id bytes (replies.Wrote n) b =
+    (refusal_to_write a id (length bytes) ≡ None) × (n ≡ length bytes) × (b ≡ written a id bytes)
+Writes a id bytes (replies.Refused n) b = IsNumberOrMemory (refusal_to_write a id (length bytes)) n × (b ≡ a)
+Writes a id bytes _ b = ⊥
+
+abbrev pub Reads : Shown → ℕ → Reply → Shown → Type 0
+Reads a id (replies.Read message) b = (stream_refusal a id ≡ None) × (read_from_stream a id ≡ (b, message))
+Reads a id (replies.Refused n) b = IsNumberOf (stream_refusal a id) n × (b ≡ a)
+Reads a id _ b = ⊥
+
+abbrev pub Buffers : Shown → ℕ → Reply → Shown → Type 0
+Buffers a id (replies.BufferedAmount n) b = (buffered_of a id ≡ Ok n) × (b ≡ a)
+Buffers a id (replies.Refused n) b = IsNumberOf (stream_refusal a id) n × (b ≡ a)
+Buffers a id _ b = ⊥
+
+-- the call is refused because the association failed before, and changes nothing
+abbrev pub HadFailed : Shown → ℕ → Shown → Type 0
+HadFailed a n b = (a.failed ≡ true) × (n ≡ refusal_number errors.ErrAssociationFailed) × (b ≡ a)
+
+-- the oldest event is taken out
+abbrev pub Tells : Shown → Reply → Shown → Type 0
+Tells a (replies.Event event) b =
+    (a.failed ≡ false) × (event ≡ slice_get a.events 0) × (a ≡ record b { events = option_to_list event ++ b.events })
+Tells a (replies.Refused n) b = HadFailed a n b
+Tells a _ b = ⊥
+
+abbrev pub Expires : Shown → ℕ → Reply → Shown → Type 0
+Expires a now replies.Done b = (a.failed ≡ false) × (b ≡ after_timeouts a now)
+Expires a now (replies.Refused n) b = HadFailed a n b
+Expires a now _ b = ⊥
+
+-- memory was refused in the middle of a call, and the association failed
+abbrev pub Fails : Shown → ℕ → Shown → Type 0
+Fails a n b = (n ≡ refusal_number errors.ErrNoMemory) × HasFailed a.state a.lost b
+
+-- of the packets of a poll those for which room was refused are lost, and all behind them
+abbrev pub LosesSome : Shown → List (List ℕ) → ℕ → ℕ → Shown → List (List ℕ) → Type 0
+LosesSome a packets now n b more =
+    (n ≡ refusal_number errors.ErrNoMemory) × ((polled a now).0 ≡ b)
+    × ((kept : ℕ) × (more ≡ packets ++ take kept (polled a now).1))
+
+-- packets get the next numbers of their side, or a front of them where room is refused
+abbrev pub Keeps : List (List ℕ) → List (List ℕ) → Reply → List (List ℕ) → Type 0
+Keeps packets given replies.NothingSent more = (given ≡ []) × (more ≡ packets)
+Keeps packets given (replies.Sent first count) more =
+    (first ≡ length packets) × (count ≡ length given) × (more ≡ packets ++ given)
+Keeps packets given (replies.Refused n) more =
+    (n ≡ refusal_number errors.ErrNoMemory) × ((kept : ℕ) × (more ≡ packets ++ take kept given))
+Keeps packets given _ more = ⊥
+
+-- a poll for packets: they get the next numbers of their side
+abbrev pub GivesOut : Shown → List (List ℕ) → ℕ → Reply → Shown → List (List ℕ) → Type 0
+GivesOut a packets now replies.NothingSent b more = (a.failed ≡ false) × (polled a now ≡ (b, [])) × (more ≡ packets)
+GivesOut a packets now (replies.Sent first count) b more =
+    (a.failed ≡ false) × (first ≡ length packets) × (count ≡ length (polled a now).1) × ((polled a now).0 ≡ b)
+    × (more ≡ packets ++ (polled a now).1)
+GivesOut a packets now (replies.Refused n) b more =
+    (HadFailed a n b × (more ≡ packets)) ⊎ ((Fails a n b × (more ≡ packets)) ⊎ LosesSome a packets now n b more)
+GivesOut a packets now _ b more = ⊥
+
+-- the packet that a datagram spells; none where it does not decode or is refused as a packet
+abbrev pub packet_in : List ℕ → Option Packet
+packet_in bytes = taken_packet (packet_at bytes)
+
+-- a packet comes, or a datagram that spells none
+abbrev pub TakesPacket : Shown → Option Packet → ℕ → Reply → Shown → Type 0
+TakesPacket a packet now replies.Done b = b ≡ after_packet a packet now
+TakesPacket a packet now (replies.Refused n) b =
+    HadFailed a n b ⊎ (Fails a n b ⊎ ((n ≡ refusal_number errors.ErrNoMemory) × (b ≡ a)))
+TakesPacket a packet now _ b = ⊥
+
+-- a datagram comes
+abbrev pub TakesIn : Shown → List ℕ → ℕ → Reply → Shown → Type 0
+TakesIn a bytes now reply b = TakesPacket a (packet_in bytes) now reply b
+
+-- of the packets that the other side gave out, this one comes, if there is one
+abbrev pub Delivers : Shown → Option (List ℕ) → ℕ → Reply → Shown → Type 0
+Delivers a None now replies.NoSuchPacket b = b ≡ a
+Delivers a None now _ b = ⊥
+Delivers a (Some bytes) now reply b = TakesIn a bytes now reply b
+
+-- a question is answered and changes nothing
+abbrev pub Answers : Shown → Reply → Reply → Shown → Type 0
+Answers a answer reply b = (reply ≡ answer) × (b ≡ a)
+
+-- Steps of a pair: p is what it was, q what it is then.
+
+-- one side's association changes so, and nothing else
+abbrev pub AtSide : Side2 → Ends → (Shown → Shown → Type 0) → Ends → Type 0
+AtSide sides.A p Changes q = Changes p.a q.a × (q ≡ record p { a = q.a })
+AtSide sides.B p Changes q = Changes p.b q.b × (q ≡ record p { b = q.b })
+
+-- one side polls for packets
+abbrev pub SendsAt : Side2 → Ends → ℕ → Reply → Ends → Type 0
+SendsAt sides.A p now r q =
+    GivesOut p.a p.packets_a now r q.a q.packets_a × (q ≡ record p { a = q.a; packets_a = q.packets_a })
+SendsAt sides.B p now r q =
+    GivesOut p.b p.packets_b now r q.b q.packets_b × (q ≡ record p { b = q.b; packets_b = q.packets_b })
+
+-- a packet of the other side comes to a side
+abbrev pub ComesTo : Side2 → Ends → ℕ → ℕ → Reply → Ends → Type 0
+ComesTo sides.A p number now r q = Delivers p.a (slice_get p.packets_b number) now r q.a × (q ≡ record p { a = q.a })
+ComesTo sides.B p number now r q = Delivers p.b (slice_get p.packets_a number) now r q.b × (q ≡ record p { b = q.b })
+
+abbrev pub Measures : Shown → Reply → Shown → Type 0
+Measures a (replies.Rtt duration) b = (as_nanos duration ≡ a.estimate.rto * 1000000) × (b ≡ a)
+Measures a _ b = ⊥
+
+-- what a step does to a pair and replies
+abbrev pub Steps : Step → Ends → Reply → Ends → Type 0
+Steps (steps.OpenStream side id kind) p r q = AtSide side p (λ a b. Opens a id kind r b) q
+Steps (steps.Stream side id) p r q = AtSide side p (λ a b. Finds a id r b) q
+Steps (steps.Write side id bytes) p r q = AtSide side p (λ a b. Writes a id bytes r b) q
+Steps (steps.Read side id) p r q = AtSide side p (λ a b. Reads a id r b) q
+Steps (steps.BufferedAmount side id) p r q = AtSide side p (λ a b. Buffers a id r b) q
+Steps (steps.Poll side) p r q = AtSide side p (λ a b. Tells a r b) q
+Steps (steps.PollTimeout side) p r q = AtSide side p (λ a b. Answers a (replies.Timeout (deadline_of a)) r b) q
+Steps (steps.PollTransmit side now) p r q = SendsAt side p now r q
+Steps (steps.HandleTimeout side now) p r q = AtSide side p (λ a b. Expires a now r b) q
+Steps (steps.Deliver side number now) p r q = ComesTo side p number now r q
+Steps (steps.IsHandshaking side) p r q = AtSide side p (λ a b. Answers a (replies.State (not a.handshake.completed)) r b) q
+Steps (steps.IsClosed side) p r q = AtSide side p (λ a b. Answers a (replies.State (is_closed_state a.state)) r b) q
+Steps (steps.IsClosing side) p r q = AtSide side p (λ a b. Answers a (replies.State (has_begun_closing a)) r b) q
+Steps (steps.IsDrained side) p r q = AtSide side p (λ a b. Answers a (replies.State a.lost) r b) q
+Steps (steps.IsFailed side) p r q = AtSide side p (λ a b. Answers a (replies.State a.failed) r b) q
+Steps (steps.Rtt side) p r q = AtSide side p (λ a b. Measures a r b) q
+
+-- the steps, with these replies, lead from p to q
+abbrev pub Runs : List Step → List Reply → Ends → Ends → Type 0
+Runs [] [] p q = q ≡ p
+Runs (s ∷ ss) (r ∷ rs) p q = (u : Ends) × Steps s p r u × Runs ss rs u q
+Runs [] (r ∷ rs) p q = ⊥
+Runs (s ∷ ss) [] p q = ⊥
