@@ -4,7 +4,7 @@ use Rattle.std.proofs.lemmas.Bool.{cases_Bool, cases_eq, and_parts, or_cases, or
 use Rattle.sctp_model.specs.Messages.{Plan, IsAt, place_at, bytes_at, bytes_below}
 use Rattle.sctp_model.specs.Packets.{Data, Sack, Forward, mem, names, data_at}
 use Rattle.sctp_model.specs.Reassembly.{Queue, Got, Taken, next, push, push_ordered, push_unordered}
-use Rattle.sctp_model.specs.Machine.{Direction, put, live, point, sack_of, is_new, took, moved, newly, acknowledged_by, gone_front, forward_of, opened, can_resend}
+use Rattle.sctp_model.specs.Machine.{Direction, put, live, point, sack_of, is_new, took, moved, passes, newly, acknowledged_by, gone_front, forward_of, opened, can_resend}
 use Rattle.sctp_model.specs.Safe.{IsWithin}
 use Rattle.sctp_model.specs.Invariants.{Invariant, IsPlanned, IsEarlier, IsPiece, IsHonest, IsForward, IsStream, NoneGone, gone_at}
 use Rattle.sctp_model.proofs.Basics.{point_from, point_below, point_grows, sack_named}
@@ -16,8 +16,8 @@ use Rattle.sctp_model.proofs.Skipping.{stream_forwarded}
 use Rattle.sctp_model.proofs.OneRead.{stream_read}
 use Rattle.sctp_model.proofs.Forwarding.{forward_made, forward_taken}
 
-abbrev StreamWith : Direction → (ℕ → ℕ) → List ℕ → ℕ → ℕ → Queue → List Got → Type 0
-StreamWith w ssn taken passed s q reads = IsStream w.sender.plan w.sender.gone w.sender.current (w.sender.next s) (ssn s) taken passed s q reads
+abbrev StreamWith : Direction → (ℕ → ℕ) → List ℕ → ℕ → ℕ → ℕ → Queue → List Got → Type 0
+StreamWith w ssn taken passed skipped s q reads = IsStream w.sender.plan w.sender.gone w.sender.current (w.sender.next s) (ssn s) taken passed skipped s q reads
 
 pub keeps_resend : (w : Direction) (o : ℕ) → can_resend w.sender.plan o ≡ true → Invariant w
     → Invariant (record w { datas = w.datas ++ data_at w.sender.plan o ∷ [] })
@@ -161,18 +161,18 @@ keeps_data_comes w d piece new l h = record {
   released = h.released;
   streams = λ s v. ⊎_elim
       (λ (e : s ≡ d.stream).
-      subst (λ z. StreamWith w w.sender.ssn (d.offset ∷ w.receiver.taken) w.receiver.passed s (live z) (w.reads s))
+      subst (λ z. StreamWith w w.sender.ssn (d.offset ∷ w.receiver.taken) w.receiver.passed (w.skipped s) s (live z) (w.reads s))
       (sym (at_put w.receiver.queues d.stream s (Some (push (live (w.receiver.queues d.stream)) d)) e))
-      (subst (λ z. StreamWith w w.sender.ssn (d.offset ∷ w.receiver.taken) w.receiver.passed s (push (live (w.receiver.queues z)) d) (w.reads s)) e
-      (push_cases (λ z. StreamWith w w.sender.ssn (d.offset ∷ w.receiver.taken) w.receiver.passed s z (w.reads s)) (live (w.receiver.queues s)) d
-      (λ k. stream_pushed p w.over w.sender.gone w.sender.current (w.sender.next s) (w.sender.ssn s) w.receiver.taken w.receiver.passed s (live (w.receiver.queues s)) (w.reads s) d
+      (subst (λ z. StreamWith w w.sender.ssn (d.offset ∷ w.receiver.taken) w.receiver.passed (w.skipped s) s (push (live (w.receiver.queues z)) d) (w.reads s)) e
+      (push_cases (λ z. StreamWith w w.sender.ssn (d.offset ∷ w.receiver.taken) w.receiver.passed (w.skipped s) s z (w.reads s)) (live (w.receiver.queues s)) d
+      (λ k. stream_pushed p w.over w.sender.gone w.sender.current (w.sender.next s) (w.sender.ssn s) w.receiver.taken w.receiver.passed (w.skipped s) s (live (w.receiver.queues s)) (w.reads s) d
       h.planned piece (here s true e k) unknown (let a = point_from w.receiver in omega (arith, past)) (l.unread s) (h.streams s v))
-      (λ k. stream_settled p w.over w.sender.gone w.sender.current (w.sender.next s) (w.sender.ssn s) w.receiver.taken w.receiver.passed s (live (w.receiver.queues s)) (w.reads s) d
+      (λ k. stream_settled p w.over w.sender.gone w.sender.current (w.sender.next s) (w.sender.ssn s) w.receiver.taken w.receiver.passed (w.skipped s) s (live (w.receiver.queues s)) (w.reads s) d
       h.planned piece (here s false e k) unknown (h.streams s v)))))
       (λ (ne : s ≡ d.stream → ⊥).
-      subst (λ z. StreamWith w w.sender.ssn (d.offset ∷ w.receiver.taken) w.receiver.passed s (live z) (w.reads s))
+      subst (λ z. StreamWith w w.sender.ssn (d.offset ∷ w.receiver.taken) w.receiver.passed (w.skipped s) s (live z) (w.reads s))
       (sym (off_put w.receiver.queues d.stream s (Some (push (live (w.receiver.queues d.stream)) d)) ne))
-      (stream_aside p w.sender.gone w.sender.current (w.sender.next s) (w.sender.ssn s) w.receiver.taken w.receiver.passed s d.offset (live (w.receiver.queues s)) (w.reads s)
+      (stream_aside p w.sender.gone w.sender.current (w.sender.next s) (w.sender.ssn s) w.receiver.taken w.receiver.passed (w.skipped s) s d.offset (live (w.receiver.queues s)) (w.reads s)
       (λ e. ne (sym e ∙ sym stream)) (h.streams s v)))
       (cases_eq s d.stream);
 }
@@ -201,7 +201,7 @@ keeps_data_comes w d piece new l h = record {
 -- A FORWARD TSN is taken
 
 pub keeps_forward_comes : (w : Direction) (f : Forward) → IsForward w.sender.plan w.sender.gone w.over w.receiver.taken f → point w.receiver < f.point → IsWithin w → Invariant w
-    → Invariant (record w { receiver = moved w.receiver f })
+    → Invariant (passes w f)
 keeps_forward_comes w f t far l h = record {
   planned = h.planned;
   sending = h.sending;
@@ -221,7 +221,7 @@ keeps_forward_comes w f t far l h = record {
   behind = let a = h.behind in let b = further in omega arith;
   forwards = h.forwards;
   released = h.released;
-  streams = λ s v. stream_forwarded w.sender.plan w.over w.sender.current w.sender.next w.sender.ssn w.sender.begun w.sender.gone w.receiver.taken w.receiver.passed s
+  streams = λ s v. stream_forwarded w.sender.plan w.over w.sender.current w.sender.next w.sender.ssn w.sender.begun w.sender.gone w.receiver.taken w.receiver.passed (w.skipped s) s
       (w.receiver.queues s) (w.reads s) f h.planned v h.sending t h.tails (let b = point_from w.receiver in omega arith)
       (let a = l.flight in let b = h.behind in omega arith) (l.unread s) (h.streams s v);
 }
@@ -251,15 +251,15 @@ keeps_read w s q t is e l h = record {
   released = h.released;
   streams = λ r v. ⊎_elim
       (λ (a : r ≡ s).
-      subst (λ z. StreamWith w w.sender.ssn w.receiver.taken w.receiver.passed r (live z) (put w.reads s (w.reads s ++ t.got ∷ []) r)) (sym (at_put w.receiver.queues s r (Some t.rest) a))
-      (subst (λ z. StreamWith w w.sender.ssn w.receiver.taken w.receiver.passed r t.rest z) (sym (at_put w.reads s r (w.reads s ++ t.got ∷ []) a))
-      (subst (λ z. StreamWith w w.sender.ssn w.receiver.taken w.receiver.passed z t.rest (w.reads s ++ t.got ∷ [])) (sym a)
-      (stream_read w.sender.plan w.over w.sender.current w.sender.next w.sender.ssn w.sender.begun w.sender.gone w.receiver.taken w.receiver.passed s q (w.reads s) t
+      subst (λ z. StreamWith w w.sender.ssn w.receiver.taken w.receiver.passed (w.skipped r) r (live z) (put w.reads s (w.reads s ++ t.got ∷ []) r)) (sym (at_put w.receiver.queues s r (Some t.rest) a))
+      (subst (λ z. StreamWith w w.sender.ssn w.receiver.taken w.receiver.passed (w.skipped r) r t.rest z) (sym (at_put w.reads s r (w.reads s ++ t.got ∷ []) a))
+      (subst (λ z. StreamWith w w.sender.ssn w.receiver.taken w.receiver.passed (w.skipped z) z t.rest (w.reads s ++ t.got ∷ [])) (sym a)
+      (stream_read w.sender.plan w.over w.sender.current w.sender.next w.sender.ssn w.sender.begun w.sender.gone w.receiver.taken w.receiver.passed (w.skipped s) s q (w.reads s) t
       h.planned (subst (λ z. w.over z ≡ false) a v) h.sending (λ o m. (h.taken o m).0) (l.unread s)
-      (subst (λ z. StreamWith w w.sender.ssn w.receiver.taken w.receiver.passed s (live z) (w.reads s)) is (h.streams s (subst (λ z. w.over z ≡ false) a v))) e))))
+      (subst (λ z. StreamWith w w.sender.ssn w.receiver.taken w.receiver.passed (w.skipped s) s (live z) (w.reads s)) is (h.streams s (subst (λ z. w.over z ≡ false) a v))) e))))
       (λ (ne : r ≡ s → ⊥).
-      subst (λ z. StreamWith w w.sender.ssn w.receiver.taken w.receiver.passed r (live z) (put w.reads s (w.reads s ++ t.got ∷ []) r)) (sym (off_put w.receiver.queues s r (Some t.rest) ne))
-      (subst (λ z. StreamWith w w.sender.ssn w.receiver.taken w.receiver.passed r (live (w.receiver.queues r)) z) (sym (off_put w.reads s r (w.reads s ++ t.got ∷ []) ne))
+      subst (λ z. StreamWith w w.sender.ssn w.receiver.taken w.receiver.passed (w.skipped r) r (live z) (put w.reads s (w.reads s ++ t.got ∷ []) r)) (sym (off_put w.receiver.queues s r (Some t.rest) ne))
+      (subst (λ z. StreamWith w w.sender.ssn w.receiver.taken w.receiver.passed (w.skipped r) r (live (w.receiver.queues r)) z) (sym (off_put w.reads s r (w.reads s ++ t.got ∷ []) ne))
       (h.streams r v)))
       (cases_eq r s);
 }
@@ -282,10 +282,10 @@ keeps_queue w s q same h = record {
   released = h.released;
   streams = λ r v. ⊎_elim
       (λ (a : r ≡ s).
-      subst (λ z. StreamWith w w.sender.ssn w.receiver.taken w.receiver.passed r (live z) (w.reads r)) (sym (at_put w.receiver.queues s r q a))
-      (subst (λ z. StreamWith w w.sender.ssn w.receiver.taken w.receiver.passed r z (w.reads r))
+      subst (λ z. StreamWith w w.sender.ssn w.receiver.taken w.receiver.passed (w.skipped r) r (live z) (w.reads r)) (sym (at_put w.receiver.queues s r q a))
+      (subst (λ z. StreamWith w w.sender.ssn w.receiver.taken w.receiver.passed (w.skipped r) r z (w.reads r))
       (ap (λ z. live (w.receiver.queues z)) a ∙ sym (same (subst (λ z. w.over z ≡ false) a v))) (h.streams r v)))
-      (λ (ne : r ≡ s → ⊥). subst (λ z. StreamWith w w.sender.ssn w.receiver.taken w.receiver.passed r (live z) (w.reads r)) (sym (off_put w.receiver.queues s r q ne)) (h.streams r v))
+      (λ (ne : r ≡ s → ⊥). subst (λ z. StreamWith w w.sender.ssn w.receiver.taken w.receiver.passed (w.skipped r) r (live z) (w.reads r)) (sym (off_put w.receiver.queues s r q ne)) (h.streams r v))
       (cases_eq r s);
 }
 
@@ -386,7 +386,7 @@ keeps_restart w s over h = record {
   behind = h.behind;
   forwards = h.forwards;
   released = h.released;
-  streams = λ t v. subst (λ z. IsStream w.sender.plan w.sender.gone w.sender.current (w.sender.next t) z w.receiver.taken w.receiver.passed t (live (w.receiver.queues t)) (w.reads t))
+  streams = λ t v. subst (λ z. IsStream w.sender.plan w.sender.gone w.sender.current (w.sender.next t) z w.receiver.taken w.receiver.passed (w.skipped t) t (live (w.receiver.queues t)) (w.reads t))
       (sym (same t v)) (h.streams t v);
 }
   where

@@ -1,5 +1,5 @@
 -- A FORWARD TSN that the sender makes is true, and stays so.
-use Rattle.std.proofs.Common.{ℕ, zero, suc, ◌+◌, ◌-◌, ◌%◌, ◌<◌, ◌≤◌, ◌≡◌, ◌⊎◌, Bool, true, false, cond, eqb, List, [], ◌∷◌, length, drop, get_or, Option, Some, None, refl, sym, ap, ◌∙◌, subst, inl, inr, ⊎_elim, arith}
+use Rattle.std.proofs.Common.{ℕ, zero, suc, ◌+◌, ◌-◌, ◌<◌, ◌≤◌, ◌≡◌, ◌⊎◌, Bool, true, false, cond, eqb, List, [], ◌∷◌, length, drop, get_or, Option, Some, None, refl, sym, ap, ◌∙◌, subst, inl, inr, ⊎_elim, arith}
 use Rattle.std.proofs.lemmas.List.{length-drop, get_or-drop}
 use Rattle.std.proofs.lemmas.Bool.{cases_Bool, cases_lt, and_parts, and_from, eqb-true, eq-eqb, true≢false, cond-true, cond-false}
 use Rattle.sctp_model.specs.Messages.{Place, Plan, IsAt, no_place, place_at, message_of, is_last}
@@ -102,13 +102,13 @@ among_same x (y ∷ ys) j l = ⊎_elim
 pub record IsLastOf (p : Plan) (s : ℕ) (ys : List Place) (m j : ℕ) : Type 0 where
   pub within : j < length ys
   pub here : is_ordered_of p s (get_or ys j no_place) ≡ true
-  pub is : m ≡ (get_or ys j no_place).ssn % 65536
+  pub is : m ≡ (get_or ys j no_place).ssn
   pub none_later : (k : ℕ) → j < k → k < length ys → is_ordered_of p s (get_or ys k no_place) ≡ false
 
 last_of : (p : Plan) (s m : ℕ) (ys : List Place) (found : Option ℕ) → last_ssn p s ys found ≡ Some m
     → ((found ≡ Some m) × ((k : ℕ) → k < length ys → is_ordered_of p s (get_or ys k no_place) ≡ false)) ⊎ ((j : ℕ) × IsLastOf p s ys m j)
 last_of p s m [] found e = inl (e, λ k l. absurd (omega arith))
-last_of p s m (y ∷ ys) found e = go (last_of p s m ys (cond (is_ordered_of p s y) (Some (y.ssn % 65536)) found) e)
+last_of p s m (y ∷ ys) found e = go (last_of p s m ys (cond (is_ordered_of p s y) (Some y.ssn) found) e)
   where
     first : ((k : ℕ) → k < length ys → is_ordered_of p s (get_or ys k no_place) ≡ false) → (k : ℕ) → 0 < k → k < suc (length ys)
         → is_ordered_of p s (get_or (y ∷ ys) k no_place) ≡ false
@@ -128,7 +128,7 @@ last_of p s m (y ∷ ys) found e = go (last_of p s m ys (cond (is_ordered_of p s
     some_same : (a b : ℕ) → Some a ≡ Some b → a ≡ b
     some_same a b h = cc
 
-    go : ((cond (is_ordered_of p s y) (Some (y.ssn % 65536)) found ≡ Some m) × ((k : ℕ) → k < length ys → is_ordered_of p s (get_or ys k no_place) ≡ false))
+    go : ((cond (is_ordered_of p s y) (Some y.ssn) found ≡ Some m) × ((k : ℕ) → k < length ys → is_ordered_of p s (get_or ys k no_place) ≡ false))
         ⊎ ((j : ℕ) × IsLastOf p s ys m j)
         → ((found ≡ Some m) × ((k : ℕ) → k < suc (length ys) → is_ordered_of p s (get_or (y ∷ ys) k no_place) ≡ false)) ⊎ ((j : ℕ) × IsLastOf p s (y ∷ ys) m j)
     go (inl r) = ⊎_elim
@@ -137,11 +137,11 @@ last_of p s m (y ∷ ys) found e = go (last_of p s m ys (cond (is_ordered_of p s
           record {
             within = omega arith;
             here = b;
-            is = sym (some_same _ _ (sym (cond-true (is_ordered_of p s y) (Some (y.ssn % 65536)) found b) ∙ r.0));
+            is = sym (some_same _ _ (sym (cond-true (is_ordered_of p s y) (Some y.ssn) found b) ∙ r.0));
             none_later = first r.1;
           },
         ))
-        (λ (b : is_ordered_of p s y ≡ false). inl (sym (cond-false (is_ordered_of p s y) (Some (y.ssn % 65536)) found b) ∙ r.0, all b r.1))
+        (λ (b : is_ordered_of p s y ≡ false). inl (sym (cond-false (is_ordered_of p s y) (Some y.ssn) found b) ∙ r.0, all b r.1))
         (cases_Bool (is_ordered_of p s y))
     go (inr r) =
         let k = r.1 in
@@ -160,20 +160,20 @@ kept_some : (p : Plan) (s m : ℕ) (ys : List Place) → (k : ℕ) × (last_ssn 
 kept_some p s m [] = (m, refl)
 kept_some p s m (y ∷ ys) = ⊎_elim
     (λ (b : is_ordered_of p s y ≡ true).
-    let r = kept_some p s (y.ssn % 65536) ys in
-    (r.0, ap (last_ssn p s ys) (cond-true (is_ordered_of p s y) (Some (y.ssn % 65536)) (Some m) b) ∙ r.1))
+    let r = kept_some p s y.ssn ys in
+    (r.0, ap (last_ssn p s ys) (cond-true (is_ordered_of p s y) (Some y.ssn) (Some m) b) ∙ r.1))
     (λ (b : is_ordered_of p s y ≡ false).
     let r = kept_some p s m ys in
-    (r.0, ap (last_ssn p s ys) (cond-false (is_ordered_of p s y) (Some (y.ssn % 65536)) (Some m) b) ∙ r.1))
+    (r.0, ap (last_ssn p s ys) (cond-false (is_ordered_of p s y) (Some y.ssn) (Some m) b) ∙ r.1))
     (cases_Bool (is_ordered_of p s y))
 
 found_some : (p : Plan) (s : ℕ) (ys : List Place) (found : Option ℕ) (j : ℕ) → j < length ys → is_ordered_of p s (get_or ys j no_place) ≡ true
     → (k : ℕ) × (last_ssn p s ys found ≡ Some k)
 found_some p s [] found j l h = absurd (omega arith)
 found_some p s (y ∷ ys) found zero l h =
-    let r = kept_some p s (y.ssn % 65536) ys in
-    (r.0, ap (last_ssn p s ys) (cond-true (is_ordered_of p s y) (Some (y.ssn % 65536)) found h) ∙ r.1)
-found_some p s (y ∷ ys) found (suc j) l h = found_some p s ys (cond (is_ordered_of p s y) (Some (y.ssn % 65536)) found) j (omega arith) h
+    let r = kept_some p s y.ssn ys in
+    (r.0, ap (last_ssn p s ys) (cond-true (is_ordered_of p s y) (Some y.ssn) found h) ∙ r.1)
+found_some p s (y ∷ ys) found (suc j) l h = found_some p s ys (cond (is_ordered_of p s y) (Some y.ssn) found) j (omega arith) h
 
 pub forward_made : (x : Sender) (over : ℕ → Bool) (taken : List ℕ) → IsPlanned x.plan over
     → IsSending x.plan x.current x.next x.ssn x.begun x.gone over
@@ -250,7 +250,7 @@ forward_made x over taken h g below flight some = record {
       from = omega arith;
       below = omega (arith, k.within);
       at = record { known = omega (arith, k.within, known); stream = eqb-true _ _ parts.0; kind = parts.1 };
-      is = k.is ∙ ap (λ z. z.ssn % 65536) found;
+      is = k.is ∙ ap (λ z. z.ssn) found;
       last = up_to;
     }
       where
@@ -290,7 +290,7 @@ forward_made x over taken h g below flight some = record {
       below = omega (arith, k.within);
       at = at_offset;
       given_up = gone offset (omega arith) (omega (arith, k.within));
-      is = k.is ∙ ap (λ z. z.ssn % 65536) found;
+      is = k.is ∙ ap (λ z. z.ssn) found;
       greatest = λ o a l. (h.pairs s v o offset (up_to o a l) a at_offset).ssn;
       all = λ o a l. ⊎_elim
           (λ (b : o ≤ offset). omega (arith, k.within))
@@ -372,7 +372,7 @@ forward_grows p r gone gone' over taken f e more new h = record {
         from = q.from;
         below = q.below;
         at = at_kept p r e s q.offset true q.at;
-        is = q.is ∙ ap (λ z. z.ssn % 65536) (sym (e.places q.offset at.known));
+        is = q.is ∙ ap (λ z. z.ssn) (sym (e.places q.offset at.known));
         last = λ o a l. q.last o (at_before p r e s o true (let b = h.known in omega arith) a) l;
       };
   reported = λ s m k v.
@@ -385,7 +385,7 @@ forward_grows p r gone gone' over taken f e more new h = record {
         below = q.below;
         at = at_kept p r e s q.offset true q.at;
         given_up = gone_kept q.offset at.known q.given_up;
-        is = q.is ∙ ap (λ z. z.ssn % 65536) (sym same);
+        is = q.is ∙ ap (λ z. z.ssn) (sym same);
         greatest = λ o a l.
             let lo : o < length p.places = (let b = h.known in omega arith) in
             subst (λ z. (place_at r o).ssn ≤ z.ssn) (sym same) (subst (λ z. z.ssn ≤ (place_at p q.offset).ssn) (sym (e.places o lo)) (q.greatest o (at_before p r e s o true lo a) l));

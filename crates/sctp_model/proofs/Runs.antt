@@ -24,7 +24,7 @@ wrap = refl
 
 pub cursor : LateNumberLeavesTheCursor
 unfolding happens
-cursor = (refl, refl, refl)
+cursor = (refl, refl, refl, refl, refl)
 
 pub released : SacksReleaseOnce
 unfolding happens

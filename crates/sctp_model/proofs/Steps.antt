@@ -5,7 +5,7 @@ use Rattle.std.proofs.lemmas.Bool.{and_parts, ltb-true, true≢false, false≢tr
 use Rattle.sctp_model.specs.Messages.{Place, is_reliable, message_at}
 use Rattle.sctp_model.specs.Packets.{Data, Sack, Forward}
 use Rattle.sctp_model.specs.Reassembly.{Queue, Taken, next}
-use Rattle.sctp_model.specs.Machine.{Direction, Event, fresh, happens, run, point, begin, begin_if, can_begin, go_on, can_abandon, is_of, marked, tail_marked, left, unacknowledged, has_message, sack_comes, data_comes, forward_comes, is_new, took, was_read, read, moved, acknowledged_by}
+use Rattle.sctp_model.specs.Machine.{Direction, Event, fresh, happens, run, point, begin, begin_if, can_begin, go_on, can_abandon, is_of, marked, tail_marked, left, unacknowledged, has_message, sack_comes, data_comes, forward_comes, is_new, took, was_read, read, passes, acknowledged_by}
 use Rattle.sctp_model.specs.Safe.{IsWithin, StaysWithin}
 use Rattle.sctp_model.specs.Invariants.{Invariant, IsPiece, IsHonest, IsForward}
 use Rattle.sctp_model.specs.Laws.{OneDirectionIsSafe}
@@ -68,7 +68,7 @@ data_step w n (Some d) e l h = either (w.receiver.is_open && is_new w.receiver d
 
 forward_step : (w : Direction) (n : ℕ) (f : Option Forward) → slice_get w.forwards n ≡ f → IsWithin w → Invariant w → Invariant (forward_comes w f)
 forward_step w n None e l h = h
-forward_step w n (Some f) e l h = either (w.receiver.is_open && ltb (point w.receiver) f.point) (record w { receiver = moved w.receiver f }) w
+forward_step w n (Some f) e l h = either (w.receiver.is_open && ltb (point w.receiver) f.point) (passes w f) w
     (λ b. keeps_forward_comes w f (all_get (IsForward w.sender.plan w.sender.gone w.over w.receiver.taken) w.forwards n f e h.forwards)
     (ltb-true _ _ (and_parts w.receiver.is_open (ltb (point w.receiver) f.point) b).1) l h)
     (λ b. h)
@@ -142,6 +142,7 @@ fresh_holds size some = record {
       cursor = 0;
       is = refl;
       above = omega arith;
+      latest = refl;
       origin = inl refl;
       begun = omega arith;
       going = λ y e. absurd (none_some y e);

@@ -16,7 +16,7 @@ use Rattle.sctp_model.proofs.Forwarding.{forward_grows}
 use Rattle.sctp_model.proofs.Basics.{point_below}
 
 abbrev pub StreamOf : Direction → (ℕ → ℕ → Bool) → ℕ → Type 0
-StreamOf w gone s = IsStream w.sender.plan gone w.sender.current (w.sender.next s) (w.sender.ssn s) w.receiver.taken w.receiver.passed s (live (w.receiver.queues s)) (w.reads s)
+StreamOf w gone s = IsStream w.sender.plan gone w.sender.current (w.sender.next s) (w.sender.ssn s) w.receiver.taken w.receiver.passed (w.skipped s) s (live (w.receiver.queues s)) (w.reads s)
 
 -- offsets past the end that no test knows carry no bytes
 bytes_tail : (r : Plan) (test : ℕ → Bool) (s n k : ℕ) → n ≤ k → ((o : ℕ) → n ≤ o → test o ≡ false) → bytes_below r test s k ≡ bytes_below r test s n
@@ -72,9 +72,9 @@ grow_keeps w r c nx sn bg gone' rl ds h e more planned sending datas tails later
       ∙ sym (bytes_kept w.sender.plan r e w.sender.acknowledged s (length w.sender.plan.places) (omega arith))
       ∙ sym (bytes_tail r w.sender.acknowledged s (length w.sender.plan.places) (length r.places) e.more unknown);
   streams = λ s v.
-      let st = stream_gone w.sender.plan w.sender.gone gone' w.sender.current (w.sender.next s) (w.sender.ssn s) w.receiver.taken w.receiver.passed s
+      let st = stream_gone w.sender.plan w.sender.gone gone' w.sender.current (w.sender.next s) (w.sender.ssn s) w.receiver.taken w.receiver.passed (w.skipped s) s
       (live (w.receiver.queues s)) (w.reads s) more (h.streams s v) in
-      stream_grows w.sender.plan r gone' w.sender.current c (w.sender.next s) (nx s) (w.sender.ssn s) (sn s) w.receiver.taken w.receiver.passed s
+      stream_grows w.sender.plan r gone' w.sender.current c (w.sender.next s) (nx s) (w.sender.ssn s) (sn s) w.receiver.taken w.receiver.passed (w.skipped s) s
       (live (w.receiver.queues s)) (w.reads s) e (λ o m. (h.taken o m).0) planned.filled (h.sending.within s) st (new s v st) (counts s v st);
 }
   where

@@ -1,5 +1,5 @@
 -- What holds of a direction after every event, while its numbers stay within their limits. `IsSafe` is read off from it.
-use Rattle.std.specs.Prelude.{ℕ, suc, ◌+◌, ◌*◌, ◌%◌, ◌<◌, ◌≤◌, ◌≡◌, ◌⊎◌, Bool, true, false, List, ◌++◌, length, map, filter, Option, Some, None}
+use Rattle.std.specs.Prelude.{ℕ, suc, ◌+◌, ◌*◌, ◌%◌, ◌<◌, ◌≤◌, ◌≡◌, ◌⊎◌, max, Bool, true, false, List, ◌++◌, length, map, filter, Option, Some, None}
 use Rattle.std.specs.List.{AllByRecursion}
 use Rattle.sctp_model.specs.Messages.{Place, Plan, IsAt, place_at, message_at, message_of, is_last, is_reliable, rank, bytes_below}
 use Rattle.sctp_model.specs.Packets.{Data, Sack, Forward, mem, names, data_at}
@@ -94,14 +94,14 @@ pub record IsHonest (taken : List ℕ) (passed : ℕ) (at : ℕ) (k : Sack) : Ty
   pub point : k.point ≤ at
   pub named : (o : ℕ) → names k o ≡ true → (mem o taken ≡ true) ⊎ (o < passed)
 
--- the sequence number m that a FORWARD TSN made at the acknowledged point `start` reports for stream s
+-- the sequence number m, before it wraps, that a FORWARD TSN made at the acknowledged point `start` reports for stream s
 pub record IsReported (p : Plan) (gone : ℕ → ℕ → Bool) (s start point m : ℕ) : Type 0 where
   pub offset : ℕ
   pub from : start ≤ offset
   pub below : offset < point
   pub at : IsAt p s true offset
   pub given_up : gone_at p gone offset ≡ true
-  pub is : m ≡ (place_at p offset).ssn % 65536
+  pub is : m ≡ (place_at p offset).ssn
   pub greatest : (o : ℕ) → IsAt p s true o → o < point → (place_at p o).ssn ≤ (place_at p offset).ssn
   pub all : (o : ℕ) → IsAt p s true o → (place_at p o).ssn ≤ (place_at p offset).ssn → o < point
 
@@ -111,7 +111,7 @@ pub record IsLastReported (p : Plan) (s start point m : ℕ) : Type 0 where
   pub from : start ≤ offset
   pub below : offset < point
   pub at : IsAt p s true offset
-  pub is : m ≡ (place_at p offset).ssn % 65536
+  pub is : m ≡ (place_at p offset).ssn
   pub last : (o : ℕ) → IsAt p s true o → o < point → o ≤ offset
 
 -- a FORWARD TSN: each offset below its point was taken in or belongs to an abandoned message, the last of them is an abandoned
@@ -123,11 +123,11 @@ pub record IsForward (p : Plan) (gone : ℕ → ℕ → Bool) (over : ℕ → Bo
   pub near : f.point ≤ start + 16384
   pub accounted : (o : ℕ) → o < f.point → IsAccounted p gone taken o
   pub abandoned : (o : ℕ) → start ≤ o → o < f.point → gone_at p gone o ≡ true
-  pub complete : (s o : ℕ) → IsAt p s true o → start ≤ o → o < f.point → (m : ℕ) × (f.skips s ≡ Some m)
+  pub complete : (s o : ℕ) → IsAt p s true o → start ≤ o → o < f.point → (m : ℕ) × (f.numbers s ≡ Some m)
   pub last : (o : ℕ) → f.point ≡ suc o → gone_at p gone o ≡ true
   pub ends : (o : ℕ) → f.point ≡ suc o → (is_last p (place_at p o) ≡ true) ⊎ ((place_at p o).marker ≡ true)
-  pub last_reported : (s m : ℕ) → f.skips s ≡ Some m → IsLastReported p s start f.point m
-  pub reported : (s m : ℕ) → f.skips s ≡ Some m → over s ≡ false → IsReported p gone s start f.point m
+  pub last_reported : (s m : ℕ) → f.numbers s ≡ Some m → IsLastReported p s start f.point m
+  pub reported : (s m : ℕ) → f.numbers s ≡ Some m → over s ≡ false → IsReported p gone s start f.point m
 
 -- One stream at the receiver.
 
@@ -138,13 +138,13 @@ pub record IsHeld (p : Plan) (taken : List ℕ) (s : ℕ) (ordered : Bool) (low 
   pub taken_in : mem d.offset taken ≡ true
   pub above : low ≤ (place_at p d.offset).ssn
 
--- the cursor stands one past a sequence number that a FORWARD TSN skipped
-pub record IsSkipped (p : Plan) (gone : ℕ → ℕ → Bool) (passed s cursor : ℕ) : Type 0 where
+-- `skipped` is one past the sequence number of a message of stream s that was given up and passed over
+pub record IsSkipped (p : Plan) (gone : ℕ → ℕ → Bool) (passed s skipped : ℕ) : Type 0 where
   pub offset : ℕ
   pub below : offset < passed
   pub at : IsAt p s true offset
   pub given_up : gone_at p gone offset ≡ true
-  pub is : cursor ≡ suc (place_at p offset).ssn
+  pub is : skipped ≡ suc (place_at p offset).ssn
 
 -- The ordered messages of a stream kept reliable: none was skipped, what was taken in and not read is held, and what was read is
 -- each ordered message below `end`.
@@ -157,14 +157,16 @@ pub record IsFull (p : Plan) (taken : List ℕ) (s next ssn cursor low end : ℕ
   pub read : (i : ℕ) → i < end → is_ordered p s i ≡ true → mem i (map (number_of p) reads) ≡ true
   pub letters : IsKeptOrdered p s → map letter_read reads ≡ letters_written p s end
 
--- The ordered half. `low` and `end` are one past the sequence number and the number of the last ordered message read, `cursor` is
--- the queue's without wrap. `current`, `next` and `ssn` are the sender's.
-pub record IsOrdered (p : Plan) (gone : ℕ → ℕ → Bool) (current : Option Place) (next ssn : ℕ) (taken : List ℕ) (passed s low end : ℕ)
+-- The ordered half. `low` and `end` are one past the sequence number and the number of the last ordered message read, `skipped` is
+-- one past the greatest sequence number skipped, each 0 where there is none. `current`, `next` and `ssn` are the sender's.
+pub record IsOrdered (p : Plan) (gone : ℕ → ℕ → Bool) (current : Option Place) (next ssn : ℕ) (taken : List ℕ) (passed skipped s low end : ℕ)
     (q : Queue) (reads : List Got) : Type 0 where
+  -- the cursor is one past the later of the last ordered message read and the last one skipped
   pub cursor : ℕ
+  pub latest : cursor ≡ max low skipped
   pub is : q.cursor ≡ cursor % 65536
   pub above : low ≤ cursor
-  pub origin : (cursor ≡ low) ⊎ IsSkipped p gone passed s cursor
+  pub origin : (skipped ≡ 0) ⊎ IsSkipped p gone passed s skipped
   pub begun : cursor ≤ ssn
   pub going : (y : Place) → current ≡ Some y → y.stream ≡ s → (message_of p y).ordered ≡ true → cursor ≤ y.ssn
   pub held : AllByRecursion (IsHeld p taken s true low) q.ordered
@@ -200,14 +202,14 @@ pub record IsGot (p : Plan) (taken : List ℕ) (s : ℕ) (g : Got) : Type 0 wher
   pub stream : (place_at p g.from).stream ≡ s
   pub tells : Tells p taken s g (number_of p g)
 
-pub record IsStream (p : Plan) (gone : ℕ → ℕ → Bool) (current : Option Place) (next ssn : ℕ) (taken : List ℕ) (passed s : ℕ)
+pub record IsStream (p : Plan) (gone : ℕ → ℕ → Bool) (current : Option Place) (next ssn : ℕ) (taken : List ℕ) (passed skipped s : ℕ)
     (q : Queue) (reads : List Got) : Type 0 where
   pub got : AllByRecursion (IsGot p taken s) (reads ++ q.complete)
   pub once : AreDistinct (numbers_of p (reads ++ q.complete))
   pub rising : AreRising (numbers_of p (filter (λ (g : Got). g.ordered) reads))
   pub below : AllByRecursion (λ (i : ℕ). i < read_end p 0 reads) (numbers_of p (filter (λ (g : Got). g.ordered) reads))
   pub complete : AllByRecursion (λ (g : Got). g.ordered ≡ false) q.complete
-  pub ordered : IsOrdered p gone current next ssn taken passed s (read_ssn p 0 reads) (read_end p 0 reads) q reads
+  pub ordered : IsOrdered p gone current next ssn taken passed skipped s (read_ssn p 0 reads) (read_end p 0 reads) q reads
   pub unordered : IsUnordered p gone taken s q (reads ++ q.complete)
 
 pub record Invariant (w : Direction) : Type 0 where
@@ -231,5 +233,5 @@ pub record Invariant (w : Direction) : Type 0 where
       → w.sender.released s ≡ bytes_below w.sender.plan w.sender.acknowledged s (length w.sender.plan.places)
   -- the order, the cursor and the reads of each stream within its span
   pub streams : (s : ℕ) → w.over s ≡ false
-      → IsStream w.sender.plan w.sender.gone w.sender.current (w.sender.next s) (w.sender.ssn s) w.receiver.taken w.receiver.passed s
+      → IsStream w.sender.plan w.sender.gone w.sender.current (w.sender.next s) (w.sender.ssn s) w.receiver.taken w.receiver.passed (w.skipped s) s
       (live (w.receiver.queues s)) (w.reads s)

@@ -1,8 +1,8 @@
 -- One direction as a machine: a sender, a receiver, and a network between them that loses, repeats, delays and reorders,
 -- but alters and forges nothing. Every choice that an implementation may make is an event.
-use Rattle.std.specs.Prelude.{ℕ, zero, suc, ◌+◌, ◌-◌, ◌%◌, Bool, true, false, not, ◌&&◌, ◌||◌, List, [], ◌∷◌, ◌++◌, length, drop, filter, Option, Some, None, slice_get, ◌==◌, nat_lt, nat_le, if◌then◌else◌}
+use Rattle.std.specs.Prelude.{ℕ, zero, suc, ◌+◌, ◌-◌, max, Bool, true, false, not, ◌&&◌, ◌||◌, List, [], ◌∷◌, ◌++◌, length, drop, filter, Option, Some, None, slice_get, ◌==◌, nat_lt, nat_le, if◌then◌else◌}
 use Rattle.sctp_model.specs.Messages.{Message, Place, Plan, as_kept, is_reliable, place_at, message_at, message_of, is_last, bytes_below}
-use Rattle.sctp_model.specs.Packets.{Data, Sack, Forward, mem, names, data_at}
+use Rattle.sctp_model.specs.Packets.{Data, Sack, Forward, mem, names, skips, data_at}
 use Rattle.sctp_model.specs.Reassembly.{Queue, Got, Taken, empty_queue, next, push, skip_if, drop_unordered}
 
 -- The sender of a direction (RFC 4960 section 6.1, RFC 3758 section 3.5).
@@ -25,8 +25,8 @@ pub record Receiver : Type 0 where
   pub queues : ℕ → Option Queue
   pub is_open : Bool  -- neither closed nor failed
 
--- Both ends, all that was ever given out, and what was read. Loss, repetition, delay and reordering are one thing: of what was
--- given out any may come, at any time and again.
+-- Both ends, all that was ever given out, what was read and what was skipped. Loss, repetition, delay and reordering are one
+-- thing: of what was given out any may come, at any time and again.
 pub record Direction : Type 0 where
   pub sender : Sender
   pub receiver : Receiver
@@ -34,6 +34,9 @@ pub record Direction : Type 0 where
   pub sacks : List Sack
   pub forwards : List Forward
   pub reads : ℕ → List Got
+  -- by stream: one past the greatest sequence number, before it wraps, that a FORWARD TSN skipped in it, of those taken while the
+  -- stream was there; 0 before the first. No step looks at it.
+  pub skipped : ℕ → ℕ
   pub over : ℕ → Bool  -- the stream's span is over: a reset was asked for, or the stream retired or stopped, at either end
 
 abbrev pub put : {X : Type 0} → (ℕ → X) → ℕ → X → ℕ → X
@@ -61,6 +64,7 @@ fresh size = record {
   sacks = [];
   forwards = [];
   reads = λ s. [];
+  skipped = λ s. 0;
   over = λ s. false;
 }
 
@@ -206,18 +210,18 @@ gone_among x (y ∷ ys) = if is_gone x y then y ∷ gone_among x ys else []
 abbrev pub gone_front : Sender → List Place
 gone_front x = gone_among x (drop x.point x.plan.places)
 
--- the sequence number of the last ordered message of stream s among these, so the greatest
+-- the sequence number, before it wraps, of the last ordered message of stream s among these, so the greatest
 abbrev pub is_ordered_of : Plan → ℕ → Place → Bool
 is_ordered_of p s y = (y.stream == s) && (message_of p y).ordered
 
 abbrev pub last_ssn : Plan → ℕ → List Place → Option ℕ → Option ℕ
 last_ssn p s [] found = found
-last_ssn p s (y ∷ ys) found = last_ssn p s ys (if is_ordered_of p s y then Some (y.ssn % 65536) else found)
+last_ssn p s (y ∷ ys) found = last_ssn p s ys (if is_ordered_of p s y then Some y.ssn else found)
 
 abbrev pub forward_of : Sender → Forward
 forward_of x = record {
   point = x.point + length (gone_front x);
-  skips = λ s. last_ssn x.plan s (gone_front x) None;
+  numbers = λ s. last_ssn x.plan s (gone_front x) None;
 }
 
 -- The receiver
@@ -264,11 +268,20 @@ forwarded None point m = None
 forwarded (Some q) point m = Some (drop_unordered point (skip_if q m))
 
 abbrev pub moved : Receiver → Forward → Receiver
-moved r f = record r { passed = f.point; queues = λ s. forwarded (r.queues s) f.point (f.skips s) }
+moved r f = record r { passed = f.point; queues = λ s. forwarded (r.queues s) f.point (skips f s) }
+
+-- the number up to which a stream was skipped; one that isn't there is not skipped
+abbrev pub skipped_by : Option Queue → Option ℕ → ℕ → ℕ
+skipped_by None n before = before
+skipped_by (Some q) None before = before
+skipped_by (Some q) (Some n) before = max before (suc n)
+
+abbrev pub passes : Direction → Forward → Direction
+passes w f = record w { receiver = moved w.receiver f; skipped = λ s. skipped_by (w.receiver.queues s) (f.numbers s) (w.skipped s) }
 
 abbrev pub forward_comes : Direction → Option Forward → Direction
 forward_comes w None = w
-forward_comes w (Some f) = if w.receiver.is_open && nat_lt (point w.receiver) f.point then record w { receiver = moved w.receiver f } else w
+forward_comes w (Some f) = if w.receiver.is_open && nat_lt (point w.receiver) f.point then passes w f else w
 
 abbrev pub was_read : Direction → ℕ → Option Taken → Direction
 was_read w s None = w

@@ -78,7 +78,7 @@ SequenceNumbersWrap =
     map letter_read (ready (push (push at_the_end (whole_piece 9 0 (2 ∷ []))) (whole_piece 8 65535 (1 ∷ [])))) ≡ said (1 ∷ []) ∷ said (2 ∷ []) ∷ []
 
 -- Stream 0's first two messages are read. Its first one is abandoned all the same, since no SACK came, and so is stream 1's, which
--- is lost: the FORWARD TSN lies above the point, and skips stream 0 only up to the number 0. It is taken, the cursor stays at 2,
+-- is lost: the FORWARD TSN lies above the point, and skips stream 0 only up to the number 0. It is taken, the cursor stays at 2, and stream 1, of which nothing came, is not skipped,
 abbrev pub late_number : List Event
 late_number =
     Event.Write 0 (text true (Policy.Rexmit 0) (1 ∷ [])) ∷ Event.Write 0 (text true Policy.Reliable (2 ∷ []))
@@ -93,6 +93,7 @@ third_message = Event.Begin 0 2 ∷ Event.DataComes 3 ∷ Event.Read 0 ∷ []
 abbrev pub LateNumberLeavesTheCursor : Type 0
 LateNumberLeavesTheCursor =
     ((run late_number (fresh 2)).receiver.passed ≡ 2) × (cursor_of (run late_number (fresh 2)) 0 ≡ 2)
+    × ((run late_number (fresh 2)).skipped 0 ≡ 1) × ((run late_number (fresh 2)).skipped 1 ≡ 0)
     × (letters_of (run third_message (run late_number (fresh 2))) 0 ≡ said (1 ∷ []) ∷ said (2 ∷ []) ∷ said (3 ∷ []) ∷ [])
 
 -- Of four bytes in three pieces the first and the last piece come, and two SACKs are made. The later one releases three bytes,
