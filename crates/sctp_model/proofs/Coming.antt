@@ -1,12 +1,12 @@
 -- What comes over the network, and what the receiver does, keeps the invariant.
 use Rattle.std.proofs.Common.{ℕ, zero, suc, ◌+◌, ◌<◌, ◌≤◌, ◌≡◌, Bool, true, false, not, cond, eqb, leb, ◌||◌, ◌&&◌, List, [], ◌∷◌, ◌++◌, length, Option, Some, None, refl, sym, ap, ◌∙◌, subst, inl, inr, ⊎_elim, arith}
-use Rattle.std.proofs.lemmas.Bool.{cases_Bool, cases_eq, and_parts, or_cases, or_right, eqb-true, ltb-true, leb-true, true≢false, cond-true, cond-false, not-true}
+use Rattle.std.proofs.lemmas.Bool.{cases_Bool, cases_lt, cases_eq, and_parts, or_cases, or_left, or_right, lt-ltb, eqb-true, ltb-true, leb-true, true≢false, cond-true, cond-false, not-true}
 use Rattle.sctp_model.specs.Messages.{Plan, IsAt, place_at, bytes_at, bytes_below}
 use Rattle.sctp_model.specs.Packets.{Data, Sack, Forward, mem, names, data_at}
 use Rattle.sctp_model.specs.Reassembly.{Queue, Got, Taken, next, push, push_ordered, push_unordered}
 use Rattle.sctp_model.specs.Machine.{Direction, put, live, point, sack_of, is_new, took, moved, passes, newly, acknowledged_by, gone_front, forward_of, opened, can_resend}
 use Rattle.sctp_model.specs.Safe.{IsWithin}
-use Rattle.sctp_model.specs.Invariants.{Invariant, IsPlanned, IsEarlier, IsPiece, IsHonest, IsForward, IsStream, NoneGone, gone_at}
+use Rattle.sctp_model.specs.Invariants.{Invariant, IsPlanned, IsEarlier, IsPiece, IsHonest, IsForward, IsAccounted, IsStream, NoneGone, gone_at}
 use Rattle.sctp_model.proofs.Basics.{point_from, point_below, point_grows, sack_named}
 use Rattle.sctp_model.proofs.Lists.{all_weaker, all_push}
 use Rattle.sctp_model.proofs.Growth.{at_put, off_put}
@@ -14,7 +14,7 @@ use Rattle.sctp_model.proofs.Arriving.{stream_aside, stream_pushed}
 use Rattle.sctp_model.proofs.Settling.{stream_settled}
 use Rattle.sctp_model.proofs.Skipping.{stream_forwarded}
 use Rattle.sctp_model.proofs.OneRead.{stream_read}
-use Rattle.sctp_model.proofs.Forwarding.{forward_made, forward_taken}
+use Rattle.sctp_model.proofs.Forwarding.{forward_made, forward_later}
 
 abbrev StreamWith : Direction → (ℕ → ℕ) → List ℕ → ℕ → ℕ → ℕ → Queue → List Got → Type 0
 StreamWith w ssn taken passed skipped s q reads = IsStream w.sender.plan w.sender.gone w.sender.current (w.sender.next s) (ssn s) taken passed skipped s q reads
@@ -33,6 +33,7 @@ keeps_resend w o can h =
       tails = h.tails;
       sacks = h.sacks;
       acknowledged = h.acknowledged;
+      cumulative = h.cumulative;
       behind = h.behind;
       forwards = h.forwards;
       released = h.released;
@@ -56,6 +57,7 @@ keeps_sack_made w h = record {
         (sack_named w.receiver o n);
   };
   acknowledged = h.acknowledged;
+  cumulative = h.cumulative;
   behind = h.behind;
   forwards = h.forwards;
   released = h.released;
@@ -74,9 +76,10 @@ keeps_forward_made w l some h = record {
   tails = h.tails;
   sacks = h.sacks;
   acknowledged = h.acknowledged;
+  cumulative = h.cumulative;
   behind = h.behind;
   forwards = all_push _ w.forwards _ h.forwards
-      (forward_made w.sender w.over w.receiver.taken h.planned h.sending (λ o b. h.accounted o (let a = h.behind in omega arith)) l.flight some);
+      (forward_made w.sender w.over h.planned h.sending h.cumulative l.flight some);
   released = h.released;
   streams = h.streams;
 }
@@ -101,9 +104,9 @@ bytes_added p gone acked named s (suc o) none =
     part true false true false x e = omega arith
     part true false false g x e = refl
 
-pub keeps_sack_comes : (w : Direction) (k : Sack) → IsHonest w.receiver.taken w.receiver.passed (point w.receiver) k → Invariant w
+pub keeps_sack_comes : (w : Direction) (k : Sack) → w.sender.point ≤ k.point → IsHonest w.receiver.taken w.receiver.passed (point w.receiver) k → Invariant w
     → Invariant (record w { sender = acknowledged_by w.sender k })
-keeps_sack_comes w k t h = record {
+keeps_sack_comes w k on t h = record {
   planned = h.planned;
   sending = h.sending;
   datas = h.datas;
@@ -116,8 +119,10 @@ keeps_sack_comes w k t h = record {
       (λ (b : w.sender.acknowledged o ≡ true). h.acknowledged o b)
       (λ (b : names k o ≡ true). t.named o b)
       (or_cases _ _ a);
+  cumulative = λ o l. or_right _ _ (or_left _ _ (lt-ltb _ _ l));
   behind = t.point;
-  forwards = h.forwards;
+  forwards = all_weaker _ _ _ (λ f. forward_later w.sender.plan w.sender.gone w.over w.over w.sender.acknowledged (acknowledged_by w.sender k).acknowledged
+      w.sender.point k.point f (λ o a. or_left _ _ a) on (λ s v. v)) h.forwards;
   released = λ s none.
       ap (λ z. z + bytes_below w.sender.plan (newly w.sender k) s (length w.sender.plan.places)) (h.released s none)
       ∙ bytes_added w.sender.plan w.sender.gone w.sender.acknowledged (names k) s (length w.sender.plan.places) none;
@@ -156,8 +161,9 @@ keeps_data_comes w d piece new l h = record {
     named = λ o n. ⊎_elim (λ (m : mem o w.receiver.taken ≡ true). inl (or_right _ _ m)) (λ (f : o < w.receiver.passed). inr f) (t.named o n);
   }) h.sacks;
   acknowledged = λ o a. ⊎_elim (λ (m : mem o w.receiver.taken ≡ true). inl (or_right _ _ m)) (λ (f : o < w.receiver.passed). inr f) (h.acknowledged o a);
+  cumulative = h.cumulative;
   behind = let a = h.behind in let b = further in omega arith;
-  forwards = all_weaker _ _ _ (λ f. forward_taken p w.sender.gone w.over w.over w.receiver.taken (d.offset ∷ w.receiver.taken) f (λ o m. or_right _ _ m) (λ s v. v)) h.forwards;
+  forwards = h.forwards;
   released = h.released;
   streams = λ s v. ⊎_elim
       (λ (e : s ≡ d.stream).
@@ -200,7 +206,7 @@ keeps_data_comes w d piece new l h = record {
 
 -- A FORWARD TSN is taken
 
-pub keeps_forward_comes : (w : Direction) (f : Forward) → IsForward w.sender.plan w.sender.gone w.over w.receiver.taken f → point w.receiver < f.point → IsWithin w → Invariant w
+pub keeps_forward_comes : (w : Direction) (f : Forward) → IsForward w.sender.plan w.sender.gone w.over w.sender.acknowledged w.sender.point f → point w.receiver < f.point → IsWithin w → Invariant w
     → Invariant (passes w f)
 keeps_forward_comes w f t far l h = record {
   planned = h.planned;
@@ -209,7 +215,7 @@ keeps_forward_comes w f t far l h = record {
   taken = h.taken;
   accounted = λ o b. ⊎_elim
       (λ (m : mem o w.receiver.taken ≡ true). inl m)
-      (λ (a : o < f.point). t.accounted o a)
+      (λ (a : o < f.point). account o a)
       (point_below (moved w.receiver f) o b);
   passed = t.known;
   tails = h.tails;
@@ -218,14 +224,24 @@ keeps_forward_comes w f t far l h = record {
     named = λ o n. ⊎_elim (λ (m : mem o w.receiver.taken ≡ true). inl m) (λ (a : o < w.receiver.passed). inr (let b = point_from w.receiver in omega arith)) (u.named o n);
   }) h.sacks;
   acknowledged = λ o a. ⊎_elim (λ (m : mem o w.receiver.taken ≡ true). inl m) (λ (b : o < w.receiver.passed). inr (let c = point_from w.receiver in omega arith)) (h.acknowledged o a);
+  cumulative = h.cumulative;
   behind = let a = h.behind in let b = further in omega arith;
   forwards = h.forwards;
   released = h.released;
-  streams = λ s v. stream_forwarded w.sender.plan w.over w.sender.current w.sender.next w.sender.ssn w.sender.begun w.sender.gone w.receiver.taken w.receiver.passed (w.skipped s) s
-      (w.receiver.queues s) (w.reads s) f h.planned v h.sending t h.tails (let b = point_from w.receiver in omega arith)
+  streams = λ s v. stream_forwarded w.sender.plan w.over w.sender.current w.sender.next w.sender.ssn w.sender.begun w.sender.gone w.sender.acknowledged w.sender.point w.receiver.taken w.receiver.passed (w.skipped s) s
+      (w.receiver.queues s) (w.reads s) f h.planned v h.sending t account h.tails (let b = point_from w.receiver in omega arith)
       (let a = l.flight in let b = h.behind in omega arith) (l.unread s) (h.streams s v);
 }
   where
+    account : (o : ℕ) → o < f.point → IsAccounted w.sender.plan w.sender.gone w.receiver.taken o
+    account o l = ⊎_elim
+        (λ (a : o < f.start). ⊎_elim
+        (λ (m : mem o w.receiver.taken ≡ true). inl m)
+        (λ (b : o < w.receiver.passed). h.accounted o (let c = point_from w.receiver in omega arith))
+        (h.acknowledged o (t.acknowledged o a)))
+        (λ (a : f.start ≤ o). inr (t.abandoned o a l))
+        (cases_lt o f.start)
+
     further : point w.receiver ≤ point (moved w.receiver f)
     further = point_grows w.receiver (moved w.receiver f) (λ o m. m) (let b = point_from w.receiver in omega arith)
 
@@ -246,6 +262,7 @@ keeps_read w s q t is e l h = record {
   tails = h.tails;
   sacks = h.sacks;
   acknowledged = h.acknowledged;
+  cumulative = h.cumulative;
   behind = h.behind;
   forwards = h.forwards;
   released = h.released;
@@ -277,6 +294,7 @@ keeps_queue w s q same h = record {
   tails = h.tails;
   sacks = h.sacks;
   acknowledged = h.acknowledged;
+  cumulative = h.cumulative;
   behind = h.behind;
   forwards = h.forwards;
   released = h.released;
@@ -311,6 +329,7 @@ keeps_close w h = record {
   tails = h.tails;
   sacks = h.sacks;
   acknowledged = h.acknowledged;
+  cumulative = h.cumulative;
   behind = h.behind;
   forwards = h.forwards;
   released = h.released;
@@ -351,8 +370,10 @@ keeps_end w s h = record {
   tails = h.tails;
   sacks = h.sacks;
   acknowledged = h.acknowledged;
+  cumulative = h.cumulative;
   behind = h.behind;
-  forwards = all_weaker _ _ _ (λ f. forward_taken w.sender.plan w.sender.gone w.over (put w.over s true) w.receiver.taken w.receiver.taken f (λ o m. m) spans) h.forwards;
+  forwards = all_weaker _ _ _ (λ f. forward_later w.sender.plan w.sender.gone w.over (put w.over s true) w.sender.acknowledged w.sender.acknowledged
+      w.sender.point w.sender.point f (λ o m. m) (omega arith) spans) h.forwards;
   released = h.released;
   streams = λ t v. h.streams t (spans t v);
 }
@@ -383,6 +404,7 @@ keeps_restart w s over h = record {
   tails = h.tails;
   sacks = h.sacks;
   acknowledged = h.acknowledged;
+  cumulative = h.cumulative;
   behind = h.behind;
   forwards = h.forwards;
   released = h.released;

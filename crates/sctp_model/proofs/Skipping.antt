@@ -10,7 +10,7 @@ use Rattle.sctp_model.specs.Serial.{up_to_16}
 use Rattle.sctp_model.specs.Reassembly.{Queue, Got, at, skip, skip_if, drop_unordered}
 use Rattle.sctp_model.specs.Machine.{live, forwarded, skipped_by}
 use Rattle.sctp_model.specs.Safe.{AreDistinct, IsTaken, IsWhole, is_ordered, read_end, read_ssn, unread}
-use Rattle.sctp_model.specs.Invariants.{IsPlanned, IsEarlier, IsSending, IsForward, IsReported, IsHeld, IsSkipped, IsOrdered, IsUnordered, IsGot, IsStream, NoneGone, numbers_of, gone_at, IsFresh}
+use Rattle.sctp_model.specs.Invariants.{IsPlanned, IsEarlier, IsSending, IsForward, IsReported, IsGreatest, IsAccounted, IsHeld, IsSkipped, IsOrdered, IsUnordered, IsGot, IsStream, NoneGone, numbers_of, gone_at, IsFresh}
 use Rattle.sctp_model.proofs.Lists.{all_filter}
 use Rattle.sctp_model.proofs.Windows.{up_to_is, next_is}
 use Rattle.sctp_model.proofs.Gathering.{at_filter}
@@ -18,8 +18,8 @@ use Rattle.sctp_model.proofs.Due.{window}
 
 -- Below the point of a FORWARD TSN a message that stays is whole.
 
-module _ (p : Plan) (over : ℕ → Bool) (gone : ℕ → ℕ → Bool) (taken : List ℕ) (f : Forward) (s i : ℕ)
-    (hp : IsPlanned p over) (hf : IsForward p gone over taken f) (none : NoneGone gone s)
+module _ (p : Plan) (over : ℕ → Bool) (gone : ℕ → ℕ → Bool) (acked : ℕ → Bool) (now : ℕ) (taken : List ℕ) (f : Forward) (s i : ℕ)
+    (hp : IsPlanned p over) (hf : IsForward p gone over acked now f) (account : (o : ℕ) → o < f.point → IsAccounted p gone taken o) (none : NoneGone gone s)
     (tails : (o : ℕ) → o < length p.places → (place_at p o).marker ≡ true → gone_at p gone o ≡ true) where
   stays : (o : ℕ) → (place_at p o).stream ≡ s → gone_at p gone o ≡ false
   stays o st = ap (λ z. gone z (place_at p o).message) st ∙ none (place_at p o).message
@@ -34,7 +34,7 @@ module _ (p : Plan) (over : ℕ → Bool) (gone : ℕ → ℕ → Bool) (taken :
     taken_in = ⊎_elim
         (λ (a : mem o taken ≡ true). a)
         (λ (g : gone_at p gone o ≡ true). absurd (true≢false (sym g ∙ stays o st)))
-        (hf.accounted o l);
+        (account o l);
   }
 
   down : (n o j : ℕ) → (place_at p o).piece ≡ n + j → o < f.point → (place_at p o).stream ≡ s → (place_at p o).message ≡ i → IsTaken p taken s i j
@@ -60,7 +60,7 @@ module _ (p : Plan) (over : ℕ → Bool) (gone : ℕ → ℕ → Bool) (taken :
       (λ (b : suc o < f.point).
       let w = hp.after o (let a = hf.known in omega arith) more sent in
       up n (suc o) j (let u = w.piece in omega arith) b (w.stream ∙ st) (w.message ∙ m) len)
-      (λ (b : f.point ≤ suc o). absurd (true≢false (sym (hf.last o (omega arith)) ∙ stays o st)))
+      (λ (b : f.point ≤ suc o). absurd (true≢false (sym (hf.abandoned o (let a = hf.ahead in omega arith) (omega arith)) ∙ stays o st)))
       (cases_lt (suc o) f.point)
 
   whole_below : (o : ℕ) → o < f.point → (place_at p o).stream ≡ s → (place_at p o).message ≡ i → IsWhole p taken s i
@@ -110,14 +110,14 @@ ordered_on p gone current next ssn taken passed passed' skipped s low end q q' r
 }
 
 -- the ordered half, where the sequence number m is reported: the 16 bits are read rightly, as everything in flight is near
-ordered_skipped : (p : Plan) (over : ℕ → Bool) (current : Option Place) (next ssn : ℕ → ℕ) (begun gone : ℕ → ℕ → Bool) (taken : List ℕ) (passed skipped s low end : ℕ)
+ordered_skipped : (p : Plan) (over : ℕ → Bool) (current : Option Place) (next ssn : ℕ → ℕ) (begun gone : ℕ → ℕ → Bool) (acked : ℕ → Bool) (now : ℕ) (taken : List ℕ) (passed skipped s low end : ℕ)
     (q q' : Queue) (reads : List Got) (f : Forward) (m : ℕ)
-    → IsPlanned p over → over s ≡ false → IsSending p current next ssn begun gone over → (hf : IsForward p gone over taken f)
-    → IsReported p gone s hf.start f.point m → passed ≤ f.point → length p.places < f.point + 16384 → count_ordered (drop end (p.accepted s)) < 32768
+    → IsPlanned p over → over s ≡ false → IsSending p current next ssn begun gone over → (hf : IsForward p gone over acked now f)
+    → IsReported p gone s f.start f.point m → IsGreatest p s f.point m → passed ≤ f.point → length p.places < f.point + 16384 → count_ordered (drop end (p.accepted s)) < 32768
     → q'.cursor ≡ (skip q (m % 65536)).cursor → q'.ordered ≡ (skip q (m % 65536)).ordered
     → IsOrdered p gone current (next s) (ssn s) taken passed skipped s low end q reads
     → IsOrdered p gone current (next s) (ssn s) taken f.point (max skipped (suc m)) s low end q' reads
-ordered_skipped p over current next ssn begun gone taken passed skipped s low end q q' reads f m hp v g hf rep far flight near ec eo h = record {
+ordered_skipped p over current next ssn begun gone acked now taken passed skipped s low end q q' reads f m hp v g hf rep gr far flight near ec eo h = record {
   cursor = cond (leb h.cursor top) (suc top) h.cursor;
   is = ec ∙ cursor_is;
   above = cases (λ z. low ≤ z) (λ l. let a = h.above in omega arith) (λ l. h.above);
@@ -137,7 +137,7 @@ ordered_skipped p over current next ssn begun gone taken passed skipped s low en
   going = λ y c st k. cases (λ z. z ≤ y.ssn) (λ l. past_current y c st k) (λ l. h.going y c st k);
   held = subst (AllByRecursion (IsHeld p taken s true low)) (sym eo) (all_filter (IsHeld p taken s true low) _ q.ordered h.held);
   past = λ o a. cases (λ z. (place_at p o).ssn < z → (mem o taken ≡ true) ⊎ (o < f.point))
-      (λ l b. inr (rep.all o a (omega arith)))
+      (λ l b. inr (gr.all o a (let c = rep.is in omega arith)))
       (λ l b. ⊎_elim (λ (x : mem o taken ≡ true). inl x) (λ (x : o < passed). inr (omega arith)) (h.past o a b));
   later = h.later;
   link = h.link;
@@ -208,18 +208,18 @@ ordered_skipped p over current next ssn begun gone taken passed skipped s low en
         omega (arith, apart)
 
 -- what is kept of the unordered half: of messages that stay, all pieces of those that aren't whole lie past the point
-unordered_on : (p : Plan) (over : ℕ → Bool) (gone : ℕ → ℕ → Bool) (taken : List ℕ) (s : ℕ) (q q' : Queue) (gots gots' : List Got) (f : Forward)
-    → IsPlanned p over → IsForward p gone over taken f
+unordered_on : (p : Plan) (over : ℕ → Bool) (gone : ℕ → ℕ → Bool) (acked : ℕ → Bool) (now : ℕ) (taken : List ℕ) (s : ℕ) (q q' : Queue) (gots gots' : List Got) (f : Forward)
+    → IsPlanned p over → IsForward p gone over acked now f → ((o : ℕ) → o < f.point → IsAccounted p gone taken o)
     → ((o : ℕ) → o < length p.places → (place_at p o).marker ≡ true → gone_at p gone o ≡ true)
     → q'.unordered ≡ (drop_unordered f.point q).unordered → gots' ≡ gots
     → IsUnordered p gone taken s q gots → IsUnordered p gone taken s q' gots'
-unordered_on p over gone taken s q q' gots gots' f hp hf tails eu eg u = subst (IsUnordered p gone taken s q') (sym eg) record {
+unordered_on p over gone acked now taken s q q' gots gots' f hp hf account tails eu eg u = subst (IsUnordered p gone taken s q') (sym eg) record {
   held = subst (AllByRecursion (IsHeld p taken s false 0)) (sym eu) (all_filter (IsHeld p taken s false 0) (λ (d : Data). leb f.point d.offset) q.unordered u.held);
   fresh = subst (AllByRecursion (IsFresh p gots)) (sym eu) (all_filter (IsFresh p gots) (λ (d : Data). leb f.point d.offset) q.unordered u.fresh);
   all = u.all;
   kept = λ none o a m. ⊎_elim
       (λ (b : o < f.point). inr (u.all none (place_at p o).message
-      (whole_below p over gone taken f s (place_at p o).message hp hf none tails o b a.stream refl)
+      (whole_below p over gone acked now taken f s (place_at p o).message hp hf account none tails o b a.stream refl)
       (ap (λ z. is_ordered p z (place_at p o).message) (sym a.stream) ∙ a.kind)))
       (λ (b : f.point ≤ o). ⊎_elim
       (λ (l : at o q.unordered ≡ Some (data_at p o)). inl (subst (λ z. at o z ≡ Some (data_at p o)) (sym eu)
@@ -251,18 +251,19 @@ stream_with p gone current next ssn taken passed passed' skipped skipped' s q q'
     AreDistinctNumbers : List Got → Type 0
     AreDistinctNumbers z = AreDistinct (numbers_of p (reads ++ z))
 
-pub stream_forwarded : (p : Plan) (over : ℕ → Bool) (current : Option Place) (next ssn : ℕ → ℕ) (begun gone : ℕ → ℕ → Bool) (taken : List ℕ) (passed skipped s : ℕ)
+pub stream_forwarded : (p : Plan) (over : ℕ → Bool) (current : Option Place) (next ssn : ℕ → ℕ) (begun gone : ℕ → ℕ → Bool) (acked : ℕ → Bool) (now : ℕ) (taken : List ℕ) (passed skipped s : ℕ)
     (queue : Option Queue) (reads : List Got) (f : Forward)
-    → IsPlanned p over → over s ≡ false → IsSending p current next ssn begun gone over → IsForward p gone over taken f
+    → IsPlanned p over → over s ≡ false → IsSending p current next ssn begun gone over → IsForward p gone over acked now f
+    → ((o : ℕ) → o < f.point → IsAccounted p gone taken o)
     → ((o : ℕ) → o < length p.places → (place_at p o).marker ≡ true → gone_at p gone o ≡ true)
     → passed ≤ f.point → length p.places < f.point + 16384 → unread p s reads < 32768
     → IsStream p gone current (next s) (ssn s) taken passed skipped s (live queue) reads
     → IsStream p gone current (next s) (ssn s) taken f.point (skipped_by queue (f.numbers s) skipped) s (live (forwarded queue f.point (skips f s))) reads
-stream_forwarded p over current next ssn begun gone taken passed skipped s None reads f hp v g hf tails far flight near w =
+stream_forwarded p over current next ssn begun gone acked now taken passed skipped s None reads f hp v g hf account tails far flight near w =
     stream_with p gone current (next s) (ssn s) taken passed f.point skipped skipped s (live None) (live None) reads refl
     (ordered_on p gone current (next s) (ssn s) taken passed f.point skipped s (read_ssn p 0 reads) (read_end p 0 reads) (live None) (live None) reads refl refl far w.ordered)
     w.unordered w
-stream_forwarded p over current next ssn begun gone taken passed skipped s (Some q) reads f hp v g hf tails far flight near w = go (f.numbers s) refl
+stream_forwarded p over current next ssn begun gone acked now taken passed skipped s (Some q) reads f hp v g hf account tails far flight near w = go (f.numbers s) refl
   where
     go : (m : Option ℕ) → f.numbers s ≡ m
         → IsStream p gone current (next s) (ssn s) taken f.point (skipped_by (Some q) m skipped) s (drop_unordered f.point (skip_if q (wrapped m))) reads
@@ -270,12 +271,12 @@ stream_forwarded p over current next ssn begun gone taken passed skipped s (Some
         let same = skipped_unordered q (wrapped m) in
         stream_with p gone current (next s) (ssn s) taken passed f.point skipped (skipped_by (Some q) m skipped) s q (drop_unordered f.point (skip_if q (wrapped m))) reads same.1
         (ordered m e)
-        (unordered_on p over gone taken s q (drop_unordered f.point (skip_if q (wrapped m))) (reads ++ q.complete) (reads ++ (skip_if q (wrapped m)).complete) f hp hf tails
+        (unordered_on p over gone acked now taken s q (drop_unordered f.point (skip_if q (wrapped m))) (reads ++ q.complete) (reads ++ (skip_if q (wrapped m)).complete) f hp hf account tails
         (ap (filter (λ (d : Data). leb f.point d.offset)) same.0) (ap (λ z. reads ++ z) same.1) w.unordered)
         w
       where
         ordered : (m : Option ℕ) → f.numbers s ≡ m
             → IsOrdered p gone current (next s) (ssn s) taken f.point (skipped_by (Some q) m skipped) s (read_ssn p 0 reads) (read_end p 0 reads) (drop_unordered f.point (skip_if q (wrapped m))) reads
         ordered None e = ordered_on p gone current (next s) (ssn s) taken passed f.point skipped s (read_ssn p 0 reads) (read_end p 0 reads) q (drop_unordered f.point q) reads refl refl far w.ordered
-        ordered (Some c) e = ordered_skipped p over current next ssn begun gone taken passed skipped s (read_ssn p 0 reads) (read_end p 0 reads) q (drop_unordered f.point (skip q (c % 65536))) reads f c
-            hp v g hf (hf.reported s c e v) far flight near refl refl w.ordered
+        ordered (Some c) e = ordered_skipped p over current next ssn begun gone acked now taken passed skipped s (read_ssn p 0 reads) (read_end p 0 reads) q (drop_unordered f.point (skip q (c % 65536))) reads f c
+            hp v g hf (hf.reported s c e) (hf.greatest s c e v) far flight near refl refl w.ordered

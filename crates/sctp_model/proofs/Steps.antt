@@ -1,7 +1,7 @@
 -- Every event keeps the invariant, so it holds after every list of events, and with it the promise.
 use Rattle.std.proofs.Common.{ℕ, ◌+◌, ◌<◌, ◌≡◌, Bool, true, false, not, cond, eqb, ltb, ◌&&◌, List, [], ◌∷◌, Option, Some, None, refl, sym, ap, ◌∙◌, inl, arith}
 use Rattle.std.specs.Prelude.{slice_get}
-use Rattle.std.proofs.lemmas.Bool.{and_parts, ltb-true, true≢false, false≢true, cond_both, eqb-true, eq-eqb, and_from, not-true}
+use Rattle.std.proofs.lemmas.Bool.{and_parts, ltb-true, ltb-false, true≢false, false≢true, cond_both, eqb-true, eq-eqb, and_from, not-true}
 use Rattle.sctp_model.specs.Messages.{Place, is_reliable, message_at}
 use Rattle.sctp_model.specs.Packets.{Data, Sack, Forward}
 use Rattle.sctp_model.specs.Reassembly.{Queue, Taken, next}
@@ -58,7 +58,7 @@ abandon_step w s i c e can h = go c e
 sack_step : (w : Direction) (n : ℕ) (k : Option Sack) → slice_get w.sacks n ≡ k → Invariant w → Invariant (sack_comes w k)
 sack_step w n None e h = h
 sack_step w n (Some k) e h = either (ltb k.point w.sender.point) w (record w { sender = acknowledged_by w.sender k }) (λ b. h)
-    (λ b. keeps_sack_comes w k (all_get (IsHonest w.receiver.taken w.receiver.passed (point w.receiver)) w.sacks n k e h.sacks) h)
+    (λ b. keeps_sack_comes w k (ltb-false _ _ b) (all_get (IsHonest w.receiver.taken w.receiver.passed (point w.receiver)) w.sacks n k e h.sacks) h)
 
 data_step : (w : Direction) (n : ℕ) (d : Option Data) → slice_get w.datas n ≡ d → IsWithin w → Invariant w → Invariant (data_comes w d)
 data_step w n None e l h = h
@@ -69,7 +69,7 @@ data_step w n (Some d) e l h = either (w.receiver.is_open && is_new w.receiver d
 forward_step : (w : Direction) (n : ℕ) (f : Option Forward) → slice_get w.forwards n ≡ f → IsWithin w → Invariant w → Invariant (forward_comes w f)
 forward_step w n None e l h = h
 forward_step w n (Some f) e l h = either (w.receiver.is_open && ltb (point w.receiver) f.point) (passes w f) w
-    (λ b. keeps_forward_comes w f (all_get (IsForward w.sender.plan w.sender.gone w.over w.receiver.taken) w.forwards n f e h.forwards)
+    (λ b. keeps_forward_comes w f (all_get (IsForward w.sender.plan w.sender.gone w.over w.sender.acknowledged w.sender.point) w.forwards n f e h.forwards)
     (ltb-true _ _ (and_parts w.receiver.is_open (ltb (point w.receiver) f.point) b).1) l h)
     (λ b. h)
 
@@ -129,6 +129,7 @@ fresh_holds size some = record {
   tails = λ o l. absurd (omega arith);
   sacks = tt;
   acknowledged = λ o a. absurd (false≢true a);
+  cumulative = λ o l. absurd (omega arith);
   behind = omega arith;
   forwards = tt;
   released = λ s none. refl;

@@ -65,8 +65,9 @@ grow_keeps w r c nx sn bg gone' rl ds h e more planned sending datas tails later
   tails = tails;
   sacks = h.sacks;
   acknowledged = h.acknowledged;
+  cumulative = h.cumulative;
   behind = h.behind;
-  forwards = all_weaker _ _ _ (λ f. forward_grows w.sender.plan r w.sender.gone gone' w.over w.receiver.taken f e more later) h.forwards;
+  forwards = all_weaker _ _ _ (λ f. forward_grows w.sender.plan r w.sender.gone gone' w.over w.sender.acknowledged w.sender.point f e more later) h.forwards;
   released = λ s none.
       freed s none ∙ h.released s (λ i. false_from_ne_true _ (λ (g : w.sender.gone s i ≡ true). true≢false (sym (more s i g) ∙ none i)))
       ∙ sym (bytes_kept w.sender.plan r e w.sender.acknowledged s (length w.sender.plan.places) (omega arith))

@@ -94,7 +94,8 @@ pub record IsHonest (taken : List ℕ) (passed : ℕ) (at : ℕ) (k : Sack) : Ty
   pub point : k.point ≤ at
   pub named : (o : ℕ) → names k o ≡ true → (mem o taken ≡ true) ⊎ (o < passed)
 
--- the sequence number m, before it wraps, that a FORWARD TSN made at the acknowledged point `start` reports for stream s
+-- m is the sequence number, before it wraps, of the last ordered message of stream s on the offsets from `start` to `point`, and
+-- that message was given up
 pub record IsReported (p : Plan) (gone : ℕ → ℕ → Bool) (s start point m : ℕ) : Type 0 where
   pub offset : ℕ
   pub from : start ≤ offset
@@ -102,32 +103,28 @@ pub record IsReported (p : Plan) (gone : ℕ → ℕ → Bool) (s start point m 
   pub at : IsAt p s true offset
   pub given_up : gone_at p gone offset ≡ true
   pub is : m ≡ (place_at p offset).ssn
-  pub greatest : (o : ℕ) → IsAt p s true o → o < point → (place_at p o).ssn ≤ (place_at p offset).ssn
-  pub all : (o : ℕ) → IsAt p s true o → (place_at p o).ssn ≤ (place_at p offset).ssn → o < point
-
--- whatever became of the stream's span: m is the sequence number of the last ordered message of stream s from `start` to the point
-pub record IsLastReported (p : Plan) (s start point m : ℕ) : Type 0 where
-  pub offset : ℕ
-  pub from : start ≤ offset
-  pub below : offset < point
-  pub at : IsAt p s true offset
-  pub is : m ≡ (place_at p offset).ssn
   pub last : (o : ℕ) → IsAt p s true o → o < point → o ≤ offset
 
--- a FORWARD TSN: each offset below its point was taken in or belongs to an abandoned message, the last of them is an abandoned
--- message's last, and it reports the greatest sequence numbers of the ordered messages abandoned past the acknowledged point
-pub record IsForward (p : Plan) (gone : ℕ → ℕ → Bool) (over : ℕ → Bool) (taken : List ℕ) (f : Forward) : Type 0 where
-  pub start : ℕ
-  pub ahead : start < f.point
+-- of the ordered messages of stream s below the point none has a sequence number above m, and past the point each has one
+pub record IsGreatest (p : Plan) (s point m : ℕ) : Type 0 where
+  pub greatest : (o : ℕ) → IsAt p s true o → o < point → (place_at p o).ssn ≤ m
+  pub all : (o : ℕ) → IsAt p s true o → (place_at p o).ssn ≤ m → o < point
+
+-- A FORWARD TSN: each offset below its point was acknowledged when it was made (those below `start`) or belongs to an abandoned
+-- message (those from there on), its point is one past the last offset of an abandoned message, and for each stream with an ordered
+-- message from `start` to the point it reports the last one's sequence number, within the stream's span the greatest.
+-- `acked` and `now` are what is acknowledged now, and the acknowledged point.
+pub record IsForward (p : Plan) (gone : ℕ → ℕ → Bool) (over : ℕ → Bool) (acked : ℕ → Bool) (now : ℕ) (f : Forward) : Type 0 where
+  pub behind : f.start ≤ now
+  pub ahead : f.start < f.point
   pub known : f.point ≤ length p.places
-  pub near : f.point ≤ start + 16384
-  pub accounted : (o : ℕ) → o < f.point → IsAccounted p gone taken o
-  pub abandoned : (o : ℕ) → start ≤ o → o < f.point → gone_at p gone o ≡ true
-  pub complete : (s o : ℕ) → IsAt p s true o → start ≤ o → o < f.point → (m : ℕ) × (f.numbers s ≡ Some m)
-  pub last : (o : ℕ) → f.point ≡ suc o → gone_at p gone o ≡ true
+  pub near : f.point ≤ f.start + 16384
+  pub acknowledged : (o : ℕ) → o < f.start → acked o ≡ true
+  pub abandoned : (o : ℕ) → f.start ≤ o → o < f.point → gone_at p gone o ≡ true
   pub ends : (o : ℕ) → f.point ≡ suc o → (is_last p (place_at p o) ≡ true) ⊎ ((place_at p o).marker ≡ true)
-  pub last_reported : (s m : ℕ) → f.numbers s ≡ Some m → IsLastReported p s start f.point m
-  pub reported : (s m : ℕ) → f.numbers s ≡ Some m → over s ≡ false → IsReported p gone s start f.point m
+  pub complete : (s o : ℕ) → IsAt p s true o → f.start ≤ o → o < f.point → (m : ℕ) × (f.numbers s ≡ Some m)
+  pub reported : (s m : ℕ) → f.numbers s ≡ Some m → IsReported p gone s f.start f.point m
+  pub greatest : (s m : ℕ) → f.numbers s ≡ Some m → over s ≡ false → IsGreatest p s f.point m
 
 -- One stream at the receiver.
 
@@ -226,9 +223,11 @@ pub record Invariant (w : Direction) : Type 0 where
   -- every SACK ever sent names only what was taken in or passed over, also when it comes late
   pub sacks : AllByRecursion (IsHonest w.receiver.taken w.receiver.passed (point w.receiver)) w.sacks
   pub acknowledged : (o : ℕ) → w.sender.acknowledged o ≡ true → (mem o w.receiver.taken ≡ true) ⊎ (o < w.receiver.passed)
+  -- every offset below the sender's acknowledged point is acknowledged, and the receiver's point is as far at least
+  pub cumulative : (o : ℕ) → o < w.sender.point → w.sender.acknowledged o ≡ true
   pub behind : w.sender.point ≤ point w.receiver
   -- every FORWARD TSN ever sent is true
-  pub forwards : AllByRecursion (IsForward w.sender.plan w.sender.gone w.over w.receiver.taken) w.forwards
+  pub forwards : AllByRecursion (IsForward w.sender.plan w.sender.gone w.over w.sender.acknowledged w.sender.point) w.forwards
   pub released : (s : ℕ) → NoneGone w.sender.gone s
       → w.sender.released s ≡ bytes_below w.sender.plan w.sender.acknowledged s (length w.sender.plan.places)
   -- the order, the cursor and the reads of each stream within its span

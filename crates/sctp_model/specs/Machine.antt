@@ -222,6 +222,7 @@ abbrev pub forward_of : Sender → Forward
 forward_of x = record {
   point = x.point + length (gone_front x);
   numbers = λ s. last_ssn x.plan s (gone_front x) None;
+  start = x.point;
 }
 
 -- The receiver

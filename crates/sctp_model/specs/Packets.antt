@@ -20,10 +20,12 @@ pub record Sack : Type 0 where
   pub above : List ℕ
 
 -- FORWARD TSN (RFC 3758 section 3.2): the new point, and by stream the sequence number up to which ordered messages are skipped.
--- The packet has `point` and `skips`, which is all that a receiver goes by; `numbers` are the sequence numbers before they wrap.
+-- The packet has `point` and `skips`, which is all that a receiver goes by. Not in it are `numbers`, the sequence numbers before
+-- they wrap, and `start`, its sender's acknowledged point when it was made.
 pub record Forward : Type 0 where
   pub point : ℕ
   pub numbers : ℕ → Option ℕ
+  pub start : ℕ
 
 abbrev pub wrapped : Option ℕ → Option ℕ
 wrapped None = None
