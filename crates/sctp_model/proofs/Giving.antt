@@ -88,7 +88,7 @@ earlier_placed p y s next ssn x o e = record {
 
 -- A message begins.
 
-module _ (w : Direction) (s i : ℕ) (can : can_begin w.sender s i ≡ true) (none : w.sender.current ≡ None) (h : Invariant w) where
+module _ (w : Direction) (s i number : ℕ) (numbered : (message_at w.sender.plan s i).ordered ≡ true → number ≡ w.sender.ssn s) (can : can_begin w.sender s i ≡ true) (none : w.sender.current ≡ None) (h : Invariant w) where
   unsent : (i < length (w.sender.plan.accepted s)) × (w.sender.begun s i ≡ false) × (w.sender.gone s i ≡ false)
   unsent =
       let a = and_parts _ _ can in
@@ -102,85 +102,87 @@ module _ (w : Direction) (s i : ℕ) (can : can_begin w.sender s i ≡ true) (no
       (λ (a : eqb i (w.sender.next s) ≡ true). eqb-true _ _ a)
       (or_cases _ _ (and_parts (is_unsent w.sender s i) (is_due w.sender s i) can).1)
 
-  next_place : IsNext w.sender.plan w.over (first_place w.sender s i)
-  next_place = next_first w.sender.plan w.sender.current w.sender.next w.sender.ssn w.sender.begun w.sender.gone w.over (first_place w.sender s i)
-      h.planned h.sending none refl refl unsent.0 unsent.1 due
+  next_place : IsNext w.sender.plan w.over (first_place s i number)
+  next_place = next_first w.sender.plan w.sender.current w.sender.next w.sender.ssn w.sender.begun w.sender.gone w.over (first_place s i number)
+      h.planned h.sending none refl numbered unsent.0 unsent.1 due
 
-  longer : IsExtended w.sender.plan (with_place w.sender.plan (first_place w.sender s i))
-  longer = place_extended w.sender.plan (first_place w.sender s i) h.planned.known
+  longer : IsExtended w.sender.plan (with_place w.sender.plan (first_place s i number))
+  longer = place_extended w.sender.plan (first_place s i number) h.planned.known
 
   begun_cases : (t j : ℕ) → w.sender.begun t j ≡ true → put_2 w.sender.begun s i t j ≡ true
   begun_cases t j b = gone_more w.sender.begun s i t j b
 
-  datas_now : AllByRecursion (IsPiece (with_place w.sender.plan (first_place w.sender s i))) (w.datas ++ next_data w.sender (first_place w.sender s i) ∷ [])
-  datas_now = all_push _ w.datas _ (all_weaker _ _ _ (λ d. piece_kept w.sender.plan (with_place w.sender.plan (first_place w.sender s i)) longer d) h.datas)
-      (new_piece w.sender.plan (first_place w.sender s i) refl)
+  datas_now : AllByRecursion (IsPiece (with_place w.sender.plan (first_place s i number))) (w.datas ++ next_data w.sender (first_place s i number) ∷ [])
+  datas_now = all_push _ w.datas _ (all_weaker _ _ _ (λ d. piece_kept w.sender.plan (with_place w.sender.plan (first_place s i number)) longer d) h.datas)
+      (new_piece w.sender.plan (first_place s i number) refl)
 
-  tails_now : (o : ℕ) → o < length (with_place w.sender.plan (first_place w.sender s i)).places
-      → (place_at (with_place w.sender.plan (first_place w.sender s i)) o).marker ≡ true
-      → gone_at (with_place w.sender.plan (first_place w.sender s i)) w.sender.gone o ≡ true
-  tails_now = tails_placed w.sender.plan w.sender.gone w.sender.gone (first_place w.sender s i) longer (λ t j g. g) h.tails (λ e. absurd (false≢true e))
+  tails_now : (o : ℕ) → o < length (with_place w.sender.plan (first_place s i number)).places
+      → (place_at (with_place w.sender.plan (first_place s i number)) o).marker ≡ true
+      → gone_at (with_place w.sender.plan (first_place s i number)) w.sender.gone o ≡ true
+  tails_now = tails_placed w.sender.plan w.sender.gone w.sender.gone (first_place s i number) longer (λ t j g. g) h.tails (λ e. absurd (false≢true e))
 
-  later_now : (t : ℕ) → w.over t ≡ false → (o : ℕ) → length w.sender.plan.places ≤ o → IsAt (with_place w.sender.plan (first_place w.sender s i)) t true o
+  later_now : (t : ℕ) → w.over t ≡ false → (o : ℕ) → length w.sender.plan.places ≤ o → IsAt (with_place w.sender.plan (first_place s i number)) t true o
       → (x : ℕ) → IsAt w.sender.plan t true x → gone_at w.sender.plan w.sender.gone x ≡ true
-      → (place_at w.sender.plan x).ssn < (place_at (with_place w.sender.plan (first_place w.sender s i)) o).ssn
+      → (place_at w.sender.plan x).ssn < (place_at (with_place w.sender.plan (first_place s i number)) o).ssn
   later_now t v o l a x ax g =
-      let n = new_is w.sender.plan (first_place w.sender s i) t o l a in
+      let n = new_is w.sender.plan (first_place s i number) t o l a in
       subst (λ z. (place_at w.sender.plan x).ssn < z.ssn) (sym n.1)
-      (subst (λ z. (place_at w.sender.plan x).ssn < w.sender.ssn z) (sym n.2) (h.sending.earlier t v x ax).below)
+      (let b = (h.sending.earlier t v x ax).below in let u = numbered n.3 in let c = ap w.sender.ssn n.2 in omega arith)
 
-  going_now : (z : Place) → left_after w.sender.plan (first_place w.sender s i) ≡ Some z
-      → IsGoing (with_place w.sender.plan (first_place w.sender s i)) w.sender.gone z
-  going_now z e = going_after w.sender.plan w.sender.gone (first_place w.sender s i) z refl unsent.2 e
+  going_now : (z : Place) → left_after w.sender.plan (first_place s i number) ≡ Some z
+      → IsGoing (with_place w.sender.plan (first_place s i number)) w.sender.gone z
+  going_now z e = going_after w.sender.plan w.sender.gone (first_place s i number) z refl unsent.2 e
 
   begin_ordered : (message_at w.sender.plan s i).ordered ≡ true
-      → Invariant (record w { sender = counted (sent w.sender (first_place w.sender s i)) s i true; datas = w.datas ++ next_data w.sender (first_place w.sender s i) ∷ [] })
-  begin_ordered kind = grow_keeps w (with_place w.sender.plan (first_place w.sender s i)) (left_after w.sender.plan (first_place w.sender s i))
+      → Invariant (record w { sender = counted (sent w.sender (first_place s i number)) s i true; datas = w.datas ++ next_data w.sender (first_place s i number) ∷ [] })
+  begin_ordered kind = grow_keeps w (with_place w.sender.plan (first_place s i number)) (left_after w.sender.plan (first_place s i number))
       (put w.sender.next s (suc i)) (put w.sender.ssn s (suc (w.sender.ssn s))) (put_2 w.sender.begun s i) w.sender.gone w.sender.released
-      (w.datas ++ next_data w.sender (first_place w.sender s i) ∷ []) h longer (λ t j g. g)
-      (planned_next w.sender.plan w.over (first_place w.sender s i) h.planned next_place)
-      (sending_placed w.sender.plan (first_place w.sender s i) w.sender.current (left_after w.sender.plan (first_place w.sender s i)) w.sender.next (put w.sender.next s (suc i))
+      (w.datas ++ next_data w.sender (first_place s i number) ∷ []) h longer (λ t j g. g)
+      (planned_next w.sender.plan w.over (first_place s i number) h.planned next_place)
+      (sending_placed w.sender.plan (first_place s i number) w.sender.current (left_after w.sender.plan (first_place s i number)) w.sender.next (put w.sender.next s (suc i))
       w.sender.ssn (put w.sender.ssn s (suc (w.sender.ssn s))) w.sender.begun (put_2 w.sender.begun s i) w.sender.gone w.over h.planned h.sending
       (λ t. put_cases t (λ a b. a ≤ length (w.sender.plan.accepted t)) (λ e. let u = ap (λ z. length (w.sender.plan.accepted z)) e in omega (arith, unsent.0)) (λ ne. h.sending.within t))
       begun_cases (gone_now w.sender.begun s i)
       (λ t v o a.
       let x = h.sending.earlier t v o a in
-      put_cases t (λ a b. IsEarlier (with_place w.sender.plan (first_place w.sender s i)) t a b (place_at w.sender.plan o) o)
+      put_cases t (λ a b. IsEarlier (with_place w.sender.plan (first_place s i number)) t a b (place_at w.sender.plan o) o)
       (λ e. step t e o x)
-      (λ ne. earlier_placed w.sender.plan (first_place w.sender s i) t (w.sender.next t) (w.sender.ssn t) (place_at w.sender.plan o) o x))
-      (λ v k. put_cases s (λ a b. IsEarlier (with_place w.sender.plan (first_place w.sender s i)) s a b (first_place w.sender s i) (length w.sender.plan.places))
+      (λ ne. earlier_placed w.sender.plan (first_place s i number) t (w.sender.next t) (w.sender.ssn t) (place_at w.sender.plan o) o x))
+      (λ v k. put_cases s (λ a b. IsEarlier (with_place w.sender.plan (first_place s i number)) s a b (first_place s i number) (length w.sender.plan.places))
       (λ e. record {
         number = omega arith;
-        below = omega arith;
-        near = let n = length_placed w.sender.plan (first_place w.sender s i) in omega arith;
-        rank = let r = ranked in omega arith;
+        below = let u = numbered kind in omega arith;
+        near = let n = length_placed w.sender.plan (first_place s i number) in omega arith;
+        rank = let r = ranked in let u = numbered kind in omega arith;
       })
       (λ ne. absurd (ne refl)))
-      going_now (λ e. inl (left_none w.sender.plan (first_place w.sender s i) e)))
+      going_now (λ e. inl (left_none w.sender.plan (first_place s i number) e)))
       datas_now tails_now later_now (λ t n. refl)
       (λ t v st o l a.
-      let n = new_is w.sender.plan (first_place w.sender s i) t o l a in
+      let n = new_is w.sender.plan (first_place s i number) t o l a in
       let e = n.2 in
       let q = st.ordered in
       let en = ap w.sender.next (sym e) in
       let es = ap w.sender.ssn e in
       let d = due kind in
+      let u = numbered kind in
       record {
         ahead = subst (λ z. q.cursor ≤ z.ssn) (sym n.1) (let b = q.begun in omega arith);
         later = subst (λ z. read_end w.sender.plan 0 (w.reads t) ≤ z.message) (sym n.1) (let b = q.until in omega arith);
         link = subst (λ z. z.ssn + rank (w.sender.plan.accepted t) (read_end w.sender.plan 0 (w.reads t)) ≤ read_ssn w.sender.plan 0 (w.reads t) + rank (w.sender.plan.accepted t) z.message) (sym n.1)
             (let b = q.gap in let u : rank (w.sender.plan.accepted t) i ≡ rank (w.sender.plan.accepted t) (w.sender.next t) = ap (rank (w.sender.plan.accepted t)) (omega arith) in omega arith);
         exact = λ no. subst (λ z. z.ssn ≡ rank (w.sender.plan.accepted t) z.message) (sym n.1)
-            (es ∙ (q.full no).level_next ∙ ap (rank (w.sender.plan.accepted t)) (omega arith));
+            (u ∙ es ∙ (q.full no).level_next ∙ ap (rank (w.sender.plan.accepted t)) (omega arith));
       })
       (λ t v st.
       let q = st.ordered in
       record {
         going = λ z c sz k.
-            let l = left_some w.sender.plan (first_place w.sender s i) z c in
+            let l = left_some w.sender.plan (first_place s i number) z c in
             let e : s ≡ t = sym (ap (λ x. x.stream) l.1) ∙ sz in
             let u = ap w.sender.ssn e in
             let v' = ap (λ x. x.ssn) l.1 in
+            let k' = numbered kind in
             let b = q.begun in
             omega arith;
         begun = put_cases t (λ a b. q.cursor ≤ b) (λ e. let b = q.begun in let u = ap w.sender.ssn e in omega arith) (λ ne. q.begun);
@@ -214,7 +216,7 @@ module _ (w : Direction) (s i : ℕ) (can : can_begin w.sender s i ≡ true) (no
           (cases_eq t s)
 
       step : (t : ℕ) → t ≡ s → (o : ℕ) → IsEarlier w.sender.plan t (w.sender.next t) (w.sender.ssn t) (place_at w.sender.plan o) o
-          → IsEarlier (with_place w.sender.plan (first_place w.sender s i)) t (suc i) (suc (w.sender.ssn s)) (place_at w.sender.plan o) o
+          → IsEarlier (with_place w.sender.plan (first_place s i number)) t (suc i) (suc (w.sender.ssn s)) (place_at w.sender.plan o) o
       step t e o x =
           let d = due kind in
           let u = ap w.sender.next e in
@@ -222,29 +224,29 @@ module _ (w : Direction) (s i : ℕ) (can : can_begin w.sender s i ≡ true) (no
           record {
             number = let b = x.number in omega arith;
             below = let b = x.below in omega arith;
-            near = let b = x.near in let n = length_placed w.sender.plan (first_place w.sender s i) in omega arith;
+            near = let b = x.near in let n = length_placed w.sender.plan (first_place s i number) in omega arith;
             rank = let b = x.rank in let r = ranked_at t e in omega arith;
           }
 
   begin_unordered : (message_at w.sender.plan s i).ordered ≡ false
-      → Invariant (record w { sender = counted (sent w.sender (first_place w.sender s i)) s i false; datas = w.datas ++ next_data w.sender (first_place w.sender s i) ∷ [] })
-  begin_unordered kind = grow_keeps w (with_place w.sender.plan (first_place w.sender s i)) (left_after w.sender.plan (first_place w.sender s i))
+      → Invariant (record w { sender = counted (sent w.sender (first_place s i number)) s i false; datas = w.datas ++ next_data w.sender (first_place s i number) ∷ [] })
+  begin_unordered kind = grow_keeps w (with_place w.sender.plan (first_place s i number)) (left_after w.sender.plan (first_place s i number))
       w.sender.next w.sender.ssn (put_2 w.sender.begun s i) w.sender.gone w.sender.released
-      (w.datas ++ next_data w.sender (first_place w.sender s i) ∷ []) h longer (λ t j g. g)
-      (planned_next w.sender.plan w.over (first_place w.sender s i) h.planned next_place)
-      (sending_placed w.sender.plan (first_place w.sender s i) w.sender.current (left_after w.sender.plan (first_place w.sender s i)) w.sender.next w.sender.next
+      (w.datas ++ next_data w.sender (first_place s i number) ∷ []) h longer (λ t j g. g)
+      (planned_next w.sender.plan w.over (first_place s i number) h.planned next_place)
+      (sending_placed w.sender.plan (first_place s i number) w.sender.current (left_after w.sender.plan (first_place s i number)) w.sender.next w.sender.next
       w.sender.ssn w.sender.ssn w.sender.begun (put_2 w.sender.begun s i) w.sender.gone w.over h.planned h.sending
       h.sending.within begun_cases (gone_now w.sender.begun s i)
-      (λ t v o a. earlier_placed w.sender.plan (first_place w.sender s i) t (w.sender.next t) (w.sender.ssn t) (place_at w.sender.plan o) o (h.sending.earlier t v o a))
+      (λ t v o a. earlier_placed w.sender.plan (first_place s i number) t (w.sender.next t) (w.sender.ssn t) (place_at w.sender.plan o) o (h.sending.earlier t v o a))
       (λ v k. absurd (true≢false (sym k ∙ kind)))
-      going_now (λ e. inl (left_none w.sender.plan (first_place w.sender s i) e)))
+      going_now (λ e. inl (left_none w.sender.plan (first_place s i number) e)))
       datas_now tails_now later_now (λ t n. refl)
-      (λ t v st o l a. absurd (true≢false (sym (new_is w.sender.plan (first_place w.sender s i) t o l a).3 ∙ kind)))
+      (λ t v st o l a. absurd (true≢false (sym (new_is w.sender.plan (first_place s i number) t o l a).3 ∙ kind)))
       (λ t v st.
       let q = st.ordered in
       record {
         going = λ z c sz k. absurd (
-            let l = left_some w.sender.plan (first_place w.sender s i) z c in
+            let l = left_some w.sender.plan (first_place s i number) z c in
             true≢false (sym k ∙ ap (λ x. (message_of w.sender.plan x).ordered) l.1 ∙ kind));
         begun = q.begun;
         until = q.until;
@@ -253,11 +255,11 @@ module _ (w : Direction) (s i : ℕ) (can : can_begin w.sender s i ≡ true) (no
       })
 
   begin_either : (b : Bool) → (message_at w.sender.plan s i).ordered ≡ b
-      → Invariant (record w { sender = counted (sent w.sender (first_place w.sender s i)) s i b; datas = w.datas ++ next_data w.sender (first_place w.sender s i) ∷ [] })
+      → Invariant (record w { sender = counted (sent w.sender (first_place s i number)) s i b; datas = w.datas ++ next_data w.sender (first_place s i number) ∷ [] })
   begin_either true e = begin_ordered e
   begin_either false e = begin_unordered e
 
-  pub keeps_begin : Invariant (begin w s i)
+  pub keeps_begin : Invariant (begin w s i number)
   keeps_begin = begin_either (message_at w.sender.plan s i).ordered refl
 
 -- The message goes on, with its next piece or with the marker of its tail.

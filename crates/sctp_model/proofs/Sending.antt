@@ -10,7 +10,7 @@ use Rattle.sctp_model.proofs.Placing.{IsNext, length_placed, place_new, placed_c
 -- the first piece of a message
 pub next_first : (p : Plan) (current : Option Place) (next ssn : ℕ → ℕ) (begun gone : ℕ → ℕ → Bool) (over : ℕ → Bool) (y : Place)
     → IsPlanned p over → IsSending p current next ssn begun gone over → current ≡ None
-    → y.piece ≡ 0 → y.ssn ≡ ssn y.stream → y.message < length (p.accepted y.stream) → begun y.stream y.message ≡ false
+    → y.piece ≡ 0 → ((message_of p y).ordered ≡ true → y.ssn ≡ ssn y.stream) → y.message < length (p.accepted y.stream) → begun y.stream y.message ≡ false
     → ((message_of p y).ordered ≡ true → y.message ≡ next y.stream) → IsNext p over y
 next_first p current next ssn begun gone over y h g none piece number known new due = record {
   known = known;
@@ -24,6 +24,7 @@ next_first p current next ssn begun gone over y h g none piece number known new 
   pairs = λ v ordered o a.
       let e = g.earlier y.stream v o a in
       let m = due ordered in
+      let k = number ordered in
       record {
         number = let b = e.number in omega arith;
         ssn = let b = e.below in omega arith;

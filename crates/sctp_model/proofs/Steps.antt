@@ -1,11 +1,11 @@
 -- Every event keeps the invariant, so it holds after every list of events, and with it the promise.
 use Rattle.std.proofs.Common.{ℕ, ◌+◌, ◌<◌, ◌≡◌, Bool, true, false, not, cond, eqb, ltb, ◌&&◌, List, [], ◌∷◌, Option, Some, None, refl, sym, ap, ◌∙◌, inl, arith}
 use Rattle.std.specs.Prelude.{slice_get}
-use Rattle.std.proofs.lemmas.Bool.{and_parts, ltb-true, ltb-false, true≢false, false≢true, cond_both, eqb-true, eq-eqb, and_from, not-true}
+use Rattle.std.proofs.lemmas.Bool.{and_parts, ltb-true, ltb-false, true≢false, false≢true, cond-true, cond_both, eqb-true, eq-eqb, and_from, not-true}
 use Rattle.sctp_model.specs.Messages.{Place, is_reliable, message_at}
 use Rattle.sctp_model.specs.Packets.{Data, Sack, Forward}
 use Rattle.sctp_model.specs.Reassembly.{Queue, Taken, next}
-use Rattle.sctp_model.specs.Machine.{Direction, Event, fresh, happens, run, point, begin, begin_if, can_begin, go_on, can_abandon, is_of, marked, tail_marked, left, unacknowledged, has_message, sack_comes, data_comes, forward_comes, is_new, took, was_read, read, passes, acknowledged_by}
+use Rattle.sctp_model.specs.Machine.{Direction, Event, fresh, happens, run, point, begin, begin_if, number_for, can_begin, go_on, can_abandon, is_of, marked, tail_marked, left, unacknowledged, has_message, sack_comes, data_comes, forward_comes, is_new, took, was_read, read, passes, acknowledged_by}
 use Rattle.sctp_model.specs.Safe.{IsWithin, StaysWithin}
 use Rattle.sctp_model.specs.Invariants.{Invariant, IsPiece, IsHonest, IsForward}
 use Rattle.sctp_model.specs.Laws.{OneDirectionIsSafe}
@@ -18,9 +18,10 @@ use Rattle.sctp_model.proofs.Safety.{safe_from}
 either : (b : Bool) (x y : Direction) → (b ≡ true → Invariant x) → (b ≡ false → Invariant y) → Invariant (cond b x y)
 either b x y = cond_both b x y Invariant
 
-begin_step : (w : Direction) (s i : ℕ) (c : Option Place) → w.sender.current ≡ c → Invariant w → Invariant (begin_if w s i c)
-begin_step w s i None e h = either (can_begin w.sender s i) (begin w s i) w (λ b. keeps_begin w s i b e h) (λ b. h)
-begin_step w s i (Some y) e h = h
+begin_step : (w : Direction) (s i any : ℕ) (c : Option Place) → w.sender.current ≡ c → Invariant w → Invariant (begin_if w s i any c)
+begin_step w s i any None e h = either (can_begin w.sender s i) (begin w s i (number_for w.sender s i any)) w
+    (λ b. keeps_begin w s i (number_for w.sender s i any) (λ k. cond-true _ (w.sender.ssn s) any k) b e h) (λ b. h)
+begin_step w s i any (Some y) e h = h
 
 go_on_step : (w : Direction) (c : Option Place) → w.sender.current ≡ c → Invariant w → Invariant (go_on w c)
 go_on_step w None e h = h
@@ -86,7 +87,7 @@ unfolding happens
 happens_keeps w (Event.Write s m) l h = either _ _ _ (λ b. h) (λ b. keeps_write w s m b h)
 happens_keeps w (Event.PassOver s) l h = either _ _ _ (λ b. keeps_pass_over w s b h) (λ b. h)
 happens_keeps w (Event.Drop s i) l h = either _ _ _ (λ b. keeps_drop w s i b h) (λ b. h)
-happens_keeps w (Event.Begin s i) l h = begin_step w s i w.sender.current refl h
+happens_keeps w (Event.Begin s i any) l h = begin_step w s i any w.sender.current refl h
 happens_keeps w Event.GoOn l h = go_on_step w w.sender.current refl h
 happens_keeps w (Event.Resend o) l h = either _ _ _ (λ b. keeps_resend w o b h) (λ b. h)
 happens_keeps w (Event.Abandon s i) l h = either _ _ _ (λ b. abandon_step w s i w.sender.current refl b h) (λ b. h)

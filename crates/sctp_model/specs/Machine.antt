@@ -111,8 +111,12 @@ is_due x s i = not (message_at x.plan s i).ordered || (i == x.next s)
 abbrev pub can_begin : Sender → ℕ → ℕ → Bool
 can_begin x s i = is_unsent x s i && is_due x s i
 
-abbrev pub first_place : Sender → ℕ → ℕ → Place
-first_place x s i = record { stream = s; message = i; piece = 0; ssn = x.ssn s; marker = false }
+abbrev pub first_place : ℕ → ℕ → ℕ → Place
+first_place s i number = record { stream = s; message = i; piece = 0; ssn = number; marker = false }
+
+-- an ordered message gets the stream's next sequence number; an unordered one has any number
+abbrev pub number_for : Sender → ℕ → ℕ → ℕ → ℕ
+number_for x s i any = if (message_at x.plan s i).ordered then x.ssn s else any
 
 abbrev pub following : Place → Place
 following y = record y { piece = suc y.piece }
@@ -135,16 +139,16 @@ counted x s i false = record x { begun = put_2 x.begun s i }
 abbrev pub next_data : Sender → Place → Data
 next_data x y = data_at (with_place x.plan y) (length x.plan.places)
 
-abbrev pub begin : Direction → ℕ → ℕ → Direction
-begin w s i = record w {
-  sender = counted (sent w.sender (first_place w.sender s i)) s i (message_at w.sender.plan s i).ordered;
-  datas = w.datas ++ next_data w.sender (first_place w.sender s i) ∷ [];
+abbrev pub begin : Direction → ℕ → ℕ → ℕ → Direction
+begin w s i number = record w {
+  sender = counted (sent w.sender (first_place s i number)) s i (message_at w.sender.plan s i).ordered;
+  datas = w.datas ++ next_data w.sender (first_place s i number) ∷ [];
 }
 
 -- no message begins while another has pieces to be sent
-abbrev pub begin_if : Direction → ℕ → ℕ → Option Place → Direction
-begin_if w s i None = if can_begin w.sender s i then begin w s i else w
-begin_if w s i (Some y) = w
+abbrev pub begin_if : Direction → ℕ → ℕ → ℕ → Option Place → Direction
+begin_if w s i any None = if can_begin w.sender s i then begin w s i (number_for w.sender s i any) else w
+begin_if w s i any (Some y) = w
 
 abbrev pub go_on : Direction → Option Place → Direction
 go_on w None = w
@@ -304,7 +308,9 @@ pub data Event : Type 0 where
   Write : ℕ → Message → Event  -- a write on a stream is accepted
   PassOver : ℕ → Event
   Drop : ℕ → ℕ → Event  -- message i of stream s is dropped unsent
-  Begin : ℕ → ℕ → Event  -- the first piece of message i of stream s gets the next offset and goes out
+  -- the first piece of message i of stream s gets the next offset and goes out; the third number is the sequence number that it
+  -- carries if it is unordered
+  Begin : ℕ → ℕ → ℕ → Event
   GoOn : Event  -- so does the next piece of the message that was begun
   Resend : ℕ → Event  -- the piece of an offset goes out again
   Abandon : ℕ → ℕ → Event  -- message i of stream s is abandoned
@@ -324,7 +330,7 @@ unfoldable pub happens : Direction → Event → Direction
 happens w (Write s m) = if is_empty m then w else record w { sender = written w.sender s (as_kept m) }
 happens w (PassOver s) = if can_pass_over w.sender s then record w { sender = passed_over w.sender s } else w
 happens w (Drop s i) = if can_drop w.sender s i then record w { sender = dropped w.sender s i } else w
-happens w (Begin s i) = begin_if w s i w.sender.current
+happens w (Begin s i any) = begin_if w s i any w.sender.current
 happens w GoOn = go_on w w.sender.current
 happens w (Resend o) = if can_resend w.sender.plan o then record w { datas = w.datas ++ data_at w.sender.plan o ∷ [] } else w
 happens w (Abandon s i) = if can_abandon w.sender s i then record w { sender = abandoned w.sender s i } else w

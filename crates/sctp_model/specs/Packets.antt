@@ -3,7 +3,7 @@ use Rattle.std.specs.Prelude.{ℕ, ◌%◌, Bool, false, List, [], ◌∷◌, �
 use Rattle.sctp_model.specs.Messages.{Plan, Place, place_at, message_of, piece_of, is_last}
 
 -- DATA (RFC 4960 section 3.3.1): `first` and `last` are the B and E bits, `ordered` is the U bit turned round. The stream
--- sequence number of an unordered piece says nothing.
+-- sequence number of an unordered piece may be any and says nothing.
 pub record Data : Type 0 where
   pub offset : ℕ
   pub stream : ℕ
