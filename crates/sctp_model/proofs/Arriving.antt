@@ -26,6 +26,7 @@ taken_more p taken x s i k t = record {
   stream = t.stream;
   message = t.message;
   piece = t.piece;
+  sent = t.sent;
   taken_in = mem_old x t.offset taken t.taken_in;
 }
 
@@ -60,6 +61,7 @@ whole_less p taken x s i apart w = record {
         stream = t.stream;
         message = t.message;
         piece = t.piece;
+        sent = t.sent;
         taken_in = ⊎_elim (λ (e : x ≡ t.offset). absurd (apart k t e)) (λ (m : mem t.offset taken ≡ true). m) (mem_new x t.offset taken t.taken_in);
       };
 }

@@ -31,6 +31,7 @@ module _ (p : Plan) (over : ℕ → Bool) (gone : ℕ → ℕ → Bool) (acked :
     stream = st;
     message = m;
     piece = e;
+    sent = false_from_ne_true _ (λ (k : (place_at p o).marker ≡ true). true≢false (sym (tails o (let a = hf.known in omega arith) k) ∙ stays o st));
     taken_in = ⊎_elim
         (λ (a : mem o taken ≡ true). a)
         (λ (g : gone_at p gone o ≡ true). absurd (true≢false (sym g ∙ stays o st)))
