@@ -347,6 +347,7 @@ planned_span p over over' spans h = record {
   one = h.one;
   after = h.after;
   before = h.before;
+  rises = h.rises;
   pairs = λ s v. h.pairs s (spans s v);
 }
 
@@ -358,6 +359,7 @@ keeps_end w s h = record {
       record {
         within = g.within;
         counted = g.counted;
+        numbers = g.numbers;
         earlier = λ t v. g.earlier t (spans t v);
         going = g.going;
         closed = g.closed;
@@ -392,6 +394,7 @@ keeps_restart w s over h = record {
       record {
         within = g.within;
         counted = g.counted;
+        numbers = g.numbers;
         earlier = λ t v o a. subst (λ z. IsEarlier w.sender.plan t (w.sender.next t) z (place_at w.sender.plan o) o) (sym (same t v)) (g.earlier t v o a);
         going = g.going;
         closed = g.closed;

@@ -80,7 +80,6 @@ tails_placed p gone gone' y e more old new o l m = ⊎_elim
 
 earlier_placed : (p : Plan) (y : Place) (s next ssn : ℕ) (x : Place) (o : ℕ) → IsEarlier p s next ssn x o → IsEarlier (with_place p y) s next ssn x o
 earlier_placed p y s next ssn x o e = record {
-  number = e.number;
   below = e.below;
   near = let a = e.near in let n = length_placed p y in omega arith;
   rank = e.rank;
@@ -143,6 +142,8 @@ module _ (w : Direction) (s i number : ℕ) (numbered : (message_at w.sender.pla
       w.sender.ssn (put w.sender.ssn s (suc (w.sender.ssn s))) w.sender.begun (put_2 w.sender.begun s i) w.sender.gone w.over h.planned h.sending
       (λ t. put_cases t (λ a b. a ≤ length (w.sender.plan.accepted t)) (λ e. let u = ap (λ z. length (w.sender.plan.accepted z)) e in omega (arith, unsent.0)) (λ ne. h.sending.within t))
       begun_cases (gone_now w.sender.begun s i)
+      (λ t. put_cases t (λ a b. w.sender.next t ≤ a) (λ e. let d = due kind in let u = ap w.sender.next e in omega arith) (λ ne. omega arith))
+      (λ k. put_cases s (λ a b. i < a) (λ e. omega arith) (λ ne. absurd (ne refl)))
       (λ t v o a.
       let x = h.sending.earlier t v o a in
       put_cases t (λ a b. IsEarlier (with_place w.sender.plan (first_place s i number)) t a b (place_at w.sender.plan o) o)
@@ -150,7 +151,6 @@ module _ (w : Direction) (s i number : ℕ) (numbered : (message_at w.sender.pla
       (λ ne. earlier_placed w.sender.plan (first_place s i number) t (w.sender.next t) (w.sender.ssn t) (place_at w.sender.plan o) o x))
       (λ v k. put_cases s (λ a b. IsEarlier (with_place w.sender.plan (first_place s i number)) s a b (first_place s i number) (length w.sender.plan.places))
       (λ e. record {
-        number = omega arith;
         below = let u = numbered kind in omega arith;
         near = let n = length_placed w.sender.plan (first_place s i number) in omega arith;
         rank = let r = ranked in let u = numbered kind in omega arith;
@@ -222,7 +222,6 @@ module _ (w : Direction) (s i number : ℕ) (numbered : (message_at w.sender.pla
           let u = ap w.sender.next e in
           let u' = ap w.sender.ssn e in
           record {
-            number = let b = x.number in omega arith;
             below = let b = x.below in omega arith;
             near = let b = x.near in let n = length_placed w.sender.plan (first_place s i number) in omega arith;
             rank = let b = x.rank in let r = ranked_at t e in omega arith;
@@ -237,6 +236,7 @@ module _ (w : Direction) (s i number : ℕ) (numbered : (message_at w.sender.pla
       (sending_placed w.sender.plan (first_place s i number) w.sender.current (left_after w.sender.plan (first_place s i number)) w.sender.next w.sender.next
       w.sender.ssn w.sender.ssn w.sender.begun (put_2 w.sender.begun s i) w.sender.gone w.over h.planned h.sending
       h.sending.within begun_cases (gone_now w.sender.begun s i)
+      (λ t. omega arith) (λ k. absurd (true≢false (sym k ∙ kind)))
       (λ t v o a. earlier_placed w.sender.plan (first_place s i number) t (w.sender.next t) (w.sender.ssn t) (place_at w.sender.plan o) o (h.sending.earlier t v o a))
       (λ v k. absurd (true≢false (sym k ∙ kind)))
       going_now (λ e. inl (left_none w.sender.plan (first_place s i number) e)))
@@ -367,21 +367,19 @@ sending_following w c y current' is es em en h going closed =
     (let f = g.follows in
     subst (λ z. w.sender.begun z y.message ≡ true) (sym (es ∙ f.stream))
     (subst (λ z. w.sender.begun (place_at p g.last).stream z ≡ true) (sym (em ∙ f.message)) (h.sending.counted g.last (let n = g.is in omega arith))))
+    (λ t. omega arith)
+    (λ k. let f = g.follows in
+    let b = h.sending.numbers y.stream g.last (last_at k) in
+    let mm : y.message ≡ (place_at p g.last).message = em ∙ f.message in
+    omega arith)
     (λ t v o a. earlier_placed p y t (w.sender.next t) (w.sender.ssn t) (place_at p o) o (h.sending.earlier t v o a))
     (λ v k.
     let f = g.follows in
     let n = g.is in
-    let m : IsAt p y.stream true g.last = record {
-      known = omega arith;
-      stream = sym f.stream ∙ sym es;
-      kind = ap (λ z. (message_at p z (place_at p g.last).message).ordered) (sym f.stream ∙ sym es)
-          ∙ ap (λ z. (message_at p y.stream z).ordered) (sym f.message ∙ sym em) ∙ k;
-    } in
-    let x = h.sending.earlier y.stream v g.last m in
+    let x = h.sending.earlier y.stream v g.last (last_at k) in
     let ss : y.ssn ≡ (place_at p g.last).ssn = en ∙ f.ssn in
     let mm : y.message ≡ (place_at p g.last).message = em ∙ f.message in
     record {
-      number = let b = x.number in omega arith;
       below = let b = x.below in omega arith;
       near = let b = x.near in let q = length_placed p y in omega arith;
       rank = let b = x.rank in let u = ap (rank (p.accepted y.stream)) mm in omega arith;
@@ -393,6 +391,16 @@ sending_following w c y current' is es em en h going closed =
 
     g : IsGoing w.sender.plan w.sender.gone c
     g = h.sending.going c is
+
+    last_at : (message_of w.sender.plan y).ordered ≡ true → IsAt w.sender.plan y.stream true g.last
+    last_at k =
+        let f = g.follows in
+        record {
+          known = let n = g.is in omega arith;
+          stream = sym f.stream ∙ sym es;
+          kind = ap (λ z. (message_at w.sender.plan z (place_at w.sender.plan g.last).message).ordered) (sym f.stream ∙ sym es)
+              ∙ ap (λ z. (message_at w.sender.plan y.stream z).ordered) (sym f.message ∙ sym em) ∙ k;
+        }
 
 pub keeps_go_on : (w : Direction) (c : Place) → w.sender.current ≡ Some c → Invariant w
     → Invariant (record w { sender = sent w.sender c; datas = w.datas ++ next_data w.sender c ∷ [] })
@@ -426,6 +434,7 @@ keeps_marked w s i n c is es ei known unreliable h =
     record {
       within = g.within;
       counted = g.counted;
+      numbers = g.numbers;
       earlier = g.earlier;
       going = λ z e. absurd (none_some z e);
       closed = g.closed;

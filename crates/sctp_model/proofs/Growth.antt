@@ -214,7 +214,6 @@ follows_kept x y x' y' a b f = subst (λ z. Follows z y') (sym a) (subst (λ z. 
 pub pair_kept : (p q : Plan) (e : IsExtended p q) (s : ℕ) (x y : Place) (o r : ℕ) → x.message ≤ length (p.accepted s) → y.message ≤ length (p.accepted s)
     → IsPair p s x y o r → IsPair q s x y o r
 pair_kept p q e s x y o r lx ly h = record {
-  number = h.number;
   ssn = h.ssn;
   together = h.together;
   alike = h.alike;

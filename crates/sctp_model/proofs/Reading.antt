@@ -103,7 +103,7 @@ ordered_read p over current next ssn begun gone taken passed skipped s low end q
       (λ ne l. h.past o a l);
   later = λ o a l. let b = pair_after o a l in b.0;
   link = λ o a l. let b = pair_after o a l in b.1;
-  until = earlier.number;
+  until = g.numbers s x ax;
   gap = let b = earlier.rank in let c = d.ssn in let r = rank_x in omega arith;
   full = λ none.
       let f = h.full none in
@@ -191,7 +191,7 @@ ordered_read p over current next ssn begun gone taken passed skipped s low end q
         (λ (b : o < x). absurd (let c = hp.pairs s v o x (omega arith) a ax in let e = c.ssn in let f = d.ssn in omega arith))
         (λ (b : x ≤ o).
         let c = hp.pairs s v x o b ax a in
-        let e = c.number in
+        let e = hp.rises s x o b ax a in
         let f = c.rank in
         let k = d.ssn in
         let r = rank_x in

@@ -113,11 +113,13 @@ fresh_holds size some = record {
     one = λ o q l. absurd (omega arith);
     after = λ o l. absurd (omega arith);
     before = λ o k l. absurd (omega arith);
+    rises = λ s o q l a. absurd (let k = a.known in omega arith);
     pairs = λ s v o q l a. absurd (let k = a.known in omega arith);
   };
   sending = record {
     within = λ s. omega arith;
     counted = λ o l. absurd (omega arith);
+    numbers = λ s o a. absurd (let k = a.known in omega arith);
     earlier = λ s v o a. absurd (let k = a.known in omega arith);
     going = λ y e. absurd (none_some y e);
     closed = λ e o l. absurd (omega arith);

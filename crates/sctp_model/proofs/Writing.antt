@@ -138,6 +138,7 @@ planned_message p over s m filled h = record {
   one = h.one;
   after = λ o l a b. h.after o l (sym (last_kept p q e o (omega arith)) ∙ a) b;
   before = λ o k l x. let b = h.before o k l x in let c = b.1 in (b.0, record { next = c.next; follows = c.follows; sent = c.sent });
+  rises = λ t o r l a b. h.rises t o r l (at_before p q e t o true a.known a) (at_before p q e t r true b.known b);
   pairs = λ t v o r l a b.
       let a' = at_before p q e t o true a.known a in
       let b' = at_before p q e t r true b.known b in
@@ -157,12 +158,12 @@ sending_message : (p : Plan) (current : Option Place) (next ssn : ℕ → ℕ) (
 sending_message p current next ssn begun gone over s m h g = record {
   within = λ t. let a = g.within t in let b = e.longer t in omega arith;
   counted = g.counted;
+  numbers = λ t o a. g.numbers t o (at_before p q e t o true a.known a);
   earlier = λ t v o a.
       let a' = at_before p q e t o true a.known a in
       let ko = subst (λ z. (place_at p o).message < length (p.accepted z)) a'.stream (h.known o a.known) in
       let x = g.earlier t v o a' in
       record {
-        number = x.number;
         below = x.below;
         near = x.near;
         rank = let b = x.rank in let c = rank_kept p q e t (place_at p o).message (omega (arith, ko)) in let d = rank_kept p q e t (next t) (g.within t) in omega arith;
@@ -239,11 +240,13 @@ keeps_pass_over w s can h = grow_keeps w p w.sender.current (put w.sender.next s
     (record {
       within = λ t. put_cases t (λ z. z ≤ length (p.accepted t)) (λ e. let k = known in let u = ap (λ z. length (p.accepted z)) e in omega arith) (λ ne. h.sending.within t);
       counted = h.sending.counted;
+      numbers = λ t o a. put_cases t (λ z. (place_at p o).message < z)
+          (λ e. let b = h.sending.numbers t o a in let u = ap w.sender.next e in omega arith)
+          (λ ne. h.sending.numbers t o a);
       earlier = λ t v o a.
           let x = h.sending.earlier t v o a in
           put_cases t (λ z. IsEarlier p t z (w.sender.ssn t) (place_at p o) o)
           (λ e. record {
-            number = let b = x.number in let u = ap w.sender.next e in omega arith;
             below = x.below;
             near = x.near;
             rank = let b = x.rank in
@@ -326,6 +329,7 @@ pub sending_gone : (p : Plan) (current : Option Place) (next ssn : ℕ → ℕ) 
 sending_gone p current next ssn begun gone over s i known unreliable apart g = record {
   within = g.within;
   counted = g.counted;
+  numbers = g.numbers;
   earlier = g.earlier;
   going = λ y c.
       let x = g.going y c in

@@ -21,9 +21,8 @@ pub record IsBefore (p : Plan) (o q : ℕ) : Type 0 where
   pub follows : Follows (place_at p q) (place_at p o)
   pub sent : (place_at p q).marker ≡ false
 
--- two places of ordered messages of one stream, the second on the same offset or a later one
+-- two places of ordered messages of one stream within its span, the second on the same offset or a later one
 pub record IsPair (p : Plan) (s : ℕ) (x y : Place) (o q : ℕ) : Type 0 where
-  pub number : x.message ≤ y.message
   pub ssn : x.ssn ≤ y.ssn
   pub together : x.ssn ≡ y.ssn → x.message ≡ y.message
   pub alike : x.message ≡ y.message → x.ssn ≡ y.ssn
@@ -40,6 +39,8 @@ pub record IsPlanned (p : Plan) (over : ℕ → Bool) : Type 0 where
   pub after : (o : ℕ) → suc o < length p.places → is_last p (place_at p o) ≡ false → (place_at p o).marker ≡ false
       → Follows (place_at p o) (place_at p (suc o))
   pub before : (o k : ℕ) → o < length p.places → (place_at p o).piece ≡ suc k → (q : ℕ) × IsBefore p o q
+  -- ordered messages of a stream stand in the order of their numbers, also past its span
+  pub rises : (s o q : ℕ) → o ≤ q → IsAt p s true o → IsAt p s true q → (place_at p o).message ≤ (place_at p q).message
   pub pairs : (s : ℕ) → over s ≡ false → (o q : ℕ) → o ≤ q → IsAt p s true o → IsAt p s true q
       → IsPair p s (place_at p o) (place_at p q) o q
 
@@ -47,7 +48,6 @@ pub record IsPlanned (p : Plan) (over : ℕ → Bool) : Type 0 where
 
 -- an ordered message of stream s that has the offset o, against the next one
 pub record IsEarlier (p : Plan) (s next ssn : ℕ) (x : Place) (o : ℕ) : Type 0 where
-  pub number : x.message < next
   pub below : x.ssn < ssn
   pub near : ssn + o ≤ x.ssn + length p.places
   pub rank : ssn + rank (p.accepted s) x.message ≤ x.ssn + rank (p.accepted s) next
@@ -65,6 +65,7 @@ pub record IsGoing (p : Plan) (gone : ℕ → ℕ → Bool) (y : Place) : Type 0
 pub record IsSending (p : Plan) (current : Option Place) (next ssn : ℕ → ℕ) (begun gone : ℕ → ℕ → Bool) (over : ℕ → Bool) : Type 0 where
   pub within : (s : ℕ) → next s ≤ length (p.accepted s)
   pub counted : (o : ℕ) → o < length p.places → begun (place_at p o).stream (place_at p o).message ≡ true
+  pub numbers : (s o : ℕ) → IsAt p s true o → (place_at p o).message < next s
   pub earlier : (s : ℕ) → over s ≡ false → (o : ℕ) → IsAt p s true o → IsEarlier p s (next s) (ssn s) (place_at p o) o
   pub going : (y : Place) → current ≡ Some y → IsGoing p gone y
   pub closed : current ≡ None → (o : ℕ) → length p.places ≡ suc o
