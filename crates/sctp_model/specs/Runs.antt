@@ -1,5 +1,5 @@
 -- Small runs that compute, so that a reader sees the machine at work.
-use Rattle.std.specs.Prelude.{ℕ, ◌≡◌, Bool, true, false, List, [], ◌∷◌, length, map}
+use Rattle.std.specs.Prelude.{ℕ, ◌≡◌, Bool, true, false, List, [], ◌∷◌, length, map, None}
 use Rattle.sctp_model.specs.Messages.{Message, Policy}
 use Rattle.sctp_model.specs.Packets.{Data}
 use Rattle.sctp_model.specs.Reassembly.{Queue, push, ready}
@@ -161,3 +161,25 @@ closed = Event.Write 0 (text true Policy.Reliable (1 ∷ [])) ∷ Event.Begin 0 
 
 abbrev pub ClosedReadsNothing : Type 0
 ClosedReadsNothing = letters_of (run closed (fresh 2)) 0 ≡ []
+
+-- Stream 0's first message is read. Before its span is over its sequence numbers can't begin again, nor can its queue be replaced.
+abbrev pub too_early : List Event
+too_early =
+    Event.Write 0 (text true Policy.Reliable (1 ∷ [])) ∷ Event.Begin 0 0 0 ∷ Event.DataComes 0 ∷ Event.Read 0 ∷ Event.Restart 0 ∷ Event.Replace 0 None
+    ∷ []
+
+-- Then the span ends, the numbers begin again, and the receiver retires the stream;
+abbrev pub span_over : List Event
+span_over = Event.End 0 ∷ Event.Restart 0 ∷ Event.Replace 0 None ∷ []
+
+-- its application opens it anew, and the second message comes with the number 0 and is read.
+abbrev pub opened_anew : List Event
+opened_anew = Event.Open 0 ∷ Event.Write 0 (text true Policy.Reliable (2 ∷ [])) ∷ Event.Begin 0 1 0 ∷ Event.DataComes 1 ∷ Event.Read 0 ∷ []
+
+abbrev pub StreamBeginsAnew : Type 0
+StreamBeginsAnew =
+    ((run too_early (fresh 2)).sender.ssn 0 ≡ 1) × (cursor_of (run too_early (fresh 2)) 0 ≡ 1)
+    × ((run span_over (run too_early (fresh 2))).over 0 ≡ true) × ((run span_over (run too_early (fresh 2))).sender.ssn 0 ≡ 0)
+    × ((run span_over (run too_early (fresh 2))).receiver.queues 0 ≡ None)
+    × (letters_of (run opened_anew (run span_over (run too_early (fresh 2)))) 0 ≡ said (1 ∷ []) ∷ said (2 ∷ []) ∷ [])
+    × (cursor_of (run opened_anew (run span_over (run too_early (fresh 2)))) 0 ≡ 1)

@@ -2,7 +2,7 @@
 #![tactic(auto)]
 
 ghost use Rattle.sctp_model.specs.Laws.{EachEventKeepsTheInvariant, OneDirectionIsSafe, TheInvariantHolds, TheInvariantIsEnough, PiecesJoin, PointIsGreatest, SacksAreExact, SequenceNumbersCompare, TsnsAheadSpellOffsets, TsnsBeforeTheInitialSpellNone, TsnsPastTheInitialSpellSome, TsnsSpellOffsets};
-ghost use Rattle.sctp_model.specs.Runs.{ClosedReadsNothing, DroppedUnsent, FirstAbandonedAndSkipped, LateForwardChangesNothing, LateNumberLeavesTheCursor, PiecesOutOfOrder, SacksReleaseOnce, SequenceNumbersWrap, StreamsDoNotWait, UnorderedIsDropped, UnorderedIsReadFirst};
+ghost use Rattle.sctp_model.specs.Runs.{ClosedReadsNothing, DroppedUnsent, FirstAbandonedAndSkipped, LateForwardChangesNothing, LateNumberLeavesTheCursor, PiecesOutOfOrder, SacksReleaseOnce, SequenceNumbersWrap, StreamBeginsAnew, StreamsDoNotWait, UnorderedIsDropped, UnorderedIsReadFirst};
 
 /// Serial numbers of 32 bits, as long as the offsets that they spell are less than half the range apart (RFC 4960 section 1.6).
 pub fn tsns_spell_offsets()
@@ -41,6 +41,7 @@ pub fn runs_compute()
     ensures streams { StreamsDoNotWait }
     ensures unsent { DroppedUnsent }
     ensures closed { ClosedReadsNothing }
+    ensures anew { StreamBeginsAnew }
 {}
 
 /// One direction of an association over every list of what may happen, for many streams at once: what is read was accepted,
