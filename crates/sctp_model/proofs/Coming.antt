@@ -4,9 +4,9 @@ use Rattle.std.proofs.lemmas.Bool.{cases_Bool, cases_lt, cases_eq, and_parts, or
 use Rattle.sctp_model.specs.Messages.{Plan, IsAt, place_at, bytes_at, bytes_below}
 use Rattle.sctp_model.specs.Packets.{Data, Sack, Forward, mem, names, data_at}
 use Rattle.sctp_model.specs.Reassembly.{Queue, Got, Taken, next, push, push_ordered, push_unordered}
-use Rattle.sctp_model.specs.Machine.{Direction, put, live, point, sack_of, is_new, took, moved, passes, newly, acknowledged_by, gone_front, forward_of, opened, can_resend}
+use Rattle.sctp_model.specs.Machine.{Direction, put, live, point, sack_of, is_new, took, moved, passes, acknowledged_by, gone_front, forward_of, opened, can_resend}
 use Rattle.sctp_model.specs.Safe.{IsWithin}
-use Rattle.sctp_model.specs.Invariants.{Invariant, IsPlanned, IsEarlier, IsPiece, IsHonest, IsForward, IsAccounted, IsStream, NoneGone, gone_at}
+use Rattle.sctp_model.specs.Invariants.{Invariant, IsPlanned, IsEarlier, IsPiece, IsHonest, IsForward, IsAccounted, IsStream, gone_at}
 use Rattle.sctp_model.proofs.Basics.{point_from, point_below, point_grows, sack_named}
 use Rattle.sctp_model.proofs.Lists.{all_weaker, all_push}
 use Rattle.sctp_model.proofs.Growth.{at_put, off_put}
@@ -85,24 +85,26 @@ keeps_forward_made w l some h = record {
 }
 
 -- bytes acknowledged now for the first time
-bytes_added : (p : Plan) (gone : ℕ → ℕ → Bool) (acked named : ℕ → Bool) (s n : ℕ) → NoneGone gone s
-    → bytes_below p acked s n + bytes_below p (λ o. named o && (not (acked o) && not (gone (place_at p o).stream (place_at p o).message))) s n
-    ≡ bytes_below p (λ o. acked o || named o) s n
-bytes_added p gone acked named s zero none = refl
-bytes_added p gone acked named s (suc o) none =
-    let r = bytes_added p gone acked named s o none in
-    let one = part (eqb (place_at p o).stream s) (acked o) (named o) (gone (place_at p o).stream (place_at p o).message) (bytes_at p (place_at p o))
-    (λ e. ap (λ z. gone z (place_at p o).message) (eqb-true _ _ e) ∙ none (place_at p o).message) in
+bytes_added : (p : Plan) (gone : ℕ → ℕ → Bool) (acked named : ℕ → Bool) (s n : ℕ)
+    → bytes_below p (λ o. acked o && not (gone_at p gone o)) s n + bytes_below p (λ o. named o && (not (acked o) && not (gone_at p gone o))) s n
+    ≡ bytes_below p (λ o. (acked o || named o) && not (gone_at p gone o)) s n
+bytes_added p gone acked named s zero = refl
+bytes_added p gone acked named s (suc o) =
+    let r = bytes_added p gone acked named s o in
+    let one = part (eqb (place_at p o).stream s) (acked o) (named o) (gone_at p gone o) (bytes_at p (place_at p o)) in
     omega arith
   where
-    part : (b a n g : Bool) (x : ℕ) → (b ≡ true → g ≡ false)
-        → cond b (cond a x 0) 0 + cond b (cond (n && (not a && not g)) x 0) 0 ≡ cond b (cond (a || n) x 0) 0
-    part false a n g x e = refl
-    part true true true g x e = omega arith
-    part true true false g x e = omega arith
-    part true false true true x e = absurd (true≢false (e refl))
-    part true false true false x e = omega arith
-    part true false false g x e = refl
+    part : (b a n g : Bool) (x : ℕ)
+        → cond b (cond (a && not g) x 0) 0 + cond b (cond (n && (not a && not g)) x 0) 0 ≡ cond b (cond ((a || n) && not g) x 0) 0
+    part false a n g x = refl
+    part true true true true x = refl
+    part true true true false x = omega arith
+    part true true false true x = refl
+    part true true false false x = omega arith
+    part true false true true x = refl
+    part true false true false x = omega arith
+    part true false false true x = refl
+    part true false false false x = refl
 
 pub keeps_sack_comes : (w : Direction) (k : Sack) → w.sender.point ≤ k.point → IsHonest w.receiver.taken w.receiver.passed (point w.receiver) k → Invariant w
     → Invariant (record w { sender = acknowledged_by w.sender k })
@@ -123,9 +125,10 @@ keeps_sack_comes w k on t h = record {
   behind = t.point;
   forwards = all_weaker _ _ _ (λ f. forward_later w.sender.plan w.sender.gone w.over w.over w.sender.acknowledged (acknowledged_by w.sender k).acknowledged
       w.sender.point k.point f (λ o a. or_left _ _ a) on (λ s v. v)) h.forwards;
-  released = λ s none.
-      ap (λ z. z + bytes_below w.sender.plan (newly w.sender k) s (length w.sender.plan.places)) (h.released s none)
-      ∙ bytes_added w.sender.plan w.sender.gone w.sender.acknowledged (names k) s (length w.sender.plan.places) none;
+  released = λ s.
+      let a = h.released s in
+      let b = bytes_added w.sender.plan w.sender.gone w.sender.acknowledged (names k) s (length w.sender.plan.places) in
+      omega arith;
   streams = h.streams;
 }
 

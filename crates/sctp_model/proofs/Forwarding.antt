@@ -16,7 +16,7 @@ pub record IsBack (p : Plan) (n o j q : ℕ) : Type 0 where
   pub message : (place_at p q).message ≡ (place_at p o).message
   pub piece : (place_at p q).piece ≡ j
 
-back : (p : Plan) (over : ℕ → Bool) (n o j : ℕ) → IsPlanned p over → o < length p.places → (place_at p o).piece ≡ n + j → (q : ℕ) × IsBack p n o j q
+pub back : (p : Plan) (over : ℕ → Bool) (n o j : ℕ) → IsPlanned p over → o < length p.places → (place_at p o).piece ≡ n + j → (q : ℕ) × IsBack p n o j q
 back p over zero o j h l e = (o, record { is = omega arith; stream = refl; message = refl; piece = omega arith })
 back p over (suc n) o j h l e =
     let b = h.before o (n + j) l (omega arith) in

@@ -4,15 +4,16 @@ use Rattle.std.specs.List.{AllByRecursion}
 use Rattle.std.proofs.lemmas.Bool.{cases_Bool, cases_eq, and_parts, or_cases, eqb-true, ltb-true, true≢false, false≢true, cond-true, cond-false, not-true}
 use Rattle.sctp_model.specs.Messages.{Place, Plan, IsAt, place_at, message_at, message_of, is_last, is_reliable, rank}
 use Rattle.sctp_model.specs.Packets.{Data, data_at}
-use Rattle.sctp_model.specs.Machine.{Direction, put, put_2, is_unsent, is_due, can_begin, first_place, following, left_after, with_place, sent, counted, next_data, begin, marked}
+use Rattle.sctp_model.specs.Machine.{Direction, put, put_2, is_unsent, is_due, can_begin, first_place, following, left_after, with_place, sent, counted, next_data, begin, marked, unacknowledged}
 use Rattle.sctp_model.specs.Safe.{read_end, read_ssn}
-use Rattle.sctp_model.specs.Invariants.{Invariant, Follows, IsEarlier, IsGoing, IsSending, IsPiece, NoneGone, gone_at}
+use Rattle.sctp_model.specs.Invariants.{Invariant, Follows, IsEarlier, IsGoing, IsSending, IsPiece, gone_at, released_bytes}
 use Rattle.sctp_model.proofs.Lists.{all_weaker, all_push}
 use Rattle.sctp_model.proofs.Ranks.{rank_yes}
 use Rattle.sctp_model.proofs.Growth.{IsExtended, at_put, off_put, place_extended, piece_kept}
 use Rattle.sctp_model.proofs.Placing.{IsNext, planned_next, length_placed, place_new, placed_cases}
 use Rattle.sctp_model.proofs.Sending.{next_first, next_following, sending_placed}
-use Rattle.sctp_model.proofs.Writing.{grow_keeps, gone_more, gone_now, gone_cases}
+use Rattle.sctp_model.proofs.Writing.{grow_keeps, freed_same, freed_now, gone_more, gone_cases}
+use Rattle.sctp_model.proofs.Released.{gone_now, released_given}
 
 -- what is left after a piece
 
@@ -157,7 +158,7 @@ module _ (w : Direction) (s i number : ℕ) (numbered : (message_at w.sender.pla
       })
       (λ ne. absurd (ne refl)))
       going_now (λ e. inl (left_none w.sender.plan (first_place s i number) e)))
-      datas_now tails_now later_now (λ t n. refl)
+      datas_now tails_now later_now (freed_same w (with_place w.sender.plan (first_place s i number)) h longer)
       (λ t v st o l a.
       let n = new_is w.sender.plan (first_place s i number) t o l a in
       let e = n.2 in
@@ -240,7 +241,7 @@ module _ (w : Direction) (s i number : ℕ) (numbered : (message_at w.sender.pla
       (λ t v o a. earlier_placed w.sender.plan (first_place s i number) t (w.sender.next t) (w.sender.ssn t) (place_at w.sender.plan o) o (h.sending.earlier t v o a))
       (λ v k. absurd (true≢false (sym k ∙ kind)))
       going_now (λ e. inl (left_none w.sender.plan (first_place s i number) e)))
-      datas_now tails_now later_now (λ t n. refl)
+      datas_now tails_now later_now (freed_same w (with_place w.sender.plan (first_place s i number)) h longer)
       (λ t v st o l a. absurd (true≢false (sym (new_is w.sender.plan (first_place s i number) t o l a).3 ∙ kind)))
       (λ t v st.
       let q = st.ordered in
@@ -268,7 +269,7 @@ going_keeps : (w : Direction) (c y : Place) (current' : Option Place) (gone' : �
     → y.stream ≡ c.stream → y.message ≡ c.message → y.piece ≡ c.piece → y.ssn ≡ c.ssn
     → ((t i : ℕ) → w.sender.gone t i ≡ true → gone' t i ≡ true)
     → (y.marker ≡ true → gone' y.stream y.message ≡ true)
-    → ((s : ℕ) → NoneGone gone' s → rl s ≡ w.sender.released s)
+    → ((s : ℕ) → rl s ≡ released_bytes (with_place w.sender.plan y) w.sender.acknowledged gone' s)
     → AllByRecursion (IsPiece (with_place w.sender.plan y)) ds
     → IsSending (with_place w.sender.plan y) current' w.sender.next w.sender.ssn w.sender.begun gone' w.over
     → ((z : Place) → current' ≡ Some z → (z.stream ≡ c.stream) × (z.message ≡ c.message) × (z.ssn ≡ c.ssn))
@@ -407,7 +408,7 @@ pub keeps_go_on : (w : Direction) (c : Place) → w.sender.current ≡ Some c �
 keeps_go_on w c is h = going_keeps w c c (left_after w.sender.plan c) w.sender.gone w.sender.released (w.datas ++ next_data w.sender c ∷ []) is refl refl refl refl
     (λ t i g. g)
     (λ m. absurd (true≢false (sym m ∙ (h.sending.going c is).plain)))
-    (λ s n. refl)
+    (freed_same w (with_place w.sender.plan c) h (place_extended w.sender.plan c h.planned.known))
     (all_push _ w.datas _
     (all_weaker _ _ _ (λ d. piece_kept w.sender.plan (with_place w.sender.plan c) (place_extended w.sender.plan c h.planned.known) d) h.datas)
     (new_piece w.sender.plan c (h.sending.going c is).plain))
@@ -421,14 +422,37 @@ keeps_go_on w c is h = going_keeps w c c (left_after w.sender.plan c) w.sender.g
 
 -- A message is abandoned.
 
+-- what is released when the message going on is abandoned
+pub marked_frees : (w : Direction) (s i : ℕ) (c : Place) → w.sender.current ≡ Some c → c.stream ≡ s → c.message ≡ i → i < length (w.sender.plan.accepted s) → Invariant w
+    → w.sender.released s + unacknowledged (marked w.sender c) s i
+    ≡ released_bytes (with_place w.sender.plan (record c { marker = true })) w.sender.acknowledged (put_2 w.sender.gone s i) s
+marked_frees w s i c is es ei known h = released_given r w.over w.sender.acknowledged w.sender.gone s i (w.sender.released s)
+    (planned_next w.sender.plan w.over y h.planned (next_following w.sender.plan w.over y g.last h.planned g.is f g.sent g.more))
+    (ap (λ z. w.sender.gone z i) (sym es) ∙ ap (w.sender.gone c.stream) (sym ei) ∙ g.stays)
+    known
+    (freed_same w r h (place_extended w.sender.plan y h.planned.known) s)
+  where
+    y : Place
+    y = record c { marker = true }
+
+    r : Plan
+    r = with_place w.sender.plan (record c { marker = true })
+
+    g : IsGoing w.sender.plan w.sender.gone c
+    g = h.sending.going c is
+
+    f : Follows (place_at w.sender.plan g.last) (record c { marker = true })
+    f = record { stream = g.follows.stream; message = g.follows.message; ssn = g.follows.ssn; piece = g.follows.piece }
+
 pub keeps_marked : (w : Direction) (s i n : ℕ) (c : Place) → w.sender.current ≡ Some c → c.stream ≡ s → c.message ≡ i
-    → i < length (w.sender.plan.accepted s) → is_reliable (message_at w.sender.plan s i).policy ≡ false → Invariant w
+    → i < length (w.sender.plan.accepted s) → is_reliable (message_at w.sender.plan s i).policy ≡ false
+    → n ≡ released_bytes (with_place w.sender.plan (record c { marker = true })) w.sender.acknowledged (put_2 w.sender.gone s i) s → Invariant w
     → Invariant (record w { sender = record (marked w.sender c) { gone = put_2 w.sender.gone s i; released = put w.sender.released s n } })
-keeps_marked w s i n c is es ei known unreliable h =
+keeps_marked w s i n c is es ei known unreliable freed h =
     going_keeps w c (record c { marker = true }) None (put_2 w.sender.gone s i) (put w.sender.released s n) w.datas is refl refl refl refl
     (gone_more w.sender.gone s i)
     (λ m. subst (λ z. put_2 w.sender.gone s i z c.message ≡ true) (sym es) (subst (λ z. put_2 w.sender.gone s i s z ≡ true) (sym ei) (gone_now w.sender.gone s i)))
-    (λ t none. off_put w.sender.released s t n (λ e. true≢false (sym (gone_now w.sender.gone s i) ∙ ap (λ z. put_2 w.sender.gone s i z i) (sym e) ∙ none i)))
+    (freed_now w (with_place w.sender.plan (record c { marker = true })) s i n h (place_extended w.sender.plan (record c { marker = true }) h.planned.known) freed)
     (all_weaker _ _ _ (λ d. piece_kept w.sender.plan (with_place w.sender.plan (record c { marker = true })) (place_extended w.sender.plan (record c { marker = true }) h.planned.known) d) h.datas)
     (let g = sending_following w c (record c { marker = true }) None is refl refl refl h (λ z e. absurd (none_some z e)) (λ e. inr refl) in
     record {

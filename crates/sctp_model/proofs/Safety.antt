@@ -1,8 +1,8 @@
 -- What is promised of a stream, read off from what holds of it.
-use Rattle.std.proofs.Common.{ℕ, zero, suc, ◌<◌, ◌≤◌, ◌≡◌, Bool, true, false, cond, eqb, ◌||◌, List, [], ◌∷◌, ◌++◌, length, Option, None, refl, sym, ap, ◌∙◌, subst, ⊎_elim, arith, append-nil}
+use Rattle.std.proofs.Common.{ℕ, zero, suc, ◌<◌, ◌≤◌, ◌≡◌, Bool, true, false, not, cond, eqb, ◌||◌, ◌&&◌, List, [], ◌∷◌, ◌++◌, length, Option, None, refl, sym, ap, ◌∙◌, subst, ⊎_elim, arith, append-nil}
 use Rattle.std.specs.Prelude.{filter}
 use Rattle.std.specs.List.{AllByRecursion}
-use Rattle.std.proofs.lemmas.Bool.{cases_Bool, cases_lt, cases_eq, or_cases, eqb-true, true≢false, false_from_ne_true, cond-true, cond-false}
+use Rattle.std.proofs.lemmas.Bool.{cases_Bool, cases_lt, cases_eq, and_parts, or_cases, eqb-true, true≢false, false_from_ne_true, cond-true, cond-false}
 use Rattle.sctp_model.specs.Messages.{Place, Plan, place_at, bytes_at, bytes_below, rank}
 use Rattle.sctp_model.specs.Packets.{mem}
 use Rattle.sctp_model.specs.Reassembly.{Queue, Got, Drained, next, next_from, next_ordered, drain, waiting}
@@ -12,6 +12,7 @@ use Rattle.sctp_model.specs.Invariants.{Invariant, IsPlanned, IsFull, IsGot, IsS
 use Rattle.sctp_model.proofs.Lists.{all_mem, all_map, all_front}
 use Rattle.sctp_model.proofs.Ranks.{rank_rises, rank_found}
 use Rattle.sctp_model.proofs.Basics.{point_from}
+use Rattle.sctp_model.proofs.Released.{released_none}
 use Rattle.sctp_model.proofs.Drained.{IsDrained, drained, none_due}
 
 names_of : (p : Plan) (taken : List ℕ) (s : ℕ) (gs : List Got) → AllByRecursion (IsGot p taken s) gs → Names p taken s gs (numbers_of p gs)
@@ -180,14 +181,17 @@ safe_from w s h l v = record {
   front = λ ko kr is_closed.
       let d = end_of in
       (read_end p 0 all, read_end p 0 (w.reads s), prefix_of ko kr, d.on, (stream.ordered.full (none kr)).letters ko);
-  released = λ kr. subst (λ z. z ≤ bytes_below p (λ o. mem o taken) s (length p.places)) (sym (h.released s (none kr)))
-      (bytes_fewer p w.sender.acknowledged (λ o. mem o taken) s (length p.places) (λ o lo st a. ⊎_elim
+  released = λ kr.
+      let a = h.released s in
+      let b = released_none p gone s (none kr) in
+      let c = bytes_fewer p (λ o. w.sender.acknowledged o && not (gone_at p gone o)) (λ o. mem o taken) s (length p.places) (λ o lo st t. ⊎_elim
       (λ (m : mem o taken ≡ true). m)
-      (λ (b : o < passed). ⊎_elim
+      (λ (f : o < passed). ⊎_elim
       (λ (m : mem o taken ≡ true). m)
       (λ (g : gone_at p gone o ≡ true). absurd (true≢false (sym g ∙ ap (λ z. gone z (place_at p o).message) st ∙ none kr (place_at p o).message)))
-      (h.accounted o (let f = point_from w.receiver in omega arith)))
-      (h.acknowledged o a)));
+      (h.accounted o (let f' = point_from w.receiver in omega arith)))
+      (h.acknowledged o (and_parts (w.sender.acknowledged o) (not (gone_at p gone o)) t).0)) in
+      omega arith;
   all = λ kr is_open. (numbers_of p all, drained_all p w.over gone current (w.sender.next s) (w.sender.ssn s) taken passed skipped s end.rest all h.planned v (none kr) end_of.near end_of.stream end_of.none);
 }
   where

@@ -5,13 +5,14 @@ use Rattle.std.proofs.lemmas.Bool.{and_parts, ltb-true, ltb-false, true≢false,
 use Rattle.sctp_model.specs.Messages.{Place, is_reliable, message_at}
 use Rattle.sctp_model.specs.Packets.{Data, Sack, Forward}
 use Rattle.sctp_model.specs.Reassembly.{Queue, Taken, next}
-use Rattle.sctp_model.specs.Machine.{Direction, Event, fresh, happens, run, point, begin, begin_if, number_for, can_begin, go_on, can_abandon, is_of, marked, tail_marked, left, unacknowledged, has_message, sack_comes, data_comes, forward_comes, is_new, took, was_read, read, passes, acknowledged_by}
+use Rattle.sctp_model.specs.Machine.{Direction, Event, put_2, fresh, happens, run, point, begin, begin_if, number_for, can_begin, go_on, can_abandon, is_of, marked, tail_marked, left, unacknowledged, has_message, sack_comes, data_comes, forward_comes, is_new, took, was_read, read, passes, acknowledged_by}
 use Rattle.sctp_model.specs.Safe.{IsWithin, StaysWithin}
-use Rattle.sctp_model.specs.Invariants.{Invariant, IsPiece, IsHonest, IsForward}
+use Rattle.sctp_model.specs.Invariants.{Invariant, IsPiece, IsHonest, IsForward, released_bytes}
 use Rattle.sctp_model.specs.Laws.{OneDirectionIsSafe}
 use Rattle.sctp_model.proofs.Lists.{all_get}
 use Rattle.sctp_model.proofs.Writing.{keeps_write, keeps_pass_over, keeps_drop, given_keeps}
-use Rattle.sctp_model.proofs.Giving.{keeps_begin, keeps_go_on, keeps_marked}
+use Rattle.sctp_model.proofs.Giving.{keeps_begin, keeps_go_on, keeps_marked, marked_frees}
+use Rattle.sctp_model.proofs.Released.{released_given}
 use Rattle.sctp_model.proofs.Coming.{keeps_resend, keeps_sack_made, keeps_forward_made, keeps_sack_comes, keeps_data_comes, keeps_forward_comes, keeps_read, keeps_open, keeps_replace, keeps_close, keeps_end, keeps_restart}
 use Rattle.sctp_model.proofs.Safety.{safe_from}
 
@@ -37,24 +38,31 @@ abandon_step w s i c e can h = go c e
     unreliable : is_reliable (message_at w.sender.plan s i).policy ≡ false
     unreliable = not-true _ (and_parts (w.sender.begun s i && not (w.sender.gone s i)) _ parts.1).1
 
+    stays : w.sender.gone s i ≡ false
+    stays = not-true _ (and_parts (w.sender.begun s i) _ (and_parts (w.sender.begun s i && not (w.sender.gone s i)) _ parts.1).0).1
+
+    freed : w.sender.released s + unacknowledged w.sender s i ≡ released_bytes w.sender.plan w.sender.acknowledged (put_2 w.sender.gone s i) s
+    freed = released_given w.sender.plan w.over w.sender.acknowledged w.sender.gone s i (w.sender.released s) h.planned stays (ltb-true _ _ parts.0) (h.released s)
+
     some_same : (y z : Place) → Some y ≡ Some z → y ≡ z
     some_same y z h = cc
 
     go : (c : Option Place) → w.sender.current ≡ c → Invariant (record w { sender = left (tail_marked w.sender s i c) s i })
     go None e = given_keeps w s i (w.sender.released s + unacknowledged w.sender s i) (ltb-true _ _ parts.0) unreliable
-        (λ y f. absurd (none_some y (sym e ∙ f))) h
+        (λ y f. absurd (none_some y (sym e ∙ f))) freed h
       where
         none_some : (y : Place) → None ≡ Some y → ⊥
         none_some y h = cc
     go (Some y) e = cond_both (is_of y s i) (marked w.sender y) w.sender (λ z. Invariant (record w { sender = left z s i }))
         (λ b.
         let t = and_parts (eqb y.stream s) (eqb y.message i) b in
-        keeps_marked w s i (w.sender.released s + unacknowledged (marked w.sender y) s i) y e (eqb-true _ _ t.0) (eqb-true _ _ t.1) (ltb-true _ _ parts.0) unreliable h)
+        keeps_marked w s i (w.sender.released s + unacknowledged (marked w.sender y) s i) y e (eqb-true _ _ t.0) (eqb-true _ _ t.1) (ltb-true _ _ parts.0) unreliable
+        (marked_frees w s i y e (eqb-true _ _ t.0) (eqb-true _ _ t.1) (ltb-true _ _ parts.0) h) h)
         (λ b. given_keeps w s i (w.sender.released s + unacknowledged w.sender s i) (ltb-true _ _ parts.0) unreliable
         (λ z f t.
         let same : y ≡ z = some_same y z (sym e ∙ f) in
         true≢false (sym (and_from (eqb y.stream s) (eqb y.message i) (eq-eqb _ _ (ap (λ v. v.stream) same ∙ t.0)) (eq-eqb _ _ (ap (λ v. v.message) same ∙ t.1))) ∙ b))
-        h)
+        freed h)
 
 sack_step : (w : Direction) (n : ℕ) (k : Option Sack) → slice_get w.sacks n ≡ k → Invariant w → Invariant (sack_comes w k)
 sack_step w n None e h = h
@@ -135,7 +143,7 @@ fresh_holds size some = record {
   cumulative = λ o l. absurd (omega arith);
   behind = omega arith;
   forwards = tt;
-  released = λ s none. refl;
+  released = λ s. refl;
   streams = λ s v. record {
     got = tt;
     once = tt;

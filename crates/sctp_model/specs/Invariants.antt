@@ -1,7 +1,7 @@
 -- What holds of a direction after every event, while its numbers stay within their limits. `IsSafe` is read off from it.
-use Rattle.std.specs.Prelude.{ℕ, suc, ◌+◌, ◌*◌, ◌%◌, ◌<◌, ◌≤◌, ◌≡◌, ◌⊎◌, max, Bool, true, false, List, ◌++◌, length, map, filter, Option, Some, None}
+use Rattle.std.specs.Prelude.{ℕ, suc, ◌+◌, ◌*◌, ◌%◌, ◌<◌, ◌≤◌, ◌≡◌, ◌⊎◌, max, Bool, true, false, not, ◌&&◌, List, ◌++◌, length, map, filter, Option, Some, None}
 use Rattle.std.specs.List.{AllByRecursion}
-use Rattle.sctp_model.specs.Messages.{Place, Plan, IsAt, place_at, message_at, message_of, is_last, is_reliable, rank, bytes_below}
+use Rattle.sctp_model.specs.Messages.{Place, Plan, IsAt, place_at, message_at, message_of, is_last, is_reliable, rank, bytes_below, bytes_among}
 use Rattle.sctp_model.specs.Packets.{Data, Sack, Forward, mem, names, data_at}
 use Rattle.sctp_model.specs.Reassembly.{Got, Queue, at}
 use Rattle.sctp_model.specs.Machine.{Direction, live, point}
@@ -81,6 +81,10 @@ IsAccounted p gone taken o = (mem o taken ≡ true) ⊎ (gone_at p gone o ≡ tr
 
 abbrev pub NoneGone : (ℕ → ℕ → Bool) → ℕ → Type 0
 NoneGone gone s = (i : ℕ) → gone s i ≡ false
+
+-- the acknowledged bytes of messages of stream s that stay, and all bytes of those given up
+abbrev pub released_bytes : Plan → (ℕ → Bool) → (ℕ → ℕ → Bool) → ℕ → ℕ
+released_bytes p acked gone s = bytes_below p (λ o. acked o && not (gone_at p gone o)) s (length p.places) + bytes_among p (gone s) s
 
 -- What is on its way.
 
@@ -229,8 +233,7 @@ pub record Invariant (w : Direction) : Type 0 where
   pub behind : w.sender.point ≤ point w.receiver
   -- every FORWARD TSN ever sent is true
   pub forwards : AllByRecursion (IsForward w.sender.plan w.sender.gone w.over w.sender.acknowledged w.sender.point) w.forwards
-  pub released : (s : ℕ) → NoneGone w.sender.gone s
-      → w.sender.released s ≡ bytes_below w.sender.plan w.sender.acknowledged s (length w.sender.plan.places)
+  pub released : (s : ℕ) → w.sender.released s ≡ released_bytes w.sender.plan w.sender.acknowledged w.sender.gone s
   -- the order, the cursor and the reads of each stream within its span
   pub streams : (s : ℕ) → w.over s ≡ false
       → IsStream w.sender.plan w.sender.gone w.sender.current (w.sender.next s) (w.sender.ssn s) w.receiver.taken w.receiver.passed (w.skipped s) s

@@ -1,6 +1,6 @@
 -- The laws that stand on the contracts of this crate's functions.
 use Rattle.std.specs.Prelude.{ℕ, suc, ◌+◌, ◌-◌, ◌*◌, ◌%◌, ◌^◌, ◌<◌, ◌≤◌, ◌≡◌, ◌↔◌, ◌⊎◌, max, true, false, List, ◌++◌, take, Some, None, nat_lt}
-use Rattle.sctp_model.specs.Messages.{piece_of}
+use Rattle.sctp_model.specs.Messages.{piece_of, accepted_bytes}
 use Rattle.sctp_model.specs.Packets.{mem, names}
 use Rattle.sctp_model.specs.Serial.{tsn, before_16, before_32, offset_near, offset_spelt, offset_ahead}
 use Rattle.sctp_model.specs.Machine.{Direction, Event, Receiver, fresh, happens, run, live, point, sack_of}
@@ -62,3 +62,7 @@ TheInvariantIsEnough = (w : Direction) → IsWithin w → Invariant w → (s : �
 abbrev pub TheCursorIsPastTheLater : Type 0
 TheCursorIsPastTheLater = (w : Direction) → Invariant w → (s : ℕ) → w.over s ≡ false
     → (live (w.receiver.queues s)).cursor ≡ max (read_ssn w.sender.plan 0 (w.reads s)) (w.skipped s) % 65536
+
+-- Of what it says of the bytes released: they are never more than were accepted on their stream.
+abbrev pub NoMoreIsReleased : Type 0
+NoMoreIsReleased = (w : Direction) → Invariant w → (s : ℕ) → w.sender.released s ≤ accepted_bytes w.sender.plan s
