@@ -65,7 +65,7 @@ keeps_sack_made w h = record {
 }
 
 pub keeps_forward_made : (w : Direction) → IsWithin w → 0 < length (gone_front w.sender) → Invariant w
-    → Invariant (record w { forwards = w.forwards ++ forward_of w.sender ∷ [] })
+    → Invariant (record w { forwards = w.forwards ++ forward_of w.sender w.over ∷ [] })
 keeps_forward_made w l some h = record {
   planned = h.planned;
   sending = h.sending;

@@ -5,7 +5,7 @@ use Rattle.std.proofs.lemmas.Bool.{cases_Bool, cases_lt, and_parts, and_from, eq
 use Rattle.sctp_model.specs.Messages.{Place, Plan, IsAt, no_place, place_at, message_of, is_last}
 use Rattle.sctp_model.specs.Packets.{Forward}
 use Rattle.sctp_model.specs.Machine.{Sender, is_gone, gone_among, gone_front, is_ordered_of, last_ssn, forward_of}
-use Rattle.sctp_model.specs.Invariants.{IsPlanned, IsSending, IsForward, IsReported, IsGreatest, gone_at}
+use Rattle.sctp_model.specs.Invariants.{IsPlanned, IsSending, IsForward, IsReported, gone_at}
 use Rattle.sctp_model.proofs.Growth.{IsExtended, last_kept, at_kept, at_before}
 
 -- A message's offsets are consecutive.
@@ -178,7 +178,7 @@ found_some p s (y ∷ ys) found (suc j) l h = found_some p s ys (cond (is_ordere
 pub forward_made : (x : Sender) (over : ℕ → Bool) → IsPlanned x.plan over
     → IsSending x.plan x.current x.next x.ssn x.begun x.gone over
     → ((o : ℕ) → o < x.point → x.acknowledged o ≡ true) → length x.plan.places < x.point + 16384 → 0 < length (gone_front x)
-    → IsForward x.plan x.gone over x.acknowledged x.point (forward_of x)
+    → IsForward x.plan x.gone over x.acknowledged x.point (forward_of x over)
 forward_made x over h g below flight some = record {
   behind = omega arith;
   ahead = omega arith;
@@ -190,7 +190,8 @@ forward_made x over h g below flight some = record {
   complete = λ s o a from l. found_some x.plan s (gone_front x) None (o - x.point) (omega arith)
       (subst (λ z. is_ordered_of x.plan s z ≡ true) (sym (among_same x rest (o - x.point) (omega arith) ∙ place o from)) (and_from _ _ (eq-eqb _ _ a.stream) a.kind));
   reported = λ s m e. reported s m (last_of x.plan s m (gone_front x) None e);
-  greatest = λ s m e v. greatest s m v (reported s m (last_of x.plan s m (gone_front x) None e));
+  greatest = λ s m e v o a l. greatest s m v (reported s m (last_of x.plan s m (gone_front x) None e)) o a l;
+  all = λ s m e v o a l. all s m v (reported s m (last_of x.plan s m (gone_front x) None e)) o a l;
 }
   where
     rest : List Place
@@ -275,14 +276,15 @@ forward_made x over h g below flight some = record {
             (cases_lt offset o)
 
     greatest : (s m : ℕ) → over s ≡ false → IsReported x.plan x.gone s x.point (x.point + length (gone_front x)) m
-        → IsGreatest x.plan s (x.point + length (gone_front x)) m
-    greatest s m v r = record {
-      greatest = λ o a l. subst (λ z. (place_at x.plan o).ssn ≤ z) (sym r.is) (h.pairs s v o r.offset (r.last o a l) a r.at).ssn;
-      all = λ o a l. ⊎_elim
-          (λ (b : r.offset < o). stays_below o a (let e = r.is in omega arith) b)
-          (λ (b : o ≤ r.offset). let c = r.below in omega arith)
-          (cases_lt r.offset o);
-    }
+        → (o : ℕ) → IsAt x.plan s true o → o < x.point + length (gone_front x) → (place_at x.plan o).ssn ≤ m
+    greatest s m v r o a l = subst (λ z. (place_at x.plan o).ssn ≤ z) (sym r.is) (h.pairs s v o r.offset (r.last o a l) a r.at).ssn
+
+    all : (s m : ℕ) → over s ≡ false → IsReported x.plan x.gone s x.point (x.point + length (gone_front x)) m
+        → (o : ℕ) → IsAt x.plan s true o → (place_at x.plan o).ssn ≤ m → o < x.point + length (gone_front x)
+    all s m v r o a l = ⊎_elim
+        (λ (b : r.offset < o). stays_below o a (let e = r.is in omega arith) b)
+        (λ (b : o ≤ r.offset). let c = r.below in omega arith)
+        (cases_lt r.offset o)
       where
         stays_below : (o : ℕ) → IsAt x.plan s true o → (place_at x.plan o).ssn ≤ (place_at x.plan r.offset).ssn → r.offset < o → o < x.point + length (gone_front x)
         stays_below o a l b = ⊎_elim
@@ -330,22 +332,18 @@ forward_grows p r gone gone' over acked now f e more new h = record {
         is = q.is ∙ ap (λ z. z.ssn) (sym (e.places q.offset at.known));
         last = λ o a l. q.last o (at_before p r e s o true (let b = h.known in omega arith) a) l;
       };
-  greatest = λ s m k v.
+  greatest = λ s m k v o a l.
+      let lo : o < length p.places = (let b = h.known in omega arith) in
+      subst (λ z. z.ssn ≤ m) (sym (e.places o lo)) (h.greatest s m k v o (at_before p r e s o true lo a) l);
+  all = λ s m k v o a l.
       let q = h.reported s m k in
-      let at = q.at in
-      let t = h.greatest s m k v in
-      record {
-        greatest = λ o a l.
-            let lo : o < length p.places = (let b = h.known in omega arith) in
-            subst (λ z. z.ssn ≤ m) (sym (e.places o lo)) (t.greatest o (at_before p r e s o true lo a) l);
-        all = λ o a l. ⊎_elim
-            (λ (lo : o < length p.places). t.all o (at_before p r e s o true lo a) (subst (λ z. z.ssn ≤ m) (e.places o lo) l))
-            (λ (lo : length p.places ≤ o). absurd (
-            let b = new s v o lo a q.offset q.at q.given_up in
-            let c = q.is in
-            omega arith))
-            (cases_lt o (length p.places));
-      };
+      ⊎_elim
+      (λ (lo : o < length p.places). h.all s m k v o (at_before p r e s o true lo a) (subst (λ z. z.ssn ≤ m) (e.places o lo) l))
+      (λ (lo : length p.places ≤ o). absurd (
+      let b = new s v o lo a q.offset q.at q.given_up in
+      let c = q.is in
+      omega arith))
+      (cases_lt o (length p.places));
 }
   where
     gone_kept : (o : ℕ) → o < length p.places → gone_at p gone o ≡ true → gone_at r gone' o ≡ true
@@ -365,5 +363,6 @@ forward_later p gone over over' acked acked' now now' f more on spans h = record
   ends = h.ends;
   complete = h.complete;
   reported = h.reported;
-  greatest = λ s m k v. h.greatest s m k (spans s v);
+  greatest = h.greatest;
+  all = λ s m k v. h.all s m k (spans s v);
 }

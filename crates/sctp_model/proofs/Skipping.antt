@@ -10,7 +10,7 @@ use Rattle.sctp_model.specs.Serial.{up_to_16}
 use Rattle.sctp_model.specs.Reassembly.{Queue, Got, at, skip, skip_if, drop_unordered}
 use Rattle.sctp_model.specs.Machine.{live, forwarded, skipped_by}
 use Rattle.sctp_model.specs.Safe.{AreDistinct, IsTaken, IsWhole, is_ordered, read_end, read_ssn, unread}
-use Rattle.sctp_model.specs.Invariants.{IsPlanned, IsEarlier, IsSending, IsForward, IsReported, IsGreatest, IsAccounted, IsHeld, IsSkipped, IsOrdered, IsUnordered, IsGot, IsStream, NoneGone, numbers_of, gone_at, IsFresh}
+use Rattle.sctp_model.specs.Invariants.{IsPlanned, IsEarlier, IsSending, IsForward, IsReported, IsAccounted, IsHeld, IsSkipped, IsOrdered, IsUnordered, IsGot, IsStream, NoneGone, numbers_of, gone_at, IsFresh}
 use Rattle.sctp_model.proofs.Lists.{all_filter}
 use Rattle.sctp_model.proofs.Windows.{up_to_is, next_is}
 use Rattle.sctp_model.proofs.Gathering.{at_filter}
@@ -114,11 +114,12 @@ ordered_on p gone current next ssn taken passed passed' skipped s low end q q' r
 ordered_skipped : (p : Plan) (over : ℕ → Bool) (current : Option Place) (next ssn : ℕ → ℕ) (begun gone : ℕ → ℕ → Bool) (acked : ℕ → Bool) (now : ℕ) (taken : List ℕ) (passed skipped s low end : ℕ)
     (q q' : Queue) (reads : List Got) (f : Forward) (m : ℕ)
     → IsPlanned p over → over s ≡ false → IsSending p current next ssn begun gone over → (hf : IsForward p gone over acked now f)
-    → IsReported p gone s f.start f.point m → IsGreatest p s f.point m → passed ≤ f.point → length p.places < f.point + 16384 → count_ordered (drop end (p.accepted s)) < 32768
+    → IsReported p gone s f.start f.point m → ((o : ℕ) → IsAt p s true o → (place_at p o).ssn ≤ m → o < f.point)
+    → passed ≤ f.point → length p.places < f.point + 16384 → count_ordered (drop end (p.accepted s)) < 32768
     → q'.cursor ≡ (skip q (m % 65536)).cursor → q'.ordered ≡ (skip q (m % 65536)).ordered
     → IsOrdered p gone current (next s) (ssn s) taken passed skipped s low end q reads
     → IsOrdered p gone current (next s) (ssn s) taken f.point (max skipped (suc m)) s low end q' reads
-ordered_skipped p over current next ssn begun gone acked now taken passed skipped s low end q q' reads f m hp v g hf rep gr far flight near ec eo h = record {
+ordered_skipped p over current next ssn begun gone acked now taken passed skipped s low end q q' reads f m hp v g hf rep all far flight near ec eo h = record {
   cursor = cond (leb h.cursor top) (suc top) h.cursor;
   is = ec ∙ cursor_is;
   above = cases (λ z. low ≤ z) (λ l. let a = h.above in omega arith) (λ l. h.above);
@@ -138,7 +139,7 @@ ordered_skipped p over current next ssn begun gone acked now taken passed skippe
   going = λ y c st k. cases (λ z. z ≤ y.ssn) (λ l. past_current y c st k) (λ l. h.going y c st k);
   held = subst (AllByRecursion (IsHeld p taken s true low)) (sym eo) (all_filter (IsHeld p taken s true low) _ q.ordered h.held);
   past = λ o a. cases (λ z. (place_at p o).ssn < z → (mem o taken ≡ true) ⊎ (o < f.point))
-      (λ l b. inr (gr.all o a (let c = rep.is in omega arith)))
+      (λ l b. inr (all o a (let c = rep.is in omega arith)))
       (λ l b. ⊎_elim (λ (x : mem o taken ≡ true). inl x) (λ (x : o < passed). inr (omega arith)) (h.past o a b));
   later = h.later;
   link = h.link;
@@ -280,4 +281,4 @@ stream_forwarded p over current next ssn begun gone acked now taken passed skipp
             → IsOrdered p gone current (next s) (ssn s) taken f.point (skipped_by (Some q) m skipped) s (read_ssn p 0 reads) (read_end p 0 reads) (drop_unordered f.point (skip_if q (wrapped m))) reads
         ordered None e = ordered_on p gone current (next s) (ssn s) taken passed f.point skipped s (read_ssn p 0 reads) (read_end p 0 reads) q (drop_unordered f.point q) reads refl refl far w.ordered
         ordered (Some c) e = ordered_skipped p over current next ssn begun gone acked now taken passed skipped s (read_ssn p 0 reads) (read_end p 0 reads) q (drop_unordered f.point (skip q (c % 65536))) reads f c
-            hp v g hf (hf.reported s c e) (hf.greatest s c e v) far flight near refl refl w.ordered
+            hp v g hf (hf.reported s c e) (hf.all s c e v) far flight near refl refl w.ordered

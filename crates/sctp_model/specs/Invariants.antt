@@ -110,14 +110,10 @@ pub record IsReported (p : Plan) (gone : ℕ → ℕ → Bool) (s start point m 
   pub is : m ≡ (place_at p offset).ssn
   pub last : (o : ℕ) → IsAt p s true o → o < point → o ≤ offset
 
--- of the ordered messages of stream s below the point none has a sequence number above m, and past the point each has one
-pub record IsGreatest (p : Plan) (s point m : ℕ) : Type 0 where
-  pub greatest : (o : ℕ) → IsAt p s true o → o < point → (place_at p o).ssn ≤ m
-  pub all : (o : ℕ) → IsAt p s true o → (place_at p o).ssn ≤ m → o < point
-
 -- A FORWARD TSN: each offset below its point was acknowledged when it was made (those below `start`) or belongs to an abandoned
 -- message (those from there on), its point is one past the last offset of an abandoned message, and for each stream with an ordered
--- message from `start` to the point it reports the last one's sequence number, within the stream's span the greatest.
+-- message from `start` to the point it reports the last one's sequence number. If the stream's span wasn't over then, no ordered
+-- message below the point has a greater one (`greatest`), and as long as it isn't over each one past the point has (`all`).
 -- `acked` and `now` are what is acknowledged now, and the acknowledged point.
 pub record IsForward (p : Plan) (gone : ℕ → ℕ → Bool) (over : ℕ → Bool) (acked : ℕ → Bool) (now : ℕ) (f : Forward) : Type 0 where
   pub behind : f.start ≤ now
@@ -129,7 +125,8 @@ pub record IsForward (p : Plan) (gone : ℕ → ℕ → Bool) (over : ℕ → Bo
   pub ends : (o : ℕ) → f.point ≡ suc o → (is_last p (place_at p o) ≡ true) ⊎ ((place_at p o).marker ≡ true)
   pub complete : (s o : ℕ) → IsAt p s true o → f.start ≤ o → o < f.point → (m : ℕ) × (f.numbers s ≡ Some m)
   pub reported : (s m : ℕ) → f.numbers s ≡ Some m → IsReported p gone s f.start f.point m
-  pub greatest : (s m : ℕ) → f.numbers s ≡ Some m → over s ≡ false → IsGreatest p s f.point m
+  pub greatest : (s m : ℕ) → f.numbers s ≡ Some m → f.past s ≡ false → (o : ℕ) → IsAt p s true o → o < f.point → (place_at p o).ssn ≤ m
+  pub all : (s m : ℕ) → f.numbers s ≡ Some m → over s ≡ false → (o : ℕ) → IsAt p s true o → (place_at p o).ssn ≤ m → o < f.point
 
 -- One stream at the receiver.
 

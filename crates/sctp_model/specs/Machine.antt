@@ -214,7 +214,8 @@ gone_among x (y ∷ ys) = if is_gone x y then y ∷ gone_among x ys else []
 abbrev pub gone_front : Sender → List Place
 gone_front x = gone_among x (drop x.point x.plan.places)
 
--- the sequence number, before it wraps, of the last ordered message of stream s among these, so the greatest
+-- the sequence number, before it wraps, of the last ordered message of stream s among these; within the stream's span that is the
+-- greatest
 abbrev pub is_ordered_of : Plan → ℕ → Place → Bool
 is_ordered_of p s y = (y.stream == s) && (message_of p y).ordered
 
@@ -222,11 +223,12 @@ abbrev pub last_ssn : Plan → ℕ → List Place → Option ℕ → Option ℕ
 last_ssn p s [] found = found
 last_ssn p s (y ∷ ys) found = last_ssn p s ys (if is_ordered_of p s y then Some y.ssn else found)
 
-abbrev pub forward_of : Sender → Forward
-forward_of x = record {
+abbrev pub forward_of : Sender → (ℕ → Bool) → Forward
+forward_of x over = record {
   point = x.point + length (gone_front x);
   numbers = λ s. last_ssn x.plan s (gone_front x) None;
   start = x.point;
+  past = over;
 }
 
 -- The receiver
@@ -335,7 +337,7 @@ happens w GoOn = go_on w w.sender.current
 happens w (Resend o) = if can_resend w.sender.plan o then record w { datas = w.datas ++ data_at w.sender.plan o ∷ [] } else w
 happens w (Abandon s i) = if can_abandon w.sender s i then record w { sender = abandoned w.sender s i } else w
 happens w (SackComes k) = sack_comes w (slice_get w.sacks k)
-happens w ForwardMade = if nat_lt 0 (length (gone_front w.sender)) then record w { forwards = w.forwards ++ forward_of w.sender ∷ [] } else w
+happens w ForwardMade = if nat_lt 0 (length (gone_front w.sender)) then record w { forwards = w.forwards ++ forward_of w.sender w.over ∷ [] } else w
 happens w (DataComes k) = data_comes w (slice_get w.datas k)
 happens w SackMade = record w { sacks = w.sacks ++ sack_of w.receiver ∷ [] }
 happens w (ForwardComes k) = forward_comes w (slice_get w.forwards k)

@@ -21,11 +21,12 @@ pub record Sack : Type 0 where
 
 -- FORWARD TSN (RFC 3758 section 3.2): the new point, and by stream the sequence number up to which ordered messages are skipped.
 -- The packet has `point` and `skips`, which is all that a receiver goes by. Not in it are `numbers`, the sequence numbers before
--- they wrap, and `start`, its sender's acknowledged point when it was made.
+-- they wrap, and of the moment when it was made its sender's acknowledged point (`start`) and the streams past their span (`past`).
 pub record Forward : Type 0 where
   pub point : ℕ
   pub numbers : ℕ → Option ℕ
   pub start : ℕ
+  pub past : ℕ → Bool
 
 abbrev pub wrapped : Option ℕ → Option ℕ
 wrapped None = None
