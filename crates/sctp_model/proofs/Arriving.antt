@@ -26,6 +26,7 @@ taken_more p taken x s i k t = record {
   stream = t.stream;
   message = t.message;
   piece = t.piece;
+  sent = t.sent;
   taken_in = mem_old x t.offset taken t.taken_in;
 }
 
@@ -60,18 +61,20 @@ whole_less p taken x s i apart w = record {
         stream = t.stream;
         message = t.message;
         piece = t.piece;
+        sent = t.sent;
         taken_in = ⊎_elim (λ (e : x ≡ t.offset). absurd (apart k t e)) (λ (m : mem t.offset taken ≡ true). m) (mem_new x t.offset taken t.taken_in);
       };
 }
 
 -- The ordered half, with an offset x that isn't one of an ordered message of this stream.
-pub ordered_aside : (p : Plan) (gone : ℕ → ℕ → Bool) (current : Option Place) (next ssn : ℕ) (taken : List ℕ) (passed s low end x : ℕ) (q q' : Queue) (reads : List Got)
+pub ordered_aside : (p : Plan) (gone : ℕ → ℕ → Bool) (current : Option Place) (next ssn : ℕ) (taken : List ℕ) (passed skipped s low end x : ℕ) (q q' : Queue) (reads : List Got)
     → q'.cursor ≡ q.cursor → q'.ordered ≡ q.ordered → (IsAt p s true x → ⊥)
-    → IsOrdered p gone current next ssn taken passed s low end q reads → IsOrdered p gone current next ssn (x ∷ taken) passed s low end q' reads
-ordered_aside p gone current next ssn taken passed s low end x q q' reads c o apart h = record {
+    → IsOrdered p gone current next ssn taken passed skipped s low end q reads → IsOrdered p gone current next ssn (x ∷ taken) passed skipped s low end q' reads
+ordered_aside p gone current next ssn taken passed skipped s low end x q q' reads c o apart h = record {
   cursor = h.cursor;
   is = c ∙ h.is;
   above = h.above;
+  latest = h.latest;
   origin = h.origin;
   begun = h.begun;
   going = h.going;
@@ -96,16 +99,16 @@ ordered_aside p gone current next ssn taken passed s low end x q q' reads c o ap
 }
 
 -- DATA of another stream
-pub stream_aside : (p : Plan) (gone : ℕ → ℕ → Bool) (current : Option Place) (next ssn : ℕ) (taken : List ℕ) (passed s x : ℕ) (q : Queue) (reads : List Got)
+pub stream_aside : (p : Plan) (gone : ℕ → ℕ → Bool) (current : Option Place) (next ssn : ℕ) (taken : List ℕ) (passed skipped s x : ℕ) (q : Queue) (reads : List Got)
     → ((place_at p x).stream ≡ s → ⊥)
-    → IsStream p gone current next ssn taken passed s q reads → IsStream p gone current next ssn (x ∷ taken) passed s q reads
-stream_aside p gone current next ssn taken passed s x q reads apart w = record {
+    → IsStream p gone current next ssn taken passed skipped s q reads → IsStream p gone current next ssn (x ∷ taken) passed skipped s q reads
+stream_aside p gone current next ssn taken passed skipped s x q reads apart w = record {
   got = all_weaker _ _ _ (λ g. got_more p taken x s g) w.got;
   once = w.once;
   rising = w.rising;
   below = w.below;
   complete = w.complete;
-  ordered = ordered_aside p gone current next ssn taken passed s (read_ssn p 0 reads) (read_end p 0 reads) x q q reads refl refl (λ a. apart a.stream) w.ordered;
+  ordered = ordered_aside p gone current next ssn taken passed skipped s (read_ssn p 0 reads) (read_end p 0 reads) x q q reads refl refl (λ a. apart a.stream) w.ordered;
   unordered =
       let u = w.unordered in
       record {
@@ -120,17 +123,18 @@ stream_aside p gone current next ssn taken passed s x q reads apart w = record {
 }
 
 -- an ordered piece: it isn't behind the cursor, so it is kept
-ordered_pushed : (p : Plan) (over : ℕ → Bool) (gone : ℕ → ℕ → Bool) (current : Option Place) (next ssn : ℕ) (taken : List ℕ) (passed s low end : ℕ) (q : Queue) (reads : List Got) (d : Data)
+ordered_pushed : (p : Plan) (over : ℕ → Bool) (gone : ℕ → ℕ → Bool) (current : Option Place) (next ssn : ℕ) (taken : List ℕ) (passed skipped s low end : ℕ) (q : Queue) (reads : List Got) (d : Data)
     → IsPlanned p over → IsPiece p d → IsAt p s true d.offset → mem d.offset taken ≡ false → passed ≤ d.offset → count_ordered (drop end (p.accepted s)) < 32768
-    → IsOrdered p gone current next ssn taken passed s low end q reads
+    → IsOrdered p gone current next ssn taken passed skipped s low end q reads
     → (push_ordered q d ≡ record q { ordered = d ∷ q.ordered })
-    × IsOrdered p gone current next ssn (d.offset ∷ taken) passed s low end (record q { ordered = d ∷ q.ordered }) reads
-ordered_pushed p over gone current next ssn taken passed s low end q reads d hp piece a new far near h = (
+    × IsOrdered p gone current next ssn (d.offset ∷ taken) passed skipped s low end (record q { ordered = d ∷ q.ordered }) reads
+ordered_pushed p over gone current next ssn taken passed skipped s low end q reads d hp piece a new far near h = (
   cond-false (before_16 d.ssn q.cursor) q (record q { ordered = d ∷ q.ordered }) test,
   record {
     cursor = h.cursor;
     is = h.is;
     above = h.above;
+    latest = h.latest;
     origin = h.origin;
     begun = h.begun;
     going = h.going;
@@ -177,14 +181,14 @@ ordered_pushed p over gone current next ssn taken passed s low end q reads d hp 
         ap (λ z. before_16 z q.cursor) (ap (λ z. z.ssn) piece.is) ∙ ap (before_16 ((place_at p d.offset).ssn % 65536)) h.is
         ∙ before_is (place_at p d.offset).ssn h.cursor (omega arith) (omega arith) ∙ le-ltb _ _ b
 
-pub stream_pushed : (p : Plan) (over : ℕ → Bool) (gone : ℕ → ℕ → Bool) (current : Option Place) (next ssn : ℕ) (taken : List ℕ) (passed s : ℕ) (q : Queue) (reads : List Got) (d : Data)
+pub stream_pushed : (p : Plan) (over : ℕ → Bool) (gone : ℕ → ℕ → Bool) (current : Option Place) (next ssn : ℕ) (taken : List ℕ) (passed skipped s : ℕ) (q : Queue) (reads : List Got) (d : Data)
     → IsPlanned p over → IsPiece p d → IsAt p s true d.offset → mem d.offset taken ≡ false → passed ≤ d.offset → unread p s reads < 32768
-    → IsStream p gone current next ssn taken passed s q reads
-    → IsStream p gone current next ssn (d.offset ∷ taken) passed s (push_ordered q d) reads
-stream_pushed p over gone current next ssn taken passed s q reads d hp piece a new far near w =
-    let b = ordered_pushed p over gone current next ssn taken passed s (read_ssn p 0 reads) (read_end p 0 reads) q reads d hp piece a new far near w.ordered in
+    → IsStream p gone current next ssn taken passed skipped s q reads
+    → IsStream p gone current next ssn (d.offset ∷ taken) passed skipped s (push_ordered q d) reads
+stream_pushed p over gone current next ssn taken passed skipped s q reads d hp piece a new far near w =
+    let b = ordered_pushed p over gone current next ssn taken passed skipped s (read_ssn p 0 reads) (read_end p 0 reads) q reads d hp piece a new far near w.ordered in
     let u = w.unordered in
-    subst (λ z. IsStream p gone current next ssn (d.offset ∷ taken) passed s z reads) (sym b.0) record {
+    subst (λ z. IsStream p gone current next ssn (d.offset ∷ taken) passed skipped s z reads) (sym b.0) record {
       got = all_weaker _ _ _ (λ g. got_more p taken d.offset s g) w.got;
       once = w.once;
       rising = w.rising;

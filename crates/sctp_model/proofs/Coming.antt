@@ -1,12 +1,12 @@
 -- What comes over the network, and what the receiver does, keeps the invariant.
 use Rattle.std.proofs.Common.{ℕ, zero, suc, ◌+◌, ◌<◌, ◌≤◌, ◌≡◌, Bool, true, false, not, cond, eqb, leb, ◌||◌, ◌&&◌, List, [], ◌∷◌, ◌++◌, length, Option, Some, None, refl, sym, ap, ◌∙◌, subst, inl, inr, ⊎_elim, arith}
-use Rattle.std.proofs.lemmas.Bool.{cases_Bool, cases_eq, and_parts, or_cases, or_right, eqb-true, ltb-true, leb-true, true≢false, cond-true, cond-false, not-true}
+use Rattle.std.proofs.lemmas.Bool.{cases_Bool, cases_lt, cases_eq, and_parts, or_cases, or_left, or_right, lt-ltb, eqb-true, ltb-true, leb-true, true≢false, cond-true, cond-false, not-true}
 use Rattle.sctp_model.specs.Messages.{Plan, IsAt, place_at, bytes_at, bytes_below}
 use Rattle.sctp_model.specs.Packets.{Data, Sack, Forward, mem, names, data_at}
 use Rattle.sctp_model.specs.Reassembly.{Queue, Got, Taken, next, push, push_ordered, push_unordered}
-use Rattle.sctp_model.specs.Machine.{Direction, put, live, point, sack_of, is_new, took, moved, newly, acknowledged_by, gone_front, forward_of, opened, can_resend}
+use Rattle.sctp_model.specs.Machine.{Direction, put, live, point, sack_of, is_new, took, moved, passes, acknowledged_by, gone_front, forward_of, opened, can_resend}
 use Rattle.sctp_model.specs.Safe.{IsWithin}
-use Rattle.sctp_model.specs.Invariants.{Invariant, IsPlanned, IsEarlier, IsPiece, IsHonest, IsForward, IsStream, NoneGone, gone_at}
+use Rattle.sctp_model.specs.Invariants.{Invariant, IsPlanned, IsEarlier, IsPiece, IsHonest, IsForward, IsAccounted, IsStream, gone_at}
 use Rattle.sctp_model.proofs.Basics.{point_from, point_below, point_grows, sack_named}
 use Rattle.sctp_model.proofs.Lists.{all_weaker, all_push}
 use Rattle.sctp_model.proofs.Growth.{at_put, off_put}
@@ -14,10 +14,10 @@ use Rattle.sctp_model.proofs.Arriving.{stream_aside, stream_pushed}
 use Rattle.sctp_model.proofs.Settling.{stream_settled}
 use Rattle.sctp_model.proofs.Skipping.{stream_forwarded}
 use Rattle.sctp_model.proofs.OneRead.{stream_read}
-use Rattle.sctp_model.proofs.Forwarding.{forward_made, forward_taken}
+use Rattle.sctp_model.proofs.Forwarding.{forward_made, forward_later}
 
-abbrev StreamWith : Direction → (ℕ → ℕ) → List ℕ → ℕ → ℕ → Queue → List Got → Type 0
-StreamWith w ssn taken passed s q reads = IsStream w.sender.plan w.sender.gone w.sender.current (w.sender.next s) (ssn s) taken passed s q reads
+abbrev StreamWith : Direction → (ℕ → ℕ) → List ℕ → ℕ → ℕ → ℕ → Queue → List Got → Type 0
+StreamWith w ssn taken passed skipped s q reads = IsStream w.sender.plan w.sender.gone w.sender.current (w.sender.next s) (ssn s) taken passed skipped s q reads
 
 pub keeps_resend : (w : Direction) (o : ℕ) → can_resend w.sender.plan o ≡ true → Invariant w
     → Invariant (record w { datas = w.datas ++ data_at w.sender.plan o ∷ [] })
@@ -33,6 +33,7 @@ keeps_resend w o can h =
       tails = h.tails;
       sacks = h.sacks;
       acknowledged = h.acknowledged;
+      cumulative = h.cumulative;
       behind = h.behind;
       forwards = h.forwards;
       released = h.released;
@@ -56,6 +57,7 @@ keeps_sack_made w h = record {
         (sack_named w.receiver o n);
   };
   acknowledged = h.acknowledged;
+  cumulative = h.cumulative;
   behind = h.behind;
   forwards = h.forwards;
   released = h.released;
@@ -63,7 +65,7 @@ keeps_sack_made w h = record {
 }
 
 pub keeps_forward_made : (w : Direction) → IsWithin w → 0 < length (gone_front w.sender) → Invariant w
-    → Invariant (record w { forwards = w.forwards ++ forward_of w.sender ∷ [] })
+    → Invariant (record w { forwards = w.forwards ++ forward_of w.sender w.over ∷ [] })
 keeps_forward_made w l some h = record {
   planned = h.planned;
   sending = h.sending;
@@ -74,36 +76,39 @@ keeps_forward_made w l some h = record {
   tails = h.tails;
   sacks = h.sacks;
   acknowledged = h.acknowledged;
+  cumulative = h.cumulative;
   behind = h.behind;
   forwards = all_push _ w.forwards _ h.forwards
-      (forward_made w.sender w.over w.receiver.taken h.planned h.sending (λ o b. h.accounted o (let a = h.behind in omega arith)) l.flight some);
+      (forward_made w.sender w.over h.planned h.sending h.cumulative l.flight some);
   released = h.released;
   streams = h.streams;
 }
 
 -- bytes acknowledged now for the first time
-bytes_added : (p : Plan) (gone : ℕ → ℕ → Bool) (acked named : ℕ → Bool) (s n : ℕ) → NoneGone gone s
-    → bytes_below p acked s n + bytes_below p (λ o. named o && (not (acked o) && not (gone (place_at p o).stream (place_at p o).message))) s n
-    ≡ bytes_below p (λ o. acked o || named o) s n
-bytes_added p gone acked named s zero none = refl
-bytes_added p gone acked named s (suc o) none =
-    let r = bytes_added p gone acked named s o none in
-    let one = part (eqb (place_at p o).stream s) (acked o) (named o) (gone (place_at p o).stream (place_at p o).message) (bytes_at p (place_at p o))
-    (λ e. ap (λ z. gone z (place_at p o).message) (eqb-true _ _ e) ∙ none (place_at p o).message) in
+bytes_added : (p : Plan) (gone : ℕ → ℕ → Bool) (acked named : ℕ → Bool) (s n : ℕ)
+    → bytes_below p (λ o. acked o && not (gone_at p gone o)) s n + bytes_below p (λ o. named o && (not (acked o) && not (gone_at p gone o))) s n
+    ≡ bytes_below p (λ o. (acked o || named o) && not (gone_at p gone o)) s n
+bytes_added p gone acked named s zero = refl
+bytes_added p gone acked named s (suc o) =
+    let r = bytes_added p gone acked named s o in
+    let one = part (eqb (place_at p o).stream s) (acked o) (named o) (gone_at p gone o) (bytes_at p (place_at p o)) in
     omega arith
   where
-    part : (b a n g : Bool) (x : ℕ) → (b ≡ true → g ≡ false)
-        → cond b (cond a x 0) 0 + cond b (cond (n && (not a && not g)) x 0) 0 ≡ cond b (cond (a || n) x 0) 0
-    part false a n g x e = refl
-    part true true true g x e = omega arith
-    part true true false g x e = omega arith
-    part true false true true x e = absurd (true≢false (e refl))
-    part true false true false x e = omega arith
-    part true false false g x e = refl
+    part : (b a n g : Bool) (x : ℕ)
+        → cond b (cond (a && not g) x 0) 0 + cond b (cond (n && (not a && not g)) x 0) 0 ≡ cond b (cond ((a || n) && not g) x 0) 0
+    part false a n g x = refl
+    part true true true true x = refl
+    part true true true false x = omega arith
+    part true true false true x = refl
+    part true true false false x = omega arith
+    part true false true true x = refl
+    part true false true false x = omega arith
+    part true false false true x = refl
+    part true false false false x = refl
 
-pub keeps_sack_comes : (w : Direction) (k : Sack) → IsHonest w.receiver.taken w.receiver.passed (point w.receiver) k → Invariant w
+pub keeps_sack_comes : (w : Direction) (k : Sack) → w.sender.point ≤ k.point → IsHonest w.receiver.taken w.receiver.passed (point w.receiver) k → Invariant w
     → Invariant (record w { sender = acknowledged_by w.sender k })
-keeps_sack_comes w k t h = record {
+keeps_sack_comes w k on t h = record {
   planned = h.planned;
   sending = h.sending;
   datas = h.datas;
@@ -116,11 +121,14 @@ keeps_sack_comes w k t h = record {
       (λ (b : w.sender.acknowledged o ≡ true). h.acknowledged o b)
       (λ (b : names k o ≡ true). t.named o b)
       (or_cases _ _ a);
+  cumulative = λ o l. or_right _ _ (or_left _ _ (lt-ltb _ _ l));
   behind = t.point;
-  forwards = h.forwards;
-  released = λ s none.
-      ap (λ z. z + bytes_below w.sender.plan (newly w.sender k) s (length w.sender.plan.places)) (h.released s none)
-      ∙ bytes_added w.sender.plan w.sender.gone w.sender.acknowledged (names k) s (length w.sender.plan.places) none;
+  forwards = all_weaker _ _ _ (λ f. forward_later w.sender.plan w.sender.gone w.over w.over w.sender.acknowledged (acknowledged_by w.sender k).acknowledged
+      w.sender.point k.point f (λ o a. or_left _ _ a) on (λ s v. v)) h.forwards;
+  released = λ s.
+      let a = h.released s in
+      let b = bytes_added w.sender.plan w.sender.gone w.sender.acknowledged (names k) s (length w.sender.plan.places) in
+      omega arith;
   streams = h.streams;
 }
 
@@ -156,23 +164,24 @@ keeps_data_comes w d piece new l h = record {
     named = λ o n. ⊎_elim (λ (m : mem o w.receiver.taken ≡ true). inl (or_right _ _ m)) (λ (f : o < w.receiver.passed). inr f) (t.named o n);
   }) h.sacks;
   acknowledged = λ o a. ⊎_elim (λ (m : mem o w.receiver.taken ≡ true). inl (or_right _ _ m)) (λ (f : o < w.receiver.passed). inr f) (h.acknowledged o a);
+  cumulative = h.cumulative;
   behind = let a = h.behind in let b = further in omega arith;
-  forwards = all_weaker _ _ _ (λ f. forward_taken p w.sender.gone w.over w.over w.receiver.taken (d.offset ∷ w.receiver.taken) f (λ o m. or_right _ _ m) (λ s v. v)) h.forwards;
+  forwards = h.forwards;
   released = h.released;
   streams = λ s v. ⊎_elim
       (λ (e : s ≡ d.stream).
-      subst (λ z. StreamWith w w.sender.ssn (d.offset ∷ w.receiver.taken) w.receiver.passed s (live z) (w.reads s))
+      subst (λ z. StreamWith w w.sender.ssn (d.offset ∷ w.receiver.taken) w.receiver.passed (w.skipped s) s (live z) (w.reads s))
       (sym (at_put w.receiver.queues d.stream s (Some (push (live (w.receiver.queues d.stream)) d)) e))
-      (subst (λ z. StreamWith w w.sender.ssn (d.offset ∷ w.receiver.taken) w.receiver.passed s (push (live (w.receiver.queues z)) d) (w.reads s)) e
-      (push_cases (λ z. StreamWith w w.sender.ssn (d.offset ∷ w.receiver.taken) w.receiver.passed s z (w.reads s)) (live (w.receiver.queues s)) d
-      (λ k. stream_pushed p w.over w.sender.gone w.sender.current (w.sender.next s) (w.sender.ssn s) w.receiver.taken w.receiver.passed s (live (w.receiver.queues s)) (w.reads s) d
+      (subst (λ z. StreamWith w w.sender.ssn (d.offset ∷ w.receiver.taken) w.receiver.passed (w.skipped s) s (push (live (w.receiver.queues z)) d) (w.reads s)) e
+      (push_cases (λ z. StreamWith w w.sender.ssn (d.offset ∷ w.receiver.taken) w.receiver.passed (w.skipped s) s z (w.reads s)) (live (w.receiver.queues s)) d
+      (λ k. stream_pushed p w.over w.sender.gone w.sender.current (w.sender.next s) (w.sender.ssn s) w.receiver.taken w.receiver.passed (w.skipped s) s (live (w.receiver.queues s)) (w.reads s) d
       h.planned piece (here s true e k) unknown (let a = point_from w.receiver in omega (arith, past)) (l.unread s) (h.streams s v))
-      (λ k. stream_settled p w.over w.sender.gone w.sender.current (w.sender.next s) (w.sender.ssn s) w.receiver.taken w.receiver.passed s (live (w.receiver.queues s)) (w.reads s) d
+      (λ k. stream_settled p w.over w.sender.gone w.sender.current (w.sender.next s) (w.sender.ssn s) w.receiver.taken w.receiver.passed (w.skipped s) s (live (w.receiver.queues s)) (w.reads s) d
       h.planned piece (here s false e k) unknown (h.streams s v)))))
       (λ (ne : s ≡ d.stream → ⊥).
-      subst (λ z. StreamWith w w.sender.ssn (d.offset ∷ w.receiver.taken) w.receiver.passed s (live z) (w.reads s))
+      subst (λ z. StreamWith w w.sender.ssn (d.offset ∷ w.receiver.taken) w.receiver.passed (w.skipped s) s (live z) (w.reads s))
       (sym (off_put w.receiver.queues d.stream s (Some (push (live (w.receiver.queues d.stream)) d)) ne))
-      (stream_aside p w.sender.gone w.sender.current (w.sender.next s) (w.sender.ssn s) w.receiver.taken w.receiver.passed s d.offset (live (w.receiver.queues s)) (w.reads s)
+      (stream_aside p w.sender.gone w.sender.current (w.sender.next s) (w.sender.ssn s) w.receiver.taken w.receiver.passed (w.skipped s) s d.offset (live (w.receiver.queues s)) (w.reads s)
       (λ e. ne (sym e ∙ sym stream)) (h.streams s v)))
       (cases_eq s d.stream);
 }
@@ -200,8 +209,8 @@ keeps_data_comes w d piece new l h = record {
 
 -- A FORWARD TSN is taken
 
-pub keeps_forward_comes : (w : Direction) (f : Forward) → IsForward w.sender.plan w.sender.gone w.over w.receiver.taken f → point w.receiver < f.point → IsWithin w → Invariant w
-    → Invariant (record w { receiver = moved w.receiver f })
+pub keeps_forward_comes : (w : Direction) (f : Forward) → IsForward w.sender.plan w.sender.gone w.over w.sender.acknowledged w.sender.point f → point w.receiver < f.point → IsWithin w → Invariant w
+    → Invariant (passes w f)
 keeps_forward_comes w f t far l h = record {
   planned = h.planned;
   sending = h.sending;
@@ -209,7 +218,7 @@ keeps_forward_comes w f t far l h = record {
   taken = h.taken;
   accounted = λ o b. ⊎_elim
       (λ (m : mem o w.receiver.taken ≡ true). inl m)
-      (λ (a : o < f.point). t.accounted o a)
+      (λ (a : o < f.point). account o a)
       (point_below (moved w.receiver f) o b);
   passed = t.known;
   tails = h.tails;
@@ -218,14 +227,24 @@ keeps_forward_comes w f t far l h = record {
     named = λ o n. ⊎_elim (λ (m : mem o w.receiver.taken ≡ true). inl m) (λ (a : o < w.receiver.passed). inr (let b = point_from w.receiver in omega arith)) (u.named o n);
   }) h.sacks;
   acknowledged = λ o a. ⊎_elim (λ (m : mem o w.receiver.taken ≡ true). inl m) (λ (b : o < w.receiver.passed). inr (let c = point_from w.receiver in omega arith)) (h.acknowledged o a);
+  cumulative = h.cumulative;
   behind = let a = h.behind in let b = further in omega arith;
   forwards = h.forwards;
   released = h.released;
-  streams = λ s v. stream_forwarded w.sender.plan w.over w.sender.current w.sender.next w.sender.ssn w.sender.begun w.sender.gone w.receiver.taken w.receiver.passed s
-      (w.receiver.queues s) (w.reads s) f h.planned v h.sending t h.tails (let b = point_from w.receiver in omega arith)
+  streams = λ s v. stream_forwarded w.sender.plan w.over w.sender.current w.sender.next w.sender.ssn w.sender.begun w.sender.gone w.sender.acknowledged w.sender.point w.receiver.taken w.receiver.passed (w.skipped s) s
+      (w.receiver.queues s) (w.reads s) f h.planned v h.sending t account h.tails (let b = point_from w.receiver in omega arith)
       (let a = l.flight in let b = h.behind in omega arith) (l.unread s) (h.streams s v);
 }
   where
+    account : (o : ℕ) → o < f.point → IsAccounted w.sender.plan w.sender.gone w.receiver.taken o
+    account o l = ⊎_elim
+        (λ (a : o < f.start). ⊎_elim
+        (λ (m : mem o w.receiver.taken ≡ true). inl m)
+        (λ (b : o < w.receiver.passed). h.accounted o (let c = point_from w.receiver in omega arith))
+        (h.acknowledged o (t.acknowledged o a)))
+        (λ (a : f.start ≤ o). inr (t.abandoned o a l))
+        (cases_lt o f.start)
+
     further : point w.receiver ≤ point (moved w.receiver f)
     further = point_grows w.receiver (moved w.receiver f) (λ o m. m) (let b = point_from w.receiver in omega arith)
 
@@ -246,20 +265,21 @@ keeps_read w s q t is e l h = record {
   tails = h.tails;
   sacks = h.sacks;
   acknowledged = h.acknowledged;
+  cumulative = h.cumulative;
   behind = h.behind;
   forwards = h.forwards;
   released = h.released;
   streams = λ r v. ⊎_elim
       (λ (a : r ≡ s).
-      subst (λ z. StreamWith w w.sender.ssn w.receiver.taken w.receiver.passed r (live z) (put w.reads s (w.reads s ++ t.got ∷ []) r)) (sym (at_put w.receiver.queues s r (Some t.rest) a))
-      (subst (λ z. StreamWith w w.sender.ssn w.receiver.taken w.receiver.passed r t.rest z) (sym (at_put w.reads s r (w.reads s ++ t.got ∷ []) a))
-      (subst (λ z. StreamWith w w.sender.ssn w.receiver.taken w.receiver.passed z t.rest (w.reads s ++ t.got ∷ [])) (sym a)
-      (stream_read w.sender.plan w.over w.sender.current w.sender.next w.sender.ssn w.sender.begun w.sender.gone w.receiver.taken w.receiver.passed s q (w.reads s) t
+      subst (λ z. StreamWith w w.sender.ssn w.receiver.taken w.receiver.passed (w.skipped r) r (live z) (put w.reads s (w.reads s ++ t.got ∷ []) r)) (sym (at_put w.receiver.queues s r (Some t.rest) a))
+      (subst (λ z. StreamWith w w.sender.ssn w.receiver.taken w.receiver.passed (w.skipped r) r t.rest z) (sym (at_put w.reads s r (w.reads s ++ t.got ∷ []) a))
+      (subst (λ z. StreamWith w w.sender.ssn w.receiver.taken w.receiver.passed (w.skipped z) z t.rest (w.reads s ++ t.got ∷ [])) (sym a)
+      (stream_read w.sender.plan w.over w.sender.current w.sender.next w.sender.ssn w.sender.begun w.sender.gone w.receiver.taken w.receiver.passed (w.skipped s) s q (w.reads s) t
       h.planned (subst (λ z. w.over z ≡ false) a v) h.sending (λ o m. (h.taken o m).0) (l.unread s)
-      (subst (λ z. StreamWith w w.sender.ssn w.receiver.taken w.receiver.passed s (live z) (w.reads s)) is (h.streams s (subst (λ z. w.over z ≡ false) a v))) e))))
+      (subst (λ z. StreamWith w w.sender.ssn w.receiver.taken w.receiver.passed (w.skipped s) s (live z) (w.reads s)) is (h.streams s (subst (λ z. w.over z ≡ false) a v))) e))))
       (λ (ne : r ≡ s → ⊥).
-      subst (λ z. StreamWith w w.sender.ssn w.receiver.taken w.receiver.passed r (live z) (put w.reads s (w.reads s ++ t.got ∷ []) r)) (sym (off_put w.receiver.queues s r (Some t.rest) ne))
-      (subst (λ z. StreamWith w w.sender.ssn w.receiver.taken w.receiver.passed r (live (w.receiver.queues r)) z) (sym (off_put w.reads s r (w.reads s ++ t.got ∷ []) ne))
+      subst (λ z. StreamWith w w.sender.ssn w.receiver.taken w.receiver.passed (w.skipped r) r (live z) (put w.reads s (w.reads s ++ t.got ∷ []) r)) (sym (off_put w.receiver.queues s r (Some t.rest) ne))
+      (subst (λ z. StreamWith w w.sender.ssn w.receiver.taken w.receiver.passed (w.skipped r) r (live (w.receiver.queues r)) z) (sym (off_put w.reads s r (w.reads s ++ t.got ∷ []) ne))
       (h.streams r v)))
       (cases_eq r s);
 }
@@ -277,15 +297,16 @@ keeps_queue w s q same h = record {
   tails = h.tails;
   sacks = h.sacks;
   acknowledged = h.acknowledged;
+  cumulative = h.cumulative;
   behind = h.behind;
   forwards = h.forwards;
   released = h.released;
   streams = λ r v. ⊎_elim
       (λ (a : r ≡ s).
-      subst (λ z. StreamWith w w.sender.ssn w.receiver.taken w.receiver.passed r (live z) (w.reads r)) (sym (at_put w.receiver.queues s r q a))
-      (subst (λ z. StreamWith w w.sender.ssn w.receiver.taken w.receiver.passed r z (w.reads r))
+      subst (λ z. StreamWith w w.sender.ssn w.receiver.taken w.receiver.passed (w.skipped r) r (live z) (w.reads r)) (sym (at_put w.receiver.queues s r q a))
+      (subst (λ z. StreamWith w w.sender.ssn w.receiver.taken w.receiver.passed (w.skipped r) r z (w.reads r))
       (ap (λ z. live (w.receiver.queues z)) a ∙ sym (same (subst (λ z. w.over z ≡ false) a v))) (h.streams r v)))
-      (λ (ne : r ≡ s → ⊥). subst (λ z. StreamWith w w.sender.ssn w.receiver.taken w.receiver.passed r (live z) (w.reads r)) (sym (off_put w.receiver.queues s r q ne)) (h.streams r v))
+      (λ (ne : r ≡ s → ⊥). subst (λ z. StreamWith w w.sender.ssn w.receiver.taken w.receiver.passed (w.skipped r) r (live z) (w.reads r)) (sym (off_put w.receiver.queues s r q ne)) (h.streams r v))
       (cases_eq r s);
 }
 
@@ -311,6 +332,7 @@ keeps_close w h = record {
   tails = h.tails;
   sacks = h.sacks;
   acknowledged = h.acknowledged;
+  cumulative = h.cumulative;
   behind = h.behind;
   forwards = h.forwards;
   released = h.released;
@@ -328,6 +350,7 @@ planned_span p over over' spans h = record {
   one = h.one;
   after = h.after;
   before = h.before;
+  rises = h.rises;
   pairs = λ s v. h.pairs s (spans s v);
 }
 
@@ -339,6 +362,7 @@ keeps_end w s h = record {
       record {
         within = g.within;
         counted = g.counted;
+        numbers = g.numbers;
         earlier = λ t v. g.earlier t (spans t v);
         going = g.going;
         closed = g.closed;
@@ -351,8 +375,10 @@ keeps_end w s h = record {
   tails = h.tails;
   sacks = h.sacks;
   acknowledged = h.acknowledged;
+  cumulative = h.cumulative;
   behind = h.behind;
-  forwards = all_weaker _ _ _ (λ f. forward_taken w.sender.plan w.sender.gone w.over (put w.over s true) w.receiver.taken w.receiver.taken f (λ o m. m) spans) h.forwards;
+  forwards = all_weaker _ _ _ (λ f. forward_later w.sender.plan w.sender.gone w.over (put w.over s true) w.sender.acknowledged w.sender.acknowledged
+      w.sender.point w.sender.point f (λ o m. m) (omega arith) spans) h.forwards;
   released = h.released;
   streams = λ t v. h.streams t (spans t v);
 }
@@ -371,6 +397,7 @@ keeps_restart w s over h = record {
       record {
         within = g.within;
         counted = g.counted;
+        numbers = g.numbers;
         earlier = λ t v o a. subst (λ z. IsEarlier w.sender.plan t (w.sender.next t) z (place_at w.sender.plan o) o) (sym (same t v)) (g.earlier t v o a);
         going = g.going;
         closed = g.closed;
@@ -383,10 +410,11 @@ keeps_restart w s over h = record {
   tails = h.tails;
   sacks = h.sacks;
   acknowledged = h.acknowledged;
+  cumulative = h.cumulative;
   behind = h.behind;
   forwards = h.forwards;
   released = h.released;
-  streams = λ t v. subst (λ z. IsStream w.sender.plan w.sender.gone w.sender.current (w.sender.next t) z w.receiver.taken w.receiver.passed t (live (w.receiver.queues t)) (w.reads t))
+  streams = λ t v. subst (λ z. IsStream w.sender.plan w.sender.gone w.sender.current (w.sender.next t) z w.receiver.taken w.receiver.passed (w.skipped t) t (live (w.receiver.queues t)) (w.reads t))
       (sym (same t v)) (h.streams t v);
 }
   where

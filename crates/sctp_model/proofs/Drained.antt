@@ -77,8 +77,8 @@ nothing_waits q l =
     ap (next_from q) a ∙ ap (λ z. next_of q (least z)) b
 
 -- after all that is ready was read: what holds still, and no read gives anything
-pub record IsDrained (p : Plan) (gone : ℕ → ℕ → Bool) (current : Option Place) (next_number ssn : ℕ) (taken : List ℕ) (passed s : ℕ) (reads : List Got) (d : Drained) : Type 0 where
-  pub stream : IsStream p gone current next_number ssn taken passed s d.rest (reads ++ d.gots)
+pub record IsDrained (p : Plan) (gone : ℕ → ℕ → Bool) (current : Option Place) (next_number ssn : ℕ) (taken : List ℕ) (passed skipped s : ℕ) (reads : List Got) (d : Drained) : Type 0 where
+  pub stream : IsStream p gone current next_number ssn taken passed skipped s d.rest (reads ++ d.gots)
   pub near : unread p s (reads ++ d.gots) < 32768
   pub on : read_end p 0 reads ≤ read_end p 0 (reads ++ d.gots)
   pub none : next d.rest ≡ None
@@ -94,29 +94,29 @@ count_less (m ∷ ms) zero (suc j) l = let r = count_less ms zero j (omega arith
 count_less (m ∷ ms) (suc i) zero l = absurd (omega arith)
 count_less (m ∷ ms) (suc i) (suc j) l = count_less ms i j (omega arith)
 
-pub drained : (p : Plan) (over : ℕ → Bool) (current : Option Place) (next' ssn : ℕ → ℕ) (begun gone : ℕ → ℕ → Bool) (taken : List ℕ) (passed s n : ℕ)
+pub drained : (p : Plan) (over : ℕ → Bool) (current : Option Place) (next' ssn : ℕ → ℕ) (begun gone : ℕ → ℕ → Bool) (taken : List ℕ) (passed skipped s n : ℕ)
     (q : Queue) (reads : List Got) → IsPlanned p over → over s ≡ false → IsSending p current next' ssn begun gone over
     → ((o : ℕ) → mem o taken ≡ true → o < length p.places) → unread p s reads < 32768 → waiting q ≤ n
-    → IsStream p gone current (next' s) (ssn s) taken passed s q reads
-    → IsDrained p gone current (next' s) (ssn s) taken passed s reads (drain n q)
-drained p over current next' ssn begun gone taken passed s zero q reads hp v g below near l w = record {
-  stream = subst (IsStream p gone current (next' s) (ssn s) taken passed s q) (sym (append-nil reads)) w;
+    → IsStream p gone current (next' s) (ssn s) taken passed skipped s q reads
+    → IsDrained p gone current (next' s) (ssn s) taken passed skipped s reads (drain n q)
+drained p over current next' ssn begun gone taken passed skipped s zero q reads hp v g below near l w = record {
+  stream = subst (IsStream p gone current (next' s) (ssn s) taken passed skipped s q) (sym (append-nil reads)) w;
   near = subst (λ z. unread p s z < 32768) (sym (append-nil reads)) near;
   on = subst (λ z. read_end p 0 reads ≤ read_end p 0 z) (sym (append-nil reads)) (omega arith);
   none = nothing_waits q l;
 }
-drained p over current next' ssn begun gone taken passed s (suc n) q reads hp v g below near l w =
+drained p over current next' ssn begun gone taken passed skipped s (suc n) q reads hp v g below near l w =
     go (next q) refl (λ t e.
-    let a = read_on p over current next' ssn begun gone taken passed s q reads t hp near w e in
+    let a = read_on p over current next' ssn begun gone taken passed skipped s q reads t hp near w e in
     let c = count_less (p.accepted s) (read_end p 0 reads) (read_end p 0 (reads ++ t.got ∷ [])) a in
-    drained p over current next' ssn begun gone taken passed s n t.rest (reads ++ t.got ∷ []) hp v g below (omega arith) (let r = read_shrinks q t e in omega arith)
-    (stream_read p over current next' ssn begun gone taken passed s q reads t hp v g below near w e))
+    drained p over current next' ssn begun gone taken passed skipped s n t.rest (reads ++ t.got ∷ []) hp v g below (omega arith) (let r = read_shrinks q t e in omega arith)
+    (stream_read p over current next' ssn begun gone taken passed skipped s q reads t hp v g below near w e))
   where
     go : (x : Option Taken) → next q ≡ x
-        → ((t : Taken) → next q ≡ Some t → IsDrained p gone current (next' s) (ssn s) taken passed s (reads ++ t.got ∷ []) (drain n t.rest))
-        → IsDrained p gone current (next' s) (ssn s) taken passed s reads (drain_on q x (drain n))
+        → ((t : Taken) → next q ≡ Some t → IsDrained p gone current (next' s) (ssn s) taken passed skipped s (reads ++ t.got ∷ []) (drain n t.rest))
+        → IsDrained p gone current (next' s) (ssn s) taken passed skipped s reads (drain_on q x (drain n))
     go None e i = record {
-      stream = subst (IsStream p gone current (next' s) (ssn s) taken passed s q) (sym (append-nil reads)) w;
+      stream = subst (IsStream p gone current (next' s) (ssn s) taken passed skipped s q) (sym (append-nil reads)) w;
       near = subst (λ z. unread p s z < 32768) (sym (append-nil reads)) near;
       on = subst (λ z. read_end p 0 reads ≤ read_end p 0 z) (sym (append-nil reads)) (omega arith);
       none = e;
@@ -126,9 +126,9 @@ drained p over current next' ssn begun gone taken passed s (suc n) q reads hp v 
         let d = drain n t.rest in
         let same : (reads ++ t.got ∷ []) ++ d.gots ≡ reads ++ t.got ∷ d.gots = append_assoc reads (t.got ∷ []) d.gots in
         record {
-          stream = subst (IsStream p gone current (next' s) (ssn s) taken passed s d.rest) same r.stream;
+          stream = subst (IsStream p gone current (next' s) (ssn s) taken passed skipped s d.rest) same r.stream;
           near = subst (λ z. unread p s z < 32768) same r.near;
-          on = subst (λ z. read_end p 0 reads ≤ read_end p 0 z) same (let a = r.on in let b = read_on p over current next' ssn begun gone taken passed s q reads t hp near w e in omega arith);
+          on = subst (λ z. read_end p 0 reads ≤ read_end p 0 z) same (let a = r.on in let b = read_on p over current next' ssn begun gone taken passed skipped s q reads t hp near w e in omega arith);
           none = r.none;
         }
 
@@ -141,11 +141,11 @@ unfolding IsNear
 near_low p taken s low x hx n c = let a = hx.above in same_from _ _ (omega arith) (omega arith) (sym (ssn_is p taken s low true x hx) ∙ c)
 
 -- Where no read gives anything, the next ordered message isn't whole.
-pub none_due : (p : Plan) (over : ℕ → Bool) (gone : ℕ → ℕ → Bool) (current : Option Place) (next_number ssn : ℕ) (taken : List ℕ) (passed s low end : ℕ) (q : Queue) (reads : List Got) (j : ℕ)
+pub none_due : (p : Plan) (over : ℕ → Bool) (gone : ℕ → ℕ → Bool) (current : Option Place) (next_number ssn : ℕ) (taken : List ℕ) (passed skipped s low end : ℕ) (q : Queue) (reads : List Got) (j : ℕ)
     → IsPlanned p over → over s ≡ false → NoneGone gone s → count_ordered (drop end (p.accepted s)) < 32768
-    → IsOrdered p gone current next_number ssn taken passed s low end q reads → next_ordered q ≡ None
+    → IsOrdered p gone current next_number ssn taken passed skipped s low end q reads → next_ordered q ≡ None
     → is_ordered p s j ≡ true → rank (p.accepted s) j ≡ low → IsWhole p taken s j → ⊥
-none_due p over gone current next_number ssn taken passed s low end q reads j hp v none near h empty kind level whole = go (least q.ordered) refl
+none_due p over gone current next_number ssn taken passed skipped s low end q reads j hp v none near h empty kind level whole = go (least q.ordered) refl
   where
     f : IsFull p taken s next_number ssn h.cursor low end q reads
     f = h.full none

@@ -1,11 +1,11 @@
 -- A FORWARD TSN that the sender makes is true, and stays so.
-use Rattle.std.proofs.Common.{ℕ, zero, suc, ◌+◌, ◌-◌, ◌%◌, ◌<◌, ◌≤◌, ◌≡◌, ◌⊎◌, Bool, true, false, cond, eqb, List, [], ◌∷◌, length, drop, get_or, Option, Some, None, refl, sym, ap, ◌∙◌, subst, inl, inr, ⊎_elim, arith}
+use Rattle.std.proofs.Common.{ℕ, zero, suc, ◌+◌, ◌-◌, ◌<◌, ◌≤◌, ◌≡◌, ◌⊎◌, Bool, true, false, cond, eqb, List, [], ◌∷◌, length, drop, get_or, Option, Some, None, refl, sym, ap, ◌∙◌, subst, inl, inr, ⊎_elim, arith}
 use Rattle.std.proofs.lemmas.List.{length-drop, get_or-drop}
 use Rattle.std.proofs.lemmas.Bool.{cases_Bool, cases_lt, and_parts, and_from, eqb-true, eq-eqb, true≢false, cond-true, cond-false}
 use Rattle.sctp_model.specs.Messages.{Place, Plan, IsAt, no_place, place_at, message_of, is_last}
-use Rattle.sctp_model.specs.Packets.{Forward, mem}
+use Rattle.sctp_model.specs.Packets.{Forward}
 use Rattle.sctp_model.specs.Machine.{Sender, is_gone, gone_among, gone_front, is_ordered_of, last_ssn, forward_of}
-use Rattle.sctp_model.specs.Invariants.{IsPlanned, IsSending, IsForward, IsReported, IsLastReported, IsAccounted, gone_at}
+use Rattle.sctp_model.specs.Invariants.{IsPlanned, IsSending, IsForward, IsReported, gone_at}
 use Rattle.sctp_model.proofs.Growth.{IsExtended, last_kept, at_kept, at_before}
 
 -- A message's offsets are consecutive.
@@ -16,7 +16,7 @@ pub record IsBack (p : Plan) (n o j q : ℕ) : Type 0 where
   pub message : (place_at p q).message ≡ (place_at p o).message
   pub piece : (place_at p q).piece ≡ j
 
-back : (p : Plan) (over : ℕ → Bool) (n o j : ℕ) → IsPlanned p over → o < length p.places → (place_at p o).piece ≡ n + j → (q : ℕ) × IsBack p n o j q
+pub back : (p : Plan) (over : ℕ → Bool) (n o j : ℕ) → IsPlanned p over → o < length p.places → (place_at p o).piece ≡ n + j → (q : ℕ) × IsBack p n o j q
 back p over zero o j h l e = (o, record { is = omega arith; stream = refl; message = refl; piece = omega arith })
 back p over (suc n) o j h l e =
     let b = h.before o (n + j) l (omega arith) in
@@ -102,13 +102,13 @@ among_same x (y ∷ ys) j l = ⊎_elim
 pub record IsLastOf (p : Plan) (s : ℕ) (ys : List Place) (m j : ℕ) : Type 0 where
   pub within : j < length ys
   pub here : is_ordered_of p s (get_or ys j no_place) ≡ true
-  pub is : m ≡ (get_or ys j no_place).ssn % 65536
+  pub is : m ≡ (get_or ys j no_place).ssn
   pub none_later : (k : ℕ) → j < k → k < length ys → is_ordered_of p s (get_or ys k no_place) ≡ false
 
 last_of : (p : Plan) (s m : ℕ) (ys : List Place) (found : Option ℕ) → last_ssn p s ys found ≡ Some m
     → ((found ≡ Some m) × ((k : ℕ) → k < length ys → is_ordered_of p s (get_or ys k no_place) ≡ false)) ⊎ ((j : ℕ) × IsLastOf p s ys m j)
 last_of p s m [] found e = inl (e, λ k l. absurd (omega arith))
-last_of p s m (y ∷ ys) found e = go (last_of p s m ys (cond (is_ordered_of p s y) (Some (y.ssn % 65536)) found) e)
+last_of p s m (y ∷ ys) found e = go (last_of p s m ys (cond (is_ordered_of p s y) (Some y.ssn) found) e)
   where
     first : ((k : ℕ) → k < length ys → is_ordered_of p s (get_or ys k no_place) ≡ false) → (k : ℕ) → 0 < k → k < suc (length ys)
         → is_ordered_of p s (get_or (y ∷ ys) k no_place) ≡ false
@@ -128,7 +128,7 @@ last_of p s m (y ∷ ys) found e = go (last_of p s m ys (cond (is_ordered_of p s
     some_same : (a b : ℕ) → Some a ≡ Some b → a ≡ b
     some_same a b h = cc
 
-    go : ((cond (is_ordered_of p s y) (Some (y.ssn % 65536)) found ≡ Some m) × ((k : ℕ) → k < length ys → is_ordered_of p s (get_or ys k no_place) ≡ false))
+    go : ((cond (is_ordered_of p s y) (Some y.ssn) found ≡ Some m) × ((k : ℕ) → k < length ys → is_ordered_of p s (get_or ys k no_place) ≡ false))
         ⊎ ((j : ℕ) × IsLastOf p s ys m j)
         → ((found ≡ Some m) × ((k : ℕ) → k < suc (length ys) → is_ordered_of p s (get_or (y ∷ ys) k no_place) ≡ false)) ⊎ ((j : ℕ) × IsLastOf p s (y ∷ ys) m j)
     go (inl r) = ⊎_elim
@@ -137,11 +137,11 @@ last_of p s m (y ∷ ys) found e = go (last_of p s m ys (cond (is_ordered_of p s
           record {
             within = omega arith;
             here = b;
-            is = sym (some_same _ _ (sym (cond-true (is_ordered_of p s y) (Some (y.ssn % 65536)) found b) ∙ r.0));
+            is = sym (some_same _ _ (sym (cond-true (is_ordered_of p s y) (Some y.ssn) found b) ∙ r.0));
             none_later = first r.1;
           },
         ))
-        (λ (b : is_ordered_of p s y ≡ false). inl (sym (cond-false (is_ordered_of p s y) (Some (y.ssn % 65536)) found b) ∙ r.0, all b r.1))
+        (λ (b : is_ordered_of p s y ≡ false). inl (sym (cond-false (is_ordered_of p s y) (Some y.ssn) found b) ∙ r.0, all b r.1))
         (cases_Bool (is_ordered_of p s y))
     go (inr r) =
         let k = r.1 in
@@ -160,41 +160,38 @@ kept_some : (p : Plan) (s m : ℕ) (ys : List Place) → (k : ℕ) × (last_ssn 
 kept_some p s m [] = (m, refl)
 kept_some p s m (y ∷ ys) = ⊎_elim
     (λ (b : is_ordered_of p s y ≡ true).
-    let r = kept_some p s (y.ssn % 65536) ys in
-    (r.0, ap (last_ssn p s ys) (cond-true (is_ordered_of p s y) (Some (y.ssn % 65536)) (Some m) b) ∙ r.1))
+    let r = kept_some p s y.ssn ys in
+    (r.0, ap (last_ssn p s ys) (cond-true (is_ordered_of p s y) (Some y.ssn) (Some m) b) ∙ r.1))
     (λ (b : is_ordered_of p s y ≡ false).
     let r = kept_some p s m ys in
-    (r.0, ap (last_ssn p s ys) (cond-false (is_ordered_of p s y) (Some (y.ssn % 65536)) (Some m) b) ∙ r.1))
+    (r.0, ap (last_ssn p s ys) (cond-false (is_ordered_of p s y) (Some y.ssn) (Some m) b) ∙ r.1))
     (cases_Bool (is_ordered_of p s y))
 
 found_some : (p : Plan) (s : ℕ) (ys : List Place) (found : Option ℕ) (j : ℕ) → j < length ys → is_ordered_of p s (get_or ys j no_place) ≡ true
     → (k : ℕ) × (last_ssn p s ys found ≡ Some k)
 found_some p s [] found j l h = absurd (omega arith)
 found_some p s (y ∷ ys) found zero l h =
-    let r = kept_some p s (y.ssn % 65536) ys in
-    (r.0, ap (last_ssn p s ys) (cond-true (is_ordered_of p s y) (Some (y.ssn % 65536)) found h) ∙ r.1)
-found_some p s (y ∷ ys) found (suc j) l h = found_some p s ys (cond (is_ordered_of p s y) (Some (y.ssn % 65536)) found) j (omega arith) h
+    let r = kept_some p s y.ssn ys in
+    (r.0, ap (last_ssn p s ys) (cond-true (is_ordered_of p s y) (Some y.ssn) found h) ∙ r.1)
+found_some p s (y ∷ ys) found (suc j) l h = found_some p s ys (cond (is_ordered_of p s y) (Some y.ssn) found) j (omega arith) h
 
-pub forward_made : (x : Sender) (over : ℕ → Bool) (taken : List ℕ) → IsPlanned x.plan over
+pub forward_made : (x : Sender) (over : ℕ → Bool) → IsPlanned x.plan over
     → IsSending x.plan x.current x.next x.ssn x.begun x.gone over
-    → ((o : ℕ) → o < x.point → IsAccounted x.plan x.gone taken o) → length x.plan.places < x.point + 16384 → 0 < length (gone_front x)
-    → IsForward x.plan x.gone over taken (forward_of x)
-forward_made x over taken h g below flight some = record {
-  start = x.point;
+    → ((o : ℕ) → o < x.point → x.acknowledged o ≡ true) → length x.plan.places < x.point + 16384 → 0 < length (gone_front x)
+    → IsForward x.plan x.gone over x.acknowledged x.point (forward_of x over)
+forward_made x over h g below flight some = record {
+  behind = omega arith;
   ahead = omega arith;
   known = known;
   near = let a = known in omega arith;
-  accounted = λ o l. ⊎_elim
-      (λ (a : o < x.point). below o a)
-      (λ (a : x.point ≤ o). inr (gone o a l))
-      (cases_lt o x.point);
+  acknowledged = below;
   abandoned = gone;
+  ends = λ o e. ends o e;
   complete = λ s o a from l. found_some x.plan s (gone_front x) None (o - x.point) (omega arith)
       (subst (λ z. is_ordered_of x.plan s z ≡ true) (sym (among_same x rest (o - x.point) (omega arith) ∙ place o from)) (and_from _ _ (eq-eqb _ _ a.stream) a.kind));
-  last = λ o e. gone o (omega arith) (omega arith);
-  ends = λ o e. ends o e;
-  last_reported = λ s m e. last_reported s m (last_of x.plan s m (gone_front x) None e);
-  reported = λ s m e v. reported s m v (last_of x.plan s m (gone_front x) None e);
+  reported = λ s m e. reported s m (last_of x.plan s m (gone_front x) None e);
+  greatest = λ s m e v o a l. greatest s m v (reported s m (last_of x.plan s m (gone_front x) None e)) o a l;
+  all = λ s m e v o a l. all s m v (reported s m (last_of x.plan s m (gone_front x) None e)) o a l;
 }
   where
     rest : List Place
@@ -238,19 +235,20 @@ forward_made x over taken h g below flight some = record {
             ∙ ap (λ z. x.gone (place_at x.plan z).stream (place_at x.plan z).message) (sym same)
             ∙ ap (λ z. x.gone z (place_at x.plan go.last).message) (sym w.stream) ∙ ap (x.gone y.stream) (sym w.message) ∙ go.stays))
 
-    last_reported : (s m : ℕ)
+    reported : (s m : ℕ)
         → ((None ≡ Some m) × ((k : ℕ) → k < length (gone_front x) → is_ordered_of x.plan s (get_or (gone_front x) k no_place) ≡ false)) ⊎ ((j : ℕ) × IsLastOf x.plan s (gone_front x) m j)
-        → IsLastReported x.plan s x.point (x.point + length (gone_front x)) m
-    last_reported s m (inl r) = absurd (none_some r.0)
+        → IsReported x.plan x.gone s x.point (x.point + length (gone_front x)) m
+    reported s m (inl r) = absurd (none_some r.0)
       where
         none_some : None ≡ Some m → ⊥
         none_some h = cc
-    last_reported s m (inr r) = record {
+    reported s m (inr r) = record {
       offset = offset;
       from = omega arith;
       below = omega (arith, k.within);
       at = record { known = omega (arith, k.within, known); stream = eqb-true _ _ parts.0; kind = parts.1 };
-      is = k.is ∙ ap (λ z. z.ssn % 65536) found;
+      given_up = gone offset (omega arith) (omega (arith, k.within));
+      is = k.is ∙ ap (λ z. z.ssn) found;
       last = up_to;
     }
       where
@@ -277,145 +275,94 @@ forward_made x over taken h g below flight some = record {
             (λ (b : o ≤ offset). b)
             (cases_lt offset o)
 
-    reported : (s m : ℕ) → over s ≡ false
-        → ((None ≡ Some m) × ((k : ℕ) → k < length (gone_front x) → is_ordered_of x.plan s (get_or (gone_front x) k no_place) ≡ false)) ⊎ ((j : ℕ) × IsLastOf x.plan s (gone_front x) m j)
-        → IsReported x.plan x.gone s x.point (x.point + length (gone_front x)) m
-    reported s m v (inl r) = absurd (none_some r.0)
+    greatest : (s m : ℕ) → over s ≡ false → IsReported x.plan x.gone s x.point (x.point + length (gone_front x)) m
+        → (o : ℕ) → IsAt x.plan s true o → o < x.point + length (gone_front x) → (place_at x.plan o).ssn ≤ m
+    greatest s m v r o a l = subst (λ z. (place_at x.plan o).ssn ≤ z) (sym r.is) (h.pairs s v o r.offset (r.last o a l) a r.at).ssn
+
+    all : (s m : ℕ) → over s ≡ false → IsReported x.plan x.gone s x.point (x.point + length (gone_front x)) m
+        → (o : ℕ) → IsAt x.plan s true o → (place_at x.plan o).ssn ≤ m → o < x.point + length (gone_front x)
+    all s m v r o a l = ⊎_elim
+        (λ (b : r.offset < o). stays_below o a (let e = r.is in omega arith) b)
+        (λ (b : o ≤ r.offset). let c = r.below in omega arith)
+        (cases_lt r.offset o)
       where
-        none_some : None ≡ Some m → ⊥
-        none_some h = cc
-    reported s m v (inr r) = record {
-      offset = offset;
-      from = omega arith;
-      below = omega (arith, k.within);
-      at = at_offset;
-      given_up = gone offset (omega arith) (omega (arith, k.within));
-      is = k.is ∙ ap (λ z. z.ssn % 65536) found;
-      greatest = λ o a l. (h.pairs s v o offset (up_to o a l) a at_offset).ssn;
-      all = λ o a l. ⊎_elim
-          (λ (b : o ≤ offset). omega (arith, k.within))
-          (λ (b : offset < o). stays_below o a l b)
-          (either o (cases_lt offset o));
-    }
-      where
-        k : IsLastOf x.plan s (gone_front x) m r.0
-        k = r.1
-
-        offset : ℕ
-        offset = x.point + r.0
-
-        inside : (o : ℕ) → x.point ≤ o → o < x.point + length (gone_front x) → get_or (gone_front x) (o - x.point) no_place ≡ place_at x.plan o
-        inside o a l = among_same x rest (o - x.point) (omega arith) ∙ place o a
-
-        found : get_or (gone_front x) r.0 no_place ≡ place_at x.plan offset
-        found = ap (λ z. get_or (gone_front x) z no_place) (let e : r.0 ≡ offset - x.point = omega arith in e) ∙ inside offset (omega arith) (omega (arith, k.within))
-
-        parts : (eqb (place_at x.plan offset).stream s ≡ true) × ((message_of x.plan (place_at x.plan offset)).ordered ≡ true)
-        parts = and_parts _ _ (subst (λ z. is_ordered_of x.plan s z ≡ true) found k.here)
-
-        at_offset : IsAt x.plan s true offset
-        at_offset = record { known = omega (arith, k.within, known); stream = eqb-true _ _ parts.0; kind = parts.1 }
-
-        up_to : (o : ℕ) → IsAt x.plan s true o → o < x.point + length (gone_front x) → o ≤ offset
-        up_to o a l = ⊎_elim
-            (λ (b : offset < o). absurd (true≢false (
-            sym (subst (λ z. is_ordered_of x.plan s z ≡ true) (sym (inside o (omega arith) l)) (and_from _ _ (eq-eqb _ _ a.stream) a.kind))
-            ∙ k.none_later (o - x.point) (omega arith) (omega arith))))
-            (λ (b : o ≤ offset). b)
-            (cases_lt offset o)
-
-        either : (o : ℕ) → (offset < o) ⊎ (o ≤ offset) → (o ≤ offset) ⊎ (offset < o)
-        either o (inl a) = inr a
-        either o (inr a) = inl a
-
-        stays_below : (o : ℕ) → IsAt x.plan s true o → (place_at x.plan o).ssn ≤ (place_at x.plan offset).ssn → offset < o → o < x.point + length (gone_front x)
+        stays_below : (o : ℕ) → IsAt x.plan s true o → (place_at x.plan o).ssn ≤ (place_at x.plan r.offset).ssn → r.offset < o → o < x.point + length (gone_front x)
         stays_below o a l b = ⊎_elim
             (λ (c : o < x.point + length (gone_front x)). c)
             (λ (c : x.point + length (gone_front x) ≤ o).
-            let pair = h.pairs s v offset o (omega arith) at_offset a in
+            let pair = h.pairs s v r.offset o (omega arith) r.at a in
             let le = pair.ssn in
             let ak = a.known in
-            let kw = k.within in
-            let w = between x.plan over offset (x.point + length (gone_front x)) o h (omega arith) c ak (at_offset.stream ∙ sym a.stream) (pair.together (omega arith)) in
-            absurd (true≢false (sym (gone offset (omega arith) (omega arith))
-            ∙ ap (λ z. x.gone z (place_at x.plan offset).message) (sym w.0)
+            let rb = r.below in
+            let rf = r.from in
+            let ra = r.at in
+            let w = between x.plan over r.offset (x.point + length (gone_front x)) o h (omega arith) c ak (ra.stream ∙ sym a.stream) (pair.together (omega arith)) in
+            absurd (true≢false (sym (gone r.offset (omega arith) (omega arith))
+            ∙ ap (λ z. x.gone z (place_at x.plan r.offset).message) (sym w.0)
             ∙ ap (x.gone (place_at x.plan (x.point + length (gone_front x))).stream) (sym w.1)
             ∙ stops (x.point + length (gone_front x)) refl (omega arith))))
             (cases_lt o (x.point + length (gone_front x)))
 
 -- It stays true when more gets an offset, is accepted or given up, or is taken in.
-pub forward_grows : (p r : Plan) (gone gone' : ℕ → ℕ → Bool) (over : ℕ → Bool) (taken : List ℕ) (f : Forward) → IsExtended p r
+pub forward_grows : (p r : Plan) (gone gone' : ℕ → ℕ → Bool) (over acked : ℕ → Bool) (now : ℕ) (f : Forward) → IsExtended p r
     → ((t i : ℕ) → gone t i ≡ true → gone' t i ≡ true)
     → ((s : ℕ) → over s ≡ false → (o : ℕ) → length p.places ≤ o → IsAt r s true o → (x : ℕ) → IsAt p s true x → gone_at p gone x ≡ true → (place_at p x).ssn < (place_at r o).ssn)
-    → IsForward p gone over taken f → IsForward r gone' over taken f
-forward_grows p r gone gone' over taken f e more new h = record {
-  start = h.start;
+    → IsForward p gone over acked now f → IsForward r gone' over acked now f
+forward_grows p r gone gone' over acked now f e more new h = record {
+  behind = h.behind;
   ahead = h.ahead;
   known = let a = h.known in let b = e.more in omega arith;
   near = h.near;
-  accounted = λ o l. ⊎_elim
-      (λ (m : mem o taken ≡ true). inl m)
-      (λ (g : gone_at p gone o ≡ true). inr (gone_kept o (let a = h.known in omega arith) g))
-      (h.accounted o l);
+  acknowledged = h.acknowledged;
   abandoned = λ o a l. gone_kept o (let b = h.known in omega arith) (h.abandoned o a l);
-  complete = λ s o a from l. h.complete s o (at_before p r e s o true (let b = h.known in omega arith) a) from l;
-  last = λ o l. gone_kept o (let a = h.known in omega arith) (h.last o l);
   ends = λ o l. ⊎_elim
       (λ (a : is_last p (place_at p o) ≡ true). inl (last_kept p r e o (let b = h.known in omega arith) ∙ a))
       (λ (a : (place_at p o).marker ≡ true). inr (ap (λ z. z.marker) (e.places o (let b = h.known in omega arith)) ∙ a))
       (h.ends o l);
-  last_reported = λ s m k.
-      let q = h.last_reported s m k in
+  complete = λ s o a from l. h.complete s o (at_before p r e s o true (let b = h.known in omega arith) a) from l;
+  reported = λ s m k.
+      let q = h.reported s m k in
       let at = q.at in
-      record {
-        offset = q.offset;
-        from = q.from;
-        below = q.below;
-        at = at_kept p r e s q.offset true q.at;
-        is = q.is ∙ ap (λ z. z.ssn % 65536) (sym (e.places q.offset at.known));
-        last = λ o a l. q.last o (at_before p r e s o true (let b = h.known in omega arith) a) l;
-      };
-  reported = λ s m k v.
-      let q = h.reported s m k v in
-      let at = q.at in
-      let same = e.places q.offset at.known in
       record {
         offset = q.offset;
         from = q.from;
         below = q.below;
         at = at_kept p r e s q.offset true q.at;
         given_up = gone_kept q.offset at.known q.given_up;
-        is = q.is ∙ ap (λ z. z.ssn % 65536) (sym same);
-        greatest = λ o a l.
-            let lo : o < length p.places = (let b = h.known in omega arith) in
-            subst (λ z. (place_at r o).ssn ≤ z.ssn) (sym same) (subst (λ z. z.ssn ≤ (place_at p q.offset).ssn) (sym (e.places o lo)) (q.greatest o (at_before p r e s o true lo a) l));
-        all = λ o a l. ⊎_elim
-            (λ (lo : o < length p.places). q.all o (at_before p r e s o true lo a)
-            (subst (λ z. z.ssn ≤ (place_at p q.offset).ssn) (e.places o lo) (subst (λ z. (place_at r o).ssn ≤ z.ssn) same l)))
-            (λ (lo : length p.places ≤ o). absurd (
-            let b = new s v o lo a q.offset q.at q.given_up in
-            let c : (place_at r o).ssn ≤ (place_at p q.offset).ssn = subst (λ z. (place_at r o).ssn ≤ z.ssn) same l in
-            omega arith))
-            (cases_lt o (length p.places));
+        is = q.is ∙ ap (λ z. z.ssn) (sym (e.places q.offset at.known));
+        last = λ o a l. q.last o (at_before p r e s o true (let b = h.known in omega arith) a) l;
       };
+  greatest = λ s m k v o a l.
+      let lo : o < length p.places = (let b = h.known in omega arith) in
+      subst (λ z. z.ssn ≤ m) (sym (e.places o lo)) (h.greatest s m k v o (at_before p r e s o true lo a) l);
+  all = λ s m k v o a l.
+      let q = h.reported s m k in
+      ⊎_elim
+      (λ (lo : o < length p.places). h.all s m k v o (at_before p r e s o true lo a) (subst (λ z. z.ssn ≤ m) (e.places o lo) l))
+      (λ (lo : length p.places ≤ o). absurd (
+      let b = new s v o lo a q.offset q.at q.given_up in
+      let c = q.is in
+      omega arith))
+      (cases_lt o (length p.places));
 }
   where
     gone_kept : (o : ℕ) → o < length p.places → gone_at p gone o ≡ true → gone_at r gone' o ≡ true
     gone_kept o l g = subst (λ z. gone' z.stream z.message ≡ true) (sym (e.places o l)) (more _ _ g)
 
-pub forward_taken : (p : Plan) (gone : ℕ → ℕ → Bool) (over over' : ℕ → Bool) (taken taken' : List ℕ) (f : Forward)
-    → ((o : ℕ) → mem o taken ≡ true → mem o taken' ≡ true) → ((s : ℕ) → over' s ≡ false → over s ≡ false)
-    → IsForward p gone over taken f → IsForward p gone over' taken' f
-forward_taken p gone over over' taken taken' f more spans h = record {
-  start = h.start;
+-- and when more is acknowledged, or the span of a stream ends
+pub forward_later : (p : Plan) (gone : ℕ → ℕ → Bool) (over over' acked acked' : ℕ → Bool) (now now' : ℕ) (f : Forward)
+    → ((o : ℕ) → acked o ≡ true → acked' o ≡ true) → now ≤ now' → ((s : ℕ) → over' s ≡ false → over s ≡ false)
+    → IsForward p gone over acked now f → IsForward p gone over' acked' now' f
+forward_later p gone over over' acked acked' now now' f more on spans h = record {
+  behind = let a = h.behind in omega arith;
   ahead = h.ahead;
   known = h.known;
   near = h.near;
-  accounted = λ o l. ⊎_elim (λ (m : mem o taken ≡ true). inl (more o m)) (λ (g : gone_at p gone o ≡ true). inr g) (h.accounted o l);
+  acknowledged = λ o l. more o (h.acknowledged o l);
   abandoned = h.abandoned;
-  complete = h.complete;
-  last = h.last;
   ends = h.ends;
-  last_reported = h.last_reported;
-  reported = λ s m k v. h.reported s m k (spans s v);
+  complete = h.complete;
+  reported = h.reported;
+  greatest = h.greatest;
+  all = λ s m k v. h.all s m k (spans s v);
 }

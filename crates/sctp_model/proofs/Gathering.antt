@@ -63,6 +63,7 @@ run_last p over taken s o k low d h held e last = record {
     stream = stream;
     message = refl;
     piece = only j l m;
+    sent = subst (λ z. (place_at p z).marker ≡ false) e held.sent;
     taken_in = subst (λ z. mem z taken ≡ true) e held.taken_in;
   };
   mine = (ap (λ z. (place_at p z).message) e, tt);
@@ -113,6 +114,7 @@ run_more p over taken s o k low d ps h held e last next r = record {
         stream = stream;
         message = refl;
         piece = omega arith;
+        sent = subst (λ z. (place_at p z).marker ≡ false) e held.sent;
         taken_in = subst (λ z. mem z taken ≡ true) e held.taken_in;
       })
       (cases_lt (place_at p o).piece j);

@@ -4,15 +4,16 @@ use Rattle.std.specs.List.{AllByRecursion}
 use Rattle.std.proofs.lemmas.Bool.{cases_Bool, cases_eq, and_parts, or_cases, eqb-true, ltb-true, true≢false, false≢true, cond-true, cond-false, not-true}
 use Rattle.sctp_model.specs.Messages.{Place, Plan, IsAt, place_at, message_at, message_of, is_last, is_reliable, rank}
 use Rattle.sctp_model.specs.Packets.{Data, data_at}
-use Rattle.sctp_model.specs.Machine.{Direction, put, put_2, is_unsent, is_due, can_begin, first_place, following, left_after, with_place, sent, counted, next_data, begin, marked}
+use Rattle.sctp_model.specs.Machine.{Direction, put, put_2, is_unsent, is_due, can_begin, first_place, following, left_after, with_place, sent, counted, next_data, begin, marked, unacknowledged}
 use Rattle.sctp_model.specs.Safe.{read_end, read_ssn}
-use Rattle.sctp_model.specs.Invariants.{Invariant, Follows, IsEarlier, IsGoing, IsSending, IsPiece, NoneGone, gone_at}
+use Rattle.sctp_model.specs.Invariants.{Invariant, Follows, IsEarlier, IsGoing, IsSending, IsPiece, gone_at, released_bytes}
 use Rattle.sctp_model.proofs.Lists.{all_weaker, all_push}
 use Rattle.sctp_model.proofs.Ranks.{rank_yes}
 use Rattle.sctp_model.proofs.Growth.{IsExtended, at_put, off_put, place_extended, piece_kept}
 use Rattle.sctp_model.proofs.Placing.{IsNext, planned_next, length_placed, place_new, placed_cases}
 use Rattle.sctp_model.proofs.Sending.{next_first, next_following, sending_placed}
-use Rattle.sctp_model.proofs.Writing.{grow_keeps, gone_more, gone_now, gone_cases}
+use Rattle.sctp_model.proofs.Writing.{grow_keeps, freed_same, freed_now, gone_more, gone_cases}
+use Rattle.sctp_model.proofs.Released.{gone_now, released_given}
 
 -- what is left after a piece
 
@@ -80,7 +81,6 @@ tails_placed p gone gone' y e more old new o l m = ⊎_elim
 
 earlier_placed : (p : Plan) (y : Place) (s next ssn : ℕ) (x : Place) (o : ℕ) → IsEarlier p s next ssn x o → IsEarlier (with_place p y) s next ssn x o
 earlier_placed p y s next ssn x o e = record {
-  number = e.number;
   below = e.below;
   near = let a = e.near in let n = length_placed p y in omega arith;
   rank = e.rank;
@@ -88,7 +88,7 @@ earlier_placed p y s next ssn x o e = record {
 
 -- A message begins.
 
-module _ (w : Direction) (s i : ℕ) (can : can_begin w.sender s i ≡ true) (none : w.sender.current ≡ None) (h : Invariant w) where
+module _ (w : Direction) (s i number : ℕ) (numbered : (message_at w.sender.plan s i).ordered ≡ true → number ≡ w.sender.ssn s) (can : can_begin w.sender s i ≡ true) (none : w.sender.current ≡ None) (h : Invariant w) where
   unsent : (i < length (w.sender.plan.accepted s)) × (w.sender.begun s i ≡ false) × (w.sender.gone s i ≡ false)
   unsent =
       let a = and_parts _ _ can in
@@ -102,85 +102,88 @@ module _ (w : Direction) (s i : ℕ) (can : can_begin w.sender s i ≡ true) (no
       (λ (a : eqb i (w.sender.next s) ≡ true). eqb-true _ _ a)
       (or_cases _ _ (and_parts (is_unsent w.sender s i) (is_due w.sender s i) can).1)
 
-  next_place : IsNext w.sender.plan w.over (first_place w.sender s i)
-  next_place = next_first w.sender.plan w.sender.current w.sender.next w.sender.ssn w.sender.begun w.sender.gone w.over (first_place w.sender s i)
-      h.planned h.sending none refl refl unsent.0 unsent.1 due
+  next_place : IsNext w.sender.plan w.over (first_place s i number)
+  next_place = next_first w.sender.plan w.sender.current w.sender.next w.sender.ssn w.sender.begun w.sender.gone w.over (first_place s i number)
+      h.planned h.sending none refl numbered unsent.0 unsent.1 due
 
-  longer : IsExtended w.sender.plan (with_place w.sender.plan (first_place w.sender s i))
-  longer = place_extended w.sender.plan (first_place w.sender s i) h.planned.known
+  longer : IsExtended w.sender.plan (with_place w.sender.plan (first_place s i number))
+  longer = place_extended w.sender.plan (first_place s i number) h.planned.known
 
   begun_cases : (t j : ℕ) → w.sender.begun t j ≡ true → put_2 w.sender.begun s i t j ≡ true
   begun_cases t j b = gone_more w.sender.begun s i t j b
 
-  datas_now : AllByRecursion (IsPiece (with_place w.sender.plan (first_place w.sender s i))) (w.datas ++ next_data w.sender (first_place w.sender s i) ∷ [])
-  datas_now = all_push _ w.datas _ (all_weaker _ _ _ (λ d. piece_kept w.sender.plan (with_place w.sender.plan (first_place w.sender s i)) longer d) h.datas)
-      (new_piece w.sender.plan (first_place w.sender s i) refl)
+  datas_now : AllByRecursion (IsPiece (with_place w.sender.plan (first_place s i number))) (w.datas ++ next_data w.sender (first_place s i number) ∷ [])
+  datas_now = all_push _ w.datas _ (all_weaker _ _ _ (λ d. piece_kept w.sender.plan (with_place w.sender.plan (first_place s i number)) longer d) h.datas)
+      (new_piece w.sender.plan (first_place s i number) refl)
 
-  tails_now : (o : ℕ) → o < length (with_place w.sender.plan (first_place w.sender s i)).places
-      → (place_at (with_place w.sender.plan (first_place w.sender s i)) o).marker ≡ true
-      → gone_at (with_place w.sender.plan (first_place w.sender s i)) w.sender.gone o ≡ true
-  tails_now = tails_placed w.sender.plan w.sender.gone w.sender.gone (first_place w.sender s i) longer (λ t j g. g) h.tails (λ e. absurd (false≢true e))
+  tails_now : (o : ℕ) → o < length (with_place w.sender.plan (first_place s i number)).places
+      → (place_at (with_place w.sender.plan (first_place s i number)) o).marker ≡ true
+      → gone_at (with_place w.sender.plan (first_place s i number)) w.sender.gone o ≡ true
+  tails_now = tails_placed w.sender.plan w.sender.gone w.sender.gone (first_place s i number) longer (λ t j g. g) h.tails (λ e. absurd (false≢true e))
 
-  later_now : (t : ℕ) → w.over t ≡ false → (o : ℕ) → length w.sender.plan.places ≤ o → IsAt (with_place w.sender.plan (first_place w.sender s i)) t true o
+  later_now : (t : ℕ) → w.over t ≡ false → (o : ℕ) → length w.sender.plan.places ≤ o → IsAt (with_place w.sender.plan (first_place s i number)) t true o
       → (x : ℕ) → IsAt w.sender.plan t true x → gone_at w.sender.plan w.sender.gone x ≡ true
-      → (place_at w.sender.plan x).ssn < (place_at (with_place w.sender.plan (first_place w.sender s i)) o).ssn
+      → (place_at w.sender.plan x).ssn < (place_at (with_place w.sender.plan (first_place s i number)) o).ssn
   later_now t v o l a x ax g =
-      let n = new_is w.sender.plan (first_place w.sender s i) t o l a in
+      let n = new_is w.sender.plan (first_place s i number) t o l a in
       subst (λ z. (place_at w.sender.plan x).ssn < z.ssn) (sym n.1)
-      (subst (λ z. (place_at w.sender.plan x).ssn < w.sender.ssn z) (sym n.2) (h.sending.earlier t v x ax).below)
+      (let b = (h.sending.earlier t v x ax).below in let u = numbered n.3 in let c = ap w.sender.ssn n.2 in omega arith)
 
-  going_now : (z : Place) → left_after w.sender.plan (first_place w.sender s i) ≡ Some z
-      → IsGoing (with_place w.sender.plan (first_place w.sender s i)) w.sender.gone z
-  going_now z e = going_after w.sender.plan w.sender.gone (first_place w.sender s i) z refl unsent.2 e
+  going_now : (z : Place) → left_after w.sender.plan (first_place s i number) ≡ Some z
+      → IsGoing (with_place w.sender.plan (first_place s i number)) w.sender.gone z
+  going_now z e = going_after w.sender.plan w.sender.gone (first_place s i number) z refl unsent.2 e
 
   begin_ordered : (message_at w.sender.plan s i).ordered ≡ true
-      → Invariant (record w { sender = counted (sent w.sender (first_place w.sender s i)) s i true; datas = w.datas ++ next_data w.sender (first_place w.sender s i) ∷ [] })
-  begin_ordered kind = grow_keeps w (with_place w.sender.plan (first_place w.sender s i)) (left_after w.sender.plan (first_place w.sender s i))
+      → Invariant (record w { sender = counted (sent w.sender (first_place s i number)) s i true; datas = w.datas ++ next_data w.sender (first_place s i number) ∷ [] })
+  begin_ordered kind = grow_keeps w (with_place w.sender.plan (first_place s i number)) (left_after w.sender.plan (first_place s i number))
       (put w.sender.next s (suc i)) (put w.sender.ssn s (suc (w.sender.ssn s))) (put_2 w.sender.begun s i) w.sender.gone w.sender.released
-      (w.datas ++ next_data w.sender (first_place w.sender s i) ∷ []) h longer (λ t j g. g)
-      (planned_next w.sender.plan w.over (first_place w.sender s i) h.planned next_place)
-      (sending_placed w.sender.plan (first_place w.sender s i) w.sender.current (left_after w.sender.plan (first_place w.sender s i)) w.sender.next (put w.sender.next s (suc i))
+      (w.datas ++ next_data w.sender (first_place s i number) ∷ []) h longer (λ t j g. g)
+      (planned_next w.sender.plan w.over (first_place s i number) h.planned next_place)
+      (sending_placed w.sender.plan (first_place s i number) w.sender.current (left_after w.sender.plan (first_place s i number)) w.sender.next (put w.sender.next s (suc i))
       w.sender.ssn (put w.sender.ssn s (suc (w.sender.ssn s))) w.sender.begun (put_2 w.sender.begun s i) w.sender.gone w.over h.planned h.sending
       (λ t. put_cases t (λ a b. a ≤ length (w.sender.plan.accepted t)) (λ e. let u = ap (λ z. length (w.sender.plan.accepted z)) e in omega (arith, unsent.0)) (λ ne. h.sending.within t))
       begun_cases (gone_now w.sender.begun s i)
+      (λ t. put_cases t (λ a b. w.sender.next t ≤ a) (λ e. let d = due kind in let u = ap w.sender.next e in omega arith) (λ ne. omega arith))
+      (λ k. put_cases s (λ a b. i < a) (λ e. omega arith) (λ ne. absurd (ne refl)))
       (λ t v o a.
       let x = h.sending.earlier t v o a in
-      put_cases t (λ a b. IsEarlier (with_place w.sender.plan (first_place w.sender s i)) t a b (place_at w.sender.plan o) o)
+      put_cases t (λ a b. IsEarlier (with_place w.sender.plan (first_place s i number)) t a b (place_at w.sender.plan o) o)
       (λ e. step t e o x)
-      (λ ne. earlier_placed w.sender.plan (first_place w.sender s i) t (w.sender.next t) (w.sender.ssn t) (place_at w.sender.plan o) o x))
-      (λ v k. put_cases s (λ a b. IsEarlier (with_place w.sender.plan (first_place w.sender s i)) s a b (first_place w.sender s i) (length w.sender.plan.places))
+      (λ ne. earlier_placed w.sender.plan (first_place s i number) t (w.sender.next t) (w.sender.ssn t) (place_at w.sender.plan o) o x))
+      (λ v k. put_cases s (λ a b. IsEarlier (with_place w.sender.plan (first_place s i number)) s a b (first_place s i number) (length w.sender.plan.places))
       (λ e. record {
-        number = omega arith;
-        below = omega arith;
-        near = let n = length_placed w.sender.plan (first_place w.sender s i) in omega arith;
-        rank = let r = ranked in omega arith;
+        below = let u = numbered kind in omega arith;
+        near = let n = length_placed w.sender.plan (first_place s i number) in omega arith;
+        rank = let r = ranked in let u = numbered kind in omega arith;
       })
       (λ ne. absurd (ne refl)))
-      going_now (λ e. inl (left_none w.sender.plan (first_place w.sender s i) e)))
-      datas_now tails_now later_now (λ t n. refl)
+      going_now (λ e. inl (left_none w.sender.plan (first_place s i number) e)))
+      datas_now tails_now later_now (freed_same w (with_place w.sender.plan (first_place s i number)) h longer)
       (λ t v st o l a.
-      let n = new_is w.sender.plan (first_place w.sender s i) t o l a in
+      let n = new_is w.sender.plan (first_place s i number) t o l a in
       let e = n.2 in
       let q = st.ordered in
       let en = ap w.sender.next (sym e) in
       let es = ap w.sender.ssn e in
       let d = due kind in
+      let u = numbered kind in
       record {
         ahead = subst (λ z. q.cursor ≤ z.ssn) (sym n.1) (let b = q.begun in omega arith);
         later = subst (λ z. read_end w.sender.plan 0 (w.reads t) ≤ z.message) (sym n.1) (let b = q.until in omega arith);
         link = subst (λ z. z.ssn + rank (w.sender.plan.accepted t) (read_end w.sender.plan 0 (w.reads t)) ≤ read_ssn w.sender.plan 0 (w.reads t) + rank (w.sender.plan.accepted t) z.message) (sym n.1)
             (let b = q.gap in let u : rank (w.sender.plan.accepted t) i ≡ rank (w.sender.plan.accepted t) (w.sender.next t) = ap (rank (w.sender.plan.accepted t)) (omega arith) in omega arith);
         exact = λ no. subst (λ z. z.ssn ≡ rank (w.sender.plan.accepted t) z.message) (sym n.1)
-            (es ∙ (q.full no).level_next ∙ ap (rank (w.sender.plan.accepted t)) (omega arith));
+            (u ∙ es ∙ (q.full no).level_next ∙ ap (rank (w.sender.plan.accepted t)) (omega arith));
       })
       (λ t v st.
       let q = st.ordered in
       record {
         going = λ z c sz k.
-            let l = left_some w.sender.plan (first_place w.sender s i) z c in
+            let l = left_some w.sender.plan (first_place s i number) z c in
             let e : s ≡ t = sym (ap (λ x. x.stream) l.1) ∙ sz in
             let u = ap w.sender.ssn e in
             let v' = ap (λ x. x.ssn) l.1 in
+            let k' = numbered kind in
             let b = q.begun in
             omega arith;
         begun = put_cases t (λ a b. q.cursor ≤ b) (λ e. let b = q.begun in let u = ap w.sender.ssn e in omega arith) (λ ne. q.begun);
@@ -214,37 +217,37 @@ module _ (w : Direction) (s i : ℕ) (can : can_begin w.sender s i ≡ true) (no
           (cases_eq t s)
 
       step : (t : ℕ) → t ≡ s → (o : ℕ) → IsEarlier w.sender.plan t (w.sender.next t) (w.sender.ssn t) (place_at w.sender.plan o) o
-          → IsEarlier (with_place w.sender.plan (first_place w.sender s i)) t (suc i) (suc (w.sender.ssn s)) (place_at w.sender.plan o) o
+          → IsEarlier (with_place w.sender.plan (first_place s i number)) t (suc i) (suc (w.sender.ssn s)) (place_at w.sender.plan o) o
       step t e o x =
           let d = due kind in
           let u = ap w.sender.next e in
           let u' = ap w.sender.ssn e in
           record {
-            number = let b = x.number in omega arith;
             below = let b = x.below in omega arith;
-            near = let b = x.near in let n = length_placed w.sender.plan (first_place w.sender s i) in omega arith;
+            near = let b = x.near in let n = length_placed w.sender.plan (first_place s i number) in omega arith;
             rank = let b = x.rank in let r = ranked_at t e in omega arith;
           }
 
   begin_unordered : (message_at w.sender.plan s i).ordered ≡ false
-      → Invariant (record w { sender = counted (sent w.sender (first_place w.sender s i)) s i false; datas = w.datas ++ next_data w.sender (first_place w.sender s i) ∷ [] })
-  begin_unordered kind = grow_keeps w (with_place w.sender.plan (first_place w.sender s i)) (left_after w.sender.plan (first_place w.sender s i))
+      → Invariant (record w { sender = counted (sent w.sender (first_place s i number)) s i false; datas = w.datas ++ next_data w.sender (first_place s i number) ∷ [] })
+  begin_unordered kind = grow_keeps w (with_place w.sender.plan (first_place s i number)) (left_after w.sender.plan (first_place s i number))
       w.sender.next w.sender.ssn (put_2 w.sender.begun s i) w.sender.gone w.sender.released
-      (w.datas ++ next_data w.sender (first_place w.sender s i) ∷ []) h longer (λ t j g. g)
-      (planned_next w.sender.plan w.over (first_place w.sender s i) h.planned next_place)
-      (sending_placed w.sender.plan (first_place w.sender s i) w.sender.current (left_after w.sender.plan (first_place w.sender s i)) w.sender.next w.sender.next
+      (w.datas ++ next_data w.sender (first_place s i number) ∷ []) h longer (λ t j g. g)
+      (planned_next w.sender.plan w.over (first_place s i number) h.planned next_place)
+      (sending_placed w.sender.plan (first_place s i number) w.sender.current (left_after w.sender.plan (first_place s i number)) w.sender.next w.sender.next
       w.sender.ssn w.sender.ssn w.sender.begun (put_2 w.sender.begun s i) w.sender.gone w.over h.planned h.sending
       h.sending.within begun_cases (gone_now w.sender.begun s i)
-      (λ t v o a. earlier_placed w.sender.plan (first_place w.sender s i) t (w.sender.next t) (w.sender.ssn t) (place_at w.sender.plan o) o (h.sending.earlier t v o a))
+      (λ t. omega arith) (λ k. absurd (true≢false (sym k ∙ kind)))
+      (λ t v o a. earlier_placed w.sender.plan (first_place s i number) t (w.sender.next t) (w.sender.ssn t) (place_at w.sender.plan o) o (h.sending.earlier t v o a))
       (λ v k. absurd (true≢false (sym k ∙ kind)))
-      going_now (λ e. inl (left_none w.sender.plan (first_place w.sender s i) e)))
-      datas_now tails_now later_now (λ t n. refl)
-      (λ t v st o l a. absurd (true≢false (sym (new_is w.sender.plan (first_place w.sender s i) t o l a).3 ∙ kind)))
+      going_now (λ e. inl (left_none w.sender.plan (first_place s i number) e)))
+      datas_now tails_now later_now (freed_same w (with_place w.sender.plan (first_place s i number)) h longer)
+      (λ t v st o l a. absurd (true≢false (sym (new_is w.sender.plan (first_place s i number) t o l a).3 ∙ kind)))
       (λ t v st.
       let q = st.ordered in
       record {
         going = λ z c sz k. absurd (
-            let l = left_some w.sender.plan (first_place w.sender s i) z c in
+            let l = left_some w.sender.plan (first_place s i number) z c in
             true≢false (sym k ∙ ap (λ x. (message_of w.sender.plan x).ordered) l.1 ∙ kind));
         begun = q.begun;
         until = q.until;
@@ -253,11 +256,11 @@ module _ (w : Direction) (s i : ℕ) (can : can_begin w.sender s i ≡ true) (no
       })
 
   begin_either : (b : Bool) → (message_at w.sender.plan s i).ordered ≡ b
-      → Invariant (record w { sender = counted (sent w.sender (first_place w.sender s i)) s i b; datas = w.datas ++ next_data w.sender (first_place w.sender s i) ∷ [] })
+      → Invariant (record w { sender = counted (sent w.sender (first_place s i number)) s i b; datas = w.datas ++ next_data w.sender (first_place s i number) ∷ [] })
   begin_either true e = begin_ordered e
   begin_either false e = begin_unordered e
 
-  pub keeps_begin : Invariant (begin w s i)
+  pub keeps_begin : Invariant (begin w s i number)
   keeps_begin = begin_either (message_at w.sender.plan s i).ordered refl
 
 -- The message goes on, with its next piece or with the marker of its tail.
@@ -266,7 +269,7 @@ going_keeps : (w : Direction) (c y : Place) (current' : Option Place) (gone' : �
     → y.stream ≡ c.stream → y.message ≡ c.message → y.piece ≡ c.piece → y.ssn ≡ c.ssn
     → ((t i : ℕ) → w.sender.gone t i ≡ true → gone' t i ≡ true)
     → (y.marker ≡ true → gone' y.stream y.message ≡ true)
-    → ((s : ℕ) → NoneGone gone' s → rl s ≡ w.sender.released s)
+    → ((s : ℕ) → rl s ≡ released_bytes (with_place w.sender.plan y) w.sender.acknowledged gone' s)
     → AllByRecursion (IsPiece (with_place w.sender.plan y)) ds
     → IsSending (with_place w.sender.plan y) current' w.sender.next w.sender.ssn w.sender.begun gone' w.over
     → ((z : Place) → current' ≡ Some z → (z.stream ≡ c.stream) × (z.message ≡ c.message) × (z.ssn ≡ c.ssn))
@@ -365,21 +368,19 @@ sending_following w c y current' is es em en h going closed =
     (let f = g.follows in
     subst (λ z. w.sender.begun z y.message ≡ true) (sym (es ∙ f.stream))
     (subst (λ z. w.sender.begun (place_at p g.last).stream z ≡ true) (sym (em ∙ f.message)) (h.sending.counted g.last (let n = g.is in omega arith))))
+    (λ t. omega arith)
+    (λ k. let f = g.follows in
+    let b = h.sending.numbers y.stream g.last (last_at k) in
+    let mm : y.message ≡ (place_at p g.last).message = em ∙ f.message in
+    omega arith)
     (λ t v o a. earlier_placed p y t (w.sender.next t) (w.sender.ssn t) (place_at p o) o (h.sending.earlier t v o a))
     (λ v k.
     let f = g.follows in
     let n = g.is in
-    let m : IsAt p y.stream true g.last = record {
-      known = omega arith;
-      stream = sym f.stream ∙ sym es;
-      kind = ap (λ z. (message_at p z (place_at p g.last).message).ordered) (sym f.stream ∙ sym es)
-          ∙ ap (λ z. (message_at p y.stream z).ordered) (sym f.message ∙ sym em) ∙ k;
-    } in
-    let x = h.sending.earlier y.stream v g.last m in
+    let x = h.sending.earlier y.stream v g.last (last_at k) in
     let ss : y.ssn ≡ (place_at p g.last).ssn = en ∙ f.ssn in
     let mm : y.message ≡ (place_at p g.last).message = em ∙ f.message in
     record {
-      number = let b = x.number in omega arith;
       below = let b = x.below in omega arith;
       near = let b = x.near in let q = length_placed p y in omega arith;
       rank = let b = x.rank in let u = ap (rank (p.accepted y.stream)) mm in omega arith;
@@ -392,12 +393,22 @@ sending_following w c y current' is es em en h going closed =
     g : IsGoing w.sender.plan w.sender.gone c
     g = h.sending.going c is
 
+    last_at : (message_of w.sender.plan y).ordered ≡ true → IsAt w.sender.plan y.stream true g.last
+    last_at k =
+        let f = g.follows in
+        record {
+          known = let n = g.is in omega arith;
+          stream = sym f.stream ∙ sym es;
+          kind = ap (λ z. (message_at w.sender.plan z (place_at w.sender.plan g.last).message).ordered) (sym f.stream ∙ sym es)
+              ∙ ap (λ z. (message_at w.sender.plan y.stream z).ordered) (sym f.message ∙ sym em) ∙ k;
+        }
+
 pub keeps_go_on : (w : Direction) (c : Place) → w.sender.current ≡ Some c → Invariant w
     → Invariant (record w { sender = sent w.sender c; datas = w.datas ++ next_data w.sender c ∷ [] })
 keeps_go_on w c is h = going_keeps w c c (left_after w.sender.plan c) w.sender.gone w.sender.released (w.datas ++ next_data w.sender c ∷ []) is refl refl refl refl
     (λ t i g. g)
     (λ m. absurd (true≢false (sym m ∙ (h.sending.going c is).plain)))
-    (λ s n. refl)
+    (freed_same w (with_place w.sender.plan c) h (place_extended w.sender.plan c h.planned.known))
     (all_push _ w.datas _
     (all_weaker _ _ _ (λ d. piece_kept w.sender.plan (with_place w.sender.plan c) (place_extended w.sender.plan c h.planned.known) d) h.datas)
     (new_piece w.sender.plan c (h.sending.going c is).plain))
@@ -411,19 +422,43 @@ keeps_go_on w c is h = going_keeps w c c (left_after w.sender.plan c) w.sender.g
 
 -- A message is abandoned.
 
+-- what is released when the message going on is abandoned
+pub marked_frees : (w : Direction) (s i : ℕ) (c : Place) → w.sender.current ≡ Some c → c.stream ≡ s → c.message ≡ i → i < length (w.sender.plan.accepted s) → Invariant w
+    → w.sender.released s + unacknowledged (marked w.sender c) s i
+    ≡ released_bytes (with_place w.sender.plan (record c { marker = true })) w.sender.acknowledged (put_2 w.sender.gone s i) s
+marked_frees w s i c is es ei known h = released_given r w.over w.sender.acknowledged w.sender.gone s i (w.sender.released s)
+    (planned_next w.sender.plan w.over y h.planned (next_following w.sender.plan w.over y g.last h.planned g.is f g.sent g.more))
+    (ap (λ z. w.sender.gone z i) (sym es) ∙ ap (w.sender.gone c.stream) (sym ei) ∙ g.stays)
+    known
+    (freed_same w r h (place_extended w.sender.plan y h.planned.known) s)
+  where
+    y : Place
+    y = record c { marker = true }
+
+    r : Plan
+    r = with_place w.sender.plan (record c { marker = true })
+
+    g : IsGoing w.sender.plan w.sender.gone c
+    g = h.sending.going c is
+
+    f : Follows (place_at w.sender.plan g.last) (record c { marker = true })
+    f = record { stream = g.follows.stream; message = g.follows.message; ssn = g.follows.ssn; piece = g.follows.piece }
+
 pub keeps_marked : (w : Direction) (s i n : ℕ) (c : Place) → w.sender.current ≡ Some c → c.stream ≡ s → c.message ≡ i
-    → i < length (w.sender.plan.accepted s) → is_reliable (message_at w.sender.plan s i).policy ≡ false → Invariant w
+    → i < length (w.sender.plan.accepted s) → is_reliable (message_at w.sender.plan s i).policy ≡ false
+    → n ≡ released_bytes (with_place w.sender.plan (record c { marker = true })) w.sender.acknowledged (put_2 w.sender.gone s i) s → Invariant w
     → Invariant (record w { sender = record (marked w.sender c) { gone = put_2 w.sender.gone s i; released = put w.sender.released s n } })
-keeps_marked w s i n c is es ei known unreliable h =
+keeps_marked w s i n c is es ei known unreliable freed h =
     going_keeps w c (record c { marker = true }) None (put_2 w.sender.gone s i) (put w.sender.released s n) w.datas is refl refl refl refl
     (gone_more w.sender.gone s i)
     (λ m. subst (λ z. put_2 w.sender.gone s i z c.message ≡ true) (sym es) (subst (λ z. put_2 w.sender.gone s i s z ≡ true) (sym ei) (gone_now w.sender.gone s i)))
-    (λ t none. off_put w.sender.released s t n (λ e. true≢false (sym (gone_now w.sender.gone s i) ∙ ap (λ z. put_2 w.sender.gone s i z i) (sym e) ∙ none i)))
+    (freed_now w (with_place w.sender.plan (record c { marker = true })) s i n h (place_extended w.sender.plan (record c { marker = true }) h.planned.known) freed)
     (all_weaker _ _ _ (λ d. piece_kept w.sender.plan (with_place w.sender.plan (record c { marker = true })) (place_extended w.sender.plan (record c { marker = true }) h.planned.known) d) h.datas)
     (let g = sending_following w c (record c { marker = true }) None is refl refl refl h (λ z e. absurd (none_some z e)) (λ e. inr refl) in
     record {
       within = g.within;
       counted = g.counted;
+      numbers = g.numbers;
       earlier = g.earlier;
       going = λ z e. absurd (none_some z e);
       closed = g.closed;

@@ -26,18 +26,19 @@ pub record IsCounted (r : Plan) (gone : ℕ → ℕ → Bool) (current : Option 
   pub gap : ssn + rank (r.accepted s) end ≤ low + rank (r.accepted s) next
   pub level : NoneGone gone s → ssn ≡ rank (r.accepted s) next
 
-pub ordered_grows : (p r : Plan) (gone : ℕ → ℕ → Bool) (current current' : Option Place) (next next' ssn ssn' : ℕ) (taken : List ℕ) (passed s low end : ℕ) (q : Queue) (reads : List Got)
+pub ordered_grows : (p r : Plan) (gone : ℕ → ℕ → Bool) (current current' : Option Place) (next next' ssn ssn' : ℕ) (taken : List ℕ) (passed skipped s low end : ℕ) (q : Queue) (reads : List Got)
     → IsExtended p r → ((o : ℕ) → mem o taken ≡ true → o < length p.places) → AllByRecursion (IsGot p taken s) reads
     → end ≤ length (p.accepted s)
-    → (h : IsOrdered p gone current next ssn taken passed s low end q reads)
+    → (h : IsOrdered p gone current next ssn taken passed skipped s low end q reads)
     → ((o : ℕ) → length p.places ≤ o → IsAt r s true o → IsNew r gone s h.cursor low end o)
     → IsCounted r gone current' next' ssn' s h.cursor low end
-    → IsOrdered r gone current' next' ssn' taken passed s low end q reads
-ordered_grows p r gone current current' next next' ssn ssn' taken passed s low end q reads e below got within h new c = record {
+    → IsOrdered r gone current' next' ssn' taken passed skipped s low end q reads
+ordered_grows p r gone current current' next next' ssn ssn' taken passed skipped s low end q reads e below got within h new c = record {
   cursor = h.cursor;
   is = h.is;
   above = h.above;
-  origin = ⊎_elim (λ (x : h.cursor ≡ low). inl x) (λ (k : IsSkipped p gone passed s h.cursor). inr (record {
+  latest = h.latest;
+  origin = ⊎_elim (λ (x : skipped ≡ 0). inl x) (λ (k : IsSkipped p gone passed s skipped). inr (record {
     offset = k.offset;
     below = k.below;
     at = at_kept p r e s k.offset true k.at;
@@ -115,24 +116,24 @@ unordered_grows p r gone taken s q gots e below got filled u = record {
         subst (λ z. mem z.message (numbers_of r gots) ≡ false) (sym (e.places d.offset hd.at.known))
         (subst (λ z. mem (place_at p d.offset).message z ≡ false) (sym (numbers_kept p r e taken s gots got)) f.0)
 
-pub stream_grows : (p r : Plan) (gone : ℕ → ℕ → Bool) (current current' : Option Place) (next next' ssn ssn' : ℕ) (taken : List ℕ) (passed s : ℕ) (q : Queue) (reads : List Got)
+pub stream_grows : (p r : Plan) (gone : ℕ → ℕ → Bool) (current current' : Option Place) (next next' ssn ssn' : ℕ) (taken : List ℕ) (passed skipped s : ℕ) (q : Queue) (reads : List Got)
     → IsExtended p r → ((o : ℕ) → mem o taken ≡ true → o < length p.places)
     → ((t i : ℕ) → i < length (r.accepted t) → 0 < length (message_at r t i).bytes)
     → next ≤ length (p.accepted s)
-    → (w : IsStream p gone current next ssn taken passed s q reads)
+    → (w : IsStream p gone current next ssn taken passed skipped s q reads)
     → ((o : ℕ) → length p.places ≤ o → IsAt r s true o → IsNew r gone s (w.ordered).cursor (read_ssn p 0 reads) (read_end p 0 reads) o)
     → IsCounted r gone current' next' ssn' s (w.ordered).cursor (read_ssn p 0 reads) (read_end p 0 reads)
-    → IsStream r gone current' next' ssn' taken passed s q reads
-stream_grows p r gone current current' next next' ssn ssn' taken passed s q reads e below filled within w new c = record {
+    → IsStream r gone current' next' ssn' taken passed skipped s q reads
+stream_grows p r gone current current' next next' ssn ssn' taken passed skipped s q reads e below filled within w new c = record {
   got = all_weaker _ _ _ (λ g. got_kept p r e taken s g) w.got;
   once = subst AreDistinct (sym (numbers_kept p r e taken s (reads ++ q.complete) w.got)) w.once;
   rising = subst AreRising (sym (numbers_kept p r e taken s kept_reads kept_got)) w.rising;
   below = subst (λ z. AllByRecursion (λ (i : ℕ). i < z) (numbers_of r kept_reads)) (sym (read_end_kept p r e taken s 0 reads got))
       (subst (AllByRecursion (λ (i : ℕ). i < read_end p 0 reads)) (sym (numbers_kept p r e taken s kept_reads kept_got)) w.below);
   complete = w.complete;
-  ordered = subst (λ z. IsOrdered r gone current' next' ssn' taken passed s (read_ssn r 0 reads) z q reads) (sym (read_end_kept p r e taken s 0 reads got))
-      (subst (λ z. IsOrdered r gone current' next' ssn' taken passed s z (read_end p 0 reads) q reads) (sym (read_ssn_kept p r e taken s 0 reads got))
-      (ordered_grows p r gone current current' next next' ssn ssn' taken passed s (read_ssn p 0 reads) (read_end p 0 reads) q reads e below got
+  ordered = subst (λ z. IsOrdered r gone current' next' ssn' taken passed skipped s (read_ssn r 0 reads) z q reads) (sym (read_end_kept p r e taken s 0 reads got))
+      (subst (λ z. IsOrdered r gone current' next' ssn' taken passed skipped s z (read_end p 0 reads) q reads) (sym (read_ssn_kept p r e taken s 0 reads got))
+      (ordered_grows p r gone current current' next next' ssn ssn' taken passed skipped s (read_ssn p 0 reads) (read_end p 0 reads) q reads e below got
       (let a = w.ordered.until in omega arith) w.ordered new c));
   unordered = unordered_grows p r gone taken s q (reads ++ q.complete) e below w.got filled w.unordered;
 }
@@ -147,10 +148,10 @@ stream_grows p r gone current current' next next' ssn ssn' taken passed s q read
     kept_got = all_filter (IsGot p taken s) (λ (g : Got). g.ordered) reads got
 
 -- more messages are given up; the message going on isn't among them, or is no more going on
-pub stream_gone : (p : Plan) (gone gone' : ℕ → ℕ → Bool) (current : Option Place) (next ssn : ℕ) (taken : List ℕ) (passed s : ℕ) (q : Queue) (reads : List Got)
+pub stream_gone : (p : Plan) (gone gone' : ℕ → ℕ → Bool) (current : Option Place) (next ssn : ℕ) (taken : List ℕ) (passed skipped s : ℕ) (q : Queue) (reads : List Got)
     → ((t i : ℕ) → gone t i ≡ true → gone' t i ≡ true)
-    → IsStream p gone current next ssn taken passed s q reads → IsStream p gone' current next ssn taken passed s q reads
-stream_gone p gone gone' current next ssn taken passed s q reads more w = record {
+    → IsStream p gone current next ssn taken passed skipped s q reads → IsStream p gone' current next ssn taken passed skipped s q reads
+stream_gone p gone gone' current next ssn taken passed skipped s q reads more w = record {
   got = w.got;
   once = w.once;
   rising = w.rising;
@@ -162,7 +163,8 @@ stream_gone p gone gone' current next ssn taken passed s q reads more w = record
         cursor = h.cursor;
         is = h.is;
         above = h.above;
-        origin = ⊎_elim (λ (x : h.cursor ≡ read_ssn p 0 reads). inl x) (λ (k : IsSkipped p gone passed s h.cursor). inr (record {
+        latest = h.latest;
+        origin = ⊎_elim (λ (x : skipped ≡ 0). inl x) (λ (k : IsSkipped p gone passed s skipped). inr (record {
           offset = k.offset;
           below = k.below;
           at = k.at;

@@ -118,6 +118,7 @@ taken_kept p q e taken s i k t = record {
   stream = ap (λ z. z.stream) (e.places t.offset t.known) ∙ t.stream;
   message = ap (λ z. z.message) (e.places t.offset t.known) ∙ t.message;
   piece = ap (λ z. z.piece) (e.places t.offset t.known) ∙ t.piece;
+  sent = ap (λ z. z.marker) (e.places t.offset t.known) ∙ t.sent;
   taken_in = t.taken_in;
 }
 
@@ -132,6 +133,7 @@ taken_before p q e taken s i k below t =
       stream = ap (λ z. z.stream) y ∙ t.stream;
       message = ap (λ z. z.message) y ∙ t.message;
       piece = ap (λ z. z.piece) y ∙ t.piece;
+      sent = ap (λ z. z.marker) y ∙ t.sent;
       taken_in = t.taken_in;
     }
 
@@ -212,7 +214,6 @@ follows_kept x y x' y' a b f = subst (λ z. Follows z y') (sym a) (subst (λ z. 
 pub pair_kept : (p q : Plan) (e : IsExtended p q) (s : ℕ) (x y : Place) (o r : ℕ) → x.message ≤ length (p.accepted s) → y.message ≤ length (p.accepted s)
     → IsPair p s x y o r → IsPair q s x y o r
 pair_kept p q e s x y o r lx ly h = record {
-  number = h.number;
   ssn = h.ssn;
   together = h.together;
   alike = h.alike;

@@ -12,6 +12,7 @@ pub mod Lists
 pub mod Placing
 pub mod Ranks
 pub mod Reading
+pub mod Released
 pub mod OneRead
 pub mod Runs
 pub mod Safety

@@ -13,15 +13,16 @@ use Rattle.sctp_model.proofs.Due.{IsDue, window, window_next, near_all, due_is}
 use Rattle.sctp_model.proofs.Reading.{read_end_push, read_ssn_push, run_got, ordered_read}
 
 -- the ordered half speaks of the queue's cursor and ordered pieces alone, and of which ordered messages were read
-pub ordered_same : (p : Plan) (gone : ℕ → ℕ → Bool) (current : Option Place) (next ssn : ℕ) (taken : List ℕ) (passed s low end : ℕ) (q q' : Queue) (reads reads' : List Got)
+pub ordered_same : (p : Plan) (gone : ℕ → ℕ → Bool) (current : Option Place) (next ssn : ℕ) (taken : List ℕ) (passed skipped s low end : ℕ) (q q' : Queue) (reads reads' : List Got)
     → q'.cursor ≡ q.cursor → q'.ordered ≡ q.ordered
     → ((i : ℕ) → mem i (map (number_of p) reads) ≡ true → mem i (map (number_of p) reads') ≡ true)
     → (IsKeptOrdered p s → map letter_read reads' ≡ map letter_read reads)
-    → IsOrdered p gone current next ssn taken passed s low end q reads → IsOrdered p gone current next ssn taken passed s low end q' reads'
-ordered_same p gone current next ssn taken passed s low end q q' reads reads' c o more letters h = record {
+    → IsOrdered p gone current next ssn taken passed skipped s low end q reads → IsOrdered p gone current next ssn taken passed skipped s low end q' reads'
+ordered_same p gone current next ssn taken passed skipped s low end q q' reads reads' c o more letters h = record {
   cursor = h.cursor;
   is = c ∙ h.is;
   above = h.above;
+  latest = h.latest;
   origin = h.origin;
   begun = h.begun;
   going = h.going;
@@ -74,19 +75,19 @@ filter_push_yes gs g k =
     ∙ ap (λ z. filter (λ (x : Got). x.ordered) gs ++ z) (cond-true g.ordered (g ∷ []) [] k)
 
 -- a complete unordered message is read
-read_complete : (p : Plan) (gone : ℕ → ℕ → Bool) (current : Option Place) (next ssn : ℕ) (taken : List ℕ) (passed s : ℕ) (q : Queue) (reads : List Got) (g : Got) (gs : List Got)
-    → q.complete ≡ g ∷ gs → IsStream p gone current next ssn taken passed s q reads
-    → IsStream p gone current next ssn taken passed s (record q { complete = gs }) (reads ++ g ∷ [])
-read_complete p gone current next ssn taken passed s q reads g gs e w = record {
+read_complete : (p : Plan) (gone : ℕ → ℕ → Bool) (current : Option Place) (next ssn : ℕ) (taken : List ℕ) (passed skipped s : ℕ) (q : Queue) (reads : List Got) (g : Got) (gs : List Got)
+    → q.complete ≡ g ∷ gs → IsStream p gone current next ssn taken passed skipped s q reads
+    → IsStream p gone current next ssn taken passed skipped s (record q { complete = gs }) (reads ++ g ∷ [])
+read_complete p gone current next ssn taken passed skipped s q reads g gs e w = record {
   got = subst (AllByRecursion (IsGot p taken s)) same w.got;
   once = subst (λ z. AreDistinct (numbers_of p z)) same w.once;
   rising = subst (λ z. AreRising (numbers_of p z)) (sym (filter_push_no reads g unordered)) w.rising;
   below = subst (λ z. AllByRecursion (λ (i : ℕ). i < read_end p 0 (reads ++ g ∷ [])) (numbers_of p z)) (sym (filter_push_no reads g unordered))
       (subst (λ z. AllByRecursion (λ (i : ℕ). i < z) (numbers_of p (filter (λ (x : Got). x.ordered) reads))) (sym ends) w.below);
   complete = parts.1;
-  ordered = subst (λ z. IsOrdered p gone current next ssn taken passed s (read_ssn p 0 (reads ++ g ∷ [])) z q' (reads ++ g ∷ [])) (sym ends)
-      (subst (λ z. IsOrdered p gone current next ssn taken passed s z (read_end p 0 reads) q' (reads ++ g ∷ [])) (sym ssns)
-      (ordered_same p gone current next ssn taken passed s (read_ssn p 0 reads) (read_end p 0 reads) q q' reads (reads ++ g ∷ []) refl refl
+  ordered = subst (λ z. IsOrdered p gone current next ssn taken passed skipped s (read_ssn p 0 (reads ++ g ∷ [])) z q' (reads ++ g ∷ [])) (sym ends)
+      (subst (λ z. IsOrdered p gone current next ssn taken passed skipped s z (read_end p 0 reads) q' (reads ++ g ∷ [])) (sym ssns)
+      (ordered_same p gone current next ssn taken passed skipped s (read_ssn p 0 reads) (read_end p 0 reads) q q' reads (reads ++ g ∷ []) refl refl
       (λ i m. subst (λ z. mem i z ≡ true) (sym (map-join (number_of p) reads (g ∷ []))) (mem_left i _ _ m))
       (λ kept. absurd (
       let t = here.tells in
@@ -129,13 +130,13 @@ read_complete p gone current next ssn taken passed s q reads g gs e w = record {
     ssns = read_ssn_push p 0 reads g ∙ cond-false g.ordered (suc (ssn_of p g)) (read_ssn p 0 reads) unordered
 
 -- the ordered message that is due is read
-read_due : (p : Plan) (over : ℕ → Bool) (current : Option Place) (next ssn : ℕ → ℕ) (begun gone : ℕ → ℕ → Bool) (taken : List ℕ) (passed s : ℕ)
+read_due : (p : Plan) (over : ℕ → Bool) (current : Option Place) (next ssn : ℕ → ℕ) (begun gone : ℕ → ℕ → Bool) (taken : List ℕ) (passed skipped s : ℕ)
     (q : Queue) (reads : List Got) (t : Taken) → IsPlanned p over → over s ≡ false → IsSending p current next ssn begun gone over
     → ((o : ℕ) → mem o taken ≡ true → o < length p.places) → unread p s reads < 32768 → q.complete ≡ []
-    → (w : IsStream p gone current (next s) (ssn s) taken passed s q reads)
+    → (w : IsStream p gone current (next s) (ssn s) taken passed skipped s q reads)
     → (d : IsDue p taken s (read_ssn p 0 reads) (w.ordered).cursor q t)
-    → IsStream p gone current (next s) (ssn s) taken passed s t.rest (reads ++ t.got ∷ [])
-read_due p over current next ssn begun gone taken passed s q reads t hp v g below near none w d = record {
+    → IsStream p gone current (next s) (ssn s) taken passed skipped s t.rest (reads ++ t.got ∷ [])
+read_due p over current next ssn begun gone taken passed skipped s q reads t hp v g below near none w d = record {
   got = subst (AllByRecursion (IsGot p taken s)) (sym longer) (all_push (IsGot p taken s) reads t.got old here);
   once = subst (λ z. AreDistinct (numbers_of p z)) (sym longer) (subst AreDistinct (sym (map-join (number_of p) reads (t.got ∷ [])))
       (distinct_insert (numbers_of p reads) [] (number_of p t.got)
@@ -148,11 +149,11 @@ read_due p over current next ssn begun gone taken passed s q reads t hp v g belo
       (subst (AllByRecursion (λ (i : ℕ). i < read_end p 0 (reads ++ t.got ∷ []))) (sym (map-join (number_of p) (filter (λ (x : Got). x.ordered) reads) (t.got ∷ [])))
       (all_push _ _ _ (all_weaker _ _ _ (λ i (l : i < read_end p 0 reads). omega (arith, last, ends)) w.below) (omega (arith, ends))));
   complete = subst (AllByRecursion (λ (x : Got). x.ordered ≡ false)) (sym empty) tt;
-  ordered = subst (λ z. IsOrdered p gone current (next s) (ssn s) taken passed s (read_ssn p 0 (reads ++ t.got ∷ [])) z t.rest (reads ++ t.got ∷ []))
+  ordered = subst (λ z. IsOrdered p gone current (next s) (ssn s) taken passed skipped s (read_ssn p 0 (reads ++ t.got ∷ [])) z t.rest (reads ++ t.got ∷ []))
       (ap suc (sym number) ∙ sym ends)
-      (subst (λ z. IsOrdered p gone current (next s) (ssn s) taken passed s z (suc (place_at p x).message) t.rest (reads ++ t.got ∷ []))
+      (subst (λ z. IsOrdered p gone current (next s) (ssn s) taken passed skipped s z (suc (place_at p x).message) t.rest (reads ++ t.got ∷ []))
       (ap suc (sym d.ssn ∙ ap (λ z. (place_at p z).ssn) (sym from)) ∙ sym ssns)
-      (ordered_read p over current next ssn begun gone taken passed s (read_ssn p 0 reads) (read_end p 0 reads) q reads t hp v g below near w.ordered d here number));
+      (ordered_read p over current next ssn begun gone taken passed skipped s (read_ssn p 0 reads) (read_end p 0 reads) q reads t hp v g below near w.ordered d here number));
   unordered =
       let u = w.unordered in
       record {
@@ -232,35 +233,35 @@ read_due p over current next ssn begun gone taken passed s q reads t hp v g belo
         cond_false : (b : Bool) → b ≡ false → (b || false) ≡ false
         cond_false b e = ap (λ z. z || false) e
 
-pub stream_read : (p : Plan) (over : ℕ → Bool) (current : Option Place) (next' ssn : ℕ → ℕ) (begun gone : ℕ → ℕ → Bool) (taken : List ℕ) (passed s : ℕ)
+pub stream_read : (p : Plan) (over : ℕ → Bool) (current : Option Place) (next' ssn : ℕ → ℕ) (begun gone : ℕ → ℕ → Bool) (taken : List ℕ) (passed skipped s : ℕ)
     (q : Queue) (reads : List Got) (t : Taken) → IsPlanned p over → over s ≡ false → IsSending p current next' ssn begun gone over
     → ((o : ℕ) → mem o taken ≡ true → o < length p.places) → unread p s reads < 32768
-    → IsStream p gone current (next' s) (ssn s) taken passed s q reads → next q ≡ Some t
-    → IsStream p gone current (next' s) (ssn s) taken passed s t.rest (reads ++ t.got ∷ [])
-stream_read p over current next' ssn begun gone taken passed s q reads t hp v g below near w e = go q.complete refl e
+    → IsStream p gone current (next' s) (ssn s) taken passed skipped s q reads → next q ≡ Some t
+    → IsStream p gone current (next' s) (ssn s) taken passed skipped s t.rest (reads ++ t.got ∷ [])
+stream_read p over current next' ssn begun gone taken passed skipped s q reads t hp v g below near w e = go q.complete refl e
   where
-    h : IsOrdered p gone current (next' s) (ssn s) taken passed s (read_ssn p 0 reads) (read_end p 0 reads) q reads
+    h : IsOrdered p gone current (next' s) (ssn s) taken passed skipped s (read_ssn p 0 reads) (read_end p 0 reads) q reads
     h = w.ordered
 
-    go : (c : List Got) → q.complete ≡ c → next_from q c ≡ Some t → IsStream p gone current (next' s) (ssn s) taken passed s t.rest (reads ++ t.got ∷ [])
-    go [] n f = read_due p over current next' ssn begun gone taken passed s q reads t hp v g below near n w
+    go : (c : List Got) → q.complete ≡ c → next_from q c ≡ Some t → IsStream p gone current (next' s) (ssn s) taken passed skipped s t.rest (reads ++ t.got ∷ [])
+    go [] n f = read_due p over current next' ssn begun gone taken passed skipped s q reads t hp v g below near n w
         (due_is p over taken s (read_ssn p 0 reads) h.cursor q t hp
         (near_all p over taken s (read_ssn p 0 reads) (read_end p 0 reads) q.ordered hp h.held h.link near) h.held
         (λ o a l. window p over s (read_ssn p 0 reads) (read_end p 0 reads) o hp a (h.link o a l) near)
         h.is h.above (let a = window_next p s (read_ssn p 0 reads) (read_end p 0 reads) (next' s) (ssn s) h.gap near in let b = h.begun in omega arith) f)
     go (x ∷ xs) n f =
         let i : record { got = x; rest = record q { complete = xs } } ≡ t = cc in
-        subst (λ z. IsStream p gone current (next' s) (ssn s) taken passed s z.rest (reads ++ z.got ∷ [])) i
-        (read_complete p gone current (next' s) (ssn s) taken passed s q reads x xs n w)
+        subst (λ z. IsStream p gone current (next' s) (ssn s) taken passed skipped s z.rest (reads ++ z.got ∷ [])) i
+        (read_complete p gone current (next' s) (ssn s) taken passed skipped s q reads x xs n w)
 
 -- the number past the last ordered message read never falls
-pub read_on : (p : Plan) (over : ℕ → Bool) (current : Option Place) (next' ssn : ℕ → ℕ) (begun gone : ℕ → ℕ → Bool) (taken : List ℕ) (passed s : ℕ)
+pub read_on : (p : Plan) (over : ℕ → Bool) (current : Option Place) (next' ssn : ℕ → ℕ) (begun gone : ℕ → ℕ → Bool) (taken : List ℕ) (passed skipped s : ℕ)
     (q : Queue) (reads : List Got) (t : Taken) → IsPlanned p over → unread p s reads < 32768
-    → IsStream p gone current (next' s) (ssn s) taken passed s q reads → next q ≡ Some t
+    → IsStream p gone current (next' s) (ssn s) taken passed skipped s q reads → next q ≡ Some t
     → read_end p 0 reads ≤ read_end p 0 (reads ++ t.got ∷ [])
-read_on p over current next' ssn begun gone taken passed s q reads t hp near w e = go q.complete refl e
+read_on p over current next' ssn begun gone taken passed skipped s q reads t hp near w e = go q.complete refl e
   where
-    h : IsOrdered p gone current (next' s) (ssn s) taken passed s (read_ssn p 0 reads) (read_end p 0 reads) q reads
+    h : IsOrdered p gone current (next' s) (ssn s) taken passed skipped s (read_ssn p 0 reads) (read_end p 0 reads) q reads
     h = w.ordered
 
     go : (c : List Got) → q.complete ≡ c → next_from q c ≡ Some t → read_end p 0 reads ≤ read_end p 0 (reads ++ t.got ∷ [])

@@ -14,6 +14,7 @@ pub record IsNext (p : Plan) (over : ℕ → Bool) (y : Place) : Type 0 where
   pub apart : (o : ℕ) → o < length p.places → (place_at p o).stream ≡ y.stream → (place_at p o).message ≡ y.message → (place_at p o).piece ≡ y.piece → ⊥
   pub after : (o : ℕ) → length p.places ≡ suc o → is_last p (place_at p o) ≡ false → (place_at p o).marker ≡ false → Follows (place_at p o) y
   pub before : (k : ℕ) → y.piece ≡ suc k → (o : ℕ) × (length p.places ≡ suc o) × Follows (place_at p o) y × ((place_at p o).marker ≡ false)
+  pub rises : (message_of p y).ordered ≡ true → (o : ℕ) → IsAt p y.stream true o → (place_at p o).message ≤ y.message
   pub pairs : over y.stream ≡ false → (message_of p y).ordered ≡ true → (o : ℕ) → IsAt p y.stream true o
       → IsPair p y.stream (place_at p o) y o (length p.places)
 
@@ -30,7 +31,6 @@ placed_cases p y o l =
 
 pair_self : (p : Plan) (s : ℕ) (y : Place) (o : ℕ) → IsPair p s y y o o
 pair_self p s y o = record {
-  number = omega arith;
   ssn = omega arith;
   together = λ e. refl;
   alike = λ e. refl;
@@ -40,7 +40,6 @@ pair_self p s y o = record {
 
 pair_to : (p : Plan) (s : ℕ) (x y x' y' : Place) (o r : ℕ) → x' ≡ x → y' ≡ y → IsPair p s x y o r → IsPair (with_place p y) s x' y' o r
 pair_to p s x y x' y' o r a b h = subst (λ z. IsPair (with_place p y) s z y' o r) (sym a) (subst (λ z. IsPair (with_place p y) s x z o r) (sym b) record {
-  number = h.number;
   ssn = h.ssn;
   together = h.together;
   alike = h.alike;
@@ -50,7 +49,6 @@ pair_to p s x y x' y' o r a b h = subst (λ z. IsPair (with_place p y) s z y' o 
 
 pair_old : (p : Plan) (s : ℕ) (z x y x' y' : Place) (o r : ℕ) → x' ≡ x → y' ≡ y → IsPair p s x y o r → IsPair (with_place p z) s x' y' o r
 pair_old p s z x y x' y' o r a b h = subst (λ v. IsPair (with_place p z) s v y' o r) (sym a) (subst (λ v. IsPair (with_place p z) s x v o r) (sym b) record {
-  number = h.number;
   ssn = h.ssn;
   together = h.together;
   alike = h.alike;
@@ -95,6 +93,7 @@ planned_next p over y h n = record {
       let nx = b.1 in
       (b.0, before_to p y o b.0 (place_at p b.0) y (sym c ∙ nx) (old b.0 (omega arith)) (new o c) b.2 b.3))
       (placed_cases p y o l);
+  rises = rises;
   pairs = pairs;
 }
   where
@@ -132,6 +131,22 @@ planned_next p over y h n = record {
         (λ (b : length p.places ≡ r). sym a ∙ b)
         (placed_cases p y r lr))
         (placed_cases p y o lo)
+
+    rises : (s o r : ℕ) → o ≤ r → IsAt q s true o → IsAt q s true r → (place_at q o).message ≤ (place_at q r).message
+    rises s o r le ao ar = ⊎_elim
+        (λ (b : r < length p.places).
+        let a : o < length p.places = omega arith in
+        subst (λ z. z.message ≤ (place_at q r).message) (sym (old o a)) (subst (λ z. (place_at p o).message ≤ z.message) (sym (old r b))
+        (h.rises s o r le (at_before p q e s o true a ao) (at_before p q e s r true b ar))))
+        (λ (b : length p.places ≡ r).
+        let sy : y.stream ≡ s = sym (ap (λ z. z.stream) (new r b)) ∙ ar.stream in
+        let ky : (message_of p y).ordered ≡ true = sym (ap (λ z. (message_of p z).ordered) (new r b)) ∙ ar.kind in
+        ⊎_elim
+        (λ (a : o < length p.places). subst (λ z. z.message ≤ (place_at q r).message) (sym (old o a)) (subst (λ z. (place_at p o).message ≤ z.message) (sym (new r b))
+        (n.rises ky o (subst (λ z. IsAt p z true o) (sym sy) (at_before p q e s o true a ao)))))
+        (λ (a : length p.places ≡ o). subst (λ z. (place_at q o).message ≤ (place_at q z).message) (sym a ∙ b) (omega arith))
+        (placed_cases p y o ao.known))
+        (placed_cases p y r ar.known)
 
     pairs : (s : ℕ) → over s ≡ false → (o r : ℕ) → o ≤ r → IsAt q s true o → IsAt q s true r → IsPair q s (place_at q o) (place_at q r) o r
     pairs s v o r le ao ar = ⊎_elim

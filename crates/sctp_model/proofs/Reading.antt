@@ -1,5 +1,5 @@
 -- A read keeps what holds of its stream.
-use Rattle.std.proofs.Common.{ℕ, suc, ◌+◌, ◌*◌, ◌%◌, ◌<◌, ◌≤◌, ◌≡◌, ◌⊎◌, Bool, true, false, not, cond, eqb, List, [], ◌∷◌, ◌++◌, length, take, drop, map, Option, Some, refl, sym, ap, ◌∙◌, subst, inl, inr, ⊎_elim, arith}
+use Rattle.std.proofs.Common.{ℕ, suc, ◌+◌, ◌*◌, ◌%◌, ◌<◌, ◌≤◌, ◌≡◌, ◌⊎◌, max, Bool, true, false, not, cond, eqb, List, [], ◌∷◌, ◌++◌, length, take, drop, map, Option, Some, refl, sym, ap, ◌∙◌, subst, inl, ⊎_elim, arith}
 use Rattle.std.specs.Prelude.{filter}
 use Rattle.std.specs.List.{AllByRecursion}
 use Rattle.std.proofs.lemmas.List.{take_more}
@@ -8,7 +8,7 @@ use Rattle.sctp_model.specs.Messages.{Place, Plan, IsAt, no_message, count_order
 use Rattle.sctp_model.specs.Packets.{Data, mem, data_at}
 use Rattle.sctp_model.specs.Reassembly.{Queue, Run, Taken, Got, at, got_of}
 use Rattle.sctp_model.specs.Safe.{IsWhole, IsKeptOrdered, letter_read, letter_written, letters_written, is_ordered, number_of, ssn_of, read_end, read_ssn}
-use Rattle.sctp_model.specs.Invariants.{IsPlanned, IsEarlier, IsGoing, IsSending, IsHeld, IsSkipped, IsFull, IsOrdered, IsGot}
+use Rattle.sctp_model.specs.Invariants.{IsPlanned, IsEarlier, IsGoing, IsSending, IsHeld, IsFull, IsOrdered, IsGot}
 use Rattle.sctp_model.proofs.Lists.{all_filter, all_weaker, all_both, all_passed, map-join, mem_left, mem_right, mem_one}
 use Rattle.sctp_model.proofs.Ranks.{rank_yes, rank_rises, rank_of_all}
 use Rattle.sctp_model.proofs.Windows.{same_is, next_is}
@@ -73,22 +73,22 @@ run_got p over taken s k low r h hd first run = record {
 
 -- One read of an ordered message. `low` and `end` are before it, x is the offset of its first piece.
 pub ordered_read : (p : Plan) (over : ℕ → Bool) (current : Option Place) (next ssn : ℕ → ℕ) (begun gone : ℕ → ℕ → Bool) (taken : List ℕ)
-    (passed s low end : ℕ) (q : Queue) (reads : List Got) (t : Taken)
+    (passed skipped s low end : ℕ) (q : Queue) (reads : List Got) (t : Taken)
     → IsPlanned p over → over s ≡ false → IsSending p current next ssn begun gone over → ((o : ℕ) → mem o taken ≡ true → o < length p.places)
     → count_ordered (drop end (p.accepted s)) < 32768
-    → (h : IsOrdered p gone current (next s) (ssn s) taken passed s low end q reads)
+    → (h : IsOrdered p gone current (next s) (ssn s) taken passed skipped s low end q reads)
     → (d : IsDue p taken s low h.cursor q t)
     → IsGot p taken s t.got
     → number_of p t.got ≡ (place_at p d.run.head.offset).message
-    → IsOrdered p gone current (next s) (ssn s) taken passed s (suc d.number) (suc (place_at p d.run.head.offset).message) t.rest (reads ++ t.got ∷ [])
-ordered_read p over current next ssn begun gone taken passed s low end q reads t hp v g below unread h d got number = record {
+    → IsOrdered p gone current (next s) (ssn s) taken passed skipped s (suc d.number) (suc (place_at p d.run.head.offset).message) t.rest (reads ++ t.got ∷ [])
+ordered_read p over current next ssn begun gone taken passed skipped s low end q reads t hp v g below unread h d got number = record {
   cursor = cond (eqb d.number h.cursor) (suc d.number) h.cursor;
   is = ap (λ z. z.cursor) d.rest ∙ cursor_is;
   above = cursor_cases (λ z. suc d.number ≤ z) (λ e. omega arith) (λ ne. let u = d.until in omega (arith, ne));
-  origin = cursor_cases (λ z. (z ≡ suc d.number) ⊎ IsSkipped p gone passed s z) (λ e. inl refl) (λ ne. ⊎_elim
-      (λ (e : h.cursor ≡ low). absurd (ne (let u = d.until in let a = d.above in omega arith)))
-      (λ (k : IsSkipped p gone passed s h.cursor). inr k)
-      h.origin);
+  latest = cursor_cases (λ z. z ≡ max (suc d.number) skipped)
+      (λ e. let u = h.latest in omega arith)
+      (λ ne. let u = h.latest in let a = d.above in let b = d.until in omega (arith, ne));
+  origin = h.origin;
   begun = cursor_cases (λ z. z ≤ ssn s) (λ e. let b = earlier.below in let c = d.ssn in omega arith) (λ ne. h.begun);
   going = λ y c st ky. cursor_cases (λ z. z ≤ y.ssn)
       (λ e. past_current y c st ky (let b = h.going y c st ky in omega arith))
@@ -103,7 +103,7 @@ ordered_read p over current next ssn begun gone taken passed s low end q reads t
       (λ ne l. h.past o a l);
   later = λ o a l. let b = pair_after o a l in b.0;
   link = λ o a l. let b = pair_after o a l in b.1;
-  until = earlier.number;
+  until = g.numbers s x ax;
   gap = let b = earlier.rank in let c = d.ssn in let r = rank_x in omega arith;
   full = λ none.
       let f = h.full none in
@@ -191,7 +191,7 @@ ordered_read p over current next ssn begun gone taken passed s low end q reads t
         (λ (b : o < x). absurd (let c = hp.pairs s v o x (omega arith) a ax in let e = c.ssn in let f = d.ssn in omega arith))
         (λ (b : x ≤ o).
         let c = hp.pairs s v x o b ax a in
-        let e = c.number in
+        let e = hp.rises s x o b ax a in
         let f = c.rank in
         let k = d.ssn in
         let r = rank_x in

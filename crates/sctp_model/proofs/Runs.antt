@@ -1,7 +1,7 @@
 -- The runs compute.
 use Rattle.std.proofs.Common.{refl}
 use Rattle.sctp_model.specs.Machine.{happens}
-use Rattle.sctp_model.specs.Runs.{ClosedReadsNothing, DroppedUnsent, FirstAbandonedAndSkipped, LateForwardChangesNothing, LateNumberLeavesTheCursor, PiecesOutOfOrder, SacksReleaseOnce, SequenceNumbersWrap, StreamsDoNotWait, UnorderedIsDropped, UnorderedIsReadFirst}
+use Rattle.sctp_model.specs.Runs.{ClosedReadsNothing, DroppedUnsent, FirstAbandonedAndSkipped, LateForwardChangesNothing, LateNumberLeavesTheCursor, PiecesOutOfOrder, SacksReleaseOnce, SequenceNumbersWrap, StreamBeginsAnew, StreamsDoNotWait, UnorderedIsDropped, UnorderedIsReadFirst}
 
 pub pieces : PiecesOutOfOrder
 unfolding happens
@@ -24,7 +24,7 @@ wrap = refl
 
 pub cursor : LateNumberLeavesTheCursor
 unfolding happens
-cursor = (refl, refl, refl)
+cursor = (refl, refl, refl, refl, refl)
 
 pub released : SacksReleaseOnce
 unfolding happens
@@ -45,3 +45,7 @@ unsent = (refl, refl, refl)
 pub closed : ClosedReadsNothing
 unfolding happens
 closed = refl
+
+pub anew : StreamBeginsAnew
+unfolding happens
+anew = (refl, refl, refl, refl, refl, refl, refl)

@@ -1,8 +1,8 @@
 -- What is promised of a stream, read off from what holds of it.
-use Rattle.std.proofs.Common.{ℕ, zero, suc, ◌<◌, ◌≤◌, ◌≡◌, Bool, true, false, cond, eqb, ◌||◌, List, [], ◌∷◌, ◌++◌, length, Option, None, refl, sym, ap, ◌∙◌, subst, ⊎_elim, arith, append-nil}
+use Rattle.std.proofs.Common.{ℕ, zero, suc, ◌<◌, ◌≤◌, ◌≡◌, Bool, true, false, not, cond, eqb, ◌||◌, ◌&&◌, List, [], ◌∷◌, ◌++◌, length, Option, None, refl, sym, ap, ◌∙◌, subst, ⊎_elim, arith, append-nil}
 use Rattle.std.specs.Prelude.{filter}
 use Rattle.std.specs.List.{AllByRecursion}
-use Rattle.std.proofs.lemmas.Bool.{cases_Bool, cases_lt, cases_eq, or_cases, eqb-true, true≢false, false_from_ne_true, cond-true, cond-false}
+use Rattle.std.proofs.lemmas.Bool.{cases_Bool, cases_lt, cases_eq, and_parts, or_cases, eqb-true, true≢false, false_from_ne_true, cond-true, cond-false}
 use Rattle.sctp_model.specs.Messages.{Place, Plan, place_at, bytes_at, bytes_below, rank}
 use Rattle.sctp_model.specs.Packets.{mem}
 use Rattle.sctp_model.specs.Reassembly.{Queue, Got, Drained, next, next_from, next_ordered, drain, waiting}
@@ -12,6 +12,7 @@ use Rattle.sctp_model.specs.Invariants.{Invariant, IsPlanned, IsFull, IsGot, IsS
 use Rattle.sctp_model.proofs.Lists.{all_mem, all_map, all_front}
 use Rattle.sctp_model.proofs.Ranks.{rank_rises, rank_found}
 use Rattle.sctp_model.proofs.Basics.{point_from}
+use Rattle.sctp_model.proofs.Released.{released_none}
 use Rattle.sctp_model.proofs.Drained.{IsDrained, drained, none_due}
 
 names_of : (p : Plan) (taken : List ℕ) (s : ℕ) (gs : List Got) → AllByRecursion (IsGot p taken s) gs → Names p taken s gs (numbers_of p gs)
@@ -51,9 +52,9 @@ numbers-join : (p : Plan) (xs ys : List Got) → numbers_of p (xs ++ ys) ≡ num
 numbers-join p [] ys = refl
 numbers-join p (x ∷ xs) ys = ap (λ z. number_of p x ∷ z) (numbers-join p xs ys)
 
-in_order : (p : Plan) (gone : ℕ → ℕ → Bool) (current : Option Place) (next_number ssn : ℕ) (taken : List ℕ) (passed s : ℕ) (q : Queue) (gots : List Got)
-    → IsStream p gone current next_number ssn taken passed s q gots → AreInOrder p taken s gots (numbers_of p gots)
-in_order p gone current next_number ssn taken passed s q gots w =
+in_order : (p : Plan) (gone : ℕ → ℕ → Bool) (current : Option Place) (next_number ssn : ℕ) (taken : List ℕ) (passed skipped s : ℕ) (q : Queue) (gots : List Got)
+    → IsStream p gone current next_number ssn taken passed skipped s q gots → AreInOrder p taken s gots (numbers_of p gots)
+in_order p gone current next_number ssn taken passed skipped s q gots w =
     let a = all_front (IsGot p taken s) gots q.complete w.got in
     record {
       named = names_of p taken s gots a;
@@ -99,11 +100,11 @@ empty_complete q e = go q.complete refl e
     go [] n f = n
     go (g ∷ gs) n f = absurd (cc)
 
-drained_all : (p : Plan) (over : ℕ → Bool) (gone : ℕ → ℕ → Bool) (current : Option Place) (next_number ssn : ℕ) (taken : List ℕ) (passed s : ℕ) (q : Queue) (gots : List Got)
+drained_all : (p : Plan) (over : ℕ → Bool) (gone : ℕ → ℕ → Bool) (current : Option Place) (next_number ssn : ℕ) (taken : List ℕ) (passed skipped s : ℕ) (q : Queue) (gots : List Got)
     → IsPlanned p over → over s ≡ false → NoneGone gone s → unread p s gots < 32768
-    → IsStream p gone current next_number ssn taken passed s q gots → next q ≡ None → AreAll p taken s gots (numbers_of p gots)
-drained_all p over gone current next_number ssn taken passed s q gots hp v none near w e = record {
-  in_order = in_order p gone current next_number ssn taken passed s q gots w;
+    → IsStream p gone current next_number ssn taken passed skipped s q gots → next q ≡ None → AreAll p taken s gots (numbers_of p gots)
+drained_all p over gone current next_number ssn taken passed skipped s q gots hp v none near w e = record {
+  in_order = in_order p gone current next_number ssn taken passed skipped s q gots w;
   sound = λ i m. record {
     whole = whole_of p taken s i gots got m;
     before = λ o j l k. whole_of p taken s j gots got (f.read j (let b = ordered_below p taken s (read_end p 0 gots) i gots got w.below o m in omega arith) k);
@@ -135,21 +136,21 @@ drained_all p over gone current next_number ssn taken passed s q gots hp v none 
         let tw = t.whole in
         ⊎_elim
         (λ (same : rank (p.accepted s) i ≡ read_ssn p 0 gots).
-        none_due p over gone current next_number ssn taken passed s (read_ssn p 0 gots) (read_end p 0 gots) q gots i hp v none near w.ordered due o same t.whole)
+        none_due p over gone current next_number ssn taken passed skipped s (read_ssn p 0 gots) (read_end p 0 gots) q gots i hp v none near w.ordered due o same t.whole)
         (λ (apart : rank (p.accepted s) i ≡ read_ssn p 0 gots → ⊥).
         let j = rank_found (p.accepted s) i (read_ssn p 0 gots) (let a = tw.accepted in omega arith) (omega (arith, apart)) in
-        none_due p over gone current next_number ssn taken passed s (read_ssn p 0 gots) (read_end p 0 gots) q gots j.0 hp v none near w.ordered due j.2 j.3 (t.before o j.0 j.1 j.2))
+        none_due p over gone current next_number ssn taken passed skipped s (read_ssn p 0 gots) (read_end p 0 gots) q gots j.0 hp v none near w.ordered due j.2 j.3 (t.before o j.0 j.1 j.2))
         (cases_eq (rank (p.accepted s) i) (read_ssn p 0 gots))))
         (cases_lt i (read_end p 0 gots))
 
-drained_prefix : (p : Plan) (over : ℕ → Bool) (gone : ℕ → ℕ → Bool) (current : Option Place) (next_number ssn : ℕ) (taken : List ℕ) (passed s : ℕ) (q : Queue) (gots : List Got)
+drained_prefix : (p : Plan) (over : ℕ → Bool) (gone : ℕ → ℕ → Bool) (current : Option Place) (next_number ssn : ℕ) (taken : List ℕ) (passed skipped s : ℕ) (q : Queue) (gots : List Got)
     → IsPlanned p over → over s ≡ false → NoneGone gone s → unread p s gots < 32768 → next_number ≤ length (p.accepted s) → IsKeptOrdered p s
-    → IsStream p gone current next_number ssn taken passed s q gots → next q ≡ None → IsPrefix p taken s (read_end p 0 gots)
-drained_prefix p over gone current next_number ssn taken passed s q gots hp v none near within kept w e = record {
+    → IsStream p gone current next_number ssn taken passed skipped s q gots → next q ≡ None → IsPrefix p taken s (read_end p 0 gots)
+drained_prefix p over gone current next_number ssn taken passed skipped s q gots hp v none near within kept w e = record {
   within = let a = w.ordered.until in omega arith;
   whole = λ i l. whole_of p taken s i gots (all_front (IsGot p taken s) gots q.complete w.got)
       (f.read i l (kept i (let a = w.ordered.until in omega arith)));
-  longest = λ t. none_due p over gone current next_number ssn taken passed s (read_ssn p 0 gots) (read_end p 0 gots) q gots (read_end p 0 gots) hp v none near w.ordered
+  longest = λ t. none_due p over gone current next_number ssn taken passed skipped s (read_ssn p 0 gots) (read_end p 0 gots) q gots (read_end p 0 gots) hp v none near w.ordered
       (sym (ap (next_from q) (empty_complete q e)) ∙ e) (kept _ t.accepted) (sym f.level) t;
 }
   where
@@ -173,22 +174,25 @@ bytes_fewer p a b s (suc o) h =
 
 pub safe_from : (w : Direction) (s : ℕ) → Invariant w → IsWithin w → w.over s ≡ false → IsSafe w s
 safe_from w s h l v = record {
-  read = (numbers_of p (w.reads s), in_order p gone current (w.sender.next s) (w.sender.ssn s) taken passed s q (w.reads s) stream);
+  read = (numbers_of p (w.reads s), in_order p gone current (w.sender.next s) (w.sender.ssn s) taken passed skipped s q (w.reads s) stream);
   prefix = λ ko kr is_open.
       let d = end_of in
       (read_end p 0 all, prefix_of ko kr, (d.stream.ordered.full (none kr)).letters ko);
   front = λ ko kr is_closed.
       let d = end_of in
       (read_end p 0 all, read_end p 0 (w.reads s), prefix_of ko kr, d.on, (stream.ordered.full (none kr)).letters ko);
-  released = λ kr. subst (λ z. z ≤ bytes_below p (λ o. mem o taken) s (length p.places)) (sym (h.released s (none kr)))
-      (bytes_fewer p w.sender.acknowledged (λ o. mem o taken) s (length p.places) (λ o lo st a. ⊎_elim
+  released = λ kr.
+      let a = h.released s in
+      let b = released_none p gone s (none kr) in
+      let c = bytes_fewer p (λ o. w.sender.acknowledged o && not (gone_at p gone o)) (λ o. mem o taken) s (length p.places) (λ o lo st t. ⊎_elim
       (λ (m : mem o taken ≡ true). m)
-      (λ (b : o < passed). ⊎_elim
+      (λ (f : o < passed). ⊎_elim
       (λ (m : mem o taken ≡ true). m)
       (λ (g : gone_at p gone o ≡ true). absurd (true≢false (sym g ∙ ap (λ z. gone z (place_at p o).message) st ∙ none kr (place_at p o).message)))
-      (h.accounted o (let f = point_from w.receiver in omega arith)))
-      (h.acknowledged o a)));
-  all = λ kr is_open. (numbers_of p all, drained_all p w.over gone current (w.sender.next s) (w.sender.ssn s) taken passed s end.rest all h.planned v (none kr) end_of.near end_of.stream end_of.none);
+      (h.accounted o (let f' = point_from w.receiver in omega arith)))
+      (h.acknowledged o (and_parts (w.sender.acknowledged o) (not (gone_at p gone o)) t).0)) in
+      omega arith;
+  all = λ kr is_open. (numbers_of p all, drained_all p w.over gone current (w.sender.next s) (w.sender.ssn s) taken passed skipped s end.rest all h.planned v (none kr) end_of.near end_of.stream end_of.none);
 }
   where
     p : Plan
@@ -206,10 +210,13 @@ safe_from w s h l v = record {
     passed : ℕ
     passed = w.receiver.passed
 
+    skipped : ℕ
+    skipped = w.skipped s
+
     q : Queue
     q = live (w.receiver.queues s)
 
-    stream : IsStream p gone current (w.sender.next s) (w.sender.ssn s) taken passed s q (w.reads s)
+    stream : IsStream p gone current (w.sender.next s) (w.sender.ssn s) taken passed skipped s q (w.reads s)
     stream = h.streams s v
 
     end : Drained
@@ -218,8 +225,8 @@ safe_from w s h l v = record {
     all : List Got
     all = w.reads s ++ end.gots
 
-    end_of : IsDrained p gone current (w.sender.next s) (w.sender.ssn s) taken passed s (w.reads s) end
-    end_of = drained p w.over current w.sender.next w.sender.ssn w.sender.begun gone taken passed s (waiting q) q (w.reads s) h.planned v h.sending
+    end_of : IsDrained p gone current (w.sender.next s) (w.sender.ssn s) taken passed skipped s (w.reads s) end
+    end_of = drained p w.over current w.sender.next w.sender.ssn w.sender.begun gone taken passed skipped s (waiting q) q (w.reads s) h.planned v h.sending
         (λ o m. (h.taken o m).0) (l.unread s) (omega arith) stream
 
     none : IsKeptReliable p s → NoneGone gone s
@@ -228,5 +235,5 @@ safe_from w s h l v = record {
         true≢false (sym (kr i u.0) ∙ u.1))
 
     prefix_of : IsKeptOrdered p s → IsKeptReliable p s → IsPrefix p taken s (read_end p 0 all)
-    prefix_of ko kr = drained_prefix p w.over gone current (w.sender.next s) (w.sender.ssn s) taken passed s end.rest all h.planned v (none kr) end_of.near
+    prefix_of ko kr = drained_prefix p w.over gone current (w.sender.next s) (w.sender.ssn s) taken passed skipped s end.rest all h.planned v (none kr) end_of.near
         (h.sending.within s) ko end_of.stream end_of.none

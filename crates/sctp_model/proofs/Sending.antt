@@ -10,7 +10,7 @@ use Rattle.sctp_model.proofs.Placing.{IsNext, length_placed, place_new, placed_c
 -- the first piece of a message
 pub next_first : (p : Plan) (current : Option Place) (next ssn : ℕ → ℕ) (begun gone : ℕ → ℕ → Bool) (over : ℕ → Bool) (y : Place)
     → IsPlanned p over → IsSending p current next ssn begun gone over → current ≡ None
-    → y.piece ≡ 0 → y.ssn ≡ ssn y.stream → y.message < length (p.accepted y.stream) → begun y.stream y.message ≡ false
+    → y.piece ≡ 0 → ((message_of p y).ordered ≡ true → y.ssn ≡ ssn y.stream) → y.message < length (p.accepted y.stream) → begun y.stream y.message ≡ false
     → ((message_of p y).ordered ≡ true → y.message ≡ next y.stream) → IsNext p over y
 next_first p current next ssn begun gone over y h g none piece number known new due = record {
   known = known;
@@ -21,14 +21,15 @@ next_first p current next ssn begun gone over y h g none piece number known new 
       (λ (a : (place_at p o).marker ≡ true). true≢false (sym a ∙ m))
       (g.closed none o l));
   before = λ k e. absurd (let d : 0 ≡ suc k = sym piece ∙ e in omega arith);
+  rises = λ ordered o a. let b = g.numbers y.stream o a in let m = due ordered in omega arith;
   pairs = λ v ordered o a.
       let e = g.earlier y.stream v o a in
       let m = due ordered in
+      let k = number ordered in
       record {
-        number = let b = e.number in omega arith;
         ssn = let b = e.below in omega arith;
         together = λ c. absurd (let b = e.below in omega arith);
-        alike = λ c. absurd (let b = e.number in omega arith);
+        alike = λ c. absurd (let b = g.numbers y.stream o a in omega arith);
         near = let b = e.near in omega arith;
         rank = subst (λ z. y.ssn + rank (p.accepted y.stream) (place_at p o).message ≤ (place_at p o).ssn + rank (p.accepted y.stream) z) (sym m)
             (let b = e.rank in omega arith);
@@ -45,13 +46,13 @@ next_following p over y m h n f sent more = record {
   apart = apart;
   after = λ o l last k. subst (λ z. Follows (place_at p z) y) (let e : m ≡ o = omega arith in e) f;
   before = λ k e. (m, n, f, sent);
+  rises = λ ordered o a. subst (λ z. (place_at p o).message ≤ z) (sym f.message) (h.rises y.stream o m (let b = a.known in omega arith) a (here ordered));
   pairs = λ v ordered o a.
-      let k : IsAt p y.stream true m = record { known = lm; stream = sym f.stream; kind = sym (ap (λ z. z.ordered) same) ∙ ordered } in
+      let k = here ordered in
       let d = h.pairs y.stream v o m (let b = a.known in omega arith) a k in
       let em = f.message in
       let es = f.ssn in
       record {
-        number = let b = d.number in omega arith;
         ssn = let b = d.ssn in omega arith;
         together = λ c. d.together (c ∙ es) ∙ sym em;
         alike = λ c. d.alike (c ∙ em) ∙ sym es;
@@ -66,6 +67,9 @@ next_following p over y m h n f sent more = record {
 
     same : message_of p y ≡ message_of p (place_at p m)
     same = ap (λ z. message_at p z y.message) f.stream ∙ ap (message_at p (place_at p m).stream) f.message
+
+    here : (message_of p y).ordered ≡ true → IsAt p y.stream true m
+    here ordered = record { known = lm; stream = sym f.stream; kind = sym (ap (λ z. z.ordered) same) ∙ ordered }
 
     apart : (o : ℕ) → o < length p.places → (place_at p o).stream ≡ y.stream → (place_at p o).message ≡ y.message → (place_at p o).piece ≡ y.piece → ⊥
     apart o l s i k =
@@ -82,17 +86,25 @@ pub sending_placed : (p : Plan) (y : Place) (current current' : Option Place) (n
     → IsPlanned p over → IsSending p current next ssn begun gone over
     → ((s : ℕ) → next' s ≤ length (p.accepted s))
     → ((s i : ℕ) → begun s i ≡ true → begun' s i ≡ true) → begun' y.stream y.message ≡ true
+    → ((s : ℕ) → next s ≤ next' s) → ((message_of p y).ordered ≡ true → y.message < next' y.stream)
     → ((s : ℕ) → over s ≡ false → (o : ℕ) → IsAt p s true o → IsEarlier (with_place p y) s (next' s) (ssn' s) (place_at p o) o)
     → (over y.stream ≡ false → (message_of p y).ordered ≡ true → IsEarlier (with_place p y) y.stream (next' y.stream) (ssn' y.stream) y (length p.places))
     → ((z : Place) → current' ≡ Some z → IsGoing (with_place p y) gone z)
     → (current' ≡ None → (is_last p y ≡ true) ⊎ (y.marker ≡ true))
     → IsSending (with_place p y) current' next' ssn' begun' gone over
-sending_placed p y current current' next next' ssn ssn' begun begun' gone over h g within more this earlier mine going closed = record {
+sending_placed p y current current' next next' ssn ssn' begun begun' gone over h g within more this on numbered earlier mine going closed = record {
   within = within;
   counted = λ o l. ⊎_elim
       (λ (a : o < length p.places). subst (λ z. begun' z.stream z.message ≡ true) (sym (old o a)) (more _ _ (g.counted o a)))
       (λ (b : length p.places ≡ o). subst (λ z. begun' z.stream z.message ≡ true) (sym (new o b)) this)
       (placed_cases p y o l);
+  numbers = λ s o a. ⊎_elim
+      (λ (l : o < length p.places). subst (λ z. z.message < next' s) (sym (old o l)) (let b = g.numbers s o (at_before p q e s o true l a) in let c = on s in omega arith))
+      (λ (b : length p.places ≡ o).
+      let sy : y.stream ≡ s = sym (ap (λ z. z.stream) (new o b)) ∙ a.stream in
+      let ky : (message_of p y).ordered ≡ true = sym (ap (λ z. (message_of p z).ordered) (new o b)) ∙ a.kind in
+      subst (λ z. z.message < next' s) (sym (new o b)) (subst (λ z. y.message < next' z) sy (numbered ky)))
+      (placed_cases p y o a.known);
   earlier = λ s v o a. ⊎_elim
       (λ (l : o < length p.places). subst (λ z. IsEarlier q s (next' s) (ssn' s) z o) (sym (old o l)) (earlier s v o (at_before p q e s o true l a)))
       (λ (b : length p.places ≡ o).

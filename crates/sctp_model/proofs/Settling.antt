@@ -217,19 +217,19 @@ module _ (p : Plan) (over : ℕ → Bool) (gone : ℕ → ℕ → Bool) (taken :
             let m = at_found (λ (y : Data). (place_at p y.offset).message ≡ (place_at p r.head.offset).message) o r.pieces x f run_here.mine in
             other (ap (λ z. (place_at p z).message) (sym m.1) ∙ m.0))
 
-pub stream_settled : (p : Plan) (over : ℕ → Bool) (gone : ℕ → ℕ → Bool) (current : Option Place) (next ssn : ℕ) (taken : List ℕ) (passed s : ℕ) (q : Queue) (reads : List Got) (d : Data)
+pub stream_settled : (p : Plan) (over : ℕ → Bool) (gone : ℕ → ℕ → Bool) (current : Option Place) (next ssn : ℕ) (taken : List ℕ) (passed skipped s : ℕ) (q : Queue) (reads : List Got) (d : Data)
     → IsPlanned p over → IsPiece p d → IsAt p s false d.offset → mem d.offset taken ≡ false
-    → IsStream p gone current next ssn taken passed s q reads
-    → IsStream p gone current next ssn (d.offset ∷ taken) passed s (push_unordered q d) reads
-stream_settled p over gone current next ssn taken passed s q reads d hp piece a new w = go (first_complete (d ∷ q.unordered) (d ∷ q.unordered)) refl
+    → IsStream p gone current next ssn taken passed skipped s q reads
+    → IsStream p gone current next ssn (d.offset ∷ taken) passed skipped s (push_unordered q d) reads
+stream_settled p over gone current next ssn taken passed skipped s q reads d hp piece a new w = go (first_complete (d ∷ q.unordered) (d ∷ q.unordered)) refl
   where
     ordered : (q' : Queue) → q'.cursor ≡ q.cursor → q'.ordered ≡ q.ordered
-        → IsOrdered p gone current next ssn (d.offset ∷ taken) passed s (read_ssn p 0 reads) (read_end p 0 reads) q' reads
-    ordered q' c o = ordered_aside p gone current next ssn taken passed s (read_ssn p 0 reads) (read_end p 0 reads) d.offset q q' reads c o
+        → IsOrdered p gone current next ssn (d.offset ∷ taken) passed skipped s (read_ssn p 0 reads) (read_end p 0 reads) q' reads
+    ordered q' c o = ordered_aside p gone current next ssn taken passed skipped s (read_ssn p 0 reads) (read_end p 0 reads) d.offset q q' reads c o
         (λ b. true≢false (sym b.kind ∙ a.kind)) w.ordered
 
     go : (r : Option Run) → first_complete (d ∷ q.unordered) (d ∷ q.unordered) ≡ r
-        → IsStream p gone current next ssn (d.offset ∷ taken) passed s (settle (with_unordered q d) r) reads
+        → IsStream p gone current next ssn (d.offset ∷ taken) passed skipped s (settle (with_unordered q d) r) reads
     go None e = record {
       got = all_weaker _ _ _ (λ g. got_more p taken d.offset s g) w.got;
       once = w.once;

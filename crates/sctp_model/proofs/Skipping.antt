@@ -1,16 +1,16 @@
 -- A FORWARD TSN that is taken keeps what holds of the streams: it skips what was abandoned, and drops nothing else that matters.
-use Rattle.std.proofs.Common.{ℕ, zero, suc, ◌+◌, ◌-◌, ◌*◌, ◌%◌, ◌<◌, ◌≤◌, ◌≡◌, ◌⊎◌, Bool, true, false, cond, leb, List, ◌++◌, length, drop, Option, Some, None, refl, sym, ap, ◌∙◌, subst, inl, inr, ⊎_elim, arith}
+use Rattle.std.proofs.Common.{ℕ, zero, suc, ◌+◌, ◌-◌, ◌*◌, ◌%◌, ◌<◌, ◌≤◌, ◌≡◌, ◌⊎◌, max, Bool, true, false, cond, leb, List, ◌++◌, length, drop, Option, Some, None, refl, sym, ap, ◌∙◌, subst, inl, inr, ⊎_elim, arith}
 use Rattle.std.specs.Prelude.{filter}
 use Rattle.std.specs.List.{AllByRecursion}
 use Rattle.std.proofs.Math.Nat.{mul-le-mul_left}
 use Rattle.std.proofs.lemmas.Bool.{cases_lt, le-leb, lt-leb, true≢false, false_from_ne_true, cond-true, cond-false}
 use Rattle.sctp_model.specs.Messages.{Place, Plan, IsAt, count_ordered, place_at, message_at, message_of, is_last}
-use Rattle.sctp_model.specs.Packets.{Data, Forward, mem, data_at}
+use Rattle.sctp_model.specs.Packets.{Data, Forward, mem, wrapped, skips, data_at}
 use Rattle.sctp_model.specs.Serial.{up_to_16}
 use Rattle.sctp_model.specs.Reassembly.{Queue, Got, at, skip, skip_if, drop_unordered}
-use Rattle.sctp_model.specs.Machine.{live, forwarded}
+use Rattle.sctp_model.specs.Machine.{live, forwarded, skipped_by}
 use Rattle.sctp_model.specs.Safe.{AreDistinct, IsTaken, IsWhole, is_ordered, read_end, read_ssn, unread}
-use Rattle.sctp_model.specs.Invariants.{IsPlanned, IsEarlier, IsSending, IsForward, IsReported, IsHeld, IsSkipped, IsOrdered, IsUnordered, IsGot, IsStream, NoneGone, numbers_of, gone_at, IsFresh}
+use Rattle.sctp_model.specs.Invariants.{IsPlanned, IsEarlier, IsSending, IsForward, IsReported, IsAccounted, IsHeld, IsSkipped, IsOrdered, IsUnordered, IsGot, IsStream, NoneGone, numbers_of, gone_at, IsFresh}
 use Rattle.sctp_model.proofs.Lists.{all_filter}
 use Rattle.sctp_model.proofs.Windows.{up_to_is, next_is}
 use Rattle.sctp_model.proofs.Gathering.{at_filter}
@@ -18,8 +18,8 @@ use Rattle.sctp_model.proofs.Due.{window}
 
 -- Below the point of a FORWARD TSN a message that stays is whole.
 
-module _ (p : Plan) (over : ℕ → Bool) (gone : ℕ → ℕ → Bool) (taken : List ℕ) (f : Forward) (s i : ℕ)
-    (hp : IsPlanned p over) (hf : IsForward p gone over taken f) (none : NoneGone gone s)
+module _ (p : Plan) (over : ℕ → Bool) (gone : ℕ → ℕ → Bool) (acked : ℕ → Bool) (now : ℕ) (taken : List ℕ) (f : Forward) (s i : ℕ)
+    (hp : IsPlanned p over) (hf : IsForward p gone over acked now f) (account : (o : ℕ) → o < f.point → IsAccounted p gone taken o) (none : NoneGone gone s)
     (tails : (o : ℕ) → o < length p.places → (place_at p o).marker ≡ true → gone_at p gone o ≡ true) where
   stays : (o : ℕ) → (place_at p o).stream ≡ s → gone_at p gone o ≡ false
   stays o st = ap (λ z. gone z (place_at p o).message) st ∙ none (place_at p o).message
@@ -31,10 +31,11 @@ module _ (p : Plan) (over : ℕ → Bool) (gone : ℕ → ℕ → Bool) (taken :
     stream = st;
     message = m;
     piece = e;
+    sent = false_from_ne_true _ (λ (k : (place_at p o).marker ≡ true). true≢false (sym (tails o (let a = hf.known in omega arith) k) ∙ stays o st));
     taken_in = ⊎_elim
         (λ (a : mem o taken ≡ true). a)
         (λ (g : gone_at p gone o ≡ true). absurd (true≢false (sym g ∙ stays o st)))
-        (hf.accounted o l);
+        (account o l);
   }
 
   down : (n o j : ℕ) → (place_at p o).piece ≡ n + j → o < f.point → (place_at p o).stream ≡ s → (place_at p o).message ≡ i → IsTaken p taken s i j
@@ -60,7 +61,7 @@ module _ (p : Plan) (over : ℕ → Bool) (gone : ℕ → ℕ → Bool) (taken :
       (λ (b : suc o < f.point).
       let w = hp.after o (let a = hf.known in omega arith) more sent in
       up n (suc o) j (let u = w.piece in omega arith) b (w.stream ∙ st) (w.message ∙ m) len)
-      (λ (b : f.point ≤ suc o). absurd (true≢false (sym (hf.last o (omega arith)) ∙ stays o st)))
+      (λ (b : f.point ≤ suc o). absurd (true≢false (sym (hf.abandoned o (let a = hf.ahead in omega arith) (omega arith)) ∙ stays o st)))
       (cases_lt (suc o) f.point)
 
   whole_below : (o : ℕ) → o < f.point → (place_at p o).stream ≡ s → (place_at p o).message ≡ i → IsWhole p taken s i
@@ -73,14 +74,15 @@ module _ (p : Plan) (over : ℕ → Bool) (gone : ℕ → ℕ → Bool) (taken :
   }
 
 -- the ordered half, where nothing of this stream is skipped
-ordered_on : (p : Plan) (gone : ℕ → ℕ → Bool) (current : Option Place) (next ssn : ℕ) (taken : List ℕ) (passed passed' s low end : ℕ) (q q' : Queue) (reads : List Got)
+ordered_on : (p : Plan) (gone : ℕ → ℕ → Bool) (current : Option Place) (next ssn : ℕ) (taken : List ℕ) (passed passed' skipped s low end : ℕ) (q q' : Queue) (reads : List Got)
     → q'.cursor ≡ q.cursor → q'.ordered ≡ q.ordered → passed ≤ passed'
-    → IsOrdered p gone current next ssn taken passed s low end q reads → IsOrdered p gone current next ssn taken passed' s low end q' reads
-ordered_on p gone current next ssn taken passed passed' s low end q q' reads c o far h = record {
+    → IsOrdered p gone current next ssn taken passed skipped s low end q reads → IsOrdered p gone current next ssn taken passed' skipped s low end q' reads
+ordered_on p gone current next ssn taken passed passed' skipped s low end q q' reads c o far h = record {
   cursor = h.cursor;
   is = c ∙ h.is;
   above = h.above;
-  origin = ⊎_elim (λ (x : h.cursor ≡ low). inl x) (λ (k : IsSkipped p gone passed s h.cursor). inr (record {
+  latest = h.latest;
+  origin = ⊎_elim (λ (x : skipped ≡ 0). inl x) (λ (k : IsSkipped p gone passed s skipped). inr (record {
     offset = k.offset;
     below = let b = k.below in omega arith;
     at = k.at;
@@ -109,31 +111,35 @@ ordered_on p gone current next ssn taken passed passed' s low end q q' reads c o
 }
 
 -- the ordered half, where the sequence number m is reported: the 16 bits are read rightly, as everything in flight is near
-ordered_skipped : (p : Plan) (over : ℕ → Bool) (current : Option Place) (next ssn : ℕ → ℕ) (begun gone : ℕ → ℕ → Bool) (taken : List ℕ) (passed s low end : ℕ)
+ordered_skipped : (p : Plan) (over : ℕ → Bool) (current : Option Place) (next ssn : ℕ → ℕ) (begun gone : ℕ → ℕ → Bool) (acked : ℕ → Bool) (now : ℕ) (taken : List ℕ) (passed skipped s low end : ℕ)
     (q q' : Queue) (reads : List Got) (f : Forward) (m : ℕ)
-    → IsPlanned p over → over s ≡ false → IsSending p current next ssn begun gone over → (hf : IsForward p gone over taken f)
-    → IsReported p gone s hf.start f.point m → passed ≤ f.point → length p.places < f.point + 16384 → count_ordered (drop end (p.accepted s)) < 32768
-    → q'.cursor ≡ (skip q m).cursor → q'.ordered ≡ (skip q m).ordered
-    → IsOrdered p gone current (next s) (ssn s) taken passed s low end q reads
-    → IsOrdered p gone current (next s) (ssn s) taken f.point s low end q' reads
-ordered_skipped p over current next ssn begun gone taken passed s low end q q' reads f m hp v g hf rep far flight near ec eo h = record {
+    → IsPlanned p over → over s ≡ false → IsSending p current next ssn begun gone over → (hf : IsForward p gone over acked now f)
+    → IsReported p gone s f.start f.point m → ((o : ℕ) → IsAt p s true o → (place_at p o).ssn ≤ m → o < f.point)
+    → passed ≤ f.point → length p.places < f.point + 16384 → count_ordered (drop end (p.accepted s)) < 32768
+    → q'.cursor ≡ (skip q (m % 65536)).cursor → q'.ordered ≡ (skip q (m % 65536)).ordered
+    → IsOrdered p gone current (next s) (ssn s) taken passed skipped s low end q reads
+    → IsOrdered p gone current (next s) (ssn s) taken f.point (max skipped (suc m)) s low end q' reads
+ordered_skipped p over current next ssn begun gone acked now taken passed skipped s low end q q' reads f m hp v g hf rep all far flight near ec eo h = record {
   cursor = cond (leb h.cursor top) (suc top) h.cursor;
   is = ec ∙ cursor_is;
   above = cases (λ z. low ≤ z) (λ l. let a = h.above in omega arith) (λ l. h.above);
-  origin = cases (λ z. (z ≡ low) ⊎ IsSkipped p gone f.point s z)
-      (λ l. inr (record { offset = rep.offset; below = rep.below; at = rep.at; given_up = rep.given_up; is = refl }))
-      (λ l. ⊎_elim (λ (x : h.cursor ≡ low). inl x) (λ (k : IsSkipped p gone passed s h.cursor). inr (record {
+  latest = cases (λ z. z ≡ max low (max skipped (suc m))) (λ l. let a = h.latest in let b = rep.is in omega arith) (λ l. let a = h.latest in let b = rep.is in omega arith);
+  origin = ⊎_elim
+      (λ (l : suc top ≤ skipped). subst (λ z. (z ≡ 0) ⊎ IsSkipped p gone f.point s z) (let b = rep.is in let e : skipped ≡ max skipped (suc m) = omega arith in e)
+      (⊎_elim (λ (x : skipped ≡ 0). inl x) (λ (k : IsSkipped p gone passed s skipped). inr (record {
         offset = k.offset;
         below = let b = k.below in omega arith;
         at = k.at;
         given_up = k.given_up;
         is = k.is;
-      })) h.origin);
+      })) h.origin))
+      (λ (l : skipped < suc top). inr (record { offset = rep.offset; below = rep.below; at = rep.at; given_up = rep.given_up; is = let b = rep.is in omega arith }))
+      (swap (cases_lt skipped (suc top)));
   begun = cases (λ z. z ≤ ssn s) (λ l. earlier.below) (λ l. h.begun);
   going = λ y c st k. cases (λ z. z ≤ y.ssn) (λ l. past_current y c st k) (λ l. h.going y c st k);
   held = subst (AllByRecursion (IsHeld p taken s true low)) (sym eo) (all_filter (IsHeld p taken s true low) _ q.ordered h.held);
   past = λ o a. cases (λ z. (place_at p o).ssn < z → (mem o taken ≡ true) ⊎ (o < f.point))
-      (λ l b. inr (rep.all o a (omega arith)))
+      (λ l b. inr (all o a (let c = rep.is in omega arith)))
       (λ l b. ⊎_elim (λ (x : mem o taken ≡ true). inl x) (λ (x : o < passed). inr (omega arith)) (h.past o a b));
   later = h.later;
   link = h.link;
@@ -144,6 +150,10 @@ ordered_skipped p over current next ssn begun gone taken passed s low end q q' r
   where
     top : ℕ
     top = (place_at p rep.offset).ssn
+
+    swap : (skipped < suc top) ⊎ (suc top ≤ skipped) → (suc top ≤ skipped) ⊎ (skipped < suc top)
+    swap (inl a) = inr a
+    swap (inr a) = inl a
 
     earlier : IsEarlier p s (next s) (ssn s) (place_at p rep.offset) rep.offset
     earlier = g.earlier s v rep.offset rep.at
@@ -167,9 +177,9 @@ ordered_skipped p over current next ssn begun gone taken passed s low end q q' r
         (λ (l : h.cursor ≤ top). subst P (sym (cond-true (leb h.cursor top) (suc top) h.cursor (le-leb _ _ l))) (a l))
         (cases_lt top h.cursor)
 
-    cursor_is : cond (up_to_16 q.cursor m) ((m + 1) % 65536) q.cursor ≡ cond (leb h.cursor top) (suc top) h.cursor % 65536
+    cursor_is : cond (up_to_16 q.cursor (m % 65536)) ((m % 65536 + 1) % 65536) q.cursor ≡ cond (leb h.cursor top) (suc top) h.cursor % 65536
     cursor_is =
-        ap (λ z. cond (up_to_16 q.cursor z) ((z + 1) % 65536) q.cursor) rep.is
+        ap (λ z. cond (up_to_16 q.cursor (z % 65536)) ((z % 65536 + 1) % 65536) q.cursor) rep.is
         ∙ ap (λ z. cond (up_to_16 z (top % 65536)) ((top % 65536 + 1) % 65536) z) h.is
         ∙ ap (λ z. cond z ((top % 65536 + 1) % 65536) (h.cursor % 65536)) (up_to_is h.cursor top behind ahead)
         ∙ ap (λ z. cond (leb h.cursor top) z (h.cursor % 65536)) (next_is top)
@@ -200,18 +210,18 @@ ordered_skipped p over current next ssn begun gone taken passed s low end q q' r
         omega (arith, apart)
 
 -- what is kept of the unordered half: of messages that stay, all pieces of those that aren't whole lie past the point
-unordered_on : (p : Plan) (over : ℕ → Bool) (gone : ℕ → ℕ → Bool) (taken : List ℕ) (s : ℕ) (q q' : Queue) (gots gots' : List Got) (f : Forward)
-    → IsPlanned p over → IsForward p gone over taken f
+unordered_on : (p : Plan) (over : ℕ → Bool) (gone : ℕ → ℕ → Bool) (acked : ℕ → Bool) (now : ℕ) (taken : List ℕ) (s : ℕ) (q q' : Queue) (gots gots' : List Got) (f : Forward)
+    → IsPlanned p over → IsForward p gone over acked now f → ((o : ℕ) → o < f.point → IsAccounted p gone taken o)
     → ((o : ℕ) → o < length p.places → (place_at p o).marker ≡ true → gone_at p gone o ≡ true)
     → q'.unordered ≡ (drop_unordered f.point q).unordered → gots' ≡ gots
     → IsUnordered p gone taken s q gots → IsUnordered p gone taken s q' gots'
-unordered_on p over gone taken s q q' gots gots' f hp hf tails eu eg u = subst (IsUnordered p gone taken s q') (sym eg) record {
+unordered_on p over gone acked now taken s q q' gots gots' f hp hf account tails eu eg u = subst (IsUnordered p gone taken s q') (sym eg) record {
   held = subst (AllByRecursion (IsHeld p taken s false 0)) (sym eu) (all_filter (IsHeld p taken s false 0) (λ (d : Data). leb f.point d.offset) q.unordered u.held);
   fresh = subst (AllByRecursion (IsFresh p gots)) (sym eu) (all_filter (IsFresh p gots) (λ (d : Data). leb f.point d.offset) q.unordered u.fresh);
   all = u.all;
   kept = λ none o a m. ⊎_elim
       (λ (b : o < f.point). inr (u.all none (place_at p o).message
-      (whole_below p over gone taken f s (place_at p o).message hp hf none tails o b a.stream refl)
+      (whole_below p over gone acked now taken f s (place_at p o).message hp hf account none tails o b a.stream refl)
       (ap (λ z. is_ordered p z (place_at p o).message) (sym a.stream) ∙ a.kind)))
       (λ (b : f.point ≤ o). ⊎_elim
       (λ (l : at o q.unordered ≡ Some (data_at p o)). inl (subst (λ z. at o z ≡ Some (data_at p o)) (sym eu)
@@ -225,12 +235,12 @@ skipped_unordered : (q : Queue) (m : Option ℕ) → ((skip_if q m).unordered �
 skipped_unordered q None = (refl, refl)
 skipped_unordered q (Some m) = (refl, refl)
 
-stream_with : (p : Plan) (gone : ℕ → ℕ → Bool) (current : Option Place) (next ssn : ℕ) (taken : List ℕ) (passed passed' s : ℕ) (q q' : Queue) (reads : List Got)
+stream_with : (p : Plan) (gone : ℕ → ℕ → Bool) (current : Option Place) (next ssn : ℕ) (taken : List ℕ) (passed passed' skipped skipped' s : ℕ) (q q' : Queue) (reads : List Got)
     → q'.complete ≡ q.complete
-    → IsOrdered p gone current next ssn taken passed' s (read_ssn p 0 reads) (read_end p 0 reads) q' reads
+    → IsOrdered p gone current next ssn taken passed' skipped' s (read_ssn p 0 reads) (read_end p 0 reads) q' reads
     → IsUnordered p gone taken s q' (reads ++ q'.complete)
-    → IsStream p gone current next ssn taken passed s q reads → IsStream p gone current next ssn taken passed' s q' reads
-stream_with p gone current next ssn taken passed passed' s q q' reads e o u w = record {
+    → IsStream p gone current next ssn taken passed skipped s q reads → IsStream p gone current next ssn taken passed' skipped' s q' reads
+stream_with p gone current next ssn taken passed passed' skipped skipped' s q q' reads e o u w = record {
   got = subst (λ z. AllByRecursion (IsGot p taken s) (reads ++ z)) (sym e) w.got;
   once = subst (λ z. AreDistinctNumbers z) (sym e) w.once;
   rising = w.rising;
@@ -243,30 +253,32 @@ stream_with p gone current next ssn taken passed passed' s q q' reads e o u w = 
     AreDistinctNumbers : List Got → Type 0
     AreDistinctNumbers z = AreDistinct (numbers_of p (reads ++ z))
 
-pub stream_forwarded : (p : Plan) (over : ℕ → Bool) (current : Option Place) (next ssn : ℕ → ℕ) (begun gone : ℕ → ℕ → Bool) (taken : List ℕ) (passed s : ℕ)
+pub stream_forwarded : (p : Plan) (over : ℕ → Bool) (current : Option Place) (next ssn : ℕ → ℕ) (begun gone : ℕ → ℕ → Bool) (acked : ℕ → Bool) (now : ℕ) (taken : List ℕ) (passed skipped s : ℕ)
     (queue : Option Queue) (reads : List Got) (f : Forward)
-    → IsPlanned p over → over s ≡ false → IsSending p current next ssn begun gone over → IsForward p gone over taken f
+    → IsPlanned p over → over s ≡ false → IsSending p current next ssn begun gone over → IsForward p gone over acked now f
+    → ((o : ℕ) → o < f.point → IsAccounted p gone taken o)
     → ((o : ℕ) → o < length p.places → (place_at p o).marker ≡ true → gone_at p gone o ≡ true)
     → passed ≤ f.point → length p.places < f.point + 16384 → unread p s reads < 32768
-    → IsStream p gone current (next s) (ssn s) taken passed s (live queue) reads
-    → IsStream p gone current (next s) (ssn s) taken f.point s (live (forwarded queue f.point (f.skips s))) reads
-stream_forwarded p over current next ssn begun gone taken passed s None reads f hp v g hf tails far flight near w =
-    stream_with p gone current (next s) (ssn s) taken passed f.point s (live None) (live None) reads refl
-    (ordered_on p gone current (next s) (ssn s) taken passed f.point s (read_ssn p 0 reads) (read_end p 0 reads) (live None) (live None) reads refl refl far w.ordered)
+    → IsStream p gone current (next s) (ssn s) taken passed skipped s (live queue) reads
+    → IsStream p gone current (next s) (ssn s) taken f.point (skipped_by queue (f.numbers s) skipped) s (live (forwarded queue f.point (skips f s))) reads
+stream_forwarded p over current next ssn begun gone acked now taken passed skipped s None reads f hp v g hf account tails far flight near w =
+    stream_with p gone current (next s) (ssn s) taken passed f.point skipped skipped s (live None) (live None) reads refl
+    (ordered_on p gone current (next s) (ssn s) taken passed f.point skipped s (read_ssn p 0 reads) (read_end p 0 reads) (live None) (live None) reads refl refl far w.ordered)
     w.unordered w
-stream_forwarded p over current next ssn begun gone taken passed s (Some q) reads f hp v g hf tails far flight near w = go (f.skips s) refl
+stream_forwarded p over current next ssn begun gone acked now taken passed skipped s (Some q) reads f hp v g hf account tails far flight near w = go (f.numbers s) refl
   where
-    go : (m : Option ℕ) → f.skips s ≡ m → IsStream p gone current (next s) (ssn s) taken f.point s (drop_unordered f.point (skip_if q m)) reads
+    go : (m : Option ℕ) → f.numbers s ≡ m
+        → IsStream p gone current (next s) (ssn s) taken f.point (skipped_by (Some q) m skipped) s (drop_unordered f.point (skip_if q (wrapped m))) reads
     go m e =
-        let same = skipped_unordered q m in
-        stream_with p gone current (next s) (ssn s) taken passed f.point s q (drop_unordered f.point (skip_if q m)) reads same.1
+        let same = skipped_unordered q (wrapped m) in
+        stream_with p gone current (next s) (ssn s) taken passed f.point skipped (skipped_by (Some q) m skipped) s q (drop_unordered f.point (skip_if q (wrapped m))) reads same.1
         (ordered m e)
-        (unordered_on p over gone taken s q (drop_unordered f.point (skip_if q m)) (reads ++ q.complete) (reads ++ (skip_if q m).complete) f hp hf tails
+        (unordered_on p over gone acked now taken s q (drop_unordered f.point (skip_if q (wrapped m))) (reads ++ q.complete) (reads ++ (skip_if q (wrapped m)).complete) f hp hf account tails
         (ap (filter (λ (d : Data). leb f.point d.offset)) same.0) (ap (λ z. reads ++ z) same.1) w.unordered)
         w
       where
-        ordered : (m : Option ℕ) → f.skips s ≡ m
-            → IsOrdered p gone current (next s) (ssn s) taken f.point s (read_ssn p 0 reads) (read_end p 0 reads) (drop_unordered f.point (skip_if q m)) reads
-        ordered None e = ordered_on p gone current (next s) (ssn s) taken passed f.point s (read_ssn p 0 reads) (read_end p 0 reads) q (drop_unordered f.point q) reads refl refl far w.ordered
-        ordered (Some c) e = ordered_skipped p over current next ssn begun gone taken passed s (read_ssn p 0 reads) (read_end p 0 reads) q (drop_unordered f.point (skip q c)) reads f c
-            hp v g hf (hf.reported s c e v) far flight near refl refl w.ordered
+        ordered : (m : Option ℕ) → f.numbers s ≡ m
+            → IsOrdered p gone current (next s) (ssn s) taken f.point (skipped_by (Some q) m skipped) s (read_ssn p 0 reads) (read_end p 0 reads) (drop_unordered f.point (skip_if q (wrapped m))) reads
+        ordered None e = ordered_on p gone current (next s) (ssn s) taken passed f.point skipped s (read_ssn p 0 reads) (read_end p 0 reads) q (drop_unordered f.point q) reads refl refl far w.ordered
+        ordered (Some c) e = ordered_skipped p over current next ssn begun gone acked now taken passed skipped s (read_ssn p 0 reads) (read_end p 0 reads) q (drop_unordered f.point (skip q (c % 65536))) reads f c
+            hp v g hf (hf.reported s c e) (hf.all s c e v) far flight near refl refl w.ordered

@@ -1,26 +1,28 @@
 -- Every event keeps the invariant, so it holds after every list of events, and with it the promise.
 use Rattle.std.proofs.Common.{ℕ, ◌+◌, ◌<◌, ◌≡◌, Bool, true, false, not, cond, eqb, ltb, ◌&&◌, List, [], ◌∷◌, Option, Some, None, refl, sym, ap, ◌∙◌, inl, arith}
 use Rattle.std.specs.Prelude.{slice_get}
-use Rattle.std.proofs.lemmas.Bool.{and_parts, ltb-true, true≢false, false≢true, cond_both, eqb-true, eq-eqb, and_from, not-true}
+use Rattle.std.proofs.lemmas.Bool.{and_parts, ltb-true, ltb-false, true≢false, false≢true, cond-true, cond_both, eqb-true, eq-eqb, and_from, not-true}
 use Rattle.sctp_model.specs.Messages.{Place, is_reliable, message_at}
 use Rattle.sctp_model.specs.Packets.{Data, Sack, Forward}
 use Rattle.sctp_model.specs.Reassembly.{Queue, Taken, next}
-use Rattle.sctp_model.specs.Machine.{Direction, Event, fresh, happens, run, point, begin, begin_if, can_begin, go_on, can_abandon, is_of, marked, tail_marked, left, unacknowledged, has_message, sack_comes, data_comes, forward_comes, is_new, took, was_read, read, moved, acknowledged_by}
+use Rattle.sctp_model.specs.Machine.{Direction, Event, put_2, fresh, happens, run, point, begin, begin_if, number_for, can_begin, go_on, can_abandon, is_of, marked, tail_marked, left, unacknowledged, has_message, sack_comes, data_comes, forward_comes, is_new, took, was_read, read, passes, acknowledged_by}
 use Rattle.sctp_model.specs.Safe.{IsWithin, StaysWithin}
-use Rattle.sctp_model.specs.Invariants.{Invariant, IsPiece, IsHonest, IsForward}
+use Rattle.sctp_model.specs.Invariants.{Invariant, IsPiece, IsHonest, IsForward, released_bytes}
 use Rattle.sctp_model.specs.Laws.{OneDirectionIsSafe}
 use Rattle.sctp_model.proofs.Lists.{all_get}
 use Rattle.sctp_model.proofs.Writing.{keeps_write, keeps_pass_over, keeps_drop, given_keeps}
-use Rattle.sctp_model.proofs.Giving.{keeps_begin, keeps_go_on, keeps_marked}
+use Rattle.sctp_model.proofs.Giving.{keeps_begin, keeps_go_on, keeps_marked, marked_frees}
+use Rattle.sctp_model.proofs.Released.{released_given}
 use Rattle.sctp_model.proofs.Coming.{keeps_resend, keeps_sack_made, keeps_forward_made, keeps_sack_comes, keeps_data_comes, keeps_forward_comes, keeps_read, keeps_open, keeps_replace, keeps_close, keeps_end, keeps_restart}
 use Rattle.sctp_model.proofs.Safety.{safe_from}
 
 either : (b : Bool) (x y : Direction) → (b ≡ true → Invariant x) → (b ≡ false → Invariant y) → Invariant (cond b x y)
 either b x y = cond_both b x y Invariant
 
-begin_step : (w : Direction) (s i : ℕ) (c : Option Place) → w.sender.current ≡ c → Invariant w → Invariant (begin_if w s i c)
-begin_step w s i None e h = either (can_begin w.sender s i) (begin w s i) w (λ b. keeps_begin w s i b e h) (λ b. h)
-begin_step w s i (Some y) e h = h
+begin_step : (w : Direction) (s i any : ℕ) (c : Option Place) → w.sender.current ≡ c → Invariant w → Invariant (begin_if w s i any c)
+begin_step w s i any None e h = either (can_begin w.sender s i) (begin w s i (number_for w.sender s i any)) w
+    (λ b. keeps_begin w s i (number_for w.sender s i any) (λ k. cond-true _ (w.sender.ssn s) any k) b e h) (λ b. h)
+begin_step w s i any (Some y) e h = h
 
 go_on_step : (w : Direction) (c : Option Place) → w.sender.current ≡ c → Invariant w → Invariant (go_on w c)
 go_on_step w None e h = h
@@ -36,29 +38,36 @@ abandon_step w s i c e can h = go c e
     unreliable : is_reliable (message_at w.sender.plan s i).policy ≡ false
     unreliable = not-true _ (and_parts (w.sender.begun s i && not (w.sender.gone s i)) _ parts.1).1
 
+    stays : w.sender.gone s i ≡ false
+    stays = not-true _ (and_parts (w.sender.begun s i) _ (and_parts (w.sender.begun s i && not (w.sender.gone s i)) _ parts.1).0).1
+
+    freed : w.sender.released s + unacknowledged w.sender s i ≡ released_bytes w.sender.plan w.sender.acknowledged (put_2 w.sender.gone s i) s
+    freed = released_given w.sender.plan w.over w.sender.acknowledged w.sender.gone s i (w.sender.released s) h.planned stays (ltb-true _ _ parts.0) (h.released s)
+
     some_same : (y z : Place) → Some y ≡ Some z → y ≡ z
     some_same y z h = cc
 
     go : (c : Option Place) → w.sender.current ≡ c → Invariant (record w { sender = left (tail_marked w.sender s i c) s i })
     go None e = given_keeps w s i (w.sender.released s + unacknowledged w.sender s i) (ltb-true _ _ parts.0) unreliable
-        (λ y f. absurd (none_some y (sym e ∙ f))) h
+        (λ y f. absurd (none_some y (sym e ∙ f))) freed h
       where
         none_some : (y : Place) → None ≡ Some y → ⊥
         none_some y h = cc
     go (Some y) e = cond_both (is_of y s i) (marked w.sender y) w.sender (λ z. Invariant (record w { sender = left z s i }))
         (λ b.
         let t = and_parts (eqb y.stream s) (eqb y.message i) b in
-        keeps_marked w s i (w.sender.released s + unacknowledged (marked w.sender y) s i) y e (eqb-true _ _ t.0) (eqb-true _ _ t.1) (ltb-true _ _ parts.0) unreliable h)
+        keeps_marked w s i (w.sender.released s + unacknowledged (marked w.sender y) s i) y e (eqb-true _ _ t.0) (eqb-true _ _ t.1) (ltb-true _ _ parts.0) unreliable
+        (marked_frees w s i y e (eqb-true _ _ t.0) (eqb-true _ _ t.1) (ltb-true _ _ parts.0) h) h)
         (λ b. given_keeps w s i (w.sender.released s + unacknowledged w.sender s i) (ltb-true _ _ parts.0) unreliable
         (λ z f t.
         let same : y ≡ z = some_same y z (sym e ∙ f) in
         true≢false (sym (and_from (eqb y.stream s) (eqb y.message i) (eq-eqb _ _ (ap (λ v. v.stream) same ∙ t.0)) (eq-eqb _ _ (ap (λ v. v.message) same ∙ t.1))) ∙ b))
-        h)
+        freed h)
 
 sack_step : (w : Direction) (n : ℕ) (k : Option Sack) → slice_get w.sacks n ≡ k → Invariant w → Invariant (sack_comes w k)
 sack_step w n None e h = h
 sack_step w n (Some k) e h = either (ltb k.point w.sender.point) w (record w { sender = acknowledged_by w.sender k }) (λ b. h)
-    (λ b. keeps_sack_comes w k (all_get (IsHonest w.receiver.taken w.receiver.passed (point w.receiver)) w.sacks n k e h.sacks) h)
+    (λ b. keeps_sack_comes w k (ltb-false _ _ b) (all_get (IsHonest w.receiver.taken w.receiver.passed (point w.receiver)) w.sacks n k e h.sacks) h)
 
 data_step : (w : Direction) (n : ℕ) (d : Option Data) → slice_get w.datas n ≡ d → IsWithin w → Invariant w → Invariant (data_comes w d)
 data_step w n None e l h = h
@@ -68,8 +77,8 @@ data_step w n (Some d) e l h = either (w.receiver.is_open && is_new w.receiver d
 
 forward_step : (w : Direction) (n : ℕ) (f : Option Forward) → slice_get w.forwards n ≡ f → IsWithin w → Invariant w → Invariant (forward_comes w f)
 forward_step w n None e l h = h
-forward_step w n (Some f) e l h = either (w.receiver.is_open && ltb (point w.receiver) f.point) (record w { receiver = moved w.receiver f }) w
-    (λ b. keeps_forward_comes w f (all_get (IsForward w.sender.plan w.sender.gone w.over w.receiver.taken) w.forwards n f e h.forwards)
+forward_step w n (Some f) e l h = either (w.receiver.is_open && ltb (point w.receiver) f.point) (passes w f) w
+    (λ b. keeps_forward_comes w f (all_get (IsForward w.sender.plan w.sender.gone w.over w.sender.acknowledged w.sender.point) w.forwards n f e h.forwards)
     (ltb-true _ _ (and_parts w.receiver.is_open (ltb (point w.receiver) f.point) b).1) l h)
     (λ b. h)
 
@@ -86,7 +95,7 @@ unfolding happens
 happens_keeps w (Event.Write s m) l h = either _ _ _ (λ b. h) (λ b. keeps_write w s m b h)
 happens_keeps w (Event.PassOver s) l h = either _ _ _ (λ b. keeps_pass_over w s b h) (λ b. h)
 happens_keeps w (Event.Drop s i) l h = either _ _ _ (λ b. keeps_drop w s i b h) (λ b. h)
-happens_keeps w (Event.Begin s i) l h = begin_step w s i w.sender.current refl h
+happens_keeps w (Event.Begin s i any) l h = begin_step w s i any w.sender.current refl h
 happens_keeps w Event.GoOn l h = go_on_step w w.sender.current refl h
 happens_keeps w (Event.Resend o) l h = either _ _ _ (λ b. keeps_resend w o b h) (λ b. h)
 happens_keeps w (Event.Abandon s i) l h = either _ _ _ (λ b. abandon_step w s i w.sender.current refl b h) (λ b. h)
@@ -112,11 +121,13 @@ fresh_holds size some = record {
     one = λ o q l. absurd (omega arith);
     after = λ o l. absurd (omega arith);
     before = λ o k l. absurd (omega arith);
+    rises = λ s o q l a. absurd (let k = a.known in omega arith);
     pairs = λ s v o q l a. absurd (let k = a.known in omega arith);
   };
   sending = record {
     within = λ s. omega arith;
     counted = λ o l. absurd (omega arith);
+    numbers = λ s o a. absurd (let k = a.known in omega arith);
     earlier = λ s v o a. absurd (let k = a.known in omega arith);
     going = λ y e. absurd (none_some y e);
     closed = λ e o l. absurd (omega arith);
@@ -129,9 +140,10 @@ fresh_holds size some = record {
   tails = λ o l. absurd (omega arith);
   sacks = tt;
   acknowledged = λ o a. absurd (false≢true a);
+  cumulative = λ o l. absurd (omega arith);
   behind = omega arith;
   forwards = tt;
-  released = λ s none. refl;
+  released = λ s. refl;
   streams = λ s v. record {
     got = tt;
     once = tt;
@@ -142,6 +154,7 @@ fresh_holds size some = record {
       cursor = 0;
       is = refl;
       above = omega arith;
+      latest = refl;
       origin = inl refl;
       begun = omega arith;
       going = λ y e. absurd (none_some y e);

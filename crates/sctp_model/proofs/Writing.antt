@@ -1,39 +1,43 @@
 -- What the sender does keeps the invariant.
-use Rattle.std.proofs.Common.{ℕ, zero, suc, ◌+◌, ◌*◌, ◌<◌, ◌≤◌, ◌≡◌, ◌⊎◌, Bool, true, false, not, cond, eqb, ◌||◌, ◌&&◌, List, [], ◌∷◌, ◌++◌, length, get_or, Option, Some, refl, sym, ap, ◌∙◌, subst, inl, inr, ⊎_elim, arith}
+use Rattle.std.proofs.Common.{ℕ, suc, ◌+◌, ◌*◌, ◌<◌, ◌≤◌, ◌≡◌, ◌⊎◌, Bool, true, false, not, cond, eqb, ◌||◌, ◌&&◌, List, [], ◌∷◌, ◌++◌, length, get_or, Option, Some, refl, sym, ap, ◌∙◌, subst, inl, inr, ⊎_elim, arith}
 use Rattle.std.specs.List.{AllByRecursion}
 use Rattle.std.proofs.lemmas.List.{length_push, get_or_push}
-use Rattle.std.proofs.lemmas.Bool.{cases_Bool, cases_lt, cases_eq, and_parts, and_from, or_cases, eqb-true, eq-eqb, ltb-true, true≢false, false_from_ne_true, cond-true, cond-false, not-true}
-use Rattle.sctp_model.specs.Messages.{Message, Place, Plan, Policy, IsAt, no_message, as_kept, place_at, message_at, is_last, is_reliable, rank, bytes_at, bytes_below}
+use Rattle.std.proofs.lemmas.Bool.{cases_Bool, cases_lt, cases_eq, and_parts, or_cases, eqb-true, eq-eqb, ne_eqb, ltb-true, true≢false, false_from_ne_true, cond-false, not-true}
+use Rattle.sctp_model.specs.Messages.{Message, Place, Plan, Policy, IsAt, no_message, as_kept, place_at, message_at, is_last, is_reliable, rank}
 use Rattle.sctp_model.specs.Packets.{Data, mem}
 use Rattle.sctp_model.specs.Machine.{Direction, put, put_2, live, point, with_message, written, is_empty, has_message, can_pass_over, passed_over, can_drop, dropped}
 use Rattle.sctp_model.specs.Safe.{read_end, read_ssn}
-use Rattle.sctp_model.specs.Invariants.{Invariant, IsPlanned, IsEarlier, IsGoing, IsSending, IsPiece, IsStream, NoneGone, gone_at}
+use Rattle.sctp_model.specs.Invariants.{Invariant, IsPlanned, IsEarlier, IsGoing, IsSending, IsPiece, IsStream, NoneGone, gone_at, released_bytes}
 use Rattle.sctp_model.proofs.Lists.{all_weaker}
 use Rattle.sctp_model.proofs.Ranks.{rank_no, rank_rises}
-use Rattle.sctp_model.proofs.Growth.{IsExtended, at_put, off_put, message_extended, message_kept, last_kept, at_before, rank_kept, piece_kept, pair_kept, bytes_kept}
+use Rattle.sctp_model.proofs.Growth.{IsExtended, at_put, off_put, message_extended, message_kept, last_kept, at_before, rank_kept, piece_kept, pair_kept}
 use Rattle.sctp_model.proofs.Growing.{IsNew, IsCounted, stream_grows, stream_gone}
 use Rattle.sctp_model.proofs.Forwarding.{forward_grows}
+use Rattle.sctp_model.proofs.Released.{bytes_none, released_grown, released_given, released_aside}
 use Rattle.sctp_model.proofs.Basics.{point_below}
 
 abbrev pub StreamOf : Direction → (ℕ → ℕ → Bool) → ℕ → Type 0
-StreamOf w gone s = IsStream w.sender.plan gone w.sender.current (w.sender.next s) (w.sender.ssn s) w.receiver.taken w.receiver.passed s (live (w.receiver.queues s)) (w.reads s)
+StreamOf w gone s = IsStream w.sender.plan gone w.sender.current (w.sender.next s) (w.sender.ssn s) w.receiver.taken w.receiver.passed (w.skipped s) s (live (w.receiver.queues s)) (w.reads s)
 
--- offsets past the end that no test knows carry no bytes
-bytes_tail : (r : Plan) (test : ℕ → Bool) (s n k : ℕ) → n ≤ k → ((o : ℕ) → n ≤ o → test o ≡ false) → bytes_below r test s k ≡ bytes_below r test s n
-bytes_tail r test s n zero l h = ap (bytes_below r test s) (let e : 0 ≡ n = omega arith in e)
-bytes_tail r test s n (suc k) l h =
-    ⊎_elim
-    (λ (e : suc k ≡ n). ap (bytes_below r test s) e)
-    (λ (ne : suc k ≡ n → ⊥).
-    let t = h k (omega (arith, ne)) in
-    ap (λ z. cond (eqb (place_at r k).stream s) (cond z (bytes_at r (place_at r k)) 0) 0 + bytes_below r test s k) t
-    ∙ nothing (eqb (place_at r k).stream s) (bytes_below r test s k)
-    ∙ bytes_tail r test s n k (omega (arith, ne)) h)
-    (cases_eq (suc k) n)
-  where
-    nothing : (b : Bool) (x : ℕ) → cond b 0 0 + x ≡ x
-    nothing true x = omega arith
-    nothing false x = omega arith
+-- an offset that isn't assigned isn't acknowledged
+unknown_past : (w : Direction) → Invariant w → (o : ℕ) → length w.sender.plan.places ≤ o → w.sender.acknowledged o ≡ false
+unknown_past w h o l = false_from_ne_true _ (λ (a : w.sender.acknowledged o ≡ true). ⊎_elim
+    (λ (m : mem o w.receiver.taken ≡ true). let t = (h.taken o m).0 in omega arith)
+    (λ (b : o < w.receiver.passed). let t = h.passed in omega arith)
+    (h.acknowledged o a))
+
+-- more is accepted or gets an offset, and nothing more is released
+pub freed_same : (w : Direction) (r : Plan) → Invariant w → IsExtended w.sender.plan r → (s : ℕ) → w.sender.released s ≡ released_bytes r w.sender.acknowledged w.sender.gone s
+freed_same w r h e s = h.released s ∙ sym (released_grown w.sender.plan r e w.sender.acknowledged w.sender.gone s (unknown_past w h) (λ i g. (h.sending.given_up s i g).0))
+
+-- message i of stream s is given up, and n bytes of the stream are released then
+pub freed_now : (w : Direction) (r : Plan) (s i n : ℕ) → Invariant w → IsExtended w.sender.plan r
+    → n ≡ released_bytes r w.sender.acknowledged (put_2 w.sender.gone s i) s
+    → (t : ℕ) → put w.sender.released s n t ≡ released_bytes r w.sender.acknowledged (put_2 w.sender.gone s i) t
+freed_now w r s i n h e is t = ⊎_elim
+    (λ (a : t ≡ s). at_put w.sender.released s t n a ∙ is ∙ ap (released_bytes r w.sender.acknowledged (put_2 w.sender.gone s i)) (sym a))
+    (λ (ne : t ≡ s → ⊥). off_put w.sender.released s t n ne ∙ freed_same w r h e t ∙ sym (released_aside r w.sender.acknowledged w.sender.gone s i t ne))
+    (cases_eq t s)
 
 pub grow_keeps : (w : Direction) (r : Plan) (c : Option Place) (nx sn : ℕ → ℕ) (bg gone' : ℕ → ℕ → Bool) (rl : ℕ → ℕ) (ds : List Data)
     → Invariant w → IsExtended w.sender.plan r → ((t i : ℕ) → w.sender.gone t i ≡ true → gone' t i ≡ true)
@@ -41,7 +45,7 @@ pub grow_keeps : (w : Direction) (r : Plan) (c : Option Place) (nx sn : ℕ → 
     → ((o : ℕ) → o < length r.places → (place_at r o).marker ≡ true → gone_at r gone' o ≡ true)
     → ((s : ℕ) → w.over s ≡ false → (o : ℕ) → length w.sender.plan.places ≤ o → IsAt r s true o → (x : ℕ) → IsAt w.sender.plan s true x
     → gone_at w.sender.plan w.sender.gone x ≡ true → (place_at w.sender.plan x).ssn < (place_at r o).ssn)
-    → ((s : ℕ) → NoneGone gone' s → rl s ≡ w.sender.released s)
+    → ((s : ℕ) → rl s ≡ released_bytes r w.sender.acknowledged gone' s)
     → ((s : ℕ) → w.over s ≡ false → (st : StreamOf w gone' s) → (o : ℕ) → length w.sender.plan.places ≤ o → IsAt r s true o
     → IsNew r gone' s (st.ordered).cursor (read_ssn w.sender.plan 0 (w.reads s)) (read_end w.sender.plan 0 (w.reads s)) o)
     → ((s : ℕ) → w.over s ≡ false → (st : StreamOf w gone' s)
@@ -65,25 +69,17 @@ grow_keeps w r c nx sn bg gone' rl ds h e more planned sending datas tails later
   tails = tails;
   sacks = h.sacks;
   acknowledged = h.acknowledged;
+  cumulative = h.cumulative;
   behind = h.behind;
-  forwards = all_weaker _ _ _ (λ f. forward_grows w.sender.plan r w.sender.gone gone' w.over w.receiver.taken f e more later) h.forwards;
-  released = λ s none.
-      freed s none ∙ h.released s (λ i. false_from_ne_true _ (λ (g : w.sender.gone s i ≡ true). true≢false (sym (more s i g) ∙ none i)))
-      ∙ sym (bytes_kept w.sender.plan r e w.sender.acknowledged s (length w.sender.plan.places) (omega arith))
-      ∙ sym (bytes_tail r w.sender.acknowledged s (length w.sender.plan.places) (length r.places) e.more unknown);
+  forwards = all_weaker _ _ _ (λ f. forward_grows w.sender.plan r w.sender.gone gone' w.over w.sender.acknowledged w.sender.point f e more later) h.forwards;
+  released = freed;
   streams = λ s v.
-      let st = stream_gone w.sender.plan w.sender.gone gone' w.sender.current (w.sender.next s) (w.sender.ssn s) w.receiver.taken w.receiver.passed s
+      let st = stream_gone w.sender.plan w.sender.gone gone' w.sender.current (w.sender.next s) (w.sender.ssn s) w.receiver.taken w.receiver.passed (w.skipped s) s
       (live (w.receiver.queues s)) (w.reads s) more (h.streams s v) in
-      stream_grows w.sender.plan r gone' w.sender.current c (w.sender.next s) (nx s) (w.sender.ssn s) (sn s) w.receiver.taken w.receiver.passed s
+      stream_grows w.sender.plan r gone' w.sender.current c (w.sender.next s) (nx s) (w.sender.ssn s) (sn s) w.receiver.taken w.receiver.passed (w.skipped s) s
       (live (w.receiver.queues s)) (w.reads s) e (λ o m. (h.taken o m).0) planned.filled (h.sending.within s) st (new s v st) (counts s v st);
 }
   where
-    unknown : (o : ℕ) → length w.sender.plan.places ≤ o → w.sender.acknowledged o ≡ false
-    unknown o l = false_from_ne_true _ (λ (a : w.sender.acknowledged o ≡ true). ⊎_elim
-        (λ (m : mem o w.receiver.taken ≡ true). let t = (h.taken o m).0 in omega arith)
-        (λ (b : o < w.receiver.passed). let t = h.passed in omega arith)
-        (h.acknowledged o a))
-
     gone_kept : (o : ℕ) → o < point w.receiver → gone_at w.sender.plan w.sender.gone o ≡ true → gone_at r gone' o ≡ true
     gone_kept o l g = ⊎_elim
         (λ (a : o < length w.sender.plan.places). subst (λ z. gone' z.stream z.message ≡ true) (sym (e.places o a)) (more _ _ g))
@@ -137,6 +133,7 @@ planned_message p over s m filled h = record {
   one = h.one;
   after = λ o l a b. h.after o l (sym (last_kept p q e o (omega arith)) ∙ a) b;
   before = λ o k l x. let b = h.before o k l x in let c = b.1 in (b.0, record { next = c.next; follows = c.follows; sent = c.sent });
+  rises = λ t o r l a b. h.rises t o r l (at_before p q e t o true a.known a) (at_before p q e t r true b.known b);
   pairs = λ t v o r l a b.
       let a' = at_before p q e t o true a.known a in
       let b' = at_before p q e t r true b.known b in
@@ -156,12 +153,12 @@ sending_message : (p : Plan) (current : Option Place) (next ssn : ℕ → ℕ) (
 sending_message p current next ssn begun gone over s m h g = record {
   within = λ t. let a = g.within t in let b = e.longer t in omega arith;
   counted = g.counted;
+  numbers = λ t o a. g.numbers t o (at_before p q e t o true a.known a);
   earlier = λ t v o a.
       let a' = at_before p q e t o true a.known a in
       let ko = subst (λ z. (place_at p o).message < length (p.accepted z)) a'.stream (h.known o a.known) in
       let x = g.earlier t v o a' in
       record {
-        number = x.number;
         below = x.below;
         near = x.near;
         rank = let b = x.rank in let c = rank_kept p q e t (place_at p o).message (omega (arith, ko)) in let d = rank_kept p q e t (next t) (g.within t) in omega arith;
@@ -200,7 +197,7 @@ keeps_write w s m full h = grow_keeps w q w.sender.current w.sender.next w.sende
     (all_weaker _ _ _ (λ d. piece_kept p q e d) h.datas)
     h.tails
     (λ t v o l a. no_new p q t o refl l a)
-    (λ t none. refl)
+    (freed_same w q h e)
     (λ t v st o l a. no_new p q t o refl l a)
     (λ t v st.
     let o = st.ordered in
@@ -238,11 +235,13 @@ keeps_pass_over w s can h = grow_keeps w p w.sender.current (put w.sender.next s
     (record {
       within = λ t. put_cases t (λ z. z ≤ length (p.accepted t)) (λ e. let k = known in let u = ap (λ z. length (p.accepted z)) e in omega arith) (λ ne. h.sending.within t);
       counted = h.sending.counted;
+      numbers = λ t o a. put_cases t (λ z. (place_at p o).message < z)
+          (λ e. let b = h.sending.numbers t o a in let u = ap w.sender.next e in omega arith)
+          (λ ne. h.sending.numbers t o a);
       earlier = λ t v o a.
           let x = h.sending.earlier t v o a in
           put_cases t (λ z. IsEarlier p t z (w.sender.ssn t) (place_at p o) o)
           (λ e. record {
-            number = let b = x.number in let u = ap w.sender.next e in omega arith;
             below = x.below;
             near = x.near;
             rank = let b = x.rank in
@@ -258,7 +257,7 @@ keeps_pass_over w s can h = grow_keeps w p w.sender.current (put w.sender.next s
     h.datas
     h.tails
     (λ t v o l a. no_new p p t o refl l a)
-    (λ t none. refl)
+    h.released
     (λ t v st o l a. no_new p p t o refl l a)
     (λ t v st.
     let o = st.ordered in
@@ -309,9 +308,6 @@ gone_more gone s i t j g = split (eqb t s && eqb j i)
     split true = refl
     split false = g
 
-pub gone_now : (gone : ℕ → ℕ → Bool) (s i : ℕ) → put_2 gone s i s i ≡ true
-gone_now gone s i = cond-true _ true (gone s i) (and_from _ _ (eq-eqb s s refl) (eq-eqb i i refl))
-
 pub gone_cases : (gone : ℕ → ℕ → Bool) (s i t j : ℕ) → put_2 gone s i t j ≡ true → ((t ≡ s) × (j ≡ i)) ⊎ (gone t j ≡ true)
 gone_cases gone s i t j g = ⊎_elim
     (λ (b : (eqb t s && eqb j i) ≡ true). let p = and_parts _ _ b in inl (eqb-true _ _ p.0, eqb-true _ _ p.1))
@@ -325,6 +321,7 @@ pub sending_gone : (p : Plan) (current : Option Place) (next ssn : ℕ → ℕ) 
 sending_gone p current next ssn begun gone over s i known unreliable apart g = record {
   within = g.within;
   counted = g.counted;
+  numbers = g.numbers;
   earlier = g.earlier;
   going = λ y c.
       let x = g.going y c in
@@ -351,9 +348,10 @@ sending_gone p current next ssn begun gone over s i known unreliable apart g = r
 }
 
 pub given_keeps : (w : Direction) (s i n : ℕ) → i < length (w.sender.plan.accepted s) → is_reliable (message_at w.sender.plan s i).policy ≡ false
-    → ((y : Place) → w.sender.current ≡ Some y → (y.stream ≡ s) × (y.message ≡ i) → ⊥) → Invariant w
+    → ((y : Place) → w.sender.current ≡ Some y → (y.stream ≡ s) × (y.message ≡ i) → ⊥)
+    → n ≡ released_bytes w.sender.plan w.sender.acknowledged (put_2 w.sender.gone s i) s → Invariant w
     → Invariant (record w { sender = record w.sender { gone = put_2 w.sender.gone s i; released = put w.sender.released s n } })
-given_keeps w s i n known unreliable apart h = grow_keeps w p w.sender.current w.sender.next w.sender.ssn w.sender.begun (put_2 w.sender.gone s i) (put w.sender.released s n) w.datas h
+given_keeps w s i n known unreliable apart freed h = grow_keeps w p w.sender.current w.sender.next w.sender.ssn w.sender.begun (put_2 w.sender.gone s i) (put w.sender.released s n) w.datas h
     (same_plan p h.planned.known)
     (gone_more w.sender.gone s i)
     h.planned
@@ -361,7 +359,7 @@ given_keeps w s i n known unreliable apart h = grow_keeps w p w.sender.current w
     h.datas
     (λ o l m. gone_more w.sender.gone s i _ _ (h.tails o l m))
     (λ t v o l a. no_new p p t o refl l a)
-    (λ t none. off_put w.sender.released s t n (λ e. true≢false (sym (gone_now w.sender.gone s i) ∙ ap (λ z. put_2 w.sender.gone s i z i) (sym e) ∙ none i)))
+    (freed_now w p s i n h (same_plan p h.planned.known) freed)
     (λ t v st o l a. no_new p p t o refl l a)
     (λ t v st.
     let o = st.ordered in
@@ -383,4 +381,13 @@ keeps_drop w s i can h =
     true≢false (sym (h.sending.counted x.last (omega arith))
     ∙ ap (λ z. w.sender.begun z (place_at w.sender.plan x.last).message) (sym f.stream ∙ same.0)
     ∙ ap (w.sender.begun s) (sym f.message ∙ same.1) ∙ not-true _ c.0))
+    (let all = released_given w.sender.plan w.over w.sender.acknowledged w.sender.gone s i (w.sender.released s) h.planned (not-true _ c.1) (ltb-true _ _ b.0) (h.released s) in
+    let none = bytes_none w.sender.plan (λ o. w.sender.acknowledged o && eqb (place_at w.sender.plan o).message i) s (length w.sender.plan.places)
+    (λ o l st. off (w.sender.acknowledged o) (ne_eqb _ _ (λ (m : (place_at w.sender.plan o).message ≡ i).
+    true≢false (sym (h.sending.counted o l) ∙ ap (λ z. w.sender.begun z (place_at w.sender.plan o).message) st ∙ ap (w.sender.begun s) m ∙ not-true _ c.0)))) in
+    omega arith)
     h
+  where
+    off : (a : Bool) {e : Bool} → e ≡ false → (a && e) ≡ false
+    off true e = e
+    off false e = refl

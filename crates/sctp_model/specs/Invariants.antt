@@ -1,7 +1,7 @@
 -- What holds of a direction after every event, while its numbers stay within their limits. `IsSafe` is read off from it.
-use Rattle.std.specs.Prelude.{ℕ, suc, ◌+◌, ◌*◌, ◌%◌, ◌<◌, ◌≤◌, ◌≡◌, ◌⊎◌, Bool, true, false, List, ◌++◌, length, map, filter, Option, Some, None}
+use Rattle.std.specs.Prelude.{ℕ, suc, ◌+◌, ◌*◌, ◌%◌, ◌<◌, ◌≤◌, ◌≡◌, ◌⊎◌, max, Bool, true, false, not, ◌&&◌, List, ◌++◌, length, map, filter, Option, Some, None}
 use Rattle.std.specs.List.{AllByRecursion}
-use Rattle.sctp_model.specs.Messages.{Place, Plan, IsAt, place_at, message_at, message_of, is_last, is_reliable, rank, bytes_below}
+use Rattle.sctp_model.specs.Messages.{Place, Plan, IsAt, place_at, message_at, message_of, is_last, is_reliable, rank, bytes_below, bytes_among}
 use Rattle.sctp_model.specs.Packets.{Data, Sack, Forward, mem, names, data_at}
 use Rattle.sctp_model.specs.Reassembly.{Got, Queue, at}
 use Rattle.sctp_model.specs.Machine.{Direction, live, point}
@@ -21,9 +21,8 @@ pub record IsBefore (p : Plan) (o q : ℕ) : Type 0 where
   pub follows : Follows (place_at p q) (place_at p o)
   pub sent : (place_at p q).marker ≡ false
 
--- two places of ordered messages of one stream, the second on the same offset or a later one
+-- two places of ordered messages of one stream within its span, the second on the same offset or a later one
 pub record IsPair (p : Plan) (s : ℕ) (x y : Place) (o q : ℕ) : Type 0 where
-  pub number : x.message ≤ y.message
   pub ssn : x.ssn ≤ y.ssn
   pub together : x.ssn ≡ y.ssn → x.message ≡ y.message
   pub alike : x.message ≡ y.message → x.ssn ≡ y.ssn
@@ -40,6 +39,8 @@ pub record IsPlanned (p : Plan) (over : ℕ → Bool) : Type 0 where
   pub after : (o : ℕ) → suc o < length p.places → is_last p (place_at p o) ≡ false → (place_at p o).marker ≡ false
       → Follows (place_at p o) (place_at p (suc o))
   pub before : (o k : ℕ) → o < length p.places → (place_at p o).piece ≡ suc k → (q : ℕ) × IsBefore p o q
+  -- ordered messages of a stream stand in the order of their numbers, also past its span
+  pub rises : (s o q : ℕ) → o ≤ q → IsAt p s true o → IsAt p s true q → (place_at p o).message ≤ (place_at p q).message
   pub pairs : (s : ℕ) → over s ≡ false → (o q : ℕ) → o ≤ q → IsAt p s true o → IsAt p s true q
       → IsPair p s (place_at p o) (place_at p q) o q
 
@@ -47,7 +48,6 @@ pub record IsPlanned (p : Plan) (over : ℕ → Bool) : Type 0 where
 
 -- an ordered message of stream s that has the offset o, against the next one
 pub record IsEarlier (p : Plan) (s next ssn : ℕ) (x : Place) (o : ℕ) : Type 0 where
-  pub number : x.message < next
   pub below : x.ssn < ssn
   pub near : ssn + o ≤ x.ssn + length p.places
   pub rank : ssn + rank (p.accepted s) x.message ≤ x.ssn + rank (p.accepted s) next
@@ -65,6 +65,7 @@ pub record IsGoing (p : Plan) (gone : ℕ → ℕ → Bool) (y : Place) : Type 0
 pub record IsSending (p : Plan) (current : Option Place) (next ssn : ℕ → ℕ) (begun gone : ℕ → ℕ → Bool) (over : ℕ → Bool) : Type 0 where
   pub within : (s : ℕ) → next s ≤ length (p.accepted s)
   pub counted : (o : ℕ) → o < length p.places → begun (place_at p o).stream (place_at p o).message ≡ true
+  pub numbers : (s o : ℕ) → IsAt p s true o → (place_at p o).message < next s
   pub earlier : (s : ℕ) → over s ≡ false → (o : ℕ) → IsAt p s true o → IsEarlier p s (next s) (ssn s) (place_at p o) o
   pub going : (y : Place) → current ≡ Some y → IsGoing p gone y
   pub closed : current ≡ None → (o : ℕ) → length p.places ≡ suc o
@@ -81,6 +82,10 @@ IsAccounted p gone taken o = (mem o taken ≡ true) ⊎ (gone_at p gone o ≡ tr
 abbrev pub NoneGone : (ℕ → ℕ → Bool) → ℕ → Type 0
 NoneGone gone s = (i : ℕ) → gone s i ≡ false
 
+-- the acknowledged bytes of messages of stream s that stay, and all bytes of those given up
+abbrev pub released_bytes : Plan → (ℕ → Bool) → (ℕ → ℕ → Bool) → ℕ → ℕ
+released_bytes p acked gone s = bytes_below p (λ o. acked o && not (gone_at p gone o)) s (length p.places) + bytes_among p (gone s) s
+
 -- What is on its way.
 
 -- DATA is the piece of its offset, by the cut and the assignment
@@ -94,40 +99,34 @@ pub record IsHonest (taken : List ℕ) (passed : ℕ) (at : ℕ) (k : Sack) : Ty
   pub point : k.point ≤ at
   pub named : (o : ℕ) → names k o ≡ true → (mem o taken ≡ true) ⊎ (o < passed)
 
--- the sequence number m that a FORWARD TSN made at the acknowledged point `start` reports for stream s
+-- m is the sequence number, before it wraps, of the last ordered message of stream s on the offsets from `start` to `point`, and
+-- that message was given up
 pub record IsReported (p : Plan) (gone : ℕ → ℕ → Bool) (s start point m : ℕ) : Type 0 where
   pub offset : ℕ
   pub from : start ≤ offset
   pub below : offset < point
   pub at : IsAt p s true offset
   pub given_up : gone_at p gone offset ≡ true
-  pub is : m ≡ (place_at p offset).ssn % 65536
-  pub greatest : (o : ℕ) → IsAt p s true o → o < point → (place_at p o).ssn ≤ (place_at p offset).ssn
-  pub all : (o : ℕ) → IsAt p s true o → (place_at p o).ssn ≤ (place_at p offset).ssn → o < point
-
--- whatever became of the stream's span: m is the sequence number of the last ordered message of stream s from `start` to the point
-pub record IsLastReported (p : Plan) (s start point m : ℕ) : Type 0 where
-  pub offset : ℕ
-  pub from : start ≤ offset
-  pub below : offset < point
-  pub at : IsAt p s true offset
-  pub is : m ≡ (place_at p offset).ssn % 65536
+  pub is : m ≡ (place_at p offset).ssn
   pub last : (o : ℕ) → IsAt p s true o → o < point → o ≤ offset
 
--- a FORWARD TSN: each offset below its point was taken in or belongs to an abandoned message, the last of them is an abandoned
--- message's last, and it reports the greatest sequence numbers of the ordered messages abandoned past the acknowledged point
-pub record IsForward (p : Plan) (gone : ℕ → ℕ → Bool) (over : ℕ → Bool) (taken : List ℕ) (f : Forward) : Type 0 where
-  pub start : ℕ
-  pub ahead : start < f.point
+-- A FORWARD TSN: each offset below its point was acknowledged when it was made (those below `start`) or belongs to an abandoned
+-- message (those from there on), its point is one past the last offset of an abandoned message, and for each stream with an ordered
+-- message from `start` to the point it reports the last one's sequence number. If the stream's span wasn't over then, no ordered
+-- message below the point has a greater one (`greatest`), and as long as it isn't over each one past the point has (`all`).
+-- `acked` and `now` are what is acknowledged now, and the acknowledged point.
+pub record IsForward (p : Plan) (gone : ℕ → ℕ → Bool) (over : ℕ → Bool) (acked : ℕ → Bool) (now : ℕ) (f : Forward) : Type 0 where
+  pub behind : f.start ≤ now
+  pub ahead : f.start < f.point
   pub known : f.point ≤ length p.places
-  pub near : f.point ≤ start + 16384
-  pub accounted : (o : ℕ) → o < f.point → IsAccounted p gone taken o
-  pub abandoned : (o : ℕ) → start ≤ o → o < f.point → gone_at p gone o ≡ true
-  pub complete : (s o : ℕ) → IsAt p s true o → start ≤ o → o < f.point → (m : ℕ) × (f.skips s ≡ Some m)
-  pub last : (o : ℕ) → f.point ≡ suc o → gone_at p gone o ≡ true
+  pub near : f.point ≤ f.start + 16384
+  pub acknowledged : (o : ℕ) → o < f.start → acked o ≡ true
+  pub abandoned : (o : ℕ) → f.start ≤ o → o < f.point → gone_at p gone o ≡ true
   pub ends : (o : ℕ) → f.point ≡ suc o → (is_last p (place_at p o) ≡ true) ⊎ ((place_at p o).marker ≡ true)
-  pub last_reported : (s m : ℕ) → f.skips s ≡ Some m → IsLastReported p s start f.point m
-  pub reported : (s m : ℕ) → f.skips s ≡ Some m → over s ≡ false → IsReported p gone s start f.point m
+  pub complete : (s o : ℕ) → IsAt p s true o → f.start ≤ o → o < f.point → (m : ℕ) × (f.numbers s ≡ Some m)
+  pub reported : (s m : ℕ) → f.numbers s ≡ Some m → IsReported p gone s f.start f.point m
+  pub greatest : (s m : ℕ) → f.numbers s ≡ Some m → f.past s ≡ false → (o : ℕ) → IsAt p s true o → o < f.point → (place_at p o).ssn ≤ m
+  pub all : (s m : ℕ) → f.numbers s ≡ Some m → over s ≡ false → (o : ℕ) → IsAt p s true o → (place_at p o).ssn ≤ m → o < f.point
 
 -- One stream at the receiver.
 
@@ -138,13 +137,13 @@ pub record IsHeld (p : Plan) (taken : List ℕ) (s : ℕ) (ordered : Bool) (low 
   pub taken_in : mem d.offset taken ≡ true
   pub above : low ≤ (place_at p d.offset).ssn
 
--- the cursor stands one past a sequence number that a FORWARD TSN skipped
-pub record IsSkipped (p : Plan) (gone : ℕ → ℕ → Bool) (passed s cursor : ℕ) : Type 0 where
+-- `skipped` is one past the sequence number of a message of stream s that was given up and passed over
+pub record IsSkipped (p : Plan) (gone : ℕ → ℕ → Bool) (passed s skipped : ℕ) : Type 0 where
   pub offset : ℕ
   pub below : offset < passed
   pub at : IsAt p s true offset
   pub given_up : gone_at p gone offset ≡ true
-  pub is : cursor ≡ suc (place_at p offset).ssn
+  pub is : skipped ≡ suc (place_at p offset).ssn
 
 -- The ordered messages of a stream kept reliable: none was skipped, what was taken in and not read is held, and what was read is
 -- each ordered message below `end`.
@@ -157,14 +156,16 @@ pub record IsFull (p : Plan) (taken : List ℕ) (s next ssn cursor low end : ℕ
   pub read : (i : ℕ) → i < end → is_ordered p s i ≡ true → mem i (map (number_of p) reads) ≡ true
   pub letters : IsKeptOrdered p s → map letter_read reads ≡ letters_written p s end
 
--- The ordered half. `low` and `end` are one past the sequence number and the number of the last ordered message read, `cursor` is
--- the queue's without wrap. `current`, `next` and `ssn` are the sender's.
-pub record IsOrdered (p : Plan) (gone : ℕ → ℕ → Bool) (current : Option Place) (next ssn : ℕ) (taken : List ℕ) (passed s low end : ℕ)
+-- The ordered half. `low` and `end` are one past the sequence number and the number of the last ordered message read, `skipped` is
+-- one past the greatest sequence number skipped, each 0 where there is none. `current`, `next` and `ssn` are the sender's.
+pub record IsOrdered (p : Plan) (gone : ℕ → ℕ → Bool) (current : Option Place) (next ssn : ℕ) (taken : List ℕ) (passed skipped s low end : ℕ)
     (q : Queue) (reads : List Got) : Type 0 where
+  -- the cursor is one past the later of the last ordered message read and the last one skipped
   pub cursor : ℕ
+  pub latest : cursor ≡ max low skipped
   pub is : q.cursor ≡ cursor % 65536
   pub above : low ≤ cursor
-  pub origin : (cursor ≡ low) ⊎ IsSkipped p gone passed s cursor
+  pub origin : (skipped ≡ 0) ⊎ IsSkipped p gone passed s skipped
   pub begun : cursor ≤ ssn
   pub going : (y : Place) → current ≡ Some y → y.stream ≡ s → (message_of p y).ordered ≡ true → cursor ≤ y.ssn
   pub held : AllByRecursion (IsHeld p taken s true low) q.ordered
@@ -200,14 +201,14 @@ pub record IsGot (p : Plan) (taken : List ℕ) (s : ℕ) (g : Got) : Type 0 wher
   pub stream : (place_at p g.from).stream ≡ s
   pub tells : Tells p taken s g (number_of p g)
 
-pub record IsStream (p : Plan) (gone : ℕ → ℕ → Bool) (current : Option Place) (next ssn : ℕ) (taken : List ℕ) (passed s : ℕ)
+pub record IsStream (p : Plan) (gone : ℕ → ℕ → Bool) (current : Option Place) (next ssn : ℕ) (taken : List ℕ) (passed skipped s : ℕ)
     (q : Queue) (reads : List Got) : Type 0 where
   pub got : AllByRecursion (IsGot p taken s) (reads ++ q.complete)
   pub once : AreDistinct (numbers_of p (reads ++ q.complete))
   pub rising : AreRising (numbers_of p (filter (λ (g : Got). g.ordered) reads))
   pub below : AllByRecursion (λ (i : ℕ). i < read_end p 0 reads) (numbers_of p (filter (λ (g : Got). g.ordered) reads))
   pub complete : AllByRecursion (λ (g : Got). g.ordered ≡ false) q.complete
-  pub ordered : IsOrdered p gone current next ssn taken passed s (read_ssn p 0 reads) (read_end p 0 reads) q reads
+  pub ordered : IsOrdered p gone current next ssn taken passed skipped s (read_ssn p 0 reads) (read_end p 0 reads) q reads
   pub unordered : IsUnordered p gone taken s q (reads ++ q.complete)
 
 pub record Invariant (w : Direction) : Type 0 where
@@ -224,12 +225,13 @@ pub record Invariant (w : Direction) : Type 0 where
   -- every SACK ever sent names only what was taken in or passed over, also when it comes late
   pub sacks : AllByRecursion (IsHonest w.receiver.taken w.receiver.passed (point w.receiver)) w.sacks
   pub acknowledged : (o : ℕ) → w.sender.acknowledged o ≡ true → (mem o w.receiver.taken ≡ true) ⊎ (o < w.receiver.passed)
+  -- every offset below the sender's acknowledged point is acknowledged, and the receiver's point is as far at least
+  pub cumulative : (o : ℕ) → o < w.sender.point → w.sender.acknowledged o ≡ true
   pub behind : w.sender.point ≤ point w.receiver
   -- every FORWARD TSN ever sent is true
-  pub forwards : AllByRecursion (IsForward w.sender.plan w.sender.gone w.over w.receiver.taken) w.forwards
-  pub released : (s : ℕ) → NoneGone w.sender.gone s
-      → w.sender.released s ≡ bytes_below w.sender.plan w.sender.acknowledged s (length w.sender.plan.places)
+  pub forwards : AllByRecursion (IsForward w.sender.plan w.sender.gone w.over w.sender.acknowledged w.sender.point) w.forwards
+  pub released : (s : ℕ) → w.sender.released s ≡ released_bytes w.sender.plan w.sender.acknowledged w.sender.gone s
   -- the order, the cursor and the reads of each stream within its span
   pub streams : (s : ℕ) → w.over s ≡ false
-      → IsStream w.sender.plan w.sender.gone w.sender.current (w.sender.next s) (w.sender.ssn s) w.receiver.taken w.receiver.passed s
+      → IsStream w.sender.plan w.sender.gone w.sender.current (w.sender.next s) (w.sender.ssn s) w.receiver.taken w.receiver.passed (w.skipped s) s
       (live (w.receiver.queues s)) (w.reads s)

@@ -1,10 +1,10 @@
 -- The laws that stand on the contracts of this crate's functions.
-use Rattle.std.specs.Prelude.{ℕ, suc, ◌+◌, ◌-◌, ◌*◌, ◌%◌, ◌^◌, ◌<◌, ◌≤◌, ◌≡◌, ◌↔◌, ◌⊎◌, true, false, List, ◌++◌, take, Some, None, nat_lt}
-use Rattle.sctp_model.specs.Messages.{piece_of}
+use Rattle.std.specs.Prelude.{ℕ, suc, ◌+◌, ◌-◌, ◌*◌, ◌%◌, ◌^◌, ◌<◌, ◌≤◌, ◌≡◌, ◌↔◌, ◌⊎◌, max, true, false, List, ◌++◌, take, Some, None, nat_lt}
+use Rattle.sctp_model.specs.Messages.{piece_of, accepted_bytes}
 use Rattle.sctp_model.specs.Packets.{mem, names}
 use Rattle.sctp_model.specs.Serial.{tsn, before_16, before_32, offset_near, offset_spelt, offset_ahead}
-use Rattle.sctp_model.specs.Machine.{Direction, Event, Receiver, fresh, happens, run, point, sack_of}
-use Rattle.sctp_model.specs.Safe.{IsSafe, IsWithin, StaysWithin}
+use Rattle.sctp_model.specs.Machine.{Direction, Event, Receiver, fresh, happens, run, live, point, sack_of}
+use Rattle.sctp_model.specs.Safe.{IsSafe, IsWithin, StaysWithin, read_ssn}
 use Rattle.sctp_model.specs.Invariants.{Invariant}
 
 -- A TSN made from an offset less than 2^31 away is read as that offset, and of two such the earlier one is the one before.
@@ -56,3 +56,13 @@ EachEventKeepsTheInvariant = (w : Direction) (e : Event) → IsWithin w → Inva
 -- and the invariant with the limits is enough for the promise of each stream within its span.
 abbrev pub TheInvariantIsEnough : Type 0
 TheInvariantIsEnough = (w : Direction) → IsWithin w → Invariant w → (s : ℕ) → w.over s ≡ false → IsSafe w s
+
+-- Of what the invariant says of a stream within its span: the ordered cursor is one past the later of the sequence numbers of the
+-- last ordered message read and of the last one skipped, 0 where there is neither, modulo 2^16.
+abbrev pub TheCursorIsPastTheLater : Type 0
+TheCursorIsPastTheLater = (w : Direction) → Invariant w → (s : ℕ) → w.over s ≡ false
+    → (live (w.receiver.queues s)).cursor ≡ max (read_ssn w.sender.plan 0 (w.reads s)) (w.skipped s) % 65536
+
+-- Of what it says of the bytes released: they are never more than were accepted on their stream.
+abbrev pub NoMoreIsReleased : Type 0
+NoMoreIsReleased = (w : Direction) → Invariant w → (s : ℕ) → w.sender.released s ≤ accepted_bytes w.sender.plan s

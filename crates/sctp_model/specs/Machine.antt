@@ -1,8 +1,8 @@
 -- One direction as a machine: a sender, a receiver, and a network between them that loses, repeats, delays and reorders,
 -- but alters and forges nothing. Every choice that an implementation may make is an event.
-use Rattle.std.specs.Prelude.{ℕ, zero, suc, ◌+◌, ◌-◌, ◌%◌, Bool, true, false, not, ◌&&◌, ◌||◌, List, [], ◌∷◌, ◌++◌, length, drop, filter, Option, Some, None, slice_get, ◌==◌, nat_lt, nat_le, if◌then◌else◌}
+use Rattle.std.specs.Prelude.{ℕ, zero, suc, ◌+◌, ◌-◌, max, Bool, true, false, not, ◌&&◌, ◌||◌, List, [], ◌∷◌, ◌++◌, length, drop, filter, Option, Some, None, slice_get, ◌==◌, nat_lt, nat_le, if◌then◌else◌}
 use Rattle.sctp_model.specs.Messages.{Message, Place, Plan, as_kept, is_reliable, place_at, message_at, message_of, is_last, bytes_below}
-use Rattle.sctp_model.specs.Packets.{Data, Sack, Forward, mem, names, data_at}
+use Rattle.sctp_model.specs.Packets.{Data, Sack, Forward, mem, names, skips, data_at}
 use Rattle.sctp_model.specs.Reassembly.{Queue, Got, Taken, empty_queue, next, push, skip_if, drop_unordered}
 
 -- The sender of a direction (RFC 4960 section 6.1, RFC 3758 section 3.5).
@@ -25,8 +25,8 @@ pub record Receiver : Type 0 where
   pub queues : ℕ → Option Queue
   pub is_open : Bool  -- neither closed nor failed
 
--- Both ends, all that was ever given out, and what was read. Loss, repetition, delay and reordering are one thing: of what was
--- given out any may come, at any time and again.
+-- Both ends, all that was ever given out, what was read and what was skipped. Loss, repetition, delay and reordering are one
+-- thing: of what was given out any may come, at any time and again.
 pub record Direction : Type 0 where
   pub sender : Sender
   pub receiver : Receiver
@@ -34,6 +34,9 @@ pub record Direction : Type 0 where
   pub sacks : List Sack
   pub forwards : List Forward
   pub reads : ℕ → List Got
+  -- by stream: one past the greatest sequence number, before it wraps, that a FORWARD TSN skipped in it, of those taken while the
+  -- stream was there; 0 before the first. No step looks at it.
+  pub skipped : ℕ → ℕ
   pub over : ℕ → Bool  -- the stream's span is over: a reset was asked for, or the stream retired or stopped, at either end
 
 abbrev pub put : {X : Type 0} → (ℕ → X) → ℕ → X → ℕ → X
@@ -61,6 +64,7 @@ fresh size = record {
   sacks = [];
   forwards = [];
   reads = λ s. [];
+  skipped = λ s. 0;
   over = λ s. false;
 }
 
@@ -107,8 +111,12 @@ is_due x s i = not (message_at x.plan s i).ordered || (i == x.next s)
 abbrev pub can_begin : Sender → ℕ → ℕ → Bool
 can_begin x s i = is_unsent x s i && is_due x s i
 
-abbrev pub first_place : Sender → ℕ → ℕ → Place
-first_place x s i = record { stream = s; message = i; piece = 0; ssn = x.ssn s; marker = false }
+abbrev pub first_place : ℕ → ℕ → ℕ → Place
+first_place s i number = record { stream = s; message = i; piece = 0; ssn = number; marker = false }
+
+-- an ordered message gets the stream's next sequence number; an unordered one has any number
+abbrev pub number_for : Sender → ℕ → ℕ → ℕ → ℕ
+number_for x s i any = if (message_at x.plan s i).ordered then x.ssn s else any
 
 abbrev pub following : Place → Place
 following y = record y { piece = suc y.piece }
@@ -131,16 +139,16 @@ counted x s i false = record x { begun = put_2 x.begun s i }
 abbrev pub next_data : Sender → Place → Data
 next_data x y = data_at (with_place x.plan y) (length x.plan.places)
 
-abbrev pub begin : Direction → ℕ → ℕ → Direction
-begin w s i = record w {
-  sender = counted (sent w.sender (first_place w.sender s i)) s i (message_at w.sender.plan s i).ordered;
-  datas = w.datas ++ next_data w.sender (first_place w.sender s i) ∷ [];
+abbrev pub begin : Direction → ℕ → ℕ → ℕ → Direction
+begin w s i number = record w {
+  sender = counted (sent w.sender (first_place s i number)) s i (message_at w.sender.plan s i).ordered;
+  datas = w.datas ++ next_data w.sender (first_place s i number) ∷ [];
 }
 
 -- no message begins while another has pieces to be sent
-abbrev pub begin_if : Direction → ℕ → ℕ → Option Place → Direction
-begin_if w s i None = if can_begin w.sender s i then begin w s i else w
-begin_if w s i (Some y) = w
+abbrev pub begin_if : Direction → ℕ → ℕ → ℕ → Option Place → Direction
+begin_if w s i any None = if can_begin w.sender s i then begin w s i (number_for w.sender s i any) else w
+begin_if w s i any (Some y) = w
 
 abbrev pub go_on : Direction → Option Place → Direction
 go_on w None = w
@@ -206,18 +214,21 @@ gone_among x (y ∷ ys) = if is_gone x y then y ∷ gone_among x ys else []
 abbrev pub gone_front : Sender → List Place
 gone_front x = gone_among x (drop x.point x.plan.places)
 
--- the sequence number of the last ordered message of stream s among these, so the greatest
+-- the sequence number, before it wraps, of the last ordered message of stream s among these; within the stream's span that is the
+-- greatest
 abbrev pub is_ordered_of : Plan → ℕ → Place → Bool
 is_ordered_of p s y = (y.stream == s) && (message_of p y).ordered
 
 abbrev pub last_ssn : Plan → ℕ → List Place → Option ℕ → Option ℕ
 last_ssn p s [] found = found
-last_ssn p s (y ∷ ys) found = last_ssn p s ys (if is_ordered_of p s y then Some (y.ssn % 65536) else found)
+last_ssn p s (y ∷ ys) found = last_ssn p s ys (if is_ordered_of p s y then Some y.ssn else found)
 
-abbrev pub forward_of : Sender → Forward
-forward_of x = record {
+abbrev pub forward_of : Sender → (ℕ → Bool) → Forward
+forward_of x over = record {
   point = x.point + length (gone_front x);
-  skips = λ s. last_ssn x.plan s (gone_front x) None;
+  numbers = λ s. last_ssn x.plan s (gone_front x) None;
+  start = x.point;
+  past = over;
 }
 
 -- The receiver
@@ -264,11 +275,20 @@ forwarded None point m = None
 forwarded (Some q) point m = Some (drop_unordered point (skip_if q m))
 
 abbrev pub moved : Receiver → Forward → Receiver
-moved r f = record r { passed = f.point; queues = λ s. forwarded (r.queues s) f.point (f.skips s) }
+moved r f = record r { passed = f.point; queues = λ s. forwarded (r.queues s) f.point (skips f s) }
+
+-- the number up to which a stream was skipped; one that isn't there is not skipped
+abbrev pub skipped_by : Option Queue → Option ℕ → ℕ → ℕ
+skipped_by None n before = before
+skipped_by (Some q) None before = before
+skipped_by (Some q) (Some n) before = max before (suc n)
+
+abbrev pub passes : Direction → Forward → Direction
+passes w f = record w { receiver = moved w.receiver f; skipped = λ s. skipped_by (w.receiver.queues s) (f.numbers s) (w.skipped s) }
 
 abbrev pub forward_comes : Direction → Option Forward → Direction
 forward_comes w None = w
-forward_comes w (Some f) = if w.receiver.is_open && nat_lt (point w.receiver) f.point then record w { receiver = moved w.receiver f } else w
+forward_comes w (Some f) = if w.receiver.is_open && nat_lt (point w.receiver) f.point then passes w f else w
 
 abbrev pub was_read : Direction → ℕ → Option Taken → Direction
 was_read w s None = w
@@ -290,7 +310,9 @@ pub data Event : Type 0 where
   Write : ℕ → Message → Event  -- a write on a stream is accepted
   PassOver : ℕ → Event
   Drop : ℕ → ℕ → Event  -- message i of stream s is dropped unsent
-  Begin : ℕ → ℕ → Event  -- the first piece of message i of stream s gets the next offset and goes out
+  -- the first piece of message i of stream s gets the next offset and goes out; the third number is the sequence number that it
+  -- carries if it is unordered
+  Begin : ℕ → ℕ → ℕ → Event
   GoOn : Event  -- so does the next piece of the message that was begun
   Resend : ℕ → Event  -- the piece of an offset goes out again
   Abandon : ℕ → ℕ → Event  -- message i of stream s is abandoned
@@ -310,12 +332,12 @@ unfoldable pub happens : Direction → Event → Direction
 happens w (Write s m) = if is_empty m then w else record w { sender = written w.sender s (as_kept m) }
 happens w (PassOver s) = if can_pass_over w.sender s then record w { sender = passed_over w.sender s } else w
 happens w (Drop s i) = if can_drop w.sender s i then record w { sender = dropped w.sender s i } else w
-happens w (Begin s i) = begin_if w s i w.sender.current
+happens w (Begin s i any) = begin_if w s i any w.sender.current
 happens w GoOn = go_on w w.sender.current
 happens w (Resend o) = if can_resend w.sender.plan o then record w { datas = w.datas ++ data_at w.sender.plan o ∷ [] } else w
 happens w (Abandon s i) = if can_abandon w.sender s i then record w { sender = abandoned w.sender s i } else w
 happens w (SackComes k) = sack_comes w (slice_get w.sacks k)
-happens w ForwardMade = if nat_lt 0 (length (gone_front w.sender)) then record w { forwards = w.forwards ++ forward_of w.sender ∷ [] } else w
+happens w ForwardMade = if nat_lt 0 (length (gone_front w.sender)) then record w { forwards = w.forwards ++ forward_of w.sender w.over ∷ [] } else w
 happens w (DataComes k) = data_comes w (slice_get w.datas k)
 happens w SackMade = record w { sacks = w.sacks ++ sack_of w.receiver ∷ [] }
 happens w (ForwardComes k) = forward_comes w (slice_get w.forwards k)

@@ -36,8 +36,8 @@ piece_of size bytes k = take size (drop (size * k) bytes)
 abbrev pub is_last_piece : ℕ → List ℕ → ℕ → Bool
 is_last_piece size bytes k = nat_le (length bytes) (size * suc k)
 
--- What an offset stands for: a piece of a message. `ssn` is the stream sequence number before it wraps: how many ordered
--- messages of the stream got an offset before this one. A `marker` stands for the whole tail from its piece on that was
+-- What an offset stands for: a piece of a message. `ssn` is the stream sequence number before it wraps: of an ordered message how
+-- many ordered ones of the stream got an offset before it, of an unordered one any number. A `marker` stands for the whole tail from its piece on that was
 -- still unsent when its message was abandoned; it is never sent.
 pub record Place : Type 0 where
   pub stream : ℕ
@@ -92,3 +92,16 @@ abbrev pub bytes_below : Plan → (ℕ → Bool) → ℕ → ℕ → ℕ
 bytes_below p test s zero = 0
 bytes_below p test s (suc o) =
     (if (place_at p o).stream == s then (if test o then bytes_at p (place_at p o) else 0) else 0) + bytes_below p test s o
+
+-- f 0 + f 1 + .. + f (n - 1)
+abbrev pub sum_below : (ℕ → ℕ) → ℕ → ℕ
+sum_below f zero = 0
+sum_below f (suc i) = f i + sum_below f i
+
+-- the bytes of those messages of stream s that pass the test
+abbrev pub bytes_among : Plan → (ℕ → Bool) → ℕ → ℕ
+bytes_among p test s = sum_below (λ i. if test i then length (message_at p s i).bytes else 0) (length (p.accepted s))
+
+-- all bytes accepted on stream s
+abbrev pub accepted_bytes : Plan → ℕ → ℕ
+accepted_bytes p s = bytes_among p (λ i. true) s

@@ -1,9 +1,9 @@
 -- What a packet says to the other side, in offsets. Points are numbers of offsets: `point` is one past the last offset meant.
-use Rattle.std.specs.Prelude.{ℕ, ◌%◌, Bool, false, List, [], ◌∷◌, ◌==◌, ◌||◌, nat_lt, Option}
+use Rattle.std.specs.Prelude.{ℕ, ◌%◌, Bool, false, List, [], ◌∷◌, ◌==◌, ◌||◌, nat_lt, Option, Some, None}
 use Rattle.sctp_model.specs.Messages.{Plan, Place, place_at, message_of, piece_of, is_last}
 
 -- DATA (RFC 4960 section 3.3.1): `first` and `last` are the B and E bits, `ordered` is the U bit turned round. The stream
--- sequence number of an unordered piece says nothing.
+-- sequence number of an unordered piece may be any and says nothing.
 pub record Data : Type 0 where
   pub offset : ℕ
   pub stream : ℕ
@@ -20,9 +20,20 @@ pub record Sack : Type 0 where
   pub above : List ℕ
 
 -- FORWARD TSN (RFC 3758 section 3.2): the new point, and by stream the sequence number up to which ordered messages are skipped.
+-- The packet has `point` and `skips`, which is all that a receiver goes by. Not in it are `numbers`, the sequence numbers before
+-- they wrap, and of the moment when it was made its sender's acknowledged point (`start`) and the streams past their span (`past`).
 pub record Forward : Type 0 where
   pub point : ℕ
-  pub skips : ℕ → Option ℕ
+  pub numbers : ℕ → Option ℕ
+  pub start : ℕ
+  pub past : ℕ → Bool
+
+abbrev pub wrapped : Option ℕ → Option ℕ
+wrapped None = None
+wrapped (Some n) = Some (n % 65536)
+
+abbrev pub skips : Forward → ℕ → Option ℕ
+skips f s = wrapped (f.numbers s)
 
 -- o is a member of the set that the list spells
 abbrev pub mem : ℕ → List ℕ → Bool

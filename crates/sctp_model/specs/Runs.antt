@@ -1,5 +1,5 @@
 -- Small runs that compute, so that a reader sees the machine at work.
-use Rattle.std.specs.Prelude.{ℕ, ◌≡◌, Bool, true, false, List, [], ◌∷◌, length, map}
+use Rattle.std.specs.Prelude.{ℕ, ◌≡◌, Bool, true, false, List, [], ◌∷◌, length, map, None}
 use Rattle.sctp_model.specs.Messages.{Message, Policy}
 use Rattle.sctp_model.specs.Packets.{Data}
 use Rattle.sctp_model.specs.Reassembly.{Queue, push, ready}
@@ -25,7 +25,7 @@ held_of w s = length (live (w.receiver.queues s)).unordered
 -- Three bytes in pieces of two: the second piece comes first, and twice, and a read in between gives nothing.
 abbrev pub out_of_order : List Event
 out_of_order =
-    Event.Write 0 (text true Policy.Reliable (1 ∷ 2 ∷ 3 ∷ [])) ∷ Event.Begin 0 0 ∷ Event.GoOn
+    Event.Write 0 (text true Policy.Reliable (1 ∷ 2 ∷ 3 ∷ [])) ∷ Event.Begin 0 0 0 ∷ Event.GoOn
     ∷ Event.DataComes 1 ∷ Event.DataComes 1 ∷ Event.Read 0 ∷ Event.DataComes 0 ∷ Event.DataComes 0 ∷ Event.Read 0 ∷ Event.Read 0 ∷ []
 
 abbrev pub PiecesOutOfOrder : Type 0
@@ -35,7 +35,7 @@ PiecesOutOfOrder = letters_of (run out_of_order (fresh 2)) 0 ≡ said (1 ∷ 2 �
 abbrev pub first_abandoned : List Event
 first_abandoned =
     Event.Write 0 (text true (Policy.Rexmit 0) (1 ∷ 2 ∷ 3 ∷ [])) ∷ Event.Write 0 (text true Policy.Reliable (4 ∷ []))
-    ∷ Event.Open 0 ∷ Event.Begin 0 0 ∷ Event.Abandon 0 0 ∷ Event.Begin 0 1 ∷ Event.DataComes 1 ∷ Event.Read 0
+    ∷ Event.Open 0 ∷ Event.Begin 0 0 0 ∷ Event.Abandon 0 0 ∷ Event.Begin 0 1 0 ∷ Event.DataComes 1 ∷ Event.Read 0
     ∷ Event.ForwardMade ∷ Event.ForwardComes 0 ∷ Event.Read 0 ∷ []
 
 abbrev pub FirstAbandonedAndSkipped : Type 0
@@ -48,11 +48,11 @@ late_again = Event.ForwardComes 0 ∷ Event.DataComes 0 ∷ Event.DataComes 1 �
 abbrev pub LateForwardChangesNothing : Type 0
 LateForwardChangesNothing = letters_of (run late_again (run first_abandoned (fresh 2))) 0 ≡ said (4 ∷ []) ∷ []
 
--- An unordered message is read though an ordered one before it is missing.
+-- An unordered message is read though an ordered one before it is missing, whatever sequence number its DATA carries.
 abbrev pub unordered_first : List Event
 unordered_first =
     Event.Write 0 (text true Policy.Reliable (1 ∷ [])) ∷ Event.Write 0 (text false Policy.Reliable (2 ∷ 3 ∷ 4 ∷ []))
-    ∷ Event.Begin 0 0 ∷ Event.Begin 0 1 ∷ Event.GoOn ∷ Event.DataComes 2 ∷ Event.DataComes 1 ∷ Event.Read 0 ∷ Event.Read 0 ∷ []
+    ∷ Event.Begin 0 0 0 ∷ Event.Begin 0 1 9 ∷ Event.GoOn ∷ Event.DataComes 2 ∷ Event.DataComes 1 ∷ Event.Read 0 ∷ Event.Read 0 ∷ []
 
 abbrev pub UnorderedIsReadFirst : Type 0
 UnorderedIsReadFirst = letters_of (run unordered_first (fresh 2)) 0 ≡ said (2 ∷ 3 ∷ 4 ∷ []) ∷ []
@@ -78,28 +78,29 @@ SequenceNumbersWrap =
     map letter_read (ready (push (push at_the_end (whole_piece 9 0 (2 ∷ []))) (whole_piece 8 65535 (1 ∷ [])))) ≡ said (1 ∷ []) ∷ said (2 ∷ []) ∷ []
 
 -- Stream 0's first two messages are read. Its first one is abandoned all the same, since no SACK came, and so is stream 1's, which
--- is lost: the FORWARD TSN lies above the point, and skips stream 0 only up to the number 0. It is taken, the cursor stays at 2,
+-- is lost: the FORWARD TSN lies above the point, and skips stream 0 only up to the number 0. It is taken, the cursor stays at 2, and stream 1, of which nothing came, is not skipped,
 abbrev pub late_number : List Event
 late_number =
     Event.Write 0 (text true (Policy.Rexmit 0) (1 ∷ [])) ∷ Event.Write 0 (text true Policy.Reliable (2 ∷ []))
     ∷ Event.Write 0 (text true Policy.Reliable (3 ∷ [])) ∷ Event.Write 1 (text true (Policy.Rexmit 0) (4 ∷ []))
-    ∷ Event.Begin 0 0 ∷ Event.Begin 1 0 ∷ Event.Begin 0 1 ∷ Event.DataComes 0 ∷ Event.Read 0 ∷ Event.DataComes 2 ∷ Event.Read 0
+    ∷ Event.Begin 0 0 0 ∷ Event.Begin 1 0 0 ∷ Event.Begin 0 1 0 ∷ Event.DataComes 0 ∷ Event.Read 0 ∷ Event.DataComes 2 ∷ Event.Read 0
     ∷ Event.Abandon 0 0 ∷ Event.Abandon 1 0 ∷ Event.ForwardMade ∷ Event.ForwardComes 0 ∷ []
 
 -- and the third message is read.
 abbrev pub third_message : List Event
-third_message = Event.Begin 0 2 ∷ Event.DataComes 3 ∷ Event.Read 0 ∷ []
+third_message = Event.Begin 0 2 0 ∷ Event.DataComes 3 ∷ Event.Read 0 ∷ []
 
 abbrev pub LateNumberLeavesTheCursor : Type 0
 LateNumberLeavesTheCursor =
     ((run late_number (fresh 2)).receiver.passed ≡ 2) × (cursor_of (run late_number (fresh 2)) 0 ≡ 2)
+    × ((run late_number (fresh 2)).skipped 0 ≡ 1) × ((run late_number (fresh 2)).skipped 1 ≡ 0)
     × (letters_of (run third_message (run late_number (fresh 2))) 0 ≡ said (1 ∷ []) ∷ said (2 ∷ []) ∷ said (3 ∷ []) ∷ [])
 
 -- Of four bytes in three pieces the first and the last piece come, and two SACKs are made. The later one releases three bytes,
 abbrev pub later_sack : List Event
 later_sack =
     Event.Write 0 (text true Policy.Reliable (1 ∷ 2 ∷ 3 ∷ [])) ∷ Event.Write 0 (text true Policy.Reliable (4 ∷ []))
-    ∷ Event.Begin 0 0 ∷ Event.GoOn ∷ Event.Begin 0 1 ∷ Event.DataComes 0 ∷ Event.SackMade ∷ Event.DataComes 2 ∷ Event.SackMade
+    ∷ Event.Begin 0 0 0 ∷ Event.GoOn ∷ Event.Begin 0 1 0 ∷ Event.DataComes 0 ∷ Event.SackMade ∷ Event.DataComes 2 ∷ Event.SackMade
     ∷ Event.SackComes 1 ∷ []
 
 -- it and the earlier one, late, release nothing more,
@@ -118,7 +119,7 @@ SacksReleaseOnce =
 
 -- The first piece of an unordered message is held; the message is abandoned, and its FORWARD TSN drops that piece.
 abbrev pub unordered_held : List Event
-unordered_held = Event.Write 0 (text false (Policy.Rexmit 0) (1 ∷ 2 ∷ 3 ∷ [])) ∷ Event.Begin 0 0 ∷ Event.DataComes 0 ∷ []
+unordered_held = Event.Write 0 (text false (Policy.Rexmit 0) (1 ∷ 2 ∷ 3 ∷ [])) ∷ Event.Begin 0 0 0 ∷ Event.DataComes 0 ∷ []
 
 abbrev pub unordered_abandoned : List Event
 unordered_abandoned = Event.Abandon 0 0 ∷ Event.ForwardMade ∷ Event.ForwardComes 0 ∷ Event.DataComes 0 ∷ Event.Read 0 ∷ []
@@ -131,7 +132,7 @@ UnorderedIsDropped =
 -- A piece lost on stream 0 does not hold up stream 1,
 abbrev pub one_lost : List Event
 one_lost =
-    Event.Write 0 (text true Policy.Reliable (1 ∷ [])) ∷ Event.Write 1 (text true Policy.Reliable (2 ∷ [])) ∷ Event.Begin 0 0 ∷ Event.Begin 1 0
+    Event.Write 0 (text true Policy.Reliable (1 ∷ [])) ∷ Event.Write 1 (text true Policy.Reliable (2 ∷ [])) ∷ Event.Begin 0 0 0 ∷ Event.Begin 1 0 0
     ∷ Event.DataComes 1 ∷ Event.Read 0 ∷ Event.Read 1 ∷ []
 
 -- and is read once it was sent again.
@@ -147,7 +148,7 @@ StreamsDoNotWait =
 abbrev pub dropped_unsent : List Event
 dropped_unsent =
     Event.Write 0 (text true (Policy.Timed 5) (1 ∷ [])) ∷ Event.Write 0 (text true Policy.Reliable (2 ∷ [])) ∷ Event.Drop 0 0 ∷ Event.PassOver 0
-    ∷ Event.Begin 0 1 ∷ Event.DataComes 0 ∷ Event.Read 0 ∷ []
+    ∷ Event.Begin 0 1 0 ∷ Event.DataComes 0 ∷ Event.Read 0 ∷ []
 
 abbrev pub DroppedUnsent : Type 0
 DroppedUnsent =
@@ -156,7 +157,29 @@ DroppedUnsent =
 
 -- Once the receiver is closed nothing is read.
 abbrev pub closed : List Event
-closed = Event.Write 0 (text true Policy.Reliable (1 ∷ [])) ∷ Event.Begin 0 0 ∷ Event.DataComes 0 ∷ Event.Close ∷ Event.Read 0 ∷ []
+closed = Event.Write 0 (text true Policy.Reliable (1 ∷ [])) ∷ Event.Begin 0 0 0 ∷ Event.DataComes 0 ∷ Event.Close ∷ Event.Read 0 ∷ []
 
 abbrev pub ClosedReadsNothing : Type 0
 ClosedReadsNothing = letters_of (run closed (fresh 2)) 0 ≡ []
+
+-- Stream 0's first message is read. Before its span is over its sequence numbers can't begin again, nor can its queue be replaced.
+abbrev pub too_early : List Event
+too_early =
+    Event.Write 0 (text true Policy.Reliable (1 ∷ [])) ∷ Event.Begin 0 0 0 ∷ Event.DataComes 0 ∷ Event.Read 0 ∷ Event.Restart 0 ∷ Event.Replace 0 None
+    ∷ []
+
+-- Then the span ends, the numbers begin again, and the receiver retires the stream;
+abbrev pub span_over : List Event
+span_over = Event.End 0 ∷ Event.Restart 0 ∷ Event.Replace 0 None ∷ []
+
+-- its application opens it anew, and the second message comes with the number 0 and is read.
+abbrev pub opened_anew : List Event
+opened_anew = Event.Open 0 ∷ Event.Write 0 (text true Policy.Reliable (2 ∷ [])) ∷ Event.Begin 0 1 0 ∷ Event.DataComes 1 ∷ Event.Read 0 ∷ []
+
+abbrev pub StreamBeginsAnew : Type 0
+StreamBeginsAnew =
+    ((run too_early (fresh 2)).sender.ssn 0 ≡ 1) × (cursor_of (run too_early (fresh 2)) 0 ≡ 1)
+    × ((run span_over (run too_early (fresh 2))).over 0 ≡ true) × ((run span_over (run too_early (fresh 2))).sender.ssn 0 ≡ 0)
+    × ((run span_over (run too_early (fresh 2))).receiver.queues 0 ≡ None)
+    × (letters_of (run opened_anew (run span_over (run too_early (fresh 2)))) 0 ≡ said (1 ∷ []) ∷ said (2 ∷ []) ∷ [])
+    × (cursor_of (run opened_anew (run span_over (run too_early (fresh 2)))) 0 ≡ 1)

@@ -7,13 +7,15 @@ use Rattle.sctp_model.specs.Packets.{mem}
 use Rattle.sctp_model.specs.Reassembly.{Got, ready}
 use Rattle.sctp_model.specs.Machine.{Direction, Event, happens, live}
 
--- Piece k of message i of stream s stands on an offset that was taken in.
+-- Piece k of message i of stream s stands on an offset that was taken in. That offset stands for the piece itself and not for an
+-- abandoned tail, so it came with the piece's bytes.
 pub record IsTaken (p : Plan) (taken : List ℕ) (s i k : ℕ) : Type 0 where
   pub offset : ℕ
   pub known : offset < length p.places
   pub stream : (place_at p offset).stream ≡ s
   pub message : (place_at p offset).message ≡ i
   pub piece : (place_at p offset).piece ≡ k
+  pub sent : (place_at p offset).marker ≡ false
   pub taken_in : mem offset taken ≡ true
 
 -- Message i of stream s is whole: it was accepted, and each of its pieces was taken in.

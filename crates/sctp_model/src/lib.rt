@@ -1,8 +1,8 @@
 //! Two ends of an association as definitions, and what is proved over them.
 #![tactic(auto)]
 
-ghost use Rattle.sctp_model.specs.Laws.{EachEventKeepsTheInvariant, OneDirectionIsSafe, TheInvariantHolds, TheInvariantIsEnough, PiecesJoin, PointIsGreatest, SacksAreExact, SequenceNumbersCompare, TsnsAheadSpellOffsets, TsnsBeforeTheInitialSpellNone, TsnsPastTheInitialSpellSome, TsnsSpellOffsets};
-ghost use Rattle.sctp_model.specs.Runs.{ClosedReadsNothing, DroppedUnsent, FirstAbandonedAndSkipped, LateForwardChangesNothing, LateNumberLeavesTheCursor, PiecesOutOfOrder, SacksReleaseOnce, SequenceNumbersWrap, StreamsDoNotWait, UnorderedIsDropped, UnorderedIsReadFirst};
+ghost use Rattle.sctp_model.specs.Laws.{EachEventKeepsTheInvariant, OneDirectionIsSafe, TheInvariantHolds, TheInvariantIsEnough, NoMoreIsReleased, PiecesJoin, PointIsGreatest, SacksAreExact, SequenceNumbersCompare, TheCursorIsPastTheLater, TsnsAheadSpellOffsets, TsnsBeforeTheInitialSpellNone, TsnsPastTheInitialSpellSome, TsnsSpellOffsets};
+ghost use Rattle.sctp_model.specs.Runs.{ClosedReadsNothing, DroppedUnsent, FirstAbandonedAndSkipped, LateForwardChangesNothing, LateNumberLeavesTheCursor, PiecesOutOfOrder, SacksReleaseOnce, SequenceNumbersWrap, StreamBeginsAnew, StreamsDoNotWait, UnorderedIsDropped, UnorderedIsReadFirst};
 
 /// Serial numbers of 32 bits, as long as the offsets that they spell are less than half the range apart (RFC 4960 section 1.6).
 pub fn tsns_spell_offsets()
@@ -41,6 +41,7 @@ pub fn runs_compute()
     ensures streams { StreamsDoNotWait }
     ensures unsent { DroppedUnsent }
     ensures closed { ClosedReadsNothing }
+    ensures anew { StreamBeginsAnew }
 {}
 
 /// One direction of an association over every list of what may happen, for many streams at once: what is read was accepted,
@@ -51,8 +52,11 @@ pub fn one_direction_is_safe()
 {}
 
 /// What carries that theorem, for whoever builds on it: each event keeps the invariant from any direction on that is within the
-/// limits, and the invariant with the limits gives the promise.
+/// limits, and the invariant with the limits gives the promise. It fixes each ordered cursor too, and no more
+/// bytes are released than were accepted.
 pub fn the_invariant_carries()
     ensures kept { EachEventKeepsTheInvariant }
     ensures enough { TheInvariantIsEnough }
+    ensures cursor { TheCursorIsPastTheLater }
+    ensures released { NoMoreIsReleased }
 {}

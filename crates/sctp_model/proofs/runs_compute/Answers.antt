@@ -33,3 +33,6 @@ returns-clause-unsent c = Runs.unsent
 
 pub returns-clause-closed : goal.returns-clause-closed
 returns-clause-closed c = Runs.closed
+
+pub returns-clause-anew : goal.returns-clause-anew
+returns-clause-anew c = Runs.anew

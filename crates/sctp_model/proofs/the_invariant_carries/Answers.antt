@@ -1,3 +1,6 @@
+use Rattle.std.proofs.Common.{◌%◌, ◌≤◌, ap, sym, subst, ◌∙◌}
+use Rattle.sctp_model.specs.Messages.{accepted_bytes}
+use Rattle.sctp_model.proofs.Released.{released_within}
 use Rattle.sctp_model.proofs.Safety.{safe_from}
 use Rattle.sctp_model.proofs.Steps.{happens_keeps}
 use Rattle.sctp_model.proofs.the_invariant_carries.Goals as goal
@@ -7,3 +10,10 @@ returns-clause-kept c = happens_keeps
 
 pub returns-clause-enough : goal.returns-clause-enough
 returns-clause-enough c w l h s v = safe_from w s h l v
+
+pub returns-clause-cursor : goal.returns-clause-cursor
+returns-clause-cursor c w h s v = let o = (h.streams s v).ordered in o.is ∙ ap (λ z. z % 65536) o.latest
+
+pub returns-clause-released : goal.returns-clause-released
+returns-clause-released c w h s = subst (λ z. z ≤ accepted_bytes w.sender.plan s) (sym (h.released s))
+    (released_within w.sender.plan w.over w.sender.acknowledged w.sender.gone s h.planned)
