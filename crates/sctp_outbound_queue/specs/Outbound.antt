@@ -140,8 +140,8 @@ abandoned_from None q = (q, None)
 abandoned_from (Some p) q = (
   all_flagged p.message.message_id (tail_dropped q p.message.message_id).0,
   Some (released p.message (
-  outstanding_of_message p.message.message_id q.in_flight + (tail_dropped q p.message.message_id).1
-  )),
+      outstanding_of_message p.message.message_id q.in_flight + (tail_dropped q p.message.message_id).1
+      )),
 )
 
 -- the message of a TSN in flight is abandoned whole; its bytes that were outstanding or waited are released

@@ -6,7 +6,11 @@ ghost use Rattle.sctp_outbound_queue.specs.Message.{is_outstanding, is_expired_p
 ghost use Rattle.sctp_outbound_queue.specs.Outbound.{empty_outbound, tsn_at, next_tsn_of, waiting_of, outstanding_of, outstanding_of_message, pieces_waiting, with_message, sent_next, after_piece, without_first, changed_at, acked_at, piece_at, all_marked, has_stream, abandoned_in_front_of, tail_dropped, all_flagged, abandoned_at, is_abandoned_piece};
 ghost use Rattle.sctp_outbound_queue.specs.Expiry.{all_started, first_tsn_that, without_expired, after_expiry, after_tail_expiry, is_expired_tail};
 
-use crate::walks::{any_of_message, any_of_stream, any_waiting_of_stream, bytes_of_message, drop_expired, first_expired_piece, first_not_abandoned, first_outstanding, flag_all, mark_each, pieces_of, start_each_sent, start_each_waiting, take_piece};
+use crate::walks::{
+    any_of_message, any_of_stream, any_waiting_of_stream, bytes_of_message, drop_expired,
+    first_expired_piece, first_not_abandoned, first_outstanding, flag_all, mark_each, pieces_of,
+    start_each_sent, start_each_waiting, take_piece,
+};
 use crate::{Attributes, InFlight, PendingMessage};
 use sctp_wire_types::{Instant, StreamId};
 use std::alloc::{AllocError, Global};

@@ -111,14 +111,12 @@ fn first_expired(messages: &VecDeque<PendingMessage>, now: Instant) -> Option<us
     ensures place { result ≡ position (is_expired_unsent now) messages.now.items }
     ensures bound { IfSome result (λ place. place < length messages.now.items) }
 {
-    messages.iter().position(|message| message.is_expired_unsent(now))
+    messages
+        .iter()
+        .position(|message| message.is_expired_unsent(now))
 }
 
-fn move_down_from(
-    messages: &mut VecDeque<PendingMessage>,
-    place: usize,
-    dropped: &PendingMessage,
-)
+fn move_down_from(messages: &mut VecDeque<PendingMessage>, place: usize, dropped: &PendingMessage)
     requires { place ≤ length messages.old.items }
     ensures { messages.new.items ≡ take place messages.old.items ++ map (moved_down dropped.now.message) (drop place messages.old.items) }
 {

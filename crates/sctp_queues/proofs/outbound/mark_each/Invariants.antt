@@ -1,7 +1,0 @@
-use Rattle.std.proofs.Common.{◌≡◌, ◌++◌, map, take, drop}
-use Rattle.sctp_queues.specs.Outbound.{marked_again}
-use Rattle.sctp_queues.proofs.outbound.mark_each.Given as goal
-
-abbrev pub invariant-loop-piece : goal.invariant-loop-piece
-invariant-loop-piece l =
-    l.pieces ≡ map marked_again (take l.piece-index l.fn.pieces) ++ drop l.piece-index l.fn.pieces
