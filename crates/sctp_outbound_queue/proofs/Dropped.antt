@@ -1,7 +1,7 @@
 -- The first expired message of which nothing was sent.
-use Rattle.std.proofs.Common.{◌≡◌, ℕ, zero, suc, ◌+◌, ◌<◌, ◌≤◌, Bool, true, false, not, nat_lt, List, [], ◌∷◌, ◌++◌, Option, Some, None, length, map, take, drop, slice_index_or, refl, ap, sym, ◌∙◌, ⊎_elim, arith, rules}
-use Rattle.std.specs.Prelude.{find, position, sum_by, remove}
-use Rattle.std.specs.List.{prefix_len, position_or_len}
+use Rattle.std.proofs.Common.{◌≡◌, ℕ, zero, suc, ◌+◌, ◌<◌, Bool, true, false, not, nat_lt, List, [], ◌∷◌, ◌++◌, Some, None, length, map, take, drop, slice_index_or, refl, ap, sym, ⊎_elim, arith}
+use Rattle.std.specs.Prelude.{find, position, remove}
+use Rattle.std.specs.List.{position_or_len}
 use Rattle.std.proofs.lemmas.List.Sums.{sum_by-cons, prefix_len-le-length}
 use Rattle.std.proofs.lemmas.Bool.{cases_Bool}
 use Rattle.std.proofs.lemmas.Bool.Decides.{nat_tests}

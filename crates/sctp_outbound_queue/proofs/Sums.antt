@@ -1,18 +1,17 @@
 -- Sums over what waits and what is in flight.
-use Rattle.std.proofs.Common.{◌≡◌, ℕ, zero, suc, ◌+◌, ◌-◌, ◌^◌, ◌<◌, ◌≤◌, ◌==◌, Bool, true, false, not, ◌&&◌, if◌then◌else◌, List, [], ◌∷◌, ◌++◌, Option, Some, None, length, map, min, fold, drop, slice_get, slice_index_or, refl, ap, sym, ◌∙◌, ⊎_elim, arith, rules}
+use Rattle.std.proofs.Common.{◌≡◌, ℕ, suc, ◌+◌, ◌-◌, ◌^◌, ◌<◌, ◌≤◌, ◌==◌, true, false, List, [], ◌∷◌, ◌++◌, Some, None, length, map, min, fold, drop, slice_get, slice_index_or, refl, ap, sym, ◌∙◌, ⊎_elim, arith}
 use Rattle.std.specs.Prelude.{sum_by, find}
 use Rattle.sctp_wire_types.specs.Serial.{tsn_past}
 use Rattle.sctp_outbound_queue.proofs.Dropped.{without_none, without_bytes}
 use Rattle.std.specs.Option.{option_map}
-use Rattle.std.proofs.lemmas.List.Sums.{sum_by-cons, sum_by_push, sum_by-append, prefix_len-le-length}
+use Rattle.std.proofs.lemmas.List.Sums.{sum_by-cons, sum_by_push}
 use Rattle.std.proofs.lemmas.Bool.{cases_Bool}
 use Rattle.std.proofs.lemmas.Bool.Decides.{nat_tests}
 use Rattle.sctp_outbound_queue.specs.declared.message.InFlight.{InFlight}
 use Rattle.sctp_outbound_queue.specs.Waiting.{Waiting}
-use Rattle.sctp_outbound_queue.specs.Message.{message_bytes, is_expired_unsent, without_piece, sent_once, marker_of, is_of, outstanding_bytes, outstanding_bytes_of, flagged}
-use Rattle.sctp_outbound_queue.specs.declared.message.Attributes.{Attributes}
-use Rattle.sctp_outbound_queue.specs.Expiry.{without_expired, expired_in, after_expiry}
-use Rattle.sctp_outbound_queue.specs.Outbound.{piece_at, abandoned_at, all_flagged, released, Outbound, AreKept, waiting_of, outstanding_of, outstanding_of_message, left_behind, after_piece, tail_dropped, tail_dropped_from}
+use Rattle.sctp_outbound_queue.specs.Message.{message_bytes, is_expired_unsent, without_piece, sent_once, is_of, outstanding_bytes, outstanding_bytes_of, flagged}
+use Rattle.sctp_outbound_queue.specs.Expiry.{without_expired, after_expiry}
+use Rattle.sctp_outbound_queue.specs.Outbound.{abandoned_at, all_flagged, released, Outbound, AreKept, waiting_of, outstanding_of, outstanding_of_message, left_behind, after_piece, tail_dropped, tail_dropped_from}
 
 -- a sum that stops at a greatest number
 pub fold_saturates : {X : Type 0} (f : X → ℕ) (most a : ℕ) (xs : List X) → a ≤ most → fold (λ s x. min (s + f x) most) a xs ≡ min (a + sum_by f xs) most

@@ -38,17 +38,17 @@ fn three_pieces(alloc: Global, policy: Policy) -> Result<PendingMessage, AllocEr
     Ok(long)
 }
 
-fn two_sent(alloc: Global) -> Result<OutboundQueue, AllocError> {
+fn two_sent(alloc: Global, now: Instant) -> Result<OutboundQueue, AllocError> {
     let mut queue = OutboundQueue::new(alloc, u32::MAX);
     queue.push(three_pieces(alloc, Policy::Reliable)?)?;
-    queue.send_next(Instant::from_millis(5))?;
-    queue.send_next(Instant::from_millis(5))?;
+    queue.send_next(now)?;
+    queue.send_next(now)?;
     Ok(queue)
 }
 
 #[test]
 fn pieces_have_consecutive_numbers(rt: HostRuntime) -> Result<(), Fail> {
-    let queue = two_sent(rt.alloc())?;
+    let queue = two_sent(rt.alloc(), Instant::from_millis(5))?;
     assert_eq!(rt; (queue.first_tsn(), queue.next_tsn()), (u32::MAX, 1));
     assert_eq!(rt; (queue.pending_len(), queue.pending_bytes()), (1, 2));
     let second = queue.get(1).expect(&rt, "a piece");
@@ -61,7 +61,7 @@ fn pieces_have_consecutive_numbers(rt: HostRuntime) -> Result<(), Fail> {
 
 #[test]
 fn an_acknowledgement_counts_once(rt: HostRuntime) -> Result<(), Fail> {
-    let mut queue = two_sent(rt.alloc())?;
+    let mut queue = two_sent(rt.alloc(), Instant::from_millis(5))?;
     let first = queue.mark_as_acked(0);
     let again = queue.mark_as_acked(0);
     assert_eq!(rt; (first, again, queue.inflight_bytes()), (2, 0, 2));
@@ -71,7 +71,7 @@ fn an_acknowledgement_counts_once(rt: HostRuntime) -> Result<(), Fail> {
 
 #[test]
 fn a_message_is_abandoned_whole(rt: HostRuntime) -> Result<(), Fail> {
-    let mut queue = two_sent(rt.alloc())?;
+    let mut queue = two_sent(rt.alloc(), Instant::from_millis(5))?;
     queue.mark_as_acked(0);
     let released = queue.abandon(u32::MAX)?.expect(&rt, "a message");
     assert_eq!(rt;

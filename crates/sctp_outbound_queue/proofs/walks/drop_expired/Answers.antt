@@ -1,4 +1,4 @@
-use Rattle.std.proofs.Common.{sym, ap, ◌∙◌}
+use Rattle.std.proofs.Common.{sym, ◌∙◌}
 use Rattle.sctp_outbound_queue.specs.Message.{is_expired_unsent}
 use Rattle.sctp_outbound_queue.proofs.Dropped.{found_at, not_found, without_none, dropped_at, found_there, none_there}
 use Rattle.sctp_outbound_queue.proofs.walks.drop_expired.Goals as goal

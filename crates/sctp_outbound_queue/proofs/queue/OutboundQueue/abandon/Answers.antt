@@ -1,5 +1,5 @@
 use Rattle.std.proofs.Common.{arith, ap, ℕ}
-use Rattle.sctp_outbound_queue.specs.Outbound.{Outbound, AreKept, tail_dropped}
+use Rattle.sctp_outbound_queue.specs.Outbound.{Outbound, AreKept}
 use Rattle.sctp_outbound_queue.proofs.Sums.{released_bound, abandoned_is}
 use Rattle.sctp_outbound_queue.proofs.queue.OutboundQueue.abandon.Goals as goal
 

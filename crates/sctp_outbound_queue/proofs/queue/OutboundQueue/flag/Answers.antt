@@ -1,4 +1,4 @@
-use Rattle.std.proofs.Common.{arith, ◌∙◌}
+use Rattle.std.proofs.Common.{arith}
 use Rattle.sctp_outbound_queue.proofs.Sums.{flagged_sum, kept_flagged}
 use Rattle.sctp_outbound_queue.proofs.queue.OutboundQueue.flag.Goals as goal
 
