@@ -11,9 +11,10 @@ use Rattle.sctp_parts.specs.Timers.{Timers, least_moment, after_expiry, expiry_o
 use Rattle.sctp_parts.specs.Stats.{one_more}
 use Rattle.sctp_queues.specs.declared.event.AssociationError.{AssociationError}
 use Rattle.sctp_queues.specs.declared.event.Event.TheVariants.{AssociationLost, DataChannelStatsFinal}
-use Rattle.sctp_queues.specs.declared.outbound.Fragment.{Fragment}
+use Rattle.sctp_outbound_queue.specs.declared.message.Policy.TheVariants.{Reliable}
+use Rattle.sctp_outbound_queue.specs.Waiting.{Waiting}
+use Rattle.sctp_outbound_queue.specs.Outbound.{all_marked, with_message}
 use Rattle.sctp_queues.specs.Message.{Message}
-use Rattle.sctp_queues.specs.Outbound.{all_marked}
 use Rattle.sctp_queues.specs.Stream.{Stream, accepted_by}
 use Rattle.sctp_queues.specs.Streams.{StreamMap, stream_at, generation_left, changed_stream, made, read_in, last_stats, without_streams}
 use Rattle.sctp_inbound.specs.Receiver.{acknowledged_at_once}
@@ -145,23 +146,29 @@ abbrev pub write_refusal : Shown → ℕ → ℕ → Option Error
 write_refusal a id size =
     if a.failed then Some errors.ErrAssociationFailed else write_refusal_at a (stream_at a.streams id) size
 
-abbrev pub fragment_of : Stream → ℕ → List ℕ → Fragment
-fragment_of s id bytes = record {
-  stream_identifier = id;
-  generation = s.stats.generation;
-  stream_sequence_number = s.next_ssn;
-  payload_type = s.default_payload_type;
+-- a message as it is written on a stream: ordered, reliable and of one piece
+abbrev pub message_of : Stream → ℕ → List ℕ → Waiting
+message_of s id bytes = record {
+  message = record {
+    message_id = 0;
+    stream_identifier = id;
+    generation = s.stats.generation;
+    unordered = false;
+    stream_sequence_number = s.next_ssn;
+    payload_type = s.default_payload_type;
+    policy = Reliable;
+    deadline = None;
+  };
+  begun = false;
   user_data = bytes;
+  rest = [];
 }
 
 abbrev pub written_at : Option Stream → Shown → ℕ → List ℕ → Shown
 written_at None a id bytes = a
 written_at (Some s) a id bytes = record a {
   streams = changed_stream (λ t. accepted_by t s.default_payload_type (length bytes)) a.streams id;
-  sender = (let t = a.sender in record t {
-    queue =
-        (let q = t.queue in record q { pending = q.pending ++ fragment_of s id bytes ∷ [] });
-  });
+  sender = (let t = a.sender in record t { queue = with_message t.queue (message_of s id bytes) });
 }
 
 -- a message was accepted on a live stream

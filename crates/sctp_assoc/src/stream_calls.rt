@@ -4,10 +4,12 @@ ghost use Rattle.sctp_assoc.specs.Calls.{Refuses, RefusesOrLacksMemory, write_re
 
 use crate::Association;
 use bytes::Bytes;
+use sctp_outbound_queue::{Attributes, PendingMessage, Policy};
 use sctp_parts::state::AssociationState;
-use sctp_queues::{Chunks, Fragment};
+use sctp_queues::Chunks;
 use sctp_wire_types::{Error, StreamId};
 use std::alloc::AllocError;
+use std::collections::VecDeque;
 
 impl Association {
     pub(crate) fn read_stream(&mut self, id: StreamId) -> Result<Option<Chunks>, Error>
@@ -68,14 +70,22 @@ impl Association {
         if stream.buffered_amount() > u64::MAX - size {
             return Err(AllocError);
         }
-        let fragment = Fragment {
-            stream_identifier: id,
-            generation: stream.stats().generation,
-            stream_sequence_number: stream.next_ssn(),
-            payload_type,
+        let message = PendingMessage {
+            message: Attributes {
+                message_id: 0,
+                stream_identifier: id,
+                generation: stream.stats().generation,
+                unordered: false,
+                stream_sequence_number: stream.next_ssn(),
+                payload_type,
+                policy: Policy::Reliable,
+                deadline: None,
+            },
+            begun: false,
             user_data: Bytes::copy_from_slice(self.alloc, bytes)?,
+            rest: VecDeque::new(self.alloc),
         };
-        self.sender.queue.push(fragment)?;
+        self.sender.queue.push(message)?;
         self.streams.accept(id, payload_type, size);
         Ok(())
     }

@@ -1,16 +1,19 @@
 use Rattle.std.proofs.Common.{◌≡◌, ℕ, zero, suc, ◌+◌, ◌-◌, ◌<◌, ◌≤◌, Bool, true, false, not, nat_lt, List, [], ◌∷◌, ◌++◌, Option, Some, None, length, take, drop, set, slice_get, refl, ap, sym, ◌∙◌, ◌⊎◌, ⊎_elim, append_assoc, arith, rules}
-use Rattle.std.proofs.lemmas.List.{take_more, take_more_set, take_all, drop_more, drop_all, drop-set-lt, take-append-drop, append-nil, length-set}
+use Rattle.std.proofs.lemmas.List.{take_more, take_more_set, take_all, drop_more, drop_all, drop-set-lt, length-drop, take-append-drop, append-nil, length-set}
 use Rattle.std.proofs.lemmas.Option.{get_or_from_slice_get, slice_get_within, slice_get-get_or}
 use Rattle.std.proofs.lemmas.Bool.{cases_Bool}
 use Rattle.std.proofs.lemmas.Bool.Decides.{nat_tests}
 use Rattle.sctp_wire_types.specs.declared.chunk.ChunkPayloadData.{ChunkPayloadData}
 use Rattle.sctp_parts.specs.Estimate.{Estimate}
-use Rattle.sctp_queues.specs.declared.outbound.Fragment.{Fragment}
-use Rattle.sctp_queues.specs.declared.outbound.InFlight.{InFlight}
-use Rattle.sctp_queues.specs.Outbound.{counted_again}
+use Rattle.std.specs.Prelude.{sum_by, ◌==◌}
+use Rattle.std.proofs.lemmas.List.Sums.{sum_by-cons}
+use Rattle.sctp_outbound_queue.specs.declared.message.InFlight.{InFlight}
+use Rattle.sctp_outbound_queue.specs.Waiting.{Waiting}
+use Rattle.sctp_outbound_queue.specs.Message.{counted_again, piece_count, without_piece}
+use Rattle.sctp_outbound_queue.specs.Outbound.{tsn_at, pieces_waiting, left_behind, after_piece}
 use Rattle.sctp_queues.specs.Streams.{StreamMap}
 use Rattle.sctp_outbound.specs.declared.sender.Sender.{Sender}
-use Rattle.sctp_outbound.specs.Sender.{after_first, acknowledged, with_in_flight, resent_pieces, resent_chunks, tried_again, chunk_of, tsn_at_place, fits_windows, sent_one, sent_within}
+use Rattle.sctp_outbound.specs.Sender.{after_first, acknowledged, with_in_flight, resent_pieces, resent_chunks, tried_again, chunk_of, fits_windows, can_send_next, sent_one, sent_within}
 
 pub acknowledge_more : (n i now : ℕ) (all : Sender × Estimate × StreamMap) → i < n → acknowledged (n - (i + 1)) now (after_first now all) ≡ acknowledged (n - i) now all
 acknowledge_more n i now all below =
@@ -24,17 +27,38 @@ acknowledge_end n i now all above =
 
 -- pieces that wait
 
-pub within_more : (fs : List Fragment) (s : Sender) (out : List ChunkPayloadData) (now : ℕ) → fits_windows s (slice_get fs 0) ≡ true → sent_within (drop 1 fs) (sent_one fs s out now).0 (sent_one fs s out now).1 now ≡ sent_within fs s out now
-within_more [] s out now fits = cc
-within_more (f ∷ fs) s out now fits = rw fits
+false_from_true : false ≡ true → ⊥
+false_from_true e = cc
 
-pub within_shorter : (fs : List Fragment) (s : Sender) → fits_windows s (slice_get fs 0) ≡ true → length (drop 1 fs) < length fs
-within_shorter [] s fits = absurd (cc)
-within_shorter (f ∷ fs) s fits = omega arith
+left_pieces : (m : Waiting) (ms : List Waiting) → pieces_waiting (m ∷ ms) ≡ suc (pieces_waiting (left_behind m ms))
+left_pieces m ms =
+    let all = sum_by-cons piece_count m ms in
+    ⊎_elim (
+    λ (none : (length m.rest == 0) ≡ true).
+    rw none (grind (arith, nat_tests, all, none))
+    ) (
+    λ (more : (length m.rest == 0) ≡ false).
+    let left = sum_by-cons piece_count (without_piece m) ms in
+    let rest = length-drop 1 m.rest in
+    rw more (grind (arith, nat_tests, all, left, rest, more))
+    ) (cases_Bool (length m.rest == 0))
 
-pub within_end : (fs : List Fragment) (s : Sender) (out : List ChunkPayloadData) (now : ℕ) → fits_windows s (slice_get fs 0) ≡ false → sent_within fs s out now ≡ (s, out)
-within_end [] s out now full = refl
-within_end (f ∷ fs) s out now full = rw full
+pub one_piece_less : (s : Sender) (ms : List Waiting) → fits_windows s (slice_get ms 0) ≡ true → pieces_waiting ms ≡ suc (pieces_waiting (after_piece ms))
+one_piece_less s [] fits = absurd (false_from_true fits)
+one_piece_less s (m ∷ ms) fits = left_pieces m ms
+
+within_one : (n k : ℕ) (s s2 : Sender) (out out2 : List ChunkPayloadData) (now : ℕ) → n ≡ suc k → can_send_next s ≡ true → sent_one s.queue.pending s out now ≡ (s2, out2) → sent_within k s2 out2 now ≡ sent_within n s out now
+within_one n k s s2 out out2 now less fits sent =
+    rw (less, fits) (ap (λ (z : Sender × List ChunkPayloadData). sent_within k z.0 z.1 now) (sym sent))
+
+pub within_step : (s s2 : Sender) (out out2 : List ChunkPayloadData) (now : ℕ) → can_send_next s ≡ true → sent_one s.queue.pending s out now ≡ (s2, out2) → s2.queue.pending ≡ after_piece s.queue.pending → sent_within (pieces_waiting s2.queue.pending) s2 out2 now ≡ sent_within (pieces_waiting s.queue.pending) s out now
+within_step s s2 out out2 now fits sent left =
+    within_one (pieces_waiting s.queue.pending) (pieces_waiting s2.queue.pending) s s2 out out2 now
+    (one_piece_less s s.queue.pending fits ∙ ap (λ ms. suc (pieces_waiting ms)) (sym left)) fits sent
+
+pub within_end : (n : ℕ) (s : Sender) (out : List ChunkPayloadData) (now : ℕ) → can_send_next s ≡ false → sent_within n s out now ≡ (s, out)
+within_end zero s out now full = refl
+within_end (suc n) s out now full = rw full
 
 -- pieces in flight
 
@@ -51,19 +75,19 @@ take_get xs i p e =
 pieces_skip : (p : InFlight) (ps : List InFlight) (room : ℕ) → p.retransmit ≡ false → resent_pieces room (p ∷ ps) ≡ p ∷ resent_pieces room ps
 pieces_skip p ps room unmarked = rw unmarked
 
-pieces_full : (p : InFlight) (ps : List InFlight) (room : ℕ) → p.retransmit ≡ true → nat_lt room (length p.fragment.user_data) ≡ true → resent_pieces room (p ∷ ps) ≡ p ∷ ps
+pieces_full : (p : InFlight) (ps : List InFlight) (room : ℕ) → p.retransmit ≡ true → nat_lt room (length p.user_data) ≡ true → resent_pieces room (p ∷ ps) ≡ p ∷ ps
 pieces_full p ps room marked full = rw (marked, full)
 
-pieces_sent : (p : InFlight) (ps : List InFlight) (room : ℕ) → p.retransmit ≡ true → nat_lt room (length p.fragment.user_data) ≡ false → resent_pieces room (p ∷ ps) ≡ counted_again p ∷ resent_pieces (room - length p.fragment.user_data) ps
+pieces_sent : (p : InFlight) (ps : List InFlight) (room : ℕ) → p.retransmit ≡ true → nat_lt room (length p.user_data) ≡ false → resent_pieces room (p ∷ ps) ≡ counted_again p ∷ resent_pieces (room - length p.user_data) ps
 pieces_sent p ps room marked fits = rw (marked, fits)
 
 chunks_skip : (p : InFlight) (ps : List InFlight) (first place room : ℕ) → p.retransmit ≡ false → resent_chunks first place room (p ∷ ps) ≡ resent_chunks first (place + 1) room ps
 chunks_skip p ps first place room unmarked = rw unmarked
 
-chunks_full : (p : InFlight) (ps : List InFlight) (first place room : ℕ) → p.retransmit ≡ true → nat_lt room (length p.fragment.user_data) ≡ true → resent_chunks first place room (p ∷ ps) ≡ []
+chunks_full : (p : InFlight) (ps : List InFlight) (first place room : ℕ) → p.retransmit ≡ true → nat_lt room (length p.user_data) ≡ true → resent_chunks first place room (p ∷ ps) ≡ []
 chunks_full p ps first place room marked full = rw (marked, full)
 
-chunks_sent : (p : InFlight) (ps : List InFlight) (first place room : ℕ) → p.retransmit ≡ true → nat_lt room (length p.fragment.user_data) ≡ false → resent_chunks first place room (p ∷ ps) ≡ chunk_of p.fragment (tsn_at_place first place) ∷ resent_chunks first (place + 1) (room - length p.fragment.user_data) ps
+chunks_sent : (p : InFlight) (ps : List InFlight) (first place room : ℕ) → p.retransmit ≡ true → nat_lt room (length p.user_data) ≡ false → resent_chunks first place room (p ∷ ps) ≡ chunk_of p (tsn_at first place) ∷ resent_chunks first (place + 1) (room - length p.user_data) ps
 chunks_sent p ps first place room marked fits = rw (marked, fits)
 
 one_more : {A : Type 0} → (a b w r : List A) (q : A) → b ≡ a ++ q ∷ [] → w ≡ q ∷ r → b ++ r ≡ a ++ w
@@ -72,10 +96,10 @@ one_more a b w r q e f = rw (e, f, append_assoc)
 tried_skip : (p : InFlight) (s : Sender) (place left : ℕ) (out : List ChunkPayloadData) → p.retransmit ≡ false → tried_again (Some p) s place left out ≡ (s, out, Some left)
 tried_skip p s place left out unmarked = rw unmarked
 
-tried_full : (p : InFlight) (s : Sender) (place left : ℕ) (out : List ChunkPayloadData) → p.retransmit ≡ true → nat_lt left (length p.fragment.user_data) ≡ true → tried_again (Some p) s place left out ≡ (s, out, None)
+tried_full : (p : InFlight) (s : Sender) (place left : ℕ) (out : List ChunkPayloadData) → p.retransmit ≡ true → nat_lt left (length p.user_data) ≡ true → tried_again (Some p) s place left out ≡ (s, out, None)
 tried_full p s place left out marked full = rw (marked, full)
 
-tried_sent : (p : InFlight) (s : Sender) (place left : ℕ) (out : List ChunkPayloadData) → p.retransmit ≡ true → nat_lt left (length p.fragment.user_data) ≡ false → tried_again (Some p) s place left out ≡ (with_in_flight s (set s.queue.in_flight place (counted_again p)), out ++ chunk_of p.fragment (tsn_at_place s.queue.first_tsn place) ∷ [], Some (left - length p.fragment.user_data))
+tried_sent : (p : InFlight) (s : Sender) (place left : ℕ) (out : List ChunkPayloadData) → p.retransmit ≡ true → nat_lt left (length p.user_data) ≡ false → tried_again (Some p) s place left out ≡ (with_in_flight s (set s.queue.in_flight place (counted_again p)), out ++ chunk_of p (tsn_at s.queue.first_tsn place) ∷ [], Some (left - length p.user_data))
 tried_sent p s place left out marked fits = rw (marked, fits)
 
 -- once the piece at a place is dealt with, the rest is resent as it was to be before
@@ -100,13 +124,13 @@ skipped p s place left out here unmarked =
           chunks_skip p ds s.queue.first_tsn place left unmarked));
     }
 
-sent_again_at : (p : InFlight) (s : Sender) (place left : ℕ) (out : List ChunkPayloadData) → slice_get s.queue.in_flight place ≡ Some p → p.retransmit ≡ true → nat_lt left (length p.fragment.user_data) ≡ false → Stepped s (with_in_flight s (set s.queue.in_flight place (counted_again p))) place left (left - length p.fragment.user_data) out (out ++ chunk_of p.fragment (tsn_at_place s.queue.first_tsn place) ∷ [])
+sent_again_at : (p : InFlight) (s : Sender) (place left : ℕ) (out : List ChunkPayloadData) → slice_get s.queue.in_flight place ≡ Some p → p.retransmit ≡ true → nat_lt left (length p.user_data) ≡ false → Stepped s (with_in_flight s (set s.queue.in_flight place (counted_again p))) place left (left - length p.user_data) out (out ++ chunk_of p (tsn_at s.queue.first_tsn place) ∷ [])
 sent_again_at p s place left out here marked fits =
     let xs = s.queue.in_flight in
     let first = s.queue.first_tsn in
     let q = counted_again p in
-    let left2 = left - length p.fragment.user_data in
-    let chunk = chunk_of p.fragment (tsn_at_place first place) in
+    let left2 = left - length p.user_data in
+    let chunk = chunk_of p (tsn_at first place) in
     let ys = set s.queue.in_flight place q in
     let below = slice_get_within s.queue.in_flight place p here in
     let same : drop (place + 1) ys ≡ drop (place + 1) xs = drop-set-lt (place + 1) xs place q (omega arith) in
@@ -146,12 +170,12 @@ step_of None s s2 place left left2 out out2 here e = absurd (none_or_some s s2 o
 step_of (Some p) s s2 place left left2 out out2 here e =
     ⊎_elim (
     λ (marked : p.retransmit ≡ true). ⊎_elim (
-    λ (full : nat_lt left (length p.fragment.user_data) ≡ true). absurd (none_or_some s s2 out out2 left2 (sym (tried_full p s place left out marked full) ∙ e))
+    λ (full : nat_lt left (length p.user_data) ≡ true). absurd (none_or_some s s2 out out2 left2 (sym (tried_full p s place left out marked full) ∙ e))
     ) (
-    λ (fits : nat_lt left (length p.fragment.user_data) ≡ false).
+    λ (fits : nat_lt left (length p.user_data) ≡ false).
     moved_to s s2 _ place left left2 _ out out2 _ (sym (tried_sent p s place left out marked fits) ∙ e)
     (sent_again_at p s place left out here marked fits)
-    ) (cases_Bool (nat_lt left (length p.fragment.user_data)))
+    ) (cases_Bool (nat_lt left (length p.user_data)))
     ) (
     λ (unmarked : p.retransmit ≡ false).
     moved_to s s2 s place left left2 left out out2 out (sym (tried_skip p s place left out unmarked) ∙ e)
@@ -180,7 +204,7 @@ past_end s place left out past =
       chunks = rw none;
     }
 
-does_not_fit : (p : InFlight) (s : Sender) (place left : ℕ) (out : List ChunkPayloadData) → slice_get s.queue.in_flight place ≡ Some p → p.retransmit ≡ true → nat_lt left (length p.fragment.user_data) ≡ true → Stopped s s place left out out
+does_not_fit : (p : InFlight) (s : Sender) (place left : ℕ) (out : List ChunkPayloadData) → slice_get s.queue.in_flight place ≡ Some p → p.retransmit ≡ true → nat_lt left (length p.user_data) ≡ true → Stopped s s place left out out
 does_not_fit p s place left out here marked full =
     let xs = s.queue.in_flight in
     let ds = drop (place + 1) s.queue.in_flight in
@@ -207,12 +231,12 @@ stop_of None s s2 place left out out2 here e =
 stop_of (Some p) s s2 place left out out2 here e =
     ⊎_elim (
     λ (marked : p.retransmit ≡ true). ⊎_elim (
-    λ (full : nat_lt left (length p.fragment.user_data) ≡ true).
+    λ (full : nat_lt left (length p.user_data) ≡ true).
     stopped_to s s2 s place left out out2 out None (sym (tried_full p s place left out marked full) ∙ e)
     (does_not_fit p s place left out here marked full)
     ) (
-    λ (fits : nat_lt left (length p.fragment.user_data) ≡ false). absurd (none_or_some s2 _ out2 _ _ (sym e ∙ tried_sent p s place left out marked fits))
-    ) (cases_Bool (nat_lt left (length p.fragment.user_data)))
+    λ (fits : nat_lt left (length p.user_data) ≡ false). absurd (none_or_some s2 _ out2 _ _ (sym e ∙ tried_sent p s place left out marked fits))
+    ) (cases_Bool (nat_lt left (length p.user_data)))
     ) (
     λ (unmarked : p.retransmit ≡ false). absurd (none_or_some s2 s out2 out left (sym e ∙ tried_skip p s place left out unmarked))
     ) (cases_Bool p.retransmit)

@@ -5,9 +5,11 @@ use Rattle.sctp_wire_types.specs.declared.chunk.ChunkPayloadData.{ChunkPayloadDa
 use Rattle.sctp_parts.specs.declared.timer.Timer.TheVariants as names
 use Rattle.sctp_parts.specs.Timers.{Timers, with_moment, without_retries, restarted_if_stale, with_stopped}
 use Rattle.sctp_parts.specs.Estimate.{Estimate, measured}
-use Rattle.sctp_queues.specs.declared.outbound.Fragment.{Fragment}
-use Rattle.sctp_queues.specs.declared.outbound.InFlight.{InFlight}
-use Rattle.sctp_queues.specs.Outbound.{Outbound, empty_outbound, next_tsn_of, outstanding_of, without_first, counted_again, sent_next}
+use Rattle.sctp_outbound_queue.specs.declared.message.Attributes.{Attributes}
+use Rattle.sctp_outbound_queue.specs.declared.message.InFlight.{InFlight}
+use Rattle.sctp_outbound_queue.specs.Waiting.{Waiting}
+use Rattle.sctp_outbound_queue.specs.Message.{is_outstanding, outstanding_bytes, counted_again}
+use Rattle.sctp_outbound_queue.specs.Outbound.{Outbound, empty_outbound, tsn_at, next_tsn_of, outstanding_of, without_first, pieces_waiting, sent_next}
 use Rattle.sctp_queues.specs.Streams.{StreamMap, released_in}
 use Rattle.sctp_outbound.specs.declared.sender.Sender.{Sender}
 use Rattle.sctp_outbound.specs.declared.sender.SackOutcome.{SackOutcome}
@@ -48,9 +50,10 @@ acked_point_of s = (s.queue.first_tsn + 2 ^ 32 - 1) % 2 ^ 32
 abbrev pub points_to : Sender → ℕ → ℕ
 points_to s point = tsn_past (acked_point_of s) point
 
--- a piece gives a measurement: it was sent once, and its TSN is not below the one from which on times are measured
+-- a piece gives a measurement: it is outstanding, was sent once, and its TSN is not below the one from which on times are
+-- measured
 abbrev pub is_measured : Sender → ℕ → InFlight → Bool
-is_measured s tsn p = (p.sent_count == 1) && tsn_gte tsn s.min_tsn2measure_rtt
+is_measured s tsn p = is_outstanding p && (p.sent_count == 1) && tsn_gte tsn s.min_tsn2measure_rtt
 
 abbrev pub sender_after : Option InFlight → Sender → Sender
 sender_after None s = s
@@ -74,7 +77,7 @@ estimate_after_first s now e = estimate_after (slice_get s.queue.in_flight 0) s 
 abbrev pub streams_after : Option InFlight → StreamMap → StreamMap
 streams_after None m = m
 streams_after (Some p) m =
-    released_in m p.fragment.stream_identifier p.fragment.generation (length p.fragment.user_data)
+    released_in m p.message.stream_identifier p.message.generation (outstanding_bytes p)
 
 -- the streams once the first piece in flight is acknowledged
 abbrev pub streams_after_first : Sender → StreamMap → StreamMap
@@ -110,23 +113,27 @@ t3_after_sack moved left now rto t =
     if nat_lt 0 left then restarted_if_stale names.T3RTX now rto (t3_cleared moved t) else
     if moved then with_stopped names.T3RTX t else t
 
--- a message that is one piece, as DATA (RFC 4960 section 3.3.1)
-abbrev pub chunk_of : Fragment → ℕ → ChunkPayloadData
-chunk_of f tsn = record {
-  unordered = false;
-  beginning_fragment = true;
-  ending_fragment = true;
+-- a piece of a message, as DATA (RFC 4960 section 3.3.1)
+abbrev pub data_of : Attributes → Bool → Bool → List ℕ → ℕ → ChunkPayloadData
+data_of a begins ends bytes tsn = record {
+  unordered = a.unordered;
+  beginning_fragment = begins;
+  ending_fragment = ends;
   immediate_sack = false;
   tsn = tsn;
-  stream_identifier = f.stream_identifier;
-  stream_sequence_number = f.stream_sequence_number;
-  payload_type = f.payload_type;
-  user_data = f.user_data;
+  stream_identifier = a.stream_identifier;
+  stream_sequence_number = a.stream_sequence_number;
+  payload_type = a.payload_type;
+  user_data = bytes;
 }
 
--- the TSN that is so many past the first one in flight
-abbrev pub tsn_at_place : ℕ → ℕ → ℕ
-tsn_at_place first place = (first + place % 2 ^ 32) % 2 ^ 32
+-- a piece in flight
+abbrev pub chunk_of : InFlight → ℕ → ChunkPayloadData
+chunk_of p tsn = data_of p.message p.beginning_fragment p.ending_fragment p.user_data tsn
+
+-- the next piece of a message that waits
+abbrev pub next_chunk_of : Waiting → ℕ → ChunkPayloadData
+next_chunk_of m tsn = data_of m.message (not m.begun) (length m.rest == 0) m.user_data tsn
 
 abbrev pub with_in_flight : Sender → List InFlight → Sender
 with_in_flight s pieces = record s { queue = (let q = s.queue in record q { in_flight = pieces }) }
@@ -137,33 +144,33 @@ abbrev pub resent_chunks : ℕ → ℕ → ℕ → List InFlight → List ChunkP
 resent_chunks first place room [] = []
 resent_chunks first place room (p ∷ ps) =
     if not p.retransmit then resent_chunks first (place + 1) room ps else
-    if nat_lt room (length p.fragment.user_data) then [] else
-    chunk_of p.fragment (tsn_at_place first place) ∷
-    resent_chunks first (place + 1) (room - length p.fragment.user_data) ps
+    if nat_lt room (length p.user_data) then [] else
+    chunk_of p (tsn_at first place) ∷
+    resent_chunks first (place + 1) (room - length p.user_data) ps
 
 -- the pieces in flight after that: those that were sent again lost their mark and count one sending more
 abbrev pub resent_pieces : ℕ → List InFlight → List InFlight
 resent_pieces room [] = []
 resent_pieces room (p ∷ ps) =
     if not p.retransmit then p ∷ resent_pieces room ps else
-    if nat_lt room (length p.fragment.user_data) then p ∷ ps else
-    counted_again p ∷ resent_pieces (room - length p.fragment.user_data) ps
+    if nat_lt room (length p.user_data) then p ∷ ps else
+    counted_again p ∷ resent_pieces (room - length p.user_data) ps
 
 -- what is left of so many bytes for the pieces behind one: None where it is marked and does not fit
 abbrev pub tried_again : Option InFlight → Sender → ℕ → ℕ → List ChunkPayloadData → Sender × List ChunkPayloadData × Option ℕ
 tried_again None s place room out = (s, out, None)
 tried_again (Some p) s place room out =
     if not p.retransmit then (s, out, Some room) else
-    if nat_lt room (length p.fragment.user_data) then (s, out, None) else (
+    if nat_lt room (length p.user_data) then (s, out, None) else (
       with_in_flight s (slice_set s.queue.in_flight place (counted_again p)),
-      out ++ chunk_of p.fragment (tsn_at_place s.queue.first_tsn place) ∷ [],
-      Some (room - length p.fragment.user_data),
+      out ++ chunk_of p (tsn_at s.queue.first_tsn place) ∷ [],
+      Some (room - length p.user_data),
     )
 
 abbrev pub alone_length_of : ℕ → Option InFlight → Option ℕ
 alone_length_of window None = None
 alone_length_of window (Some p) =
-    if p.retransmit && nat_lt window (length p.fragment.user_data) then Some (length p.fragment.user_data) else None
+    if p.retransmit && nat_lt window (length p.user_data) then Some (length p.user_data) else None
 
 -- the length of the first piece in flight, where it is marked and the peer's window is too small for it
 abbrev pub alone_length : Sender → Option ℕ
@@ -175,7 +182,7 @@ resends_alone s = is_some (alone_length s)
 
 abbrev pub first_chunk : ℕ → List InFlight → List ChunkPayloadData
 first_chunk first [] = []
-first_chunk first (p ∷ ps) = chunk_of p.fragment (tsn_at_place first 0) ∷ []
+first_chunk first (p ∷ ps) = chunk_of p (tsn_at first 0) ∷ []
 
 abbrev pub first_counted : List InFlight → List InFlight
 first_counted [] = []
@@ -198,28 +205,28 @@ after_resending s =
     if resends_alone s then first_counted s.queue.in_flight else resent_pieces (both_windows s) s.queue.in_flight
     )
 
-abbrev pub fits_windows : Sender → Option Fragment → Bool
+abbrev pub fits_windows : Sender → Option Waiting → Bool
 fits_windows s None = false
-fits_windows s (Some f) =
-    nat_le (min (outstanding_of s.queue.in_flight + length f.user_data) (2 ^ 64 - 1)) s.cwnd
-    && nat_le (length f.user_data) (window_left s)
+fits_windows s (Some m) =
+    nat_le (min (outstanding_of s.queue.in_flight + length m.user_data) (2 ^ 64 - 1)) s.cwnd
+    && nat_le (length m.user_data) (window_left s)
 
 -- the next piece that waits is within the congestion window and the peer's window (RFC 4960 section 6.1)
 abbrev pub can_send_next : Sender → Bool
 can_send_next s = fits_windows s (slice_get s.queue.pending 0)
 
 -- the first of the pieces that wait goes out, under the next TSN
-unfoldable pub sent_one : List Fragment → Sender → List ChunkPayloadData → ℕ → Sender × List ChunkPayloadData
+unfoldable pub sent_one : List Waiting → Sender → List ChunkPayloadData → ℕ → Sender × List ChunkPayloadData
 sent_one [] s out now = (s, out)
-sent_one (f ∷ fs) s out now =
-    (record s { queue = sent_next s.queue now }, out ++ chunk_of f (next_tsn_of s.queue) ∷ [])
+sent_one (m ∷ ms) s out now =
+    (record s { queue = sent_next s.queue now }, out ++ next_chunk_of m (next_tsn_of s.queue) ∷ [])
 
--- of the pieces that wait those go out, in the order in which they were accepted, that both windows have room for
-abbrev pub sent_within : List Fragment → Sender → List ChunkPayloadData → ℕ → Sender × List ChunkPayloadData
-sent_within [] s out now = (s, out)
-sent_within (f ∷ fs) s out now =
-    if fits_windows s (Some f) then
-    (let sent = sent_one (f ∷ fs) s out now in sent_within fs sent.0 sent.1 now)
+-- of the first n pieces that wait those go out, in the order in which they were accepted, that both windows have room for
+abbrev pub sent_within : ℕ → Sender → List ChunkPayloadData → ℕ → Sender × List ChunkPayloadData
+sent_within zero s out now = (s, out)
+sent_within (suc n) s out now =
+    if can_send_next s then
+    (let sent = sent_one s.queue.pending s out now in sent_within n sent.0 sent.1 now)
     else (s, out)
 
 -- the DATA that a poll sends for the first time: within both windows, or, with nothing in flight, one piece that probes
@@ -227,4 +234,4 @@ sent_within (f ∷ fs) s out now =
 abbrev pub sent_new : Sender → List ChunkPayloadData → ℕ → Sender × List ChunkPayloadData
 sent_new s out now =
     if length s.queue.in_flight == 0 && not (can_send_next s) then sent_one s.queue.pending s out now else
-    sent_within s.queue.pending s out now
+    sent_within (pieces_waiting s.queue.pending) s out now

@@ -1,12 +1,15 @@
 // The sender of DATA: windows, acknowledgements, retransmission.
 ghost use Rattle.sctp_parts.specs.Estimate.{measured};
-ghost use Rattle.sctp_queues.specs.Outbound.{all_marked};
+ghost use Rattle.sctp_outbound_queue.specs.Message.{outstanding_bytes};
+ghost use Rattle.sctp_outbound_queue.specs.Outbound.{all_marked, after_piece, pieces_waiting};
 ghost use Rattle.sctp_queues.specs.Streams.{released_in};
-ghost use Rattle.std.specs.Prelude.{◌≡◌, ◌+◌, ◌-◌, ◌/◌, if◌then◌else◌, ◌≤◌, ◌<◌, ◌^◌, ◌++◌, ◌∷◌, [], OnErr, OnOk, IfOk, IfSome, length, drop, slice_get, nat_lt};
-ghost use Rattle.sctp_outbound.specs.Sender.{fresh_sender, window_left, marks, acked_point_of, points_to, after_first, acknowledged, sack_outcome, with_window, t3_after_sack, chunk_of, can_send_next, is_measured, after_resending, resent_by, alone_length, with_in_flight, resent_pieces, resent_chunks, tried_again, tsn_at_place, sent_new, sent_within, sent_one};
+ghost use Rattle.std.specs.Prelude.{◌≡◌, ◌+◌, ◌-◌, ◌/◌, if◌then◌else◌, ◌≤◌, ◌<◌, ◌^◌, ◌++◌, ◌∷◌, [], OnErr, OnOk, IfOk, IfSome, length, slice_get, nat_lt};
+ghost use Rattle.sctp_outbound.specs.Sender.{fresh_sender, window_left, marks, acked_point_of, points_to, after_first, acknowledged, sack_outcome, with_window, t3_after_sack, chunk_of, next_chunk_of, data_of, can_send_next, is_measured, after_resending, resent_by, alone_length, with_in_flight, resent_pieces, resent_chunks, tried_again, sent_new, sent_within, sent_one};
 
+use bytes::Bytes;
+use sctp_outbound_queue::{Attributes, InFlight, OutboundQueue, PendingMessage};
 use sctp_parts::timer::{RtoManager, Timer, TimerTable};
-use sctp_queues::{Fragment, InFlight, OutboundQueue, Streams};
+use sctp_queues::Streams;
 use sctp_wire_types::{ChunkPayloadData, Instant, sna32gt, sna32gte};
 use std::alloc::{AllocError, Global};
 
@@ -72,8 +75,7 @@ impl Sender {
     pub fn is_marked(&self, tsn: u32) -> bool
         ensures { result ≡ marks self.now tsn }
     {
-        let place = tsn.wrapping_sub(self.queue.first_tsn());
-        match self.queue.get(place as usize) {
+        match self.queue.get(self.queue.place_of(tsn)) {
             Some(piece) => piece.retransmit,
             None => false,
         }
@@ -155,7 +157,7 @@ impl Sender {
         let next_tsn = self.queue.next_tsn();
         if let Some(piece) = self.queue.pop() {
             self.measure(rto, &piece, tsn, next_tsn, now);
-            release(streams, &piece.fragment);
+            release(streams, &piece);
         }
     }
 
@@ -171,7 +173,10 @@ impl Sender {
         ensures sender { self.new ≡ (if is_measured self.old tsn piece.now then record self.old { min_tsn2measure_rtt = next_tsn } else self.old) }
         ensures estimate { rto.new ≡ (if is_measured self.old tsn piece.now then measured ((now - piece.now.since) / 1000000) rto.old else rto.old) }
     {
-        if piece.sent_count == 1 && sna32gte(tsn, self.min_tsn2measure_rtt) {
+        if piece.is_outstanding()
+            && piece.sent_count == 1
+            && sna32gte(tsn, self.min_tsn2measure_rtt)
+        {
             rto.set_new_rtt(now.millis_since(piece.since));
             self.min_tsn2measure_rtt = next_tsn;
         }
@@ -203,7 +208,7 @@ impl Sender {
         ensures { result ≡ alone_length self.now }
     {
         let piece = self.queue.get(0)?;
-        let length = piece.fragment.user_data.len() as u64;
+        let length = piece.user_data.len() as u64;
         if piece.retransmit && u64::from(self.rwnd()) < length {
             Some(length)
         } else {
@@ -246,21 +251,14 @@ impl Sender {
         if !piece.retransmit {
             return Ok(Some(room));
         }
-        let length = piece.fragment.user_data.len() as u64;
+        let length = piece.user_data.len() as u64;
         if length > room {
             return Ok(None);
         }
-        let chunk = data_chunk(&piece.fragment, self.tsn_at(place))?;
+        let chunk = sent_chunk(piece, self.queue.tsn_at(place))?;
         out.push(chunk)?;
         self.queue.resend(place);
         Ok(Some(room - length))
-    }
-
-    fn tsn_at(&self, place: usize) -> u32
-        ensures { result ≡ tsn_at_place self.now.queue.first_tsn place }
-    {
-        let distance = (place as u64 % 0x1_0000_0000) as u32;
-        self.queue.first_tsn().wrapping_add(distance)
     }
 
     /// Sends DATA that waits while the windows allow it, and answers whether any was sent. With nothing in flight one
@@ -288,7 +286,7 @@ impl Sender {
         out: &mut Vec<ChunkPayloadData>,
         now: Instant,
     ) -> Result<(), AllocError>
-        ensures { OnOk result (sent_within self.old.queue.pending self.old out.old.items now ≡ (self.new, out.new.items)) }
+        ensures { OnOk result (sent_within (pieces_waiting self.old.queue.pending) self.old out.old.items now ≡ (self.new, out.new.items)) }
     {
         while self.next_fits() {
             self.send_one(out, now)?;
@@ -300,10 +298,10 @@ impl Sender {
     #[tactic(auto, unfolding(crate::specs::Sender::sent_one))]
     fn send_one(&mut self, out: &mut Vec<ChunkPayloadData>, now: Instant) -> Result<(), AllocError>
         ensures sent { OnOk result (sent_one self.old.queue.pending self.old out.old.items now ≡ (self.new, out.new.items)) }
-        ensures pending { OnOk result (self.new.queue.pending ≡ drop 1 self.old.queue.pending) }
+        ensures pending { OnOk result (self.new.queue.pending ≡ after_piece self.old.queue.pending) }
     {
-        if let Some(fragment) = self.queue.peek_pending() {
-            let chunk = data_chunk(fragment, self.queue.next_tsn())?;
+        if let Some(message) = self.queue.peek_pending() {
+            let chunk = waiting_chunk(message, self.queue.next_tsn())?;
             out.push(chunk)?;
         }
         self.queue.send_next(now)
@@ -314,8 +312,8 @@ impl Sender {
         ensures { result ≡ can_send_next self.now }
     {
         match self.queue.peek_pending() {
-            Some(fragment) => {
-                let length = fragment.user_data.len() as u64;
+            Some(message) => {
+                let length = message.user_data.len() as u64;
                 let outstanding = self.queue.inflight_bytes();
                 outstanding.saturating_add(length) <= u64::from(self.cwnd)
                     && length <= u64::from(self.rwnd())
@@ -325,30 +323,61 @@ impl Sender {
     }
 }
 
-// Gives an acknowledged piece's bytes back to its stream.
-fn release(streams: &mut Streams, fragment: &Fragment)
-    ensures { streams.new ≡ released_in streams.old fragment.now.stream_identifier fragment.now.generation (length fragment.now.user_data) }
+// Gives an acknowledged piece's bytes back to its stream, those that were outstanding until then.
+fn release(streams: &mut Streams, piece: &InFlight)
+    ensures { streams.new ≡ released_in streams.old piece.now.message.stream_identifier piece.now.message.generation (outstanding_bytes piece.now) }
 {
     streams.release(
-        fragment.stream_identifier,
-        fragment.generation,
-        fragment.user_data.len() as u64,
+        piece.message.stream_identifier,
+        piece.message.generation,
+        piece.outstanding_bytes(),
     );
 }
 
-// A message that is one piece, as DATA.
-fn data_chunk(fragment: &Fragment, tsn: u32) -> Result<ChunkPayloadData, AllocError>
-    ensures { IfOk result (λ chunk. chunk ≡ chunk_of fragment.now tsn) }
+// A piece in flight, as DATA.
+fn sent_chunk(piece: &InFlight, tsn: u32) -> Result<ChunkPayloadData, AllocError>
+    ensures { IfOk result (λ chunk. chunk ≡ chunk_of piece.now tsn) }
+{
+    data_chunk(
+        &piece.message,
+        piece.beginning_fragment,
+        piece.ending_fragment,
+        &piece.user_data,
+        tsn,
+    )
+}
+
+// The next piece of a message that waits, as DATA.
+fn waiting_chunk(message: &PendingMessage, tsn: u32) -> Result<ChunkPayloadData, AllocError>
+    ensures { IfOk result (λ chunk. chunk ≡ next_chunk_of message.now tsn) }
+{
+    data_chunk(
+        &message.message,
+        !message.begun,
+        message.is_last_piece(),
+        &message.user_data,
+        tsn,
+    )
+}
+
+fn data_chunk(
+    message: &Attributes,
+    beginning_fragment: bool,
+    ending_fragment: bool,
+    bytes: &Bytes,
+    tsn: u32,
+) -> Result<ChunkPayloadData, AllocError>
+    ensures { IfOk result (λ chunk. chunk ≡ data_of message.now beginning_fragment ending_fragment bytes.now tsn) }
 {
     Ok(ChunkPayloadData {
-        unordered: false,
-        beginning_fragment: true,
-        ending_fragment: true,
+        unordered: message.unordered,
+        beginning_fragment,
+        ending_fragment,
         immediate_sack: false,
         tsn,
-        stream_identifier: fragment.stream_identifier,
-        stream_sequence_number: fragment.stream_sequence_number,
-        payload_type: fragment.payload_type,
-        user_data: fragment.user_data.clone()?,
+        stream_identifier: message.stream_identifier,
+        stream_sequence_number: message.stream_sequence_number,
+        payload_type: message.payload_type,
+        user_data: bytes.clone()?,
     })
 }

@@ -1,6 +1,5 @@
 pub mod Lending
 pub mod Message
-pub mod Outbound
 pub mod Reassembly
 pub mod Stats
 pub mod Stream

@@ -1,10 +1,10 @@
-//! What an association keeps in lists and maps: messages that wait to be sent, pieces in flight, messages that came,
-//! the streams and the events. Each struct owns its state and calls nothing above it.
+//! What an association keeps in lists and maps: messages that came, the streams and the events, and, from
+//! `sctp_outbound_queue`, messages that wait to be sent and pieces in flight. Each struct owns its state and calls nothing
+//! above it.
 #![tactic(auto)]
 
 mod chunks;
 mod event;
-mod outbound;
 mod reassembly;
 mod stats;
 mod stream_state;
@@ -12,8 +12,10 @@ mod streams;
 
 pub use chunks::Chunks;
 pub use event::{AssociationError, Event, Events};
-pub use outbound::{Fragment, InFlight, OutboundQueue};
 pub use reassembly::{HeldMessage, ReassemblyQueue};
+pub use sctp_outbound_queue::{
+    Attributes, InFlight, OutboundQueue, PendingMessage, Policy, Released,
+};
 pub use stats::DataChannelStats;
 pub use stream_state::StreamState;
 pub use streams::Streams;

@@ -7,6 +7,8 @@ mod inbound;
 #[cfg(test)]
 mod outbound;
 #[cfg(test)]
+mod outbound_queue;
+#[cfg(test)]
 mod queues;
 #[cfg(test)]
 mod timers;

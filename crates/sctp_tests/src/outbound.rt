@@ -2,10 +2,11 @@
 ghost use Rattle.std.specs.Prelude.{◌≡◌, ◌≤◌};
 ghost use Rattle.sctp_queues.specs.Streams.{no_stream};
 
-use bytes::Bytes;
+use crate::outbound_queue::message;
 use sctp_outbound::{SackOutcome, Sender};
+use sctp_outbound_queue::{PendingMessage, Policy};
 use sctp_parts::timer::{RtoManager, Timer, TimerTable};
-use sctp_queues::{Fragment, Streams};
+use sctp_queues::Streams;
 use sctp_wire_types::{Instant, PayloadProtocolIdentifier};
 use std::alloc::{AllocError, Global};
 use std::test::Fail;
@@ -24,14 +25,8 @@ fn payload_size_gives_packet_size_and_first_window(rt: HostRuntime) {
     assert_eq!(rt; first_sizes(rt.alloc(), 65_519), (65_547, 131_094));
 }
 
-fn piece(alloc: Global, ssn: u16, bytes: &[u8]) -> Result<Fragment, AllocError> {
-    Ok(Fragment {
-        stream_identifier: 1,
-        generation: 0,
-        stream_sequence_number: ssn,
-        payload_type: PayloadProtocolIdentifier::Binary,
-        user_data: Bytes::copy_from_slice(alloc, bytes)?,
-    })
+fn piece(alloc: Global, ssn: u16, bytes: &[u8]) -> Result<PendingMessage, AllocError> {
+    message(alloc, ssn, Policy::Reliable, bytes)
 }
 
 // Everything that a SACK touches beside the sender.

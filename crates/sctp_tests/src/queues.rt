@@ -1,25 +1,15 @@
 // Queues, streams, events and counters.
 use bytes::Bytes;
 use sctp_queues::{
-    AssociationError, Chunks, DataChannelStats, Event, Events, Fragment, HeldMessage,
-    OutboundQueue, ReassemblyQueue, StreamState, Streams,
+    AssociationError, Chunks, DataChannelStats, Event, Events, HeldMessage, ReassemblyQueue,
+    StreamState, Streams,
 };
-use sctp_wire_types::{Error, Instant, PayloadProtocolIdentifier, StreamEvent};
+use sctp_wire_types::{Error, PayloadProtocolIdentifier, StreamEvent};
 use std::alloc::{AllocError, Global};
 use std::test::Fail;
 
 fn message(alloc: Global, ssn: u16, bytes: &[u8]) -> Result<HeldMessage, AllocError> {
     Ok(HeldMessage {
-        stream_sequence_number: ssn,
-        payload_type: PayloadProtocolIdentifier::String,
-        user_data: Bytes::copy_from_slice(alloc, bytes)?,
-    })
-}
-
-fn fragment(alloc: Global, ssn: u16, bytes: &[u8]) -> Result<Fragment, AllocError> {
-    Ok(Fragment {
-        stream_identifier: 1,
-        generation: 0,
         stream_sequence_number: ssn,
         payload_type: PayloadProtocolIdentifier::String,
         user_data: Bytes::copy_from_slice(alloc, bytes)?,
@@ -131,47 +121,6 @@ fn events_come_oldest_first(rt: HostRuntime) -> Result<(), Fail> {
     let reason = AssociationError::from(Error::ErrHandshakeInitAck);
     let text = format!(in rt.alloc(); "{reason}")?;
     assert_eq!(rt; text.as_str(), "handshake failed: no INIT ACK came");
-    Ok(())
-}
-
-#[test]
-fn pieces_in_flight_have_consecutive_numbers(rt: HostRuntime) -> Result<(), Fail> {
-    let mut queue = OutboundQueue::new(rt.alloc(), u32::MAX);
-    let now = Instant::from_millis(5);
-    assert!(rt; queue.is_empty());
-    queue.push(fragment(rt.alloc(), 0, b"one")?)?;
-    queue.push(fragment(rt.alloc(), 1, b"three")?)?;
-    assert_eq!(rt; queue.pending_len(), 2);
-    assert_eq!(rt; queue.next_tsn(), u32::MAX);
-    queue.send_next(now)?;
-    assert_eq!(rt; queue.next_tsn(), 0);
-    assert_eq!(rt;
-        queue
-            .peek_pending()
-            .expect(&rt, "a piece")
-            .stream_sequence_number,
-        1
-    );
-    queue.send_next(now)?;
-    assert_eq!(rt; queue.next_tsn(), 1);
-    assert_eq!(rt;
-        (
-            queue.pending_len(),
-            queue.inflight_len(),
-            queue.inflight_bytes()
-        ),
-        (0, 2, 8)
-    );
-    queue.mark_all_to_retransmit();
-    queue.resend(1);
-    let first = queue.pop().expect(&rt, "a piece");
-    assert_eq!(rt;
-        (first.sent_count, first.retransmit, first.since),
-        (1, true, now)
-    );
-    assert_eq!(rt; queue.first_tsn(), 0);
-    let second = queue.get(0).expect(&rt, "a piece");
-    assert_eq!(rt; (second.sent_count, second.retransmit), (2, false));
     Ok(())
 }
 

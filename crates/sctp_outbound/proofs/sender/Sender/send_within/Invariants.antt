@@ -1,11 +1,12 @@
-use Rattle.std.proofs.Common.{◌≡◌, length}
+use Rattle.std.proofs.Common.{◌≡◌}
+use Rattle.sctp_outbound_queue.specs.Outbound.{pieces_waiting}
 use Rattle.sctp_outbound.specs.Sender.{sent_within}
 use Rattle.sctp_outbound.proofs.sender.Sender.send_within.Given as goal
 
 abbrev pub invariant-loop-now : goal.invariant-loop-now
 invariant-loop-now l =
-    sent_within l.self.queue.pending l.self l.out.items l.now ≡
-    sent_within l.fn.self.queue.pending l.fn.self l.fn.out.items l.now
+    sent_within (pieces_waiting l.self.queue.pending) l.self l.out.items l.now ≡
+    sent_within (pieces_waiting l.fn.self.queue.pending) l.fn.self l.fn.out.items l.now
 
 abbrev pub decreases-loop-now : goal.decreases-loop-now
-decreases-loop-now l = length l.self.queue.pending
+decreases-loop-now l = pieces_waiting l.self.queue.pending

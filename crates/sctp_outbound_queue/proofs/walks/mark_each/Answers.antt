@@ -1,10 +1,10 @@
 use Rattle.std.proofs.Common.{arith}
 use Rattle.std.proofs.lemmas.List.Edits.{map_over_more}
-use Rattle.sctp_queues.specs.Outbound.{marked_again}
-use Rattle.sctp_queues.proofs.outbound.mark_each.Goals as goal
+use Rattle.sctp_outbound_queue.specs.Message.{marked_again}
+use Rattle.sctp_outbound_queue.proofs.walks.mark_each.Goals as goal
 
 pub loop-piece-preserved : goal.loop-piece-preserved
 loop-piece-preserved c =
-    rw (← c.piece-item.is)
+    rw (c.mark.ensures, ← c.piece-item.is)
     (map_over_more marked_again c.args.pieces.now c.loop-piece.pieces c.loop-piece.piece-index c.piece-item.result
     (omega arith) c.loop-piece.invariant c.piece-item.is)

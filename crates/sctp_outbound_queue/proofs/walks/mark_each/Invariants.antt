@@ -1,6 +1,6 @@
 use Rattle.std.proofs.Common.{◌≡◌, ◌++◌, map, take, drop}
-use Rattle.sctp_queues.specs.Outbound.{marked_again}
-use Rattle.sctp_queues.proofs.outbound.mark_each.Given as goal
+use Rattle.sctp_outbound_queue.specs.Message.{marked_again}
+use Rattle.sctp_outbound_queue.proofs.walks.mark_each.Given as goal
 
 abbrev pub invariant-loop-piece : goal.invariant-loop-piece
 invariant-loop-piece l =

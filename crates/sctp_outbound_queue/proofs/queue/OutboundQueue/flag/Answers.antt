@@ -1,0 +1,17 @@
+use Rattle.std.proofs.Common.{arith}
+use Rattle.sctp_outbound_queue.proofs.Sums.{flagged_sum, kept_flagged}
+use Rattle.sctp_outbound_queue.proofs.queue.OutboundQueue.flag.Goals as goal
+
+pub overflow_sub-self : goal.overflow_sub-self
+overflow_sub-self c =
+    let sum = flagged_sum c.args.message_id c.self.inside.in_flight.items in
+    let kept = c.self.invariant in
+    let outstanding = kept.1 in
+    let bytes = c.bytes_of_message.ensures in
+    omega (arith, sum, outstanding, bytes)
+
+pub invariant_of-self : goal.invariant_of-self
+invariant_of-self c =
+    kept_flagged c.args.message_id c.self.inside.pending.items c.self.inside.in_flight.items c.flag_all.new.pieces.items
+    c.self.inside.pending_bytes c.self.inside.outstanding_bytes c.bytes_of_message.result c.self.invariant
+    c.bytes_of_message.ensures c.flag_all.ensures

@@ -1,0 +1,10 @@
+use Rattle.std.proofs.Common.{arith}
+use Rattle.std.proofs.lemmas.List.Edits.{map_over_more}
+use Rattle.sctp_outbound_queue.specs.Message.{flagged}
+use Rattle.sctp_outbound_queue.proofs.walks.flag_each.Goals as goal
+
+pub loop-piece-preserved : goal.loop-piece-preserved
+loop-piece-preserved c =
+    rw (c.abandon.ensures, ← c.piece-item.is)
+    (map_over_more (flagged c.args.message_id) c.args.pieces.now c.loop-piece.pieces c.loop-piece.piece-index c.piece-item.result
+    (omega arith) c.loop-piece.invariant c.piece-item.is)

@@ -1,0 +1,4 @@
+pub mod Expiry
+pub mod Message
+pub mod Outbound
+pub mod Waiting

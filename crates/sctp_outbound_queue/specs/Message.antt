@@ -1,0 +1,158 @@
+-- Messages, cut into pieces, and pieces in flight (RFC 4960 section 6.9).
+use Rattle.std.specs.Prelude.{ℕ, Bool, true, false, not, [], ◌+◌, ◌-◌, ◌*◌, ◌%◌, ◌^◌, ◌==◌, ◌&&◌, if◌then◌else◌, length, drop, min, sum_by, nat_le, nat_lt, slice_index_or, Option, Some, None}
+use Rattle.sctp_outbound_queue.specs.declared.message.Attributes.{Attributes}
+use Rattle.sctp_outbound_queue.specs.declared.message.InFlight.{InFlight}
+use Rattle.sctp_outbound_queue.specs.declared.message.Policy.{Policy}
+use Rattle.sctp_outbound_queue.specs.declared.message.Policy.TheVariants.{Reliable, Rexmit, Timed}
+use Rattle.sctp_outbound_queue.specs.Waiting.{Waiting}
+
+-- the bytes of a message that still wait to be sent
+abbrev pub message_bytes : Waiting → ℕ
+message_bytes m = length m.user_data + sum_by length m.rest
+
+-- the pieces of a message that still wait to be sent
+abbrev pub piece_count : Waiting → ℕ
+piece_count m = length m.rest + 1
+
+-- a message as it is accepted: it has its identifier, no deadline runs, and nothing of it was sent
+abbrev pub accepted : ℕ → Waiting → Waiting
+accepted id m = record m {
+  message = (let a = m.message in record a { message_id = id; deadline = None });
+  begun = false;
+}
+
+-- the next piece of a message as it is in flight, sent for the first time
+abbrev pub sent_once : ℕ → Waiting → InFlight
+sent_once now m = record {
+  message = m.message;
+  beginning_fragment = not m.begun;
+  ending_fragment = length m.rest == 0;
+  user_data = m.user_data;
+  sent_count = 1;
+  since = now;
+  retransmit = false;
+  acked = false;
+  abandoned = false;
+  misses = 0;
+}
+
+-- a message once its next piece was sent and more are left
+abbrev pub without_piece : Waiting → Waiting
+without_piece m = record m {
+  begun = true;
+  user_data = slice_index_or m.rest 0 [];
+  rest = drop 1 m.rest;
+}
+
+-- what stands in flight for the unsent pieces of an abandoned message: no bytes, and never sent
+abbrev pub marker_of : Attributes → InFlight
+marker_of a = record {
+  message = a;
+  beginning_fragment = false;
+  ending_fragment = true;
+  user_data = [];
+  sent_count = 0;
+  since = 0;
+  retransmit = false;
+  acked = false;
+  abandoned = true;
+  misses = 0;
+}
+
+-- neither acknowledged nor abandoned
+abbrev pub is_outstanding : InFlight → Bool
+is_outstanding p = not p.acked && not p.abandoned
+
+abbrev pub outstanding_bytes : InFlight → ℕ
+outstanding_bytes p = if is_outstanding p then length p.user_data else 0
+
+abbrev pub is_of : ℕ → InFlight → Bool
+is_of id p = p.message.message_id == id
+
+abbrev pub is_of_stream : ℕ → InFlight → Bool
+is_of_stream id p = p.message.stream_identifier == id
+
+abbrev pub is_waiting_of_stream : ℕ → Waiting → Bool
+is_waiting_of_stream id m = m.message.stream_identifier == id
+
+-- the outstanding bytes of a piece, if it is of this message
+abbrev pub outstanding_bytes_of : ℕ → InFlight → ℕ
+outstanding_bytes_of id p = if is_of id p then outstanding_bytes p else 0
+
+-- a gap ack block named the piece (RFC 4960 section 6.2.1)
+abbrev pub acked : InFlight → InFlight
+acked p = record p { acked = true; retransmit = false }
+
+-- the retransmission timer expired (RFC 4960 section 6.3.3, rule E3)
+abbrev pub marked_again : InFlight → InFlight
+marked_again p = if is_outstanding p then record p { retransmit = true } else p
+
+abbrev pub one_sending_more : ℕ → ℕ
+one_sending_more count = min (count + 1) (2 ^ 32 - 1)
+
+-- a piece was sent again
+abbrev pub counted_again : InFlight → InFlight
+counted_again p = record p { retransmit = false; sent_count = one_sending_more p.sent_count }
+
+-- a piece was sent again by fast retransmission, which leaves the mark of the timer (RFC 4960 section 7.2.4)
+abbrev pub counted_fast : InFlight → InFlight
+counted_fast p = record p { sent_count = one_sending_more p.sent_count }
+
+-- a SACK reported the piece missing; three reports are enough (RFC 4960 section 7.2.4)
+abbrev pub missed : InFlight → InFlight
+missed p = if nat_lt p.misses 3 then record p { misses = p.misses + 1 } else p
+
+-- a piece of an abandoned message (RFC 3758 section 3.5)
+abbrev pub flagged : ℕ → InFlight → InFlight
+flagged id p = if is_of id p then record p { abandoned = true; retransmit = false } else p
+
+-- so many ms after a moment, at most the greatest moment
+abbrev pub later_by : ℕ → ℕ → ℕ
+later_by ms now = min (now + min (ms * 1000000) (2 ^ 64 - 1)) (2 ^ 64 - 1)
+
+abbrev pub deadline_under : Policy → ℕ → Option ℕ → Option ℕ
+deadline_under Reliable now deadline = deadline
+deadline_under (Rexmit n) now deadline = deadline
+deadline_under (Timed ms) now (Some deadline) = Some deadline
+deadline_under (Timed ms) now None = Some (later_by ms now)
+
+-- a message whose time, if it has one, runs from now on where it does not run yet
+abbrev pub started : ℕ → Attributes → Attributes
+started now a = record a { deadline = deadline_under a.policy now a.deadline }
+
+abbrev pub waiting_started : ℕ → Waiting → Waiting
+waiting_started now m = record m { message = started now m.message }
+
+abbrev pub sent_started : ℕ → InFlight → InFlight
+sent_started now p = record p { message = started now p.message }
+
+abbrev pub is_past : Option ℕ → ℕ → Bool
+is_past None now = false
+is_past (Some deadline) now = nat_le deadline now
+
+-- at or past its deadline
+abbrev pub is_expired : ℕ → Attributes → Bool
+is_expired now a = is_past a.deadline now
+
+-- an expired piece of a message that is not abandoned yet
+abbrev pub is_expired_piece : ℕ → InFlight → Bool
+is_expired_piece now p = not p.abandoned && is_expired now p.message
+
+-- an expired message of which nothing was sent
+abbrev pub is_expired_unsent : ℕ → Waiting → Bool
+is_expired_unsent now m = not m.begun && is_expired now m.message
+
+-- the two are ordered messages of one generation of a stream
+abbrev pub share_ssns : Attributes → Attributes → Bool
+share_ssns a b =
+    not a.unordered && not b.unordered && a.stream_identifier == b.stream_identifier && a.generation == b.generation
+
+-- a later message, once the one before it gave its SSN back
+abbrev pub moved_down : Attributes → Waiting → Waiting
+moved_down dropped m =
+    if share_ssns dropped m.message then record m {
+      message =
+          (let a = m.message in
+          record a { stream_sequence_number = (a.stream_sequence_number + 2 ^ 16 - 1) % 2 ^ 16 });
+    }
+    else m

@@ -1,0 +1,10 @@
+//! What an association still has to bring to its peer: the messages that wait to be sent, and what was sent and is not
+//! acknowledged cumulatively.
+#![tactic(auto)]
+
+mod message;
+mod queue;
+mod walks;
+
+pub use message::{Attributes, InFlight, PendingMessage, Policy};
+pub use queue::{OutboundQueue, Released};

@@ -1,0 +1,323 @@
+// Messages, cut into pieces, and pieces in flight.
+ghost use Rattle.std.specs.Prelude.{◌≡◌, ◌==◌, ◌+◌, ◌-◌, ◌^◌, length, min, fold};
+ghost use Rattle.sctp_outbound_queue.specs.Message.{message_bytes, piece_count, accepted, sent_once, without_piece, marker_of, is_of, is_of_stream, is_waiting_of_stream, is_outstanding, outstanding_bytes, outstanding_bytes_of, acked, marked_again, counted_again, counted_fast, missed, flagged, deadline_under, started, waiting_started, sent_started, is_expired, is_expired_piece, is_expired_unsent, share_ssns, moved_down};
+
+use bytes::Bytes;
+use sctp_wire_types::{Instant, PayloadProtocolIdentifier, StreamId};
+use std::collections::VecDeque;
+use std::marker::Model;
+use std::mem;
+
+/// How long a message is kept for sending (RFC 3758 section 3.5).
+#[derive(Clone, Copy, Debug)]
+pub enum Policy {
+    /// Until it is acknowledged.
+    Reliable,
+    /// For this number of retransmissions.
+    Rexmit(u32),
+    /// For this time, in ms.
+    Timed(u32),
+}
+
+/// What the pieces of a message have in common.
+#[derive(Clone, Copy, Debug)]
+pub struct Attributes {
+    /// The number of the message among those that were accepted.
+    pub message_id: u64,
+    pub stream_identifier: StreamId,
+    /// The stream generation that accepted the message.
+    pub generation: u64,
+    pub unordered: bool,
+    pub stream_sequence_number: u16,
+    pub payload_type: PayloadProtocolIdentifier,
+    pub policy: Policy,
+    /// When the message is given up, if its time runs.
+    pub deadline: Option<Instant>,
+}
+
+/// A message as it waits to be sent, or the rest of one. It has one piece at least.
+#[derive(Debug, Drop)]
+pub struct PendingMessage {
+    pub message: Attributes,
+    /// A piece of it was sent, so the next one is not its first.
+    pub begun: bool,
+    /// The piece that is sent next.
+    pub user_data: Bytes,
+    /// The pieces behind that one, in their order.
+    pub rest: VecDeque<Bytes>,
+}
+
+impl Model for PendingMessage {
+    ghost use Rattle.sctp_outbound_queue.specs.Waiting.{Waiting};
+
+    ghost Value = { Waiting };
+
+    ghost view = { λ m. record {
+      message = m.message;
+      begun = m.begun;
+      user_data = m.user_data;
+      rest = m.rest.items;
+    } };
+}
+
+/// A piece that was sent and is not acknowledged cumulatively, or a marker: what stands for the unsent pieces of an
+/// abandoned message.
+#[derive(Debug, Drop)]
+pub struct InFlight {
+    pub message: Attributes,
+    pub beginning_fragment: bool,
+    pub ending_fragment: bool,
+    pub user_data: Bytes,
+    /// How often it was sent, at most the greatest u32; 0 for a marker.
+    pub sent_count: u32,
+    /// When it was sent first.
+    pub since: Instant,
+    /// The retransmission timer expired, and since then it was neither sent again nor acknowledged nor abandoned.
+    pub retransmit: bool,
+    /// A gap ack block named it.
+    pub acked: bool,
+    pub abandoned: bool,
+    /// How many SACKs reported it missing, at most 3.
+    pub misses: u8,
+}
+
+impl Attributes {
+    /// At or past its deadline.
+    pub fn is_expired(&self, now: Instant) -> bool
+        ensures { result ≡ is_expired now self.now }
+    {
+        match self.deadline {
+            Some(deadline) => deadline <= now,
+            None => false,
+        }
+    }
+
+    // When the message is given up, once its time runs from `now` on where it does not run yet.
+    fn deadline_from(&self, now: Instant) -> Option<Instant>
+        ensures { result ≡ deadline_under self.now.policy now self.now.deadline }
+    {
+        match (self.policy, self.deadline) {
+            (Policy::Timed(millis), None) => Some(now.plus_millis(u64::from(millis))),
+            (_, deadline) => deadline,
+        }
+    }
+
+    // Whether both are ordered messages of one generation of a stream.
+    fn shares_ssns(&self, other: &Attributes) -> bool
+        ensures { result ≡ share_ssns self.now other.now }
+    {
+        !self.unordered
+            && !other.unordered
+            && self.stream_identifier == other.stream_identifier
+            && self.generation == other.generation
+    }
+}
+
+impl PendingMessage {
+    /// The bytes that wait, at most the greatest u64.
+    pub fn bytes(&self) -> u64
+        ensures { result ≡ min (message_bytes self.now) (2 ^ 64 - 1) }
+    {
+        add_bytes(&self.rest, self.user_data.len() as u64)
+    }
+
+    /// The number of pieces that wait.
+    pub fn piece_count(&self) -> usize
+        ensures { result ≡ min (piece_count self.now) (2 ^ 64 - 1) }
+    {
+        self.rest.len().saturating_add(1)
+    }
+
+    /// Whether the piece that is sent next is the message's last.
+    pub fn is_last_piece(&self) -> bool
+        ensures { result ≡ (length self.now.rest == 0) }
+    {
+        self.rest.is_empty()
+    }
+
+    pub(crate) fn accept(&mut self, message_id: u64)
+        ensures { self.new ≡ accepted message_id self.old }
+    {
+        self.message.message_id = message_id;
+        self.message.deadline = None;
+        self.begun = false;
+    }
+
+    // Takes out the next piece, sent once at `now`; of the last one no bytes are left here.
+    pub(crate) fn take_piece(&mut self, now: Instant) -> InFlight
+        ensures piece { result ≡ sent_once now self.old }
+        ensures left { self.new ≡ without_piece self.old }
+    {
+        let ending_fragment = self.rest.is_empty();
+        let next = match self.rest.pop_front() {
+            Some(next) => next,
+            None => Bytes::new(),
+        };
+        let beginning_fragment = !self.begun;
+        self.begun = true;
+        InFlight {
+            message: self.message,
+            beginning_fragment,
+            ending_fragment,
+            user_data: mem::replace(&mut self.user_data, next),
+            sent_count: 1,
+            since: now,
+            retransmit: false,
+            acked: false,
+            abandoned: false,
+            misses: 0,
+        }
+    }
+
+    pub(crate) fn start(&mut self, now: Instant)
+        ensures { self.new ≡ waiting_started now self.old }
+    {
+        self.message.deadline = self.message.deadline_from(now);
+    }
+
+    pub(crate) fn is_of_stream(&self, id: StreamId) -> bool
+        ensures { result ≡ is_waiting_of_stream id self.now }
+    {
+        self.message.stream_identifier == id
+    }
+
+    pub(crate) fn is_expired_unsent(&self, now: Instant) -> bool
+        ensures { result ≡ is_expired_unsent now self.now }
+    {
+        !self.begun && self.message.is_expired(now)
+    }
+
+    pub(crate) fn move_down(&mut self, dropped: &Attributes)
+        ensures { self.new ≡ moved_down dropped.now self.old }
+    {
+        if dropped.shares_ssns(&self.message) {
+            let ssn = self.message.stream_sequence_number;
+            self.message.stream_sequence_number = ssn.wrapping_sub(1);
+        }
+    }
+}
+
+impl InFlight {
+    pub(crate) fn marker(message: Attributes) -> Self
+        ensures { result ≡ marker_of message }
+    {
+        InFlight {
+            message,
+            beginning_fragment: false,
+            ending_fragment: true,
+            user_data: Bytes::new(),
+            sent_count: 0,
+            since: Instant::from_nanos(0),
+            retransmit: false,
+            acked: false,
+            abandoned: true,
+            misses: 0,
+        }
+    }
+
+    /// Neither acknowledged nor abandoned.
+    pub fn is_outstanding(&self) -> bool
+        ensures { result ≡ is_outstanding self.now }
+    {
+        !self.acked && !self.abandoned
+    }
+
+    /// Its length in bytes where it is outstanding, else 0.
+    pub fn outstanding_bytes(&self) -> u64
+        ensures { result ≡ outstanding_bytes self.now }
+    {
+        if self.is_outstanding() {
+            self.user_data.len() as u64
+        } else {
+            0
+        }
+    }
+
+    pub(crate) fn is_of(&self, message_id: u64) -> bool
+        ensures { result ≡ is_of message_id self.now }
+    {
+        self.message.message_id == message_id
+    }
+
+    pub(crate) fn is_of_stream(&self, id: StreamId) -> bool
+        ensures { result ≡ is_of_stream id self.now }
+    {
+        self.message.stream_identifier == id
+    }
+
+    pub(crate) fn outstanding_bytes_of(&self, message_id: u64) -> u64
+        ensures { result ≡ outstanding_bytes_of message_id self.now }
+    {
+        if self.is_of(message_id) {
+            self.outstanding_bytes()
+        } else {
+            0
+        }
+    }
+
+    pub(crate) fn is_expired(&self, now: Instant) -> bool
+        ensures { result ≡ is_expired_piece now self.now }
+    {
+        !self.abandoned && self.message.is_expired(now)
+    }
+
+    pub(crate) fn acknowledge(&mut self)
+        ensures { self.new ≡ acked self.old }
+    {
+        self.acked = true;
+        self.retransmit = false;
+    }
+
+    pub(crate) fn mark(&mut self)
+        ensures { self.new ≡ marked_again self.old }
+    {
+        if self.is_outstanding() {
+            self.retransmit = true;
+        }
+    }
+
+    pub(crate) fn resend(&mut self)
+        ensures { self.new ≡ counted_again self.old }
+    {
+        self.retransmit = false;
+        self.sent_count = self.sent_count.saturating_add(1);
+    }
+
+    pub(crate) fn resend_fast(&mut self)
+        ensures { self.new ≡ counted_fast self.old }
+    {
+        self.sent_count = self.sent_count.saturating_add(1);
+    }
+
+    pub(crate) fn miss(&mut self)
+        ensures { self.new ≡ missed self.old }
+    {
+        if self.misses < 3 {
+            self.misses += 1;
+        }
+    }
+
+    pub(crate) fn abandon(&mut self, message_id: u64)
+        ensures { self.new ≡ flagged message_id self.old }
+    {
+        if self.is_of(message_id) {
+            self.abandoned = true;
+            self.retransmit = false;
+        }
+    }
+
+    pub(crate) fn start(&mut self, now: Instant)
+        ensures { self.new ≡ sent_started now self.old }
+    {
+        self.message.deadline = self.message.deadline_from(now);
+    }
+}
+
+// The bytes of the pieces beside so many others, at most the greatest u64.
+fn add_bytes(pieces: &VecDeque<Bytes>, others: u64) -> u64
+    ensures { result ≡ fold (λ sum piece. min (sum + length piece) (2 ^ 64 - 1)) others pieces.now.items }
+{
+    pieces.iter().fold(others, |sum, piece| {
+        sum.saturating_add(piece.len() as u64)
+    })
+}

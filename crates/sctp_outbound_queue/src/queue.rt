@@ -1,0 +1,411 @@
+// Messages that wait to be sent, and pieces in flight.
+ghost use Rattle.std.specs.Prelude.{◌≡◌, ◌==◌, ◌&&◌, ◌+◌, ◌-◌, ◌^◌, length, map, min, nat_lt, position, slice_get, IfOk, OnOk, OnErr};
+ghost use Rattle.std.specs.Option.{option_copied, option_map};
+ghost use Rattle.sctp_wire_types.specs.Serial.{tsn_past};
+ghost use Rattle.sctp_outbound_queue.specs.Message.{is_outstanding, is_expired_piece, is_expired_unsent, counted_again, counted_fast, missed, marked_again, flagged, waiting_started, sent_started, moved_down, sent_once};
+ghost use Rattle.sctp_outbound_queue.specs.Outbound.{empty_outbound, tsn_at, next_tsn_of, waiting_of, outstanding_of, outstanding_of_message, pieces_waiting, with_message, sent_next, after_piece, without_first, changed_at, acked_at, piece_at, all_marked, has_stream, abandoned_in_front_of, tail_dropped, all_flagged, abandoned_at, is_abandoned_piece};
+ghost use Rattle.sctp_outbound_queue.specs.Expiry.{all_started, first_tsn_that, without_expired, after_expiry, after_tail_expiry, is_expired_tail};
+
+use crate::walks::{
+    any_of_message, any_of_stream, any_waiting_of_stream, bytes_of_message, drop_expired,
+    first_expired_piece, first_not_abandoned, first_outstanding, flag_all, mark_each, pieces_of,
+    start_each_sent, start_each_waiting, take_piece,
+};
+use crate::{Attributes, InFlight, PendingMessage};
+use sctp_wire_types::{Instant, StreamId};
+use std::alloc::{AllocError, Global};
+use std::collections::VecDeque;
+use std::marker::Model;
+
+/// A message that is given up, and the bytes of it that waited or were outstanding until then.
+#[derive(Clone, Copy, Debug)]
+pub struct Released {
+    pub message: Attributes,
+    pub bytes: u64,
+}
+
+/// The messages that wait, oldest first, and the pieces in flight in the order of their TSNs, which are consecutive
+/// (RFC 4960 section 6.1). Only what is acknowledged cumulatively leaves it there.
+#[derive(Debug, Drop)]
+pub struct OutboundQueue {
+    pending: VecDeque<PendingMessage>,
+    in_flight: VecDeque<InFlight>,
+    first_tsn: u32,
+    next_message_id: u64,
+    // The bytes of the pieces that wait.
+    pending_bytes: u64,
+    // The bytes in flight that are neither acknowledged nor abandoned.
+    outstanding_bytes: u64,
+}
+
+impl Model for OutboundQueue {
+    ghost use Rattle.sctp_outbound_queue.specs.Outbound.{Outbound, AreKept};
+
+    ghost Value = { Outbound };
+
+    ghost view = { λ q. record {
+      pending = q.pending.items;
+      in_flight = q.in_flight.items;
+      first_tsn = q.first_tsn;
+      next_message_id = q.next_message_id;
+    } };
+
+    ghost invariant = { λ q. AreKept q.pending.items q.in_flight.items q.pending_bytes q.outstanding_bytes };
+}
+
+impl OutboundQueue {
+    /// Nothing waits, nothing is in flight, and the next piece gets `first_tsn`. Takes no memory.
+    pub fn new(alloc: Global, first_tsn: u32) -> Self
+        ensures { result ≡ empty_outbound first_tsn }
+    {
+        OutboundQueue {
+            pending: VecDeque::new(alloc),
+            in_flight: VecDeque::new(alloc),
+            first_tsn,
+            next_message_id: 0,
+            pending_bytes: 0,
+            outstanding_bytes: 0,
+        }
+    }
+
+    /// Adds a message behind those that wait, under the next message identifier. A sum of bytes that reaches the
+    /// greatest u64 and a message identifier past it count as want of memory.
+    pub fn push(&mut self, mut message: PendingMessage) -> Result<(), AllocError>
+        ensures ok { OnOk result (self.new ≡ with_message self.old message) }
+        ensures err { OnErr result (self.new ≡ self.old) }
+    {
+        let bytes = message.bytes();
+        let waiting = self.pending_bytes.saturating_add(bytes);
+        if waiting.saturating_add(self.outstanding_bytes) == u64::MAX
+            || self.next_message_id == u64::MAX
+        {
+            return Err(AllocError);
+        }
+        message.accept(self.next_message_id);
+        self.pending.push_back(message)?;
+        self.next_message_id += 1;
+        self.pending_bytes = waiting;
+        Ok(())
+    }
+
+    /// The message whose next piece is sent next.
+    pub fn peek_pending(&self) -> Option<&PendingMessage>
+        ensures { option_copied result ≡ slice_get self.now.pending 0 }
+    {
+        self.pending.front()
+    }
+
+    /// Nothing waits and nothing is in flight.
+    pub fn is_empty(&self) -> bool
+        ensures { result ≡ ((length self.now.pending == 0) && (length self.now.in_flight == 0)) }
+    {
+        self.pending.is_empty() && self.in_flight.is_empty()
+    }
+
+    /// Whether anything waits to be sent.
+    pub fn has_pending(&self) -> bool
+        ensures { result ≡ nat_lt 0 (length self.now.pending) }
+    {
+        !self.pending.is_empty()
+    }
+
+    /// Number of pieces that wait, at most the greatest usize. Goes over the messages that wait.
+    pub fn pending_len(&self) -> usize
+        ensures { result ≡ min (pieces_waiting self.now.pending) (2 ^ 64 - 1) }
+    {
+        pieces_of(&self.pending)
+    }
+
+    /// Bytes that wait.
+    pub fn pending_bytes(&self) -> u64
+        ensures { result ≡ waiting_of self.now.pending }
+    {
+        self.pending_bytes
+    }
+
+    /// Number of pieces in flight.
+    pub fn inflight_len(&self) -> usize
+        ensures { result ≡ length self.now.in_flight }
+    {
+        self.in_flight.len()
+    }
+
+    /// Bytes in flight that are neither acknowledged nor abandoned.
+    pub fn inflight_bytes(&self) -> u64
+        ensures { result ≡ outstanding_of self.now.in_flight }
+    {
+        self.outstanding_bytes
+    }
+
+    /// The identifier that the next message gets.
+    pub fn next_message_id(&self) -> u64
+        ensures { result ≡ self.now.next_message_id }
+    {
+        self.next_message_id
+    }
+
+    /// The TSN of the first piece in flight, or, where none is, of the next one.
+    pub fn first_tsn(&self) -> u32
+        ensures { result ≡ self.now.first_tsn }
+    {
+        self.first_tsn
+    }
+
+    /// The TSN that the next piece gets.
+    pub fn next_tsn(&self) -> u32
+        ensures { result ≡ next_tsn_of self.now }
+    {
+        self.tsn_at(self.in_flight.len())
+    }
+
+    /// The TSN that is `place` past the first one.
+    pub fn tsn_at(&self, place: usize) -> u32
+        ensures { result ≡ tsn_at self.now.first_tsn place }
+    {
+        let distance = (place as u64 % 0x1_0000_0000) as u32;
+        self.first_tsn.wrapping_add(distance)
+    }
+
+    /// How far a TSN is past the first one.
+    pub fn place_of(&self, tsn: u32) -> usize
+        ensures { result ≡ tsn_past self.now.first_tsn tsn }
+    {
+        tsn.wrapping_sub(self.first_tsn) as usize
+    }
+
+    /// Puts the next piece that waits in flight under the next TSN, sent once at `now`.
+    pub fn send_next(&mut self, now: Instant) -> Result<(), AllocError>
+        ensures ok { OnOk result (self.new ≡ sent_next self.old now) }
+        ensures err { OnErr result (self.new ≡ self.old) }
+    {
+        self.in_flight.reserve(1)?;
+        if let Some(piece) = take_piece(&mut self.pending, now) {
+            let bytes = piece.outstanding_bytes();
+            self.in_flight.push_back_reserved(piece);
+            self.pending_bytes -= bytes;
+            self.outstanding_bytes += bytes;
+        }
+        Ok(())
+    }
+
+    /// The piece in flight that is `place` TSNs past the first.
+    pub fn get(&self, place: usize) -> Option<&InFlight>
+        ensures { option_copied result ≡ slice_get self.now.in_flight place }
+    {
+        self.in_flight.get(place)
+    }
+
+    /// Takes out the first piece in flight: it is acknowledged cumulatively.
+    pub fn pop(&mut self) -> Option<InFlight>
+        ensures piece { result ≡ slice_get self.old.in_flight 0 }
+        ensures rest { self.new ≡ without_first self.old }
+    {
+        let piece = self.in_flight.pop_front()?;
+        self.first_tsn = self.first_tsn.wrapping_add(1);
+        self.outstanding_bytes -= piece.outstanding_bytes();
+        Some(piece)
+    }
+
+    /// A gap ack block named a TSN (RFC 4960 section 6.2.1). Answers the bytes that are outstanding no more.
+    pub fn mark_as_acked(&mut self, tsn: u32) -> u64
+        ensures { acked_at self.old tsn ≡ (self.new, result) }
+    {
+        let place = self.place_of(tsn);
+        match self.in_flight.get_mut(place) {
+            Some(piece) => {
+                let bytes = piece.outstanding_bytes();
+                piece.acknowledge();
+                self.outstanding_bytes -= bytes;
+                bytes
+            }
+            None => 0,
+        }
+    }
+
+    /// Marks every outstanding piece to be sent again (RFC 4960 section 6.3.3).
+    pub fn mark_all_to_retransmit(&mut self)
+        ensures { self.new ≡ all_marked self.old }
+    {
+        mark_each(self.in_flight.make_contiguous());
+    }
+
+    /// Takes the mark off a piece and counts a sending.
+    pub fn resend(&mut self, place: usize)
+        ensures { self.new ≡ changed_at counted_again self.old place }
+    {
+        if let Some(piece) = self.in_flight.get_mut(place) {
+            piece.resend();
+        }
+    }
+
+    /// Counts a sending by fast retransmission, which leaves the mark (RFC 4960 section 7.2.4).
+    pub fn resend_fast(&mut self, place: usize)
+        ensures { self.new ≡ changed_at counted_fast self.old place }
+    {
+        if let Some(piece) = self.in_flight.get_mut(place) {
+            piece.resend_fast();
+        }
+    }
+
+    /// Counts that a SACK reported a piece missing, up to 3 (RFC 4960 section 7.2.4).
+    pub fn count_miss(&mut self, place: usize)
+        ensures { self.new ≡ changed_at missed self.old place }
+    {
+        if let Some(piece) = self.in_flight.get_mut(place) {
+            piece.miss();
+        }
+    }
+
+    /// The TSN of the first outstanding piece.
+    pub fn earliest_outstanding_tsn(&self) -> Option<u32>
+        ensures { result ≡ first_tsn_that is_outstanding self.now }
+    {
+        match first_outstanding(&self.in_flight) {
+            Some(place) => Some(self.tsn_at(place)),
+            None => None,
+        }
+    }
+
+    /// Whether a piece of this stream waits or is not acknowledged cumulatively.
+    pub fn contains_stream(&self, id: StreamId) -> bool
+        ensures { result ≡ has_stream self.now id }
+    {
+        any_waiting_of_stream(&self.pending, id) || any_of_stream(&self.in_flight, id)
+    }
+
+    /// How many of the first pieces in flight are abandoned, one after another: so far past the TSN before the first one
+    /// lies the advanced peer ack point (RFC 3758 section 3.5).
+    pub fn abandoned_in_front(&self) -> usize
+        ensures { result ≡ abandoned_in_front_of self.now.in_flight }
+    {
+        match first_not_abandoned(&self.in_flight) {
+            Some(place) => place,
+            None => self.inflight_len(),
+        }
+    }
+
+    /// Whether a TSN is in flight and abandoned.
+    pub fn is_abandoned(&self, tsn: u32) -> bool
+        ensures { result ≡ is_abandoned_piece (piece_at self.now tsn) }
+    {
+        match self.get(self.place_of(tsn)) {
+            Some(piece) => piece.abandoned,
+            None => false,
+        }
+    }
+
+    /// Abandons the message of a TSN in flight whole (RFC 3758 section 3.5): every piece of it that is in flight, an
+    /// acknowledged one too, and its unsent pieces, for which a marker takes the next TSN. Answers what is released; None
+    /// where the TSN is not in flight.
+    pub fn abandon(&mut self, tsn: u32) -> Result<Option<Released>, AllocError>
+        ensures ok { IfOk result (λ released. abandoned_at self.old tsn ≡ (self.new, released)) }
+        ensures err { OnErr result (self.new ≡ self.old) }
+    {
+        let _ = &self.pending;
+        let Some(piece) = self.get(self.place_of(tsn)) else {
+            return Ok(None);
+        };
+        let message = piece.message;
+        let sent = self.bytes_of_message(message.message_id);
+        let tail = self.drop_tail(message.message_id)?;
+        self.flag(message.message_id);
+        Ok(Some(Released {
+            message,
+            bytes: sent + tail,
+        }))
+    }
+
+    // The outstanding bytes of a message.
+    fn bytes_of_message(&self, message_id: u64) -> u64
+        ensures { result ≡ outstanding_of_message message_id self.now.in_flight }
+    {
+        bytes_of_message(&self.in_flight, message_id)
+    }
+
+    // Drops the unsent pieces of a message, if it is the first one that waits; a marker takes the next TSN. Answers the
+    // bytes dropped.
+    fn drop_tail(&mut self, message_id: u64) -> Result<u64, AllocError>
+        ensures ok { IfOk result (λ bytes. tail_dropped self.old message_id ≡ (self.new, bytes)) }
+        ensures err { OnErr result (self.new ≡ self.old) }
+    {
+        let Some(first) = self.pending.front() else {
+            return Ok(0);
+        };
+        if first.message.message_id != message_id {
+            return Ok(0);
+        }
+        let bytes = first.bytes();
+        self.in_flight.push_back(InFlight::marker(first.message))?;
+        self.pending.pop_front();
+        self.pending_bytes -= bytes;
+        Ok(bytes)
+    }
+
+    // Abandons every piece of a message that is in flight.
+    fn flag(&mut self, message_id: u64)
+        ensures { self.new ≡ all_flagged message_id self.old }
+    {
+        self.outstanding_bytes -= bytes_of_message(&self.in_flight, message_id);
+        flag_all(&mut self.in_flight, message_id);
+    }
+
+    /// Lets the time of each message that has one run from `now` on, where it does not run yet.
+    pub fn start_timed_messages(&mut self, now: Instant)
+        ensures { self.new ≡ all_started now self.old }
+    {
+        start_each_waiting(self.pending.make_contiguous(), now);
+        start_each_sent(self.in_flight.make_contiguous(), now);
+    }
+
+    /// The first TSN in flight of an expired message that is not abandoned yet.
+    pub fn expired_inflight(&self, now: Instant) -> Option<u32>
+        ensures { result ≡ first_tsn_that (is_expired_piece now) self.now }
+    {
+        match first_expired_piece(&self.in_flight, now) {
+            Some(place) => Some(self.tsn_at(place)),
+            None => None,
+        }
+    }
+
+    /// Drops the first expired message of which nothing was sent. Later ordered messages of its stream and generation
+    /// that wait move down by one SSN, if it is an ordered one.
+    pub fn expire_pending(&mut self, now: Instant) -> Option<Released>
+        ensures { after_expiry now self.old ≡ (self.new, result) }
+    {
+        match drop_expired(&mut self.pending, now) {
+            Some(dropped) => {
+                let bytes = dropped.bytes();
+                self.pending_bytes -= bytes;
+                Some(Released {
+                    message: dropped.message,
+                    bytes,
+                })
+            }
+            None => None,
+        }
+    }
+
+    /// Abandons the unsent pieces of an expired message of which a part was sent and none of that part is in flight.
+    pub fn expire_pending_tail(&mut self, now: Instant) -> Result<Option<Released>, AllocError>
+        ensures ok { IfOk result (λ released. after_tail_expiry now self.old ≡ (self.new, released)) }
+        ensures err { OnErr result (self.new ≡ self.old) }
+    {
+        let Some(first) = self.pending.front() else {
+            return Ok(None);
+        };
+        if !self.is_expired_tail(first, now) {
+            return Ok(None);
+        }
+        let message = first.message;
+        let bytes = self.drop_tail(message.message_id)?;
+        Ok(Some(Released { message, bytes }))
+    }
+
+    fn is_expired_tail(&self, first: &PendingMessage, now: Instant) -> bool
+        ensures { result ≡ is_expired_tail now first.now self.now.in_flight }
+    {
+        first.begun
+            && first.message.is_expired(now)
+            && !any_of_message(&self.in_flight, first.message.message_id)
+    }
+}

@@ -1,0 +1,171 @@
+// What goes over a list of the queue.
+ghost use Rattle.std.specs.Prelude.{◌≡◌, ◌+◌, ◌-◌, ◌^◌, ◌<◌, ◌≤◌, ◌++◌, not, length, map, min, fold, find, take, drop, position, slice_get, IfSome};
+ghost use Rattle.std.specs.List.{list_any};
+ghost use Rattle.std.specs.Option.{option_map};
+ghost use Rattle.sctp_outbound_queue.specs.Message.{piece_count, is_of, is_of_stream, is_waiting_of_stream, is_outstanding, outstanding_bytes_of, is_expired_piece, is_expired_unsent, marked_again, flagged, waiting_started, sent_started, moved_down, sent_once};
+ghost use Rattle.sctp_outbound_queue.specs.Outbound.{outstanding_of_message, pieces_waiting, after_piece};
+ghost use Rattle.sctp_outbound_queue.specs.Expiry.{without_expired};
+
+use crate::{Attributes, InFlight, PendingMessage};
+use sctp_wire_types::{Instant, StreamId};
+use std::collections::VecDeque;
+
+// Takes out the next piece of the first message, sent once at `now`.
+pub(crate) fn take_piece(pending: &mut VecDeque<PendingMessage>, now: Instant) -> Option<InFlight>
+    ensures piece { result ≡ option_map (sent_once now) (slice_get pending.old.items 0) }
+    ensures left { pending.new.items ≡ after_piece pending.old.items }
+{
+    let message = pending.front_mut()?;
+    let piece = message.take_piece(now);
+    if piece.ending_fragment {
+        pending.pop_front();
+    }
+    Some(piece)
+}
+
+// The outstanding bytes of a message, at most the greatest u64.
+pub(crate) fn bytes_of_message(pieces: &VecDeque<InFlight>, message_id: u64) -> u64
+    ensures { result ≡ min (outstanding_of_message message_id pieces.now.items) (2 ^ 64 - 1) }
+{
+    add_bytes_of_message(pieces, message_id)
+}
+
+fn add_bytes_of_message(pieces: &VecDeque<InFlight>, message_id: u64) -> u64
+    ensures { result ≡ fold (λ sum p. min (sum + outstanding_bytes_of message_id p) (2 ^ 64 - 1)) 0 pieces.now.items }
+{
+    pieces.iter().fold(0u64, |sum, piece| {
+        sum.saturating_add(piece.outstanding_bytes_of(message_id))
+    })
+}
+
+// The number of pieces that wait, at most the greatest usize.
+pub(crate) fn pieces_of(messages: &VecDeque<PendingMessage>) -> usize
+    ensures { result ≡ min (pieces_waiting messages.now.items) (2 ^ 64 - 1) }
+{
+    add_pieces(messages)
+}
+
+fn add_pieces(messages: &VecDeque<PendingMessage>) -> usize
+    ensures { result ≡ fold (λ sum m. min (sum + min (piece_count m) (2 ^ 64 - 1)) (2 ^ 64 - 1)) 0 messages.now.items }
+{
+    messages.iter().fold(0usize, |sum, message| {
+        sum.saturating_add(message.piece_count())
+    })
+}
+
+pub(crate) fn first_outstanding(pieces: &VecDeque<InFlight>) -> Option<usize>
+    ensures { result ≡ position is_outstanding pieces.now.items }
+{
+    pieces.iter().position(|piece| piece.is_outstanding())
+}
+
+pub(crate) fn first_not_abandoned(pieces: &VecDeque<InFlight>) -> Option<usize>
+    ensures { result ≡ position (λ p. not p.abandoned) pieces.now.items }
+{
+    pieces.iter().position(|piece| !piece.abandoned)
+}
+
+pub(crate) fn first_expired_piece(pieces: &VecDeque<InFlight>, now: Instant) -> Option<usize>
+    ensures { result ≡ position (is_expired_piece now) pieces.now.items }
+{
+    pieces.iter().position(|piece| piece.is_expired(now))
+}
+
+pub(crate) fn any_of_message(pieces: &VecDeque<InFlight>, message_id: u64) -> bool
+    ensures { result ≡ list_any (is_of message_id) pieces.now.items }
+{
+    pieces.iter().any(|piece| piece.is_of(message_id))
+}
+
+pub(crate) fn any_of_stream(pieces: &VecDeque<InFlight>, id: StreamId) -> bool
+    ensures { result ≡ list_any (is_of_stream id) pieces.now.items }
+{
+    pieces.iter().any(|piece| piece.is_of_stream(id))
+}
+
+pub(crate) fn any_waiting_of_stream(messages: &VecDeque<PendingMessage>, id: StreamId) -> bool
+    ensures { result ≡ list_any (is_waiting_of_stream id) messages.now.items }
+{
+    messages.iter().any(|message| message.is_of_stream(id))
+}
+
+// Takes out the first expired message of which nothing was sent, and gives its SSN to the next one.
+pub(crate) fn drop_expired(
+    messages: &mut VecDeque<PendingMessage>,
+    now: Instant,
+) -> Option<PendingMessage>
+    ensures dropped { result ≡ find (is_expired_unsent now) messages.old.items }
+    ensures left { messages.new.items ≡ without_expired now messages.old.items }
+{
+    match first_expired(messages, now) {
+        Some(place) => {
+            let dropped = messages.remove(place)?;
+            move_down_from(messages, place, &dropped);
+            Some(dropped)
+        }
+        None => None,
+    }
+}
+
+fn first_expired(messages: &VecDeque<PendingMessage>, now: Instant) -> Option<usize>
+    ensures place { result ≡ position (is_expired_unsent now) messages.now.items }
+    ensures bound { IfSome result (λ place. place < length messages.now.items) }
+{
+    messages
+        .iter()
+        .position(|message| message.is_expired_unsent(now))
+}
+
+fn move_down_from(messages: &mut VecDeque<PendingMessage>, place: usize, dropped: &PendingMessage)
+    requires { place ≤ length messages.old.items }
+    ensures { messages.new.items ≡ take place messages.old.items ++ map (moved_down dropped.now.message) (drop place messages.old.items) }
+{
+    let later = messages.make_contiguous();
+    move_down(&mut later[place..], &dropped.message);
+}
+
+pub(crate) fn flag_all(pieces: &mut VecDeque<InFlight>, message_id: u64)
+    ensures { pieces.new.items ≡ map (flagged message_id) pieces.old.items }
+{
+    flag_each(pieces.make_contiguous(), message_id);
+}
+
+pub(crate) fn mark_each(pieces: &mut [InFlight])
+    ensures { pieces.new ≡ map marked_again pieces.old }
+{
+    for piece in pieces.iter_mut() {
+        piece.mark();
+    }
+}
+
+fn flag_each(pieces: &mut [InFlight], message_id: u64)
+    ensures { pieces.new ≡ map (flagged message_id) pieces.old }
+{
+    for piece in pieces.iter_mut() {
+        piece.abandon(message_id);
+    }
+}
+
+pub(crate) fn start_each_waiting(messages: &mut [PendingMessage], now: Instant)
+    ensures { messages.new ≡ map (waiting_started now) messages.old }
+{
+    for message in messages.iter_mut() {
+        message.start(now);
+    }
+}
+
+pub(crate) fn start_each_sent(pieces: &mut [InFlight], now: Instant)
+    ensures { pieces.new ≡ map (sent_started now) pieces.old }
+{
+    for piece in pieces.iter_mut() {
+        piece.start(now);
+    }
+}
+
+fn move_down(messages: &mut [PendingMessage], dropped: &Attributes)
+    ensures { messages.new ≡ map (moved_down dropped.now) messages.old }
+{
+    for message in messages.iter_mut() {
+        message.move_down(dropped);
+    }
+}
