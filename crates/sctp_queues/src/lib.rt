@@ -4,6 +4,7 @@
 
 mod chunks;
 mod event;
+mod halves;
 mod outbound;
 mod reassembly;
 mod stats;
@@ -12,6 +13,7 @@ mod streams;
 
 pub use chunks::Chunks;
 pub use event::{AssociationError, Event, Events};
+pub use halves::{RecvSendState, ReliabilityParams};
 pub use outbound::{Fragment, InFlight, OutboundQueue};
 pub use reassembly::{HeldMessage, ReassemblyQueue};
 pub use stats::DataChannelStats;
