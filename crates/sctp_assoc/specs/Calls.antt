@@ -15,7 +15,7 @@ use Rattle.sctp_outbound_queue.specs.declared.message.Policy.TheVariants.{Reliab
 use Rattle.sctp_outbound_queue.specs.Waiting.{Waiting}
 use Rattle.sctp_outbound_queue.specs.Outbound.{all_marked, with_message}
 use Rattle.sctp_queues.specs.Message.{Message}
-use Rattle.sctp_queues.specs.Stream.{Stream, accepted_by}
+use Rattle.sctp_queues.specs.Stream.{Stream, accepted_by, params_for}
 use Rattle.sctp_queues.specs.Streams.{StreamMap, stream_at, generation_left, changed_stream, made, read_in, last_stats, without_streams}
 use Rattle.sctp_inbound.specs.Receiver.{acknowledged_at_once}
 use Rattle.sctp_assoc.specs.Shown.{Shown, all_stopped}
@@ -91,7 +91,7 @@ after_timeouts a now = after_ack_delay (after_t3 a now) now
 
 -- a new generation of a stream was made for the application
 abbrev pub opened : Shown → ℕ → PayloadProtocolIdentifier → Shown
-opened a id kind = record a { streams = made a.streams id kind }
+opened a id kind = record a { streams = made a.streams id a.sender.queue.next_message_id kind }
 
 -- the call is refused exactly with this refusal, if there is one
 abbrev pub Refuses : {T : Type 0} → Result T Error → Option Error → Type 0
@@ -153,10 +153,10 @@ message_of s id bytes = record {
     message_id = 0;
     stream_identifier = id;
     generation = s.stats.generation;
-    unordered = false;
+    unordered = (params_for s s.default_payload_type).unordered;
     stream_sequence_number = s.next_ssn;
     payload_type = s.default_payload_type;
-    policy = Reliable;
+    policy = (params_for s s.default_payload_type).policy;
     deadline = None;
   };
   begun = false;

@@ -35,7 +35,7 @@ counted_data a = record a { counts = (let c = a.counts in record c { datas = one
 
 abbrev pub with_new_stream : Shown → ℕ → Shown
 with_new_stream a id = record a {
-  streams = made a.streams id kinds.Unknown;
+  streams = made a.streams id a.sender.queue.next_message_id kinds.Unknown;
   events = a.events ++ events.Stream (Opened id) ∷ [];
 }
 

@@ -275,7 +275,9 @@ impl Association {
         if !self.streams.has_generation() {
             return Err(Error::ErrStreamCreateFailed);
         }
-        self.streams.make(self.alloc, id, default_payload_type)?;
+        let first_message_id = self.sender.queue.next_message_id();
+        self.streams
+            .make(self.alloc, id, first_message_id, default_payload_type)?;
         Ok(Stream::new(self, id))
     }
 

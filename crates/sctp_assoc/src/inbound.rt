@@ -123,8 +123,10 @@ impl Association {
         if !self.streams.has_generation() {
             return Ok(false);
         }
+        let first_message_id = self.sender.queue.next_message_id();
+        let payload_type = PayloadProtocolIdentifier::Unknown;
         self.streams
-            .make(self.alloc, id, PayloadProtocolIdentifier::Unknown)?;
+            .make(self.alloc, id, first_message_id, payload_type)?;
         self.events.push(Event::Stream(StreamEvent::Opened { id }))?;
         Ok(true)
     }

@@ -4,7 +4,7 @@ ghost use Rattle.sctp_assoc.specs.Calls.{Refuses, RefusesOrLacksMemory, write_re
 
 use crate::Association;
 use bytes::Bytes;
-use sctp_outbound_queue::{Attributes, PendingMessage, Policy};
+use sctp_outbound_queue::{Attributes, PendingMessage};
 use sctp_parts::state::AssociationState;
 use sctp_queues::Chunks;
 use sctp_wire_types::{Error, StreamId};
@@ -66,6 +66,7 @@ impl Association {
             return Ok(());
         };
         let payload_type = stream.default_payload_type();
+        let params = stream.params_for(payload_type);
         let size = bytes.len() as u64;
         if stream.buffered_amount() > u64::MAX - size {
             return Err(AllocError);
@@ -75,10 +76,10 @@ impl Association {
                 message_id: 0,
                 stream_identifier: id,
                 generation: stream.stats().generation,
-                unordered: false,
+                unordered: params.unordered,
                 stream_sequence_number: stream.next_ssn(),
                 payload_type,
-                policy: Policy::Reliable,
+                policy: params.policy,
                 deadline: None,
             },
             begun: false,

@@ -1,5 +1,10 @@
 -- One live stream of an association (RFC 4960 section 1.3, "Stream").
-use Rattle.std.specs.Prelude.{ℕ, Bool, ◌+◌, ◌-◌, ◌%◌, ◌^◌, length, Option, Some, None}
+use Rattle.std.specs.Prelude.{ℕ, Bool, true, false, ◌&&◌, ◌==◌, ◌+◌, ◌-◌, ◌%◌, ◌^◌, if◌then◌else◌, nat_lt, nat_le, length, Option, Some, None}
+use Rattle.sctp_wire_types.specs.declared.ids.PayloadProtocolIdentifier.TheVariants as kinds
+use Rattle.sctp_outbound_queue.specs.declared.message.Policy.TheVariants.{Reliable}
+use Rattle.sctp_queues.specs.declared.halves.RecvSendState.{RecvSendState}
+use Rattle.sctp_queues.specs.declared.halves.RecvSendState.TheVariants as open_halves
+use Rattle.sctp_queues.specs.declared.halves.ReliabilityParams.{ReliabilityParams}
 use Rattle.sctp_wire_types.specs.declared.ids.PayloadProtocolIdentifier.{PayloadProtocolIdentifier}
 use Rattle.sctp_queues.specs.declared.stats.DataChannelStats.{DataChannelStats}
 use Rattle.sctp_queues.specs.declared.reassembly.HeldMessage.{HeldMessage}
@@ -7,35 +12,113 @@ use Rattle.sctp_queues.specs.Message.{Message}
 use Rattle.sctp_queues.specs.Reassembly.{Reassembly, empty_reassembly, pushed, taken}
 use Rattle.sctp_queues.specs.Stats.{fresh_stats, with_sent, with_received}
 
+-- The halves of a stream.
+
+abbrev pub halves_of : ℕ → RecvSendState
+halves_of number =
+    if number == 1 then open_halves.Readable else
+    if number == 2 then open_halves.Writable else
+    if number == 3 then open_halves.ReadWritable else open_halves.Closed
+
+abbrev pub is_read_half_open : RecvSendState → Bool
+is_read_half_open open_halves.Closed = false
+is_read_half_open open_halves.Readable = true
+is_read_half_open open_halves.Writable = false
+is_read_half_open open_halves.ReadWritable = true
+
+abbrev pub is_write_half_open : RecvSendState → Bool
+is_write_half_open open_halves.Closed = false
+is_write_half_open open_halves.Readable = false
+is_write_half_open open_halves.Writable = true
+is_write_half_open open_halves.ReadWritable = true
+
+abbrev pub without_read_half : RecvSendState → RecvSendState
+without_read_half open_halves.Closed = open_halves.Closed
+without_read_half open_halves.Readable = open_halves.Closed
+without_read_half open_halves.Writable = open_halves.Writable
+without_read_half open_halves.ReadWritable = open_halves.Writable
+
+abbrev pub without_write_half : RecvSendState → RecvSendState
+without_write_half open_halves.Closed = open_halves.Closed
+without_write_half open_halves.Readable = open_halves.Readable
+without_write_half open_halves.Writable = open_halves.Closed
+without_write_half open_halves.ReadWritable = open_halves.Readable
+
+abbrev pub ordered_and_reliable : ReliabilityParams
+ordered_and_reliable = record { unordered = false; policy = Reliable }
+
 pub record Stream : Type 0 where
   pub stats : DataChannelStats
+  -- messages of this generation have this identifier or a greater one
+  pub first_message_id : ℕ
   pub default_payload_type : PayloadProtocolIdentifier
+  pub halves : RecvSendState
+  -- order and reliability of later writes
+  pub params : ReliabilityParams
   -- the SSN that the next ordered message gets
   pub next_ssn : ℕ
   -- the bytes that were accepted and are not released
   pub buffered : ℕ
+  pub low_mark : ℕ
+  pub high_mark : ℕ
   pub reassembly : Reassembly
 
-abbrev pub fresh_stream : ℕ → ℕ → PayloadProtocolIdentifier → Stream
-fresh_stream id generation kind = record {
+abbrev pub fresh_stream : ℕ → ℕ → ℕ → PayloadProtocolIdentifier → Stream
+fresh_stream id generation first kind = record {
   stats = fresh_stats id generation;
+  first_message_id = first;
   default_payload_type = kind;
+  halves = open_halves.ReadWritable;
+  params = ordered_and_reliable;
   next_ssn = 0;
   buffered = 0;
+  low_mark = 0;
+  high_mark = 2 ^ 64 - 1;
   reassembly = empty_reassembly;
 }
 
--- an ordered message was accepted for sending
+abbrev pub with_halves : Stream → RecvSendState → Stream
+with_halves s h = record s { halves = h }
+
+abbrev pub with_params : Stream → ReliabilityParams → Stream
+with_params s params = record s { params = params }
+
+-- order and reliability of a message that is written now; one of the data channel establishment protocol is ordered and
+-- reliable (RFC 8832 section 6)
+abbrev pub params_for : Stream → PayloadProtocolIdentifier → ReliabilityParams
+params_for s kinds.Dcep = ordered_and_reliable
+params_for s kinds.String = s.params
+params_for s kinds.Binary = s.params
+params_for s kinds.StringEmpty = s.params
+params_for s kinds.BinaryEmpty = s.params
+params_for s kinds.Unknown = s.params
+
+-- a message was accepted for sending; an ordered one has the SSN that was next (RFC 4960 section 6.6)
 abbrev pub accepted_by : Stream → PayloadProtocolIdentifier → ℕ → Stream
 accepted_by s kind bytes = record s {
-  next_ssn = (s.next_ssn + 1) % 2 ^ 16;
+  next_ssn = (if (params_for s kind).unordered then s.next_ssn else (s.next_ssn + 1) % 2 ^ 16);
   buffered = s.buffered + bytes;
   stats = with_sent s.stats kind bytes;
 }
 
--- bytes that the peer acknowledged were released
+-- so many bytes more take the buffered amount from below the high mark to it or above
+abbrev pub reaches_high_mark : Stream → ℕ → Bool
+reaches_high_mark s bytes = nat_lt s.buffered s.high_mark && nat_le s.high_mark (s.buffered + bytes)
+
+-- bytes that the peer acknowledged, or that were given up, were released
 abbrev pub released_from : Stream → ℕ → Stream
 released_from s bytes = record s { buffered = s.buffered - bytes }
+
+-- their release takes the buffered amount from above the low mark to it or below
+abbrev pub falls_to_low_mark : Stream → ℕ → Bool
+falls_to_low_mark s bytes = nat_lt s.low_mark s.buffered && nat_le (s.buffered - bytes) s.low_mark
+
+-- an ordered message was dropped before any of it was sent
+abbrev pub with_ssn_given_back : Stream → Stream
+with_ssn_given_back s = record s { next_ssn = (s.next_ssn + 2 ^ 16 - 1) % 2 ^ 16 }
+
+abbrev pub with_restarted_ssn : Stream → Stream
+with_restarted_ssn s = record s { next_ssn = 0 }
 
 abbrev pub stream_pushed : Stream → HeldMessage → Stream × Bool
 stream_pushed s m = (record s { reassembly = (pushed s.reassembly m).0 }, (pushed s.reassembly m).1)

@@ -80,9 +80,9 @@ abbrev pub generation_left : StreamMap → Bool
 generation_left m = nat_lt m.next_generation (2 ^ 64 - 1)
 
 -- a new stream in the next generation
-abbrev pub made : StreamMap → ℕ → PayloadProtocolIdentifier → StreamMap
-made m id kind = record {
-  by_id = insert_entry nat_cmp m.by_id id (fresh_stream id m.next_generation kind);
+abbrev pub made : StreamMap → ℕ → ℕ → PayloadProtocolIdentifier → StreamMap
+made m id first kind = record {
+  by_id = insert_entry nat_cmp m.by_id id (fresh_stream id m.next_generation first kind);
   next_generation = m.next_generation + 1;
 }
 

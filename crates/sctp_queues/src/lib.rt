@@ -5,6 +5,7 @@
 
 mod chunks;
 mod event;
+mod halves;
 mod reassembly;
 mod stats;
 mod stream_state;
@@ -12,6 +13,7 @@ mod streams;
 
 pub use chunks::Chunks;
 pub use event::{AssociationError, Event, Events};
+pub use halves::{RecvSendState, ReliabilityParams};
 pub use reassembly::{HeldMessage, ReassemblyQueue};
 pub use sctp_outbound_queue::{
     Attributes, InFlight, OutboundQueue, PendingMessage, Policy, Released,

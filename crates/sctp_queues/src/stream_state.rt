@@ -1,21 +1,29 @@
 // One live stream.
-ghost use Rattle.std.specs.Prelude.{◌≡◌, ◌+◌, ◌<◌, ◌^◌, ◌↔◌, IfOk, OnErr, IfSome, IsNone, IsErrOf, IsOk, IsTrue, ◌⊎◌, false};
-ghost use Rattle.sctp_queues.specs.Stream.{fresh_stream, accepted_by, released_from, stream_pushed, stream_read};
+ghost use Rattle.std.specs.Prelude.{◌≡◌, ◌+◌, ◌<◌, ◌^◌, IfOk, OnErr, IsErrOf, IsOk, IsTrue, ◌⊎◌, false};
+ghost use Rattle.sctp_queues.specs.Stream.{fresh_stream, params_for, accepted_by, reaches_high_mark, released_from, falls_to_low_mark, with_ssn_given_back, with_restarted_ssn, with_params, with_halves, without_read_half, without_write_half, is_read_half_open, is_write_half_open, stream_pushed, stream_read};
 ghost use Rattle.sctp_queues.specs.Reassembly.{is_ready, bytes_held, contradicts};
 
-use crate::{Chunks, DataChannelStats, HeldMessage, ReassemblyQueue};
+use crate::{
+    Chunks, DataChannelStats, HeldMessage, ReassemblyQueue, RecvSendState, ReliabilityParams,
+};
 use sctp_wire_types::{Error, PayloadProtocolIdentifier, StreamId};
 use std::alloc::Global;
 use std::marker::Model;
 
-/// A stream as it stands: its counters, what it sends next and what waits for its reader.
+/// A stream as it stands: its counters, its halves, how it sends, and what waits for its reader.
 #[derive(Debug, Drop)]
 pub struct StreamState {
     stats: DataChannelStats,
+    // Messages of this generation have this identifier or a greater one.
+    first_message_id: u64,
     default_payload_type: PayloadProtocolIdentifier,
+    halves: RecvSendState,
+    params: ReliabilityParams,
     next_ssn: u16,
     // Bytes of this generation's messages that were accepted and are not released.
     buffered: u64,
+    low_mark: u64,
+    high_mark: u64,
     reassembly: ReassemblyQueue,
 }
 
@@ -26,30 +34,49 @@ impl Model for StreamState {
 
     ghost view = { λ s. record {
       stats = s.stats;
+      first_message_id = s.first_message_id;
       default_payload_type = s.default_payload_type;
+      halves = s.halves;
+      params = s.params;
       next_ssn = s.next_ssn;
       buffered = s.buffered;
+      low_mark = s.low_mark;
+      high_mark = s.high_mark;
       reassembly = s.reassembly;
     } };
 }
 
 impl StreamState {
-    /// A stream that carried nothing yet. Takes no memory.
+    /// A stream that carried nothing yet: both halves are open, messages are ordered and reliable, the low mark is 0 bytes
+    /// and the high mark the greatest u64. `first_message_id` is the identifier that the next message gets. Takes no memory.
     pub fn new(
         alloc: Global,
         id: StreamId,
         generation: u64,
+        first_message_id: u64,
         default_payload_type: PayloadProtocolIdentifier,
     ) -> Self
-        ensures { result ≡ fresh_stream id generation default_payload_type }
+        ensures { result ≡ fresh_stream id generation first_message_id default_payload_type }
     {
         StreamState {
             stats: DataChannelStats::new(id, generation),
+            first_message_id,
             default_payload_type,
+            halves: RecvSendState::ReadWritable,
+            params: ReliabilityParams::ordered_and_reliable(),
             next_ssn: 0,
             buffered: 0,
+            low_mark: 0,
+            high_mark: u64::MAX,
             reassembly: ReassemblyQueue::new(alloc),
         }
+    }
+
+    /// The least identifier that a message of this generation can have.
+    pub fn first_message_id(&self) -> u64
+        ensures { result ≡ self.now.first_message_id }
+    {
+        self.first_message_id
     }
 
     /// Counters of this generation.
@@ -80,21 +107,130 @@ impl StreamState {
         self.buffered
     }
 
-    /// Counts an ordered message of `bytes` bytes as accepted; it has the SSN that was next.
-    pub fn accept(&mut self, payload_type: PayloadProtocolIdentifier, bytes: u64)
-        requires { self.old.buffered + bytes < 2 ^ 64 }
-        ensures { self.new ≡ accepted_by self.old payload_type bytes }
+    /// Sets the payload type of messages that are written without one.
+    pub fn set_default_payload_type(&mut self, default_payload_type: PayloadProtocolIdentifier)
+        ensures { self.new ≡ record self.old { default_payload_type = default_payload_type } }
     {
-        self.next_ssn = self.next_ssn.wrapping_add(1);
-        self.buffered += bytes;
-        self.stats.count_sent(payload_type, bytes);
+        self.default_payload_type = default_payload_type;
     }
 
-    /// Counts bytes as released.
-    pub fn release(&mut self, bytes: u64)
-        ensures { self.new ≡ released_from self.old bytes }
+    /// Which halves are open.
+    pub fn halves(&self) -> RecvSendState
+        ensures { result ≡ self.now.halves }
     {
+        self.halves
+    }
+
+    /// Whether messages can be read.
+    pub fn is_read_half_open(&self) -> bool
+        ensures { result ≡ is_read_half_open self.now.halves }
+    {
+        self.halves.is_read_half_open()
+    }
+
+    /// Whether messages can be written.
+    pub fn is_write_half_open(&self) -> bool
+        ensures { result ≡ is_write_half_open self.now.halves }
+    {
+        self.halves.is_write_half_open()
+    }
+
+    /// Closes the read half; the write half stays as it is.
+    pub fn close_read_half(&mut self)
+        ensures { self.new ≡ with_halves self.old (without_read_half self.old.halves) }
+    {
+        self.halves = self.halves.without_read_half();
+    }
+
+    /// Closes the write half; the read half stays as it is.
+    pub fn close_write_half(&mut self)
+        ensures { self.new ≡ with_halves self.old (without_write_half self.old.halves) }
+    {
+        self.halves = self.halves.without_write_half();
+    }
+
+    /// Sets order and reliability of messages that are written from now on.
+    pub fn set_reliability_params(&mut self, params: ReliabilityParams)
+        ensures { self.new ≡ with_params self.old params }
+    {
+        self.params = params;
+    }
+
+    /// Order and reliability of a message that is written now: one of the data channel establishment protocol is ordered
+    /// and reliable (RFC 8832 section 6), any other is as the stream says.
+    pub fn params_for(&self, payload_type: PayloadProtocolIdentifier) -> ReliabilityParams
+        ensures { result ≡ params_for self.now payload_type }
+    {
+        match payload_type {
+            PayloadProtocolIdentifier::Dcep => ReliabilityParams::ordered_and_reliable(),
+            _ => self.params,
+        }
+    }
+
+    /// A release that takes the buffered amount from above this many bytes to it or below is told.
+    pub fn low_mark(&self) -> u64
+        ensures { result ≡ self.now.low_mark }
+    {
+        self.low_mark
+    }
+
+    pub fn set_low_mark(&mut self, bytes: u64)
+        ensures { self.new ≡ record self.old { low_mark = bytes } }
+    {
+        self.low_mark = bytes;
+    }
+
+    /// A write that takes the buffered amount from below this many bytes to it or above is told.
+    pub fn high_mark(&self) -> u64
+        ensures { result ≡ self.now.high_mark }
+    {
+        self.high_mark
+    }
+
+    pub fn set_high_mark(&mut self, bytes: u64)
+        ensures { self.new ≡ record self.old { high_mark = bytes } }
+    {
+        self.high_mark = bytes;
+    }
+
+    /// Counts a message of `bytes` bytes as accepted; an ordered one has the SSN that was next. Answers whether the high
+    /// mark was reached.
+    pub fn accept(&mut self, payload_type: PayloadProtocolIdentifier, bytes: u64) -> bool
+        requires { self.old.buffered + bytes < 2 ^ 64 }
+        ensures accepted { self.new ≡ accepted_by self.old payload_type bytes }
+        ensures high { result ≡ reaches_high_mark self.old bytes }
+    {
+        let before = self.buffered;
+        if !self.params_for(payload_type).unordered {
+            self.next_ssn = self.next_ssn.wrapping_add(1);
+        }
+        self.buffered += bytes;
+        self.stats.count_sent(payload_type, bytes);
+        before < self.high_mark && self.high_mark <= self.buffered
+    }
+
+    /// Counts bytes as released, and answers whether the low mark was crossed.
+    pub fn on_buffer_released(&mut self, bytes: u64) -> bool
+        ensures released { self.new ≡ released_from self.old bytes }
+        ensures low { result ≡ falls_to_low_mark self.old bytes }
+    {
+        let before = self.buffered;
         self.buffered = self.buffered.saturating_sub(bytes);
+        self.low_mark < before && self.buffered <= self.low_mark
+    }
+
+    /// The SSN of an ordered message that was dropped before any of it was sent goes to the next message.
+    pub fn give_back_ssn(&mut self)
+        ensures { self.new ≡ with_ssn_given_back self.old }
+    {
+        self.next_ssn = self.next_ssn.wrapping_sub(1);
+    }
+
+    /// SSNs begin again at 0, after the outgoing stream was reset (RFC 6525 section 5.1.2).
+    pub fn restart_ssn(&mut self)
+        ensures { self.new ≡ with_restarted_ssn self.old }
+    {
+        self.next_ssn = 0;
     }
 
     /// Keeps a message that came, where its SSN is not an old one, and answers whether it did.

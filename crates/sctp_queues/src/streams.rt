@@ -60,7 +60,7 @@ impl Streams {
         self.by_id.get_mut(&id)
     }
 
-    /// Counts an ordered message as accepted on a live stream.
+    /// Counts a message as accepted on a live stream.
     pub fn accept(&mut self, id: StreamId, payload_type: PayloadProtocolIdentifier, bytes: u64)
         requires { IfSome (stream_at self.old id) (λ s. s.buffered + bytes < 2 ^ 64) }
         ensures { self.new ≡ changed_stream (λ s. accepted_by s payload_type bytes) self.old id }
@@ -76,7 +76,7 @@ impl Streams {
     {
         if self.is_live(id, generation) {
             if let Some(stream) = self.get_mut(id) {
-                stream.release(bytes);
+                stream.on_buffer_released(bytes);
             }
         }
     }
@@ -133,18 +133,25 @@ impl Streams {
         self.next_generation < u64::MAX
     }
 
-    /// Makes a stream, in the next generation.
+    /// Makes a stream, in the next generation. `first_message_id` is the identifier that the next message gets.
     pub fn make(
         &mut self,
         alloc: Global,
         id: StreamId,
+        first_message_id: u64,
         default_payload_type: PayloadProtocolIdentifier,
     ) -> Result<(), AllocError>
         requires { self.old.next_generation < 2 ^ 64 - 1 }
-        ensures ok { OnOk result (self.new ≡ made self.old id default_payload_type) }
+        ensures ok { OnOk result (self.new ≡ made self.old id first_message_id default_payload_type) }
         ensures err { OnErr result (self.new ≡ self.old) }
     {
-        let stream = StreamState::new(alloc, id, self.next_generation, default_payload_type);
+        let stream = StreamState::new(
+            alloc,
+            id,
+            self.next_generation,
+            first_message_id,
+            default_payload_type,
+        );
         self.by_id.insert(id, stream)?;
         self.next_generation += 1;
         Ok(())

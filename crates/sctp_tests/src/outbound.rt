@@ -108,7 +108,7 @@ fn acknowledgement_after_200_ms_releases_and_measures(rt: HostRuntime) -> Result
     let mut sender = Sender::new(rt.alloc(), 1200, 100, 1_048_576);
     let mut rest = fresh_rest(rt.alloc());
     rest.streams
-        .make(rt.alloc(), 1, PayloadProtocolIdentifier::Binary)?;
+        .make(rt.alloc(), 1, 0, PayloadProtocolIdentifier::Binary)?;
     if let Some(stream) = rest.streams.get_mut(1) {
         if stream.buffered_amount() == 0 {
             stream.accept(PayloadProtocolIdentifier::Binary, 2);

@@ -147,9 +147,9 @@ fn streams_end_by_their_identifiers(rt: HostRuntime) -> Result<(), Fail> {
     let mut streams = Streams::new(rt.alloc());
     assert!(rt; streams.is_empty());
     assert!(rt; streams.has_generation());
-    streams.make(rt.alloc(), 9, PayloadProtocolIdentifier::String)?;
-    streams.make(rt.alloc(), 2, PayloadProtocolIdentifier::String)?;
-    streams.make(rt.alloc(), 5, PayloadProtocolIdentifier::String)?;
+    streams.make(rt.alloc(), 9, 0, PayloadProtocolIdentifier::String)?;
+    streams.make(rt.alloc(), 2, 0, PayloadProtocolIdentifier::String)?;
+    streams.make(rt.alloc(), 5, 0, PayloadProtocolIdentifier::String)?;
     assert_eq!(rt; streams.len(), 3);
     assert!(rt; streams.contains(5));
     assert!(rt; !streams.contains(6));
@@ -170,7 +170,7 @@ fn streams_end_by_their_identifiers(rt: HostRuntime) -> Result<(), Fail> {
 #[test]
 fn other_generations_keep_their_bytes(rt: HostRuntime) -> Result<(), Fail> {
     let mut streams = Streams::new(rt.alloc());
-    streams.make(rt.alloc(), 5, PayloadProtocolIdentifier::String)?;
+    streams.make(rt.alloc(), 5, 0, PayloadProtocolIdentifier::String)?;
     if let Some(stream) = streams.get_mut(5) {
         stream.accept(PayloadProtocolIdentifier::String, 100);
     }
@@ -184,7 +184,7 @@ fn other_generations_keep_their_bytes(rt: HostRuntime) -> Result<(), Fail> {
         streams.get(5).expect(&rt, "a stream").buffered_amount(),
         40
     );
-    streams.make(rt.alloc(), 5, PayloadProtocolIdentifier::String)?;
+    streams.make(rt.alloc(), 5, 0, PayloadProtocolIdentifier::String)?;
     streams.accept(5, PayloadProtocolIdentifier::String, 7);
     streams.release(5, 0, 5);
     assert_eq!(rt; streams.get(5).expect(&rt, "a stream").buffered_amount(), 7);

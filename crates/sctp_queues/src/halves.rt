@@ -1,0 +1,83 @@
+// The two halves of a stream, and how its messages are sent.
+ghost use Rattle.std.specs.Prelude.{◌≡◌};
+ghost use Rattle.sctp_queues.specs.Stream.{halves_of, ordered_and_reliable, is_read_half_open, is_write_half_open, without_read_half, without_write_half};
+
+use sctp_outbound_queue::Policy;
+
+/// Which halves of a stream are open. The numbers are those of the ported crate: 1 for the read half, 2 for the write half.
+#[derive(Clone, Copy, Debug, PartialEq, Eq)]
+pub enum RecvSendState {
+    Closed = 0,
+    Readable = 1,
+    Writable = 2,
+    ReadWritable = 3,
+}
+
+impl From<u8> for RecvSendState {
+    ghost from_gives = { λ number halves. halves ≡ halves_of number };
+
+    /// The halves of a number; any but 1, 2 and 3 is Closed.
+    fn from(number: u8) -> RecvSendState {
+        match number {
+            1 => RecvSendState::Readable,
+            2 => RecvSendState::Writable,
+            3 => RecvSendState::ReadWritable,
+            _ => RecvSendState::Closed,
+        }
+    }
+}
+
+impl RecvSendState {
+    pub fn is_read_half_open(self) -> bool
+        ensures { result ≡ is_read_half_open self }
+    {
+        matches!(self, RecvSendState::Readable | RecvSendState::ReadWritable)
+    }
+
+    pub fn is_write_half_open(self) -> bool
+        ensures { result ≡ is_write_half_open self }
+    {
+        matches!(self, RecvSendState::Writable | RecvSendState::ReadWritable)
+    }
+
+    /// The halves once the read half is closed.
+    pub fn without_read_half(self) -> RecvSendState
+        ensures { result ≡ without_read_half self }
+    {
+        if self.is_write_half_open() {
+            RecvSendState::Writable
+        } else {
+            RecvSendState::Closed
+        }
+    }
+
+    /// The halves once the write half is closed.
+    pub fn without_write_half(self) -> RecvSendState
+        ensures { result ≡ without_write_half self }
+    {
+        if self.is_read_half_open() {
+            RecvSendState::Readable
+        } else {
+            RecvSendState::Closed
+        }
+    }
+}
+
+/// How messages are sent: in order or not, and how long each is tried (RFC 3758 sections 3.5 and 4.1).
+#[derive(Clone, Copy, Debug)]
+pub struct ReliabilityParams {
+    pub unordered: bool,
+    pub policy: Policy,
+}
+
+impl ReliabilityParams {
+    /// What a stream begins with.
+    pub fn ordered_and_reliable() -> ReliabilityParams
+        ensures { result ≡ ordered_and_reliable }
+    {
+        ReliabilityParams {
+            unordered: false,
+            policy: Policy::Reliable,
+        }
+    }
+}
