@@ -11,7 +11,6 @@ use Rattle.sctp_parts.specs.Timers.{Timers, least_moment, after_expiry, expiry_o
 use Rattle.sctp_parts.specs.Stats.{one_more}
 use Rattle.sctp_queues.specs.declared.event.AssociationError.{AssociationError}
 use Rattle.sctp_queues.specs.declared.event.Event.TheVariants.{AssociationLost, DataChannelStatsFinal}
-use Rattle.sctp_outbound_queue.specs.declared.message.Policy.TheVariants.{Reliable}
 use Rattle.sctp_outbound_queue.specs.Waiting.{Waiting}
 use Rattle.sctp_outbound_queue.specs.Outbound.{all_marked, with_message}
 use Rattle.sctp_queues.specs.Message.{Message}

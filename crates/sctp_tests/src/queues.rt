@@ -126,11 +126,11 @@ fn events_come_oldest_first(rt: HostRuntime) -> Result<(), Fail> {
 
 #[test]
 fn stream_counts_and_releases(rt: HostRuntime) -> Result<(), Fail> {
-    let mut stream = StreamState::new(rt.alloc(), 9, 2, PayloadProtocolIdentifier::Binary);
+    let mut stream = StreamState::new(rt.alloc(), 9, 2, 0, PayloadProtocolIdentifier::Binary);
     assert!(rt; stream.default_payload_type() == PayloadProtocolIdentifier::Binary);
-    stream.accept(PayloadProtocolIdentifier::Binary, 1200);
+    assert!(rt; !stream.accept(PayloadProtocolIdentifier::Binary, 1200));
     assert_eq!(rt; (stream.next_ssn(), stream.buffered_amount()), (1, 1200));
-    stream.release(1000);
+    assert!(rt; !stream.on_buffer_released(1000));
     assert_eq!(rt; stream.buffered_amount(), 200);
     assert!(rt; stream.push(message(rt.alloc(), 0, b"hi")?)?);
     assert!(rt; stream.is_readable());
