@@ -1,5 +1,7 @@
+pub mod Acts
 pub mod Calls
 pub mod Chunks
+pub mod Happened
 pub mod Inbound
 pub mod Join
 pub mod Lending

@@ -1,0 +1,299 @@
+-- What each call does to the two directions is what its acts say.
+use Rattle.std.proofs.Common.{◌≡◌, refl, sym, ap, ◌∙◌, ◌⊎◌, ⊎_elim, inl, inr, ℕ, zero, suc, ◌<◌, ◌≤◌, ◌+◌, ◌-◌, ◌%◌, ◌^◌, arith, Bool, true, false, eqb, ◌&&◌, List, [], ◌∷◌, ◌++◌, length, if◌then◌else◌, nat_lt, nat_le, Option, Some, None, Result, Ok, Err, is_some}
+use Rattle.std.proofs.lemmas.Bool.{and_parts, cases_eq, eq-eqb, eqb-true, false≢true, leb-true, or_cases, or_left, or_right}
+use Rattle.sctp_wire_types.specs.Serial.{tsn_gt}
+use Rattle.sctp_wire_types.specs.declared.chunk.ChunkPayloadData.{ChunkPayloadData}
+use Rattle.sctp_wire_types.specs.declared.chunk.Chunk.{Chunk}
+use Rattle.sctp_wire_types.specs.declared.chunk.Chunk.TheVariants as chunks
+use Rattle.sctp_wire_types.specs.declared.error.Error.{Error}
+use Rattle.sctp_wire_types.specs.Checks.{checked_chunk}
+use Rattle.sctp_wire.specs.declared.packet.Packet.{Packet}
+use Rattle.sctp_wire_types.specs.declared.ids.PayloadProtocolIdentifier.TheVariants as kinds
+use Rattle.sctp_model.specs.Packets.{mem}
+use Rattle.sctp_model.specs.Serial.{tsn}
+use Rattle.sctp_parts.specs.Estimate.{Estimate}
+use Rattle.sctp_queues.specs.declared.event.AssociationError.{AssociationError}
+use Rattle.sctp_queues.specs.declared.event.AssociationError.TheVariants as reasons
+use Rattle.sctp_queues.specs.Streams.{StreamMap, bytes_waiting, contradicts_in, generation_left, is_readable_in, pushed_in, stream_at}
+use Rattle.sctp_inbound.specs.declared.receiver.AckWish.{AckWish}
+use Rattle.sctp_inbound.specs.declared.receiver.AckWish.TheVariants as wishes
+use Rattle.sctp_inbound.specs.declared.receiver.Receiver.{Receiver}
+use Rattle.sctp_inbound.specs.Receiver.{credit_of, is_next_after, taken_to}
+use Rattle.sctp_outbound.specs.declared.sender.Sender.{Sender}
+use Rattle.sctp_outbound.specs.declared.sender.SackOutcome.{SackOutcome}
+use Rattle.sctp_outbound.specs.declared.sender.SackOutcome.TheVariants as outcomes
+use Rattle.sctp_outbound.specs.Sender.{acked_point_of, acknowledged, points_to, sack_outcome, with_window}
+use Rattle.sctp_assoc.specs.declared.inbound.Flow.{Flow}
+use Rattle.sctp_assoc.specs.declared.inbound.Flow.TheVariants as flows
+use Rattle.sctp_assoc.specs.Acts.{Act, Binds, Can, CanAll, History, Leads, Parts, IsSamePast, done, done_all, parts, tsn_before, with_taken}
+use Rattle.sctp_assoc.specs.Calls.{closed_by, closed_open, is_closed_state, is_established}
+use Rattle.sctp_assoc.specs.Chunks.{after_chunks, after_packet, after_packet_of, after_sack, asks_or_faults, checked_first, counted_data, counted_sack, dispatched, ended, goes_on, is_whole, message_in, on_chunk, on_counted_sack, on_data, on_next_data, on_sack, stream_found, taken_in, told, with_acknowledged, with_message, with_new_stream}
+use Rattle.sctp_assoc.specs.Happened.{acts_after, acts_of_checked, acts_of_chunk, acts_of_chunks, acts_of_close, acts_of_kind, acts_of_packet, acts_of_packet_of, acts_of_data, acts_of_found, acts_of_outcome, acts_of_sack, acts_of_stream, acts_of_taking}
+use Rattle.sctp_assoc.specs.Shown.{Shown}
+use Rattle.sctp_assoc.proofs.Acting.{acknowledged_tied, acts_tied, can_append, done_append, pieces_acknowledged}
+
+pub leads_on : (xs ys : List Act) (a b c : Shown) (h k l : History) → Leads xs a h b k → Leads ys b k c l → Leads (xs ++ ys) a h c l
+leads_on xs ys a b c h k l m n = record {
+  can = can_append xs ys (parts a h) m.can (rw (← m.there) n.can);
+  there = rw (done_append xs ys (parts a h), ← m.there) n.there;
+  binds = n.binds;
+}
+
+-- Where the directions see another queue or other streams, but the same receiver.
+pub leads_by : (xs : List Act) (a b : Shown) (h : History) → Binds a h → CanAll xs (parts a h)
+    → (b' : parts b (done_all xs (parts a h)).history ≡ done_all xs (parts a h)) → b.receiver.point ≡ a.receiver.point
+    → IsSamePast h (done_all xs (parts a h)).history
+    → Leads xs a h b (done_all xs (parts a h)).history
+leads_by xs a b h binds can there point same = record {
+  can = can;
+  there = there;
+  binds = record {
+    first = ap (λ (p : Parts). p.queue.first_tsn) there ∙ acts_tied xs (parts a h) can binds.first;
+    point = point ∙ binds.point ∙ rw (same.peer, same.point) refl;
+    below = rw (same.taken, same.passed, same.point) binds.below;
+    above = rw (same.taken, same.point) binds.above;
+    passed = rw (same.passed, same.point) binds.passed;
+  };
+}
+
+-- the chunks of a packet
+
+past_itself : (h : History) → IsSamePast h h
+past_itself h = record { peer = refl; taken = refl; passed = refl; point = refl }
+
+-- nothing that the directions see changed
+pub leads_nowhere : (a b : Shown) (h : History) → Binds a h → parts b h ≡ parts a h → b.receiver.point ≡ a.receiver.point → Leads [] a h b h
+leads_nowhere a b h binds same point = leads_by [] a b h binds tt same point (past_itself h)
+
+close_leads : (closed : Bool) (a : Shown) (reason : AssociationError) (h : History) → is_closed_state a.state ≡ closed → Binds a h
+    → Leads (acts_of_close a) a h (closed_by a reason) h
+close_leads true a reason h e binds = rw e (leads_nowhere a a h binds refl refl)
+close_leads false a reason h e binds = rw e (leads_by (Act.Ended ∷ []) a (closed_open a reason) h binds (tt, tt) refl refl (past_itself h))
+
+stream_leads : (there left : Bool) (a : Shown) (id : ℕ) (h : History) → is_some (stream_at a.streams id) ≡ there → generation_left a.streams ≡ left → Binds a h
+    → Leads (acts_of_stream a id) a h (stream_found a id).0 h
+unfolding stream_found
+stream_leads true left a id h e f binds = rw e (leads_nowhere a a h binds refl refl)
+stream_leads false true a id h e f binds = rw (e, f) (leads_by (Act.Opened id a.sender.queue.next_message_id kinds.Unknown ∷ []) a (with_new_stream a id) h binds (tt, tt) refl refl (past_itself h))
+stream_leads false false a id h e f binds = rw (e, f) (leads_nowhere a a h binds refl refl)
+
+pub stream_receiver : (there left : Bool) (a : Shown) (id : ℕ) → is_some (stream_at a.streams id) ≡ there → generation_left a.streams ≡ left
+    → (stream_found a id).0.receiver ≡ a.receiver
+unfolding stream_found
+stream_receiver true left a id e f = rw e refl
+stream_receiver false true a id e f = rw (e, f) refl
+stream_receiver false false a id e f = rw (e, f) refl
+
+-- DATA
+
+told_parts : (c : Bool) (b : Shown) (id : ℕ) (kept : Bool) (h : History) → (kept && is_readable_in b.streams id) ≡ c → parts (told b id kept) h ≡ parts b h
+told_parts true b id kept h e = rw e refl
+told_parts false b id kept h e = rw e refl
+
+told_receiver : (c : Bool) (b : Shown) (id : ℕ) (kept : Bool) → (kept && is_readable_in b.streams id) ≡ c → (told b id kept).receiver ≡ b.receiver
+told_receiver true b id kept e = rw e refl
+told_receiver false b id kept e = rw e refl
+
+next_tsn : (peer at point t : ℕ) → point ≡ tsn_before (tsn peer at) → t ≡ (point + 1) % 2 ^ 32 → t ≡ tsn peer at
+next_tsn peer at point t e f = rw (f, e) (omega arith)
+
+before_next : (peer at : ℕ) → tsn peer at ≡ tsn_before (tsn peer (at + 1))
+before_next peer at = omega arith
+
+taken_below : (h : History) → ((o : ℕ) → o < h.point → (mem o h.taken ≡ true) ⊎ (o < h.passed))
+    → (o : ℕ) → o < h.point + 1 → (mem o (h.point ∷ h.taken) ≡ true) ⊎ (o < h.passed)
+taken_below h below o l = ⊎_elim
+    (λ (e : h.point ≡ o). inl (or_left (eqb h.point o) (mem o h.taken) (eq-eqb h.point o e)))
+    (λ (ne : h.point ≡ o → ⊥). ⊎_elim
+    (λ (m : mem o h.taken ≡ true). inl (or_right (eqb h.point o) (mem o h.taken) m))
+    (λ (q : o < h.passed). inr q)
+    (below o (omega (arith, ne))))
+    (cases_eq h.point o)
+
+taken_above : (h : History) → ((o : ℕ) → mem o h.taken ≡ true → o < h.point) → (o : ℕ) → mem o (h.point ∷ h.taken) ≡ true → o < h.point + 1
+taken_above h above o m = ⊎_elim
+    (λ (e : eqb h.point o ≡ true). omega (arith, eqb-true h.point o e))
+    (λ (r : mem o h.taken ≡ true). omega (arith, above o r))
+    (or_cases (eqb h.point o) (mem o h.taken) m)
+
+took_leads : (a : Shown) (piece : ChunkPayloadData) (h : History) → Binds a h → is_next_after a.receiver piece.tsn ≡ true → is_whole piece ≡ true
+    → (x : StreamMap × Bool) → x ≡ pushed_in a.streams piece.stream_identifier (message_in piece)
+    → Leads (Act.Took piece ∷ []) a h (with_message a piece x) (with_taken h)
+took_leads a piece h binds next whole (streams, kept) e =
+    let b : Shown = record a { streams = streams; receiver = taken_to a.receiver piece.tsn } in
+    let here : piece.tsn ≡ tsn h.peer h.point = next_tsn h.peer h.point a.receiver.point piece.tsn binds.point (eqb-true piece.tsn ((a.receiver.point + 1) % 2 ^ 32) next) in
+    let same = told_parts (kept && is_readable_in streams piece.stream_identifier) b piece.stream_identifier kept (with_taken h) refl in
+    let point = ap (λ (r : Receiver). r.point) (told_receiver (kept && is_readable_in streams piece.stream_identifier) b piece.stream_identifier kept refl) in
+    record {
+      can = ((here, whole), tt);
+      there = same ∙ rw (← e) refl;
+      binds = record {
+        first = ap (λ (p : Parts). p.queue.first_tsn) same ∙ binds.first;
+        point = point ∙ here ∙ before_next h.peer h.point;
+        below = taken_below h binds.below;
+        above = taken_above h binds.above;
+        passed = omega (arith, binds.passed);
+      };
+    }
+
+taking_leads : (c : Bool) (a : Shown) (piece : ChunkPayloadData) (h : History) → contradicts_in a.streams piece.stream_identifier (message_in piece) ≡ c
+    → Binds a h → is_next_after a.receiver piece.tsn ≡ true → is_whole piece ≡ true
+    → (k : History) × Leads (acts_of_taking a piece) a h (taken_in a piece).0 k
+unfolding taken_in
+taking_leads true a piece h e binds next whole = rw e (h, leads_nowhere a a h binds refl refl)
+taking_leads false a piece h e binds next whole = rw e (with_taken h, took_leads a piece h binds next whole _ refl)
+
+asks_same : (x : Shown × Option Error) (piece : ChunkPayloadData) (wish : AckWish) → (asks_or_faults x piece wish).0 ≡ x.0
+asks_same (a, None) piece wish = refl
+asks_same (a, Some fault) piece wish = refl
+
+credit_leads : (c : Bool) (b : Shown) (piece : ChunkPayloadData) (wish : AckWish) (h : History) → nat_lt 0 (credit_of b.receiver (bytes_waiting b.streams)) ≡ c
+    → Binds b h → is_next_after b.receiver piece.tsn ≡ true → is_whole piece ≡ true
+    → (k : History) × Leads (acts_of_found (b, true) piece) b h (on_next_data (b, true) piece wish).0 k
+credit_leads true b piece wish h e binds next whole =
+    let t = taking_leads (contradicts_in b.streams piece.stream_identifier (message_in piece)) b piece h refl binds next whole in
+    rw (e, asks_same (taken_in b piece) piece wish) t
+credit_leads false b piece wish h e binds next whole = rw e (h, leads_nowhere b b h binds refl refl)
+
+found_leads : (x : Shown × Bool) (piece : ChunkPayloadData) (wish : AckWish) (h : History) → Binds x.0 h → is_next_after x.0.receiver piece.tsn ≡ true
+    → is_whole piece ≡ true → (k : History) × Leads (acts_of_found x piece) x.0 h (on_next_data x piece wish).0 k
+found_leads (b, false) piece wish h binds next whole = (h, leads_nowhere b b h binds refl refl)
+found_leads (b, true) piece wish h binds next whole =
+    credit_leads (nat_lt 0 (credit_of b.receiver (bytes_waiting b.streams))) b piece wish h refl binds next whole
+
+next_leads : (c : Bool) (a : Shown) (piece : ChunkPayloadData) (wish : AckWish) (h : History) → (is_next_after a.receiver piece.tsn && is_whole piece) ≡ c
+    → Binds a h → (k : History) × Leads (acts_of_data a piece) a h (on_data a piece wish).0 k
+unfolding on_data
+next_leads false a piece wish h e binds = rw e (h, leads_nowhere a (counted_data a) h binds refl refl)
+next_leads true a piece wish h e binds =
+    let both = and_parts (is_next_after a.receiver piece.tsn) (is_whole piece) e in
+    let b : Shown = counted_data a in
+    let counted : Binds b h = record { first = binds.first; point = binds.point; below = binds.below; above = binds.above; passed = binds.passed } in
+    let id = piece.stream_identifier in
+    let made = stream_leads (is_some (stream_at a.streams id)) (generation_left a.streams) b id h refl refl counted in
+    let same = stream_receiver (is_some (stream_at a.streams id)) (generation_left a.streams) b id refl refl in
+    let rest = found_leads (stream_found b id) piece wish h made.binds (rw same both.0) both.1 in
+    rw e (rest.0, leads_on (acts_of_stream a id) (acts_of_found (stream_found b id) piece) a (stream_found b id).0 (on_next_data (stream_found b id) piece wish).0 h h rest.0
+    (record { can = made.can; there = made.there; binds = made.binds }) rest.1)
+
+-- SACK
+
+abbrev is_taken : SackOutcome → Bool
+is_taken outcomes.Older = false
+is_taken outcomes.NotInFlight = false
+is_taken outcomes.Taken = true
+
+taken_within : (older within : Bool) (s : Sender) (point : ℕ) → tsn_gt (acked_point_of s) point ≡ older
+    → nat_le (points_to s point) (length s.queue.in_flight) ≡ within → sack_outcome s point ≡ outcomes.Taken → points_to s point ≤ length s.queue.in_flight
+taken_within true within s point e f t = let u : is_taken (sack_outcome s point) ≡ true = ap is_taken t in let v = rw e at u in absurd (false≢true v)
+taken_within false true s point e f t = leb-true (points_to s point) (length s.queue.in_flight) f
+taken_within false false s point e f t = let u : is_taken (sack_outcome s point) ≡ true = ap is_taken t in let v = rw (e, f) at u in absurd (false≢true v)
+
+acknowledged_parts : (a : Shown) (moved : Bool) (now : ℕ) (x : Sender × Estimate × StreamMap) (k : History)
+    → parts (with_acknowledged a moved now x) k ≡ record { queue = x.0.queue; streams = x.2; history = k }
+acknowledged_parts a moved now (s, e, m) k = refl
+
+acknowledged_receiver : (a : Shown) (moved : Bool) (now : ℕ) (x : Sender × Estimate × StreamMap) → (with_acknowledged a moved now x).receiver ≡ a.receiver
+acknowledged_receiver a moved now (s, e, m) = refl
+
+sack_taken_leads : (a : Shown) (point window now : ℕ) (h : History) → Binds a h → points_to a.sender point ≤ length a.sender.queue.in_flight
+    → Leads (Act.Acknowledged (points_to a.sender point) ∷ []) a h (after_sack (counted_sack a) point window now) (record h { base = h.base + points_to a.sender point })
+sack_taken_leads a point window now h binds within =
+    let n = points_to a.sender point in
+    let x = acknowledged n now (with_window a.sender window, a.estimate, a.streams) in
+    let k : History = record h { base = h.base + n } in
+    let same = acknowledged_parts (counted_sack a) (nat_lt 0 n) now x k in
+    let all = pieces_acknowledged n now (with_window a.sender window) a.estimate a.streams h in
+    let tied = acknowledged_tied n (parts a h) within binds.first in
+    record {
+      can = (within, tt);
+      there = same ∙ sym all;
+      binds = record {
+        first = ap (λ (p : Parts). p.queue.first_tsn) (same ∙ sym all) ∙ tied ∙ ap (λ (p : Parts). tsn p.history.own p.history.base) all;
+        point = ap (λ (r : Receiver). r.point) (acknowledged_receiver (counted_sack a) (nat_lt 0 n) now x) ∙ binds.point;
+        below = binds.below;
+        above = binds.above;
+        passed = binds.passed;
+      };
+    }
+
+outcome_leads : (o : SackOutcome) (a : Shown) (point window : ℕ) (wish : AckWish) (now : ℕ) (h : History) → sack_outcome a.sender point ≡ o → Binds a h
+    → (k : History) × Leads (acts_of_outcome o (points_to a.sender point)) a h (on_counted_sack o (counted_sack a) point window wish now).0 k
+outcome_leads outcomes.Older a point window wish now h e binds = (h, leads_nowhere a (counted_sack a) h binds refl refl)
+outcome_leads outcomes.NotInFlight a point window wish now h e binds = (h, leads_nowhere a (counted_sack a) h binds refl refl)
+outcome_leads outcomes.Taken a point window wish now h e binds =
+    (_, sack_taken_leads a point window now h binds
+    (taken_within (tsn_gt (acked_point_of a.sender) point) (nat_le (points_to a.sender point) (length a.sender.queue.in_flight)) a.sender point refl refl e))
+
+sack_leads : (c : Bool) (a : Shown) (point window : ℕ) (wish : AckWish) (now : ℕ) (h : History) → is_established a.state ≡ c → Binds a h
+    → (k : History) × Leads (acts_of_sack a point) a h (on_sack a point window wish now).0 k
+unfolding on_sack
+sack_leads false a point window wish now h e binds = rw e (h, leads_nowhere a a h binds refl refl)
+sack_leads true a point window wish now h e binds = rw e (outcome_leads (sack_outcome a.sender point) a point window wish now h refl binds)
+
+-- any chunk, and a packet
+
+kind_leads : (c : Chunk) (a : Shown) (wish : AckWish) (now : ℕ) (h : History) → Binds a h → (k : History) × Leads (acts_of_kind a c) a h (dispatched a c wish now).0 k
+kind_leads (chunks.Data piece) a wish now h binds = next_leads (is_next_after a.receiver piece.tsn && is_whole piece) a piece wish h refl binds
+kind_leads (chunks.SelectiveAck sack) a wish now h binds =
+    sack_leads (is_established a.state) a sack.cumulative_tsn_ack sack.advertised_receiver_window_credit wish now h refl binds
+kind_leads (chunks.Init init) a wish now h binds = (h, leads_nowhere a a h binds refl refl)
+kind_leads (chunks.InitAck init) a wish now h binds = (h, leads_nowhere a a h binds refl refl)
+kind_leads (chunks.Heartbeat x) a wish now h binds = (h, leads_nowhere a a h binds refl refl)
+kind_leads (chunks.HeartbeatAck x) a wish now h binds = (h, leads_nowhere a a h binds refl refl)
+kind_leads (chunks.Abort x) a wish now h binds = (h, leads_nowhere a a h binds refl refl)
+kind_leads (chunks.Shutdown x) a wish now h binds = (h, leads_nowhere a a h binds refl refl)
+kind_leads chunks.ShutdownAck a wish now h binds = (h, leads_nowhere a a h binds refl refl)
+kind_leads (chunks.Error x) a wish now h binds = (h, leads_nowhere a a h binds refl refl)
+kind_leads (chunks.CookieEcho x) a wish now h binds = (h, leads_nowhere a a h binds refl refl)
+kind_leads chunks.CookieAck a wish now h binds = (h, leads_nowhere a a h binds refl refl)
+kind_leads chunks.ShutdownComplete a wish now h binds = (h, leads_nowhere a a h binds refl refl)
+kind_leads (chunks.Reconfig x) a wish now h binds = (h, leads_nowhere a a h binds refl refl)
+kind_leads (chunks.ForwardTsn x) a wish now h binds = (h, leads_nowhere a a h binds refl refl)
+kind_leads (chunks.IForwardTsn x) a wish now h binds = (h, leads_nowhere a a h binds refl refl)
+kind_leads (chunks.Other kind flags value) a wish now h binds = (h, leads_nowhere a a h binds refl refl)
+
+checked_leads : (r : Result (Unit {0}) Error) (c : Chunk) (a : Shown) (wish : AckWish) (now : ℕ) (h : History) → Binds a h
+    → (k : History) × Leads (acts_of_checked r a c) a h (checked_first r a c wish now).0 k
+checked_leads (Err fault) c a wish now h binds = (h, leads_nowhere a a h binds refl refl)
+checked_leads (Ok done) c a wish now h binds = kind_leads c a wish now h binds
+
+chunk_leads : (c : Chunk) (a : Shown) (wish : AckWish) (now : ℕ) (h : History) → Binds a h → (k : History) × Leads (acts_of_chunk a c) a h (on_chunk a c wish now).0 k
+unfolding on_chunk
+chunk_leads c a wish now h binds = checked_leads (checked_chunk c) c a wish now h binds
+
+ended_point : (a : Shown) (wish : AckWish) (now : ℕ) → (ended a wish now).receiver.point ≡ a.receiver.point
+ended_point a wishes.None now = refl
+ended_point a wishes.Delayed now = refl
+ended_point a wishes.Immediate now = refl
+
+-- what follows a chunk leads on, where the rest of the packet does
+goes_leads : (x : Shown × Flow) (h : History) (more : Shown → AckWish → Shown) (acts : Shown → AckWish → List Act)
+    → ((b : Shown) (wish : AckWish) → Binds b h → (k : History) × Leads (acts b wish) b h (more b wish) k)
+    → Binds x.0 h → (k : History) × Leads (acts_after x acts) x.0 h (goes_on x more) k
+goes_leads (b, flows.Next wish) h more acts on binds = on b wish binds
+goes_leads (b, flows.Fault fault) h more acts on binds = (h, close_leads (is_closed_state b.state) b reasons.AssociationClosed h refl binds)
+
+pub chunks_lead : (cs : List Chunk) (a : Shown) (wish : AckWish) (now : ℕ) (h : History) → Binds a h
+    → (k : History) × Leads (acts_of_chunks cs a wish now) a h (after_chunks cs a wish now) k
+chunks_lead [] a wish now h binds = (h, leads_nowhere a (ended a wish now) h binds refl (ended_point a wish now))
+chunks_lead (c ∷ cs) a wish now h binds =
+    let one = chunk_leads c a wish now h binds in
+    let rest = goes_leads (on_chunk a c wish now) one.0 (λ b next. after_chunks cs b next now) (λ b next. acts_of_chunks cs b next now)
+        (λ b next bound. chunks_lead cs b next now one.0 bound) one.1.binds in
+    (rest.0, leads_on (acts_of_chunk a c) _ a (on_chunk a c wish now).0 (after_chunks (c ∷ cs) a wish now) h one.0 rest.0 one.1 rest.1)
+
+packet_of_leads : (packet : Option Packet) (a : Shown) (now : ℕ) (h : History) → Binds a h
+    → (k : History) × Leads (acts_of_packet_of a packet now) a h (after_packet_of a packet now) k
+packet_of_leads None a now h binds = (h, leads_nowhere a a h binds refl refl)
+packet_of_leads (Some packet) a now h binds = chunks_lead packet.chunks a wishes.None now h binds
+
+packet_leads_unless : (lost : Bool) (packet : Option Packet) (a : Shown) (now : ℕ) (h : History) → Binds a h
+    → (k : History) × Leads (if lost then [] else acts_of_packet_of a packet now) a h (if lost then a else after_packet_of a packet now) k
+packet_leads_unless true packet a now h binds = (h, leads_nowhere a a h binds refl refl)
+packet_leads_unless false packet a now h binds = packet_of_leads packet a now h binds
+
+-- a packet that comes
+pub packet_leads : (packet : Option Packet) (a : Shown) (now : ℕ) (h : History) → Binds a h
+    → (k : History) × Leads (acts_of_packet a packet now) a h (after_packet a packet now) k
+packet_leads packet a now h binds = packet_leads_unless a.lost packet a now h binds

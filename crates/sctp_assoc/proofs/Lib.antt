@@ -1,0 +1,2 @@
+mod Acting
+mod Joining

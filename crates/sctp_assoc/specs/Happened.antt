@@ -1,0 +1,138 @@
+-- What each call does to the two directions.
+use Rattle.std.specs.Prelude.{ℕ, zero, suc, Bool, true, false, List, [], ◌∷◌, ◌++◌, ◌&&◌, ◌+◌, ◌-◌, ◌==◌, if◌then◌else◌, not, is_some, length, nat_lt, Option, Some, None, Result, Ok, Err}
+use Rattle.sctp_wire_types.specs.declared.error.Error.{Error}
+use Rattle.sctp_wire_types.specs.declared.chunk.Chunk.{Chunk}
+use Rattle.sctp_wire_types.specs.declared.chunk.Chunk.TheVariants as chunks
+use Rattle.sctp_wire_types.specs.declared.chunk.ChunkPayloadData.{ChunkPayloadData}
+use Rattle.sctp_wire_types.specs.declared.ids.PayloadProtocolIdentifier.TheVariants as kinds
+use Rattle.sctp_wire_types.specs.Checks.{checked_chunk}
+use Rattle.sctp_wire.specs.declared.packet.Packet.{Packet}
+use Rattle.sctp_parts.specs.declared.state.AckState.{AckState}
+use Rattle.sctp_outbound_queue.specs.declared.message.InFlight.{InFlight}
+use Rattle.sctp_outbound_queue.specs.Waiting.{Waiting}
+use Rattle.sctp_outbound_queue.specs.Outbound.{pieces_waiting}
+use Rattle.sctp_queues.specs.Streams.{stream_at, generation_left, bytes_waiting, contradicts_in}
+use Rattle.sctp_inbound.specs.declared.receiver.AckWish.{AckWish}
+use Rattle.sctp_inbound.specs.declared.receiver.AckWish.TheVariants as wishes
+use Rattle.sctp_inbound.specs.Receiver.{is_next_after, credit_of}
+use Rattle.sctp_outbound.specs.declared.sender.SackOutcome.{SackOutcome}
+use Rattle.sctp_outbound.specs.declared.sender.SackOutcome.TheVariants as outcomes
+use Rattle.sctp_outbound.specs.declared.sender.Sender.{Sender}
+use Rattle.sctp_outbound.specs.Sender.{after_resending, both_windows, can_send_next, points_to, resends_alone, resent_by, sack_outcome, sent_one}
+use Rattle.sctp_assoc.specs.declared.inbound.Flow.{Flow}
+use Rattle.sctp_assoc.specs.declared.inbound.Flow.TheVariants as flows
+use Rattle.sctp_assoc.specs.Acts.{Act}
+use Rattle.sctp_assoc.specs.Calls.{is_established, is_closed_state}
+use Rattle.sctp_assoc.specs.Chunks.{counted_data, is_whole, message_in, on_chunk, stream_found}
+use Rattle.sctp_assoc.specs.Polled.{is_due}
+use Rattle.sctp_assoc.specs.Shown.{Shown}
+
+-- What each call does to the directions.
+
+-- DATA that is next in order makes its stream where that is missing and a generation is left
+abbrev pub acts_of_stream : Shown → ℕ → List Act
+acts_of_stream a id =
+    if is_some (stream_at a.streams id) then [] else
+    if generation_left a.streams then Act.Opened id a.sender.queue.next_message_id kinds.Unknown ∷ [] else []
+
+-- and is taken in unless its stream refuses it
+abbrev pub acts_of_taking : Shown → ChunkPayloadData → List Act
+acts_of_taking a piece = if contradicts_in a.streams piece.stream_identifier (message_in piece) then [] else Act.Took piece ∷ []
+
+abbrev pub acts_of_found : Shown × Bool → ChunkPayloadData → List Act
+acts_of_found (a, false) piece = []
+acts_of_found (a, true) piece =
+    if nat_lt 0 (credit_of a.receiver (bytes_waiting a.streams)) then acts_of_taking a piece else []
+
+abbrev pub acts_of_data : Shown → ChunkPayloadData → List Act
+acts_of_data a piece =
+    if is_next_after a.receiver piece.tsn && is_whole piece then
+    acts_of_stream a piece.stream_identifier
+    ++ acts_of_found (stream_found (counted_data a) piece.stream_identifier) piece
+    else []
+
+abbrev pub acts_of_outcome : SackOutcome → ℕ → List Act
+acts_of_outcome outcomes.Older n = []
+acts_of_outcome outcomes.NotInFlight n = []
+acts_of_outcome outcomes.Taken n = Act.Acknowledged n ∷ []
+
+abbrev pub acts_of_sack : Shown → ℕ → List Act
+acts_of_sack a point =
+    if is_established a.state then acts_of_outcome (sack_outcome a.sender point) (points_to a.sender point) else []
+
+abbrev pub acts_of_kind : Shown → Chunk → List Act
+acts_of_kind a (chunks.Data piece) = acts_of_data a piece
+acts_of_kind a (chunks.SelectiveAck sack) = acts_of_sack a sack.cumulative_tsn_ack
+acts_of_kind a chunk = []
+
+abbrev pub acts_of_checked : Result (Unit {0}) Error → Shown → Chunk → List Act
+acts_of_checked (Err fault) a chunk = []
+acts_of_checked (Ok _) a chunk = acts_of_kind a chunk
+
+abbrev pub acts_of_chunk : Shown → Chunk → List Act
+acts_of_chunk a chunk = acts_of_checked (checked_chunk chunk) a chunk
+
+abbrev pub acts_of_close : Shown → List Act
+acts_of_close a = if is_closed_state a.state then [] else Act.Ended ∷ []
+
+abbrev pub acts_after : Shown × Flow → (Shown → AckWish → List Act) → List Act
+acts_after (a, flows.Next wish) more = more a wish
+acts_after (a, flows.Fault fault) more = acts_of_close a
+
+-- the chunks of a packet, in order, up to a fault
+abbrev pub acts_of_chunks : List Chunk → Shown → AckWish → ℕ → List Act
+acts_of_chunks [] a wish now = []
+acts_of_chunks (c ∷ cs) a wish now =
+    acts_of_chunk a c ++ acts_after (on_chunk a c wish now) (λ b next. acts_of_chunks cs b next now)
+
+abbrev pub acts_of_packet_of : Shown → Option Packet → ℕ → List Act
+acts_of_packet_of a None now = []
+acts_of_packet_of a (Some packet) now = acts_of_chunks packet.chunks a wishes.None now
+
+-- a packet that comes, if there is one
+abbrev pub acts_of_packet : Shown → Option Packet → ℕ → List Act
+acts_of_packet a packet now = if a.lost then [] else acts_of_packet_of a packet now
+
+-- the marked pieces that fit together into so many bytes go out again
+abbrev pub acts_of_resending : ℕ → ℕ → List InFlight → List Act
+acts_of_resending place room [] = []
+acts_of_resending place room (p ∷ ps) =
+    if not p.retransmit then acts_of_resending (place + 1) room ps else
+    if nat_lt room (length p.user_data) then [] else
+    Act.SentAgain place ∷ acts_of_resending (place + 1) (room - length p.user_data) ps
+
+abbrev pub first_again : List InFlight → List Act
+first_again [] = []
+first_again (p ∷ ps) = Act.SentAgain 0 ∷ []
+
+abbrev pub acts_of_marks : Sender → List Act
+acts_of_marks s =
+    if resends_alone s then first_again s.queue.in_flight else acts_of_resending 0 (both_windows s) s.queue.in_flight
+
+-- the next pieces that wait go out while the windows have room
+abbrev pub acts_of_sending : ℕ → Sender → List ChunkPayloadData → ℕ → List Act
+acts_of_sending zero s out now = []
+acts_of_sending (suc n) s out now =
+    if can_send_next s then
+    (let sent = sent_one s.queue.pending s out now in Act.Sent now ∷ acts_of_sending n sent.0 sent.1 now)
+    else []
+
+abbrev pub first_sent : List Waiting → ℕ → List Act
+first_sent [] now = []
+first_sent (m ∷ ms) now = Act.Sent now ∷ []
+
+abbrev pub acts_of_new : Sender → List ChunkPayloadData → ℕ → List Act
+acts_of_new s out now =
+    if length s.queue.in_flight == 0 && not (can_send_next s) then first_sent s.queue.pending now else
+    acts_of_sending (pieces_waiting s.queue.pending) s out now
+
+-- the DATA of a poll
+abbrev pub acts_of_data_poll : Shown → ℕ → List Act
+acts_of_data_poll a now = acts_of_marks a.sender ++ acts_of_new (after_resending a.sender) (resent_by a.sender) now
+
+abbrev pub acts_of_ack : Shown → List Act
+acts_of_ack a = if is_due a.receiver.ack_state then Act.Reported ∷ [] else []
+
+-- a poll for packets
+abbrev pub acts_of_poll : Shown → ℕ → List Act
+acts_of_poll a now = if is_established a.state then acts_of_data_poll a now ++ acts_of_ack a else []
