@@ -1,2 +1,3 @@
 mod Acting
+mod Giving
 mod Joining
