@@ -1,7 +1,7 @@
 -- What a poll gives out is what its acts say.
 use Rattle.std.proofs.Common.{◌≡◌, refl, sym, ap, ◌∙◌, ◌⊎◌, ⊎_elim, ℕ, zero, suc, ◌<◌, ◌≤◌, ◌+◌, ◌-◌, ◌%◌, ◌^◌, arith, Bool, true, false, not, ◌&&◌, if◌then◌else◌, List, [], ◌∷◌, ◌++◌, length, nat_lt, slice_get, slice_set, Option, Some, None, is_some}
 use Rattle.std.proofs.lemmas.Bool.{cases_Bool, false≢true}
-use Rattle.std.proofs.lemmas.List.{append_assoc}
+use Rattle.std.proofs.lemmas.List.{append_assoc, append-nil}
 use Rattle.sctp_wire_types.specs.declared.chunk.ChunkPayloadData.{ChunkPayloadData}
 use Rattle.sctp_model.specs.Serial.{tsn}
 use Rattle.sctp_outbound_queue.specs.declared.message.InFlight.{InFlight}
@@ -10,9 +10,11 @@ use Rattle.sctp_outbound_queue.specs.Message.{counted_again}
 use Rattle.sctp_outbound_queue.specs.Outbound.{Outbound, changed_at, changed_from, next_tsn_of, pieces_waiting, sent_from, sent_next, tsn_at}
 use Rattle.sctp_queues.specs.Streams.{StreamMap}
 use Rattle.sctp_outbound.specs.declared.sender.Sender.{Sender}
-use Rattle.sctp_outbound.specs.Sender.{after_resending, both_windows, can_send_next, chunk_of, fits_windows, next_chunk_of, resends_alone, resent_by, resent_chunks, resent_pieces, sent_new, sent_one, sent_within}
-use Rattle.sctp_assoc.specs.Acts.{Act, Can, CanAll, History, Parts, done, done_all, data_given, all_data_given, chunk_said, first_chunk_said}
-use Rattle.sctp_assoc.specs.Happened.{acts_of_marks, acts_of_new, acts_of_resending, acts_of_sending, first_again, first_sent}
+use Rattle.sctp_outbound.specs.Sender.{after_resending, both_windows, can_send_next, chunk_of, first_chunk, first_counted, fits_windows, next_chunk_of, resends_alone, resent_by, resent_chunks, resent_pieces, sent_new, sent_one, sent_within, with_in_flight}
+use Rattle.sctp_assoc.specs.Acts.{Act, Can, CanAll, History, Parts, done, done_all, data_given, all_data_given, chunk_said, first_chunk_said, parts}
+use Rattle.sctp_assoc.specs.Polled.{data_polled, with_sent_data}
+use Rattle.sctp_assoc.specs.Shown.{Shown}
+use Rattle.sctp_assoc.specs.Happened.{acts_of_data_poll, acts_of_marks, acts_of_new, acts_of_resending, acts_of_sending, first_again, first_sent}
 use Rattle.sctp_assoc.proofs.Acting.{Tied, act_tied, can_append, done_append, given_append}
 
 -- Acts can be done, lead from some parts to others, and give out this DATA.
@@ -131,3 +133,140 @@ resending (x ∷ ps) xs room p e tied = ⊎_elim
     (ap (λ (z : List InFlight). with_pieces p (xs ++ z)) (pieces_skip x ps room unmarked))
     (chunks_skip x ps p.queue.first_tsn (length xs) room unmarked) moved)
     (cases_Bool x.retransmit)
+
+first_again_gives : (ps : List InFlight) (p : Parts) → p.queue.in_flight ≡ ps → Tied p
+    → Gives (first_again ps) p (with_pieces p (first_counted ps)) (first_chunk p.queue.first_tsn ps)
+first_again_gives [] p e tied = record { can = tt; there = rw (← e) refl; said = refl }
+first_again_gives (x ∷ ps) p e tied = again_one x ps [] p e tied
+
+-- the parts of a sender beside some streams
+abbrev pub sending : Sender → StreamMap → History → Parts
+sending s m h = record { queue = s.queue; streams = m; history = h }
+
+marks_give_if : (alone : Bool) (s : Sender) (m : StreamMap) (h : History) → s.queue.first_tsn ≡ tsn h.own h.base
+    → Gives (if alone then first_again s.queue.in_flight else acts_of_resending 0 (both_windows s) s.queue.in_flight) (sending s m h)
+    (sending (with_in_flight s (if alone then first_counted s.queue.in_flight else resent_pieces (both_windows s) s.queue.in_flight)) m h)
+    (if alone then first_chunk s.queue.first_tsn s.queue.in_flight else resent_chunks s.queue.first_tsn 0 (both_windows s) s.queue.in_flight)
+marks_give_if true s m h tied = first_again_gives s.queue.in_flight (sending s m h) refl tied
+marks_give_if false s m h tied = resending s.queue.in_flight [] (both_windows s) (sending s m h) refl tied
+
+pub marks_give : (s : Sender) (m : StreamMap) (h : History) → s.queue.first_tsn ≡ tsn h.own h.base
+    → Gives (acts_of_marks s) (sending s m h) (sending (after_resending s) m h) (resent_by s)
+marks_give s m h tied = marks_give_if (resends_alone s) s m h tied
+
+-- Pieces that go out for the first time.
+
+one_queue : (ms : List Waiting) (s : Sender) (out : List ChunkPayloadData) (now : ℕ) → s.queue.pending ≡ ms → (sent_one ms s out now).0.queue ≡ sent_next s.queue now
+unfolding sent_one
+one_queue [] s out now e = rw e refl
+one_queue (m ∷ ms) s out now e = refl
+
+one_said : (ms : List Waiting) (s : Sender) (out : List ChunkPayloadData) (now : ℕ) → (sent_one ms s out now).1 ≡ out ++ first_chunk_said ms (next_tsn_of s.queue)
+unfolding sent_one
+one_said [] s out now = sym (append-nil out)
+one_said (m ∷ ms) s out now = refl
+
+next_first : (ms : List Waiting) (q : Outbound) (now : ℕ) → (sent_from ms q now).first_tsn ≡ q.first_tsn
+next_first [] q now = refl
+next_first (m ∷ ms) q now = refl
+
+one_tied : (s : Sender) (out : List ChunkPayloadData) (now : ℕ) (h : History) → s.queue.first_tsn ≡ tsn h.own h.base
+    → (sent_one s.queue.pending s out now).0.queue.first_tsn ≡ tsn h.own h.base
+one_tied s out now h tied = ap (λ (q : Outbound). q.first_tsn) (one_queue s.queue.pending s out now refl) ∙ next_first s.queue.pending s.queue now ∙ tied
+
+one_gives : (ms : List Waiting) (s : Sender) (out : List ChunkPayloadData) (now : ℕ) (m : StreamMap) (h : History) → s.queue.pending ≡ ms
+    → s.queue.first_tsn ≡ tsn h.own h.base
+    → Gives (first_sent ms now) (sending s m h) (sending (sent_one ms s out now).0 m h) (first_chunk_said ms (next_tsn_of s.queue))
+unfolding sent_one
+one_gives [] s out now m h e tied = gives_none (sending s m h)
+one_gives (w ∷ ws) s out now m h e tied = record {
+  can = (rw e refl, tt);
+  there = refl;
+  said = rw (e, place_tsn h.own h.base s.queue.first_tsn (length s.queue.in_flight) tied) refl;
+}
+
+is_pending : (ms : List Waiting) (s : Sender) (now : ℕ) → fits_windows s (slice_get ms 0) ≡ true → first_sent ms now ≡ Act.Sent now ∷ []
+is_pending [] s now fits = absurd (false≢true fits)
+is_pending (m ∷ ms) s now fits = refl
+
+-- DATA behind other DATA that a poll gives out
+pub record Adds (xs : List Act) (p q : Parts) (before after : List ChunkPayloadData) : Type 0 where
+  pub given : List ChunkPayloadData
+  pub gives : Gives xs p q given
+  pub all : after ≡ before ++ given
+
+adds_none : (p : Parts) (out : List ChunkPayloadData) → Adds [] p p out out
+adds_none p out = record { given = []; gives = gives_none p; all = sym (append-nil out) }
+
+adds_on : (xs ys : List Act) (p q r : Parts) (a b c : List ChunkPayloadData) → Adds xs p q a b → Adds ys q r b c → Adds (xs ++ ys) p r a c
+adds_on xs ys p q r a b c m n = record {
+  given = m.given ++ n.given;
+  gives = gives_on xs ys p q r m.given n.given m.gives n.gives;
+  all = n.all ∙ ap (λ (z : List ChunkPayloadData). z ++ n.given) m.all ∙ append_assoc a m.given n.given;
+}
+
+adds_same : (xs ys : List Act) (p q : Parts) (a b : List ChunkPayloadData) → xs ≡ ys → Adds xs p q a b → Adds ys p q a b
+adds_same xs ys p q a b e m = rw (← e) m
+
+one_adds : (s : Sender) (out : List ChunkPayloadData) (now : ℕ) (m : StreamMap) (h : History) → s.queue.first_tsn ≡ tsn h.own h.base
+    → Adds (first_sent s.queue.pending now) (sending s m h) (sending (sent_one s.queue.pending s out now).0 m h) out (sent_one s.queue.pending s out now).1
+one_adds s out now m h tied = record {
+  given = first_chunk_said s.queue.pending (next_tsn_of s.queue);
+  gives = one_gives s.queue.pending s out now m h refl tied;
+  all = one_said s.queue.pending s out now;
+}
+
+sending_adds_if : (c : Bool) (n : ℕ) (s : Sender) (out : List ChunkPayloadData) (now : ℕ) (m : StreamMap) (h : History) → can_send_next s ≡ c
+    → s.queue.first_tsn ≡ tsn h.own h.base
+    → ((t : Sender) (more : List ChunkPayloadData) → t.queue.first_tsn ≡ tsn h.own h.base
+    → Adds (acts_of_sending n t more now) (sending t m h) (sending (sent_within n t more now).0 m h) more (sent_within n t more now).1)
+    → Adds (if c then (let sent = sent_one s.queue.pending s out now in Act.Sent now ∷ acts_of_sending n sent.0 sent.1 now) else []) (sending s m h)
+    (sending (if c then (let sent = sent_one s.queue.pending s out now in sent_within n sent.0 sent.1 now) else (s, out)).0 m h) out
+    (if c then (let sent = sent_one s.queue.pending s out now in sent_within n sent.0 sent.1 now) else (s, out)).1
+sending_adds_if false n s out now m h e tied rest = adds_none (sending s m h) out
+sending_adds_if true n s out now m h e tied rest =
+    let sent = sent_one s.queue.pending s out now in
+    let one = adds_same (first_sent s.queue.pending now) (Act.Sent now ∷ []) _ _ _ _ (is_pending s.queue.pending s now e) (one_adds s out now m h tied) in
+    adds_on (Act.Sent now ∷ []) (acts_of_sending n sent.0 sent.1 now) (sending s m h) (sending sent.0 m h) _ out sent.1 _ one
+    (rest sent.0 sent.1 (one_tied s out now h tied))
+
+pub sending_adds : (n : ℕ) (s : Sender) (out : List ChunkPayloadData) (now : ℕ) (m : StreamMap) (h : History) → s.queue.first_tsn ≡ tsn h.own h.base
+    → Adds (acts_of_sending n s out now) (sending s m h) (sending (sent_within n s out now).0 m h) out (sent_within n s out now).1
+sending_adds zero s out now m h tied = adds_none (sending s m h) out
+sending_adds (suc n) s out now m h tied =
+    sending_adds_if (can_send_next s) n s out now m h refl tied (λ t more bound. sending_adds n t more now m h bound)
+
+new_adds_if : (c : Bool) (s : Sender) (out : List ChunkPayloadData) (now : ℕ) (m : StreamMap) (h : History) → s.queue.first_tsn ≡ tsn h.own h.base
+    → Adds (if c then first_sent s.queue.pending now else acts_of_sending (pieces_waiting s.queue.pending) s out now) (sending s m h)
+    (sending (if c then sent_one s.queue.pending s out now else sent_within (pieces_waiting s.queue.pending) s out now).0 m h) out
+    (if c then sent_one s.queue.pending s out now else sent_within (pieces_waiting s.queue.pending) s out now).1
+new_adds_if true s out now m h tied = one_adds s out now m h tied
+new_adds_if false s out now m h tied = sending_adds (pieces_waiting s.queue.pending) s out now m h tied
+
+-- All DATA of a poll.
+
+sent_data_parts : (a : Shown) (count now : ℕ) (x : Sender × List ChunkPayloadData) (h : History)
+    → parts (with_sent_data a count now x).0 h ≡ sending x.0 a.streams h
+sent_data_parts a count now (s, pieces) h = refl
+
+sent_data_said : (a : Shown) (count now : ℕ) (x : Sender × List ChunkPayloadData) → (with_sent_data a count now x).1 ≡ x.1
+sent_data_said a count now (s, pieces) = refl
+
+sent_data_receiver : (a : Shown) (count now : ℕ) (x : Sender × List ChunkPayloadData) → (with_sent_data a count now x).0.receiver ≡ a.receiver
+sent_data_receiver a count now (s, pieces) = refl
+
+pub data_poll_receiver : (a : Shown) (now : ℕ) → (data_polled a now).0.receiver ≡ a.receiver
+unfolding data_polled
+data_poll_receiver a now = sent_data_receiver a (length (resent_by a.sender)) now (sent_new (after_resending a.sender) (resent_by a.sender) now)
+
+pub data_poll_adds : (a : Shown) (now : ℕ) (h : History) → a.sender.queue.first_tsn ≡ tsn h.own h.base
+    → Adds (acts_of_data_poll a now) (parts a h) (parts (data_polled a now).0 h) [] (data_polled a now).1
+unfolding data_polled
+data_poll_adds a now h tied =
+    let s : Sender = after_resending a.sender in
+    let x = sent_new s (resent_by a.sender) now in
+    let again : Adds (acts_of_marks a.sender) (parts a h) (sending s a.streams h) [] (resent_by a.sender) =
+        record { given = resent_by a.sender; gives = marks_give a.sender a.streams h tied; all = refl } in
+    let fresh = new_adds_if _ s (resent_by a.sender) now a.streams h tied in
+    let both = adds_on (acts_of_marks a.sender) (acts_of_new s (resent_by a.sender) now) (parts a h) (sending s a.streams h) (sending x.0 a.streams h) [] _ x.1 again fresh in
+    rw (sent_data_parts a (length (resent_by a.sender)) now x h, sent_data_said a (length (resent_by a.sender)) now x) both
