@@ -14,7 +14,7 @@ use Rattle.sctp_outbound.specs.Sender.{after_resending, both_windows, can_send_n
 use Rattle.sctp_assoc.specs.Acts.{Act, Can, CanAll, History, Parts, done, done_all, data_given, all_data_given, chunk_said, first_chunk_said, parts}
 use Rattle.sctp_assoc.specs.Polled.{data_polled, with_sent_data}
 use Rattle.sctp_assoc.specs.Shown.{Shown}
-use Rattle.sctp_assoc.specs.Happened.{acts_of_data_poll, acts_of_marks, acts_of_new, acts_of_resending, acts_of_sending, first_again, first_sent}
+use Rattle.sctp_assoc.specs.Happened.{acks_given, acts_of_ack, acts_of_data_poll, acts_of_marks, acts_of_new, acts_of_resending, acts_of_sending, first_again, first_sent}
 use Rattle.sctp_assoc.proofs.Acting.{Tied, act_tied, can_append, done_append, given_append}
 
 -- Acts can be done, lead from some parts to others, and give out this DATA.
@@ -252,12 +252,19 @@ sent_data_parts a count now (s, pieces) h = refl
 sent_data_said : (a : Shown) (count now : ℕ) (x : Sender × List ChunkPayloadData) → (with_sent_data a count now x).1 ≡ x.1
 sent_data_said a count now (s, pieces) = refl
 
-sent_data_receiver : (a : Shown) (count now : ℕ) (x : Sender × List ChunkPayloadData) → (with_sent_data a count now x).0.receiver ≡ a.receiver
-sent_data_receiver a count now (s, pieces) = refl
+-- what a poll's DATA leaves as it is
+pub record IsSentBeside (a b : Shown) : Type 0 where
+  pub receiver : b.receiver ≡ a.receiver
+  pub handshake : b.handshake ≡ a.handshake
+  pub acts : acts_of_ack b ≡ acts_of_ack a
+  pub acks : acks_given b ≡ acks_given a
 
-pub data_poll_receiver : (a : Shown) (now : ℕ) → (data_polled a now).0.receiver ≡ a.receiver
+sent_data_stays : (a : Shown) (count now : ℕ) (x : Sender × List ChunkPayloadData) → IsSentBeside a (with_sent_data a count now x).0
+sent_data_stays a count now (s, pieces) = record { receiver = refl; handshake = refl; acts = refl; acks = refl }
+
+pub data_poll_stays : (a : Shown) (now : ℕ) → IsSentBeside a (data_polled a now).0
 unfolding data_polled
-data_poll_receiver a now = sent_data_receiver a (length (resent_by a.sender)) now (sent_new (after_resending a.sender) (resent_by a.sender) now)
+data_poll_stays a now = sent_data_stays a (length (resent_by a.sender)) now (sent_new (after_resending a.sender) (resent_by a.sender) now)
 
 pub data_poll_adds : (a : Shown) (now : ℕ) (h : History) → a.sender.queue.first_tsn ≡ tsn h.own h.base
     → Adds (acts_of_data_poll a now) (parts a h) (parts (data_polled a now).0 h) [] (data_polled a now).1

@@ -58,7 +58,7 @@ leads_by xs a b h binds can there point same = record {
 
 -- the chunks of a packet
 
-past_itself : (h : History) → IsSamePast h h
+pub past_itself : (h : History) → IsSamePast h h
 past_itself h = record { peer = refl; taken = refl; passed = refl; point = refl }
 
 -- nothing that the directions see changed

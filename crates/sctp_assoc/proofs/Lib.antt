@@ -1,3 +1,4 @@
 mod Acting
 mod Giving
 mod Joining
+mod Polling

@@ -160,3 +160,7 @@ pub record IsSamePast (h k : History) : Type 0 where
   pub taken : k.taken ≡ h.taken
   pub passed : k.passed ≡ h.passed
   pub point : k.point ≡ h.point
+
+-- From each history on which the association stands, these acts lead from a to b.
+abbrev pub LeadsOn : List Act → Shown → Shown → Type 0
+LeadsOn xs a b = (h : History) → Binds a h → (k : History) × Leads xs a h b k

@@ -1,5 +1,5 @@
 -- What each call does to the two directions.
-use Rattle.std.specs.Prelude.{ℕ, zero, suc, Bool, true, false, List, [], ◌∷◌, ◌++◌, ◌&&◌, ◌+◌, ◌-◌, ◌==◌, if◌then◌else◌, not, is_some, length, nat_lt, Option, Some, None, Result, Ok, Err}
+use Rattle.std.specs.Prelude.{◌≡◌, ℕ, zero, suc, Bool, true, false, List, [], ◌∷◌, ◌++◌, ◌&&◌, ◌+◌, ◌-◌, ◌==◌, if◌then◌else◌, not, is_some, length, nat_lt, Option, Some, None, Result, Ok, Err}
 use Rattle.sctp_wire_types.specs.declared.error.Error.{Error}
 use Rattle.sctp_wire_types.specs.declared.chunk.Chunk.{Chunk}
 use Rattle.sctp_wire_types.specs.declared.chunk.Chunk.TheVariants as chunks
@@ -14,6 +14,7 @@ use Rattle.sctp_outbound_queue.specs.Outbound.{pieces_waiting}
 use Rattle.sctp_queues.specs.Streams.{stream_at, generation_left, bytes_waiting, contradicts_in}
 use Rattle.sctp_inbound.specs.declared.receiver.AckWish.{AckWish}
 use Rattle.sctp_inbound.specs.declared.receiver.AckWish.TheVariants as wishes
+use Rattle.sctp_inbound.specs.Handshake.{header_of}
 use Rattle.sctp_inbound.specs.Receiver.{is_next_after, credit_of}
 use Rattle.sctp_outbound.specs.declared.sender.SackOutcome.{SackOutcome}
 use Rattle.sctp_outbound.specs.declared.sender.SackOutcome.TheVariants as outcomes
@@ -21,10 +22,10 @@ use Rattle.sctp_outbound.specs.declared.sender.Sender.{Sender}
 use Rattle.sctp_outbound.specs.Sender.{after_resending, both_windows, can_send_next, points_to, resends_alone, resent_by, sack_outcome, sent_one}
 use Rattle.sctp_assoc.specs.declared.inbound.Flow.{Flow}
 use Rattle.sctp_assoc.specs.declared.inbound.Flow.TheVariants as flows
-use Rattle.sctp_assoc.specs.Acts.{Act}
+use Rattle.sctp_assoc.specs.Acts.{Act, Binds, History, Leads, all_data_given, parts}
 use Rattle.sctp_assoc.specs.Calls.{is_established, is_closed_state}
 use Rattle.sctp_assoc.specs.Chunks.{counted_data, is_whole, message_in, on_chunk, stream_found}
-use Rattle.sctp_assoc.specs.Polled.{is_due}
+use Rattle.sctp_assoc.specs.Polled.{data_packets, is_due, sack_packet}
 use Rattle.sctp_assoc.specs.Shown.{Shown}
 
 -- What each call does to the directions.
@@ -136,3 +137,21 @@ acts_of_ack a = if is_due a.receiver.ack_state then Act.Reported ∷ [] else []
 -- a poll for packets
 abbrev pub acts_of_poll : Shown → ℕ → List Act
 acts_of_poll a now = if is_established a.state then acts_of_data_poll a now ++ acts_of_ack a else []
+
+-- the acknowledgement that a poll gives, where one is due
+abbrev pub acks_given : Shown → List (List ℕ)
+acks_given a = if is_due a.receiver.ack_state then sack_packet a else []
+
+-- the packets of these acts: their DATA, under the TSNs of its offsets, and then the acknowledgement
+abbrev pub packets_given : List Act → Shown → History → List (List ℕ)
+packets_given xs a h =
+    if is_established a.state then data_packets (header_of a.handshake) (all_data_given xs (parts a h)) ++ acks_given a else []
+
+-- A poll for packets leads on by its acts, and gives what they say.
+pub record Polls (xs : List Act) (a : Shown) (h : History) (b : Shown) (packets : List (List ℕ)) : Type 0 where
+  pub leads : Leads xs a h b h
+  pub said : packets ≡ packets_given xs a h
+
+-- a poll for packets does and gives so from each history on which the association stands
+abbrev pub PollsOn : List Act → Shown → Shown → List (List ℕ) → Type 0
+PollsOn xs a b packets = (h : History) → Binds a h → Polls xs a h b packets

@@ -1,0 +1,88 @@
+-- A poll for packets leads on by its acts, and gives what they say.
+use Rattle.std.proofs.Common.{◌≡◌, refl, sym, ap, ◌∙◌, ℕ, Bool, true, false, if◌then◌else◌, List, [], ◌∷◌, ◌++◌}
+use Rattle.std.proofs.lemmas.List.{append-nil}
+use Rattle.sctp_wire_types.specs.declared.chunk.ChunkPayloadData.{ChunkPayloadData}
+use Rattle.sctp_model.specs.Serial.{tsn}
+use Rattle.sctp_queues.specs.Streams.{StreamMap, bytes_waiting}
+use Rattle.sctp_inbound.specs.declared.handshake.Handshake.{Handshake}
+use Rattle.sctp_inbound.specs.declared.receiver.Receiver.{Receiver}
+use Rattle.sctp_inbound.specs.Handshake.{header_of}
+use Rattle.sctp_inbound.specs.Receiver.{acknowledged}
+use Rattle.sctp_assoc.specs.Acts.{Act, Binds, History, Leads, Parts, all_data_given, done_all, parts}
+use Rattle.sctp_assoc.specs.Calls.{is_established}
+use Rattle.sctp_assoc.specs.Happened.{Polls, PollsOn, acks_given, acts_of_ack, acts_of_data_poll, acts_of_poll, packets_given}
+use Rattle.sctp_assoc.specs.Polled.{ack_after, ack_polled, after_both, data_packets, data_polled, is_due, polled, sack_packet, with_sent_data}
+use Rattle.sctp_assoc.specs.Shown.{Shown}
+use Rattle.sctp_assoc.proofs.Acting.{acts_tied, given_append}
+use Rattle.sctp_assoc.proofs.Giving.{Adds, data_poll_adds, data_poll_stays, IsSentBeside}
+use Rattle.sctp_assoc.proofs.Joining.{leads_by, leads_nowhere, leads_on, past_itself}
+
+both_first : (packets : List (List ℕ)) (x : Shown × List (List ℕ)) → (after_both packets x).0 ≡ x.0
+both_first packets (a, more) = refl
+
+both_second : (packets : List (List ℕ)) (x : Shown × List (List ℕ)) → (after_both packets x).1 ≡ packets ++ x.1
+both_second packets (a, more) = refl
+
+abbrev acked_if : Bool → Shown → Shown × List (List ℕ)
+acked_if due b = if due then (record b { receiver = acknowledged b.receiver }, sack_packet b) else (b, [])
+
+abbrev polled_if : Bool → Shown → ℕ → Shown × List (List ℕ)
+polled_if c a now = if c then ack_after (data_polled a now) else (a, [])
+
+ack_leads_if : (due : Bool) (b : Shown) (h : History) → Binds b h
+    → Leads (if due then Act.Reported ∷ [] else []) b h (acked_if due b).0 h
+ack_leads_if true b h binds = leads_by (Act.Reported ∷ []) b (record b { receiver = acknowledged b.receiver }) h binds (tt, tt) refl refl (past_itself h)
+ack_leads_if false b h binds = leads_nowhere b b h binds refl refl
+
+ack_leads : (b : Shown) (h : History) → Binds b h → Leads (acts_of_ack b) b h (ack_polled b).0 h
+unfolding ack_polled
+ack_leads b h binds = ack_leads_if (is_due b.receiver.ack_state) b h binds
+
+ack_said_if : (due : Bool) (b : Shown) → (acked_if due b).1 ≡ (if due then sack_packet b else [])
+ack_said_if true b = refl
+ack_said_if false b = refl
+
+ack_said : (b : Shown) → (ack_polled b).1 ≡ acks_given b
+unfolding ack_polled
+ack_said b = ack_said_if (is_due b.receiver.ack_state) b
+
+ack_silent : (due : Bool) (p : Parts) → all_data_given (if due then Act.Reported ∷ [] else []) p ≡ []
+ack_silent true p = refl
+ack_silent false p = refl
+
+poll_of : (x : Shown × List ChunkPayloadData) (xs : List Act) (a : Shown) (h : History) → IsSentBeside a x.0 → Binds a h
+    → Adds xs (parts a h) (parts x.0 h) [] x.1
+    → Leads (xs ++ acts_of_ack a) a h (ack_after x).0 h × ((ack_after x).1 ≡ data_packets (header_of a.handshake) (all_data_given (xs ++ acts_of_ack a) (parts a h)) ++ acks_given a)
+poll_of (b, pieces) xs a h same binds adds =
+    let mid : Leads xs a h b h = record {
+      can = adds.gives.can;
+      there = adds.gives.there;
+      binds = record {
+        first = ap (λ (p : Parts). p.queue.first_tsn) adds.gives.there ∙ acts_tied xs (parts a h) adds.gives.can binds.first
+            ∙ ap (λ (p : Parts). tsn p.history.own p.history.base) (sym adds.gives.there);
+        point = rw same.receiver binds.point;
+        below = binds.below;
+        above = binds.above;
+        passed = binds.passed;
+      };
+    } in
+    let ack : Leads (acts_of_ack a) b h (ack_polled b).0 h = rw (← same.acts) (ack_leads b h mid.binds) in
+    let said : pieces ≡ all_data_given (xs ++ acts_of_ack a) (parts a h) = adds.all ∙ sym (given_append xs (acts_of_ack a) (parts a h)
+        ∙ ap (λ (z : List ChunkPayloadData). all_data_given xs (parts a h) ++ z) (ack_silent (is_due a.receiver.ack_state) (done_all xs (parts a h)))
+        ∙ append-nil (all_data_given xs (parts a h)) ∙ adds.gives.said) in
+    (
+      rw (both_first (data_packets (header_of b.handshake) pieces) (ack_polled b)) (leads_on xs (acts_of_ack a) a b (ack_polled b).0 h h h mid ack),
+      both_second (data_packets (header_of b.handshake) pieces) (ack_polled b)
+      ∙ ap (λ (z : List (List ℕ)). data_packets (header_of b.handshake) pieces ++ z) (ack_said b ∙ same.acks)
+      ∙ rw (same.handshake, said) refl,
+    )
+
+polls_if : (c : Bool) (a : Shown) (now : ℕ) (h : History) → Binds a h
+    → Leads (if c then acts_of_data_poll a now ++ acts_of_ack a else []) a h (polled_if c a now).0 h
+    × ((polled_if c a now).1
+    ≡ (if c then data_packets (header_of a.handshake) (all_data_given (if c then acts_of_data_poll a now ++ acts_of_ack a else []) (parts a h)) ++ acks_given a else []))
+polls_if true a now h binds = poll_of (data_polled a now) (acts_of_data_poll a now) a h (data_poll_stays a now) binds (data_poll_adds a now h binds.first)
+polls_if false a now h binds = (leads_nowhere a a h binds refl refl, refl)
+
+pub polls : (a : Shown) (now : ℕ) → PollsOn (acts_of_poll a now) a (polled a now).0 (polled a now).1
+polls a now h binds = let all = polls_if (is_established a.state) a now h binds in record { leads = all.0; said = all.1 }
