@@ -25,7 +25,7 @@ use Rattle.sctp_outbound.specs.declared.sender.SackOutcome.TheVariants as outcom
 use Rattle.sctp_outbound.specs.Sender.{acked_point_of, acknowledged, points_to, sack_outcome, with_window}
 use Rattle.sctp_assoc.specs.declared.inbound.Flow.{Flow}
 use Rattle.sctp_assoc.specs.declared.inbound.Flow.TheVariants as flows
-use Rattle.sctp_assoc.specs.Acts.{Act, Binds, Can, CanAll, History, Leads, Parts, IsSamePast, done, done_all, parts, tsn_before, with_taken}
+use Rattle.sctp_assoc.specs.Acts.{Act, Binds, Can, CanAll, History, Leads, Parts, IsSamePast, LeadsOn, done, done_all, parts, tsn_before, with_taken}
 use Rattle.sctp_assoc.specs.Calls.{closed_by, closed_open, is_closed_state, is_established}
 use Rattle.sctp_assoc.specs.Chunks.{after_chunks, after_packet, after_packet_of, after_sack, asks_or_faults, checked_first, counted_data, counted_sack, dispatched, ended, goes_on, is_whole, message_in, on_chunk, on_counted_sack, on_data, on_next_data, on_sack, stream_found, taken_in, told, with_acknowledged, with_message, with_new_stream}
 use Rattle.sctp_assoc.specs.Happened.{acts_after, acts_of_checked, acts_of_chunk, acts_of_chunks, acts_of_close, acts_of_kind, acts_of_packet, acts_of_packet_of, acts_of_data, acts_of_found, acts_of_outcome, acts_of_sack, acts_of_stream, acts_of_taking}
@@ -297,3 +297,6 @@ packet_leads_unless false packet a now h binds = packet_of_leads packet a now h 
 pub packet_leads : (packet : Option Packet) (a : Shown) (now : ℕ) (h : History) → Binds a h
     → (k : History) × Leads (acts_of_packet a packet now) a h (after_packet a packet now) k
 packet_leads packet a now h binds = packet_leads_unless a.lost packet a now h binds
+
+pub packet_leads_on : (a b : Shown) (packet : Option Packet) (now : ℕ) → b ≡ after_packet a packet now → LeadsOn (acts_of_packet a packet now) a b
+packet_leads_on a b packet now e h binds = rw e (packet_leads packet a now h binds)

@@ -86,3 +86,6 @@ polls_if false a now h binds = (leads_nowhere a a h binds refl refl, refl)
 
 pub polls : (a : Shown) (now : ℕ) → PollsOn (acts_of_poll a now) a (polled a now).0 (polled a now).1
 polls a now h binds = let all = polls_if (is_established a.state) a now h binds in record { leads = all.0; said = all.1 }
+
+pub polls_on : (a b : Shown) (now : ℕ) (packets : List (List ℕ)) → polled a now ≡ (b, packets) → PollsOn (acts_of_poll a now) a b packets
+polls_on a b now packets e = rw (ap (λ (x : Shown × List (List ℕ)). x.0) (sym e), ap (λ (x : Shown × List (List ℕ)). x.1) (sym e)) (polls a now)

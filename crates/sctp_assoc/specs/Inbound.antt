@@ -1,5 +1,5 @@
 -- What a datagram brings to an association (RFC 4960 section 8.5).
-use Rattle.std.specs.Prelude.{List, is_ok, if◌then◌else◌, Result, Ok, Err, Option, Some, None}
+use Rattle.std.specs.Prelude.{is_ok, if◌then◌else◌, Result, Ok, Err, Option, Some, None}
 use Rattle.sctp_wire_types.specs.declared.error.Fault.{Fault}
 use Rattle.sctp_wire.specs.declared.packet.Packet.{Packet}
 use Rattle.sctp_wire.specs.declared.transmit.Transmit.{Transmit}

@@ -1,5 +1,5 @@
 -- A stream that an association lends, and how the association comes back.
-use Rattle.std.specs.Prelude.{◌≡◌, ℕ, Result, Option}
+use Rattle.std.specs.Prelude.{◌≡◌, ℕ, Result}
 use Rattle.std.specs.Borrow.{MutBor, Fml, GName, RestsIfErr}
 use Rattle.sctp_assoc.specs.declared.stream.Stream.{Stream}
 use Rattle.sctp_assoc.specs.Shown.{Shown}

@@ -6,6 +6,8 @@ ghost use Rattle.sctp_parts.specs.State.{is_closing};
 ghost use Rattle.sctp_parts.specs.Timers.{least_moment};
 ghost use Rattle.sctp_assoc.specs.Calls.{Refuses, RefusesOrLacksMemory, open_refusal, stream_refusal, usable, opened, is_closed_state, after_t3, after_ack_delay, after_timeouts};
 ghost use Rattle.sctp_assoc.specs.Chunks.{after_packet};
+ghost use Rattle.sctp_assoc.specs.Acts.{LeadsOn};
+ghost use Rattle.sctp_assoc.specs.Happened.{PollsOn, acts_of_packet, acts_of_poll};
 ghost use Rattle.sctp_assoc.specs.Inbound.{packet_of, transmit_of};
 ghost use Rattle.sctp_assoc.specs.Join.{join_refusal, joined};
 ghost use Rattle.sctp_assoc.specs.Lending.{rests_if_refused, lent, lender, id_of};
@@ -155,12 +157,14 @@ impl Association {
     }
 
     /// All packets that are due at `now`, in the order in which they go out; None where none is.
+    #[tactic(auto, using(crate::proofs::Polling::polls_on))]
     pub fn poll_transmit(&mut self, now: Instant) -> Result<Option<Transmit>, Error>
         ensures failed { IsErrOf result Error.ErrAssociationFailed ↔ (self.old.failed ≡ true) }
         ensures refused { IsErrOf result Error.ErrAssociationFailed → self.new ≡ self.old }
         ensures memory { IsErrOf result Error.ErrNoMemory → HasFailed self.old.state self.old.lost self.new }
         ensures only { OnErr result ((result ≡ Err Error.ErrAssociationFailed) ⊎ (result ≡ Err Error.ErrNoMemory)) }
         ensures ok { IfOk result (λ given. polled self.old now ≡ (self.new, packets_of given)) }
+        ensures acts { IfOk result (λ given. PollsOn (acts_of_poll self.old now) self.old self.new (packets_of given)) }
         ensures none { IfOk result (λ given. IsNone given ↔ (packets_of given ≡ [])) }
         ensures addressed { IfOk result (λ given. IfSome given (λ t. IsAddressed self.new now t)) }
     {
@@ -193,12 +197,14 @@ impl Association {
     }
 
     /// Processes one datagram.
+    #[tactic(auto, using(crate::proofs::Joining::packet_leads_on))]
     pub fn handle_event(&mut self, event: AssociationEvent) -> Result<(), Error>
         ensures failed { IsErrOf result Error.ErrAssociationFailed ↔ (self.old.failed ≡ true) }
         ensures refused { IsErrOf result Error.ErrAssociationFailed → self.new ≡ self.old }
         ensures memory { IsErrOf result Error.ErrNoMemory → HasFailed self.old.state self.old.lost self.new }
         ensures only { OnErr result ((result ≡ Err Error.ErrAssociationFailed) ⊎ (result ≡ Err Error.ErrNoMemory)) }
         ensures ok { OnOk result (self.new ≡ after_packet self.old (packet_of event) (transmit_of event).now) }
+        ensures acts { OnOk result (LeadsOn (acts_of_packet self.old (packet_of event) (transmit_of event).now) self.old self.new) }
     {
         self.check_usable()?;
         let transmit = event.transmit;

@@ -1,11 +1,11 @@
-use Rattle.std.proofs.Common.{◌≡◌, ℕ, zero, suc, ◌+◌, ◌-◌, ◌<◌, ◌≤◌, Bool, true, false, not, nat_lt, List, [], ◌∷◌, ◌++◌, Option, Some, None, length, take, drop, set, slice_get, refl, ap, sym, ◌∙◌, ◌⊎◌, ⊎_elim, append_assoc, arith, rules}
-use Rattle.std.proofs.lemmas.List.{take_more, take_more_set, take_all, drop_more, drop_all, drop-set-lt, length-drop, take-append-drop, append-nil, length-set}
-use Rattle.std.proofs.lemmas.Option.{get_or_from_slice_get, slice_get_within, slice_get-get_or}
+use Rattle.std.proofs.Common.{◌≡◌, ℕ, zero, suc, ◌+◌, ◌-◌, ◌<◌, ◌≤◌, true, false, nat_lt, List, [], ◌∷◌, ◌++◌, Option, Some, None, length, take, drop, set, slice_get, refl, ap, sym, ◌∙◌, ⊎_elim, append_assoc, arith}
+use Rattle.std.proofs.lemmas.List.{take_more, take_more_set, drop_more, drop_all, drop-set-lt, length-drop, take-append-drop, append-nil, length-set}
+use Rattle.std.proofs.lemmas.Option.{get_or_from_slice_get, slice_get_within}
 use Rattle.std.proofs.lemmas.Bool.{cases_Bool}
 use Rattle.std.proofs.lemmas.Bool.Decides.{nat_tests}
 use Rattle.sctp_wire_types.specs.declared.chunk.ChunkPayloadData.{ChunkPayloadData}
 use Rattle.sctp_parts.specs.Estimate.{Estimate}
-use Rattle.std.specs.Prelude.{sum_by, ◌==◌}
+use Rattle.std.specs.Prelude.{◌==◌}
 use Rattle.std.proofs.lemmas.List.Sums.{sum_by-cons}
 use Rattle.sctp_outbound_queue.specs.declared.message.InFlight.{InFlight}
 use Rattle.sctp_outbound_queue.specs.Waiting.{Waiting}

@@ -1,5 +1,5 @@
 -- The sender of DATA (RFC 4960 sections 6 and 7).
-use Rattle.std.specs.Prelude.{ℕ, is_some, zero, suc, not, nat_lt, ◌++◌, slice_set, Bool, true, false, List, [], ◌∷◌, ◌+◌, ◌-◌, ◌*◌, ◌/◌, ◌%◌, ◌^◌, ◌==◌, ◌&&◌, if◌then◌else◌, length, min, max, nat_le, slice_get, Option, Some, None}
+use Rattle.std.specs.Prelude.{ℕ, is_some, zero, suc, not, nat_lt, ◌++◌, slice_set, Bool, false, List, [], ◌∷◌, ◌+◌, ◌-◌, ◌*◌, ◌/◌, ◌%◌, ◌^◌, ◌==◌, ◌&&◌, if◌then◌else◌, length, min, max, nat_le, slice_get, Option, Some, None}
 use Rattle.sctp_wire_types.specs.Serial.{tsn_past, tsn_gt, tsn_gte}
 use Rattle.sctp_wire_types.specs.declared.chunk.ChunkPayloadData.{ChunkPayloadData}
 use Rattle.sctp_parts.specs.declared.timer.Timer.TheVariants as names
@@ -9,7 +9,7 @@ use Rattle.sctp_outbound_queue.specs.declared.message.Attributes.{Attributes}
 use Rattle.sctp_outbound_queue.specs.declared.message.InFlight.{InFlight}
 use Rattle.sctp_outbound_queue.specs.Waiting.{Waiting}
 use Rattle.sctp_outbound_queue.specs.Message.{is_outstanding, outstanding_bytes, counted_again}
-use Rattle.sctp_outbound_queue.specs.Outbound.{Outbound, empty_outbound, tsn_at, next_tsn_of, outstanding_of, without_first, pieces_waiting, sent_next}
+use Rattle.sctp_outbound_queue.specs.Outbound.{empty_outbound, tsn_at, next_tsn_of, outstanding_of, without_first, pieces_waiting, sent_next}
 use Rattle.sctp_queues.specs.Streams.{StreamMap, released_in}
 use Rattle.sctp_outbound.specs.declared.sender.Sender.{Sender}
 use Rattle.sctp_outbound.specs.declared.sender.SackOutcome.{SackOutcome}

@@ -1,2 +1,3 @@
-pub mod Sums
 pub mod Dropped
+pub mod Leaving
+pub mod Sums

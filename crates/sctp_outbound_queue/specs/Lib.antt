@@ -1,4 +1,5 @@
 pub mod Expiry
+pub mod Laws
 pub mod Message
 pub mod Outbound
 pub mod Waiting

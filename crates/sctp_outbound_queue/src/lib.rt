@@ -2,9 +2,11 @@
 //! acknowledged cumulatively.
 #![tactic(auto)]
 
+mod laws;
 mod message;
 mod queue;
 mod walks;
 
+pub use laws::{abandonment_is_whole, released_bytes_are_exact};
 pub use message::{Attributes, InFlight, PendingMessage, Policy};
 pub use queue::{OutboundQueue, Released};

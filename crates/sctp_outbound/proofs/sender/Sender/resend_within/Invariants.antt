@@ -1,5 +1,3 @@
-use Rattle.std.proofs.Common.{◌≡◌, ◌++◌, length, take, drop}
-use Rattle.sctp_outbound.specs.Sender.{with_in_flight, resent_pieces, resent_chunks}
 use Rattle.sctp_outbound.proofs.Sending.{ResendsOn}
 use Rattle.sctp_outbound.proofs.sender.Sender.resend_within.Given as goal
 

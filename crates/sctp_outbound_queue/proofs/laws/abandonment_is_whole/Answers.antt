@@ -1,0 +1,5 @@
+use Rattle.sctp_outbound_queue.proofs.Leaving.{abandoned_whole}
+use Rattle.sctp_outbound_queue.proofs.laws.abandonment_is_whole.Goals as goal
+
+pub returns : goal.returns
+returns c = abandoned_whole
