@@ -157,7 +157,6 @@ impl Association {
     }
 
     /// All packets that are due at `now`, in the order in which they go out; None where none is.
-    #[tactic(auto, using(crate::proofs::Polling::polls_on))]
     pub fn poll_transmit(&mut self, now: Instant) -> Result<Option<Transmit>, Error>
         ensures failed { IsErrOf result Error.ErrAssociationFailed ↔ (self.old.failed ≡ true) }
         ensures refused { IsErrOf result Error.ErrAssociationFailed → self.new ≡ self.old }
