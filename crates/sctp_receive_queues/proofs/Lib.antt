@@ -1,1 +1,4 @@
 pub mod Blocks
+pub mod Bytes
+pub mod Places
+pub mod Sums

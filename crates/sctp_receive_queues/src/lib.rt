@@ -2,6 +2,13 @@
 //! messages until they are read.
 #![tactic(auto)]
 
+mod chunks;
+mod group;
+mod pieces;
+mod reassembly;
 mod receive_queue;
+mod runs;
 
+pub use chunks::Chunks;
+pub use reassembly::ReassemblyQueue;
 pub use receive_queue::ReceiveQueue;
