@@ -47,15 +47,15 @@ named_from x b [] w = refl
 named_from x b (o ∷ os) w =
     ⊎_elim
     (λ (e : eqb (b.end + 1) o ≡ true).
-      rw e (
-        named_from x (block b.start o) os (omega (arith, w, eqb_eq (b.end + 1) o e)) ∙
-        ap (λ z. z || list_any (λ o. eqb o x) os) (longer x b.start b.end o w (eqb_eq (b.end + 1) o e)) ∙
-        or_assoc (leb b.start x && leb x b.end) (eqb o x) (list_any (λ o. eqb o x) os)
-      ))
+    rw e (
+    named_from x (block b.start o) os (omega (arith, w, eqb_eq (b.end + 1) o e)) ∙
+    ap (λ z. z || list_any (λ o. eqb o x) os) (longer x b.start b.end o w (eqb_eq (b.end + 1) o e)) ∙
+    or_assoc (leb b.start x && leb x b.end) (eqb o x) (list_any (λ o. eqb o x) os)
+    ))
     (λ (e : eqb (b.end + 1) o ≡ false).
-      rw e (ap (λ z. (leb b.start x && leb x b.end) || z) (
-        named_from x (block o o) os (omega arith) ∙ ap (λ z. z || list_any (λ o. eqb o x) os) (single x o)
-      )))
+    rw e (ap (λ z. (leb b.start x && leb x b.end) || z) (
+    named_from x (block o o) os (omega arith) ∙ ap (λ z. z || list_any (λ o. eqb o x) os) (single x o)
+    )))
     (cases_Bool (eqb (b.end + 1) o))
   where
     eqb_eq : (m n : ℕ) → eqb m n ≡ true → m ≡ n
@@ -81,9 +81,9 @@ in_offsets g point x [] h = refl
 in_offsets g point x (t ∷ ts) h =
     ⊎_elim
     (λ (e : (is_greater g point t && has_offset (tsn_past point t)) ≡ true).
-      rw (e, kept (is_greater g point t) (tsn_past point t) x e) (ap (λ z. eqb (tsn_past point t) x || z) (in_offsets g point x ts h)))
+    rw (e, kept (is_greater g point t) (tsn_past point t) x e) (ap (λ z. eqb (tsn_past point t) x || z) (in_offsets g point x ts h)))
     (λ (e : (is_greater g point t && has_offset (tsn_past point t)) ≡ false).
-      rw (e, dropped (is_greater g point t) (tsn_past point t) x h e) (in_offsets g point x ts h))
+    rw (e, dropped (is_greater g point t) (tsn_past point t) x h e) (in_offsets g point x ts h))
     (cases_Bool (is_greater g point t && has_offset (tsn_past point t)))
 
 either : (b q : Bool) → ((cond b true false && q) || (cond b false true && q)) ≡ q
@@ -121,7 +121,7 @@ apart_from least b (o ∷ os) l w a =
     ⊎_elim
     (λ (e : eqb (b.end + 1) o ≡ true). rw e (apart_from least (block b.start o) os l (omega (arith, w, a.0)) a.1))
     (λ (e : eqb (b.end + 1) o ≡ false).
-      rw e (l, w, apart_from (b.end + 2) (block o o) os (past_gap (b.end) o a.0 e) (omega arith) a.1))
+    rw e (l, w, apart_from (b.end + 2) (block o o) os (past_gap (b.end) o a.0 e) (omega arith) a.1))
     (cases_Bool (eqb (b.end + 1) o))
   where
     past_gap : (m n : ℕ) → m + 1 ≤ n → eqb (m + 1) n ≡ false → m + 2 ≤ n
@@ -141,10 +141,12 @@ less_than a b e = let h : a < b = ranked a b Less (sym e) in omega (arith, h)
 
 ascending_keys : (least : ℕ) (ts : List ℕ) → IsStrictlySortedBy nat_cmp ts → All (λ t. t < 2 ^ 32) ts → All (λ t. least ≤ t) ts → AscendsBelow least ts
 ascending_keys least [] s b l = tt
-ascending_keys least (t ∷ ts) s b l =
-    (All-head (λ t. least ≤ t) t ts l, All-head (λ t. t < 2 ^ 32) t ts b,
-     ascending_keys (t + 1) ts (sorted_tail nat_cmp t ts s) (All-tail (λ t. t < 2 ^ 32) t ts b)
-     (λ k d h. less_than t _ (All-after_first nat_cmp t ts s k d h)))
+ascending_keys least (t ∷ ts) s b l = (
+  All-head (λ t. least ≤ t) t ts l,
+  All-head (λ t. t < 2 ^ 32) t ts b,
+  ascending_keys (t + 1) ts (sorted_tail nat_cmp t ts s) (All-tail (λ t. t < 2 ^ 32) t ts b)
+      (λ k d h. less_than t _ (All-after_first nat_cmp t ts s k d h)),
+)
 
 greater_past : (point t : ℕ) → ltb point t ≡ true → t < 2 ^ 32 → tsn_past point t + point ≡ t
 greater_past point t e b = let h : point < t = grind (arith, nat_tests, e) in omega (arith, h, b)
@@ -154,22 +156,25 @@ greater_ascend point l m [] rest p a w u r = ascends_from _ m rest u r
 greater_ascend point l m (t ∷ ts) rest p a w u r =
     ⊎_elim
     (λ (e : (is_greater true point t && has_offset (tsn_past point t)) ≡ true).
-      rw e (
-        let g = is_past point t (and_parts (is_greater true point t) _ e).0 in
-        let same : tsn_past point t + point ≡ t = greater_past point t g a.1 in
-        (least m point l t (tsn_past point t) same (and_parts (is_greater true point t) _ e).1 a.0 w,
-         greater_ascend point (t + 1) (tsn_past point t + 1) ts rest p a.2 (inl (omega (arith, same))) (omega (arith, same, a.1, p)) r)
-      ))
+    rw e (
+    let g = is_past point t (and_parts (is_greater true point t) _ e).0 in
+    let same : tsn_past point t + point ≡ t = greater_past point t g a.1 in (
+      least m point l t (tsn_past point t) same (and_parts (is_greater true point t) _ e).1 a.0 w,
+      greater_ascend point (t + 1) (tsn_past point t + 1) ts rest p a.2 (inl (omega (arith, same))) (omega (arith, same, a.1, p)) r,
+    )
+    ))
     (λ (e : (is_greater true point t && has_offset (tsn_past point t)) ≡ false).
-      rw e (greater_ascend point (t + 1) m ts rest p a.2 (later_least m point l t a.0 w) u r))
+    rw e (greater_ascend point (t + 1) m ts rest p a.2 (later_least m point l t a.0 w) u r))
     (cases_Bool (is_greater true point t && has_offset (tsn_past point t)))
   where
     is_past : (point t : ℕ) → is_greater true point t ≡ true → ltb point t ≡ true
     is_past point t e = grind (arith, nat_tests, e)
+
     least : (m point l t d : ℕ) → d + point ≡ t → has_offset d ≡ true → l ≤ t → (m + point ≤ l) ⊎ (m ≤ 1) → m ≤ d
     least m point l t d same h a w =
         let positive : 0 < d = grind (arith, nat_tests, h) in
         ⊎_elim (λ (c : m + point ≤ l). omega (arith, same, a, c)) (λ (c : m ≤ 1). omega (arith, positive, c)) w
+
     later_least : (m point l t : ℕ) → l ≤ t → (m + point ≤ l) ⊎ (m ≤ 1) → (m + point ≤ t + 1) ⊎ (m ≤ 1)
     later_least m point l t a w = ⊎_elim (λ (c : m + point ≤ l). inl (omega (arith, a, c))) (λ (c : m ≤ 1). inr c) w
 
@@ -184,13 +189,14 @@ behind_ascend point l m [] p a w = tt
 behind_ascend point l m (t ∷ ts) p a w =
     ⊎_elim
     (λ (e : (is_greater false point t && has_offset (tsn_past point t)) ≡ true).
-      rw e (
-        let same = behind_past point t (is_behind point t (and_parts (is_greater false point t) _ e).0) (and_parts (is_greater false point t) _ e).1 p in
-        (omega (arith, same, a.0, w, p),
-         behind_ascend point (t + 1) (tsn_past point t + 1) ts p a.2 (omega (arith, same, p)))
-      ))
+    rw e (
+    let same = behind_past point t (is_behind point t (and_parts (is_greater false point t) _ e).0) (and_parts (is_greater false point t) _ e).1 p in (
+      omega (arith, same, a.0, w, p),
+      behind_ascend point (t + 1) (tsn_past point t + 1) ts p a.2 (omega (arith, same, p)),
+    )
+    ))
     (λ (e : (is_greater false point t && has_offset (tsn_past point t)) ≡ false).
-      rw e (behind_ascend point (t + 1) m ts p a.2 (omega (arith, a.0, w, p))))
+    rw e (behind_ascend point (t + 1) m ts p a.2 (omega (arith, a.0, w, p))))
     (cases_Bool (is_greater false point t && has_offset (tsn_past point t)))
   where
     is_behind : (point t : ℕ) → is_greater false point t ≡ true → ltb point t ≡ false
@@ -200,6 +206,6 @@ pub maximal_runs : (point : ℕ) (ts : List ℕ) → point < 2 ^ 32 → IsStrict
 maximal_runs point ts p s b =
     let a = ascending_keys 0 ts s b (λ k d h. omega arith) in
     apart (offsets_of point ts) (
-      greater_ascend point 0 1 ts (offsets_in false point ts) p a (inr (omega arith)) (omega (arith, p))
-      (behind_ascend point 0 (2 ^ 32 - point) ts p a (omega (arith, p)))
+    greater_ascend point 0 1 ts (offsets_in false point ts) p a (inr (omega arith)) (omega (arith, p))
+    (behind_ascend point 0 (2 ^ 32 - point) ts p a (omega (arith, p)))
     )

@@ -88,9 +88,10 @@ no_run_after : (runs : List (List ChunkPayloadData)) (k : ℕ) (p : ChunkPayload
 no_run_after runs k p le = rw (slice_get_past runs k le) refl
 
 after_bound : (runs : List (List ChunkPayloadData)) (k : ℕ) (p : ChunkPayloadData) → joins_after (run_at runs k) p ≡ true → (k < length runs) × (run_at runs k ≡ get_or runs k [])
-after_bound runs k p e =
-    (⊎_elim (λ (h : k < length runs). h) (λ (h : length runs ≤ k). let no = no_run_after runs k p h in absurd (cc)) (cases_lt k (length runs)),
-     run_get runs k)
+after_bound runs k p e = (
+  ⊎_elim (λ (h : k < length runs). h) (λ (h : length runs ≤ k). let no = no_run_after runs k p h in absurd (cc)) (cases_lt k (length runs)),
+  run_get runs k,
+)
 
 no_run_before : (runs : List (List ChunkPayloadData)) (k : ℕ) (p : ChunkPayloadData) → length runs ≤ k → joins_before (run_at runs k) p ≡ false
 no_run_before runs k p le = rw (slice_get_past runs k le) refl
@@ -106,11 +107,12 @@ before_bound runs k p e =
     ⊎_elim
     (λ (z : eqb k 0 ≡ true). let no = before_first runs k p z in absurd (cc))
     (λ (z : eqb k 0 ≡ false).
-      let same = before_at runs k z in
-      let here : joins_before (run_at runs (k - 1)) p ≡ true = ap (λ r. joins_before r p) (sym same) ∙ e in
-      (positive k z,
-       ⊎_elim (λ (h : k - 1 < length runs). h) (λ (h : length runs ≤ k - 1). let no = no_run_before runs (k - 1) p h in absurd (cc)) (cases_lt (k - 1) (length runs)),
-       same ∙ run_get runs (k - 1)))
+    let same = before_at runs k z in
+    let here : joins_before (run_at runs (k - 1)) p ≡ true = ap (λ r. joins_before r p) (sym same) ∙ e in (
+      positive k z,
+      ⊎_elim (λ (h : k - 1 < length runs). h) (λ (h : length runs ≤ k - 1). let no = no_run_before runs (k - 1) p h in absurd (cc)) (cases_lt (k - 1) (length runs)),
+      same ∙ run_get runs (k - 1),
+    ))
     (cases_Bool (eqb k 0))
   where
     positive : (k : ℕ) → eqb k 0 ≡ false → 0 < k
@@ -128,13 +130,13 @@ finished_bytes : (runs : List (List ChunkPayloadData)) (k : ℕ) (ms : List Mess
 finished_bytes runs k ms =
     ⊎_elim
     (λ (e : is_complete (run_at runs k) ≡ true).
-      let bound : k < length runs = ⊎_elim (λ (h : k < length runs). h) (λ (h : length runs ≤ k). let no = not_complete runs k h in absurd (cc)) (cases_lt k (length runs)) in
-      let fewer = sum_by-remove bytes_of runs k [] bound in
-      let same : bytes_of (run_at runs k) ≡ bytes_of (get_or runs k []) = ap bytes_of (run_get runs k) in
-      let more = sum_by-append (λ (m : Message). length m.bytes) ms (message_of (run_at runs k) ∷ []) in
-      let one = sum_by-cons (λ (m : Message). length m.bytes) (message_of (run_at runs k)) [] in
-      let long = message_length (run_at runs k) in
-      rw e (omega (arith, fewer, same, more, one, long)))
+    let bound : k < length runs = ⊎_elim (λ (h : k < length runs). h) (λ (h : length runs ≤ k). let no = not_complete runs k h in absurd (cc)) (cases_lt k (length runs)) in
+    let fewer = sum_by-remove bytes_of runs k [] bound in
+    let same : bytes_of (run_at runs k) ≡ bytes_of (get_or runs k []) = ap bytes_of (run_get runs k) in
+    let more = sum_by-append (λ (m : Message). length m.bytes) ms (message_of (run_at runs k) ∷ []) in
+    let one = sum_by-cons (λ (m : Message). length m.bytes) (message_of (run_at runs k)) [] in
+    let long = message_length (run_at runs k) in
+    rw e (omega (arith, fewer, same, more, one, long)))
     (λ (e : is_complete (run_at runs k) ≡ false). rw e refl)
     (cases_Bool (is_complete (run_at runs k)))
 
@@ -166,9 +168,11 @@ trimmed_bytes tsn runs =
 
 pub held_exactly : (groups : List Group) (runs : List (List ChunkPayloadData)) (ms : List Message) → bytes_in_groups groups + bytes_in_runs runs + bytes_in_messages ms < 2 ^ 64 → min (min (saturated_bytes (λ (g : Group). bytes_of g.pieces) groups + saturated_bytes bytes_of runs) (2 ^ 64 - 1) + saturated_bytes (λ (m : Message). length m.bytes) ms) (2 ^ 64 - 1) ≡ bytes_in_groups groups + bytes_in_runs runs + bytes_in_messages ms
 held_exactly groups runs ms small =
-    rw (saturated_sum (λ (g : Group). bytes_of g.pieces) groups (omega (arith, small)),
+    rw (
+      saturated_sum (λ (g : Group). bytes_of g.pieces) groups (omega (arith, small)),
       saturated_sum bytes_of runs (omega (arith, small)),
-      saturated_sum (λ (m : Message). length m.bytes) ms (omega (arith, small)))
+      saturated_sum (λ (m : Message). length m.bytes) ms (omega (arith, small)),
+    )
     (small_sum (bytes_in_groups groups) (bytes_in_runs runs) (bytes_in_messages ms) small)
   where
     small_sum : (a b c : ℕ) → a + b + c < 2 ^ 64 → min (min (a + b) (2 ^ 64 - 1) + c) (2 ^ 64 - 1) ≡ a + b + c

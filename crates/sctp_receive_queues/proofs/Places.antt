@@ -19,8 +19,10 @@ run_beside runs k j r other =
 -- the run at a place was taken out, and the run in front of it took over a piece and that run
 pub joined_place : (runs : List (List ChunkPayloadData)) (k : ℕ) (p : ChunkPayloadData) → 0 < k → remove (set (set runs k []) (k - 1) (run_at (set runs k []) (k - 1) ++ p ∷ run_at runs k)) k ≡ remove (set runs (k - 1) (run_at runs (k - 1) ++ p ∷ run_at runs k)) k
 joined_place runs k p first =
-    rw (run_beside runs k (k - 1) [] (λ e. omega (arith, first, e)),
-      set_comm runs k (k - 1) [] (run_at runs (k - 1) ++ p ∷ run_at runs k) (λ e. omega (arith, first, e)))
+    rw (
+      run_beside runs k (k - 1) [] (λ e. omega (arith, first, e)),
+      set_comm runs k (k - 1) [] (run_at runs (k - 1) ++ p ∷ run_at runs k) (λ e. omega (arith, first, e)),
+    )
     (remove_set (set runs (k - 1) (run_at runs (k - 1) ++ p ∷ run_at runs k)) k [])
 
 -- the run at a place was taken out and put back

@@ -180,8 +180,8 @@ abbrev pub refusal_between : List ChunkPayloadData → ChunkPayloadData → List
 refusal_between before p after limit =
     if covers before p.tsn || is_torn_before before p || is_torn_after after p then Some errors.ErrContradictoryPieces else
     if nat_lt limit (
-      bytes_of (part (joins_before before p) before) + length p.user_data +
-      bytes_of (part (joins_after after p) after)
+    bytes_of (part (joins_before before p) before) + length p.user_data +
+    bytes_of (part (joins_after after p) after)
     ) then Some errors.ErrInboundMessageTooLarge else
     None
 
@@ -203,9 +203,10 @@ run_place joins_before place = if joins_before then place - 1 else place
 
 -- the runs with a piece that has this place among them, and the place of its run
 abbrev pub with_unordered : List (List ChunkPayloadData) → ℕ → ChunkPayloadData → List (List ChunkPayloadData) × ℕ
-with_unordered runs place p =
-    (put_between (joins_before (run_before runs place) p) (joins_after (run_at runs place) p) runs place (joined_run (run_before runs place) p (run_at runs place)),
-     run_place (joins_before (run_before runs place) p) place)
+with_unordered runs place p = (
+  put_between (joins_before (run_before runs place) p) (joins_after (run_at runs place) p) runs place (joined_run (run_before runs place) p (run_at runs place)),
+  run_place (joins_before (run_before runs place) p) place,
+)
 
 -- a run that is a complete message is that
 abbrev pub finished : List (List ChunkPayloadData) → ℕ → List Message → List (List ChunkPayloadData) × List Message

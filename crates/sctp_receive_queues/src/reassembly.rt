@@ -230,7 +230,8 @@ fn in_runs(unordered: &VecDeque<Pieces>) -> u64
 fn in_messages(complete: &VecDeque<Chunks>) -> u64
     ensures { result ≡ saturated_bytes (λ m. length m.bytes) complete.now.items }
 {
-    complete
-        .iter()
-        .fold(0u64, |sum, message| sum.saturating_add(message.len() as u64))
+    complete.iter().fold(
+        0u64,
+        |sum, message| sum.saturating_add(message.len() as u64),
+    )
 }

@@ -5,12 +5,12 @@ use Rattle.sctp_receive_queues.proofs.reassembly.ReassemblyQueue.push_unordered.
 
 pub invariant_of-self-2 : goal.invariant_of-self-2
 invariant_of-self-2 c =
-    let e : unordered_put c.self.inside.unordered.items c.self.inside.complete.items c.args.piece ≡ (c.put.new.runs.items, c.put.new.complete.items) = search rules in
+    let e : unordered_put c.self.inside.unordered.items c.self.inside.complete.items c.args.piece ≡ (c.put.new.runs.items, c.put.new.complete.items) = c.in_ok-put.ensures.put in
     let w : c.in-Some.waiting ≡ c.self.inside.waiting + length c.args.piece.user_data = search rules in
     let bytes = unordered_bytes c.self.inside.unordered.items c.self.inside.complete.items c.args.piece in
     omega (arith, w, rw e at bytes, c.self.invariant)
 
 pub returns-clause-pushed : goal.returns-clause-pushed
 returns-clause-pushed c =
-    let e : unordered_put c.self.inside.unordered.items c.self.inside.complete.items c.args.piece ≡ (c.put.new.runs.items, c.put.new.complete.items) = search rules in
-    λ _. rw (← c.self.view_is, e) refl
+    let e : unordered_put c.self.inside.unordered.items c.self.inside.complete.items c.args.piece ≡ (c.put.new.runs.items, c.put.new.complete.items) = c.in_ok-put.ensures.put in
+    rw (← c.self.view_is, e) refl
