@@ -1,8 +1,8 @@
 -- The bytes that wait grow by a piece's own.
-use Rattle.std.proofs.Common.{◌≡◌, ℕ, ◌+◌, ◌-◌, ◌<◌, ◌≤◌, Bool, true, false, not, ◌&&◌, eqb, List, [], ◌∷◌, ◌++◌, length, get_or, set, insert, Option, Some, None, slice_get, position, map, min, ◌^◌, refl, ap, sym, ◌∙◌, ◌⊎◌, inl, inr, ⊎_elim, arith, rules}
-use Rattle.std.specs.List.{sum_by, remove, flat_map, filter}
+use Rattle.std.proofs.Common.{◌≡◌, ℕ, ◌+◌, ◌-◌, ◌<◌, ◌≤◌, Bool, true, false, not, eqb, List, [], ◌∷◌, ◌++◌, length, get_or, set, Option, Some, None, slice_get, map, min, ◌^◌, refl, ap, sym, ◌∙◌, ⊎_elim, arith}
+use Rattle.std.specs.List.{filter}
 use Rattle.sctp_wire_types.specs.Serial.{tsn_lte}
-use Rattle.std.proofs.lemmas.Bool.{cases_Bool, and_parts, cases_lt, eqb-true, eqb-false}
+use Rattle.std.proofs.lemmas.Bool.{cases_Bool, cases_lt, eqb-false}
 use Rattle.std.proofs.lemmas.List.{get_or-set_other, length-set}
 use Rattle.std.proofs.lemmas.List.Concat.{length-flat_map}
 use Rattle.std.proofs.lemmas.List.Quantifiers.{position-Some}
@@ -10,8 +10,8 @@ use Rattle.std.proofs.lemmas.List.Sums.{sum_by-cons, sum_by-append, sum_by-inser
 use Rattle.std.proofs.lemmas.Option.{slice_get-get_or, slice_get_past}
 use Rattle.sctp_wire_types.specs.declared.chunk.ChunkPayloadData.{ChunkPayloadData}
 use Rattle.sctp_receive_queues.specs.Messages.{Message, message_of, joined}
-use Rattle.sctp_receive_queues.specs.Pieces.{bytes_of, is_complete, place_of, last_is_before, first_is_after, ends, begins}
-use Rattle.sctp_receive_queues.specs.Reassembly.{Group, bytes_in_groups, bytes_in_runs, bytes_in_messages, group_of, grown, put_at, with_ordered, place_of_ssn, place_for_ssn, run_before, run_at, place_for_tsn, joins_before, joins_after, part, joined_run, put_between, run_place, with_unordered, finished, unordered_put, saturated_bytes, stays, above, trimmed}
+use Rattle.sctp_receive_queues.specs.Pieces.{bytes_of, is_complete, place_of}
+use Rattle.sctp_receive_queues.specs.Reassembly.{Group, bytes_in_groups, bytes_in_runs, bytes_in_messages, group_of, grown, put_at, with_ordered, place_of_ssn, place_for_ssn, run_before, run_at, place_for_tsn, joins_before, joins_after, part, put_between, with_unordered, finished, unordered_put, saturated_bytes, stays, above, trimmed}
 use Rattle.sctp_receive_queues.proofs.Places.{run_get}
 use Rattle.sctp_receive_queues.proofs.Sums.{saturated_sum, filter_sum}
 

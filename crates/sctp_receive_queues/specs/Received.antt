@@ -1,6 +1,6 @@
 -- The TSNs that came above the cumulative TSN ack point (RFC 4960 sections 3.3.4 and 6.2).
-use Rattle.std.specs.Prelude.{ℕ, zero, suc, ◌<◌, ◌≤◌, ◌+◌, ◌-◌, ◌%◌, ◌^◌, ◌==◌, ◌&&◌, ◌||◌, not, nat_lt, nat_le, if◌then◌else◌, Bool, true, false, List, [], ◌∷◌, ◌++◌, Option, Some, None, fold}
-use Rattle.std.specs.List.{list_any, All}
+use Rattle.std.specs.Prelude.{◌≡◌, ℕ, zero, suc, ◌<◌, ◌≤◌, ◌+◌, ◌%◌, ◌^◌, ◌==◌, ◌&&◌, not, nat_lt, nat_le, if◌then◌else◌, Bool, true, false, List, [], ◌∷◌, ◌++◌, Option, Some, None, fold}
+use Rattle.std.specs.List.{list_any, All, AllByRecursion}
 use Rattle.std.specs.Ordering.{nat_cmp}
 use Rattle.std.specs.BTreeMap.{is_at}
 use Rattle.std.specs.BTreeSet.{insert_key}
@@ -46,6 +46,11 @@ later_of point (Some last) t = if nat_lt (tsn_past point last) (tsn_past point t
 -- the TSN that is farthest past the point
 abbrev pub last_received : ℕ → List ℕ → Option ℕ
 last_received point tsns = fold (λ last t. Some (later_of point last t)) None tsns
+
+-- no TSN is farther past the point; there is none only where there are no TSNs
+abbrev pub IsFarthest : ℕ → List ℕ → Option ℕ → Type 0
+IsFarthest point tsns None = tsns ≡ []
+IsFarthest point tsns (Some t) = AllByRecursion (λ u. tsn_past point u ≤ tsn_past point t) tsns
 
 -- a TSN is greater than the point as a number, or it is not
 abbrev pub is_greater : Bool → ℕ → ℕ → Bool

@@ -5,7 +5,7 @@ ghost use Rattle.std.specs.BTreeMap.{is_at};
 ghost use Rattle.std.specs.Set.{remove_key};
 ghost use Rattle.std.specs.List.Sorted.{IsStrictlySortedBy};
 ghost use Rattle.sctp_wire_types.specs.Serial.{tsn_lte, tsn_past};
-ghost use Rattle.sctp_receive_queues.specs.Received.{is_held, is_new, with_tsn, last_received, later_of, block, runs_from, advanced, offsets_of, offsets_in, runs_of, gap_ack_blocks, is_named, is_held_at, AreRuns, AreTsns};
+ghost use Rattle.sctp_receive_queues.specs.Received.{is_held, is_new, with_tsn, last_received, later_of, block, runs_from, advanced, offsets_of, offsets_in, runs_of, gap_ack_blocks, is_named, is_held_at, AreRuns, AreTsns, IsFarthest};
 
 use sctp_wire_types::{GapAckBlock, List, sna32lte};
 use std::alloc::{AllocError, Global};
@@ -126,6 +126,13 @@ impl ReceiveQueue {
 
     /// The TSN held that is farthest past the point; None where nothing is held.
     pub fn get_last_tsn_received(&self, point: u32) -> Option<u32>
+        ensures last { result ≡ last_received point self.now }
+        ensures farthest { IsFarthest point self.now result }
+    {
+        self.farthest(point)
+    }
+
+    fn farthest(&self, point: u32) -> Option<u32>
         ensures { result ≡ last_received point self.now }
     {
         let mut last = None;

@@ -1,5 +1,5 @@
-use Rattle.std.proofs.Common.{◌≡◌, ◌+◌, length, refl, ap, sym, ◌∙◌, arith, rules}
-use Rattle.sctp_receive_queues.specs.Reassembly.{unordered_put, with_put}
+use Rattle.std.proofs.Common.{◌≡◌, ◌+◌, length, refl, arith, rules}
+use Rattle.sctp_receive_queues.specs.Reassembly.{unordered_put}
 use Rattle.sctp_receive_queues.proofs.Bytes.{unordered_bytes}
 use Rattle.sctp_receive_queues.proofs.reassembly.ReassemblyQueue.push_unordered.Goals as goal
 
