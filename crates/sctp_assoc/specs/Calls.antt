@@ -11,7 +11,7 @@ use Rattle.sctp_parts.specs.Stats.{one_more}
 use Rattle.sctp_queues.specs.declared.event.AssociationError.{AssociationError}
 use Rattle.sctp_queues.specs.declared.event.Event.TheVariants.{AssociationLost, DataChannelStatsFinal}
 use Rattle.sctp_queues.specs.declared.outbound.Fragment.{Fragment}
-use Rattle.sctp_queues.specs.Message.{Message}
+use Rattle.sctp_receive_queues.specs.Messages.{Message}
 use Rattle.sctp_queues.specs.Outbound.{all_marked}
 use Rattle.sctp_queues.specs.Stream.{Stream, accepted_by}
 use Rattle.sctp_queues.specs.Streams.{StreamMap, stream_at, changed_stream, made, read_in, last_stats, without_streams}

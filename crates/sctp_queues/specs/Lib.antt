@@ -1,7 +1,6 @@
+pub mod Halves
 pub mod Lending
-pub mod Message
 pub mod Outbound
-pub mod Reassembly
 pub mod Stats
 pub mod Stream
 pub mod Streams

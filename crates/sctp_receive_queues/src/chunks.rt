@@ -1,7 +1,7 @@
 // A message as a reader gets it.
-ghost use Rattle.std.specs.Prelude.{◌≡◌, ◌==◌, ◌+◌, length, OnErr, IfOk, ◌⊎◌, Some, ◌++◌, ◌∷◌, slice_get, ◌<◌, ◌≤◌, IfSome, drop, take};
-ghost use Rattle.sctp_receive_queues.specs.Messages.{joined, front_bytes, is_blank, message_of, kind_of, IsCut};
-ghost use Rattle.sctp_receive_queues.specs.Pieces.{bytes_of, first_of};
+ghost use Rattle.std.specs.Prelude.{◌≡◌, ◌==◌, ◌+◌, length, OnErr, IfOk, Some, ◌++◌, slice_get, ◌<◌, ◌≤◌};
+ghost use Rattle.sctp_receive_queues.specs.Messages.{joined, front_bytes, is_blank, message_of, IsCut};
+ghost use Rattle.sctp_receive_queues.specs.Pieces.{bytes_of};
 
 use bytes::Bytes;
 use sctp_wire_types::{ChunkPayloadData, Error, PayloadProtocolIdentifier};

@@ -1,9 +1,9 @@
 // Ordered messages that are put together, in the order of their SSNs.
-ghost use Rattle.std.specs.Prelude.{◌≡◌, ◌+◌, ◌<◌, ◌≤◌, ◌⊎◌, length, position, slice_get, None, Some, IsOk, IfOk, IfErr, OnOk, OnErr, IfSome, filter};
+ghost use Rattle.std.specs.Prelude.{◌≡◌, ◌<◌, ◌≤◌, ◌⊎◌, length, position, slice_get, None, Some, IsOk, IfOk, IfErr, OnOk, OnErr, IfSome, filter};
 ghost use Rattle.sctp_wire_types.specs.Serial.{ssn_lt};
 ghost use Rattle.sctp_receive_queues.specs.Messages.{message_of};
 ghost use Rattle.sctp_receive_queues.specs.Pieces.{bytes_of, is_complete, refusal_of, is_later, last_of};
-ghost use Rattle.sctp_receive_queues.specs.Reassembly.{group_of, grown, grown_at, put_at, pieces_at, pieces_of, place_of_ssn, place_for_ssn, with_ordered, refusal_of_ordered, bytes_in_groups, bounded, stays};
+ghost use Rattle.sctp_receive_queues.specs.Reassembly.{group_of, grown, put_at, pieces_at, place_of_ssn, place_for_ssn, with_ordered, refusal_of_ordered, bounded, stays};
 
 use crate::Chunks;
 use crate::pieces::Pieces;

@@ -1,6 +1,6 @@
 // The pieces held of one message.
-ghost use Rattle.std.specs.Prelude.{◌≡◌, ◌+◌, ◌<◌, ◌^◌, ◌∷◌, [], ◌++◌, length, insert, IfOk, OnOk, OnErr, IfSome, ◌≤◌, ◌==◌, position, None, nat_lt, filter, not, fold, min, ◌-◌};
-ghost use Rattle.sctp_wire_types.specs.Serial.{tsn_lt, tsn_lte, tsn_past};
+ghost use Rattle.std.specs.Prelude.{◌≡◌, ◌+◌, ◌<◌, ◌^◌, ◌∷◌, [], ◌++◌, length, insert, IfOk, OnOk, OnErr, IfSome, ◌≤◌, ◌==◌, position, None, nat_lt, not, fold, min, ◌-◌};
+ghost use Rattle.sctp_wire_types.specs.Serial.{tsn_lt, tsn_past};
 ghost use Rattle.sctp_receive_queues.specs.Pieces.{bytes_of, begins, ends, is_complete, follows, first_is_after, last_is_before, covers, is_past, is_later, last_of, is_after, has_tsn, has_other_type, place_of, breaks_ends, contradicts, refusal_of};
 ghost use Rattle.sctp_receive_queues.specs.Messages.{message_of};
 ghost use Rattle.sctp_receive_queues.specs.Reassembly.{tears, is_torn_before, is_torn_after, joins_before, joins_after, above};

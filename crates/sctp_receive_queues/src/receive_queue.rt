@@ -1,10 +1,10 @@
 // TSNs that came and stand above the cumulative TSN ack point.
-ghost use Rattle.std.specs.Prelude.{◌≡◌, ℕ, ◌+◌, ◌%◌, ◌^◌, ◌<◌, ◌≤◌, ◌==◌, ◌++◌, not, false, if◌then◌else◌, length, [], filter, IfOk, OnOk, OnErr};
+ghost use Rattle.std.specs.Prelude.{◌≡◌, ℕ, ◌+◌, ◌%◌, ◌^◌, ◌<◌, ◌==◌, ◌++◌, not, false, if◌then◌else◌, length, [], filter, IfOk, OnOk, OnErr};
 ghost use Rattle.std.specs.Ordering.{nat_cmp};
 ghost use Rattle.std.specs.BTreeMap.{is_at};
 ghost use Rattle.std.specs.Set.{remove_key};
 ghost use Rattle.std.specs.List.Sorted.{IsStrictlySortedBy};
-ghost use Rattle.sctp_wire_types.specs.Serial.{tsn_lte, tsn_past};
+ghost use Rattle.sctp_wire_types.specs.Serial.{tsn_lte};
 ghost use Rattle.sctp_receive_queues.specs.Received.{is_held, is_new, with_tsn, last_received, later_of, block, runs_from, advanced, offsets_of, offsets_in, runs_of, gap_ack_blocks, is_named, is_held_at, AreRuns, AreTsns, IsFarthest};
 
 use sctp_wire_types::{GapAckBlock, List, sna32lte};

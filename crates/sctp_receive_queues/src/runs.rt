@@ -1,9 +1,9 @@
 // Pieces of unordered messages that are not complete: runs of pieces of one message whose TSNs follow one another, in the
 // order of their TSNs.
-ghost use Rattle.std.specs.Prelude.{◌≡◌, ◌+◌, ◌-◌, ◌<◌, ◌≤◌, ◌^◌, ◌⊎◌, ◌||◌, ◌==◌, not, map, length, position, slice_get, remove, None, Some, IsOk, IfOk, IfErr, OnOk, OnErr, IfSome, filter, true, IsTrue, [], unwrap_or, option_copied, slice_set, ◌++◌, ◌∷◌};
+ghost use Rattle.std.specs.Prelude.{◌≡◌, ◌+◌, ◌-◌, ◌<◌, ◌≤◌, ◌^◌, ◌⊎◌, ◌||◌, ◌==◌, not, map, length, position, remove, None, Some, IsOk, IfOk, IfErr, OnOk, OnErr, IfSome, filter, true, IsTrue, [], unwrap_or, option_copied, slice_set, ◌++◌, ◌∷◌};
 ghost use Rattle.std.specs.VecDeque.{deque_len, deque_capacity};
 ghost use Rattle.sctp_receive_queues.specs.Pieces.{bytes_of, is_complete, covers, is_past};
-ghost use Rattle.sctp_receive_queues.specs.Reassembly.{run_before, run_at, place_for_tsn, is_torn_before, is_torn_after, joins_before, joins_after, part, joined_run, put_between, run_place, with_unordered, finished, unordered_put, refusal_of_unordered, refusal_between, above, trimmed};
+ghost use Rattle.sctp_receive_queues.specs.Reassembly.{run_before, run_at, place_for_tsn, is_torn_before, is_torn_after, joins_before, joins_after, part, with_unordered, finished, unordered_put, refusal_of_unordered, refusal_between, above, trimmed};
 
 use crate::Chunks;
 use crate::pieces::Pieces;

@@ -9,4 +9,6 @@ mod outbound;
 #[cfg(test)]
 mod queues;
 #[cfg(test)]
+mod received;
+#[cfg(test)]
 mod timers;
