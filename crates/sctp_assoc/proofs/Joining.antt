@@ -14,7 +14,7 @@ use Rattle.sctp_model.specs.Serial.{tsn}
 use Rattle.sctp_parts.specs.Estimate.{Estimate}
 use Rattle.sctp_queues.specs.declared.event.AssociationError.{AssociationError}
 use Rattle.sctp_queues.specs.declared.event.AssociationError.TheVariants as reasons
-use Rattle.sctp_queues.specs.Streams.{StreamMap, bytes_waiting, contradicts_in, generation_left, is_readable_in, pushed_in, stream_at}
+use Rattle.sctp_queues.specs.Streams.{StreamMap, bytes_waiting, generation_left, is_readable_in, pushed_in, refusal_in, stream_at}
 use Rattle.sctp_inbound.specs.declared.receiver.AckWish.{AckWish}
 use Rattle.sctp_inbound.specs.declared.receiver.AckWish.TheVariants as wishes
 use Rattle.sctp_inbound.specs.declared.receiver.Receiver.{Receiver}
@@ -27,8 +27,8 @@ use Rattle.sctp_assoc.specs.declared.inbound.Flow.{Flow}
 use Rattle.sctp_assoc.specs.declared.inbound.Flow.TheVariants as flows
 use Rattle.sctp_assoc.specs.Acts.{Act, Binds, Can, CanAll, History, Leads, Parts, IsSamePast, LeadsOn, done, done_all, parts, tsn_before, with_taken}
 use Rattle.sctp_assoc.specs.Calls.{closed_by, closed_open, is_closed_state, is_established}
-use Rattle.sctp_assoc.specs.Chunks.{after_chunks, after_packet, after_packet_of, after_sack, asks_or_faults, checked_first, counted_data, counted_sack, dispatched, ended, goes_on, is_whole, message_in, on_chunk, on_counted_sack, on_data, on_next_data, on_sack, stream_found, taken_in, told, with_acknowledged, with_message, with_new_stream}
-use Rattle.sctp_assoc.specs.Happened.{acts_after, acts_of_checked, acts_of_chunk, acts_of_chunks, acts_of_close, acts_of_kind, acts_of_packet, acts_of_packet_of, acts_of_data, acts_of_found, acts_of_outcome, acts_of_sack, acts_of_stream, acts_of_taking}
+use Rattle.sctp_assoc.specs.Chunks.{after_chunks, after_packet, after_packet_of, after_sack, asks_or_faults, checked_first, counted_data, counted_sack, dispatched, ended, goes_on, is_whole, on_chunk, on_counted_sack, on_data, on_next_data, on_sack, stream_found, taken_in, taken_unless, told, with_acknowledged, with_message, with_new_stream}
+use Rattle.sctp_assoc.specs.Happened.{acts_after, acts_of_checked, acts_of_chunk, acts_of_chunks, acts_of_close, acts_of_kind, acts_of_packet, acts_of_packet_of, acts_of_data, acts_of_found, acts_of_outcome, acts_of_sack, acts_of_stream, acts_of_taking, acts_unless_refused}
 use Rattle.sctp_assoc.specs.Shown.{Shown}
 use Rattle.sctp_assoc.proofs.Acting.{acknowledged_tied, acts_tied, can_append, done_append, pieces_acknowledged}
 
@@ -117,7 +117,7 @@ taken_above h above o m = ⊎_elim
     (or_cases (eqb h.point o) (mem o h.taken) m)
 
 took_leads : (a : Shown) (piece : ChunkPayloadData) (h : History) → Binds a h → is_next_after a.receiver piece.tsn ≡ true → is_whole piece ≡ true
-    → (x : StreamMap × Bool) → x ≡ pushed_in a.streams piece.stream_identifier (message_in piece)
+    → (x : StreamMap × Bool) → x ≡ pushed_in a.streams piece.stream_identifier piece
     → Leads (Act.Took piece ∷ []) a h (with_message a piece x) (with_taken h)
 took_leads a piece h binds next whole (streams, kept) e =
     let b : Shown = record a { streams = streams; receiver = taken_to a.receiver piece.tsn } in
@@ -136,12 +136,17 @@ took_leads a piece h binds next whole (streams, kept) e =
       };
     }
 
-taking_leads : (c : Bool) (a : Shown) (piece : ChunkPayloadData) (h : History) → contradicts_in a.streams piece.stream_identifier (message_in piece) ≡ c
+taking_leads_unless : (o : Option Error) (a : Shown) (piece : ChunkPayloadData) (h : History)
     → Binds a h → is_next_after a.receiver piece.tsn ≡ true → is_whole piece ≡ true
+    → (k : History) × Leads (acts_unless_refused o piece) a h (taken_unless o a piece).0 k
+taking_leads_unless (Some fault) a piece h binds next whole = (h, leads_nowhere a a h binds refl refl)
+taking_leads_unless None a piece h binds next whole = (with_taken h, took_leads a piece h binds next whole _ refl)
+
+taking_leads : (a : Shown) (piece : ChunkPayloadData) (h : History) → Binds a h → is_next_after a.receiver piece.tsn ≡ true → is_whole piece ≡ true
     → (k : History) × Leads (acts_of_taking a piece) a h (taken_in a piece).0 k
 unfolding taken_in
-taking_leads true a piece h e binds next whole = rw e (h, leads_nowhere a a h binds refl refl)
-taking_leads false a piece h e binds next whole = rw e (with_taken h, took_leads a piece h binds next whole _ refl)
+taking_leads a piece h binds next whole =
+    taking_leads_unless (refusal_in a.streams piece.stream_identifier piece (2 ^ 32 - 1)) a piece h binds next whole
 
 asks_same : (x : Shown × Option Error) (piece : ChunkPayloadData) (wish : AckWish) → (asks_or_faults x piece wish).0 ≡ x.0
 asks_same (a, None) piece wish = refl
@@ -151,7 +156,7 @@ credit_leads : (c : Bool) (b : Shown) (piece : ChunkPayloadData) (wish : AckWish
     → Binds b h → is_next_after b.receiver piece.tsn ≡ true → is_whole piece ≡ true
     → (k : History) × Leads (acts_of_found (b, true) piece) b h (on_next_data (b, true) piece wish).0 k
 credit_leads true b piece wish h e binds next whole =
-    let t = taking_leads (contradicts_in b.streams piece.stream_identifier (message_in piece)) b piece h refl binds next whole in
+    let t = taking_leads b piece h binds next whole in
     rw (e, asks_same (taken_in b piece) piece wish) t
 credit_leads false b piece wish h e binds next whole = rw e (h, leads_nowhere b b h binds refl refl)
 

@@ -12,7 +12,7 @@ use Rattle.sctp_outbound.specs.Sender.{chunk_of, next_chunk_of, streams_after}
 use Rattle.sctp_model.specs.Packets.{mem}
 use Rattle.sctp_model.specs.Serial.{tsn}
 use Rattle.sctp_assoc.specs.Calls.{message_of}
-use Rattle.sctp_assoc.specs.Chunks.{is_whole, message_in}
+use Rattle.sctp_assoc.specs.Chunks.{is_whole}
 use Rattle.sctp_assoc.specs.Shown.{Shown}
 
 -- What is past of an association, in offsets. An offset is the distance of a TSN from the initial TSN of its direction, and
@@ -106,7 +106,7 @@ done (SentAgain place) p = record p { queue = changed_at counted_again p.queue p
 done Marked p = record p { queue = all_marked p.queue }
 done (Acknowledged n) p = without_first_pieces n p
 done (Took piece) p = record p {
-  streams = (pushed_in p.streams piece.stream_identifier (message_in piece)).0;
+  streams = (pushed_in p.streams piece.stream_identifier piece).0;
   history = with_taken p.history;
 }
 done Reported p = p

@@ -13,7 +13,7 @@ use Rattle.sctp_queues.specs.declared.event.AssociationError.{AssociationError}
 use Rattle.sctp_queues.specs.declared.event.Event.TheVariants.{AssociationLost, DataChannelStatsFinal}
 use Rattle.sctp_outbound_queue.specs.Waiting.{Waiting}
 use Rattle.sctp_outbound_queue.specs.Outbound.{all_marked, with_message}
-use Rattle.sctp_queues.specs.Message.{Message}
+use Rattle.sctp_receive_queues.specs.Messages.{Message}
 use Rattle.sctp_queues.specs.Stream.{Stream, accepted_by, params_for}
 use Rattle.sctp_queues.specs.Streams.{StreamMap, stream_at, generation_left, changed_stream, made, read_in, last_stats, without_streams}
 use Rattle.sctp_inbound.specs.Receiver.{acknowledged_at_once}

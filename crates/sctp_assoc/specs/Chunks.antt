@@ -1,5 +1,5 @@
 -- What the chunks of a packet do to an association (RFC 4960 sections 3.3 and 6.2).
-use Rattle.std.specs.Prelude.{ℕ, Bool, true, false, List, [], ◌∷◌, ◌++◌, ◌&&◌, if◌then◌else◌, not, is_some, length, nat_lt, Option, Some, None, Result, Ok, Err}
+use Rattle.std.specs.Prelude.{ℕ, ◌-◌, ◌^◌, Bool, true, false, List, [], ◌∷◌, ◌++◌, ◌&&◌, if◌then◌else◌, not, is_some, length, nat_lt, Option, Some, None, Result, Ok, Err}
 use Rattle.sctp_wire_types.specs.declared.error.Error.{Error}
 use Rattle.sctp_wire_types.specs.declared.error.Error.TheVariants as errors
 use Rattle.sctp_wire_types.specs.declared.chunk.Chunk.{Chunk}
@@ -14,8 +14,7 @@ use Rattle.sctp_parts.specs.Stats.{one_more}
 use Rattle.sctp_queues.specs.declared.event.AssociationError.TheVariants as reasons
 use Rattle.sctp_queues.specs.declared.event.Event.TheVariants.{DatagramReceived}
 use Rattle.sctp_queues.specs.declared.event.Event.TheVariants as events
-use Rattle.sctp_queues.specs.declared.reassembly.HeldMessage.{HeldMessage}
-use Rattle.sctp_queues.specs.Streams.{StreamMap, stream_at, made, generation_left, bytes_waiting, contradicts_in, pushed_in, is_readable_in}
+use Rattle.sctp_queues.specs.Streams.{StreamMap, stream_at, made, generation_left, bytes_waiting, refusal_in, pushed_in, is_readable_in}
 use Rattle.sctp_inbound.specs.declared.receiver.AckWish.{AckWish}
 use Rattle.sctp_inbound.specs.declared.receiver.AckWish.TheVariants as wishes
 use Rattle.sctp_inbound.specs.Receiver.{is_next_after, taken_to, asked, credit_of, ended_packet, ended_packet_timers}
@@ -45,14 +44,6 @@ stream_found a id =
     if is_some (stream_at a.streams id) then (a, true) else
     if not (generation_left a.streams) then (a, false) else (with_new_stream a id, true)
 
--- a message that came in one piece
-abbrev pub message_in : ChunkPayloadData → HeldMessage
-message_in piece = record {
-  stream_sequence_number = piece.stream_sequence_number;
-  payload_type = piece.payload_type;
-  user_data = piece.user_data;
-}
-
 -- an ordered message in one piece (RFC 4960 section 3.3.1)
 abbrev pub is_whole : ChunkPayloadData → Bool
 is_whole piece = not piece.unordered && piece.beginning_fragment && piece.ending_fragment
@@ -69,11 +60,13 @@ abbrev pub with_message : Shown → ChunkPayloadData → StreamMap × Bool → S
 with_message a piece (streams, kept) =
     told (record a { streams = streams; receiver = taken_to a.receiver piece.tsn }) piece.stream_identifier kept
 
+abbrev pub taken_unless : Option Error → Shown → ChunkPayloadData → Shown × Option Error
+taken_unless (Some fault) a piece = (a, Some fault)
+taken_unless None a piece = (with_message a piece (pushed_in a.streams piece.stream_identifier piece), None)
+
 -- a message goes to its stream and the point moves to its TSN, or the stream refuses it
 unfoldable pub taken_in : Shown → ChunkPayloadData → Shown × Option Error
-taken_in a piece =
-    if contradicts_in a.streams piece.stream_identifier (message_in piece) then (a, Some errors.ErrContradictoryPieces) else
-    (with_message a piece (pushed_in a.streams piece.stream_identifier (message_in piece)), None)
+taken_in a piece = taken_unless (refusal_in a.streams piece.stream_identifier piece (2 ^ 32 - 1)) a piece
 
 abbrev pub asks : Shown → ChunkPayloadData → AckWish → Shown × Flow
 asks a piece wish = (a, flows.Next (asked a.receiver wish piece.immediate_sack))

@@ -1,5 +1,5 @@
 -- What each call does to the two directions.
-use Rattle.std.specs.Prelude.{◌≡◌, ℕ, zero, suc, Bool, true, false, List, [], ◌∷◌, ◌++◌, ◌&&◌, ◌+◌, ◌-◌, ◌==◌, if◌then◌else◌, not, is_some, length, nat_lt, Option, Some, None, Result, Ok, Err}
+use Rattle.std.specs.Prelude.{◌≡◌, ℕ, zero, suc, Bool, true, false, List, [], ◌∷◌, ◌++◌, ◌&&◌, ◌+◌, ◌-◌, ◌^◌, ◌==◌, if◌then◌else◌, not, is_some, length, nat_lt, Option, Some, None, Result, Ok, Err}
 use Rattle.sctp_wire_types.specs.declared.error.Error.{Error}
 use Rattle.sctp_wire_types.specs.declared.chunk.Chunk.{Chunk}
 use Rattle.sctp_wire_types.specs.declared.chunk.Chunk.TheVariants as chunks
@@ -11,7 +11,7 @@ use Rattle.sctp_parts.specs.declared.state.AckState.{AckState}
 use Rattle.sctp_outbound_queue.specs.declared.message.InFlight.{InFlight}
 use Rattle.sctp_outbound_queue.specs.Waiting.{Waiting}
 use Rattle.sctp_outbound_queue.specs.Outbound.{pieces_waiting}
-use Rattle.sctp_queues.specs.Streams.{stream_at, generation_left, bytes_waiting, contradicts_in}
+use Rattle.sctp_queues.specs.Streams.{stream_at, generation_left, bytes_waiting, refusal_in}
 use Rattle.sctp_inbound.specs.declared.receiver.AckWish.{AckWish}
 use Rattle.sctp_inbound.specs.declared.receiver.AckWish.TheVariants as wishes
 use Rattle.sctp_inbound.specs.Handshake.{header_of}
@@ -24,7 +24,7 @@ use Rattle.sctp_assoc.specs.declared.inbound.Flow.{Flow}
 use Rattle.sctp_assoc.specs.declared.inbound.Flow.TheVariants as flows
 use Rattle.sctp_assoc.specs.Acts.{Act, Binds, History, Leads, all_data_given, parts}
 use Rattle.sctp_assoc.specs.Calls.{is_established, is_closed_state}
-use Rattle.sctp_assoc.specs.Chunks.{counted_data, is_whole, message_in, on_chunk, stream_found}
+use Rattle.sctp_assoc.specs.Chunks.{counted_data, is_whole, on_chunk, stream_found}
 use Rattle.sctp_assoc.specs.Polled.{data_packets, is_due, sack_packet}
 use Rattle.sctp_assoc.specs.Shown.{Shown}
 
@@ -36,9 +36,13 @@ acts_of_stream a id =
     if is_some (stream_at a.streams id) then [] else
     if generation_left a.streams then Act.Opened id a.sender.queue.next_message_id kinds.Unknown ∷ [] else []
 
+abbrev pub acts_unless_refused : Option Error → ChunkPayloadData → List Act
+acts_unless_refused (Some fault) piece = []
+acts_unless_refused None piece = Act.Took piece ∷ []
+
 -- and is taken in unless its stream refuses it
 abbrev pub acts_of_taking : Shown → ChunkPayloadData → List Act
-acts_of_taking a piece = if contradicts_in a.streams piece.stream_identifier (message_in piece) then [] else Act.Took piece ∷ []
+acts_of_taking a piece = acts_unless_refused (refusal_in a.streams piece.stream_identifier piece (2 ^ 32 - 1)) piece
 
 abbrev pub acts_of_found : Shown × Bool → ChunkPayloadData → List Act
 acts_of_found (a, false) piece = []

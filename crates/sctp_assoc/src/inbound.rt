@@ -10,7 +10,7 @@ use crate::Association;
 use sctp_inbound::AckWish;
 use sctp_outbound::SackOutcome;
 use sctp_parts::state::AssociationState;
-use sctp_queues::{AssociationError, Event, HeldMessage};
+use sctp_queues::{AssociationError, Event};
 use sctp_wire::{Packet, PartialDecode, check_packet};
 use sctp_wire_types::{
     Chunk, ChunkPayloadData, Error, Instant, PayloadProtocolIdentifier, StreamEvent,
@@ -138,12 +138,7 @@ impl Association {
     {
         let id = piece.stream_identifier;
         let tsn = piece.tsn;
-        let message = HeldMessage {
-            stream_sequence_number: piece.stream_sequence_number,
-            payload_type: piece.payload_type,
-            user_data: piece.user_data,
-        };
-        let kept = match self.streams.push(id, message) {
+        let kept = match self.streams.push(id, piece, u32::MAX) {
             Ok(kept) => kept,
             Err(Error::ErrNoMemory) => return Err(AllocError),
             Err(fault) => return Ok(Some(fault)),

@@ -7,9 +7,9 @@ use Rattle.sctp_queues.specs.declared.halves.RecvSendState.TheVariants as open_h
 use Rattle.sctp_queues.specs.declared.halves.ReliabilityParams.{ReliabilityParams}
 use Rattle.sctp_wire_types.specs.declared.ids.PayloadProtocolIdentifier.{PayloadProtocolIdentifier}
 use Rattle.sctp_queues.specs.declared.stats.DataChannelStats.{DataChannelStats}
-use Rattle.sctp_queues.specs.declared.reassembly.HeldMessage.{HeldMessage}
-use Rattle.sctp_queues.specs.Message.{Message}
-use Rattle.sctp_queues.specs.Reassembly.{Reassembly, empty_reassembly, pushed, taken}
+use Rattle.sctp_wire_types.specs.declared.chunk.ChunkPayloadData.{ChunkPayloadData}
+use Rattle.sctp_receive_queues.specs.Messages.{Message}
+use Rattle.sctp_receive_queues.specs.Reassembly.{Reassembly, empty_reassembly, pushed, taken}
 use Rattle.sctp_queues.specs.Stats.{fresh_stats, with_sent, with_received}
 
 -- The halves of a stream.
@@ -120,8 +120,8 @@ with_ssn_given_back s = record s { next_ssn = (s.next_ssn + 2 ^ 16 - 1) % 2 ^ 16
 abbrev pub with_restarted_ssn : Stream → Stream
 with_restarted_ssn s = record s { next_ssn = 0 }
 
-abbrev pub stream_pushed : Stream → HeldMessage → Stream × Bool
-stream_pushed s m = (record s { reassembly = (pushed s.reassembly m).0 }, (pushed s.reassembly m).1)
+abbrev pub stream_pushed : Stream → ChunkPayloadData → Stream × Bool
+stream_pushed s p = (record s { reassembly = (pushed s.reassembly p).0 }, (pushed s.reassembly p).1)
 
 abbrev pub read_with : Stream → Reassembly × Option Message → Stream × Option Message
 read_with s (r, None) = (record s { reassembly = r }, None)

@@ -4,10 +4,12 @@ use Rattle.std.specs.Ordering.{nat_cmp}
 use Rattle.std.specs.BTreeMap.{is_at, insert_entry}
 use Rattle.std.specs.Map.{lookup, set_value}
 use Rattle.sctp_wire_types.specs.declared.ids.PayloadProtocolIdentifier.{PayloadProtocolIdentifier}
-use Rattle.sctp_queues.specs.declared.reassembly.HeldMessage.{HeldMessage}
+use Rattle.sctp_wire_types.specs.declared.chunk.ChunkPayloadData.{ChunkPayloadData}
+use Rattle.sctp_wire_types.specs.declared.error.Error.{Error}
 use Rattle.sctp_queues.specs.declared.stats.DataChannelStats.{DataChannelStats}
-use Rattle.sctp_queues.specs.Message.{Message}
-use Rattle.sctp_queues.specs.Reassembly.{bytes_held, is_ready, contradicts}
+use Rattle.sctp_receive_queues.specs.Messages.{Message}
+use Rattle.sctp_receive_queues.specs.Reassembly.{is_ready, refusal}
+use Rattle.sctp_receive_queues.specs.Reassembly as reassembly
 use Rattle.sctp_queues.specs.Stream.{Stream, fresh_stream, released_from, stream_pushed, stream_read}
 
 pub record StreamMap : Type 0 where
@@ -45,21 +47,21 @@ abbrev pub released_in : StreamMap → ℕ → ℕ → ℕ → StreamMap
 released_in m id generation bytes =
     if is_generation (stream_at m id) generation then changed_stream (λ s. released_from s bytes) m id else m
 
-abbrev pub pushed_at : Option Stream → StreamMap → ℕ → HeldMessage → StreamMap × Bool
-pushed_at None m id message = (m, false)
-pushed_at (Some s) m id message = (with_stream m id (stream_pushed s message).0, (stream_pushed s message).1)
+abbrev pub pushed_at : Option Stream → StreamMap → ℕ → ChunkPayloadData → StreamMap × Bool
+pushed_at None m id p = (m, false)
+pushed_at (Some s) m id p = (with_stream m id (stream_pushed s p).0, (stream_pushed s p).1)
 
--- a message came on a stream, and whether it was kept
-abbrev pub pushed_in : StreamMap → ℕ → HeldMessage → StreamMap × Bool
-pushed_in m id message = pushed_at (stream_at m id) m id message
+-- a piece came on a stream, and whether it was kept
+abbrev pub pushed_in : StreamMap → ℕ → ChunkPayloadData → StreamMap × Bool
+pushed_in m id p = pushed_at (stream_at m id) m id p
 
-abbrev pub contradicts_at : Option Stream → HeldMessage → Bool
-contradicts_at None message = false
-contradicts_at (Some s) message = contradicts s.reassembly message
+abbrev pub refusal_at : Option Stream → ChunkPayloadData → ℕ → Option Error
+refusal_at None p limit = None
+refusal_at (Some s) p limit = refusal s.reassembly p limit
 
--- a message has the SSN of another one that its live stream holds
-abbrev pub contradicts_in : StreamMap → ℕ → HeldMessage → Bool
-contradicts_in m id message = contradicts_at (stream_at m id) message
+-- why the live stream refuses a piece
+abbrev pub refusal_in : StreamMap → ℕ → ChunkPayloadData → ℕ → Option Error
+refusal_in m id p limit = refusal_at (stream_at m id) p limit
 
 abbrev pub read_at : Option Stream → StreamMap → ℕ → StreamMap × Option Message
 read_at None m id = (m, None)
@@ -92,7 +94,7 @@ live_streams m = map (λ e. e.1) m.by_id
 
 -- the bytes that came and were not read, at most the greatest number of 64 bits
 abbrev pub bytes_waiting : StreamMap → ℕ
-bytes_waiting m = fold (λ sum s. min (sum + bytes_held s.reassembly.held) (2 ^ 64 - 1)) 0 (live_streams m)
+bytes_waiting m = fold (λ sum s. min (sum + reassembly.bytes_waiting s.reassembly) (2 ^ 64 - 1)) 0 (live_streams m)
 
 abbrev pub first_ended_of : List (ℕ × Stream) → ℕ → StreamMap × Option DataChannelStats
 first_ended_of [] next = (record { by_id = []; next_generation = next }, None)

@@ -1,12 +1,12 @@
 // One live stream.
-ghost use Rattle.std.specs.Prelude.{◌≡◌, ◌+◌, ◌<◌, ◌^◌, IfOk, OnErr, IsErrOf, IsOk, IsTrue, ◌⊎◌, false};
+ghost use Rattle.std.specs.Prelude.{◌≡◌, ◌+◌, ◌<◌, ◌^◌, IfOk, IfErr, OnErr, IsOk, ◌⊎◌, Some, None};
 ghost use Rattle.sctp_queues.specs.Stream.{fresh_stream, params_for, accepted_by, reaches_high_mark, released_from, falls_to_low_mark, with_ssn_given_back, with_restarted_ssn, with_params, with_halves, without_read_half, without_write_half, is_read_half_open, is_write_half_open, stream_pushed, stream_read};
-ghost use Rattle.sctp_queues.specs.Reassembly.{is_ready, bytes_held, contradicts};
+ghost use Rattle.sctp_receive_queues.specs.Reassembly.{is_ready, bytes_waiting, refusal};
 
 use crate::{
-    Chunks, DataChannelStats, HeldMessage, ReassemblyQueue, RecvSendState, ReliabilityParams,
+    Chunks, DataChannelStats, ReassemblyQueue, RecvSendState, ReliabilityParams,
 };
-use sctp_wire_types::{Error, PayloadProtocolIdentifier, StreamId};
+use sctp_wire_types::{ChunkPayloadData, Error, PayloadProtocolIdentifier, StreamId};
 use std::alloc::Global;
 use std::marker::Model;
 
@@ -234,14 +234,13 @@ impl StreamState {
     }
 
     /// Keeps a message that came, where its SSN is not an old one, and answers whether it did.
-    pub fn push(&mut self, message: HeldMessage) -> Result<bool, Error>
-        ensures pushed { IfOk result (λ kept. stream_pushed self.old message ≡ (self.new, kept)) }
+    pub fn push(&mut self, piece: ChunkPayloadData, limit: u32) -> Result<bool, Error>
+        ensures pushed { IfOk result (λ kept. stream_pushed self.old piece ≡ (self.new, kept)) }
         ensures unchanged { OnErr result (self.new ≡ self.old) }
-        ensures held_already { IsErrOf result Error.ErrContradictoryPieces → IsTrue (contradicts self.old.reassembly message) }
-        ensures taken { IsOk result → contradicts self.old.reassembly message ≡ false }
-        ensures only { OnErr result ((result ≡ Err Error.ErrContradictoryPieces) ⊎ (result ≡ Err Error.ErrNoMemory)) }
+        ensures taken { IsOk result → refusal self.old.reassembly piece limit ≡ None }
+        ensures refused { IfErr result (λ e. (e ≡ Error.ErrNoMemory) ⊎ (refusal self.old.reassembly piece limit ≡ Some e)) }
     {
-        self.reassembly.push(message)
+        self.reassembly.push(piece, limit)
     }
 
     /// Whether a message can be read.
@@ -263,7 +262,7 @@ impl StreamState {
 
     /// Bytes that came and were not read, at most the greatest u64.
     pub fn waiting_bytes(&self) -> u64
-        ensures { result ≡ bytes_held self.now.reassembly.held }
+        ensures { result ≡ bytes_waiting self.now.reassembly }
     {
         self.reassembly.waiting_bytes()
     }

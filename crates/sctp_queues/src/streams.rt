@@ -1,13 +1,13 @@
 // The live streams of an association.
-ghost use Rattle.std.specs.Prelude.{◌≡◌, ◌==◌, length, ◌+◌, ◌-◌, ◌<◌, ◌^◌, IfOk, IfSome, OnOk, OnErr, is_some, IsErrOf, IsOk, IsTrue, ◌⊎◌, false};
+ghost use Rattle.std.specs.Prelude.{◌≡◌, ◌==◌, length, ◌+◌, ◌-◌, ◌<◌, ◌^◌, IfOk, IfSome, OnOk, OnErr, is_some, IsOk, IfErr, ◌⊎◌, Some, None};
 ghost use Rattle.std.specs.Option.{option_copied, option_copied_mut};
 ghost use Rattle.std.specs.Borrow.{sem};
-ghost use Rattle.sctp_queues.specs.Streams.{no_stream, stream_at, made, generation_left, bytes_waiting, first_ended, changed_stream, released_in, is_generation, pushed_in, contradicts_in, read_in, is_readable_in};
+ghost use Rattle.sctp_queues.specs.Streams.{no_stream, stream_at, made, generation_left, bytes_waiting, first_ended, changed_stream, released_in, is_generation, pushed_in, refusal_in, read_in, is_readable_in};
 ghost use Rattle.sctp_queues.specs.Stream.{accepted_by};
 ghost use Rattle.sctp_queues.specs.Lending.{LendsStream};
 
-use crate::{Chunks, DataChannelStats, HeldMessage, StreamState};
-use sctp_wire_types::{Error, PayloadProtocolIdentifier, StreamId};
+use crate::{Chunks, DataChannelStats, StreamState};
+use sctp_wire_types::{ChunkPayloadData, Error, PayloadProtocolIdentifier, StreamId};
 use std::alloc::{AllocError, Global};
 use std::collections::BTreeMap;
 use std::marker::Model;
@@ -90,18 +90,17 @@ impl Streams {
         }
     }
 
-    /// Keeps a message that came on a live stream, and answers whether it did; false where the stream is not live.
+    /// Keeps a piece that came on a live stream, and answers whether it did; false where the stream is not live.
     /// Where it is refused nothing changes.
     #[tactic(auto, using(std::proofs::lemmas::Map::Steps::set_value_same))]
-    pub fn push(&mut self, id: StreamId, message: HeldMessage) -> Result<bool, Error>
-        ensures pushed { IfOk result (λ kept. pushed_in self.old id message ≡ (self.new, kept)) }
+    pub fn push(&mut self, id: StreamId, piece: ChunkPayloadData, limit: u32) -> Result<bool, Error>
+        ensures pushed { IfOk result (λ kept. pushed_in self.old id piece ≡ (self.new, kept)) }
         ensures unchanged { OnErr result (self.new ≡ self.old) }
-        ensures held_already { IsErrOf result Error.ErrContradictoryPieces → IsTrue (contradicts_in self.old id message) }
-        ensures taken { IsOk result → contradicts_in self.old id message ≡ false }
-        ensures only { OnErr result ((result ≡ Err Error.ErrContradictoryPieces) ⊎ (result ≡ Err Error.ErrNoMemory)) }
+        ensures taken { IsOk result → refusal_in self.old id piece limit ≡ None }
+        ensures refused { IfErr result (λ e. (e ≡ Error.ErrNoMemory) ⊎ (refusal_in self.old id piece limit ≡ Some e)) }
     {
         match self.get_mut(id) {
-            Some(stream) => stream.push(message),
+            Some(stream) => stream.push(piece, limit),
             None => Ok(false),
         }
     }

@@ -11,4 +11,6 @@ mod outbound_queue;
 #[cfg(test)]
 mod queues;
 #[cfg(test)]
+mod received;
+#[cfg(test)]
 mod timers;

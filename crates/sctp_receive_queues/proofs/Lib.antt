@@ -1,0 +1,5 @@
+pub mod Blocks
+pub mod Bytes
+pub mod Last
+pub mod Places
+pub mod Sums

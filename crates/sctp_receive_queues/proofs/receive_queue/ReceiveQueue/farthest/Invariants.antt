@@ -1,0 +1,7 @@
+use Rattle.std.proofs.Common.{◌≡◌, fold, Some}
+use Rattle.sctp_receive_queues.specs.Received.{last_received, later_of}
+use Rattle.sctp_receive_queues.proofs.receive_queue.ReceiveQueue.farthest.Given as goal
+
+abbrev pub invariant-loop-tsn : goal.invariant-loop-tsn
+invariant-loop-tsn l =
+    fold (λ last t. Some (later_of l.point last t)) l.last l.tsn-iterator ≡ last_received l.point l.self

@@ -1,0 +1,17 @@
+use Rattle.std.proofs.Common.{rules, ◌≡◌}
+use Rattle.std.specs.Ordering.{nat_cmp}
+use Rattle.std.specs.List.Sorted.{IsStrictlySortedBy}
+use Rattle.sctp_receive_queues.specs.Received.{gap_ack_blocks, AreTsns}
+use Rattle.sctp_receive_queues.proofs.Blocks.{named_exactly, maximal_runs}
+use Rattle.sctp_receive_queues.proofs.receive_queue.ReceiveQueue.get_gap_ack_blocks.Goals as goal
+
+pub returns-clause-exact : goal.returns-clause-exact
+returns-clause-exact c =
+    let e : c.from_vec.result ≡ gap_ack_blocks c.args.point c.args.self.now = search rules in
+    λ o above below. rw e (named_exactly c.args.point o c.args.self.now above below)
+
+pub returns-clause-maximal : goal.returns-clause-maximal
+returns-clause-maximal c =
+    let e : c.from_vec.result ≡ gap_ack_blocks c.args.point c.args.self.now = search rules in
+    let tsns : AreTsns c.args.self.now × IsStrictlySortedBy nat_cmp c.args.self.now = search rules in
+    rw e (maximal_runs c.args.point c.args.self.now c.ranges.point.fits tsns.1 tsns.0)

@@ -1,0 +1,4 @@
+pub mod Messages
+pub mod Pieces
+pub mod Reassembly
+pub mod Received

@@ -1,0 +1,98 @@
+-- The TSNs that came above the cumulative TSN ack point (RFC 4960 sections 3.3.4 and 6.2).
+use Rattle.std.specs.Prelude.{◌≡◌, ℕ, zero, suc, ◌<◌, ◌≤◌, ◌+◌, ◌%◌, ◌^◌, ◌==◌, ◌&&◌, not, nat_lt, nat_le, if◌then◌else◌, Bool, true, false, List, [], ◌∷◌, ◌++◌, Option, Some, None, fold}
+use Rattle.std.specs.List.{list_any, All, AllByRecursion}
+use Rattle.std.specs.Ordering.{nat_cmp}
+use Rattle.std.specs.BTreeMap.{is_at}
+use Rattle.std.specs.BTreeSet.{insert_key}
+use Rattle.std.specs.Set.{remove_key}
+use Rattle.sctp_wire_types.specs.Serial.{tsn_past}
+use Rattle.sctp_wire_types.specs.declared.chunk.GapAckBlock.{GapAckBlock}
+
+-- TSNs are numbers of 32 bits
+abbrev pub AreTsns : List ℕ → Type 0
+AreTsns tsns = All (λ t. t < 2 ^ 32) tsns
+
+abbrev pub is_held : ℕ → List ℕ → Bool
+is_held tsn tsns = list_any (is_at (nat_cmp tsn)) tsns
+
+-- a TSN that is this far past the point can be told by a gap ack block
+abbrev pub has_offset : ℕ → Bool
+has_offset distance = nat_lt 0 distance && nat_le distance 65535
+
+-- DATA with this TSN did not come yet
+abbrev pub is_new : List ℕ → ℕ → ℕ → Bool
+is_new tsns tsn point = has_offset (tsn_past point tsn) && not (is_held tsn tsns)
+
+-- a TSN is held where it is new
+abbrev pub with_tsn : List ℕ → ℕ → ℕ → List ℕ × Bool
+with_tsn tsns tsn point =
+    if is_new tsns tsn point then (insert_key nat_cmp tsns tsn, true) else (tsns, false)
+
+abbrev pub next_tsn : ℕ → ℕ
+next_tsn tsn = (tsn + 1) % 2 ^ 32
+
+-- the point moves over the TSNs that follow it, at most n of them, and they are held no more
+abbrev pub advanced : ℕ → ℕ → List ℕ → ℕ × List ℕ
+advanced zero point tsns = (point, tsns)
+advanced (suc n) point tsns =
+    if is_held (next_tsn point) tsns then advanced n (next_tsn point) (remove_key (is_at (nat_cmp (next_tsn point))) tsns)
+    else (point, tsns)
+
+-- the one of two TSNs that is farther past the point
+abbrev pub later_of : ℕ → Option ℕ → ℕ → ℕ
+later_of point None t = t
+later_of point (Some last) t = if nat_lt (tsn_past point last) (tsn_past point t) then t else last
+
+-- the TSN that is farthest past the point
+abbrev pub last_received : ℕ → List ℕ → Option ℕ
+last_received point tsns = fold (λ last t. Some (later_of point last t)) None tsns
+
+-- no TSN is farther past the point; there is none only where there are no TSNs
+abbrev pub IsFarthest : ℕ → List ℕ → Option ℕ → Type 0
+IsFarthest point tsns None = tsns ≡ []
+IsFarthest point tsns (Some t) = AllByRecursion (λ u. tsn_past point u ≤ tsn_past point t) tsns
+
+-- a TSN is greater than the point as a number, or it is not
+abbrev pub is_greater : Bool → ℕ → ℕ → Bool
+is_greater greater point tsn = if nat_lt point tsn then greater else not greater
+
+-- how far the TSNs that are greater than the point as numbers, or those that are not, are past it
+abbrev pub offsets_in : Bool → ℕ → List ℕ → List ℕ
+offsets_in greater point [] = []
+offsets_in greater point (t ∷ ts) =
+    if is_greater greater point t && has_offset (tsn_past point t) then tsn_past point t ∷ offsets_in greater point ts
+    else offsets_in greater point ts
+
+-- how far the TSNs are past the point: the numbers of TSNs go round, so those behind the point as numbers are farther
+abbrev pub offsets_of : ℕ → List ℕ → List ℕ
+offsets_of point tsns = offsets_in true point tsns ++ offsets_in false point tsns
+
+abbrev pub block : ℕ → ℕ → GapAckBlock
+block start end = record { start = start; end = end }
+
+-- the runs of a run that has begun and of the offsets that follow
+abbrev pub runs_from : GapAckBlock → List ℕ → List GapAckBlock
+runs_from b [] = b ∷ []
+runs_from b (o ∷ os) = if b.end + 1 == o then runs_from (block b.start o) os else b ∷ runs_from (block o o) os
+
+-- the runs of offsets that follow one after another
+abbrev pub runs_of : List ℕ → List GapAckBlock
+runs_of [] = []
+runs_of (o ∷ os) = runs_from (block o o) os
+
+-- the gap ack blocks of a SACK with this point
+abbrev pub gap_ack_blocks : ℕ → List ℕ → List GapAckBlock
+gap_ack_blocks point tsns = runs_of (offsets_of point tsns)
+
+-- an offset lies within one of the blocks
+abbrev pub is_named : ℕ → List GapAckBlock → Bool
+is_named o blocks = list_any (λ (b : GapAckBlock). nat_le b.start o && nat_le o b.end) blocks
+
+-- a TSN that is this far past the point is held
+abbrev pub is_held_at : ℕ → ℕ → List ℕ → Bool
+is_held_at point offset tsns = list_any (λ t. tsn_past point t == offset) tsns
+
+-- the blocks ascend, and between two of them an offset is missing; the first one begins at `least` or later
+abbrev pub AreRuns : ℕ → List GapAckBlock → Type 0
+AreRuns least [] = Unit {0}
+AreRuns least (b ∷ bs) = (least ≤ b.start) × (b.start ≤ b.end) × AreRuns (b.end + 2) bs

@@ -1,0 +1,237 @@
+// The pieces of one stream's messages until they are read.
+ghost use Rattle.std.specs.Prelude.{◌≡◌, ◌+◌, ◌-◌, ◌^◌, ◌⊎◌, min, None, Some, IsOk, IfOk, IfErr, OnOk, OnErr, length, slice_get};
+ghost use Rattle.sctp_receive_queues.specs.Pieces.{bytes_of};
+ghost use Rattle.sctp_receive_queues.specs.Reassembly.{empty_reassembly, with_ordered, with_put, unordered_put, refusal_of_ordered, refusal_of_unordered, saturated_bytes, bytes_waiting, bytes_in_groups, bytes_in_runs, bytes_in_messages, pushed, refusal, is_ready, is_due, taken, next_after_skip, skipped, bounded, unordered_skipped};
+
+use crate::group::{self, Group};
+use crate::pieces::Pieces;
+use crate::{Chunks, runs};
+use sctp_wire_types::{ChunkPayloadData, Error, sna16lt, sna16lte};
+use std::alloc::Global;
+use std::collections::VecDeque;
+use std::marker::Model;
+
+/// What came of one stream and was not read: the SSN that is read next, the ordered messages in the order of their SSNs, the
+/// pieces of unordered messages that are not complete, and the complete unordered messages in the order of their completion
+/// (RFC 4960 sections 6.5, 6.6 and 6.9).
+#[derive(Debug, Drop)]
+pub struct ReassemblyQueue {
+    alloc: Global,
+    next_ssn: u16,
+    ordered: VecDeque<Group>,
+    unordered: VecDeque<Pieces>,
+    complete: VecDeque<Chunks>,
+    // Bytes of all of these.
+    waiting: u64,
+}
+
+impl Model for ReassemblyQueue {
+    ghost use Rattle.std.specs.Prelude.{◌≡◌, ◌+◌};
+    ghost use Rattle.sctp_receive_queues.specs.Reassembly.{Reassembly, bytes_in_groups, bytes_in_runs, bytes_in_messages};
+
+    ghost Value = { Reassembly };
+
+    ghost view = { λ q. record { next_ssn = q.next_ssn; ordered = q.ordered.items; unordered = q.unordered.items; complete = q.complete.items } };
+
+    ghost invariant = { λ q. q.waiting ≡ bytes_in_groups q.ordered.items + bytes_in_runs q.unordered.items + bytes_in_messages q.complete.items };
+}
+
+impl ReassemblyQueue {
+    /// Nothing held, and SSN 0 is next; takes no memory.
+    pub fn new(alloc: Global) -> Self
+        ensures { result ≡ empty_reassembly }
+    {
+        ReassemblyQueue {
+            alloc,
+            next_ssn: 0,
+            ordered: VecDeque::new(alloc),
+            unordered: VecDeque::new(alloc),
+            complete: VecDeque::new(alloc),
+            waiting: 0,
+        }
+    }
+
+    /// Keeps a piece, and answers whether it did: not an ordered one of a message before the SSN that is read next. Refused, with
+    /// nothing changed, where the pieces held of its message contradict it (`ErrContradictoryPieces`), where with it they have
+    /// more than `limit` bytes (`ErrInboundMessageTooLarge`), and where memory is (`ErrNoMemory`); so too where more bytes
+    /// would wait than a u64 can say.
+    pub fn push(&mut self, piece: ChunkPayloadData, limit: u32) -> Result<bool, Error>
+        ensures pushed { IfOk result (λ kept. pushed self.old piece ≡ (self.new, kept)) }
+        ensures unchanged { OnErr result (self.new ≡ self.old) }
+        ensures taken { IsOk result → refusal self.old piece limit ≡ None }
+        ensures refused { IfErr result (λ e. (e ≡ Error.ErrNoMemory) ⊎ (refusal self.old piece limit ≡ Some e)) }
+    {
+        if piece.unordered {
+            self.push_unordered(piece, limit)?;
+            return Ok(true);
+        }
+        if sna16lt(piece.stream_sequence_number, self.next_ssn) {
+            return Ok(false);
+        }
+        self.push_ordered(piece, limit)?;
+        Ok(true)
+    }
+
+    fn push_ordered(&mut self, piece: ChunkPayloadData, limit: u32) -> Result<(), Error>
+        ensures pushed { OnOk result (self.new ≡ (let q = self.old in record q { ordered = with_ordered q.ordered piece })) }
+        ensures unchanged { OnErr result (self.new ≡ self.old) }
+        ensures taken { IsOk result → refusal_of_ordered self.old.ordered piece limit ≡ None }
+        ensures refused { IfErr result (λ e. (e ≡ Error.ErrNoMemory) ⊎ (refusal_of_ordered self.old.ordered piece limit ≡ Some e)) }
+    {
+        let bytes = piece.user_data.len() as u64;
+        let Some(waiting) = self.waiting.checked_add(bytes) else {
+            return Err(Error::ErrNoMemory);
+        };
+        group::put(&mut self.ordered, self.alloc, piece, limit)?;
+        self.waiting = waiting;
+        Ok(())
+    }
+
+    fn push_unordered(&mut self, piece: ChunkPayloadData, limit: u32) -> Result<(), Error>
+        ensures pushed { OnOk result (self.new ≡ with_put self.old (unordered_put self.old.unordered self.old.complete piece)) }
+        ensures unchanged { OnErr result (self.new ≡ self.old) }
+        ensures taken { IsOk result → refusal_of_unordered self.old.unordered piece limit ≡ None }
+        ensures refused { IfErr result (λ e. (e ≡ Error.ErrNoMemory) ⊎ (refusal_of_unordered self.old.unordered piece limit ≡ Some e)) }
+    {
+        let bytes = piece.user_data.len() as u64;
+        let Some(waiting) = self.waiting.checked_add(bytes) else {
+            return Err(Error::ErrNoMemory);
+        };
+        runs::put(
+            &mut self.unordered,
+            &mut self.complete,
+            self.alloc,
+            piece,
+            limit,
+        )?;
+        self.waiting = waiting;
+        Ok(())
+    }
+
+    /// Whether an unordered message is complete, or the first ordered one held is complete and not past the SSN that is read
+    /// next.
+    pub fn is_readable(&self) -> bool
+        ensures { result ≡ is_ready self.now }
+    {
+        !self.complete.is_empty() || is_first_due(&self.ordered, self.next_ssn)
+    }
+
+    /// Takes out the next message: complete unordered ones first, in the order of their completion, then the first ordered one
+    /// where it is complete and not past the SSN that is read next. One with that SSN moves it by one.
+    pub fn read(&mut self) -> Option<Chunks>
+        ensures { taken self.old ≡ (self.new, result) }
+    {
+        if let Some(message) = self.complete.pop_front() {
+            self.waiting = self.waiting.saturating_sub(message.len() as u64);
+            return Some(message);
+        }
+        if !is_first_due(&self.ordered, self.next_ssn) {
+            return None;
+        }
+        let group = self.ordered.pop_front()?;
+        if group.ssn() == self.next_ssn {
+            self.next_ssn = self.next_ssn.wrapping_add(1);
+        }
+        self.waiting = self.waiting.saturating_sub(group.bytes());
+        Some(group.into_chunks())
+    }
+
+    /// Drops the incomplete ordered messages up to an SSN; the SSN after it is read next, where that was not past it
+    /// (RFC 3758 section 3.6).
+    pub fn forward_tsn_for_ordered(&mut self, ssn: u16)
+        ensures { self.new ≡ skipped self.old ssn }
+    {
+        group::skip(&mut self.ordered, ssn);
+        self.next_ssn = past_skip(self.next_ssn, ssn);
+        self.waiting = bytes_held(&self.ordered, &self.unordered, &self.complete);
+    }
+
+    /// How far a skip up to an SSN goes among the messages that have no piece above a TSN: the greatest SSN up to this one
+    /// that is before every ordered message with such a piece.
+    pub fn applicable_forward_tsn_for_ordered_bounded(&self, ssn: u16, tsn: u32) -> u16
+        ensures { result ≡ bounded self.now.ordered ssn tsn }
+    {
+        group::bound(&self.ordered, ssn, tsn)
+    }
+
+    /// As `forward_tsn_for_ordered`, but before every ordered message with a piece above the TSN.
+    pub fn forward_tsn_for_ordered_bounded(&mut self, ssn: u16, tsn: u32)
+        ensures { self.new ≡ skipped self.old (bounded self.old.ordered ssn tsn) }
+    {
+        let ssn = self.applicable_forward_tsn_for_ordered_bounded(ssn, tsn);
+        self.forward_tsn_for_ordered(ssn);
+    }
+
+    /// Drops the pieces of incomplete unordered messages that are at or below a TSN (RFC 3758 section 3.6).
+    pub fn forward_tsn_for_unordered(&mut self, tsn: u32)
+        ensures { self.new ≡ unordered_skipped self.old tsn }
+    {
+        runs::skip(&mut self.unordered, tsn);
+        self.waiting = bytes_held(&self.ordered, &self.unordered, &self.complete);
+    }
+
+    /// Bytes of all pieces that came and were not read, of complete messages or not.
+    pub fn waiting_bytes(&self) -> u64
+        ensures { result ≡ bytes_waiting self.now }
+    {
+        self.waiting
+    }
+}
+
+fn is_first_due(ordered: &VecDeque<Group>, next_ssn: u16) -> bool
+    ensures { result ≡ is_due next_ssn (slice_get ordered.now.items 0) }
+{
+    match ordered.front() {
+        Some(first) => sna16lte(first.ssn(), next_ssn) && first.is_complete(),
+        None => false,
+    }
+}
+
+// The SSN that is read next after a skip up to an SSN.
+fn past_skip(next_ssn: u16, ssn: u16) -> u16
+    ensures { result ≡ next_after_skip next_ssn ssn }
+{
+    if sna16lte(next_ssn, ssn) {
+        ssn.wrapping_add(1)
+    } else {
+        next_ssn
+    }
+}
+
+// The bytes of all of these, at most the greatest u64.
+fn bytes_held(
+    ordered: &VecDeque<Group>,
+    unordered: &VecDeque<Pieces>,
+    complete: &VecDeque<Chunks>,
+) -> u64
+    ensures { result ≡ min (min (saturated_bytes (λ g. bytes_of g.pieces) ordered.now.items + saturated_bytes bytes_of unordered.now.items) (2 ^ 64 - 1) + saturated_bytes (λ m. length m.bytes) complete.now.items) (2 ^ 64 - 1) }
+{
+    in_groups(ordered)
+        .saturating_add(in_runs(unordered))
+        .saturating_add(in_messages(complete))
+}
+
+fn in_groups(ordered: &VecDeque<Group>) -> u64
+    ensures { result ≡ saturated_bytes (λ g. bytes_of g.pieces) ordered.now.items }
+{
+    ordered
+        .iter()
+        .fold(0u64, |sum, group| sum.saturating_add(group.bytes()))
+}
+
+fn in_runs(unordered: &VecDeque<Pieces>) -> u64
+    ensures { result ≡ saturated_bytes bytes_of unordered.now.items }
+{
+    unordered
+        .iter()
+        .fold(0u64, |sum, run| sum.saturating_add(run.bytes()))
+}
+
+fn in_messages(complete: &VecDeque<Chunks>) -> u64
+    ensures { result ≡ saturated_bytes (λ m. length m.bytes) complete.now.items }
+{
+    complete.iter().fold(
+        0u64,
+        |sum, message| sum.saturating_add(message.len() as u64),
+    )
+}

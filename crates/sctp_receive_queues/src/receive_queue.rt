@@ -1,0 +1,218 @@
+// TSNs that came and stand above the cumulative TSN ack point.
+ghost use Rattle.std.specs.Prelude.{◌≡◌, ℕ, ◌+◌, ◌%◌, ◌^◌, ◌<◌, ◌==◌, ◌++◌, not, false, if◌then◌else◌, length, [], filter, IfOk, OnOk, OnErr};
+ghost use Rattle.std.specs.Ordering.{nat_cmp};
+ghost use Rattle.std.specs.BTreeMap.{is_at};
+ghost use Rattle.std.specs.Set.{remove_key};
+ghost use Rattle.std.specs.List.Sorted.{IsStrictlySortedBy};
+ghost use Rattle.sctp_wire_types.specs.Serial.{tsn_lte};
+ghost use Rattle.sctp_receive_queues.specs.Received.{is_held, is_new, with_tsn, last_received, later_of, block, runs_from, advanced, offsets_of, offsets_in, runs_of, gap_ack_blocks, is_named, is_held_at, AreRuns, AreTsns, IsFarthest};
+
+use sctp_wire_types::{GapAckBlock, List, sna32lte};
+use std::alloc::{AllocError, Global};
+use std::collections::BTreeSet;
+use std::marker::Model;
+
+/// A finite set of TSNs that came above the cumulative TSN ack point, which the caller keeps (RFC 4960 section 6.2). A
+/// contract sees the set as the list of its TSNs, so a list of ranges may take the place of what holds it.
+#[derive(Debug, Drop)]
+pub struct ReceiveQueue {
+    tsns: BTreeSet<u32>,
+}
+
+impl Model for ReceiveQueue {
+    ghost use Rattle.std.specs.Prelude.{ℕ, List as Numbers};
+    ghost use Rattle.sctp_receive_queues.specs.Received.{AreTsns};
+
+    ghost Value = { Numbers ℕ };
+
+    ghost view = { λ q. q.tsns.keys };
+
+    ghost invariant = { λ q. AreTsns q.tsns.keys };
+}
+
+impl ReceiveQueue {
+    /// Nothing held; takes no memory.
+    pub fn new(alloc: Global) -> Self
+        ensures { result ≡ [] }
+    {
+        ReceiveQueue {
+            tsns: BTreeSet::new(alloc),
+        }
+    }
+
+    /// Whether DATA with this TSN is new: 1 to 65,535 past the point and not held.
+    pub fn can_push(&self, tsn: u32, point: u32) -> bool
+        ensures { result ≡ is_new self.now tsn point }
+    {
+        let distance = tsn.wrapping_sub(point);
+        0 < distance && distance <= 65_535 && !self.contains(tsn)
+    }
+
+    /// Whether this TSN is held.
+    pub fn contains(&self, tsn: u32) -> bool
+        ensures { result ≡ is_held tsn self.now }
+    {
+        self.tsns.contains(&tsn)
+    }
+
+    /// Adds a TSN where `can_push`, and answers whether it did. Where memory is refused the set stays as it was.
+    pub fn push(&mut self, tsn: u32, point: u32) -> Result<bool, AllocError>
+        ensures pushed { IfOk result (λ added. with_tsn self.old tsn point ≡ (self.new, added)) }
+        ensures unchanged { OnErr result (self.new ≡ self.old) }
+    {
+        if !self.can_push(tsn, point) {
+            return Ok(false);
+        }
+        self.tsns.insert(tsn)?;
+        Ok(true)
+    }
+
+    /// Removes a TSN, and answers whether it was held.
+    pub fn pop(&mut self, tsn: u32) -> bool
+        ensures held { result ≡ is_held tsn self.old }
+        ensures removed { self.new ≡ remove_key (is_at (nat_cmp tsn)) self.old }
+        ensures unchanged { result ≡ false → self.new ≡ self.old }
+        ensures fewer { length self.new + (if result then 1 else 0) ≡ length self.old }
+    {
+        self.tsns.remove(&tsn)
+    }
+
+    /// Removes all TSNs that are at or below this one.
+    pub fn pop_up_to(&mut self, tsn: u32)
+        ensures { self.new ≡ filter (λ t. not (tsn_lte t tsn)) self.old }
+    {
+        self.tsns.retain(|held| !sna32lte(*held, tsn));
+    }
+
+    /// Takes out the TSNs that follow the point one after another, and answers the last of them: where the cumulative TSN
+    /// ack point moves (RFC 4960 section 6.2).
+    pub fn advance(&mut self, point: u32) -> u32
+        ensures moved { advanced (length self.old) point self.old ≡ (result, self.new) }
+        ensures stops { is_held ((result + 1) % 2 ^ 32) self.new ≡ false }
+    {
+        let mut point = point;
+        while self.pop(point.wrapping_add(1)) {
+            point = point.wrapping_add(1);
+        }
+        point
+    }
+
+    /// The TSNs held, as the SACK for this point says them: the maximal runs, ascending, by their first and last offset from
+    /// the point (RFC 4960 section 3.3.4). TSNs that are not 1 to 65,535 past the point have no offset and are left out.
+    pub fn get_gap_ack_blocks(
+        &self,
+        alloc: Global,
+        point: u32,
+    ) -> Result<List<GapAckBlock>, AllocError>
+        ensures blocks { IfOk result (λ blocks. blocks ≡ gap_ack_blocks point self.now) }
+        ensures exact { IfOk result (λ blocks. (o : ℕ) → 0 < o → o < 2 ^ 16 → is_named o blocks ≡ is_held_at point o self.now) }
+        ensures maximal { IfOk result (λ blocks. AreRuns 1 blocks) }
+    {
+        let offsets = self.offsets(alloc, point)?;
+        let blocks = runs(alloc, &offsets)?;
+        Ok(List::from_vec(blocks))
+    }
+
+    // Offsets from the point, ascending: the TSNs past the point as numbers come before those behind it, which wrapped.
+    fn offsets(&self, alloc: Global, point: u32) -> Result<Vec<u16>, AllocError>
+        ensures offsets { IfOk result (λ offsets. offsets.items ≡ offsets_of point self.now) }
+        ensures tsns { OnOk result (AreTsns self.now × IsStrictlySortedBy nat_cmp self.now) }
+    {
+        let mut offsets = Vec::with_capacity(alloc, self.tsns.len())?;
+        add_offsets(&mut offsets, &self.tsns, point, true)?;
+        add_offsets(&mut offsets, &self.tsns, point, false)?;
+        Ok(offsets)
+    }
+
+    /// The TSN held that is farthest past the point; None where nothing is held.
+    pub fn get_last_tsn_received(&self, point: u32) -> Option<u32>
+        ensures last { result ≡ last_received point self.now }
+        ensures farthest { IsFarthest point self.now result }
+    {
+        self.farthest(point)
+    }
+
+    fn farthest(&self, point: u32) -> Option<u32>
+        ensures { result ≡ last_received point self.now }
+    {
+        let mut last = None;
+        for tsn in &self.tsns {
+            last = Some(later(point, last, *tsn));
+        }
+        last
+    }
+
+    pub fn is_empty(&self) -> bool
+        ensures { result ≡ (length self.now == 0) }
+    {
+        self.tsns.len() == 0
+    }
+
+    pub fn clear(&mut self)
+        ensures { self.new ≡ [] }
+    {
+        self.tsns.clear();
+    }
+}
+
+// The one of two TSNs that is farther past the point.
+fn later(point: u32, last: Option<u32>, tsn: u32) -> u32
+    ensures { result ≡ later_of point last tsn }
+{
+    match last {
+        Some(last) if tsn.wrapping_sub(point) <= last.wrapping_sub(point) => last,
+        _ => tsn,
+    }
+}
+
+fn add_offsets(
+    offsets: &mut Vec<u16>,
+    tsns: &BTreeSet<u32>,
+    point: u32,
+    greater: bool,
+) -> Result<(), AllocError>
+    ensures { OnOk result (offsets.new.items ≡ offsets.old.items ++ offsets_in greater point tsns.now.keys) }
+{
+    for tsn in tsns {
+        let is_on_side = if point < *tsn { greater } else { !greater };
+        let offset = tsn.wrapping_sub(point);
+        if is_on_side && 0 < offset && offset <= 65_535 {
+            offsets.push(offset as u16)?;
+        }
+    }
+    Ok(())
+}
+
+// The runs of ascending offsets.
+fn runs(alloc: Global, offsets: &[u16]) -> Result<Vec<GapAckBlock>, AllocError>
+    ensures { IfOk result (λ runs. runs.items ≡ runs_of offsets.now) }
+{
+    let mut blocks = Vec::new(alloc);
+    if let Some((first, rest)) = offsets.split_first() {
+        add_runs(&mut blocks, *first, rest)?;
+    }
+    Ok(blocks)
+}
+
+// The runs of an offset and of those that follow it.
+fn add_runs(blocks: &mut Vec<GapAckBlock>, first: u16, rest: &[u16]) -> Result<(), AllocError>
+    ensures { OnOk result (blocks.new.items ≡ blocks.old.items ++ runs_from (block first first) rest.now) }
+{
+    let mut run = GapAckBlock {
+        start: first,
+        end: first,
+    };
+    for offset in rest {
+        if run.end as u32 + 1 == *offset as u32 {
+            run.end = *offset;
+        } else {
+            blocks.push(run)?;
+            run = GapAckBlock {
+                start: *offset,
+                end: *offset,
+            };
+        }
+    }
+    blocks.push(run)?;
+    Ok(())
+}

@@ -1,0 +1,321 @@
+// Pieces of unordered messages that are not complete: runs of pieces of one message whose TSNs follow one another, in the
+// order of their TSNs.
+ghost use Rattle.std.specs.Prelude.{◌≡◌, ◌+◌, ◌-◌, ◌<◌, ◌≤◌, ◌^◌, ◌⊎◌, ◌||◌, ◌==◌, not, map, length, position, remove, None, Some, IsOk, IfOk, IfErr, OnOk, OnErr, IfSome, filter, true, IsTrue, [], unwrap_or, option_copied, slice_set, ◌++◌, ◌∷◌};
+ghost use Rattle.std.specs.VecDeque.{deque_len, deque_capacity};
+ghost use Rattle.sctp_receive_queues.specs.Pieces.{bytes_of, is_complete, covers, is_past};
+ghost use Rattle.sctp_receive_queues.specs.Reassembly.{run_before, run_at, place_for_tsn, is_torn_before, is_torn_after, joins_before, joins_after, part, with_unordered, finished, unordered_put, refusal_of_unordered, refusal_between, above, trimmed};
+
+use crate::Chunks;
+use crate::pieces::Pieces;
+use sctp_wire_types::{ChunkPayloadData, Error};
+use std::alloc::{AllocError, Global};
+use std::collections::VecDeque;
+use std::mem;
+
+// Puts a piece to the others, and its message to the complete ones where this was its last piece. Where the piece is refused
+// nothing changes.
+pub(crate) fn put(
+    runs: &mut VecDeque<Pieces>,
+    complete: &mut VecDeque<Chunks>,
+    alloc: Global,
+    piece: ChunkPayloadData,
+    limit: u32,
+) -> Result<(), Error>
+    ensures put { OnOk result (unordered_put runs.old.items complete.old.items piece ≡ (runs.new.items, complete.new.items)) }
+    ensures unchanged { OnErr result (runs.new.items ≡ runs.old.items) }
+    ensures complete_stay { OnErr result (complete.new.items ≡ complete.old.items) }
+    ensures taken { IsOk result → refusal_of_unordered runs.old.items piece limit ≡ None }
+    ensures refused { IfErr result (λ e. (e ≡ Error.ErrNoMemory) ⊎ (refusal_of_unordered runs.old.items piece limit ≡ Some e)) }
+{
+    let place = place_for(runs, piece.tsn);
+    if let Some(error) = refusal(runs, place, &piece, limit) {
+        return Err(error);
+    }
+    complete.reserve(1)?;
+    let place = join(runs, place, alloc, piece)?;
+    finish(runs, complete, place);
+    Ok(())
+}
+
+// In front of the first run that is past this TSN, else at the end.
+fn place_for(runs: &VecDeque<Pieces>, tsn: u32) -> usize
+    ensures place { result ≡ place_for_tsn tsn runs.now.items }
+    ensures bound { result ≤ length runs.now.items }
+{
+    match first_past(runs, tsn) {
+        Some(place) => place,
+        None => runs.len(),
+    }
+}
+
+fn first_past(runs: &VecDeque<Pieces>, tsn: u32) -> Option<usize>
+    ensures first { result ≡ position (λ r. is_past r tsn) runs.now.items }
+    ensures bound { IfSome result (λ place. place < length runs.now.items) }
+{
+    runs.iter().position(|run| run.is_past(tsn))
+}
+
+fn before(runs: &VecDeque<Pieces>, place: usize) -> Option<&Pieces>
+    ensures { unwrap_or (option_copied result) [] ≡ run_before runs.now.items place }
+{
+    if place == 0 {
+        return None;
+    }
+    runs.get(place - 1)
+}
+
+fn at(runs: &VecDeque<Pieces>, place: usize) -> Option<&Pieces>
+    ensures { unwrap_or (option_copied result) [] ≡ run_at runs.now.items place }
+{
+    runs.get(place)
+}
+
+// Why a piece is refused between its neighbours, if it is.
+fn refusal(
+    runs: &VecDeque<Pieces>,
+    place: usize,
+    piece: &ChunkPayloadData,
+    limit: u32,
+) -> Option<Error>
+    ensures refusal { result ≡ refusal_between (run_before runs.now.items place) piece.now (run_at runs.now.items place) limit }
+    ensures small { result ≡ None → bytes_of (part (joins_before (run_before runs.now.items place) piece.now) (run_before runs.now.items place)) + length piece.now.user_data + bytes_of (part (joins_after (run_at runs.now.items place) piece.now) (run_at runs.now.items place)) ≤ limit }
+{
+    if contradicts_before(runs, place, piece) || contradicts_after(runs, place, piece) {
+        return Some(Error::ErrContradictoryPieces);
+    }
+    let bytes = bytes_before(runs, place, piece)
+        .saturating_add(piece.user_data.len() as u64)
+        .saturating_add(bytes_after(runs, place, piece));
+    if bytes > limit as u64 {
+        return Some(Error::ErrInboundMessageTooLarge);
+    }
+    None
+}
+
+fn contradicts_before(runs: &VecDeque<Pieces>, place: usize, piece: &ChunkPayloadData) -> bool
+    ensures { result ≡ (covers (run_before runs.now.items place) piece.now.tsn || is_torn_before (run_before runs.now.items place) piece.now) }
+{
+    match before(runs, place) {
+        Some(run) => run.covers(piece.tsn) || run.is_torn_before(piece),
+        None => false,
+    }
+}
+
+fn contradicts_after(runs: &VecDeque<Pieces>, place: usize, piece: &ChunkPayloadData) -> bool
+    ensures { result ≡ is_torn_after (run_at runs.now.items place) piece.now }
+{
+    match at(runs, place) {
+        Some(run) => run.is_torn_after(piece),
+        None => false,
+    }
+}
+
+fn is_joined_before(runs: &VecDeque<Pieces>, place: usize, piece: &ChunkPayloadData) -> bool
+    ensures joins { result ≡ joins_before (run_before runs.now.items place) piece.now }
+    ensures place { IsTrue result → 0 < place }
+    ensures bound { IsTrue result → place - 1 < length runs.now.items }
+{
+    match before(runs, place) {
+        Some(run) => run.joins_before(piece),
+        None => false,
+    }
+}
+
+fn is_joined_after(runs: &VecDeque<Pieces>, place: usize, piece: &ChunkPayloadData) -> bool
+    ensures joins { result ≡ joins_after (run_at runs.now.items place) piece.now }
+    ensures bound { IsTrue result → place < length runs.now.items }
+{
+    match at(runs, place) {
+        Some(run) => run.joins_after(piece),
+        None => false,
+    }
+}
+
+fn bytes_before(runs: &VecDeque<Pieces>, place: usize, piece: &ChunkPayloadData) -> u64
+    ensures { result ≡ bytes_of (part (joins_before (run_before runs.now.items place) piece.now) (run_before runs.now.items place)) }
+{
+    match before(runs, place) {
+        Some(run) if run.joins_before(piece) => run.bytes(),
+        _ => 0,
+    }
+}
+
+fn bytes_after(runs: &VecDeque<Pieces>, place: usize, piece: &ChunkPayloadData) -> u64
+    ensures { result ≡ bytes_of (part (joins_after (run_at runs.now.items place) piece.now) (run_at runs.now.items place)) }
+{
+    match at(runs, place) {
+        Some(run) if run.joins_after(piece) => run.bytes(),
+        _ => 0,
+    }
+}
+
+// Puts a piece to the runs that it goes on with, and answers the place of its run.
+fn join(
+    runs: &mut VecDeque<Pieces>,
+    place: usize,
+    alloc: Global,
+    piece: ChunkPayloadData,
+) -> Result<usize, AllocError>
+    requires place { place ≤ length runs.old.items }
+    requires bytes { bytes_of (part (joins_before (run_before runs.old.items place) piece) (run_before runs.old.items place)) + length piece.user_data + bytes_of (part (joins_after (run_at runs.old.items place) piece) (run_at runs.old.items place)) < 2 ^ 64 }
+    ensures put { IfOk result (λ k. with_unordered runs.old.items place piece ≡ (runs.new.items, k)) }
+    ensures unchanged { OnErr result (runs.new.items ≡ runs.old.items) }
+{
+    let joins_before = is_joined_before(runs, place, &piece);
+    let joins_after = is_joined_after(runs, place, &piece);
+    match (joins_before, joins_after) {
+        (false, false) => {
+            let run = Pieces::of(alloc, piece)?;
+            runs.insert(place, run)?;
+            Ok(place)
+        }
+        (true, false) => {
+            push_back_at(runs, place - 1, piece)?;
+            Ok(place - 1)
+        }
+        (false, true) => {
+            push_front_at(runs, place, piece)?;
+            Ok(place)
+        }
+        (true, true) => {
+            join_at(runs, place, alloc, piece)?;
+            Ok(place - 1)
+        }
+    }
+}
+
+fn push_back_at(
+    runs: &mut VecDeque<Pieces>,
+    place: usize,
+    piece: ChunkPayloadData,
+) -> Result<(), AllocError>
+    requires place { place < length runs.old.items }
+    requires bytes { bytes_of (run_at runs.old.items place) + length piece.user_data < 2 ^ 64 }
+    ensures put { OnOk result (runs.new.items ≡ slice_set runs.old.items place (run_at runs.old.items place ++ piece ∷ [])) }
+    ensures unchanged { OnErr result (runs.new.items ≡ runs.old.items) }
+{
+    match runs.get_mut(place) {
+        Some(run) => run.push_back(piece),
+        None => Ok(()),
+    }
+}
+
+fn push_front_at(
+    runs: &mut VecDeque<Pieces>,
+    place: usize,
+    piece: ChunkPayloadData,
+) -> Result<(), AllocError>
+    requires place { place < length runs.old.items }
+    requires bytes { bytes_of (run_at runs.old.items place) + length piece.user_data < 2 ^ 64 }
+    ensures put { OnOk result (runs.new.items ≡ slice_set runs.old.items place (piece ∷ run_at runs.old.items place)) }
+    ensures unchanged { OnErr result (runs.new.items ≡ runs.old.items) }
+{
+    match runs.get_mut(place) {
+        Some(run) => run.push_front(piece),
+        None => Ok(()),
+    }
+}
+
+// Puts a piece between the run in front of a place and the run at it.
+fn join_at(
+    runs: &mut VecDeque<Pieces>,
+    place: usize,
+    alloc: Global,
+    piece: ChunkPayloadData,
+) -> Result<(), AllocError>
+    requires first { 0 < place }
+    requires place { place < length runs.old.items }
+    requires bytes { bytes_of (run_at runs.old.items (place - 1)) + length piece.user_data + bytes_of (run_at runs.old.items place) < 2 ^ 64 }
+    ensures put { OnOk result (runs.new.items ≡ remove (slice_set runs.old.items (place - 1) (run_at runs.old.items (place - 1) ++ piece ∷ run_at runs.old.items place)) place) }
+    ensures unchanged { OnErr result (runs.new.items ≡ runs.old.items) }
+{
+    let mut behind = replace_at(runs, place, Pieces::none(alloc));
+    match join_front(runs, place - 1, piece, &mut behind) {
+        Ok(()) => {
+            runs.remove(place);
+            Ok(())
+        }
+        Err(error) => {
+            replace_at(runs, place, behind);
+            Err(error)
+        }
+    }
+}
+
+fn replace_at(runs: &mut VecDeque<Pieces>, place: usize, run: Pieces) -> Pieces
+    requires { place < length runs.old.items }
+    ensures taken { result ≡ run_at runs.old.items place }
+    ensures put { runs.new.items ≡ slice_set runs.old.items place run }
+{
+    match runs.get_mut(place) {
+        Some(held) => mem::replace(held, run),
+        None => run,
+    }
+}
+
+fn join_front(
+    runs: &mut VecDeque<Pieces>,
+    place: usize,
+    piece: ChunkPayloadData,
+    behind: &mut Pieces,
+) -> Result<(), AllocError>
+    requires place { place < length runs.old.items }
+    requires bytes { bytes_of (run_at runs.old.items place) + length piece.user_data + bytes_of behind.old < 2 ^ 64 }
+    ensures put { OnOk result (runs.new.items ≡ slice_set runs.old.items place (run_at runs.old.items place ++ piece ∷ behind.old)) }
+    ensures unchanged { OnErr result (runs.new.items ≡ runs.old.items) }
+    ensures behind { OnErr result (behind.new ≡ behind.old) }
+{
+    match runs.get_mut(place) {
+        Some(run) => run.join(piece, behind),
+        None => Ok(()),
+    }
+}
+
+// Where the run at a place is a complete message, it is that.
+fn finish(runs: &mut VecDeque<Pieces>, complete: &mut VecDeque<Chunks>, place: usize)
+    requires { deque_len complete.old < deque_capacity complete.old }
+    ensures { finished runs.old.items place complete.old.items ≡ (runs.new.items, complete.new.items) }
+{
+    if is_complete_at(runs, place) {
+        if let Some(run) = runs.remove(place) {
+            complete.push_back_reserved(run.into_chunks());
+        }
+    }
+}
+
+fn is_complete_at(runs: &VecDeque<Pieces>, place: usize) -> bool
+    ensures { result ≡ is_complete (run_at runs.now.items place) }
+{
+    match runs.get(place) {
+        Some(run) => run.is_complete(),
+        None => false,
+    }
+}
+
+// Drops the pieces that are at or below a TSN.
+pub(crate) fn skip(runs: &mut VecDeque<Pieces>, tsn: u32)
+    ensures { runs.new.items ≡ trimmed tsn runs.old.items }
+{
+    trim(runs, tsn);
+    drop_empty(runs);
+}
+
+fn trim(runs: &mut VecDeque<Pieces>, tsn: u32)
+    ensures { runs.new.items ≡ map (above tsn) runs.old.items }
+{
+    trim_each(runs.make_contiguous(), tsn);
+}
+
+fn drop_empty(runs: &mut VecDeque<Pieces>)
+    ensures { runs.new.items ≡ filter (λ r. not (length r == 0)) runs.old.items }
+{
+    runs.retain(|run| !run.is_empty());
+}
+
+fn trim_each(runs: &mut [Pieces], tsn: u32)
+    ensures { runs.new ≡ map (above tsn) runs.old }
+{
+    for run in runs.iter_mut() {
+        run.drop_up_to(tsn);
+    }
+}
