@@ -273,7 +273,7 @@ data_poll_adds a now h tied =
     let s : Sender = after_resending a.sender in
     let x = sent_new s (resent_by a.sender) now in
     let again : Adds (acts_of_marks a.sender) (parts a h) (sending s a.streams h) [] (resent_by a.sender) =
-        record { given = resent_by a.sender; gives = marks_give a.sender a.streams h tied; all = refl } in
+    record { given = resent_by a.sender; gives = marks_give a.sender a.streams h tied; all = refl } in
     let fresh = new_adds_if _ s (resent_by a.sender) now a.streams h tied in
     let both = adds_on (acts_of_marks a.sender) (acts_of_new s (resent_by a.sender) now) (parts a h) (sending s a.streams h) (sending x.0 a.streams h) [] _ x.1 again fresh in
     rw (sent_data_parts a (length (resent_by a.sender)) now x h, sent_data_said a (length (resent_by a.sender)) now x) both

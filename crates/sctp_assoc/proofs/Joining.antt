@@ -178,8 +178,11 @@ next_leads true a piece wish h e binds =
     let made = stream_leads (is_some (stream_at a.streams id)) (generation_left a.streams) b id h refl refl counted in
     let same = stream_receiver (is_some (stream_at a.streams id)) (generation_left a.streams) b id refl refl in
     let rest = found_leads (stream_found b id) piece wish h made.binds (rw same both.0) both.1 in
-    rw e (rest.0, leads_on (acts_of_stream a id) (acts_of_found (stream_found b id) piece) a (stream_found b id).0 (on_next_data (stream_found b id) piece wish).0 h h rest.0
-    (record { can = made.can; there = made.there; binds = made.binds }) rest.1)
+    rw e (
+      rest.0,
+      leads_on (acts_of_stream a id) (acts_of_found (stream_found b id) piece) a (stream_found b id).0 (on_next_data (stream_found b id) piece wish).0 h h rest.0
+          (record { can = made.can; there = made.there; binds = made.binds }) rest.1,
+    )
 
 -- SACK
 
@@ -226,9 +229,11 @@ outcome_leads : (o : SackOutcome) (a : Shown) (point window : ℕ) (wish : AckWi
     → (k : History) × Leads (acts_of_outcome o (points_to a.sender point)) a h (on_counted_sack o (counted_sack a) point window wish now).0 k
 outcome_leads outcomes.Older a point window wish now h e binds = (h, leads_nowhere a (counted_sack a) h binds refl refl)
 outcome_leads outcomes.NotInFlight a point window wish now h e binds = (h, leads_nowhere a (counted_sack a) h binds refl refl)
-outcome_leads outcomes.Taken a point window wish now h e binds =
-    (_, sack_taken_leads a point window now h binds
-    (taken_within (tsn_gt (acked_point_of a.sender) point) (nat_le (points_to a.sender point) (length a.sender.queue.in_flight)) a.sender point refl refl e))
+outcome_leads outcomes.Taken a point window wish now h e binds = (
+  _,
+  sack_taken_leads a point window now h binds
+      (taken_within (tsn_gt (acked_point_of a.sender) point) (nat_le (points_to a.sender point) (length a.sender.queue.in_flight)) a.sender point refl refl e),
+)
 
 sack_leads : (c : Bool) (a : Shown) (point window : ℕ) (wish : AckWish) (now : ℕ) (h : History) → is_established a.state ≡ c → Binds a h
     → (k : History) × Leads (acts_of_sack a point) a h (on_sack a point window wish now).0 k
@@ -285,7 +290,7 @@ chunks_lead [] a wish now h binds = (h, leads_nowhere a (ended a wish now) h bin
 chunks_lead (c ∷ cs) a wish now h binds =
     let one = chunk_leads c a wish now h binds in
     let rest = goes_leads (on_chunk a c wish now) one.0 (λ b next. after_chunks cs b next now) (λ b next. acts_of_chunks cs b next now)
-        (λ b next bound. chunks_lead cs b next now one.0 bound) one.1.binds in
+    (λ b next bound. chunks_lead cs b next now one.0 bound) one.1.binds in
     (rest.0, leads_on (acts_of_chunk a c) _ a (on_chunk a c wish now).0 (after_chunks (c ∷ cs) a wish now) h one.0 rest.0 one.1 rest.1)
 
 packet_of_leads : (packet : Option Packet) (a : Shown) (now : ℕ) (h : History) → Binds a h

@@ -68,13 +68,12 @@ poll_of (b, pieces) xs a h same binds adds =
     } in
     let ack : Leads (acts_of_ack a) b h (ack_polled b).0 h = rw (← same.acts) (ack_leads b h mid.binds) in
     let said : pieces ≡ all_data_given (xs ++ acts_of_ack a) (parts a h) = adds.all ∙ sym (given_append xs (acts_of_ack a) (parts a h)
-        ∙ ap (λ (z : List ChunkPayloadData). all_data_given xs (parts a h) ++ z) (ack_silent (is_due a.receiver.ack_state) (done_all xs (parts a h)))
-        ∙ append-nil (all_data_given xs (parts a h)) ∙ adds.gives.said) in
-    (
+    ∙ ap (λ (z : List ChunkPayloadData). all_data_given xs (parts a h) ++ z) (ack_silent (is_due a.receiver.ack_state) (done_all xs (parts a h)))
+    ∙ append-nil (all_data_given xs (parts a h)) ∙ adds.gives.said) in (
       rw (both_first (data_packets (header_of b.handshake) pieces) (ack_polled b)) (leads_on xs (acts_of_ack a) a b (ack_polled b).0 h h h mid ack),
       both_second (data_packets (header_of b.handshake) pieces) (ack_polled b)
-      ∙ ap (λ (z : List (List ℕ)). data_packets (header_of b.handshake) pieces ++ z) (ack_said b ∙ same.acks)
-      ∙ rw (same.handshake, said) refl,
+          ∙ ap (λ (z : List (List ℕ)). data_packets (header_of b.handshake) pieces ++ z) (ack_said b ∙ same.acks)
+          ∙ rw (same.handshake, said) refl,
     )
 
 polls_if : (c : Bool) (a : Shown) (now : ℕ) (h : History) → Binds a h

@@ -3,9 +3,7 @@ ghost use Rattle.std.specs.Prelude.{◌≡◌, ◌+◌, ◌<◌, ◌^◌, IfOk, 
 ghost use Rattle.sctp_queues.specs.Stream.{fresh_stream, params_for, accepted_by, reaches_high_mark, released_from, falls_to_low_mark, with_ssn_given_back, with_restarted_ssn, with_params, with_halves, without_read_half, without_write_half, is_read_half_open, is_write_half_open, stream_pushed, stream_read};
 ghost use Rattle.sctp_receive_queues.specs.Reassembly.{is_ready, bytes_waiting, refusal};
 
-use crate::{
-    Chunks, DataChannelStats, ReassemblyQueue, RecvSendState, ReliabilityParams,
-};
+use crate::{Chunks, DataChannelStats, ReassemblyQueue, RecvSendState, ReliabilityParams};
 use sctp_wire_types::{ChunkPayloadData, Error, PayloadProtocolIdentifier, StreamId};
 use std::alloc::Global;
 use std::marker::Model;

@@ -1,8 +1,6 @@
 // Queues, streams, events and counters.
 use crate::received::piece;
-use sctp_queues::{
-    AssociationError, DataChannelStats, Event, Events, StreamState, Streams,
-};
+use sctp_queues::{AssociationError, DataChannelStats, Event, Events, StreamState, Streams};
 use sctp_wire_types::{Error, PayloadProtocolIdentifier, StreamEvent};
 use std::test::Fail;
 
