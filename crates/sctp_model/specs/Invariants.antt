@@ -110,7 +110,7 @@ pub record IsReported (p : Plan) (gone : ℕ → ℕ → Bool) (s start point m 
   pub is : m ≡ (place_at p offset).ssn
   pub last : (o : ℕ) → IsAt p s true o → o < point → o ≤ offset
 
--- A FORWARD TSN: each offset below its point was acknowledged when it was made (those below `start`) or belongs to an abandoned
+-- A FORWARD TSN: each offset below its point is acknowledged (those below `start`) or belongs to an abandoned
 -- message (those from there on), its point is one past the last offset of an abandoned message, and for each stream with an ordered
 -- message from `start` to the point it reports the last one's sequence number. If the stream's span wasn't over then, no ordered
 -- message below the point has a greater one (`greatest`), and as long as it isn't over each one past the point has (`all`).

@@ -1,5 +1,6 @@
 -- One direction as a machine: a sender, a receiver, and a network between them that loses, repeats, delays and reorders,
--- but alters and forges nothing. Every choice that an implementation may make is an event.
+-- but alters and forges nothing. What an implementation may choose freely is an event; what its rules fix (all that a SACK and a
+-- FORWARD TSN say) is made by its rule.
 use Rattle.std.specs.Prelude.{ℕ, zero, suc, ◌+◌, ◌-◌, max, Bool, true, false, not, ◌&&◌, ◌||◌, List, [], ◌∷◌, ◌++◌, length, drop, filter, Option, Some, None, slice_get, ◌==◌, nat_lt, nat_le, if◌then◌else◌}
 use Rattle.sctp_model.specs.Messages.{Message, Place, Plan, as_kept, is_reliable, place_at, message_at, message_of, is_last, bytes_below}
 use Rattle.sctp_model.specs.Packets.{Data, Sack, Forward, mem, names, skips, data_at}

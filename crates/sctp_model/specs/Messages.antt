@@ -37,8 +37,8 @@ abbrev pub is_last_piece : ℕ → List ℕ → ℕ → Bool
 is_last_piece size bytes k = nat_le (length bytes) (size * suc k)
 
 -- What an offset stands for: a piece of a message. `ssn` is the stream sequence number before it wraps: of an ordered message how
--- many ordered ones of the stream got an offset before it, of an unordered one any number. A `marker` stands for the whole tail from its piece on that was
--- still unsent when its message was abandoned; it is never sent.
+-- many ordered ones of the stream got an offset before it (within the stream's span), of an unordered one any number. A `marker`
+-- stands for the whole tail from its piece on that was still unsent when its message was abandoned; it is never sent.
 pub record Place : Type 0 where
   pub stream : ℕ
   pub message : ℕ

@@ -1,5 +1,5 @@
--- What is promised of one direction: whole messages, at most once, in order, no more and no less than was taken in, and no byte
--- released before it was.
+-- What is promised of one direction: what is read was accepted, whole, at most once and in order; on reliable streams, what was or
+-- can be read at an open receiver is the longest accepted front whose pieces were all taken in; and no byte is released before it was.
 use Rattle.std.specs.Prelude.{ℕ, suc, ◌+◌, ◌*◌, ◌^◌, ◌<◌, ◌≤◌, ◌≡◌, Bool, true, false, ⊤, List, [], ◌∷◌, ◌++◌, length, map, filter, take, drop, if◌then◌else◌}
 use Rattle.std.specs.List.{AllByRecursion}
 use Rattle.sctp_model.specs.Messages.{Message, Plan, place_at, message_at, count_ordered, is_reliable, bytes_below}

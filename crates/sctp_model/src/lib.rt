@@ -45,7 +45,8 @@ pub fn runs_compute()
 {}
 
 /// One direction of an association over every list of what may happen, for many streams at once: what is read was accepted,
-/// whole, at most once and in order; on a reliable stream it is all that was taken in, and no byte is released earlier.
+/// whole, at most once and in order; on a reliable stream, what was or can be read at an open receiver is exactly the longest
+/// accepted front whose pieces were all taken in, and no byte is released earlier.
 pub fn one_direction_is_safe()
     ensures safe { OneDirectionIsSafe }
     ensures invariant { TheInvariantHolds }
