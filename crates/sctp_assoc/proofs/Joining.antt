@@ -11,10 +11,16 @@ use Rattle.sctp_wire.specs.declared.packet.Packet.{Packet}
 use Rattle.sctp_wire_types.specs.declared.ids.PayloadProtocolIdentifier.TheVariants as kinds
 use Rattle.sctp_model.specs.Packets.{mem}
 use Rattle.sctp_model.specs.Serial.{tsn}
+use Rattle.sctp_parts.specs.declared.timer.Timer.TheVariants as names
 use Rattle.sctp_parts.specs.Estimate.{Estimate}
+use Rattle.sctp_parts.specs.Timers.{expiry_of}
+use Rattle.sctp_wire_types.specs.declared.ids.PayloadProtocolIdentifier.{PayloadProtocolIdentifier}
+use Rattle.sctp_receive_queues.specs.Messages.{Message}
+use Rattle.sctp_queues.specs.declared.event.Event.{Event}
+use Rattle.sctp_queues.specs.Stream.{Stream}
 use Rattle.sctp_queues.specs.declared.event.AssociationError.{AssociationError}
 use Rattle.sctp_queues.specs.declared.event.AssociationError.TheVariants as reasons
-use Rattle.sctp_queues.specs.Streams.{StreamMap, bytes_waiting, generation_left, is_readable_in, pushed_in, refusal_in, stream_at}
+use Rattle.sctp_queues.specs.Streams.{StreamMap, bytes_waiting, generation_left, is_readable_in, pushed_in, read_in, refusal_in, stream_at}
 use Rattle.sctp_inbound.specs.declared.receiver.AckWish.{AckWish}
 use Rattle.sctp_inbound.specs.declared.receiver.AckWish.TheVariants as wishes
 use Rattle.sctp_inbound.specs.declared.receiver.Receiver.{Receiver}
@@ -25,10 +31,10 @@ use Rattle.sctp_outbound.specs.declared.sender.SackOutcome.TheVariants as outcom
 use Rattle.sctp_outbound.specs.Sender.{acked_point_of, acknowledged, points_to, sack_outcome, with_window}
 use Rattle.sctp_assoc.specs.declared.inbound.Flow.{Flow}
 use Rattle.sctp_assoc.specs.declared.inbound.Flow.TheVariants as flows
-use Rattle.sctp_assoc.specs.Acts.{Act, Binds, Can, CanAll, History, Leads, Parts, IsSamePast, LeadsOn, done, done_all, parts, tsn_before, with_taken}
-use Rattle.sctp_assoc.specs.Calls.{closed_by, closed_open, is_closed_state, is_established}
+use Rattle.sctp_assoc.specs.Acts.{Act, Binds, Can, CanAll, History, Leads, Parts, IsSamePast, LeadsOn, done, done_all, parts, tsn_before, with_taken, with_written}
+use Rattle.sctp_assoc.specs.Calls.{after_ack_delay, after_t3, after_timeouts, closed_by, closed_open, opened, read_from_stream, retransmits, t3_expired, written, written_at, is_closed_state, is_established}
 use Rattle.sctp_assoc.specs.Chunks.{after_chunks, after_packet, after_packet_of, after_sack, asks_or_faults, checked_first, counted_data, counted_sack, dispatched, ended, goes_on, is_whole, on_chunk, on_counted_sack, on_data, on_next_data, on_sack, stream_found, taken_in, taken_unless, told, with_acknowledged, with_message, with_new_stream}
-use Rattle.sctp_assoc.specs.Happened.{acts_after, acts_of_checked, acts_of_chunk, acts_of_chunks, acts_of_close, acts_of_kind, acts_of_packet, acts_of_packet_of, acts_of_data, acts_of_found, acts_of_outcome, acts_of_sack, acts_of_stream, acts_of_taking, acts_unless_refused}
+use Rattle.sctp_assoc.specs.Happened.{acts_after, acts_of_checked, acts_of_chunk, acts_of_chunks, acts_of_close, acts_of_kind, acts_of_packet, acts_of_packet_of, acts_of_data, acts_of_found, acts_of_outcome, acts_of_sack, acts_of_stream, acts_of_taking, acts_of_timeouts, acts_unless_refused}
 use Rattle.sctp_assoc.specs.Shown.{Shown}
 use Rattle.sctp_assoc.proofs.Acting.{acknowledged_tied, acts_tied, can_append, done_append, pieces_acknowledged}
 
@@ -310,3 +316,84 @@ packet_leads packet a now h binds = packet_leads_unless a.lost packet a now h bi
 
 pub packet_leads_on : (a b : Shown) (packet : Option Packet) (now : ℕ) → b ≡ after_packet a packet now → LeadsOn (acts_of_packet a packet now) a b
 packet_leads_on a b packet now e h binds = rw e (packet_leads packet a now h binds)
+
+-- the calls of an application
+
+-- what changes beside the directions does no harm
+leads_beside : (xs : List Act) (a b c : Shown) (h k : History) → parts c k ≡ parts b k → c.receiver.point ≡ b.receiver.point → Leads xs a h b k → Leads xs a h c k
+leads_beside xs a b c h k same point m = record {
+  can = m.can;
+  there = same ∙ m.there;
+  binds = record {
+    first = ap (λ (p : Parts). p.queue.first_tsn) same ∙ m.binds.first;
+    point = point ∙ m.binds.point;
+    below = m.binds.below;
+    above = m.binds.above;
+    passed = m.binds.passed;
+  };
+}
+
+written_parts : (o : Option Stream) (a : Shown) (id : ℕ) (bytes : List ℕ) (h : History) → parts (written_at o a id bytes) h ≡ with_written o (parts a h) id bytes
+written_parts None a id bytes h = refl
+written_parts (Some s) a id bytes h = refl
+
+written_receiver : (o : Option Stream) (a : Shown) (id : ℕ) (bytes : List ℕ) → (written_at o a id bytes).receiver ≡ a.receiver
+written_receiver None a id bytes = refl
+written_receiver (Some s) a id bytes = refl
+
+written_history : (o : Option Stream) (a : Shown) (id : ℕ) (bytes : List ℕ) (h : History) → (with_written o (parts a h) id bytes).history ≡ h
+written_history None a id bytes h = refl
+written_history (Some s) a id bytes h = refl
+
+written_leads : (a : Shown) (id : ℕ) (bytes : List ℕ) (h : History) → Binds a h → Leads (Act.Wrote id bytes ∷ []) a h (written a id bytes) h
+written_leads a id bytes h binds =
+    let o = stream_at a.streams id in
+    let there = written_parts o a id bytes h in
+    record {
+      can = (tt, tt);
+      there = there;
+      binds = record {
+        first = ap (λ (p : Parts). p.queue.first_tsn) there ∙ acts_tied (Act.Wrote id bytes ∷ []) (parts a h) (tt, tt) binds.first
+            ∙ ap (λ (k : History). tsn k.own k.base) (written_history o a id bytes h);
+        point = ap (λ (r : Receiver). r.point) (written_receiver o a id bytes) ∙ binds.point;
+        below = binds.below;
+        above = binds.above;
+        passed = binds.passed;
+      };
+    }
+
+pub write_leads_on : (a b : Shown) (id : ℕ) (bytes : List ℕ) → b ≡ written a id bytes → LeadsOn (Act.Wrote id bytes ∷ []) a b
+write_leads_on a b id bytes e h binds = rw e (h, written_leads a id bytes h binds)
+
+pub read_leads_on : (a b : Shown) (id : ℕ) (message : Option Message) → read_from_stream a id ≡ (b, message) → LeadsOn (Act.WasRead id ∷ []) a b
+read_leads_on a b id message e h binds =
+    let is : b ≡ record a { streams = (read_in a.streams id).0 } = sym (ap (λ (x : Shown × Option Message). x.0) e) in
+    (h, rw is (leads_by (Act.WasRead id ∷ []) a (record a { streams = (read_in a.streams id).0 }) h binds (tt, tt) refl refl (past_itself h)))
+
+pub open_leads_on : (a b : Shown) (id : ℕ) (kind : PayloadProtocolIdentifier) → b ≡ opened a id kind
+    → LeadsOn (Act.Opened id a.sender.queue.next_message_id kind ∷ []) a b
+open_leads_on a b id kind e h binds =
+    (h, rw e (leads_by (Act.Opened id a.sender.queue.next_message_id kind ∷ []) a (opened a id kind) h binds (tt, tt) refl refl (past_itself h)))
+
+pub poll_leads_on : (a b : Shown) (events : List Event) → a ≡ record b { events = events } → LeadsOn [] a b
+poll_leads_on a b events e h binds =
+    (h, leads_nowhere a b h binds (ap (λ (x : Shown). parts x h) (sym e)) (ap (λ (x : Shown). x.receiver.point) (sym e)))
+
+t3_leads : (expired failure : Bool) (a : Shown) (now : ℕ) (h : History) → Binds a h
+    → Leads (if expired then (if failure then [] else Act.Marked ∷ []) else []) a h
+    (if expired then (if failure then t3_expired a now else retransmits (t3_expired a now) now) else a) h
+t3_leads false failure a now h binds = leads_nowhere a a h binds refl refl
+t3_leads true true a now h binds = leads_nowhere a (t3_expired a now) h binds refl refl
+t3_leads true false a now h binds =
+    leads_by (Act.Marked ∷ []) a (retransmits (t3_expired a now) now) h binds (tt, tt) refl refl (past_itself h)
+
+ack_delay_leads : (expired : Bool) (xs : List Act) (a b : Shown) (now : ℕ) (h : History) → (expiry_of names.Ack now b.timers).0 ≡ expired → Leads xs a h b h
+    → Leads xs a h (after_ack_delay b now) h
+ack_delay_leads false xs a b now h e m = rw e m
+ack_delay_leads true xs a b now h e m =
+    leads_beside xs a b (after_ack_delay b now) h h (rw e refl) (rw e refl) m
+
+pub timeouts_lead_on : (a b : Shown) (now : ℕ) → b ≡ after_timeouts a now → LeadsOn (acts_of_timeouts a now) a b
+timeouts_lead_on a b now e h binds =
+    let t3 = t3_leads (expiry_of names.T3RTX now a.timers).0 (expiry_of names.T3RTX now a.timers).1 a now h binds in
+    (h, rw e (ack_delay_leads (expiry_of names.Ack now (after_t3 a now).timers).0 (acts_of_timeouts a now) a (after_t3 a now) now h refl t3))

@@ -42,6 +42,10 @@ pub record Binds (a : Shown) (h : History) : Type 0 where
   pub above : (o : ℕ) → mem o h.taken ≡ true → o < h.point
   pub passed : h.passed ≤ h.point
 
+-- nothing came and nothing is acknowledged: the history on which an association begins
+abbrev pub begun : ℕ → ℕ → History
+begun own peer = record { own = own; peer = peer; base = 0; taken = []; passed = 0; point = 0 }
+
 -- What the two directions see of an association.
 pub record Parts : Type 0 where
   pub queue : Outbound

@@ -8,6 +8,8 @@ use Rattle.sctp_wire_types.specs.declared.ids.PayloadProtocolIdentifier.TheVaria
 use Rattle.sctp_wire_types.specs.Checks.{checked_chunk}
 use Rattle.sctp_wire.specs.declared.packet.Packet.{Packet}
 use Rattle.sctp_parts.specs.declared.state.AckState.{AckState}
+use Rattle.sctp_parts.specs.declared.timer.Timer.TheVariants as names
+use Rattle.sctp_parts.specs.Timers.{expiry_of}
 use Rattle.sctp_outbound_queue.specs.declared.message.InFlight.{InFlight}
 use Rattle.sctp_outbound_queue.specs.Waiting.{Waiting}
 use Rattle.sctp_outbound_queue.specs.Outbound.{pieces_waiting}
@@ -159,3 +161,10 @@ pub record Polls (xs : List Act) (a : Shown) (h : History) (b : Shown) (packets 
 -- a poll for packets does and gives so from each history on which the association stands
 abbrev pub PollsOn : List Act → Shown → Shown → List (List ℕ) → Type 0
 PollsOn xs a b packets = (h : History) → Binds a h → Polls xs a h b packets
+
+-- the retransmission timer, where it expired by a moment and is within its limit
+abbrev pub acts_of_timeouts : Shown → ℕ → List Act
+acts_of_timeouts a now =
+    if (expiry_of names.T3RTX now a.timers).0 then
+    (if (expiry_of names.T3RTX now a.timers).1 then [] else Act.Marked ∷ [])
+    else []

@@ -1,13 +1,13 @@
 // The surface of an association.
-ghost use Rattle.std.specs.Prelude.{◌≡◌, ◌↔◌, ◌*◌, ◌++◌, ◌⊎◌, [], true, false, not, option_to_list, slice_get, IsNone, IfSome, OnOk, OnErr, IfOk, IsErrOf};
+ghost use Rattle.std.specs.Prelude.{◌≡◌, ◌↔◌, ◌*◌, ◌++◌, ◌∷◌, ◌⊎◌, [], true, false, not, option_to_list, slice_get, IsNone, IfSome, OnOk, OnErr, IfOk, IsErrOf};
 ghost use Rattle.std.specs.Borrow.{sem};
 ghost use Rattle.std.specs.Duration.{as_nanos};
 ghost use Rattle.sctp_parts.specs.State.{is_closing};
 ghost use Rattle.sctp_parts.specs.Timers.{least_moment};
 ghost use Rattle.sctp_assoc.specs.Calls.{Refuses, RefusesOrLacksMemory, open_refusal, stream_refusal, usable, opened, is_closed_state, after_t3, after_ack_delay, after_timeouts};
 ghost use Rattle.sctp_assoc.specs.Chunks.{after_packet};
-ghost use Rattle.sctp_assoc.specs.Acts.{LeadsOn};
-ghost use Rattle.sctp_assoc.specs.Happened.{PollsOn, acts_of_packet, acts_of_poll};
+ghost use Rattle.sctp_assoc.specs.Acts.{Act, LeadsOn, begun, Binds};
+ghost use Rattle.sctp_assoc.specs.Happened.{PollsOn, acts_of_packet, acts_of_poll, acts_of_timeouts};
 ghost use Rattle.sctp_assoc.specs.Inbound.{packet_of, transmit_of};
 ghost use Rattle.sctp_assoc.specs.Join.{join_refusal, joined};
 ghost use Rattle.sctp_assoc.specs.Lending.{rests_if_refused, lent, lender, id_of};
@@ -97,6 +97,7 @@ impl Association {
         remote_init: &ChunkInit,
     ) -> Result<Association, Error>
         ensures refused { RefusesOrLacksMemory result (join_refusal max_payload_size local_init.now remote_init.now) }
+        ensures begins { IfOk result (λ a. Binds a (begun local_init.now.initial_tsn remote_init.now.initial_tsn)) }
         ensures joined { IfOk result (λ a. a ≡ joined config.now max_payload_size remote_addr local_ip local_init.now remote_init.now) }
     {
         if max_payload_size == 0 || MAX_PAYLOAD_SIZE < max_payload_size {
@@ -139,9 +140,11 @@ impl Association {
     }
 
     /// The oldest event that nobody asked for yet.
+    #[tactic(auto, using(crate::proofs::Joining::poll_leads_on))]
     pub fn poll(&mut self) -> Result<Option<Event>, Error>
         ensures failed { IsErrOf result Error.ErrAssociationFailed ↔ (self.old.failed ≡ true) }
         ensures oldest { IfOk result (λ event. event ≡ slice_get self.old.events 0) }
+        ensures acts { OnOk result (LeadsOn [] self.old self.new) }
         ensures rest { IfOk result (λ event. self.old ≡ record self.new { events = option_to_list event ++ self.new.events }) }
         ensures err { OnErr result ((result ≡ Err Error.ErrAssociationFailed) × (self.new ≡ self.old)) }
     {
@@ -224,10 +227,12 @@ impl Association {
     }
 
     /// Does what the timers that expired by `now` ask for.
+    #[tactic(auto, using(crate::proofs::Joining::timeouts_lead_on))]
     pub fn handle_timeout(&mut self, now: Instant) -> Result<(), Error>
         ensures failed { IsErrOf result Error.ErrAssociationFailed ↔ (self.old.failed ≡ true) }
         ensures refused { OnErr result ((result ≡ Err Error.ErrAssociationFailed) × (self.new ≡ self.old)) }
         ensures ok { OnOk result (self.new ≡ after_timeouts self.old now) }
+        ensures acts { OnOk result (LeadsOn (acts_of_timeouts self.old now) self.old self.new) }
     {
         self.check_usable()?;
         self.on_t3(now);
@@ -262,6 +267,7 @@ impl Association {
     }
 
     /// Makes a new generation of a stream. `default_payload_type` is that of messages written without one.
+    #[tactic(auto, using(crate::proofs::Joining::open_leads_on))]
     pub fn open_stream(
         &mut self,
         id: StreamId,
@@ -270,6 +276,7 @@ impl Association {
         ensures* lends { sem 𝓛 (rests_if_refused self.entry result) }
         ensures refused { RefusesOrLacksMemory result (open_refusal self.old id) }
         ensures ok { IfOk result (λ s. lent s ≡ opened self.old id default_payload_type) }
+        ensures acts { IfOk result (λ s. LeadsOn (Act.Opened id self.old.sender.queue.next_message_id default_payload_type ∷ []) self.old (lent s)) }
         ensures same { IfOk result (λ s. lender s ≡ self.entry.ghost_name) }
         ensures id { IfOk result (λ s. id_of s ≡ id) }
     {

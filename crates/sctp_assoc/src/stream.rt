@@ -1,5 +1,6 @@
 // The calls of one stream.
-ghost use Rattle.std.specs.Prelude.{◌≡◌, length, OnOk, OnErr, IfOk};
+ghost use Rattle.std.specs.Prelude.{◌≡◌, ◌∷◌, [], length, OnOk, OnErr, IfOk};
+ghost use Rattle.sctp_assoc.specs.Acts.{Act, LeadsOn};
 ghost use Rattle.sctp_assoc.specs.Lending.{lent, lender, id_of};
 ghost use Rattle.sctp_assoc.specs.Calls.{Refuses, RefusesOrLacksMemory, write_refusal, written, read_refusal, read_from_stream, buffered_of};
 
@@ -30,6 +31,7 @@ impl<'a> Stream<'a> {
         ensures refused { Refuses result (read_refusal (lent self.old) (id_of self.old)) }
         ensures err { OnErr result (lent self.new ≡ lent self.old) }
         ensures ok { IfOk result (λ message. read_from_stream (lent self.old) (id_of self.old) ≡ (lent self.new, message)) }
+        ensures acts { OnOk result (LeadsOn (Act.WasRead (id_of self.old) ∷ []) (lent self.old) (lent self.new)) }
     {
         self.association.read_stream(self.id)
     }
@@ -44,6 +46,7 @@ impl<'a> Stream<'a> {
         ensures err { OnErr result (lent self.new ≡ lent self.old) }
         ensures ok { IfOk result (λ n. n ≡ length bytes.now) }
         ensures accepted { OnOk result (lent self.new ≡ written (lent self.old) (id_of self.old) bytes.now) }
+        ensures acts { OnOk result (LeadsOn (Act.Wrote (id_of self.old) bytes.now ∷ []) (lent self.old) (lent self.new)) }
     {
         self.association.write_stream(self.id, bytes)
     }

@@ -1,5 +1,6 @@
 // What an association does for the calls of its streams.
-ghost use Rattle.std.specs.Prelude.{◌≡◌, length, OnOk, OnErr, IfOk};
+ghost use Rattle.std.specs.Prelude.{◌≡◌, ◌∷◌, [], length, OnOk, OnErr, IfOk};
+ghost use Rattle.sctp_assoc.specs.Acts.{Act, LeadsOn};
 ghost use Rattle.sctp_assoc.specs.Calls.{Refuses, RefusesOrLacksMemory, write_refusal, written, read_refusal, read_from_stream, buffered_of};
 
 use crate::Association;
@@ -12,10 +13,12 @@ use std::alloc::AllocError;
 use std::collections::VecDeque;
 
 impl Association {
+    #[tactic(auto, using(crate::proofs::Joining::read_leads_on))]
     pub(crate) fn read_stream(&mut self, id: StreamId) -> Result<Option<Chunks>, Error>
         ensures refused { Refuses result (read_refusal self.old id) }
         ensures err { OnErr result (self.new ≡ self.old) }
         ensures ok { IfOk result (λ message. read_from_stream self.old id ≡ (self.new, message)) }
+        ensures acts { OnOk result (LeadsOn (Act.WasRead id ∷ []) self.old self.new) }
     {
         self.check_usable()?;
         if !self.streams.contains(id) {
@@ -24,11 +27,13 @@ impl Association {
         Ok(self.streams.read(id))
     }
 
+    #[tactic(auto, using(crate::proofs::Joining::write_leads_on))]
     pub(crate) fn write_stream(&mut self, id: StreamId, bytes: &[u8]) -> Result<usize, Error>
         ensures refused { RefusesOrLacksMemory result (write_refusal self.old id (length bytes.now)) }
         ensures err { OnErr result (self.new ≡ self.old) }
         ensures ok { IfOk result (λ n. n ≡ length bytes.now) }
         ensures accepted { OnOk result (self.new ≡ written self.old id bytes.now) }
+        ensures acts { OnOk result (LeadsOn (Act.Wrote id bytes.now ∷ []) self.old self.new) }
     {
         self.check_write(id, bytes.len())?;
         self.accept(id, bytes)?;
