@@ -2,4 +2,5 @@ pub mod Blocks
 pub mod Bytes
 pub mod Last
 pub mod Places
+pub mod Ready
 pub mod Sums

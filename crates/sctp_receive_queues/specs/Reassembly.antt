@@ -1,5 +1,5 @@
 -- The pieces of one stream's messages until they are read (RFC 4960 sections 6.5, 6.6 and 6.9, RFC 3758 section 3.6).
-use Rattle.std.specs.Prelude.{ℕ, ◌+◌, ◌-◌, ◌%◌, ◌^◌, ◌==◌, ◌&&◌, ◌||◌, not, nat_lt, if◌then◌else◌, Bool, true, false, List, [], ◌∷◌, ◌++◌, length, position, insert, remove, filter, map, fold, min, slice_get, slice_set, unwrap_or, Option, Some, None}
+use Rattle.std.specs.Prelude.{◌≡◌, ℕ, zero, suc, ◌+◌, ◌-◌, ◌%◌, ◌^◌, ◌==◌, ◌&&◌, ◌||◌, not, nat_lt, if◌then◌else◌, Bool, true, false, List, [], ◌∷◌, ◌++◌, length, drop, position, insert, remove, filter, map, fold, min, slice_get, slice_set, unwrap_or, Option, Some, None}
 use Rattle.std.specs.List.{sum_by}
 use Rattle.sctp_wire_types.specs.Serial.{ssn_lt, ssn_lte, tsn_lte}
 use Rattle.sctp_wire_types.specs.declared.chunk.ChunkPayloadData.{ChunkPayloadData}
@@ -249,3 +249,26 @@ refusal q p limit =
 -- incomplete unordered pieces at or below a TSN are dropped
 abbrev pub unordered_skipped : Reassembly → ℕ → Reassembly
 unordered_skipped q tsn = record q { unordered = trimmed tsn q.unordered }
+
+-- What reads give.
+
+abbrev pub ready_on : Reassembly × Option Message → (Reassembly → List Message) → List Message
+ready_on (q, None) more = []
+ready_on (q, Some m) more = m ∷ more q
+
+-- what so many reads give, one after another, up to the first that gives none
+abbrev pub ready_within : ℕ → Reassembly → List Message
+ready_within zero q = []
+ready_within (suc n) q = ready_on (taken q) (ready_within n)
+
+-- each read takes a complete unordered message or an ordered one
+abbrev pub messages_held : Reassembly → ℕ
+messages_held q = length q.complete + length q.ordered
+
+-- what reads give, repeated until one gives none
+abbrev pub ready : Reassembly → List Message
+ready q = ready_within (messages_held q) q
+
+-- A read gives the first of these and leaves the others; it gives none where there are none, and leaves all as it is.
+abbrev pub ReadsGiveWhatIsReady : Type 0
+ReadsGiveWhatIsReady = (q : Reassembly) → ((taken q).1 ≡ slice_get (ready q) 0) × (ready (taken q).0 ≡ drop 1 (ready q))

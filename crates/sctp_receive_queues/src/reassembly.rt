@@ -1,7 +1,7 @@
 // The pieces of one stream's messages until they are read.
-ghost use Rattle.std.specs.Prelude.{◌≡◌, ◌+◌, ◌-◌, ◌^◌, ◌⊎◌, min, None, Some, IsOk, IfOk, IfErr, OnOk, OnErr, length, slice_get};
+ghost use Rattle.std.specs.Prelude.{◌≡◌, ◌+◌, ◌-◌, ◌^◌, ◌⊎◌, min, None, Some, IsOk, IfOk, IfErr, OnOk, OnErr, drop, length, slice_get};
 ghost use Rattle.sctp_receive_queues.specs.Pieces.{bytes_of};
-ghost use Rattle.sctp_receive_queues.specs.Reassembly.{empty_reassembly, with_ordered, with_put, unordered_put, refusal_of_ordered, refusal_of_unordered, saturated_bytes, bytes_waiting, bytes_in_groups, bytes_in_runs, bytes_in_messages, pushed, refusal, is_ready, is_due, taken, next_after_skip, skipped, bounded, unordered_skipped};
+ghost use Rattle.sctp_receive_queues.specs.Reassembly.{empty_reassembly, with_ordered, with_put, unordered_put, refusal_of_ordered, refusal_of_unordered, saturated_bytes, bytes_waiting, bytes_in_groups, bytes_in_runs, bytes_in_messages, pushed, refusal, is_ready, is_due, ready, taken, next_after_skip, skipped, bounded, unordered_skipped};
 
 use crate::group::{self, Group};
 use crate::pieces::Pieces;
@@ -118,8 +118,11 @@ impl ReassemblyQueue {
 
     /// Takes out the next message: complete unordered ones first, in the order of their completion, then the first ordered one
     /// where it is complete and not past the SSN that is read next. One with that SSN moves it by one.
+    #[tactic(auto, using(crate::proofs::Ready::read_gives_the_first, crate::proofs::Ready::read_leaves_the_others))]
     pub fn read(&mut self) -> Option<Chunks>
-        ensures { taken self.old ≡ (self.new, result) }
+        ensures taken { taken self.old ≡ (self.new, result) }
+        ensures first { result ≡ slice_get (ready self.old) 0 }
+        ensures others { ready self.new ≡ drop 1 (ready self.old) }
     {
         if let Some(message) = self.complete.pop_front() {
             self.waiting = self.waiting.saturating_sub(message.len() as u64);
