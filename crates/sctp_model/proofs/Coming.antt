@@ -1,15 +1,16 @@
 -- What comes over the network, and what the receiver does, keeps the invariant.
-use Rattle.std.proofs.Common.{ℕ, zero, suc, ◌+◌, ◌<◌, ◌≤◌, ◌≡◌, Bool, true, false, not, cond, eqb, leb, ◌||◌, ◌&&◌, List, [], ◌∷◌, ◌++◌, length, Option, Some, None, refl, sym, ap, ◌∙◌, subst, inl, inr, ⊎_elim, arith}
+use Rattle.std.proofs.Common.{ℕ, zero, suc, ◌+◌, ◌<◌, ◌≤◌, ◌≡◌, Bool, true, false, not, cond, eqb, leb, ◌||◌, ◌&&◌, List, [], ◌∷◌, ◌++◌, length, drop, Option, Some, None, refl, sym, ap, ◌∙◌, subst, inl, inr, ⊎_elim, arith}
 use Rattle.std.proofs.lemmas.Bool.{cases_Bool, cases_lt, cases_eq, and_parts, or_cases, or_left, or_right, lt-ltb, eqb-true, ltb-true, leb-true, true≢false, cond-true, cond-false, not-true}
 use Rattle.sctp_model.specs.Messages.{Plan, IsAt, place_at, bytes_at, bytes_below}
 use Rattle.sctp_model.specs.Packets.{Data, Sack, Forward, mem, names, data_at}
 use Rattle.sctp_model.specs.Reassembly.{Queue, Got, Taken, next, push, push_ordered, push_unordered}
-use Rattle.sctp_model.specs.Machine.{Direction, put, live, point, sack_of, is_new, took, moved, passes, acknowledged_by, gone_front, forward_of, opened, can_resend}
+use Rattle.sctp_model.specs.Machine.{Direction, put, live, point, sack_of, is_new, took, moved, passes, acknowledged_by, gone_front, forward_of, opened, can_resend, none_of, none_goes_on, can_restart}
 use Rattle.sctp_model.specs.Safe.{IsWithin}
 use Rattle.sctp_model.specs.Invariants.{Invariant, IsPlanned, IsEarlier, IsPiece, IsHonest, IsForward, IsAccounted, IsStream, gone_at}
 use Rattle.sctp_model.proofs.Basics.{point_from, point_below, point_grows, sack_named}
 use Rattle.sctp_model.proofs.Lists.{all_weaker, all_push}
 use Rattle.sctp_model.proofs.Growth.{at_put, off_put}
+use Rattle.sctp_model.proofs.Ascending.{ascending_later, ascending_restart}
 use Rattle.sctp_model.proofs.Arriving.{stream_aside, stream_pushed}
 use Rattle.sctp_model.proofs.Settling.{stream_settled}
 use Rattle.sctp_model.proofs.Skipping.{stream_forwarded}
@@ -26,6 +27,7 @@ keeps_resend w o can h =
     record {
       planned = h.planned;
       sending = h.sending;
+      ascending = h.ascending;
       datas = all_push _ w.datas _ h.datas record { known = ltb-true _ _ c.0; is = refl; sent = not-true _ c.1 };
       taken = h.taken;
       accounted = h.accounted;
@@ -44,6 +46,7 @@ pub keeps_sack_made : (w : Direction) → Invariant w → Invariant (record w { 
 keeps_sack_made w h = record {
   planned = h.planned;
   sending = h.sending;
+  ascending = h.ascending;
   datas = h.datas;
   taken = h.taken;
   accounted = h.accounted;
@@ -69,6 +72,7 @@ pub keeps_forward_made : (w : Direction) → IsWithin w → 0 < length (gone_fro
 keeps_forward_made w l some h = record {
   planned = h.planned;
   sending = h.sending;
+  ascending = h.ascending;
   datas = h.datas;
   taken = h.taken;
   accounted = h.accounted;
@@ -79,7 +83,7 @@ keeps_forward_made w l some h = record {
   cumulative = h.cumulative;
   behind = h.behind;
   forwards = all_push _ w.forwards _ h.forwards
-      (forward_made w.sender w.over h.planned h.sending h.cumulative l.flight some);
+      (forward_made w.sender w.over h.planned h.sending h.ascending h.cumulative l.flight some);
   released = h.released;
   streams = h.streams;
 }
@@ -111,6 +115,7 @@ pub keeps_sack_comes : (w : Direction) (k : Sack) → w.sender.point ≤ k.point
 keeps_sack_comes w k on t h = record {
   planned = h.planned;
   sending = h.sending;
+  ascending = ascending_later w.sender.plan w.sender.current w.sender.ssn w.sender.point k.point on h.ascending;
   datas = h.datas;
   taken = h.taken;
   accounted = h.accounted;
@@ -145,6 +150,7 @@ pub keeps_data_comes : (w : Direction) (d : Data) → IsPiece w.sender.plan d �
 keeps_data_comes w d piece new l h = record {
   planned = h.planned;
   sending = h.sending;
+  ascending = h.ascending;
   datas = h.datas;
   taken = λ o m. ⊎_elim
       (λ (e : eqb d.offset o ≡ true). subst (λ z. (z < length p.places) × ((place_at p z).marker ≡ false)) (eqb-true _ _ e) (piece.known, piece.sent))
@@ -214,6 +220,7 @@ pub keeps_forward_comes : (w : Direction) (f : Forward) → IsForward w.sender.p
 keeps_forward_comes w f t far l h = record {
   planned = h.planned;
   sending = h.sending;
+  ascending = h.ascending;
   datas = h.datas;
   taken = h.taken;
   accounted = λ o b. ⊎_elim
@@ -258,6 +265,7 @@ pub keeps_read : (w : Direction) (s : ℕ) (q : Queue) (t : Taken) → w.receive
 keeps_read w s q t is e l h = record {
   planned = h.planned;
   sending = h.sending;
+  ascending = h.ascending;
   datas = h.datas;
   taken = h.taken;
   accounted = h.accounted;
@@ -290,6 +298,7 @@ keeps_queue : (w : Direction) (s : ℕ) (q : Option Queue) → (w.over s ≡ fal
 keeps_queue w s q same h = record {
   planned = h.planned;
   sending = h.sending;
+  ascending = h.ascending;
   datas = h.datas;
   taken = h.taken;
   accounted = h.accounted;
@@ -325,6 +334,7 @@ pub keeps_close : (w : Direction) → Invariant w → Invariant (record w { rece
 keeps_close w h = record {
   planned = h.planned;
   sending = h.sending;
+  ascending = h.ascending;
   datas = h.datas;
   taken = h.taken;
   accounted = h.accounted;
@@ -368,6 +378,7 @@ keeps_end w s h = record {
         closed = g.closed;
         given_up = g.given_up;
       };
+  ascending = h.ascending;
   datas = h.datas;
   taken = h.taken;
   accounted = h.accounted;
@@ -389,8 +400,8 @@ keeps_end w s h = record {
         (λ (ne : t ≡ s → ⊥). sym (off_put w.over s t true ne) ∙ v)
         (cases_eq t s)
 
-pub keeps_restart : (w : Direction) (s : ℕ) → w.over s ≡ true → Invariant w → Invariant (record w { sender = record w.sender { ssn = put w.sender.ssn s 0 } })
-keeps_restart w s over h = record {
+pub keeps_restart : (w : Direction) (s : ℕ) → can_restart w s ≡ true → Invariant w → Invariant (record w { sender = record w.sender { ssn = put w.sender.ssn s 0 } })
+keeps_restart w s can h = record {
   planned = h.planned;
   sending =
       let g = h.sending in
@@ -403,6 +414,7 @@ keeps_restart w s over h = record {
         closed = g.closed;
         given_up = g.given_up;
       };
+  ascending = ascending_restart w.sender.plan w.sender.current w.sender.ssn w.sender.point s rest.0 rest.1 h.ascending;
   datas = h.datas;
   taken = h.taken;
   accounted = h.accounted;
@@ -418,5 +430,11 @@ keeps_restart w s over h = record {
       (sym (same t v)) (h.streams t v);
 }
   where
+    parts : (w.over s ≡ true) × ((none_of s (drop w.sender.point w.sender.plan.places) && none_goes_on s w.sender.current) ≡ true)
+    parts = and_parts _ _ can
+
+    rest : (none_of s (drop w.sender.point w.sender.plan.places) ≡ true) × (none_goes_on s w.sender.current ≡ true)
+    rest = and_parts _ _ parts.1
+
     same : (t : ℕ) → w.over t ≡ false → put w.sender.ssn s 0 t ≡ w.sender.ssn t
-    same t v = off_put w.sender.ssn s t 0 (λ e. true≢false (sym over ∙ ap w.over (sym e) ∙ v))
+    same t v = off_put w.sender.ssn s t 0 (λ e. true≢false (sym parts.0 ∙ ap w.over (sym e) ∙ v))

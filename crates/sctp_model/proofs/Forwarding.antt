@@ -5,7 +5,7 @@ use Rattle.std.proofs.lemmas.Bool.{cases_Bool, cases_lt, and_parts, and_from, eq
 use Rattle.sctp_model.specs.Messages.{Place, Plan, IsAt, no_place, place_at, message_of, is_last}
 use Rattle.sctp_model.specs.Packets.{Forward}
 use Rattle.sctp_model.specs.Machine.{Sender, is_gone, gone_among, gone_front, is_ordered_of, last_ssn, forward_of}
-use Rattle.sctp_model.specs.Invariants.{IsPlanned, IsSending, IsForward, IsReported, gone_at}
+use Rattle.sctp_model.specs.Invariants.{IsPlanned, IsSending, IsAscending, IsForward, IsReported, gone_at}
 use Rattle.sctp_model.proofs.Growth.{IsExtended, last_kept, at_kept, at_before}
 
 -- A message's offsets are consecutive.
@@ -176,10 +176,10 @@ found_some p s (y ∷ ys) found zero l h =
 found_some p s (y ∷ ys) found (suc j) l h = found_some p s ys (cond (is_ordered_of p s y) (Some y.ssn) found) j (omega arith) h
 
 pub forward_made : (x : Sender) (over : ℕ → Bool) → IsPlanned x.plan over
-    → IsSending x.plan x.current x.next x.ssn x.begun x.gone over
+    → IsSending x.plan x.current x.next x.ssn x.begun x.gone over → IsAscending x.plan x.current x.ssn x.point
     → ((o : ℕ) → o < x.point → x.acknowledged o ≡ true) → length x.plan.places < x.point + 16384 → 0 < length (gone_front x)
     → IsForward x.plan x.gone over x.acknowledged x.point (forward_of x over)
-forward_made x over h g below flight some = record {
+forward_made x over h g rising below flight some = record {
   behind = omega arith;
   ahead = omega arith;
   known = known;
@@ -190,6 +190,7 @@ forward_made x over h g below flight some = record {
   complete = λ s o a from l. found_some x.plan s (gone_front x) None (o - x.point) (omega arith)
       (subst (λ z. is_ordered_of x.plan s z ≡ true) (sym (among_same x rest (o - x.point) (omega arith) ∙ place o from)) (and_from _ _ (eq-eqb _ _ a.stream) a.kind));
   reported = λ s m e. reported s m (last_of x.plan s m (gone_front x) None e);
+  greatest_given_up = λ s m e o a from l. greatest_given_up s m (reported s m (last_of x.plan s m (gone_front x) None e)) o a from l;
   greatest = λ s m e v o a l. greatest s m v (reported s m (last_of x.plan s m (gone_front x) None e)) o a l;
   all = λ s m e v o a l. all s m v (reported s m (last_of x.plan s m (gone_front x) None e)) o a l;
 }
@@ -275,6 +276,10 @@ forward_made x over h g below flight some = record {
             (λ (b : o ≤ offset). b)
             (cases_lt offset o)
 
+    greatest_given_up : (s m : ℕ) → IsReported x.plan x.gone s x.point (x.point + length (gone_front x)) m
+        → (o : ℕ) → IsAt x.plan s true o → x.point ≤ o → o < x.point + length (gone_front x) → (place_at x.plan o).ssn ≤ m
+    greatest_given_up s m r o a from l = subst (λ z. (place_at x.plan o).ssn ≤ z) (sym r.is) (rising.ascends s o r.offset from (r.last o a l) a r.at)
+
     greatest : (s m : ℕ) → over s ≡ false → IsReported x.plan x.gone s x.point (x.point + length (gone_front x)) m
         → (o : ℕ) → IsAt x.plan s true o → o < x.point + length (gone_front x) → (place_at x.plan o).ssn ≤ m
     greatest s m v r o a l = subst (λ z. (place_at x.plan o).ssn ≤ z) (sym r.is) (h.pairs s v o r.offset (r.last o a l) a r.at).ssn
@@ -332,6 +337,9 @@ forward_grows p r gone gone' over acked now f e more new h = record {
         is = q.is ∙ ap (λ z. z.ssn) (sym (e.places q.offset at.known));
         last = λ o a l. q.last o (at_before p r e s o true (let b = h.known in omega arith) a) l;
       };
+  greatest_given_up = λ s m k o a from l.
+      let lo : o < length p.places = (let b = h.known in omega arith) in
+      subst (λ z. z.ssn ≤ m) (sym (e.places o lo)) (h.greatest_given_up s m k o (at_before p r e s o true lo a) from l);
   greatest = λ s m k v o a l.
       let lo : o < length p.places = (let b = h.known in omega arith) in
       subst (λ z. z.ssn ≤ m) (sym (e.places o lo)) (h.greatest s m k v o (at_before p r e s o true lo a) l);
@@ -363,6 +371,7 @@ forward_later p gone over over' acked acked' now now' f more on spans h = record
   ends = h.ends;
   complete = h.complete;
   reported = h.reported;
+  greatest_given_up = h.greatest_given_up;
   greatest = h.greatest;
   all = λ s m k v. h.all s m k (spans s v);
 }

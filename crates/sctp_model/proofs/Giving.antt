@@ -6,10 +6,11 @@ use Rattle.sctp_model.specs.Messages.{Place, Plan, IsAt, place_at, message_at, m
 use Rattle.sctp_model.specs.Packets.{Data, data_at}
 use Rattle.sctp_model.specs.Machine.{Direction, put, put_2, is_unsent, is_due, can_begin, first_place, following, left_after, with_place, sent, counted, next_data, begin, marked, unacknowledged}
 use Rattle.sctp_model.specs.Safe.{read_end, read_ssn}
-use Rattle.sctp_model.specs.Invariants.{Invariant, Follows, IsEarlier, IsGoing, IsSending, IsPiece, gone_at, released_bytes}
+use Rattle.sctp_model.specs.Invariants.{Invariant, Follows, IsEarlier, IsGoing, IsSending, IsAscending, IsPiece, gone_at, released_bytes}
 use Rattle.sctp_model.proofs.Lists.{all_weaker, all_push}
 use Rattle.sctp_model.proofs.Ranks.{rank_yes}
 use Rattle.sctp_model.proofs.Growth.{IsExtended, at_put, off_put, place_extended, piece_kept}
+use Rattle.sctp_model.proofs.Ascending.{ascending_placed, counted_more, counted_past}
 use Rattle.sctp_model.proofs.Placing.{IsNext, planned_next, length_placed, place_new, placed_cases}
 use Rattle.sctp_model.proofs.Sending.{next_first, next_following, sending_placed}
 use Rattle.sctp_model.proofs.Writing.{grow_keeps, freed_same, freed_now, gone_more, gone_cases}
@@ -158,6 +159,12 @@ module _ (w : Direction) (s i number : ℕ) (numbered : (message_at w.sender.pla
       })
       (λ ne. absurd (ne refl)))
       going_now (λ e. inl (left_none w.sender.plan (first_place s i number) e)))
+      (ascending_placed w.sender.plan (first_place s i number) w.sender.current (left_after w.sender.plan (first_place s i number))
+      w.sender.ssn (put w.sender.ssn s (suc (w.sender.ssn s))) w.sender.point h.planned.known h.ascending (counted_more w.sender.ssn s)
+      (λ k. counted_past w.sender.ssn s number (numbered kind))
+      (λ k o from a. let b = h.ascending.below s o from a in let u = numbered kind in omega arith)
+      (λ z e k. subst (λ x. x.ssn < put w.sender.ssn s (suc (w.sender.ssn s)) x.stream) (sym (left_some w.sender.plan (first_place s i number) z e).1)
+      (counted_past w.sender.ssn s number (numbered kind))))
       datas_now tails_now later_now (freed_same w (with_place w.sender.plan (first_place s i number)) h longer)
       (λ t v st o l a.
       let n = new_is w.sender.plan (first_place s i number) t o l a in
@@ -241,6 +248,11 @@ module _ (w : Direction) (s i number : ℕ) (numbered : (message_at w.sender.pla
       (λ t v o a. earlier_placed w.sender.plan (first_place s i number) t (w.sender.next t) (w.sender.ssn t) (place_at w.sender.plan o) o (h.sending.earlier t v o a))
       (λ v k. absurd (true≢false (sym k ∙ kind)))
       going_now (λ e. inl (left_none w.sender.plan (first_place s i number) e)))
+      (ascending_placed w.sender.plan (first_place s i number) w.sender.current (left_after w.sender.plan (first_place s i number))
+      w.sender.ssn w.sender.ssn w.sender.point h.planned.known h.ascending (λ t. omega arith)
+      (λ k. absurd (true≢false (sym k ∙ kind)))
+      (λ k o from a. absurd (true≢false (sym k ∙ kind)))
+      (λ z e k. absurd (true≢false (sym k ∙ ap (λ x. (message_of w.sender.plan x).ordered) (left_some w.sender.plan (first_place s i number) z e).1 ∙ kind))))
       datas_now tails_now later_now (freed_same w (with_place w.sender.plan (first_place s i number)) h longer)
       (λ t v st o l a. absurd (true≢false (sym (new_is w.sender.plan (first_place s i number) t o l a).3 ∙ kind)))
       (λ t v st.
@@ -281,7 +293,9 @@ going_keeps : (w : Direction) (c y : Place) (current' : Option Place) (gone' : �
 going_keeps w c y current' gone' rl ds is es em ep en more tail freed datas sending next h =
     grow_keeps w (with_place p y) current' w.sender.next w.sender.ssn w.sender.begun gone' rl ds h longer more
     (planned_next p w.over y h.planned (next_following p w.over y g.last h.planned g.is follows g.sent g.more))
-    sending datas
+    sending
+    ascending
+    datas
     (tails_placed p w.sender.gone gone' y longer more h.tails tail)
     (λ t v o l a x ax given.
     let n = new_is p y t o l a in
@@ -355,6 +369,25 @@ going_keeps w c y current' gone' rl ds is es em ep en more tail freed datas send
       kind = ap (λ z. (message_at w.sender.plan z (place_at w.sender.plan g.last).message).ordered) (sym follows.stream)
           ∙ ap (λ z. (message_at w.sender.plan y.stream z).ordered) (sym follows.message) ∙ k;
     }
+
+    ascending : IsAscending (with_place w.sender.plan y) current' w.sender.ssn w.sender.point
+    ascending = ascending_placed w.sender.plan y w.sender.current current' w.sender.ssn w.sender.ssn w.sender.point h.planned.known h.ascending (λ s. omega arith)
+        (λ k.
+        let b = h.ascending.going c is (sym (ap (λ z. z.ordered) same) ∙ k) in
+        let u = ap w.sender.ssn es in
+        omega arith)
+        (λ k o from a.
+        let m = last_at y.stream refl k in
+        let b = h.ascending.ascends y.stream o g.last from (let n = g.is in let l = a.known in omega arith) a m in
+        let u = follows.ssn in
+        omega arith)
+        (λ z e k.
+        let x = next z e in
+        let b = h.ascending.going c is
+        (ap (λ u. (message_at w.sender.plan u c.message).ordered) (sym x.0) ∙ ap (λ u. (message_at w.sender.plan z.stream u).ordered) (sym x.1) ∙ k) in
+        let u = ap w.sender.ssn x.0 in
+        let v = x.2 in
+        omega arith)
 
 -- the sender after the next place of the message that goes on
 sending_following : (w : Direction) (c y : Place) (current' : Option Place) → w.sender.current ≡ Some c

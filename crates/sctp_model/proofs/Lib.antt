@@ -1,4 +1,5 @@
 pub mod Arriving
+pub mod Ascending
 pub mod Basics
 pub mod Coming
 pub mod Drained

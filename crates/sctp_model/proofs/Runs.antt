@@ -48,4 +48,4 @@ closed = refl
 
 pub anew : StreamBeginsAnew
 unfolding happens
-anew = (refl, refl, refl, refl, refl, refl, refl)
+anew = (refl, refl, refl, refl, refl, refl, refl, refl)

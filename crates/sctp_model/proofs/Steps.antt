@@ -133,6 +133,11 @@ fresh_holds size some = record {
     closed = λ e o l. absurd (omega arith);
     given_up = λ s i g. absurd (false≢true g);
   };
+  ascending = record {
+    ascends = λ s o q from le a. absurd (let k = a.known in omega arith);
+    below = λ s o from a. absurd (let k = a.known in omega arith);
+    going = λ y e. absurd (none_some y e);
+  };
   datas = tt;
   taken = λ o m. absurd (false≢true m);
   accounted = λ o l. absurd (omega arith);

@@ -7,10 +7,11 @@ use Rattle.sctp_model.specs.Messages.{Message, Place, Plan, Policy, IsAt, no_mes
 use Rattle.sctp_model.specs.Packets.{Data, mem}
 use Rattle.sctp_model.specs.Machine.{Direction, put, put_2, live, point, with_message, written, is_empty, has_message, can_pass_over, passed_over, can_drop, dropped}
 use Rattle.sctp_model.specs.Safe.{read_end, read_ssn}
-use Rattle.sctp_model.specs.Invariants.{Invariant, IsPlanned, IsEarlier, IsGoing, IsSending, IsPiece, IsStream, NoneGone, gone_at, released_bytes}
+use Rattle.sctp_model.specs.Invariants.{Invariant, IsPlanned, IsEarlier, IsGoing, IsSending, IsAscending, IsPiece, IsStream, NoneGone, gone_at, released_bytes}
 use Rattle.sctp_model.proofs.Lists.{all_weaker}
 use Rattle.sctp_model.proofs.Ranks.{rank_no, rank_rises}
 use Rattle.sctp_model.proofs.Growth.{IsExtended, at_put, off_put, message_extended, message_kept, last_kept, at_before, rank_kept, piece_kept, pair_kept}
+use Rattle.sctp_model.proofs.Ascending.{ascending_message}
 use Rattle.sctp_model.proofs.Growing.{IsNew, IsCounted, stream_grows, stream_gone}
 use Rattle.sctp_model.proofs.Forwarding.{forward_grows}
 use Rattle.sctp_model.proofs.Released.{bytes_none, released_grown, released_given, released_aside}
@@ -41,7 +42,7 @@ freed_now w r s i n h e is t = ⊎_elim
 
 pub grow_keeps : (w : Direction) (r : Plan) (c : Option Place) (nx sn : ℕ → ℕ) (bg gone' : ℕ → ℕ → Bool) (rl : ℕ → ℕ) (ds : List Data)
     → Invariant w → IsExtended w.sender.plan r → ((t i : ℕ) → w.sender.gone t i ≡ true → gone' t i ≡ true)
-    → IsPlanned r w.over → IsSending r c nx sn bg gone' w.over → AllByRecursion (IsPiece r) ds
+    → IsPlanned r w.over → IsSending r c nx sn bg gone' w.over → IsAscending r c sn w.sender.point → AllByRecursion (IsPiece r) ds
     → ((o : ℕ) → o < length r.places → (place_at r o).marker ≡ true → gone_at r gone' o ≡ true)
     → ((s : ℕ) → w.over s ≡ false → (o : ℕ) → length w.sender.plan.places ≤ o → IsAt r s true o → (x : ℕ) → IsAt w.sender.plan s true x
     → gone_at w.sender.plan w.sender.gone x ≡ true → (place_at w.sender.plan x).ssn < (place_at r o).ssn)
@@ -54,9 +55,10 @@ pub grow_keeps : (w : Direction) (r : Plan) (c : Option Place) (nx sn : ℕ → 
       sender = record w.sender { plan = r; current = c; next = nx; ssn = sn; begun = bg; gone = gone'; released = rl };
       datas = ds;
     })
-grow_keeps w r c nx sn bg gone' rl ds h e more planned sending datas tails later freed new counts = record {
+grow_keeps w r c nx sn bg gone' rl ds h e more planned sending ascending datas tails later freed new counts = record {
   planned = planned;
   sending = sending;
+  ascending = ascending;
   datas = datas;
   taken = λ o m.
       let t = h.taken o m in
@@ -194,6 +196,8 @@ keeps_write w s m full h = grow_keeps w q w.sender.current w.sender.next w.sende
     (λ t i g. g)
     (planned_message p w.over s (as_kept m) (subst (λ z. 0 < length z) (sym (kept_bytes m)) (omega (arith, apart))) h.planned)
     (sending_message p w.sender.current w.sender.next w.sender.ssn w.sender.begun w.sender.gone w.over s (as_kept m) h.planned h.sending)
+    (ascending_message p s (as_kept m) w.sender.current w.sender.ssn w.sender.point h.planned.known
+    (λ y c. going_known p w.over w.sender.gone y h.planned (h.sending.going y c)) h.ascending)
     (all_weaker _ _ _ (λ d. piece_kept p q e d) h.datas)
     h.tails
     (λ t v o l a. no_new p q t o refl l a)
@@ -254,6 +258,7 @@ keeps_pass_over w s can h = grow_keeps w p w.sender.current (put w.sender.next s
       closed = h.sending.closed;
       given_up = h.sending.given_up;
     })
+    h.ascending
     h.datas
     h.tails
     (λ t v o l a. no_new p p t o refl l a)
@@ -356,6 +361,7 @@ given_keeps w s i n known unreliable apart freed h = grow_keeps w p w.sender.cur
     (gone_more w.sender.gone s i)
     h.planned
     (sending_gone p w.sender.current w.sender.next w.sender.ssn w.sender.begun w.sender.gone w.over s i known unreliable apart h.sending)
+    h.ascending
     h.datas
     (λ o l m. gone_more w.sender.gone s i _ _ (h.tails o l m))
     (λ t v o l a. no_new p p t o refl l a)

@@ -73,6 +73,13 @@ pub record IsSending (p : Plan) (current : Option Place) (next ssn : ℕ → ℕ
   -- nothing reliable is given up
   pub given_up : (s i : ℕ) → gone s i ≡ true → (i < length (p.accepted s)) × (is_reliable (message_at p s i).policy ≡ false)
 
+-- The sequence numbers, before they wrap, of a stream's ordered messages from the acknowledged point on, also past its span: they
+-- ascend with the offsets, and each is below the stream's next number. So is that of the message going on.
+pub record IsAscending (p : Plan) (current : Option Place) (ssn : ℕ → ℕ) (point : ℕ) : Type 0 where
+  pub ascends : (s o q : ℕ) → point ≤ o → o ≤ q → IsAt p s true o → IsAt p s true q → (place_at p o).ssn ≤ (place_at p q).ssn
+  pub below : (s o : ℕ) → point ≤ o → IsAt p s true o → (place_at p o).ssn < ssn s
+  pub going : (y : Place) → current ≡ Some y → (message_of p y).ordered ≡ true → y.ssn < ssn y.stream
+
 abbrev pub gone_at : Plan → (ℕ → ℕ → Bool) → ℕ → Bool
 gone_at p gone o = gone (place_at p o).stream (place_at p o).message
 
@@ -112,8 +119,9 @@ pub record IsReported (p : Plan) (gone : ℕ → ℕ → Bool) (s start point m 
 
 -- A FORWARD TSN: each offset below its point is acknowledged (those below `start`) or belongs to an abandoned
 -- message (those from there on), its point is one past the last offset of an abandoned message, and for each stream with an ordered
--- message from `start` to the point it reports the last one's sequence number. If the stream's span wasn't over then, no ordered
--- message below the point has a greater one (`greatest`), and as long as it isn't over each one past the point has (`all`).
+-- message from `start` to the point it reports the last one's sequence number (`reported`). That is the greatest of these, whether
+-- or not the stream's span was over (`greatest_given_up`). If it wasn't over then, no ordered message below `start` has a greater
+-- one either (`greatest`), and as long as it isn't over each one past the point has (`all`).
 -- `acked` and `now` are what is acknowledged now, and the acknowledged point.
 pub record IsForward (p : Plan) (gone : ℕ → ℕ → Bool) (over : ℕ → Bool) (acked : ℕ → Bool) (now : ℕ) (f : Forward) : Type 0 where
   pub behind : f.start ≤ now
@@ -125,6 +133,7 @@ pub record IsForward (p : Plan) (gone : ℕ → ℕ → Bool) (over : ℕ → Bo
   pub ends : (o : ℕ) → f.point ≡ suc o → (is_last p (place_at p o) ≡ true) ⊎ ((place_at p o).marker ≡ true)
   pub complete : (s o : ℕ) → IsAt p s true o → f.start ≤ o → o < f.point → (m : ℕ) × (f.numbers s ≡ Some m)
   pub reported : (s m : ℕ) → f.numbers s ≡ Some m → IsReported p gone s f.start f.point m
+  pub greatest_given_up : (s m : ℕ) → f.numbers s ≡ Some m → (o : ℕ) → IsAt p s true o → f.start ≤ o → o < f.point → (place_at p o).ssn ≤ m
   pub greatest : (s m : ℕ) → f.numbers s ≡ Some m → f.past s ≡ false → (o : ℕ) → IsAt p s true o → o < f.point → (place_at p o).ssn ≤ m
   pub all : (s m : ℕ) → f.numbers s ≡ Some m → over s ≡ false → (o : ℕ) → IsAt p s true o → (place_at p o).ssn ≤ m → o < f.point
 
@@ -214,6 +223,7 @@ pub record IsStream (p : Plan) (gone : ℕ → ℕ → Bool) (current : Option P
 pub record Invariant (w : Direction) : Type 0 where
   pub planned : IsPlanned w.sender.plan w.over
   pub sending : IsSending w.sender.plan w.sender.current w.sender.next w.sender.ssn w.sender.begun w.sender.gone w.over
+  pub ascending : IsAscending w.sender.plan w.sender.current w.sender.ssn w.sender.point
   -- every DATA packet ever sent is its offset's piece
   pub datas : AllByRecursion (IsPiece w.sender.plan) w.datas
   pub taken : (o : ℕ) → mem o w.receiver.taken ≡ true → (o < length w.sender.plan.places) × ((place_at w.sender.plan o).marker ≡ false)

@@ -215,8 +215,8 @@ gone_among x (y ∷ ys) = if is_gone x y then y ∷ gone_among x ys else []
 abbrev pub gone_front : Sender → List Place
 gone_front x = gone_among x (drop x.point x.plan.places)
 
--- the sequence number, before it wraps, of the last ordered message of stream s among these; within the stream's span that is the
--- greatest
+-- the sequence number, before it wraps, of the last ordered message of stream s among these; no other of these has a greater one,
+-- since from the acknowledged point on a stream's numbers ascend
 abbrev pub is_ordered_of : Plan → ℕ → Place → Bool
 is_ordered_of p s y = (y.stream == s) && (message_of p y).ordered
 
@@ -306,6 +306,22 @@ abbrev pub opened : Option Queue → Option Queue
 opened None = Some empty_queue
 opened (Some q) = Some q
 
+-- none of these places is of stream s
+abbrev pub none_of : ℕ → List Place → Bool
+none_of s [] = true
+none_of s (y ∷ ys) = not (y.stream == s) && none_of s ys
+
+-- no message of stream s goes on
+abbrev pub none_goes_on : ℕ → Option Place → Bool
+none_goes_on s None = true
+none_goes_on s (Some y) = not (y.stream == s)
+
+-- A stream's sequence numbers begin again only when the request to reset it ended in success (RFC 6525 section 5.1.2). That request
+-- first goes out when none of the stream's DATA is queued or not cumulatively acknowledged, and until it ended no write on the
+-- stream is accepted. So by then each of its offsets lies below the acknowledged point, and no message of it goes on.
+abbrev pub can_restart : Direction → ℕ → Bool
+can_restart w s = w.over s && (none_of s (drop w.sender.point w.sender.plan.places) && none_goes_on s w.sender.current)
+
 -- What may happen. An event that can't happen where it stands changes nothing.
 pub data Event : Type 0 where
   Write : ℕ → Message → Event  -- a write on a stream is accepted
@@ -326,7 +342,7 @@ pub data Event : Type 0 where
   Read : ℕ → Event
   Close : Event  -- the receiver closes or fails
   End : ℕ → Event  -- the stream's span ends
-  Restart : ℕ → Event  -- past its span: the stream's sequence numbers begin again
+  Restart : ℕ → Event  -- past its span, with nothing of it unacknowledged: the stream's sequence numbers begin again
   Replace : ℕ → Option Queue → Event  -- past its span: whatever becomes of the stream at the receiver
 
 unfoldable pub happens : Direction → Event → Direction
@@ -346,7 +362,7 @@ happens w (Open s) = record w { receiver = record w.receiver { queues = put w.re
 happens w (Read s) = read w s (w.receiver.queues s)
 happens w Close = record w { receiver = record w.receiver { is_open = false } }
 happens w (End s) = record w { over = put w.over s true }
-happens w (Restart s) = if w.over s then record w { sender = record w.sender { ssn = put w.sender.ssn s 0 } } else w
+happens w (Restart s) = if can_restart w s then record w { sender = record w.sender { ssn = put w.sender.ssn s 0 } } else w
 happens w (Replace s q) = if w.over s then record w { receiver = record w.receiver { queues = put w.receiver.queues s q } } else w
 
 abbrev pub run : List Event → Direction → Direction

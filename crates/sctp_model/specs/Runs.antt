@@ -168,9 +168,16 @@ too_early =
     Event.Write 0 (text true Policy.Reliable (1 ∷ [])) ∷ Event.Begin 0 0 0 ∷ Event.DataComes 0 ∷ Event.Read 0 ∷ Event.Restart 0 ∷ Event.Replace 0 None
     ∷ []
 
--- Then the span ends, the numbers begin again, and the receiver retires the stream;
+-- Then the span ends. As long as the message isn't acknowledged the numbers can't begin again either.
+abbrev pub not_acknowledged : List Event
+not_acknowledged = Event.End 0 ∷ Event.Restart 0 ∷ []
+
+-- It is acknowledged, the numbers begin again, and the receiver retires the stream;
 abbrev pub span_over : List Event
-span_over = Event.End 0 ∷ Event.Restart 0 ∷ Event.Replace 0 None ∷ []
+span_over = Event.SackMade ∷ Event.SackComes 0 ∷ Event.Restart 0 ∷ Event.Replace 0 None ∷ []
+
+abbrev pub retired : Direction
+retired = run span_over (run not_acknowledged (run too_early (fresh 2)))
 
 -- its application opens it anew, and the second message comes with the number 0 and is read.
 abbrev pub opened_anew : List Event
@@ -179,7 +186,6 @@ opened_anew = Event.Open 0 ∷ Event.Write 0 (text true Policy.Reliable (2 ∷ [
 abbrev pub StreamBeginsAnew : Type 0
 StreamBeginsAnew =
     ((run too_early (fresh 2)).sender.ssn 0 ≡ 1) × (cursor_of (run too_early (fresh 2)) 0 ≡ 1)
-    × ((run span_over (run too_early (fresh 2))).over 0 ≡ true) × ((run span_over (run too_early (fresh 2))).sender.ssn 0 ≡ 0)
-    × ((run span_over (run too_early (fresh 2))).receiver.queues 0 ≡ None)
-    × (letters_of (run opened_anew (run span_over (run too_early (fresh 2)))) 0 ≡ said (1 ∷ []) ∷ said (2 ∷ []) ∷ [])
-    × (cursor_of (run opened_anew (run span_over (run too_early (fresh 2)))) 0 ≡ 1)
+    × ((run not_acknowledged (run too_early (fresh 2))).over 0 ≡ true) × ((run not_acknowledged (run too_early (fresh 2))).sender.ssn 0 ≡ 1)
+    × (retired.sender.ssn 0 ≡ 0) × (retired.receiver.queues 0 ≡ None)
+    × (letters_of (run opened_anew retired) 0 ≡ said (1 ∷ []) ∷ said (2 ∷ []) ∷ []) × (cursor_of (run opened_anew retired) 0 ≡ 1)
