@@ -33,8 +33,8 @@ some_within n q r m e f = rw (e, f) refl
 
 gives : (x : Reassembly × Option Message) (q : Reassembly) → taken q ≡ x → TakesOne q x → (x.1 ≡ slice_get (ready q) 0) × (ready x.0 ≡ drop 1 (ready q))
 gives (r, None) q e same =
-    let none : ready q ≡ [] = none_within (messages_held q) q (rw (← same) e) in
-    (rw none refl, rw (same, none) refl)
+    let none : ready q ≡ [] = none_within (messages_held q) q (e ∙ ap (λ (z : Reassembly). (z, None)) same) in
+    (rw none refl, ap ready same ∙ none ∙ ap (λ (z : List Message). drop 1 z) (sym none))
 gives (r, Some m) q e fewer =
     let all : ready q ≡ m ∷ ready r = some_within (messages_held r) q r m fewer e in
     (rw all refl, rw all refl)

@@ -118,11 +118,17 @@ impl ReassemblyQueue {
 
     /// Takes out the next message: complete unordered ones first, in the order of their completion, then the first ordered one
     /// where it is complete and not past the SSN that is read next. One with that SSN moves it by one.
-    #[tactic(auto, using(crate::proofs::Ready::read_gives_the_first, crate::proofs::Ready::read_leaves_the_others))]
+    #[tactic(auto, using(crate::proofs::Ready::read_gives_the_first))]
     pub fn read(&mut self) -> Option<Chunks>
         ensures taken { taken self.old ≡ (self.new, result) }
         ensures first { result ≡ slice_get (ready self.old) 0 }
         ensures others { ready self.new ≡ drop 1 (ready self.old) }
+    {
+        self.take_next()
+    }
+
+    fn take_next(&mut self) -> Option<Chunks>
+        ensures { taken self.old ≡ (self.new, result) }
     {
         if let Some(message) = self.complete.pop_front() {
             self.waiting = self.waiting.saturating_sub(message.len() as u64);
