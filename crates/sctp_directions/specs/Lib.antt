@@ -1,0 +1,4 @@
+pub mod Plain
+pub mod Said
+pub mod Outgoing
+pub mod Incoming

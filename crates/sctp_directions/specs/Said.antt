@@ -1,0 +1,43 @@
+-- What the chunks of a packet say, in offsets of the two directions (RFC 4960 sections 3.3.1 and 3.3.4).
+use Rattle.std.specs.Prelude.{◌≡◌, ℕ, not, slice_get, Option, Some, None, ⊤}
+use Rattle.std.specs.List.{AllByRecursion}
+use Rattle.sctp_wire_types.specs.declared.chunk.Chunk.{Chunk}
+use Rattle.sctp_wire_types.specs.declared.chunk.Chunk.TheVariants as chunks
+use Rattle.sctp_wire_types.specs.declared.chunk.ChunkPayloadData.{ChunkPayloadData}
+use Rattle.sctp_wire_types.specs.Ids.{number_of}
+use Rattle.sctp_wire.specs.declared.packet.Packet.{Packet}
+use Rattle.sctp_model.specs.Packets.{Data, Sack}
+use Rattle.sctp_model.specs.Serial.{tsn}
+use Rattle.sctp_model.specs.Machine.{Direction}
+use Rattle.sctp_assoc.specs.Acts.{tsn_before}
+
+-- A DATA chunk is this DATA of a direction with this initial TSN.
+pub record IsSaid (initial : ℕ) (c : ChunkPayloadData) (d : Data) : Type 0 where
+  pub tsn : c.tsn ≡ tsn initial d.offset
+  pub stream : c.stream_identifier ≡ d.stream
+  pub ssn : c.stream_sequence_number ≡ d.ssn
+  pub ordered : c.unordered ≡ not d.ordered
+  pub first : c.beginning_fragment ≡ d.first
+  pub last : c.ending_fragment ≡ d.last
+  pub payload_type : number_of c.payload_type ≡ d.payload_type
+  pub bytes : c.user_data ≡ d.bytes
+
+-- it is DATA that the direction ever gave out
+abbrev pub IsGiven : ℕ → Direction → ChunkPayloadData → Type 0
+IsGiven initial w c = (k : ℕ) × (d : Data) × (slice_get w.datas k ≡ Some d) × IsSaid initial c d
+
+-- a SACK with this point is one that the direction's receiver ever made
+abbrev pub IsMade : ℕ → Direction → ℕ → Type 0
+IsMade initial w t = (k : ℕ) × (x : Sack) × (slice_get w.sacks k ≡ Some x) × (t ≡ tsn_before (tsn initial x.point))
+
+-- a chunk that a side gives out: DATA of its own direction, or a SACK for the one that comes to it; own and peer are their
+-- initial TSNs
+abbrev pub Says : ℕ → ℕ → Direction → Direction → Chunk → Type 0
+Says own peer out coming (chunks.Data c) = IsGiven own out c
+Says own peer out coming (chunks.SelectiveAck k) = IsMade peer coming k.cumulative_tsn_ack
+Says own peer out coming chunk = ⊥
+
+-- what a datagram spells, if it spells a packet
+abbrev pub SaysAll : ℕ → ℕ → Direction → Direction → Option Packet → Type 0
+SaysAll own peer out coming None = ⊤
+SaysAll own peer out coming (Some packet) = AllByRecursion (Says own peer out coming) packet.chunks

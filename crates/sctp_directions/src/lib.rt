@@ -1,0 +1,2 @@
+//! What one association is to the two directions between which it stands: its own DATA, and the DATA that comes to it.
+#![tactic(auto)]
