@@ -1,21 +1,21 @@
 -- What leaves an association where it stands as a receiver: its reports, its acts as a sender, and what the other side's sender does.
-use Rattle.std.proofs.Common.{◌≡◌, refl, sym, ap, ◌∙◌, subst, subst₂, ⊎_elim, ℕ, zero, suc, ◌+◌, ◌<◌, ◌≤◌, arith, Bool, true, false, cond, eqb, List, [], ◌∷◌, ◌++◌, length, Option, Some, None}
+use Rattle.std.proofs.Common.{◌≡◌, refl, sym, ap, ◌∙◌, subst, subst₂, ⊎_elim, ℕ, zero, suc, ◌+◌, ◌≤◌, arith, Bool, true, false, cond, eqb, List, [], ◌∷◌, ◌++◌, length, Option, Some, None}
 use Rattle.std.specs.Prelude.{⊤, slice_get}
 use Rattle.std.proofs.lemmas.Bool.{cases_Bool, cond-true, cond-false, cond_both, eqb-true}
 use Rattle.sctp_outbound_queue.specs.declared.message.InFlight.{InFlight}
 use Rattle.sctp_receive_queues.specs.Reassembly.{Group}
-use Rattle.sctp_queues.specs.Stream.{Stream, accepted_by, released_from}
+use Rattle.sctp_queues.specs.Stream.{Stream, accepted_by}
 use Rattle.sctp_queues.specs.Streams.{StreamMap, change_at, changed_stream, is_generation, stream_at}
 use Rattle.sctp_outbound.specs.Sender.{streams_after}
 use Rattle.sctp_model.specs.Messages.{Message, Place, Plan, as_kept, message_at, place_at}
 use Rattle.sctp_model.specs.Packets.{Data, Sack, data_at}
 use Rattle.sctp_model.specs.Reassembly.{Queue}
-use Rattle.sctp_model.specs.Machine.{Direction, Event, Sender, acknowledged_by, begin, begin_if, counted, first_place, happens, next_data, number_for, point, sack_comes, sent, with_message, with_place, written}
+use Rattle.sctp_model.specs.Machine.{Direction, Event, Sender, acknowledged_by, begin, begin_if, counted, first_place, happens, next_data, number_for, point, sack_comes, sent, written}
 use Rattle.sctp_model.specs.Safe.{read_end}
 use Rattle.sctp_model.specs.Invariants.{Invariant, IsGot}
 use Rattle.sctp_model.proofs.Growth.{IsExtended, message_extended, place_extended, read_end_kept}
 use Rattle.sctp_model.proofs.Lists.{all_front}
-use Rattle.sctp_assoc.specs.Acts.{Act, Parts, done, with_written, without_first_piece, without_first_pieces}
+use Rattle.sctp_assoc.specs.Acts.{Act, Parts, done, with_written, without_first_piece}
 use Rattle.sctp_directions.specs.Plain.{IsPlain, count_below}
 use Rattle.sctp_directions.specs.Incoming.{AreHeldAs, FitsIncoming, IsQueue, IsQueueAt}
 use Rattle.sctp_directions.proofs.Streams.{at_with}
@@ -80,7 +80,7 @@ fits_by a b w taken passed at same fits = record {
       (stream_at a.streams n) (stream_at b.streams n) (w.receiver.queues n) (same n) (fits.queues n);
 }
 
--- a write leaves what came
+-- a write on a stream leaves what came as it is
 pub wrote_fits : (a : Parts) (id : ℕ) (bytes : List ℕ) (w : Direction) → FitsIncoming a w → FitsIncoming (done (Act.Wrote id bytes) a) w
 wrote_fits a id bytes w fits = go (stream_at a.streams id)
   where
@@ -89,15 +89,15 @@ wrote_fits a id bytes w fits = go (stream_at a.streams id)
     go (Some s) = fits_by a (with_written (Some s) a id bytes) w refl refl refl
         (changed_same (λ t. accepted_by t s.default_payload_type (length bytes)) (λ t. refl) a.streams id) fits
 
--- so does DATA that goes out
+-- DATA that goes out leaves what came as it is
 pub sent_fits : (a : Parts) (now : ℕ) (w : Direction) → FitsIncoming a w → FitsIncoming (done (Act.Sent now) a) w
 sent_fits a now w fits = fits_by a (done (Act.Sent now) a) w refl refl refl (λ n. same_held (stream_at a.streams n)) fits
 
--- and DATA that goes out again
+-- DATA that goes out again leaves what came as it is
 pub sent_again_fits : (a : Parts) (place : ℕ) (w : Direction) → FitsIncoming a w → FitsIncoming (done (Act.SentAgain place) a) w
 sent_again_fits a place w fits = fits_by a (done (Act.SentAgain place) a) w refl refl refl (λ n. same_held (stream_at a.streams n)) fits
 
--- and the mark on all that is outstanding
+-- marking all that is outstanding leaves what came as it is
 pub marked_fits : (a : Parts) (w : Direction) → FitsIncoming a w → FitsIncoming (done Act.Marked a) w
 marked_fits a w fits = fits_by a (done Act.Marked a) w refl refl refl (λ n. same_held (stream_at a.streams n)) fits
 
@@ -108,7 +108,7 @@ after_same (Some p) m n = cond_both (is_generation (stream_at m p.message.stream
     (λ b. changed_same _ (λ t. refl) m p.message.stream_identifier n)
     (λ b. same_held (stream_at m n))
 
--- and the release of what was acknowledged
+-- releasing what was acknowledged leaves what came as it is
 pub acknowledged_fits : (n : ℕ) (a : Parts) (w : Direction) → FitsIncoming a w → FitsIncoming (done (Act.Acknowledged n) a) w
 acknowledged_fits zero a w fits = fits
 acknowledged_fits (suc n) a w fits = acknowledged_fits n (without_first_piece a) w
@@ -116,7 +116,7 @@ acknowledged_fits (suc n) a w fits = acknowledged_fits n (without_first_piece a)
 
 -- What the other side's sender does
 
--- offsets that were assigned stand for the same messages in a longer plan
+-- the offsets that were assigned stand for as many messages of a stream in a longer plan
 pub count_kept : (p q : Plan) (e : IsExtended p q) (s n : ℕ) → n ≤ length p.places → count_below q s n ≡ count_below p s n
 count_kept p q e s zero l = refl
 count_kept p q e s (suc o) l =
@@ -181,13 +181,13 @@ extended_fits a w x datas e inv h fits = record {
     ends n = read_end_kept w.sender.plan x.plan e w.receiver.taken n 0 (w.reads n)
         (all_front (IsGot w.sender.plan w.receiver.taken n) (w.reads n) _ (inv.streams n (h.span n)).got)
 
--- the other side's write leaves what came
+-- a write at the other side leaves the receiver as it is
 pub write_fits : (a : Parts) (w : Direction) (s : ℕ) (m : Message) → Invariant w → IsPlain w → FitsIncoming a w → FitsIncoming a (happens w (Event.Write s m))
 unfolding happens
 write_fits a w s m inv h fits = cond_both _ w _ (FitsIncoming a) (λ b. fits)
     (λ b. extended_fits a w (written w.sender s (as_kept m)) w.datas (message_extended w.sender.plan s (as_kept m) inv.planned.known) inv h fits)
 
--- so does its message that gets an offset
+-- a message of the other side that gets an offset leaves the receiver as it is
 pub begin_fits : (a : Parts) (w : Direction) (s i any : ℕ) → Invariant w → IsPlain w → FitsIncoming a w → FitsIncoming a (happens w (Event.Begin s i any))
 unfolding happens
 begin_fits a w s i any inv h fits = go w.sender.current
@@ -217,13 +217,13 @@ same_extended w inv = record {
   fronts = λ s i l. refl;
 }
 
--- and its DATA that goes out again
+-- DATA that the other side gives out again leaves the receiver as it is
 pub resend_fits : (a : Parts) (w : Direction) (o : ℕ) → Invariant w → IsPlain w → FitsIncoming a w → FitsIncoming a (happens w (Event.Resend o))
 unfolding happens
 resend_fits a w o inv h fits = cond_both _ _ w (FitsIncoming a)
     (λ b. extended_fits a w w.sender (w.datas ++ data_at w.sender.plan o ∷ []) (same_extended w inv) inv h fits) (λ b. fits)
 
--- and a SACK that comes to it
+-- a SACK that comes to the other side leaves the receiver as it is
 pub sack_comes_fits : (a : Parts) (w : Direction) (k : ℕ) → Invariant w → IsPlain w → FitsIncoming a w → FitsIncoming a (happens w (Event.SackComes k))
 unfolding happens
 sack_comes_fits a w k inv h fits = go (slice_get w.sacks k)
