@@ -1,4 +1,5 @@
-mod Acting
+pub mod Acting
 mod Giving
-mod Joining
-mod Polling
+pub mod Joining
+pub mod Polling
+mod ReadAgain
