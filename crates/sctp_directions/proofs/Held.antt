@@ -1,6 +1,6 @@
 -- The ordered messages that a stream holds, each in one piece and one after another: what one more and a read make of them, in
 -- the model and in an association.
-use Rattle.std.proofs.Common.{◌≡◌, ◌⊎◌, refl, sym, ap, ◌∙◌, subst, inl, inr, ⊎_elim, ℕ, zero, suc, ◌+◌, ◌-◌, ◌%◌, ◌^◌, ◌<◌, ◌≤◌, arith, Bool, true, false, not, cond, eqb, ltb, ◌&&◌, ◌||◌, List, [], ◌∷◌, ◌++◌, length, map, reverse, take, drop, Option, Some, None}
+use Rattle.std.proofs.Common.{◌≡◌, ◌⊎◌, refl, sym, ap, ◌∙◌, subst, inl, inr, ⊎_elim, ℕ, zero, suc, ◌+◌, ◌%◌, ◌<◌, ◌≤◌, arith, Bool, true, false, not, cond, eqb, ltb, ◌&&◌, List, [], ◌∷◌, ◌++◌, length, map, reverse, Option, Some, None}
 use Rattle.std.specs.Prelude.{filter, insert, position, unwrap_or}
 use Rattle.std.specs.List.{AllByRecursion, position_or_len}
 use Rattle.std.proofs.lemmas.List.{reverse-append, length-reverse, length_push, take_all, drop_all}
@@ -14,7 +14,7 @@ use Rattle.sctp_receive_queues.specs.Reassembly.{Group, Reassembly, group_of, is
 use Rattle.sctp_model.specs.Messages.{Plan, place_at}
 use Rattle.sctp_model.specs.Packets.{Data}
 use Rattle.sctp_model.specs.Serial.{before_16}
-use Rattle.sctp_model.specs.Reassembly.{Got, Queue, Run, Taken, at, begins, drain, drain_on, earlier, got_of, least, message_in, next, next_from, next_of, push, run_begun, run_from, run_on, run_with, taken_out, top, waiting, without}
+use Rattle.sctp_model.specs.Reassembly.{Queue, Run, Taken, at, begins, drain, drain_on, earlier, got_of, least, message_in, next, next_from, next_of, push, run_begun, run_from, run_on, run_with, taken_out, top, waiting, without}
 use Rattle.sctp_model.specs.Reassembly.{ready as model_ready}
 use Rattle.sctp_model.specs.Safe.{Letter, letter_read}
 use Rattle.sctp_model.proofs.Gathering.{at_top}

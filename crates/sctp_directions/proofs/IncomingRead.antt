@@ -1,10 +1,10 @@
 -- What a read on a stream gives at an association is what the model's reader gets, and so is what is ready.
-use Rattle.std.proofs.Common.{◌≡◌, ◌⊎◌, refl, sym, ap, ◌∙◌, subst, subst₂, ⊎_elim, ℕ, suc, ◌+◌, ◌%◌, ◌<◌, ◌≤◌, arith, Bool, true, false, cond, eqb, List, [], ◌∷◌, ◌++◌, map, Option, Some, None}
+use Rattle.std.proofs.Common.{◌≡◌, refl, sym, ap, ◌∙◌, subst, subst₂, ⊎_elim, ℕ, suc, arith, true, false, cond, eqb, List, [], ◌∷◌, ◌++◌, map, Option, Some, None}
 use Rattle.std.proofs.lemmas.Bool.{cases_Bool, cond-true, cond-false, eqb-true, eqb-false}
 use Rattle.sctp_wire_types.specs.declared.ids.PayloadProtocolIdentifier.{PayloadProtocolIdentifier}
 use Rattle.sctp_receive_queues.specs.Messages.{Message}
-use Rattle.sctp_receive_queues.specs.Reassembly.{Reassembly, empty_reassembly, ready, taken}
-use Rattle.sctp_queues.specs.Stream.{Stream, fresh_stream, read_with, stream_read}
+use Rattle.sctp_receive_queues.specs.Reassembly.{empty_reassembly, ready, taken}
+use Rattle.sctp_queues.specs.Stream.{Stream, fresh_stream, read_with}
 use Rattle.sctp_queues.specs.Streams.{StreamMap, made, read_at, read_in, stream_at, with_stream}
 use Rattle.sctp_model.specs.Messages.{Plan}
 use Rattle.sctp_model.specs.Reassembly.{Got, Queue, Taken, empty_queue, next}

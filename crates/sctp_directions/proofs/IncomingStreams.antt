@@ -1,26 +1,17 @@
 -- What holds of an association's streams and of their queues in the model, as the receiver of a plain direction.
-use Rattle.std.proofs.Common.{◌≡◌, ◌⊎◌, refl, sym, ap, ◌∙◌, subst, subst₂, ⊎_elim, ℕ, zero, suc, ◌+◌, ◌*◌, ◌%◌, ◌<◌, ◌≤◌, arith, Bool, true, false, not, cond, eqb, leb, List, [], ◌∷◌, length, is_some, Option, Some, None}
-use Rattle.std.specs.Prelude.{slice_get}
-use Rattle.std.proofs.lemmas.Bool.{cases_Bool, cases_lt, cond-true, cond-false, eq-eqb, eqb-true, eqb-false, ne_eqb, le-leb, false≢true}
-use Rattle.sctp_wire_types.specs.declared.chunk.ChunkPayloadData.{ChunkPayloadData}
-use Rattle.sctp_receive_queues.specs.Reassembly.{group_of}
-use Rattle.sctp_queues.specs.Stream.{Stream, stream_pushed}
-use Rattle.sctp_queues.specs.Streams.{StreamMap, pushed_at, pushed_in, stream_at}
-use Rattle.sctp_model.specs.Messages.{Plan, message_of, place_at}
-use Rattle.sctp_model.specs.Packets.{Data, data_at}
-use Rattle.sctp_model.specs.Serial.{tsn}
-use Rattle.sctp_model.specs.Reassembly.{Queue, push}
-use Rattle.sctp_model.specs.Machine.{Direction, Event, happens, live, point, took}
+use Rattle.std.proofs.Common.{◌≡◌, refl, sym, ap, ◌∙◌, subst, subst₂, ⊎_elim, ℕ, zero, suc, ◌+◌, ◌<◌, ◌≤◌, arith, true, false, cond, eqb, length, is_some, Option, Some, None}
+use Rattle.std.proofs.lemmas.Bool.{cases_Bool, cases_lt, cond-true, cond-false, eqb-true, false≢true}
+use Rattle.sctp_queues.specs.Stream.{Stream}
+use Rattle.sctp_queues.specs.Streams.{StreamMap, stream_at}
+use Rattle.sctp_model.specs.Messages.{Plan}
+use Rattle.sctp_model.specs.Reassembly.{Queue}
+use Rattle.sctp_model.specs.Machine.{Direction, point}
 use Rattle.sctp_model.specs.Safe.{IsWithin, read_end}
-use Rattle.sctp_model.specs.Invariants.{Invariant, IsPiece}
+use Rattle.sctp_model.specs.Invariants.{Invariant}
 use Rattle.sctp_model.proofs.Basics.{point_below}
-use Rattle.sctp_model.proofs.Lists.{all_get}
 use Rattle.sctp_model.proofs.Ranks.{rank_of_all, rank_rest}
-use Rattle.sctp_assoc.specs.Acts.{Act, Can, Parts, done}
-use Rattle.sctp_assoc.specs.Chunks.{is_whole}
-use Rattle.sctp_directions.specs.Plain.{IsPlain, IsSimple, IsSole, count_below}
-use Rattle.sctp_directions.specs.Said.{IsSaid}
-use Rattle.sctp_directions.specs.Incoming.{FitsIncoming, IsHeldAs, IsQueue, IsQueueAt}
+use Rattle.sctp_directions.specs.Plain.{IsPlain, count_below}
+use Rattle.sctp_directions.specs.Incoming.{IsQueue, IsQueueAt}
 
 -- The numbers
 
