@@ -1,2 +1,4 @@
-mod Running
 pub mod Between
+pub mod Giving
+mod Running
+pub mod Status
