@@ -1,5 +1,5 @@
 -- What an association finds acknowledged is acknowledged at the direction's sender, and releases the same bytes (RFC 4960 section 6.2.1).
-use Rattle.std.proofs.Common.{ℕ, zero, suc, ◌+◌, ◌-◌, ◌<◌, ◌≤◌, ◌≡◌, true, false, not, cond, eqb, ltb, ◌&&◌, List, [], ◌∷◌, length, Option, Some, None, refl, sym, ap, ◌∙◌, subst, ⊎_elim, arith}
+use Rattle.std.proofs.Common.{ℕ, zero, suc, ◌+◌, ◌<◌, ◌≤◌, ◌≡◌, true, false, not, cond, eqb, ◌&&◌, List, [], ◌∷◌, length, Option, Some, None, refl, sym, ap, ◌∙◌, subst, ⊎_elim, arith}
 use Rattle.std.specs.Prelude.{slice_get}
 use Rattle.std.proofs.lemmas.Bool.{cases_eq, cond-true, cond-false, eq-eqb, ne_eqb, le-ltb, lt-ltb, false≢true}
 use Rattle.sctp_outbound_queue.specs.declared.message.InFlight.{InFlight}
@@ -11,7 +11,7 @@ use Rattle.sctp_queues.specs.Streams.{StreamMap, change_at, changed_stream, is_g
 use Rattle.sctp_model.specs.Messages.{Plan, accepted_bytes, bytes_at, bytes_below, message_of, piece_of, place_at}
 use Rattle.sctp_model.specs.Packets.{Sack}
 use Rattle.sctp_model.specs.Machine.{Direction, Event, acknowledged_by, happens, point, sack_comes}
-use Rattle.sctp_model.specs.Invariants.{Invariant, IsHonest, gone_at, released_bytes}
+use Rattle.sctp_model.specs.Invariants.{Invariant, IsHonest, gone_at}
 use Rattle.sctp_model.proofs.Coming.{keeps_sack_comes}
 use Rattle.sctp_model.proofs.Lists.{all_get}
 use Rattle.sctp_model.proofs.Released.{bytes_same, bytes_tail, released_none, released_within}

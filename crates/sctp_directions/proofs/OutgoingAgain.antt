@@ -1,5 +1,5 @@
 -- A piece that an association sends again is DATA that the direction gives out again; marks for that say nothing to the direction.
-use Rattle.std.proofs.Common.{ℕ, zero, suc, ◌+◌, ◌<◌, ◌≤◌, ◌≡◌, true, false, cond, List, [], ◌∷◌, ◌++◌, length, map, Option, Some, None, refl, sym, ap, ◌∙◌, subst, arith}
+use Rattle.std.proofs.Common.{ℕ, zero, suc, ◌+◌, ◌<◌, ◌≡◌, true, List, [], ◌∷◌, ◌++◌, length, map, Option, Some, None, refl, sym, subst, arith}
 use Rattle.std.specs.Prelude.{slice_get, slice_set}
 use Rattle.std.specs.List.{AllByRecursion}
 use Rattle.std.proofs.lemmas.Bool.{cond_both, cond-true, lt-ltb}
@@ -11,7 +11,7 @@ use Rattle.sctp_queues.specs.Streams.{StreamMap}
 use Rattle.sctp_model.specs.Serial.{tsn}
 use Rattle.sctp_model.specs.Messages.{Plan}
 use Rattle.sctp_model.specs.Packets.{Data, data_at}
-use Rattle.sctp_model.specs.Machine.{Direction, Event, can_resend, happens}
+use Rattle.sctp_model.specs.Machine.{Direction, Event, happens}
 use Rattle.sctp_assoc.specs.Acts.{Act, Can, Parts, chunk_said, data_given, done}
 use Rattle.sctp_directions.specs.Plain.{IsPlain}
 use Rattle.sctp_directions.specs.Said.{IsGiven, IsSaid}

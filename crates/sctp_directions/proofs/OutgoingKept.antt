@@ -1,14 +1,13 @@
 -- What stays of how an association stands as a sender when its streams, its queue or the plan change elsewhere.
-use Rattle.std.proofs.Common.{ℕ, zero, suc, ◌+◌, ◌<◌, ◌≤◌, ◌≡◌, ◌%◌, true, false, cond, eqb, List, [], ◌∷◌, ◌++◌, length, get_or, map, Option, Some, None, refl, sym, ap, ◌∙◌, subst, ⊎_elim, arith}
+use Rattle.std.proofs.Common.{ℕ, zero, suc, ◌+◌, ◌<◌, ◌≤◌, ◌≡◌, ◌%◌, true, eqb, List, [], ◌∷◌, length, get_or, Option, Some, None, refl, sym, ap, ◌∙◌, subst, ⊎_elim, arith}
 use Rattle.std.specs.Prelude.{slice_get}
-use Rattle.std.proofs.lemmas.Bool.{cases_eq, cond-true, cond-false, eq-eqb, ne_eqb, eqb-true, false≢true}
+use Rattle.std.proofs.lemmas.Bool.{cases_eq, cond-true, cond-false, eq-eqb, ne_eqb}
 use Rattle.sctp_outbound_queue.specs.declared.message.InFlight.{InFlight}
 use Rattle.sctp_outbound_queue.specs.Waiting.{Waiting}
-use Rattle.sctp_outbound_queue.specs.Outbound.{Outbound}
 use Rattle.sctp_queues.specs.Stream.{Stream}
 use Rattle.sctp_queues.specs.Streams.{StreamMap, is_generation, stream_at, with_stream}
-use Rattle.sctp_model.specs.Messages.{Message, Plan, accepted_bytes, message_at, no_message, place_at, sum_below}
-use Rattle.sctp_model.specs.Packets.{Data, data_at}
+use Rattle.sctp_model.specs.Messages.{Message, Plan, message_at, no_message, place_at, sum_below}
+use Rattle.sctp_model.specs.Packets.{data_at}
 use Rattle.sctp_model.specs.Machine.{Direction, put}
 use Rattle.sctp_model.proofs.Growth.{IsExtended, at_put, off_put, data_kept}
 use Rattle.sctp_model.specs.Serial.{tsn}
@@ -16,7 +15,7 @@ use Rattle.sctp_outbound.specs.Sender.{chunk_of}
 use Rattle.sctp_assoc.specs.Acts.{History, Parts}
 use Rattle.sctp_directions.specs.Plain.{IsPlain, count_below}
 use Rattle.sctp_directions.specs.Said.{IsSaid}
-use Rattle.sctp_directions.specs.Outgoing.{AreInFlight, AreWaiting, FitsOutgoing, IsInFlight, IsOwn, IsOwnAt, IsWaiting}
+use Rattle.sctp_directions.specs.Outgoing.{AreInFlight, AreWaiting, FitsOutgoing, IsInFlight, IsOwnAt, IsWaiting}
 use Rattle.sctp_directions.proofs.PlainSender.{count_rises}
 use Rattle.sctp_directions.proofs.Streams.{at_with}
 
@@ -42,7 +41,7 @@ live_with m id t u e same s = each_with m id t u
     (λ g l. ap (λ z. eqb z g) same ∙ sym (ap (λ z. is_generation z g) e) ∙ l)
     s
 
--- the plan
+-- The plan
 
 -- The plan q holds what the pieces and messages of p say.
 pub record IsGrown (p q : Plan) : Type 0 where
@@ -51,14 +50,17 @@ pub record IsGrown (p q : Plan) : Type 0 where
   pub longer : (s : ℕ) → length (p.accepted s) ≤ length (q.accepted s)
   pub messages : (s i : ℕ) → i < length (p.accepted s) → message_at q s i ≡ message_at p s i
 
+-- a plan holds what it says itself
 pub grown_same : (p : Plan) → IsGrown p p
 grown_same p = record { more = omega arith; datas = λ o l. refl; longer = λ s. omega arith; messages = λ s i l. refl }
 
+-- a plan with more messages or places holds what it said before
 pub grown_from : (p q : Plan) → IsExtended p q → IsGrown p q
 grown_from p q e = record { more = e.more; datas = data_kept p q e; longer = e.longer; messages = e.messages }
 
 -- What is in flight
 
+-- a piece in flight stays that of its offset while the plan grows and its stream is live
 pub in_flight_kept : (initial : ℕ) (p q : Plan) (m n : StreamMap) (o : ℕ) (x : InFlight) → IsGrown p q → KeepsLive m n
     → IsInFlight initial p m o x → IsInFlight initial q n o x
 in_flight_kept initial p q m n o x g l h = record {
@@ -69,6 +71,7 @@ in_flight_kept initial p q m n o x g l h = record {
   live = l _ _ h.live;
 }
 
+-- so do all pieces in flight, where no offset is assigned
 pub flight_kept : (initial : ℕ) (p q : Plan) (m n : StreamMap) (o : ℕ) (xs : List InFlight) → IsGrown p q → length q.places ≡ length p.places → KeepsLive m n
     → AreInFlight initial p m o xs → AreInFlight initial q n o xs
 flight_kept initial p q m n o [] g e l h = h ∙ sym e
@@ -94,6 +97,7 @@ flight_at initial p m o (y ∷ ys) (suc k) x e (h, hs) = subst (λ z. IsInFlight
 abbrev pub one_begun : (ℕ → ℕ) → ℕ → ℕ → ℕ
 one_begun next s = put next s (suc (next s))
 
+-- a message that waits stays that of its number while the plan grows and its stream is live
 pub one_waiting_kept : (p q : Plan) (m n : StreamMap) (i : ℕ) (x : Waiting) → IsGrown p q → KeepsLive m n → IsWaiting p m i x → IsWaiting q n i x
 one_waiting_kept p q m n i x g l h = record {
   known = let a = h.known in let b = g.longer x.message.stream_identifier in omega arith;
@@ -106,6 +110,7 @@ one_waiting_kept p q m n i x g l h = record {
   live = l _ _ h.live;
 }
 
+-- so do all that wait, where no more are accepted
 pub waiting_kept : (p q : Plan) (m n : StreamMap) (next : ℕ → ℕ) (xs : List Waiting) → IsGrown p q → ((s : ℕ) → length (q.accepted s) ≡ length (p.accepted s))
     → KeepsLive m n → AreWaiting p m next xs → AreWaiting q n next xs
 waiting_kept p q m n next [] g e l h = λ s. h s ∙ sym (e s)
@@ -141,6 +146,7 @@ plain_known w h within o l =
 abbrev pub bytes_in : List Message → ℕ
 bytes_in ms = sum_below (λ i. length (get_or ms i no_message).bytes) (length ms)
 
+-- what a stream counts of its own messages hangs on those accepted on it alone
 pub own_kept : (p q : Plan) (freed s : ℕ) (o : Option Stream) → q.accepted s ≡ p.accepted s → IsOwnAt p freed s o → IsOwnAt q freed s o
 own_kept p q freed s None e h = (e ∙ h.0, h.1)
 own_kept p q freed s (Some t) e h = record {

@@ -1,28 +1,27 @@
 -- A message that an association sends for the first time begins at the direction's sender, and each piece that goes out is DATA of the direction.
-use Rattle.std.proofs.Common.{ℕ, zero, suc, ◌+◌, ◌*◌, ◌<◌, ◌≤◌, ◌≡◌, ◌%◌, true, false, not, cond, eqb, List, [], ◌∷◌, ◌++◌, length, take, drop, get_or, map, Option, Some, None, is_some, refl, sym, ap, ◌∙◌, subst, ⊎_elim, arith}
-use Rattle.std.specs.Prelude.{slice_get, slice_set}
+use Rattle.std.proofs.Common.{ℕ, suc, ◌+◌, ◌*◌, ◌<◌, ◌≤◌, ◌≡◌, true, not, eqb, List, [], ◌∷◌, ◌++◌, length, take, drop, Some, is_some, refl, sym, ap, ◌∙◌, subst, arith}
+use Rattle.std.specs.Prelude.{slice_get}
 use Rattle.std.specs.List.{AllByRecursion}
 use Rattle.std.proofs.lemmas.List.{length_push, take_all}
-use Rattle.std.proofs.lemmas.Bool.{cases_eq, cond-true, eq-eqb, lt-ltb, true≢false}
-use Rattle.sctp_wire_types.specs.declared.chunk.ChunkPayloadData.{ChunkPayloadData}
+use Rattle.std.proofs.lemmas.Bool.{cond-true, true≢false}
 use Rattle.sctp_outbound_queue.specs.declared.message.InFlight.{InFlight}
 use Rattle.sctp_outbound_queue.specs.Waiting.{Waiting}
-use Rattle.sctp_outbound_queue.specs.Message.{counted_again, sent_once}
-use Rattle.sctp_outbound_queue.specs.Outbound.{changed_from, left_behind, sent_from}
+use Rattle.sctp_outbound_queue.specs.Message.{sent_once}
+use Rattle.sctp_outbound_queue.specs.Outbound.{sent_from}
 use Rattle.sctp_outbound.specs.Sender.{chunk_of, next_chunk_of}
 use Rattle.sctp_queues.specs.Streams.{StreamMap, stream_at}
 use Rattle.sctp_model.specs.Serial.{tsn}
-use Rattle.sctp_model.specs.Messages.{Place, Plan, message_at, no_place, place_at}
-use Rattle.sctp_model.specs.Packets.{Data, data_at, data_of}
-use Rattle.sctp_model.specs.Machine.{Direction, Event, can_resend, first_place, happens, next_data, put, with_place}
+use Rattle.sctp_model.specs.Messages.{Place, Plan, message_at, place_at}
+use Rattle.sctp_model.specs.Packets.{data_of}
+use Rattle.sctp_model.specs.Machine.{Direction, Event, first_place, happens, next_data}
 use Rattle.sctp_model.specs.Invariants.{Invariant}
 use Rattle.sctp_model.proofs.Growth.{place_extended}
 use Rattle.sctp_model.proofs.Placing.{length_placed, place_new}
-use Rattle.sctp_assoc.specs.Acts.{Act, Can, Parts, chunk_said, data_given, done, first_chunk_said}
+use Rattle.sctp_assoc.specs.Acts.{Act, Can, Parts, data_given, done, first_chunk_said}
 use Rattle.sctp_directions.specs.Plain.{IsPlain, IsSimple}
 use Rattle.sctp_directions.specs.Said.{IsGiven, IsSaid}
-use Rattle.sctp_directions.specs.Outgoing.{AreInFlight, AreWaiting, FitsOutgoing, IsInFlight, IsOwnAt, IsWaiting}
-use Rattle.sctp_directions.proofs.OutgoingKept.{IsGrown, KeepsLive, flight_at, flight_length, grown_from, in_flight_kept, one_begun, own_kept, waiting_kept}
+use Rattle.sctp_directions.specs.Outgoing.{AreInFlight, AreWaiting, FitsOutgoing, IsInFlight, IsWaiting}
+use Rattle.sctp_directions.proofs.OutgoingKept.{IsGrown, flight_length, grown_from, in_flight_kept, one_begun, own_kept, waiting_kept}
 use Rattle.sctp_directions.proofs.PlainSender.{happens_begin, one_piece, plain_begun, with_begun}
 
 -- the last of a list

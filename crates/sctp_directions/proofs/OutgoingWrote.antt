@@ -1,8 +1,7 @@
 -- A write that an association accepts is a write of the direction.
-use Rattle.std.proofs.Common.{ℕ, zero, suc, ◌+◌, ◌<◌, ◌≤◌, ◌≡◌, ◌%◌, ◌^◌, true, false, cond, eqb, List, [], ◌∷◌, ◌++◌, length, get_or, Option, Some, refl, sym, ap, ◌∙◌, subst, ⊎_elim, arith}
+use Rattle.std.proofs.Common.{ℕ, zero, suc, ◌+◌, ◌<◌, ◌≤◌, ◌≡◌, ◌%◌, ◌^◌, List, [], ◌∷◌, ◌++◌, length, get_or, Some, refl, sym, ap, ◌∙◌, subst, ⊎_elim, arith}
 use Rattle.std.proofs.lemmas.List.{get_or_append_left, get_or_push, length_push}
-use Rattle.std.proofs.lemmas.Bool.{cases_eq, cond-true, cond-false, eq-eqb, ne_eqb}
-use Rattle.sctp_wire_types.specs.Ids.{number_of}
+use Rattle.std.proofs.lemmas.Bool.{cases_eq, cond-false, eq-eqb}
 use Rattle.sctp_wire_types.specs.declared.ids.PayloadProtocolIdentifier.{PayloadProtocolIdentifier}
 use Rattle.sctp_wire_types.specs.declared.ids.PayloadProtocolIdentifier.TheVariants as kinds
 use Rattle.sctp_outbound_queue.specs.Waiting.{Waiting}
@@ -10,17 +9,16 @@ use Rattle.sctp_outbound_queue.specs.Message.{accepted}
 use Rattle.sctp_outbound_queue.specs.Outbound.{with_message}
 use Rattle.sctp_queues.specs.Stream.{Stream, accepted_by, ordered_and_reliable, params_for}
 use Rattle.sctp_queues.specs.Streams.{StreamMap, change_at, is_generation, stream_at, with_stream}
-use Rattle.sctp_model.specs.Messages.{Message, Plan, Policy, message_at, no_message, sum_below}
+use Rattle.sctp_model.specs.Messages.{Message, Plan, message_at, no_message, sum_below}
 use Rattle.sctp_model.specs.Machine.{Direction, Event, happens, written}
 use Rattle.sctp_model.specs.Machine as machine
 use Rattle.sctp_model.proofs.Growth.{at_put, off_put, message_extended}
 use Rattle.sctp_assoc.specs.Acts.{Act, Parts, done, with_written}
 use Rattle.sctp_assoc.specs.Calls.{message_of}
-use Rattle.sctp_directions.specs.Plain.{IsPlain, IsSimple}
+use Rattle.sctp_directions.specs.Plain.{IsPlain}
 use Rattle.sctp_directions.specs.Outgoing.{AreWaiting, FitsOutgoing, IsOwn, IsOwnAt, IsWaiting, message_on}
 use Rattle.sctp_directions.proofs.OutgoingKept.{IsGrown, KeepsLive, bytes_in, each_with, flight_kept, grown_from, live_with, one_begun, one_waiting_kept, own_kept, plain_known, waiting_within}
 use Rattle.sctp_directions.proofs.PlainSender.{happens_write}
-use Rattle.sctp_directions.proofs.Streams.{at_with}
 
 -- The plan with one more message
 

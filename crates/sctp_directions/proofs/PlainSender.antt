@@ -1,13 +1,12 @@
 -- What the sender's events keep of a direction whose messages are ordered, reliable and of one piece.
-use Rattle.std.proofs.Common.{ℕ, zero, suc, ◌+◌, ◌*◌, ◌<◌, ◌≤◌, ◌≡◌, Bool, true, false, not, cond, eqb, ltb, ◌&&◌, ◌||◌, List, [], ◌∷◌, ◌++◌, length, get_or, Option, Some, None, refl, sym, ap, ◌∙◌, subst, ap₂, ⊎_elim, arith}
+use Rattle.std.proofs.Common.{ℕ, zero, suc, ◌+◌, ◌*◌, ◌<◌, ◌≤◌, ◌≡◌, Bool, true, false, cond, eqb, ltb, ◌||◌, List, [], ◌∷◌, ◌++◌, length, get_or, Option, Some, None, refl, sym, ap, ◌∙◌, subst, ap₂, ⊎_elim, arith}
 use Rattle.std.specs.Prelude.{slice_get}
-use Rattle.std.specs.List.{AllByRecursion}
 use Rattle.std.proofs.lemmas.List.{get_or_append_left, get_or_push, length_push}
-use Rattle.std.proofs.lemmas.Bool.{cases_Bool, cases_eq, cases_lt, cond_both, cond-true, cond-false, ltb-true, ltb-false, lt-ltb, le-ltb, eq-eqb, ne_eqb, eqb-true, le-leb}
+use Rattle.std.proofs.lemmas.Bool.{cases_eq, cases_lt, cond_both, cond-true, cond-false, ltb-false, lt-ltb, le-ltb, eq-eqb, ne_eqb, le-leb}
 use Rattle.std.proofs.lemmas.Bool.Decides.{nat_tests}
 use Rattle.sctp_model.specs.Messages.{Message, Place, Plan, Policy, as_kept, no_message, no_place, place_at, message_at, is_last}
 use Rattle.sctp_model.specs.Packets.{Data, Sack, data_at, mem, names}
-use Rattle.sctp_model.specs.Machine.{Direction, Event, acknowledged_by, begin, begin_if, can_begin, first_place, happens, is_empty, next_data, number_for, put, put_2, counted, following, sack_comes, sent, with_message, with_place, written}
+use Rattle.sctp_model.specs.Machine.{Direction, Event, acknowledged_by, begin, begin_if, can_begin, first_place, happens, next_data, number_for, put, put_2, counted, following, sack_comes, sent, with_message, with_place, written}
 use Rattle.sctp_model.proofs.Growth.{at_put, off_put}
 use Rattle.sctp_model.proofs.Lists.{all_get}
 use Rattle.sctp_model.proofs.Placing.{length_placed, place_new, placed_cases}
@@ -57,7 +56,7 @@ message_written p s m P h new t i l = ⊎_elim same other (cases_eq t s)
     other : (t ≡ s → ⊥) → P (message_at (with_message p s m) t i)
     other ne = subst (λ z. P (get_or z i no_message)) (sym (off_put p.accepted s t grown ne)) (h t i (subst (λ z. i < length z) (off_put p.accepted s t grown ne) l))
 
--- a simple message is written
+-- with a simple message more on a stream, a direction stays plain
 pub plain_written : (w : Direction) (s : ℕ) (m : Message) → IsSimple w.sender.plan.size m → IsPlain w → IsPlain (record w { sender = written w.sender s m })
 plain_written w s m simple h = record {
   messages = message_written w.sender.plan s m (IsSimple w.sender.plan.size) h.messages simple;
@@ -85,6 +84,7 @@ happens_write w s m h =
     cond-false (eqb (length m.bytes) 0) w (record w { sender = written w.sender s (as_kept m) }) (ne_eqb _ _ (λ (e : length m.bytes ≡ 0). omega arith))
     ∙ ap (λ z. record w { sender = written w.sender s z }) (simple_kept w.sender.plan.size m h)
 
+-- A write of a simple message keeps a direction plain.
 pub plain_write : (w : Direction) (s : ℕ) (m : Message) → IsSimple w.sender.plan.size m → IsPlain w → IsPlain (happens w (Event.Write s m))
 plain_write w s m simple h = subst IsPlain (sym (happens_write w s m simple)) (plain_written w s m simple h)
 
@@ -153,6 +153,7 @@ begun_below begun next s i t j e h = ⊎_elim
     below_next : (j i : ℕ) → (j ≡ i → ⊥) → ltb j i ≡ ltb j (suc i)
     below_next j i ne = grind (arith, nat_tests)
 
+-- with its stream's next message begun, a direction stays plain
 pub plain_begun : (w : Direction) (s i : ℕ) → i ≡ w.sender.next s → IsPlain w → IsPlain (with_begun w s i)
 plain_begun w s i e h = record {
   messages = h.messages;
@@ -185,11 +186,13 @@ plain_begun w s i e h = record {
       message = e ∙ h.next s ∙ ap (count_below w.sender.plan s) b ∙ sym (count_begun w.sender.plan (first_place s i i) s o (omega arith));
     }
 
+-- The beginning of a stream's next message keeps a direction plain.
 pub plain_begin : (w : Direction) (s i any : ℕ) → i ≡ w.sender.next s → i < length (w.sender.plan.accepted s) → IsPlain w → IsPlain (happens w (Event.Begin s i any))
 plain_begin w s i any e l h = subst IsPlain (sym (happens_begin w s i any e l h)) (plain_begun w s i e h)
 
 -- a piece goes out again
 
+-- what DATA was given out says nothing of a direction's plainness
 pub plain_given : (w : Direction) (datas : List Data) → IsPlain w → IsPlain (record w { datas = datas })
 plain_given w datas h = record {
   messages = h.messages;
@@ -206,6 +209,7 @@ plain_given w datas h = record {
   span = h.span;
 }
 
+-- Sending a piece again keeps a direction plain.
 pub plain_resend : (w : Direction) (o : ℕ) → IsPlain w → IsPlain (happens w (Event.Resend o))
 unfolding happens
 plain_resend w o h = cond_both _ (record w { datas = w.datas ++ data_at w.sender.plan o ∷ [] }) w IsPlain (λ b. plain_given w _ h) (λ b. h)
@@ -220,6 +224,7 @@ names_below k o e = ap (λ z. ltb o k.point || mem o z) e ∙ or_false (ltb o k.
     or_false true = refl
     or_false false = refl
 
+-- with what lies below a later point acknowledged, a direction stays plain
 pub plain_acknowledged : (w : Direction) (k : Sack) → k.above ≡ [] → w.sender.point ≤ k.point → IsPlain w → IsPlain (record w { sender = acknowledged_by w.sender k })
 plain_acknowledged w k e l h = record {
   messages = h.messages;
@@ -239,6 +244,7 @@ plain_acknowledged w k e l h = record {
     both : (o p q : ℕ) → p ≤ q → (ltb o p || ltb o q) ≡ ltb o q
     both o p q l = grind (arith, nat_tests)
 
+-- A SACK keeps a direction plain, also one that comes late or again.
 pub plain_sack_comes : (w : Direction) (k : ℕ) → IsPlain w → IsPlain (happens w (Event.SackComes k))
 unfolding happens
 plain_sack_comes w k h = comes (slice_get w.sacks k) refl

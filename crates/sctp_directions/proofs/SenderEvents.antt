@@ -29,6 +29,7 @@ got_before (y ∷ xs) ys (suc k) x e = got_before xs ys k x e
 sent_same : (w : Direction) → IsSentOnly w w
 sent_same w = record { on = record { datas = λ k d e. e; sacks = refl; receiver = refl; reads = refl; over = refl; size = refl }; accepted = refl }
 
+-- A write leaves all DATA and the receiver's side as they were.
 pub sent_write : (w : Direction) (s : ℕ) (m : Message) → IsSentOn w (happens w (Event.Write s m))
 unfolding happens
 sent_write w s m = cond_both (is_empty m) w (record w { sender = written w.sender s (as_kept m) }) (IsSentOn w) (λ b. (sent_same w).on)
@@ -45,6 +46,7 @@ begun_only w s i number false d = record {
   accepted = refl;
 }
 
+-- So does a message's beginning, and it accepts nothing.
 pub sent_begin : (w : Direction) (s i any : ℕ) → IsSentOnly w (happens w (Event.Begin s i any))
 unfolding happens
 sent_begin w s i any = by_current w.sender.current
@@ -54,6 +56,7 @@ sent_begin w s i any = by_current w.sender.current
         (λ b. begun_only w s i (number_for w.sender s i any) _ _) (λ b. sent_same w)
     by_current (Some y) = sent_same w
 
+-- So does a piece's going out again.
 pub sent_resend : (w : Direction) (o : ℕ) → IsSentOnly w (happens w (Event.Resend o))
 unfolding happens
 sent_resend w o = cond_both (can_resend w.sender.plan o) (record w { datas = w.datas ++ data_at w.sender.plan o ∷ [] }) w (IsSentOnly w)
@@ -63,6 +66,7 @@ sent_resend w o = cond_both (can_resend w.sender.plan o) (record w { datas = w.d
     })
     (λ b. sent_same w)
 
+-- So does a SACK that comes to the sender.
 pub sent_sack_comes : (w : Direction) (k : ℕ) → IsSentOnly w (happens w (Event.SackComes k))
 unfolding happens
 sent_sack_comes w k = by_sack (slice_get w.sacks k)
