@@ -1,5 +1,5 @@
 -- What leaves an association where it stands as a receiver: its reports, its acts as a sender, and what the other side's sender does.
-use Rattle.std.proofs.Common.{◌≡◌, refl, sym, ap, ◌∙◌, subst, subst₂, ⊎_elim, ℕ, zero, suc, ◌+◌, ◌≤◌, arith, Bool, true, false, cond, eqb, List, [], ◌∷◌, ◌++◌, length, Option, Some, None}
+use Rattle.std.proofs.Common.{◌≡◌, refl, sym, ap, ◌∙◌, subst, subst₂, ⊎_elim, ℕ, zero, suc, arith, Bool, true, false, eqb, List, [], ◌∷◌, ◌++◌, length, Option, Some, None}
 use Rattle.std.specs.Prelude.{⊤, slice_get}
 use Rattle.std.proofs.lemmas.Bool.{cases_Bool, cond-true, cond-false, cond_both, eqb-true}
 use Rattle.sctp_outbound_queue.specs.declared.message.InFlight.{InFlight}
@@ -7,7 +7,7 @@ use Rattle.sctp_receive_queues.specs.Reassembly.{Group}
 use Rattle.sctp_queues.specs.Stream.{Stream, accepted_by}
 use Rattle.sctp_queues.specs.Streams.{StreamMap, change_at, changed_stream, is_generation, stream_at}
 use Rattle.sctp_outbound.specs.Sender.{streams_after}
-use Rattle.sctp_model.specs.Messages.{Message, Place, Plan, as_kept, message_at, place_at}
+use Rattle.sctp_model.specs.Messages.{Message, Place, Plan, as_kept, message_at}
 use Rattle.sctp_model.specs.Packets.{Data, Sack, data_at}
 use Rattle.sctp_model.specs.Reassembly.{Queue}
 use Rattle.sctp_model.specs.Machine.{Direction, Event, Sender, acknowledged_by, begin, begin_if, counted, first_place, happens, next_data, number_for, point, sack_comes, sent, written}
