@@ -26,19 +26,19 @@ use Rattle.sctp_directions.proofs.Streams.{at_with}
 abbrev pub KeepsLive : StreamMap → StreamMap → Type 0
 KeepsLive m n = (s generation : ℕ) → is_generation (stream_at m s) generation ≡ true → is_generation (stream_at n s) generation ≡ true
 
--- what holds of each stream holds where one is another now
+-- what holds of one stream that is another now, and of each other one, holds of all
 pub each_with : (m : StreamMap) (id : ℕ) (t u : Stream) (P : ℕ → Option Stream → Type 0) → stream_at m id ≡ Some t
-    → ((s : ℕ) → P s (stream_at m s)) → P id (Some u) → (s : ℕ) → P s (stream_at (with_stream m id u) s)
+    → ((s : ℕ) → (s ≡ id → ⊥) → P s (stream_at m s)) → P id (Some u) → (s : ℕ) → P s (stream_at (with_stream m id u) s)
 each_with m id t u P e all here s = ⊎_elim
     (λ (a : s ≡ id). subst (P s) (sym (at_with m id s t u e ∙ cond-true _ (Some u) (stream_at m s) (eq-eqb s id a))) (subst (λ z. P z (Some u)) (sym a) here))
-    (λ (ne : s ≡ id → ⊥). subst (P s) (sym (at_with m id s t u e ∙ cond-false _ (Some u) (stream_at m s) (ne_eqb s id ne))) (all s))
+    (λ (ne : s ≡ id → ⊥). subst (P s) (sym (at_with m id s t u e ∙ cond-false _ (Some u) (stream_at m s) (ne_eqb s id ne))) (all s ne))
     (cases_eq s id)
 
 -- a stream is another of its generation now
 pub live_with : (m : StreamMap) (id : ℕ) (t u : Stream) → stream_at m id ≡ Some t → u.stats.generation ≡ t.stats.generation → KeepsLive m (with_stream m id u)
 live_with m id t u e same s = each_with m id t u
     (λ s o. (generation : ℕ) → is_generation (stream_at m s) generation ≡ true → is_generation o generation ≡ true) e
-    (λ s g l. l)
+    (λ s ne g l. l)
     (λ g l. ap (λ z. eqb z g) same ∙ sym (ap (λ z. is_generation z g) e) ∙ l)
     s
 
@@ -159,4 +159,17 @@ fits_streams a n h w own base live all f = record {
       (flight_kept _ w.sender.plan w.sender.plan a.streams n _ _ (grown_same w.sender.plan) refl live f.flight);
   waiting = waiting_kept w.sender.plan w.sender.plan a.streams n _ _ (grown_same w.sender.plan) (λ s. refl) live f.waiting;
   own_streams = all;
+}
+
+-- A direction whose sender has the same plan, counters and released bytes is as good.
+pub fits_as : (a : Parts) (w v : Direction) → v.sender.plan ≡ w.sender.plan → v.sender.next ≡ w.sender.next → v.sender.point ≡ w.sender.point
+    → ((s : ℕ) → v.sender.released s ≡ w.sender.released s) → FitsOutgoing a w → FitsOutgoing a v
+fits_as a w v p n o r f = record {
+  base = f.base ∙ sym o;
+  flight = subst (λ z. AreInFlight a.history.own z a.streams v.sender.point a.queue.in_flight) (sym p)
+      (subst (λ z. AreInFlight a.history.own w.sender.plan a.streams z a.queue.in_flight) (sym o) f.flight);
+  waiting = subst (λ z. AreWaiting z a.streams v.sender.next a.queue.pending) (sym p)
+      (subst (λ z. AreWaiting w.sender.plan a.streams z a.queue.pending) (sym n) f.waiting);
+  own_streams = λ s. subst (λ z. IsOwnAt z (v.sender.released s) s (stream_at a.streams s)) (sym p)
+      (subst (λ z. IsOwnAt w.sender.plan z s (stream_at a.streams s)) (sym (r s)) (f.own_streams s));
 }

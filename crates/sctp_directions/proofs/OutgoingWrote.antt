@@ -135,16 +135,11 @@ module _ (a : Parts) (id : ℕ) (bytes : List ℕ) (t : Stream) (w : Direction) 
       }
 
   own_now : (s : ℕ) → IsOwnAt (plan_wrote w.sender.plan id t bytes) (w.sender.released s) s (stream_at (streams_wrote a.streams id t bytes) s)
-  own_now s = ⊎_elim
-      (λ (same : s ≡ id). subst (λ z. IsOwnAt (plan_wrote w.sender.plan id t bytes) (w.sender.released z) z (stream_at (streams_wrote a.streams id t bytes) z)) (sym same)
-      (subst (IsOwnAt (plan_wrote w.sender.plan id t bytes) (w.sender.released id) id)
-      (sym (at_with a.streams id id t (accepted_by t t.default_payload_type (length bytes)) e ∙ cond-true _ _ _ (eq-eqb id id refl)))
-      (own_written w.sender.plan (w.sender.released id) id t (message_on t bytes) own)))
-      (λ (ne : s ≡ id → ⊥). subst (IsOwnAt (plan_wrote w.sender.plan id t bytes) (w.sender.released s) s)
-      (sym (at_with a.streams id s t (accepted_by t t.default_payload_type (length bytes)) e ∙ cond-false _ _ _ (ne_eqb s id ne)))
-      (own_kept w.sender.plan (plan_wrote w.sender.plan id t bytes) (w.sender.released s) s (stream_at a.streams s)
-      (off_put w.sender.plan.accepted id s (w.sender.plan.accepted id ++ message_on t bytes ∷ []) ne) (f.own_streams s)))
-      (cases_eq s id)
+  own_now = each_with a.streams id t (accepted_by t t.default_payload_type (length bytes))
+      (λ s o. IsOwnAt (plan_wrote w.sender.plan id t bytes) (w.sender.released s) s o) e
+      (λ s ne. own_kept w.sender.plan (plan_wrote w.sender.plan id t bytes) (w.sender.released s) s (stream_at a.streams s)
+      (off_put w.sender.plan.accepted id s (w.sender.plan.accepted id ++ message_on t bytes ∷ []) ne) (f.own_streams s))
+      (own_written w.sender.plan (w.sender.released id) id t (message_on t bytes) own)
 
   fits_written : FitsOutgoing (record a { streams = streams_wrote a.streams id t bytes; queue = with_message a.queue (message_of t id bytes) })
       (record w { sender = written w.sender id (message_on t bytes) })

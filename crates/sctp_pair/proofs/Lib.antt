@@ -1,1 +1,2 @@
 mod Running
+pub mod Between
