@@ -1,5 +1,5 @@
 -- What leaves an association where it stands as a receiver: its reports, its acts as a sender, and what the other side's sender does.
-use Rattle.std.proofs.Common.{◌≡◌, refl, sym, ap, ◌∙◌, subst, subst₂, ⊎_elim, ℕ, zero, suc, ◌+◌, ◌≤◌, arith, Bool, true, false, cond, eqb, List, [], ◌∷◌, ◌++◌, length, Option, Some, None}
+use Rattle.std.proofs.Common.{◌≡◌, refl, sym, ap, ◌∙◌, subst, subst₂, ⊎_elim, ℕ, zero, suc, arith, Bool, true, false, eqb, List, [], ◌∷◌, ◌++◌, length, Option, Some, None}
 use Rattle.std.specs.Prelude.{⊤, slice_get}
 use Rattle.std.proofs.lemmas.Bool.{cases_Bool, cond-true, cond-false, cond_both, eqb-true}
 use Rattle.sctp_outbound_queue.specs.declared.message.InFlight.{InFlight}
@@ -7,7 +7,7 @@ use Rattle.sctp_receive_queues.specs.Reassembly.{Group}
 use Rattle.sctp_queues.specs.Stream.{Stream, accepted_by}
 use Rattle.sctp_queues.specs.Streams.{StreamMap, change_at, changed_stream, is_generation, stream_at}
 use Rattle.sctp_outbound.specs.Sender.{streams_after}
-use Rattle.sctp_model.specs.Messages.{Message, Place, Plan, as_kept, message_at, place_at}
+use Rattle.sctp_model.specs.Messages.{Message, Place, Plan, as_kept, message_at}
 use Rattle.sctp_model.specs.Packets.{Data, Sack, data_at}
 use Rattle.sctp_model.specs.Reassembly.{Queue}
 use Rattle.sctp_model.specs.Machine.{Direction, Event, Sender, acknowledged_by, begin, begin_if, counted, first_place, happens, next_data, number_for, point, sack_comes, sent, written}
@@ -20,6 +20,7 @@ use Rattle.sctp_directions.specs.Plain.{IsPlain, count_below}
 use Rattle.sctp_directions.specs.Incoming.{AreHeldAs, FitsIncoming, IsQueue, IsQueueAt}
 use Rattle.sctp_directions.proofs.Streams.{at_with}
 use Rattle.sctp_directions.proofs.IncomingStreams.{point_known}
+use Rattle.sctp_directions.proofs.PlainSender.{count_kept}
 
 -- A report, and the end
 
@@ -116,13 +117,6 @@ acknowledged_fits (suc n) a w fits = acknowledged_fits n (without_first_piece a)
 
 -- What the other side's sender does
 
--- the offsets that were assigned stand for as many messages of a stream in a longer plan
-pub count_kept : (p q : Plan) (e : IsExtended p q) (s n : ℕ) → n ≤ length p.places → count_below q s n ≡ count_below p s n
-count_kept p q e s zero l = refl
-count_kept p q e s (suc o) l =
-    ap (λ z. cond (eqb z.stream s) 1 0 + count_below q s o) (e.places o (omega arith))
-    ∙ ap (λ z. cond (eqb (place_at p o).stream s) 1 0 + z) (count_kept p q e s o (omega arith))
-
 held_kept : (p q : Plan) (e : IsExtended p q) (n : ℕ) (gs : List Group) (ds : List Data) → AreHeldAs p n gs ds → AreHeldAs q n gs ds
 held_kept p q e n [] [] h = tt
 held_kept p q e n [] (d ∷ ds) h = absurd h
@@ -173,7 +167,7 @@ extended_fits a w x datas e inv h fits = record {
   passed = fits.passed;
   at = fits.at;
   queues = λ n. subst₂ (λ y z. IsQueueAt x.plan y z (stream_at a.streams n) (w.receiver.queues n)) (sym (ends n))
-      (sym (count_kept w.sender.plan x.plan e n (point w.receiver) (point_known w inv h)))
+      (sym (count_kept w.sender.plan x.plan n (point w.receiver) (λ o l. e.places o (let k = point_known w inv h in omega arith))))
       (queue_kept w.sender.plan x.plan e (read_end w.sender.plan 0 (w.reads n)) (count_below w.sender.plan n (point w.receiver)) (stream_at a.streams n) (w.receiver.queues n) (fits.queues n));
 }
   where

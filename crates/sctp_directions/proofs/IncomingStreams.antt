@@ -1,5 +1,5 @@
 -- What holds of an association's streams and of their queues in the model, as the receiver of a plain direction.
-use Rattle.std.proofs.Common.{◌≡◌, refl, sym, ap, ◌∙◌, subst, subst₂, ⊎_elim, ℕ, zero, suc, ◌+◌, ◌<◌, ◌≤◌, arith, true, false, cond, eqb, length, is_some, Option, Some, None}
+use Rattle.std.proofs.Common.{◌≡◌, refl, sym, ap, ◌∙◌, subst, subst₂, ⊎_elim, ℕ, ◌+◌, ◌<◌, ◌≤◌, arith, true, false, cond, eqb, length, is_some, Option, Some, None}
 use Rattle.std.proofs.lemmas.Bool.{cases_Bool, cases_lt, cond-true, cond-false, eqb-true, false≢true}
 use Rattle.sctp_queues.specs.Stream.{Stream}
 use Rattle.sctp_queues.specs.Streams.{StreamMap, stream_at}
@@ -12,17 +12,9 @@ use Rattle.sctp_model.proofs.Basics.{point_below}
 use Rattle.sctp_model.proofs.Ranks.{rank_of_all, rank_rest}
 use Rattle.sctp_directions.specs.Plain.{IsPlain, count_below}
 use Rattle.sctp_directions.specs.Incoming.{IsQueue, IsQueueAt}
+use Rattle.sctp_directions.proofs.PlainSender.{count_rises}
 
 -- The numbers
-
--- more offsets stand for no fewer messages
-pub count_rises : (p : Plan) (s o n : ℕ) → o ≤ n → count_below p s o ≤ count_below p s n
-count_rises p s o zero l = let e : o ≡ 0 = omega arith in rw e (omega arith)
-count_rises p s o (suc n) l =
-    ⊎_elim
-    (λ (b : n < o). let e : o ≡ suc n = omega arith in rw e (omega arith))
-    (λ (b : o ≤ n). let r = count_rises p s o n b in omega arith)
-    (cases_lt n o)
 
 -- each offset below the receiver's point was assigned
 pub point_known : (w : Direction) → Invariant w → IsPlain w → point w.receiver ≤ length w.sender.plan.places
