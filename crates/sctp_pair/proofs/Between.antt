@@ -126,3 +126,28 @@ other_by_coming peer own y coming coming2 out same h =
     })
     (λ (r : StandsClosed y out ⊎ StandsFailed y out). inr r)
     h
+
+-- One association's call leads from its directions `out` and `coming` to others, between which it stands then; the other association
+-- stands there too. B says which offsets the call may take in.
+pub record Settles (own peer : ℕ) (b y : Shown) (out coming : Direction) (B : ℕ → Type 0) : Type 0 where
+  pub out2 : Direction
+  pub coming2 : Direction
+  pub goes_out : Goes None_brought out out2
+  pub goes_coming : Goes B coming coming2
+  pub invariant_out : Invariant out2
+  pub invariant_coming : Invariant coming2
+  pub plain_out : IsPlain out2
+  pub plain_coming : IsPlain coming2
+  pub stands : Stands own peer b out2 coming2
+  pub other : Stands peer own y coming2 out2
+
+-- Two associations between the same two directions, before a call of the first one.
+pub record Faces (own peer : ℕ) (a y : Shown) (out coming : Direction) : Type 0 where
+  pub within_out : IsWithin out
+  pub within_coming : IsWithin coming
+  pub invariant_out : Invariant out
+  pub invariant_coming : Invariant coming
+  pub plain_out : IsPlain out
+  pub plain_coming : IsPlain coming
+  pub stands : Stands own peer a out coming
+  pub other : Stands peer own y coming out
