@@ -3,6 +3,8 @@ use Rattle.std.proofs.Common.{◌≡◌, refl, sym, ap, ◌∙◌, subst, ◌⊎
 use Rattle.std.specs.Prelude.{slice_get}
 use Rattle.std.specs.List.{AllByRecursion}
 use Rattle.sctp_wire_types.specs.declared.chunk.ChunkPayloadData.{ChunkPayloadData}
+use Rattle.std.proofs.lemmas.List.{append-nil}
+use Rattle.sctp_receive_queues.specs.Messages as letters
 use Rattle.sctp_model.specs.Messages.{Message, Plan}
 use Rattle.sctp_model.specs.Packets.{Data, Sack, mem}
 use Rattle.sctp_model.specs.Reassembly.{Got}
@@ -15,7 +17,7 @@ use Rattle.sctp_assoc.specs.Shown.{Shown}
 use Rattle.sctp_directions.specs.Plain.{IsPlain}
 use Rattle.sctp_directions.specs.Said.{IsGiven}
 use Rattle.sctp_directions.specs.Outgoing.{FitsOutgoing}
-use Rattle.sctp_directions.specs.Incoming.{FitsIncoming}
+use Rattle.sctp_directions.specs.Incoming.{FitsIncoming, IsReadAs}
 use Rattle.sctp_pair.specs.Fits.{Stands, StandsClosed, StandsFailed, StandsOpen}
 
 -- What stays and what grows of a direction by events that neither accept nor read: what they take in was there, or was brought.
@@ -127,13 +129,42 @@ other_by_coming peer own y coming coming2 out same h =
     (λ (r : StandsClosed y out ⊎ StandsFailed y out). inr r)
     h
 
+-- What a call does to a direction: what it accepts there, what it reads, and what may be taken in.
+pub record Does (Added : ℕ → List Message) (Read : ℕ → Option letters.Message) (Brought : ℕ → Type 0) (w v : Direction) : Type 0 where
+  pub events : List Event
+  pub is : v ≡ run events w
+  pub accepted : (s : ℕ) → v.sender.plan.accepted s ≡ w.sender.plan.accepted s ++ Added s
+  pub size : v.sender.plan.size ≡ w.sender.plan.size
+  pub reads : (s : ℕ) → IsReadAs (Read s) (w.reads s) (v.reads s)
+  pub taken : (o : ℕ) → mem o v.receiver.taken ≡ true → (mem o w.receiver.taken ≡ true) ⊎ Brought o
+  pub datas : (k : ℕ) (d : Data) → slice_get w.datas k ≡ Some d → slice_get v.datas k ≡ Some d
+  pub sacks : (k : ℕ) (x : Sack) → slice_get w.sacks k ≡ Some x → slice_get v.sacks k ≡ Some x
+
+abbrev pub nothing_added : ℕ → List Message
+nothing_added s = []
+
+abbrev pub nothing_read : ℕ → Option letters.Message
+nothing_read s = None
+
+pub does_by_goes : (B : ℕ → Type 0) (w v : Direction) → Goes B w v → Does nothing_added nothing_read B w v
+does_by_goes B w v g = record {
+  events = g.events;
+  is = g.is;
+  accepted = λ s. g.accepted s ∙ sym (append-nil (w.sender.plan.accepted s));
+  size = g.size;
+  reads = g.reads;
+  taken = g.taken;
+  datas = g.datas;
+  sacks = g.sacks;
+}
+
 -- One association's call leads from its directions `out` and `coming` to others, between which it stands then; the other association
--- stands there too. B says which offsets the call may take in.
-pub record Settles (own peer : ℕ) (b y : Shown) (out coming : Direction) (B : ℕ → Type 0) : Type 0 where
+-- stands there too.
+pub record Settles (own peer : ℕ) (b y : Shown) (out coming : Direction) (Added : ℕ → List Message) (Read : ℕ → Option letters.Message) (Brought : ℕ → Type 0) : Type 0 where
   pub out2 : Direction
   pub coming2 : Direction
-  pub goes_out : Goes None_brought out out2
-  pub goes_coming : Goes B coming coming2
+  pub does_out : Does Added nothing_read None_brought out out2
+  pub does_coming : Does nothing_added Read Brought coming coming2
   pub invariant_out : Invariant out2
   pub invariant_coming : Invariant coming2
   pub plain_out : IsPlain out2

@@ -19,7 +19,6 @@ use Rattle.sctp_outbound.specs.declared.sender.SackOutcome.{SackOutcome}
 use Rattle.sctp_outbound.specs.declared.sender.SackOutcome.TheVariants as outcomes
 use Rattle.sctp_outbound.specs.declared.sender.Sender.{Sender}
 use Rattle.sctp_outbound.specs.Sender.{acknowledged, after_first, after_resending, can_send_next, points_to, resent_by, sack_outcome, sender_after, sent_new, sent_one, sent_within, with_window}
-use Rattle.sctp_assoc.specs.declared.inbound.Flow.{Flow}
 use Rattle.sctp_assoc.specs.Calls.{after_ack_delay, after_t3, after_timeouts, is_established}
 use Rattle.sctp_assoc.specs.Chunks.{after_sack, checked_first, counted_data, counted_sack, dispatched, is_whole, on_chunk, on_counted_sack, on_data, on_next_data, on_sack, stream_found, taken_in, taken_unless, told, with_message}
 use Rattle.sctp_assoc.specs.Polled.{ack_after, ack_polled, after_both, data_polled, is_due, polled, with_sent_data}
@@ -48,11 +47,3 @@ unfolding stream_found
 found_status true left a id e f = rw e (status_same a)
 found_status false true a id e f = rw (e, f) (status_by a _ refl refl refl refl)
 found_status false false a id e f = rw (e, f) (status_same a)
-
-told_status : (kept : Bool) (a : Shown) (id : ℕ) → IsSameStatus a (told a id kept)
-told_status true a id = go (is_readable_in a.streams id)
-  where
-    go : (r : Bool) → IsSameStatus a (if r then _ else _)
-    go true = status_by a _ refl refl refl refl
-    go false = status_by a _ refl refl refl refl
-told_status false a id = status_by a _ refl refl refl refl
