@@ -2,3 +2,4 @@ pub mod Between
 pub mod Giving
 mod Running
 pub mod Status
+pub mod Taking
