@@ -87,7 +87,7 @@ act_opened own peer id first kind p y out coming B h within none =
       };
     }
 
-act_took : (own peer k : ℕ) (piece : ChunkPayloadData) (d : Data) (t : Stream) (p : Parts) (y : Shown) (out coming : Direction) (B : ℕ → Type 0)
+pub act_took : (own peer k : ℕ) (piece : ChunkPayloadData) (d : Data) (t : Stream) (p : Parts) (y : Shown) (out coming : Direction) (B : ℕ → Type 0)
     → Holds own peer p y out coming → IsWithin coming → Can (Act.Took piece) p → slice_get coming.datas k ≡ Some d → IsSaid peer piece d
     → stream_at p.streams piece.stream_identifier ≡ Some t → B d.offset → AfterComing own peer (done (Act.Took piece) p) y out coming B
 act_took own peer k piece d t p y out coming B h within can e said live brought =
