@@ -1,4 +1,5 @@
 pub mod Between
 pub mod Giving
 mod Running
+pub mod SimpleCalls
 pub mod Status
