@@ -3,3 +3,4 @@ pub mod Giving
 mod Running
 pub mod SimpleCalls
 pub mod Status
+pub mod TimedCalls
