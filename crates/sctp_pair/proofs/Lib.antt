@@ -1,6 +1,8 @@
 pub mod Between
 pub mod Giving
+pub mod ReadCall
 mod Running
 pub mod SimpleCalls
 pub mod Status
 pub mod TimedCalls
+pub mod WriteCall

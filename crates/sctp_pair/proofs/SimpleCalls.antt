@@ -21,7 +21,7 @@ use Rattle.sctp_directions.proofs.IncomingRead.{opened_fits}
 use Rattle.sctp_directions.proofs.Invariants.{invariant_close, invariant_open}
 use Rattle.sctp_directions.proofs.OutgoingBeside as beside
 use Rattle.sctp_directions.proofs.OutgoingBeside.{same_initials}
-use Rattle.sctp_directions.proofs.PlainReceiver.{IsReceived, close_leaves, close_received, closed, open_received, plain_close, plain_open}
+use Rattle.sctp_directions.proofs.PlainReceiver.{IsReceived, close_leaves, close_received, close_takes, closed, open_received, open_takes, plain_close, plain_open}
 use Rattle.sctp_directions.proofs.Streams.{at_made}
 use Rattle.sctp_pair.specs.declared.step.Reply.{Reply}
 use Rattle.sctp_pair.specs.declared.step.Reply.TheVariants as replies
@@ -140,7 +140,7 @@ pub fails_settle : (own peer : ℕ) (a b y : Shown) (out coming : Direction) →
     → Settles own peer b y out coming nothing_added nothing_read None_brought
 fails_settle own peer a b y out coming failed f =
     settles_by_received own peer a b y out coming Event.Close f (close_received coming)
-    (goes_by_received coming Event.Close (close_received coming) (ap (λ (w : Direction). w.receiver.taken) (close_leaves coming)) (ap (λ (w : Direction). w.reads) (close_leaves coming)))
+    (goes_by_received coming Event.Close (close_received coming) (close_takes coming) (ap (λ (w : Direction). w.reads) (close_leaves coming)))
     (invariant_close coming f.invariant_coming) (plain_close coming f.plain_coming)
     (inr (inr record { failed = failed; stopped = closed coming }))
 
@@ -220,10 +220,6 @@ free_by false false left e = (refl, refl)
 none_by : (x : Option Stream) → is_some x ≡ false → x ≡ None
 none_by None e = refl
 none_by (Some t) e = absurd (true≢false e)
-
-open_takes : (w : Direction) (s : ℕ) → (happens w (Event.Open s)).receiver.taken ≡ w.receiver.taken
-unfolding happens
-open_takes w s = refl
 
 open_reads : (w : Direction) (s : ℕ) → (happens w (Event.Open s)).reads ≡ w.reads
 unfolding happens
