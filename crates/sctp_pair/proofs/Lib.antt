@@ -2,3 +2,5 @@ pub mod Between
 pub mod Giving
 mod Running
 pub mod Status
+pub mod Promised
+pub mod Saying
