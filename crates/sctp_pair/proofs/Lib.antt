@@ -4,3 +4,5 @@ mod Running
 pub mod Status
 pub mod Promised
 pub mod Saying
+pub mod Settled
+pub mod Worlds
