@@ -6,3 +6,6 @@ pub mod Promised
 pub mod Saying
 pub mod Settled
 pub mod Worlds
+pub mod Starting
+pub mod Answered
+pub mod Assembled
