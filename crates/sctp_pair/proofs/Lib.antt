@@ -3,6 +3,7 @@ pub mod Assembled
 pub mod Between
 pub mod Giving
 pub mod Packets
+pub mod Polls
 pub mod Promised
 pub mod ReadCall
 mod Running
