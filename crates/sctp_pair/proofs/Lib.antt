@@ -1,11 +1,17 @@
-pub mod Between
-pub mod Giving
-mod Running
-pub mod Status
-pub mod Promised
-pub mod Saying
-pub mod Settled
-pub mod Worlds
-pub mod Starting
 pub mod Answered
 pub mod Assembled
+pub mod Between
+pub mod Giving
+pub mod Packets
+pub mod Promised
+pub mod ReadCall
+mod Running
+pub mod Saying
+pub mod Settled
+pub mod SimpleCalls
+pub mod Starting
+pub mod Status
+pub mod Taking
+pub mod TimedCalls
+pub mod Worlds
+pub mod WriteCall
