@@ -9,6 +9,8 @@ use Rattle.sctp_wire_types.specs.declared.chunk.Chunk.TheVariants as chunks
 use Rattle.sctp_wire_types.specs.declared.chunk.ChunkPayloadData.{ChunkPayloadData}
 use Rattle.sctp_wire_types.specs.declared.chunk.ChunkSelectiveAck.{ChunkSelectiveAck}
 use Rattle.sctp_wire_types.specs.declared.error.Error.{Error}
+use Rattle.sctp_wire_types.specs.declared.error.Error.TheVariants as errors
+use Rattle.sctp_wire_types.specs.Errors.{refusal_number}
 use Rattle.sctp_wire_types.specs.Checks.{checked_chunk}
 use Rattle.sctp_wire_types.specs.Serial.{tsn_past}
 use Rattle.sctp_wire.specs.declared.packet.Packet.{Packet}
@@ -42,9 +44,13 @@ use Rattle.sctp_directions.proofs.PlainReceiver.{close_received, close_takes, cl
 use Rattle.sctp_directions.proofs.OutgoingKept.{flight_length}
 use Rattle.sctp_directions.proofs.Streams.{at_made}
 use Rattle.sctp_pair.specs.Fits.{Stands, StandsClosed, StandsFailed, StandsOpen}
+use Rattle.sctp_pair.specs.declared.step.Reply.{Reply}
+use Rattle.sctp_pair.specs.declared.step.Reply.TheVariants as replies
+use Rattle.sctp_pair.specs.Steps.{Fails, HadFailed, TakesPacket}
 use Rattle.sctp_pair.specs.World.{HasData}
 use Rattle.sctp_pair.proofs.Between.{Faces, Goes, Holds, None_brought, Settles, does_by_goes, goes_nowhere, goes_on, nothing_added, nothing_read, other_by_coming}
 use Rattle.sctp_pair.proofs.Giving.{AfterOut, act_acknowledged}
+use Rattle.sctp_pair.proofs.SimpleCalls.{fails_settle, same_settles}
 use Rattle.sctp_pair.proofs.Status.{IsSameStatus, data_chunk_status, sack_chunk_status, status_same}
 use Rattle.sctp_pair.proofs.Taking.{AfterComing, IsTaking, act_opened, act_took, coming_nowhere, data_acts, goes_by_received}
 
@@ -417,3 +423,73 @@ failed_packet own peer now false a (Some packet) out coming said f =
     (λ b wish at v. v)
     (λ b v. closed_fails (is_closed_state b.state) b v)
     packet.chunks a wishes.None now (all_said_in own peer out coming packet [] packet.chunks refl said) f
+
+-- what may be brought is more than nothing
+brings_more : (own peer : ℕ) (b y : Shown) (out coming : Direction) (B : ℕ → Type 0) → Settles own peer b y out coming nothing_added nothing_read None_brought
+    → Settles own peer b y out coming nothing_added nothing_read B
+brings_more own peer b y out coming B s = record {
+  out2 = s.out2;
+  coming2 = s.coming2;
+  does_out = s.does_out;
+  does_coming = record {
+    events = s.does_coming.events;
+    is = s.does_coming.is;
+    accepted = s.does_coming.accepted;
+    size = s.does_coming.size;
+    reads = s.does_coming.reads;
+    taken = λ o m. ⊎_elim (λ (n : mem o coming.receiver.taken ≡ true). inl n) (λ (n : ⊥). absurd n) (s.does_coming.taken o m);
+    datas = s.does_coming.datas;
+    sacks = s.does_coming.sacks;
+  };
+  invariant_out = s.invariant_out;
+  invariant_coming = s.invariant_coming;
+  plain_out = s.plain_out;
+  plain_coming = s.plain_coming;
+  stands = s.stands;
+  other = s.other;
+}
+
+lost_stays : (lost : Bool) (a b : Shown) → lost ≡ true → (if lost then a else b) ≡ a
+lost_stays true a b e = refl
+lost_stays false a b e = absurd (false≢true e)
+
+processed_settles : (own peer now : ℕ) (a y : Shown) (packet : Option Packet) (out coming : Direction) → SaysAll peer own coming out packet → Faces own peer a y out coming
+    → Settles own peer (after_packet a packet now) y out coming nothing_added nothing_read (λ o. HasData packet (tsn peer o))
+processed_settles own peer now a y packet out coming said f =
+    let B : ℕ → Type 0 = λ o. HasData packet (tsn peer o) in
+    ⊎_elim
+    (λ (s : StandsOpen own peer a out coming). open_packet own peer now a.lost a y packet out coming s.present said (start_step own peer a y out coming B f s))
+    (λ (r : StandsClosed a coming ⊎ StandsFailed a coming).
+    ⊎_elim
+    (λ (s : StandsClosed a coming). brings_more own peer (after_packet a packet now) y out coming B
+        (same_settles own peer a (after_packet a packet now) y out coming (lost_stays a.lost a (after_packet_of a packet now) s.lost) f))
+    (λ (s : StandsFailed a coming). brings_more own peer (after_packet a packet now) y out coming B
+        (fails_settle own peer a (after_packet a packet now) y out coming (failed_packet own peer now a.lost a packet out coming said s.failed) f))
+    r)
+    f.stands
+
+refused_settles : (own peer n : ℕ) (a b y : Shown) (packet : Option Packet) (out coming : Direction) (B : ℕ → Type 0)
+    → HadFailed a n b ⊎ (Fails a n b ⊎ ((n ≡ refusal_number errors.ErrNoMemory) × (b ≡ a))) → Faces own peer a y out coming
+    → Settles own peer b y out coming nothing_added nothing_read B
+refused_settles own peer n a b y packet out coming B (inl had) f = brings_more own peer b y out coming B (same_settles own peer a b y out coming had.2 f)
+refused_settles own peer n a b y packet out coming B (inr (inl fails)) f = brings_more own peer b y out coming B (fails_settle own peer a b y out coming fails.1.marked f)
+refused_settles own peer n a b y packet out coming B (inr (inr same)) f = brings_more own peer b y out coming B (same_settles own peer a b y out coming same.1 f)
+
+-- a packet that the other side gave out comes
+pub packet_settles : (own peer now : ℕ) (a b y : Shown) (packet : Option Packet) (r : Reply) (out coming : Direction) → TakesPacket a packet now r b
+    → SaysAll peer own coming out packet → Faces own peer a y out coming
+    → Settles own peer b y out coming nothing_added nothing_read (λ o. HasData packet (tsn peer o))
+packet_settles own peer now a b y packet replies.Done out coming h said f =
+    subst (λ z. Settles own peer z y out coming nothing_added nothing_read (λ o. HasData packet (tsn peer o))) (sym h) (processed_settles own peer now a y packet out coming said f)
+packet_settles own peer now a b y packet (replies.Refused n) out coming h said f =
+    refused_settles own peer n a b y packet out coming (λ o. HasData packet (tsn peer o)) h f
+packet_settles own peer now a b y packet (replies.Wrote n) out coming h said f = absurd h
+packet_settles own peer now a b y packet (replies.Read m) out coming h said f = absurd h
+packet_settles own peer now a b y packet (replies.BufferedAmount n) out coming h said f = absurd h
+packet_settles own peer now a b y packet (replies.Event e) out coming h said f = absurd h
+packet_settles own peer now a b y packet (replies.Timeout t) out coming h said f = absurd h
+packet_settles own peer now a b y packet (replies.Sent first count) out coming h said f = absurd h
+packet_settles own peer now a b y packet replies.NothingSent out coming h said f = absurd h
+packet_settles own peer now a b y packet (replies.State s) out coming h said f = absurd h
+packet_settles own peer now a b y packet (replies.Rtt t) out coming h said f = absurd h
+packet_settles own peer now a b y packet replies.NoSuchPacket out coming h said f = absurd h

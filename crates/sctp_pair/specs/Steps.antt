@@ -9,6 +9,7 @@ use Rattle.sctp_wire.specs.declared.packet.Packet.{Packet}
 use Rattle.sctp_wire.specs.Packets.{packet_at}
 use Rattle.sctp_assoc.specs.Calls.{after_timeouts, buffered_of, deadline_of, has_begun_closing, is_closed_state, open_refusal, opened, read_from_stream, stream_refusal, write_refusal, written}
 use Rattle.sctp_assoc.specs.Chunks.{after_packet}
+use Rattle.sctp_assoc.specs.Happened.{PollsOn, acts_of_poll}
 use Rattle.sctp_assoc.specs.Inbound.{taken_packet}
 use Rattle.sctp_assoc.specs.Polled.{polled}
 use Rattle.sctp_assoc.specs.Shown.{HasFailed, Shown}
@@ -89,7 +90,7 @@ Fails a n b = (n ≡ refusal_number errors.ErrNoMemory) × HasFailed a.state a.l
 -- of the packets of a poll those for which room was refused are lost, and all behind them
 abbrev pub LosesSome : Shown → List (List ℕ) → ℕ → ℕ → Shown → List (List ℕ) → Type 0
 LosesSome a packets now n b more =
-    (n ≡ refusal_number errors.ErrNoMemory) × ((polled a now).0 ≡ b)
+    (n ≡ refusal_number errors.ErrNoMemory) × ((polled a now).0 ≡ b) × PollsOn (acts_of_poll a now) a b (polled a now).1
     × ((kept : ℕ) × (more ≡ packets ++ take kept (polled a now).1))
 
 -- packets get the next numbers of their side, or a front of them where room is refused
@@ -101,12 +102,13 @@ Keeps packets given (replies.Refused n) more =
     (n ≡ refusal_number errors.ErrNoMemory) × ((kept : ℕ) × (more ≡ packets ++ take kept given))
 Keeps packets given _ more = ⊥
 
--- a poll for packets: they get the next numbers of their side
+-- a poll for packets: they are what its acts give out, and get the next numbers of their side
 abbrev pub GivesOut : Shown → List (List ℕ) → ℕ → Reply → Shown → List (List ℕ) → Type 0
-GivesOut a packets now replies.NothingSent b more = (a.failed ≡ false) × (polled a now ≡ (b, [])) × (more ≡ packets)
+GivesOut a packets now replies.NothingSent b more =
+    (a.failed ≡ false) × (polled a now ≡ (b, [])) × PollsOn (acts_of_poll a now) a b [] × (more ≡ packets)
 GivesOut a packets now (replies.Sent first count) b more =
     (a.failed ≡ false) × (first ≡ length packets) × (count ≡ length (polled a now).1) × ((polled a now).0 ≡ b)
-    × (more ≡ packets ++ (polled a now).1)
+    × PollsOn (acts_of_poll a now) a b (polled a now).1 × (more ≡ packets ++ (polled a now).1)
 GivesOut a packets now (replies.Refused n) b more =
     (HadFailed a n b × (more ≡ packets)) ⊎ ((Fails a n b × (more ≡ packets)) ⊎ LosesSome a packets now n b more)
 GivesOut a packets now _ b more = ⊥
