@@ -15,16 +15,8 @@ use Rattle.sctp_pair.specs.Ends.{end_of}
 use Rattle.sctp_pair.specs.World.{World, accepted_at, message_read, messages_on, other_side}
 use Rattle.sctp_pair.proofs.Between.{None_brought, nothing_added, nothing_read}
 use Rattle.sctp_pair.proofs.Settled.{IsCallAt}
-
--- what a write on stream id, so answered, adds to what was accepted on stream s
-abbrev pub written_by : Reply → Shown → ℕ → List ℕ → ℕ → List Message
-written_by (replies.Wrote n) a id bytes s = if id == s then messages_on (stream_at a.streams id) bytes else []
-written_by r a id bytes s = []
-
--- what a read of stream id, so answered, read on stream s
-abbrev pub read_by : Reply → ℕ → ℕ → Option letters.Message
-read_by (replies.Read m) id s = if id == s then m else None
-read_by r id s = None
+use Rattle.sctp_pair.proofs.ReadCall.{read_by}
+use Rattle.sctp_pair.proofs.WriteCall.{written_by}
 
 -- A step that neither writes nor reads.
 abbrev pub IsQuiet : Step → Reply → World → Type 0

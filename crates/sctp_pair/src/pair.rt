@@ -46,7 +46,6 @@ impl Pair {
     /// `remote_of_a` is the address at which A reaches B. Refused where A would be refused, or else B.
     ///
     /// It stands in the world in which nothing happened yet.
-    #[tactic(auto, using(crate::proofs::Starting::fits_start))]
     pub fn snap(
         alloc: Global,
         config_a: &TransportConfig,
