@@ -13,7 +13,7 @@ use Rattle.sctp_model.specs.Reassembly.{Got}
 use Rattle.sctp_model.specs.Machine.{Direction, Event, happens}
 use Rattle.sctp_model.proofs.Steps.{happens_keeps}
 use Rattle.sctp_assoc.specs.Acts.{Act, parts}
-use Rattle.sctp_assoc.specs.Calls.{read_from_stream, stream_refusal}
+use Rattle.sctp_assoc.specs.Calls.{read_from_stream}
 use Rattle.sctp_assoc.specs.Shown.{Shown}
 use Rattle.sctp_assoc.proofs.Joining.{read_leads_on}
 use Rattle.sctp_directions.specs.Incoming.{IsReadAs}
