@@ -1,4 +1,5 @@
 pub mod Acting
+pub mod Carrying
 mod Giving
 pub mod Joining
 pub mod Polling

@@ -5,6 +5,7 @@ use Rattle.std.specs.List.{AllByRecursion}
 use Rattle.sctp_wire_types.specs.declared.chunk.ChunkPayloadData.{ChunkPayloadData}
 use Rattle.sctp_model.specs.Packets.{Data, Sack, mem}
 use Rattle.sctp_model.specs.Machine.{Direction, Event, Receiver, happens, run}
+use Rattle.sctp_model.specs.Safe.{IsWithin}
 use Rattle.sctp_assoc.specs.Acts.{Act, Can, CanAll, Parts, all_data_given, data_given, done, done_all}
 use Rattle.sctp_assoc.specs.Shown.{Shown}
 use Rattle.sctp_directions.specs.Said.{IsGiven}
@@ -14,6 +15,7 @@ use Rattle.sctp_directions.proofs.OutgoingAcknowledged.{acknowledged}
 use Rattle.sctp_directions.proofs.OutgoingAgain.{sent_again}
 use Rattle.sctp_directions.proofs.OutgoingBeside.{same_initials}
 use Rattle.sctp_directions.proofs.OutgoingSent.{sent}
+use Rattle.sctp_directions.proofs.PlainReceiver.{within_sack_comes}
 use Rattle.sctp_directions.proofs.PlainSender.{plain_resend, plain_sack_comes}
 use Rattle.sctp_directions.proofs.SenderEvents.{IsSentOnly, sent_begin, sent_resend, sent_sack_comes}
 use Rattle.sctp_pair.proofs.Between.{Goes, Holds, None_brought, goes_nowhere, goes_on, other_by_out}
@@ -90,10 +92,10 @@ act_sent_again own peer place p y out coming h can =
 -- a SACK that acknowledges the first n pieces in flight
 pub act_acknowledged : (own peer n k : ℕ) (x : Sack) (p : Parts) (y : Shown) (out coming : Direction) → Holds own peer p y out coming
     → slice_get out.sacks k ≡ Some x → x.point ≡ out.sender.point + n → Can (Act.Acknowledged n) p
-    → AfterOut own peer (done (Act.Acknowledged n) p) y out coming []
+    → (after : AfterOut own peer (done (Act.Acknowledged n) p) y out coming []) × (IsWithin out → IsWithin after.out2)
 act_acknowledged own peer n k x p y out coming h e at can =
     let event = sent_sack_comes out k in
-    record {
+    (record {
       out2 = happens out (Event.SackComes k);
       goes = goes_by_sent None_brought out (Event.SackComes k) event;
       holds = record {
@@ -109,7 +111,7 @@ act_acknowledged own peer n k x p y out coming h e at can =
             (ap (λ (r : Receiver). r.is_open) event.on.receiver) h.other;
       };
       said = tt;
-    }
+    }, λ within. within_sack_comes out k within)
 
 -- acts that give out DATA
 abbrev pub GivesData : Act → Type 0

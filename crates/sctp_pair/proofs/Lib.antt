@@ -1,8 +1,17 @@
+pub mod Answered
+pub mod Assembled
 pub mod Between
 pub mod Giving
+pub mod Packets
+pub mod Promised
 pub mod ReadCall
 mod Running
+pub mod Saying
+pub mod Settled
 pub mod SimpleCalls
+pub mod Starting
 pub mod Status
+pub mod Taking
 pub mod TimedCalls
+pub mod Worlds
 pub mod WriteCall

@@ -3,6 +3,8 @@ ghost use Rattle.std.specs.Prelude.{◌≡◌, length, slice_get, [], None, OnEr
 ghost use Rattle.std.specs.Option.{option_copied};
 ghost use Rattle.sctp_assoc.specs.Join.{join_refusal, joined};
 ghost use Rattle.sctp_pair.specs.Ends.{JoinRefuses, packets_of, end_of};
+ghost use Rattle.sctp_pair.specs.World.{empty_world};
+ghost use Rattle.sctp_pair.specs.Fits.{Fits};
 ghost use Rattle.sctp_pair.specs.Steps.{AtSide, Buffers, ComesTo, Expires, Finds, Opens, Reads, Runs, SendsAt, Steps, Tells, Writes};
 
 use crate::{Reply, Side2, Step, calls};
@@ -42,6 +44,9 @@ impl Model for Pair {
 impl Pair {
     /// A pair that two tokens join: `token_a` is A's own and what B knows of A, `token_b` the other way round.
     /// `remote_of_a` is the address at which A reaches B. Refused where A would be refused, or else B.
+    ///
+    /// It stands in the world in which nothing happened yet.
+    #[tactic(auto, using(crate::proofs::Starting::fits_start))]
     pub fn snap(
         alloc: Global,
         config_a: &TransportConfig,
@@ -62,6 +67,7 @@ impl Pair {
         ensures refused { JoinRefuses result
             (join_refusal max_payload_size_a token_a.now token_b.now)
             (join_refusal max_payload_size_b token_b.now token_a.now) }
+        ensures fits { IfOk result (λ p. Fits p (empty_world p token_a.now.initial_tsn token_b.now.initial_tsn max_payload_size_a max_payload_size_b)) }
     {
         let a = Association::new_with_out_of_band_init(
             alloc,
