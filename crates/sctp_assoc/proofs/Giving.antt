@@ -249,7 +249,7 @@ sent_data_parts : (a : Shown) (count now : ℕ) (x : Sender × List ChunkPayload
     → parts (with_sent_data a count now x).0 h ≡ sending x.0 a.streams h
 sent_data_parts a count now (s, pieces) h = refl
 
-sent_data_said : (a : Shown) (count now : ℕ) (x : Sender × List ChunkPayloadData) → (with_sent_data a count now x).1 ≡ x.1
+pub sent_data_said : (a : Shown) (count now : ℕ) (x : Sender × List ChunkPayloadData) → (with_sent_data a count now x).1 ≡ x.1
 sent_data_said a count now (s, pieces) = refl
 
 -- what a poll's DATA leaves as it is

@@ -1,4 +1,7 @@
 mod Acting
+mod Closing
 mod Giving
 mod Joining
 mod Polling
+mod Reporting
+mod Waits
