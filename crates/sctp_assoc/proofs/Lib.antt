@@ -3,5 +3,6 @@ mod Closing
 mod Giving
 mod Joining
 mod Polling
+mod Reading
 mod Reporting
 mod Waits

@@ -14,6 +14,7 @@ use Rattle.sctp_queues.specs.declared.event.Event.TheVariants.{AssociationLost, 
 use Rattle.sctp_outbound_queue.specs.Waiting.{Waiting}
 use Rattle.sctp_outbound_queue.specs.Outbound.{all_marked, with_message}
 use Rattle.sctp_receive_queues.specs.Messages.{Message}
+use Rattle.sctp_receive_queues.specs.Reassembly.{ready}
 use Rattle.sctp_queues.specs.Stream.{Stream, accepted_by, params_for}
 use Rattle.sctp_queues.specs.Streams.{StreamMap, stream_at, generation_left, changed_stream, made, read_in, last_stats, without_streams}
 use Rattle.sctp_inbound.specs.Receiver.{acknowledged_at_once}
@@ -128,6 +129,14 @@ read_refusal a id =
 -- what a read leaves and gives
 abbrev pub read_from_stream : Shown → ℕ → Shown × Option Message
 read_from_stream a id = (record a { streams = (read_in a.streams id).0 }, (read_in a.streams id).1)
+
+abbrev pub ready_of : Option Stream → List Message
+ready_of None = []
+ready_of (Some s) = ready s.reassembly
+
+-- the messages that reads on a stream give, one after another
+abbrev pub ready_messages : Shown → ℕ → List Message
+ready_messages a id = ready_of (stream_at a.streams id)
 
 abbrev pub size_refusal : Shown → Stream → ℕ → Option Error
 size_refusal a s size =
