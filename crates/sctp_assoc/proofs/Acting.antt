@@ -56,7 +56,7 @@ written_tied : (o : Option Stream) (p : Parts) (id : ℕ) (bytes : List ℕ) →
 written_tied None p id bytes e = e
 written_tied (Some s) p id bytes e = e
 
-sent_first : (fs : List Waiting) (q : Outbound) (now : ℕ) → (sent_from fs q now).first_tsn ≡ q.first_tsn
+pub sent_first : (fs : List Waiting) (q : Outbound) (now : ℕ) → (sent_from fs q now).first_tsn ≡ q.first_tsn
 sent_first [] q now = refl
 sent_first (f ∷ fs) q now = refl
 

@@ -15,7 +15,8 @@ use Rattle.sctp_assoc.specs.Acts.{Act, Can, CanAll, History, Parts, done, done_a
 use Rattle.sctp_assoc.specs.Polled.{data_polled, with_sent_data}
 use Rattle.sctp_assoc.specs.Shown.{Shown}
 use Rattle.sctp_assoc.specs.Happened.{acks_given, acts_of_ack, acts_of_data_poll, acts_of_marks, acts_of_new, acts_of_resending, acts_of_sending, first_again, first_sent}
-use Rattle.sctp_assoc.proofs.Acting.{Tied, act_tied, can_append, done_append, given_append}
+use Rattle.sctp_assoc.proofs.Acting.{Tied, act_tied, can_append, done_append, given_append, sent_first}
+use Rattle.sctp_outbound.proofs.Sending.{chunks_full, chunks_sent, chunks_skip, pieces_full, pieces_sent, pieces_skip}
 
 -- Acts can be done, lead from some parts to others, and give out this DATA.
 pub record Gives (xs : List Act) (p q : Parts) (given : List ChunkPayloadData) : Type 0 where
@@ -70,24 +71,6 @@ again_one x ps xs p e tied =
 
 gives_same : (xs ys : List Act) (p q r : Parts) (c d : List ChunkPayloadData) → xs ≡ ys → q ≡ r → c ≡ d → Gives ys p r d → Gives xs p q c
 gives_same xs ys p q r c d e f g m = rw (e, f, g) m
-
-pieces_skip : (p : InFlight) (ps : List InFlight) (room : ℕ) → p.retransmit ≡ false → resent_pieces room (p ∷ ps) ≡ p ∷ resent_pieces room ps
-pieces_skip p ps room unmarked = rw unmarked
-
-pieces_full : (p : InFlight) (ps : List InFlight) (room : ℕ) → p.retransmit ≡ true → nat_lt room (length p.user_data) ≡ true → resent_pieces room (p ∷ ps) ≡ p ∷ ps
-pieces_full p ps room marked full = rw (marked, full)
-
-pieces_sent : (p : InFlight) (ps : List InFlight) (room : ℕ) → p.retransmit ≡ true → nat_lt room (length p.user_data) ≡ false → resent_pieces room (p ∷ ps) ≡ counted_again p ∷ resent_pieces (room - length p.user_data) ps
-pieces_sent p ps room marked fits = rw (marked, fits)
-
-chunks_skip : (p : InFlight) (ps : List InFlight) (first place room : ℕ) → p.retransmit ≡ false → resent_chunks first place room (p ∷ ps) ≡ resent_chunks first (place + 1) room ps
-chunks_skip p ps first place room unmarked = rw unmarked
-
-chunks_full : (p : InFlight) (ps : List InFlight) (first place room : ℕ) → p.retransmit ≡ true → nat_lt room (length p.user_data) ≡ true → resent_chunks first place room (p ∷ ps) ≡ []
-chunks_full p ps first place room marked full = rw (marked, full)
-
-chunks_sent : (p : InFlight) (ps : List InFlight) (first place room : ℕ) → p.retransmit ≡ true → nat_lt room (length p.user_data) ≡ false → resent_chunks first place room (p ∷ ps) ≡ chunk_of p (tsn_at first place) ∷ resent_chunks first (place + 1) (room - length p.user_data) ps
-chunks_sent p ps first place room marked fits = rw (marked, fits)
 
 acts_skip : (p : InFlight) (ps : List InFlight) (place room : ℕ) → p.retransmit ≡ false → acts_of_resending place room (p ∷ ps) ≡ acts_of_resending (place + 1) room ps
 acts_skip p ps place room unmarked = rw unmarked
@@ -166,13 +149,9 @@ unfolding sent_one
 one_said [] s out now = sym (append-nil out)
 one_said (m ∷ ms) s out now = refl
 
-next_first : (ms : List Waiting) (q : Outbound) (now : ℕ) → (sent_from ms q now).first_tsn ≡ q.first_tsn
-next_first [] q now = refl
-next_first (m ∷ ms) q now = refl
-
 one_tied : (s : Sender) (out : List ChunkPayloadData) (now : ℕ) (h : History) → s.queue.first_tsn ≡ tsn h.own h.base
     → (sent_one s.queue.pending s out now).0.queue.first_tsn ≡ tsn h.own h.base
-one_tied s out now h tied = ap (λ (q : Outbound). q.first_tsn) (one_queue s.queue.pending s out now refl) ∙ next_first s.queue.pending s.queue now ∙ tied
+one_tied s out now h tied = ap (λ (q : Outbound). q.first_tsn) (one_queue s.queue.pending s out now refl) ∙ sent_first s.queue.pending s.queue now ∙ tied
 
 one_gives : (ms : List Waiting) (s : Sender) (out : List ChunkPayloadData) (now : ℕ) (m : StreamMap) (h : History) → s.queue.pending ≡ ms
     → s.queue.first_tsn ≡ tsn h.own h.base
