@@ -139,7 +139,7 @@ marks_give s m h tied = marks_give_if (resends_alone s) s m h tied
 
 -- Pieces that go out for the first time.
 
-one_queue : (ms : List Waiting) (s : Sender) (out : List ChunkPayloadData) (now : ℕ) → s.queue.pending ≡ ms → (sent_one ms s out now).0.queue ≡ sent_next s.queue now
+pub one_queue : (ms : List Waiting) (s : Sender) (out : List ChunkPayloadData) (now : ℕ) → s.queue.pending ≡ ms → (sent_one ms s out now).0.queue ≡ sent_next s.queue now
 unfolding sent_one
 one_queue [] s out now e = rw e refl
 one_queue (m ∷ ms) s out now e = refl

@@ -2,6 +2,7 @@ mod Acting
 mod Closing
 mod Giving
 mod Joining
+mod Keeping
 mod Polling
 mod Reading
 mod Reporting

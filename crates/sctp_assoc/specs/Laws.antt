@@ -1,6 +1,6 @@
 -- Laws of one side: what follows from the equations of its calls, for whoever builds on it.
-use Rattle.std.specs.Prelude.{◌≡◌, ◌⊎◌, ◌<◌, ◌≤◌, ℕ, ◌+◌, ◌&&◌, ◌||◌, not, Bool, true, false, List, [], ◌∷◌, ◌++◌, length, slice_get, if◌then◌else◌, Option, Some, None}
-use Rattle.std.specs.List.{sum_by}
+use Rattle.std.specs.Prelude.{◌≡◌, ◌⊎◌, ◌<◌, ◌≤◌, ℕ, ◌+◌, ◌&&◌, ◌||◌, ◌==◌, is_some, not, Bool, true, false, List, [], ◌∷◌, ◌++◌, length, slice_get, if◌then◌else◌, Option, Some, None}
+use Rattle.std.specs.List.{list_any, sum_by}
 use Rattle.sctp_wire_types.specs.declared.chunk.Chunk.{Chunk}
 use Rattle.sctp_wire_types.specs.declared.chunk.Chunk.TheVariants as chunks
 use Rattle.sctp_wire_types.specs.declared.ids.PayloadProtocolIdentifier.{PayloadProtocolIdentifier}
@@ -10,9 +10,10 @@ use Rattle.sctp_parts.specs.declared.state.AssociationState.{AssociationState}
 use Rattle.sctp_parts.specs.declared.state.AssociationState.TheVariants as states
 use Rattle.sctp_queues.specs.declared.event.Event.{Event}
 use Rattle.sctp_queues.specs.declared.event.Event.TheVariants as events
-use Rattle.sctp_queues.specs.Streams.{bytes_waiting}
+use Rattle.sctp_queues.specs.Streams.{bytes_waiting, stream_at}
 use Rattle.sctp_outbound_queue.specs.Waiting.{Waiting}
-use Rattle.sctp_outbound_queue.specs.Outbound.{next_tsn_of}
+use Rattle.sctp_outbound_queue.specs.Message.{is_of}
+use Rattle.sctp_outbound_queue.specs.Outbound.{Outbound, next_tsn_of}
 use Rattle.sctp_inbound.specs.declared.receiver.AckWish.{AckWish}
 use Rattle.sctp_inbound.specs.declared.receiver.AckWish.TheVariants as wishes
 use Rattle.sctp_inbound.specs.Handshake.{header_of}
@@ -53,6 +54,21 @@ abbrev pub WhatWaitsGoesOut : Type 0
 WhatWaitsGoesOut = (a : Shown) (now : ℕ) (m : Waiting) → is_established a.state ≡ true → IsNextWithNothingInFlight a m → length m.user_data ≤ 65519
     → slice_get (polled a now).1 0
     ≡ Some (spelling (packet_with (header_of a.handshake) (chunks.Data (next_chunk_of m (next_tsn_of a.sender.queue)))))
+
+-- Keeping
+
+-- a piece of this message waits to be sent or is in flight
+abbrev pub is_held : Outbound → ℕ → Bool
+is_held q number = list_any (λ (m : Waiting). m.message.message_id == number) q.pending || list_any (is_of number) q.in_flight
+
+-- A message that a live stream accepted is held, under the number that was next.
+abbrev pub WritesAreHeld : Type 0
+WritesAreHeld = (a : Shown) (id : ℕ) (bytes : List ℕ) → is_some (stream_at a.streams id) ≡ true
+    → is_held (written a id bytes).sender.queue a.sender.queue.next_message_id ≡ true
+
+-- A poll loses no message: what waited goes out and then is in flight.
+abbrev pub PollsKeepWhatIsHeld : Type 0
+PollsKeepWhatIsHeld = (a : Shown) (now number : ℕ) → is_held a.sender.queue number ≡ true → is_held (polled a now).0.sender.queue number ≡ true
 
 -- Closing
 
