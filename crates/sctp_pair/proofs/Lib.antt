@@ -1,1 +1,2 @@
+mod OneSide
 mod Running
