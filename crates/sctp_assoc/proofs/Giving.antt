@@ -1,5 +1,5 @@
 -- What a poll gives out is what its acts say.
-use Rattle.std.proofs.Common.{◌≡◌, refl, sym, ap, ◌∙◌, ◌⊎◌, ⊎_elim, ℕ, zero, suc, ◌<◌, ◌≤◌, ◌+◌, ◌-◌, ◌%◌, ◌^◌, arith, Bool, true, false, not, ◌&&◌, if◌then◌else◌, List, [], ◌∷◌, ◌++◌, length, nat_lt, slice_get, slice_set, Option, Some, None, is_some}
+use Rattle.std.proofs.Common.{◌≡◌, refl, sym, ap, ◌∙◌, ⊎_elim, ℕ, zero, suc, ◌<◌, ◌+◌, ◌-◌, arith, Bool, true, false, if◌then◌else◌, List, [], ◌∷◌, ◌++◌, length, nat_lt, slice_get, slice_set, Some}
 use Rattle.std.proofs.lemmas.Bool.{cases_Bool, false≢true}
 use Rattle.std.proofs.lemmas.List.{append_assoc, append-nil}
 use Rattle.sctp_wire_types.specs.declared.chunk.ChunkPayloadData.{ChunkPayloadData}
@@ -7,15 +7,15 @@ use Rattle.sctp_model.specs.Serial.{tsn}
 use Rattle.sctp_outbound_queue.specs.declared.message.InFlight.{InFlight}
 use Rattle.sctp_outbound_queue.specs.Waiting.{Waiting}
 use Rattle.sctp_outbound_queue.specs.Message.{counted_again}
-use Rattle.sctp_outbound_queue.specs.Outbound.{Outbound, changed_at, changed_from, next_tsn_of, pieces_waiting, sent_from, sent_next, tsn_at}
+use Rattle.sctp_outbound_queue.specs.Outbound.{Outbound, next_tsn_of, pieces_waiting, sent_next, tsn_at}
 use Rattle.sctp_queues.specs.Streams.{StreamMap}
 use Rattle.sctp_outbound.specs.declared.sender.Sender.{Sender}
-use Rattle.sctp_outbound.specs.Sender.{after_resending, both_windows, can_send_next, chunk_of, first_chunk, first_counted, fits_windows, next_chunk_of, resends_alone, resent_by, resent_chunks, resent_pieces, sent_new, sent_one, sent_within, with_in_flight}
-use Rattle.sctp_assoc.specs.Acts.{Act, Can, CanAll, History, Parts, done, done_all, data_given, all_data_given, chunk_said, first_chunk_said, parts}
+use Rattle.sctp_outbound.specs.Sender.{after_resending, both_windows, can_send_next, chunk_of, first_chunk, first_counted, fits_windows, resends_alone, resent_by, resent_chunks, resent_pieces, sent_new, sent_one, sent_within, with_in_flight}
+use Rattle.sctp_assoc.specs.Acts.{Act, CanAll, History, Parts, done_all, all_data_given, first_chunk_said, parts}
 use Rattle.sctp_assoc.specs.Polled.{data_polled, with_sent_data}
 use Rattle.sctp_assoc.specs.Shown.{Shown}
 use Rattle.sctp_assoc.specs.Happened.{acks_given, acts_of_ack, acts_of_data_poll, acts_of_marks, acts_of_new, acts_of_resending, acts_of_sending, first_again, first_sent}
-use Rattle.sctp_assoc.proofs.Acting.{Tied, act_tied, can_append, done_append, given_append, sent_first}
+use Rattle.sctp_assoc.proofs.Acting.{Tied, can_append, done_append, given_append, sent_first}
 use Rattle.sctp_outbound.proofs.Sending.{chunks_full, chunks_sent, chunks_skip, pieces_full, pieces_sent, pieces_skip}
 
 -- Acts can be done, lead from some parts to others, and give out this DATA.

@@ -1,14 +1,14 @@
 -- What was written waits or is in flight, and a poll loses none of it.
-use Rattle.std.proofs.Common.{◌≡◌, refl, sym, ap, ◌∙◌, subst, ◌⊎◌, ⊎_elim, ℕ, zero, suc, ◌+◌, ◌-◌, Bool, true, false, not, eqb, ◌&&◌, ◌||◌, if◌then◌else◌, List, [], ◌∷◌, ◌++◌, length, nat_lt, Option, Some, None, is_some}
+use Rattle.std.proofs.Common.{◌≡◌, refl, sym, ap, ◌∙◌, subst, ⊎_elim, ℕ, zero, suc, ◌-◌, Bool, true, false, ◌||◌, if◌then◌else◌, List, [], ◌∷◌, ◌++◌, length, nat_lt, Option, Some, None, is_some}
 use Rattle.std.specs.List.{list_any}
 use Rattle.std.specs.Prelude.{◌==◌}
 use Rattle.std.proofs.lemmas.Bool.{cases_Bool, eq-eqb, false≢true, or_left, or_right}
 use Rattle.std.proofs.lemmas.List.Folds.{list_any-append}
 use Rattle.sctp_wire_types.specs.declared.chunk.ChunkPayloadData.{ChunkPayloadData}
 use Rattle.sctp_outbound_queue.specs.declared.message.InFlight.{InFlight}
-use Rattle.sctp_outbound_queue.specs.Message.{accepted, counted_again, is_of, sent_once, without_piece}
+use Rattle.sctp_outbound_queue.specs.Message.{accepted, is_of, sent_once}
 use Rattle.sctp_outbound_queue.specs.Waiting.{Waiting}
-use Rattle.sctp_outbound_queue.specs.Outbound.{Outbound, left_behind, pieces_waiting, sent_from, sent_next}
+use Rattle.sctp_outbound_queue.specs.Outbound.{Outbound, left_behind, pieces_waiting, sent_from}
 use Rattle.sctp_outbound.specs.declared.sender.Sender.{Sender}
 use Rattle.sctp_outbound.specs.Sender.{after_resending, both_windows, can_send_next, first_counted, resends_alone, resent_by, resent_pieces, sent_new, sent_one, sent_within, with_in_flight}
 use Rattle.sctp_outbound.proofs.Sending.{pieces_full, pieces_sent, pieces_skip}
@@ -17,7 +17,7 @@ use Rattle.sctp_queues.specs.Streams.{stream_at}
 use Rattle.sctp_inbound.specs.Handshake.{header_of}
 use Rattle.sctp_assoc.specs.Calls.{is_established, message_of, written_at}
 use Rattle.sctp_assoc.specs.Laws.{PollsKeepWhatIsHeld, WritesAreHeld, is_held}
-use Rattle.sctp_assoc.specs.Polled.{ack_after, ack_polled, data_packets, data_polled, is_due, polled, with_sent_data}
+use Rattle.sctp_assoc.specs.Polled.{ack_after, ack_polled, data_packets, data_polled, is_due, with_sent_data}
 use Rattle.sctp_assoc.specs.Shown.{Shown}
 use Rattle.sctp_assoc.proofs.Giving.{one_queue}
 use Rattle.sctp_assoc.proofs.Polling.{both_first}

@@ -3,15 +3,12 @@ use Rattle.std.proofs.Common.{◌≡◌, refl, sym, ap, ◌∙◌, ℕ, Bool, tr
 use Rattle.std.proofs.lemmas.List.{append-nil}
 use Rattle.sctp_wire_types.specs.declared.chunk.ChunkPayloadData.{ChunkPayloadData}
 use Rattle.sctp_model.specs.Serial.{tsn}
-use Rattle.sctp_queues.specs.Streams.{StreamMap, bytes_waiting}
-use Rattle.sctp_inbound.specs.declared.handshake.Handshake.{Handshake}
-use Rattle.sctp_inbound.specs.declared.receiver.Receiver.{Receiver}
 use Rattle.sctp_inbound.specs.Handshake.{header_of}
 use Rattle.sctp_inbound.specs.Receiver.{acknowledged}
 use Rattle.sctp_assoc.specs.Acts.{Act, Binds, History, Leads, Parts, all_data_given, done_all, parts}
 use Rattle.sctp_assoc.specs.Calls.{is_established}
-use Rattle.sctp_assoc.specs.Happened.{Polls, PollsOn, acks_given, acts_of_ack, acts_of_data_poll, acts_of_poll, packets_given}
-use Rattle.sctp_assoc.specs.Polled.{ack_after, ack_polled, after_both, data_packets, data_polled, is_due, polled, sack_packet, with_sent_data}
+use Rattle.sctp_assoc.specs.Happened.{PollsOn, acks_given, acts_of_ack, acts_of_data_poll, acts_of_poll}
+use Rattle.sctp_assoc.specs.Polled.{ack_after, ack_polled, after_both, data_packets, data_polled, is_due, polled, sack_packet}
 use Rattle.sctp_assoc.specs.Shown.{Shown}
 use Rattle.sctp_assoc.proofs.Acting.{acts_tied, given_append}
 use Rattle.sctp_assoc.proofs.Giving.{Adds, data_poll_adds, data_poll_stays, IsSentBeside}

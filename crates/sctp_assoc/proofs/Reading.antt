@@ -1,5 +1,5 @@
 -- A read on a stream gives the first of what is ready there, and leaves the others.
-use Rattle.std.proofs.Common.{◌≡◌, ◌↔◌, refl, sym, ap, ◌∙◌, ◌⊎◌, ⊎_elim, ℕ, Bool, true, false, cond, List, [], ◌∷◌, drop, slice_get, Option, Some, None}
+use Rattle.std.proofs.Common.{◌≡◌, ◌↔◌, refl, sym, ap, ◌∙◌, ⊎_elim, ℕ, Bool, true, false, List, [], ◌∷◌, drop, slice_get, Option, Some, None}
 use Rattle.std.specs.Prelude.{IsNone}
 use Rattle.std.specs.Map.{lookup, set_value}
 use Rattle.std.specs.Ordering.{nat_cmp}
@@ -9,7 +9,7 @@ use Rattle.sctp_receive_queues.specs.Messages.{Message}
 use Rattle.sctp_receive_queues.specs.Reassembly.{Reassembly, ready, taken}
 use Rattle.sctp_receive_queues.proofs.Ready.{reads_give_what_is_ready}
 use Rattle.sctp_queues.specs.Stream.{Stream, read_with, stream_read}
-use Rattle.sctp_queues.specs.Streams.{StreamMap, read_at, read_in, stream_at, with_stream}
+use Rattle.sctp_queues.specs.Streams.{StreamMap, read_at, read_in, stream_at}
 use Rattle.sctp_assoc.specs.Calls.{ready_of}
 
 -- what is written at a key that is found is found there

@@ -1,13 +1,12 @@
 -- Polls leave an association open, and give a SACK that is due.
-use Rattle.std.proofs.Common.{◌≡◌, refl, sym, ap, ◌∙◌, ℕ, Bool, true, false, if◌then◌else◌, List, [], ◌∷◌, ◌++◌, length}
+use Rattle.std.proofs.Common.{◌≡◌, refl, ap, ◌∙◌, ℕ, Bool, true, false, if◌then◌else◌, List, [], ◌++◌, length}
 use Rattle.sctp_wire_types.specs.declared.chunk.ChunkPayloadData.{ChunkPayloadData}
 use Rattle.sctp_inbound.specs.Handshake.{header_of}
 use Rattle.sctp_outbound.specs.declared.sender.Sender.{Sender}
 use Rattle.sctp_outbound.specs.Sender.{after_resending, resent_by, sent_new}
 use Rattle.sctp_assoc.specs.Calls.{is_established}
-use Rattle.sctp_assoc.specs.Happened.{acks_given}
 use Rattle.sctp_assoc.specs.Laws.{DueSacksGoOut, PollsDoNotClose, StaysOpen}
-use Rattle.sctp_assoc.specs.Polled.{ack_after, ack_polled, after_both, data_packets, data_polled, is_due, polled, sack_packet, with_sent_data}
+use Rattle.sctp_assoc.specs.Polled.{ack_after, ack_polled, data_packets, data_polled, is_due, sack_packet, with_sent_data}
 use Rattle.sctp_assoc.specs.Shown.{Shown}
 use Rattle.sctp_assoc.proofs.Giving.{IsSentBeside, data_poll_stays}
 use Rattle.sctp_assoc.proofs.Polling.{ack_said, both_first}
@@ -42,6 +41,7 @@ polls_do_not_close a now = polls_open_if (is_established a.state) a now
 pub due_sacks_go_out : DueSacksGoOut
 due_sacks_go_out a now established due =
     let stays : IsSentBeside a (data_polled a now).0 = data_poll_stays a now in
-    let given : (ack_polled (data_polled a now).0).1 ≡ sack_packet a = ack_said (data_polled a now).0 ∙ stays.acks ∙ rw due refl in
-    (data_packets (header_of (data_polled a now).0.handshake) (data_polled a now).1,
-      rw established (ack_behind (data_polled a now) ∙ ap (λ (z : List (List ℕ)). data_packets (header_of (data_polled a now).0.handshake) (data_polled a now).1 ++ z) given))
+    let given : (ack_polled (data_polled a now).0).1 ≡ sack_packet a = ack_said (data_polled a now).0 ∙ stays.acks ∙ rw due refl in (
+      data_packets (header_of (data_polled a now).0.handshake) (data_polled a now).1,
+      rw established (ack_behind (data_polled a now) ∙ ap (λ (z : List (List ℕ)). data_packets (header_of (data_polled a now).0.handshake) (data_polled a now).1 ++ z) given),
+    )

@@ -1,7 +1,6 @@
 -- What waits goes out with the next poll where nothing is in flight.
-use Rattle.std.proofs.Common.{◌≡◌, refl, sym, ap, ◌∙◌, subst, ◌⊎◌, ⊎_elim, ℕ, zero, suc, ◌<◌, ◌≤◌, ◌+◌, ◌-◌, ◌%◌, ◌^◌, arith, Bool, true, false, not, ◌&&◌, if◌then◌else◌, List, [], ◌∷◌, ◌++◌, length, nat_lt, slice_get, Option, Some, None, Result, Ok, Err}
-use Rattle.std.proofs.lemmas.Bool.{cases_Bool, false≢true, lt-ltb}
-use Rattle.std.proofs.lemmas.List.{append_assoc, append-nil}
+use Rattle.std.proofs.Common.{◌≡◌, refl, sym, ap, ◌∙◌, subst, ⊎_elim, ℕ, zero, suc, ◌<◌, ◌≤◌, ◌+◌, ◌%◌, ◌^◌, arith, Bool, true, false, not, ◌&&◌, if◌then◌else◌, List, [], ◌∷◌, ◌++◌, length, nat_lt, slice_get, Some, Ok}
+use Rattle.std.proofs.lemmas.Bool.{cases_Bool, lt-ltb}
 use Rattle.std.proofs.lemmas.List.Sums.{sum_by-cons}
 use Rattle.sctp_wire_types.specs.declared.chunk.Chunk.TheVariants as chunks
 use Rattle.sctp_wire_types.specs.declared.chunk.ChunkPayloadData.{ChunkPayloadData}
@@ -16,11 +15,10 @@ use Rattle.sctp_outbound_queue.specs.Outbound.{Outbound, next_tsn_of, pieces_wai
 use Rattle.sctp_inbound.specs.Handshake.{header_of}
 use Rattle.sctp_outbound.specs.declared.sender.Sender.{Sender}
 use Rattle.sctp_outbound.specs.Sender.{after_resending, can_send_next, next_chunk_of, resent_by, sent_new, sent_one, sent_within}
-use Rattle.sctp_assoc.specs.Acts.{Act, Binds, History, all_data_given, done_all, parts}
-use Rattle.sctp_assoc.specs.Calls.{is_established}
-use Rattle.sctp_assoc.specs.Happened.{acts_of_ack, acts_of_data_poll, acts_of_poll}
-use Rattle.sctp_assoc.specs.Laws.{IsNextWithNothingInFlight, WhatWaitsGoesOut, WhatWaitsIsGiven, WhatWaitsIsPolled}
-use Rattle.sctp_assoc.specs.Polled.{ack_after, ack_polled, after_both, data_packets, data_polled, packet_bytes, packet_with, polled, spelled, with_sent_data}
+use Rattle.sctp_assoc.specs.Acts.{all_data_given, parts}
+use Rattle.sctp_assoc.specs.Happened.{acts_of_ack, acts_of_data_poll}
+use Rattle.sctp_assoc.specs.Laws.{WhatWaitsGoesOut, WhatWaitsIsGiven, WhatWaitsIsPolled}
+use Rattle.sctp_assoc.specs.Polled.{ack_after, ack_polled, data_packets, data_polled, packet_bytes, packet_with, spelled}
 use Rattle.sctp_assoc.specs.Shown.{Shown}
 use Rattle.sctp_assoc.proofs.Acting.{given_append}
 use Rattle.sctp_assoc.proofs.Giving.{IsSentBeside, data_poll_adds, data_poll_stays, sent_data_said}

@@ -1,5 +1,5 @@
 -- What the calls of an application do to an association.
-use Rattle.std.specs.Prelude.{◌≡◌, ℕ, Bool, true, false, List, [], ◌∷◌, ◌++◌, ◌==◌, ◌||◌, ◌+◌, ◌-◌, ◌^◌, if◌then◌else◌, length, map, min, nat_lt, is_some, Option, Some, None, Result, Ok, Err}
+use Rattle.std.specs.Prelude.{◌≡◌, ℕ, Bool, true, false, List, [], ◌∷◌, ◌++◌, ◌==◌, ◌||◌, if◌then◌else◌, length, map, nat_lt, is_some, Option, Some, None, Result, Ok, Err}
 use Rattle.sctp_wire_types.specs.declared.error.Error.{Error}
 use Rattle.sctp_wire_types.specs.declared.error.Error.TheVariants as errors
 use Rattle.sctp_wire_types.specs.declared.ids.PayloadProtocolIdentifier.{PayloadProtocolIdentifier}
@@ -7,7 +7,7 @@ use Rattle.sctp_parts.specs.declared.state.AssociationState.{AssociationState}
 use Rattle.sctp_parts.specs.declared.state.AssociationState.TheVariants as states
 use Rattle.sctp_parts.specs.declared.timer.Timer.TheVariants as names
 use Rattle.sctp_parts.specs.State.{is_closing}
-use Rattle.sctp_parts.specs.Timers.{Timers, least_moment, after_expiry, expiry_of, with_moment, started}
+use Rattle.sctp_parts.specs.Timers.{least_moment, after_expiry, expiry_of, with_moment, started}
 use Rattle.sctp_parts.specs.Stats.{one_more}
 use Rattle.sctp_queues.specs.declared.event.AssociationError.{AssociationError}
 use Rattle.sctp_queues.specs.declared.event.Event.TheVariants.{AssociationLost, DataChannelStatsFinal}
@@ -16,7 +16,7 @@ use Rattle.sctp_outbound_queue.specs.Outbound.{all_marked, with_message}
 use Rattle.sctp_receive_queues.specs.Messages.{Message}
 use Rattle.sctp_receive_queues.specs.Reassembly.{ready}
 use Rattle.sctp_queues.specs.Stream.{Stream, accepted_by, params_for}
-use Rattle.sctp_queues.specs.Streams.{StreamMap, stream_at, generation_left, changed_stream, made, read_in, last_stats, without_streams}
+use Rattle.sctp_queues.specs.Streams.{stream_at, generation_left, changed_stream, made, read_in, last_stats, without_streams}
 use Rattle.sctp_inbound.specs.Receiver.{acknowledged_at_once}
 use Rattle.sctp_assoc.specs.Shown.{Shown, all_stopped}
 
