@@ -274,7 +274,7 @@ checked_leads : (r : Result (Unit {0}) Error) (c : Chunk) (a : Shown) (wish : Ac
 checked_leads (Err fault) c a wish now h binds = (h, leads_nowhere a a h binds refl refl)
 checked_leads (Ok done) c a wish now h binds = kind_leads c a wish now h binds
 
-chunk_leads : (c : Chunk) (a : Shown) (wish : AckWish) (now : ℕ) (h : History) → Binds a h → (k : History) × Leads (acts_of_chunk a c) a h (on_chunk a c wish now).0 k
+pub chunk_leads : (c : Chunk) (a : Shown) (wish : AckWish) (now : ℕ) (h : History) → Binds a h → (k : History) × Leads (acts_of_chunk a c) a h (on_chunk a c wish now).0 k
 unfolding on_chunk
 chunk_leads c a wish now h binds = checked_leads (checked_chunk c) c a wish now h binds
 

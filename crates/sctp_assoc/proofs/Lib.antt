@@ -1,9 +1,11 @@
-mod Acting
+pub mod Acting
+pub mod Carrying
 mod Closing
 mod Giving
-mod Joining
+pub mod Joining
 mod Keeping
-mod Polling
+pub mod Polling
+mod ReadAgain
 mod Reading
 mod Reporting
 mod Waits

@@ -1,5 +1,6 @@
 -- A poll for packets leads on by its acts, and gives what they say.
-use Rattle.std.proofs.Common.{◌≡◌, refl, sym, ap, ◌∙◌, ℕ, Bool, true, false, if◌then◌else◌, List, [], ◌∷◌, ◌++◌}
+use Rattle.std.proofs.Common.{◌≡◌, refl, sym, ap, ◌∙◌, subst, ℕ, Bool, true, false, if◌then◌else◌, List, [], ◌∷◌, ◌++◌}
+use Rattle.std.proofs.lemmas.Bool.{false≢true}
 use Rattle.std.proofs.lemmas.List.{append-nil}
 use Rattle.sctp_wire_types.specs.declared.chunk.ChunkPayloadData.{ChunkPayloadData}
 use Rattle.sctp_model.specs.Serial.{tsn}
@@ -7,8 +8,8 @@ use Rattle.sctp_inbound.specs.Handshake.{header_of}
 use Rattle.sctp_inbound.specs.Receiver.{acknowledged}
 use Rattle.sctp_assoc.specs.Acts.{Act, Binds, History, Leads, Parts, all_data_given, done_all, parts}
 use Rattle.sctp_assoc.specs.Calls.{is_established}
-use Rattle.sctp_assoc.specs.Happened.{PollsOn, acks_given, acts_of_ack, acts_of_data_poll, acts_of_poll}
-use Rattle.sctp_assoc.specs.Polled.{ack_after, ack_polled, after_both, data_packets, data_polled, is_due, polled, sack_packet}
+use Rattle.sctp_assoc.specs.Happened.{Polls, PollsOn, acks_given, acts_of_ack, acts_of_data_poll, acts_of_poll, packets_given}
+use Rattle.sctp_assoc.specs.Polled.{PollIsReadAgain, AreReadAgain, ack_after, ack_polled, after_both, data_packets, data_polled, is_due, polled, sack_packet, with_sent_data}
 use Rattle.sctp_assoc.specs.Shown.{Shown}
 use Rattle.sctp_assoc.proofs.Acting.{acts_tied, given_append}
 use Rattle.sctp_assoc.proofs.Giving.{Adds, data_poll_adds, data_poll_stays, IsSentBeside}
@@ -47,6 +48,13 @@ ack_silent : (due : Bool) (p : Parts) → all_data_given (if due then Act.Report
 ack_silent true p = refl
 ack_silent false p = refl
 
+-- the DATA of a poll is what its acts give out
+pieces_said : (pieces : List ChunkPayloadData) (xs : List Act) (a b : Shown) (h : History) → Adds xs (parts a h) (parts b h) [] pieces
+    → pieces ≡ all_data_given (xs ++ acts_of_ack a) (parts a h)
+pieces_said pieces xs a b h adds = adds.all ∙ sym (given_append xs (acts_of_ack a) (parts a h)
+    ∙ ap (λ (z : List ChunkPayloadData). all_data_given xs (parts a h) ++ z) (ack_silent (is_due a.receiver.ack_state) (done_all xs (parts a h)))
+    ∙ append-nil (all_data_given xs (parts a h)) ∙ adds.gives.said)
+
 poll_of : (x : Shown × List ChunkPayloadData) (xs : List Act) (a : Shown) (h : History) → IsSentBeside a x.0 → Binds a h
     → Adds xs (parts a h) (parts x.0 h) [] x.1
     → Leads (xs ++ acts_of_ack a) a h (ack_after x).0 h × ((ack_after x).1 ≡ data_packets (header_of a.handshake) (all_data_given (xs ++ acts_of_ack a) (parts a h)) ++ acks_given a)
@@ -64,9 +72,7 @@ poll_of (b, pieces) xs a h same binds adds =
       };
     } in
     let ack : Leads (acts_of_ack a) b h (ack_polled b).0 h = rw (← same.acts) (ack_leads b h mid.binds) in
-    let said : pieces ≡ all_data_given (xs ++ acts_of_ack a) (parts a h) = adds.all ∙ sym (given_append xs (acts_of_ack a) (parts a h)
-    ∙ ap (λ (z : List ChunkPayloadData). all_data_given xs (parts a h) ++ z) (ack_silent (is_due a.receiver.ack_state) (done_all xs (parts a h)))
-    ∙ append-nil (all_data_given xs (parts a h)) ∙ adds.gives.said) in (
+    let said = pieces_said pieces xs a b h adds in (
       rw (both_first (data_packets (header_of b.handshake) pieces) (ack_polled b)) (leads_on xs (acts_of_ack a) a b (ack_polled b).0 h h h mid ack),
       both_second (data_packets (header_of b.handshake) pieces) (ack_polled b)
           ∙ ap (λ (z : List (List ℕ)). data_packets (header_of b.handshake) pieces ++ z) (ack_said b ∙ same.acks)
@@ -80,8 +86,24 @@ polls_if : (c : Bool) (a : Shown) (now : ℕ) (h : History) → Binds a h
 polls_if true a now h binds = poll_of (data_polled a now) (acts_of_data_poll a now) a h (data_poll_stays a now) binds (data_poll_adds a now h binds.first)
 polls_if false a now h binds = (leads_nowhere a a h binds refl refl, refl)
 
-pub polls : (a : Shown) (now : ℕ) → PollsOn (acts_of_poll a now) a (polled a now).0 (polled a now).1
-polls a now h binds = let all = polls_if (is_established a.state) a now h binds in record { leads = all.0; said = all.1 }
+-- what is read again of the DATA of a poll
+data_again_if : (c : Bool) (a : Shown) (now : ℕ) (h : History) → Binds a h → c ≡ true → AreReadAgain (header_of a.handshake) (data_polled a now).1
+    → AreReadAgain (header_of a.handshake) (all_data_given (if c then acts_of_data_poll a now ++ acts_of_ack a else []) (parts a h))
+data_again_if true a now h binds e again =
+    subst (λ (z : List ChunkPayloadData). AreReadAgain (header_of a.handshake) z)
+    (pieces_said (data_polled a now).1 (acts_of_data_poll a now) a (data_polled a now).0 h (data_poll_adds a now h binds.first)) again
+data_again_if false a now h binds e again = absurd (false≢true e)
 
-pub polls_on : (a b : Shown) (now : ℕ) (packets : List (List ℕ)) → polled a now ≡ (b, packets) → PollsOn (acts_of_poll a now) a b packets
-polls_on a b now packets e = rw (ap (λ (x : Shown × List (List ℕ)). x.0) (sym e), ap (λ (x : Shown × List (List ℕ)). x.1) (sym e)) (polls a now)
+pub polls : (a : Shown) (now : ℕ) → PollIsReadAgain a now → PollsOn (acts_of_poll a now) a (polled a now).0 (polled a now).1
+polls a now again h binds =
+    let all = polls_if (is_established a.state) a now h binds in
+    record {
+      leads = all.0;
+      said = all.1;
+      data_again = λ e. data_again_if (is_established a.state) a now h binds e (again e).0;
+      ack_again = λ e. (data_poll_stays a now).again (again e).1;
+    }
+
+pub polls_on : (a b : Shown) (now : ℕ) (packets : List (List ℕ)) → polled a now ≡ (b, packets) → PollIsReadAgain a now → PollsOn (acts_of_poll a now) a b packets
+polls_on a b now packets e again =
+    rw (ap (λ (x : Shown × List (List ℕ)). x.0) (sym e), ap (λ (x : Shown × List (List ℕ)). x.1) (sym e)) (polls a now again)

@@ -26,7 +26,7 @@ use Rattle.sctp_assoc.specs.declared.inbound.Flow.TheVariants as flows
 use Rattle.sctp_assoc.specs.Acts.{Act, Binds, History, Leads, all_data_given, parts}
 use Rattle.sctp_assoc.specs.Calls.{is_established, is_closed_state}
 use Rattle.sctp_assoc.specs.Chunks.{counted_data, is_whole, on_chunk, stream_found}
-use Rattle.sctp_assoc.specs.Polled.{data_packets, is_due, sack_packet}
+use Rattle.sctp_assoc.specs.Polled.{AckIsReadAgain, AreReadAgain, data_packets, is_due, sack_packet}
 use Rattle.sctp_assoc.specs.Shown.{Shown}
 
 -- What each call does to the directions.
@@ -152,10 +152,12 @@ abbrev pub packets_given : List Act → Shown → History → List (List ℕ)
 packets_given xs a h =
     if is_established a.state then data_packets (header_of a.handshake) (all_data_given xs (parts a h)) ++ acks_given a else []
 
--- A poll for packets leads on by its acts, and gives what they say.
+-- A poll for packets leads on by its acts, and gives what they say: each packet is read as the chunk that it was made of.
 pub record Polls (xs : List Act) (a : Shown) (h : History) (b : Shown) (packets : List (List ℕ)) : Type 0 where
   pub leads : Leads xs a h b h
   pub said : packets ≡ packets_given xs a h
+  pub data_again : is_established a.state ≡ true → AreReadAgain (header_of a.handshake) (all_data_given xs (parts a h))
+  pub ack_again : is_established a.state ≡ true → AckIsReadAgain a
 
 -- a poll for packets does and gives so from each history on which the association stands
 abbrev pub PollsOn : List Act → Shown → Shown → List (List ℕ) → Type 0

@@ -1,5 +1,6 @@
 -- What a poll for packets gives, and in which order (RFC 4960 sections 6.1, 6.2 and 6.10).
 use Rattle.std.specs.Prelude.{◌≡◌, ℕ, Bool, true, false, List, [], ◌∷◌, ◌++◌, if◌then◌else◌, length, nat_lt, Option, Some, None, Result, Ok, Err}
+use Rattle.std.specs.List.{AllByRecursion}
 use Rattle.sctp_wire_types.specs.declared.chunk.Chunk.{Chunk}
 use Rattle.sctp_wire_types.specs.declared.chunk.Chunk.TheVariants as chunks
 use Rattle.sctp_wire_types.specs.declared.chunk.ChunkPayloadData.{ChunkPayloadData}
@@ -9,7 +10,7 @@ use Rattle.sctp_wire.specs.declared.packet.Packet.{Packet}
 use Rattle.sctp_wire.specs.declared.transmit.Payload.{Payload}
 use Rattle.sctp_wire.specs.declared.transmit.Payload.TheVariants as payloads
 use Rattle.sctp_wire.specs.declared.transmit.Transmit.{Transmit}
-use Rattle.sctp_wire.specs.Packets.{written}
+use Rattle.sctp_wire.specs.Packets.{packet_at, written}
 use Rattle.sctp_parts.specs.declared.state.AckState.{AckState}
 use Rattle.sctp_parts.specs.declared.state.AckState.TheVariants as acks
 use Rattle.sctp_parts.specs.declared.timer.Timer.TheVariants as names
@@ -62,9 +63,12 @@ is_due acks.Idle = false
 is_due acks.Immediate = true
 is_due acks.Delay = false
 
+-- the acknowledgement of what came
+abbrev pub sack_chunk : Shown → Chunk
+sack_chunk a = chunks.SelectiveAck (sack_of a.receiver (bytes_waiting a.streams))
+
 abbrev pub sack_packet : Shown → List (List ℕ)
-sack_packet a =
-    packet_bytes (header_of a.handshake) (chunks.SelectiveAck (sack_of a.receiver (bytes_waiting a.streams)))
+sack_packet a = packet_bytes (header_of a.handshake) (sack_chunk a)
 
 -- the acknowledgement, where it is due
 unfoldable pub ack_polled : Shown → Shown × List (List ℕ)
@@ -95,3 +99,19 @@ pub record IsAddressed (a : Shown) (now : ℕ) (t : Transmit) : Type 0 where
   pub remote : t.remote ≡ a.remote_addr
   pub local : t.local_ip ≡ a.local_ip
   pub unmarked : t.ecn ≡ None
+
+-- a packet of one chunk, where it is spelled, is read as that packet again
+abbrev pub IsReadAgain : CommonHeader → Chunk → Type 0
+IsReadAgain header chunk = (bytes : List ℕ) → packet_bytes header chunk ≡ bytes ∷ [] → packet_at bytes ≡ Ok (packet_with header chunk)
+
+abbrev pub AreReadAgain : CommonHeader → List ChunkPayloadData → Type 0
+AreReadAgain header pieces = AllByRecursion (λ (c : ChunkPayloadData). IsReadAgain header (chunks.Data c)) pieces
+
+abbrev pub AckIsReadAgain : Shown → Type 0
+AckIsReadAgain a = is_due a.receiver.ack_state ≡ true → IsReadAgain (header_of a.handshake) (sack_chunk a)
+
+-- each packet of a poll is
+abbrev pub PollIsReadAgain : Shown → ℕ → Type 0
+PollIsReadAgain a now =
+    is_established a.state ≡ true
+    → AreReadAgain (header_of a.handshake) (data_polled a now).1 × AckIsReadAgain (data_polled a now).0

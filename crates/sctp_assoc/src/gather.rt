@@ -1,6 +1,7 @@
 // The packets of one poll, in the order in which they go out.
-ghost use Rattle.std.specs.Prelude.{◌≡◌, ◌++◌, OnOk, IfOk};
-ghost use Rattle.sctp_assoc.specs.Polled.{ack_polled, after_both, data_packets, data_polled, packet_bytes, polled};
+ghost use Rattle.std.specs.Prelude.{◌≡◌, ◌++◌, true, OnOk, IfOk};
+ghost use Rattle.sctp_wire.specs.Packets.{packet_is_plain};
+ghost use Rattle.sctp_assoc.specs.Polled.{AckIsReadAgain, AreReadAgain, IsReadAgain, PollIsReadAgain, ack_polled, after_both, data_packets, data_polled, packet_bytes, packet_with, polled};
 
 use crate::Association;
 use bytes::Bytes;
@@ -13,7 +14,8 @@ use std::alloc::{AllocError, Global};
 impl Association {
     // DATA that is sent again, then new DATA, then the acknowledgement.
     pub(crate) fn gather(&mut self, now: Instant) -> Result<Vec<Bytes>, AllocError>
-        ensures { IfOk result (λ packets. polled self.old now ≡ (self.new, packets.items)) }
+        ensures exact { IfOk result (λ packets. polled self.old now ≡ (self.new, packets.items)) }
+        ensures again { OnOk result (PollIsReadAgain self.old now) }
     {
         let mut packets = Vec::new(self.alloc);
         if self.state == AssociationState::Established {
@@ -40,7 +42,8 @@ impl Association {
 
     #[tactic(auto, unfolding(crate::specs::Polled::ack_polled))]
     fn gather_ack(&mut self, packets: &mut Vec<Bytes>) -> Result<(), AllocError>
-        ensures { OnOk result (after_both packets.old.items (ack_polled self.old) ≡ (self.new, packets.new.items)) }
+        ensures exact { OnOk result (after_both packets.old.items (ack_polled self.old) ≡ (self.new, packets.new.items)) }
+        ensures again { OnOk result (AckIsReadAgain self.old) }
     {
         if self.receiver.ack_state == AckState::Immediate {
             let waiting = self.streams.waiting_bytes();
@@ -53,13 +56,15 @@ impl Association {
 }
 
 // Each DATA chunk in a packet of its own.
+#[tactic(auto, using(crate::proofs::ReadAgain::one_more_again))]
 fn put_data(
     packets: &mut Vec<Bytes>,
     alloc: Global,
     header: CommonHeader,
     chunks: Vec<ChunkPayloadData>,
 ) -> Result<(), AllocError>
-    ensures { OnOk result (packets.new.items ≡ packets.old.items ++ data_packets header chunks.items) }
+    ensures exact { OnOk result (packets.new.items ≡ packets.old.items ++ data_packets header chunks.items) }
+    ensures again { OnOk result (AreReadAgain header chunks.items) }
 {
     for chunk in chunks {
         put_packet(packets, alloc, header, Chunk::Data(chunk))?;
@@ -68,14 +73,15 @@ fn put_data(
 }
 
 // Spells a packet of one chunk. A chunk that is longer than its length field can say is not sent.
-#[tactic(auto, unfolding(crate::specs::Polled::packet_bytes))]
+#[tactic(auto, unfolding(crate::specs::Polled::packet_bytes), using(crate::proofs::ReadAgain::read_again))]
 fn put_packet(
     packets: &mut Vec<Bytes>,
     alloc: Global,
     common_header: CommonHeader,
     chunk: Chunk,
 ) -> Result<(), AllocError>
-    ensures { OnOk result (packets.new.items ≡ packets.old.items ++ packet_bytes common_header chunk) }
+    ensures exact { OnOk result (packets.new.items ≡ packets.old.items ++ packet_bytes common_header chunk) }
+    ensures again { OnOk result (packet_is_plain (packet_with common_header chunk) ≡ true → IsReadAgain common_header chunk) }
 {
     let mut chunks = List::new(alloc);
     chunks.push(chunk)?;

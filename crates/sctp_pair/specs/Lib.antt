@@ -1,2 +1,4 @@
 pub mod Ends
 pub mod Steps
+pub mod World
+pub mod Fits

@@ -1,0 +1,273 @@
+-- What the receiver of a plain direction does: its point moves by one with each DATA, and it leaves the sender's side as it is.
+use Rattle.std.proofs.Common.{◌≡◌, ◌⊎◌, refl, sym, ap, ◌∙◌, subst, subst₂, inl, inr, ⊎_elim, ℕ, zero, suc, ◌+◌, ◌^◌, ◌<◌, ◌≤◌, arith, true, false, leb, List, [], ◌∷◌, ◌++◌, length, Option, Some, None}
+use Rattle.std.specs.Prelude.{filter, slice_get}
+use Rattle.std.specs.List.{AllByRecursion}
+use Rattle.std.proofs.lemmas.Bool.{and_from, cases_lt, cond-true, cond_both, eq-eqb, false_from_ne_true, le-leb, lt-leb, ltb-false, not_from_false, true≢false}
+use Rattle.sctp_model.specs.Packets.{Data, Sack, mem}
+use Rattle.sctp_model.specs.Reassembly.{Got, Queue, Taken, next}
+use Rattle.sctp_model.specs.Machine.{Direction, Event, Receiver, data_comes, happens, opened, point, put, read, sack_comes, sack_of, took, was_read}
+use Rattle.sctp_model.specs.Safe.{IsWithin, unread}
+use Rattle.sctp_model.proofs.Arriving.{mem_new, mem_old}
+use Rattle.sctp_model.proofs.Basics.{point_below, point_from, point_stops}
+use Rattle.sctp_model.proofs.Lists.{all_push}
+use Rattle.sctp_directions.specs.Plain.{IsPlain}
+
+-- The point
+
+-- the point is the one number below which all was taken in or passed over, and that itself was not taken in
+pub point_is : (r : Receiver) (n : ℕ) → r.passed ≤ n → ((o : ℕ) → o < n → (mem o r.taken ≡ true) ⊎ (o < r.passed)) → mem n r.taken ≡ false → point r ≡ n
+point_is r n from below stops =
+    ⊎_elim
+    (λ (l : point r < n).
+    ⊎_elim
+    (λ (m : mem (point r) r.taken ≡ true). absurd (true≢false (sym m ∙ point_stops r)))
+    (λ (b : point r < r.passed). absurd (let f = point_from r in omega arith))
+    (below (point r) l))
+    (λ (g : n ≤ point r).
+    ⊎_elim
+    (λ (l : n < point r).
+    ⊎_elim
+    (λ (m : mem n r.taken ≡ true). absurd (true≢false (sym m ∙ stops)))
+    (λ (b : n < r.passed). absurd (omega arith))
+    (point_below r n l))
+    (λ (e : point r ≤ n). omega arith)
+    (cases_lt n (point r)))
+    (cases_lt (point r) n)
+
+-- DATA at the point moves it by one, where nothing is held above it
+pub point_took : (r : Receiver) (d : Data) → ((o : ℕ) → mem o r.taken ≡ true → o < point r) → d.offset ≡ point r → point (took r d) ≡ suc (point r)
+point_took r d held e = point_is (took r d) (suc (point r)) (let f = point_from r in omega arith)
+    (λ o l. ⊎_elim
+    (λ (b : o < point r). ⊎_elim
+    (λ (m : mem o r.taken ≡ true). inl (mem_old d.offset o r.taken m))
+    (λ (f : o < r.passed). inr f)
+    (point_below r o b))
+    (λ (g : point r ≤ o). inl (here o (omega arith)))
+    (cases_lt o (point r)))
+    (false_from_ne_true _ (λ (m : mem (suc (point r)) (d.offset ∷ r.taken) ≡ true). ⊎_elim
+    (λ (c : d.offset ≡ suc (point r)). omega arith)
+    (λ (b : mem (suc (point r)) r.taken ≡ true). let l = held (suc (point r)) b in omega arith)
+    (mem_new d.offset (suc (point r)) r.taken m)))
+  where
+    here : (o : ℕ) → d.offset ≡ o → mem o (d.offset ∷ r.taken) ≡ true
+    here o c = rw (eq-eqb d.offset o c) refl
+
+-- The events, by their cases
+
+-- DATA at the point is taken in by a receiver that is open
+pub data_taken : (w : Direction) (k : ℕ) (d : Data) → slice_get w.datas k ≡ Some d → w.receiver.is_open ≡ true → d.offset ≡ point w.receiver
+    → happens w (Event.DataComes k) ≡ record w { receiver = took w.receiver d }
+unfolding happens
+data_taken w k d e o p =
+    ap (data_comes w) e
+    ∙ cond-true _ _ _ (and_from w.receiver.is_open _ o
+    (and_from (leb (point w.receiver) d.offset) _ (le-leb _ _ (omega arith)) (not_from_false _ (ap (λ z. mem z w.receiver.taken) p ∙ point_stops w.receiver))))
+
+-- what holds before DATA comes and after one that is taken in holds after it
+pub data_cases : (P : Direction → Type 0) (w : Direction) (k : ℕ) → P w → ((d : Data) → slice_get w.datas k ≡ Some d → P (record w { receiver = took w.receiver d }))
+    → P (happens w (Event.DataComes k))
+unfolding happens
+data_cases P w k h f = go (slice_get w.datas k) refl
+  where
+    go : (o : Option Data) → slice_get w.datas k ≡ o → P (data_comes w o)
+    go None e = h
+    go (Some d) e = cond_both _ _ _ P (λ b. f d e) (λ b. h)
+
+-- what holds before a read and after one that gives a message holds after it
+pub read_cases : (P : Direction → Type 0) (w : Direction) (s : ℕ) → P w
+    → ((q : Queue) (t : Taken) → w.receiver.queues s ≡ Some q → next q ≡ Some t → P (was_read w s (Some t))) → P (happens w (Event.Read s))
+unfolding happens
+read_cases P w s h f = queued (w.receiver.queues s) refl
+  where
+    given : (q : Queue) → w.receiver.queues s ≡ Some q → (t : Option Taken) → next q ≡ t → P (was_read w s t)
+    given q e None c = h
+    given q e (Some t) c = f q t e c
+
+    queued : (o : Option Queue) → w.receiver.queues s ≡ o → P (read w s o)
+    queued None e = h
+    queued (Some q) e = cond_both _ _ _ P (λ b. given q e (next q) refl) (λ b. h)
+
+-- A plain direction stays plain
+
+none_above : (n : ℕ) (xs : List ℕ) → ((o : ℕ) → mem o xs ≡ true → o < n) → filter (λ (o : ℕ). leb n o) xs ≡ []
+none_above n [] h = refl
+none_above n (x ∷ xs) h =
+    let l : x < n = h x (rw (eq-eqb x x refl) refl) in
+    rw (lt-leb n x l) (none_above n xs (λ o m. h o (mem_old x o xs m)))
+
+-- what a plain direction asks of its receiver's side
+pub plain_by : (w : Direction) (r : Receiver) (sacks : List Sack) (reads : ℕ → List Got) → AllByRecursion (λ (k : Sack). k.above ≡ []) sacks
+    → ((o : ℕ) → mem o r.taken ≡ true → o < point r) → r.passed ≡ 0 → IsPlain w → IsPlain (record w { receiver = r; sacks = sacks; reads = reads })
+plain_by w r sacks reads above taken passed h = record {
+  messages = h.messages;
+  places = h.places;
+  current = h.current;
+  next = h.next;
+  ssn = h.ssn;
+  begun = h.begun;
+  stays = h.stays;
+  acknowledged = h.acknowledged;
+  sacks = above;
+  taken = taken;
+  unskipped = passed;
+  span = h.span;
+}
+
+-- a direction stays plain when the DATA at its point comes
+pub plain_data : (w : Direction) (k : ℕ) (d : Data) → slice_get w.datas k ≡ Some d → d.offset ≡ point w.receiver → IsPlain w → IsPlain (happens w (Event.DataComes k))
+plain_data w k d e p h = data_cases IsPlain w k h
+    (λ c f. taken c (ap (λ (z : Option Data). offset_of z) (sym f ∙ e) ∙ p))
+  where
+    offset_of : Option Data → ℕ
+    offset_of None = 0
+    offset_of (Some x) = x.offset
+
+    taken : (c : Data) → c.offset ≡ point w.receiver → IsPlain (record w { receiver = took w.receiver c })
+    taken c q = plain_by w (took w.receiver c) w.sacks w.reads h.sacks
+        (λ o m. let g = point_took w.receiver c h.taken q in ⊎_elim
+        (λ (b : c.offset ≡ o). omega arith)
+        (λ (b : mem o w.receiver.taken ≡ true). let l = h.taken o b in omega arith)
+        (mem_new c.offset o w.receiver.taken m))
+        h.unskipped h
+
+-- it stays plain when its receiver reports: nothing is held above the point
+pub plain_sack : (w : Direction) → IsPlain w → IsPlain (happens w Event.SackMade)
+unfolding happens
+plain_sack w h = plain_by w w.receiver (w.sacks ++ sack_of w.receiver ∷ []) w.reads
+    (all_push (λ (k : Sack). k.above ≡ []) w.sacks (sack_of w.receiver) h.sacks (none_above (point w.receiver) w.receiver.taken h.taken)) h.taken h.unskipped h
+
+-- it stays plain when a stream is opened
+pub plain_open : (w : Direction) (s : ℕ) → IsPlain w → IsPlain (happens w (Event.Open s))
+unfolding happens
+plain_open w s h = plain_by w (record w.receiver { queues = put w.receiver.queues s (opened (w.receiver.queues s)) }) w.sacks w.reads h.sacks h.taken h.unskipped h
+
+-- it stays plain when a stream is read
+pub plain_read : (w : Direction) (s : ℕ) → IsPlain w → IsPlain (happens w (Event.Read s))
+plain_read w s h = read_cases IsPlain w s h
+    (λ q t e f. plain_by w (record w.receiver { queues = put w.receiver.queues s (Some t.rest) }) w.sacks (put w.reads s (w.reads s ++ t.got ∷ [])) h.sacks h.taken h.unskipped h)
+
+-- it stays plain when the receiver closes
+pub plain_close : (w : Direction) → IsPlain w → IsPlain (happens w Event.Close)
+unfolding happens
+plain_close w h = plain_by w (record w.receiver { is_open = false }) w.sacks w.reads h.sacks h.taken h.unskipped h
+
+-- What the receiver's events leave
+
+-- v is w but for its receiver, what was read and SACKs that were made since.
+pub record IsReceived (w v : Direction) : Type 0 where
+  pub sender : v.sender ≡ w.sender
+  pub over : v.over ≡ w.over
+  pub datas : v.datas ≡ w.datas
+  pub sacks : (k : ℕ) (x : Sack) → slice_get w.sacks k ≡ Some x → slice_get v.sacks k ≡ Some x
+
+received_by : (w : Direction) (r : Receiver) (reads : ℕ → List Got) → IsReceived w (record w { receiver = r; reads = reads })
+received_by w r reads = record { sender = refl; over = refl; datas = refl; sacks = λ k x e. e }
+
+-- DATA that comes concerns the receiver alone
+pub data_received : (w : Direction) (k : ℕ) → IsReceived w (happens w (Event.DataComes k))
+data_received w k = data_cases (IsReceived w) w k (received_by w w.receiver w.reads) (λ d e. received_by w (took w.receiver d) w.reads)
+
+-- a SACK that is made comes behind those made before, which stay where they are
+pub sack_received : (w : Direction) → IsReceived w (happens w Event.SackMade)
+unfolding happens
+sack_received w = record { sender = refl; over = refl; datas = refl; sacks = λ k x e. get_before w.sacks k x e }
+  where
+    get_before : (xs : List Sack) (k : ℕ) (x : Sack) → slice_get xs k ≡ Some x → slice_get (xs ++ sack_of w.receiver ∷ []) k ≡ Some x
+    get_before [] k x e = absurd (cc)
+    get_before (y ∷ xs) zero x e = e
+    get_before (y ∷ xs) (suc k) x e = get_before xs k x e
+
+-- opening a stream concerns the receiver alone
+pub open_received : (w : Direction) (s : ℕ) → IsReceived w (happens w (Event.Open s))
+unfolding happens
+open_received w s = received_by w (record w.receiver { queues = put w.receiver.queues s (opened (w.receiver.queues s)) }) w.reads
+
+-- a read concerns the receiver and what was read alone
+pub read_received : (w : Direction) (s : ℕ) → IsReceived w (happens w (Event.Read s))
+read_received w s = read_cases (IsReceived w) w s (received_by w w.receiver w.reads)
+    (λ q t e f. received_by w (record w.receiver { queues = put w.receiver.queues s (Some t.rest) }) (put w.reads s (w.reads s ++ t.got ∷ [])))
+
+-- the receiver's end concerns the receiver alone
+pub close_received : (w : Direction) → IsReceived w (happens w Event.Close)
+unfolding happens
+close_received w = received_by w (record w.receiver { is_open = false }) w.reads
+
+-- a receiver that closed is not open
+pub closed : (w : Direction) → (happens w Event.Close).receiver.is_open ≡ false
+unfolding happens
+closed w = refl
+
+-- all else stays when a receiver closes
+pub close_leaves : (w : Direction) → happens w Event.Close ≡ record w { receiver = record w.receiver { is_open = false } }
+unfolding happens
+close_leaves w = refl
+
+-- what is taken in grows by the offset of the DATA that comes alone
+pub data_takes : (w : Direction) (k : ℕ) (d : Data) (o : ℕ) → slice_get w.datas k ≡ Some d → mem o (happens w (Event.DataComes k)).receiver.taken ≡ true
+    → (mem o w.receiver.taken ≡ true) ⊎ (o ≡ d.offset)
+data_takes w k d o e = data_cases (λ v. mem o v.receiver.taken ≡ true → (mem o w.receiver.taken ≡ true) ⊎ (o ≡ d.offset)) w k (λ m. inl m)
+    (λ c f m. ⊎_elim
+    (λ (b : c.offset ≡ o). let same : c ≡ d = (let g : Some c ≡ Some d = sym f ∙ e in cc) in inr (sym b ∙ ap (λ z. z.offset) same))
+    (λ (b : mem o w.receiver.taken ≡ true). inl b)
+    (mem_new c.offset o w.receiver.taken m))
+
+-- a report takes nothing in
+pub sack_takes : (w : Direction) → (happens w Event.SackMade).receiver.taken ≡ w.receiver.taken
+unfolding happens
+sack_takes w = refl
+
+-- opening a stream takes nothing in
+pub open_takes : (w : Direction) (s : ℕ) → (happens w (Event.Open s)).receiver.taken ≡ w.receiver.taken
+unfolding happens
+open_takes w s = refl
+
+-- a read takes nothing in
+pub read_takes : (w : Direction) (s : ℕ) → (happens w (Event.Read s)).receiver.taken ≡ w.receiver.taken
+read_takes w s = read_cases (λ v. v.receiver.taken ≡ w.receiver.taken) w s refl (λ q t e f. refl)
+
+-- the receiver's end takes nothing in
+pub close_takes : (w : Direction) → (happens w Event.Close).receiver.taken ≡ w.receiver.taken
+unfolding happens
+close_takes w = refl
+
+-- The limits
+
+-- the limits are kept where the sender and what was read stay
+within_by : (w v : Direction) → v.sender ≡ w.sender → v.reads ≡ w.reads → IsWithin w → IsWithin v
+within_by w v sender reads h = record {
+  offsets = subst (λ z. length z.plan.places < 2 ^ 31) (sym sender) h.offsets;
+  flight = subst (λ z. length z.plan.places < z.point + 16384) (sym sender) h.flight;
+  unread = λ s. subst₂ (λ y z. unread y.plan s (z s) < 32768) (sym sender) (sym reads) (h.unread s);
+}
+
+-- the numbers stay within their limits where DATA comes
+pub within_data : (w : Direction) (k : ℕ) → IsWithin w → IsWithin (happens w (Event.DataComes k))
+within_data w k h = data_cases IsWithin w k h (λ d e. within_by w (record w { receiver = took w.receiver d }) refl refl h)
+
+-- the numbers stay within their limits where a SACK is made
+pub within_sack : (w : Direction) → IsWithin w → IsWithin (happens w Event.SackMade)
+unfolding happens
+within_sack w h = within_by w (record w { sacks = w.sacks ++ sack_of w.receiver ∷ [] }) refl refl h
+
+-- the numbers stay within their limits where a stream is opened
+pub within_open : (w : Direction) (s : ℕ) → IsWithin w → IsWithin (happens w (Event.Open s))
+unfolding happens
+within_open w s h = within_by w (record w { receiver = record w.receiver { queues = put w.receiver.queues s (opened (w.receiver.queues s)) } }) refl refl h
+
+-- the numbers stay within their limits where the receiver closes
+pub within_close : (w : Direction) → IsWithin w → IsWithin (happens w Event.Close)
+unfolding happens
+within_close w h = within_by w (record w { receiver = record w.receiver { is_open = false } }) refl refl h
+
+-- the numbers stay within their limits where a SACK comes: it moves the sender's point onwards or not at all
+pub within_sack_comes : (w : Direction) (k : ℕ) → IsWithin w → IsWithin (happens w (Event.SackComes k))
+unfolding happens
+within_sack_comes w k h = go (slice_get w.sacks k)
+  where
+    go : (x : Option Sack) → IsWithin (sack_comes w x)
+    go None = h
+    go (Some x) = cond_both _ w _ IsWithin (λ b. h) (λ b. record {
+      offsets = h.offsets;
+      flight = (let f = h.flight in let l = ltb-false x.point w.sender.point b in omega arith);
+      unread = h.unread;
+    })

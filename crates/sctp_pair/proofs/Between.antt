@@ -1,0 +1,184 @@
+-- One association between its two directions, while the other one stands still: what each of its acts makes of them.
+use Rattle.std.proofs.Common.{◌≡◌, refl, sym, ap, ◌∙◌, subst, ◌⊎◌, ⊎_elim, inl, inr, ℕ, zero, suc, ◌<◌, ◌≤◌, ◌+◌, arith, Bool, true, false, List, [], ◌∷◌, ◌++◌, length, Option, Some, None}
+use Rattle.std.specs.Prelude.{slice_get}
+use Rattle.std.specs.List.{AllByRecursion}
+use Rattle.sctp_wire_types.specs.declared.chunk.ChunkPayloadData.{ChunkPayloadData}
+use Rattle.std.proofs.lemmas.List.{append-nil}
+use Rattle.sctp_receive_queues.specs.Messages as letters
+use Rattle.sctp_model.specs.Messages.{Message, Plan}
+use Rattle.sctp_model.specs.Packets.{Data, Sack, mem}
+use Rattle.sctp_model.specs.Reassembly.{Got}
+use Rattle.sctp_model.specs.Machine.{Direction, Event, Sender, happens, run}
+use Rattle.sctp_model.specs.Invariants.{Invariant}
+use Rattle.sctp_model.specs.Safe.{IsWithin}
+use Rattle.sctp_outbound_queue.specs.Outbound.{Outbound}
+use Rattle.sctp_assoc.specs.Acts.{Act, Can, Parts, data_given, done, parts}
+use Rattle.sctp_assoc.specs.Shown.{Shown}
+use Rattle.sctp_directions.specs.Plain.{IsPlain}
+use Rattle.sctp_directions.specs.Said.{IsGiven}
+use Rattle.sctp_directions.specs.Outgoing.{FitsOutgoing}
+use Rattle.sctp_directions.specs.Incoming.{FitsIncoming, IsReadAs}
+use Rattle.sctp_pair.specs.Fits.{Stands, StandsClosed, StandsFailed, StandsOpen}
+
+-- What stays and what grows of a direction by events that neither accept nor read: what they take in was there, or was brought.
+pub record Goes (Brought : ℕ → Type 0) (w v : Direction) : Type 0 where
+  pub events : List Event
+  pub is : v ≡ run events w
+  pub accepted : (s : ℕ) → v.sender.plan.accepted s ≡ w.sender.plan.accepted s
+  pub size : v.sender.plan.size ≡ w.sender.plan.size
+  pub reads : (s : ℕ) → v.reads s ≡ w.reads s
+  pub taken : (o : ℕ) → mem o v.receiver.taken ≡ true → (mem o w.receiver.taken ≡ true) ⊎ Brought o
+  pub datas : (k : ℕ) (d : Data) → slice_get w.datas k ≡ Some d → slice_get v.datas k ≡ Some d
+  pub sacks : (k : ℕ) (x : Sack) → slice_get w.sacks k ≡ Some x → slice_get v.sacks k ≡ Some x
+
+run_append : (es fs : List Event) (w : Direction) → run (es ++ fs) w ≡ run fs (run es w)
+run_append [] fs w = refl
+run_append (e ∷ es) fs w = run_append es fs (happens w e)
+
+pub goes_nowhere : (B : ℕ → Type 0) (w : Direction) → Goes B w w
+goes_nowhere B w = record {
+  events = [];
+  is = refl;
+  accepted = λ s. refl;
+  size = refl;
+  reads = λ s. refl;
+  taken = λ o m. inl m;
+  datas = λ k d e. e;
+  sacks = λ k x e. e;
+}
+
+pub goes_on : (B : ℕ → Type 0) (w v u : Direction) → Goes B w v → Goes B v u → Goes B w u
+goes_on B w v u g h = record {
+  events = g.events ++ h.events;
+  is = h.is ∙ ap (run h.events) g.is ∙ sym (run_append g.events h.events w);
+  accepted = λ s. h.accepted s ∙ g.accepted s;
+  size = h.size ∙ g.size;
+  reads = λ s. h.reads s ∙ g.reads s;
+  taken = λ o m. ⊎_elim (λ (n : mem o v.receiver.taken ≡ true). g.taken o n) (λ (b : B o). inr b) (h.taken o m);
+  datas = λ k d e. h.datas k d (g.datas k d e);
+  sacks = λ k x e. h.sacks k x (g.sacks k x e);
+}
+
+-- p is what the association's directions see of it, y is the other association
+pub record Holds (own peer : ℕ) (p : Parts) (y : Shown) (out coming : Direction) : Type 0 where
+  pub own_is : p.history.own ≡ own
+  pub peer_is : p.history.peer ≡ peer
+  pub invariant_out : Invariant out
+  pub invariant_coming : Invariant coming
+  pub plain_out : IsPlain out
+  pub plain_coming : IsPlain coming
+  pub outgoing : FitsOutgoing p out
+  pub incoming : FitsIncoming p coming
+  pub other : Stands peer own y coming out
+
+-- Nothing is brought.
+abbrev pub None_brought : ℕ → Type 0
+None_brought o = ⊥
+
+-- only the queue changed, and not what comes
+pub incoming_beside : (p : Parts) (q : Outbound) (w : Direction) → FitsIncoming p w → FitsIncoming (record p { queue = q }) w
+incoming_beside p q w f = record { is_open = f.is_open; taken = f.taken; passed = f.passed; at = f.at; queues = f.queues }
+
+-- the sender of a direction stayed
+pub outgoing_same : (p : Parts) (w v : Direction) → v.sender ≡ w.sender → FitsOutgoing p w → FitsOutgoing p v
+outgoing_same p w v e f =
+    let g : FitsOutgoing p (record w { sender = v.sender }) = subst (λ (x : Sender). FitsOutgoing p (record w { sender = x })) (sym e) f in
+    record { base = g.base; flight = g.flight; waiting = g.waiting; own_streams = g.own_streams }
+
+-- how the other association stands, where something happened at this one's sender
+pub other_by_out : (peer own : ℕ) (y : Shown) (coming out out2 : Direction) → ((a : Parts) → FitsIncoming a out → FitsIncoming a out2)
+    → out2.receiver.is_open ≡ out.receiver.is_open → Stands peer own y coming out → Stands peer own y coming out2
+other_by_out peer own y coming out out2 fits same h =
+    ⊎_elim
+    (λ (s : StandsOpen peer own y coming out). inl record {
+      past = s.past;
+      own_is = s.own_is;
+      peer_is = s.peer_is;
+      binds = s.binds;
+      working = s.working;
+      established = s.established;
+      present = s.present;
+      size = s.size;
+      outgoing = s.outgoing;
+      incoming = fits (parts y s.past) s.incoming;
+    })
+    (λ (r : StandsClosed y out ⊎ StandsFailed y out).
+    ⊎_elim
+    (λ (s : StandsClosed y out). inr (inl record { closed = s.closed; unestablished = s.unestablished; lost = s.lost; stopped = same ∙ s.stopped; nothing_left = s.nothing_left }))
+    (λ (s : StandsFailed y out). inr (inr record { failed = s.failed; stopped = same ∙ s.stopped }))
+    r)
+    h
+
+-- and where something happened at this one's receiver
+pub other_by_coming : (peer own : ℕ) (y : Shown) (coming coming2 out : Direction) → coming2.sender ≡ coming.sender
+    → Stands peer own y coming out → Stands peer own y coming2 out
+other_by_coming peer own y coming coming2 out same h =
+    ⊎_elim
+    (λ (s : StandsOpen peer own y coming out). inl record {
+      past = s.past;
+      own_is = s.own_is;
+      peer_is = s.peer_is;
+      binds = s.binds;
+      working = s.working;
+      established = s.established;
+      present = s.present;
+      size = ap (λ (x : Sender). x.plan.size) same ∙ s.size;
+      outgoing = outgoing_same (parts y s.past) coming coming2 same s.outgoing;
+      incoming = s.incoming;
+    })
+    (λ (r : StandsClosed y out ⊎ StandsFailed y out). inr r)
+    h
+
+-- What a call does to a direction: what it accepts there, what it reads, and what may be taken in.
+pub record Does (Added : ℕ → List Message) (Read : ℕ → Option letters.Message) (Brought : ℕ → Type 0) (w v : Direction) : Type 0 where
+  pub events : List Event
+  pub is : v ≡ run events w
+  pub accepted : (s : ℕ) → v.sender.plan.accepted s ≡ w.sender.plan.accepted s ++ Added s
+  pub size : v.sender.plan.size ≡ w.sender.plan.size
+  pub reads : (s : ℕ) → IsReadAs (Read s) (w.reads s) (v.reads s)
+  pub taken : (o : ℕ) → mem o v.receiver.taken ≡ true → (mem o w.receiver.taken ≡ true) ⊎ Brought o
+  pub datas : (k : ℕ) (d : Data) → slice_get w.datas k ≡ Some d → slice_get v.datas k ≡ Some d
+  pub sacks : (k : ℕ) (x : Sack) → slice_get w.sacks k ≡ Some x → slice_get v.sacks k ≡ Some x
+
+abbrev pub nothing_added : ℕ → List Message
+nothing_added s = []
+
+abbrev pub nothing_read : ℕ → Option letters.Message
+nothing_read s = None
+
+pub does_by_goes : (B : ℕ → Type 0) (w v : Direction) → Goes B w v → Does nothing_added nothing_read B w v
+does_by_goes B w v g = record {
+  events = g.events;
+  is = g.is;
+  accepted = λ s. g.accepted s ∙ sym (append-nil (w.sender.plan.accepted s));
+  size = g.size;
+  reads = g.reads;
+  taken = g.taken;
+  datas = g.datas;
+  sacks = g.sacks;
+}
+
+-- One association's call leads from its directions `out` and `coming` to others, between which it stands then; the other association
+-- stands there too.
+pub record Settles (own peer : ℕ) (b y : Shown) (out coming : Direction) (Added : ℕ → List Message) (Read : ℕ → Option letters.Message) (Brought : ℕ → Type 0) : Type 0 where
+  pub out2 : Direction
+  pub coming2 : Direction
+  pub does_out : Does Added nothing_read None_brought out out2
+  pub does_coming : Does nothing_added Read Brought coming coming2
+  pub invariant_out : Invariant out2
+  pub invariant_coming : Invariant coming2
+  pub plain_out : IsPlain out2
+  pub plain_coming : IsPlain coming2
+  pub stands : Stands own peer b out2 coming2
+  pub other : Stands peer own y coming2 out2
+
+-- Two associations between the same two directions, before a call of the first one.
+pub record Faces (own peer : ℕ) (a y : Shown) (out coming : Direction) : Type 0 where
+  pub within_out : IsWithin out
+  pub within_coming : IsWithin coming
+  pub invariant_out : Invariant out
+  pub invariant_coming : Invariant coming
+  pub plain_out : IsPlain out
+  pub plain_coming : IsPlain coming
+  pub stands : Stands own peer a out coming
+  pub other : Stands peer own y coming out

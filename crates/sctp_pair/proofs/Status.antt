@@ -1,0 +1,190 @@
+-- What calls leave of an association: whether it failed, its state, whether it was lost, and its payload size.
+use Rattle.std.proofs.Common.{◌≡◌, refl, sym, ap, ◌∙◌, ℕ, zero, suc, ◌-◌, ◌^◌, Bool, true, false, ◌&&◌, if◌then◌else◌, not, eqb, ltb, List, [], ◌∷◌, length, Option, Some, None, is_some, Result, Ok, Err}
+use Rattle.std.specs.Prelude.{slice_get}
+use Rattle.sctp_wire_types.specs.declared.chunk.Chunk.{Chunk}
+use Rattle.sctp_wire_types.specs.declared.chunk.Chunk.TheVariants as chunks
+use Rattle.sctp_wire_types.specs.declared.chunk.ChunkPayloadData.{ChunkPayloadData}
+use Rattle.sctp_wire_types.specs.declared.chunk.ChunkSelectiveAck.{ChunkSelectiveAck}
+use Rattle.sctp_wire_types.specs.declared.error.Error.{Error}
+use Rattle.sctp_wire_types.specs.Checks.{checked_chunk}
+use Rattle.sctp_parts.specs.declared.timer.Timer.TheVariants as names
+use Rattle.sctp_parts.specs.Estimate.{Estimate}
+use Rattle.sctp_parts.specs.Timers.{expiry_of}
+use Rattle.sctp_outbound_queue.specs.declared.message.InFlight.{InFlight}
+use Rattle.sctp_outbound_queue.specs.Waiting.{Waiting}
+use Rattle.sctp_outbound_queue.specs.Outbound.{pieces_waiting}
+use Rattle.sctp_queues.specs.Streams.{StreamMap, bytes_waiting, generation_left, is_readable_in, pushed_in, refusal_in, stream_at}
+use Rattle.sctp_inbound.specs.declared.receiver.AckWish.{AckWish}
+use Rattle.sctp_inbound.specs.Handshake.{header_of}
+use Rattle.sctp_inbound.specs.Receiver.{credit_of, is_next_after, taken_to}
+use Rattle.sctp_outbound.specs.declared.sender.SackOutcome.{SackOutcome}
+use Rattle.sctp_outbound.specs.declared.sender.SackOutcome.TheVariants as outcomes
+use Rattle.sctp_outbound.specs.declared.sender.Sender.{Sender}
+use Rattle.sctp_outbound.specs.Sender.{acknowledged, after_first, after_resending, can_send_next, points_to, resent_by, sack_outcome, sender_after, sent_new, sent_one, sent_within, with_window}
+use Rattle.sctp_assoc.specs.Calls.{after_ack_delay, after_t3, after_timeouts, is_established}
+use Rattle.sctp_assoc.specs.Chunks.{after_sack, asks_or_faults, checked_first, counted_data, on_counted_data, counted_sack, dispatched, is_whole, on_chunk, on_counted_sack, on_data, on_next_data, on_sack, stream_found, taken_in, taken_unless, told, with_message}
+use Rattle.sctp_assoc.specs.Polled.{ack_after, ack_polled, after_both, data_packets, data_polled, is_due, polled, with_sent_data}
+use Rattle.sctp_assoc.specs.Shown.{Shown}
+
+pub record IsSameStatus (a b : Shown) : Type 0 where
+  pub failed : b.failed ≡ a.failed
+  pub state : b.state ≡ a.state
+  pub lost : b.lost ≡ a.lost
+  pub size : b.sender.max_payload_size ≡ a.sender.max_payload_size
+
+pub status_same : (a : Shown) → IsSameStatus a a
+status_same a = record { failed = refl; state = refl; lost = refl; size = refl }
+
+-- everything of it but its payload size is as it was, and that too
+status_by : (a b : Shown) → b.failed ≡ a.failed → b.state ≡ a.state → b.lost ≡ a.lost → b.sender.max_payload_size ≡ a.sender.max_payload_size → IsSameStatus a b
+status_by a b f s l z = record { failed = f; state = s; lost = l; size = z }
+
+pub status_on : (a b c : Shown) → IsSameStatus a b → IsSameStatus b c → IsSameStatus a c
+status_on a b c x y = record { failed = y.failed ∙ x.failed; state = y.state ∙ x.state; lost = y.lost ∙ x.lost; size = y.size ∙ x.size }
+
+-- DATA
+
+found_status : (there left : Bool) (a : Shown) (id : ℕ) → is_some (stream_at a.streams id) ≡ there → generation_left a.streams ≡ left → IsSameStatus a (stream_found a id).0
+unfolding stream_found
+found_status true left a id e f = rw e (status_same a)
+found_status false true a id e f = rw (e, f) (status_by a _ refl refl refl refl)
+found_status false false a id e f = rw (e, f) (status_same a)
+
+told_if : (readable kept : Bool) (a : Shown) (id : ℕ) → is_readable_in a.streams id ≡ readable → IsSameStatus a (told a id kept)
+told_if true true a id e = rw e (status_by a _ refl refl refl refl)
+told_if false true a id e = rw e (status_by a _ refl refl refl refl)
+told_if readable false a id e = status_by a _ refl refl refl refl
+
+taken_status : (refusal : Option Error) (a : Shown) (piece : ChunkPayloadData) → refusal_in a.streams piece.stream_identifier piece (2 ^ 32 - 1) ≡ refusal → IsSameStatus a (taken_in a piece).0
+unfolding taken_in
+taken_status (Some fault) a piece e = rw e (status_same a)
+taken_status None a piece e =
+    let put = pushed_in a.streams piece.stream_identifier piece in
+    let b : Shown = record a { streams = put.0; receiver = taken_to a.receiver piece.tsn } in
+    rw e (status_on a b _ (status_by a b refl refl refl refl) (told_if (is_readable_in b.streams piece.stream_identifier) put.1 b piece.stream_identifier refl))
+
+asked_status : (x : Shown × Option Error) (piece : ChunkPayloadData) (wish : AckWish) → (asks_or_faults x piece wish).0 ≡ x.0
+asked_status (a, None) piece wish = refl
+asked_status (a, Some fault) piece wish = refl
+
+next_data_status : (there credit : Bool) (a : Shown) (piece : ChunkPayloadData) (wish : AckWish) → ltb 0 (credit_of a.receiver (bytes_waiting a.streams)) ≡ credit
+    → IsSameStatus a (on_next_data (a, there) piece wish).0
+next_data_status false credit a piece wish e = status_same a
+next_data_status true true a piece wish e =
+    rw (e, asked_status (taken_in a piece) piece wish) (taken_status (refusal_in a.streams piece.stream_identifier piece (2 ^ 32 - 1)) a piece refl)
+next_data_status true false a piece wish e = rw e (status_same a)
+
+found_next_status : (x : Shown × Bool) (a : Shown) (piece : ChunkPayloadData) (wish : AckWish) → IsSameStatus a x.0 → IsSameStatus a (on_next_data x piece wish).0
+found_next_status (b, there) a piece wish h = status_on a b _ h (next_data_status there (ltb 0 (credit_of b.receiver (bytes_waiting b.streams))) b piece wish refl)
+
+counted_data_status : (next : Bool) (a : Shown) (piece : ChunkPayloadData) (wish : AckWish) → (is_next_after a.receiver piece.tsn && is_whole piece) ≡ next
+    → IsSameStatus a (on_counted_data a piece wish).0
+counted_data_status true a piece wish e =
+    rw e (found_next_status (stream_found a piece.stream_identifier) a piece wish
+    (found_status (is_some (stream_at a.streams piece.stream_identifier)) (generation_left a.streams) a piece.stream_identifier refl refl))
+counted_data_status false a piece wish e = rw e (status_same a)
+
+data_status : (a : Shown) (piece : ChunkPayloadData) (wish : AckWish) → IsSameStatus a (on_data a piece wish).0
+unfolding on_data
+data_status a piece wish =
+    status_on a (counted_data a) _ (status_by a (counted_data a) refl refl refl refl)
+    (counted_data_status (is_next_after a.receiver piece.tsn && is_whole piece) (counted_data a) piece wish refl)
+
+-- SACK
+
+sender_after_size : (o : Option InFlight) (s : Sender) → (sender_after o s).max_payload_size ≡ s.max_payload_size
+sender_after_size None s = refl
+sender_after_size (Some p) s = refl
+
+acknowledged_size : (n now : ℕ) (s : Sender) (e : Estimate) (m : StreamMap) → (acknowledged n now (s, e, m)).0.max_payload_size ≡ s.max_payload_size
+unfolding after_first
+acknowledged_size zero now s e m = refl
+acknowledged_size (suc n) now s e m =
+    acknowledged_size n now (sender_after (slice_get s.queue.in_flight 0) s) _ _ ∙ sender_after_size (slice_get s.queue.in_flight 0) s
+
+outcome_status : (o : SackOutcome) (a : Shown) (point window : ℕ) (wish : AckWish) (now : ℕ) → IsSameStatus a (on_counted_sack o a point window wish now).0
+outcome_status outcomes.Older a point window wish now = status_same a
+outcome_status outcomes.NotInFlight a point window wish now = status_same a
+outcome_status outcomes.Taken a point window wish now =
+    status_by a _ refl refl refl (acknowledged_size (points_to a.sender point) now (with_window a.sender window) a.estimate a.streams)
+
+sack_status : (established : Bool) (a : Shown) (point window : ℕ) (wish : AckWish) (now : ℕ) → is_established a.state ≡ established
+    → IsSameStatus a (on_sack a point window wish now).0
+unfolding on_sack
+sack_status true a point window wish now e =
+    rw e (status_on a (counted_sack a) _ (status_by a (counted_sack a) refl refl refl refl)
+    (outcome_status (sack_outcome a.sender point) (counted_sack a) point window wish now))
+sack_status false a point window wish now e = rw e (status_same a)
+
+-- Of the chunks that associations give out, DATA and SACK.
+
+checked_data_status : (r : Result (Unit {0}) Error) (a : Shown) (piece : ChunkPayloadData) (wish : AckWish) (now : ℕ)
+    → IsSameStatus a (checked_first r a (chunks.Data piece) wish now).0
+checked_data_status (Err fault) a piece wish now = status_same a
+checked_data_status (Ok done) a piece wish now = data_status a piece wish
+
+checked_sack_status : (r : Result (Unit {0}) Error) (a : Shown) (k : ChunkSelectiveAck) (wish : AckWish) (now : ℕ)
+    → IsSameStatus a (checked_first r a (chunks.SelectiveAck k) wish now).0
+checked_sack_status (Err fault) a k wish now = status_same a
+checked_sack_status (Ok done) a k wish now = sack_status (is_established a.state) a k.cumulative_tsn_ack k.advertised_receiver_window_credit wish now refl
+
+pub data_chunk_status : (a : Shown) (piece : ChunkPayloadData) (wish : AckWish) (now : ℕ) → IsSameStatus a (on_chunk a (chunks.Data piece) wish now).0
+unfolding on_chunk
+data_chunk_status a piece wish now = checked_data_status (checked_chunk (chunks.Data piece)) a piece wish now
+
+pub sack_chunk_status : (a : Shown) (k : ChunkSelectiveAck) (wish : AckWish) (now : ℕ) → IsSameStatus a (on_chunk a (chunks.SelectiveAck k) wish now).0
+unfolding on_chunk
+sack_chunk_status a k wish now = checked_sack_status (checked_chunk (chunks.SelectiveAck k)) a k wish now
+
+-- A poll for packets
+
+sent_one_size : (ms : List Waiting) (s : Sender) (out : List ChunkPayloadData) (now : ℕ) → (sent_one ms s out now).0.max_payload_size ≡ s.max_payload_size
+unfolding sent_one
+sent_one_size [] s out now = refl
+sent_one_size (m ∷ ms) s out now = refl
+
+sent_within_if : (c : Bool) (x y : Sender × List ChunkPayloadData) (size : ℕ) → x.0.max_payload_size ≡ size → y.0.max_payload_size ≡ size
+    → (if c then x else y).0.max_payload_size ≡ size
+sent_within_if true x y size e f = e
+sent_within_if false x y size e f = f
+
+sent_within_size : (n : ℕ) (s : Sender) (out : List ChunkPayloadData) (now : ℕ) → (sent_within n s out now).0.max_payload_size ≡ s.max_payload_size
+sent_within_size zero s out now = refl
+sent_within_size (suc n) s out now =
+    let one = sent_one s.queue.pending s out now in
+    sent_within_if (can_send_next s) (sent_within n one.0 one.1 now) (s, out) s.max_payload_size
+    (sent_within_size n one.0 one.1 now ∙ sent_one_size s.queue.pending s out now) refl
+
+sent_new_size : (s : Sender) (out : List ChunkPayloadData) (now : ℕ) → (sent_new s out now).0.max_payload_size ≡ s.max_payload_size
+sent_new_size s out now =
+    sent_within_if (eqb (length s.queue.in_flight) 0 && not (can_send_next s)) (sent_one s.queue.pending s out now)
+    (sent_within (pieces_waiting s.queue.pending) s out now) s.max_payload_size (sent_one_size s.queue.pending s out now) (sent_within_size (pieces_waiting s.queue.pending) s out now)
+
+sent_data_status : (a : Shown) (count now : ℕ) (x : Sender × List ChunkPayloadData) → x.0.max_payload_size ≡ a.sender.max_payload_size
+    → IsSameStatus a (with_sent_data a count now x).0
+sent_data_status a count now (s, pieces) e = status_by a _ refl refl refl e
+
+data_polled_status : (a : Shown) (now : ℕ) → IsSameStatus a (data_polled a now).0
+unfolding data_polled
+data_polled_status a now =
+    sent_data_status a (length (resent_by a.sender)) now (sent_new (after_resending a.sender) (resent_by a.sender) now)
+    (sent_new_size (after_resending a.sender) (resent_by a.sender) now)
+
+ack_polled_status : (due : Bool) (a : Shown) → is_due a.receiver.ack_state ≡ due → IsSameStatus a (ack_polled a).0
+unfolding ack_polled
+ack_polled_status true a e = rw e (status_by a _ refl refl refl refl)
+ack_polled_status false a e = rw e (status_same a)
+
+both_first : (packets : List (List ℕ)) (x : Shown × List (List ℕ)) → (after_both packets x).0 ≡ x.0
+both_first packets (a, more) = refl
+
+ack_after_status : (x : Shown × List ChunkPayloadData) (a : Shown) → IsSameStatus a x.0 → IsSameStatus a (ack_after x).0
+ack_after_status (b, pieces) a h =
+    rw (both_first (data_packets (header_of b.handshake) pieces) (ack_polled b)) (status_on a b _ h (ack_polled_status (is_due b.receiver.ack_state) b refl))
+
+polled_if : (established : Bool) (a : Shown) (now : ℕ) → is_established a.state ≡ established → IsSameStatus a (polled a now).0
+polled_if true a now e = rw e (ack_after_status (data_polled a now) a (data_polled_status a now))
+polled_if false a now e = rw e (status_same a)
+
+pub polled_status : (a : Shown) (now : ℕ) → IsSameStatus a (polled a now).0
+polled_status a now = polled_if (is_established a.state) a now refl

@@ -1,0 +1,79 @@
+-- Which worlds a pair may stand in, and the promise of its steps.
+use Rattle.std.specs.Prelude.{◌≡◌, ℕ, true, false, ◌⊎◌, List, [], ◌∷◌, Option, Some, None}
+use Rattle.std.specs.List.{AllByRecursion}
+use Rattle.sctp_receive_queues.specs.Reassembly.{empty_reassembly}
+use Rattle.sctp_queues.specs.Stream.{Stream}
+use Rattle.sctp_queues.specs.Streams.{stream_at}
+use Rattle.sctp_model.specs.Machine.{Direction}
+use Rattle.sctp_model.specs.Invariants.{Invariant}
+use Rattle.sctp_assoc.specs.Acts.{Binds, History, parts}
+use Rattle.sctp_assoc.specs.Calls.{is_closed_state, is_established}
+use Rattle.sctp_assoc.specs.Shown.{Shown}
+use Rattle.sctp_directions.specs.Plain.{IsPlain}
+use Rattle.sctp_directions.specs.Said.{SaysAll}
+use Rattle.sctp_directions.specs.Outgoing.{FitsOutgoing}
+use Rattle.sctp_directions.specs.Incoming.{FitsIncoming}
+use Rattle.sctp_pair.specs.declared.step.Reply.{Reply}
+use Rattle.sctp_pair.specs.declared.step.Step.{Step}
+use Rattle.sctp_pair.specs.Ends.{Ends}
+use Rattle.sctp_pair.specs.Steps.{packet_in}
+use Rattle.sctp_pair.specs.World.{IsSafeWorld, IsWithinLimits, IsWorldStep, World}
+
+-- An open association stands between its own direction and the one that comes to it; own and peer are their initial TSNs.
+pub record StandsOpen (own peer : ℕ) (a : Shown) (out coming : Direction) : Type 0 where
+  pub past : History
+  pub own_is : past.own ≡ own
+  pub peer_is : past.peer ≡ peer
+  pub binds : Binds a past
+  pub working : a.failed ≡ false
+  pub established : is_established a.state ≡ true
+  pub present : a.lost ≡ false
+  pub size : out.sender.plan.size ≡ a.sender.max_payload_size
+  pub outgoing : FitsOutgoing (parts a past) out
+  pub incoming : FitsIncoming (parts a past) coming
+
+-- A closed one receives nothing more, and the streams that were opened since then are empty.
+pub record StandsClosed (a : Shown) (coming : Direction) : Type 0 where
+  pub closed : is_closed_state a.state ≡ true
+  pub unestablished : is_established a.state ≡ false
+  pub lost : a.lost ≡ true
+  pub stopped : coming.receiver.is_open ≡ false
+  pub nothing_left : (s : ℕ) (t : Stream) → stream_at a.streams s ≡ Some t → t.reassembly ≡ empty_reassembly
+
+-- One that failed does nothing more.
+pub record StandsFailed (a : Shown) (coming : Direction) : Type 0 where
+  pub failed : a.failed ≡ true
+  pub stopped : coming.receiver.is_open ≡ false
+
+abbrev pub Stands : ℕ → ℕ → Shown → Direction → Direction → Type 0
+Stands own peer a out coming = StandsOpen own peer a out coming ⊎ (StandsClosed a coming ⊎ StandsFailed a coming)
+
+-- each datagram that a side gave out says what its directions have
+abbrev pub AreSaid : ℕ → ℕ → Direction → Direction → List (List ℕ) → Type 0
+AreSaid own peer out coming packets = AllByRecursion (λ (bytes : List ℕ). SaysAll own peer out coming (packet_in bytes)) packets
+
+-- A pair stands in a world.
+pub record Fits (p : Ends) (w : World) : Type 0 where
+  pub is : p ≡ w.ends
+  pub within : IsWithinLimits w
+  pub invariant_ab : Invariant w.ab
+  pub invariant_ba : Invariant w.ba
+  pub plain_ab : IsPlain w.ab
+  pub plain_ba : IsPlain w.ba
+  pub side_a : Stands w.initial_a w.initial_b w.ends.a w.ab w.ba
+  pub side_b : Stands w.initial_b w.initial_a w.ends.b w.ba w.ab
+  pub said_a : AreSaid w.initial_a w.initial_b w.ab w.ba w.ends.packets_a
+  pub said_b : AreSaid w.initial_b w.initial_a w.ba w.ab w.ends.packets_b
+
+-- One step leads to a next world; where that is within the limits, the pair stands in it, and it is safe.
+abbrev pub LeadsSafely : Step → Reply → World → Ends → Type 0
+LeadsSafely step reply w q = (v : World) × IsWorldStep step w reply v × (IsWithinLimits v → Fits q v × IsSafeWorld v)
+
+-- The steps with these replies are a run of worlds from w on, safe after each step, and the pair stands in its last world; all this
+-- as long as each world so far is within the limits.
+abbrev pub RunsSafely : List Step → List Reply → World → Ends → Type 0
+RunsSafely [] [] w q = Fits q w
+RunsSafely (s ∷ ss) (r ∷ rs) w q =
+    (v : World) × IsWorldStep s w r v × (IsWithinLimits v → IsSafeWorld v × RunsSafely ss rs v q)
+RunsSafely [] (r ∷ rs) w q = ⊥
+RunsSafely (s ∷ ss) [] w q = ⊥

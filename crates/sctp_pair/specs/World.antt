@@ -1,0 +1,126 @@
+-- Both directions between two associations that face each other, and all that ever happened in them.
+use Rattle.std.specs.Prelude.{◌≡◌, ℕ, Bool, true, false, ◌&&◌, ◌++◌, ◌+◌, ◌==◌, ◌⊎◌, if◌then◌else◌, List, [], ◌∷◌, length, map, slice_get, Option, Some, None, ⊤}
+use Rattle.std.specs.List.{AllByRecursion}
+use Rattle.sctp_wire_types.specs.declared.chunk.Chunk.TheVariants as chunks
+use Rattle.sctp_wire_types.specs.declared.chunk.ChunkPayloadData.{ChunkPayloadData}
+use Rattle.sctp_wire.specs.declared.packet.Packet.{Packet}
+use Rattle.sctp_receive_queues.specs.Messages.{Message}
+use Rattle.sctp_receive_queues.specs.Reassembly.{empty_reassembly, ready}
+use Rattle.sctp_queues.specs.Stream.{Stream}
+use Rattle.sctp_queues.specs.Streams.{stream_at}
+use Rattle.sctp_model.specs.Messages as model
+use Rattle.sctp_model.specs.Messages.{accepted_bytes}
+use Rattle.sctp_model.specs.Packets.{mem}
+use Rattle.sctp_model.specs.Serial.{tsn}
+use Rattle.sctp_model.specs.Reassembly as queue
+use Rattle.sctp_model.specs.Machine.{Direction, Event, fresh, live, run}
+use Rattle.sctp_model.specs.Safe.{IsSafe, IsWithin, letter_read}
+use Rattle.sctp_assoc.specs.Calls.{is_closed_state}
+use Rattle.sctp_assoc.specs.Shown.{Shown}
+use Rattle.sctp_directions.specs.Incoming.{IsReadAs, letter_of}
+use Rattle.sctp_directions.specs.Outgoing.{message_on}
+use Rattle.sctp_pair.specs.declared.step.Reply.{Reply}
+use Rattle.sctp_pair.specs.declared.step.Reply.TheVariants as replies
+use Rattle.sctp_pair.specs.declared.step.Side2.{Side2}
+use Rattle.sctp_pair.specs.declared.step.Side2.TheVariants as sides
+use Rattle.sctp_pair.specs.declared.step.Step.{Step}
+use Rattle.sctp_pair.specs.declared.step.Step.TheVariants as steps
+use Rattle.sctp_pair.specs.Ends.{Ends, end_of, packets_of}
+use Rattle.sctp_pair.specs.Steps.{Steps, packet_in}
+
+-- Both associations with every packet that they gave out, their initial TSNs, and the two directions: what was accepted on each
+-- stream and on which offsets it stands, what was given out, what was taken in, and what was read.
+pub record World : Type 0 where
+  pub ends : Ends
+  pub initial_a : ℕ
+  pub initial_b : ℕ
+  pub ab : Direction
+  pub ba : Direction
+
+-- nothing happened yet
+abbrev pub empty_world : Ends → ℕ → ℕ → ℕ → ℕ → World
+empty_world ends initial_a initial_b size_a size_b =
+    record { ends = ends; initial_a = initial_a; initial_b = initial_b; ab = fresh size_a; ba = fresh size_b }
+
+abbrev pub other_side : Side2 → Side2
+other_side sides.A = sides.B
+other_side sides.B = sides.A
+
+abbrev pub is_side : Side2 → Side2 → Bool
+is_side sides.A sides.A = true
+is_side sides.A sides.B = false
+is_side sides.B sides.A = false
+is_side sides.B sides.B = true
+
+-- a message as it is accepted on a live stream
+abbrev pub messages_on : Option Stream → List ℕ → List model.Message
+messages_on None bytes = []
+messages_on (Some t) bytes = message_on t bytes ∷ []
+
+-- what a step's write adds to what was accepted at side x on stream s
+abbrev pub accepted_at : Step → Reply → Side2 → ℕ → World → List model.Message
+accepted_at (steps.Write side id bytes) (replies.Wrote count) x s w =
+    if is_side side x && (id == s) then messages_on (stream_at (end_of x w.ends).streams id) bytes else []
+accepted_at step reply x s w = []
+
+-- the message that a step's read answers at side x on stream s
+abbrev pub message_read : Step → Reply → Side2 → ℕ → Option Message
+message_read (steps.Read side id) (replies.Read message) x s = if is_side side x && (id == s) then message else None
+message_read step reply x s = None
+
+abbrev pub packet_of_bytes : Option (List ℕ) → Option Packet
+packet_of_bytes None = None
+packet_of_bytes (Some bytes) = packet_in bytes
+
+-- the packet that a step hands to side x, as what it spells
+abbrev pub packet_brought : Step → Side2 → World → Option Packet
+packet_brought (steps.Deliver side number now) x w =
+    if is_side side x then packet_of_bytes (slice_get (packets_of (other_side x) w.ends) number) else None
+packet_brought step x w = None
+
+-- the packet has DATA with this TSN
+abbrev pub HasData : Option Packet → ℕ → Type 0
+HasData None t = ⊥
+HasData (Some packet) t =
+    (k : ℕ) × (c : ChunkPayloadData) × (slice_get packet.chunks k ≡ Some (chunks.Data c)) × (c.tsn ≡ t)
+
+-- What a step does to the direction from one side to the other, of this initial TSN: its write is accepted, its read gives the
+-- next message, and nothing is taken in but DATA of the packet that it delivers. Whatever else it does are events of the model.
+pub record IsDirectionStep (step : Step) (reply : Reply) (sender receiver : Side2) (w : World) (initial : ℕ) (before after : Direction) : Type 0 where
+  pub events : List Event
+  pub happened : after ≡ run events before
+  pub accepted : (s : ℕ) → after.sender.plan.accepted s ≡ before.sender.plan.accepted s ++ accepted_at step reply sender s w
+  pub read : (s : ℕ) → IsReadAs (message_read step reply receiver s) (before.reads s) (after.reads s)
+  pub taken : (o : ℕ) → mem o after.receiver.taken ≡ true
+      → (mem o before.receiver.taken ≡ true) ⊎ HasData (packet_brought step receiver w) (tsn initial o)
+
+-- A step with its reply, from one world to the next.
+pub record IsWorldStep (step : Step) (w : World) (reply : Reply) (v : World) : Type 0 where
+  pub ends_step : Steps step w.ends reply v.ends
+  pub same_a : v.initial_a ≡ w.initial_a
+  pub same_b : v.initial_b ≡ w.initial_b
+  pub ab_step : IsDirectionStep step reply sides.A sides.B w w.initial_a w.ab v.ab
+  pub ba_step : IsDirectionStep step reply sides.B sides.A w w.initial_b w.ba v.ba
+
+-- the numbers that wrap are far from meeting themselves, in both directions
+abbrev pub IsWithinLimits : World → Type 0
+IsWithinLimits w = IsWithin w.ab × IsWithin w.ba
+
+-- neither closed nor failed
+abbrev pub IsOpen : Shown → Type 0
+IsOpen a = (a.failed ≡ false) × (is_closed_state a.state ≡ false)
+
+-- What is promised of the direction w from one association to the other: each stream within its span is safe, and what safety
+-- speaks of are the associations' own values: the receiver is open where it is neither closed nor failed; what is ready is what
+-- reads would answer one after another; and what is released is what was accepted and is not buffered.
+pub record IsPromised (sender receiver : Shown) (w : Direction) : Type 0 where
+  pub safe : (s : ℕ) → w.over s ≡ false → IsSafe w s
+  pub opens : IsOpen receiver → w.receiver.is_open ≡ true
+  pub ready_is : IsOpen receiver → (s : ℕ) (t : Stream) → stream_at receiver.streams s ≡ Some t
+      → map letter_read (queue.ready (live (w.receiver.queues s))) ≡ map letter_of (ready t.reassembly)
+  pub released_is : IsOpen sender → (s : ℕ) (t : Stream) → stream_at sender.streams s ≡ Some t
+      → t.buffered + w.sender.released s ≡ accepted_bytes w.sender.plan s
+
+pub record IsSafeWorld (w : World) : Type 0 where
+  pub ab_safe : IsPromised w.ends.a w.ends.b w.ab
+  pub ba_safe : IsPromised w.ends.b w.ends.a w.ba
