@@ -2,6 +2,7 @@ pub mod Answered
 pub mod Assembled
 pub mod Between
 pub mod Giving
+mod OneSide
 pub mod Packets
 pub mod Polls
 pub mod Promised
