@@ -1,6 +1,5 @@
 -- What acts leave as it is, and that the first TSN in flight keeps standing on the first offset that is not acknowledged.
-use Rattle.std.proofs.Common.{◌≡◌, refl, sym, ap, ◌∙◌, ℕ, zero, suc, ◌<◌, ◌≤◌, ◌+◌, ◌-◌, ◌%◌, ◌^◌, arith, Bool, true, false, List, [], ◌∷◌, ◌++◌, length, slice_get, Option, Some, None, is_some}
-use Rattle.std.proofs.lemmas.Bool.{false≢true}
+use Rattle.std.proofs.Common.{◌≡◌, refl, sym, ◌∙◌, ℕ, zero, suc, ◌<◌, ◌≤◌, ◌+◌, ◌%◌, ◌^◌, arith, List, [], ◌∷◌, ◌++◌, length, slice_get, Option, Some, None}
 use Rattle.std.proofs.lemmas.List.{append_assoc}
 use Rattle.sctp_model.specs.Serial.{tsn}
 use Rattle.sctp_outbound_queue.specs.declared.message.InFlight.{InFlight}
@@ -56,7 +55,7 @@ written_tied : (o : Option Stream) (p : Parts) (id : ℕ) (bytes : List ℕ) →
 written_tied None p id bytes e = e
 written_tied (Some s) p id bytes e = e
 
-sent_first : (fs : List Waiting) (q : Outbound) (now : ℕ) → (sent_from fs q now).first_tsn ≡ q.first_tsn
+pub sent_first : (fs : List Waiting) (q : Outbound) (now : ℕ) → (sent_from fs q now).first_tsn ≡ q.first_tsn
 sent_first [] q now = refl
 sent_first (f ∷ fs) q now = refl
 

@@ -1,5 +1,5 @@
 -- What a poll gives out is what its acts say.
-use Rattle.std.proofs.Common.{◌≡◌, refl, sym, ap, ◌∙◌, ◌⊎◌, ⊎_elim, ℕ, zero, suc, ◌<◌, ◌≤◌, ◌+◌, ◌-◌, ◌%◌, ◌^◌, arith, Bool, true, false, not, ◌&&◌, if◌then◌else◌, List, [], ◌∷◌, ◌++◌, length, nat_lt, slice_get, slice_set, Option, Some, None, is_some}
+use Rattle.std.proofs.Common.{◌≡◌, refl, sym, ap, ◌∙◌, ⊎_elim, ℕ, zero, suc, ◌<◌, ◌+◌, ◌-◌, arith, Bool, true, false, if◌then◌else◌, List, [], ◌∷◌, ◌++◌, length, nat_lt, slice_get, slice_set, Some}
 use Rattle.std.proofs.lemmas.Bool.{cases_Bool, false≢true}
 use Rattle.std.proofs.lemmas.List.{append_assoc, append-nil}
 use Rattle.sctp_wire_types.specs.declared.chunk.ChunkPayloadData.{ChunkPayloadData}
@@ -7,7 +7,7 @@ use Rattle.sctp_model.specs.Serial.{tsn}
 use Rattle.sctp_outbound_queue.specs.declared.message.InFlight.{InFlight}
 use Rattle.sctp_outbound_queue.specs.Waiting.{Waiting}
 use Rattle.sctp_outbound_queue.specs.Message.{counted_again}
-use Rattle.sctp_outbound_queue.specs.Outbound.{Outbound, changed_at, changed_from, next_tsn_of, pieces_waiting, sent_from, sent_next, tsn_at}
+use Rattle.sctp_outbound_queue.specs.Outbound.{Outbound, next_tsn_of, pieces_waiting, sent_next, tsn_at}
 use Rattle.sctp_queues.specs.Streams.{StreamMap}
 use Rattle.sctp_outbound.specs.declared.sender.Sender.{Sender}
 use Rattle.sctp_outbound.specs.Sender.{after_resending, both_windows, can_send_next, chunk_of, first_chunk, first_counted, fits_windows, next_chunk_of, resends_alone, resent_by, resent_chunks, resent_pieces, sent_new, sent_one, sent_within, with_in_flight}
@@ -15,7 +15,8 @@ use Rattle.sctp_assoc.specs.Acts.{Act, Can, CanAll, History, Parts, done, done_a
 use Rattle.sctp_assoc.specs.Polled.{AckIsReadAgain, data_polled, with_sent_data}
 use Rattle.sctp_assoc.specs.Shown.{Shown}
 use Rattle.sctp_assoc.specs.Happened.{acks_given, acts_of_ack, acts_of_data_poll, acts_of_marks, acts_of_new, acts_of_resending, acts_of_sending, first_again, first_sent}
-use Rattle.sctp_assoc.proofs.Acting.{Tied, act_tied, can_append, done_append, given_append}
+use Rattle.sctp_assoc.proofs.Acting.{Tied, can_append, done_append, given_append, sent_first}
+use Rattle.sctp_outbound.proofs.Sending.{chunks_full, chunks_sent, chunks_skip, pieces_full, pieces_sent, pieces_skip}
 
 -- Acts can be done, lead from some parts to others, and give out this DATA.
 pub record Gives (xs : List Act) (p q : Parts) (given : List ChunkPayloadData) : Type 0 where
@@ -70,24 +71,6 @@ again_one x ps xs p e tied =
 
 gives_same : (xs ys : List Act) (p q r : Parts) (c d : List ChunkPayloadData) → xs ≡ ys → q ≡ r → c ≡ d → Gives ys p r d → Gives xs p q c
 gives_same xs ys p q r c d e f g m = rw (e, f, g) m
-
-pieces_skip : (p : InFlight) (ps : List InFlight) (room : ℕ) → p.retransmit ≡ false → resent_pieces room (p ∷ ps) ≡ p ∷ resent_pieces room ps
-pieces_skip p ps room unmarked = rw unmarked
-
-pieces_full : (p : InFlight) (ps : List InFlight) (room : ℕ) → p.retransmit ≡ true → nat_lt room (length p.user_data) ≡ true → resent_pieces room (p ∷ ps) ≡ p ∷ ps
-pieces_full p ps room marked full = rw (marked, full)
-
-pieces_sent : (p : InFlight) (ps : List InFlight) (room : ℕ) → p.retransmit ≡ true → nat_lt room (length p.user_data) ≡ false → resent_pieces room (p ∷ ps) ≡ counted_again p ∷ resent_pieces (room - length p.user_data) ps
-pieces_sent p ps room marked fits = rw (marked, fits)
-
-chunks_skip : (p : InFlight) (ps : List InFlight) (first place room : ℕ) → p.retransmit ≡ false → resent_chunks first place room (p ∷ ps) ≡ resent_chunks first (place + 1) room ps
-chunks_skip p ps first place room unmarked = rw unmarked
-
-chunks_full : (p : InFlight) (ps : List InFlight) (first place room : ℕ) → p.retransmit ≡ true → nat_lt room (length p.user_data) ≡ true → resent_chunks first place room (p ∷ ps) ≡ []
-chunks_full p ps first place room marked full = rw (marked, full)
-
-chunks_sent : (p : InFlight) (ps : List InFlight) (first place room : ℕ) → p.retransmit ≡ true → nat_lt room (length p.user_data) ≡ false → resent_chunks first place room (p ∷ ps) ≡ chunk_of p (tsn_at first place) ∷ resent_chunks first (place + 1) (room - length p.user_data) ps
-chunks_sent p ps first place room marked fits = rw (marked, fits)
 
 acts_skip : (p : InFlight) (ps : List InFlight) (place room : ℕ) → p.retransmit ≡ false → acts_of_resending place room (p ∷ ps) ≡ acts_of_resending (place + 1) room ps
 acts_skip p ps place room unmarked = rw unmarked
@@ -156,7 +139,7 @@ marks_give s m h tied = marks_give_if (resends_alone s) s m h tied
 
 -- Pieces that go out for the first time.
 
-one_queue : (ms : List Waiting) (s : Sender) (out : List ChunkPayloadData) (now : ℕ) → s.queue.pending ≡ ms → (sent_one ms s out now).0.queue ≡ sent_next s.queue now
+pub one_queue : (ms : List Waiting) (s : Sender) (out : List ChunkPayloadData) (now : ℕ) → s.queue.pending ≡ ms → (sent_one ms s out now).0.queue ≡ sent_next s.queue now
 unfolding sent_one
 one_queue [] s out now e = rw e refl
 one_queue (m ∷ ms) s out now e = refl
@@ -166,13 +149,9 @@ unfolding sent_one
 one_said [] s out now = sym (append-nil out)
 one_said (m ∷ ms) s out now = refl
 
-next_first : (ms : List Waiting) (q : Outbound) (now : ℕ) → (sent_from ms q now).first_tsn ≡ q.first_tsn
-next_first [] q now = refl
-next_first (m ∷ ms) q now = refl
-
 one_tied : (s : Sender) (out : List ChunkPayloadData) (now : ℕ) (h : History) → s.queue.first_tsn ≡ tsn h.own h.base
     → (sent_one s.queue.pending s out now).0.queue.first_tsn ≡ tsn h.own h.base
-one_tied s out now h tied = ap (λ (q : Outbound). q.first_tsn) (one_queue s.queue.pending s out now refl) ∙ next_first s.queue.pending s.queue now ∙ tied
+one_tied s out now h tied = ap (λ (q : Outbound). q.first_tsn) (one_queue s.queue.pending s out now refl) ∙ sent_first s.queue.pending s.queue now ∙ tied
 
 one_gives : (ms : List Waiting) (s : Sender) (out : List ChunkPayloadData) (now : ℕ) (m : StreamMap) (h : History) → s.queue.pending ≡ ms
     → s.queue.first_tsn ≡ tsn h.own h.base
@@ -249,7 +228,7 @@ sent_data_parts : (a : Shown) (count now : ℕ) (x : Sender × List ChunkPayload
     → parts (with_sent_data a count now x).0 h ≡ sending x.0 a.streams h
 sent_data_parts a count now (s, pieces) h = refl
 
-sent_data_said : (a : Shown) (count now : ℕ) (x : Sender × List ChunkPayloadData) → (with_sent_data a count now x).1 ≡ x.1
+pub sent_data_said : (a : Shown) (count now : ℕ) (x : Sender × List ChunkPayloadData) → (with_sent_data a count now x).1 ≡ x.1
 sent_data_said a count now (s, pieces) = refl
 
 -- what a poll's DATA leaves as it is

@@ -1,5 +1,5 @@
 -- What each call does to the two directions is what its acts say.
-use Rattle.std.proofs.Common.{◌≡◌, refl, sym, ap, ◌∙◌, ◌⊎◌, ⊎_elim, inl, inr, ℕ, zero, suc, ◌<◌, ◌≤◌, ◌+◌, ◌-◌, ◌%◌, ◌^◌, arith, Bool, true, false, eqb, ◌&&◌, List, [], ◌∷◌, ◌++◌, length, if◌then◌else◌, nat_lt, nat_le, Option, Some, None, Result, Ok, Err, is_some}
+use Rattle.std.proofs.Common.{◌≡◌, refl, sym, ap, ◌∙◌, ◌⊎◌, ⊎_elim, inl, inr, ℕ, ◌<◌, ◌≤◌, ◌+◌, ◌-◌, ◌%◌, ◌^◌, arith, Bool, true, false, eqb, ◌&&◌, List, [], ◌∷◌, ◌++◌, length, if◌then◌else◌, nat_lt, nat_le, Option, Some, None, Result, Ok, Err, is_some}
 use Rattle.std.proofs.lemmas.Bool.{and_parts, cases_eq, eq-eqb, eqb-true, false≢true, leb-true, or_cases, or_left, or_right}
 use Rattle.sctp_wire_types.specs.Serial.{tsn_gt}
 use Rattle.sctp_wire_types.specs.declared.chunk.ChunkPayloadData.{ChunkPayloadData}
@@ -31,7 +31,7 @@ use Rattle.sctp_outbound.specs.declared.sender.SackOutcome.TheVariants as outcom
 use Rattle.sctp_outbound.specs.Sender.{acked_point_of, acknowledged, points_to, sack_outcome, with_window}
 use Rattle.sctp_assoc.specs.declared.inbound.Flow.{Flow}
 use Rattle.sctp_assoc.specs.declared.inbound.Flow.TheVariants as flows
-use Rattle.sctp_assoc.specs.Acts.{Act, Binds, Can, CanAll, History, Leads, Parts, IsSamePast, LeadsOn, done, done_all, parts, tsn_before, with_taken, with_written}
+use Rattle.sctp_assoc.specs.Acts.{Act, Binds, CanAll, History, Leads, Parts, IsSamePast, LeadsOn, done, done_all, parts, tsn_before, with_taken, with_written}
 use Rattle.sctp_assoc.specs.Calls.{after_ack_delay, after_t3, after_timeouts, closed_by, closed_open, opened, read_from_stream, retransmits, t3_expired, written, written_at, is_closed_state, is_established}
 use Rattle.sctp_assoc.specs.Chunks.{after_chunks, after_packet, after_packet_of, after_sack, asks_or_faults, checked_first, counted_data, counted_sack, dispatched, ended, goes_on, is_whole, on_chunk, on_counted_sack, on_data, on_next_data, on_sack, stream_found, taken_in, taken_unless, told, with_acknowledged, with_message, with_new_stream}
 use Rattle.sctp_assoc.specs.Happened.{acts_after, acts_of_checked, acts_of_chunk, acts_of_chunks, acts_of_close, acts_of_kind, acts_of_packet, acts_of_packet_of, acts_of_data, acts_of_found, acts_of_outcome, acts_of_sack, acts_of_stream, acts_of_taking, acts_of_timeouts, acts_unless_refused}

@@ -4,9 +4,6 @@ use Rattle.std.proofs.lemmas.Bool.{false≢true}
 use Rattle.std.proofs.lemmas.List.{append-nil}
 use Rattle.sctp_wire_types.specs.declared.chunk.ChunkPayloadData.{ChunkPayloadData}
 use Rattle.sctp_model.specs.Serial.{tsn}
-use Rattle.sctp_queues.specs.Streams.{StreamMap, bytes_waiting}
-use Rattle.sctp_inbound.specs.declared.handshake.Handshake.{Handshake}
-use Rattle.sctp_inbound.specs.declared.receiver.Receiver.{Receiver}
 use Rattle.sctp_inbound.specs.Handshake.{header_of}
 use Rattle.sctp_inbound.specs.Receiver.{acknowledged}
 use Rattle.sctp_assoc.specs.Acts.{Act, Binds, History, Leads, Parts, all_data_given, done_all, parts}
@@ -18,10 +15,10 @@ use Rattle.sctp_assoc.proofs.Acting.{acts_tied, given_append}
 use Rattle.sctp_assoc.proofs.Giving.{Adds, data_poll_adds, data_poll_stays, IsSentBeside}
 use Rattle.sctp_assoc.proofs.Joining.{leads_by, leads_nowhere, leads_on, past_itself}
 
-both_first : (packets : List (List ℕ)) (x : Shown × List (List ℕ)) → (after_both packets x).0 ≡ x.0
+pub both_first : (packets : List (List ℕ)) (x : Shown × List (List ℕ)) → (after_both packets x).0 ≡ x.0
 both_first packets (a, more) = refl
 
-both_second : (packets : List (List ℕ)) (x : Shown × List (List ℕ)) → (after_both packets x).1 ≡ packets ++ x.1
+pub both_second : (packets : List (List ℕ)) (x : Shown × List (List ℕ)) → (after_both packets x).1 ≡ packets ++ x.1
 both_second packets (a, more) = refl
 
 abbrev acked_if : Bool → Shown → Shown × List (List ℕ)
@@ -43,7 +40,7 @@ ack_said_if : (due : Bool) (b : Shown) → (acked_if due b).1 ≡ (if due then s
 ack_said_if true b = refl
 ack_said_if false b = refl
 
-ack_said : (b : Shown) → (ack_polled b).1 ≡ acks_given b
+pub ack_said : (b : Shown) → (ack_polled b).1 ≡ acks_given b
 unfolding ack_polled
 ack_said b = ack_said_if (is_due b.receiver.ack_state) b
 

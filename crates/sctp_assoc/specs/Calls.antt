@@ -1,5 +1,5 @@
 -- What the calls of an application do to an association.
-use Rattle.std.specs.Prelude.{◌≡◌, ℕ, Bool, true, false, List, [], ◌∷◌, ◌++◌, ◌==◌, ◌||◌, ◌+◌, ◌-◌, ◌^◌, if◌then◌else◌, length, map, min, nat_lt, is_some, Option, Some, None, Result, Ok, Err}
+use Rattle.std.specs.Prelude.{◌≡◌, ℕ, Bool, true, false, List, [], ◌∷◌, ◌++◌, ◌==◌, ◌||◌, if◌then◌else◌, length, map, nat_lt, is_some, Option, Some, None, Result, Ok, Err}
 use Rattle.sctp_wire_types.specs.declared.error.Error.{Error}
 use Rattle.sctp_wire_types.specs.declared.error.Error.TheVariants as errors
 use Rattle.sctp_wire_types.specs.declared.ids.PayloadProtocolIdentifier.{PayloadProtocolIdentifier}
@@ -7,15 +7,16 @@ use Rattle.sctp_parts.specs.declared.state.AssociationState.{AssociationState}
 use Rattle.sctp_parts.specs.declared.state.AssociationState.TheVariants as states
 use Rattle.sctp_parts.specs.declared.timer.Timer.TheVariants as names
 use Rattle.sctp_parts.specs.State.{is_closing}
-use Rattle.sctp_parts.specs.Timers.{Timers, least_moment, after_expiry, expiry_of, with_moment, started}
+use Rattle.sctp_parts.specs.Timers.{least_moment, after_expiry, expiry_of, with_moment, started}
 use Rattle.sctp_parts.specs.Stats.{one_more}
 use Rattle.sctp_queues.specs.declared.event.AssociationError.{AssociationError}
 use Rattle.sctp_queues.specs.declared.event.Event.TheVariants.{AssociationLost, DataChannelStatsFinal}
 use Rattle.sctp_outbound_queue.specs.Waiting.{Waiting}
 use Rattle.sctp_outbound_queue.specs.Outbound.{all_marked, with_message}
 use Rattle.sctp_receive_queues.specs.Messages.{Message}
+use Rattle.sctp_receive_queues.specs.Reassembly.{ready}
 use Rattle.sctp_queues.specs.Stream.{Stream, accepted_by, params_for}
-use Rattle.sctp_queues.specs.Streams.{StreamMap, stream_at, generation_left, changed_stream, made, read_in, last_stats, without_streams}
+use Rattle.sctp_queues.specs.Streams.{stream_at, generation_left, changed_stream, made, read_in, last_stats, without_streams}
 use Rattle.sctp_inbound.specs.Receiver.{acknowledged_at_once}
 use Rattle.sctp_assoc.specs.Shown.{Shown, all_stopped}
 
@@ -128,6 +129,14 @@ read_refusal a id =
 -- what a read leaves and gives
 abbrev pub read_from_stream : Shown → ℕ → Shown × Option Message
 read_from_stream a id = (record a { streams = (read_in a.streams id).0 }, (read_in a.streams id).1)
+
+abbrev pub ready_of : Option Stream → List Message
+ready_of None = []
+ready_of (Some s) = ready s.reassembly
+
+-- the messages that reads on a stream give, one after another
+abbrev pub ready_messages : Shown → ℕ → List Message
+ready_messages a id = ready_of (stream_at a.streams id)
 
 abbrev pub size_refusal : Shown → Stream → ℕ → Option Error
 size_refusal a s size =

@@ -4,6 +4,7 @@ pub mod Chunks
 pub mod Happened
 pub mod Inbound
 pub mod Join
+pub mod Laws
 pub mod Lending
 pub mod Polled
 pub mod Shown

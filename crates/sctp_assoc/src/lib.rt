@@ -6,12 +6,16 @@ mod association;
 mod effects;
 mod gather;
 mod inbound;
+mod laws;
 mod readers;
 mod shared;
 mod stream;
 mod stream_calls;
 
 pub use association::Association;
+pub use laws::{
+    faults_alone_close, sacks_name_the_point, what_is_written_is_held, what_waits_goes_out,
+};
 pub use sctp_parts::shared::{AssociationId, EndpointEvent, IssuedAid};
 pub use sctp_parts::state::{AckMode, AckState, AssociationState};
 pub use sctp_parts::stats::AssociationStats;

@@ -1,7 +1,7 @@
 // What an association does for the calls of its streams.
-ghost use Rattle.std.specs.Prelude.{◌≡◌, ◌∷◌, [], length, OnOk, OnErr, IfOk};
+ghost use Rattle.std.specs.Prelude.{◌≡◌, ◌↔◌, ◌∷◌, [], drop, length, slice_get, IsNone, OnOk, OnErr, IfOk};
 ghost use Rattle.sctp_assoc.specs.Acts.{Act, LeadsOn};
-ghost use Rattle.sctp_assoc.specs.Calls.{Refuses, RefusesOrLacksMemory, write_refusal, written, read_refusal, read_from_stream, buffered_of};
+ghost use Rattle.sctp_assoc.specs.Calls.{Refuses, RefusesOrLacksMemory, write_refusal, written, read_refusal, read_from_stream, ready_messages, buffered_of};
 
 use crate::Association;
 use bytes::Bytes;
@@ -18,6 +18,9 @@ impl Association {
         ensures refused { Refuses result (read_refusal self.old id) }
         ensures err { OnErr result (self.new ≡ self.old) }
         ensures ok { IfOk result (λ message. read_from_stream self.old id ≡ (self.new, message)) }
+        ensures first { IfOk result (λ message. message ≡ slice_get (ready_messages self.old id) 0) }
+        ensures others { OnOk result (ready_messages self.new id ≡ drop 1 (ready_messages self.old id)) }
+        ensures none { IfOk result (λ message. IsNone message ↔ (ready_messages self.old id ≡ [])) }
         ensures acts { OnOk result (LeadsOn (Act.WasRead id ∷ []) self.old self.new) }
     {
         self.check_usable()?;

@@ -72,22 +72,24 @@ take_get xs i p e =
     let same = get_or_from_slice_get xs i p p e in
     rw (take_more xs i p (slice_get_within xs i p e), same)
 
-pieces_skip : (p : InFlight) (ps : List InFlight) (room : ℕ) → p.retransmit ≡ false → resent_pieces room (p ∷ ps) ≡ p ∷ resent_pieces room ps
+-- what is resent where the first piece in flight is not marked, does not fit, or is sent again: of the pieces that stay, and of the DATA
+
+pub pieces_skip : (p : InFlight) (ps : List InFlight) (room : ℕ) → p.retransmit ≡ false → resent_pieces room (p ∷ ps) ≡ p ∷ resent_pieces room ps
 pieces_skip p ps room unmarked = rw unmarked
 
-pieces_full : (p : InFlight) (ps : List InFlight) (room : ℕ) → p.retransmit ≡ true → nat_lt room (length p.user_data) ≡ true → resent_pieces room (p ∷ ps) ≡ p ∷ ps
+pub pieces_full : (p : InFlight) (ps : List InFlight) (room : ℕ) → p.retransmit ≡ true → nat_lt room (length p.user_data) ≡ true → resent_pieces room (p ∷ ps) ≡ p ∷ ps
 pieces_full p ps room marked full = rw (marked, full)
 
-pieces_sent : (p : InFlight) (ps : List InFlight) (room : ℕ) → p.retransmit ≡ true → nat_lt room (length p.user_data) ≡ false → resent_pieces room (p ∷ ps) ≡ counted_again p ∷ resent_pieces (room - length p.user_data) ps
+pub pieces_sent : (p : InFlight) (ps : List InFlight) (room : ℕ) → p.retransmit ≡ true → nat_lt room (length p.user_data) ≡ false → resent_pieces room (p ∷ ps) ≡ counted_again p ∷ resent_pieces (room - length p.user_data) ps
 pieces_sent p ps room marked fits = rw (marked, fits)
 
-chunks_skip : (p : InFlight) (ps : List InFlight) (first place room : ℕ) → p.retransmit ≡ false → resent_chunks first place room (p ∷ ps) ≡ resent_chunks first (place + 1) room ps
+pub chunks_skip : (p : InFlight) (ps : List InFlight) (first place room : ℕ) → p.retransmit ≡ false → resent_chunks first place room (p ∷ ps) ≡ resent_chunks first (place + 1) room ps
 chunks_skip p ps first place room unmarked = rw unmarked
 
-chunks_full : (p : InFlight) (ps : List InFlight) (first place room : ℕ) → p.retransmit ≡ true → nat_lt room (length p.user_data) ≡ true → resent_chunks first place room (p ∷ ps) ≡ []
+pub chunks_full : (p : InFlight) (ps : List InFlight) (first place room : ℕ) → p.retransmit ≡ true → nat_lt room (length p.user_data) ≡ true → resent_chunks first place room (p ∷ ps) ≡ []
 chunks_full p ps first place room marked full = rw (marked, full)
 
-chunks_sent : (p : InFlight) (ps : List InFlight) (first place room : ℕ) → p.retransmit ≡ true → nat_lt room (length p.user_data) ≡ false → resent_chunks first place room (p ∷ ps) ≡ chunk_of p (tsn_at first place) ∷ resent_chunks first (place + 1) (room - length p.user_data) ps
+pub chunks_sent : (p : InFlight) (ps : List InFlight) (first place room : ℕ) → p.retransmit ≡ true → nat_lt room (length p.user_data) ≡ false → resent_chunks first place room (p ∷ ps) ≡ chunk_of p (tsn_at first place) ∷ resent_chunks first (place + 1) (room - length p.user_data) ps
 chunks_sent p ps first place room marked fits = rw (marked, fits)
 
 one_more : {A : Type 0} → (a b w r : List A) (q : A) → b ≡ a ++ q ∷ [] → w ≡ q ∷ r → b ++ r ≡ a ++ w

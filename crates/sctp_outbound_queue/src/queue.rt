@@ -301,6 +301,7 @@ impl OutboundQueue {
         ensures ok { IfOk result (λ released. abandoned_at self.old tsn ≡ (self.new, released)) }
         ensures err { OnErr result (self.new ≡ self.old) }
     {
+        // a use of a field opens the invariant for the proof
         let _ = &self.pending;
         let Some(piece) = self.get(self.place_of(tsn)) else {
             return Ok(None);

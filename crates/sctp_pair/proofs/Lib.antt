@@ -2,7 +2,9 @@ pub mod Answered
 pub mod Assembled
 pub mod Between
 pub mod Giving
+mod OneSide
 pub mod Packets
+pub mod Polls
 pub mod Promised
 pub mod ReadCall
 mod Running

@@ -57,8 +57,9 @@ pub same_settles : (own peer : ℕ) (a b y : Shown) (out coming : Direction) →
 same_settles own peer a b y out coming e f =
     subst (λ z. Settles own peer z y out coming nothing_added nothing_read None_brought) (sym e) (nothing_settles own peer a y out coming f)
 
--- Questions about a stream and about the round trip change nothing.
+-- Questions change nothing
 
+-- whether a stream is live
 pub finds_same : (a : Shown) (id : ℕ) (r : Reply) (b : Shown) → Finds a id r b → b ≡ a
 finds_same a id replies.Done b h = h.1
 finds_same a id (replies.Wrote n) b h = absurd h
@@ -73,6 +74,7 @@ finds_same a id (replies.Rtt duration) b h = absurd h
 finds_same a id (replies.Refused n) b h = h.1
 finds_same a id replies.NoSuchPacket b h = absurd h
 
+-- how much of it is buffered
 pub buffers_same : (a : Shown) (id : ℕ) (r : Reply) (b : Shown) → Buffers a id r b → b ≡ a
 buffers_same a id replies.Done b h = absurd h
 buffers_same a id (replies.Wrote n) b h = absurd h
@@ -87,6 +89,7 @@ buffers_same a id (replies.Rtt duration) b h = absurd h
 buffers_same a id (replies.Refused n) b h = h.1
 buffers_same a id replies.NoSuchPacket b h = absurd h
 
+-- how long a round trip may last
 pub measures_same : (a : Shown) (r : Reply) (b : Shown) → Measures a r b → b ≡ a
 measures_same a replies.Done b h = absurd h
 measures_same a (replies.Wrote n) b h = absurd h
@@ -136,6 +139,7 @@ settles_by_received own peer a b y out coming e f received goes invariant plain 
 
 -- The association failed
 
+-- An association that failed, or fails in this call, stops receiving: that is an event of the direction that comes to it.
 pub fails_settle : (own peer : ℕ) (a b y : Shown) (out coming : Direction) → b.failed ≡ true → Faces own peer a y out coming
     → Settles own peer b y out coming nothing_added nothing_read None_brought
 fails_settle own peer a b y out coming failed f =
@@ -210,6 +214,7 @@ by_working own peer a out coming T working opens closes h = ⊎_elim
 
 -- A stream is opened
 
+-- a stream that can be opened is not live, and the association works
 free_by : (failed there left : Bool)
     → (if failed then Some errors.ErrAssociationFailed else if there then Some errors.ErrStreamAlreadyExist else if left then None else Some errors.ErrStreamCreateFailed) ≡ None
     → (failed ≡ false) × (there ≡ false)

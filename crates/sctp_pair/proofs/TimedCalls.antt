@@ -1,5 +1,5 @@
 -- An association tells its events and meets its timeouts: either leaves it between the same directions.
-use Rattle.std.proofs.Common.{◌≡◌, refl, sym, ap, ◌∙◌, subst, inl, inr, ℕ, Bool, true, false, if◌then◌else◌, List, [], ◌∷◌, ◌++◌, Option, Some, None}
+use Rattle.std.proofs.Common.{◌≡◌, refl, sym, ap, ◌∙◌, subst, inl, inr, ℕ, Bool, true, false, if◌then◌else◌, List, [], ◌∷◌, ◌++◌}
 use Rattle.std.specs.Prelude.{option_to_list}
 use Rattle.sctp_parts.specs.declared.timer.Timer.TheVariants as names
 use Rattle.sctp_parts.specs.Timers.{expiry_of}

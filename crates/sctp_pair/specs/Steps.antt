@@ -90,7 +90,7 @@ Fails a n b = (n ≡ refusal_number errors.ErrNoMemory) × HasFailed a.state a.l
 -- of the packets of a poll those for which room was refused are lost, and all behind them
 abbrev pub LosesSome : Shown → List (List ℕ) → ℕ → ℕ → Shown → List (List ℕ) → Type 0
 LosesSome a packets now n b more =
-    (n ≡ refusal_number errors.ErrNoMemory) × ((polled a now).0 ≡ b) × PollsOn (acts_of_poll a now) a b (polled a now).1
+    (a.failed ≡ false) × (n ≡ refusal_number errors.ErrNoMemory) × ((polled a now).0 ≡ b) × PollsOn (acts_of_poll a now) a b (polled a now).1
     × ((kept : ℕ) × (more ≡ packets ++ take kept (polled a now).1))
 
 -- packets get the next numbers of their side, or a front of them where room is refused

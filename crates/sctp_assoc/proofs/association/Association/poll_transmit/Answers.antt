@@ -1,4 +1,3 @@
-use Rattle.std.proofs.Common.{◌≡◌}
 use Rattle.sctp_assoc.proofs.Polling.{polls_on}
 use Rattle.sctp_assoc.proofs.association.Association.poll_transmit.Goals as goal
 

@@ -1,0 +1,220 @@
+-- A packet closes an association exactly where it is open and a chunk of the packet is a fault.
+use Rattle.std.proofs.Common.{◌≡◌, refl, ap, ◌∙◌, subst, ℕ, ◌+◌, arith, Bool, true, false, not, ◌&&◌, if◌then◌else◌, List, [], ◌∷◌, ◌++◌, map, nat_lt, Option, Some, None, Result, Ok, Err, is_some}
+use Rattle.std.proofs.lemmas.List.Sums.{sum_by-append, sum_by-cons}
+use Rattle.sctp_wire_types.specs.declared.chunk.Chunk.{Chunk}
+use Rattle.sctp_wire_types.specs.declared.chunk.Chunk.TheVariants as chunks
+use Rattle.sctp_wire_types.specs.declared.chunk.ChunkPayloadData.{ChunkPayloadData}
+use Rattle.sctp_wire_types.specs.declared.error.Error.{Error}
+use Rattle.sctp_wire_types.specs.declared.event.StreamEvent.TheVariants.{Opened, Readable}
+use Rattle.sctp_wire_types.specs.Checks.{checked_chunk}
+use Rattle.sctp_wire.specs.declared.packet.Packet.{Packet}
+use Rattle.sctp_parts.specs.declared.state.AssociationState.{AssociationState}
+use Rattle.sctp_parts.specs.Estimate.{Estimate}
+use Rattle.sctp_queues.specs.declared.event.AssociationError.{AssociationError}
+use Rattle.sctp_queues.specs.declared.event.AssociationError.TheVariants as reasons
+use Rattle.sctp_queues.specs.declared.event.Event.{Event}
+use Rattle.sctp_queues.specs.declared.event.Event.TheVariants.{AssociationLost, DataChannelStatsFinal, DatagramReceived}
+use Rattle.sctp_queues.specs.declared.event.Event.TheVariants as events
+use Rattle.sctp_queues.specs.declared.stats.DataChannelStats.{DataChannelStats}
+use Rattle.sctp_queues.specs.Streams.{StreamMap, bytes_waiting, generation_left, is_readable_in, last_stats, pushed_in, refusal_in, stream_at}
+use Rattle.sctp_inbound.specs.declared.receiver.AckWish.{AckWish}
+use Rattle.sctp_inbound.specs.declared.receiver.AckWish.TheVariants as wishes
+use Rattle.sctp_inbound.specs.Receiver.{credit_of, is_next_after}
+use Rattle.sctp_outbound.specs.declared.sender.Sender.{Sender}
+use Rattle.sctp_outbound.specs.declared.sender.SackOutcome.{SackOutcome}
+use Rattle.sctp_outbound.specs.declared.sender.SackOutcome.TheVariants as outcomes
+use Rattle.sctp_outbound.specs.Sender.{acknowledged, points_to, sack_outcome, with_window}
+use Rattle.sctp_assoc.specs.declared.inbound.Flow.{Flow}
+use Rattle.sctp_assoc.specs.declared.inbound.Flow.TheVariants as flows
+use Rattle.sctp_assoc.specs.Calls.{closed_by, is_closed_state, is_established}
+use Rattle.sctp_assoc.specs.Chunks.{after_chunks, after_packet_of, asks_or_faults, checked_first, dispatched, goes_on, is_whole, on_chunk, on_counted_data, on_counted_sack, on_data, on_next_data, on_sack, stream_found, taken_in, taken_unless, told, with_acknowledged, with_message}
+use Rattle.sctp_assoc.specs.Laws.{FaultsAloneClose, IsClosedIf, faults_or, is_faulted, is_faulted_packet, loss_of, losses}
+use Rattle.sctp_assoc.specs.Shown.{Shown}
+
+-- What a chunk leaves of an association's end: its state, the mark of a loss, and the losses among the events.
+pub record GoesOn (a b : Shown) : Type 0 where
+  pub state : b.state ≡ a.state
+  pub lost : b.lost ≡ a.lost
+  pub told : losses b.events ≡ losses a.events
+
+goes_on_there : (a b c : Shown) → GoesOn a b → GoesOn b c → GoesOn a c
+goes_on_there a b c m n = record { state = n.state ∙ m.state; lost = n.lost ∙ m.lost; told = n.told ∙ m.told }
+
+-- nothing of the end changed, or one event came that is no loss
+stays : (a b : Shown) → b.state ≡ a.state → b.lost ≡ a.lost → b.events ≡ a.events → GoesOn a b
+stays a b s l e = record { state = s; lost = l; told = ap losses e }
+
+one_more_told : (queued : List Event) (event : Event) → losses (queued ++ event ∷ []) ≡ losses queued + loss_of event
+one_more_told queued event =
+    sum_by-append loss_of queued (event ∷ []) ∙ ap (λ (n : ℕ). losses queued + n) (sum_by-cons loss_of event [] ∙ omega arith)
+
+tells : (queued : List Event) (event : Event) → loss_of event ≡ 0 → losses (queued ++ event ∷ []) ≡ losses queued
+tells queued event e = one_more_told queued event ∙ ap (λ (n : ℕ). losses queued + n) e ∙ omega arith
+
+-- DATA
+
+told_goes_on : (c : Bool) (b : Shown) (id : ℕ) (kept : Bool) → (kept && is_readable_in b.streams id) ≡ c → GoesOn b (told b id kept)
+told_goes_on true b id kept e = rw e (record {
+  state = refl;
+  lost = refl;
+  told = tells (b.events ++ DatagramReceived ∷ []) (events.Stream (Readable id)) refl ∙ tells b.events DatagramReceived refl;
+})
+told_goes_on false b id kept e = rw e (record { state = refl; lost = refl; told = tells b.events DatagramReceived refl })
+
+message_goes_on : (a : Shown) (piece : ChunkPayloadData) (x : StreamMap × Bool) → GoesOn a (with_message a piece x)
+message_goes_on a piece (streams, kept) =
+    let m = told_goes_on _ _ piece.stream_identifier kept refl in
+    record { state = m.state; lost = m.lost; told = m.told }
+
+taking_goes_on : (o : Option Error) (a : Shown) (piece : ChunkPayloadData) → GoesOn a (taken_unless o a piece).0
+taking_goes_on (Some fault) a piece = stays a a refl refl refl
+taking_goes_on None a piece = message_goes_on a piece (pushed_in a.streams piece.stream_identifier piece)
+
+asked_goes_on : (a : Shown) (x : Shown × Option Error) (piece : ChunkPayloadData) (wish : AckWish) → GoesOn a x.0 → GoesOn a (asks_or_faults x piece wish).0
+asked_goes_on a (b, None) piece wish m = m
+asked_goes_on a (b, Some fault) piece wish m = m
+
+credit_goes_on : (c : Bool) (b : Shown) (piece : ChunkPayloadData) (wish : AckWish) → nat_lt 0 (credit_of b.receiver (bytes_waiting b.streams)) ≡ c
+    → GoesOn b (on_next_data (b, true) piece wish).0
+unfolding taken_in
+credit_goes_on true b piece wish e =
+    rw e (asked_goes_on b (taken_in b piece) piece wish (taking_goes_on (refusal_in b.streams piece.stream_identifier piece _) b piece))
+credit_goes_on false b piece wish e = rw e (stays b b refl refl refl)
+
+next_goes_on : (x : Shown × Bool) (piece : ChunkPayloadData) (wish : AckWish) → GoesOn x.0 (on_next_data x piece wish).0
+next_goes_on (b, false) piece wish = stays b b refl refl refl
+next_goes_on (b, true) piece wish = credit_goes_on _ b piece wish refl
+
+found_goes_on : (there left : Bool) (a : Shown) (id : ℕ) → is_some (stream_at a.streams id) ≡ there → generation_left a.streams ≡ left
+    → GoesOn a (stream_found a id).0
+unfolding stream_found
+found_goes_on true left a id e f = rw e (stays a a refl refl refl)
+found_goes_on false true a id e f = rw (e, f) (record { state = refl; lost = refl; told = tells a.events (events.Stream (Opened id)) refl })
+found_goes_on false false a id e f = rw (e, f) (stays a a refl refl refl)
+
+data_goes_on : (c : Bool) (b : Shown) (piece : ChunkPayloadData) (wish : AckWish) → (is_next_after b.receiver piece.tsn && is_whole piece) ≡ c
+    → GoesOn b (on_counted_data b piece wish).0
+data_goes_on false b piece wish e = rw e (stays b b refl refl refl)
+data_goes_on true b piece wish e =
+    let id = piece.stream_identifier in
+    rw e (goes_on_there b (stream_found b id).0 _ (found_goes_on _ _ b id refl refl) (next_goes_on (stream_found b id) piece wish))
+
+on_data_goes_on : (a : Shown) (piece : ChunkPayloadData) (wish : AckWish) → GoesOn a (on_data a piece wish).0
+unfolding on_data
+on_data_goes_on a piece wish =
+    let m = data_goes_on _ _ piece wish refl in
+    record { state = m.state; lost = m.lost; told = m.told }
+
+-- SACK
+
+acknowledged_goes_on : (a : Shown) (moved : Bool) (now : ℕ) (x : Sender × Estimate × StreamMap) → GoesOn a (with_acknowledged a moved now x)
+acknowledged_goes_on a moved now (s, e, m) = stays a _ refl refl refl
+
+outcome_goes_on : (o : SackOutcome) (b : Shown) (point window : ℕ) (wish : AckWish) (now : ℕ) → GoesOn b (on_counted_sack o b point window wish now).0
+outcome_goes_on outcomes.Older b point window wish now = stays b b refl refl refl
+outcome_goes_on outcomes.NotInFlight b point window wish now = stays b b refl refl refl
+outcome_goes_on outcomes.Taken b point window wish now =
+    acknowledged_goes_on b (nat_lt 0 (points_to b.sender point)) now (acknowledged (points_to b.sender point) now (with_window b.sender window, b.estimate, b.streams))
+
+sack_goes_on : (c : Bool) (a : Shown) (point window : ℕ) (wish : AckWish) (now : ℕ) → is_established a.state ≡ c
+    → GoesOn a (on_sack a point window wish now).0
+unfolding on_sack
+sack_goes_on true a point window wish now e =
+    let m = outcome_goes_on (sack_outcome a.sender point) _ point window wish now in
+    rw e (record { state = m.state; lost = m.lost; told = m.told })
+sack_goes_on false a point window wish now e = rw e (stays a a refl refl refl)
+
+-- Any chunk
+
+kind_goes_on : (c : Chunk) (a : Shown) (wish : AckWish) (now : ℕ) → GoesOn a (dispatched a c wish now).0
+kind_goes_on (chunks.Data piece) a wish now = on_data_goes_on a piece wish
+kind_goes_on (chunks.SelectiveAck sack) a wish now = sack_goes_on _ a sack.cumulative_tsn_ack sack.advertised_receiver_window_credit wish now refl
+kind_goes_on (chunks.Init x) a wish now = stays a a refl refl refl
+kind_goes_on (chunks.InitAck x) a wish now = stays a a refl refl refl
+kind_goes_on (chunks.Heartbeat x) a wish now = stays a a refl refl refl
+kind_goes_on (chunks.HeartbeatAck x) a wish now = stays a a refl refl refl
+kind_goes_on (chunks.Abort x) a wish now = stays a a refl refl refl
+kind_goes_on (chunks.Shutdown x) a wish now = stays a a refl refl refl
+kind_goes_on chunks.ShutdownAck a wish now = stays a a refl refl refl
+kind_goes_on (chunks.Error x) a wish now = stays a a refl refl refl
+kind_goes_on (chunks.CookieEcho x) a wish now = stays a a refl refl refl
+kind_goes_on chunks.CookieAck a wish now = stays a a refl refl refl
+kind_goes_on chunks.ShutdownComplete a wish now = stays a a refl refl refl
+kind_goes_on (chunks.Reconfig x) a wish now = stays a a refl refl refl
+kind_goes_on (chunks.ForwardTsn x) a wish now = stays a a refl refl refl
+kind_goes_on (chunks.IForwardTsn x) a wish now = stays a a refl refl refl
+kind_goes_on (chunks.Other kind flags value) a wish now = stays a a refl refl refl
+
+checked_goes_on : (r : Result (Unit {0}) Error) (c : Chunk) (a : Shown) (wish : AckWish) (now : ℕ) → GoesOn a (checked_first r a c wish now).0
+checked_goes_on (Err fault) c a wish now = stays a a refl refl refl
+checked_goes_on (Ok done) c a wish now = kind_goes_on c a wish now
+
+chunk_goes_on : (c : Chunk) (a : Shown) (wish : AckWish) (now : ℕ) → GoesOn a (on_chunk a c wish now).0
+unfolding on_chunk
+chunk_goes_on c a wish now = checked_goes_on (checked_chunk c) c a wish now
+
+-- A packet
+
+last_counters_tell : (stats : List DataChannelStats) → losses (map DataChannelStatsFinal stats) ≡ 0
+last_counters_tell [] = refl
+last_counters_tell (s ∷ ss) =
+    sum_by-cons loss_of (DataChannelStatsFinal s) (map DataChannelStatsFinal ss) ∙ ap (λ (n : ℕ). 0 + n) (last_counters_tell ss)
+
+loss_told : (queued : List Event) (stats : List DataChannelStats) (reason : AssociationError)
+    → losses (queued ++ map DataChannelStatsFinal stats ++ AssociationLost reason ∷ []) ≡ losses queued + 1
+loss_told queued stats reason =
+    one_more_told (queued ++ map DataChannelStatsFinal stats) (AssociationLost reason)
+    ∙ ap (λ (n : ℕ). n + 1) (sum_by-append loss_of queued (map DataChannelStatsFinal stats) ∙ ap (λ (n : ℕ). losses queued + n) (last_counters_tell stats)
+    ∙ omega arith)
+
+-- an association is closed by a fault that came after chunks that leave its end as it was
+fault_closes : (closed : Bool) (a b : Shown) (reason : AssociationError) → is_closed_state b.state ≡ closed → GoesOn a b
+    → IsClosedIf (not closed) a (closed_by b reason)
+fault_closes true a b reason e m = rw e (record { state = m.state; lost = m.lost; told = m.told ∙ omega arith })
+fault_closes false a b reason e m = rw e (record {
+  state = refl;
+  lost = refl;
+  told = loss_told b.events (last_stats b.streams) reason ∙ ap (λ (n : ℕ). n + 1) m.told;
+})
+
+-- what closes an association whose end is as that of another one closes that one
+closed_from : (closing : Bool) (a b c : Shown) → GoesOn a b → IsClosedIf closing b c → IsClosedIf closing a c
+closed_from true a b c m n = record { state = n.state; lost = n.lost; told = n.told ∙ ap (λ (k : ℕ). k + 1) m.told }
+closed_from false a b c m n = record { state = n.state ∙ m.state; lost = n.lost ∙ m.lost; told = n.told ∙ ap (λ (k : ℕ). k + 0) m.told }
+
+open_and : (c : Bool) → (c && true) ≡ c
+open_and true = refl
+open_and false = refl
+
+open_and_not : (c : Bool) → (c && false) ≡ false
+open_and_not true = refl
+open_and_not false = refl
+
+after_fault : (x : Shown × Flow) (a : Shown) (more : Shown → AckWish → Shown) (faulted : Shown → AckWish → Bool) → GoesOn a x.0
+    → ((b : Shown) (wish : AckWish) → GoesOn a b → IsClosedIf (not (is_closed_state b.state) && faulted b wish) b (more b wish))
+    → IsClosedIf (not (is_closed_state a.state) && faults_or x faulted) a (goes_on x more)
+after_fault (b, flows.Next wish) a more faulted m on =
+    let rest = closed_from (not (is_closed_state b.state) && faulted b wish) a b (more b wish) m (on b wish m) in
+    subst (λ (s : AssociationState). IsClosedIf (not (is_closed_state s) && faulted b wish) a (more b wish)) m.state rest
+after_fault (b, flows.Fault fault) a more faulted m on =
+    let closed = fault_closes (is_closed_state b.state) a b reasons.AssociationClosed refl m in
+    rw (open_and (not (is_closed_state a.state)), ← ap is_closed_state m.state) closed
+
+chunks_close : (cs : List Chunk) (a : Shown) (wish : AckWish) (now : ℕ) → IsClosedIf (not (is_closed_state a.state) && is_faulted cs a wish now) a (after_chunks cs a wish now)
+chunks_close [] a wish now = rw (open_and_not (not (is_closed_state a.state))) (record { state = refl; lost = refl; told = omega arith })
+chunks_close (c ∷ cs) a wish now =
+    after_fault (on_chunk a c wish now) a (λ b next. after_chunks cs b next now) (λ b next. is_faulted cs b next now) (chunk_goes_on c a wish now)
+    (λ b next m. chunks_close cs b next now)
+
+packet_closes : (packet : Option Packet) (a : Shown) (now : ℕ)
+    → IsClosedIf (not (is_closed_state a.state) && is_faulted_packet a packet now) a (after_packet_of a packet now)
+packet_closes None a now = rw (open_and_not (not (is_closed_state a.state))) (record { state = refl; lost = refl; told = omega arith })
+packet_closes (Some packet) a now = chunks_close packet.chunks a wishes.None now
+
+packet_closes_unless : (lost : Bool) (packet : Option Packet) (a : Shown) (now : ℕ)
+    → IsClosedIf (not lost && (not (is_closed_state a.state) && is_faulted_packet a packet now)) a (if lost then a else after_packet_of a packet now)
+packet_closes_unless true packet a now = record { state = refl; lost = refl; told = omega arith }
+packet_closes_unless false packet a now = packet_closes packet a now
+
+pub faults_alone_close : FaultsAloneClose
+faults_alone_close a packet now = packet_closes_unless a.lost packet a now

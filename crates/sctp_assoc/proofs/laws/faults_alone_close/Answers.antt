@@ -1,0 +1,9 @@
+use Rattle.sctp_assoc.proofs.Closing.{faults_alone_close}
+use Rattle.sctp_assoc.proofs.Reporting.{polls_do_not_close}
+use Rattle.sctp_assoc.proofs.laws.faults_alone_close.Goals as goal
+
+pub returns-clause-packets : goal.returns-clause-packets
+returns-clause-packets c = faults_alone_close
+
+pub returns-clause-polls : goal.returns-clause-polls
+returns-clause-polls c = polls_do_not_close

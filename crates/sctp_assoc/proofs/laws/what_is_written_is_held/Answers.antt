@@ -1,0 +1,8 @@
+use Rattle.sctp_assoc.proofs.Keeping.{polls_keep_what_is_held, writes_are_held}
+use Rattle.sctp_assoc.proofs.laws.what_is_written_is_held.Goals as goal
+
+pub returns-clause-written : goal.returns-clause-written
+returns-clause-written c = writes_are_held
+
+pub returns-clause-polled : goal.returns-clause-polled
+returns-clause-polled c = polls_keep_what_is_held

@@ -1,0 +1,80 @@
+// One side by itself, whatever its peer is: what follows from the clauses of its calls alone.
+ghost use Rattle.std.specs.Prelude.{◌≡◌, ◌*◌, None, true, IfOk, OnErr, OnOk};
+ghost use Rattle.sctp_assoc.specs.Calls.{stream_refusal, written};
+ghost use Rattle.sctp_assoc.specs.Chunks.{after_packet};
+ghost use Rattle.sctp_assoc.specs.Laws.{is_held};
+ghost use Rattle.sctp_assoc.specs.Polled.{packets_of, polled};
+ghost use Rattle.sctp_pair.specs.Steps.{packet_in};
+
+use bytes::Bytes;
+use sctp_assoc::{Association, AssociationEvent, Error, Instant, Payload, StreamId, Transmit, what_is_written_is_held};
+use sctp_wire::PartialDecode;
+use std::net::SocketAddr;
+
+/// Writes a message, gives out the packets that are due and then hands in a datagram, from wherever it came. A failed
+/// association refuses that with nothing changed; the message waits or is in flight where the datagram is no packet.
+pub fn exchange(
+    association: &mut Association,
+    id: StreamId,
+    message: &Bytes,
+    datagram: &Bytes,
+    remote: SocketAddr,
+    now: Instant,
+) -> Result<Option<Transmit>, Error>
+    ensures failed { association.old.failed ≡ true → (result ≡ Err Error.ErrAssociationFailed) × (association.new ≡ association.old) }
+    ensures given { IfOk result (λ given. (polled (written association.old id message.now) now).1 ≡ packets_of given) }
+    ensures ok { OnOk result (association.new ≡ after_packet (polled (written association.old id message.now) now).0 (packet_in datagram.now) now) }
+    ensures held { OnOk result (packet_in datagram.now ≡ None → is_held association.new.sender.queue association.old.sender.queue.next_message_id ≡ true) }
+{
+    let given = send(association, id, message, now)?;
+    hand_in(association, datagram, remote, now)?;
+    Ok(given)
+}
+
+fn send(
+    association: &mut Association,
+    id: StreamId,
+    message: &Bytes,
+    now: Instant,
+) -> Result<Option<Transmit>, Error>
+    ensures failed { association.old.failed ≡ true → (result ≡ Err Error.ErrAssociationFailed) × (association.new ≡ association.old) }
+    ensures ok { IfOk result (λ given. polled (written association.old id message.now) now ≡ (association.new, packets_of given)) }
+    ensures held { OnOk result (is_held association.new.sender.queue association.old.sender.queue.next_message_id ≡ true) }
+{
+    what_is_written_is_held();
+    write(association, id, message)?;
+    association.poll_transmit(now)
+}
+
+fn write(association: &mut Association, id: StreamId, message: &Bytes) -> Result<usize, Error>
+    ensures failed { association.old.failed ≡ true → result ≡ Err Error.ErrAssociationFailed }
+    ensures refused { OnErr result (association.new ≡ association.old) }
+    ensures live { OnOk result (stream_refusal association.old id ≡ None) }
+    ensures accepted { OnOk result (association.new ≡ written association.old id message.now) }
+{
+    let mut stream = association.stream(id)?;
+    stream.write(message.as_slice())
+}
+
+fn hand_in(
+    association: &mut Association,
+    datagram: &Bytes,
+    remote: SocketAddr,
+    now: Instant,
+) -> Result<(), Error>
+    ensures ok { OnOk result (association.new ≡ after_packet association.old (packet_in datagram.now) now) }
+    ensures undecoded { OnOk result (packet_in datagram.now ≡ None → association.new ≡ association.old) }
+{
+    let datagram = match PartialDecode::unmarshal(datagram) {
+        Ok(datagram) => datagram,
+        Err(Error::ErrNoMemory) => return Err(Error::ErrNoMemory),
+        Err(_) => return Ok(()),
+    };
+    association.handle_event(AssociationEvent::datagram(Transmit {
+        now,
+        remote,
+        payload: Payload::PartialDecode(datagram),
+        ecn: None,
+        local_ip: None,
+    }))
+}
