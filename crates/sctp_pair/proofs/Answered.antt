@@ -1,10 +1,6 @@
 -- What a step's call adds and reads at its side.
-use Rattle.std.proofs.Common.{◌≡◌, refl, ℕ, ◌++◌, true, false, eqb, List, [], ◌∷◌, Option, Some, None}
-use Rattle.std.specs.Prelude.{if◌then◌else◌, ◌==◌}
+use Rattle.std.proofs.Common.{◌≡◌, refl, ℕ, List, [], Option, None}
 use Rattle.sctp_receive_queues.specs.Messages as letters
-use Rattle.sctp_queues.specs.Streams.{stream_at}
-use Rattle.sctp_model.specs.Messages.{Message}
-use Rattle.sctp_assoc.specs.Shown.{Shown}
 use Rattle.sctp_pair.specs.declared.step.Reply.{Reply}
 use Rattle.sctp_pair.specs.declared.step.Reply.TheVariants as replies
 use Rattle.sctp_pair.specs.declared.step.Side2.{Side2}
@@ -12,7 +8,7 @@ use Rattle.sctp_pair.specs.declared.step.Side2.TheVariants as sides
 use Rattle.sctp_pair.specs.declared.step.Step.{Step}
 use Rattle.sctp_pair.specs.declared.step.Step.TheVariants as steps
 use Rattle.sctp_pair.specs.Ends.{end_of}
-use Rattle.sctp_pair.specs.World.{World, accepted_at, message_read, messages_on, other_side}
+use Rattle.sctp_pair.specs.World.{World, accepted_at, message_read, other_side}
 use Rattle.sctp_pair.proofs.Between.{None_brought, nothing_added, nothing_read}
 use Rattle.sctp_pair.proofs.Settled.{IsCallAt}
 use Rattle.sctp_pair.proofs.ReadCall.{read_by}

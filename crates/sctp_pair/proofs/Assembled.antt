@@ -1,9 +1,7 @@
--- Each step of a pair leads safely, where each poll and each packet that comes settles between an association's directions.
-use Rattle.std.proofs.Common.{◌≡◌, refl, sym, ap, ◌∙◌, subst, ℕ, List, [], ◌∷◌, ◌++◌, Option, Some, None}
+-- Each step of a pair leads safely, where each poll for packets settles between an association's directions.
+use Rattle.std.proofs.Common.{◌≡◌, refl, sym, ap, ◌∙◌, subst, ℕ, List, [], ◌++◌, Option, Some, None}
 use Rattle.std.specs.Prelude.{slice_get}
 use Rattle.std.proofs.lemmas.List.{append-nil}
-use Rattle.sctp_wire_types.specs.declared.ids.PayloadProtocolIdentifier.{PayloadProtocolIdentifier}
-use Rattle.sctp_wire.specs.declared.packet.Packet.{Packet}
 use Rattle.sctp_receive_queues.specs.Messages as letters
 use Rattle.sctp_model.specs.Messages.{Message}
 use Rattle.sctp_model.specs.Serial.{tsn}
@@ -18,12 +16,13 @@ use Rattle.sctp_pair.specs.declared.step.Side2.TheVariants as sides
 use Rattle.sctp_pair.specs.declared.step.Step.{Step}
 use Rattle.sctp_pair.specs.declared.step.Step.TheVariants as steps
 use Rattle.sctp_pair.specs.Ends.{Ends, end_of}
-use Rattle.sctp_pair.specs.Steps.{Answers, AtSide, Buffers, ComesTo, Delivers, Expires, Finds, GivesOut, Measures, Opens, Reads, SendsAt, Steps, TakesPacket, Tells, Writes, packet_in}
-use Rattle.sctp_pair.specs.World.{HasData, World, packet_brought, packet_of_bytes}
+use Rattle.sctp_pair.specs.Steps.{AtSide, Buffers, ComesTo, Delivers, Expires, Finds, GivesOut, Measures, Opens, Reads, SendsAt, Steps, Tells, Writes, packet_in}
+use Rattle.sctp_pair.specs.World.{HasData, World, packet_of_bytes}
 use Rattle.sctp_pair.specs.Fits.{AreSaid, Fits, LeadsSafely}
 use Rattle.sctp_pair.proofs.Between.{Faces, None_brought, Settles, nothing_added, nothing_read}
 use Rattle.sctp_pair.proofs.Settled.{IsCallAt, faces_a, faces_b, settled_a, settled_b}
 use Rattle.sctp_pair.proofs.Answered.{IsQuiet, quiet_call, read_call, write_call}
+use Rattle.sctp_pair.proofs.Packets.{packet_settles}
 use Rattle.sctp_pair.proofs.ReadCall.{read_by, reads_settle}
 use Rattle.sctp_pair.proofs.SimpleCalls.{buffers_same, finds_same, measures_same, opens_settle, same_settles}
 use Rattle.sctp_pair.proofs.TimedCalls.{expires_settle, tells_settle}
@@ -36,13 +35,10 @@ PollSettles own peer b y packets more out coming =
     (s : Settles own peer b y out coming nothing_added nothing_read None_brought) × (given : List (List ℕ))
     × (more ≡ packets ++ given) × AreSaid own peer s.out2 s.coming2 given
 
--- Each poll of an association that faces another one settles so, and each packet of the other side's that comes.
-pub record PacketsSettle : Type 0 where
-  pub polls : (own peer now : ℕ) (a b y : Shown) (packets more : List (List ℕ)) (r : Reply) (out coming : Direction) → GivesOut a packets now r b more
-      → Faces own peer a y out coming → PollSettles own peer b y packets more out coming
-  pub takes : (own peer now : ℕ) (a b y : Shown) (packet : Option Packet) (r : Reply) (out coming : Direction) → TakesPacket a packet now r b
-      → SaysAll peer own coming out packet → Faces own peer a y out coming
-      → Settles own peer b y out coming nothing_added nothing_read (λ o. HasData packet (tsn peer o))
+-- Each poll of an association that faces another one settles so.
+abbrev pub PollsSettle : Type 0
+PollsSettle = (own peer now : ℕ) (a b y : Shown) (packets more : List (List ℕ)) (r : Reply) (out coming : Direction) → GivesOut a packets now r b more
+    → Faces own peer a y out coming → PollSettles own peer b y packets more out coming
 
 -- the initial TSN of the DATA that comes to a side
 abbrev initial_to : Side2 → World → ℕ
@@ -75,14 +71,14 @@ same_leads side step r q w Changes stays quiet fits h ends =
     quiet_leads side step r q w Changes (λ own peer a b y out coming x f. same_settles own peer a b y out coming (stays a b x) f) quiet fits h ends
 
 -- A poll for packets leads safely.
-send_leads : PacketsSettle → (side : Side2) (now : ℕ) (r : Reply) (q : Ends) (w : World) → Fits w.ends w → SendsAt side w.ends now r q
+send_leads : PollsSettle → (side : Side2) (now : ℕ) (r : Reply) (q : Ends) (w : World) → Fits w.ends w → SendsAt side w.ends now r q
     → LeadsSafely (steps.PollTransmit side now) r w q
-send_leads c sides.A now r q w fits (h, e) =
-    let x = c.polls w.initial_a w.initial_b now w.ends.a q.a w.ends.b w.ends.packets_a q.packets_a r w.ab w.ba h (faces_a w fits) in
+send_leads settle sides.A now r q w fits (h, e) =
+    let x = settle w.initial_a w.initial_b now w.ends.a q.a w.ends.b w.ends.packets_a q.packets_a r w.ab w.ba h (faces_a w fits) in
     settled_a (steps.PollTransmit sides.A now) r q w nothing_added nothing_read None_brought x.1 fits (ap (λ (z : Ends). z.b) e) x.2 (ap (λ (z : Ends). z.packets_b) e)
     (h, e) x.0 x.3 (quiet_call (steps.PollTransmit sides.A now) r sides.A w w.initial_b (λ y s. (refl, refl)))
-send_leads c sides.B now r q w fits (h, e) =
-    let x = c.polls w.initial_b w.initial_a now w.ends.b q.b w.ends.a w.ends.packets_b q.packets_b r w.ba w.ab h (faces_b w fits) in
+send_leads settle sides.B now r q w fits (h, e) =
+    let x = settle w.initial_b w.initial_a now w.ends.b q.b w.ends.a w.ends.packets_b q.packets_b r w.ba w.ab h (faces_b w fits) in
     settled_b (steps.PollTransmit sides.B now) r q w nothing_added nothing_read None_brought x.1 fits (ap (λ (z : Ends). z.a) e) x.2 (ap (λ (z : Ends). z.packets_a) e)
     (h, e) x.0 x.3 (quiet_call (steps.PollTransmit sides.B now) r sides.B w w.initial_a (λ y s. (refl, refl)))
 
@@ -102,62 +98,62 @@ none_delivered a now (replies.Refused n) b h = absurd h
 none_delivered a now replies.NoSuchPacket b h = h
 
 -- What comes to a side, if anything does: its DATA is what is brought.
-delivered : PacketsSettle → (own peer now : ℕ) (a b y : Shown) (packets : List (List ℕ)) (number : ℕ) (found : Option (List ℕ)) (r : Reply) (out coming : Direction)
+delivered : (own peer now : ℕ) (a b y : Shown) (packets : List (List ℕ)) (number : ℕ) (found : Option (List ℕ)) (r : Reply) (out coming : Direction)
     → slice_get packets number ≡ found → Delivers a found now r b → AreSaid peer own coming out packets → Faces own peer a y out coming
     → Settles own peer b y out coming nothing_added nothing_read (λ o. HasData (packet_of_bytes found) (tsn peer o))
-delivered c own peer now a b y packets number None r out coming e h said f =
+delivered own peer now a b y packets number None r out coming e h said f =
     same_settles own peer a b y out coming (none_delivered a now r b h) f
-delivered c own peer now a b y packets number (Some bytes) r out coming e h said f =
-    c.takes own peer now a b y (packet_in bytes) r out coming h
+delivered own peer now a b y packets number (Some bytes) r out coming e h said f =
+    packet_settles own peer now a b y (packet_in bytes) r out coming h
     (all_get (λ (x : List ℕ). SaysAll peer own coming out (packet_in x)) packets number bytes e said) f
 
 -- A delivery leads safely.
-come_leads : PacketsSettle → (side : Side2) (number now : ℕ) (r : Reply) (q : Ends) (w : World) → Fits w.ends w → ComesTo side w.ends number now r q
+come_leads : (side : Side2) (number now : ℕ) (r : Reply) (q : Ends) (w : World) → Fits w.ends w → ComesTo side w.ends number now r q
     → LeadsSafely (steps.Deliver side number now) r w q
-come_leads c sides.A number now r q w fits (h, e) =
+come_leads sides.A number now r q w fits (h, e) =
     settled_a (steps.Deliver sides.A number now) r q w nothing_added nothing_read (λ o. HasData (packet_of_bytes (slice_get w.ends.packets_b number)) (tsn w.initial_b o)) [] fits
     (ap (λ (z : Ends). z.b) e) (ap (λ (z : Ends). z.packets_a) e ∙ sym (append-nil w.ends.packets_a)) (ap (λ (z : Ends). z.packets_b) e) (h, e)
-    (delivered c w.initial_a w.initial_b now w.ends.a q.a w.ends.b w.ends.packets_b number (slice_get w.ends.packets_b number) r w.ab w.ba refl h fits.said_b (faces_a w fits)) tt
+    (delivered w.initial_a w.initial_b now w.ends.a q.a w.ends.b w.ends.packets_b number (slice_get w.ends.packets_b number) r w.ab w.ba refl h fits.said_b (faces_a w fits)) tt
     record { adds = λ s. refl; reads = λ s. refl; brings = λ o b. b; adds_alone = λ s. refl; reads_alone = λ s. refl }
-come_leads c sides.B number now r q w fits (h, e) =
+come_leads sides.B number now r q w fits (h, e) =
     settled_b (steps.Deliver sides.B number now) r q w nothing_added nothing_read (λ o. HasData (packet_of_bytes (slice_get w.ends.packets_a number)) (tsn w.initial_a o)) [] fits
     (ap (λ (z : Ends). z.a) e) (ap (λ (z : Ends). z.packets_b) e ∙ sym (append-nil w.ends.packets_b)) (ap (λ (z : Ends). z.packets_a) e) (h, e)
-    (delivered c w.initial_b w.initial_a now w.ends.b q.b w.ends.a w.ends.packets_a number (slice_get w.ends.packets_a number) r w.ba w.ab refl h fits.said_a (faces_b w fits)) tt
+    (delivered w.initial_b w.initial_a now w.ends.b q.b w.ends.a w.ends.packets_a number (slice_get w.ends.packets_a number) r w.ba w.ab refl h fits.said_a (faces_b w fits)) tt
     record { adds = λ s. refl; reads = λ s. refl; brings = λ o b. b; adds_alone = λ s. refl; reads_alone = λ s. refl }
 
 -- each step from the pair of the world
-step_at : PacketsSettle → (step : Step) (q : Ends) (r : Reply) (w : World) → Steps step w.ends r q → Fits w.ends w → LeadsSafely step r w q
-step_at c (steps.OpenStream side id kind) q r w h fits =
+step_at : PollsSettle → (step : Step) (q : Ends) (r : Reply) (w : World) → Steps step w.ends r q → Fits w.ends w → LeadsSafely step r w q
+step_at settle (steps.OpenStream side id kind) q r w h fits =
     quiet_leads side (steps.OpenStream side id kind) r q w (λ a b. Opens a id kind r b)
     (λ own peer a b y out coming x f. opens_settle own peer a b y out coming id kind r x f) (λ y s. (refl, refl)) fits h h
-step_at c (steps.Stream side id) q r w h fits =
+step_at settle (steps.Stream side id) q r w h fits =
     same_leads side (steps.Stream side id) r q w (λ a b. Finds a id r b) (λ a b x. finds_same a id r b x) (λ y s. (refl, refl)) fits h h
-step_at c (steps.Write side id bytes) q r w h fits =
+step_at settle (steps.Write side id bytes) q r w h fits =
     change_leads side (steps.Write side id bytes) r q w (λ a b. Writes a id bytes r b) (λ a. written_by r a id bytes) nothing_read
     (λ own peer a b y out coming x f. writes_settle own peer a b y out coming id bytes r x f) (write_call side id bytes r w (initial_to side w)) fits h h
-step_at c (steps.Read side id) q r w h fits =
+step_at settle (steps.Read side id) q r w h fits =
     change_leads side (steps.Read side id) r q w (λ a b. Reads a id r b) (λ a. nothing_added) (read_by r id)
     (λ own peer a b y out coming x f. reads_settle own peer a b y out coming id r x f) (read_call side id r w (initial_to side w)) fits h h
-step_at c (steps.BufferedAmount side id) q r w h fits =
+step_at settle (steps.BufferedAmount side id) q r w h fits =
     same_leads side (steps.BufferedAmount side id) r q w (λ a b. Buffers a id r b) (λ a b x. buffers_same a id r b x) (λ y s. (refl, refl)) fits h h
-step_at c (steps.Poll side) q r w h fits =
+step_at settle (steps.Poll side) q r w h fits =
     quiet_leads side (steps.Poll side) r q w (λ a b. Tells a r b)
     (λ own peer a b y out coming x f. tells_settle own peer a b y out coming r x f) (λ y s. (refl, refl)) fits h h
-step_at c (steps.PollTimeout side) q r w h fits =
+step_at settle (steps.PollTimeout side) q r w h fits =
     same_leads side (steps.PollTimeout side) r q w _ (λ a b x. x.1) (λ y s. (refl, refl)) fits h h
-step_at c (steps.PollTransmit side now) q r w h fits = send_leads c side now r q w fits h
-step_at c (steps.HandleTimeout side now) q r w h fits =
+step_at settle (steps.PollTransmit side now) q r w h fits = send_leads settle side now r q w fits h
+step_at settle (steps.HandleTimeout side now) q r w h fits =
     quiet_leads side (steps.HandleTimeout side now) r q w (λ a b. Expires a now r b)
     (λ own peer a b y out coming x f. expires_settle own peer a b y out coming now r x f) (λ y s. (refl, refl)) fits h h
-step_at c (steps.Deliver side number now) q r w h fits = come_leads c side number now r q w fits h
-step_at c (steps.IsHandshaking side) q r w h fits = same_leads side (steps.IsHandshaking side) r q w _ (λ a b x. x.1) (λ y s. (refl, refl)) fits h h
-step_at c (steps.IsClosed side) q r w h fits = same_leads side (steps.IsClosed side) r q w _ (λ a b x. x.1) (λ y s. (refl, refl)) fits h h
-step_at c (steps.IsClosing side) q r w h fits = same_leads side (steps.IsClosing side) r q w _ (λ a b x. x.1) (λ y s. (refl, refl)) fits h h
-step_at c (steps.IsDrained side) q r w h fits = same_leads side (steps.IsDrained side) r q w _ (λ a b x. x.1) (λ y s. (refl, refl)) fits h h
-step_at c (steps.IsFailed side) q r w h fits = same_leads side (steps.IsFailed side) r q w _ (λ a b x. x.1) (λ y s. (refl, refl)) fits h h
-step_at c (steps.Rtt side) q r w h fits = same_leads side (steps.Rtt side) r q w (λ a b. Measures a r b) (λ a b x. measures_same a r b x) (λ y s. (refl, refl)) fits h h
+step_at settle (steps.Deliver side number now) q r w h fits = come_leads side number now r q w fits h
+step_at settle (steps.IsHandshaking side) q r w h fits = same_leads side (steps.IsHandshaking side) r q w _ (λ a b x. x.1) (λ y s. (refl, refl)) fits h h
+step_at settle (steps.IsClosed side) q r w h fits = same_leads side (steps.IsClosed side) r q w _ (λ a b x. x.1) (λ y s. (refl, refl)) fits h h
+step_at settle (steps.IsClosing side) q r w h fits = same_leads side (steps.IsClosing side) r q w _ (λ a b x. x.1) (λ y s. (refl, refl)) fits h h
+step_at settle (steps.IsDrained side) q r w h fits = same_leads side (steps.IsDrained side) r q w _ (λ a b x. x.1) (λ y s. (refl, refl)) fits h h
+step_at settle (steps.IsFailed side) q r w h fits = same_leads side (steps.IsFailed side) r q w _ (λ a b x. x.1) (λ y s. (refl, refl)) fits h h
+step_at settle (steps.Rtt side) q r w h fits = same_leads side (steps.Rtt side) r q w (λ a b. Measures a r b) (λ a b x. measures_same a r b x) (λ y s. (refl, refl)) fits h h
 
--- Where each poll and each packet that comes settles, each step of a pair leads safely.
-pub steps_lead_by_packets : PacketsSettle → StepsLead
-steps_lead_by_packets c step p q r w h fits = step_at c step q r w
+-- Where each poll for packets settles, each step of a pair leads safely.
+pub steps_lead_by_polls : PollsSettle → StepsLead
+steps_lead_by_polls settle step p q r w h fits = step_at settle step q r w
     (subst (λ (z : Ends). Steps step z r q) fits.is h) (subst (λ (z : Ends). Fits z w) fits.is fits)

@@ -1,10 +1,10 @@
 -- Where both associations stand in a direction, what is promised of it holds.
-use Rattle.std.proofs.Common.{◌≡◌, refl, sym, ap, ◌∙◌, subst, ◌⊎◌, ⊎_elim, ℕ, ◌+◌, Bool, true, false, map, Option, Some, None}
+use Rattle.std.proofs.Common.{◌≡◌, sym, ap, ◌∙◌, subst, ◌⊎◌, ⊎_elim, ℕ, ◌+◌, map, Option, Some}
 use Rattle.std.proofs.lemmas.Bool.{true≢false}
 use Rattle.sctp_receive_queues.specs.Reassembly.{ready}
 use Rattle.sctp_queues.specs.Stream.{Stream}
 use Rattle.sctp_queues.specs.Streams.{stream_at}
-use Rattle.sctp_model.specs.Messages.{Plan, accepted_bytes}
+use Rattle.sctp_model.specs.Messages.{accepted_bytes}
 use Rattle.sctp_model.specs.Reassembly as queue
 use Rattle.sctp_model.specs.Machine.{Direction, live, point}
 use Rattle.sctp_model.specs.Invariants.{Invariant}

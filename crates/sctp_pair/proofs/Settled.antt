@@ -1,10 +1,8 @@
 -- A call of one association, between its directions, is a step of the world of both.
-use Rattle.std.proofs.Common.{◌≡◌, refl, sym, ap, ◌∙◌, subst, subst₂, ◌⊎◌, ⊎_elim, inl, inr, ℕ, true, List, [], ◌∷◌, ◌++◌, Option, Some, None}
-use Rattle.std.specs.List.{AllByRecursion}
+use Rattle.std.proofs.Common.{◌≡◌, refl, sym, ap, ◌∙◌, subst, ⊎_elim, inl, inr, ℕ, true, List, [], ◌++◌, Option, None}
 use Rattle.sctp_receive_queues.specs.Messages as letters
 use Rattle.sctp_model.specs.Messages.{Message}
 use Rattle.sctp_model.specs.Packets.{mem}
-use Rattle.sctp_model.specs.Reassembly.{Got}
 use Rattle.sctp_model.specs.Serial.{tsn}
 use Rattle.sctp_model.specs.Machine.{Direction}
 use Rattle.sctp_model.proofs.Lists.{all_join}
@@ -17,7 +15,7 @@ use Rattle.sctp_pair.specs.declared.step.Side2.TheVariants as sides
 use Rattle.sctp_pair.specs.declared.step.Step.{Step}
 use Rattle.sctp_pair.specs.Ends.{Ends}
 use Rattle.sctp_pair.specs.Steps.{Steps, packet_in}
-use Rattle.sctp_pair.specs.World.{HasData, IsDirectionStep, IsWithinLimits, IsWorldStep, World, accepted_at, message_read, other_side, packet_brought}
+use Rattle.sctp_pair.specs.World.{HasData, IsDirectionStep, IsWithinLimits, World, accepted_at, message_read, other_side, packet_brought}
 use Rattle.sctp_pair.specs.Fits.{AreSaid, Fits, LeadsSafely, Stands}
 use Rattle.sctp_pair.proofs.Between.{Does, Faces, None_brought, Settles, nothing_added, nothing_read}
 use Rattle.sctp_pair.proofs.Promised.{safe_world}

@@ -1,19 +1,17 @@
 -- A pair that two tokens joined stands in the world in which nothing happened.
-use Rattle.std.proofs.Common.{◌≡◌, refl, sym, ap, ◌∙◌, subst, subst₂, ⊎_elim, inl, ℕ, ◌<◌, arith, Bool, true, false, eqb, List, [], length, Option, Some, None}
+use Rattle.std.proofs.Common.{◌≡◌, refl, sym, ap, ◌∙◌, subst, ⊎_elim, inl, ℕ, ◌<◌, arith, true, false, eqb, [], None}
 use Rattle.std.specs.Prelude.{is_some}
 use Rattle.std.specs.declared.net.socket_addr.SocketAddr.{SocketAddr}
 use Rattle.std.proofs.lemmas.Bool.{cases_Bool, eqb-false, false≢true, le-ltb}
 use Rattle.sctp_wire_types.specs.declared.chunk.ChunkInit.{ChunkInit}
 use Rattle.sctp_wire_types.specs.Config.{Settings}
-use Rattle.sctp_model.specs.Machine.{Direction, fresh}
+use Rattle.sctp_model.specs.Machine.{fresh}
 use Rattle.sctp_model.specs.Safe.{IsWithin}
 use Rattle.sctp_model.proofs.Steps.{fresh_holds}
-use Rattle.sctp_assoc.specs.Acts.{Binds, begun, parts}
+use Rattle.sctp_assoc.specs.Acts.{Binds, begun}
 use Rattle.sctp_assoc.specs.Join.{join_refusal, joined}
 use Rattle.sctp_assoc.specs.Shown.{Shown}
 use Rattle.sctp_directions.specs.Plain.{IsPlain}
-use Rattle.sctp_directions.specs.Outgoing.{FitsOutgoing}
-use Rattle.sctp_directions.specs.Incoming.{FitsIncoming}
 use Rattle.sctp_pair.specs.Ends.{Ends}
 use Rattle.sctp_pair.specs.World.{empty_world}
 use Rattle.sctp_pair.specs.Fits.{Fits, StandsOpen}

@@ -1,10 +1,10 @@
 -- Runs of a pair are runs of worlds.
-use Rattle.std.proofs.Common.{◌≡◌, refl, sym, subst, List, [], ◌∷◌}
+use Rattle.std.proofs.Common.{sym, subst, List, [], ◌∷◌}
 use Rattle.sctp_pair.specs.declared.step.Reply.{Reply}
 use Rattle.sctp_pair.specs.declared.step.Step.{Step}
 use Rattle.sctp_pair.specs.Ends.{Ends}
 use Rattle.sctp_pair.specs.Steps.{Runs, Steps}
-use Rattle.sctp_pair.specs.World.{IsWithinLimits, World}
+use Rattle.sctp_pair.specs.World.{World}
 use Rattle.sctp_pair.specs.Fits.{Fits, LeadsSafely, RunsSafely}
 
 -- Each step of a pair leads safely.

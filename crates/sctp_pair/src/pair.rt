@@ -3,8 +3,8 @@ ghost use Rattle.std.specs.Prelude.{◌≡◌, length, slice_get, [], None, OnEr
 ghost use Rattle.std.specs.Option.{option_copied};
 ghost use Rattle.sctp_assoc.specs.Join.{join_refusal, joined};
 ghost use Rattle.sctp_pair.specs.Ends.{JoinRefuses, packets_of, end_of};
-ghost use Rattle.sctp_pair.specs.World.{empty_world};
-ghost use Rattle.sctp_pair.specs.Fits.{Fits};
+ghost use Rattle.sctp_pair.specs.World.{World, empty_world};
+ghost use Rattle.sctp_pair.specs.Fits.{Fits, LeadsSafely, RunsSafely};
 ghost use Rattle.sctp_pair.specs.Steps.{AtSide, Buffers, ComesTo, Expires, Finds, Opens, Reads, Runs, SendsAt, Steps, Tells, Writes};
 
 use crate::{Reply, Side2, Step, calls};
@@ -118,21 +118,44 @@ impl Pair {
     }
 
     /// Carries out the steps, in order. Refused for want of memory before the first step alone, with nothing changed.
-    #[tactic(auto, using(crate::proofs::Running::run_next))]
+    ///
+    /// From each world in which the pair stands, the steps lead from world to world, safe after each of them, as long as each world
+    /// is within the limits.
+    #[tactic(auto, using(crate::proofs::Headline::runs_lead))]
     pub fn run(&mut self, steps: &[Step]) -> Result<Vec<Reply>, Error>
+        ensures ok { IfOk result (λ replies. Runs steps.now replies.items self.old self.new) }
+        ensures refused { OnErr result ((result ≡ Err Error.ErrNoMemory) × (self.new ≡ self.old)) }
+        ensures headline { IfOk result (λ replies. (w : World) → Fits self.old w → RunsSafely steps.now replies.items w self.new) }
+    {
+        self.carry_out_all(steps)
+    }
+
+    /// Carries out one step.
+    ///
+    /// From each world in which the pair stands, it leads to a next one; where that is within the limits, the pair stands in it, and
+    /// it is safe.
+    #[tactic(auto, using(crate::proofs::Headline::step_leads))]
+    pub fn step(&mut self, step: &Step) -> Reply
+        ensures exact { Steps step.now self.old result self.new }
+        ensures headline { (w : World) → Fits self.old w → LeadsSafely step.now result w self.new }
+    {
+        self.carry_out(step)
+    }
+
+    #[tactic(auto, using(crate::proofs::Running::run_next))]
+    fn carry_out_all(&mut self, steps: &[Step]) -> Result<Vec<Reply>, Error>
         ensures ok { IfOk result (λ replies. Runs steps.now replies.items self.old self.new) }
         ensures refused { OnErr result ((result ≡ Err Error.ErrNoMemory) × (self.new ≡ self.old)) }
     {
         let mut replies = Vec::with_capacity(self.alloc, steps.len())?;
         for step in steps {
-            let reply = self.step(step);
+            let reply = self.carry_out(step);
             replies.push_reserved(reply);
         }
         Ok(replies)
     }
 
-    /// Carries out one step.
-    pub fn step(&mut self, step: &Step) -> Reply
+    fn carry_out(&mut self, step: &Step) -> Reply
         ensures { Steps step.now self.old result self.new }
     {
         match step {
