@@ -1,0 +1,16 @@
+-- The laws that join the reassembly of one stream to the queue of the model.
+use Rattle.std.specs.Prelude.{◌≡◌, ◌⊎◌, ℕ, ◌^◌, ◌<◌, Bool, true, false, List, length, Option, Some, None}
+use Rattle.sctp_wire_types.specs.declared.chunk.ChunkPayloadData.{ChunkPayloadData}
+use Rattle.sctp_wire_types.specs.declared.error.Error.TheVariants as errors
+use Rattle.sctp_receive_queues.specs.Reassembly.{Reassembly, pushed, refusal, taken}
+use Rattle.sctp_model.specs.Messages.{Plan}
+use Rattle.sctp_model.specs.Packets.{data_at}
+use Rattle.sctp_model.specs.Reassembly.{Queue, at, next, push}
+use Rattle.sctp_model.specs.Invariants.{IsPlanned}
+use Rattle.sctp_reassembly.specs.Stands.{IsSaid, IsInWindow, StandsFor, IsAnsweredAlike}
+
+-- A read answers the same on both sides.
+abbrev pub ReadsAnswerAlike : Type 0
+ReadsAnswerAlike = (initial : ℕ) (p : Plan) (over : ℕ → Bool) (came : List ℕ) (s low cursor : ℕ) (r : Reassembly) (q : Queue)
+    → IsPlanned p over → over s ≡ false → length p.places < 2 ^ 31 → IsInWindow p came s low cursor q → StandsFor initial p s r q
+    → IsAnsweredAlike initial p s q (taken r) (next q)

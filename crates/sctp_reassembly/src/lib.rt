@@ -1,0 +1,2 @@
+//! The reassembly of one stream stands for the queue of the model.
+#![tactic(auto)]
