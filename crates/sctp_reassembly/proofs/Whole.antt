@@ -97,7 +97,7 @@ message_is p over taken s low number held o rest h v ah near a =
 
 -- The same of the groups.
 
-last_later : (c d : ChunkPayloadData) (cs : List ChunkPayloadData) → last_of (c ∷ d ∷ cs) ≡ last_of (d ∷ cs)
+pub last_later : (c d : ChunkPayloadData) (cs : List ChunkPayloadData) → last_of (c ∷ d ∷ cs) ≡ last_of (d ∷ cs)
 last_later c d cs = ap (slice_get (c ∷ d ∷ cs)) (let e : length (c ∷ d ∷ cs) - 1 ≡ suc (length (d ∷ cs) - 1) = omega arith in e)
 
 move : (a b c : Bool) → (a && (b && c)) ≡ (b && (a && c))
