@@ -3,6 +3,7 @@ pub mod Chains
 pub mod Gathered
 pub mod Kept
 pub mod Placed
+pub mod Pushing
 pub mod Putting
 pub mod Reading
 pub mod Tsns

@@ -7,7 +7,15 @@ use Rattle.sctp_model.specs.Messages.{Plan}
 use Rattle.sctp_model.specs.Packets.{data_at}
 use Rattle.sctp_model.specs.Reassembly.{Queue, at, next, push}
 use Rattle.sctp_model.specs.Invariants.{IsPlanned}
-use Rattle.sctp_reassembly.specs.Stands.{IsSaid, IsInWindow, StandsFor, IsAnsweredAlike}
+use Rattle.sctp_reassembly.specs.Stands.{IsSaid, IsInWindow, StandsFor, IsAnsweredAlike, IsForBytesAlone}
+
+-- A piece of an ordered message that came is put to the others of its message on both sides, or on both sides it is of a message
+-- that lies before the next one. It is refused for the bytes of its message alone.
+abbrev pub OrderedPiecesStand : Type 0
+OrderedPiecesStand = (initial : ℕ) (p : Plan) (over : ℕ → Bool) (came : List ℕ) (s low cursor o limit : ℕ) (r : Reassembly) (q : Queue) (c : ChunkPayloadData)
+    → IsPlanned p over → over s ≡ false → length p.places < 2 ^ 31 → StandsFor initial p s r q
+    → IsSaid initial c (data_at p o) → (data_at p o).ordered ≡ true → at o q.ordered ≡ None → IsInWindow p came s low cursor (push q (data_at p o))
+    → StandsFor initial p s (pushed r c).0 (push q (data_at p o)) × IsForBytesAlone (refusal r c limit)
 
 -- A read answers the same on both sides.
 abbrev pub ReadsAnswerAlike : Type 0

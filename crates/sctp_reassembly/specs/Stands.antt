@@ -1,8 +1,10 @@
 -- A stream's reassembly stands for a queue of the model: it holds the same pieces, put together by messages (RFC 4960 sections 6.5,
 -- 6.6 and 6.9).
-use Rattle.std.specs.Prelude.{◌≡◌, ℕ, suc, ◌+◌, ◌%◌, ◌<◌, ◌≤◌, Bool, true, false, not, List, [], ◌∷◌, length, map, flat_map, if◌then◌else◌, Option, Some, None, ⊤}
+use Rattle.std.specs.Prelude.{◌≡◌, ℕ, suc, ◌+◌, ◌%◌, ◌<◌, ◌≤◌, ◌⊎◌, Bool, true, false, not, List, [], ◌∷◌, length, map, flat_map, if◌then◌else◌, Option, Some, None, ⊤}
 use Rattle.std.specs.List.{AllByRecursion}
 use Rattle.sctp_wire_types.specs.declared.chunk.ChunkPayloadData.{ChunkPayloadData}
+use Rattle.sctp_wire_types.specs.declared.error.Error.{Error}
+use Rattle.sctp_wire_types.specs.declared.error.Error.TheVariants as errors
 use Rattle.sctp_wire_types.specs.Ids.{number_of}
 use Rattle.sctp_receive_queues.specs.Messages.{Message}
 use Rattle.sctp_receive_queues.specs.Reassembly.{Group, Reassembly}
@@ -90,3 +92,7 @@ IsAnsweredAlike initial p s q (r, None) None = StandsFor initial p s r q
 IsAnsweredAlike initial p s q (r, None) (Some t) = ⊥
 IsAnsweredAlike initial p s q (r, Some m) None = ⊥
 IsAnsweredAlike initial p s q (r, Some m) (Some t) = (letter_of m ≡ letter_read t.got) × StandsFor initial p s r t.rest
+
+-- where it is refused at all, that is for the bytes that its message would have, and not for a contradiction
+abbrev pub IsForBytesAlone : Option Error → Type 0
+IsForBytesAlone e = (e ≡ None) ⊎ (e ≡ Some errors.ErrInboundMessageTooLarge)
