@@ -1,4 +1,5 @@
 pub mod Answering
+pub mod Arriving
 pub mod Chains
 pub mod Gathered
 pub mod Kept

@@ -43,7 +43,7 @@ swap_or true true c = refl
 swap_or true false c = refl
 swap_or false b c = refl
 
-mem_put_in : (n o x : ℕ) (hs : List Held) → mem x (offsets_in (put_in n o hs)) ≡ (eqb o x || mem x (offsets_in hs))
+pub mem_put_in : (n o x : ℕ) (hs : List Held) → mem x (offsets_in (put_in n o hs)) ≡ (eqb o x || mem x (offsets_in hs))
 mem_put_in n o x [] = refl
 mem_put_in n o x (h ∷ hs) =
     ⊎_elim
@@ -69,7 +69,7 @@ all_numbers P n o (h ∷ hs) x a =
     (cases_Bool (ltb n h.number))))
     (cases_Bool (eqb h.number n))
 
-rising_in : (n o : ℕ) (hs : List Held) → AreRising (numbers_in hs) → AreRising (numbers_in (put_in n o hs))
+pub rising_in : (n o : ℕ) (hs : List Held) → AreRising (numbers_in hs) → AreRising (numbers_in (put_in n o hs))
 rising_in n o [] r = (tt, tt)
 rising_in n o (h ∷ hs) r =
     ⊎_elim
@@ -107,7 +107,7 @@ others initial p s n c (g ∷ gs) (h ∷ hs) e a w l = (
   others initial p s n c gs hs e a.1 w.1 l.1,
 )
 
-split : (initial : ℕ) (p : Plan) (s n : ℕ) (c : ChunkPayloadData) (gs : List Group) (hs : List Held) → c.stream_sequence_number ≡ n % 65536 → AreGroups initial p s gs hs
+pub split : (initial : ℕ) (p : Plan) (s n : ℕ) (c : ChunkPayloadData) (gs : List Group) (hs : List Held) → c.stream_sequence_number ≡ n % 65536 → AreGroups initial p s gs hs
     → AllByRecursion (AreNear n) hs → AreRising (numbers_in hs) → AreSplit c.stream_sequence_number gs
 split initial p s n c [] hs e a w r = tt
 split initial p s n c (g ∷ gs) [] e a w r = absurd a
@@ -140,7 +140,7 @@ grown_group initial p s n o c g h small i x a e out = record {
     AreSaidAt : List ChunkPayloadData → Type 0
     AreSaidAt z = AreSaid initial p z (put_offset o h.offsets)
 
-groups_in : (initial : ℕ) (p : Plan) (s n o : ℕ) (c : ChunkPayloadData) (gs : List Group) (hs : List Held) → length p.places < 2 ^ 31 → c.stream_sequence_number ≡ n % 65536
+pub groups_in : (initial : ℕ) (p : Plan) (s n o : ℕ) (c : ChunkPayloadData) (gs : List Group) (hs : List Held) → length p.places < 2 ^ 31 → c.stream_sequence_number ≡ n % 65536
     → IsSaid initial c (data_at p o) → IsOf p s n o → AreGroups initial p s gs hs → AllByRecursion (AreNear n) hs → mem o (offsets_in hs) ≡ false
     → AreGroups initial p s (entered gs c) (put_in n o hs)
 groups_in initial p s n o c [] [] small e i x a w out = (new_group initial p s n o c e i x, tt)
@@ -160,7 +160,7 @@ groups_in initial p s n o c (g ∷ gs) (h ∷ hs) small e i x a w out =
     (cases_Bool (eqb h.number n))
 
 -- and the pieces of its message don't contradict it
-fits_there : (initial : ℕ) (p : Plan) (over : ℕ → Bool) (s n o : ℕ) (c : ChunkPayloadData) (gs : List Group) (hs : List Held) → IsPlanned p over → over s ≡ false
+pub fits_there : (initial : ℕ) (p : Plan) (over : ℕ → Bool) (s n o : ℕ) (c : ChunkPayloadData) (gs : List Group) (hs : List Held) → IsPlanned p over → over s ≡ false
     → length p.places < 2 ^ 31 → c.stream_sequence_number ≡ n % 65536
     → IsSaid initial c (data_at p o) → IsOf p s n o → AreGroups initial p s gs hs → AllByRecursion (AreNear n) hs → mem o (offsets_in hs) ≡ false
     → contradicts (pieces_at (place_of_ssn c.stream_sequence_number gs) gs) c ≡ false
