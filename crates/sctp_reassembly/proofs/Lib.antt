@@ -7,5 +7,6 @@ pub mod Placed
 pub mod Pushing
 pub mod Putting
 pub mod Reading
+pub mod Skipped
 pub mod Tsns
 pub mod Whole

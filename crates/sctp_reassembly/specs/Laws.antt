@@ -2,11 +2,13 @@
 use Rattle.std.specs.Prelude.{◌≡◌, ◌⊎◌, ℕ, ◌^◌, ◌<◌, Bool, true, false, List, length, Option, Some, None}
 use Rattle.sctp_wire_types.specs.declared.chunk.ChunkPayloadData.{ChunkPayloadData}
 use Rattle.sctp_wire_types.specs.declared.error.Error.TheVariants as errors
-use Rattle.sctp_receive_queues.specs.Reassembly.{Reassembly, pushed, refusal, taken}
+use Rattle.sctp_receive_queues.specs.Reassembly.{Reassembly, empty_reassembly, pushed, refusal, skipped, taken}
 use Rattle.sctp_model.specs.Messages.{Plan}
 use Rattle.sctp_model.specs.Packets.{data_at}
-use Rattle.sctp_model.specs.Reassembly.{Queue, at, next, push}
-use Rattle.sctp_model.specs.Invariants.{IsPlanned}
+use Rattle.sctp_model.specs.Reassembly.{Queue, at, empty_queue, next, push, skip}
+use Rattle.sctp_model.specs.Machine.{Direction, live}
+use Rattle.sctp_model.specs.Safe.{IsWithin, read_ssn}
+use Rattle.sctp_model.specs.Invariants.{Invariant, IsPlanned}
 use Rattle.sctp_reassembly.specs.Stands.{IsSaid, IsInWindow, StandsFor, IsAnsweredAlike, IsForBytesAlone}
 
 -- A piece of an ordered message that came is put to the others of its message on both sides, or on both sides it is of a message
@@ -22,3 +24,18 @@ abbrev pub ReadsAnswerAlike : Type 0
 ReadsAnswerAlike = (initial : ℕ) (p : Plan) (over : ℕ → Bool) (came : List ℕ) (s low cursor : ℕ) (r : Reassembly) (q : Queue)
     → IsPlanned p over → over s ≡ false → length p.places < 2 ^ 31 → IsInWindow p came s low cursor q → StandsFor initial p s r q
     → IsAnsweredAlike initial p s q (taken r) (next q)
+
+-- A skip up to a sequence number drops the same messages on both sides.
+abbrev pub OrderedSkipsStand : Type 0
+OrderedSkipsStand = (initial : ℕ) (p : Plan) (over : ℕ → Bool) (came : List ℕ) (s low cursor m : ℕ) (r : Reassembly) (q : Queue)
+    → IsPlanned p over → over s ≡ false → length p.places < 2 ^ 31 → IsInWindow p came s low cursor q → StandsFor initial p s r q
+    → StandsFor initial p s (skipped r m) (skip q m)
+
+-- An empty reassembly stands for an empty queue.
+abbrev pub EmptyOnesStand : Type 0
+EmptyOnesStand = (initial : ℕ) (p : Plan) (s : ℕ) → StandsFor initial p s empty_reassembly empty_queue
+
+-- The model's invariant with its limits gives the window of each stream within its span.
+abbrev pub TheInvariantGivesTheWindow : Type 0
+TheInvariantGivesTheWindow = (w : Direction) → IsWithin w → Invariant w → (s : ℕ) → w.over s ≡ false
+    → (cursor : ℕ) × IsInWindow w.sender.plan w.receiver.taken s (read_ssn w.sender.plan 0 (w.reads s)) cursor (live (w.receiver.queues s))

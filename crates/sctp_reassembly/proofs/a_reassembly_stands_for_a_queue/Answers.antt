@@ -1,0 +1,13 @@
+use Rattle.sctp_reassembly.proofs.Answering.{read_alike}
+use Rattle.sctp_reassembly.proofs.Arriving.{ordered_pieces_stand}
+use Rattle.sctp_reassembly.proofs.Skipped.{ordered_skips_stand}
+use Rattle.sctp_reassembly.proofs.a_reassembly_stands_for_a_queue.Goals as goal
+
+pub returns-clause-pieces : goal.returns-clause-pieces
+returns-clause-pieces c = ordered_pieces_stand
+
+pub returns-clause-reads : goal.returns-clause-reads
+returns-clause-reads c = read_alike
+
+pub returns-clause-skips : goal.returns-clause-skips
+returns-clause-skips c = ordered_skips_stand
