@@ -7,6 +7,7 @@ pub mod Placed
 pub mod Pushing
 pub mod Putting
 pub mod Reading
+pub mod Ready
 pub mod Skipped
 pub mod Tsns
 pub mod Whole

@@ -22,7 +22,7 @@ use Rattle.sctp_reassembly.proofs.Whole.{IsThere, IsNearBy, IsAllOf, all_there, 
 use Rattle.sctp_reassembly.proofs.Gathered.{is_rest}
 
 -- the least number is that of a piece held
-least_among : (P : Data → Type 0) (held : List Data) (c : ℕ) → AllByRecursion P held → least held ≡ Some c → (d : Data) × P d × (d.ssn ≡ c)
+pub least_among : (P : Data → Type 0) (held : List Data) (c : ℕ) → AllByRecursion P held → least held ≡ Some c → (d : Data) × P d × (d.ssn ≡ c)
 least_among P [] c a e = absurd (cc)
 least_among P (d ∷ ds) c a e = go (least ds) (λ x f. least_among P ds x a.1 f) refl (let x : earlier d.ssn (least ds) ≡ c = cc in x)
   where
@@ -34,7 +34,7 @@ least_among P (d ∷ ds) c a e = go (least ds) (λ x f. least_among P ds x a.1 f
         (λ (b : before_16 x d.ssn ≡ false). (d, a.0, sym (cond-false (before_16 x d.ssn) x d.ssn b) ∙ g))
         (cases_Bool (before_16 x d.ssn))
 
-near_too : (p : Plan) (low : ℕ) (d : Data) → IsNearBy p low d → IsNear p low d
+pub near_too : (p : Plan) (low : ℕ) (d : Data) → IsNearBy p low d → IsNear p low d
 unfolding IsNear
 near_too p low d n = n
 

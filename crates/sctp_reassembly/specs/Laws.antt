@@ -1,15 +1,15 @@
 -- The laws that join the reassembly of one stream to the queue of the model.
-use Rattle.std.specs.Prelude.{◌≡◌, ◌⊎◌, ℕ, ◌^◌, ◌<◌, Bool, true, false, List, length, Option, Some, None}
+use Rattle.std.specs.Prelude.{◌≡◌, ◌⊎◌, ℕ, ◌^◌, ◌<◌, Bool, true, false, List, length, map, Option, Some, None}
 use Rattle.sctp_wire_types.specs.declared.chunk.ChunkPayloadData.{ChunkPayloadData}
 use Rattle.sctp_wire_types.specs.declared.error.Error.TheVariants as errors
-use Rattle.sctp_receive_queues.specs.Reassembly.{Reassembly, empty_reassembly, pushed, refusal, skipped, taken}
+use Rattle.sctp_receive_queues.specs.Reassembly.{Reassembly, empty_reassembly, pushed, ready as view_ready, refusal, skipped, taken}
 use Rattle.sctp_model.specs.Messages.{Plan}
 use Rattle.sctp_model.specs.Packets.{data_at}
-use Rattle.sctp_model.specs.Reassembly.{Queue, at, empty_queue, next, push, skip}
+use Rattle.sctp_model.specs.Reassembly.{Queue, at, empty_queue, next, push, ready, skip}
 use Rattle.sctp_model.specs.Machine.{Direction, live}
-use Rattle.sctp_model.specs.Safe.{IsWithin, read_ssn}
+use Rattle.sctp_model.specs.Safe.{IsWithin, letter_read, read_ssn}
 use Rattle.sctp_model.specs.Invariants.{Invariant, IsPlanned}
-use Rattle.sctp_reassembly.specs.Stands.{IsSaid, IsInWindow, StandsFor, IsAnsweredAlike, IsForBytesAlone}
+use Rattle.sctp_reassembly.specs.Stands.{IsSaid, IsInWindow, StandsFor, IsAnsweredAlike, IsForBytesAlone, letter_of}
 
 -- A piece of an ordered message that came is put to the others of its message on both sides, or on both sides it is of a message
 -- that lies before the next one. It is refused for the bytes of its message alone.
@@ -39,3 +39,9 @@ EmptyOnesStand = (initial : ℕ) (p : Plan) (s : ℕ) → StandsFor initial p s 
 abbrev pub TheInvariantGivesTheWindow : Type 0
 TheInvariantGivesTheWindow = (w : Direction) → IsWithin w → Invariant w → (s : ℕ) → w.over s ≡ false
     → (cursor : ℕ) × IsInWindow w.sender.plan w.receiver.taken s (read_ssn w.sender.plan 0 (w.reads s)) cursor (live (w.receiver.queues s))
+
+-- What is ready is the same on both sides, in the same order.
+abbrev pub TheSameIsReady : Type 0
+TheSameIsReady = (initial : ℕ) (p : Plan) (over : ℕ → Bool) (came : List ℕ) (s low cursor : ℕ) (r : Reassembly) (q : Queue)
+    → IsPlanned p over → over s ≡ false → length p.places < 2 ^ 31 → IsInWindow p came s low cursor q → StandsFor initial p s r q
+    → map letter_of (view_ready r) ≡ map letter_read (ready q)

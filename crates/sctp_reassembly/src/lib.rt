@@ -1,7 +1,7 @@
 //! The reassembly of one stream stands for the queue of the model, in general for ordered messages: several pieces a message, any order of arrival, skips.
 #![tactic(auto)]
 
-ghost use Rattle.sctp_reassembly.specs.Laws.{EmptyOnesStand, OrderedPiecesStand, OrderedSkipsStand, ReadsAnswerAlike, TheInvariantGivesTheWindow};
+ghost use Rattle.sctp_reassembly.specs.Laws.{EmptyOnesStand, OrderedPiecesStand, OrderedSkipsStand, ReadsAnswerAlike, TheInvariantGivesTheWindow, TheSameIsReady};
 
 /// An empty reassembly stands for an empty queue, and the relation is kept by each piece of an ordered message that comes, by each read and by
 /// each skip (RFC 4960 sections 6.5, 6.6 and 6.9, RFC 3758 section 3.6).
@@ -10,6 +10,7 @@ pub fn a_reassembly_stands_for_a_queue()
     ensures pieces { OrderedPiecesStand }
     ensures reads { ReadsAnswerAlike }
     ensures skips { OrderedSkipsStand }
+    ensures ready { TheSameIsReady }
 {}
 
 /// Of a direction within its limits, the model's invariant gives the window that these laws ask for.

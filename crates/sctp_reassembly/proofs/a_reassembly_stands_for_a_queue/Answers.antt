@@ -1,5 +1,6 @@
 use Rattle.sctp_reassembly.proofs.Answering.{read_alike}
 use Rattle.sctp_reassembly.proofs.Arriving.{ordered_pieces_stand}
+use Rattle.sctp_reassembly.proofs.Ready.{the_same_is_ready}
 use Rattle.sctp_reassembly.proofs.Skipped.{ordered_skips_stand}
 use Rattle.sctp_reassembly.proofs.a_reassembly_stands_for_a_queue.Goals as goal
 
@@ -11,3 +12,6 @@ returns-clause-reads c = read_alike
 
 pub returns-clause-skips : goal.returns-clause-skips
 returns-clause-skips c = ordered_skips_stand
+
+pub returns-clause-ready : goal.returns-clause-ready
+returns-clause-ready c = the_same_is_ready
