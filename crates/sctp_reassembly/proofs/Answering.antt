@@ -1,22 +1,21 @@
 -- What a read answers is the same on both sides.
-use Rattle.std.proofs.Common.{ℕ, zero, suc, ◌+◌, ◌%◌, ◌^◌, ◌<◌, ◌≤◌, ◌≡◌, Bool, true, false, cond, not, eqb, ltb, leb, ◌&&◌, List, [], ◌∷◌, length, map, Option, Some, None, refl, sym, ap, ◌∙◌, subst, ⊎_elim, arith}
-use Rattle.std.specs.List.{AllByRecursion}
+use Rattle.std.proofs.Common.{ℕ, ◌%◌, ◌^◌, ◌<◌, ◌≤◌, ◌≡◌, Bool, true, false, cond, not, eqb, ltb, leb, ◌&&◌, List, [], ◌∷◌, length, map, Option, Some, None, refl, sym, ap, ◌∙◌, subst, ⊎_elim, arith}
 use Rattle.std.proofs.lemmas.Bool.{cases_lt, lt-ltb, le-ltb, lt-leb, le-leb}
 use Rattle.sctp_wire_types.specs.Serial.{ssn_lte}
 use Rattle.sctp_receive_queues.specs.Messages.{Message, message_of as the_message}
 use Rattle.sctp_receive_queues.specs.Pieces.{is_complete}
-use Rattle.sctp_receive_queues.specs.Reassembly.{Group, Reassembly, after_read, is_due, read_from, read_ordered, taken}
+use Rattle.sctp_receive_queues.specs.Reassembly.{Group, Reassembly, after_read, is_due, read_from, read_ordered}
 use Rattle.sctp_model.specs.Messages.{Plan, place_at}
 use Rattle.sctp_model.specs.Packets.{Data, mem, data_at}
 use Rattle.sctp_model.specs.Serial.{before_16}
-use Rattle.sctp_model.specs.Reassembly.{Got, Queue, Run, at, got_of, least, message_in, without, taken_out, next_of, next_from, next_ordered, next}
+use Rattle.sctp_model.specs.Reassembly.{Got, Queue, Run, at, got_of, least, message_in, without, taken_out, next_of, next_from, next_ordered}
 use Rattle.sctp_model.specs.Safe.{AreRising, letter_read}
 use Rattle.sctp_model.specs.Invariants.{IsPlanned}
 use Rattle.sctp_model.proofs.Lists.{all_weaker, all_mem}
 use Rattle.sctp_model.proofs.Windows.{before_is, up_to_is}
 use Rattle.sctp_reassembly.specs.Laws.{ReadsAnswerAlike}
-use Rattle.sctp_reassembly.specs.Stands.{Held, IsOf, IsGroup, AreGroups, AreSaid, offsets_in, numbers_in, letter_of, StandsFor, IsInWindow, IsAnsweredAlike}
-use Rattle.sctp_reassembly.proofs.Kept.{AreThere, AreFull, IsAlone, first_alone, in_from, nothing_held, number_in, there_from}
+use Rattle.sctp_reassembly.specs.Stands.{Held, IsGroup, AreGroups, AreSaid, offsets_in, numbers_in, letter_of, StandsFor, IsInWindow, IsAnsweredAlike}
+use Rattle.sctp_reassembly.proofs.Kept.{IsAlone, first_alone, in_from, nothing_held, number_in, there_from}
 use Rattle.sctp_reassembly.proofs.Whole.{message_is, complete_is, letter_is}
 use Rattle.sctp_reassembly.proofs.Gathered.{is_rest}
 use Rattle.sctp_reassembly.proofs.Reading.{in_window, least_first, stands_after}
@@ -79,9 +78,10 @@ first_answered initial p over came s low cursor r q g gs h hs hp v small w st a 
     ∙ ap (λ z. cond (not (leb h.number cursor)) None (taken_out q n z)) (message_is p over came s low h.number q.ordered alone.first alone.rest hp v w.held w.near alone.all) in
     subst (λ z. IsAnsweredAlike initial p s q (read_ordered r (g ∷ gs)) z) (sym other)
     (subst (λ z. IsAnsweredAlike initial p s q (cond z (after, Some (the_message g.pieces)) (r, None)) (cond (not (leb h.number cursor)) None (taken_out q n (cond done (Some run) None)))) (sym is)
-    (decided initial p s q r after (the_message g.pieces) n run (leb h.number cursor) done st
-    (letter_is initial p g.pieces alone.first alone.rest (subst (AreSaid initial p g.pieces) alone.offsets a.0.pieces),
-    stands_after initial p came s low cursor r q g gs h hs w a rise.0 alone st e)))
+    (decided initial p s q r after (the_message g.pieces) n run (leb h.number cursor) done st (
+      letter_is initial p g.pieces alone.first alone.rest (subst (AreSaid initial p g.pieces) alone.offsets a.0.pieces),
+      stands_after initial p came s low cursor r q g gs h hs w a rise.0 alone st e,
+    )))
 
 -- the first message held has the least number
 least_number : (initial : ℕ) (p : Plan) (s : ℕ) (held : List Data) (gs : List Group) (h : Held) (hs : List Held) → AreGroups initial p s gs (h ∷ hs) → AreRising (numbers_in (h ∷ hs))

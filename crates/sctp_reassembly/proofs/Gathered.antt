@@ -1,8 +1,8 @@
 -- The pieces held of one message, and the run that the model finds of them.
-use Rattle.std.proofs.Common.{ℕ, zero, suc, ◌+◌, ◌%◌, ◌<◌, ◌≤◌, ◌≡◌, Bool, true, false, cond, eqb, ◌&&◌, ◌||◌, List, [], ◌∷◌, length, map, Option, Some, None, refl, sym, ap, ◌∙◌, subst, ⊎_elim, arith}
+use Rattle.std.proofs.Common.{ℕ, zero, suc, ◌+◌, ◌<◌, ◌≤◌, ◌≡◌, Bool, true, false, cond, eqb, ◌&&◌, List, [], ◌∷◌, length, map, Option, Some, None, refl, sym, ap, ◌∙◌, subst, ⊎_elim, arith}
 use Rattle.std.specs.List.{AllByRecursion}
-use Rattle.std.proofs.lemmas.Bool.{cases_Bool, cases_lt, eqb-true, eqb-false, eq-eqb, ne_eqb, or_cases, false_from_ne_true, false≢true, cond-true, cond-false}
-use Rattle.sctp_model.specs.Messages.{Plan, IsAt, place_at, is_last}
+use Rattle.std.proofs.lemmas.Bool.{cases_Bool, eqb-true, ne_eqb, or_cases, false_from_ne_true, false≢true, cond-false}
+use Rattle.sctp_model.specs.Messages.{Plan, place_at, is_last}
 use Rattle.sctp_model.specs.Packets.{Data, mem, data_at}
 use Rattle.sctp_model.specs.Reassembly.{at, top, with_first, run_on, run_from}
 use Rattle.sctp_model.specs.Safe.{AreRising}
@@ -86,7 +86,7 @@ run_is p over taken s low number (suc m) held o (x ∷ xs) h v ah a f =
     let second = a.mine.1.0 in
     let less = a.rising.0.0 in
     let last : is_last p (place_at p o) ≡ false = not_last p over o x h less second.at.known (first.at.stream ∙ sym second.at.stream)
-        (one_message p over s o x h v first.at second.at (first.is ∙ sym second.is)) in
+    (one_message p over s o x h v first.at second.at (first.is ∙ sym second.is)) in
     ap (λ z. run_on z (run_from m (suc o) held)) a.there.0
     ∙ cond-false (is_last p (place_at p o)) (Some (data_at p o ∷ [])) (with_first (data_at p o) (run_from m (suc o) held)) last
     ∙ ⊎_elim

@@ -1,15 +1,14 @@
 -- What is held of the messages of a stream, as a list of them by ascending number.
-use Rattle.std.proofs.Common.{ℕ, zero, suc, ◌+◌, ◌%◌, ◌<◌, ◌≤◌, ◌≡◌, Bool, true, false, cond, eqb, ◌&&◌, List, [], ◌∷◌, ◌++◌, length, map, filter, Option, Some, None, refl, sym, ap, ◌∙◌, subst, ⊎_elim, arith}
+use Rattle.std.proofs.Common.{ℕ, ◌<◌, ◌≡◌, Bool, true, false, cond, eqb, List, [], ◌∷◌, length, filter, Some, None, refl, sym, ap, ◌∙◌, ⊎_elim, arith}
 use Rattle.std.specs.List.{AllByRecursion}
-use Rattle.std.proofs.lemmas.Bool.{cases_Bool, eqb-true, eq-eqb, or_left, or_right, true≢false, cond-true, cond-false, false_from_ne_true}
+use Rattle.std.proofs.lemmas.Bool.{cases_Bool, eqb-true, eq-eqb, or_left, or_right, cond-true, cond-false}
 use Rattle.sctp_receive_queues.specs.Reassembly.{Group}
 use Rattle.sctp_model.specs.Messages.{Plan, place_at}
 use Rattle.sctp_model.specs.Packets.{Data, mem, data_at}
 use Rattle.sctp_model.specs.Reassembly.{at}
 use Rattle.sctp_model.specs.Safe.{AreRising}
-use Rattle.sctp_model.proofs.Lists.{all_mem, all_weaker, mem_left, mem_right, mem_cases}
+use Rattle.sctp_model.proofs.Lists.{all_mem, mem_left, mem_right, mem_cases}
 use Rattle.sctp_reassembly.specs.Stands.{Held, IsOf, IsGroup, AreGroups, offsets_in, numbers_in}
-use Rattle.sctp_reassembly.proofs.Gathered.{AreAllOf}
 use Rattle.sctp_reassembly.proofs.Whole.{IsAllOf}
 
 -- the number of an offset held is one of the numbers

@@ -9,5 +9,6 @@ pub mod Putting
 pub mod Reading
 pub mod Ready
 pub mod Skipped
+pub mod Sole
 pub mod Tsns
 pub mod Whole

@@ -1,27 +1,20 @@
 -- A piece of an ordered message that came: one side stands for the other with it.
-use Rattle.std.proofs.Common.{ℕ, zero, suc, ◌+◌, ◌%◌, ◌^◌, ◌<◌, ◌≤◌, ◌≡◌, ◌⊎◌, Bool, true, false, cond, not, eqb, ltb, ◌&&◌, ◌||◌, List, [], ◌∷◌, ◌++◌, length, map, Option, Some, None, refl, sym, ap, ◌∙◌, subst, inl, inr, ⊎_elim, arith}
-use Rattle.std.specs.Prelude.{⊤}
+use Rattle.std.proofs.Common.{ℕ, ◌+◌, ◌%◌, ◌^◌, ◌<◌, ◌≡◌, Bool, true, false, cond, eqb, ltb, ◌||◌, List, [], ◌∷◌, length, Option, Some, None, refl, sym, ap, ◌∙◌, subst, ⊎_elim, arith}
 use Rattle.std.specs.List.{AllByRecursion}
-use Rattle.std.proofs.lemmas.Bool.{cases_Bool, cases_lt, eqb-true, eqb-false, eq-eqb, ne_eqb, lt-ltb, le-ltb, ltb-true, ltb-false, or_left, or_right, or_parts, cond-true, cond-false, false_from_ne_true, true≢false}
+use Rattle.std.proofs.lemmas.Bool.{cases_Bool, eqb-true, eqb-false, ne_eqb, ltb-true, ltb-false}
 use Rattle.sctp_wire_types.specs.Serial.{ssn_lt}
 use Rattle.sctp_wire_types.specs.declared.chunk.ChunkPayloadData.{ChunkPayloadData}
-use Rattle.sctp_wire_types.specs.declared.error.Error.{Error}
-use Rattle.sctp_receive_queues.specs.Pieces.{bytes_of, contradicts, refusal_of}
-use Rattle.sctp_receive_queues.specs.Reassembly.{Group, Reassembly, group_of, grown, pieces_at, place_of_ssn, pushed, refusal, refusal_of_ordered, with_ordered}
-use Rattle.sctp_model.specs.Messages.{Plan, IsAt, place_at}
-use Rattle.sctp_model.specs.Packets.{Data, mem, data_at}
-use Rattle.sctp_model.specs.Serial.{before_16}
-use Rattle.sctp_model.specs.Reassembly.{Queue, at, push, push_ordered, push_unordered}
+use Rattle.sctp_receive_queues.specs.Pieces.{contradicts}
+use Rattle.sctp_receive_queues.specs.Reassembly.{Group, group_of, grown, pieces_at, place_of_ssn}
+use Rattle.sctp_model.specs.Messages.{Plan}
+use Rattle.sctp_model.specs.Packets.{mem, data_at}
 use Rattle.sctp_model.specs.Safe.{AreRising}
-use Rattle.sctp_model.specs.Invariants.{IsPlanned, IsHeld}
-use Rattle.sctp_model.proofs.Lists.{all_weaker, mem_left, mem_right, mem_neither, mem-join}
+use Rattle.sctp_model.specs.Invariants.{IsPlanned}
+use Rattle.sctp_model.proofs.Lists.{all_weaker, mem_neither, mem-join}
 use Rattle.sctp_model.proofs.Windows.{before_is, same_is}
-use Rattle.sctp_reassembly.specs.Laws.{OrderedPiecesStand}
-use Rattle.sctp_reassembly.specs.Stands.{Held, IsSaid, AreSaid, IsOf, IsGroup, AreGroups, offsets_in, numbers_in, StandsFor, IsInWindow, IsForBytesAlone}
-use Rattle.sctp_reassembly.proofs.Kept.{IsAlone, all_alone, in_from, there_from}
-use Rattle.sctp_reassembly.proofs.Placed.{AreOthers, AreSplit, entered, grown_is, none_there, position_here, position_later, with_ordered_is, up_one}
+use Rattle.sctp_reassembly.specs.Stands.{Held, IsSaid, AreSaid, IsOf, IsGroup, AreGroups, offsets_in, numbers_in}
+use Rattle.sctp_reassembly.proofs.Placed.{AreOthers, AreSplit, entered, grown_is, position_here, position_later, up_one}
 use Rattle.sctp_reassembly.proofs.Putting.{all_put, mem_put, piece_fits, put_offset, rising_put, said_put, some_put}
-use Rattle.sctp_reassembly.proofs.Reading.{in_window}
 
 -- the offset o of the message with number n among those held
 abbrev pub put_in : ℕ → ℕ → List Held → List Held

@@ -1,11 +1,11 @@
 -- A piece at its place among those held of its message.
-use Rattle.std.proofs.Common.{ℕ, zero, suc, ◌+◌, ◌%◌, ◌^◌, ◌<◌, ◌≤◌, ◌≡◌, ◌⊎◌, Bool, true, false, cond, not, eqb, ltb, ◌&&◌, ◌||◌, List, [], ◌∷◌, ◌++◌, length, map, position, unwrap_or, Option, Some, None, refl, sym, ap, ◌∙◌, subst, inl, inr, ⊎_elim, arith}
-use Rattle.std.specs.List.{AllByRecursion, list_any}
-use Rattle.std.proofs.lemmas.Bool.{cases_Bool, cases_lt, cases_eq, eqb-true, eqb-false, eq-eqb, ne_eqb, lt-ltb, le-ltb, ltb-true, ltb-false, or_parts, cond-true, cond-false}
+use Rattle.std.proofs.Common.{ℕ, suc, ◌^◌, ◌<◌, ◌≡◌, Bool, true, false, cond, not, eqb, ltb, ◌||◌, List, [], ◌∷◌, length, position, unwrap_or, Option, Some, None, refl, sym, ap, ◌∙◌, ⊎_elim, arith}
+use Rattle.std.specs.List.{AllByRecursion}
+use Rattle.std.proofs.lemmas.Bool.{cases_Bool, cases_eq, eqb-false, eq-eqb, ne_eqb, ltb-true, ltb-false, or_parts, cond-false}
 use Rattle.sctp_wire_types.specs.Ids.{number_of}
 use Rattle.sctp_wire_types.specs.Serial.{tsn_lt}
 use Rattle.sctp_wire_types.specs.declared.chunk.ChunkPayloadData.{ChunkPayloadData}
-use Rattle.sctp_receive_queues.specs.Pieces.{begins, breaks_ends, contradicts, differs_from, ends, has_other_type, has_tsn, is_last as is_last_piece, place_of}
+use Rattle.sctp_receive_queues.specs.Pieces.{begins, breaks_ends, contradicts, ends, has_other_type, has_tsn, is_last as is_last_piece, place_of}
 use Rattle.sctp_model.specs.Messages.{Plan, place_at, is_last}
 use Rattle.sctp_model.specs.Packets.{mem, data_at}
 use Rattle.sctp_model.specs.Serial.{tsn}

@@ -1,25 +1,21 @@
 -- A read answers the same on both sides, and one stands for the other afterwards.
-use Rattle.std.proofs.Common.{ℕ, zero, suc, ◌+◌, ◌%◌, ◌^◌, ◌<◌, ◌≤◌, ◌≡◌, Bool, true, false, cond, not, eqb, ltb, leb, ◌&&◌, List, [], ◌∷◌, ◌++◌, length, map, filter, Option, Some, None, refl, sym, ap, ◌∙◌, subst, ⊎_elim, arith}
+use Rattle.std.proofs.Common.{ℕ, ◌+◌, ◌%◌, ◌<◌, ◌≤◌, ◌≡◌, Bool, true, false, cond, not, eqb, List, [], ◌∷◌, filter, Option, Some, None, refl, sym, ap, ◌∙◌, subst, ⊎_elim, arith}
 use Rattle.std.specs.List.{AllByRecursion}
-use Rattle.std.proofs.lemmas.Bool.{cases_Bool, cases_lt, eqb-true, eq-eqb, ne_eqb, cond-true, cond-false, lt-ltb, le-ltb, lt-leb, le-leb, false_from_ne_true}
-use Rattle.sctp_wire_types.specs.Serial.{ssn_lte}
-use Rattle.sctp_receive_queues.specs.Messages.{Message, message_of as the_message}
-use Rattle.sctp_receive_queues.specs.Pieces.{is_complete}
-use Rattle.sctp_receive_queues.specs.Reassembly.{Group, Reassembly, after_read, is_due, read_from, read_ordered, taken}
+use Rattle.std.proofs.lemmas.Bool.{cases_Bool, eqb-true, eq-eqb, ne_eqb, cond-true, cond-false, false_from_ne_true}
+use Rattle.sctp_receive_queues.specs.Reassembly.{Group, Reassembly, after_read}
 use Rattle.sctp_model.specs.Messages.{Plan, place_at}
 use Rattle.sctp_model.specs.Packets.{Data, mem, data_at}
 use Rattle.sctp_model.specs.Serial.{before_16}
-use Rattle.sctp_model.specs.Reassembly.{Got, Queue, Run, Taken, at, earlier, least, got_of, message_in, without, taken_out, next_of, next_from, next_ordered, next}
-use Rattle.sctp_model.specs.Safe.{AreRising, Letter, letter_read}
-use Rattle.sctp_model.specs.Invariants.{IsPlanned, IsHeld}
-use Rattle.sctp_model.proofs.Lists.{all_weaker, all_both, all_mem, mem_left, mem_cases, mem-join}
-use Rattle.sctp_model.proofs.Windows.{before_is, up_to_is, same_from}
+use Rattle.sctp_model.specs.Reassembly.{Queue, at, earlier, least, without}
+use Rattle.sctp_model.specs.Safe.{AreRising}
+use Rattle.sctp_model.specs.Invariants.{IsHeld}
+use Rattle.sctp_model.proofs.Lists.{all_weaker, all_both, all_mem, mem-join}
+use Rattle.sctp_model.proofs.Windows.{same_from}
 use Rattle.sctp_model.proofs.Gathering.{at_found}
 use Rattle.sctp_model.proofs.Due.{IsNear, least_is, least_none, ssn_is}
-use Rattle.sctp_reassembly.specs.Stands.{Held, IsOf, IsGroup, AreGroups, AreSaid, offsets_in, numbers_in, letter_of, StandsFor, IsInWindow, IsAnsweredAlike}
-use Rattle.sctp_reassembly.proofs.Kept.{AreThere, AreFull, IsAlone, at_filtered, first_alone, in_from, later_number, nothing_held, number_in, there_from}
-use Rattle.sctp_reassembly.proofs.Whole.{IsThere, IsNearBy, IsAllOf, all_there, message_is, complete_is, letter_is}
-use Rattle.sctp_reassembly.proofs.Gathered.{is_rest}
+use Rattle.sctp_reassembly.specs.Stands.{Held, IsOf, AreGroups, offsets_in, numbers_in, StandsFor, IsInWindow}
+use Rattle.sctp_reassembly.proofs.Kept.{IsAlone, at_filtered, number_in}
+use Rattle.sctp_reassembly.proofs.Whole.{IsThere, IsNearBy, all_there}
 
 -- the least number is that of a piece held
 pub least_among : (P : Data → Type 0) (held : List Data) (c : ℕ) → AllByRecursion P held → least held ≡ Some c → (d : Data) × P d × (d.ssn ≡ c)
@@ -67,7 +63,7 @@ least_first p came s low cursor q h w a below = go (least q.ordered) refl
     go (Some c) e =
         let l = least_is p came s low q.ordered c (all_both _ _ q.ordered w.held (all_weaker _ _ q.ordered (near_too p low) w.near)) e in
         let m = least_among (λ (d : Data). (IsHeld p came s true low d × IsNearBy p low d) × IsThere q.ordered d.offset) q.ordered c
-            (all_both _ _ q.ordered (all_both _ _ q.ordered w.held w.near) (all_there q.ordered)) e in
+        (all_both _ _ q.ordered (all_both _ _ q.ordered w.held w.near) (all_there q.ordered)) e in
         let hd = m.1.0.0 in
         let hn = m.1.0.1 in
         let ab = hd.above in
@@ -92,7 +88,7 @@ rest_same p came s low cursor initial q g gs h hs w a r alone same o =
     let n = all_mem (IsOf p s h.number) h.offsets o a.0.mine b in
     let is = n.is in
     let out : mem o (offsets_in hs) ≡ false = false_from_ne_true _ (λ (m : mem o (offsets_in hs) ≡ true).
-        let l = all_mem (λ (j : ℕ). h.number < j) (numbers_in hs) (place_at p o).ssn r (number_in initial p s gs hs o a.1 m) in omega arith) in
+    let l = all_mem (λ (j : ℕ). h.number < j) (numbers_in hs) (place_at p o).ssn r (number_in initial p s gs hs o a.1 m) in omega arith) in
     rw (eq-eqb ((place_at p o).ssn % 65536) (h.number % 65536) (ap (λ z. z % 65536) is), out) refl)
     (λ (b : mem o h.offsets ≡ false). rw b (⊎_elim
     (λ (m : mem o (offsets_in hs) ≡ true).

@@ -1,17 +1,16 @@
 -- What is ready is the same on both sides.
-use Rattle.std.proofs.Common.{ℕ, zero, suc, ◌+◌, ◌%◌, ◌^◌, ◌<◌, ◌≤◌, ◌≡◌, Bool, true, false, cond, not, eqb, List, [], ◌∷◌, length, map, filter, Option, Some, None, refl, sym, ap, ◌∙◌, subst, ⊎_elim, arith}
-use Rattle.std.specs.List.{AllByRecursion}
+use Rattle.std.proofs.Common.{ℕ, zero, suc, ◌+◌, ◌%◌, ◌^◌, ◌<◌, ◌≤◌, ◌≡◌, Bool, true, false, not, eqb, List, [], ◌∷◌, length, map, Option, Some, None, refl, sym, ap, ◌∙◌, subst, ⊎_elim, arith}
 use Rattle.std.proofs.lemmas.Bool.{cases_Bool, cond-true, cond-false}
 use Rattle.sctp_receive_queues.specs.Messages.{Message}
 use Rattle.sctp_receive_queues.specs.Reassembly.{Reassembly, messages_held, ready_on, ready_within, taken}
 use Rattle.sctp_receive_queues.proofs.Ready.{TakesOne, takes_one}
-use Rattle.sctp_model.specs.Messages.{Plan, place_at}
+use Rattle.sctp_model.specs.Messages.{Plan}
 use Rattle.sctp_model.specs.Packets.{Data}
 use Rattle.sctp_model.specs.Serial.{before_16}
 use Rattle.sctp_model.specs.Reassembly.{Got, Queue, Run, Taken, drain, drain_on, got_of, least, message_in, next, next_from, next_of, taken_out, waiting, without}
 use Rattle.sctp_model.specs.Safe.{letter_read}
 use Rattle.sctp_model.specs.Invariants.{IsHeld, IsPlanned}
-use Rattle.sctp_model.proofs.Drained.{nothing_waits, read_shrinks}
+use Rattle.sctp_model.proofs.Drained.{read_shrinks}
 use Rattle.sctp_model.proofs.Due.{least_is}
 use Rattle.sctp_model.proofs.Lists.{all_both, all_filter, all_weaker}
 use Rattle.sctp_model.proofs.Windows.{next_is}
@@ -32,20 +31,26 @@ window_without p came s low cursor q c w e =
     let held = all_filter (IsHeld p came s true low) (λ (d : Data). not (eqb d.ssn c)) q.ordered w.held in
     let near = all_filter (IsNearBy p low) (λ (d : Data). not (eqb d.ssn c)) q.ordered w.near in
     ⊎_elim
-    (λ (b : eqb c q.cursor ≡ true). (suc l.number, record {
-      held = held;
-      near = near;
-      is = cond-true (eqb c q.cursor) ((c + 1) % 65536) q.cursor b ∙ ap (λ z. (z + 1) % 65536) l.is ∙ next_is l.number;
-      above = omega arith;
-      until = omega arith;
-    }))
-    (λ (b : eqb c q.cursor ≡ false). (cursor, record {
-      held = held;
-      near = near;
-      is = cond-false (eqb c q.cursor) ((c + 1) % 65536) q.cursor b ∙ w.is;
-      above = w.above;
-      until = w.until;
-    }))
+    (λ (b : eqb c q.cursor ≡ true). (
+      suc l.number,
+      record {
+        held = held;
+        near = near;
+        is = cond-true (eqb c q.cursor) ((c + 1) % 65536) q.cursor b ∙ ap (λ z. (z + 1) % 65536) l.is ∙ next_is l.number;
+        above = omega arith;
+        until = omega arith;
+      },
+    ))
+    (λ (b : eqb c q.cursor ≡ false). (
+      cursor,
+      record {
+        held = held;
+        near = near;
+        is = cond-false (eqb c q.cursor) ((c + 1) % 65536) q.cursor b ∙ w.is;
+        above = w.above;
+        until = w.until;
+      },
+    ))
     (cases_Bool (eqb c q.cursor))
 
 abbrev HasWindow : Plan → List ℕ → ℕ → ℕ → Queue → Type 0

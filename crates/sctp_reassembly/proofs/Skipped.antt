@@ -1,21 +1,21 @@
 -- A skip drops the same on both sides.
-use Rattle.std.proofs.Common.{ℕ, suc, ◌+◌, ◌%◌, ◌^◌, ◌<◌, ◌≤◌, ◌≡◌, Bool, true, false, cond, not, eqb, ◌&&◌, ◌||◌, List, [], ◌∷◌, ◌++◌, length, filter, is_some, Option, Some, None, refl, sym, ap, ◌∙◌, subst, ⊎_elim, arith}
+use Rattle.std.proofs.Common.{ℕ, ◌%◌, ◌^◌, ◌<◌, ◌≡◌, Bool, true, false, cond, not, ◌&&◌, ◌||◌, List, [], ◌∷◌, length, filter, is_some, Option, Some, None, refl, sym, ap, ◌∙◌, ⊎_elim, arith}
 use Rattle.std.specs.List.{AllByRecursion}
 use Rattle.std.proofs.lemmas.Bool.{cases_Bool}
 use Rattle.sctp_receive_queues.specs.Pieces.{is_complete}
-use Rattle.sctp_receive_queues.specs.Reassembly.{Group, Reassembly, next_after_skip, skipped, stays}
+use Rattle.sctp_receive_queues.specs.Reassembly.{Group, next_after_skip, stays}
 use Rattle.sctp_wire_types.specs.Serial.{ssn_lte}
 use Rattle.sctp_model.specs.Messages.{Plan, place_at}
 use Rattle.sctp_model.specs.Packets.{Data, mem, data_at}
 use Rattle.sctp_model.specs.Serial.{up_to_16}
-use Rattle.sctp_model.specs.Reassembly.{Queue, Run, at, empty_queue, message_in, skip}
-use Rattle.sctp_model.specs.Safe.{AreRising, IsWithin, read_end, read_ssn}
-use Rattle.sctp_model.specs.Machine.{Direction, live}
-use Rattle.sctp_model.specs.Invariants.{Invariant, IsHeld, IsOrdered, IsPlanned}
+use Rattle.sctp_model.specs.Reassembly.{Queue, Run, message_in}
+use Rattle.sctp_model.specs.Safe.{AreRising, read_end, read_ssn}
+use Rattle.sctp_model.specs.Machine.{live}
+use Rattle.sctp_model.specs.Invariants.{IsPlanned}
 use Rattle.sctp_model.proofs.Due.{IsNear, near_all, window_next}
 use Rattle.sctp_model.proofs.Lists.{all_mem, all_weaker, mem-join}
 use Rattle.sctp_reassembly.specs.Laws.{EmptyOnesStand, OrderedSkipsStand, TheInvariantGivesTheWindow}
-use Rattle.sctp_reassembly.specs.Stands.{Held, IsOf, IsGroup, AreGroups, offsets_in, numbers_in, StandsFor, IsInWindow}
+use Rattle.sctp_reassembly.specs.Stands.{Held, IsOf, IsGroup, AreGroups, offsets_in, numbers_in, IsInWindow}
 use Rattle.sctp_reassembly.proofs.Answering.{group_is, is_all, run_at}
 use Rattle.sctp_reassembly.proofs.Kept.{IsAlone, all_alone, at_filtered, in_from, there_from}
 use Rattle.sctp_reassembly.proofs.Whole.{IsNearBy, message_is}

@@ -1,22 +1,21 @@
 -- A message all of whose pieces are held is found on both sides, and is the same to a reader.
-use Rattle.std.proofs.Common.{ℕ, zero, suc, ◌+◌, ◌-◌, ◌%◌, ◌^◌, ◌<◌, ◌≤◌, ◌≡◌, Bool, true, false, cond, eqb, ◌&&◌, List, [], ◌∷◌, ◌++◌, length, map, flat_map, slice_get, Option, Some, None, refl, sym, ap, ◌∙◌, subst, ⊎_elim, arith}
+use Rattle.std.proofs.Common.{ℕ, suc, ◌+◌, ◌-◌, ◌%◌, ◌^◌, ◌<◌, ◌≤◌, ◌≡◌, Bool, true, false, cond, eqb, ◌&&◌, List, [], ◌∷◌, ◌++◌, length, map, flat_map, slice_get, Option, Some, None, refl, sym, ap, ◌∙◌, ⊎_elim, arith}
 use Rattle.std.specs.List.{AllByRecursion}
-use Rattle.std.proofs.lemmas.Bool.{cases_Bool, eqb-true, eqb-false, eq-eqb, or_cases, cond-true, cond-false}
-use Rattle.sctp_wire_types.specs.Ids.{number_of}
+use Rattle.std.proofs.lemmas.Bool.{cases_Bool, eqb-true, eqb-false, eq-eqb, or_cases}
 use Rattle.sctp_wire_types.specs.declared.chunk.ChunkPayloadData.{ChunkPayloadData}
 use Rattle.sctp_receive_queues.specs.Messages.{joined, message_of}
-use Rattle.sctp_receive_queues.specs.Pieces.{begins as view_begins, ends, follows, is_complete, is_last as is_last_piece, last_of, tsn_after}
-use Rattle.sctp_model.specs.Messages.{Plan, place_at, is_last}
+use Rattle.sctp_receive_queues.specs.Pieces.{ends, follows, is_complete, is_last as is_last_piece, last_of, tsn_after}
+use Rattle.sctp_model.specs.Messages.{Plan, place_at}
 use Rattle.sctp_model.specs.Packets.{Data, mem, data_at}
 use Rattle.sctp_model.specs.Serial.{tsn}
-use Rattle.sctp_model.specs.Reassembly.{Run, at, top, run_from, run_with, run_of, run_begun, begins, got_of, message_in}
+use Rattle.sctp_model.specs.Reassembly.{at, top, run_from, run_with, run_of, run_begun, begins, got_of, message_in}
 use Rattle.sctp_model.specs.Safe.{AreRising, Letter, letter_read}
 use Rattle.sctp_model.specs.Invariants.{IsPlanned, IsHeld}
 use Rattle.sctp_model.proofs.Lists.{all_weaker, all_both, all_mem}
 use Rattle.sctp_model.proofs.Windows.{same_from}
 use Rattle.sctp_model.proofs.Gathering.{at_found}
 use Rattle.sctp_model.proofs.Due.{begins_found, begins_finds, first_is, ssn_is}
-use Rattle.sctp_reassembly.specs.Stands.{AreSaid, IsSaid, IsOf, letter_of}
+use Rattle.sctp_reassembly.specs.Stands.{AreSaid, letter_of}
 use Rattle.sctp_reassembly.proofs.Chains.{apart, one_message}
 use Rattle.sctp_reassembly.proofs.Gathered.{AreAllOf, is_rest, run_is}
 use Rattle.sctp_reassembly.proofs.Tsns.{tsn_next}
@@ -51,7 +50,7 @@ head_is : (p : Plan) (over : ℕ → Bool) (taken : List ℕ) (s low number : �
     → begins (number % 65536) held ≡ Some x → (x ≡ data_at p o) × ((place_at p o).piece ≡ 0)
 head_is p over taken s low number held o rest x h v ah near a e =
     let f = begins_found (λ (d : Data). (IsHeld p taken s true low d × IsNearBy p low d) × IsThere held d.offset) (number % 65536) held x e
-        (all_both _ _ held (all_both _ _ held ah near) (all_there held)) in
+    (all_both _ _ held (all_both _ _ held ah near) (all_there held)) in
     let hx = f.0.0.0 in
     let nx = f.0.0.1 in
     let first = a.from.mine.0 in
@@ -64,7 +63,7 @@ head_is p over taken s low number held o rest x h v ah near a e =
     let zero_there : (place_at p x.offset).piece ≡ 0 = first_is p taken s low true x hx f.2 in
     let later = not_below o x.offset rest a.from.rising (a.full x.offset f.0.1.0 f.0.1.1 n) in
     let far = apart p over o x.offset h first.at.known hx.at.known (first.at.stream ∙ sym hx.at.stream)
-        (one_message p over s o x.offset h v first.at hx.at (first.is ∙ sym n)) in
+    (one_message p over s o x.offset h v first.at hx.at (first.is ∙ sym n)) in
     let same : x.offset ≡ o = omega arith in
     (hx.is ∙ ap (data_at p) same, omega arith)
 
@@ -116,7 +115,7 @@ rest_is initial p c [] o (x ∷ xs) a l = absurd a.1
 rest_is initial p c (d ∷ ds) o [] a l = absurd a.1
 rest_is initial p c (d ∷ ds) o (x ∷ xs) a l =
     let step : eqb d.tsn (tsn_after c.tsn) ≡ eqb x (suc o)
-        = ap (λ z. eqb z (tsn_after c.tsn)) a.1.0.tsn ∙ ap (λ z. eqb (tsn initial x) (tsn_after z)) a.0.tsn ∙ tsn_next initial o x l.0 l.1.0 in
+    = ap (λ z. eqb z (tsn_after c.tsn)) a.1.0.tsn ∙ ap (λ z. eqb (tsn initial x) (tsn_after z)) a.0.tsn ∙ tsn_next initial o x l.0 l.1.0 in
     ap (λ z. is_last_piece z && (eqb d.tsn (tsn_after c.tsn) && follows (Some d.tsn) ds)) (last_later c d ds)
     ∙ move (ends (d ∷ ds)) (eqb d.tsn (tsn_after c.tsn)) (follows (Some d.tsn) ds)
     ∙ ap (λ z. z && (ends (d ∷ ds) && follows (Some d.tsn) ds)) step

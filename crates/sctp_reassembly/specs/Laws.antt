@@ -1,15 +1,14 @@
 -- The laws that join the reassembly of one stream to the queue of the model.
-use Rattle.std.specs.Prelude.{◌≡◌, ◌⊎◌, ℕ, ◌^◌, ◌<◌, Bool, true, false, List, length, map, Option, Some, None}
+use Rattle.std.specs.Prelude.{◌≡◌, ℕ, ◌^◌, ◌<◌, Bool, true, false, List, length, map, None}
 use Rattle.sctp_wire_types.specs.declared.chunk.ChunkPayloadData.{ChunkPayloadData}
-use Rattle.sctp_wire_types.specs.declared.error.Error.TheVariants as errors
 use Rattle.sctp_receive_queues.specs.Reassembly.{Reassembly, empty_reassembly, pushed, ready as view_ready, refusal, skipped, taken}
 use Rattle.sctp_model.specs.Messages.{Plan}
-use Rattle.sctp_model.specs.Packets.{data_at}
+use Rattle.sctp_model.specs.Packets.{Data, data_at}
 use Rattle.sctp_model.specs.Reassembly.{Queue, at, empty_queue, next, push, ready, skip}
 use Rattle.sctp_model.specs.Machine.{Direction, live}
 use Rattle.sctp_model.specs.Safe.{IsWithin, letter_read, read_ssn}
 use Rattle.sctp_model.specs.Invariants.{Invariant, IsPlanned}
-use Rattle.sctp_reassembly.specs.Stands.{IsSaid, IsInWindow, StandsFor, IsAnsweredAlike, IsForBytesAlone, letter_of}
+use Rattle.sctp_reassembly.specs.Stands.{IsSaid, IsInWindow, StandsFor, IsAnsweredAlike, IsForBytesAlone, IsAllTogether, letter_of}
 
 -- A piece of an ordered message that came is put to the others of its message on both sides, or on both sides it is of a message
 -- that lies before the next one. It is refused for the bytes of its message alone.
@@ -45,3 +44,9 @@ abbrev pub TheSameIsReady : Type 0
 TheSameIsReady = (initial : ℕ) (p : Plan) (over : ℕ → Bool) (came : List ℕ) (s low cursor : ℕ) (r : Reassembly) (q : Queue)
     → IsPlanned p over → over s ≡ false → length p.places < 2 ^ 31 → IsInWindow p came s low cursor q → StandsFor initial p s r q
     → map letter_of (view_ready r) ≡ map letter_read (ready q)
+
+-- An unordered message of one piece is complete at once on both sides, where no piece of such a message waits for others.
+abbrev pub SoleUnorderedPiecesStand : Type 0
+SoleUnorderedPiecesStand = (initial : ℕ) (p : Plan) (s limit : ℕ) (r : Reassembly) (q : Queue) (c : ChunkPayloadData) (d : Data)
+    → StandsFor initial p s r q → IsAllTogether r q → IsSaid initial c d → d.ordered ≡ false → d.first ≡ true → d.last ≡ true
+    → StandsFor initial p s (pushed r c).0 (push q d) × IsAllTogether (pushed r c).0 (push q d) × IsForBytesAlone (refusal r c limit)

@@ -1,6 +1,6 @@
 -- A stream's reassembly stands for a queue of the model: it holds the same pieces, put together by messages (RFC 4960 sections 6.5,
 -- 6.6 and 6.9).
-use Rattle.std.specs.Prelude.{◌≡◌, ℕ, suc, ◌+◌, ◌%◌, ◌<◌, ◌≤◌, ◌⊎◌, Bool, true, false, not, List, [], ◌∷◌, length, map, flat_map, if◌then◌else◌, Option, Some, None, ⊤}
+use Rattle.std.specs.Prelude.{◌≡◌, ℕ, ◌+◌, ◌%◌, ◌<◌, ◌≤◌, ◌⊎◌, true, false, not, List, [], ◌∷◌, length, map, flat_map, if◌then◌else◌, Option, Some, None, ⊤}
 use Rattle.std.specs.List.{AllByRecursion}
 use Rattle.sctp_wire_types.specs.declared.chunk.ChunkPayloadData.{ChunkPayloadData}
 use Rattle.sctp_wire_types.specs.declared.error.Error.{Error}
@@ -96,3 +96,8 @@ IsAnsweredAlike initial p s q (r, Some m) (Some t) = (letter_of m ≡ letter_rea
 -- where it is refused at all, that is for the bytes that its message would have, and not for a contradiction
 abbrev pub IsForBytesAlone : Option Error → Type 0
 IsForBytesAlone e = (e ≡ None) ⊎ (e ≡ Some errors.ErrInboundMessageTooLarge)
+
+-- no piece of an unordered message waits for others
+pub record IsAllTogether (r : Reassembly) (q : Queue) : Type 0 where
+  pub here : r.unordered ≡ []
+  pub there : q.unordered ≡ []
