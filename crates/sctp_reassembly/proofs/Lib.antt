@@ -1,6 +1,7 @@
 pub mod Answering
 pub mod Arriving
 pub mod Chains
+pub mod Events
 pub mod Gathered
 pub mod Kept
 pub mod Placed

@@ -1,14 +1,14 @@
 -- The laws that join the reassembly of one stream to the queue of the model.
-use Rattle.std.specs.Prelude.{◌≡◌, ℕ, ◌^◌, ◌<◌, Bool, true, false, List, length, map, None}
+use Rattle.std.specs.Prelude.{◌≡◌, ℕ, ◌^◌, ◌<◌, Bool, true, false, List, length, map, slice_get, Some, None}
 use Rattle.sctp_wire_types.specs.declared.chunk.ChunkPayloadData.{ChunkPayloadData}
 use Rattle.sctp_receive_queues.specs.Reassembly.{Reassembly, empty_reassembly, pushed, ready as view_ready, refusal, skipped, taken}
 use Rattle.sctp_model.specs.Messages.{Plan}
 use Rattle.sctp_model.specs.Packets.{Data, data_at}
 use Rattle.sctp_model.specs.Reassembly.{Queue, at, empty_queue, next, push, ready, skip}
-use Rattle.sctp_model.specs.Machine.{Direction, live}
+use Rattle.sctp_model.specs.Machine.{Direction, Event, happens, is_new, live}
 use Rattle.sctp_model.specs.Safe.{IsWithin, letter_read, read_ssn}
 use Rattle.sctp_model.specs.Invariants.{Invariant, IsPlanned}
-use Rattle.sctp_reassembly.specs.Stands.{IsSaid, IsInWindow, StandsFor, IsAnsweredAlike, IsForBytesAlone, IsAllTogether, letter_of}
+use Rattle.sctp_reassembly.specs.Stands.{IsSaid, IsInWindow, StandsFor, IsAnsweredAlike, IsForBytesAlone, IsAllTogether, IsReadAs, letter_of}
 
 -- A piece of an ordered message that came is put to the others of its message on both sides, or on both sides it is of a message
 -- that lies before the next one. It is refused for the bytes of its message alone.
@@ -50,3 +50,17 @@ abbrev pub SoleUnorderedPiecesStand : Type 0
 SoleUnorderedPiecesStand = (initial : ℕ) (p : Plan) (s limit : ℕ) (r : Reassembly) (q : Queue) (c : ChunkPayloadData) (d : Data)
     → StandsFor initial p s r q → IsAllTogether r q → IsSaid initial c d → d.ordered ≡ false → d.first ≡ true → d.last ≡ true
     → StandsFor initial p s (pushed r c).0 (push q d) × IsAllTogether (pushed r c).0 (push q d) × IsForBytesAlone (refusal r c limit)
+
+-- The same in events of the model's machine, of any direction within its limits: DATA of an ordered message that comes and is new,
+abbrev pub DataThatComesStands : Type 0
+DataThatComesStands = (initial : ℕ) (w : Direction) (k limit : ℕ) (r : Reassembly) (c : ChunkPayloadData) (d : Data)
+    → IsWithin w → Invariant w → w.over d.stream ≡ false → slice_get w.datas k ≡ Some d → w.receiver.is_open ≡ true → is_new w.receiver d.offset ≡ true
+    → d.ordered ≡ true → IsSaid initial c d → StandsFor initial w.sender.plan d.stream r (live (w.receiver.queues d.stream))
+    → StandsFor initial w.sender.plan d.stream (pushed r c).0 (live ((happens w (Event.DataComes k)).receiver.queues d.stream)) × IsForBytesAlone (refusal r c limit)
+
+-- and a read of a stream that is there.
+abbrev pub AReadThatHappensStands : Type 0
+AReadThatHappensStands = (initial : ℕ) (w : Direction) (s : ℕ) (r : Reassembly) (q : Queue)
+    → IsWithin w → Invariant w → w.over s ≡ false → w.receiver.is_open ≡ true → w.receiver.queues s ≡ Some q → StandsFor initial w.sender.plan s r q
+    → StandsFor initial w.sender.plan s (taken r).0 (live ((happens w (Event.Read s)).receiver.queues s))
+    × IsReadAs (taken r).1 (w.reads s) ((happens w (Event.Read s)).reads s)

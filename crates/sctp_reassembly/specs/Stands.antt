@@ -1,6 +1,6 @@
 -- A stream's reassembly stands for a queue of the model: it holds the same pieces, put together by messages (RFC 4960 sections 6.5,
 -- 6.6 and 6.9).
-use Rattle.std.specs.Prelude.{◌≡◌, ℕ, ◌+◌, ◌%◌, ◌<◌, ◌≤◌, ◌⊎◌, true, false, not, List, [], ◌∷◌, length, map, flat_map, if◌then◌else◌, Option, Some, None, ⊤}
+use Rattle.std.specs.Prelude.{◌≡◌, ℕ, ◌+◌, ◌%◌, ◌<◌, ◌≤◌, ◌⊎◌, true, false, not, List, [], ◌∷◌, ◌++◌, length, map, flat_map, if◌then◌else◌, Option, Some, None, ⊤}
 use Rattle.std.specs.List.{AllByRecursion}
 use Rattle.sctp_wire_types.specs.declared.chunk.ChunkPayloadData.{ChunkPayloadData}
 use Rattle.sctp_wire_types.specs.declared.error.Error.{Error}
@@ -11,7 +11,7 @@ use Rattle.sctp_receive_queues.specs.Reassembly.{Group, Reassembly}
 use Rattle.sctp_model.specs.Messages.{Plan, IsAt, place_at}
 use Rattle.sctp_model.specs.Packets.{Data, mem, data_at}
 use Rattle.sctp_model.specs.Serial.{tsn}
-use Rattle.sctp_model.specs.Reassembly.{Queue, Taken, at}
+use Rattle.sctp_model.specs.Reassembly.{Got, Queue, Taken, at}
 use Rattle.sctp_model.specs.Safe.{AreRising, Letter, letter_read}
 use Rattle.sctp_model.specs.Invariants.{IsHeld}
 
@@ -101,3 +101,8 @@ IsForBytesAlone e = (e ≡ None) ⊎ (e ≡ Some errors.ErrInboundMessageTooLarg
 pub record IsAllTogether (r : Reassembly) (q : Queue) : Type 0 where
   pub here : r.unordered ≡ []
   pub there : q.unordered ≡ []
+
+-- what a read answers is what the model's reader got
+abbrev pub IsReadAs : Option Message → List Got → List Got → Type 0
+IsReadAs None before after = after ≡ before
+IsReadAs (Some m) before after = (g : Got) × (after ≡ before ++ g ∷ []) × (letter_of m ≡ letter_read g)
