@@ -1,26 +1,26 @@
 -- The laws in events of the model's machine.
-use Rattle.std.proofs.Common.{ℕ, suc, ◌+◌, ◌%◌, ◌^◌, ◌<◌, ◌≤◌, ◌≡◌, Bool, true, false, cond, not, eqb, leb, ◌&&◌, List, [], ◌∷◌, ◌++◌, length, map, slice_get, Option, Some, None, refl, sym, ap, ◌∙◌, subst, ⊎_elim, arith}
+use Rattle.std.proofs.Common.{ℕ, suc, ◌+◌, ◌%◌, ◌^◌, ◌<◌, ◌≤◌, ◌≡◌, Bool, true, false, cond, not, eqb, leb, ◌&&◌, List, [], ◌∷◌, ◌++◌, length, map, slice_get, Option, Some, None, refl, sym, ap, ◌∙◌, subst, ⊎_elim, arith, ltb}
 use Rattle.std.specs.List.{AllByRecursion}
 use Rattle.std.proofs.lemmas.Bool.{and_parts, and_from, cond-true, not-true, true≢false}
 use Rattle.sctp_wire_types.specs.declared.chunk.ChunkPayloadData.{ChunkPayloadData}
 use Rattle.sctp_receive_queues.specs.Messages.{Message}
-use Rattle.sctp_receive_queues.specs.Reassembly.{Reassembly, pushed, refusal, taken}
+use Rattle.sctp_receive_queues.specs.Reassembly.{Reassembly, pushed, refusal, taken, unordered_skipped}
 use Rattle.sctp_receive_queues.proofs.Ready.{TakesOne, takes_one}
 use Rattle.sctp_model.specs.Messages.{Plan}
-use Rattle.sctp_model.specs.Packets.{Data, mem, data_at}
-use Rattle.sctp_model.specs.Reassembly.{Got, Queue, Taken, at, next, push}
-use Rattle.sctp_model.specs.Machine.{Direction, Event, data_comes, happens, is_new, live, point, put, read, took, was_read}
+use Rattle.sctp_model.specs.Packets.{Data, Forward, mem, data_at, skips}
+use Rattle.sctp_model.specs.Reassembly.{Got, Queue, Taken, at, drop_unordered, next, push, skip_if}
+use Rattle.sctp_model.specs.Machine.{Direction, Event, data_comes, forward_comes, forwarded, happens, is_new, live, passes, point, put, read, took, was_read}
 use Rattle.sctp_model.specs.Safe.{IsWithin, read_ssn}
 use Rattle.sctp_model.specs.Invariants.{Invariant, IsHeld, IsPiece}
 use Rattle.sctp_model.proofs.Coming.{keeps_data_comes}
 use Rattle.sctp_model.proofs.Gathering.{at_found}
 use Rattle.sctp_model.proofs.Growth.{at_put}
 use Rattle.sctp_model.proofs.Lists.{all_get}
-use Rattle.sctp_reassembly.specs.Laws.{AReadThatHappensStands, DataThatComesStands}
-use Rattle.sctp_reassembly.specs.Stands.{IsAnsweredAlike, IsForBytesAlone, IsInWindow, IsReadAs, IsSaid, StandsFor}
+use Rattle.sctp_reassembly.specs.Laws.{AForwardThatComesStands, AReadThatHappensStands, DataThatComesStands}
+use Rattle.sctp_reassembly.specs.Stands.{IsAnsweredAlike, IsForBytesAlone, IsInWindow, IsReadAs, IsSaid, StandsFor, skipped_if}
 use Rattle.sctp_reassembly.proofs.Answering.{read_alike}
 use Rattle.sctp_reassembly.proofs.Arriving.{ordered_pieces_stand}
-use Rattle.sctp_reassembly.proofs.Skipped.{invariant_window}
+use Rattle.sctp_reassembly.proofs.Skipped.{invariant_window, ordered_skips_stand}
 
 -- what was taken in is no longer new
 not_held : (p : Plan) (came : List ℕ) (s low o : ℕ) (held : List Data) → AllByRecursion (IsHeld p came s true low) held → mem o came ≡ false → at o held ≡ None
@@ -84,3 +84,30 @@ a_read_that_happens_stands initial w s r q l h v opened e st =
     (subst (IsInWindow p w.receiver.taken s (read_ssn p 0 (w.reads s)) win.0) there win.1) st in
     subst (λ (z : Direction). StandsFor initial p s (taken r).0 (live (z.receiver.queues s)) × IsReadAs (taken r).1 (w.reads s) (z.reads s)) (sym (was_so w s q e opened))
     (read_so initial w s r q (taken r) (next q) e alike)
+
+-- A FORWARD TSN
+
+came_forward : (w : Direction) (k : ℕ) (f : Forward) → slice_get w.forwards k ≡ Some f → w.receiver.is_open ≡ true → ltb (point w.receiver) f.point ≡ true
+    → happens w (Event.ForwardComes k) ≡ passes w f
+unfolding happens
+came_forward w k f e o n =
+    ap (forward_comes w) e ∙ cond-true (w.receiver.is_open && ltb (point w.receiver) f.point) (passes w f) w (and_from w.receiver.is_open (ltb (point w.receiver) f.point) o n)
+
+-- what the relation says of is left by a drop
+dropped : (initial : ℕ) (p : Plan) (s t o : ℕ) (r : Reassembly) (q : Queue) → StandsFor initial p s r q → StandsFor initial p s (unordered_skipped r t) (drop_unordered o q)
+dropped initial p s t o r q st = record { held = st.held; groups = st.groups; ascends = st.ascends; same = st.same; next = st.next; complete = st.complete }
+
+pub a_forward_that_comes_stands : AForwardThatComesStands
+a_forward_that_comes_stands initial w k s t r q f l h v e opened n there st =
+    let p = w.sender.plan in
+    let low = read_ssn p 0 (w.reads s) in
+    let win = invariant_window w l h s v in
+    let win' : IsInWindow p w.receiver.taken s low win.0 q = subst (IsInWindow p w.receiver.taken s low win.0) (ap live there) win.1 in
+    subst (λ (z : Direction). StandsFor initial p s (unordered_skipped (skipped_if r (skips f s)) t) (live (z.receiver.queues s))) (sym (came_forward w k f e opened n))
+    (subst (λ (z : Option Queue). StandsFor initial p s (unordered_skipped (skipped_if r (skips f s)) t) (live (forwarded z f.point (skips f s)))) (sym there)
+    (dropped initial p s t f.point (skipped_if r (skips f s)) (skip_if q (skips f s)) (go win' (skips f s))))
+  where
+    go : IsInWindow w.sender.plan w.receiver.taken s (read_ssn w.sender.plan 0 (w.reads s)) (invariant_window w l h s v).0 q → (m : Option ℕ)
+        → StandsFor initial w.sender.plan s (skipped_if r m) (skip_if q m)
+    go x None = st
+    go x (Some m) = ordered_skips_stand initial w.sender.plan w.over w.receiver.taken s (read_ssn w.sender.plan 0 (w.reads s)) (invariant_window w l h s v).0 m r q h.planned v l.offsets x st

@@ -1,14 +1,14 @@
 -- The laws that join the reassembly of one stream to the queue of the model.
-use Rattle.std.specs.Prelude.{◌≡◌, ℕ, ◌^◌, ◌<◌, Bool, true, false, List, length, map, slice_get, Some, None}
+use Rattle.std.specs.Prelude.{◌≡◌, ℕ, ◌^◌, ◌<◌, Bool, true, false, nat_lt, List, [], length, map, slice_get, Some, None}
 use Rattle.sctp_wire_types.specs.declared.chunk.ChunkPayloadData.{ChunkPayloadData}
-use Rattle.sctp_receive_queues.specs.Reassembly.{Reassembly, empty_reassembly, pushed, ready as view_ready, refusal, skipped, taken}
+use Rattle.sctp_receive_queues.specs.Reassembly.{Reassembly, empty_reassembly, pushed, ready as view_ready, refusal, skipped, taken, unordered_skipped}
 use Rattle.sctp_model.specs.Messages.{Plan}
-use Rattle.sctp_model.specs.Packets.{Data, data_at}
-use Rattle.sctp_model.specs.Reassembly.{Queue, at, empty_queue, next, push, ready, skip}
-use Rattle.sctp_model.specs.Machine.{Direction, Event, happens, is_new, live}
+use Rattle.sctp_model.specs.Packets.{Data, Forward, data_at, skips}
+use Rattle.sctp_model.specs.Reassembly.{Queue, Taken, at, drop_unordered, empty_queue, next, push, ready, skip}
+use Rattle.sctp_model.specs.Machine.{Direction, Event, happens, is_new, live, point}
 use Rattle.sctp_model.specs.Safe.{IsWithin, letter_read, read_ssn}
 use Rattle.sctp_model.specs.Invariants.{Invariant, IsPlanned}
-use Rattle.sctp_reassembly.specs.Stands.{IsSaid, IsInWindow, StandsFor, IsAnsweredAlike, IsForBytesAlone, IsAllTogether, IsReadAs, letter_of}
+use Rattle.sctp_reassembly.specs.Stands.{IsSaid, IsInWindow, StandsFor, IsAnsweredAlike, IsForBytesAlone, IsAllTogether, IsReadAs, letter_of, skipped_if}
 
 -- A piece of an ordered message that came is put to the others of its message on both sides, or on both sides it is of a message
 -- that lies before the next one. It is refused for the bytes of its message alone.
@@ -64,3 +64,18 @@ AReadThatHappensStands = (initial : ℕ) (w : Direction) (s : ℕ) (r : Reassemb
     → IsWithin w → Invariant w → w.over s ≡ false → w.receiver.is_open ≡ true → w.receiver.queues s ≡ Some q → StandsFor initial w.sender.plan s r q
     → StandsFor initial w.sender.plan s (taken r).0 (live ((happens w (Event.Read s)).receiver.queues s))
     × IsReadAs (taken r).1 (w.reads s) ((happens w (Event.Read s)).reads s)
+
+-- A FORWARD TSN that comes and is ahead is a skip, and a drop of pieces of unordered messages: of these the relation says nothing
+-- until they are complete.
+abbrev pub AForwardThatComesStands : Type 0
+AForwardThatComesStands = (initial : ℕ) (w : Direction) (k s t : ℕ) (r : Reassembly) (q : Queue) (f : Forward)
+    → IsWithin w → Invariant w → w.over s ≡ false → slice_get w.forwards k ≡ Some f → w.receiver.is_open ≡ true → nat_lt (point w.receiver) f.point ≡ true
+    → w.receiver.queues s ≡ Some q → StandsFor initial w.sender.plan s r q
+    → StandsFor initial w.sender.plan s (unordered_skipped (skipped_if r (skips f s)) t) (live ((happens w (Event.ForwardComes k)).receiver.queues s))
+
+-- Where no piece of an unordered message waits for others, ordered pieces, reads, skips and drops leave it so.
+abbrev pub NoneComesToWait : Type 0
+NoneComesToWait = (r : Reassembly) (q : Queue) → IsAllTogether r q
+    → ((c : ChunkPayloadData) (d : Data) → c.unordered ≡ false → d.ordered ≡ true → IsAllTogether (pushed r c).0 (push q d))
+    × ((taken r).0.unordered ≡ []) × ((t : Taken) → next q ≡ Some t → t.rest.unordered ≡ [])
+    × ((m t o : ℕ) → IsAllTogether (unordered_skipped (skipped r m) t) (drop_unordered o (skip q m)))

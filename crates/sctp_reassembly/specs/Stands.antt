@@ -7,7 +7,7 @@ use Rattle.sctp_wire_types.specs.declared.error.Error.{Error}
 use Rattle.sctp_wire_types.specs.declared.error.Error.TheVariants as errors
 use Rattle.sctp_wire_types.specs.Ids.{number_of}
 use Rattle.sctp_receive_queues.specs.Messages.{Message}
-use Rattle.sctp_receive_queues.specs.Reassembly.{Group, Reassembly}
+use Rattle.sctp_receive_queues.specs.Reassembly.{Group, Reassembly, skipped}
 use Rattle.sctp_model.specs.Messages.{Plan, IsAt, place_at}
 use Rattle.sctp_model.specs.Packets.{Data, mem, data_at}
 use Rattle.sctp_model.specs.Serial.{tsn}
@@ -106,3 +106,8 @@ pub record IsAllTogether (r : Reassembly) (q : Queue) : Type 0 where
 abbrev pub IsReadAs : Option Message → List Got → List Got → Type 0
 IsReadAs None before after = after ≡ before
 IsReadAs (Some m) before after = (g : Got) × (after ≡ before ++ g ∷ []) × (letter_of m ≡ letter_read g)
+
+-- a skip where a FORWARD TSN reports a sequence number for the stream
+abbrev pub skipped_if : Reassembly → Option ℕ → Reassembly
+skipped_if r None = r
+skipped_if r (Some m) = skipped r m
