@@ -1,23 +1,21 @@
 -- The laws in events of the model's machine.
-use Rattle.std.proofs.Common.{ℕ, suc, ◌+◌, ◌%◌, ◌^◌, ◌<◌, ◌≤◌, ◌≡◌, Bool, true, false, cond, not, eqb, leb, ◌&&◌, List, [], ◌∷◌, ◌++◌, length, map, slice_get, Option, Some, None, refl, sym, ap, ◌∙◌, subst, ⊎_elim, arith, ltb}
+use Rattle.std.proofs.Common.{ℕ, ◌≡◌, true, false, not, leb, ◌&&◌, List, [], ◌∷◌, ◌++◌, slice_get, Option, Some, None, refl, sym, ap, ◌∙◌, subst, ltb}
 use Rattle.std.specs.List.{AllByRecursion}
 use Rattle.std.proofs.lemmas.Bool.{and_parts, and_from, cond-true, not-true, true≢false}
-use Rattle.sctp_wire_types.specs.declared.chunk.ChunkPayloadData.{ChunkPayloadData}
 use Rattle.sctp_receive_queues.specs.Messages.{Message}
-use Rattle.sctp_receive_queues.specs.Reassembly.{Reassembly, pushed, refusal, taken, unordered_skipped}
-use Rattle.sctp_receive_queues.proofs.Ready.{TakesOne, takes_one}
+use Rattle.sctp_receive_queues.specs.Reassembly.{Reassembly, pushed, taken, unordered_skipped}
 use Rattle.sctp_model.specs.Messages.{Plan}
-use Rattle.sctp_model.specs.Packets.{Data, Forward, mem, data_at, skips}
-use Rattle.sctp_model.specs.Reassembly.{Got, Queue, Taken, at, drop_unordered, next, push, skip_if}
-use Rattle.sctp_model.specs.Machine.{Direction, Event, data_comes, forward_comes, forwarded, happens, is_new, live, passes, point, put, read, took, was_read}
+use Rattle.sctp_model.specs.Packets.{Data, Forward, mem, skips}
+use Rattle.sctp_model.specs.Reassembly.{Queue, Taken, at, drop_unordered, next, push, skip_if}
+use Rattle.sctp_model.specs.Machine.{Direction, Event, data_comes, forward_comes, forwarded, happens, is_new, live, passes, point, read, took, was_read}
 use Rattle.sctp_model.specs.Safe.{IsWithin, read_ssn}
-use Rattle.sctp_model.specs.Invariants.{Invariant, IsHeld, IsPiece}
+use Rattle.sctp_model.specs.Invariants.{IsHeld, IsPiece}
 use Rattle.sctp_model.proofs.Coming.{keeps_data_comes}
 use Rattle.sctp_model.proofs.Gathering.{at_found}
 use Rattle.sctp_model.proofs.Growth.{at_put}
 use Rattle.sctp_model.proofs.Lists.{all_get}
 use Rattle.sctp_reassembly.specs.Laws.{AForwardThatComesStands, AReadThatHappensStands, DataThatComesStands}
-use Rattle.sctp_reassembly.specs.Stands.{IsAnsweredAlike, IsForBytesAlone, IsInWindow, IsReadAs, IsSaid, StandsFor, skipped_if}
+use Rattle.sctp_reassembly.specs.Stands.{IsAnsweredAlike, IsInWindow, IsReadAs, IsSaid, StandsFor, skipped_if}
 use Rattle.sctp_reassembly.proofs.Answering.{read_alike}
 use Rattle.sctp_reassembly.proofs.Arriving.{ordered_pieces_stand}
 use Rattle.sctp_reassembly.proofs.Skipped.{invariant_window, ordered_skips_stand}
@@ -55,7 +53,7 @@ data_that_comes_stands initial w k limit r c d l h v e opened n kind said st =
     h.planned v l.offsets st (subst (IsSaid initial c) piece.is said) (sym (ap (λ z. z.ordered) piece.is) ∙ kind) free
     (subst (λ z. IsInWindow p (d.offset ∷ w.receiver.taken) d.stream (read_ssn p 0 (w.reads d.stream)) win.0 (push q z)) piece.is win') in (
       subst (StandsFor initial p d.stream (pushed r c).0)
-      (ap (push q) (sym piece.is) ∙ sym there ∙ ap (λ (z : Direction). live (z.receiver.queues d.stream)) (sym (came_in w k d e opened n))) both.0,
+          (ap (push q) (sym piece.is) ∙ sym there ∙ ap (λ (z : Direction). live (z.receiver.queues d.stream)) (sym (came_in w k d e opened n))) both.0,
       both.1,
     )
 

@@ -67,8 +67,9 @@ numbers_in hs = map (λ (h : Held). h.number) hs
 abbrev pub letter_of : Message → Letter
 letter_of m = record { payload_type = number_of m.payload_type; bytes = m.bytes }
 
--- The groups ascend strictly by the number of their message, and what the model holds at an offset is its DATA where one of them
--- has it, and nothing elsewhere. The same message is next, and the same messages are complete out of order.
+-- The groups ascend strictly by the number of their message, and what the model holds of ordered messages at an offset is its DATA
+-- where one of the groups has it, and nothing elsewhere. The same message is next, and the same unordered messages are complete, in
+-- the same order. Of pieces of unordered messages that aren't complete it says nothing.
 pub record StandsFor (initial : ℕ) (p : Plan) (s : ℕ) (r : Reassembly) (q : Queue) : Type 0 where
   pub held : List Held
   pub groups : AreGroups initial p s r.ordered held
