@@ -14,10 +14,11 @@ use Rattle.sctp_model.proofs.Coming.{keeps_data_comes}
 use Rattle.sctp_model.proofs.Gathering.{at_found}
 use Rattle.sctp_model.proofs.Growth.{at_put}
 use Rattle.sctp_model.proofs.Lists.{all_get}
-use Rattle.sctp_reassembly.specs.Laws.{AForwardThatComesStands, AReadThatHappensStands, DataThatComesStands}
-use Rattle.sctp_reassembly.specs.Stands.{IsAnsweredAlike, IsInWindow, IsReadAs, IsSaid, StandsFor, skipped_if}
+use Rattle.sctp_reassembly.specs.Laws.{AForwardThatComesStands, AReadThatHappensStands, DataThatComesStands, SoleDataThatComesStands}
+use Rattle.sctp_reassembly.specs.Stands.{IsAllTogether, IsAnsweredAlike, IsInWindow, IsReadAs, IsSaid, StandsFor, skipped_if}
 use Rattle.sctp_reassembly.proofs.Answering.{read_alike}
 use Rattle.sctp_reassembly.proofs.Arriving.{ordered_pieces_stand}
+use Rattle.sctp_reassembly.proofs.Sole.{sole_unordered_pieces_stand}
 use Rattle.sctp_reassembly.proofs.Skipped.{invariant_window, ordered_skips_stand}
 
 -- what was taken in is no longer new
@@ -56,6 +57,15 @@ data_that_comes_stands initial w k limit r c d l h v e opened n kind said st =
           (ap (push q) (sym piece.is) ∙ sym there ∙ ap (λ (z : Direction). live (z.receiver.queues d.stream)) (sym (came_in w k d e opened n))) both.0,
       both.1,
     )
+
+pub sole_data_that_comes_stands : SoleDataThatComesStands
+sole_data_that_comes_stands initial w k limit r c d e opened n kind first last said st none =
+    let p = w.sender.plan in
+    let q = live (w.receiver.queues d.stream) in
+    let all = sole_unordered_pieces_stand initial p d.stream limit r q c d st none said kind first last in
+    let there : push q d ≡ live ((happens w (Event.DataComes k)).receiver.queues d.stream)
+    = sym (ap live (at_put w.receiver.queues d.stream d.stream (Some (push q d)) refl)) ∙ ap (λ (z : Direction). live (z.receiver.queues d.stream)) (sym (came_in w k d e opened n)) in
+    (subst (StandsFor initial p d.stream (pushed r c).0) there all.0, subst (IsAllTogether (pushed r c).0) there all.1, all.2)
 
 was_so : (w : Direction) (s : ℕ) (q : Queue) → w.receiver.queues s ≡ Some q → w.receiver.is_open ≡ true → happens w (Event.Read s) ≡ was_read w s (next q)
 unfolding happens

@@ -58,6 +58,14 @@ DataThatComesStands = (initial : ℕ) (w : Direction) (k limit : ℕ) (r : Reass
     → d.ordered ≡ true → IsSaid initial c d → StandsFor initial w.sender.plan d.stream r (live (w.receiver.queues d.stream))
     → StandsFor initial w.sender.plan d.stream (pushed r c).0 (live ((happens w (Event.DataComes k)).receiver.queues d.stream)) × IsForBytesAlone (refusal r c limit)
 
+-- DATA of an unordered message of one piece,
+abbrev pub SoleDataThatComesStands : Type 0
+SoleDataThatComesStands = (initial : ℕ) (w : Direction) (k limit : ℕ) (r : Reassembly) (c : ChunkPayloadData) (d : Data)
+    → slice_get w.datas k ≡ Some d → w.receiver.is_open ≡ true → is_new w.receiver d.offset ≡ true → d.ordered ≡ false → d.first ≡ true → d.last ≡ true
+    → IsSaid initial c d → StandsFor initial w.sender.plan d.stream r (live (w.receiver.queues d.stream)) → IsAllTogether r (live (w.receiver.queues d.stream))
+    → StandsFor initial w.sender.plan d.stream (pushed r c).0 (live ((happens w (Event.DataComes k)).receiver.queues d.stream))
+    × IsAllTogether (pushed r c).0 (live ((happens w (Event.DataComes k)).receiver.queues d.stream)) × IsForBytesAlone (refusal r c limit)
+
 -- and a read of a stream that is there.
 abbrev pub AReadThatHappensStands : Type 0
 AReadThatHappensStands = (initial : ℕ) (w : Direction) (s : ℕ) (r : Reassembly) (q : Queue)
