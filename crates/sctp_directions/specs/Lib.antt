@@ -2,3 +2,4 @@ pub mod Plain
 pub mod Said
 pub mod Outgoing
 pub mod Incoming
+pub mod Laws
