@@ -58,7 +58,7 @@ due_shrinks q t e = go (least q.ordered) e
         (λ (b : before_16 q.cursor c ≡ false). last c (begins c q.ordered) refl (sym (cond-false (before_16 q.cursor c) None (taken_out q c (message_in q.ordered c)) b) ∙ f))
         (cases_Bool (before_16 q.cursor c))
 
-read_shrinks : (q : Queue) (t : Taken) → next q ≡ Some t → waiting t.rest < waiting q
+pub read_shrinks : (q : Queue) (t : Taken) → next q ≡ Some t → waiting t.rest < waiting q
 read_shrinks q t e = go q.complete refl e
   where
     go : (c : List Got) → q.complete ≡ c → next_from q c ≡ Some t → length t.rest.complete + length t.rest.ordered < length q.complete + length q.ordered
@@ -70,7 +70,7 @@ read_shrinks q t e = go q.complete refl e
         let c : length q.complete ≡ suc (length gs) = ap length n in
         omega arith
 
-nothing_waits : (q : Queue) → waiting q ≤ 0 → next q ≡ None
+pub nothing_waits : (q : Queue) → waiting q ≤ 0 → next q ≡ None
 nothing_waits q l =
     let a : q.complete ≡ [] = nil_from_length q.complete (omega arith) in
     let b : q.ordered ≡ [] = nil_from_length q.ordered (omega arith) in

@@ -259,7 +259,7 @@ refused_polls : (own peer now n : ℕ) (a b y : Shown) (packets more : List (Lis
 refused_polls own peer now n a b y packets more out coming (inl (had, e)) f = gives_nothing own peer b y packets more out coming (same_settles own peer a b y out coming had.2 f) e
 refused_polls own peer now n a b y packets more out coming (inr (inl (fails, e))) f =
     gives_nothing own peer b y packets more out coming (fails_settle own peer a b y out coming fails.1.marked f) e
-refused_polls own peer now n a b y packets more out coming (inr (inr (working, number, is, polls, kept, e))) f =
+refused_polls own peer now n a b y packets more out coming (inr (inr (working, number, is, polls, (kept, e)))) f =
     let poll = any_polls own peer now a b y (polled a now).1 out coming working (pair_is (polled a now) b is) polls f in
     (poll.settles, take kept (polled a now).1, e,
     all_front (λ (bytes : List ℕ). SaysAll own peer poll.settles.out2 poll.settles.coming2 (packet_in bytes)) kept (polled a now).1 poll.said)

@@ -25,12 +25,15 @@ use Rattle.sctp_pair.specs.declared.step.Reply.{Reply}
 use Rattle.sctp_pair.specs.declared.step.Reply.TheVariants as replies
 use Rattle.sctp_pair.specs.Fits.{StandsClosed, StandsOpen}
 use Rattle.sctp_pair.specs.Steps.{Reads}
-use Rattle.sctp_pair.proofs.Answered.{read_by}
 use Rattle.sctp_pair.proofs.Between.{Does, Faces, None_brought, Settles, does_by_goes, goes_nowhere, nothing_added, nothing_read, other_by_coming}
 use Rattle.sctp_pair.proofs.SimpleCalls.{by_working, closed_on, empty_beside, open_on, same_settles, still}
 use Rattle.sctp_pair.proofs.Status.{IsSameStatus}
 
--- a stream that is found is live, and the association works
+-- what a read with this reply gives on stream s
+abbrev pub read_by : Reply → ℕ → ℕ → Option Message
+read_by (replies.Read message) id s = if id == s then message else None
+read_by r id s = None
+
 found_free : (failed there : Bool) → (if failed then Some errors.ErrAssociationFailed else if there then None else Some errors.ErrStreamNotExisted) ≡ None
     → (failed ≡ false) × (there ≡ true)
 found_free true there e = absurd (true≢false (ap is_some e))

@@ -27,10 +27,14 @@ use Rattle.sctp_pair.specs.declared.step.Reply.TheVariants as replies
 use Rattle.sctp_pair.specs.Fits.{StandsOpen}
 use Rattle.sctp_pair.specs.Steps.{Writes, first_refusal}
 use Rattle.sctp_pair.specs.World.{messages_on}
-use Rattle.sctp_pair.proofs.Answered.{written_by}
 use Rattle.sctp_pair.proofs.Between.{Does, Faces, None_brought, Settles, does_by_goes, goes_nowhere, nothing_read, other_by_out}
 use Rattle.sctp_pair.proofs.SimpleCalls.{by_working, open_on, same_settles}
 use Rattle.sctp_pair.proofs.Status.{IsSameStatus}
+
+-- what a write with this reply adds to what was accepted on stream s
+abbrev pub written_by : Reply → Shown → ℕ → List ℕ → ℕ → List Message
+written_by (replies.Wrote n) a id bytes s = if id == s then messages_on (stream_at a.streams id) bytes else []
+written_by r a id bytes s = []
 
 -- What a write that is not refused can rely on.
 record CanWrite (a : Shown) (id size : ℕ) : Type 0 where

@@ -4,7 +4,7 @@ use Rattle.sctp_receive_queues.specs.Messages.{Message, message_of}
 use Rattle.sctp_receive_queues.specs.Reassembly.{Group, Reassembly, ReadsGiveWhatIsReady, after_read, is_due, messages_held, read_from, read_ordered, ready, ready_on, ready_within, taken}
 
 -- a read takes one of the messages held, or gives none and leaves all as it is
-abbrev TakesOne : Reassembly → Reassembly × Option Message → Type 0
+abbrev pub TakesOne : Reassembly → Reassembly × Option Message → Type 0
 TakesOne q (r, None) = r ≡ q
 TakesOne q (r, Some m) = messages_held q ≡ suc (messages_held r)
 
@@ -21,7 +21,7 @@ takes_one_of : (ms : List Message) (q : Reassembly) → q.complete ≡ ms → Ta
 takes_one_of [] q e = takes_ordered q.ordered q e refl
 takes_one_of (m ∷ ms) q e = rw e (omega arith)
 
-takes_one : (q : Reassembly) → TakesOne q (taken q)
+pub takes_one : (q : Reassembly) → TakesOne q (taken q)
 takes_one q = takes_one_of q.complete q refl
 
 none_within : (n : ℕ) (q : Reassembly) → taken q ≡ (q, None) → ready_within n q ≡ []

@@ -1,0 +1,15 @@
+pub mod Answering
+pub mod Arriving
+pub mod Chains
+pub mod Events
+pub mod Gathered
+pub mod Kept
+pub mod Placed
+pub mod Pushing
+pub mod Putting
+pub mod Reading
+pub mod Ready
+pub mod Skipped
+pub mod Sole
+pub mod Tsns
+pub mod Whole

@@ -1,0 +1,24 @@
+use Rattle.sctp_reassembly.proofs.Answering.{read_alike}
+use Rattle.sctp_reassembly.proofs.Arriving.{ordered_pieces_stand}
+use Rattle.sctp_reassembly.proofs.Ready.{the_same_is_ready}
+use Rattle.sctp_reassembly.proofs.Skipped.{ordered_skips_stand}
+use Rattle.sctp_reassembly.proofs.Sole.{none_comes_to_wait, sole_unordered_pieces_stand}
+use Rattle.sctp_reassembly.proofs.a_reassembly_stands_for_a_queue.Goals as goal
+
+pub returns-clause-pieces : goal.returns-clause-pieces
+returns-clause-pieces c = ordered_pieces_stand
+
+pub returns-clause-reads : goal.returns-clause-reads
+returns-clause-reads c = read_alike
+
+pub returns-clause-skips : goal.returns-clause-skips
+returns-clause-skips c = ordered_skips_stand
+
+pub returns-clause-ready : goal.returns-clause-ready
+returns-clause-ready c = the_same_is_ready
+
+pub returns-clause-unordered : goal.returns-clause-unordered
+returns-clause-unordered c = sole_unordered_pieces_stand
+
+pub returns-clause-together : goal.returns-clause-together
+returns-clause-together c = none_comes_to_wait

@@ -1,0 +1,114 @@
+-- A stream's reassembly stands for a queue of the model: it holds the same pieces, put together by messages (RFC 4960 sections 6.5,
+-- 6.6 and 6.9).
+use Rattle.std.specs.Prelude.{◌≡◌, ℕ, ◌+◌, ◌%◌, ◌<◌, ◌≤◌, ◌⊎◌, true, false, not, List, [], ◌∷◌, ◌++◌, length, map, flat_map, if◌then◌else◌, Option, Some, None, ⊤}
+use Rattle.std.specs.List.{AllByRecursion}
+use Rattle.sctp_wire_types.specs.declared.chunk.ChunkPayloadData.{ChunkPayloadData}
+use Rattle.sctp_wire_types.specs.declared.error.Error.{Error}
+use Rattle.sctp_wire_types.specs.declared.error.Error.TheVariants as errors
+use Rattle.sctp_wire_types.specs.Ids.{number_of}
+use Rattle.sctp_receive_queues.specs.Messages.{Message}
+use Rattle.sctp_receive_queues.specs.Reassembly.{Group, Reassembly, skipped}
+use Rattle.sctp_model.specs.Messages.{Plan, IsAt, place_at}
+use Rattle.sctp_model.specs.Packets.{Data, mem, data_at}
+use Rattle.sctp_model.specs.Serial.{tsn}
+use Rattle.sctp_model.specs.Reassembly.{Got, Queue, Taken, at}
+use Rattle.sctp_model.specs.Safe.{AreRising, Letter, letter_read}
+use Rattle.sctp_model.specs.Invariants.{IsHeld}
+
+-- A DATA chunk is this DATA of a direction with this initial TSN.
+pub record IsSaid (initial : ℕ) (c : ChunkPayloadData) (d : Data) : Type 0 where
+  pub tsn : c.tsn ≡ tsn initial d.offset
+  pub ssn : c.stream_sequence_number ≡ d.ssn
+  pub ordered : c.unordered ≡ not d.ordered
+  pub first : c.beginning_fragment ≡ d.first
+  pub last : c.ending_fragment ≡ d.last
+  pub payload_type : number_of c.payload_type ≡ d.payload_type
+  pub bytes : c.user_data ≡ d.bytes
+
+-- the chunks are the DATA of these offsets, one for each and in the same order
+abbrev pub AreSaid : ℕ → Plan → List ChunkPayloadData → List ℕ → Type 0
+AreSaid initial p [] [] = ⊤
+AreSaid initial p [] (o ∷ os) = ⊥
+AreSaid initial p (c ∷ cs) [] = ⊥
+AreSaid initial p (c ∷ cs) (o ∷ os) = IsSaid initial c (data_at p o) × AreSaid initial p cs os
+
+-- What is held of an ordered message: its stream sequence number before that wraps, and the offsets of the pieces.
+pub record Held : Type 0 where
+  pub number : ℕ
+  pub offsets : List ℕ
+
+-- the offset o is that of a piece of the ordered message with this number on stream s
+pub record IsOf (p : Plan) (s number o : ℕ) : Type 0 where
+  pub at : IsAt p s true o
+  pub sent : (place_at p o).marker ≡ false
+  pub is : (place_at p o).ssn ≡ number
+
+-- A group is what is held of one message: at least one piece, the pieces in the order of their offsets.
+pub record IsGroup (initial : ℕ) (p : Plan) (s : ℕ) (g : Group) (h : Held) : Type 0 where
+  pub ssn : g.ssn ≡ h.number % 65536
+  pub pieces : AreSaid initial p g.pieces h.offsets
+  pub some : 0 < length h.offsets
+  pub rising : AreRising h.offsets
+  pub mine : AllByRecursion (IsOf p s h.number) h.offsets
+
+abbrev pub AreGroups : ℕ → Plan → ℕ → List Group → List Held → Type 0
+AreGroups initial p s [] [] = ⊤
+AreGroups initial p s [] (h ∷ hs) = ⊥
+AreGroups initial p s (g ∷ gs) [] = ⊥
+AreGroups initial p s (g ∷ gs) (h ∷ hs) = IsGroup initial p s g h × AreGroups initial p s gs hs
+
+abbrev pub offsets_in : List Held → List ℕ
+offsets_in hs = flat_map (λ (h : Held). h.offsets) hs
+
+abbrev pub numbers_in : List Held → List ℕ
+numbers_in hs = map (λ (h : Held). h.number) hs
+
+-- what a reader sees of a message
+abbrev pub letter_of : Message → Letter
+letter_of m = record { payload_type = number_of m.payload_type; bytes = m.bytes }
+
+-- The groups ascend strictly by the number of their message, and what the model holds of ordered messages at an offset is its DATA
+-- where one of the groups has it, and nothing elsewhere. The same message is next, and the same unordered messages are complete, in
+-- the same order. Of pieces of unordered messages that aren't complete it says nothing.
+pub record StandsFor (initial : ℕ) (p : Plan) (s : ℕ) (r : Reassembly) (q : Queue) : Type 0 where
+  pub held : List Held
+  pub groups : AreGroups initial p s r.ordered held
+  pub ascends : AreRising (numbers_in held)
+  pub same : (o : ℕ) → at o q.ordered ≡ (if mem o (offsets_in held) then Some (data_at p o) else None)
+  pub next : r.next_ssn ≡ q.cursor
+  pub complete : map letter_of r.complete ≡ map letter_read q.complete
+
+-- What the model's invariant gives of a stream within its span: what is held are pieces that were taken in, their numbers before
+-- they wrap lie from `low` on and less than half the range apart, and so does the cursor, which is `cursor` before it wraps.
+pub record IsInWindow (p : Plan) (taken : List ℕ) (s low cursor : ℕ) (q : Queue) : Type 0 where
+  pub held : AllByRecursion (IsHeld p taken s true low) q.ordered
+  pub near : AllByRecursion (λ (d : Data). (place_at p d.offset).ssn < low + 32767) q.ordered
+  pub is : q.cursor ≡ cursor % 65536
+  pub above : low ≤ cursor
+  pub until : cursor ≤ low + 32767
+
+-- a read answers the same letter on both sides, or nothing on both, and afterwards one stands for the other again
+abbrev pub IsAnsweredAlike : ℕ → Plan → ℕ → Queue → Reassembly × Option Message → Option Taken → Type 0
+IsAnsweredAlike initial p s q (r, None) None = StandsFor initial p s r q
+IsAnsweredAlike initial p s q (r, None) (Some t) = ⊥
+IsAnsweredAlike initial p s q (r, Some m) None = ⊥
+IsAnsweredAlike initial p s q (r, Some m) (Some t) = (letter_of m ≡ letter_read t.got) × StandsFor initial p s r t.rest
+
+-- where it is refused at all, that is for the bytes that its message would have, and not for a contradiction
+abbrev pub IsForBytesAlone : Option Error → Type 0
+IsForBytesAlone e = (e ≡ None) ⊎ (e ≡ Some errors.ErrInboundMessageTooLarge)
+
+-- no piece of an unordered message waits for others
+pub record IsAllTogether (r : Reassembly) (q : Queue) : Type 0 where
+  pub here : r.unordered ≡ []
+  pub there : q.unordered ≡ []
+
+-- what a read answers is what the model's reader got
+abbrev pub IsReadAs : Option Message → List Got → List Got → Type 0
+IsReadAs None before after = after ≡ before
+IsReadAs (Some m) before after = (g : Got) × (after ≡ before ++ g ∷ []) × (letter_of m ≡ letter_read g)
+
+-- a skip where a FORWARD TSN reports a sequence number for the stream
+abbrev pub skipped_if : Reassembly → Option ℕ → Reassembly
+skipped_if r None = r
+skipped_if r (Some m) = skipped r m
