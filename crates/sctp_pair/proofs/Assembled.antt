@@ -1,4 +1,4 @@
--- Each step of a pair leads safely, where each poll for packets settles between an association's directions.
+-- Each step of a pair leads safely.
 use Rattle.std.proofs.Common.{◌≡◌, refl, sym, ap, ◌∙◌, subst, ℕ, List, [], ◌++◌, Option, Some, None}
 use Rattle.std.specs.Prelude.{slice_get}
 use Rattle.std.proofs.lemmas.List.{append-nil}
@@ -23,22 +23,11 @@ use Rattle.sctp_pair.proofs.Between.{Faces, None_brought, Settles, nothing_added
 use Rattle.sctp_pair.proofs.Settled.{IsCallAt, faces_a, faces_b, settled_a, settled_b}
 use Rattle.sctp_pair.proofs.Answered.{IsQuiet, quiet_call, read_call, write_call}
 use Rattle.sctp_pair.proofs.Packets.{packet_settles}
+use Rattle.sctp_pair.proofs.Polls.{poll_settles}
 use Rattle.sctp_pair.proofs.ReadCall.{read_by, reads_settle}
 use Rattle.sctp_pair.proofs.SimpleCalls.{buffers_same, finds_same, measures_same, opens_settle, same_settles}
 use Rattle.sctp_pair.proofs.TimedCalls.{expires_settle, tells_settle}
 use Rattle.sctp_pair.proofs.WriteCall.{writes_settle, written_by}
-use Rattle.sctp_pair.proofs.Worlds.{StepsLead}
-
--- A poll settles, and what it gave out says what its directions have.
-abbrev pub PollSettles : ℕ → ℕ → Shown → Shown → List (List ℕ) → List (List ℕ) → Direction → Direction → Type 0
-PollSettles own peer b y packets more out coming =
-    (s : Settles own peer b y out coming nothing_added nothing_read None_brought) × (given : List (List ℕ))
-    × (more ≡ packets ++ given) × AreSaid own peer s.out2 s.coming2 given
-
--- Each poll of an association that faces another one settles so.
-abbrev pub PollsSettle : Type 0
-PollsSettle = (own peer now : ℕ) (a b y : Shown) (packets more : List (List ℕ)) (r : Reply) (out coming : Direction) → GivesOut a packets now r b more
-    → Faces own peer a y out coming → PollSettles own peer b y packets more out coming
 
 -- the initial TSN of the DATA that comes to a side
 abbrev initial_to : Side2 → World → ℕ
@@ -71,14 +60,14 @@ same_leads side step r q w Changes stays quiet fits h ends =
     quiet_leads side step r q w Changes (λ own peer a b y out coming x f. same_settles own peer a b y out coming (stays a b x) f) quiet fits h ends
 
 -- A poll for packets leads safely.
-send_leads : PollsSettle → (side : Side2) (now : ℕ) (r : Reply) (q : Ends) (w : World) → Fits w.ends w → SendsAt side w.ends now r q
+send_leads : (side : Side2) (now : ℕ) (r : Reply) (q : Ends) (w : World) → Fits w.ends w → SendsAt side w.ends now r q
     → LeadsSafely (steps.PollTransmit side now) r w q
-send_leads settle sides.A now r q w fits (h, e) =
-    let x = settle w.initial_a w.initial_b now w.ends.a q.a w.ends.b w.ends.packets_a q.packets_a r w.ab w.ba h (faces_a w fits) in
+send_leads sides.A now r q w fits (h, e) =
+    let x = poll_settles w.initial_a w.initial_b now w.ends.a q.a w.ends.b w.ends.packets_a q.packets_a r w.ab w.ba h (faces_a w fits) in
     settled_a (steps.PollTransmit sides.A now) r q w nothing_added nothing_read None_brought x.1 fits (ap (λ (z : Ends). z.b) e) x.2 (ap (λ (z : Ends). z.packets_b) e)
     (h, e) x.0 x.3 (quiet_call (steps.PollTransmit sides.A now) r sides.A w w.initial_b (λ y s. (refl, refl)))
-send_leads settle sides.B now r q w fits (h, e) =
-    let x = settle w.initial_b w.initial_a now w.ends.b q.b w.ends.a w.ends.packets_b q.packets_b r w.ba w.ab h (faces_b w fits) in
+send_leads sides.B now r q w fits (h, e) =
+    let x = poll_settles w.initial_b w.initial_a now w.ends.b q.b w.ends.a w.ends.packets_b q.packets_b r w.ba w.ab h (faces_b w fits) in
     settled_b (steps.PollTransmit sides.B now) r q w nothing_added nothing_read None_brought x.1 fits (ap (λ (z : Ends). z.a) e) x.2 (ap (λ (z : Ends). z.packets_a) e)
     (h, e) x.0 x.3 (quiet_call (steps.PollTransmit sides.B now) r sides.B w w.initial_a (λ y s. (refl, refl)))
 
@@ -122,38 +111,39 @@ come_leads sides.B number now r q w fits (h, e) =
     record { adds = λ s. refl; reads = λ s. refl; brings = λ o b. b; adds_alone = λ s. refl; reads_alone = λ s. refl }
 
 -- each step from the pair of the world
-step_at : PollsSettle → (step : Step) (q : Ends) (r : Reply) (w : World) → Steps step w.ends r q → Fits w.ends w → LeadsSafely step r w q
-step_at settle (steps.OpenStream side id kind) q r w h fits =
+step_at : (step : Step) (q : Ends) (r : Reply) (w : World) → Steps step w.ends r q → Fits w.ends w → LeadsSafely step r w q
+step_at (steps.OpenStream side id kind) q r w h fits =
     quiet_leads side (steps.OpenStream side id kind) r q w (λ a b. Opens a id kind r b)
     (λ own peer a b y out coming x f. opens_settle own peer a b y out coming id kind r x f) (λ y s. (refl, refl)) fits h h
-step_at settle (steps.Stream side id) q r w h fits =
+step_at (steps.Stream side id) q r w h fits =
     same_leads side (steps.Stream side id) r q w (λ a b. Finds a id r b) (λ a b x. finds_same a id r b x) (λ y s. (refl, refl)) fits h h
-step_at settle (steps.Write side id bytes) q r w h fits =
+step_at (steps.Write side id bytes) q r w h fits =
     change_leads side (steps.Write side id bytes) r q w (λ a b. Writes a id bytes r b) (λ a. written_by r a id bytes) nothing_read
     (λ own peer a b y out coming x f. writes_settle own peer a b y out coming id bytes r x f) (write_call side id bytes r w (initial_to side w)) fits h h
-step_at settle (steps.Read side id) q r w h fits =
+step_at (steps.Read side id) q r w h fits =
     change_leads side (steps.Read side id) r q w (λ a b. Reads a id r b) (λ a. nothing_added) (read_by r id)
     (λ own peer a b y out coming x f. reads_settle own peer a b y out coming id r x f) (read_call side id r w (initial_to side w)) fits h h
-step_at settle (steps.BufferedAmount side id) q r w h fits =
+step_at (steps.BufferedAmount side id) q r w h fits =
     same_leads side (steps.BufferedAmount side id) r q w (λ a b. Buffers a id r b) (λ a b x. buffers_same a id r b x) (λ y s. (refl, refl)) fits h h
-step_at settle (steps.Poll side) q r w h fits =
+step_at (steps.Poll side) q r w h fits =
     quiet_leads side (steps.Poll side) r q w (λ a b. Tells a r b)
     (λ own peer a b y out coming x f. tells_settle own peer a b y out coming r x f) (λ y s. (refl, refl)) fits h h
-step_at settle (steps.PollTimeout side) q r w h fits =
+step_at (steps.PollTimeout side) q r w h fits =
     same_leads side (steps.PollTimeout side) r q w _ (λ a b x. x.1) (λ y s. (refl, refl)) fits h h
-step_at settle (steps.PollTransmit side now) q r w h fits = send_leads settle side now r q w fits h
-step_at settle (steps.HandleTimeout side now) q r w h fits =
+step_at (steps.PollTransmit side now) q r w h fits = send_leads side now r q w fits h
+step_at (steps.HandleTimeout side now) q r w h fits =
     quiet_leads side (steps.HandleTimeout side now) r q w (λ a b. Expires a now r b)
     (λ own peer a b y out coming x f. expires_settle own peer a b y out coming now r x f) (λ y s. (refl, refl)) fits h h
-step_at settle (steps.Deliver side number now) q r w h fits = come_leads side number now r q w fits h
-step_at settle (steps.IsHandshaking side) q r w h fits = same_leads side (steps.IsHandshaking side) r q w _ (λ a b x. x.1) (λ y s. (refl, refl)) fits h h
-step_at settle (steps.IsClosed side) q r w h fits = same_leads side (steps.IsClosed side) r q w _ (λ a b x. x.1) (λ y s. (refl, refl)) fits h h
-step_at settle (steps.IsClosing side) q r w h fits = same_leads side (steps.IsClosing side) r q w _ (λ a b x. x.1) (λ y s. (refl, refl)) fits h h
-step_at settle (steps.IsDrained side) q r w h fits = same_leads side (steps.IsDrained side) r q w _ (λ a b x. x.1) (λ y s. (refl, refl)) fits h h
-step_at settle (steps.IsFailed side) q r w h fits = same_leads side (steps.IsFailed side) r q w _ (λ a b x. x.1) (λ y s. (refl, refl)) fits h h
-step_at settle (steps.Rtt side) q r w h fits = same_leads side (steps.Rtt side) r q w (λ a b. Measures a r b) (λ a b x. measures_same a r b x) (λ y s. (refl, refl)) fits h h
+step_at (steps.Deliver side number now) q r w h fits = come_leads side number now r q w fits h
+step_at (steps.IsHandshaking side) q r w h fits = same_leads side (steps.IsHandshaking side) r q w _ (λ a b x. x.1) (λ y s. (refl, refl)) fits h h
+step_at (steps.IsClosed side) q r w h fits = same_leads side (steps.IsClosed side) r q w _ (λ a b x. x.1) (λ y s. (refl, refl)) fits h h
+step_at (steps.IsClosing side) q r w h fits = same_leads side (steps.IsClosing side) r q w _ (λ a b x. x.1) (λ y s. (refl, refl)) fits h h
+step_at (steps.IsDrained side) q r w h fits = same_leads side (steps.IsDrained side) r q w _ (λ a b x. x.1) (λ y s. (refl, refl)) fits h h
+step_at (steps.IsFailed side) q r w h fits = same_leads side (steps.IsFailed side) r q w _ (λ a b x. x.1) (λ y s. (refl, refl)) fits h h
+step_at (steps.Rtt side) q r w h fits = same_leads side (steps.Rtt side) r q w (λ a b. Measures a r b) (λ a b x. measures_same a r b x) (λ y s. (refl, refl)) fits h h
 
--- Where each poll for packets settles, each step of a pair leads safely.
-pub steps_lead_by_polls : PollsSettle → StepsLead
-steps_lead_by_polls settle step p q r w h fits = step_at settle step q r w
+-- From each world in which a pair stands, a step leads to a next one; where that is within the limits, the pair stands in it, and it
+-- is safe.
+pub step_leads : (step : Step) (p q : Ends) (r : Reply) → Steps step p r q → (w : World) → Fits p w → LeadsSafely step r w q
+step_leads step p q r h w fits = step_at step q r w
     (subst (λ (z : Ends). Steps step z r q) fits.is h) (subst (λ (z : Ends). Fits z w) fits.is fits)

@@ -121,7 +121,7 @@ impl Pair {
     ///
     /// From each world in which the pair stands, the steps lead from world to world, safe after each of them, as long as each world
     /// is within the limits.
-    #[tactic(auto, using(crate::proofs::Headline::runs_lead))]
+    #[tactic(auto, using(crate::proofs::Worlds::runs_lead))]
     pub fn run(&mut self, steps: &[Step]) -> Result<Vec<Reply>, Error>
         ensures ok { IfOk result (λ replies. Runs steps.now replies.items self.old self.new) }
         ensures refused { OnErr result ((result ≡ Err Error.ErrNoMemory) × (self.new ≡ self.old)) }
@@ -134,7 +134,7 @@ impl Pair {
     ///
     /// From each world in which the pair stands, it leads to a next one; where that is within the limits, the pair stands in it, and
     /// it is safe.
-    #[tactic(auto, using(crate::proofs::Headline::step_leads))]
+    #[tactic(auto, using(crate::proofs::Assembled::step_leads))]
     pub fn step(&mut self, step: &Step) -> Reply
         ensures exact { Steps step.now self.old result self.new }
         ensures headline { (w : World) → Fits self.old w → LeadsSafely step.now result w self.new }
