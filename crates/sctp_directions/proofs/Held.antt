@@ -129,8 +129,7 @@ all_later p n m o [] (d ∷ ds) h l u e = absurd h
 all_later p n m o (g ∷ gs) [] h l u e = absurd h
 all_later p n m o (g ∷ gs) (d ∷ ds) h l u e =
     let f = number_later n m d.ssn (h.0).ssn l (omega arith) in
-    let i = (h.0).message in
-    (
+    let i = (h.0).message in (
       record {
         after = f.0;
         other = f.1;

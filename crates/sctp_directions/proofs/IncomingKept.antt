@@ -122,8 +122,7 @@ held_kept p q e n [] [] h = tt
 held_kept p q e n [] (d ∷ ds) h = absurd h
 held_kept p q e n (g ∷ gs) [] h = absurd h
 held_kept p q e n (g ∷ gs) (d ∷ ds) h =
-    let i = h.0 in
-    (
+    let i = h.0 in (
       record {
         piece = i.piece;
         pieces = i.pieces;

@@ -74,14 +74,16 @@ at_point initial w c d said at given within inv h =
 pub took_fits : (a : Parts) (piece : ChunkPayloadData) (k : ℕ) (d : Data) (t : Stream) (w : Direction) → Can (Act.Took piece) a → slice_get w.datas k ≡ Some d
     → IsSaid a.history.peer piece d → stream_at a.streams piece.stream_identifier ≡ Some t → IsWithin w → Invariant w → IsPlain w → FitsIncoming a w
     → (d.offset ≡ point w.receiver) × FitsIncoming (done (Act.Took piece) a) (happens w (Event.DataComes k))
-took_fits a piece k d t w can e said there within inv h fits =
-    (here, subst (FitsIncoming (done (Act.Took piece) a)) (sym (data_taken w k d e fits.is_open here)) (record {
-      is_open = fits.is_open;
-      taken = ap (λ z. z ∷ a.history.taken) (fits.at ∙ sym here) ∙ ap (λ z. d.offset ∷ z) fits.taken;
-      passed = fits.passed;
-      at = let f = fits.at in omega (arith, grown);
-      queues = λ s. subst (λ z. IsQueueAt p (ends s) (count_below p s z) (stream_at (pushed_in a.streams id piece).0 s) ((took w.receiver d).queues s)) (sym grown) (queues s);
-    }))
+took_fits a piece k d t w can e said there within inv h fits = (
+  here,
+  subst (FitsIncoming (done (Act.Took piece) a)) (sym (data_taken w k d e fits.is_open here)) (record {
+    is_open = fits.is_open;
+    taken = ap (λ z. z ∷ a.history.taken) (fits.at ∙ sym here) ∙ ap (λ z. d.offset ∷ z) fits.taken;
+    passed = fits.passed;
+    at = let f = fits.at in omega (arith, grown);
+    queues = λ s. subst (λ z. IsQueueAt p (ends s) (count_below p s z) (stream_at (pushed_in a.streams id piece).0 s) ((took w.receiver d).queues s)) (sym grown) (queues s);
+  }),
+)
   where
     p : Plan
     p = w.sender.plan

@@ -1,9 +1,9 @@
 -- Which events keep the model's invariant whether or not the limits hold: all that an association's directions meet but DATA that
 -- comes and a read.
-use Rattle.std.proofs.Common.{◌≡◌, refl, ◌∙◌, sym, ℕ, Bool, true, false, cond, eqb, ltb, Option, Some, None}
+use Rattle.std.proofs.Common.{◌≡◌, refl, ℕ, Bool, true, false, cond, ltb, Option, Some, None}
 use Rattle.std.specs.Prelude.{slice_get}
 use Rattle.std.proofs.lemmas.Bool.{cond-true, cond_both, ltb-false}
-use Rattle.sctp_model.specs.Messages.{Message, Place, message_at}
+use Rattle.sctp_model.specs.Messages.{Message, Place}
 use Rattle.sctp_model.specs.Packets.{Sack}
 use Rattle.sctp_model.specs.Machine.{Direction, Event, acknowledged_by, begin, begin_if, can_begin, happens, number_for, point, sack_comes}
 use Rattle.sctp_model.specs.Invariants.{Invariant, IsHonest}

@@ -71,10 +71,15 @@ sent_again a place w can h f = by_piece (slice_get a.queue.in_flight place) refl
                 waiting = f.waiting;
                 own_streams = f.own_streams;
               }));
-          given = subst (λ o. AllByRecursion (IsGiven a.history.own (happens w (Event.Resend (w.sender.point + place)))) (chunk_said o (tsn a.history.own (a.history.base + place)))) (sym e)
-              (subst (λ v. IsGiven a.history.own v (chunk_of x (tsn a.history.own (a.history.base + place)))) (sym event)
-              (length w.datas, data_at w.sender.plan (w.sender.point + place), got_last w.datas _,
-              subst (λ b. IsSaid a.history.own (chunk_of x (tsn a.history.own (b + place))) (data_at w.sender.plan (w.sender.point + place))) (sym f.base) here.said), tt);
+          given = subst (λ o. AllByRecursion (IsGiven a.history.own (happens w (Event.Resend (w.sender.point + place)))) (chunk_said o (tsn a.history.own (a.history.base + place)))) (sym e) (
+            subst (λ v. IsGiven a.history.own v (chunk_of x (tsn a.history.own (a.history.base + place)))) (sym event) (
+              length w.datas,
+              data_at w.sender.plan (w.sender.point + place),
+              got_last w.datas _,
+              subst (λ b. IsSaid a.history.own (chunk_of x (tsn a.history.own (b + place))) (data_at w.sender.plan (w.sender.point + place))) (sym f.base) here.said,
+            ),
+            tt,
+          );
         }
 
 -- a mark for sending again says nothing of a piece

@@ -83,8 +83,11 @@ module _ (a : Parts) (now : ℕ) (x : Waiting) (xs : List Waiting) (w : Directio
   new_flies : IsInFlight a.history.own (begun_by w x).sender.plan a.streams
       (length w.sender.plan.places) (sent_once now x)
   new_flies = record {
-    known = omega (arith, length_push w.sender.plan.places
-        (place_of w x));
+    known = omega (
+      arith,
+      length_push w.sender.plan.places
+          (place_of w x),
+    );
     said = subst (λ z. IsSaid a.history.own (chunk_of (sent_once now x) (tsn a.history.own (length w.sender.plan.places)))
         (data_of (begun_by w x).sender.plan (length w.sender.plan.places) z))
         (sym now_on) (said (length w.sender.plan.places));
@@ -111,9 +114,9 @@ module _ (a : Parts) (now : ℕ) (x : Waiting) (xs : List Waiting) (w : Directio
     _,
     got_last w.datas _,
     subst (λ o. IsSaid a.history.own (next_chunk_of x (tsn a.history.own o)) (next_data w.sender (place_of w x)))
-    (let n = flight_length a.history.own w.sender.plan a.streams w.sender.point a.queue.in_flight f.flight in let b = f.base in
-    let e : length w.sender.plan.places ≡ a.history.base + length a.queue.in_flight = omega arith in e)
-    new_flies.said,
+        (let n = flight_length a.history.own w.sender.plan a.streams w.sender.point a.queue.in_flight f.flight in let b = f.base in
+        let e : length w.sender.plan.places ≡ a.history.base + length a.queue.in_flight = omega arith in e)
+        new_flies.said,
   )
 
 -- What the association sent is the next message of some stream s, which begins.
@@ -131,15 +134,19 @@ sent a now w can inv h f = by_first a.queue.pending refl can f.waiting
         → (s : ℕ) × IsBegun a (Act.Sent now) w s
     by_first [] e c all = absurd (true≢false (sym c))
     by_first (x ∷ xs) e c (k, rest) =
-        let event = happens_begin w x.message.stream_identifier (w.sender.next x.message.stream_identifier) 0 refl k.known h in
-        (x.message.stream_identifier, record {
-          known = k.known;
-          fits = subst (FitsOutgoing (done (Act.Sent now) a)) (sym event)
-              (subst (λ ps. FitsOutgoing (record a { queue = sent_from ps a.queue now }) (begun_by w x)) (sym e)
-              (fits_begun a now x xs w inv h f k rest));
-          plain = subst IsPlain (sym event) (plain_begun w x.message.stream_identifier (w.sender.next x.message.stream_identifier) refl h);
-          given = subst (λ ps. AllByRecursion (IsGiven a.history.own (happens w (Event.Begin x.message.stream_identifier (w.sender.next x.message.stream_identifier) 0)))
-              (first_chunk_said ps (tsn a.history.own (a.history.base + length a.queue.in_flight)))) (sym e)
-              (subst (λ v. IsGiven a.history.own v (next_chunk_of x (tsn a.history.own (a.history.base + length a.queue.in_flight)))) (sym event)
-              (given_begun a now x xs w inv h f k rest), tt);
-        })
+        let event = happens_begin w x.message.stream_identifier (w.sender.next x.message.stream_identifier) 0 refl k.known h in (
+          x.message.stream_identifier,
+          record {
+            known = k.known;
+            fits = subst (FitsOutgoing (done (Act.Sent now) a)) (sym event)
+                (subst (λ ps. FitsOutgoing (record a { queue = sent_from ps a.queue now }) (begun_by w x)) (sym e)
+                (fits_begun a now x xs w inv h f k rest));
+            plain = subst IsPlain (sym event) (plain_begun w x.message.stream_identifier (w.sender.next x.message.stream_identifier) refl h);
+            given = subst (λ ps. AllByRecursion (IsGiven a.history.own (happens w (Event.Begin x.message.stream_identifier (w.sender.next x.message.stream_identifier) 0)))
+                (first_chunk_said ps (tsn a.history.own (a.history.base + length a.queue.in_flight)))) (sym e) (
+                  subst (λ v. IsGiven a.history.own v (next_chunk_of x (tsn a.history.own (a.history.base + length a.queue.in_flight)))) (sym event)
+                      (given_begun a now x xs w inv h f k rest),
+                  tt,
+                );
+          },
+        )

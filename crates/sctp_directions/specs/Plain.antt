@@ -1,6 +1,6 @@
 -- A direction as associations use it so far: each message is ordered, reliable and of one piece, none is given up, and DATA is
 -- taken in where it is next in order alone.
-use Rattle.std.specs.Prelude.{◌≡◌, ℕ, zero, suc, ◌+◌, ◌<◌, ◌≤◌, Bool, true, false, List, [], length, ◌==◌, nat_lt, if◌then◌else◌, Option, None}
+use Rattle.std.specs.Prelude.{◌≡◌, ℕ, zero, suc, ◌+◌, ◌<◌, ◌≤◌, true, false, [], length, ◌==◌, nat_lt, if◌then◌else◌, None}
 use Rattle.std.specs.List.{AllByRecursion}
 use Rattle.sctp_model.specs.Messages.{Message, Place, Plan, Policy, message_at, place_at}
 use Rattle.sctp_model.specs.Packets.{Sack, mem}

@@ -1,21 +1,17 @@
 -- One association between its two directions, while the other one stands still: what each of its acts makes of them.
-use Rattle.std.proofs.Common.{◌≡◌, refl, sym, ap, ◌∙◌, subst, ◌⊎◌, ⊎_elim, inl, inr, ℕ, zero, suc, ◌<◌, ◌≤◌, ◌+◌, arith, Bool, true, false, List, [], ◌∷◌, ◌++◌, length, Option, Some, None}
+use Rattle.std.proofs.Common.{◌≡◌, refl, sym, ap, ◌∙◌, subst, ◌⊎◌, ⊎_elim, inl, inr, ℕ, true, List, [], ◌∷◌, ◌++◌, Option, Some, None}
 use Rattle.std.specs.Prelude.{slice_get}
-use Rattle.std.specs.List.{AllByRecursion}
-use Rattle.sctp_wire_types.specs.declared.chunk.ChunkPayloadData.{ChunkPayloadData}
 use Rattle.std.proofs.lemmas.List.{append-nil}
 use Rattle.sctp_receive_queues.specs.Messages as letters
-use Rattle.sctp_model.specs.Messages.{Message, Plan}
+use Rattle.sctp_model.specs.Messages.{Message}
 use Rattle.sctp_model.specs.Packets.{Data, Sack, mem}
-use Rattle.sctp_model.specs.Reassembly.{Got}
 use Rattle.sctp_model.specs.Machine.{Direction, Event, Sender, happens, run}
 use Rattle.sctp_model.specs.Invariants.{Invariant}
 use Rattle.sctp_model.specs.Safe.{IsWithin}
 use Rattle.sctp_outbound_queue.specs.Outbound.{Outbound}
-use Rattle.sctp_assoc.specs.Acts.{Act, Can, Parts, data_given, done, parts}
+use Rattle.sctp_assoc.specs.Acts.{Parts, parts}
 use Rattle.sctp_assoc.specs.Shown.{Shown}
 use Rattle.sctp_directions.specs.Plain.{IsPlain}
-use Rattle.sctp_directions.specs.Said.{IsGiven}
 use Rattle.sctp_directions.specs.Outgoing.{FitsOutgoing}
 use Rattle.sctp_directions.specs.Incoming.{FitsIncoming, IsReadAs}
 use Rattle.sctp_pair.specs.Fits.{Stands, StandsClosed, StandsFailed, StandsOpen}

@@ -1,10 +1,10 @@
 -- What one association gives out: DATA of its direction, sent for the first time or again, while what comes to it stands still.
-use Rattle.std.proofs.Common.{◌≡◌, refl, sym, ap, ◌∙◌, subst, ◌⊎◌, inl, ℕ, zero, suc, ◌+◌, Bool, true, false, List, [], ◌∷◌, ◌++◌, length, Option, Some, None}
+use Rattle.std.proofs.Common.{◌≡◌, refl, sym, ap, ◌∙◌, subst, inl, ℕ, ◌+◌, true, List, [], ◌∷◌, ◌++◌, Some}
 use Rattle.std.specs.Prelude.{⊤, slice_get}
 use Rattle.std.specs.List.{AllByRecursion}
 use Rattle.sctp_wire_types.specs.declared.chunk.ChunkPayloadData.{ChunkPayloadData}
-use Rattle.sctp_model.specs.Packets.{Data, Sack, mem}
-use Rattle.sctp_model.specs.Machine.{Direction, Event, Receiver, happens, run}
+use Rattle.sctp_model.specs.Packets.{Sack, mem}
+use Rattle.sctp_model.specs.Machine.{Direction, Event, Receiver, happens}
 use Rattle.sctp_model.specs.Safe.{IsWithin}
 use Rattle.sctp_assoc.specs.Acts.{Act, Can, CanAll, Parts, all_data_given, data_given, done, done_all}
 use Rattle.sctp_assoc.specs.Shown.{Shown}
@@ -94,24 +94,26 @@ pub act_acknowledged : (own peer n k : ℕ) (x : Sack) (p : Parts) (y : Shown) (
     → slice_get out.sacks k ≡ Some x → x.point ≡ out.sender.point + n → Can (Act.Acknowledged n) p
     → (after : AfterOut own peer (done (Act.Acknowledged n) p) y out coming []) × (IsWithin out → IsWithin after.out2)
 act_acknowledged own peer n k x p y out coming h e at can =
-    let event = sent_sack_comes out k in
-    (record {
-      out2 = happens out (Event.SackComes k);
-      goes = goes_by_sent None_brought out (Event.SackComes k) event;
-      holds = record {
-        own_is = (same_initials (Act.Acknowledged n) p).0 ∙ h.own_is;
-        peer_is = (same_initials (Act.Acknowledged n) p).1 ∙ h.peer_is;
-        invariant_out = invariant_sack out k h.invariant_out;
-        invariant_coming = h.invariant_coming;
-        plain_out = plain_sack_comes out k h.plain_out;
-        plain_coming = h.plain_coming;
-        outgoing = acknowledged p n k x out e at can h.invariant_out h.plain_out h.outgoing;
-        incoming = acknowledged_fits n p coming h.incoming;
-        other = other_by_out peer own y coming out (happens out (Event.SackComes k)) (λ a f. sack_comes_fits a out k h.invariant_out h.plain_out f)
-            (ap (λ (r : Receiver). r.is_open) event.on.receiver) h.other;
-      };
-      said = tt;
-    }, λ within. within_sack_comes out k within)
+    let event = sent_sack_comes out k in (
+      record {
+        out2 = happens out (Event.SackComes k);
+        goes = goes_by_sent None_brought out (Event.SackComes k) event;
+        holds = record {
+          own_is = (same_initials (Act.Acknowledged n) p).0 ∙ h.own_is;
+          peer_is = (same_initials (Act.Acknowledged n) p).1 ∙ h.peer_is;
+          invariant_out = invariant_sack out k h.invariant_out;
+          invariant_coming = h.invariant_coming;
+          plain_out = plain_sack_comes out k h.plain_out;
+          plain_coming = h.plain_coming;
+          outgoing = acknowledged p n k x out e at can h.invariant_out h.plain_out h.outgoing;
+          incoming = acknowledged_fits n p coming h.incoming;
+          other = other_by_out peer own y coming out (happens out (Event.SackComes k)) (λ a f. sack_comes_fits a out k h.invariant_out h.plain_out f)
+              (ap (λ (r : Receiver). r.is_open) event.on.receiver) h.other;
+        };
+        said = tt;
+      },
+      λ within. within_sack_comes out k within,
+    )
 
 -- acts that give out DATA
 abbrev pub GivesData : Act → Type 0

@@ -1,5 +1,5 @@
 -- A packet of the other side comes to one association.
-use Rattle.std.proofs.Common.{◌≡◌, refl, sym, ap, ◌∙◌, subst, ◌⊎◌, ⊎_elim, inl, inr, ℕ, zero, suc, ◌<◌, ◌≤◌, ◌+◌, ◌-◌, ◌%◌, ◌^◌, arith, Bool, true, false, eqb, if◌then◌else◌, List, [], ◌∷◌, ◌++◌, length, Option, Some, None, Result, Ok, Err}
+use Rattle.std.proofs.Common.{◌≡◌, refl, sym, ap, ◌∙◌, subst, ◌⊎◌, ⊎_elim, inl, inr, ℕ, ◌<◌, ◌≤◌, ◌+◌, ◌-◌, ◌%◌, ◌^◌, arith, Bool, true, false, eqb, if◌then◌else◌, List, [], ◌∷◌, ◌++◌, length, Option, Some, None, Result, Ok, Err}
 use Rattle.std.specs.Prelude.{⊤, slice_get}
 use Rattle.std.specs.List.{AllByRecursion}
 use Rattle.std.proofs.lemmas.Bool.{cond-true, eq-eqb, false≢true}
@@ -14,36 +14,35 @@ use Rattle.sctp_wire_types.specs.Errors.{refusal_number}
 use Rattle.sctp_wire_types.specs.Checks.{checked_chunk}
 use Rattle.sctp_wire_types.specs.Serial.{tsn_past}
 use Rattle.sctp_wire.specs.declared.packet.Packet.{Packet}
-use Rattle.sctp_model.specs.Packets.{Data, Sack, mem}
+use Rattle.sctp_model.specs.Packets.{mem}
 use Rattle.sctp_model.specs.Serial.{tsn}
 use Rattle.sctp_model.specs.Machine.{Direction, Event, happens, point}
-use Rattle.sctp_model.specs.Invariants.{IsHonest, Invariant}
+use Rattle.sctp_model.specs.Invariants.{IsHonest}
 use Rattle.sctp_model.specs.Safe.{IsWithin}
 use Rattle.sctp_model.proofs.Lists.{all_get}
 use Rattle.sctp_parts.specs.declared.state.AssociationState.{AssociationState}
 use Rattle.sctp_parts.specs.declared.state.AssociationState.TheVariants as states
 use Rattle.sctp_queues.specs.declared.event.AssociationError.TheVariants as reasons
 use Rattle.sctp_queues.specs.Stream.{Stream}
-use Rattle.sctp_queues.specs.Streams.{stream_at}
 use Rattle.sctp_inbound.specs.declared.receiver.AckWish.{AckWish}
 use Rattle.sctp_inbound.specs.declared.receiver.AckWish.TheVariants as wishes
 use Rattle.sctp_outbound.specs.declared.sender.SackOutcome.{SackOutcome}
 use Rattle.sctp_outbound.specs.declared.sender.SackOutcome.TheVariants as outcomes
-use Rattle.sctp_outbound.specs.Sender.{acked_point_of, points_to, sack_outcome}
-use Rattle.sctp_assoc.specs.Acts.{Act, Binds, Can, CanAll, History, Leads, Parts, done, done_all, parts, tsn_before}
+use Rattle.sctp_outbound.specs.Sender.{points_to, sack_outcome}
+use Rattle.sctp_assoc.specs.Acts.{Act, Binds, CanAll, History, done, done_all, parts, tsn_before}
 use Rattle.sctp_assoc.specs.Calls.{closed_by, closed_open, is_closed_state, is_established}
 use Rattle.sctp_assoc.specs.Chunks.{after_chunks, after_packet, after_packet_of, ended, on_chunk}
-use Rattle.sctp_assoc.specs.Happened.{acts_of_checked, acts_of_chunk, acts_of_outcome, acts_of_sack}
-use Rattle.sctp_assoc.specs.Shown.{HasFailed, Shown}
+use Rattle.sctp_assoc.specs.Happened.{acts_of_checked, acts_of_chunk, acts_of_outcome}
+use Rattle.sctp_assoc.specs.Shown.{Shown}
 use Rattle.sctp_assoc.proofs.Carrying.{chunks_carry}
 use Rattle.sctp_assoc.proofs.Joining.{chunk_leads}
-use Rattle.sctp_directions.specs.Said.{IsGiven, IsMade, IsSaid, Says, SaysAll}
+use Rattle.sctp_directions.specs.Said.{IsGiven, IsMade, Says, SaysAll}
 use Rattle.sctp_directions.proofs.IncomingStreams.{point_known}
 use Rattle.sctp_directions.proofs.Invariants.{invariant_close}
 use Rattle.sctp_directions.proofs.PlainReceiver.{close_received, close_takes, closed, plain_close}
 use Rattle.sctp_directions.proofs.OutgoingKept.{flight_length}
 use Rattle.sctp_directions.proofs.Streams.{at_made}
-use Rattle.sctp_pair.specs.Fits.{Stands, StandsClosed, StandsFailed, StandsOpen}
+use Rattle.sctp_pair.specs.Fits.{StandsClosed, StandsFailed, StandsOpen}
 use Rattle.sctp_pair.specs.declared.step.Reply.{Reply}
 use Rattle.sctp_pair.specs.declared.step.Reply.TheVariants as replies
 use Rattle.sctp_pair.specs.Steps.{Fails, HadFailed, TakesPacket}
@@ -51,7 +50,7 @@ use Rattle.sctp_pair.specs.World.{HasData}
 use Rattle.sctp_pair.proofs.Between.{Faces, Goes, Holds, None_brought, Settles, does_by_goes, goes_nowhere, goes_on, nothing_added, nothing_read, other_by_coming}
 use Rattle.sctp_pair.proofs.Giving.{AfterOut, act_acknowledged}
 use Rattle.sctp_pair.proofs.SimpleCalls.{fails_settle, same_settles}
-use Rattle.sctp_pair.proofs.Status.{IsSameStatus, data_chunk_status, sack_chunk_status, status_same}
+use Rattle.sctp_pair.proofs.Status.{IsSameStatus, data_chunk_status, sack_chunk_status}
 use Rattle.sctp_pair.proofs.Taking.{AfterComing, IsTaking, act_opened, act_took, coming_nowhere, data_acts, goes_by_received}
 
 -- Between two chunks of a packet: the association is open, and stands between directions to which the packet led so far.
@@ -95,9 +94,9 @@ take_shape own peer a h piece y out coming B xs (inr (inr (inl (first, kind, non
     let one = act_opened own peer piece.stream_identifier first kind (parts a h) y out coming B holds within none in
     let both = subst (λ zs. CanAll zs (parts a h)) n can in
     let live = at_made a.streams piece.stream_identifier first piece.stream_identifier kind none
-        ∙ cond-true (eqb piece.stream_identifier piece.stream_identifier) _ _ (eq-eqb piece.stream_identifier piece.stream_identifier refl) in
+    ∙ cond-true (eqb piece.stream_identifier piece.stream_identifier) _ _ (eq-eqb piece.stream_identifier piece.stream_identifier refl) in
     let two = act_took own peer k piece d _ (done (Act.Opened piece.stream_identifier first kind) (parts a h)) y out one.coming2 B one.holds one.within both.1.0
-        (one.goes.datas k d e) said live (brings d.offset said.tsn) in
+    (one.goes.datas k d e) said live (brings d.offset said.tsn) in
     subst (λ zs. AfterComing own peer (done_all zs (parts a h)) y out coming B) (sym n)
     record { coming2 = two.coming2; goes = goes_on B coming one.coming2 two.coming2 one.goes two.goes; within = two.within; holds = two.holds }
 take_shape own peer a h piece y out coming B xs (inr (inr (inr (t, live, n)))) can (k, d, e, said) within brings holds =
@@ -113,7 +112,7 @@ data_step own peer y out coming B piece a wish now (k, d, e, said) brings u =
     let b : Shown = (on_chunk a (chunks.Data piece) wish now).0 in
     let leads = chunk_leads (chunks.Data piece) a wish now u.here.past u.here.binds in
     let after = take_shape own peer a u.here.past piece y u.out2 u.coming2 B (acts_of_chunk a (chunks.Data piece)) (data_acts a piece) leads.1.can
-        (k, d, u.goes_coming.datas k d e, said) u.within_coming brings u.holds in
+    (k, d, u.goes_coming.datas k d e, said) u.within_coming brings u.holds in
     let holds : Holds own peer (parts b leads.0) y u.out2 after.coming2 =
     subst (λ p. Holds own peer p y u.out2 after.coming2) (sym leads.1.there) after.holds in
     record {
@@ -185,7 +184,7 @@ sack_step own peer y out coming B s a wish now (k, x, e, is) u =
     let leads = chunk_leads (chunks.SelectiveAck s) a wish now u.here.past u.here.binds in
     let shape = checked_sack (checked_chunk (chunks.SelectiveAck s)) a s in
     let both = sack_shape own peer a u.here.past s y u.out2 u.coming2 (acts_of_chunk a (chunks.SelectiveAck s)) shape leads.1.can
-        (k, x, u.goes_out.sacks k x e, is) u.here.binds u.within_out u.holds in
+    (k, x, u.goes_out.sacks k x e, is) u.here.binds u.within_out u.holds in
     let after = both.0 in
     let holds : Holds own peer (parts b leads.0) y after.out2 u.coming2 =
     subst (λ p. Holds own peer p y after.out2 u.coming2) (sym leads.1.there) after.holds in
@@ -462,9 +461,9 @@ processed_settles own peer now a y packet out coming said f =
     (λ (r : StandsClosed a coming ⊎ StandsFailed a coming).
     ⊎_elim
     (λ (s : StandsClosed a coming). brings_more own peer (after_packet a packet now) y out coming B
-        (same_settles own peer a (after_packet a packet now) y out coming (lost_stays a.lost a (after_packet_of a packet now) s.lost) f))
+    (same_settles own peer a (after_packet a packet now) y out coming (lost_stays a.lost a (after_packet_of a packet now) s.lost) f))
     (λ (s : StandsFailed a coming). brings_more own peer (after_packet a packet now) y out coming B
-        (fails_settle own peer a (after_packet a packet now) y out coming (failed_packet own peer now a.lost a packet out coming said s.failed) f))
+    (fails_settle own peer a (after_packet a packet now) y out coming (failed_packet own peer now a.lost a packet out coming said s.failed) f))
     r)
     f.stands
 

@@ -1,5 +1,5 @@
 -- A poll of one association for packets.
-use Rattle.std.proofs.Common.{◌≡◌, refl, sym, ap, ◌∙◌, subst, ◌⊎◌, ⊎_elim, inl, inr, ℕ, zero, suc, ◌+◌, ◌-◌, Bool, true, false, eqb, ltb, ◌&&◌, if◌then◌else◌, not, List, [], ◌∷◌, ◌++◌, length, take, Option, Some, None, Result, Ok, Err, is_ok}
+use Rattle.std.proofs.Common.{◌≡◌, refl, sym, ap, ◌∙◌, subst, ◌⊎◌, ⊎_elim, inl, inr, ℕ, zero, suc, ◌+◌, ◌-◌, Bool, true, false, eqb, ltb, ◌&&◌, if◌then◌else◌, not, List, [], ◌∷◌, ◌++◌, length, take, Some, None, Result, Ok, Err, is_ok}
 use Rattle.std.specs.List.{AllByRecursion}
 use Rattle.std.proofs.lemmas.Bool.{false≢true}
 use Rattle.std.proofs.lemmas.List.{append-nil}
@@ -8,7 +8,6 @@ use Rattle.sctp_wire_types.specs.declared.chunk.Chunk.TheVariants as chunks
 use Rattle.sctp_wire_types.specs.declared.chunk.ChunkPayloadData.{ChunkPayloadData}
 use Rattle.sctp_wire_types.specs.declared.error.Fault.{Fault}
 use Rattle.sctp_wire_types.specs.declared.packet.CommonHeader.{CommonHeader}
-use Rattle.sctp_wire.specs.declared.packet.Packet.{Packet}
 use Rattle.sctp_wire.specs.Packets.{checked, packet_at, written}
 use Rattle.sctp_model.specs.Serial.{tsn}
 use Rattle.sctp_model.specs.Machine.{Direction}
@@ -19,9 +18,9 @@ use Rattle.sctp_outbound_queue.specs.Outbound.{pieces_waiting}
 use Rattle.sctp_inbound.specs.Handshake.{header_of}
 use Rattle.sctp_outbound.specs.declared.sender.Sender.{Sender}
 use Rattle.sctp_outbound.specs.Sender.{after_resending, both_windows, can_send_next, resends_alone, resent_by, sent_one}
-use Rattle.sctp_assoc.specs.Acts.{Act, Binds, Can, CanAll, History, Leads, Parts, all_data_given, done_all, parts, tsn_before}
+use Rattle.sctp_assoc.specs.Acts.{Act, CanAll, History, Leads, Parts, all_data_given, done_all, parts, tsn_before}
 use Rattle.sctp_assoc.specs.Calls.{is_established}
-use Rattle.sctp_assoc.specs.Happened.{Polls, PollsOn, acks_given, acts_of_ack, acts_of_data_poll, acts_of_marks, acts_of_new, acts_of_poll, acts_of_resending, acts_of_sending, first_again, first_sent, packets_given}
+use Rattle.sctp_assoc.specs.Happened.{PollsOn, acks_given, acts_of_ack, acts_of_data_poll, acts_of_marks, acts_of_new, acts_of_poll, acts_of_resending, acts_of_sending, first_again, first_sent}
 use Rattle.sctp_assoc.specs.Inbound.{taken_packet}
 use Rattle.sctp_assoc.specs.Polled.{AckIsReadAgain, AreReadAgain, IsReadAgain, data_packets, is_due, packet_bytes, packet_with, polled, sack_chunk, sack_packet, spelled}
 use Rattle.sctp_assoc.specs.Shown.{Shown}
@@ -32,10 +31,10 @@ use Rattle.sctp_pair.specs.declared.step.Reply.TheVariants as replies
 use Rattle.sctp_pair.specs.Fits.{AreSaid, StandsClosed, StandsFailed, StandsOpen}
 use Rattle.sctp_pair.specs.Steps.{Fails, GivesOut, HadFailed, LosesSome, packet_in}
 use Rattle.sctp_pair.proofs.Between.{Faces, Holds, None_brought, Settles, does_by_goes, nothing_added, nothing_read}
-use Rattle.sctp_pair.proofs.Giving.{AfterOut, GivesData, all_given, all_join}
+use Rattle.sctp_pair.proofs.Giving.{GivesData, all_given, all_join}
 use Rattle.sctp_pair.proofs.SimpleCalls.{fails_settle, same_settles}
 use Rattle.sctp_pair.proofs.Status.{IsSameStatus, polled_status}
-use Rattle.sctp_pair.proofs.Taking.{AfterComing, AfterReport, act_reported, coming_nowhere}
+use Rattle.sctp_pair.proofs.Taking.{AfterComing, act_reported, coming_nowhere}
 
 -- The acts of a poll's DATA are those that give out DATA.
 
@@ -114,9 +113,11 @@ ack_if : (due : Bool) (own peer : ℕ) (p : Parts) (a y : Shown) (out coming : D
     → (after : AfterComing own peer p y out coming None_brought) × AreSaid own peer out after.coming2 (if due then sack_packet a else [])
 ack_if false own peer p a y out coming e again at within h = (coming_nowhere own peer p y out coming None_brought within h, tt)
 ack_if true own peer p a y out coming e again at within h =
-    let report = act_reported own peer p y out coming None_brought h within in
-    (report.after, one_said own peer out report.after.coming2 (header_of a.handshake) (sack_chunk a) (again e)
-    (subst (λ t. IsMade peer report.after.coming2 t) (sym at) report.said))
+    let report = act_reported own peer p y out coming None_brought h within in (
+      report.after,
+      one_said own peer out report.after.coming2 (header_of a.handshake) (sack_chunk a) (again e)
+          (subst (λ t. IsMade peer report.after.coming2 t) (sym at) report.said),
+    )
 
 ack_does_nothing : (due : Bool) (p : Parts) → done_all (if due then Act.Reported ∷ [] else []) p ≡ p
 ack_does_nothing true p = refl
@@ -260,9 +261,12 @@ refused_polls own peer now n a b y packets more out coming (inl (had, e)) f = gi
 refused_polls own peer now n a b y packets more out coming (inr (inl (fails, e))) f =
     gives_nothing own peer b y packets more out coming (fails_settle own peer a b y out coming fails.1.marked f) e
 refused_polls own peer now n a b y packets more out coming (inr (inr (working, number, is, polls, (kept, e)))) f =
-    let poll = any_polls own peer now a b y (polled a now).1 out coming working (pair_is (polled a now) b is) polls f in
-    (poll.settles, take kept (polled a now).1, e,
-    all_front (λ (bytes : List ℕ). SaysAll own peer poll.settles.out2 poll.settles.coming2 (packet_in bytes)) kept (polled a now).1 poll.said)
+    let poll = any_polls own peer now a b y (polled a now).1 out coming working (pair_is (polled a now) b is) polls f in (
+      poll.settles,
+      take kept (polled a now).1,
+      e,
+      all_front (λ (bytes : List ℕ). SaysAll own peer poll.settles.out2 poll.settles.coming2 (packet_in bytes)) kept (polled a now).1 poll.said,
+    )
 
 -- a poll settles, and what it gave out says what its directions have
 pub poll_settles : (own peer now : ℕ) (a b y : Shown) (packets more : List (List ℕ)) (r : Reply) (out coming : Direction) → GivesOut a packets now r b more

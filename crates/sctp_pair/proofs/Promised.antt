@@ -48,7 +48,7 @@ released_there : (own peer : ℕ) (a : Shown) (out coming : Direction) (s : ℕ)
     → stream_at a.streams s ≡ Some t → t.buffered + out.sender.released s ≡ accepted_bytes out.sender.plan s
 released_there own peer a out coming s t h there =
     let o : IsOwn out.sender.plan (out.sender.released s) s t =
-        subst (λ (z : Option Stream). IsOwnAt out.sender.plan (out.sender.released s) s z) there (h.outgoing.own_streams s) in
+    subst (λ (z : Option Stream). IsOwnAt out.sender.plan (out.sender.released s) s z) there (h.outgoing.own_streams s) in
     o.buffered
 
 -- Where the sender and the receiver of a direction stand in it, and it is within the limits, the promise of it holds.

@@ -113,11 +113,10 @@ read_closed : (a b : Shown) (coming : Direction) (id : ℕ) (message : Option Me
 read_closed a b coming id message t there e s =
     let u : Stream = record t { reassembly = empty_reassembly } in
     let left : read_in a.streams id ≡ (with_stream a.streams id u, None) =
-        ap (λ o. read_at o a.streams id) there ∙ ap (λ (z : Stream × Option Message). (with_stream a.streams id z.0, z.1)) (empty_read t (s.nothing_left id t there)) in
+    ap (λ o. read_at o a.streams id) there ∙ ap (λ (z : Stream × Option Message). (with_stream a.streams id z.0, z.1)) (empty_read t (s.nothing_left id t there)) in
     let is : b ≡ record a { streams = (read_in a.streams id).0 } = sym (ap (λ (x : Shown × Option Message). x.0) e) in
     let given : (read_in a.streams id).1 ≡ message = ap (λ (x : Shown × Option Message). x.1) e in
-    let streams : b.streams ≡ with_stream a.streams id u = ap (λ (x : Shown). x.streams) is ∙ ap (λ (z : StreamMap × Option Message). z.0) left in
-    (
+    let streams : b.streams ≡ with_stream a.streams id u = ap (λ (x : Shown). x.streams) is ∙ ap (λ (z : StreamMap × Option Message). z.0) left in (
       sym given ∙ ap (λ (z : StreamMap × Option Message). z.1) left,
       closed_on a b coming (read_status a b (read_in a.streams id).0 is)
           (empty_beside a.streams b.streams id u refl (λ n. ap (λ m. stream_at m n) streams ∙ at_with a.streams id n t u there) s.nothing_left) s,

@@ -1,36 +1,33 @@
 -- What comes to one association: DATA of the other's direction is taken in, and reported, while its own direction stands still.
-use Rattle.std.proofs.Common.{◌≡◌, refl, sym, ap, ◌∙◌, subst, ◌⊎◌, ⊎_elim, inl, inr, ℕ, zero, suc, ◌+◌, ◌^◌, ◌-◌, Bool, true, false, ltb, if◌then◌else◌, not, ◌&&◌, List, [], ◌∷◌, ◌++◌, length, Option, Some, None, is_some, Result, Ok, Err}
+use Rattle.std.proofs.Common.{◌≡◌, refl, sym, ap, subst, ◌⊎◌, ⊎_elim, inl, inr, ℕ, ◌^◌, ◌-◌, Bool, true, false, ltb, if◌then◌else◌, ◌&&◌, List, [], ◌∷◌, ◌++◌, length, Option, Some, None, Result, Ok, Err}
 use Rattle.std.specs.Prelude.{slice_get}
-use Rattle.std.proofs.lemmas.Bool.{cond-true, eq-eqb, false≢true}
-use Rattle.sctp_wire_types.specs.declared.chunk.Chunk.{Chunk}
 use Rattle.sctp_wire_types.specs.declared.chunk.Chunk.TheVariants as chunks
 use Rattle.sctp_wire_types.specs.declared.chunk.ChunkPayloadData.{ChunkPayloadData}
 use Rattle.sctp_wire_types.specs.declared.error.Error.{Error}
 use Rattle.sctp_wire_types.specs.declared.ids.PayloadProtocolIdentifier.{PayloadProtocolIdentifier}
 use Rattle.sctp_wire_types.specs.declared.ids.PayloadProtocolIdentifier.TheVariants as kinds
 use Rattle.sctp_wire_types.specs.Checks.{checked_chunk}
-use Rattle.sctp_model.specs.Packets.{Data, Sack, mem}
+use Rattle.sctp_model.specs.Packets.{Data, mem}
 use Rattle.sctp_model.specs.Serial.{tsn}
-use Rattle.sctp_model.specs.Machine.{Direction, Event, Receiver, happens, run, sack_of}
+use Rattle.sctp_model.specs.Machine.{Direction, Event, happens, sack_of}
 use Rattle.sctp_model.specs.Safe.{IsWithin}
 use Rattle.sctp_model.proofs.Steps.{happens_keeps}
-use Rattle.sctp_queues.specs.Stream.{Stream, fresh_stream}
-use Rattle.sctp_queues.specs.Streams.{bytes_waiting, generation_left, made, refusal_in, stream_at}
+use Rattle.sctp_queues.specs.Stream.{Stream}
+use Rattle.sctp_queues.specs.Streams.{bytes_waiting, generation_left, refusal_in, stream_at}
 use Rattle.sctp_inbound.specs.Receiver.{credit_of, is_next_after}
-use Rattle.sctp_assoc.specs.Acts.{Act, Can, CanAll, Parts, done, done_all, tsn_before}
+use Rattle.sctp_assoc.specs.Acts.{Act, Can, Parts, done, tsn_before}
 use Rattle.sctp_assoc.specs.Chunks.{counted_data, is_whole, stream_found, with_new_stream}
-use Rattle.sctp_assoc.specs.Happened.{acts_of_checked, acts_of_chunk, acts_of_data, acts_of_found, acts_of_stream, acts_of_taking, acts_unless_refused}
+use Rattle.sctp_assoc.specs.Happened.{acts_of_checked, acts_of_chunk, acts_of_found, acts_of_stream, acts_unless_refused}
 use Rattle.sctp_assoc.specs.Shown.{Shown}
-use Rattle.sctp_directions.specs.Said.{IsGiven, IsMade, IsSaid}
+use Rattle.sctp_directions.specs.Said.{IsMade, IsSaid}
 use Rattle.sctp_directions.proofs.IncomingKept.{reported_fits}
 use Rattle.sctp_directions.proofs.IncomingRead.{opened_fits}
 use Rattle.sctp_directions.proofs.IncomingTook.{took_fits}
 use Rattle.sctp_directions.proofs.Invariants.{invariant_open, invariant_report}
-use Rattle.sctp_directions.proofs.OutgoingBeside.{opened, same_initials, took}
+use Rattle.sctp_directions.proofs.OutgoingBeside.{opened, took}
 use Rattle.sctp_directions.proofs.OutgoingSent.{got_last}
 use Rattle.sctp_directions.proofs.PlainReceiver.{IsReceived, data_cases, data_received, data_takes, open_received, open_takes, plain_data, plain_open, plain_sack, sack_received, sack_takes, within_data, within_open, within_sack}
-use Rattle.sctp_directions.proofs.Streams.{at_made}
-use Rattle.sctp_pair.proofs.Between.{Goes, Holds, goes_nowhere, goes_on, other_by_coming}
+use Rattle.sctp_pair.proofs.Between.{Goes, Holds, goes_nowhere, other_by_coming}
 
 -- one event of the receiver that is no read
 pub goes_by_received : (B : ℕ → Type 0) (w : Direction) (e : Event) → IsReceived w (happens w e) → ((s : ℕ) → (happens w e).reads s ≡ w.reads s)

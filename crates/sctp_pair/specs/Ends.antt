@@ -1,5 +1,5 @@
 -- Two associations that face each other, and what either gave out.
-use Rattle.std.specs.Prelude.{◌≡◌, ℕ, List, length, take, ◌⊎◌, Result, Ok, Err, Option, Some, None}
+use Rattle.std.specs.Prelude.{◌≡◌, ℕ, List, ◌⊎◌, Result, Ok, Err, Option, Some, None}
 use Rattle.sctp_wire_types.specs.declared.error.Error.{Error}
 use Rattle.sctp_wire_types.specs.declared.error.Error.TheVariants as errors
 use Rattle.sctp_assoc.specs.Shown.{Shown}

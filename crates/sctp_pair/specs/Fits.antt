@@ -1,5 +1,5 @@
 -- Which worlds a pair may stand in, and the promise of its steps.
-use Rattle.std.specs.Prelude.{◌≡◌, ℕ, true, false, ◌⊎◌, List, [], ◌∷◌, Option, Some, None}
+use Rattle.std.specs.Prelude.{◌≡◌, ℕ, true, false, ◌⊎◌, List, [], ◌∷◌, Some}
 use Rattle.std.specs.List.{AllByRecursion}
 use Rattle.sctp_receive_queues.specs.Reassembly.{empty_reassembly}
 use Rattle.sctp_queues.specs.Stream.{Stream}

@@ -1,5 +1,5 @@
 -- What a step of a pair does and replies.
-use Rattle.std.specs.Prelude.{◌≡◌, ◌⊎◌, ℕ, Bool, true, false, not, is_some, if◌then◌else◌, List, [], ◌∷◌, ◌++◌, ◌*◌, length, take, slice_get, option_to_list, nat_lt, ◌<◌, Option, Some, None, Result, Ok, Err}
+use Rattle.std.specs.Prelude.{◌≡◌, ◌⊎◌, ℕ, true, false, not, List, [], ◌∷◌, ◌++◌, ◌*◌, length, take, slice_get, option_to_list, Option, Some, None, Ok}
 use Rattle.std.specs.Duration.{as_nanos}
 use Rattle.sctp_wire_types.specs.declared.error.Error.{Error}
 use Rattle.sctp_wire_types.specs.declared.error.Error.TheVariants as errors

@@ -7,7 +7,10 @@ ghost use Rattle.sctp_assoc.specs.Polled.{packets_of, polled};
 ghost use Rattle.sctp_pair.specs.Steps.{packet_in};
 
 use bytes::Bytes;
-use sctp_assoc::{Association, AssociationEvent, Error, Instant, Payload, StreamId, Transmit, what_is_written_is_held};
+use sctp_assoc::{
+    Association, AssociationEvent, Error, Instant, Payload, StreamId, Transmit,
+    what_is_written_is_held,
+};
 use sctp_wire::PartialDecode;
 use std::net::SocketAddr;
 

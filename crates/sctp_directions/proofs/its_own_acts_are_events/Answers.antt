@@ -1,4 +1,3 @@
-use Rattle.std.proofs.Common.{◌≡◌}
 use Rattle.sctp_directions.proofs.OutgoingWrote.{wrote}
 use Rattle.sctp_directions.proofs.OutgoingAcknowledged.{acknowledged}
 use Rattle.sctp_directions.proofs.Laws.{pieces_given}

@@ -1,4 +1,3 @@
-use Rattle.std.proofs.Common.{◌≡◌}
 use Rattle.sctp_directions.proofs.IncomingRead.{read_fits, ready_fits}
 use Rattle.sctp_directions.proofs.IncomingTook.{took_fits}
 use Rattle.sctp_directions.proofs.what_comes_to_it_are_events.Goals as goal
