@@ -102,12 +102,12 @@ come_leads : (side : Side2) (number now : ℕ) (r : Reply) (q : Ends) (w : World
 come_leads sides.A number now r q w fits (h, e) =
     settled_a (steps.Deliver sides.A number now) r q w nothing_added nothing_read (λ o. HasData (packet_of_bytes (slice_get w.ends.packets_b number)) (tsn w.initial_b o)) [] fits
     (ap (λ (z : Ends). z.b) e) (ap (λ (z : Ends). z.packets_a) e ∙ sym (append-nil w.ends.packets_a)) (ap (λ (z : Ends). z.packets_b) e) (h, e)
-    (delivered w.initial_a w.initial_b now w.ends.a q.a w.ends.b w.ends.packets_b number (slice_get w.ends.packets_b number) r w.ab w.ba refl h fits.said_b (faces_a w fits)) tt
+    (delivered w.initial_a w.initial_b now w.ends.a q.a w.ends.b w.ends.packets_b number (slice_get w.ends.packets_b number) r w.ab w.ba refl h fits.stand.said_b (faces_a w fits)) tt
     record { adds = λ s. refl; reads = λ s. refl; brings = λ o b. b; adds_alone = λ s. refl; reads_alone = λ s. refl }
 come_leads sides.B number now r q w fits (h, e) =
     settled_b (steps.Deliver sides.B number now) r q w nothing_added nothing_read (λ o. HasData (packet_of_bytes (slice_get w.ends.packets_a number)) (tsn w.initial_a o)) [] fits
     (ap (λ (z : Ends). z.a) e) (ap (λ (z : Ends). z.packets_b) e ∙ sym (append-nil w.ends.packets_b)) (ap (λ (z : Ends). z.packets_a) e) (h, e)
-    (delivered w.initial_b w.initial_a now w.ends.b q.b w.ends.a w.ends.packets_a number (slice_get w.ends.packets_a number) r w.ba w.ab refl h fits.said_a (faces_b w fits)) tt
+    (delivered w.initial_b w.initial_a now w.ends.b q.b w.ends.a w.ends.packets_a number (slice_get w.ends.packets_a number) r w.ba w.ab refl h fits.stand.said_a (faces_b w fits)) tt
     record { adds = λ s. refl; reads = λ s. refl; brings = λ o b. b; adds_alone = λ s. refl; reads_alone = λ s. refl }
 
 -- each step from the pair of the world
@@ -146,4 +146,4 @@ step_at (steps.Rtt side) q r w h fits = same_leads side (steps.Rtt side) r q w (
 -- is safe.
 pub step_leads : (step : Step) (p q : Ends) (r : Reply) → Steps step p r q → (w : World) → Fits p w → LeadsSafely step r w q
 step_leads step p q r h w fits = step_at step q r w
-    (subst (λ (z : Ends). Steps step z r q) fits.is h) (subst (λ (z : Ends). Fits z w) fits.is fits)
+    (subst (λ (z : Ends). Steps step z r q) fits.stand.is h) (subst (λ (z : Ends). Fits z w) fits.stand.is fits)

@@ -1,5 +1,5 @@
 -- One association between its two directions, while the other one stands still: what each of its acts makes of them.
-use Rattle.std.proofs.Common.{◌≡◌, refl, sym, ap, ◌∙◌, subst, ◌⊎◌, ⊎_elim, inl, inr, ℕ, true, List, [], ◌∷◌, ◌++◌, Option, Some, None}
+use Rattle.std.proofs.Common.{◌≡◌, refl, sym, ap, ◌∙◌, subst, ◌⊎◌, ⊎_elim, inl, inr, ℕ, true, List, [], ◌∷◌, ◌++◌, Option, Some, None, arith, ◌≤◌}
 use Rattle.std.specs.Prelude.{slice_get}
 use Rattle.std.proofs.lemmas.List.{append-nil}
 use Rattle.sctp_receive_queues.specs.Messages as letters
@@ -26,6 +26,7 @@ pub record Goes (Brought : ℕ → Type 0) (w v : Direction) : Type 0 where
   pub taken : (o : ℕ) → mem o v.receiver.taken ≡ true → (mem o w.receiver.taken ≡ true) ⊎ Brought o
   pub datas : (k : ℕ) (d : Data) → slice_get w.datas k ≡ Some d → slice_get v.datas k ≡ Some d
   pub sacks : (k : ℕ) (x : Sack) → slice_get w.sacks k ≡ Some x → slice_get v.sacks k ≡ Some x
+  pub point_on : w.sender.point ≤ v.sender.point
 
 run_append : (es fs : List Event) (w : Direction) → run (es ++ fs) w ≡ run fs (run es w)
 run_append [] fs w = refl
@@ -41,6 +42,7 @@ goes_nowhere B w = record {
   taken = λ o m. inl m;
   datas = λ k d e. e;
   sacks = λ k x e. e;
+  point_on = omega arith;
 }
 
 pub goes_on : (B : ℕ → Type 0) (w v u : Direction) → Goes B w v → Goes B v u → Goes B w u
@@ -53,6 +55,7 @@ goes_on B w v u g h = record {
   taken = λ o m. ⊎_elim (λ (n : mem o v.receiver.taken ≡ true). g.taken o n) (λ (b : B o). inr b) (h.taken o m);
   datas = λ k d e. h.datas k d (g.datas k d e);
   sacks = λ k x e. h.sacks k x (g.sacks k x e);
+  point_on = (let a = g.point_on in let b = h.point_on in omega arith);
 }
 
 -- p is what the association's directions see of it, y is the other association
@@ -135,6 +138,7 @@ pub record Does (Added : ℕ → List Message) (Read : ℕ → Option letters.Me
   pub taken : (o : ℕ) → mem o v.receiver.taken ≡ true → (mem o w.receiver.taken ≡ true) ⊎ Brought o
   pub datas : (k : ℕ) (d : Data) → slice_get w.datas k ≡ Some d → slice_get v.datas k ≡ Some d
   pub sacks : (k : ℕ) (x : Sack) → slice_get w.sacks k ≡ Some x → slice_get v.sacks k ≡ Some x
+  pub point_on : w.sender.point ≤ v.sender.point
 
 abbrev pub nothing_added : ℕ → List Message
 nothing_added s = []
@@ -152,6 +156,7 @@ does_by_goes B w v g = record {
   taken = g.taken;
   datas = g.datas;
   sacks = g.sacks;
+  point_on = g.point_on;
 }
 
 -- One association's call leads from its directions `out` and `coming` to others, between which it stands then; the other association
@@ -167,6 +172,9 @@ pub record Settles (own peer : ℕ) (b y : Shown) (out coming : Direction) (Adde
   pub plain_coming : IsPlain coming2
   pub stands : Stands own peer b out2 coming2
   pub other : Stands peer own y coming2 out2
+  -- no offset is assigned where the association isn't open afterwards, and none of the other side's ever
+  pub no_more : StandsOpen own peer b out2 coming2 ⊎ (out2.sender.plan.places ≡ out.sender.plan.places)
+  pub coming_still : coming2.sender ≡ coming.sender
 
 -- Two associations between the same two directions, before a call of the first one.
 pub record Faces (own peer : ℕ) (a y : Shown) (out coming : Direction) : Type 0 where

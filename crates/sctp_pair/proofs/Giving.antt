@@ -1,10 +1,13 @@
 -- What one association gives out: DATA of its direction, sent for the first time or again, while what comes to it stands still.
-use Rattle.std.proofs.Common.{◌≡◌, refl, sym, ap, ◌∙◌, subst, inl, ℕ, ◌+◌, true, List, [], ◌∷◌, ◌++◌, Some}
+use Rattle.std.proofs.Common.{Bool, List, None, Option, Some, [], ap, arith, false, inl, ltb, refl, subst, sym, true, ℕ, ◌++◌, ◌+◌, ◌∙◌, ◌∷◌, ◌≡◌, ◌≤◌}
 use Rattle.std.specs.Prelude.{⊤, slice_get}
 use Rattle.std.specs.List.{AllByRecursion}
 use Rattle.sctp_wire_types.specs.declared.chunk.ChunkPayloadData.{ChunkPayloadData}
-use Rattle.sctp_model.specs.Packets.{Sack, mem}
-use Rattle.sctp_model.specs.Machine.{Direction, Event, Receiver, happens}
+use Rattle.std.proofs.lemmas.Bool.{cond_both, ltb-false}
+use Rattle.sctp_model.specs.Messages.{Place, message_at}
+use Rattle.sctp_model.specs.Packets.{Sack, data_at, mem}
+use Rattle.sctp_model.specs.Machine as machine
+use Rattle.sctp_model.specs.Machine.{Direction, Event, Receiver, Sender, acknowledged_by, begin, begin_if, can_begin, can_resend, counted, first_place, happens, number_for, sack_comes}
 use Rattle.sctp_model.specs.Safe.{IsWithin}
 use Rattle.sctp_assoc.specs.Acts.{Act, Can, CanAll, Parts, all_data_given, data_given, done, done_all}
 use Rattle.sctp_assoc.specs.Shown.{Shown}
@@ -20,9 +23,52 @@ use Rattle.sctp_directions.proofs.PlainSender.{plain_resend, plain_sack_comes}
 use Rattle.sctp_directions.proofs.SenderEvents.{IsSentOnly, sent_begin, sent_resend, sent_sack_comes}
 use Rattle.sctp_pair.proofs.Between.{Goes, Holds, None_brought, goes_nowhere, goes_on, other_by_out}
 
+-- The acknowledged point moves on alone.
+
+counted_point : (b : Bool) (x : Sender) (s i : ℕ) → (counted x s i b).point ≡ x.point
+counted_point true x s i = refl
+counted_point false x s i = refl
+
+begun_on : (w : Direction) (s i number : ℕ) → w.sender.point ≤ (begin w s i number).sender.point
+begun_on w s i number =
+    let e = counted_point (message_at w.sender.plan s i).ordered (machine.sent w.sender (first_place s i number)) s i in omega arith
+
+begun_point : (w : Direction) (s i any : ℕ) → w.sender.point ≤ (happens w (Event.Begin s i any)).sender.point
+unfolding happens
+begun_point w s i any = go w.sender.current
+  where
+    go : (c : Option Place) → w.sender.point ≤ (begin_if w s i any c).sender.point
+    go None = cond_both (can_begin w.sender s i) (begin w s i (number_for w.sender s i any)) w (λ v. w.sender.point ≤ v.sender.point)
+        (λ b. begun_on w s i (number_for w.sender s i any)) (λ b. omega arith)
+    go (Some x) = omega arith
+
+resent_point : (w : Direction) (o : ℕ) → w.sender.point ≤ (happens w (Event.Resend o)).sender.point
+unfolding happens
+resent_point w o = cond_both (can_resend w.sender.plan o) (record w { datas = w.datas ++ data_at w.sender.plan o ∷ [] }) w
+    (λ v. w.sender.point ≤ v.sender.point) (λ b. omega arith) (λ b. omega arith)
+
+sack_point : (w : Direction) (k : ℕ) → w.sender.point ≤ (happens w (Event.SackComes k)).sender.point
+unfolding happens
+sack_point w k = go (slice_get w.sacks k)
+  where
+    go : (x : Option Sack) → w.sender.point ≤ (sack_comes w x).sender.point
+    go None = omega arith
+    go (Some x) = cond_both (ltb x.point w.sender.point) w (record w { sender = acknowledged_by w.sender x }) (λ v. w.sender.point ≤ v.sender.point)
+        (λ b. omega arith) (λ b. ltb-false _ _ b)
+
+-- a SACK assigns no offset
+sack_places : (w : Direction) (k : ℕ) → (happens w (Event.SackComes k)).sender.plan.places ≡ w.sender.plan.places
+unfolding happens
+sack_places w k = go (slice_get w.sacks k)
+  where
+    go : (x : Option Sack) → (sack_comes w x).sender.plan.places ≡ w.sender.plan.places
+    go None = refl
+    go (Some x) = cond_both (ltb x.point w.sender.point) w (record w { sender = acknowledged_by w.sender x }) (λ v. v.sender.plan.places ≡ w.sender.plan.places)
+        (λ b. refl) (λ b. refl)
+
 -- one event of the sender that is no write
-goes_by_sent : (B : ℕ → Type 0) (w : Direction) (e : Event) → IsSentOnly w (happens w e) → Goes B w (happens w e)
-goes_by_sent B w e h = record {
+goes_by_sent : (B : ℕ → Type 0) (w : Direction) (e : Event) → IsSentOnly w (happens w e) → w.sender.point ≤ (happens w e).sender.point → Goes B w (happens w e)
+goes_by_sent B w e h on = record {
   events = e ∷ [];
   is = refl;
   accepted = λ s. ap (λ f. f s) h.accepted;
@@ -31,6 +77,7 @@ goes_by_sent B w e h = record {
   taken = λ o m. inl (subst (λ (r : Receiver). mem o r.taken ≡ true) h.on.receiver m);
   datas = h.on.datas;
   sacks = λ k x e. subst (λ z. slice_get z k ≡ Some x) (sym h.on.sacks) e;
+  point_on = on;
 }
 
 -- What was done at the sender of the own direction, and the DATA that it gave out.
@@ -49,7 +96,7 @@ act_sent own peer now p y out coming h can =
     let event = sent_begin out s i 0 in
     record {
       out2 = happens out (Event.Begin s i 0);
-      goes = goes_by_sent None_brought out (Event.Begin s i 0) event;
+      goes = goes_by_sent None_brought out (Event.Begin s i 0) event (begun_point out s i 0);
       holds = record {
         own_is = (same_initials (Act.Sent now) p).0 ∙ h.own_is;
         peer_is = (same_initials (Act.Sent now) p).1 ∙ h.peer_is;
@@ -73,7 +120,7 @@ act_sent_again own peer place p y out coming h can =
     let event = sent_resend out o in
     record {
       out2 = happens out (Event.Resend o);
-      goes = goes_by_sent None_brought out (Event.Resend o) event;
+      goes = goes_by_sent None_brought out (Event.Resend o) event (resent_point out o);
       holds = record {
         own_is = (same_initials (Act.SentAgain place) p).0 ∙ h.own_is;
         peer_is = (same_initials (Act.SentAgain place) p).1 ∙ h.peer_is;
@@ -93,11 +140,12 @@ act_sent_again own peer place p y out coming h can =
 pub act_acknowledged : (own peer n k : ℕ) (x : Sack) (p : Parts) (y : Shown) (out coming : Direction) → Holds own peer p y out coming
     → slice_get out.sacks k ≡ Some x → x.point ≡ out.sender.point + n → Can (Act.Acknowledged n) p
     → (after : AfterOut own peer (done (Act.Acknowledged n) p) y out coming []) × (IsWithin out → IsWithin after.out2)
+    × (after.out2.sender.plan.places ≡ out.sender.plan.places)
 act_acknowledged own peer n k x p y out coming h e at can =
     let event = sent_sack_comes out k in (
       record {
         out2 = happens out (Event.SackComes k);
-        goes = goes_by_sent None_brought out (Event.SackComes k) event;
+        goes = goes_by_sent None_brought out (Event.SackComes k) event (sack_point out k);
         holds = record {
           own_is = (same_initials (Act.Acknowledged n) p).0 ∙ h.own_is;
           peer_is = (same_initials (Act.Acknowledged n) p).1 ∙ h.peer_is;
@@ -113,6 +161,7 @@ act_acknowledged own peer n k x p y out coming h e at can =
         said = tt;
       },
       λ within. within_sack_comes out k within,
+      sack_places out k,
     )
 
 -- acts that give out DATA

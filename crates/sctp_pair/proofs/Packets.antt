@@ -61,6 +61,8 @@ pub record Underway (own peer : ℕ) (y : Shown) (out coming : Direction) (B : �
   pub goes_coming : Goes B coming coming2
   pub within_out : IsWithin out2
   pub within_coming : IsWithin coming2
+  pub places_same : out2.sender.plan.places ≡ out.sender.plan.places
+  pub coming_still : coming2.sender ≡ coming.sender
   pub here : StandsOpen own peer a out2 coming2
   pub holds : Holds own peer (parts a here.past) y out2 coming2
 
@@ -98,7 +100,7 @@ take_shape own peer a h piece y out coming B xs (inr (inr (inl (first, kind, non
     let two = act_took own peer k piece d _ (done (Act.Opened piece.stream_identifier first kind) (parts a h)) y out one.coming2 B one.holds one.within both.1.0
     (one.goes.datas k d e) said live (brings d.offset said.tsn) in
     subst (λ zs. AfterComing own peer (done_all zs (parts a h)) y out coming B) (sym n)
-    record { coming2 = two.coming2; goes = goes_on B coming one.coming2 two.coming2 one.goes two.goes; within = two.within; holds = two.holds }
+    record { coming2 = two.coming2; goes = goes_on B coming one.coming2 two.coming2 one.goes two.goes; still = two.still ∙ one.still; within = two.within; holds = two.holds }
 take_shape own peer a h piece y out coming B xs (inr (inr (inr (t, live, n)))) can (k, d, e, said) within brings holds =
     let one = subst (λ zs. CanAll zs (parts a h)) n can in
     subst (λ zs. AfterComing own peer (done_all zs (parts a h)) y out coming B) (sym n)
@@ -122,6 +124,8 @@ data_step own peer y out coming B piece a wish now (k, d, e, said) brings u =
       goes_coming = goes_on B coming u.coming2 after.coming2 u.goes_coming after.goes;
       within_out = u.within_out;
       within_coming = after.within;
+      places_same = u.places_same;
+      coming_still = after.still ∙ u.coming_still;
       here = stands_by own peer a b y leads.0 u.out2 u.coming2 u.out2 after.coming2 u.here (data_chunk_status a piece wish now) leads.1.binds refl holds;
       holds = holds;
     }
@@ -158,10 +162,10 @@ sack_at own base p first t l e f within known small =
 sack_shape : (own peer : ℕ) (a : Shown) (h : History) (s : ChunkSelectiveAck) (y : Shown) (out coming : Direction) (xs : List Act)
     → (xs ≡ []) ⊎ (xs ≡ Act.Acknowledged (points_to a.sender s.cumulative_tsn_ack) ∷ []) → CanAll xs (parts a h) → IsMade own out s.cumulative_tsn_ack
     → Binds a h → IsWithin out → Holds own peer (parts a h) y out coming
-    → (after : AfterOut own peer (done_all xs (parts a h)) y out coming []) × IsWithin after.out2
+    → (after : AfterOut own peer (done_all xs (parts a h)) y out coming []) × IsWithin after.out2 × (after.out2.sender.plan.places ≡ out.sender.plan.places)
 sack_shape own peer a h s y out coming xs (inl n) can made binds within holds =
-    subst (λ zs. (after : AfterOut own peer (done_all zs (parts a h)) y out coming []) × IsWithin after.out2) (sym n)
-    (record { out2 = out; goes = goes_nowhere None_brought out; holds = holds; said = tt }, within)
+    subst (λ zs. (after : AfterOut own peer (done_all zs (parts a h)) y out coming []) × IsWithin after.out2 × (after.out2.sender.plan.places ≡ out.sender.plan.places)) (sym n)
+    (record { out2 = out; goes = goes_nowhere None_brought out; holds = holds; said = tt }, within, refl)
 sack_shape own peer a h s y out coming xs (inr n) can (k, x, e, is) binds within holds =
     let can2 = (subst (λ zs. CanAll zs (parts a h)) n can).0 in
     let honest = all_get (IsHonest out.receiver.taken out.receiver.passed (point out.receiver)) out.sacks k x e holds.invariant_out.sacks in
@@ -173,8 +177,8 @@ sack_shape own peer a h s y out coming xs (inr n) can (k, x, e, is) binds within
     let at : x.point ≡ out.sender.point + points_to a.sender s.cumulative_tsn_ack =
     sack_at own out.sender.point x.point a.sender.queue.first_tsn s.cumulative_tsn_ack (length out.sender.plan.places) first is
     (let c = can2 in omega arith) (let p = honest.point in omega arith) within.offsets in
-    subst (λ zs. (after : AfterOut own peer (done_all zs (parts a h)) y out coming []) × IsWithin after.out2) (sym n)
-    (let one = act_acknowledged own peer (points_to a.sender s.cumulative_tsn_ack) k x (parts a h) y out coming holds e at can2 in (one.0, one.1 within))
+    subst (λ zs. (after : AfterOut own peer (done_all zs (parts a h)) y out coming []) × IsWithin after.out2 × (after.out2.sender.plan.places ≡ out.sender.plan.places)) (sym n)
+    (let one = act_acknowledged own peer (points_to a.sender s.cumulative_tsn_ack) k x (parts a h) y out coming holds e at can2 in (one.0, one.1 within, one.2))
 
 sack_step : (own peer : ℕ) (y : Shown) (out coming : Direction) (B : ℕ → Type 0) (s : ChunkSelectiveAck) (a : Shown) (wish : AckWish) (now : ℕ)
     → IsMade own out s.cumulative_tsn_ack → Underway own peer y out coming B a → Underway own peer y out coming B (on_chunk a (chunks.SelectiveAck s) wish now).0
@@ -195,6 +199,8 @@ sack_step own peer y out coming B s a wish now (k, x, e, is) u =
       goes_coming = u.goes_coming;
       within_out = both.1;
       within_coming = u.within_coming;
+      places_same = both.2 ∙ u.places_same;
+      coming_still = u.coming_still;
       here = stands_by own peer a b y leads.0 u.out2 u.coming2 after.out2 u.coming2 u.here (sack_chunk_status a s wish now) leads.1.binds after.goes.size holds;
       holds = holds;
     }
@@ -252,6 +258,8 @@ settled_open own peer y out coming B a u = record {
   plain_coming = u.holds.plain_coming;
   stands = inl u.here;
   other = u.holds.other;
+  no_more = inr u.places_same;
+  coming_still = u.coming_still;
 }
 
 end_step : (own peer : ℕ) (y : Shown) (out coming : Direction) (B : ℕ → Type 0) (a : Shown) (wish : AckWish) (now : ℕ) → Underway own peer y out coming B a
@@ -267,6 +275,8 @@ end_step own peer y out coming B a wish now u =
       goes_coming = u.goes_coming;
       within_out = u.within_out;
       within_coming = u.within_coming;
+      places_same = u.places_same;
+      coming_still = u.coming_still;
       here = stands_by own peer a b y u.here.past u.out2 u.coming2 u.out2 u.coming2 u.here same (ended_binds a wish now u.here.past u.here.binds) refl u.holds;
       holds = u.holds;
     }
@@ -308,6 +318,8 @@ close_if false own peer y out coming B a e u =
       plain_coming = plain_close u.coming2 u.holds.plain_coming;
       stands = inr (inl record { closed = refl; unestablished = refl; lost = refl; stopped = closed u.coming2; nothing_left = λ s t k. absurd (none_is_some t k) });
       other = other_by_coming peer own y u.coming2 coming3 u.out2 received.sender u.holds.other;
+      no_more = inr u.places_same;
+      coming_still = received.sender ∙ u.coming_still;
     }
 
 close_step : (own peer : ℕ) (y : Shown) (out coming : Direction) (B : ℕ → Type 0) (a : Shown) → Underway own peer y out coming B a
@@ -355,6 +367,8 @@ start_step own peer a y out coming B f s = record {
   goes_coming = goes_nowhere B coming;
   within_out = f.within_out;
   within_coming = f.within_coming;
+  places_same = refl;
+  coming_still = refl;
   here = s;
   holds = record {
     own_is = s.own_is;
@@ -439,6 +453,7 @@ brings_more own peer b y out coming B s = record {
     taken = λ o m. ⊎_elim (λ (n : mem o coming.receiver.taken ≡ true). inl n) (λ (n : ⊥). absurd n) (s.does_coming.taken o m);
     datas = s.does_coming.datas;
     sacks = s.does_coming.sacks;
+    point_on = s.does_coming.point_on;
   };
   invariant_out = s.invariant_out;
   invariant_coming = s.invariant_coming;
@@ -446,6 +461,8 @@ brings_more own peer b y out coming B s = record {
   plain_coming = s.plain_coming;
   stands = s.stands;
   other = s.other;
+  no_more = s.no_more;
+  coming_still = s.coming_still;
 }
 
 lost_stays : (lost : Bool) (a b : Shown) → lost ≡ true → (if lost then a else b) ≡ a

@@ -163,6 +163,18 @@ open_polls own peer now a b y packets out coming f s same leads is again ack_aga
     let holds : Holds own peer (parts b h) y given.out2 ack.0.coming2 = subst (λ z. Holds own peer z y given.out2 ack.0.coming2) (sym there) ack.0.holds in
     let data_is : all_data_given (ds ++ ks) p ≡ all_data_given ds p =
     given_append ds ks p ∙ ap (λ z. all_data_given ds p ++ z) (ack_silent due (done_all ds p)) ∙ append-nil (all_data_given ds p) in
+    let here : StandsOpen own peer b given.out2 ack.0.coming2 = record {
+      past = h;
+      own_is = s.own_is;
+      peer_is = s.peer_is;
+      binds = leads.binds;
+      working = same.failed ∙ s.working;
+      established = ap is_established same.state ∙ s.established;
+      present = same.lost ∙ s.present;
+      size = given.goes.size ∙ s.size ∙ sym same.size;
+      outgoing = holds.outgoing;
+      incoming = holds.incoming;
+    } in
     record {
       settles = record {
         out2 = given.out2;
@@ -173,19 +185,10 @@ open_polls own peer now a b y packets out coming f s same leads is again ack_aga
         invariant_coming = holds.invariant_coming;
         plain_out = holds.plain_out;
         plain_coming = holds.plain_coming;
-        stands = inl record {
-          past = h;
-          own_is = s.own_is;
-          peer_is = s.peer_is;
-          binds = leads.binds;
-          working = same.failed ∙ s.working;
-          established = ap is_established same.state ∙ s.established;
-          present = same.lost ∙ s.present;
-          size = given.goes.size ∙ s.size ∙ sym same.size;
-          outgoing = holds.outgoing;
-          incoming = holds.incoming;
-        };
+        stands = inl here;
         other = holds.other;
+        no_more = inl here;
+        coming_still = ack.0.still;
       };
       said = subst (AreSaid own peer given.out2 ack.0.coming2) (sym is)
           (all_join (λ (bytes : List ℕ). SaysAll own peer given.out2 ack.0.coming2 (packet_in bytes))

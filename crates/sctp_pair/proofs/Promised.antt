@@ -64,6 +64,6 @@ promised own peer sender receiver w back giving taking within inv plain = record
 -- A world in which a pair stands is safe.
 pub safe_world : (p : Ends) (w : World) → Fits p w → IsSafeWorld w
 safe_world p w f = record {
-  ab_safe = promised w.initial_a w.initial_b w.ends.a w.ends.b w.ab w.ba f.side_a f.side_b f.within.0 f.invariant_ab f.plain_ab;
-  ba_safe = promised w.initial_b w.initial_a w.ends.b w.ends.a w.ba w.ab f.side_b f.side_a f.within.1 f.invariant_ba f.plain_ba;
+  ab_safe = promised w.initial_a w.initial_b w.ends.a w.ends.b w.ab w.ba f.stand.side_a f.stand.side_b f.within.0 f.stand.invariant_ab f.stand.plain_ab;
+  ba_safe = promised w.initial_b w.initial_a w.ends.b w.ends.a w.ba w.ab f.stand.side_b f.stand.side_a f.within.1 f.stand.invariant_ba f.stand.plain_ba;
 }

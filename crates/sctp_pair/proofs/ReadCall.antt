@@ -1,5 +1,5 @@
 -- A read of an association: what it gives is what the direction's reader gets.
-use Rattle.std.proofs.Common.{◌≡◌, refl, sym, ap, ◌∙◌, subst, ⊎_elim, inl, inr, ℕ, Bool, true, false, eqb, if◌then◌else◌, List, [], ◌∷◌, Option, Some, None, is_some}
+use Rattle.std.proofs.Common.{◌≡◌, refl, sym, ap, ◌∙◌, subst, ⊎_elim, inl, inr, ℕ, Bool, true, false, eqb, if◌then◌else◌, List, [], ◌∷◌, Option, Some, None, is_some, arith}
 use Rattle.std.specs.Prelude.{◌==◌, slice_get}
 use Rattle.std.proofs.lemmas.Bool.{cases_eq, cond-false, cond-true, eq-eqb, ne_eqb, true≢false}
 use Rattle.std.proofs.lemmas.List.{append-nil}
@@ -78,6 +78,7 @@ read_does w id message here others =
       taken = λ o m. inl (subst (λ (os : List ℕ). mem o os ≡ true) (read_takes w id) m);
       datas = λ k d e. subst (λ (ds : List Data). slice_get ds k ≡ Some d) (sym event.datas) e;
       sacks = event.sacks;
+      point_on = (let e = ap (λ x. x.point) event.sender in omega arith);
     }
 
 read_open : (own peer : ℕ) (a b y : Shown) (out coming : Direction) (id : ℕ) (message : Option Message) (t : Stream) → stream_at a.streams id ≡ Some t
@@ -101,6 +102,8 @@ read_open own peer a b y out coming id message t there e f s =
       stands = inl (open_on own peer a b out coming out coming2 (Act.WasRead id ∷ []) m.0 s m.1 (read_status a b (read_in a.streams id).0 is) refl
           (was_read (parts a s.past) id out s.outgoing) fits.0);
       other = other_by_coming peer own y coming coming2 out (read_received coming id).sender f.other;
+      no_more = inr refl;
+      coming_still = (read_received coming id).sender;
     }
 
 -- A closed association reads nothing
@@ -141,6 +144,7 @@ none_read own peer b y out coming id message e h =
         taken = d.taken;
         datas = d.datas;
         sacks = d.sacks;
+        point_on = d.point_on;
       };
       invariant_out = h.invariant_out;
       invariant_coming = h.invariant_coming;
@@ -148,6 +152,8 @@ none_read own peer b y out coming id message e h =
       plain_coming = h.plain_coming;
       stands = h.stands;
       other = h.other;
+      no_more = h.no_more;
+      coming_still = h.coming_still;
     }
 
 -- A read gives the next message of its stream, if there is one; a closed association has none.

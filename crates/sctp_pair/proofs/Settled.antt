@@ -1,10 +1,10 @@
 -- A call of one association, between its directions, is a step of the world of both.
-use Rattle.std.proofs.Common.{◌≡◌, refl, sym, ap, ◌∙◌, subst, ⊎_elim, inl, inr, ℕ, true, List, [], ◌++◌, Option, None}
+use Rattle.std.proofs.Common.{◌≡◌, refl, sym, ap, ◌∙◌, subst, ◌⊎◌, ⊎_elim, inl, inr, ℕ, true, List, [], ◌++◌, Option, None}
 use Rattle.sctp_receive_queues.specs.Messages as letters
 use Rattle.sctp_model.specs.Messages.{Message}
 use Rattle.sctp_model.specs.Packets.{mem}
 use Rattle.sctp_model.specs.Serial.{tsn}
-use Rattle.sctp_model.specs.Machine.{Direction}
+use Rattle.sctp_model.specs.Machine.{Direction, Sender}
 use Rattle.sctp_model.proofs.Lists.{all_join}
 use Rattle.sctp_assoc.specs.Shown.{Shown}
 use Rattle.sctp_directions.specs.Said.{SaysAll}
@@ -13,11 +13,12 @@ use Rattle.sctp_pair.specs.declared.step.Reply.{Reply}
 use Rattle.sctp_pair.specs.declared.step.Side2.{Side2}
 use Rattle.sctp_pair.specs.declared.step.Side2.TheVariants as sides
 use Rattle.sctp_pair.specs.declared.step.Step.{Step}
-use Rattle.sctp_pair.specs.Ends.{Ends}
+use Rattle.sctp_pair.specs.Ends.{Ends, end_of}
 use Rattle.sctp_pair.specs.Steps.{Steps, packet_in}
-use Rattle.sctp_pair.specs.World.{HasData, IsDirectionStep, IsWithinLimits, World, accepted_at, message_read, other_side, packet_brought}
-use Rattle.sctp_pair.specs.Fits.{AreSaid, Fits, LeadsSafely, Stands}
+use Rattle.sctp_pair.specs.World.{HasData, IsDirectionStep, IsOpen, World, accepted_at, message_read, other_side, packet_brought}
+use Rattle.sctp_pair.specs.Fits.{AreSaid, Fits, LeadsSafely, Stands, StandsIn, StandsOpen}
 use Rattle.sctp_pair.proofs.Between.{Does, Faces, None_brought, Settles, nothing_added, nothing_read}
+use Rattle.sctp_pair.proofs.Packets.{open_state}
 use Rattle.sctp_pair.proofs.Promised.{safe_world}
 use Rattle.sctp_pair.proofs.Saying.{said_grows}
 
@@ -26,12 +27,12 @@ pub faces_a : (w : World) → Fits w.ends w → Faces w.initial_a w.initial_b w.
 faces_a w f = record {
   within_out = f.within.0;
   within_coming = f.within.1;
-  invariant_out = f.invariant_ab;
-  invariant_coming = f.invariant_ba;
-  plain_out = f.plain_ab;
-  plain_coming = f.plain_ba;
-  stands = f.side_a;
-  other = f.side_b;
+  invariant_out = f.stand.invariant_ab;
+  invariant_coming = f.stand.invariant_ba;
+  plain_out = f.stand.plain_ab;
+  plain_coming = f.stand.plain_ba;
+  stands = f.stand.side_a;
+  other = f.stand.side_b;
 }
 
 -- and seen from B
@@ -39,12 +40,12 @@ pub faces_b : (w : World) → Fits w.ends w → Faces w.initial_b w.initial_a w.
 faces_b w f = record {
   within_out = f.within.1;
   within_coming = f.within.0;
-  invariant_out = f.invariant_ba;
-  invariant_coming = f.invariant_ab;
-  plain_out = f.plain_ba;
-  plain_coming = f.plain_ab;
-  stands = f.side_b;
-  other = f.side_a;
+  invariant_out = f.stand.invariant_ba;
+  invariant_coming = f.stand.invariant_ab;
+  plain_out = f.stand.plain_ba;
+  plain_coming = f.stand.plain_ab;
+  stands = f.stand.side_b;
+  other = f.stand.side_a;
 }
 
 -- What a step and its reply add, read and bring is at this side this alone, and at the other side nothing; the DATA that comes to
@@ -57,12 +58,12 @@ pub record IsCallAt (step : Step) (reply : Reply) (side : Side2) (w : World) (in
   pub reads_alone : (s : ℕ) → None ≡ message_read step reply (other_side side) s
 
 -- what a call does to a direction is what a step does there, where it adds, reads and brings the same
-direction_step : (step : Step) (reply : Reply) (sender receiver : Side2) (w : World) (initial : ℕ) (before after : Direction)
+direction_step : (step : Step) (reply : Reply) (sender receiver : Side2) (w : World) (q : Ends) (initial : ℕ) (before after : Direction)
     (Added : ℕ → List Message) (Read : ℕ → Option letters.Message) (Brought : ℕ → Type 0) → Does Added Read Brought before after
     → ((s : ℕ) → Added s ≡ accepted_at step reply sender s w) → ((s : ℕ) → Read s ≡ message_read step reply receiver s)
     → ((o : ℕ) → Brought o → HasData (packet_brought step receiver w) (tsn initial o))
-    → IsDirectionStep step reply sender receiver w initial before after
-direction_step step reply sender receiver w initial before after Added Read Brought d adds reads brings = record {
+    → IsOpen (end_of sender q) ⊎ (after.sender.plan.places ≡ before.sender.plan.places) → IsDirectionStep step reply sender receiver w q initial before after
+direction_step step reply sender receiver w q initial before after Added Read Brought d adds reads brings no_more = record {
   events = d.events;
   happened = d.is;
   accepted = λ s. d.accepted s ∙ ap (λ (z : List Message). before.sender.plan.accepted s ++ z) (adds s);
@@ -71,7 +72,15 @@ direction_step step reply sender receiver w initial before after Added Read Brou
       (λ (n : mem o before.receiver.taken ≡ true). inl n)
       (λ (b : Brought o). inr (brings o b))
       (d.taken o m);
+  point_on = d.point_on;
+  no_more = no_more;
 }
+
+-- an association that stands open is open
+is_open : (own peer : ℕ) (b : Shown) (out coming before : Direction) → StandsOpen own peer b out coming ⊎ (out.sender.plan.places ≡ before.sender.plan.places)
+    → IsOpen b ⊎ (out.sender.plan.places ≡ before.sender.plan.places)
+is_open own peer b out coming before (inl s) = inl (s.working, open_state b.state s.established)
+is_open own peer b out coming before (inr e) = inr e
 
 -- A call of A that settles leads from the world to one in which the pair stands: the packets that it gave out are A's next ones.
 pub settled_a : (step : Step) (r : Reply) (q : Ends) (w : World) (Added : ℕ → List Message) (Read : ℕ → Option letters.Message) (Brought : ℕ → Type 0)
@@ -84,21 +93,21 @@ settled_a step r q w Added Read Brought given fits same_b more same_packets ends
     ends_step = ends;
     same_a = refl;
     same_b = refl;
-    ab_step = direction_step step r sides.A sides.B w w.initial_a w.ab s.out2 Added nothing_read None_brought s.does_out
-        call.adds call.reads_alone (λ o n. absurd n);
-    ba_step = direction_step step r sides.B sides.A w w.initial_b w.ba s.coming2 nothing_added Read Brought s.does_coming
-        call.adds_alone call.reads call.brings;
+    ab_step = direction_step step r sides.A sides.B w q w.initial_a w.ab s.out2 Added nothing_read None_brought s.does_out
+        call.adds call.reads_alone (λ o n. absurd n) (is_open w.initial_a w.initial_b q.a s.out2 s.coming2 w.ab s.no_more);
+    ba_step = direction_step step r sides.B sides.A w q w.initial_b w.ba s.coming2 nothing_added Read Brought s.does_coming
+        call.adds_alone call.reads call.brings (inr (ap (λ (x : Sender). x.plan.places) s.coming_still));
   },
-  λ within. (stands within, safe_world q v (stands within)),
+  stands,
+  λ within. safe_world q v (record { within = within; stand = stands }),
 )
   where
     v : World
     v = record { ends = q; initial_a = w.initial_a; initial_b = w.initial_b; ab = s.out2; ba = s.coming2 }
 
-    stands : IsWithinLimits v → Fits q v
-    stands within = record {
+    stands : StandsIn q v
+    stands = record {
       is = refl;
-      within = within;
       invariant_ab = s.invariant_out;
       invariant_ba = s.invariant_coming;
       plain_ab = s.plain_out;
@@ -107,9 +116,9 @@ settled_a step r q w Added Read Brought given fits same_b more same_packets ends
       side_b = subst (λ (z : Shown). Stands w.initial_b w.initial_a z s.coming2 s.out2) (sym same_b) s.other;
       said_a = subst (λ (z : List (List ℕ)). AreSaid w.initial_a w.initial_b s.out2 s.coming2 z) (sym more)
           (all_join (λ (bytes : List ℕ). SaysAll w.initial_a w.initial_b s.out2 s.coming2 (packet_in bytes)) w.ends.packets_a given
-          (said_grows w.initial_a w.initial_b w.ab w.ba s.out2 s.coming2 w.ends.packets_a (s.does_out).datas (s.does_coming).sacks fits.said_a) said);
+          (said_grows w.initial_a w.initial_b w.ab w.ba s.out2 s.coming2 w.ends.packets_a (s.does_out).datas (s.does_coming).sacks fits.stand.said_a) said);
       said_b = subst (λ (z : List (List ℕ)). AreSaid w.initial_b w.initial_a s.coming2 s.out2 z) (sym same_packets)
-          (said_grows w.initial_b w.initial_a w.ba w.ab s.coming2 s.out2 w.ends.packets_b (s.does_coming).datas (s.does_out).sacks fits.said_b);
+          (said_grows w.initial_b w.initial_a w.ba w.ab s.coming2 s.out2 w.ends.packets_b (s.does_coming).datas (s.does_out).sacks fits.stand.said_b);
     }
 
 -- The same of a call of B.
@@ -123,21 +132,21 @@ settled_b step r q w Added Read Brought given fits same_a more same_packets ends
     ends_step = ends;
     same_a = refl;
     same_b = refl;
-    ab_step = direction_step step r sides.A sides.B w w.initial_a w.ab s.coming2 nothing_added Read Brought s.does_coming
-        call.adds_alone call.reads call.brings;
-    ba_step = direction_step step r sides.B sides.A w w.initial_b w.ba s.out2 Added nothing_read None_brought s.does_out
-        call.adds call.reads_alone (λ o n. absurd n);
+    ab_step = direction_step step r sides.A sides.B w q w.initial_a w.ab s.coming2 nothing_added Read Brought s.does_coming
+        call.adds_alone call.reads call.brings (inr (ap (λ (x : Sender). x.plan.places) s.coming_still));
+    ba_step = direction_step step r sides.B sides.A w q w.initial_b w.ba s.out2 Added nothing_read None_brought s.does_out
+        call.adds call.reads_alone (λ o n. absurd n) (is_open w.initial_b w.initial_a q.b s.out2 s.coming2 w.ba s.no_more);
   },
-  λ within. (stands within, safe_world q v (stands within)),
+  stands,
+  λ within. safe_world q v (record { within = within; stand = stands }),
 )
   where
     v : World
     v = record { ends = q; initial_a = w.initial_a; initial_b = w.initial_b; ab = s.coming2; ba = s.out2 }
 
-    stands : IsWithinLimits v → Fits q v
-    stands within = record {
+    stands : StandsIn q v
+    stands = record {
       is = refl;
-      within = within;
       invariant_ab = s.invariant_coming;
       invariant_ba = s.invariant_out;
       plain_ab = s.plain_coming;
@@ -145,8 +154,8 @@ settled_b step r q w Added Read Brought given fits same_a more same_packets ends
       side_a = subst (λ (z : Shown). Stands w.initial_a w.initial_b z s.coming2 s.out2) (sym same_a) s.other;
       side_b = s.stands;
       said_a = subst (λ (z : List (List ℕ)). AreSaid w.initial_a w.initial_b s.coming2 s.out2 z) (sym same_packets)
-          (said_grows w.initial_a w.initial_b w.ab w.ba s.coming2 s.out2 w.ends.packets_a (s.does_coming).datas (s.does_out).sacks fits.said_a);
+          (said_grows w.initial_a w.initial_b w.ab w.ba s.coming2 s.out2 w.ends.packets_a (s.does_coming).datas (s.does_out).sacks fits.stand.said_a);
       said_b = subst (λ (z : List (List ℕ)). AreSaid w.initial_b w.initial_a s.out2 s.coming2 z) (sym more)
           (all_join (λ (bytes : List ℕ). SaysAll w.initial_b w.initial_a s.out2 s.coming2 (packet_in bytes)) w.ends.packets_b given
-          (said_grows w.initial_b w.initial_a w.ba w.ab s.out2 s.coming2 w.ends.packets_b (s.does_out).datas (s.does_coming).sacks fits.said_b) said);
+          (said_grows w.initial_b w.initial_a w.ba w.ab s.out2 s.coming2 w.ends.packets_b (s.does_out).datas (s.does_coming).sacks fits.stand.said_b) said);
     }

@@ -1,5 +1,5 @@
 -- Each simple call of an association that faces another one leads to directions between which both of them stand.
-use Rattle.std.proofs.Common.{◌≡◌, refl, sym, ap, ◌∙◌, subst, ◌⊎◌, ⊎_elim, inl, inr, ℕ, Bool, true, false, eqb, if◌then◌else◌, List, [], ◌∷◌, Option, Some, None, is_some}
+use Rattle.std.proofs.Common.{◌≡◌, refl, sym, ap, ◌∙◌, subst, ◌⊎◌, ⊎_elim, inl, inr, ℕ, Bool, true, false, eqb, if◌then◌else◌, List, [], ◌∷◌, Option, Some, None, is_some, arith}
 use Rattle.std.specs.Prelude.{slice_get}
 use Rattle.std.proofs.lemmas.Bool.{cases_Bool, cond-false, cond-true, true≢false}
 use Rattle.sctp_wire_types.specs.declared.error.Error.TheVariants as errors
@@ -44,6 +44,8 @@ still own peer a b y out coming f s = record {
   plain_coming = f.plain_coming;
   stands = s;
   other = f.other;
+  no_more = inr refl;
+  coming_still = refl;
 }
 
 -- a call that does nothing
@@ -118,6 +120,7 @@ goes_by_received w e h taken reads = record {
   taken = λ o m. inl (subst (λ (os : List ℕ). mem o os ≡ true) taken m);
   datas = λ k d g. subst (λ (ds : List Data). slice_get ds k ≡ Some d) (sym h.datas) g;
   sacks = h.sacks;
+  point_on = (let e = ap (λ x. x.point) h.sender in omega arith);
 }
 
 -- such an event happened to the direction that comes, and the association stands between its directions then
@@ -135,6 +138,8 @@ settles_by_received own peer a b y out coming e f received goes invariant plain 
   plain_coming = plain;
   stands = s;
   other = other_by_coming peer own y coming (happens coming e) out received.sender f.other;
+  no_more = inr refl;
+  coming_still = received.sender;
 }
 
 -- The association failed

@@ -75,16 +75,18 @@ pub fits_start : (config_a config_b : Settings) (size_a size_b : ℕ) (remote_a 
     → Fits p (empty_world p token_a.initial_tsn token_b.initial_tsn size_a size_b)
 fits_start config_a config_b size_a size_b remote_a remote_b token_a token_b a b joins_a joins_b is_a is_b binds_a binds_b p is =
     subst (λ (z : Ends). Fits z (empty_world z token_a.initial_tsn token_b.initial_tsn size_a size_b)) (sym is) record {
-      is = refl;
       within = (within_fresh size_a, within_fresh size_b);
-      invariant_ab = fresh_holds size_a (some_size size_a token_a token_b joins_a);
-      invariant_ba = fresh_holds size_b (some_size size_b token_b token_a joins_b);
-      plain_ab = plain_fresh size_a;
-      plain_ba = plain_fresh size_b;
-      side_a = inl (stands_a a is_a binds_a);
-      side_b = inl (stands_b b is_b binds_b);
-      said_a = tt;
-      said_b = tt;
+      stand = record {
+        is = refl;
+        invariant_ab = fresh_holds size_a (some_size size_a token_a token_b joins_a);
+        invariant_ba = fresh_holds size_b (some_size size_b token_b token_a joins_b);
+        plain_ab = plain_fresh size_a;
+        plain_ba = plain_fresh size_b;
+        side_a = inl (stands_a a is_a binds_a);
+        side_b = inl (stands_b b is_b binds_b);
+        said_a = tt;
+        said_b = tt;
+      };
     }
   where
     stands_a : (x : Shown) → x ≡ joined config_a size_a remote_a None token_a token_b → Binds x (begun token_a.initial_tsn token_b.initial_tsn)

@@ -1,5 +1,5 @@
 -- What comes to one association: DATA of the other's direction is taken in, and reported, while its own direction stands still.
-use Rattle.std.proofs.Common.{◌≡◌, refl, sym, ap, subst, ◌⊎◌, ⊎_elim, inl, inr, ℕ, ◌^◌, ◌-◌, Bool, true, false, ltb, if◌then◌else◌, ◌&&◌, List, [], ◌∷◌, ◌++◌, length, Option, Some, None, Result, Ok, Err}
+use Rattle.std.proofs.Common.{◌≡◌, refl, sym, ap, subst, ◌⊎◌, ⊎_elim, inl, inr, ℕ, ◌^◌, ◌-◌, Bool, true, false, ltb, if◌then◌else◌, ◌&&◌, List, [], ◌∷◌, ◌++◌, length, Option, Some, None, Result, Ok, Err, arith}
 use Rattle.std.specs.Prelude.{slice_get}
 use Rattle.sctp_wire_types.specs.declared.chunk.Chunk.TheVariants as chunks
 use Rattle.sctp_wire_types.specs.declared.chunk.ChunkPayloadData.{ChunkPayloadData}
@@ -41,18 +41,20 @@ goes_by_received B w e h reads taken = record {
   taken = taken;
   datas = λ k d g. subst (λ z. slice_get z k ≡ Some d) (sym h.datas) g;
   sacks = h.sacks;
+  point_on = (let e = ap (λ x. x.point) h.sender in omega arith);
 }
 
 -- What was done at the receiver of the direction that comes.
 pub record AfterComing (own peer : ℕ) (p : Parts) (y : Shown) (out coming : Direction) (B : ℕ → Type 0) : Type 0 where
   pub coming2 : Direction
   pub goes : Goes B coming coming2
+  pub still : coming2.sender ≡ coming.sender
   pub within : IsWithin coming2
   pub holds : Holds own peer p y out coming2
 
 pub coming_nowhere : (own peer : ℕ) (p : Parts) (y : Shown) (out coming : Direction) (B : ℕ → Type 0) → IsWithin coming → Holds own peer p y out coming
     → AfterComing own peer p y out coming B
-coming_nowhere own peer p y out coming B within h = record { coming2 = coming; goes = goes_nowhere B coming; within = within; holds = h }
+coming_nowhere own peer p y out coming B within h = record { coming2 = coming; goes = goes_nowhere B coming; still = refl; within = within; holds = h }
 
 reads_open : (w : Direction) (id s : ℕ) → (happens w (Event.Open id)).reads s ≡ w.reads s
 unfolding happens
@@ -70,6 +72,7 @@ act_opened own peer id first kind p y out coming B h within none =
       coming2 = happens coming (Event.Open id);
       goes = goes_by_received B coming (Event.Open id) received (reads_open coming id)
           (λ o m. inl (subst (λ z. mem o z ≡ true) (open_takes coming id) m));
+      still = received.sender;
       within = within_open coming id within;
       holds = record {
         own_is = h.own_is;
@@ -95,6 +98,7 @@ act_took own peer k piece d t p y out coming B h within can e said live brought 
       goes = goes_by_received B coming (Event.DataComes k) received
           (λ s. data_cases (λ v. v.reads s ≡ coming.reads s) coming k refl (λ x f. refl))
           (λ o m. ⊎_elim (λ (a : mem o coming.receiver.taken ≡ true). inl a) (λ (a : o ≡ d.offset). inr (subst B (sym a) brought)) (data_takes coming k d o e m));
+      still = received.sender;
       within = within_data coming k within;
       holds = record {
         own_is = h.own_is;
@@ -126,6 +130,7 @@ act_reported own peer p y out coming B h within =
       after = record {
         coming2 = happens coming Event.SackMade;
         goes = goes_by_received B coming Event.SackMade received (reads_report coming) (λ o m. inl (subst (λ z. mem o z ≡ true) (sack_takes coming) m));
+        still = received.sender;
         within = within_sack coming within;
         holds = record {
           own_is = h.own_is;

@@ -1,5 +1,5 @@
 -- A write that an association accepts: the direction accepts that message behind those accepted before.
-use Rattle.std.proofs.Common.{◌≡◌, refl, sym, ap, ◌∙◌, subst, ⊎_elim, inl, ℕ, ◌<◌, ◌≤◌, arith, Bool, true, false, eqb, ltb, ◌||◌, if◌then◌else◌, List, [], ◌∷◌, ◌++◌, length, Option, Some, None, is_some}
+use Rattle.std.proofs.Common.{◌≡◌, refl, sym, ap, ◌∙◌, subst, ⊎_elim, inl, ℕ, ◌<◌, ◌≤◌, arith, Bool, true, false, eqb, ltb, ◌||◌, if◌then◌else◌, List, [], ◌∷◌, ◌++◌, length, Option, Some, None, is_some, inr}
 use Rattle.std.specs.Prelude.{◌==◌, slice_get}
 use Rattle.std.proofs.lemmas.Bool.{cases_eq, cond-false, cond-true, eq-eqb, eqb-false, ltb-false, ne_eqb, or_parts, true≢false}
 use Rattle.std.proofs.lemmas.List.{append-nil}
@@ -100,6 +100,7 @@ write_does a id n bytes t w there simple =
       taken = λ o m. inl (subst (λ (r : Receiver). mem o r.taken ≡ true) event.receiver m);
       datas = event.datas;
       sacks = λ k x e. subst (λ (ks : List Sack). slice_get ks k ≡ Some x) (sym event.sacks) e;
+      point_on = (let e = ap (λ (v : Direction). v.sender.point) (happens_write w id (message_on t bytes) simple) in omega arith);
     }
 
 written_settles : (own peer : ℕ) (a y : Shown) (out coming : Direction) (id n : ℕ) (bytes : List ℕ) → (can : CanWrite a id (length bytes))
@@ -127,6 +128,8 @@ written_settles own peer a y out coming id n bytes can f s =
           (wrote_fits (parts a s.past) id bytes coming s.incoming));
       other = other_by_out peer own y coming out out2 (λ p g. write_fits p out id (message_on t bytes) f.invariant_out f.plain_out g)
           (ap (λ (r : Receiver). r.is_open) event.receiver) f.other;
+      no_more = inr (ap (λ (v : Direction). v.sender.plan.places) (happens_write out id (message_on t bytes) simple));
+      coming_still = refl;
     }
 
 -- A write: the message that an accepted one brings is the next of its stream. A closed association refuses it.

@@ -53,9 +53,8 @@ abbrev pub AreSaid : ℕ → ℕ → Direction → Direction → List (List ℕ)
 AreSaid own peer out coming packets = AllByRecursion (λ (bytes : List ℕ). SaysAll own peer out coming (packet_in bytes)) packets
 
 -- A pair stands in a world.
-pub record Fits (p : Ends) (w : World) : Type 0 where
+pub record StandsIn (p : Ends) (w : World) : Type 0 where
   pub is : p ≡ w.ends
-  pub within : IsWithinLimits w
   pub invariant_ab : Invariant w.ab
   pub invariant_ba : Invariant w.ba
   pub plain_ab : IsPlain w.ab
@@ -65,15 +64,20 @@ pub record Fits (p : Ends) (w : World) : Type 0 where
   pub said_a : AreSaid w.initial_a w.initial_b w.ab w.ba w.ends.packets_a
   pub said_b : AreSaid w.initial_b w.initial_a w.ba w.ab w.ends.packets_b
 
--- One step leads to a next world; where that is within the limits, the pair stands in it, and it is safe.
-abbrev pub LeadsSafely : Step → Reply → World → Ends → Type 0
-LeadsSafely step reply w q = (v : World) × IsWorldStep step w reply v × (IsWithinLimits v → Fits q v × IsSafeWorld v)
+-- It fits the world where that is within the limits, too.
+pub record Fits (p : Ends) (w : World) : Type 0 where
+  pub within : IsWithinLimits w
+  pub stand : StandsIn p w
 
--- The steps with these replies are a run of worlds from w on, safe after each step, and the pair stands in its last world; all this
--- as long as each world so far is within the limits.
+-- One step leads to a next world, in which the pair stands then; where that is within the limits, it is safe.
+abbrev pub LeadsSafely : Step → Reply → World → Ends → Type 0
+LeadsSafely step reply w q = (v : World) × IsWorldStep step w reply v × StandsIn q v × (IsWithinLimits v → IsSafeWorld v)
+
+-- The steps with these replies lead from world to world, from w on, and the pair stands in each. As long as each so far is within the
+-- limits, it is safe too, and so it goes on; in the last one the pair fits.
 abbrev pub RunsSafely : List Step → List Reply → World → Ends → Type 0
 RunsSafely [] [] w q = Fits q w
 RunsSafely (s ∷ ss) (r ∷ rs) w q =
-    (v : World) × IsWorldStep s w r v × (IsWithinLimits v → IsSafeWorld v × RunsSafely ss rs v q)
+    (v : World) × IsWorldStep s w r v × StandsIn v.ends v × (IsWithinLimits v → IsSafeWorld v × RunsSafely ss rs v q)
 RunsSafely [] (r ∷ rs) w q = ⊥
 RunsSafely (s ∷ ss) [] w q = ⊥

@@ -1,5 +1,5 @@
 -- Both directions between two associations that face each other, and all that ever happened in them.
-use Rattle.std.specs.Prelude.{◌≡◌, ℕ, Bool, true, false, ◌&&◌, ◌++◌, ◌+◌, ◌==◌, ◌⊎◌, if◌then◌else◌, List, [], ◌∷◌, map, slice_get, Option, Some, None}
+use Rattle.std.specs.Prelude.{◌≡◌, ◌≤◌, ℕ, Bool, true, false, ◌&&◌, ◌++◌, ◌+◌, ◌==◌, ◌⊎◌, if◌then◌else◌, List, [], ◌∷◌, map, slice_get, Option, Some, None}
 use Rattle.sctp_wire_types.specs.declared.chunk.Chunk.TheVariants as chunks
 use Rattle.sctp_wire_types.specs.declared.chunk.ChunkPayloadData.{ChunkPayloadData}
 use Rattle.sctp_wire.specs.declared.packet.Packet.{Packet}
@@ -83,31 +83,34 @@ HasData None t = ⊥
 HasData (Some packet) t =
     (k : ℕ) × (c : ChunkPayloadData) × (slice_get packet.chunks k ≡ Some (chunks.Data c)) × (c.tsn ≡ t)
 
+-- neither closed nor failed
+abbrev pub IsOpen : Shown → Type 0
+IsOpen a = (a.failed ≡ false) × (is_closed_state a.state ≡ false)
+
 -- What a step does to the direction from one side to the other, of this initial TSN: its write is accepted, its read gives the
--- next message, and nothing is taken in but DATA of the packet that it delivers. Whatever else it does are events of the model.
-pub record IsDirectionStep (step : Step) (reply : Reply) (sender receiver : Side2) (w : World) (initial : ℕ) (before after : Direction) : Type 0 where
+-- next message, and nothing is taken in but DATA of the packet that it delivers. Whatever else it does are events of the model; the
+-- acknowledged point moves on alone, and a sender that isn't open afterwards assigned no offset.
+pub record IsDirectionStep (step : Step) (reply : Reply) (sender receiver : Side2) (w : World) (q : Ends) (initial : ℕ) (before after : Direction) : Type 0 where
   pub events : List Event
   pub happened : after ≡ run events before
   pub accepted : (s : ℕ) → after.sender.plan.accepted s ≡ before.sender.plan.accepted s ++ accepted_at step reply sender s w
   pub read : (s : ℕ) → IsReadAs (message_read step reply receiver s) (before.reads s) (after.reads s)
   pub taken : (o : ℕ) → mem o after.receiver.taken ≡ true
       → (mem o before.receiver.taken ≡ true) ⊎ HasData (packet_brought step receiver w) (tsn initial o)
+  pub point_on : before.sender.point ≤ after.sender.point
+  pub no_more : IsOpen (end_of sender q) ⊎ (after.sender.plan.places ≡ before.sender.plan.places)
 
 -- A step with its reply, from one world to the next.
 pub record IsWorldStep (step : Step) (w : World) (reply : Reply) (v : World) : Type 0 where
   pub ends_step : Steps step w.ends reply v.ends
   pub same_a : v.initial_a ≡ w.initial_a
   pub same_b : v.initial_b ≡ w.initial_b
-  pub ab_step : IsDirectionStep step reply sides.A sides.B w w.initial_a w.ab v.ab
-  pub ba_step : IsDirectionStep step reply sides.B sides.A w w.initial_b w.ba v.ba
+  pub ab_step : IsDirectionStep step reply sides.A sides.B w v.ends w.initial_a w.ab v.ab
+  pub ba_step : IsDirectionStep step reply sides.B sides.A w v.ends w.initial_b w.ba v.ba
 
 -- the numbers that wrap are far from meeting themselves, in both directions
 abbrev pub IsWithinLimits : World → Type 0
 IsWithinLimits w = IsWithin w.ab × IsWithin w.ba
-
--- neither closed nor failed
-abbrev pub IsOpen : Shown → Type 0
-IsOpen a = (a.failed ≡ false) × (is_closed_state a.state ≡ false)
 
 -- What is promised of the direction w from one association to the other: each stream within its span is safe, and what safety
 -- speaks of are the associations' own values: the receiver is open where it is neither closed nor failed; what is ready is what
