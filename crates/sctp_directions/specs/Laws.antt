@@ -23,8 +23,7 @@ WritesAreAccepted = (a : Parts) (id : ℕ) (bytes : List ℕ) (t : Stream) (w : 
     → length bytes ≤ w.sender.plan.size → IsPlain w → FitsOutgoing a w
     → FitsOutgoing (done (Act.Wrote id bytes) a) (happens w (Event.Write id (message_on t bytes)))
 
--- A piece that goes out for the first time is the next message of some stream, which begins; one that goes out again is that of its
--- offset. Both give out DATA of the direction.
+-- A piece that goes out again is that of its offset, and is DATA of the direction.
 abbrev pub PiecesAreGiven : Type 0
 PiecesAreGiven = (a : Parts) (place : ℕ) (w : Direction) → Can (Act.SentAgain place) a → IsPlain w → FitsOutgoing a w
     → FitsOutgoing (done (Act.SentAgain place) a) (happens w (Event.Resend (w.sender.point + place)))

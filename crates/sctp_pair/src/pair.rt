@@ -119,8 +119,8 @@ impl Pair {
 
     /// Carries out the steps, in order. Refused for want of memory before the first step alone, with nothing changed.
     ///
-    /// From each world in which the pair stands, the steps lead from world to world, safe after each of them, as long as each world
-    /// is within the limits.
+    /// From each world that the pair fits, the steps lead from world to world, in each of which the pair stands; as long as each so
+    /// far is within the limits, it is safe.
     #[tactic(auto, using(crate::proofs::Worlds::runs_lead))]
     pub fn run(&mut self, steps: &[Step]) -> Result<Vec<Reply>, Error>
         ensures ok { IfOk result (λ replies. Runs steps.now replies.items self.old self.new) }
@@ -132,8 +132,8 @@ impl Pair {
 
     /// Carries out one step.
     ///
-    /// From each world in which the pair stands, it leads to a next one; where that is within the limits, the pair stands in it, and
-    /// it is safe.
+    /// From each world that the pair fits, it leads to a next one, in which the pair stands; where that is within the limits, it is
+    /// safe.
     #[tactic(auto, using(crate::proofs::Assembled::step_leads))]
     pub fn step(&mut self, step: &Step) -> Reply
         ensures exact { Steps step.now self.old result self.new }
