@@ -12,6 +12,10 @@ use Rattle.sctp_inbound.specs.declared.receiver.AckWish.TheVariants as wishes
 abbrev pub fresh_receiver : ℕ → ℕ → Receiver
 fresh_receiver size point = record { point = point; ack_state = states.Idle; buffer_size = size }
 
+-- the peer's initial TSN is known, and nothing came from there on
+abbrev pub receiver_from : Receiver → ℕ → Receiver
+receiver_from r initial_tsn = record r { point = (initial_tsn + 2 ^ 32 - 1) % 2 ^ 32 }
+
 -- the TSN after the cumulative TSN ack point
 abbrev pub is_next_after : Receiver → ℕ → Bool
 is_next_after r tsn = tsn == (r.point + 1) % 2 ^ 32

@@ -1,8 +1,10 @@
 //! What an association knows of its peer and what it took in: the values that the handshake fixes, and the receiver.
 #![tactic(auto)]
 
+mod greeting;
 mod handshake;
 mod receiver;
 
-pub use handshake::Handshake;
+pub use greeting::{heartbeat_ack, heartbeat_information, state_cookie};
+pub use handshake::{Handshake, Offer};
 pub use receiver::{AckWish, Receiver};

@@ -1,6 +1,6 @@
 // What came and when it is acknowledged.
 ghost use Rattle.std.specs.Prelude.{◌≡◌, IfOk};
-ghost use Rattle.sctp_inbound.specs.Receiver.{fresh_receiver, is_next_after, taken_to, asked, ended_packet, ended_packet_timers, credit_of, acknowledged_at_once, acknowledged, sack_of};
+ghost use Rattle.sctp_inbound.specs.Receiver.{fresh_receiver, is_next_after, receiver_from, taken_to, asked, ended_packet, ended_packet_timers, credit_of, acknowledged_at_once, acknowledged, sack_of};
 
 use sctp_parts::state::AckState;
 use sctp_parts::timer::{ACK_INTERVAL, Timer, TimerTable};
@@ -35,6 +35,13 @@ impl Receiver {
             ack_state: AckState::Idle,
             buffer_size,
         }
+    }
+
+    /// The peer's initial TSN is known: nothing came of what it sends from there on.
+    pub fn meet(&mut self, initial_tsn: u32)
+        ensures { self.new ≡ receiver_from self.old initial_tsn }
+    {
+        self.point = initial_tsn.wrapping_sub(1);
     }
 
     /// Whether this is the TSN after the point.
