@@ -8,8 +8,9 @@ use std::alloc::{AllocError, Global};
 /// What one line asks for.
 #[derive(Drop)]
 pub enum Line {
-    /// Join two associations by tokens.
-    Snap {
+    /// Make two associations.
+    Begin {
+        by: Beginning,
         max_payload_size: u32,
         tsn_a: u32,
         tsn_b: u32,
@@ -19,6 +20,15 @@ pub enum Line {
     State(Side2),
 }
 
+/// How two associations come about.
+#[derive(Clone, Copy, Debug)]
+pub enum Beginning {
+    /// Tokens join them.
+    Tokens,
+    /// A is a client and B a server, before their handshake.
+    Handshake,
+}
+
 /// Reads a line without its newline; None where it is no step. Fields are separated by one space.
 pub fn parse(alloc: Global, line: &[u8]) -> Result<Option<Line>, AllocError> {
     let Ok(text) = str::from_utf8(line) else {
@@ -26,15 +36,17 @@ pub fn parse(alloc: Global, line: &[u8]) -> Result<Option<Line>, AllocError> {
     };
     let fields: Vec<&str> = text.split(' ').collect(alloc)?;
     match fields.as_slice() {
-        ["snap", size, tsn_a, tsn_b] => Ok(snap(size, tsn_a, tsn_b)),
+        ["snap", size, tsn_a, tsn_b] => Ok(begin(Beginning::Tokens, size, tsn_a, tsn_b)),
+        ["client", size, tsn_a, tsn_b] => Ok(begin(Beginning::Handshake, size, tsn_a, tsn_b)),
         ["write", side, id, bytes] => write(alloc, side, id, bytes),
         ["state", side] => Ok(side_of(side).map(|side| Line::State(side))),
         fields => Ok(other_step(fields).map(|step| Line::Step(step))),
     }
 }
 
-fn snap(size: &str, tsn_a: &str, tsn_b: &str) -> Option<Line> {
-    Some(Line::Snap {
+fn begin(by: Beginning, size: &str, tsn_a: &str, tsn_b: &str) -> Option<Line> {
+    Some(Line::Begin {
+        by,
         max_payload_size: number_u32(size)?,
         tsn_a: number_u32(tsn_a)?,
         tsn_b: number_u32(tsn_b)?,

@@ -2,7 +2,7 @@
 ghost use Rattle.std.specs.Prelude.{◌≡◌, ◌⊎◌};
 
 use crate::line::{Line, parse};
-use crate::setting::snapped;
+use crate::setting::begun;
 use crate::show::show;
 use sctp_pair::{Pair, Reply, Side2, Step};
 use std::alloc::{AllocError, Global};
@@ -92,12 +92,13 @@ fn replay_lines<R: BufRead, W: Write>(
 fn first_step<W: Write>(alloc: Global, writer: &mut W, line: &[u8]) -> Result<Option<Pair>, Stop> {
     match parse(alloc, line)? {
         Some(
-            Line::Snap {
+            Line::Begin {
+                by,
                 max_payload_size,
                 tsn_a,
                 tsn_b,
             },
-        ) => match snapped(alloc, max_payload_size, tsn_a, tsn_b) {
+        ) => match begun(alloc, by, max_payload_size, tsn_a, tsn_b) {
             Ok(pair) => {
                 write_line(alloc, writer, Reply::Done)?;
                 Ok(Some(pair))

@@ -1,6 +1,7 @@
 // The setting in which every session runs.
+use crate::line::Beginning;
 use bytes::Bytes;
-use sctp_assoc::{ChunkInit, Error, TransportConfig};
+use sctp_assoc::{ChunkInit, Error, Instant, ServerConfig, TransportConfig};
 use sctp_pair::Pair;
 use sctp_wire_types::{List, Param};
 use std::alloc::{AllocError, Global};
@@ -14,7 +15,50 @@ const TAG_B: u32 = 2;
 /// RE-CONFIG and FORWARD TSN, the extensions that both sides list.
 static EXTENSIONS: [u8; 2] = [130, 192];
 
-/// Two associations that tokens join, each with the default configuration.
+/// The State Cookie of either side.
+const COOKIE: [u8; 32] = [67; 32];
+
+/// Two associations, each with the default configuration; a client's INIT is due at the moment 0.
+pub fn begun(
+    alloc: Global,
+    by: Beginning,
+    max_payload_size: u32,
+    tsn_a: u32,
+    tsn_b: u32,
+) -> Result<Pair, Error> {
+    match by {
+        Beginning::Tokens => snapped(alloc, max_payload_size, tsn_a, tsn_b),
+        Beginning::Handshake => client_server(alloc, max_payload_size, tsn_a, tsn_b),
+    }
+}
+
+fn client_server(
+    alloc: Global,
+    max_payload_size: u32,
+    tsn_a: u32,
+    tsn_b: u32,
+) -> Result<Pair, Error> {
+    let config = TransportConfig::default();
+    Pair::client_server(
+        alloc,
+        &config,
+        &ServerConfig::default(),
+        &config,
+        max_payload_size,
+        max_payload_size,
+        TAG_A,
+        TAG_B,
+        tsn_a,
+        tsn_b,
+        COOKIE,
+        COOKIE,
+        address(2),
+        address(1),
+        Instant::from_millis(0),
+    )
+}
+
+/// Two associations that tokens join.
 pub fn snapped(
     alloc: Global,
     max_payload_size: u32,

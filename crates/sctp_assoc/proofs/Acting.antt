@@ -64,6 +64,7 @@ resent_first None q place = refl
 resent_first (Some p) q place = refl
 
 pub act_tied : (x : Act) (p : Parts) → Can x p → Tied p → Tied (done x p)
+act_tied (Act.Met t) p c e = e
 act_tied (Act.Opened id first kind) p c e = e
 act_tied (Act.Wrote id bytes) p c e = written_tied (stream_at p.streams id) p id bytes e
 act_tied (Act.Sent now) p c e = sent_first p.queue.pending p.queue now ∙ e

@@ -2,6 +2,7 @@
 use Rattle.std.proofs.Common.{ℕ, List, [], ◌∷◌}
 use Rattle.std.specs.List.{AllByRecursion}
 use Rattle.sctp_wire_types.specs.declared.chunk.Chunk.{Chunk}
+use Rattle.sctp_wire_types.specs.declared.packet.CommonHeader.{CommonHeader}
 use Rattle.sctp_queues.specs.declared.event.AssociationError.TheVariants as reasons
 use Rattle.sctp_inbound.specs.declared.receiver.AckWish.{AckWish}
 use Rattle.sctp_assoc.specs.declared.inbound.Flow.{Flow}
@@ -17,11 +18,11 @@ goes_carry P Q (b, flows.Fault fault) more closes h on = closes b h
 
 -- P holds before each chunk, and Q once the packet is over: at its end, or where a fault closes the association
 pub chunks_carry : (P Q : Shown → Type 0) (Said : Chunk → Type 0)
-    → ((c : Chunk) (a : Shown) (wish : AckWish) (now : ℕ) → Said c → P a → P (on_chunk a c wish now).0)
+    → ((header : CommonHeader) (c : Chunk) (a : Shown) (wish : AckWish) (now : ℕ) → Said c → P a → P (on_chunk a header c wish now).0)
     → ((a : Shown) (wish : AckWish) (now : ℕ) → P a → Q (ended a wish now))
     → ((a : Shown) → P a → Q (closed_by a reasons.AssociationClosed))
-    → (cs : List Chunk) (a : Shown) (wish : AckWish) (now : ℕ) → AllByRecursion Said cs → P a → Q (after_chunks cs a wish now)
-chunks_carry P Q Said step ends closes [] a wish now all h = ends a wish now h
-chunks_carry P Q Said step ends closes (c ∷ cs) a wish now (said, all) h =
-    goes_carry P Q (on_chunk a c wish now) (λ b next. after_chunks cs b next now) closes (step c a wish now said h)
-    (λ b next k. chunks_carry P Q Said step ends closes cs b next now all k)
+    → (header : CommonHeader) (cs : List Chunk) (a : Shown) (wish : AckWish) (now : ℕ) → AllByRecursion Said cs → P a → Q (after_chunks header cs a wish now)
+chunks_carry P Q Said step ends closes header [] a wish now all h = ends a wish now h
+chunks_carry P Q Said step ends closes header (c ∷ cs) a wish now (said, all) h =
+    goes_carry P Q (on_chunk a header c wish now) (λ b next. after_chunks header cs b next now) closes (step header c a wish now said h)
+    (λ b next k. chunks_carry P Q Said step ends closes header cs b next now all k)

@@ -1,24 +1,30 @@
 -- A packet closes an association exactly where it is open and a chunk of the packet is a fault.
-use Rattle.std.proofs.Common.{◌≡◌, refl, ap, ◌∙◌, subst, ℕ, ◌+◌, arith, Bool, true, false, not, ◌&&◌, if◌then◌else◌, List, [], ◌∷◌, ◌++◌, map, nat_lt, Option, Some, None, Result, Ok, Err, is_some}
+use Rattle.std.proofs.Common.{◌≡◌, refl, sym, ap, ◌∙◌, ℕ, ◌+◌, arith, Bool, true, false, not, ◌&&◌, if◌then◌else◌, List, [], ◌∷◌, ◌++◌, map, nat_lt, Option, Some, None, Result, Ok, Err, is_some}
+use Rattle.std.proofs.lemmas.Bool.{false≢true}
 use Rattle.std.proofs.lemmas.List.Sums.{sum_by-append, sum_by-cons}
 use Rattle.sctp_wire_types.specs.declared.chunk.Chunk.{Chunk}
 use Rattle.sctp_wire_types.specs.declared.chunk.Chunk.TheVariants as chunks
 use Rattle.sctp_wire_types.specs.declared.chunk.ChunkPayloadData.{ChunkPayloadData}
+use Rattle.sctp_wire_types.specs.declared.chunk.ChunkHeartbeat.{ChunkHeartbeat}
+use Rattle.sctp_wire_types.specs.declared.chunk.ChunkInit.{ChunkInit}
+use Rattle.sctp_wire_types.specs.declared.packet.CommonHeader.{CommonHeader}
 use Rattle.sctp_wire_types.specs.declared.error.Error.{Error}
 use Rattle.sctp_wire_types.specs.declared.event.StreamEvent.TheVariants.{Opened, Readable}
 use Rattle.sctp_wire_types.specs.Checks.{checked_chunk}
 use Rattle.sctp_wire.specs.declared.packet.Packet.{Packet}
-use Rattle.sctp_parts.specs.declared.state.AssociationState.{AssociationState}
+use Rattle.sctp_parts.specs.declared.state.AssociationState.TheVariants as states
 use Rattle.sctp_parts.specs.Estimate.{Estimate}
 use Rattle.sctp_queues.specs.declared.event.AssociationError.{AssociationError}
 use Rattle.sctp_queues.specs.declared.event.AssociationError.TheVariants as reasons
 use Rattle.sctp_queues.specs.declared.event.Event.{Event}
-use Rattle.sctp_queues.specs.declared.event.Event.TheVariants.{AssociationLost, DataChannelStatsFinal, DatagramReceived}
+use Rattle.sctp_queues.specs.declared.event.Event.TheVariants.{AssociationLost, Connected, DataChannelStatsFinal, DatagramReceived}
 use Rattle.sctp_queues.specs.declared.event.Event.TheVariants as events
 use Rattle.sctp_queues.specs.declared.stats.DataChannelStats.{DataChannelStats}
 use Rattle.sctp_queues.specs.Streams.{StreamMap, bytes_waiting, generation_left, is_readable_in, last_stats, pushed_in, refusal_in, stream_at}
 use Rattle.sctp_inbound.specs.declared.receiver.AckWish.{AckWish}
 use Rattle.sctp_inbound.specs.declared.receiver.AckWish.TheVariants as wishes
+use Rattle.sctp_inbound.specs.Greeting.{first_cookie, information_of}
+use Rattle.sctp_inbound.specs.Handshake.{comes_back, has_issued}
 use Rattle.sctp_inbound.specs.Receiver.{credit_of, is_next_after}
 use Rattle.sctp_outbound.specs.declared.sender.Sender.{Sender}
 use Rattle.sctp_outbound.specs.declared.sender.SackOutcome.{SackOutcome}
@@ -26,23 +32,25 @@ use Rattle.sctp_outbound.specs.declared.sender.SackOutcome.TheVariants as outcom
 use Rattle.sctp_outbound.specs.Sender.{acknowledged, points_to, sack_outcome, with_window}
 use Rattle.sctp_assoc.specs.declared.inbound.Flow.{Flow}
 use Rattle.sctp_assoc.specs.declared.inbound.Flow.TheVariants as flows
-use Rattle.sctp_assoc.specs.Calls.{closed_by, is_closed_state, is_established}
+use Rattle.sctp_assoc.specs.Calls.{closed_by, is_beginning, is_closed_state, is_cookie_echoed, is_cookie_wait, is_established}
+use Rattle.sctp_assoc.specs.Handshake.{acknowledged_cookie, answered, connected, cookie_queued, echoed, information_returned, met, met_back, on_cookie_ack, on_cookie_echo, on_heartbeat, on_init, on_init_ack, sends_cookie}
 use Rattle.sctp_assoc.specs.Chunks.{after_chunks, after_packet_of, asks_or_faults, checked_first, dispatched, goes_on, is_whole, on_chunk, on_counted_data, on_counted_sack, on_data, on_next_data, on_sack, stream_found, taken_in, taken_unless, told, with_acknowledged, with_message}
 use Rattle.sctp_assoc.specs.Laws.{FaultsAloneClose, IsClosedIf, faults_or, is_faulted, is_faulted_packet, loss_of, losses}
 use Rattle.sctp_assoc.specs.Shown.{Shown}
 
--- What a chunk leaves of an association's end: its state, the mark of a loss, and the losses among the events.
+-- What a chunk leaves of an association's end: it isn't closed unless it was, and the mark of a loss and the losses among the events
+-- are the same.
 pub record GoesOn (a b : Shown) : Type 0 where
-  pub state : b.state ≡ a.state
+  pub still_open : is_closed_state b.state ≡ true → is_closed_state a.state ≡ true
   pub lost : b.lost ≡ a.lost
   pub told : losses b.events ≡ losses a.events
 
 goes_on_there : (a b c : Shown) → GoesOn a b → GoesOn b c → GoesOn a c
-goes_on_there a b c m n = record { state = n.state ∙ m.state; lost = n.lost ∙ m.lost; told = n.told ∙ m.told }
+goes_on_there a b c m n = record { still_open = λ e. m.still_open (n.still_open e); lost = n.lost ∙ m.lost; told = n.told ∙ m.told }
 
 -- nothing of the end changed, or one event came that is no loss
 stays : (a b : Shown) → b.state ≡ a.state → b.lost ≡ a.lost → b.events ≡ a.events → GoesOn a b
-stays a b s l e = record { state = s; lost = l; told = ap losses e }
+stays a b s l e = record { still_open = λ c. ap is_closed_state (sym s) ∙ c; lost = l; told = ap losses e }
 
 one_more_told : (queued : List Event) (event : Event) → losses (queued ++ event ∷ []) ≡ losses queued + loss_of event
 one_more_told queued event =
@@ -55,16 +63,16 @@ tells queued event e = one_more_told queued event ∙ ap (λ (n : ℕ). losses q
 
 told_goes_on : (c : Bool) (b : Shown) (id : ℕ) (kept : Bool) → (kept && is_readable_in b.streams id) ≡ c → GoesOn b (told b id kept)
 told_goes_on true b id kept e = rw e (record {
-  state = refl;
+  still_open = λ c. c;
   lost = refl;
   told = tells (b.events ++ DatagramReceived ∷ []) (events.Stream (Readable id)) refl ∙ tells b.events DatagramReceived refl;
 })
-told_goes_on false b id kept e = rw e (record { state = refl; lost = refl; told = tells b.events DatagramReceived refl })
+told_goes_on false b id kept e = rw e (record { still_open = λ c. c; lost = refl; told = tells b.events DatagramReceived refl })
 
 message_goes_on : (a : Shown) (piece : ChunkPayloadData) (x : StreamMap × Bool) → GoesOn a (with_message a piece x)
 message_goes_on a piece (streams, kept) =
     let m = told_goes_on _ _ piece.stream_identifier kept refl in
-    record { state = m.state; lost = m.lost; told = m.told }
+    record { still_open = m.still_open; lost = m.lost; told = m.told }
 
 taking_goes_on : (o : Option Error) (a : Shown) (piece : ChunkPayloadData) → GoesOn a (taken_unless o a piece).0
 taking_goes_on (Some fault) a piece = stays a a refl refl refl
@@ -89,7 +97,7 @@ found_goes_on : (there left : Bool) (a : Shown) (id : ℕ) → is_some (stream_a
     → GoesOn a (stream_found a id).0
 unfolding stream_found
 found_goes_on true left a id e f = rw e (stays a a refl refl refl)
-found_goes_on false true a id e f = rw (e, f) (record { state = refl; lost = refl; told = tells a.events (events.Stream (Opened id)) refl })
+found_goes_on false true a id e f = rw (e, f) (record { still_open = λ c. c; lost = refl; told = tells a.events (events.Stream (Opened id)) refl })
 found_goes_on false false a id e f = rw (e, f) (stays a a refl refl refl)
 
 data_goes_on : (c : Bool) (b : Shown) (piece : ChunkPayloadData) (wish : AckWish) → (is_next_after b.receiver piece.tsn && is_whole piece) ≡ c
@@ -103,7 +111,7 @@ on_data_goes_on : (a : Shown) (piece : ChunkPayloadData) (wish : AckWish) → Go
 unfolding on_data
 on_data_goes_on a piece wish =
     let m = data_goes_on _ _ piece wish refl in
-    record { state = m.state; lost = m.lost; told = m.told }
+    record { still_open = m.still_open; lost = m.lost; told = m.told }
 
 -- SACK
 
@@ -121,37 +129,80 @@ sack_goes_on : (c : Bool) (a : Shown) (point window : ℕ) (wish : AckWish) (now
 unfolding on_sack
 sack_goes_on true a point window wish now e =
     let m = outcome_goes_on (sack_outcome a.sender point) _ point window wish now in
-    rw e (record { state = m.state; lost = m.lost; told = m.told })
+    rw e (record { still_open = m.still_open; lost = m.lost; told = m.told })
 sack_goes_on false a point window wish now e = rw e (stays a a refl refl refl)
+
+-- the handshake
+
+init_goes_on : (c : Bool) (a : Shown) (header : CommonHeader) (init : ChunkInit) (wish : AckWish) → is_beginning a.state ≡ c → GoesOn a (on_init a header init wish).0
+unfolding on_init
+init_goes_on true a header init wish e = rw e (stays a (answered (met a header init)) refl refl refl)
+init_goes_on false a header init wish e = rw e (stays a a refl refl refl)
+
+echoed_goes_on : (o : Option (List ℕ)) (a b : Shown) (wish : AckWish) (now : ℕ) → b.state ≡ a.state → b.lost ≡ a.lost → b.events ≡ a.events → GoesOn a (echoed o b wish now).0
+unfolding sends_cookie
+echoed_goes_on None a b wish now s l e = stays a b s l e
+echoed_goes_on (Some cookie) a b wish now s l e = record { still_open = λ c. absurd (false≢true c); lost = l; told = ap losses e }
+
+init_ack_goes_on : (waits back : Bool) (a : Shown) (header : CommonHeader) (init : ChunkInit) (wish : AckWish) (now : ℕ) → is_cookie_wait a.state ≡ waits
+    → comes_back a.handshake header ≡ back → GoesOn a (on_init_ack a header init wish now).0
+unfolding on_init_ack
+init_ack_goes_on true true a header init wish now e f = rw (e, f) (echoed_goes_on (first_cookie init.params) a _ wish now refl refl refl)
+init_ack_goes_on true false a header init wish now e f = rw (e, f) (stays a _ refl refl refl)
+init_ack_goes_on false back a header init wish now e f = rw e (stays a a refl refl refl)
+
+connected_goes_on : (a b : Shown) → b.state ≡ states.Established → b.lost ≡ a.lost → b.events ≡ a.events ++ Connected ∷ [] → GoesOn a b
+connected_goes_on a b s l e = record { still_open = λ c. absurd (false≢true (ap is_closed_state (sym s) ∙ c)); lost = l; told = ap losses e ∙ tells a.events Connected refl }
+
+cookie_echo_goes_on : (issued beginning established : Bool) (a : Shown) (cookie : List ℕ) (wish : AckWish) → has_issued a.handshake cookie ≡ issued
+    → is_beginning a.state ≡ beginning → is_established a.state ≡ established → GoesOn a (on_cookie_echo a cookie wish).0
+unfolding on_cookie_echo
+cookie_echo_goes_on false beginning established a cookie wish e f g = rw e (stays a a refl refl refl)
+cookie_echo_goes_on true true established a cookie wish e f g = rw (e, f) (connected_goes_on a (acknowledged_cookie (connected a)) refl refl refl)
+cookie_echo_goes_on true false true a cookie wish e f g = rw (e, f, g) (stays a (acknowledged_cookie a) refl refl refl)
+cookie_echo_goes_on true false false a cookie wish e f g = rw (e, f, g) (stays a a refl refl refl)
+
+cookie_ack_goes_on : (c : Bool) (a : Shown) (wish : AckWish) → is_cookie_echoed a.state ≡ c → GoesOn a (on_cookie_ack a wish).0
+unfolding on_cookie_ack
+cookie_ack_goes_on true a wish e = rw e (connected_goes_on a (connected a) refl refl refl)
+cookie_ack_goes_on false a wish e = rw e (stays a a refl refl refl)
+
+returned_goes_on : (o : Option (List ℕ)) (a : Shown) → GoesOn a (information_returned o a)
+returned_goes_on None a = stays a a refl refl refl
+returned_goes_on (Some information) a = stays a (information_returned (Some information) a) refl refl refl
+
+heartbeat_goes_on : (a : Shown) (heartbeat : ChunkHeartbeat) (wish : AckWish) → GoesOn a (on_heartbeat a heartbeat wish).0
+unfolding on_heartbeat
+heartbeat_goes_on a heartbeat wish = returned_goes_on (information_of heartbeat.params) a
 
 -- Any chunk
 
-kind_goes_on : (c : Chunk) (a : Shown) (wish : AckWish) (now : ℕ) → GoesOn a (dispatched a c wish now).0
-kind_goes_on (chunks.Data piece) a wish now = on_data_goes_on a piece wish
-kind_goes_on (chunks.SelectiveAck sack) a wish now = sack_goes_on _ a sack.cumulative_tsn_ack sack.advertised_receiver_window_credit wish now refl
-kind_goes_on (chunks.Init x) a wish now = stays a a refl refl refl
-kind_goes_on (chunks.InitAck x) a wish now = stays a a refl refl refl
-kind_goes_on (chunks.Heartbeat x) a wish now = stays a a refl refl refl
-kind_goes_on (chunks.HeartbeatAck x) a wish now = stays a a refl refl refl
-kind_goes_on (chunks.Abort x) a wish now = stays a a refl refl refl
-kind_goes_on (chunks.Shutdown x) a wish now = stays a a refl refl refl
-kind_goes_on chunks.ShutdownAck a wish now = stays a a refl refl refl
-kind_goes_on (chunks.Error x) a wish now = stays a a refl refl refl
-kind_goes_on (chunks.CookieEcho x) a wish now = stays a a refl refl refl
-kind_goes_on chunks.CookieAck a wish now = stays a a refl refl refl
-kind_goes_on chunks.ShutdownComplete a wish now = stays a a refl refl refl
-kind_goes_on (chunks.Reconfig x) a wish now = stays a a refl refl refl
-kind_goes_on (chunks.ForwardTsn x) a wish now = stays a a refl refl refl
-kind_goes_on (chunks.IForwardTsn x) a wish now = stays a a refl refl refl
-kind_goes_on (chunks.Other kind flags value) a wish now = stays a a refl refl refl
+kind_goes_on : (header : CommonHeader) (c : Chunk) (a : Shown) (wish : AckWish) (now : ℕ) → GoesOn a (dispatched a header c wish now).0
+kind_goes_on header (chunks.Data piece) a wish now = on_data_goes_on a piece wish
+kind_goes_on header (chunks.SelectiveAck sack) a wish now = sack_goes_on _ a sack.cumulative_tsn_ack sack.advertised_receiver_window_credit wish now refl
+kind_goes_on header (chunks.Init x) a wish now = init_goes_on _ a header x wish refl
+kind_goes_on header (chunks.InitAck x) a wish now = init_ack_goes_on _ _ a header x wish now refl refl
+kind_goes_on header (chunks.Heartbeat x) a wish now = heartbeat_goes_on a x wish
+kind_goes_on header (chunks.HeartbeatAck x) a wish now = stays a a refl refl refl
+kind_goes_on header (chunks.Abort x) a wish now = stays a a refl refl refl
+kind_goes_on header (chunks.Shutdown x) a wish now = stays a a refl refl refl
+kind_goes_on header chunks.ShutdownAck a wish now = stays a a refl refl refl
+kind_goes_on header (chunks.Error x) a wish now = stays a a refl refl refl
+kind_goes_on header (chunks.CookieEcho x) a wish now = cookie_echo_goes_on _ _ _ a x wish refl refl refl
+kind_goes_on header chunks.CookieAck a wish now = cookie_ack_goes_on _ a wish refl
+kind_goes_on header chunks.ShutdownComplete a wish now = stays a a refl refl refl
+kind_goes_on header (chunks.Reconfig x) a wish now = stays a a refl refl refl
+kind_goes_on header (chunks.ForwardTsn x) a wish now = stays a a refl refl refl
+kind_goes_on header (chunks.IForwardTsn x) a wish now = stays a a refl refl refl
+kind_goes_on header (chunks.Other kind flags value) a wish now = stays a a refl refl refl
 
-checked_goes_on : (r : Result (Unit {0}) Error) (c : Chunk) (a : Shown) (wish : AckWish) (now : ℕ) → GoesOn a (checked_first r a c wish now).0
-checked_goes_on (Err fault) c a wish now = stays a a refl refl refl
-checked_goes_on (Ok done) c a wish now = kind_goes_on c a wish now
+checked_goes_on : (r : Result (Unit {0}) Error) (header : CommonHeader) (c : Chunk) (a : Shown) (wish : AckWish) (now : ℕ) → GoesOn a (checked_first r a header c wish now).0
+checked_goes_on (Err fault) header c a wish now = stays a a refl refl refl
+checked_goes_on (Ok done) header c a wish now = kind_goes_on header c a wish now
 
-chunk_goes_on : (c : Chunk) (a : Shown) (wish : AckWish) (now : ℕ) → GoesOn a (on_chunk a c wish now).0
+chunk_goes_on : (header : CommonHeader) (c : Chunk) (a : Shown) (wish : AckWish) (now : ℕ) → GoesOn a (on_chunk a header c wish now).0
 unfolding on_chunk
-chunk_goes_on c a wish now = checked_goes_on (checked_chunk c) c a wish now
+chunk_goes_on header c a wish now = checked_goes_on (checked_chunk c) header c a wish now
 
 -- A packet
 
@@ -167,53 +218,43 @@ loss_told queued stats reason =
     ∙ ap (λ (n : ℕ). n + 1) (sum_by-append loss_of queued (map DataChannelStatsFinal stats) ∙ ap (λ (n : ℕ). losses queued + n) (last_counters_tell stats)
     ∙ omega arith)
 
--- an association is closed by a fault that came after chunks that leave its end as it was
+-- an association that is open is closed by a fault that came after chunks that leave its end as it was
 fault_closes : (closed : Bool) (a b : Shown) (reason : AssociationError) → is_closed_state b.state ≡ closed → GoesOn a b
     → IsClosedIf (not closed) a (closed_by b reason)
-fault_closes true a b reason e m = rw e (record { state = m.state; lost = m.lost; told = m.told ∙ omega arith })
+fault_closes true a b reason e m = rw e (record { closed = λ c. absurd (false≢true c); still_open = λ _ c. m.still_open c; lost = m.lost; told = m.told ∙ omega arith })
 fault_closes false a b reason e m = rw e (record {
-  state = refl;
+  closed = λ _. refl;
+  still_open = λ c _. absurd (false≢true (sym c));
   lost = refl;
   told = loss_told b.events (last_stats b.streams) reason ∙ ap (λ (n : ℕ). n + 1) m.told;
 })
 
 -- what closes an association whose end is as that of another one closes that one
 closed_from : (closing : Bool) (a b c : Shown) → GoesOn a b → IsClosedIf closing b c → IsClosedIf closing a c
-closed_from true a b c m n = record { state = n.state; lost = n.lost; told = n.told ∙ ap (λ (k : ℕ). k + 1) m.told }
-closed_from false a b c m n = record { state = n.state ∙ m.state; lost = n.lost ∙ m.lost; told = n.told ∙ ap (λ (k : ℕ). k + 0) m.told }
+closed_from true a b c m n = record { closed = n.closed; still_open = λ e _. absurd (false≢true (sym e)); lost = n.lost; told = n.told ∙ ap (λ (k : ℕ). k + 1) m.told }
+closed_from false a b c m n = record { closed = n.closed; still_open = λ e s. m.still_open (n.still_open e s); lost = n.lost ∙ m.lost; told = n.told ∙ ap (λ (k : ℕ). k + 0) m.told }
 
-open_and : (c : Bool) → (c && true) ≡ c
-open_and true = refl
-open_and false = refl
-
-open_and_not : (c : Bool) → (c && false) ≡ false
-open_and_not true = refl
-open_and_not false = refl
+stays_open : (a b : Shown) → b.state ≡ a.state → b.lost ≡ a.lost → b.events ≡ a.events → IsClosedIf false a b
+stays_open a b s l e = record { closed = λ c. absurd (false≢true c); still_open = λ _ c. ap is_closed_state (sym s) ∙ c; lost = l; told = ap losses e ∙ omega arith }
 
 after_fault : (x : Shown × Flow) (a : Shown) (more : Shown → AckWish → Shown) (faulted : Shown → AckWish → Bool) → GoesOn a x.0
-    → ((b : Shown) (wish : AckWish) → GoesOn a b → IsClosedIf (not (is_closed_state b.state) && faulted b wish) b (more b wish))
-    → IsClosedIf (not (is_closed_state a.state) && faults_or x faulted) a (goes_on x more)
-after_fault (b, flows.Next wish) a more faulted m on =
-    let rest = closed_from (not (is_closed_state b.state) && faulted b wish) a b (more b wish) m (on b wish m) in
-    subst (λ (s : AssociationState). IsClosedIf (not (is_closed_state s) && faulted b wish) a (more b wish)) m.state rest
-after_fault (b, flows.Fault fault) a more faulted m on =
-    let closed = fault_closes (is_closed_state b.state) a b reasons.AssociationClosed refl m in
-    rw (open_and (not (is_closed_state a.state)), ← ap is_closed_state m.state) closed
+    → ((b : Shown) (wish : AckWish) → IsClosedIf (faulted b wish) b (more b wish)) → IsClosedIf (faults_or x faulted) a (goes_on x more)
+after_fault (b, flows.Next wish) a more faulted m on = closed_from (faulted b wish) a b (more b wish) m (on b wish)
+after_fault (b, flows.Fault fault) a more faulted m on = fault_closes (is_closed_state b.state) a b reasons.AssociationClosed refl m
 
-chunks_close : (cs : List Chunk) (a : Shown) (wish : AckWish) (now : ℕ) → IsClosedIf (not (is_closed_state a.state) && is_faulted cs a wish now) a (after_chunks cs a wish now)
-chunks_close [] a wish now = rw (open_and_not (not (is_closed_state a.state))) (record { state = refl; lost = refl; told = omega arith })
-chunks_close (c ∷ cs) a wish now =
-    after_fault (on_chunk a c wish now) a (λ b next. after_chunks cs b next now) (λ b next. is_faulted cs b next now) (chunk_goes_on c a wish now)
-    (λ b next m. chunks_close cs b next now)
+chunks_close : (header : CommonHeader) (cs : List Chunk) (a : Shown) (wish : AckWish) (now : ℕ) → IsClosedIf (is_faulted header cs a wish now) a (after_chunks header cs a wish now)
+chunks_close header [] a wish now = stays_open a _ refl refl refl
+chunks_close header (c ∷ cs) a wish now =
+    after_fault (on_chunk a header c wish now) a (λ b next. after_chunks header cs b next now) (λ b next. is_faulted header cs b next now)
+    (chunk_goes_on header c a wish now) (λ b next. chunks_close header cs b next now)
 
-packet_closes : (packet : Option Packet) (a : Shown) (now : ℕ)
-    → IsClosedIf (not (is_closed_state a.state) && is_faulted_packet a packet now) a (after_packet_of a packet now)
-packet_closes None a now = rw (open_and_not (not (is_closed_state a.state))) (record { state = refl; lost = refl; told = omega arith })
-packet_closes (Some packet) a now = chunks_close packet.chunks a wishes.None now
+packet_closes : (packet : Option Packet) (a : Shown) (now : ℕ) → IsClosedIf (is_faulted_packet a packet now) a (after_packet_of a packet now)
+packet_closes None a now = stays_open a a refl refl refl
+packet_closes (Some packet) a now = chunks_close packet.common_header packet.chunks a wishes.None now
 
 packet_closes_unless : (lost : Bool) (packet : Option Packet) (a : Shown) (now : ℕ)
-    → IsClosedIf (not lost && (not (is_closed_state a.state) && is_faulted_packet a packet now)) a (if lost then a else after_packet_of a packet now)
-packet_closes_unless true packet a now = record { state = refl; lost = refl; told = omega arith }
+    → IsClosedIf (not lost && is_faulted_packet a packet now) a (if lost then a else after_packet_of a packet now)
+packet_closes_unless true packet a now = stays_open a a refl refl refl
 packet_closes_unless false packet a now = packet_closes packet a now
 
 pub faults_alone_close : FaultsAloneClose

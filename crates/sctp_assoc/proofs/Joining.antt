@@ -5,7 +5,11 @@ use Rattle.sctp_wire_types.specs.Serial.{tsn_gt}
 use Rattle.sctp_wire_types.specs.declared.chunk.ChunkPayloadData.{ChunkPayloadData}
 use Rattle.sctp_wire_types.specs.declared.chunk.Chunk.{Chunk}
 use Rattle.sctp_wire_types.specs.declared.chunk.Chunk.TheVariants as chunks
+use Rattle.sctp_wire_types.specs.declared.chunk.ChunkHeartbeat.{ChunkHeartbeat}
+use Rattle.sctp_wire_types.specs.declared.chunk.ChunkInit.{ChunkInit}
+use Rattle.sctp_wire_types.specs.declared.packet.CommonHeader.{CommonHeader}
 use Rattle.sctp_wire_types.specs.declared.error.Error.{Error}
+use Rattle.sctp_wire_types.specs.declared.error.Error.TheVariants as errors
 use Rattle.sctp_wire_types.specs.Checks.{checked_chunk}
 use Rattle.sctp_wire.specs.declared.packet.Packet.{Packet}
 use Rattle.sctp_wire_types.specs.declared.ids.PayloadProtocolIdentifier.TheVariants as kinds
@@ -24,17 +28,23 @@ use Rattle.sctp_queues.specs.Streams.{StreamMap, bytes_waiting, generation_left,
 use Rattle.sctp_inbound.specs.declared.receiver.AckWish.{AckWish}
 use Rattle.sctp_inbound.specs.declared.receiver.AckWish.TheVariants as wishes
 use Rattle.sctp_inbound.specs.declared.receiver.Receiver.{Receiver}
+use Rattle.sctp_inbound.specs.declared.handshake.Offer.{Offer}
+use Rattle.sctp_inbound.specs.Greeting.{first_cookie, information_of}
+use Rattle.sctp_inbound.specs.Handshake.{comes_back, has_issued, met_by_init_ack}
 use Rattle.sctp_inbound.specs.Receiver.{credit_of, is_next_after, taken_to}
+use Rattle.sctp_outbound_queue.specs.Outbound.{Outbound}
 use Rattle.sctp_outbound.specs.declared.sender.Sender.{Sender}
 use Rattle.sctp_outbound.specs.declared.sender.SackOutcome.{SackOutcome}
 use Rattle.sctp_outbound.specs.declared.sender.SackOutcome.TheVariants as outcomes
 use Rattle.sctp_outbound.specs.Sender.{acked_point_of, acknowledged, points_to, sack_outcome, with_window}
 use Rattle.sctp_assoc.specs.declared.inbound.Flow.{Flow}
 use Rattle.sctp_assoc.specs.declared.inbound.Flow.TheVariants as flows
-use Rattle.sctp_assoc.specs.Acts.{Act, Binds, CanAll, History, Leads, Parts, IsSamePast, LeadsOn, done, done_all, parts, tsn_before, with_taken, with_written}
-use Rattle.sctp_assoc.specs.Calls.{after_ack_delay, after_t3, after_timeouts, closed_by, closed_open, opened, read_from_stream, retransmits, t3_expired, written, written_at, is_closed_state, is_established}
+use Rattle.sctp_assoc.specs.Acts.{Act, Binds, CanAll, History, Leads, Parts, IsSamePast, LeadsOn, done, done_all, parts, tsn_before, with_peer, with_taken, with_written}
+use Rattle.sctp_assoc.specs.Calls.{after_ack_delay, after_t3, closed_by, closed_open, event_from, event_polled, opened, read_from_stream, retransmits, t3_expired, written, written_at, is_beginning, is_closed_state, is_cookie_echoed, is_cookie_wait, is_established}
 use Rattle.sctp_assoc.specs.Chunks.{after_chunks, after_packet, after_packet_of, after_sack, asks_or_faults, checked_first, counted_data, counted_sack, dispatched, ended, goes_on, is_whole, on_chunk, on_counted_sack, on_data, on_next_data, on_sack, stream_found, taken_in, taken_unless, told, with_acknowledged, with_message, with_new_stream}
-use Rattle.sctp_assoc.specs.Happened.{acts_after, acts_of_checked, acts_of_chunk, acts_of_chunks, acts_of_close, acts_of_kind, acts_of_packet, acts_of_packet_of, acts_of_data, acts_of_found, acts_of_outcome, acts_of_sack, acts_of_stream, acts_of_taking, acts_of_timeouts, acts_unless_refused}
+use Rattle.sctp_assoc.specs.Happened.{acts_after, acts_of_checked, acts_of_chunk, acts_of_chunks, acts_of_close, acts_of_kind, acts_of_packet, acts_of_packet_of, acts_of_data, acts_of_found, acts_of_outcome, acts_of_sack, acts_of_stream, acts_of_init, acts_of_init_ack, acts_of_t3, acts_of_taking, acts_of_timeouts, acts_unless_refused}
+use Rattle.sctp_assoc.specs.Handshake.{acknowledged_cookie, after_t1_cookie, after_t1_init, answered, connected, cookie_queued, echoed, information_returned, init_queued, met, met_back, on_cookie_ack, on_cookie_echo, on_heartbeat, on_init, on_init_ack, sends_cookie, sends_init, t1_cookie_expired, t1_init_expired, with_echo}
+use Rattle.sctp_assoc.specs.Timeouts.{after_handshake_timers, after_timeouts}
 use Rattle.sctp_assoc.specs.Shown.{Shown}
 use Rattle.sctp_assoc.proofs.Acting.{acknowledged_tied, acts_tied, can_append, done_append, pieces_acknowledged}
 
@@ -247,36 +257,101 @@ unfolding on_sack
 sack_leads false a point window wish now h e binds = rw e (h, leads_nowhere a a h binds refl refl)
 sack_leads true a point window wish now h e binds = rw e (outcome_leads (sack_outcome a.sender point) a point window wish now h refl binds)
 
+-- the handshake
+
+-- the peer's initial TSN became known
+met_leads : (a b : Shown) (t : ℕ) (h : History) → Binds a h → b.sender.queue ≡ a.sender.queue → b.streams ≡ a.streams → b.receiver.point ≡ (t + 2 ^ 32 - 1) % 2 ^ 32
+    → (k : History) × Leads (Act.Met t ∷ []) a h b k
+met_leads a b t h binds queue streams point = (
+  with_peer h t,
+  record {
+    can = (tt, tt);
+    there = rw (queue, streams) refl;
+    binds = record {
+      first = ap (λ (q : Outbound). q.first_tsn) queue ∙ binds.first;
+      point = point ∙ omega arith;
+      below = λ o l. absurd (omega (arith, l));
+      above = λ o m. absurd (false≢true m);
+      passed = omega arith;
+    };
+  },
+)
+
+init_leads : (c : Bool) (a : Shown) (header : CommonHeader) (init : ChunkInit) (wish : AckWish) (h : History) → is_beginning a.state ≡ c → Binds a h
+    → (k : History) × Leads (acts_of_init a init) a h (on_init a header init wish).0 k
+unfolding on_init
+init_leads true a header init wish h e binds = rw e (met_leads a (answered (met a header init)) init.initial_tsn h binds refl refl refl)
+init_leads false a header init wish h e binds = rw e (h, leads_nowhere a a h binds refl refl)
+
+echoed_leads : (o : Option (List ℕ)) (a b : Shown) (t : ℕ) (wish : AckWish) (now : ℕ) (h : History) → Binds a h → b.sender.queue ≡ a.sender.queue → b.streams ≡ a.streams
+    → b.receiver.point ≡ (t + 2 ^ 32 - 1) % 2 ^ 32 → (k : History) × Leads (Act.Met t ∷ []) a h (echoed o b wish now).0 k
+unfolding sends_cookie
+echoed_leads None a b t wish now h binds queue streams point = met_leads a b t h binds queue streams point
+echoed_leads (Some cookie) a b t wish now h binds queue streams point = met_leads a (with_echo b cookie now) t h binds queue streams point
+
+init_ack_leads : (waits back : Bool) (a : Shown) (header : CommonHeader) (init : ChunkInit) (wish : AckWish) (now : ℕ) (h : History) → is_cookie_wait a.state ≡ waits
+    → comes_back a.handshake header ≡ back → Binds a h → (k : History) × Leads (acts_of_init_ack a header init) a h (on_init_ack a header init wish now).0 k
+unfolding on_init_ack
+init_ack_leads true true a header init wish now h e f binds =
+    rw (e, f) (echoed_leads (first_cookie init.params) a _ init.initial_tsn wish now h binds refl refl refl)
+init_ack_leads true false a header init wish now h e f binds =
+    rw (e, f) (h, leads_nowhere a _ h binds refl refl)
+init_ack_leads false back a header init wish now h e f binds = rw e (h, leads_nowhere a a h binds refl refl)
+
+cookie_echo_leads : (issued beginning established : Bool) (a : Shown) (cookie : List ℕ) (wish : AckWish) (h : History) → has_issued a.handshake cookie ≡ issued
+    → is_beginning a.state ≡ beginning → is_established a.state ≡ established → Binds a h → (k : History) × Leads [] a h (on_cookie_echo a cookie wish).0 k
+unfolding on_cookie_echo
+cookie_echo_leads false beginning established a cookie wish h e f g binds = rw e (h, leads_nowhere a a h binds refl refl)
+cookie_echo_leads true true established a cookie wish h e f g binds = rw (e, f) (h, leads_nowhere a (acknowledged_cookie (connected a)) h binds refl refl)
+cookie_echo_leads true false true a cookie wish h e f g binds = rw (e, f, g) (h, leads_nowhere a (acknowledged_cookie a) h binds refl refl)
+cookie_echo_leads true false false a cookie wish h e f g binds = rw (e, f, g) (h, leads_nowhere a a h binds refl refl)
+
+cookie_ack_leads : (c : Bool) (a : Shown) (wish : AckWish) (h : History) → is_cookie_echoed a.state ≡ c → Binds a h → (k : History) × Leads [] a h (on_cookie_ack a wish).0 k
+unfolding on_cookie_ack
+cookie_ack_leads true a wish h e binds = rw e (h, leads_nowhere a (connected a) h binds refl refl)
+cookie_ack_leads false a wish h e binds = rw e (h, leads_nowhere a a h binds refl refl)
+
+returned_leads : (o : Option (List ℕ)) (a : Shown) (h : History) → Binds a h → (k : History) × Leads [] a h (information_returned o a) k
+returned_leads None a h binds = (h, leads_nowhere a a h binds refl refl)
+returned_leads (Some information) a h binds = (h, leads_nowhere a (information_returned (Some information) a) h binds refl refl)
+
+heartbeat_leads : (a : Shown) (heartbeat : ChunkHeartbeat) (wish : AckWish) (h : History) → Binds a h → (k : History) × Leads [] a h (on_heartbeat a heartbeat wish).0 k
+unfolding on_heartbeat
+heartbeat_leads a heartbeat wish h binds = returned_leads (information_of heartbeat.params) a h binds
+
 -- any chunk, and a packet
 
-kind_leads : (c : Chunk) (a : Shown) (wish : AckWish) (now : ℕ) (h : History) → Binds a h → (k : History) × Leads (acts_of_kind a c) a h (dispatched a c wish now).0 k
-kind_leads (chunks.Data piece) a wish now h binds = next_leads (is_next_after a.receiver piece.tsn && is_whole piece) a piece wish h refl binds
-kind_leads (chunks.SelectiveAck sack) a wish now h binds =
+kind_leads : (header : CommonHeader) (c : Chunk) (a : Shown) (wish : AckWish) (now : ℕ) (h : History) → Binds a h
+    → (k : History) × Leads (acts_of_kind a header c) a h (dispatched a header c wish now).0 k
+kind_leads header (chunks.Data piece) a wish now h binds = next_leads (is_next_after a.receiver piece.tsn && is_whole piece) a piece wish h refl binds
+kind_leads header (chunks.SelectiveAck sack) a wish now h binds =
     sack_leads (is_established a.state) a sack.cumulative_tsn_ack sack.advertised_receiver_window_credit wish now h refl binds
-kind_leads (chunks.Init init) a wish now h binds = (h, leads_nowhere a a h binds refl refl)
-kind_leads (chunks.InitAck init) a wish now h binds = (h, leads_nowhere a a h binds refl refl)
-kind_leads (chunks.Heartbeat x) a wish now h binds = (h, leads_nowhere a a h binds refl refl)
-kind_leads (chunks.HeartbeatAck x) a wish now h binds = (h, leads_nowhere a a h binds refl refl)
-kind_leads (chunks.Abort x) a wish now h binds = (h, leads_nowhere a a h binds refl refl)
-kind_leads (chunks.Shutdown x) a wish now h binds = (h, leads_nowhere a a h binds refl refl)
-kind_leads chunks.ShutdownAck a wish now h binds = (h, leads_nowhere a a h binds refl refl)
-kind_leads (chunks.Error x) a wish now h binds = (h, leads_nowhere a a h binds refl refl)
-kind_leads (chunks.CookieEcho x) a wish now h binds = (h, leads_nowhere a a h binds refl refl)
-kind_leads chunks.CookieAck a wish now h binds = (h, leads_nowhere a a h binds refl refl)
-kind_leads chunks.ShutdownComplete a wish now h binds = (h, leads_nowhere a a h binds refl refl)
-kind_leads (chunks.Reconfig x) a wish now h binds = (h, leads_nowhere a a h binds refl refl)
-kind_leads (chunks.ForwardTsn x) a wish now h binds = (h, leads_nowhere a a h binds refl refl)
-kind_leads (chunks.IForwardTsn x) a wish now h binds = (h, leads_nowhere a a h binds refl refl)
-kind_leads (chunks.Other kind flags value) a wish now h binds = (h, leads_nowhere a a h binds refl refl)
+kind_leads header (chunks.Init init) a wish now h binds = init_leads (is_beginning a.state) a header init wish h refl binds
+kind_leads header (chunks.InitAck init) a wish now h binds = init_ack_leads (is_cookie_wait a.state) (comes_back a.handshake header) a header init wish now h refl refl binds
+kind_leads header (chunks.Heartbeat x) a wish now h binds = heartbeat_leads a x wish h binds
+kind_leads header (chunks.HeartbeatAck x) a wish now h binds = (h, leads_nowhere a a h binds refl refl)
+kind_leads header (chunks.Abort x) a wish now h binds = (h, leads_nowhere a a h binds refl refl)
+kind_leads header (chunks.Shutdown x) a wish now h binds = (h, leads_nowhere a a h binds refl refl)
+kind_leads header chunks.ShutdownAck a wish now h binds = (h, leads_nowhere a a h binds refl refl)
+kind_leads header (chunks.Error x) a wish now h binds = (h, leads_nowhere a a h binds refl refl)
+kind_leads header (chunks.CookieEcho x) a wish now h binds =
+    cookie_echo_leads (has_issued a.handshake x) (is_beginning a.state) (is_established a.state) a x wish h refl refl refl binds
+kind_leads header chunks.CookieAck a wish now h binds = cookie_ack_leads (is_cookie_echoed a.state) a wish h refl binds
+kind_leads header chunks.ShutdownComplete a wish now h binds = (h, leads_nowhere a a h binds refl refl)
+kind_leads header (chunks.Reconfig x) a wish now h binds = (h, leads_nowhere a a h binds refl refl)
+kind_leads header (chunks.ForwardTsn x) a wish now h binds = (h, leads_nowhere a a h binds refl refl)
+kind_leads header (chunks.IForwardTsn x) a wish now h binds = (h, leads_nowhere a a h binds refl refl)
+kind_leads header (chunks.Other kind flags value) a wish now h binds = (h, leads_nowhere a a h binds refl refl)
 
-checked_leads : (r : Result (Unit {0}) Error) (c : Chunk) (a : Shown) (wish : AckWish) (now : ℕ) (h : History) → Binds a h
-    → (k : History) × Leads (acts_of_checked r a c) a h (checked_first r a c wish now).0 k
-checked_leads (Err fault) c a wish now h binds = (h, leads_nowhere a a h binds refl refl)
-checked_leads (Ok done) c a wish now h binds = kind_leads c a wish now h binds
+checked_leads : (r : Result (Unit {0}) Error) (header : CommonHeader) (c : Chunk) (a : Shown) (wish : AckWish) (now : ℕ) (h : History) → Binds a h
+    → (k : History) × Leads (acts_of_checked r a header c) a h (checked_first r a header c wish now).0 k
+checked_leads (Err fault) header c a wish now h binds = (h, leads_nowhere a a h binds refl refl)
+checked_leads (Ok done) header c a wish now h binds = kind_leads header c a wish now h binds
 
-pub chunk_leads : (c : Chunk) (a : Shown) (wish : AckWish) (now : ℕ) (h : History) → Binds a h → (k : History) × Leads (acts_of_chunk a c) a h (on_chunk a c wish now).0 k
+pub chunk_leads : (header : CommonHeader) (c : Chunk) (a : Shown) (wish : AckWish) (now : ℕ) (h : History) → Binds a h
+    → (k : History) × Leads (acts_of_chunk a header c) a h (on_chunk a header c wish now).0 k
 unfolding on_chunk
-chunk_leads c a wish now h binds = checked_leads (checked_chunk c) c a wish now h binds
+chunk_leads header c a wish now h binds = checked_leads (checked_chunk c) header c a wish now h binds
 
 ended_point : (a : Shown) (wish : AckWish) (now : ℕ) → (ended a wish now).receiver.point ≡ a.receiver.point
 ended_point a wishes.None now = refl
@@ -290,19 +365,19 @@ goes_leads : (x : Shown × Flow) (h : History) (more : Shown → AckWish → Sho
 goes_leads (b, flows.Next wish) h more acts on binds = on b wish binds
 goes_leads (b, flows.Fault fault) h more acts on binds = (h, close_leads (is_closed_state b.state) b reasons.AssociationClosed h refl binds)
 
-pub chunks_lead : (cs : List Chunk) (a : Shown) (wish : AckWish) (now : ℕ) (h : History) → Binds a h
-    → (k : History) × Leads (acts_of_chunks cs a wish now) a h (after_chunks cs a wish now) k
-chunks_lead [] a wish now h binds = (h, leads_nowhere a (ended a wish now) h binds refl (ended_point a wish now))
-chunks_lead (c ∷ cs) a wish now h binds =
-    let one = chunk_leads c a wish now h binds in
-    let rest = goes_leads (on_chunk a c wish now) one.0 (λ b next. after_chunks cs b next now) (λ b next. acts_of_chunks cs b next now)
-    (λ b next bound. chunks_lead cs b next now one.0 bound) one.1.binds in
-    (rest.0, leads_on (acts_of_chunk a c) _ a (on_chunk a c wish now).0 (after_chunks (c ∷ cs) a wish now) h one.0 rest.0 one.1 rest.1)
+pub chunks_lead : (header : CommonHeader) (cs : List Chunk) (a : Shown) (wish : AckWish) (now : ℕ) (h : History) → Binds a h
+    → (k : History) × Leads (acts_of_chunks header cs a wish now) a h (after_chunks header cs a wish now) k
+chunks_lead header [] a wish now h binds = (h, leads_nowhere a (ended a wish now) h binds refl (ended_point a wish now))
+chunks_lead header (c ∷ cs) a wish now h binds =
+    let one = chunk_leads header c a wish now h binds in
+    let rest = goes_leads (on_chunk a header c wish now) one.0 (λ b next. after_chunks header cs b next now) (λ b next. acts_of_chunks header cs b next now)
+    (λ b next bound. chunks_lead header cs b next now one.0 bound) one.1.binds in
+    (rest.0, leads_on (acts_of_chunk a header c) _ a (on_chunk a header c wish now).0 (after_chunks header (c ∷ cs) a wish now) h one.0 rest.0 one.1 rest.1)
 
 packet_of_leads : (packet : Option Packet) (a : Shown) (now : ℕ) (h : History) → Binds a h
     → (k : History) × Leads (acts_of_packet_of a packet now) a h (after_packet_of a packet now) k
 packet_of_leads None a now h binds = (h, leads_nowhere a a h binds refl refl)
-packet_of_leads (Some packet) a now h binds = chunks_lead packet.chunks a wishes.None now h binds
+packet_of_leads (Some packet) a now h binds = chunks_lead packet.common_header packet.chunks a wishes.None now h binds
 
 packet_leads_unless : (lost : Bool) (packet : Option Packet) (a : Shown) (now : ℕ) (h : History) → Binds a h
     → (k : History) × Leads (if lost then [] else acts_of_packet_of a packet now) a h (if lost then a else after_packet_of a packet now) k
@@ -375,9 +450,14 @@ pub open_leads_on : (a b : Shown) (id : ℕ) (kind : PayloadProtocolIdentifier) 
 open_leads_on a b id kind e h binds =
     (h, rw e (leads_by (Act.Opened id a.sender.queue.next_message_id kind ∷ []) a (opened a id kind) h binds (tt, tt) refl refl (past_itself h)))
 
-pub poll_leads_on : (a b : Shown) (events : List Event) → a ≡ record b { events = events } → LeadsOn [] a b
-poll_leads_on a b events e h binds =
-    (h, leads_nowhere a b h binds (ap (λ (x : Shown). parts x h) (sym e)) (ap (λ (x : Shown). x.receiver.point) (sym e)))
+polled_leads : (events : List Event) (a : Shown) (h : History) → Binds a h → Leads [] a h (event_from events a).0 h
+polled_leads [] a h binds = leads_nowhere a (event_from [] a).0 h binds refl refl
+polled_leads (e ∷ es) a h binds = leads_nowhere a (event_from (e ∷ es) a).0 h binds refl refl
+
+pub poll_leads_on : (a b : Shown) (event : Option Event) → event_polled a ≡ (b, event) → LeadsOn [] a b
+poll_leads_on a b event e h binds =
+    let is : b ≡ (event_from a.events a).0 = sym (ap (λ (x : Shown × Option Event). x.0) e) in
+    (h, rw is (polled_leads a.events a h binds))
 
 t3_leads : (expired failure : Bool) (a : Shown) (now : ℕ) (h : History) → Binds a h
     → Leads (if expired then (if failure then [] else Act.Marked ∷ []) else []) a h
@@ -393,7 +473,52 @@ ack_delay_leads false xs a b now h e m = rw e m
 ack_delay_leads true xs a b now h e m =
     leads_beside xs a b (after_ack_delay b now) h h (rw e refl) (rw e refl) m
 
+-- the timers of the handshake change nothing that the directions see
+init_queued_beside : (o : Option Offer) (a : Shown) (h : History) → Binds a h → Leads [] a h (init_queued o a) h
+init_queued_beside None a h binds = leads_nowhere a a h binds refl refl
+init_queued_beside (Some offer) a h binds = leads_nowhere a (init_queued (Some offer) a) h binds refl refl
+
+cookie_queued_leads : (o : Option (List ℕ)) (a : Shown) (h : History) → Binds a h → Leads [] a h (cookie_queued o a) h
+cookie_queued_leads None a h binds = leads_nowhere a a h binds refl refl
+cookie_queued_leads (Some cookie) a h binds = leads_nowhere a (cookie_queued (Some cookie) a) h binds refl refl
+
+pub sends_init_leads : (a : Shown) (now : ℕ) (h : History) → Binds a h → Leads [] a h (sends_init a now) h
+unfolding sends_init
+sends_init_leads a now h binds =
+    let b : Shown = init_queued a.handshake.offer a in leads_beside [] a b (sends_init a now) h h refl refl (init_queued_beside a.handshake.offer a h binds)
+
+sends_cookie_leads : (a : Shown) (now : ℕ) (h : History) → Binds a h → Leads [] a h (sends_cookie a now) h
+unfolding sends_cookie
+sends_cookie_leads a now h binds =
+    let b : Shown = cookie_queued a.handshake.echo a in leads_beside [] a b (sends_cookie a now) h h refl refl (cookie_queued_leads a.handshake.echo a h binds)
+
+t1_init_leads : (expired failure : Bool) (a : Shown) (now : ℕ) (h : History) → Binds a h
+    → Leads [] a h (if expired then (if failure then (let b = t1_init_expired a now in record b { handshake_fault = Some errors.ErrHandshakeInitAck }) else sends_init (t1_init_expired a now) now) else a) h
+t1_init_leads false failure a now h binds = leads_nowhere a a h binds refl refl
+t1_init_leads true true a now h binds = leads_nowhere a _ h binds refl refl
+t1_init_leads true false a now h binds =
+    leads_on [] [] a (t1_init_expired a now) (sends_init (t1_init_expired a now) now) h h h (leads_nowhere a (t1_init_expired a now) h binds refl refl)
+    (sends_init_leads (t1_init_expired a now) now h (record { first = binds.first; point = binds.point; below = binds.below; above = binds.above; passed = binds.passed }))
+
+t1_cookie_leads : (expired failure : Bool) (a : Shown) (now : ℕ) (h : History) → Binds a h
+    → Leads [] a h (if expired then (if failure then (let b = t1_cookie_expired a now in record b { handshake_fault = Some errors.ErrHandshakeCookieEcho }) else sends_cookie (t1_cookie_expired a now) now) else a) h
+t1_cookie_leads false failure a now h binds = leads_nowhere a a h binds refl refl
+t1_cookie_leads true true a now h binds = leads_nowhere a _ h binds refl refl
+t1_cookie_leads true false a now h binds =
+    leads_on [] [] a (t1_cookie_expired a now) (sends_cookie (t1_cookie_expired a now) now) h h h (leads_nowhere a (t1_cookie_expired a now) h binds refl refl)
+    (sends_cookie_leads (t1_cookie_expired a now) now h (record { first = binds.first; point = binds.point; below = binds.below; above = binds.above; passed = binds.passed }))
+
+pub handshake_timers_lead : (a : Shown) (now : ℕ) (h : History) → Binds a h → Leads [] a h (after_handshake_timers a now) h
+handshake_timers_lead a now h binds =
+    let one = t1_init_leads (expiry_of names.T1Init now a.timers).0 (expiry_of names.T1Init now a.timers).1 a now h binds in
+    let b : Shown = after_t1_init a now in
+    leads_on [] [] a b (after_t1_cookie b now) h h h one
+    (t1_cookie_leads (expiry_of names.T1Cookie now b.timers).0 (expiry_of names.T1Cookie now b.timers).1 b now h one.binds)
+
 pub timeouts_lead_on : (a b : Shown) (now : ℕ) → b ≡ after_timeouts a now → LeadsOn (acts_of_timeouts a now) a b
 timeouts_lead_on a b now e h binds =
-    let t3 = t3_leads (expiry_of names.T3RTX now a.timers).0 (expiry_of names.T3RTX now a.timers).1 a now h binds in
-    (h, rw e (ack_delay_leads (expiry_of names.Ack now (after_t3 a now).timers).0 (acts_of_timeouts a now) a (after_t3 a now) now h refl t3))
+    let first = handshake_timers_lead a now h binds in
+    let c : Shown = after_handshake_timers a now in
+    let t3 = t3_leads (expiry_of names.T3RTX now c.timers).0 (expiry_of names.T3RTX now c.timers).1 c now h first.binds in
+    (h, rw e (leads_on [] (acts_of_t3 c now) a c (after_ack_delay (after_t3 c now) now) h h h first
+    (ack_delay_leads (expiry_of names.Ack now (after_t3 c now).timers).0 (acts_of_t3 c now) c (after_t3 c now) now h refl t3)))

@@ -17,7 +17,7 @@ use Rattle.sctp_queues.specs.Streams.{stream_at}
 use Rattle.sctp_inbound.specs.Handshake.{header_of}
 use Rattle.sctp_assoc.specs.Calls.{is_established, message_of, written_at}
 use Rattle.sctp_assoc.specs.Laws.{PollsKeepWhatIsHeld, WritesAreHeld, is_held}
-use Rattle.sctp_assoc.specs.Polled.{ack_after, ack_polled, data_packets, data_polled, is_due, with_sent_data}
+use Rattle.sctp_assoc.specs.Polled.{ack_after, ack_polled, control_packets, data_packets, data_polled, exchange_polled, is_due, with_sent_data, without_control}
 use Rattle.sctp_assoc.specs.Shown.{Shown}
 use Rattle.sctp_assoc.proofs.Giving.{one_queue}
 use Rattle.sctp_assoc.proofs.Polling.{both_first}
@@ -137,5 +137,11 @@ polls_held_if true a now number held =
     ap (λ (t : Sender). is_held t.queue number) (both_sender (data_polled a now)) ∙ data_held a now number held
 polls_held_if false a now number held = held
 
+exchange_held : (a : Shown) (now number : ℕ) → is_held a.sender.queue number ≡ true → is_held (exchange_polled a now).0.sender.queue number ≡ true
+unfolding exchange_polled
+exchange_held a now number held = polls_held_if (is_established a.state) a now number held
+
 pub polls_keep_what_is_held : PollsKeepWhatIsHeld
-polls_keep_what_is_held a now number held = polls_held_if (is_established a.state) a now number held
+polls_keep_what_is_held a now number held =
+    ap (λ (z : Shown). is_held z.sender.queue number) (both_first (control_packets a.control) (exchange_polled (without_control a) now))
+    ∙ exchange_held (without_control a) now number held

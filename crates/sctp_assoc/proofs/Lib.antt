@@ -1,4 +1,5 @@
 pub mod Acting
+mod Beginning
 pub mod Carrying
 mod Closing
 mod Giving

@@ -8,8 +8,8 @@ use Rattle.sctp_wire_types.specs.declared.error.Fault.{Fault}
 use Rattle.sctp_wire_types.specs.declared.packet.CommonHeader.{CommonHeader}
 use Rattle.sctp_wire.specs.Packets.{packet_at, packet_is_plain, written}
 use Rattle.sctp_inbound.specs.Handshake.{header_of}
-use Rattle.sctp_assoc.specs.Calls.{is_established}
-use Rattle.sctp_assoc.specs.Polled.{AckIsReadAgain, AreReadAgain, IsReadAgain, PollIsReadAgain, data_polled, packet_bytes, packet_with, spelled}
+use Rattle.sctp_assoc.specs.declared.control.ControlPacket.{ControlPacket}
+use Rattle.sctp_assoc.specs.Polled.{AckIsReadAgain, AreControlReadAgain, AreReadAgain, ControlIsReadAgain, ExchangeIsReadAgain, IsReadAgain, data_polled, packet_bytes, packet_with, spelled}
 use Rattle.sctp_assoc.specs.Shown.{Shown}
 use Rattle.sctp_assoc.proofs.Giving.{data_poll_stays}
 
@@ -24,8 +24,8 @@ read_again header chunk given e again plain bytes f =
     rw (one_spelled (written (packet_with header chunk)) given bytes e f) (again plain)
 
 pub poll_again : (a b : Shown) (now : ℕ) (pieces : List ChunkPayloadData) (header : CommonHeader) → data_polled a now ≡ (b, pieces)
-    → header ≡ header_of b.handshake → AreReadAgain header pieces → AckIsReadAgain b → PollIsReadAgain a now
-poll_again a b now pieces header e is data_again ack_again established =
+    → header ≡ header_of b.handshake → AreReadAgain header pieces → AckIsReadAgain b → ExchangeIsReadAgain a now
+poll_again a b now pieces header e is data_again ack_again =
     let same : b.handshake ≡ a.handshake = ap (λ (x : Shown × List ChunkPayloadData). x.0.handshake) (sym e) ∙ (data_poll_stays a now).handshake in (
       rw (e, ← same, ← is) data_again,
       rw e ack_again,
@@ -39,3 +39,11 @@ more_again header (x ∷ xs) c (first, all) more = (first, more_again header xs 
 pub one_more_again : (header : CommonHeader) (pieces : List ChunkPayloadData) (c : ChunkPayloadData) → AreReadAgain header pieces
     → (packet_is_plain (packet_with header (chunks.Data c)) ≡ true → IsReadAgain header (chunks.Data c)) → AreReadAgain header (pieces ++ c ∷ [])
 one_more_again header pieces c all more = more_again header pieces c all (more refl)
+
+more_control_again : (cs : List ControlPacket) (c : ControlPacket) → AreControlReadAgain cs → ControlIsReadAgain c → AreControlReadAgain (cs ++ c ∷ [])
+more_control_again [] c all more = (more, tt)
+more_control_again (x ∷ xs) c (first, all) more = (first, more_control_again xs c all more)
+
+pub one_more_control_again : (cs : List ControlPacket) (c : ControlPacket) → AreControlReadAgain cs
+    → (packet_is_plain (packet_with c.header c.chunk) ≡ true → IsReadAgain c.header c.chunk) → AreControlReadAgain (cs ++ c ∷ [])
+one_more_control_again cs c all more = more_control_again cs c all more

@@ -17,8 +17,9 @@ use Rattle.sctp_outbound.specs.declared.sender.Sender.{Sender}
 use Rattle.sctp_outbound.specs.Sender.{after_resending, can_send_next, next_chunk_of, resent_by, sent_new, sent_one, sent_within}
 use Rattle.sctp_assoc.specs.Acts.{all_data_given, parts}
 use Rattle.sctp_assoc.specs.Happened.{acts_of_ack, acts_of_data_poll}
-use Rattle.sctp_assoc.specs.Laws.{WhatWaitsGoesOut, WhatWaitsIsGiven, WhatWaitsIsPolled}
-use Rattle.sctp_assoc.specs.Polled.{ack_after, ack_polled, data_packets, data_polled, packet_bytes, packet_with, spelled}
+use Rattle.sctp_assoc.specs.Calls.{is_established}
+use Rattle.sctp_assoc.specs.Laws.{IsNextWithNothingInFlight, WhatWaitsGoesOut, WhatWaitsIsGiven, WhatWaitsIsPolled}
+use Rattle.sctp_assoc.specs.Polled.{ack_after, ack_polled, control_packets, data_packets, data_polled, exchange_polled, packet_bytes, packet_with, spelled, without_control}
 use Rattle.sctp_assoc.specs.Shown.{Shown}
 use Rattle.sctp_assoc.proofs.Acting.{given_append}
 use Rattle.sctp_assoc.proofs.Giving.{IsSentBeside, data_poll_adds, data_poll_stays, sent_data_said}
@@ -130,8 +131,21 @@ packets_begin header (d ∷ ds) c short e =
 pub ack_behind : (x : Shown × List ChunkPayloadData) → (ack_after x).1 ≡ data_packets (header_of x.0.handshake) x.1 ++ (ack_polled x.0).1
 ack_behind (b, pieces) = both_second (data_packets (header_of b.handshake) pieces) (ack_polled b)
 
-pub what_waits_goes_out : WhatWaitsGoesOut
-what_waits_goes_out a now m established next short =
+exchange_begins : (a : Shown) (now : ℕ) (m : Waiting) → is_established a.state ≡ true → IsNextWithNothingInFlight a m → length m.user_data ≤ 65519
+    → slice_get (exchange_polled a now).1 0 ≡ Some (spelling (packet_with (header_of a.handshake) (chunks.Data (next_chunk_of m (next_tsn_of a.sender.queue)))))
+unfolding exchange_polled
+exchange_begins a now m established next short =
     let stays : IsSentBeside a (data_polled a now).0 = data_poll_stays a now in
     let begins = packets_begin (header_of a.handshake) (data_polled a now).1 _ short (what_waits_is_polled a now m next) in
     rw (established, ack_behind (data_polled a now), stays.handshake) (first_before _ _ _ begins)
+
+behind : {X : Type 0} (xs ys : List X) → slice_get (xs ++ ys) (length xs) ≡ slice_get ys 0
+behind [] ys = refl
+behind (x ∷ xs) ys = behind xs ys
+
+pub what_waits_goes_out : WhatWaitsGoesOut
+what_waits_goes_out a now m established next short =
+    let b : Shown = without_control a in
+    let waits : IsNextWithNothingInFlight b m = record { others = next.others; waits = next.waits; flown = next.flown } in
+    ap (λ (z : List (List ℕ)). slice_get z (length (control_packets a.control))) (both_second (control_packets a.control) (exchange_polled b now))
+    ∙ behind (control_packets a.control) (exchange_polled b now).1 ∙ exchange_begins b now m established waits short

@@ -42,7 +42,8 @@ pub record Binds (a : Shown) (h : History) : Type 0 where
   pub above : (o : ℕ) → mem o h.taken ≡ true → o < h.point
   pub passed : h.passed ≤ h.point
 
--- nothing came and nothing is acknowledged: the history on which an association begins
+-- Nothing came and nothing is acknowledged: the history on which an association begins. Until the peer's initial TSN is known it is
+-- taken to be 1.
 abbrev pub begun : ℕ → ℕ → History
 begun own peer = record { own = own; peer = peer; base = 0; taken = []; passed = 0; point = 0 }
 
@@ -57,6 +58,8 @@ parts a h = record { queue = a.sender.queue; streams = a.streams; history = h }
 
 -- One thing that an association does to its directions.
 pub data Act : Type 0 where
+  -- the peer's initial TSN became known: nothing came from there on
+  Met : ℕ → Act
   -- the application or the peer's DATA made a stream; its own messages have an identifier from this one on and this payload type
   Opened : ℕ → ℕ → PayloadProtocolIdentifier → Act
   -- a write of these bytes was accepted on a stream
@@ -94,6 +97,10 @@ without_first_pieces (suc n) p = without_first_pieces n (without_first_piece p)
 abbrev pub with_taken : History → History
 with_taken h = record h { taken = h.point ∷ h.taken; point = h.point + 1 }
 
+-- the peer's DATA begins with this TSN
+abbrev pub with_peer : History → ℕ → History
+with_peer h t = record h { peer = t; taken = []; passed = 0; point = 0 }
+
 abbrev pub with_written : Option Stream → Parts → ℕ → List ℕ → Parts
 with_written None p id bytes = p
 with_written (Some s) p id bytes = record p {
@@ -103,6 +110,7 @@ with_written (Some s) p id bytes = record p {
 
 -- what an act makes of the parts
 abbrev pub done : Act → Parts → Parts
+done (Met t) p = record p { history = with_peer p.history t }
 done (Opened id first kind) p = record p { streams = made p.streams id first kind }
 done (Wrote id bytes) p = with_written (stream_at p.streams id) p id bytes
 done (Sent now) p = record p { queue = sent_next p.queue now }

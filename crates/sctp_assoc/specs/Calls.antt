@@ -10,7 +10,9 @@ use Rattle.sctp_parts.specs.State.{is_closing}
 use Rattle.sctp_parts.specs.Timers.{least_moment, after_expiry, expiry_of, with_moment, started}
 use Rattle.sctp_parts.specs.Stats.{one_more}
 use Rattle.sctp_queues.specs.declared.event.AssociationError.{AssociationError}
-use Rattle.sctp_queues.specs.declared.event.Event.TheVariants.{AssociationLost, DataChannelStatsFinal}
+use Rattle.sctp_queues.specs.declared.event.AssociationError.TheVariants as reasons
+use Rattle.sctp_queues.specs.declared.event.Event.{Event}
+use Rattle.sctp_queues.specs.declared.event.Event.TheVariants.{AssociationLost, DataChannelStatsFinal, HandshakeFailed}
 use Rattle.sctp_outbound_queue.specs.Waiting.{Waiting}
 use Rattle.sctp_outbound_queue.specs.Outbound.{all_marked, with_message}
 use Rattle.sctp_receive_queues.specs.Messages.{Message}
@@ -44,17 +46,49 @@ is_established states.ShutdownPending = false
 is_established states.ShutdownReceived = false
 is_established states.ShutdownSent = false
 
+-- the association was not established yet, or was before a handshake began
+abbrev pub is_beginning : AssociationState → Bool
+is_beginning states.Closed = true
+is_beginning states.CookieWait = true
+is_beginning states.CookieEchoed = true
+is_beginning states.Established = false
+is_beginning states.ShutdownAckSent = false
+is_beginning states.ShutdownPending = false
+is_beginning states.ShutdownReceived = false
+is_beginning states.ShutdownSent = false
+
+abbrev pub is_cookie_wait : AssociationState → Bool
+is_cookie_wait states.Closed = false
+is_cookie_wait states.CookieWait = true
+is_cookie_wait states.CookieEchoed = false
+is_cookie_wait states.Established = false
+is_cookie_wait states.ShutdownAckSent = false
+is_cookie_wait states.ShutdownPending = false
+is_cookie_wait states.ShutdownReceived = false
+is_cookie_wait states.ShutdownSent = false
+
+abbrev pub is_cookie_echoed : AssociationState → Bool
+is_cookie_echoed states.Closed = false
+is_cookie_echoed states.CookieWait = false
+is_cookie_echoed states.CookieEchoed = true
+is_cookie_echoed states.Established = false
+is_cookie_echoed states.ShutdownAckSent = false
+is_cookie_echoed states.ShutdownPending = false
+is_cookie_echoed states.ShutdownReceived = false
+is_cookie_echoed states.ShutdownSent = false
+
 abbrev pub closed_open : Shown → AssociationError → Shown
 closed_open a reason = record a {
   state = states.Closed;
   lost = true;
   timers = all_stopped a.timers;
   streams = without_streams a.streams;
+  control = [];
   events = a.events ++ map DataChannelStatsFinal (last_stats a.streams) ++ AssociationLost reason ∷ [];
 }
 
--- an open association was closed: no timer runs on, each live stream gives its last counters, and the loss is the last
--- event; a closed one stays as it is
+-- an open association was closed: no timer runs on, no packet waits to go out, each live stream gives its last counters, and the
+-- loss is the last event; a closed one stays as it is
 abbrev pub closed_by : Shown → AssociationError → Shown
 closed_by a reason = if is_closed_state a.state then a else closed_open a reason
 
@@ -85,9 +119,6 @@ after_ack_delay a now =
       receiver = acknowledged_at_once a.receiver;
     }
     else a
-
-abbrev pub after_timeouts : Shown → ℕ → Shown
-after_timeouts a now = after_ack_delay (after_t3 a now) now
 
 -- a new generation of a stream was made for the application
 abbrev pub opened : Shown → ℕ → PayloadProtocolIdentifier → Shown
@@ -198,3 +229,16 @@ deadline_of a = least_moment a.timers
 -- a shutdown has begun and the association is not closed yet
 abbrev pub has_begun_closing : Shown → Bool
 has_begun_closing a = is_closing a.state
+
+-- what a handshake that failed is told by
+abbrev pub fault_told : Option Error → Option Event
+fault_told None = None
+fault_told (Some fault) = Some (HandshakeFailed (reasons.HandshakeFailed fault))
+
+abbrev pub event_from : List Event → Shown → Shown × Option Event
+event_from [] a = (record a { handshake_fault = None }, fault_told a.handshake_fault)
+event_from (e ∷ es) a = (record a { events = es }, Some e)
+
+-- what is left after a poll for events, and what it gives: the oldest event, and with none left that the handshake failed, once
+abbrev pub event_polled : Shown → Shown × Option Event
+event_polled a = event_from a.events a

@@ -7,6 +7,7 @@ use Rattle.sctp_wire_types.specs.declared.chunk.Chunk.TheVariants as chunks
 use Rattle.sctp_wire_types.specs.declared.chunk.ChunkPayloadData.{ChunkPayloadData}
 use Rattle.sctp_wire_types.specs.declared.ids.PayloadProtocolIdentifier.TheVariants as kinds
 use Rattle.sctp_wire_types.specs.declared.event.StreamEvent.TheVariants.{Opened, Readable}
+use Rattle.sctp_wire_types.specs.declared.packet.CommonHeader.{CommonHeader}
 use Rattle.sctp_wire_types.specs.Checks.{checked_chunk}
 use Rattle.sctp_wire.specs.declared.packet.Packet.{Packet}
 use Rattle.sctp_parts.specs.Estimate.{Estimate}
@@ -25,6 +26,7 @@ use Rattle.sctp_outbound.specs.Sender.{sack_outcome, points_to, with_window, ack
 use Rattle.sctp_assoc.specs.declared.inbound.Flow.{Flow}
 use Rattle.sctp_assoc.specs.declared.inbound.Flow.TheVariants as flows
 use Rattle.sctp_assoc.specs.Calls.{is_established, closed_by}
+use Rattle.sctp_assoc.specs.Handshake.{on_cookie_ack, on_cookie_echo, on_heartbeat, on_init, on_init_ack}
 use Rattle.sctp_assoc.specs.Shown.{Shown}
 
 -- DATA
@@ -124,21 +126,27 @@ on_sack a point window wish now =
 
 -- Any chunk
 
-abbrev pub dispatched : Shown → Chunk → AckWish → ℕ → Shown × Flow
-dispatched a (chunks.Data piece) wish now = on_data a piece wish
-dispatched a (chunks.SelectiveAck sack) wish now =
+abbrev pub dispatched : Shown → CommonHeader → Chunk → AckWish → ℕ → Shown × Flow
+dispatched a header (chunks.Data piece) wish now = on_data a piece wish
+dispatched a header (chunks.SelectiveAck sack) wish now =
     on_sack a sack.cumulative_tsn_ack sack.advertised_receiver_window_credit wish now
-dispatched a (chunks.Init init) wish now = (a, flows.Fault errors.ErrHandleInitState)
-dispatched a (chunks.InitAck init) wish now = (a, flows.Next wish)
-dispatched a chunk wish now = (a, flows.Fault errors.ErrChunkTypeUnhandled)
+dispatched a header (chunks.Init init) wish now = on_init a header init wish
+dispatched a header (chunks.InitAck init) wish now = on_init_ack a header init wish now
+dispatched a header (chunks.CookieEcho cookie) wish now = on_cookie_echo a cookie wish
+dispatched a header chunks.CookieAck wish now = on_cookie_ack a wish
+dispatched a header (chunks.Heartbeat heartbeat) wish now = on_heartbeat a heartbeat wish
+dispatched a header (chunks.Abort abort) wish now = (a, flows.Fault errors.ErrAbortChunk)
+dispatched a header (chunks.Error error) wish now = (a, flows.Fault errors.ErrAbortChunk)
+dispatched a header chunk wish now = (a, flows.Fault errors.ErrChunkTypeUnhandled)
 
-abbrev pub checked_first : Result (Unit {0}) Error → Shown → Chunk → AckWish → ℕ → Shown × Flow
-checked_first (Err fault) a chunk wish now = (a, flows.Fault fault)
-checked_first (Ok _) a chunk wish now = dispatched a chunk wish now
+abbrev pub checked_first : Result (Unit {0}) Error → Shown → CommonHeader → Chunk → AckWish → ℕ → Shown × Flow
+checked_first (Err fault) a header chunk wish now = (a, flows.Fault fault)
+checked_first (Ok _) a header chunk wish now = dispatched a header chunk wish now
 
--- a chunk that its own check refuses is a fault; INIT is one too, and so is any chunk that is not known
-unfoldable pub on_chunk : Shown → Chunk → AckWish → ℕ → Shown × Flow
-on_chunk a chunk wish now = checked_first (checked_chunk chunk) a chunk wish now
+-- a chunk of a packet with this header; one that its own check refuses is a fault, an ABORT closes and an ERROR is a fault, and so
+-- is any chunk that is not known
+unfoldable pub on_chunk : Shown → CommonHeader → Chunk → AckWish → ℕ → Shown × Flow
+on_chunk a header chunk wish now = checked_first (checked_chunk chunk) a header chunk wish now
 
 -- A packet
 
@@ -154,13 +162,13 @@ ended a wish now = record a {
 }
 
 -- the chunks in order; a fault ends the packet and closes an open association
-abbrev pub after_chunks : List Chunk → Shown → AckWish → ℕ → Shown
-after_chunks [] a wish now = ended a wish now
-after_chunks (c ∷ cs) a wish now = goes_on (on_chunk a c wish now) (λ b next. after_chunks cs b next now)
+abbrev pub after_chunks : CommonHeader → List Chunk → Shown → AckWish → ℕ → Shown
+after_chunks header [] a wish now = ended a wish now
+after_chunks header (c ∷ cs) a wish now = goes_on (on_chunk a header c wish now) (λ b next. after_chunks header cs b next now)
 
 abbrev pub after_packet_of : Shown → Option Packet → ℕ → Shown
 after_packet_of a None now = a
-after_packet_of a (Some packet) now = after_chunks packet.chunks a wishes.None now
+after_packet_of a (Some packet) now = after_chunks packet.common_header packet.chunks a wishes.None now
 
 -- what came is processed unless the association was lost
 abbrev pub after_packet : Shown → Option Packet → ℕ → Shown

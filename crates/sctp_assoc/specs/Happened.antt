@@ -5,6 +5,8 @@ use Rattle.sctp_wire_types.specs.declared.chunk.Chunk.{Chunk}
 use Rattle.sctp_wire_types.specs.declared.chunk.Chunk.TheVariants as chunks
 use Rattle.sctp_wire_types.specs.declared.chunk.ChunkPayloadData.{ChunkPayloadData}
 use Rattle.sctp_wire_types.specs.declared.ids.PayloadProtocolIdentifier.TheVariants as kinds
+use Rattle.sctp_wire_types.specs.declared.chunk.ChunkInit.{ChunkInit}
+use Rattle.sctp_wire_types.specs.declared.packet.CommonHeader.{CommonHeader}
 use Rattle.sctp_wire_types.specs.Checks.{checked_chunk}
 use Rattle.sctp_wire.specs.declared.packet.Packet.{Packet}
 use Rattle.sctp_parts.specs.declared.timer.Timer.TheVariants as names
@@ -15,7 +17,7 @@ use Rattle.sctp_outbound_queue.specs.Outbound.{pieces_waiting}
 use Rattle.sctp_queues.specs.Streams.{stream_at, generation_left, bytes_waiting, refusal_in}
 use Rattle.sctp_inbound.specs.declared.receiver.AckWish.{AckWish}
 use Rattle.sctp_inbound.specs.declared.receiver.AckWish.TheVariants as wishes
-use Rattle.sctp_inbound.specs.Handshake.{header_of}
+use Rattle.sctp_inbound.specs.Handshake.{comes_back, header_of}
 use Rattle.sctp_inbound.specs.Receiver.{is_next_after, credit_of}
 use Rattle.sctp_outbound.specs.declared.sender.SackOutcome.{SackOutcome}
 use Rattle.sctp_outbound.specs.declared.sender.SackOutcome.TheVariants as outcomes
@@ -24,9 +26,10 @@ use Rattle.sctp_outbound.specs.Sender.{after_resending, both_windows, can_send_n
 use Rattle.sctp_assoc.specs.declared.inbound.Flow.{Flow}
 use Rattle.sctp_assoc.specs.declared.inbound.Flow.TheVariants as flows
 use Rattle.sctp_assoc.specs.Acts.{Act, Binds, History, Leads, all_data_given, parts}
-use Rattle.sctp_assoc.specs.Calls.{is_established, is_closed_state}
+use Rattle.sctp_assoc.specs.Calls.{is_beginning, is_closed_state, is_cookie_wait, is_established}
 use Rattle.sctp_assoc.specs.Chunks.{counted_data, is_whole, on_chunk, stream_found}
-use Rattle.sctp_assoc.specs.Polled.{AckIsReadAgain, AreReadAgain, data_packets, is_due, sack_packet}
+use Rattle.sctp_assoc.specs.Polled.{AckIsReadAgain, AreControlReadAgain, AreReadAgain, control_packets, data_packets, is_due, sack_packet}
+use Rattle.sctp_assoc.specs.Timeouts.{after_handshake_timers}
 use Rattle.sctp_assoc.specs.Shown.{Shown}
 
 -- What each call does to the directions.
@@ -66,17 +69,28 @@ abbrev pub acts_of_sack : Shown → ℕ → List Act
 acts_of_sack a point =
     if is_established a.state then acts_of_outcome (sack_outcome a.sender point) (points_to a.sender point) else []
 
-abbrev pub acts_of_kind : Shown → Chunk → List Act
-acts_of_kind a (chunks.Data piece) = acts_of_data a piece
-acts_of_kind a (chunks.SelectiveAck sack) = acts_of_sack a sack.cumulative_tsn_ack
-acts_of_kind a chunk = []
+-- an INIT that is answered tells the peer's initial TSN
+abbrev pub acts_of_init : Shown → ChunkInit → List Act
+acts_of_init a init = if is_beginning a.state then Act.Met init.initial_tsn ∷ [] else []
 
-abbrev pub acts_of_checked : Result (Unit {0}) Error → Shown → Chunk → List Act
-acts_of_checked (Err fault) a chunk = []
-acts_of_checked (Ok _) a chunk = acts_of_kind a chunk
+-- an INIT ACK that counts does
+abbrev pub acts_of_init_ack : Shown → CommonHeader → ChunkInit → List Act
+acts_of_init_ack a header init =
+    if is_cookie_wait a.state then (if comes_back a.handshake header then Act.Met init.initial_tsn ∷ [] else []) else []
 
-abbrev pub acts_of_chunk : Shown → Chunk → List Act
-acts_of_chunk a chunk = acts_of_checked (checked_chunk chunk) a chunk
+abbrev pub acts_of_kind : Shown → CommonHeader → Chunk → List Act
+acts_of_kind a header (chunks.Data piece) = acts_of_data a piece
+acts_of_kind a header (chunks.SelectiveAck sack) = acts_of_sack a sack.cumulative_tsn_ack
+acts_of_kind a header (chunks.Init init) = acts_of_init a init
+acts_of_kind a header (chunks.InitAck init) = acts_of_init_ack a header init
+acts_of_kind a header chunk = []
+
+abbrev pub acts_of_checked : Result (Unit {0}) Error → Shown → CommonHeader → Chunk → List Act
+acts_of_checked (Err fault) a header chunk = []
+acts_of_checked (Ok _) a header chunk = acts_of_kind a header chunk
+
+abbrev pub acts_of_chunk : Shown → CommonHeader → Chunk → List Act
+acts_of_chunk a header chunk = acts_of_checked (checked_chunk chunk) a header chunk
 
 abbrev pub acts_of_close : Shown → List Act
 acts_of_close a = if is_closed_state a.state then [] else Act.Ended ∷ []
@@ -86,14 +100,14 @@ acts_after (a, flows.Next wish) more = more a wish
 acts_after (a, flows.Fault fault) more = acts_of_close a
 
 -- the chunks of a packet, in order, up to a fault
-abbrev pub acts_of_chunks : List Chunk → Shown → AckWish → ℕ → List Act
-acts_of_chunks [] a wish now = []
-acts_of_chunks (c ∷ cs) a wish now =
-    acts_of_chunk a c ++ acts_after (on_chunk a c wish now) (λ b next. acts_of_chunks cs b next now)
+abbrev pub acts_of_chunks : CommonHeader → List Chunk → Shown → AckWish → ℕ → List Act
+acts_of_chunks header [] a wish now = []
+acts_of_chunks header (c ∷ cs) a wish now =
+    acts_of_chunk a header c ++ acts_after (on_chunk a header c wish now) (λ b next. acts_of_chunks header cs b next now)
 
 abbrev pub acts_of_packet_of : Shown → Option Packet → ℕ → List Act
 acts_of_packet_of a None now = []
-acts_of_packet_of a (Some packet) now = acts_of_chunks packet.chunks a wishes.None now
+acts_of_packet_of a (Some packet) now = acts_of_chunks packet.common_header packet.chunks a wishes.None now
 
 -- a packet that comes, if there is one
 abbrev pub acts_of_packet : Shown → Option Packet → ℕ → List Act
@@ -147,15 +161,20 @@ acts_of_poll a now = if is_established a.state then acts_of_data_poll a now ++ a
 abbrev pub acks_given : Shown → List (List ℕ)
 acks_given a = if is_due a.receiver.ack_state then sack_packet a else []
 
--- the packets of these acts: their DATA, under the TSNs of its offsets, and then the acknowledgement
-abbrev pub packets_given : List Act → Shown → History → List (List ℕ)
-packets_given xs a h =
+-- the packets of these acts: those that wait, and in Established their DATA, under the TSNs of its offsets, and then the
+-- acknowledgement
+abbrev pub exchange_given : List Act → Shown → History → List (List ℕ)
+exchange_given xs a h =
     if is_established a.state then data_packets (header_of a.handshake) (all_data_given xs (parts a h)) ++ acks_given a else []
+
+abbrev pub packets_given : List Act → Shown → History → List (List ℕ)
+packets_given xs a h = control_packets a.control ++ exchange_given xs a h
 
 -- A poll for packets leads on by its acts, and gives what they say: each packet is read as the chunk that it was made of.
 pub record Polls (xs : List Act) (a : Shown) (h : History) (b : Shown) (packets : List (List ℕ)) : Type 0 where
   pub leads : Leads xs a h b h
   pub said : packets ≡ packets_given xs a h
+  pub control_again : AreControlReadAgain a.control
   pub data_again : is_established a.state ≡ true → AreReadAgain (header_of a.handshake) (all_data_given xs (parts a h))
   pub ack_again : is_established a.state ≡ true → AckIsReadAgain a
 
@@ -164,8 +183,11 @@ abbrev pub PollsOn : List Act → Shown → Shown → List (List ℕ) → Type 0
 PollsOn xs a b packets = (h : History) → Binds a h → Polls xs a h b packets
 
 -- the retransmission timer, where it expired by a moment and is within its limit
-abbrev pub acts_of_timeouts : Shown → ℕ → List Act
-acts_of_timeouts a now =
+abbrev pub acts_of_t3 : Shown → ℕ → List Act
+acts_of_t3 a now =
     if (expiry_of names.T3RTX now a.timers).0 then
     (if (expiry_of names.T3RTX now a.timers).1 then [] else Act.Marked ∷ [])
     else []
+
+abbrev pub acts_of_timeouts : Shown → ℕ → List Act
+acts_of_timeouts a now = acts_of_t3 (after_handshake_timers a now) now

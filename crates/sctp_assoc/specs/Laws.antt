@@ -4,6 +4,7 @@ use Rattle.std.specs.List.{list_any, sum_by}
 use Rattle.sctp_wire_types.specs.declared.chunk.Chunk.{Chunk}
 use Rattle.sctp_wire_types.specs.declared.chunk.Chunk.TheVariants as chunks
 use Rattle.sctp_wire_types.specs.declared.ids.PayloadProtocolIdentifier.{PayloadProtocolIdentifier}
+use Rattle.sctp_wire_types.specs.declared.packet.CommonHeader.{CommonHeader}
 use Rattle.sctp_wire.specs.declared.packet.Packet.{Packet}
 use Rattle.sctp_wire.specs.Packets.{spelling}
 use Rattle.sctp_parts.specs.declared.state.AssociationState.TheVariants as states
@@ -23,11 +24,12 @@ use Rattle.sctp_model.specs.Serial.{tsn}
 use Rattle.sctp_assoc.specs.declared.inbound.Flow.{Flow}
 use Rattle.sctp_assoc.specs.declared.inbound.Flow.TheVariants as flows
 use Rattle.sctp_assoc.specs.Acts.{Binds, History, all_data_given, parts, tsn_before}
-use Rattle.sctp_assoc.specs.Calls.{after_timeouts, is_closed_state, is_established, opened, read_from_stream, written}
+use Rattle.sctp_assoc.specs.Calls.{is_closed_state, is_established, opened, read_from_stream, written}
 use Rattle.sctp_assoc.specs.Chunks.{after_packet, on_chunk}
 use Rattle.sctp_assoc.specs.Happened.{acts_of_poll}
-use Rattle.sctp_assoc.specs.Polled.{data_polled, is_due, packet_with, polled, sack_packet}
+use Rattle.sctp_assoc.specs.Polled.{control_packets, data_polled, is_due, packet_with, polled, sack_packet}
 use Rattle.sctp_assoc.specs.Shown.{Shown}
+use Rattle.sctp_assoc.specs.Timeouts.{after_timeouts}
 
 -- Sending
 
@@ -48,10 +50,10 @@ abbrev pub WhatWaitsIsGiven : Type 0
 WhatWaitsIsGiven = (a : Shown) (h : History) (now : ℕ) (m : Waiting) → is_established a.state ≡ true → Binds a h → IsNextWithNothingInFlight a m
     → slice_get (all_data_given (acts_of_poll a now) (parts a h)) 0 ≡ Some (next_chunk_of m (tsn h.own h.base))
 
--- A piece that one DATA chunk has room for is the first packet that goes out.
+-- A piece that one DATA chunk has room for is the first packet that goes out behind those that wait already.
 abbrev pub WhatWaitsGoesOut : Type 0
 WhatWaitsGoesOut = (a : Shown) (now : ℕ) (m : Waiting) → is_established a.state ≡ true → IsNextWithNothingInFlight a m → length m.user_data ≤ 65519
-    → slice_get (polled a now).1 0
+    → slice_get (polled a now).1 (length (control_packets a.control))
     ≡ Some (spelling (packet_with (header_of a.handshake) (chunks.Data (next_chunk_of m (next_tsn_of a.sender.queue)))))
 
 -- Keeping
@@ -95,20 +97,20 @@ TimersDoNotClose = (a : Shown) (now : ℕ) → StaysOpen a (after_timeouts a now
 
 abbrev pub faults_or : Shown × Flow → (Shown → AckWish → Bool) → Bool
 faults_or (a, flows.Next wish) more = more a wish
-faults_or (a, flows.Fault fault) more = true
+faults_or (a, flows.Fault fault) more = not (is_closed_state a.state)
 
--- one of these chunks, taken in order, is a fault
-abbrev pub is_faulted : List Chunk → Shown → AckWish → ℕ → Bool
-is_faulted [] a wish now = false
-is_faulted (c ∷ cs) a wish now = faults_or (on_chunk a c wish now) (λ b next. is_faulted cs b next now)
+-- one of these chunks, taken in order, is a fault, and the association is open then
+abbrev pub is_faulted : CommonHeader → List Chunk → Shown → AckWish → ℕ → Bool
+is_faulted header [] a wish now = false
+is_faulted header (c ∷ cs) a wish now = faults_or (on_chunk a header c wish now) (λ b next. is_faulted header cs b next now)
 
 abbrev pub is_faulted_packet : Shown → Option Packet → ℕ → Bool
 is_faulted_packet a None now = false
-is_faulted_packet a (Some packet) now = is_faulted packet.chunks a wishes.None now
+is_faulted_packet a (Some packet) now = is_faulted packet.common_header packet.chunks a wishes.None now
 
 -- what came closes an open association: one of its chunks is a fault
 abbrev pub closes : Shown → Option Packet → ℕ → Bool
-closes a packet now = not a.lost && (not (is_closed_state a.state) && is_faulted_packet a packet now)
+closes a packet now = not a.lost && is_faulted_packet a packet now
 
 abbrev pub loss_of : Event → ℕ
 loss_of (events.AssociationLost reason) = 1
@@ -122,13 +124,14 @@ loss_of events.DatagramReceived = 0
 abbrev pub losses : List Event → ℕ
 losses queued = sum_by loss_of queued
 
--- An association closed, or it did not: if so it is lost, and one event more tells of it.
+-- An association closed, or it did not: if so it is lost, and one event more tells of it; if not, it isn't closed unless it was.
 pub record IsClosedIf (closing : Bool) (a b : Shown) : Type 0 where
-  pub state : b.state ≡ (if closing then states.Closed else a.state)
+  pub closed : closing ≡ true → b.state ≡ states.Closed
+  pub still_open : closing ≡ false → is_closed_state b.state ≡ true → is_closed_state a.state ≡ true
   pub lost : b.lost ≡ (closing || a.lost)
   pub told : losses b.events ≡ losses a.events + (if closing then 1 else 0)
 
--- A packet closes an association exactly where it is open and a chunk of the packet is a fault, and the loss is told once.
+-- A packet closes an association exactly where a chunk of the packet is a fault while it is open, and the loss is told once.
 abbrev pub FaultsAloneClose : Type 0
 FaultsAloneClose = (a : Shown) (packet : Option Packet) (now : ℕ) → IsClosedIf (closes a packet now) a (after_packet a packet now)
 

@@ -1,10 +1,13 @@
 pub mod Acts
 pub mod Calls
 pub mod Chunks
+pub mod Control
 pub mod Happened
+pub mod Handshake
 pub mod Inbound
 pub mod Join
 pub mod Laws
 pub mod Lending
 pub mod Polled
 pub mod Shown
+pub mod Timeouts

@@ -10,7 +10,7 @@ use Rattle.sctp_wire.specs.declared.packet.Packet.{Packet}
 use Rattle.sctp_wire.specs.declared.transmit.Payload.{Payload}
 use Rattle.sctp_wire.specs.declared.transmit.Payload.TheVariants as payloads
 use Rattle.sctp_wire.specs.declared.transmit.Transmit.{Transmit}
-use Rattle.sctp_wire.specs.Packets.{packet_at, written}
+use Rattle.sctp_wire.specs.Packets.{packet_at, packet_is_plain, written}
 use Rattle.sctp_parts.specs.declared.state.AckState.{AckState}
 use Rattle.sctp_parts.specs.declared.state.AckState.TheVariants as acks
 use Rattle.sctp_parts.specs.declared.timer.Timer.TheVariants as names
@@ -20,6 +20,7 @@ use Rattle.sctp_inbound.specs.Handshake.{header_of}
 use Rattle.sctp_inbound.specs.Receiver.{acknowledged, sack_of}
 use Rattle.sctp_outbound.specs.declared.sender.Sender.{Sender}
 use Rattle.sctp_outbound.specs.Sender.{after_resending, resent_by, sent_new}
+use Rattle.sctp_assoc.specs.declared.control.ControlPacket.{ControlPacket}
 use Rattle.sctp_assoc.specs.Calls.{is_established}
 use Rattle.sctp_assoc.specs.Shown.{Shown}
 
@@ -80,9 +81,21 @@ after_both packets (a, more) = (a, packets ++ more)
 abbrev pub ack_after : Shown × List ChunkPayloadData → Shown × List (List ℕ)
 ack_after (a, pieces) = after_both (data_packets (header_of a.handshake) pieces) (ack_polled a)
 
--- what a poll leaves, and the packets that it gives: in Established DATA and then the acknowledgement
+-- the packets that wait to go out before any DATA
+abbrev pub control_packets : List ControlPacket → List (List ℕ)
+control_packets [] = []
+control_packets (c ∷ cs) = packet_bytes c.header c.chunk ++ control_packets cs
+
+abbrev pub without_control : Shown → Shown
+without_control a = record a { control = [] }
+
+-- in Established DATA, and then the acknowledgement
+unfoldable pub exchange_polled : Shown → ℕ → Shown × List (List ℕ)
+exchange_polled a now = if is_established a.state then ack_after (data_polled a now) else (a, [])
+
+-- what a poll leaves, and the packets that it gives: those that wait, and in Established DATA and then the acknowledgement
 abbrev pub polled : Shown → ℕ → Shown × List (List ℕ)
-polled a now = if is_established a.state then ack_after (data_polled a now) else (a, [])
+polled a now = after_both (control_packets a.control) (exchange_polled (without_control a) now)
 
 abbrev pub bytes_within : Payload → List (List ℕ)
 bytes_within (payloads.RawEncode packets) = packets.items
@@ -110,8 +123,16 @@ AreReadAgain header pieces = AllByRecursion (λ (c : ChunkPayloadData). IsReadAg
 abbrev pub AckIsReadAgain : Shown → Type 0
 AckIsReadAgain a = is_due a.receiver.ack_state ≡ true → IsReadAgain (header_of a.handshake) (sack_chunk a)
 
--- each packet of a poll is
+-- one that waits is, where nothing in it is kept under `Other` whose type has a variant of its own
+abbrev pub ControlIsReadAgain : ControlPacket → Type 0
+ControlIsReadAgain c = packet_is_plain (packet_with c.header c.chunk) ≡ true → IsReadAgain c.header c.chunk
+
+abbrev pub AreControlReadAgain : List ControlPacket → Type 0
+AreControlReadAgain cs = AllByRecursion ControlIsReadAgain cs
+
+-- each packet of DATA, and of the acknowledgement behind it, is
+abbrev pub ExchangeIsReadAgain : Shown → ℕ → Type 0
+ExchangeIsReadAgain a now = AreReadAgain (header_of a.handshake) (data_polled a now).1 × AckIsReadAgain (data_polled a now).0
+
 abbrev pub PollIsReadAgain : Shown → ℕ → Type 0
-PollIsReadAgain a now =
-    is_established a.state ≡ true
-    → AreReadAgain (header_of a.handshake) (data_polled a now).1 × AckIsReadAgain (data_polled a now).0
+PollIsReadAgain a now = is_established a.state ≡ true → ExchangeIsReadAgain a now

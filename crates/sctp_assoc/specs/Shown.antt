@@ -2,6 +2,7 @@
 use Rattle.std.specs.Prelude.{◌≡◌, ℕ, Bool, true, List, Option}
 use Rattle.std.specs.declared.net.ip_addr.IpAddr.{IpAddr}
 use Rattle.std.specs.declared.net.socket_addr.SocketAddr.{SocketAddr}
+use Rattle.sctp_wire_types.specs.declared.error.Error.{Error}
 use Rattle.sctp_wire_types.specs.declared.ids.Side.{Side}
 use Rattle.sctp_parts.specs.declared.state.AssociationState.{AssociationState}
 use Rattle.sctp_parts.specs.declared.timer.Timer.TheVariants as names
@@ -13,6 +14,7 @@ use Rattle.sctp_queues.specs.Streams.{StreamMap}
 use Rattle.sctp_inbound.specs.declared.handshake.Handshake.{Handshake}
 use Rattle.sctp_inbound.specs.declared.receiver.Receiver.{Receiver}
 use Rattle.sctp_outbound.specs.declared.sender.Sender.{Sender}
+use Rattle.sctp_assoc.specs.declared.control.ControlPacket.{ControlPacket}
 
 pub record Shown : Type 0 where
   pub side : Side
@@ -30,6 +32,10 @@ pub record Shown : Type 0 where
   pub streams : StreamMap
   -- the events that nobody asked for yet, oldest first
   pub events : List Event
+  -- that the handshake failed and nobody was told yet
+  pub handshake_fault : Option Error
+  -- the packets that go out before any DATA, oldest first
+  pub control : List ControlPacket
   pub timers : Timers
   pub estimate : Estimate
   pub counts : Counts

@@ -1,23 +1,27 @@
 // The surface of an association.
-ghost use Rattle.std.specs.Prelude.{◌≡◌, ◌↔◌, ◌*◌, ◌++◌, ◌∷◌, ◌⊎◌, [], true, false, not, option_to_list, slice_get, IsNone, IfSome, OnOk, OnErr, IfOk, IsErrOf};
+ghost use Rattle.std.specs.Prelude.{◌≡◌, ◌↔◌, ◌*◌, ◌∷◌, ◌⊎◌, ◌≤◌, [], true, false, not, IsNone, IfSome, OnOk, OnErr, IfOk, IsErrOf};
 ghost use Rattle.std.specs.Borrow.{sem};
 ghost use Rattle.std.specs.Duration.{as_nanos};
+ghost use Rattle.std.specs.Option.{option_copied};
 ghost use Rattle.sctp_parts.specs.State.{is_closing};
 ghost use Rattle.sctp_parts.specs.Timers.{least_moment};
-ghost use Rattle.sctp_assoc.specs.Calls.{Refuses, RefusesOrLacksMemory, open_refusal, stream_refusal, usable, opened, is_closed_state, after_t3, after_ack_delay, after_timeouts};
+ghost use Rattle.sctp_assoc.specs.Calls.{Refuses, RefusesOrLacksMemory, open_refusal, stream_refusal, usable, opened, is_closed_state, after_t3, after_ack_delay, event_from, event_polled};
 ghost use Rattle.sctp_assoc.specs.Chunks.{after_packet};
 ghost use Rattle.sctp_assoc.specs.Acts.{Act, LeadsOn, begun, Binds};
 ghost use Rattle.sctp_assoc.specs.Happened.{PollsOn, acts_of_packet, acts_of_poll, acts_of_timeouts};
 ghost use Rattle.sctp_assoc.specs.Inbound.{packet_of, transmit_of};
-ghost use Rattle.sctp_assoc.specs.Join.{join_refusal, joined};
+ghost use Rattle.sctp_assoc.specs.Join.{create_refusal, created, fresh_association, join_refusal, joined};
 ghost use Rattle.sctp_assoc.specs.Lending.{rests_if_refused, lent, lender, id_of};
 ghost use Rattle.sctp_assoc.specs.Polled.{IsAddressed, packets_of, polled};
 ghost use Rattle.sctp_assoc.specs.Shown.{HasFailed};
+ghost use Rattle.sctp_assoc.specs.Timeouts.{after_timeouts};
 
-use crate::{AssociationEvent, Stream};
+use crate::control::ControlPacket;
+use crate::{AssociationEvent, ServerConfig, Stream};
 use bytes::Bytes;
-use sctp_inbound::{Handshake, Receiver};
+use sctp_inbound::{Handshake, Offer, Receiver};
 use sctp_outbound::Sender;
+use sctp_parts::shared::AssociationId;
 use sctp_parts::state::AssociationState;
 use sctp_parts::stats::AssociationStats;
 use sctp_parts::timer::{RtoManager, Timer, TimerTable};
@@ -26,7 +30,7 @@ use sctp_wire::{Payload, Transmit};
 use sctp_wire_types::{
     ChunkInit, Error, Instant, PayloadProtocolIdentifier, Side, StreamId, TransportConfig,
 };
-use std::alloc::Global;
+use std::alloc::{AllocError, Global};
 use std::marker::Model;
 use std::net::{IpAddr, SocketAddr};
 use std::time::Duration;
@@ -54,6 +58,10 @@ pub struct Association {
     pub(crate) sender: Sender,
     pub(crate) streams: Streams,
     pub(crate) events: Events,
+    /// Why the handshake failed, until that is told.
+    pub(crate) handshake_fault: Option<Error>,
+    /// The packets that go out before any DATA, oldest first.
+    pub(crate) control: Vec<ControlPacket>,
     pub(crate) timers: TimerTable,
     pub(crate) rto: RtoManager,
     pub(crate) stats: AssociationStats,
@@ -77,6 +85,8 @@ impl Model for Association {
       sender = a.sender;
       streams = a.streams;
       events = a.events;
+      handshake_fault = a.handshake_fault;
+      control = a.control.items;
       timers = a.timers;
       estimate = a.rto;
       counts = a.stats;
@@ -84,6 +94,61 @@ impl Model for Association {
 }
 
 impl Association {
+    /// An association that a handshake is to establish (RFC 4960 section 5.1): a server's, which waits for an INIT, where
+    /// there is a `server_config`, else a client's, whose INIT goes out with the next poll. `local_aid` is this side's
+    /// verification tag, and `cookie` its State Cookie, which nobody else should be able to guess. Refused where the
+    /// payload size is not in 1 to 65,519 bytes, where `initial_tsn` is 0, and where memory is.
+    #[tactic(auto, using(crate::proofs::Beginning::created_binds))]
+    pub fn new(
+        alloc: Global,
+        server_config: Option<&ServerConfig>,
+        config: &TransportConfig,
+        max_payload_size: u32,
+        local_aid: AssociationId,
+        initial_tsn: u32,
+        cookie: [u8; 32],
+        remote_addr: SocketAddr,
+        local_ip: Option<IpAddr>,
+        now: Instant,
+    ) -> Result<Association, Error>
+        ensures refused { RefusesOrLacksMemory result (create_refusal max_payload_size initial_tsn) }
+        ensures begins { IfOk result (λ a. Binds a (begun initial_tsn 1)) }
+        ensures created { IfOk result (λ a. a ≡ created (option_copied server_config.entry) config.now max_payload_size local_aid initial_tsn cookie remote_addr local_ip now) }
+    {
+        if max_payload_size == 0 || MAX_PAYLOAD_SIZE < max_payload_size {
+            return Err(Error::ErrBadPayloadSize);
+        }
+        if initial_tsn == 0 {
+            return Err(Error::ErrBadInitialTsn);
+        }
+        let cookie = Bytes::copy_from_slice(alloc, &cookie)?;
+        let (side, state, offer) = match server_config {
+            Some(_) => (Side::Server, AssociationState::Closed, None),
+            None => (
+                Side::Client,
+                AssociationState::CookieWait,
+                Some(Offer::new(config)),
+            ),
+        };
+        let handshake = Handshake::fresh(config, local_aid, initial_tsn, cookie, offer);
+        let mut association = Association::fresh(
+            alloc,
+            config,
+            max_payload_size,
+            remote_addr,
+            local_ip,
+            side,
+            state,
+            handshake,
+            0,
+            0,
+        );
+        if server_config.is_none() {
+            association.send_init(now)?;
+        }
+        Ok(association)
+    }
+
     /// An association that is established at once, by two tokens that the sides exchanged in another way. Refused
     /// where the payload size is not in 1 to 65,519 bytes, where a token would be refused as an INIT, and where memory
     /// is.
@@ -107,24 +172,55 @@ impl Association {
             return Err(Error::ErrBadToken);
         }
         let handshake = Handshake::by_tokens(config, local_init, remote_init);
-        let point = remote_init.initial_tsn.wrapping_sub(1);
-        let window = remote_init.advertised_receiver_window_credit;
-        let mut events = Events::new(alloc);
-        events.push(Event::Connected)?;
-        Ok(Association {
+        let mut association = Association::fresh(
             alloc,
-            side: handshake.side_by_tags(),
+            config,
+            max_payload_size,
             remote_addr,
             local_ip,
-            state: AssociationState::Established,
+            handshake.side_by_tags(),
+            AssociationState::Established,
+            handshake,
+            remote_init.initial_tsn.wrapping_sub(1),
+            remote_init.advertised_receiver_window_credit,
+        );
+        association.events.push(Event::Connected)?;
+        Ok(association)
+    }
+
+    // Nothing was sent and nothing came. `point` is the cumulative TSN ack point and `window` the peer's receive window.
+    fn fresh(
+        alloc: Global,
+        config: &TransportConfig,
+        max_payload_size: u32,
+        remote_addr: SocketAddr,
+        local_ip: Option<IpAddr>,
+        side: Side,
+        state: AssociationState,
+        handshake: Handshake,
+        point: u32,
+        window: u32,
+    ) -> Association
+        requires { max_payload_size ≤ 65519 }
+        ensures { result ≡ fresh_association config.now max_payload_size remote_addr local_ip side state handshake point window }
+    {
+        let initial_tsn = handshake.my_initial_tsn;
+        Association {
+            alloc,
+            side,
+            remote_addr,
+            local_ip,
+            state,
             lost: false,
             failed: false,
             max_send_message_size: config.max_send_message_size(),
             handshake,
             receiver: Receiver::new(config.max_receive_buffer_size(), point),
-            sender: Sender::new(alloc, max_payload_size, local_init.initial_tsn, window),
+            sender: Sender::new(alloc, max_payload_size, initial_tsn, window),
             streams: Streams::new(alloc),
-            events,
+            events: Events::new(alloc),
+            handshake_fault: None,
+            control: Vec::new(alloc),
             timers: TimerTable::new(
                 config.max_init_retransmits(),
                 config.max_data_retransmits(),
@@ -136,20 +232,30 @@ impl Association {
                 config.rto_max_ms(),
             ),
             stats: AssociationStats::default(),
-        })
+        }
     }
 
-    /// The oldest event that nobody asked for yet.
+    /// The oldest event that nobody asked for yet; with none left that the handshake failed, once.
     #[tactic(auto, using(crate::proofs::Joining::poll_leads_on))]
     pub fn poll(&mut self) -> Result<Option<Event>, Error>
         ensures failed { IsErrOf result Error.ErrAssociationFailed ↔ (self.old.failed ≡ true) }
-        ensures oldest { IfOk result (λ event. event ≡ slice_get self.old.events 0) }
+        ensures ok { IfOk result (λ event. event_polled self.old ≡ (self.new, event)) }
         ensures acts { OnOk result (LeadsOn [] self.old self.new) }
-        ensures rest { IfOk result (λ event. self.old ≡ record self.new { events = option_to_list event ++ self.new.events }) }
         ensures err { OnErr result ((result ≡ Err Error.ErrAssociationFailed) × (self.new ≡ self.old)) }
     {
         self.check_usable()?;
-        Ok(self.events.pop())
+        Ok(self.next_event())
+    }
+
+    fn next_event(&mut self) -> Option<Event>
+        ensures { event_polled self.old ≡ (self.new, result) }
+    {
+        match self.events.pop() {
+            Some(event) => Some(event),
+            None => self.handshake_fault.take().map(|fault| Event::HandshakeFailed {
+                reason: fault.into(),
+            }),
+        }
     }
 
     /// The moment at which `handle_timeout` has something to do; None where no timer runs.
@@ -230,11 +336,28 @@ impl Association {
     #[tactic(auto, using(crate::proofs::Joining::timeouts_lead_on))]
     pub fn handle_timeout(&mut self, now: Instant) -> Result<(), Error>
         ensures failed { IsErrOf result Error.ErrAssociationFailed ↔ (self.old.failed ≡ true) }
-        ensures refused { OnErr result ((result ≡ Err Error.ErrAssociationFailed) × (self.new ≡ self.old)) }
+        ensures refused { IsErrOf result Error.ErrAssociationFailed → self.new ≡ self.old }
+        ensures memory { IsErrOf result Error.ErrNoMemory → HasFailed self.old.state self.old.lost self.new }
+        ensures only { OnErr result ((result ≡ Err Error.ErrAssociationFailed) ⊎ (result ≡ Err Error.ErrNoMemory)) }
         ensures ok { OnOk result (self.new ≡ after_timeouts self.old now) }
         ensures acts { OnOk result (LeadsOn (acts_of_timeouts self.old now) self.old self.new) }
     {
         self.check_usable()?;
+        let answers = self.answers();
+        match self.on_timers(now) {
+            Ok(()) => Ok(()),
+            Err(_) => {
+                self.fail(answers);
+                Err(Error::ErrNoMemory)
+            }
+        }
+    }
+
+    fn on_timers(&mut self, now: Instant) -> Result<(), AllocError>
+        ensures { OnOk result (self.new ≡ after_timeouts self.old now) }
+    {
+        self.on_t1_init(now)?;
+        self.on_t1_cookie(now)?;
         self.on_t3(now);
         self.on_ack(now);
         Ok(())

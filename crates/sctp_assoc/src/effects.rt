@@ -19,8 +19,8 @@ pub(crate) struct Answers {
 }
 
 impl Association {
-    // Closes an open association once: no timer runs on, each live stream gets its last counters, and the loss is the
-    // last event. In Closed nothing changes.
+    // Closes an open association once: no timer runs on, no packet waits to go out, each live stream gets its last
+    // counters, and the loss is the last event. In Closed nothing changes.
     pub(crate) fn close_with(&mut self, reason: AssociationError) -> Result<(), AllocError>
         ensures { OnOk result (self.new ≡ closed_by self.old reason) }
     {
@@ -30,6 +30,7 @@ impl Association {
         self.state = AssociationState::Closed;
         self.lost = true;
         stop_all(&mut self.timers);
+        self.control.clear();
         end_streams(&mut self.streams, &mut self.events)?;
         self.events.push(Event::AssociationLost { reason })
     }

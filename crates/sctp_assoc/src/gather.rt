@@ -1,29 +1,51 @@
 // The packets of one poll, in the order in which they go out.
 ghost use Rattle.std.specs.Prelude.{◌≡◌, ◌++◌, true, OnOk, IfOk};
 ghost use Rattle.sctp_wire.specs.Packets.{packet_is_plain};
-ghost use Rattle.sctp_assoc.specs.Polled.{AckIsReadAgain, AreReadAgain, IsReadAgain, PollIsReadAgain, ack_polled, after_both, data_packets, data_polled, packet_bytes, packet_with, polled};
+ghost use Rattle.sctp_assoc.specs.Polled.{AckIsReadAgain, AreControlReadAgain, AreReadAgain, ExchangeIsReadAgain, IsReadAgain, PollIsReadAgain, ack_after, ack_polled, after_both, control_packets, data_packets, data_polled, exchange_polled, packet_bytes, packet_with, polled, without_control};
 
 use crate::Association;
+use crate::control::ControlPacket;
 use bytes::Bytes;
 use sctp_parts::state::{AckState, AssociationState};
 use sctp_parts::timer::Timer;
 use sctp_wire::Packet;
 use sctp_wire_types::{Chunk, ChunkPayloadData, CommonHeader, Error, Instant, List};
 use std::alloc::{AllocError, Global};
+use std::mem;
 
 impl Association {
-    // DATA that is sent again, then new DATA, then the acknowledgement.
+    // The packets that wait, then DATA that is sent again, then new DATA, then the acknowledgement.
     pub(crate) fn gather(&mut self, now: Instant) -> Result<Vec<Bytes>, AllocError>
         ensures exact { IfOk result (λ packets. polled self.old now ≡ (self.new, packets.items)) }
-        ensures again { OnOk result (PollIsReadAgain self.old now) }
+        ensures control_again { OnOk result (AreControlReadAgain self.old.control) }
+        ensures again { OnOk result (PollIsReadAgain (without_control self.old) now) }
     {
         let mut packets = Vec::new(self.alloc);
-        if self.state == AssociationState::Established {
-            let pieces = self.gather_data(now)?;
-            put_data(&mut packets, self.alloc, self.handshake.header(), pieces)?;
-            self.gather_ack(&mut packets)?;
-        }
+        let waiting = mem::replace(&mut self.control, Vec::new(self.alloc));
+        put_control(&mut packets, self.alloc, waiting)?;
+        self.gather_exchange(&mut packets, now)?;
         Ok(packets)
+    }
+
+    #[tactic(auto, unfolding(crate::specs::Polled::exchange_polled))]
+    fn gather_exchange(&mut self, packets: &mut Vec<Bytes>, now: Instant) -> Result<(), AllocError>
+        ensures exact { OnOk result (after_both packets.old.items (exchange_polled self.old now) ≡ (self.new, packets.new.items)) }
+        ensures again { OnOk result (PollIsReadAgain self.old now) }
+    {
+        if self.state == AssociationState::Established {
+            self.gather_established(packets, now)?;
+        }
+        Ok(())
+    }
+
+    fn gather_established(&mut self, packets: &mut Vec<Bytes>, now: Instant) -> Result<(), AllocError>
+        ensures exact { OnOk result (after_both packets.old.items (ack_after (data_polled self.old now)) ≡ (self.new, packets.new.items)) }
+        ensures again { OnOk result (ExchangeIsReadAgain self.old now) }
+    {
+        let pieces = self.gather_data(now)?;
+        put_data(packets, self.alloc, self.handshake.header(), pieces)?;
+        self.gather_ack(packets)?;
+        Ok(())
     }
 
     #[tactic(auto, unfolding(crate::specs::Polled::data_polled))]
@@ -53,6 +75,22 @@ impl Association {
         }
         Ok(())
     }
+}
+
+// The packets that wait, oldest first.
+#[tactic(auto, using(crate::proofs::ReadAgain::one_more_control_again))]
+fn put_control(
+    packets: &mut Vec<Bytes>,
+    alloc: Global,
+    waiting: Vec<ControlPacket>,
+) -> Result<(), AllocError>
+    ensures exact { OnOk result (packets.new.items ≡ packets.old.items ++ control_packets waiting.items) }
+    ensures again { OnOk result (AreControlReadAgain waiting.items) }
+{
+    for packet in waiting {
+        put_packet(packets, alloc, packet.header, packet.chunk)?;
+    }
+    Ok(())
 }
 
 // Each DATA chunk in a packet of its own.

@@ -13,12 +13,12 @@ use sctp_parts::state::AssociationState;
 use sctp_queues::{AssociationError, Event};
 use sctp_wire::{Packet, PartialDecode, check_packet};
 use sctp_wire_types::{
-    Chunk, ChunkPayloadData, Error, Instant, PayloadProtocolIdentifier, StreamEvent,
+    Chunk, ChunkPayloadData, CommonHeader, Error, Instant, PayloadProtocolIdentifier, StreamEvent,
 };
 use std::alloc::AllocError;
 
 /// How a packet goes on after one of its chunks.
-enum Flow {
+pub(crate) enum Flow {
     /// With the next chunk; the wish is that of the packet so far.
     Next(AckWish),
     /// The chunk is a fault: it ends the packet and closes an open association.
@@ -47,16 +47,21 @@ impl Association {
         if self.lost || check_packet(&packet).is_err() {
             return Ok(());
         }
-        self.on_chunks(packet.chunks.into_vec(), now)
+        self.on_chunks(packet.common_header, packet.chunks.into_vec(), now)
     }
 
     // The chunks in order; a fault ends the packet and closes an open association.
-    fn on_chunks(&mut self, chunks: Vec<Chunk>, now: Instant) -> Result<(), AllocError>
-        ensures { OnOk result (self.new ≡ after_chunks chunks.items self.old AckWish.None now) }
+    fn on_chunks(
+        &mut self,
+        header: CommonHeader,
+        chunks: Vec<Chunk>,
+        now: Instant,
+    ) -> Result<(), AllocError>
+        ensures { OnOk result (self.new ≡ after_chunks header chunks.items self.old AckWish.None now) }
     {
         let mut wish = AckWish::None;
         for chunk in chunks {
-            match self.on_chunk(chunk, wish, now)? {
+            match self.on_chunk(header, chunk, wish, now)? {
                 Flow::Next(next) => wish = next,
                 Flow::Fault(_) => return self.close_with(AssociationError::AssociationClosed),
             }
@@ -66,17 +71,29 @@ impl Association {
     }
 
     #[tactic(auto, unfolding(crate::specs::Chunks::on_chunk))]
-    fn on_chunk(&mut self, chunk: Chunk, wish: AckWish, now: Instant) -> Result<Flow, AllocError>
-        ensures { IfOk result (λ flow. on_chunk self.old chunk wish now ≡ (self.new, flow)) }
+    fn on_chunk(
+        &mut self,
+        header: CommonHeader,
+        chunk: Chunk,
+        wish: AckWish,
+        now: Instant,
+    ) -> Result<Flow, AllocError>
+        ensures { IfOk result (λ flow. on_chunk self.old header chunk wish now ≡ (self.new, flow)) }
     {
         if let Err(fault) = chunk.check() {
             return Ok(Flow::Fault(fault));
         }
-        self.dispatch(chunk, wish, now)
+        self.dispatch(header, chunk, wish, now)
     }
 
-    fn dispatch(&mut self, chunk: Chunk, wish: AckWish, now: Instant) -> Result<Flow, AllocError>
-        ensures { IfOk result (λ flow. dispatched self.old chunk wish now ≡ (self.new, flow)) }
+    fn dispatch(
+        &mut self,
+        header: CommonHeader,
+        chunk: Chunk,
+        wish: AckWish,
+        now: Instant,
+    ) -> Result<Flow, AllocError>
+        ensures { IfOk result (λ flow. dispatched self.old header chunk wish now ≡ (self.new, flow)) }
     {
         match chunk {
             Chunk::Data(piece) => self.on_data(piece, wish),
@@ -86,8 +103,12 @@ impl Association {
                 wish,
                 now,
             )),
-            Chunk::Init(_) => Ok(Flow::Fault(Error::ErrHandleInitState)),
-            Chunk::InitAck(_) => Ok(Flow::Next(wish)),
+            Chunk::Init(init) => self.on_init(header, init, wish),
+            Chunk::InitAck(init) => self.on_init_ack(header, init, wish, now),
+            Chunk::CookieEcho(cookie) => self.on_cookie_echo(cookie, wish),
+            Chunk::CookieAck => self.on_cookie_ack(wish),
+            Chunk::Heartbeat(heartbeat) => self.on_heartbeat(heartbeat, wish),
+            Chunk::Abort(_) | Chunk::Error(_) => Ok(Flow::Fault(Error::ErrAbortChunk)),
             _ => Ok(Flow::Fault(Error::ErrChunkTypeUnhandled)),
         }
     }

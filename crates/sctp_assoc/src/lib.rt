@@ -3,8 +3,10 @@
 #![tactic(auto)]
 
 mod association;
+mod control;
 mod effects;
 mod gather;
+mod handshake;
 mod inbound;
 mod laws;
 mod readers;
@@ -26,5 +28,5 @@ pub use sctp_wire_types::{
     ChunkInit, EcnCodepoint, Error, Instant, List, Param, PayloadProtocolIdentifier,
     ReliabilityType, Side, StreamEvent, StreamId, StreamResetError, TransportConfig,
 };
-pub use shared::AssociationEvent;
+pub use shared::{AssociationEvent, ServerConfig};
 pub use stream::Stream;

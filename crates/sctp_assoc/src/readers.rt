@@ -4,6 +4,9 @@ ghost use Rattle.sctp_outbound.specs.Sender.{window_left, marks};
 
 use crate::Association;
 use sctp_parts::state::AssociationState;
+use sctp_parts::stats::AssociationStats;
+use sctp_wire_types::Side;
+use std::net::{IpAddr, SocketAddr};
 
 impl Association {
     /// The state (RFC 4960 section 4).
@@ -11,6 +14,34 @@ impl Association {
         ensures { result ≡ self.now.state }
     {
         self.state
+    }
+
+    /// How much of what happened (RFC 4960 sections 6.2, 6.3 and 7.2.4).
+    pub fn stats(&self) -> AssociationStats
+        ensures { result ≡ self.now.counts }
+    {
+        self.stats
+    }
+
+    /// Which side this is: a client's handshake begins with its INIT.
+    pub fn side(&self) -> Side
+        ensures { result ≡ self.now.side }
+    {
+        self.side
+    }
+
+    /// The peer's address, as it was handed in.
+    pub fn remote_addr(&self) -> SocketAddr
+        ensures { result ≡ self.now.remote_addr }
+    {
+        self.remote_addr
+    }
+
+    /// This side's address, as it was handed in.
+    pub fn local_ip(&self) -> Option<IpAddr>
+        ensures { result ≡ self.now.local_ip }
+    {
+        self.local_ip
     }
 
     /// Greatest packet, in bytes: the payload size and 28.

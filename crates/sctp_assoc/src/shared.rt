@@ -18,3 +18,7 @@ impl AssociationEvent {
         AssociationEvent { transmit }
     }
 }
+
+/// Makes an association a server's. Nothing is set in it so far: what counts is that it is there.
+#[derive(Clone, Copy, Debug, Default)]
+pub struct ServerConfig {}

@@ -99,6 +99,10 @@ sack_outcome s point =
     if tsn_gt (acked_point_of s) point then outcomes.Older else
     if nat_le (points_to s point) (length s.queue.in_flight) then outcomes.Taken else outcomes.NotInFlight
 
+-- the window that a peer offers first is also where slow start ends
+abbrev pub with_first_window : Sender → ℕ → Sender
+with_first_window s window = record s { advertised_window = window; ssthresh = window }
+
 abbrev pub with_window : Sender → ℕ → Sender
 with_window s window = record s { advertised_window = window }
 

@@ -4,7 +4,7 @@ ghost use Rattle.sctp_outbound_queue.specs.Message.{outstanding_bytes};
 ghost use Rattle.sctp_outbound_queue.specs.Outbound.{all_marked, after_piece, pieces_waiting};
 ghost use Rattle.sctp_queues.specs.Streams.{released_in};
 ghost use Rattle.std.specs.Prelude.{◌≡◌, ◌+◌, ◌-◌, ◌/◌, if◌then◌else◌, ◌≤◌, ◌<◌, ◌^◌, ◌++◌, ◌∷◌, [], OnErr, OnOk, IfOk, IfSome, length, slice_get, nat_lt};
-ghost use Rattle.sctp_outbound.specs.Sender.{fresh_sender, window_left, marks, acked_point_of, points_to, after_first, acknowledged, sack_outcome, with_window, t3_after_sack, chunk_of, next_chunk_of, data_of, can_send_next, is_measured, after_resending, resent_by, alone_length, with_in_flight, resent_pieces, resent_chunks, tried_again, sent_new, sent_within, sent_one};
+ghost use Rattle.sctp_outbound.specs.Sender.{fresh_sender, window_left, marks, acked_point_of, points_to, after_first, acknowledged, sack_outcome, with_first_window, with_window, t3_after_sack, chunk_of, next_chunk_of, data_of, can_send_next, is_measured, after_resending, resent_by, alone_length, with_in_flight, resent_pieces, resent_chunks, tried_again, sent_new, sent_within, sent_one};
 
 use bytes::Bytes;
 use sctp_outbound_queue::{Attributes, InFlight, OutboundQueue, PendingMessage};
@@ -61,6 +61,14 @@ impl Sender {
             advertised_window: window,
             min_tsn2measure_rtt: initial_tsn,
         }
+    }
+
+    /// The peer's receive window is known, in bytes, from its INIT or INIT ACK (RFC 4960 sections 5.1 and 7.2.1).
+    pub fn meet(&mut self, first_window: u32)
+        ensures { self.new ≡ with_first_window self.old first_window }
+    {
+        self.advertised_window = first_window;
+        self.ssthresh = first_window;
     }
 
     /// The peer's window less what is in flight, in bytes.

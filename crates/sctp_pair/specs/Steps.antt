@@ -1,5 +1,5 @@
 -- What a step of a pair does and replies.
-use Rattle.std.specs.Prelude.{◌≡◌, ◌⊎◌, ℕ, true, false, not, List, [], ◌∷◌, ◌++◌, ◌*◌, length, take, slice_get, option_to_list, Option, Some, None, Ok}
+use Rattle.std.specs.Prelude.{◌≡◌, ◌⊎◌, ℕ, true, false, not, List, [], ◌∷◌, ◌++◌, ◌*◌, length, take, slice_get, Option, Some, None, Ok}
 use Rattle.std.specs.Duration.{as_nanos}
 use Rattle.sctp_wire_types.specs.declared.error.Error.{Error}
 use Rattle.sctp_wire_types.specs.declared.error.Error.TheVariants as errors
@@ -7,12 +7,13 @@ use Rattle.sctp_wire_types.specs.declared.ids.PayloadProtocolIdentifier.{Payload
 use Rattle.sctp_wire_types.specs.Errors.{refusal_number}
 use Rattle.sctp_wire.specs.declared.packet.Packet.{Packet}
 use Rattle.sctp_wire.specs.Packets.{packet_at}
-use Rattle.sctp_assoc.specs.Calls.{after_timeouts, buffered_of, deadline_of, has_begun_closing, is_closed_state, open_refusal, opened, read_from_stream, stream_refusal, write_refusal, written}
+use Rattle.sctp_assoc.specs.Calls.{buffered_of, deadline_of, event_polled, has_begun_closing, is_closed_state, open_refusal, opened, read_from_stream, stream_refusal, write_refusal, written}
 use Rattle.sctp_assoc.specs.Chunks.{after_packet}
 use Rattle.sctp_assoc.specs.Happened.{PollsOn, acts_of_poll}
 use Rattle.sctp_assoc.specs.Inbound.{taken_packet}
 use Rattle.sctp_assoc.specs.Polled.{polled}
 use Rattle.sctp_assoc.specs.Shown.{HasFailed, Shown}
+use Rattle.sctp_assoc.specs.Timeouts.{after_timeouts}
 use Rattle.sctp_pair.specs.declared.step.Reply.{Reply}
 use Rattle.sctp_pair.specs.declared.step.Reply.TheVariants as replies
 use Rattle.sctp_pair.specs.declared.step.Side2.{Side2}
@@ -71,21 +72,21 @@ Buffers a id _ b = ⊥
 abbrev pub HadFailed : Shown → ℕ → Shown → Type 0
 HadFailed a n b = (a.failed ≡ true) × (n ≡ refusal_number errors.ErrAssociationFailed) × (b ≡ a)
 
--- the oldest event is taken out
+-- the oldest event is taken out, or with none left it is told that the handshake failed
 abbrev pub Tells : Shown → Reply → Shown → Type 0
 Tells a (replies.Event event) b =
-    (a.failed ≡ false) × (event ≡ slice_get a.events 0) × (a ≡ record b { events = option_to_list event ++ b.events })
+    (a.failed ≡ false) × (event_polled a ≡ (b, event))
 Tells a (replies.Refused n) b = HadFailed a n b
 Tells a _ b = ⊥
-
-abbrev pub Expires : Shown → ℕ → Reply → Shown → Type 0
-Expires a now replies.Done b = (a.failed ≡ false) × (b ≡ after_timeouts a now)
-Expires a now (replies.Refused n) b = HadFailed a n b
-Expires a now _ b = ⊥
 
 -- memory was refused in the middle of a call, and the association failed
 abbrev pub Fails : Shown → ℕ → Shown → Type 0
 Fails a n b = (n ≡ refusal_number errors.ErrNoMemory) × HasFailed a.state a.lost b
+
+abbrev pub Expires : Shown → ℕ → Reply → Shown → Type 0
+Expires a now replies.Done b = (a.failed ≡ false) × (b ≡ after_timeouts a now)
+Expires a now (replies.Refused n) b = HadFailed a n b ⊎ Fails a n b
+Expires a now _ b = ⊥
 
 -- of the packets of a poll those for which room was refused are lost, and all behind them
 abbrev pub LosesSome : Shown → List (List ℕ) → ℕ → ℕ → Shown → List (List ℕ) → Type 0

@@ -1,7 +1,7 @@
 // The pair, and a run of steps on it.
 ghost use Rattle.std.specs.Prelude.{◌≡◌, length, slice_get, [], None, OnErr, IfOk, vec_len};
 ghost use Rattle.std.specs.Option.{option_copied};
-ghost use Rattle.sctp_assoc.specs.Join.{join_refusal, joined};
+ghost use Rattle.sctp_assoc.specs.Join.{client, create_refusal, join_refusal, joined, server};
 ghost use Rattle.sctp_pair.specs.Ends.{JoinRefuses, packets_of, end_of};
 ghost use Rattle.sctp_pair.specs.World.{World, empty_world};
 ghost use Rattle.sctp_pair.specs.Fits.{Fits, LeadsSafely, RunsSafely};
@@ -10,7 +10,8 @@ ghost use Rattle.sctp_pair.specs.Steps.{AtSide, Buffers, ComesTo, Expires, Finds
 use crate::{Reply, Side2, Step, calls};
 use bytes::Bytes;
 use sctp_assoc::{
-    Association, ChunkInit, Error, Instant, PayloadProtocolIdentifier, StreamId, TransportConfig,
+    Association, AssociationId, ChunkInit, Error, Instant, PayloadProtocolIdentifier, ServerConfig,
+    StreamId, TransportConfig,
 };
 use std::alloc::Global;
 use std::marker::Model;
@@ -85,6 +86,69 @@ impl Pair {
             None,
             token_b,
             token_a,
+        )?;
+        Ok(Pair {
+            alloc,
+            a,
+            b,
+            packets_a: Vec::new(alloc),
+            packets_b: Vec::new(alloc),
+            remote_a: remote_of_a,
+            remote_b: remote_of_b,
+        })
+    }
+
+    /// A pair of which A is the client and B the server, before any packet (RFC 4960 section 5.1). Tags, first TSNs and
+    /// cookies are each side's own. `remote_of_a` is the address at which A reaches B. Refused where A would be refused,
+    /// or else B.
+    pub fn client_server(
+        alloc: Global,
+        config_a: &TransportConfig,
+        server_config_b: &ServerConfig,
+        config_b: &TransportConfig,
+        max_payload_size_a: u32,
+        max_payload_size_b: u32,
+        tag_a: AssociationId,
+        tag_b: AssociationId,
+        tsn_a: u32,
+        tsn_b: u32,
+        cookie_a: [u8; 32],
+        cookie_b: [u8; 32],
+        remote_of_a: SocketAddr,
+        remote_of_b: SocketAddr,
+        now: Instant,
+    ) -> Result<Pair, Error>
+        ensures created { IfOk result (λ p. p ≡ record {
+          a = client config_a.now max_payload_size_a tag_a tsn_a cookie_a remote_of_a None now;
+          b = server config_b.now max_payload_size_b tag_b tsn_b cookie_b remote_of_b None;
+          packets_a = [];
+          packets_b = [];
+        }) }
+        ensures refused { JoinRefuses result (create_refusal max_payload_size_a tsn_a) (create_refusal max_payload_size_b tsn_b) }
+    {
+        let a = Association::new(
+            alloc,
+            None,
+            config_a,
+            max_payload_size_a,
+            tag_a,
+            tsn_a,
+            cookie_a,
+            remote_of_a,
+            None,
+            now,
+        )?;
+        let b = Association::new(
+            alloc,
+            Some(server_config_b),
+            config_b,
+            max_payload_size_b,
+            tag_b,
+            tsn_b,
+            cookie_b,
+            remote_of_b,
+            None,
+            now,
         )?;
         Ok(Pair {
             alloc,

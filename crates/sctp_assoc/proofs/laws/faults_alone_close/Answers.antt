@@ -1,5 +1,5 @@
 use Rattle.sctp_assoc.proofs.Closing.{faults_alone_close}
-use Rattle.sctp_assoc.proofs.Reporting.{polls_do_not_close}
+use Rattle.sctp_assoc.proofs.Reporting.{polls_do_not_close, timers_do_not_close}
 use Rattle.sctp_assoc.proofs.laws.faults_alone_close.Goals as goal
 
 pub returns-clause-packets : goal.returns-clause-packets
@@ -7,3 +7,6 @@ returns-clause-packets c = faults_alone_close
 
 pub returns-clause-polls : goal.returns-clause-polls
 returns-clause-polls c = polls_do_not_close
+
+pub returns-clause-timers : goal.returns-clause-timers
+returns-clause-timers c = timers_do_not_close

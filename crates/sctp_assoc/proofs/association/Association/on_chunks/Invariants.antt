@@ -5,4 +5,4 @@ use Rattle.sctp_inbound.specs.declared.receiver.AckWish.TheVariants as wishes
 use Rattle.sctp_assoc.proofs.association.Association.on_chunks.Given as goal
 
 abbrev pub invariant-loop-chunk : goal.invariant-loop-chunk
-invariant-loop-chunk l = after_chunks (into_iter_items l.chunk-iterator) l.self l.wish l.now ≡ after_chunks l.fn.chunks.items l.fn.self wishes.None l.now
+invariant-loop-chunk l = after_chunks l.header (into_iter_items l.chunk-iterator) l.self l.wish l.now ≡ after_chunks l.header l.fn.chunks.items l.fn.self wishes.None l.now

@@ -1,0 +1,146 @@
+-- The handshake, step by state and chunk, and the chunks beside it that are answered at once (RFC 4960 sections 5.1, 5.2 and 8.3).
+use Rattle.std.specs.Prelude.{ℕ, Bool, true, false, List, [], ◌∷◌, ◌++◌, if◌then◌else◌, Option, Some, None}
+use Rattle.sctp_wire_types.specs.declared.chunk.Chunk.TheVariants as chunks
+use Rattle.sctp_wire_types.specs.declared.chunk.ChunkHeartbeat.{ChunkHeartbeat}
+use Rattle.sctp_wire_types.specs.declared.chunk.ChunkInit.{ChunkInit}
+use Rattle.sctp_wire_types.specs.declared.error.Error.TheVariants as errors
+use Rattle.sctp_wire_types.specs.declared.packet.CommonHeader.{CommonHeader}
+use Rattle.sctp_parts.specs.declared.state.AssociationState.{AssociationState}
+use Rattle.sctp_parts.specs.declared.state.AssociationState.TheVariants as states
+use Rattle.sctp_parts.specs.declared.timer.Timer.TheVariants as names
+use Rattle.sctp_parts.specs.Timers.{after_expiry, expiry_of, started, with_moment, with_stopped}
+use Rattle.sctp_queues.specs.declared.event.Event.TheVariants.{Connected}
+use Rattle.sctp_inbound.specs.declared.handshake.Offer.{Offer}
+use Rattle.sctp_inbound.specs.declared.receiver.AckWish.{AckWish}
+use Rattle.sctp_inbound.specs.Handshake.{comes_back, established, has_issued, met_by_init, met_by_init_ack}
+use Rattle.sctp_inbound.specs.Greeting.{first_cookie, heartbeat_ack_of, information_of, init_ack_of, init_of}
+use Rattle.sctp_inbound.specs.Receiver.{receiver_from}
+use Rattle.sctp_outbound.specs.Sender.{with_first_window}
+use Rattle.sctp_assoc.specs.declared.inbound.Flow.{Flow}
+use Rattle.sctp_assoc.specs.declared.inbound.Flow.TheVariants as flows
+use Rattle.sctp_assoc.specs.Control.{queued}
+use Rattle.sctp_assoc.specs.Calls.{is_beginning, is_cookie_echoed, is_cookie_wait, is_established}
+use Rattle.sctp_assoc.specs.Shown.{Shown}
+
+-- the peer's initial TSN and its receive window are known
+abbrev pub meets : Shown → ℕ → ℕ → Shown
+meets a initial_tsn window = record a {
+  receiver = receiver_from a.receiver initial_tsn;
+  sender = with_first_window a.sender window;
+}
+
+-- INIT
+
+abbrev pub met : Shown → CommonHeader → ChunkInit → Shown
+met a header init =
+    meets (record a { handshake = met_by_init a.handshake header init }) init.initial_tsn init.advertised_receiver_window_credit
+
+-- INIT ACK goes out, with this side's cookie and its whole receive buffer
+abbrev pub answered : Shown → Shown
+answered a = queued a (chunks.InitAck (init_ack_of a.handshake a.receiver.buffer_size))
+
+-- an INIT that comes before the association is established is answered; later it is a fault
+unfoldable pub on_init : Shown → CommonHeader → ChunkInit → AckWish → Shown × Flow
+on_init a header init wish =
+    if is_beginning a.state then (answered (met a header init), flows.Next wish) else (a, flows.Fault errors.ErrHandleInitState)
+
+-- COOKIE ECHO
+
+abbrev pub cookie_queued : Option (List ℕ) → Shown → Shown
+cookie_queued None a = a
+cookie_queued (Some cookie) a = queued a (chunks.CookieEcho cookie)
+
+-- the peer's cookie goes back to it, and the timer of that runs
+unfoldable pub sends_cookie : Shown → ℕ → Shown
+sends_cookie a now = (let b = cookie_queued a.handshake.echo a in record b { timers = started names.T1Cookie now b.estimate.rto b.timers })
+
+-- a cookie came, and is echoed
+abbrev pub with_echo : Shown → List ℕ → ℕ → Shown
+with_echo a cookie now = sends_cookie (record a { handshake = (let h = a.handshake in record h { echo = Some cookie }); state = states.CookieEchoed }) now
+
+-- INIT ACK
+
+abbrev pub met_back : Shown → CommonHeader → ChunkInit → Shown
+met_back a header init =
+    (let b = meets (record a { handshake = met_by_init_ack a.handshake header init }) init.initial_tsn init.advertised_receiver_window_credit in
+    record b { timers = with_stopped names.T1Init b.timers })
+
+abbrev pub echoed : Option (List ℕ) → Shown → AckWish → ℕ → Shown × Flow
+echoed None a wish now = (a, flows.Fault errors.ErrInitAckNoCookie)
+echoed (Some cookie) a wish now = (with_echo a cookie now, flows.Next wish)
+
+-- an INIT ACK counts in CookieWait alone: its cookie is echoed, and without one it is a fault; with other ports than those of this
+-- side's INIT nothing but its tag and its numbers of streams count
+unfoldable pub on_init_ack : Shown → CommonHeader → ChunkInit → AckWish → ℕ → Shown × Flow
+on_init_ack a header init wish now =
+    if is_cookie_wait a.state then
+    (if comes_back a.handshake header then echoed (first_cookie init.params) (met_back a header init) wish now
+    else (record a { handshake = met_by_init_ack a.handshake header init }, flows.Next wish))
+    else (a, flows.Next wish)
+
+-- the association is established, and nothing of the handshake is sent again
+abbrev pub connected : Shown → Shown
+connected a = record a {
+  timers = with_stopped names.T1Cookie (with_stopped names.T1Init a.timers);
+  handshake = established a.handshake;
+  state = states.Established;
+  events = a.events ++ Connected ∷ [];
+}
+
+abbrev pub acknowledged_cookie : Shown → Shown
+acknowledged_cookie a = queued a chunks.CookieAck
+
+-- a COOKIE ECHO with the cookie that this side gave out establishes the association, and is acknowledged; where it is established
+-- already it is acknowledged again
+unfoldable pub on_cookie_echo : Shown → List ℕ → AckWish → Shown × Flow
+on_cookie_echo a cookie wish =
+    if has_issued a.handshake cookie then
+    (if is_beginning a.state then (acknowledged_cookie (connected a), flows.Next wish) else
+    if is_established a.state then (acknowledged_cookie a, flows.Next wish) else (a, flows.Next wish))
+    else (a, flows.Next wish)
+
+-- a COOKIE ACK counts in CookieEchoed alone
+unfoldable pub on_cookie_ack : Shown → AckWish → Shown × Flow
+on_cookie_ack a wish = if is_cookie_echoed a.state then (connected a, flows.Next wish) else (a, flows.Next wish)
+
+-- HEARTBEAT
+
+abbrev pub information_returned : Option (List ℕ) → Shown → Shown
+information_returned None a = a
+information_returned (Some information) a = queued a (chunks.HeartbeatAck (heartbeat_ack_of information))
+
+-- the information with which a HEARTBEAT begins goes back
+unfoldable pub on_heartbeat : Shown → ChunkHeartbeat → AckWish → Shown × Flow
+on_heartbeat a heartbeat wish = (information_returned (information_of heartbeat.params) a, flows.Next wish)
+
+-- the timers of the handshake
+
+abbrev pub init_queued : Option Offer → Shown → Shown
+init_queued None a = a
+init_queued (Some offer) a = queued a (chunks.Init (init_of a.handshake offer))
+
+-- INIT goes out, and the timer of that runs
+unfoldable pub sends_init : Shown → ℕ → Shown
+sends_init a now = (let b = init_queued a.handshake.offer a in record b { timers = started names.T1Init now b.estimate.rto b.timers })
+
+abbrev pub t1_init_expired : Shown → ℕ → Shown
+t1_init_expired a now = record a { timers = with_moment names.T1Init None (after_expiry names.T1Init now a.timers) }
+
+abbrev pub t1_cookie_expired : Shown → ℕ → Shown
+t1_cookie_expired a now = record a { timers = with_moment names.T1Cookie None (after_expiry names.T1Cookie now a.timers) }
+
+-- INIT goes out again where it was not answered in time; past its limit of retries the handshake has failed
+abbrev pub after_t1_init : Shown → ℕ → Shown
+after_t1_init a now =
+    if (expiry_of names.T1Init now a.timers).0 then
+    (if (expiry_of names.T1Init now a.timers).1 then (let b = t1_init_expired a now in record b { handshake_fault = Some errors.ErrHandshakeInitAck })
+    else sends_init (t1_init_expired a now) now)
+    else a
+
+-- COOKIE ECHO goes out again where it was not answered in time; past its limit of retries the handshake has failed
+abbrev pub after_t1_cookie : Shown → ℕ → Shown
+after_t1_cookie a now =
+    if (expiry_of names.T1Cookie now a.timers).0 then
+    (if (expiry_of names.T1Cookie now a.timers).1 then (let b = t1_cookie_expired a now in record b { handshake_fault = Some errors.ErrHandshakeCookieEcho })
+    else sends_cookie (t1_cookie_expired a now) now)
+    else a

@@ -1,0 +1,200 @@
+// The handshake, step by state and chunk, and the chunks beside it that are answered at once.
+ghost use Rattle.std.specs.Prelude.{◌≡◌, OnOk, IfOk};
+ghost use Rattle.sctp_assoc.specs.Handshake.{after_t1_cookie, after_t1_init, connected, echoed, meets, met_back, on_cookie_ack, on_cookie_echo, on_heartbeat, on_init, on_init_ack, sends_cookie, sends_init, with_echo};
+
+use crate::Association;
+use crate::inbound::Flow;
+use bytes::Bytes;
+use sctp_inbound::{AckWish, heartbeat_ack, heartbeat_information, state_cookie};
+use sctp_parts::state::AssociationState;
+use sctp_parts::timer::Timer;
+use sctp_queues::Event;
+use sctp_wire_types::{
+    Chunk, ChunkHeartbeat, ChunkInit, CommonHeader, Error, Instant,
+};
+use std::alloc::AllocError;
+
+impl Association {
+    // INIT (RFC 4960 sections 5.1 and 5.2): before the association is established it is answered by INIT ACK.
+    #[tactic(auto, unfolding(crate::specs::Handshake::on_init))]
+    pub(crate) fn on_init(&mut self, header: CommonHeader, init: ChunkInit, wish: AckWish) -> Result<Flow, AllocError>
+        ensures { IfOk result (λ flow. on_init self.old header init wish ≡ (self.new, flow)) }
+    {
+        match self.state {
+            AssociationState::Closed
+            | AssociationState::CookieWait
+            | AssociationState::CookieEchoed => {
+                self.handshake.on_init(&header, &init);
+                self.meet(init.initial_tsn, init.advertised_receiver_window_credit);
+                let answer = self
+                    .handshake
+                    .init_ack(self.alloc, self.receiver.buffer_size)?;
+                self.queue_control(Chunk::InitAck(answer))?;
+                Ok(Flow::Next(wish))
+            }
+            _ => Ok(Flow::Fault(Error::ErrHandleInitState)),
+        }
+    }
+
+    // The peer's initial TSN and its receive window are known.
+    fn meet(&mut self, initial_tsn: u32, window: u32)
+        ensures { self.new ≡ meets self.old initial_tsn window }
+    {
+        self.receiver.meet(initial_tsn);
+        self.sender.meet(window);
+    }
+
+    // INIT ACK (RFC 4960 section 5.1): its cookie is echoed. With other ports than those of this side's INIT it is left.
+    #[tactic(auto, unfolding(crate::specs::Handshake::on_init_ack))]
+    pub(crate) fn on_init_ack(
+        &mut self,
+        header: CommonHeader,
+        init: ChunkInit,
+        wish: AckWish,
+        now: Instant,
+    ) -> Result<Flow, AllocError>
+        ensures { IfOk result (λ flow. on_init_ack self.old header init wish now ≡ (self.new, flow)) }
+    {
+        if self.state != AssociationState::CookieWait {
+            return Ok(Flow::Next(wish));
+        }
+        if !self.handshake.on_init_ack(&header, &init) {
+            return Ok(Flow::Next(wish));
+        }
+        self.meet(init.initial_tsn, init.advertised_receiver_window_credit);
+        self.timers.stop(Timer::T1Init);
+        match state_cookie(init) {
+            Some(cookie) => {
+                self.echo(cookie, now)?;
+                Ok(Flow::Next(wish))
+            }
+            None => Ok(Flow::Fault(Error::ErrInitAckNoCookie)),
+        }
+    }
+
+    fn echo(&mut self, cookie: Bytes, now: Instant) -> Result<(), AllocError>
+        ensures { OnOk result (self.new ≡ with_echo self.old cookie now) }
+    {
+        self.handshake.echo = Some(cookie);
+        self.state = AssociationState::CookieEchoed;
+        self.send_cookie(now)
+    }
+
+    // COOKIE ECHO (RFC 4960 section 5.1): the cookie that this side gave out establishes the association.
+    #[tactic(auto, unfolding(crate::specs::Handshake::on_cookie_echo))]
+    pub(crate) fn on_cookie_echo(&mut self, cookie: Bytes, wish: AckWish) -> Result<Flow, AllocError>
+        ensures { IfOk result (λ flow. on_cookie_echo self.old cookie wish ≡ (self.new, flow)) }
+    {
+        if !self.handshake.has_issued(&cookie) {
+            return Ok(Flow::Next(wish));
+        }
+        match self.state {
+            AssociationState::Closed
+            | AssociationState::CookieWait
+            | AssociationState::CookieEchoed => {
+                self.connect()?;
+                self.queue_control(Chunk::CookieAck)?;
+            }
+            AssociationState::Established => self.queue_control(Chunk::CookieAck)?,
+            _ => {}
+        }
+        Ok(Flow::Next(wish))
+    }
+
+    // COOKIE ACK (RFC 4960 section 5.1): the echoed cookie established the association.
+    #[tactic(auto, unfolding(crate::specs::Handshake::on_cookie_ack))]
+    pub(crate) fn on_cookie_ack(&mut self, wish: AckWish) -> Result<Flow, AllocError>
+        ensures { IfOk result (λ flow. on_cookie_ack self.old wish ≡ (self.new, flow)) }
+    {
+        if self.state == AssociationState::CookieEchoed {
+            self.connect()?;
+        }
+        Ok(Flow::Next(wish))
+    }
+
+    fn connect(&mut self) -> Result<(), AllocError>
+        ensures { OnOk result (self.new ≡ connected self.old) }
+    {
+        self.timers.stop(Timer::T1Init);
+        self.timers.stop(Timer::T1Cookie);
+        self.handshake.complete();
+        self.state = AssociationState::Established;
+        self.events.push(Event::Connected)
+    }
+
+    // HEARTBEAT (RFC 4960 section 8.3): its information goes back.
+    #[tactic(auto, unfolding(crate::specs::Handshake::on_heartbeat))]
+    pub(crate) fn on_heartbeat(
+        &mut self,
+        heartbeat: ChunkHeartbeat,
+        wish: AckWish,
+    ) -> Result<Flow, AllocError>
+        ensures { IfOk result (λ flow. on_heartbeat self.old heartbeat wish ≡ (self.new, flow)) }
+    {
+        if let Some(information) = heartbeat_information(heartbeat) {
+            let answer = heartbeat_ack(self.alloc, information)?;
+            self.queue_control(Chunk::HeartbeatAck(answer))?;
+        }
+        Ok(Flow::Next(wish))
+    }
+
+    // INIT goes out, and its timer runs (RFC 4960 section 5.1).
+    #[tactic(auto, unfolding(crate::specs::Handshake::sends_init))]
+    pub(crate) fn send_init(&mut self, now: Instant) -> Result<(), AllocError>
+        ensures { OnOk result (self.new ≡ sends_init self.old now) }
+    {
+        if let Some(offer) = self.handshake.offer {
+            let init = self.handshake.init(self.alloc, offer)?;
+            self.queue_control(Chunk::Init(init))?;
+        }
+        let rto = self.rto.get_rto();
+        self.timers.start(Timer::T1Init, now, rto);
+        Ok(())
+    }
+
+    // COOKIE ECHO goes out, and its timer runs (RFC 4960 section 5.1).
+    #[tactic(auto, unfolding(crate::specs::Handshake::sends_cookie))]
+    fn send_cookie(&mut self, now: Instant) -> Result<(), AllocError>
+        ensures { OnOk result (self.new ≡ sends_cookie self.old now) }
+    {
+        if let Some(cookie) = &self.handshake.echo {
+            let cookie = cookie.clone()?;
+            self.queue_control(Chunk::CookieEcho(cookie))?;
+        }
+        let rto = self.rto.get_rto();
+        self.timers.start(Timer::T1Cookie, now, rto);
+        Ok(())
+    }
+
+    // No INIT ACK came in time: INIT goes out again, or past its limit the handshake has failed.
+    pub(crate) fn on_t1_init(&mut self, now: Instant) -> Result<(), AllocError>
+        ensures { OnOk result (self.new ≡ after_t1_init self.old now) }
+    {
+        let (expired, failure, _) = self.timers.is_expired(Timer::T1Init, now);
+        if expired {
+            self.timers.set(Timer::T1Init, None);
+            if failure {
+                self.handshake_fault = Some(Error::ErrHandshakeInitAck);
+            } else {
+                self.send_init(now)?;
+            }
+        }
+        Ok(())
+    }
+
+    // No COOKIE ACK came in time: COOKIE ECHO goes out again, or past its limit the handshake has failed.
+    pub(crate) fn on_t1_cookie(&mut self, now: Instant) -> Result<(), AllocError>
+        ensures { OnOk result (self.new ≡ after_t1_cookie self.old now) }
+    {
+        let (expired, failure, _) = self.timers.is_expired(Timer::T1Cookie, now);
+        if expired {
+            self.timers.set(Timer::T1Cookie, None);
+            if failure {
+                self.handshake_fault = Some(Error::ErrHandshakeCookieEcho);
+            } else {
+                self.send_cookie(now)?;
+            }
+        }
+        Ok(())
+    }
+}
