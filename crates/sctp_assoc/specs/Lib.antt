@@ -7,4 +7,5 @@ pub mod Join
 pub mod Laws
 pub mod Lending
 pub mod Polled
+pub mod Shapes
 pub mod Shown

@@ -1,15 +1,18 @@
--- What calls leave of an association: whether it failed, its state, whether it was lost, and its payload size.
-use Rattle.std.proofs.Common.{◌≡◌, refl, ◌∙◌, ℕ, zero, suc, ◌-◌, ◌^◌, Bool, true, false, ◌&&◌, if◌then◌else◌, not, eqb, ltb, List, [], ◌∷◌, length, Option, Some, None, is_some, Result, Ok, Err}
+-- Calls leave an association's status as it is: whether it failed, its state, whether it was lost, and its payload size.
+use Rattle.std.proofs.Common.{◌≡◌, refl, sym, ap, ◌∙◌, ℕ, zero, suc, ◌-◌, ◌^◌, Bool, true, false, ◌&&◌, if◌then◌else◌, not, eqb, ltb, List, [], ◌∷◌, length, Option, Some, None, is_some, Result, Ok, Err}
 use Rattle.std.specs.Prelude.{slice_get}
+use Rattle.sctp_wire_types.specs.declared.chunk.Chunk.{Chunk}
 use Rattle.sctp_wire_types.specs.declared.chunk.Chunk.TheVariants as chunks
 use Rattle.sctp_wire_types.specs.declared.chunk.ChunkPayloadData.{ChunkPayloadData}
-use Rattle.sctp_wire_types.specs.declared.chunk.ChunkSelectiveAck.{ChunkSelectiveAck}
 use Rattle.sctp_wire_types.specs.declared.error.Error.{Error}
 use Rattle.sctp_wire_types.specs.Checks.{checked_chunk}
+use Rattle.sctp_parts.specs.declared.timer.Timer.TheVariants as names
+use Rattle.sctp_parts.specs.Timers.{expiry_of}
 use Rattle.sctp_parts.specs.Estimate.{Estimate}
 use Rattle.sctp_outbound_queue.specs.declared.message.InFlight.{InFlight}
 use Rattle.sctp_outbound_queue.specs.Waiting.{Waiting}
 use Rattle.sctp_outbound_queue.specs.Outbound.{pieces_waiting}
+use Rattle.sctp_queues.specs.Stream.{Stream}
 use Rattle.sctp_queues.specs.Streams.{StreamMap, bytes_waiting, generation_left, is_readable_in, pushed_in, refusal_in, stream_at}
 use Rattle.sctp_inbound.specs.declared.receiver.AckWish.{AckWish}
 use Rattle.sctp_inbound.specs.Handshake.{header_of}
@@ -18,25 +21,20 @@ use Rattle.sctp_outbound.specs.declared.sender.SackOutcome.{SackOutcome}
 use Rattle.sctp_outbound.specs.declared.sender.SackOutcome.TheVariants as outcomes
 use Rattle.sctp_outbound.specs.declared.sender.Sender.{Sender}
 use Rattle.sctp_outbound.specs.Sender.{acknowledged, after_first, after_resending, can_send_next, points_to, resent_by, sack_outcome, sender_after, sent_new, sent_one, sent_within, with_window}
-use Rattle.sctp_assoc.specs.Calls.{is_established}
-use Rattle.sctp_assoc.specs.Chunks.{asks_or_faults, checked_first, counted_data, on_counted_data, counted_sack, is_whole, on_chunk, on_counted_sack, on_data, on_next_data, on_sack, stream_found, taken_in, told}
+use Rattle.sctp_assoc.specs.Calls.{after_ack_delay, after_t3, is_established, retransmits, t3_expired, written_at}
+use Rattle.sctp_assoc.specs.Chunks.{asks_or_faults, checked_first, counted_data, dispatched, on_counted_data, counted_sack, is_whole, on_chunk, on_counted_sack, on_data, on_next_data, on_sack, stream_found, taken_in, told}
 use Rattle.sctp_assoc.specs.Polled.{ack_after, ack_polled, after_both, data_packets, data_polled, is_due, polled, with_sent_data}
+use Rattle.sctp_assoc.specs.Shapes.{IsSameStatus, Leaves, OpenedStreamsKeepTheStatus, PollsKeepTheStatus, ReadsKeepTheStatus, TimersKeepTheStatus, ToldEventsKeepTheStatus, WritesKeepTheStatus}
 use Rattle.sctp_assoc.specs.Shown.{Shown}
 
-pub record IsSameStatus (a b : Shown) : Type 0 where
-  pub failed : b.failed ≡ a.failed
-  pub state : b.state ≡ a.state
-  pub lost : b.lost ≡ a.lost
-  pub size : b.sender.max_payload_size ≡ a.sender.max_payload_size
-
-pub status_same : (a : Shown) → IsSameStatus a a
+status_same : (a : Shown) → IsSameStatus a a
 status_same a = record { failed = refl; state = refl; lost = refl; size = refl }
 
 -- everything of it but its payload size is as it was, and that too
 status_by : (a b : Shown) → b.failed ≡ a.failed → b.state ≡ a.state → b.lost ≡ a.lost → b.sender.max_payload_size ≡ a.sender.max_payload_size → IsSameStatus a b
 status_by a b f s l z = record { failed = f; state = s; lost = l; size = z }
 
-pub status_on : (a b c : Shown) → IsSameStatus a b → IsSameStatus b c → IsSameStatus a c
+status_on : (a b c : Shown) → IsSameStatus a b → IsSameStatus b c → IsSameStatus a c
 status_on a b c x y = record { failed = y.failed ∙ x.failed; state = y.state ∙ x.state; lost = y.lost ∙ x.lost; size = y.size ∙ x.size }
 
 -- DATA
@@ -113,25 +111,53 @@ sack_status true a point window wish now e =
     (outcome_status (sack_outcome a.sender point) (counted_sack a) point window wish now))
 sack_status false a point window wish now e = rw e (status_same a)
 
--- Of the chunks that associations give out, DATA and SACK.
+-- Any chunk that its own check accepts, or refuses
 
-checked_data_status : (r : Result (Unit {0}) Error) (a : Shown) (piece : ChunkPayloadData) (wish : AckWish) (now : ℕ)
-    → IsSameStatus a (checked_first r a (chunks.Data piece) wish now).0
-checked_data_status (Err fault) a piece wish now = status_same a
-checked_data_status (Ok done) a piece wish now = data_status a piece wish
+kind_leaves : (c : Chunk) (a : Shown) (wish : AckWish) (now : ℕ) → Leaves c a (dispatched a c wish now).0
+kind_leaves (chunks.Data piece) a wish now = data_status a piece wish
+kind_leaves (chunks.SelectiveAck k) a wish now = sack_status (is_established a.state) a k.cumulative_tsn_ack k.advertised_receiver_window_credit wish now refl
+kind_leaves (chunks.Init x) a wish now = tt
+kind_leaves (chunks.InitAck x) a wish now = tt
+kind_leaves (chunks.Heartbeat x) a wish now = tt
+kind_leaves (chunks.HeartbeatAck x) a wish now = tt
+kind_leaves (chunks.Abort x) a wish now = tt
+kind_leaves (chunks.Shutdown x) a wish now = tt
+kind_leaves chunks.ShutdownAck a wish now = tt
+kind_leaves (chunks.Error x) a wish now = tt
+kind_leaves (chunks.CookieEcho x) a wish now = tt
+kind_leaves chunks.CookieAck a wish now = tt
+kind_leaves chunks.ShutdownComplete a wish now = tt
+kind_leaves (chunks.Reconfig x) a wish now = tt
+kind_leaves (chunks.ForwardTsn x) a wish now = tt
+kind_leaves (chunks.IForwardTsn x) a wish now = tt
+kind_leaves (chunks.Other kind flags value) a wish now = tt
 
-checked_sack_status : (r : Result (Unit {0}) Error) (a : Shown) (k : ChunkSelectiveAck) (wish : AckWish) (now : ℕ)
-    → IsSameStatus a (checked_first r a (chunks.SelectiveAck k) wish now).0
-checked_sack_status (Err fault) a k wish now = status_same a
-checked_sack_status (Ok done) a k wish now = sack_status (is_established a.state) a k.cumulative_tsn_ack k.advertised_receiver_window_credit wish now refl
+same_leaves : (c : Chunk) (a : Shown) → Leaves c a a
+same_leaves (chunks.Data piece) a = status_same a
+same_leaves (chunks.SelectiveAck k) a = status_same a
+same_leaves (chunks.Init x) a = tt
+same_leaves (chunks.InitAck x) a = tt
+same_leaves (chunks.Heartbeat x) a = tt
+same_leaves (chunks.HeartbeatAck x) a = tt
+same_leaves (chunks.Abort x) a = tt
+same_leaves (chunks.Shutdown x) a = tt
+same_leaves chunks.ShutdownAck a = tt
+same_leaves (chunks.Error x) a = tt
+same_leaves (chunks.CookieEcho x) a = tt
+same_leaves chunks.CookieAck a = tt
+same_leaves chunks.ShutdownComplete a = tt
+same_leaves (chunks.Reconfig x) a = tt
+same_leaves (chunks.ForwardTsn x) a = tt
+same_leaves (chunks.IForwardTsn x) a = tt
+same_leaves (chunks.Other kind flags value) a = tt
 
-pub data_chunk_status : (a : Shown) (piece : ChunkPayloadData) (wish : AckWish) (now : ℕ) → IsSameStatus a (on_chunk a (chunks.Data piece) wish now).0
+checked_leaves : (r : Result (Unit {0}) Error) (c : Chunk) (a : Shown) (wish : AckWish) (now : ℕ) → Leaves c a (checked_first r a c wish now).0
+checked_leaves (Err fault) c a wish now = same_leaves c a
+checked_leaves (Ok done) c a wish now = kind_leaves c a wish now
+
+pub chunk_leaves : (c : Chunk) (a : Shown) (wish : AckWish) (now : ℕ) → Leaves c a (on_chunk a c wish now).0
 unfolding on_chunk
-data_chunk_status a piece wish now = checked_data_status (checked_chunk (chunks.Data piece)) a piece wish now
-
-pub sack_chunk_status : (a : Shown) (k : ChunkSelectiveAck) (wish : AckWish) (now : ℕ) → IsSameStatus a (on_chunk a (chunks.SelectiveAck k) wish now).0
-unfolding on_chunk
-sack_chunk_status a k wish now = checked_sack_status (checked_chunk (chunks.SelectiveAck k)) a k wish now
+chunk_leaves c a wish now = checked_leaves (checked_chunk c) c a wish now
 
 -- A poll for packets
 
@@ -183,5 +209,50 @@ polled_if : (established : Bool) (a : Shown) (now : ℕ) → is_established a.st
 polled_if true a now e = rw e (ack_after_status (data_polled a now) a (data_polled_status a now))
 polled_if false a now e = rw e (status_same a)
 
-pub polled_status : (a : Shown) (now : ℕ) → IsSameStatus a (polled a now).0
-polled_status a now = polled_if (is_established a.state) a now refl
+pub polls_keep_the_status : PollsKeepTheStatus
+polls_keep_the_status a now = polled_if (is_established a.state) a now refl
+
+-- The other calls
+
+pub opened_streams_keep_the_status : OpenedStreamsKeepTheStatus
+opened_streams_keep_the_status a id kind = status_by a _ refl refl refl refl
+
+written_status : (o : Option Stream) (a : Shown) (id : ℕ) (bytes : List ℕ) → IsSameStatus a (written_at o a id bytes)
+written_status None a id bytes = status_same a
+written_status (Some t) a id bytes = status_by a _ refl refl refl refl
+
+pub writes_keep_the_status : WritesKeepTheStatus
+writes_keep_the_status a id bytes = written_status (stream_at a.streams id) a id bytes
+
+pub reads_keep_the_status : ReadsKeepTheStatus
+reads_keep_the_status a id = status_by a _ refl refl refl refl
+
+pub told_events_keep_the_status : ToldEventsKeepTheStatus
+told_events_keep_the_status a b events e = (
+  record {
+    failed = ap (λ (x : Shown). x.failed) (sym e);
+    state = ap (λ (x : Shown). x.state) (sym e);
+    lost = ap (λ (x : Shown). x.lost) (sym e);
+    size = ap (λ (x : Shown). x.sender.max_payload_size) (sym e);
+  },
+  ap (λ (x : Shown). x.streams) (sym e),
+)
+
+-- what timeouts leave: the status and the streams
+abbrev IsSameBeside : Shown → Shown → Type 0
+IsSameBeside a b = IsSameStatus a b × (b.streams ≡ a.streams)
+
+t3_beside : (expired failure : Bool) (a : Shown) (now : ℕ)
+    → IsSameBeside a (if expired then (if failure then t3_expired a now else retransmits (t3_expired a now) now) else a)
+t3_beside false failure a now = (status_same a, refl)
+t3_beside true true a now = (status_by a _ refl refl refl refl, refl)
+t3_beside true false a now = (status_by a _ refl refl refl refl, refl)
+
+ack_delay_beside : (expired : Bool) (a b : Shown) (now : ℕ) → (expiry_of names.Ack now b.timers).0 ≡ expired → IsSameBeside a b → IsSameBeside a (after_ack_delay b now)
+ack_delay_beside false a b now e h = rw e h
+ack_delay_beside true a b now e (h, streams) = rw e (record { failed = h.failed; state = h.state; lost = h.lost; size = h.size }, streams)
+
+pub timers_keep_the_status : TimersKeepTheStatus
+timers_keep_the_status a now =
+    ack_delay_beside (expiry_of names.Ack now (after_t3 a now).timers).0 a (after_t3 a now) now refl
+    (t3_beside (expiry_of names.T3RTX now a.timers).0 (expiry_of names.T3RTX now a.timers).1 a now)
