@@ -1,13 +1,13 @@
-pub mod Acting
-pub mod Carrying
+mod Acting
+mod Carrying
 mod Closing
 mod Ending
 mod Giving
-pub mod Joining
+mod Joining
 mod Keeping
 mod Live
 mod PollSays
-pub mod Polling
+mod Polling
 pub mod Proved
 mod ReadAgain
 mod Reading

@@ -26,6 +26,7 @@ use Rattle.sctp_assoc.specs.Chunks.{asks_or_faults, checked_first, counted_data,
 use Rattle.sctp_assoc.specs.Polled.{ack_after, ack_polled, after_both, data_packets, data_polled, is_due, polled, with_sent_data}
 use Rattle.sctp_assoc.specs.Shapes.{IsSameStatus, Leaves, OpenedStreamsKeepTheStatus, PollsKeepTheStatus, ReadsKeepTheStatus, TimersKeepTheStatus, ToldEventsKeepTheStatus, WritesKeepTheStatus}
 use Rattle.sctp_assoc.specs.Shown.{Shown}
+use Rattle.sctp_assoc.proofs.Polling.{both_first}
 
 status_same : (a : Shown) → IsSameStatus a a
 status_same a = record { failed = refl; state = refl; lost = refl; size = refl }
@@ -197,9 +198,6 @@ ack_polled_status : (due : Bool) (a : Shown) → is_due a.receiver.ack_state ≡
 unfolding ack_polled
 ack_polled_status true a e = rw e (status_by a _ refl refl refl refl)
 ack_polled_status false a e = rw e (status_same a)
-
-both_first : (packets : List (List ℕ)) (x : Shown × List (List ℕ)) → (after_both packets x).0 ≡ x.0
-both_first packets (a, more) = refl
 
 ack_after_status : (x : Shown × List ChunkPayloadData) (a : Shown) → IsSameStatus a x.0 → IsSameStatus a (ack_after x).0
 ack_after_status (b, pieces) a h =

@@ -1,16 +1,15 @@
 -- What each act of an association leaves of how it stands between its directions.
-use Rattle.std.proofs.Common.{◌≡◌, refl, sym, ap, ◌∙◌, subst, ℕ, ◌<◌, ◌≤◌, ◌+◌, ◌-◌, ◌%◌, ◌^◌, arith, List, [], ◌∷◌, map, length, Option, Some, None}
+use Rattle.std.proofs.Common.{◌≡◌, refl, ap, ◌∙◌, subst, ℕ, ◌<◌, ◌≤◌, ◌+◌, ◌%◌, ◌^◌, arith, [], ◌∷◌, map, length, Option, Some, None}
 use Rattle.std.specs.Prelude.{slice_get}
 use Rattle.sctp_queues.specs.Stream.{Stream}
 use Rattle.sctp_queues.specs.Streams.{stream_at}
-use Rattle.sctp_model.specs.Messages.{accepted_bytes}
 use Rattle.sctp_model.specs.Reassembly as queue
 use Rattle.sctp_model.specs.Serial.{tsn}
 use Rattle.sctp_model.specs.Machine.{Direction, Event, happens, live, point, sack_of}
 use Rattle.sctp_model.specs.Invariants.{Invariant, IsHonest}
 use Rattle.sctp_model.specs.Safe.{IsWithin, letter_read, read_end}
 use Rattle.sctp_model.proofs.Lists.{all_get}
-use Rattle.sctp_assoc.specs.Acts.{Act, Parts, done, done_all, tsn_before}
+use Rattle.sctp_assoc.specs.Acts.{Act, Parts, done, tsn_before}
 use Rattle.sctp_assoc.specs.Calls.{ready_of}
 use Rattle.sctp_directions.specs.Incoming.{FitsIncoming, letter_of}
 use Rattle.sctp_directions.specs.Laws.{ActsKeepTheInitialTsns, OpenedStreamsAreAlike, OwnActsLeaveWhatComes, PiecesAreGiven, ReadyMessagesAreAlike, ReportsNameThePoint, SacksMeanTheSame, WhatComesLeavesItsOwn, WhatIsReleasedIsNotBuffered}

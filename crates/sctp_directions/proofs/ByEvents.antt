@@ -8,11 +8,9 @@ use Rattle.sctp_model.specs.Packets.{Data, Sack, data_at, mem}
 use Rattle.sctp_model.specs.Machine as machine
 use Rattle.sctp_model.specs.Machine.{Direction, Event, Sender, acknowledged_by, begin, begin_if, can_begin, can_resend, counted, first_place, fresh, happens, is_empty, number_for, put, sack_comes, written}
 use Rattle.sctp_model.specs.Invariants.{Invariant}
-use Rattle.sctp_model.specs.Safe.{IsWithin}
 use Rattle.sctp_model.proofs.Growth.{at_put, off_put}
-use Rattle.sctp_directions.specs.Events.{Accepts, Assigns, Brings, GivesAMessage, IsAtReceiver, IsAtSender, IsPlainEvent, IsReceived, IsSentOn, KeepsWithin}
+use Rattle.sctp_directions.specs.Events.{Accepts, Assigns, Brings, GivesAMessage, IsAtReceiver, IsAtSender, IsReceived, IsSentOn}
 use Rattle.sctp_directions.specs.Laws.{ClosedReceiversAreNotOpen, EventsKeepTheLimits, FreshDirectionsArePlain, OnlyBeginningsAssign, OnlyReadsGiveMessages, OnlyWhatIsBroughtIsTakenIn, OnlyWritesAccept, PlainEventsKeepItPlain, ReceiversEventsAreReceived, SendersEventsAreSent, SendersEventsKeepTheInvariant, SendersEventsLeaveWhatComes, WritesAreAcceptedLast}
-use Rattle.sctp_directions.specs.Plain.{IsPlain, IsSimple}
 use Rattle.sctp_directions.specs.Incoming.{FitsIncoming}
 use Rattle.sctp_directions.proofs.IncomingKept.{begin_fits, resend_fits, sack_comes_fits, write_fits}
 use Rattle.sctp_directions.proofs.Invariants.{invariant_begin, invariant_resend, invariant_sack, invariant_write}

@@ -1,5 +1,5 @@
 -- A message that an association sends for the first time begins at the direction's sender, and each piece that goes out is DATA of the direction.
-use Rattle.std.proofs.Common.{ℕ, suc, ◌+◌, ◌*◌, ◌<◌, ◌≤◌, ◌≡◌, true, not, eqb, List, [], ◌∷◌, ◌++◌, length, take, drop, Some, is_some, refl, sym, ap, ◌∙◌, subst, arith}
+use Rattle.std.proofs.Common.{ℕ, suc, ◌+◌, ◌*◌, ◌≤◌, ◌≡◌, true, not, eqb, List, [], ◌∷◌, ◌++◌, length, take, drop, Some, is_some, refl, sym, ap, ◌∙◌, subst, arith}
 use Rattle.std.specs.Prelude.{slice_get}
 use Rattle.std.specs.List.{AllByRecursion}
 use Rattle.std.proofs.lemmas.List.{length_push, take_all}
@@ -17,7 +17,7 @@ use Rattle.sctp_model.specs.Machine.{Direction, Event, first_place, happens, nex
 use Rattle.sctp_model.specs.Invariants.{Invariant}
 use Rattle.sctp_model.proofs.Growth.{place_extended}
 use Rattle.sctp_model.proofs.Placing.{length_placed, place_new}
-use Rattle.sctp_assoc.specs.Acts.{Act, Can, Parts, data_given, done, first_chunk_said}
+use Rattle.sctp_assoc.specs.Acts.{Act, Can, Parts, done, first_chunk_said}
 use Rattle.sctp_directions.specs.Laws.{IsBegun}
 use Rattle.sctp_directions.specs.Plain.{IsPlain, IsSimple}
 use Rattle.sctp_directions.specs.Said.{IsGiven, IsSaid}

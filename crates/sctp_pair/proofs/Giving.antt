@@ -6,7 +6,7 @@ use Rattle.sctp_wire_types.specs.declared.chunk.ChunkPayloadData.{ChunkPayloadDa
 use Rattle.sctp_model.specs.Packets.{Sack}
 use Rattle.sctp_model.specs.Machine.{Direction, Event, Receiver, happens}
 use Rattle.sctp_model.specs.Safe.{IsWithin}
-use Rattle.sctp_model.proofs.Lists.{all_join}
+use Rattle.sctp_model.proofs.Lists.{all_join, all_weaker}
 use Rattle.sctp_assoc.specs.Acts.{Act, Can, CanAll, Parts, all_data_given, data_given, done, done_all}
 use Rattle.sctp_assoc.specs.Shapes.{GivesData}
 use Rattle.sctp_assoc.specs.Shown.{Shown}
@@ -79,8 +79,7 @@ act_acknowledged own peer n k x p y out coming h e at can = (
 )
 
 given_grows : (own : ℕ) (w v : Direction) (ds : List ChunkPayloadData) → Goes None_brought w v → AllByRecursion (IsGiven own w) ds → AllByRecursion (IsGiven own v) ds
-given_grows own w v [] g h = tt
-given_grows own w v (c ∷ cs) g ((k, d, e, said), hs) = ((k, d, g.datas k d e, said), given_grows own w v cs g hs)
+given_grows own w v ds g h = all_weaker (IsGiven own w) (IsGiven own v) ds (λ c given. (given.0, given.1, g.datas given.0 given.1 given.2, given.3)) h
 
 one_given : (own peer : ℕ) (x : Act) (p : Parts) (y : Shown) (out coming : Direction) → GivesData x → Can x p → Holds own peer p y out coming
     → AfterOut own peer (done x p) y out coming (data_given x p)

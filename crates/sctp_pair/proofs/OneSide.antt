@@ -1,5 +1,5 @@
 -- What a side wrote waits or is in flight after the poll that follows.
-use Rattle.std.proofs.Common.{◌≡◌, refl, sym, ap, ◌∙◌, ℕ, Bool, true, false, List, Option, Some, None, Result, Ok, Err, OnOk, IfOk, is_some}
+use Rattle.std.proofs.Common.{◌≡◌, sym, ap, ◌∙◌, ℕ, true, List, Option, None, Result, Ok, Err, OnOk, IfOk, is_some}
 use Rattle.sctp_wire_types.specs.declared.error.Error.{Error}
 use Rattle.sctp_wire.specs.declared.transmit.Transmit.{Transmit}
 use Rattle.sctp_assoc.specs.Calls.{stream_refusal, written}

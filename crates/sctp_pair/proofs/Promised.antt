@@ -1,5 +1,5 @@
 -- Where both associations stand in a direction, what is promised of it holds.
-use Rattle.std.proofs.Common.{◌≡◌, refl, sym, ap, ◌∙◌, ◌⊎◌, ⊎_elim, ℕ, ◌+◌, true, false, Option, Some, None, Ok, Err, is_ok}
+use Rattle.std.proofs.Common.{◌≡◌, refl, sym, ap, ◌∙◌, ◌⊎◌, ⊎_elim, ℕ, ◌+◌, Option, Some, None, Ok, Err, is_ok}
 use Rattle.std.proofs.lemmas.Bool.{cond-false, true≢false}
 use Rattle.sctp_wire_types.specs.declared.error.Error.TheVariants as errors
 use Rattle.sctp_queues.specs.Stream.{Stream}
