@@ -1,5 +1,5 @@
 -- The chunks of a packet, its end, and how a fault closes.
-use Rattle.std.proofs.Common.{◌≡◌, refl, sym, ◌∙◌, subst, ℕ, Bool, true, false, if◌then◌else◌, Some}
+use Rattle.std.proofs.Common.{◌≡◌, refl, sym, ◌∙◌, subst, ℕ, Bool, true, false, if◌then◌else◌, Some, None}
 use Rattle.std.specs.List.{AllByRecursion}
 use Rattle.std.proofs.lemmas.Bool.{cond-false, cond-true, false≢true, true≢false}
 use Rattle.sctp_wire_types.specs.declared.chunk.Chunk.{Chunk}
@@ -8,6 +8,7 @@ use Rattle.sctp_parts.specs.declared.state.AssociationState.{AssociationState}
 use Rattle.sctp_parts.specs.declared.state.AssociationState.TheVariants as states
 use Rattle.sctp_queues.specs.declared.event.AssociationError.{AssociationError}
 use Rattle.sctp_queues.specs.declared.event.AssociationError.TheVariants as reasons
+use Rattle.sctp_queues.specs.Stream.{Stream}
 use Rattle.sctp_inbound.specs.declared.receiver.AckWish.{AckWish}
 use Rattle.sctp_inbound.specs.declared.receiver.AckWish.TheVariants as wishes
 use Rattle.sctp_assoc.specs.Calls.{closed_by, closed_open, is_closed_state, is_established}
@@ -32,11 +33,14 @@ packets_end a wish now = record {
     point_stays wishes.Delayed = refl
     point_stays wishes.Immediate = refl
 
+none_some : (t : Stream) → None ≡ Some t → ⊥
+none_some t e = cc
+
 closes_if : (c : Bool) (a : Shown) (reason : AssociationError) → is_closed_state a.state ≡ c → Closes a (if c then a else closed_open a reason)
 closes_if true a reason e = record { failed = refl; ends = λ f. absurd (true≢false (sym e ∙ f)); stays = λ f. refl }
 closes_if false a reason e = record {
   failed = refl;
-  ends = λ f. record { closed = refl; unestablished = refl; lost = refl; none_live = λ id. refl };
+  ends = λ f. record { closed = refl; unestablished = refl; lost = refl; none_live = λ id. refl; holds_nothing = λ id t there. absurd (none_some t there) };
   stays = λ f. absurd (true≢false (sym f ∙ e));
 }
 

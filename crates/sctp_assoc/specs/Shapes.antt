@@ -62,8 +62,12 @@ pub record IsLive (a : Shown) (id : ℕ) : Type 0 where
 abbrev pub FoundStreamsAreLive : Type 0
 FoundStreamsAreLive = (a : Shown) (id : ℕ) → stream_refusal a id ≡ None → IsLive a id
 
+-- no stream of this identifier is live
+abbrev pub IsNotLive : Shown → ℕ → Type 0
+IsNotLive a id = stream_at a.streams id ≡ None
+
 abbrev pub OpenedStreamsWereNotLive : Type 0
-OpenedStreamsWereNotLive = (a : Shown) (id : ℕ) → open_refusal a id ≡ None → (a.failed ≡ false) × (stream_at a.streams id ≡ None)
+OpenedStreamsWereNotLive = (a : Shown) (id : ℕ) → open_refusal a id ≡ None → (a.failed ≡ false) × IsNotLive a id
 
 -- A message of this size is accepted on a live stream in Established: it has a byte at least, and one DATA chunk has room for it.
 pub record CanWrite (a : Shown) (id size : ℕ) : Type 0 where
@@ -82,7 +86,7 @@ abbrev pub HoldsNothing : Shown → Type 0
 HoldsNothing a = (id : ℕ) (t : Stream) → stream_at a.streams id ≡ Some t → t.reassembly ≡ empty_reassembly
 
 abbrev pub OpenedStreamsHoldNothing : Type 0
-OpenedStreamsHoldNothing = (a : Shown) (id : ℕ) (kind : PayloadProtocolIdentifier) → stream_at a.streams id ≡ None → HoldsNothing a → HoldsNothing (opened a id kind)
+OpenedStreamsHoldNothing = (a : Shown) (id : ℕ) (kind : PayloadProtocolIdentifier) → IsNotLive a id → HoldsNothing a → HoldsNothing (opened a id kind)
 
 abbrev pub WhatHoldsNothingGivesNothing : Type 0
 WhatHoldsNothingGivesNothing = (a : Shown) (id : ℕ) → IsLive a id → HoldsNothing a
@@ -117,7 +121,8 @@ pub record IsEnded (b : Shown) : Type 0 where
   pub closed : is_closed_state b.state ≡ true
   pub unestablished : is_established b.state ≡ false
   pub lost : b.lost ≡ true
-  pub none_live : (id : ℕ) → stream_at b.streams id ≡ None
+  pub none_live : (id : ℕ) → IsNotLive b id
+  pub holds_nothing : HoldsNothing b
 
 -- A fault closed an open association; a closed one stayed as it was.
 pub record Closes (a b : Shown) : Type 0 where
@@ -144,7 +149,7 @@ NoPacketChangesNothing = (a : Shown) (now : ℕ) → after_packet a None now ≡
 pub record OpensOnly (a : Shown) (piece : ChunkPayloadData) (acts : List Act) : Type 0 where
   pub first : ℕ
   pub kind : PayloadProtocolIdentifier
-  pub none : stream_at a.streams piece.stream_identifier ≡ None
+  pub none : IsNotLive a piece.stream_identifier
   pub are : acts ≡ Act.Opened piece.stream_identifier first kind ∷ []
 
 -- It made its stream and was taken in.
@@ -152,7 +157,7 @@ pub record OpensAndTakes (a : Shown) (piece : ChunkPayloadData) (acts : List Act
   pub first : ℕ
   pub kind : PayloadProtocolIdentifier
   pub stream : Stream
-  pub none : stream_at a.streams piece.stream_identifier ≡ None
+  pub none : IsNotLive a piece.stream_identifier
   pub live : stream_at (made a.streams piece.stream_identifier first kind) piece.stream_identifier ≡ Some stream
   pub are : acts ≡ Act.Opened piece.stream_identifier first kind ∷ Act.Took piece ∷ []
 

@@ -1,19 +1,22 @@
 -- What each act of an association leaves of how it stands between its directions.
-use Rattle.std.proofs.Common.{◌≡◌, refl, ap, ◌∙◌, subst, ℕ, ◌<◌, ◌≤◌, ◌+◌, ◌%◌, ◌^◌, arith, [], ◌∷◌, map, length, Option, Some, None}
+use Rattle.std.proofs.Common.{◌≡◌, refl, sym, ap, ◌∙◌, subst, ℕ, ◌<◌, ◌≤◌, ◌+◌, ◌%◌, ◌^◌, arith, Bool, true, false, if◌then◌else◌, List, [], ◌∷◌, map, length, Option, Some, None, Ok, Err, is_ok}
+use Rattle.std.proofs.lemmas.Bool.{true≢false}
+use Rattle.sctp_wire_types.specs.declared.error.Error.TheVariants as errors
 use Rattle.std.specs.Prelude.{slice_get}
 use Rattle.sctp_queues.specs.Stream.{Stream}
 use Rattle.sctp_queues.specs.Streams.{stream_at}
+use Rattle.sctp_model.specs.Messages.{accepted_bytes}
 use Rattle.sctp_model.specs.Reassembly as queue
 use Rattle.sctp_model.specs.Serial.{tsn}
 use Rattle.sctp_model.specs.Machine.{Direction, Event, happens, live, point, sack_of}
 use Rattle.sctp_model.specs.Invariants.{Invariant, IsHonest}
 use Rattle.sctp_model.specs.Safe.{IsWithin, letter_read, read_end}
 use Rattle.sctp_model.proofs.Lists.{all_get}
-use Rattle.sctp_assoc.specs.Acts.{Act, Parts, done, tsn_before}
-use Rattle.sctp_assoc.specs.Calls.{ready_of}
+use Rattle.sctp_assoc.specs.Acts.{Act, Parts, done, done_all, parts, tsn_before}
+use Rattle.sctp_assoc.specs.Calls.{buffered_at, ready_of}
 use Rattle.sctp_directions.specs.Incoming.{FitsIncoming, letter_of}
 use Rattle.sctp_directions.specs.Laws.{ActsKeepTheInitialTsns, OpenedStreamsAreAlike, OwnActsLeaveWhatComes, PiecesAreGiven, ReadyMessagesAreAlike, ReportsNameThePoint, SacksMeanTheSame, WhatComesLeavesItsOwn, WhatIsReleasedIsNotBuffered}
-use Rattle.sctp_directions.specs.Outgoing.{IsOwn, IsOwnAt}
+use Rattle.sctp_directions.specs.Outgoing.{FitsOutgoing, IsOwn, IsOwnAt}
 use Rattle.sctp_directions.specs.Plain.{IsPlain, count_below}
 use Rattle.sctp_directions.proofs.IncomingKept.{acknowledged_fits, marked_fits, reported_fits, sent_again_fits, sent_fits, wrote_fits}
 use Rattle.sctp_directions.proofs.IncomingRead.{opened_fits, ready_fits}
@@ -94,10 +97,17 @@ ready_at (Some t) a id w there within inv plain fits =
     ap (λ z. map letter_read (queue.ready (live z))) x.1 ∙ ready_fits a id t x.0 w there x.1 within inv plain fits
 
 pub ready_messages_are_alike : ReadyMessagesAreAlike
-ready_messages_are_alike a id w within inv plain fits = ready_at (stream_at a.streams id) a id w refl within inv plain fits
+ready_messages_are_alike a h id w within inv plain fits = ready_at (stream_at a.streams id) (parts a h) id w refl within inv plain fits
 
-pub what_is_released_is_not_buffered : WhatIsReleasedIsNotBuffered
-what_is_released_is_not_buffered a id t w there fits =
+released_if : (failed : Bool) (o : Option Stream) (a : Parts) (id n : ℕ) (w : Direction) → stream_at a.streams id ≡ o → FitsOutgoing a w
+    → (if failed then Err errors.ErrAssociationFailed else buffered_at o) ≡ Ok n → n + w.sender.released id ≡ accepted_bytes w.sender.plan id
+released_if true o a id n w there fits e = absurd (true≢false (sym (ap is_ok e)))
+released_if false None a id n w there fits e = absurd (true≢false (sym (ap is_ok e)))
+released_if false (Some t) a id n w there fits e =
     let o : IsOwn w.sender.plan (w.sender.released id) id t =
     subst (λ (z : Option Stream). IsOwnAt w.sender.plan (w.sender.released id) id z) there (fits.own_streams id) in
-    o.buffered
+    let same : t.buffered ≡ n = cc in
+    ap (λ z. z + w.sender.released id) (sym same) ∙ o.buffered
+
+pub what_is_released_is_not_buffered : WhatIsReleasedIsNotBuffered
+what_is_released_is_not_buffered a h id n w e fits = released_if a.failed (stream_at a.streams id) (parts a h) id n w refl fits e

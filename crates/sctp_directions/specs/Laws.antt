@@ -1,5 +1,5 @@
 -- The laws of an association between its directions: each thing that it does to them is an event of the model.
-use Rattle.std.specs.Prelude.{◌≡◌, ◌⊎◌, ℕ, ◌+◌, ◌<◌, ◌≤◌, ◌%◌, ◌^◌, true, false, List, [], ◌∷◌, ◌++◌, if◌then◌else◌, length, slice_get, map, ◌==◌, Some, None, ⊤}
+use Rattle.std.specs.Prelude.{◌≡◌, ◌⊎◌, ℕ, ◌+◌, ◌<◌, ◌≤◌, ◌%◌, ◌^◌, true, false, List, [], ◌∷◌, ◌++◌, if◌then◌else◌, length, slice_get, map, ◌==◌, Some, None, Ok, ⊤}
 use Rattle.std.specs.List.{AllByRecursion}
 use Rattle.sctp_wire_types.specs.declared.chunk.ChunkPayloadData.{ChunkPayloadData}
 use Rattle.sctp_wire_types.specs.declared.ids.PayloadProtocolIdentifier.{PayloadProtocolIdentifier}
@@ -14,8 +14,9 @@ use Rattle.sctp_model.specs.Serial.{tsn}
 use Rattle.sctp_model.specs.Machine.{Direction, Event, fresh, happens, live, point}
 use Rattle.sctp_model.specs.Invariants.{Invariant}
 use Rattle.sctp_model.specs.Safe.{IsWithin, letter_read}
-use Rattle.sctp_assoc.specs.Acts.{Act, Can, Parts, data_given, done, done_all, tsn_before}
-use Rattle.sctp_assoc.specs.Calls.{ready_of}
+use Rattle.sctp_assoc.specs.Acts.{Act, Can, History, Parts, data_given, done, done_all, parts, tsn_before}
+use Rattle.sctp_assoc.specs.Calls.{buffered_of, ready_messages}
+use Rattle.sctp_assoc.specs.Shown.{Shown}
 use Rattle.sctp_directions.specs.Events.{Accepts, Assigns, Brings, GivesAMessage, IsAtReceiver, IsAtSender, IsPlainEvent, IsReceived, IsSentOn, KeepsWithin}
 use Rattle.sctp_directions.specs.Plain.{IsPlain, IsSimple}
 use Rattle.sctp_directions.specs.Said.{IsGiven, IsMade, IsSaid}
@@ -60,8 +61,8 @@ TheSameIsReady = (a : Parts) (id : ℕ) (t : Stream) (q : Queue) (w : Direction)
 
 -- What is ready is the same on both sides, whether or not the stream is live.
 abbrev pub ReadyMessagesAreAlike : Type 0
-ReadyMessagesAreAlike = (a : Parts) (id : ℕ) (w : Direction) → IsWithin w → Invariant w → IsPlain w → FitsIncoming a w
-    → map letter_read (queue.ready (live (w.receiver.queues id))) ≡ map letter_of (ready_of (stream_at a.streams id))
+ReadyMessagesAreAlike = (a : Shown) (h : History) (id : ℕ) (w : Direction) → IsWithin w → Invariant w → IsPlain w → FitsIncoming (parts a h) w
+    → map letter_read (queue.ready (live (w.receiver.queues id))) ≡ map letter_of (ready_messages a id)
 
 -- The other acts
 
@@ -124,10 +125,10 @@ SacksMeanTheSame = (a : Parts) (n t k : ℕ) (x : Sack) (w : Direction) → slic
     → t % 2 ^ 32 ≡ tsn_before (tsn a.history.own (a.history.base + n)) → n ≤ length a.queue.in_flight → IsWithin w → Invariant w → IsPlain w
     → FitsOutgoing a w → x.point ≡ w.sender.point + n
 
--- What is released of a live stream is what was accepted and is not buffered.
+-- What is released of a live stream is what was accepted and is not buffered, by the association's own answer.
 abbrev pub WhatIsReleasedIsNotBuffered : Type 0
-WhatIsReleasedIsNotBuffered = (a : Parts) (id : ℕ) (t : Stream) (w : Direction) → stream_at a.streams id ≡ Some t → FitsOutgoing a w
-    → t.buffered + w.sender.released id ≡ accepted_bytes w.sender.plan id
+WhatIsReleasedIsNotBuffered = (a : Shown) (h : History) (id n : ℕ) (w : Direction) → buffered_of a id ≡ Ok n → FitsOutgoing (parts a h) w
+    → n + w.sender.released id ≡ accepted_bytes w.sender.plan id
 
 -- The events
 

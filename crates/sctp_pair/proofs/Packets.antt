@@ -8,8 +8,6 @@ use Rattle.sctp_model.specs.Packets.{mem}
 use Rattle.sctp_model.specs.Serial.{tsn}
 use Rattle.sctp_model.specs.Machine.{Direction, Event, happens}
 use Rattle.sctp_model.proofs.Proved.{each_event_keeps_the_invariant}
-use Rattle.sctp_queues.specs.Stream.{Stream}
-use Rattle.sctp_queues.specs.Streams.{stream_at}
 use Rattle.sctp_assoc.specs.Acts.{parts}
 use Rattle.sctp_assoc.specs.Chunks.{after_packet}
 use Rattle.sctp_assoc.specs.Shapes.{Closes, EndsPacket, IsEnded}
@@ -67,9 +65,6 @@ end_step own peer y out coming B a b ends u =
 
 -- Closing
 
-none_live : (b : Shown) (id : ℕ) (t : Stream) → stream_at b.streams id ≡ None → stream_at b.streams id ≡ Some t → ⊥
-none_live b id t none there = cc
-
 -- a fault closes the association: its receiver closes
 close_step : (own peer : ℕ) (y : Shown) (out coming : Direction) (B : ℕ → Type 0) (a b : Shown) → Closes a b → Underway own peer y out coming B a
     → Settles own peer b y out coming nothing_added nothing_read B
@@ -92,7 +87,7 @@ close_step own peer y out coming B a b closes u =
         unestablished = ended.unestablished;
         lost = ended.lost;
         stopped = closed_receivers_are_not_open u.coming2;
-        nothing_left = λ id t there. absurd (none_live b id t (ended.none_live id) there);
+        nothing_left = ended.holds_nothing;
       });
       other = other_by_coming peer own y u.coming2 coming3 u.out2 received.sender u.holds.other;
       no_more = inr u.places_same;

@@ -2,12 +2,11 @@
 use Rattle.std.proofs.Common.{◌≡◌, refl, sym, ap, ◌∙◌, subst, ◌⊎◌, ⊎_elim, inl, inr, ℕ, true, false, List, [], ◌∷◌, None}
 use Rattle.std.proofs.lemmas.Bool.{true≢false}
 use Rattle.sctp_wire_types.specs.declared.ids.PayloadProtocolIdentifier.{PayloadProtocolIdentifier}
-use Rattle.sctp_queues.specs.Streams.{stream_at}
 use Rattle.sctp_model.specs.Machine.{Direction, Event, happens}
 use Rattle.sctp_model.proofs.Proved.{each_event_keeps_the_invariant}
 use Rattle.sctp_assoc.specs.Acts.{Act, History, Leads, Parts, done_all, parts}
 use Rattle.sctp_assoc.specs.Calls.{is_closed_state, is_established, open_refusal, opened}
-use Rattle.sctp_assoc.specs.Shapes.{HoldsNothing, IsSameStatus}
+use Rattle.sctp_assoc.specs.Shapes.{HoldsNothing, IsNotLive, IsSameStatus}
 use Rattle.sctp_assoc.specs.Shown.{Shown}
 use Rattle.sctp_assoc.proofs.Proved.{open_leads_on, opened_streams_hold_nothing, opened_streams_keep_the_status, opened_streams_were_not_live}
 use Rattle.sctp_directions.specs.Events.{Brings, GivesAMessage, IsAtReceiver, IsPlainEvent}
@@ -173,7 +172,7 @@ by_working own peer a out coming T working opens closes h = ⊎_elim
 
 -- A stream is opened
 
-opened_open : (own peer : ℕ) (a y : Shown) (out coming : Direction) (id : ℕ) (kind : PayloadProtocolIdentifier) → stream_at a.streams id ≡ None
+opened_open : (own peer : ℕ) (a y : Shown) (out coming : Direction) (id : ℕ) (kind : PayloadProtocolIdentifier) → IsNotLive a id
     → Faces own peer a y out coming → StandsOpen own peer a out coming
     → Settles own peer (opened a id kind) y out coming nothing_added nothing_read None_brought
 opened_open own peer a y out coming id kind none f s =

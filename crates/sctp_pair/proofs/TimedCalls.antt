@@ -1,8 +1,7 @@
 -- An association tells its events and meets its timeouts: either leaves it between the same directions.
-use Rattle.std.proofs.Common.{◌≡◌, refl, sym, ap, ◌∙◌, subst, ◌⊎◌, inl, inr, ℕ, false, List, [], ◌∷◌, ◌++◌}
+use Rattle.std.proofs.Common.{◌≡◌, refl, sym, subst, ◌⊎◌, inl, inr, ℕ, false, List, [], ◌∷◌, ◌++◌}
 use Rattle.std.specs.Prelude.{option_to_list}
 use Rattle.sctp_queues.specs.declared.event.Event.{Event}
-use Rattle.sctp_queues.specs.Streams.{stream_at}
 use Rattle.sctp_model.specs.Machine.{Direction}
 use Rattle.sctp_assoc.specs.Acts.{Act, Parts, done_all, parts}
 use Rattle.sctp_assoc.specs.Calls.{after_timeouts}
@@ -23,7 +22,7 @@ use Rattle.sctp_pair.proofs.SimpleCalls.{by_working, closed_on, open_on, same_se
 
 -- where the streams are the same they hold nothing still
 empty_still : (a b : Shown) → b.streams ≡ a.streams → HoldsNothing a → HoldsNothing b
-empty_still a b e empty id t there = empty id t (ap (λ z. stream_at z id) (sym e) ∙ there)
+empty_still a b e empty = subst (λ z. HoldsNothing (record b { streams = z })) (sym e) empty
 
 told_settles : (own peer : ℕ) (a b y : Shown) (out coming : Direction) (events : List Event) → a.failed ≡ false → a ≡ record b { events = events }
     → Faces own peer a y out coming → Settles own peer b y out coming nothing_added nothing_read None_brought
