@@ -23,7 +23,7 @@ use Rattle.sctp_outbound.specs.declared.sender.Sender.{Sender}
 use Rattle.sctp_outbound.specs.Sender.{acknowledged, after_first, after_resending, can_send_next, points_to, resent_by, sack_outcome, sender_after, sent_new, sent_one, sent_within, with_window}
 use Rattle.sctp_assoc.specs.Calls.{after_ack_delay, after_t3, is_established, retransmits, t3_expired, written_at}
 use Rattle.sctp_assoc.specs.Chunks.{asks_or_faults, checked_first, counted_data, dispatched, on_counted_data, counted_sack, is_whole, on_chunk, on_counted_sack, on_data, on_next_data, on_sack, stream_found, taken_in, told}
-use Rattle.sctp_assoc.specs.Polled.{ack_after, ack_polled, after_both, data_packets, data_polled, is_due, polled, with_sent_data}
+use Rattle.sctp_assoc.specs.Polled.{ack_after, ack_polled, data_packets, data_polled, is_due, polled, with_sent_data}
 use Rattle.sctp_assoc.specs.Shapes.{IsSameStatus, Leaves, OpenedStreamsKeepTheStatus, PollsKeepTheStatus, ReadsKeepTheStatus, TimersKeepTheStatus, ToldEventsKeepTheStatus, WritesKeepTheStatus}
 use Rattle.sctp_assoc.specs.Shown.{Shown}
 use Rattle.sctp_assoc.proofs.Polling.{both_first}

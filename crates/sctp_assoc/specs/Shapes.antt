@@ -59,6 +59,7 @@ pub record IsLive (a : Shown) (id : ℕ) : Type 0 where
   pub stream : Stream
   pub there : stream_at a.streams id ≡ Some stream
 
+-- A stream that is found is live.
 abbrev pub FoundStreamsAreLive : Type 0
 FoundStreamsAreLive = (a : Shown) (id : ℕ) → stream_refusal a id ≡ None → IsLive a id
 
@@ -66,6 +67,7 @@ FoundStreamsAreLive = (a : Shown) (id : ℕ) → stream_refusal a id ≡ None �
 abbrev pub IsNotLive : Shown → ℕ → Type 0
 IsNotLive a id = stream_at a.streams id ≡ None
 
+-- A stream that is opened was not.
 abbrev pub OpenedStreamsWereNotLive : Type 0
 OpenedStreamsWereNotLive = (a : Shown) (id : ℕ) → open_refusal a id ≡ None → (a.failed ≡ false) × IsNotLive a id
 
@@ -76,6 +78,7 @@ pub record CanWrite (a : Shown) (id size : ℕ) : Type 0 where
   pub some : 0 < size
   pub one : size ≤ a.sender.max_payload_size
 
+-- A write that is accepted can be.
 abbrev pub AcceptedWritesFit : Type 0
 AcceptedWritesFit = (a : Shown) (id size : ℕ) → write_refusal a id size ≡ None → CanWrite a id size
 
@@ -85,9 +88,11 @@ AcceptedWritesFit = (a : Shown) (id size : ℕ) → write_refusal a id size ≡ 
 abbrev pub HoldsNothing : Shown → Type 0
 HoldsNothing a = (id : ℕ) (t : Stream) → stream_at a.streams id ≡ Some t → t.reassembly ≡ empty_reassembly
 
+-- A stream that is opened holds nothing, and the others are as they were.
 abbrev pub OpenedStreamsHoldNothing : Type 0
 OpenedStreamsHoldNothing = (a : Shown) (id : ℕ) (kind : PayloadProtocolIdentifier) → IsNotLive a id → HoldsNothing a → HoldsNothing (opened a id kind)
 
+-- A read where no stream holds anything gives nothing, and leaves it so.
 abbrev pub WhatHoldsNothingGivesNothing : Type 0
 WhatHoldsNothingGivesNothing = (a : Shown) (id : ℕ) → IsLive a id → HoldsNothing a
     → ((read_from_stream a id).1 ≡ None) × HoldsNothing (read_from_stream a id).0
@@ -105,6 +110,7 @@ pub record TakesChunk (chunk : Chunk) (a b : Shown) : Type 0 where
   pub leads : LeadsOn (acts_of_chunk a chunk) a b
   pub leaves : Leaves chunk a b
 
+-- Each chunk leads on by its acts.
 abbrev pub ChunksLeadOn : Type 0
 ChunksLeadOn = (chunk : Chunk) (a : Shown) (wish : AckWish) (now : ℕ) → TakesChunk chunk a (on_chunk a chunk wish now).0
 
@@ -113,6 +119,7 @@ pub record EndsPacket (a b : Shown) : Type 0 where
   pub leads : LeadsOn [] a b
   pub same : IsSameStatus a b
 
+-- The acknowledgement that a packet asks for at its end is no act (RFC 4960 section 6.2).
 abbrev pub PacketsEnd : Type 0
 PacketsEnd = (a : Shown) (wish : AckWish) (now : ℕ) → EndsPacket a (ended a wish now)
 
@@ -130,9 +137,11 @@ pub record Closes (a b : Shown) : Type 0 where
   pub ends : is_closed_state a.state ≡ false → IsEnded b
   pub stays : is_closed_state a.state ≡ true → b ≡ a
 
+-- A chunk that is a fault closes an open association.
 abbrev pub FaultsClose : Type 0
 FaultsClose = (a : Shown) (reason : AssociationError) → Closes a (closed_by a reason)
 
+-- Established is a state of its own (RFC 4960 section 4).
 abbrev pub EstablishedIsNotClosed : Type 0
 EstablishedIsNotClosed = (a : Shown) → is_established a.state ≡ true → is_closed_state a.state ≡ false
 
@@ -167,10 +176,11 @@ pub record TakesOnly (a : Shown) (piece : ChunkPayloadData) (acts : List Act) : 
   pub live : stream_at a.streams piece.stream_identifier ≡ Some stream
   pub are : acts ≡ Act.Took piece ∷ []
 
+-- it did one of these, or nothing
 abbrev pub IsTaking : Shown → ChunkPayloadData → List Act → Type 0
 IsTaking a piece acts = (acts ≡ []) ⊎ (OpensOnly a piece acts ⊎ (OpensAndTakes a piece acts ⊎ TakesOnly a piece acts))
 
--- DATA may make its stream first, and may be taken in; nothing else.
+-- DATA may make its stream first, and may be taken in; nothing else (RFC 4960 section 6.2).
 abbrev pub DataIsTaken : Type 0
 DataIsTaken = (a : Shown) (piece : ChunkPayloadData) → IsTaking a piece (acts_of_chunk a (chunks.Data piece))
 
@@ -181,7 +191,7 @@ pub record Acknowledges (a : Shown) (h : History) (point : ℕ) (acts : List Act
   pub within : count ≤ length a.sender.queue.in_flight
   pub at : point % 2 ^ 32 ≡ tsn_before (tsn h.own (h.base + count))
 
--- A SACK acknowledges what its point says, or nothing.
+-- A SACK acknowledges what its point says, or nothing (RFC 4960 section 6.2.1).
 abbrev pub SacksAcknowledge : Type 0
 SacksAcknowledge = (a : Shown) (h : History) (sack : ChunkSelectiveAck) → Binds a h
     → (acts_of_chunk a (chunks.SelectiveAck sack) ≡ []) ⊎ Acknowledges a h sack.cumulative_tsn_ack (acts_of_chunk a (chunks.SelectiveAck sack))
@@ -214,9 +224,11 @@ pub record IsPolling (a : Shown) (acts : List Act) : Type 0 where
   pub give : AllByRecursion GivesData given
   pub are : acts ≡ given ++ (if reports a then Act.Reported ∷ [] else [])
 
+-- A poll in Established gives DATA, and reports where that is due (RFC 4960 sections 6.1 and 6.2).
 abbrev pub PollsGiveAndReport : Type 0
 PollsGiveAndReport = (a : Shown) (now : ℕ) → is_established a.state ≡ true → IsPolling a (acts_of_poll a now)
 
+-- In any other state a poll gives nothing and changes nothing.
 abbrev pub PollsOutsideEstablishedDoNothing : Type 0
 PollsOutsideEstablishedDoNothing = (a : Shown) (now : ℕ) → is_established a.state ≡ false → polled a now ≡ (a, [])
 
@@ -236,6 +248,6 @@ abbrev pub PollsSayTheirActs : Type 0
 PollsSayTheirActs = (acts : List Act) (a b : Shown) (h : History) (packets : List (List ℕ)) → is_established a.state ≡ true → Binds a h → Polls acts a h b packets
     → AllByRecursion (λ (bytes : List ℕ). OfEachChunk (IsGivenBy acts a h) (taken_packet (packet_at bytes))) packets
 
--- Timeouts at most mark all that is outstanding.
+-- Timeouts at most mark all that is outstanding (RFC 4960 section 6.3.3).
 abbrev pub TimeoutsMarkAtMost : Type 0
 TimeoutsMarkAtMost = (a : Shown) (now : ℕ) → (acts_of_timeouts a now ≡ []) ⊎ (acts_of_timeouts a now ≡ Act.Marked ∷ [])

@@ -1,5 +1,5 @@
 -- What each act of an association leaves of how it stands between its directions.
-use Rattle.std.proofs.Common.{◌≡◌, refl, sym, ap, ◌∙◌, subst, ℕ, ◌<◌, ◌≤◌, ◌+◌, ◌%◌, ◌^◌, arith, Bool, true, false, if◌then◌else◌, List, [], ◌∷◌, map, length, Option, Some, None, Ok, Err, is_ok}
+use Rattle.std.proofs.Common.{◌≡◌, refl, sym, ap, ◌∙◌, subst, ℕ, ◌<◌, ◌≤◌, ◌+◌, ◌%◌, ◌^◌, arith, Bool, true, false, if◌then◌else◌, [], ◌∷◌, map, length, Option, Some, None, Ok, Err, is_ok}
 use Rattle.std.proofs.lemmas.Bool.{true≢false}
 use Rattle.sctp_wire_types.specs.declared.error.Error.TheVariants as errors
 use Rattle.std.specs.Prelude.{slice_get}
@@ -12,7 +12,7 @@ use Rattle.sctp_model.specs.Machine.{Direction, Event, happens, live, point, sac
 use Rattle.sctp_model.specs.Invariants.{Invariant, IsHonest}
 use Rattle.sctp_model.specs.Safe.{IsWithin, letter_read, read_end}
 use Rattle.sctp_model.proofs.Lists.{all_get}
-use Rattle.sctp_assoc.specs.Acts.{Act, Parts, done, done_all, parts, tsn_before}
+use Rattle.sctp_assoc.specs.Acts.{Act, Parts, done, parts, tsn_before}
 use Rattle.sctp_assoc.specs.Calls.{buffered_at, ready_of}
 use Rattle.sctp_directions.specs.Incoming.{FitsIncoming, letter_of}
 use Rattle.sctp_directions.specs.Laws.{ActsKeepTheInitialTsns, OpenedStreamsAreAlike, OwnActsLeaveWhatComes, PiecesAreGiven, ReadyMessagesAreAlike, ReportsNameThePoint, SacksMeanTheSame, WhatComesLeavesItsOwn, WhatIsReleasedIsNotBuffered}
