@@ -1,12 +1,19 @@
-pub mod Acting
+mod Acting
 mod Beginning
-pub mod Carrying
+mod Carrying
 mod Closing
+mod Ending
 mod Giving
-pub mod Joining
+mod Joining
 mod Keeping
-pub mod Polling
+mod Live
+mod PollSays
+mod Polling
+pub mod Proved
 mod ReadAgain
 mod Reading
 mod Reporting
+mod Shapes
+mod Status
+mod Streams
 mod Waits

@@ -9,5 +9,6 @@ pub mod Join
 pub mod Laws
 pub mod Lending
 pub mod Polled
+pub mod Shapes
 pub mod Shown
 pub mod Timeouts

@@ -1,4 +1,5 @@
 // Laws of one side, for whoever builds on it.
+ghost use Rattle.sctp_assoc.specs.Shapes.{AcceptedWritesFit, ChunksLeadOn, DataIsTaken, EstablishedIsNotClosed, FaultsClose, FoundStreamsAreLive, GreetingsMeet, LostAssociationsTakeNothing, NoPacketChangesNothing, OpenedStreamsHoldNothing, OpenedStreamsKeepTheStatus, OpenedStreamsWereNotLive, OtherChunksDoNothing, PacketsEnd, PollsGiveAndReport, PollsKeepTheStatus, PollsOutsideEstablishedGiveWhatWaits, PollsSayTheirActs, ReadsKeepTheStatus, SacksAcknowledge, TimeoutsMarkAtMost, TimersKeepTheStatus, ToldEventsKeepTheStatus, WhatHoldsNothingGivesNothing, WritesKeepTheStatus};
 ghost use Rattle.sctp_assoc.specs.Laws.{DueSacksGoOut, FaultsAloneClose, OpenedStreamsDoNotClose, PollsDoNotClose, PollsKeepWhatIsHeld, ReadsDoNotClose, SacksNameThePoint, TimersDoNotClose, WhatWaitsGoesOut, WhatWaitsIsGiven, WhatWaitsIsPolled, WritesAreHeld, WritesDoNotClose};
 
 /// Sending: what waits goes out with the next poll where nothing is in flight (RFC 4960 section 6.1).
@@ -28,4 +29,50 @@ pub fn faults_alone_close()
 pub fn sacks_name_the_point()
     ensures point { SacksNameThePoint }
     ensures due { DueSacksGoOut }
+{}
+
+/// Status: whether it failed, its state, whether it was lost and its payload size change by no call of the application, by no
+/// timer and by no poll.
+pub fn calls_keep_the_status()
+    ensures opened { OpenedStreamsKeepTheStatus }
+    ensures written { WritesKeepTheStatus }
+    ensures read { ReadsKeepTheStatus }
+    ensures told { ToldEventsKeepTheStatus }
+    ensures timers { TimersKeepTheStatus }
+    ensures polled { PollsKeepTheStatus }
+{}
+
+/// Refusing: what a call that was not refused could rely on.
+pub fn accepted_calls_could_be_done()
+    ensures found { FoundStreamsAreLive }
+    ensures opened { OpenedStreamsWereNotLive }
+    ensures written { AcceptedWritesFit }
+{}
+
+/// Reading: where no stream holds anything, none does after a stream is opened or read, and nothing is read.
+pub fn nothing_comes_of_nothing()
+    ensures opened { OpenedStreamsHoldNothing }
+    ensures read { WhatHoldsNothingGivesNothing }
+{}
+
+/// Packets: each chunk leads on by its acts, and so does the end; a fault closes, and an association that was lost takes nothing.
+pub fn packets_lead_on()
+    ensures chunks { ChunksLeadOn }
+    ensures ends { PacketsEnd }
+    ensures faults { FaultsClose }
+    ensures closed { EstablishedIsNotClosed }
+    ensures lost { LostAssociationsTakeNothing }
+    ensures none { NoPacketChangesNothing }
+{}
+
+/// Acts: of which acts each chunk, a poll and timeouts are made, and that the packets of a poll say what its acts give out.
+pub fn calls_are_made_of_acts()
+    ensures data { DataIsTaken }
+    ensures sack { SacksAcknowledge }
+    ensures greeting { GreetingsMeet }
+    ensures other { OtherChunksDoNothing }
+    ensures poll { PollsGiveAndReport }
+    ensures silent { PollsOutsideEstablishedGiveWhatWaits }
+    ensures packets { PollsSayTheirActs }
+    ensures timeouts { TimeoutsMarkAtMost }
 {}

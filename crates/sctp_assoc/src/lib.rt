@@ -16,7 +16,9 @@ mod stream_calls;
 
 pub use association::Association;
 pub use laws::{
-    faults_alone_close, sacks_name_the_point, what_is_written_is_held, what_waits_goes_out,
+    accepted_calls_could_be_done, calls_are_made_of_acts, calls_keep_the_status,
+    faults_alone_close, nothing_comes_of_nothing, packets_lead_on, sacks_name_the_point,
+    what_is_written_is_held, what_waits_goes_out,
 };
 pub use sctp_parts::shared::{AssociationId, EndpointEvent, IssuedAid};
 pub use sctp_parts::state::{AckMode, AckState, AssociationState};

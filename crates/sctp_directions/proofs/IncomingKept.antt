@@ -18,7 +18,7 @@ use Rattle.sctp_model.proofs.Lists.{all_front}
 use Rattle.sctp_assoc.specs.Acts.{Act, Parts, done, with_written, without_first_piece}
 use Rattle.sctp_directions.specs.Plain.{IsPlain, count_below}
 use Rattle.sctp_directions.specs.Incoming.{AreHeldAs, FitsIncoming, IsQueue, IsQueueAt}
-use Rattle.sctp_directions.proofs.Streams.{at_with}
+use Rattle.sctp_assoc.proofs.Proved.{at_with}
 use Rattle.sctp_directions.proofs.IncomingStreams.{point_known}
 use Rattle.sctp_directions.proofs.PlainSender.{count_kept}
 

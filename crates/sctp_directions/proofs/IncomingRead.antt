@@ -17,7 +17,7 @@ use Rattle.sctp_model.proofs.Reading.{read_end_push}
 use Rattle.sctp_assoc.specs.Acts.{Act, Parts, done}
 use Rattle.sctp_directions.specs.Plain.{IsPlain, count_below}
 use Rattle.sctp_directions.specs.Incoming.{FitsIncoming, IsQueue, IsQueueAt, IsReadAs, letter_of}
-use Rattle.sctp_directions.proofs.Streams.{at_made, at_with}
+use Rattle.sctp_assoc.proofs.Proved.{at_made, at_with}
 use Rattle.sctp_directions.proofs.Held.{IsReadFrom, queue_read, queue_ready}
 use Rattle.sctp_directions.proofs.IncomingStreams.{held_near, no_queue_of, queue_of, queues_at}
 

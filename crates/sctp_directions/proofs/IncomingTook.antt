@@ -19,7 +19,7 @@ use Rattle.sctp_assoc.specs.Chunks.{is_whole}
 use Rattle.sctp_directions.specs.Plain.{IsPlain, IsSimple, IsSole, count_below}
 use Rattle.sctp_directions.specs.Said.{IsSaid}
 use Rattle.sctp_directions.specs.Incoming.{FitsIncoming, IsHeldAs, IsQueue, IsQueueAt}
-use Rattle.sctp_directions.proofs.Streams.{at_with}
+use Rattle.sctp_assoc.proofs.Proved.{at_with}
 use Rattle.sctp_directions.proofs.Held.{queue_pushed}
 use Rattle.sctp_directions.proofs.IncomingStreams.{held_near, point_known, queue_of, queues_at}
 use Rattle.sctp_directions.proofs.PlainReceiver.{data_taken, point_took}

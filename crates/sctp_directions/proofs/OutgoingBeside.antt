@@ -11,7 +11,7 @@ use Rattle.sctp_model.specs.Machine.{Direction}
 use Rattle.sctp_assoc.specs.Acts.{Act, History, Parts, done, with_taken, with_written, without_first_piece, without_first_pieces}
 use Rattle.sctp_directions.specs.Outgoing.{FitsOutgoing, IsOwn, IsOwnAt}
 use Rattle.sctp_directions.proofs.OutgoingKept.{KeepsLive, bytes_in, each_with, fits_streams, live_with}
-use Rattle.sctp_directions.proofs.Streams.{at_made}
+use Rattle.sctp_assoc.proofs.Proved.{at_made}
 
 -- A stream is opened
 

@@ -1,5 +1,5 @@
 -- A message that an association sends for the first time begins at the direction's sender, and each piece that goes out is DATA of the direction.
-use Rattle.std.proofs.Common.{ℕ, suc, ◌+◌, ◌*◌, ◌<◌, ◌≤◌, ◌≡◌, true, not, eqb, List, [], ◌∷◌, ◌++◌, length, take, drop, Some, is_some, refl, sym, ap, ◌∙◌, subst, arith}
+use Rattle.std.proofs.Common.{ℕ, suc, ◌+◌, ◌*◌, ◌≤◌, ◌≡◌, true, not, eqb, List, [], ◌∷◌, ◌++◌, length, take, drop, Some, is_some, refl, sym, ap, ◌∙◌, subst, arith}
 use Rattle.std.specs.Prelude.{slice_get}
 use Rattle.std.specs.List.{AllByRecursion}
 use Rattle.std.proofs.lemmas.List.{length_push, take_all}
@@ -17,7 +17,8 @@ use Rattle.sctp_model.specs.Machine.{Direction, Event, first_place, happens, nex
 use Rattle.sctp_model.specs.Invariants.{Invariant}
 use Rattle.sctp_model.proofs.Growth.{place_extended}
 use Rattle.sctp_model.proofs.Placing.{length_placed, place_new}
-use Rattle.sctp_assoc.specs.Acts.{Act, Can, Parts, data_given, done, first_chunk_said}
+use Rattle.sctp_assoc.specs.Acts.{Act, Can, Parts, done, first_chunk_said}
+use Rattle.sctp_directions.specs.Laws.{IsBegun}
 use Rattle.sctp_directions.specs.Plain.{IsPlain, IsSimple}
 use Rattle.sctp_directions.specs.Said.{IsGiven, IsSaid}
 use Rattle.sctp_directions.specs.Outgoing.{AreInFlight, AreWaiting, FitsOutgoing, IsInFlight, IsWaiting}
@@ -118,13 +119,6 @@ module _ (a : Parts) (now : ℕ) (x : Waiting) (xs : List Waiting) (w : Directio
         let e : length w.sender.plan.places ≡ a.history.base + length a.queue.in_flight = omega arith in e)
         new_flies.said,
   )
-
--- What the association sent is the next message of some stream s, which begins.
-pub record IsBegun (a : Parts) (act : Act) (w : Direction) (s : ℕ) : Type 0 where
-  pub known : w.sender.next s < length (w.sender.plan.accepted s)
-  pub fits : FitsOutgoing (done act a) (happens w (Event.Begin s (w.sender.next s) 0))
-  pub plain : IsPlain (happens w (Event.Begin s (w.sender.next s) 0))
-  pub given : AllByRecursion (IsGiven a.history.own (happens w (Event.Begin s (w.sender.next s) 0))) (data_given act a)
 
 -- An association sends a piece for the first time: it is a message that begins.
 pub sent : (a : Parts) (now : ℕ) (w : Direction) → Can (Act.Sent now) a → Invariant w → IsPlain w → FitsOutgoing a w → (s : ℕ) × IsBegun a (Act.Sent now) w s

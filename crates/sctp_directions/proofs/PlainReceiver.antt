@@ -10,6 +10,7 @@ use Rattle.sctp_model.specs.Safe.{IsWithin, unread}
 use Rattle.sctp_model.proofs.Arriving.{mem_new, mem_old}
 use Rattle.sctp_model.proofs.Basics.{point_below, point_from, point_stops}
 use Rattle.sctp_model.proofs.Lists.{all_push}
+use Rattle.sctp_directions.specs.Events.{IsReceived}
 use Rattle.sctp_directions.specs.Plain.{IsPlain}
 
 -- The point
@@ -152,13 +153,6 @@ unfolding happens
 plain_close w h = plain_by w (record w.receiver { is_open = false }) w.sacks w.reads h.sacks h.taken h.unskipped h
 
 -- What the receiver's events leave
-
--- v is w but for its receiver, what was read and SACKs that were made since.
-pub record IsReceived (w v : Direction) : Type 0 where
-  pub sender : v.sender ≡ w.sender
-  pub over : v.over ≡ w.over
-  pub datas : v.datas ≡ w.datas
-  pub sacks : (k : ℕ) (x : Sack) → slice_get w.sacks k ≡ Some x → slice_get v.sacks k ≡ Some x
 
 received_by : (w : Direction) (r : Receiver) (reads : ℕ → List Got) → IsReceived w (record w { receiver = r; reads = reads })
 received_by w r reads = record { sender = refl; over = refl; datas = refl; sacks = λ k x e. e }

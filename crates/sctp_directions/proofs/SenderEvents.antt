@@ -5,17 +5,9 @@ use Rattle.std.proofs.lemmas.Bool.{cond_both}
 use Rattle.sctp_model.specs.Messages.{Message, Place, as_kept}
 use Rattle.sctp_model.specs.Packets.{Data, Sack, data_at}
 use Rattle.sctp_model.specs.Machine.{Direction, Event, acknowledged_by, begin, begin_if, can_begin, can_resend, counted, first_place, happens, is_empty, number_for, sack_comes, sent, written}
+use Rattle.sctp_directions.specs.Events.{IsSentOn}
 
--- The direction v is w after an event of the sender: the DATA given out stays, and the receiver's side is the same.
-pub record IsSentOn (w v : Direction) : Type 0 where
-  pub datas : (k : ℕ) (d : Data) → slice_get w.datas k ≡ Some d → slice_get v.datas k ≡ Some d
-  pub sacks : v.sacks ≡ w.sacks
-  pub receiver : v.receiver ≡ w.receiver
-  pub reads : v.reads ≡ w.reads
-  pub over : v.over ≡ w.over
-  pub size : v.sender.plan.size ≡ w.sender.plan.size
-
--- The same of an event that isn't a write: no more was accepted.
+-- After an event of the sender that isn't a write no more was accepted.
 pub record IsSentOnly (w v : Direction) : Type 0 where
   pub on : IsSentOn w v
   pub accepted : v.sender.plan.accepted ≡ w.sender.plan.accepted

@@ -1,19 +1,25 @@
 -- The laws of an association between its directions: each thing that it does to them is an event of the model.
-use Rattle.std.specs.Prelude.{◌≡◌, ℕ, ◌+◌, ◌<◌, ◌≤◌, false, List, length, slice_get, map, ◌==◌, Some}
+use Rattle.std.specs.Prelude.{◌≡◌, ◌⊎◌, ℕ, ◌+◌, ◌<◌, ◌≤◌, ◌%◌, ◌^◌, true, false, List, [], ◌∷◌, ◌++◌, if◌then◌else◌, length, slice_get, map, ◌==◌, Some, None, Ok, ⊤}
 use Rattle.std.specs.List.{AllByRecursion}
 use Rattle.sctp_wire_types.specs.declared.chunk.ChunkPayloadData.{ChunkPayloadData}
+use Rattle.sctp_wire_types.specs.declared.ids.PayloadProtocolIdentifier.{PayloadProtocolIdentifier}
 use Rattle.sctp_receive_queues.specs.Reassembly.{ready}
 use Rattle.sctp_queues.specs.Stream.{Stream}
 use Rattle.sctp_queues.specs.Streams.{read_in, stream_at}
-use Rattle.sctp_model.specs.Packets.{Data, Sack}
+use Rattle.sctp_model.specs.Messages.{Message, accepted_bytes}
+use Rattle.sctp_model.specs.Packets.{Data, Sack, mem}
 use Rattle.sctp_model.specs.Reassembly as queue
 use Rattle.sctp_model.specs.Reassembly.{Queue}
-use Rattle.sctp_model.specs.Machine.{Direction, Event, happens, point}
+use Rattle.sctp_model.specs.Serial.{tsn}
+use Rattle.sctp_model.specs.Machine.{Direction, Event, fresh, happens, live, point}
 use Rattle.sctp_model.specs.Invariants.{Invariant}
 use Rattle.sctp_model.specs.Safe.{IsWithin, letter_read}
-use Rattle.sctp_assoc.specs.Acts.{Act, Can, Parts, data_given, done}
-use Rattle.sctp_directions.specs.Plain.{IsPlain}
-use Rattle.sctp_directions.specs.Said.{IsGiven, IsSaid}
+use Rattle.sctp_assoc.specs.Acts.{Act, Can, History, Parts, data_given, done, done_all, parts, tsn_before}
+use Rattle.sctp_assoc.specs.Calls.{buffered_of, ready_messages}
+use Rattle.sctp_assoc.specs.Shown.{Shown}
+use Rattle.sctp_directions.specs.Events.{Accepts, Assigns, Brings, GivesAMessage, IsAtReceiver, IsAtSender, IsPlainEvent, IsReceived, IsSentOn, KeepsWithin}
+use Rattle.sctp_directions.specs.Plain.{IsPlain, IsSimple}
+use Rattle.sctp_directions.specs.Said.{IsGiven, IsMade, IsSaid}
 use Rattle.sctp_directions.specs.Outgoing.{FitsOutgoing, message_on}
 use Rattle.sctp_directions.specs.Incoming.{FitsIncoming, IsReadAs, letter_of}
 
@@ -52,3 +58,125 @@ ReadsAreAlike = (a : Parts) (id : ℕ) (t : Stream) (w : Direction) → stream_a
 abbrev pub TheSameIsReady : Type 0
 TheSameIsReady = (a : Parts) (id : ℕ) (t : Stream) (q : Queue) (w : Direction) → stream_at a.streams id ≡ Some t → w.receiver.queues id ≡ Some q
     → IsWithin w → Invariant w → IsPlain w → FitsIncoming a w → map letter_read (queue.ready q) ≡ map letter_of (ready t.reassembly)
+
+-- What is ready is the same on both sides, whether or not the stream is live.
+abbrev pub ReadyMessagesAreAlike : Type 0
+ReadyMessagesAreAlike = (a : Shown) (h : History) (id : ℕ) (w : Direction) → IsWithin w → Invariant w → IsPlain w → FitsIncoming (parts a h) w
+    → map letter_read (queue.ready (live (w.receiver.queues id))) ≡ map letter_of (ready_messages a id)
+
+-- The other acts
+
+-- acts of the association's own DATA
+abbrev pub IsOfItsOwn : Act → Type 0
+IsOfItsOwn (Act.Wrote id bytes) = ⊤
+IsOfItsOwn (Act.Sent now) = ⊤
+IsOfItsOwn (Act.SentAgain place) = ⊤
+IsOfItsOwn Act.Marked = ⊤
+IsOfItsOwn (Act.Acknowledged n) = ⊤
+IsOfItsOwn act = ⊥
+
+-- acts of the DATA that comes
+abbrev pub IsOfWhatComes : Act → Type 0
+IsOfWhatComes (Act.Took piece) = ⊤
+IsOfWhatComes Act.Reported = ⊤
+IsOfWhatComes (Act.WasRead id) = ⊤
+IsOfWhatComes act = ⊥
+
+-- Acts of its own leave it as a receiver, and acts of what comes leave it as a sender; none changes the initial TSNs.
+abbrev pub OwnActsLeaveWhatComes : Type 0
+OwnActsLeaveWhatComes = (act : Act) (a : Parts) (w : Direction) → IsOfItsOwn act → FitsIncoming a w → FitsIncoming (done act a) w
+
+abbrev pub WhatComesLeavesItsOwn : Type 0
+WhatComesLeavesItsOwn = (act : Act) (a : Parts) (w : Direction) → IsOfWhatComes act → FitsOutgoing a w → FitsOutgoing (done act a) w
+
+abbrev pub ActsKeepTheInitialTsns : Type 0
+ActsKeepTheInitialTsns = (acts : List Act) (a : Parts)
+    → ((done_all acts a).history.own ≡ a.history.own) × ((done_all acts a).history.peer ≡ a.history.peer)
+
+-- A stream that is made is opened at the direction's receiver, and begins anew at its sender.
+abbrev pub OpenedStreamsAreAlike : Type 0
+OpenedStreamsAreAlike = (a : Parts) (id first : ℕ) (kind : PayloadProtocolIdentifier) (out coming : Direction) → stream_at a.streams id ≡ None
+    → FitsOutgoing a out → FitsIncoming a coming
+    → FitsOutgoing (done (Act.Opened id first kind) a) out × FitsIncoming (done (Act.Opened id first kind) a) (happens coming (Event.Open id))
+
+-- A piece that goes out for the first time is a message that begins, of some stream, and is DATA of the direction.
+pub record IsBegun (a : Parts) (act : Act) (w : Direction) (s : ℕ) : Type 0 where
+  pub known : w.sender.next s < length (w.sender.plan.accepted s)
+  pub fits : FitsOutgoing (done act a) (happens w (Event.Begin s (w.sender.next s) 0))
+  pub plain : IsPlain (happens w (Event.Begin s (w.sender.next s) 0))
+  pub given : AllByRecursion (IsGiven a.history.own (happens w (Event.Begin s (w.sender.next s) 0))) (data_given act a)
+
+abbrev pub SentPiecesBegin : Type 0
+SentPiecesBegin = (a : Parts) (now : ℕ) (w : Direction) → Can (Act.Sent now) a → Invariant w → IsPlain w → FitsOutgoing a w
+    → (s : ℕ) × IsBegun a (Act.Sent now) w s
+
+-- Of a mark for sending again the direction knows nothing.
+abbrev pub MarksAreNoEvents : Type 0
+MarksAreNoEvents = (a : Parts) (w : Direction) → FitsOutgoing a w → FitsOutgoing (done Act.Marked a) w
+
+-- A report is a SACK with the point of what came.
+abbrev pub ReportsNameThePoint : Type 0
+ReportsNameThePoint = (a : Parts) (w : Direction) → FitsIncoming a w
+    → FitsIncoming a (happens w Event.SackMade) × IsMade a.history.peer (happens w Event.SackMade) (tsn_before (tsn a.history.peer a.history.point))
+
+-- A SACK that was made, and that acknowledges so many pieces at the association, acknowledges so many offsets.
+abbrev pub SacksMeanTheSame : Type 0
+SacksMeanTheSame = (a : Parts) (n t k : ℕ) (x : Sack) (w : Direction) → slice_get w.sacks k ≡ Some x → t ≡ tsn_before (tsn a.history.own x.point)
+    → t % 2 ^ 32 ≡ tsn_before (tsn a.history.own (a.history.base + n)) → n ≤ length a.queue.in_flight → IsWithin w → Invariant w → IsPlain w
+    → FitsOutgoing a w → x.point ≡ w.sender.point + n
+
+-- What is released of a live stream is what was accepted and is not buffered, by the association's own answer.
+abbrev pub WhatIsReleasedIsNotBuffered : Type 0
+WhatIsReleasedIsNotBuffered = (a : Shown) (h : History) (id n : ℕ) (w : Direction) → buffered_of a id ≡ Ok n → FitsOutgoing (parts a h) w
+    → n + w.sender.released id ≡ accepted_bytes w.sender.plan id
+
+-- The events
+
+-- An event at the sender leaves the receiver's side and all DATA that was given out; the acknowledged point moves on alone.
+abbrev pub SendersEventsAreSent : Type 0
+SendersEventsAreSent = (w : Direction) (e : Event) → IsAtSender e → IsSentOn w (happens w e) × (w.sender.point ≤ (happens w e).sender.point)
+
+-- A write alone accepts, behind what was accepted before, and the beginning of a message alone assigns an offset.
+abbrev pub OnlyWritesAccept : Type 0
+OnlyWritesAccept = (w : Direction) (e : Event) → IsAtSender e → (Accepts e → ⊥) → (happens w e).sender.plan.accepted ≡ w.sender.plan.accepted
+
+abbrev pub WritesAreAcceptedLast : Type 0
+WritesAreAcceptedLast = (w : Direction) (s t : ℕ) (m : Message) → IsSimple w.sender.plan.size m
+    → (happens w (Event.Write s m)).sender.plan.accepted t ≡ w.sender.plan.accepted t ++ (if s == t then m ∷ [] else [])
+
+abbrev pub OnlyBeginningsAssign : Type 0
+OnlyBeginningsAssign = (w : Direction) (e : Event) → IsAtSender e → (Assigns e → ⊥) → (happens w e).sender.plan.places ≡ w.sender.plan.places
+
+-- An event at the receiver leaves the sender's side; it takes in what it brings alone, and only a read gives a message.
+abbrev pub ReceiversEventsAreReceived : Type 0
+ReceiversEventsAreReceived = (w : Direction) (e : Event) → IsAtReceiver e → IsReceived w (happens w e)
+
+abbrev pub OnlyWhatIsBroughtIsTakenIn : Type 0
+OnlyWhatIsBroughtIsTakenIn = (w : Direction) (e : Event) (o : ℕ) → IsAtReceiver e → mem o (happens w e).receiver.taken ≡ true
+    → (mem o w.receiver.taken ≡ true) ⊎ Brings w e o
+
+abbrev pub OnlyReadsGiveMessages : Type 0
+OnlyReadsGiveMessages = (w : Direction) (e : Event) (s : ℕ) → IsAtReceiver e → (GivesAMessage e → ⊥) → (happens w e).reads s ≡ w.reads s
+
+abbrev pub ClosedReceiversAreNotOpen : Type 0
+ClosedReceiversAreNotOpen = (w : Direction) → (happens w Event.Close).receiver.is_open ≡ false
+
+-- What holds before an event at the sender holds after it, whether or not the limits do: the invariant, and how an association
+-- stands as the receiver.
+abbrev pub SendersEventsKeepTheInvariant : Type 0
+SendersEventsKeepTheInvariant = (w : Direction) (e : Event) → IsAtSender e → Invariant w → Invariant (happens w e)
+
+abbrev pub SendersEventsLeaveWhatComes : Type 0
+SendersEventsLeaveWhatComes = (a : Parts) (w : Direction) (e : Event) → IsAtSender e → Invariant w → IsPlain w → FitsIncoming a w
+    → FitsIncoming a (happens w e)
+
+-- A direction stays plain, and within the limits where the event is no write, no beginning and no read.
+abbrev pub PlainEventsKeepItPlain : Type 0
+PlainEventsKeepItPlain = (w : Direction) (e : Event) → IsPlainEvent w e → IsPlain w → IsPlain (happens w e)
+
+abbrev pub EventsKeepTheLimits : Type 0
+EventsKeepTheLimits = (w : Direction) (e : Event) → KeepsWithin e → IsWithin w → IsWithin (happens w e)
+
+-- A direction in which nothing happened is plain.
+abbrev pub FreshDirectionsArePlain : Type 0
+FreshDirectionsArePlain = (size : ℕ) → IsPlain (fresh size) × IsWithin (fresh size)

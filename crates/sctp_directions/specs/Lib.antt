@@ -2,4 +2,5 @@ pub mod Plain
 pub mod Said
 pub mod Outgoing
 pub mod Incoming
+pub mod Events
 pub mod Laws

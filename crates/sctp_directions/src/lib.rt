@@ -2,19 +2,55 @@
 //! runs here; each empty function carries a law that is proved.
 #![tactic(auto)]
 
-ghost use Rattle.sctp_directions.specs.Laws.{AcknowledgementsAreAlike, PiecesAreGiven, ReadsAreAlike, TheSameIsReady, WhatIsTakenInComes, WritesAreAccepted};
+ghost use Rattle.sctp_directions.specs.Laws.{AcknowledgementsAreAlike, ActsKeepTheInitialTsns, ClosedReceiversAreNotOpen, EventsKeepTheLimits, FreshDirectionsArePlain, MarksAreNoEvents, OnlyBeginningsAssign, OnlyReadsGiveMessages, OnlyWhatIsBroughtIsTakenIn, OnlyWritesAccept, OpenedStreamsAreAlike, OwnActsLeaveWhatComes, PiecesAreGiven, PlainEventsKeepItPlain, ReadsAreAlike, ReadyMessagesAreAlike, ReceiversEventsAreReceived, ReportsNameThePoint, SacksMeanTheSame, SendersEventsAreSent, SendersEventsKeepTheInvariant, SendersEventsLeaveWhatComes, SentPiecesBegin, TheSameIsReady, WhatComesLeavesItsOwn, WhatIsReleasedIsNotBuffered, WhatIsTakenInComes, WritesAreAccepted, WritesAreAcceptedLast};
 
-/// What an association writes, sends again and finds acknowledged happens at the sender of its direction.
+/// What an association writes, sends for the first time or again, marks and finds acknowledged happens at the sender of its
+/// direction, and leaves the one that comes to it.
 pub fn its_own_acts_are_events()
     ensures writes { WritesAreAccepted }
+    ensures begins { SentPiecesBegin }
     ensures pieces { PiecesAreGiven }
+    ensures marks { MarksAreNoEvents }
     ensures acknowledgements { AcknowledgementsAreAlike }
+    ensures sacks { SacksMeanTheSame }
+    ensures released { WhatIsReleasedIsNotBuffered }
+    ensures leave { OwnActsLeaveWhatComes }
 {}
 
-/// What an association takes in and reads happens at the receiver of the direction that comes to it, and what can be read is the
-/// same there.
+/// What an association opens, takes in, reports and reads happens at the receiver of the direction that comes to it, and what can
+/// be read is the same there.
 pub fn what_comes_to_it_are_events()
+    ensures opened { OpenedStreamsAreAlike }
     ensures taken { WhatIsTakenInComes }
+    ensures reports { ReportsNameThePoint }
     ensures reads { ReadsAreAlike }
     ensures ready { TheSameIsReady }
+    ensures messages { ReadyMessagesAreAlike }
+    ensures leaves { WhatComesLeavesItsOwn }
+    ensures initials { ActsKeepTheInitialTsns }
+{}
+
+/// What an event at the sender leaves of a direction, and what it keeps.
+pub fn events_at_the_sender_leave_the_receiver()
+    ensures sent { SendersEventsAreSent }
+    ensures accepted { OnlyWritesAccept }
+    ensures last { WritesAreAcceptedLast }
+    ensures assigned { OnlyBeginningsAssign }
+    ensures invariant { SendersEventsKeepTheInvariant }
+    ensures incoming { SendersEventsLeaveWhatComes }
+{}
+
+/// What an event at the receiver leaves of a direction.
+pub fn events_at_the_receiver_leave_the_sender()
+    ensures received { ReceiversEventsAreReceived }
+    ensures taken { OnlyWhatIsBroughtIsTakenIn }
+    ensures reads { OnlyReadsGiveMessages }
+    ensures closed { ClosedReceiversAreNotOpen }
+{}
+
+/// A direction is plain from its beginning on.
+pub fn directions_stay_plain()
+    ensures fresh { FreshDirectionsArePlain }
+    ensures plain { PlainEventsKeepItPlain }
+    ensures limits { EventsKeepTheLimits }
 {}

@@ -11,6 +11,7 @@ pub mod Growing
 pub mod Growth
 pub mod Lists
 pub mod Placing
+pub mod Proved
 pub mod Ranks
 pub mod Reading
 pub mod Released

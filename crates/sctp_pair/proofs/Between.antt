@@ -5,15 +5,16 @@ use Rattle.std.proofs.lemmas.List.{append-nil}
 use Rattle.sctp_receive_queues.specs.Messages as letters
 use Rattle.sctp_model.specs.Messages.{Message}
 use Rattle.sctp_model.specs.Packets.{Data, Sack, mem}
-use Rattle.sctp_model.specs.Machine.{Direction, Event, Sender, happens, run}
+use Rattle.sctp_model.specs.Machine.{Direction, Event, Receiver, Sender, happens, run}
 use Rattle.sctp_model.specs.Invariants.{Invariant}
 use Rattle.sctp_model.specs.Safe.{IsWithin}
-use Rattle.sctp_outbound_queue.specs.Outbound.{Outbound}
 use Rattle.sctp_assoc.specs.Acts.{Parts, parts}
 use Rattle.sctp_assoc.specs.Shown.{Shown}
+use Rattle.sctp_directions.specs.Events.{Accepts, Brings, GivesAMessage, IsAtReceiver, IsAtSender}
 use Rattle.sctp_directions.specs.Plain.{IsPlain}
 use Rattle.sctp_directions.specs.Outgoing.{FitsOutgoing}
 use Rattle.sctp_directions.specs.Incoming.{FitsIncoming, IsReadAs}
+use Rattle.sctp_directions.proofs.Proved.{only_reads_give_messages, only_what_is_brought_is_taken_in, only_writes_accept, receivers_events_are_received, senders_events_are_sent}
 use Rattle.sctp_pair.specs.Fits.{Stands, StandsClosed, StandsFailed, StandsOpen}
 
 -- What stays and what grows of a direction by events that neither accept nor read: what they take in was there, or was brought.
@@ -58,6 +59,38 @@ goes_on B w v u g h = record {
   point_on = (let a = g.point_on in let b = h.point_on in omega arith);
 }
 
+-- one event at the sender that is no write
+pub goes_by_sender : (B : ℕ → Type 0) (w : Direction) (e : Event) → IsAtSender e → (Accepts e → ⊥) → Goes B w (happens w e)
+goes_by_sender B w e at none =
+    let sent = senders_events_are_sent w e at in
+    record {
+      events = e ∷ [];
+      is = refl;
+      accepted = λ s. ap (λ (f : ℕ → List Message). f s) (only_writes_accept w e at none);
+      size = sent.0.size;
+      reads = λ s. ap (λ f. f s) sent.0.reads;
+      taken = λ o m. inl (subst (λ (r : Receiver). mem o r.taken ≡ true) sent.0.receiver m);
+      datas = sent.0.datas;
+      sacks = λ k x g. subst (λ (ks : List Sack). slice_get ks k ≡ Some x) (sym sent.0.sacks) g;
+      point_on = sent.1;
+    }
+
+-- one event at the receiver that is no read
+pub goes_by_receiver : (B : ℕ → Type 0) (w : Direction) (e : Event) → IsAtReceiver e → (GivesAMessage e → ⊥) → ((o : ℕ) → Brings w e o → B o) → Goes B w (happens w e)
+goes_by_receiver B w e at none brings =
+    let received = receivers_events_are_received w e at in
+    record {
+      events = e ∷ [];
+      is = refl;
+      accepted = λ s. ap (λ (x : Sender). x.plan.accepted s) received.sender;
+      size = ap (λ (x : Sender). x.plan.size) received.sender;
+      reads = λ s. only_reads_give_messages w e s at none;
+      taken = λ o m. ⊎_elim (λ (n : mem o w.receiver.taken ≡ true). inl n) (λ (b : Brings w e o). inr (brings o b)) (only_what_is_brought_is_taken_in w e o at m);
+      datas = λ k d g. subst (λ (ds : List Data). slice_get ds k ≡ Some d) (sym received.datas) g;
+      sacks = received.sacks;
+      point_on = (let f = ap (λ (x : Sender). x.point) received.sender in omega arith);
+    }
+
 -- p is what the association's directions see of it, y is the other association
 pub record Holds (own peer : ℕ) (p : Parts) (y : Shown) (out coming : Direction) : Type 0 where
   pub own_is : p.history.own ≡ own
@@ -73,10 +106,6 @@ pub record Holds (own peer : ℕ) (p : Parts) (y : Shown) (out coming : Directio
 -- Nothing is brought.
 abbrev pub None_brought : ℕ → Type 0
 None_brought o = ⊥
-
--- only the queue changed, and not what comes
-pub incoming_beside : (p : Parts) (q : Outbound) (w : Direction) → FitsIncoming p w → FitsIncoming (record p { queue = q }) w
-incoming_beside p q w f = record { is_open = f.is_open; taken = f.taken; passed = f.passed; at = f.at; queues = f.queues }
 
 -- the sender of a direction stayed
 pub outgoing_same : (p : Parts) (w v : Direction) → v.sender ≡ w.sender → FitsOutgoing p w → FitsOutgoing p v

@@ -1,6 +1,7 @@
 pub mod Answered
 pub mod Assembled
 pub mod Between
+pub mod Chunks
 pub mod Giving
 mod OneSide
 pub mod Packets
@@ -12,7 +13,6 @@ pub mod Saying
 pub mod Settled
 pub mod SimpleCalls
 pub mod Starting
-pub mod Status
 pub mod Taking
 pub mod TimedCalls
 pub mod Worlds

@@ -1,17 +1,12 @@
 -- What a side wrote waits or is in flight after the poll that follows.
-use Rattle.std.proofs.Common.{◌≡◌, refl, sym, ap, ◌∙◌, ℕ, Bool, true, false, List, Option, Some, None, Result, Ok, Err, OnOk, IfOk, if◌then◌else◌}
+use Rattle.std.proofs.Common.{◌≡◌, sym, ap, ◌∙◌, ℕ, true, List, Option, None, Result, Ok, Err, OnOk, IfOk, is_some}
 use Rattle.sctp_wire_types.specs.declared.error.Error.{Error}
-use Rattle.sctp_wire_types.specs.declared.error.Error.TheVariants as errors
 use Rattle.sctp_wire.specs.declared.transmit.Transmit.{Transmit}
 use Rattle.sctp_assoc.specs.Calls.{stream_refusal, written}
 use Rattle.sctp_assoc.specs.Laws.{PollsKeepWhatIsHeld, WritesAreHeld, is_held}
 use Rattle.sctp_assoc.specs.Polled.{packets_of, polled}
 use Rattle.sctp_assoc.specs.Shown.{Shown}
-
-live_if : (failed live : Bool) → (if failed then Some errors.ErrAssociationFailed else if live then None else Some errors.ErrStreamNotExisted) ≡ None → live ≡ true
-live_if failed true e = refl
-live_if true false e = absurd (cc)
-live_if false false e = absurd (cc)
+use Rattle.sctp_assoc.proofs.Proved.{found_streams_are_live}
 
 -- the association a was m after the write
 pub sent_is_held : WritesAreHeld → PollsKeepWhatIsHeld → (a m b : Shown) (id now : ℕ) (bytes : List ℕ) (r : Result (Option Transmit) Error)
@@ -20,6 +15,6 @@ pub sent_is_held : WritesAreHeld → PollsKeepWhatIsHeld → (a m b : Shown) (id
 sent_is_held writes polls a m b id now bytes (Ok given) live accepts e =
     let number = a.sender.queue.next_message_id in
     let held : is_held m.sender.queue number ≡ true =
-    ap (λ (x : Shown). is_held x.sender.queue number) accepts ∙ writes a id bytes (live_if a.failed _ live) in
+    ap (λ (x : Shown). is_held x.sender.queue number) accepts ∙ writes a id bytes (ap is_some (found_streams_are_live a id live).there) in
     sym (ap (λ (x : Shown × List (List ℕ)). is_held x.0.sender.queue number) e) ∙ polls m now number held
 sent_is_held writes polls a m b id now bytes (Err error) live accepts e = tt

@@ -1,56 +1,31 @@
 -- A read of an association: what it gives is what the direction's reader gets.
-use Rattle.std.proofs.Common.{◌≡◌, refl, sym, ap, ◌∙◌, subst, ⊎_elim, inl, inr, ℕ, Bool, true, false, eqb, if◌then◌else◌, List, [], ◌∷◌, Option, Some, None, is_some, arith}
+use Rattle.std.proofs.Common.{◌≡◌, refl, sym, ap, ◌∙◌, subst, ⊎_elim, inl, inr, ℕ, false, eqb, if◌then◌else◌, List, [], ◌∷◌, Option, Some, None, arith}
 use Rattle.std.specs.Prelude.{◌==◌, slice_get}
-use Rattle.std.proofs.lemmas.Bool.{cases_eq, cond-false, cond-true, eq-eqb, ne_eqb, true≢false}
+use Rattle.std.proofs.lemmas.Bool.{cases_eq, cond-false, cond-true, eq-eqb, ne_eqb}
 use Rattle.std.proofs.lemmas.List.{append-nil}
-use Rattle.sctp_wire_types.specs.declared.error.Error.TheVariants as errors
 use Rattle.sctp_receive_queues.specs.Messages.{Message}
-use Rattle.sctp_receive_queues.specs.Reassembly.{empty_reassembly, taken}
-use Rattle.sctp_queues.specs.Stream.{Stream, read_with, stream_read}
-use Rattle.sctp_queues.specs.Streams.{StreamMap, read_at, read_in, stream_at, with_stream}
-use Rattle.sctp_model.specs.Packets.{Data, mem}
+use Rattle.sctp_model.specs.Packets.{Data}
 use Rattle.sctp_model.specs.Reassembly.{Got}
 use Rattle.sctp_model.specs.Machine.{Direction, Event, happens}
-use Rattle.sctp_model.proofs.Steps.{happens_keeps}
+use Rattle.sctp_model.proofs.Proved.{each_event_keeps_the_invariant}
 use Rattle.sctp_assoc.specs.Acts.{Act, parts}
 use Rattle.sctp_assoc.specs.Calls.{read_from_stream}
+use Rattle.sctp_assoc.specs.Shapes.{HoldsNothing, IsLive, IsSameStatus}
 use Rattle.sctp_assoc.specs.Shown.{Shown}
-use Rattle.sctp_assoc.proofs.Joining.{read_leads_on}
+use Rattle.sctp_assoc.proofs.Proved.{found_streams_are_live, read_leads_on, reads_keep_the_status, what_holds_nothing_gives_nothing}
 use Rattle.sctp_directions.specs.Incoming.{IsReadAs}
-use Rattle.sctp_directions.proofs.IncomingRead.{read_fits}
-use Rattle.sctp_directions.proofs.OutgoingBeside.{was_read}
-use Rattle.sctp_directions.proofs.PlainReceiver.{plain_read, read_received, read_takes}
-use Rattle.sctp_directions.proofs.Streams.{at_with}
+use Rattle.sctp_directions.proofs.Proved.{only_what_is_brought_is_taken_in, plain_events_keep_it_plain, reads_are_alike, receivers_events_are_received, what_comes_leaves_its_own}
 use Rattle.sctp_pair.specs.declared.step.Reply.{Reply}
 use Rattle.sctp_pair.specs.declared.step.Reply.TheVariants as replies
 use Rattle.sctp_pair.specs.Fits.{StandsClosed, StandsOpen}
 use Rattle.sctp_pair.specs.Steps.{Reads}
 use Rattle.sctp_pair.proofs.Between.{Does, Faces, None_brought, Settles, does_by_goes, goes_nowhere, nothing_added, nothing_read, other_by_coming}
-use Rattle.sctp_pair.proofs.SimpleCalls.{by_working, closed_on, empty_beside, open_on, same_settles, still}
-use Rattle.sctp_pair.proofs.Status.{IsSameStatus}
+use Rattle.sctp_pair.proofs.SimpleCalls.{by_working, closed_on, open_on, same_settles, still}
 
 -- what a read with this reply gives on stream s
 abbrev pub read_by : Reply → ℕ → ℕ → Option Message
 read_by (replies.Read message) id s = if id == s then message else None
 read_by r id s = None
-
-found_free : (failed there : Bool) → (if failed then Some errors.ErrAssociationFailed else if there then None else Some errors.ErrStreamNotExisted) ≡ None
-    → (failed ≡ false) × (there ≡ true)
-found_free true there e = absurd (true≢false (ap is_some e))
-found_free false false e = absurd (true≢false (ap is_some e))
-found_free false true e = (refl, refl)
-
-some_by : (x : Option Stream) → is_some x ≡ true → (t : Stream) × (x ≡ Some t)
-some_by None e = absurd (true≢false (sym e))
-some_by (Some t) e = (t, refl)
-
-read_status : (a b : Shown) (m : StreamMap) → b ≡ record a { streams = m } → IsSameStatus a b
-read_status a b m e = record {
-  failed = ap (λ (x : Shown). x.failed) e;
-  state = ap (λ (x : Shown). x.state) e;
-  lost = ap (λ (x : Shown). x.lost) e;
-  size = ap (λ (x : Shown). x.sender.max_payload_size) e;
-}
 
 -- An open association reads
 
@@ -68,61 +43,54 @@ read_does : (w : Direction) (id : ℕ) (message : Option Message) → IsReadAs m
     → ((s : ℕ) → eqb s id ≡ false → (happens w (Event.Read id)).reads s ≡ w.reads s)
     → Does nothing_added (read_by (replies.Read message) id) None_brought w (happens w (Event.Read id))
 read_does w id message here others =
-    let event = read_received w id in
+    let event = receivers_events_are_received w (Event.Read id) tt in
     record {
       events = Event.Read id ∷ [];
       is = refl;
       accepted = λ s. ap (λ x. x.plan.accepted s) event.sender ∙ sym (append-nil (w.sender.plan.accepted s));
       size = ap (λ x. x.plan.size) event.sender;
       reads = read_alone w.reads (happens w (Event.Read id)).reads id message here others;
-      taken = λ o m. inl (subst (λ (os : List ℕ). mem o os ≡ true) (read_takes w id) m);
+      taken = λ o m. only_what_is_brought_is_taken_in w (Event.Read id) o tt m;
       datas = λ k d e. subst (λ (ds : List Data). slice_get ds k ≡ Some d) (sym event.datas) e;
       sacks = event.sacks;
       point_on = (let e = ap (λ x. x.point) event.sender in omega arith);
     }
 
-read_open : (own peer : ℕ) (a b y : Shown) (out coming : Direction) (id : ℕ) (message : Option Message) (t : Stream) → stream_at a.streams id ≡ Some t
+read_open : (own peer : ℕ) (a b y : Shown) (out coming : Direction) (id : ℕ) (message : Option Message) → IsLive a id
     → read_from_stream a id ≡ (b, message) → Faces own peer a y out coming → StandsOpen own peer a out coming
     → Settles own peer b y out coming nothing_added (read_by (replies.Read message) id) None_brought
-read_open own peer a b y out coming id message t there e f s =
-    let fits = read_fits (parts a s.past) id t coming there f.within_coming f.invariant_coming f.plain_coming s.incoming in
+read_open own peer a b y out coming id message live e f s =
+    let fits = reads_are_alike (parts a s.past) id live.stream coming live.there f.within_coming f.invariant_coming f.plain_coming s.incoming in
     let coming2 : Direction = happens coming (Event.Read id) in
     let m = read_leads_on a b id message e s.past s.binds in
-    let is : b ≡ record a { streams = (read_in a.streams id).0 } = sym (ap (λ (x : Shown × Option Message). x.0) e) in
-    let given : (read_in a.streams id).1 ≡ message = ap (λ (x : Shown × Option Message). x.1) e in
+    let same : IsSameStatus a b = subst (IsSameStatus a) (ap (λ (x : Shown × Option Message). x.0) e) (reads_keep_the_status a id) in
+    let received = receivers_events_are_received coming (Event.Read id) tt in
     record {
       out2 = out;
       coming2 = coming2;
       does_out = does_by_goes None_brought out out (goes_nowhere None_brought out);
-      does_coming = read_does coming id message (subst (λ (z : Option Message). IsReadAs z (coming.reads id) (coming2.reads id)) given fits.1) fits.2;
+      does_coming = read_does coming id message
+          (subst (λ (z : Option Message). IsReadAs z (coming.reads id) (coming2.reads id)) (ap (λ (x : Shown × Option Message). x.1) e) fits.1) fits.2;
       invariant_out = f.invariant_out;
-      invariant_coming = happens_keeps coming (Event.Read id) f.within_coming f.invariant_coming;
+      invariant_coming = each_event_keeps_the_invariant coming (Event.Read id) f.within_coming f.invariant_coming;
       plain_out = f.plain_out;
-      plain_coming = plain_read coming id f.plain_coming;
-      stands = inl (open_on own peer a b out coming out coming2 (Act.WasRead id ∷ []) m.0 s m.1 (read_status a b (read_in a.streams id).0 is) refl
-          (was_read (parts a s.past) id out s.outgoing) fits.0);
-      other = other_by_coming peer own y coming coming2 out (read_received coming id).sender f.other;
+      plain_coming = plain_events_keep_it_plain coming (Event.Read id) tt f.plain_coming;
+      stands = inl (open_on own peer a b out coming out coming2 (Act.WasRead id ∷ []) m.0 s m.1 same refl
+          (what_comes_leaves_its_own (Act.WasRead id) (parts a s.past) out tt s.outgoing) fits.0);
+      other = other_by_coming peer own y coming coming2 out received.sender f.other;
       no_more = inr refl;
-      coming_still = (read_received coming id).sender;
+      coming_still = received.sender;
     }
 
 -- A closed association reads nothing
 
-empty_read : (t : Stream) → t.reassembly ≡ empty_reassembly → stream_read t ≡ (record t { reassembly = empty_reassembly }, None)
-empty_read t e = ap (λ r. read_with t (taken r)) e
-
-read_closed : (a b : Shown) (coming : Direction) (id : ℕ) (message : Option Message) (t : Stream) → stream_at a.streams id ≡ Some t
-    → read_from_stream a id ≡ (b, message) → StandsClosed a coming → (message ≡ None) × StandsClosed b coming
-read_closed a b coming id message t there e s =
-    let u : Stream = record t { reassembly = empty_reassembly } in
-    let left : read_in a.streams id ≡ (with_stream a.streams id u, None) =
-    ap (λ o. read_at o a.streams id) there ∙ ap (λ (z : Stream × Option Message). (with_stream a.streams id z.0, z.1)) (empty_read t (s.nothing_left id t there)) in
-    let is : b ≡ record a { streams = (read_in a.streams id).0 } = sym (ap (λ (x : Shown × Option Message). x.0) e) in
-    let given : (read_in a.streams id).1 ≡ message = ap (λ (x : Shown × Option Message). x.1) e in
-    let streams : b.streams ≡ with_stream a.streams id u = ap (λ (x : Shown). x.streams) is ∙ ap (λ (z : StreamMap × Option Message). z.0) left in (
-      sym given ∙ ap (λ (z : StreamMap × Option Message). z.1) left,
-      closed_on a b coming (read_status a b (read_in a.streams id).0 is)
-          (empty_beside a.streams b.streams id u refl (λ n. ap (λ m. stream_at m n) streams ∙ at_with a.streams id n t u there) s.nothing_left) s,
+read_closed : (a b : Shown) (coming : Direction) (id : ℕ) (message : Option Message) → IsLive a id → read_from_stream a id ≡ (b, message) → StandsClosed a coming
+    → (message ≡ None) × StandsClosed b coming
+read_closed a b coming id message live e s =
+    let nothing = what_holds_nothing_gives_nothing a id live s.nothing_left in
+    let there : (read_from_stream a id).0 ≡ b = ap (λ (x : Shown × Option Message). x.0) e in (
+      sym (ap (λ (x : Shown × Option Message). x.1) e) ∙ nothing.0,
+      closed_on a b coming (subst (IsSameStatus a) there (reads_keep_the_status a id)) (subst HoldsNothing there nothing.1) s,
     )
 
 -- a read that gave nothing
@@ -160,11 +128,10 @@ none_read own peer b y out coming id message e h =
 pub reads_settle : (own peer : ℕ) (a b y : Shown) (out coming : Direction) (id : ℕ) (r : Reply) → Reads a id r b
     → Faces own peer a y out coming → Settles own peer b y out coming nothing_added (read_by r id) None_brought
 reads_settle own peer a b y out coming id (replies.Read message) h f =
-    let free = found_free a.failed (is_some (stream_at a.streams id)) h.0 in
-    let there = some_by (stream_at a.streams id) free.1 in
-    by_working own peer a out coming (Settles own peer b y out coming nothing_added (read_by (replies.Read message) id) None_brought) free.0
-    (λ s. read_open own peer a b y out coming id message there.0 there.1 h.1 f s)
-    (λ s. let x = read_closed a b coming id message there.0 there.1 h.1 s in
+    let live = found_streams_are_live a id h.0 in
+    by_working own peer a out coming (Settles own peer b y out coming nothing_added (read_by (replies.Read message) id) None_brought) live.working
+    (λ s. read_open own peer a b y out coming id message live h.1 f s)
+    (λ s. let x = read_closed a b coming id message live h.1 s in
     none_read own peer b y out coming id message x.0 (still own peer a b y out coming f (inr (inl x.1))))
     f.stands
 reads_settle own peer a b y out coming id (replies.Refused n) h f = same_settles own peer a b y out coming h.1 f

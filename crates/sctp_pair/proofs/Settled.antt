@@ -7,6 +7,7 @@ use Rattle.sctp_model.specs.Serial.{tsn}
 use Rattle.sctp_model.specs.Machine.{Direction, Sender}
 use Rattle.sctp_model.proofs.Lists.{all_join}
 use Rattle.sctp_assoc.specs.Shown.{Shown}
+use Rattle.sctp_assoc.proofs.Proved.{established_is_not_closed}
 use Rattle.sctp_directions.specs.Said.{SaysAll}
 use Rattle.sctp_directions.specs.Incoming.{IsReadAs}
 use Rattle.sctp_pair.specs.declared.step.Reply.{Reply}
@@ -18,7 +19,6 @@ use Rattle.sctp_pair.specs.Steps.{Steps, packet_in}
 use Rattle.sctp_pair.specs.World.{HasData, IsDirectionStep, IsOpen, World, accepted_at, message_read, other_side, packet_brought}
 use Rattle.sctp_pair.specs.Fits.{AreSaid, Fits, LeadsSafely, Stands, StandsIn, StandsOpen}
 use Rattle.sctp_pair.proofs.Between.{Does, Faces, None_brought, Settles, nothing_added, nothing_read}
-use Rattle.sctp_pair.proofs.Packets.{open_state}
 use Rattle.sctp_pair.proofs.Promised.{safe_world}
 use Rattle.sctp_pair.proofs.Saying.{said_grows}
 
@@ -79,7 +79,7 @@ direction_step step reply sender receiver w q initial before after Added Read Br
 -- an association that stands open is open
 is_open : (own peer : ℕ) (b : Shown) (out coming before : Direction) → StandsOpen own peer b out coming ⊎ (out.sender.plan.places ≡ before.sender.plan.places)
     → IsOpen b ⊎ (out.sender.plan.places ≡ before.sender.plan.places)
-is_open own peer b out coming before (inl s) = inl (s.working, open_state b.state s.established)
+is_open own peer b out coming before (inl s) = inl (s.working, established_is_not_closed b s.established)
 is_open own peer b out coming before (inr e) = inr e
 
 -- A call of A that settles leads from the world to one in which the pair stands: the packets that it gave out are A's next ones.

@@ -2,44 +2,18 @@
 use Rattle.std.proofs.Common.{◌≡◌, refl, sym, ap, ◌∙◌, subst, ⊎_elim, inl, ℕ, ◌<◌, arith, true, false, eqb, [], None}
 use Rattle.std.specs.Prelude.{is_some}
 use Rattle.std.specs.declared.net.socket_addr.SocketAddr.{SocketAddr}
-use Rattle.std.proofs.lemmas.Bool.{cases_Bool, eqb-false, false≢true, le-ltb}
+use Rattle.std.proofs.lemmas.Bool.{cases_Bool, eqb-false, false≢true}
 use Rattle.sctp_wire_types.specs.declared.chunk.ChunkInit.{ChunkInit}
 use Rattle.sctp_wire_types.specs.Config.{Settings}
 use Rattle.sctp_model.specs.Machine.{fresh}
-use Rattle.sctp_model.specs.Safe.{IsWithin}
-use Rattle.sctp_model.proofs.Steps.{fresh_holds}
+use Rattle.sctp_model.proofs.Proved.{fresh_holds}
 use Rattle.sctp_assoc.specs.Acts.{Binds, begun}
 use Rattle.sctp_assoc.specs.Join.{join_refusal, joined}
 use Rattle.sctp_assoc.specs.Shown.{Shown}
-use Rattle.sctp_directions.specs.Plain.{IsPlain}
+use Rattle.sctp_directions.proofs.Proved.{fresh_directions_are_plain}
 use Rattle.sctp_pair.specs.Ends.{Ends}
 use Rattle.sctp_pair.specs.World.{empty_world}
 use Rattle.sctp_pair.specs.Fits.{Fits, StandsOpen}
-
--- a direction in which nothing happened is within the limits
-within_fresh : (size : ℕ) → IsWithin (fresh size)
-within_fresh size = record {
-  offsets = omega arith;
-  flight = omega arith;
-  unread = λ s. omega arith;
-}
-
--- and it has ordered, reliable messages of one piece alone, having none
-plain_fresh : (size : ℕ) → IsPlain (fresh size)
-plain_fresh size = record {
-  messages = λ s i l. absurd (omega arith);
-  places = λ o l. absurd (omega arith);
-  current = refl;
-  next = λ s. refl;
-  ssn = λ s. refl;
-  begun = λ s i. sym (le-ltb i 0 (omega arith));
-  stays = λ s i. refl;
-  acknowledged = λ o. sym (le-ltb o 0 (omega arith));
-  sacks = tt;
-  taken = λ o m. absurd (false≢true m);
-  unskipped = refl;
-  span = λ s. refl;
-}
 
 -- an association that two tokens joined stands open between directions in which nothing happened
 joined_stands : (config : Settings) (size other : ℕ) (remote : SocketAddr) (own peer : ChunkInit)
@@ -75,13 +49,13 @@ pub fits_start : (config_a config_b : Settings) (size_a size_b : ℕ) (remote_a 
     → Fits p (empty_world p token_a.initial_tsn token_b.initial_tsn size_a size_b)
 fits_start config_a config_b size_a size_b remote_a remote_b token_a token_b a b joins_a joins_b is_a is_b binds_a binds_b p is =
     subst (λ (z : Ends). Fits z (empty_world z token_a.initial_tsn token_b.initial_tsn size_a size_b)) (sym is) record {
-      within = (within_fresh size_a, within_fresh size_b);
+      within = ((fresh_directions_are_plain size_a).1, (fresh_directions_are_plain size_b).1);
       stand = record {
         is = refl;
         invariant_ab = fresh_holds size_a (some_size size_a token_a token_b joins_a);
         invariant_ba = fresh_holds size_b (some_size size_b token_b token_a joins_b);
-        plain_ab = plain_fresh size_a;
-        plain_ba = plain_fresh size_b;
+        plain_ab = (fresh_directions_are_plain size_a).0;
+        plain_ba = (fresh_directions_are_plain size_b).0;
         side_a = inl (stands_a a is_a binds_a);
         side_b = inl (stands_b b is_b binds_b);
         said_a = tt;

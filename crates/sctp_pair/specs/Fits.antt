@@ -1,13 +1,11 @@
 -- Which worlds a pair may stand in, and the promise of its steps.
-use Rattle.std.specs.Prelude.{◌≡◌, ℕ, true, false, ◌⊎◌, List, [], ◌∷◌, Some}
+use Rattle.std.specs.Prelude.{◌≡◌, ℕ, true, false, ◌⊎◌, List, [], ◌∷◌}
 use Rattle.std.specs.List.{AllByRecursion}
-use Rattle.sctp_receive_queues.specs.Reassembly.{empty_reassembly}
-use Rattle.sctp_queues.specs.Stream.{Stream}
-use Rattle.sctp_queues.specs.Streams.{stream_at}
 use Rattle.sctp_model.specs.Machine.{Direction}
 use Rattle.sctp_model.specs.Invariants.{Invariant}
 use Rattle.sctp_assoc.specs.Acts.{Binds, History, parts}
 use Rattle.sctp_assoc.specs.Calls.{is_closed_state, is_established}
+use Rattle.sctp_assoc.specs.Shapes.{HoldsNothing}
 use Rattle.sctp_assoc.specs.Shown.{Shown}
 use Rattle.sctp_directions.specs.Plain.{IsPlain}
 use Rattle.sctp_directions.specs.Said.{SaysAll}
@@ -38,7 +36,7 @@ pub record StandsClosed (a : Shown) (coming : Direction) : Type 0 where
   pub unestablished : is_established a.state ≡ false
   pub lost : a.lost ≡ true
   pub stopped : coming.receiver.is_open ≡ false
-  pub nothing_left : (s : ℕ) (t : Stream) → stream_at a.streams s ≡ Some t → t.reassembly ≡ empty_reassembly
+  pub nothing_left : HoldsNothing a
 
 -- One that failed does nothing more.
 pub record StandsFailed (a : Shown) (coming : Direction) : Type 0 where

@@ -1,10 +1,9 @@
 -- Both directions between two associations that face each other, and all that ever happened in them.
-use Rattle.std.specs.Prelude.{◌≡◌, ◌≤◌, ℕ, Bool, true, false, ◌&&◌, ◌++◌, ◌+◌, ◌==◌, ◌⊎◌, if◌then◌else◌, List, [], ◌∷◌, map, slice_get, Option, Some, None}
+use Rattle.std.specs.Prelude.{◌≡◌, ◌≤◌, ℕ, Bool, true, false, ◌&&◌, ◌++◌, ◌+◌, ◌==◌, ◌⊎◌, if◌then◌else◌, List, [], ◌∷◌, map, slice_get, Option, Some, None, Ok}
 use Rattle.sctp_wire_types.specs.declared.chunk.Chunk.TheVariants as chunks
 use Rattle.sctp_wire_types.specs.declared.chunk.ChunkPayloadData.{ChunkPayloadData}
 use Rattle.sctp_wire.specs.declared.packet.Packet.{Packet}
 use Rattle.sctp_receive_queues.specs.Messages.{Message}
-use Rattle.sctp_receive_queues.specs.Reassembly.{ready}
 use Rattle.sctp_queues.specs.Stream.{Stream}
 use Rattle.sctp_queues.specs.Streams.{stream_at}
 use Rattle.sctp_model.specs.Messages as model
@@ -14,7 +13,7 @@ use Rattle.sctp_model.specs.Serial.{tsn}
 use Rattle.sctp_model.specs.Reassembly as queue
 use Rattle.sctp_model.specs.Machine.{Direction, Event, fresh, live, run}
 use Rattle.sctp_model.specs.Safe.{IsSafe, IsWithin, letter_read}
-use Rattle.sctp_assoc.specs.Calls.{is_closed_state}
+use Rattle.sctp_assoc.specs.Calls.{buffered_of, is_closed_state, ready_messages}
 use Rattle.sctp_assoc.specs.Shown.{Shown}
 use Rattle.sctp_directions.specs.Incoming.{IsReadAs, letter_of}
 use Rattle.sctp_directions.specs.Outgoing.{message_on}
@@ -118,10 +117,8 @@ IsWithinLimits w = IsWithin w.ab × IsWithin w.ba
 pub record IsPromised (sender receiver : Shown) (w : Direction) : Type 0 where
   pub safe : (s : ℕ) → w.over s ≡ false → IsSafe w s
   pub opens : IsOpen receiver → w.receiver.is_open ≡ true
-  pub ready_is : IsOpen receiver → (s : ℕ) (t : Stream) → stream_at receiver.streams s ≡ Some t
-      → map letter_read (queue.ready (live (w.receiver.queues s))) ≡ map letter_of (ready t.reassembly)
-  pub released_is : IsOpen sender → (s : ℕ) (t : Stream) → stream_at sender.streams s ≡ Some t
-      → t.buffered + w.sender.released s ≡ accepted_bytes w.sender.plan s
+  pub ready_is : IsOpen receiver → (s : ℕ) → map letter_read (queue.ready (live (w.receiver.queues s))) ≡ map letter_of (ready_messages receiver s)
+  pub released_is : IsOpen sender → (s n : ℕ) → buffered_of sender s ≡ Ok n → n + w.sender.released s ≡ accepted_bytes w.sender.plan s
 
 pub record IsSafeWorld (w : World) : Type 0 where
   pub ab_safe : IsPromised w.ends.a w.ends.b w.ab

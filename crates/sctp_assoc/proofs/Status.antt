@@ -1,0 +1,330 @@
+-- Calls leave an association's status as it is: whether it failed, its state, whether it was lost, and its payload size.
+use Rattle.std.proofs.Common.{◌≡◌, refl, sym, ap, ◌∙◌, ℕ, zero, suc, ◌-◌, ◌^◌, Bool, true, false, ◌&&◌, if◌then◌else◌, not, eqb, ltb, List, [], ◌∷◌, length, Option, Some, None, is_some, Result, Ok, Err}
+use Rattle.std.specs.Prelude.{slice_get}
+use Rattle.sctp_wire_types.specs.declared.chunk.Chunk.{Chunk}
+use Rattle.sctp_wire_types.specs.declared.chunk.Chunk.TheVariants as chunks
+use Rattle.sctp_wire_types.specs.declared.chunk.ChunkPayloadData.{ChunkPayloadData}
+use Rattle.sctp_wire_types.specs.declared.error.Error.{Error}
+use Rattle.sctp_wire_types.specs.declared.error.Error.TheVariants as errors
+use Rattle.sctp_wire_types.specs.declared.packet.CommonHeader.{CommonHeader}
+use Rattle.sctp_wire_types.specs.Checks.{checked_chunk}
+use Rattle.sctp_parts.specs.declared.timer.Timer.TheVariants as names
+use Rattle.sctp_parts.specs.Timers.{expiry_of}
+use Rattle.sctp_parts.specs.Estimate.{Estimate}
+use Rattle.sctp_outbound_queue.specs.declared.message.InFlight.{InFlight}
+use Rattle.sctp_outbound_queue.specs.Waiting.{Waiting}
+use Rattle.sctp_outbound_queue.specs.Outbound.{pieces_waiting}
+use Rattle.sctp_queues.specs.declared.event.Event.{Event}
+use Rattle.sctp_queues.specs.Stream.{Stream}
+use Rattle.sctp_queues.specs.Streams.{StreamMap, bytes_waiting, generation_left, is_readable_in, pushed_in, refusal_in, stream_at}
+use Rattle.sctp_inbound.specs.declared.receiver.AckWish.{AckWish}
+use Rattle.sctp_inbound.specs.declared.handshake.Handshake.{Handshake}
+use Rattle.sctp_inbound.specs.declared.handshake.Offer.{Offer}
+use Rattle.sctp_inbound.specs.Handshake.{header_of}
+use Rattle.sctp_inbound.specs.Receiver.{credit_of, is_next_after, taken_to}
+use Rattle.sctp_outbound.specs.declared.sender.SackOutcome.{SackOutcome}
+use Rattle.sctp_outbound.specs.declared.sender.SackOutcome.TheVariants as outcomes
+use Rattle.sctp_outbound.specs.declared.sender.Sender.{Sender}
+use Rattle.sctp_outbound.specs.Sender.{acknowledged, after_first, after_resending, can_send_next, points_to, resent_by, sack_outcome, sender_after, sent_new, sent_one, sent_within, with_window}
+use Rattle.sctp_assoc.specs.Calls.{after_ack_delay, after_t3, event_from, event_polled, is_established, retransmits, t3_expired, written_at}
+use Rattle.sctp_assoc.specs.Chunks.{asks_or_faults, checked_first, counted_data, dispatched, on_counted_data, counted_sack, is_whole, on_chunk, on_counted_sack, on_data, on_next_data, on_sack, stream_found, taken_in, told}
+use Rattle.sctp_assoc.specs.Handshake.{after_t1_init, cookie_queued, init_queued, sends_cookie, sends_init, t1_cookie_expired, t1_init_expired}
+use Rattle.sctp_assoc.specs.Polled.{ack_after, ack_polled, after_both, control_packets, data_packets, data_polled, exchange_polled, is_due, with_sent_data, without_control}
+use Rattle.sctp_assoc.specs.Timeouts.{after_handshake_timers, after_timeouts}
+use Rattle.sctp_assoc.specs.Shapes.{IsQuiet, IsSameStatus, Leaves, OpenedStreamsKeepTheStatus, PollsKeepTheStatus, ReadsKeepTheStatus, TimersKeepTheStatus, ToldEventsKeepTheStatus, WritesKeepTheStatus}
+use Rattle.sctp_assoc.specs.Shown.{Shown}
+use Rattle.sctp_assoc.proofs.Polling.{both_first}
+
+status_same : (a : Shown) → IsSameStatus a a
+status_same a = record { failed = refl; state = refl; lost = refl; size = refl; quiet = λ q. q }
+
+-- its handshake and what waits to go out are as they were, too
+status_by : (a b : Shown) → b.failed ≡ a.failed → b.state ≡ a.state → b.lost ≡ a.lost → b.sender.max_payload_size ≡ a.sender.max_payload_size
+    → b.control ≡ a.control → b.handshake ≡ a.handshake → IsSameStatus a b
+status_by a b f s l z c h = record {
+  failed = f;
+  state = s;
+  lost = l;
+  size = z;
+  quiet = λ q. record { control = c ∙ q.control; offer = ap (λ (x : Handshake). x.offer) h ∙ q.offer; echo = ap (λ (x : Handshake). x.echo) h ∙ q.echo };
+}
+
+status_on : (a b c : Shown) → IsSameStatus a b → IsSameStatus b c → IsSameStatus a c
+status_on a b c x y = record { failed = y.failed ∙ x.failed; state = y.state ∙ x.state; lost = y.lost ∙ x.lost; size = y.size ∙ x.size; quiet = λ q. y.quiet (x.quiet q) }
+
+-- DATA
+
+found_status : (there left : Bool) (a : Shown) (id : ℕ) → is_some (stream_at a.streams id) ≡ there → generation_left a.streams ≡ left → IsSameStatus a (stream_found a id).0
+unfolding stream_found
+found_status true left a id e f = rw e (status_same a)
+found_status false true a id e f = rw (e, f) (status_by a _ refl refl refl refl refl refl)
+found_status false false a id e f = rw (e, f) (status_same a)
+
+told_if : (readable kept : Bool) (a : Shown) (id : ℕ) → is_readable_in a.streams id ≡ readable → IsSameStatus a (told a id kept)
+told_if true true a id e = rw e (status_by a _ refl refl refl refl refl refl)
+told_if false true a id e = rw e (status_by a _ refl refl refl refl refl refl)
+told_if readable false a id e = status_by a _ refl refl refl refl refl refl
+
+taken_status : (refusal : Option Error) (a : Shown) (piece : ChunkPayloadData) → refusal_in a.streams piece.stream_identifier piece (2 ^ 32 - 1) ≡ refusal → IsSameStatus a (taken_in a piece).0
+unfolding taken_in
+taken_status (Some fault) a piece e = rw e (status_same a)
+taken_status None a piece e =
+    let put = pushed_in a.streams piece.stream_identifier piece in
+    let b : Shown = record a { streams = put.0; receiver = taken_to a.receiver piece.tsn } in
+    rw e (status_on a b _ (status_by a b refl refl refl refl refl refl) (told_if (is_readable_in b.streams piece.stream_identifier) put.1 b piece.stream_identifier refl))
+
+asked_status : (x : Shown × Option Error) (piece : ChunkPayloadData) (wish : AckWish) → (asks_or_faults x piece wish).0 ≡ x.0
+asked_status (a, None) piece wish = refl
+asked_status (a, Some fault) piece wish = refl
+
+next_data_status : (there credit : Bool) (a : Shown) (piece : ChunkPayloadData) (wish : AckWish) → ltb 0 (credit_of a.receiver (bytes_waiting a.streams)) ≡ credit
+    → IsSameStatus a (on_next_data (a, there) piece wish).0
+next_data_status false credit a piece wish e = status_same a
+next_data_status true true a piece wish e =
+    rw (e, asked_status (taken_in a piece) piece wish) (taken_status (refusal_in a.streams piece.stream_identifier piece (2 ^ 32 - 1)) a piece refl)
+next_data_status true false a piece wish e = rw e (status_same a)
+
+found_next_status : (x : Shown × Bool) (a : Shown) (piece : ChunkPayloadData) (wish : AckWish) → IsSameStatus a x.0 → IsSameStatus a (on_next_data x piece wish).0
+found_next_status (b, there) a piece wish h = status_on a b _ h (next_data_status there (ltb 0 (credit_of b.receiver (bytes_waiting b.streams))) b piece wish refl)
+
+counted_data_status : (next : Bool) (a : Shown) (piece : ChunkPayloadData) (wish : AckWish) → (is_next_after a.receiver piece.tsn && is_whole piece) ≡ next
+    → IsSameStatus a (on_counted_data a piece wish).0
+counted_data_status true a piece wish e =
+    rw e (found_next_status (stream_found a piece.stream_identifier) a piece wish
+    (found_status (is_some (stream_at a.streams piece.stream_identifier)) (generation_left a.streams) a piece.stream_identifier refl refl))
+counted_data_status false a piece wish e = rw e (status_same a)
+
+data_status : (a : Shown) (piece : ChunkPayloadData) (wish : AckWish) → IsSameStatus a (on_data a piece wish).0
+unfolding on_data
+data_status a piece wish =
+    status_on a (counted_data a) _ (status_by a (counted_data a) refl refl refl refl refl refl)
+    (counted_data_status (is_next_after a.receiver piece.tsn && is_whole piece) (counted_data a) piece wish refl)
+
+-- SACK
+
+sender_after_size : (o : Option InFlight) (s : Sender) → (sender_after o s).max_payload_size ≡ s.max_payload_size
+sender_after_size None s = refl
+sender_after_size (Some p) s = refl
+
+acknowledged_size : (n now : ℕ) (s : Sender) (e : Estimate) (m : StreamMap) → (acknowledged n now (s, e, m)).0.max_payload_size ≡ s.max_payload_size
+unfolding after_first
+acknowledged_size zero now s e m = refl
+acknowledged_size (suc n) now s e m =
+    acknowledged_size n now (sender_after (slice_get s.queue.in_flight 0) s) _ _ ∙ sender_after_size (slice_get s.queue.in_flight 0) s
+
+outcome_status : (o : SackOutcome) (a : Shown) (point window : ℕ) (wish : AckWish) (now : ℕ) → IsSameStatus a (on_counted_sack o a point window wish now).0
+outcome_status outcomes.Older a point window wish now = status_same a
+outcome_status outcomes.NotInFlight a point window wish now = status_same a
+outcome_status outcomes.Taken a point window wish now =
+    status_by a _ refl refl refl (acknowledged_size (points_to a.sender point) now (with_window a.sender window) a.estimate a.streams) refl refl
+
+sack_status : (established : Bool) (a : Shown) (point window : ℕ) (wish : AckWish) (now : ℕ) → is_established a.state ≡ established
+    → IsSameStatus a (on_sack a point window wish now).0
+unfolding on_sack
+sack_status true a point window wish now e =
+    rw e (status_on a (counted_sack a) _ (status_by a (counted_sack a) refl refl refl refl refl refl)
+    (outcome_status (sack_outcome a.sender point) (counted_sack a) point window wish now))
+sack_status false a point window wish now e = rw e (status_same a)
+
+-- Any chunk that its own check accepts, or refuses
+
+kind_leaves : (header : CommonHeader) (c : Chunk) (a : Shown) (wish : AckWish) (now : ℕ) → Leaves c a (dispatched a header c wish now).0
+kind_leaves header (chunks.Data piece) a wish now = data_status a piece wish
+kind_leaves header (chunks.SelectiveAck k) a wish now = sack_status (is_established a.state) a k.cumulative_tsn_ack k.advertised_receiver_window_credit wish now refl
+kind_leaves header (chunks.Init x) a wish now = tt
+kind_leaves header (chunks.InitAck x) a wish now = tt
+kind_leaves header (chunks.Heartbeat x) a wish now = tt
+kind_leaves header (chunks.HeartbeatAck x) a wish now = tt
+kind_leaves header (chunks.Abort x) a wish now = tt
+kind_leaves header (chunks.Shutdown x) a wish now = tt
+kind_leaves header chunks.ShutdownAck a wish now = tt
+kind_leaves header (chunks.Error x) a wish now = tt
+kind_leaves header (chunks.CookieEcho x) a wish now = tt
+kind_leaves header chunks.CookieAck a wish now = tt
+kind_leaves header chunks.ShutdownComplete a wish now = tt
+kind_leaves header (chunks.Reconfig x) a wish now = tt
+kind_leaves header (chunks.ForwardTsn x) a wish now = tt
+kind_leaves header (chunks.IForwardTsn x) a wish now = tt
+kind_leaves header (chunks.Other kind flags value) a wish now = tt
+
+same_leaves : (c : Chunk) (a : Shown) → Leaves c a a
+same_leaves (chunks.Data piece) a = status_same a
+same_leaves (chunks.SelectiveAck k) a = status_same a
+same_leaves (chunks.Init x) a = tt
+same_leaves (chunks.InitAck x) a = tt
+same_leaves (chunks.Heartbeat x) a = tt
+same_leaves (chunks.HeartbeatAck x) a = tt
+same_leaves (chunks.Abort x) a = tt
+same_leaves (chunks.Shutdown x) a = tt
+same_leaves chunks.ShutdownAck a = tt
+same_leaves (chunks.Error x) a = tt
+same_leaves (chunks.CookieEcho x) a = tt
+same_leaves chunks.CookieAck a = tt
+same_leaves chunks.ShutdownComplete a = tt
+same_leaves (chunks.Reconfig x) a = tt
+same_leaves (chunks.ForwardTsn x) a = tt
+same_leaves (chunks.IForwardTsn x) a = tt
+same_leaves (chunks.Other kind flags value) a = tt
+
+checked_leaves : (r : Result (Unit {0}) Error) (header : CommonHeader) (c : Chunk) (a : Shown) (wish : AckWish) (now : ℕ) → Leaves c a (checked_first r a header c wish now).0
+checked_leaves (Err fault) header c a wish now = same_leaves c a
+checked_leaves (Ok done) header c a wish now = kind_leaves header c a wish now
+
+pub chunk_leaves : (header : CommonHeader) (c : Chunk) (a : Shown) (wish : AckWish) (now : ℕ) → Leaves c a (on_chunk a header c wish now).0
+unfolding on_chunk
+chunk_leaves header c a wish now = checked_leaves (checked_chunk c) header c a wish now
+
+-- A poll for packets
+
+sent_one_size : (ms : List Waiting) (s : Sender) (out : List ChunkPayloadData) (now : ℕ) → (sent_one ms s out now).0.max_payload_size ≡ s.max_payload_size
+unfolding sent_one
+sent_one_size [] s out now = refl
+sent_one_size (m ∷ ms) s out now = refl
+
+sent_within_if : (c : Bool) (x y : Sender × List ChunkPayloadData) (size : ℕ) → x.0.max_payload_size ≡ size → y.0.max_payload_size ≡ size
+    → (if c then x else y).0.max_payload_size ≡ size
+sent_within_if true x y size e f = e
+sent_within_if false x y size e f = f
+
+sent_within_size : (n : ℕ) (s : Sender) (out : List ChunkPayloadData) (now : ℕ) → (sent_within n s out now).0.max_payload_size ≡ s.max_payload_size
+sent_within_size zero s out now = refl
+sent_within_size (suc n) s out now =
+    let one = sent_one s.queue.pending s out now in
+    sent_within_if (can_send_next s) (sent_within n one.0 one.1 now) (s, out) s.max_payload_size
+    (sent_within_size n one.0 one.1 now ∙ sent_one_size s.queue.pending s out now) refl
+
+sent_new_size : (s : Sender) (out : List ChunkPayloadData) (now : ℕ) → (sent_new s out now).0.max_payload_size ≡ s.max_payload_size
+sent_new_size s out now =
+    sent_within_if (eqb (length s.queue.in_flight) 0 && not (can_send_next s)) (sent_one s.queue.pending s out now)
+    (sent_within (pieces_waiting s.queue.pending) s out now) s.max_payload_size (sent_one_size s.queue.pending s out now) (sent_within_size (pieces_waiting s.queue.pending) s out now)
+
+sent_data_status : (a : Shown) (count now : ℕ) (x : Sender × List ChunkPayloadData) → x.0.max_payload_size ≡ a.sender.max_payload_size
+    → IsSameStatus a (with_sent_data a count now x).0
+sent_data_status a count now (s, pieces) e = status_by a _ refl refl refl e refl refl
+
+data_polled_status : (a : Shown) (now : ℕ) → IsSameStatus a (data_polled a now).0
+unfolding data_polled
+data_polled_status a now =
+    sent_data_status a (length (resent_by a.sender)) now (sent_new (after_resending a.sender) (resent_by a.sender) now)
+    (sent_new_size (after_resending a.sender) (resent_by a.sender) now)
+
+ack_polled_status : (due : Bool) (a : Shown) → is_due a.receiver.ack_state ≡ due → IsSameStatus a (ack_polled a).0
+unfolding ack_polled
+ack_polled_status true a e = rw e (status_by a _ refl refl refl refl refl refl)
+ack_polled_status false a e = rw e (status_same a)
+
+ack_after_status : (x : Shown × List ChunkPayloadData) (a : Shown) → IsSameStatus a x.0 → IsSameStatus a (ack_after x).0
+ack_after_status (b, pieces) a h =
+    rw (both_first (data_packets (header_of b.handshake) pieces) (ack_polled b)) (status_on a b _ h (ack_polled_status (is_due b.receiver.ack_state) b refl))
+
+exchanged_if : (established : Bool) (a : Shown) (now : ℕ) → is_established a.state ≡ established → IsSameStatus a (exchange_polled a now).0
+unfolding exchange_polled
+exchanged_if true a now e = rw e (ack_after_status (data_polled a now) a (data_polled_status a now))
+exchanged_if false a now e = rw e (status_same a)
+
+without_status : (a : Shown) → IsSameStatus a (without_control a)
+without_status a = record {
+  failed = refl;
+  state = refl;
+  lost = refl;
+  size = refl;
+  quiet = λ q. record { control = refl; offer = q.offer; echo = q.echo };
+}
+
+pub polls_keep_the_status : PollsKeepTheStatus
+polls_keep_the_status a now =
+    let b : Shown = without_control a in
+    rw (both_first (control_packets a.control) (exchange_polled b now)) (status_on a b _ (without_status a) (exchanged_if (is_established b.state) b now refl))
+
+-- The other calls
+
+pub opened_streams_keep_the_status : OpenedStreamsKeepTheStatus
+opened_streams_keep_the_status a id kind = status_by a _ refl refl refl refl refl refl
+
+written_status : (o : Option Stream) (a : Shown) (id : ℕ) (bytes : List ℕ) → IsSameStatus a (written_at o a id bytes)
+written_status None a id bytes = status_same a
+written_status (Some t) a id bytes = status_by a _ refl refl refl refl refl refl
+
+pub writes_keep_the_status : WritesKeepTheStatus
+writes_keep_the_status a id bytes = written_status (stream_at a.streams id) a id bytes
+
+pub reads_keep_the_status : ReadsKeepTheStatus
+reads_keep_the_status a id = status_by a _ refl refl refl refl refl refl
+
+told_beside : (events : List Event) (a : Shown) → IsSameStatus a (event_from events a).0 × ((event_from events a).0.streams ≡ a.streams)
+told_beside [] a = (status_by a _ refl refl refl refl refl refl, refl)
+told_beside (e ∷ es) a = (status_by a _ refl refl refl refl refl refl, refl)
+
+pub told_events_keep_the_status : ToldEventsKeepTheStatus
+told_events_keep_the_status a b event e =
+    rw (sym (ap (λ (x : Shown × Option Event). x.0) e)) (told_beside a.events a)
+
+-- what timeouts leave: the status and the streams
+abbrev IsSameBeside : Shown → Shown → Type 0
+IsSameBeside a b = IsSameStatus a b × (b.streams ≡ a.streams)
+
+t3_beside : (expired failure : Bool) (a : Shown) (now : ℕ)
+    → IsSameBeside a (if expired then (if failure then t3_expired a now else retransmits (t3_expired a now) now) else a)
+t3_beside false failure a now = (status_same a, refl)
+t3_beside true true a now = (status_by a _ refl refl refl refl refl refl, refl)
+t3_beside true false a now = (status_by a _ refl refl refl refl refl refl, refl)
+
+ack_delay_beside : (expired : Bool) (a b : Shown) (now : ℕ) → (expiry_of names.Ack now b.timers).0 ≡ expired → IsSameBeside a b → IsSameBeside a (after_ack_delay b now)
+ack_delay_beside false a b now e h = rw e h
+ack_delay_beside true a b now e (h, streams) = rw e (status_on a b _ h (status_by b _ refl refl refl refl refl refl), streams)
+
+-- the timers of the handshake send nothing where it is quiet
+
+some_none : {X : Type 0} (x : X) → Some x ≡ None → ⊥
+some_none x e = cc
+
+init_queued_beside : (o : Option Offer) (a b : Shown) → IsSameBeside a b → (IsQuiet a → o ≡ None) → IsSameBeside a (init_queued o b)
+init_queued_beside None a b h none = h
+init_queued_beside (Some offer) a b (h, streams) none =
+    (record { failed = h.failed; state = h.state; lost = h.lost; size = h.size; quiet = λ q. absurd (some_none offer (none q)) }, streams)
+
+cookie_queued_beside : (o : Option (List ℕ)) (a b : Shown) → IsSameBeside a b → (IsQuiet a → o ≡ None) → IsSameBeside a (cookie_queued o b)
+cookie_queued_beside None a b h none = h
+cookie_queued_beside (Some cookie) a b (h, streams) none =
+    (record { failed = h.failed; state = h.state; lost = h.lost; size = h.size; quiet = λ q. absurd (some_none cookie (none q)) }, streams)
+
+offer_beside : (a b : Shown) (now : ℕ) → IsSameBeside a b → (IsQuiet a → b.handshake.offer ≡ None) → IsSameBeside a (sends_init b now)
+unfolding sends_init
+offer_beside a b now h none =
+    let c : Shown = init_queued b.handshake.offer b in
+    let queued = init_queued_beside b.handshake.offer a b h none in
+    (status_on a c _ queued.0 (status_by c _ refl refl refl refl refl refl), queued.1)
+
+echo_beside : (a b : Shown) (now : ℕ) → IsSameBeside a b → (IsQuiet a → b.handshake.echo ≡ None) → IsSameBeside a (sends_cookie b now)
+unfolding sends_cookie
+echo_beside a b now h none =
+    let c : Shown = cookie_queued b.handshake.echo b in
+    let queued = cookie_queued_beside b.handshake.echo a b h none in
+    (status_on a c _ queued.0 (status_by c _ refl refl refl refl refl refl), queued.1)
+
+t1_init_beside : (expired failure : Bool) (a : Shown) (now : ℕ)
+    → IsSameBeside a (if expired then (if failure then (let b = t1_init_expired a now in record b { handshake_fault = Some errors.ErrHandshakeInitAck }) else sends_init (t1_init_expired a now) now) else a)
+t1_init_beside false failure a now = (status_same a, refl)
+t1_init_beside true true a now = (status_by a _ refl refl refl refl refl refl, refl)
+t1_init_beside true false a now =
+    offer_beside a (t1_init_expired a now) now (status_by a (t1_init_expired a now) refl refl refl refl refl refl, refl) (λ q. q.offer)
+
+t1_cookie_beside : (expired failure : Bool) (a : Shown) (now : ℕ)
+    → IsSameBeside a (if expired then (if failure then (let b = t1_cookie_expired a now in record b { handshake_fault = Some errors.ErrHandshakeCookieEcho }) else sends_cookie (t1_cookie_expired a now) now) else a)
+t1_cookie_beside false failure a now = (status_same a, refl)
+t1_cookie_beside true true a now = (status_by a _ refl refl refl refl refl refl, refl)
+t1_cookie_beside true false a now =
+    echo_beside a (t1_cookie_expired a now) now (status_by a (t1_cookie_expired a now) refl refl refl refl refl refl, refl) (λ q. q.echo)
+
+beside_on : (a b c : Shown) → IsSameBeside a b → IsSameBeside b c → IsSameBeside a c
+beside_on a b c (h, s) (k, t) = (status_on a b c h k, t ∙ s)
+
+pub timers_keep_the_status : TimersKeepTheStatus
+timers_keep_the_status a now =
+    let b : Shown = after_t1_init a now in
+    let c : Shown = after_handshake_timers a now in
+    let d : Shown = after_t3 c now in
+    let first : IsSameBeside a b = t1_init_beside (expiry_of names.T1Init now a.timers).0 (expiry_of names.T1Init now a.timers).1 a now in
+    let second : IsSameBeside b c = t1_cookie_beside (expiry_of names.T1Cookie now b.timers).0 (expiry_of names.T1Cookie now b.timers).1 b now in
+    let third : IsSameBeside c d = t3_beside (expiry_of names.T3RTX now c.timers).0 (expiry_of names.T3RTX now c.timers).1 c now in
+    ack_delay_beside (expiry_of names.Ack now d.timers).0 a d now refl (beside_on a b d first (beside_on b c d second third))

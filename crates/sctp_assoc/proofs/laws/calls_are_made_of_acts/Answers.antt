@@ -1,0 +1,26 @@
+use Rattle.sctp_assoc.proofs.Proved.{data_is_taken, greetings_meet, other_chunks_do_nothing, polls_give_and_report, polls_outside_established_give_what_waits, polls_say_their_acts, sacks_acknowledge, timeouts_mark_at_most}
+use Rattle.sctp_assoc.proofs.laws.calls_are_made_of_acts.Goals as goal
+
+pub returns-clause-data : goal.returns-clause-data
+returns-clause-data c = data_is_taken
+
+pub returns-clause-sack : goal.returns-clause-sack
+returns-clause-sack c = sacks_acknowledge
+
+pub returns-clause-other : goal.returns-clause-other
+returns-clause-other c = other_chunks_do_nothing
+
+pub returns-clause-poll : goal.returns-clause-poll
+returns-clause-poll c = polls_give_and_report
+
+pub returns-clause-silent : goal.returns-clause-silent
+returns-clause-silent c = polls_outside_established_give_what_waits
+
+pub returns-clause-packets : goal.returns-clause-packets
+returns-clause-packets c = polls_say_their_acts
+
+pub returns-clause-timeouts : goal.returns-clause-timeouts
+returns-clause-timeouts c = timeouts_mark_at_most
+
+pub returns-clause-greeting : goal.returns-clause-greeting
+returns-clause-greeting c = greetings_meet

@@ -1,0 +1,20 @@
+use Rattle.sctp_directions.proofs.Proved.{only_beginnings_assign, only_writes_accept, senders_events_are_sent, senders_events_keep_the_invariant, senders_events_leave_what_comes, writes_are_accepted_last}
+use Rattle.sctp_directions.proofs.events_at_the_sender_leave_the_receiver.Goals as goal
+
+pub returns-clause-sent : goal.returns-clause-sent
+returns-clause-sent c = senders_events_are_sent
+
+pub returns-clause-accepted : goal.returns-clause-accepted
+returns-clause-accepted c = only_writes_accept
+
+pub returns-clause-last : goal.returns-clause-last
+returns-clause-last c = writes_are_accepted_last
+
+pub returns-clause-assigned : goal.returns-clause-assigned
+returns-clause-assigned c = only_beginnings_assign
+
+pub returns-clause-invariant : goal.returns-clause-invariant
+returns-clause-invariant c = senders_events_keep_the_invariant
+
+pub returns-clause-incoming : goal.returns-clause-incoming
+returns-clause-incoming c = senders_events_leave_what_comes

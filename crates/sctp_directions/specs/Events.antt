@@ -1,0 +1,80 @@
+-- What an event leaves as it was of the direction in which it happens.
+use Rattle.std.specs.Prelude.{◌≡◌, ℕ, ◌<◌, length, slice_get, Some, ⊤}
+use Rattle.sctp_model.specs.Packets.{Data, Sack}
+use Rattle.sctp_model.specs.Machine.{Direction, Event, point}
+use Rattle.sctp_directions.specs.Plain.{IsSimple}
+
+-- The direction v is w after an event of the sender: the DATA given out stays, and the receiver's side is the same.
+pub record IsSentOn (w v : Direction) : Type 0 where
+  pub datas : (k : ℕ) (d : Data) → slice_get w.datas k ≡ Some d → slice_get v.datas k ≡ Some d
+  pub sacks : v.sacks ≡ w.sacks
+  pub receiver : v.receiver ≡ w.receiver
+  pub reads : v.reads ≡ w.reads
+  pub over : v.over ≡ w.over
+  pub size : v.sender.plan.size ≡ w.sender.plan.size
+
+-- v is w but for its receiver, what was read and SACKs that were made since.
+pub record IsReceived (w v : Direction) : Type 0 where
+  pub sender : v.sender ≡ w.sender
+  pub over : v.over ≡ w.over
+  pub datas : v.datas ≡ w.datas
+  pub sacks : (k : ℕ) (x : Sack) → slice_get w.sacks k ≡ Some x → slice_get v.sacks k ≡ Some x
+
+-- Which events meet a direction between associations: at its sender that these are,
+abbrev pub IsAtSender : Event → Type 0
+IsAtSender (Event.Write s m) = ⊤
+IsAtSender (Event.Begin s i any) = ⊤
+IsAtSender (Event.Resend o) = ⊤
+IsAtSender (Event.SackComes k) = ⊤
+IsAtSender e = ⊥
+
+-- and at its receiver these.
+abbrev pub IsAtReceiver : Event → Type 0
+IsAtReceiver (Event.DataComes k) = ⊤
+IsAtReceiver Event.SackMade = ⊤
+IsAtReceiver (Event.Open s) = ⊤
+IsAtReceiver (Event.Read s) = ⊤
+IsAtReceiver Event.Close = ⊤
+IsAtReceiver e = ⊥
+
+-- an event of the sender accepts a message
+abbrev pub Accepts : Event → Type 0
+Accepts (Event.Write s m) = ⊤
+Accepts e = ⊥
+
+-- assigns an offset
+abbrev pub Assigns : Event → Type 0
+Assigns (Event.Begin s i any) = ⊤
+Assigns e = ⊥
+
+-- an event of the receiver may give a message to the reader
+abbrev pub GivesAMessage : Event → Type 0
+GivesAMessage (Event.Read s) = ⊤
+GivesAMessage e = ⊥
+
+-- this offset is that of the DATA that an event brings
+abbrev pub Brings : Direction → Event → ℕ → Type 0
+Brings w (Event.DataComes k) o = (d : Data) × (slice_get w.datas k ≡ Some d) × (o ≡ d.offset)
+Brings w e o = ⊥
+
+-- events after which the limits hold, where they held before
+abbrev pub KeepsWithin : Event → Type 0
+KeepsWithin (Event.SackComes k) = ⊤
+KeepsWithin (Event.DataComes k) = ⊤
+KeepsWithin Event.SackMade = ⊤
+KeepsWithin (Event.Open s) = ⊤
+KeepsWithin Event.Close = ⊤
+KeepsWithin e = ⊥
+
+-- events of a plain direction: a message in one piece is accepted, the next one begins, and DATA comes at the point
+abbrev pub IsPlainEvent : Direction → Event → Type 0
+IsPlainEvent w (Event.Write s m) = IsSimple w.sender.plan.size m
+IsPlainEvent w (Event.Begin s i any) = (i ≡ w.sender.next s) × (i < length (w.sender.plan.accepted s))
+IsPlainEvent w (Event.Resend o) = ⊤
+IsPlainEvent w (Event.SackComes k) = ⊤
+IsPlainEvent w (Event.DataComes k) = (d : Data) × (slice_get w.datas k ≡ Some d) × (d.offset ≡ point w.receiver)
+IsPlainEvent w Event.SackMade = ⊤
+IsPlainEvent w (Event.Open s) = ⊤
+IsPlainEvent w (Event.Read s) = ⊤
+IsPlainEvent w Event.Close = ⊤
+IsPlainEvent w e = ⊥

@@ -1,0 +1,238 @@
+-- What the chunks of a packet do to one association between its directions.
+use Rattle.std.proofs.Common.{◌≡◌, refl, sym, ap, ◌∙◌, subst, ◌⊎◌, inl, inr, ℕ, ◌+◌, true, List, [], ◌∷◌, ◌++◌, length, Option, Some}
+use Rattle.std.specs.Prelude.{⊤, slice_get}
+use Rattle.std.specs.List.{AllByRecursion}
+use Rattle.std.proofs.lemmas.List.{append_assoc}
+use Rattle.sctp_wire_types.specs.declared.chunk.Chunk.{Chunk}
+use Rattle.sctp_wire_types.specs.declared.chunk.Chunk.TheVariants as chunks
+use Rattle.sctp_wire_types.specs.declared.chunk.ChunkPayloadData.{ChunkPayloadData}
+use Rattle.sctp_wire_types.specs.declared.chunk.ChunkSelectiveAck.{ChunkSelectiveAck}
+use Rattle.sctp_wire.specs.declared.packet.Packet.{Packet}
+use Rattle.sctp_model.specs.Packets.{Data}
+use Rattle.sctp_model.specs.Serial.{tsn}
+use Rattle.sctp_model.specs.Machine.{Direction}
+use Rattle.sctp_model.specs.Safe.{IsWithin}
+use Rattle.sctp_assoc.specs.Acts.{Act, Binds, CanAll, History, done, done_all, parts, tsn_before}
+use Rattle.sctp_assoc.specs.Calls.{is_established}
+use Rattle.sctp_assoc.specs.Happened.{acts_of_chunk}
+use Rattle.sctp_assoc.specs.Shapes.{Acknowledges, IsSameStatus, IsTaking, OpensAndTakes, OpensOnly, TakesChunk, TakesOnly}
+use Rattle.sctp_assoc.specs.Shown.{Shown}
+use Rattle.sctp_assoc.proofs.Proved.{data_is_taken, sacks_acknowledge}
+use Rattle.sctp_directions.specs.Said.{IsGiven, IsMade, IsSaid, Says}
+use Rattle.sctp_directions.proofs.Proved.{sacks_mean_the_same}
+use Rattle.sctp_pair.specs.Fits.{StandsOpen}
+use Rattle.sctp_pair.specs.World.{HasData}
+use Rattle.sctp_pair.proofs.Between.{Goes, Holds, None_brought, goes_nowhere, goes_on}
+use Rattle.sctp_pair.proofs.Giving.{AfterOut, act_acknowledged}
+use Rattle.sctp_pair.proofs.Taking.{AfterComing, act_opened, act_took, coming_nowhere}
+
+-- Between two chunks of a packet: the association is open, and stands between directions to which the packet led so far.
+pub record Underway (own peer : ℕ) (y : Shown) (out coming : Direction) (B : ℕ → Type 0) (a : Shown) : Type 0 where
+  pub out2 : Direction
+  pub coming2 : Direction
+  pub goes_out : Goes None_brought out out2
+  pub goes_coming : Goes B coming coming2
+  pub within_out : IsWithin out2
+  pub within_coming : IsWithin coming2
+  pub places_same : out2.sender.plan.places ≡ out.sender.plan.places
+  pub coming_still : coming2.sender ≡ coming.sender
+  pub here : StandsOpen own peer a out2 coming2
+  pub holds : Holds own peer (parts a here.past) y out2 coming2
+
+-- the same association, or one that differs beside its directions, stands open where its parts hold
+unfoldable pub stands_by : (own peer : ℕ) (a b y : Shown) (k : History) (out coming out2 coming2 : Direction) → StandsOpen own peer a out coming → IsSameStatus a b → Binds b k
+    → out2.sender.plan.size ≡ out.sender.plan.size → Holds own peer (parts b k) y out2 coming2 → StandsOpen own peer b out2 coming2
+stands_by own peer a b y k out coming out2 coming2 s same binds size h = record {
+  past = k;
+  own_is = h.own_is;
+  peer_is = h.peer_is;
+  binds = binds;
+  working = same.failed ∙ s.working;
+  established = ap is_established same.state ∙ s.established;
+  present = same.lost ∙ s.present;
+  size = size ∙ s.size ∙ sym same.size;
+  outgoing = h.outgoing;
+  incoming = h.incoming;
+}
+
+-- DATA
+
+-- what acts of DATA make of the direction that comes
+abbrev Comes : ℕ → ℕ → Shown → History → Shown → Direction → Direction → (ℕ → Type 0) → List Act → Type 0
+Comes own peer a h y out coming B acts = AfterComing own peer (done_all acts (parts a h)) y out coming B
+
+data_opens : (own peer : ℕ) (a : Shown) (h : History) (piece : ChunkPayloadData) (y : Shown) (out coming : Direction) (B : ℕ → Type 0) (acts : List Act)
+    → OpensOnly a piece acts → IsWithin coming → Holds own peer (parts a h) y out coming → Comes own peer a h y out coming B acts
+data_opens own peer a h piece y out coming B acts o within holds =
+    subst (Comes own peer a h y out coming B) (sym o.are) (act_opened own peer piece.stream_identifier o.first o.kind (parts a h) y out coming B holds within o.none)
+
+data_takes : (own peer k : ℕ) (a : Shown) (h : History) (piece : ChunkPayloadData) (d : Data) (y : Shown) (out coming : Direction) (B : ℕ → Type 0) (acts : List Act)
+    → TakesOnly a piece acts → CanAll acts (parts a h) → slice_get coming.datas k ≡ Some d → IsSaid peer piece d → IsWithin coming → B d.offset
+    → Holds own peer (parts a h) y out coming → Comes own peer a h y out coming B acts
+data_takes own peer k a h piece d y out coming B acts t can e said within brought holds =
+    let one = subst (λ zs. CanAll zs (parts a h)) t.are can in
+    subst (Comes own peer a h y out coming B) (sym t.are) (act_took own peer k piece d t.stream (parts a h) y out coming B holds within one.0 e said t.live brought)
+
+data_opens_and_takes : (own peer k : ℕ) (a : Shown) (h : History) (piece : ChunkPayloadData) (d : Data) (y : Shown) (out coming : Direction) (B : ℕ → Type 0) (acts : List Act)
+    → OpensAndTakes a piece acts → CanAll acts (parts a h) → slice_get coming.datas k ≡ Some d → IsSaid peer piece d → IsWithin coming → B d.offset
+    → Holds own peer (parts a h) y out coming → Comes own peer a h y out coming B acts
+data_opens_and_takes own peer k a h piece d y out coming B acts t can e said within brought holds =
+    let one = act_opened own peer piece.stream_identifier t.first t.kind (parts a h) y out coming B holds within t.none in
+    let both = subst (λ zs. CanAll zs (parts a h)) t.are can in
+    let two = act_took own peer k piece d t.stream (done (Act.Opened piece.stream_identifier t.first t.kind) (parts a h)) y out one.coming2 B one.holds one.within both.1.0
+    (one.goes.datas k d e) said t.live brought in
+    subst (Comes own peer a h y out coming B) (sym t.are)
+    record { coming2 = two.coming2; goes = goes_on B coming one.coming2 two.coming2 one.goes two.goes; still = two.still ∙ one.still; within = two.within; holds = two.holds }
+
+take_shape : (own peer : ℕ) (a : Shown) (h : History) (piece : ChunkPayloadData) (y : Shown) (out coming : Direction) (B : ℕ → Type 0) (acts : List Act) → IsTaking a piece acts
+    → CanAll acts (parts a h) → IsGiven peer coming piece → IsWithin coming → ((o : ℕ) → piece.tsn ≡ tsn peer o → B o) → Holds own peer (parts a h) y out coming
+    → Comes own peer a h y out coming B acts
+take_shape own peer a h piece y out coming B acts (inl n) can given within brings holds =
+    subst (Comes own peer a h y out coming B) (sym n) (coming_nowhere own peer (parts a h) y out coming B within holds)
+take_shape own peer a h piece y out coming B acts (inr (inl o)) can given within brings holds = data_opens own peer a h piece y out coming B acts o within holds
+take_shape own peer a h piece y out coming B acts (inr (inr (inl t))) can (k, d, e, said) within brings holds =
+    data_opens_and_takes own peer k a h piece d y out coming B acts t can e said within (brings d.offset said.tsn) holds
+take_shape own peer a h piece y out coming B acts (inr (inr (inr t))) can (k, d, e, said) within brings holds =
+    data_takes own peer k a h piece d y out coming B acts t can e said within (brings d.offset said.tsn) holds
+
+data_step : (own peer : ℕ) (y : Shown) (out coming : Direction) (B : ℕ → Type 0) (piece : ChunkPayloadData) (a b : Shown) → TakesChunk (chunks.Data piece) a b
+    → IsGiven peer coming piece → ((o : ℕ) → piece.tsn ≡ tsn peer o → B o) → Underway own peer y out coming B a → Underway own peer y out coming B b
+unfolding stands_by
+data_step own peer y out coming B piece a b takes (k, d, e, said) brings u =
+    let leads = takes.leads u.here.past u.here.binds in
+    let after = take_shape own peer a u.here.past piece y u.out2 u.coming2 B (acts_of_chunk a (chunks.Data piece)) (data_is_taken a piece) leads.1.can
+    (k, d, u.goes_coming.datas k d e, said) u.within_coming brings u.holds in
+    let holds : Holds own peer (parts b leads.0) y u.out2 after.coming2 =
+    subst (λ p. Holds own peer p y u.out2 after.coming2) (sym leads.1.there) after.holds in
+    record {
+      out2 = u.out2;
+      coming2 = after.coming2;
+      goes_out = u.goes_out;
+      goes_coming = goes_on B coming u.coming2 after.coming2 u.goes_coming after.goes;
+      within_out = u.within_out;
+      within_coming = after.within;
+      places_same = u.places_same;
+      coming_still = after.still ∙ u.coming_still;
+      here = stands_by own peer a b y leads.0 u.out2 u.coming2 u.out2 after.coming2 u.here takes.leaves leads.1.binds refl holds;
+      holds = holds;
+    }
+
+-- SACK
+
+-- what acts of a SACK make of its own direction: no offset is assigned
+abbrev Goes_out : ℕ → ℕ → Shown → History → Shown → Direction → Direction → List Act → Type 0
+Goes_out own peer a h y out coming acts =
+    (after : AfterOut own peer (done_all acts (parts a h)) y out coming []) × IsWithin after.out2 × (after.out2.sender.plan.places ≡ out.sender.plan.places)
+
+sack_shape : (own peer t : ℕ) (a : Shown) (h : History) (y : Shown) (out coming : Direction) (acts : List Act) → (acts ≡ []) ⊎ Acknowledges a h t acts
+    → IsMade own out t → IsWithin out → Holds own peer (parts a h) y out coming → Goes_out own peer a h y out coming acts
+sack_shape own peer t a h y out coming acts (inl n) made within holds =
+    subst (Goes_out own peer a h y out coming) (sym n) (record { out2 = out; goes = goes_nowhere None_brought out; holds = holds; said = tt }, within, refl)
+sack_shape own peer t a h y out coming acts (inr s) (k, x, e, is) within holds =
+    let named : t ≡ tsn_before (tsn h.own x.point) = is ∙ ap (λ i. tsn_before (tsn i x.point)) (sym holds.own_is) in
+    let at : x.point ≡ out.sender.point + s.count =
+    sacks_mean_the_same (parts a h) s.count t k x out e named s.at s.within within holds.invariant_out holds.plain_out holds.outgoing in
+    let one = act_acknowledged own peer s.count k x (parts a h) y out coming holds e at s.within in
+    subst (Goes_out own peer a h y out coming) (sym s.are) (one.0, one.1 within, one.2)
+
+sack_step : (own peer : ℕ) (y : Shown) (out coming : Direction) (B : ℕ → Type 0) (s : ChunkSelectiveAck) (a b : Shown) → TakesChunk (chunks.SelectiveAck s) a b
+    → IsMade own out s.cumulative_tsn_ack → Underway own peer y out coming B a → Underway own peer y out coming B b
+unfolding stands_by
+sack_step own peer y out coming B s a b takes (k, x, e, is) u =
+    let leads = takes.leads u.here.past u.here.binds in
+    let both = sack_shape own peer s.cumulative_tsn_ack a u.here.past y u.out2 u.coming2 (acts_of_chunk a (chunks.SelectiveAck s))
+    (sacks_acknowledge a u.here.past s u.here.binds) (k, x, u.goes_out.sacks k x e, is) u.within_out u.holds in
+    let after = both.0 in
+    let holds : Holds own peer (parts b leads.0) y after.out2 u.coming2 =
+    subst (λ p. Holds own peer p y after.out2 u.coming2) (sym leads.1.there) after.holds in
+    record {
+      out2 = after.out2;
+      coming2 = u.coming2;
+      goes_out = goes_on None_brought out u.out2 after.out2 u.goes_out after.goes;
+      goes_coming = u.goes_coming;
+      within_out = both.1;
+      within_coming = u.within_coming;
+      places_same = both.2 ∙ u.places_same;
+      coming_still = u.coming_still;
+      here = stands_by own peer a b y leads.0 u.out2 u.coming2 after.out2 u.coming2 u.here takes.leaves leads.1.binds after.goes.size holds;
+      holds = holds;
+    }
+
+-- Any chunk that the other side gave out, and that stands in the packet.
+
+abbrev IsIn : Option Packet → Chunk → Type 0
+IsIn packet (chunks.Data piece) = HasData packet piece.tsn
+IsIn packet chunk = ⊤
+
+abbrev pub SaidIn : ℕ → ℕ → Direction → Direction → Option Packet → Chunk → Type 0
+SaidIn own peer out coming packet c = Says peer own coming out c × IsIn packet c
+
+-- it is DATA or a SACK
+pub said_cases : (own peer : ℕ) (out coming : Direction) (packet : Option Packet) (P : Chunk → Type 0)
+    → ((piece : ChunkPayloadData) → IsGiven peer coming piece → HasData packet piece.tsn → P (chunks.Data piece))
+    → ((s : ChunkSelectiveAck) → IsMade own out s.cumulative_tsn_ack → P (chunks.SelectiveAck s)) → (c : Chunk) → SaidIn own peer out coming packet c → P c
+said_cases own peer out coming packet P gives acks (chunks.Data piece) (said, here) = gives piece said here
+said_cases own peer out coming packet P gives acks (chunks.SelectiveAck s) (said, here) = acks s said
+said_cases own peer out coming packet P gives acks (chunks.Init x) (said, here) = absurd said
+said_cases own peer out coming packet P gives acks (chunks.InitAck x) (said, here) = absurd said
+said_cases own peer out coming packet P gives acks (chunks.Heartbeat x) (said, here) = absurd said
+said_cases own peer out coming packet P gives acks (chunks.HeartbeatAck x) (said, here) = absurd said
+said_cases own peer out coming packet P gives acks (chunks.Abort x) (said, here) = absurd said
+said_cases own peer out coming packet P gives acks (chunks.Shutdown x) (said, here) = absurd said
+said_cases own peer out coming packet P gives acks chunks.ShutdownAck (said, here) = absurd said
+said_cases own peer out coming packet P gives acks (chunks.Error x) (said, here) = absurd said
+said_cases own peer out coming packet P gives acks (chunks.CookieEcho x) (said, here) = absurd said
+said_cases own peer out coming packet P gives acks chunks.CookieAck (said, here) = absurd said
+said_cases own peer out coming packet P gives acks chunks.ShutdownComplete (said, here) = absurd said
+said_cases own peer out coming packet P gives acks (chunks.Reconfig x) (said, here) = absurd said
+said_cases own peer out coming packet P gives acks (chunks.ForwardTsn x) (said, here) = absurd said
+said_cases own peer out coming packet P gives acks (chunks.IForwardTsn x) (said, here) = absurd said
+said_cases own peer out coming packet P gives acks (chunks.Other kind flags value) (said, here) = absurd said
+
+pub chunk_step : (own peer : ℕ) (y : Shown) (out coming : Direction) (packet : Option Packet) (c : Chunk) (a b : Shown) → SaidIn own peer out coming packet c
+    → TakesChunk c a b → Underway own peer y out coming (λ o. HasData packet (tsn peer o)) a → Underway own peer y out coming (λ o. HasData packet (tsn peer o)) b
+chunk_step own peer y out coming packet c a b said takes u =
+    said_cases own peer out coming packet (λ (x : Chunk). TakesChunk x a b → Underway own peer y out coming (λ o. HasData packet (tsn peer o)) b)
+    (λ piece given here takes. data_step own peer y out coming (λ o. HasData packet (tsn peer o)) piece a b takes given (λ o e. subst (HasData packet) e here) u)
+    (λ s made takes. sack_step own peer y out coming (λ o. HasData packet (tsn peer o)) s a b takes made u)
+    c said takes
+
+-- an association that failed stays so
+pub failed_chunk : (own peer : ℕ) (out coming : Direction) (packet : Option Packet) (c : Chunk) (a b : Shown) → SaidIn own peer out coming packet c
+    → TakesChunk c a b → a.failed ≡ true → b.failed ≡ true
+failed_chunk own peer out coming packet c a b said takes f =
+    said_cases own peer out coming packet (λ (x : Chunk). TakesChunk x a b → b.failed ≡ true)
+    (λ piece given here takes. takes.leaves.failed ∙ f) (λ s made takes. takes.leaves.failed ∙ f) c said takes
+
+-- The chunks of a packet
+
+got_at : {X : Type 0} (xs ys : List X) (x : X) → slice_get (xs ++ x ∷ ys) (length xs) ≡ Some x
+got_at [] ys x = refl
+got_at (z ∷ xs) ys x = got_at xs ys x
+
+is_in : (packet : Packet) (c : Chunk) (k : ℕ) → slice_get packet.chunks k ≡ Some c → IsIn (Some packet) c
+is_in packet (chunks.Data piece) k e = (k, piece, e, refl)
+is_in packet (chunks.SelectiveAck x) k e = tt
+is_in packet (chunks.Init x) k e = tt
+is_in packet (chunks.InitAck x) k e = tt
+is_in packet (chunks.Heartbeat x) k e = tt
+is_in packet (chunks.HeartbeatAck x) k e = tt
+is_in packet (chunks.Abort x) k e = tt
+is_in packet (chunks.Shutdown x) k e = tt
+is_in packet chunks.ShutdownAck k e = tt
+is_in packet (chunks.Error x) k e = tt
+is_in packet (chunks.CookieEcho x) k e = tt
+is_in packet chunks.CookieAck k e = tt
+is_in packet chunks.ShutdownComplete k e = tt
+is_in packet (chunks.Reconfig x) k e = tt
+is_in packet (chunks.ForwardTsn x) k e = tt
+is_in packet (chunks.IForwardTsn x) k e = tt
+is_in packet (chunks.Other kind flags value) k e = tt
+
+pub all_said_in : (own peer : ℕ) (out coming : Direction) (packet : Packet) (front cs : List Chunk) → packet.chunks ≡ front ++ cs
+    → AllByRecursion (Says peer own coming out) cs → AllByRecursion (SaidIn own peer out coming (Some packet)) cs
+all_said_in own peer out coming packet front [] e h = tt
+all_said_in own peer out coming packet front (c ∷ cs) e (h, hs) = (
+  (h, is_in packet c (length front) (ap (λ z. slice_get z (length front)) e ∙ got_at front cs c)),
+  all_said_in own peer out coming packet (front ++ c ∷ []) cs (e ∙ sym (append_assoc front (c ∷ []) cs)) hs,
+)
