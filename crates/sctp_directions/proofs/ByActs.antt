@@ -27,6 +27,7 @@ use Rattle.sctp_directions.proofs.OutgoingKept.{flight_length}
 use Rattle.sctp_directions.proofs.OutgoingSent.{got_last}
 
 pub own_acts_leave_what_comes : OwnActsLeaveWhatComes
+own_acts_leave_what_comes (Act.Met t) a w its_own fits = absurd its_own
 own_acts_leave_what_comes (Act.Opened id first kind) a w own fits = absurd own
 own_acts_leave_what_comes (Act.Wrote id bytes) a w own fits = wrote_fits a id bytes w fits
 own_acts_leave_what_comes (Act.Sent now) a w own fits = sent_fits a now w fits
@@ -39,6 +40,7 @@ own_acts_leave_what_comes (Act.WasRead id) a w own fits = absurd own
 own_acts_leave_what_comes Act.Ended a w own fits = absurd own
 
 pub what_comes_leaves_its_own : WhatComesLeavesItsOwn
+what_comes_leaves_its_own (Act.Met t) a w coming fits = absurd coming
 what_comes_leaves_its_own (Act.Opened id first kind) a w coming fits = absurd coming
 what_comes_leaves_its_own (Act.Wrote id bytes) a w coming fits = absurd coming
 what_comes_leaves_its_own (Act.Sent now) a w coming fits = absurd coming
@@ -51,10 +53,10 @@ what_comes_leaves_its_own (Act.WasRead id) a w coming fits = was_read a id w fit
 what_comes_leaves_its_own Act.Ended a w coming fits = absurd coming
 
 pub acts_keep_the_initial_tsns : ActsKeepTheInitialTsns
-acts_keep_the_initial_tsns [] a = (refl, refl)
-acts_keep_the_initial_tsns (x ∷ xs) a =
-    let rest = acts_keep_the_initial_tsns xs (done x a) in
-    let first = same_initials x a in
+acts_keep_the_initial_tsns [] a nobody = (refl, refl)
+acts_keep_the_initial_tsns (x ∷ xs) a (nobody, others) =
+    let rest = acts_keep_the_initial_tsns xs (done x a) others in
+    let first = same_initials x a nobody in
     (rest.0 ∙ first.0, rest.1 ∙ first.1)
 
 pub opened_streams_are_alike : OpenedStreamsAreAlike

@@ -9,6 +9,7 @@ use Rattle.sctp_queues.specs.Stream.{Stream, fresh_stream, read_with, stream_pus
 use Rattle.sctp_queues.specs.Streams.{StreamMap, is_generation, made, pushed_at, read_at, stream_at, with_stream}
 use Rattle.sctp_model.specs.Machine.{Direction}
 use Rattle.sctp_assoc.specs.Acts.{Act, History, Parts, done, with_taken, with_written, without_first_piece, without_first_pieces}
+use Rattle.sctp_directions.specs.Laws.{MeetsNobody}
 use Rattle.sctp_directions.specs.Outgoing.{FitsOutgoing, IsOwn, IsOwnAt}
 use Rattle.sctp_directions.proofs.OutgoingKept.{KeepsLive, bytes_in, each_with, fits_streams, live_with}
 use Rattle.sctp_assoc.proofs.Proved.{at_made}
@@ -110,15 +111,16 @@ written_initials : (o : Option Stream) (a : Parts) (id : ℕ) (bytes : List ℕ)
 written_initials None a id bytes = (refl, refl)
 written_initials (Some t) a id bytes = (refl, refl)
 
--- No act changes the initial TSNs of an association's directions.
-pub same_initials : (x : Act) (a : Parts) → ((done x a).history.own ≡ a.history.own) × ((done x a).history.peer ≡ a.history.peer)
-same_initials (Act.Opened id first kind) a = (refl, refl)
-same_initials (Act.Wrote id bytes) a = written_initials (stream_at a.streams id) a id bytes
-same_initials (Act.Sent now) a = (refl, refl)
-same_initials (Act.SentAgain place) a = (refl, refl)
-same_initials Act.Marked a = (refl, refl)
-same_initials (Act.Acknowledged n) a = pieces_initials n a
-same_initials (Act.Took piece) a = (refl, refl)
-same_initials Act.Reported a = (refl, refl)
-same_initials (Act.WasRead id) a = (refl, refl)
-same_initials Act.Ended a = (refl, refl)
+-- No act but a meeting changes the initial TSNs of an association's directions.
+pub same_initials : (x : Act) (a : Parts) → MeetsNobody x → ((done x a).history.own ≡ a.history.own) × ((done x a).history.peer ≡ a.history.peer)
+same_initials (Act.Met t) a nobody = absurd nobody
+same_initials (Act.Opened id first kind) a nobody = (refl, refl)
+same_initials (Act.Wrote id bytes) a nobody = written_initials (stream_at a.streams id) a id bytes
+same_initials (Act.Sent now) a nobody = (refl, refl)
+same_initials (Act.SentAgain place) a nobody = (refl, refl)
+same_initials Act.Marked a nobody = (refl, refl)
+same_initials (Act.Acknowledged n) a nobody = pieces_initials n a
+same_initials (Act.Took piece) a nobody = (refl, refl)
+same_initials Act.Reported a nobody = (refl, refl)
+same_initials (Act.WasRead id) a nobody = (refl, refl)
+same_initials Act.Ended a nobody = (refl, refl)

@@ -82,7 +82,12 @@ IsOfWhatComes Act.Reported = ⊤
 IsOfWhatComes (Act.WasRead id) = ⊤
 IsOfWhatComes act = ⊥
 
--- Acts of its own leave it as a receiver, and acts of what comes leave it as a sender; none changes the initial TSNs.
+-- it isn't that the peer's initial TSN became known
+abbrev pub MeetsNobody : Act → Type 0
+MeetsNobody (Act.Met t) = ⊥
+MeetsNobody act = ⊤
+
+-- Acts of its own leave it as a receiver, and acts of what comes leave it as a sender; none of them changes the initial TSNs.
 abbrev pub OwnActsLeaveWhatComes : Type 0
 OwnActsLeaveWhatComes = (act : Act) (a : Parts) (w : Direction) → IsOfItsOwn act → FitsIncoming a w → FitsIncoming (done act a) w
 
@@ -90,7 +95,7 @@ abbrev pub WhatComesLeavesItsOwn : Type 0
 WhatComesLeavesItsOwn = (act : Act) (a : Parts) (w : Direction) → IsOfWhatComes act → FitsOutgoing a w → FitsOutgoing (done act a) w
 
 abbrev pub ActsKeepTheInitialTsns : Type 0
-ActsKeepTheInitialTsns = (acts : List Act) (a : Parts)
+ActsKeepTheInitialTsns = (acts : List Act) (a : Parts) → AllByRecursion MeetsNobody acts
     → ((done_all acts a).history.own ≡ a.history.own) × ((done_all acts a).history.peer ≡ a.history.peer)
 
 -- A stream that is made is opened at the direction's receiver, and begins anew at its sender.

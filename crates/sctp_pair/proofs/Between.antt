@@ -126,13 +126,14 @@ other_by_out peer own y coming out out2 fits same h =
       working = s.working;
       established = s.established;
       present = s.present;
+      quiet = s.quiet;
       size = s.size;
       outgoing = s.outgoing;
       incoming = fits (parts y s.past) s.incoming;
     })
     (λ (r : StandsClosed y out ⊎ StandsFailed y out).
     ⊎_elim
-    (λ (s : StandsClosed y out). inr (inl record { closed = s.closed; unestablished = s.unestablished; lost = s.lost; stopped = same ∙ s.stopped; nothing_left = s.nothing_left }))
+    (λ (s : StandsClosed y out). inr (inl record { closed = s.closed; unestablished = s.unestablished; lost = s.lost; stopped = same ∙ s.stopped; nothing_left = s.nothing_left; quiet = s.quiet }))
     (λ (s : StandsFailed y out). inr (inr record { failed = s.failed; stopped = same ∙ s.stopped }))
     r)
     h
@@ -150,6 +151,7 @@ other_by_coming peer own y coming coming2 out same h =
       working = s.working;
       established = s.established;
       present = s.present;
+      quiet = s.quiet;
       size = ap (λ (x : Sender). x.plan.size) same ∙ s.size;
       outgoing = outgoing_same (parts y s.past) coming coming2 same s.outgoing;
       incoming = s.incoming;

@@ -7,6 +7,7 @@ use Rattle.sctp_wire_types.specs.declared.chunk.Chunk.{Chunk}
 use Rattle.sctp_wire_types.specs.declared.chunk.Chunk.TheVariants as chunks
 use Rattle.sctp_wire_types.specs.declared.chunk.ChunkPayloadData.{ChunkPayloadData}
 use Rattle.sctp_wire_types.specs.declared.chunk.ChunkSelectiveAck.{ChunkSelectiveAck}
+use Rattle.sctp_wire_types.specs.declared.packet.CommonHeader.{CommonHeader}
 use Rattle.sctp_wire.specs.declared.packet.Packet.{Packet}
 use Rattle.sctp_model.specs.Packets.{Data}
 use Rattle.sctp_model.specs.Serial.{tsn}
@@ -50,6 +51,7 @@ stands_by own peer a b y k out coming out2 coming2 s same binds size h = record 
   working = same.failed ∙ s.working;
   established = ap is_established same.state ∙ s.established;
   present = same.lost ∙ s.present;
+  quiet = same.quiet s.quiet;
   size = size ∙ s.size ∙ sym same.size;
   outgoing = h.outgoing;
   incoming = h.incoming;
@@ -95,12 +97,12 @@ take_shape own peer a h piece y out coming B acts (inr (inr (inl t))) can (k, d,
 take_shape own peer a h piece y out coming B acts (inr (inr (inr t))) can (k, d, e, said) within brings holds =
     data_takes own peer k a h piece d y out coming B acts t can e said within (brings d.offset said.tsn) holds
 
-data_step : (own peer : ℕ) (y : Shown) (out coming : Direction) (B : ℕ → Type 0) (piece : ChunkPayloadData) (a b : Shown) → TakesChunk (chunks.Data piece) a b
+data_step : (own peer : ℕ) (y : Shown) (out coming : Direction) (B : ℕ → Type 0) (header : CommonHeader) (piece : ChunkPayloadData) (a b : Shown) → TakesChunk header (chunks.Data piece) a b
     → IsGiven peer coming piece → ((o : ℕ) → piece.tsn ≡ tsn peer o → B o) → Underway own peer y out coming B a → Underway own peer y out coming B b
 unfolding stands_by
-data_step own peer y out coming B piece a b takes (k, d, e, said) brings u =
+data_step own peer y out coming B header piece a b takes (k, d, e, said) brings u =
     let leads = takes.leads u.here.past u.here.binds in
-    let after = take_shape own peer a u.here.past piece y u.out2 u.coming2 B (acts_of_chunk a (chunks.Data piece)) (data_is_taken a piece) leads.1.can
+    let after = take_shape own peer a u.here.past piece y u.out2 u.coming2 B (acts_of_chunk a header (chunks.Data piece)) (data_is_taken a header piece) leads.1.can
     (k, d, u.goes_coming.datas k d e, said) u.within_coming brings u.holds in
     let holds : Holds own peer (parts b leads.0) y u.out2 after.coming2 =
     subst (λ p. Holds own peer p y u.out2 after.coming2) (sym leads.1.there) after.holds in
@@ -135,13 +137,13 @@ sack_shape own peer t a h y out coming acts (inr s) (k, x, e, is) within holds =
     let one = act_acknowledged own peer s.count k x (parts a h) y out coming holds e at s.within in
     subst (Goes_out own peer a h y out coming) (sym s.are) (one.0, one.1 within, one.2)
 
-sack_step : (own peer : ℕ) (y : Shown) (out coming : Direction) (B : ℕ → Type 0) (s : ChunkSelectiveAck) (a b : Shown) → TakesChunk (chunks.SelectiveAck s) a b
+sack_step : (own peer : ℕ) (y : Shown) (out coming : Direction) (B : ℕ → Type 0) (header : CommonHeader) (s : ChunkSelectiveAck) (a b : Shown) → TakesChunk header (chunks.SelectiveAck s) a b
     → IsMade own out s.cumulative_tsn_ack → Underway own peer y out coming B a → Underway own peer y out coming B b
 unfolding stands_by
-sack_step own peer y out coming B s a b takes (k, x, e, is) u =
+sack_step own peer y out coming B header s a b takes (k, x, e, is) u =
     let leads = takes.leads u.here.past u.here.binds in
-    let both = sack_shape own peer s.cumulative_tsn_ack a u.here.past y u.out2 u.coming2 (acts_of_chunk a (chunks.SelectiveAck s))
-    (sacks_acknowledge a u.here.past s u.here.binds) (k, x, u.goes_out.sacks k x e, is) u.within_out u.holds in
+    let both = sack_shape own peer s.cumulative_tsn_ack a u.here.past y u.out2 u.coming2 (acts_of_chunk a header (chunks.SelectiveAck s))
+    (sacks_acknowledge a u.here.past header s u.here.binds) (k, x, u.goes_out.sacks k x e, is) u.within_out u.holds in
     let after = both.0 in
     let holds : Holds own peer (parts b leads.0) y after.out2 u.coming2 =
     subst (λ p. Holds own peer p y after.out2 u.coming2) (sym leads.1.there) after.holds in
@@ -189,19 +191,19 @@ said_cases own peer out coming packet P gives acks (chunks.ForwardTsn x) (said, 
 said_cases own peer out coming packet P gives acks (chunks.IForwardTsn x) (said, here) = absurd said
 said_cases own peer out coming packet P gives acks (chunks.Other kind flags value) (said, here) = absurd said
 
-pub chunk_step : (own peer : ℕ) (y : Shown) (out coming : Direction) (packet : Option Packet) (c : Chunk) (a b : Shown) → SaidIn own peer out coming packet c
-    → TakesChunk c a b → Underway own peer y out coming (λ o. HasData packet (tsn peer o)) a → Underway own peer y out coming (λ o. HasData packet (tsn peer o)) b
-chunk_step own peer y out coming packet c a b said takes u =
-    said_cases own peer out coming packet (λ (x : Chunk). TakesChunk x a b → Underway own peer y out coming (λ o. HasData packet (tsn peer o)) b)
-    (λ piece given here takes. data_step own peer y out coming (λ o. HasData packet (tsn peer o)) piece a b takes given (λ o e. subst (HasData packet) e here) u)
-    (λ s made takes. sack_step own peer y out coming (λ o. HasData packet (tsn peer o)) s a b takes made u)
+pub chunk_step : (own peer : ℕ) (y : Shown) (out coming : Direction) (packet : Option Packet) (header : CommonHeader) (c : Chunk) (a b : Shown) → SaidIn own peer out coming packet c
+    → TakesChunk header c a b → Underway own peer y out coming (λ o. HasData packet (tsn peer o)) a → Underway own peer y out coming (λ o. HasData packet (tsn peer o)) b
+chunk_step own peer y out coming packet header c a b said takes u =
+    said_cases own peer out coming packet (λ (x : Chunk). TakesChunk header x a b → Underway own peer y out coming (λ o. HasData packet (tsn peer o)) b)
+    (λ piece given here takes. data_step own peer y out coming (λ o. HasData packet (tsn peer o)) header piece a b takes given (λ o e. subst (HasData packet) e here) u)
+    (λ s made takes. sack_step own peer y out coming (λ o. HasData packet (tsn peer o)) header s a b takes made u)
     c said takes
 
 -- an association that failed stays so
-pub failed_chunk : (own peer : ℕ) (out coming : Direction) (packet : Option Packet) (c : Chunk) (a b : Shown) → SaidIn own peer out coming packet c
-    → TakesChunk c a b → a.failed ≡ true → b.failed ≡ true
-failed_chunk own peer out coming packet c a b said takes f =
-    said_cases own peer out coming packet (λ (x : Chunk). TakesChunk x a b → b.failed ≡ true)
+pub failed_chunk : (own peer : ℕ) (out coming : Direction) (packet : Option Packet) (header : CommonHeader) (c : Chunk) (a b : Shown) → SaidIn own peer out coming packet c
+    → TakesChunk header c a b → a.failed ≡ true → b.failed ≡ true
+failed_chunk own peer out coming packet header c a b said takes f =
+    said_cases own peer out coming packet (λ (x : Chunk). TakesChunk header x a b → b.failed ≡ true)
     (λ piece given here takes. takes.leaves.failed ∙ f) (λ s made takes. takes.leaves.failed ∙ f) c said takes
 
 -- The chunks of a packet

@@ -11,7 +11,7 @@ use Rattle.sctp_assoc.specs.Acts.{Act, Can, CanAll, Parts, all_data_given, data_
 use Rattle.sctp_assoc.specs.Shapes.{GivesData}
 use Rattle.sctp_assoc.specs.Shown.{Shown}
 use Rattle.sctp_directions.specs.Events.{Accepts, IsAtSender}
-use Rattle.sctp_directions.specs.Laws.{IsOfItsOwn}
+use Rattle.sctp_directions.specs.Laws.{MeetsNobody, IsOfItsOwn}
 use Rattle.sctp_directions.specs.Outgoing.{FitsOutgoing}
 use Rattle.sctp_directions.specs.Plain.{IsPlain}
 use Rattle.sctp_directions.specs.Said.{IsGiven}
@@ -27,14 +27,14 @@ pub record AfterOut (own peer : ℕ) (p : Parts) (y : Shown) (out coming : Direc
 
 -- an act of its own is an event at the sender that is no write
 act_at_sender : (own peer : ℕ) (act : Act) (e : Event) (given : List ChunkPayloadData) (p : Parts) (y : Shown) (out coming : Direction) → Holds own peer p y out coming
-    → IsOfItsOwn act → IsAtSender e → (Accepts e → ⊥) → IsPlain (happens out e) → FitsOutgoing (done act p) (happens out e)
+    → IsOfItsOwn act → MeetsNobody act → IsAtSender e → (Accepts e → ⊥) → IsPlain (happens out e) → FitsOutgoing (done act p) (happens out e)
     → AllByRecursion (IsGiven own (happens out e)) given → AfterOut own peer (done act p) y out coming given
-act_at_sender own peer act e given p y out coming h its_own at none plain fits said = record {
+act_at_sender own peer act e given p y out coming h its_own nobody at none plain fits said = record {
   out2 = happens out e;
   goes = goes_by_sender None_brought out e at none;
   holds = record {
-    own_is = (acts_keep_the_initial_tsns (act ∷ []) p).0 ∙ h.own_is;
-    peer_is = (acts_keep_the_initial_tsns (act ∷ []) p).1 ∙ h.peer_is;
+    own_is = (acts_keep_the_initial_tsns (act ∷ []) p (nobody, tt)).0 ∙ h.own_is;
+    peer_is = (acts_keep_the_initial_tsns (act ∷ []) p (nobody, tt)).1 ∙ h.peer_is;
     invariant_out = senders_events_keep_the_invariant out e at h.invariant_out;
     invariant_coming = h.invariant_coming;
     plain_out = plain;
@@ -52,7 +52,7 @@ act_sent : (own peer now : ℕ) (p : Parts) (y : Shown) (out coming : Direction)
 act_sent own peer now p y out coming h can =
     let begun = sent_pieces_begin p now out can h.invariant_out h.plain_out h.outgoing in
     let e : Event = Event.Begin begun.0 (out.sender.next begun.0) 0 in
-    act_at_sender own peer (Act.Sent now) e (data_given (Act.Sent now) p) p y out coming h tt tt (λ n. n) begun.1.plain begun.1.fits
+    act_at_sender own peer (Act.Sent now) e (data_given (Act.Sent now) p) p y out coming h tt tt tt (λ n. n) begun.1.plain begun.1.fits
     (subst (λ o. AllByRecursion (IsGiven o (happens out e)) (data_given (Act.Sent now) p)) h.own_is begun.1.given)
 
 act_sent_again : (own peer place : ℕ) (p : Parts) (y : Shown) (out coming : Direction) → Holds own peer p y out coming → Can (Act.SentAgain place) p
@@ -60,7 +60,7 @@ act_sent_again : (own peer place : ℕ) (p : Parts) (y : Shown) (out coming : Di
 act_sent_again own peer place p y out coming h can =
     let resent = pieces_given p place out can h.plain_out h.outgoing in
     let e : Event = Event.Resend (out.sender.point + place) in
-    act_at_sender own peer (Act.SentAgain place) e (data_given (Act.SentAgain place) p) p y out coming h tt tt (λ n. n)
+    act_at_sender own peer (Act.SentAgain place) e (data_given (Act.SentAgain place) p) p y out coming h tt tt tt (λ n. n)
     (plain_events_keep_it_plain out e tt h.plain_out) resent.0
     (subst (λ o. AllByRecursion (IsGiven o (happens out e)) (data_given (Act.SentAgain place) p)) h.own_is resent.1)
 
@@ -71,7 +71,7 @@ pub act_acknowledged : (own peer n k : ℕ) (x : Sack) (p : Parts) (y : Shown) (
     × (after.out2.sender.plan.places ≡ out.sender.plan.places)
 unfolding act_at_sender
 act_acknowledged own peer n k x p y out coming h e at can = (
-  act_at_sender own peer (Act.Acknowledged n) (Event.SackComes k) [] p y out coming h tt tt (λ n. n)
+  act_at_sender own peer (Act.Acknowledged n) (Event.SackComes k) [] p y out coming h tt tt tt (λ n. n)
       (plain_events_keep_it_plain out (Event.SackComes k) tt h.plain_out)
       (acknowledgements_are_alike p n k x out e at can h.invariant_out h.plain_out h.outgoing) tt,
   λ within. events_keep_the_limits out (Event.SackComes k) tt within,
@@ -83,6 +83,7 @@ given_grows own w v ds g h = all_weaker (IsGiven own w) (IsGiven own v) ds (λ c
 
 one_given : (own peer : ℕ) (x : Act) (p : Parts) (y : Shown) (out coming : Direction) → GivesData x → Can x p → Holds own peer p y out coming
     → AfterOut own peer (done x p) y out coming (data_given x p)
+one_given own peer (Act.Met t) p y out coming g can h = absurd g
 one_given own peer (Act.Sent now) p y out coming g can h = act_sent own peer now p y out coming h can
 one_given own peer (Act.SentAgain place) p y out coming g can h = act_sent_again own peer place p y out coming h can
 one_given own peer (Act.Opened id first kind) p y out coming g can h = absurd g

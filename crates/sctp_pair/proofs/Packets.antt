@@ -88,6 +88,7 @@ close_step own peer y out coming B a b closes u =
         lost = ended.lost;
         stopped = closed_receivers_are_not_open u.coming2;
         nothing_left = ended.holds_nothing;
+        quiet = closes.quiet u.here.quiet;
       });
       other = other_by_coming peer own y u.coming2 coming3 u.out2 received.sender u.holds.other;
       no_more = inr u.places_same;
@@ -129,7 +130,7 @@ open_packet own peer now a y None out coming present said u =
 open_packet own peer now a y (Some packet) out coming present said u =
     let B : ℕ → Type 0 = λ o. HasData (Some packet) (tsn peer o) in
     packets_carry (Underway own peer y out coming B) (λ b. Settles own peer b y out coming nothing_added nothing_read B) (SaidIn own peer out coming (Some packet))
-    (λ c x z s takes v. chunk_step own peer y out coming (Some packet) c x z s takes v)
+    (λ header c x z s takes v. chunk_step own peer y out coming (Some packet) header c x z s takes v)
     (λ x z ends v. end_step own peer y out coming B x z ends v)
     (λ x z closes v. close_step own peer y out coming B x z closes v)
     packet a now present (all_said_in own peer out coming packet [] packet.chunks refl said) u
@@ -140,7 +141,7 @@ failed_packet : (own peer now : ℕ) (a : Shown) (packet : Option Packet) (out c
 failed_packet own peer now a None out coming present said f = ap (λ (z : Shown). z.failed) (no_packet_changes_nothing a now) ∙ f
 failed_packet own peer now a (Some packet) out coming present said f =
     packets_carry (λ (b : Shown). b.failed ≡ true) (λ (b : Shown). b.failed ≡ true) (SaidIn own peer out coming (Some packet))
-    (λ c x z s takes v. failed_chunk own peer out coming (Some packet) c x z s takes v)
+    (λ header c x z s takes v. failed_chunk own peer out coming (Some packet) header c x z s takes v)
     (λ x z ends v. ends.same.failed ∙ v)
     (λ x z closes v. closes.failed ∙ v)
     packet a now present (all_said_in own peer out coming packet [] packet.chunks refl said) f

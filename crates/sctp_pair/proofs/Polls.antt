@@ -1,5 +1,6 @@
 -- A poll of one association for packets.
 use Rattle.std.proofs.Common.{◌≡◌, refl, sym, ap, ◌∙◌, subst, ◌⊎◌, ⊎_elim, ℕ, Bool, true, false, if◌then◌else◌, List, [], ◌∷◌, ◌++◌, take, drop, inl, inr, Option, Some, None}
+use Rattle.std.specs.Prelude.{slice_get}
 use Rattle.std.specs.List.{AllByRecursion}
 use Rattle.std.proofs.lemmas.Bool.{false≢true}
 use Rattle.std.proofs.lemmas.List.{append-nil, take-append-drop}
@@ -13,10 +14,10 @@ use Rattle.sctp_model.proofs.Lists.{all_front, all_get, all_weaker}
 use Rattle.sctp_assoc.specs.Acts.{Act, CanAll, History, Parts, all_data_given, done_all, parts, tsn_before}
 use Rattle.sctp_assoc.specs.Calls.{is_established}
 use Rattle.sctp_assoc.specs.Happened.{Polls, PollsOn, acts_of_poll}
-use Rattle.sctp_assoc.specs.Polled.{polled}
-use Rattle.sctp_assoc.specs.Shapes.{IsGivenBy, IsPolling, IsSameStatus, OfEachChunk, reports}
+use Rattle.sctp_assoc.specs.Polled.{control_packets, polled, without_control}
+use Rattle.sctp_assoc.specs.Shapes.{IsExchanged, IsGivenBy, IsPolling, IsSameStatus, OfEachChunk, WaitPlainly, reports}
 use Rattle.sctp_assoc.specs.Shown.{Shown}
-use Rattle.sctp_assoc.proofs.Proved.{done_append, given_append, polls_give_and_report, polls_keep_the_status, polls_outside_established_do_nothing, polls_say_their_acts}
+use Rattle.sctp_assoc.proofs.Proved.{done_append, given_append, polls_give_and_report, polls_keep_the_status, polls_outside_established_give_what_waits, polls_say_their_acts}
 use Rattle.sctp_directions.specs.Said.{IsGiven, IsMade, Says, SaysAll}
 use Rattle.sctp_pair.specs.declared.step.Reply.{Reply}
 use Rattle.sctp_pair.specs.declared.step.Reply.TheVariants as replies
@@ -33,32 +34,40 @@ can_front (x ∷ xs) ys p (c, cs) = (c, can_front xs ys _ cs)
 
 -- What a poll with these acts gives is what its directions have.
 
-chunk_said : (own peer : ℕ) (acts : List Act) (a : Shown) (h : History) (out coming : Direction) → AllByRecursion (IsGiven own out) (all_data_given acts (parts a h))
-    → (reports a ≡ true → IsMade peer coming (tsn_before (tsn h.peer h.point))) → (c : Chunk) → IsGivenBy acts a h c → Says own peer out coming c
-chunk_said own peer acts a h out coming given made (chunks.Data piece) (k, e) = all_get (IsGiven own out) (all_data_given acts (parts a h)) k piece e given
-chunk_said own peer acts a h out coming given made (chunks.SelectiveAck sack) (due, at) = subst (IsMade peer coming) (sym at) (made due)
-chunk_said own peer acts a h out coming given made (chunks.Init x) n = absurd n
-chunk_said own peer acts a h out coming given made (chunks.InitAck x) n = absurd n
-chunk_said own peer acts a h out coming given made (chunks.Heartbeat x) n = absurd n
-chunk_said own peer acts a h out coming given made (chunks.HeartbeatAck x) n = absurd n
-chunk_said own peer acts a h out coming given made (chunks.Abort x) n = absurd n
-chunk_said own peer acts a h out coming given made (chunks.Shutdown x) n = absurd n
-chunk_said own peer acts a h out coming given made chunks.ShutdownAck n = absurd n
-chunk_said own peer acts a h out coming given made (chunks.Error x) n = absurd n
-chunk_said own peer acts a h out coming given made (chunks.CookieEcho x) n = absurd n
-chunk_said own peer acts a h out coming given made chunks.CookieAck n = absurd n
-chunk_said own peer acts a h out coming given made chunks.ShutdownComplete n = absurd n
-chunk_said own peer acts a h out coming given made (chunks.Reconfig x) n = absurd n
-chunk_said own peer acts a h out coming given made (chunks.ForwardTsn x) n = absurd n
-chunk_said own peer acts a h out coming given made (chunks.IForwardTsn x) n = absurd n
-chunk_said own peer acts a h out coming given made (chunks.Other kind flags value) n = absurd n
+exchanged_said : (own peer : ℕ) (acts : List Act) (a : Shown) (h : History) (out coming : Direction) → AllByRecursion (IsGiven own out) (all_data_given acts (parts a h))
+    → (reports a ≡ true → IsMade peer coming (tsn_before (tsn h.peer h.point))) → (c : Chunk) → IsExchanged acts a h c → Says own peer out coming c
+exchanged_said own peer acts a h out coming given made (chunks.Data piece) (k, e) = all_get (IsGiven own out) (all_data_given acts (parts a h)) k piece e given
+exchanged_said own peer acts a h out coming given made (chunks.SelectiveAck sack) (due, at) = subst (IsMade peer coming) (sym at) (made due)
+exchanged_said own peer acts a h out coming given made (chunks.Init x) n = absurd n
+exchanged_said own peer acts a h out coming given made (chunks.InitAck x) n = absurd n
+exchanged_said own peer acts a h out coming given made (chunks.Heartbeat x) n = absurd n
+exchanged_said own peer acts a h out coming given made (chunks.HeartbeatAck x) n = absurd n
+exchanged_said own peer acts a h out coming given made (chunks.Abort x) n = absurd n
+exchanged_said own peer acts a h out coming given made (chunks.Shutdown x) n = absurd n
+exchanged_said own peer acts a h out coming given made chunks.ShutdownAck n = absurd n
+exchanged_said own peer acts a h out coming given made (chunks.Error x) n = absurd n
+exchanged_said own peer acts a h out coming given made (chunks.CookieEcho x) n = absurd n
+exchanged_said own peer acts a h out coming given made chunks.CookieAck n = absurd n
+exchanged_said own peer acts a h out coming given made chunks.ShutdownComplete n = absurd n
+exchanged_said own peer acts a h out coming given made (chunks.Reconfig x) n = absurd n
+exchanged_said own peer acts a h out coming given made (chunks.ForwardTsn x) n = absurd n
+exchanged_said own peer acts a h out coming given made (chunks.IForwardTsn x) n = absurd n
+exchanged_said own peer acts a h out coming given made (chunks.Other kind flags value) n = absurd n
 
-packet_said : (own peer : ℕ) (acts : List Act) (a : Shown) (h : History) (out coming : Direction) → AllByRecursion (IsGiven own out) (all_data_given acts (parts a h))
+nothing_there : {X : Type 0} (k : ℕ) (x : X) → slice_get [] k ≡ Some x → ⊥
+nothing_there k x e = cc
+
+chunk_said : (own peer : ℕ) (acts : List Act) (a : Shown) (h : History) (out coming : Direction) → a.control ≡ [] → AllByRecursion (IsGiven own out) (all_data_given acts (parts a h))
+    → (reports a ≡ true → IsMade peer coming (tsn_before (tsn h.peer h.point))) → (c : Chunk) → IsGivenBy acts a h c → Says own peer out coming c
+chunk_said own peer acts a h out coming none given made c (inl (k, w, e, is)) = absurd (nothing_there k w (subst (λ z. slice_get z k ≡ Some w) none e))
+chunk_said own peer acts a h out coming none given made c (inr e) = exchanged_said own peer acts a h out coming given made c e
+
+packet_said : (own peer : ℕ) (acts : List Act) (a : Shown) (h : History) (out coming : Direction) → a.control ≡ [] → AllByRecursion (IsGiven own out) (all_data_given acts (parts a h))
     → (reports a ≡ true → IsMade peer coming (tsn_before (tsn h.peer h.point))) → (packet : Option Packet) → OfEachChunk (IsGivenBy acts a h) packet
     → SaysAll own peer out coming packet
-packet_said own peer acts a h out coming given made None said = tt
-packet_said own peer acts a h out coming given made (Some packet) said =
-    all_weaker (IsGivenBy acts a h) (Says own peer out coming) packet.chunks (chunk_said own peer acts a h out coming given made) said
+packet_said own peer acts a h out coming none given made None said = tt
+packet_said own peer acts a h out coming none given made (Some packet) said =
+    all_weaker (IsGivenBy acts a h) (Says own peer out coming) packet.chunks (chunk_said own peer acts a h out coming none given made) said
 
 -- The report of a poll.
 
@@ -74,6 +83,20 @@ report_does_nothing false p = refl
 report_silent : (due : Bool) (p : Parts) → all_data_given (if due then Act.Reported ∷ [] else []) p ≡ []
 report_silent true p = refl
 report_silent false p = refl
+
+-- where nothing waits to go out, that is plain, nothing is given, and nothing changes
+
+waits_plainly : (a : Shown) → a.control ≡ [] → WaitPlainly a
+waits_plainly a none = subst (λ z. WaitPlainly (record a { control = z })) (sym none) tt
+
+abbrev after_waiting : Shown → Shown × List (List ℕ)
+after_waiting a = (without_control a, control_packets a.control)
+
+abbrev unchanged : Shown → Shown × List (List ℕ)
+unchanged a = (a, [])
+
+nothing_waits : (a : Shown) → a.control ≡ [] → after_waiting a ≡ unchanged a
+nothing_waits a none = subst (λ z. after_waiting (record a { control = z }) ≡ unchanged (record a { control = z })) (sym none) refl
 
 -- An open association polls: what it gives out is what its directions have then.
 pub record Polled (own peer : ℕ) (a b y : Shown) (out coming : Direction) (packets : List (List ℕ)) : Type 0 where
@@ -118,6 +141,7 @@ open_polls own peer acts a b y packets out coming f s same polling poll =
       working = same.failed ∙ s.working;
       established = ap is_established same.state ∙ s.established;
       present = same.lost ∙ s.present;
+      quiet = same.quiet s.quiet;
       size = given.goes.size ∙ s.size ∙ sym same.size;
       outgoing = holds.outgoing;
       incoming = holds.incoming;
@@ -139,9 +163,9 @@ open_polls own peer acts a b y packets out coming f s same polling poll =
       };
       said = all_weaker (λ (bytes : List ℕ). OfEachChunk (IsGivenBy acts a h) (packet_in bytes)) (λ (bytes : List ℕ). SaysAll own peer given.out2 report.0.coming2 (packet_in bytes))
           packets
-          (λ bytes all. packet_said own peer acts a h given.out2 report.0.coming2 (subst (λ z. AllByRecursion (IsGiven own given.out2) z) (sym data_is) given.said)
+          (λ bytes all. packet_said own peer acts a h given.out2 report.0.coming2 s.quiet.control (subst (λ z. AllByRecursion (IsGiven own given.out2) z) (sym data_is) given.said)
           (λ due. subst (IsMade peer report.0.coming2) at (report.1 due)) (packet_in bytes) all)
-          (polls_say_their_acts acts a b h packets s.established s.binds poll);
+          (polls_say_their_acts acts a b h packets (waits_plainly a s.quiet.control) s.established s.binds poll);
     }
 
 none_said : (own peer : ℕ) (out coming : Direction) (packets : List (List ℕ)) → packets ≡ [] → AreSaid own peer out coming packets
@@ -158,7 +182,7 @@ any_polls own peer now a b y packets out coming working e polls f =
     (λ (r : StandsClosed a coming ⊎ StandsFailed a coming).
     ⊎_elim
     (λ (s : StandsClosed a coming).
-    let silent = sym e ∙ polls_outside_established_do_nothing a now s.unestablished in
+    let silent = sym e ∙ polls_outside_established_give_what_waits a now s.unestablished ∙ nothing_waits a s.quiet.control in
     let settles = same_settles own peer a b y out coming (ap (λ (z : Shown × List (List ℕ)). z.0) silent) f in
     record { settles = settles; said = none_said own peer settles.out2 settles.coming2 packets (ap (λ (z : Shown × List (List ℕ)). z.1) silent) })
     (λ (s : StandsFailed a coming). absurd (false≢true (sym working ∙ s.failed)))

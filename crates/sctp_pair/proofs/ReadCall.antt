@@ -75,7 +75,7 @@ read_open own peer a b y out coming id message live e f s =
       invariant_coming = each_event_keeps_the_invariant coming (Event.Read id) f.within_coming f.invariant_coming;
       plain_out = f.plain_out;
       plain_coming = plain_events_keep_it_plain coming (Event.Read id) tt f.plain_coming;
-      stands = inl (open_on own peer a b out coming out coming2 (Act.WasRead id ∷ []) m.0 s m.1 same refl
+      stands = inl (open_on own peer a b out coming out coming2 (Act.WasRead id ∷ []) m.0 s (tt, tt) m.1 same refl
           (what_comes_leaves_its_own (Act.WasRead id) (parts a s.past) out tt s.outgoing) fits.0);
       other = other_by_coming peer own y coming coming2 out received.sender f.other;
       no_more = inr refl;

@@ -1,6 +1,7 @@
 -- Each simple call of an association that faces another one leads to directions between which both of them stand.
 use Rattle.std.proofs.Common.{◌≡◌, refl, sym, ap, ◌∙◌, subst, ◌⊎◌, ⊎_elim, inl, inr, ℕ, true, false, List, [], ◌∷◌, None}
 use Rattle.std.proofs.lemmas.Bool.{true≢false}
+use Rattle.std.specs.List.{AllByRecursion}
 use Rattle.sctp_wire_types.specs.declared.ids.PayloadProtocolIdentifier.{PayloadProtocolIdentifier}
 use Rattle.sctp_model.specs.Machine.{Direction, Event, happens}
 use Rattle.sctp_model.proofs.Proved.{each_event_keeps_the_invariant}
@@ -12,6 +13,7 @@ use Rattle.sctp_assoc.proofs.Proved.{open_leads_on, opened_streams_hold_nothing,
 use Rattle.sctp_directions.specs.Events.{Brings, GivesAMessage, IsAtReceiver, IsPlainEvent}
 use Rattle.sctp_directions.specs.Outgoing.{FitsOutgoing}
 use Rattle.sctp_directions.specs.Incoming.{FitsIncoming}
+use Rattle.sctp_directions.specs.Laws.{MeetsNobody}
 use Rattle.sctp_directions.proofs.Proved.{acts_keep_the_initial_tsns, closed_receivers_are_not_open, opened_streams_are_alike, plain_events_keep_it_plain, receivers_events_are_received}
 use Rattle.sctp_pair.specs.declared.step.Reply.{Reply}
 use Rattle.sctp_pair.specs.declared.step.Reply.TheVariants as replies
@@ -132,16 +134,17 @@ fails_settle own peer a b y out coming failed f =
 
 -- An open association whose status stays stands open where acts lead, between directions that fit what they did.
 pub open_on : (own peer : ℕ) (a b : Shown) (out coming out2 coming2 : Direction) (xs : List Act) (k : History) (s : StandsOpen own peer a out coming)
-    → Leads xs a s.past b k → IsSameStatus a b → out2.sender.plan.size ≡ out.sender.plan.size → FitsOutgoing (done_all xs (parts a s.past)) out2
+    → AllByRecursion MeetsNobody xs → Leads xs a s.past b k → IsSameStatus a b → out2.sender.plan.size ≡ out.sender.plan.size → FitsOutgoing (done_all xs (parts a s.past)) out2
     → FitsIncoming (done_all xs (parts a s.past)) coming2 → StandsOpen own peer b out2 coming2
-open_on own peer a b out coming out2 coming2 xs k s m status size outgoing incoming = record {
+open_on own peer a b out coming out2 coming2 xs k s nobody m status size outgoing incoming = record {
   past = k;
-  own_is = ap (λ (p : Parts). p.history.own) m.there ∙ (acts_keep_the_initial_tsns xs (parts a s.past)).0 ∙ s.own_is;
-  peer_is = ap (λ (p : Parts). p.history.peer) m.there ∙ (acts_keep_the_initial_tsns xs (parts a s.past)).1 ∙ s.peer_is;
+  own_is = ap (λ (p : Parts). p.history.own) m.there ∙ (acts_keep_the_initial_tsns xs (parts a s.past) nobody).0 ∙ s.own_is;
+  peer_is = ap (λ (p : Parts). p.history.peer) m.there ∙ (acts_keep_the_initial_tsns xs (parts a s.past) nobody).1 ∙ s.peer_is;
   binds = m.binds;
   working = status.failed ∙ s.working;
   established = ap is_established status.state ∙ s.established;
   present = status.lost ∙ s.present;
+  quiet = status.quiet s.quiet;
   size = size ∙ s.size ∙ sym status.size;
   outgoing = subst (λ (p : Parts). FitsOutgoing p out2) (sym m.there) outgoing;
   incoming = subst (λ (p : Parts). FitsIncoming p coming2) (sym m.there) incoming;
@@ -157,6 +160,7 @@ closed_on a b coming status empty s = record {
   lost = status.lost ∙ s.lost;
   stopped = s.stopped;
   nothing_left = empty;
+  quiet = status.quiet s.quiet;
 }
 
 -- a failed association does nothing that one that works does
@@ -180,7 +184,7 @@ opened_open own peer a y out coming id kind none f s =
     let m = open_leads_on a (opened a id kind) id kind refl s.past s.binds in
     let fits = opened_streams_are_alike (parts a s.past) id first kind out coming none s.outgoing s.incoming in
     settles_by_receiver own peer a (opened a id kind) y out coming (Event.Open id) f tt (λ n. n) (λ o n. n) tt
-    (inl (open_on own peer a (opened a id kind) out coming out (happens coming (Event.Open id)) (Act.Opened id first kind ∷ []) m.0 s m.1
+    (inl (open_on own peer a (opened a id kind) out coming out (happens coming (Event.Open id)) (Act.Opened id first kind ∷ []) m.0 s (tt, tt) m.1
     (opened_streams_keep_the_status a id kind) refl fits.0 fits.1))
 
 opened_settles : (own peer : ℕ) (a y : Shown) (out coming : Direction) (id : ℕ) (kind : PayloadProtocolIdentifier) → open_refusal a id ≡ None

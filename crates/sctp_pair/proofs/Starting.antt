@@ -27,6 +27,7 @@ joined_stands config size other remote own peer binds = record {
   working = refl;
   established = refl;
   present = refl;
+  quiet = record { control = refl; offer = refl; echo = refl };
   size = refl;
   outgoing = record { base = refl; flight = refl; waiting = λ s. refl; own_streams = λ s. (refl, refl) };
   incoming = record { is_open = refl; taken = refl; passed = refl; at = refl; queues = λ s. (refl, refl) };

@@ -16,6 +16,7 @@ use Rattle.sctp_directions.specs.Events.{Brings, GivesAMessage, IsAtReceiver, Is
 use Rattle.sctp_directions.specs.Incoming.{FitsIncoming}
 use Rattle.sctp_directions.specs.Outgoing.{FitsOutgoing}
 use Rattle.sctp_directions.specs.Said.{IsMade, IsSaid}
+use Rattle.sctp_directions.specs.Laws.{MeetsNobody}
 use Rattle.sctp_directions.proofs.Proved.{acts_keep_the_initial_tsns, events_keep_the_limits, opened_streams_are_alike, plain_events_keep_it_plain, receivers_events_are_received, reports_name_the_point, what_comes_leaves_its_own, what_is_taken_in_comes}
 use Rattle.sctp_pair.proofs.Between.{Goes, Holds, goes_by_receiver, goes_nowhere, other_by_coming}
 
@@ -33,9 +34,9 @@ coming_nowhere own peer p y out coming B within h = record { coming2 = coming; g
 
 -- an act is an event at the receiver that is no read
 act_at_receiver : (own peer : ℕ) (act : Act) (e : Event) (p : Parts) (y : Shown) (out coming : Direction) (B : ℕ → Type 0) → Holds own peer p y out coming
-    → IsWithin coming → IsAtReceiver e → (GivesAMessage e → ⊥) → KeepsWithin e → IsPlainEvent coming e → ((o : ℕ) → Brings coming e o → B o)
+    → MeetsNobody act → IsWithin coming → IsAtReceiver e → (GivesAMessage e → ⊥) → KeepsWithin e → IsPlainEvent coming e → ((o : ℕ) → Brings coming e o → B o)
     → FitsOutgoing (done act p) out → FitsIncoming (done act p) (happens coming e) → AfterComing own peer (done act p) y out coming B
-act_at_receiver own peer act e p y out coming B h within at none keeps plain brings outgoing incoming =
+act_at_receiver own peer act e p y out coming B h nobody within at none keeps plain brings outgoing incoming =
     let received = receivers_events_are_received coming e at in
     record {
       coming2 = happens coming e;
@@ -43,8 +44,8 @@ act_at_receiver own peer act e p y out coming B h within at none keeps plain bri
       still = received.sender;
       within = events_keep_the_limits coming e keeps within;
       holds = record {
-        own_is = (acts_keep_the_initial_tsns (act ∷ []) p).0 ∙ h.own_is;
-        peer_is = (acts_keep_the_initial_tsns (act ∷ []) p).1 ∙ h.peer_is;
+        own_is = (acts_keep_the_initial_tsns (act ∷ []) p (nobody, tt)).0 ∙ h.own_is;
+        peer_is = (acts_keep_the_initial_tsns (act ∷ []) p (nobody, tt)).1 ∙ h.peer_is;
         invariant_out = h.invariant_out;
         invariant_coming = each_event_keeps_the_invariant coming e within h.invariant_coming;
         plain_out = h.plain_out;
@@ -59,14 +60,14 @@ pub act_opened : (own peer id first : ℕ) (kind : PayloadProtocolIdentifier) (p
     → Holds own peer p y out coming → IsWithin coming → stream_at p.streams id ≡ None → AfterComing own peer (done (Act.Opened id first kind) p) y out coming B
 act_opened own peer id first kind p y out coming B h within none =
     let fits = opened_streams_are_alike p id first kind out coming none h.outgoing h.incoming in
-    act_at_receiver own peer (Act.Opened id first kind) (Event.Open id) p y out coming B h within tt (λ n. n) tt tt (λ o n. absurd n) fits.0 fits.1
+    act_at_receiver own peer (Act.Opened id first kind) (Event.Open id) p y out coming B h tt within tt (λ n. n) tt tt (λ o n. absurd n) fits.0 fits.1
 
 pub act_took : (own peer k : ℕ) (piece : ChunkPayloadData) (d : Data) (t : Stream) (p : Parts) (y : Shown) (out coming : Direction) (B : ℕ → Type 0)
     → Holds own peer p y out coming → IsWithin coming → Can (Act.Took piece) p → slice_get coming.datas k ≡ Some d → IsSaid peer piece d
     → stream_at p.streams piece.stream_identifier ≡ Some t → B d.offset → AfterComing own peer (done (Act.Took piece) p) y out coming B
 act_took own peer k piece d t p y out coming B h within can e said live brought =
     let fits = what_is_taken_in_comes p piece k d t coming can e (subst (λ i. IsSaid i piece d) (sym h.peer_is) said) live within h.invariant_coming h.plain_coming h.incoming in
-    act_at_receiver own peer (Act.Took piece) (Event.DataComes k) p y out coming B h within tt (λ n. n) tt (d, e, fits.0) (λ o b. there o b)
+    act_at_receiver own peer (Act.Took piece) (Event.DataComes k) p y out coming B h tt within tt (λ n. n) tt (d, e, fits.0) (λ o b. there o b)
     (what_comes_leaves_its_own (Act.Took piece) p out tt h.outgoing) fits.1
   where
     there : (o : ℕ) → Brings coming (Event.DataComes k) o → B o
@@ -85,6 +86,6 @@ unfolding act_at_receiver
 act_reported own peer p y out coming B h within =
     let report = reports_name_the_point p coming h.incoming in
     record {
-      after = act_at_receiver own peer Act.Reported Event.SackMade p y out coming B h within tt (λ n. n) tt tt (λ o n. absurd n) h.outgoing report.0;
+      after = act_at_receiver own peer Act.Reported Event.SackMade p y out coming B h tt within tt (λ n. n) tt tt (λ o n. absurd n) h.outgoing report.0;
       said = subst (λ (i : ℕ). IsMade i (happens coming Event.SackMade) (tsn_before (tsn i p.history.point))) h.peer_is report.1;
     }

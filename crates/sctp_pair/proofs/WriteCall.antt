@@ -71,7 +71,7 @@ written_settles own peer a y out coming id n bytes can f s =
       invariant_coming = f.invariant_coming;
       plain_out = plain_events_keep_it_plain out e simple f.plain_out;
       plain_coming = f.plain_coming;
-      stands = inl (open_on own peer a (written a id bytes) out coming out2 coming (Act.Wrote id bytes ∷ []) m.0 s m.1
+      stands = inl (open_on own peer a (written a id bytes) out coming out2 coming (Act.Wrote id bytes ∷ []) m.0 s (tt, tt) m.1
           (writes_keep_the_status a id bytes) sent.0.size
           (writes_are_accepted (parts a s.past) id bytes t out there can.some one f.plain_out s.outgoing)
           (own_acts_leave_what_comes (Act.Wrote id bytes) (parts a s.past) coming tt s.incoming));

@@ -5,7 +5,7 @@ use Rattle.sctp_model.specs.Machine.{Direction}
 use Rattle.sctp_model.specs.Invariants.{Invariant}
 use Rattle.sctp_assoc.specs.Acts.{Binds, History, parts}
 use Rattle.sctp_assoc.specs.Calls.{is_closed_state, is_established}
-use Rattle.sctp_assoc.specs.Shapes.{HoldsNothing}
+use Rattle.sctp_assoc.specs.Shapes.{HoldsNothing, IsQuiet}
 use Rattle.sctp_assoc.specs.Shown.{Shown}
 use Rattle.sctp_directions.specs.Plain.{IsPlain}
 use Rattle.sctp_directions.specs.Said.{SaysAll}
@@ -17,7 +17,8 @@ use Rattle.sctp_pair.specs.Ends.{Ends}
 use Rattle.sctp_pair.specs.Steps.{packet_in}
 use Rattle.sctp_pair.specs.World.{IsSafeWorld, IsWithinLimits, IsWorldStep, World}
 
--- An open association stands between its own direction and the one that comes to it; own and peer are their initial TSNs.
+-- An open association, of which no packet of a handshake is to go out, stands between its own direction and the one that comes to it;
+-- own and peer are their initial TSNs.
 pub record StandsOpen (own peer : ℕ) (a : Shown) (out coming : Direction) : Type 0 where
   pub past : History
   pub own_is : past.own ≡ own
@@ -26,6 +27,7 @@ pub record StandsOpen (own peer : ℕ) (a : Shown) (out coming : Direction) : Ty
   pub working : a.failed ≡ false
   pub established : is_established a.state ≡ true
   pub present : a.lost ≡ false
+  pub quiet : IsQuiet a
   pub size : out.sender.plan.size ≡ a.sender.max_payload_size
   pub outgoing : FitsOutgoing (parts a past) out
   pub incoming : FitsIncoming (parts a past) coming
@@ -37,6 +39,7 @@ pub record StandsClosed (a : Shown) (coming : Direction) : Type 0 where
   pub lost : a.lost ≡ true
   pub stopped : coming.receiver.is_open ≡ false
   pub nothing_left : HoldsNothing a
+  pub quiet : IsQuiet a
 
 -- One that failed does nothing more.
 pub record StandsFailed (a : Shown) (coming : Direction) : Type 0 where
