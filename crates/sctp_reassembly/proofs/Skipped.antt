@@ -108,6 +108,7 @@ ordered_skips_stand initial p over came s low cursor m r q hp v small w st =
           ∙ nested (keeps (place_at p o).ssn) (mem o (offsets_in st.held)) (data_at p o)
           ∙ ap (λ z. cond z (Some (data_at p o)) None) (sym (offsets_of_those initial p s keeps r.ordered st.held o st.groups));
       next = ap (λ z. next_after_skip z m) st.next;
+      waiting = st.waiting;
       complete = st.complete;
     }
   where
@@ -116,7 +117,7 @@ ordered_skips_stand initial p over came s low cursor m r q hp v small w st =
     nested false b d = refl
 
 pub empty_ones_stand : EmptyOnesStand
-empty_ones_stand initial p s = record { held = []; groups = tt; ascends = tt; same = λ o. refl; next = refl; complete = refl }
+empty_ones_stand initial p s = record { held = []; groups = tt; ascends = tt; same = λ o. refl; next = refl; waiting = record { offsets = []; runs = tt; ascends = tt; mine = tt; same = λ o. refl; exact = tt; incomplete = tt }; complete = refl }
 
 near_by : (p : Plan) (low : ℕ) (d : Data) → IsNear p low d → IsNearBy p low d
 unfolding IsNear
