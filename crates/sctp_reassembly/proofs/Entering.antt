@@ -1,16 +1,16 @@
 -- A piece of an unordered message is put among the runs of those that wait.
-use Rattle.std.proofs.Common.{ℕ, zero, suc, ◌+◌, ◌-◌, ◌^◌, ◌<◌, ◌≡◌, ◌⊎◌, Bool, true, false, cond, not, eqb, ◌&&◌, List, [], ◌∷◌, ◌++◌, length, position, insert, slice_get, slice_set, unwrap_or, Option, Some, None, refl, sym, ap, ◌∙◌, subst, inl, inr, ⊎_elim, arith, append_assoc}
+use Rattle.std.proofs.Common.{ℕ, suc, ◌-◌, ◌^◌, ◌<◌, ◌≡◌, ◌⊎◌, Bool, true, false, cond, not, eqb, ◌&&◌, List, [], ◌∷◌, ◌++◌, length, position, insert, slice_get, slice_set, unwrap_or, Option, Some, None, refl, sym, ap, ◌∙◌, subst, inl, inr, ⊎_elim, arith, append_assoc}
 use Rattle.std.specs.List.{AllByRecursion, remove}
-use Rattle.std.proofs.lemmas.Bool.{cases_Bool, ne_eqb, eq-eqb, cond-false, lt-ltb, le-ltb, false≢true}
+use Rattle.std.proofs.lemmas.Bool.{cases_Bool, ne_eqb, cond-false, lt-ltb, le-ltb, false≢true}
 use Rattle.sctp_wire_types.specs.declared.chunk.ChunkPayloadData.{ChunkPayloadData}
 use Rattle.sctp_wire_types.specs.Serial.{tsn_lt}
 use Rattle.sctp_receive_queues.specs.Messages.{Message, message_of}
-use Rattle.sctp_receive_queues.specs.Pieces.{ends, is_complete, is_past, is_last as is_last_piece, last_of, tsn_after}
-use Rattle.sctp_receive_queues.specs.Reassembly.{finished, joined_run, joins_after, joins_before, part, place_for_tsn, put_between, run_at, run_before, run_place, with_unordered}
-use Rattle.sctp_model.specs.Messages.{Plan, place_at, is_last}
+use Rattle.sctp_receive_queues.specs.Pieces.{is_complete, is_past, is_last as is_last_piece, tsn_after}
+use Rattle.sctp_receive_queues.specs.Reassembly.{finished, joins_after, joins_before, part, place_for_tsn, put_between, run_at, run_before, run_place, with_unordered}
+use Rattle.sctp_model.specs.Messages.{Plan}
 use Rattle.sctp_model.specs.Packets.{data_at}
 use Rattle.sctp_model.specs.Serial.{tsn}
-use Rattle.sctp_model.proofs.Lists.{all_back, all_front, all_join}
+use Rattle.sctp_model.proofs.Lists.{all_back, all_front}
 use Rattle.sctp_reassembly.specs.Stands.{AreRuns, AreSaid, IsSaid, leads, led}
 use Rattle.sctp_reassembly.proofs.Placed.{position_here, position_later, up_one}
 use Rattle.sctp_reassembly.proofs.Runs.{last_leads, meet, meet_last, met}

@@ -1,22 +1,21 @@
 -- A piece of an unordered message that is new contradicts none of those that wait.
-use Rattle.std.proofs.Common.{ℕ, zero, suc, ◌+◌, ◌-◌, ◌^◌, ◌<◌, ◌≤◌, ◌≡◌, ◌⊎◌, Bool, true, false, cond, not, eqb, ltb, ◌&&◌, ◌||◌, List, [], ◌∷◌, ◌++◌, length, Option, Some, None, refl, sym, ap, ◌∙◌, subst, inl, inr, ⊎_elim, arith}
+use Rattle.std.proofs.Common.{ℕ, zero, suc, ◌+◌, ◌-◌, ◌^◌, ◌<◌, ◌≤◌, ◌≡◌, Bool, true, false, cond, not, eqb, ltb, ◌&&◌, List, [], ◌∷◌, ◌++◌, length, Some, None, refl, sym, ap, ◌∙◌, subst, inl, inr, ⊎_elim, arith}
 use Rattle.std.specs.List.{AllByRecursion}
 use Rattle.std.proofs.lemmas.Bool.{cases_Bool, eq-eqb, eqb-true, ne_eqb, le-ltb, true≢false}
 use Rattle.sctp_wire_types.specs.Ids.{number_of}
 use Rattle.sctp_wire_types.specs.Serial.{tsn_past}
 use Rattle.sctp_wire_types.specs.declared.chunk.ChunkPayloadData.{ChunkPayloadData}
-use Rattle.sctp_wire_types.specs.declared.error.Error.{Error}
 use Rattle.sctp_wire_types.specs.declared.error.Error.TheVariants as errors
-use Rattle.sctp_receive_queues.specs.Pieces.{begins, bytes_of, covers, ends, first_is_after, has_other_type, is_last as is_last_piece, is_right_before, last_is_before, last_of, tsn_after}
+use Rattle.sctp_receive_queues.specs.Pieces.{bytes_of, covers, has_other_type, is_last as is_last_piece, is_right_before, last_of, tsn_after}
 use Rattle.sctp_receive_queues.specs.Reassembly.{is_torn_after, is_torn_before, joins_after, joins_before, part, refusal_between, run_at, run_before, tears}
-use Rattle.sctp_model.specs.Messages.{Plan, place_at, is_last, message_of}
+use Rattle.sctp_model.specs.Messages.{Plan, place_at, is_last}
 use Rattle.sctp_model.specs.Packets.{data_at}
 use Rattle.sctp_model.specs.Serial.{tsn}
 use Rattle.sctp_model.specs.Invariants.{IsPlanned}
 use Rattle.sctp_model.proofs.Lists.{all_back}
 use Rattle.sctp_reassembly.specs.Stands.{AreRuns, AreSaid, IsForBytesAlone, IsLoose, IsSaid}
 use Rattle.sctp_reassembly.proofs.Chains.{not_last, same_text}
-use Rattle.sctp_reassembly.proofs.Entering.{AreSmall, HasLast, head_run, last_cases, none_in_front, run_behind, run_in_front}
+use Rattle.sctp_reassembly.proofs.Entering.{AreSmall, HasLast, head_run, last_cases, run_behind, run_in_front}
 use Rattle.sctp_reassembly.proofs.Runs.{IsChain}
 use Rattle.sctp_reassembly.proofs.Tsns.{tsn_next}
 use Rattle.sctp_reassembly.proofs.Whole.{last_later}
@@ -75,7 +74,7 @@ abbrev pub end_of : ℕ → List ℕ → ℕ
 end_of o [] = o
 end_of o (x ∷ xs) = end_of x xs
 
-end_is : (initial : ℕ) (p : Plan) (d : ChunkPayloadData) (ds : List ChunkPayloadData) (x : ℕ) (xs : List ℕ) → AreSaid initial p (d ∷ ds) (x ∷ xs)
+pub end_is : (initial : ℕ) (p : Plan) (d : ChunkPayloadData) (ds : List ChunkPayloadData) (x : ℕ) (xs : List ℕ) → AreSaid initial p (d ∷ ds) (x ∷ xs)
     → (e : ChunkPayloadData) × (last_of (d ∷ ds) ≡ Some e) × IsSaid initial e (data_at p (end_of x xs))
 end_is initial p d [] x [] a = (d, refl, a.0)
 end_is initial p d [] x (y ∷ ys) a = absurd a.1
@@ -84,7 +83,7 @@ end_is initial p d (e ∷ es) x (y ∷ ys) a =
     let t = end_is initial p e es y ys a.1 in
     (t.0, last_later d e es ∙ t.1, t.2)
 
-end_all : (P : ℕ → Type 0) (x : ℕ) (xs : List ℕ) → AllByRecursion P (x ∷ xs) → P (end_of x xs)
+pub end_all : (P : ℕ → Type 0) (x : ℕ) (xs : List ℕ) → AllByRecursion P (x ∷ xs) → P (end_of x xs)
 end_all P x [] a = a.0
 end_all P x (y ∷ ys) a = end_all P y ys a.1
 

@@ -1,5 +1,5 @@
 -- A run that is a whole message, as the model finds it among the pieces of unordered messages.
-use Rattle.std.proofs.Common.{ℕ, zero, suc, ◌+◌, ◌<◌, ◌≤◌, ◌≡◌, ◌⊎◌, Bool, true, false, cond, not, eqb, ◌&&◌, ◌||◌, List, [], ◌∷◌, ◌++◌, length, map, Option, Some, None, refl, sym, ap, ◌∙◌, subst, inl, inr, ⊎_elim, arith}
+use Rattle.std.proofs.Common.{ℕ, zero, suc, ◌+◌, ◌<◌, ◌≤◌, ◌≡◌, ◌⊎◌, Bool, true, false, cond, not, eqb, ◌&&◌, ◌||◌, List, [], ◌∷◌, ◌++◌, map, Some, None, refl, sym, ap, ◌∙◌, subst, inl, inr, ⊎_elim, arith}
 use Rattle.std.specs.List.{AllByRecursion}
 use Rattle.std.proofs.lemmas.Bool.{cases_Bool, eqb-true, eq-eqb, ne_eqb, or_cases, and_parts, false_from_ne_true, true≢false, false≢true, cond-true, cond-false}
 use Rattle.sctp_model.specs.Messages.{Plan, place_at, is_last}
@@ -51,15 +51,17 @@ first_found : (p : Plan) (fuel : ℕ) (held : List Data) (o : ℕ) (os : List �
     → (r : List ℕ) × (ks : List (List ℕ)) × (runs_of p (o ∷ os) ≡ (o ∷ r) ∷ ks) × IsFound p fuel held (o ∷ r)
 first_found p zero held o os r a f = absurd (let l = at_top o held (data_at p o) (a o (omega arith) ∙ rw (eq-eqb o o refl) refl) in omega arith)
 first_found p (suc m) held o [] r a f = (
-  [], [], refl,
+  [],
+  [],
+  refl,
   (
     here,
     ap (λ z. run_on z (run_from m (suc o) held)) here
-    ∙ ⊎_elim
-    (λ (l : is_last p (place_at p o) ≡ true). rw l refl)
-    (λ (l : is_last p (place_at p o) ≡ false).
-    rw (l, none_from m (suc o) held (a (suc o) (omega arith) ∙ rw (ne_eqb o (suc o) (λ (e : o ≡ suc o). omega arith)) refl)) refl)
-    (cases_Bool (is_last p (place_at p o))),
+        ∙ ⊎_elim
+        (λ (l : is_last p (place_at p o) ≡ true). rw l refl)
+        (λ (l : is_last p (place_at p o) ≡ false).
+        rw (l, none_from m (suc o) held (a (suc o) (omega arith) ∙ rw (ne_eqb o (suc o) (λ (e : o ≡ suc o). omega arith)) refl)) refl)
+        (cases_Bool (is_last p (place_at p o))),
   ),
 )
   where
@@ -75,28 +77,34 @@ first_found p (suc m) held o (x ∷ xs) r a f =
         → (s : List ℕ) × (ks : List (List ℕ)) × (runs_of p (o ∷ x ∷ xs) ≡ (o ∷ s) ∷ ks) × IsFound p (suc m) held (o ∷ s)
     go (s, ks, e, u) = ⊎_elim
         (λ (l : is_last p (place_at p o) ≡ true). (
-          [], (x ∷ s) ∷ ks, ap (led p o) e ∙ ap (λ z. cond (eqb x (suc o) && not z) ((o ∷ x ∷ s) ∷ ks) ((o ∷ []) ∷ (x ∷ s) ∷ ks)) l ∙ no_end (eqb x (suc o)),
+          [],
+          (x ∷ s) ∷ ks,
+          ap (led p o) e ∙ ap (λ z. cond (eqb x (suc o) && not z) ((o ∷ x ∷ s) ∷ ks) ((o ∷ []) ∷ (x ∷ s) ∷ ks)) l ∙ no_end (eqb x (suc o)),
           (here, ap (λ z. run_on z (run_from m (suc o) held)) here ∙ rw l refl),
         ))
         (λ (l : is_last p (place_at p o) ≡ false). ⊎_elim
         (λ (b : eqb x (suc o) ≡ true). (
-          x ∷ s, ks, ap (led p o) e ∙ rw (b, l) refl,
+          x ∷ s,
+          ks,
+          ap (led p o) e ∙ rw (b, l) refl,
           (
             here,
             ap (λ z. run_on z (run_from m (suc o) held)) here
-            ∙ cond-false (is_last p (place_at p o)) (Some (data_at p o ∷ [])) (with_first (data_at p o) (run_from m (suc o) held)) l
-            ∙ ap (λ z. with_first (data_at p o) (run_from m z held)) (sym (eqb-true x (suc o) b))
-            ∙ ap (with_first (data_at p o)) u.1
-            ∙ longer (is_rest p (x ∷ s)) (data_at p o) (map (data_at p) (x ∷ s)) ∙ ap (λ z. cond (z && is_rest p (x ∷ s)) (Some (map (data_at p) (o ∷ x ∷ s))) None) (sym b),
+                ∙ cond-false (is_last p (place_at p o)) (Some (data_at p o ∷ [])) (with_first (data_at p o) (run_from m (suc o) held)) l
+                ∙ ap (λ z. with_first (data_at p o) (run_from m z held)) (sym (eqb-true x (suc o) b))
+                ∙ ap (with_first (data_at p o)) u.1
+                ∙ longer (is_rest p (x ∷ s)) (data_at p o) (map (data_at p) (x ∷ s)) ∙ ap (λ z. cond (z && is_rest p (x ∷ s)) (Some (map (data_at p) (o ∷ x ∷ s))) None) (sym b),
           ),
         ))
         (λ (b : eqb x (suc o) ≡ false). (
-          [], (x ∷ s) ∷ ks, ap (led p o) e ∙ rw b refl,
+          [],
+          (x ∷ s) ∷ ks,
+          ap (led p o) e ∙ rw b refl,
           (
             here,
             ap (λ z. run_on z (run_from m (suc o) held)) here
-            ∙ cond-false (is_last p (place_at p o)) (Some (data_at p o ∷ [])) (with_first (data_at p o) (run_from m (suc o) held)) l
-            ∙ ap (with_first (data_at p o)) (none_from m (suc o) held (missing b)) ∙ ap (λ z. cond z (Some (map (data_at p) (o ∷ []))) None) (sym l),
+                ∙ cond-false (is_last p (place_at p o)) (Some (data_at p o ∷ [])) (with_first (data_at p o) (run_from m (suc o) held)) l
+                ∙ ap (with_first (data_at p o)) (none_from m (suc o) held (missing b)) ∙ ap (λ z. cond z (Some (map (data_at p) (o ∷ []))) None) (sym l),
           ),
         ))
         (cases_Bool (eqb x (suc o))))

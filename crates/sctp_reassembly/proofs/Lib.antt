@@ -1,5 +1,6 @@
 pub mod Answering
 pub mod Arriving
+pub mod Bounding
 pub mod Chains
 pub mod Dropping
 pub mod Entering

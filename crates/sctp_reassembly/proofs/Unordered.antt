@@ -1,20 +1,20 @@
 -- A piece of an unordered message that came, as both sides take it.
-use Rattle.std.proofs.Common.{ℕ, suc, ◌+◌, ◌^◌, ◌<◌, ◌≤◌, ◌≡◌, Bool, true, false, cond, not, eqb, ltb, ◌&&◌, ◌||◌, List, [], ◌∷◌, ◌++◌, length, map, filter, is_some, Option, Some, None, refl, sym, ap, ◌∙◌, subst, ⊎_elim, arith, append_assoc}
+use Rattle.std.proofs.Common.{ℕ, ◌^◌, ◌<◌, ◌≡◌, Bool, true, false, cond, not, eqb, ltb, ◌&&◌, ◌||◌, List, [], ◌∷◌, ◌++◌, length, map, filter, is_some, Some, None, refl, sym, ap, ◌∙◌, subst, ⊎_elim, arith, append_assoc}
 use Rattle.std.specs.List.{AllByRecursion}
-use Rattle.std.proofs.lemmas.Bool.{cases_Bool, eqb-true, eqb-false, eq-eqb, ne_eqb, ltb-true, ltb-false, or_parts, cond-true, cond-false, false_from_ne_true}
+use Rattle.std.proofs.lemmas.Bool.{cases_Bool, eqb-true, eqb-false, ne_eqb, ltb-true, ltb-false, or_parts, cond-true, cond-false, false_from_ne_true}
 use Rattle.sctp_wire_types.specs.Serial.{ssn_lt}
 use Rattle.sctp_wire_types.specs.declared.chunk.ChunkPayloadData.{ChunkPayloadData}
-use Rattle.sctp_receive_queues.specs.Messages.{Message, message_of}
+use Rattle.sctp_receive_queues.specs.Messages.{message_of}
 use Rattle.sctp_receive_queues.specs.Pieces.{is_complete}
 use Rattle.sctp_receive_queues.specs.Reassembly.{Reassembly, finished, place_for_tsn, pushed, refusal, refusal_between, refusal_of_ordered, refusal_of_unordered, run_at as the_run_at, run_before, unordered_put, with_ordered, with_put, with_unordered as view_with}
-use Rattle.sctp_model.specs.Messages.{Plan, place_at}
+use Rattle.sctp_model.specs.Messages.{Plan}
 use Rattle.sctp_model.specs.Packets.{Data, mem, data_at}
-use Rattle.sctp_model.specs.Reassembly.{Got, Queue, Run, at, first_complete, got_of, push, push_ordered, push_unordered, settle, with_unordered}
+use Rattle.sctp_model.specs.Reassembly.{Queue, at, got_of, push, push_ordered, push_unordered, settle, with_unordered}
 use Rattle.sctp_model.specs.Safe.{AreRising, letter_read}
 use Rattle.sctp_model.specs.Invariants.{IsPlanned}
 use Rattle.sctp_model.proofs.Lists.{all_back, all_filter, all_front, all_join, all_mem, all_weaker, map-join, mem-join}
 use Rattle.sctp_reassembly.specs.Laws.{UnorderedPiecesStand}
-use Rattle.sctp_reassembly.specs.Stands.{AreRuns, AreSaid, AreWaiting, IsForBytesAlone, IsLoose, IsSaid, StandsFor, led, letter_of, runs_of}
+use Rattle.sctp_reassembly.specs.Stands.{AreRuns, AreSaid, IsForBytesAlone, IsLoose, StandsFor, letter_of, runs_of}
 use Rattle.sctp_reassembly.proofs.Entering.{AreSmall, IsEntered, IsIncomplete, entered, finished_is, place_is, runs_join, runs_split}
 use Rattle.sctp_reassembly.proofs.Fitting.{beside, fits_between}
 use Rattle.sctp_reassembly.proofs.Found.{AreHeld, is_whole, run_at, whole_found}
@@ -293,8 +293,8 @@ unordered_pieces_stand initial p over s o limit r q c h small st i loose new =
     ∙ ap (λ z. refusal_between (run_before z (length xs)) c (the_run_at z (length xs)) limit) two.2 in (
       subst (λ z. StandsFor initial p s (pushed r c).0 z) (sym model) (subst (λ z. StandsFor initial p s z.0 (push_unordered q d)) (sym view) both),
       subst IsForBytesAlone (sym reason) (fits_between initial p over s c o limit xs ys (runs_of p k.below) (runs_of p k.above) h i little loose two.3 two.4
-      (beside p s (λ (x : ℕ). x < o) (runs_of p k.below) (chains p k.below) (all_in (IsLoose p s) p k.below mine_below) small_below is_less)
-      (beside p s (λ (x : ℕ). o < x) (runs_of p k.above) (chains p k.above) (all_in (IsLoose p s) p k.above mine_above) small_above is_more)),
+          (beside p s (λ (x : ℕ). x < o) (runs_of p k.below) (chains p k.below) (all_in (IsLoose p s) p k.below mine_below) small_below is_less)
+          (beside p s (λ (x : ℕ). o < x) (runs_of p k.above) (chains p k.above) (all_in (IsLoose p s) p k.above mine_above) small_above is_more)),
     )
   where
     none_some : None ≡ Some (data_at p o) → ⊥

@@ -1,15 +1,16 @@
 -- The laws that join the reassembly of one stream to the queue of the model.
-use Rattle.std.specs.Prelude.{◌≡◌, ℕ, suc, ◌^◌, ◌<◌, Bool, true, false, nat_lt, List, [], length, map, slice_get, Some, None}
+use Rattle.std.specs.Prelude.{◌≡◌, ℕ, suc, ◌+◌, ◌%◌, ◌^◌, ◌<◌, Bool, true, false, nat_lt, List, length, map, slice_get, Some, None}
+use Rattle.std.specs.List.{AllByRecursion}
 use Rattle.sctp_wire_types.specs.declared.chunk.ChunkPayloadData.{ChunkPayloadData}
-use Rattle.sctp_receive_queues.specs.Reassembly.{Reassembly, empty_reassembly, pushed, ready as view_ready, refusal, skipped, taken, unordered_skipped}
-use Rattle.sctp_model.specs.Messages.{Plan}
+use Rattle.sctp_receive_queues.specs.Reassembly.{Reassembly, bounded, empty_reassembly, pushed, ready as view_ready, refusal, skipped, taken, unordered_skipped}
+use Rattle.sctp_model.specs.Messages.{Plan, place_at}
 use Rattle.sctp_model.specs.Packets.{Data, Forward, data_at, skips}
-use Rattle.sctp_model.specs.Serial.{tsn}
+use Rattle.sctp_model.specs.Serial.{tsn, up_to_16}
 use Rattle.sctp_model.specs.Reassembly.{Queue, at, drop_unordered, empty_queue, next, push, ready, skip}
 use Rattle.sctp_model.specs.Machine.{Direction, Event, happens, is_new, live, point}
 use Rattle.sctp_model.specs.Safe.{IsWithin, letter_read, read_ssn}
 use Rattle.sctp_model.specs.Invariants.{Invariant, IsPlanned}
-use Rattle.sctp_reassembly.specs.Stands.{IsSaid, IsInWindow, IsLoose, StandsFor, IsAnsweredAlike, IsForBytesAlone, IsReadAs, letter_of, skipped_if}
+use Rattle.sctp_reassembly.specs.Stands.{IsSaid, IsInWindow, IsLoose, StandsFor, IsAnsweredAlike, IsForBytesAlone, IsReadAs, IsSpared, bounded_at, letter_of, skipped_if}
 
 -- A piece of an ordered message that came is put to the others of its message on both sides, or on both sides it is of a message
 -- that lies before the next one. It is refused for the bytes of its message alone.
@@ -30,6 +31,21 @@ abbrev pub OrderedSkipsStand : Type 0
 OrderedSkipsStand = (initial : ℕ) (p : Plan) (over : ℕ → Bool) (came : List ℕ) (s low cursor m : ℕ) (r : Reassembly) (q : Queue)
     → IsPlanned p over → over s ≡ false → length p.places < 2 ^ 31 → IsInWindow p came s low cursor q → StandsFor initial p s r q
     → StandsFor initial p s (skipped r m) (skip q m)
+
+-- So does a skip that is bounded by a TSN: on both sides it goes as far as the message in front of the first one with a piece past
+-- that TSN.
+abbrev pub BoundedSkipsStand : Type 0
+BoundedSkipsStand = (initial : ℕ) (p : Plan) (over : ℕ → Bool) (came : List ℕ) (s low cursor m o : ℕ) (r : Reassembly) (q : Queue)
+    → IsPlanned p over → over s ≡ false → length p.places < 2 ^ 31 → o < 2 ^ 31 → IsInWindow p came s low cursor q → StandsFor initial p s r q
+    → (bounded r.ordered m (tsn initial o) ≡ bounded_at q m o) × StandsFor initial p s (skipped r (bounded r.ordered m (tsn initial o))) (skip q (bounded_at q m o))
+
+-- It leaves each message with a piece past the offset, and where no message up to the sequence number has one, it is the skip up to
+-- that. The number n before it wraps is less than half the range away from those held.
+abbrev pub BoundedSkipsSpare : Type 0
+BoundedSkipsSpare = (p : Plan) (came : List ℕ) (s low cursor n o : ℕ) (q : Queue)
+    → IsInWindow p came s low cursor q → n < low + 32768 → AllByRecursion (λ (d : Data). (place_at p d.offset).ssn < n + 32768) q.ordered
+    → IsSpared p o (bounded_at q (n % 65536) o) q
+    × (((x : ℕ) (d : Data) → at x q.ordered ≡ Some d → o < x → up_to_16 d.ssn (n % 65536) ≡ false) → bounded_at q (n % 65536) o ≡ n % 65536)
 
 -- An empty reassembly stands for an empty queue.
 abbrev pub EmptyOnesStand : Type 0

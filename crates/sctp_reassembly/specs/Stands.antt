@@ -1,6 +1,6 @@
 -- A stream's reassembly stands for a queue of the model: it holds the same pieces, put together by messages (RFC 4960 sections 6.5,
 -- 6.6 and 6.9).
-use Rattle.std.specs.Prelude.{◌≡◌, ℕ, suc, ◌+◌, ◌%◌, ◌<◌, ◌≤◌, ◌⊎◌, Bool, true, false, not, ◌&&◌, ◌==◌, List, [], ◌∷◌, ◌++◌, length, map, flat_map, if◌then◌else◌, Option, Some, None, ⊤}
+use Rattle.std.specs.Prelude.{◌≡◌, ℕ, suc, ◌+◌, ◌%◌, ◌<◌, ◌≤◌, ◌⊎◌, Bool, true, false, not, ◌&&◌, ◌==◌, List, [], ◌∷◌, ◌++◌, length, map, filter, flat_map, nat_lt, if◌then◌else◌, Option, Some, None, ⊤}
 use Rattle.std.specs.List.{AllByRecursion}
 use Rattle.sctp_wire_types.specs.declared.chunk.ChunkPayloadData.{ChunkPayloadData}
 use Rattle.sctp_wire_types.specs.declared.error.Error.{Error}
@@ -11,8 +11,8 @@ use Rattle.sctp_receive_queues.specs.Pieces.{is_complete}
 use Rattle.sctp_receive_queues.specs.Reassembly.{Group, Reassembly, skipped}
 use Rattle.sctp_model.specs.Messages.{Plan, IsAt, place_at, is_last}
 use Rattle.sctp_model.specs.Packets.{Data, mem, data_at}
-use Rattle.sctp_model.specs.Serial.{tsn}
-use Rattle.sctp_model.specs.Reassembly.{Got, Queue, Taken, at}
+use Rattle.sctp_model.specs.Serial.{before_16, tsn, up_to_16}
+use Rattle.sctp_model.specs.Reassembly.{Got, Queue, Taken, at, least, skip}
 use Rattle.sctp_model.specs.Safe.{AreRising, Letter, letter_read}
 use Rattle.sctp_model.specs.Invariants.{IsHeld}
 
@@ -149,3 +149,23 @@ IsReadAs (Some m) before after = (g : Got) × (after ≡ before ++ g ∷ []) × 
 abbrev pub skipped_if : Reassembly → Option ℕ → Reassembly
 skipped_if r None = r
 skipped_if r (Some m) = skipped r m
+
+-- the ordered pieces held past the offset o, of messages up to the sequence number m
+abbrev pub held_past : Queue → ℕ → ℕ → List Data
+held_past q m o = filter (λ (d : Data). up_to_16 d.ssn m && nat_lt o d.offset) q.ordered
+
+abbrev pub just_before : ℕ → Option ℕ → ℕ
+just_before m None = m
+just_before m (Some c) = (c + 65535) % 65536
+
+-- how far a skip up to m goes that leaves each message with a piece past the offset o: the sequence number in front of the first of
+-- these, and m where there is none up to m
+abbrev pub bounded_at : Queue → ℕ → ℕ → ℕ
+bounded_at q m o = just_before m (least (held_past q m o))
+
+-- A queue after a skip up to b still has the pieces of each ordered message with one held past the offset o, and such a message that
+-- didn't lie before the next one doesn't now.
+pub record IsSpared (p : Plan) (o b : ℕ) (q : Queue) : Type 0 where
+  pub pieces : (x y : ℕ) (d e : Data) → at x q.ordered ≡ Some d → at y q.ordered ≡ Some e → o < y → (place_at p x).ssn ≡ (place_at p y).ssn
+      → at x (skip q b).ordered ≡ Some d
+  pub cursor : (y : ℕ) (e : Data) → at y q.ordered ≡ Some e → o < y → before_16 e.ssn q.cursor ≡ false → before_16 e.ssn (skip q b).cursor ≡ false

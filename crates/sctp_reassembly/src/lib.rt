@@ -2,16 +2,18 @@
 //! message, any order of arrival, skips and drops.
 #![tactic(auto)]
 
-ghost use Rattle.sctp_reassembly.specs.Laws.{AForwardThatComesStands, AReadThatHappensStands, DataThatComesStands, EmptyOnesStand, OrderedPiecesStand, OrderedSkipsStand, ReadsAnswerAlike, TheInvariantGivesTheWindow, TheSameIsReady, UnorderedDataThatComesStands, UnorderedDropsStand, UnorderedPiecesStand};
+ghost use Rattle.sctp_reassembly.specs.Laws.{AForwardThatComesStands, AReadThatHappensStands, BoundedSkipsSpare, BoundedSkipsStand, DataThatComesStands, EmptyOnesStand, OrderedPiecesStand, OrderedSkipsStand, ReadsAnswerAlike, TheInvariantGivesTheWindow, TheSameIsReady, UnorderedDataThatComesStands, UnorderedDropsStand, UnorderedPiecesStand};
 
 /// An empty reassembly stands for an empty queue, and the relation is kept by each piece of a message that comes, by each read, by
-/// each skip and by each drop of pieces of unordered messages (RFC 4960 sections 6.5, 6.6 and 6.9, RFC 3758 section 3.6). Reads answer
-/// the same, and what is ready is the same.
+/// each skip, bounded by a TSN or not, and by each drop of pieces of unordered messages (RFC 4960 sections 6.5, 6.6 and 6.9, RFC 3758
+/// section 3.6). Reads answer the same, and what is ready is the same. A bounded skip spares each message with a piece past its TSN.
 pub fn a_reassembly_stands_for_a_queue()
     ensures empty { EmptyOnesStand }
     ensures pieces { OrderedPiecesStand }
     ensures reads { ReadsAnswerAlike }
     ensures skips { OrderedSkipsStand }
+    ensures bounded { BoundedSkipsStand }
+    ensures spares { BoundedSkipsSpare }
     ensures ready { TheSameIsReady }
     ensures unordered { UnorderedPiecesStand }
     ensures drops { UnorderedDropsStand }

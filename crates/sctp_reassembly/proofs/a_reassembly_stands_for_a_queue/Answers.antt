@@ -2,6 +2,7 @@ use Rattle.sctp_reassembly.proofs.Answering.{read_alike}
 use Rattle.sctp_reassembly.proofs.Arriving.{ordered_pieces_stand}
 use Rattle.sctp_reassembly.proofs.Ready.{the_same_is_ready}
 use Rattle.sctp_reassembly.proofs.Skipped.{ordered_skips_stand}
+use Rattle.sctp_reassembly.proofs.Bounding.{bounded_skips_spare, bounded_skips_stand}
 use Rattle.sctp_reassembly.proofs.Dropping.{unordered_drops_stand}
 use Rattle.sctp_reassembly.proofs.Unordered.{unordered_pieces_stand}
 use Rattle.sctp_reassembly.proofs.a_reassembly_stands_for_a_queue.Goals as goal
@@ -23,3 +24,9 @@ returns-clause-unordered c = unordered_pieces_stand
 
 pub returns-clause-drops : goal.returns-clause-drops
 returns-clause-drops c = unordered_drops_stand
+
+pub returns-clause-bounded : goal.returns-clause-bounded
+returns-clause-bounded c = bounded_skips_stand
+
+pub returns-clause-spares : goal.returns-clause-spares
+returns-clause-spares c = bounded_skips_spare
