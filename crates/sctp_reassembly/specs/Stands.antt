@@ -68,9 +68,10 @@ numbers_in hs = map (λ (h : Held). h.number) hs
 abbrev pub letter_of : Message → Letter
 letter_of m = record { payload_type = number_of m.payload_type; bytes = m.bytes }
 
--- The pieces of unordered messages that wait for others of their message.
+-- The pieces of unordered messages that wait for others of their message (RFC 4960 sections 6.6 and 6.9).
 
--- the run begins at the next offset, and that is of the same message: the piece at the offset o isn't the last of its own
+-- the run begins at the next offset, and that is of the same message: the piece at the offset o doesn't end its own (RFC 4960
+-- section 3.3.1)
 abbrev pub leads : Plan → ℕ → List ℕ → Bool
 leads p o [] = false
 leads p o (x ∷ xs) = (x == suc o) && not (is_last p (place_at p o))
@@ -80,7 +81,8 @@ abbrev pub led : Plan → ℕ → List (List ℕ) → List (List ℕ)
 led p o [] = (o ∷ []) ∷ []
 led p o (r ∷ rs) = if leads p o r then (o ∷ r) ∷ rs else (o ∷ []) ∷ r ∷ rs
 
--- Ascending offsets cut into runs, each as long as can be: the offsets of a run follow one another, and its pieces are of one message.
+-- Ascending offsets cut into runs, each as long as can be: the offsets of a run follow one another, and its pieces are of one message
+-- (RFC 4960 section 6.9).
 abbrev pub runs_of : Plan → List ℕ → List (List ℕ)
 runs_of p [] = []
 runs_of p (o ∷ os) = led p o (runs_of p os)
@@ -150,10 +152,13 @@ abbrev pub skipped_if : Reassembly → Option ℕ → Reassembly
 skipped_if r None = r
 skipped_if r (Some m) = skipped r m
 
+-- A skip that leaves what lies past a TSN (RFC 3758 section 3.6).
+
 -- the ordered pieces held past the offset o, of messages up to the sequence number m
 abbrev pub held_past : Queue → ℕ → ℕ → List Data
 held_past q m o = filter (λ (d : Data). up_to_16 d.ssn m && nat_lt o d.offset) q.ordered
 
+-- the sequence number in front of another one, else m
 abbrev pub just_before : ℕ → Option ℕ → ℕ
 just_before m None = m
 just_before m (Some c) = (c + 65535) % 65536
