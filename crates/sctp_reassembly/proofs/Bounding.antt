@@ -19,7 +19,7 @@ use Rattle.sctp_model.proofs.Windows.{before_is, same_from, up_to_is}
 use Rattle.sctp_reassembly.specs.Laws.{BoundedSkipsSpare, BoundedSkipsStand}
 use Rattle.sctp_reassembly.specs.Stands.{Held, IsOf, AreSaid, IsGroup, AreGroups, offsets_in, numbers_in, StandsFor, IsInWindow, IsSpared, bounded_at, held_past, just_before}
 use Rattle.sctp_reassembly.proofs.Fitting.{end_is, end_of}
-use Rattle.sctp_reassembly.proofs.Kept.{at_filtered, in_from, later_number, there_from}
+use Rattle.sctp_reassembly.proofs.Kept.{and_none, at_filtered, in_from, later_number, there_from}
 use Rattle.sctp_reassembly.proofs.Reading.{least_among, near_too}
 use Rattle.sctp_reassembly.proofs.Skipped.{ordered_skips_stand}
 use Rattle.sctp_reassembly.proofs.Tsns.{tsn_before}
@@ -169,10 +169,6 @@ none_past p m o q exact none =
         (λ (b : ltb o d.offset ≡ true). ap (λ z. z && ltb o d.offset) (ap (λ z. up_to_16 z.ssn m) i ∙ none d.offset e f (ltb-true o d.offset b)))
         (λ (b : ltb o d.offset ≡ false). ap (λ z. up_to_16 d.ssn m && z) b ∙ and_none (up_to_16 d.ssn m))
         (cases_Bool (ltb o d.offset))
-      where
-        and_none : (b : Bool) → (b && false) ≡ false
-        and_none true = refl
-        and_none false = refl
 
 -- the least number of those past the offset, without wrap
 record IsLeastPast (p : Plan) (low m o c : ℕ) (q : Queue) : Type 0 where
@@ -328,10 +324,6 @@ not_up_to k next l u =
     let b : before_16 (k % 65536) ((next + 65535) % 65536) ≡ false
     = ap (λ z. ltb 0 z && ltb z 32768) e ∙ ap (λ z. ltb 0 (65535 + next - k) && z) (le-ltb (65535 + next - k) 32768 (omega arith)) ∙ and_none (ltb 0 (65535 + next - k)) in
     ap (λ z. z || before_16 (k % 65536) ((next + 65535) % 65536)) (ne_eqb (k % 65536) ((next + 65535) % 65536) (λ (i : k % 65536 ≡ (next + 65535) % 65536). omega arith)) ∙ b
-  where
-    and_none : (b : Bool) → (b && false) ≡ false
-    and_none true = refl
-    and_none false = refl
 
 spared : (p : Plan) (came : List ℕ) (s low cursor o b : ℕ) (q : Queue) → IsInWindow p came s low cursor q → IsBound p o b q → IsSpared p o b q
 spared p came s low cursor o b q w t = record {

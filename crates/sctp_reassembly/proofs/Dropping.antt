@@ -16,6 +16,7 @@ use Rattle.sctp_reassembly.specs.Stands.{AreRuns, AreSaid, IsLoose, leads, led, 
 use Rattle.sctp_reassembly.proofs.Entering.{AreSmall, IsIncomplete}
 use Rattle.sctp_reassembly.proofs.Found.{is_whole}
 use Rattle.sctp_reassembly.proofs.Gathered.{is_rest}
+use Rattle.sctp_reassembly.proofs.Kept.{and_none, nested}
 use Rattle.sctp_reassembly.proofs.Runs.{IsChain, all_in, chains, some_in}
 use Rattle.sctp_reassembly.proofs.Tsns.{tsn_before, tsn_same}
 use Rattle.sctp_reassembly.proofs.Unordered.{at_kept, not_whole}
@@ -162,10 +163,6 @@ rising_left f (x ∷ xs) r =
 
 mem_left_in : (f : ℕ → Bool) (x : ℕ) (os : List ℕ) → mem x (filter f os) ≡ (f x && mem x os)
 mem_left_in f x [] = sym (and_none (f x))
-  where
-    and_none : (b : Bool) → (b && false) ≡ false
-    and_none true = refl
-    and_none false = refl
 mem_left_in f x (y ∷ ys) =
     let more = mem_left_in f x ys in
     ⊎_elim
@@ -217,7 +214,3 @@ unordered_drops_stand initial p over s o r q h small l st =
       };
       complete = st.complete;
     }
-  where
-    nested : (a b : Bool) (d : Data) → cond a (cond b (Some d) None) None ≡ cond (a && b) (Some d) None
-    nested true b d = refl
-    nested false b d = refl

@@ -12,7 +12,8 @@ use Rattle.sctp_model.specs.Packets.{data_at}
 use Rattle.sctp_model.specs.Serial.{tsn}
 use Rattle.sctp_model.proofs.Lists.{all_back, all_front}
 use Rattle.sctp_reassembly.specs.Stands.{AreRuns, AreSaid, IsSaid, leads, led}
-use Rattle.sctp_reassembly.proofs.Placed.{position_here, position_later, up_one}
+use Rattle.sctp_reassembly.proofs.Putting.{unwrap_up}
+use Rattle.sctp_reassembly.proofs.Placed.{position_here, position_later}
 use Rattle.sctp_reassembly.proofs.Runs.{last_leads, meet, meet_last, met}
 use Rattle.sctp_reassembly.proofs.Tsns.{tsn_before, tsn_next}
 use Rattle.sctp_reassembly.proofs.Whole.{last_later}
@@ -165,10 +166,6 @@ last_cases initial p (c ∷ cs) (g ∷ gs) a =
     (last_cases initial p cs gs a.1)
 
 -- The place is behind all runs that begin before the piece.
-
-unwrap_up : (k : Option ℕ) (n : ℕ) → unwrap_or (up_one k) (suc n) ≡ suc (unwrap_or k n)
-unwrap_up None n = refl
-unwrap_up (Some k) n = refl
 
 abbrev pub AreNotPast : ℕ → List (List ChunkPayloadData) → Type 0
 AreNotPast t cs = AllByRecursion (λ (r : List ChunkPayloadData). is_past r t ≡ false) cs

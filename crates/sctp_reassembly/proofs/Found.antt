@@ -10,7 +10,7 @@ use Rattle.sctp_model.specs.Invariants.{IsPlanned}
 use Rattle.sctp_model.proofs.Gathering.{at_top}
 use Rattle.sctp_model.proofs.Lists.{all_back, all_both, all_join, all_mem, all_weaker}
 use Rattle.sctp_reassembly.specs.Stands.{IsLoose, leads, led, runs_of}
-use Rattle.sctp_reassembly.proofs.Gathered.{is_rest}
+use Rattle.sctp_reassembly.proofs.Gathered.{is_rest, longer, run_none}
 use Rattle.sctp_reassembly.proofs.Runs.{leads_to}
 use Rattle.sctp_reassembly.proofs.Whole.{IsThere, all_there}
 
@@ -23,14 +23,6 @@ IsFound p fuel held (o ∷ r) =
 -- what is held from the offset o on are these
 abbrev pub AreHeldFrom : Plan → List Data → ℕ → List ℕ → Type 0
 AreHeldFrom p held o os = (x : ℕ) → o ≤ x → at x held ≡ cond (mem x os) (Some (data_at p x)) None
-
-none_from : (m o : ℕ) (held : List Data) → at o held ≡ None → run_from m o held ≡ None
-none_from zero o held e = refl
-none_from (suc m) o held e = rw e refl
-
-longer : (b : Bool) (d : Data) (ds : List Data) → with_first d (cond b (Some ds) None) ≡ cond b (Some (d ∷ ds)) None
-longer true d ds = refl
-longer false d ds = refl
 
 -- the first of the runs begins with the first offset
 pub led_first : (p : Plan) (o : ℕ) (rs : List (List ℕ)) → (r : List ℕ) × (ks : List (List ℕ)) × (led p o rs ≡ (o ∷ r) ∷ ks)
@@ -60,7 +52,7 @@ first_found p (suc m) held o [] r a f = (
         ∙ ⊎_elim
         (λ (l : is_last p (place_at p o) ≡ true). rw l refl)
         (λ (l : is_last p (place_at p o) ≡ false).
-        rw (l, none_from m (suc o) held (a (suc o) (omega arith) ∙ rw (ne_eqb o (suc o) (λ (e : o ≡ suc o). omega arith)) refl)) refl)
+        rw (l, run_none m (suc o) held (a (suc o) (omega arith) ∙ rw (ne_eqb o (suc o) (λ (e : o ≡ suc o). omega arith)) refl)) refl)
         (cases_Bool (is_last p (place_at p o))),
   ),
 )
@@ -104,7 +96,7 @@ first_found p (suc m) held o (x ∷ xs) r a f =
             here,
             ap (λ z. run_on z (run_from m (suc o) held)) here
                 ∙ cond-false (is_last p (place_at p o)) (Some (data_at p o ∷ [])) (with_first (data_at p o) (run_from m (suc o) held)) l
-                ∙ ap (with_first (data_at p o)) (none_from m (suc o) held (missing b)) ∙ ap (λ z. cond z (Some (map (data_at p) (o ∷ []))) None) (sym l),
+                ∙ ap (with_first (data_at p o)) (run_none m (suc o) held (missing b)) ∙ ap (λ z. cond z (Some (map (data_at p) (o ∷ []))) None) (sym l),
           ),
         ))
         (cases_Bool (eqb x (suc o))))

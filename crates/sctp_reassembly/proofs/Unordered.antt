@@ -18,6 +18,8 @@ use Rattle.sctp_reassembly.specs.Stands.{AreRuns, AreSaid, IsForBytesAlone, IsLo
 use Rattle.sctp_reassembly.proofs.Entering.{AreSmall, IsEntered, IsIncomplete, entered, finished_is, place_is, runs_join, runs_split}
 use Rattle.sctp_reassembly.proofs.Fitting.{beside, fits_between}
 use Rattle.sctp_reassembly.proofs.Found.{AreHeld, is_whole, run_at, whole_found}
+use Rattle.sctp_reassembly.proofs.Kept.{nested}
+use Rattle.sctp_reassembly.proofs.Putting.{swap_or}
 use Rattle.sctp_reassembly.proofs.Runs.{all_in, chains, joined, joined_append, joined_runs, runs_apart, runs_meet, runs_parts, some_in}
 use Rattle.sctp_reassembly.proofs.Whole.{complete_is, letter_is}
 
@@ -57,11 +59,6 @@ all_between P os qs o a h = all_join P os (o ∷ qs) (all_front P os qs a) (h, a
 mem_between : (os qs : List ℕ) (o x : ℕ) → mem x (os ++ o ∷ qs) ≡ (eqb o x || mem x (os ++ qs))
 mem_between [] qs o x = refl
 mem_between (y ∷ ys) qs o x = ap (λ z. eqb y x || z) (mem_between ys qs o x) ∙ swap_or (eqb y x) (eqb o x) (mem x (ys ++ qs))
-  where
-    swap_or : (a b c : Bool) → (a || (b || c)) ≡ (b || (a || c))
-    swap_or true true c = refl
-    swap_or true false c = refl
-    swap_or false b c = refl
 
 -- Without a run.
 
@@ -147,10 +144,6 @@ at_pieces : (p : Plan) (o : ℕ) (os : List ℕ) → is_some (at o (map (data_at
 at_pieces p o [] = refl
 at_pieces p o (x ∷ xs) =
     ⊎_elim (λ (b : eqb x o ≡ true). rw b refl) (λ (b : eqb x o ≡ false). rw b (at_pieces p o xs)) (cases_Bool (eqb x o))
-
-nested : (a b : Bool) (d : Data) → cond a (cond b (Some d) None) None ≡ cond (a && b) (Some d) None
-nested true b d = refl
-nested false b d = refl
 
 -- a run of chunks that isn't a whole message isn't one of offsets
 pub not_whole : (initial : ℕ) (p : Plan) (cs : List (List ChunkPayloadData)) (gs : List (List ℕ)) → AreRuns initial p cs gs → AllByRecursion AreSmall gs
