@@ -121,5 +121,5 @@ read_alike initial p over came s low cursor r q hp v small w st = go r.complete 
     go (m ∷ ms) [] e f l = absurd (cc)
     go (m ∷ ms) (x ∷ xs) e f l = (
       (let y : letter_of m ≡ letter_read x = cc in y),
-      record { held = st.held; groups = st.groups; ascends = st.ascends; same = st.same; next = st.next; complete = (let y : map letter_of ms ≡ map letter_read xs = cc in y) },
+      record { held = st.held; groups = st.groups; ascends = st.ascends; same = st.same; next = st.next; waiting = st.waiting; complete = (let y : map letter_of ms ≡ map letter_read xs = cc in y) },
     )

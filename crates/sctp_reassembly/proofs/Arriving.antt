@@ -76,6 +76,7 @@ taken_in initial p over came s low cursor o r q c h v small st i new w =
         ascends = rising_in n o st.held st.ascends;
         same = same_with p q.ordered st.held o st.same;
         next = st.next;
+        waiting = st.waiting;
         complete = st.complete;
       },
       fits_there initial p over s n o c r.ordered st.held h v small i.ssn i x st.groups near out,

@@ -1,34 +1,37 @@
 -- The laws in events of the model's machine.
-use Rattle.std.proofs.Common.{ℕ, ◌≡◌, true, false, not, leb, ◌&&◌, List, [], ◌∷◌, ◌++◌, slice_get, Option, Some, None, refl, sym, ap, ◌∙◌, subst, ltb}
+use Rattle.std.proofs.Common.{ℕ, ◌≡◌, Bool, true, false, not, leb, ◌&&◌, List, [], ◌∷◌, ◌++◌, slice_get, Option, Some, None, refl, sym, ap, ◌∙◌, subst, ltb, arith}
 use Rattle.std.specs.List.{AllByRecursion}
 use Rattle.std.proofs.lemmas.Bool.{and_parts, and_from, cond-true, not-true, true≢false}
 use Rattle.sctp_receive_queues.specs.Messages.{Message}
 use Rattle.sctp_receive_queues.specs.Reassembly.{Reassembly, pushed, taken, unordered_skipped}
 use Rattle.sctp_model.specs.Messages.{Plan}
 use Rattle.sctp_model.specs.Packets.{Data, Forward, mem, skips}
+use Rattle.sctp_model.specs.Serial.{tsn}
 use Rattle.sctp_model.specs.Reassembly.{Queue, Taken, at, drop_unordered, next, push, skip_if}
 use Rattle.sctp_model.specs.Machine.{Direction, Event, data_comes, forward_comes, forwarded, happens, is_new, live, passes, point, read, took, was_read}
 use Rattle.sctp_model.specs.Safe.{IsWithin, read_ssn}
-use Rattle.sctp_model.specs.Invariants.{IsHeld, IsPiece}
+use Rattle.sctp_model.specs.Invariants.{IsForward, IsHeld, IsPiece}
 use Rattle.sctp_model.proofs.Coming.{keeps_data_comes}
 use Rattle.sctp_model.proofs.Gathering.{at_found}
 use Rattle.sctp_model.proofs.Growth.{at_put}
 use Rattle.sctp_model.proofs.Lists.{all_get}
-use Rattle.sctp_reassembly.specs.Laws.{AForwardThatComesStands, AReadThatHappensStands, DataThatComesStands, SoleDataThatComesStands}
-use Rattle.sctp_reassembly.specs.Stands.{IsAllTogether, IsAnsweredAlike, IsInWindow, IsReadAs, IsSaid, StandsFor, skipped_if}
+use Rattle.sctp_reassembly.specs.Laws.{AForwardThatComesStands, AReadThatHappensStands, DataThatComesStands, UnorderedDataThatComesStands}
+use Rattle.sctp_reassembly.specs.Stands.{IsAnsweredAlike, IsInWindow, IsLoose, IsReadAs, IsSaid, StandsFor, skipped_if}
 use Rattle.sctp_reassembly.proofs.Answering.{read_alike}
 use Rattle.sctp_reassembly.proofs.Arriving.{ordered_pieces_stand}
-use Rattle.sctp_reassembly.proofs.Sole.{sole_unordered_pieces_stand}
+use Rattle.sctp_reassembly.proofs.Dropping.{unordered_drops_stand}
+use Rattle.sctp_reassembly.proofs.Unordered.{unordered_pieces_stand}
 use Rattle.sctp_reassembly.proofs.Skipped.{invariant_window, ordered_skips_stand}
 
 -- what was taken in is no longer new
-not_held : (p : Plan) (came : List ℕ) (s low o : ℕ) (held : List Data) → AllByRecursion (IsHeld p came s true low) held → mem o came ≡ false → at o held ≡ None
-not_held p came s low o held a m = go (at o held) refl
+not_held : (p : Plan) (came : List ℕ) (s low o : ℕ) (ordered : Bool) (held : List Data) → AllByRecursion (IsHeld p came s ordered low) held → mem o came ≡ false
+    → at o held ≡ None
+not_held p came s low o ordered held a m = go (at o held) refl
   where
     go : (x : Option Data) → at o held ≡ x → x ≡ None
     go None e = refl
     go (Some d) e =
-        let f = at_found (IsHeld p came s true low) o held d e a in
+        let f = at_found (IsHeld p came s ordered low) o held d e a in
         absurd (true≢false (sym (subst (λ z. mem z came ≡ true) f.1 f.0.taken_in) ∙ m))
 
 came_in : (w : Direction) (k : ℕ) (d : Data) → slice_get w.datas k ≡ Some d → w.receiver.is_open ≡ true → is_new w.receiver d.offset ≡ true
@@ -48,7 +51,7 @@ data_that_comes_stands initial w k limit r c d l h v e opened n kind said st =
     let there : live (after.receiver.queues d.stream) ≡ push q d = ap live (at_put w.receiver.queues d.stream d.stream (Some (push q d)) refl) in
     let win' : IsInWindow p (d.offset ∷ w.receiver.taken) d.stream (read_ssn p 0 (w.reads d.stream)) win.0 (push q d)
     = subst (IsInWindow p (d.offset ∷ w.receiver.taken) d.stream (read_ssn p 0 (w.reads d.stream)) win.0) there win.1 in
-    let free = not_held p w.receiver.taken d.stream (read_ssn p 0 (w.reads d.stream)) d.offset q.ordered (h.streams d.stream v).ordered.held
+    let free = not_held p w.receiver.taken d.stream (read_ssn p 0 (w.reads d.stream)) d.offset true q.ordered (h.streams d.stream v).ordered.held
     (not-true (mem d.offset w.receiver.taken) (and_parts (leb (point w.receiver) d.offset) (not (mem d.offset w.receiver.taken)) n).1) in
     let both = ordered_pieces_stand initial p w.over (d.offset ∷ w.receiver.taken) d.stream (read_ssn p 0 (w.reads d.stream)) win.0 d.offset limit r q c
     h.planned v l.offsets st (subst (IsSaid initial c) piece.is said) (sym (ap (λ z. z.ordered) piece.is) ∙ kind) free
@@ -58,14 +61,21 @@ data_that_comes_stands initial w k limit r c d l h v e opened n kind said st =
       both.1,
     )
 
-pub sole_data_that_comes_stands : SoleDataThatComesStands
-sole_data_that_comes_stands initial w k limit r c d e opened n kind first last said st none =
+pub unordered_data_that_comes_stands : UnorderedDataThatComesStands
+unordered_data_that_comes_stands initial w k limit r c d l h v e opened n kind said st =
     let p = w.sender.plan in
     let q = live (w.receiver.queues d.stream) in
-    let all = sole_unordered_pieces_stand initial p d.stream limit r q c d st none said kind first last in
+    let piece = all_get (IsPiece p) w.datas k d e h.datas in
     let there : push q d ≡ live ((happens w (Event.DataComes k)).receiver.queues d.stream)
     = sym (ap live (at_put w.receiver.queues d.stream d.stream (Some (push q d)) refl)) ∙ ap (λ (z : Direction). live (z.receiver.queues d.stream)) (sym (came_in w k d e opened n)) in
-    (subst (StandsFor initial p d.stream (pushed r c).0) there all.0, subst (IsAllTogether (pushed r c).0) there all.1, all.2)
+    let free = not_held p w.receiver.taken d.stream 0 d.offset false q.unordered (h.streams d.stream v).unordered.held
+    (not-true (mem d.offset w.receiver.taken) (and_parts (leb (point w.receiver) d.offset) (not (mem d.offset w.receiver.taken)) n).1) in
+    let loose : IsLoose p d.stream d.offset = record {
+      at = record { known = piece.known; stream = sym (ap (λ z. z.stream) piece.is); kind = sym (ap (λ z. z.ordered) piece.is) ∙ kind };
+      sent = piece.sent;
+    } in
+    let both = unordered_pieces_stand initial p w.over d.stream d.offset limit r q c h.planned l.offsets st (subst (IsSaid initial c) piece.is said) loose free in
+    (subst (StandsFor initial p d.stream (pushed r c).0) (ap (push q) (sym piece.is) ∙ there) both.0, both.1)
 
 was_so : (w : Direction) (s : ℕ) (q : Queue) → w.receiver.queues s ≡ Some q → w.receiver.is_open ≡ true → happens w (Event.Read s) ≡ was_read w s (next q)
 unfolding happens
@@ -101,19 +111,19 @@ unfolding happens
 came_forward w k f e o n =
     ap (forward_comes w) e ∙ cond-true (w.receiver.is_open && ltb (point w.receiver) f.point) (passes w f) w (and_from w.receiver.is_open (ltb (point w.receiver) f.point) o n)
 
--- what the relation says of is left by a drop
-dropped : (initial : ℕ) (p : Plan) (s t o : ℕ) (r : Reassembly) (q : Queue) → StandsFor initial p s r q → StandsFor initial p s (unordered_skipped r t) (drop_unordered o q)
-dropped initial p s t o r q st = record { held = st.held; groups = st.groups; ascends = st.ascends; same = st.same; next = st.next; complete = st.complete }
-
 pub a_forward_that_comes_stands : AForwardThatComesStands
-a_forward_that_comes_stands initial w k s t r q f l h v e opened n there st =
+a_forward_that_comes_stands initial w k s o r q f l h v e opened n at there st =
     let p = w.sender.plan in
     let low = read_ssn p 0 (w.reads s) in
     let win = invariant_window w l h s v in
     let win' : IsInWindow p w.receiver.taken s low win.0 q = subst (IsInWindow p w.receiver.taken s low win.0) (ap live there) win.1 in
-    subst (λ (z : Direction). StandsFor initial p s (unordered_skipped (skipped_if r (skips f s)) t) (live (z.receiver.queues s))) (sym (came_forward w k f e opened n))
-    (subst (λ (z : Option Queue). StandsFor initial p s (unordered_skipped (skipped_if r (skips f s)) t) (live (forwarded z f.point (skips f s)))) (sym there)
-    (dropped initial p s t f.point (skipped_if r (skips f s)) (skip_if q (skips f s)) (go win' (skips f s))))
+    let known = (all_get (IsForward p w.sender.gone w.over w.sender.acknowledged w.sender.point) w.forwards k f e h.forwards).known in
+    let small = l.offsets in
+    let after = unordered_skipped (skipped_if r (skips f s)) (tsn initial o) in
+    subst (λ (z : Direction). StandsFor initial p s after (live (z.receiver.queues s))) (sym (came_forward w k f e opened n))
+    (subst (λ (z : Option Queue). StandsFor initial p s after (live (forwarded z f.point (skips f s)))) (sym there)
+    (subst (λ (z : ℕ). StandsFor initial p s after (drop_unordered z (skip_if q (skips f s)))) (sym at)
+    (unordered_drops_stand initial p w.over s o (skipped_if r (skips f s)) (skip_if q (skips f s)) h.planned l.offsets (omega arith) (go win' (skips f s)))))
   where
     go : IsInWindow w.sender.plan w.receiver.taken s (read_ssn w.sender.plan 0 (w.reads s)) (invariant_window w l h s v).0 q → (m : Option ℕ)
         → StandsFor initial w.sender.plan s (skipped_if r m) (skip_if q m)

@@ -18,7 +18,7 @@ is_rest p [] = false
 is_rest p (o ∷ []) = is_last p (place_at p o)
 is_rest p (o ∷ x ∷ xs) = eqb x (suc o) && is_rest p (x ∷ xs)
 
-run_none : (m o : ℕ) (held : List Data) → at o held ≡ None → run_from m o held ≡ None
+pub run_none : (m o : ℕ) (held : List Data) → at o held ≡ None → run_from m o held ≡ None
 run_none zero o held e = refl
 run_none (suc m) o held e = rw e refl
 
@@ -66,7 +66,7 @@ later_missing o x xs r b =
     rw (ne_eqb o (suc o) (λ (e : o ≡ suc o). omega arith), b)
     (false_from_ne_true (mem (suc o) xs) (λ (m : mem (suc o) xs ≡ true). let g = all_mem (λ (j : ℕ). x < j) xs (suc o) r.1.0 m in omega arith))
 
-longer : (b : Bool) (d : Data) (ds : List Data) → with_first d (cond b (Some ds) None) ≡ cond b (Some (d ∷ ds)) None
+pub longer : (b : Bool) (d : Data) (ds : List Data) → with_first d (cond b (Some ds) None) ≡ cond b (Some (d ∷ ds)) None
 longer true d ds = refl
 longer false d ds = refl
 

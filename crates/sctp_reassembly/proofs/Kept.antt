@@ -1,5 +1,5 @@
 -- What is held of the messages of a stream, as a list of them by ascending number.
-use Rattle.std.proofs.Common.{ℕ, ◌<◌, ◌≡◌, Bool, true, false, cond, eqb, List, [], ◌∷◌, length, filter, Some, None, refl, sym, ap, ◌∙◌, ⊎_elim, arith}
+use Rattle.std.proofs.Common.{ℕ, ◌<◌, ◌≡◌, Bool, true, false, cond, eqb, ◌&&◌, List, [], ◌∷◌, length, filter, Some, None, refl, sym, ap, ◌∙◌, ⊎_elim, arith}
 use Rattle.std.specs.List.{AllByRecursion}
 use Rattle.std.proofs.lemmas.Bool.{cases_Bool, eqb-true, eq-eqb, or_left, or_right, cond-true, cond-false}
 use Rattle.sctp_receive_queues.specs.Reassembly.{Group}
@@ -129,6 +129,15 @@ at_filtered p f o (x ∷ xs) a =
     (λ (t : f x ≡ false). rw (t, b) (at_filtered p f o xs a.1))
     (cases_Bool (f x)))
     (cases_Bool (eqb x.offset o))
+
+-- two tests one after the other
+pub nested : (a b : Bool) (d : Data) → cond a (cond b (Some d) None) None ≡ cond (a && b) (Some d) None
+nested true b d = refl
+nested false b d = refl
+
+pub and_none : (b : Bool) → (b && false) ≡ false
+and_none true = refl
+and_none false = refl
 
 pub nothing_held : (held : List Data) → ((o : ℕ) → at o held ≡ None) → held ≡ []
 nothing_held [] n = refl

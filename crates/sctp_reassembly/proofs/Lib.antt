@@ -1,7 +1,12 @@
 pub mod Answering
 pub mod Arriving
+pub mod Bounding
 pub mod Chains
+pub mod Dropping
+pub mod Entering
 pub mod Events
+pub mod Fitting
+pub mod Found
 pub mod Gathered
 pub mod Kept
 pub mod Placed
@@ -9,7 +14,8 @@ pub mod Pushing
 pub mod Putting
 pub mod Reading
 pub mod Ready
+pub mod Runs
 pub mod Skipped
-pub mod Sole
 pub mod Tsns
+pub mod Unordered
 pub mod Whole

@@ -31,7 +31,7 @@ pub some_put : {X : Type 0} (f : X → Bool) (y : X) (xs : List X) → 0 < lengt
 some_put f y [] = omega arith
 some_put f y (x ∷ xs) = ⊎_elim (λ (b : f x ≡ true). rw b (omega arith)) (λ (b : f x ≡ false). rw b (omega arith)) (cases_Bool (f x))
 
-swap_or : (a b c : Bool) → (a || (b || c)) ≡ (b || (a || c))
+pub swap_or : (a b c : Bool) → (a || (b || c)) ≡ (b || (a || c))
 swap_or true true c = refl
 swap_or true false c = refl
 swap_or false b c = refl
@@ -95,7 +95,7 @@ same_type initial p over s n c o (d ∷ ds) (y ∷ ys) h v i x a m =
     let text = same_text p y o (z.at.stream ∙ sym x.at.stream) (one_message p over s y o h v z.at x.at (z.is ∙ sym x.is)) in
     ap not (eq-eqb (number_of d.payload_type) (number_of c.payload_type) (a.0.payload_type ∙ ap (λ t. t.payload_type) text ∙ sym i.payload_type))
 
-unwrap_up : (k : Option ℕ) (n : ℕ) → unwrap_or (up_one k) (suc n) ≡ suc (unwrap_or k n)
+pub unwrap_up : (k : Option ℕ) (n : ℕ) → unwrap_or (up_one k) (suc n) ≡ suc (unwrap_or k n)
 unwrap_up None n = refl
 unwrap_up (Some k) n = refl
 

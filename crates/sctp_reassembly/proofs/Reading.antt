@@ -128,6 +128,7 @@ stands_after initial p came s low cursor r q g gs h hs w a rise alone st e = rec
   ascends = (subst (λ z. AreRisingIn z) e st.ascends).1;
   same = rest_same p came s low cursor initial q g gs h hs w a rise alone (λ o. subst (λ z. at o q.ordered ≡ cond (mem o (offsets_in z)) (Some (data_at p o)) None) e (st.same o));
   next = ap (λ z. after_read z r.next_ssn) a.0.ssn ∙ the_cursor (h.number % 65536) r.next_ssn q.cursor st.next;
+  waiting = st.waiting;
   complete = st.complete;
 }
   where

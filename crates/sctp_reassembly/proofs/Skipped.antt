@@ -17,7 +17,7 @@ use Rattle.sctp_model.proofs.Lists.{all_mem, all_weaker, mem-join}
 use Rattle.sctp_reassembly.specs.Laws.{EmptyOnesStand, OrderedSkipsStand, TheInvariantGivesTheWindow}
 use Rattle.sctp_reassembly.specs.Stands.{Held, IsOf, IsGroup, AreGroups, offsets_in, numbers_in, IsInWindow}
 use Rattle.sctp_reassembly.proofs.Answering.{group_is, is_all, run_at}
-use Rattle.sctp_reassembly.proofs.Kept.{IsAlone, all_alone, at_filtered, in_from, there_from}
+use Rattle.sctp_reassembly.proofs.Kept.{IsAlone, all_alone, and_none, at_filtered, in_from, nested, there_from}
 use Rattle.sctp_reassembly.proofs.Whole.{IsNearBy, message_is}
 
 -- the messages whose number passes a test
@@ -40,10 +40,6 @@ rising_those keeps (h ∷ hs) r =
 offsets_of_those : (initial : ℕ) (p : Plan) (s : ℕ) (keeps : ℕ → Bool) (gs : List Group) (hs : List Held) (x : ℕ) → AreGroups initial p s gs hs
     → mem x (offsets_in (those keeps hs)) ≡ (keeps (place_at p x).ssn && mem x (offsets_in hs))
 offsets_of_those initial p s keeps gs [] x a = sym (and_none (keeps (place_at p x).ssn))
-  where
-    and_none : (b : Bool) → (b && false) ≡ false
-    and_none true = refl
-    and_none false = refl
 offsets_of_those initial p s keeps [] (h ∷ hs) x a = absurd a
 offsets_of_those initial p s keeps (g ∷ gs) (h ∷ hs) x a =
     let more = offsets_of_those initial p s keeps gs hs x a.1 in
@@ -108,15 +104,12 @@ ordered_skips_stand initial p over came s low cursor m r q hp v small w st =
           ∙ nested (keeps (place_at p o).ssn) (mem o (offsets_in st.held)) (data_at p o)
           ∙ ap (λ z. cond z (Some (data_at p o)) None) (sym (offsets_of_those initial p s keeps r.ordered st.held o st.groups));
       next = ap (λ z. next_after_skip z m) st.next;
+      waiting = st.waiting;
       complete = st.complete;
     }
-  where
-    nested : (a b : Bool) (d : Data) → cond a (cond b (Some d) None) None ≡ cond (a && b) (Some d) None
-    nested true b d = refl
-    nested false b d = refl
 
 pub empty_ones_stand : EmptyOnesStand
-empty_ones_stand initial p s = record { held = []; groups = tt; ascends = tt; same = λ o. refl; next = refl; complete = refl }
+empty_ones_stand initial p s = record { held = []; groups = tt; ascends = tt; same = λ o. refl; next = refl; waiting = record { offsets = []; runs = tt; ascends = tt; mine = tt; same = λ o. refl; exact = tt; incomplete = tt }; complete = refl }
 
 near_by : (p : Plan) (low : ℕ) (d : Data) → IsNear p low d → IsNearBy p low d
 unfolding IsNear

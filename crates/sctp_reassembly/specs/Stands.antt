@@ -1,17 +1,18 @@
 -- A stream's reassembly stands for a queue of the model: it holds the same pieces, put together by messages (RFC 4960 sections 6.5,
 -- 6.6 and 6.9).
-use Rattle.std.specs.Prelude.{◌≡◌, ℕ, ◌+◌, ◌%◌, ◌<◌, ◌≤◌, ◌⊎◌, true, false, not, List, [], ◌∷◌, ◌++◌, length, map, flat_map, if◌then◌else◌, Option, Some, None, ⊤}
+use Rattle.std.specs.Prelude.{◌≡◌, ℕ, suc, ◌+◌, ◌%◌, ◌<◌, ◌≤◌, ◌⊎◌, Bool, true, false, not, ◌&&◌, ◌==◌, List, [], ◌∷◌, ◌++◌, length, map, filter, flat_map, nat_lt, if◌then◌else◌, Option, Some, None, ⊤}
 use Rattle.std.specs.List.{AllByRecursion}
 use Rattle.sctp_wire_types.specs.declared.chunk.ChunkPayloadData.{ChunkPayloadData}
 use Rattle.sctp_wire_types.specs.declared.error.Error.{Error}
 use Rattle.sctp_wire_types.specs.declared.error.Error.TheVariants as errors
 use Rattle.sctp_wire_types.specs.Ids.{number_of}
 use Rattle.sctp_receive_queues.specs.Messages.{Message}
+use Rattle.sctp_receive_queues.specs.Pieces.{is_complete}
 use Rattle.sctp_receive_queues.specs.Reassembly.{Group, Reassembly, skipped}
-use Rattle.sctp_model.specs.Messages.{Plan, IsAt, place_at}
+use Rattle.sctp_model.specs.Messages.{Plan, IsAt, place_at, is_last}
 use Rattle.sctp_model.specs.Packets.{Data, mem, data_at}
-use Rattle.sctp_model.specs.Serial.{tsn}
-use Rattle.sctp_model.specs.Reassembly.{Got, Queue, Taken, at}
+use Rattle.sctp_model.specs.Serial.{before_16, tsn, up_to_16}
+use Rattle.sctp_model.specs.Reassembly.{Got, Queue, Taken, at, least, skip}
 use Rattle.sctp_model.specs.Safe.{AreRising, Letter, letter_read}
 use Rattle.sctp_model.specs.Invariants.{IsHeld}
 
@@ -67,15 +68,58 @@ numbers_in hs = map (λ (h : Held). h.number) hs
 abbrev pub letter_of : Message → Letter
 letter_of m = record { payload_type = number_of m.payload_type; bytes = m.bytes }
 
+-- The pieces of unordered messages that wait for others of their message (RFC 4960 sections 6.6 and 6.9).
+
+-- the run begins at the next offset, and that is of the same message: the piece at the offset o doesn't end its own (RFC 4960
+-- section 3.3.1)
+abbrev pub leads : Plan → ℕ → List ℕ → Bool
+leads p o [] = false
+leads p o (x ∷ xs) = (x == suc o) && not (is_last p (place_at p o))
+
+-- an offset in front of some runs belongs to the first one where it leads that, and else is a run by itself
+abbrev pub led : Plan → ℕ → List (List ℕ) → List (List ℕ)
+led p o [] = (o ∷ []) ∷ []
+led p o (r ∷ rs) = if leads p o r then (o ∷ r) ∷ rs else (o ∷ []) ∷ r ∷ rs
+
+-- Ascending offsets cut into runs, each as long as can be: the offsets of a run follow one another, and its pieces are of one message
+-- (RFC 4960 section 6.9).
+abbrev pub runs_of : Plan → List ℕ → List (List ℕ)
+runs_of p [] = []
+runs_of p (o ∷ os) = led p o (runs_of p os)
+
+-- the chunks of each run are the DATA of the offsets of its run
+abbrev pub AreRuns : ℕ → Plan → List (List ChunkPayloadData) → List (List ℕ) → Type 0
+AreRuns initial p [] [] = ⊤
+AreRuns initial p [] (r ∷ rs) = ⊥
+AreRuns initial p (c ∷ cs) [] = ⊥
+AreRuns initial p (c ∷ cs) (r ∷ rs) = AreSaid initial p c r × AreRuns initial p cs rs
+
+-- the offset o is that of a piece of an unordered message of stream s
+pub record IsLoose (p : Plan) (s o : ℕ) : Type 0 where
+  pub at : IsAt p s false o
+  pub sent : (place_at p o).marker ≡ false
+
+-- The chunks are the runs of these offsets, none of them a whole message, and what the model holds of unordered messages at an
+-- offset is its DATA where that is one of them, and nothing elsewhere.
+pub record AreWaiting (initial : ℕ) (p : Plan) (s : ℕ) (chunks : List (List ChunkPayloadData)) (held : List Data) : Type 0 where
+  pub offsets : List ℕ
+  pub runs : AreRuns initial p chunks (runs_of p offsets)
+  pub ascends : AreRising offsets
+  pub mine : AllByRecursion (IsLoose p s) offsets
+  pub same : (o : ℕ) → at o held ≡ (if mem o offsets then Some (data_at p o) else None)
+  pub exact : AllByRecursion (λ (d : Data). d ≡ data_at p d.offset) held
+  pub incomplete : AllByRecursion (λ (r : List ChunkPayloadData). is_complete r ≡ false) chunks
+
 -- The groups ascend strictly by the number of their message, and what the model holds of ordered messages at an offset is its DATA
--- where one of the groups has it, and nothing elsewhere. The same message is next, and the same unordered messages are complete, in
--- the same order. Of pieces of unordered messages that aren't complete it says nothing.
+-- where one of the groups has it, and nothing elsewhere. The same message is next, the same pieces of unordered messages wait, and the
+-- same unordered messages are complete, in the same order.
 pub record StandsFor (initial : ℕ) (p : Plan) (s : ℕ) (r : Reassembly) (q : Queue) : Type 0 where
   pub held : List Held
   pub groups : AreGroups initial p s r.ordered held
   pub ascends : AreRising (numbers_in held)
   pub same : (o : ℕ) → at o q.ordered ≡ (if mem o (offsets_in held) then Some (data_at p o) else None)
   pub next : r.next_ssn ≡ q.cursor
+  pub waiting : AreWaiting initial p s r.unordered q.unordered
   pub complete : map letter_of r.complete ≡ map letter_read q.complete
 
 -- What the model's invariant gives of a stream within its span: what is held are pieces that were taken in, their numbers before
@@ -98,11 +142,6 @@ IsAnsweredAlike initial p s q (r, Some m) (Some t) = (letter_of m ≡ letter_rea
 abbrev pub IsForBytesAlone : Option Error → Type 0
 IsForBytesAlone e = (e ≡ None) ⊎ (e ≡ Some errors.ErrInboundMessageTooLarge)
 
--- no piece of an unordered message waits for others
-pub record IsAllTogether (r : Reassembly) (q : Queue) : Type 0 where
-  pub here : r.unordered ≡ []
-  pub there : q.unordered ≡ []
-
 -- what a read answers is what the model's reader got
 abbrev pub IsReadAs : Option Message → List Got → List Got → Type 0
 IsReadAs None before after = after ≡ before
@@ -112,3 +151,26 @@ IsReadAs (Some m) before after = (g : Got) × (after ≡ before ++ g ∷ []) × 
 abbrev pub skipped_if : Reassembly → Option ℕ → Reassembly
 skipped_if r None = r
 skipped_if r (Some m) = skipped r m
+
+-- A skip that leaves what lies past a TSN (RFC 3758 section 3.6).
+
+-- the ordered pieces held past the offset o, of messages up to the sequence number m
+abbrev pub held_past : Queue → ℕ → ℕ → List Data
+held_past q m o = filter (λ (d : Data). up_to_16 d.ssn m && nat_lt o d.offset) q.ordered
+
+-- the sequence number in front of another one, else m
+abbrev pub just_before : ℕ → Option ℕ → ℕ
+just_before m None = m
+just_before m (Some c) = (c + 65535) % 65536
+
+-- how far a skip up to m goes that leaves each message with a piece past the offset o: the sequence number in front of the first of
+-- these, and m where there is none up to m
+abbrev pub bounded_at : Queue → ℕ → ℕ → ℕ
+bounded_at q m o = just_before m (least (held_past q m o))
+
+-- A queue after a skip up to b still has the pieces of each ordered message with one held past the offset o, and such a message that
+-- didn't lie before the next one doesn't now.
+pub record IsSpared (p : Plan) (o b : ℕ) (q : Queue) : Type 0 where
+  pub pieces : (x y : ℕ) (d e : Data) → at x q.ordered ≡ Some d → at y q.ordered ≡ Some e → o < y → (place_at p x).ssn ≡ (place_at p y).ssn
+      → at x (skip q b).ordered ≡ Some d
+  pub cursor : (y : ℕ) (e : Data) → at y q.ordered ≡ Some e → o < y → before_16 e.ssn q.cursor ≡ false → before_16 e.ssn (skip q b).cursor ≡ false

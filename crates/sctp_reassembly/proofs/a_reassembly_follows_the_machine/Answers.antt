@@ -1,4 +1,4 @@
-use Rattle.sctp_reassembly.proofs.Events.{a_forward_that_comes_stands, a_read_that_happens_stands, data_that_comes_stands, sole_data_that_comes_stands}
+use Rattle.sctp_reassembly.proofs.Events.{a_forward_that_comes_stands, a_read_that_happens_stands, data_that_comes_stands, unordered_data_that_comes_stands}
 use Rattle.sctp_reassembly.proofs.a_reassembly_follows_the_machine.Goals as goal
 
 pub returns-clause-data : goal.returns-clause-data
@@ -11,4 +11,4 @@ pub returns-clause-forward : goal.returns-clause-forward
 returns-clause-forward c = a_forward_that_comes_stands
 
 pub returns-clause-unordered : goal.returns-clause-unordered
-returns-clause-unordered c = sole_data_that_comes_stands
+returns-clause-unordered c = unordered_data_that_comes_stands

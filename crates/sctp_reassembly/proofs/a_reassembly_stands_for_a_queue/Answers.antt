@@ -2,7 +2,9 @@ use Rattle.sctp_reassembly.proofs.Answering.{read_alike}
 use Rattle.sctp_reassembly.proofs.Arriving.{ordered_pieces_stand}
 use Rattle.sctp_reassembly.proofs.Ready.{the_same_is_ready}
 use Rattle.sctp_reassembly.proofs.Skipped.{ordered_skips_stand}
-use Rattle.sctp_reassembly.proofs.Sole.{none_comes_to_wait, sole_unordered_pieces_stand}
+use Rattle.sctp_reassembly.proofs.Bounding.{bounded_skips_spare, bounded_skips_stand}
+use Rattle.sctp_reassembly.proofs.Dropping.{unordered_drops_stand}
+use Rattle.sctp_reassembly.proofs.Unordered.{unordered_pieces_stand}
 use Rattle.sctp_reassembly.proofs.a_reassembly_stands_for_a_queue.Goals as goal
 
 pub returns-clause-pieces : goal.returns-clause-pieces
@@ -18,7 +20,13 @@ pub returns-clause-ready : goal.returns-clause-ready
 returns-clause-ready c = the_same_is_ready
 
 pub returns-clause-unordered : goal.returns-clause-unordered
-returns-clause-unordered c = sole_unordered_pieces_stand
+returns-clause-unordered c = unordered_pieces_stand
 
-pub returns-clause-together : goal.returns-clause-together
-returns-clause-together c = none_comes_to_wait
+pub returns-clause-drops : goal.returns-clause-drops
+returns-clause-drops c = unordered_drops_stand
+
+pub returns-clause-bounded : goal.returns-clause-bounded
+returns-clause-bounded c = bounded_skips_stand
+
+pub returns-clause-spares : goal.returns-clause-spares
+returns-clause-spares c = bounded_skips_spare
