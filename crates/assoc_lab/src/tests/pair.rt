@@ -2,7 +2,7 @@
 use crate::line::{Line, parse};
 use crate::setting::snapped;
 use crate::show::show;
-use sctp_assoc::Error;
+use sctp_assoc::Association;
 use sctp_pair::{Reply, Side2, Step};
 use std::alloc::{AllocError, Global};
 use std::test::Fail;
@@ -11,8 +11,9 @@ use std::test::Fail;
 static STEPS: &str =
     "open A 1 53\nwrite A 1 6869\nsend A 0\ndeliver B 0 0\nread B 1\ndeadline B\ntime B 200\nsend B 200\ndeliver A 0 200\nbuffered A 1\ndeadline A\nrtt A\n";
 
+/// The replies, and that of a question for a stream that is not live.
 static REPLIES: &str =
-    "ok\nwrote 2\npackets 0 1\nok\nmessage 53 6869\nat 200\nok\npackets 0 1\nok\n0\nnone\n1000\n";
+    "ok\nwrote 2\npackets 0 1\nok\nmessage 53 6869\nat 200\nok\npackets 0 1\nok\n0\nnone\n1000\nrefused 9\n";
 
 fn steps_of(alloc: Global, text: &str) -> Result<Vec<Step>, AllocError> {
     let mut steps = Vec::new(alloc);
@@ -21,6 +22,10 @@ fn steps_of(alloc: Global, text: &str) -> Result<Vec<Step>, AllocError> {
             steps.push(step)?;
         }
     }
+    steps.push(Step::Stream {
+        side: Side2::A,
+        id: 6,
+    })?;
     Ok(steps)
 }
 
@@ -33,43 +38,31 @@ fn text_of(alloc: Global, replies: Vec<Reply>) -> Result<String, AllocError> {
     Ok(text)
 }
 
+// DATA, SACK, expiries of the retransmission timer and of the delay of an acknowledgement, fast retransmissions.
+fn counts(association: &Association) -> [u64; 5] {
+    let stats = association.stats();
+    [
+        stats.get_num_datas(),
+        stats.get_num_sacks(),
+        stats.get_num_t3timeouts(),
+        stats.get_num_ack_timeouts(),
+        stats.get_num_fast_retrans(),
+    ]
+}
+
 #[test]
-fn a_run_gives_the_replies_of_its_steps(rt: HostRuntime) -> Result<(), Fail> {
+fn a_run_gives_replies_packets_and_counts(rt: HostRuntime) -> Result<(), Fail> {
     let mut pair = snapped(rt.alloc(), 1200, 100, 500)?;
     let steps = steps_of(rt.alloc(), STEPS)?;
     let replies = pair.run(steps.as_slice())?;
     let text = text_of(rt.alloc(), replies)?;
     assert_eq!(rt; text.as_str(), REPLIES);
-    Ok(())
-}
-
-#[test]
-fn packets_keep_their_numbers(rt: HostRuntime) -> Result<(), Fail> {
-    let mut pair = snapped(rt.alloc(), 1200, 100, 500)?;
-    let steps = steps_of(rt.alloc(), STEPS)?;
-    let _ = pair.run(steps.as_slice())?;
     // common header 12, DATA header 16, two bytes and their padding
     let length = pair.packet(Side2::A, 0).map_or(0, |packet| packet.len());
     assert_eq!(rt; length, 32);
     assert!(rt; pair.packet(Side2::A, 1).is_none());
+    assert_eq!(rt; counts(pair.association(Side2::A)), [0, 1, 0, 0, 0]);
+    assert_eq!(rt; counts(pair.association(Side2::B)), [1, 0, 0, 1, 0]);
     assert_eq!(rt; pair.association(Side2::B).point(), 100);
-    Ok(())
-}
-
-#[test]
-fn a_stream_that_is_not_live_is_refused(rt: HostRuntime) -> Result<(), Fail> {
-    let mut pair = snapped(rt.alloc(), 1200, 100, 500)?;
-    let reply = pair.step(&Step::Stream {
-        side: Side2::A,
-        id: 1,
-    });
-    assert!(rt; matches!(reply, Reply::Refused(9)));
-    Ok(())
-}
-
-#[test]
-fn a_pair_is_refused_as_its_sides_are(rt: HostRuntime) -> Result<(), Fail> {
-    let refused = snapped(rt.alloc(), 0, 100, 500).err();
-    assert!(rt; refused == Some(Error::ErrBadPayloadSize));
     Ok(())
 }

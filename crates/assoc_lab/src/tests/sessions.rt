@@ -4,30 +4,23 @@ use crate::session::session;
 use std::process::Abort;
 use std::test::Fail;
 
-/// A session and what it must give.
-#[derive(Clone, Copy)]
-struct Case<'a> {
-    name: &'a str,
-    input: &'a str,
-    output: &'a str,
-    errors: &'a str,
+// Checks what a session gives.
+fn check(
+    rt: &(impl Abort + AllocGlobal),
+    input: &[u8],
+    output: &str,
+    errors: &str,
     status: u8,
-}
-
-fn check(rt: &(impl Abort + AllocGlobal), case: &Case<'_>) -> Result<(), Fail> {
-    let mut output = Vec::new(rt.alloc());
-    let mut errors = Vec::new(rt.alloc());
-    let status = session(rt.alloc(), case.input.as_bytes(), &mut output, &mut errors);
-    let name = case.name;
+) -> Result<(), Fail> {
+    let mut written = Vec::new(rt.alloc());
+    let mut told = Vec::new(rt.alloc());
+    let ended = session(rt.alloc(), input, &mut written, &mut told);
     assert!(rt;
-        output.as_slice() == case.output.as_bytes(),
-        "output of: {name}"
+        written.as_slice() == output.as_bytes(),
+        "output of {input:?}"
     );
-    assert!(rt;
-        errors.as_slice() == case.errors.as_bytes(),
-        "errors of: {name}"
-    );
-    assert!(rt; status == case.status, "status of: {name}");
+    assert!(rt; told.as_slice() == errors.as_bytes(), "errors of {input:?}");
+    assert!(rt; ended == status, "status of {input:?}");
     Ok(())
 }
 
@@ -75,7 +68,7 @@ deadline A=none
 rtt A=3000
 ";
 
-/// A packet that was not given out, the state of a side, and an empty message.
+/// A packet that was not given out, the state of a side, an empty message, and a stream that is not live.
 static OTHERS: &str = "\
 snap 1200 100 500=ok
 deliver B 9 0=no such packet
@@ -85,58 +78,83 @@ event B=none
 state A=0 0 0 0 0
 open A 1 53=ok
 write A 1 -=refused 23
+read A 6=refused 9
 ";
 
-// Checks a session whose lines are steps with their replies.
+/// A handshake.
+static HANDSHAKE: &str = "\
+client 1200 100 500=ok
+send A 0=packets 0 1
+deliver B 0 0=ok
+send B 0=packets 0 1
+deliver A 0 0=ok
+send A 0=packets 1 1
+deliver B 1 0=ok
+event B=connected
+send B 0=packets 1 1
+deliver A 1 0=ok
+event A=connected
+state A=0 0 0 0 0
+";
+
+/// A handshake whose first COOKIE ACK is lost.
+static COOKIE_ACK_LOST: &str = "\
+client 1200 100 500=ok
+send A 0=packets 0 1
+deliver B 0 0=ok
+send B 0=packets 0 1
+deliver A 0 0=ok
+send A 0=packets 1 1
+deliver B 1 0=ok
+event B=connected
+send B 0=packets 1 1
+deadline A=at 3000
+time A 3000=ok
+send A 3000=packets 2 1
+deadline A=at 9000
+deliver B 2 3000=ok
+send B 3000=packets 2 1
+deliver A 2 3000=ok
+event A=connected
+deadline A=none
+event B=none
+";
+
+/// Payload sizes and a first TSN with which a pair is refused, a session each.
+static REFUSED: [&str; 3] = [
+    "snap 65520 100 500=refused 1\n",
+    "client 1200 0 500=refused 2\n",
+    "snap 0 100 500=refused 1\nfrob\n",
+];
+
+// Checks a session whose lines are steps with their replies. A line without a reply is not read any more.
 fn check_replies(rt: &(impl Abort + AllocGlobal), text: &str) -> Result<(), Fail> {
     let mut input = String::new(rt.alloc());
     let mut output = String::new(rt.alloc());
     for line in text.lines() {
-        if let Some((step, reply)) = line.split_once('=') {
-            input.push_str(step)?;
-            input.push_str("\n")?;
-            output.push_str(reply)?;
-            output.push_str("\n")?;
+        match line.split_once('=') {
+            Some((step, reply)) => {
+                input.push_str(step)?;
+                output.push_str(reply)?;
+                output.push_str("\n")?;
+            }
+            None => input.push_str(line)?,
         }
+        input.push_str("\n")?;
     }
-    let case = Case {
-        name: text,
-        input: input.as_str(),
-        output: output.as_str(),
-        errors: "",
-        status: 0,
-    };
-    check(rt, &case)
+    check(rt, input.as_bytes(), output.as_str(), "", 0)
 }
 
 #[test]
 fn sessions_give_their_replies(rt: HostRuntime) -> Result<(), Fail> {
-    check_replies(&rt, LOST)?;
-    check_replies(&rt, TWICE)?;
-    check_replies(&rt, OTHERS)
-}
-
-// Checks a session of one line behind another one, whose reply stands before the errors.
-fn check_line(
-    rt: &(impl Abort + AllocGlobal),
-    before: &str,
-    line: &str,
-    output: &str,
-    errors: &str,
-    status: u8,
-) -> Result<(), Fail> {
-    let mut input = String::new(rt.alloc());
-    input.push_str(before)?;
-    input.push_str(line)?;
-    input.push_str("\n")?;
-    let case = Case {
-        name: line,
-        input: input.as_str(),
-        output,
-        errors,
-        status,
-    };
-    check(rt, &case)
+    for text in [LOST, TWICE, OTHERS, HANDSHAKE, COOKIE_ACK_LOST] {
+        check_replies(&rt, text)?;
+    }
+    for text in REFUSED {
+        check_replies(&rt, text)?;
+    }
+    check(&rt, b"", "", "", 0)?;
+    check(&rt, b"snap 1200 100 500\nrtt A", "ok\n3000\n", "", 0)
 }
 
 /// Lines that are no steps, each behind a first one that joins a pair.
@@ -163,80 +181,35 @@ write A 1 6B
 OPEN A 1 53
 ";
 
-#[test]
-fn lines_that_are_no_steps_end_a_session(rt: HostRuntime) -> Result<(), Fail> {
-    for line in NO_STEPS.lines() {
-        check_line(
-            &rt,
-            "snap 1200 100 500\n",
-            line,
-            "ok\n",
-            "line 2: bad step\n",
-            2,
-        )?;
-    }
-    check_line(
-        &rt,
-        "snap 1200 100 500\nopen A 1 53\n",
-        "frob A",
-        "ok\nok\n",
-        "line 3: bad step\n",
-        2,
-    )
-}
-
 /// Lines that join no pair; the first one is empty.
 static NO_PAIR: &str = "\nopen A 1 53\nsnap 4294967296 1 1\n";
 
-/// Payload sizes with which a pair is refused; nothing is read after that.
-static REFUSED: &str = "\
-snap 0 100 500
-snap 65520 100 500
-";
+// Checks a session that ends at its last line, which is no step.
+fn check_line(
+    rt: &(impl Abort + AllocGlobal),
+    before: &str,
+    line: &str,
+    output: &str,
+    errors: &str,
+) -> Result<(), Fail> {
+    let mut input = String::new(rt.alloc());
+    input.push_str(before)?;
+    input.push_str(line)?;
+    input.push_str("\n")?;
+    check(rt, input.as_bytes(), output, errors, 2)
+}
 
 #[test]
-fn first_lines_that_join_no_pair_end_a_session(rt: HostRuntime) -> Result<(), Fail> {
+fn lines_that_are_no_steps_end_a_session(rt: HostRuntime) -> Result<(), Fail> {
+    let first = "snap 1200 100 500\n";
+    for line in NO_STEPS.lines() {
+        check_line(&rt, first, line, "ok\n", "line 2: bad step\n")?;
+    }
     for line in NO_PAIR.lines() {
-        check_line(&rt, "", line, "", "line 1: bad step\n", 2)?;
+        check_line(&rt, "", line, "", "line 1: bad step\n")?;
     }
-    for line in REFUSED.lines() {
-        check_line(&rt, "", line, "refused 1\n", "", 0)?;
-    }
-    check_line(&rt, "snap 0 100 500\n", "frob", "refused 1\n", "", 0)
-}
-
-#[test]
-fn the_last_line_may_lack_its_newline(rt: HostRuntime) -> Result<(), Fail> {
-    let case = Case {
-        name: "the last line lacks its newline",
-        input: "snap 1200 100 500\nrtt A",
-        output: "ok\n3000\n",
-        errors: "",
-        status: 0,
-    };
-    check(&rt, &case)
-}
-
-#[test]
-fn a_session_may_have_no_line(rt: HostRuntime) -> Result<(), Fail> {
-    let case = Case {
-        name: "no line",
-        input: "",
-        output: "",
-        errors: "",
-        status: 0,
-    };
-    check(&rt, &case)
-}
-
-#[test]
-fn a_line_that_is_no_text_is_no_step(rt: HostRuntime) -> Result<(), Fail> {
-    let mut output = Vec::new(rt.alloc());
-    let mut errors = Vec::new(rt.alloc());
-    let input: &[u8] = b"snap 1200 100 500\nopen A 1 \xff53\n";
-    let status = session(rt.alloc(), input, &mut output, &mut errors);
-    assert!(rt; output.as_slice() == b"ok\n".as_slice());
-    assert!(rt; errors.as_slice() == b"line 2: bad step\n".as_slice());
-    assert!(rt; status == 2);
-    Ok(())
+    let two = "snap 1200 100 500\nopen A 1 53\n";
+    check_line(&rt, two, "frob A", "ok\nok\n", "line 3: bad step\n")?;
+    let no_text = b"snap 1200 100 500\nopen A 1 \xff53\n";
+    check(&rt, no_text, "ok\n", "line 2: bad step\n", 2)
 }
