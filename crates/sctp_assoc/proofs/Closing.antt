@@ -33,7 +33,7 @@ use Rattle.sctp_outbound.specs.Sender.{acknowledged, points_to, sack_outcome, wi
 use Rattle.sctp_assoc.specs.declared.inbound.Flow.{Flow}
 use Rattle.sctp_assoc.specs.declared.inbound.Flow.TheVariants as flows
 use Rattle.sctp_assoc.specs.Calls.{closed_by, is_beginning, is_closed_state, is_cookie_echoed, is_cookie_wait, is_established}
-use Rattle.sctp_assoc.specs.Handshake.{acknowledged_cookie, answered, connected, cookie_queued, echoed, information_returned, met, met_back, on_cookie_ack, on_cookie_echo, on_heartbeat, on_init, on_init_ack, sends_cookie}
+use Rattle.sctp_assoc.specs.Handshake.{acknowledged_cookie, answered, connected, echoed, information_returned, met, on_cookie_ack, on_cookie_echo, on_heartbeat, on_init, on_init_ack, sends_cookie}
 use Rattle.sctp_assoc.specs.Chunks.{after_chunks, after_packet_of, asks_or_faults, checked_first, dispatched, goes_on, is_whole, on_chunk, on_counted_data, on_counted_sack, on_data, on_next_data, on_sack, stream_found, taken_in, taken_unless, told, with_acknowledged, with_message}
 use Rattle.sctp_assoc.specs.Laws.{FaultsAloneClose, IsClosedIf, faults_or, is_faulted, is_faulted_packet, loss_of, losses}
 use Rattle.sctp_assoc.specs.Shown.{Shown}

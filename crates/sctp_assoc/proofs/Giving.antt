@@ -10,8 +10,8 @@ use Rattle.sctp_outbound_queue.specs.Message.{counted_again}
 use Rattle.sctp_outbound_queue.specs.Outbound.{Outbound, next_tsn_of, pieces_waiting, sent_next, tsn_at}
 use Rattle.sctp_queues.specs.Streams.{StreamMap}
 use Rattle.sctp_outbound.specs.declared.sender.Sender.{Sender}
-use Rattle.sctp_outbound.specs.Sender.{after_resending, both_windows, can_send_next, chunk_of, first_chunk, first_counted, fits_windows, next_chunk_of, resends_alone, resent_by, resent_chunks, resent_pieces, sent_new, sent_one, sent_within, with_in_flight}
-use Rattle.sctp_assoc.specs.Acts.{Act, Can, CanAll, History, Parts, done, done_all, data_given, all_data_given, chunk_said, first_chunk_said, parts}
+use Rattle.sctp_outbound.specs.Sender.{after_resending, both_windows, can_send_next, chunk_of, first_chunk, first_counted, fits_windows, resends_alone, resent_by, resent_chunks, resent_pieces, sent_new, sent_one, sent_within, with_in_flight}
+use Rattle.sctp_assoc.specs.Acts.{Act, CanAll, History, Parts, done_all, all_data_given, first_chunk_said, parts}
 use Rattle.sctp_assoc.specs.Polled.{AckIsReadAgain, data_polled, with_sent_data}
 use Rattle.sctp_assoc.specs.Shown.{Shown}
 use Rattle.sctp_assoc.specs.Happened.{acks_given, acts_of_ack, acts_of_data_poll, acts_of_marks, acts_of_new, acts_of_resending, acts_of_sending, first_again, first_sent}

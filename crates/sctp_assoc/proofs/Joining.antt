@@ -30,7 +30,7 @@ use Rattle.sctp_inbound.specs.declared.receiver.AckWish.TheVariants as wishes
 use Rattle.sctp_inbound.specs.declared.receiver.Receiver.{Receiver}
 use Rattle.sctp_inbound.specs.declared.handshake.Offer.{Offer}
 use Rattle.sctp_inbound.specs.Greeting.{first_cookie, information_of}
-use Rattle.sctp_inbound.specs.Handshake.{comes_back, has_issued, met_by_init_ack}
+use Rattle.sctp_inbound.specs.Handshake.{comes_back, has_issued}
 use Rattle.sctp_inbound.specs.Receiver.{credit_of, is_next_after, taken_to}
 use Rattle.sctp_outbound_queue.specs.Outbound.{Outbound}
 use Rattle.sctp_outbound.specs.declared.sender.Sender.{Sender}
@@ -43,7 +43,7 @@ use Rattle.sctp_assoc.specs.Acts.{Act, Binds, CanAll, History, Leads, Parts, IsS
 use Rattle.sctp_assoc.specs.Calls.{after_ack_delay, after_t3, closed_by, closed_open, event_from, event_polled, opened, read_from_stream, retransmits, t3_expired, written, written_at, is_beginning, is_closed_state, is_cookie_echoed, is_cookie_wait, is_established}
 use Rattle.sctp_assoc.specs.Chunks.{after_chunks, after_packet, after_packet_of, after_sack, asks_or_faults, checked_first, counted_data, counted_sack, dispatched, ended, goes_on, is_whole, on_chunk, on_counted_sack, on_data, on_next_data, on_sack, stream_found, taken_in, taken_unless, told, with_acknowledged, with_message, with_new_stream}
 use Rattle.sctp_assoc.specs.Happened.{acts_after, acts_of_checked, acts_of_chunk, acts_of_chunks, acts_of_close, acts_of_kind, acts_of_packet, acts_of_packet_of, acts_of_data, acts_of_found, acts_of_outcome, acts_of_sack, acts_of_stream, acts_of_init, acts_of_init_ack, acts_of_t3, acts_of_taking, acts_of_timeouts, acts_unless_refused}
-use Rattle.sctp_assoc.specs.Handshake.{acknowledged_cookie, after_t1_cookie, after_t1_init, answered, connected, cookie_queued, echoed, information_returned, init_queued, met, met_back, on_cookie_ack, on_cookie_echo, on_heartbeat, on_init, on_init_ack, sends_cookie, sends_init, t1_cookie_expired, t1_init_expired, with_echo}
+use Rattle.sctp_assoc.specs.Handshake.{acknowledged_cookie, after_t1_cookie, after_t1_init, answered, connected, cookie_queued, echoed, information_returned, init_queued, met, on_cookie_ack, on_cookie_echo, on_heartbeat, on_init, on_init_ack, sends_cookie, sends_init, t1_cookie_expired, t1_init_expired, with_echo}
 use Rattle.sctp_assoc.specs.Timeouts.{after_handshake_timers, after_timeouts}
 use Rattle.sctp_assoc.specs.Shown.{Shown}
 use Rattle.sctp_assoc.proofs.Acting.{acknowledged_tied, acts_tied, can_append, done_append, pieces_acknowledged}
@@ -519,6 +519,8 @@ pub timeouts_lead_on : (a b : Shown) (now : ℕ) → b ≡ after_timeouts a now 
 timeouts_lead_on a b now e h binds =
     let first = handshake_timers_lead a now h binds in
     let c : Shown = after_handshake_timers a now in
-    let t3 = t3_leads (expiry_of names.T3RTX now c.timers).0 (expiry_of names.T3RTX now c.timers).1 c now h first.binds in
-    (h, rw e (leads_on [] (acts_of_t3 c now) a c (after_ack_delay (after_t3 c now) now) h h h first
-    (ack_delay_leads (expiry_of names.Ack now (after_t3 c now).timers).0 (acts_of_t3 c now) c (after_t3 c now) now h refl t3)))
+    let t3 = t3_leads (expiry_of names.T3RTX now c.timers).0 (expiry_of names.T3RTX now c.timers).1 c now h first.binds in (
+      h,
+      rw e (leads_on [] (acts_of_t3 c now) a c (after_ack_delay (after_t3 c now) now) h h h first
+          (ack_delay_leads (expiry_of names.Ack now (after_t3 c now).timers).0 (acts_of_t3 c now) c (after_t3 c now) now h refl t3)),
+    )

@@ -26,11 +26,11 @@ use Rattle.sctp_outbound.specs.declared.sender.SackOutcome.{SackOutcome}
 use Rattle.sctp_outbound.specs.declared.sender.SackOutcome.TheVariants as outcomes
 use Rattle.sctp_outbound.specs.declared.sender.Sender.{Sender}
 use Rattle.sctp_outbound.specs.Sender.{acknowledged, after_first, after_resending, can_send_next, points_to, resent_by, sack_outcome, sender_after, sent_new, sent_one, sent_within, with_window}
-use Rattle.sctp_assoc.specs.Calls.{after_ack_delay, after_t3, event_from, event_polled, is_established, retransmits, t3_expired, written_at}
+use Rattle.sctp_assoc.specs.Calls.{after_ack_delay, after_t3, event_from, is_established, retransmits, t3_expired, written_at}
 use Rattle.sctp_assoc.specs.Chunks.{asks_or_faults, checked_first, counted_data, dispatched, on_counted_data, counted_sack, is_whole, on_chunk, on_counted_sack, on_data, on_next_data, on_sack, stream_found, taken_in, told}
 use Rattle.sctp_assoc.specs.Handshake.{after_t1_init, cookie_queued, init_queued, sends_cookie, sends_init, t1_cookie_expired, t1_init_expired}
-use Rattle.sctp_assoc.specs.Polled.{ack_after, ack_polled, after_both, control_packets, data_packets, data_polled, exchange_polled, is_due, with_sent_data, without_control}
-use Rattle.sctp_assoc.specs.Timeouts.{after_handshake_timers, after_timeouts}
+use Rattle.sctp_assoc.specs.Polled.{ack_after, ack_polled, control_packets, data_packets, data_polled, exchange_polled, is_due, with_sent_data, without_control}
+use Rattle.sctp_assoc.specs.Timeouts.{after_handshake_timers}
 use Rattle.sctp_assoc.specs.Shapes.{IsQuiet, IsSameStatus, Leaves, OpenedStreamsKeepTheStatus, PollsKeepTheStatus, ReadsKeepTheStatus, TimersKeepTheStatus, ToldEventsKeepTheStatus, WritesKeepTheStatus}
 use Rattle.sctp_assoc.specs.Shown.{Shown}
 use Rattle.sctp_assoc.proofs.Polling.{both_first}

@@ -252,9 +252,12 @@ impl Association {
     {
         match self.events.pop() {
             Some(event) => Some(event),
-            None => self.handshake_fault.take().map(|fault| Event::HandshakeFailed {
-                reason: fault.into(),
-            }),
+            None => self
+                .handshake_fault
+                .take()
+                .map(|fault| Event::HandshakeFailed {
+                    reason: fault.into(),
+                }),
         }
     }
 

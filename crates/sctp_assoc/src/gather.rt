@@ -38,7 +38,11 @@ impl Association {
         Ok(())
     }
 
-    fn gather_established(&mut self, packets: &mut Vec<Bytes>, now: Instant) -> Result<(), AllocError>
+    fn gather_established(
+        &mut self,
+        packets: &mut Vec<Bytes>,
+        now: Instant,
+    ) -> Result<(), AllocError>
         ensures exact { OnOk result (after_both packets.old.items (ack_after (data_polled self.old now)) ≡ (self.new, packets.new.items)) }
         ensures again { OnOk result (ExchangeIsReadAgain self.old now) }
     {

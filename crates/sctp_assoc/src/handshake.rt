@@ -9,15 +9,18 @@ use sctp_inbound::{AckWish, heartbeat_ack, heartbeat_information, state_cookie};
 use sctp_parts::state::AssociationState;
 use sctp_parts::timer::Timer;
 use sctp_queues::Event;
-use sctp_wire_types::{
-    Chunk, ChunkHeartbeat, ChunkInit, CommonHeader, Error, Instant,
-};
+use sctp_wire_types::{Chunk, ChunkHeartbeat, ChunkInit, CommonHeader, Error, Instant};
 use std::alloc::AllocError;
 
 impl Association {
     // INIT (RFC 4960 sections 5.1 and 5.2): before the association is established it is answered by INIT ACK.
     #[tactic(auto, unfolding(crate::specs::Handshake::on_init))]
-    pub(crate) fn on_init(&mut self, header: CommonHeader, init: ChunkInit, wish: AckWish) -> Result<Flow, AllocError>
+    pub(crate) fn on_init(
+        &mut self,
+        header: CommonHeader,
+        init: ChunkInit,
+        wish: AckWish,
+    ) -> Result<Flow, AllocError>
         ensures { IfOk result (λ flow. on_init self.old header init wish ≡ (self.new, flow)) }
     {
         match self.state {
@@ -82,7 +85,11 @@ impl Association {
 
     // COOKIE ECHO (RFC 4960 section 5.1): the cookie that this side gave out establishes the association.
     #[tactic(auto, unfolding(crate::specs::Handshake::on_cookie_echo))]
-    pub(crate) fn on_cookie_echo(&mut self, cookie: Bytes, wish: AckWish) -> Result<Flow, AllocError>
+    pub(crate) fn on_cookie_echo(
+        &mut self,
+        cookie: Bytes,
+        wish: AckWish,
+    ) -> Result<Flow, AllocError>
         ensures { IfOk result (λ flow. on_cookie_echo self.old cookie wish ≡ (self.new, flow)) }
     {
         if !self.handshake.has_issued(&cookie) {

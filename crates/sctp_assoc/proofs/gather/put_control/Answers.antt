@@ -1,4 +1,4 @@
-use Rattle.std.proofs.Common.{rules, arith, ◌≡◌, ◌++◌, refl}
+use Rattle.std.proofs.Common.{arith}
 use Rattle.std.proofs.lemmas.Grind.{common_steps}
 use Rattle.sctp_assoc.proofs.ReadAgain.{one_more_control_again}
 use Rattle.sctp_assoc.proofs.gather.put_control.Goals as goal

@@ -1,4 +1,4 @@
-use Rattle.std.proofs.Common.{rules, arith, ◌≡◌, ◌++◌, refl}
+use Rattle.std.proofs.Common.{arith}
 use Rattle.std.proofs.lemmas.Grind.{common_steps}
 use Rattle.sctp_assoc.proofs.ReadAgain.{one_more_again}
 use Rattle.sctp_assoc.proofs.gather.put_data.Goals as goal

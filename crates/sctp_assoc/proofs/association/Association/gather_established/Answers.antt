@@ -1,4 +1,4 @@
-use Rattle.std.proofs.Common.{rules, ◌≡◌}
+use Rattle.std.proofs.Common.{rules}
 use Rattle.sctp_assoc.proofs.ReadAgain.{poll_again}
 use Rattle.sctp_assoc.proofs.association.Association.gather_established.Goals as goal
 

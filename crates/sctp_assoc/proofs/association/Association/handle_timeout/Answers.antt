@@ -1,4 +1,3 @@
-use Rattle.std.proofs.Common.{◌≡◌}
 use Rattle.sctp_assoc.proofs.Joining.{timeouts_lead_on}
 use Rattle.sctp_assoc.proofs.association.Association.handle_timeout.Goals as goal
 
