@@ -4,7 +4,8 @@ use crate::tests::association::joined;
 use bytes::Bytes;
 use sctp_assoc::{
     Association, AssociationError, AssociationEvent, AssociationState, Error, Event, Instant,
-    PartialDecode, Payload, PayloadProtocolIdentifier, ServerConfig, StreamEvent, Transmit, TransportConfig,
+    PartialDecode, Payload, PayloadProtocolIdentifier, ServerConfig, StreamEvent, Transmit,
+    TransportConfig,
 };
 use std::alloc::Global;
 use std::test::Fail;
@@ -106,7 +107,16 @@ fn server(alloc: Global) -> Result<Association, Error> {
     let server_config = ServerConfig::default();
     let config = TransportConfig::default();
     let start = Instant::from_millis(0);
-    created(alloc, Some(&server_config), &config, 1200, 2, 500, [67; 32], start)
+    created(
+        alloc,
+        Some(&server_config),
+        &config,
+        1200,
+        2,
+        500,
+        [67; 32],
+        start,
+    )
 }
 
 // The packets that are due, in hex, a line each.
