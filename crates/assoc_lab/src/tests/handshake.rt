@@ -4,13 +4,11 @@ use crate::tests::association::joined;
 use bytes::Bytes;
 use sctp_assoc::{
     Association, AssociationError, AssociationEvent, AssociationState, Error, Event, Instant,
-    PartialDecode, Payload, PayloadProtocolIdentifier, ServerConfig, Transmit, TransportConfig,
+    PartialDecode, Payload, PayloadProtocolIdentifier, ServerConfig, StreamEvent, Transmit,
+    TransportConfig,
 };
 use std::alloc::Global;
 use std::test::Fail;
-
-/// The State Cookie of either side.
-const COOKIE: [u8; 32] = [67; 32];
 
 /// INIT: initiate tag 0x12345678, window 131,072, 1024 streams each way, first TSN 1, Forward TSN supported, RE-CONFIG and
 /// FORWARD TSN listed.
@@ -69,46 +67,69 @@ static HEARTBEAT_ACK: &str = "\
 0500000b0001000701020300
 ";
 
+// A server where there is a `server_config`, else a client.
+fn created(
+    alloc: Global,
+    server_config: Option<&ServerConfig>,
+    config: &TransportConfig,
+    max_payload_size: u32,
+    tag: u32,
+    initial_tsn: u32,
+    cookie: [u8; 32],
+    now: Instant,
+) -> Result<Association, Error> {
+    let remote_addr = address(2);
+    Association::new(
+        alloc,
+        server_config,
+        config,
+        max_payload_size,
+        tag,
+        initial_tsn,
+        cookie,
+        remote_addr,
+        None,
+        now,
+    )
+}
+
 fn client(
     alloc: Global,
     config: &TransportConfig,
     tag: u32,
     initial_tsn: u32,
 ) -> Result<Association, Error> {
-    Association::new(
-        alloc,
-        None,
-        config,
-        1200,
-        tag,
-        initial_tsn,
-        COOKIE,
-        address(2),
-        None,
-        Instant::from_millis(0),
-    )
+    let start = Instant::from_millis(0);
+    created(alloc, None, config, 1200, tag, initial_tsn, [67; 32], start)
 }
 
 fn server(alloc: Global) -> Result<Association, Error> {
-    Association::new(
+    let server_config = ServerConfig::default();
+    let config = TransportConfig::default();
+    let start = Instant::from_millis(0);
+    created(
         alloc,
-        Some(&ServerConfig::default()),
-        &TransportConfig::default(),
+        Some(&server_config),
+        &config,
         1200,
         2,
         500,
-        COOKIE,
-        address(1),
-        None,
-        Instant::from_millis(0),
+        [67; 32],
+        start,
     )
 }
 
 // The packets that are due, in hex, a line each.
 fn sent(alloc: Global, association: &mut Association, millis: u64) -> Result<String, Fail> {
+    match association.poll_transmit(Instant::from_millis(millis))? {
+        Some(transmit) => lines_of(alloc, transmit.payload),
+        None => Ok(String::new(alloc)),
+    }
+}
+
+fn lines_of(alloc: Global, payload: Payload) -> Result<String, Fail> {
     let mut text = String::new(alloc);
-    let transmit = association.poll_transmit(Instant::from_millis(millis))?;
-    if let Some(Payload::RawEncode(packets)) = transmit.map(|transmit| transmit.payload) {
+    if let Payload::RawEncode(packets) = payload {
         for packet in packets {
             text.push_str(hex::encode(alloc, packet.as_slice())?.as_str())?;
             text.push_str("\n")?;
@@ -129,17 +150,21 @@ fn deliver(
     millis: u64,
 ) -> Result<(), Fail> {
     for line in text.lines() {
-        let datagram = datagram(alloc, line)?;
-        let transmit = Transmit {
-            now: Instant::from_millis(millis),
-            remote: address(2),
-            payload: Payload::PartialDecode(PartialDecode::unmarshal(&datagram)?),
-            ecn: None,
-            local_ip: None,
-        };
-        association.handle_event(AssociationEvent::datagram(transmit))?;
+        association.handle_event(event(alloc, line, millis)?)?;
     }
     Ok(())
+}
+
+fn event(alloc: Global, line: &str, millis: u64) -> Result<AssociationEvent, Fail> {
+    let datagram = datagram(alloc, line)?;
+    let transmit = Transmit {
+        now: Instant::from_millis(millis),
+        remote: address(2),
+        payload: Payload::PartialDecode(PartialDecode::unmarshal(&datagram)?),
+        ecn: None,
+        local_ip: None,
+    };
+    Ok(AssociationEvent::datagram(transmit))
 }
 
 // Both sides are polled, and then each gets all packets of the other.
@@ -247,20 +272,9 @@ fn met(alloc: Global) -> Result<(Association, Association), Fail> {
     Ok((a, b))
 }
 
-fn write(association: &mut Association, bytes: &[u8]) -> Result<usize, Fail> {
-    let mut stream = association.open_stream(1, PayloadProtocolIdentifier::Binary)?;
-    Ok(stream.write(bytes)?)
-}
-
-// The first cut of the next message.
-fn read(association: &mut Association) -> Result<Option<Bytes>, Fail> {
-    match association.stream(1)?.read()? {
-        Some(message) => {
-            let mut message = message;
-            Ok(message.next(usize::MAX)?)
-        }
-        None => Ok(None),
-    }
+fn write(association: &mut Association, id: u16, bytes: &[u8]) -> Result<usize, Error> {
+    let mut stream = association.open_stream(id, PayloadProtocolIdentifier::Binary)?;
+    stream.write(bytes)
 }
 
 #[test]
@@ -270,9 +284,17 @@ fn two_clients_that_meet_are_established(rt: HostRuntime) -> Result<(), Fail> {
         assert!(rt; side.state() == AssociationState::Established);
         assert!(rt; !side.is_handshaking() && side.poll_timeout().is_none());
     }
-    assert_eq!(rt; write(&mut a, b"hi")?, 2);
+    assert_eq!(rt; write(&mut a, 1, b"hi")?, 2);
     cross(rt.alloc(), &mut a, &mut b)?;
-    let cut = read(&mut b)?.expect(&rt, "a message");
-    assert_eq!(rt; cut.as_slice(), b"hi".as_slice());
+    let events = [
+        Event::Connected,
+        Event::Stream(StreamEvent::Opened { id: 1 }),
+        Event::DatagramReceived,
+        Event::Stream(StreamEvent::Readable { id: 1 }),
+    ];
+    for event in events {
+        assert!(rt; b.poll()? == Some(event));
+    }
+    assert_eq!(rt; b.point(), 100);
     Ok(())
 }
