@@ -7,6 +7,7 @@ mod Giving
 mod Joining
 mod Keeping
 mod Live
+mod Meeting
 mod PollSays
 mod Polling
 pub mod Proved

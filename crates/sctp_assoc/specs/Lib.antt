@@ -8,6 +8,7 @@ pub mod Inbound
 pub mod Join
 pub mod Laws
 pub mod Lending
+pub mod Meeting
 pub mod Polled
 pub mod Shapes
 pub mod Shown

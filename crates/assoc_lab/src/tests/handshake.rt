@@ -1,6 +1,6 @@
 // The handshake, packet by packet. The datagrams were spelled apart from this code.
 use crate::setting::address;
-use crate::tests::association::joined;
+use crate::tests::association::{expire, joined, numbers, standing, told};
 use bytes::Bytes;
 use sctp_assoc::{
     Association, AssociationError, AssociationEvent, AssociationState, Error, Event, Instant,
@@ -175,89 +175,94 @@ fn cross(alloc: Global, a: &mut Association, b: &mut Association) -> Result<(), 
     deliver(alloc, a, packets_b.as_str(), 0)
 }
 
+// What goes out once these datagrams came.
+fn answer(alloc: Global, association: &mut Association, text: &str) -> Result<String, Fail> {
+    deliver(alloc, association, text, 0)?;
+    sent(alloc, association, 0)
+}
+
 #[test]
 fn an_init_is_answered_by_an_init_ack(rt: HostRuntime) -> Result<(), Fail> {
     let mut server = server(rt.alloc())?;
-    deliver(rt.alloc(), &mut server, INIT, 0)?;
-    assert_eq!(rt; sent(rt.alloc(), &mut server, 0)?.as_str(), INIT_ACK);
-    assert_eq!(rt; sent(rt.alloc(), &mut server, 0)?.as_str(), "");
+    let answer = answer(rt.alloc(), &mut server, INIT)?;
+    assert_eq!(rt; answer.as_str(), INIT_ACK);
     assert_eq!(rt;
-        (server.rwnd(), server.point(), server.peer_tag()),
-        (131_072, 0, 0x1234_5678)
+        numbers(&server),
+        (131_072, 0, 0x1234_5678, (1024, 1024), true)
     );
-    assert_eq!(rt; server.stream_counts(), (1024, 1024));
-    assert!(rt; server.uses_forward_tsn() && server.state() == AssociationState::Closed);
+    assert_eq!(rt; standing(&server), (AssociationState::Closed, 0));
+    Ok(())
+}
+
+fn is_undecodable(alloc: Global, line: &str) -> Result<bool, Fail> {
+    Ok(PartialDecode::unmarshal(&datagram(alloc, line)?).is_err())
+}
+
+#[test]
+fn a_datagram_that_does_not_decode_is_refused(rt: HostRuntime) -> Result<(), Fail> {
+    for line in ["1388138800000000925755", INIT_CHANGED] {
+        assert!(rt; is_undecodable(rt.alloc(), line)?, "of {line}");
+    }
     Ok(())
 }
 
 #[test]
-fn a_refused_packet_changes_nothing(rt: HostRuntime) -> Result<(), Fail> {
+fn an_init_under_a_tag_changes_nothing(rt: HostRuntime) -> Result<(), Fail> {
     let mut server = server(rt.alloc())?;
-    for line in ["1388138800000000925755", INIT_CHANGED] {
-        let datagram = datagram(rt.alloc(), line)?;
-        assert!(rt; PartialDecode::unmarshal(&datagram).is_err(), "of {line}");
-    }
-    deliver(rt.alloc(), &mut server, INIT_UNDER_TAG, 0)?;
-    assert_eq!(rt; sent(rt.alloc(), &mut server, 0)?.as_str(), "");
-    assert_eq!(rt;
-        (server.rwnd(), server.point(), server.peer_tag()),
-        (0, 0, 0)
-    );
-    assert_eq!(rt; server.stream_counts(), (65_535, 65_535));
-    assert!(rt; !server.uses_forward_tsn() && server.state() == AssociationState::Closed);
+    let answer = answer(rt.alloc(), &mut server, INIT_UNDER_TAG)?;
+    assert_eq!(rt; answer.as_str(), "");
+    assert_eq!(rt; numbers(&server), (0, 0, 0, (65_535, 65_535), false));
+    assert_eq!(rt; standing(&server), (AssociationState::Closed, 0));
     Ok(())
+}
+
+// What a client sends at a moment, and its next deadline, in ms.
+fn round(alloc: Global, client: &mut Association, millis: u64) -> Result<(String, u64), Fail> {
+    expire(client, millis)?;
+    let text = sent(alloc, client, millis)?;
+    Ok((text, standing(client).1))
+}
+
+// Whether it is told that no INIT ACK came, and nothing more.
+fn gives_up(client: &mut Association) -> Result<bool, Error> {
+    let reason = AssociationError::from(Error::ErrHandshakeInitAck);
+    let first = told(client)?;
+    let second = told(client)?;
+    Ok(first == Some(Event::HandshakeFailed { reason }) && second.is_none())
 }
 
 #[test]
 fn a_client_gives_up_after_its_last_init(rt: HostRuntime) -> Result<(), Fail> {
     let config = TransportConfig::default().with_max_init_retransmits(Some(2));
     let mut client = client(rt.alloc(), &config, 1, 100)?;
-    for (millis, next) in [(0, 3000), (3000, 9000), (9000, 21_000)] {
-        client.handle_timeout(Instant::from_millis(millis))?;
-        assert_eq!(rt;
-            sent(rt.alloc(), &mut client, millis)?.as_str(),
-            CLIENT_INIT,
-            "at {millis}"
-        );
-        assert_eq!(rt;
-            client.poll_timeout(),
-            Some(Instant::from_millis(next)),
-            "at {millis}"
-        );
+    for (millis, init, deadline) in [
+        (0, CLIENT_INIT, 3000),
+        (3000, CLIENT_INIT, 9000),
+        (9000, CLIENT_INIT, 21_000),
+        (21_000, "", 0),
+    ] {
+        let (text, next) = round(rt.alloc(), &mut client, millis)?;
+        assert!(rt; text.as_str() == init && next == deadline, "at {millis}");
     }
-    client.handle_timeout(Instant::from_millis(21_000))?;
-    assert_eq!(rt; sent(rt.alloc(), &mut client, 21_000)?.as_str(), "");
-    let reason = AssociationError::from(Error::ErrHandshakeInitAck);
-    assert!(rt; client.poll()? == Some(Event::HandshakeFailed { reason }));
-    assert!(rt; client.poll()?.is_none() && client.poll_timeout().is_none());
+    assert!(rt; gives_up(&mut client)?);
     Ok(())
 }
 
 #[test]
 fn a_heartbeat_is_answered_with_its_information(rt: HostRuntime) -> Result<(), Fail> {
     let mut association = joined(rt.alloc(), 1200, (1, 2))?;
-    deliver(rt.alloc(), &mut association, HEARTBEAT, 0)?;
-    assert_eq!(rt;
-        sent(rt.alloc(), &mut association, 0)?.as_str(),
-        HEARTBEAT_ACK
-    );
-    assert_eq!(rt; sent(rt.alloc(), &mut association, 0)?.as_str(), "");
+    let answer = answer(rt.alloc(), &mut association, HEARTBEAT)?;
+    assert_eq!(rt; answer.as_str(), HEARTBEAT_ACK);
     Ok(())
 }
 
 #[test]
 fn of_an_init_ack_between_other_ports_tag_and_streams_count(rt: HostRuntime) -> Result<(), Fail> {
     let mut client = client(rt.alloc(), &TransportConfig::default(), 1, 100)?;
-    assert_eq!(rt; sent(rt.alloc(), &mut client, 0)?.as_str(), CLIENT_INIT);
-    deliver(rt.alloc(), &mut client, INIT_ACK_OF_OTHER_PORTS, 0)?;
-    assert_eq!(rt; sent(rt.alloc(), &mut client, 0)?.as_str(), "");
-    assert_eq!(rt;
-        (client.rwnd(), client.point(), client.peer_tag()),
-        (0, 0, 2)
-    );
-    assert_eq!(rt; client.stream_counts(), (20, 10));
-    assert!(rt; !client.uses_forward_tsn() && client.state() == AssociationState::CookieWait);
-    assert_eq!(rt; client.poll_timeout(), Some(Instant::from_millis(3000)));
+    let init = answer(rt.alloc(), &mut client, INIT_ACK_OF_OTHER_PORTS)?;
+    assert_eq!(rt; init.as_str(), CLIENT_INIT);
+    assert_eq!(rt; numbers(&client), (0, 0, 2, (20, 10), false));
+    assert_eq!(rt; standing(&client), (AssociationState::CookieWait, 3000));
     Ok(())
 }
 
@@ -277,24 +282,27 @@ fn write(association: &mut Association, id: u16, bytes: &[u8]) -> Result<usize, 
     stream.write(bytes)
 }
 
-#[test]
-fn two_clients_that_meet_are_established(rt: HostRuntime) -> Result<(), Fail> {
-    let (mut a, mut b) = met(rt.alloc())?;
-    for side in [&a, &b] {
-        assert!(rt; side.state() == AssociationState::Established);
-        assert!(rt; !side.is_handshaking() && side.poll_timeout().is_none());
-    }
-    assert_eq!(rt; write(&mut a, 1, b"hi")?, 2);
-    cross(rt.alloc(), &mut a, &mut b)?;
-    let events = [
+// Whether it is told of its establishment, and of a stream 1 that can be read.
+fn hears(association: &mut Association) -> Result<bool, Error> {
+    let mut heard = true;
+    for event in [
         Event::Connected,
         Event::Stream(StreamEvent::Opened { id: 1 }),
         Event::DatagramReceived,
         Event::Stream(StreamEvent::Readable { id: 1 }),
-    ];
-    for event in events {
-        assert!(rt; b.poll()? == Some(event));
+    ] {
+        heard = told(association)? == Some(event) && heard;
     }
-    assert_eq!(rt; b.point(), 100);
+    Ok(heard)
+}
+
+#[test]
+fn two_clients_that_meet_are_established(rt: HostRuntime) -> Result<(), Fail> {
+    let (mut a, mut b) = met(rt.alloc())?;
+    assert_eq!(rt; standing(&a), (AssociationState::Established, 0));
+    write(&mut a, 1, b"hi")?;
+    cross(rt.alloc(), &mut a, &mut b)?;
+    assert!(rt; hears(&mut b)?);
+    assert_eq!(rt; standing(&b).0, AssociationState::Established);
     Ok(())
 }
