@@ -18,15 +18,17 @@ use Rattle.sctp_assoc.specs.Shapes.{ChunksLeadOn, Closes, EndsPacket, Establishe
 use Rattle.sctp_assoc.specs.Shown.{Shown}
 use Rattle.sctp_assoc.proofs.Carrying.{chunks_carry}
 use Rattle.sctp_assoc.proofs.Joining.{chunk_leads, leads_nowhere}
-use Rattle.sctp_assoc.proofs.Status.{chunk_leaves}
+use Rattle.sctp_assoc.proofs.Meeting.{chunk_greets}
+use Rattle.sctp_assoc.proofs.Status.{chunk_leaves, status_by}
+use Rattle.sctp_assoc.proofs.Truth.{keeps_saying, truthful_silent}
 
 pub chunks_lead_on : ChunksLeadOn
-chunks_lead_on header c a wish now = record { leads = λ h binds. chunk_leads header c a wish now h binds; leaves = chunk_leaves header c a wish now }
+chunks_lead_on header c a wish now = record { leads = λ h binds. chunk_leads header c a wish now h binds; leaves = chunk_leaves header c a wish now; greets = chunk_greets header c a wish now }
 
 pub packets_end : PacketsEnd
 packets_end a wish now = record {
   leads = λ h binds. (h, leads_nowhere a (ended a wish now) h binds refl (point_stays wish));
-  same = record { failed = refl; state = refl; lost = refl; size = refl; quiet = λ q. record { control = q.control; offer = q.offer; echo = q.echo } };
+  same = status_by a (ended a wish now) refl refl refl refl refl refl refl;
 }
   where
     point_stays : (w : AckWish) → (ended a w now).receiver.point ≡ a.receiver.point
@@ -38,10 +40,13 @@ none_some : (t : Stream) → None ≡ Some t → ⊥
 none_some t e = cc
 
 closes_if : (c : Bool) (a : Shown) (reason : AssociationError) → is_closed_state a.state ≡ c → Closes a (if c then a else closed_open a reason)
-closes_if true a reason e = record { failed = refl; quiet = λ q. q; ends = λ f. absurd (true≢false (sym e ∙ f)); stays = λ f. refl }
+closes_if true a reason e = record { failed = refl; side = refl; handshake = refl; quiet = λ q. q; truthful = λ own t. t; ends = λ f. absurd (true≢false (sym e ∙ f)); stays = λ f. refl }
 closes_if false a reason e = record {
   failed = refl;
+  side = refl;
+  handshake = refl;
   quiet = λ q. record { control = refl; offer = q.offer; echo = q.echo };
+  truthful = λ own t. truthful_silent own a (closed_open a reason) t (keeps_saying a (closed_open a reason) refl refl) refl;
   ends = λ f. record { closed = refl; unestablished = refl; lost = refl; none_live = λ id. refl; holds_nothing = λ id t there. absurd (none_some t there); silent = refl };
   stays = λ f. absurd (true≢false (sym f ∙ e));
 }

@@ -17,4 +17,5 @@ mod Reporting
 mod Shapes
 mod Status
 mod Streams
+mod Truth
 mod Waits

@@ -1,232 +1,157 @@
 -- The chunks of a handshake lead it on as it is to go, and what waits to go out stays truthful.
-use Rattle.std.proofs.Common.{◌≡◌, refl, sym, ap, ◌∙◌, subst, ◌⊎◌, inl, inr, ℕ, ◌^◌, ◌+◌, ◌-◌, ◌%◌, Bool, true, false, if◌then◌else◌, ◌&&◌, List, [], ◌∷◌, ◌++◌, Option, Some, None, is_some}
-use Rattle.std.specs.List.{AllByRecursion}
+use Rattle.std.proofs.Common.{◌≡◌, refl, sym, ap, ◌∙◌, ◌⊎◌, inl, inr, ℕ, Bool, true, false, if◌then◌else◌, ◌&&◌, List, [], ◌∷◌, ◌++◌, Option, Some, None, is_some, Result, Ok, Err}
 use Rattle.std.specs.Str.{bytes_eq}
 use Rattle.std.proofs.lemmas.Bool.{false≢true, true≢false}
 use Rattle.sctp_wire_types.specs.declared.chunk.Chunk.{Chunk}
 use Rattle.sctp_wire_types.specs.declared.chunk.Chunk.TheVariants as chunks
 use Rattle.sctp_wire_types.specs.declared.chunk.ChunkInit.{ChunkInit}
+use Rattle.sctp_wire_types.specs.declared.error.Error.{Error}
 use Rattle.sctp_wire_types.specs.declared.ids.Side.{Side}
 use Rattle.sctp_wire_types.specs.declared.ids.Side.TheVariants as sides
 use Rattle.sctp_wire_types.specs.declared.packet.CommonHeader.{CommonHeader}
-use Rattle.sctp_wire.specs.Packets.{packet_is_plain}
-use Rattle.sctp_model.proofs.Lists.{all_join, all_weaker}
-use Rattle.sctp_parts.specs.declared.state.AssociationState.{AssociationState}
-use Rattle.sctp_parts.specs.declared.state.AssociationState.TheVariants as states
+use Rattle.sctp_wire_types.specs.Checks.{checked_chunk}
 use Rattle.sctp_inbound.specs.declared.handshake.Handshake.{Handshake}
 use Rattle.sctp_inbound.specs.declared.handshake.Offer.{Offer}
 use Rattle.sctp_inbound.specs.declared.receiver.AckWish.{AckWish}
 use Rattle.sctp_inbound.specs.Greeting.{first_cookie}
 use Rattle.sctp_inbound.specs.Handshake.{comes_back, has_issued, header_of}
 use Rattle.sctp_assoc.specs.declared.control.ControlPacket.{ControlPacket}
-use Rattle.sctp_assoc.specs.Acts.{History, with_peer}
+use Rattle.sctp_assoc.specs.Acts.{Act}
 use Rattle.sctp_assoc.specs.Calls.{is_beginning, is_cookie_echoed, is_cookie_wait, is_established}
+use Rattle.sctp_assoc.specs.Chunks.{checked_first, dispatched, on_chunk}
 use Rattle.sctp_assoc.specs.Handshake.{acknowledged_cookie, answered, connected, echoed, met, met_back, on_cookie_ack, on_cookie_echo, on_init, on_init_ack, sends_cookie, with_echo}
-use Rattle.sctp_assoc.specs.Meeting.{Greets, HasCome, HasNothing, IsEchoing, IsListening, IsTalking, IsTruthful, IsWaiting, Knows, KnowsNothing}
-use Rattle.sctp_assoc.specs.Polled.{packet_with}
+use Rattle.sctp_assoc.specs.Happened.{acts_of_checked}
+use Rattle.sctp_assoc.specs.Meeting.{GoesOn, Greets, GreetsOn, HasCome, IsEchoing, IsGreeted, IsListening, IsTalking, IsTruthful, IsWaiting, MayHear, OneWaits, Stage, stage_of}
+use Rattle.sctp_assoc.specs.Shapes.{EstablishedSidesTalk, TheSameHandshakeIsTheSameStage}
 use Rattle.sctp_assoc.specs.Shown.{Shown}
+use Rattle.sctp_assoc.proofs.Truth.{KeepsSaying, keeps_saying, truthful_still, truthful_with}
 
 not_both : sides.Client ≡ sides.Server → ⊥
 not_both e = cc
 
--- what a side said goes on to be so
-pub greets_on : (own : ℕ) (a b : Shown) (c : Chunk) → b.side ≡ a.side → (is_some a.handshake.peer_initial_tsn ≡ true → is_some b.handshake.peer_initial_tsn ≡ true)
-    → (a.handshake.completed ≡ true → b.handshake.completed ≡ true) → Greets own a c → Greets own b c
-greets_on own a b (chunks.Init x) s k d (e, side) = (e, s ∙ side)
-greets_on own a b (chunks.InitAck x) s k d (e, side) = (e, s ∙ side)
-greets_on own a b (chunks.CookieEcho x) s k d (side, known) = (s ∙ side, k known)
-greets_on own a b chunks.CookieAck s k d done = d done
-greets_on own a b (chunks.Data x) s k d n = absurd n
-greets_on own a b (chunks.SelectiveAck x) s k d n = absurd n
-greets_on own a b (chunks.Heartbeat x) s k d n = absurd n
-greets_on own a b (chunks.HeartbeatAck x) s k d n = absurd n
-greets_on own a b (chunks.Abort x) s k d n = absurd n
-greets_on own a b (chunks.Shutdown x) s k d n = absurd n
-greets_on own a b chunks.ShutdownAck s k d n = absurd n
-greets_on own a b (chunks.Error x) s k d n = absurd n
-greets_on own a b chunks.ShutdownComplete s k d n = absurd n
-greets_on own a b (chunks.Reconfig x) s k d n = absurd n
-greets_on own a b (chunks.ForwardTsn x) s k d n = absurd n
-greets_on own a b (chunks.IForwardTsn x) s k d n = absurd n
-greets_on own a b (chunks.Other kind flags value) s k d n = absurd n
-
--- What b keeps of what a says.
-pub record KeepsSaying (a b : Shown) : Type 0 where
-  pub tsn : b.handshake.my_initial_tsn ≡ a.handshake.my_initial_tsn
-  pub side : b.side ≡ a.side
-  pub known : is_some a.handshake.peer_initial_tsn ≡ true → is_some b.handshake.peer_initial_tsn ≡ true
-  pub completed : a.handshake.completed ≡ true → b.handshake.completed ≡ true
-  pub offers : is_some b.handshake.offer ≡ true → is_some a.handshake.offer ≡ true
-  pub echoes : is_some b.handshake.echo ≡ true → (is_some a.handshake.echo ≡ true) ⊎ ((b.side ≡ sides.Client) × (is_some b.handshake.peer_initial_tsn ≡ true))
-
-echoes_on : (own : ℕ) (a b : Shown) → IsTruthful own a → KeepsSaying a b → is_some b.handshake.echo ≡ true → (b.side ≡ sides.Client) × (is_some b.handshake.peer_initial_tsn ≡ true)
-echoes_on own a b t k e = by_case (k.echoes e)
-  where
-    by_case : (is_some a.handshake.echo ≡ true) ⊎ ((b.side ≡ sides.Client) × (is_some b.handshake.peer_initial_tsn ≡ true)) → (b.side ≡ sides.Client) × (is_some b.handshake.peer_initial_tsn ≡ true)
-    by_case (inl there) = (k.side ∙ (t.echoes there).0, k.known (t.echoes there).1)
-    by_case (inr new) = new
-
-says_on : (own : ℕ) (a b : Shown) → IsTruthful own a → KeepsSaying a b → AllByRecursion (λ (c : ControlPacket). Greets own b c.chunk) a.control
-says_on own a b t k =
-    all_weaker (λ (c : ControlPacket). Greets own a c.chunk) (λ (c : ControlPacket). Greets own b c.chunk) a.control
-    (λ c said. greets_on own a b c.chunk k.side k.known k.completed said) t.says
-
--- nothing more waits
-pub truthful_still : (own : ℕ) (a b : Shown) → IsTruthful own a → KeepsSaying a b → b.control ≡ a.control → IsTruthful own b
-truthful_still own a b t k same = record {
-  tsn = k.tsn ∙ t.tsn;
-  says = subst (AllByRecursion (λ (c : ControlPacket). Greets own b c.chunk)) (sym same) (says_on own a b t k);
-  plain = subst (AllByRecursion (λ (c : ControlPacket). packet_is_plain (packet_with c.header c.chunk) ≡ true)) (sym same) t.plain;
-  offers = λ e. k.side ∙ t.offers (k.offers e);
-  echoes = λ e. echoes_on own a b t k e;
+-- an association that no chunk changes
+nothing_greeted : (own peer : ℕ) (t : Stage) (a : Shown) → IsTruthful own a → HasCome a → IsGreeted own peer t [] a a
+nothing_greeted own peer t a truthful come = record {
+  truthful = truthful;
+  come = come;
+  goes = record { side = refl; knows = λ k. k; completed = λ d. d };
+  completes = λ d. inl d;
+  learns = inl (refl, refl);
 }
-
--- one packet more waits
-pub truthful_with : (own : ℕ) (a b : Shown) (c : ControlPacket) → IsTruthful own a → KeepsSaying a b → b.control ≡ a.control ++ c ∷ [] → Greets own b c.chunk
-    → packet_is_plain (packet_with c.header c.chunk) ≡ true → IsTruthful own b
-truthful_with own a b c t k grown said plain = record {
-  tsn = k.tsn ∙ t.tsn;
-  says = subst (AllByRecursion (λ (x : ControlPacket). Greets own b x.chunk)) (sym grown)
-      (all_join (λ (x : ControlPacket). Greets own b x.chunk) a.control (c ∷ []) (says_on own a b t k) (said, tt));
-  plain = subst (AllByRecursion (λ (x : ControlPacket). packet_is_plain (packet_with x.header x.chunk) ≡ true)) (sym grown)
-      (all_join (λ (x : ControlPacket). packet_is_plain (packet_with x.header x.chunk) ≡ true) a.control (c ∷ []) t.plain (plain, tt));
-  offers = λ e. k.side ∙ t.offers (k.offers e);
-  echoes = λ e. echoes_on own a b t k e;
-}
-
--- A step of the handshake: what waits stays truthful, and the handshake has come so far.
-pub record Advances (own peer : ℕ) (b : Shown) (k : History) : Type 0 where
-  pub truthful : IsTruthful own b
-  pub come : HasCome peer b k
 
 -- INIT: a server takes it, and an association that is established doesn't
 
-init_come : (peer : ℕ) (a : Shown) (header : CommonHeader) (init : ChunkInit) (h : History) → is_beginning a.state ≡ true → a.side ≡ sides.Server → init.initial_tsn ≡ peer
-    → HasCome peer a h → HasCome peer (answered (met a header init)) (with_peer h init.initial_tsn)
-init_come peer a header init h e server t (inl w) = absurd (not_both (sym w.client ∙ server))
-init_come peer a header init h e server t (inr (inl w)) = absurd (not_both (sym w.client ∙ server))
-init_come peer a header init h e server t (inr (inr (inl l))) =
-    let known : Knows peer (answered (met a header init)) (with_peer h init.initial_tsn) = record { said = ap (λ (n : ℕ). Some n) t; past = t } in
-    inr (inr (inl record {
-      server = l.server;
-      state = l.state;
-      begun = l.begun;
-      nothing = record { taken = refl; passed = refl; point = refl };
-      knows = inr known;
-      issued = λ i. known;
-    }))
-init_come peer a header init h e server t (inr (inr (inr s))) = absurd (true≢false (sym e ∙ ap is_beginning s.state))
+-- who takes an INIT listens: of two clients neither waits
+listens : (a : Shown) (t : Stage) → is_beginning a.state ≡ true → t.side ≡ sides.Client → OneWaits (stage_of a) t → HasCome a → IsListening a
+listens a t e client one (inl w) = absurd (true≢false (sym (one w.client client) ∙ w.begun))
+listens a t e client one (inr (inl w)) = absurd (true≢false (sym (one w.client client) ∙ w.begun))
+listens a t e client one (inr (inr (inl l))) = l
+listens a t e client one (inr (inr (inr s))) = absurd (true≢false (sym e ∙ ap is_beginning s.state))
 
-pub init_advances : (c : Bool) (own peer : ℕ) (a : Shown) (header : CommonHeader) (init : ChunkInit) (wish : AckWish) (h : History) → is_beginning a.state ≡ c
-    → IsTruthful own a → HasCome peer a h → init.initial_tsn ≡ peer → (c ≡ true → a.side ≡ sides.Server)
-    → Advances own peer (on_init a header init wish).0 (if c then with_peer h init.initial_tsn else h)
+listener_is_deaf : (a : Shown) → IsListening a → MayHear (stage_of a) → ⊥
+listener_is_deaf a l (inl completed) = true≢false (sym completed ∙ l.begun)
+listener_is_deaf a l (inr (client, known)) = not_both (sym client ∙ l.server)
+
+init_greets : (c : Bool) (own peer : ℕ) (t : Stage) (a : Shown) (header : CommonHeader) (init : ChunkInit) (wish : AckWish) → is_beginning a.state ≡ c
+    → Greets peer t (chunks.Init init) → OneWaits (stage_of a) t → IsTruthful own a → HasCome a
+    → IsGreeted own peer t (if c then Act.Met init.initial_tsn ∷ [] else []) a (on_init a header init wish).0
 unfolding on_init
-init_advances true own peer a header init wish h e t come is server =
+init_greets true own peer t a header init wish e (is, client) one truthful come =
     let b : Shown = answered (met a header init) in
-    let keeps : KeepsSaying a b = record { tsn = refl; side = refl; known = λ k. refl; completed = λ d. d; offers = λ o. o; echoes = λ x. inl x } in
+    let l = listens a t e client one come in
+    let goes : GoesOn (stage_of a) (stage_of b) = record { side = refl; knows = λ k. refl; completed = λ d. d } in
+    let keeps : KeepsSaying a b = record { tsn = refl; goes = goes; offers = λ o. o; echoes = λ x. inl x } in
     rw e (record {
-      truthful = truthful_with own a b _ t keeps refl (t.tsn, server refl) refl;
-      come = init_come peer a header init h e (server refl) is come;
+      truthful = truthful_with own a b _ truthful keeps refl (truthful.tsn, refl) refl;
+      come = inr (inr (inl record { server = l.server; state = l.state; begun = l.begun; issued = λ i. refl }));
+      goes = goes;
+      completes = λ d. inl d;
+      learns = inr (ap (λ (n : ℕ). Act.Met n ∷ []) is, listener_is_deaf a l);
     })
-init_advances false own peer a header init wish h e t come is server = rw e (record { truthful = t; come = come })
+init_greets false own peer t a header init wish e said one truthful come = rw e (nothing_greeted own peer t a truthful come)
 
 -- COOKIE ACK completes what a client began
 
-ack_come : (peer : ℕ) (a : Shown) (h : History) → is_cookie_echoed a.state ≡ true → HasCome peer a h → HasCome peer (connected a) h
-ack_come peer a h e (inl w) = absurd (true≢false (sym e ∙ ap is_cookie_echoed w.state))
-ack_come peer a h e (inr (inl w)) = inr (inr (inr record { state = refl; completed = refl; knows = record { said = w.knows.said; past = w.knows.past } }))
-ack_come peer a h e (inr (inr (inl l))) = absurd (true≢false (sym e ∙ ap is_cookie_echoed l.state))
-ack_come peer a h e (inr (inr (inr s))) = absurd (true≢false (sym e ∙ ap is_cookie_echoed s.state))
-
 connected_keeps : (a : Shown) → KeepsSaying a (connected a)
-connected_keeps a = record { tsn = refl; side = refl; known = λ k. k; completed = λ d. refl; offers = λ o. absurd (false≢true o); echoes = λ x. absurd (false≢true x) }
+connected_keeps a = record {
+  tsn = refl;
+  goes = record { side = refl; knows = λ k. k; completed = λ d. refl };
+  offers = λ o. absurd (false≢true o);
+  echoes = λ x. absurd (false≢true x);
+}
 
-pub cookie_ack_advances : (c : Bool) (own peer : ℕ) (a : Shown) (wish : AckWish) (h : History) → is_cookie_echoed a.state ≡ c → IsTruthful own a → HasCome peer a h
-    → Advances own peer (on_cookie_ack a wish).0 h
+ack_come : (a : Shown) → is_cookie_echoed a.state ≡ true → HasCome a → HasCome (connected a)
+ack_come a e (inl w) = absurd (true≢false (sym e ∙ ap is_cookie_echoed w.state))
+ack_come a e (inr (inl w)) = inr (inr (inr record { state = refl; completed = refl; known = w.known }))
+ack_come a e (inr (inr (inl l))) = absurd (true≢false (sym e ∙ ap is_cookie_echoed l.state))
+ack_come a e (inr (inr (inr s))) = absurd (true≢false (sym e ∙ ap is_cookie_echoed s.state))
+
+cookie_ack_greets : (c : Bool) (own peer : ℕ) (t : Stage) (a : Shown) (wish : AckWish) → is_cookie_echoed a.state ≡ c → t.completed ≡ true → IsTruthful own a → HasCome a
+    → IsGreeted own peer t [] a (on_cookie_ack a wish).0
 unfolding on_cookie_ack
-cookie_ack_advances true own peer a wish h e t come =
-    rw e (record { truthful = truthful_still own a (connected a) t (connected_keeps a) refl; come = ack_come peer a h e come })
-cookie_ack_advances false own peer a wish h e t come = rw e (record { truthful = t; come = come })
+cookie_ack_greets true own peer t a wish e said truthful come =
+    let k = connected_keeps a in
+    rw e (record {
+      truthful = truthful_still own a (connected a) truthful k refl;
+      come = ack_come a e come;
+      goes = k.goes;
+      completes = λ d. inr (inl said);
+      learns = inl (refl, refl);
+    })
+cookie_ack_greets false own peer t a wish e said truthful come = rw e (nothing_greeted own peer t a truthful come)
 
 -- COOKIE ECHO completes what a server began
 
-echo_come : (peer : ℕ) (a : Shown) (cookie : List ℕ) (h : History) → has_issued a.handshake cookie ≡ true → a.handshake.cookie_issued ≡ true → is_beginning a.state ≡ true
-    → HasCome peer a h → HasCome peer (acknowledged_cookie (connected a)) h
-echo_come peer a cookie h e issued begins (inl w) = absurd (true≢false (sym issued ∙ w.unissued))
-echo_come peer a cookie h e issued begins (inr (inl w)) = absurd (true≢false (sym issued ∙ w.unissued))
-echo_come peer a cookie h e issued begins (inr (inr (inl l))) =
-    let known = l.issued issued in inr (inr (inr record { state = refl; completed = refl; knows = record { said = known.said; past = known.past } }))
-echo_come peer a cookie h e issued begins (inr (inr (inr s))) = absurd (true≢false (sym begins ∙ ap is_beginning s.state))
+echo_come : (a : Shown) → a.handshake.cookie_issued ≡ true → is_beginning a.state ≡ true → HasCome a → HasCome (acknowledged_cookie (connected a))
+echo_come a issued begins (inl w) = absurd (true≢false (sym issued ∙ w.unissued))
+echo_come a issued begins (inr (inl w)) = absurd (true≢false (sym issued ∙ w.unissued))
+echo_come a issued begins (inr (inr (inl l))) = inr (inr (inr record { state = refl; completed = refl; known = l.issued issued }))
+echo_come a issued begins (inr (inr (inr s))) = absurd (true≢false (sym begins ∙ ap is_beginning s.state))
 
 issued_of : (issued same : Bool) → (issued && same) ≡ true → issued ≡ true
 issued_of true same e = refl
 issued_of false same e = e
 
-talking_of : (peer : ℕ) (a : Shown) (h : History) → is_established a.state ≡ true → HasCome peer a h → a.handshake.completed ≡ true
-talking_of peer a h e (inl w) = absurd (true≢false (sym e ∙ ap is_established w.state))
-talking_of peer a h e (inr (inl w)) = absurd (true≢false (sym e ∙ ap is_established w.state))
-talking_of peer a h e (inr (inr (inl l))) = absurd (true≢false (sym e ∙ ap is_established l.state))
-talking_of peer a h e (inr (inr (inr s))) = s.completed
+pub established_sides_talk : EstablishedSidesTalk
+established_sides_talk a e (inl w) = absurd (true≢false (sym e ∙ ap is_established w.state))
+established_sides_talk a e (inr (inl w)) = absurd (true≢false (sym e ∙ ap is_established w.state))
+established_sides_talk a e (inr (inr (inl l))) = absurd (true≢false (sym e ∙ ap is_established l.state))
+established_sides_talk a e (inr (inr (inr s))) = s
 
--- the same association with one packet more has come as far
-come_queued : (peer : ℕ) (a b : Shown) (h : History) → b.side ≡ a.side → b.state ≡ a.state → b.handshake ≡ a.handshake → HasCome peer a h → HasCome peer b h
-come_queued peer a b h side state same (inl w) = inl record {
-  client = side ∙ w.client;
-  state = state ∙ w.state;
-  begun = ap (λ (x : Handshake). x.completed) same ∙ w.begun;
-  unissued = ap (λ (x : Handshake). x.cookie_issued) same ∙ w.unissued;
-  nothing = w.nothing;
-  knows = knows_on w.knows;
-}
-  where
-    knows_on : KnowsNothing a h ⊎ Knows peer a h → KnowsNothing b h ⊎ Knows peer b h
-    knows_on (inl n) = inl record { unsaid = ap (λ (x : Handshake). x.peer_initial_tsn) same ∙ n.unsaid; past = n.past }
-    knows_on (inr k) = inr record { said = ap (λ (x : Handshake). x.peer_initial_tsn) same ∙ k.said; past = k.past }
-come_queued peer a b h side state same (inr (inl w)) = inr (inl record {
-  client = side ∙ w.client;
-  state = state ∙ w.state;
-  begun = ap (λ (x : Handshake). x.completed) same ∙ w.begun;
-  unissued = ap (λ (x : Handshake). x.cookie_issued) same ∙ w.unissued;
-  knows = record { said = ap (λ (x : Handshake). x.peer_initial_tsn) same ∙ w.knows.said; past = w.knows.past };
-})
-come_queued peer a b h side state same (inr (inr (inl l))) = inr (inr (inl record {
-  server = side ∙ l.server;
-  state = state ∙ l.state;
-  begun = ap (λ (x : Handshake). x.completed) same ∙ l.begun;
-  nothing = l.nothing;
-  knows = knows_on l.knows;
-  issued = λ i. let k = l.issued (sym (ap (λ (x : Handshake). x.cookie_issued) same) ∙ i) in record { said = ap (λ (x : Handshake). x.peer_initial_tsn) same ∙ k.said; past = k.past };
-}))
-  where
-    knows_on : KnowsNothing a h ⊎ Knows peer a h → KnowsNothing b h ⊎ Knows peer b h
-    knows_on (inl n) = inl record { unsaid = ap (λ (x : Handshake). x.peer_initial_tsn) same ∙ n.unsaid; past = n.past }
-    knows_on (inr k) = inr record { said = ap (λ (x : Handshake). x.peer_initial_tsn) same ∙ k.said; past = k.past }
-come_queued peer a b h side state same (inr (inr (inr s))) = inr (inr (inr record {
-  state = state ∙ s.state;
-  completed = ap (λ (x : Handshake). x.completed) same ∙ s.completed;
-  knows = record { said = ap (λ (x : Handshake). x.peer_initial_tsn) same ∙ s.knows.said; past = s.knows.past };
-}))
-
-pub cookie_echo_advances : (issued begins established : Bool) (own peer : ℕ) (a : Shown) (cookie : List ℕ) (wish : AckWish) (h : History) → has_issued a.handshake cookie ≡ issued
-    → is_beginning a.state ≡ begins → is_established a.state ≡ established → IsTruthful own a → HasCome peer a h → Advances own peer (on_cookie_echo a cookie wish).0 h
+cookie_echo_greets : (issued begins established : Bool) (own peer : ℕ) (t : Stage) (a : Shown) (cookie : List ℕ) (wish : AckWish) → has_issued a.handshake cookie ≡ issued
+    → is_beginning a.state ≡ begins → is_established a.state ≡ established → (t.side ≡ sides.Client) × (t.knows ≡ true) → IsTruthful own a → HasCome a
+    → IsGreeted own peer t [] a (on_cookie_echo a cookie wish).0
 unfolding on_cookie_echo
-cookie_echo_advances false begins established own peer a cookie wish h e f g t come = rw e (record { truthful = t; come = come })
-cookie_echo_advances true true established own peer a cookie wish h e f g t come =
+cookie_echo_greets false begins established own peer t a cookie wish e f g said truthful come = rw e (nothing_greeted own peer t a truthful come)
+cookie_echo_greets true true established own peer t a cookie wish e f g said truthful come =
     let issued = issued_of a.handshake.cookie_issued (bytes_eq a.handshake.cookie cookie) e in
     let b : Shown = acknowledged_cookie (connected a) in
     let k = connected_keeps a in
-    let keeps : KeepsSaying a b = record { tsn = k.tsn; side = k.side; known = k.known; completed = k.completed; offers = k.offers; echoes = k.echoes } in
-    rw (e, f) (record { truthful = truthful_with own a b _ t keeps refl refl refl; come = echo_come peer a cookie h e issued f come })
-cookie_echo_advances true false true own peer a cookie wish h e f g t come =
+    let keeps : KeepsSaying a b = record { tsn = k.tsn; goes = record { side = refl; knows = λ k. k; completed = λ d. refl }; offers = k.offers; echoes = k.echoes } in
+    rw (e, f) (record {
+      truthful = truthful_with own a b _ truthful keeps refl refl refl;
+      come = echo_come a issued f come;
+      goes = keeps.goes;
+      completes = λ d. inr (inr said);
+      learns = inl (refl, refl);
+    })
+cookie_echo_greets true false true own peer t a cookie wish e f g said truthful come =
     let b : Shown = acknowledged_cookie a in
-    let keeps : KeepsSaying a b = record { tsn = refl; side = refl; known = λ k. k; completed = λ d. d; offers = λ o. o; echoes = λ x. inl x } in
-    rw (e, f, g) (record { truthful = truthful_with own a b _ t keeps refl (talking_of peer a h g come) refl; come = come_queued peer a b h refl refl refl come })
-cookie_echo_advances true false false own peer a cookie wish h e f g t come = rw (e, f, g) (record { truthful = t; come = come })
+    let keeps : KeepsSaying a b = record { tsn = refl; goes = record { side = refl; knows = λ k. k; completed = λ d. d }; offers = λ o. o; echoes = λ x. inl x } in
+    let s = established_sides_talk a g come in
+    rw (e, f, g) (record {
+      truthful = truthful_with own a b _ truthful keeps refl s.completed refl;
+      come = inr (inr (inr record { state = s.state; completed = s.completed; known = s.known }));
+      goes = keeps.goes;
+      completes = λ d. inl d;
+      learns = inl (refl, refl);
+    })
+cookie_echo_greets true false false own peer t a cookie wish e f g said truthful come = rw (e, f, g) (nothing_greeted own peer t a truthful come)
 
 -- INIT ACK: a client that waits for it takes it
 
 -- What an INIT ACK with the ports of the INIT leaves, its cookie aside.
-pub record IsMetBack (initial_tsn : ℕ) (a m : Shown) : Type 0 where
+record IsMetBack (initial_tsn : ℕ) (a m : Shown) : Type 0 where
   pub side : m.side ≡ a.side
   pub state : m.state ≡ a.state
   pub control : m.control ≡ a.control
@@ -237,97 +162,146 @@ pub record IsMetBack (initial_tsn : ℕ) (a m : Shown) : Type 0 where
   pub offer : m.handshake.offer ≡ None
   pub echo : m.handshake.echo ≡ a.handshake.echo
 
-waiting_of : (peer : ℕ) (a : Shown) (h : History) → is_cookie_wait a.state ≡ true → HasCome peer a h → IsWaiting peer a h
-waiting_of peer a h e (inl w) = w
-waiting_of peer a h e (inr (inl w)) = absurd (true≢false (sym e ∙ ap is_cookie_wait w.state))
-waiting_of peer a h e (inr (inr (inl l))) = absurd (true≢false (sym e ∙ ap is_cookie_wait l.state))
-waiting_of peer a h e (inr (inr (inr s))) = absurd (true≢false (sym e ∙ ap is_cookie_wait s.state))
+waits_for_it : (a : Shown) → is_cookie_wait a.state ≡ true → HasCome a → IsWaiting a
+waits_for_it a e (inl w) = w
+waits_for_it a e (inr (inl w)) = absurd (true≢false (sym e ∙ ap is_cookie_wait w.state))
+waits_for_it a e (inr (inr (inl l))) = absurd (true≢false (sym e ∙ ap is_cookie_wait l.state))
+waits_for_it a e (inr (inr (inr s))) = absurd (true≢false (sym e ∙ ap is_cookie_wait s.state))
 
-some_is : (o : Option ℕ) (n : ℕ) → o ≡ Some n → is_some o ≡ true
-some_is o n e = ap is_some e
+waiting_is_deaf : (a : Shown) → IsWaiting a → MayHear (stage_of a) → ⊥
+waiting_is_deaf a w (inl completed) = true≢false (sym completed ∙ w.begun)
+waiting_is_deaf a w (inr (client, known)) = true≢false (sym known ∙ w.unknown)
 
 none_is : (o : Option Offer) → o ≡ None → is_some o ≡ true → ⊥
 none_is o e s = false≢true (ap is_some (sym e) ∙ s)
 
-echoed_advances : (o : Option (List ℕ)) (own peer : ℕ) (a m : Shown) (t : ℕ) (wish : AckWish) (now : ℕ) (h : History) → IsTruthful own a → IsWaiting peer a h → t ≡ peer
-    → IsMetBack t a m → Advances own peer (echoed o m wish now).0 (with_peer h t)
+echoed_greets : (o : Option (List ℕ)) (own peer : ℕ) (t : Stage) (a m : Shown) (n : ℕ) (wish : AckWish) (now : ℕ) → is_some o ≡ true → IsTruthful own a → IsWaiting a → n ≡ peer
+    → IsMetBack n a m → IsGreeted own peer t (Act.Met n ∷ []) a (echoed o m wish now).0
 unfolding sends_cookie
-echoed_advances None own peer a m t wish now h truthful w is met =
-    let keeps : KeepsSaying a m = record {
-      tsn = met.tsn;
-      side = met.side;
-      known = λ k. some_is m.handshake.peer_initial_tsn t met.known;
-      completed = λ d. met.completed ∙ d;
-      offers = λ s. absurd (none_is m.handshake.offer met.offer s);
-      echoes = λ x. inl (ap is_some (sym met.echo) ∙ x);
-    } in
-    record {
-      truthful = truthful_still own a m truthful keeps met.control;
-      come = inl record {
-        client = met.side ∙ w.client;
-        state = met.state ∙ w.state;
-        begun = met.completed ∙ w.begun;
-        unissued = met.issued ∙ w.unissued;
-        nothing = record { taken = refl; passed = refl; point = refl };
-        knows = inr record { said = met.known ∙ ap (λ (n : ℕ). Some n) is; past = is };
-      };
-    }
-echoed_advances (Some cookie) own peer a m t wish now h truthful w is met =
+echoed_greets None own peer t a m n wish now some truthful w is met = absurd (false≢true some)
+echoed_greets (Some cookie) own peer t a m n wish now some truthful w is met =
     let b : Shown = with_echo m cookie now in
     let c : ControlPacket = record { header = header_of m.handshake; chunk = chunks.CookieEcho cookie } in
+    let known : is_some m.handshake.peer_initial_tsn ≡ true = ap is_some met.known in
+    let goes : GoesOn (stage_of a) (stage_of b) = record { side = met.side; knows = λ k. known; completed = λ d. met.completed ∙ d } in
     let keeps : KeepsSaying a b = record {
       tsn = met.tsn;
-      side = met.side;
-      known = λ k. some_is m.handshake.peer_initial_tsn t met.known;
-      completed = λ d. met.completed ∙ d;
+      goes = goes;
       offers = λ s. absurd (none_is m.handshake.offer met.offer s);
-      echoes = λ x. inr (met.side ∙ w.client, some_is m.handshake.peer_initial_tsn t met.known);
+      echoes = λ x. inr (met.side ∙ w.client, known);
     } in
     record {
-      truthful = truthful_with own a b c truthful keeps (ap (λ (z : List ControlPacket). z ++ c ∷ []) met.control) (met.side ∙ w.client, some_is m.handshake.peer_initial_tsn t met.known) refl;
+      truthful = truthful_with own a b c truthful keeps (ap (λ (z : List ControlPacket). z ++ c ∷ []) met.control) (met.side ∙ w.client, known) refl;
       come = inr (inl record {
         client = met.side ∙ w.client;
         state = refl;
         begun = met.completed ∙ w.begun;
         unissued = met.issued ∙ w.unissued;
-        knows = record { said = met.known ∙ ap (λ (n : ℕ). Some n) is; past = is };
+        known = known;
       });
+      goes = goes;
+      completes = λ d. inl (sym met.completed ∙ d);
+      learns = inr (ap (λ (x : ℕ). Act.Met x ∷ []) is, waiting_is_deaf a w);
     }
 
 -- with other ports it leaves all but a tag and numbers of streams
-other_ports_advance : (own peer : ℕ) (a b : Shown) (h : History) → IsTruthful own a → IsWaiting peer a h → b.side ≡ a.side → b.state ≡ a.state → b.control ≡ a.control
+other_ports_greet : (own peer : ℕ) (t : Stage) (a b : Shown) → IsTruthful own a → IsWaiting a → b.side ≡ a.side → b.state ≡ a.state → b.control ≡ a.control
     → b.handshake.my_initial_tsn ≡ a.handshake.my_initial_tsn → b.handshake.peer_initial_tsn ≡ a.handshake.peer_initial_tsn → b.handshake.completed ≡ a.handshake.completed
-    → b.handshake.cookie_issued ≡ a.handshake.cookie_issued → b.handshake.offer ≡ a.handshake.offer → b.handshake.echo ≡ a.handshake.echo → Advances own peer b h
-other_ports_advance own peer a b h t w side state control tsn known completed issued offer echo = record {
-  truthful = truthful_still own a b t record {
-    tsn = tsn;
-    side = side;
-    known = λ k. ap is_some known ∙ k;
-    completed = λ d. completed ∙ d;
-    offers = λ o. ap is_some (sym offer) ∙ o;
-    echoes = λ x. inl (ap is_some (sym echo) ∙ x);
-  } control;
-  come = inl record {
-    client = side ∙ w.client;
-    state = state ∙ w.state;
-    begun = completed ∙ w.begun;
-    unissued = issued ∙ w.unissued;
-    nothing = w.nothing;
-    knows = knows_on w.knows;
-  };
-}
-  where
-    knows_on : KnowsNothing a h ⊎ Knows peer a h → KnowsNothing b h ⊎ Knows peer b h
-    knows_on (inl n) = inl record { unsaid = known ∙ n.unsaid; past = n.past }
-    knows_on (inr k) = inr record { said = known ∙ k.said; past = k.past }
+    → b.handshake.cookie_issued ≡ a.handshake.cookie_issued → b.handshake.offer ≡ a.handshake.offer → b.handshake.echo ≡ a.handshake.echo → IsGreeted own peer t [] a b
+other_ports_greet own peer t a b truthful w side state control tsn known completed issued offer echo =
+    let goes : GoesOn (stage_of a) (stage_of b) = record { side = side; knows = λ k. ap is_some known ∙ k; completed = λ d. completed ∙ d } in
+    record {
+      truthful = truthful_still own a b truthful record {
+        tsn = tsn;
+        goes = goes;
+        offers = λ o. ap is_some (sym offer) ∙ o;
+        echoes = λ x. inl (ap is_some (sym echo) ∙ x);
+      } control;
+      come = inl record {
+        client = side ∙ w.client;
+        state = state ∙ w.state;
+        begun = completed ∙ w.begun;
+        unissued = issued ∙ w.unissued;
+        unknown = ap is_some known ∙ w.unknown;
+      };
+      goes = goes;
+      completes = λ d. inl (sym completed ∙ d);
+      learns = inl (refl, known);
+    }
 
-pub init_ack_advances : (waits back : Bool) (own peer : ℕ) (a : Shown) (header : CommonHeader) (init : ChunkInit) (wish : AckWish) (now : ℕ) (h : History) → is_cookie_wait a.state ≡ waits
-    → comes_back a.handshake header ≡ back → IsTruthful own a → HasCome peer a h → init.initial_tsn ≡ peer
-    → Advances own peer (on_init_ack a header init wish now).0 (if waits then (if back then with_peer h init.initial_tsn else h) else h)
+init_ack_greets : (waits back : Bool) (own peer : ℕ) (t : Stage) (a : Shown) (header : CommonHeader) (init : ChunkInit) (wish : AckWish) (now : ℕ) → is_cookie_wait a.state ≡ waits
+    → comes_back a.handshake header ≡ back → Greets peer t (chunks.InitAck init) → IsTruthful own a → HasCome a
+    → IsGreeted own peer t (if waits then (if back then Act.Met init.initial_tsn ∷ [] else []) else []) a (on_init_ack a header init wish now).0
 unfolding on_init_ack
-init_ack_advances true true own peer a header init wish now h e f t come is =
-    rw (e, f) (echoed_advances (first_cookie init.params) own peer a _ init.initial_tsn wish now h t (waiting_of peer a h e come) is
+init_ack_greets true true own peer t a header init wish now e f (is, some) truthful come =
+    rw (e, f) (echoed_greets (first_cookie init.params) own peer t a _ init.initial_tsn wish now some truthful (waits_for_it a e come) is
     record { side = refl; state = refl; control = refl; tsn = refl; known = refl; completed = refl; issued = refl; offer = refl; echo = refl })
-init_ack_advances true false own peer a header init wish now h e f t come is =
-    rw (e, f) (other_ports_advance own peer a _ h t (waiting_of peer a h e come) refl refl refl refl refl refl refl refl refl)
-init_ack_advances false back own peer a header init wish now h e f t come is = rw e (record { truthful = t; come = come })
+init_ack_greets true false own peer t a header init wish now e f said truthful come =
+    rw (e, f) (other_ports_greet own peer t a _ truthful (waits_for_it a e come) refl refl refl refl refl refl refl refl refl)
+init_ack_greets false back own peer t a header init wish now e f said truthful come = rw e (nothing_greeted own peer t a truthful come)
+
+-- Any chunk that its own check accepts, or refuses
+
+kind_greets : (own peer : ℕ) (t : Stage) (r : Result (Unit {0}) Error) (header : CommonHeader) (c : Chunk) (a : Shown) (wish : AckWish) (now : ℕ) → Greets peer t c → OneWaits (stage_of a) t
+    → IsTruthful own a → HasCome a → IsGreeted own peer t (acts_of_checked r a header c) a (checked_first r a header c wish now).0
+kind_greets own peer t (Err fault) header c a wish now said one truthful come = nothing_greeted own peer t a truthful come
+kind_greets own peer t (Ok done) header (chunks.Init x) a wish now said one truthful come =
+    init_greets (is_beginning a.state) own peer t a header x wish refl said one truthful come
+kind_greets own peer t (Ok done) header (chunks.InitAck x) a wish now said one truthful come =
+    init_ack_greets (is_cookie_wait a.state) (comes_back a.handshake header) own peer t a header x wish now refl refl said truthful come
+kind_greets own peer t (Ok done) header (chunks.CookieEcho x) a wish now said one truthful come =
+    cookie_echo_greets (has_issued a.handshake x) (is_beginning a.state) (is_established a.state) own peer t a x wish refl refl refl said truthful come
+kind_greets own peer t (Ok done) header chunks.CookieAck a wish now said one truthful come =
+    cookie_ack_greets (is_cookie_echoed a.state) own peer t a wish refl said truthful come
+kind_greets own peer t (Ok done) header (chunks.Data x) a wish now said one truthful come = absurd said
+kind_greets own peer t (Ok done) header (chunks.SelectiveAck x) a wish now said one truthful come = absurd said
+kind_greets own peer t (Ok done) header (chunks.Heartbeat x) a wish now said one truthful come = absurd said
+kind_greets own peer t (Ok done) header (chunks.HeartbeatAck x) a wish now said one truthful come = absurd said
+kind_greets own peer t (Ok done) header (chunks.Abort x) a wish now said one truthful come = absurd said
+kind_greets own peer t (Ok done) header (chunks.Shutdown x) a wish now said one truthful come = absurd said
+kind_greets own peer t (Ok done) header chunks.ShutdownAck a wish now said one truthful come = absurd said
+kind_greets own peer t (Ok done) header (chunks.Error x) a wish now said one truthful come = absurd said
+kind_greets own peer t (Ok done) header chunks.ShutdownComplete a wish now said one truthful come = absurd said
+kind_greets own peer t (Ok done) header (chunks.Reconfig x) a wish now said one truthful come = absurd said
+kind_greets own peer t (Ok done) header (chunks.ForwardTsn x) a wish now said one truthful come = absurd said
+kind_greets own peer t (Ok done) header (chunks.IForwardTsn x) a wish now said one truthful come = absurd said
+kind_greets own peer t (Ok done) header (chunks.Other kind flags value) a wish now said one truthful come = absurd said
+
+pub chunk_greets : (header : CommonHeader) (c : Chunk) (a : Shown) (wish : AckWish) (now : ℕ) → GreetsOn header c a (on_chunk a header c wish now).0
+unfolding on_chunk
+chunk_greets header c a wish now own peer t said one truthful come = kind_greets own peer t (checked_chunk c) header c a wish now said one truthful come
+
+-- The same handshake in the same state has come as far.
+come_on : (a b : Shown) → b.side ≡ a.side → b.state ≡ a.state → b.handshake ≡ a.handshake → HasCome a → HasCome b
+come_on a b side state same (inl w) = inl record {
+  client = side ∙ w.client;
+  state = state ∙ w.state;
+  begun = ap (λ (x : Handshake). x.completed) same ∙ w.begun;
+  unissued = ap (λ (x : Handshake). x.cookie_issued) same ∙ w.unissued;
+  unknown = ap (λ (x : Handshake). is_some x.peer_initial_tsn) same ∙ w.unknown;
+}
+come_on a b side state same (inr (inl w)) = inr (inl record {
+  client = side ∙ w.client;
+  state = state ∙ w.state;
+  begun = ap (λ (x : Handshake). x.completed) same ∙ w.begun;
+  unissued = ap (λ (x : Handshake). x.cookie_issued) same ∙ w.unissued;
+  known = ap (λ (x : Handshake). is_some x.peer_initial_tsn) same ∙ w.known;
+})
+come_on a b side state same (inr (inr (inl l))) = inr (inr (inl record {
+  server = side ∙ l.server;
+  state = state ∙ l.state;
+  begun = ap (λ (x : Handshake). x.completed) same ∙ l.begun;
+  issued = λ i. ap (λ (x : Handshake). is_some x.peer_initial_tsn) same ∙ l.issued (ap (λ (x : Handshake). x.cookie_issued) (sym same) ∙ i);
+}))
+come_on a b side state same (inr (inr (inr s))) = inr (inr (inr record {
+  state = state ∙ s.state;
+  completed = ap (λ (x : Handshake). x.completed) same ∙ s.completed;
+  known = ap (λ (x : Handshake). is_some x.peer_initial_tsn) same ∙ s.known;
+}))
+
+pub the_same_handshake_is_the_same_stage : TheSameHandshakeIsTheSameStage
+the_same_handshake_is_the_same_stage a b side same = (
+  ap (λ (z : Side). record { side = z; knows = is_some b.handshake.peer_initial_tsn; completed = b.handshake.completed }) side
+      ∙ ap (λ (h : Handshake). record { side = a.side; knows = is_some h.peer_initial_tsn; completed = h.completed }) same,
+  λ state come. come_on a b side state same come,
+)

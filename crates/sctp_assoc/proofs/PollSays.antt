@@ -18,7 +18,7 @@ use Rattle.sctp_assoc.specs.Happened.{acks_given}
 use Rattle.sctp_assoc.specs.Inbound.{taken_packet}
 use Rattle.sctp_assoc.specs.declared.control.ControlPacket.{ControlPacket}
 use Rattle.sctp_assoc.specs.Polled.{AckIsReadAgain, AreControlReadAgain, AreReadAgain, IsReadAgain, ack_after, after_both, control_packets, exchange_polled, without_control, data_packets, data_polled, is_due, packet_bytes, packet_with, sack_chunk, sack_packet, spelled}
-use Rattle.sctp_assoc.specs.Shapes.{IsGivenBy, OfEachChunk, PollsOutsideEstablishedGiveWhatWaits, PollsSayTheirActs}
+use Rattle.sctp_assoc.specs.Shapes.{IsGivenBy, IsWaitingToGo, OfEachChunk, PollsOutsideEstablishedGiveWhatWaits, PollsSayTheirActs, WhatWaitsGoesOutAsItIs}
 use Rattle.sctp_assoc.specs.Shown.{Shown}
 
 -- each chunk that a datagram spells is so
@@ -97,3 +97,9 @@ pub polls_outside_established_give_what_waits : PollsOutsideEstablishedGiveWhatW
 polls_outside_established_give_what_waits a now e =
     ap (λ (x : Shown × List (List ℕ)). after_both (control_packets a.control) x) (exchange_nothing (without_control a) now e)
     ∙ ap (λ (z : List (List ℕ)). (without_control a, z)) (append-nil (control_packets a.control))
+
+pub what_waits_goes_out_as_it_is : WhatWaitsGoesOutAsItIs
+what_waits_goes_out_as_it_is a plain again =
+    waiting_say (IsWaitingToGo a) a.control again plain
+    (all_weaker (λ (c : ControlPacket). (k : ℕ) × (slice_get a.control k ≡ Some c)) (λ (c : ControlPacket). IsWaitingToGo a c.chunk) a.control
+    (λ c there. (there.0, c, there.1, refl)) (each_there a.control))

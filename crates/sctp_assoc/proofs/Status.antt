@@ -8,6 +8,7 @@ use Rattle.sctp_wire_types.specs.declared.error.Error.{Error}
 use Rattle.sctp_wire_types.specs.declared.error.Error.TheVariants as errors
 use Rattle.sctp_wire_types.specs.declared.packet.CommonHeader.{CommonHeader}
 use Rattle.sctp_wire_types.specs.Checks.{checked_chunk}
+use Rattle.sctp_parts.specs.declared.state.AssociationState.TheVariants as states
 use Rattle.sctp_parts.specs.declared.timer.Timer.TheVariants as names
 use Rattle.sctp_parts.specs.Timers.{expiry_of}
 use Rattle.sctp_parts.specs.Estimate.{Estimate}
@@ -20,50 +21,69 @@ use Rattle.sctp_queues.specs.Streams.{StreamMap, bytes_waiting, generation_left,
 use Rattle.sctp_inbound.specs.declared.receiver.AckWish.{AckWish}
 use Rattle.sctp_inbound.specs.declared.handshake.Handshake.{Handshake}
 use Rattle.sctp_inbound.specs.declared.handshake.Offer.{Offer}
-use Rattle.sctp_inbound.specs.Handshake.{header_of}
+use Rattle.sctp_inbound.specs.Handshake.{comes_back, has_issued, header_of}
 use Rattle.sctp_inbound.specs.Receiver.{credit_of, is_next_after, taken_to}
 use Rattle.sctp_outbound.specs.declared.sender.SackOutcome.{SackOutcome}
 use Rattle.sctp_outbound.specs.declared.sender.SackOutcome.TheVariants as outcomes
 use Rattle.sctp_outbound.specs.declared.sender.Sender.{Sender}
 use Rattle.sctp_outbound.specs.Sender.{acknowledged, after_first, after_resending, can_send_next, points_to, resent_by, sack_outcome, sender_after, sent_new, sent_one, sent_within, with_window}
-use Rattle.sctp_assoc.specs.Calls.{after_ack_delay, after_t3, event_from, is_established, retransmits, t3_expired, written_at}
+use Rattle.sctp_assoc.specs.Calls.{after_ack_delay, after_t3, event_from, is_beginning, is_cookie_echoed, is_cookie_wait, is_established, retransmits, t3_expired, written_at}
 use Rattle.sctp_assoc.specs.Chunks.{asks_or_faults, checked_first, counted_data, dispatched, on_counted_data, counted_sack, is_whole, on_chunk, on_counted_sack, on_data, on_next_data, on_sack, stream_found, taken_in, told}
-use Rattle.sctp_assoc.specs.Handshake.{after_t1_init, cookie_queued, init_queued, sends_cookie, sends_init, t1_cookie_expired, t1_init_expired}
-use Rattle.sctp_assoc.specs.Polled.{ack_after, ack_polled, control_packets, data_packets, data_polled, exchange_polled, is_due, with_sent_data, without_control}
+use Rattle.sctp_assoc.specs.Handshake.{after_t1_init, cookie_queued, echoed, information_returned, init_queued, on_cookie_ack, on_cookie_echo, on_heartbeat, on_init, on_init_ack, sends_cookie, sends_init, t1_cookie_expired, t1_init_expired}
+use Rattle.sctp_assoc.specs.Polled.{ack_after, ack_polled, control_packets, data_packets, data_polled, exchange_polled, is_due, packet_with, with_sent_data, without_control}
 use Rattle.sctp_assoc.specs.Timeouts.{after_handshake_timers}
-use Rattle.sctp_assoc.specs.Shapes.{IsQuiet, IsSameStatus, Leaves, OpenedStreamsKeepTheStatus, PollsKeepTheStatus, ReadsKeepTheStatus, TimersKeepTheStatus, ToldEventsKeepTheStatus, WritesKeepTheStatus}
+use Rattle.sctp_assoc.specs.Shapes.{GoesOnWorking, IsQuiet, IsSameStatus, Leaves, OpenedStreamsKeepTheStatus, PollsKeepTheStatus, ReadsKeepTheStatus, TimersKeepTheStatus, ToldEventsKeepTheStatus, WritesKeepTheStatus}
+use Rattle.sctp_assoc.specs.Meeting.{Greets, IsTruthful, stage_of}
+use Rattle.sctp_assoc.specs.Control.{queued}
+use Rattle.sctp_inbound.specs.Greeting.{first_cookie, information_of, init_of}
+use Rattle.sctp_wire_types.specs.declared.chunk.ChunkInit.{ChunkInit}
+use Rattle.sctp_wire_types.specs.declared.chunk.ChunkHeartbeat.{ChunkHeartbeat}
+use Rattle.sctp_wire.specs.Packets.{packet_is_plain}
 use Rattle.sctp_assoc.specs.Shown.{Shown}
 use Rattle.sctp_assoc.proofs.Polling.{both_first}
+use Rattle.sctp_assoc.proofs.Truth.{keeps_saying, truthful_silent, truthful_still, truthful_with}
 
 status_same : (a : Shown) → IsSameStatus a a
-status_same a = record { failed = refl; state = refl; lost = refl; size = refl; quiet = λ q. q }
+status_same a = record { failed = refl; state = refl; lost = refl; size = refl; side = refl; handshake = refl; quiet = λ q. q; truthful = λ own t. t }
 
--- its handshake and what waits to go out are as they were, too
-status_by : (a b : Shown) → b.failed ≡ a.failed → b.state ≡ a.state → b.lost ≡ a.lost → b.sender.max_payload_size ≡ a.sender.max_payload_size
-    → b.control ≡ a.control → b.handshake ≡ a.handshake → IsSameStatus a b
-status_by a b f s l z c h = record {
+-- what waits to go out is as it was, too
+pub status_by : (a b : Shown) → b.failed ≡ a.failed → b.state ≡ a.state → b.lost ≡ a.lost → b.sender.max_payload_size ≡ a.sender.max_payload_size
+    → b.control ≡ a.control → b.handshake ≡ a.handshake → b.side ≡ a.side → IsSameStatus a b
+status_by a b f s l z c h side = record {
   failed = f;
   state = s;
   lost = l;
   size = z;
+  side = side;
+  handshake = h;
   quiet = λ q. record { control = c ∙ q.control; offer = ap (λ (x : Handshake). x.offer) h ∙ q.offer; echo = ap (λ (x : Handshake). x.echo) h ∙ q.echo };
+  truthful = λ own t. truthful_still own a b t (keeps_saying a b side h) c;
 }
 
 status_on : (a b c : Shown) → IsSameStatus a b → IsSameStatus b c → IsSameStatus a c
-status_on a b c x y = record { failed = y.failed ∙ x.failed; state = y.state ∙ x.state; lost = y.lost ∙ x.lost; size = y.size ∙ x.size; quiet = λ q. y.quiet (x.quiet q) }
+status_on a b c x y = record {
+  failed = y.failed ∙ x.failed;
+  state = y.state ∙ x.state;
+  lost = y.lost ∙ x.lost;
+  size = y.size ∙ x.size;
+  side = y.side ∙ x.side;
+  handshake = y.handshake ∙ x.handshake;
+  quiet = λ q. y.quiet (x.quiet q);
+  truthful = λ own t. y.truthful own (x.truthful own t);
+}
 
 -- DATA
 
 found_status : (there left : Bool) (a : Shown) (id : ℕ) → is_some (stream_at a.streams id) ≡ there → generation_left a.streams ≡ left → IsSameStatus a (stream_found a id).0
 unfolding stream_found
 found_status true left a id e f = rw e (status_same a)
-found_status false true a id e f = rw (e, f) (status_by a _ refl refl refl refl refl refl)
+found_status false true a id e f = rw (e, f) (status_by a _ refl refl refl refl refl refl refl)
 found_status false false a id e f = rw (e, f) (status_same a)
 
 told_if : (readable kept : Bool) (a : Shown) (id : ℕ) → is_readable_in a.streams id ≡ readable → IsSameStatus a (told a id kept)
-told_if true true a id e = rw e (status_by a _ refl refl refl refl refl refl)
-told_if false true a id e = rw e (status_by a _ refl refl refl refl refl refl)
-told_if readable false a id e = status_by a _ refl refl refl refl refl refl
+told_if true true a id e = rw e (status_by a _ refl refl refl refl refl refl refl)
+told_if false true a id e = rw e (status_by a _ refl refl refl refl refl refl refl)
+told_if readable false a id e = status_by a _ refl refl refl refl refl refl refl
 
 taken_status : (refusal : Option Error) (a : Shown) (piece : ChunkPayloadData) → refusal_in a.streams piece.stream_identifier piece (2 ^ 32 - 1) ≡ refusal → IsSameStatus a (taken_in a piece).0
 unfolding taken_in
@@ -71,7 +91,7 @@ taken_status (Some fault) a piece e = rw e (status_same a)
 taken_status None a piece e =
     let put = pushed_in a.streams piece.stream_identifier piece in
     let b : Shown = record a { streams = put.0; receiver = taken_to a.receiver piece.tsn } in
-    rw e (status_on a b _ (status_by a b refl refl refl refl refl refl) (told_if (is_readable_in b.streams piece.stream_identifier) put.1 b piece.stream_identifier refl))
+    rw e (status_on a b _ (status_by a b refl refl refl refl refl refl refl) (told_if (is_readable_in b.streams piece.stream_identifier) put.1 b piece.stream_identifier refl))
 
 asked_status : (x : Shown × Option Error) (piece : ChunkPayloadData) (wish : AckWish) → (asks_or_faults x piece wish).0 ≡ x.0
 asked_status (a, None) piece wish = refl
@@ -97,7 +117,7 @@ counted_data_status false a piece wish e = rw e (status_same a)
 data_status : (a : Shown) (piece : ChunkPayloadData) (wish : AckWish) → IsSameStatus a (on_data a piece wish).0
 unfolding on_data
 data_status a piece wish =
-    status_on a (counted_data a) _ (status_by a (counted_data a) refl refl refl refl refl refl)
+    status_on a (counted_data a) _ (status_by a (counted_data a) refl refl refl refl refl refl refl)
     (counted_data_status (is_next_after a.receiver piece.tsn && is_whole piece) (counted_data a) piece wish refl)
 
 -- SACK
@@ -116,55 +136,113 @@ outcome_status : (o : SackOutcome) (a : Shown) (point window : ℕ) (wish : AckW
 outcome_status outcomes.Older a point window wish now = status_same a
 outcome_status outcomes.NotInFlight a point window wish now = status_same a
 outcome_status outcomes.Taken a point window wish now =
-    status_by a _ refl refl refl (acknowledged_size (points_to a.sender point) now (with_window a.sender window) a.estimate a.streams) refl refl
+    status_by a _ refl refl refl (acknowledged_size (points_to a.sender point) now (with_window a.sender window) a.estimate a.streams) refl refl refl
 
 sack_status : (established : Bool) (a : Shown) (point window : ℕ) (wish : AckWish) (now : ℕ) → is_established a.state ≡ established
     → IsSameStatus a (on_sack a point window wish now).0
 unfolding on_sack
 sack_status true a point window wish now e =
-    rw e (status_on a (counted_sack a) _ (status_by a (counted_sack a) refl refl refl refl refl refl)
+    rw e (status_on a (counted_sack a) _ (status_by a (counted_sack a) refl refl refl refl refl refl refl)
     (outcome_status (sack_outcome a.sender point) (counted_sack a) point window wish now))
 sack_status false a point window wish now e = rw e (status_same a)
+
+-- Any chunk: whether it failed, whether it was lost, and its payload size stay
+
+works_same : (a : Shown) → GoesOnWorking a a
+works_same a = record { failed = refl; lost = refl; size = refl }
+
+works_by : (a b : Shown) → b.failed ≡ a.failed → b.lost ≡ a.lost → b.sender.max_payload_size ≡ a.sender.max_payload_size → GoesOnWorking a b
+works_by a b failed lost size = record { failed = failed; lost = lost; size = size }
+
+init_works : (c : Bool) (a : Shown) (header : CommonHeader) (init : ChunkInit) (wish : AckWish) → is_beginning a.state ≡ c → GoesOnWorking a (on_init a header init wish).0
+unfolding on_init
+init_works true a header init wish e = rw e (works_by a _ refl refl refl)
+init_works false a header init wish e = rw e (works_same a)
+
+cookie_works : (o : Option (List ℕ)) (a : Shown) → GoesOnWorking a (cookie_queued o a)
+cookie_works None a = works_same a
+cookie_works (Some cookie) a = works_by a _ refl refl refl
+
+echo_works : (a : Shown) (now : ℕ) → GoesOnWorking a (sends_cookie a now)
+unfolding sends_cookie
+echo_works a now = let w = cookie_works a.handshake.echo a in works_by a _ w.failed w.lost w.size
+
+echoed_works : (o : Option (List ℕ)) (a b : Shown) (wish : AckWish) (now : ℕ) → GoesOnWorking a b → GoesOnWorking a (echoed o b wish now).0
+echoed_works None a b wish now h = h
+echoed_works (Some cookie) a b wish now h =
+    let c : Shown = record b { handshake = (let h = b.handshake in record h { echo = Some cookie }); state = states.CookieEchoed } in
+    let w = echo_works c now in
+    works_by a _ (w.failed ∙ h.failed) (w.lost ∙ h.lost) (w.size ∙ h.size)
+
+init_ack_works : (waits back : Bool) (a : Shown) (header : CommonHeader) (init : ChunkInit) (wish : AckWish) (now : ℕ) → is_cookie_wait a.state ≡ waits
+    → comes_back a.handshake header ≡ back → GoesOnWorking a (on_init_ack a header init wish now).0
+unfolding on_init_ack
+init_ack_works true true a header init wish now e f =
+    rw (e, f) (echoed_works (first_cookie init.params) a _ wish now (works_by a _ refl refl refl))
+init_ack_works true false a header init wish now e f = rw (e, f) (works_by a _ refl refl refl)
+init_ack_works false back a header init wish now e f = rw e (works_same a)
+
+cookie_echo_works : (issued begins established : Bool) (a : Shown) (cookie : List ℕ) (wish : AckWish) → has_issued a.handshake cookie ≡ issued
+    → is_beginning a.state ≡ begins → is_established a.state ≡ established → GoesOnWorking a (on_cookie_echo a cookie wish).0
+unfolding on_cookie_echo
+cookie_echo_works false begins established a cookie wish e f g = rw e (works_same a)
+cookie_echo_works true true established a cookie wish e f g = rw (e, f) (works_by a _ refl refl refl)
+cookie_echo_works true false true a cookie wish e f g = rw (e, f, g) (works_by a _ refl refl refl)
+cookie_echo_works true false false a cookie wish e f g = rw (e, f, g) (works_same a)
+
+cookie_ack_works : (c : Bool) (a : Shown) (wish : AckWish) → is_cookie_echoed a.state ≡ c → GoesOnWorking a (on_cookie_ack a wish).0
+unfolding on_cookie_ack
+cookie_ack_works true a wish e = rw e (works_by a _ refl refl refl)
+cookie_ack_works false a wish e = rw e (works_same a)
+
+information_works : (o : Option (List ℕ)) (a : Shown) → GoesOnWorking a (information_returned o a)
+information_works None a = works_same a
+information_works (Some information) a = works_by a _ refl refl refl
+
+heartbeat_works : (a : Shown) (heartbeat : ChunkHeartbeat) (wish : AckWish) → GoesOnWorking a (on_heartbeat a heartbeat wish).0
+unfolding on_heartbeat
+heartbeat_works a heartbeat wish = information_works (information_of heartbeat.params) a
 
 -- Any chunk that its own check accepts, or refuses
 
 kind_leaves : (header : CommonHeader) (c : Chunk) (a : Shown) (wish : AckWish) (now : ℕ) → Leaves c a (dispatched a header c wish now).0
 kind_leaves header (chunks.Data piece) a wish now = data_status a piece wish
 kind_leaves header (chunks.SelectiveAck k) a wish now = sack_status (is_established a.state) a k.cumulative_tsn_ack k.advertised_receiver_window_credit wish now refl
-kind_leaves header (chunks.Init x) a wish now = tt
-kind_leaves header (chunks.InitAck x) a wish now = tt
-kind_leaves header (chunks.Heartbeat x) a wish now = tt
-kind_leaves header (chunks.HeartbeatAck x) a wish now = tt
-kind_leaves header (chunks.Abort x) a wish now = tt
-kind_leaves header (chunks.Shutdown x) a wish now = tt
-kind_leaves header chunks.ShutdownAck a wish now = tt
-kind_leaves header (chunks.Error x) a wish now = tt
-kind_leaves header (chunks.CookieEcho x) a wish now = tt
-kind_leaves header chunks.CookieAck a wish now = tt
-kind_leaves header chunks.ShutdownComplete a wish now = tt
-kind_leaves header (chunks.Reconfig x) a wish now = tt
-kind_leaves header (chunks.ForwardTsn x) a wish now = tt
-kind_leaves header (chunks.IForwardTsn x) a wish now = tt
-kind_leaves header (chunks.Other kind flags value) a wish now = tt
+kind_leaves header (chunks.Init x) a wish now = init_works (is_beginning a.state) a header x wish refl
+kind_leaves header (chunks.InitAck x) a wish now = init_ack_works (is_cookie_wait a.state) (comes_back a.handshake header) a header x wish now refl refl
+kind_leaves header (chunks.Heartbeat x) a wish now = heartbeat_works a x wish
+kind_leaves header (chunks.HeartbeatAck x) a wish now = works_same a
+kind_leaves header (chunks.Abort x) a wish now = works_same a
+kind_leaves header (chunks.Shutdown x) a wish now = works_same a
+kind_leaves header chunks.ShutdownAck a wish now = works_same a
+kind_leaves header (chunks.Error x) a wish now = works_same a
+kind_leaves header (chunks.CookieEcho x) a wish now =
+    cookie_echo_works (has_issued a.handshake x) (is_beginning a.state) (is_established a.state) a x wish refl refl refl
+kind_leaves header chunks.CookieAck a wish now = cookie_ack_works (is_cookie_echoed a.state) a wish refl
+kind_leaves header chunks.ShutdownComplete a wish now = works_same a
+kind_leaves header (chunks.Reconfig x) a wish now = works_same a
+kind_leaves header (chunks.ForwardTsn x) a wish now = works_same a
+kind_leaves header (chunks.IForwardTsn x) a wish now = works_same a
+kind_leaves header (chunks.Other kind flags value) a wish now = works_same a
 
 same_leaves : (c : Chunk) (a : Shown) → Leaves c a a
 same_leaves (chunks.Data piece) a = status_same a
 same_leaves (chunks.SelectiveAck k) a = status_same a
-same_leaves (chunks.Init x) a = tt
-same_leaves (chunks.InitAck x) a = tt
-same_leaves (chunks.Heartbeat x) a = tt
-same_leaves (chunks.HeartbeatAck x) a = tt
-same_leaves (chunks.Abort x) a = tt
-same_leaves (chunks.Shutdown x) a = tt
-same_leaves chunks.ShutdownAck a = tt
-same_leaves (chunks.Error x) a = tt
-same_leaves (chunks.CookieEcho x) a = tt
-same_leaves chunks.CookieAck a = tt
-same_leaves chunks.ShutdownComplete a = tt
-same_leaves (chunks.Reconfig x) a = tt
-same_leaves (chunks.ForwardTsn x) a = tt
-same_leaves (chunks.IForwardTsn x) a = tt
-same_leaves (chunks.Other kind flags value) a = tt
+same_leaves (chunks.Init x) a = works_same a
+same_leaves (chunks.InitAck x) a = works_same a
+same_leaves (chunks.Heartbeat x) a = works_same a
+same_leaves (chunks.HeartbeatAck x) a = works_same a
+same_leaves (chunks.Abort x) a = works_same a
+same_leaves (chunks.Shutdown x) a = works_same a
+same_leaves chunks.ShutdownAck a = works_same a
+same_leaves (chunks.Error x) a = works_same a
+same_leaves (chunks.CookieEcho x) a = works_same a
+same_leaves chunks.CookieAck a = works_same a
+same_leaves chunks.ShutdownComplete a = works_same a
+same_leaves (chunks.Reconfig x) a = works_same a
+same_leaves (chunks.ForwardTsn x) a = works_same a
+same_leaves (chunks.IForwardTsn x) a = works_same a
+same_leaves (chunks.Other kind flags value) a = works_same a
 
 checked_leaves : (r : Result (Unit {0}) Error) (header : CommonHeader) (c : Chunk) (a : Shown) (wish : AckWish) (now : ℕ) → Leaves c a (checked_first r a header c wish now).0
 checked_leaves (Err fault) header c a wish now = same_leaves c a
@@ -200,7 +278,7 @@ sent_new_size s out now =
 
 sent_data_status : (a : Shown) (count now : ℕ) (x : Sender × List ChunkPayloadData) → x.0.max_payload_size ≡ a.sender.max_payload_size
     → IsSameStatus a (with_sent_data a count now x).0
-sent_data_status a count now (s, pieces) e = status_by a _ refl refl refl e refl refl
+sent_data_status a count now (s, pieces) e = status_by a _ refl refl refl e refl refl refl
 
 data_polled_status : (a : Shown) (now : ℕ) → IsSameStatus a (data_polled a now).0
 unfolding data_polled
@@ -210,7 +288,7 @@ data_polled_status a now =
 
 ack_polled_status : (due : Bool) (a : Shown) → is_due a.receiver.ack_state ≡ due → IsSameStatus a (ack_polled a).0
 unfolding ack_polled
-ack_polled_status true a e = rw e (status_by a _ refl refl refl refl refl refl)
+ack_polled_status true a e = rw e (status_by a _ refl refl refl refl refl refl refl)
 ack_polled_status false a e = rw e (status_same a)
 
 ack_after_status : (x : Shown × List ChunkPayloadData) (a : Shown) → IsSameStatus a x.0 → IsSameStatus a (ack_after x).0
@@ -228,7 +306,10 @@ without_status a = record {
   state = refl;
   lost = refl;
   size = refl;
+  side = refl;
+  handshake = refl;
   quiet = λ q. record { control = refl; offer = q.offer; echo = q.echo };
+  truthful = λ own t. truthful_silent own a (without_control a) t (keeps_saying a (without_control a) refl refl) refl;
 }
 
 pub polls_keep_the_status : PollsKeepTheStatus
@@ -239,21 +320,21 @@ polls_keep_the_status a now =
 -- The other calls
 
 pub opened_streams_keep_the_status : OpenedStreamsKeepTheStatus
-opened_streams_keep_the_status a id kind = status_by a _ refl refl refl refl refl refl
+opened_streams_keep_the_status a id kind = status_by a _ refl refl refl refl refl refl refl
 
 written_status : (o : Option Stream) (a : Shown) (id : ℕ) (bytes : List ℕ) → IsSameStatus a (written_at o a id bytes)
 written_status None a id bytes = status_same a
-written_status (Some t) a id bytes = status_by a _ refl refl refl refl refl refl
+written_status (Some t) a id bytes = status_by a _ refl refl refl refl refl refl refl
 
 pub writes_keep_the_status : WritesKeepTheStatus
 writes_keep_the_status a id bytes = written_status (stream_at a.streams id) a id bytes
 
 pub reads_keep_the_status : ReadsKeepTheStatus
-reads_keep_the_status a id = status_by a _ refl refl refl refl refl refl
+reads_keep_the_status a id = status_by a _ refl refl refl refl refl refl refl
 
 told_beside : (events : List Event) (a : Shown) → IsSameStatus a (event_from events a).0 × ((event_from events a).0.streams ≡ a.streams)
-told_beside [] a = (status_by a _ refl refl refl refl refl refl, refl)
-told_beside (e ∷ es) a = (status_by a _ refl refl refl refl refl refl, refl)
+told_beside [] a = (status_by a _ refl refl refl refl refl refl refl, refl)
+told_beside (e ∷ es) a = (status_by a _ refl refl refl refl refl refl refl, refl)
 
 pub told_events_keep_the_status : ToldEventsKeepTheStatus
 told_events_keep_the_status a b event e =
@@ -266,55 +347,74 @@ IsSameBeside a b = IsSameStatus a b × (b.streams ≡ a.streams)
 t3_beside : (expired failure : Bool) (a : Shown) (now : ℕ)
     → IsSameBeside a (if expired then (if failure then t3_expired a now else retransmits (t3_expired a now) now) else a)
 t3_beside false failure a now = (status_same a, refl)
-t3_beside true true a now = (status_by a _ refl refl refl refl refl refl, refl)
-t3_beside true false a now = (status_by a _ refl refl refl refl refl refl, refl)
+t3_beside true true a now = (status_by a _ refl refl refl refl refl refl refl, refl)
+t3_beside true false a now = (status_by a _ refl refl refl refl refl refl refl, refl)
 
 ack_delay_beside : (expired : Bool) (a b : Shown) (now : ℕ) → (expiry_of names.Ack now b.timers).0 ≡ expired → IsSameBeside a b → IsSameBeside a (after_ack_delay b now)
 ack_delay_beside false a b now e h = rw e h
-ack_delay_beside true a b now e (h, streams) = rw e (status_on a b _ h (status_by b _ refl refl refl refl refl refl), streams)
+ack_delay_beside true a b now e (h, streams) = rw e (status_on a b _ h (status_by b _ refl refl refl refl refl refl refl), streams)
 
 -- the timers of the handshake send nothing where it is quiet
 
 some_none : {X : Type 0} (x : X) → Some x ≡ None → ⊥
 some_none x e = cc
 
-init_queued_beside : (o : Option Offer) (a b : Shown) → IsSameBeside a b → (IsQuiet a → o ≡ None) → IsSameBeside a (init_queued o b)
-init_queued_beside None a b h none = h
-init_queued_beside (Some offer) a b (h, streams) none =
-    (record { failed = h.failed; state = h.state; lost = h.lost; size = h.size; quiet = λ q. absurd (some_none offer (none q)) }, streams)
+-- a packet of the handshake more waits, and says what is so
+with_queued : (a b : Shown) (c : Chunk) → IsSameBeside a b → (IsQuiet a → ⊥) → ((own : ℕ) → IsTruthful own b → Greets own (stage_of b) c)
+    → packet_is_plain (packet_with (header_of b.handshake) c) ≡ true → IsSameBeside a (queued b c)
+with_queued a b c (h, streams) loud says plain = (
+  record {
+    failed = h.failed;
+    state = h.state;
+    lost = h.lost;
+    size = h.size;
+    side = h.side;
+    handshake = h.handshake;
+    quiet = λ q. absurd (loud q);
+    truthful = λ own t.
+        let truthful = h.truthful own t in
+        truthful_with own b (queued b c) (record { header = header_of b.handshake; chunk = c }) truthful (keeps_saying b (queued b c) refl refl) refl (says own truthful) plain;
+  },
+  streams,
+)
 
-cookie_queued_beside : (o : Option (List ℕ)) (a b : Shown) → IsSameBeside a b → (IsQuiet a → o ≡ None) → IsSameBeside a (cookie_queued o b)
-cookie_queued_beside None a b h none = h
-cookie_queued_beside (Some cookie) a b (h, streams) none =
-    (record { failed = h.failed; state = h.state; lost = h.lost; size = h.size; quiet = λ q. absurd (some_none cookie (none q)) }, streams)
+init_queued_beside : (o : Option Offer) (a b : Shown) → IsSameBeside a b → (IsQuiet a → o ≡ None) → b.handshake.offer ≡ o → IsSameBeside a (init_queued o b)
+init_queued_beside None a b h none is = h
+init_queued_beside (Some offer) a b h none is =
+    with_queued a b (chunks.Init (init_of b.handshake offer)) h (λ q. some_none offer (none q)) (λ own t. (t.tsn, t.offers (ap is_some is))) refl
+
+cookie_queued_beside : (o : Option (List ℕ)) (a b : Shown) → IsSameBeside a b → (IsQuiet a → o ≡ None) → b.handshake.echo ≡ o → IsSameBeside a (cookie_queued o b)
+cookie_queued_beside None a b h none is = h
+cookie_queued_beside (Some cookie) a b h none is =
+    with_queued a b (chunks.CookieEcho cookie) h (λ q. some_none cookie (none q)) (λ own t. t.echoes (ap is_some is)) refl
 
 offer_beside : (a b : Shown) (now : ℕ) → IsSameBeside a b → (IsQuiet a → b.handshake.offer ≡ None) → IsSameBeside a (sends_init b now)
 unfolding sends_init
 offer_beside a b now h none =
     let c : Shown = init_queued b.handshake.offer b in
-    let queued = init_queued_beside b.handshake.offer a b h none in
-    (status_on a c _ queued.0 (status_by c _ refl refl refl refl refl refl), queued.1)
+    let queued = init_queued_beside b.handshake.offer a b h none refl in
+    (status_on a c _ queued.0 (status_by c _ refl refl refl refl refl refl refl), queued.1)
 
 echo_beside : (a b : Shown) (now : ℕ) → IsSameBeside a b → (IsQuiet a → b.handshake.echo ≡ None) → IsSameBeside a (sends_cookie b now)
 unfolding sends_cookie
 echo_beside a b now h none =
     let c : Shown = cookie_queued b.handshake.echo b in
-    let queued = cookie_queued_beside b.handshake.echo a b h none in
-    (status_on a c _ queued.0 (status_by c _ refl refl refl refl refl refl), queued.1)
+    let queued = cookie_queued_beside b.handshake.echo a b h none refl in
+    (status_on a c _ queued.0 (status_by c _ refl refl refl refl refl refl refl), queued.1)
 
 t1_init_beside : (expired failure : Bool) (a : Shown) (now : ℕ)
     → IsSameBeside a (if expired then (if failure then (let b = t1_init_expired a now in record b { handshake_fault = Some errors.ErrHandshakeInitAck }) else sends_init (t1_init_expired a now) now) else a)
 t1_init_beside false failure a now = (status_same a, refl)
-t1_init_beside true true a now = (status_by a _ refl refl refl refl refl refl, refl)
+t1_init_beside true true a now = (status_by a _ refl refl refl refl refl refl refl, refl)
 t1_init_beside true false a now =
-    offer_beside a (t1_init_expired a now) now (status_by a (t1_init_expired a now) refl refl refl refl refl refl, refl) (λ q. q.offer)
+    offer_beside a (t1_init_expired a now) now (status_by a (t1_init_expired a now) refl refl refl refl refl refl refl, refl) (λ q. q.offer)
 
 t1_cookie_beside : (expired failure : Bool) (a : Shown) (now : ℕ)
     → IsSameBeside a (if expired then (if failure then (let b = t1_cookie_expired a now in record b { handshake_fault = Some errors.ErrHandshakeCookieEcho }) else sends_cookie (t1_cookie_expired a now) now) else a)
 t1_cookie_beside false failure a now = (status_same a, refl)
-t1_cookie_beside true true a now = (status_by a _ refl refl refl refl refl refl, refl)
+t1_cookie_beside true true a now = (status_by a _ refl refl refl refl refl refl refl, refl)
 t1_cookie_beside true false a now =
-    echo_beside a (t1_cookie_expired a now) now (status_by a (t1_cookie_expired a now) refl refl refl refl refl refl, refl) (λ q. q.echo)
+    echo_beside a (t1_cookie_expired a now) now (status_by a (t1_cookie_expired a now) refl refl refl refl refl refl refl, refl) (λ q. q.echo)
 
 beside_on : (a b c : Shown) → IsSameBeside a b → IsSameBeside b c → IsSameBeside a c
 beside_on a b c (h, s) (k, t) = (status_on a b c h k, t ∙ s)

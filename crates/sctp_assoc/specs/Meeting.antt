@@ -1,80 +1,109 @@
 -- How far the handshake of a side of a pair has come, and what its packets say of that side (RFC 4960 section 5.1).
-use Rattle.std.specs.Prelude.{◌≡◌, ◌⊎◌, ℕ, true, false, [], is_some, Some, None}
+use Rattle.std.specs.Prelude.{◌≡◌, ◌⊎◌, ℕ, Bool, true, false, is_some, List, [], ◌∷◌}
 use Rattle.std.specs.List.{AllByRecursion}
 use Rattle.sctp_wire_types.specs.declared.chunk.Chunk.{Chunk}
 use Rattle.sctp_wire_types.specs.declared.chunk.Chunk.TheVariants as chunks
+use Rattle.sctp_wire_types.specs.declared.ids.Side.{Side}
 use Rattle.sctp_wire_types.specs.declared.ids.Side.TheVariants as sides
+use Rattle.sctp_wire_types.specs.declared.packet.CommonHeader.{CommonHeader}
 use Rattle.sctp_parts.specs.declared.state.AssociationState.TheVariants as states
+use Rattle.sctp_inbound.specs.Greeting.{first_cookie}
 use Rattle.sctp_assoc.specs.declared.control.ControlPacket.{ControlPacket}
-use Rattle.sctp_assoc.specs.Acts.{History}
-use Rattle.sctp_assoc.specs.Shapes.{WaitPlainly}
+use Rattle.sctp_assoc.specs.Acts.{Act}
+use Rattle.sctp_assoc.specs.Happened.{acts_of_chunk}
+use Rattle.sctp_assoc.specs.Polled.{WaitPlainly}
 use Rattle.sctp_assoc.specs.Shown.{Shown}
 
--- What a packet of the handshake says of the side that gives it out, whose initial TSN is own: INIT and INIT ACK say that TSN, a
--- COOKIE ECHO that a client learnt the peer's, and a COOKIE ACK that the side is established or was.
-abbrev pub Greets : ℕ → Shown → Chunk → Type 0
-Greets own a (chunks.Init init) = (init.initial_tsn ≡ own) × (a.side ≡ sides.Client)
-Greets own a (chunks.InitAck init) = (init.initial_tsn ≡ own) × (a.side ≡ sides.Server)
-Greets own a (chunks.CookieEcho cookie) = (a.side ≡ sides.Client) × (is_some a.handshake.peer_initial_tsn ≡ true)
-Greets own a chunks.CookieAck = a.handshake.completed ≡ true
-Greets own a chunk = ⊥
+-- What the handshake of a side tells the other one of it: whether it is client or server, whether it knows the peer's initial TSN,
+-- and whether it is established or was.
+pub record Stage : Type 0 where
+  pub side : Side
+  pub knows : Bool
+  pub completed : Bool
+
+abbrev pub stage_of : Shown → Stage
+stage_of a = record { side = a.side; knows = is_some a.handshake.peer_initial_tsn; completed = a.handshake.completed }
+
+-- t is s, or a later stage of the same side
+pub record GoesOn (s t : Stage) : Type 0 where
+  pub side : t.side ≡ s.side
+  pub knows : s.knows ≡ true → t.knows ≡ true
+  pub completed : s.completed ≡ true → t.completed ≡ true
+
+-- What a packet of the handshake says of the side that gives it out, whose initial TSN is own: INIT and INIT ACK say that TSN, and
+-- INIT that the side is a client; an INIT ACK has a cookie; a COOKIE ECHO says that a client learnt the peer's initial TSN, and a
+-- COOKIE ACK that the side is established or was.
+abbrev pub Greets : ℕ → Stage → Chunk → Type 0
+Greets own s (chunks.Init init) = (init.initial_tsn ≡ own) × (s.side ≡ sides.Client)
+Greets own s (chunks.InitAck init) = (init.initial_tsn ≡ own) × (is_some (first_cookie init.params) ≡ true)
+Greets own s (chunks.CookieEcho cookie) = (s.side ≡ sides.Client) × (s.knows ≡ true)
+Greets own s chunks.CookieAck = s.completed ≡ true
+Greets own s chunk = ⊥
 
 -- What waits to go out says what is so, and what a timer sends again would.
 pub record IsTruthful (own : ℕ) (a : Shown) : Type 0 where
   pub tsn : a.handshake.my_initial_tsn ≡ own
-  pub says : AllByRecursion (λ (c : ControlPacket). Greets own a c.chunk) a.control
+  pub says : AllByRecursion (λ (c : ControlPacket). Greets own (stage_of a) c.chunk) a.control
   pub plain : WaitPlainly a
   pub offers : is_some a.handshake.offer ≡ true → a.side ≡ sides.Client
   pub echoes : is_some a.handshake.echo ≡ true → (a.side ≡ sides.Client) × (is_some a.handshake.peer_initial_tsn ≡ true)
 
--- Nothing came and nothing was passed over.
-pub record HasNothing (h : History) : Type 0 where
-  pub taken : h.taken ≡ []
-  pub passed : h.passed ≡ 0
-  pub point : h.point ≡ 0
-
--- The peer's initial TSN is known, and is this one.
-pub record Knows (peer : ℕ) (a : Shown) (h : History) : Type 0 where
-  pub said : a.handshake.peer_initial_tsn ≡ Some peer
-  pub past : h.peer ≡ peer
-
--- it isn't known, and is taken to be 1
-pub record KnowsNothing (a : Shown) (h : History) : Type 0 where
-  pub unsaid : a.handshake.peer_initial_tsn ≡ None
-  pub past : h.peer ≡ 1
-
 -- A client that waits for INIT ACK.
-pub record IsWaiting (peer : ℕ) (a : Shown) (h : History) : Type 0 where
+pub record IsWaiting (a : Shown) : Type 0 where
   pub client : a.side ≡ sides.Client
   pub state : a.state ≡ states.CookieWait
   pub begun : a.handshake.completed ≡ false
   pub unissued : a.handshake.cookie_issued ≡ false
-  pub nothing : HasNothing h
-  pub knows : KnowsNothing a h ⊎ Knows peer a h
+  pub unknown : is_some a.handshake.peer_initial_tsn ≡ false
 
 -- A client that waits for COOKIE ACK.
-pub record IsEchoing (peer : ℕ) (a : Shown) (h : History) : Type 0 where
+pub record IsEchoing (a : Shown) : Type 0 where
   pub client : a.side ≡ sides.Client
   pub state : a.state ≡ states.CookieEchoed
   pub begun : a.handshake.completed ≡ false
   pub unissued : a.handshake.cookie_issued ≡ false
-  pub knows : Knows peer a h
+  pub known : is_some a.handshake.peer_initial_tsn ≡ true
 
 -- A server that waits for INIT, or for COOKIE ECHO.
-pub record IsListening (peer : ℕ) (a : Shown) (h : History) : Type 0 where
+pub record IsListening (a : Shown) : Type 0 where
   pub server : a.side ≡ sides.Server
   pub state : a.state ≡ states.Closed
   pub begun : a.handshake.completed ≡ false
-  pub nothing : HasNothing h
-  pub knows : KnowsNothing a h ⊎ Knows peer a h
-  pub issued : a.handshake.cookie_issued ≡ true → Knows peer a h
+  pub issued : a.handshake.cookie_issued ≡ true → is_some a.handshake.peer_initial_tsn ≡ true
 
 -- An association that is established.
-pub record IsTalking (peer : ℕ) (a : Shown) (h : History) : Type 0 where
+pub record IsTalking (a : Shown) : Type 0 where
   pub state : a.state ≡ states.Established
   pub completed : a.handshake.completed ≡ true
-  pub knows : Knows peer a h
+  pub known : is_some a.handshake.peer_initial_tsn ≡ true
 
--- how far the handshake has come, towards a peer of this initial TSN
-abbrev pub HasCome : ℕ → Shown → History → Type 0
-HasCome peer a h = IsWaiting peer a h ⊎ (IsEchoing peer a h ⊎ (IsListening peer a h ⊎ IsTalking peer a h))
+-- how far the handshake has come
+abbrev pub HasCome : Shown → Type 0
+HasCome a = IsWaiting a ⊎ (IsEchoing a ⊎ (IsListening a ⊎ IsTalking a))
+
+-- DATA may come to a side in this stage: it is established or was, or it is a client that echoes the peer's cookie
+abbrev pub MayHear : Stage → Type 0
+MayHear s = (s.completed ≡ true) ⊎ ((s.side ≡ sides.Client) × (s.knows ≡ true))
+
+-- the peer's initial TSN became known where no DATA may have come yet, or what is known of it stays
+abbrev pub IsLearning : ℕ → List Act → Shown → Shown → Type 0
+IsLearning peer acts a b =
+    ((acts ≡ []) × (b.handshake.peer_initial_tsn ≡ a.handshake.peer_initial_tsn)) ⊎ ((acts ≡ Act.Met peer ∷ []) × (MayHear (stage_of a) → ⊥))
+
+-- A packet of the handshake of a peer in the stage t led the association a by these acts to b: what waits stays truthful, and the
+-- handshake goes on. Where that completes it, the peer may hear.
+pub record IsGreeted (own peer : ℕ) (t : Stage) (acts : List Act) (a b : Shown) : Type 0 where
+  pub truthful : IsTruthful own b
+  pub come : HasCome b
+  pub goes : GoesOn (stage_of a) (stage_of b)
+  pub completes : b.handshake.completed ≡ true → (a.handshake.completed ≡ true) ⊎ MayHear t
+  pub learns : IsLearning peer acts a b
+
+-- where both sides are clients the first one is established or was
+abbrev pub OneWaits : Stage → Stage → Type 0
+OneWaits s t = s.side ≡ sides.Client → t.side ≡ sides.Client → s.completed ≡ true
+
+-- A chunk that made b of a leads the handshake on, where a peer in the stage t says it truthfully.
+abbrev pub GreetsOn : CommonHeader → Chunk → Shown → Shown → Type 0
+GreetsOn header chunk a b = (own peer : ℕ) (t : Stage) → Greets peer t chunk → OneWaits (stage_of a) t → IsTruthful own a → HasCome a
+    → IsGreeted own peer t (acts_of_chunk a header chunk) a b

@@ -127,6 +127,10 @@ AckIsReadAgain a = is_due a.receiver.ack_state ≡ true → IsReadAgain (header_
 abbrev pub ControlIsReadAgain : ControlPacket → Type 0
 ControlIsReadAgain c = packet_is_plain (packet_with c.header c.chunk) ≡ true → IsReadAgain c.header c.chunk
 
+-- nothing that waits to go out is kept so
+abbrev pub WaitPlainly : Shown → Type 0
+WaitPlainly a = AllByRecursion (λ (c : ControlPacket). packet_is_plain (packet_with c.header c.chunk) ≡ true) a.control
+
 abbrev pub AreControlReadAgain : List ControlPacket → Type 0
 AreControlReadAgain cs = AllByRecursion ControlIsReadAgain cs
 

@@ -9,7 +9,7 @@ use Rattle.sctp_wire_types.specs.declared.chunk.ChunkSelectiveAck.{ChunkSelectiv
 use Rattle.sctp_wire_types.specs.declared.ids.PayloadProtocolIdentifier.{PayloadProtocolIdentifier}
 use Rattle.sctp_wire_types.specs.declared.packet.CommonHeader.{CommonHeader}
 use Rattle.sctp_wire.specs.declared.packet.Packet.{Packet}
-use Rattle.sctp_wire.specs.Packets.{packet_at, packet_is_plain}
+use Rattle.sctp_wire.specs.Packets.{packet_at}
 use Rattle.sctp_receive_queues.specs.Reassembly.{empty_reassembly}
 use Rattle.sctp_queues.specs.declared.event.AssociationError.{AssociationError}
 use Rattle.sctp_queues.specs.declared.event.Event.{Event}
@@ -22,7 +22,8 @@ use Rattle.sctp_assoc.specs.Calls.{closed_by, event_polled, is_closed_state, is_
 use Rattle.sctp_assoc.specs.Chunks.{after_packet, ended, on_chunk}
 use Rattle.sctp_assoc.specs.Happened.{Polls, acts_of_chunk, acts_of_poll, acts_of_timeouts}
 use Rattle.sctp_assoc.specs.Inbound.{taken_packet}
-use Rattle.sctp_assoc.specs.Polled.{control_packets, is_due, packet_with, polled, without_control}
+use Rattle.sctp_assoc.specs.Meeting.{GoesOn, Greets, GreetsOn, HasCome, IsTalking, IsTruthful, Stage, stage_of}
+use Rattle.sctp_assoc.specs.Polled.{AreControlReadAgain, WaitPlainly, control_packets, is_due, polled, without_control}
 use Rattle.sctp_assoc.specs.Shown.{Shown}
 use Rattle.sctp_assoc.specs.Timeouts.{after_timeouts}
 use Rattle.sctp_assoc.specs.declared.control.ControlPacket.{ControlPacket}
@@ -35,13 +36,30 @@ pub record IsQuiet (a : Shown) : Type 0 where
   pub offer : a.handshake.offer ≡ None
   pub echo : a.handshake.echo ≡ None
 
--- Whether it failed, its state, whether it was lost and its payload size are as they were, and it is quiet where it was.
+-- Whether it failed, its state, whether it was lost, its payload size, its side and what its handshake fixed are as they were; it is
+-- quiet where it was, and what waits to go out is truthful where it was.
 pub record IsSameStatus (a b : Shown) : Type 0 where
   pub failed : b.failed ≡ a.failed
   pub state : b.state ≡ a.state
   pub lost : b.lost ≡ a.lost
   pub size : b.sender.max_payload_size ≡ a.sender.max_payload_size
+  pub side : b.side ≡ a.side
+  pub handshake : b.handshake ≡ a.handshake
   pub quiet : IsQuiet a → IsQuiet b
+  pub truthful : (own : ℕ) → IsTruthful own a → IsTruthful own b
+
+-- A side with the same handshake is in the same stage; where its state is the same, too, the handshake has come as far.
+abbrev pub TheSameHandshakeIsTheSameStage : Type 0
+TheSameHandshakeIsTheSameStage = (a b : Shown) → b.side ≡ a.side → b.handshake ≡ a.handshake
+    → (stage_of b ≡ stage_of a) × (b.state ≡ a.state → HasCome a → HasCome b)
+
+-- In Established it is over.
+abbrev pub EstablishedSidesTalk : Type 0
+EstablishedSidesTalk = (a : Shown) → is_established a.state ≡ true → HasCome a → IsTalking a
+
+-- What a side said of itself stays so in its later stages.
+abbrev pub GreetingsStayTrue : Type 0
+GreetingsStayTrue = (own : ℕ) (s t : Stage) (chunk : Chunk) → GoesOn s t → Greets own s chunk → Greets own t chunk
 
 -- The application's calls, timers and polls leave the status; of these, events that are told and timers leave the streams, too.
 abbrev pub OpenedStreamsKeepTheStatus : Type 0
@@ -110,16 +128,23 @@ WhatHoldsNothingGivesNothing = (a : Shown) (id : ℕ) → IsLive a id → HoldsN
 
 -- The chunks of a packet
 
+-- What any chunk leaves: whether it failed, whether it was lost, and its payload size.
+pub record GoesOnWorking (a b : Shown) : Type 0 where
+  pub failed : b.failed ≡ a.failed
+  pub lost : b.lost ≡ a.lost
+  pub size : b.sender.max_payload_size ≡ a.sender.max_payload_size
+
 -- What a chunk leaves: DATA and SACKs leave the status.
 abbrev pub Leaves : Chunk → Shown → Shown → Type 0
 Leaves (chunks.Data piece) a b = IsSameStatus a b
 Leaves (chunks.SelectiveAck sack) a b = IsSameStatus a b
-Leaves chunk a b = ⊤
+Leaves chunk a b = GoesOnWorking a b
 
--- A chunk of a packet with this header made b of the association a: by its acts.
+-- A chunk of a packet with this header made b of the association a: by its acts, and one of a handshake leads that on.
 pub record TakesChunk (header : CommonHeader) (chunk : Chunk) (a b : Shown) : Type 0 where
   pub leads : LeadsOn (acts_of_chunk a header chunk) a b
   pub leaves : Leaves chunk a b
+  pub greets : GreetsOn header chunk a b
 
 -- Each chunk leads on by its acts.
 abbrev pub ChunksLeadOn : Type 0
@@ -146,7 +171,10 @@ pub record IsEnded (b : Shown) : Type 0 where
 -- A fault closed an open association; a closed one stayed as it was.
 pub record Closes (a b : Shown) : Type 0 where
   pub failed : b.failed ≡ a.failed
+  pub side : b.side ≡ a.side
+  pub handshake : b.handshake ≡ a.handshake
   pub quiet : IsQuiet a → IsQuiet b
+  pub truthful : (own : ℕ) → IsTruthful own a → IsTruthful own b
   pub ends : is_closed_state a.state ≡ false → IsEnded b
   pub stays : is_closed_state a.state ≡ true → b ≡ a
 
@@ -274,14 +302,15 @@ IsExchanged acts a h chunk = ⊥
 abbrev pub IsGivenBy : List Act → Shown → History → Chunk → Type 0
 IsGivenBy acts a h chunk = IsWaitingToGo a chunk ⊎ IsExchanged acts a h chunk
 
--- nothing that waits to go out is kept under `Other` where its type has a variant of its own
-abbrev pub WaitPlainly : Shown → Type 0
-WaitPlainly a = AllByRecursion (λ (c : ControlPacket). packet_is_plain (packet_with c.header c.chunk) ≡ true) a.control
-
 -- The packets of a poll are of such chunks alone.
 abbrev pub PollsSayTheirActs : Type 0
 PollsSayTheirActs = (acts : List Act) (a b : Shown) (h : History) (packets : List (List ℕ)) → WaitPlainly a → is_established a.state ≡ true → Binds a h
     → Polls acts a h b packets → AllByRecursion (λ (bytes : List ℕ). OfEachChunk (IsGivenBy acts a h) (taken_packet (packet_at bytes))) packets
+
+-- What waits goes out in packets of those chunks alone.
+abbrev pub WhatWaitsGoesOutAsItIs : Type 0
+WhatWaitsGoesOutAsItIs = (a : Shown) → WaitPlainly a → AreControlReadAgain a.control
+    → AllByRecursion (λ (bytes : List ℕ). OfEachChunk (IsWaitingToGo a) (taken_packet (packet_at bytes))) (control_packets a.control)
 
 -- Timeouts at most mark all that is outstanding (RFC 4960 section 6.3.3).
 abbrev pub TimeoutsMarkAtMost : Type 0

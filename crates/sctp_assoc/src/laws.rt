@@ -1,5 +1,5 @@
 // Laws of one side, for whoever builds on it.
-ghost use Rattle.sctp_assoc.specs.Shapes.{AcceptedWritesFit, ChunksLeadOn, DataIsTaken, EstablishedIsNotClosed, FaultsClose, FoundStreamsAreLive, GreetingsMeet, LostAssociationsTakeNothing, NoPacketChangesNothing, OpenedStreamsHoldNothing, OpenedStreamsKeepTheStatus, OpenedStreamsWereNotLive, OtherChunksDoNothing, PacketsEnd, PollsGiveAndReport, PollsKeepTheStatus, PollsOutsideEstablishedGiveWhatWaits, PollsSayTheirActs, ReadsKeepTheStatus, SacksAcknowledge, TimeoutsMarkAtMost, TimersKeepTheStatus, ToldEventsKeepTheStatus, WhatHoldsNothingGivesNothing, WritesKeepTheStatus};
+ghost use Rattle.sctp_assoc.specs.Shapes.{AcceptedWritesFit, ChunksLeadOn, DataIsTaken, EstablishedIsNotClosed, EstablishedSidesTalk, FaultsClose, FoundStreamsAreLive, GreetingsMeet, GreetingsStayTrue, LostAssociationsTakeNothing, NoPacketChangesNothing, OpenedStreamsHoldNothing, OpenedStreamsKeepTheStatus, OpenedStreamsWereNotLive, OtherChunksDoNothing, PacketsEnd, PollsGiveAndReport, PollsKeepTheStatus, PollsOutsideEstablishedGiveWhatWaits, PollsSayTheirActs, ReadsKeepTheStatus, SacksAcknowledge, TheSameHandshakeIsTheSameStage, TimeoutsMarkAtMost, TimersKeepTheStatus, ToldEventsKeepTheStatus, WhatHoldsNothingGivesNothing, WhatWaitsGoesOutAsItIs, WritesKeepTheStatus};
 ghost use Rattle.sctp_assoc.specs.Laws.{DueSacksGoOut, FaultsAloneClose, OpenedStreamsDoNotClose, PollsDoNotClose, PollsKeepWhatIsHeld, ReadsDoNotClose, SacksNameThePoint, TimersDoNotClose, WhatWaitsGoesOut, WhatWaitsIsGiven, WhatWaitsIsPolled, WritesAreHeld, WritesDoNotClose};
 
 /// Sending: what waits goes out with the next poll where nothing is in flight (RFC 4960 section 6.1).
@@ -31,8 +31,8 @@ pub fn sacks_name_the_point()
     ensures due { DueSacksGoOut }
 {}
 
-/// Status: whether it failed, its state, whether it was lost and its payload size change by no call of the application, by no
-/// timer and by no poll.
+/// Status: whether it failed, its state, whether it was lost, its payload size and its handshake change by no call of the
+/// application, by no timer and by no poll, and what waits to go out stays truthful.
 pub fn calls_keep_the_status()
     ensures opened { OpenedStreamsKeepTheStatus }
     ensures written { WritesKeepTheStatus }
@@ -40,6 +40,14 @@ pub fn calls_keep_the_status()
     ensures told { ToldEventsKeepTheStatus }
     ensures timers { TimersKeepTheStatus }
     ensures polled { PollsKeepTheStatus }
+{}
+
+/// Stages: what a side's packets tell of its handshake stays so, and where the handshake stays so does its stage (RFC 4960
+/// section 5.1).
+pub fn handshakes_go_on()
+    ensures same { TheSameHandshakeIsTheSameStage }
+    ensures established { EstablishedSidesTalk }
+    ensures greetings { GreetingsStayTrue }
 {}
 
 /// Refusing: what a call that was not refused could rely on.
@@ -55,7 +63,7 @@ pub fn nothing_comes_of_nothing()
     ensures read { WhatHoldsNothingGivesNothing }
 {}
 
-/// Packets: each chunk leads on by its acts, and so does the end; a fault closes, and an association that was lost takes nothing.
+/// Packets: each chunk leads on by its acts, one of a handshake leads that on, and so does the end; a fault closes, and an association that was lost takes nothing.
 pub fn packets_lead_on()
     ensures chunks { ChunksLeadOn }
     ensures ends { PacketsEnd }
@@ -74,5 +82,6 @@ pub fn calls_are_made_of_acts()
     ensures poll { PollsGiveAndReport }
     ensures silent { PollsOutsideEstablishedGiveWhatWaits }
     ensures packets { PollsSayTheirActs }
+    ensures waiting { WhatWaitsGoesOutAsItIs }
     ensures timeouts { TimeoutsMarkAtMost }
 {}

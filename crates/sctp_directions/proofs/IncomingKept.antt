@@ -44,7 +44,7 @@ IsSameHeld None (Some u) = ⊥
 IsSameHeld (Some t) None = ⊥
 IsSameHeld (Some t) (Some u) = u.reassembly ≡ t.reassembly
 
-same_held : (x : Option Stream) → IsSameHeld x x
+pub same_held : (x : Option Stream) → IsSameHeld x x
 same_held None = tt
 same_held (Some t) = refl
 

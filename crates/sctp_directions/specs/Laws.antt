@@ -115,6 +115,12 @@ abbrev pub SentPiecesBegin : Type 0
 SentPiecesBegin = (a : Parts) (now : ℕ) (w : Direction) → Can (Act.Sent now) a → Invariant w → IsPlain w → FitsOutgoing a w
     → (s : ℕ) × IsBegun a (Act.Sent now) w s
 
+-- Where no offset was assigned in the direction that comes, the peer's initial TSN may become known: the directions know nothing
+-- of it.
+abbrev pub MeetingsAreNoEvents : Type 0
+MeetingsAreNoEvents = (a : Parts) (t : ℕ) (out coming : Direction) → coming.sender.plan.places ≡ [] → Invariant coming → IsPlain coming → FitsOutgoing a out
+    → FitsIncoming a coming → FitsOutgoing (done (Act.Met t) a) out × FitsIncoming (done (Act.Met t) a) coming
+
 -- Of a mark for sending again the direction knows nothing.
 abbrev pub MarksAreNoEvents : Type 0
 MarksAreNoEvents = (a : Parts) (w : Direction) → FitsOutgoing a w → FitsOutgoing (done Act.Marked a) w

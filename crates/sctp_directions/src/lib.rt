@@ -2,7 +2,7 @@
 //! runs here; each empty function carries a law that is proved.
 #![tactic(auto)]
 
-ghost use Rattle.sctp_directions.specs.Laws.{AcknowledgementsAreAlike, ActsKeepTheInitialTsns, ClosedReceiversAreNotOpen, EventsKeepTheLimits, FreshDirectionsArePlain, MarksAreNoEvents, OnlyBeginningsAssign, OnlyReadsGiveMessages, OnlyWhatIsBroughtIsTakenIn, OnlyWritesAccept, OpenedStreamsAreAlike, OwnActsLeaveWhatComes, PiecesAreGiven, PlainEventsKeepItPlain, ReadsAreAlike, ReadyMessagesAreAlike, ReceiversEventsAreReceived, ReportsNameThePoint, SacksMeanTheSame, SendersEventsAreSent, SendersEventsKeepTheInvariant, SendersEventsLeaveWhatComes, SentPiecesBegin, TheSameIsReady, WhatComesLeavesItsOwn, WhatIsReleasedIsNotBuffered, WhatIsTakenInComes, WritesAreAccepted, WritesAreAcceptedLast};
+ghost use Rattle.sctp_directions.specs.Laws.{AcknowledgementsAreAlike, ActsKeepTheInitialTsns, ClosedReceiversAreNotOpen, EventsKeepTheLimits, FreshDirectionsArePlain, MarksAreNoEvents, MeetingsAreNoEvents, OnlyBeginningsAssign, OnlyReadsGiveMessages, OnlyWhatIsBroughtIsTakenIn, OnlyWritesAccept, OpenedStreamsAreAlike, OwnActsLeaveWhatComes, PiecesAreGiven, PlainEventsKeepItPlain, ReadsAreAlike, ReadyMessagesAreAlike, ReceiversEventsAreReceived, ReportsNameThePoint, SacksMeanTheSame, SendersEventsAreSent, SendersEventsKeepTheInvariant, SendersEventsLeaveWhatComes, SentPiecesBegin, TheSameIsReady, WhatComesLeavesItsOwn, WhatIsReleasedIsNotBuffered, WhatIsTakenInComes, WritesAreAccepted, WritesAreAcceptedLast};
 
 /// What an association writes, sends for the first time or again, marks and finds acknowledged happens at the sender of its
 /// direction, and leaves the one that comes to it.
@@ -28,6 +28,7 @@ pub fn what_comes_to_it_are_events()
     ensures messages { ReadyMessagesAreAlike }
     ensures leaves { WhatComesLeavesItsOwn }
     ensures initials { ActsKeepTheInitialTsns }
+    ensures meetings { MeetingsAreNoEvents }
 {}
 
 /// What an event at the sender leaves of a direction, and what it keeps.

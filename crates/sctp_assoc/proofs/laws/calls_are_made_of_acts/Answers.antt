@@ -1,4 +1,4 @@
-use Rattle.sctp_assoc.proofs.Proved.{data_is_taken, greetings_meet, other_chunks_do_nothing, polls_give_and_report, polls_outside_established_give_what_waits, polls_say_their_acts, sacks_acknowledge, timeouts_mark_at_most}
+use Rattle.sctp_assoc.proofs.Proved.{data_is_taken, greetings_meet, other_chunks_do_nothing, polls_give_and_report, polls_outside_established_give_what_waits, polls_say_their_acts, sacks_acknowledge, timeouts_mark_at_most, what_waits_goes_out_as_it_is}
 use Rattle.sctp_assoc.proofs.laws.calls_are_made_of_acts.Goals as goal
 
 pub returns-clause-data : goal.returns-clause-data
@@ -24,3 +24,6 @@ returns-clause-timeouts c = timeouts_mark_at_most
 
 pub returns-clause-greeting : goal.returns-clause-greeting
 returns-clause-greeting c = greetings_meet
+
+pub returns-clause-waiting : goal.returns-clause-waiting
+returns-clause-waiting c = what_waits_goes_out_as_it_is
