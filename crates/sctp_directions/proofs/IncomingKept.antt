@@ -70,7 +70,7 @@ changed_same f stays m id n = go (stream_at m id) refl
         (cases_Bool (eqb n id))
 
 -- parts with the same past of the DATA that comes, and the same held of each stream
-fits_by : (a b : Parts) (w : Direction) → b.history.taken ≡ a.history.taken → b.history.passed ≡ a.history.passed → b.history.point ≡ a.history.point
+pub fits_by : (a b : Parts) (w : Direction) → b.history.taken ≡ a.history.taken → b.history.passed ≡ a.history.passed → b.history.point ≡ a.history.point
     → ((n : ℕ) → IsSameHeld (stream_at a.streams n) (stream_at b.streams n)) → FitsIncoming a w → FitsIncoming b w
 fits_by a b w taken passed at same fits = record {
   is_open = fits.is_open;

@@ -1,6 +1,6 @@
 -- The peer's initial TSN becomes known where nothing came: the directions see nothing of it.
-use Rattle.std.proofs.Common.{◌≡◌, refl, sym, ◌∙◌, subst, ℕ, ◌<◌, ◌≤◌, arith, Bool, true, eqb, ◌||◌, List, [], ◌∷◌, length}
-use Rattle.std.proofs.lemmas.Bool.{eq-eqb}
+use Rattle.std.proofs.Common.{◌≡◌, refl, sym, ◌∙◌, subst, ℕ, ◌<◌, ◌≤◌, arith, Bool, true, false, eqb, ◌||◌, List, [], ◌∷◌, length}
+use Rattle.std.proofs.lemmas.Bool.{eq-eqb, false≢true}
 use Rattle.sctp_queues.specs.Streams.{stream_at}
 use Rattle.sctp_model.specs.Messages.{Place}
 use Rattle.sctp_model.specs.Packets.{mem}
@@ -15,7 +15,7 @@ use Rattle.sctp_directions.proofs.IncomingStreams.{point_known}
 
 or_left : (b c : Bool) → b ≡ true → (b || c) ≡ true
 or_left true c e = refl
-or_left false c e = absurd cc
+or_left false c e = absurd (false≢true e)
 
 -- a list of which nothing is a member is empty
 none_in : (xs : List ℕ) → ((o : ℕ) → mem o xs ≡ true → ⊥) → xs ≡ []

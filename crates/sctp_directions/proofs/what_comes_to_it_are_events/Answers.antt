@@ -1,4 +1,4 @@
-use Rattle.sctp_directions.proofs.Proved.{acts_keep_the_initial_tsns, opened_streams_are_alike, reads_are_alike, ready_messages_are_alike, reports_name_the_point, the_same_is_ready, what_comes_leaves_its_own, what_is_taken_in_comes}
+use Rattle.sctp_directions.proofs.Proved.{acts_keep_the_initial_tsns, meetings_are_no_events, opened_streams_are_alike, reads_are_alike, ready_messages_are_alike, reports_name_the_point, the_same_is_ready, what_comes_leaves_its_own, what_is_taken_in_comes}
 use Rattle.sctp_directions.proofs.what_comes_to_it_are_events.Goals as goal
 
 pub returns-clause-opened : goal.returns-clause-opened
@@ -24,3 +24,6 @@ returns-clause-leaves c = what_comes_leaves_its_own
 
 pub returns-clause-initials : goal.returns-clause-initials
 returns-clause-initials c = acts_keep_the_initial_tsns
+
+pub returns-clause-meetings : goal.returns-clause-meetings
+returns-clause-meetings c = meetings_are_no_events
