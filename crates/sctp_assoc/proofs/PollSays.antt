@@ -71,7 +71,7 @@ waiting_say Is (c ∷ cs) (again, more) (plain, others) (one, rest) =
     (one_says Is c.header c.chunk (again plain) one) (waiting_say Is cs more others rest)
 
 pub polls_say_their_acts : PollsSayTheirActs
-polls_say_their_acts acts a b h packets plain established binds polls =
+polls_say_their_acts acts a b h packets plain again established binds polls =
     let Is : Chunk → Type 0 = IsGivenBy acts a h in
     let header = header_of a.handshake in
     let given = all_data_given acts (parts a h) in
@@ -80,7 +80,7 @@ polls_say_their_acts acts a b h packets plain established binds polls =
     subst (AreOf (IsGivenBy acts a h)) (sym said)
     (all_join (λ (bytes : List ℕ). OfEachChunk (IsGivenBy acts a h) (taken_packet (packet_at bytes))) (control_packets a.control)
     (data_packets (header_of a.handshake) (all_data_given acts (parts a h)) ++ acks_given a)
-    (waiting_say (IsGivenBy acts a h) a.control polls.control_again plain
+    (waiting_say (IsGivenBy acts a h) a.control again plain
     (all_weaker (λ (c : ControlPacket). (k : ℕ) × (slice_get a.control k ≡ Some c)) (λ (c : ControlPacket). IsGivenBy acts a h c.chunk) a.control
     (λ c there. inl (there.0, c, there.1, refl)) (each_there a.control)))
     (all_join (λ (bytes : List ℕ). OfEachChunk (IsGivenBy acts a h) (taken_packet (packet_at bytes))) (data_packets (header_of a.handshake) (all_data_given acts (parts a h))) (acks_given a)

@@ -8,7 +8,7 @@ use Rattle.sctp_inbound.specs.Handshake.{header_of}
 use Rattle.sctp_inbound.specs.Receiver.{acknowledged}
 use Rattle.sctp_assoc.specs.Acts.{Act, Binds, History, Leads, Parts, all_data_given, done_all, parts}
 use Rattle.sctp_assoc.specs.Calls.{is_established}
-use Rattle.sctp_assoc.specs.Happened.{PollsOn, acks_given, acts_of_ack, acts_of_data_poll, acts_of_poll, exchange_given}
+use Rattle.sctp_assoc.specs.Happened.{Polls, PollsOn, acks_given, acts_of_ack, acts_of_data_poll, acts_of_poll, exchange_given}
 use Rattle.sctp_assoc.specs.Polled.{AreControlReadAgain, PollIsReadAgain, AreReadAgain, ack_after, ack_polled, after_both, control_packets, data_packets, data_polled, exchange_polled, is_due, polled, sack_packet, without_control}
 use Rattle.sctp_assoc.specs.Shown.{Shown}
 use Rattle.sctp_assoc.proofs.Acting.{acts_tied, given_append}
@@ -103,16 +103,14 @@ exchange_leads a now h binds = polls_if (is_established a.state) a now h binds
 beside_control : (xs : List Act) (a b c : Shown) (h k : History) → Leads xs (without_control a) h b k → c ≡ b → Leads xs a h c k
 beside_control xs a b c h k m e = rw e (record { can = m.can; there = m.there; binds = m.binds })
 
-pub polls : (a : Shown) (now : ℕ) → AreControlReadAgain a.control → PollIsReadAgain (without_control a) now
-    → PollsOn (acts_of_poll a now) a (polled a now).0 (polled a now).1
-polls a now waiting again h binds =
+polls : (a : Shown) (now : ℕ) (h : History) → PollIsReadAgain (without_control a) now → Binds a h → Polls (acts_of_poll a now) a h (polled a now).0 (polled a now).1
+polls a now h again binds =
     let b : Shown = without_control a in
     let bound : Binds b h = record { first = binds.first; point = binds.point; below = binds.below; above = binds.above; passed = binds.passed } in
     let all = exchange_leads b now h bound in
     record {
       leads = beside_control (acts_of_poll a now) a (exchange_polled b now).0 (polled a now).0 h h all.0 (both_first (control_packets a.control) (exchange_polled b now));
       said = both_second (control_packets a.control) (exchange_polled b now) ∙ ap (λ (z : List (List ℕ)). control_packets a.control ++ z) all.1;
-      control_again = waiting;
       data_again = λ e. data_again_if (is_established b.state) b now h bound e (again e).0;
       ack_again = λ e. (data_poll_stays b now).again (again e).1;
     }
@@ -120,4 +118,5 @@ polls a now waiting again h binds =
 pub polls_on : (a b : Shown) (now : ℕ) (packets : List (List ℕ)) → polled a now ≡ (b, packets) → AreControlReadAgain a.control → PollIsReadAgain (without_control a) now
     → PollsOn (acts_of_poll a now) a b packets
 polls_on a b now packets e waiting again =
-    rw (ap (λ (x : Shown × List (List ℕ)). x.0) (sym e), ap (λ (x : Shown × List (List ℕ)). x.1) (sym e)) (polls a now waiting again)
+    rw (ap (λ (x : Shown × List (List ℕ)). x.0) (sym e), ap (λ (x : Shown × List (List ℕ)). x.1) (sym e))
+    (record { control_again = waiting; from = λ h binds. polls a now h again binds })

@@ -174,13 +174,13 @@ packets_given xs a h = control_packets a.control ++ exchange_given xs a h
 pub record Polls (xs : List Act) (a : Shown) (h : History) (b : Shown) (packets : List (List ℕ)) : Type 0 where
   pub leads : Leads xs a h b h
   pub said : packets ≡ packets_given xs a h
-  pub control_again : AreControlReadAgain a.control
   pub data_again : is_established a.state ≡ true → AreReadAgain (header_of a.handshake) (all_data_given xs (parts a h))
   pub ack_again : is_established a.state ≡ true → AckIsReadAgain a
 
--- a poll for packets does and gives so from each history on which the association stands
-abbrev pub PollsOn : List Act → Shown → Shown → List (List ℕ) → Type 0
-PollsOn xs a b packets = (h : History) → Binds a h → Polls xs a h b packets
+-- A poll for packets does and gives so from each history on which the association stands; what waited is read again as what it was.
+pub record PollsOn (xs : List Act) (a b : Shown) (packets : List (List ℕ)) : Type 0 where
+  pub control_again : AreControlReadAgain a.control
+  pub from : (h : History) → Binds a h → Polls xs a h b packets
 
 -- the retransmission timer, where it expired by a moment and is within its limit
 abbrev pub acts_of_t3 : Shown → ℕ → List Act

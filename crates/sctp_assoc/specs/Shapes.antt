@@ -304,7 +304,7 @@ IsGivenBy acts a h chunk = IsWaitingToGo a chunk ⊎ IsExchanged acts a h chunk
 
 -- The packets of a poll are of such chunks alone.
 abbrev pub PollsSayTheirActs : Type 0
-PollsSayTheirActs = (acts : List Act) (a b : Shown) (h : History) (packets : List (List ℕ)) → WaitPlainly a → is_established a.state ≡ true → Binds a h
+PollsSayTheirActs = (acts : List Act) (a b : Shown) (h : History) (packets : List (List ℕ)) → WaitPlainly a → AreControlReadAgain a.control → is_established a.state ≡ true → Binds a h
     → Polls acts a h b packets → AllByRecursion (λ (bytes : List ℕ). OfEachChunk (IsGivenBy acts a h) (taken_packet (packet_at bytes))) packets
 
 -- What waits goes out in packets of those chunks alone.
