@@ -1,11 +1,9 @@
 -- What the chunks of a packet say, in offsets of the two directions (RFC 4960 sections 3.3.1 and 3.3.4).
-use Rattle.std.specs.Prelude.{◌≡◌, ℕ, not, slice_get, Option, Some, None, ⊤}
-use Rattle.std.specs.List.{AllByRecursion}
+use Rattle.std.specs.Prelude.{◌≡◌, ℕ, not, slice_get, Some}
 use Rattle.sctp_wire_types.specs.declared.chunk.Chunk.{Chunk}
 use Rattle.sctp_wire_types.specs.declared.chunk.Chunk.TheVariants as chunks
 use Rattle.sctp_wire_types.specs.declared.chunk.ChunkPayloadData.{ChunkPayloadData}
 use Rattle.sctp_wire_types.specs.Ids.{number_of}
-use Rattle.sctp_wire.specs.declared.packet.Packet.{Packet}
 use Rattle.sctp_model.specs.Packets.{Data, Sack}
 use Rattle.sctp_model.specs.Serial.{tsn}
 use Rattle.sctp_model.specs.Machine.{Direction}
@@ -36,8 +34,3 @@ abbrev pub Says : ℕ → ℕ → Direction → Direction → Chunk → Type 0
 Says own peer out coming (chunks.Data c) = IsGiven own out c
 Says own peer out coming (chunks.SelectiveAck k) = IsMade peer coming k.cumulative_tsn_ack
 Says own peer out coming chunk = ⊥
-
--- what a datagram spells, if it spells a packet
-abbrev pub SaysAll : ℕ → ℕ → Direction → Direction → Option Packet → Type 0
-SaysAll own peer out coming None = ⊤
-SaysAll own peer out coming (Some packet) = AllByRecursion (Says own peer out coming) packet.chunks

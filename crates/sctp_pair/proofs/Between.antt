@@ -9,13 +9,15 @@ use Rattle.sctp_model.specs.Machine.{Direction, Event, Receiver, Sender, happens
 use Rattle.sctp_model.specs.Invariants.{Invariant}
 use Rattle.sctp_model.specs.Safe.{IsWithin}
 use Rattle.sctp_assoc.specs.Acts.{Parts, parts}
+use Rattle.sctp_assoc.specs.Calls.{is_established}
+use Rattle.sctp_assoc.specs.Meeting.{GoesOn, Stage}
 use Rattle.sctp_assoc.specs.Shown.{Shown}
 use Rattle.sctp_directions.specs.Events.{Accepts, Brings, GivesAMessage, IsAtReceiver, IsAtSender}
 use Rattle.sctp_directions.specs.Plain.{IsPlain}
 use Rattle.sctp_directions.specs.Outgoing.{FitsOutgoing}
 use Rattle.sctp_directions.specs.Incoming.{FitsIncoming, IsReadAs}
 use Rattle.sctp_directions.proofs.Proved.{only_reads_give_messages, only_what_is_brought_is_taken_in, only_writes_accept, receivers_events_are_received, senders_events_are_sent}
-use Rattle.sctp_pair.specs.Fits.{Stands, StandsClosed, StandsFailed, StandsOpen}
+use Rattle.sctp_pair.specs.Fits.{IsAt, IsSilent, Meets, Stands, StandsClosed, StandsFailed, StandsOpen}
 
 -- What stays and what grows of a direction by events that neither accept nor read: what they take in was there, or was brought.
 pub record Goes (Brought : ℕ → Type 0) (w v : Direction) : Type 0 where
@@ -94,7 +96,6 @@ goes_by_receiver B w e at none brings =
 -- p is what the association's directions see of it, y is the other association
 pub record Holds (own peer : ℕ) (p : Parts) (y : Shown) (out coming : Direction) : Type 0 where
   pub own_is : p.history.own ≡ own
-  pub peer_is : p.history.peer ≡ peer
   pub invariant_out : Invariant out
   pub invariant_coming : Invariant coming
   pub plain_out : IsPlain out
@@ -124,16 +125,23 @@ other_by_out peer own y coming out out2 fits same h =
       peer_is = s.peer_is;
       binds = s.binds;
       working = s.working;
-      established = s.established;
+      come = s.come;
       present = s.present;
-      quiet = s.quiet;
+      truthful = s.truthful;
       size = s.size;
       outgoing = s.outgoing;
       incoming = fits (parts y s.past) s.incoming;
     })
-    (λ (r : StandsClosed y out ⊎ StandsFailed y out).
+    (λ (r : StandsClosed peer y out ⊎ StandsFailed y out).
     ⊎_elim
-    (λ (s : StandsClosed y out). inr (inl record { closed = s.closed; unestablished = s.unestablished; lost = s.lost; stopped = same ∙ s.stopped; nothing_left = s.nothing_left; quiet = s.quiet }))
+    (λ (s : StandsClosed peer y out). inr (inl record {
+      closed = s.closed;
+      unestablished = s.unestablished;
+      lost = s.lost;
+      stopped = same ∙ s.stopped;
+      nothing_left = s.nothing_left;
+      truthful = s.truthful;
+    }))
     (λ (s : StandsFailed y out). inr (inr record { failed = s.failed; stopped = same ∙ s.stopped }))
     r)
     h
@@ -149,14 +157,14 @@ other_by_coming peer own y coming coming2 out same h =
       peer_is = s.peer_is;
       binds = s.binds;
       working = s.working;
-      established = s.established;
+      come = s.come;
       present = s.present;
-      quiet = s.quiet;
+      truthful = s.truthful;
       size = ap (λ (x : Sender). x.plan.size) same ∙ s.size;
       outgoing = outgoing_same (parts y s.past) coming coming2 same s.outgoing;
       incoming = s.incoming;
     })
-    (λ (r : StandsClosed y out ⊎ StandsFailed y out). inr r)
+    (λ (r : StandsClosed peer y out ⊎ StandsFailed y out). inr r)
     h
 
 -- What a call does to a direction: what it accepts there, what it reads, and what may be taken in.
@@ -190,11 +198,12 @@ does_by_goes B w v g = record {
   point_on = g.point_on;
 }
 
--- One association's call leads from its directions `out` and `coming` to others, between which it stands then; the other association
--- stands there too.
-pub record Settles (own peer : ℕ) (b y : Shown) (out coming : Direction) (Added : ℕ → List Message) (Read : ℕ → Option letters.Message) (Brought : ℕ → Type 0) : Type 0 where
+-- One association's call leads from its directions `out` and `coming`, and its stage `here`, to others, between which it stands then;
+-- the other association, whose stage is `there`, stands there too.
+pub record Settles (own peer : ℕ) (here there : Stage) (b y : Shown) (out coming : Direction) (Added : ℕ → List Message) (Read : ℕ → Option letters.Message) (Brought : ℕ → Type 0) : Type 0 where
   pub out2 : Direction
   pub coming2 : Direction
+  pub here2 : Stage
   pub does_out : Does Added nothing_read None_brought out out2
   pub does_coming : Does nothing_added Read Brought coming coming2
   pub invariant_out : Invariant out2
@@ -203,12 +212,15 @@ pub record Settles (own peer : ℕ) (b y : Shown) (out coming : Direction) (Adde
   pub plain_coming : IsPlain coming2
   pub stands : Stands own peer b out2 coming2
   pub other : Stands peer own y coming2 out2
-  -- no offset is assigned where the association isn't open afterwards, and none of the other side's ever
-  pub no_more : StandsOpen own peer b out2 coming2 ⊎ (out2.sender.plan.places ≡ out.sender.plan.places)
+  pub goes : GoesOn here here2
+  pub at : IsAt b here2
+  pub meets : Meets here2 there
+  -- no offset is assigned where the association isn't established afterwards, and none of the other side's ever
+  pub no_more : ((is_established b.state ≡ true) × StandsOpen own peer b out2 coming2) ⊎ (out2.sender.plan.places ≡ out.sender.plan.places)
   pub coming_still : coming2.sender ≡ coming.sender
 
 -- Two associations between the same two directions, before a call of the first one.
-pub record Faces (own peer : ℕ) (a y : Shown) (out coming : Direction) : Type 0 where
+pub record Faces (own peer : ℕ) (here there : Stage) (a y : Shown) (out coming : Direction) : Type 0 where
   pub within_out : IsWithin out
   pub within_coming : IsWithin coming
   pub invariant_out : Invariant out
@@ -217,3 +229,6 @@ pub record Faces (own peer : ℕ) (a y : Shown) (out coming : Direction) : Type 
   pub plain_coming : IsPlain coming
   pub stands : Stands own peer a out coming
   pub other : Stands peer own y coming out
+  pub at : IsAt a here
+  pub meets : Meets here there
+  pub silent : IsSilent there coming

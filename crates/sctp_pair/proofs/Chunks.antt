@@ -1,7 +1,8 @@
 -- What the chunks of a packet do to one association between its directions.
-use Rattle.std.proofs.Common.{◌≡◌, refl, sym, ap, ◌∙◌, subst, ◌⊎◌, inl, inr, ℕ, ◌+◌, true, List, [], ◌∷◌, ◌++◌, length, Option, Some}
+use Rattle.std.proofs.Common.{◌≡◌, refl, sym, ap, ◌∙◌, subst, ◌⊎◌, ⊎_elim, inl, inr, ℕ, ◌+◌, ◌<◌, arith, true, false, List, [], ◌∷◌, ◌++◌, length, Option, Some}
 use Rattle.std.specs.Prelude.{⊤, slice_get}
 use Rattle.std.specs.List.{AllByRecursion}
+use Rattle.std.proofs.lemmas.Bool.{cases_Bool}
 use Rattle.std.proofs.lemmas.List.{append_assoc}
 use Rattle.sctp_wire_types.specs.declared.chunk.Chunk.{Chunk}
 use Rattle.sctp_wire_types.specs.declared.chunk.Chunk.TheVariants as chunks
@@ -9,55 +10,45 @@ use Rattle.sctp_wire_types.specs.declared.chunk.ChunkPayloadData.{ChunkPayloadDa
 use Rattle.sctp_wire_types.specs.declared.chunk.ChunkSelectiveAck.{ChunkSelectiveAck}
 use Rattle.sctp_wire_types.specs.declared.packet.CommonHeader.{CommonHeader}
 use Rattle.sctp_wire.specs.declared.packet.Packet.{Packet}
+use Rattle.sctp_model.specs.Invariants.{IsPiece}
+use Rattle.sctp_model.specs.Messages.{Place}
 use Rattle.sctp_model.specs.Packets.{Data}
 use Rattle.sctp_model.specs.Serial.{tsn}
-use Rattle.sctp_model.specs.Machine.{Direction}
+use Rattle.sctp_model.specs.Machine.{Direction, Sender}
 use Rattle.sctp_model.specs.Safe.{IsWithin}
-use Rattle.sctp_assoc.specs.Acts.{Act, Binds, CanAll, History, done, done_all, parts, tsn_before}
-use Rattle.sctp_assoc.specs.Calls.{is_established}
+use Rattle.sctp_model.proofs.Lists.{all_get}
+use Rattle.sctp_assoc.specs.Acts.{Act, Binds, CanAll, History, Parts, done, done_all, parts, tsn_before}
 use Rattle.sctp_assoc.specs.Happened.{acts_of_chunk}
+use Rattle.sctp_assoc.specs.Meeting.{GoesOn, Greets, Stage, stage_of}
 use Rattle.sctp_assoc.specs.Shapes.{Acknowledges, IsSameStatus, IsTaking, OpensAndTakes, OpensOnly, TakesChunk, TakesOnly}
 use Rattle.sctp_assoc.specs.Shown.{Shown}
 use Rattle.sctp_assoc.proofs.Proved.{data_is_taken, sacks_acknowledge}
+use Rattle.sctp_directions.specs.Laws.{MeetsNobody}
 use Rattle.sctp_directions.specs.Said.{IsGiven, IsMade, IsSaid, Says}
-use Rattle.sctp_directions.proofs.Proved.{sacks_mean_the_same}
-use Rattle.sctp_pair.specs.Fits.{StandsOpen}
+use Rattle.sctp_directions.proofs.Proved.{acts_keep_the_initial_tsns, sacks_mean_the_same}
+use Rattle.sctp_pair.specs.Fits.{IsSaidBy, IsSilent, Meets, StandsOpen}
 use Rattle.sctp_pair.specs.World.{HasData}
 use Rattle.sctp_pair.proofs.Between.{Goes, Holds, None_brought, goes_nowhere, goes_on}
 use Rattle.sctp_pair.proofs.Giving.{AfterOut, act_acknowledged}
+use Rattle.sctp_pair.proofs.Stages.{hearers_know}
+use Rattle.sctp_pair.proofs.Greeted.{greet_step}
+use Rattle.sctp_pair.proofs.Underway.{Underway, goes_same, meets_same, stands_by}
 use Rattle.sctp_pair.proofs.Taking.{AfterComing, act_opened, act_took, coming_nowhere}
 
--- Between two chunks of a packet: the association is open, and stands between directions to which the packet led so far.
-pub record Underway (own peer : ℕ) (y : Shown) (out coming : Direction) (B : ℕ → Type 0) (a : Shown) : Type 0 where
-  pub out2 : Direction
-  pub coming2 : Direction
-  pub goes_out : Goes None_brought out out2
-  pub goes_coming : Goes B coming coming2
-  pub within_out : IsWithin out2
-  pub within_coming : IsWithin coming2
-  pub places_same : out2.sender.plan.places ≡ out.sender.plan.places
-  pub coming_still : coming2.sender ≡ coming.sender
-  pub here : StandsOpen own peer a out2 coming2
-  pub holds : Holds own peer (parts a here.past) y out2 coming2
-
--- the same association, or one that differs beside its directions, stands open where its parts hold
-unfoldable pub stands_by : (own peer : ℕ) (a b y : Shown) (k : History) (out coming out2 coming2 : Direction) → StandsOpen own peer a out coming → IsSameStatus a b → Binds b k
-    → out2.sender.plan.size ≡ out.sender.plan.size → Holds own peer (parts b k) y out2 coming2 → StandsOpen own peer b out2 coming2
-stands_by own peer a b y k out coming out2 coming2 s same binds size h = record {
-  past = k;
-  own_is = h.own_is;
-  peer_is = h.peer_is;
-  binds = binds;
-  working = same.failed ∙ s.working;
-  established = ap is_established same.state ∙ s.established;
-  present = same.lost ∙ s.present;
-  quiet = same.quiet s.quiet;
-  size = size ∙ s.size ∙ sym same.size;
-  outgoing = h.outgoing;
-  incoming = h.incoming;
-}
-
 -- DATA
+
+none_below : (o : ℕ) → o < 0 → ⊥
+none_below o l = omega arith
+
+-- DATA comes where its giver was established, and so its receiver knows it
+data_is_known : {here there : Stage} (own peer k : ℕ) (y : Shown) (out coming : Direction) (B : ℕ → Type 0) (a : Shown) (d : Data) (u : Underway own peer here there y out coming B a)
+    → slice_get u.coming2.datas k ≡ Some d → u.stands.past.peer ≡ peer
+data_is_known {here} {there} own peer k y out coming B a d u e = u.stands.peer_is (⊎_elim
+    (λ (t : there.completed ≡ true). hearers_know a u.stands.come (u.meets.hears t))
+    (λ (f : there.completed ≡ false).
+    let piece = all_get (IsPiece u.coming2.sender.plan) u.coming2.datas k d e u.holds.invariant_coming.datas in
+    absurd (none_below d.offset (subst (λ (ps : List Place). d.offset < length ps) (u.silent f) piece.known)))
+    (cases_Bool there.completed))
 
 -- what acts of DATA make of the direction that comes
 abbrev Comes : ℕ → ℕ → Shown → History → Shown → Direction → Direction → (ℕ → Type 0) → List Act → Type 0
@@ -69,43 +60,55 @@ data_opens own peer a h piece y out coming B acts o within holds =
     subst (Comes own peer a h y out coming B) (sym o.are) (act_opened own peer piece.stream_identifier o.first o.kind (parts a h) y out coming B holds within o.none)
 
 data_takes : (own peer k : ℕ) (a : Shown) (h : History) (piece : ChunkPayloadData) (d : Data) (y : Shown) (out coming : Direction) (B : ℕ → Type 0) (acts : List Act)
-    → TakesOnly a piece acts → CanAll acts (parts a h) → slice_get coming.datas k ≡ Some d → IsSaid peer piece d → IsWithin coming → B d.offset
+    → TakesOnly a piece acts → CanAll acts (parts a h) → slice_get coming.datas k ≡ Some d → IsSaid peer piece d → h.peer ≡ peer → IsWithin coming → B d.offset
     → Holds own peer (parts a h) y out coming → Comes own peer a h y out coming B acts
-data_takes own peer k a h piece d y out coming B acts t can e said within brought holds =
+data_takes own peer k a h piece d y out coming B acts t can e said known within brought holds =
     let one = subst (λ zs. CanAll zs (parts a h)) t.are can in
-    subst (Comes own peer a h y out coming B) (sym t.are) (act_took own peer k piece d t.stream (parts a h) y out coming B holds within one.0 e said t.live brought)
+    subst (Comes own peer a h y out coming B) (sym t.are) (act_took own peer k piece d t.stream (parts a h) y out coming B holds known within one.0 e said t.live brought)
 
 data_opens_and_takes : (own peer k : ℕ) (a : Shown) (h : History) (piece : ChunkPayloadData) (d : Data) (y : Shown) (out coming : Direction) (B : ℕ → Type 0) (acts : List Act)
-    → OpensAndTakes a piece acts → CanAll acts (parts a h) → slice_get coming.datas k ≡ Some d → IsSaid peer piece d → IsWithin coming → B d.offset
+    → OpensAndTakes a piece acts → CanAll acts (parts a h) → slice_get coming.datas k ≡ Some d → IsSaid peer piece d → h.peer ≡ peer → IsWithin coming → B d.offset
     → Holds own peer (parts a h) y out coming → Comes own peer a h y out coming B acts
-data_opens_and_takes own peer k a h piece d y out coming B acts t can e said within brought holds =
+data_opens_and_takes own peer k a h piece d y out coming B acts t can e said known within brought holds =
     let one = act_opened own peer piece.stream_identifier t.first t.kind (parts a h) y out coming B holds within t.none in
     let both = subst (λ zs. CanAll zs (parts a h)) t.are can in
-    let two = act_took own peer k piece d t.stream (done (Act.Opened piece.stream_identifier t.first t.kind) (parts a h)) y out one.coming2 B one.holds one.within both.1.0
+    let two = act_took own peer k piece d t.stream (done (Act.Opened piece.stream_identifier t.first t.kind) (parts a h)) y out one.coming2 B one.holds known one.within both.1.0
     (one.goes.datas k d e) said t.live brought in
     subst (Comes own peer a h y out coming B) (sym t.are)
     record { coming2 = two.coming2; goes = goes_on B coming one.coming2 two.coming2 one.goes two.goes; still = two.still ∙ one.still; within = two.within; holds = two.holds }
 
 take_shape : (own peer : ℕ) (a : Shown) (h : History) (piece : ChunkPayloadData) (y : Shown) (out coming : Direction) (B : ℕ → Type 0) (acts : List Act) → IsTaking a piece acts
-    → CanAll acts (parts a h) → IsGiven peer coming piece → IsWithin coming → ((o : ℕ) → piece.tsn ≡ tsn peer o → B o) → Holds own peer (parts a h) y out coming
+    → CanAll acts (parts a h) → IsGiven peer coming piece → h.peer ≡ peer → IsWithin coming → ((o : ℕ) → piece.tsn ≡ tsn peer o → B o) → Holds own peer (parts a h) y out coming
     → Comes own peer a h y out coming B acts
-take_shape own peer a h piece y out coming B acts (inl n) can given within brings holds =
+take_shape own peer a h piece y out coming B acts (inl n) can given known within brings holds =
     subst (Comes own peer a h y out coming B) (sym n) (coming_nowhere own peer (parts a h) y out coming B within holds)
-take_shape own peer a h piece y out coming B acts (inr (inl o)) can given within brings holds = data_opens own peer a h piece y out coming B acts o within holds
-take_shape own peer a h piece y out coming B acts (inr (inr (inl t))) can (k, d, e, said) within brings holds =
-    data_opens_and_takes own peer k a h piece d y out coming B acts t can e said within (brings d.offset said.tsn) holds
-take_shape own peer a h piece y out coming B acts (inr (inr (inr t))) can (k, d, e, said) within brings holds =
-    data_takes own peer k a h piece d y out coming B acts t can e said within (brings d.offset said.tsn) holds
+take_shape own peer a h piece y out coming B acts (inr (inl o)) can given known within brings holds = data_opens own peer a h piece y out coming B acts o within holds
+take_shape own peer a h piece y out coming B acts (inr (inr (inl t))) can (k, d, e, said) known within brings holds =
+    data_opens_and_takes own peer k a h piece d y out coming B acts t can e said known within (brings d.offset said.tsn) holds
+take_shape own peer a h piece y out coming B acts (inr (inr (inr t))) can (k, d, e, said) known within brings holds =
+    data_takes own peer k a h piece d y out coming B acts t can e said known within (brings d.offset said.tsn) holds
 
-data_step : (own peer : ℕ) (y : Shown) (out coming : Direction) (B : ℕ → Type 0) (header : CommonHeader) (piece : ChunkPayloadData) (a b : Shown) → TakesChunk header (chunks.Data piece) a b
-    → IsGiven peer coming piece → ((o : ℕ) → piece.tsn ≡ tsn peer o → B o) → Underway own peer y out coming B a → Underway own peer y out coming B b
+taking_meets_nobody : (a : Shown) (piece : ChunkPayloadData) (acts : List Act) → IsTaking a piece acts → AllByRecursion MeetsNobody acts
+taking_meets_nobody a piece acts (inl n) = subst (AllByRecursion MeetsNobody) (sym n) tt
+taking_meets_nobody a piece acts (inr (inl o)) = subst (AllByRecursion MeetsNobody) (sym o.are) (tt, tt)
+taking_meets_nobody a piece acts (inr (inr (inl t))) = subst (AllByRecursion MeetsNobody) (sym t.are) (tt, (tt, tt))
+taking_meets_nobody a piece acts (inr (inr (inr t))) = subst (AllByRecursion MeetsNobody) (sym t.are) (tt, tt)
+
+data_step : {here there : Stage} (own peer : ℕ) (y : Shown) (out coming : Direction) (B : ℕ → Type 0) (header : CommonHeader) (piece : ChunkPayloadData) (a b : Shown)
+    → TakesChunk header (chunks.Data piece) a b → IsGiven peer coming piece → ((o : ℕ) → piece.tsn ≡ tsn peer o → B o)
+    → Underway own peer here there y out coming B a → Underway own peer here there y out coming B b
 unfolding stands_by
 data_step own peer y out coming B header piece a b takes (k, d, e, said) brings u =
-    let leads = takes.leads u.here.past u.here.binds in
-    let after = take_shape own peer a u.here.past piece y u.out2 u.coming2 B (acts_of_chunk a header (chunks.Data piece)) (data_is_taken a header piece) leads.1.can
-    (k, d, u.goes_coming.datas k d e, said) u.within_coming brings u.holds in
+    let acts : List Act = acts_of_chunk a header (chunks.Data piece) in
+    let taking = data_is_taken a header piece in
+    let leads = takes.leads u.stands.past u.stands.binds in
+    let there = u.goes_coming.datas k d e in
+    let after = take_shape own peer a u.stands.past piece y u.out2 u.coming2 B acts taking leads.1.can
+    (k, d, there, said) (data_is_known own peer k y out coming B a d u there) u.within_coming brings u.holds in
     let holds : Holds own peer (parts b leads.0) y u.out2 after.coming2 =
     subst (λ p. Holds own peer p y u.out2 after.coming2) (sym leads.1.there) after.holds in
+    let met = ap (λ (p : Parts). p.history.peer) leads.1.there
+    ∙ (acts_keep_the_initial_tsns acts (parts a u.stands.past) (taking_meets_nobody a piece acts taking)).1 in
     record {
       out2 = u.out2;
       coming2 = after.coming2;
@@ -115,7 +118,10 @@ data_step own peer y out coming B header piece a b takes (k, d, e, said) brings 
       within_coming = after.within;
       places_same = u.places_same;
       coming_still = after.still ∙ u.coming_still;
-      here = stands_by own peer a b y leads.0 u.out2 u.coming2 u.out2 after.coming2 u.here takes.leaves leads.1.binds refl holds;
+      silent = λ f. ap (λ (x : Sender). x.plan.places) after.still ∙ u.silent f;
+      goes = goes_same a b takes.leaves u.goes;
+      meets = meets_same a b takes.leaves u.meets;
+      stands = stands_by own peer a b y leads.0 u.out2 u.coming2 u.out2 after.coming2 u.stands takes.leaves leads.1.binds met refl holds;
       holds = holds;
     }
 
@@ -137,16 +143,24 @@ sack_shape own peer t a h y out coming acts (inr s) (k, x, e, is) within holds =
     let one = act_acknowledged own peer s.count k x (parts a h) y out coming holds e at s.within in
     subst (Goes_out own peer a h y out coming) (sym s.are) (one.0, one.1 within, one.2)
 
-sack_step : (own peer : ℕ) (y : Shown) (out coming : Direction) (B : ℕ → Type 0) (header : CommonHeader) (s : ChunkSelectiveAck) (a b : Shown) → TakesChunk header (chunks.SelectiveAck s) a b
-    → IsMade own out s.cumulative_tsn_ack → Underway own peer y out coming B a → Underway own peer y out coming B b
+sack_meets_nobody : (a : Shown) (h : History) (t : ℕ) (acts : List Act) → (acts ≡ []) ⊎ Acknowledges a h t acts → AllByRecursion MeetsNobody acts
+sack_meets_nobody a h t acts (inl n) = subst (AllByRecursion MeetsNobody) (sym n) tt
+sack_meets_nobody a h t acts (inr s) = subst (AllByRecursion MeetsNobody) (sym s.are) (tt, tt)
+
+sack_step : {here there : Stage} (own peer : ℕ) (y : Shown) (out coming : Direction) (B : ℕ → Type 0) (header : CommonHeader) (s : ChunkSelectiveAck) (a b : Shown)
+    → TakesChunk header (chunks.SelectiveAck s) a b → IsMade own out s.cumulative_tsn_ack → Underway own peer here there y out coming B a
+    → Underway own peer here there y out coming B b
 unfolding stands_by
 sack_step own peer y out coming B header s a b takes (k, x, e, is) u =
-    let leads = takes.leads u.here.past u.here.binds in
-    let both = sack_shape own peer s.cumulative_tsn_ack a u.here.past y u.out2 u.coming2 (acts_of_chunk a header (chunks.SelectiveAck s))
-    (sacks_acknowledge a u.here.past header s u.here.binds) (k, x, u.goes_out.sacks k x e, is) u.within_out u.holds in
+    let acts : List Act = acts_of_chunk a header (chunks.SelectiveAck s) in
+    let shape = sacks_acknowledge a u.stands.past header s u.stands.binds in
+    let leads = takes.leads u.stands.past u.stands.binds in
+    let both = sack_shape own peer s.cumulative_tsn_ack a u.stands.past y u.out2 u.coming2 acts shape (k, x, u.goes_out.sacks k x e, is) u.within_out u.holds in
     let after = both.0 in
     let holds : Holds own peer (parts b leads.0) y after.out2 u.coming2 =
     subst (λ p. Holds own peer p y after.out2 u.coming2) (sym leads.1.there) after.holds in
+    let met = ap (λ (p : Parts). p.history.peer) leads.1.there
+    ∙ (acts_keep_the_initial_tsns acts (parts a u.stands.past) (sack_meets_nobody a u.stands.past s.cumulative_tsn_ack acts shape)).1 in
     record {
       out2 = after.out2;
       coming2 = u.coming2;
@@ -156,7 +170,10 @@ sack_step own peer y out coming B header s a b takes (k, x, e, is) u =
       within_coming = u.within_coming;
       places_same = both.2 ∙ u.places_same;
       coming_still = u.coming_still;
-      here = stands_by own peer a b y leads.0 u.out2 u.coming2 after.out2 u.coming2 u.here takes.leaves leads.1.binds after.goes.size holds;
+      silent = u.silent;
+      goes = goes_same a b takes.leaves u.goes;
+      meets = meets_same a b takes.leaves u.meets;
+      stands = stands_by own peer a b y leads.0 u.out2 u.coming2 after.out2 u.coming2 u.stands takes.leaves leads.1.binds met after.goes.size holds;
       holds = holds;
     }
 
@@ -166,45 +183,44 @@ abbrev IsIn : Option Packet → Chunk → Type 0
 IsIn packet (chunks.Data piece) = HasData packet piece.tsn
 IsIn packet chunk = ⊤
 
-abbrev pub SaidIn : ℕ → ℕ → Direction → Direction → Option Packet → Chunk → Type 0
-SaidIn own peer out coming packet c = Says peer own coming out c × IsIn packet c
+abbrev pub SaidIn : ℕ → ℕ → Stage → Direction → Direction → Option Packet → Chunk → Type 0
+SaidIn own peer there out coming packet c = IsSaidBy peer own there coming out c × IsIn packet c
 
--- it is DATA or a SACK
-pub said_cases : (own peer : ℕ) (out coming : Direction) (packet : Option Packet) (P : Chunk → Type 0)
+-- it is DATA, a SACK or the handshake's
+said_cases : {there : Stage} (own peer : ℕ) (out coming : Direction) (packet : Option Packet) (P : Chunk → Type 0)
     → ((piece : ChunkPayloadData) → IsGiven peer coming piece → HasData packet piece.tsn → P (chunks.Data piece))
-    → ((s : ChunkSelectiveAck) → IsMade own out s.cumulative_tsn_ack → P (chunks.SelectiveAck s)) → (c : Chunk) → SaidIn own peer out coming packet c → P c
-said_cases own peer out coming packet P gives acks (chunks.Data piece) (said, here) = gives piece said here
-said_cases own peer out coming packet P gives acks (chunks.SelectiveAck s) (said, here) = acks s said
-said_cases own peer out coming packet P gives acks (chunks.Init x) (said, here) = absurd said
-said_cases own peer out coming packet P gives acks (chunks.InitAck x) (said, here) = absurd said
-said_cases own peer out coming packet P gives acks (chunks.Heartbeat x) (said, here) = absurd said
-said_cases own peer out coming packet P gives acks (chunks.HeartbeatAck x) (said, here) = absurd said
-said_cases own peer out coming packet P gives acks (chunks.Abort x) (said, here) = absurd said
-said_cases own peer out coming packet P gives acks (chunks.Shutdown x) (said, here) = absurd said
-said_cases own peer out coming packet P gives acks chunks.ShutdownAck (said, here) = absurd said
-said_cases own peer out coming packet P gives acks (chunks.Error x) (said, here) = absurd said
-said_cases own peer out coming packet P gives acks (chunks.CookieEcho x) (said, here) = absurd said
-said_cases own peer out coming packet P gives acks chunks.CookieAck (said, here) = absurd said
-said_cases own peer out coming packet P gives acks chunks.ShutdownComplete (said, here) = absurd said
-said_cases own peer out coming packet P gives acks (chunks.Reconfig x) (said, here) = absurd said
-said_cases own peer out coming packet P gives acks (chunks.ForwardTsn x) (said, here) = absurd said
-said_cases own peer out coming packet P gives acks (chunks.IForwardTsn x) (said, here) = absurd said
-said_cases own peer out coming packet P gives acks (chunks.Other kind flags value) (said, here) = absurd said
+    → ((s : ChunkSelectiveAck) → IsMade own out s.cumulative_tsn_ack → P (chunks.SelectiveAck s)) → ((c : Chunk) → Greets peer there c → P c)
+    → (c : Chunk) → SaidIn own peer there out coming packet c → P c
+said_cases own peer out coming packet P gives acks greets c (inr said, here) = greets c said
+said_cases own peer out coming packet P gives acks greets (chunks.Data piece) (inl said, here) = gives piece said here
+said_cases own peer out coming packet P gives acks greets (chunks.SelectiveAck s) (inl said, here) = acks s said
+said_cases own peer out coming packet P gives acks greets (chunks.Init x) (inl said, here) = absurd said
+said_cases own peer out coming packet P gives acks greets (chunks.InitAck x) (inl said, here) = absurd said
+said_cases own peer out coming packet P gives acks greets (chunks.Heartbeat x) (inl said, here) = absurd said
+said_cases own peer out coming packet P gives acks greets (chunks.HeartbeatAck x) (inl said, here) = absurd said
+said_cases own peer out coming packet P gives acks greets (chunks.Abort x) (inl said, here) = absurd said
+said_cases own peer out coming packet P gives acks greets (chunks.Shutdown x) (inl said, here) = absurd said
+said_cases own peer out coming packet P gives acks greets chunks.ShutdownAck (inl said, here) = absurd said
+said_cases own peer out coming packet P gives acks greets (chunks.Error x) (inl said, here) = absurd said
+said_cases own peer out coming packet P gives acks greets (chunks.CookieEcho x) (inl said, here) = absurd said
+said_cases own peer out coming packet P gives acks greets chunks.CookieAck (inl said, here) = absurd said
+said_cases own peer out coming packet P gives acks greets chunks.ShutdownComplete (inl said, here) = absurd said
+said_cases own peer out coming packet P gives acks greets (chunks.Reconfig x) (inl said, here) = absurd said
+said_cases own peer out coming packet P gives acks greets (chunks.ForwardTsn x) (inl said, here) = absurd said
+said_cases own peer out coming packet P gives acks greets (chunks.IForwardTsn x) (inl said, here) = absurd said
+said_cases own peer out coming packet P gives acks greets (chunks.Other kind flags value) (inl said, here) = absurd said
 
-pub chunk_step : (own peer : ℕ) (y : Shown) (out coming : Direction) (packet : Option Packet) (header : CommonHeader) (c : Chunk) (a b : Shown) → SaidIn own peer out coming packet c
-    → TakesChunk header c a b → Underway own peer y out coming (λ o. HasData packet (tsn peer o)) a → Underway own peer y out coming (λ o. HasData packet (tsn peer o)) b
-chunk_step own peer y out coming packet header c a b said takes u =
-    said_cases own peer out coming packet (λ (x : Chunk). TakesChunk header x a b → Underway own peer y out coming (λ o. HasData packet (tsn peer o)) b)
-    (λ piece given here takes. data_step own peer y out coming (λ o. HasData packet (tsn peer o)) header piece a b takes given (λ o e. subst (HasData packet) e here) u)
-    (λ s made takes. sack_step own peer y out coming (λ o. HasData packet (tsn peer o)) header s a b takes made u)
+pub chunk_step : {here there : Stage} (own peer : ℕ) (y : Shown) (out coming : Direction) (packet : Option Packet) (header : CommonHeader) (c : Chunk) (a b : Shown)
+    → SaidIn own peer there out coming packet c → TakesChunk header c a b → Underway own peer here there y out coming (λ o. HasData packet (tsn peer o)) a
+    → Underway own peer here there y out coming (λ o. HasData packet (tsn peer o)) b
+chunk_step {here} {there} own peer y out coming packet header c a b said takes u =
+    let B : ℕ → Type 0 = λ o. HasData packet (tsn peer o) in
+    said_cases own peer out coming packet
+    (λ (x : Chunk). TakesChunk header x a b → Underway own peer here there y out coming (λ o. HasData packet (tsn peer o)) b)
+    (λ piece given brought takes. data_step own peer y out coming B header piece a b takes given (λ o e. subst (HasData packet) e brought) u)
+    (λ s made takes. sack_step own peer y out coming B header s a b takes made u)
+    (λ x greeting takes. greet_step own peer y out coming B header x a b takes greeting u)
     c said takes
-
--- an association that failed stays so
-pub failed_chunk : (own peer : ℕ) (out coming : Direction) (packet : Option Packet) (header : CommonHeader) (c : Chunk) (a b : Shown) → SaidIn own peer out coming packet c
-    → TakesChunk header c a b → a.failed ≡ true → b.failed ≡ true
-failed_chunk own peer out coming packet header c a b said takes f =
-    said_cases own peer out coming packet (λ (x : Chunk). TakesChunk header x a b → b.failed ≡ true)
-    (λ piece given here takes. takes.leaves.failed ∙ f) (λ s made takes. takes.leaves.failed ∙ f) c said takes
 
 -- The chunks of a packet
 
@@ -231,10 +247,10 @@ is_in packet (chunks.ForwardTsn x) k e = tt
 is_in packet (chunks.IForwardTsn x) k e = tt
 is_in packet (chunks.Other kind flags value) k e = tt
 
-pub all_said_in : (own peer : ℕ) (out coming : Direction) (packet : Packet) (front cs : List Chunk) → packet.chunks ≡ front ++ cs
-    → AllByRecursion (Says peer own coming out) cs → AllByRecursion (SaidIn own peer out coming (Some packet)) cs
-all_said_in own peer out coming packet front [] e h = tt
-all_said_in own peer out coming packet front (c ∷ cs) e (h, hs) = (
+pub all_said_in : (own peer : ℕ) (there : Stage) (out coming : Direction) (packet : Packet) (front cs : List Chunk) → packet.chunks ≡ front ++ cs
+    → AllByRecursion (IsSaidBy peer own there coming out) cs → AllByRecursion (SaidIn own peer there out coming (Some packet)) cs
+all_said_in own peer there out coming packet front [] e h = tt
+all_said_in own peer there out coming packet front (c ∷ cs) e (h, hs) = (
   (h, is_in packet c (length front) (ap (λ z. slice_get z (length front)) e ∙ got_at front cs c)),
-  all_said_in own peer out coming packet (front ++ c ∷ []) cs (e ∙ sym (append_assoc front (c ∷ []) cs)) hs,
+  all_said_in own peer there out coming packet (front ++ c ∷ []) cs (e ∙ sym (append_assoc front (c ∷ []) cs)) hs,
 )

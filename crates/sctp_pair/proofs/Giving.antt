@@ -34,7 +34,6 @@ act_at_sender own peer act e given p y out coming h its_own nobody at none plain
   goes = goes_by_sender None_brought out e at none;
   holds = record {
     own_is = (acts_keep_the_initial_tsns (act ∷ []) p (nobody, tt)).0 ∙ h.own_is;
-    peer_is = (acts_keep_the_initial_tsns (act ∷ []) p (nobody, tt)).1 ∙ h.peer_is;
     invariant_out = senders_events_keep_the_invariant out e at h.invariant_out;
     invariant_coming = h.invariant_coming;
     plain_out = plain;

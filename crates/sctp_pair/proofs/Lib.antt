@@ -3,6 +3,7 @@ pub mod Assembled
 pub mod Between
 pub mod Chunks
 pub mod Giving
+pub mod Greeted
 mod OneSide
 pub mod Packets
 pub mod Polls
@@ -12,8 +13,10 @@ mod Running
 pub mod Saying
 pub mod Settled
 pub mod SimpleCalls
+pub mod Stages
 pub mod Starting
 pub mod Taking
 pub mod TimedCalls
+pub mod Underway
 pub mod Worlds
 pub mod WriteCall

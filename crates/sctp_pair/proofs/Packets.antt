@@ -8,47 +8,55 @@ use Rattle.sctp_model.specs.Packets.{mem}
 use Rattle.sctp_model.specs.Serial.{tsn}
 use Rattle.sctp_model.specs.Machine.{Direction, Event, happens}
 use Rattle.sctp_model.proofs.Proved.{each_event_keeps_the_invariant}
-use Rattle.sctp_assoc.specs.Acts.{parts}
+use Rattle.sctp_assoc.specs.Acts.{Parts, parts}
+use Rattle.sctp_assoc.specs.Calls.{is_closed_state}
 use Rattle.sctp_assoc.specs.Chunks.{after_packet}
-use Rattle.sctp_assoc.specs.Shapes.{Closes, EndsPacket, IsEnded}
+use Rattle.sctp_assoc.specs.Meeting.{GoesOn, Stage, stage_of}
+use Rattle.sctp_assoc.specs.Shapes.{Closes, EndsPacket, IsEnded, OfEachChunk}
 use Rattle.sctp_assoc.specs.Shown.{Shown}
-use Rattle.sctp_assoc.proofs.Proved.{established_is_not_closed, lost_associations_take_nothing, no_packet_changes_nothing, packets_carry}
-use Rattle.sctp_directions.specs.Said.{SaysAll}
+use Rattle.sctp_assoc.proofs.Proved.{lost_associations_take_nothing, no_packet_changes_nothing, packets_carry, the_same_handshake_is_the_same_stage}
 use Rattle.sctp_directions.proofs.Proved.{closed_receivers_are_not_open, plain_events_keep_it_plain, receivers_events_are_received}
-use Rattle.sctp_pair.specs.Fits.{StandsClosed, StandsFailed, StandsOpen}
+use Rattle.sctp_pair.specs.Fits.{IsSaidBy, Meets, StandsClosed, StandsFailed, StandsOpen}
 use Rattle.sctp_pair.specs.declared.step.Reply.{Reply}
 use Rattle.sctp_pair.specs.declared.step.Reply.TheVariants as replies
 use Rattle.sctp_pair.specs.Steps.{Fails, HadFailed, TakesPacket}
 use Rattle.sctp_pair.specs.World.{HasData}
 use Rattle.sctp_pair.proofs.Between.{Faces, Holds, None_brought, Settles, does_by_goes, goes_by_receiver, goes_nowhere, goes_on, nothing_added, nothing_read, other_by_coming}
-use Rattle.sctp_pair.proofs.Chunks.{SaidIn, Underway, all_said_in, chunk_step, failed_chunk, stands_by}
+use Rattle.sctp_pair.proofs.Chunks.{SaidIn, all_said_in, chunk_step}
 use Rattle.sctp_pair.proofs.SimpleCalls.{fails_settle, same_settles}
+use Rattle.sctp_pair.proofs.Stages.{stays_put, works_on}
+use Rattle.sctp_pair.proofs.Underway.{Underway, goes_same, meets_same, stands_by}
 
 -- The end of a packet
 
 -- an association that stands open settles where its call led
-settled_open : (own peer : ℕ) (y : Shown) (out coming : Direction) (B : ℕ → Type 0) (a : Shown) → Underway own peer y out coming B a
-    → Settles own peer a y out coming nothing_added nothing_read B
+settled_open : {here there : Stage} (own peer : ℕ) (y : Shown) (out coming : Direction) (B : ℕ → Type 0) (a : Shown) → Underway own peer here there y out coming B a
+    → Settles own peer here there a y out coming nothing_added nothing_read B
 settled_open own peer y out coming B a u = record {
   out2 = u.out2;
   coming2 = u.coming2;
+  here2 = stage_of a;
   does_out = does_by_goes None_brought out u.out2 u.goes_out;
   does_coming = does_by_goes B coming u.coming2 u.goes_coming;
   invariant_out = u.holds.invariant_out;
   invariant_coming = u.holds.invariant_coming;
   plain_out = u.holds.plain_out;
   plain_coming = u.holds.plain_coming;
-  stands = inl u.here;
+  stands = inl u.stands;
   other = u.holds.other;
+  goes = u.goes;
+  at = λ working. refl;
+  meets = u.meets;
   no_more = inr u.places_same;
   coming_still = u.coming_still;
 }
 
-end_step : (own peer : ℕ) (y : Shown) (out coming : Direction) (B : ℕ → Type 0) (a b : Shown) → EndsPacket a b → Underway own peer y out coming B a
-    → Settles own peer b y out coming nothing_added nothing_read B
+end_step : {here there : Stage} (own peer : ℕ) (y : Shown) (out coming : Direction) (B : ℕ → Type 0) (a b : Shown) → EndsPacket a b → Underway own peer here there y out coming B a
+    → Settles own peer here there b y out coming nothing_added nothing_read B
 unfolding stands_by
 end_step own peer y out coming B a b ends u =
-    let leads = ends.leads u.here.past u.here.binds in
+    let leads = ends.leads u.stands.past u.stands.binds in
+    let met = ap (λ (p : Parts). p.history.peer) leads.1.there in
     let holds : Holds own peer (parts b leads.0) y u.out2 u.coming2 = subst (λ p. Holds own peer p y u.out2 u.coming2) (sym leads.1.there) u.holds in
     settled_open own peer y out coming B b record {
       out2 = u.out2;
@@ -59,23 +67,26 @@ end_step own peer y out coming B a b ends u =
       within_coming = u.within_coming;
       places_same = u.places_same;
       coming_still = u.coming_still;
-      here = stands_by own peer a b y leads.0 u.out2 u.coming2 u.out2 u.coming2 u.here ends.same leads.1.binds refl holds;
+      silent = u.silent;
+      goes = goes_same a b ends.same u.goes;
+      meets = meets_same a b ends.same u.meets;
+      stands = stands_by own peer a b y leads.0 u.out2 u.coming2 u.out2 u.coming2 u.stands ends.same leads.1.binds met refl holds;
       holds = holds;
     }
 
 -- Closing
 
--- a fault closes the association: its receiver closes
-close_step : (own peer : ℕ) (y : Shown) (out coming : Direction) (B : ℕ → Type 0) (a b : Shown) → Closes a b → Underway own peer y out coming B a
-    → Settles own peer b y out coming nothing_added nothing_read B
-close_step own peer y out coming B a b closes u =
-    let ended : IsEnded b = closes.ends (established_is_not_closed a u.here.established) in
+-- a fault closes an open association: its receiver closes
+ended_step : {here there : Stage} (own peer : ℕ) (y : Shown) (out coming : Direction) (B : ℕ → Type 0) (a b : Shown) → Closes a b → IsEnded b
+    → Underway own peer here there y out coming B a → Settles own peer here there b y out coming nothing_added nothing_read B
+ended_step {here} {there} own peer y out coming B a b closes ended u =
     let received = receivers_events_are_received u.coming2 Event.Close tt in
     let coming3 : Direction = happens u.coming2 Event.Close in
     let goes = goes_by_receiver B u.coming2 Event.Close tt (λ n. n) (λ o n. absurd n) in
     record {
       out2 = u.out2;
       coming2 = coming3;
+      here2 = stage_of a;
       does_out = does_by_goes None_brought out u.out2 u.goes_out;
       does_coming = does_by_goes B coming coming3 (goes_on B coming u.coming2 coming3 u.goes_coming goes);
       invariant_out = u.holds.invariant_out;
@@ -88,17 +99,30 @@ close_step own peer y out coming B a b closes u =
         lost = ended.lost;
         stopped = closed_receivers_are_not_open u.coming2;
         nothing_left = ended.holds_nothing;
-        quiet = closes.quiet u.here.quiet;
+        truthful = closes.truthful own u.stands.truthful;
       });
       other = other_by_coming peer own y u.coming2 coming3 u.out2 received.sender u.holds.other;
+      goes = u.goes;
+      at = λ working. (the_same_handshake_is_the_same_stage a b closes.side closes.handshake).0;
+      meets = u.meets;
       no_more = inr u.places_same;
       coming_still = received.sender ∙ u.coming_still;
     }
 
+-- a server that listens stays as it is
+close_step : {here there : Stage} (own peer : ℕ) (y : Shown) (out coming : Direction) (B : ℕ → Type 0) (a b : Shown) → Closes a b
+    → Underway own peer here there y out coming B a → Settles own peer here there b y out coming nothing_added nothing_read B
+close_step {here} {there} own peer y out coming B a b closes u = ⊎_elim
+    (λ (closed : is_closed_state a.state ≡ true).
+    subst (λ (z : Shown). Settles own peer here there z y out coming nothing_added nothing_read B) (sym (closes.stays closed)) (settled_open own peer y out coming B a u))
+    (λ (opened : is_closed_state a.state ≡ false). ended_step own peer y out coming B a b closes (closes.ends opened) u)
+    (cases_Bool (is_closed_state a.state))
+
 -- A packet
 
-start_step : (own peer : ℕ) (a y : Shown) (out coming : Direction) (B : ℕ → Type 0) → Faces own peer a y out coming → StandsOpen own peer a out coming → Underway own peer y out coming B a
-start_step own peer a y out coming B f s = record {
+start_step : {here there : Stage} (own peer : ℕ) (a y : Shown) (out coming : Direction) (B : ℕ → Type 0) → Faces own peer here there a y out coming → StandsOpen own peer a out coming
+    → Underway own peer here there y out coming B a
+start_step {here} {there} own peer a y out coming B f s = record {
   out2 = out;
   coming2 = coming;
   goes_out = goes_nowhere None_brought out;
@@ -107,10 +131,12 @@ start_step own peer a y out coming B f s = record {
   within_coming = f.within_coming;
   places_same = refl;
   coming_still = refl;
-  here = s;
+  silent = f.silent;
+  goes = subst (GoesOn here) (sym (f.at s.working)) (stays_put here);
+  meets = subst (λ (z : Stage). Meets z there) (sym (f.at s.working)) f.meets;
+  stands = s;
   holds = record {
     own_is = s.own_is;
-    peer_is = s.peer_is;
     invariant_out = f.invariant_out;
     invariant_coming = f.invariant_coming;
     plain_out = f.plain_out;
@@ -121,44 +147,45 @@ start_step own peer a y out coming B f s = record {
   };
 }
 
-open_packet : (own peer now : ℕ) (a y : Shown) (packet : Option Packet) (out coming : Direction) → a.lost ≡ false → SaysAll peer own coming out packet
-    → Underway own peer y out coming (λ o. HasData packet (tsn peer o)) a
-    → Settles own peer (after_packet a packet now) y out coming nothing_added nothing_read (λ o. HasData packet (tsn peer o))
-open_packet own peer now a y None out coming present said u =
+open_packet : {here there : Stage} (own peer now : ℕ) (a y : Shown) (packet : Option Packet) (out coming : Direction) → a.lost ≡ false → OfEachChunk (IsSaidBy peer own there coming out) packet
+    → Underway own peer here there y out coming (λ o. HasData packet (tsn peer o)) a
+    → Settles own peer here there (after_packet a packet now) y out coming nothing_added nothing_read (λ o. HasData packet (tsn peer o))
+open_packet {here} {there} own peer now a y None out coming present said u =
     let B : ℕ → Type 0 = λ o. HasData None (tsn peer o) in
-    subst (λ (z : Shown). Settles own peer z y out coming nothing_added nothing_read B) (sym (no_packet_changes_nothing a now)) (settled_open own peer y out coming B a u)
-open_packet own peer now a y (Some packet) out coming present said u =
+    subst (λ (z : Shown). Settles own peer here there z y out coming nothing_added nothing_read B) (sym (no_packet_changes_nothing a now)) (settled_open own peer y out coming B a u)
+open_packet {here} {there} own peer now a y (Some packet) out coming present said u =
     let B : ℕ → Type 0 = λ o. HasData (Some packet) (tsn peer o) in
-    packets_carry (Underway own peer y out coming B) (λ b. Settles own peer b y out coming nothing_added nothing_read B) (SaidIn own peer out coming (Some packet))
+    packets_carry (Underway own peer here there y out coming B) (λ b. Settles own peer here there b y out coming nothing_added nothing_read B) (SaidIn own peer there out coming (Some packet))
     (λ header c x z s takes v. chunk_step own peer y out coming (Some packet) header c x z s takes v)
     (λ x z ends v. end_step own peer y out coming B x z ends v)
     (λ x z closes v. close_step own peer y out coming B x z closes v)
-    packet a now present (all_said_in own peer out coming packet [] packet.chunks refl said) u
+    packet a now present (all_said_in own peer there out coming packet [] packet.chunks refl said) u
 
 -- An association that failed before stays so, whatever comes.
-failed_packet : (own peer now : ℕ) (a : Shown) (packet : Option Packet) (out coming : Direction) → a.lost ≡ false → SaysAll peer own coming out packet → a.failed ≡ true
+failed_packet : (own peer : ℕ) (there : Stage) (now : ℕ) (a : Shown) (packet : Option Packet) (out coming : Direction) → a.lost ≡ false → OfEachChunk (IsSaidBy peer own there coming out) packet → a.failed ≡ true
     → (after_packet a packet now).failed ≡ true
-failed_packet own peer now a None out coming present said f = ap (λ (z : Shown). z.failed) (no_packet_changes_nothing a now) ∙ f
-failed_packet own peer now a (Some packet) out coming present said f =
-    packets_carry (λ (b : Shown). b.failed ≡ true) (λ (b : Shown). b.failed ≡ true) (SaidIn own peer out coming (Some packet))
-    (λ header c x z s takes v. failed_chunk own peer out coming (Some packet) header c x z s takes v)
+failed_packet own peer there now a None out coming present said f = ap (λ (z : Shown). z.failed) (no_packet_changes_nothing a now) ∙ f
+failed_packet own peer there now a (Some packet) out coming present said f =
+    packets_carry (λ (b : Shown). b.failed ≡ true) (λ (b : Shown). b.failed ≡ true) (SaidIn own peer there out coming (Some packet))
+    (λ header c x z s takes v. (works_on c x z takes.leaves).failed ∙ v)
     (λ x z ends v. ends.same.failed ∙ v)
     (λ x z closes v. closes.failed ∙ v)
-    packet a now present (all_said_in own peer out coming packet [] packet.chunks refl said) f
+    packet a now present (all_said_in own peer there out coming packet [] packet.chunks refl said) f
 
-failed_after : (own peer now : ℕ) (a : Shown) (packet : Option Packet) (out coming : Direction) → SaysAll peer own coming out packet → a.failed ≡ true
+failed_after : (own peer : ℕ) (there : Stage) (now : ℕ) (a : Shown) (packet : Option Packet) (out coming : Direction) → OfEachChunk (IsSaidBy peer own there coming out) packet → a.failed ≡ true
     → (after_packet a packet now).failed ≡ true
-failed_after own peer now a packet out coming said f = ⊎_elim
+failed_after own peer there now a packet out coming said f = ⊎_elim
     (λ (lost : a.lost ≡ true). ap (λ (z : Shown). z.failed) (lost_associations_take_nothing a packet now lost) ∙ f)
-    (λ (present : a.lost ≡ false). failed_packet own peer now a packet out coming present said f)
+    (λ (present : a.lost ≡ false). failed_packet own peer there now a packet out coming present said f)
     (cases_Bool a.lost)
 
 -- what may be brought is more than nothing
-brings_more : (own peer : ℕ) (b y : Shown) (out coming : Direction) (B : ℕ → Type 0) → Settles own peer b y out coming nothing_added nothing_read None_brought
-    → Settles own peer b y out coming nothing_added nothing_read B
+brings_more : {here there : Stage} (own peer : ℕ) (b y : Shown) (out coming : Direction) (B : ℕ → Type 0) → Settles own peer here there b y out coming nothing_added nothing_read None_brought
+    → Settles own peer here there b y out coming nothing_added nothing_read B
 brings_more own peer b y out coming B s = record {
   out2 = s.out2;
   coming2 = s.coming2;
+  here2 = s.here2;
   does_out = s.does_out;
   does_coming = record {
     events = s.does_coming.events;
@@ -177,38 +204,41 @@ brings_more own peer b y out coming B s = record {
   plain_coming = s.plain_coming;
   stands = s.stands;
   other = s.other;
+  goes = s.goes;
+  at = s.at;
+  meets = s.meets;
   no_more = s.no_more;
   coming_still = s.coming_still;
 }
 
-processed_settles : (own peer now : ℕ) (a y : Shown) (packet : Option Packet) (out coming : Direction) → SaysAll peer own coming out packet → Faces own peer a y out coming
-    → Settles own peer (after_packet a packet now) y out coming nothing_added nothing_read (λ o. HasData packet (tsn peer o))
-processed_settles own peer now a y packet out coming said f =
+processed_settles : {here there : Stage} (own peer now : ℕ) (a y : Shown) (packet : Option Packet) (out coming : Direction) → OfEachChunk (IsSaidBy peer own there coming out) packet → Faces own peer here there a y out coming
+    → Settles own peer here there (after_packet a packet now) y out coming nothing_added nothing_read (λ o. HasData packet (tsn peer o))
+processed_settles {here} {there} own peer now a y packet out coming said f =
     let B : ℕ → Type 0 = λ o. HasData packet (tsn peer o) in
     ⊎_elim
     (λ (s : StandsOpen own peer a out coming). open_packet own peer now a y packet out coming s.present said (start_step own peer a y out coming B f s))
-    (λ (r : StandsClosed a coming ⊎ StandsFailed a coming).
+    (λ (r : StandsClosed own a coming ⊎ StandsFailed a coming).
     ⊎_elim
-    (λ (s : StandsClosed a coming). brings_more own peer (after_packet a packet now) y out coming B
+    (λ (s : StandsClosed own a coming). brings_more own peer (after_packet a packet now) y out coming B
     (same_settles own peer a (after_packet a packet now) y out coming (lost_associations_take_nothing a packet now s.lost) f))
     (λ (s : StandsFailed a coming). brings_more own peer (after_packet a packet now) y out coming B
-    (fails_settle own peer a (after_packet a packet now) y out coming (failed_after own peer now a packet out coming said s.failed) f))
+    (fails_settle own peer a (after_packet a packet now) y out coming (failed_after own peer there now a packet out coming said s.failed) f))
     r)
     f.stands
 
-refused_settles : (own peer n : ℕ) (a b y : Shown) (packet : Option Packet) (out coming : Direction) (B : ℕ → Type 0)
-    → HadFailed a n b ⊎ (Fails a n b ⊎ ((n ≡ refusal_number errors.ErrNoMemory) × (b ≡ a))) → Faces own peer a y out coming
-    → Settles own peer b y out coming nothing_added nothing_read B
+refused_settles : {here there : Stage} (own peer n : ℕ) (a b y : Shown) (packet : Option Packet) (out coming : Direction) (B : ℕ → Type 0)
+    → HadFailed a n b ⊎ (Fails a n b ⊎ ((n ≡ refusal_number errors.ErrNoMemory) × (b ≡ a))) → Faces own peer here there a y out coming
+    → Settles own peer here there b y out coming nothing_added nothing_read B
 refused_settles own peer n a b y packet out coming B (inl had) f = brings_more own peer b y out coming B (same_settles own peer a b y out coming had.2 f)
 refused_settles own peer n a b y packet out coming B (inr (inl fails)) f = brings_more own peer b y out coming B (fails_settle own peer a b y out coming fails.1.marked f)
 refused_settles own peer n a b y packet out coming B (inr (inr same)) f = brings_more own peer b y out coming B (same_settles own peer a b y out coming same.1 f)
 
 -- a packet that the other side gave out comes
-pub packet_settles : (own peer now : ℕ) (a b y : Shown) (packet : Option Packet) (r : Reply) (out coming : Direction) → TakesPacket a packet now r b
-    → SaysAll peer own coming out packet → Faces own peer a y out coming
-    → Settles own peer b y out coming nothing_added nothing_read (λ o. HasData packet (tsn peer o))
-packet_settles own peer now a b y packet replies.Done out coming h said f =
-    subst (λ z. Settles own peer z y out coming nothing_added nothing_read (λ o. HasData packet (tsn peer o))) (sym h) (processed_settles own peer now a y packet out coming said f)
+pub packet_settles : {here there : Stage} (own peer now : ℕ) (a b y : Shown) (packet : Option Packet) (r : Reply) (out coming : Direction) → TakesPacket a packet now r b
+    → OfEachChunk (IsSaidBy peer own there coming out) packet → Faces own peer here there a y out coming
+    → Settles own peer here there b y out coming nothing_added nothing_read (λ o. HasData packet (tsn peer o))
+packet_settles {here} {there} own peer now a b y packet replies.Done out coming h said f =
+    subst (λ z. Settles own peer here there z y out coming nothing_added nothing_read (λ o. HasData packet (tsn peer o))) (sym h) (processed_settles own peer now a y packet out coming said f)
 packet_settles own peer now a b y packet (replies.Refused n) out coming h said f =
     refused_settles own peer n a b y packet out coming (λ o. HasData packet (tsn peer o)) h f
 packet_settles own peer now a b y packet (replies.Wrote n) out coming h said f = absurd h

@@ -17,8 +17,8 @@ pub stands_open : (own peer : ℕ) (a : Shown) (out coming : Direction) → IsOp
 stands_open own peer a out coming o h =
     ⊎_elim
     (λ (s : StandsOpen own peer a out coming). s)
-    (λ (r : StandsClosed a coming ⊎ StandsFailed a coming). ⊎_elim
-    (λ (s : StandsClosed a coming). absurd (true≢false (sym s.closed ∙ o.1)))
+    (λ (r : StandsClosed own a coming ⊎ StandsFailed a coming). ⊎_elim
+    (λ (s : StandsClosed own a coming). absurd (true≢false (sym s.closed ∙ o.1)))
     (λ (s : StandsFailed a coming). absurd (true≢false (sym s.failed ∙ o.0)))
     r)
     h

@@ -10,6 +10,7 @@ use Rattle.sctp_model.specs.Machine.{Direction, Event, happens}
 use Rattle.sctp_model.proofs.Proved.{each_event_keeps_the_invariant}
 use Rattle.sctp_assoc.specs.Acts.{Act, parts}
 use Rattle.sctp_assoc.specs.Calls.{read_from_stream}
+use Rattle.sctp_assoc.specs.Meeting.{Stage}
 use Rattle.sctp_assoc.specs.Shapes.{HoldsNothing, IsLive, IsSameStatus}
 use Rattle.sctp_assoc.specs.Shown.{Shown}
 use Rattle.sctp_assoc.proofs.Proved.{found_streams_are_live, read_leads_on, reads_keep_the_status, what_holds_nothing_gives_nothing}
@@ -21,6 +22,7 @@ use Rattle.sctp_pair.specs.Fits.{StandsClosed, StandsOpen}
 use Rattle.sctp_pair.specs.Steps.{Reads}
 use Rattle.sctp_pair.proofs.Between.{Does, Faces, None_brought, Settles, does_by_goes, goes_nowhere, nothing_added, nothing_read, other_by_coming}
 use Rattle.sctp_pair.proofs.SimpleCalls.{by_working, closed_on, open_on, same_settles, still}
+use Rattle.sctp_pair.proofs.Stages.{at_same, stays_put}
 
 -- what a read with this reply gives on stream s
 abbrev pub read_by : Reply → ℕ → ℕ → Option Message
@@ -56,10 +58,10 @@ read_does w id message here others =
       point_on = (let e = ap (λ x. x.point) event.sender in omega arith);
     }
 
-read_open : (own peer : ℕ) (a b y : Shown) (out coming : Direction) (id : ℕ) (message : Option Message) → IsLive a id
-    → read_from_stream a id ≡ (b, message) → Faces own peer a y out coming → StandsOpen own peer a out coming
-    → Settles own peer b y out coming nothing_added (read_by (replies.Read message) id) None_brought
-read_open own peer a b y out coming id message live e f s =
+read_open : {here there : Stage} (own peer : ℕ) (a b y : Shown) (out coming : Direction) (id : ℕ) (message : Option Message) → IsLive a id
+    → read_from_stream a id ≡ (b, message) → Faces own peer here there a y out coming → StandsOpen own peer a out coming
+    → Settles own peer here there b y out coming nothing_added (read_by (replies.Read message) id) None_brought
+read_open {here} own peer a b y out coming id message live e f s =
     let fits = reads_are_alike (parts a s.past) id live.stream coming live.there f.within_coming f.invariant_coming f.plain_coming s.incoming in
     let coming2 : Direction = happens coming (Event.Read id) in
     let m = read_leads_on a b id message e s.past s.binds in
@@ -68,6 +70,7 @@ read_open own peer a b y out coming id message live e f s =
     record {
       out2 = out;
       coming2 = coming2;
+      here2 = here;
       does_out = does_by_goes None_brought out out (goes_nowhere None_brought out);
       does_coming = read_does coming id message
           (subst (λ (z : Option Message). IsReadAs z (coming.reads id) (coming2.reads id)) (ap (λ (x : Shown × Option Message). x.1) e) fits.1) fits.2;
@@ -78,30 +81,33 @@ read_open own peer a b y out coming id message live e f s =
       stands = inl (open_on own peer a b out coming out coming2 (Act.WasRead id ∷ []) m.0 s (tt, tt) m.1 same refl
           (what_comes_leaves_its_own (Act.WasRead id) (parts a s.past) out tt s.outgoing) fits.0);
       other = other_by_coming peer own y coming coming2 out received.sender f.other;
+      goes = stays_put here;
+      at = at_same a b here same f.at;
+      meets = f.meets;
       no_more = inr refl;
       coming_still = received.sender;
     }
 
 -- A closed association reads nothing
 
-read_closed : (a b : Shown) (coming : Direction) (id : ℕ) (message : Option Message) → IsLive a id → read_from_stream a id ≡ (b, message) → StandsClosed a coming
-    → (message ≡ None) × StandsClosed b coming
-read_closed a b coming id message live e s =
+read_closed : (own : ℕ) (a b : Shown) (coming : Direction) (id : ℕ) (message : Option Message) → IsLive a id → read_from_stream a id ≡ (b, message) → StandsClosed own a coming
+    → (message ≡ None) × IsSameStatus a b × StandsClosed own b coming
+read_closed own a b coming id message live e s =
     let nothing = what_holds_nothing_gives_nothing a id live s.nothing_left in
-    let there : (read_from_stream a id).0 ≡ b = ap (λ (x : Shown × Option Message). x.0) e in (
-      sym (ap (λ (x : Shown × Option Message). x.1) e) ∙ nothing.0,
-      closed_on a b coming (subst (IsSameStatus a) there (reads_keep_the_status a id)) (subst HoldsNothing there nothing.1) s,
-    )
+    let left : (read_from_stream a id).0 ≡ b = ap (λ (x : Shown × Option Message). x.0) e in
+    let same : IsSameStatus a b = subst (IsSameStatus a) left (reads_keep_the_status a id) in
+    (sym (ap (λ (x : Shown × Option Message). x.1) e) ∙ nothing.0, same, closed_on own a b coming same (subst HoldsNothing left nothing.1) s)
 
 -- a read that gave nothing
-none_read : (own peer : ℕ) (b y : Shown) (out coming : Direction) (id : ℕ) (message : Option Message) → message ≡ None
-    → Settles own peer b y out coming nothing_added nothing_read None_brought
-    → Settles own peer b y out coming nothing_added (read_by (replies.Read message) id) None_brought
+none_read : {here there : Stage} (own peer : ℕ) (b y : Shown) (out coming : Direction) (id : ℕ) (message : Option Message) → message ≡ None
+    → Settles own peer here there b y out coming nothing_added nothing_read None_brought
+    → Settles own peer here there b y out coming nothing_added (read_by (replies.Read message) id) None_brought
 none_read own peer b y out coming id message e h =
     let d = h.does_coming in
     record {
       out2 = h.out2;
       coming2 = h.coming2;
+      here2 = h.here2;
       does_out = h.does_out;
       does_coming = record {
         events = d.events;
@@ -120,19 +126,22 @@ none_read own peer b y out coming id message e h =
       plain_coming = h.plain_coming;
       stands = h.stands;
       other = h.other;
+      goes = h.goes;
+      at = h.at;
+      meets = h.meets;
       no_more = h.no_more;
       coming_still = h.coming_still;
     }
 
 -- A read gives the next message of its stream, if there is one; a closed association has none.
-pub reads_settle : (own peer : ℕ) (a b y : Shown) (out coming : Direction) (id : ℕ) (r : Reply) → Reads a id r b
-    → Faces own peer a y out coming → Settles own peer b y out coming nothing_added (read_by r id) None_brought
-reads_settle own peer a b y out coming id (replies.Read message) h f =
+pub reads_settle : {here there : Stage} (own peer : ℕ) (a b y : Shown) (out coming : Direction) (id : ℕ) (r : Reply) → Reads a id r b
+    → Faces own peer here there a y out coming → Settles own peer here there b y out coming nothing_added (read_by r id) None_brought
+reads_settle {here} {there} own peer a b y out coming id (replies.Read message) h f =
     let live = found_streams_are_live a id h.0 in
-    by_working own peer a out coming (Settles own peer b y out coming nothing_added (read_by (replies.Read message) id) None_brought) live.working
+    by_working own peer a out coming (Settles own peer here there b y out coming nothing_added (read_by (replies.Read message) id) None_brought) live.working
     (λ s. read_open own peer a b y out coming id message live h.1 f s)
-    (λ s. let x = read_closed a b coming id message live h.1 s in
-    none_read own peer b y out coming id message x.0 (still own peer a b y out coming f (inr (inl x.1))))
+    (λ s. let x = read_closed own a b coming id message live h.1 s in
+    none_read own peer b y out coming id message x.0 (still own peer a b y out coming f (at_same a b here x.1 f.at) (inr (inl x.2))))
     f.stands
 reads_settle own peer a b y out coming id (replies.Refused n) h f = same_settles own peer a b y out coming h.1 f
 reads_settle own peer a b y out coming id replies.Done h f = absurd h

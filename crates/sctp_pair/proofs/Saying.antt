@@ -1,5 +1,5 @@
 -- What a side's packets say of its directions stays said while these go on.
-use Rattle.std.proofs.Common.{◌≡◌, ℕ, List, Option, Some, None}
+use Rattle.std.proofs.Common.{◌≡◌, inl, inr, ℕ, List, Option, Some, None}
 use Rattle.std.specs.Prelude.{slice_get}
 use Rattle.sctp_wire_types.specs.declared.chunk.Chunk.{Chunk}
 use Rattle.sctp_wire_types.specs.declared.chunk.Chunk.TheVariants as chunks
@@ -7,9 +7,12 @@ use Rattle.sctp_wire.specs.declared.packet.Packet.{Packet}
 use Rattle.sctp_model.specs.Packets.{Data, Sack}
 use Rattle.sctp_model.specs.Machine.{Direction}
 use Rattle.sctp_model.proofs.Lists.{all_weaker}
-use Rattle.sctp_directions.specs.Said.{Says, SaysAll}
+use Rattle.sctp_assoc.specs.Meeting.{GoesOn, Stage}
+use Rattle.sctp_assoc.specs.Shapes.{OfEachChunk}
+use Rattle.sctp_assoc.proofs.Proved.{greetings_stay_true}
+use Rattle.sctp_directions.specs.Said.{Says}
 use Rattle.sctp_pair.specs.Steps.{packet_in}
-use Rattle.sctp_pair.specs.Fits.{AreSaid}
+use Rattle.sctp_pair.specs.Fits.{AreSaid, IsSaidBy}
 
 -- whatever DATA was given out in a direction stays given out
 abbrev pub KeepsDatas : Direction → Direction → Type 0
@@ -40,20 +43,26 @@ chunk_grows own peer out coming out2 coming2 datas sacks (chunks.ForwardTsn c) h
 chunk_grows own peer out coming out2 coming2 datas sacks (chunks.IForwardTsn c) h = absurd h
 chunk_grows own peer out coming out2 coming2 datas sacks (chunks.Other kind flags value) h = absurd h
 
--- one packet
-packet_grows : (own peer : ℕ) (out coming out2 coming2 : Direction) → KeepsDatas out out2 → KeepsSacks coming coming2 → (packet : Option Packet)
-    → SaysAll own peer out coming packet → SaysAll own peer out2 coming2 packet
-packet_grows own peer out coming out2 coming2 datas sacks None h = h
-packet_grows own peer out coming out2 coming2 datas sacks (Some packet) h =
-    all_weaker (Says own peer out coming) (Says own peer out2 coming2) packet.chunks (chunk_grows own peer out coming out2 coming2 datas sacks) h
+-- a chunk of the handshake says it of a later stage, too
+said_by_grows : (own peer : ℕ) (s t : Stage) (out coming out2 coming2 : Direction) → GoesOn s t → KeepsDatas out out2 → KeepsSacks coming coming2 → (c : Chunk)
+    → IsSaidBy own peer s out coming c → IsSaidBy own peer t out2 coming2 c
+said_by_grows own peer s t out coming out2 coming2 goes datas sacks c (inl said) = inl (chunk_grows own peer out coming out2 coming2 datas sacks c said)
+said_by_grows own peer s t out coming out2 coming2 goes datas sacks c (inr greets) = inr (greetings_stay_true own s t c goes greets)
 
--- Packets that say what their directions have say it of the directions that these became.
-pub said_grows : (own peer : ℕ) (out coming out2 coming2 : Direction) (packets : List (List ℕ)) → KeepsDatas out out2 → KeepsSacks coming coming2
-    → AreSaid own peer out coming packets → AreSaid own peer out2 coming2 packets
-said_grows own peer out coming out2 coming2 packets datas sacks h =
+-- one packet
+packet_grows : (own peer : ℕ) (s t : Stage) (out coming out2 coming2 : Direction) → GoesOn s t → KeepsDatas out out2 → KeepsSacks coming coming2 → (packet : Option Packet)
+    → OfEachChunk (IsSaidBy own peer s out coming) packet → OfEachChunk (IsSaidBy own peer t out2 coming2) packet
+packet_grows own peer s t out coming out2 coming2 goes datas sacks None h = h
+packet_grows own peer s t out coming out2 coming2 goes datas sacks (Some packet) h =
+    all_weaker (IsSaidBy own peer s out coming) (IsSaidBy own peer t out2 coming2) packet.chunks (said_by_grows own peer s t out coming out2 coming2 goes datas sacks) h
+
+-- Packets that say what their directions have, and what is so of their side's handshake, say it of what these became.
+pub said_grows : (own peer : ℕ) (s t : Stage) (out coming out2 coming2 : Direction) (packets : List (List ℕ)) → GoesOn s t → KeepsDatas out out2 → KeepsSacks coming coming2
+    → AreSaid own peer s out coming packets → AreSaid own peer t out2 coming2 packets
+said_grows own peer s t out coming out2 coming2 packets goes datas sacks h =
     all_weaker
-    (λ (bytes : List ℕ). SaysAll own peer out coming (packet_in bytes))
-    (λ (bytes : List ℕ). SaysAll own peer out2 coming2 (packet_in bytes))
+    (λ (bytes : List ℕ). OfEachChunk (IsSaidBy own peer s out coming) (packet_in bytes))
+    (λ (bytes : List ℕ). OfEachChunk (IsSaidBy own peer t out2 coming2) (packet_in bytes))
     packets
-    (λ bytes said. packet_grows own peer out coming out2 coming2 datas sacks (packet_in bytes) said)
+    (λ bytes said. packet_grows own peer s t out coming out2 coming2 goes datas sacks (packet_in bytes) said)
     h

@@ -1,14 +1,17 @@
 -- A call of one association, between its directions, is a step of the world of both.
-use Rattle.std.proofs.Common.{◌≡◌, refl, sym, ap, ◌∙◌, subst, ◌⊎◌, ⊎_elim, inl, inr, ℕ, true, List, [], ◌++◌, Option, None}
+use Rattle.std.proofs.Common.{◌≡◌, refl, sym, ap, ◌∙◌, subst, ◌⊎◌, ⊎_elim, inl, inr, ℕ, true, false, List, [], ◌++◌, Option, None}
+use Rattle.std.proofs.lemmas.Bool.{cases_Bool, true≢false}
 use Rattle.sctp_receive_queues.specs.Messages as letters
 use Rattle.sctp_model.specs.Messages.{Message}
 use Rattle.sctp_model.specs.Packets.{mem}
 use Rattle.sctp_model.specs.Serial.{tsn}
 use Rattle.sctp_model.specs.Machine.{Direction, Sender}
 use Rattle.sctp_model.proofs.Lists.{all_join}
+use Rattle.sctp_assoc.specs.Calls.{is_established}
+use Rattle.sctp_assoc.specs.Meeting.{GoesOn, Stage}
+use Rattle.sctp_assoc.specs.Shapes.{OfEachChunk}
 use Rattle.sctp_assoc.specs.Shown.{Shown}
-use Rattle.sctp_assoc.proofs.Proved.{established_is_not_closed}
-use Rattle.sctp_directions.specs.Said.{SaysAll}
+use Rattle.sctp_assoc.proofs.Proved.{established_is_not_closed, established_sides_talk}
 use Rattle.sctp_directions.specs.Incoming.{IsReadAs}
 use Rattle.sctp_pair.specs.declared.step.Reply.{Reply}
 use Rattle.sctp_pair.specs.declared.step.Side2.{Side2}
@@ -17,13 +20,14 @@ use Rattle.sctp_pair.specs.declared.step.Step.{Step}
 use Rattle.sctp_pair.specs.Ends.{Ends, end_of}
 use Rattle.sctp_pair.specs.Steps.{Steps, packet_in}
 use Rattle.sctp_pair.specs.World.{HasData, IsDirectionStep, IsOpen, World, accepted_at, message_read, other_side, packet_brought}
-use Rattle.sctp_pair.specs.Fits.{AreSaid, Fits, LeadsSafely, Stands, StandsIn, StandsOpen}
+use Rattle.sctp_pair.specs.Fits.{AreSaid, Fits, IsAt, IsSaidBy, IsSilent, LeadsSafely, Stands, StandsIn, StandsOpen}
 use Rattle.sctp_pair.proofs.Between.{Does, Faces, None_brought, Settles, nothing_added, nothing_read}
 use Rattle.sctp_pair.proofs.Promised.{safe_world}
 use Rattle.sctp_pair.proofs.Saying.{said_grows}
+use Rattle.sctp_pair.proofs.Stages.{stays_put, turned}
 
 -- the associations face each other between the directions of the world, seen from A
-pub faces_a : (w : World) → Fits w.ends w → Faces w.initial_a w.initial_b w.ends.a w.ends.b w.ab w.ba
+pub faces_a : (w : World) (f : Fits w.ends w) → Faces w.initial_a w.initial_b f.stand.stage_a f.stand.stage_b w.ends.a w.ends.b w.ab w.ba
 faces_a w f = record {
   within_out = f.within.0;
   within_coming = f.within.1;
@@ -33,10 +37,13 @@ faces_a w f = record {
   plain_coming = f.stand.plain_ba;
   stands = f.stand.side_a;
   other = f.stand.side_b;
+  at = f.stand.at_a;
+  meets = f.stand.meets;
+  silent = f.stand.silent_b;
 }
 
 -- and seen from B
-pub faces_b : (w : World) → Fits w.ends w → Faces w.initial_b w.initial_a w.ends.b w.ends.a w.ba w.ab
+pub faces_b : (w : World) (f : Fits w.ends w) → Faces w.initial_b w.initial_a f.stand.stage_b f.stand.stage_a w.ends.b w.ends.a w.ba w.ab
 faces_b w f = record {
   within_out = f.within.1;
   within_coming = f.within.0;
@@ -46,6 +53,9 @@ faces_b w f = record {
   plain_coming = f.stand.plain_ab;
   stands = f.stand.side_b;
   other = f.stand.side_a;
+  at = f.stand.at_b;
+  meets = turned f.stand.stage_a f.stand.stage_b f.stand.meets;
+  silent = f.stand.silent_a;
 }
 
 -- What a step and its reply add, read and bring is at this side this alone, and at the other side nothing; the DATA that comes to
@@ -76,17 +86,27 @@ direction_step step reply sender receiver w q initial before after Added Read Br
   no_more = no_more;
 }
 
--- an association that stands open is open
-is_open : (own peer : ℕ) (b : Shown) (out coming before : Direction) → StandsOpen own peer b out coming ⊎ (out.sender.plan.places ≡ before.sender.plan.places)
+-- an association that is established is open
+is_open : (own peer : ℕ) (b : Shown) (out coming before : Direction) → ((is_established b.state ≡ true) × StandsOpen own peer b out coming) ⊎ (out.sender.plan.places ≡ before.sender.plan.places)
     → IsOpen b ⊎ (out.sender.plan.places ≡ before.sender.plan.places)
-is_open own peer b out coming before (inl s) = inl (s.working, established_is_not_closed b s.established)
+is_open own peer b out coming before (inl (established, s)) = inl (s.working, established_is_not_closed b established)
 is_open own peer b out coming before (inr e) = inr e
+
+-- Who was never established goes on to be silent.
+silent_on : (own peer : ℕ) (s t : Stage) (b : Shown) (out coming before : Direction) → GoesOn s t → IsAt b t
+    → ((is_established b.state ≡ true) × StandsOpen own peer b out coming) ⊎ (out.sender.plan.places ≡ before.sender.plan.places) → IsSilent s before → IsSilent t out
+silent_on own peer s t b out coming before goes at (inl (established, h)) silent never =
+    absurd (true≢false (sym (established_sides_talk b established h.come).completed ∙ ap (λ (z : Stage). z.completed) (at h.working) ∙ never))
+silent_on own peer s t b out coming before goes at (inr same) silent never = same ∙ silent (⊎_elim
+    (λ (done : s.completed ≡ true). absurd (true≢false (sym (goes.completed done) ∙ never)))
+    (λ (begun : s.completed ≡ false). begun)
+    (cases_Bool s.completed))
 
 -- A call of A that settles leads from the world to one in which the pair stands: the packets that it gave out are A's next ones.
 pub settled_a : (step : Step) (r : Reply) (q : Ends) (w : World) (Added : ℕ → List Message) (Read : ℕ → Option letters.Message) (Brought : ℕ → Type 0)
-    (given : List (List ℕ)) → Fits w.ends w → q.b ≡ w.ends.b → q.packets_a ≡ w.ends.packets_a ++ given → q.packets_b ≡ w.ends.packets_b
-    → Steps step w.ends r q → (s : Settles w.initial_a w.initial_b q.a w.ends.b w.ab w.ba Added Read Brought)
-    → AreSaid w.initial_a w.initial_b s.out2 s.coming2 given → IsCallAt step r sides.A w w.initial_b Added Read Brought → LeadsSafely step r w q
+    (given : List (List ℕ)) (fits : Fits w.ends w) → q.b ≡ w.ends.b → q.packets_a ≡ w.ends.packets_a ++ given → q.packets_b ≡ w.ends.packets_b
+    → Steps step w.ends r q → (s : Settles w.initial_a w.initial_b fits.stand.stage_a fits.stand.stage_b q.a w.ends.b w.ab w.ba Added Read Brought)
+    → AreSaid w.initial_a w.initial_b s.here2 s.out2 s.coming2 given → IsCallAt step r sides.A w w.initial_b Added Read Brought → LeadsSafely step r w q
 settled_a step r q w Added Read Brought given fits same_b more same_packets ends s said call = (
   v,
   record {
@@ -114,18 +134,26 @@ settled_a step r q w Added Read Brought given fits same_b more same_packets ends
       plain_ba = s.plain_coming;
       side_a = s.stands;
       side_b = subst (λ (z : Shown). Stands w.initial_b w.initial_a z s.coming2 s.out2) (sym same_b) s.other;
-      said_a = subst (λ (z : List (List ℕ)). AreSaid w.initial_a w.initial_b s.out2 s.coming2 z) (sym more)
-          (all_join (λ (bytes : List ℕ). SaysAll w.initial_a w.initial_b s.out2 s.coming2 (packet_in bytes)) w.ends.packets_a given
-          (said_grows w.initial_a w.initial_b w.ab w.ba s.out2 s.coming2 w.ends.packets_a (s.does_out).datas (s.does_coming).sacks fits.stand.said_a) said);
-      said_b = subst (λ (z : List (List ℕ)). AreSaid w.initial_b w.initial_a s.coming2 s.out2 z) (sym same_packets)
-          (said_grows w.initial_b w.initial_a w.ba w.ab s.coming2 s.out2 w.ends.packets_b (s.does_coming).datas (s.does_out).sacks fits.stand.said_b);
+      stage_a = s.here2;
+      stage_b = fits.stand.stage_b;
+      at_a = s.at;
+      at_b = subst (λ (z : Shown). IsAt z fits.stand.stage_b) (sym same_b) fits.stand.at_b;
+      meets = s.meets;
+      silent_a = silent_on w.initial_a w.initial_b fits.stand.stage_a s.here2 q.a s.out2 s.coming2 w.ab s.goes s.at s.no_more fits.stand.silent_a;
+      silent_b = λ never. ap (λ (x : Sender). x.plan.places) s.coming_still ∙ fits.stand.silent_b never;
+      said_a = subst (λ (z : List (List ℕ)). AreSaid w.initial_a w.initial_b s.here2 s.out2 s.coming2 z) (sym more)
+          (all_join (λ (bytes : List ℕ). OfEachChunk (IsSaidBy w.initial_a w.initial_b s.here2 s.out2 s.coming2) (packet_in bytes)) w.ends.packets_a given
+          (said_grows w.initial_a w.initial_b fits.stand.stage_a s.here2 w.ab w.ba s.out2 s.coming2 w.ends.packets_a s.goes (s.does_out).datas (s.does_coming).sacks fits.stand.said_a) said);
+      said_b = subst (λ (z : List (List ℕ)). AreSaid w.initial_b w.initial_a fits.stand.stage_b s.coming2 s.out2 z) (sym same_packets)
+          (said_grows w.initial_b w.initial_a fits.stand.stage_b fits.stand.stage_b w.ba w.ab s.coming2 s.out2 w.ends.packets_b (stays_put fits.stand.stage_b) (s.does_coming).datas (s.does_out).sacks
+          fits.stand.said_b);
     }
 
 -- The same of a call of B.
 pub settled_b : (step : Step) (r : Reply) (q : Ends) (w : World) (Added : ℕ → List Message) (Read : ℕ → Option letters.Message) (Brought : ℕ → Type 0)
-    (given : List (List ℕ)) → Fits w.ends w → q.a ≡ w.ends.a → q.packets_b ≡ w.ends.packets_b ++ given → q.packets_a ≡ w.ends.packets_a
-    → Steps step w.ends r q → (s : Settles w.initial_b w.initial_a q.b w.ends.a w.ba w.ab Added Read Brought)
-    → AreSaid w.initial_b w.initial_a s.out2 s.coming2 given → IsCallAt step r sides.B w w.initial_a Added Read Brought → LeadsSafely step r w q
+    (given : List (List ℕ)) (fits : Fits w.ends w) → q.a ≡ w.ends.a → q.packets_b ≡ w.ends.packets_b ++ given → q.packets_a ≡ w.ends.packets_a
+    → Steps step w.ends r q → (s : Settles w.initial_b w.initial_a fits.stand.stage_b fits.stand.stage_a q.b w.ends.a w.ba w.ab Added Read Brought)
+    → AreSaid w.initial_b w.initial_a s.here2 s.out2 s.coming2 given → IsCallAt step r sides.B w w.initial_a Added Read Brought → LeadsSafely step r w q
 settled_b step r q w Added Read Brought given fits same_a more same_packets ends s said call = (
   v,
   record {
@@ -153,9 +181,17 @@ settled_b step r q w Added Read Brought given fits same_a more same_packets ends
       plain_ba = s.plain_out;
       side_a = subst (λ (z : Shown). Stands w.initial_a w.initial_b z s.coming2 s.out2) (sym same_a) s.other;
       side_b = s.stands;
-      said_a = subst (λ (z : List (List ℕ)). AreSaid w.initial_a w.initial_b s.coming2 s.out2 z) (sym same_packets)
-          (said_grows w.initial_a w.initial_b w.ab w.ba s.coming2 s.out2 w.ends.packets_a (s.does_coming).datas (s.does_out).sacks fits.stand.said_a);
-      said_b = subst (λ (z : List (List ℕ)). AreSaid w.initial_b w.initial_a s.out2 s.coming2 z) (sym more)
-          (all_join (λ (bytes : List ℕ). SaysAll w.initial_b w.initial_a s.out2 s.coming2 (packet_in bytes)) w.ends.packets_b given
-          (said_grows w.initial_b w.initial_a w.ba w.ab s.out2 s.coming2 w.ends.packets_b (s.does_out).datas (s.does_coming).sacks fits.stand.said_b) said);
+      stage_a = fits.stand.stage_a;
+      stage_b = s.here2;
+      at_a = subst (λ (z : Shown). IsAt z fits.stand.stage_a) (sym same_a) fits.stand.at_a;
+      at_b = s.at;
+      meets = turned s.here2 fits.stand.stage_a s.meets;
+      silent_a = λ never. ap (λ (x : Sender). x.plan.places) s.coming_still ∙ fits.stand.silent_a never;
+      silent_b = silent_on w.initial_b w.initial_a fits.stand.stage_b s.here2 q.b s.out2 s.coming2 w.ba s.goes s.at s.no_more fits.stand.silent_b;
+      said_a = subst (λ (z : List (List ℕ)). AreSaid w.initial_a w.initial_b fits.stand.stage_a s.coming2 s.out2 z) (sym same_packets)
+          (said_grows w.initial_a w.initial_b fits.stand.stage_a fits.stand.stage_a w.ab w.ba s.coming2 s.out2 w.ends.packets_a (stays_put fits.stand.stage_a) (s.does_coming).datas (s.does_out).sacks
+          fits.stand.said_a);
+      said_b = subst (λ (z : List (List ℕ)). AreSaid w.initial_b w.initial_a s.here2 s.out2 s.coming2 z) (sym more)
+          (all_join (λ (bytes : List ℕ). OfEachChunk (IsSaidBy w.initial_b w.initial_a s.here2 s.out2 s.coming2) (packet_in bytes)) w.ends.packets_b given
+          (said_grows w.initial_b w.initial_a fits.stand.stage_b s.here2 w.ba w.ab s.out2 s.coming2 w.ends.packets_b s.goes (s.does_out).datas (s.does_coming).sacks fits.stand.said_b) said);
     }

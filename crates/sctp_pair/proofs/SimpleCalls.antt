@@ -7,6 +7,7 @@ use Rattle.sctp_model.specs.Machine.{Direction, Event, happens}
 use Rattle.sctp_model.proofs.Proved.{each_event_keeps_the_invariant}
 use Rattle.sctp_assoc.specs.Acts.{Act, History, Leads, Parts, done_all, parts}
 use Rattle.sctp_assoc.specs.Calls.{is_closed_state, is_established, open_refusal, opened}
+use Rattle.sctp_assoc.specs.Meeting.{Stage}
 use Rattle.sctp_assoc.specs.Shapes.{HoldsNothing, IsNotLive, IsSameStatus}
 use Rattle.sctp_assoc.specs.Shown.{Shown}
 use Rattle.sctp_assoc.proofs.Proved.{open_leads_on, opened_streams_hold_nothing, opened_streams_keep_the_status, opened_streams_were_not_live}
@@ -17,16 +18,18 @@ use Rattle.sctp_directions.specs.Laws.{MeetsNobody}
 use Rattle.sctp_directions.proofs.Proved.{acts_keep_the_initial_tsns, closed_receivers_are_not_open, opened_streams_are_alike, plain_events_keep_it_plain, receivers_events_are_received}
 use Rattle.sctp_pair.specs.declared.step.Reply.{Reply}
 use Rattle.sctp_pair.specs.declared.step.Reply.TheVariants as replies
-use Rattle.sctp_pair.specs.Fits.{Stands, StandsClosed, StandsFailed, StandsOpen}
+use Rattle.sctp_pair.specs.Fits.{IsAt, Stands, StandsClosed, StandsFailed, StandsOpen}
 use Rattle.sctp_pair.specs.Steps.{Buffers, Finds, Measures, Opens}
 use Rattle.sctp_pair.proofs.Between.{Faces, None_brought, Settles, does_by_goes, goes_by_receiver, goes_nowhere, nothing_added, nothing_read, other_by_coming}
+use Rattle.sctp_pair.proofs.Stages.{at_same, come_on, known_before, stays_put}
 
 -- Nothing happened to the directions, and the association stands between them still.
-pub still : (own peer : ℕ) (a b y : Shown) (out coming : Direction) → Faces own peer a y out coming → Stands own peer b out coming
-    → Settles own peer b y out coming nothing_added nothing_read None_brought
-still own peer a b y out coming f s = record {
+unfoldable pub still : {here there : Stage} (own peer : ℕ) (a b y : Shown) (out coming : Direction) → Faces own peer here there a y out coming → IsAt b here → Stands own peer b out coming
+    → Settles own peer here there b y out coming nothing_added nothing_read None_brought
+still {here} own peer a b y out coming f at s = record {
   out2 = out;
   coming2 = coming;
+  here2 = here;
   does_out = does_by_goes None_brought out out (goes_nowhere None_brought out);
   does_coming = does_by_goes None_brought coming coming (goes_nowhere None_brought coming);
   invariant_out = f.invariant_out;
@@ -35,20 +38,23 @@ still own peer a b y out coming f s = record {
   plain_coming = f.plain_coming;
   stands = s;
   other = f.other;
+  goes = stays_put here;
+  at = at;
+  meets = f.meets;
   no_more = inr refl;
   coming_still = refl;
 }
 
 -- a call that does nothing
-pub nothing_settles : (own peer : ℕ) (a y : Shown) (out coming : Direction) → Faces own peer a y out coming
-    → Settles own peer a y out coming nothing_added nothing_read None_brought
-nothing_settles own peer a y out coming f = still own peer a a y out coming f f.stands
+pub nothing_settles : {here there : Stage} (own peer : ℕ) (a y : Shown) (out coming : Direction) → Faces own peer here there a y out coming
+    → Settles own peer here there a y out coming nothing_added nothing_read None_brought
+nothing_settles own peer a y out coming f = still own peer a a y out coming f f.at f.stands
 
 -- a call that leaves the association as it is
-pub same_settles : (own peer : ℕ) (a b y : Shown) (out coming : Direction) → b ≡ a → Faces own peer a y out coming
-    → Settles own peer b y out coming nothing_added nothing_read None_brought
-same_settles own peer a b y out coming e f =
-    subst (λ z. Settles own peer z y out coming nothing_added nothing_read None_brought) (sym e) (nothing_settles own peer a y out coming f)
+pub same_settles : {here there : Stage} (own peer : ℕ) (a b y : Shown) (out coming : Direction) → b ≡ a → Faces own peer here there a y out coming
+    → Settles own peer here there b y out coming nothing_added nothing_read None_brought
+same_settles {here} {there} own peer a b y out coming e f =
+    subst (λ z. Settles own peer here there z y out coming nothing_added nothing_read None_brought) (sym e) (nothing_settles own peer a y out coming f)
 
 -- Questions change nothing
 
@@ -101,14 +107,15 @@ measures_same a replies.NoSuchPacket b h = absurd h
 
 -- an event of the receiver that is no read and brings nothing happened to the direction that comes, and the association stands
 -- between its directions then
-pub settles_by_receiver : (own peer : ℕ) (a b y : Shown) (out coming : Direction) (e : Event) → Faces own peer a y out coming → IsAtReceiver e → (GivesAMessage e → ⊥)
-    → ((o : ℕ) → Brings coming e o → ⊥) → IsPlainEvent coming e → Stands own peer b out (happens coming e)
-    → Settles own peer b y out coming nothing_added nothing_read None_brought
-settles_by_receiver own peer a b y out coming e f at none brings plain s =
+pub settles_by_receiver : {here there : Stage} (own peer : ℕ) (a b y : Shown) (out coming : Direction) (e : Event) → Faces own peer here there a y out coming → IsAtReceiver e → (GivesAMessage e → ⊥)
+    → ((o : ℕ) → Brings coming e o → ⊥) → IsPlainEvent coming e → IsAt b here → Stands own peer b out (happens coming e)
+    → Settles own peer here there b y out coming nothing_added nothing_read None_brought
+settles_by_receiver {here} own peer a b y out coming e f at none brings plain now s =
     let received = receivers_events_are_received coming e at in
     record {
       out2 = out;
       coming2 = happens coming e;
+      here2 = here;
       does_out = does_by_goes None_brought out out (goes_nowhere None_brought out);
       does_coming = does_by_goes None_brought coming (happens coming e) (goes_by_receiver None_brought coming e at none brings);
       invariant_out = f.invariant_out;
@@ -117,6 +124,9 @@ settles_by_receiver own peer a b y out coming e f at none brings plain s =
       plain_coming = plain_events_keep_it_plain coming e plain f.plain_coming;
       stands = s;
       other = other_by_coming peer own y coming (happens coming e) out received.sender f.other;
+      goes = stays_put here;
+      at = now;
+      meets = f.meets;
       no_more = inr refl;
       coming_still = received.sender;
     }
@@ -124,10 +134,10 @@ settles_by_receiver own peer a b y out coming e f at none brings plain s =
 -- The association failed
 
 -- An association that failed, or fails in this call, stops receiving: that is an event of the direction that comes to it.
-pub fails_settle : (own peer : ℕ) (a b y : Shown) (out coming : Direction) → b.failed ≡ true → Faces own peer a y out coming
-    → Settles own peer b y out coming nothing_added nothing_read None_brought
+pub fails_settle : {here there : Stage} (own peer : ℕ) (a b y : Shown) (out coming : Direction) → b.failed ≡ true → Faces own peer here there a y out coming
+    → Settles own peer here there b y out coming nothing_added nothing_read None_brought
 fails_settle own peer a b y out coming failed f =
-    settles_by_receiver own peer a b y out coming Event.Close f tt (λ n. n) (λ o n. n) tt
+    settles_by_receiver own peer a b y out coming Event.Close f tt (λ n. n) (λ o n. n) tt (λ working. absurd (true≢false (sym failed ∙ working)))
     (inr (inr record { failed = failed; stopped = closed_receivers_are_not_open coming }))
 
 -- An open association goes on
@@ -139,12 +149,12 @@ pub open_on : (own peer : ℕ) (a b : Shown) (out coming out2 coming2 : Directio
 open_on own peer a b out coming out2 coming2 xs k s nobody m status size outgoing incoming = record {
   past = k;
   own_is = ap (λ (p : Parts). p.history.own) m.there ∙ (acts_keep_the_initial_tsns xs (parts a s.past) nobody).0 ∙ s.own_is;
-  peer_is = ap (λ (p : Parts). p.history.peer) m.there ∙ (acts_keep_the_initial_tsns xs (parts a s.past) nobody).1 ∙ s.peer_is;
+  peer_is = λ known. ap (λ (p : Parts). p.history.peer) m.there ∙ (acts_keep_the_initial_tsns xs (parts a s.past) nobody).1 ∙ s.peer_is (known_before a b status known);
   binds = m.binds;
   working = status.failed ∙ s.working;
-  established = ap is_established status.state ∙ s.established;
+  come = come_on a b status s.come;
   present = status.lost ∙ s.present;
-  quiet = status.quiet s.quiet;
+  truthful = status.truthful own s.truthful;
   size = size ∙ s.size ∙ sym status.size;
   outgoing = subst (λ (p : Parts). FitsOutgoing p out2) (sym m.there) outgoing;
   incoming = subst (λ (p : Parts). FitsIncoming p coming2) (sym m.there) incoming;
@@ -153,22 +163,22 @@ open_on own peer a b out coming out2 coming2 xs k s nobody m status size outgoin
 -- A closed association stays closed
 
 -- A closed association whose status stays, and whose streams hold nothing, stands closed.
-pub closed_on : (a b : Shown) (coming : Direction) → IsSameStatus a b → HoldsNothing b → StandsClosed a coming → StandsClosed b coming
-closed_on a b coming status empty s = record {
+pub closed_on : (own : ℕ) (a b : Shown) (coming : Direction) → IsSameStatus a b → HoldsNothing b → StandsClosed own a coming → StandsClosed own b coming
+closed_on own a b coming status empty s = record {
   closed = ap is_closed_state status.state ∙ s.closed;
   unestablished = ap is_established status.state ∙ s.unestablished;
   lost = status.lost ∙ s.lost;
   stopped = s.stopped;
   nothing_left = empty;
-  quiet = status.quiet s.quiet;
+  truthful = status.truthful own s.truthful;
 }
 
 -- a failed association does nothing that one that works does
-pub by_working : (own peer : ℕ) (a : Shown) (out coming : Direction) (T : Type 0) → a.failed ≡ false → (StandsOpen own peer a out coming → T) → (StandsClosed a coming → T)
+pub by_working : (own peer : ℕ) (a : Shown) (out coming : Direction) (T : Type 0) → a.failed ≡ false → (StandsOpen own peer a out coming → T) → (StandsClosed own a coming → T)
     → Stands own peer a out coming → T
 by_working own peer a out coming T working opens closes h = ⊎_elim
     opens
-    (λ (r : StandsClosed a coming ⊎ StandsFailed a coming). ⊎_elim
+    (λ (r : StandsClosed own a coming ⊎ StandsFailed a coming). ⊎_elim
     closes
     (λ (s : StandsFailed a coming). absurd (true≢false (sym s.failed ∙ working)))
     r)
@@ -176,32 +186,34 @@ by_working own peer a out coming T working opens closes h = ⊎_elim
 
 -- A stream is opened
 
-opened_open : (own peer : ℕ) (a y : Shown) (out coming : Direction) (id : ℕ) (kind : PayloadProtocolIdentifier) → IsNotLive a id
-    → Faces own peer a y out coming → StandsOpen own peer a out coming
-    → Settles own peer (opened a id kind) y out coming nothing_added nothing_read None_brought
-opened_open own peer a y out coming id kind none f s =
+opened_open : {here there : Stage} (own peer : ℕ) (a y : Shown) (out coming : Direction) (id : ℕ) (kind : PayloadProtocolIdentifier) → IsNotLive a id
+    → Faces own peer here there a y out coming → StandsOpen own peer a out coming
+    → Settles own peer here there (opened a id kind) y out coming nothing_added nothing_read None_brought
+opened_open {here} own peer a y out coming id kind none f s =
     let first : ℕ = a.sender.queue.next_message_id in
     let m = open_leads_on a (opened a id kind) id kind refl s.past s.binds in
     let fits = opened_streams_are_alike (parts a s.past) id first kind out coming none s.outgoing s.incoming in
     settles_by_receiver own peer a (opened a id kind) y out coming (Event.Open id) f tt (λ n. n) (λ o n. n) tt
+    (at_same a (opened a id kind) here (opened_streams_keep_the_status a id kind) f.at)
     (inl (open_on own peer a (opened a id kind) out coming out (happens coming (Event.Open id)) (Act.Opened id first kind ∷ []) m.0 s (tt, tt) m.1
     (opened_streams_keep_the_status a id kind) refl fits.0 fits.1))
 
-opened_settles : (own peer : ℕ) (a y : Shown) (out coming : Direction) (id : ℕ) (kind : PayloadProtocolIdentifier) → open_refusal a id ≡ None
-    → Faces own peer a y out coming → Settles own peer (opened a id kind) y out coming nothing_added nothing_read None_brought
-opened_settles own peer a y out coming id kind e f =
+opened_settles : {here there : Stage} (own peer : ℕ) (a y : Shown) (out coming : Direction) (id : ℕ) (kind : PayloadProtocolIdentifier) → open_refusal a id ≡ None
+    → Faces own peer here there a y out coming → Settles own peer here there (opened a id kind) y out coming nothing_added nothing_read None_brought
+opened_settles {here} {there} own peer a y out coming id kind e f =
     let free = opened_streams_were_not_live a id e in
-    by_working own peer a out coming (Settles own peer (opened a id kind) y out coming nothing_added nothing_read None_brought) free.0
+    by_working own peer a out coming (Settles own peer here there (opened a id kind) y out coming nothing_added nothing_read None_brought) free.0
     (λ s. opened_open own peer a y out coming id kind free.1 f s)
-    (λ s. still own peer a (opened a id kind) y out coming f (inr (inl (closed_on a (opened a id kind) coming (opened_streams_keep_the_status a id kind)
+    (λ s. still own peer a (opened a id kind) y out coming f (at_same a (opened a id kind) here (opened_streams_keep_the_status a id kind) f.at)
+    (inr (inl (closed_on own a (opened a id kind) coming (opened_streams_keep_the_status a id kind)
     (opened_streams_hold_nothing a id kind free.1 s.nothing_left) s))))
     f.stands
 
 -- A stream is opened at the application's wish: where the association is closed, it stays empty.
-pub opens_settle : (own peer : ℕ) (a b y : Shown) (out coming : Direction) (id : ℕ) (kind : PayloadProtocolIdentifier) (r : Reply) → Opens a id kind r b
-    → Faces own peer a y out coming → Settles own peer b y out coming nothing_added nothing_read None_brought
-opens_settle own peer a b y out coming id kind replies.Done h f =
-    subst (λ z. Settles own peer z y out coming nothing_added nothing_read None_brought) (sym h.1) (opened_settles own peer a y out coming id kind h.0 f)
+pub opens_settle : {here there : Stage} (own peer : ℕ) (a b y : Shown) (out coming : Direction) (id : ℕ) (kind : PayloadProtocolIdentifier) (r : Reply) → Opens a id kind r b
+    → Faces own peer here there a y out coming → Settles own peer here there b y out coming nothing_added nothing_read None_brought
+opens_settle {here} {there} own peer a b y out coming id kind replies.Done h f =
+    subst (λ z. Settles own peer here there z y out coming nothing_added nothing_read None_brought) (sym h.1) (opened_settles own peer a y out coming id kind h.0 f)
 opens_settle own peer a b y out coming id kind (replies.Refused n) h f = same_settles own peer a b y out coming h.1 f
 opens_settle own peer a b y out coming id kind (replies.Wrote n) h f = absurd h
 opens_settle own peer a b y out coming id kind (replies.Read message) h f = absurd h

@@ -10,6 +10,7 @@ use Rattle.sctp_model.specs.Packets.{Sack, mem}
 use Rattle.sctp_model.specs.Machine.{Direction, Event, Receiver, happens}
 use Rattle.sctp_assoc.specs.Acts.{Act, parts}
 use Rattle.sctp_assoc.specs.Calls.{written}
+use Rattle.sctp_assoc.specs.Meeting.{Stage}
 use Rattle.sctp_assoc.specs.Shapes.{CanWrite}
 use Rattle.sctp_assoc.specs.Shown.{Shown}
 use Rattle.sctp_assoc.proofs.Proved.{accepted_writes_fit, write_leads_on, writes_keep_the_status}
@@ -23,6 +24,7 @@ use Rattle.sctp_pair.specs.Steps.{Writes, first_refusal}
 use Rattle.sctp_pair.specs.World.{messages_on}
 use Rattle.sctp_pair.proofs.Between.{Does, Faces, None_brought, Settles, does_by_goes, goes_nowhere, nothing_read, other_by_out}
 use Rattle.sctp_pair.proofs.SimpleCalls.{by_working, open_on, same_settles}
+use Rattle.sctp_pair.proofs.Stages.{at_same, stays_put}
 
 -- what a write with this reply adds to what was accepted on stream s
 abbrev pub written_by : Reply → Shown → ℕ → List ℕ → ℕ → List Message
@@ -50,10 +52,10 @@ write_does a id n bytes t w there simple =
       point_on = sent.1;
     }
 
-written_settles : (own peer : ℕ) (a y : Shown) (out coming : Direction) (id n : ℕ) (bytes : List ℕ) → CanWrite a id (length bytes)
-    → Faces own peer a y out coming → StandsOpen own peer a out coming
-    → Settles own peer (written a id bytes) y out coming (written_by (replies.Wrote n) a id bytes) nothing_read None_brought
-written_settles own peer a y out coming id n bytes can f s =
+written_settles : {here there : Stage} (own peer : ℕ) (a y : Shown) (out coming : Direction) (id n : ℕ) (bytes : List ℕ) → CanWrite a id (length bytes)
+    → Faces own peer here there a y out coming → StandsOpen own peer a out coming
+    → Settles own peer here there (written a id bytes) y out coming (written_by (replies.Wrote n) a id bytes) nothing_read None_brought
+written_settles {here} own peer a y out coming id n bytes can f s =
     let t : Stream = can.live.stream in
     let there = can.live.there in
     let e : Event = Event.Write id (message_on t bytes) in
@@ -65,6 +67,7 @@ written_settles own peer a y out coming id n bytes can f s =
     record {
       out2 = out2;
       coming2 = coming;
+      here2 = here;
       does_out = write_does a id n bytes t out there simple;
       does_coming = does_by_goes None_brought coming coming (goes_nowhere None_brought coming);
       invariant_out = senders_events_keep_the_invariant out e tt f.invariant_out;
@@ -77,17 +80,20 @@ written_settles own peer a y out coming id n bytes can f s =
           (own_acts_leave_what_comes (Act.Wrote id bytes) (parts a s.past) coming tt s.incoming));
       other = other_by_out peer own y coming out out2 (λ p g. senders_events_leave_what_comes p out e tt f.invariant_out f.plain_out g)
           (ap (λ (r : Receiver). r.is_open) sent.0.receiver) f.other;
+      goes = stays_put here;
+      at = at_same a (written a id bytes) here (writes_keep_the_status a id bytes) f.at;
+      meets = f.meets;
       no_more = inr (only_beginnings_assign out e tt (λ n. n));
       coming_still = refl;
     }
 
 -- A write: the message that an accepted one brings is the next of its stream. A closed association refuses it.
-pub writes_settle : (own peer : ℕ) (a b y : Shown) (out coming : Direction) (id : ℕ) (bytes : List ℕ) (r : Reply) → Writes a id bytes r b
-    → Faces own peer a y out coming → Settles own peer b y out coming (written_by r a id bytes) nothing_read None_brought
-writes_settle own peer a b y out coming id bytes (replies.Wrote n) h f =
+pub writes_settle : {here there : Stage} (own peer : ℕ) (a b y : Shown) (out coming : Direction) (id : ℕ) (bytes : List ℕ) (r : Reply) → Writes a id bytes r b
+    → Faces own peer here there a y out coming → Settles own peer here there b y out coming (written_by r a id bytes) nothing_read None_brought
+writes_settle {here} {there} own peer a b y out coming id bytes (replies.Wrote n) h f =
     let can = accepted_writes_fit a id (length bytes) (first_none _ _ h.0) in
-    subst (λ z. Settles own peer z y out coming (written_by (replies.Wrote n) a id bytes) nothing_read None_brought) (sym h.2)
-    (by_working own peer a out coming (Settles own peer (written a id bytes) y out coming (written_by (replies.Wrote n) a id bytes) nothing_read None_brought) can.live.working
+    subst (λ z. Settles own peer here there z y out coming (written_by (replies.Wrote n) a id bytes) nothing_read None_brought) (sym h.2)
+    (by_working own peer a out coming (Settles own peer here there (written a id bytes) y out coming (written_by (replies.Wrote n) a id bytes) nothing_read None_brought) can.live.working
     (λ s. written_settles own peer a y out coming id n bytes can f s)
     (λ s. absurd (true≢false (sym can.established ∙ s.unestablished)))
     f.stands)

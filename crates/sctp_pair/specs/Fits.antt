@@ -1,14 +1,16 @@
 -- Which worlds a pair may stand in, and the promise of its steps.
-use Rattle.std.specs.Prelude.{◌≡◌, ℕ, true, false, ◌⊎◌, List, [], ◌∷◌}
+use Rattle.std.specs.Prelude.{◌≡◌, ℕ, true, false, ◌⊎◌, List, [], ◌∷◌, is_some}
 use Rattle.std.specs.List.{AllByRecursion}
+use Rattle.sctp_wire_types.specs.declared.chunk.Chunk.{Chunk}
 use Rattle.sctp_model.specs.Machine.{Direction}
 use Rattle.sctp_model.specs.Invariants.{Invariant}
 use Rattle.sctp_assoc.specs.Acts.{Binds, History, parts}
 use Rattle.sctp_assoc.specs.Calls.{is_closed_state, is_established}
-use Rattle.sctp_assoc.specs.Shapes.{HoldsNothing, IsQuiet}
+use Rattle.sctp_assoc.specs.Meeting.{Greets, HasCome, IsTruthful, MayHear, OneWaits, Stage, stage_of}
+use Rattle.sctp_assoc.specs.Shapes.{HoldsNothing, OfEachChunk}
 use Rattle.sctp_assoc.specs.Shown.{Shown}
 use Rattle.sctp_directions.specs.Plain.{IsPlain}
-use Rattle.sctp_directions.specs.Said.{SaysAll}
+use Rattle.sctp_directions.specs.Said.{Says}
 use Rattle.sctp_directions.specs.Outgoing.{FitsOutgoing}
 use Rattle.sctp_directions.specs.Incoming.{FitsIncoming}
 use Rattle.sctp_pair.specs.declared.step.Reply.{Reply}
@@ -17,29 +19,29 @@ use Rattle.sctp_pair.specs.Ends.{Ends}
 use Rattle.sctp_pair.specs.Steps.{packet_in}
 use Rattle.sctp_pair.specs.World.{IsSafeWorld, IsWithinLimits, IsWorldStep, World}
 
--- An open association, of which no packet of a handshake is to go out, stands between its own direction and the one that comes to it;
--- own and peer are their initial TSNs.
+-- An association that was not closed, and may wait for its handshake, stands between its own direction and the one that comes to it;
+-- own and peer are their initial TSNs. What it knows of the peer's is true.
 pub record StandsOpen (own peer : ℕ) (a : Shown) (out coming : Direction) : Type 0 where
   pub past : History
   pub own_is : past.own ≡ own
-  pub peer_is : past.peer ≡ peer
+  pub peer_is : is_some a.handshake.peer_initial_tsn ≡ true → past.peer ≡ peer
   pub binds : Binds a past
   pub working : a.failed ≡ false
-  pub established : is_established a.state ≡ true
+  pub come : HasCome a
   pub present : a.lost ≡ false
-  pub quiet : IsQuiet a
+  pub truthful : IsTruthful own a
   pub size : out.sender.plan.size ≡ a.sender.max_payload_size
   pub outgoing : FitsOutgoing (parts a past) out
   pub incoming : FitsIncoming (parts a past) coming
 
 -- A closed one receives nothing more, and the streams that were opened since then are empty.
-pub record StandsClosed (a : Shown) (coming : Direction) : Type 0 where
+pub record StandsClosed (own : ℕ) (a : Shown) (coming : Direction) : Type 0 where
   pub closed : is_closed_state a.state ≡ true
   pub unestablished : is_established a.state ≡ false
   pub lost : a.lost ≡ true
   pub stopped : coming.receiver.is_open ≡ false
   pub nothing_left : HoldsNothing a
-  pub quiet : IsQuiet a
+  pub truthful : IsTruthful own a
 
 -- One that failed does nothing more.
 pub record StandsFailed (a : Shown) (coming : Direction) : Type 0 where
@@ -47,11 +49,30 @@ pub record StandsFailed (a : Shown) (coming : Direction) : Type 0 where
   pub stopped : coming.receiver.is_open ≡ false
 
 abbrev pub Stands : ℕ → ℕ → Shown → Direction → Direction → Type 0
-Stands own peer a out coming = StandsOpen own peer a out coming ⊎ (StandsClosed a coming ⊎ StandsFailed a coming)
+Stands own peer a out coming = StandsOpen own peer a out coming ⊎ (StandsClosed own a coming ⊎ StandsFailed a coming)
 
--- each datagram that a side gave out says what its directions have
-abbrev pub AreSaid : ℕ → ℕ → Direction → Direction → List (List ℕ) → Type 0
-AreSaid own peer out coming packets = AllByRecursion (λ (bytes : List ℕ). SaysAll own peer out coming (packet_in bytes)) packets
+-- as long as it didn't fail, an association is in this stage of its handshake; what a failed one said was true before
+abbrev pub IsAt : Shown → Stage → Type 0
+IsAt a s = a.failed ≡ false → stage_of a ≡ s
+
+-- The stages of two sides fit: they are not two clients that wait, and where one is established, or was, the other may hear its DATA.
+pub record Meets (s t : Stage) : Type 0 where
+  pub one : OneWaits s t
+  pub other : OneWaits t s
+  pub hears : t.completed ≡ true → MayHear s
+  pub heard : s.completed ≡ true → MayHear t
+
+-- a side that was never established has assigned no offset
+abbrev pub IsSilent : Stage → Direction → Type 0
+IsSilent s w = s.completed ≡ false → w.sender.plan.places ≡ []
+
+-- a chunk that a side in this stage gives out: DATA of its own direction, a SACK for the one that comes to it, or its handshake's
+abbrev pub IsSaidBy : ℕ → ℕ → Stage → Direction → Direction → Chunk → Type 0
+IsSaidBy own peer s out coming chunk = Says own peer out coming chunk ⊎ Greets own s chunk
+
+-- each datagram that a side gave out is of such chunks
+abbrev pub AreSaid : ℕ → ℕ → Stage → Direction → Direction → List (List ℕ) → Type 0
+AreSaid own peer s out coming packets = AllByRecursion (λ (bytes : List ℕ). OfEachChunk (IsSaidBy own peer s out coming) (packet_in bytes)) packets
 
 -- A pair stands in a world.
 pub record StandsIn (p : Ends) (w : World) : Type 0 where
@@ -62,8 +83,15 @@ pub record StandsIn (p : Ends) (w : World) : Type 0 where
   pub plain_ba : IsPlain w.ba
   pub side_a : Stands w.initial_a w.initial_b w.ends.a w.ab w.ba
   pub side_b : Stands w.initial_b w.initial_a w.ends.b w.ba w.ab
-  pub said_a : AreSaid w.initial_a w.initial_b w.ab w.ba w.ends.packets_a
-  pub said_b : AreSaid w.initial_b w.initial_a w.ba w.ab w.ends.packets_b
+  pub stage_a : Stage
+  pub stage_b : Stage
+  pub at_a : IsAt w.ends.a stage_a
+  pub at_b : IsAt w.ends.b stage_b
+  pub meets : Meets stage_a stage_b
+  pub silent_a : IsSilent stage_a w.ab
+  pub silent_b : IsSilent stage_b w.ba
+  pub said_a : AreSaid w.initial_a w.initial_b stage_a w.ab w.ba w.ends.packets_a
+  pub said_b : AreSaid w.initial_b w.initial_a stage_b w.ba w.ab w.ends.packets_b
 
 -- It fits the world where that is within the limits, too.
 pub record Fits (p : Ends) (w : World) : Type 0 where

@@ -101,6 +101,8 @@ impl Pair {
     /// A pair of which A is the client and B the server, before any packet (RFC 4960 section 5.1). Tags, first TSNs and
     /// cookies are each side's own. `remote_of_a` is the address at which A reaches B. Refused where A would be refused,
     /// or else B.
+    ///
+    /// It stands in the world in which nothing happened yet.
     pub fn client_server(
         alloc: Global,
         config_a: &TransportConfig,
@@ -125,6 +127,7 @@ impl Pair {
           packets_b = [];
         }) }
         ensures refused { JoinRefuses result (create_refusal max_payload_size_a tsn_a) (create_refusal max_payload_size_b tsn_b) }
+        ensures fits { IfOk result (λ p. Fits p (empty_world p tsn_a tsn_b max_payload_size_a max_payload_size_b)) }
     {
         let a = Association::new(
             alloc,
