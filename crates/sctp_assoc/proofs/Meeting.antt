@@ -1,5 +1,5 @@
 -- The chunks of a handshake lead it on as it is to go, and what waits to go out stays truthful.
-use Rattle.std.proofs.Common.{◌≡◌, refl, sym, ap, ◌∙◌, ◌⊎◌, inl, inr, ℕ, Bool, true, false, if◌then◌else◌, ◌&&◌, List, [], ◌∷◌, ◌++◌, Option, Some, None, is_some, Result, Ok, Err}
+use Rattle.std.proofs.Common.{◌≡◌, refl, sym, ap, ◌∙◌, inl, inr, ℕ, Bool, true, false, if◌then◌else◌, ◌&&◌, List, [], ◌∷◌, ◌++◌, Option, Some, None, is_some, Result, Ok, Err}
 use Rattle.std.specs.Str.{bytes_eq}
 use Rattle.std.proofs.lemmas.Bool.{false≢true, true≢false}
 use Rattle.sctp_wire_types.specs.declared.chunk.Chunk.{Chunk}
@@ -18,13 +18,13 @@ use Rattle.sctp_inbound.specs.Handshake.{comes_back, has_issued, header_of}
 use Rattle.sctp_assoc.specs.declared.control.ControlPacket.{ControlPacket}
 use Rattle.sctp_assoc.specs.Acts.{Act}
 use Rattle.sctp_assoc.specs.Calls.{is_beginning, is_cookie_echoed, is_cookie_wait, is_established}
-use Rattle.sctp_assoc.specs.Chunks.{checked_first, dispatched, on_chunk}
-use Rattle.sctp_assoc.specs.Handshake.{acknowledged_cookie, answered, connected, echoed, met, met_back, on_cookie_ack, on_cookie_echo, on_init, on_init_ack, sends_cookie, with_echo}
+use Rattle.sctp_assoc.specs.Chunks.{checked_first, on_chunk}
+use Rattle.sctp_assoc.specs.Handshake.{acknowledged_cookie, answered, connected, echoed, met, on_cookie_ack, on_cookie_echo, on_init, on_init_ack, sends_cookie, with_echo}
 use Rattle.sctp_assoc.specs.Happened.{acts_of_checked}
-use Rattle.sctp_assoc.specs.Meeting.{GoesOn, Greets, GreetsOn, HasCome, IsEchoing, IsGreeted, IsListening, IsTalking, IsTruthful, IsWaiting, MayHear, OneWaits, Stage, stage_of}
+use Rattle.sctp_assoc.specs.Meeting.{GoesOn, Greets, GreetsOn, HasCome, IsGreeted, IsListening, IsTruthful, IsWaiting, MayHear, OneWaits, Stage, stage_of}
 use Rattle.sctp_assoc.specs.Shapes.{EstablishedSidesTalk, TheSameHandshakeIsTheSameStage}
 use Rattle.sctp_assoc.specs.Shown.{Shown}
-use Rattle.sctp_assoc.proofs.Truth.{KeepsSaying, keeps_saying, truthful_still, truthful_with}
+use Rattle.sctp_assoc.proofs.Truth.{KeepsSaying, truthful_still, truthful_with}
 
 not_both : sides.Client ≡ sides.Server → ⊥
 not_both e = cc

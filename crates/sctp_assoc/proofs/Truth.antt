@@ -1,14 +1,13 @@
 -- What a side's packets of a handshake say goes on to be so.
-use Rattle.std.proofs.Common.{◌≡◌, refl, sym, ap, ◌∙◌, subst, ◌⊎◌, inl, inr, ℕ, true, List, [], ◌∷◌, ◌++◌, is_some}
+use Rattle.std.proofs.Common.{◌≡◌, sym, ap, ◌∙◌, subst, ◌⊎◌, inl, inr, ℕ, true, [], ◌∷◌, ◌++◌, is_some}
 use Rattle.std.specs.List.{AllByRecursion}
-use Rattle.sctp_wire_types.specs.declared.chunk.Chunk.{Chunk}
 use Rattle.sctp_wire_types.specs.declared.chunk.Chunk.TheVariants as chunks
 use Rattle.sctp_wire_types.specs.declared.ids.Side.TheVariants as sides
 use Rattle.sctp_wire.specs.Packets.{packet_is_plain}
 use Rattle.sctp_model.proofs.Lists.{all_join, all_weaker}
 use Rattle.sctp_inbound.specs.declared.handshake.Handshake.{Handshake}
 use Rattle.sctp_assoc.specs.declared.control.ControlPacket.{ControlPacket}
-use Rattle.sctp_assoc.specs.Meeting.{GoesOn, Greets, IsTruthful, Stage, stage_of}
+use Rattle.sctp_assoc.specs.Meeting.{GoesOn, Greets, IsTruthful, stage_of}
 use Rattle.sctp_assoc.specs.Polled.{packet_with}
 use Rattle.sctp_assoc.specs.Shapes.{GreetingsStayTrue}
 use Rattle.sctp_assoc.specs.Shown.{Shown}

@@ -6,10 +6,9 @@ use Rattle.sctp_model.specs.Messages.{Place}
 use Rattle.sctp_model.specs.Packets.{mem}
 use Rattle.sctp_model.specs.Machine.{Direction, point}
 use Rattle.sctp_model.specs.Invariants.{Invariant}
-use Rattle.sctp_assoc.specs.Acts.{Act, Parts, done}
+use Rattle.sctp_assoc.specs.Acts.{Act, done}
 use Rattle.sctp_directions.specs.Laws.{MeetingsAreNoEvents}
 use Rattle.sctp_directions.specs.Plain.{IsPlain}
-use Rattle.sctp_directions.specs.Incoming.{FitsIncoming}
 use Rattle.sctp_directions.proofs.IncomingKept.{fits_by, same_held}
 use Rattle.sctp_directions.proofs.IncomingStreams.{point_known}
 

@@ -17,18 +17,18 @@ use Rattle.sctp_model.specs.Serial.{tsn}
 use Rattle.sctp_model.specs.Machine.{Direction, Sender}
 use Rattle.sctp_model.specs.Safe.{IsWithin}
 use Rattle.sctp_model.proofs.Lists.{all_get}
-use Rattle.sctp_assoc.specs.Acts.{Act, Binds, CanAll, History, Parts, done, done_all, parts, tsn_before}
+use Rattle.sctp_assoc.specs.Acts.{Act, CanAll, History, Parts, done, done_all, parts, tsn_before}
 use Rattle.sctp_assoc.specs.Happened.{acts_of_chunk}
-use Rattle.sctp_assoc.specs.Meeting.{GoesOn, Greets, Stage, stage_of}
-use Rattle.sctp_assoc.specs.Shapes.{Acknowledges, IsSameStatus, IsTaking, OpensAndTakes, OpensOnly, TakesChunk, TakesOnly}
+use Rattle.sctp_assoc.specs.Meeting.{Greets, Stage}
+use Rattle.sctp_assoc.specs.Shapes.{Acknowledges, IsTaking, OpensAndTakes, OpensOnly, TakesChunk, TakesOnly}
 use Rattle.sctp_assoc.specs.Shown.{Shown}
 use Rattle.sctp_assoc.proofs.Proved.{data_is_taken, sacks_acknowledge}
 use Rattle.sctp_directions.specs.Laws.{MeetsNobody}
-use Rattle.sctp_directions.specs.Said.{IsGiven, IsMade, IsSaid, Says}
+use Rattle.sctp_directions.specs.Said.{IsGiven, IsMade, IsSaid}
 use Rattle.sctp_directions.proofs.Proved.{acts_keep_the_initial_tsns, sacks_mean_the_same}
-use Rattle.sctp_pair.specs.Fits.{IsSaidBy, IsSilent, Meets, StandsOpen}
+use Rattle.sctp_pair.specs.Fits.{IsSaidBy}
 use Rattle.sctp_pair.specs.World.{HasData}
-use Rattle.sctp_pair.proofs.Between.{Goes, Holds, None_brought, goes_nowhere, goes_on}
+use Rattle.sctp_pair.proofs.Between.{Holds, None_brought, goes_nowhere, goes_on}
 use Rattle.sctp_pair.proofs.Giving.{AfterOut, act_acknowledged}
 use Rattle.sctp_pair.proofs.Stages.{hearers_know}
 use Rattle.sctp_pair.proofs.Greeted.{greet_step}

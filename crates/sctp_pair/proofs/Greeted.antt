@@ -1,10 +1,10 @@
 -- A chunk of the other side's handshake comes to one association.
-use Rattle.std.proofs.Common.{◌≡◌, refl, sym, ap, ◌∙◌, subst, ⊎_elim, ◌⊎◌, inl, inr, ℕ, true, false, List, [], ◌∷◌, is_some}
+use Rattle.std.proofs.Common.{◌≡◌, sym, ap, ◌∙◌, subst, ⊎_elim, inl, inr, ℕ, true, false, List, [], ◌∷◌, is_some}
 use Rattle.std.proofs.lemmas.Bool.{cases_Bool}
 use Rattle.sctp_wire_types.specs.declared.chunk.Chunk.{Chunk}
 use Rattle.sctp_wire_types.specs.declared.packet.CommonHeader.{CommonHeader}
 use Rattle.sctp_model.specs.Machine.{Direction}
-use Rattle.sctp_assoc.specs.Acts.{Act, History, Leads, Parts, done_all, parts}
+use Rattle.sctp_assoc.specs.Acts.{Act, History, Parts, done_all, parts}
 use Rattle.sctp_assoc.specs.Happened.{acts_of_chunk}
 use Rattle.sctp_assoc.specs.Meeting.{Greets, IsLearning, MayHear, Stage, stage_of}
 use Rattle.sctp_assoc.specs.Shapes.{TakesChunk}

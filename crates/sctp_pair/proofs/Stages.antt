@@ -1,9 +1,8 @@
 -- The stages of the two handshakes: how they go on, and what they say of who knows whom.
-use Rattle.std.proofs.Common.{◌≡◌, refl, sym, ap, ◌∙◌, subst, inl, inr, true, false, is_some}
+use Rattle.std.proofs.Common.{◌≡◌, refl, sym, ap, ◌∙◌, inl, inr, true, is_some}
 use Rattle.std.proofs.lemmas.Bool.{true≢false}
 use Rattle.sctp_wire_types.specs.declared.chunk.Chunk.{Chunk}
 use Rattle.sctp_wire_types.specs.declared.chunk.Chunk.TheVariants as chunks
-use Rattle.sctp_wire_types.specs.declared.ids.Side.TheVariants as sides
 use Rattle.sctp_assoc.specs.Meeting.{GoesOn, HasCome, MayHear, Stage, stage_of}
 use Rattle.sctp_assoc.specs.Shapes.{GoesOnWorking, IsSameStatus, Leaves}
 use Rattle.sctp_assoc.specs.Shown.{Shown}
