@@ -1,5 +1,5 @@
 -- The laws of an association between its directions: each thing that it does to them is an event of the model.
-use Rattle.std.specs.Prelude.{◌≡◌, ◌⊎◌, ℕ, ◌+◌, ◌<◌, ◌≤◌, ◌%◌, ◌^◌, true, false, List, [], ◌∷◌, ◌++◌, if◌then◌else◌, length, slice_get, map, ◌==◌, Some, None, Ok, ⊤}
+use Rattle.std.specs.Prelude.{◌≡◌, ◌⊎◌, ℕ, suc, ◌+◌, ◌<◌, ◌≤◌, ◌%◌, ◌^◌, true, false, List, [], ◌∷◌, ◌++◌, if◌then◌else◌, length, slice_get, map, ◌==◌, Some, None, Ok, ⊤}
 use Rattle.std.specs.List.{AllByRecursion}
 use Rattle.sctp_wire_types.specs.declared.chunk.ChunkPayloadData.{ChunkPayloadData}
 use Rattle.sctp_wire_types.specs.declared.ids.PayloadProtocolIdentifier.{PayloadProtocolIdentifier}
@@ -17,6 +17,7 @@ use Rattle.sctp_model.specs.Safe.{IsWithin, letter_read}
 use Rattle.sctp_assoc.specs.Acts.{Act, Can, History, Parts, data_given, done, done_all, parts, tsn_before}
 use Rattle.sctp_assoc.specs.Calls.{buffered_of, ready_messages}
 use Rattle.sctp_assoc.specs.Shown.{Shown}
+use Rattle.sctp_directions.specs.Counted.{HasAccepted}
 use Rattle.sctp_directions.specs.Events.{Accepts, Assigns, Brings, GivesAMessage, IsAtReceiver, IsAtSender, IsPlainEvent, IsReceived, IsSentOn, KeepsWithin}
 use Rattle.sctp_directions.specs.Plain.{IsPlain, IsSimple}
 use Rattle.sctp_directions.specs.Said.{IsGiven, IsMade, IsSaid}
@@ -187,6 +188,18 @@ PlainEventsKeepItPlain = (w : Direction) (e : Event) → IsPlainEvent w e → Is
 
 abbrev pub EventsKeepTheLimits : Type 0
 EventsKeepTheLimits = (w : Direction) (e : Event) → KeepsWithin e → IsWithin w → IsWithin (happens w e)
+
+-- Where fewer messages were accepted than offsets may be outstanding, the numbers of a plain direction are within their limits.
+abbrev pub FewMessagesStayWithin : Type 0
+FewMessagesStayWithin = (n : ℕ) (w : Direction) → n < 16384 → HasAccepted n w → Invariant w → IsPlain w → IsWithin w
+
+-- A direction in which nothing happened has no message, and one in which a stream has at most one message more has at most one more.
+abbrev pub NothingIsAcceptedAtFirst : Type 0
+NothingIsAcceptedAtFirst = (size : ℕ) → HasAccepted 0 (fresh size)
+
+abbrev pub AcceptedMessagesAreCounted : Type 0
+AcceptedMessagesAreCounted = (n id : ℕ) (w v : Direction) → ((s : ℕ) → (s ≡ id → ⊥) → v.sender.plan.accepted s ≡ w.sender.plan.accepted s)
+    → length (v.sender.plan.accepted id) ≤ suc (length (w.sender.plan.accepted id)) → HasAccepted n w → HasAccepted (suc n) v
 
 -- A direction in which nothing happened is plain.
 abbrev pub FreshDirectionsArePlain : Type 0

@@ -2,5 +2,6 @@ pub mod Plain
 pub mod Said
 pub mod Outgoing
 pub mod Incoming
+pub mod Counted
 pub mod Events
 pub mod Laws

@@ -1,0 +1,11 @@
+use Rattle.sctp_directions.proofs.Proved.{accepted_messages_are_counted, few_messages_stay_within, nothing_is_accepted_at_first}
+use Rattle.sctp_directions.proofs.few_messages_stay_within.Goals as goal
+
+pub returns-clause-first : goal.returns-clause-first
+returns-clause-first c = nothing_is_accepted_at_first
+
+pub returns-clause-counted : goal.returns-clause-counted
+returns-clause-counted c = accepted_messages_are_counted
+
+pub returns-clause-within : goal.returns-clause-within
+returns-clause-within c = few_messages_stay_within
