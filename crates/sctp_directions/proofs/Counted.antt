@@ -128,7 +128,7 @@ few_messages_stay_within n w few a inv plain =
           omega arith;
     }
 
--- One more message
+-- More messages of one stream
 
 sum_same : (f g : ℕ → ℕ) (xs : List ℕ) (t : ℕ) → mem t xs ≡ false → ((s : ℕ) → (s ≡ t → ⊥) → g s ≡ f s) → sum_by g xs ≡ sum_by f xs
 sum_same f g [] t m same = refl
@@ -142,30 +142,30 @@ sum_same f g (x ∷ xs) t m same = ⊎_elim
     omega arith)
     (cases_Bool (eqb x t))
 
-sum_grown : (f g : ℕ → ℕ) (xs : List ℕ) (t : ℕ) → AreDistinct xs → ((s : ℕ) → (s ≡ t → ⊥) → g s ≡ f s) → g t ≤ suc (f t) → sum_by g xs ≤ suc (sum_by f xs)
-sum_grown f g [] t once same more = omega arith
-sum_grown f g (x ∷ xs) t (fresh, once) same more = ⊎_elim
+sum_grown : (f g : ℕ → ℕ) (xs : List ℕ) (t k : ℕ) → AreDistinct xs → ((s : ℕ) → (s ≡ t → ⊥) → g s ≡ f s) → g t ≤ f t + k → sum_by g xs ≤ sum_by f xs + k
+sum_grown f g [] t k once same more = omega arith
+sum_grown f g (x ∷ xs) t k (fresh, once) same more = ⊎_elim
     (λ (e : x ≡ t).
-    let here : g x ≤ suc (f x) = subst (λ z. g z ≤ suc (f z)) (sym e) more in
+    let here : g x ≤ f x + k = subst (λ z. g z ≤ f z + k) (sym e) more in
     let rest = sum_same f g xs t (subst (λ z. mem z xs ≡ false) e fresh) same in
     let a = sum_by-cons f x xs in
     let b = sum_by-cons g x xs in
     omega (arith, here))
     (λ (ne : x ≡ t → ⊥).
     let here = same x ne in
-    let rest = sum_grown f g xs t once same more in
+    let rest = sum_grown f g xs t k once same more in
     let a = sum_by-cons f x xs in
     let b = sum_by-cons g x xs in
     omega (arith, here))
     (cases_eq x t)
 
 pub accepted_messages_are_counted : AcceptedMessagesAreCounted
-accepted_messages_are_counted n id w v same more a = ⊎_elim
+accepted_messages_are_counted n k id w v same more a = ⊎_elim
     (λ (m : mem id a.streams ≡ true). record {
       streams = a.streams;
       once = a.once;
       others = λ s none. same s (λ (e : s ≡ id). false≢true (sym none ∙ ap (λ z. mem z a.streams) e ∙ m)) ∙ a.others s none;
-      total = (let grown = sum_grown (λ (s : ℕ). length (w.sender.plan.accepted s)) (λ (s : ℕ). length (v.sender.plan.accepted s)) a.streams id a.once
+      total = (let grown = sum_grown (λ (s : ℕ). length (w.sender.plan.accepted s)) (λ (s : ℕ). length (v.sender.plan.accepted s)) a.streams id k a.once
           (λ s ne. ap (λ (ms : List Message). length ms) (same s ne)) more in let total = a.total in omega arith);
     })
     (λ (m : mem id a.streams ≡ false).

@@ -1,5 +1,5 @@
 -- The laws of an association between its directions: each thing that it does to them is an event of the model.
-use Rattle.std.specs.Prelude.{◌≡◌, ◌⊎◌, ℕ, suc, ◌+◌, ◌<◌, ◌≤◌, ◌%◌, ◌^◌, true, false, List, [], ◌∷◌, ◌++◌, if◌then◌else◌, length, slice_get, map, ◌==◌, Some, None, Ok, ⊤}
+use Rattle.std.specs.Prelude.{◌≡◌, ◌⊎◌, ℕ, ◌+◌, ◌<◌, ◌≤◌, ◌%◌, ◌^◌, true, false, List, [], ◌∷◌, ◌++◌, if◌then◌else◌, length, slice_get, map, ◌==◌, Some, None, Ok, ⊤}
 use Rattle.std.specs.List.{AllByRecursion}
 use Rattle.sctp_wire_types.specs.declared.chunk.ChunkPayloadData.{ChunkPayloadData}
 use Rattle.sctp_wire_types.specs.declared.ids.PayloadProtocolIdentifier.{PayloadProtocolIdentifier}
@@ -193,13 +193,13 @@ EventsKeepTheLimits = (w : Direction) (e : Event) → KeepsWithin e → IsWithin
 abbrev pub FewMessagesStayWithin : Type 0
 FewMessagesStayWithin = (n : ℕ) (w : Direction) → n < 16384 → HasAccepted n w → Invariant w → IsPlain w → IsWithin w
 
--- A direction in which nothing happened has no message, and one in which a stream has at most one message more has at most one more.
+-- A direction in which nothing happened has no message, and one in which one stream has at most k messages more has at most k more.
 abbrev pub NothingIsAcceptedAtFirst : Type 0
 NothingIsAcceptedAtFirst = (size : ℕ) → HasAccepted 0 (fresh size)
 
 abbrev pub AcceptedMessagesAreCounted : Type 0
-AcceptedMessagesAreCounted = (n id : ℕ) (w v : Direction) → ((s : ℕ) → (s ≡ id → ⊥) → v.sender.plan.accepted s ≡ w.sender.plan.accepted s)
-    → length (v.sender.plan.accepted id) ≤ suc (length (w.sender.plan.accepted id)) → HasAccepted n w → HasAccepted (suc n) v
+AcceptedMessagesAreCounted = (n k id : ℕ) (w v : Direction) → ((s : ℕ) → (s ≡ id → ⊥) → v.sender.plan.accepted s ≡ w.sender.plan.accepted s)
+    → length (v.sender.plan.accepted id) ≤ length (w.sender.plan.accepted id) + k → HasAccepted n w → HasAccepted (n + k) v
 
 -- A direction in which nothing happened is plain.
 abbrev pub FreshDirectionsArePlain : Type 0

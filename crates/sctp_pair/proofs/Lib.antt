@@ -2,6 +2,7 @@ pub mod Answered
 pub mod Assembled
 pub mod Between
 pub mod Chunks
+pub mod Counted
 pub mod Giving
 pub mod Greeted
 mod OneSide

@@ -2,3 +2,4 @@ pub mod Ends
 pub mod Steps
 pub mod World
 pub mod Fits
+pub mod Counted

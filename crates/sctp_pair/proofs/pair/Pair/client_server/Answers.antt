@@ -1,4 +1,5 @@
 use Rattle.std.proofs.Common.{refl}
+use Rattle.sctp_pair.proofs.Counted.{fits_with_none}
 use Rattle.sctp_pair.proofs.Starting.{fits_hello}
 use Rattle.sctp_pair.proofs.pair.Pair.client_server.Goals as goal
 
@@ -10,3 +11,6 @@ returns-clause-fits c =
     fits_hello c.args.config_a.now c.args.config_b.now c.args.max_payload_size_a c.args.max_payload_size_b c.args.tag_a c.args.tag_b c.args.tsn_a c.args.tsn_b
     c.args.cookie_a c.args.cookie_b c.args.remote_of_a c.args.remote_of_b c.args.now
     c.in_ok-a.a c.in_ok-b.b a.refused b.refused a.created b.created a.begins b.begins _ (rw (c.new-3.ensures.items, c.new-4.ensures.items) refl)
+
+pub returns-clause-counted : goal.returns-clause-counted
+returns-clause-counted c = fits_with_none _ c.args.tsn_a c.args.tsn_b c.args.max_payload_size_a c.args.max_payload_size_b (returns-clause-fits c)
