@@ -1,5 +1,7 @@
 -- The timers of an association as they are at a moment, in the order in which they are looked at.
-use Rattle.std.specs.Prelude.{ℕ}
+use Rattle.std.specs.Prelude.{ℕ, Bool, ◌&&◌, ◌||◌, is_some, not}
+use Rattle.sctp_parts.specs.declared.timer.Timer.TheVariants as names
+use Rattle.sctp_parts.specs.Timers.{expiry_of}
 use Rattle.sctp_assoc.specs.Calls.{after_ack_delay, after_t3}
 use Rattle.sctp_assoc.specs.Handshake.{after_t1_cookie, after_t1_init}
 use Rattle.sctp_assoc.specs.Shown.{Shown}
@@ -10,3 +12,15 @@ after_handshake_timers a now = after_t1_cookie (after_t1_init a now) now
 
 abbrev pub after_timeouts : Shown → ℕ → Shown
 after_timeouts a now = after_ack_delay (after_t3 (after_handshake_timers a now) now) now
+
+-- INIT is to go out again: its timer expired within its limit
+abbrev pub offers_again : Shown → ℕ → Bool
+offers_again a now = is_some a.handshake.offer && ((expiry_of names.T1Init now a.timers).0 && not (expiry_of names.T1Init now a.timers).1)
+
+-- COOKIE ECHO is
+abbrev pub echoes_again : Shown → ℕ → Bool
+echoes_again a now = is_some a.handshake.echo && ((expiry_of names.T1Cookie now a.timers).0 && not (expiry_of names.T1Cookie now a.timers).1)
+
+-- a packet of the handshake is
+abbrev pub greets_again : Shown → ℕ → Bool
+greets_again a now = offers_again a now || echoes_again (after_t1_init a now) now

@@ -1,6 +1,7 @@
 // The handshake, step by state and chunk, and the chunks beside it that are answered at once.
-ghost use Rattle.std.specs.Prelude.{◌≡◌, OnOk, IfOk};
+ghost use Rattle.std.specs.Prelude.{◌≡◌, OnErr, OnOk, IfOk, is_some, true};
 ghost use Rattle.sctp_assoc.specs.Handshake.{after_t1_cookie, after_t1_init, connected, echoed, meets, met_back, on_cookie_ack, on_cookie_echo, on_heartbeat, on_init, on_init_ack, sends_cookie, sends_init, with_echo};
+ghost use Rattle.sctp_assoc.specs.Timeouts.{echoes_again, offers_again};
 
 use crate::Association;
 use crate::inbound::Flow;
@@ -148,7 +149,8 @@ impl Association {
     // INIT goes out, and its timer runs (RFC 4960 section 5.1).
     #[tactic(auto, unfolding(crate::specs::Handshake::sends_init))]
     pub(crate) fn send_init(&mut self, now: Instant) -> Result<(), AllocError>
-        ensures { OnOk result (self.new ≡ sends_init self.old now) }
+        ensures exact { OnOk result (self.new ≡ sends_init self.old now) }
+        ensures offered { OnErr result (is_some self.old.handshake.offer ≡ true) }
     {
         if let Some(offer) = self.handshake.offer {
             let init = self.handshake.init(self.alloc, offer)?;
@@ -162,7 +164,8 @@ impl Association {
     // COOKIE ECHO goes out, and its timer runs (RFC 4960 section 5.1).
     #[tactic(auto, unfolding(crate::specs::Handshake::sends_cookie))]
     fn send_cookie(&mut self, now: Instant) -> Result<(), AllocError>
-        ensures { OnOk result (self.new ≡ sends_cookie self.old now) }
+        ensures exact { OnOk result (self.new ≡ sends_cookie self.old now) }
+        ensures echoed { OnErr result (is_some self.old.handshake.echo ≡ true) }
     {
         if let Some(cookie) = &self.handshake.echo {
             let cookie = cookie.clone()?;
@@ -175,7 +178,8 @@ impl Association {
 
     // No INIT ACK came in time: INIT goes out again, or past its limit the handshake has failed.
     pub(crate) fn on_t1_init(&mut self, now: Instant) -> Result<(), AllocError>
-        ensures { OnOk result (self.new ≡ after_t1_init self.old now) }
+        ensures exact { OnOk result (self.new ≡ after_t1_init self.old now) }
+        ensures again { OnErr result (offers_again self.old now ≡ true) }
     {
         let (expired, failure, _) = self.timers.is_expired(Timer::T1Init, now);
         if expired {
@@ -191,7 +195,8 @@ impl Association {
 
     // No COOKIE ACK came in time: COOKIE ECHO goes out again, or past its limit the handshake has failed.
     pub(crate) fn on_t1_cookie(&mut self, now: Instant) -> Result<(), AllocError>
-        ensures { OnOk result (self.new ≡ after_t1_cookie self.old now) }
+        ensures exact { OnOk result (self.new ≡ after_t1_cookie self.old now) }
+        ensures again { OnErr result (echoes_again self.old now ≡ true) }
     {
         let (expired, failure, _) = self.timers.is_expired(Timer::T1Cookie, now);
         if expired {
