@@ -40,12 +40,11 @@ none_some : (t : Stream) → None ≡ Some t → ⊥
 none_some t e = cc
 
 closes_if : (c : Bool) (a : Shown) (reason : AssociationError) → is_closed_state a.state ≡ c → Closes a (if c then a else closed_open a reason)
-closes_if true a reason e = record { failed = refl; side = refl; handshake = refl; quiet = λ q. q; truthful = λ own t. t; ends = λ f. absurd (true≢false (sym e ∙ f)); stays = λ f. refl }
+closes_if true a reason e = record { failed = refl; side = refl; handshake = refl; truthful = λ own t. t; ends = λ f. absurd (true≢false (sym e ∙ f)); stays = λ f. refl }
 closes_if false a reason e = record {
   failed = refl;
   side = refl;
   handshake = refl;
-  quiet = λ q. record { control = refl; offer = q.offer; echo = q.echo };
   truthful = λ own t. truthful_silent own a (closed_open a reason) t (keeps_saying a (closed_open a reason) refl refl) refl;
   ends = λ f. record { closed = refl; unestablished = refl; lost = refl; none_live = λ id. refl; holds_nothing = λ id t there. absurd (none_some t there); silent = refl };
   stays = λ f. absurd (true≢false (sym f ∙ e));

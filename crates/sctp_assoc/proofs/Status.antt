@@ -32,7 +32,7 @@ use Rattle.sctp_assoc.specs.Chunks.{asks_or_faults, checked_first, counted_data,
 use Rattle.sctp_assoc.specs.Handshake.{after_t1_init, cookie_queued, echoed, information_returned, init_queued, on_cookie_ack, on_cookie_echo, on_heartbeat, on_init, on_init_ack, sends_cookie, sends_init, t1_cookie_expired, t1_init_expired}
 use Rattle.sctp_assoc.specs.Polled.{ack_after, ack_polled, control_packets, data_packets, data_polled, exchange_polled, is_due, packet_with, with_sent_data, without_control}
 use Rattle.sctp_assoc.specs.Timeouts.{after_handshake_timers}
-use Rattle.sctp_assoc.specs.Shapes.{GoesOnWorking, IsQuiet, IsSameStatus, Leaves, OpenedStreamsKeepTheStatus, PollsKeepTheStatus, ReadsKeepTheStatus, TimersKeepTheStatus, ToldEventsKeepTheStatus, WritesKeepTheStatus}
+use Rattle.sctp_assoc.specs.Shapes.{GoesOnWorking, IsSameStatus, Leaves, OpenedStreamsKeepTheStatus, PollsKeepTheStatus, ReadsKeepTheStatus, TimersKeepTheStatus, ToldEventsKeepTheStatus, WritesKeepTheStatus}
 use Rattle.sctp_assoc.specs.Meeting.{Greets, IsTruthful, stage_of}
 use Rattle.sctp_assoc.specs.Control.{queued}
 use Rattle.sctp_inbound.specs.Greeting.{first_cookie, information_of, init_of}
@@ -44,7 +44,7 @@ use Rattle.sctp_assoc.proofs.Polling.{both_first}
 use Rattle.sctp_assoc.proofs.Truth.{keeps_saying, truthful_silent, truthful_still, truthful_with}
 
 status_same : (a : Shown) → IsSameStatus a a
-status_same a = record { failed = refl; state = refl; lost = refl; size = refl; side = refl; handshake = refl; quiet = λ q. q; truthful = λ own t. t }
+status_same a = record { failed = refl; state = refl; lost = refl; size = refl; side = refl; handshake = refl; truthful = λ own t. t }
 
 -- what waits to go out is as it was, too
 pub status_by : (a b : Shown) → b.failed ≡ a.failed → b.state ≡ a.state → b.lost ≡ a.lost → b.sender.max_payload_size ≡ a.sender.max_payload_size
@@ -56,7 +56,6 @@ status_by a b f s l z c h side = record {
   size = z;
   side = side;
   handshake = h;
-  quiet = λ q. record { control = c ∙ q.control; offer = ap (λ (x : Handshake). x.offer) h ∙ q.offer; echo = ap (λ (x : Handshake). x.echo) h ∙ q.echo };
   truthful = λ own t. truthful_still own a b t (keeps_saying a b side h) c;
 }
 
@@ -68,7 +67,6 @@ status_on a b c x y = record {
   size = y.size ∙ x.size;
   side = y.side ∙ x.side;
   handshake = y.handshake ∙ x.handshake;
-  quiet = λ q. y.quiet (x.quiet q);
   truthful = λ own t. y.truthful own (x.truthful own t);
 }
 
@@ -308,7 +306,6 @@ without_status a = record {
   size = refl;
   side = refl;
   handshake = refl;
-  quiet = λ q. record { control = refl; offer = q.offer; echo = q.echo };
   truthful = λ own t. truthful_silent own a (without_control a) t (keeps_saying a (without_control a) refl refl) refl;
 }
 
@@ -354,15 +351,12 @@ ack_delay_beside : (expired : Bool) (a b : Shown) (now : ℕ) → (expiry_of nam
 ack_delay_beside false a b now e h = rw e h
 ack_delay_beside true a b now e (h, streams) = rw e (status_on a b _ h (status_by b _ refl refl refl refl refl refl refl), streams)
 
--- the timers of the handshake send nothing where it is quiet
-
-some_none : {X : Type 0} (x : X) → Some x ≡ None → ⊥
-some_none x e = cc
+-- what the timers of the handshake send says what is so
 
 -- a packet of the handshake more waits, and says what is so
-with_queued : (a b : Shown) (c : Chunk) → IsSameBeside a b → (IsQuiet a → ⊥) → ((own : ℕ) → IsTruthful own b → Greets own (stage_of b) c)
+with_queued : (a b : Shown) (c : Chunk) → IsSameBeside a b → ((own : ℕ) → IsTruthful own b → Greets own (stage_of b) c)
     → packet_is_plain (packet_with (header_of b.handshake) c) ≡ true → IsSameBeside a (queued b c)
-with_queued a b c (h, streams) loud says plain = (
+with_queued a b c (h, streams) says plain = (
   record {
     failed = h.failed;
     state = h.state;
@@ -370,7 +364,6 @@ with_queued a b c (h, streams) loud says plain = (
     size = h.size;
     side = h.side;
     handshake = h.handshake;
-    quiet = λ q. absurd (loud q);
     truthful = λ own t.
         let truthful = h.truthful own t in
         truthful_with own b (queued b c) (record { header = header_of b.handshake; chunk = c }) truthful (keeps_saying b (queued b c) refl refl) refl (says own truthful) plain;
@@ -378,28 +371,28 @@ with_queued a b c (h, streams) loud says plain = (
   streams,
 )
 
-init_queued_beside : (o : Option Offer) (a b : Shown) → IsSameBeside a b → (IsQuiet a → o ≡ None) → b.handshake.offer ≡ o → IsSameBeside a (init_queued o b)
-init_queued_beside None a b h none is = h
-init_queued_beside (Some offer) a b h none is =
-    with_queued a b (chunks.Init (init_of b.handshake offer)) h (λ q. some_none offer (none q)) (λ own t. (t.tsn, t.offers (ap is_some is))) refl
+init_queued_beside : (o : Option Offer) (a b : Shown) → IsSameBeside a b → b.handshake.offer ≡ o → IsSameBeside a (init_queued o b)
+init_queued_beside None a b h is = h
+init_queued_beside (Some offer) a b h is =
+    with_queued a b (chunks.Init (init_of b.handshake offer)) h (λ own t. (t.tsn, t.offers (ap is_some is))) refl
 
-cookie_queued_beside : (o : Option (List ℕ)) (a b : Shown) → IsSameBeside a b → (IsQuiet a → o ≡ None) → b.handshake.echo ≡ o → IsSameBeside a (cookie_queued o b)
-cookie_queued_beside None a b h none is = h
-cookie_queued_beside (Some cookie) a b h none is =
-    with_queued a b (chunks.CookieEcho cookie) h (λ q. some_none cookie (none q)) (λ own t. t.echoes (ap is_some is)) refl
+cookie_queued_beside : (o : Option (List ℕ)) (a b : Shown) → IsSameBeside a b → b.handshake.echo ≡ o → IsSameBeside a (cookie_queued o b)
+cookie_queued_beside None a b h is = h
+cookie_queued_beside (Some cookie) a b h is =
+    with_queued a b (chunks.CookieEcho cookie) h (λ own t. t.echoes (ap is_some is)) refl
 
-offer_beside : (a b : Shown) (now : ℕ) → IsSameBeside a b → (IsQuiet a → b.handshake.offer ≡ None) → IsSameBeside a (sends_init b now)
+offer_beside : (a b : Shown) (now : ℕ) → IsSameBeside a b → IsSameBeside a (sends_init b now)
 unfolding sends_init
-offer_beside a b now h none =
+offer_beside a b now h =
     let c : Shown = init_queued b.handshake.offer b in
-    let queued = init_queued_beside b.handshake.offer a b h none refl in
+    let queued = init_queued_beside b.handshake.offer a b h refl in
     (status_on a c _ queued.0 (status_by c _ refl refl refl refl refl refl refl), queued.1)
 
-echo_beside : (a b : Shown) (now : ℕ) → IsSameBeside a b → (IsQuiet a → b.handshake.echo ≡ None) → IsSameBeside a (sends_cookie b now)
+echo_beside : (a b : Shown) (now : ℕ) → IsSameBeside a b → IsSameBeside a (sends_cookie b now)
 unfolding sends_cookie
-echo_beside a b now h none =
+echo_beside a b now h =
     let c : Shown = cookie_queued b.handshake.echo b in
-    let queued = cookie_queued_beside b.handshake.echo a b h none refl in
+    let queued = cookie_queued_beside b.handshake.echo a b h refl in
     (status_on a c _ queued.0 (status_by c _ refl refl refl refl refl refl refl), queued.1)
 
 t1_init_beside : (expired failure : Bool) (a : Shown) (now : ℕ)
@@ -407,14 +400,14 @@ t1_init_beside : (expired failure : Bool) (a : Shown) (now : ℕ)
 t1_init_beside false failure a now = (status_same a, refl)
 t1_init_beside true true a now = (status_by a _ refl refl refl refl refl refl refl, refl)
 t1_init_beside true false a now =
-    offer_beside a (t1_init_expired a now) now (status_by a (t1_init_expired a now) refl refl refl refl refl refl refl, refl) (λ q. q.offer)
+    offer_beside a (t1_init_expired a now) now (status_by a (t1_init_expired a now) refl refl refl refl refl refl refl, refl)
 
 t1_cookie_beside : (expired failure : Bool) (a : Shown) (now : ℕ)
     → IsSameBeside a (if expired then (if failure then (let b = t1_cookie_expired a now in record b { handshake_fault = Some errors.ErrHandshakeCookieEcho }) else sends_cookie (t1_cookie_expired a now) now) else a)
 t1_cookie_beside false failure a now = (status_same a, refl)
 t1_cookie_beside true true a now = (status_by a _ refl refl refl refl refl refl refl, refl)
 t1_cookie_beside true false a now =
-    echo_beside a (t1_cookie_expired a now) now (status_by a (t1_cookie_expired a now) refl refl refl refl refl refl refl, refl) (λ q. q.echo)
+    echo_beside a (t1_cookie_expired a now) now (status_by a (t1_cookie_expired a now) refl refl refl refl refl refl refl, refl)
 
 beside_on : (a b c : Shown) → IsSameBeside a b → IsSameBeside b c → IsSameBeside a c
 beside_on a b c (h, s) (k, t) = (status_on a b c h k, t ∙ s)

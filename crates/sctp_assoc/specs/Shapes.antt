@@ -30,14 +30,8 @@ use Rattle.sctp_assoc.specs.declared.control.ControlPacket.{ControlPacket}
 
 -- Status
 
--- No packet of a handshake waits to go out, and none is sent again.
-pub record IsQuiet (a : Shown) : Type 0 where
-  pub control : a.control ≡ []
-  pub offer : a.handshake.offer ≡ None
-  pub echo : a.handshake.echo ≡ None
-
--- Whether it failed, its state, whether it was lost, its payload size, its side and what its handshake fixed are as they were; it is
--- quiet where it was, and what waits to go out is truthful where it was.
+-- Whether it failed, its state, whether it was lost, its payload size, its side and its handshake are as they were, and what waits to
+-- go out is truthful where it was.
 pub record IsSameStatus (a b : Shown) : Type 0 where
   pub failed : b.failed ≡ a.failed
   pub state : b.state ≡ a.state
@@ -45,7 +39,6 @@ pub record IsSameStatus (a b : Shown) : Type 0 where
   pub size : b.sender.max_payload_size ≡ a.sender.max_payload_size
   pub side : b.side ≡ a.side
   pub handshake : b.handshake ≡ a.handshake
-  pub quiet : IsQuiet a → IsQuiet b
   pub truthful : (own : ℕ) → IsTruthful own a → IsTruthful own b
 
 -- A side with the same handshake is in the same stage; where its state is the same, too, the handshake has come as far.
@@ -173,7 +166,6 @@ pub record Closes (a b : Shown) : Type 0 where
   pub failed : b.failed ≡ a.failed
   pub side : b.side ≡ a.side
   pub handshake : b.handshake ≡ a.handshake
-  pub quiet : IsQuiet a → IsQuiet b
   pub truthful : (own : ℕ) → IsTruthful own a → IsTruthful own b
   pub ends : is_closed_state a.state ≡ false → IsEnded b
   pub stays : is_closed_state a.state ≡ true → b ≡ a
