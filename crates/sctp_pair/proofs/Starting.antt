@@ -1,9 +1,10 @@
 -- A pair that two tokens joined, and a client and a server before any packet, stand in the world in which nothing happened.
-use Rattle.std.proofs.Common.{◌≡◌, refl, sym, ap, ◌∙◌, subst, ⊎_elim, inl, inr, ℕ, ◌<◌, arith, true, false, eqb, List, [], None}
+use Rattle.std.proofs.Common.{◌≡◌, refl, sym, ap, ◌∙◌, subst, ⊎_elim, inl, inr, ℕ, ◌<◌, arith, Bool, true, false, eqb, ◌||◌, if◌then◌else◌, List, [], Option, Some, None}
 use Rattle.std.specs.Prelude.{is_some}
 use Rattle.std.specs.declared.net.socket_addr.SocketAddr.{SocketAddr}
 use Rattle.std.proofs.lemmas.Bool.{cases_Bool, eqb-false, false≢true}
 use Rattle.sctp_wire_types.specs.declared.chunk.ChunkInit.{ChunkInit}
+use Rattle.sctp_wire_types.specs.declared.error.Error.{Error}
 use Rattle.sctp_wire_types.specs.declared.ids.Side.TheVariants as sides
 use Rattle.sctp_wire_types.specs.Config.{Settings}
 use Rattle.sctp_model.specs.Machine.{fresh}
@@ -45,6 +46,14 @@ fits_begin own_a own_b size_a size_b a b some_a some_b stands_a stands_b meets p
       };
     }
 
+-- a payload size that is not refused has a byte at least
+some_size : (size : ℕ) (more : Bool) (fault : Error) (rest : Option Error) → (if eqb size 0 || more then Some fault else rest) ≡ None → 0 < size
+some_size size more fault rest e =
+    ⊎_elim
+    (λ (b : eqb size 0 ≡ true). absurd (false≢true (sym (ap is_some e) ∙ rw b refl)))
+    (λ (b : eqb size 0 ≡ false). let n = eqb-false size 0 b in omega (arith, n))
+    (cases_Bool (eqb size 0))
+
 -- Two tokens
 
 -- an association that two tokens joined stands open between directions in which nothing happened
@@ -65,14 +74,6 @@ joined_stands config size other remote own peer binds = record {
   incoming = record { is_open = refl; taken = refl; passed = refl; at = refl; queues = λ s. (refl, refl) };
 }
 
--- tokens join with a payload size of at least one byte alone
-some_size : (size : ℕ) (own peer : ChunkInit) → join_refusal size own peer ≡ None → 0 < size
-some_size size own peer e =
-    ⊎_elim
-    (λ (b : eqb size 0 ≡ true). absurd (false≢true (sym (ap is_some e) ∙ rw b refl)))
-    (λ (b : eqb size 0 ≡ false). let n = eqb-false size 0 b in omega (arith, n))
-    (cases_Bool (eqb size 0))
-
 -- A pair that two tokens joined stands in the empty world.
 pub fits_start : (config_a config_b : Settings) (size_a size_b : ℕ) (remote_a remote_b : SocketAddr) (token_a token_b : ChunkInit) (a b : Shown)
     → join_refusal size_a token_a token_b ≡ None → join_refusal size_b token_b token_a ≡ None
@@ -81,7 +82,7 @@ pub fits_start : (config_a config_b : Settings) (size_a size_b : ℕ) (remote_a 
     → (p : Ends) → p ≡ record { a = a; b = b; packets_a = []; packets_b = [] }
     → Fits p (empty_world p token_a.initial_tsn token_b.initial_tsn size_a size_b)
 fits_start config_a config_b size_a size_b remote_a remote_b token_a token_b a b joins_a joins_b is_a is_b binds_a binds_b p is =
-    fits_begin token_a.initial_tsn token_b.initial_tsn size_a size_b a b (some_size size_a token_a token_b joins_a) (some_size size_b token_b token_a joins_b)
+    fits_begin token_a.initial_tsn token_b.initial_tsn size_a size_b a b (some_size size_a _ _ _ joins_a) (some_size size_b _ _ _ joins_b)
     (stands config_a size_a size_b remote_a token_a token_b a is_a binds_a) (stands config_b size_b size_a remote_b token_b token_a b is_b binds_b)
     record { one = λ x y. done_a; other = λ x y. done_b; hears = λ d. inl done_a; heard = λ d. inl done_b } p is
   where
@@ -97,13 +98,6 @@ fits_start config_a config_b size_a size_b remote_a remote_b token_a token_b a b
         (joined_stands config size other remote own peer (subst (λ (z : Shown). Binds z (begun own.initial_tsn peer.initial_tsn)) e h))
 
 -- A client and a server
-
-created_size : (size tsn : ℕ) → create_refusal size tsn ≡ None → 0 < size
-created_size size tsn e =
-    ⊎_elim
-    (λ (b : eqb size 0 ≡ true). absurd (false≢true (sym (ap is_some e) ∙ rw b refl)))
-    (λ (b : eqb size 0 ≡ false). let n = eqb-false size 0 b in omega (arith, n))
-    (cases_Bool (eqb size 0))
 
 -- a client whose INIT waits to go out
 client_stands : (config : Settings) (size other tag own peer : ℕ) (cookie : List ℕ) (remote : SocketAddr) (now : ℕ)
@@ -153,7 +147,7 @@ pub fits_hello : (config_a config_b : Settings) (size_a size_b tag_a tag_b tsn_a
     → Fits p (empty_world p tsn_a tsn_b size_a size_b)
 unfolding sends_init
 fits_hello config_a config_b size_a size_b tag_a tag_b tsn_a tsn_b cookie_a cookie_b remote_a remote_b now a b makes_a makes_b is_a is_b binds_a binds_b p is =
-    fits_begin tsn_a tsn_b size_a size_b a b (created_size size_a tsn_a makes_a) (created_size size_b tsn_b makes_b)
+    fits_begin tsn_a tsn_b size_a size_b a b (some_size size_a _ _ _ makes_a) (some_size size_b _ _ _ makes_b)
     (subst (λ (z : Shown). StandsOpen tsn_a tsn_b z (fresh size_a) (fresh size_b)) (sym is_a)
     (client_stands config_a size_a size_b tag_a tsn_a tsn_b cookie_a remote_a now (subst (λ (z : Shown). Binds z (begun tsn_a 1)) is_a binds_a)))
     (subst (λ (z : Shown). StandsOpen tsn_b tsn_a z (fresh size_b) (fresh size_a)) (sym is_b)
