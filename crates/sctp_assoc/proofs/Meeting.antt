@@ -21,7 +21,7 @@ use Rattle.sctp_assoc.specs.Calls.{is_beginning, is_cookie_echoed, is_cookie_wai
 use Rattle.sctp_assoc.specs.Chunks.{checked_first, on_chunk}
 use Rattle.sctp_assoc.specs.Handshake.{acknowledged_cookie, answered, connected, echoed, met, on_cookie_ack, on_cookie_echo, on_init, on_init_ack, sends_cookie, with_echo}
 use Rattle.sctp_assoc.specs.Happened.{acts_of_checked}
-use Rattle.sctp_assoc.specs.Meeting.{GoesOn, Greets, GreetsOn, HasCome, IsGreeted, IsListening, IsTruthful, IsWaiting, MayHear, OneWaits, Stage, stage_of}
+use Rattle.sctp_assoc.specs.Meeting.{IsNoEarlier, Greets, GreetsOn, HasCome, IsGreeted, Listens, IsTruthful, AwaitsInitAck, MayHear, IsDoneAmongClients, Stage, stage_of}
 use Rattle.sctp_assoc.specs.Shapes.{EstablishedSidesTalk, TheSameHandshakeIsTheSameStage}
 use Rattle.sctp_assoc.specs.Shown.{Shown}
 use Rattle.sctp_assoc.proofs.Truth.{KeepsSaying, truthful_still, truthful_with}
@@ -42,28 +42,28 @@ nothing_greeted own peer t a truthful come = record {
 -- INIT: a server takes it, and an association that is established doesn't
 
 -- who takes an INIT listens: of two clients neither waits
-listens : (a : Shown) (t : Stage) → is_beginning a.state ≡ true → t.side ≡ sides.Client → OneWaits (stage_of a) t → HasCome a → IsListening a
-listens a t e client one (inl w) = absurd (true≢false (sym (one w.client client) ∙ w.begun))
-listens a t e client one (inr (inl w)) = absurd (true≢false (sym (one w.client client) ∙ w.begun))
+listens : (a : Shown) (t : Stage) → is_beginning a.state ≡ true → t.side ≡ sides.Client → IsDoneAmongClients (stage_of a) t → HasCome a → Listens a
+listens a t e client one (inl w) = absurd (true≢false (sym (one w.client client) ∙ w.incomplete))
+listens a t e client one (inr (inl w)) = absurd (true≢false (sym (one w.client client) ∙ w.incomplete))
 listens a t e client one (inr (inr (inl l))) = l
 listens a t e client one (inr (inr (inr s))) = absurd (true≢false (sym e ∙ ap is_beginning s.state))
 
-listener_is_deaf : (a : Shown) → IsListening a → MayHear (stage_of a) → ⊥
-listener_is_deaf a l (inl completed) = true≢false (sym completed ∙ l.begun)
+listener_is_deaf : (a : Shown) → Listens a → MayHear (stage_of a) → ⊥
+listener_is_deaf a l (inl completed) = true≢false (sym completed ∙ l.incomplete)
 listener_is_deaf a l (inr (client, known)) = not_both (sym client ∙ l.server)
 
 init_greets : (c : Bool) (own peer : ℕ) (t : Stage) (a : Shown) (header : CommonHeader) (init : ChunkInit) (wish : AckWish) → is_beginning a.state ≡ c
-    → Greets peer t (chunks.Init init) → OneWaits (stage_of a) t → IsTruthful own a → HasCome a
+    → Greets peer t (chunks.Init init) → IsDoneAmongClients (stage_of a) t → IsTruthful own a → HasCome a
     → IsGreeted own peer t (if c then Act.Met init.initial_tsn ∷ [] else []) a (on_init a header init wish).0
 unfolding on_init
 init_greets true own peer t a header init wish e (is, client) one truthful come =
     let b : Shown = answered (met a header init) in
     let l = listens a t e client one come in
-    let goes : GoesOn (stage_of a) (stage_of b) = record { side = refl; knows = λ k. refl; completed = λ d. d } in
+    let goes : IsNoEarlier (stage_of a) (stage_of b) = record { side = refl; knows = λ k. refl; completed = λ d. d } in
     let keeps : KeepsSaying a b = record { tsn = refl; goes = goes; offers = λ o. o; echoes = λ x. inl x } in
     rw e (record {
       truthful = truthful_with own a b _ truthful keeps refl (truthful.tsn, refl) refl;
-      come = inr (inr (inl record { server = l.server; state = l.state; begun = l.begun; issued = λ i. refl }));
+      come = inr (inr (inl record { server = l.server; state = l.state; incomplete = l.incomplete; issued = λ i. refl }));
       goes = goes;
       completes = λ d. inl d;
       learns = inr (ap (λ (n : ℕ). Act.Met n ∷ []) is, listener_is_deaf a l);
@@ -162,20 +162,20 @@ record IsMetBack (initial_tsn : ℕ) (a m : Shown) : Type 0 where
   pub offer : m.handshake.offer ≡ None
   pub echo : m.handshake.echo ≡ a.handshake.echo
 
-waits_for_it : (a : Shown) → is_cookie_wait a.state ≡ true → HasCome a → IsWaiting a
+waits_for_it : (a : Shown) → is_cookie_wait a.state ≡ true → HasCome a → AwaitsInitAck a
 waits_for_it a e (inl w) = w
 waits_for_it a e (inr (inl w)) = absurd (true≢false (sym e ∙ ap is_cookie_wait w.state))
 waits_for_it a e (inr (inr (inl l))) = absurd (true≢false (sym e ∙ ap is_cookie_wait l.state))
 waits_for_it a e (inr (inr (inr s))) = absurd (true≢false (sym e ∙ ap is_cookie_wait s.state))
 
-waiting_is_deaf : (a : Shown) → IsWaiting a → MayHear (stage_of a) → ⊥
-waiting_is_deaf a w (inl completed) = true≢false (sym completed ∙ w.begun)
+waiting_is_deaf : (a : Shown) → AwaitsInitAck a → MayHear (stage_of a) → ⊥
+waiting_is_deaf a w (inl completed) = true≢false (sym completed ∙ w.incomplete)
 waiting_is_deaf a w (inr (client, known)) = true≢false (sym known ∙ w.unknown)
 
 none_is : (o : Option Offer) → o ≡ None → is_some o ≡ true → ⊥
 none_is o e s = false≢true (ap is_some (sym e) ∙ s)
 
-echoed_greets : (o : Option (List ℕ)) (own peer : ℕ) (t : Stage) (a m : Shown) (n : ℕ) (wish : AckWish) (now : ℕ) → is_some o ≡ true → IsTruthful own a → IsWaiting a → n ≡ peer
+echoed_greets : (o : Option (List ℕ)) (own peer : ℕ) (t : Stage) (a m : Shown) (n : ℕ) (wish : AckWish) (now : ℕ) → is_some o ≡ true → IsTruthful own a → AwaitsInitAck a → n ≡ peer
     → IsMetBack n a m → IsGreeted own peer t (Act.Met n ∷ []) a (echoed o m wish now).0
 unfolding sends_cookie
 echoed_greets None own peer t a m n wish now some truthful w is met = absurd (false≢true some)
@@ -183,7 +183,7 @@ echoed_greets (Some cookie) own peer t a m n wish now some truthful w is met =
     let b : Shown = with_echo m cookie now in
     let c : ControlPacket = record { header = header_of m.handshake; chunk = chunks.CookieEcho cookie } in
     let known : is_some m.handshake.peer_initial_tsn ≡ true = ap is_some met.known in
-    let goes : GoesOn (stage_of a) (stage_of b) = record { side = met.side; knows = λ k. known; completed = λ d. met.completed ∙ d } in
+    let goes : IsNoEarlier (stage_of a) (stage_of b) = record { side = met.side; knows = λ k. known; completed = λ d. met.completed ∙ d } in
     let keeps : KeepsSaying a b = record {
       tsn = met.tsn;
       goes = goes;
@@ -195,7 +195,7 @@ echoed_greets (Some cookie) own peer t a m n wish now some truthful w is met =
       come = inr (inl record {
         client = met.side ∙ w.client;
         state = refl;
-        begun = met.completed ∙ w.begun;
+        incomplete = met.completed ∙ w.incomplete;
         unissued = met.issued ∙ w.unissued;
         known = known;
       });
@@ -205,11 +205,11 @@ echoed_greets (Some cookie) own peer t a m n wish now some truthful w is met =
     }
 
 -- with other ports it leaves all but a tag and numbers of streams
-other_ports_greet : (own peer : ℕ) (t : Stage) (a b : Shown) → IsTruthful own a → IsWaiting a → b.side ≡ a.side → b.state ≡ a.state → b.control ≡ a.control
+other_ports_greet : (own peer : ℕ) (t : Stage) (a b : Shown) → IsTruthful own a → AwaitsInitAck a → b.side ≡ a.side → b.state ≡ a.state → b.control ≡ a.control
     → b.handshake.my_initial_tsn ≡ a.handshake.my_initial_tsn → b.handshake.peer_initial_tsn ≡ a.handshake.peer_initial_tsn → b.handshake.completed ≡ a.handshake.completed
     → b.handshake.cookie_issued ≡ a.handshake.cookie_issued → b.handshake.offer ≡ a.handshake.offer → b.handshake.echo ≡ a.handshake.echo → IsGreeted own peer t [] a b
 other_ports_greet own peer t a b truthful w side state control tsn known completed issued offer echo =
-    let goes : GoesOn (stage_of a) (stage_of b) = record { side = side; knows = λ k. ap is_some known ∙ k; completed = λ d. completed ∙ d } in
+    let goes : IsNoEarlier (stage_of a) (stage_of b) = record { side = side; knows = λ k. ap is_some known ∙ k; completed = λ d. completed ∙ d } in
     record {
       truthful = truthful_still own a b truthful record {
         tsn = tsn;
@@ -220,7 +220,7 @@ other_ports_greet own peer t a b truthful w side state control tsn known complet
       come = inl record {
         client = side ∙ w.client;
         state = state ∙ w.state;
-        begun = completed ∙ w.begun;
+        incomplete = completed ∙ w.incomplete;
         unissued = issued ∙ w.unissued;
         unknown = ap is_some known ∙ w.unknown;
       };
@@ -242,7 +242,7 @@ init_ack_greets false back own peer t a header init wish now e f said truthful c
 
 -- Any chunk that its own check accepts, or refuses
 
-kind_greets : (own peer : ℕ) (t : Stage) (r : Result (Unit {0}) Error) (header : CommonHeader) (c : Chunk) (a : Shown) (wish : AckWish) (now : ℕ) → Greets peer t c → OneWaits (stage_of a) t
+kind_greets : (own peer : ℕ) (t : Stage) (r : Result (Unit {0}) Error) (header : CommonHeader) (c : Chunk) (a : Shown) (wish : AckWish) (now : ℕ) → Greets peer t c → IsDoneAmongClients (stage_of a) t
     → IsTruthful own a → HasCome a → IsGreeted own peer t (acts_of_checked r a header c) a (checked_first r a header c wish now).0
 kind_greets own peer t (Err fault) header c a wish now said one truthful come = nothing_greeted own peer t a truthful come
 kind_greets own peer t (Ok done) header (chunks.Init x) a wish now said one truthful come =
@@ -276,21 +276,21 @@ come_on : (a b : Shown) → b.side ≡ a.side → b.state ≡ a.state → b.hand
 come_on a b side state same (inl w) = inl record {
   client = side ∙ w.client;
   state = state ∙ w.state;
-  begun = ap (λ (x : Handshake). x.completed) same ∙ w.begun;
+  incomplete = ap (λ (x : Handshake). x.completed) same ∙ w.incomplete;
   unissued = ap (λ (x : Handshake). x.cookie_issued) same ∙ w.unissued;
   unknown = ap (λ (x : Handshake). is_some x.peer_initial_tsn) same ∙ w.unknown;
 }
 come_on a b side state same (inr (inl w)) = inr (inl record {
   client = side ∙ w.client;
   state = state ∙ w.state;
-  begun = ap (λ (x : Handshake). x.completed) same ∙ w.begun;
+  incomplete = ap (λ (x : Handshake). x.completed) same ∙ w.incomplete;
   unissued = ap (λ (x : Handshake). x.cookie_issued) same ∙ w.unissued;
   known = ap (λ (x : Handshake). is_some x.peer_initial_tsn) same ∙ w.known;
 })
 come_on a b side state same (inr (inr (inl l))) = inr (inr (inl record {
   server = side ∙ l.server;
   state = state ∙ l.state;
-  begun = ap (λ (x : Handshake). x.completed) same ∙ l.begun;
+  incomplete = ap (λ (x : Handshake). x.completed) same ∙ l.incomplete;
   issued = λ i. ap (λ (x : Handshake). is_some x.peer_initial_tsn) same ∙ l.issued (ap (λ (x : Handshake). x.cookie_issued) (sym same) ∙ i);
 }))
 come_on a b side state same (inr (inr (inr s))) = inr (inr (inr record {

@@ -32,7 +32,7 @@ use Rattle.sctp_assoc.specs.Chunks.{asks_or_faults, checked_first, counted_data,
 use Rattle.sctp_assoc.specs.Handshake.{after_t1_init, cookie_queued, echoed, information_returned, init_queued, on_cookie_ack, on_cookie_echo, on_heartbeat, on_init, on_init_ack, sends_cookie, sends_init, t1_cookie_expired, t1_init_expired}
 use Rattle.sctp_assoc.specs.Polled.{ack_after, ack_polled, control_packets, data_packets, data_polled, exchange_polled, is_due, packet_with, with_sent_data, without_control}
 use Rattle.sctp_assoc.specs.Timeouts.{after_handshake_timers}
-use Rattle.sctp_assoc.specs.Shapes.{GoesOnWorking, IsSameStatus, Leaves, OpenedStreamsKeepTheStatus, PollsKeepTheStatus, ReadsKeepTheStatus, TimersKeepTheStatus, ToldEventsKeepTheStatus, WritesKeepTheStatus}
+use Rattle.sctp_assoc.specs.Shapes.{KeepsWorking, IsSameStatus, Leaves, OpenedStreamsKeepTheStatus, PollsKeepTheStatus, ReadsKeepTheStatus, TimersKeepTheStatus, ToldEventsKeepTheStatus, WritesKeepTheStatus}
 use Rattle.sctp_assoc.specs.Meeting.{Greets, IsTruthful, stage_of}
 use Rattle.sctp_assoc.specs.Control.{queued}
 use Rattle.sctp_inbound.specs.Greeting.{first_cookie, information_of, init_of}
@@ -146,26 +146,26 @@ sack_status false a point window wish now e = rw e (status_same a)
 
 -- Any chunk: whether it failed, whether it was lost, and its payload size stay
 
-works_same : (a : Shown) → GoesOnWorking a a
+works_same : (a : Shown) → KeepsWorking a a
 works_same a = record { failed = refl; lost = refl; size = refl }
 
-works_by : (a b : Shown) → b.failed ≡ a.failed → b.lost ≡ a.lost → b.sender.max_payload_size ≡ a.sender.max_payload_size → GoesOnWorking a b
+works_by : (a b : Shown) → b.failed ≡ a.failed → b.lost ≡ a.lost → b.sender.max_payload_size ≡ a.sender.max_payload_size → KeepsWorking a b
 works_by a b failed lost size = record { failed = failed; lost = lost; size = size }
 
-init_works : (c : Bool) (a : Shown) (header : CommonHeader) (init : ChunkInit) (wish : AckWish) → is_beginning a.state ≡ c → GoesOnWorking a (on_init a header init wish).0
+init_works : (c : Bool) (a : Shown) (header : CommonHeader) (init : ChunkInit) (wish : AckWish) → is_beginning a.state ≡ c → KeepsWorking a (on_init a header init wish).0
 unfolding on_init
 init_works true a header init wish e = rw e (works_by a _ refl refl refl)
 init_works false a header init wish e = rw e (works_same a)
 
-cookie_works : (o : Option (List ℕ)) (a : Shown) → GoesOnWorking a (cookie_queued o a)
+cookie_works : (o : Option (List ℕ)) (a : Shown) → KeepsWorking a (cookie_queued o a)
 cookie_works None a = works_same a
 cookie_works (Some cookie) a = works_by a _ refl refl refl
 
-echo_works : (a : Shown) (now : ℕ) → GoesOnWorking a (sends_cookie a now)
+echo_works : (a : Shown) (now : ℕ) → KeepsWorking a (sends_cookie a now)
 unfolding sends_cookie
 echo_works a now = let w = cookie_works a.handshake.echo a in works_by a _ w.failed w.lost w.size
 
-echoed_works : (o : Option (List ℕ)) (a b : Shown) (wish : AckWish) (now : ℕ) → GoesOnWorking a b → GoesOnWorking a (echoed o b wish now).0
+echoed_works : (o : Option (List ℕ)) (a b : Shown) (wish : AckWish) (now : ℕ) → KeepsWorking a b → KeepsWorking a (echoed o b wish now).0
 echoed_works None a b wish now h = h
 echoed_works (Some cookie) a b wish now h =
     let c : Shown = record b { handshake = (let h = b.handshake in record h { echo = Some cookie }); state = states.CookieEchoed } in
@@ -173,7 +173,7 @@ echoed_works (Some cookie) a b wish now h =
     works_by a _ (w.failed ∙ h.failed) (w.lost ∙ h.lost) (w.size ∙ h.size)
 
 init_ack_works : (waits back : Bool) (a : Shown) (header : CommonHeader) (init : ChunkInit) (wish : AckWish) (now : ℕ) → is_cookie_wait a.state ≡ waits
-    → comes_back a.handshake header ≡ back → GoesOnWorking a (on_init_ack a header init wish now).0
+    → comes_back a.handshake header ≡ back → KeepsWorking a (on_init_ack a header init wish now).0
 unfolding on_init_ack
 init_ack_works true true a header init wish now e f =
     rw (e, f) (echoed_works (first_cookie init.params) a _ wish now (works_by a _ refl refl refl))
@@ -181,23 +181,23 @@ init_ack_works true false a header init wish now e f = rw (e, f) (works_by a _ r
 init_ack_works false back a header init wish now e f = rw e (works_same a)
 
 cookie_echo_works : (issued begins established : Bool) (a : Shown) (cookie : List ℕ) (wish : AckWish) → has_issued a.handshake cookie ≡ issued
-    → is_beginning a.state ≡ begins → is_established a.state ≡ established → GoesOnWorking a (on_cookie_echo a cookie wish).0
+    → is_beginning a.state ≡ begins → is_established a.state ≡ established → KeepsWorking a (on_cookie_echo a cookie wish).0
 unfolding on_cookie_echo
 cookie_echo_works false begins established a cookie wish e f g = rw e (works_same a)
 cookie_echo_works true true established a cookie wish e f g = rw (e, f) (works_by a _ refl refl refl)
 cookie_echo_works true false true a cookie wish e f g = rw (e, f, g) (works_by a _ refl refl refl)
 cookie_echo_works true false false a cookie wish e f g = rw (e, f, g) (works_same a)
 
-cookie_ack_works : (c : Bool) (a : Shown) (wish : AckWish) → is_cookie_echoed a.state ≡ c → GoesOnWorking a (on_cookie_ack a wish).0
+cookie_ack_works : (c : Bool) (a : Shown) (wish : AckWish) → is_cookie_echoed a.state ≡ c → KeepsWorking a (on_cookie_ack a wish).0
 unfolding on_cookie_ack
 cookie_ack_works true a wish e = rw e (works_by a _ refl refl refl)
 cookie_ack_works false a wish e = rw e (works_same a)
 
-information_works : (o : Option (List ℕ)) (a : Shown) → GoesOnWorking a (information_returned o a)
+information_works : (o : Option (List ℕ)) (a : Shown) → KeepsWorking a (information_returned o a)
 information_works None a = works_same a
 information_works (Some information) a = works_by a _ refl refl refl
 
-heartbeat_works : (a : Shown) (heartbeat : ChunkHeartbeat) (wish : AckWish) → GoesOnWorking a (on_heartbeat a heartbeat wish).0
+heartbeat_works : (a : Shown) (heartbeat : ChunkHeartbeat) (wish : AckWish) → KeepsWorking a (on_heartbeat a heartbeat wish).0
 unfolding on_heartbeat
 heartbeat_works a heartbeat wish = information_works (information_of heartbeat.params) a
 

@@ -7,7 +7,7 @@ use Rattle.sctp_wire.specs.Packets.{packet_is_plain}
 use Rattle.sctp_model.proofs.Lists.{all_join, all_weaker}
 use Rattle.sctp_inbound.specs.declared.handshake.Handshake.{Handshake}
 use Rattle.sctp_assoc.specs.declared.control.ControlPacket.{ControlPacket}
-use Rattle.sctp_assoc.specs.Meeting.{GoesOn, Greets, IsTruthful, stage_of}
+use Rattle.sctp_assoc.specs.Meeting.{IsNoEarlier, Greets, IsTruthful, stage_of}
 use Rattle.sctp_assoc.specs.Polled.{packet_with}
 use Rattle.sctp_assoc.specs.Shapes.{GreetingsStayTrue}
 use Rattle.sctp_assoc.specs.Shown.{Shown}
@@ -35,12 +35,12 @@ greetings_stay_true own s t (chunks.Other kind flags value) g n = absurd n
 -- What b keeps of what a says.
 pub record KeepsSaying (a b : Shown) : Type 0 where
   pub tsn : b.handshake.my_initial_tsn ≡ a.handshake.my_initial_tsn
-  pub goes : GoesOn (stage_of a) (stage_of b)
+  pub goes : IsNoEarlier (stage_of a) (stage_of b)
   pub offers : is_some b.handshake.offer ≡ true → is_some a.handshake.offer ≡ true
   pub echoes : is_some b.handshake.echo ≡ true → (is_some a.handshake.echo ≡ true) ⊎ ((b.side ≡ sides.Client) × (is_some b.handshake.peer_initial_tsn ≡ true))
 
 -- the same side with the same handshake says what it said
-pub same_stage : (a b : Shown) → b.side ≡ a.side → b.handshake ≡ a.handshake → GoesOn (stage_of a) (stage_of b)
+pub same_stage : (a b : Shown) → b.side ≡ a.side → b.handshake ≡ a.handshake → IsNoEarlier (stage_of a) (stage_of b)
 same_stage a b side same = record {
   side = side;
   knows = λ k. ap (λ (h : Handshake). is_some h.peer_initial_tsn) same ∙ k;

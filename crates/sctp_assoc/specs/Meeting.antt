@@ -1,4 +1,4 @@
--- How far the handshake of a side of a pair has come, and what its packets say of that side (RFC 4960 section 5.1).
+-- How far the handshake of a side has come, and what its packets say of that side (RFC 4960 section 5.1).
 use Rattle.std.specs.Prelude.{◌≡◌, ◌⊎◌, ℕ, Bool, true, false, is_some, List, [], ◌∷◌}
 use Rattle.std.specs.List.{AllByRecursion}
 use Rattle.sctp_wire_types.specs.declared.chunk.Chunk.{Chunk}
@@ -25,7 +25,7 @@ abbrev pub stage_of : Shown → Stage
 stage_of a = record { side = a.side; knows = is_some a.handshake.peer_initial_tsn; completed = a.handshake.completed }
 
 -- t is s, or a later stage of the same side
-pub record GoesOn (s t : Stage) : Type 0 where
+pub record IsNoEarlier (s t : Stage) : Type 0 where
   pub side : t.side ≡ s.side
   pub knows : s.knows ≡ true → t.knows ≡ true
   pub completed : s.completed ≡ true → t.completed ≡ true
@@ -40,7 +40,8 @@ Greets own s (chunks.CookieEcho cookie) = (s.side ≡ sides.Client) × (s.knows 
 Greets own s chunks.CookieAck = s.completed ≡ true
 Greets own s chunk = ⊥
 
--- What waits to go out says what is so, and what a timer sends again would.
+-- Its initial TSN is own. Each packet that waits to go out says what is so, and keeps nothing under `Other` whose type has a variant
+-- of its own; an INIT is kept for its timer by a client alone, and a COOKIE ECHO by a client that knows the peer's initial TSN.
 pub record IsTruthful (own : ℕ) (a : Shown) : Type 0 where
   pub tsn : a.handshake.my_initial_tsn ≡ own
   pub says : AllByRecursion (λ (c : ControlPacket). Greets own (stage_of a) c.chunk) a.control
@@ -48,40 +49,41 @@ pub record IsTruthful (own : ℕ) (a : Shown) : Type 0 where
   pub offers : is_some a.handshake.offer ≡ true → a.side ≡ sides.Client
   pub echoes : is_some a.handshake.echo ≡ true → (a.side ≡ sides.Client) × (is_some a.handshake.peer_initial_tsn ≡ true)
 
--- A client that waits for INIT ACK.
-pub record IsWaiting (a : Shown) : Type 0 where
+-- A client that waits for INIT ACK, and answered no INIT.
+pub record AwaitsInitAck (a : Shown) : Type 0 where
   pub client : a.side ≡ sides.Client
   pub state : a.state ≡ states.CookieWait
-  pub begun : a.handshake.completed ≡ false
+  pub incomplete : a.handshake.completed ≡ false
   pub unissued : a.handshake.cookie_issued ≡ false
   pub unknown : is_some a.handshake.peer_initial_tsn ≡ false
 
--- A client that waits for COOKIE ACK.
-pub record IsEchoing (a : Shown) : Type 0 where
+-- A client that waits for COOKIE ACK, and answered no INIT.
+pub record AwaitsCookieAck (a : Shown) : Type 0 where
   pub client : a.side ≡ sides.Client
   pub state : a.state ≡ states.CookieEchoed
-  pub begun : a.handshake.completed ≡ false
+  pub incomplete : a.handshake.completed ≡ false
   pub unissued : a.handshake.cookie_issued ≡ false
   pub known : is_some a.handshake.peer_initial_tsn ≡ true
 
 -- A server that waits for INIT, or for COOKIE ECHO.
-pub record IsListening (a : Shown) : Type 0 where
+pub record Listens (a : Shown) : Type 0 where
   pub server : a.side ≡ sides.Server
   pub state : a.state ≡ states.Closed
-  pub begun : a.handshake.completed ≡ false
+  pub incomplete : a.handshake.completed ≡ false
   pub issued : a.handshake.cookie_issued ≡ true → is_some a.handshake.peer_initial_tsn ≡ true
 
 -- An association that is established.
-pub record IsTalking (a : Shown) : Type 0 where
+pub record IsEstablished (a : Shown) : Type 0 where
   pub state : a.state ≡ states.Established
   pub completed : a.handshake.completed ≡ true
   pub known : is_some a.handshake.peer_initial_tsn ≡ true
 
 -- how far the handshake has come
 abbrev pub HasCome : Shown → Type 0
-HasCome a = IsWaiting a ⊎ (IsEchoing a ⊎ (IsListening a ⊎ IsTalking a))
+HasCome a = AwaitsInitAck a ⊎ (AwaitsCookieAck a ⊎ (Listens a ⊎ IsEstablished a))
 
--- DATA may come to a side in this stage: it is established or was, or it is a client that echoes the peer's cookie
+-- DATA may come to a side in this stage: it is established or was, or it is a client that knows the peer's initial TSN, and echoes its
+-- cookie (DATA may overtake COOKIE ACK, RFC 4960 section 5.1)
 abbrev pub MayHear : Stage → Type 0
 MayHear s = (s.completed ≡ true) ⊎ ((s.side ≡ sides.Client) × (s.knows ≡ true))
 
@@ -90,20 +92,21 @@ abbrev pub IsLearning : ℕ → List Act → Shown → Shown → Type 0
 IsLearning peer acts a b =
     ((acts ≡ []) × (b.handshake.peer_initial_tsn ≡ a.handshake.peer_initial_tsn)) ⊎ ((acts ≡ Act.Met peer ∷ []) × (MayHear (stage_of a) → ⊥))
 
--- A packet of the handshake of a peer in the stage t led the association a by these acts to b: what waits stays truthful, and the
--- handshake goes on. Where that completes it, the peer may hear.
+-- A chunk of the handshake of a peer in the stage t led the association a by these acts to b: what waits stays truthful, and its stage
+-- is no earlier one. Where that establishes it, its DATA may come to the peer.
 pub record IsGreeted (own peer : ℕ) (t : Stage) (acts : List Act) (a b : Shown) : Type 0 where
   pub truthful : IsTruthful own b
   pub come : HasCome b
-  pub goes : GoesOn (stage_of a) (stage_of b)
+  pub goes : IsNoEarlier (stage_of a) (stage_of b)
   pub completes : b.handshake.completed ≡ true → (a.handshake.completed ≡ true) ⊎ MayHear t
   pub learns : IsLearning peer acts a b
 
--- where both sides are clients the first one is established or was
-abbrev pub OneWaits : Stage → Stage → Type 0
-OneWaits s t = s.side ≡ sides.Client → t.side ≡ sides.Client → s.completed ≡ true
+-- if both sides are clients, the first one is established or was
+abbrev pub IsDoneAmongClients : Stage → Stage → Type 0
+IsDoneAmongClients s t = s.side ≡ sides.Client → t.side ≡ sides.Client → s.completed ≡ true
 
--- A chunk that made b of a leads the handshake on, where a peer in the stage t says it truthfully.
+-- A chunk that made b of a leads the handshake on where a peer in the stage t says it truthfully, and where a is truthful, too, and not
+-- one of two clients that wait.
 abbrev pub GreetsOn : CommonHeader → Chunk → Shown → Shown → Type 0
-GreetsOn header chunk a b = (own peer : ℕ) (t : Stage) → Greets peer t chunk → OneWaits (stage_of a) t → IsTruthful own a → HasCome a
+GreetsOn header chunk a b = (own peer : ℕ) (t : Stage) → Greets peer t chunk → IsDoneAmongClients (stage_of a) t → IsTruthful own a → HasCome a
     → IsGreeted own peer t (acts_of_chunk a header chunk) a b

@@ -22,7 +22,7 @@ use Rattle.sctp_assoc.specs.Calls.{closed_by, event_polled, is_closed_state, is_
 use Rattle.sctp_assoc.specs.Chunks.{after_packet, ended, on_chunk}
 use Rattle.sctp_assoc.specs.Happened.{Polls, acts_of_chunk, acts_of_poll, acts_of_timeouts}
 use Rattle.sctp_assoc.specs.Inbound.{taken_packet}
-use Rattle.sctp_assoc.specs.Meeting.{GoesOn, Greets, GreetsOn, HasCome, IsTalking, IsTruthful, Stage, stage_of}
+use Rattle.sctp_assoc.specs.Meeting.{IsNoEarlier, Greets, GreetsOn, HasCome, IsEstablished, IsTruthful, Stage, stage_of}
 use Rattle.sctp_assoc.specs.Polled.{AreControlReadAgain, WaitPlainly, control_packets, is_due, polled, without_control}
 use Rattle.sctp_assoc.specs.Shown.{Shown}
 use Rattle.sctp_assoc.specs.Timeouts.{after_timeouts}
@@ -46,13 +46,13 @@ abbrev pub TheSameHandshakeIsTheSameStage : Type 0
 TheSameHandshakeIsTheSameStage = (a b : Shown) → b.side ≡ a.side → b.handshake ≡ a.handshake
     → (stage_of b ≡ stage_of a) × (b.state ≡ a.state → HasCome a → HasCome b)
 
--- In Established it is over.
+-- In Established the handshake is complete, and the peer's initial TSN is known.
 abbrev pub EstablishedSidesTalk : Type 0
-EstablishedSidesTalk = (a : Shown) → is_established a.state ≡ true → HasCome a → IsTalking a
+EstablishedSidesTalk = (a : Shown) → is_established a.state ≡ true → HasCome a → IsEstablished a
 
 -- What a side said of itself stays so in its later stages.
 abbrev pub GreetingsStayTrue : Type 0
-GreetingsStayTrue = (own : ℕ) (s t : Stage) (chunk : Chunk) → GoesOn s t → Greets own s chunk → Greets own t chunk
+GreetingsStayTrue = (own : ℕ) (s t : Stage) (chunk : Chunk) → IsNoEarlier s t → Greets own s chunk → Greets own t chunk
 
 -- The application's calls, timers and polls leave the status; of these, events that are told and timers leave the streams, too.
 abbrev pub OpenedStreamsKeepTheStatus : Type 0
@@ -122,7 +122,7 @@ WhatHoldsNothingGivesNothing = (a : Shown) (id : ℕ) → IsLive a id → HoldsN
 -- The chunks of a packet
 
 -- What any chunk leaves: whether it failed, whether it was lost, and its payload size.
-pub record GoesOnWorking (a b : Shown) : Type 0 where
+pub record KeepsWorking (a b : Shown) : Type 0 where
   pub failed : b.failed ≡ a.failed
   pub lost : b.lost ≡ a.lost
   pub size : b.sender.max_payload_size ≡ a.sender.max_payload_size
@@ -131,9 +131,9 @@ pub record GoesOnWorking (a b : Shown) : Type 0 where
 abbrev pub Leaves : Chunk → Shown → Shown → Type 0
 Leaves (chunks.Data piece) a b = IsSameStatus a b
 Leaves (chunks.SelectiveAck sack) a b = IsSameStatus a b
-Leaves chunk a b = GoesOnWorking a b
+Leaves chunk a b = KeepsWorking a b
 
--- A chunk of a packet with this header made b of the association a: by its acts, and one of a handshake leads that on.
+-- A chunk of a packet with this header made b of the association a: by its acts, and where it is one of a handshake, that goes on.
 pub record TakesChunk (header : CommonHeader) (chunk : Chunk) (a b : Shown) : Type 0 where
   pub leads : LeadsOn (acts_of_chunk a header chunk) a b
   pub leaves : Leaves chunk a b
@@ -152,7 +152,7 @@ pub record EndsPacket (a b : Shown) : Type 0 where
 abbrev pub PacketsEnd : Type 0
 PacketsEnd = (a : Shown) (wish : AckWish) (now : ℕ) → EndsPacket a (ended a wish now)
 
--- It is closed and lost, and no stream is live.
+-- It is closed and lost, no stream is live, and nothing waits to go out.
 pub record IsEnded (b : Shown) : Type 0 where
   pub closed : is_closed_state b.state ≡ true
   pub unestablished : is_established b.state ≡ false

@@ -13,14 +13,14 @@ after_handshake_timers a now = after_t1_cookie (after_t1_init a now) now
 abbrev pub after_timeouts : Shown → ℕ → Shown
 after_timeouts a now = after_ack_delay (after_t3 (after_handshake_timers a now) now) now
 
--- INIT is to go out again: its timer expired within its limit
+-- INIT is to go out again: its timer expired within its limit (RFC 4960 section 5.1)
 abbrev pub offers_again : Shown → ℕ → Bool
 offers_again a now = is_some a.handshake.offer && ((expiry_of names.T1Init now a.timers).0 && not (expiry_of names.T1Init now a.timers).1)
 
--- COOKIE ECHO is
+-- COOKIE ECHO is to go out again: its timer expired within its limit
 abbrev pub echoes_again : Shown → ℕ → Bool
 echoes_again a now = is_some a.handshake.echo && ((expiry_of names.T1Cookie now a.timers).0 && not (expiry_of names.T1Cookie now a.timers).1)
 
--- a packet of the handshake is
-abbrev pub greets_again : Shown → ℕ → Bool
-greets_again a now = offers_again a now || echoes_again (after_t1_init a now) now
+-- INIT or COOKIE ECHO is to go out again; the timer of INIT is looked at first
+abbrev pub handshake_goes_out_again : Shown → ℕ → Bool
+handshake_goes_out_again a now = offers_again a now || echoes_again (after_t1_init a now) now

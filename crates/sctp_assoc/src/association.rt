@@ -14,7 +14,7 @@ ghost use Rattle.sctp_assoc.specs.Join.{create_refusal, created, fresh_associati
 ghost use Rattle.sctp_assoc.specs.Lending.{rests_if_refused, lent, lender, id_of};
 ghost use Rattle.sctp_assoc.specs.Polled.{IsAddressed, packets_of, polled};
 ghost use Rattle.sctp_assoc.specs.Shown.{HasFailed};
-ghost use Rattle.sctp_assoc.specs.Timeouts.{after_timeouts, greets_again};
+ghost use Rattle.sctp_assoc.specs.Timeouts.{after_timeouts, handshake_goes_out_again};
 
 use crate::control::ControlPacket;
 use crate::{AssociationEvent, ServerConfig, Stream};
@@ -335,13 +335,14 @@ impl Association {
         }
     }
 
-    /// Does what the timers that expired by `now` ask for.
+    /// Does what the timers that expired by `now` ask for. It lacks memory only where INIT or COOKIE ECHO is to go out again
+    /// (RFC 4960 section 5.1).
     #[tactic(auto, using(crate::proofs::Joining::timeouts_lead_on))]
     pub fn handle_timeout(&mut self, now: Instant) -> Result<(), Error>
         ensures failed { IsErrOf result Error.ErrAssociationFailed ↔ (self.old.failed ≡ true) }
         ensures refused { IsErrOf result Error.ErrAssociationFailed → self.new ≡ self.old }
         ensures memory { IsErrOf result Error.ErrNoMemory → HasFailed self.old.state self.old.lost self.new }
-        ensures again { IsErrOf result Error.ErrNoMemory → greets_again self.old now ≡ true }
+        ensures again { IsErrOf result Error.ErrNoMemory → handshake_goes_out_again self.old now ≡ true }
         ensures only { OnErr result ((result ≡ Err Error.ErrAssociationFailed) ⊎ (result ≡ Err Error.ErrNoMemory)) }
         ensures ok { OnOk result (self.new ≡ after_timeouts self.old now) }
         ensures acts { OnOk result (LeadsOn (acts_of_timeouts self.old now) self.old self.new) }
@@ -359,7 +360,7 @@ impl Association {
 
     fn on_timers(&mut self, now: Instant) -> Result<(), AllocError>
         ensures exact { OnOk result (self.new ≡ after_timeouts self.old now) }
-        ensures again { OnErr result (greets_again self.old now ≡ true) }
+        ensures again { OnErr result (handshake_goes_out_again self.old now ≡ true) }
     {
         self.on_t1_init(now)?;
         self.on_t1_cookie(now)?;

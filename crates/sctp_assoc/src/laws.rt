@@ -31,7 +31,7 @@ pub fn sacks_name_the_point()
     ensures due { DueSacksGoOut }
 {}
 
-/// Status: whether it failed, its state, whether it was lost, its payload size and its handshake change by no call of the
+/// Status: whether it failed, its state, whether it was lost, its payload size, its side and its handshake change by no call of the
 /// application, by no timer and by no poll, and what waits to go out stays truthful.
 pub fn calls_keep_the_status()
     ensures opened { OpenedStreamsKeepTheStatus }
@@ -42,9 +42,9 @@ pub fn calls_keep_the_status()
     ensures polled { PollsKeepTheStatus }
 {}
 
-/// Stages: what a side's packets tell of its handshake stays so, and where the handshake stays so does its stage (RFC 4960
-/// section 5.1).
-pub fn handshakes_go_on()
+/// Stages: a side's stage never goes back, and what its packets said of it stays so (RFC 4960 section 5.1). Where the handshake is
+/// the same, so is the stage.
+pub fn stages_never_go_back()
     ensures same { TheSameHandshakeIsTheSameStage }
     ensures established { EstablishedSidesTalk }
     ensures greetings { GreetingsStayTrue }
@@ -63,7 +63,8 @@ pub fn nothing_comes_of_nothing()
     ensures read { WhatHoldsNothingGivesNothing }
 {}
 
-/// Packets: each chunk leads on by its acts, one of a handshake leads that on, and so does the end; a fault closes, and an association that was lost takes nothing.
+/// Packets: each chunk leads on by its acts, and so does the end; where a chunk is one of a truthful peer's handshake, that goes on.
+/// A fault closes, and an association that was lost takes nothing.
 pub fn packets_lead_on()
     ensures chunks { ChunksLeadOn }
     ensures ends { PacketsEnd }

@@ -189,11 +189,12 @@ PlainEventsKeepItPlain = (w : Direction) (e : Event) → IsPlainEvent w e → Is
 abbrev pub EventsKeepTheLimits : Type 0
 EventsKeepTheLimits = (w : Direction) (e : Event) → KeepsWithin e → IsWithin w → IsWithin (happens w e)
 
--- Where fewer messages were accepted than offsets may be outstanding, the numbers of a plain direction are within their limits.
+-- Where fewer than 16,384 messages were accepted in a plain direction that has the invariant, it is within the limits.
 abbrev pub FewMessagesStayWithin : Type 0
 FewMessagesStayWithin = (n : ℕ) (w : Direction) → n < 16384 → HasAccepted n w → Invariant w → IsPlain w → IsWithin w
 
--- A direction in which nothing happened has no message, and one in which one stream has at most k messages more has at most k more.
+-- A direction in which nothing happened has no message, and one in which one stream has at most k messages more, and the others are as
+-- they were, has at most k more.
 abbrev pub NothingIsAcceptedAtFirst : Type 0
 NothingIsAcceptedAtFirst = (size : ℕ) → HasAccepted 0 (fresh size)
 

@@ -49,7 +49,8 @@ pub fn events_at_the_receiver_leave_the_sender()
     ensures closed { ClosedReceiversAreNotOpen }
 {}
 
-/// Accepted messages can be counted, and a direction of fewer than 16,384 is within the limits.
+/// Accepted messages can be counted, and a plain direction that has the invariant and fewer than 16,384 messages is within the
+/// limits.
 pub fn few_messages_stay_within()
     ensures first { NothingIsAcceptedAtFirst }
     ensures counted { AcceptedMessagesAreCounted }

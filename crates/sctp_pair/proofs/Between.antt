@@ -10,14 +10,14 @@ use Rattle.sctp_model.specs.Invariants.{Invariant}
 use Rattle.sctp_model.specs.Safe.{IsWithin}
 use Rattle.sctp_assoc.specs.Acts.{Parts, parts}
 use Rattle.sctp_assoc.specs.Calls.{is_established}
-use Rattle.sctp_assoc.specs.Meeting.{GoesOn, Stage}
+use Rattle.sctp_assoc.specs.Meeting.{IsNoEarlier, Stage}
 use Rattle.sctp_assoc.specs.Shown.{Shown}
 use Rattle.sctp_directions.specs.Events.{Accepts, Brings, GivesAMessage, IsAtReceiver, IsAtSender}
 use Rattle.sctp_directions.specs.Plain.{IsPlain}
 use Rattle.sctp_directions.specs.Outgoing.{FitsOutgoing}
 use Rattle.sctp_directions.specs.Incoming.{FitsIncoming, IsReadAs}
 use Rattle.sctp_directions.proofs.Proved.{only_reads_give_messages, only_what_is_brought_is_taken_in, only_writes_accept, receivers_events_are_received, senders_events_are_sent}
-use Rattle.sctp_pair.specs.Fits.{IsAt, IsSilent, Meets, Stands, StandsClosed, StandsFailed, StandsOpen}
+use Rattle.sctp_pair.specs.Fits.{IsAt, IsSilent, StagesAgree, Stands, StandsClosed, StandsFailed, StandsOpen}
 
 -- What stays and what grows of a direction by events that neither accept nor read: what they take in was there, or was brought.
 pub record Goes (Brought : ℕ → Type 0) (w v : Direction) : Type 0 where
@@ -212,9 +212,9 @@ pub record Settles (own peer : ℕ) (here there : Stage) (b y : Shown) (out comi
   pub plain_coming : IsPlain coming2
   pub stands : Stands own peer b out2 coming2
   pub other : Stands peer own y coming2 out2
-  pub goes : GoesOn here here2
+  pub goes : IsNoEarlier here here2
   pub at : IsAt b here2
-  pub meets : Meets here2 there
+  pub meets : StagesAgree here2 there
   -- no offset is assigned where the association isn't established afterwards, and none of the other side's ever
   pub no_more : ((is_established b.state ≡ true) × StandsOpen own peer b out2 coming2) ⊎ (out2.sender.plan.places ≡ out.sender.plan.places)
   pub coming_still : coming2.sender ≡ coming.sender
@@ -230,5 +230,5 @@ pub record Faces (own peer : ℕ) (here there : Stage) (a y : Shown) (out coming
   pub stands : Stands own peer a out coming
   pub other : Stands peer own y coming out
   pub at : IsAt a here
-  pub meets : Meets here there
+  pub meets : StagesAgree here there
   pub silent : IsSilent there coming

@@ -17,7 +17,7 @@ use Rattle.sctp_pair.specs.declared.step.Step.TheVariants as steps
 use Rattle.sctp_pair.specs.Ends.{Ends, end_of}
 use Rattle.sctp_pair.specs.Steps.{Runs, Steps}
 use Rattle.sctp_pair.specs.World.{IsWithinLimits, World, accepted_at, empty_world, is_side, messages_on}
-use Rattle.sctp_pair.specs.Counted.{AreFew, FitsCounted, LeadsCounted, RunsCounted, writes_in, writes_of}
+use Rattle.sctp_pair.specs.Counted.{FitsCounted, LeadsCounted, RunsCounted, writes_of}
 use Rattle.sctp_pair.specs.Fits.{Fits}
 use Rattle.sctp_pair.proofs.Assembled.{step_leads}
 
@@ -90,29 +90,38 @@ step_counted x (steps.IsDrained side) n r w before after same a = none_counted n
 step_counted x (steps.IsFailed side) n r w before after same a = none_counted n before after same a
 step_counted x (steps.Rtt side) n r w before after same a = none_counted n before after same a
 
--- A step leads to a safe world where few messages were accepted.
-pub step_leads_counted : (step : Step) (p q : Ends) (r : Reply) → Steps step p r q → (n m : ℕ) (w : World) → FitsCounted n m p w
-    → AreFew (n + writes_of sides.A step r) (m + writes_of sides.B step r) → LeadsCounted step r w n m q
-step_leads_counted step p q r h n m w f (few_a, few_b) =
+-- A step leads to a world that is safe where few messages were accepted.
+pub step_leads_counted : (step : Step) (p q : Ends) (r : Reply) → Steps step p r q → (n m : ℕ) (w : World) → FitsCounted n m p w → LeadsCounted step r w n m q
+step_leads_counted step p q r h n m w f =
     let x = step_leads step p q r h w f.fits in
     let v : World = x.0 in
     let a = step_counted sides.A step n r w w.ab v.ab x.1.ab_step.accepted f.of_a in
-    let b = step_counted sides.B step m r w w.ba v.ba x.1.ba_step.accepted f.of_b in
-    let within : IsWithinLimits v = (
-      few_messages_stay_within (n + writes_of sides.A step r) v.ab few_a a x.2.invariant_ab x.2.plain_ab,
-      few_messages_stay_within (m + writes_of sides.B step r) v.ba few_b b x.2.invariant_ba x.2.plain_ba,
-    ) in
-    (v, x.1, x.3 within, record { fits = record { within = within; stand = x.2 }; of_a = a; of_b = b })
+    let b = step_counted sides.B step m r w w.ba v.ba x.1.ba_step.accepted f.of_b in (
+      v,
+      x.1,
+      λ few.
+          let within : IsWithinLimits v = (
+            few_messages_stay_within (n + writes_of sides.A step r) v.ab few.0 a x.2.invariant_ab x.2.plain_ab,
+            few_messages_stay_within (m + writes_of sides.B step r) v.ba few.1 b x.2.invariant_ba x.2.plain_ba,
+          ) in
+          (x.3 within, record { fits = record { within = within; stand = x.2 }; of_a = a; of_b = b }),
+    )
 
 -- So does a row of steps.
-pub runs_lead_counted : (ss : List Step) (rs : List Reply) (p q : Ends) → Runs ss rs p q → (n m : ℕ) (w : World) → FitsCounted n m p w
-    → AreFew (n + writes_in sides.A ss rs) (m + writes_in sides.B ss rs) → RunsCounted ss rs w n m q
-runs_lead_counted [] [] p q e n m w fits few = subst (λ (z : Ends). FitsCounted n m z w) (sym e) fits
-runs_lead_counted (s ∷ ss) (r ∷ rs) p q (u, first, rest) n m w fits (few_a, few_b) =
-    let x = step_leads_counted s p u r first n m w fits (omega arith, omega arith) in
-    (x.0, x.1, x.2, runs_lead_counted ss rs u q rest (n + writes_of sides.A s r) (m + writes_of sides.B s r) x.0 x.3 (omega arith, omega arith))
-runs_lead_counted [] (r ∷ rs) p q h n m w fits few = absurd h
-runs_lead_counted (s ∷ ss) [] p q h n m w fits few = absurd h
+pub runs_lead_counted : (ss : List Step) (rs : List Reply) (p q : Ends) → Runs ss rs p q → (n m : ℕ) (w : World) → FitsCounted n m p w → RunsCounted ss rs w n m q
+runs_lead_counted [] [] p q e n m w fits = subst (λ (z : Ends). FitsCounted n m z w) (sym e) fits
+runs_lead_counted (s ∷ ss) (r ∷ rs) p q (u, first, rest) n m w fits =
+    let x = step_leads_counted s p u r first n m w fits in
+    let a : ℕ = n + writes_of sides.A s r in
+    let b : ℕ = m + writes_of sides.B s r in (
+      x.0,
+      x.1,
+      λ few.
+          let next = x.2 few in
+          (next.0, subst (λ (z : Ends). FitsCounted a b z x.0) next.1.fits.stand.is next.1, runs_lead_counted ss rs u q rest a b x.0 next.1),
+    )
+runs_lead_counted [] (r ∷ rs) p q h n m w fits = absurd h
+runs_lead_counted (s ∷ ss) [] p q h n m w fits = absurd h
 
 -- A pair that fits the empty world fits it with no message.
 pub fits_with_none : (p : Ends) (initial_a initial_b size_a size_b : ℕ) → Fits p (empty_world p initial_a initial_b size_a size_b)

@@ -11,12 +11,12 @@ use Rattle.sctp_model.proofs.Proved.{each_event_keeps_the_invariant}
 use Rattle.sctp_assoc.specs.Acts.{Parts, parts}
 use Rattle.sctp_assoc.specs.Calls.{is_closed_state}
 use Rattle.sctp_assoc.specs.Chunks.{after_packet}
-use Rattle.sctp_assoc.specs.Meeting.{GoesOn, Stage, stage_of}
+use Rattle.sctp_assoc.specs.Meeting.{IsNoEarlier, Stage, stage_of}
 use Rattle.sctp_assoc.specs.Shapes.{Closes, EndsPacket, IsEnded, OfEachChunk}
 use Rattle.sctp_assoc.specs.Shown.{Shown}
 use Rattle.sctp_assoc.proofs.Proved.{lost_associations_take_nothing, no_packet_changes_nothing, packets_carry, the_same_handshake_is_the_same_stage}
 use Rattle.sctp_directions.proofs.Proved.{closed_receivers_are_not_open, plain_events_keep_it_plain, receivers_events_are_received}
-use Rattle.sctp_pair.specs.Fits.{IsSaidBy, Meets, StandsClosed, StandsFailed, StandsOpen}
+use Rattle.sctp_pair.specs.Fits.{IsSaidBy, StagesAgree, StandsClosed, StandsFailed, StandsOpen}
 use Rattle.sctp_pair.specs.declared.step.Reply.{Reply}
 use Rattle.sctp_pair.specs.declared.step.Reply.TheVariants as replies
 use Rattle.sctp_pair.specs.Steps.{Fails, HadFailed, TakesPacket}
@@ -132,8 +132,8 @@ start_step {here} {there} own peer a y out coming B f s = record {
   places_same = refl;
   coming_still = refl;
   silent = f.silent;
-  goes = subst (GoesOn here) (sym (f.at s.working)) (stays_put here);
-  meets = subst (λ (z : Stage). Meets z there) (sym (f.at s.working)) f.meets;
+  goes = subst (IsNoEarlier here) (sym (f.at s.working)) (stays_put here);
+  meets = subst (λ (z : Stage). StagesAgree z there) (sym (f.at s.working)) f.meets;
   stands = s;
   holds = record {
     own_is = s.own_is;

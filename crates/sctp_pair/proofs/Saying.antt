@@ -7,7 +7,7 @@ use Rattle.sctp_wire.specs.declared.packet.Packet.{Packet}
 use Rattle.sctp_model.specs.Packets.{Data, Sack}
 use Rattle.sctp_model.specs.Machine.{Direction}
 use Rattle.sctp_model.proofs.Lists.{all_weaker}
-use Rattle.sctp_assoc.specs.Meeting.{GoesOn, Stage}
+use Rattle.sctp_assoc.specs.Meeting.{IsNoEarlier, Stage}
 use Rattle.sctp_assoc.specs.Shapes.{OfEachChunk}
 use Rattle.sctp_assoc.proofs.Proved.{greetings_stay_true}
 use Rattle.sctp_directions.specs.Said.{Says}
@@ -44,20 +44,20 @@ chunk_grows own peer out coming out2 coming2 datas sacks (chunks.IForwardTsn c) 
 chunk_grows own peer out coming out2 coming2 datas sacks (chunks.Other kind flags value) h = absurd h
 
 -- a chunk of the handshake says it of a later stage, too
-said_by_grows : (own peer : ℕ) (s t : Stage) (out coming out2 coming2 : Direction) → GoesOn s t → KeepsDatas out out2 → KeepsSacks coming coming2 → (c : Chunk)
+said_by_grows : (own peer : ℕ) (s t : Stage) (out coming out2 coming2 : Direction) → IsNoEarlier s t → KeepsDatas out out2 → KeepsSacks coming coming2 → (c : Chunk)
     → IsSaidBy own peer s out coming c → IsSaidBy own peer t out2 coming2 c
 said_by_grows own peer s t out coming out2 coming2 goes datas sacks c (inl said) = inl (chunk_grows own peer out coming out2 coming2 datas sacks c said)
 said_by_grows own peer s t out coming out2 coming2 goes datas sacks c (inr greets) = inr (greetings_stay_true own s t c goes greets)
 
 -- one packet
-packet_grows : (own peer : ℕ) (s t : Stage) (out coming out2 coming2 : Direction) → GoesOn s t → KeepsDatas out out2 → KeepsSacks coming coming2 → (packet : Option Packet)
+packet_grows : (own peer : ℕ) (s t : Stage) (out coming out2 coming2 : Direction) → IsNoEarlier s t → KeepsDatas out out2 → KeepsSacks coming coming2 → (packet : Option Packet)
     → OfEachChunk (IsSaidBy own peer s out coming) packet → OfEachChunk (IsSaidBy own peer t out2 coming2) packet
 packet_grows own peer s t out coming out2 coming2 goes datas sacks None h = h
 packet_grows own peer s t out coming out2 coming2 goes datas sacks (Some packet) h =
     all_weaker (IsSaidBy own peer s out coming) (IsSaidBy own peer t out2 coming2) packet.chunks (said_by_grows own peer s t out coming out2 coming2 goes datas sacks) h
 
 -- Packets that say what their directions have, and what is so of their side's handshake, say it of what these became.
-pub said_grows : (own peer : ℕ) (s t : Stage) (out coming out2 coming2 : Direction) (packets : List (List ℕ)) → GoesOn s t → KeepsDatas out out2 → KeepsSacks coming coming2
+pub said_grows : (own peer : ℕ) (s t : Stage) (out coming out2 coming2 : Direction) (packets : List (List ℕ)) → IsNoEarlier s t → KeepsDatas out out2 → KeepsSacks coming coming2
     → AreSaid own peer s out coming packets → AreSaid own peer t out2 coming2 packets
 said_grows own peer s t out coming out2 coming2 packets goes datas sacks h =
     all_weaker

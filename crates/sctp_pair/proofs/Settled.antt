@@ -8,7 +8,7 @@ use Rattle.sctp_model.specs.Serial.{tsn}
 use Rattle.sctp_model.specs.Machine.{Direction, Sender}
 use Rattle.sctp_model.proofs.Lists.{all_join}
 use Rattle.sctp_assoc.specs.Calls.{is_established}
-use Rattle.sctp_assoc.specs.Meeting.{GoesOn, Stage}
+use Rattle.sctp_assoc.specs.Meeting.{IsNoEarlier, Stage}
 use Rattle.sctp_assoc.specs.Shapes.{OfEachChunk}
 use Rattle.sctp_assoc.specs.Shown.{Shown}
 use Rattle.sctp_assoc.proofs.Proved.{established_is_not_closed, established_sides_talk}
@@ -93,7 +93,7 @@ is_open own peer b out coming before (inl (established, s)) = inl (s.working, es
 is_open own peer b out coming before (inr e) = inr e
 
 -- Who was never established goes on to be silent.
-silent_on : (own peer : ℕ) (s t : Stage) (b : Shown) (out coming before : Direction) → GoesOn s t → IsAt b t
+silent_on : (own peer : ℕ) (s t : Stage) (b : Shown) (out coming before : Direction) → IsNoEarlier s t → IsAt b t
     → ((is_established b.state ≡ true) × StandsOpen own peer b out coming) ⊎ (out.sender.plan.places ≡ before.sender.plan.places) → IsSilent s before → IsSilent t out
 silent_on own peer s t b out coming before goes at (inl (established, h)) silent never =
     absurd (true≢false (sym (established_sides_talk b established h.come).completed ∙ ap (λ (z : Stage). z.completed) (at h.working) ∙ never))

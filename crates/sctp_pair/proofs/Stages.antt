@@ -3,16 +3,16 @@ use Rattle.std.proofs.Common.{◌≡◌, refl, sym, ap, ◌∙◌, inl, inr, tru
 use Rattle.std.proofs.lemmas.Bool.{true≢false}
 use Rattle.sctp_wire_types.specs.declared.chunk.Chunk.{Chunk}
 use Rattle.sctp_wire_types.specs.declared.chunk.Chunk.TheVariants as chunks
-use Rattle.sctp_assoc.specs.Meeting.{GoesOn, HasCome, MayHear, Stage, stage_of}
-use Rattle.sctp_assoc.specs.Shapes.{GoesOnWorking, IsSameStatus, Leaves}
+use Rattle.sctp_assoc.specs.Meeting.{IsNoEarlier, HasCome, MayHear, Stage, stage_of}
+use Rattle.sctp_assoc.specs.Shapes.{KeepsWorking, IsSameStatus, Leaves}
 use Rattle.sctp_assoc.specs.Shown.{Shown}
 use Rattle.sctp_assoc.proofs.Proved.{the_same_handshake_is_the_same_stage}
-use Rattle.sctp_pair.specs.Fits.{IsAt, Meets}
+use Rattle.sctp_pair.specs.Fits.{IsAt, StagesAgree}
 
-pub stays_put : (s : Stage) → GoesOn s s
+pub stays_put : (s : Stage) → IsNoEarlier s s
 stays_put s = record { side = refl; knows = λ k. k; completed = λ d. d }
 
-pub goes_through : (s t u : Stage) → GoesOn s t → GoesOn t u → GoesOn s u
+pub goes_through : (s t u : Stage) → IsNoEarlier s t → IsNoEarlier t u → IsNoEarlier s u
 goes_through s t u g h = record {
   side = h.side ∙ g.side;
   knows = λ k. h.knows (g.knows k);
@@ -20,16 +20,16 @@ goes_through s t u g h = record {
 }
 
 -- who may hear goes on to do so
-pub hear_on : (s t : Stage) → GoesOn s t → MayHear s → MayHear t
+pub hear_on : (s t : Stage) → IsNoEarlier s t → MayHear s → MayHear t
 hear_on s t g (inl done) = inl (g.completed done)
 hear_on s t g (inr (client, known)) = inr (g.side ∙ client, g.knows known)
 
 -- stages that fit, seen from the other side
-pub turned : (s t : Stage) → Meets s t → Meets t s
+pub turned : (s t : Stage) → StagesAgree s t → StagesAgree t s
 turned s t m = record { one = m.other; other = m.one; hears = m.heard; heard = m.hears }
 
 -- stages that fit go on to fit, where the other side may hear a side that is completed
-pub meets_on : (s t u : Stage) → GoesOn s u → (u.completed ≡ true → MayHear t) → Meets s t → Meets u t
+pub meets_on : (s t u : Stage) → IsNoEarlier s u → (u.completed ≡ true → MayHear t) → StagesAgree s t → StagesAgree u t
 meets_on s t u g heard m = record {
   one = λ client other. g.completed (m.one (sym g.side ∙ client) other);
   other = λ other client. m.other other (sym g.side ∙ client);
@@ -40,9 +40,9 @@ meets_on s t u g heard m = record {
 -- who may hear knows the peer's initial TSN
 pub hearers_know : (a : Shown) → HasCome a → MayHear (stage_of a) → is_some a.handshake.peer_initial_tsn ≡ true
 hearers_know a come (inr (client, known)) = known
-hearers_know a (inl w) (inl done) = absurd (true≢false (sym done ∙ w.begun))
+hearers_know a (inl w) (inl done) = absurd (true≢false (sym done ∙ w.incomplete))
 hearers_know a (inr (inl w)) (inl done) = w.known
-hearers_know a (inr (inr (inl l))) (inl done) = absurd (true≢false (sym done ∙ l.begun))
+hearers_know a (inr (inr (inl l))) (inl done) = absurd (true≢false (sym done ∙ l.incomplete))
 hearers_know a (inr (inr (inr s))) (inl done) = s.known
 
 -- Where the status stays, so does the stage.
@@ -61,7 +61,7 @@ pub known_before : (a b : Shown) → IsSameStatus a b → is_some b.handshake.pe
 known_before a b same known = ap (λ (s : Stage). s.knows) (sym (same_stage a b same)) ∙ known
 
 -- no chunk makes an association fail or lose its peer
-pub works_on : (c : Chunk) (a b : Shown) → Leaves c a b → GoesOnWorking a b
+pub works_on : (c : Chunk) (a b : Shown) → Leaves c a b → KeepsWorking a b
 works_on (chunks.Data x) a b h = record { failed = h.failed; lost = h.lost; size = h.size }
 works_on (chunks.SelectiveAck x) a b h = record { failed = h.failed; lost = h.lost; size = h.size }
 works_on (chunks.Init x) a b h = h

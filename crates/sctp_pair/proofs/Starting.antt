@@ -17,11 +17,11 @@ use Rattle.sctp_assoc.specs.Shown.{Shown}
 use Rattle.sctp_directions.proofs.Proved.{fresh_directions_are_plain}
 use Rattle.sctp_pair.specs.Ends.{Ends}
 use Rattle.sctp_pair.specs.World.{empty_world}
-use Rattle.sctp_pair.specs.Fits.{Fits, Meets, StandsOpen}
+use Rattle.sctp_pair.specs.Fits.{Fits, StagesAgree, StandsOpen}
 
 -- Two associations that stand open between directions in which nothing happened, and whose stages fit, fit the empty world.
 fits_begin : (own_a own_b size_a size_b : ℕ) (a b : Shown) → 0 < size_a → 0 < size_b → StandsOpen own_a own_b a (fresh size_a) (fresh size_b)
-    → StandsOpen own_b own_a b (fresh size_b) (fresh size_a) → Meets (stage_of a) (stage_of b) → (p : Ends) → p ≡ record { a = a; b = b; packets_a = []; packets_b = [] }
+    → StandsOpen own_b own_a b (fresh size_b) (fresh size_a) → StagesAgree (stage_of a) (stage_of b) → (p : Ends) → p ≡ record { a = a; b = b; packets_a = []; packets_b = [] }
     → Fits p (empty_world p own_a own_b size_a size_b)
 fits_begin own_a own_b size_a size_b a b some_a some_b stands_a stands_b meets p is =
     subst (λ (z : Ends). Fits z (empty_world z own_a own_b size_a size_b)) (sym is) record {
@@ -110,7 +110,7 @@ client_stands config size other tag own peer cookie remote now binds = record {
   peer_is = λ known. absurd (false≢true known);
   binds = binds;
   working = refl;
-  come = inl record { client = refl; state = refl; begun = refl; unissued = refl; unknown = refl };
+  come = inl record { client = refl; state = refl; incomplete = refl; unissued = refl; unknown = refl };
   present = refl;
   truthful = record { tsn = refl; says = ((refl, refl), tt); plain = (refl, tt); offers = λ o. refl; echoes = λ x. absurd (false≢true x) };
   size = refl;
@@ -128,7 +128,7 @@ server_stands config size other tag own peer cookie remote binds = record {
   peer_is = λ known. absurd (false≢true known);
   binds = binds;
   working = refl;
-  come = inr (inr (inl record { server = refl; state = refl; begun = refl; issued = λ i. absurd (false≢true i) }));
+  come = inr (inr (inl record { server = refl; state = refl; incomplete = refl; issued = λ i. absurd (false≢true i) }));
   present = refl;
   truthful = record { tsn = refl; says = tt; plain = tt; offers = λ o. absurd (false≢true o); echoes = λ x. absurd (false≢true x) };
   size = refl;

@@ -3,10 +3,10 @@ use Rattle.std.proofs.Common.{◌≡◌, sym, ◌∙◌, subst, ℕ}
 use Rattle.sctp_model.specs.Machine.{Direction}
 use Rattle.sctp_model.specs.Safe.{IsWithin}
 use Rattle.sctp_assoc.specs.Acts.{Binds, History, parts}
-use Rattle.sctp_assoc.specs.Meeting.{GoesOn, Stage, stage_of}
+use Rattle.sctp_assoc.specs.Meeting.{IsNoEarlier, Stage, stage_of}
 use Rattle.sctp_assoc.specs.Shapes.{IsSameStatus}
 use Rattle.sctp_assoc.specs.Shown.{Shown}
-use Rattle.sctp_pair.specs.Fits.{IsSilent, Meets, StandsOpen}
+use Rattle.sctp_pair.specs.Fits.{IsSilent, StagesAgree, StandsOpen}
 use Rattle.sctp_pair.proofs.Between.{Goes, Holds, None_brought}
 use Rattle.sctp_pair.proofs.Stages.{come_on, known_before, same_stage}
 
@@ -22,8 +22,8 @@ pub record Underway (own peer : ℕ) (here there : Stage) (y : Shown) (out comin
   pub places_same : out2.sender.plan.places ≡ out.sender.plan.places
   pub coming_still : coming2.sender ≡ coming.sender
   pub silent : IsSilent there coming2
-  pub goes : GoesOn here (stage_of a)
-  pub meets : Meets (stage_of a) there
+  pub goes : IsNoEarlier here (stage_of a)
+  pub meets : StagesAgree (stage_of a) there
   pub stands : StandsOpen own peer a out2 coming2
   pub holds : Holds own peer (parts a stands.past) y out2 coming2
 
@@ -45,8 +45,8 @@ stands_by own peer a b y k out coming out2 coming2 s same binds met size h = rec
 }
 
 -- where the status stays, so does what the stage says
-pub goes_same : {here : Stage} (a b : Shown) → IsSameStatus a b → GoesOn here (stage_of a) → GoesOn here (stage_of b)
-goes_same {here} a b same g = subst (GoesOn here) (sym (same_stage a b same)) g
+pub goes_same : {here : Stage} (a b : Shown) → IsSameStatus a b → IsNoEarlier here (stage_of a) → IsNoEarlier here (stage_of b)
+goes_same {here} a b same g = subst (IsNoEarlier here) (sym (same_stage a b same)) g
 
-pub meets_same : {there : Stage} (a b : Shown) → IsSameStatus a b → Meets (stage_of a) there → Meets (stage_of b) there
-meets_same {there} a b same m = subst (λ (s : Stage). Meets s there) (sym (same_stage a b same)) m
+pub meets_same : {there : Stage} (a b : Shown) → IsSameStatus a b → StagesAgree (stage_of a) there → StagesAgree (stage_of b) there
+meets_same {there} a b same m = subst (λ (s : Stage). StagesAgree s there) (sym (same_stage a b same)) m

@@ -16,12 +16,6 @@ abbrev pub writes_of : Side2 → Step → Reply → ℕ
 writes_of x (steps.Write side id bytes) (replies.Wrote count) = if is_side side x then 1 else 0
 writes_of x step reply = 0
 
--- how many writes of this side were accepted
-abbrev pub writes_in : Side2 → List Step → List Reply → ℕ
-writes_in x [] rs = 0
-writes_in x (s ∷ ss) [] = 0
-writes_in x (s ∷ ss) (r ∷ rs) = writes_of x s r + writes_in x ss rs
-
 -- A pair fits a world in which at most n messages of A and m messages of B were accepted.
 pub record FitsCounted (n m : ℕ) (p : Ends) (w : World) : Type 0 where
   pub fits : Fits p w
@@ -32,15 +26,21 @@ pub record FitsCounted (n m : ℕ) (p : Ends) (w : World) : Type 0 where
 abbrev pub AreFew : ℕ → ℕ → Type 0
 AreFew n m = (n < 16384) × (m < 16384)
 
--- One step leads to a next world, which is safe; the pair fits it, and the accepted messages are counted on.
+-- One step leads to a next world. Where each side accepted few messages, this step's included, that is safe, and the pair fits it.
 abbrev pub LeadsCounted : Step → Reply → World → ℕ → ℕ → Ends → Type 0
 LeadsCounted step reply w n m q =
-    (v : World) × IsWorldStep step w reply v × IsSafeWorld v × FitsCounted (n + writes_of sides.A step reply) (m + writes_of sides.B step reply) q v
+    (v : World) × IsWorldStep step w reply v
+    × (AreFew (n + writes_of sides.A step reply) (m + writes_of sides.B step reply)
+    → IsSafeWorld v × FitsCounted (n + writes_of sides.A step reply) (m + writes_of sides.B step reply) q v)
 
--- The steps with these replies lead from world to world, from w on, and each is safe; the last one the pair fits.
+-- The steps with these replies lead from world to world, from w on. As long as each side accepted few messages, each is safe, and the
+-- pair fits it.
 abbrev pub RunsCounted : List Step → List Reply → World → ℕ → ℕ → Ends → Type 0
 RunsCounted [] [] w n m q = FitsCounted n m q w
 RunsCounted (s ∷ ss) (r ∷ rs) w n m q =
-    (v : World) × IsWorldStep s w r v × IsSafeWorld v × RunsCounted ss rs v (n + writes_of sides.A s r) (m + writes_of sides.B s r) q
+    (v : World) × IsWorldStep s w r v
+    × (AreFew (n + writes_of sides.A s r) (m + writes_of sides.B s r)
+    → IsSafeWorld v × FitsCounted (n + writes_of sides.A s r) (m + writes_of sides.B s r) v.ends v
+    × RunsCounted ss rs v (n + writes_of sides.A s r) (m + writes_of sides.B s r) q)
 RunsCounted [] (r ∷ rs) w n m q = ⊥
 RunsCounted (s ∷ ss) [] w n m q = ⊥

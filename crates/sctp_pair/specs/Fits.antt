@@ -6,7 +6,7 @@ use Rattle.sctp_model.specs.Machine.{Direction}
 use Rattle.sctp_model.specs.Invariants.{Invariant}
 use Rattle.sctp_assoc.specs.Acts.{Binds, History, parts}
 use Rattle.sctp_assoc.specs.Calls.{is_closed_state, is_established}
-use Rattle.sctp_assoc.specs.Meeting.{Greets, HasCome, IsTruthful, MayHear, OneWaits, Stage, stage_of}
+use Rattle.sctp_assoc.specs.Meeting.{Greets, HasCome, IsTruthful, MayHear, IsDoneAmongClients, Stage, stage_of}
 use Rattle.sctp_assoc.specs.Shapes.{HoldsNothing, OfEachChunk}
 use Rattle.sctp_assoc.specs.Shown.{Shown}
 use Rattle.sctp_directions.specs.Plain.{IsPlain}
@@ -19,8 +19,8 @@ use Rattle.sctp_pair.specs.Ends.{Ends}
 use Rattle.sctp_pair.specs.Steps.{packet_in}
 use Rattle.sctp_pair.specs.World.{IsSafeWorld, IsWithinLimits, IsWorldStep, World}
 
--- An association that was not closed, and may wait for its handshake, stands between its own direction and the one that comes to it;
--- own and peer are their initial TSNs. What it knows of the peer's is true.
+-- An association that was neither lost nor failed (a server that listens, in state Closed, is one, too) stands between its own direction
+-- and the one that comes to it; own and peer are their initial TSNs. What it knows of the peer's is true.
 pub record StandsOpen (own peer : ℕ) (a : Shown) (out coming : Direction) : Type 0 where
   pub past : History
   pub own_is : past.own ≡ own
@@ -34,7 +34,8 @@ pub record StandsOpen (own peer : ℕ) (a : Shown) (out coming : Direction) : Ty
   pub outgoing : FitsOutgoing (parts a past) out
   pub incoming : FitsIncoming (parts a past) coming
 
--- A closed one receives nothing more, and the streams that were opened since then are empty.
+-- A closed one is lost and receives nothing more, the streams that were opened since then are empty, and what waits to go out is
+-- truthful.
 pub record StandsClosed (own : ℕ) (a : Shown) (coming : Direction) : Type 0 where
   pub closed : is_closed_state a.state ≡ true
   pub unestablished : is_established a.state ≡ false
@@ -51,14 +52,15 @@ pub record StandsFailed (a : Shown) (coming : Direction) : Type 0 where
 abbrev pub Stands : ℕ → ℕ → Shown → Direction → Direction → Type 0
 Stands own peer a out coming = StandsOpen own peer a out coming ⊎ (StandsClosed own a coming ⊎ StandsFailed a coming)
 
--- as long as it didn't fail, an association is in this stage of its handshake; what a failed one said was true before
+-- an association that did not fail is in this stage of its handshake; a failed one may be in any of which its packets say what is so
 abbrev pub IsAt : Shown → Stage → Type 0
 IsAt a s = a.failed ≡ false → stage_of a ≡ s
 
--- The stages of two sides fit: they are not two clients that wait, and where one is established, or was, the other may hear its DATA.
-pub record Meets (s t : Stage) : Type 0 where
-  pub one : OneWaits s t
-  pub other : OneWaits t s
+-- The stages of two sides agree: where both are clients, both are established or were; and where one is, or was, its DATA may come to
+-- the other.
+pub record StagesAgree (s t : Stage) : Type 0 where
+  pub one : IsDoneAmongClients s t
+  pub other : IsDoneAmongClients t s
   pub hears : t.completed ≡ true → MayHear s
   pub heard : s.completed ≡ true → MayHear t
 
@@ -70,7 +72,7 @@ IsSilent s w = s.completed ≡ false → w.sender.plan.places ≡ []
 abbrev pub IsSaidBy : ℕ → ℕ → Stage → Direction → Direction → Chunk → Type 0
 IsSaidBy own peer s out coming chunk = Says own peer out coming chunk ⊎ Greets own s chunk
 
--- each datagram that a side gave out is of such chunks
+-- each datagram that a side gave out, if it spells a packet, is of such chunks
 abbrev pub AreSaid : ℕ → ℕ → Stage → Direction → Direction → List (List ℕ) → Type 0
 AreSaid own peer s out coming packets = AllByRecursion (λ (bytes : List ℕ). OfEachChunk (IsSaidBy own peer s out coming) (packet_in bytes)) packets
 
@@ -87,7 +89,7 @@ pub record StandsIn (p : Ends) (w : World) : Type 0 where
   pub stage_b : Stage
   pub at_a : IsAt w.ends.a stage_a
   pub at_b : IsAt w.ends.b stage_b
-  pub meets : Meets stage_a stage_b
+  pub meets : StagesAgree stage_a stage_b
   pub silent_a : IsSilent stage_a w.ab
   pub silent_b : IsSilent stage_b w.ba
   pub said_a : AreSaid w.initial_a w.initial_b stage_a w.ab w.ba w.ends.packets_a

@@ -1,10 +1,10 @@
 // The pair, and a run of steps on it.
-ghost use Rattle.std.specs.Prelude.{◌≡◌, ℕ, ◌+◌, length, slice_get, [], None, OnErr, IfOk, vec_len};
+ghost use Rattle.std.specs.Prelude.{◌≡◌, ℕ, length, slice_get, [], None, OnErr, IfOk, vec_len};
 ghost use Rattle.std.specs.Option.{option_copied};
 ghost use Rattle.sctp_assoc.specs.Join.{client, create_refusal, join_refusal, joined, server};
 ghost use Rattle.sctp_pair.specs.Ends.{JoinRefuses, packets_of, end_of};
 ghost use Rattle.sctp_pair.specs.World.{World, empty_world};
-ghost use Rattle.sctp_pair.specs.Counted.{AreFew, FitsCounted, LeadsCounted, RunsCounted, writes_in, writes_of};
+ghost use Rattle.sctp_pair.specs.Counted.{FitsCounted, LeadsCounted, RunsCounted};
 ghost use Rattle.sctp_pair.specs.Fits.{Fits, LeadsSafely, RunsSafely};
 ghost use Rattle.sctp_pair.specs.Steps.{AtSide, Buffers, ComesTo, Expires, Finds, Opens, Reads, Runs, SendsAt, Steps, Tells, Writes};
 
@@ -190,15 +190,14 @@ impl Pair {
     /// Carries out the steps, in order. Refused for want of memory before the first step alone, with nothing changed.
     ///
     /// From each world that the pair fits, the steps lead from world to world, in each of which the pair stands; as long as each so
-    /// far is within the limits, it is safe. Where fewer than 16,384 writes of either side were accepted since the pair was made
-    /// (`counted`), each is.
+    /// far is within the limits, it is safe. As long as each side accepted fewer than 16,384 writes since the pair was made, each of
+    /// these worlds is safe (`counted`).
     #[tactic(auto, using(crate::proofs::Worlds::runs_lead, crate::proofs::Counted::runs_lead_counted))]
     pub fn run(&mut self, steps: &[Step]) -> Result<Vec<Reply>, Error>
         ensures ok { IfOk result (λ replies. Runs steps.now replies.items self.old self.new) }
         ensures refused { OnErr result ((result ≡ Err Error.ErrNoMemory) × (self.new ≡ self.old)) }
         ensures headline { IfOk result (λ replies. (w : World) → Fits self.old w → RunsSafely steps.now replies.items w self.new) }
-        ensures counted { IfOk result (λ replies. (n m : ℕ) (w : World) → FitsCounted n m self.old w
-            → AreFew (n + writes_in Side2.A steps.now replies.items) (m + writes_in Side2.B steps.now replies.items) → RunsCounted steps.now replies.items w n m self.new) }
+        ensures counted { IfOk result (λ replies. (n m : ℕ) (w : World) → FitsCounted n m self.old w → RunsCounted steps.now replies.items w n m self.new) }
     {
         self.carry_out_all(steps)
     }
@@ -206,13 +205,12 @@ impl Pair {
     /// Carries out one step.
     ///
     /// From each world that the pair fits, it leads to a next one, in which the pair stands; where that is within the limits, it is
-    /// safe. Where fewer than 16,384 messages of either side were accepted, that one included, it is (`counted`).
+    /// safe. Where each side accepted fewer than 16,384 messages, this step's included, the next world is safe (`counted`).
     #[tactic(auto, using(crate::proofs::Assembled::step_leads, crate::proofs::Counted::step_leads_counted))]
     pub fn step(&mut self, step: &Step) -> Reply
         ensures exact { Steps step.now self.old result self.new }
         ensures headline { (w : World) → Fits self.old w → LeadsSafely step.now result w self.new }
-        ensures counted { (n m : ℕ) (w : World) → FitsCounted n m self.old w
-            → AreFew (n + writes_of Side2.A step.now result) (m + writes_of Side2.B step.now result) → LeadsCounted step.now result w n m self.new }
+        ensures counted { (n m : ℕ) (w : World) → FitsCounted n m self.old w → LeadsCounted step.now result w n m self.new }
     {
         self.carry_out(step)
     }
