@@ -1,14 +1,14 @@
 -- Where few messages were accepted, the numbers of a direction stay within their limits.
-use Rattle.std.proofs.Common.{◌≡◌, refl, sym, ap, ◌∙◌, subst, ⊎_elim, ℕ, zero, suc, ◌+◌, ◌^◌, ◌<◌, ◌≤◌, arith, Bool, true, false, eqb, ◌||◌, cond, List, [], ◌∷◌, drop, length}
+use Rattle.std.proofs.Common.{◌≡◌, refl, sym, ap, ◌∙◌, subst, ⊎_elim, ℕ, zero, suc, ◌+◌, ◌<◌, ◌≤◌, arith, Bool, true, false, eqb, ◌||◌, cond, List, [], ◌∷◌, drop, length}
 use Rattle.std.specs.List.{sum_by}
-use Rattle.std.proofs.lemmas.Bool.{cases_Bool, cases_eq, cond-true, eq-eqb, eqb-true, false≢true, ne_eqb}
+use Rattle.std.proofs.lemmas.Bool.{cases_Bool, cases_eq, eq-eqb, eqb-true, false≢true}
 use Rattle.std.proofs.lemmas.List.{length-drop}
 use Rattle.std.proofs.lemmas.List.Sums.{sum_by-cons}
 use Rattle.sctp_model.specs.Messages.{Message, Plan, count_ordered, place_at}
 use Rattle.sctp_model.specs.Packets.{mem}
 use Rattle.sctp_model.specs.Machine.{Direction}
 use Rattle.sctp_model.specs.Invariants.{Invariant}
-use Rattle.sctp_model.specs.Safe.{AreDistinct, IsWithin, read_end}
+use Rattle.sctp_model.specs.Safe.{AreDistinct, read_end}
 use Rattle.sctp_directions.specs.Counted.{HasAccepted}
 use Rattle.sctp_directions.specs.Laws.{AcceptedMessagesAreCounted, FewMessagesStayWithin, NothingIsAcceptedAtFirst}
 use Rattle.sctp_directions.specs.Plain.{IsPlain, count_below}

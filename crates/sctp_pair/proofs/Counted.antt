@@ -1,11 +1,11 @@
 -- Where few messages are accepted, each world is within the limits, and so it is safe.
-use Rattle.std.proofs.Common.{◌≡◌, refl, sym, ap, ◌∙◌, subst, ℕ, ◌+◌, ◌<◌, ◌≤◌, arith, Bool, true, false, eqb, ◌&&◌, if◌then◌else◌, List, [], ◌∷◌, ◌++◌, length, Option, Some, None}
+use Rattle.std.proofs.Common.{◌≡◌, sym, ap, ◌∙◌, subst, ℕ, ◌+◌, ◌≤◌, arith, Bool, true, false, eqb, ◌&&◌, if◌then◌else◌, List, [], ◌∷◌, ◌++◌, length, Option, Some, None}
 use Rattle.std.proofs.lemmas.Bool.{ne_eqb}
 use Rattle.std.proofs.lemmas.List.{append-nil, length-append}
 use Rattle.sctp_queues.specs.Stream.{Stream}
 use Rattle.sctp_queues.specs.Streams.{stream_at}
 use Rattle.sctp_model.specs.Messages.{Message}
-use Rattle.sctp_model.specs.Machine.{Direction, fresh}
+use Rattle.sctp_model.specs.Machine.{Direction}
 use Rattle.sctp_directions.specs.Counted.{HasAccepted}
 use Rattle.sctp_directions.proofs.Proved.{accepted_messages_are_counted, few_messages_stay_within, nothing_is_accepted_at_first}
 use Rattle.sctp_pair.specs.declared.step.Reply.{Reply}
