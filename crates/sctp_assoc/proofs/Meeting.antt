@@ -21,7 +21,7 @@ use Rattle.sctp_assoc.specs.Calls.{is_beginning, is_cookie_echoed, is_cookie_wai
 use Rattle.sctp_assoc.specs.Chunks.{checked_first, on_chunk}
 use Rattle.sctp_assoc.specs.Handshake.{acknowledged_cookie, answered, connected, echoed, met, on_cookie_ack, on_cookie_echo, on_init, on_init_ack, sends_cookie, with_echo}
 use Rattle.sctp_assoc.specs.Happened.{acts_of_checked}
-use Rattle.sctp_assoc.specs.Meeting.{IsNoEarlier, Greets, GreetsOn, HasCome, IsGreeted, Listens, IsTruthful, AwaitsInitAck, MayHear, IsDoneAmongClients, Stage, stage_of}
+use Rattle.sctp_assoc.specs.Meeting.{AwaitsInitAck, Greets, GreetsOn, HasCome, IsDoneAmongClients, IsGreeted, IsNoEarlier, IsTruthful, Listens, MayHear, Stage, stage_of}
 use Rattle.sctp_assoc.specs.Shapes.{EstablishedSidesTalk, TheSameHandshakeIsTheSameStage}
 use Rattle.sctp_assoc.specs.Shown.{Shown}
 use Rattle.sctp_assoc.proofs.Truth.{KeepsSaying, truthful_still, truthful_with}

@@ -17,7 +17,7 @@ use Rattle.sctp_assoc.specs.Calls.{is_established}
 use Rattle.sctp_assoc.specs.Happened.{acks_given}
 use Rattle.sctp_assoc.specs.Inbound.{taken_packet}
 use Rattle.sctp_assoc.specs.declared.control.ControlPacket.{ControlPacket}
-use Rattle.sctp_assoc.specs.Polled.{AckIsReadAgain, AreControlReadAgain, AreReadAgain, IsReadAgain, ack_after, after_both, control_packets, exchange_polled, without_control, data_packets, data_polled, is_due, packet_bytes, packet_with, sack_chunk, sack_packet, spelled}
+use Rattle.sctp_assoc.specs.Polled.{AckIsReadAgain, AreControlReadAgain, AreReadAgain, IsReadAgain, ack_after, after_both, control_packets, data_packets, data_polled, exchange_polled, is_due, packet_bytes, packet_with, sack_chunk, sack_packet, spelled, without_control}
 use Rattle.sctp_assoc.specs.Shapes.{IsGivenBy, IsWaitingToGo, OfEachChunk, PollsOutsideEstablishedGiveWhatWaits, PollsSayTheirActs, WhatWaitsGoesOutAsItIs}
 use Rattle.sctp_assoc.specs.Shown.{Shown}
 

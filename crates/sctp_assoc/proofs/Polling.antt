@@ -9,7 +9,7 @@ use Rattle.sctp_inbound.specs.Receiver.{acknowledged}
 use Rattle.sctp_assoc.specs.Acts.{Act, Binds, History, Leads, Parts, all_data_given, done_all, parts}
 use Rattle.sctp_assoc.specs.Calls.{is_established}
 use Rattle.sctp_assoc.specs.Happened.{Polls, PollsOn, acks_given, acts_of_ack, acts_of_data_poll, acts_of_poll, exchange_given}
-use Rattle.sctp_assoc.specs.Polled.{AreControlReadAgain, PollIsReadAgain, AreReadAgain, ack_after, ack_polled, after_both, control_packets, data_packets, data_polled, exchange_polled, is_due, polled, sack_packet, without_control}
+use Rattle.sctp_assoc.specs.Polled.{AreControlReadAgain, AreReadAgain, PollIsReadAgain, ack_after, ack_polled, after_both, control_packets, data_packets, data_polled, exchange_polled, is_due, polled, sack_packet, without_control}
 use Rattle.sctp_assoc.specs.Shown.{Shown}
 use Rattle.sctp_assoc.proofs.Acting.{acts_tied, given_append}
 use Rattle.sctp_assoc.proofs.Giving.{Adds, data_poll_adds, data_poll_stays, IsSentBeside}

@@ -31,7 +31,7 @@ use Rattle.sctp_assoc.specs.Chunks.{asks_or_faults, checked_first, counted_data,
 use Rattle.sctp_assoc.specs.Handshake.{after_t1_init, cookie_queued, echoed, information_returned, init_queued, on_cookie_ack, on_cookie_echo, on_heartbeat, on_init, on_init_ack, sends_cookie, sends_init, t1_cookie_expired, t1_init_expired}
 use Rattle.sctp_assoc.specs.Polled.{ack_after, ack_polled, control_packets, data_packets, data_polled, exchange_polled, is_due, packet_with, with_sent_data, without_control}
 use Rattle.sctp_assoc.specs.Timeouts.{after_handshake_timers}
-use Rattle.sctp_assoc.specs.Shapes.{KeepsWorking, IsSameStatus, Leaves, OpenedStreamsKeepTheStatus, PollsKeepTheStatus, ReadsKeepTheStatus, TimersKeepTheStatus, ToldEventsKeepTheStatus, WritesKeepTheStatus}
+use Rattle.sctp_assoc.specs.Shapes.{IsSameStatus, KeepsWorking, Leaves, OpenedStreamsKeepTheStatus, PollsKeepTheStatus, ReadsKeepTheStatus, TimersKeepTheStatus, ToldEventsKeepTheStatus, WritesKeepTheStatus}
 use Rattle.sctp_assoc.specs.Meeting.{Greets, IsTruthful, stage_of}
 use Rattle.sctp_assoc.specs.Control.{queued}
 use Rattle.sctp_inbound.specs.Greeting.{first_cookie, information_of, init_of}

@@ -7,7 +7,7 @@ use Rattle.sctp_wire.specs.Packets.{packet_is_plain}
 use Rattle.sctp_model.proofs.Lists.{all_join, all_weaker}
 use Rattle.sctp_inbound.specs.declared.handshake.Handshake.{Handshake}
 use Rattle.sctp_assoc.specs.declared.control.ControlPacket.{ControlPacket}
-use Rattle.sctp_assoc.specs.Meeting.{IsNoEarlier, Greets, IsTruthful, stage_of}
+use Rattle.sctp_assoc.specs.Meeting.{Greets, IsNoEarlier, IsTruthful, stage_of}
 use Rattle.sctp_assoc.specs.Polled.{packet_with}
 use Rattle.sctp_assoc.specs.Shapes.{GreetingsStayTrue}
 use Rattle.sctp_assoc.specs.Shown.{Shown}

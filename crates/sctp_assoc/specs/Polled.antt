@@ -41,7 +41,7 @@ abbrev pub data_packets : CommonHeader → List ChunkPayloadData → List (List 
 data_packets header [] = []
 data_packets header (c ∷ cs) = packet_bytes header (chunks.Data c) ++ data_packets header cs
 
--- the retransmission timer runs where DATA was sent for the first time (RFC 4960 section 6.3.2, rule R1)
+-- the retransmission timer runs where DATA was sent for the first time (RFC 4960 section 6.3.2)
 abbrev pub t3_after_sending : Bool → ℕ → ℕ → Timers → Timers
 t3_after_sending sent now rto t = if sent then restarted_if_stale names.T3RTX now rto t else t
 

@@ -22,7 +22,7 @@ use Rattle.sctp_assoc.specs.Calls.{closed_by, event_polled, is_closed_state, is_
 use Rattle.sctp_assoc.specs.Chunks.{after_packet, ended, on_chunk}
 use Rattle.sctp_assoc.specs.Happened.{Polls, acts_of_chunk, acts_of_poll, acts_of_timeouts}
 use Rattle.sctp_assoc.specs.Inbound.{taken_packet}
-use Rattle.sctp_assoc.specs.Meeting.{IsNoEarlier, Greets, GreetsOn, HasCome, IsEstablished, IsTruthful, Stage, stage_of}
+use Rattle.sctp_assoc.specs.Meeting.{Greets, GreetsOn, HasCome, IsEstablished, IsNoEarlier, IsTruthful, Stage, stage_of}
 use Rattle.sctp_assoc.specs.Polled.{AreControlReadAgain, WaitPlainly, control_packets, is_due, polled, without_control}
 use Rattle.sctp_assoc.specs.Shown.{Shown}
 use Rattle.sctp_assoc.specs.Timeouts.{after_timeouts}

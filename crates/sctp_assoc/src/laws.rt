@@ -42,9 +42,9 @@ pub fn calls_keep_the_status()
     ensures polled { PollsKeepTheStatus }
 {}
 
-/// Stages: a side's stage never goes back, and what its packets said of it stays so (RFC 4960 section 5.1). Where the handshake is
+/// Stages: what a side's packets said of its handshake stays so in each later stage (RFC 4960 section 5.1). Where the handshake is
 /// the same, so is the stage.
-pub fn stages_never_go_back()
+pub fn greetings_stay_true()
     ensures same { TheSameHandshakeIsTheSameStage }
     ensures established { EstablishedSidesTalk }
     ensures greetings { GreetingsStayTrue }

@@ -111,7 +111,7 @@ abbrev pub t3_cleared : Bool → Timers → Timers
 t3_cleared moved t = if moved then with_moment names.T3RTX None (without_retries names.T3RTX t) else t
 
 -- T3-rtx after a SACK (RFC 4960 section 6.3.2): with pieces left in flight it runs, from now on where something was
--- acknowledged (rule R3); with none left it is stopped (rule R2)
+-- acknowledged; with none left it is stopped
 abbrev pub t3_after_sack : Bool → ℕ → ℕ → ℕ → Timers → Timers
 t3_after_sack moved left now rto t =
     if nat_lt 0 left then restarted_if_stale names.T3RTX now rto (t3_cleared moved t) else

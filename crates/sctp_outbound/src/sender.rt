@@ -119,7 +119,7 @@ impl Sender {
     }
 
     // The retransmission timer after a SACK: begun anew where something was acknowledged, stopped where nothing is left
-    // in flight then, and running where something is (RFC 4960 section 6.3.2, rules R2 and R3).
+    // in flight then, and running where something is (RFC 4960 section 6.3.2).
     fn run_t3(&self, timers: &mut TimerTable, rto: &RtoManager, moved: bool, now: Instant)
         ensures { timers.new ≡ t3_after_sack moved (length self.now.queue.in_flight) now rto.now.rto timers.old }
     {

@@ -41,10 +41,10 @@ some_counted false n id ms before after same one a = none_counted n before after
 some_counted true n id ms before after same one a =
     accepted_messages_are_counted n 1 id before after
     (λ s ne. same s ∙ ap (λ (c : Bool). before.sender.plan.accepted s ++ (if c then ms else [])) (ne_eqb id s (λ (q : id ≡ s). ne (sym q))) ∙ append-nil (before.sender.plan.accepted s))
-    (grown (eqb id id)) a
+    grown a
   where
-    grown : (c : Bool) → length (after.sender.plan.accepted id) ≤ length (before.sender.plan.accepted id) + 1
-    grown c =
+    grown : length (after.sender.plan.accepted id) ≤ length (before.sender.plan.accepted id) + 1
+    grown =
         let e = ap (λ (xs : List Message). length xs) (same id) in
         let f = length-append (before.sender.plan.accepted id) (if eqb id id then ms else []) in
         let g = at_most (eqb id id) in

@@ -3,8 +3,8 @@ use Rattle.std.proofs.Common.{◌≡◌, refl, sym, ap, ◌∙◌, inl, inr, tru
 use Rattle.std.proofs.lemmas.Bool.{true≢false}
 use Rattle.sctp_wire_types.specs.declared.chunk.Chunk.{Chunk}
 use Rattle.sctp_wire_types.specs.declared.chunk.Chunk.TheVariants as chunks
-use Rattle.sctp_assoc.specs.Meeting.{IsNoEarlier, HasCome, MayHear, Stage, stage_of}
-use Rattle.sctp_assoc.specs.Shapes.{KeepsWorking, IsSameStatus, Leaves}
+use Rattle.sctp_assoc.specs.Meeting.{HasCome, IsNoEarlier, MayHear, Stage, stage_of}
+use Rattle.sctp_assoc.specs.Shapes.{IsSameStatus, KeepsWorking, Leaves}
 use Rattle.sctp_assoc.specs.Shown.{Shown}
 use Rattle.sctp_assoc.proofs.Proved.{the_same_handshake_is_the_same_stage}
 use Rattle.sctp_pair.specs.Fits.{IsAt, StagesAgree}

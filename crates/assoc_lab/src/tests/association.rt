@@ -6,9 +6,10 @@ use sctp_assoc::{
 };
 use std::alloc::Global;
 use std::test::Fail;
+use std::time::Duration;
 
 /// An association that tokens with these initiate tags join, its own first.
-pub fn joined(
+pub(crate) fn joined(
     alloc: Global,
     max_payload_size: u32,
     tags: (u32, u32),
@@ -31,18 +32,18 @@ pub fn joined(
 // Calls without their contracts: a test needs none, and is proved sooner without them.
 
 /// What the timers that expired ask for is done.
-pub fn expire(association: &mut Association, millis: u64) -> Result<(), Error> {
+pub(crate) fn expire(association: &mut Association, millis: u64) -> Result<(), Error> {
     association.handle_timeout(Instant::from_millis(millis))
 }
 
 /// The next event.
-pub fn told(association: &mut Association) -> Result<Option<Event>, Error> {
+pub(crate) fn told(association: &mut Association) -> Result<Option<Event>, Error> {
     association.poll()
 }
 
 /// The peer's window, the cumulative TSN ack point and the peer's tag, streams that may be sent on and received on, and whether
 /// FORWARD TSN is in use.
-pub fn numbers(association: &Association) -> (u32, u32, u32, (u16, u16), bool) {
+pub(crate) fn numbers(association: &Association) -> (u32, u32, u32, (u16, u16), bool) {
     (
         association.rwnd(),
         association.point(),
@@ -53,12 +54,21 @@ pub fn numbers(association: &Association) -> (u32, u32, u32, (u16, u16), bool) {
 }
 
 /// The state's name and the next deadline, in ms, 0 where there is none.
-pub fn standing(association: &Association) -> (AssociationState, u64) {
+pub(crate) fn standing(association: &Association) -> (AssociationState, u64) {
     let nanos = match association.poll_timeout() {
         Some(moment) => moment.as_nanos(),
         None => 0,
     };
     (association.state(), nanos / 1_000_000)
+}
+
+// The slow start threshold, how long a round trip may last, and whether the handshake goes on still.
+fn measures(association: &Association) -> (u32, Duration, bool) {
+    (
+        association.ssthresh(),
+        association.rtt(),
+        association.is_handshaking(),
+    )
 }
 
 fn is_sent(association: &mut Association) -> Result<bool, Error> {
@@ -104,7 +114,12 @@ fn a_joined_association_is_connected(rt: HostRuntime) -> Result<(), Fail> {
         numbers(&association),
         (1_048_576, 499, 2, (65_535, 65_535), true)
     );
+    assert_eq!(rt;
+        measures(&association),
+        (1_048_576, Duration::from_millis(3000), false)
+    );
     assert!(rt; told(&mut association)? == Some(Event::Connected));
+    assert!(rt; told(&mut association)?.is_none());
     Ok(())
 }
 
@@ -122,8 +137,9 @@ fn written(alloc: Global) -> Result<Association, Error> {
 fn is_marked_after_timeout(alloc: Global) -> Result<bool, Error> {
     let mut association = written(alloc)?;
     let sent = is_sent(&mut association)? && !association.is_marked(100);
+    let window = association.rwnd();
     expire(&mut association, 3000)?;
-    Ok(sent && association.is_marked(100))
+    Ok(sent && window == 1_048_573 && association.is_marked(100))
 }
 
 #[test]

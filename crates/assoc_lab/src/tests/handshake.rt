@@ -1,5 +1,6 @@
 // The handshake, packet by packet. The datagrams were spelled apart from this code.
 use crate::setting::address;
+use crate::show::show;
 use crate::tests::association::{expire, joined, numbers, standing, told};
 use bytes::Bytes;
 use sctp_assoc::{
@@ -7,6 +8,7 @@ use sctp_assoc::{
     PartialDecode, Payload, PayloadProtocolIdentifier, ServerConfig, StreamEvent, Transmit,
     TransportConfig,
 };
+use sctp_pair::Reply;
 use std::alloc::Global;
 use std::test::Fail;
 
@@ -296,13 +298,24 @@ fn hears(association: &mut Association) -> Result<bool, Error> {
     Ok(heard)
 }
 
+// What a read of stream 1 gives, as the line of a reply.
+fn read_text(alloc: Global, association: &mut Association) -> Result<String, Fail> {
+    let mut stream = association.stream(1)?;
+    let message = stream.read()?;
+    Ok(show(alloc, Reply::Read(message))?)
+}
+
 #[test]
 fn two_clients_that_meet_are_established(rt: HostRuntime) -> Result<(), Fail> {
     let (mut a, mut b) = met(rt.alloc())?;
-    assert_eq!(rt; standing(&a), (AssociationState::Established, 0));
-    write(&mut a, 1, b"hi")?;
+    for side in [&a, &b] {
+        assert_eq!(rt; standing(side), (AssociationState::Established, 0));
+    }
+    assert_eq!(rt; write(&mut a, 1, b"hi")?, 2);
     cross(rt.alloc(), &mut a, &mut b)?;
     assert!(rt; hears(&mut b)?);
-    assert_eq!(rt; standing(&b).0, AssociationState::Established);
+    let message = read_text(rt.alloc(), &mut b)?;
+    assert_eq!(rt; message.as_str(), "message 53 6869");
+    assert_eq!(rt; numbers(&b).1, 100);
     Ok(())
 }

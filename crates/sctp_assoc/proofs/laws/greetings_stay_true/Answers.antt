@@ -1,5 +1,5 @@
 use Rattle.sctp_assoc.proofs.Proved.{established_sides_talk, greetings_stay_true, the_same_handshake_is_the_same_stage}
-use Rattle.sctp_assoc.proofs.laws.stages_never_go_back.Goals as goal
+use Rattle.sctp_assoc.proofs.laws.greetings_stay_true.Goals as goal
 
 pub returns-clause-same : goal.returns-clause-same
 returns-clause-same c = the_same_handshake_is_the_same_stage
