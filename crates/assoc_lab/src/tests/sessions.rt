@@ -81,7 +81,7 @@ write A 1 -=refused 23
 read A 6=refused 9
 ";
 
-/// A handshake.
+/// A handshake, and a message.
 static HANDSHAKE: &str = "\
 client 1200 100 500=ok
 send A 0=packets 0 1
@@ -95,6 +95,11 @@ send B 0=packets 1 1
 deliver A 1 0=ok
 event A=connected
 state A=0 0 0 0 0
+open A 1 53=ok
+write A 1 6869=wrote 2
+send A 0=packets 2 1
+deliver B 2 0=ok
+read B 1=message 53 6869
 ";
 
 /// A handshake whose first COOKIE ACK is lost.
