@@ -1,5 +1,5 @@
 -- Messages as they are read.
-use Rattle.std.specs.Prelude.{ℕ, ◌≡◌, ◌<◌, ◌≤◌, ◌⊎◌, Bool, false, ◌==◌, List, [], ◌∷◌, ◌++◌, length, Option, Some, None}
+use Rattle.std.specs.Prelude.{ℕ, ◌≡◌, ◌<◌, ◌≤◌, ◌⊎◌, Bool, false, ◌==◌, if◌then◌else◌, List, [], ◌∷◌, ◌++◌, length, Option, Some, None}
 use Rattle.std.specs.List.{flat_map}
 use Rattle.sctp_wire_types.specs.declared.chunk.ChunkPayloadData.{ChunkPayloadData}
 use Rattle.sctp_wire_types.specs.declared.ids.PayloadProtocolIdentifier.{PayloadProtocolIdentifier}
@@ -19,6 +19,11 @@ joined pieces = flat_map (λ (p : ChunkPayloadData). p.user_data) pieces
 abbrev pub front_bytes : List ChunkPayloadData → List ℕ
 front_bytes [] = []
 front_bytes (p ∷ ps) = p.user_data
+
+-- the bytes of the first piece that has any
+abbrev pub first_bytes : List ChunkPayloadData → List ℕ
+first_bytes [] = []
+first_bytes (p ∷ ps) = if length p.user_data == 0 then first_bytes ps else p.user_data
 
 abbrev pub is_blank : Option ChunkPayloadData → Bool
 is_blank None = false

@@ -1,6 +1,6 @@
 // A message as a reader gets it.
-ghost use Rattle.std.specs.Prelude.{◌≡◌, ◌==◌, ◌+◌, length, OnErr, IfOk, Some, ◌++◌, slice_get, ◌<◌, ◌≤◌};
-ghost use Rattle.sctp_receive_queues.specs.Messages.{joined, front_bytes, is_blank, message_of, IsCut};
+ghost use Rattle.std.specs.Prelude.{◌≡◌, ◌==◌, ◌+◌, length, OnErr, OnOk, IfOk, Some, ◌++◌, slice_get, take, drop, ◌<◌, ◌≤◌};
+ghost use Rattle.sctp_receive_queues.specs.Messages.{joined, front_bytes, first_bytes, is_blank, message_of, IsCut};
 ghost use Rattle.sctp_receive_queues.specs.Pieces.{bytes_of};
 
 use bytes::Bytes;
@@ -70,17 +70,33 @@ impl Chunks {
         if max == 0 || self.bytes == 0 {
             return Ok(None);
         }
-        drop_empty(&mut self.pieces);
-        let cut = cut_first(&mut self.pieces, max)?;
+        let cut = cut_next(&mut self.pieces, max)?;
         self.bytes = self.bytes.saturating_sub(cut.len() as u64);
         Ok(Some(cut))
     }
+}
+
+// Takes the first `max` bytes of the first piece that has any, or all of its bytes where it has fewer. A caller of `next` sees
+// the message and not its pieces, so this length is said here.
+fn cut_next(pieces: &mut VecDeque<ChunkPayloadData>, max: usize) -> Result<Bytes, Error>
+    requires max { 0 < max }
+    requires some { 0 < length (joined pieces.old.items) }
+    ensures cut { IfOk result (λ cut. cut ≡ take max (first_bytes pieces.old.items)) }
+    ensures left { OnOk result (front_bytes pieces.new.items ≡ drop max (first_bytes pieces.old.items)) }
+    ensures rest { IfOk result (λ cut. joined pieces.old.items ≡ cut ++ joined pieces.new.items) }
+    ensures some { IfOk result (λ cut. 0 < length cut) }
+    ensures refused { OnErr result (result ≡ Err Error.ErrNoMemory) }
+    ensures unchanged { OnErr result (joined pieces.new.items ≡ joined pieces.old.items) }
+{
+    drop_empty(pieces);
+    cut_first(pieces, max)
 }
 
 // Drops pieces without bytes in front.
 fn drop_empty(pieces: &mut VecDeque<ChunkPayloadData>)
     ensures same { joined pieces.new.items ≡ joined pieces.old.items }
     ensures first { 0 < length (joined pieces.old.items) → 0 < length (front_bytes pieces.new.items) }
+    ensures front { front_bytes pieces.new.items ≡ first_bytes pieces.old.items }
 {
     while is_front_empty(pieces) {
         pieces.pop_front();
@@ -96,10 +112,12 @@ fn is_front_empty(pieces: &VecDeque<ChunkPayloadData>) -> bool
     }
 }
 
-// At most `max` bytes from the first piece.
+// The first `max` bytes of the first piece, or all of its bytes where it has fewer.
 fn cut_first(pieces: &mut VecDeque<ChunkPayloadData>, max: usize) -> Result<Bytes, Error>
     requires max { 0 < max }
     requires first { 0 < length (front_bytes pieces.old.items) }
+    ensures exact { IfOk result (λ cut. cut ≡ take max (front_bytes pieces.old.items)) }
+    ensures left { OnOk result (front_bytes pieces.new.items ≡ drop max (front_bytes pieces.old.items)) }
     ensures cut { IfOk result (λ cut. joined pieces.old.items ≡ cut ++ joined pieces.new.items) }
     ensures some { IfOk result (λ cut. 0 < length cut) }
     ensures most { IfOk result (λ cut. length cut ≤ max) }
