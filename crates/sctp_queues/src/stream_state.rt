@@ -236,7 +236,7 @@ impl StreamState {
         ensures pushed { IfOk result (λ kept. stream_pushed self.old piece ≡ (self.new, kept)) }
         ensures unchanged { OnErr result (self.new ≡ self.old) }
         ensures taken { IsOk result → refusal self.old.reassembly piece limit ≡ None }
-        ensures refused { IfErr result (λ e. (e ≡ Error.ErrNoMemory) ⊎ (refusal self.old.reassembly piece limit ≡ Some e)) }
+        ensures refused { IfErr result (λ e. ((e ≡ Error.ErrNoMemory) × (refusal self.old.reassembly piece limit ≡ None)) ⊎ (refusal self.old.reassembly piece limit ≡ Some e)) }
     {
         self.reassembly.push(piece, limit)
     }

@@ -97,7 +97,7 @@ impl Streams {
         ensures pushed { IfOk result (λ kept. pushed_in self.old id piece ≡ (self.new, kept)) }
         ensures unchanged { OnErr result (self.new ≡ self.old) }
         ensures taken { IsOk result → refusal_in self.old id piece limit ≡ None }
-        ensures refused { IfErr result (λ e. (e ≡ Error.ErrNoMemory) ⊎ (refusal_in self.old id piece limit ≡ Some e)) }
+        ensures refused { IfErr result (λ e. ((e ≡ Error.ErrNoMemory) × (refusal_in self.old id piece limit ≡ None)) ⊎ (refusal_in self.old id piece limit ≡ Some e)) }
     {
         match self.get_mut(id) {
             Some(stream) => stream.push(piece, limit),

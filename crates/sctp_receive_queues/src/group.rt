@@ -1,5 +1,5 @@
 // Ordered messages that are put together, in the order of their SSNs.
-ghost use Rattle.std.specs.Prelude.{◌≡◌, ◌<◌, ◌≤◌, ◌⊎◌, length, position, slice_get, None, Some, IsOk, IfOk, IfErr, OnOk, OnErr, IfSome, filter};
+ghost use Rattle.std.specs.Prelude.{◌≡◌, ◌<◌, ◌≤◌, ◌⊎◌, length, [], position, slice_get, None, Some, IsOk, IfOk, IfErr, OnOk, OnErr, IfSome, filter};
 ghost use Rattle.sctp_wire_types.specs.Serial.{ssn_lt};
 ghost use Rattle.sctp_receive_queues.specs.Messages.{message_of};
 ghost use Rattle.sctp_receive_queues.specs.Pieces.{bytes_of, is_complete, refusal_of, is_later, last_of};
@@ -71,12 +71,18 @@ impl Group {
         self.pieces.has_above(tsn)
     }
 
+    fn refusal(&self, piece: &ChunkPayloadData, limit: u32) -> Option<Error>
+        ensures { result ≡ refusal_of self.now.pieces piece.now limit }
+    {
+        self.pieces.refusal(piece, limit)
+    }
+
     // Puts a piece of this message at its place; where it is refused nothing changes.
     fn add(&mut self, piece: ChunkPayloadData, limit: u32) -> Result<(), Error>
         ensures added { OnOk result (self.new ≡ grown self.old piece) }
         ensures unchanged { OnErr result (self.new ≡ self.old) }
         ensures taken { IsOk result → refusal_of self.old.pieces piece limit ≡ None }
-        ensures refused { IfErr result (λ e. (e ≡ Error.ErrNoMemory) ⊎ (refusal_of self.old.pieces piece limit ≡ Some e)) }
+        ensures refused { IfErr result (λ e. ((e ≡ Error.ErrNoMemory) × (refusal_of self.old.pieces piece limit ≡ None)) ⊎ (refusal_of self.old.pieces piece limit ≡ Some e)) }
     {
         if let Some(error) = self.pieces.refusal(&piece, limit) {
             return Err(error);
@@ -95,6 +101,45 @@ impl Group {
     }
 }
 
+// Why a piece is refused beside those held of its message, if it is.
+pub(crate) fn refusal(
+    groups: &VecDeque<Group>,
+    piece: &ChunkPayloadData,
+    limit: u32,
+) -> Option<Error>
+    ensures { result ≡ refusal_of_ordered groups.now.items piece.now limit }
+{
+    match find(groups, piece.stream_sequence_number) {
+        Some(place) => refusal_at(groups, place, piece, limit),
+        None => refusal_of_first(piece, limit),
+    }
+}
+
+fn refusal_at(
+    groups: &VecDeque<Group>,
+    place: usize,
+    piece: &ChunkPayloadData,
+    limit: u32,
+) -> Option<Error>
+    requires { place < length groups.now.items }
+    ensures { result ≡ refusal_of (pieces_at (Some place) groups.now.items) piece.now limit }
+{
+    match groups.get(place) {
+        Some(group) => group.refusal(piece, limit),
+        None => None,
+    }
+}
+
+// Why a piece of which no other is held is refused, if it is.
+fn refusal_of_first(piece: &ChunkPayloadData, limit: u32) -> Option<Error>
+    ensures { result ≡ refusal_of [] piece.now limit }
+{
+    if piece.user_data.len() > limit as usize {
+        return Some(Error::ErrInboundMessageTooLarge);
+    }
+    None
+}
+
 // Puts a piece to the others of its message; where it is refused nothing changes.
 pub(crate) fn put(
     groups: &mut VecDeque<Group>,
@@ -105,7 +150,7 @@ pub(crate) fn put(
     ensures put { OnOk result (groups.new.items ≡ with_ordered groups.old.items piece) }
     ensures unchanged { OnErr result (groups.new.items ≡ groups.old.items) }
     ensures taken { IsOk result → refusal_of_ordered groups.old.items piece limit ≡ None }
-    ensures refused { IfErr result (λ e. (e ≡ Error.ErrNoMemory) ⊎ (refusal_of_ordered groups.old.items piece limit ≡ Some e)) }
+    ensures refused { IfErr result (λ e. ((e ≡ Error.ErrNoMemory) × (refusal_of_ordered groups.old.items piece limit ≡ None)) ⊎ (refusal_of_ordered groups.old.items piece limit ≡ Some e)) }
 {
     match find(groups, piece.stream_sequence_number) {
         Some(place) => add_at(groups, place, piece, limit),
@@ -130,7 +175,7 @@ fn add_at(
     ensures put { OnOk result (groups.new.items ≡ put_at (Some place) groups.old.items piece) }
     ensures unchanged { OnErr result (groups.new.items ≡ groups.old.items) }
     ensures taken { IsOk result → refusal_of (pieces_at (Some place) groups.old.items) piece limit ≡ None }
-    ensures refused { IfErr result (λ e. (e ≡ Error.ErrNoMemory) ⊎ (refusal_of (pieces_at (Some place) groups.old.items) piece limit ≡ Some e)) }
+    ensures refused { IfErr result (λ e. ((e ≡ Error.ErrNoMemory) × (refusal_of (pieces_at (Some place) groups.old.items) piece limit ≡ None)) ⊎ (refusal_of (pieces_at (Some place) groups.old.items) piece limit ≡ Some e)) }
 {
     match groups.get_mut(place) {
         Some(group) => group.add(piece, limit),
@@ -147,10 +192,10 @@ fn add_new(
     ensures put { OnOk result (groups.new.items ≡ put_at None groups.old.items piece) }
     ensures unchanged { OnErr result (groups.new.items ≡ groups.old.items) }
     ensures taken { IsOk result → refusal_of (pieces_at None groups.old.items) piece limit ≡ None }
-    ensures refused { IfErr result (λ e. (e ≡ Error.ErrNoMemory) ⊎ (refusal_of (pieces_at None groups.old.items) piece limit ≡ Some e)) }
+    ensures refused { IfErr result (λ e. ((e ≡ Error.ErrNoMemory) × (refusal_of (pieces_at None groups.old.items) piece limit ≡ None)) ⊎ (refusal_of (pieces_at None groups.old.items) piece limit ≡ Some e)) }
 {
-    if piece.user_data.len() > limit as usize {
-        return Err(Error::ErrInboundMessageTooLarge);
+    if let Some(error) = refusal_of_first(&piece, limit) {
+        return Err(error);
     }
     let place = place_for(groups, piece.stream_sequence_number);
     let group = Group::of(alloc, piece)?;

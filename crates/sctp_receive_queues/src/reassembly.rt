@@ -53,13 +53,13 @@ impl ReassemblyQueue {
 
     /// Keeps a piece, and answers whether it did: not an ordered one of a message before the SSN that is read next. Refused, with
     /// nothing changed, where the pieces held of its message contradict it (`ErrContradictoryPieces`), where with it they have
-    /// more than `limit` bytes (`ErrInboundMessageTooLarge`), and where memory is (`ErrNoMemory`); so too where more bytes
-    /// would wait than a u64 can say.
+    /// more than `limit` bytes (`ErrInboundMessageTooLarge`). Where neither holds it is refused where memory is
+    /// (`ErrNoMemory`); so too where more bytes would wait than a u64 can say.
     pub fn push(&mut self, piece: ChunkPayloadData, limit: u32) -> Result<bool, Error>
         ensures pushed { IfOk result (λ kept. pushed self.old piece ≡ (self.new, kept)) }
         ensures unchanged { OnErr result (self.new ≡ self.old) }
         ensures taken { IsOk result → refusal self.old piece limit ≡ None }
-        ensures refused { IfErr result (λ e. (e ≡ Error.ErrNoMemory) ⊎ (refusal self.old piece limit ≡ Some e)) }
+        ensures refused { IfErr result (λ e. ((e ≡ Error.ErrNoMemory) × (refusal self.old piece limit ≡ None)) ⊎ (refusal self.old piece limit ≡ Some e)) }
     {
         if piece.unordered {
             self.push_unordered(piece, limit)?;
@@ -76,11 +76,14 @@ impl ReassemblyQueue {
         ensures pushed { OnOk result (self.new ≡ (let q = self.old in record q { ordered = with_ordered q.ordered piece })) }
         ensures unchanged { OnErr result (self.new ≡ self.old) }
         ensures taken { IsOk result → refusal_of_ordered self.old.ordered piece limit ≡ None }
-        ensures refused { IfErr result (λ e. (e ≡ Error.ErrNoMemory) ⊎ (refusal_of_ordered self.old.ordered piece limit ≡ Some e)) }
+        ensures refused { IfErr result (λ e. ((e ≡ Error.ErrNoMemory) × (refusal_of_ordered self.old.ordered piece limit ≡ None)) ⊎ (refusal_of_ordered self.old.ordered piece limit ≡ Some e)) }
     {
         let bytes = piece.user_data.len() as u64;
         let Some(waiting) = self.waiting.checked_add(bytes) else {
-            return Err(Error::ErrNoMemory);
+            return match group::refusal(&self.ordered, &piece, limit) {
+                Some(error) => Err(error),
+                None => Err(Error::ErrNoMemory),
+            };
         };
         group::put(&mut self.ordered, self.alloc, piece, limit)?;
         self.waiting = waiting;
@@ -91,11 +94,14 @@ impl ReassemblyQueue {
         ensures pushed { OnOk result (self.new ≡ with_put self.old (unordered_put self.old.unordered self.old.complete piece)) }
         ensures unchanged { OnErr result (self.new ≡ self.old) }
         ensures taken { IsOk result → refusal_of_unordered self.old.unordered piece limit ≡ None }
-        ensures refused { IfErr result (λ e. (e ≡ Error.ErrNoMemory) ⊎ (refusal_of_unordered self.old.unordered piece limit ≡ Some e)) }
+        ensures refused { IfErr result (λ e. ((e ≡ Error.ErrNoMemory) × (refusal_of_unordered self.old.unordered piece limit ≡ None)) ⊎ (refusal_of_unordered self.old.unordered piece limit ≡ Some e)) }
     {
         let bytes = piece.user_data.len() as u64;
         let Some(waiting) = self.waiting.checked_add(bytes) else {
-            return Err(Error::ErrNoMemory);
+            return match runs::refusal_of(&self.unordered, &piece, limit) {
+                Some(error) => Err(error),
+                None => Err(Error::ErrNoMemory),
+            };
         };
         runs::put(
             &mut self.unordered,

@@ -12,6 +12,17 @@ use std::alloc::{AllocError, Global};
 use std::collections::VecDeque;
 use std::mem;
 
+// Why a piece is refused beside those held, if it is.
+pub(crate) fn refusal_of(
+    runs: &VecDeque<Pieces>,
+    piece: &ChunkPayloadData,
+    limit: u32,
+) -> Option<Error>
+    ensures { result ≡ refusal_of_unordered runs.now.items piece.now limit }
+{
+    refusal(runs, place_for(runs, piece.tsn), piece, limit)
+}
+
 // Puts a piece to the others, and its message to the complete ones where this was its last piece. Where the piece is refused
 // nothing changes.
 pub(crate) fn put(
@@ -25,7 +36,7 @@ pub(crate) fn put(
     ensures unchanged { OnErr result (runs.new.items ≡ runs.old.items) }
     ensures complete_stay { OnErr result (complete.new.items ≡ complete.old.items) }
     ensures taken { IsOk result → refusal_of_unordered runs.old.items piece limit ≡ None }
-    ensures refused { IfErr result (λ e. (e ≡ Error.ErrNoMemory) ⊎ (refusal_of_unordered runs.old.items piece limit ≡ Some e)) }
+    ensures refused { IfErr result (λ e. ((e ≡ Error.ErrNoMemory) × (refusal_of_unordered runs.old.items piece limit ≡ None)) ⊎ (refusal_of_unordered runs.old.items piece limit ≡ Some e)) }
 {
     let place = place_for(runs, piece.tsn);
     if let Some(error) = refusal(runs, place, &piece, limit) {
