@@ -15,6 +15,7 @@ use Rattle.sctp_inbound.specs.declared.handshake.Handshake.{Handshake}
 use Rattle.sctp_inbound.specs.declared.receiver.Receiver.{Receiver}
 use Rattle.sctp_outbound.specs.declared.sender.Sender.{Sender}
 use Rattle.sctp_assoc.specs.declared.control.ControlPacket.{ControlPacket}
+use Rattle.sctp_assoc.specs.declared.effects.StateAnswers.{StateAnswers}
 
 pub record Shown : Type 0 where
   pub side : Side
@@ -46,9 +47,14 @@ all_stopped t =
     with_stopped names.Ack (with_stopped names.Reconfig (with_stopped names.T3RTX
     (with_stopped names.T2Shutdown (with_stopped names.T1Cookie (with_stopped names.T1Init t)))))
 
--- a call found no memory in its middle: no timer runs on, and the state is answered as it was before the call
-pub record HasFailed (state : AssociationState) (lost : Bool) (a : Shown) : Type 0 where
+-- what the questions about the state answer
+abbrev pub answers_of : Shown → StateAnswers
+answers_of a = record { state = a.state; lost = a.lost; completed = a.handshake.completed }
+
+-- a call found no memory in its middle: no timer runs on, and the questions about the state answer what they answered before it
+pub record HasFailed (before : StateAnswers) (a : Shown) : Type 0 where
   pub marked : a.failed ≡ true
-  pub state_stays : a.state ≡ state
-  pub loss_stays : a.lost ≡ lost
+  pub state_stays : a.state ≡ before.state
+  pub loss_stays : a.lost ≡ before.lost
+  pub handshaking_stays : a.handshake.completed ≡ before.completed
   pub disarmed : a.timers ≡ all_stopped a.timers

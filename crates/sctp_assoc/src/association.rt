@@ -13,7 +13,7 @@ ghost use Rattle.sctp_assoc.specs.Inbound.{packet_of, transmit_of};
 ghost use Rattle.sctp_assoc.specs.Join.{create_refusal, created, fresh_association, join_refusal, joined};
 ghost use Rattle.sctp_assoc.specs.Lending.{rests_if_refused, lent, lender, id_of};
 ghost use Rattle.sctp_assoc.specs.Polled.{IsAddressed, packets_of, polled};
-ghost use Rattle.sctp_assoc.specs.Shown.{HasFailed};
+ghost use Rattle.sctp_assoc.specs.Shown.{HasFailed, answers_of};
 ghost use Rattle.sctp_assoc.specs.Timeouts.{after_timeouts, handshake_goes_out_again};
 
 use crate::control::ControlPacket;
@@ -272,7 +272,7 @@ impl Association {
     pub fn poll_transmit(&mut self, now: Instant) -> Result<Option<Transmit>, Error>
         ensures failed { IsErrOf result Error.ErrAssociationFailed ↔ (self.old.failed ≡ true) }
         ensures refused { IsErrOf result Error.ErrAssociationFailed → self.new ≡ self.old }
-        ensures memory { IsErrOf result Error.ErrNoMemory → HasFailed self.old.state self.old.lost self.new }
+        ensures memory { IsErrOf result Error.ErrNoMemory → HasFailed (answers_of self.old) self.new }
         ensures only { OnErr result ((result ≡ Err Error.ErrAssociationFailed) ⊎ (result ≡ Err Error.ErrNoMemory)) }
         ensures ok { IfOk result (λ given. polled self.old now ≡ (self.new, packets_of given)) }
         ensures acts { IfOk result (λ given. PollsOn (acts_of_poll self.old now) self.old self.new (packets_of given)) }
@@ -280,11 +280,11 @@ impl Association {
         ensures addressed { IfOk result (λ given. IfSome given (λ t. IsAddressed self.new now t)) }
     {
         self.check_usable()?;
-        let answers = self.answers();
+        let before = self.answers();
         match self.gather(now) {
             Ok(packets) => Ok(self.transmit(packets, now)),
             Err(_) => {
-                self.fail(answers);
+                self.fail(before);
                 Err(Error::ErrNoMemory)
             }
         }
@@ -312,7 +312,7 @@ impl Association {
     pub fn handle_event(&mut self, event: AssociationEvent) -> Result<(), Error>
         ensures failed { IsErrOf result Error.ErrAssociationFailed ↔ (self.old.failed ≡ true) }
         ensures refused { IsErrOf result Error.ErrAssociationFailed → self.new ≡ self.old }
-        ensures memory { IsErrOf result Error.ErrNoMemory → HasFailed self.old.state self.old.lost self.new }
+        ensures memory { IsErrOf result Error.ErrNoMemory → HasFailed (answers_of self.old) self.new }
         ensures only { OnErr result ((result ≡ Err Error.ErrAssociationFailed) ⊎ (result ≡ Err Error.ErrNoMemory)) }
         ensures ok { OnOk result (self.new ≡ after_packet self.old (packet_of event) (transmit_of event).now) }
         ensures acts { OnOk result (LeadsOn (acts_of_packet self.old (packet_of event) (transmit_of event).now) self.old self.new) }
@@ -323,11 +323,11 @@ impl Association {
         match transmit.payload {
             Payload::RawEncode(_) => Ok(()),
             Payload::PartialDecode(datagram) => {
-                let answers = self.answers();
+                let before = self.answers();
                 match self.on_datagram(datagram, now) {
                     Ok(()) => Ok(()),
                     Err(_) => {
-                        self.fail(answers);
+                        self.fail(before);
                         Err(Error::ErrNoMemory)
                     }
                 }
@@ -341,18 +341,18 @@ impl Association {
     pub fn handle_timeout(&mut self, now: Instant) -> Result<(), Error>
         ensures failed { IsErrOf result Error.ErrAssociationFailed ↔ (self.old.failed ≡ true) }
         ensures refused { IsErrOf result Error.ErrAssociationFailed → self.new ≡ self.old }
-        ensures memory { IsErrOf result Error.ErrNoMemory → HasFailed self.old.state self.old.lost self.new }
+        ensures memory { IsErrOf result Error.ErrNoMemory → HasFailed (answers_of self.old) self.new }
         ensures again { IsErrOf result Error.ErrNoMemory → handshake_goes_out_again self.old now ≡ true }
         ensures only { OnErr result ((result ≡ Err Error.ErrAssociationFailed) ⊎ (result ≡ Err Error.ErrNoMemory)) }
         ensures ok { OnOk result (self.new ≡ after_timeouts self.old now) }
         ensures acts { OnOk result (LeadsOn (acts_of_timeouts self.old now) self.old self.new) }
     {
         self.check_usable()?;
-        let answers = self.answers();
+        let before = self.answers();
         match self.on_timers(now) {
             Ok(()) => Ok(()),
             Err(_) => {
-                self.fail(answers);
+                self.fail(before);
                 Err(Error::ErrNoMemory)
             }
         }

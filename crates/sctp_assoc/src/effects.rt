@@ -3,7 +3,7 @@ ghost use Rattle.std.specs.Prelude.{◌≡◌, ◌++◌, map, OnOk};
 ghost use Rattle.sctp_queues.specs.Streams.{without_streams, last_stats};
 ghost use Rattle.sctp_queues.specs.declared.event.Event.TheVariants.{DataChannelStatsFinal};
 ghost use Rattle.sctp_assoc.specs.Calls.{closed_by};
-ghost use Rattle.sctp_assoc.specs.Shown.{HasFailed, all_stopped};
+ghost use Rattle.sctp_assoc.specs.Shown.{HasFailed, all_stopped, answers_of};
 
 use crate::Association;
 use sctp_parts::state::AssociationState;
@@ -13,9 +13,11 @@ use std::alloc::AllocError;
 
 /// What the questions about the state answered before a call.
 #[derive(Clone, Copy, Debug)]
-pub(crate) struct Answers {
+pub(crate) struct StateAnswers {
     pub(crate) state: AssociationState,
     pub(crate) lost: bool,
+    /// The handshake was over.
+    pub(crate) completed: bool,
 }
 
 impl Association {
@@ -36,21 +38,23 @@ impl Association {
     }
 
     // Marks the association failed: no timer runs on, and the questions about its state go on to answer as before.
-    pub(crate) fn fail(&mut self, answers: Answers)
-        ensures { HasFailed answers.state answers.lost self.new }
+    pub(crate) fn fail(&mut self, before: StateAnswers)
+        ensures { HasFailed before self.new }
     {
-        self.state = answers.state;
-        self.lost = answers.lost;
+        self.state = before.state;
+        self.lost = before.lost;
+        self.handshake.completed = before.completed;
         self.failed = true;
         stop_all(&mut self.timers);
     }
 
-    pub(crate) fn answers(&self) -> Answers
-        ensures { (result.state ≡ self.now.state) × (result.lost ≡ self.now.lost) }
+    pub(crate) fn answers(&self) -> StateAnswers
+        ensures { result ≡ answers_of self.now }
     {
-        Answers {
+        StateAnswers {
             state: self.state,
             lost: self.lost,
+            completed: self.handshake.completed,
         }
     }
 }

@@ -12,7 +12,7 @@ use Rattle.sctp_assoc.specs.Chunks.{after_packet}
 use Rattle.sctp_assoc.specs.Happened.{PollsOn, acts_of_poll}
 use Rattle.sctp_assoc.specs.Inbound.{taken_packet}
 use Rattle.sctp_assoc.specs.Polled.{polled}
-use Rattle.sctp_assoc.specs.Shown.{HasFailed, Shown}
+use Rattle.sctp_assoc.specs.Shown.{HasFailed, Shown, answers_of}
 use Rattle.sctp_assoc.specs.Timeouts.{after_timeouts}
 use Rattle.sctp_pair.specs.declared.step.Reply.{Reply}
 use Rattle.sctp_pair.specs.declared.step.Reply.TheVariants as replies
@@ -81,7 +81,7 @@ Tells a _ b = ⊥
 
 -- memory was refused in the middle of a call, and the association failed
 abbrev pub Fails : Shown → ℕ → Shown → Type 0
-Fails a n b = (n ≡ refusal_number errors.ErrNoMemory) × HasFailed a.state a.lost b
+Fails a n b = (n ≡ refusal_number errors.ErrNoMemory) × HasFailed (answers_of a) b
 
 abbrev pub Expires : Shown → ℕ → Reply → Shown → Type 0
 Expires a now replies.Done b = (a.failed ≡ false) × (b ≡ after_timeouts a now)
