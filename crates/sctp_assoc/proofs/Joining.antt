@@ -162,7 +162,7 @@ taking_leads : (a : Shown) (piece : ChunkPayloadData) (h : History) → Binds a 
     → (k : History) × Leads (acts_of_taking a piece) a h (taken_in a piece).0 k
 unfolding taken_in
 taking_leads a piece h binds next whole =
-    taking_leads_unless (refusal_in a.streams piece.stream_identifier piece (2 ^ 32 - 1)) a piece h binds next whole
+    taking_leads_unless (refusal_in a.streams piece.stream_identifier piece a.receiver.max_receive_message_size) a piece h binds next whole
 
 asks_same : (x : Shown × Option Error) (piece : ChunkPayloadData) (wish : AckWish) → (asks_or_faults x piece wish).0 ≡ x.0
 asks_same (a, None) piece wish = refl

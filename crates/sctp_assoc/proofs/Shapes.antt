@@ -47,7 +47,7 @@ taking_if true (Some fault) piece = inl refl
 taking_if false refusal piece = inl refl
 
 found_acts : (x : Shown) (piece : ChunkPayloadData) → (acts_of_found (x, true) piece ≡ []) ⊎ (acts_of_found (x, true) piece ≡ Act.Took piece ∷ [])
-found_acts x piece = taking_if (ltb 0 (credit_of x.receiver (bytes_waiting x.streams))) (refusal_in x.streams piece.stream_identifier piece (2 ^ 32 - 1)) piece
+found_acts x piece = taking_if (ltb 0 (credit_of x.receiver (bytes_waiting x.streams))) (refusal_in x.streams piece.stream_identifier piece x.receiver.max_receive_message_size) piece
 
 stream_acts : (o : Option Stream) (left : Bool) (a : Shown) (piece : ChunkPayloadData) → stream_at a.streams piece.stream_identifier ≡ o → generation_left a.streams ≡ left
     → IsTaking a piece (acts_of_stream a piece.stream_identifier ++ acts_of_found (stream_found (counted_data a) piece.stream_identifier) piece)

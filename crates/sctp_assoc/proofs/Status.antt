@@ -1,5 +1,5 @@
 -- Calls leave an association's status as it is: whether it failed, its state, whether it was lost, and its payload size.
-use Rattle.std.proofs.Common.{◌≡◌, refl, sym, ap, ◌∙◌, ℕ, zero, suc, ◌-◌, ◌^◌, Bool, true, false, ◌&&◌, if◌then◌else◌, not, eqb, ltb, List, [], ◌∷◌, length, Option, Some, None, is_some, Result, Ok, Err}
+use Rattle.std.proofs.Common.{◌≡◌, refl, sym, ap, ◌∙◌, ℕ, zero, suc, Bool, true, false, ◌&&◌, if◌then◌else◌, not, eqb, ltb, List, [], ◌∷◌, length, Option, Some, None, is_some, Result, Ok, Err}
 use Rattle.std.specs.Prelude.{slice_get}
 use Rattle.sctp_wire_types.specs.declared.chunk.Chunk.{Chunk}
 use Rattle.sctp_wire_types.specs.declared.chunk.Chunk.TheVariants as chunks
@@ -82,7 +82,7 @@ told_if true true a id e = rw e (status_by a _ refl refl refl refl refl refl ref
 told_if false true a id e = rw e (status_by a _ refl refl refl refl refl refl refl)
 told_if readable false a id e = status_by a _ refl refl refl refl refl refl refl
 
-taken_status : (refusal : Option Error) (a : Shown) (piece : ChunkPayloadData) → refusal_in a.streams piece.stream_identifier piece (2 ^ 32 - 1) ≡ refusal → IsSameStatus a (taken_in a piece).0
+taken_status : (refusal : Option Error) (a : Shown) (piece : ChunkPayloadData) → refusal_in a.streams piece.stream_identifier piece a.receiver.max_receive_message_size ≡ refusal → IsSameStatus a (taken_in a piece).0
 unfolding taken_in
 taken_status (Some fault) a piece e = rw e (status_same a)
 taken_status None a piece e =
@@ -98,7 +98,7 @@ next_data_status : (there credit : Bool) (a : Shown) (piece : ChunkPayloadData) 
     → IsSameStatus a (on_next_data (a, there) piece wish).0
 next_data_status false credit a piece wish e = status_same a
 next_data_status true true a piece wish e =
-    rw (e, asked_status (taken_in a piece) piece wish) (taken_status (refusal_in a.streams piece.stream_identifier piece (2 ^ 32 - 1)) a piece refl)
+    rw (e, asked_status (taken_in a piece) piece wish) (taken_status (refusal_in a.streams piece.stream_identifier piece a.receiver.max_receive_message_size) a piece refl)
 next_data_status true false a piece wish e = rw e (status_same a)
 
 found_next_status : (x : Shown × Bool) (a : Shown) (piece : ChunkPayloadData) (wish : AckWish) → IsSameStatus a x.0 → IsSameStatus a (on_next_data x piece wish).0

@@ -1,5 +1,5 @@
 -- What the chunks of a packet do to an association (RFC 4960 sections 3.3 and 6.2).
-use Rattle.std.specs.Prelude.{ℕ, ◌-◌, ◌^◌, Bool, true, false, List, [], ◌∷◌, ◌++◌, ◌&&◌, if◌then◌else◌, not, is_some, length, nat_lt, Option, Some, None, Result, Ok, Err}
+use Rattle.std.specs.Prelude.{ℕ, Bool, true, false, List, [], ◌∷◌, ◌++◌, ◌&&◌, if◌then◌else◌, not, is_some, length, nat_lt, Option, Some, None, Result, Ok, Err}
 use Rattle.sctp_wire_types.specs.declared.error.Error.{Error}
 use Rattle.sctp_wire_types.specs.declared.error.Error.TheVariants as errors
 use Rattle.sctp_wire_types.specs.declared.chunk.Chunk.{Chunk}
@@ -66,9 +66,9 @@ abbrev pub taken_unless : Option Error → Shown → ChunkPayloadData → Shown 
 taken_unless (Some fault) a piece = (a, Some fault)
 taken_unless None a piece = (with_message a piece (pushed_in a.streams piece.stream_identifier piece), None)
 
--- a message goes to its stream and the point moves to its TSN, or the stream refuses it
+-- a message goes to its stream and the point moves to its TSN, or the stream refuses it, as one longer than the limit
 unfoldable pub taken_in : Shown → ChunkPayloadData → Shown × Option Error
-taken_in a piece = taken_unless (refusal_in a.streams piece.stream_identifier piece (2 ^ 32 - 1)) a piece
+taken_in a piece = taken_unless (refusal_in a.streams piece.stream_identifier piece a.receiver.max_receive_message_size) a piece
 
 abbrev pub asks : Shown → ChunkPayloadData → AckWish → Shown × Flow
 asks a piece wish = (a, flows.Next (asked a.receiver wish piece.immediate_sack))

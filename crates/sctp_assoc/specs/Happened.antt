@@ -1,5 +1,5 @@
 -- What each call does to the two directions.
-use Rattle.std.specs.Prelude.{◌≡◌, ℕ, zero, suc, Bool, true, false, List, [], ◌∷◌, ◌++◌, ◌&&◌, ◌+◌, ◌-◌, ◌^◌, ◌==◌, if◌then◌else◌, not, is_some, length, nat_lt, Option, Some, None, Result, Ok, Err}
+use Rattle.std.specs.Prelude.{◌≡◌, ℕ, zero, suc, Bool, true, false, List, [], ◌∷◌, ◌++◌, ◌&&◌, ◌+◌, ◌-◌, ◌==◌, if◌then◌else◌, not, is_some, length, nat_lt, Option, Some, None, Result, Ok, Err}
 use Rattle.sctp_wire_types.specs.declared.error.Error.{Error}
 use Rattle.sctp_wire_types.specs.declared.chunk.Chunk.{Chunk}
 use Rattle.sctp_wire_types.specs.declared.chunk.Chunk.TheVariants as chunks
@@ -46,7 +46,7 @@ acts_unless_refused None piece = Act.Took piece ∷ []
 
 -- and is taken in unless its stream refuses it
 abbrev pub acts_of_taking : Shown → ChunkPayloadData → List Act
-acts_of_taking a piece = acts_unless_refused (refusal_in a.streams piece.stream_identifier piece (2 ^ 32 - 1)) piece
+acts_of_taking a piece = acts_unless_refused (refusal_in a.streams piece.stream_identifier piece a.receiver.max_receive_message_size) piece
 
 abbrev pub acts_of_found : Shown × Bool → ChunkPayloadData → List Act
 acts_of_found (a, false) piece = []

@@ -42,7 +42,7 @@ fresh_association config size remote_addr local_ip side state handshake point wi
   failed = false;
   max_send_message_size = config.max_send_message_size;
   handshake = handshake;
-  receiver = fresh_receiver config.max_receive_buffer_size point;
+  receiver = fresh_receiver config.max_receive_buffer_size config.max_receive_message_size point;
   sender = fresh_sender size handshake.my_initial_tsn window;
   streams = no_stream;
   events = [];

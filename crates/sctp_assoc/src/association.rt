@@ -215,7 +215,11 @@ impl Association {
             failed: false,
             max_send_message_size: config.max_send_message_size(),
             handshake,
-            receiver: Receiver::new(config.max_receive_buffer_size(), point),
+            receiver: Receiver::new(
+                config.max_receive_buffer_size(),
+                config.max_receive_message_size(),
+                point,
+            ),
             sender: Sender::new(alloc, max_payload_size, initial_tsn, window),
             streams: Streams::new(alloc),
             events: Events::new(alloc),

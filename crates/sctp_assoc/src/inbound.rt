@@ -152,14 +152,16 @@ impl Association {
         Ok(true)
     }
 
-    // Hands a message to its stream and then moves the point; answers why the stream refuses it, if it does.
+    // Hands a message to its stream and then moves the point; answers why the stream refuses it, if it does: one that is
+    // longer than the limit is a refusal.
     #[tactic(auto, unfolding(crate::specs::Chunks::taken_in))]
     fn take_in(&mut self, piece: ChunkPayloadData) -> Result<Option<Error>, AllocError>
         ensures { IfOk result (λ fault. taken_in self.old piece ≡ (self.new, fault)) }
     {
         let id = piece.stream_identifier;
         let tsn = piece.tsn;
-        let kept = match self.streams.push(id, piece, u32::MAX) {
+        let limit = self.receiver.max_receive_message_size;
+        let kept = match self.streams.push(id, piece, limit) {
             Ok(kept) => kept,
             Err(Error::ErrNoMemory) => return Err(AllocError),
             Err(fault) => return Ok(Some(fault)),

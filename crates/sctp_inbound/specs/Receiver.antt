@@ -9,8 +9,9 @@ use Rattle.sctp_inbound.specs.declared.receiver.Receiver.{Receiver}
 use Rattle.sctp_inbound.specs.declared.receiver.AckWish.{AckWish}
 use Rattle.sctp_inbound.specs.declared.receiver.AckWish.TheVariants as wishes
 
-abbrev pub fresh_receiver : ℕ → ℕ → Receiver
-fresh_receiver size point = record { point = point; ack_state = states.Idle; buffer_size = size }
+-- nothing came; this many bytes may wait for their reader, and a message may be so long
+abbrev pub fresh_receiver : ℕ → ℕ → ℕ → Receiver
+fresh_receiver size limit point = record { point = point; ack_state = states.Idle; buffer_size = size; max_receive_message_size = limit }
 
 -- the peer's initial TSN is known, and nothing came from there on
 abbrev pub receiver_from : Receiver → ℕ → Receiver

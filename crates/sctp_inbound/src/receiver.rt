@@ -23,17 +23,20 @@ pub struct Receiver {
     pub ack_state: AckState,
     /// Bytes that may wait for their reader.
     pub buffer_size: u32,
+    /// Greatest message that is put together, in bytes.
+    pub max_receive_message_size: u32,
 }
 
 impl Receiver {
     /// Nothing came; the first TSN to come is the one after `point`.
-    pub fn new(buffer_size: u32, point: u32) -> Self
-        ensures { result ≡ fresh_receiver buffer_size point }
+    pub fn new(buffer_size: u32, max_receive_message_size: u32, point: u32) -> Self
+        ensures { result ≡ fresh_receiver buffer_size max_receive_message_size point }
     {
         Receiver {
             point,
             ack_state: AckState::Idle,
             buffer_size,
+            max_receive_message_size,
         }
     }
 
