@@ -6,6 +6,7 @@ pub mod Counted
 pub mod Giving
 pub mod Greeted
 mod OneSide
+pub mod Onward
 pub mod Packets
 pub mod Polls
 pub mod Promised

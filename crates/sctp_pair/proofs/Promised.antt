@@ -1,5 +1,5 @@
 -- Where both associations stand in a direction, what is promised of it holds.
-use Rattle.std.proofs.Common.{sym, ◌∙◌, ◌⊎◌, ⊎_elim, ℕ}
+use Rattle.std.proofs.Common.{◌≡◌, sym, ◌∙◌, ◌⊎◌, ⊎_elim, inl, inr, ℕ, true}
 use Rattle.std.proofs.lemmas.Bool.{true≢false}
 use Rattle.sctp_model.specs.Machine.{Direction}
 use Rattle.sctp_model.specs.Invariants.{Invariant}
@@ -20,6 +20,17 @@ stands_open own peer a out coming o h =
     (λ (r : StandsClosed own a coming ⊎ StandsFailed a coming). ⊎_elim
     (λ (s : StandsClosed own a coming). absurd (true≢false (sym s.closed ∙ o.1)))
     (λ (s : StandsFailed a coming). absurd (true≢false (sym s.failed ∙ o.0)))
+    r)
+    h
+
+-- the receiver of what comes to an association is open, or the association is closed or failed
+pub receives_or_stopped : (own peer : ℕ) (a : Shown) (out coming : Direction) → Stands own peer a out coming → (coming.receiver.is_open ≡ true) ⊎ (IsOpen a → ⊥)
+receives_or_stopped own peer a out coming h =
+    ⊎_elim
+    (λ (s : StandsOpen own peer a out coming). inl s.incoming.is_open)
+    (λ (r : StandsClosed own a coming ⊎ StandsFailed a coming). ⊎_elim
+    (λ (s : StandsClosed own a coming). inr (λ (o : IsOpen a). true≢false (sym s.closed ∙ o.1)))
+    (λ (s : StandsFailed a coming). inr (λ (o : IsOpen a). true≢false (sym s.failed ∙ o.0)))
     r)
     h
 

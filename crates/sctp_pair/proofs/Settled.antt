@@ -6,6 +6,7 @@ use Rattle.sctp_model.specs.Messages.{Message}
 use Rattle.sctp_model.specs.Packets.{mem}
 use Rattle.sctp_model.specs.Serial.{tsn}
 use Rattle.sctp_model.specs.Machine.{Direction, Sender}
+use Rattle.sctp_model.specs.Invariants.{Invariant}
 use Rattle.sctp_model.proofs.Lists.{all_join}
 use Rattle.sctp_assoc.specs.Calls.{is_established}
 use Rattle.sctp_assoc.specs.Meeting.{IsNoEarlier, Stage}
@@ -13,6 +14,7 @@ use Rattle.sctp_assoc.specs.Shapes.{OfEachChunk}
 use Rattle.sctp_assoc.specs.Shown.{Shown}
 use Rattle.sctp_assoc.proofs.Proved.{established_is_not_closed, established_sides_talk}
 use Rattle.sctp_directions.specs.Incoming.{IsReadAs}
+use Rattle.sctp_directions.specs.Plain.{IsPlain}
 use Rattle.sctp_pair.specs.declared.step.Reply.{Reply}
 use Rattle.sctp_pair.specs.declared.step.Side2.{Side2}
 use Rattle.sctp_pair.specs.declared.step.Side2.TheVariants as sides
@@ -22,7 +24,8 @@ use Rattle.sctp_pair.specs.Steps.{Steps, packet_in}
 use Rattle.sctp_pair.specs.World.{HasData, IsDirectionStep, IsOpen, World, accepted_at, message_read, other_side, packet_brought}
 use Rattle.sctp_pair.specs.Fits.{AreSaid, Fits, IsAt, IsSaidBy, IsSilent, LeadsSafely, Stands, StandsIn, StandsOpen}
 use Rattle.sctp_pair.proofs.Between.{Does, Faces, None_brought, Settles, nothing_added, nothing_read}
-use Rattle.sctp_pair.proofs.Promised.{safe_world}
+use Rattle.sctp_pair.proofs.Onward.{runs_are_onward}
+use Rattle.sctp_pair.proofs.Promised.{receives_or_stopped, safe_world}
 use Rattle.sctp_pair.proofs.Saying.{said_grows}
 use Rattle.sctp_pair.proofs.Stages.{stays_put, turned}
 
@@ -72,8 +75,9 @@ direction_step : (step : Step) (reply : Reply) (sender receiver : Side2) (w : Wo
     (Added : ℕ → List Message) (Read : ℕ → Option letters.Message) (Brought : ℕ → Type 0) → Does Added Read Brought before after
     → ((s : ℕ) → Added s ≡ accepted_at step reply sender s w) → ((s : ℕ) → Read s ≡ message_read step reply receiver s)
     → ((o : ℕ) → Brought o → HasData (packet_brought step receiver w) (tsn initial o))
-    → IsOpen (end_of sender q) ⊎ (after.sender.plan.places ≡ before.sender.plan.places) → IsDirectionStep step reply sender receiver w q initial before after
-direction_step step reply sender receiver w q initial before after Added Read Brought d adds reads brings no_more = record {
+    → IsOpen (end_of sender q) ⊎ (after.sender.plan.places ≡ before.sender.plan.places) → IsPlain before → Invariant after → IsPlain after
+    → (after.receiver.is_open ≡ true) ⊎ (IsOpen (end_of receiver q) → ⊥) → IsDirectionStep step reply sender receiver w q initial before after
+direction_step step reply sender receiver w q initial before after Added Read Brought d adds reads brings no_more was inv plain receives = record {
   events = d.events;
   happened = d.is;
   accepted = λ s. d.accepted s ∙ ap (λ (z : List Message). before.sender.plan.accepted s ++ z) (adds s);
@@ -84,6 +88,12 @@ direction_step step reply sender receiver w q initial before after Added Read Br
       (d.taken o m);
   point_on = d.point_on;
   no_more = no_more;
+  span = λ s o. absurd (true≢false (sym o ∙ plain.span s));
+  span_over = λ s o. ap (λ (z : Direction). z.over s) d.is ∙ (runs_are_onward d.events before).over s o;
+  passed = inl (plain.unskipped ∙ sym was.unskipped);
+  given_up = λ s i g. inr (inv.sending.given_up s i g).1;
+  closes = ⊎_elim (λ (o : after.receiver.is_open ≡ true). inl o) (λ (n : IsOpen (end_of receiver q) → ⊥). inr (inr n)) receives;
+  stays_closed = λ c. ap (λ (z : Direction). z.receiver.is_open) d.is ∙ (runs_are_onward d.events before).closed c;
 }
 
 -- an association that is established is open
@@ -114,9 +124,11 @@ settled_a step r q w Added Read Brought given fits same_b more same_packets ends
     same_a = refl;
     same_b = refl;
     ab_step = direction_step step r sides.A sides.B w q w.initial_a w.ab s.out2 Added nothing_read None_brought s.does_out
-        call.adds call.reads_alone (λ o n. absurd n) (is_open w.initial_a w.initial_b q.a s.out2 s.coming2 w.ab s.no_more);
+        call.adds call.reads_alone (λ o n. absurd n) (is_open w.initial_a w.initial_b q.a s.out2 s.coming2 w.ab s.no_more)
+        fits.stand.plain_ab s.invariant_out s.plain_out (receives_or_stopped w.initial_b w.initial_a q.b s.coming2 s.out2 stands.side_b);
     ba_step = direction_step step r sides.B sides.A w q w.initial_b w.ba s.coming2 nothing_added Read Brought s.does_coming
-        call.adds_alone call.reads call.brings (inr (ap (λ (x : Sender). x.plan.places) s.coming_still));
+        call.adds_alone call.reads call.brings (inr (ap (λ (x : Sender). x.plan.places) s.coming_still))
+        fits.stand.plain_ba s.invariant_coming s.plain_coming (receives_or_stopped w.initial_a w.initial_b q.a s.out2 s.coming2 stands.side_a);
   },
   stands,
   λ within. safe_world q v (record { within = within; stand = stands }),
@@ -161,9 +173,11 @@ settled_b step r q w Added Read Brought given fits same_a more same_packets ends
     same_a = refl;
     same_b = refl;
     ab_step = direction_step step r sides.A sides.B w q w.initial_a w.ab s.coming2 nothing_added Read Brought s.does_coming
-        call.adds_alone call.reads call.brings (inr (ap (λ (x : Sender). x.plan.places) s.coming_still));
+        call.adds_alone call.reads call.brings (inr (ap (λ (x : Sender). x.plan.places) s.coming_still))
+        fits.stand.plain_ab s.invariant_coming s.plain_coming (receives_or_stopped w.initial_b w.initial_a q.b s.out2 s.coming2 stands.side_b);
     ba_step = direction_step step r sides.B sides.A w q w.initial_b w.ba s.out2 Added nothing_read None_brought s.does_out
-        call.adds call.reads_alone (λ o n. absurd n) (is_open w.initial_b w.initial_a q.b s.out2 s.coming2 w.ba s.no_more);
+        call.adds call.reads_alone (λ o n. absurd n) (is_open w.initial_b w.initial_a q.b s.out2 s.coming2 w.ba s.no_more)
+        fits.stand.plain_ba s.invariant_out s.plain_out (receives_or_stopped w.initial_a w.initial_b q.a s.coming2 s.out2 stands.side_a);
   },
   stands,
   λ within. safe_world q v (record { within = within; stand = stands }),

@@ -1,18 +1,21 @@
 -- Both directions between two associations that face each other, and all that ever happened in them.
 use Rattle.std.specs.Prelude.{◌≡◌, ◌≤◌, ℕ, Bool, true, false, ◌&&◌, ◌++◌, ◌+◌, ◌==◌, ◌⊎◌, if◌then◌else◌, List, [], ◌∷◌, map, slice_get, Option, Some, None, Ok}
 use Rattle.sctp_wire_types.specs.declared.chunk.Chunk.TheVariants as chunks
+use Rattle.sctp_wire_types.specs.declared.chunk.ChunkForwardTsn.{ChunkForwardTsn}
+use Rattle.sctp_wire_types.specs.declared.chunk.ChunkIForwardTsn.{ChunkIForwardTsn}
 use Rattle.sctp_wire_types.specs.declared.chunk.ChunkPayloadData.{ChunkPayloadData}
 use Rattle.sctp_wire.specs.declared.packet.Packet.{Packet}
 use Rattle.sctp_receive_queues.specs.Messages.{Message}
 use Rattle.sctp_queues.specs.Stream.{Stream}
 use Rattle.sctp_queues.specs.Streams.{stream_at}
 use Rattle.sctp_model.specs.Messages as model
-use Rattle.sctp_model.specs.Messages.{accepted_bytes}
+use Rattle.sctp_model.specs.Messages.{accepted_bytes, is_reliable, message_at}
 use Rattle.sctp_model.specs.Packets.{mem}
 use Rattle.sctp_model.specs.Serial.{tsn}
 use Rattle.sctp_model.specs.Reassembly as queue
 use Rattle.sctp_model.specs.Machine.{Direction, Event, fresh, live, run}
 use Rattle.sctp_model.specs.Safe.{IsSafe, IsWithin, letter_read}
+use Rattle.sctp_assoc.specs.Acts.{tsn_before}
 use Rattle.sctp_assoc.specs.Calls.{buffered_of, is_closed_state, ready_messages}
 use Rattle.sctp_assoc.specs.Shown.{Shown}
 use Rattle.sctp_directions.specs.Incoming.{IsReadAs, letter_of}
@@ -82,13 +85,25 @@ HasData None t = ⊥
 HasData (Some packet) t =
     (k : ℕ) × (c : ChunkPayloadData) × (slice_get packet.chunks k ≡ Some (chunks.Data c)) × (c.tsn ≡ t)
 
+-- The packet has a FORWARD TSN with this new cumulative TSN (RFC 3758 section 3.2), or an I-FORWARD-TSN (RFC 8260 section 2.3.1).
+abbrev pub HasForward : Option Packet → ℕ → Type 0
+HasForward None t = ⊥
+HasForward (Some packet) t =
+    ((k : ℕ) × (c : ChunkForwardTsn) × (slice_get packet.chunks k ≡ Some (chunks.ForwardTsn c)) × (c.new_cumulative_tsn ≡ t))
+    ⊎ ((k : ℕ) × (c : ChunkIForwardTsn) × (slice_get packet.chunks k ≡ Some (chunks.IForwardTsn c)) × (c.new_cumulative_tsn ≡ t))
+
+-- A step with this reply may end the span of stream s: it resets, retires or stops the stream at either end. So far none does.
+abbrev pub EndsSpan : Step → Reply → ℕ → Type 0
+EndsSpan step reply s = ⊥
+
 -- neither closed nor failed
 abbrev pub IsOpen : Shown → Type 0
 IsOpen a = (a.failed ≡ false) × (is_closed_state a.state ≡ false)
 
 -- What a step does to the direction from one side to the other, of this initial TSN: its write is accepted, its read gives the
 -- next message, and nothing is taken in but DATA of the packet that it delivers. Whatever else it does are events of the model; the
--- acknowledged point moves on alone, and a sender that isn't open afterwards assigned no offset.
+-- acknowledged point moves on alone, and a sender that isn't open afterwards assigned no offset. What a step may leave out of the
+-- promise is bounded, too: whose span ends, what is passed over or given up, and who stops receiving.
 pub record IsDirectionStep (step : Step) (reply : Reply) (sender receiver : Side2) (w : World) (q : Ends) (initial : ℕ) (before after : Direction) : Type 0 where
   pub events : List Event
   pub happened : after ≡ run events before
@@ -98,6 +113,20 @@ pub record IsDirectionStep (step : Step) (reply : Reply) (sender receiver : Side
       → (mem o before.receiver.taken ≡ true) ⊎ HasData (packet_brought step receiver w) (tsn initial o)
   pub point_on : before.sender.point ≤ after.sender.point
   pub no_more : IsOpen (end_of sender q) ⊎ (after.sender.plan.places ≡ before.sender.plan.places)
+  -- a stream's span ends only where the step resets, retires or stops the stream at either end (RFC 6525 section 5), and does not
+  -- begin again
+  pub span : (s : ℕ) → after.over s ≡ true → (before.over s ≡ true) ⊎ EndsSpan step reply s
+  pub span_over : (s : ℕ) → before.over s ≡ true → after.over s ≡ true
+  -- what the receiver passed over moves only to the new cumulative TSN of a FORWARD TSN in the packet that the step delivers
+  -- (RFC 3758 section 3.6); `passed` is one past the greatest offset passed over
+  pub passed : (after.receiver.passed ≡ before.receiver.passed)
+      ⊎ HasForward (packet_brought step receiver w) (tsn_before (tsn initial after.receiver.passed))
+  -- no reliable message is given up (RFC 3758 section 3.5)
+  pub given_up : (s i : ℕ) → after.sender.gone s i ≡ true
+      → (before.sender.gone s i ≡ true) ⊎ (is_reliable (message_at after.sender.plan s i).policy ≡ false)
+  -- the receiver of a side that is neither closed nor failed after the step does not close, and a closed one does not open again
+  pub closes : (after.receiver.is_open ≡ true) ⊎ ((before.receiver.is_open ≡ false) ⊎ (IsOpen (end_of receiver q) → ⊥))
+  pub stays_closed : before.receiver.is_open ≡ false → after.receiver.is_open ≡ false
 
 -- A step with its reply, from one world to the next.
 pub record IsWorldStep (step : Step) (w : World) (reply : Reply) (v : World) : Type 0 where
