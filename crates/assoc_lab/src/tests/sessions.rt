@@ -1,6 +1,7 @@
 // Whole sessions over memory: output, errors and status are compared. The stored run of the program is one more: one message and
 // its acknowledgement.
 use crate::session::session;
+use std::alloc::{AllocError, Global};
 use std::process::Abort;
 use std::test::Fail;
 
@@ -160,6 +161,35 @@ fn sessions_give_their_replies(rt: HostRuntime) -> Result<(), Fail> {
     }
     check(&rt, b"", "", "", 0)?;
     check(&rt, b"snap 1200 100 500\nrtt A", "ok\n3000\n", "", 0)
+}
+
+/// How many messages wait at once, and how many packets and events then do.
+const MANY: u64 = 1_000;
+
+// A side writes many messages and gives them all out at once; the other side gets all their packets before it asks for the
+// first event, or reads.
+fn many_waiting(alloc: Global) -> Result<String, AllocError> {
+    let mut text = String::new(alloc);
+    text.push_str("snap 1200 100 500=ok\nopen A 1 53=ok\n")?;
+    for _ in 0..MANY {
+        text.push_str("write A 1 61=wrote 1\n")?;
+    }
+    text.push_str("buffered A 1=1000\nsend A 0=packets 0 1000\n")?;
+    for number in 0..MANY {
+        text.push_str(format!(in alloc; "deliver B {number} 0=ok\n")?.as_str())?;
+    }
+    text.push_str("event B=connected\nevent B=opened 1\n")?;
+    for _ in 0..MANY {
+        text.push_str("event B=datagram\nevent B=readable 1\nread B 1=message 53 61\n")?;
+    }
+    text.push_str("event B=none\nread B 1=none\n")?;
+    Ok(text)
+}
+
+#[test]
+fn much_may_wait_at_once(rt: HostRuntime) -> Result<(), Fail> {
+    let text = many_waiting(rt.alloc())?;
+    check_replies(&rt, text.as_str())
 }
 
 /// Lines that are no steps, each behind a first one that joins a pair.
