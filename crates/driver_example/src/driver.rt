@@ -141,14 +141,24 @@ impl Driver {
         let Some(transmit) = self.association.poll_transmit(now)? else {
             return Ok(());
         };
-        if let Payload::RawEncode(packets) = transmit.payload {
-            for packet in packets {
-                let text = hex::encode(self.alloc, packet.as_slice())?;
-                writeln!(output, "{} out {text}", millis(now))?;
-            }
+        match transmit.payload {
+            Payload::RawEncode(packets) => write_packets(self.alloc, now, packets, output),
+            Payload::PartialDecode(_) => Ok(()),
         }
-        Ok(())
     }
+}
+
+fn write_packets<W: Write>(
+    alloc: Global,
+    now: Instant,
+    packets: Vec<Bytes>,
+    output: &mut W,
+) -> Result<()> {
+    for packet in packets {
+        let text = hex::encode(alloc, packet.as_slice())?;
+        writeln!(output, "{} out {text}", millis(now))?;
+    }
+    Ok(())
 }
 
 fn millis(moment: Instant) -> u64 {
