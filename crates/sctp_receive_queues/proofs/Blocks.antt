@@ -1,6 +1,7 @@
 -- Gap ack blocks say exactly the offsets of the TSNs held, by maximal runs.
-use Rattle.std.proofs.Common.{◌≡◌, ℕ, suc, ◌+◌, ◌-◌, ◌^◌, ◌<◌, ◌≤◌, Bool, true, false, ◌&&◌, ◌||◌, ltb, leb, eqb, List, [], ◌∷◌, ◌++◌, length, refl, ap, sym, ◌∙◌, ◌⊎◌, inl, inr, ⊎_elim, cond, arith}
+use Rattle.std.proofs.Common.{◌≡◌, ℕ, suc, ◌+◌, ◌-◌, ◌^◌, ◌<◌, ◌≤◌, Bool, true, false, ◌&&◌, ◌||◌, ltb, leb, eqb, List, [], ◌∷◌, ◌++◌, length, refl, ap, sym, ◌∙◌, ◌⊎◌, inl, inr, ⊎_elim, cond, arith, Option, Some, None}
 use Rattle.std.specs.List.{list_any, All}
+use Rattle.std.specs.Option.{is_some}
 use Rattle.std.specs.List.Sorted.{IsStrictlySortedBy}
 use Rattle.std.specs.Ordering.{nat_cmp}
 use Rattle.std.specs.BTreeMap.{is_at}
@@ -19,10 +20,22 @@ use Rattle.sctp_receive_queues.specs.Received.{is_held, has_offset, next_tsn, ad
 
 -- The point moves on.
 
-pub advance_more : (p : ℕ) (ks ns : List ℕ) → is_held (next_tsn p) ks ≡ true → length ns + 1 ≡ length ks → ns ≡ remove_key (is_at (nat_cmp (next_tsn p))) ks → advanced (length ns) (next_tsn p) ns ≡ advanced (length ks) p ks
+advance_more : (p : ℕ) (ks ns : List ℕ) → is_held (next_tsn p) ks ≡ true → length ns + 1 ≡ length ks → ns ≡ remove_key (is_at (nat_cmp (next_tsn p))) ks → advanced (length ns) (next_tsn p) ns ≡ advanced (length ks) p ks
 advance_more p ks ns held shorter e =
     let n : length ks ≡ suc (length ns) = omega (arith, shorter) in
     rw (n, held, e)
+
+some_popped : (b : Bool) (tsn : ℕ) (popped : Option ℕ) → popped ≡ cond b (Some tsn) None → is_some popped ≡ true → b ≡ true
+some_popped true tsn popped is some = refl
+some_popped false tsn popped is some = sym (ap is_some is) ∙ some
+
+-- over a TSN that was taken out
+pub advance_over : (p : ℕ) (ks ns : List ℕ) (popped : Option ℕ)
+    → popped ≡ cond (is_held (next_tsn p) ks) (Some (next_tsn p)) None → is_some popped ≡ true
+    → length ns + cond (is_some popped) 1 0 ≡ length ks → ns ≡ remove_key (is_at (nat_cmp (next_tsn p))) ks
+    → advanced (length ns) (next_tsn p) ns ≡ advanced (length ks) p ks
+advance_over p ks ns popped is some shorter e =
+    advance_more p ks ns (some_popped _ _ popped is some) (rw some at shorter) e
 
 -- What the blocks name.
 

@@ -1,5 +1,5 @@
 // TSNs that came and stand above the cumulative TSN ack point.
-ghost use Rattle.std.specs.Prelude.{◌≡◌, ℕ, ◌+◌, ◌%◌, ◌^◌, ◌<◌, ◌==◌, ◌++◌, not, false, if◌then◌else◌, length, [], filter, IfOk, OnOk, OnErr};
+ghost use Rattle.std.specs.Prelude.{◌≡◌, ℕ, ◌+◌, ◌%◌, ◌^◌, ◌<◌, ◌==◌, ◌++◌, not, if◌then◌else◌, length, [], filter, Some, None, is_some, false, IfOk, OnOk, OnErr};
 ghost use Rattle.std.specs.Ordering.{nat_cmp};
 ghost use Rattle.std.specs.BTreeMap.{is_at};
 ghost use Rattle.std.specs.Set.{remove_key};
@@ -67,14 +67,14 @@ impl ReceiveQueue {
         Ok(true)
     }
 
-    /// Removes a TSN, and answers whether it was held.
-    pub fn pop(&mut self, tsn: u32) -> bool
-        ensures held { result ≡ is_held tsn self.old }
+    /// Takes out a TSN and answers it; None where it was not held.
+    pub fn pop(&mut self, tsn: u32) -> Option<u32>
+        ensures held { result ≡ (if is_held tsn self.old then Some tsn else None) }
         ensures removed { self.new ≡ remove_key (is_at (nat_cmp tsn)) self.old }
-        ensures unchanged { result ≡ false → self.new ≡ self.old }
-        ensures fewer { length self.new + (if result then 1 else 0) ≡ length self.old }
+        ensures unchanged { result ≡ None → self.new ≡ self.old }
+        ensures fewer { length self.new + (if is_some result then 1 else 0) ≡ length self.old }
     {
-        self.tsns.remove(&tsn)
+        self.tsns.remove(&tsn).then_some(tsn)
     }
 
     /// Removes all TSNs that are at or below this one.
@@ -91,7 +91,7 @@ impl ReceiveQueue {
         ensures stops { is_held ((result + 1) % 2 ^ 32) self.new ≡ false }
     {
         let mut point = point;
-        while self.pop(point.wrapping_add(1)) {
+        while self.pop(point.wrapping_add(1)).is_some() {
             point = point.wrapping_add(1);
         }
         point
