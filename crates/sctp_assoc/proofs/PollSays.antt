@@ -20,6 +20,7 @@ use Rattle.sctp_assoc.specs.declared.control.ControlPacket.{ControlPacket}
 use Rattle.sctp_assoc.specs.Polled.{AckIsReadAgain, AreControlReadAgain, AreReadAgain, IsReadAgain, ack_after, after_both, control_packets, data_packets, data_polled, exchange_polled, is_due, packet_bytes, packet_with, sack_chunk, sack_packet, spelled, without_control}
 use Rattle.sctp_assoc.specs.Shapes.{IsGivenBy, IsWaitingToGo, OfEachChunk, PollsOutsideEstablishedGiveWhatWaits, PollsSayTheirActs, WhatWaitsGoesOutAsItIs}
 use Rattle.sctp_assoc.specs.Shown.{Shown}
+use Rattle.sctp_assoc.proofs.Reporting.{sacks_say_what_came}
 
 -- each chunk that a datagram spells is so
 abbrev AreOf : (Chunk → Type 0) → List (List ℕ) → Type 0
@@ -87,7 +88,7 @@ polls_say_their_acts acts a b h packets plain again established binds polls =
     (data_says (IsGivenBy acts a h) (header_of a.handshake) (all_data_given acts (parts a h)) (polls.data_again established)
     (all_weaker (λ (c : ChunkPayloadData). (k : ℕ) × (slice_get (all_data_given acts (parts a h)) k ≡ Some c)) (λ (c : ChunkPayloadData). IsGivenBy acts a h (chunks.Data c))
     (all_data_given acts (parts a h)) (λ c there. inr there) (each_there (all_data_given acts (parts a h)))))
-    (ack_says (is_due a.receiver.ack_state) (IsGivenBy acts a h) a refl (polls.ack_again established) (λ due. inr (due, binds.point)))))
+    (ack_says (is_due a.receiver.ack_state) (IsGivenBy acts a h) a refl (polls.ack_again established) (λ due. inr (due, sacks_say_what_came a h binds)))))
 
 exchange_nothing : (a : Shown) (now : ℕ) → is_established a.state ≡ false → exchange_polled a now ≡ (a, [])
 unfolding exchange_polled

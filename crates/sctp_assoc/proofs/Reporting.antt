@@ -1,18 +1,23 @@
--- Polls leave an association open, and give a SACK that is due.
-use Rattle.std.proofs.Common.{◌≡◌, refl, sym, ap, ◌∙◌, ℕ, Bool, true, false, if◌then◌else◌, List, [], ◌++◌, length, Option, Some, None}
+-- Polls leave an association open, and give a SACK that is due, which says what came.
+use Rattle.std.proofs.Common.{◌≡◌, refl, sym, ap, ◌∙◌, ⊎_elim, ℕ, ◌<◌, ◌≤◌, ◌+◌, ◌-◌, arith, Bool, true, false, if◌then◌else◌, List, [], ◌++◌, length, Option, Some, None}
+use Rattle.std.proofs.lemmas.Bool.{cases_Bool}
 use Rattle.std.proofs.lemmas.List.{append_assoc}
 use Rattle.sctp_wire_types.specs.declared.chunk.ChunkPayloadData.{ChunkPayloadData}
 use Rattle.sctp_wire_types.specs.declared.error.Error.TheVariants as errors
 use Rattle.sctp_parts.specs.declared.timer.Timer.TheVariants as names
 use Rattle.sctp_parts.specs.Timers.{expiry_of}
 use Rattle.sctp_inbound.specs.declared.handshake.Offer.{Offer}
+use Rattle.sctp_queues.specs.Streams.{bytes_waiting}
 use Rattle.sctp_inbound.specs.Handshake.{header_of}
+use Rattle.sctp_inbound.specs.Receiver.{sack_of}
+use Rattle.sctp_model.specs.Packets.{mem}
 use Rattle.sctp_outbound.specs.declared.sender.Sender.{Sender}
 use Rattle.sctp_outbound.specs.Sender.{after_resending, resent_by, sent_new}
+use Rattle.sctp_assoc.specs.Acts.{History}
 use Rattle.sctp_assoc.specs.Calls.{after_ack_delay, after_t3, is_established, retransmits, t3_expired}
 use Rattle.sctp_assoc.specs.Handshake.{after_t1_init, sends_cookie, sends_init, t1_cookie_expired, t1_init_expired}
 use Rattle.sctp_assoc.specs.Timeouts.{after_handshake_timers}
-use Rattle.sctp_assoc.specs.Laws.{DueSacksGoOut, PollsDoNotClose, StaysOpen, TimersDoNotClose}
+use Rattle.sctp_assoc.specs.Laws.{DueSacksGoOut, PollsDoNotClose, SacksOfferTheBuffer, SacksSayWhatCame, StaysOpen, TimersDoNotClose}
 use Rattle.sctp_assoc.specs.Polled.{ack_after, ack_polled, control_packets, data_packets, data_polled, exchange_polled, is_due, sack_packet, with_sent_data, without_control}
 use Rattle.sctp_assoc.specs.Shown.{Shown}
 use Rattle.sctp_assoc.proofs.Giving.{IsSentBeside, data_poll_stays}
@@ -67,6 +72,23 @@ due_sacks_go_out a now established due =
       both_second (control_packets a.control) (exchange_polled b now) ∙ ap (λ (z : List (List ℕ)). control_packets a.control ++ z) (exchange_reports b now established due)
           ∙ sym (append_assoc (control_packets a.control) pieces (sack_packet a)),
     )
+
+-- What a SACK says.
+
+none_above : (h : History) → ((o : ℕ) → mem o h.taken ≡ true → o < h.point) → (o : ℕ) → h.point ≤ o → mem o h.taken ≡ false
+none_above h above o far = ⊎_elim
+    (λ (m : mem o h.taken ≡ true). absurd (omega (arith, above o m, far)))
+    (λ (n : mem o h.taken ≡ false). n)
+    (cases_Bool (mem o h.taken))
+
+pub sacks_say_what_came : SacksSayWhatCame
+sacks_say_what_came a h binds = record {
+  at = binds.point;
+  set = λ o some within. sym (none_above h binds.above (h.point + o - 1) (omega (arith, some)));
+}
+
+pub sacks_offer_the_buffer : SacksOfferTheBuffer
+sacks_offer_the_buffer a = (sack_of a.receiver (bytes_waiting a.streams), refl, refl)
 
 -- Timers leave an association open.
 

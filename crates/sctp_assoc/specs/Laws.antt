@@ -1,8 +1,9 @@
 -- Laws of one side: what follows from the equations of its calls, for whoever builds on it.
-use Rattle.std.specs.Prelude.{◌≡◌, ◌⊎◌, ◌<◌, ◌≤◌, ℕ, ◌+◌, ◌&&◌, ◌||◌, ◌==◌, is_some, not, Bool, true, false, List, [], ◌∷◌, ◌++◌, length, slice_get, if◌then◌else◌, Option, Some, None}
+use Rattle.std.specs.Prelude.{◌≡◌, ◌⊎◌, ◌<◌, ◌≤◌, ℕ, ◌+◌, ◌-◌, ◌&&◌, ◌||◌, ◌==◌, is_some, not, Bool, true, false, List, [], ◌∷◌, ◌++◌, length, slice_get, if◌then◌else◌, Option, Some, None}
 use Rattle.std.specs.List.{list_any, sum_by}
 use Rattle.sctp_wire_types.specs.declared.chunk.Chunk.{Chunk}
 use Rattle.sctp_wire_types.specs.declared.chunk.Chunk.TheVariants as chunks
+use Rattle.sctp_wire_types.specs.declared.chunk.ChunkSelectiveAck.{ChunkSelectiveAck}
 use Rattle.sctp_wire_types.specs.declared.ids.PayloadProtocolIdentifier.{PayloadProtocolIdentifier}
 use Rattle.sctp_wire_types.specs.declared.packet.CommonHeader.{CommonHeader}
 use Rattle.sctp_wire.specs.declared.packet.Packet.{Packet}
@@ -27,7 +28,8 @@ use Rattle.sctp_assoc.specs.Acts.{Binds, History, all_data_given, parts, tsn_bef
 use Rattle.sctp_assoc.specs.Calls.{is_closed_state, is_established, opened, read_from_stream, written}
 use Rattle.sctp_assoc.specs.Chunks.{after_packet, on_chunk}
 use Rattle.sctp_assoc.specs.Happened.{acts_of_poll}
-use Rattle.sctp_assoc.specs.Polled.{control_packets, data_polled, is_due, packet_with, polled, sack_packet}
+use Rattle.sctp_assoc.specs.Polled.{control_packets, data_polled, is_due, packet_bytes, packet_with, polled, sack_packet}
+use Rattle.sctp_assoc.specs.Reports.{SaysWhatCame}
 use Rattle.sctp_assoc.specs.Shown.{Shown}
 use Rattle.sctp_assoc.specs.Timeouts.{after_timeouts}
 
@@ -149,6 +151,16 @@ pub record IsFirstMissing (o : ℕ) (h : History) : Type 0 where
 abbrev pub SacksNameThePoint : Type 0
 SacksNameThePoint = (a : Shown) (h : History) → Binds a h
     → IsFirstMissing h.point h × ((sack_of a.receiver (bytes_waiting a.streams)).cumulative_tsn_ack ≡ tsn_before (tsn h.peer h.point))
+
+-- It says all of what came: the point, and past it exactly the offsets that came.
+abbrev pub SacksSayWhatCame : Type 0
+SacksSayWhatCame = (a : Shown) (h : History) → Binds a h → SaysWhatCame h.peer h.point h.taken (sack_of a.receiver (bytes_waiting a.streams))
+
+-- The packet of an acknowledgement is that of a SACK which offers the room that is left in the receive buffer (RFC 4960 section 6.2).
+abbrev pub SacksOfferTheBuffer : Type 0
+SacksOfferTheBuffer = (a : Shown)
+    → (sack : ChunkSelectiveAck) × (sack_packet a ≡ packet_bytes (header_of a.handshake) (chunks.SelectiveAck sack))
+    × (sack.advertised_receiver_window_credit ≡ a.receiver.buffer_size - bytes_waiting a.streams)
 
 -- A SACK that is due goes out with the next poll, behind the DATA.
 abbrev pub DueSacksGoOut : Type 0

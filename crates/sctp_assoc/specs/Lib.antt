@@ -10,6 +10,7 @@ pub mod Laws
 pub mod Lending
 pub mod Meeting
 pub mod Polled
+pub mod Reports
 pub mod Shapes
 pub mod Shown
 pub mod Timeouts

@@ -24,6 +24,7 @@ use Rattle.sctp_assoc.specs.Happened.{Polls, acts_of_chunk, acts_of_poll, acts_o
 use Rattle.sctp_assoc.specs.Inbound.{taken_packet}
 use Rattle.sctp_assoc.specs.Meeting.{Greets, GreetsOn, HasCome, IsEstablished, IsNoEarlier, IsTruthful, Stage, stage_of}
 use Rattle.sctp_assoc.specs.Polled.{AreControlReadAgain, WaitPlainly, control_packets, is_due, polled, without_control}
+use Rattle.sctp_assoc.specs.Reports.{SaysWhatCame}
 use Rattle.sctp_assoc.specs.Shown.{Shown}
 use Rattle.sctp_assoc.specs.Timeouts.{after_timeouts}
 use Rattle.sctp_assoc.specs.declared.control.ControlPacket.{ControlPacket}
@@ -285,10 +286,10 @@ OfEachChunk Is (Some packet) = AllByRecursion Is packet.chunks
 abbrev pub IsWaitingToGo : Shown → Chunk → Type 0
 IsWaitingToGo a chunk = (k : ℕ) × (c : ControlPacket) × (slice_get a.control k ≡ Some c) × (c.chunk ≡ chunk)
 
--- a chunk that these acts of a poll give out: their DATA, or where a report is due a SACK with the point of the history
+-- a chunk that these acts of a poll give out: their DATA, or where a report is due a SACK that says what came
 abbrev pub IsExchanged : List Act → Shown → History → Chunk → Type 0
 IsExchanged acts a h (chunks.Data piece) = (k : ℕ) × (slice_get (all_data_given acts (parts a h)) k ≡ Some piece)
-IsExchanged acts a h (chunks.SelectiveAck sack) = (reports a ≡ true) × (sack.cumulative_tsn_ack ≡ tsn_before (tsn h.peer h.point))
+IsExchanged acts a h (chunks.SelectiveAck sack) = (reports a ≡ true) × SaysWhatCame h.peer h.point h.taken sack
 IsExchanged acts a h chunk = ⊥
 
 abbrev pub IsGivenBy : List Act → Shown → History → Chunk → Type 0

@@ -1,6 +1,6 @@
 // Laws of one side, for whoever builds on it.
 ghost use Rattle.sctp_assoc.specs.Shapes.{AcceptedWritesFit, ChunksLeadOn, DataIsTaken, EstablishedIsNotClosed, EstablishedSidesTalk, FaultsClose, FoundStreamsAreLive, GreetingsMeet, GreetingsStayTrue, LostAssociationsTakeNothing, NoPacketChangesNothing, OpenedStreamsHoldNothing, OpenedStreamsKeepTheStatus, OpenedStreamsWereNotLive, OtherChunksDoNothing, PacketsEnd, PollsGiveAndReport, PollsKeepTheStatus, PollsOutsideEstablishedGiveWhatWaits, PollsSayTheirActs, ReadsKeepTheStatus, SacksAcknowledge, TheSameHandshakeIsTheSameStage, TimeoutsMarkAtMost, TimersKeepTheStatus, ToldEventsKeepTheStatus, WhatHoldsNothingGivesNothing, WhatWaitsGoesOutAsItIs, WritesKeepTheStatus};
-ghost use Rattle.sctp_assoc.specs.Laws.{DueSacksGoOut, FaultsAloneClose, OpenedStreamsDoNotClose, PollsDoNotClose, PollsKeepWhatIsHeld, ReadsDoNotClose, SacksNameThePoint, TimersDoNotClose, WhatWaitsGoesOut, WhatWaitsIsGiven, WhatWaitsIsPolled, WritesAreHeld, WritesDoNotClose};
+ghost use Rattle.sctp_assoc.specs.Laws.{DueSacksGoOut, FaultsAloneClose, OpenedStreamsDoNotClose, PollsDoNotClose, PollsKeepWhatIsHeld, ReadsDoNotClose, SacksNameThePoint, SacksOfferTheBuffer, SacksSayWhatCame, TimersDoNotClose, WhatWaitsGoesOut, WhatWaitsIsGiven, WhatWaitsIsPolled, WritesAreHeld, WritesDoNotClose};
 
 /// Sending: what waits goes out with the next poll where nothing is in flight (RFC 4960 section 6.1).
 pub fn what_waits_goes_out()
@@ -28,6 +28,8 @@ pub fn faults_alone_close()
 /// Reporting: a SACK says what came, and goes out where it is due (RFC 4960 sections 3.3.4 and 6.2).
 pub fn sacks_name_the_point()
     ensures point { SacksNameThePoint }
+    ensures said { SacksSayWhatCame }
+    ensures window { SacksOfferTheBuffer }
     ensures due { DueSacksGoOut }
 {}
 

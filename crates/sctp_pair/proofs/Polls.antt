@@ -39,7 +39,7 @@ can_front (x ∷ xs) ys p (c, cs) = (c, can_front xs ys _ cs)
 exchanged_said : (own peer : ℕ) (acts : List Act) (a : Shown) (h : History) (out coming : Direction) → AllByRecursion (IsGiven own out) (all_data_given acts (parts a h))
     → (reports a ≡ true → IsMade peer coming (tsn_before (tsn h.peer h.point))) → (c : Chunk) → IsExchanged acts a h c → Says own peer out coming c
 exchanged_said own peer acts a h out coming given made (chunks.Data piece) (k, e) = all_get (IsGiven own out) (all_data_given acts (parts a h)) k piece e given
-exchanged_said own peer acts a h out coming given made (chunks.SelectiveAck sack) (due, at) = subst (IsMade peer coming) (sym at) (made due)
+exchanged_said own peer acts a h out coming given made (chunks.SelectiveAck sack) (due, says) = subst (IsMade peer coming) (sym says.at) (made due)
 exchanged_said own peer acts a h out coming given made (chunks.Init x) n = absurd n
 exchanged_said own peer acts a h out coming given made (chunks.InitAck x) n = absurd n
 exchanged_said own peer acts a h out coming given made (chunks.Heartbeat x) n = absurd n

@@ -1,5 +1,11 @@
-use Rattle.sctp_assoc.proofs.Reporting.{due_sacks_go_out}
+use Rattle.sctp_assoc.proofs.Reporting.{due_sacks_go_out, sacks_offer_the_buffer, sacks_say_what_came}
 use Rattle.sctp_assoc.proofs.laws.sacks_name_the_point.Goals as goal
 
 pub returns-clause-due : goal.returns-clause-due
 returns-clause-due c = due_sacks_go_out
+
+pub returns-clause-said : goal.returns-clause-said
+returns-clause-said c = sacks_say_what_came
+
+pub returns-clause-window : goal.returns-clause-window
+returns-clause-window c = sacks_offer_the_buffer

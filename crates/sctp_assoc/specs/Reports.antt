@@ -1,0 +1,14 @@
+-- What an acknowledgement says of what came (RFC 4960 section 3.3.4).
+use Rattle.std.specs.Prelude.{◌≡◌, ◌<◌, ℕ, ◌+◌, ◌-◌, ◌^◌, List}
+use Rattle.sctp_wire_types.specs.declared.chunk.ChunkSelectiveAck.{ChunkSelectiveAck}
+use Rattle.sctp_receive_queues.specs.Received.{is_named}
+use Rattle.sctp_model.specs.Packets.{mem}
+use Rattle.sctp_model.specs.Serial.{tsn}
+use Rattle.sctp_assoc.specs.Acts.{tsn_before}
+
+-- A SACK says what came: its point is the TSN before that of this offset, and its gap ack blocks name exactly the
+-- offsets at or past
+-- it that came. A block counts from its point on, so that it names this very offset as 1.
+pub record SaysWhatCame (peer point : ℕ) (came : List ℕ) (sack : ChunkSelectiveAck) : Type 0 where
+  pub at : sack.cumulative_tsn_ack ≡ tsn_before (tsn peer point)
+  pub set : (o : ℕ) → 0 < o → o < 2 ^ 16 → is_named o sack.gap_ack_blocks ≡ mem (point + o - 1) came
