@@ -4,6 +4,7 @@ mod Carrying
 mod Closing
 mod Ending
 mod Giving
+mod Intake
 mod Joining
 mod Keeping
 mod Live

@@ -5,6 +5,7 @@ pub mod Control
 pub mod Happened
 pub mod Handshake
 pub mod Inbound
+pub mod Intake
 pub mod Join
 pub mod Laws
 pub mod Lending
