@@ -1,6 +1,8 @@
 mod Acting
 mod Beginning
 mod Carrying
+mod Caused
+mod Causes
 mod Closing
 mod Ending
 mod Giving

@@ -1,5 +1,6 @@
 pub mod Acts
 pub mod Calls
+pub mod Causes
 pub mod Chunks
 pub mod Control
 pub mod Happened

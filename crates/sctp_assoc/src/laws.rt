@@ -1,5 +1,6 @@
 // Laws of one side, for whoever builds on it.
 ghost use Rattle.sctp_assoc.specs.Shapes.{AcceptedWritesFit, ChunksLeadOn, DataIsTaken, EstablishedIsNotClosed, EstablishedSidesTalk, FaultsClose, FoundStreamsAreLive, GreetingsMeet, GreetingsStayTrue, LostAssociationsTakeNothing, NoPacketChangesNothing, OpenedStreamsHoldNothing, OpenedStreamsKeepTheStatus, OpenedStreamsWereNotLive, OtherChunksDoNothing, PacketsEnd, PollsGiveAndReport, PollsKeepTheStatus, PollsOutsideEstablishedGiveWhatWaits, PollsSayTheirActs, ReadsKeepTheStatus, SacksAcknowledge, TheSameHandshakeIsTheSameStage, TimeoutsMarkAtMost, TimersKeepTheStatus, ToldEventsKeepTheStatus, WhatHoldsNothingGivesNothing, WhatWaitsGoesOutAsItIs, WritesKeepTheStatus};
+ghost use Rattle.sctp_assoc.specs.Causes.{CausesClose, ClosingPacketsHaveCauses, FaultsAreCauses};
 ghost use Rattle.sctp_assoc.specs.Intake.{DataIsTakenIn, NothingElseIsTakenIn};
 ghost use Rattle.sctp_assoc.specs.Laws.{DueSacksGoOut, FaultsAloneClose, OpenedStreamsDoNotClose, PollsDoNotClose, PollsKeepWhatIsHeld, ReadsDoNotClose, SacksNameThePoint, SacksOfferTheBuffer, SacksSayWhatCame, TimersDoNotClose, WhatWaitsGoesOut, WhatWaitsIsGiven, WhatWaitsIsPolled, WritesAreHeld, WritesDoNotClose};
 
@@ -24,6 +25,13 @@ pub fn faults_alone_close()
     ensures reads { ReadsDoNotClose }
     ensures polls { PollsDoNotClose }
     ensures timers { TimersDoNotClose }
+{}
+
+/// Causes: a chunk is a fault exactly where it has one of the causes that are named, and so a packet closes only by such a cause.
+pub fn only_named_causes_close()
+    ensures chunk { FaultsAreCauses }
+    ensures packet { ClosingPacketsHaveCauses }
+    ensures causes { CausesClose }
 {}
 
 /// Reporting: a SACK says what came, and goes out where it is due (RFC 4960 sections 3.3.4 and 6.2).
