@@ -2,6 +2,7 @@ pub mod Plain
 pub mod Said
 pub mod Outgoing
 pub mod Incoming
+pub mod Between
 pub mod Counted
 pub mod Events
 pub mod Laws

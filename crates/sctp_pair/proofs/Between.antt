@@ -6,16 +6,15 @@ use Rattle.sctp_receive_queues.specs.Messages as letters
 use Rattle.sctp_model.specs.Messages.{Message}
 use Rattle.sctp_model.specs.Packets.{Data, Sack, mem}
 use Rattle.sctp_model.specs.Machine.{Direction, Event, Receiver, Sender, happens, run}
-use Rattle.sctp_model.specs.Invariants.{Invariant}
 use Rattle.sctp_model.specs.Safe.{IsWithin}
 use Rattle.sctp_assoc.specs.Acts.{Parts, parts}
 use Rattle.sctp_assoc.specs.Calls.{is_established}
 use Rattle.sctp_assoc.specs.Meeting.{IsNoEarlier, Stage}
 use Rattle.sctp_assoc.specs.Shown.{Shown}
 use Rattle.sctp_directions.specs.Events.{Accepts, Brings, GivesAMessage, IsAtReceiver, IsAtSender}
-use Rattle.sctp_directions.specs.Plain.{IsPlain}
 use Rattle.sctp_directions.specs.Outgoing.{FitsOutgoing}
 use Rattle.sctp_directions.specs.Incoming.{FitsIncoming, IsReadAs}
+use Rattle.sctp_directions.specs.Between.{FitsBetween, IsSound}
 use Rattle.sctp_directions.proofs.Proved.{only_reads_give_messages, only_what_is_brought_is_taken_in, only_writes_accept, receivers_events_are_received, senders_events_are_sent}
 use Rattle.sctp_pair.specs.Fits.{IsAt, IsSilent, StagesAgree, Stands, StandsClosed, StandsFailed, StandsOpen}
 
@@ -96,12 +95,9 @@ goes_by_receiver B w e at none brings =
 -- p is what the association's directions see of it, y is the other association
 pub record Holds (own peer : ℕ) (p : Parts) (y : Shown) (out coming : Direction) : Type 0 where
   pub own_is : p.history.own ≡ own
-  pub invariant_out : Invariant out
-  pub invariant_coming : Invariant coming
-  pub plain_out : IsPlain out
-  pub plain_coming : IsPlain coming
-  pub outgoing : FitsOutgoing p out
-  pub incoming : FitsIncoming p coming
+  pub sound_out : IsSound out
+  pub sound_coming : IsSound coming
+  pub between : FitsBetween p out coming
   pub other : Stands peer own y coming out
 
 -- Nothing is brought.
@@ -129,8 +125,7 @@ other_by_out peer own y coming out out2 fits same h =
       present = s.present;
       truthful = s.truthful;
       size = s.size;
-      outgoing = s.outgoing;
-      incoming = fits (parts y s.past) s.incoming;
+      between = record { outgoing = s.between.outgoing; incoming = fits (parts y s.past) s.between.incoming };
     })
     (λ (r : StandsClosed peer y out ⊎ StandsFailed y out).
     ⊎_elim
@@ -161,8 +156,10 @@ other_by_coming peer own y coming coming2 out same h =
       present = s.present;
       truthful = s.truthful;
       size = ap (λ (x : Sender). x.plan.size) same ∙ s.size;
-      outgoing = outgoing_same (parts y s.past) coming coming2 same s.outgoing;
-      incoming = s.incoming;
+      between = record {
+        outgoing = outgoing_same (parts y s.past) coming coming2 same s.between.outgoing;
+        incoming = s.between.incoming;
+      };
     })
     (λ (r : StandsClosed peer y out ⊎ StandsFailed y out). inr r)
     h
@@ -206,10 +203,8 @@ pub record Settles (own peer : ℕ) (here there : Stage) (b y : Shown) (out comi
   pub here2 : Stage
   pub does_out : Does Added nothing_read None_brought out out2
   pub does_coming : Does nothing_added Read Brought coming coming2
-  pub invariant_out : Invariant out2
-  pub invariant_coming : Invariant coming2
-  pub plain_out : IsPlain out2
-  pub plain_coming : IsPlain coming2
+  pub sound_out : IsSound out2
+  pub sound_coming : IsSound coming2
   pub stands : Stands own peer b out2 coming2
   pub other : Stands peer own y coming2 out2
   pub goes : IsNoEarlier here here2
@@ -223,10 +218,8 @@ pub record Settles (own peer : ℕ) (here there : Stage) (b y : Shown) (out comi
 pub record Faces (own peer : ℕ) (here there : Stage) (a y : Shown) (out coming : Direction) : Type 0 where
   pub within_out : IsWithin out
   pub within_coming : IsWithin coming
-  pub invariant_out : Invariant out
-  pub invariant_coming : Invariant coming
-  pub plain_out : IsPlain out
-  pub plain_coming : IsPlain coming
+  pub sound_out : IsSound out
+  pub sound_coming : IsSound coming
   pub stands : Stands own peer a out coming
   pub other : Stands peer own y coming out
   pub at : IsAt a here

@@ -46,7 +46,7 @@ data_is_known : {here there : Stage} (own peer k : ℕ) (y : Shown) (out coming 
 data_is_known {here} {there} own peer k y out coming B a d u e = u.stands.peer_is (⊎_elim
     (λ (t : there.completed ≡ true). hearers_know a u.stands.come (u.meets.hears t))
     (λ (f : there.completed ≡ false).
-    let piece = all_get (IsPiece u.coming2.sender.plan) u.coming2.datas k d e u.holds.invariant_coming.datas in
+    let piece = all_get (IsPiece u.coming2.sender.plan) u.coming2.datas k d e u.holds.sound_coming.invariant.datas in
     absurd (none_below d.offset (subst (λ (ps : List Place). d.offset < length ps) (u.silent f) piece.known)))
     (cases_Bool there.completed))
 
@@ -139,7 +139,7 @@ sack_shape own peer t a h y out coming acts (inl n) made within holds =
 sack_shape own peer t a h y out coming acts (inr s) (k, x, e, is) within holds =
     let named : t ≡ tsn_before (tsn h.own x.point) = is ∙ ap (λ i. tsn_before (tsn i x.point)) (sym holds.own_is) in
     let at : x.point ≡ out.sender.point + s.count =
-    sacks_mean_the_same (parts a h) s.count t k x out e named s.at s.within within holds.invariant_out holds.plain_out holds.outgoing in
+    sacks_mean_the_same (parts a h) s.count t k x out e named s.at s.within within holds.sound_out.invariant holds.sound_out.plain holds.between.outgoing in
     let one = act_acknowledged own peer s.count k x (parts a h) y out coming holds e at s.within in
     subst (Goes_out own peer a h y out coming) (sym s.are) (one.0, one.1 within, one.2)
 

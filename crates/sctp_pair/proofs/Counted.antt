@@ -101,8 +101,8 @@ step_leads_counted step p q r h n m w f =
       x.1,
       λ few.
           let within : IsWithinLimits v = (
-            few_messages_stay_within (n + writes_of sides.A step r) v.ab few.0 a x.2.invariant_ab x.2.plain_ab,
-            few_messages_stay_within (m + writes_of sides.B step r) v.ba few.1 b x.2.invariant_ba x.2.plain_ba,
+            few_messages_stay_within (n + writes_of sides.A step r) v.ab few.0 a x.2.sound_ab.invariant x.2.sound_ab.plain,
+            few_messages_stay_within (m + writes_of sides.B step r) v.ba few.1 b x.2.sound_ba.invariant x.2.sound_ba.plain,
           ) in
           (x.3 within, record { fits = record { within = within; stand = x.2 }; of_a = a; of_b = b }),
     )

@@ -34,13 +34,10 @@ act_at_sender own peer act e given p y out coming h its_own nobody at none plain
   goes = goes_by_sender None_brought out e at none;
   holds = record {
     own_is = (acts_keep_the_initial_tsns (act ∷ []) p (nobody, tt)).0 ∙ h.own_is;
-    invariant_out = senders_events_keep_the_invariant out e at h.invariant_out;
-    invariant_coming = h.invariant_coming;
-    plain_out = plain;
-    plain_coming = h.plain_coming;
-    outgoing = fits;
-    incoming = own_acts_leave_what_comes act p coming its_own h.incoming;
-    other = other_by_out peer own y coming out (happens out e) (λ a f. senders_events_leave_what_comes a out e at h.invariant_out h.plain_out f)
+    sound_out = record { invariant = senders_events_keep_the_invariant out e at h.sound_out.invariant; plain = plain };
+    sound_coming = h.sound_coming;
+    between = record { outgoing = fits; incoming = own_acts_leave_what_comes act p coming its_own h.between.incoming };
+    other = other_by_out peer own y coming out (happens out e) (λ a f. senders_events_leave_what_comes a out e at h.sound_out.invariant h.sound_out.plain f)
         (ap (λ (r : Receiver). r.is_open) (senders_events_are_sent out e at).0.receiver) h.other;
   };
   said = said;
@@ -49,7 +46,7 @@ act_at_sender own peer act e given p y out coming h its_own nobody at none plain
 act_sent : (own peer now : ℕ) (p : Parts) (y : Shown) (out coming : Direction) → Holds own peer p y out coming → Can (Act.Sent now) p
     → AfterOut own peer (done (Act.Sent now) p) y out coming (data_given (Act.Sent now) p)
 act_sent own peer now p y out coming h can =
-    let begun = sent_pieces_begin p now out can h.invariant_out h.plain_out h.outgoing in
+    let begun = sent_pieces_begin p now out can h.sound_out.invariant h.sound_out.plain h.between.outgoing in
     let e : Event = Event.Begin begun.0 (out.sender.next begun.0) 0 in
     act_at_sender own peer (Act.Sent now) e (data_given (Act.Sent now) p) p y out coming h tt tt tt (λ n. n) begun.1.plain begun.1.fits
     (subst (λ o. AllByRecursion (IsGiven o (happens out e)) (data_given (Act.Sent now) p)) h.own_is begun.1.given)
@@ -57,10 +54,10 @@ act_sent own peer now p y out coming h can =
 act_sent_again : (own peer place : ℕ) (p : Parts) (y : Shown) (out coming : Direction) → Holds own peer p y out coming → Can (Act.SentAgain place) p
     → AfterOut own peer (done (Act.SentAgain place) p) y out coming (data_given (Act.SentAgain place) p)
 act_sent_again own peer place p y out coming h can =
-    let resent = pieces_given p place out can h.plain_out h.outgoing in
+    let resent = pieces_given p place out can h.sound_out.plain h.between.outgoing in
     let e : Event = Event.Resend (out.sender.point + place) in
     act_at_sender own peer (Act.SentAgain place) e (data_given (Act.SentAgain place) p) p y out coming h tt tt tt (λ n. n)
-    (plain_events_keep_it_plain out e tt h.plain_out) resent.0
+    (plain_events_keep_it_plain out e tt h.sound_out.plain) resent.0
     (subst (λ o. AllByRecursion (IsGiven o (happens out e)) (data_given (Act.SentAgain place) p)) h.own_is resent.1)
 
 -- a SACK that acknowledges the first n pieces in flight
@@ -71,8 +68,8 @@ pub act_acknowledged : (own peer n k : ℕ) (x : Sack) (p : Parts) (y : Shown) (
 unfolding act_at_sender
 act_acknowledged own peer n k x p y out coming h e at can = (
   act_at_sender own peer (Act.Acknowledged n) (Event.SackComes k) [] p y out coming h tt tt tt (λ n. n)
-      (plain_events_keep_it_plain out (Event.SackComes k) tt h.plain_out)
-      (acknowledgements_are_alike p n k x out e at can h.invariant_out h.plain_out h.outgoing) tt,
+      (plain_events_keep_it_plain out (Event.SackComes k) tt h.sound_out.plain)
+      (acknowledgements_are_alike p n k x out e at can h.sound_out.invariant h.sound_out.plain h.between.outgoing) tt,
   λ within. events_keep_the_limits out (Event.SackComes k) tt within,
   only_beginnings_assign out (Event.SackComes k) tt (λ n. n),
 )

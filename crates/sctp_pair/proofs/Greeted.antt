@@ -36,16 +36,13 @@ learnt {here} {there} own peer y out coming B acts a b k u is (inr (met, deaf)) 
     (λ (t : there.completed ≡ true). absurd (deaf (u.meets.hears t)))
     (λ (f : there.completed ≡ false). f)
     (cases_Bool there.completed) in
-    let fits = meetings_are_no_events p peer u.out2 u.coming2 (u.silent never) u.holds.invariant_coming u.holds.plain_coming u.holds.outgoing u.holds.incoming in
+    let fits = meetings_are_no_events p peer u.out2 u.coming2 (u.silent never) u.holds.sound_coming.invariant u.holds.sound_coming.plain u.holds.between.outgoing u.holds.between.incoming in
     record {
       holds = subst (λ p. Holds own peer p y u.out2 u.coming2) (sym left) record {
         own_is = u.holds.own_is;
-        invariant_out = u.holds.invariant_out;
-        invariant_coming = u.holds.invariant_coming;
-        plain_out = u.holds.plain_out;
-        plain_coming = u.holds.plain_coming;
-        outgoing = fits.0;
-        incoming = fits.1;
+        sound_out = u.holds.sound_out;
+        sound_coming = u.holds.sound_coming;
+        between = record { outgoing = fits.0; incoming = fits.1 };
         other = u.holds.other;
       };
       peer_is = λ known. ap (λ (p : Parts). p.history.peer) left;
@@ -82,8 +79,7 @@ greet_step {here} {there} own peer y out coming B header c a b takes greeting u 
         present = works.lost ∙ u.stands.present;
         truthful = g.truthful;
         size = u.stands.size ∙ sym works.size;
-        outgoing = kept.holds.outgoing;
-        incoming = kept.holds.incoming;
+        between = kept.holds.between;
       };
       holds = kept.holds;
     }

@@ -105,12 +105,9 @@ open_polls {here} own peer acts a b y packets out coming f s established again s
     let known : h.peer ≡ peer = s.peer_is (established_sides_talk a established s.come).known in
     let before : Holds own peer p y out coming = record {
       own_is = s.own_is;
-      invariant_out = f.invariant_out;
-      invariant_coming = f.invariant_coming;
-      plain_out = f.plain_out;
-      plain_coming = f.plain_coming;
-      outgoing = s.outgoing;
-      incoming = s.incoming;
+      sound_out = f.sound_out;
+      sound_coming = f.sound_coming;
+      between = s.between;
       other = f.other;
     } in
     let can : CanAll (ds ++ ks) p = subst (λ zs. CanAll zs p) polling.are poll.leads.can in
@@ -135,8 +132,7 @@ open_polls {here} own peer acts a b y packets out coming f s established again s
       present = same.lost ∙ s.present;
       truthful = same.truthful own s.truthful;
       size = given.goes.size ∙ s.size ∙ sym same.size;
-      outgoing = holds.outgoing;
-      incoming = holds.incoming;
+      between = holds.between;
     } in
     record {
       settles = record {
@@ -145,10 +141,8 @@ open_polls {here} own peer acts a b y packets out coming f s established again s
         here2 = here;
         does_out = does_by_goes None_brought out given.out2 given.goes;
         does_coming = does_by_goes None_brought coming report.0.coming2 report.0.goes;
-        invariant_out = holds.invariant_out;
-        invariant_coming = holds.invariant_coming;
-        plain_out = holds.plain_out;
-        plain_coming = holds.plain_coming;
+        sound_out = holds.sound_out;
+        sound_coming = holds.sound_coming;
         stands = inl stands;
         other = holds.other;
         goes = stays_put here;
@@ -205,8 +199,7 @@ open_without own peer a out coming same s = record {
   present = s.present;
   truthful = same.truthful own s.truthful;
   size = s.size;
-  outgoing = s.outgoing;
-  incoming = s.incoming;
+  between = s.between;
 }
 
 closed_without : (own : ℕ) (a : Shown) (coming : Direction) → IsSameStatus a (without_control a) → StandsClosed own a coming → StandsClosed own (without_control a) coming

@@ -62,7 +62,7 @@ read_open : {here there : Stage} (own peer : ℕ) (a b y : Shown) (out coming : 
     → read_from_stream a id ≡ (b, message) → Faces own peer here there a y out coming → StandsOpen own peer a out coming
     → Settles own peer here there b y out coming nothing_added (read_by (replies.Read message) id) None_brought
 read_open {here} own peer a b y out coming id message live e f s =
-    let fits = reads_are_alike (parts a s.past) id live.stream coming live.there f.within_coming f.invariant_coming f.plain_coming s.incoming in
+    let fits = reads_are_alike (parts a s.past) id live.stream coming live.there f.within_coming f.sound_coming.invariant f.sound_coming.plain s.between.incoming in
     let coming2 : Direction = happens coming (Event.Read id) in
     let m = read_leads_on a b id message e s.past s.binds in
     let same : IsSameStatus a b = subst (IsSameStatus a) (ap (λ (x : Shown × Option Message). x.0) e) (reads_keep_the_status a id) in
@@ -74,12 +74,13 @@ read_open {here} own peer a b y out coming id message live e f s =
       does_out = does_by_goes None_brought out out (goes_nowhere None_brought out);
       does_coming = read_does coming id message
           (subst (λ (z : Option Message). IsReadAs z (coming.reads id) (coming2.reads id)) (ap (λ (x : Shown × Option Message). x.1) e) fits.1) fits.2;
-      invariant_out = f.invariant_out;
-      invariant_coming = each_event_keeps_the_invariant coming (Event.Read id) f.within_coming f.invariant_coming;
-      plain_out = f.plain_out;
-      plain_coming = plain_events_keep_it_plain coming (Event.Read id) tt f.plain_coming;
+      sound_out = f.sound_out;
+      sound_coming = record {
+        invariant = each_event_keeps_the_invariant coming (Event.Read id) f.within_coming f.sound_coming.invariant;
+        plain = plain_events_keep_it_plain coming (Event.Read id) tt f.sound_coming.plain;
+      };
       stands = inl (open_on own peer a b out coming out coming2 (Act.WasRead id ∷ []) m.0 s (tt, tt) m.1 same refl
-          (what_comes_leaves_its_own (Act.WasRead id) (parts a s.past) out tt s.outgoing) fits.0);
+          (what_comes_leaves_its_own (Act.WasRead id) (parts a s.past) out tt s.between.outgoing) fits.0);
       other = other_by_coming peer own y coming coming2 out received.sender f.other;
       goes = stays_put here;
       at = at_same a b here same f.at;
@@ -120,10 +121,8 @@ none_read own peer b y out coming id message e h =
         sacks = d.sacks;
         point_on = d.point_on;
       };
-      invariant_out = h.invariant_out;
-      invariant_coming = h.invariant_coming;
-      plain_out = h.plain_out;
-      plain_coming = h.plain_coming;
+      sound_out = h.sound_out;
+      sound_coming = h.sound_coming;
       stands = h.stands;
       other = h.other;
       goes = h.goes;

@@ -6,7 +6,6 @@ use Rattle.sctp_model.specs.Messages.{Message}
 use Rattle.sctp_model.specs.Packets.{mem}
 use Rattle.sctp_model.specs.Serial.{tsn}
 use Rattle.sctp_model.specs.Machine.{Direction, Sender}
-use Rattle.sctp_model.specs.Invariants.{Invariant}
 use Rattle.sctp_model.proofs.Lists.{all_join}
 use Rattle.sctp_assoc.specs.Calls.{is_established}
 use Rattle.sctp_assoc.specs.Meeting.{IsNoEarlier, Stage}
@@ -14,7 +13,7 @@ use Rattle.sctp_assoc.specs.Shapes.{OfEachChunk}
 use Rattle.sctp_assoc.specs.Shown.{Shown}
 use Rattle.sctp_assoc.proofs.Proved.{established_is_not_closed, established_sides_talk}
 use Rattle.sctp_directions.specs.Incoming.{IsReadAs}
-use Rattle.sctp_directions.specs.Plain.{IsPlain}
+use Rattle.sctp_directions.specs.Between.{IsSound}
 use Rattle.sctp_pair.specs.declared.step.Reply.{Reply}
 use Rattle.sctp_pair.specs.declared.step.Side2.{Side2}
 use Rattle.sctp_pair.specs.declared.step.Side2.TheVariants as sides
@@ -34,10 +33,8 @@ pub faces_a : (w : World) (f : Fits w.ends w) → Faces w.initial_a w.initial_b 
 faces_a w f = record {
   within_out = f.within.0;
   within_coming = f.within.1;
-  invariant_out = f.stand.invariant_ab;
-  invariant_coming = f.stand.invariant_ba;
-  plain_out = f.stand.plain_ab;
-  plain_coming = f.stand.plain_ba;
+  sound_out = f.stand.sound_ab;
+  sound_coming = f.stand.sound_ba;
   stands = f.stand.side_a;
   other = f.stand.side_b;
   at = f.stand.at_a;
@@ -50,10 +47,8 @@ pub faces_b : (w : World) (f : Fits w.ends w) → Faces w.initial_b w.initial_a 
 faces_b w f = record {
   within_out = f.within.1;
   within_coming = f.within.0;
-  invariant_out = f.stand.invariant_ba;
-  invariant_coming = f.stand.invariant_ab;
-  plain_out = f.stand.plain_ba;
-  plain_coming = f.stand.plain_ab;
+  sound_out = f.stand.sound_ba;
+  sound_coming = f.stand.sound_ab;
   stands = f.stand.side_b;
   other = f.stand.side_a;
   at = f.stand.at_b;
@@ -75,9 +70,9 @@ direction_step : (step : Step) (reply : Reply) (sender receiver : Side2) (w : Wo
     (Added : ℕ → List Message) (Read : ℕ → Option letters.Message) (Brought : ℕ → Type 0) → Does Added Read Brought before after
     → ((s : ℕ) → Added s ≡ accepted_at step reply sender s w) → ((s : ℕ) → Read s ≡ message_read step reply receiver s)
     → ((o : ℕ) → Brought o → HasData (packet_brought step receiver w) (tsn initial o))
-    → IsOpen (end_of sender q) ⊎ (after.sender.plan.places ≡ before.sender.plan.places) → IsPlain before → Invariant after → IsPlain after
+    → IsOpen (end_of sender q) ⊎ (after.sender.plan.places ≡ before.sender.plan.places) → IsSound before → IsSound after
     → (after.receiver.is_open ≡ true) ⊎ (IsOpen (end_of receiver q) → ⊥) → IsDirectionStep step reply sender receiver w q initial before after
-direction_step step reply sender receiver w q initial before after Added Read Brought d adds reads brings no_more was inv plain receives = record {
+direction_step step reply sender receiver w q initial before after Added Read Brought d adds reads brings no_more was is receives = record {
   events = d.events;
   happened = d.is;
   accepted = λ s. d.accepted s ∙ ap (λ (z : List Message). before.sender.plan.accepted s ++ z) (adds s);
@@ -88,10 +83,10 @@ direction_step step reply sender receiver w q initial before after Added Read Br
       (d.taken o m);
   point_on = d.point_on;
   no_more = no_more;
-  span = λ s o. absurd (true≢false (sym o ∙ plain.span s));
+  span = λ s o. absurd (true≢false (sym o ∙ is.plain.span s));
   span_over = λ s o. ap (λ (z : Direction). z.over s) d.is ∙ (runs_are_onward d.events before).over s o;
-  passed = inl (plain.unskipped ∙ sym was.unskipped);
-  given_up = λ s i g. inr (inv.sending.given_up s i g).1;
+  passed = inl (is.plain.unskipped ∙ sym was.plain.unskipped);
+  given_up = λ s i g. inr (is.invariant.sending.given_up s i g).1;
   closes = ⊎_elim (λ (o : after.receiver.is_open ≡ true). inl o) (λ (n : IsOpen (end_of receiver q) → ⊥). inr (inr n)) receives;
   stays_closed = λ c. ap (λ (z : Direction). z.receiver.is_open) d.is ∙ (runs_are_onward d.events before).closed c;
 }
@@ -125,10 +120,10 @@ settled_a step r q w Added Read Brought given fits same_b more same_packets ends
     same_b = refl;
     ab_step = direction_step step r sides.A sides.B w q w.initial_a w.ab s.out2 Added nothing_read None_brought s.does_out
         call.adds call.reads_alone (λ o n. absurd n) (is_open w.initial_a w.initial_b q.a s.out2 s.coming2 w.ab s.no_more)
-        fits.stand.plain_ab s.invariant_out s.plain_out (receives_or_stopped w.initial_b w.initial_a q.b s.coming2 s.out2 stands.side_b);
+        fits.stand.sound_ab s.sound_out (receives_or_stopped w.initial_b w.initial_a q.b s.coming2 s.out2 stands.side_b);
     ba_step = direction_step step r sides.B sides.A w q w.initial_b w.ba s.coming2 nothing_added Read Brought s.does_coming
         call.adds_alone call.reads call.brings (inr (ap (λ (x : Sender). x.plan.places) s.coming_still))
-        fits.stand.plain_ba s.invariant_coming s.plain_coming (receives_or_stopped w.initial_a w.initial_b q.a s.out2 s.coming2 stands.side_a);
+        fits.stand.sound_ba s.sound_coming (receives_or_stopped w.initial_a w.initial_b q.a s.out2 s.coming2 stands.side_a);
   },
   stands,
   λ within. safe_world q v (record { within = within; stand = stands }),
@@ -140,10 +135,8 @@ settled_a step r q w Added Read Brought given fits same_b more same_packets ends
     stands : StandsIn q v
     stands = record {
       is = refl;
-      invariant_ab = s.invariant_out;
-      invariant_ba = s.invariant_coming;
-      plain_ab = s.plain_out;
-      plain_ba = s.plain_coming;
+      sound_ab = s.sound_out;
+      sound_ba = s.sound_coming;
       side_a = s.stands;
       side_b = subst (λ (z : Shown). Stands w.initial_b w.initial_a z s.coming2 s.out2) (sym same_b) s.other;
       stage_a = s.here2;
@@ -174,10 +167,10 @@ settled_b step r q w Added Read Brought given fits same_a more same_packets ends
     same_b = refl;
     ab_step = direction_step step r sides.A sides.B w q w.initial_a w.ab s.coming2 nothing_added Read Brought s.does_coming
         call.adds_alone call.reads call.brings (inr (ap (λ (x : Sender). x.plan.places) s.coming_still))
-        fits.stand.plain_ab s.invariant_coming s.plain_coming (receives_or_stopped w.initial_b w.initial_a q.b s.out2 s.coming2 stands.side_b);
+        fits.stand.sound_ab s.sound_coming (receives_or_stopped w.initial_b w.initial_a q.b s.out2 s.coming2 stands.side_b);
     ba_step = direction_step step r sides.B sides.A w q w.initial_b w.ba s.out2 Added nothing_read None_brought s.does_out
         call.adds call.reads_alone (λ o n. absurd n) (is_open w.initial_b w.initial_a q.b s.out2 s.coming2 w.ba s.no_more)
-        fits.stand.plain_ba s.invariant_out s.plain_out (receives_or_stopped w.initial_a w.initial_b q.a s.coming2 s.out2 stands.side_a);
+        fits.stand.sound_ba s.sound_out (receives_or_stopped w.initial_a w.initial_b q.a s.coming2 s.out2 stands.side_a);
   },
   stands,
   λ within. safe_world q v (record { within = within; stand = stands }),
@@ -189,10 +182,8 @@ settled_b step r q w Added Read Brought given fits same_a more same_packets ends
     stands : StandsIn q v
     stands = record {
       is = refl;
-      invariant_ab = s.invariant_coming;
-      invariant_ba = s.invariant_out;
-      plain_ab = s.plain_coming;
-      plain_ba = s.plain_out;
+      sound_ab = s.sound_coming;
+      sound_ba = s.sound_out;
       side_a = subst (λ (z : Shown). Stands w.initial_a w.initial_b z s.coming2 s.out2) (sym same_a) s.other;
       side_b = s.stands;
       stage_a = fits.stand.stage_a;

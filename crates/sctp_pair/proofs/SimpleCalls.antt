@@ -32,10 +32,8 @@ still {here} own peer a b y out coming f at s = record {
   here2 = here;
   does_out = does_by_goes None_brought out out (goes_nowhere None_brought out);
   does_coming = does_by_goes None_brought coming coming (goes_nowhere None_brought coming);
-  invariant_out = f.invariant_out;
-  invariant_coming = f.invariant_coming;
-  plain_out = f.plain_out;
-  plain_coming = f.plain_coming;
+  sound_out = f.sound_out;
+  sound_coming = f.sound_coming;
   stands = s;
   other = f.other;
   goes = stays_put here;
@@ -118,10 +116,11 @@ settles_by_receiver {here} own peer a b y out coming e f at none brings plain no
       here2 = here;
       does_out = does_by_goes None_brought out out (goes_nowhere None_brought out);
       does_coming = does_by_goes None_brought coming (happens coming e) (goes_by_receiver None_brought coming e at none brings);
-      invariant_out = f.invariant_out;
-      invariant_coming = each_event_keeps_the_invariant coming e f.within_coming f.invariant_coming;
-      plain_out = f.plain_out;
-      plain_coming = plain_events_keep_it_plain coming e plain f.plain_coming;
+      sound_out = f.sound_out;
+      sound_coming = record {
+        invariant = each_event_keeps_the_invariant coming e f.within_coming f.sound_coming.invariant;
+        plain = plain_events_keep_it_plain coming e plain f.sound_coming.plain;
+      };
       stands = s;
       other = other_by_coming peer own y coming (happens coming e) out received.sender f.other;
       goes = stays_put here;
@@ -156,8 +155,10 @@ open_on own peer a b out coming out2 coming2 xs k s nobody m status size outgoin
   present = status.lost ∙ s.present;
   truthful = status.truthful own s.truthful;
   size = size ∙ s.size ∙ sym status.size;
-  outgoing = subst (λ (p : Parts). FitsOutgoing p out2) (sym m.there) outgoing;
-  incoming = subst (λ (p : Parts). FitsIncoming p coming2) (sym m.there) incoming;
+  between = record {
+    outgoing = subst (λ (p : Parts). FitsOutgoing p out2) (sym m.there) outgoing;
+    incoming = subst (λ (p : Parts). FitsIncoming p coming2) (sym m.there) incoming;
+  };
 }
 
 -- A closed association stays closed
@@ -192,7 +193,7 @@ opened_open : {here there : Stage} (own peer : ℕ) (a y : Shown) (out coming : 
 opened_open {here} own peer a y out coming id kind none f s =
     let first : ℕ = a.sender.queue.next_message_id in
     let m = open_leads_on a (opened a id kind) id kind refl s.past s.binds in
-    let fits = opened_streams_are_alike (parts a s.past) id first kind out coming none s.outgoing s.incoming in
+    let fits = opened_streams_are_alike (parts a s.past) id first kind out coming none s.between.outgoing s.between.incoming in
     settles_by_receiver own peer a (opened a id kind) y out coming (Event.Open id) f tt (λ n. n) (λ o n. n) tt
     (at_same a (opened a id kind) here (opened_streams_keep_the_status a id kind) f.at)
     (inl (open_on own peer a (opened a id kind) out coming out (happens coming (Event.Open id)) (Act.Opened id first kind ∷ []) m.0 s (tt, tt) m.1

@@ -28,10 +28,8 @@ fits_begin own_a own_b size_a size_b a b some_a some_b stands_a stands_b meets p
       within = ((fresh_directions_are_plain size_a).1, (fresh_directions_are_plain size_b).1);
       stand = record {
         is = refl;
-        invariant_ab = fresh_holds size_a some_a;
-        invariant_ba = fresh_holds size_b some_b;
-        plain_ab = (fresh_directions_are_plain size_a).0;
-        plain_ba = (fresh_directions_are_plain size_b).0;
+        sound_ab = record { invariant = fresh_holds size_a some_a; plain = (fresh_directions_are_plain size_a).0 };
+        sound_ba = record { invariant = fresh_holds size_b some_b; plain = (fresh_directions_are_plain size_b).0 };
         side_a = inl stands_a;
         side_b = inl stands_b;
         stage_a = stage_of a;
@@ -70,8 +68,10 @@ joined_stands config size other remote own peer binds = record {
   present = refl;
   truthful = record { tsn = refl; says = tt; plain = tt; offers = λ o. absurd (false≢true o); echoes = λ x. absurd (false≢true x) };
   size = refl;
-  outgoing = record { base = refl; flight = refl; waiting = λ s. refl; own_streams = λ s. (refl, refl) };
-  incoming = record { is_open = refl; taken = refl; passed = refl; at = refl; queues = λ s. (refl, refl) };
+  between = record {
+    outgoing = record { base = refl; flight = refl; waiting = λ s. refl; own_streams = λ s. (refl, refl) };
+    incoming = record { is_open = refl; taken = refl; passed = refl; at = refl; queues = λ s. (refl, refl) };
+  };
 }
 
 -- A pair that two tokens joined stands in the empty world.
@@ -114,8 +114,10 @@ client_stands config size other tag own peer cookie remote now binds = record {
   present = refl;
   truthful = record { tsn = refl; says = ((refl, refl), tt); plain = (refl, tt); offers = λ o. refl; echoes = λ x. absurd (false≢true x) };
   size = refl;
-  outgoing = record { base = refl; flight = refl; waiting = λ s. refl; own_streams = λ s. (refl, refl) };
-  incoming = record { is_open = refl; taken = refl; passed = refl; at = refl; queues = λ s. (refl, refl) };
+  between = record {
+    outgoing = record { base = refl; flight = refl; waiting = λ s. refl; own_streams = λ s. (refl, refl) };
+    incoming = record { is_open = refl; taken = refl; passed = refl; at = refl; queues = λ s. (refl, refl) };
+  };
 }
 
 -- a server that listens
@@ -132,8 +134,10 @@ server_stands config size other tag own peer cookie remote binds = record {
   present = refl;
   truthful = record { tsn = refl; says = tt; plain = tt; offers = λ o. absurd (false≢true o); echoes = λ x. absurd (false≢true x) };
   size = refl;
-  outgoing = record { base = refl; flight = refl; waiting = λ s. refl; own_streams = λ s. (refl, refl) };
-  incoming = record { is_open = refl; taken = refl; passed = refl; at = refl; queues = λ s. (refl, refl) };
+  between = record {
+    outgoing = record { base = refl; flight = refl; waiting = λ s. refl; own_streams = λ s. (refl, refl) };
+    incoming = record { is_open = refl; taken = refl; passed = refl; at = refl; queues = λ s. (refl, refl) };
+  };
 }
 
 not_both : sides.Server ≡ sides.Client → ⊥

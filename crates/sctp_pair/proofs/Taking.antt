@@ -45,12 +45,12 @@ act_at_receiver own peer act e p y out coming B h nobody within at none keeps pl
       within = events_keep_the_limits coming e keeps within;
       holds = record {
         own_is = (acts_keep_the_initial_tsns (act ∷ []) p (nobody, tt)).0 ∙ h.own_is;
-        invariant_out = h.invariant_out;
-        invariant_coming = each_event_keeps_the_invariant coming e within h.invariant_coming;
-        plain_out = h.plain_out;
-        plain_coming = plain_events_keep_it_plain coming e plain h.plain_coming;
-        outgoing = outgoing;
-        incoming = incoming;
+        sound_out = h.sound_out;
+        sound_coming = record {
+          invariant = each_event_keeps_the_invariant coming e within h.sound_coming.invariant;
+          plain = plain_events_keep_it_plain coming e plain h.sound_coming.plain;
+        };
+        between = record { outgoing = outgoing; incoming = incoming };
         other = other_by_coming peer own y coming (happens coming e) out received.sender h.other;
       };
     }
@@ -58,16 +58,16 @@ act_at_receiver own peer act e p y out coming B h nobody within at none keeps pl
 pub act_opened : (own peer id first : ℕ) (kind : PayloadProtocolIdentifier) (p : Parts) (y : Shown) (out coming : Direction) (B : ℕ → Type 0)
     → Holds own peer p y out coming → IsWithin coming → stream_at p.streams id ≡ None → AfterComing own peer (done (Act.Opened id first kind) p) y out coming B
 act_opened own peer id first kind p y out coming B h within none =
-    let fits = opened_streams_are_alike p id first kind out coming none h.outgoing h.incoming in
+    let fits = opened_streams_are_alike p id first kind out coming none h.between.outgoing h.between.incoming in
     act_at_receiver own peer (Act.Opened id first kind) (Event.Open id) p y out coming B h tt within tt (λ n. n) tt tt (λ o n. absurd n) fits.0 fits.1
 
 pub act_took : (own peer k : ℕ) (piece : ChunkPayloadData) (d : Data) (t : Stream) (p : Parts) (y : Shown) (out coming : Direction) (B : ℕ → Type 0)
     → Holds own peer p y out coming → p.history.peer ≡ peer → IsWithin coming → Can (Act.Took piece) p → slice_get coming.datas k ≡ Some d → IsSaid peer piece d
     → stream_at p.streams piece.stream_identifier ≡ Some t → B d.offset → AfterComing own peer (done (Act.Took piece) p) y out coming B
 act_took own peer k piece d t p y out coming B h known within can e said live brought =
-    let fits = what_is_taken_in_comes p piece k d t coming can e (subst (λ i. IsSaid i piece d) (sym known) said) live within h.invariant_coming h.plain_coming h.incoming in
+    let fits = what_is_taken_in_comes p piece k d t coming can e (subst (λ i. IsSaid i piece d) (sym known) said) live within h.sound_coming.invariant h.sound_coming.plain h.between.incoming in
     act_at_receiver own peer (Act.Took piece) (Event.DataComes k) p y out coming B h tt within tt (λ n. n) tt (d, e, fits.0) (λ o b. there o b)
-    (what_comes_leaves_its_own (Act.Took piece) p out tt h.outgoing) fits.1
+    (what_comes_leaves_its_own (Act.Took piece) p out tt h.between.outgoing) fits.1
   where
     there : (o : ℕ) → Brings coming (Event.DataComes k) o → B o
     there o (c, found, at) =
@@ -83,8 +83,8 @@ pub act_reported : (own peer : ℕ) (p : Parts) (y : Shown) (out coming : Direct
     → AfterReport own peer p y out coming B
 unfolding act_at_receiver
 act_reported own peer p y out coming B h known within =
-    let report = reports_name_the_point p coming h.incoming in
+    let report = reports_name_the_point p coming h.between.incoming in
     record {
-      after = act_at_receiver own peer Act.Reported Event.SackMade p y out coming B h tt within tt (λ n. n) tt tt (λ o n. absurd n) h.outgoing report.0;
+      after = act_at_receiver own peer Act.Reported Event.SackMade p y out coming B h tt within tt (λ n. n) tt tt (λ o n. absurd n) h.between.outgoing report.0;
       said = subst (λ (i : ℕ). IsMade i (happens coming Event.SackMade) (tsn_before (tsn i p.history.point))) known report.1;
     }

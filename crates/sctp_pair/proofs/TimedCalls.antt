@@ -34,7 +34,7 @@ told_settles {here} {there} own peer a b y out coming event working e f =
     let stays = told_events_keep_the_status a b event e in
     by_working own peer a out coming (Settles own peer here there b y out coming nothing_added nothing_read None_brought) working
     (λ s. let m = poll_leads_on a b event e s.past s.binds in
-    still own peer a b y out coming f (at_same a b here stays.0 f.at) (inl (open_on own peer a b out coming out coming [] m.0 s tt m.1 stays.0 refl s.outgoing s.incoming)))
+    still own peer a b y out coming f (at_same a b here stays.0 f.at) (inl (open_on own peer a b out coming out coming [] m.0 s tt m.1 stays.0 refl s.between.outgoing s.between.incoming)))
     (λ s. still own peer a b y out coming f (at_same a b here stays.0 f.at) (inr (inl (closed_on own a b coming stays.0 (empty_still a b stays.1 s.nothing_left) s))))
     f.stands
 
@@ -77,7 +77,7 @@ expired_settles {here} {there} own peer a y out coming now working f =
     by_working own peer a out coming (Settles own peer here there b y out coming nothing_added nothing_read None_brought) working
     (λ s. let m = timeouts_lead_on a b now refl s.past s.binds in
     still own peer a b y out coming f (at_same a b here stays.0 f.at) (inl (open_on own peer a b out coming out coming (acts_of_timeouts a now) m.0 s (timeouts_meet_nobody (acts_of_timeouts a now) shape) m.1 stays.0 refl
-    (timeouts_out (acts_of_timeouts a now) (parts a s.past) out shape s.outgoing) (timeouts_coming (acts_of_timeouts a now) (parts a s.past) coming shape s.incoming))))
+    (timeouts_out (acts_of_timeouts a now) (parts a s.past) out shape s.between.outgoing) (timeouts_coming (acts_of_timeouts a now) (parts a s.past) coming shape s.between.incoming))))
     (λ s. still own peer a b y out coming f (at_same a b here stays.0 f.at) (inr (inl (closed_on own a b coming stays.0 (empty_still a b stays.1 s.nothing_left) s))))
     f.stands
 

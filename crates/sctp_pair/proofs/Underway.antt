@@ -40,8 +40,7 @@ stands_by own peer a b y k out coming out2 coming2 s same binds met size h = rec
   present = same.lost ∙ s.present;
   truthful = same.truthful own s.truthful;
   size = size ∙ s.size ∙ sym same.size;
-  outgoing = h.outgoing;
-  incoming = h.incoming;
+  between = h.between;
 }
 
 -- where the status stays, so does what the stage says

@@ -70,15 +70,16 @@ written_settles {here} own peer a y out coming id n bytes can f s =
       here2 = here;
       does_out = write_does a id n bytes t out there simple;
       does_coming = does_by_goes None_brought coming coming (goes_nowhere None_brought coming);
-      invariant_out = senders_events_keep_the_invariant out e tt f.invariant_out;
-      invariant_coming = f.invariant_coming;
-      plain_out = plain_events_keep_it_plain out e simple f.plain_out;
-      plain_coming = f.plain_coming;
+      sound_out = record {
+        invariant = senders_events_keep_the_invariant out e tt f.sound_out.invariant;
+        plain = plain_events_keep_it_plain out e simple f.sound_out.plain;
+      };
+      sound_coming = f.sound_coming;
       stands = inl (open_on own peer a (written a id bytes) out coming out2 coming (Act.Wrote id bytes ∷ []) m.0 s (tt, tt) m.1
           (writes_keep_the_status a id bytes) sent.0.size
-          (writes_are_accepted (parts a s.past) id bytes t out there can.some one f.plain_out s.outgoing)
-          (own_acts_leave_what_comes (Act.Wrote id bytes) (parts a s.past) coming tt s.incoming));
-      other = other_by_out peer own y coming out out2 (λ p g. senders_events_leave_what_comes p out e tt f.invariant_out f.plain_out g)
+          (writes_are_accepted (parts a s.past) id bytes t out there can.some one f.sound_out.plain s.between.outgoing)
+          (own_acts_leave_what_comes (Act.Wrote id bytes) (parts a s.past) coming tt s.between.incoming));
+      other = other_by_out peer own y coming out out2 (λ p g. senders_events_leave_what_comes p out e tt f.sound_out.invariant f.sound_out.plain g)
           (ap (λ (r : Receiver). r.is_open) sent.0.receiver) f.other;
       goes = stays_put here;
       at = at_same a (written a id bytes) here (writes_keep_the_status a id bytes) f.at;

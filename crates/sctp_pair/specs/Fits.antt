@@ -3,16 +3,13 @@ use Rattle.std.specs.Prelude.{◌≡◌, ℕ, true, false, ◌⊎◌, List, [], 
 use Rattle.std.specs.List.{AllByRecursion}
 use Rattle.sctp_wire_types.specs.declared.chunk.Chunk.{Chunk}
 use Rattle.sctp_model.specs.Machine.{Direction}
-use Rattle.sctp_model.specs.Invariants.{Invariant}
 use Rattle.sctp_assoc.specs.Acts.{Binds, History, parts}
 use Rattle.sctp_assoc.specs.Calls.{is_closed_state, is_established}
 use Rattle.sctp_assoc.specs.Meeting.{Greets, HasCome, IsDoneAmongClients, IsTruthful, MayHear, Stage, stage_of}
 use Rattle.sctp_assoc.specs.Shapes.{HoldsNothing, OfEachChunk}
 use Rattle.sctp_assoc.specs.Shown.{Shown}
-use Rattle.sctp_directions.specs.Plain.{IsPlain}
 use Rattle.sctp_directions.specs.Said.{Says}
-use Rattle.sctp_directions.specs.Outgoing.{FitsOutgoing}
-use Rattle.sctp_directions.specs.Incoming.{FitsIncoming}
+use Rattle.sctp_directions.specs.Between.{FitsBetween, IsSound}
 use Rattle.sctp_pair.specs.declared.step.Reply.{Reply}
 use Rattle.sctp_pair.specs.declared.step.Step.{Step}
 use Rattle.sctp_pair.specs.Ends.{Ends}
@@ -31,8 +28,7 @@ pub record StandsOpen (own peer : ℕ) (a : Shown) (out coming : Direction) : Ty
   pub present : a.lost ≡ false
   pub truthful : IsTruthful own a
   pub size : out.sender.plan.size ≡ a.sender.max_payload_size
-  pub outgoing : FitsOutgoing (parts a past) out
-  pub incoming : FitsIncoming (parts a past) coming
+  pub between : FitsBetween (parts a past) out coming
 
 -- A closed one is lost and receives nothing more, the streams that were opened since then are empty, and what waits to go out is
 -- truthful.
@@ -76,13 +72,11 @@ IsSaidBy own peer s out coming chunk = Says own peer out coming chunk ⊎ Greets
 abbrev pub AreSaid : ℕ → ℕ → Stage → Direction → Direction → List (List ℕ) → Type 0
 AreSaid own peer s out coming packets = AllByRecursion (λ (bytes : List ℕ). OfEachChunk (IsSaidBy own peer s out coming) (packet_in bytes)) packets
 
--- A pair stands in a world.
+-- A pair stands in a world: both directions are sound, and both sides stand between them.
 pub record StandsIn (p : Ends) (w : World) : Type 0 where
   pub is : p ≡ w.ends
-  pub invariant_ab : Invariant w.ab
-  pub invariant_ba : Invariant w.ba
-  pub plain_ab : IsPlain w.ab
-  pub plain_ba : IsPlain w.ba
+  pub sound_ab : IsSound w.ab
+  pub sound_ba : IsSound w.ba
   pub side_a : Stands w.initial_a w.initial_b w.ends.a w.ab w.ba
   pub side_b : Stands w.initial_b w.initial_a w.ends.b w.ba w.ab
   pub stage_a : Stage

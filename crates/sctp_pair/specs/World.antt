@@ -141,13 +141,17 @@ abbrev pub IsWithinLimits : World → Type 0
 IsWithinLimits w = IsWithin w.ab × IsWithin w.ba
 
 -- What is promised of the direction w from one association to the other: each stream within its span is safe, and what safety
--- speaks of are the associations' own values: the receiver is open where it is neither closed nor failed; what is ready is what
--- reads would answer one after another; and what is released is what was accepted and is not buffered.
+-- speaks of are the associations' own values: the receiver is open where it is neither closed nor failed; of a stream within its span
+-- what is ready is what reads would answer one after another, and what is released is what was accepted and is not buffered. Past its
+-- span a stream may have begun anew at either end, while the direction counts on. A span ends by such a step alone
+-- (`IsDirectionStep.span`), and none is over in the empty world.
 pub record IsPromised (sender receiver : Shown) (w : Direction) : Type 0 where
   pub safe : (s : ℕ) → w.over s ≡ false → IsSafe w s
   pub opens : IsOpen receiver → w.receiver.is_open ≡ true
-  pub ready_is : IsOpen receiver → (s : ℕ) → map letter_read (queue.ready (live (w.receiver.queues s))) ≡ map letter_of (ready_messages receiver s)
-  pub released_is : IsOpen sender → (s n : ℕ) → buffered_of sender s ≡ Ok n → n + w.sender.released s ≡ accepted_bytes w.sender.plan s
+  pub ready_is : IsOpen receiver → (s : ℕ) → w.over s ≡ false
+      → map letter_read (queue.ready (live (w.receiver.queues s))) ≡ map letter_of (ready_messages receiver s)
+  pub released_is : IsOpen sender → (s n : ℕ) → w.over s ≡ false → buffered_of sender s ≡ Ok n
+      → n + w.sender.released s ≡ accepted_bytes w.sender.plan s
 
 pub record IsSafeWorld (w : World) : Type 0 where
   pub ab_safe : IsPromised w.ends.a w.ends.b w.ab
