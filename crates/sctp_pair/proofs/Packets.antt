@@ -1,8 +1,6 @@
 -- A packet of the other side comes to one association.
 use Rattle.std.proofs.Common.{◌≡◌, refl, sym, ap, ◌∙◌, subst, ◌⊎◌, ⊎_elim, inl, inr, ℕ, true, false, [], Option, Some, None}
 use Rattle.std.proofs.lemmas.Bool.{cases_Bool}
-use Rattle.sctp_wire_types.specs.declared.error.Error.TheVariants as errors
-use Rattle.sctp_wire_types.specs.Errors.{refusal_number}
 use Rattle.sctp_wire.specs.declared.packet.Packet.{Packet}
 use Rattle.sctp_model.specs.Packets.{mem}
 use Rattle.sctp_model.specs.Serial.{tsn}
@@ -19,7 +17,7 @@ use Rattle.sctp_directions.proofs.Proved.{closed_receivers_are_not_open, plain_e
 use Rattle.sctp_pair.specs.Fits.{IsSaidBy, StagesAgree, StandsClosed, StandsFailed, StandsOpen}
 use Rattle.sctp_pair.specs.declared.step.Reply.{Reply}
 use Rattle.sctp_pair.specs.declared.step.Reply.TheVariants as replies
-use Rattle.sctp_pair.specs.Steps.{Fails, HadFailed, TakesPacket}
+use Rattle.sctp_pair.specs.Steps.{Fails, HadFailed, LacksMemory, TakesPacket}
 use Rattle.sctp_pair.specs.World.{HasData}
 use Rattle.sctp_pair.proofs.Between.{Faces, Holds, None_brought, Settles, does_by_goes, goes_by_receiver, goes_nowhere, goes_on, nothing_added, nothing_read, other_by_coming}
 use Rattle.sctp_pair.proofs.Chunks.{SaidIn, all_said_in, chunk_step}
@@ -221,18 +219,18 @@ processed_settles {here} {there} own peer now a y packet out coming said f =
     f.stands
 
 refused_settles : {here there : Stage} (own peer n : ℕ) (a b y : Shown) (packet : Option Packet) (out coming : Direction) (B : ℕ → Type 0)
-    → HadFailed a n b ⊎ (Fails a n b ⊎ ((n ≡ refusal_number errors.ErrNoMemory) × (b ≡ a))) → Faces own peer here there a y out coming
+    → HadFailed a n b ⊎ (Fails a n b ⊎ LacksMemory a n b) → Faces own peer here there a y out coming
     → Settles own peer here there b y out coming nothing_added nothing_read B
 refused_settles own peer n a b y packet out coming B (inl had) f = brings_more own peer b y out coming B (same_settles own peer a b y out coming had.2 f)
-refused_settles own peer n a b y packet out coming B (inr (inl fails)) f = brings_more own peer b y out coming B (fails_settle own peer a b y out coming fails.1.marked f)
-refused_settles own peer n a b y packet out coming B (inr (inr same)) f = brings_more own peer b y out coming B (same_settles own peer a b y out coming same.1 f)
+refused_settles own peer n a b y packet out coming B (inr (inl fails)) f = brings_more own peer b y out coming B (fails_settle own peer a b y out coming fails.2.marked f)
+refused_settles own peer n a b y packet out coming B (inr (inr same)) f = brings_more own peer b y out coming B (same_settles own peer a b y out coming same.2 f)
 
 -- a packet that the other side gave out comes
 pub packet_settles : {here there : Stage} (own peer now : ℕ) (a b y : Shown) (packet : Option Packet) (r : Reply) (out coming : Direction) → TakesPacket a packet now r b
     → OfEachChunk (IsSaidBy peer own there coming out) packet → Faces own peer here there a y out coming
     → Settles own peer here there b y out coming nothing_added nothing_read (λ o. HasData packet (tsn peer o))
 packet_settles {here} {there} own peer now a b y packet replies.Done out coming h said f =
-    subst (λ z. Settles own peer here there z y out coming nothing_added nothing_read (λ o. HasData packet (tsn peer o))) (sym h) (processed_settles own peer now a y packet out coming said f)
+    subst (λ z. Settles own peer here there z y out coming nothing_added nothing_read (λ o. HasData packet (tsn peer o))) (sym h.1) (processed_settles own peer now a y packet out coming said f)
 packet_settles own peer now a b y packet (replies.Refused n) out coming h said f =
     refused_settles own peer n a b y packet out coming (λ o. HasData packet (tsn peer o)) h f
 packet_settles own peer now a b y packet (replies.Wrote n) out coming h said f = absurd h

@@ -251,8 +251,8 @@ refused_polls : {here there : Stage} (own peer now n : ℕ) (a b y : Shown) (pac
     → PollSettled own peer here there b y packets more out coming
 refused_polls own peer now n a b y packets more out coming (inl (had, e)) f = gives_nothing own peer b y packets more out coming (same_settles own peer a b y out coming had.2 f) e
 refused_polls own peer now n a b y packets more out coming (inr (inl (fails, e))) f =
-    gives_nothing own peer b y packets more out coming (fails_settle own peer a b y out coming fails.1.marked f) e
-refused_polls own peer now n a b y packets more out coming (inr (inr (working, number, is, polls, (kept, e)))) f =
+    gives_nothing own peer b y packets more out coming (fails_settle own peer a b y out coming fails.2.marked f) e
+refused_polls own peer now n a b y packets more out coming (inr (inr (working, number, is, polls, (kept, fewer, e)))) f =
     let poll = any_polls own peer now a b y (polled a now).1 out coming working (pair_is (polled a now) b is) polls f in (
       poll.settles,
       take kept (polled a now).1,
@@ -267,7 +267,7 @@ pub poll_settles : {here there : Stage} (own peer now : ℕ) (a b y : Shown) (pa
 poll_settles own peer now a b y packets more replies.NothingSent out coming (working, is, polls, e) f =
     let poll = any_polls own peer now a b y [] out coming working is polls f in
     gives_nothing own peer b y packets more out coming poll.settles e
-poll_settles own peer now a b y packets more (replies.Sent first count) out coming (working, first_is, count_is, is, polls, e) f =
+poll_settles own peer now a b y packets more (replies.Sent first count) out coming (working, some, first_is, count_is, is, polls, e) f =
     let poll = any_polls own peer now a b y (polled a now).1 out coming working (pair_is (polled a now) b is) polls f in
     (poll.settles, (polled a now).1, e, poll.said)
 poll_settles own peer now a b y packets more (replies.Refused n) out coming h f = refused_polls own peer now n a b y packets more out coming h f

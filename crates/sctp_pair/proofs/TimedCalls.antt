@@ -87,7 +87,7 @@ pub expires_settle : {here there : Stage} (own peer : ℕ) (a b y : Shown) (out 
 expires_settle {here} {there} own peer a b y out coming now replies.Done h f =
     subst (λ z. Settles own peer here there z y out coming nothing_added nothing_read None_brought) (sym h.1) (expired_settles own peer a y out coming now h.0 f)
 expires_settle own peer a b y out coming now (replies.Refused n) (inl had) f = same_settles own peer a b y out coming had.2 f
-expires_settle own peer a b y out coming now (replies.Refused n) (inr fails) f = fails_settle own peer a b y out coming fails.1.marked f
+expires_settle own peer a b y out coming now (replies.Refused n) (inr (due, fails)) f = fails_settle own peer a b y out coming fails.2.marked f
 expires_settle own peer a b y out coming now (replies.Wrote n) h f = absurd h
 expires_settle own peer a b y out coming now (replies.Read message) h f = absurd h
 expires_settle own peer a b y out coming now (replies.BufferedAmount n) h f = absurd h

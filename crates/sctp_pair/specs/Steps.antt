@@ -1,5 +1,5 @@
 -- What a step of a pair does and replies.
-use Rattle.std.specs.Prelude.{◌≡◌, ◌⊎◌, ℕ, true, false, not, List, [], ◌∷◌, ◌++◌, ◌*◌, length, take, slice_get, Option, Some, None, Ok}
+use Rattle.std.specs.Prelude.{◌≡◌, ◌<◌, ◌⊎◌, ℕ, true, false, not, List, [], ◌∷◌, ◌++◌, ◌*◌, length, take, slice_get, Option, Some, None, Ok}
 use Rattle.std.specs.Duration.{as_nanos}
 use Rattle.sctp_wire_types.specs.declared.error.Error.{Error}
 use Rattle.sctp_wire_types.specs.declared.error.Error.TheVariants as errors
@@ -13,7 +13,7 @@ use Rattle.sctp_assoc.specs.Happened.{PollsOn, acts_of_poll}
 use Rattle.sctp_assoc.specs.Inbound.{taken_packet}
 use Rattle.sctp_assoc.specs.Polled.{polled}
 use Rattle.sctp_assoc.specs.Shown.{HasFailed, Shown, answers_of}
-use Rattle.sctp_assoc.specs.Timeouts.{after_timeouts}
+use Rattle.sctp_assoc.specs.Timeouts.{after_timeouts, handshake_goes_out_again}
 use Rattle.sctp_pair.specs.declared.step.Reply.{Reply}
 use Rattle.sctp_pair.specs.declared.step.Reply.TheVariants as replies
 use Rattle.sctp_pair.specs.declared.step.Side2.{Side2}
@@ -79,36 +79,39 @@ Tells a (replies.Event event) b =
 Tells a (replies.Refused n) b = HadFailed a n b
 Tells a _ b = ⊥
 
--- memory was refused in the middle of a call, and the association failed
+-- memory was refused in the middle of a call, and the association, which had not failed before, failed
 abbrev pub Fails : Shown → ℕ → Shown → Type 0
-Fails a n b = (n ≡ refusal_number errors.ErrNoMemory) × HasFailed (answers_of a) b
+Fails a n b = (a.failed ≡ false) × (n ≡ refusal_number errors.ErrNoMemory) × HasFailed (answers_of a) b
 
+-- the timers are met; memory is wanted only where INIT or COOKIE ECHO is to go out again (RFC 4960 section 5.1)
 abbrev pub Expires : Shown → ℕ → Reply → Shown → Type 0
 Expires a now replies.Done b = (a.failed ≡ false) × (b ≡ after_timeouts a now)
-Expires a now (replies.Refused n) b = HadFailed a n b ⊎ Fails a n b
+Expires a now (replies.Refused n) b = HadFailed a n b ⊎ ((handshake_goes_out_again a now ≡ true) × Fails a n b)
 Expires a now _ b = ⊥
 
--- of the packets of a poll those for which room was refused are lost, and all behind them
+-- of the packets of a poll the first one for which room was refused is lost, and all behind it
 abbrev pub LosesSome : Shown → List (List ℕ) → ℕ → ℕ → Shown → List (List ℕ) → Type 0
 LosesSome a packets now n b more =
     (a.failed ≡ false) × (n ≡ refusal_number errors.ErrNoMemory) × ((polled a now).0 ≡ b) × PollsOn (acts_of_poll a now) a b (polled a now).1
-    × ((kept : ℕ) × (more ≡ packets ++ take kept (polled a now).1))
+    × ((kept : ℕ) × (kept < length (polled a now).1) × (more ≡ packets ++ take kept (polled a now).1))
 
--- packets get the next numbers of their side, or a front of them where room is refused
+-- packets get the next numbers of their side, or where room is refused a front of them that is not all
 abbrev pub Keeps : List (List ℕ) → List (List ℕ) → Reply → List (List ℕ) → Type 0
 Keeps packets given replies.NothingSent more = (given ≡ []) × (more ≡ packets)
 Keeps packets given (replies.Sent first count) more =
-    (first ≡ length packets) × (count ≡ length given) × (more ≡ packets ++ given)
+    (0 < count) × (first ≡ length packets) × (count ≡ length given) × (more ≡ packets ++ given)
 Keeps packets given (replies.Refused n) more =
-    (n ≡ refusal_number errors.ErrNoMemory) × ((kept : ℕ) × (more ≡ packets ++ take kept given))
+    (n ≡ refusal_number errors.ErrNoMemory)
+    × ((kept : ℕ) × (kept < length given) × (more ≡ packets ++ take kept given))
 Keeps packets given _ more = ⊥
 
--- a poll for packets: they are what its acts give out, and get the next numbers of their side
+-- a poll for packets: they are what its acts give out, and get the next numbers of their side; that there are none is an answer of its
+-- own
 abbrev pub GivesOut : Shown → List (List ℕ) → ℕ → Reply → Shown → List (List ℕ) → Type 0
 GivesOut a packets now replies.NothingSent b more =
     (a.failed ≡ false) × (polled a now ≡ (b, [])) × PollsOn (acts_of_poll a now) a b [] × (more ≡ packets)
 GivesOut a packets now (replies.Sent first count) b more =
-    (a.failed ≡ false) × (first ≡ length packets) × (count ≡ length (polled a now).1) × ((polled a now).0 ≡ b)
+    (a.failed ≡ false) × (0 < count) × (first ≡ length packets) × (count ≡ length (polled a now).1) × ((polled a now).0 ≡ b)
     × PollsOn (acts_of_poll a now) a b (polled a now).1 × (more ≡ packets ++ (polled a now).1)
 GivesOut a packets now (replies.Refused n) b more =
     (HadFailed a n b × (more ≡ packets)) ⊎ ((Fails a n b × (more ≡ packets)) ⊎ LosesSome a packets now n b more)
@@ -118,11 +121,14 @@ GivesOut a packets now _ b more = ⊥
 abbrev pub packet_in : List ℕ → Option Packet
 packet_in bytes = taken_packet (packet_at bytes)
 
--- a packet comes, or a datagram that spells none
+-- memory was refused before the call did anything
+abbrev pub LacksMemory : Shown → ℕ → Shown → Type 0
+LacksMemory a n b = (a.failed ≡ false) × (n ≡ refusal_number errors.ErrNoMemory) × (b ≡ a)
+
+-- a packet comes, or a datagram that spells none; one that finds no memory to be read is lost
 abbrev pub TakesPacket : Shown → Option Packet → ℕ → Reply → Shown → Type 0
-TakesPacket a packet now replies.Done b = b ≡ after_packet a packet now
-TakesPacket a packet now (replies.Refused n) b =
-    HadFailed a n b ⊎ (Fails a n b ⊎ ((n ≡ refusal_number errors.ErrNoMemory) × (b ≡ a)))
+TakesPacket a packet now replies.Done b = (a.failed ≡ false) × (b ≡ after_packet a packet now)
+TakesPacket a packet now (replies.Refused n) b = HadFailed a n b ⊎ (Fails a n b ⊎ LacksMemory a n b)
 TakesPacket a packet now _ b = ⊥
 
 -- a datagram comes

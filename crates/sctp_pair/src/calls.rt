@@ -1,5 +1,5 @@
 // One call of one association, and its answer as a reply.
-ghost use Rattle.std.specs.Prelude.{◌≡◌, ◌++◌, ◌⊎◌, ℕ, length, take, slice_get, IfOk, OnOk, OnErr};
+ghost use Rattle.std.specs.Prelude.{◌≡◌, ◌<◌, ◌++◌, ◌⊎◌, ℕ, length, take, slice_get, IfOk, OnOk, OnErr};
 ghost use Rattle.sctp_wire.specs.Packets.{finished};
 ghost use Rattle.sctp_assoc.specs.Calls.{RefusesOrLacksMemory, written};
 ghost use Rattle.sctp_assoc.specs.Chunks.{after_packet};
@@ -117,6 +117,7 @@ pub(crate) fn poll_transmit(
 
 // The packets whose room is refused, and those after it, are lost and get no number.
 fn keep_packets(packets: &mut Vec<Bytes>, transmit: Transmit) -> Reply
+    requires { 0 < length (bytes_within transmit.payload) }
     ensures { Keeps packets.old.items (bytes_within transmit.payload) result packets.new.items }
 {
     let first = packets.len() as u64;
@@ -134,7 +135,8 @@ fn keep_packets(packets: &mut Vec<Bytes>, transmit: Transmit) -> Reply
 
 fn keep_all(packets: &mut Vec<Bytes>, sent: Vec<Bytes>) -> Result<(), AllocError>
     ensures ok { OnOk result (packets.new.items ≡ packets.old.items ++ sent.items) }
-    ensures err { OnErr result ((kept : ℕ) × (packets.new.items ≡ packets.old.items ++ take kept sent.items)) }
+    ensures err { OnErr result ((kept : ℕ) × (kept < length sent.items)
+        × (packets.new.items ≡ packets.old.items ++ take kept sent.items)) }
 {
     for packet in sent {
         packets.push(packet)?;
@@ -142,7 +144,8 @@ fn keep_all(packets: &mut Vec<Bytes>, sent: Vec<Bytes>) -> Result<(), AllocError
     Ok(())
 }
 
-// Hands a packet that the other side gave out to an association. A packet that finds no memory to be read is lost.
+// Hands a packet that the other side gave out to an association. A packet that finds no memory to be read is lost. A failed
+// association refuses each datagram, whatever it spells.
 pub(crate) fn deliver(
     association: &mut Association,
     packets: &[Bytes],
@@ -166,6 +169,9 @@ fn take_datagram(
 ) -> Reply
     ensures { TakesIn association.old packet.now now result association.new }
 {
+    if association.is_failed() {
+        return Reply::Refused(Error::ErrAssociationFailed.number());
+    }
     match PartialDecode::unmarshal(packet) {
         Ok(datagram) => take(association, datagram, remote, now),
         Err(Error::ErrNoMemory) => Reply::Refused(Error::ErrNoMemory.number()),
