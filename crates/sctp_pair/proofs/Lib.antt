@@ -1,17 +1,19 @@
 pub mod Answered
 pub mod Assembled
 pub mod Between
+pub mod Callers
 pub mod Chunks
 pub mod Counted
 pub mod Giving
 pub mod Greeted
+pub mod Letters
 mod OneSide
 pub mod Onward
 pub mod Packets
 pub mod Polls
 pub mod Promised
 pub mod ReadCall
-mod Running
+pub mod Running
 pub mod Saying
 pub mod Settled
 pub mod SimpleCalls

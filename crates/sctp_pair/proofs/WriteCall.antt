@@ -31,7 +31,8 @@ abbrev pub written_by : Reply → Shown → ℕ → List ℕ → ℕ → List Me
 written_by (replies.Wrote n) a id bytes s = if id == s then messages_on (stream_at a.streams id) bytes else []
 written_by r a id bytes s = []
 
-first_none : (x y : Option Error) → first_refusal x y ≡ None → y ≡ None
+-- where a call of a stream isn't refused it isn't for a reason of its own
+pub first_none : (x y : Option Error) → first_refusal x y ≡ None → y ≡ None
 first_none None y e = e
 first_none (Some fault) y e = absurd (true≢false (ap is_some e))
 

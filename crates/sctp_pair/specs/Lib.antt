@@ -3,3 +3,4 @@ pub mod Steps
 pub mod World
 pub mod Fits
 pub mod Counted
+pub mod Callers

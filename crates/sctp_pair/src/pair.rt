@@ -1,7 +1,8 @@
 // The pair, and a run of steps on it.
-ghost use Rattle.std.specs.Prelude.{◌≡◌, ℕ, length, slice_get, [], None, OnErr, IfOk, vec_len};
+ghost use Rattle.std.specs.Prelude.{◌≡◌, ℕ, length, slice_get, [], ◌∷◌, None, OnErr, IfOk, vec_len};
 ghost use Rattle.std.specs.Option.{option_copied};
 ghost use Rattle.sctp_assoc.specs.Join.{client, create_refusal, join_refusal, joined, server};
+ghost use Rattle.sctp_pair.specs.Callers.{CameBy, ComesOn, HoldsOn, NothingIsReadUnbrought, ReadsAreFronts};
 ghost use Rattle.sctp_pair.specs.Ends.{JoinRefuses, packets_of, end_of};
 ghost use Rattle.sctp_pair.specs.World.{World, empty_world};
 ghost use Rattle.sctp_pair.specs.Counted.{FitsCounted, LeadsCounted, RunsCounted};
@@ -70,6 +71,7 @@ impl Pair {
             (join_refusal max_payload_size_b token_b.now token_a.now) }
         ensures fits { IfOk result (λ p. Fits p (empty_world p token_a.now.initial_tsn token_b.now.initial_tsn max_payload_size_a max_payload_size_b)) }
         ensures counted { IfOk result (λ p. FitsCounted 0 0 p (empty_world p token_a.now.initial_tsn token_b.now.initial_tsn max_payload_size_a max_payload_size_b)) }
+        ensures new { IfOk result (λ p. CameBy max_payload_size_a max_payload_size_b [] [] p) }
     {
         let a = Association::new_with_out_of_band_init(
             alloc,
@@ -131,6 +133,7 @@ impl Pair {
         ensures refused { JoinRefuses result (create_refusal max_payload_size_a tsn_a) (create_refusal max_payload_size_b tsn_b) }
         ensures fits { IfOk result (λ p. Fits p (empty_world p tsn_a tsn_b max_payload_size_a max_payload_size_b)) }
         ensures counted { IfOk result (λ p. FitsCounted 0 0 p (empty_world p tsn_a tsn_b max_payload_size_a max_payload_size_b)) }
+        ensures new { IfOk result (λ p. CameBy max_payload_size_a max_payload_size_b [] [] p) }
     {
         let a = Association::new(
             alloc,
@@ -192,12 +195,19 @@ impl Pair {
     /// From each world that the pair fits, the steps lead from world to world, in each of which the pair stands; as long as each so
     /// far is within the limits, it is safe. As long as each side accepted fewer than 16,384 writes since the pair was made, each of
     /// these worlds is safe (`counted`).
+    ///
+    /// All steps of the pair so far have these behind them then (`came`), and what they tell by themselves: what either side read
+    /// on a stream is in order a front of what the other side wrote on it (`front`), and nothing of it is read before the first
+    /// delivery (`brought`), where each side accepted few messages in all of them.
     #[tactic(auto, using(crate::proofs::Worlds::runs_lead, crate::proofs::Counted::runs_lead_counted))]
     pub fn run(&mut self, steps: &[Step]) -> Result<Vec<Reply>, Error>
         ensures ok { IfOk result (λ replies. Runs steps.now replies.items self.old self.new) }
         ensures refused { OnErr result ((result ≡ Err Error.ErrNoMemory) × (self.new ≡ self.old)) }
         ensures headline { IfOk result (λ replies. (w : World) → Fits self.old w → RunsSafely steps.now replies.items w self.new) }
         ensures counted { IfOk result (λ replies. (n m : ℕ) (w : World) → FitsCounted n m self.old w → RunsCounted steps.now replies.items w n m self.new) }
+        ensures came { IfOk result (λ replies. ComesOn steps.now replies.items self.old self.new) }
+        ensures front { IfOk result (λ replies. HoldsOn ReadsAreFronts steps.now replies.items self.old) }
+        ensures brought { IfOk result (λ replies. HoldsOn NothingIsReadUnbrought steps.now replies.items self.old) }
     {
         self.carry_out_all(steps)
     }
@@ -205,12 +215,16 @@ impl Pair {
     /// Carries out one step.
     ///
     /// From each world that the pair fits, it leads to a next one, in which the pair stands; where that is within the limits, it is
-    /// safe. Where each side accepted fewer than 16,384 messages, this step's included, the next world is safe (`counted`).
+    /// safe. Where each side accepted fewer than 16,384 messages, this step's included, the next world is safe (`counted`). The
+    /// last three clauses are those of `run`, for this one step.
     #[tactic(auto, using(crate::proofs::Assembled::step_leads, crate::proofs::Counted::step_leads_counted))]
     pub fn step(&mut self, step: &Step) -> Reply
         ensures exact { Steps step.now self.old result self.new }
         ensures headline { (w : World) → Fits self.old w → LeadsSafely step.now result w self.new }
         ensures counted { (n m : ℕ) (w : World) → FitsCounted n m self.old w → LeadsCounted step.now result w n m self.new }
+        ensures came { ComesOn (step.now ∷ []) (result ∷ []) self.old self.new }
+        ensures front { HoldsOn ReadsAreFronts (step.now ∷ []) (result ∷ []) self.old }
+        ensures brought { HoldsOn NothingIsReadUnbrought (step.now ∷ []) (result ∷ []) self.old }
     {
         self.carry_out(step)
     }

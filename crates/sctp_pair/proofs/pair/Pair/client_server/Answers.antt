@@ -14,3 +14,7 @@ returns-clause-fits c =
 
 pub returns-clause-counted : goal.returns-clause-counted
 returns-clause-counted c = fits_with_none _ c.args.tsn_a c.args.tsn_b c.args.max_payload_size_a c.args.max_payload_size_b (returns-clause-fits c)
+
+-- no step led to it yet
+pub returns-clause-new : goal.returns-clause-new
+returns-clause-new c = record { begin = _; new = record { initial_a = c.args.tsn_a; initial_b = c.args.tsn_b; fits = returns-clause-counted c }; led = refl }

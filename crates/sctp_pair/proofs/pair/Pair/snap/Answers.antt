@@ -14,3 +14,7 @@ returns-clause-fits c =
 pub returns-clause-counted : goal.returns-clause-counted
 returns-clause-counted c =
     fits_with_none _ c.args.token_a.now.initial_tsn c.args.token_b.now.initial_tsn c.args.max_payload_size_a c.args.max_payload_size_b (returns-clause-fits c)
+
+-- no step led to it yet
+pub returns-clause-new : goal.returns-clause-new
+returns-clause-new c = record { begin = _; new = record { initial_a = c.args.token_a.now.initial_tsn; initial_b = c.args.token_b.now.initial_tsn; fits = returns-clause-counted c }; led = refl }

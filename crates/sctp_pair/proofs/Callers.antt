@@ -1,0 +1,286 @@
+-- Along the steps of a pair, what was written and read as the steps and their replies tell it is what its worlds have.
+use Rattle.std.proofs.Common.{◌≡◌, refl, sym, ap, ◌∙◌, subst, ◌⊎◌, ⊎_elim, ℕ, ◌+◌, ◌<◌, arith, Bool, true, false, eqb, ◌&&◌, if◌then◌else◌, List, [], ◌∷◌, ◌++◌, length, Option, Some, None}
+use Rattle.std.proofs.lemmas.Bool.{cases_Bool, true≢false}
+use Rattle.std.proofs.lemmas.List.{append-nil, append_assoc, map-append}
+use Rattle.std.specs.List.{AllByRecursion}
+use Rattle.sctp_wire.specs.declared.packet.Packet.{Packet}
+use Rattle.sctp_receive_queues.specs.Messages as letters
+use Rattle.sctp_queues.specs.Stream.{Stream}
+use Rattle.sctp_queues.specs.Streams.{stream_at}
+use Rattle.sctp_model.specs.Messages.{Message, message_at}
+use Rattle.sctp_model.specs.Packets.{mem}
+use Rattle.sctp_model.specs.Machine.{Direction}
+use Rattle.sctp_model.specs.Serial.{tsn}
+use Rattle.sctp_model.specs.Safe.{IsSafe}
+use Rattle.sctp_model.proofs.Lists.{all_join}
+use Rattle.sctp_assoc.specs.Shown.{Shown}
+use Rattle.sctp_assoc.proofs.Proved.{accepted_writes_fit}
+use Rattle.sctp_pair.specs.declared.step.Reply.{Reply}
+use Rattle.sctp_pair.specs.declared.step.Reply.TheVariants as replies
+use Rattle.sctp_pair.specs.declared.step.Side2.{Side2}
+use Rattle.sctp_pair.specs.declared.step.Side2.TheVariants as sides
+use Rattle.sctp_pair.specs.declared.step.Step.{Step}
+use Rattle.sctp_pair.specs.declared.step.Step.TheVariants as steps
+use Rattle.sctp_pair.specs.Callers.{AcceptFew, CameBy, ComesOn, HoldsOn, IsFrontOf, NothingIsReadUnbrought, ReadsAreFronts, accepted_in, bytes_of, bytes_read, bytes_written, delivers_to, read_in, read_undelivered, written_in}
+use Rattle.sctp_pair.specs.Counted.{AreFew, FitsCounted, RunsCounted, writes_of}
+use Rattle.sctp_pair.specs.Ends.{Ends, end_of}
+use Rattle.sctp_pair.specs.Steps.{Runs, Steps, Writes}
+use Rattle.sctp_pair.specs.World.{EndsSpan, HasData, IsDirectionStep, IsWorldStep, World, accepted_at, empty_world, is_side, message_read, messages_on, other_side, packet_brought}
+use Rattle.sctp_pair.proofs.Counted.{runs_lead_counted}
+use Rattle.sctp_pair.proofs.Letters.{IsKept, bytes_accepted, bytes_got, nothing_read_of_none, read_grows, reads_are_a_front}
+use Rattle.sctp_pair.proofs.Promised.{safe_world}
+use Rattle.sctp_pair.proofs.Running.{runs_join}
+use Rattle.sctp_pair.proofs.WriteCall.{first_none}
+
+-- One step
+
+-- the direction of which a side is the sender
+abbrev from : Side2 → World → Direction
+from sides.A w = w.ab
+from sides.B w = w.ba
+
+abbrev initial_of : Side2 → World → ℕ
+initial_of sides.A w = w.initial_a
+initial_of sides.B w = w.initial_b
+
+step_from : (x : Side2) (a : Step) (r : Reply) (w v : World) → IsWorldStep a w r v
+    → IsDirectionStep a r x (other_side x) w v.ends (initial_of x w) (from x w) (from x v)
+step_from sides.A a r w v h = h.ab_step
+step_from sides.B a r w v h = h.ba_step
+
+told_read_if : (c : Bool) (m : Option letters.Message) → bytes_of (if c then m else None) ≡ (if c then bytes_of m else [])
+told_read_if true m = refl
+told_read_if false m = refl
+
+-- what a reply says of a read is what the reader of the model got
+told_read : (a : Step) (r : Reply) (x : Side2) (s : ℕ) → bytes_of (message_read a r x s) ≡ bytes_read a r x s
+told_read (steps.Read side id) (replies.Read message) x s = told_read_if (is_side side x && eqb id s) message
+told_read a r x s = refl
+
+-- an accepted write was made on a live stream
+wrote_live : (a b : Shown) (id count : ℕ) (bytes : List ℕ) → Writes a id bytes (replies.Wrote count) b
+    → bytes_accepted (messages_on (stream_at a.streams id) bytes) ≡ bytes ∷ []
+wrote_live a b id count bytes h =
+    let can = accepted_writes_fit a id (length bytes) (first_none _ _ h.0) in
+    ap (λ (o : Option Stream). bytes_accepted (messages_on o bytes)) can.live.there
+
+wrote_if : (c : Bool) (ms : List Message) (bytes : List ℕ) → bytes_accepted ms ≡ bytes ∷ [] → bytes_accepted (if c then ms else []) ≡ (if c then bytes ∷ [] else [])
+wrote_if true ms bytes e = e
+wrote_if false ms bytes e = refl
+
+told_written_at : (side x : Side2) (id count s : ℕ) (bytes : List ℕ) (w : World) (q : Ends) → Steps (steps.Write side id bytes) w.ends (replies.Wrote count) q
+    → bytes_accepted (accepted_at (steps.Write side id bytes) (replies.Wrote count) x s w) ≡ bytes_written (steps.Write side id bytes) (replies.Wrote count) x s
+told_written_at sides.A sides.A id count s bytes w q h = wrote_if (eqb id s) (messages_on (stream_at w.ends.a.streams id) bytes) bytes (wrote_live w.ends.a q.a id count bytes h.0)
+told_written_at sides.A sides.B id count s bytes w q h = refl
+told_written_at sides.B sides.A id count s bytes w q h = refl
+told_written_at sides.B sides.B id count s bytes w q h = wrote_if (eqb id s) (messages_on (stream_at w.ends.b.streams id) bytes) bytes (wrote_live w.ends.b q.b id count bytes h.0)
+
+-- what a reply says of a write is what was accepted
+told_written : (a : Step) (r : Reply) (x : Side2) (s : ℕ) (w : World) (q : Ends) → Steps a w.ends r q
+    → bytes_accepted (accepted_at a r x s w) ≡ bytes_written a r x s
+told_written (steps.Write side id bytes) (replies.Wrote count) x s w q h = told_written_at side x id count s bytes w q h
+told_written a r x s w q h = refl
+
+kept_on : (c : Bool) (o : Option Stream) (bytes : List ℕ) → AllByRecursion IsKept (if c then messages_on o bytes else [])
+kept_on false o bytes = tt
+kept_on true None bytes = tt
+kept_on true (Some t) bytes = (record { ordered = refl; reliable = refl }, tt)
+
+-- each message that a step accepts is ordered and reliable
+accepted_kept : (a : Step) (r : Reply) (x : Side2) (s : ℕ) (w : World) → AllByRecursion IsKept (accepted_at a r x s w)
+accepted_kept (steps.Write side id bytes) (replies.Wrote count) x s w = kept_on (is_side side x && eqb id s) (stream_at (end_of x w.ends).streams id) bytes
+accepted_kept a r x s w = tt
+
+-- What rows of steps made of the direction of which side x is the sender, as they tell it.
+record Grew (ss : List Step) (rs : List Reply) (x : Side2) (before after : Direction) : Type 0 where
+  written : (s : ℕ) → bytes_accepted (after.sender.plan.accepted s) ≡ bytes_accepted (before.sender.plan.accepted s) ++ written_in ss rs x s
+  read : (s : ℕ) → bytes_got (after.reads s) ≡ bytes_got (before.reads s) ++ read_in ss rs (other_side x) s
+  kept : (s : ℕ) → AllByRecursion IsKept (before.sender.plan.accepted s) → AllByRecursion IsKept (after.sender.plan.accepted s)
+  span : (s : ℕ) → before.over s ≡ false → after.over s ≡ false
+
+grew_nothing : (x : Side2) (d : Direction) → Grew [] [] x d d
+grew_nothing x d = record {
+  written = λ s. sym (append-nil (bytes_accepted (d.sender.plan.accepted s)));
+  read = λ s. sym (append-nil (bytes_got (d.reads s)));
+  kept = λ s k. k;
+  span = λ s o. o;
+}
+
+wrote_one : (a : Step) (r : Reply) (x : Side2) (w v : World) → IsWorldStep a w r v → (s : ℕ)
+    → bytes_accepted ((from x v).sender.plan.accepted s) ≡ bytes_accepted ((from x w).sender.plan.accepted s) ++ bytes_written a r x s
+wrote_one a r x w v h s =
+    ap bytes_accepted ((step_from x a r w v h).accepted s) ∙ map-append (λ (m : Message). m.bytes) ((from x w).sender.plan.accepted s) (accepted_at a r x s w)
+    ∙ ap (λ z. bytes_accepted ((from x w).sender.plan.accepted s) ++ z) (told_written a r x s w v.ends h.ends_step)
+
+read_one : (a : Step) (r : Reply) (x : Side2) (w v : World) → IsWorldStep a w r v → (s : ℕ)
+    → bytes_got ((from x v).reads s) ≡ bytes_got ((from x w).reads s) ++ bytes_read a r (other_side x) s
+read_one a r x w v h s =
+    read_grows (message_read a r (other_side x) s) ((from x w).reads s) ((from x v).reads s) ((step_from x a r w v h).read s)
+    ∙ ap (λ z. bytes_got ((from x w).reads s) ++ z) (told_read a r (other_side x) s)
+
+-- no step ends a stream's span so far
+span_one : (a : Step) (r : Reply) (x : Side2) (w v : World) → IsWorldStep a w r v → (s : ℕ) → (from x w).over s ≡ false → (from x v).over s ≡ false
+span_one a r x w v h s still =
+    ⊎_elim
+    (λ (over : (from x v).over s ≡ true). ⊎_elim
+    (λ (before : (from x w).over s ≡ true). absurd (true≢false (sym before ∙ still)))
+    (λ (ends : EndsSpan a r s). absurd ends)
+    ((step_from x a r w v h).span s over))
+    (λ (within : (from x v).over s ≡ false). within)
+    (cases_Bool ((from x v).over s))
+
+grew_on : (a : Step) (r : Reply) (ss : List Step) (rs : List Reply) (x : Side2) (w v : World) (after : Direction) → IsWorldStep a w r v
+    → Grew ss rs x (from x v) after → Grew (a ∷ ss) (r ∷ rs) x (from x w) after
+grew_on a r ss rs x w v after h more = record {
+  written = λ s. more.written s ∙ ap (λ z. z ++ written_in ss rs x s) (wrote_one a r x w v h s)
+      ∙ append_assoc (bytes_accepted ((from x w).sender.plan.accepted s)) (bytes_written a r x s) (written_in ss rs x s);
+  read = λ s. more.read s ∙ ap (λ z. z ++ read_in ss rs (other_side x) s) (read_one a r x w v h s)
+      ∙ append_assoc (bytes_got ((from x w).reads s)) (bytes_read a r (other_side x) s) (read_in ss rs (other_side x) s);
+  kept = λ s k. more.kept s (subst (AllByRecursion IsKept) (sym ((step_from x a r w v h).accepted s))
+      (all_join IsKept ((from x w).sender.plan.accepted s) (accepted_at a r x s w) k (accepted_kept a r x s w)));
+  span = λ s o. more.span s (span_one a r x w v h s o);
+}
+
+-- Rows of steps
+
+-- the last world of a run
+record Reached (ss : List Step) (rs : List Reply) (w : World) (q : Ends) : Type 0 where
+  last : World
+  of_a : ℕ
+  of_b : ℕ
+  fits : FitsCounted of_a of_b q last
+  grew : (x : Side2) → Grew ss rs x (from x w) (from x last)
+
+few_first : (n m k l i j : ℕ) → AreFew (n + (k + i)) (m + (l + j)) → AreFew (n + k) (m + l)
+few_first n m k l i j few = (let f = few.0 in omega arith, let f = few.1 in omega arith)
+
+few_rest : (n m k l i j : ℕ) → AreFew (n + (k + i)) (m + (l + j)) → AreFew ((n + k) + i) ((m + l) + j)
+few_rest n m k l i j few = (let f = few.0 in omega arith, let f = few.1 in omega arith)
+
+reached : (ss : List Step) (rs : List Reply) (w : World) (n m : ℕ) (q : Ends) → RunsCounted ss rs w n m q
+    → AreFew (n + accepted_in sides.A ss rs) (m + accepted_in sides.B ss rs) → Reached ss rs w q
+reached [] [] w n m q h few = record { last = w; of_a = n; of_b = m; fits = h; grew = λ x. grew_nothing x (from x w) }
+reached (a ∷ ss) (r ∷ rs) w n m q (v, step, next) few =
+    let k : ℕ = writes_of sides.A a r in
+    let l : ℕ = writes_of sides.B a r in
+    let i : ℕ = accepted_in sides.A ss rs in
+    let j : ℕ = accepted_in sides.B ss rs in
+    let rest = reached ss rs v (n + k) (m + l) q (next (few_first n m k l i j few)).2 (few_rest n m k l i j few) in
+    record {
+      last = rest.last;
+      of_a = rest.of_a;
+      of_b = rest.of_b;
+      fits = rest.fits;
+      grew = λ x. grew_on a r ss rs x w v (from x rest.last) step (rest.grew x);
+    }
+reached [] (r ∷ rs) w n m q h few = absurd h
+reached (a ∷ ss) [] w n m q h few = absurd h
+
+-- in a world that a pair fits each stream within its span is safe, and no message is empty
+safe_from : (x : Side2) (s n m : ℕ) (p : Ends) (w : World) → FitsCounted n m p w → (from x w).over s ≡ false → IsSafe (from x w) s
+safe_from sides.A s n m p w f span = (safe_world p w f.fits).ab_safe.safe s span
+safe_from sides.B s n m p w f span = (safe_world p w f.fits).ba_safe.safe s span
+
+filled_from : (x : Side2) (s n m : ℕ) (p : Ends) (w : World) → FitsCounted n m p w
+    → (i : ℕ) → i < length ((from x w).sender.plan.accepted s) → 0 < length (message_at (from x w).sender.plan s i).bytes
+filled_from sides.A s n m p w f i b = f.fits.stand.invariant_ab.planned.filled s i b
+filled_from sides.B s n m p w f i b = f.fits.stand.invariant_ba.planned.filled s i b
+
+-- At first nothing was accepted, read or taken in, and no stream's span is over.
+record IsFresh (d : Direction) : Type 0 where
+  accepted : (s : ℕ) → d.sender.plan.accepted s ≡ []
+  unread : (s : ℕ) → d.reads s ≡ []
+  untaken : (o : ℕ) → mem o d.receiver.taken ≡ true → ⊥
+  within : (s : ℕ) → d.over s ≡ false
+
+fresh_from : (x : Side2) (p : Ends) (initial_a initial_b size_a size_b : ℕ) → IsFresh (from x (empty_world p initial_a initial_b size_a size_b))
+fresh_from sides.A p initial_a initial_b size_a size_b = record { accepted = λ s. refl; unread = λ s. refl; untaken = λ o m. true≢false (sym m); within = λ s. refl }
+fresh_from sides.B p initial_a initial_b size_a size_b = record { accepted = λ s. refl; unread = λ s. refl; untaken = λ o m. true≢false (sym m); within = λ s. refl }
+
+front_along : (ss : List Step) (rs : List Reply) (x : Side2) (s : ℕ) (before after : Direction) → IsFresh before → Grew ss rs x before after → (after.over s ≡ false → IsSafe after s)
+    → IsFrontOf (read_in ss rs (other_side x) s) (written_in ss rs x s)
+front_along ss rs x s before after first grew safe =
+    let kept = grew.kept s (subst (AllByRecursion IsKept) (sym (first.accepted s)) tt) in
+    let front = reads_are_a_front after s (safe (grew.span s (first.within s))) kept in
+    let wrote : bytes_accepted (after.sender.plan.accepted s) ≡ written_in ss rs x s =
+    grew.written s ∙ ap (λ ms. bytes_accepted ms ++ written_in ss rs x s) (first.accepted s) in
+    let read : bytes_got (after.reads s) ≡ read_in ss rs (other_side x) s =
+    grew.read s ∙ ap (λ gs. bytes_got gs ++ read_in ss rs (other_side x) s) (first.unread s) in
+    (front.0, sym wrote ∙ front.1 ∙ ap (λ z. z ++ front.0) read)
+
+-- What was read is a front of what was written.
+fronts : (size_a size_b : ℕ) (ss : List Step) (rs : List Reply) (p : Ends) → CameBy size_a size_b ss rs p → AcceptFew ss rs → ReadsAreFronts ss rs
+fronts size_a size_b ss rs p c few x s =
+    let w : World = empty_world c.begin c.new.initial_a c.new.initial_b size_a size_b in
+    let h = runs_lead_counted ss rs c.begin p c.led 0 0 w c.new.fits in
+    let r = reached ss rs w 0 0 p h (let f = few.0 in omega arith, let f = few.1 in omega arith) in
+    front_along ss rs x s (from x w) (from x r.last) (fresh_from x c.begin c.new.initial_a c.new.initial_b size_a size_b) (r.grew x) (safe_from x s r.of_a r.of_b p r.last r.fits)
+
+-- Before the first delivery
+
+not_brought : (a : Step) (y : Side2) (w : World) → delivers_to y a ≡ false → packet_brought a y w ≡ None
+not_brought (steps.Deliver side number now) y w e = rw e refl
+not_brought a y w e = refl
+
+nothing_behind : (xs ys : List (List ℕ)) → [] ≡ xs ++ ys → ys ≡ []
+nothing_behind [] ys e = sym e
+nothing_behind (x ∷ xs) ys e = absurd (cc)
+
+untaken_on : (a : Step) (r : Reply) (x : Side2) (w v : World) → IsWorldStep a w r v → delivers_to (other_side x) a ≡ false
+    → ((o : ℕ) → mem o (from x w).receiver.taken ≡ true → ⊥) → (o : ℕ) → mem o (from x v).receiver.taken ≡ true → ⊥
+untaken_on a r x w v h none before o m =
+    ⊎_elim
+    (λ (old : mem o (from x w).receiver.taken ≡ true). before o old)
+    (λ (b : HasData (packet_brought a (other_side x) w) (tsn (initial_of x w) o)).
+    subst (λ (z : Option Packet). HasData z (tsn (initial_of x w) o)) (not_brought a (other_side x) w none) b)
+    ((step_from x a r w v h).taken o m)
+
+bare : (ss : List Step) (rs : List Reply) (x : Side2) (s : ℕ) (w : World) (n m : ℕ) (q : Ends) → RunsCounted ss rs w n m q
+    → AreFew (n + accepted_in sides.A ss rs) (m + accepted_in sides.B ss rs) → ((o : ℕ) → mem o (from x w).receiver.taken ≡ true → ⊥) → (from x w).over s ≡ false
+    → read_undelivered ss rs (other_side x) s ≡ []
+bare [] [] x s w n m q h few none span = refl
+bare (a ∷ ss) (r ∷ rs) x s w n m q (v, step, next) few none span =
+    let k : ℕ = writes_of sides.A a r in
+    let l : ℕ = writes_of sides.B a r in
+    let i : ℕ = accepted_in sides.A ss rs in
+    let j : ℕ = accepted_in sides.B ss rs in
+    let after = next (few_first n m k l i j few) in
+    ⊎_elim
+    (λ (b : delivers_to (other_side x) a ≡ true). rw b refl)
+    (λ (b : delivers_to (other_side x) a ≡ false).
+    let still = untaken_on a r x w v step b none in
+    let within = span_one a r x w v step s span in
+    let unread = nothing_read_of_none (from x v) s (safe_from x s (n + k) (m + l) v.ends v after.1 within) still (filled_from x s (n + k) (m + l) v.ends v after.1) in
+    let this : bytes_read a r (other_side x) s ≡ [] =
+    nothing_behind (bytes_got ((from x w).reads s)) (bytes_read a r (other_side x) s) (sym (ap bytes_got unread) ∙ read_one a r x w v step s) in
+    rw (b, this) (bare ss rs x s v (n + k) (m + l) q after.2 (few_rest n m k l i j few) still within))
+    (cases_Bool (delivers_to (other_side x) a))
+bare [] (r ∷ rs) x s w n m q h few none span = absurd h
+bare (a ∷ ss) [] x s w n m q h few none span = absurd h
+
+turned_back : (x : Side2) → other_side (other_side x) ≡ x
+turned_back sides.A = refl
+turned_back sides.B = refl
+
+-- Until a packet was delivered to a side nothing is read there.
+unbrought : (size_a size_b : ℕ) (ss : List Step) (rs : List Reply) (p : Ends) → CameBy size_a size_b ss rs p → AcceptFew ss rs → NothingIsReadUnbrought ss rs
+unbrought size_a size_b ss rs p c few x s =
+    let w : World = empty_world c.begin c.new.initial_a c.new.initial_b size_a size_b in
+    let h = runs_lead_counted ss rs c.begin p c.led 0 0 w c.new.fits in
+    let first = fresh_from (other_side x) c.begin c.new.initial_a c.new.initial_b size_a size_b in
+    subst (λ y. read_undelivered ss rs y s ≡ []) (turned_back x)
+    (bare ss rs (other_side x) s w 0 0 p h (let f = few.0 in omega arith, let f = few.1 in omega arith) first.untaken (first.within s))
+
+-- All steps so far
+
+-- steps that lead on from a pair follow those that led to it
+pub comes_on : (more : List Step) (answers : List Reply) (p q : Ends) → Runs more answers p q → ComesOn more answers p q
+comes_on more answers p q led size_a size_b ss rs c = record { begin = c.begin; new = c.new; led = runs_join ss rs c.begin p q more answers c.led led }
+
+pub fronts_on : (more : List Step) (answers : List Reply) (p q : Ends) → Runs more answers p q → HoldsOn ReadsAreFronts more answers p
+fronts_on more answers p q led size_a size_b ss rs c few =
+    fronts size_a size_b (ss ++ more) (rs ++ answers) q (comes_on more answers p q led size_a size_b ss rs c) few
+
+pub unbrought_on : (more : List Step) (answers : List Reply) (p q : Ends) → Runs more answers p q → HoldsOn NothingIsReadUnbrought more answers p
+unbrought_on more answers p q led size_a size_b ss rs c few =
+    unbrought size_a size_b (ss ++ more) (rs ++ answers) q (comes_on more answers p q led size_a size_b ss rs c) few

@@ -1,0 +1,104 @@
+-- What a caller of a pair can tell of it by its steps and their replies alone: what it wrote and what it read.
+use Rattle.std.specs.Prelude.{◌≡◌, ℕ, ◌+◌, ◌&&◌, ◌==◌, Bool, true, false, if◌then◌else◌, List, [], ◌∷◌, ◌++◌, Option, Some, None}
+use Rattle.sctp_receive_queues.specs.Messages.{Message}
+use Rattle.sctp_pair.specs.declared.step.Reply.{Reply}
+use Rattle.sctp_pair.specs.declared.step.Reply.TheVariants as replies
+use Rattle.sctp_pair.specs.declared.step.Side2.{Side2}
+use Rattle.sctp_pair.specs.declared.step.Side2.TheVariants as sides
+use Rattle.sctp_pair.specs.declared.step.Step.{Step}
+use Rattle.sctp_pair.specs.declared.step.Step.TheVariants as steps
+use Rattle.sctp_pair.specs.Counted.{AreFew, FitsCounted, writes_of}
+use Rattle.sctp_pair.specs.Ends.{Ends}
+use Rattle.sctp_pair.specs.Steps.{Runs}
+use Rattle.sctp_pair.specs.World.{empty_world, is_side, other_side}
+
+-- One step and its reply
+
+-- the message that this step wrote at side x on stream s, as its bytes, where the write was accepted
+abbrev pub bytes_written : Step → Reply → Side2 → ℕ → List (List ℕ)
+bytes_written (steps.Write side id bytes) (replies.Wrote count) x s = if is_side side x && (id == s) then bytes ∷ [] else []
+bytes_written step reply x s = []
+
+-- the bytes of a message, if there is one
+abbrev pub bytes_of : Option Message → List (List ℕ)
+bytes_of None = []
+bytes_of (Some message) = message.bytes ∷ []
+
+-- the message that a read of side x on stream s was answered, as its bytes
+abbrev pub bytes_read : Step → Reply → Side2 → ℕ → List (List ℕ)
+bytes_read (steps.Read side id) (replies.Read message) x s = if is_side side x && (id == s) then bytes_of message else []
+bytes_read step reply x s = []
+
+-- this step hands side x a packet of the other side
+abbrev pub delivers_to : Side2 → Step → Bool
+delivers_to x (steps.Deliver side number now) = is_side side x
+delivers_to x step = false
+
+-- Rows of steps with their replies
+
+-- what side x wrote on stream s, message by message
+abbrev pub written_in : List Step → List Reply → Side2 → ℕ → List (List ℕ)
+written_in (a ∷ ss) (r ∷ rs) x s = bytes_written a r x s ++ written_in ss rs x s
+written_in [] rs x s = []
+written_in (a ∷ ss) [] x s = []
+
+-- what side x read on stream s, message by message
+abbrev pub read_in : List Step → List Reply → Side2 → ℕ → List (List ℕ)
+read_in (a ∷ ss) (r ∷ rs) x s = bytes_read a r x s ++ read_in ss rs x s
+read_in [] rs x s = []
+read_in (a ∷ ss) [] x s = []
+
+-- of that, what it read before the first delivery to it
+abbrev pub read_undelivered : List Step → List Reply → Side2 → ℕ → List (List ℕ)
+read_undelivered (a ∷ ss) (r ∷ rs) x s = if delivers_to x a then [] else bytes_read a r x s ++ read_undelivered ss rs x s
+read_undelivered [] rs x s = []
+read_undelivered (a ∷ ss) [] x s = []
+
+-- for how much its writes that were accepted count
+abbrev pub accepted_in : Side2 → List Step → List Reply → ℕ
+accepted_in x (a ∷ ss) (r ∷ rs) = writes_of x a r + accepted_in x ss rs
+accepted_in x [] rs = 0
+accepted_in x (a ∷ ss) [] = 0
+
+-- The promise
+
+abbrev pub IsFrontOf : List (List ℕ) → List (List ℕ) → Type 0
+IsFrontOf xs ys = (rest : List (List ℕ)) × (ys ≡ xs ++ rest)
+
+-- what either side read on a stream is, message by message and in order, a front of what the other side wrote on it
+abbrev pub ReadsAreFronts : List Step → List Reply → Type 0
+ReadsAreFronts ss rs = (x : Side2) (s : ℕ) → IsFrontOf (read_in ss rs (other_side x) s) (written_in ss rs x s)
+
+-- a side to which no packet was delivered yet reads nothing
+abbrev pub NothingIsReadUnbrought : List Step → List Reply → Type 0
+NothingIsReadUnbrought ss rs = (x : Side2) (s : ℕ) → read_undelivered ss rs x s ≡ []
+
+-- each side accepted few messages in all of these steps
+abbrev pub AcceptFew : List Step → List Reply → Type 0
+AcceptFew ss rs = AreFew (accepted_in sides.A ss rs) (accepted_in sides.B ss rs)
+
+-- All steps of a pair
+
+-- To a new pair nothing happened yet. A puts at most size_a bytes of a message into a piece, B at most size_b.
+pub record IsNew (size_a size_b : ℕ) (p : Ends) : Type 0 where
+  pub initial_a : ℕ
+  pub initial_b : ℕ
+  pub fits : FitsCounted 0 0 p (empty_world p initial_a initial_b size_a size_b)
+
+-- These are all steps of a pair since it was new, with their replies, and it is p now.
+pub record CameBy (size_a size_b : ℕ) (ss : List Step) (rs : List Reply) (p : Ends) : Type 0 where
+  pub begin : Ends
+  pub new : IsNew size_a size_b begin
+  pub led : Runs ss rs begin p
+
+-- Whatever steps led to p, these follow them as its next ones and lead to q.
+abbrev pub ComesOn : List Step → List Reply → Ends → Ends → Type 0
+ComesOn more answers p q =
+    (size_a size_b : ℕ) (ss : List Step) (rs : List Reply) → CameBy size_a size_b ss rs p
+    → CameBy size_a size_b (ss ++ more) (rs ++ answers) q
+
+-- Whatever steps led to p, this holds of them with these behind them, where each side accepted few messages in all of them.
+abbrev pub HoldsOn : (List Step → List Reply → Type 0) → List Step → List Reply → Ends → Type 0
+HoldsOn Law more answers p =
+    (size_a size_b : ℕ) (ss : List Step) (rs : List Reply) → CameBy size_a size_b ss rs p → AcceptFew (ss ++ more) (rs ++ answers)
+    → Law (ss ++ more) (rs ++ answers)
