@@ -1,4 +1,4 @@
-use Rattle.std.proofs.Common.{◌≡◌, refl, [], ◌∷◌}
+use Rattle.std.proofs.Common.{refl, [], ◌∷◌}
 use Rattle.sctp_pair.proofs.Callers.{comes_on, fronts_on, unbrought_on}
 use Rattle.sctp_pair.proofs.Counted.{step_leads_counted}
 use Rattle.sctp_pair.proofs.pair.Pair.step.Goals as goal
