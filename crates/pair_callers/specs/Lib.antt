@@ -1,0 +1,6 @@
+pub mod Going
+pub mod Reading
+pub mod Writing
+pub mod Delivering
+pub mod Buffering
+pub mod Running

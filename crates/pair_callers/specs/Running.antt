@@ -1,0 +1,48 @@
+-- What a run of a pair leads to.
+use Rattle.std.specs.Prelude.{◌≡◌, ◌+◌, ℕ, Bool, false, List, [], ◌∷◌}
+use Rattle.sctp_model.specs.Machine.{Direction}
+use Rattle.sctp_pair.specs.declared.step.Reply.{Reply}
+use Rattle.sctp_pair.specs.declared.step.Reply.TheVariants as replies
+use Rattle.sctp_pair.specs.declared.step.Side2.{Side2}
+use Rattle.sctp_pair.specs.declared.step.Side2.TheVariants as sides
+use Rattle.sctp_pair.specs.declared.step.Step.{Step}
+use Rattle.sctp_pair.specs.Ends.{Ends}
+use Rattle.sctp_pair.specs.World.{IsWithinLimits, World}
+use Rattle.sctp_pair.specs.Fits.{Fits}
+use Rattle.sctp_pair.specs.Counted.{AreFew, FitsCounted, writes_of}
+use Rattle.pair_callers.specs.Going.{to_side}
+use Rattle.pair_callers.specs.Reading.{AreNumbered}
+
+-- the answer that a reply tells, if it is that of a question about the state
+abbrev pub answer_in : Reply → Bool
+answer_in (replies.State answer) = answer
+answer_in reply = false
+
+-- what either side read on its streams are messages that the other one accepted, by their numbers
+abbrev pub TellsAccepted : World → Type 0
+TellsAccepted w = (side : Side2) (s : ℕ) → (to_side side w).over s ≡ false → AreNumbered (to_side side w) s
+
+-- The steps with these replies lead from world to world. As long as each so far is within the limits, what was read in it are
+-- accepted messages, and the pair fits the last one.
+abbrev pub RunsTelling : List Step → List Reply → World → Ends → Type 0
+RunsTelling [] [] w q = Fits q w
+RunsTelling (s ∷ ss) (r ∷ rs) w q = (v : World) × (IsWithinLimits v → TellsAccepted v × RunsTelling ss rs v q)
+RunsTelling [] (r ∷ rs) w q = ⊥
+RunsTelling (s ∷ ss) [] w q = ⊥
+
+-- One step leads to a next world. Where each side accepted few messages, what was read in it are accepted messages, and the pair
+-- fits it with its messages counted on.
+abbrev pub StepsTelling : Step → Reply → Ends → Ends → Type 0
+StepsTelling step reply p q = (n m : ℕ) (w : World) → FitsCounted n m p w
+    → AreFew (n + writes_of sides.A step reply) (m + writes_of sides.B step reply)
+    → (v : World) × TellsAccepted v × FitsCounted (n + writes_of sides.A step reply) (m + writes_of sides.B step reply) q v
+
+-- nothing was accepted and nothing read
+pub record HasNothing (w : Direction) : Type 0 where
+  pub accepted : (s : ℕ) → w.sender.plan.accepted s ≡ []
+  pub read : (s : ℕ) → w.reads s ≡ []
+  pub span : (s : ℕ) → w.over s ≡ false
+
+-- the pair fits a world in which nothing happened
+abbrev pub BeginsWithNothing : Ends → Type 0
+BeginsWithNothing p = (w : World) × Fits p w × HasNothing w.ab × HasNothing w.ba
