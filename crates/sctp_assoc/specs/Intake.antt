@@ -19,7 +19,7 @@ use Rattle.sctp_assoc.specs.Shown.{Shown}
 
 -- the most bytes that a message may have which is put together
 abbrev pub receive_limit : Shown → ℕ
-receive_limit a = 2 ^ 32 - 1
+receive_limit a = a.receiver.max_receive_message_size
 
 -- a stream is live, or a generation is left for it
 abbrev pub HasStreamFor : Shown → ℕ → Type 0
