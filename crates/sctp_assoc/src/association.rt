@@ -417,9 +417,6 @@ impl Association {
         if self.streams.contains(id) {
             return Err(Error::ErrStreamAlreadyExist);
         }
-        if !self.streams.has_generation() {
-            return Err(Error::ErrStreamCreateFailed);
-        }
         let first_message_id = self.sender.queue.next_message_id();
         self.streams
             .make(self.alloc, id, first_message_id, default_payload_type)?;

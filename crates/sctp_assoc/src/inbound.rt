@@ -141,13 +141,16 @@ impl Association {
         if self.streams.contains(id) {
             return Ok(true);
         }
-        if !self.streams.has_generation() {
-            return Ok(false);
-        }
         let first_message_id = self.sender.queue.next_message_id();
         let payload_type = PayloadProtocolIdentifier::Unknown;
-        self.streams
-            .make(self.alloc, id, first_message_id, payload_type)?;
+        match self
+            .streams
+            .make(self.alloc, id, first_message_id, payload_type)
+        {
+            Ok(()) => {}
+            Err(Error::ErrStreamCreateFailed) => return Ok(false),
+            Err(_) => return Err(AllocError),
+        }
         self.events.push(Event::Stream(StreamEvent::Opened { id }))?;
         Ok(true)
     }

@@ -95,8 +95,7 @@ impl Association {
             rest: VecDeque::new(self.alloc),
         };
         self.sender.queue.push(message)?;
-        self.streams.accept(id, payload_type, size);
-        Ok(())
+        self.streams.accept(id, payload_type, size)
     }
 
     pub(crate) fn buffered_of_stream(&self, id: StreamId) -> Result<usize, Error>

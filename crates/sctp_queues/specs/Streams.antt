@@ -1,5 +1,5 @@
 -- The live streams of an association and their generations.
-use Rattle.std.specs.Prelude.{ℕ, Bool, false, ◌==◌, if◌then◌else◌, List, [], ◌∷◌, ◌+◌, ◌-◌, ◌^◌, fold, map, min, nat_lt, Option, Some, None}
+use Rattle.std.specs.Prelude.{ℕ, Bool, true, false, ◌==◌, if◌then◌else◌, List, [], ◌∷◌, ◌+◌, ◌-◌, ◌^◌, fold, map, min, nat_lt, Option, Some, None}
 use Rattle.std.specs.Ordering.{nat_cmp}
 use Rattle.std.specs.BTreeMap.{is_at, insert_entry}
 use Rattle.std.specs.Map.{lookup, set_value}
@@ -36,6 +36,11 @@ change_at f (Some s) m id = with_stream m id (f s)
 -- the stream of this identifier, if it is live, is changed
 abbrev pub changed_stream : (Stream → Stream) → StreamMap → ℕ → StreamMap
 changed_stream f m id = change_at f (stream_at m id) m id
+
+-- the buffered amount is a number of 64 bits with so many bytes more; where no stream is live nothing is buffered
+abbrev pub has_room : Option Stream → ℕ → Bool
+has_room None bytes = true
+has_room (Some s) bytes = nat_lt (s.buffered + bytes) (2 ^ 64)
 
 -- a live stream is of this generation
 abbrev pub is_generation : Option Stream → ℕ → Bool

@@ -1,11 +1,11 @@
 // One live stream.
-ghost use Rattle.std.specs.Prelude.{◌≡◌, ◌+◌, ◌<◌, ◌^◌, IfOk, IfErr, OnErr, IsOk, ◌⊎◌, Some, None};
+ghost use Rattle.std.specs.Prelude.{◌≡◌, ◌+◌, ◌<◌, ◌≤◌, ◌^◌, IfOk, IfErr, OnOk, OnErr, IsOk, ◌⊎◌, Some, None};
 ghost use Rattle.sctp_queues.specs.Stream.{fresh_stream, params_for, accepted_by, reaches_high_mark, released_from, falls_to_low_mark, with_ssn_given_back, with_restarted_ssn, with_params, with_halves, without_read_half, without_write_half, is_read_half_open, is_write_half_open, stream_pushed, stream_read};
 ghost use Rattle.sctp_receive_queues.specs.Reassembly.{is_ready, bytes_waiting, refusal};
 
 use crate::{Chunks, DataChannelStats, ReassemblyQueue, RecvSendState, ReliabilityParams};
 use sctp_wire_types::{ChunkPayloadData, Error, PayloadProtocolIdentifier, StreamId};
-use std::alloc::Global;
+use std::alloc::{AllocError, Global};
 use std::marker::Model;
 
 /// A stream as it stands: its counters, its halves, how it sends, and what waits for its reader.
@@ -192,19 +192,29 @@ impl StreamState {
     }
 
     /// Counts a message of `bytes` bytes as accepted; an ordered one has the SSN that was next. Answers whether the high
-    /// mark was reached.
-    pub fn accept(&mut self, payload_type: PayloadProtocolIdentifier, bytes: u64) -> bool
-        requires { self.old.buffered + bytes < 2 ^ 64 }
-        ensures accepted { self.new ≡ accepted_by self.old payload_type bytes }
-        ensures high { result ≡ reaches_high_mark self.old bytes }
+    /// mark was reached. Refused, with nothing changed, where more bytes would be buffered than a u64 can say: that counts as
+    /// want of memory.
+    pub fn accept(
+        &mut self,
+        payload_type: PayloadProtocolIdentifier,
+        bytes: u64,
+    ) -> Result<bool, AllocError>
+        ensures accepted { OnOk result (self.new ≡ accepted_by self.old payload_type bytes) }
+        ensures high { IfOk result (λ high. high ≡ reaches_high_mark self.old bytes) }
+        ensures refused { OnErr result (2 ^ 64 ≤ self.old.buffered + bytes) }
+        ensures fits { IsOk result → self.old.buffered + bytes < 2 ^ 64 }
+        ensures unchanged { OnErr result (self.new ≡ self.old) }
     {
         let before = self.buffered;
+        let Some(buffered) = before.checked_add(bytes) else {
+            return Err(AllocError);
+        };
         if !self.params_for(payload_type).unordered {
             self.next_ssn = self.next_ssn.wrapping_add(1);
         }
-        self.buffered += bytes;
+        self.buffered = buffered;
         self.stats.count_sent(payload_type, bytes);
-        before < self.high_mark && self.high_mark <= self.buffered
+        Ok(before < self.high_mark && self.high_mark <= self.buffered)
     }
 
     /// Counts bytes as released, and answers whether the low mark was crossed.

@@ -1,8 +1,8 @@
 // The live streams of an association.
-ghost use Rattle.std.specs.Prelude.{◌≡◌, ◌==◌, length, ◌+◌, ◌-◌, ◌<◌, ◌^◌, IfOk, IfSome, OnOk, OnErr, is_some, IsOk, IfErr, ◌⊎◌, Some, None};
+ghost use Rattle.std.specs.Prelude.{◌≡◌, ◌==◌, true, false, if◌then◌else◌, length, IfOk, OnOk, OnErr, is_some, IsOk, IfErr, ◌⊎◌, Some, None};
 ghost use Rattle.std.specs.Option.{option_copied, option_copied_mut};
 ghost use Rattle.std.specs.Borrow.{sem};
-ghost use Rattle.sctp_queues.specs.Streams.{no_stream, stream_at, made, generation_left, bytes_waiting, first_ended, changed_stream, released_in, is_generation, pushed_in, refusal_in, read_in, is_readable_in};
+ghost use Rattle.sctp_queues.specs.Streams.{no_stream, stream_at, has_room, made, generation_left, bytes_waiting, first_ended, changed_stream, released_in, is_generation, pushed_in, refusal_in, read_in, is_readable_in};
 ghost use Rattle.sctp_queues.specs.Stream.{accepted_by};
 ghost use Rattle.sctp_queues.specs.Lending.{LendsStream};
 
@@ -60,14 +60,24 @@ impl Streams {
         self.by_id.get_mut(&id)
     }
 
-    /// Counts a message as accepted on a live stream.
-    pub fn accept(&mut self, id: StreamId, payload_type: PayloadProtocolIdentifier, bytes: u64)
-        requires { IfSome (stream_at self.old id) (λ s. s.buffered + bytes < 2 ^ 64) }
-        ensures { self.new ≡ changed_stream (λ s. accepted_by s payload_type bytes) self.old id }
+    /// Counts a message as accepted on a live stream. Refused, with nothing changed, where more bytes would be buffered there than
+    /// a u64 can say: that counts as want of memory.
+    #[tactic(auto, using(std::proofs::lemmas::Map::Steps::set_value_same))]
+    pub fn accept(
+        &mut self,
+        id: StreamId,
+        payload_type: PayloadProtocolIdentifier,
+        bytes: u64,
+    ) -> Result<(), AllocError>
+        ensures accepted { OnOk result (self.new ≡ changed_stream (λ s. accepted_by s payload_type bytes) self.old id) }
+        ensures refused { OnErr result (has_room (stream_at self.old id) bytes ≡ false) }
+        ensures fits { IsOk result → has_room (stream_at self.old id) bytes ≡ true }
+        ensures unchanged { OnErr result (self.new ≡ self.old) }
     {
         if let Some(stream) = self.get_mut(id) {
-            stream.accept(payload_type, bytes);
+            stream.accept(payload_type, bytes)?;
         }
+        Ok(())
     }
 
     /// Counts bytes of a generation as released, where it is still live.
@@ -132,18 +142,23 @@ impl Streams {
         self.next_generation < u64::MAX
     }
 
-    /// Makes a stream, in the next generation. `first_message_id` is the identifier that the next message gets.
+    /// Makes a stream, in the next generation. `first_message_id` is the identifier that the next message gets. Refused, with
+    /// nothing changed, where no generation is left (`ErrStreamCreateFailed`), and where memory is (`ErrNoMemory`).
     pub fn make(
         &mut self,
         alloc: Global,
         id: StreamId,
         first_message_id: u64,
         default_payload_type: PayloadProtocolIdentifier,
-    ) -> Result<(), AllocError>
-        requires { self.old.next_generation < 2 ^ 64 - 1 }
+    ) -> Result<(), Error>
         ensures ok { OnOk result (self.new ≡ made self.old id first_message_id default_payload_type) }
+        ensures left { IsOk result → generation_left self.old ≡ true }
+        ensures refused { IfErr result (λ e. e ≡ (if generation_left self.old then Error.ErrNoMemory else Error.ErrStreamCreateFailed)) }
         ensures err { OnErr result (self.new ≡ self.old) }
     {
+        if !self.has_generation() {
+            return Err(Error::ErrStreamCreateFailed);
+        }
         let stream = StreamState::new(
             alloc,
             id,
