@@ -59,7 +59,14 @@ impl fmt::Display for AssociationState {
 }
 
 impl AssociationState {
-    ghost use Rattle.sctp_parts.specs.State.{is_closing};
+    ghost use Rattle.sctp_parts.specs.State.{code_of, is_closing};
+
+    /// The number that stands for the state.
+    pub fn code(self) -> u8
+        ensures { result ≡ code_of self }
+    {
+        self as u8
+    }
 
     /// Whether a shutdown has begun and the association is not closed yet.
     pub fn is_closing(&self) -> bool
