@@ -10,6 +10,7 @@ mod Intake
 mod Joining
 mod Keeping
 mod Live
+mod Losing
 mod Meeting
 mod PollSays
 mod Polling
@@ -17,8 +18,13 @@ pub mod Proved
 mod ReadAgain
 mod Reading
 mod Reporting
+mod Runs
 mod Shapes
 mod Status
 mod Streams
+mod Ticking
+mod TickingChunks
+mod TickingPolls
+mod TickingTimers
 mod Truth
 mod Waits

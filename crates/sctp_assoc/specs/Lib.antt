@@ -11,8 +11,10 @@ pub mod Join
 pub mod Laws
 pub mod Lending
 pub mod Meeting
+pub mod OneSide
 pub mod Polled
 pub mod Reports
 pub mod Shapes
 pub mod Shown
 pub mod Timeouts
+pub mod Witnesses

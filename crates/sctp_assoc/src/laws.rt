@@ -3,6 +3,7 @@ ghost use Rattle.sctp_assoc.specs.Shapes.{AcceptedWritesFit, ChunksLeadOn, DataI
 ghost use Rattle.sctp_assoc.specs.Causes.{CausesClose, ClosingPacketsHaveCauses, FaultsAreCauses};
 ghost use Rattle.sctp_assoc.specs.Intake.{DataIsTakenIn, NothingElseIsTakenIn};
 ghost use Rattle.sctp_assoc.specs.Laws.{DueSacksGoOut, FaultsAloneClose, OpenedStreamsDoNotClose, PollsDoNotClose, PollsKeepWhatIsHeld, ReadsDoNotClose, SacksNameThePoint, SacksOfferTheBuffer, SacksSayWhatCame, TimersDoNotClose, WhatWaitsGoesOut, WhatWaitsIsGiven, WhatWaitsIsPolled, WritesAreHeld, WritesDoNotClose};
+ghost use Rattle.sctp_assoc.specs.Witnesses.{CookiesAreTimedInCookieEchoedAlone, CreatedSidesAreFresh, EchoedCookiesAreTimed, FailedSidesWaitForNothing, FailuresStopTheTimers, InitsAreTimedInCookieWaitAlone, JoinedSidesAreFresh, LossesAreToldOnce, LossesStopTheTimers, LostSidesWaitForNothing, NoHandshakeTimerRunsOnceEstablished, NothingInFlightIsNotTimed, OutstandingDataIsTimed, SentInitsAreTimed};
 
 /// Sending: what waits goes out with the next poll where nothing is in flight (RFC 4960 section 6.1).
 pub fn what_waits_goes_out()
@@ -102,4 +103,27 @@ pub fn calls_are_made_of_acts()
     ensures packets { PollsSayTheirActs }
     ensures waiting { WhatWaitsGoesOutAsItIs }
     ensures timeouts { TimeoutsMarkAtMost }
+{}
+
+/// Losing: over every list of calls that a side gets, it tells of one loss where it was lost, and of none else.
+pub fn at_most_one_loss()
+    ensures created { CreatedSidesAreFresh }
+    ensures joined { JoinedSidesAreFresh }
+    ensures told { LossesAreToldOnce }
+{}
+
+/// Timing: over every list of calls each timer of DATA and of the handshake runs where it should, and where it should alone (RFC 4960
+/// sections 5.1 and 6.3.2). A side that failed or was lost waits for no moment.
+pub fn timers_run_where_they_should()
+    ensures data { OutstandingDataIsTimed }
+    ensures no_data { NothingInFlightIsNotTimed }
+    ensures inits { SentInitsAreTimed }
+    ensures cookies { EchoedCookiesAreTimed }
+    ensures inits_alone { InitsAreTimedInCookieWaitAlone }
+    ensures cookies_alone { CookiesAreTimedInCookieEchoedAlone }
+    ensures established { NoHandshakeTimerRunsOnceEstablished }
+    ensures failures { FailuresStopTheTimers }
+    ensures losses { LossesStopTheTimers }
+    ensures failed { FailedSidesWaitForNothing }
+    ensures lost { LostSidesWaitForNothing }
 {}
