@@ -1,11 +1,11 @@
-use Rattle.std.proofs.Common.{◌≡◌, ℕ, zero, suc, ◌+◌, ◌-◌, ◌<◌, ◌≤◌, true, false, nat_lt, List, [], ◌∷◌, ◌++◌, Option, Some, None, length, take, drop, set, slice_get, refl, ap, sym, ◌∙◌, ⊎_elim, append_assoc, arith}
-use Rattle.std.proofs.lemmas.List.{take_more, take_more_set, drop_more, drop_all, drop-set-lt, length-drop, take-append-drop, append-nil, length-set}
+use Rattle.std.proofs.Common.{◌≡◌, ℕ, zero, suc, ◌+◌, ◌-◌, ◌<◌, ◌≤◌, Bool, true, false, ◌&&◌, not, is_some, nat_lt, List, [], ◌∷◌, ◌++◌, Option, Some, None, Result, Ok, Err, length, take, drop, set, slice_get, refl, ap, sym, subst, ◌∙◌, ⊎_elim, append_assoc, arith}
+use Rattle.std.proofs.lemmas.List.{length-append, length_push, take_more, take_more_set, drop_more, drop_all, drop-set-lt, length-drop, take-append-drop, append-nil, length-set}
 use Rattle.std.proofs.lemmas.Option.{get_or_from_slice_get, slice_get_within}
-use Rattle.std.proofs.lemmas.Bool.{cases_Bool}
+use Rattle.std.proofs.lemmas.Bool.{and_parts, cases_Bool, lt-ltb, ltb-true, not-true}
 use Rattle.std.proofs.lemmas.Bool.Decides.{nat_tests}
 use Rattle.sctp_wire_types.specs.declared.chunk.ChunkPayloadData.{ChunkPayloadData}
 use Rattle.sctp_parts.specs.Estimate.{Estimate}
-use Rattle.std.specs.Prelude.{◌==◌}
+use Rattle.std.specs.Prelude.{◌==◌, OnErr}
 use Rattle.std.proofs.lemmas.List.Sums.{sum_by-cons}
 use Rattle.sctp_outbound_queue.specs.declared.message.InFlight.{InFlight}
 use Rattle.sctp_outbound_queue.specs.Waiting.{Waiting}
@@ -13,7 +13,7 @@ use Rattle.sctp_outbound_queue.specs.Message.{counted_again, piece_count, withou
 use Rattle.sctp_outbound_queue.specs.Outbound.{tsn_at, pieces_waiting, left_behind, after_piece}
 use Rattle.sctp_queues.specs.Streams.{StreamMap}
 use Rattle.sctp_outbound.specs.declared.sender.Sender.{Sender}
-use Rattle.sctp_outbound.specs.Sender.{after_first, acknowledged, with_in_flight, resent_pieces, resent_chunks, tried_again, chunk_of, fits_windows, can_send_next, sent_one, sent_within}
+use Rattle.sctp_outbound.specs.Sender.{after_first, after_resending, acknowledged, with_in_flight, resent_pieces, resent_chunks, tried_again, chunk_of, fits_windows, can_send_next, gives_data, goes_again, resends, resent_by, sends_new, sent_new, sent_one, sent_within}
 
 pub acknowledge_more : (n i now : ℕ) (all : Sender × Estimate × StreamMap) → i < n → acknowledged (n - (i + 1)) now (after_first now all) ≡ acknowledged (n - i) now all
 acknowledge_more n i now all below =
@@ -59,6 +59,70 @@ within_step s s2 out out2 now fits sent left =
 pub within_end : (n : ℕ) (s : Sender) (out : List ChunkPayloadData) (now : ℕ) → can_send_next s ≡ false → sent_within n s out now ≡ (s, out)
 within_end zero s out now full = refl
 within_end (suc n) s out now full = rw full
+
+-- what holds anyway holds where a call fails
+pub on_err : {T E P : Type 0} → (r : Result T E) → P → OnErr r P
+on_err (Ok value) h = tt
+on_err (Err error) h = h
+
+-- how much is sent
+
+more_by_one : (out : List ChunkPayloadData) (chunk : ChunkPayloadData) → length (out ++ chunk ∷ []) ≡ length out + 1
+more_by_one out chunk = length-append out (chunk ∷ [])
+
+one_more_sent : (ms : List Waiting) (s : Sender) (out : List ChunkPayloadData) (now : ℕ) → is_some (slice_get ms 0) ≡ true
+    → length (sent_one ms s out now).1 ≡ length out + 1
+unfolding sent_one
+one_more_sent [] s out now waits = absurd (false_from_true waits)
+one_more_sent (m ∷ ms) s out now waits = more_by_one out _
+
+one_grows : (ms : List Waiting) (s : Sender) (out : List ChunkPayloadData) (now : ℕ) → length out ≤ length (sent_one ms s out now).1
+unfolding sent_one
+one_grows [] s out now = omega arith
+one_grows (m ∷ ms) s out now = let more = one_more_sent (m ∷ ms) s out now refl in omega (arith, more)
+
+within_grows : (n : ℕ) (s : Sender) (out : List ChunkPayloadData) (now : ℕ) → length out ≤ length (sent_within n s out now).1
+within_grows zero s out now = omega arith
+within_grows (suc n) s out now =
+    let sent = sent_one s.queue.pending s out now in
+    let one = one_grows s.queue.pending s out now in
+    let rest = within_grows n sent.0 sent.1 now in
+    ⊎_elim
+    (λ (fits : can_send_next s ≡ true). rw fits (omega (arith, one, rest)))
+    (λ (full : can_send_next s ≡ false). rw full (omega arith))
+    (cases_Bool (can_send_next s))
+
+fits_some : (s : Sender) (o : Option Waiting) → fits_windows s o ≡ true → is_some o ≡ true
+fits_some s None fits = absurd (false_from_true fits)
+fits_some s (Some m) fits = refl
+
+within_sends_of : (n k : ℕ) (s : Sender) (out : List ChunkPayloadData) (now : ℕ) → n ≡ suc k → can_send_next s ≡ true
+    → length out < length (sent_within n s out now).1
+within_sends_of n k s out now less fits =
+    let sent = sent_one s.queue.pending s out now in
+    let one = one_more_sent s.queue.pending s out now (fits_some s (slice_get s.queue.pending 0) fits) in
+    let rest = within_grows k sent.0 sent.1 now in
+    rw (less, fits) (omega (arith, one, rest))
+
+-- where the next piece fits, some is sent
+pub within_sends : (s : Sender) (out : List ChunkPayloadData) (now : ℕ) → can_send_next s ≡ true
+    → length out < length (sent_within (pieces_waiting s.queue.pending) s out now).1
+within_sends s out now fits =
+    within_sends_of (pieces_waiting s.queue.pending) (pieces_waiting (after_piece s.queue.pending)) s out now (one_piece_less s s.queue.pending fits) fits
+
+-- with nothing in flight the piece that probes the windows is sent
+pub probe_sends : (s : Sender) (out : List ChunkPayloadData) (now : ℕ) → (length s.queue.in_flight == 0) ≡ true → can_send_next s ≡ false
+    → is_some (slice_get s.queue.pending 0) ≡ true → sends_new s out now ≡ true
+probe_sends s out now none full waits =
+    let one = one_more_sent s.queue.pending s out now waits in
+    rw (none, full) (lt-ltb _ _ (omega (arith, one)))
+
+pub new_grows : (s : Sender) (out : List ChunkPayloadData) (now : ℕ) → length out ≤ length (sent_new s out now).1
+new_grows s out now =
+    ⊎_elim
+    (λ (probes : (length s.queue.in_flight == 0 && not (can_send_next s)) ≡ true). rw probes (one_grows s.queue.pending s out now))
+    (λ (runs : (length s.queue.in_flight == 0 && not (can_send_next s)) ≡ false). rw runs (within_grows (pieces_waiting s.queue.pending) s out now))
+    (cases_Bool (length s.queue.in_flight == 0 && not (can_send_next s)))
 
 -- pieces in flight
 
@@ -107,6 +171,7 @@ tried_sent p s place left out marked fits = rw (marked, fits)
 -- once the piece at a place is dealt with, the rest is resent as it was to be before
 pub record Stepped (s s2 : Sender) (place left left2 : ℕ) (out out2 : List ChunkPayloadData) : Type 0 where
   pub count : length s2.queue.in_flight ≡ length s.queue.in_flight
+  pub grown : length out ≤ length out2
   pub rest : s2 ≡ with_in_flight s s2.queue.in_flight
   pub pieces : take (place + 1) s2.queue.in_flight ++ resent_pieces left2 (drop (place + 1) s2.queue.in_flight) ≡ take place s.queue.in_flight ++ resent_pieces left (drop place s.queue.in_flight)
   pub chunks : out2 ++ resent_chunks s2.queue.first_tsn (place + 1) left2 (drop (place + 1) s2.queue.in_flight) ≡ out ++ resent_chunks s.queue.first_tsn place left (drop place s.queue.in_flight)
@@ -117,6 +182,7 @@ skipped p s place left out here unmarked =
     let ds = drop (place + 1) s.queue.in_flight in
     record {
       count = refl;
+      grown = omega arith;
       rest = refl;
       pieces =
           one_more (take place xs) (take (place + 1) xs) (resent_pieces left (drop place xs)) (resent_pieces left ds) p
@@ -136,8 +202,10 @@ sent_again_at p s place left out here marked fits =
     let ys = set s.queue.in_flight place q in
     let below = slice_get_within s.queue.in_flight place p here in
     let same : drop (place + 1) ys ≡ drop (place + 1) xs = drop-set-lt (place + 1) xs place q (omega arith) in
+    let more = more_by_one out chunk in
     record {
       count = length-set xs place q;
+      grown = omega (arith, more);
       rest = refl;
       pieces =
           one_more (take place xs) (take (place + 1) ys) (resent_pieces left (drop place xs))
@@ -246,6 +314,7 @@ stop_of (Some p) s s2 place left out out2 here e =
 -- before a place the pieces are as they will stay; with what is resent of the rest they are what the whole was to become
 pub record ResendsOn (s0 s : Sender) (i end room left : ℕ) (out0 out : List ChunkPayloadData) : Type 0 where
   pub count : end ≡ length s.queue.in_flight
+  pub grown : length out0 ≤ length out
   pub rest : s ≡ with_in_flight s0 s.queue.in_flight
   pub pieces : take i s.queue.in_flight ++ resent_pieces left (drop i s.queue.in_flight) ≡ resent_pieces room s0.queue.in_flight
   pub chunks : out ++ resent_chunks s.queue.first_tsn i left (drop i s.queue.in_flight) ≡ out0 ++ resent_chunks s0.queue.first_tsn 0 room s0.queue.in_flight
@@ -255,6 +324,7 @@ resends_on s0 s s2 i end room left left2 out0 out out2 inv e =
     let step = step_of (slice_get s.queue.in_flight i) s s2 i left left2 out out2 refl e in
     record {
       count = inv.count ∙ sym step.count;
+      grown = omega (arith, inv.grown, step.grown);
       rest = step.rest ∙ ap (λ (z : Sender). with_in_flight z s2.queue.in_flight) inv.rest;
       pieces = step.pieces ∙ inv.pieces;
       chunks = step.chunks ∙ inv.chunks;
@@ -271,3 +341,46 @@ pub resent_out : (s0 s s2 : Sender) (i end room left : ℕ) (out0 out out2 : Lis
 resent_out s0 s s2 i end room left out0 out out2 inv e =
     let stop = stop_of (slice_get s.queue.in_flight i) s s2 i left out out2 refl e in
     stop.sent ∙ sym (append-nil out) ∙ ap (λ z. out ++ z) (sym stop.chunks) ∙ inv.chunks
+
+-- a piece that is to be sent again is the first of what is resent from its place on
+goes_first : (o : Option InFlight) (s : Sender) (place left : ℕ) → slice_get s.queue.in_flight place ≡ o → goes_again o left ≡ true
+    → 0 < length (resent_chunks s.queue.first_tsn place left (drop place s.queue.in_flight))
+goes_first None s place left here again = absurd (false_from_true again)
+goes_first (Some p) s place left here again =
+    let parts = and_parts p.retransmit (not (nat_lt left (length p.user_data))) again in
+    let first =
+    ap (resent_chunks s.queue.first_tsn place left) (drop_get s.queue.in_flight place p here) ∙
+    chunks_sent p (drop (place + 1) s.queue.in_flight) s.queue.first_tsn place left parts.0 (not-true _ parts.1) in
+    rw first (omega arith)
+
+pub resends_some : (s0 s : Sender) (i end room left : ℕ) (out0 out : List ChunkPayloadData) → ResendsOn s0 s i end room left out0 out
+    → goes_again (slice_get s.queue.in_flight i) left ≡ true → nat_lt 0 (length (resent_chunks s0.queue.first_tsn 0 room s0.queue.in_flight)) ≡ true
+resends_some s0 s i end room left out0 out inv again =
+    let rest = resent_chunks s.queue.first_tsn i left (drop i s.queue.in_flight) in
+    let all = resent_chunks s0.queue.first_tsn 0 room s0.queue.in_flight in
+    let some = goes_first (slice_get s.queue.in_flight i) s i left refl again in
+    let lengths : length out + length rest ≡ length out0 + length all =
+    sym (length-append out rest) ∙ ap length inv.chunks ∙ length-append out0 all in
+    lt-ltb _ _ (omega (arith, lengths, some, inv.grown))
+
+-- where a piece behind fits after some were sent, more is sent than before
+pub within_sends_on : (s0 s : Sender) (out0 out : List ChunkPayloadData) (now : ℕ) → can_send_next s ≡ true → length out0 ≤ length out
+    → sent_within (pieces_waiting s.queue.pending) s out now ≡ sent_within (pieces_waiting s0.queue.pending) s0 out0 now
+    → nat_lt (length out0) (length (sent_within (pieces_waiting s0.queue.pending) s0 out0 now).1) ≡ true
+within_sends_on s0 s out0 out now fits grown same =
+    let some = within_sends s out now fits in
+    rw (← same) (lt-ltb _ _ (omega (arith, some, grown)))
+
+pub sent_one_grows : (s s2 : Sender) (out out2 : List ChunkPayloadData) (now : ℕ) → sent_one s.queue.pending s out now ≡ (s2, out2) → length out ≤ length out2
+sent_one_grows s s2 out out2 now e = subst (λ (z : Sender × List ChunkPayloadData). length out ≤ length z.1) e (one_grows s.queue.pending s out now)
+
+-- DATA of a poll that is sent again is given
+pub resending_gives : (s : Sender) (now : ℕ) → resends s ≡ true → gives_data s now ≡ true
+resending_gives s now again =
+    let grown = new_grows (after_resending s) (resent_by s) now in
+    let some = ltb-true _ _ again in
+    lt-ltb _ _ (omega (arith, grown, some))
+
+-- and so is DATA that is sent behind it for the first time
+pub sending_gives : (s : Sender) (now : ℕ) → sends_new (after_resending s) (resent_by s) now ≡ true → gives_data s now ≡ true
+sending_gives s now new = let some = ltb-true _ _ new in lt-ltb _ _ (omega (arith, some))

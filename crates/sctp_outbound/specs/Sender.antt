@@ -171,6 +171,11 @@ tried_again (Some p) s place room out =
       Some (room - length p.user_data),
     )
 
+-- this piece is marked and fits into so many bytes
+abbrev pub goes_again : Option InFlight → ℕ → Bool
+goes_again None room = false
+goes_again (Some p) room = p.retransmit && not (nat_lt room (length p.user_data))
+
 abbrev pub alone_length_of : ℕ → Option InFlight → Option ℕ
 alone_length_of window None = None
 alone_length_of window (Some p) =
@@ -209,6 +214,10 @@ after_resending s =
     if resends_alone s then first_counted s.queue.in_flight else resent_pieces (both_windows s) s.queue.in_flight
     )
 
+-- DATA is sent again
+abbrev pub resends : Sender → Bool
+resends s = nat_lt 0 (length (resent_by s))
+
 abbrev pub fits_windows : Sender → Option Waiting → Bool
 fits_windows s None = false
 fits_windows s (Some m) =
@@ -239,3 +248,11 @@ abbrev pub sent_new : Sender → List ChunkPayloadData → ℕ → Sender × Lis
 sent_new s out now =
     if length s.queue.in_flight == 0 && not (can_send_next s) then sent_one s.queue.pending s out now else
     sent_within (pieces_waiting s.queue.pending) s out now
+
+-- behind these chunks DATA is sent for the first time
+abbrev pub sends_new : Sender → List ChunkPayloadData → ℕ → Bool
+sends_new s out now = nat_lt (length out) (length (sent_new s out now).1)
+
+-- a poll gives DATA: some is sent again, or for the first time
+abbrev pub gives_data : Sender → ℕ → Bool
+gives_data s now = nat_lt 0 (length (sent_new (after_resending s) (resent_by s) now).1)

@@ -3,8 +3,8 @@ ghost use Rattle.sctp_parts.specs.Estimate.{measured};
 ghost use Rattle.sctp_outbound_queue.specs.Message.{outstanding_bytes};
 ghost use Rattle.sctp_outbound_queue.specs.Outbound.{all_marked, after_piece, pieces_waiting};
 ghost use Rattle.sctp_queues.specs.Streams.{released_in};
-ghost use Rattle.std.specs.Prelude.{◌≡◌, ◌+◌, ◌-◌, ◌/◌, if◌then◌else◌, ◌≤◌, ◌<◌, ◌^◌, ◌++◌, ◌∷◌, [], OnErr, OnOk, IfOk, IfSome, length, slice_get, nat_lt};
-ghost use Rattle.sctp_outbound.specs.Sender.{fresh_sender, window_left, marks, acked_point_of, points_to, after_first, acknowledged, sack_outcome, with_first_window, with_window, t3_after_sack, chunk_of, next_chunk_of, data_of, can_send_next, is_measured, after_resending, resent_by, alone_length, with_in_flight, resent_pieces, resent_chunks, tried_again, sent_new, sent_within, sent_one};
+ghost use Rattle.std.specs.Prelude.{true, is_some, ◌≡◌, ◌+◌, ◌-◌, ◌/◌, if◌then◌else◌, ◌≤◌, ◌<◌, ◌^◌, ◌++◌, ◌∷◌, [], OnErr, OnOk, IfOk, IfSome, length, slice_get, nat_lt};
+ghost use Rattle.sctp_outbound.specs.Sender.{goes_again, resends, sends_new, fresh_sender, window_left, marks, acked_point_of, points_to, after_first, acknowledged, sack_outcome, with_first_window, with_window, t3_after_sack, chunk_of, next_chunk_of, data_of, can_send_next, is_measured, after_resending, resent_by, alone_length, with_in_flight, resent_pieces, resent_chunks, tried_again, sent_new, sent_within, sent_one};
 
 use bytes::Bytes;
 use sctp_outbound_queue::{Attributes, InFlight, OutboundQueue, PendingMessage};
@@ -198,10 +198,11 @@ impl Sender {
     }
 
     /// Sends marked DATA again, in TSN order, while the windows allow it. Where the peer's window is too small for the
-    /// first TSN in flight, that one goes alone.
+    /// first TSN in flight, that one goes alone. It lacks memory only where a chunk is sent again.
     pub fn resend_marked(&mut self, out: &mut Vec<ChunkPayloadData>) -> Result<(), AllocError>
         ensures sender { OnOk result (self.new ≡ after_resending self.old) }
         ensures chunks { OnOk result (out.new.items ≡ out.old.items ++ resent_by self.old) }
+        ensures grows { OnErr result (resends self.old ≡ true) }
     {
         if let Some(length) = self.alone_length() {
             self.resend(0, length, out)?;
@@ -232,6 +233,7 @@ impl Sender {
     ) -> Result<(), AllocError>
         ensures sender { OnOk result (self.new ≡ with_in_flight self.old (resent_pieces room self.old.queue.in_flight)) }
         ensures chunks { OnOk result (out.new.items ≡ out.old.items ++ resent_chunks self.old.queue.first_tsn 0 room self.old.queue.in_flight) }
+        ensures grows { OnErr result (nat_lt 0 (length (resent_chunks self.old.queue.first_tsn 0 room self.old.queue.in_flight)) ≡ true) }
     {
         let mut left = room;
         for place in 0..self.queue.inflight_len() {
@@ -251,7 +253,8 @@ impl Sender {
         room: u64,
         out: &mut Vec<ChunkPayloadData>,
     ) -> Result<Option<u64>, AllocError>
-        ensures { IfOk result (λ rest. tried_again (slice_get self.old.queue.in_flight place) self.old place room out.old.items ≡ (self.new, out.new.items, rest)) }
+        ensures exact { IfOk result (λ rest. tried_again (slice_get self.old.queue.in_flight place) self.old place room out.old.items ≡ (self.new, out.new.items, rest)) }
+        ensures grows { OnErr result (goes_again (slice_get self.old.queue.in_flight place) room ≡ true) }
     {
         let Some(piece) = self.queue.get(place) else {
             return Ok(None);
@@ -270,7 +273,8 @@ impl Sender {
     }
 
     /// Sends DATA that waits while the windows allow it, and answers whether any was sent. With nothing in flight one
-    /// piece goes whatever the windows are, to probe them (RFC 4960 section 6.1).
+    /// piece goes whatever the windows are, to probe them (RFC 4960 section 6.1). It lacks memory only where a chunk is
+    /// sent.
     pub fn send_new(
         &mut self,
         out: &mut Vec<ChunkPayloadData>,
@@ -278,6 +282,7 @@ impl Sender {
     ) -> Result<bool, AllocError>
         ensures sent { OnOk result (sent_new self.old out.old.items now ≡ (self.new, out.new.items)) }
         ensures any { IfOk result (λ any. any ≡ nat_lt (length out.old.items) (length out.new.items)) }
+        ensures grows { OnErr result (sends_new self.old out.old.items now ≡ true) }
     {
         let before = out.len();
         if self.queue.inflight_len() == 0 && !self.next_fits() {
@@ -294,7 +299,8 @@ impl Sender {
         out: &mut Vec<ChunkPayloadData>,
         now: Instant,
     ) -> Result<(), AllocError>
-        ensures { OnOk result (sent_within (pieces_waiting self.old.queue.pending) self.old out.old.items now ≡ (self.new, out.new.items)) }
+        ensures exact { OnOk result (sent_within (pieces_waiting self.old.queue.pending) self.old out.old.items now ≡ (self.new, out.new.items)) }
+        ensures grows { OnErr result (nat_lt (length out.old.items) (length (sent_within (pieces_waiting self.old.queue.pending) self.old out.old.items now).1) ≡ true) }
     {
         while self.next_fits() {
             self.send_one(out, now)?;
@@ -307,11 +313,13 @@ impl Sender {
     fn send_one(&mut self, out: &mut Vec<ChunkPayloadData>, now: Instant) -> Result<(), AllocError>
         ensures sent { OnOk result (sent_one self.old.queue.pending self.old out.old.items now ≡ (self.new, out.new.items)) }
         ensures pending { OnOk result (self.new.queue.pending ≡ after_piece self.old.queue.pending) }
+        ensures grows { OnErr result (is_some (slice_get self.old.queue.pending 0) ≡ true) }
     {
-        if let Some(message) = self.queue.peek_pending() {
-            let chunk = waiting_chunk(message, self.queue.next_tsn())?;
-            out.push(chunk)?;
-        }
+        let Some(message) = self.queue.peek_pending() else {
+            return Ok(());
+        };
+        let chunk = waiting_chunk(message, self.queue.next_tsn())?;
+        out.push(chunk)?;
         self.queue.send_next(now)
     }
 
