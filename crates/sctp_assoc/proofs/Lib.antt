@@ -7,6 +7,7 @@ mod Closing
 mod Ending
 mod Giving
 mod Intake
+mod Growing
 mod Joining
 mod Keeping
 mod Live

@@ -12,6 +12,7 @@ pub mod Laws
 pub mod Lending
 pub mod Meeting
 pub mod OneSide
+pub mod Memory
 pub mod Polled
 pub mod Reports
 pub mod Shapes

@@ -1,5 +1,5 @@
 -- What a poll for packets gives, and in which order (RFC 4960 sections 6.1, 6.2 and 6.10).
-use Rattle.std.specs.Prelude.{◌≡◌, ℕ, Bool, true, false, List, [], ◌∷◌, ◌++◌, if◌then◌else◌, length, nat_lt, Option, Some, None, Result, Ok, Err}
+use Rattle.std.specs.Prelude.{◌≡◌, ℕ, Bool, true, false, List, [], ◌∷◌, ◌++◌, ◌&&◌, ◌||◌, if◌then◌else◌, length, nat_lt, Option, Some, None, Result, Ok, Err}
 use Rattle.std.specs.List.{AllByRecursion}
 use Rattle.sctp_wire_types.specs.declared.chunk.Chunk.{Chunk}
 use Rattle.sctp_wire_types.specs.declared.chunk.Chunk.TheVariants as chunks
@@ -19,7 +19,7 @@ use Rattle.sctp_queues.specs.Streams.{bytes_waiting}
 use Rattle.sctp_inbound.specs.Handshake.{header_of}
 use Rattle.sctp_inbound.specs.Receiver.{acknowledged, sack_of}
 use Rattle.sctp_outbound.specs.declared.sender.Sender.{Sender}
-use Rattle.sctp_outbound.specs.Sender.{after_resending, resent_by, sent_new}
+use Rattle.sctp_outbound.specs.Sender.{after_resending, gives_data, resent_by, sent_new}
 use Rattle.sctp_assoc.specs.declared.control.ControlPacket.{ControlPacket}
 use Rattle.sctp_assoc.specs.Calls.{is_established}
 use Rattle.sctp_assoc.specs.Shown.{Shown}
@@ -96,6 +96,14 @@ exchange_polled a now = if is_established a.state then ack_after (data_polled a 
 -- what a poll leaves, and the packets that it gives: those that wait, and in Established DATA and then the acknowledgement
 abbrev pub polled : Shown → ℕ → Shown × List (List ℕ)
 polled a now = after_both (control_packets a.control) (exchange_polled (without_control a) now)
+
+-- the exchange of a poll has something to give: DATA goes out, or an acknowledgement is due
+abbrev pub exchange_gives : Shown → ℕ → Bool
+exchange_gives a now = gives_data a.sender now || is_due a.receiver.ack_state
+
+-- a poll has something to give: a packet waits, or in Established its exchange does
+abbrev pub has_something_to_give : Shown → ℕ → Bool
+has_something_to_give a now = nat_lt 0 (length a.control) || (is_established a.state && exchange_gives a now)
 
 abbrev pub bytes_within : Payload → List (List ℕ)
 bytes_within (payloads.RawEncode packets) = packets.items

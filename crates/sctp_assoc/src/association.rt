@@ -9,10 +9,10 @@ ghost use Rattle.sctp_assoc.specs.Calls.{Refuses, RefusesOrLacksMemory, open_ref
 ghost use Rattle.sctp_assoc.specs.Chunks.{after_packet};
 ghost use Rattle.sctp_assoc.specs.Acts.{Act, LeadsOn, begun, Binds};
 ghost use Rattle.sctp_assoc.specs.Happened.{PollsOn, acts_of_packet, acts_of_poll, acts_of_timeouts};
-ghost use Rattle.sctp_assoc.specs.Inbound.{packet_of, transmit_of};
+ghost use Rattle.sctp_assoc.specs.Inbound.{is_datagram, packet_of, transmit_of};
 ghost use Rattle.sctp_assoc.specs.Join.{create_refusal, created, fresh_association, join_refusal, joined};
 ghost use Rattle.sctp_assoc.specs.Lending.{rests_if_refused, lent, lender, id_of};
-ghost use Rattle.sctp_assoc.specs.Polled.{IsAddressed, packets_of, polled};
+ghost use Rattle.sctp_assoc.specs.Polled.{IsAddressed, has_something_to_give, packets_of, polled};
 ghost use Rattle.sctp_assoc.specs.Shown.{HasFailed, answers_of};
 ghost use Rattle.sctp_assoc.specs.Timeouts.{after_timeouts, handshake_goes_out_again};
 
@@ -272,11 +272,13 @@ impl Association {
         self.timers.next_timeout()
     }
 
-    /// All packets that are due at `now`, in the order in which they go out; None where none is.
+    /// All packets that are due at `now`, in the order in which they go out; None where none is. It lacks memory only where
+    /// there is something to give.
     pub fn poll_transmit(&mut self, now: Instant) -> Result<Option<Transmit>, Error>
         ensures failed { IsErrOf result Error.ErrAssociationFailed ↔ (self.old.failed ≡ true) }
         ensures refused { IsErrOf result Error.ErrAssociationFailed → self.new ≡ self.old }
         ensures memory { IsErrOf result Error.ErrNoMemory → HasFailed (answers_of self.old) self.new }
+        ensures given { IsErrOf result Error.ErrNoMemory → has_something_to_give self.old now ≡ true }
         ensures only { OnErr result ((result ≡ Err Error.ErrAssociationFailed) ⊎ (result ≡ Err Error.ErrNoMemory)) }
         ensures ok { IfOk result (λ given. polled self.old now ≡ (self.new, packets_of given)) }
         ensures acts { IfOk result (λ given. PollsOn (acts_of_poll self.old now) self.old self.new (packets_of given)) }
@@ -311,12 +313,14 @@ impl Association {
         })
     }
 
-    /// Processes one datagram.
+    /// Processes one datagram. It lacks memory only where one is to be read, and never after a loss.
     #[tactic(auto, using(crate::proofs::Joining::packet_leads_on))]
     pub fn handle_event(&mut self, event: AssociationEvent) -> Result<(), Error>
         ensures failed { IsErrOf result Error.ErrAssociationFailed ↔ (self.old.failed ≡ true) }
         ensures refused { IsErrOf result Error.ErrAssociationFailed → self.new ≡ self.old }
         ensures memory { IsErrOf result Error.ErrNoMemory → HasFailed (answers_of self.old) self.new }
+        ensures present { IsErrOf result Error.ErrNoMemory → self.old.lost ≡ false }
+        ensures read { IsErrOf result Error.ErrNoMemory → is_datagram (transmit_of event).payload ≡ true }
         ensures only { OnErr result ((result ≡ Err Error.ErrAssociationFailed) ⊎ (result ≡ Err Error.ErrNoMemory)) }
         ensures ok { OnOk result (self.new ≡ after_packet self.old (packet_of event) (transmit_of event).now) }
         ensures acts { OnOk result (LeadsOn (acts_of_packet self.old (packet_of event) (transmit_of event).now) self.old self.new) }

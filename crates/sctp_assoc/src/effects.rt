@@ -1,8 +1,8 @@
 // What an association does to itself: it closes, or it fails for want of memory.
-ghost use Rattle.std.specs.Prelude.{◌≡◌, ◌++◌, map, OnOk};
+ghost use Rattle.std.specs.Prelude.{◌≡◌, ◌++◌, false, map, OnErr, OnOk};
 ghost use Rattle.sctp_queues.specs.Streams.{without_streams, last_stats};
 ghost use Rattle.sctp_queues.specs.declared.event.Event.TheVariants.{DataChannelStatsFinal};
-ghost use Rattle.sctp_assoc.specs.Calls.{closed_by};
+ghost use Rattle.sctp_assoc.specs.Calls.{closed_by, is_closed_state};
 ghost use Rattle.sctp_assoc.specs.Shown.{HasFailed, all_stopped, answers_of};
 
 use crate::Association;
@@ -24,7 +24,8 @@ impl Association {
     // Closes an open association once: no timer runs on, no packet waits to go out, each live stream gets its last
     // counters, and the loss is the last event. In Closed nothing changes.
     pub(crate) fn close_with(&mut self, reason: AssociationError) -> Result<(), AllocError>
-        ensures { OnOk result (self.new ≡ closed_by self.old reason) }
+        ensures exact { OnOk result (self.new ≡ closed_by self.old reason) }
+        ensures grows { OnErr result (is_closed_state self.old.state ≡ false) }
     {
         if self.state == AssociationState::Closed {
             return Ok(());

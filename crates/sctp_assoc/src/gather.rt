@@ -1,7 +1,9 @@
 // The packets of one poll, in the order in which they go out.
-ghost use Rattle.std.specs.Prelude.{◌≡◌, ◌++◌, true, OnOk, IfOk};
+ghost use Rattle.std.specs.Prelude.{◌≡◌, ◌++◌, ◌&&◌, true, length, nat_lt, OnErr, OnOk, IfOk};
 ghost use Rattle.sctp_wire.specs.Packets.{packet_is_plain};
-ghost use Rattle.sctp_assoc.specs.Polled.{AckIsReadAgain, AreControlReadAgain, AreReadAgain, ExchangeIsReadAgain, IsReadAgain, PollIsReadAgain, ack_after, ack_polled, after_both, control_packets, data_packets, data_polled, exchange_polled, packet_bytes, packet_with, polled, without_control};
+ghost use Rattle.sctp_outbound.specs.Sender.{gives_data};
+ghost use Rattle.sctp_assoc.specs.Calls.{is_established};
+ghost use Rattle.sctp_assoc.specs.Polled.{AckIsReadAgain, AreControlReadAgain, AreReadAgain, ExchangeIsReadAgain, IsReadAgain, PollIsReadAgain, ack_after, ack_polled, after_both, control_packets, data_packets, data_polled, exchange_gives, exchange_polled, has_something_to_give, is_due, packet_bytes, packet_with, polled, without_control};
 
 use crate::Association;
 use crate::control::ControlPacket;
@@ -14,11 +16,13 @@ use std::alloc::{AllocError, Global};
 use std::mem;
 
 impl Association {
-    // The packets that wait, then DATA that is sent again, then new DATA, then the acknowledgement.
+    // The packets that wait, then DATA that is sent again, then new DATA, then the acknowledgement. It lacks memory only
+    // where there is something to give.
     pub(crate) fn gather(&mut self, now: Instant) -> Result<Vec<Bytes>, AllocError>
         ensures exact { IfOk result (λ packets. polled self.old now ≡ (self.new, packets.items)) }
         ensures control_again { OnOk result (AreControlReadAgain self.old.control) }
         ensures again { OnOk result (PollIsReadAgain (without_control self.old) now) }
+        ensures grows { OnErr result (has_something_to_give self.old now ≡ true) }
     {
         let mut packets = Vec::new(self.alloc);
         let waiting = mem::replace(&mut self.control, Vec::new(self.alloc));
@@ -31,6 +35,7 @@ impl Association {
     fn gather_exchange(&mut self, packets: &mut Vec<Bytes>, now: Instant) -> Result<(), AllocError>
         ensures exact { OnOk result (after_both packets.old.items (exchange_polled self.old now) ≡ (self.new, packets.new.items)) }
         ensures again { OnOk result (PollIsReadAgain self.old now) }
+        ensures grows { OnErr result ((is_established self.old.state && exchange_gives self.old now) ≡ true) }
     {
         if self.state == AssociationState::Established {
             self.gather_established(packets, now)?;
@@ -45,6 +50,7 @@ impl Association {
     ) -> Result<(), AllocError>
         ensures exact { OnOk result (after_both packets.old.items (ack_after (data_polled self.old now)) ≡ (self.new, packets.new.items)) }
         ensures again { OnOk result (ExchangeIsReadAgain self.old now) }
+        ensures grows { OnErr result (exchange_gives self.old now ≡ true) }
     {
         let pieces = self.gather_data(now)?;
         put_data(packets, self.alloc, self.handshake.header(), pieces)?;
@@ -52,9 +58,10 @@ impl Association {
         Ok(())
     }
 
-    #[tactic(auto, unfolding(crate::specs::Polled::data_polled))]
+    #[tactic(auto, unfolding(crate::specs::Polled::data_polled), using(sctp_outbound::proofs::Sending::resending_gives, sctp_outbound::proofs::Sending::sending_gives))]
     fn gather_data(&mut self, now: Instant) -> Result<Vec<ChunkPayloadData>, AllocError>
-        ensures { IfOk result (λ pieces. data_polled self.old now ≡ (self.new, pieces.items)) }
+        ensures exact { IfOk result (λ pieces. data_polled self.old now ≡ (self.new, pieces.items)) }
+        ensures grows { OnErr result (gives_data self.old.sender now ≡ true) }
     {
         let mut chunks = Vec::new(self.alloc);
         self.sender.resend_marked(&mut chunks)?;
@@ -70,6 +77,7 @@ impl Association {
     fn gather_ack(&mut self, packets: &mut Vec<Bytes>) -> Result<(), AllocError>
         ensures exact { OnOk result (after_both packets.old.items (ack_polled self.old) ≡ (self.new, packets.new.items)) }
         ensures again { OnOk result (AckIsReadAgain self.old) }
+        ensures grows { OnErr result (is_due self.old.receiver.ack_state ≡ true) }
     {
         if self.receiver.ack_state == AckState::Immediate {
             let waiting = self.streams.waiting_bytes();
@@ -90,6 +98,7 @@ fn put_control(
 ) -> Result<(), AllocError>
     ensures exact { OnOk result (packets.new.items ≡ packets.old.items ++ control_packets waiting.items) }
     ensures again { OnOk result (AreControlReadAgain waiting.items) }
+    ensures grows { OnErr result (nat_lt 0 (length waiting.items) ≡ true) }
 {
     for packet in waiting {
         put_packet(packets, alloc, packet.header, packet.chunk)?;
@@ -107,6 +116,7 @@ fn put_data(
 ) -> Result<(), AllocError>
     ensures exact { OnOk result (packets.new.items ≡ packets.old.items ++ data_packets header chunks.items) }
     ensures again { OnOk result (AreReadAgain header chunks.items) }
+    ensures grows { OnErr result (nat_lt 0 (length chunks.items) ≡ true) }
 {
     for chunk in chunks {
         put_packet(packets, alloc, header, Chunk::Data(chunk))?;

@@ -1,6 +1,7 @@
 // The handshake, step by state and chunk, and the chunks beside it that are answered at once.
 ghost use Rattle.std.specs.Prelude.{◌≡◌, OnErr, OnOk, IfOk, is_some, true};
 ghost use Rattle.sctp_assoc.specs.Handshake.{after_t1_cookie, after_t1_init, connected, echoed, meets, met_back, on_cookie_ack, on_cookie_echo, on_heartbeat, on_init, on_init_ack, sends_cookie, sends_init, with_echo};
+ghost use Rattle.sctp_assoc.specs.Memory.{cookie_ack_takes_memory, cookie_echo_takes_memory, heartbeat_takes_memory, init_ack_takes_memory, init_takes_memory};
 ghost use Rattle.sctp_assoc.specs.Timeouts.{echoes_again, offers_again};
 
 use crate::Association;
@@ -22,7 +23,8 @@ impl Association {
         init: ChunkInit,
         wish: AckWish,
     ) -> Result<Flow, AllocError>
-        ensures { IfOk result (λ flow. on_init self.old header init wish ≡ (self.new, flow)) }
+        ensures exact { IfOk result (λ flow. on_init self.old header init wish ≡ (self.new, flow)) }
+        ensures grows { OnErr result (init_takes_memory self.old ≡ true) }
     {
         match self.state {
             AssociationState::Closed
@@ -57,7 +59,8 @@ impl Association {
         wish: AckWish,
         now: Instant,
     ) -> Result<Flow, AllocError>
-        ensures { IfOk result (λ flow. on_init_ack self.old header init wish now ≡ (self.new, flow)) }
+        ensures exact { IfOk result (λ flow. on_init_ack self.old header init wish now ≡ (self.new, flow)) }
+        ensures grows { OnErr result (init_ack_takes_memory self.old header init ≡ true) }
     {
         if self.state != AssociationState::CookieWait {
             return Ok(Flow::Next(wish));
@@ -91,7 +94,8 @@ impl Association {
         cookie: Bytes,
         wish: AckWish,
     ) -> Result<Flow, AllocError>
-        ensures { IfOk result (λ flow. on_cookie_echo self.old cookie wish ≡ (self.new, flow)) }
+        ensures exact { IfOk result (λ flow. on_cookie_echo self.old cookie wish ≡ (self.new, flow)) }
+        ensures grows { OnErr result (cookie_echo_takes_memory self.old cookie ≡ true) }
     {
         if !self.handshake.has_issued(&cookie) {
             return Ok(Flow::Next(wish));
@@ -112,7 +116,8 @@ impl Association {
     // COOKIE ACK (RFC 4960 section 5.1): the echoed cookie established the association.
     #[tactic(auto, unfolding(crate::specs::Handshake::on_cookie_ack))]
     pub(crate) fn on_cookie_ack(&mut self, wish: AckWish) -> Result<Flow, AllocError>
-        ensures { IfOk result (λ flow. on_cookie_ack self.old wish ≡ (self.new, flow)) }
+        ensures exact { IfOk result (λ flow. on_cookie_ack self.old wish ≡ (self.new, flow)) }
+        ensures grows { OnErr result (cookie_ack_takes_memory self.old ≡ true) }
     {
         if self.state == AssociationState::CookieEchoed {
             self.connect()?;
@@ -137,7 +142,8 @@ impl Association {
         heartbeat: ChunkHeartbeat,
         wish: AckWish,
     ) -> Result<Flow, AllocError>
-        ensures { IfOk result (λ flow. on_heartbeat self.old heartbeat wish ≡ (self.new, flow)) }
+        ensures exact { IfOk result (λ flow. on_heartbeat self.old heartbeat wish ≡ (self.new, flow)) }
+        ensures grows { OnErr result (heartbeat_takes_memory heartbeat ≡ true) }
     {
         if let Some(information) = heartbeat_information(heartbeat) {
             let answer = heartbeat_ack(self.alloc, information)?;

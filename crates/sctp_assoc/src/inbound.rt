@@ -1,9 +1,10 @@
 // One datagram, chunk by chunk.
-ghost use Rattle.std.specs.Prelude.{◌≡◌, true, false, is_ok, OnOk, IfOk, if◌then◌else◌};
+ghost use Rattle.std.specs.Prelude.{◌≡◌, ◌≢◌, ◌⊎◌, true, false, is_ok, OnErr, OnOk, IfOk, Ok, if◌then◌else◌};
 ghost use Rattle.sctp_wire.specs.Packets.{checked, finished};
 ghost use Rattle.sctp_inbound.specs.Receiver.{credit_of};
 ghost use Rattle.sctp_queues.specs.Streams.{bytes_waiting};
-ghost use Rattle.sctp_assoc.specs.Inbound.{taken_packet};
+ghost use Rattle.sctp_assoc.specs.Inbound.{packet_read, taken_packet};
+ghost use Rattle.sctp_assoc.specs.Memory.{chunk_takes_memory, chunks_take_memory, data_takes_memory, makes_stream, packet_takes_memory, takes_memory};
 ghost use Rattle.sctp_assoc.specs.Chunks.{after_chunks, after_packet, dispatched, is_whole, on_chunk, on_data, on_sack, stream_found, taken_in};
 
 use crate::Association;
@@ -26,15 +27,29 @@ pub(crate) enum Flow {
 }
 
 impl Association {
-    // A datagram that does not decode or is refused as a packet changes nothing.
+    // A datagram that does not decode or is refused as a packet changes nothing. After a loss none is read.
     pub(crate) fn on_datagram(
         &mut self,
         datagram: PartialDecode,
         now: Instant,
     ) -> Result<(), AllocError>
-        ensures { OnOk result (self.new ≡ after_packet self.old (taken_packet (finished datagram)) now) }
+        ensures exact { OnOk result (self.new ≡ after_packet self.old (taken_packet (finished datagram)) now) }
+        ensures present { OnErr result (self.old.lost ≡ false) }
     {
-        match datagram.finish(self.alloc) {
+        if self.lost {
+            return Ok(());
+        }
+        let read = datagram.finish(self.alloc);
+        self.on_read(read, now)
+    }
+
+    // What reading a datagram gave. It lacks memory where reading did, or where the packet takes some.
+    fn on_read(&mut self, read: Result<Packet, Error>, now: Instant) -> Result<(), AllocError>
+        ensures exact { OnOk result (self.new ≡ after_packet self.old (packet_read read) now) }
+        ensures was_read { OnOk result (read ≢ Err Error.ErrNoMemory) }
+        ensures grows { OnErr result ((read ≡ Err Error.ErrNoMemory) ⊎ (packet_takes_memory self.old (packet_read read) now ≡ true)) }
+    {
+        match read {
             Ok(packet) => self.on_packet(packet, now),
             Err(Error::ErrNoMemory) => Err(AllocError),
             Err(_) => Ok(()),
@@ -42,7 +57,10 @@ impl Association {
     }
 
     fn on_packet(&mut self, packet: Packet, now: Instant) -> Result<(), AllocError>
-        ensures { OnOk result (self.new ≡ after_packet self.old (taken_packet (Ok packet)) now) }
+        ensures exact { OnOk result (self.new ≡ after_packet self.old (taken_packet (Ok packet)) now) }
+        ensures present { OnErr result (self.old.lost ≡ false) }
+        ensures passed { OnErr result (is_ok (checked packet) ≡ true) }
+        ensures grows { OnErr result (packet_takes_memory self.old (taken_packet (Ok packet)) now ≡ true) }
     {
         if self.lost || check_packet(&packet).is_err() {
             return Ok(());
@@ -57,7 +75,8 @@ impl Association {
         chunks: Vec<Chunk>,
         now: Instant,
     ) -> Result<(), AllocError>
-        ensures { OnOk result (self.new ≡ after_chunks header chunks.items self.old AckWish.None now) }
+        ensures exact { OnOk result (self.new ≡ after_chunks header chunks.items self.old AckWish.None now) }
+        ensures grows { OnErr result (chunks_take_memory header chunks.items self.old AckWish.None now ≡ true) }
     {
         let mut wish = AckWish::None;
         for chunk in chunks {
@@ -78,7 +97,8 @@ impl Association {
         wish: AckWish,
         now: Instant,
     ) -> Result<Flow, AllocError>
-        ensures { IfOk result (λ flow. on_chunk self.old header chunk wish now ≡ (self.new, flow)) }
+        ensures exact { IfOk result (λ flow. on_chunk self.old header chunk wish now ≡ (self.new, flow)) }
+        ensures grows { OnErr result (chunk_takes_memory self.old header chunk ≡ true) }
     {
         if let Err(fault) = chunk.check() {
             return Ok(Flow::Fault(fault));
@@ -93,7 +113,8 @@ impl Association {
         wish: AckWish,
         now: Instant,
     ) -> Result<Flow, AllocError>
-        ensures { IfOk result (λ flow. dispatched self.old header chunk wish now ≡ (self.new, flow)) }
+        ensures exact { IfOk result (λ flow. dispatched self.old header chunk wish now ≡ (self.new, flow)) }
+        ensures grows { OnErr result (takes_memory self.old header chunk ≡ true) }
     {
         match chunk {
             Chunk::Data(piece) => self.on_data(piece, wish),
@@ -116,7 +137,8 @@ impl Association {
     // DATA (RFC 4960 section 6.2). Only a whole ordered message at the TSN after the point is taken in.
     #[tactic(auto, unfolding(crate::specs::Chunks::on_data))]
     fn on_data(&mut self, piece: ChunkPayloadData, wish: AckWish) -> Result<Flow, AllocError>
-        ensures { IfOk result (λ flow. on_data self.old piece wish ≡ (self.new, flow)) }
+        ensures exact { IfOk result (λ flow. on_data self.old piece wish ≡ (self.new, flow)) }
+        ensures grows { OnErr result (data_takes_memory self.old piece ≡ true) }
     {
         self.stats.inc_datas();
         let immediate = piece.immediate_sack;
@@ -136,7 +158,8 @@ impl Association {
     // Makes the stream where it is missing; false where no generation is left for it.
     #[tactic(auto, unfolding(crate::specs::Chunks::stream_found))]
     fn has_stream(&mut self, id: u16) -> Result<bool, AllocError>
-        ensures { IfOk result (λ found. stream_found self.old id ≡ (self.new, found)) }
+        ensures exact { IfOk result (λ found. stream_found self.old id ≡ (self.new, found)) }
+        ensures grows { OnErr result (makes_stream self.old id ≡ true) }
     {
         if self.streams.contains(id) {
             return Ok(true);

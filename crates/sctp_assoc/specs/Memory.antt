@@ -1,0 +1,89 @@
+-- Where what comes takes memory: a call may fail for want of memory only there.
+use Rattle.std.specs.Prelude.{ℕ, Bool, true, false, List, [], ◌∷◌, ◌&&◌, ◌||◌, not, is_ok, is_some, nat_lt, Option, Some, None}
+use Rattle.sctp_wire_types.specs.declared.chunk.Chunk.{Chunk}
+use Rattle.sctp_wire_types.specs.declared.chunk.Chunk.TheVariants as chunks
+use Rattle.sctp_wire_types.specs.declared.chunk.ChunkHeartbeat.{ChunkHeartbeat}
+use Rattle.sctp_wire_types.specs.declared.chunk.ChunkInit.{ChunkInit}
+use Rattle.sctp_wire_types.specs.declared.chunk.ChunkPayloadData.{ChunkPayloadData}
+use Rattle.sctp_wire_types.specs.declared.packet.CommonHeader.{CommonHeader}
+use Rattle.sctp_wire_types.specs.Checks.{checked_chunk}
+use Rattle.sctp_wire.specs.declared.packet.Packet.{Packet}
+use Rattle.sctp_queues.specs.Streams.{bytes_waiting, generation_left, stream_at}
+use Rattle.sctp_inbound.specs.declared.receiver.AckWish.{AckWish}
+use Rattle.sctp_inbound.specs.declared.receiver.AckWish.TheVariants as wishes
+use Rattle.sctp_inbound.specs.Greeting.{first_cookie, information_of}
+use Rattle.sctp_inbound.specs.Handshake.{comes_back, has_issued}
+use Rattle.sctp_inbound.specs.Receiver.{credit_of, is_next_after}
+use Rattle.sctp_assoc.specs.declared.inbound.Flow.{Flow}
+use Rattle.sctp_assoc.specs.declared.inbound.Flow.TheVariants as flows
+use Rattle.sctp_assoc.specs.Calls.{is_beginning, is_closed_state, is_cookie_echoed, is_cookie_wait, is_established}
+use Rattle.sctp_assoc.specs.Chunks.{is_whole, on_chunk}
+use Rattle.sctp_assoc.specs.Shown.{Shown}
+
+-- a stream is made: it is not live, and a generation is left for it
+abbrev pub makes_stream : Shown → ℕ → Bool
+makes_stream a id = not (is_some (stream_at a.streams id)) && generation_left a.streams
+
+-- a message on a live stream is taken in where credit is left
+abbrev pub keeps_message : Shown → ℕ → Bool
+keeps_message a id = is_some (stream_at a.streams id) && nat_lt 0 (credit_of a.receiver (bytes_waiting a.streams))
+
+-- DATA takes memory only where it is an ordered message in one piece and next in order, and it is taken in or its stream is made
+-- (RFC 4960 section 6.2)
+abbrev pub data_takes_memory : Shown → ChunkPayloadData → Bool
+data_takes_memory a piece =
+    (is_next_after a.receiver piece.tsn && is_whole piece)
+    && (makes_stream a piece.stream_identifier || keeps_message a piece.stream_identifier)
+
+-- an INIT is answered only before the association is established (RFC 4960 section 5.1)
+abbrev pub init_takes_memory : Shown → Bool
+init_takes_memory a = is_beginning a.state
+
+-- the cookie of an INIT ACK is echoed in CookieWait alone, where the INIT ACK comes between the ports of this side's INIT
+abbrev pub init_ack_takes_memory : Shown → CommonHeader → ChunkInit → Bool
+init_ack_takes_memory a header init = is_cookie_wait a.state && (comes_back a.handshake header && is_some (first_cookie init.params))
+
+-- a COOKIE ECHO is acknowledged only with the cookie that this side gave out, and not in a shutdown
+abbrev pub cookie_echo_takes_memory : Shown → List ℕ → Bool
+cookie_echo_takes_memory a cookie = has_issued a.handshake cookie && (is_beginning a.state || is_established a.state)
+
+-- a COOKIE ACK is told as an event in CookieEchoed alone
+abbrev pub cookie_ack_takes_memory : Shown → Bool
+cookie_ack_takes_memory a = is_cookie_echoed a.state
+
+-- a HEARTBEAT is answered only with information (RFC 4960 section 8.3)
+abbrev pub heartbeat_takes_memory : ChunkHeartbeat → Bool
+heartbeat_takes_memory heartbeat = is_some (information_of heartbeat.params)
+
+-- what a chunk that passes its check takes memory for; SACK, ABORT, ERROR and any chunk that is not known take none
+abbrev pub takes_memory : Shown → CommonHeader → Chunk → Bool
+takes_memory a header (chunks.Data piece) = data_takes_memory a piece
+takes_memory a header (chunks.Init init) = init_takes_memory a
+takes_memory a header (chunks.InitAck init) = init_ack_takes_memory a header init
+takes_memory a header (chunks.CookieEcho cookie) = cookie_echo_takes_memory a cookie
+takes_memory a header chunks.CookieAck = cookie_ack_takes_memory a
+takes_memory a header (chunks.Heartbeat heartbeat) = heartbeat_takes_memory heartbeat
+takes_memory a header chunk = false
+
+-- a chunk that its own check refuses takes no memory
+abbrev pub chunk_takes_memory : Shown → CommonHeader → Chunk → Bool
+chunk_takes_memory a header chunk = is_ok (checked_chunk chunk) && takes_memory a header chunk
+
+-- a fault that closes an open association takes memory for the events that tell of it
+abbrev pub takes_memory_after : Shown × Flow → (Shown → AckWish → Bool) → Bool
+takes_memory_after (a, flows.Next wish) more = more a wish
+takes_memory_after (a, flows.Fault fault) more = not (is_closed_state a.state)
+
+-- one of these chunks, taken in order, takes memory, or is a fault that closes an open association
+abbrev pub chunks_take_memory : CommonHeader → List Chunk → Shown → AckWish → ℕ → Bool
+chunks_take_memory header [] a wish now = false
+chunks_take_memory header (c ∷ cs) a wish now =
+    chunk_takes_memory a header c || takes_memory_after (on_chunk a header c wish now) (λ b next. chunks_take_memory header cs b next now)
+
+abbrev pub packet_takes_memory_of : Shown → Option Packet → ℕ → Bool
+packet_takes_memory_of a None now = false
+packet_takes_memory_of a (Some packet) now = chunks_take_memory packet.common_header packet.chunks a wishes.None now
+
+-- what came, if it is a packet, takes memory: the association was not lost, and a chunk that is reached takes some
+abbrev pub packet_takes_memory : Shown → Option Packet → ℕ → Bool
+packet_takes_memory a packet now = not a.lost && packet_takes_memory_of a packet now
