@@ -183,8 +183,8 @@ safe_from sides.B s n m p w f span = (safe_world p w f.fits).ba_safe.safe s span
 
 filled_from : (x : Side2) (s n m : ℕ) (p : Ends) (w : World) → FitsCounted n m p w
     → (i : ℕ) → i < length ((from x w).sender.plan.accepted s) → 0 < length (message_at (from x w).sender.plan s i).bytes
-filled_from sides.A s n m p w f i b = f.fits.stand.invariant_ab.planned.filled s i b
-filled_from sides.B s n m p w f i b = f.fits.stand.invariant_ba.planned.filled s i b
+filled_from sides.A s n m p w f i b = f.fits.stand.sound_ab.invariant.planned.filled s i b
+filled_from sides.B s n m p w f i b = f.fits.stand.sound_ba.invariant.planned.filled s i b
 
 -- At first nothing was accepted, read or taken in, and no stream's span is over.
 record IsFresh (d : Direction) : Type 0 where
