@@ -8,6 +8,7 @@ use Rattle.sctp_queues.specs.Stream.{Stream}
 use Rattle.sctp_queues.specs.Streams.{stream_at}
 use Rattle.sctp_model.specs.Messages.{Message}
 use Rattle.sctp_assoc.specs.Calls.{stream_refusal, write_refusal}
+use Rattle.sctp_assoc.specs.Shapes.{IsLive}
 use Rattle.sctp_assoc.specs.Shown.{Shown}
 use Rattle.sctp_assoc.proofs.Proved.{found_streams_are_live}
 use Rattle.sctp_directions.specs.Outgoing.{message_on}
@@ -19,56 +20,77 @@ use Rattle.sctp_pair.specs.declared.step.Step.TheVariants as steps
 use Rattle.sctp_pair.specs.Ends.{Ends, end_of}
 use Rattle.sctp_pair.specs.Steps.{Steps, Writes, first_refusal}
 use Rattle.sctp_pair.specs.World.{IsWorldStep, World, accepted_at, is_side, messages_on}
-use Rattle.sctp_pair.specs.Fits.{Fits, LeadsSafely}
 use Rattle.pair_callers.specs.Going.{GoesOn, from_side}
 use Rattle.pair_callers.specs.Writing.{AcceptsNone, AcceptsOne, count_in}
-use Rattle.pair_callers.proofs.Going.{at_its_side, goes_on, is_own, step_from}
+use Rattle.pair_callers.proofs.Going.{Leads, at_its_side, goes_on, is_own, step_from}
 
 first_is_none : (x y : Option Error) → first_refusal x y ≡ None → x ≡ None
 first_is_none None y e = refl
 first_is_none (Some fault) y e = absurd (true≢false (ap is_some e))
 
-accepts_one : (side : Side2) (id n : ℕ) (bytes : List ℕ) (w v : World) → IsWorldStep (steps.Write side id bytes) w (replies.Wrote n) v
+-- A stream on which a write was answered is live.
+pub written_is_live : (side : Side2) (id n : ℕ) (bytes : List ℕ) (w v : World)
+    → IsWorldStep (steps.Write side id bytes) w (replies.Wrote n) v
+    → IsLive (end_of side w.ends) id
+written_is_live side id n bytes w v h =
+    let done = at_its_side side w.ends (λ (x y : Shown). Writes x id bytes (replies.Wrote n) y) v.ends h.ends_step in
+    found_streams_are_live (end_of side w.ends) id
+    (first_is_none (stream_refusal (end_of side w.ends) id) (write_refusal (end_of side w.ends) id (length bytes))
+    done.0)
+
+accepts_one : (side : Side2) (id n : ℕ) (bytes : List ℕ) (w v : World)
+    → IsWorldStep (steps.Write side id bytes) w (replies.Wrote n) v
     → AcceptsOne id bytes (from_side side w) (from_side side v)
 accepts_one side id n bytes w v h =
     let d = step_from side (steps.Write side id bytes) (replies.Wrote n) w v h in
     let a : Shown = end_of side w.ends in
-    let done = at_its_side side w.ends (λ (x y : Shown). Writes x id bytes (replies.Wrote n) y) v.ends h.ends_step in
-    let live = found_streams_are_live a id (first_is_none (stream_refusal a id) (write_refusal a id (length bytes)) done.0) in
+    let live = written_is_live side id n bytes w v h in
     let here : (is_side side side && eqb id id) ≡ true = rw (is_own side, eq-eqb id id refl) refl in
     record {
       message = message_on live.stream bytes;
       same_bytes = refl;
       last = d.accepted id
-          ∙ ap (λ (c : Bool). (from_side side w).sender.plan.accepted id ++ (if c then messages_on (stream_at a.streams id) bytes else [])) here
+          ∙ ap (λ (c : Bool). (from_side side w).sender.plan.accepted id ++
+          (if c then messages_on (stream_at a.streams id) bytes else [])) here
           ∙ ap (λ (o : Option Stream). (from_side side w).sender.plan.accepted id ++ messages_on o bytes) live.there;
       others = λ s ne.
-          let there : (is_side side side && eqb id s) ≡ false = rw (is_own side, ne_eqb id s (λ (q : id ≡ s). ne (sym q))) refl in
+          let there : (is_side side side && eqb id s) ≡ false = rw (
+            is_own side,
+            ne_eqb id s
+                (λ (q : id ≡ s). ne (sym q)),
+          ) refl in
           d.accepted s
-          ∙ ap (λ (c : Bool). (from_side side w).sender.plan.accepted s ++ (if c then messages_on (stream_at a.streams id) bytes else [])) there
+          ∙ ap (λ (c : Bool). (from_side side w).sender.plan.accepted s ++
+          (if c then messages_on (stream_at a.streams id) bytes else [])) there
           ∙ append-nil ((from_side side w).sender.plan.accepted s);
     }
 
-pub accepts_on : (side : Side2) (id : ℕ) (bytes : List ℕ) (r : Reply) (p q : Ends) → ((w : World) → Fits p w → LeadsSafely (steps.Write side id bytes) r w q)
+pub accepts_on : (side : Side2) (id : ℕ) (bytes : List ℕ) (r : Reply) (p q : Ends)
+    → Leads (steps.Write side id bytes) r p q
     → IfSome (count_in r) (λ n. GoesOn p q (λ w v. AcceptsOne id bytes (from_side side w) (from_side side v)))
 accepts_on side id bytes (replies.Wrote n) p q leads =
-    goes_on (steps.Write side id bytes) (replies.Wrote n) p q (λ w v. AcceptsOne id bytes (from_side side w) (from_side side v))
+    goes_on (steps.Write side id bytes) (replies.Wrote n) p q (λ w v. AcceptsOne id bytes (from_side side w)
+    (from_side side v))
     (λ w v before after h. accepts_one side id n bytes w v h) leads
 accepts_on side id bytes _ p q leads = tt
 
-adds_none : (x side : Side2) (id s : ℕ) (bytes : List ℕ) (r : Reply) (w : World) → count_in r ≡ None → accepted_at (steps.Write side id bytes) r x s w ≡ []
+adds_none : (x side : Side2) (id s : ℕ) (bytes : List ℕ) (r : Reply) (w : World) → count_in r ≡ None
+    → accepted_at (steps.Write side id bytes) r x s w ≡ []
 adds_none x side id s bytes (replies.Wrote n) w e = absurd (true≢false (ap is_some e))
 adds_none x side id s bytes _ w e = refl
 
-pub refused_on : (side : Side2) (id : ℕ) (bytes : List ℕ) (r : Reply) (p q : Ends) → ((w : World) → Fits p w → LeadsSafely (steps.Write side id bytes) r w q)
+pub refused_on : (side : Side2) (id : ℕ) (bytes : List ℕ) (r : Reply) (p q : Ends)
+    → Leads (steps.Write side id bytes) r p q
     → count_in r ≡ None → GoesOn p q (λ w v. AcceptsNone (from_side side w) (from_side side v))
 refused_on side id bytes r p q leads none =
     goes_on (steps.Write side id bytes) r p q (λ w v. AcceptsNone (from_side side w) (from_side side v))
     (λ w v before after h s. (step_from side (steps.Write side id bytes) r w v h).accepted s
-    ∙ ap (λ (ms : List Message). (from_side side w).sender.plan.accepted s ++ ms) (adds_none side side id s bytes r w none)
+    ∙ ap (λ (ms : List Message). (from_side side w).sender.plan.accepted s ++ ms)
+    (adds_none side side id s bytes r w none)
     ∙ append-nil ((from_side side w).sender.plan.accepted s)) leads
 
-pub wrote_all : (side : Side2) (id : ℕ) (bytes : List ℕ) (r : Reply) (p q : Ends) → Steps (steps.Write side id bytes) p r q
+pub wrote_all : (side : Side2) (id : ℕ) (bytes : List ℕ) (r : Reply) (p q : Ends)
+    → Steps (steps.Write side id bytes) p r q
     → IfSome (count_in r) (λ n. n ≡ length bytes)
 wrote_all side id bytes (replies.Wrote n) p q h =
     (at_its_side side p (λ (x y : Shown). Writes x id bytes (replies.Wrote n) y) q h).1

@@ -17,11 +17,13 @@ tells_accepted w safe side s span = are_numbered (to_side side w) s ((promised_t
 
 pub runs_tell : (ss : List Step) (rs : List Reply) (w : World) (q : Ends) → RunsSafely ss rs w q → RunsTelling ss rs w q
 runs_tell [] [] w q h = h
-runs_tell (s ∷ ss) (r ∷ rs) w q h = (h.0, λ within. let x = h.3 within in (tells_accepted h.0 x.0, runs_tell ss rs h.0 q x.1))
+runs_tell (s ∷ ss) (r ∷ rs) w q h =
+    (h.0, λ within. let x = h.3 within in (tells_accepted h.0 x.0, runs_tell ss rs h.0 q x.1))
 runs_tell [] (r ∷ rs) w q h = absurd h
 runs_tell (s ∷ ss) [] w q h = absurd h
 
-pub steps_tell : (step : Step) (r : Reply) (p q : Ends) → ((n m : ℕ) (w : World) → FitsCounted n m p w → LeadsCounted step r w n m q) → StepsTelling step r p q
+pub steps_tell : (step : Step) (r : Reply) (p q : Ends)
+    → ((n m : ℕ) (w : World) → FitsCounted n m p w → LeadsCounted step r w n m q) → StepsTelling step r p q
 steps_tell step r p q leads n m w fits few =
     let x = leads n m w fits in
     let y = x.2 few in
@@ -30,6 +32,7 @@ steps_tell step r p q leads n m w fits few =
 has_nothing : (size : ℕ) → HasNothing (fresh size)
 has_nothing size = record { accepted = λ s. refl; read = λ s. refl; span = λ s. refl }
 
-pub begins_with_nothing : (p : Ends) (initial_a initial_b size_a size_b : ℕ) → Fits p (empty_world p initial_a initial_b size_a size_b) → BeginsWithNothing p
+pub begins_with_nothing : (p : Ends) (initial_a initial_b size_a size_b : ℕ)
+    → Fits p (empty_world p initial_a initial_b size_a size_b) → BeginsWithNothing p
 begins_with_nothing p initial_a initial_b size_a size_b fits =
     (empty_world p initial_a initial_b size_a size_b, fits, has_nothing size_a, has_nothing size_b)

@@ -17,10 +17,9 @@ use Rattle.sctp_pair.specs.declared.step.Step.{Step}
 use Rattle.sctp_pair.specs.declared.step.Step.TheVariants as steps
 use Rattle.sctp_pair.specs.Ends.{Ends}
 use Rattle.sctp_pair.specs.World.{IsSafeWorld, IsWorldStep, World, is_side, message_read}
-use Rattle.sctp_pair.specs.Fits.{Fits, LeadsSafely}
 use Rattle.pair_callers.specs.Going.{GoesOn, GoesOnWithin, to_side}
 use Rattle.pair_callers.specs.Reading.{AreNumbered, IsOfAccepted, ReadsNext, letter_at, letters_of, message_in}
-use Rattle.pair_callers.proofs.Going.{goes_on, goes_on_within, is_own, promised_to, step_to}
+use Rattle.pair_callers.proofs.Going.{Leads, goes_on, goes_on_within, is_own, promised_to, step_to}
 
 -- The message of a read
 
@@ -46,10 +45,12 @@ read_other side id s r ne =
     let e : (is_side side side && eqb id s) ≡ false = rw (is_own side, ne_eqb id s (λ (q : id ≡ s). ne (sym q))) refl in
     read_answer side side id s r ∙ ap (λ (c : Bool). if c then message_in r else None) e
 
-grows_by : (m : Option Message) (before after : List Got) → IsReadAs m before after → map letter_read after ≡ map letter_read before ++ letters_of m
+pub grows_by : (m : Option Message) (before after : List Got) → IsReadAs m before after
+    → map letter_read after ≡ map letter_read before ++ letters_of m
 grows_by None before after e = ap (λ (gs : List Got). map letter_read gs) e ∙ sym (append-nil (map letter_read before))
 grows_by (Some m) before after (g, e, l) =
-    ap (λ (gs : List Got). map letter_read gs) e ∙ map-append letter_read before (g ∷ []) ∙ ap (λ (x : Letter). map letter_read before ++ x ∷ []) l
+    ap (λ (gs : List Got). map letter_read gs) e ∙ map-append letter_read before (g ∷ []) ∙ ap
+    (λ (x : Letter). map letter_read before ++ x ∷ []) l
 
 reads_next : (side : Side2) (id : ℕ) (r : Reply) (w v : World) → IsWorldStep (steps.Read side id) w r v
     → ReadsNext id (message_in r) (to_side side w) (to_side side v)
@@ -57,12 +58,14 @@ reads_next side id r w v h =
     let d = step_to side (steps.Read side id) r w v h in
     record {
       next = grows_by (message_in r) ((to_side side w).reads id) ((to_side side v).reads id)
-          (subst (λ (m : Option Message). IsReadAs m ((to_side side w).reads id) ((to_side side v).reads id)) (read_here side id r) (d.read id));
+          (subst (λ (m : Option Message). IsReadAs m ((to_side side w).reads id) ((to_side side v).reads id))
+          (read_here side id r) (d.read id));
       others = λ s ne. ap (λ (gs : List Got). map letter_read gs)
-          (subst (λ (m : Option Message). IsReadAs m ((to_side side w).reads s) ((to_side side v).reads s)) (read_other side id s r ne) (d.read s));
+          (subst (λ (m : Option Message). IsReadAs m ((to_side side w).reads s) ((to_side side v).reads s))
+          (read_other side id s r ne) (d.read s));
     }
 
-pub reads_on : (side : Side2) (id : ℕ) (r : Reply) (p q : Ends) → ((w : World) → Fits p w → LeadsSafely (steps.Read side id) r w q)
+pub reads_on : (side : Side2) (id : ℕ) (r : Reply) (p q : Ends) → Leads (steps.Read side id) r p q
     → GoesOn p q (λ w v. ReadsNext id (message_in r) (to_side side w) (to_side side v))
 reads_on side id r p q leads =
     goes_on (steps.Read side id) r p q (λ w v. ReadsNext id (message_in r) (to_side side w) (to_side side v))
@@ -71,23 +74,28 @@ reads_on side id r p q leads =
 -- Accepted messages
 
 same_letter : (n m : ℕ) (bs cs : List ℕ) → n ≡ m → bs ≡ cs
-    → (let x : Letter = record { payload_type = n; bytes = bs } in x) ≡ (let y : Letter = record { payload_type = m; bytes = cs } in y)
+    → (let x : Letter = record { payload_type = n; bytes = bs } in x)
+    ≡ (let y : Letter = record { payload_type = m; bytes = cs } in y)
 same_letter n m bs cs e f = rw (e, f) refl
 
 told : (p : Plan) (taken : List ℕ) (s : ℕ) (g : Got) (i : ℕ) → Tells p taken s g i → letter_read g ≡ letter_at p s i
-told p taken s g i t = same_letter g.payload_type (message_at p s i).payload_type g.bytes (message_at p s i).bytes t.payload_type t.bytes
+told p taken s g i t =
+    same_letter g.payload_type (message_at p s i).payload_type g.bytes (message_at p s i).bytes t.payload_type t.bytes
 
-last_named : (p : Plan) (taken : List ℕ) (s : ℕ) (before : List Got) (g : Got) (numbers : List ℕ) → Names p taken s (before ++ g ∷ []) numbers
+last_named : (p : Plan) (taken : List ℕ) (s : ℕ) (before : List Got) (g : Got) (numbers : List ℕ)
+    → Names p taken s (before ++ g ∷ []) numbers
     → (i : ℕ) × Tells p taken s g i
 last_named p taken s [] g [] h = absurd h
 last_named p taken s [] g (i ∷ is) h = (i, h.0)
 last_named p taken s (x ∷ xs) g [] h = absurd h
 last_named p taken s (x ∷ xs) g (i ∷ is) h = last_named p taken s xs g is h.1
 
-of_accepted : (w : Direction) (s : ℕ) (m : Message) (before : List Got) → IsReadAs (Some m) before (w.reads s) → IsSafe w s → IsOfAccepted w s (letter_of m)
+of_accepted : (w : Direction) (s : ℕ) (m : Message) (before : List Got) → IsReadAs (Some m) before (w.reads s)
+    → IsSafe w s → IsOfAccepted w s (letter_of m)
 of_accepted w s m before (g, e, l) safe =
     let n = safe.read in
-    let t = last_named w.sender.plan w.receiver.taken s before g n.0 (subst (λ (gs : List Got). Names w.sender.plan w.receiver.taken s gs n.0) e n.1.named) in
+    let t = last_named w.sender.plan w.receiver.taken s before g n.0 (subst
+    (λ (gs : List Got). Names w.sender.plan w.receiver.taken s gs n.0) e n.1.named) in
     record {
       number = t.0;
       accepted = t.1.whole.accepted;
@@ -95,13 +103,16 @@ of_accepted w s m before (g, e, l) safe =
       whole = t.1.whole;
     }
 
-pub reads_accepted : (side : Side2) (id : ℕ) (r : Reply) (p q : Ends) → ((w : World) → Fits p w → LeadsSafely (steps.Read side id) r w q)
-    → IfSome (message_in r) (λ m. GoesOnWithin p q (λ w v. (to_side side v).over id ≡ false → IsOfAccepted (to_side side v) id (letter_of m)))
+pub reads_accepted : (side : Side2) (id : ℕ) (r : Reply) (p q : Ends) → Leads (steps.Read side id) r p q
+    → IfSome (message_in r) (λ m. GoesOnWithin p q (λ w v. (to_side side v).over id ≡ false
+    → IsOfAccepted (to_side side v) id (letter_of m)))
 reads_accepted side id (replies.Read None) p q leads = tt
 reads_accepted side id (replies.Read (Some m)) p q leads =
-    goes_on_within (steps.Read side id) (replies.Read (Some m)) p q (λ w v. (to_side side v).over id ≡ false → IsOfAccepted (to_side side v) id (letter_of m))
+    goes_on_within (steps.Read side id) (replies.Read (Some m)) p q (λ w v. (to_side side v).over id ≡ false →
+    IsOfAccepted (to_side side v) id (letter_of m))
     (λ w v before after h safe span. of_accepted (to_side side v) id m ((to_side side w).reads id)
-    (subst (λ (x : Option Message). IsReadAs x ((to_side side w).reads id) ((to_side side v).reads id)) (read_here side id (replies.Read (Some m)))
+    (subst (λ (x : Option Message). IsReadAs x ((to_side side w).reads id) ((to_side side v).reads id))
+    (read_here side id (replies.Read (Some m)))
     ((step_to side (steps.Read side id) (replies.Read (Some m)) w v h).read id))
     ((promised_to side v safe).safe id span))
     leads
@@ -136,7 +147,7 @@ are_numbered w s safe =
       rising = n.1.rising;
     }
 
-pub numbered : (step : Step) (r : Reply) (p q : Ends) → ((w : World) → Fits p w → LeadsSafely step r w q) → (side : Side2) (s : ℕ)
+pub numbered : (step : Step) (r : Reply) (p q : Ends) → Leads step r p q → (side : Side2) (s : ℕ)
     → GoesOnWithin p q (λ w v. (to_side side v).over s ≡ false → AreNumbered (to_side side v) s)
 numbered step r p q leads side s =
     goes_on_within step r p q (λ w v. (to_side side v).over s ≡ false → AreNumbered (to_side side v) s)

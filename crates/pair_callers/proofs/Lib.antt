@@ -6,3 +6,5 @@ mod Kept
 mod Questions
 mod Counted
 mod Results
+mod Told
+mod Lasts

@@ -12,7 +12,8 @@ use Rattle.sctp_pair.specs.Steps.{Answers, Runs, Steps}
 use Rattle.pair_callers.specs.Running.{answer_in}
 use Rattle.pair_callers.proofs.Going.{at_its_side}
 
-pub lost_told : (side : Side2) (r : Reply) (p q : Ends) → Steps (steps.IsDrained side) p r q → answer_in r ≡ (end_of side p).lost
+pub lost_told : (side : Side2) (r : Reply) (p q : Ends) → Steps (steps.IsDrained side) p r q
+    → answer_in r ≡ (end_of side p).lost
 lost_told side r p q h =
     ap (λ (x : Reply). answer_in x) (at_its_side side p (λ (x y : Shown). Answers x (replies.State x.lost) r y) q h).0
 

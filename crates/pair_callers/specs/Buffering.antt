@@ -61,4 +61,5 @@ pub record IsAllToBeHad (a : Shown) (w : Direction) (s : ℕ) : Type 0 where
 -- Of the bytes that were accepted on stream s, those that were not taken in are still buffered.
 abbrev pub KeepsWhatDidNotCome : ℕ → Direction → ℕ → Type 0
 KeepsWhatDidNotCome n w s =
-    accepted_bytes w.sender.plan s ≤ n + bytes_below w.sender.plan (λ o. mem o w.receiver.taken) s (length w.sender.plan.places)
+    accepted_bytes w.sender.plan s ≤ n + bytes_below w.sender.plan (λ o. mem o w.receiver.taken) s
+    (length w.sender.plan.places)

@@ -4,9 +4,10 @@ use Rattle.sctp_wire.specs.declared.packet.Packet.{Packet}
 use Rattle.sctp_model.specs.Packets.{mem}
 use Rattle.sctp_model.specs.Serial.{tsn}
 use Rattle.sctp_model.specs.Machine.{Direction}
+use Rattle.sctp_assoc.specs.Acts.{tsn_before}
 use Rattle.sctp_pair.specs.declared.step.Side2.{Side2}
 use Rattle.sctp_pair.specs.Ends.{Ends, packets_of}
-use Rattle.sctp_pair.specs.World.{HasData, World, other_side, packet_of_bytes}
+use Rattle.sctp_pair.specs.World.{HasData, HasForward, World, other_side, packet_of_bytes}
 use Rattle.pair_callers.specs.Going.{initial_of, to_side}
 
 -- the packet of this number that comes to a side, as what it spells
@@ -24,3 +25,8 @@ TakesNothing before after = (o : ℕ) → mem o after.receiver.taken ≡ true �
 abbrev pub TakesOf : Option Packet → Side2 → World → World → Type 0
 TakesOf packet side w v = (o : ℕ) → mem o (to_side side v).receiver.taken ≡ true
     → (mem o (to_side side w).receiver.taken ≡ true) ⊎ HasData packet (tsn (initial_of (other_side side) w) o)
+
+-- What a side passes over of what comes to it moves only by a FORWARD TSN of this packet (RFC 3758 section 3.6).
+abbrev pub PassesBy : Option Packet → Side2 → World → World → Type 0
+PassesBy packet side w v = ((to_side side v).receiver.passed ≡ (to_side side w).receiver.passed)
+    ⊎ HasForward packet (tsn_before (tsn (initial_of (other_side side) w) (to_side side v).receiver.passed))

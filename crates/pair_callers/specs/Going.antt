@@ -35,4 +35,5 @@ IsAcknowledgedOn before after = before.sender.point ≤ after.sender.point
 
 -- Where the side is closed or failed then, no offset was assigned.
 abbrev pub AssignsWhileOpen : Side2 → Ends → World → World → Type 0
-AssignsWhileOpen side q w v = IsOpen (end_of side q) ⊎ ((from_side side v).sender.plan.places ≡ (from_side side w).sender.plan.places)
+AssignsWhileOpen side q w v =
+    IsOpen (end_of side q) ⊎ ((from_side side v).sender.plan.places ≡ (from_side side w).sender.plan.places)

@@ -22,20 +22,21 @@ answer_in reply = false
 abbrev pub TellsAccepted : World → Type 0
 TellsAccepted w = (side : Side2) (s : ℕ) → (to_side side w).over s ≡ false → AreNumbered (to_side side w) s
 
--- The steps with these replies lead from world to world. As long as each so far is within the limits, what was read in it are
--- accepted messages, and the pair fits the last one.
+-- The steps with these replies lead from world to world. As long as each so far is within the limits, what was read in it
+-- are accepted messages, and the pair fits the last one.
 abbrev pub RunsTelling : List Step → List Reply → World → Ends → Type 0
 RunsTelling [] [] w q = Fits q w
 RunsTelling (s ∷ ss) (r ∷ rs) w q = (v : World) × (IsWithinLimits v → TellsAccepted v × RunsTelling ss rs v q)
 RunsTelling [] (r ∷ rs) w q = ⊥
 RunsTelling (s ∷ ss) [] w q = ⊥
 
--- One step leads to a next world. Where each side accepted few messages, what was read in it are accepted messages, and the pair
--- fits it with its messages counted on.
+-- One step leads to a next world. Where each side accepted few messages, what was read in it are accepted messages, and the
+-- pair fits it with its messages counted on.
 abbrev pub StepsTelling : Step → Reply → Ends → Ends → Type 0
 StepsTelling step reply p q = (n m : ℕ) (w : World) → FitsCounted n m p w
     → AreFew (n + writes_of sides.A step reply) (m + writes_of sides.B step reply)
-    → (v : World) × TellsAccepted v × FitsCounted (n + writes_of sides.A step reply) (m + writes_of sides.B step reply) q v
+    → (v : World) × TellsAccepted v
+    × FitsCounted (n + writes_of sides.A step reply) (m + writes_of sides.B step reply) q v
 
 -- nothing was accepted and nothing read
 pub record HasNothing (w : Direction) : Type 0 where

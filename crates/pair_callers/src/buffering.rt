@@ -13,7 +13,8 @@ use sctp_pair::{Pair, Reply, Side2, Step};
 pub fn ask_buffered(pair: &mut Pair, side: Side2, id: StreamId) -> Option<usize>
     ensures amount { IfSome result (λ n. buffered_of (end_of side pair.old) id ≡ Ok n) }
     ensures unchanged { pair.new ≡ pair.old }
-    ensures kept { IfSome result (λ n. IsOpen (end_of side pair.new) → GoesOnWithin pair.old pair.new (λ w v. IsReliable (from_side side v) id → KeepsWhatDidNotCome n (from_side side v) id)) }
+    ensures kept { IfSome result (λ n. IsOpen (end_of side pair.new) → GoesOnWithin pair.old pair.new (λ w v.
+        IsReliable (from_side side v) id → KeepsWhatDidNotCome n (from_side side v) id)) }
 {
     amount_of(pair.step(&Step::BufferedAmount { side, id }))
 }
@@ -29,9 +30,12 @@ fn amount_of(reply: Reply) -> Option<usize>
 
 /// Carries out one step, and says what waits to be read then.
 pub fn step_and_look(pair: &mut Pair, step: &Step) -> Reply
-    ensures ready { (side : Side2) (s : ℕ) → IsOpen (end_of side pair.new) → GoesOnWithin pair.old pair.new (λ w v. IsKept (to_side side v) s → IsAllThatCame (end_of side pair.new) (to_side side v) s) }
-    ensures front { (side : Side2) (s : ℕ) → GoesOnWithin pair.old pair.new (λ w v. IsKept (to_side side v) s → IsFrontOfWhatCame (to_side side v) s) }
-    ensures mixed { (side : Side2) (s : ℕ) → IsOpen (end_of side pair.new) → GoesOnWithin pair.old pair.new (λ w v. IsReliable (to_side side v) s → IsAllToBeHad (end_of side pair.new) (to_side side v) s) }
+    ensures ready { (side : Side2) (s : ℕ) → IsOpen (end_of side pair.new) → GoesOnWithin pair.old pair.new (λ w v.
+        IsKept (to_side side v) s → IsAllThatCame (end_of side pair.new) (to_side side v) s) }
+    ensures front { (side : Side2) (s : ℕ) → GoesOnWithin pair.old pair.new (λ w v.
+        IsKept (to_side side v) s → IsFrontOfWhatCame (to_side side v) s) }
+    ensures mixed { (side : Side2) (s : ℕ) → IsOpen (end_of side pair.new) → GoesOnWithin pair.old pair.new (λ w v.
+        IsReliable (to_side side v) s → IsAllToBeHad (end_of side pair.new) (to_side side v) s) }
 {
     pair.step(step)
 }

@@ -2,7 +2,7 @@
 ghost use Rattle.std.specs.Prelude.{ℕ};
 ghost use Rattle.sctp_pair.specs.World.{other_side};
 ghost use Rattle.pair_callers.specs.Going.{AssignsWhileOpen, GoesOn, IsAcknowledgedOn, from_side, to_side};
-ghost use Rattle.pair_callers.specs.Delivering.{HasNoData, TakesNothing, TakesOf, packet_for};
+ghost use Rattle.pair_callers.specs.Delivering.{HasNoData, PassesBy, TakesNothing, TakesOf, packet_for};
 
 use sctp_assoc::Instant;
 use sctp_pair::{Pair, Reply, Side2, Step};
@@ -10,7 +10,9 @@ use sctp_pair::{Pair, Reply, Side2, Step};
 /// Hands a side the packet of this number that the other side gave out.
 pub fn deliver_packet(pair: &mut Pair, side: Side2, number: u64, now: Instant) -> Reply
     ensures taken { GoesOn pair.old pair.new (λ w v. TakesOf (packet_for side number pair.old) side w v) }
-    ensures without_data { HasNoData (packet_for side number pair.old) → GoesOn pair.old pair.new (λ w v. TakesNothing (to_side side w) (to_side side v)) }
+    ensures without_data { HasNoData (packet_for side number pair.old) → GoesOn pair.old pair.new (λ w v.
+        TakesNothing (to_side side w) (to_side side v)) }
+    ensures passed { GoesOn pair.old pair.new (λ w v. PassesBy (packet_for side number pair.old) side w v) }
     ensures other { GoesOn pair.old pair.new (λ w v. TakesNothing (from_side side w) (from_side side v)) }
 {
     pair.step(&Step::Deliver { side, number, now })
@@ -23,9 +25,11 @@ pub fn expire_timers(pair: &mut Pair, side: Side2, now: Instant) -> Reply
     pair.step(&Step::HandleTimeout { side, now })
 }
 
-/// Carries out one step: no acknowledgement is taken back, and a side that is closed or failed afterwards sent nothing new.
+/// Carries out one step: no acknowledgement is taken back, and a side that is closed or failed afterwards sent nothing
+/// new.
 pub fn step_once(pair: &mut Pair, step: &Step) -> Reply
-    ensures acknowledged { (side : Side2) → GoesOn pair.old pair.new (λ w v. IsAcknowledgedOn (from_side side w) (from_side side v)) }
+    ensures acknowledged { (side : Side2) → GoesOn pair.old pair.new (λ w v.
+        IsAcknowledgedOn (from_side side w) (from_side side v)) }
     ensures assigned { (side : Side2) → GoesOn pair.old pair.new (λ w v. AssignsWhileOpen side pair.new w v) }
 {
     pair.step(step)

@@ -1,15 +1,19 @@
-//! Callers of a pair, each of which needs one part of what `Pair` promises: where a clause of `Pair` or a field of what it
-//! promises is lost, a function here is no longer proved.
+//! Callers of a pair, each of which needs one part of what `Pair` promises: where a clause of `Pair` or a field of
+//! what it promises is lost, a function here is no longer proved.
 #![tactic(auto)]
 
 mod buffering;
 mod delivering;
+mod lasting;
 mod reading;
 mod running;
+mod telling;
 mod writing;
 
 pub use buffering::{ask_buffered, step_and_look};
 pub use delivering::{deliver_packet, expire_timers, step_once};
+pub use lasting::{poll_event, step_and_last};
 pub use reading::{read_message, step_and_tell};
 pub use running::{give_first_packet, is_lost, join, run_and_tell, step_and_count, try_to_run};
+pub use telling::{run_client_server, run_joined};
 pub use writing::write_message;

@@ -11,7 +11,8 @@ use sctp_pair::{Pair, Reply, Side2, Step};
 /// Reads the next message, or none where none is ready or the stream is not there.
 pub fn read_message(pair: &mut Pair, side: Side2, id: StreamId) -> Option<Chunks>
     ensures next { GoesOn pair.old pair.new (λ w v. ReadsNext id result (to_side side w) (to_side side v)) }
-    ensures accepted { IfSome result (λ m. GoesOnWithin pair.old pair.new (λ w v. (to_side side v).over id ≡ false → IsOfAccepted (to_side side v) id (letter_of m))) }
+    ensures accepted { IfSome result (λ m. GoesOnWithin pair.old pair.new (λ w v.
+        (to_side side v).over id ≡ false → IsOfAccepted (to_side side v) id (letter_of m))) }
 {
     message_of(pair.step(&Step::Read { side, id }))
 }
@@ -28,7 +29,8 @@ fn message_of(reply: Reply) -> Option<Chunks>
 /// Carries out one step. What either side read so far are messages that the other one accepted, by their numbers.
 pub fn step_and_tell(pair: &mut Pair, step: &Step) -> Reply
     ensures exact { Steps step.now pair.old result pair.new }
-    ensures numbered { (side : Side2) (s : ℕ) → GoesOnWithin pair.old pair.new (λ w v. (to_side side v).over s ≡ false → AreNumbered (to_side side v) s) }
+    ensures numbered { (side : Side2) (s : ℕ) → GoesOnWithin pair.old pair.new (λ w v.
+        (to_side side v).over s ≡ false → AreNumbered (to_side side v) s) }
 {
     pair.step(step)
 }

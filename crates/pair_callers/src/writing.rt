@@ -10,8 +10,10 @@ use sctp_pair::{Pair, Reply, Side2, Step};
 /// Writes a message: how many bytes were accepted, or none where the write was refused.
 pub fn write_message(pair: &mut Pair, side: Side2, id: StreamId, bytes: Bytes) -> Option<usize>
     ensures count { IfSome result (λ n. n ≡ length bytes) }
-    ensures accepted { IfSome result (λ n. GoesOn pair.old pair.new (λ w v. AcceptsOne id bytes (from_side side w) (from_side side v))) }
-    ensures refused { result ≡ None → GoesOn pair.old pair.new (λ w v. AcceptsNone (from_side side w) (from_side side v)) }
+    ensures accepted { IfSome result (λ n. GoesOn pair.old pair.new (λ w v.
+        AcceptsOne id bytes (from_side side w) (from_side side v))) }
+    ensures refused { result ≡ None → GoesOn pair.old pair.new (λ w v.
+        AcceptsNone (from_side side w) (from_side side v)) }
 {
     count_of(pair.step(&Step::Write { side, id, bytes }))
 }

@@ -1,0 +1,74 @@
+// Telling: what the replies of a whole run tell of a pair that was just made, with no world and no premise but few
+// writes.
+ghost use Rattle.std.specs.Prelude.{◌≡◌, IfOk, length};
+ghost use Rattle.pair_callers.specs.Telling.{ReadsAreFronts};
+
+use sctp_assoc::{AssociationId, ChunkInit, Error, Instant, ServerConfig, TransportConfig};
+use sctp_pair::{Pair, Reply, Step};
+use std::alloc::Global;
+use std::net::SocketAddr;
+
+/// Joins two associations by their tokens and runs the steps: what one side read is a front of what the other one
+/// wrote.
+pub fn run_joined(
+    alloc: Global,
+    config: &TransportConfig,
+    max_payload_size: u32,
+    token_a: &ChunkInit,
+    token_b: &ChunkInit,
+    remote_of_a: SocketAddr,
+    remote_of_b: SocketAddr,
+    steps: &[Step],
+) -> Result<Vec<Reply>, Error>
+    ensures each { IfOk result (λ replies. length replies.items ≡ length steps.now) }
+    ensures front { IfOk result (λ replies. ReadsAreFronts steps.now replies.items) }
+{
+    let mut pair = Pair::snap(
+        alloc,
+        config,
+        config,
+        max_payload_size,
+        max_payload_size,
+        token_a,
+        token_b,
+        remote_of_a,
+        remote_of_b,
+    )?;
+    pair.run(steps)
+}
+
+/// Makes a client and a server and runs the steps: what one side read is a front of what the other one wrote.
+pub fn run_client_server(
+    alloc: Global,
+    config: &TransportConfig,
+    server_config: &ServerConfig,
+    max_payload_size: u32,
+    tags: (AssociationId, AssociationId),
+    tsns: (u32, u32),
+    cookies: ([u8; 32], [u8; 32]),
+    remotes: (SocketAddr, SocketAddr),
+    now: Instant,
+    steps: &[Step],
+) -> Result<Vec<Reply>, Error>
+    ensures each { IfOk result (λ replies. length replies.items ≡ length steps.now) }
+    ensures front { IfOk result (λ replies. ReadsAreFronts steps.now replies.items) }
+{
+    let mut pair = Pair::client_server(
+        alloc,
+        config,
+        server_config,
+        config,
+        max_payload_size,
+        max_payload_size,
+        tags.0,
+        tags.1,
+        tsns.0,
+        tsns.1,
+        cookies.0,
+        cookies.1,
+        remotes.0,
+        remotes.1,
+        now,
+    )?;
+    pair.run(steps)
+}
