@@ -6,5 +6,4 @@ mod Kept
 mod Questions
 mod Counted
 mod Results
-mod Told
 mod Lasts

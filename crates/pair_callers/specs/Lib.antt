@@ -4,5 +4,4 @@ pub mod Writing
 pub mod Delivering
 pub mod Buffering
 pub mod Running
-pub mod Telling
 pub mod Lasting

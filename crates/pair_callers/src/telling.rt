@@ -1,15 +1,14 @@
-// Telling: what the replies of a whole run tell of a pair that was just made, with no world and no premise but few
-// writes.
-ghost use Rattle.std.specs.Prelude.{◌≡◌, IfOk, length};
-ghost use Rattle.pair_callers.specs.Telling.{ReadsAreFronts};
+// Telling: what the replies of all steps tell of a pair that was just made, with no world and no premise but few writes.
+ghost use Rattle.std.specs.Prelude.{◌≡◌, ◌∷◌, ◌++◌, [], IfOk, length};
+ghost use Rattle.sctp_pair.specs.Callers.{AcceptFew, NothingIsReadUnbrought, ReadsAreFronts};
 
 use sctp_assoc::{AssociationId, ChunkInit, Error, Instant, ServerConfig, TransportConfig};
 use sctp_pair::{Pair, Reply, Step};
 use std::alloc::Global;
 use std::net::SocketAddr;
 
-/// Joins two associations by their tokens and runs the steps: what one side read is a front of what the other one
-/// wrote.
+/// Joins two associations by their tokens and runs the steps: what one side read is a front of what the other one wrote, and
+/// nothing was read that was not brought.
 pub fn run_joined(
     alloc: Global,
     config: &TransportConfig,
@@ -21,7 +20,10 @@ pub fn run_joined(
     steps: &[Step],
 ) -> Result<Vec<Reply>, Error>
     ensures each { IfOk result (λ replies. length replies.items ≡ length steps.now) }
-    ensures front { IfOk result (λ replies. ReadsAreFronts steps.now replies.items) }
+    ensures front { IfOk result (λ replies.
+        AcceptFew steps.now replies.items → ReadsAreFronts steps.now replies.items) }
+    ensures brought { IfOk result (λ replies.
+        AcceptFew steps.now replies.items → NothingIsReadUnbrought steps.now replies.items) }
 {
     let mut pair = Pair::snap(
         alloc,
@@ -51,7 +53,10 @@ pub fn run_client_server(
     steps: &[Step],
 ) -> Result<Vec<Reply>, Error>
     ensures each { IfOk result (λ replies. length replies.items ≡ length steps.now) }
-    ensures front { IfOk result (λ replies. ReadsAreFronts steps.now replies.items) }
+    ensures front { IfOk result (λ replies.
+        AcceptFew steps.now replies.items → ReadsAreFronts steps.now replies.items) }
+    ensures brought { IfOk result (λ replies.
+        AcceptFew steps.now replies.items → NothingIsReadUnbrought steps.now replies.items) }
 {
     let mut pair = Pair::client_server(
         alloc,
@@ -71,4 +76,36 @@ pub fn run_client_server(
         now,
     )?;
     pair.run(steps)
+}
+
+/// Runs steps of a new pair, and then one step more: what was said of the first ones holds of all of them.
+pub fn run_and_step(
+    alloc: Global,
+    config: &TransportConfig,
+    max_payload_size: u32,
+    token_a: &ChunkInit,
+    token_b: &ChunkInit,
+    remote_of_a: SocketAddr,
+    remote_of_b: SocketAddr,
+    steps: &[Step],
+    last: &Step,
+) -> Result<(Vec<Reply>, Reply), Error>
+    ensures front { IfOk result (λ (replies, reply).
+        AcceptFew (steps.now ++ last.now ∷ []) (replies.items ++ reply ∷ [])
+        → ReadsAreFronts (steps.now ++ last.now ∷ []) (replies.items ++ reply ∷ [])) }
+{
+    let mut pair = Pair::snap(
+        alloc,
+        config,
+        config,
+        max_payload_size,
+        max_payload_size,
+        token_a,
+        token_b,
+        remote_of_a,
+        remote_of_b,
+    )?;
+    let replies = pair.run(steps)?;
+    let reply = pair.step(last);
+    Ok((replies, reply))
 }

@@ -1,6 +1,6 @@
+use Rattle.std.specs.Prelude.{[]}
 use Rattle.pair_callers.proofs.Questions.{as_many_replies}
 use Rattle.pair_callers.proofs.Results.{if_ok}
-use Rattle.pair_callers.proofs.Told.{reads_are_fronts}
 use Rattle.pair_callers.proofs.telling.run_client_server.Goals as goal
 
 pub returns-clause-each : goal.returns-clause-each
@@ -9,7 +9,9 @@ returns-clause-each c =
     c.in_ok-pair.pair c.run.new.self h)
 
 pub returns-clause-front : goal.returns-clause-front
-returns-clause-front c = if_ok c.run.result _ _ c.run.ensures.counted (λ replies h.
-    reads_are_fronts c.args.steps.now replies.items c.in_ok-pair.pair c.run.new.self c.args.tsns.0 c.args.tsns.1
-    c.args.max_payload_size c.args.max_payload_size
-    (h 0 0 _ c.in_ok-pair.ensures.counted))
+returns-clause-front c = if_ok c.run.result _ _ c.run.ensures.front (λ replies h.
+    h c.args.max_payload_size c.args.max_payload_size [] [] c.in_ok-pair.ensures.new)
+
+pub returns-clause-brought : goal.returns-clause-brought
+returns-clause-brought c = if_ok c.run.result _ _ c.run.ensures.brought (λ replies h.
+    h c.args.max_payload_size c.args.max_payload_size [] [] c.in_ok-pair.ensures.new)
