@@ -54,7 +54,8 @@ poll_tells (event ∷ later) a e =
 closes_once : (lost faulted : Bool) → (not lost && faulted) ≡ true → lost ≡ false
 closes_once lost faulted e = not-true lost (and_parts (not lost) faulted e).0
 
-packet_tells : (closing : Bool) (a b : Shown) → IsClosedIf closing a b → (closing ≡ true → a.lost ≡ false) → Tells closing a (b, [])
+packet_tells : (closing : Bool) (a b : Shown) → IsClosedIf closing a b → (closing ≡ true → a.lost ≡ false)
+    → Tells closing a (b, [])
 packet_tells closing a b h once = record { lost = h.lost; count = omega (arith, h.told); once = once }
 
 -- how a call that is carried out closes the association
@@ -78,12 +79,15 @@ carried_tells Call.Poll a = poll_tells a.events a refl
 carried_tells (Call.PollTransmit now) a = open_tells a (polled a now).0 (polls_do_not_close a now)
 carried_tells (Call.HandleTimeout now) a = open_tells a (after_timeouts a now) (timers_do_not_close a now)
 carried_tells (Call.HandleEvent packet now) a =
-    packet_tells (closes a packet now) a (after_packet a packet now) (faults_alone_close a packet now) (closes_once a.lost (is_faulted_packet a packet now))
+    packet_tells (closes a packet now) a (after_packet a packet now) (faults_alone_close a packet now)
+    (closes_once a.lost (is_faulted_packet a packet now))
 
-counts_all : (n : ℕ) (x : Shown × List Event) → n + losses x.1 + losses x.0.events ≡ loss_count x.0.lost → Counts (n + losses x.1) x.0
+counts_all : (n : ℕ) (x : Shown × List Event) → n + losses x.1 + losses x.0.events ≡ loss_count x.0.lost
+    → Counts (n + losses x.1) x.0
 counts_all n x e = record { at_most = omega (arith, e); in_all = λ _. e }
 
-counts_on : (closing : Bool) (n : ℕ) (a : Shown) (x : Shown × List Event) → a.failed ≡ false → Counts n a → Tells closing a x → Counts (n + losses x.1) x.0
+counts_on : (closing : Bool) (n : ℕ) (a : Shown) (x : Shown × List Event) → a.failed ≡ false → Counts n a
+    → Tells closing a x → Counts (n + losses x.1) x.0
 counts_on false n a x works h t =
     let before : n + losses a.events ≡ loss_count a.lost = h.in_all works in
     let after : loss_count x.0.lost ≡ loss_count a.lost = ap loss_count t.lost in
@@ -97,16 +101,19 @@ counts_on true n a x works h t =
 counts_still : (n : ℕ) (a : Shown) → Counts n a → Counts (n + losses []) a
 counts_still n a h = record { at_most = omega (arith, h.at_most); in_all = λ e. omega (arith, h.in_all e) }
 
-counts_refused : (n : ℕ) (told : List Event) (a b : Shown) → Counts n a → IsRefused told a b → Counts (n + losses told) b
+counts_refused : (n : ℕ) (told : List Event) (a b : Shown) → Counts n a → IsRefused told a b
+    → Counts (n + losses told) b
 counts_refused n told a b h r =
-    subst (λ (z : List Event). Counts (n + losses z) b) (sym r.silent) (counts_still n b (subst (λ (z : Shown). Counts n z) (sym r.same) h))
+    subst (λ (z : List Event). Counts (n + losses z) b) (sym r.silent)
+    (counts_still n b (subst (λ (z : Shown). Counts n z) (sym r.same) h))
 
 counts_fell : (n : ℕ) (a b : Shown) → Counts n a → Fell a b → Counts (n + losses []) b
 counts_fell n a b h f =
     let same : loss_count b.lost ≡ loss_count a.lost = ap loss_count f.lost in
     record { at_most = omega (arith, h.at_most, same); in_all = λ e. absurd (true≢false (sym f.failed ∙ e)) }
 
-call_counts : (call : Call) (n : ℕ) (told : List Event) (a b : Shown) → Counts n a → Calls call told a b → Counts (n + losses told) b
+call_counts : (call : Call) (n : ℕ) (told : List Event) (a b : Shown) → Counts n a → Calls call told a b
+    → Counts (n + losses told) b
 call_counts call n told a b h (inl c) =
     subst (λ (x : Shown × List Event). Counts (n + losses x.1) x.0) c.there
     (counts_on (closes_by call a) n a (carried_out call a) (accepted_works call a c.accepted) h (carried_tells call a))
@@ -114,12 +121,15 @@ call_counts call n told a b h (inr (inl c)) = counts_refused n told a b h c
 call_counts call n told a b h (inr (inr c)) =
     subst (λ (z : List Event). Counts (n + losses z) b) (sym c.silent) (counts_fell n a b h (fell a b c.failed))
 
-run_counts : (calls : List Call) (n : ℕ) (told : List Event) (a b : Shown) → Counts n a → IsRun calls told a b → Counts (n + losses told) b
+run_counts : (calls : List Call) (n : ℕ) (told : List Event) (a b : Shown) → Counts n a → IsRun calls told a b
+    → Counts (n + losses told) b
 run_counts [] n told a b h r = counts_refused n told a b h r
 run_counts (c ∷ cs) n told a b h r =
-    let all : losses told ≡ losses r.first + losses r.later = ap losses r.in_order ∙ sum_by-append loss_of r.first r.later in
+    let all : losses told ≡ losses r.first + losses r.later = ap losses r.in_order
+    ∙ sum_by-append loss_of r.first r.later in
     let sums : n + losses r.first + losses r.later ≡ n + losses told = omega (arith, all) in
-    subst (λ (z : ℕ). Counts z b) sums (run_counts cs (n + losses r.first) r.later r.middle b (call_counts c n r.first a r.middle h r.called) r.others)
+    subst (λ (z : ℕ). Counts z b) sums (run_counts cs (n + losses r.first) r.later r.middle b
+    (call_counts c n r.first a r.middle h r.called) r.others)
 
 fresh_counts : (a : Shown) → IsFresh a → Counts 0 a
 fresh_counts a h =

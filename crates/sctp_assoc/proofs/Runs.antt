@@ -35,7 +35,8 @@ fell_stopped a b h timer = ap (λ (t : Timers). moment_of timer t) h.timers ∙ 
 
 -- One call
 
-unrefused : (failed : Bool) (fault : Error) (more : Option Error) → (if failed then Some fault else more) ≡ None → failed ≡ false
+unrefused : (failed : Bool) (fault : Error) (more : Option Error) → (if failed then Some fault else more) ≡ None
+    → failed ≡ false
 unrefused true fault more e = absurd (true≢false (ap (λ (o : Option Error). is_some o) e))
 unrefused false fault more e = refl
 
@@ -82,7 +83,8 @@ rest_carried (Call.PollTransmit now) a lost h =
     let quiet = polls_outside_established_give_what_waits a now (closed_waits_for_nothing a.state (h.closed lost)).0 in
     subst (λ (x : Shown × List (List ℕ)). AtRest x.0) (sym quiet) (rest_by a (without_control a) refl refl refl refl h)
 rest_carried (Call.HandleTimeout now) a lost h = subst AtRest (sym (unarmed_timeouts_do_nothing a now h.stopped)) h
-rest_carried (Call.HandleEvent packet now) a lost h = subst AtRest (sym (lost_associations_take_nothing a packet now lost)) h
+rest_carried (Call.HandleEvent packet now) a lost h = subst AtRest
+    (sym (lost_associations_take_nothing a packet now lost)) h
 
 is_lost : (a : Shown) → a.failed ≡ false → AtRest a → a.lost ≡ true
 is_lost a e h = ⊎_elim (λ (f : a.failed ≡ true). absurd (false≢true (sym e ∙ f))) (λ (l : a.lost ≡ true). l) h.over
@@ -119,7 +121,11 @@ fresh_ticks a h = record {
   working = h.working;
   not_lost = h.not_lost;
   fits = record {
-    flies = record { timed = λ _ p. absurd (nothing_is_not_something a.sender.queue.in_flight p h.unsent); none = λ _. h.retransmission };
+    flies = record {
+      timed = λ _ p. absurd (nothing_is_not_something a.sender.queue.in_flight p
+          h.unsent);
+      none = λ _. h.retransmission;
+    };
     inits = record { alone = λ e. h.init ∙ e; timed = λ e. inl (h.init ∙ e) };
     cookies = record { alone = λ e. h.cookie ∙ e; timed = λ e. inl (h.cookie ∙ e) };
     unsent = λ _. h.unsent;
@@ -134,19 +140,45 @@ after_run calls told a b h r = run_sound calls told a b (inl (fresh_ticks a h)) 
 pub created_sides_are_fresh : CreatedSidesAreFresh
 unfolding sends_init
 created_sides_are_fresh None config size tag initial_tsn cookie remote_addr local_ip now =
-    record { working = refl; not_lost = refl; untold = refl; unsent = refl; retransmission = refl; init = refl; cookie = refl }
+    record {
+      working = refl;
+      not_lost = refl;
+      untold = refl;
+      unsent = refl;
+      retransmission = refl;
+      init = refl;
+      cookie = refl;
+    }
 created_sides_are_fresh (Some of_server) config size tag initial_tsn cookie remote_addr local_ip now =
-    record { working = refl; not_lost = refl; untold = refl; unsent = refl; retransmission = refl; init = refl; cookie = refl }
+    record {
+      working = refl;
+      not_lost = refl;
+      untold = refl;
+      unsent = refl;
+      retransmission = refl;
+      init = refl;
+      cookie = refl;
+    }
 
 pub joined_sides_are_fresh : JoinedSidesAreFresh
 joined_sides_are_fresh config size remote_addr local_ip own peer =
-    record { working = refl; not_lost = refl; untold = refl; unsent = refl; retransmission = refl; init = refl; cookie = refl }
+    record {
+      working = refl;
+      not_lost = refl;
+      untold = refl;
+      unsent = refl;
+      retransmission = refl;
+      init = refl;
+      cookie = refl;
+    }
 
 -- Timers
 
-data_timed : (b : Shown) → IsSound b → b.failed ≡ false → is_established b.state ≡ true → 0 < length b.sender.queue.in_flight → IsTimed names.T3RTX b.timers
+data_timed : (b : Shown) → IsSound b → b.failed ≡ false → is_established b.state ≡ true
+    → 0 < length b.sender.queue.in_flight → IsTimed names.T3RTX b.timers
 data_timed b (inl h) works e p = h.fits.flies.timed e p
-data_timed b (inr h) works e p = absurd (false≢true (sym (closed_waits_for_nothing b.state (h.closed (is_lost b works h))).0 ∙ e))
+data_timed b (inr h) works e p = absurd (false≢true
+    (sym (closed_waits_for_nothing b.state (h.closed (is_lost b works h))).0 ∙ e))
 
 pub outstanding_data_is_timed : OutstandingDataIsTimed
 outstanding_data_is_timed calls told a b h r = data_timed b (after_run calls told a b h r)
@@ -160,14 +192,18 @@ nothing_in_flight_is_not_timed calls told a b h r = nothing_timed b (after_run c
 
 inits_timed : (b : Shown) → IsSound b → b.failed ≡ false → is_cookie_wait b.state ≡ true → IsTimed names.T1Init b.timers
 inits_timed b (inl h) works e = h.fits.inits.timed e
-inits_timed b (inr h) works e = absurd (false≢true (sym (closed_waits_for_nothing b.state (h.closed (is_lost b works h))).1 ∙ e))
+inits_timed b (inr h) works e =
+    absurd (false≢true (sym (closed_waits_for_nothing b.state (h.closed (is_lost b works h))).1 ∙ e))
 
 pub sent_inits_are_timed : SentInitsAreTimed
 sent_inits_are_timed calls told a b h r = inits_timed b (after_run calls told a b h r)
 
-cookies_timed : (b : Shown) → IsSound b → b.failed ≡ false → is_cookie_echoed b.state ≡ true → IsTimed names.T1Cookie b.timers
+cookies_timed : (b : Shown) → IsSound b → b.failed ≡ false → is_cookie_echoed b.state ≡ true
+    → IsTimed names.T1Cookie b.timers
 cookies_timed b (inl h) works e = h.fits.cookies.timed e
-cookies_timed b (inr h) works e = absurd (false≢true (sym (closed_waits_for_nothing b.state (h.closed (is_lost b works h))).2 ∙ e))
+cookies_timed b (inr h) works e =
+    absurd (false≢true
+    (sym (closed_waits_for_nothing b.state (h.closed (is_lost b works h))).2 ∙ e))
 
 pub echoed_cookies_are_timed : EchoedCookiesAreTimed
 echoed_cookies_are_timed calls told a b h r = cookies_timed b (after_run calls told a b h r)
@@ -185,7 +221,8 @@ pub inits_are_timed_in_cookie_wait_alone : InitsAreTimedInCookieWaitAlone
 inits_are_timed_in_cookie_wait_alone calls told a b h r = init_alone b (after_run calls told a b h r)
 
 cookie_alone : (b : Shown) → IsSound b → is_armed names.T1Cookie b.timers ≡ true → is_cookie_echoed b.state ≡ true
-cookie_alone b (inl h) e = there_alone (is_cookie_echoed b.state) (is_armed names.T1Cookie b.timers) h.fits.cookies.alone e
+cookie_alone b (inl h) e = there_alone (is_cookie_echoed b.state) (is_armed names.T1Cookie b.timers)
+    h.fits.cookies.alone e
 cookie_alone b (inr h) e = absurd (false≢true (sym (unarmed names.T1Cookie b.timers h.stopped) ∙ e))
 
 pub cookies_are_timed_in_cookie_echoed_alone : CookiesAreTimedInCookieEchoedAlone
@@ -208,8 +245,10 @@ earlier_none (Some moment) y e f = absurd (true≢false (ap (λ (o : Option ℕ)
 
 least_none : (t : Timers) → IsNoneArmed t → least_moment t ≡ None
 least_none t h =
-    earlier_none _ t.ack.moment (earlier_none _ t.reconfig.moment (earlier_none _ t.t3_rtx.moment (earlier_none _ t.t2_shutdown.moment
-    (earlier_none t.t1_init.moment t.t1_cookie.moment (h names.T1Init) (h names.T1Cookie)) (h names.T2Shutdown)) (h names.T3RTX)) (h names.Reconfig)) (h names.Ack)
+    earlier_none _ t.ack.moment (earlier_none _ t.reconfig.moment
+    (earlier_none _ t.t3_rtx.moment (earlier_none _ t.t2_shutdown.moment
+    (earlier_none t.t1_init.moment t.t1_cookie.moment (h names.T1Init) (h names.T1Cookie)) (h names.T2Shutdown))
+    (h names.T3RTX)) (h names.Reconfig)) (h names.Ack)
 
 pub failures_stop_the_timers : FailuresStopTheTimers
 failures_stop_the_timers a b h = least_none b.timers (fell_stopped a b (fell a b h))

@@ -1,4 +1,4 @@
--- Timers run where they should: what holds of an association that works, and that timers and the application's calls keep it.
+-- Timers run where they should: what holds of an association that works, and of one that failed or was lost.
 use Rattle.std.proofs.Common.{◌≡◌, refl, sym, ap, ◌∙◌, subst, ◌⊎◌, ⊎_elim, inl, inr, ℕ, ◌<◌, arith, Bool, true, false, List, [], ◌∷◌, length, Option, Some, None, is_some}
 use Rattle.std.proofs.lemmas.Bool.{false≢true, true≢false}
 use Rattle.std.proofs.lemmas.List.{nil_from_length}
@@ -23,7 +23,8 @@ pub record Waits (there : Bool) (timer : TimerState) (limit : Option ℕ) : Type
   pub timed : there ≡ true → (is_some timer.moment ≡ true) ⊎ (passes timer.retries limit ≡ true)
 
 -- the timers of DATA and of the handshake
-pub record Fits (state : AssociationState) (flown : List InFlight) (t3 init cookie : TimerState) (data_limit handshake_limit : Option ℕ) : Type 0 where
+pub record Fits (state : AssociationState) (flown : List InFlight) (t3 init cookie : TimerState)
+    (data_limit handshake_limit : Option ℕ) : Type 0 where
   pub flies : Flies (is_established state) flown t3 data_limit
   pub inits : Waits (is_cookie_wait state) init handshake_limit
   pub cookies : Waits (is_cookie_echoed state) cookie handshake_limit
@@ -53,7 +54,8 @@ pub record IsSameTime (a b : Shown) : Type 0 where
   pub flown : b.sender.queue.in_flight ≡ a.sender.queue.in_flight
   pub timers : b.timers ≡ a.timers
 
-fits_by : (s s' : AssociationState) (f f' : List InFlight) (t t' : Timers) → s' ≡ s → f' ≡ f → t' ≡ t → FitsTimers s f t → FitsTimers s' f' t'
+fits_by : (s s' : AssociationState) (f f' : List InFlight) (t t' : Timers) → s' ≡ s → f' ≡ f → t' ≡ t
+    → FitsTimers s f t → FitsTimers s' f' t'
 fits_by s s' f f' t t' d e g h =
     subst (λ (z : AssociationState). FitsTimers z f' t') (sym d)
     (subst (λ (z : List InFlight). FitsTimers s z t') (sym e) (subst (λ (z : Timers). FitsTimers s f z) (sym g) h))
@@ -62,14 +64,17 @@ pub ticks_by : (a b : Shown) → IsSameTime a b → Ticks a → Ticks b
 ticks_by a b e h = record {
   working = e.failed ∙ h.working;
   not_lost = e.lost ∙ h.not_lost;
-  fits = fits_by a.state b.state a.sender.queue.in_flight b.sender.queue.in_flight a.timers b.timers e.state e.flown e.timers h.fits;
+  fits = fits_by a.state b.state a.sender.queue.in_flight b.sender.queue.in_flight a.timers b.timers e.state e.flown
+      e.timers h.fits;
 }
 
 pub same_time : (a : Shown) → IsSameTime a a
 same_time a = record { failed = refl; lost = refl; state = refl; flown = refl; timers = refl }
 
-pub time_by : (a b : Shown) → b.failed ≡ a.failed → b.lost ≡ a.lost → b.state ≡ a.state → b.sender.queue.in_flight ≡ a.sender.queue.in_flight → b.timers ≡ a.timers → IsSameTime a b
-time_by a b failed lost state flown timers = record { failed = failed; lost = lost; state = state; flown = flown; timers = timers }
+pub time_by : (a b : Shown) → b.failed ≡ a.failed → b.lost ≡ a.lost → b.state ≡ a.state
+    → b.sender.queue.in_flight ≡ a.sender.queue.in_flight → b.timers ≡ a.timers → IsSameTime a b
+time_by a b failed lost state flown timers = record
+    { failed = failed; lost = lost; state = state; flown = flown; timers = timers }
 
 pub time_on : (a b c : Shown) → IsSameTime a b → IsSameTime b c → IsSameTime a c
 time_on a b c x y = record {
@@ -80,7 +85,8 @@ time_on a b c x y = record {
   timers = y.timers ∙ x.timers;
 }
 
-pub rest_by : (a b : Shown) → b.failed ≡ a.failed → b.lost ≡ a.lost → b.state ≡ a.state → b.timers ≡ a.timers → AtRest a → AtRest b
+pub rest_by : (a b : Shown) → b.failed ≡ a.failed → b.lost ≡ a.lost → b.state ≡ a.state → b.timers ≡ a.timers
+    → AtRest a → AtRest b
 rest_by a b failed lost state timers h = record {
   over = ⊎_elim (λ (e : a.failed ≡ true). inl (failed ∙ e)) (λ (e : a.lost ≡ true). inr (lost ∙ e)) h.over;
   closed = λ e. ap is_closed_state state ∙ h.closed (sym lost ∙ e);
@@ -99,7 +105,8 @@ established_begins_no_more states.ShutdownPending e = refl
 established_begins_no_more states.ShutdownReceived e = refl
 established_begins_no_more states.ShutdownSent e = refl
 
-pub closed_waits_for_nothing : (s : AssociationState) → is_closed_state s ≡ true → (is_established s ≡ false) × (is_cookie_wait s ≡ false) × (is_cookie_echoed s ≡ false)
+pub closed_waits_for_nothing : (s : AssociationState) → is_closed_state s ≡ true
+    → (is_established s ≡ false) × (is_cookie_wait s ≡ false) × (is_cookie_echoed s ≡ false)
 closed_waits_for_nothing states.Closed e = (refl, refl, refl)
 closed_waits_for_nothing states.CookieWait e = absurd (false≢true e)
 closed_waits_for_nothing states.CookieEchoed e = absurd (false≢true e)
@@ -109,7 +116,8 @@ closed_waits_for_nothing states.ShutdownPending e = absurd (false≢true e)
 closed_waits_for_nothing states.ShutdownReceived e = absurd (false≢true e)
 closed_waits_for_nothing states.ShutdownSent e = absurd (false≢true e)
 
-pub established_shakes_no_hands : (s : AssociationState) → is_established s ≡ true → (is_cookie_wait s ≡ false) × (is_cookie_echoed s ≡ false)
+pub established_shakes_no_hands : (s : AssociationState) → is_established s ≡ true
+    → (is_cookie_wait s ≡ false) × (is_cookie_echoed s ≡ false)
 established_shakes_no_hands states.Closed e = absurd (false≢true e)
 established_shakes_no_hands states.CookieWait e = absurd (false≢true e)
 established_shakes_no_hands states.CookieEchoed e = absurd (false≢true e)
@@ -156,27 +164,45 @@ pub record IsRestarted (t u : Timers) : Type 0 where
   pub data_limit : u.data_limit ≡ t.data_limit
   pub handshake_limit : u.handshake_limit ≡ t.handshake_limit
 
-restarted_if : (ahead : Bool) (now rto : ℕ) (t : Timers) → is_ahead (moment_of names.T3RTX t) now ≡ ahead → IsRestarted t (restarted_if_stale names.T3RTX now rto t)
-restarted_if true now rto t e = rw e (record { armed = ahead_is_armed t.t3_rtx.moment now e; init = refl; cookie = refl; data_limit = refl; handshake_limit = refl })
-restarted_if false now rto t e = rw e (record { armed = refl; init = refl; cookie = refl; data_limit = refl; handshake_limit = refl })
+restarted_if : (ahead : Bool) (now rto : ℕ) (t : Timers) → is_ahead (moment_of names.T3RTX t) now ≡ ahead
+    → IsRestarted t (restarted_if_stale names.T3RTX now rto t)
+restarted_if true now rto t e = rw e (record {
+  armed = ahead_is_armed t.t3_rtx.moment now e;
+  init = refl;
+  cookie = refl;
+  data_limit = refl;
+  handshake_limit = refl;
+})
+restarted_if false now rto t e = rw e (record {
+  armed = refl;
+  init = refl;
+  cookie = refl;
+  data_limit = refl;
+  handshake_limit = refl;
+})
 
 pub restarted : (now rto : ℕ) (t : Timers) → IsRestarted t (restarted_if_stale names.T3RTX now rto t)
 restarted now rto t = restarted_if (is_ahead (moment_of names.T3RTX t) now) now rto t refl
 
 waits_by : (there : Bool) (x y : TimerState) (l m : Option ℕ) → y ≡ x → m ≡ l → Waits there x l → Waits there y m
-waits_by there x y l m e g h = subst (λ (z : TimerState). Waits there z m) (sym e) (subst (λ (z : Option ℕ). Waits there x z) (sym g) h)
+waits_by there x y l m e g h = subst (λ (z : TimerState). Waits there z m) (sym e)
+    (subst (λ (z : Option ℕ). Waits there x z) (sym g) h)
 
 -- with T3-rtx restarted and DATA in flight, in a state in which something may be
-pub fits_restarted : (s : AssociationState) (f g : List InFlight) (t u : Timers) → is_beginning s ≡ false → IsRestarted t u → 0 < length g → FitsTimers s f t → FitsTimers s g u
+pub fits_restarted : (s : AssociationState) (f g : List InFlight) (t u : Timers) → is_beginning s ≡ false
+    → IsRestarted t u → 0 < length g → FitsTimers s f t → FitsTimers s g u
 fits_restarted s f g t u b r p h = record {
   flies = record { timed = λ _ _. inl r.armed; none = λ e. absurd (nothing_is_not_something g p e) };
-  inits = waits_by (is_cookie_wait s) t.t1_init u.t1_init t.handshake_limit u.handshake_limit r.init r.handshake_limit h.inits;
-  cookies = waits_by (is_cookie_echoed s) t.t1_cookie u.t1_cookie t.handshake_limit u.handshake_limit r.cookie r.handshake_limit h.cookies;
+  inits = waits_by (is_cookie_wait s) t.t1_init u.t1_init t.handshake_limit u.handshake_limit r.init r.handshake_limit
+      h.inits;
+  cookies = waits_by (is_cookie_echoed s) t.t1_cookie u.t1_cookie t.handshake_limit u.handshake_limit r.cookie
+      r.handshake_limit h.cookies;
   unsent = λ e. absurd (false≢true (sym b ∙ e));
 }
 
 -- with as many pieces in flight
-pub fits_as_many : (s : AssociationState) (f g : List InFlight) (t : Timers) → length g ≡ length f → FitsTimers s f t → FitsTimers s g t
+pub fits_as_many : (s : AssociationState) (f g : List InFlight) (t : Timers) → length g ≡ length f → FitsTimers s f t
+    → FitsTimers s g t
 fits_as_many s f g t e h =
     let emptied : g ≡ [] → f ≡ [] = λ z. nil_from_length f (sym e ∙ ap (λ (xs : List InFlight). length xs) z) in
     record {

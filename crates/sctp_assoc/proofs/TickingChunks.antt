@@ -38,44 +38,55 @@ use Rattle.sctp_assoc.proofs.Ticking.{AtRest, FitsTimers, IsSameTime, Ticks, est
 
 -- DATA leaves all of it
 
-found_time : (there left : Bool) (a : Shown) (id : ℕ) → is_some (stream_at a.streams id) ≡ there → generation_left a.streams ≡ left → IsSameTime a (stream_found a id).0
+found_time : (there left : Bool) (a : Shown) (id : ℕ) → is_some (stream_at a.streams id) ≡ there
+    → generation_left a.streams ≡ left → IsSameTime a (stream_found a id).0
 unfolding stream_found
 found_time true left a id e f = rw e (same_time a)
 found_time false true a id e f = rw (e, f) (time_by a _ refl refl refl refl refl)
 found_time false false a id e f = rw (e, f) (same_time a)
 
-told_time : (readable kept : Bool) (a : Shown) (id : ℕ) → is_readable_in a.streams id ≡ readable → IsSameTime a (told a id kept)
+told_time : (readable kept : Bool) (a : Shown) (id : ℕ) → is_readable_in a.streams id ≡ readable
+    → IsSameTime a (told a id kept)
 told_time true true a id e = rw e (time_by a _ refl refl refl refl refl)
 told_time false true a id e = rw e (time_by a _ refl refl refl refl refl)
 told_time readable false a id e = time_by a _ refl refl refl refl refl
 
-taken_time : (refusal : Option Error) (a : Shown) (piece : ChunkPayloadData) → refusal_in a.streams piece.stream_identifier piece (2 ^ 32 - 1) ≡ refusal → IsSameTime a (taken_in a piece).0
+taken_time : (refusal : Option Error) (a : Shown) (piece : ChunkPayloadData)
+    → refusal_in a.streams piece.stream_identifier piece (2 ^ 32 - 1) ≡ refusal → IsSameTime a (taken_in a piece).0
 unfolding taken_in
 taken_time (Some fault) a piece e = rw e (same_time a)
 taken_time None a piece e =
     let put = pushed_in a.streams piece.stream_identifier piece in
     let b : Shown = record a { streams = put.0; receiver = taken_to a.receiver piece.tsn } in
-    rw e (time_on a b _ (time_by a b refl refl refl refl refl) (told_time (is_readable_in b.streams piece.stream_identifier) put.1 b piece.stream_identifier refl))
+    rw e (time_on a b _ (time_by a b refl refl refl refl refl)
+    (told_time (is_readable_in b.streams piece.stream_identifier) put.1 b piece.stream_identifier refl))
 
-asked_time : (x : Shown × Option Error) (piece : ChunkPayloadData) (wish : AckWish) → (asks_or_faults x piece wish).0 ≡ x.0
+asked_time : (x : Shown × Option Error) (piece : ChunkPayloadData) (wish : AckWish)
+    → (asks_or_faults x piece wish).0 ≡ x.0
 asked_time (a, None) piece wish = refl
 asked_time (a, Some fault) piece wish = refl
 
-next_data_time : (there credit : Bool) (a : Shown) (piece : ChunkPayloadData) (wish : AckWish) → ltb 0 (credit_of a.receiver (bytes_waiting a.streams)) ≡ credit
+next_data_time : (there credit : Bool) (a : Shown) (piece : ChunkPayloadData) (wish : AckWish)
+    → ltb 0 (credit_of a.receiver (bytes_waiting a.streams)) ≡ credit
     → IsSameTime a (on_next_data (a, there) piece wish).0
 next_data_time false credit a piece wish e = same_time a
 next_data_time true true a piece wish e =
-    rw (e, asked_time (taken_in a piece) piece wish) (taken_time (refusal_in a.streams piece.stream_identifier piece (2 ^ 32 - 1)) a piece refl)
+    rw (e, asked_time (taken_in a piece) piece wish)
+    (taken_time (refusal_in a.streams piece.stream_identifier piece (2 ^ 32 - 1)) a piece refl)
 next_data_time true false a piece wish e = rw e (same_time a)
 
-found_next_time : (x : Shown × Bool) (a : Shown) (piece : ChunkPayloadData) (wish : AckWish) → IsSameTime a x.0 → IsSameTime a (on_next_data x piece wish).0
-found_next_time (b, there) a piece wish h = time_on a b _ h (next_data_time there (ltb 0 (credit_of b.receiver (bytes_waiting b.streams))) b piece wish refl)
+found_next_time : (x : Shown × Bool) (a : Shown) (piece : ChunkPayloadData) (wish : AckWish) → IsSameTime a x.0
+    → IsSameTime a (on_next_data x piece wish).0
+found_next_time (b, there) a piece wish h = time_on a b _ h
+    (next_data_time there (ltb 0 (credit_of b.receiver (bytes_waiting b.streams))) b piece wish refl)
 
-counted_data_time : (next : Bool) (a : Shown) (piece : ChunkPayloadData) (wish : AckWish) → (is_next_after a.receiver piece.tsn && is_whole piece) ≡ next
+counted_data_time : (next : Bool) (a : Shown) (piece : ChunkPayloadData) (wish : AckWish)
+    → (is_next_after a.receiver piece.tsn && is_whole piece) ≡ next
     → IsSameTime a (on_counted_data a piece wish).0
 counted_data_time true a piece wish e =
     rw e (found_next_time (stream_found a piece.stream_identifier) a piece wish
-    (found_time (is_some (stream_at a.streams piece.stream_identifier)) (generation_left a.streams) a piece.stream_identifier refl refl))
+    (found_time (is_some (stream_at a.streams piece.stream_identifier)) (generation_left a.streams) a
+    piece.stream_identifier refl refl))
 counted_data_time false a piece wish e = rw e (same_time a)
 
 data_time : (a : Shown) (piece : ChunkPayloadData) (wish : AckWish) → IsSameTime a (on_data a piece wish).0
@@ -86,15 +97,26 @@ data_time a piece wish =
 
 -- SACK
 
-acknowledged_nothing : (n now : ℕ) (s : Sender) (e : Estimate) (m : StreamMap) → ltb 0 n ≡ false → (acknowledged n now (s, e, m)).0.queue.in_flight ≡ s.queue.in_flight
+acknowledged_nothing : (n now : ℕ) (s : Sender) (e : Estimate) (m : StreamMap) → ltb 0 n ≡ false
+    → (acknowledged n now (s, e, m)).0.queue.in_flight ≡ s.queue.in_flight
 acknowledged_nothing zero now s e m h = refl
 acknowledged_nothing (suc n) now s e m h = absurd (omega (arith, ltb-false 0 (suc n) h))
 
-cleared : (moved : Bool) (s : AssociationState) (f g : List InFlight) (t : Timers) (now rto : ℕ) → is_beginning s ≡ false → 0 < length g → FitsTimers s f t
+cleared : (moved : Bool) (s : AssociationState) (f g : List InFlight) (t : Timers) (now rto : ℕ)
+    → is_beginning s ≡ false → 0 < length g → FitsTimers s f t
     → FitsTimers s g (restarted_if_stale names.T3RTX now rto (t3_cleared moved t))
 cleared moved s f g t now rto b p h =
     let r = restarted now rto (t3_cleared moved t) in
-    fits_restarted s f g t (restarted_if_stale names.T3RTX now rto (t3_cleared moved t)) b (record { armed = r.armed; init = r.init ∙ kept moved; cookie = r.cookie ∙ kept_cookie moved; data_limit = r.data_limit ∙ kept_data moved; handshake_limit = r.handshake_limit ∙ kept_limit moved }) p h
+    fits_restarted s f g t (restarted_if_stale names.T3RTX now rto (t3_cleared moved t)) b
+    (record {
+      armed = r.armed;
+      init = r.init ∙ kept moved;
+      cookie = r.cookie
+          ∙ kept_cookie moved;
+      data_limit = r.data_limit ∙ kept_data moved;
+      handshake_limit = r.handshake_limit
+          ∙ kept_limit moved;
+    }) p h
   where
     kept : (c : Bool) → (t3_cleared c t).t1_init ≡ t.t1_init
     kept true = refl
@@ -113,9 +135,11 @@ cleared moved s f g t now rto b p h =
     kept_limit false = refl
 
 -- T3-rtx after a SACK that left these pieces in flight: where nothing was acknowledged the pieces are the same
-sack_fits : (left moved : Bool) (s : AssociationState) (f g : List InFlight) (t : Timers) (now rto : ℕ) → is_beginning s ≡ false → ltb 0 (length g) ≡ left
+sack_fits : (left moved : Bool) (s : AssociationState) (f g : List InFlight) (t : Timers) (now rto : ℕ)
+    → is_beginning s ≡ false → ltb 0 (length g) ≡ left
     → (moved ≡ false → g ≡ f) → FitsTimers s f t
-    → FitsTimers s g (if left then restarted_if_stale names.T3RTX now rto (t3_cleared moved t) else if moved then with_stopped names.T3RTX t else t)
+    → FitsTimers s g (if left then restarted_if_stale names.T3RTX now rto (t3_cleared moved t) else if moved
+    then with_stopped names.T3RTX t else t)
 sack_fits true moved s f g t now rto b e k h = cleared moved s f g t now rto b (ltb-true 0 (length g) e) h
 sack_fits false true s f g t now rto b e k h = record {
   flies = record { timed = λ _ p. absurd (omega (arith, p, ltb-false 0 (length g) e)); none = λ _. refl };
@@ -126,26 +150,32 @@ sack_fits false true s f g t now rto b e k h = record {
 sack_fits false false s f g t now rto b e k h = fits_as_many s f g t (ap (λ (z : List InFlight). length z) (k refl)) h
 
 taken_ticks : (a : Shown) (moved : Bool) (now : ℕ) (x : Sender × Estimate × StreamMap) → is_beginning a.state ≡ false
-    → (moved ≡ false → x.0.queue.in_flight ≡ a.sender.queue.in_flight) → Ticks a → Ticks (with_acknowledged a moved now x)
+    → (moved ≡ false → x.0.queue.in_flight ≡ a.sender.queue.in_flight) → Ticks a
+    → Ticks (with_acknowledged a moved now x)
 taken_ticks a moved now (s, e, m) b k h = record {
   working = h.working;
   not_lost = h.not_lost;
-  fits = sack_fits (ltb 0 (length s.queue.in_flight)) moved a.state a.sender.queue.in_flight s.queue.in_flight a.timers now e.rto b refl k h.fits;
+  fits = sack_fits (ltb 0 (length s.queue.in_flight)) moved a.state a.sender.queue.in_flight s.queue.in_flight a.timers
+      now e.rto b refl k h.fits;
 }
 
-outcome_ticks : (o : SackOutcome) (a : Shown) (point window : ℕ) (wish : AckWish) (now : ℕ) → is_beginning a.state ≡ false → Ticks a
+outcome_ticks : (o : SackOutcome) (a : Shown) (point window : ℕ) (wish : AckWish) (now : ℕ)
+    → is_beginning a.state ≡ false → Ticks a
     → Ticks (on_counted_sack o a point window wish now).0
 outcome_ticks outcomes.Older a point window wish now b h = h
 outcome_ticks outcomes.NotInFlight a point window wish now b h = h
 outcome_ticks outcomes.Taken a point window wish now b h =
-    taken_ticks a (ltb 0 (points_to a.sender point)) now (acknowledged (points_to a.sender point) now (with_window a.sender window, a.estimate, a.streams)) b
+    taken_ticks a (ltb 0 (points_to a.sender point)) now
+    (acknowledged (points_to a.sender point) now (with_window a.sender window, a.estimate, a.streams)) b
     (λ e. acknowledged_nothing (points_to a.sender point) now (with_window a.sender window) a.estimate a.streams e) h
 
-sack_ticks : (established : Bool) (a : Shown) (point window : ℕ) (wish : AckWish) (now : ℕ) → is_established a.state ≡ established → Ticks a
+sack_ticks : (established : Bool) (a : Shown) (point window : ℕ) (wish : AckWish) (now : ℕ)
+    → is_established a.state ≡ established → Ticks a
     → Ticks (on_sack a point window wish now).0
 unfolding on_sack
 sack_ticks true a point window wish now e h =
-    rw e (outcome_ticks (sack_outcome a.sender point) (counted_sack a) point window wish now (established_begins_no_more a.state e)
+    rw e (outcome_ticks (sack_outcome a.sender point) (counted_sack a) point window wish now
+    (established_begins_no_more a.state e)
     (ticks_by a (counted_sack a) (time_by a (counted_sack a) refl refl refl refl refl) h))
 sack_ticks false a point window wish now e h = rw e h
 
@@ -168,12 +198,15 @@ ticks_on : (x : Shown × Flow) → Ticks x.0 → TicksOn x
 ticks_on (b, flows.Next wish) h = h
 ticks_on (b, flows.Fault fault) h = faulty b h
 
-init_ticks : (c : Bool) (a : Shown) (header : CommonHeader) (init : ChunkInit) (wish : AckWish) → is_beginning a.state ≡ c → Ticks a → Ticks (on_init a header init wish).0
+init_ticks : (c : Bool) (a : Shown) (header : CommonHeader) (init : ChunkInit) (wish : AckWish)
+    → is_beginning a.state ≡ c → Ticks a → Ticks (on_init a header init wish).0
 unfolding on_init
-init_ticks true a header init wish e h = rw e (ticks_by a (answered (met a header init)) (time_by a (answered (met a header init)) refl refl refl refl refl) h)
+init_ticks true a header init wish e h = rw e (ticks_by a (answered (met a header init))
+    (time_by a (answered (met a header init)) refl refl refl refl refl) h)
 init_ticks false a header init wish e h = rw e h
 
-waiting_is_open : (s : AssociationState) → is_cookie_wait s ≡ true → (is_closed_state s ≡ false) × (is_beginning s ≡ true)
+waiting_is_open : (s : AssociationState) → is_cookie_wait s ≡ true
+    → (is_closed_state s ≡ false) × (is_beginning s ≡ true)
 waiting_is_open states.Closed e = absurd (false≢true e)
 waiting_is_open states.CookieWait e = (refl, refl)
 waiting_is_open states.CookieEchoed e = absurd (false≢true e)
@@ -194,7 +227,8 @@ echoed_begins states.ShutdownReceived e = absurd (false≢true e)
 echoed_begins states.ShutdownSent e = absurd (false≢true e)
 
 -- in CookieEchoed the timer of INIT is stopped and that of COOKIE ECHO runs
-echo_fits : (s : AssociationState) (f : List InFlight) (t : Timers) (now rto : ℕ) → is_beginning s ≡ true → FitsTimers s f t
+echo_fits : (s : AssociationState) (f : List InFlight) (t : Timers) (now rto : ℕ) → is_beginning s ≡ true
+    → FitsTimers s f t
     → FitsTimers states.CookieEchoed f (started names.T1Cookie now rto (with_stopped names.T1Init t))
 echo_fits s f t now rto b h = record {
   flies = record { timed = λ e _. absurd (false≢true e); none = h.flies.none };
@@ -203,8 +237,10 @@ echo_fits s f t now rto b h = record {
   unsent = λ _. h.unsent b;
 }
 
-echoed_ticks : (o : Option (List ℕ)) (b : Shown) (wish : AckWish) (now : ℕ) → b.failed ≡ false → b.lost ≡ false → is_cookie_wait b.state ≡ true
-    → FitsTimers states.CookieEchoed b.sender.queue.in_flight (started names.T1Cookie now b.estimate.rto b.timers) → TicksOn (echoed o b wish now)
+echoed_ticks : (o : Option (List ℕ)) (b : Shown) (wish : AckWish) (now : ℕ) → b.failed ≡ false → b.lost ≡ false
+    → is_cookie_wait b.state ≡ true
+    → FitsTimers states.CookieEchoed b.sender.queue.in_flight (started names.T1Cookie now b.estimate.rto b.timers)
+    → TicksOn (echoed o b wish now)
 unfolding sends_cookie
 echoed_ticks None b wish now works lost e h = record {
   working = works;
@@ -213,20 +249,25 @@ echoed_ticks None b wish now works lost e h = record {
 }
 echoed_ticks (Some cookie) b wish now works lost e h = record { working = works; not_lost = lost; fits = h }
 
-init_ack_ticks : (waits back : Bool) (a : Shown) (header : CommonHeader) (init : ChunkInit) (wish : AckWish) (now : ℕ) → is_cookie_wait a.state ≡ waits
+init_ack_ticks : (waits back : Bool) (a : Shown) (header : CommonHeader) (init : ChunkInit) (wish : AckWish) (now : ℕ)
+    → is_cookie_wait a.state ≡ waits
     → comes_back a.handshake header ≡ back → Ticks a → TicksOn (on_init_ack a header init wish now)
 unfolding on_init_ack
 init_ack_ticks true true a header init wish now e f h =
     rw (e, f) (echoed_ticks (first_cookie init.params) _ wish now h.working h.not_lost e
     (echo_fits a.state a.sender.queue.in_flight a.timers now a.estimate.rto (waiting_is_open a.state e).1 h.fits))
-init_ack_ticks true false a header init wish now e f h = rw (e, f) (ticks_by a _ (time_by a _ refl refl refl refl refl) h)
+init_ack_ticks true false a header init wish now e f h = rw (e, f)
+    (ticks_by a _ (time_by a _ refl refl refl refl refl) h)
 init_ack_ticks false back a header init wish now e f h = rw e h
 
 -- it is established: neither timer of the handshake runs, and nothing was sent yet
 connected_fits : (s : AssociationState) (f : List InFlight) (t : Timers) → is_beginning s ≡ true → FitsTimers s f t
     → FitsTimers states.Established f (with_stopped names.T1Cookie (with_stopped names.T1Init t))
 connected_fits s f t b h = record {
-  flies = record { timed = λ _ p. absurd (omega (arith, p, ap (λ (z : List InFlight). length z) (h.unsent b))); none = h.flies.none };
+  flies = record {
+    timed = λ _ p. absurd (omega (arith, p, ap (λ (z : List InFlight). length z) (h.unsent b)));
+    none = h.flies.none;
+  };
   inits = record { alone = λ _. refl; timed = λ e. absurd (false≢true e) };
   cookies = record { alone = λ _. refl; timed = λ e. absurd (false≢true e) };
   unsent = λ e. absurd (false≢true e);
@@ -240,17 +281,22 @@ connected_ticks a b h = record {
 }
 
 acknowledges_cookie : (a : Shown) → Ticks a → Ticks (acknowledged_cookie a)
-acknowledges_cookie a h = ticks_by a (acknowledged_cookie a) (time_by a (acknowledged_cookie a) refl refl refl refl refl) h
+acknowledges_cookie a h = ticks_by a (acknowledged_cookie a)
+    (time_by a (acknowledged_cookie a) refl refl refl refl refl) h
 
-cookie_echo_ticks : (issued begins established : Bool) (a : Shown) (cookie : List ℕ) (wish : AckWish) → has_issued a.handshake cookie ≡ issued
-    → is_beginning a.state ≡ begins → is_established a.state ≡ established → Ticks a → Ticks (on_cookie_echo a cookie wish).0
+cookie_echo_ticks : (issued begins established : Bool) (a : Shown) (cookie : List ℕ) (wish : AckWish)
+    → has_issued a.handshake cookie ≡ issued
+    → is_beginning a.state ≡ begins → is_established a.state ≡ established → Ticks a
+    → Ticks (on_cookie_echo a cookie wish).0
 unfolding on_cookie_echo
 cookie_echo_ticks false begins established a cookie wish e f g h = rw e h
-cookie_echo_ticks true true established a cookie wish e f g h = rw (e, f) (acknowledges_cookie (connected a) (connected_ticks a f h))
+cookie_echo_ticks true true established a cookie wish e f g h = rw (e, f)
+    (acknowledges_cookie (connected a) (connected_ticks a f h))
 cookie_echo_ticks true false true a cookie wish e f g h = rw (e, f, g) (acknowledges_cookie a h)
 cookie_echo_ticks true false false a cookie wish e f g h = rw (e, f, g) h
 
-cookie_ack_ticks : (c : Bool) (a : Shown) (wish : AckWish) → is_cookie_echoed a.state ≡ c → Ticks a → Ticks (on_cookie_ack a wish).0
+cookie_ack_ticks : (c : Bool) (a : Shown) (wish : AckWish) → is_cookie_echoed a.state ≡ c → Ticks a
+    → Ticks (on_cookie_ack a wish).0
 unfolding on_cookie_ack
 cookie_ack_ticks true a wish e h = rw e (connected_ticks a (echoed_begins a.state e) h)
 cookie_ack_ticks false a wish e h = rw e h
@@ -259,19 +305,24 @@ information_ticks : (o : Option (List ℕ)) (a : Shown) → Ticks a → Ticks (i
 information_ticks None a h = h
 information_ticks (Some information) a h = ticks_by a _ (time_by a _ refl refl refl refl refl) h
 
-heartbeat_ticks : (a : Shown) (heartbeat : ChunkHeartbeat) (wish : AckWish) → Ticks a → TicksOn (on_heartbeat a heartbeat wish)
+heartbeat_ticks : (a : Shown) (heartbeat : ChunkHeartbeat) (wish : AckWish) → Ticks a
+    → TicksOn (on_heartbeat a heartbeat wish)
 unfolding on_heartbeat
 heartbeat_ticks a heartbeat wish h = information_ticks (information_of heartbeat.params) a h
 
 -- Any chunk
 
-kind_ticks : (header : CommonHeader) (c : Chunk) (a : Shown) (wish : AckWish) (now : ℕ) → Ticks a → TicksOn (dispatched a header c wish now)
-kind_ticks header (chunks.Data piece) a wish now h = ticks_on (on_data a piece wish) (ticks_by a (on_data a piece wish).0 (data_time a piece wish) h)
+kind_ticks : (header : CommonHeader) (c : Chunk) (a : Shown) (wish : AckWish) (now : ℕ) → Ticks a
+    → TicksOn (dispatched a header c wish now)
+kind_ticks header (chunks.Data piece) a wish now h = ticks_on (on_data a piece wish)
+    (ticks_by a (on_data a piece wish).0 (data_time a piece wish) h)
 kind_ticks header (chunks.SelectiveAck k) a wish now h =
     ticks_on (on_sack a k.cumulative_tsn_ack k.advertised_receiver_window_credit wish now)
     (sack_ticks (is_established a.state) a k.cumulative_tsn_ack k.advertised_receiver_window_credit wish now refl h)
-kind_ticks header (chunks.Init x) a wish now h = ticks_on (on_init a header x wish) (init_ticks (is_beginning a.state) a header x wish refl h)
-kind_ticks header (chunks.InitAck x) a wish now h = init_ack_ticks (is_cookie_wait a.state) (comes_back a.handshake header) a header x wish now refl refl h
+kind_ticks header (chunks.Init x) a wish now h = ticks_on (on_init a header x wish)
+    (init_ticks (is_beginning a.state) a header x wish refl h)
+kind_ticks header (chunks.InitAck x) a wish now h = init_ack_ticks (is_cookie_wait a.state)
+    (comes_back a.handshake header) a header x wish now refl refl h
 kind_ticks header (chunks.Heartbeat x) a wish now h = heartbeat_ticks a x wish h
 kind_ticks header (chunks.HeartbeatAck x) a wish now h = faulty a h
 kind_ticks header (chunks.Abort x) a wish now h = faulty a h
@@ -279,19 +330,23 @@ kind_ticks header (chunks.Shutdown x) a wish now h = faulty a h
 kind_ticks header chunks.ShutdownAck a wish now h = faulty a h
 kind_ticks header (chunks.Error x) a wish now h = faulty a h
 kind_ticks header (chunks.CookieEcho x) a wish now h =
-    ticks_on (on_cookie_echo a x wish) (cookie_echo_ticks (has_issued a.handshake x) (is_beginning a.state) (is_established a.state) a x wish refl refl refl h)
-kind_ticks header chunks.CookieAck a wish now h = ticks_on (on_cookie_ack a wish) (cookie_ack_ticks (is_cookie_echoed a.state) a wish refl h)
+    ticks_on (on_cookie_echo a x wish) (cookie_echo_ticks (has_issued a.handshake x) (is_beginning a.state)
+    (is_established a.state) a x wish refl refl refl h)
+kind_ticks header chunks.CookieAck a wish now h = ticks_on (on_cookie_ack a wish)
+    (cookie_ack_ticks (is_cookie_echoed a.state) a wish refl h)
 kind_ticks header chunks.ShutdownComplete a wish now h = faulty a h
 kind_ticks header (chunks.Reconfig x) a wish now h = faulty a h
 kind_ticks header (chunks.ForwardTsn x) a wish now h = faulty a h
 kind_ticks header (chunks.IForwardTsn x) a wish now h = faulty a h
 kind_ticks header (chunks.Other kind flags value) a wish now h = faulty a h
 
-checked_ticks : (r : Result (Unit {0}) Error) (header : CommonHeader) (c : Chunk) (a : Shown) (wish : AckWish) (now : ℕ) → Ticks a → TicksOn (checked_first r a header c wish now)
+checked_ticks : (r : Result (Unit {0}) Error) (header : CommonHeader) (c : Chunk) (a : Shown) (wish : AckWish)
+    (now : ℕ) → Ticks a → TicksOn (checked_first r a header c wish now)
 checked_ticks (Err fault) header c a wish now h = faulty a h
 checked_ticks (Ok done) header c a wish now h = kind_ticks header c a wish now h
 
-chunk_ticks : (header : CommonHeader) (c : Chunk) (a : Shown) (wish : AckWish) (now : ℕ) → Ticks a → TicksOn (on_chunk a header c wish now)
+chunk_ticks : (header : CommonHeader) (c : Chunk) (a : Shown) (wish : AckWish) (now : ℕ) → Ticks a
+    → TicksOn (on_chunk a header c wish now)
 unfolding on_chunk
 chunk_ticks header c a wish now h = checked_ticks (checked_chunk c) header c a wish now h
 
@@ -304,23 +359,38 @@ IsSound a = Ticks a ⊎ AtRest a
 pub closed_rests : (a : Shown) (reason : AssociationError) → AtRest (closed_open a reason)
 closed_rests a reason = record { over = inr refl; closed = λ _. refl; stopped = none_armed a.timers }
 
-fault_rests : (closed : Bool) (b : Shown) (reason : AssociationError) → is_closed_state b.state ≡ closed → IsFaulty b → IsSound (if closed then b else closed_open b reason)
+fault_rests : (closed : Bool) (b : Shown) (reason : AssociationError) → is_closed_state b.state ≡ closed → IsFaulty b
+    → IsSound (if closed then b else closed_open b reason)
 fault_rests true b reason e h = inl (h.if_closed e)
 fault_rests false b reason e h = inr (closed_rests b reason)
 
-goes_on_soundly : (x : Shown × Flow) (more : Shown → AckWish → Shown) → TicksOn x → ((b : Shown) (wish : AckWish) → Ticks b → IsSound (more b wish)) → IsSound (goes_on x more)
+goes_on_soundly : (x : Shown × Flow) (more : Shown → AckWish → Shown) → TicksOn x
+    → ((b : Shown) (wish : AckWish) → Ticks b → IsSound (more b wish)) → IsSound (goes_on x more)
 goes_on_soundly (b, flows.Next wish) more h k = k b wish h
-goes_on_soundly (b, flows.Fault fault) more h k = fault_rests (is_closed_state b.state) b reasons.AssociationClosed refl h
+goes_on_soundly (b, flows.Fault fault) more h k = fault_rests (is_closed_state b.state) b reasons.AssociationClosed
+    refl h
 
 ended_ticks : (wish : AckWish) (a : Shown) (now : ℕ) → Ticks a → Ticks (ended a wish now)
 ended_ticks wishes.None a now h = record { working = h.working; not_lost = h.not_lost; fits = h.fits }
-ended_ticks wishes.Delayed a now h = record { working = h.working; not_lost = h.not_lost; fits = record { flies = h.fits.flies; inits = h.fits.inits; cookies = h.fits.cookies; unsent = h.fits.unsent } }
-ended_ticks wishes.Immediate a now h = record { working = h.working; not_lost = h.not_lost; fits = record { flies = h.fits.flies; inits = h.fits.inits; cookies = h.fits.cookies; unsent = h.fits.unsent } }
+ended_ticks wishes.Delayed a now h = record {
+  working = h.working;
+  not_lost = h.not_lost;
+  fits = record
+      { flies = h.fits.flies; inits = h.fits.inits; cookies = h.fits.cookies; unsent = h.fits.unsent };
+}
+ended_ticks wishes.Immediate a now h = record {
+  working = h.working;
+  not_lost = h.not_lost;
+  fits = record
+      { flies = h.fits.flies; inits = h.fits.inits; cookies = h.fits.cookies; unsent = h.fits.unsent };
+}
 
-chunks_sound : (header : CommonHeader) (cs : List Chunk) (a : Shown) (wish : AckWish) (now : ℕ) → Ticks a → IsSound (after_chunks header cs a wish now)
+chunks_sound : (header : CommonHeader) (cs : List Chunk) (a : Shown) (wish : AckWish) (now : ℕ) → Ticks a
+    → IsSound (after_chunks header cs a wish now)
 chunks_sound header [] a wish now h = inl (ended_ticks wish a now h)
 chunks_sound header (c ∷ cs) a wish now h =
-    goes_on_soundly (on_chunk a header c wish now) (λ b next. after_chunks header cs b next now) (chunk_ticks header c a wish now h)
+    goes_on_soundly (on_chunk a header c wish now) (λ b next. after_chunks header cs b next now)
+    (chunk_ticks header c a wish now h)
     (λ b next k. chunks_sound header cs b next now k)
 
 packet_of_sound : (packet : Option Packet) (a : Shown) (now : ℕ) → Ticks a → IsSound (after_packet_of a packet now)

@@ -106,8 +106,8 @@ abbrev pub IsRun : List Call → List Event → Shown → Shown → Type 0
 IsRun [] told a b = IsRefused told a b
 IsRun (call ∷ calls) told a b = RunsOn call (λ later c. IsRun calls later c b) told a
 
--- An association as a constructor leaves it: it works, no loss waits to be told, no DATA was sent and T3-rtx does not run; the timer
--- of INIT runs in CookieWait alone, and that of COOKIE ECHO in CookieEchoed alone (RFC 4960 section 5.1).
+-- An association as a constructor leaves it: it works, no loss waits to be told, no DATA was sent and T3-rtx does not run;
+-- the timer of INIT runs in CookieWait alone, and that of COOKIE ECHO in CookieEchoed alone (RFC 4960 section 5.1).
 pub record IsFresh (a : Shown) : Type 0 where
   pub working : a.failed ≡ false
   pub not_lost : a.lost ≡ false

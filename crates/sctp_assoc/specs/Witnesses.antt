@@ -1,4 +1,4 @@
--- What holds of one side after every list of calls, beside the equations of each: a loss is told once, and timers run where they should.
+-- What holds of one side after every list of calls: a loss is told once, and timers run where they should.
 use Rattle.std.specs.Prelude.{◌≡◌, ◌⊎◌, ◌<◌, ℕ, ◌+◌, ◌≤◌, Bool, true, false, List, [], if◌then◌else◌, length, Option, None}
 use Rattle.std.specs.declared.net.ip_addr.IpAddr.{IpAddr}
 use Rattle.std.specs.declared.net.socket_addr.SocketAddr.{SocketAddr}
@@ -20,16 +20,19 @@ use Rattle.sctp_assoc.specs.Shown.{Shown}
 
 -- Both constructors leave a fresh association.
 abbrev pub CreatedSidesAreFresh : Type 0
-CreatedSidesAreFresh = (of_server : Option ServerConfig) (config : Settings) (size tag initial_tsn : ℕ) (cookie : List ℕ) (remote_addr : SocketAddr) (local_ip : Option IpAddr) (now : ℕ)
+CreatedSidesAreFresh = (of_server : Option ServerConfig) (config : Settings) (size tag initial_tsn : ℕ)
+    (cookie : List ℕ) (remote_addr : SocketAddr) (local_ip : Option IpAddr) (now : ℕ)
     → IsFresh (created of_server config size tag initial_tsn cookie remote_addr local_ip now)
 
 abbrev pub JoinedSidesAreFresh : Type 0
-JoinedSidesAreFresh = (config : Settings) (size : ℕ) (remote_addr : SocketAddr) (local_ip : Option IpAddr) (own peer : ChunkInit)
+JoinedSidesAreFresh = (config : Settings) (size : ℕ) (remote_addr : SocketAddr) (local_ip : Option IpAddr)
+    (own peer : ChunkInit)
     → IsFresh (joined config size remote_addr local_ip own peer)
 
 -- this holds of the events that each list of calls told, and of the association that it left of a fresh one
 abbrev pub AfterEveryRun : (List Event → Shown → Type 0) → Type 0
-AfterEveryRun Holds = (calls : List Call) (told : List Event) (a b : Shown) → IsFresh a → IsRun calls told a b → Holds told b
+AfterEveryRun Holds = (calls : List Call) (told : List Event) (a b : Shown) → IsFresh a → IsRun calls told a b
+    → Holds told b
 
 -- this holds of the association
 abbrev pub OfEachSide : (Shown → Type 0) → Type 0
@@ -41,8 +44,8 @@ OfEachSide Holds = AfterEveryRun (λ told b. Holds b)
 abbrev pub loss_count : Bool → ℕ
 loss_count lost = if lost then 1 else 0
 
--- The losses that were told, and those that wait to be told, are one where the association was lost, else none. In one that failed what
--- waits is not told any more.
+-- The losses that were told, and those that wait to be told, are one where the association was lost, else none. In one that
+-- failed what waits is not told any more.
 pub record TellsOneLoss (told : List Event) (b : Shown) : Type 0 where
   pub told_at_most : losses told ≤ loss_count b.lost
   pub in_all : b.failed ≡ false → losses told + losses b.events ≡ loss_count b.lost
@@ -61,28 +64,32 @@ has_given_up timer t = passes (timer_at timer t).retries (limit_of timer t)
 abbrev pub IsTimed : Timer → Timers → Type 0
 IsTimed timer t = (is_armed timer t ≡ true) ⊎ (has_given_up timer t ≡ true)
 
--- In Established the retransmission timer runs as long as DATA is in flight, unless its retries passed their limit: what was lost
--- on the way goes out again (RFC 4960 section 6.3.2, rules R1 and R3).
+-- In Established the retransmission timer runs as long as DATA is in flight, unless its retries passed their limit: what was
+-- lost on the way goes out again (RFC 4960 section 6.3.2, rules R1 and R3).
 abbrev pub OutstandingDataIsTimed : Type 0
-OutstandingDataIsTimed = OfEachSide (λ b. b.failed ≡ false → is_established b.state ≡ true → 0 < length b.sender.queue.in_flight → IsTimed names.T3RTX b.timers)
+OutstandingDataIsTimed = OfEachSide (λ b. b.failed ≡ false → is_established b.state ≡ true
+    → 0 < length b.sender.queue.in_flight → IsTimed names.T3RTX b.timers)
 
 -- With nothing in flight it does not run, in any state (RFC 4960 section 6.3.2, rule R2).
 abbrev pub NothingInFlightIsNotTimed : Type 0
 NothingInFlightIsNotTimed = OfEachSide (λ b. b.sender.queue.in_flight ≡ [] → is_armed names.T3RTX b.timers ≡ false)
 
--- INIT and COOKIE ECHO are timed while they wait for their answer, unless the retries passed their limit (RFC 4960 section 5.1).
+-- INIT and COOKIE ECHO are timed while they wait for their answer, unless the retries passed their limit (RFC 4960 section
+-- 5.1).
 abbrev pub SentInitsAreTimed : Type 0
 SentInitsAreTimed = OfEachSide (λ b. b.failed ≡ false → is_cookie_wait b.state ≡ true → IsTimed names.T1Init b.timers)
 
 abbrev pub EchoedCookiesAreTimed : Type 0
-EchoedCookiesAreTimed = OfEachSide (λ b. b.failed ≡ false → is_cookie_echoed b.state ≡ true → IsTimed names.T1Cookie b.timers)
+EchoedCookiesAreTimed = OfEachSide (λ b. b.failed ≡ false → is_cookie_echoed b.state ≡ true
+    → IsTimed names.T1Cookie b.timers)
 
 -- The timer of INIT runs in CookieWait alone, and that of COOKIE ECHO in CookieEchoed alone (RFC 4960 section 5.1).
 abbrev pub InitsAreTimedInCookieWaitAlone : Type 0
 InitsAreTimedInCookieWaitAlone = OfEachSide (λ b. is_armed names.T1Init b.timers ≡ true → is_cookie_wait b.state ≡ true)
 
 abbrev pub CookiesAreTimedInCookieEchoedAlone : Type 0
-CookiesAreTimedInCookieEchoedAlone = OfEachSide (λ b. is_armed names.T1Cookie b.timers ≡ true → is_cookie_echoed b.state ≡ true)
+CookiesAreTimedInCookieEchoedAlone = OfEachSide (λ b. is_armed names.T1Cookie b.timers ≡ true
+    → is_cookie_echoed b.state ≡ true)
 
 -- neither timer of the handshake runs
 abbrev pub IsHandshakeUntimed : Timers → Type 0
@@ -103,7 +110,8 @@ abbrev pub FailuresStopTheTimers : Type 0
 FailuresStopTheTimers = (a b : Shown) → FailsFrom a b → WaitsForNothing b
 
 abbrev pub LossesStopTheTimers : Type 0
-LossesStopTheTimers = (a : Shown) (reason : AssociationError) → is_closed_state a.state ≡ false → WaitsForNothing (closed_by a reason)
+LossesStopTheTimers = (a : Shown) (reason : AssociationError) → is_closed_state a.state ≡ false
+    → WaitsForNothing (closed_by a reason)
 
 -- From then on no timer runs: a side that failed or was lost waits for no moment, whatever is called.
 abbrev pub FailedSidesWaitForNothing : Type 0
