@@ -15,6 +15,7 @@ use Rattle.sctp_receive_queues.specs.Reassembly as reassembly
 use Rattle.sctp_queues.specs.Stream.{Stream, fresh_stream}
 use Rattle.sctp_queues.specs.Streams.{StreamMap, bytes_waiting, generation_left, made, refusal_at, refusal_in, stream_at}
 use Rattle.sctp_inbound.specs.declared.receiver.AckWish.{AckWish}
+use Rattle.sctp_inbound.specs.declared.receiver.Receiver.{Receiver}
 use Rattle.sctp_inbound.specs.Receiver.{credit_of, is_next_after}
 use Rattle.sctp_model.specs.Serial.{tsn}
 use Rattle.sctp_assoc.specs.declared.inbound.Flow.{Flow}
@@ -69,10 +70,17 @@ made_waits m id first free = waiting_beside m.by_id id 0 (fresh_stream id m.next
 
 -- The stream of DATA that is next.
 
+-- the receive buffer has room beside so many bytes that wait
+abbrev has_room_beside : Receiver → ℕ → Bool
+has_room_beside r waiting = ltb 0 (credit_of r waiting)
+
+abbrev has_room : Shown → Bool
+has_room a = has_room_beside a.receiver (bytes_waiting a.streams)
+
 -- its stream was found or made: then it has room and holds what it did
 record Found (a : Shown) (piece : ChunkPayloadData) (x : Shown × Bool) : Type 0 where
   found : x.1 ≡ (is_some (stream_at a.streams piece.stream_identifier) || generation_left a.streams)
-  room : ltb 0 (credit_of x.0.receiver (bytes_waiting x.0.streams)) ≡ ltb 0 (credit_of a.receiver (bytes_waiting a.streams))
+  room : has_room x.0 ≡ has_room a
   refused : x.1 ≡ true → refusal_in x.0.streams piece.stream_identifier piece (receive_limit x.0) ≡ refusal_of a piece
 
 found_if : (o : Option Stream) (left : Bool) (a : Shown) (piece : ChunkPayloadData)
@@ -94,7 +102,7 @@ found_if None true a piece e f =
     at_made a.streams id number id kinds.Unknown e ∙ cond-true (eqb id id) _ _ (eq-eqb id id refl) in
     rw (there, f) (record {
       found = rw (there, f) refl;
-      room = ap (λ (n : ℕ). ltb 0 (credit_of a.receiver n)) (made_waits a.streams piece.stream_identifier a.sender.queue.next_message_id e);
+      room = ap (λ (n : ℕ). has_room_beside a.receiver n) (made_waits a.streams piece.stream_identifier a.sender.queue.next_message_id e);
       refused = λ b. ap (λ (o : Option Stream). refusal_at o piece (receive_limit a)) made_at ∙ sym (ap (λ (o : Option Stream). refusal (held_by o) piece (receive_limit a)) e);
     })
 
@@ -106,9 +114,6 @@ stream_is_found a piece = found_if _ _ a piece refl refl
 
 abbrev is_found : Shown → ChunkPayloadData → Bool
 is_found a piece = is_some (stream_at a.streams piece.stream_identifier) || generation_left a.streams
-
-abbrev has_room : Shown → Bool
-has_room a = ltb 0 (credit_of a.receiver (bytes_waiting a.streams))
 
 abbrev is_next : Shown → ChunkPayloadData → Bool
 is_next a piece = is_next_after a.receiver piece.tsn && is_whole piece

@@ -1,6 +1,6 @@
 -- What closes an association: the chunks that are faults, by what stands in them and in the state (RFC 4960 sections
 -- 3.3, 5 and 6.2.1).
-use Rattle.std.specs.Prelude.{◌≡◌, ◌≢◌, ◌⊎◌, ◌↔◌, ◌≤◌, ℕ, zero, suc, ◌+◌, ◌%◌, ◌^◌, Bool, true, false, List, [], ◌∷◌, length, slice_get, Option, Some, None, Result, Ok, Err, ⊤}
+use Rattle.std.specs.Prelude.{◌≡◌, ◌≢◌, ◌⊎◌, ◌↔◌, ◌≤◌, ℕ, zero, suc, ◌+◌, ◌%◌, ◌^◌, true, false, List, [], ◌∷◌, length, slice_get, Some, None, Err, ⊤}
 use Rattle.sctp_wire_types.specs.Checks.{checked_chunk}
 use Rattle.sctp_wire_types.specs.Serial.{tsn_gt}
 use Rattle.sctp_wire_types.specs.declared.chunk.Chunk.{Chunk}
