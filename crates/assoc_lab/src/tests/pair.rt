@@ -1,9 +1,10 @@
 // A run of a pair, and what its readers show.
 use crate::line::{Line, parse};
-use crate::setting::snapped;
+use crate::setting::{address, snapped, token};
 use crate::show::show;
-use sctp_assoc::Association;
-use sctp_pair::{Reply, Side2, Step};
+use crate::tests::association::standing;
+use sctp_assoc::{Association, AssociationState, Error, TransportConfig};
+use sctp_pair::{Pair, Reply, Side2, Step};
 use std::alloc::{AllocError, Global};
 use std::test::Fail;
 
@@ -64,5 +65,57 @@ fn a_run_gives_replies_packets_and_counts(rt: HostRuntime) -> Result<(), Fail> {
     assert_eq!(rt; counts(pair.association(Side2::A)), [0, 1, 0, 0, 0]);
     assert_eq!(rt; counts(pair.association(Side2::B)), [1, 0, 0, 1, 0]);
     assert_eq!(rt; pair.association(Side2::B).point(), 100);
+    Ok(())
+}
+
+/// One message of two bytes from A, which B reads.
+static SHORT_STEPS: &str = "open A 1 53\nwrite A 1 6869\nsend A 0\ndeliver B 0 0\nread B 1\n";
+
+static SHORT_REPLIES: &str = "ok\nwrote 2\npackets 0 1\nok\nmessage 53 6869\nrefused 9\n";
+
+/// Where B closes instead, its stream is not live when it is read.
+static CLOSED_REPLIES: &str = "ok\nwrote 2\npackets 0 1\nok\nrefused 9\nrefused 9\n";
+
+// A pair whose sides take messages of at most `limit` bytes.
+fn limited(alloc: Global, limit: u32) -> Result<Pair, Error> {
+    let config = TransportConfig::default().with_max_receive_message_size(limit);
+    let token_a = token(alloc, &config, 1, 100)?;
+    let token_b = token(alloc, &config, 2, 500)?;
+    Pair::snap(
+        alloc,
+        &config,
+        &config,
+        1200,
+        1200,
+        &token_a,
+        &token_b,
+        address(2),
+        address(1),
+    )
+}
+
+// What the short message is answered under this limit, and B's state behind it.
+fn received(alloc: Global, limit: u32) -> Result<(String, AssociationState), Error> {
+    let mut pair = limited(alloc, limit)?;
+    let steps = steps_of(alloc, SHORT_STEPS)?;
+    let replies = pair.run(steps.as_slice())?;
+    let text = text_of(alloc, replies)?;
+    let (state, _) = standing(pair.association(Side2::B));
+    Ok((text, state))
+}
+
+#[test]
+fn a_message_at_the_limit_is_read(rt: HostRuntime) -> Result<(), Fail> {
+    let (text, state) = received(rt.alloc(), 2)?;
+    assert_eq!(rt; text.as_str(), SHORT_REPLIES);
+    assert_eq!(rt; state, AssociationState::Established);
+    Ok(())
+}
+
+#[test]
+fn a_message_past_the_limit_closes_its_receiver(rt: HostRuntime) -> Result<(), Fail> {
+    let (text, state) = received(rt.alloc(), 1)?;
+    assert_eq!(rt; text.as_str(), CLOSED_REPLIES);
+    assert_eq!(rt; state, AssociationState::Closed);
     Ok(())
 }
