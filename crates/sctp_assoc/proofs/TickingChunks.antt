@@ -1,5 +1,5 @@
 -- The chunks of a packet keep the timers where they should run, and a fault stops them all.
-use Rattle.std.proofs.Common.{◌≡◌, refl, sym, ap, ◌∙◌, ◌⊎◌, inl, inr, ℕ, zero, suc, ◌<◌, ◌-◌, ◌^◌, arith, Bool, true, false, ltb, ◌&&◌, if◌then◌else◌, List, [], ◌∷◌, length, Option, Some, None, is_some, Result, Ok, Err}
+use Rattle.std.proofs.Common.{◌≡◌, refl, sym, ap, ◌∙◌, ◌⊎◌, inl, inr, ℕ, zero, suc, ◌<◌, arith, Bool, true, false, ltb, ◌&&◌, if◌then◌else◌, List, [], ◌∷◌, length, Option, Some, None, is_some, Result, Ok, Err}
 use Rattle.std.proofs.lemmas.Bool.{false≢true, ltb-false, ltb-true, true≢false}
 use Rattle.sctp_wire_types.specs.declared.chunk.Chunk.{Chunk}
 use Rattle.sctp_wire_types.specs.declared.chunk.Chunk.TheVariants as chunks
@@ -52,7 +52,7 @@ told_time false true a id e = rw e (time_by a _ refl refl refl refl refl)
 told_time readable false a id e = time_by a _ refl refl refl refl refl
 
 taken_time : (refusal : Option Error) (a : Shown) (piece : ChunkPayloadData)
-    → refusal_in a.streams piece.stream_identifier piece (2 ^ 32 - 1) ≡ refusal → IsSameTime a (taken_in a piece).0
+    → refusal_in a.streams piece.stream_identifier piece a.receiver.max_receive_message_size ≡ refusal → IsSameTime a (taken_in a piece).0
 unfolding taken_in
 taken_time (Some fault) a piece e = rw e (same_time a)
 taken_time None a piece e =
@@ -72,7 +72,7 @@ next_data_time : (there credit : Bool) (a : Shown) (piece : ChunkPayloadData) (w
 next_data_time false credit a piece wish e = same_time a
 next_data_time true true a piece wish e =
     rw (e, asked_time (taken_in a piece) piece wish)
-    (taken_time (refusal_in a.streams piece.stream_identifier piece (2 ^ 32 - 1)) a piece refl)
+    (taken_time (refusal_in a.streams piece.stream_identifier piece a.receiver.max_receive_message_size) a piece refl)
 next_data_time true false a piece wish e = rw e (same_time a)
 
 found_next_time : (x : Shown × Bool) (a : Shown) (piece : ChunkPayloadData) (wish : AckWish) → IsSameTime a x.0
