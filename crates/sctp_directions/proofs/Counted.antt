@@ -1,4 +1,4 @@
--- Where few messages were accepted, the numbers of a direction stay within their limits.
+-- Where few pieces were accepted, the numbers of a direction stay within their limits.
 use Rattle.std.proofs.Common.{◌≡◌, refl, sym, ap, ◌∙◌, subst, ⊎_elim, ℕ, zero, suc, ◌+◌, ◌<◌, ◌≤◌, arith, Bool, true, false, eqb, ◌||◌, cond, List, [], ◌∷◌, drop, length}
 use Rattle.std.specs.List.{sum_by}
 use Rattle.std.proofs.lemmas.Bool.{cases_Bool, cases_eq, eq-eqb, eqb-true, false≢true}
@@ -9,9 +9,10 @@ use Rattle.sctp_model.specs.Packets.{mem}
 use Rattle.sctp_model.specs.Machine.{Direction}
 use Rattle.sctp_model.specs.Invariants.{Invariant}
 use Rattle.sctp_model.specs.Safe.{AreDistinct, read_end}
-use Rattle.sctp_directions.specs.Counted.{HasAccepted}
+use Rattle.sctp_directions.specs.Counted.{HasAccepted, all_pieces}
 use Rattle.sctp_directions.specs.Laws.{AcceptedMessagesAreCounted, FewMessagesStayWithin, NothingIsAcceptedAtFirst}
 use Rattle.sctp_directions.specs.Plain.{IsPlain, count_below}
+use Rattle.sctp_directions.proofs.Pieces.{messages_have_pieces}
 
 -- Sums over streams
 
@@ -85,7 +86,11 @@ offsets_counted p xs known (suc o) l =
     let more = one_more (λ (s : ℕ). count_below p s o) (λ (s : ℕ). count_below p s (suc o)) xs (place_at p o).stream (known o (omega arith)) (λ s. count_step p s o) (count_here p o) in
     omega arith
 
--- no more offsets are assigned than messages were accepted
+-- a stream has a piece for each of its messages, at least
+stream_pieces : (w : Direction) (s : ℕ) → Invariant w → length (w.sender.plan.accepted s) ≤ all_pieces w.sender.plan.size (w.sender.plan.accepted s)
+stream_pieces w s inv = messages_have_pieces w.sender.plan.size (w.sender.plan.accepted s) inv.planned.size (inv.planned.filled s)
+
+-- no more offsets are assigned than pieces were accepted
 places_counted : (n : ℕ) (w : Direction) → HasAccepted n w → Invariant w → IsPlain w → length w.sender.plan.places ≤ n
 places_counted n w a inv plain =
     let p = w.sender.plan in
@@ -94,6 +99,8 @@ places_counted n w a inv plain =
     let counted = offsets_counted w.sender.plan a.streams known (length w.sender.plan.places) (omega arith) in
     let accepted = sum_below (λ (s : ℕ). count_below w.sender.plan s (length w.sender.plan.places)) (λ (s : ℕ). length (w.sender.plan.accepted s)) a.streams
     (λ s. let e = plain.next s in let l = inv.sending.within s in omega arith) in
+    let pieces = sum_below (λ (s : ℕ). length (w.sender.plan.accepted s)) (λ (s : ℕ). all_pieces w.sender.plan.size (w.sender.plan.accepted s)) a.streams
+    (λ s. stream_pieces w s inv) in
     let total = a.total in
     omega arith
 
@@ -106,10 +113,11 @@ ordered_below (m ∷ ms) = ⊎_elim
     (λ (e : m.ordered ≡ false). let a = ap (λ (c : Bool). cond c 1 0 + count_ordered ms) e in let b = ordered_below ms in omega (arith, a))
     (cases_Bool m.ordered)
 
-stream_counted : (n : ℕ) (w : Direction) (s : ℕ) → HasAccepted n w → length (w.sender.plan.accepted s) ≤ n
-stream_counted n w s a = ⊎_elim
+stream_counted : (n : ℕ) (w : Direction) (s : ℕ) → HasAccepted n w → Invariant w → length (w.sender.plan.accepted s) ≤ n
+stream_counted n w s a inv = ⊎_elim
     (λ (m : mem s a.streams ≡ true).
-    let one = one_below (λ (t : ℕ). length (w.sender.plan.accepted t)) a.streams s m in
+    let one = one_below (λ (t : ℕ). all_pieces w.sender.plan.size (w.sender.plan.accepted t)) a.streams s m in
+    let pieces = stream_pieces w s inv in
     let total = a.total in
     omega arith)
     (λ (m : mem s a.streams ≡ false). let e = ap (λ (ms : List Message). length ms) (a.others s m) in omega (arith, e))
@@ -122,13 +130,13 @@ few_messages_stay_within n w few a inv plain =
       offsets = omega arith;
       flight = omega arith;
       unread = λ s.
-          let all = stream_counted n w s a in
+          let all = stream_counted n w s a inv in
           let rest = ordered_below (drop (read_end w.sender.plan 0 (w.reads s)) (w.sender.plan.accepted s)) in
           let short = length-drop (read_end w.sender.plan 0 (w.reads s)) (w.sender.plan.accepted s) in
           omega arith;
     }
 
--- More messages of one stream
+-- More pieces of one stream
 
 sum_same : (f g : ℕ → ℕ) (xs : List ℕ) (t : ℕ) → mem t xs ≡ false → ((s : ℕ) → (s ≡ t → ⊥) → g s ≡ f s) → sum_by g xs ≡ sum_by f xs
 sum_same f g [] t m same = refl
@@ -159,31 +167,39 @@ sum_grown f g (x ∷ xs) t k (fresh, once) same more = ⊎_elim
     omega (arith, here))
     (cases_eq x t)
 
+-- how many pieces a stream of w has
+abbrev pieces_on : Direction → ℕ → ℕ
+pieces_on w s = all_pieces w.sender.plan.size (w.sender.plan.accepted s)
+
 pub accepted_messages_are_counted : AcceptedMessagesAreCounted
-accepted_messages_are_counted n k id w v same more a = ⊎_elim
+accepted_messages_are_counted n k id w v size same more a = ⊎_elim
     (λ (m : mem id a.streams ≡ true). record {
       streams = a.streams;
       once = a.once;
       others = λ s none. same s (λ (e : s ≡ id). false≢true (sym none ∙ ap (λ z. mem z a.streams) e ∙ m)) ∙ a.others s none;
-      total = (let grown = sum_grown (λ (s : ℕ). length (w.sender.plan.accepted s)) (λ (s : ℕ). length (v.sender.plan.accepted s)) a.streams id k a.once
-          (λ s ne. ap (λ (ms : List Message). length ms) (same s ne)) more in let total = a.total in omega arith);
+      total = (let grown = sum_grown (λ (s : ℕ). pieces_on w s) (λ (s : ℕ). pieces_on v s) a.streams id k a.once as_before added in
+          let total = a.total in omega arith);
     })
-    (λ (m : mem id a.streams ≡ false).
-    let f : ℕ → ℕ = λ s. length (w.sender.plan.accepted s) in
-    let g : ℕ → ℕ = λ s. length (v.sender.plan.accepted s) in
-    record {
+    (λ (m : mem id a.streams ≡ false). record {
       streams = id ∷ a.streams;
       once = (m, a.once);
       others = λ s none. ⊎_elim
           (λ (e : eqb id s ≡ true). absurd (false≢true (sym none ∙ ap (λ z. z || mem s a.streams) e)))
           (λ (e : eqb id s ≡ false). same s (λ (q : s ≡ id). false≢true (sym e ∙ eq-eqb id s (sym q))) ∙ a.others s (subst (λ z. (z || mem s a.streams) ≡ false) e none))
           (cases_Bool (eqb id s));
-      total = (let here = ap (λ (ms : List Message). length ms) (a.others id m) in
-          let rest = sum_same (λ (s : ℕ). length (w.sender.plan.accepted s)) (λ (s : ℕ). length (v.sender.plan.accepted s)) a.streams id m
-          (λ s ne. ap (λ (ms : List Message). length ms) (same s ne)) in
-          let both = sum_by-cons (λ (s : ℕ). length (v.sender.plan.accepted s)) id a.streams in let total = a.total in omega (arith, more));
+      total = (let here : pieces_on w id ≡ 0 = ap (λ (ms : List Message). all_pieces w.sender.plan.size ms) (a.others id m) in
+          let rest = sum_same (λ (s : ℕ). pieces_on w s) (λ (s : ℕ). pieces_on v s) a.streams id m as_before in
+          let both = sum_by-cons (λ (s : ℕ). pieces_on v s) id a.streams in
+          let total = a.total in
+          omega (arith, added));
     })
     (cases_Bool (mem id a.streams))
+  where
+    as_before : (s : ℕ) → (s ≡ id → ⊥) → pieces_on v s ≡ pieces_on w s
+    as_before s ne = ap (λ (z : ℕ). all_pieces z (v.sender.plan.accepted s)) size ∙ ap (λ (ms : List Message). all_pieces w.sender.plan.size ms) (same s ne)
+
+    added : pieces_on v id ≤ pieces_on w id + k
+    added = subst (λ (z : ℕ). all_pieces z (v.sender.plan.accepted id) ≤ pieces_on w id + k) (sym size) more
 
 pub nothing_is_accepted_at_first : NothingIsAcceptedAtFirst
 nothing_is_accepted_at_first size = record { streams = []; once = tt; others = λ s none. refl; total = omega arith }

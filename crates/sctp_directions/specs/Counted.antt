@@ -1,13 +1,22 @@
--- How many messages were accepted in a direction, over all of its streams.
-use Rattle.std.specs.Prelude.{◌≡◌, ℕ, ◌≤◌, false, List, [], length}
+-- How many pieces were accepted in a direction, over all of its streams: those into which its messages are cut.
+use Rattle.std.specs.Prelude.{◌≡◌, ℕ, ◌+◌, ◌-◌, ◌/◌, ◌≤◌, false, List, [], length}
 use Rattle.std.specs.List.{sum_by}
+use Rattle.sctp_model.specs.Messages.{Message}
 use Rattle.sctp_model.specs.Packets.{mem}
 use Rattle.sctp_model.specs.Machine.{Direction}
 use Rattle.sctp_model.specs.Safe.{AreDistinct}
 
--- At most n messages were accepted: so many in all on these streams, and none on any other.
+-- the pieces of a message of so many bytes: these over the payload size, rounded up (RFC 4960 section 6.9)
+abbrev pub pieces_in : ℕ → ℕ → ℕ
+pieces_in size bytes = (bytes + size - 1) / size
+
+-- the pieces of all these messages
+abbrev pub all_pieces : ℕ → List Message → ℕ
+all_pieces size ms = sum_by (λ (m : Message). pieces_in size (length m.bytes)) ms
+
+-- At most n pieces were accepted: the messages of these streams have so many in all, and there is none on any other.
 pub record HasAccepted (n : ℕ) (w : Direction) : Type 0 where
   pub streams : List ℕ
   pub once : AreDistinct streams
   pub others : (s : ℕ) → mem s streams ≡ false → w.sender.plan.accepted s ≡ []
-  pub total : sum_by (λ (s : ℕ). length (w.sender.plan.accepted s)) streams ≤ n
+  pub total : sum_by (λ (s : ℕ). all_pieces w.sender.plan.size (w.sender.plan.accepted s)) streams ≤ n

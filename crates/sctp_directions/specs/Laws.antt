@@ -1,5 +1,5 @@
 -- The laws of an association between its directions: each thing that it does to them is an event of the model.
-use Rattle.std.specs.Prelude.{◌≡◌, ◌⊎◌, ℕ, ◌+◌, ◌<◌, ◌≤◌, ◌%◌, ◌^◌, true, false, List, [], ◌∷◌, ◌++◌, if◌then◌else◌, length, slice_get, map, ◌==◌, Some, None, Ok, ⊤}
+use Rattle.std.specs.Prelude.{◌≡◌, ◌⊎◌, ℕ, ◌+◌, ◌*◌, ◌<◌, ◌≤◌, ◌%◌, ◌^◌, true, false, List, [], ◌∷◌, ◌++◌, if◌then◌else◌, length, slice_get, map, ◌==◌, Some, None, Ok, ⊤}
 use Rattle.std.specs.List.{AllByRecursion}
 use Rattle.sctp_wire_types.specs.declared.chunk.ChunkPayloadData.{ChunkPayloadData}
 use Rattle.sctp_wire_types.specs.declared.ids.PayloadProtocolIdentifier.{PayloadProtocolIdentifier}
@@ -17,7 +17,7 @@ use Rattle.sctp_model.specs.Safe.{IsWithin, letter_read}
 use Rattle.sctp_assoc.specs.Acts.{Act, Can, History, Parts, data_given, done, done_all, parts, tsn_before}
 use Rattle.sctp_assoc.specs.Calls.{buffered_of, ready_messages}
 use Rattle.sctp_assoc.specs.Shown.{Shown}
-use Rattle.sctp_directions.specs.Counted.{HasAccepted}
+use Rattle.sctp_directions.specs.Counted.{HasAccepted, all_pieces, pieces_in}
 use Rattle.sctp_directions.specs.Events.{Accepts, Assigns, Brings, GivesAMessage, IsAtReceiver, IsAtSender, IsPlainEvent, IsReceived, IsSentOn, KeepsWithin}
 use Rattle.sctp_directions.specs.Plain.{IsPlain, IsSimple}
 use Rattle.sctp_directions.specs.Said.{IsGiven, IsMade, IsSaid}
@@ -189,18 +189,27 @@ PlainEventsKeepItPlain = (w : Direction) (e : Event) → IsPlainEvent w e → Is
 abbrev pub EventsKeepTheLimits : Type 0
 EventsKeepTheLimits = (w : Direction) (e : Event) → KeepsWithin e → IsWithin w → IsWithin (happens w e)
 
--- Where fewer than 16,384 messages were accepted in a plain direction that has the invariant, it is within the limits.
+-- A message has the pieces whose first byte lies within it, as `IsWhole` counts them; one that fits a payload has one piece.
+abbrev pub PiecesAreCounted : Type 0
+PiecesAreCounted = (size bytes k : ℕ) → 0 < size → (k < pieces_in size bytes → size * k < bytes) × (size * k < bytes → k < pieces_in size bytes)
+
+abbrev pub ShortMessagesAreOnePiece : Type 0
+ShortMessagesAreOnePiece = (size bytes : ℕ) → 0 < bytes → bytes ≤ size → pieces_in size bytes ≡ 1
+
+-- Where fewer than 16,384 pieces were accepted in a plain direction that has the invariant, it is within the limits.
 abbrev pub FewMessagesStayWithin : Type 0
 FewMessagesStayWithin = (n : ℕ) (w : Direction) → n < 16384 → HasAccepted n w → Invariant w → IsPlain w → IsWithin w
 
--- A direction in which nothing happened has no message, and one in which one stream has at most k messages more, and the others are as
--- they were, has at most k more.
+-- A direction in which nothing happened has no piece, and one in which the messages of one stream have at most k pieces more, and the
+-- others are as they were, has at most k more.
 abbrev pub NothingIsAcceptedAtFirst : Type 0
 NothingIsAcceptedAtFirst = (size : ℕ) → HasAccepted 0 (fresh size)
 
 abbrev pub AcceptedMessagesAreCounted : Type 0
-AcceptedMessagesAreCounted = (n k id : ℕ) (w v : Direction) → ((s : ℕ) → (s ≡ id → ⊥) → v.sender.plan.accepted s ≡ w.sender.plan.accepted s)
-    → length (v.sender.plan.accepted id) ≤ length (w.sender.plan.accepted id) + k → HasAccepted n w → HasAccepted (n + k) v
+AcceptedMessagesAreCounted = (n k id : ℕ) (w v : Direction) → v.sender.plan.size ≡ w.sender.plan.size
+    → ((s : ℕ) → (s ≡ id → ⊥) → v.sender.plan.accepted s ≡ w.sender.plan.accepted s)
+    → all_pieces w.sender.plan.size (v.sender.plan.accepted id) ≤ all_pieces w.sender.plan.size (w.sender.plan.accepted id) + k
+    → HasAccepted n w → HasAccepted (n + k) v
 
 -- A direction in which nothing happened is plain.
 abbrev pub FreshDirectionsArePlain : Type 0

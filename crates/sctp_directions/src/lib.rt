@@ -2,7 +2,7 @@
 //! runs here; each empty function carries a law that is proved.
 #![tactic(auto)]
 
-ghost use Rattle.sctp_directions.specs.Laws.{AcceptedMessagesAreCounted, AcknowledgementsAreAlike, ActsKeepTheInitialTsns, ClosedReceiversAreNotOpen, EventsKeepTheLimits, FewMessagesStayWithin, FreshDirectionsArePlain, MarksAreNoEvents, MeetingsAreNoEvents, NothingIsAcceptedAtFirst, OnlyBeginningsAssign, OnlyReadsGiveMessages, OnlyWhatIsBroughtIsTakenIn, OnlyWritesAccept, OpenedStreamsAreAlike, OwnActsLeaveWhatComes, PiecesAreGiven, PlainEventsKeepItPlain, ReadsAreAlike, ReadyMessagesAreAlike, ReceiversEventsAreReceived, ReportsNameThePoint, SacksMeanTheSame, SendersEventsAreSent, SendersEventsKeepTheInvariant, SendersEventsLeaveWhatComes, SentPiecesBegin, TheSameIsReady, WhatComesLeavesItsOwn, WhatIsReleasedIsNotBuffered, WhatIsTakenInComes, WritesAreAccepted, WritesAreAcceptedLast};
+ghost use Rattle.sctp_directions.specs.Laws.{AcceptedMessagesAreCounted, AcknowledgementsAreAlike, ActsKeepTheInitialTsns, ClosedReceiversAreNotOpen, EventsKeepTheLimits, FewMessagesStayWithin, FreshDirectionsArePlain, MarksAreNoEvents, MeetingsAreNoEvents, NothingIsAcceptedAtFirst, OnlyBeginningsAssign, OnlyReadsGiveMessages, OnlyWhatIsBroughtIsTakenIn, OnlyWritesAccept, OpenedStreamsAreAlike, OwnActsLeaveWhatComes, PiecesAreCounted, PiecesAreGiven, PlainEventsKeepItPlain, ReadsAreAlike, ReadyMessagesAreAlike, ReceiversEventsAreReceived, ReportsNameThePoint, SacksMeanTheSame, SendersEventsAreSent, SendersEventsKeepTheInvariant, SendersEventsLeaveWhatComes, SentPiecesBegin, ShortMessagesAreOnePiece, TheSameIsReady, WhatComesLeavesItsOwn, WhatIsReleasedIsNotBuffered, WhatIsTakenInComes, WritesAreAccepted, WritesAreAcceptedLast};
 
 /// What an association writes, sends for the first time or again, marks and finds acknowledged happens at the sender of its
 /// direction, and leaves the one that comes to it.
@@ -49,9 +49,11 @@ pub fn events_at_the_receiver_leave_the_sender()
     ensures closed { ClosedReceiversAreNotOpen }
 {}
 
-/// Accepted messages can be counted, and a plain direction that has the invariant and fewer than 16,384 messages is within the
-/// limits.
+/// Accepted messages can be counted by their pieces, and a plain direction that has the invariant and fewer than 16,384 pieces is
+/// within the limits.
 pub fn few_messages_stay_within()
+    ensures pieces { PiecesAreCounted }
+    ensures one { ShortMessagesAreOnePiece }
     ensures first { NothingIsAcceptedAtFirst }
     ensures counted { AcceptedMessagesAreCounted }
     ensures within { FewMessagesStayWithin }

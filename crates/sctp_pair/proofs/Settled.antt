@@ -83,6 +83,7 @@ direction_step step reply sender receiver w q initial before after Added Read Br
       (d.taken o m);
   point_on = d.point_on;
   no_more = no_more;
+  size = d.size;
   span = λ s o. absurd (true≢false (sym o ∙ is.plain.span s));
   span_over = λ s o. ap (λ (z : Direction). z.over s) d.is ∙ (runs_are_onward d.events before).over s o;
   passed = inl (is.plain.unskipped ∙ sym was.plain.unskipped);

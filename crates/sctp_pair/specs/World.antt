@@ -113,6 +113,8 @@ pub record IsDirectionStep (step : Step) (reply : Reply) (sender receiver : Side
       → (mem o before.receiver.taken ≡ true) ⊎ HasData (packet_brought step receiver w) (tsn initial o)
   pub point_on : before.sender.point ≤ after.sender.point
   pub no_more : IsOpen (end_of sender q) ⊎ (after.sender.plan.places ≡ before.sender.plan.places)
+  -- the payload size, by which messages are cut, stays
+  pub size : after.sender.plan.size ≡ before.sender.plan.size
   -- a stream's span ends only where the step resets, retires or stops the stream at either end (RFC 6525 section 5), and does not
   -- begin again
   pub span : (s : ℕ) → after.over s ≡ true → (before.over s ≡ true) ⊎ EndsSpan step reply s

@@ -193,12 +193,12 @@ impl Pair {
     /// Carries out the steps, in order. Refused for want of memory before the first step alone, with nothing changed.
     ///
     /// From each world that the pair fits, the steps lead from world to world, in each of which the pair stands; as long as each so
-    /// far is within the limits, it is safe. As long as each side accepted fewer than 16,384 writes since the pair was made, each of
-    /// these worlds is safe (`counted`).
+    /// far is within the limits, it is safe. As long as the messages that each side accepted since the pair was made have
+    /// fewer than 16,384 pieces, each of these worlds is safe (`counted`).
     ///
     /// All steps of the pair so far have these behind them then (`came`), and what they tell by themselves: what either side read
     /// on a stream is in order a front of what the other side wrote on it (`front`), and nothing of it is read before the first
-    /// delivery (`brought`), where each side accepted few messages in all of them.
+    /// delivery (`brought`), where each side accepted few pieces in all of them.
     #[tactic(auto, using(crate::proofs::Worlds::runs_lead, crate::proofs::Counted::runs_lead_counted))]
     pub fn run(&mut self, steps: &[Step]) -> Result<Vec<Reply>, Error>
         ensures ok { IfOk result (λ replies. Runs steps.now replies.items self.old self.new) }
@@ -215,8 +215,8 @@ impl Pair {
     /// Carries out one step.
     ///
     /// From each world that the pair fits, it leads to a next one, in which the pair stands; where that is within the limits, it is
-    /// safe. Where each side accepted fewer than 16,384 messages, this step's included, the next world is safe (`counted`). The
-    /// last three clauses are those of `run`, for this one step.
+    /// safe. Where the messages that each side accepted, this step's included, have fewer than 16,384 pieces, the next world is safe
+    /// (`counted`). The last three clauses are those of `run`, for this one step.
     #[tactic(auto, using(crate::proofs::Assembled::step_leads, crate::proofs::Counted::step_leads_counted))]
     pub fn step(&mut self, step: &Step) -> Reply
         ensures exact { Steps step.now self.old result self.new }
