@@ -22,7 +22,7 @@ use Rattle.sctp_pair.specs.declared.step.Side2.TheVariants as sides
 use Rattle.sctp_pair.specs.declared.step.Step.{Step}
 use Rattle.sctp_pair.specs.declared.step.Step.TheVariants as steps
 use Rattle.sctp_pair.specs.Callers.{AcceptFew, CameBy, ComesOn, HoldsOn, IsFrontOf, NothingIsReadUnbrought, ReadsAreFronts, accepted_in, bytes_of, bytes_read, bytes_written, delivers_to, read_in, read_undelivered, written_in}
-use Rattle.sctp_pair.specs.Counted.{AreFew, FitsCounted, RunsCounted, writes_of}
+use Rattle.sctp_pair.specs.Counted.{AreFew, FitsCounted, RunsCounted, pieces_a, pieces_b}
 use Rattle.sctp_pair.specs.Ends.{Ends, end_of}
 use Rattle.sctp_pair.specs.Steps.{Runs, Steps, Writes}
 use Rattle.sctp_pair.specs.World.{EndsSpan, HasData, IsDirectionStep, IsWorldStep, World, accepted_at, empty_world, is_side, message_read, messages_on, other_side, packet_brought}
@@ -151,21 +151,41 @@ record Reached (ss : List Step) (rs : List Reply) (w : World) (q : Ends) : Type 
   fits : FitsCounted of_a of_b q last
   grew : (x : Side2) → Grew ss rs x (from x w) (from x last)
 
-few_first : (n m k l i j : ℕ) → AreFew (n + (k + i)) (m + (l + j)) → AreFew (n + k) (m + l)
-few_first n m k l i j few = (let f = few.0 in omega arith, let f = few.1 in omega arith)
+-- what the steps of a run count, from a world on
+abbrev FewFrom : ℕ → ℕ → World → List Step → List Reply → Type 0
+FewFrom n m w ss rs =
+    AreFew (n + accepted_in w.ab.sender.plan.size sides.A ss rs) (m + accepted_in w.ba.sender.plan.size sides.B ss rs)
 
-few_rest : (n m k l i j : ℕ) → AreFew (n + (k + i)) (m + (l + j)) → AreFew ((n + k) + i) ((m + l) + j)
-few_rest n m k l i j few = (let f = few.0 in omega arith, let f = few.1 in omega arith)
+few_first : (a : Step) (r : Reply) (ss : List Step) (rs : List Reply) (w : World) (n m : ℕ) → FewFrom n m w (a ∷ ss) (r ∷ rs)
+    → AreFew (n + pieces_a w a r) (m + pieces_b w a r)
+few_first a r ss rs w n m few =
+    let k : ℕ = pieces_a w a r in
+    let l : ℕ = pieces_b w a r in
+    let f : n + (k + accepted_in w.ab.sender.plan.size sides.A ss rs) < 16384 = few.0 in
+    let g : m + (l + accepted_in w.ba.sender.plan.size sides.B ss rs) < 16384 = few.1 in
+    (omega arith, omega arith)
+
+-- payload sizes stay
+few_rest : (a : Step) (r : Reply) (ss : List Step) (rs : List Reply) (w v : World) (n m : ℕ) → IsWorldStep a w r v → FewFrom n m w (a ∷ ss) (r ∷ rs)
+    → FewFrom (n + pieces_a w a r) (m + pieces_b w a r) v ss rs
+few_rest a r ss rs w v n m h few =
+    let k : ℕ = pieces_a w a r in
+    let l : ℕ = pieces_b w a r in
+    let f : n + (k + accepted_in w.ab.sender.plan.size sides.A ss rs) < 16384 = few.0 in
+    let g : m + (l + accepted_in w.ba.sender.plan.size sides.B ss rs) < 16384 = few.1 in
+    let x : (n + k) + accepted_in w.ab.sender.plan.size sides.A ss rs < 16384 = omega arith in
+    let y : (m + l) + accepted_in w.ba.sender.plan.size sides.B ss rs < 16384 = omega arith in (
+      subst (λ (z : ℕ). (n + k) + accepted_in z sides.A ss rs < 16384) (sym h.ab_step.size) x,
+      subst (λ (z : ℕ). (m + l) + accepted_in z sides.B ss rs < 16384) (sym h.ba_step.size) y,
+    )
 
 reached : (ss : List Step) (rs : List Reply) (w : World) (n m : ℕ) (q : Ends) → RunsCounted ss rs w n m q
-    → AreFew (n + accepted_in sides.A ss rs) (m + accepted_in sides.B ss rs) → Reached ss rs w q
+    → FewFrom n m w ss rs → Reached ss rs w q
 reached [] [] w n m q h few = record { last = w; of_a = n; of_b = m; fits = h; grew = λ x. grew_nothing x (from x w) }
 reached (a ∷ ss) (r ∷ rs) w n m q (v, step, next) few =
-    let k : ℕ = writes_of sides.A a r in
-    let l : ℕ = writes_of sides.B a r in
-    let i : ℕ = accepted_in sides.A ss rs in
-    let j : ℕ = accepted_in sides.B ss rs in
-    let rest = reached ss rs v (n + k) (m + l) q (next (few_first n m k l i j few)).2 (few_rest n m k l i j few) in
+    let k : ℕ = pieces_a w a r in
+    let l : ℕ = pieces_b w a r in
+    let rest = reached ss rs v (n + k) (m + l) q (next (few_first a r ss rs w n m few)).2 (few_rest a r ss rs w v n m step few) in
     record {
       last = rest.last;
       of_a = rest.of_a;
@@ -209,7 +229,7 @@ front_along ss rs x s before after first grew safe =
     (front.0, sym wrote ∙ front.1 ∙ ap (λ z. z ++ front.0) read)
 
 -- What was read is a front of what was written.
-fronts : (size_a size_b : ℕ) (ss : List Step) (rs : List Reply) (p : Ends) → CameBy size_a size_b ss rs p → AcceptFew ss rs → ReadsAreFronts ss rs
+fronts : (size_a size_b : ℕ) (ss : List Step) (rs : List Reply) (p : Ends) → CameBy size_a size_b ss rs p → AcceptFew size_a size_b ss rs → ReadsAreFronts ss rs
 fronts size_a size_b ss rs p c few x s =
     let w : World = empty_world c.begin c.new.initial_a c.new.initial_b size_a size_b in
     let h = runs_lead_counted ss rs c.begin p c.led 0 0 w c.new.fits in
@@ -236,15 +256,13 @@ untaken_on a r x w v h none before o m =
     ((step_from x a r w v h).taken o m)
 
 bare : (ss : List Step) (rs : List Reply) (x : Side2) (s : ℕ) (w : World) (n m : ℕ) (q : Ends) → RunsCounted ss rs w n m q
-    → AreFew (n + accepted_in sides.A ss rs) (m + accepted_in sides.B ss rs) → ((o : ℕ) → mem o (from x w).receiver.taken ≡ true → ⊥) → (from x w).over s ≡ false
+    → FewFrom n m w ss rs → ((o : ℕ) → mem o (from x w).receiver.taken ≡ true → ⊥) → (from x w).over s ≡ false
     → read_undelivered ss rs (other_side x) s ≡ []
 bare [] [] x s w n m q h few none span = refl
 bare (a ∷ ss) (r ∷ rs) x s w n m q (v, step, next) few none span =
-    let k : ℕ = writes_of sides.A a r in
-    let l : ℕ = writes_of sides.B a r in
-    let i : ℕ = accepted_in sides.A ss rs in
-    let j : ℕ = accepted_in sides.B ss rs in
-    let after = next (few_first n m k l i j few) in
+    let k : ℕ = pieces_a w a r in
+    let l : ℕ = pieces_b w a r in
+    let after = next (few_first a r ss rs w n m few) in
     ⊎_elim
     (λ (b : delivers_to (other_side x) a ≡ true). rw b refl)
     (λ (b : delivers_to (other_side x) a ≡ false).
@@ -253,7 +271,7 @@ bare (a ∷ ss) (r ∷ rs) x s w n m q (v, step, next) few none span =
     let unread = nothing_read_of_none (from x v) s (safe_from x s (n + k) (m + l) v.ends v after.1 within) still (filled_from x s (n + k) (m + l) v.ends v after.1) in
     let this : bytes_read a r (other_side x) s ≡ [] =
     nothing_behind (bytes_got ((from x w).reads s)) (bytes_read a r (other_side x) s) (sym (ap bytes_got unread) ∙ read_one a r x w v step s) in
-    rw (b, this) (bare ss rs x s v (n + k) (m + l) q after.2 (few_rest n m k l i j few) still within))
+    rw (b, this) (bare ss rs x s v (n + k) (m + l) q after.2 (few_rest a r ss rs w v n m step few) still within))
     (cases_Bool (delivers_to (other_side x) a))
 bare [] (r ∷ rs) x s w n m q h few none span = absurd h
 bare (a ∷ ss) [] x s w n m q h few none span = absurd h
@@ -263,7 +281,7 @@ turned_back sides.A = refl
 turned_back sides.B = refl
 
 -- Until a packet was delivered to a side nothing is read there.
-unbrought : (size_a size_b : ℕ) (ss : List Step) (rs : List Reply) (p : Ends) → CameBy size_a size_b ss rs p → AcceptFew ss rs → NothingIsReadUnbrought ss rs
+unbrought : (size_a size_b : ℕ) (ss : List Step) (rs : List Reply) (p : Ends) → CameBy size_a size_b ss rs p → AcceptFew size_a size_b ss rs → NothingIsReadUnbrought ss rs
 unbrought size_a size_b ss rs p c few x s =
     let w : World = empty_world c.begin c.new.initial_a c.new.initial_b size_a size_b in
     let h = runs_lead_counted ss rs c.begin p c.led 0 0 w c.new.fits in

@@ -7,7 +7,7 @@ use Rattle.sctp_pair.specs.declared.step.Side2.{Side2}
 use Rattle.sctp_pair.specs.declared.step.Side2.TheVariants as sides
 use Rattle.sctp_pair.specs.declared.step.Step.{Step}
 use Rattle.sctp_pair.specs.declared.step.Step.TheVariants as steps
-use Rattle.sctp_pair.specs.Counted.{AreFew, FitsCounted, writes_of}
+use Rattle.sctp_pair.specs.Counted.{AreFew, FitsCounted, pieces_of}
 use Rattle.sctp_pair.specs.Ends.{Ends}
 use Rattle.sctp_pair.specs.Steps.{Runs}
 use Rattle.sctp_pair.specs.World.{empty_world, is_side, other_side}
@@ -54,11 +54,11 @@ read_undelivered (a ∷ ss) (r ∷ rs) x s = if delivers_to x a then [] else byt
 read_undelivered [] rs x s = []
 read_undelivered (a ∷ ss) [] x s = []
 
--- for how much its writes that were accepted count
-abbrev pub accepted_in : Side2 → List Step → List Reply → ℕ
-accepted_in x (a ∷ ss) (r ∷ rs) = writes_of x a r + accepted_in x ss rs
-accepted_in x [] rs = 0
-accepted_in x (a ∷ ss) [] = 0
+-- how many pieces, of at most `size` bytes each, the messages have that side x wrote
+abbrev pub accepted_in : ℕ → Side2 → List Step → List Reply → ℕ
+accepted_in size x (a ∷ ss) (r ∷ rs) = pieces_of size x a r + accepted_in size x ss rs
+accepted_in size x [] rs = 0
+accepted_in size x (a ∷ ss) [] = 0
 
 -- The promise
 
@@ -73,13 +73,13 @@ ReadsAreFronts ss rs = (x : Side2) (s : ℕ) → IsFrontOf (read_in ss rs (other
 abbrev pub NothingIsReadUnbrought : List Step → List Reply → Type 0
 NothingIsReadUnbrought ss rs = (x : Side2) (s : ℕ) → read_undelivered ss rs x s ≡ []
 
--- each side accepted few messages in all of these steps
-abbrev pub AcceptFew : List Step → List Reply → Type 0
-AcceptFew ss rs = AreFew (accepted_in sides.A ss rs) (accepted_in sides.B ss rs)
+-- Each side accepted few pieces in all of these steps, where A puts at most size_a bytes of a message into a piece, B at most size_b.
+abbrev pub AcceptFew : ℕ → ℕ → List Step → List Reply → Type 0
+AcceptFew size_a size_b ss rs = AreFew (accepted_in size_a sides.A ss rs) (accepted_in size_b sides.B ss rs)
 
 -- All steps of a pair
 
--- To a new pair nothing happened yet. A puts at most size_a bytes of a message into a piece, B at most size_b.
+-- To a new pair nothing happened yet; its payload sizes are these.
 pub record IsNew (size_a size_b : ℕ) (p : Ends) : Type 0 where
   pub initial_a : ℕ
   pub initial_b : ℕ
@@ -97,8 +97,8 @@ ComesOn more answers p q =
     (size_a size_b : ℕ) (ss : List Step) (rs : List Reply) → CameBy size_a size_b ss rs p
     → CameBy size_a size_b (ss ++ more) (rs ++ answers) q
 
--- Whatever steps led to p, this holds of them with these behind them, where each side accepted few messages in all of them.
+-- Whatever steps led to p, this holds of them with these behind them, where each side accepted few pieces in all of them.
 abbrev pub HoldsOn : (List Step → List Reply → Type 0) → List Step → List Reply → Ends → Type 0
 HoldsOn Law more answers p =
-    (size_a size_b : ℕ) (ss : List Step) (rs : List Reply) → CameBy size_a size_b ss rs p → AcceptFew (ss ++ more) (rs ++ answers)
-    → Law (ss ++ more) (rs ++ answers)
+    (size_a size_b : ℕ) (ss : List Step) (rs : List Reply) → CameBy size_a size_b ss rs p
+    → AcceptFew size_a size_b (ss ++ more) (rs ++ answers) → Law (ss ++ more) (rs ++ answers)
