@@ -4,12 +4,11 @@ use Rattle.sctp_model.specs.Machine.{Direction}
 use Rattle.sctp_pair.specs.declared.step.Reply.{Reply}
 use Rattle.sctp_pair.specs.declared.step.Reply.TheVariants as replies
 use Rattle.sctp_pair.specs.declared.step.Side2.{Side2}
-use Rattle.sctp_pair.specs.declared.step.Side2.TheVariants as sides
 use Rattle.sctp_pair.specs.declared.step.Step.{Step}
 use Rattle.sctp_pair.specs.Ends.{Ends}
 use Rattle.sctp_pair.specs.World.{IsWithinLimits, World}
 use Rattle.sctp_pair.specs.Fits.{Fits}
-use Rattle.sctp_pair.specs.Counted.{AreFew, FitsCounted, writes_of}
+use Rattle.sctp_pair.specs.Counted.{AreFew, FitsCounted, pieces_a, pieces_b}
 use Rattle.pair_callers.specs.Going.{to_side}
 use Rattle.pair_callers.specs.Reading.{AreNumbered}
 
@@ -30,13 +29,13 @@ RunsTelling (s ∷ ss) (r ∷ rs) w q = (v : World) × (IsWithinLimits v → Tel
 RunsTelling [] (r ∷ rs) w q = ⊥
 RunsTelling (s ∷ ss) [] w q = ⊥
 
--- One step leads to a next world. Where each side accepted few messages, what was read in it are accepted messages, and the
--- pair fits it with its messages counted on.
+-- One step leads to a next world. Where each side accepted few pieces, what was read in it are accepted messages, and the
+-- pair fits it with its pieces counted on.
 abbrev pub StepsTelling : Step → Reply → Ends → Ends → Type 0
 StepsTelling step reply p q = (n m : ℕ) (w : World) → FitsCounted n m p w
-    → AreFew (n + writes_of sides.A step reply) (m + writes_of sides.B step reply)
+    → AreFew (n + pieces_a w step reply) (m + pieces_b w step reply)
     → (v : World) × TellsAccepted v
-    × FitsCounted (n + writes_of sides.A step reply) (m + writes_of sides.B step reply) q v
+    × FitsCounted (n + pieces_a w step reply) (m + pieces_b w step reply) q v
 
 -- nothing was accepted and nothing read
 pub record HasNothing (w : Direction) : Type 0 where

@@ -21,9 +21,9 @@ pub fn run_joined(
 ) -> Result<Vec<Reply>, Error>
     ensures each { IfOk result (λ replies. length replies.items ≡ length steps.now) }
     ensures front { IfOk result (λ replies.
-        AcceptFew steps.now replies.items → ReadsAreFronts steps.now replies.items) }
+        AcceptFew max_payload_size max_payload_size steps.now replies.items → ReadsAreFronts steps.now replies.items) }
     ensures brought { IfOk result (λ replies.
-        AcceptFew steps.now replies.items → NothingIsReadUnbrought steps.now replies.items) }
+        AcceptFew max_payload_size max_payload_size steps.now replies.items → NothingIsReadUnbrought steps.now replies.items) }
 {
     let mut pair = Pair::snap(
         alloc,
@@ -54,9 +54,9 @@ pub fn run_client_server(
 ) -> Result<Vec<Reply>, Error>
     ensures each { IfOk result (λ replies. length replies.items ≡ length steps.now) }
     ensures front { IfOk result (λ replies.
-        AcceptFew steps.now replies.items → ReadsAreFronts steps.now replies.items) }
+        AcceptFew max_payload_size max_payload_size steps.now replies.items → ReadsAreFronts steps.now replies.items) }
     ensures brought { IfOk result (λ replies.
-        AcceptFew steps.now replies.items → NothingIsReadUnbrought steps.now replies.items) }
+        AcceptFew max_payload_size max_payload_size steps.now replies.items → NothingIsReadUnbrought steps.now replies.items) }
 {
     let mut pair = Pair::client_server(
         alloc,
@@ -91,7 +91,7 @@ pub fn run_and_step(
     last: &Step,
 ) -> Result<(Vec<Reply>, Reply), Error>
     ensures front { IfOk result (λ (replies, reply).
-        AcceptFew (steps.now ++ last.now ∷ []) (replies.items ++ reply ∷ [])
+        AcceptFew max_payload_size max_payload_size (steps.now ++ last.now ∷ []) (replies.items ++ reply ∷ [])
         → ReadsAreFronts (steps.now ++ last.now ∷ []) (replies.items ++ reply ∷ [])) }
 {
     let mut pair = Pair::snap(
