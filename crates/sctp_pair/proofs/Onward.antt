@@ -1,8 +1,7 @@
 -- What no event of a direction takes back: a span that is over stays over, and a receiver that closed stays closed.
-use Rattle.std.proofs.Common.{◌≡◌, refl, ⊎_elim, ℕ, arith, Bool, true, false, eqb, ltb, if◌then◌else◌, List, [], ◌∷◌, ◌++◌, length, ◌&&◌, Option, Some, None}
+use Rattle.std.proofs.Common.{◌≡◌, refl, ℕ, Bool, true, false, eqb, ltb, if◌then◌else◌, List, [], ◌∷◌, ◌++◌, length, ◌&&◌, Option, Some, None}
 use Rattle.std.specs.Prelude.{slice_get}
-use Rattle.std.proofs.lemmas.Bool.{cases_Bool, cond_both}
-use Rattle.sctp_model.specs.Messages.{Message, Place, as_kept}
+use Rattle.sctp_model.specs.Messages.{Place, as_kept}
 use Rattle.sctp_model.specs.Packets.{Data, Forward, Sack, data_at}
 use Rattle.sctp_model.specs.Reassembly.{Queue, Taken, next}
 use Rattle.sctp_model.specs.Machine.{Direction, Event, abandoned, acknowledged_by, begin, begin_if, can_abandon, can_begin, can_drop, can_pass_over, can_resend, can_restart, data_comes, dropped, forward_comes, forward_of, go_on, gone_front, happens, is_empty, is_new, number_for, passed_over, passes, point, put, read, run, sack_comes, took, was_read, written}
