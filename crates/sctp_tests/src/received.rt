@@ -26,11 +26,18 @@ fn tsns_are_held_and_pieces_put_together(rt: HostRuntime) -> Result<(), Fail> {
         assert!(rt; held.push(tsn, 100)?, "at {tsn}");
     }
     assert_eq!(rt; held.get_gap_ack_blocks(rt.alloc(), 100)?.len(), 1);
+    assert_eq!(rt; held.pop(103), Some(103));
     let mut queue = ReassemblyQueue::new(rt.alloc());
     for piece in [piece(b'L', 0, b"lo"), piece(b'F', u32::MAX, b"hel")] {
         assert!(rt; queue.push(piece, 8)?);
     }
-    let message = queue.read().expect(&rt, "a message");
+    let mut message = queue.read().expect(&rt, "a message");
     assert_eq!(rt; message.len(), 5);
+    // A cut is as long as it can be, and ends with its piece.
+    for (max, bytes) in [(2, b"he".as_slice()), (9, b"l"), (9, b"lo")] {
+        let cut = message.next(max)?.expect(&rt, "a cut");
+        assert_eq!(rt; cut.as_slice(), bytes);
+    }
+    assert!(rt; message.next(9)?.is_none());
     Ok(())
 }
