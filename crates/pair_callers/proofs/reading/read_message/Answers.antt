@@ -1,4 +1,3 @@
-use Rattle.std.proofs.Common.{◌≡◌}
 use Rattle.pair_callers.proofs.Letters.{reads_accepted, reads_on}
 use Rattle.pair_callers.proofs.reading.read_message.Goals as goal
 
