@@ -6,9 +6,9 @@ use Rattle.sctp_pair.specs.declared.step.Step.{Step}
 use Rattle.sctp_pair.specs.Ends.{Ends}
 use Rattle.sctp_pair.specs.World.{IsSafeWorld, World, empty_world}
 use Rattle.sctp_pair.specs.Fits.{Fits, RunsSafely}
-use Rattle.sctp_pair.specs.Counted.{FitsCounted, LeadsCounted}
+use Rattle.sctp_pair.specs.Counted.{FitsCounted, LeadsCounted, RunsCounted}
 use Rattle.pair_callers.specs.Going.{to_side}
-use Rattle.pair_callers.specs.Running.{BeginsWithNothing, HasNothing, RunsTelling, StepsTelling, TellsAccepted}
+use Rattle.pair_callers.specs.Running.{BeginsWithNothing, HasNothing, RunsCounting, RunsTelling, StepsTelling, TellsAccepted}
 use Rattle.pair_callers.proofs.Going.{promised_to}
 use Rattle.pair_callers.proofs.Letters.{are_numbered}
 
@@ -21,6 +21,14 @@ runs_tell (s ∷ ss) (r ∷ rs) w q h =
     (h.0, λ within. let x = h.3 within in (tells_accepted h.0 x.0, runs_tell ss rs h.0 q x.1))
 runs_tell [] (r ∷ rs) w q h = absurd h
 runs_tell (s ∷ ss) [] w q h = absurd h
+
+pub runs_count : (ss : List Step) (rs : List Reply) (w : World) (n m : ℕ) (q : Ends) → RunsCounted ss rs w n m q
+    → RunsCounting ss rs w n m
+runs_count [] [] w n m q h = tt
+runs_count (s ∷ ss) (r ∷ rs) w n m q h =
+    (h.0, λ few. let x = h.2 few in (tells_accepted h.0 x.0, runs_count ss rs h.0 _ _ q x.2))
+runs_count [] (r ∷ rs) w n m q h = absurd h
+runs_count (s ∷ ss) [] w n m q h = absurd h
 
 pub steps_tell : (step : Step) (r : Reply) (p q : Ends)
     → ((n m : ℕ) (w : World) → FitsCounted n m p w → LeadsCounted step r w n m q) → StepsTelling step r p q

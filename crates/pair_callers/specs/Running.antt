@@ -1,5 +1,5 @@
 -- What a run of a pair leads to.
-use Rattle.std.specs.Prelude.{◌≡◌, ◌+◌, ℕ, Bool, false, List, [], ◌∷◌}
+use Rattle.std.specs.Prelude.{◌≡◌, ◌+◌, ℕ, Bool, false, List, [], ◌∷◌, ⊤}
 use Rattle.sctp_model.specs.Machine.{Direction}
 use Rattle.sctp_pair.specs.declared.step.Reply.{Reply}
 use Rattle.sctp_pair.specs.declared.step.Reply.TheVariants as replies
@@ -28,6 +28,15 @@ RunsTelling [] [] w q = Fits q w
 RunsTelling (s ∷ ss) (r ∷ rs) w q = (v : World) × (IsWithinLimits v → TellsAccepted v × RunsTelling ss rs v q)
 RunsTelling [] (r ∷ rs) w q = ⊥
 RunsTelling (s ∷ ss) [] w q = ⊥
+
+-- The steps with these replies lead from world to world. As long as each side accepted few pieces, what was read in each are
+-- accepted messages.
+abbrev pub RunsCounting : List Step → List Reply → World → ℕ → ℕ → Type 0
+RunsCounting [] [] w n m = ⊤
+RunsCounting (s ∷ ss) (r ∷ rs) w n m = (v : World) × (AreFew (n + pieces_a w s r) (m + pieces_b w s r)
+    → TellsAccepted v × RunsCounting ss rs v (n + pieces_a w s r) (m + pieces_b w s r))
+RunsCounting [] (r ∷ rs) w n m = ⊥
+RunsCounting (s ∷ ss) [] w n m = ⊥
 
 -- One step leads to a next world. Where each side accepted few pieces, what was read in it are accepted messages, and the
 -- pair fits it with its pieces counted on.

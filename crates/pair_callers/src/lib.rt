@@ -14,6 +14,8 @@ pub use buffering::{ask_buffered, step_and_look};
 pub use delivering::{deliver_packet, expire_timers, step_once};
 pub use lasting::{poll_event, step_and_last};
 pub use reading::{read_message, step_and_tell};
-pub use running::{give_first_packet, is_lost, join, run_and_tell, step_and_count, try_to_run};
+pub use running::{
+    give_first_packet, is_lost, join, run_and_count, run_and_tell, step_and_count, try_to_run,
+};
 pub use telling::{run_and_step, run_client_server, run_joined};
 pub use writing::write_message;

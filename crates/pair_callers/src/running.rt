@@ -3,8 +3,9 @@ ghost use Rattle.std.specs.Prelude.{◌≡◌, ℕ, IfOk, OnErr, length, slice_g
 ghost use Rattle.std.specs.Option.{option_copied};
 ghost use Rattle.sctp_pair.specs.Ends.{end_of, packets_of};
 ghost use Rattle.sctp_pair.specs.World.{World};
+ghost use Rattle.sctp_pair.specs.Counted.{FitsCounted};
 ghost use Rattle.sctp_pair.specs.Fits.{Fits};
-ghost use Rattle.pair_callers.specs.Running.{BeginsWithNothing, RunsTelling, StepsTelling, answer_in};
+ghost use Rattle.pair_callers.specs.Running.{BeginsWithNothing, RunsCounting, RunsTelling, StepsTelling, answer_in};
 
 use bytes::Bytes;
 use sctp_assoc::{ChunkInit, Error, TransportConfig};
@@ -40,6 +41,13 @@ pub fn try_to_run(pair: &mut Pair, steps: &[Step]) -> Result<Vec<Reply>, Error>
 /// Runs the steps. As long as each world is within the limits, what was read are accepted messages.
 pub fn run_and_tell(pair: &mut Pair, steps: &[Step]) -> Result<Vec<Reply>, Error>
     ensures { IfOk result (λ replies. (w : World) → Fits pair.old w → RunsTelling steps.now replies.items w pair.new) }
+{
+    pair.run(steps)
+}
+
+/// Runs the steps of a caller that counts its writes: what was read are accepted messages.
+pub fn run_and_count(pair: &mut Pair, steps: &[Step]) -> Result<Vec<Reply>, Error>
+    ensures { IfOk result (λ replies. (n m : ℕ) (w : World) → FitsCounted n m pair.old w → RunsCounting steps.now replies.items w n m) }
 {
     pair.run(steps)
 }
