@@ -279,13 +279,13 @@ taken_if None false a piece e f found =
 
 pub data_is_taken_in : DataIsTakenIn
 unfolding on_chunk
-data_is_taken_in a h header piece wish now binds may =
+data_is_taken_in a h header piece binds may =
     let p = may_passes a h piece binds may in
     record {
       taken = λ none.
           let acts : acts_of_data a piece ≡ acts_of_stream a piece.stream_identifier ++ Act.Took piece ∷ [] = data_acts true a piece p.next ∙ rw (p.found, p.room, none) refl in
           subst (IsTakenIn a piece) (sym acts) (taken_if _ _ a piece refl refl p.found);
-      refused = λ error e. fault_from (on_data a piece wish).1 error (refused_data a piece wish p ∙ e);
+      refused = λ wish now error e. fault_from (on_data a piece wish).1 error (refused_data a piece wish p ∙ e);
     }
 
 -- Nothing else is taken in

@@ -1,5 +1,5 @@
--- What closes an association: the chunks that are faults, by what stands in them and in the state (RFC 4960 sections
--- 3.3, 5 and 6.2.1).
+-- What closes an association: the chunks that are faults, by what stands in them and in the state (RFC 4960
+-- sections 3.3, 5 and 6.2.1).
 use Rattle.std.specs.Prelude.{◌≡◌, ◌≢◌, ◌⊎◌, ◌↔◌, ◌≤◌, ℕ, zero, suc, ◌+◌, ◌%◌, ◌^◌, true, false, List, [], ◌∷◌, length, slice_get, Some, None, Err, ⊤}
 use Rattle.sctp_wire_types.specs.Checks.{checked_chunk}
 use Rattle.sctp_wire_types.specs.Serial.{tsn_gt}
@@ -37,8 +37,7 @@ pub record FitsNoMessage (a : Shown) (h : History) (piece : ChunkPayloadData) : 
   pub refused : refusal_of a piece ≡ Some error
 
 -- A SACK in Established acknowledges what was never sent: its point is not behind the acknowledged one, and is
--- neither that one nor the
--- TSN of a piece in flight.
+-- neither that one nor the TSN of a piece in flight. Numbers that the point names count modulo 2^32, as TSNs do.
 pub record AcknowledgesTheUnsent (a : Shown) (h : History) (point : ℕ) : Type 0 where
   pub established : a.state ≡ states.Established
   pub not_behind : tsn_gt (tsn_before (tsn h.own h.base)) point ≡ false
@@ -57,8 +56,8 @@ pub record BringsNoCookie (a : Shown) (header : CommonHeader) (init : ChunkInit)
   pub destination : header.destination_port ≡ a.handshake.source_port
   pub no_cookie : first_cookie init.params ≡ None
 
--- what a chunk of each kind is a fault by; an ABORT or an ERROR always is one, and so is a chunk that is not
--- processed
+-- what a chunk of each kind is a fault by; an ABORT or an ERROR always is one, and so is a chunk of a kind that is
+-- not processed
 abbrev pub IsCauseOfItsKind : Shown → History → CommonHeader → Chunk → Type 0
 IsCauseOfItsKind a h header (chunks.Data piece) = FitsNoMessage a h piece
 IsCauseOfItsKind a h header (chunks.SelectiveAck sack) = AcknowledgesTheUnsent a h sack.cumulative_tsn_ack
@@ -84,8 +83,7 @@ IsFault outcome = (error : Error) × (outcome.1 ≡ flows.Fault error)
 -- The faults are the causes, neither more nor fewer.
 abbrev pub FaultsAreCauses : Type 0
 FaultsAreCauses = (a : Shown) (h : History) (header : CommonHeader) (chunk : Chunk) (wish : AckWish) (now : ℕ)
-    → Binds a h
-    → IsFault (on_chunk a header chunk wish now) ↔ IsCause a h header chunk
+    → Binds a h → IsFault (on_chunk a header chunk wish now) ↔ IsCause a h header chunk
 
 -- Packets
 
@@ -103,8 +101,8 @@ pub record IsReachedOpen (a : Shown) (packet : Packet) (now place : ℕ) (chunk 
   pub reaches : Reaches packet.common_header packet.chunks a wishes.None now place reached
   pub still_open : reached.state ≢ states.Closed
 
--- One chunk of a packet is reached while the association is open, and is a cause wherever that stands; it does stand
--- somewhere.
+-- One chunk of a packet is reached while the association is open, and is a cause whatever the history is on which
+-- that stands; it does stand on one.
 pub record HasCause (a : Shown) (packet : Packet) (now : ℕ) : Type 0 where
   pub place : ℕ
   pub chunk : Chunk
@@ -122,6 +120,5 @@ ClosingPacketsHaveCauses = (a : Shown) (h : History) (packet : Packet) (now : �
 -- A cause that a packet has closes, unless the association was lost before.
 abbrev pub CausesClose : Type 0
 CausesClose = (a : Shown) (packet : Packet) (now place : ℕ) (chunk : Chunk) (reached : Shown) (h : History)
-    → a.lost ≡ false
-    → IsReachedOpen a packet now place chunk reached → Binds reached h → IsCause reached h packet.common_header chunk
-    → closes a (Some packet) now ≡ true
+    → a.lost ≡ false → IsReachedOpen a packet now place chunk reached → Binds reached h
+    → IsCause reached h packet.common_header chunk → closes a (Some packet) now ≡ true

@@ -17,7 +17,7 @@ use Rattle.sctp_assoc.specs.Happened.{acts_of_chunk}
 use Rattle.sctp_assoc.specs.Shapes.{OpensAndTakes, TakesOnly}
 use Rattle.sctp_assoc.specs.Shown.{Shown}
 
--- the most bytes that a message may have which is put together
+-- the most bytes that a message may have, once it is put together
 abbrev pub receive_limit : Shown → ℕ
 receive_limit a = a.receiver.max_receive_message_size
 
@@ -26,8 +26,7 @@ abbrev pub HasStreamFor : Shown → ℕ → Type 0
 HasStreamFor a id = (is_some (stream_at a.streams id) ≡ true) ⊎ (generation_left a.streams ≡ true)
 
 -- DATA may be taken in: it stands on the point, it is an ordered message in one piece, its stream is live or can be
--- made, and fewer
--- bytes wait to be read than the receive buffer has.
+-- made, and fewer bytes wait to be read than the receive buffer has.
 pub record MayTakeIn (a : Shown) (h : History) (piece : ChunkPayloadData) : Type 0 where
   pub next : piece.tsn ≡ tsn h.peer h.point
   pub ordered : piece.unordered ≡ false
@@ -50,17 +49,17 @@ abbrev pub IsTakenIn : Shown → ChunkPayloadData → List Act → Type 0
 IsTakenIn a piece acts = OpensAndTakes a piece acts ⊎ TakesOnly a piece acts
 
 -- DATA that its stream does not refuse is taken in; DATA that it refuses is a fault.
-pub record IsTakenUnlessRefused (a : Shown) (header : CommonHeader) (piece : ChunkPayloadData) (wish : AckWish) (now : ℕ) : Type 0 where
+pub record IsTakenUnlessRefused (a : Shown) (header : CommonHeader) (piece : ChunkPayloadData) : Type 0 where
   pub taken : refusal_of a piece ≡ None → IsTakenIn a piece (acts_of_chunk a header (chunks.Data piece))
-  pub refused : (error : Error) → refusal_of a piece ≡ Some error
+  pub refused : (wish : AckWish) (now : ℕ) (error : Error) → refusal_of a piece ≡ Some error
       → (on_chunk a header (chunks.Data piece) wish now).1 ≡ flows.Fault error
 
 -- What may be taken in is taken in, wherever the association stands: no side waits for ever on the next message.
 abbrev pub DataIsTakenIn : Type 0
-DataIsTakenIn = (a : Shown) (h : History) (header : CommonHeader) (piece : ChunkPayloadData) (wish : AckWish) (now : ℕ) → Binds a h → MayTakeIn a h piece
-    → IsTakenUnlessRefused a header piece wish now
+DataIsTakenIn = (a : Shown) (h : History) (header : CommonHeader) (piece : ChunkPayloadData) → Binds a h
+    → MayTakeIn a h piece → IsTakenUnlessRefused a header piece
 
--- Of a chunk this DATA was taken in: the chunk is that DATA, it could be taken in, and its stream did not refuse it.
+-- A chunk of which this DATA was taken in is that DATA; it could be taken in, and its stream did not refuse it.
 pub record WasToBeTakenIn (a : Shown) (h : History) (chunk : Chunk) (piece : ChunkPayloadData) : Type 0 where
   pub data_itself : chunk ≡ chunks.Data piece
   pub may : MayTakeIn a h piece
@@ -68,5 +67,6 @@ pub record WasToBeTakenIn (a : Shown) (h : History) (chunk : Chunk) (piece : Chu
 
 -- Nothing else is taken in, of DATA or of any other chunk.
 abbrev pub NothingElseIsTakenIn : Type 0
-NothingElseIsTakenIn = (a : Shown) (h : History) (header : CommonHeader) (chunk : Chunk) (place : ℕ) (piece : ChunkPayloadData) → Binds a h
+NothingElseIsTakenIn = (a : Shown) (h : History) (header : CommonHeader) (chunk : Chunk) (place : ℕ)
+    → (piece : ChunkPayloadData) → Binds a h
     → slice_get (acts_of_chunk a header chunk) place ≡ Some (Act.Took piece) → WasToBeTakenIn a h chunk piece

@@ -7,8 +7,7 @@ use Rattle.sctp_model.specs.Serial.{tsn}
 use Rattle.sctp_assoc.specs.Acts.{tsn_before}
 
 -- A SACK says what came: its point is the TSN before that of this offset, and its gap ack blocks name exactly the
--- offsets at or past
--- it that came. A block counts from its point on, so that it names this very offset as 1.
+-- offsets from this one on that came. Blocks count from the SACK's point: this very offset is their 1.
 pub record SaysWhatCame (peer point : ℕ) (came : List ℕ) (sack : ChunkSelectiveAck) : Type 0 where
   pub at : sack.cumulative_tsn_ack ≡ tsn_before (tsn peer point)
   pub set : (o : ℕ) → 0 < o → o < 2 ^ 16 → is_named o sack.gap_ack_blocks ≡ mem (point + o - 1) came
