@@ -9,10 +9,10 @@ use Rattle.sctp_queues.specs.Stream.{Stream}
 use Rattle.sctp_queues.specs.Streams.{stream_at}
 use Rattle.sctp_assoc.specs.Calls.{event_from, is_closed_state, is_cookie_echoed, is_cookie_wait, is_established, written_at}
 use Rattle.sctp_assoc.specs.Handshake.{sends_init}
-use Rattle.sctp_assoc.specs.OneSide.{Call, Calls, FailsFrom, IsFresh, IsRun, call_refusal, carried_out, is_armed, with_told}
+use Rattle.sctp_assoc.specs.OneSide.{Call, Calls, FailsFrom, IsFresh, IsRun, call_refusal, carried_out, is_armed, is_delayed, with_told}
 use Rattle.sctp_assoc.specs.Polled.{without_control}
 use Rattle.sctp_assoc.specs.Shown.{Shown, all_stopped}
-use Rattle.sctp_assoc.specs.Witnesses.{CookiesAreTimedInCookieEchoedAlone, CreatedSidesAreFresh, EchoedCookiesAreTimed, FailedSidesWaitForNothing, FailuresStopTheTimers, InitsAreTimedInCookieWaitAlone, IsHandshakeUntimed, IsTimed, JoinedSidesAreFresh, LossesStopTheTimers, LostSidesWaitForNothing, NoHandshakeTimerRunsOnceEstablished, NothingInFlightIsNotTimed, OutstandingDataIsTimed, SentInitsAreTimed, WaitsForNothing}
+use Rattle.sctp_assoc.specs.Witnesses.{CookiesAreTimedInCookieEchoedAlone, CreatedSidesAreFresh, DelayedSacksAreTimed, EchoedCookiesAreTimed, FailedSidesWaitForNothing, FailuresStopTheTimers, InitsAreTimedInCookieWaitAlone, IsHandshakeUntimed, IsTimed, JoinedSidesAreFresh, LossesStopTheTimers, LostSidesWaitForNothing, NoHandshakeTimerRunsOnceEstablished, NothingInFlightIsNotTimed, OutstandingDataIsTimed, SentInitsAreTimed, WaitsForNothing}
 use Rattle.sctp_assoc.proofs.Ending.{lost_associations_take_nothing}
 use Rattle.sctp_assoc.proofs.PollSays.{polls_outside_established_give_what_waits}
 use Rattle.sctp_assoc.proofs.Ticking.{AtRest, Ticks, closed_waits_for_nothing, established_shakes_no_hands, none_armed, nothing_is_not_something, rest_by, ticks_by, time_by, unarmed}
@@ -51,24 +51,24 @@ accepted_works (Call.HandleEvent packet now) a e = unrefused a.failed _ _ e
 
 write_ticks : (o : Option Stream) (a : Shown) (id : ℕ) (bytes : List ℕ) → Ticks a → Ticks (written_at o a id bytes)
 write_ticks None a id bytes h = h
-write_ticks (Some s) a id bytes h = ticks_by a _ (time_by a _ refl refl refl refl refl) h
+write_ticks (Some s) a id bytes h = ticks_by a _ (time_by a _ refl refl refl refl refl refl) h
 
 write_rests : (o : Option Stream) (a : Shown) (id : ℕ) (bytes : List ℕ) → AtRest a → AtRest (written_at o a id bytes)
 write_rests None a id bytes h = h
 write_rests (Some s) a id bytes h = rest_by a _ refl refl refl refl h
 
 poll_ticks : (queued : List Event) (a : Shown) → Ticks a → Ticks (with_told (event_from queued a)).0
-poll_ticks [] a h = ticks_by a _ (time_by a _ refl refl refl refl refl) h
-poll_ticks (e ∷ es) a h = ticks_by a _ (time_by a _ refl refl refl refl refl) h
+poll_ticks [] a h = ticks_by a _ (time_by a _ refl refl refl refl refl refl) h
+poll_ticks (e ∷ es) a h = ticks_by a _ (time_by a _ refl refl refl refl refl refl) h
 
 poll_rests : (queued : List Event) (a : Shown) → AtRest a → AtRest (with_told (event_from queued a)).0
 poll_rests [] a h = rest_by a _ refl refl refl refl h
 poll_rests (e ∷ es) a h = rest_by a _ refl refl refl refl h
 
 ticks_carried : (call : Call) (a : Shown) → Ticks a → IsSound (carried_out call a).0
-ticks_carried (Call.OpenStream id kind) a h = inl (ticks_by a _ (time_by a _ refl refl refl refl refl) h)
+ticks_carried (Call.OpenStream id kind) a h = inl (ticks_by a _ (time_by a _ refl refl refl refl refl refl) h)
 ticks_carried (Call.Write id bytes) a h = inl (write_ticks (stream_at a.streams id) a id bytes h)
-ticks_carried (Call.Read id) a h = inl (ticks_by a _ (time_by a _ refl refl refl refl refl) h)
+ticks_carried (Call.Read id) a h = inl (ticks_by a _ (time_by a _ refl refl refl refl refl refl) h)
 ticks_carried Call.Poll a h = inl (poll_ticks a.events a h)
 ticks_carried (Call.PollTransmit now) a h = inl (polls_tick a now h)
 ticks_carried (Call.HandleTimeout now) a h = inl (timeouts_tick a now h)
@@ -130,6 +130,7 @@ fresh_ticks a h = record {
     cookies = record { alone = λ e. h.cookie ∙ e; timed = λ e. inl (h.cookie ∙ e) };
     unsent = λ _. h.unsent;
   };
+  acks = h.acknowledgement;
 }
 
 after_run : (calls : List Call) (told : List Event) (a b : Shown) → IsFresh a → IsRun calls told a b → IsSound b
@@ -148,6 +149,7 @@ created_sides_are_fresh None config size tag initial_tsn cookie remote_addr loca
       retransmission = refl;
       init = refl;
       cookie = refl;
+      acknowledgement = refl;
     }
 created_sides_are_fresh (Some of_server) config size tag initial_tsn cookie remote_addr local_ip now =
     record {
@@ -158,6 +160,7 @@ created_sides_are_fresh (Some of_server) config size tag initial_tsn cookie remo
       retransmission = refl;
       init = refl;
       cookie = refl;
+      acknowledgement = refl;
     }
 
 pub joined_sides_are_fresh : JoinedSidesAreFresh
@@ -170,6 +173,7 @@ joined_sides_are_fresh config size remote_addr local_ip own peer =
       retransmission = refl;
       init = refl;
       cookie = refl;
+      acknowledgement = refl;
     }
 
 -- Timers
@@ -236,6 +240,14 @@ handshake_untimed b (inr h) e = (unarmed names.T1Init b.timers h.stopped, unarme
 
 pub no_handshake_timer_runs_once_established : NoHandshakeTimerRunsOnceEstablished
 no_handshake_timer_runs_once_established calls told a b h r = handshake_untimed b (after_run calls told a b h r)
+
+acks_timed : (b : Shown) → IsSound b → b.failed ≡ false → b.lost ≡ false
+    → is_armed names.Ack b.timers ≡ is_delayed b.receiver.ack_state
+acks_timed b (inl h) works stays = h.acks
+acks_timed b (inr h) works stays = absurd (false≢true (sym stays ∙ is_lost b works h))
+
+pub delayed_sacks_are_timed : DelayedSacksAreTimed
+delayed_sacks_are_timed calls told a b h r = acks_timed b (after_run calls told a b h r)
 
 -- Ending
 

@@ -1,15 +1,16 @@
 -- Timers run where they should: what holds of an association that works, and of one that failed or was lost.
-use Rattle.std.proofs.Common.{◌≡◌, refl, sym, ap, ◌∙◌, subst, ◌⊎◌, ⊎_elim, inl, inr, ℕ, ◌<◌, arith, Bool, true, false, List, [], ◌∷◌, length, Option, Some, None, is_some}
+use Rattle.std.proofs.Common.{if◌then◌else◌, ◌≡◌, refl, sym, ap, ◌∙◌, subst, ◌⊎◌, ⊎_elim, inl, inr, ℕ, ◌<◌, arith, Bool, true, false, List, [], ◌∷◌, length, Option, Some, None, is_some}
 use Rattle.std.proofs.lemmas.Bool.{false≢true, true≢false}
 use Rattle.std.proofs.lemmas.List.{nil_from_length}
+use Rattle.sctp_parts.specs.declared.state.AckState.{AckState}
 use Rattle.sctp_parts.specs.declared.state.AssociationState.{AssociationState}
 use Rattle.sctp_parts.specs.declared.state.AssociationState.TheVariants as states
 use Rattle.sctp_parts.specs.declared.timer.Timer.{Timer}
 use Rattle.sctp_parts.specs.declared.timer.Timer.TheVariants as names
-use Rattle.sctp_parts.specs.Timers.{IsNoneArmed, TimerState, Timers, is_ahead, is_due, moment_of, passes, restarted_if_stale}
+use Rattle.sctp_parts.specs.Timers.{IsNoneArmed, TimerState, Timers, is_ahead, is_due, moment_of, passes, restarted_if_stale, started}
 use Rattle.sctp_outbound_queue.specs.declared.message.InFlight.{InFlight}
 use Rattle.sctp_assoc.specs.Calls.{is_beginning, is_closed_state, is_cookie_echoed, is_cookie_wait, is_established}
-use Rattle.sctp_assoc.specs.OneSide.{is_armed}
+use Rattle.sctp_assoc.specs.OneSide.{is_armed, is_delayed}
 use Rattle.sctp_assoc.specs.Shown.{Shown, all_stopped}
 
 -- T3-rtx runs where DATA is in flight in Established, or is past its limit; with nothing in flight it does not run.
@@ -39,6 +40,7 @@ pub record Ticks (a : Shown) : Type 0 where
   pub working : a.failed ≡ false
   pub not_lost : a.lost ≡ false
   pub fits : FitsTimers a.state a.sender.queue.in_flight a.timers
+  pub acks : is_some a.timers.ack.moment ≡ is_delayed a.receiver.ack_state
 
 -- An association that failed or was lost.
 pub record AtRest (a : Shown) : Type 0 where
@@ -53,6 +55,7 @@ pub record IsSameTime (a b : Shown) : Type 0 where
   pub state : b.state ≡ a.state
   pub flown : b.sender.queue.in_flight ≡ a.sender.queue.in_flight
   pub timers : b.timers ≡ a.timers
+  pub acks : b.receiver.ack_state ≡ a.receiver.ack_state
 
 fits_by : (s s' : AssociationState) (f f' : List InFlight) (t t' : Timers) → s' ≡ s → f' ≡ f → t' ≡ t
     → FitsTimers s f t → FitsTimers s' f' t'
@@ -66,15 +69,23 @@ ticks_by a b e h = record {
   not_lost = e.lost ∙ h.not_lost;
   fits = fits_by a.state b.state a.sender.queue.in_flight b.sender.queue.in_flight a.timers b.timers e.state e.flown
       e.timers h.fits;
+  acks = ap (λ (t : Timers). is_some t.ack.moment) e.timers ∙ h.acks ∙ sym (ap is_delayed e.acks);
 }
 
 pub same_time : (a : Shown) → IsSameTime a a
-same_time a = record { failed = refl; lost = refl; state = refl; flown = refl; timers = refl }
+same_time a = record { failed = refl; lost = refl; state = refl; flown = refl; timers = refl; acks = refl }
 
 pub time_by : (a b : Shown) → b.failed ≡ a.failed → b.lost ≡ a.lost → b.state ≡ a.state
-    → b.sender.queue.in_flight ≡ a.sender.queue.in_flight → b.timers ≡ a.timers → IsSameTime a b
-time_by a b failed lost state flown timers = record
-    { failed = failed; lost = lost; state = state; flown = flown; timers = timers }
+    → b.sender.queue.in_flight ≡ a.sender.queue.in_flight → b.timers ≡ a.timers
+    → b.receiver.ack_state ≡ a.receiver.ack_state → IsSameTime a b
+time_by a b failed lost state flown timers acks = record {
+  failed = failed;
+  lost = lost;
+  state = state;
+  flown = flown;
+  timers = timers;
+  acks = acks;
+}
 
 pub time_on : (a b c : Shown) → IsSameTime a b → IsSameTime b c → IsSameTime a c
 time_on a b c x y = record {
@@ -83,6 +94,7 @@ time_on a b c x y = record {
   state = y.state ∙ x.state;
   flown = y.flown ∙ x.flown;
   timers = y.timers ∙ x.timers;
+  acks = y.acks ∙ x.acks;
 }
 
 pub rest_by : (a b : Shown) → b.failed ≡ a.failed → b.lost ≡ a.lost → b.state ≡ a.state → b.timers ≡ a.timers
@@ -211,3 +223,15 @@ fits_as_many s f g t e h =
       cookies = h.cookies;
       unsent = λ b. nil_from_length g (e ∙ ap (λ (xs : List InFlight). length xs) (h.unsent b));
     }
+
+-- the timer of acknowledgements stayed
+pub ack_kept : (u t : Timers) (s : AckState) → u.ack ≡ t.ack → is_some t.ack.moment ≡ is_delayed s
+    → is_some u.ack.moment ≡ is_delayed s
+ack_kept u t s e h = ap (λ (z : TimerState). is_some z.moment) e ∙ h
+
+pub restarted_keeps_ack : (now rto : ℕ) (t : Timers) → (restarted_if_stale names.T3RTX now rto t).ack ≡ t.ack
+restarted_keeps_ack now rto t = kept (is_ahead (moment_of names.T3RTX t) now)
+  where
+    kept : (c : Bool) → (if c then t else started names.T3RTX now rto t).ack ≡ t.ack
+    kept true = refl
+    kept false = refl

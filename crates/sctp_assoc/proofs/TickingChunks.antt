@@ -27,14 +27,15 @@ use Rattle.sctp_inbound.specs.Receiver.{credit_of, is_next_after, taken_to}
 use Rattle.sctp_outbound.specs.declared.sender.Sender.{Sender}
 use Rattle.sctp_outbound.specs.declared.sender.SackOutcome.{SackOutcome}
 use Rattle.sctp_outbound.specs.declared.sender.SackOutcome.TheVariants as outcomes
-use Rattle.sctp_outbound.specs.Sender.{acknowledged, points_to, sack_outcome, t3_cleared, with_window}
+use Rattle.sctp_outbound.specs.Sender.{acknowledged, points_to, sack_outcome, t3_after_sack, t3_cleared, with_window}
 use Rattle.sctp_assoc.specs.declared.inbound.Flow.{Flow}
 use Rattle.sctp_assoc.specs.declared.inbound.Flow.TheVariants as flows
 use Rattle.sctp_assoc.specs.Calls.{closed_open, is_beginning, is_closed_state, is_cookie_echoed, is_cookie_wait, is_established}
 use Rattle.sctp_assoc.specs.Handshake.{acknowledged_cookie, answered, connected, echoed, information_returned, met, on_cookie_ack, on_cookie_echo, on_heartbeat, on_init, on_init_ack, sends_cookie}
 use Rattle.sctp_assoc.specs.Chunks.{after_chunks, after_packet, after_packet_of, asks_or_faults, checked_first, counted_data, counted_sack, dispatched, ended, goes_on, is_whole, on_chunk, on_counted_data, on_counted_sack, on_data, on_next_data, on_sack, stream_found, taken_in, told, with_acknowledged}
+use Rattle.sctp_assoc.specs.OneSide.{is_delayed}
 use Rattle.sctp_assoc.specs.Shown.{Shown}
-use Rattle.sctp_assoc.proofs.Ticking.{AtRest, FitsTimers, IsSameTime, Ticks, established_begins_no_more, fits_as_many, fits_restarted, none_armed, restarted, same_time, ticks_by, time_by, time_on}
+use Rattle.sctp_assoc.proofs.Ticking.{AtRest, FitsTimers, IsSameTime, Ticks, ack_kept, established_begins_no_more, fits_as_many, fits_restarted, none_armed, restarted, restarted_keeps_ack, same_time, ticks_by, time_by, time_on}
 
 -- DATA leaves all of it
 
@@ -42,14 +43,14 @@ found_time : (there left : Bool) (a : Shown) (id : ℕ) → is_some (stream_at a
     → generation_left a.streams ≡ left → IsSameTime a (stream_found a id).0
 unfolding stream_found
 found_time true left a id e f = rw e (same_time a)
-found_time false true a id e f = rw (e, f) (time_by a _ refl refl refl refl refl)
+found_time false true a id e f = rw (e, f) (time_by a _ refl refl refl refl refl refl)
 found_time false false a id e f = rw (e, f) (same_time a)
 
 told_time : (readable kept : Bool) (a : Shown) (id : ℕ) → is_readable_in a.streams id ≡ readable
     → IsSameTime a (told a id kept)
-told_time true true a id e = rw e (time_by a _ refl refl refl refl refl)
-told_time false true a id e = rw e (time_by a _ refl refl refl refl refl)
-told_time readable false a id e = time_by a _ refl refl refl refl refl
+told_time true true a id e = rw e (time_by a _ refl refl refl refl refl refl)
+told_time false true a id e = rw e (time_by a _ refl refl refl refl refl refl)
+told_time readable false a id e = time_by a _ refl refl refl refl refl refl
 
 taken_time : (refusal : Option Error) (a : Shown) (piece : ChunkPayloadData)
     → refusal_in a.streams piece.stream_identifier piece a.receiver.max_receive_message_size ≡ refusal → IsSameTime a (taken_in a piece).0
@@ -58,7 +59,7 @@ taken_time (Some fault) a piece e = rw e (same_time a)
 taken_time None a piece e =
     let put = pushed_in a.streams piece.stream_identifier piece in
     let b : Shown = record a { streams = put.0; receiver = taken_to a.receiver piece.tsn } in
-    rw e (time_on a b _ (time_by a b refl refl refl refl refl)
+    rw e (time_on a b _ (time_by a b refl refl refl refl refl refl)
     (told_time (is_readable_in b.streams piece.stream_identifier) put.1 b piece.stream_identifier refl))
 
 asked_time : (x : Shown × Option Error) (piece : ChunkPayloadData) (wish : AckWish)
@@ -92,7 +93,7 @@ counted_data_time false a piece wish e = rw e (same_time a)
 data_time : (a : Shown) (piece : ChunkPayloadData) (wish : AckWish) → IsSameTime a (on_data a piece wish).0
 unfolding on_data
 data_time a piece wish =
-    time_on a (counted_data a) _ (time_by a (counted_data a) refl refl refl refl refl)
+    time_on a (counted_data a) _ (time_by a (counted_data a) refl refl refl refl refl refl)
     (counted_data_time (is_next_after a.receiver piece.tsn && is_whole piece) (counted_data a) piece wish refl)
 
 -- SACK
@@ -149,6 +150,14 @@ sack_fits false true s f g t now rto b e k h = record {
 }
 sack_fits false false s f g t now rto b e k h = fits_as_many s f g t (ap (λ (z : List InFlight). length z) (k refl)) h
 
+sack_keeps_ack : (left moved : Bool) (t : Timers) (now rto : ℕ)
+    → (if left then restarted_if_stale names.T3RTX now rto (t3_cleared moved t)
+    else if moved then with_stopped names.T3RTX t else t).ack ≡ t.ack
+sack_keeps_ack true true t now rto = restarted_keeps_ack now rto (t3_cleared true t)
+sack_keeps_ack true false t now rto = restarted_keeps_ack now rto (t3_cleared false t)
+sack_keeps_ack false true t now rto = refl
+sack_keeps_ack false false t now rto = refl
+
 taken_ticks : (a : Shown) (moved : Bool) (now : ℕ) (x : Sender × Estimate × StreamMap) → is_beginning a.state ≡ false
     → (moved ≡ false → x.0.queue.in_flight ≡ a.sender.queue.in_flight) → Ticks a
     → Ticks (with_acknowledged a moved now x)
@@ -157,6 +166,8 @@ taken_ticks a moved now (s, e, m) b k h = record {
   not_lost = h.not_lost;
   fits = sack_fits (ltb 0 (length s.queue.in_flight)) moved a.state a.sender.queue.in_flight s.queue.in_flight a.timers
       now e.rto b refl k h.fits;
+  acks = ack_kept (t3_after_sack moved (length s.queue.in_flight) now e.rto a.timers) a.timers a.receiver.ack_state
+      (sack_keeps_ack (ltb 0 (length s.queue.in_flight)) moved a.timers now e.rto) h.acks;
 }
 
 outcome_ticks : (o : SackOutcome) (a : Shown) (point window : ℕ) (wish : AckWish) (now : ℕ)
@@ -176,7 +187,7 @@ unfolding on_sack
 sack_ticks true a point window wish now e h =
     rw e (outcome_ticks (sack_outcome a.sender point) (counted_sack a) point window wish now
     (established_begins_no_more a.state e)
-    (ticks_by a (counted_sack a) (time_by a (counted_sack a) refl refl refl refl refl) h))
+    (ticks_by a (counted_sack a) (time_by a (counted_sack a) refl refl refl refl refl refl) h))
 sack_ticks false a point window wish now e h = rw e h
 
 -- The handshake
@@ -202,7 +213,7 @@ init_ticks : (c : Bool) (a : Shown) (header : CommonHeader) (init : ChunkInit) (
     → is_beginning a.state ≡ c → Ticks a → Ticks (on_init a header init wish).0
 unfolding on_init
 init_ticks true a header init wish e h = rw e (ticks_by a (answered (met a header init))
-    (time_by a (answered (met a header init)) refl refl refl refl refl) h)
+    (time_by a (answered (met a header init)) refl refl refl refl refl refl) h)
 init_ticks false a header init wish e h = rw e h
 
 waiting_is_open : (s : AssociationState) → is_cookie_wait s ≡ true
@@ -240,14 +251,19 @@ echo_fits s f t now rto b h = record {
 echoed_ticks : (o : Option (List ℕ)) (b : Shown) (wish : AckWish) (now : ℕ) → b.failed ≡ false → b.lost ≡ false
     → is_cookie_wait b.state ≡ true
     → FitsTimers states.CookieEchoed b.sender.queue.in_flight (started names.T1Cookie now b.estimate.rto b.timers)
-    → TicksOn (echoed o b wish now)
+    → is_some b.timers.ack.moment ≡ is_delayed b.receiver.ack_state → TicksOn (echoed o b wish now)
 unfolding sends_cookie
-echoed_ticks None b wish now works lost e h = record {
+echoed_ticks None b wish now works lost e h k = record {
   working = works;
   not_lost = lost;
   if_closed = λ c. absurd (false≢true (sym (waiting_is_open b.state e).0 ∙ c));
 }
-echoed_ticks (Some cookie) b wish now works lost e h = record { working = works; not_lost = lost; fits = h }
+echoed_ticks (Some cookie) b wish now works lost e h k = record {
+  working = works;
+  not_lost = lost;
+  fits = h;
+  acks = k;
+}
 
 init_ack_ticks : (waits back : Bool) (a : Shown) (header : CommonHeader) (init : ChunkInit) (wish : AckWish) (now : ℕ)
     → is_cookie_wait a.state ≡ waits
@@ -255,9 +271,10 @@ init_ack_ticks : (waits back : Bool) (a : Shown) (header : CommonHeader) (init :
 unfolding on_init_ack
 init_ack_ticks true true a header init wish now e f h =
     rw (e, f) (echoed_ticks (first_cookie init.params) _ wish now h.working h.not_lost e
-    (echo_fits a.state a.sender.queue.in_flight a.timers now a.estimate.rto (waiting_is_open a.state e).1 h.fits))
+    (echo_fits a.state a.sender.queue.in_flight a.timers now a.estimate.rto (waiting_is_open a.state e).1 h.fits)
+    h.acks)
 init_ack_ticks true false a header init wish now e f h = rw (e, f)
-    (ticks_by a _ (time_by a _ refl refl refl refl refl) h)
+    (ticks_by a _ (time_by a _ refl refl refl refl refl refl) h)
 init_ack_ticks false back a header init wish now e f h = rw e h
 
 -- it is established: neither timer of the handshake runs, and nothing was sent yet
@@ -278,11 +295,12 @@ connected_ticks a b h = record {
   working = h.working;
   not_lost = h.not_lost;
   fits = connected_fits a.state a.sender.queue.in_flight a.timers b h.fits;
+  acks = h.acks;
 }
 
 acknowledges_cookie : (a : Shown) → Ticks a → Ticks (acknowledged_cookie a)
 acknowledges_cookie a h = ticks_by a (acknowledged_cookie a)
-    (time_by a (acknowledged_cookie a) refl refl refl refl refl) h
+    (time_by a (acknowledged_cookie a) refl refl refl refl refl refl) h
 
 cookie_echo_ticks : (issued begins established : Bool) (a : Shown) (cookie : List ℕ) (wish : AckWish)
     → has_issued a.handshake cookie ≡ issued
@@ -303,7 +321,7 @@ cookie_ack_ticks false a wish e h = rw e h
 
 information_ticks : (o : Option (List ℕ)) (a : Shown) → Ticks a → Ticks (information_returned o a)
 information_ticks None a h = h
-information_ticks (Some information) a h = ticks_by a _ (time_by a _ refl refl refl refl refl) h
+information_ticks (Some information) a h = ticks_by a _ (time_by a _ refl refl refl refl refl refl) h
 
 heartbeat_ticks : (a : Shown) (heartbeat : ChunkHeartbeat) (wish : AckWish) → Ticks a
     → TicksOn (on_heartbeat a heartbeat wish)
@@ -371,18 +389,28 @@ goes_on_soundly (b, flows.Fault fault) more h k = fault_rests (is_closed_state b
     refl h
 
 ended_ticks : (wish : AckWish) (a : Shown) (now : ℕ) → Ticks a → Ticks (ended a wish now)
-ended_ticks wishes.None a now h = record { working = h.working; not_lost = h.not_lost; fits = h.fits }
+ended_ticks wishes.None a now h = record { working = h.working; not_lost = h.not_lost; fits = h.fits; acks = h.acks }
 ended_ticks wishes.Delayed a now h = record {
   working = h.working;
   not_lost = h.not_lost;
-  fits = record
-      { flies = h.fits.flies; inits = h.fits.inits; cookies = h.fits.cookies; unsent = h.fits.unsent };
+  fits = record {
+    flies = h.fits.flies;
+    inits = h.fits.inits;
+    cookies = h.fits.cookies;
+    unsent = h.fits.unsent;
+  };
+  acks = refl;
 }
 ended_ticks wishes.Immediate a now h = record {
   working = h.working;
   not_lost = h.not_lost;
-  fits = record
-      { flies = h.fits.flies; inits = h.fits.inits; cookies = h.fits.cookies; unsent = h.fits.unsent };
+  fits = record {
+    flies = h.fits.flies;
+    inits = h.fits.inits;
+    cookies = h.fits.cookies;
+    unsent = h.fits.unsent;
+  };
+  acks = refl;
 }
 
 chunks_sound : (header : CommonHeader) (cs : List Chunk) (a : Shown) (wish : AckWish) (now : ℕ) → Ticks a

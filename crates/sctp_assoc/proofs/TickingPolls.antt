@@ -3,7 +3,12 @@ use Rattle.std.proofs.Common.{◌≡◌, refl, sym, ap, ◌∙◌, subst, ◌⊎
 use Rattle.std.proofs.lemmas.Bool.{false≢true, le-ltb, lt-ltb}
 use Rattle.std.proofs.lemmas.List.{length-append}
 use Rattle.sctp_wire_types.specs.declared.chunk.ChunkPayloadData.{ChunkPayloadData}
+use Rattle.sctp_parts.specs.declared.state.AckState.{AckState}
+use Rattle.sctp_parts.specs.declared.state.AckState.TheVariants as acks
+use Rattle.sctp_parts.specs.declared.timer.Timer.TheVariants as names
+use Rattle.sctp_parts.specs.Timers.{restarted_if_stale}
 use Rattle.sctp_inbound.specs.Handshake.{header_of}
+use Rattle.sctp_assoc.specs.OneSide.{is_delayed}
 use Rattle.sctp_outbound_queue.specs.declared.message.InFlight.{InFlight}
 use Rattle.sctp_outbound_queue.specs.Message.{counted_again, sent_once}
 use Rattle.sctp_outbound_queue.specs.Waiting.{Waiting}
@@ -14,7 +19,7 @@ use Rattle.sctp_assoc.specs.Calls.{is_beginning, is_established}
 use Rattle.sctp_assoc.specs.Polled.{ack_after, ack_polled, control_packets, data_packets, data_polled, exchange_polled, is_due, polled, t3_after_sending, with_sent_data, without_control}
 use Rattle.sctp_assoc.specs.Shown.{Shown}
 use Rattle.sctp_assoc.proofs.Polling.{both_first}
-use Rattle.sctp_assoc.proofs.Ticking.{Ticks, established_begins_no_more, fits_as_many, fits_restarted, restarted, ticks_by, time_by}
+use Rattle.sctp_assoc.proofs.Ticking.{Ticks, ack_kept, established_begins_no_more, fits_as_many, fits_restarted, restarted, restarted_keeps_ack, ticks_by, time_by}
 
 -- Sending DATA for the first time
 
@@ -113,8 +118,8 @@ sent_if : (sent : Bool) (a : Shown) (now : ℕ) (s : Sender) → is_beginning a.
 sent_if false a now s b (inl (e, n)) h = record {
   working = h.working;
   not_lost = h.not_lost;
-  fits = fits_as_many
-      a.state a.sender.queue.in_flight s.queue.in_flight a.timers e h.fits;
+  fits = fits_as_many a.state a.sender.queue.in_flight s.queue.in_flight a.timers e h.fits;
+  acks = h.acks;
 }
 sent_if true a now s b (inl (e, n)) h = absurd (false≢true (sym n))
 sent_if false a now s b (inr (p, n)) h = absurd (false≢true n)
@@ -123,6 +128,8 @@ sent_if true a now s b (inr (p, n)) h = record {
   not_lost = h.not_lost;
   fits = fits_restarted a.state a.sender.queue.in_flight s.queue.in_flight a.timers _ b
       (restarted now a.estimate.rto a.timers) p h.fits;
+  acks = ack_kept (restarted_if_stale names.T3RTX now a.estimate.rto a.timers) a.timers a.receiver.ack_state
+      (restarted_keeps_ack now a.estimate.rto a.timers) h.acks;
 }
 
 sent_data_ticks : (a : Shown) (count now : ℕ) (x : Sender × List ChunkPayloadData) → is_beginning a.state ≡ false
@@ -136,9 +143,19 @@ data_ticks a now e h =
     sent_data_ticks a (length (resent_by a.sender)) now (sent_new (after_resending a.sender) (resent_by a.sender) now)
     (established_begins_no_more a.state e) (polls_bring a.sender now) h
 
+due_is_not_delayed : (s : AckState) → is_due s ≡ true → is_delayed s ≡ false
+due_is_not_delayed acks.Idle e = refl
+due_is_not_delayed acks.Immediate e = refl
+due_is_not_delayed acks.Delay e = absurd (false≢true e)
+
 ack_ticks : (due : Bool) (a : Shown) → is_due a.receiver.ack_state ≡ due → Ticks a → Ticks (ack_polled a).0
 unfolding ack_polled
-ack_ticks true a e h = rw e (ticks_by a _ (time_by a _ refl refl refl refl refl) h)
+ack_ticks true a e h = rw e (record {
+  working = h.working;
+  not_lost = h.not_lost;
+  fits = h.fits;
+  acks = h.acks ∙ due_is_not_delayed a.receiver.ack_state e;
+})
 ack_ticks false a e h = rw e h
 
 ack_after_ticks : (x : Shown × List ChunkPayloadData) → Ticks x.0 → Ticks (ack_after x).0
@@ -155,4 +172,4 @@ pub polls_tick : (a : Shown) (now : ℕ) → Ticks a → Ticks (polled a now).0
 polls_tick a now h =
     let b : Shown = without_control a in
     rw (both_first (control_packets a.control) (exchange_polled b now))
-    (exchange_ticks (is_established b.state) b now refl (ticks_by a b (time_by a b refl refl refl refl refl) h))
+    (exchange_ticks (is_established b.state) b now refl (ticks_by a b (time_by a b refl refl refl refl refl refl) h))

@@ -13,7 +13,7 @@ use Rattle.sctp_assoc.specs.Calls.{after_ack_delay, after_t3, is_beginning, is_c
 use Rattle.sctp_assoc.specs.Handshake.{after_t1_cookie, after_t1_init, sends_cookie, sends_init, t1_cookie_expired, t1_init_expired}
 use Rattle.sctp_assoc.specs.Timeouts.{after_handshake_timers, after_timeouts}
 use Rattle.sctp_assoc.specs.Shown.{Shown}
-use Rattle.sctp_assoc.proofs.Ticking.{FitsTimers, Flies, IsSameTime, Ticks, Waits, ticks_by, time_by, unarmed_is_not_due}
+use Rattle.sctp_assoc.proofs.Ticking.{FitsTimers, Flies, IsSameTime, Ticks, Waits, ack_kept, ticks_by, time_by, unarmed_is_not_due}
 
 kept_if : {A : Type 0} (c : Bool) (x y : Timers) (part : Timers → A) → part x ≡ part y
     → part (if c then x else y) ≡ part y
@@ -73,6 +73,9 @@ cookie_fits s f t now u a b c d w h =
     (waits_still (is_cookie_wait s) t.t1_init u.t1_init t.handshake_limit
     (b ∙ kept_if due x t (λ (z : Timers). z.t1_init) refl) h.inits) w h.unsent
 
+expiry_keeps_ack : (due : Bool) (x t : Timers) → x.ack ≡ t.ack → (if due then x else t).ack ≡ t.ack
+expiry_keeps_ack due x t e = kept_if due x t (λ (z : Timers). z.ack) e
+
 -- the last of three tests
 third : (x y z : Bool) → (x && y && z) ≡ true → z ≡ true
 third true true z e = e
@@ -96,14 +99,14 @@ running there before timer limit now due h armed = record {
 init_time : (o : Option Offer) (a : Shown) (now : ℕ) → a.handshake.offer ≡ o
     → IsSameTime (record a { timers = started names.T1Init now a.estimate.rto a.timers }) (sends_init a now)
 unfolding sends_init
-init_time None a now e = rw e (time_by _ _ refl refl refl refl refl)
-init_time (Some offer) a now e = rw e (time_by _ _ refl refl refl refl refl)
+init_time None a now e = rw e (time_by _ _ refl refl refl refl refl refl)
+init_time (Some offer) a now e = rw e (time_by _ _ refl refl refl refl refl refl)
 
 cookie_time : (o : Option (List ℕ)) (a : Shown) (now : ℕ) → a.handshake.echo ≡ o
     → IsSameTime (record a { timers = started names.T1Cookie now a.estimate.rto a.timers }) (sends_cookie a now)
 unfolding sends_cookie
-cookie_time None a now e = rw e (time_by _ _ refl refl refl refl refl)
-cookie_time (Some cookie) a now e = rw e (time_by _ _ refl refl refl refl refl)
+cookie_time None a now e = rw e (time_by _ _ refl refl refl refl refl refl)
+cookie_time (Some cookie) a now e = rw e (time_by _ _ refl refl refl refl refl refl)
 
 t1_init_ticks : (due failure : Bool) (a : Shown) (now : ℕ) → (expiry_of names.T1Init now a.timers).0 ≡ due
     → (expiry_of names.T1Init now a.timers).1 ≡ failure → Ticks a
@@ -118,6 +121,9 @@ t1_init_ticks true true a now d e h = record {
       (given_up (is_cookie_wait a.state) (t1_init_expired a now).timers.t1_init a.timers.handshake_limit refl
       (third (is_due a.timers.t1_init.moment now) (not a.timers.t1_init.exempt)
       (passes (after_expiry names.T1Init now a.timers).t1_init.retries a.timers.handshake_limit) e)) h.fits;
+  acks = ack_kept (t1_init_expired a now).timers a.timers a.receiver.ack_state
+      (expiry_keeps_ack (is_due a.timers.t1_init.moment now) (with_timer names.T1Init (expired_state a.timers.t1_init) a.timers) a.timers refl)
+      h.acks;
 }
 t1_init_ticks true false a now d e h =
     let b : Shown = t1_init_expired a now in
@@ -128,6 +134,9 @@ t1_init_ticks true false a now d e h =
       fits = init_fits a.state a.sender.queue.in_flight a.timers now c.timers refl refl refl refl
           (running (is_cookie_wait a.state) a.timers.t1_init c.timers.t1_init a.timers.handshake_limit now d
           h.fits.inits refl) h.fits;
+      acks = ack_kept c.timers a.timers a.receiver.ack_state
+          (expiry_keeps_ack (is_due a.timers.t1_init.moment now) (with_timer names.T1Init (expired_state a.timers.t1_init) a.timers) a.timers
+          refl) h.acks;
     })
 
 t1_cookie_ticks : (due failure : Bool) (a : Shown) (now : ℕ) → (expiry_of names.T1Cookie now a.timers).0 ≡ due
@@ -143,6 +152,9 @@ t1_cookie_ticks true true a now d e h = record {
       (given_up (is_cookie_echoed a.state) (t1_cookie_expired a now).timers.t1_cookie a.timers.handshake_limit refl
       (third (is_due a.timers.t1_cookie.moment now) (not a.timers.t1_cookie.exempt)
       (passes (after_expiry names.T1Cookie now a.timers).t1_cookie.retries a.timers.handshake_limit) e)) h.fits;
+  acks = ack_kept (t1_cookie_expired a now).timers a.timers a.receiver.ack_state
+      (expiry_keeps_ack (is_due a.timers.t1_cookie.moment now) (with_timer names.T1Cookie (expired_state a.timers.t1_cookie) a.timers) a.timers refl)
+      h.acks;
 }
 t1_cookie_ticks true false a now d e h =
     let b : Shown = t1_cookie_expired a now in
@@ -153,6 +165,9 @@ t1_cookie_ticks true false a now d e h =
       fits = cookie_fits a.state a.sender.queue.in_flight a.timers now c.timers refl refl refl refl
           (running (is_cookie_echoed a.state) a.timers.t1_cookie c.timers.t1_cookie a.timers.handshake_limit now d
           h.fits.cookies refl) h.fits;
+      acks = ack_kept c.timers a.timers a.receiver.ack_state
+          (expiry_keeps_ack (is_due a.timers.t1_cookie.moment now) (with_timer names.T1Cookie (expired_state a.timers.t1_cookie) a.timers) a.timers
+          refl) h.acks;
     })
 
 -- The retransmission timer
@@ -192,6 +207,9 @@ t3_ticks true true a now d e h = record {
         none = λ _. refl;
       })
       h.fits.unsent h.fits;
+  acks = ack_kept (t3_expired a now).timers a.timers a.receiver.ack_state
+      (expiry_keeps_ack (is_due a.timers.t3_rtx.moment now) (with_timer names.T3RTX (expired_state a.timers.t3_rtx) a.timers)
+      a.timers refl) h.acks;
 }
 t3_ticks true false a now d e h = record {
   working = h.working;
@@ -202,6 +220,9 @@ t3_ticks true false a now d e h = record {
         none = λ z. absurd (true≢false (sym d ∙ unarmed_is_not_due a.timers.t3_rtx.moment now
             (h.fits.flies.none (map_nil a.sender.queue.in_flight z))));
       }) (λ b. ap (λ (f : List InFlight). map marked_again f) (h.fits.unsent b)) h.fits;
+  acks = ack_kept (retransmits (t3_expired a now) now).timers a.timers a.receiver.ack_state
+      (expiry_keeps_ack (is_due a.timers.t3_rtx.moment now) (with_timer names.T3RTX (expired_state a.timers.t3_rtx) a.timers)
+      a.timers refl) h.acks;
 }
 
 -- The delay of an acknowledgement
@@ -231,8 +252,8 @@ delay_ticks a now h =
     (record {
       working = h.working;
       not_lost = h.not_lost;
-      fits = ack_fits a.state a.sender.queue.in_flight a.timers now
-          h.fits;
+      fits = ack_fits a.state a.sender.queue.in_flight a.timers now h.fits;
+      acks = refl;
     }) h
 
 pub timeouts_tick : (a : Shown) (now : ℕ) → Ticks a → Ticks (after_timeouts a now)

@@ -4,6 +4,8 @@ use Rattle.sctp_wire_types.specs.declared.error.Error.{Error}
 use Rattle.sctp_wire_types.specs.declared.error.Error.TheVariants as errors
 use Rattle.sctp_wire_types.specs.declared.ids.PayloadProtocolIdentifier.{PayloadProtocolIdentifier}
 use Rattle.sctp_wire.specs.declared.packet.Packet.{Packet}
+use Rattle.sctp_parts.specs.declared.state.AckState.{AckState}
+use Rattle.sctp_parts.specs.declared.state.AckState.TheVariants as acks
 use Rattle.sctp_parts.specs.declared.timer.Timer.TheVariants as names
 use Rattle.sctp_parts.specs.declared.timer.Timer.{Timer}
 use Rattle.sctp_parts.specs.Timers.{Timers, moment_of}
@@ -18,6 +20,12 @@ use Rattle.sctp_assoc.specs.Timeouts.{after_timeouts}
 -- a timer runs
 abbrev pub is_armed : Timer → Timers → Bool
 is_armed timer t = is_some (moment_of timer t)
+
+-- the acknowledgement of what came is put off for a time (RFC 4960 section 6.2)
+abbrev pub is_delayed : AckState → Bool
+is_delayed acks.Idle = false
+is_delayed acks.Immediate = false
+is_delayed acks.Delay = true
 
 -- A call of the application, or of whoever carries its datagrams and its moments.
 pub data Call : Type 0 where
@@ -107,7 +115,8 @@ IsRun [] told a b = IsRefused told a b
 IsRun (call ∷ calls) told a b = RunsOn call (λ later c. IsRun calls later c b) told a
 
 -- An association as a constructor leaves it: it works, no loss waits to be told, no DATA was sent and T3-rtx does not run;
--- the timer of INIT runs in CookieWait alone, and that of COOKIE ECHO in CookieEchoed alone (RFC 4960 section 5.1).
+-- the timer of INIT runs in CookieWait alone, that of COOKIE ECHO in CookieEchoed alone (RFC 4960 section 5.1), and that of
+-- an acknowledgement where one is delayed.
 pub record IsFresh (a : Shown) : Type 0 where
   pub working : a.failed ≡ false
   pub not_lost : a.lost ≡ false
@@ -116,3 +125,4 @@ pub record IsFresh (a : Shown) : Type 0 where
   pub retransmission : is_armed names.T3RTX a.timers ≡ false
   pub init : is_armed names.T1Init a.timers ≡ is_cookie_wait a.state
   pub cookie : is_armed names.T1Cookie a.timers ≡ is_cookie_echoed a.state
+  pub acknowledgement : is_armed names.Ack a.timers ≡ is_delayed a.receiver.ack_state

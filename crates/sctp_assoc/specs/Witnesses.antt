@@ -13,7 +13,7 @@ use Rattle.sctp_assoc.specs.declared.shared.ServerConfig.{ServerConfig}
 use Rattle.sctp_assoc.specs.Calls.{closed_by, is_closed_state, is_cookie_echoed, is_cookie_wait, is_established}
 use Rattle.sctp_assoc.specs.Join.{created, joined}
 use Rattle.sctp_assoc.specs.Laws.{losses}
-use Rattle.sctp_assoc.specs.OneSide.{Call, FailsFrom, IsFresh, IsRun, is_armed}
+use Rattle.sctp_assoc.specs.OneSide.{Call, FailsFrom, IsFresh, IsRun, is_armed, is_delayed}
 use Rattle.sctp_assoc.specs.Shown.{Shown}
 
 -- Beginning
@@ -98,6 +98,12 @@ IsHandshakeUntimed t = (is_armed names.T1Init t ≡ false) × (is_armed names.T1
 -- So in Established nothing of the handshake goes out again.
 abbrev pub NoHandshakeTimerRunsOnceEstablished : Type 0
 NoHandshakeTimerRunsOnceEstablished = OfEachSide (λ b. is_established b.state ≡ true → IsHandshakeUntimed b.timers)
+
+-- The timer of acknowledgements runs where one is delayed, and there alone: what came is acknowledged in time, or with the next
+-- packets that go out (RFC 4960 section 6.2).
+abbrev pub DelayedSacksAreTimed : Type 0
+DelayedSacksAreTimed = OfEachSide (λ b. b.failed ≡ false → b.lost ≡ false
+    → is_armed names.Ack b.timers ≡ is_delayed b.receiver.ack_state)
 
 -- Ending
 

@@ -3,7 +3,7 @@ ghost use Rattle.sctp_assoc.specs.Shapes.{AcceptedWritesFit, ChunksLeadOn, DataI
 ghost use Rattle.sctp_assoc.specs.Causes.{CausesClose, ClosingPacketsHaveCauses, FaultsAreCauses};
 ghost use Rattle.sctp_assoc.specs.Intake.{DataIsTakenIn, NothingElseIsTakenIn};
 ghost use Rattle.sctp_assoc.specs.Laws.{DueSacksGoOut, FaultsAloneClose, OpenedStreamsDoNotClose, PollsDoNotClose, PollsKeepWhatIsHeld, ReadsDoNotClose, SacksNameThePoint, SacksOfferTheBuffer, SacksSayWhatCame, TimersDoNotClose, WhatWaitsGoesOut, WhatWaitsIsGiven, WhatWaitsIsPolled, WritesAreHeld, WritesDoNotClose};
-ghost use Rattle.sctp_assoc.specs.Witnesses.{CookiesAreTimedInCookieEchoedAlone, CreatedSidesAreFresh, EchoedCookiesAreTimed, FailedSidesWaitForNothing, FailuresStopTheTimers, InitsAreTimedInCookieWaitAlone, JoinedSidesAreFresh, LossesAreToldOnce, LossesStopTheTimers, LostSidesWaitForNothing, NoHandshakeTimerRunsOnceEstablished, NothingInFlightIsNotTimed, OutstandingDataIsTimed, SentInitsAreTimed};
+ghost use Rattle.sctp_assoc.specs.Witnesses.{CookiesAreTimedInCookieEchoedAlone, CreatedSidesAreFresh, DelayedSacksAreTimed, EchoedCookiesAreTimed, FailedSidesWaitForNothing, FailuresStopTheTimers, InitsAreTimedInCookieWaitAlone, JoinedSidesAreFresh, LossesAreToldOnce, LossesStopTheTimers, LostSidesWaitForNothing, NoHandshakeTimerRunsOnceEstablished, NothingInFlightIsNotTimed, OutstandingDataIsTimed, SentInitsAreTimed};
 
 /// Sending: what waits goes out with the next poll where nothing is in flight (RFC 4960 section 6.1).
 pub fn what_waits_goes_out()
@@ -112,8 +112,8 @@ pub fn at_most_one_loss()
     ensures told { LossesAreToldOnce }
 {}
 
-/// Timing: over every list of calls each timer of DATA and of the handshake runs where it should, and where it should alone (RFC 4960
-/// sections 5.1 and 6.3.2). A side that failed or was lost waits for no moment.
+/// Timing: over every list of calls each timer of DATA, of the handshake and of acknowledgements runs where it should, and there
+/// alone (RFC 4960 sections 5.1, 6.2 and 6.3.2). A side that failed or was lost waits for no moment.
 pub fn timers_run_where_they_should()
     ensures data { OutstandingDataIsTimed }
     ensures no_data { NothingInFlightIsNotTimed }
@@ -122,6 +122,7 @@ pub fn timers_run_where_they_should()
     ensures inits_alone { InitsAreTimedInCookieWaitAlone }
     ensures cookies_alone { CookiesAreTimedInCookieEchoedAlone }
     ensures established { NoHandshakeTimerRunsOnceEstablished }
+    ensures acknowledgements { DelayedSacksAreTimed }
     ensures failures { FailuresStopTheTimers }
     ensures losses { LossesStopTheTimers }
     ensures failed { FailedSidesWaitForNothing }

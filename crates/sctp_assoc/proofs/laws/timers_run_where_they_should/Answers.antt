@@ -1,4 +1,4 @@
-use Rattle.sctp_assoc.proofs.Runs.{cookies_are_timed_in_cookie_echoed_alone, echoed_cookies_are_timed, failed_sides_wait_for_nothing, failures_stop_the_timers, inits_are_timed_in_cookie_wait_alone, losses_stop_the_timers, lost_sides_wait_for_nothing, no_handshake_timer_runs_once_established, nothing_in_flight_is_not_timed, outstanding_data_is_timed, sent_inits_are_timed}
+use Rattle.sctp_assoc.proofs.Runs.{cookies_are_timed_in_cookie_echoed_alone, delayed_sacks_are_timed, echoed_cookies_are_timed, failed_sides_wait_for_nothing, failures_stop_the_timers, inits_are_timed_in_cookie_wait_alone, losses_stop_the_timers, lost_sides_wait_for_nothing, no_handshake_timer_runs_once_established, nothing_in_flight_is_not_timed, outstanding_data_is_timed, sent_inits_are_timed}
 use Rattle.sctp_assoc.proofs.laws.timers_run_where_they_should.Goals as goal
 
 pub returns-clause-data : goal.returns-clause-data
@@ -21,6 +21,9 @@ returns-clause-cookies_alone c = cookies_are_timed_in_cookie_echoed_alone
 
 pub returns-clause-established : goal.returns-clause-established
 returns-clause-established c = no_handshake_timer_runs_once_established
+
+pub returns-clause-acknowledgements : goal.returns-clause-acknowledgements
+returns-clause-acknowledgements c = delayed_sacks_are_timed
 
 pub returns-clause-failures : goal.returns-clause-failures
 returns-clause-failures c = failures_stop_the_timers
