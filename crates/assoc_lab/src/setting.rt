@@ -3,7 +3,7 @@ use crate::line::Beginning;
 use bytes::Bytes;
 use sctp_assoc::{ChunkInit, Error, Instant, ServerConfig, TransportConfig};
 use sctp_pair::Pair;
-use sctp_wire_types::{List, Param};
+use sctp_wire_queues::{List, Param};
 use std::alloc::{AllocError, Global};
 use std::net::{IpAddr, Ipv4Addr, SocketAddr};
 

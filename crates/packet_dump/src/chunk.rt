@@ -1,6 +1,6 @@
 // Chunks, by name and with their fields.
 use crate::param::{write_causes, write_params};
-use sctp_wire::{
+use sctp_wire_queues::{
     Chunk, ChunkForwardTsn, ChunkIForwardTsn, ChunkInit, ChunkPayloadData, ChunkReconfig,
     ChunkSelectiveAck,
 };

@@ -1,7 +1,7 @@
 // All lines of an input.
 use crate::chunk::{write_chunk, write_name};
 use crate::reading::{Reading, read_line};
-use sctp_wire::Packet;
+use sctp_wire_queues::Packet;
 use std::alloc::Global;
 use std::io::{self, BufRead, Write};
 

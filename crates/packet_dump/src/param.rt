@@ -1,5 +1,5 @@
 // Parameters and error causes.
-use sctp_wire::{ErrorCause, Param, ReconfigResult};
+use sctp_wire_queues::{ErrorCause, Param, ReconfigResult};
 use std::io::{self, Write};
 
 fn result_name(outcome: ReconfigResult) -> &'static str {

@@ -6,7 +6,7 @@ ghost use Rattle.packet_dump.specs.Lines.{Shows};
 
 use bytes::Bytes;
 use hex::FromHexError;
-use sctp_wire::{Error, Packet, PartialDecode};
+use sctp_wire_queues::{Error, Packet, PartialDecode};
 use std::alloc::{AllocError, Global};
 
 /// What one line of hex is read as.

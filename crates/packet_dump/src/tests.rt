@@ -1,6 +1,6 @@
 // Datagrams worked out by hand after RFC 4960 section 3.
 use bytes::Bytes;
-use sctp_wire::{Chunk, Error, Fault, Packet, Param, PartialDecode, check_packet};
+use sctp_wire_queues::{Chunk, Error, Fault, Packet, Param, PartialDecode, check_packet};
 use std::alloc::{AllocError, Global};
 use std::test::Fail;
 

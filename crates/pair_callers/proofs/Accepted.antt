@@ -4,8 +4,8 @@ use Rattle.std.specs.Prelude.{IfSome}
 use Rattle.std.proofs.lemmas.Bool.{eq-eqb, ne_eqb, true≢false}
 use Rattle.std.proofs.lemmas.List.{append-nil}
 use Rattle.sctp_wire_types.specs.declared.error.Error.{Error}
-use Rattle.sctp_queues.specs.Stream.{Stream}
-use Rattle.sctp_queues.specs.Streams.{stream_at}
+use Rattle.sctp_streams.specs.Stream.{StreamView}
+use Rattle.sctp_streams.specs.Streams.{stream_at}
 use Rattle.sctp_model.specs.Messages.{Message}
 use Rattle.sctp_assoc.specs.Calls.{stream_refusal, write_refusal}
 use Rattle.sctp_assoc.specs.Shapes.{IsLive}
@@ -52,7 +52,7 @@ accepts_one side id n bytes w v h =
       last = d.accepted id
           ∙ ap (λ (c : Bool). (from_side side w).sender.plan.accepted id ++
           (if c then messages_on (stream_at a.streams id) bytes else [])) here
-          ∙ ap (λ (o : Option Stream). (from_side side w).sender.plan.accepted id ++ messages_on o bytes) live.there;
+          ∙ ap (λ (o : Option StreamView). (from_side side w).sender.plan.accepted id ++ messages_on o bytes) live.there;
       others = λ s ne.
           let there : (is_side side side && eqb id s) ≡ false = rw (
             is_own side,

@@ -4,12 +4,12 @@ use Rattle.std.specs.Prelude.{IfSome}
 use Rattle.std.specs.List.{AllByRecursion}
 use Rattle.std.proofs.lemmas.Bool.{eq-eqb, ne_eqb}
 use Rattle.std.proofs.lemmas.List.{append-nil, map-append}
-use Rattle.sctp_receive_queues.specs.Messages.{Message}
+use Rattle.sctp_receive_queues.specs.Messages.{ReceivedMessage}
 use Rattle.sctp_model.specs.Messages.{Plan, message_at}
 use Rattle.sctp_model.specs.Machine.{Direction}
 use Rattle.sctp_model.specs.Reassembly.{Got}
 use Rattle.sctp_model.specs.Safe.{IsSafe, Letter, Names, Tells, letter_read, letter_written}
-use Rattle.sctp_directions.specs.Incoming.{IsReadAs, letter_of}
+use Rattle.sctp_directions.specs.Incoming.{IsReadAs, letter_received}
 use Rattle.sctp_pair.specs.declared.step.Reply.{Reply}
 use Rattle.sctp_pair.specs.declared.step.Reply.TheVariants as replies
 use Rattle.sctp_pair.specs.declared.step.Side2.{Side2}
@@ -23,7 +23,7 @@ use Rattle.pair_callers.proofs.Going.{Leads, goes_on, goes_on_within, is_own, pr
 
 -- The message of a read
 
-abbrev no_message : Option Message
+abbrev no_message : Option ReceivedMessage
 no_message = None
 
 none_either : (c : Bool) → no_message ≡ (if c then no_message else no_message)
@@ -45,7 +45,7 @@ read_other side id s r ne =
     let e : (is_side side side && eqb id s) ≡ false = rw (is_own side, ne_eqb id s (λ (q : id ≡ s). ne (sym q))) refl in
     read_answer side side id s r ∙ ap (λ (c : Bool). if c then message_in r else None) e
 
-pub grows_by : (m : Option Message) (before after : List Got) → IsReadAs m before after
+pub grows_by : (m : Option ReceivedMessage) (before after : List Got) → IsReadAs m before after
     → map letter_read after ≡ map letter_read before ++ letters_of m
 grows_by None before after e = ap (λ (gs : List Got). map letter_read gs) e ∙ sym (append-nil (map letter_read before))
 grows_by (Some m) before after (g, e, l) =
@@ -58,10 +58,10 @@ reads_next side id r w v h =
     let d = step_to side (steps.Read side id) r w v h in
     record {
       next = grows_by (message_in r) ((to_side side w).reads id) ((to_side side v).reads id)
-          (subst (λ (m : Option Message). IsReadAs m ((to_side side w).reads id) ((to_side side v).reads id))
+          (subst (λ (m : Option ReceivedMessage). IsReadAs m ((to_side side w).reads id) ((to_side side v).reads id))
           (read_here side id r) (d.read id));
       others = λ s ne. ap (λ (gs : List Got). map letter_read gs)
-          (subst (λ (m : Option Message). IsReadAs m ((to_side side w).reads s) ((to_side side v).reads s))
+          (subst (λ (m : Option ReceivedMessage). IsReadAs m ((to_side side w).reads s) ((to_side side v).reads s))
           (read_other side id s r ne) (d.read s));
     }
 
@@ -90,8 +90,8 @@ last_named p taken s [] g (i ∷ is) h = (i, h.0)
 last_named p taken s (x ∷ xs) g [] h = absurd h
 last_named p taken s (x ∷ xs) g (i ∷ is) h = last_named p taken s xs g is h.1
 
-of_accepted : (w : Direction) (s : ℕ) (m : Message) (before : List Got) → IsReadAs (Some m) before (w.reads s)
-    → IsSafe w s → IsOfAccepted w s (letter_of m)
+of_accepted : (w : Direction) (s : ℕ) (m : ReceivedMessage) (before : List Got) → IsReadAs (Some m) before (w.reads s)
+    → IsSafe w s → IsOfAccepted w s (letter_received m)
 of_accepted w s m before (g, e, l) safe =
     let n = safe.read in
     let t = last_named w.sender.plan w.receiver.taken s before g n.0 (subst
@@ -105,13 +105,13 @@ of_accepted w s m before (g, e, l) safe =
 
 pub reads_accepted : (side : Side2) (id : ℕ) (r : Reply) (p q : Ends) → Leads (steps.Read side id) r p q
     → IfSome (message_in r) (λ m. GoesOnWithin p q (λ w v. (to_side side v).over id ≡ false
-    → IsOfAccepted (to_side side v) id (letter_of m)))
+    → IsOfAccepted (to_side side v) id (letter_received m)))
 reads_accepted side id (replies.Read None) p q leads = tt
 reads_accepted side id (replies.Read (Some m)) p q leads =
     goes_on_within (steps.Read side id) (replies.Read (Some m)) p q (λ w v. (to_side side v).over id ≡ false →
-    IsOfAccepted (to_side side v) id (letter_of m))
+    IsOfAccepted (to_side side v) id (letter_received m))
     (λ w v before after h safe span. of_accepted (to_side side v) id m ((to_side side w).reads id)
-    (subst (λ (x : Option Message). IsReadAs x ((to_side side w).reads id) ((to_side side v).reads id))
+    (subst (λ (x : Option ReceivedMessage). IsReadAs x ((to_side side w).reads id) ((to_side side v).reads id))
     (read_here side id (replies.Read (Some m)))
     ((step_to side (steps.Read side id) (replies.Read (Some m)) w v h).read id))
     ((promised_to side v safe).safe id span))

@@ -8,14 +8,14 @@ use Rattle.sctp_pair.specs.declared.step.Side2.TheVariants as sides
 use Rattle.sctp_pair.specs.declared.step.Step.{Step}
 use Rattle.sctp_pair.specs.declared.step.Step.TheVariants as steps
 use Rattle.sctp_pair.specs.Ends.{Ends, end_of}
-use Rattle.sctp_pair.specs.Steps.{Answers, Runs, Steps}
+use Rattle.sctp_pair.specs.Steps.{OnlyAnswers, Runs, Steps}
 use Rattle.pair_callers.specs.Running.{answer_in}
 use Rattle.pair_callers.proofs.Going.{at_its_side}
 
 pub lost_told : (side : Side2) (r : Reply) (p q : Ends) → Steps (steps.IsDrained side) p r q
     → answer_in r ≡ (end_of side p).lost
 lost_told side r p q h =
-    ap (λ (x : Reply). answer_in x) (at_its_side side p (λ (x y : Shown). Answers x (replies.State x.lost) r y) q h).0
+    ap (λ (x : Reply). answer_in x) (at_its_side side p (λ (x y : Shown). OnlyAnswers x (replies.State x.lost) r y) q h).0
 
 pub lost_same : (side : Side2) (r : Reply) (p q : Ends) → Steps (steps.IsDrained side) p r q → q ≡ p
 lost_same sides.A r p q h = h.1 ∙ ap (λ (a : Shown). let x : Ends = record p { a = a } in x) h.0.1

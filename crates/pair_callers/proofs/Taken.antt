@@ -82,7 +82,7 @@ pub acknowledged_on : (step : Step) (r : Reply) (p q : Ends) → Leads step r p 
     → (side : Side2) → GoesOn p q (λ w v. IsAcknowledgedOn (from_side side w) (from_side side v))
 acknowledged_on step r p q leads side =
     goes_on step r p q (λ w v. IsAcknowledgedOn (from_side side w) (from_side side v))
-    (λ w v before after h. (step_from side step r w v h).point_on) leads
+    (λ w v before after h. (step_from side step r w v h).reach_on) leads
 
 pub assigned_on : (step : Step) (r : Reply) (p q : Ends) → Leads step r p q
     → (side : Side2) → GoesOn p q (λ w v. AssignsWhileOpen side q w v)

@@ -6,7 +6,7 @@ use Rattle.sctp_model.specs.Machine.{Direction}
 use Rattle.sctp_model.specs.Safe.{IsKeptOrdered, IsKeptReliable, IsToBeHad, IsWhole, Letter, letter_written}
 use Rattle.sctp_assoc.specs.Calls.{ready_messages}
 use Rattle.sctp_assoc.specs.Shown.{Shown}
-use Rattle.sctp_directions.specs.Incoming.{letter_of}
+use Rattle.sctp_directions.specs.Incoming.{letter_received}
 use Rattle.sctp_pair.specs.declared.step.Reply.{Reply}
 use Rattle.sctp_pair.specs.declared.step.Reply.TheVariants as replies
 use Rattle.pair_callers.specs.Reading.{letter_at, letters_read}
@@ -37,7 +37,7 @@ letters_accepted w s count = map letter_written (take count (w.sender.plan.accep
 
 -- what reads at this association would answer, one after another
 abbrev pub letters_ready : Shown → ℕ → List Letter
-letters_ready a s = map letter_of (ready_messages a s)
+letters_ready a s = map letter_received (ready_messages a s)
 
 -- What was read and what can be read are together the longest front of the accepted messages that are whole.
 pub record IsAllThatCame (a : Shown) (w : Direction) (s : ℕ) : Type 0 where

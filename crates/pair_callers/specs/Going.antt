@@ -29,9 +29,9 @@ GoesOn p q Holds = (w : World) → Fits p w → (v : World) × StandsIn q v × H
 abbrev pub GoesOnWithin : Ends → Ends → (World → World → Type 0) → Type 0
 GoesOnWithin p q Holds = GoesOn p q (λ w v. IsWithinLimits v → Holds w v)
 
--- the acknowledged point did not fall
+-- the acknowledged reach did not fall
 abbrev pub IsAcknowledgedOn : Direction → Direction → Type 0
-IsAcknowledgedOn before after = before.sender.point ≤ after.sender.point
+IsAcknowledgedOn before after = before.sender.reach ≤ after.sender.reach
 
 -- Where the side is closed or failed then, no offset was assigned.
 abbrev pub AssignsWhileOpen : Side2 → Ends → World → World → Type 0

@@ -1,28 +1,28 @@
 -- What a side reads.
 use Rattle.std.specs.Prelude.{◌≡◌, ◌<◌, ℕ, List, [], ◌∷◌, ◌++◌, length, map, filter, Option, Some, None}
 use Rattle.std.specs.List.{AllByRecursion}
-use Rattle.sctp_receive_queues.specs.Messages.{Message}
+use Rattle.sctp_receive_queues.specs.Messages.{ReceivedMessage}
 use Rattle.sctp_model.specs.Messages.{Plan, message_at}
 use Rattle.sctp_model.specs.Machine.{Direction}
 use Rattle.sctp_model.specs.Safe.{AreDistinct, AreRising, IsWhole, Letter, is_ordered, letter_read, letter_written}
-use Rattle.sctp_directions.specs.Incoming.{letter_of}
+use Rattle.sctp_directions.specs.Incoming.{letter_received}
 use Rattle.sctp_pair.specs.declared.step.Reply.{Reply}
 use Rattle.sctp_pair.specs.declared.step.Reply.TheVariants as replies
 
 -- the message that a reply tells, if it is that of a read
-abbrev pub message_in : Reply → Option Message
+abbrev pub message_in : Reply → Option ReceivedMessage
 message_in (replies.Read message) = message
 message_in reply = None
 
-abbrev pub letters_of : Option Message → List Letter
+abbrev pub letters_of : Option ReceivedMessage → List Letter
 letters_of None = []
-letters_of (Some m) = letter_of m ∷ []
+letters_of (Some m) = letter_received m ∷ []
 
 abbrev pub letters_read : Direction → ℕ → List Letter
 letters_read w s = map letter_read (w.reads s)
 
 -- This message, if there is one, was read next on the stream, and nothing on any other.
-pub record ReadsNext (id : ℕ) (message : Option Message) (before after : Direction) : Type 0 where
+pub record ReadsNext (id : ℕ) (message : Option ReceivedMessage) (before after : Direction) : Type 0 where
   pub next : letters_read after id ≡ letters_read before id ++ letters_of message
   pub others : (s : ℕ) → (s ≡ id → ⊥) → letters_read after s ≡ letters_read before s
 

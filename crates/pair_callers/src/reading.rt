@@ -3,7 +3,7 @@ ghost use Rattle.std.specs.Prelude.{◌≡◌, ℕ, false, IfSome};
 ghost use Rattle.sctp_pair.specs.Steps.{Steps};
 ghost use Rattle.pair_callers.specs.Going.{GoesOn, GoesOnWithin, to_side};
 ghost use Rattle.pair_callers.specs.Reading.{AreNumbered, IsOfAccepted, ReadsNext, message_in};
-ghost use Rattle.sctp_directions.specs.Incoming.{letter_of};
+ghost use Rattle.sctp_directions.specs.Incoming.{letter_received};
 
 use sctp_assoc::{Chunks, StreamId};
 use sctp_pair::{Pair, Reply, Side2, Step};
@@ -12,7 +12,7 @@ use sctp_pair::{Pair, Reply, Side2, Step};
 pub fn read_message(pair: &mut Pair, side: Side2, id: StreamId) -> Option<Chunks>
     ensures next { GoesOn pair.old pair.new (λ w v. ReadsNext id result (to_side side w) (to_side side v)) }
     ensures accepted { IfSome result (λ m. GoesOnWithin pair.old pair.new (λ w v.
-        (to_side side v).over id ≡ false → IsOfAccepted (to_side side v) id (letter_of m))) }
+        (to_side side v).over id ≡ false → IsOfAccepted (to_side side v) id (letter_received m))) }
 {
     message_of(pair.step(&Step::Read { side, id }))
 }

@@ -6,8 +6,8 @@ use Rattle.sctp_outbound_queue.specs.declared.message.InFlight.{InFlight}
 use Rattle.sctp_outbound_queue.specs.Waiting.{Waiting}
 use Rattle.sctp_outbound_queue.specs.Message.{counted_again}
 use Rattle.sctp_outbound_queue.specs.Outbound.{Outbound, changed_from, sent_from, without_first, without_first_of}
-use Rattle.sctp_queues.specs.Stream.{Stream}
-use Rattle.sctp_queues.specs.Streams.{StreamMap, stream_at}
+use Rattle.sctp_streams.specs.Stream.{StreamView}
+use Rattle.sctp_streams.specs.Streams.{StreamMap, stream_at}
 use Rattle.sctp_parts.specs.Estimate.{Estimate}
 use Rattle.sctp_outbound.specs.declared.sender.Sender.{Sender}
 use Rattle.sctp_outbound.specs.Sender.{acknowledged, after_first, sender_after, sender_after_first, streams_after}
@@ -51,7 +51,7 @@ acknowledged_tied (suc n) p within e =
     acknowledged_tied n (without_first_piece p) (one_fewer p.queue.in_flight p.queue n within)
     (without_first_tied p.queue.in_flight p.queue p.history.own p.history.base (omega arith) e)
 
-written_tied : (o : Option Stream) (p : Parts) (id : ℕ) (bytes : List ℕ) → Tied p → Tied (with_written o p id bytes)
+written_tied : (o : Option StreamView) (p : Parts) (id : ℕ) (bytes : List ℕ) → Tied p → Tied (with_written o p id bytes)
 written_tied None p id bytes e = e
 written_tied (Some s) p id bytes e = e
 
@@ -59,16 +59,16 @@ pub sent_first : (fs : List Waiting) (q : Outbound) (now : ℕ) → (sent_from f
 sent_first [] q now = refl
 sent_first (f ∷ fs) q now = refl
 
-resent_first : (o : Option InFlight) (q : Outbound) (place : ℕ) → (changed_from counted_again o q place).first_tsn ≡ q.first_tsn
-resent_first None q place = refl
-resent_first (Some p) q place = refl
+resent_first : (o : Option InFlight) (q : Outbound) (index : ℕ) → (changed_from counted_again o q index).first_tsn ≡ q.first_tsn
+resent_first None q index = refl
+resent_first (Some p) q index = refl
 
 pub act_tied : (x : Act) (p : Parts) → Can x p → Tied p → Tied (done x p)
-act_tied (Act.Met t) p c e = e
+act_tied (Act.PeerKnown t) p c e = e
 act_tied (Act.Opened id first kind) p c e = e
 act_tied (Act.Wrote id bytes) p c e = written_tied (stream_at p.streams id) p id bytes e
 act_tied (Act.Sent now) p c e = sent_first p.queue.pending p.queue now ∙ e
-act_tied (Act.SentAgain place) p c e = resent_first (slice_get p.queue.in_flight place) p.queue place ∙ e
+act_tied (Act.SentAgain index) p c e = resent_first (slice_get p.queue.in_flight index) p.queue index ∙ e
 act_tied Act.Marked p c e = e
 act_tied (Act.Acknowledged n) p c e = acknowledged_tied n p c e
 act_tied (Act.Took piece) p c e = e

@@ -4,16 +4,16 @@ use Rattle.std.proofs.lemmas.Bool.{false≢true}
 use Rattle.std.specs.declared.net.ip_addr.IpAddr.{IpAddr}
 use Rattle.std.specs.declared.net.socket_addr.SocketAddr.{SocketAddr}
 use Rattle.sctp_wire_types.specs.Config.{Settings}
-use Rattle.sctp_assoc.specs.declared.shared.ServerConfig.{ServerConfig}
+use Rattle.sctp_wire_types.specs.declared.config.ServerConfig.{ServerConfig}
 use Rattle.sctp_assoc.specs.Acts.{Binds, begun}
 use Rattle.sctp_assoc.specs.Join.{created, server, silent_client}
 use Rattle.sctp_assoc.specs.Shown.{Shown}
 use Rattle.sctp_assoc.proofs.Joining.{sends_init_leads}
 
-fresh_binds : (a : Shown) (tsn : ℕ) → tsn < 2 ^ 32 → a.sender.queue.first_tsn ≡ tsn → a.receiver.point ≡ 0 → Binds a (begun tsn 1)
+fresh_binds : (a : Shown) (tsn : ℕ) → tsn < 2 ^ 32 → a.sender.queue.first_tsn ≡ tsn → a.receiver.peer_last_tsn ≡ 0 → Binds a (begun tsn 1)
 fresh_binds a tsn small first point = record {
   first = first ∙ omega (arith, small);
-  point = point ∙ omega arith;
+  reach = point ∙ omega arith;
   below = λ o l. absurd (omega (arith, l));
   above = λ o m. absurd (false≢true m);
   passed = omega arith;

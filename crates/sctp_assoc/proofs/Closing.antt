@@ -14,26 +14,26 @@ use Rattle.sctp_wire_types.specs.Checks.{checked_chunk}
 use Rattle.sctp_wire.specs.declared.packet.Packet.{Packet}
 use Rattle.sctp_parts.specs.declared.state.AssociationState.TheVariants as states
 use Rattle.sctp_parts.specs.Estimate.{Estimate}
-use Rattle.sctp_queues.specs.declared.event.AssociationError.{AssociationError}
-use Rattle.sctp_queues.specs.declared.event.AssociationError.TheVariants as reasons
-use Rattle.sctp_queues.specs.declared.event.Event.{Event}
-use Rattle.sctp_queues.specs.declared.event.Event.TheVariants.{AssociationLost, Connected, DataChannelStatsFinal, DatagramReceived}
-use Rattle.sctp_queues.specs.declared.event.Event.TheVariants as events
-use Rattle.sctp_queues.specs.declared.stats.DataChannelStats.{DataChannelStats}
-use Rattle.sctp_queues.specs.Streams.{StreamMap, bytes_waiting, generation_left, is_readable_in, last_stats, pushed_in, refusal_in, stream_at}
-use Rattle.sctp_inbound.specs.declared.receiver.AckWish.{AckWish}
-use Rattle.sctp_inbound.specs.declared.receiver.AckWish.TheVariants as wishes
+use Rattle.sctp_streams.specs.declared.event.AssociationError.{AssociationError}
+use Rattle.sctp_streams.specs.declared.event.AssociationError.TheVariants as reasons
+use Rattle.sctp_streams.specs.declared.event.Event.{Event}
+use Rattle.sctp_streams.specs.declared.event.Event.TheVariants.{AssociationLost, Connected, DataChannelStatsFinal, DatagramReceived}
+use Rattle.sctp_streams.specs.declared.event.Event.TheVariants as events
+use Rattle.sctp_streams.specs.declared.stats.DataChannelStats.{DataChannelStats}
+use Rattle.sctp_streams.specs.Streams.{StreamMap, bytes_waiting, generation_left, is_readable_in, last_stats, pushed_in, refusal_in, stream_at}
+use Rattle.sctp_inbound.specs.declared.receiver.AckTrigger.{AckTrigger}
+use Rattle.sctp_inbound.specs.declared.receiver.AckTrigger.TheVariants as triggers
 use Rattle.sctp_inbound.specs.Greeting.{first_cookie, information_of}
 use Rattle.sctp_inbound.specs.Handshake.{comes_back, has_issued}
 use Rattle.sctp_inbound.specs.Receiver.{credit_of, is_next_after}
 use Rattle.sctp_outbound.specs.declared.sender.Sender.{Sender}
 use Rattle.sctp_outbound.specs.declared.sender.SackOutcome.{SackOutcome}
 use Rattle.sctp_outbound.specs.declared.sender.SackOutcome.TheVariants as outcomes
-use Rattle.sctp_outbound.specs.Sender.{acknowledged, points_to, sack_outcome, with_window}
+use Rattle.sctp_outbound.specs.Sender.{acknowledged, tsns_up_to, sack_outcome, with_window}
 use Rattle.sctp_assoc.specs.declared.inbound.Flow.{Flow}
 use Rattle.sctp_assoc.specs.declared.inbound.Flow.TheVariants as flows
 use Rattle.sctp_assoc.specs.Calls.{closed_by, is_beginning, is_closed_state, is_cookie_echoed, is_cookie_wait, is_established}
-use Rattle.sctp_assoc.specs.Handshake.{acknowledged_cookie, answered, connected, echoed, information_returned, met, on_cookie_ack, on_cookie_echo, on_heartbeat, on_init, on_init_ack, sends_cookie}
+use Rattle.sctp_assoc.specs.Handshake.{acknowledged_cookie, answered, connected, echoed, information_returned, learned, on_cookie_ack, on_cookie_echo, on_heartbeat, on_init, on_init_ack, sends_cookie}
 use Rattle.sctp_assoc.specs.Chunks.{after_chunks, after_packet_of, asks_or_faults, checked_first, dispatched, goes_on, is_whole, on_chunk, on_counted_data, on_counted_sack, on_data, on_next_data, on_sack, stream_found, taken_in, taken_unless, told, with_acknowledged, with_message}
 use Rattle.sctp_assoc.specs.Laws.{FaultsAloneClose, IsClosedIf, faults_or, is_faulted, is_faulted_packet, loss_of, losses}
 use Rattle.sctp_assoc.specs.Shown.{Shown}
@@ -78,20 +78,20 @@ taking_goes_on : (o : Option Error) (a : Shown) (piece : ChunkPayloadData) → G
 taking_goes_on (Some fault) a piece = stays a a refl refl refl
 taking_goes_on None a piece = message_goes_on a piece (pushed_in a.streams piece.stream_identifier piece)
 
-asked_goes_on : (a : Shown) (x : Shown × Option Error) (piece : ChunkPayloadData) (wish : AckWish) → GoesOn a x.0 → GoesOn a (asks_or_faults x piece wish).0
-asked_goes_on a (b, None) piece wish m = m
-asked_goes_on a (b, Some fault) piece wish m = m
+asked_goes_on : (a : Shown) (x : Shown × Option Error) (piece : ChunkPayloadData) (trigger : AckTrigger) → GoesOn a x.0 → GoesOn a (asks_or_faults x piece trigger).0
+asked_goes_on a (b, None) piece trigger m = m
+asked_goes_on a (b, Some fault) piece trigger m = m
 
-credit_goes_on : (c : Bool) (b : Shown) (piece : ChunkPayloadData) (wish : AckWish) → nat_lt 0 (credit_of b.receiver (bytes_waiting b.streams)) ≡ c
-    → GoesOn b (on_next_data (b, true) piece wish).0
+credit_goes_on : (c : Bool) (b : Shown) (piece : ChunkPayloadData) (trigger : AckTrigger) → nat_lt 0 (credit_of b.receiver (bytes_waiting b.streams)) ≡ c
+    → GoesOn b (on_next_data (b, true) piece trigger).0
 unfolding taken_in
-credit_goes_on true b piece wish e =
-    rw e (asked_goes_on b (taken_in b piece) piece wish (taking_goes_on (refusal_in b.streams piece.stream_identifier piece _) b piece))
-credit_goes_on false b piece wish e = rw e (stays b b refl refl refl)
+credit_goes_on true b piece trigger e =
+    rw e (asked_goes_on b (taken_in b piece) piece trigger (taking_goes_on (refusal_in b.streams piece.stream_identifier piece _) b piece))
+credit_goes_on false b piece trigger e = rw e (stays b b refl refl refl)
 
-next_goes_on : (x : Shown × Bool) (piece : ChunkPayloadData) (wish : AckWish) → GoesOn x.0 (on_next_data x piece wish).0
-next_goes_on (b, false) piece wish = stays b b refl refl refl
-next_goes_on (b, true) piece wish = credit_goes_on _ b piece wish refl
+next_goes_on : (x : Shown × Bool) (piece : ChunkPayloadData) (trigger : AckTrigger) → GoesOn x.0 (on_next_data x piece trigger).0
+next_goes_on (b, false) piece trigger = stays b b refl refl refl
+next_goes_on (b, true) piece trigger = credit_goes_on _ b piece trigger refl
 
 found_goes_on : (there left : Bool) (a : Shown) (id : ℕ) → is_some (stream_at a.streams id) ≡ there → generation_left a.streams ≡ left
     → GoesOn a (stream_found a id).0
@@ -100,17 +100,17 @@ found_goes_on true left a id e f = rw e (stays a a refl refl refl)
 found_goes_on false true a id e f = rw (e, f) (record { still_open = λ c. c; lost = refl; told = tells a.events (events.Stream (Opened id)) refl })
 found_goes_on false false a id e f = rw (e, f) (stays a a refl refl refl)
 
-data_goes_on : (c : Bool) (b : Shown) (piece : ChunkPayloadData) (wish : AckWish) → (is_next_after b.receiver piece.tsn && is_whole piece) ≡ c
-    → GoesOn b (on_counted_data b piece wish).0
-data_goes_on false b piece wish e = rw e (stays b b refl refl refl)
-data_goes_on true b piece wish e =
+data_goes_on : (c : Bool) (b : Shown) (piece : ChunkPayloadData) (trigger : AckTrigger) → (is_next_after b.receiver piece.tsn && is_whole piece) ≡ c
+    → GoesOn b (on_counted_data b piece trigger).0
+data_goes_on false b piece trigger e = rw e (stays b b refl refl refl)
+data_goes_on true b piece trigger e =
     let id = piece.stream_identifier in
-    rw e (goes_on_there b (stream_found b id).0 _ (found_goes_on _ _ b id refl refl) (next_goes_on (stream_found b id) piece wish))
+    rw e (goes_on_there b (stream_found b id).0 _ (found_goes_on _ _ b id refl refl) (next_goes_on (stream_found b id) piece trigger))
 
-on_data_goes_on : (a : Shown) (piece : ChunkPayloadData) (wish : AckWish) → GoesOn a (on_data a piece wish).0
+on_data_goes_on : (a : Shown) (piece : ChunkPayloadData) (trigger : AckTrigger) → GoesOn a (on_data a piece trigger).0
 unfolding on_data
-on_data_goes_on a piece wish =
-    let m = data_goes_on _ _ piece wish refl in
+on_data_goes_on a piece trigger =
+    let m = data_goes_on _ _ piece trigger refl in
     record { still_open = m.still_open; lost = m.lost; told = m.told }
 
 -- SACK
@@ -118,91 +118,91 @@ on_data_goes_on a piece wish =
 acknowledged_goes_on : (a : Shown) (moved : Bool) (now : ℕ) (x : Sender × Estimate × StreamMap) → GoesOn a (with_acknowledged a moved now x)
 acknowledged_goes_on a moved now (s, e, m) = stays a _ refl refl refl
 
-outcome_goes_on : (o : SackOutcome) (b : Shown) (point window : ℕ) (wish : AckWish) (now : ℕ) → GoesOn b (on_counted_sack o b point window wish now).0
-outcome_goes_on outcomes.Older b point window wish now = stays b b refl refl refl
-outcome_goes_on outcomes.NotInFlight b point window wish now = stays b b refl refl refl
-outcome_goes_on outcomes.Taken b point window wish now =
-    acknowledged_goes_on b (nat_lt 0 (points_to b.sender point)) now (acknowledged (points_to b.sender point) now (with_window b.sender window, b.estimate, b.streams))
+outcome_goes_on : (o : SackOutcome) (b : Shown) (point window : ℕ) (trigger : AckTrigger) (now : ℕ) → GoesOn b (on_counted_sack o b point window trigger now).0
+outcome_goes_on outcomes.Older b point window trigger now = stays b b refl refl refl
+outcome_goes_on outcomes.NotInFlight b point window trigger now = stays b b refl refl refl
+outcome_goes_on outcomes.Taken b point window trigger now =
+    acknowledged_goes_on b (nat_lt 0 (tsns_up_to b.sender point)) now (acknowledged (tsns_up_to b.sender point) now (with_window b.sender window, b.estimate, b.streams))
 
-sack_goes_on : (c : Bool) (a : Shown) (point window : ℕ) (wish : AckWish) (now : ℕ) → is_established a.state ≡ c
-    → GoesOn a (on_sack a point window wish now).0
+sack_goes_on : (c : Bool) (a : Shown) (point window : ℕ) (trigger : AckTrigger) (now : ℕ) → is_established a.state ≡ c
+    → GoesOn a (on_sack a point window trigger now).0
 unfolding on_sack
-sack_goes_on true a point window wish now e =
-    let m = outcome_goes_on (sack_outcome a.sender point) _ point window wish now in
+sack_goes_on true a point window trigger now e =
+    let m = outcome_goes_on (sack_outcome a.sender point) _ point window trigger now in
     rw e (record { still_open = m.still_open; lost = m.lost; told = m.told })
-sack_goes_on false a point window wish now e = rw e (stays a a refl refl refl)
+sack_goes_on false a point window trigger now e = rw e (stays a a refl refl refl)
 
 -- the handshake
 
-init_goes_on : (c : Bool) (a : Shown) (header : CommonHeader) (init : ChunkInit) (wish : AckWish) → is_beginning a.state ≡ c → GoesOn a (on_init a header init wish).0
+init_goes_on : (c : Bool) (a : Shown) (header : CommonHeader) (init : ChunkInit) (trigger : AckTrigger) → is_beginning a.state ≡ c → GoesOn a (on_init a header init trigger).0
 unfolding on_init
-init_goes_on true a header init wish e = rw e (stays a (answered (met a header init)) refl refl refl)
-init_goes_on false a header init wish e = rw e (stays a a refl refl refl)
+init_goes_on true a header init trigger e = rw e (stays a (answered (learned a header init)) refl refl refl)
+init_goes_on false a header init trigger e = rw e (stays a a refl refl refl)
 
-echoed_goes_on : (o : Option (List ℕ)) (a b : Shown) (wish : AckWish) (now : ℕ) → b.state ≡ a.state → b.lost ≡ a.lost → b.events ≡ a.events → GoesOn a (echoed o b wish now).0
+echoed_goes_on : (o : Option (List ℕ)) (a b : Shown) (trigger : AckTrigger) (now : ℕ) → b.state ≡ a.state → b.lost ≡ a.lost → b.events ≡ a.events → GoesOn a (echoed o b trigger now).0
 unfolding sends_cookie
-echoed_goes_on None a b wish now s l e = stays a b s l e
-echoed_goes_on (Some cookie) a b wish now s l e = record { still_open = λ c. absurd (false≢true c); lost = l; told = ap losses e }
+echoed_goes_on None a b trigger now s l e = stays a b s l e
+echoed_goes_on (Some cookie) a b trigger now s l e = record { still_open = λ c. absurd (false≢true c); lost = l; told = ap losses e }
 
-init_ack_goes_on : (waits back : Bool) (a : Shown) (header : CommonHeader) (init : ChunkInit) (wish : AckWish) (now : ℕ) → is_cookie_wait a.state ≡ waits
-    → comes_back a.handshake header ≡ back → GoesOn a (on_init_ack a header init wish now).0
+init_ack_goes_on : (waits back : Bool) (a : Shown) (header : CommonHeader) (init : ChunkInit) (trigger : AckTrigger) (now : ℕ) → is_cookie_wait a.state ≡ waits
+    → comes_back a.handshake header ≡ back → GoesOn a (on_init_ack a header init trigger now).0
 unfolding on_init_ack
-init_ack_goes_on true true a header init wish now e f = rw (e, f) (echoed_goes_on (first_cookie init.params) a _ wish now refl refl refl)
-init_ack_goes_on true false a header init wish now e f = rw (e, f) (stays a _ refl refl refl)
-init_ack_goes_on false back a header init wish now e f = rw e (stays a a refl refl refl)
+init_ack_goes_on true true a header init trigger now e f = rw (e, f) (echoed_goes_on (first_cookie init.params) a _ trigger now refl refl refl)
+init_ack_goes_on true false a header init trigger now e f = rw (e, f) (stays a _ refl refl refl)
+init_ack_goes_on false back a header init trigger now e f = rw e (stays a a refl refl refl)
 
 connected_goes_on : (a b : Shown) → b.state ≡ states.Established → b.lost ≡ a.lost → b.events ≡ a.events ++ Connected ∷ [] → GoesOn a b
 connected_goes_on a b s l e = record { still_open = λ c. absurd (false≢true (ap is_closed_state (sym s) ∙ c)); lost = l; told = ap losses e ∙ tells a.events Connected refl }
 
-cookie_echo_goes_on : (issued beginning established : Bool) (a : Shown) (cookie : List ℕ) (wish : AckWish) → has_issued a.handshake cookie ≡ issued
-    → is_beginning a.state ≡ beginning → is_established a.state ≡ established → GoesOn a (on_cookie_echo a cookie wish).0
+cookie_echo_goes_on : (issued beginning established : Bool) (a : Shown) (cookie : List ℕ) (trigger : AckTrigger) → has_issued a.handshake cookie ≡ issued
+    → is_beginning a.state ≡ beginning → is_established a.state ≡ established → GoesOn a (on_cookie_echo a cookie trigger).0
 unfolding on_cookie_echo
-cookie_echo_goes_on false beginning established a cookie wish e f g = rw e (stays a a refl refl refl)
-cookie_echo_goes_on true true established a cookie wish e f g = rw (e, f) (connected_goes_on a (acknowledged_cookie (connected a)) refl refl refl)
-cookie_echo_goes_on true false true a cookie wish e f g = rw (e, f, g) (stays a (acknowledged_cookie a) refl refl refl)
-cookie_echo_goes_on true false false a cookie wish e f g = rw (e, f, g) (stays a a refl refl refl)
+cookie_echo_goes_on false beginning established a cookie trigger e f g = rw e (stays a a refl refl refl)
+cookie_echo_goes_on true true established a cookie trigger e f g = rw (e, f) (connected_goes_on a (acknowledged_cookie (connected a)) refl refl refl)
+cookie_echo_goes_on true false true a cookie trigger e f g = rw (e, f, g) (stays a (acknowledged_cookie a) refl refl refl)
+cookie_echo_goes_on true false false a cookie trigger e f g = rw (e, f, g) (stays a a refl refl refl)
 
-cookie_ack_goes_on : (c : Bool) (a : Shown) (wish : AckWish) → is_cookie_echoed a.state ≡ c → GoesOn a (on_cookie_ack a wish).0
+cookie_ack_goes_on : (c : Bool) (a : Shown) (trigger : AckTrigger) → is_cookie_echoed a.state ≡ c → GoesOn a (on_cookie_ack a trigger).0
 unfolding on_cookie_ack
-cookie_ack_goes_on true a wish e = rw e (connected_goes_on a (connected a) refl refl refl)
-cookie_ack_goes_on false a wish e = rw e (stays a a refl refl refl)
+cookie_ack_goes_on true a trigger e = rw e (connected_goes_on a (connected a) refl refl refl)
+cookie_ack_goes_on false a trigger e = rw e (stays a a refl refl refl)
 
 returned_goes_on : (o : Option (List ℕ)) (a : Shown) → GoesOn a (information_returned o a)
 returned_goes_on None a = stays a a refl refl refl
 returned_goes_on (Some information) a = stays a (information_returned (Some information) a) refl refl refl
 
-heartbeat_goes_on : (a : Shown) (heartbeat : ChunkHeartbeat) (wish : AckWish) → GoesOn a (on_heartbeat a heartbeat wish).0
+heartbeat_goes_on : (a : Shown) (heartbeat : ChunkHeartbeat) (trigger : AckTrigger) → GoesOn a (on_heartbeat a heartbeat trigger).0
 unfolding on_heartbeat
-heartbeat_goes_on a heartbeat wish = returned_goes_on (information_of heartbeat.params) a
+heartbeat_goes_on a heartbeat trigger = returned_goes_on (information_of heartbeat.params) a
 
 -- Any chunk
 
-kind_goes_on : (header : CommonHeader) (c : Chunk) (a : Shown) (wish : AckWish) (now : ℕ) → GoesOn a (dispatched a header c wish now).0
-kind_goes_on header (chunks.Data piece) a wish now = on_data_goes_on a piece wish
-kind_goes_on header (chunks.SelectiveAck sack) a wish now = sack_goes_on _ a sack.cumulative_tsn_ack sack.advertised_receiver_window_credit wish now refl
-kind_goes_on header (chunks.Init x) a wish now = init_goes_on _ a header x wish refl
-kind_goes_on header (chunks.InitAck x) a wish now = init_ack_goes_on _ _ a header x wish now refl refl
-kind_goes_on header (chunks.Heartbeat x) a wish now = heartbeat_goes_on a x wish
-kind_goes_on header (chunks.HeartbeatAck x) a wish now = stays a a refl refl refl
-kind_goes_on header (chunks.Abort x) a wish now = stays a a refl refl refl
-kind_goes_on header (chunks.Shutdown x) a wish now = stays a a refl refl refl
-kind_goes_on header chunks.ShutdownAck a wish now = stays a a refl refl refl
-kind_goes_on header (chunks.Error x) a wish now = stays a a refl refl refl
-kind_goes_on header (chunks.CookieEcho x) a wish now = cookie_echo_goes_on _ _ _ a x wish refl refl refl
-kind_goes_on header chunks.CookieAck a wish now = cookie_ack_goes_on _ a wish refl
-kind_goes_on header chunks.ShutdownComplete a wish now = stays a a refl refl refl
-kind_goes_on header (chunks.Reconfig x) a wish now = stays a a refl refl refl
-kind_goes_on header (chunks.ForwardTsn x) a wish now = stays a a refl refl refl
-kind_goes_on header (chunks.IForwardTsn x) a wish now = stays a a refl refl refl
-kind_goes_on header (chunks.Other kind flags value) a wish now = stays a a refl refl refl
+kind_goes_on : (header : CommonHeader) (c : Chunk) (a : Shown) (trigger : AckTrigger) (now : ℕ) → GoesOn a (dispatched a header c trigger now).0
+kind_goes_on header (chunks.Data piece) a trigger now = on_data_goes_on a piece trigger
+kind_goes_on header (chunks.SelectiveAck sack) a trigger now = sack_goes_on _ a sack.cumulative_tsn_ack sack.advertised_receiver_window_credit trigger now refl
+kind_goes_on header (chunks.Init x) a trigger now = init_goes_on _ a header x trigger refl
+kind_goes_on header (chunks.InitAck x) a trigger now = init_ack_goes_on _ _ a header x trigger now refl refl
+kind_goes_on header (chunks.Heartbeat x) a trigger now = heartbeat_goes_on a x trigger
+kind_goes_on header (chunks.HeartbeatAck x) a trigger now = stays a a refl refl refl
+kind_goes_on header (chunks.Abort x) a trigger now = stays a a refl refl refl
+kind_goes_on header (chunks.Shutdown x) a trigger now = stays a a refl refl refl
+kind_goes_on header chunks.ShutdownAck a trigger now = stays a a refl refl refl
+kind_goes_on header (chunks.Error x) a trigger now = stays a a refl refl refl
+kind_goes_on header (chunks.CookieEcho x) a trigger now = cookie_echo_goes_on _ _ _ a x trigger refl refl refl
+kind_goes_on header chunks.CookieAck a trigger now = cookie_ack_goes_on _ a trigger refl
+kind_goes_on header chunks.ShutdownComplete a trigger now = stays a a refl refl refl
+kind_goes_on header (chunks.Reconfig x) a trigger now = stays a a refl refl refl
+kind_goes_on header (chunks.ForwardTsn x) a trigger now = stays a a refl refl refl
+kind_goes_on header (chunks.IForwardTsn x) a trigger now = stays a a refl refl refl
+kind_goes_on header (chunks.Other kind flags value) a trigger now = stays a a refl refl refl
 
-checked_goes_on : (r : Result (Unit {0}) Error) (header : CommonHeader) (c : Chunk) (a : Shown) (wish : AckWish) (now : ℕ) → GoesOn a (checked_first r a header c wish now).0
-checked_goes_on (Err fault) header c a wish now = stays a a refl refl refl
-checked_goes_on (Ok done) header c a wish now = kind_goes_on header c a wish now
+checked_goes_on : (r : Result (Unit {0}) Error) (header : CommonHeader) (c : Chunk) (a : Shown) (trigger : AckTrigger) (now : ℕ) → GoesOn a (checked_first r a header c trigger now).0
+checked_goes_on (Err fault) header c a trigger now = stays a a refl refl refl
+checked_goes_on (Ok done) header c a trigger now = kind_goes_on header c a trigger now
 
-chunk_goes_on : (header : CommonHeader) (c : Chunk) (a : Shown) (wish : AckWish) (now : ℕ) → GoesOn a (on_chunk a header c wish now).0
+chunk_goes_on : (header : CommonHeader) (c : Chunk) (a : Shown) (trigger : AckTrigger) (now : ℕ) → GoesOn a (on_chunk a header c trigger now).0
 unfolding on_chunk
-chunk_goes_on header c a wish now = checked_goes_on (checked_chunk c) header c a wish now
+chunk_goes_on header c a trigger now = checked_goes_on (checked_chunk c) header c a trigger now
 
 -- A packet
 
@@ -237,20 +237,20 @@ closed_from false a b c m n = record { closed = n.closed; still_open = λ e s. m
 stays_open : (a b : Shown) → b.state ≡ a.state → b.lost ≡ a.lost → b.events ≡ a.events → IsClosedIf false a b
 stays_open a b s l e = record { closed = λ c. absurd (false≢true c); still_open = λ _ c. ap is_closed_state (sym s) ∙ c; lost = l; told = ap losses e ∙ omega arith }
 
-after_fault : (x : Shown × Flow) (a : Shown) (more : Shown → AckWish → Shown) (faulted : Shown → AckWish → Bool) → GoesOn a x.0
-    → ((b : Shown) (wish : AckWish) → IsClosedIf (faulted b wish) b (more b wish)) → IsClosedIf (faults_or x faulted) a (goes_on x more)
-after_fault (b, flows.Next wish) a more faulted m on = closed_from (faulted b wish) a b (more b wish) m (on b wish)
+after_fault : (x : Shown × Flow) (a : Shown) (more : Shown → AckTrigger → Shown) (faulted : Shown → AckTrigger → Bool) → GoesOn a x.0
+    → ((b : Shown) (trigger : AckTrigger) → IsClosedIf (faulted b trigger) b (more b trigger)) → IsClosedIf (faults_or x faulted) a (goes_on x more)
+after_fault (b, flows.Next trigger) a more faulted m on = closed_from (faulted b trigger) a b (more b trigger) m (on b trigger)
 after_fault (b, flows.Fault fault) a more faulted m on = fault_closes (is_closed_state b.state) a b reasons.AssociationClosed refl m
 
-chunks_close : (header : CommonHeader) (cs : List Chunk) (a : Shown) (wish : AckWish) (now : ℕ) → IsClosedIf (is_faulted header cs a wish now) a (after_chunks header cs a wish now)
-chunks_close header [] a wish now = stays_open a _ refl refl refl
-chunks_close header (c ∷ cs) a wish now =
-    after_fault (on_chunk a header c wish now) a (λ b next. after_chunks header cs b next now) (λ b next. is_faulted header cs b next now)
-    (chunk_goes_on header c a wish now) (λ b next. chunks_close header cs b next now)
+chunks_close : (header : CommonHeader) (cs : List Chunk) (a : Shown) (trigger : AckTrigger) (now : ℕ) → IsClosedIf (is_faulted header cs a trigger now) a (after_chunks header cs a trigger now)
+chunks_close header [] a trigger now = stays_open a _ refl refl refl
+chunks_close header (c ∷ cs) a trigger now =
+    after_fault (on_chunk a header c trigger now) a (λ b next. after_chunks header cs b next now) (λ b next. is_faulted header cs b next now)
+    (chunk_goes_on header c a trigger now) (λ b next. chunks_close header cs b next now)
 
 packet_closes : (packet : Option Packet) (a : Shown) (now : ℕ) → IsClosedIf (is_faulted_packet a packet now) a (after_packet_of a packet now)
 packet_closes None a now = stays_open a a refl refl refl
-packet_closes (Some packet) a now = chunks_close packet.common_header packet.chunks a wishes.None now
+packet_closes (Some packet) a now = chunks_close packet.common_header packet.chunks a triggers.None now
 
 packet_closes_unless : (lost : Bool) (packet : Option Packet) (a : Shown) (now : ℕ)
     → IsClosedIf (not lost && is_faulted_packet a packet now) a (if lost then a else after_packet_of a packet now)

@@ -7,11 +7,11 @@ use Rattle.sctp_wire_types.specs.declared.packet.CommonHeader.{CommonHeader}
 use Rattle.sctp_wire.specs.declared.packet.Packet.{Packet}
 use Rattle.sctp_parts.specs.declared.state.AssociationState.{AssociationState}
 use Rattle.sctp_parts.specs.declared.state.AssociationState.TheVariants as states
-use Rattle.sctp_queues.specs.declared.event.AssociationError.{AssociationError}
-use Rattle.sctp_queues.specs.declared.event.AssociationError.TheVariants as reasons
-use Rattle.sctp_queues.specs.Stream.{Stream}
-use Rattle.sctp_inbound.specs.declared.receiver.AckWish.{AckWish}
-use Rattle.sctp_inbound.specs.declared.receiver.AckWish.TheVariants as wishes
+use Rattle.sctp_streams.specs.declared.event.AssociationError.{AssociationError}
+use Rattle.sctp_streams.specs.declared.event.AssociationError.TheVariants as reasons
+use Rattle.sctp_streams.specs.Stream.{StreamView}
+use Rattle.sctp_inbound.specs.declared.receiver.AckTrigger.{AckTrigger}
+use Rattle.sctp_inbound.specs.declared.receiver.AckTrigger.TheVariants as triggers
 use Rattle.sctp_assoc.specs.Calls.{closed_by, closed_open, is_closed_state, is_established}
 use Rattle.sctp_assoc.specs.Chunks.{after_packet, after_packet_of, ended, on_chunk}
 use Rattle.sctp_assoc.specs.Shapes.{ChunksLeadOn, Closes, EndsPacket, EstablishedIsNotClosed, FaultsClose, LostAssociationsTakeNothing, NoPacketChangesNothing, PacketsEnd, TakesChunk}
@@ -23,20 +23,20 @@ use Rattle.sctp_assoc.proofs.Status.{chunk_leaves, status_by}
 use Rattle.sctp_assoc.proofs.Truth.{keeps_saying, truthful_silent}
 
 pub chunks_lead_on : ChunksLeadOn
-chunks_lead_on header c a wish now = record { leads = λ h binds. chunk_leads header c a wish now h binds; leaves = chunk_leaves header c a wish now; greets = chunk_greets header c a wish now }
+chunks_lead_on header c a trigger now = record { leads = λ h binds. chunk_leads header c a trigger now h binds; leaves = chunk_leaves header c a trigger now; greets = chunk_greets header c a trigger now }
 
 pub packets_end : PacketsEnd
-packets_end a wish now = record {
-  leads = λ h binds. (h, leads_nowhere a (ended a wish now) h binds refl (point_stays wish));
-  same = status_by a (ended a wish now) refl refl refl refl refl refl refl;
+packets_end a trigger now = record {
+  leads = λ h binds. (h, leads_nowhere a (ended a trigger now) h binds refl (point_stays trigger));
+  same = status_by a (ended a trigger now) refl refl refl refl refl refl refl;
 }
   where
-    point_stays : (w : AckWish) → (ended a w now).receiver.point ≡ a.receiver.point
-    point_stays wishes.None = refl
-    point_stays wishes.Delayed = refl
-    point_stays wishes.Immediate = refl
+    point_stays : (w : AckTrigger) → (ended a w now).receiver.peer_last_tsn ≡ a.receiver.peer_last_tsn
+    point_stays triggers.None = refl
+    point_stays triggers.Delayed = refl
+    point_stays triggers.Immediate = refl
 
-none_some : (t : Stream) → None ≡ Some t → ⊥
+none_some : (t : StreamView) → None ≡ Some t → ⊥
 none_some t e = cc
 
 closes_if : (c : Bool) (a : Shown) (reason : AssociationError) → is_closed_state a.state ≡ c → Closes a (if c then a else closed_open a reason)
@@ -85,7 +85,7 @@ pub packets_carry : (P Q : Shown → Type 0) (Said : Chunk → Type 0)
 packets_carry P Q Said takes ends closes packet a now present said h =
     subst Q (sym (cond-false a.lost a (after_packet_of a (Some packet) now) present))
     (chunks_carry P Q Said
-    (λ header c b wish at s p. takes header c b (on_chunk b header c wish at).0 s (chunks_lead_on header c b wish at) p)
-    (λ b wish at p. ends b (ended b wish at) (packets_end b wish at) p)
+    (λ header c b trigger at s p. takes header c b (on_chunk b header c trigger at).0 s (chunks_lead_on header c b trigger at) p)
+    (λ b trigger at p. ends b (ended b trigger at) (packets_end b trigger at) p)
     (λ b p. closes b (closed_by b reasons.AssociationClosed) (faults_close b reasons.AssociationClosed) p)
-    packet.common_header packet.chunks a wishes.None now said h)
+    packet.common_header packet.chunks a triggers.None now said h)

@@ -8,7 +8,7 @@ use Rattle.sctp_outbound_queue.specs.declared.message.InFlight.{InFlight}
 use Rattle.sctp_outbound_queue.specs.Waiting.{Waiting}
 use Rattle.sctp_outbound_queue.specs.Message.{counted_again}
 use Rattle.sctp_outbound_queue.specs.Outbound.{Outbound, next_tsn_of, pieces_waiting, sent_next, tsn_at}
-use Rattle.sctp_queues.specs.Streams.{StreamMap}
+use Rattle.sctp_streams.specs.Streams.{StreamMap}
 use Rattle.sctp_outbound.specs.declared.sender.Sender.{Sender}
 use Rattle.sctp_outbound.specs.Sender.{after_resending, both_windows, can_send_next, chunk_of, first_chunk, first_counted, fits_windows, resends_alone, resent_by, resent_chunks, resent_pieces, sent_new, sent_one, sent_within, with_in_flight}
 use Rattle.sctp_assoc.specs.Acts.{Act, CanAll, History, Parts, done_all, all_data_given, first_chunk_said, parts}
@@ -39,8 +39,8 @@ with_pieces p pieces = record p { queue = (let q = p.queue in record q { in_flig
 
 -- Pieces that go out again.
 
-place_tsn : (own base first place : ℕ) → first ≡ tsn own base → tsn own (base + place) ≡ tsn_at first place
-place_tsn own base first place e = rw e (omega arith)
+place_tsn : (own base first index : ℕ) → first ≡ tsn own base → tsn own (base + index) ≡ tsn_at first index
+place_tsn own base first index e = rw e (omega arith)
 
 get_behind : {X : Type 0} (xs ys : List X) (x : X) → slice_get (xs ++ x ∷ ys) (length xs) ≡ Some x
 get_behind [] ys x = refl
@@ -72,14 +72,14 @@ again_one x ps xs p e tied =
 gives_same : (xs ys : List Act) (p q r : Parts) (c d : List ChunkPayloadData) → xs ≡ ys → q ≡ r → c ≡ d → Gives ys p r d → Gives xs p q c
 gives_same xs ys p q r c d e f g m = rw (e, f, g) m
 
-acts_skip : (p : InFlight) (ps : List InFlight) (place room : ℕ) → p.retransmit ≡ false → acts_of_resending place room (p ∷ ps) ≡ acts_of_resending (place + 1) room ps
-acts_skip p ps place room unmarked = rw unmarked
+acts_skip : (p : InFlight) (ps : List InFlight) (index room : ℕ) → p.retransmit ≡ false → acts_of_resending index room (p ∷ ps) ≡ acts_of_resending (index + 1) room ps
+acts_skip p ps index room unmarked = rw unmarked
 
-acts_full : (p : InFlight) (ps : List InFlight) (place room : ℕ) → p.retransmit ≡ true → nat_lt room (length p.user_data) ≡ true → acts_of_resending place room (p ∷ ps) ≡ []
-acts_full p ps place room marked full = rw (marked, full)
+acts_full : (p : InFlight) (ps : List InFlight) (index room : ℕ) → p.retransmit ≡ true → nat_lt room (length p.user_data) ≡ true → acts_of_resending index room (p ∷ ps) ≡ []
+acts_full p ps index room marked full = rw (marked, full)
 
-acts_sent : (p : InFlight) (ps : List InFlight) (place room : ℕ) → p.retransmit ≡ true → nat_lt room (length p.user_data) ≡ false → acts_of_resending place room (p ∷ ps) ≡ Act.SentAgain place ∷ acts_of_resending (place + 1) (room - length p.user_data) ps
-acts_sent p ps place room marked fits = rw (marked, fits)
+acts_sent : (p : InFlight) (ps : List InFlight) (index room : ℕ) → p.retransmit ≡ true → nat_lt room (length p.user_data) ≡ false → acts_of_resending index room (p ∷ ps) ≡ Act.SentAgain index ∷ acts_of_resending (index + 1) (room - length p.user_data) ps
+acts_sent p ps index room marked fits = rw (marked, fits)
 
 -- the pieces behind one more
 shifted : (c : InFlight) (xs rest : List InFlight) (acts : ℕ → List Act) (chunks : ℕ → List ChunkPayloadData) (p : Parts)

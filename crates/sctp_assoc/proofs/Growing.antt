@@ -6,8 +6,8 @@ use Rattle.sctp_wire_types.specs.declared.chunk.Chunk.{Chunk}
 use Rattle.sctp_wire_types.specs.declared.chunk.ChunkPayloadData.{ChunkPayloadData}
 use Rattle.sctp_wire_types.specs.declared.error.Error.{Error}
 use Rattle.sctp_wire_types.specs.declared.packet.CommonHeader.{CommonHeader}
-use Rattle.sctp_queues.specs.Streams.{bytes_waiting, generation_left, stream_at}
-use Rattle.sctp_inbound.specs.declared.receiver.AckWish.{AckWish}
+use Rattle.sctp_streams.specs.Streams.{bytes_waiting, generation_left, stream_at}
+use Rattle.sctp_inbound.specs.declared.receiver.AckTrigger.{AckTrigger}
 use Rattle.sctp_inbound.specs.declared.receiver.Receiver.{Receiver}
 use Rattle.sctp_inbound.specs.Receiver.{credit_of, is_next_after}
 use Rattle.sctp_outbound.specs.declared.sender.Sender.{Sender}
@@ -48,20 +48,20 @@ taking_takes a b piece next found credit =
 
 -- the chunks of a packet
 
-pub first_takes : (header : CommonHeader) (c : Chunk) (cs : List Chunk) (a : Shown) (wish : AckWish) (now : ℕ) → chunk_takes_memory a header c ≡ true
-    → chunks_take_memory header (c ∷ cs) a wish now ≡ true
-first_takes header c cs a wish now takes =
-    or_left (chunk_takes_memory a header c) (takes_memory_after (on_chunk a header c wish now) (λ b next. chunks_take_memory header cs b next now)) takes
+pub first_takes : (header : CommonHeader) (c : Chunk) (cs : List Chunk) (a : Shown) (trigger : AckTrigger) (now : ℕ) → chunk_takes_memory a header c ≡ true
+    → chunks_take_memory header (c ∷ cs) a trigger now ≡ true
+first_takes header c cs a trigger now takes =
+    or_left (chunk_takes_memory a header c) (takes_memory_after (on_chunk a header c trigger now) (λ b next. chunks_take_memory header cs b next now)) takes
 
-pub later_takes : (header : CommonHeader) (c : Chunk) (cs : List Chunk) (a b : Shown) (wish next : AckWish) (now : ℕ)
-    → on_chunk a header c wish now ≡ (b, flows.Next next) → chunks_take_memory header cs b next now ≡ true → chunks_take_memory header (c ∷ cs) a wish now ≡ true
-later_takes header c cs a b wish next now e takes =
-    or_right (chunk_takes_memory a header c) (takes_memory_after (on_chunk a header c wish now) (λ b next. chunks_take_memory header cs b next now)) (rw e takes)
+pub later_takes : (header : CommonHeader) (c : Chunk) (cs : List Chunk) (a b : Shown) (trigger next : AckTrigger) (now : ℕ)
+    → on_chunk a header c trigger now ≡ (b, flows.Next next) → chunks_take_memory header cs b next now ≡ true → chunks_take_memory header (c ∷ cs) a trigger now ≡ true
+later_takes header c cs a b trigger next now e takes =
+    or_right (chunk_takes_memory a header c) (takes_memory_after (on_chunk a header c trigger now) (λ b next. chunks_take_memory header cs b next now)) (rw e takes)
 
-pub fault_takes : (header : CommonHeader) (c : Chunk) (cs : List Chunk) (a b : Shown) (wish : AckWish) (fault : Error) (now : ℕ)
-    → on_chunk a header c wish now ≡ (b, flows.Fault fault) → is_closed_state b.state ≡ false → chunks_take_memory header (c ∷ cs) a wish now ≡ true
-fault_takes header c cs a b wish fault now e still =
-    or_right (chunk_takes_memory a header c) (takes_memory_after (on_chunk a header c wish now) (λ b next. chunks_take_memory header cs b next now)) (rw (e, still) refl)
+pub fault_takes : (header : CommonHeader) (c : Chunk) (cs : List Chunk) (a b : Shown) (trigger : AckTrigger) (fault : Error) (now : ℕ)
+    → on_chunk a header c trigger now ≡ (b, flows.Fault fault) → is_closed_state b.state ≡ false → chunks_take_memory header (c ∷ cs) a trigger now ≡ true
+fault_takes header c cs a b trigger fault now e still =
+    or_right (chunk_takes_memory a header c) (takes_memory_after (on_chunk a header c trigger now) (λ b next. chunks_take_memory header cs b next now)) (rw (e, still) refl)
 
 -- polling
 

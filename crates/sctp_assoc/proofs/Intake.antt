@@ -12,9 +12,9 @@ use Rattle.sctp_wire_types.specs.declared.error.Error.{Error}
 use Rattle.sctp_wire_types.specs.declared.ids.PayloadProtocolIdentifier.TheVariants as kinds
 use Rattle.sctp_receive_queues.specs.Reassembly.{refusal}
 use Rattle.sctp_receive_queues.specs.Reassembly as reassembly
-use Rattle.sctp_queues.specs.Stream.{Stream, fresh_stream}
-use Rattle.sctp_queues.specs.Streams.{StreamMap, bytes_waiting, generation_left, made, refusal_at, refusal_in, stream_at}
-use Rattle.sctp_inbound.specs.declared.receiver.AckWish.{AckWish}
+use Rattle.sctp_streams.specs.Stream.{StreamView, fresh_stream}
+use Rattle.sctp_streams.specs.Streams.{StreamMap, bytes_waiting, generation_left, made, refusal_at, refusal_in, stream_at}
+use Rattle.sctp_inbound.specs.declared.receiver.AckTrigger.{AckTrigger}
 use Rattle.sctp_inbound.specs.declared.receiver.Receiver.{Receiver}
 use Rattle.sctp_inbound.specs.Receiver.{credit_of, is_next_after}
 use Rattle.sctp_model.specs.Serial.{tsn}
@@ -31,11 +31,11 @@ use Rattle.sctp_assoc.proofs.Streams.{at_made}
 
 -- A stream that is made holds nothing: as many bytes wait as before.
 
-abbrev added : ℕ → Stream → ℕ
+abbrev added : ℕ → StreamView → ℕ
 added sum s = min (sum + reassembly.bytes_waiting s.reassembly) (2 ^ 64 - 1)
 
-abbrev waiting_from : ℕ → List (ℕ × Stream) → ℕ
-waiting_from sum es = fold (λ (n : ℕ) (s : Stream). min (n + reassembly.bytes_waiting s.reassembly) (2 ^ 64 - 1)) sum (map (λ (e : ℕ × Stream). e.1) es)
+abbrev waiting_from : ℕ → List (ℕ × StreamView) → ℕ
+waiting_from sum es = fold (λ (n : ℕ) (s : StreamView). min (n + reassembly.bytes_waiting s.reassembly) (2 ^ 64 - 1)) sum (map (λ (e : ℕ × StreamView). e.1) es)
 
 least_of : (sum more : ℕ) → more ≡ 0 → sum ≤ 2 ^ 64 - 1 → min (sum + more) (2 ^ 64 - 1) ≡ sum
 least_of sum more none within = omega (arith, none, within)
@@ -43,7 +43,7 @@ least_of sum more none within = omega (arith, none, within)
 within_limit : (n : ℕ) → min n (2 ^ 64 - 1) ≤ 2 ^ 64 - 1
 within_limit n = omega arith
 
-beside_step : (o : Ordering) (e : ℕ × Stream) (es rest : List (ℕ × Stream)) (id sum : ℕ) (s : Stream)
+beside_step : (o : Ordering) (e : ℕ × StreamView) (es rest : List (ℕ × StreamView)) (id sum : ℕ) (s : StreamView)
     → is_eq o ≡ false → reassembly.bytes_waiting s.reassembly ≡ 0
     → sum ≤ 2 ^ 64 - 1 → waiting_from (added sum e.1) rest ≡ waiting_from (added sum e.1) es
     → waiting_from sum (match_ordering o ((id, s) ∷ e ∷ es) ((e.0, s) ∷ es) (e ∷ rest)) ≡ waiting_from sum (e ∷ es)
@@ -51,11 +51,11 @@ beside_step Less e es rest id sum s apart none within hyp = ap (λ (n : ℕ). wa
 beside_step Equal e es rest id sum s apart none within hyp = absurd (true≢false apart)
 beside_step Greater e es rest id sum s apart none within hyp = hyp
 
-not_first : (b : Bool) (x : Stream) (o : Option Stream) → (if b then Some x else o) ≡ None → (b ≡ false) × (o ≡ None)
+not_first : (b : Bool) (x : StreamView) (o : Option StreamView) → (if b then Some x else o) ≡ None → (b ≡ false) × (o ≡ None)
 not_first true x o h = absurd (true≢false (ap is_some h))
 not_first false x o h = (refl, h)
 
-waiting_beside : (es : List (ℕ × Stream)) (id sum : ℕ) (s : Stream) → lookup (is_at (nat_cmp id)) es ≡ None
+waiting_beside : (es : List (ℕ × StreamView)) (id sum : ℕ) (s : StreamView) → lookup (is_at (nat_cmp id)) es ≡ None
     → reassembly.bytes_waiting s.reassembly ≡ 0
     → sum ≤ 2 ^ 64 - 1 → waiting_from sum (insert_entry nat_cmp es id s) ≡ waiting_from sum es
 waiting_beside [] id sum s free none within = least_of sum (reassembly.bytes_waiting s.reassembly) none within
@@ -83,7 +83,7 @@ record Found (a : Shown) (piece : ChunkPayloadData) (x : Shown × Bool) : Type 0
   room : has_room x.0 ≡ has_room a
   refused : x.1 ≡ true → refusal_in x.0.streams piece.stream_identifier piece (receive_limit x.0) ≡ refusal_of a piece
 
-found_if : (o : Option Stream) (left : Bool) (a : Shown) (piece : ChunkPayloadData)
+found_if : (o : Option StreamView) (left : Bool) (a : Shown) (piece : ChunkPayloadData)
     → stream_at a.streams piece.stream_identifier ≡ o → generation_left a.streams ≡ left
     → Found a piece (stream_found (counted_data a) piece.stream_identifier)
 unfolding stream_found
@@ -103,7 +103,7 @@ found_if None true a piece e f =
     rw (there, f) (record {
       found = rw (there, f) refl;
       room = ap (λ (n : ℕ). has_room_beside a.receiver n) (made_waits a.streams piece.stream_identifier a.sender.queue.next_message_id e);
-      refused = λ b. ap (λ (o : Option Stream). refusal_at o piece (receive_limit a)) made_at ∙ sym (ap (λ (o : Option Stream). refusal (held_by o) piece (receive_limit a)) e);
+      refused = λ b. ap (λ (o : Option StreamView). refusal_at o piece (receive_limit a)) made_at ∙ sym (ap (λ (o : Option StreamView). refusal (held_by o) piece (receive_limit a)) e);
     })
 
 stream_is_found : (a : Shown) (piece : ChunkPayloadData)
@@ -120,7 +120,7 @@ is_next a piece = is_next_after a.receiver piece.tsn && is_whole piece
 
 -- the fault of a flow
 abbrev pub fault_of : Flow → Option Error
-fault_of (flows.Next wish) = None
+fault_of (flows.Next trigger) = None
 fault_of (flows.Fault error) = Some error
 
 abbrev decided : Bool → Bool → Option Error → Option Error
@@ -129,31 +129,31 @@ decided found room o = if found then (if room then o else None) else None
 abbrev decided_acts : Bool → Bool → Option Error → ChunkPayloadData → List Act
 decided_acts found room o piece = if found then (if room then acts_unless_refused o piece else []) else []
 
-taking_flow : (o : Option Error) (x : Shown) (piece : ChunkPayloadData) (wish : AckWish)
-    → fault_of (asks_or_faults (taken_unless o x piece) piece wish).1 ≡ o
-taking_flow None x piece wish = refl
-taking_flow (Some error) x piece wish = refl
+taking_flow : (o : Option Error) (x : Shown) (piece : ChunkPayloadData) (trigger : AckTrigger)
+    → fault_of (asks_or_faults (taken_unless o x piece) piece trigger).1 ≡ o
+taking_flow None x piece trigger = refl
+taking_flow (Some error) x piece trigger = refl
 
-room_flow : (room : Bool) (x : Shown) (piece : ChunkPayloadData) (wish : AckWish) → has_room x ≡ room
-    → fault_of (on_next_data (x, true) piece wish).1 ≡ (if room then refusal_in x.streams piece.stream_identifier piece (receive_limit x) else None)
+room_flow : (room : Bool) (x : Shown) (piece : ChunkPayloadData) (trigger : AckTrigger) → has_room x ≡ room
+    → fault_of (on_next_data (x, true) piece trigger).1 ≡ (if room then refusal_in x.streams piece.stream_identifier piece (receive_limit x) else None)
 unfolding taken_in
-room_flow true x piece wish e = rw e (taking_flow (refusal_in x.streams piece.stream_identifier piece (receive_limit x)) x piece wish)
-room_flow false x piece wish e = rw e refl
+room_flow true x piece trigger e = rw e (taking_flow (refusal_in x.streams piece.stream_identifier piece (receive_limit x)) x piece trigger)
+room_flow false x piece trigger e = rw e refl
 
-found_flow : (a : Shown) (x : Shown × Bool) (piece : ChunkPayloadData) (wish : AckWish) → Found a piece x
-    → fault_of (on_next_data x piece wish).1 ≡ decided (is_found a piece) (has_room a) (refusal_of a piece)
-found_flow a (x, false) piece wish f = ap (λ (b : Bool). decided b (has_room a) (refusal_of a piece)) f.found
-found_flow a (x, true) piece wish f =
-    room_flow (has_room x) x piece wish refl
+found_flow : (a : Shown) (x : Shown × Bool) (piece : ChunkPayloadData) (trigger : AckTrigger) → Found a piece x
+    → fault_of (on_next_data x piece trigger).1 ≡ decided (is_found a piece) (has_room a) (refusal_of a piece)
+found_flow a (x, false) piece trigger f = ap (λ (b : Bool). decided b (has_room a) (refusal_of a piece)) f.found
+found_flow a (x, true) piece trigger f =
+    room_flow (has_room x) x piece trigger refl
     ∙ ap (λ (b : Bool). decided true b (refusal_in x.streams piece.stream_identifier piece (receive_limit x))) f.room
     ∙ ap (λ (o : Option Error). decided true (has_room a) o) (f.refused refl)
     ∙ ap (λ (b : Bool). decided b (has_room a) (refusal_of a piece)) f.found
 
-data_flow : (next : Bool) (a : Shown) (piece : ChunkPayloadData) (wish : AckWish) → is_next a piece ≡ next
-    → fault_of (on_data a piece wish).1 ≡ (if next then decided (is_found a piece) (has_room a) (refusal_of a piece) else None)
+data_flow : (next : Bool) (a : Shown) (piece : ChunkPayloadData) (trigger : AckTrigger) → is_next a piece ≡ next
+    → fault_of (on_data a piece trigger).1 ≡ (if next then decided (is_found a piece) (has_room a) (refusal_of a piece) else None)
 unfolding on_data
-data_flow true a piece wish e = rw e (found_flow a (stream_found (counted_data a) piece.stream_identifier) piece wish (stream_is_found a piece))
-data_flow false a piece wish e = rw e refl
+data_flow true a piece trigger e = rw e (found_flow a (stream_found (counted_data a) piece.stream_identifier) piece trigger (stream_is_found a piece))
+data_flow false a piece trigger e = rw e refl
 
 found_acts : (a : Shown) (x : Shown × Bool) (piece : ChunkPayloadData) → Found a piece x
     → acts_of_found x piece ≡ decided_acts (is_found a piece) (has_room a) (refusal_of a piece) piece
@@ -203,7 +203,7 @@ pub may_passes : (a : Shown) (h : History) (piece : ChunkPayloadData) → Binds 
     → Passes a piece
 may_passes a h piece binds may =
     let whole : is_whole piece ≡ true = rw (may.ordered, may.begins, may.ends) refl in
-    let next : is_next_after a.receiver piece.tsn ≡ true = eq-eqb piece.tsn ((a.receiver.point + 1) % 2 ^ 32) (after_point h.peer h.point a.receiver.point piece.tsn binds.point may.next) in
+    let next : is_next_after a.receiver piece.tsn ≡ true = eq-eqb piece.tsn ((a.receiver.peer_last_tsn + 1) % 2 ^ 32) (after_point h.peer h.reach a.receiver.peer_last_tsn piece.tsn binds.reach may.next) in
     record {
       next = both (is_next_after a.receiver piece.tsn) (is_whole piece) next whole;
       found = stream_found_as (is_some (stream_at a.streams piece.stream_identifier)) (generation_left a.streams) may.stream;
@@ -216,7 +216,7 @@ passes_may a h piece binds p =
     let n = and_parts (is_next_after a.receiver piece.tsn) (is_whole piece) p.next in
     let w = whole_parts piece.unordered piece.beginning_fragment piece.ending_fragment n.1 in
     record {
-      next = at_point h.peer h.point a.receiver.point piece.tsn binds.point (eqb-true piece.tsn ((a.receiver.point + 1) % 2 ^ 32) n.0);
+      next = at_point h.peer h.reach a.receiver.peer_last_tsn piece.tsn binds.reach (eqb-true piece.tsn ((a.receiver.peer_last_tsn + 1) % 2 ^ 32) n.0);
       ordered = w.0;
       begins = w.1;
       ends = w.2;
@@ -226,9 +226,9 @@ passes_may a h piece binds p =
 
 -- Taken in
 
-pub refused_data : (a : Shown) (piece : ChunkPayloadData) (wish : AckWish) → Passes a piece
-    → fault_of (on_data a piece wish).1 ≡ refusal_of a piece
-refused_data a piece wish p = data_flow true a piece wish p.next ∙ rw (p.found, p.room) refl
+pub refused_data : (a : Shown) (piece : ChunkPayloadData) (trigger : AckTrigger) → Passes a piece
+    → fault_of (on_data a piece trigger).1 ≡ refusal_of a piece
+refused_data a piece trigger p = data_flow true a piece trigger p.next ∙ rw (p.found, p.room) refl
 
 refused_if : (next found room : Bool) (o : Option Error) (error : Error)
     → (if next then decided found room o else None) ≡ Some error
@@ -238,11 +238,11 @@ refused_if true false room o error e = absurd (false≢true (ap is_some e))
 refused_if true true false o error e = absurd (false≢true (ap is_some e))
 refused_if true true true o error e = (refl, refl, refl, e)
 
-pub data_passed : (a : Shown) (piece : ChunkPayloadData) (wish : AckWish) (error : Error)
-    → fault_of (on_data a piece wish).1 ≡ Some error
+pub data_passed : (a : Shown) (piece : ChunkPayloadData) (trigger : AckTrigger) (error : Error)
+    → fault_of (on_data a piece trigger).1 ≡ Some error
     → Passes a piece × (refusal_of a piece ≡ Some error)
-data_passed a piece wish error e =
-    let r = refused_if (is_next a piece) (is_found a piece) (has_room a) (refusal_of a piece) error (sym (data_flow (is_next a piece) a piece wish refl) ∙ e) in
+data_passed a piece trigger error e =
+    let r = refused_if (is_next a piece) (is_found a piece) (has_room a) (refusal_of a piece) error (sym (data_flow (is_next a piece) a piece trigger refl) ∙ e) in
     (record { next = r.0; found = r.1; room = r.2 }, r.3)
 
 abbrev error_or : Error → Option Error → Error
@@ -250,10 +250,10 @@ error_or other None = other
 error_or other (Some error) = error
 
 pub fault_from : (f : Flow) (error : Error) → fault_of f ≡ Some error → f ≡ flows.Fault error
-fault_from (flows.Next wish) error e = absurd (false≢true (ap is_some e))
+fault_from (flows.Next trigger) error e = absurd (false≢true (ap is_some e))
 fault_from (flows.Fault other) error e = ap (λ (o : Option Error). flows.Fault (error_or other o)) e
 
-taken_if : (o : Option Stream) (left : Bool) (a : Shown) (piece : ChunkPayloadData)
+taken_if : (o : Option StreamView) (left : Bool) (a : Shown) (piece : ChunkPayloadData)
     → stream_at a.streams piece.stream_identifier ≡ o → generation_left a.streams ≡ left
     → is_found a piece ≡ true → IsTakenIn a piece (acts_of_stream a piece.stream_identifier ++ Act.Took piece ∷ [])
 taken_if (Some t) left a piece e f found =
@@ -285,7 +285,7 @@ data_is_taken_in a h header piece binds may =
       taken = λ none.
           let acts : acts_of_data a piece ≡ acts_of_stream a piece.stream_identifier ++ Act.Took piece ∷ [] = data_acts true a piece p.next ∙ rw (p.found, p.room, none) refl in
           subst (IsTakenIn a piece) (sym acts) (taken_if _ _ a piece refl refl p.found);
-      refused = λ wish now error e. fault_from (on_data a piece wish).1 error (refused_data a piece wish p ∙ e);
+      refused = λ trigger now error e. fault_from (on_data a piece trigger).1 error (refused_data a piece trigger p ∙ e);
     }
 
 -- Nothing else is taken in
@@ -299,22 +299,22 @@ abbrev is_took : Option Act → Bool
 is_took (Some (Act.Took piece)) = true
 is_took act = false
 
-none_there : (place : ℕ) (piece : ChunkPayloadData) → slice_get [] place ≡ Some (Act.Took piece) → ⊥
-none_there place piece e = false≢true (ap is_took e)
+none_there : (index : ℕ) (piece : ChunkPayloadData) → slice_get [] index ≡ Some (Act.Took piece) → ⊥
+none_there index piece e = false≢true (ap is_took e)
 
-not_alone : (x : Act) (place : ℕ) (piece : ChunkPayloadData) → is_took (Some x) ≡ false
-    → slice_get (x ∷ []) place ≡ Some (Act.Took piece) → ⊥
+not_alone : (x : Act) (index : ℕ) (piece : ChunkPayloadData) → is_took (Some x) ≡ false
+    → slice_get (x ∷ []) index ≡ Some (Act.Took piece) → ⊥
 not_alone x zero piece n e = false≢true (sym n ∙ ap is_took e)
-not_alone x (suc place) piece n e = none_there place piece e
+not_alone x (suc index) piece n e = none_there index piece e
 
-behind_opened : (there left : Bool) (x : Act) (acts : List Act) (place : ℕ) (piece : ChunkPayloadData)
+behind_opened : (there left : Bool) (x : Act) (acts : List Act) (index : ℕ) (piece : ChunkPayloadData)
     → is_took (Some x) ≡ false
-    → slice_get ((if there then [] else if left then x ∷ [] else []) ++ acts) place ≡ Some (Act.Took piece)
+    → slice_get ((if there then [] else if left then x ∷ [] else []) ++ acts) index ≡ Some (Act.Took piece)
     → (k : ℕ) × (slice_get acts k ≡ Some (Act.Took piece))
-behind_opened true left x acts place piece n e = (place, e)
-behind_opened false false x acts place piece n e = (place, e)
+behind_opened true left x acts index piece n e = (index, e)
+behind_opened false false x acts index piece n e = (index, e)
 behind_opened false true x acts zero piece n e = absurd (false≢true (sym n ∙ ap is_took e))
-behind_opened false true x acts (suc place) piece n e = (place, e)
+behind_opened false true x acts (suc index) piece n e = (index, e)
 
 -- the tests that were passed where this DATA was taken in
 record PassedAll (there fits : Bool) (o : Option Error) (piece came : ChunkPayloadData) : Type 0 where
@@ -323,25 +323,25 @@ record PassedAll (there fits : Bool) (o : Option Error) (piece came : ChunkPaylo
   unrefused : o ≡ None
   same : came ≡ piece
 
-passed_all : (found room : Bool) (o : Option Error) (piece came : ChunkPayloadData) (place : ℕ)
-    → slice_get (decided_acts found room o piece) place ≡ Some (Act.Took came)
+passed_all : (found room : Bool) (o : Option Error) (piece came : ChunkPayloadData) (index : ℕ)
+    → slice_get (decided_acts found room o piece) index ≡ Some (Act.Took came)
     → PassedAll found room o piece came
-passed_all false room o piece came place e = absurd (none_there place came e)
-passed_all true false o piece came place e = absurd (none_there place came e)
-passed_all true true (Some error) piece came place e = absurd (none_there place came e)
+passed_all false room o piece came index e = absurd (none_there index came e)
+passed_all true false o piece came index e = absurd (none_there index came e)
+passed_all true true (Some error) piece came index e = absurd (none_there index came e)
 passed_all true true None piece came zero e = record { found = refl; room = refl; unrefused = refl; same = sym (ap (taken_by piece) e) }
-passed_all true true None piece came (suc place) e = absurd (none_there place came e)
+passed_all true true None piece came (suc index) e = absurd (none_there index came e)
 
-passed_data : (next : Bool) (a : Shown) (piece came : ChunkPayloadData) (place : ℕ) → is_next a piece ≡ next
-    → slice_get (acts_of_data a piece) place ≡ Some (Act.Took came)
+passed_data : (next : Bool) (a : Shown) (piece came : ChunkPayloadData) (index : ℕ) → is_next a piece ≡ next
+    → slice_get (acts_of_data a piece) index ≡ Some (Act.Took came)
     → (is_next a piece ≡ true) × PassedAll (is_found a piece) (has_room a) (refusal_of a piece) piece came
-passed_data false a piece came place n e =
-    absurd (none_there place came (sym (ap (λ (acts : List Act). slice_get acts place) (data_acts false a piece n)) ∙ e))
-passed_data true a piece came place n e =
+passed_data false a piece came index n e =
+    absurd (none_there index came (sym (ap (λ (acts : List Act). slice_get acts index) (data_acts false a piece n)) ∙ e))
+passed_data true a piece came index n e =
     let behind = behind_opened (is_some (stream_at a.streams piece.stream_identifier)) (generation_left a.streams)
     (Act.Opened piece.stream_identifier a.sender.queue.next_message_id kinds.Unknown)
-    (decided_acts (is_found a piece) (has_room a) (refusal_of a piece) piece) place came refl
-    (sym (ap (λ (acts : List Act). slice_get acts place) (data_acts true a piece n)) ∙ e) in
+    (decided_acts (is_found a piece) (has_room a) (refusal_of a piece) piece) index came refl
+    (sym (ap (λ (acts : List Act). slice_get acts index) (data_acts true a piece n)) ∙ e) in
     (n, passed_all (is_found a piece) (has_room a) (refusal_of a piece) piece came behind.0 behind.1)
 
 data_was : (a : Shown) (h : History) (piece came : ChunkPayloadData) → Binds a h → is_next a piece ≡ true
@@ -354,34 +354,34 @@ data_was a h piece came binds next p =
       unrefused = p.unrefused;
     })
 
-no_acts : (acts : List Act) (place : ℕ) (piece : ChunkPayloadData) → acts ≡ []
-    → slice_get acts place ≡ Some (Act.Took piece) → ⊥
-no_acts acts place piece none e = none_there place piece (sym (ap (λ (zs : List Act). slice_get zs place) none) ∙ e)
+no_acts : (acts : List Act) (index : ℕ) (piece : ChunkPayloadData) → acts ≡ []
+    → slice_get acts index ≡ Some (Act.Took piece) → ⊥
+no_acts acts index piece none e = none_there index piece (sym (ap (λ (zs : List Act). slice_get zs index) none) ∙ e)
 
-one_act : (acts : List Act) (x : Act) (place : ℕ) (piece : ChunkPayloadData) → is_took (Some x) ≡ false
-    → acts ≡ x ∷ [] → slice_get acts place ≡ Some (Act.Took piece) → ⊥
-one_act acts x place piece n one e = not_alone x place piece n (sym (ap (λ (zs : List Act). slice_get zs place) one) ∙ e)
+one_act : (acts : List Act) (x : Act) (index : ℕ) (piece : ChunkPayloadData) → is_took (Some x) ≡ false
+    → acts ≡ x ∷ [] → slice_get acts index ≡ Some (Act.Took piece) → ⊥
+one_act acts x index piece n one e = not_alone x index piece n (sym (ap (λ (zs : List Act). slice_get zs index) one) ∙ e)
 
-met_no_data : (acts : List Act) (init : ChunkInit) (place : ℕ) (piece : ChunkPayloadData) → IsMeeting init acts
-    → slice_get acts place ≡ Some (Act.Took piece) → ⊥
-met_no_data acts init place piece m e =
-    ⊎_elim (λ (n : acts ≡ []). no_acts acts place piece n e) (λ (n : acts ≡ Act.Met init.initial_tsn ∷ []). one_act acts (Act.Met init.initial_tsn) place piece refl n e) m
+met_no_data : (acts : List Act) (init : ChunkInit) (index : ℕ) (piece : ChunkPayloadData) → IsMeeting init acts
+    → slice_get acts index ≡ Some (Act.Took piece) → ⊥
+met_no_data acts init index piece m e =
+    ⊎_elim (λ (n : acts ≡ []). no_acts acts index piece n e) (λ (n : acts ≡ Act.PeerKnown init.initial_tsn ∷ []). one_act acts (Act.PeerKnown init.initial_tsn) index piece refl n e) m
 
-sack_no_data : (acts : List Act) (a : Shown) (h : History) (point place : ℕ) (piece : ChunkPayloadData)
+sack_no_data : (acts : List Act) (a : Shown) (h : History) (point index : ℕ) (piece : ChunkPayloadData)
     → (acts ≡ []) ⊎ Acknowledges a h point acts
-    → slice_get acts place ≡ Some (Act.Took piece) → ⊥
-sack_no_data acts a h point place piece m e =
-    ⊎_elim (λ (n : acts ≡ []). no_acts acts place piece n e) (λ (n : Acknowledges a h point acts). one_act acts (Act.Acknowledged n.count) place piece refl n.are e) m
+    → slice_get acts index ≡ Some (Act.Took piece) → ⊥
+sack_no_data acts a h point index piece m e =
+    ⊎_elim (λ (n : acts ≡ []). no_acts acts index piece n e) (λ (n : Acknowledges a h point acts). one_act acts (Act.Acknowledged n.count) index piece refl n.are e) m
 
 pub nothing_else_is_taken_in : NothingElseIsTakenIn
-nothing_else_is_taken_in a h header (chunks.Data piece) place came binds e =
-    let p = passed_data (is_next a piece) a piece came place refl e in
+nothing_else_is_taken_in a h header (chunks.Data piece) index came binds e =
+    let p = passed_data (is_next a piece) a piece came index refl e in
     data_was a h piece came binds p.0 p.1
-nothing_else_is_taken_in a h header (chunks.SelectiveAck sack) place came binds e =
-    absurd (sack_no_data (acts_of_chunk a header (chunks.SelectiveAck sack)) a h sack.cumulative_tsn_ack place came (sacks_acknowledge a h header sack binds) e)
-nothing_else_is_taken_in a h header (chunks.Init init) place came binds e =
-    absurd (met_no_data (acts_of_chunk a header (chunks.Init init)) init place came (greetings_meet a header init).0 e)
-nothing_else_is_taken_in a h header (chunks.InitAck init) place came binds e =
-    absurd (met_no_data (acts_of_chunk a header (chunks.InitAck init)) init place came (greetings_meet a header init).1 e)
-nothing_else_is_taken_in a h header chunk place came binds e =
-    absurd (no_acts (acts_of_chunk a header chunk) place came (other_chunks_do_nothing a header chunk tt) e)
+nothing_else_is_taken_in a h header (chunks.SelectiveAck sack) index came binds e =
+    absurd (sack_no_data (acts_of_chunk a header (chunks.SelectiveAck sack)) a h sack.cumulative_tsn_ack index came (sacks_acknowledge a h header sack binds) e)
+nothing_else_is_taken_in a h header (chunks.Init init) index came binds e =
+    absurd (met_no_data (acts_of_chunk a header (chunks.Init init)) init index came (greetings_meet a header init).0 e)
+nothing_else_is_taken_in a h header (chunks.InitAck init) index came binds e =
+    absurd (met_no_data (acts_of_chunk a header (chunks.InitAck init)) init index came (greetings_meet a header init).1 e)
+nothing_else_is_taken_in a h header chunk index came binds e =
+    absurd (no_acts (acts_of_chunk a header chunk) index came (other_chunks_do_nothing a header chunk tt) e)

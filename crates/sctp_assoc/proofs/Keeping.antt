@@ -12,8 +12,8 @@ use Rattle.sctp_outbound_queue.specs.Outbound.{Outbound, left_behind, pieces_wai
 use Rattle.sctp_outbound.specs.declared.sender.Sender.{Sender}
 use Rattle.sctp_outbound.specs.Sender.{after_resending, both_windows, can_send_next, first_counted, resends_alone, resent_by, resent_pieces, sent_new, sent_one, sent_within, with_in_flight}
 use Rattle.sctp_outbound.proofs.Sending.{pieces_full, pieces_sent, pieces_skip}
-use Rattle.sctp_queues.specs.Stream.{Stream}
-use Rattle.sctp_queues.specs.Streams.{stream_at}
+use Rattle.sctp_streams.specs.Stream.{StreamView}
+use Rattle.sctp_streams.specs.Streams.{stream_at}
 use Rattle.sctp_inbound.specs.Handshake.{header_of}
 use Rattle.sctp_assoc.specs.Calls.{is_established, message_of, written_at}
 use Rattle.sctp_assoc.specs.Laws.{PollsKeepWhatIsHeld, WritesAreHeld, is_held}
@@ -27,7 +27,7 @@ waits number ms = list_any (λ (m : Waiting). m.message.message_id == number) ms
 
 -- Writes.
 
-written_held : (o : Option Stream) (a : Shown) (id : ℕ) (bytes : List ℕ) → is_some o ≡ true
+written_held : (o : Option StreamView) (a : Shown) (id : ℕ) (bytes : List ℕ) → is_some o ≡ true
     → is_held (written_at o a id bytes).sender.queue a.sender.queue.next_message_id ≡ true
 written_held None a id bytes some = absurd (false≢true some)
 written_held (Some s) a id bytes some =

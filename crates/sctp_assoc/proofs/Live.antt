@@ -2,10 +2,10 @@
 use Rattle.std.proofs.Common.{◌≡◌, refl, sym, ap, ◌∙◌, ⊎_elim, ℕ, arith, Bool, true, false, eqb, ltb, ◌||◌, if◌then◌else◌, Option, Some, None, is_some}
 use Rattle.std.proofs.lemmas.Bool.{cases_Bool, cond-false, cond-true, eqb-false, ltb-false, or_parts, true≢false}
 use Rattle.sctp_wire_types.specs.declared.error.Error.TheVariants as errors
-use Rattle.sctp_receive_queues.specs.Messages.{Message}
+use Rattle.sctp_receive_queues.specs.Messages.{ReceivedMessage}
 use Rattle.sctp_receive_queues.specs.Reassembly.{empty_reassembly, taken}
-use Rattle.sctp_queues.specs.Stream.{Stream, fresh_stream, read_with, stream_read}
-use Rattle.sctp_queues.specs.Streams.{StreamMap, generation_left, read_at, read_in, stream_at, with_stream}
+use Rattle.sctp_streams.specs.Stream.{StreamView, fresh_stream, read_with, stream_read}
+use Rattle.sctp_streams.specs.Streams.{StreamMap, generation_left, read_at, read_in, stream_at, with_stream}
 use Rattle.sctp_assoc.specs.Calls.{is_established, opened, write_refusal_at}
 use Rattle.sctp_assoc.specs.Shapes.{AcceptedWritesFit, CanWrite, FoundStreamsAreLive, IsLive, OpenedStreamsHoldNothing, OpenedStreamsWereNotLive, WhatHoldsNothingGivesNothing}
 use Rattle.sctp_assoc.specs.Shown.{Shown}
@@ -13,7 +13,7 @@ use Rattle.sctp_assoc.proofs.Streams.{at_made, at_with}
 
 -- Refusals
 
-found_if : (failed : Bool) (o : Option Stream) (a : Shown) (id : ℕ) → a.failed ≡ failed → stream_at a.streams id ≡ o
+found_if : (failed : Bool) (o : Option StreamView) (a : Shown) (id : ℕ) → a.failed ≡ failed → stream_at a.streams id ≡ o
     → (if failed then Some errors.ErrAssociationFailed else if is_some o then None else Some errors.ErrStreamNotExisted) ≡ None → IsLive a id
 found_if true o a id f there e = absurd (true≢false (ap is_some e))
 found_if false None a id f there e = absurd (true≢false (ap is_some e))
@@ -22,7 +22,7 @@ found_if false (Some t) a id f there e = record { working = f; stream = t; there
 pub found_streams_are_live : FoundStreamsAreLive
 found_streams_are_live a id e = found_if a.failed (stream_at a.streams id) a id refl refl e
 
-free_if : (failed : Bool) (o : Option Stream) (left : Bool)
+free_if : (failed : Bool) (o : Option StreamView) (left : Bool)
     → (if failed then Some errors.ErrAssociationFailed else if is_some o then Some errors.ErrStreamAlreadyExist else if left then None else Some errors.ErrStreamCreateFailed) ≡ None
     → (failed ≡ false) × (o ≡ None)
 free_if true o left e = absurd (true≢false (ap is_some e))
@@ -40,7 +40,7 @@ size_free true true large e = absurd (true≢false (ap is_some e))
 size_free true false true e = absurd (true≢false (ap is_some e))
 size_free true false false e = (refl, refl, refl)
 
-write_free : (failed : Bool) (x : Option Stream) (a : Shown) (id size : ℕ) → a.failed ≡ failed → stream_at a.streams id ≡ x
+write_free : (failed : Bool) (x : Option StreamView) (a : Shown) (id size : ℕ) → a.failed ≡ failed → stream_at a.streams id ≡ x
     → (if failed then Some errors.ErrAssociationFailed else write_refusal_at a x size) ≡ None → CanWrite a id size
 write_free true x a id size working there e = absurd (true≢false (ap is_some e))
 write_free false None a id size working there e = absurd (true≢false (ap is_some e))
@@ -60,16 +60,16 @@ accepted_writes_fit a id size e = write_free a.failed (stream_at a.streams id) a
 
 -- no stream of the map holds anything
 abbrev AreEmpty : StreamMap → Type 0
-AreEmpty m = (s : ℕ) (t : Stream) → stream_at m s ≡ Some t → t.reassembly ≡ empty_reassembly
+AreEmpty m = (s : ℕ) (t : StreamView) → stream_at m s ≡ Some t → t.reassembly ≡ empty_reassembly
 
 -- nor where one of them became another one that is empty
-empty_beside : (m n : StreamMap) (id : ℕ) (u : Stream) → u.reassembly ≡ empty_reassembly
+empty_beside : (m n : StreamMap) (id : ℕ) (u : StreamView) → u.reassembly ≡ empty_reassembly
     → ((s : ℕ) → stream_at n s ≡ (if eqb s id then Some u else stream_at m s)) → AreEmpty m → AreEmpty n
 empty_beside m n id u empty at all s t e = ⊎_elim
     (λ (b : eqb s id ≡ true).
     let f : Some u ≡ Some t = sym (cond-true (eqb s id) (Some u) (stream_at m s) b) ∙ sym (at s) ∙ e in
     let g : u ≡ t = cc in
-    ap (λ (z : Stream). z.reassembly) (sym g) ∙ empty)
+    ap (λ (z : StreamView). z.reassembly) (sym g) ∙ empty)
     (λ (b : eqb s id ≡ false). all s t (sym (cond-false (eqb s id) (Some u) (stream_at m s) b) ∙ sym (at s) ∙ e))
     (cases_Bool (eqb s id))
 
@@ -78,16 +78,16 @@ opened_streams_hold_nothing a id kind none all =
     let first : ℕ = a.sender.queue.next_message_id in
     empty_beside a.streams (opened a id kind).streams id (fresh_stream id a.streams.next_generation first kind) refl (λ s. at_made a.streams id first s kind none) all
 
-empty_read : (t : Stream) → t.reassembly ≡ empty_reassembly → stream_read t ≡ (record t { reassembly = empty_reassembly }, None)
+empty_read : (t : StreamView) → t.reassembly ≡ empty_reassembly → stream_read t ≡ (record t { reassembly = empty_reassembly }, None)
 empty_read t e = ap (λ r. read_with t (taken r)) e
 
 pub what_holds_nothing_gives_nothing : WhatHoldsNothingGivesNothing
 what_holds_nothing_gives_nothing a id live all =
-    let t : Stream = live.stream in
-    let u : Stream = record t { reassembly = empty_reassembly } in
+    let t : StreamView = live.stream in
+    let u : StreamView = record t { reassembly = empty_reassembly } in
     let left : read_in a.streams id ≡ (with_stream a.streams id u, None) =
-    ap (λ o. read_at o a.streams id) live.there ∙ ap (λ (z : Stream × Option Message). (with_stream a.streams id z.0, z.1)) (empty_read t (all id t live.there)) in (
-      ap (λ (z : StreamMap × Option Message). z.1) left,
+    ap (λ o. read_at o a.streams id) live.there ∙ ap (λ (z : StreamView × Option ReceivedMessage). (with_stream a.streams id z.0, z.1)) (empty_read t (all id t live.there)) in (
+      ap (λ (z : StreamMap × Option ReceivedMessage). z.1) left,
       empty_beside a.streams (read_in a.streams id).0 id u refl
-          (λ n. ap (λ (z : StreamMap × Option Message). stream_at z.0 n) left ∙ at_with a.streams id n t u live.there) all,
+          (λ n. ap (λ (z : StreamMap × Option ReceivedMessage). stream_at z.0 n) left ∙ at_with a.streams id n t u live.there) all,
     )

@@ -3,9 +3,9 @@ use Rattle.std.proofs.Common.{◌≡◌, refl, sym, ap, ◌∙◌, subst, inl, i
 use Rattle.std.proofs.lemmas.Bool.{and_parts, false≢true, not-true, true≢false}
 use Rattle.std.proofs.lemmas.List.Sums.{sum_by-append, sum_by-cons}
 use Rattle.sctp_wire_types.specs.declared.error.Error.{Error}
-use Rattle.sctp_queues.specs.declared.event.Event.{Event}
-use Rattle.sctp_queues.specs.Stream.{Stream}
-use Rattle.sctp_queues.specs.Streams.{stream_at}
+use Rattle.sctp_streams.specs.declared.event.Event.{Event}
+use Rattle.sctp_streams.specs.Stream.{StreamView}
+use Rattle.sctp_streams.specs.Streams.{stream_at}
 use Rattle.sctp_assoc.specs.Calls.{event_from, fault_told, written_at}
 use Rattle.sctp_assoc.specs.Chunks.{after_packet}
 use Rattle.sctp_assoc.specs.Laws.{IsClosedIf, StaysOpen, closes, is_faulted_packet, loss_of, losses}
@@ -34,7 +34,7 @@ tells_nothing a b lost events =
     let n : losses b.events ≡ losses a.events = ap losses events in
     record { lost = lost; count = omega (arith, n); once = λ e. absurd (false≢true e) }
 
-write_tells : (o : Option Stream) (a : Shown) (id : ℕ) (bytes : List ℕ) → Tells false a (written_at o a id bytes, [])
+write_tells : (o : Option StreamView) (a : Shown) (id : ℕ) (bytes : List ℕ) → Tells false a (written_at o a id bytes, [])
 write_tells None a id bytes = tells_nothing a a refl refl
 write_tells (Some s) a id bytes = tells_nothing a _ refl refl
 

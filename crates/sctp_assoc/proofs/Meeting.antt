@@ -12,14 +12,14 @@ use Rattle.sctp_wire_types.specs.declared.packet.CommonHeader.{CommonHeader}
 use Rattle.sctp_wire_types.specs.Checks.{checked_chunk}
 use Rattle.sctp_inbound.specs.declared.handshake.Handshake.{Handshake}
 use Rattle.sctp_inbound.specs.declared.handshake.Offer.{Offer}
-use Rattle.sctp_inbound.specs.declared.receiver.AckWish.{AckWish}
+use Rattle.sctp_inbound.specs.declared.receiver.AckTrigger.{AckTrigger}
 use Rattle.sctp_inbound.specs.Greeting.{first_cookie}
 use Rattle.sctp_inbound.specs.Handshake.{comes_back, has_issued, header_of}
 use Rattle.sctp_assoc.specs.declared.control.ControlPacket.{ControlPacket}
 use Rattle.sctp_assoc.specs.Acts.{Act}
 use Rattle.sctp_assoc.specs.Calls.{is_beginning, is_cookie_echoed, is_cookie_wait, is_established}
 use Rattle.sctp_assoc.specs.Chunks.{checked_first, on_chunk}
-use Rattle.sctp_assoc.specs.Handshake.{acknowledged_cookie, answered, connected, echoed, met, on_cookie_ack, on_cookie_echo, on_init, on_init_ack, sends_cookie, with_echo}
+use Rattle.sctp_assoc.specs.Handshake.{acknowledged_cookie, answered, connected, echoed, learned, on_cookie_ack, on_cookie_echo, on_init, on_init_ack, sends_cookie, with_echo}
 use Rattle.sctp_assoc.specs.Happened.{acts_of_checked}
 use Rattle.sctp_assoc.specs.Meeting.{AwaitsInitAck, Greets, GreetsOn, HasCome, IsDoneAmongClients, IsGreeted, IsNoEarlier, IsTruthful, Listens, MayHear, Stage, stage_of}
 use Rattle.sctp_assoc.specs.Shapes.{EstablishedSidesTalk, TheSameHandshakeIsTheSameStage}
@@ -52,12 +52,12 @@ listener_is_deaf : (a : Shown) → Listens a → MayHear (stage_of a) → ⊥
 listener_is_deaf a l (inl completed) = true≢false (sym completed ∙ l.incomplete)
 listener_is_deaf a l (inr (client, known)) = not_both (sym client ∙ l.server)
 
-init_greets : (c : Bool) (own peer : ℕ) (t : Stage) (a : Shown) (header : CommonHeader) (init : ChunkInit) (wish : AckWish) → is_beginning a.state ≡ c
+init_greets : (c : Bool) (own peer : ℕ) (t : Stage) (a : Shown) (header : CommonHeader) (init : ChunkInit) (trigger : AckTrigger) → is_beginning a.state ≡ c
     → Greets peer t (chunks.Init init) → IsDoneAmongClients (stage_of a) t → IsTruthful own a → HasCome a
-    → IsGreeted own peer t (if c then Act.Met init.initial_tsn ∷ [] else []) a (on_init a header init wish).0
+    → IsGreeted own peer t (if c then Act.PeerKnown init.initial_tsn ∷ [] else []) a (on_init a header init trigger).0
 unfolding on_init
-init_greets true own peer t a header init wish e (is, client) one truthful come =
-    let b : Shown = answered (met a header init) in
+init_greets true own peer t a header init trigger e (is, client) one truthful come =
+    let b : Shown = answered (learned a header init) in
     let l = listens a t e client one come in
     let goes : IsNoEarlier (stage_of a) (stage_of b) = record { side = refl; knows = λ k. refl; completed = λ d. d } in
     let keeps : KeepsSaying a b = record { tsn = refl; goes = goes; offers = λ o. o; echoes = λ x. inl x } in
@@ -66,9 +66,9 @@ init_greets true own peer t a header init wish e (is, client) one truthful come 
       come = inr (inr (inl record { server = l.server; state = l.state; incomplete = l.incomplete; issued = λ i. refl }));
       goes = goes;
       completes = λ d. inl d;
-      learns = inr (ap (λ (n : ℕ). Act.Met n ∷ []) is, listener_is_deaf a l);
+      learns = inr (ap (λ (n : ℕ). Act.PeerKnown n ∷ []) is, listener_is_deaf a l);
     })
-init_greets false own peer t a header init wish e said one truthful come = rw e (nothing_greeted own peer t a truthful come)
+init_greets false own peer t a header init trigger e said one truthful come = rw e (nothing_greeted own peer t a truthful come)
 
 -- COOKIE ACK completes what a client began
 
@@ -86,10 +86,10 @@ ack_come a e (inr (inl w)) = inr (inr (inr record { state = refl; completed = re
 ack_come a e (inr (inr (inl l))) = absurd (true≢false (sym e ∙ ap is_cookie_echoed l.state))
 ack_come a e (inr (inr (inr s))) = absurd (true≢false (sym e ∙ ap is_cookie_echoed s.state))
 
-cookie_ack_greets : (c : Bool) (own peer : ℕ) (t : Stage) (a : Shown) (wish : AckWish) → is_cookie_echoed a.state ≡ c → t.completed ≡ true → IsTruthful own a → HasCome a
-    → IsGreeted own peer t [] a (on_cookie_ack a wish).0
+cookie_ack_greets : (c : Bool) (own peer : ℕ) (t : Stage) (a : Shown) (trigger : AckTrigger) → is_cookie_echoed a.state ≡ c → t.completed ≡ true → IsTruthful own a → HasCome a
+    → IsGreeted own peer t [] a (on_cookie_ack a trigger).0
 unfolding on_cookie_ack
-cookie_ack_greets true own peer t a wish e said truthful come =
+cookie_ack_greets true own peer t a trigger e said truthful come =
     let k = connected_keeps a in
     rw e (record {
       truthful = truthful_still own a (connected a) truthful k refl;
@@ -98,7 +98,7 @@ cookie_ack_greets true own peer t a wish e said truthful come =
       completes = λ d. inr (inl said);
       learns = inl (refl, refl);
     })
-cookie_ack_greets false own peer t a wish e said truthful come = rw e (nothing_greeted own peer t a truthful come)
+cookie_ack_greets false own peer t a trigger e said truthful come = rw e (nothing_greeted own peer t a truthful come)
 
 -- COOKIE ECHO completes what a server began
 
@@ -118,12 +118,12 @@ established_sides_talk a e (inr (inl w)) = absurd (true≢false (sym e ∙ ap is
 established_sides_talk a e (inr (inr (inl l))) = absurd (true≢false (sym e ∙ ap is_established l.state))
 established_sides_talk a e (inr (inr (inr s))) = s
 
-cookie_echo_greets : (issued begins established : Bool) (own peer : ℕ) (t : Stage) (a : Shown) (cookie : List ℕ) (wish : AckWish) → has_issued a.handshake cookie ≡ issued
+cookie_echo_greets : (issued begins established : Bool) (own peer : ℕ) (t : Stage) (a : Shown) (cookie : List ℕ) (trigger : AckTrigger) → has_issued a.handshake cookie ≡ issued
     → is_beginning a.state ≡ begins → is_established a.state ≡ established → (t.side ≡ sides.Client) × (t.knows ≡ true) → IsTruthful own a → HasCome a
-    → IsGreeted own peer t [] a (on_cookie_echo a cookie wish).0
+    → IsGreeted own peer t [] a (on_cookie_echo a cookie trigger).0
 unfolding on_cookie_echo
-cookie_echo_greets false begins established own peer t a cookie wish e f g said truthful come = rw e (nothing_greeted own peer t a truthful come)
-cookie_echo_greets true true established own peer t a cookie wish e f g said truthful come =
+cookie_echo_greets false begins established own peer t a cookie trigger e f g said truthful come = rw e (nothing_greeted own peer t a truthful come)
+cookie_echo_greets true true established own peer t a cookie trigger e f g said truthful come =
     let issued = issued_of a.handshake.cookie_issued (bytes_eq a.handshake.cookie cookie) e in
     let b : Shown = acknowledged_cookie (connected a) in
     let k = connected_keeps a in
@@ -135,7 +135,7 @@ cookie_echo_greets true true established own peer t a cookie wish e f g said tru
       completes = λ d. inr (inr said);
       learns = inl (refl, refl);
     })
-cookie_echo_greets true false true own peer t a cookie wish e f g said truthful come =
+cookie_echo_greets true false true own peer t a cookie trigger e f g said truthful come =
     let b : Shown = acknowledged_cookie a in
     let keeps : KeepsSaying a b = record { tsn = refl; goes = record { side = refl; knows = λ k. k; completed = λ d. d }; offers = λ o. o; echoes = λ x. inl x } in
     let s = established_sides_talk a g come in
@@ -146,7 +146,7 @@ cookie_echo_greets true false true own peer t a cookie wish e f g said truthful 
       completes = λ d. inl d;
       learns = inl (refl, refl);
     })
-cookie_echo_greets true false false own peer t a cookie wish e f g said truthful come = rw (e, f, g) (nothing_greeted own peer t a truthful come)
+cookie_echo_greets true false false own peer t a cookie trigger e f g said truthful come = rw (e, f, g) (nothing_greeted own peer t a truthful come)
 
 -- INIT ACK: a client that waits for it takes it
 
@@ -175,11 +175,11 @@ waiting_is_deaf a w (inr (client, known)) = true≢false (sym known ∙ w.unknow
 none_is : (o : Option Offer) → o ≡ None → is_some o ≡ true → ⊥
 none_is o e s = false≢true (ap is_some (sym e) ∙ s)
 
-echoed_greets : (o : Option (List ℕ)) (own peer : ℕ) (t : Stage) (a m : Shown) (n : ℕ) (wish : AckWish) (now : ℕ) → is_some o ≡ true → IsTruthful own a → AwaitsInitAck a → n ≡ peer
-    → IsMetBack n a m → IsGreeted own peer t (Act.Met n ∷ []) a (echoed o m wish now).0
+echoed_greets : (o : Option (List ℕ)) (own peer : ℕ) (t : Stage) (a m : Shown) (n : ℕ) (trigger : AckTrigger) (now : ℕ) → is_some o ≡ true → IsTruthful own a → AwaitsInitAck a → n ≡ peer
+    → IsMetBack n a m → IsGreeted own peer t (Act.PeerKnown n ∷ []) a (echoed o m trigger now).0
 unfolding sends_cookie
-echoed_greets None own peer t a m n wish now some truthful w is met = absurd (false≢true some)
-echoed_greets (Some cookie) own peer t a m n wish now some truthful w is met =
+echoed_greets None own peer t a m n trigger now some truthful w is met = absurd (false≢true some)
+echoed_greets (Some cookie) own peer t a m n trigger now some truthful w is met =
     let b : Shown = with_echo m cookie now in
     let c : ControlPacket = record { header = header_of m.handshake; chunk = chunks.CookieEcho cookie } in
     let known : is_some m.handshake.peer_initial_tsn ≡ true = ap is_some met.known in
@@ -201,7 +201,7 @@ echoed_greets (Some cookie) own peer t a m n wish now some truthful w is met =
       });
       goes = goes;
       completes = λ d. inl (sym met.completed ∙ d);
-      learns = inr (ap (λ (x : ℕ). Act.Met x ∷ []) is, waiting_is_deaf a w);
+      learns = inr (ap (λ (x : ℕ). Act.PeerKnown x ∷ []) is, waiting_is_deaf a w);
     }
 
 -- with other ports it leaves all but a tag and numbers of streams
@@ -229,47 +229,47 @@ other_ports_greet own peer t a b truthful w side state control tsn known complet
       learns = inl (refl, known);
     }
 
-init_ack_greets : (waits back : Bool) (own peer : ℕ) (t : Stage) (a : Shown) (header : CommonHeader) (init : ChunkInit) (wish : AckWish) (now : ℕ) → is_cookie_wait a.state ≡ waits
+init_ack_greets : (waits back : Bool) (own peer : ℕ) (t : Stage) (a : Shown) (header : CommonHeader) (init : ChunkInit) (trigger : AckTrigger) (now : ℕ) → is_cookie_wait a.state ≡ waits
     → comes_back a.handshake header ≡ back → Greets peer t (chunks.InitAck init) → IsTruthful own a → HasCome a
-    → IsGreeted own peer t (if waits then (if back then Act.Met init.initial_tsn ∷ [] else []) else []) a (on_init_ack a header init wish now).0
+    → IsGreeted own peer t (if waits then (if back then Act.PeerKnown init.initial_tsn ∷ [] else []) else []) a (on_init_ack a header init trigger now).0
 unfolding on_init_ack
-init_ack_greets true true own peer t a header init wish now e f (is, some) truthful come =
-    rw (e, f) (echoed_greets (first_cookie init.params) own peer t a _ init.initial_tsn wish now some truthful (waits_for_it a e come) is
+init_ack_greets true true own peer t a header init trigger now e f (is, some) truthful come =
+    rw (e, f) (echoed_greets (first_cookie init.params) own peer t a _ init.initial_tsn trigger now some truthful (waits_for_it a e come) is
     record { side = refl; state = refl; control = refl; tsn = refl; known = refl; completed = refl; issued = refl; offer = refl; echo = refl })
-init_ack_greets true false own peer t a header init wish now e f said truthful come =
+init_ack_greets true false own peer t a header init trigger now e f said truthful come =
     rw (e, f) (other_ports_greet own peer t a _ truthful (waits_for_it a e come) refl refl refl refl refl refl refl refl refl)
-init_ack_greets false back own peer t a header init wish now e f said truthful come = rw e (nothing_greeted own peer t a truthful come)
+init_ack_greets false back own peer t a header init trigger now e f said truthful come = rw e (nothing_greeted own peer t a truthful come)
 
 -- Any chunk that its own check accepts, or refuses
 
-kind_greets : (own peer : ℕ) (t : Stage) (r : Result (Unit {0}) Error) (header : CommonHeader) (c : Chunk) (a : Shown) (wish : AckWish) (now : ℕ) → Greets peer t c → IsDoneAmongClients (stage_of a) t
-    → IsTruthful own a → HasCome a → IsGreeted own peer t (acts_of_checked r a header c) a (checked_first r a header c wish now).0
-kind_greets own peer t (Err fault) header c a wish now said one truthful come = nothing_greeted own peer t a truthful come
-kind_greets own peer t (Ok done) header (chunks.Init x) a wish now said one truthful come =
-    init_greets (is_beginning a.state) own peer t a header x wish refl said one truthful come
-kind_greets own peer t (Ok done) header (chunks.InitAck x) a wish now said one truthful come =
-    init_ack_greets (is_cookie_wait a.state) (comes_back a.handshake header) own peer t a header x wish now refl refl said truthful come
-kind_greets own peer t (Ok done) header (chunks.CookieEcho x) a wish now said one truthful come =
-    cookie_echo_greets (has_issued a.handshake x) (is_beginning a.state) (is_established a.state) own peer t a x wish refl refl refl said truthful come
-kind_greets own peer t (Ok done) header chunks.CookieAck a wish now said one truthful come =
-    cookie_ack_greets (is_cookie_echoed a.state) own peer t a wish refl said truthful come
-kind_greets own peer t (Ok done) header (chunks.Data x) a wish now said one truthful come = absurd said
-kind_greets own peer t (Ok done) header (chunks.SelectiveAck x) a wish now said one truthful come = absurd said
-kind_greets own peer t (Ok done) header (chunks.Heartbeat x) a wish now said one truthful come = absurd said
-kind_greets own peer t (Ok done) header (chunks.HeartbeatAck x) a wish now said one truthful come = absurd said
-kind_greets own peer t (Ok done) header (chunks.Abort x) a wish now said one truthful come = absurd said
-kind_greets own peer t (Ok done) header (chunks.Shutdown x) a wish now said one truthful come = absurd said
-kind_greets own peer t (Ok done) header chunks.ShutdownAck a wish now said one truthful come = absurd said
-kind_greets own peer t (Ok done) header (chunks.Error x) a wish now said one truthful come = absurd said
-kind_greets own peer t (Ok done) header chunks.ShutdownComplete a wish now said one truthful come = absurd said
-kind_greets own peer t (Ok done) header (chunks.Reconfig x) a wish now said one truthful come = absurd said
-kind_greets own peer t (Ok done) header (chunks.ForwardTsn x) a wish now said one truthful come = absurd said
-kind_greets own peer t (Ok done) header (chunks.IForwardTsn x) a wish now said one truthful come = absurd said
-kind_greets own peer t (Ok done) header (chunks.Other kind flags value) a wish now said one truthful come = absurd said
+kind_greets : (own peer : ℕ) (t : Stage) (r : Result (Unit {0}) Error) (header : CommonHeader) (c : Chunk) (a : Shown) (trigger : AckTrigger) (now : ℕ) → Greets peer t c → IsDoneAmongClients (stage_of a) t
+    → IsTruthful own a → HasCome a → IsGreeted own peer t (acts_of_checked r a header c) a (checked_first r a header c trigger now).0
+kind_greets own peer t (Err fault) header c a trigger now said one truthful come = nothing_greeted own peer t a truthful come
+kind_greets own peer t (Ok done) header (chunks.Init x) a trigger now said one truthful come =
+    init_greets (is_beginning a.state) own peer t a header x trigger refl said one truthful come
+kind_greets own peer t (Ok done) header (chunks.InitAck x) a trigger now said one truthful come =
+    init_ack_greets (is_cookie_wait a.state) (comes_back a.handshake header) own peer t a header x trigger now refl refl said truthful come
+kind_greets own peer t (Ok done) header (chunks.CookieEcho x) a trigger now said one truthful come =
+    cookie_echo_greets (has_issued a.handshake x) (is_beginning a.state) (is_established a.state) own peer t a x trigger refl refl refl said truthful come
+kind_greets own peer t (Ok done) header chunks.CookieAck a trigger now said one truthful come =
+    cookie_ack_greets (is_cookie_echoed a.state) own peer t a trigger refl said truthful come
+kind_greets own peer t (Ok done) header (chunks.Data x) a trigger now said one truthful come = absurd said
+kind_greets own peer t (Ok done) header (chunks.SelectiveAck x) a trigger now said one truthful come = absurd said
+kind_greets own peer t (Ok done) header (chunks.Heartbeat x) a trigger now said one truthful come = absurd said
+kind_greets own peer t (Ok done) header (chunks.HeartbeatAck x) a trigger now said one truthful come = absurd said
+kind_greets own peer t (Ok done) header (chunks.Abort x) a trigger now said one truthful come = absurd said
+kind_greets own peer t (Ok done) header (chunks.Shutdown x) a trigger now said one truthful come = absurd said
+kind_greets own peer t (Ok done) header chunks.ShutdownAck a trigger now said one truthful come = absurd said
+kind_greets own peer t (Ok done) header (chunks.Error x) a trigger now said one truthful come = absurd said
+kind_greets own peer t (Ok done) header chunks.ShutdownComplete a trigger now said one truthful come = absurd said
+kind_greets own peer t (Ok done) header (chunks.Reconfig x) a trigger now said one truthful come = absurd said
+kind_greets own peer t (Ok done) header (chunks.ForwardTsn x) a trigger now said one truthful come = absurd said
+kind_greets own peer t (Ok done) header (chunks.IForwardTsn x) a trigger now said one truthful come = absurd said
+kind_greets own peer t (Ok done) header (chunks.Other kind flags value) a trigger now said one truthful come = absurd said
 
-pub chunk_greets : (header : CommonHeader) (c : Chunk) (a : Shown) (wish : AckWish) (now : ℕ) → GreetsOn header c a (on_chunk a header c wish now).0
+pub chunk_greets : (header : CommonHeader) (c : Chunk) (a : Shown) (trigger : AckTrigger) (now : ℕ) → GreetsOn header c a (on_chunk a header c trigger now).0
 unfolding on_chunk
-chunk_greets header c a wish now own peer t said one truthful come = kind_greets own peer t (checked_chunk c) header c a wish now said one truthful come
+chunk_greets header c a trigger now own peer t said one truthful come = kind_greets own peer t (checked_chunk c) header c a trigger now said one truthful come
 
 -- The same handshake in the same state has come as far.
 come_on : (a b : Shown) → b.side ≡ a.side → b.state ≡ a.state → b.handshake ≡ a.handshake → HasCome a → HasCome b

@@ -65,7 +65,7 @@ poll_of (b, pieces) xs a h same binds adds =
       binds = record {
         first = ap (λ (p : Parts). p.queue.first_tsn) adds.gives.there ∙ acts_tied xs (parts a h) adds.gives.can binds.first
             ∙ ap (λ (p : Parts). tsn p.history.own p.history.base) (sym adds.gives.there);
-        point = rw same.receiver binds.point;
+        reach = rw same.receiver binds.reach;
         below = binds.below;
         above = binds.above;
         passed = binds.passed;
@@ -106,7 +106,7 @@ beside_control xs a b c h k m e = rw e (record { can = m.can; there = m.there; b
 polls : (a : Shown) (now : ℕ) (h : History) → PollIsReadAgain (without_control a) now → Binds a h → Polls (acts_of_poll a now) a h (polled a now).0 (polled a now).1
 polls a now h again binds =
     let b : Shown = without_control a in
-    let bound : Binds b h = record { first = binds.first; point = binds.point; below = binds.below; above = binds.above; passed = binds.passed } in
+    let bound : Binds b h = record { first = binds.first; reach = binds.reach; below = binds.below; above = binds.above; passed = binds.passed } in
     let all = exchange_leads b now h bound in
     record {
       leads = beside_control (acts_of_poll a now) a (exchange_polled b now).0 (polled a now).0 h h all.0 (both_first (control_packets a.control) (exchange_polled b now));

@@ -7,7 +7,7 @@ use Rattle.sctp_wire_types.specs.declared.error.Error.TheVariants as errors
 use Rattle.sctp_parts.specs.declared.timer.Timer.TheVariants as names
 use Rattle.sctp_parts.specs.Timers.{expiry_of}
 use Rattle.sctp_inbound.specs.declared.handshake.Offer.{Offer}
-use Rattle.sctp_queues.specs.Streams.{bytes_waiting}
+use Rattle.sctp_streams.specs.Streams.{bytes_waiting}
 use Rattle.sctp_inbound.specs.Handshake.{header_of}
 use Rattle.sctp_inbound.specs.Receiver.{sack_of}
 use Rattle.sctp_model.specs.Packets.{mem}
@@ -75,7 +75,7 @@ due_sacks_go_out a now established due =
 
 -- What a SACK says.
 
-none_above : (h : History) → ((o : ℕ) → mem o h.taken ≡ true → o < h.point) → (o : ℕ) → h.point ≤ o → mem o h.taken ≡ false
+none_above : (h : History) → ((o : ℕ) → mem o h.taken ≡ true → o < h.reach) → (o : ℕ) → h.reach ≤ o → mem o h.taken ≡ false
 none_above h above o far = ⊎_elim
     (λ (m : mem o h.taken ≡ true). absurd (omega (arith, above o m, far)))
     (λ (n : mem o h.taken ≡ false). n)
@@ -83,8 +83,8 @@ none_above h above o far = ⊎_elim
 
 pub sacks_say_what_came : SacksSayWhatCame
 sacks_say_what_came a h binds = record {
-  at = binds.point;
-  set = λ o some within. sym (none_above h binds.above (h.point + o - 1) (omega (arith, some)));
+  at = binds.reach;
+  set = λ o some within. sym (none_above h binds.above (h.reach + o - 1) (omega (arith, some)));
 }
 
 pub sacks_offer_the_buffer : SacksOfferTheBuffer
@@ -119,7 +119,7 @@ t3_open false failure a now = record { state = refl; lost = refl; events = refl 
 t3_open true true a now = record { state = refl; lost = refl; events = refl }
 t3_open true false a now = record { state = refl; lost = refl; events = refl }
 
-delay_open : (expired : Bool) (a : Shown) (now : ℕ) → (expiry_of names.Ack now a.timers).0 ≡ expired → StaysOpen a (after_ack_delay a now)
+delay_open : (expired : Bool) (a : Shown) (now : ℕ) → (expiry_of names.Ack now a.timers).expired ≡ expired → StaysOpen a (after_ack_delay a now)
 delay_open false a now e = rw e (record { state = refl; lost = refl; events = refl })
 delay_open true a now e = rw e (record { state = refl; lost = refl; events = refl })
 
@@ -128,6 +128,6 @@ timers_do_not_close a now =
     let b : Shown = after_t1_init a now in
     let c : Shown = after_handshake_timers a now in
     let d : Shown = after_t3 c now in
-    open_on a b _ (t1_init_open (expiry_of names.T1Init now a.timers).0 (expiry_of names.T1Init now a.timers).1 a now)
-    (open_on b c _ (t1_cookie_open (expiry_of names.T1Cookie now b.timers).0 (expiry_of names.T1Cookie now b.timers).1 b now)
-    (open_on c d _ (t3_open (expiry_of names.T3RTX now c.timers).0 (expiry_of names.T3RTX now c.timers).1 c now) (delay_open _ d now refl)))
+    open_on a b _ (t1_init_open (expiry_of names.T1Init now a.timers).expired (expiry_of names.T1Init now a.timers).failed a now)
+    (open_on b c _ (t1_cookie_open (expiry_of names.T1Cookie now b.timers).expired (expiry_of names.T1Cookie now b.timers).failed b now)
+    (open_on c d _ (t3_open (expiry_of names.T3RTX now c.timers).expired (expiry_of names.T3RTX now c.timers).failed c now) (delay_open _ d now refl)))

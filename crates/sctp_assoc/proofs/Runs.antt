@@ -4,9 +4,9 @@ use Rattle.std.proofs.lemmas.Bool.{false≢true, true≢false}
 use Rattle.sctp_wire_types.specs.declared.error.Error.{Error}
 use Rattle.sctp_parts.specs.declared.timer.Timer.TheVariants as names
 use Rattle.sctp_parts.specs.Timers.{IsNoneArmed, Timers, earlier, least_moment, moment_of}
-use Rattle.sctp_queues.specs.declared.event.Event.{Event}
-use Rattle.sctp_queues.specs.Stream.{Stream}
-use Rattle.sctp_queues.specs.Streams.{stream_at}
+use Rattle.sctp_streams.specs.declared.event.Event.{Event}
+use Rattle.sctp_streams.specs.Stream.{StreamView}
+use Rattle.sctp_streams.specs.Streams.{stream_at}
 use Rattle.sctp_assoc.specs.Calls.{event_from, is_closed_state, is_cookie_echoed, is_cookie_wait, is_established, written_at}
 use Rattle.sctp_assoc.specs.Handshake.{sends_init}
 use Rattle.sctp_assoc.specs.OneSide.{Call, Calls, FailsFrom, IsFresh, IsRun, call_refusal, carried_out, is_armed, is_delayed, with_told}
@@ -49,11 +49,11 @@ accepted_works (Call.PollTransmit now) a e = unrefused a.failed _ _ e
 accepted_works (Call.HandleTimeout now) a e = unrefused a.failed _ _ e
 accepted_works (Call.HandleEvent packet now) a e = unrefused a.failed _ _ e
 
-write_ticks : (o : Option Stream) (a : Shown) (id : ℕ) (bytes : List ℕ) → Ticks a → Ticks (written_at o a id bytes)
+write_ticks : (o : Option StreamView) (a : Shown) (id : ℕ) (bytes : List ℕ) → Ticks a → Ticks (written_at o a id bytes)
 write_ticks None a id bytes h = h
 write_ticks (Some s) a id bytes h = ticks_by a _ (time_by a _ refl refl refl refl refl refl) h
 
-write_rests : (o : Option Stream) (a : Shown) (id : ℕ) (bytes : List ℕ) → AtRest a → AtRest (written_at o a id bytes)
+write_rests : (o : Option StreamView) (a : Shown) (id : ℕ) (bytes : List ℕ) → AtRest a → AtRest (written_at o a id bytes)
 write_rests None a id bytes h = h
 write_rests (Some s) a id bytes h = rest_by a _ refl refl refl refl h
 

@@ -17,15 +17,15 @@ use Rattle.sctp_parts.specs.Timers.{expiry_of}
 use Rattle.sctp_outbound_queue.specs.declared.message.InFlight.{InFlight}
 use Rattle.sctp_outbound_queue.specs.Waiting.{Waiting}
 use Rattle.sctp_outbound_queue.specs.Outbound.{pieces_waiting}
-use Rattle.sctp_queues.specs.Stream.{Stream, fresh_stream}
-use Rattle.sctp_queues.specs.Streams.{bytes_waiting, generation_left, refusal_in, stream_at}
-use Rattle.sctp_inbound.specs.declared.receiver.AckWish.TheVariants as wishes
+use Rattle.sctp_streams.specs.Stream.{StreamView, fresh_stream}
+use Rattle.sctp_streams.specs.Streams.{bytes_waiting, generation_left, refusal_in, stream_at}
+use Rattle.sctp_inbound.specs.declared.receiver.AckTrigger.TheVariants as triggers
 use Rattle.sctp_inbound.specs.Handshake.{comes_back}
 use Rattle.sctp_inbound.specs.Receiver.{credit_of, is_next_after}
 use Rattle.sctp_outbound.specs.declared.sender.SackOutcome.{SackOutcome}
 use Rattle.sctp_outbound.specs.declared.sender.SackOutcome.TheVariants as outcomes
 use Rattle.sctp_outbound.specs.declared.sender.Sender.{Sender}
-use Rattle.sctp_outbound.specs.Sender.{after_resending, both_windows, can_send_next, points_to, resends_alone, resent_by, sack_outcome, sent_one}
+use Rattle.sctp_outbound.specs.Sender.{after_resending, both_windows, can_send_next, tsns_up_to, resends_alone, resent_by, sack_outcome, sent_one}
 use Rattle.sctp_model.specs.Serial.{tsn}
 use Rattle.sctp_model.proofs.Lists.{all_join}
 use Rattle.sctp_assoc.specs.Acts.{Act, CanAll, parts, tsn_before}
@@ -49,7 +49,7 @@ taking_if false refusal piece = inl refl
 found_acts : (x : Shown) (piece : ChunkPayloadData) → (acts_of_found (x, true) piece ≡ []) ⊎ (acts_of_found (x, true) piece ≡ Act.Took piece ∷ [])
 found_acts x piece = taking_if (ltb 0 (credit_of x.receiver (bytes_waiting x.streams))) (refusal_in x.streams piece.stream_identifier piece x.receiver.max_receive_message_size) piece
 
-stream_acts : (o : Option Stream) (left : Bool) (a : Shown) (piece : ChunkPayloadData) → stream_at a.streams piece.stream_identifier ≡ o → generation_left a.streams ≡ left
+stream_acts : (o : Option StreamView) (left : Bool) (a : Shown) (piece : ChunkPayloadData) → stream_at a.streams piece.stream_identifier ≡ o → generation_left a.streams ≡ left
     → IsTaking a piece (acts_of_stream a piece.stream_identifier ++ acts_of_found (stream_found (counted_data a) piece.stream_identifier) piece)
 unfolding stream_found
 stream_acts (Some t) left a piece e f =
@@ -103,9 +103,9 @@ sack_if true o n = outcome_acts o n
 sack_if false o n = inl refl
 
 checked_sack : (r : Result (Unit {0}) Error) (a : Shown) (header : CommonHeader) (k : ChunkSelectiveAck)
-    → (acts_of_checked r a header (chunks.SelectiveAck k) ≡ []) ⊎ (acts_of_checked r a header (chunks.SelectiveAck k) ≡ Act.Acknowledged (points_to a.sender k.cumulative_tsn_ack) ∷ [])
+    → (acts_of_checked r a header (chunks.SelectiveAck k) ≡ []) ⊎ (acts_of_checked r a header (chunks.SelectiveAck k) ≡ Act.Acknowledged (tsns_up_to a.sender k.cumulative_tsn_ack) ∷ [])
 checked_sack (Err fault) a header k = inl refl
-checked_sack (Ok done) a header k = sack_if (is_established a.state) (sack_outcome a.sender k.cumulative_tsn_ack) (points_to a.sender k.cumulative_tsn_ack)
+checked_sack (Ok done) a header k = sack_if (is_established a.state) (sack_outcome a.sender k.cumulative_tsn_ack) (tsns_up_to a.sender k.cumulative_tsn_ack)
 
 -- a point that is n past the TSN before the first one in flight
 point_back : (own base t : ℕ) → t % 2 ^ 32 ≡ tsn_before (tsn own (base + tsn_past ((tsn own base + 2 ^ 32 - 1) % 2 ^ 32) t))
@@ -115,14 +115,14 @@ pub sacks_acknowledge : SacksAcknowledge
 sacks_acknowledge a h header sack binds =
     let acts = acts_of_chunk a header (chunks.SelectiveAck sack) in
     let t = sack.cumulative_tsn_ack in
-    let n = points_to a.sender t in
+    let n = tsns_up_to a.sender t in
     ⊎_elim
     (λ (e : acts_of_chunk a header (chunks.SelectiveAck sack) ≡ []). inl e)
-    (λ (e : acts_of_chunk a header (chunks.SelectiveAck sack) ≡ Act.Acknowledged (points_to a.sender sack.cumulative_tsn_ack) ∷ []).
-    let leads = chunk_leads header (chunks.SelectiveAck sack) a wishes.None 0 h binds in
+    (λ (e : acts_of_chunk a header (chunks.SelectiveAck sack) ≡ Act.Acknowledged (tsns_up_to a.sender sack.cumulative_tsn_ack) ∷ []).
+    let leads = chunk_leads header (chunks.SelectiveAck sack) a triggers.None 0 h binds in
     let can = subst (λ zs. CanAll zs (parts a h)) e leads.1.can in
     inr (record {
-      count = points_to a.sender sack.cumulative_tsn_ack;
+      count = tsns_up_to a.sender sack.cumulative_tsn_ack;
       are = e;
       within = can.0;
       at = subst (λ (f : ℕ). sack.cumulative_tsn_ack % 2 ^ 32 ≡ tsn_before (tsn h.own (h.base + tsn_past ((f + 2 ^ 32 - 1) % 2 ^ 32) sack.cumulative_tsn_ack))) (sym binds.first)
@@ -132,11 +132,11 @@ sacks_acknowledge a h header sack binds =
 
 -- INIT and INIT ACK
 
-meeting_if : (c : Bool) (init : ChunkInit) → IsMeeting init (if c then Act.Met init.initial_tsn ∷ [] else [])
+meeting_if : (c : Bool) (init : ChunkInit) → IsMeeting init (if c then Act.PeerKnown init.initial_tsn ∷ [] else [])
 meeting_if true init = inr refl
 meeting_if false init = inl refl
 
-coming_back_if : (waits back : Bool) (init : ChunkInit) → IsMeeting init (if waits then (if back then Act.Met init.initial_tsn ∷ [] else []) else [])
+coming_back_if : (waits back : Bool) (init : ChunkInit) → IsMeeting init (if waits then (if back then Act.PeerKnown init.initial_tsn ∷ [] else []) else [])
 coming_back_if true back init = meeting_if back init
 coming_back_if false back init = inl refl
 
@@ -182,12 +182,12 @@ give_if : (c : Bool) (xs ys : List Act) → AllByRecursion GivesData xs → AllB
 give_if true xs ys g h = g
 give_if false xs ys g h = h
 
-resending_gives : (place room : ℕ) (ps : List InFlight) → AllByRecursion GivesData (acts_of_resending place room ps)
-resending_gives place room [] = tt
-resending_gives place room (p ∷ ps) =
-    give_if (not p.retransmit) (acts_of_resending (place + 1) room ps) _ (resending_gives (place + 1) room ps)
-    (give_if (ltb room (length p.user_data)) [] (Act.SentAgain place ∷ acts_of_resending (place + 1) (room - length p.user_data) ps) tt
-    (tt, resending_gives (place + 1) (room - length p.user_data) ps))
+resending_gives : (index room : ℕ) (ps : List InFlight) → AllByRecursion GivesData (acts_of_resending index room ps)
+resending_gives index room [] = tt
+resending_gives index room (p ∷ ps) =
+    give_if (not p.retransmit) (acts_of_resending (index + 1) room ps) _ (resending_gives (index + 1) room ps)
+    (give_if (ltb room (length p.user_data)) [] (Act.SentAgain index ∷ acts_of_resending (index + 1) (room - length p.user_data) ps) tt
+    (tt, resending_gives (index + 1) (room - length p.user_data) ps))
 
 first_again_gives : (ps : List InFlight) → AllByRecursion GivesData (first_again ps)
 first_again_gives [] = tt
@@ -233,4 +233,4 @@ timeouts_mark_if true false = inr refl
 pub timeouts_mark_at_most : TimeoutsMarkAtMost
 timeouts_mark_at_most a now =
     let b : Shown = after_handshake_timers a now in
-    timeouts_mark_if (expiry_of names.T3RTX now b.timers).0 (expiry_of names.T3RTX now b.timers).1
+    timeouts_mark_if (expiry_of names.T3RTX now b.timers).expired (expiry_of names.T3RTX now b.timers).failed

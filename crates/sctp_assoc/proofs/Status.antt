@@ -15,17 +15,17 @@ use Rattle.sctp_parts.specs.Estimate.{Estimate}
 use Rattle.sctp_outbound_queue.specs.declared.message.InFlight.{InFlight}
 use Rattle.sctp_outbound_queue.specs.Waiting.{Waiting}
 use Rattle.sctp_outbound_queue.specs.Outbound.{pieces_waiting}
-use Rattle.sctp_queues.specs.declared.event.Event.{Event}
-use Rattle.sctp_queues.specs.Stream.{Stream}
-use Rattle.sctp_queues.specs.Streams.{StreamMap, bytes_waiting, generation_left, is_readable_in, pushed_in, refusal_in, stream_at}
-use Rattle.sctp_inbound.specs.declared.receiver.AckWish.{AckWish}
+use Rattle.sctp_streams.specs.declared.event.Event.{Event}
+use Rattle.sctp_streams.specs.Stream.{StreamView}
+use Rattle.sctp_streams.specs.Streams.{StreamMap, bytes_waiting, generation_left, is_readable_in, pushed_in, refusal_in, stream_at}
+use Rattle.sctp_inbound.specs.declared.receiver.AckTrigger.{AckTrigger}
 use Rattle.sctp_inbound.specs.declared.handshake.Offer.{Offer}
 use Rattle.sctp_inbound.specs.Handshake.{comes_back, has_issued, header_of}
 use Rattle.sctp_inbound.specs.Receiver.{credit_of, is_next_after, taken_to}
 use Rattle.sctp_outbound.specs.declared.sender.SackOutcome.{SackOutcome}
 use Rattle.sctp_outbound.specs.declared.sender.SackOutcome.TheVariants as outcomes
 use Rattle.sctp_outbound.specs.declared.sender.Sender.{Sender}
-use Rattle.sctp_outbound.specs.Sender.{acknowledged, after_first, after_resending, can_send_next, points_to, resent_by, sack_outcome, sender_after, sent_new, sent_one, sent_within, with_window}
+use Rattle.sctp_outbound.specs.Sender.{acknowledged, after_first, after_resending, can_send_next, tsns_up_to, resent_by, sack_outcome, sender_after, sent_new, sent_one, sent_within, with_window}
 use Rattle.sctp_assoc.specs.Calls.{after_ack_delay, after_t3, event_from, is_beginning, is_cookie_echoed, is_cookie_wait, is_established, retransmits, t3_expired, written_at}
 use Rattle.sctp_assoc.specs.Chunks.{asks_or_faults, checked_first, counted_data, dispatched, on_counted_data, counted_sack, is_whole, on_chunk, on_counted_sack, on_data, on_next_data, on_sack, stream_found, taken_in, told}
 use Rattle.sctp_assoc.specs.Handshake.{after_t1_init, cookie_queued, echoed, information_returned, init_queued, on_cookie_ack, on_cookie_echo, on_heartbeat, on_init, on_init_ack, sends_cookie, sends_init, t1_cookie_expired, t1_init_expired}
@@ -90,32 +90,32 @@ taken_status None a piece e =
     let b : Shown = record a { streams = put.0; receiver = taken_to a.receiver piece.tsn } in
     rw e (status_on a b _ (status_by a b refl refl refl refl refl refl refl) (told_if (is_readable_in b.streams piece.stream_identifier) put.1 b piece.stream_identifier refl))
 
-asked_status : (x : Shown × Option Error) (piece : ChunkPayloadData) (wish : AckWish) → (asks_or_faults x piece wish).0 ≡ x.0
-asked_status (a, None) piece wish = refl
-asked_status (a, Some fault) piece wish = refl
+asked_status : (x : Shown × Option Error) (piece : ChunkPayloadData) (trigger : AckTrigger) → (asks_or_faults x piece trigger).0 ≡ x.0
+asked_status (a, None) piece trigger = refl
+asked_status (a, Some fault) piece trigger = refl
 
-next_data_status : (there credit : Bool) (a : Shown) (piece : ChunkPayloadData) (wish : AckWish) → ltb 0 (credit_of a.receiver (bytes_waiting a.streams)) ≡ credit
-    → IsSameStatus a (on_next_data (a, there) piece wish).0
-next_data_status false credit a piece wish e = status_same a
-next_data_status true true a piece wish e =
-    rw (e, asked_status (taken_in a piece) piece wish) (taken_status (refusal_in a.streams piece.stream_identifier piece a.receiver.max_receive_message_size) a piece refl)
-next_data_status true false a piece wish e = rw e (status_same a)
+next_data_status : (there credit : Bool) (a : Shown) (piece : ChunkPayloadData) (trigger : AckTrigger) → ltb 0 (credit_of a.receiver (bytes_waiting a.streams)) ≡ credit
+    → IsSameStatus a (on_next_data (a, there) piece trigger).0
+next_data_status false credit a piece trigger e = status_same a
+next_data_status true true a piece trigger e =
+    rw (e, asked_status (taken_in a piece) piece trigger) (taken_status (refusal_in a.streams piece.stream_identifier piece a.receiver.max_receive_message_size) a piece refl)
+next_data_status true false a piece trigger e = rw e (status_same a)
 
-found_next_status : (x : Shown × Bool) (a : Shown) (piece : ChunkPayloadData) (wish : AckWish) → IsSameStatus a x.0 → IsSameStatus a (on_next_data x piece wish).0
-found_next_status (b, there) a piece wish h = status_on a b _ h (next_data_status there (ltb 0 (credit_of b.receiver (bytes_waiting b.streams))) b piece wish refl)
+found_next_status : (x : Shown × Bool) (a : Shown) (piece : ChunkPayloadData) (trigger : AckTrigger) → IsSameStatus a x.0 → IsSameStatus a (on_next_data x piece trigger).0
+found_next_status (b, there) a piece trigger h = status_on a b _ h (next_data_status there (ltb 0 (credit_of b.receiver (bytes_waiting b.streams))) b piece trigger refl)
 
-counted_data_status : (next : Bool) (a : Shown) (piece : ChunkPayloadData) (wish : AckWish) → (is_next_after a.receiver piece.tsn && is_whole piece) ≡ next
-    → IsSameStatus a (on_counted_data a piece wish).0
-counted_data_status true a piece wish e =
-    rw e (found_next_status (stream_found a piece.stream_identifier) a piece wish
+counted_data_status : (next : Bool) (a : Shown) (piece : ChunkPayloadData) (trigger : AckTrigger) → (is_next_after a.receiver piece.tsn && is_whole piece) ≡ next
+    → IsSameStatus a (on_counted_data a piece trigger).0
+counted_data_status true a piece trigger e =
+    rw e (found_next_status (stream_found a piece.stream_identifier) a piece trigger
     (found_status (is_some (stream_at a.streams piece.stream_identifier)) (generation_left a.streams) a piece.stream_identifier refl refl))
-counted_data_status false a piece wish e = rw e (status_same a)
+counted_data_status false a piece trigger e = rw e (status_same a)
 
-data_status : (a : Shown) (piece : ChunkPayloadData) (wish : AckWish) → IsSameStatus a (on_data a piece wish).0
+data_status : (a : Shown) (piece : ChunkPayloadData) (trigger : AckTrigger) → IsSameStatus a (on_data a piece trigger).0
 unfolding on_data
-data_status a piece wish =
+data_status a piece trigger =
     status_on a (counted_data a) _ (status_by a (counted_data a) refl refl refl refl refl refl refl)
-    (counted_data_status (is_next_after a.receiver piece.tsn && is_whole piece) (counted_data a) piece wish refl)
+    (counted_data_status (is_next_after a.receiver piece.tsn && is_whole piece) (counted_data a) piece trigger refl)
 
 -- SACK
 
@@ -129,19 +129,19 @@ acknowledged_size zero now s e m = refl
 acknowledged_size (suc n) now s e m =
     acknowledged_size n now (sender_after (slice_get s.queue.in_flight 0) s) _ _ ∙ sender_after_size (slice_get s.queue.in_flight 0) s
 
-outcome_status : (o : SackOutcome) (a : Shown) (point window : ℕ) (wish : AckWish) (now : ℕ) → IsSameStatus a (on_counted_sack o a point window wish now).0
-outcome_status outcomes.Older a point window wish now = status_same a
-outcome_status outcomes.NotInFlight a point window wish now = status_same a
-outcome_status outcomes.Taken a point window wish now =
-    status_by a _ refl refl refl (acknowledged_size (points_to a.sender point) now (with_window a.sender window) a.estimate a.streams) refl refl refl
+outcome_status : (o : SackOutcome) (a : Shown) (point window : ℕ) (trigger : AckTrigger) (now : ℕ) → IsSameStatus a (on_counted_sack o a point window trigger now).0
+outcome_status outcomes.Older a point window trigger now = status_same a
+outcome_status outcomes.NotInFlight a point window trigger now = status_same a
+outcome_status outcomes.Taken a point window trigger now =
+    status_by a _ refl refl refl (acknowledged_size (tsns_up_to a.sender point) now (with_window a.sender window) a.estimate a.streams) refl refl refl
 
-sack_status : (established : Bool) (a : Shown) (point window : ℕ) (wish : AckWish) (now : ℕ) → is_established a.state ≡ established
-    → IsSameStatus a (on_sack a point window wish now).0
+sack_status : (established : Bool) (a : Shown) (point window : ℕ) (trigger : AckTrigger) (now : ℕ) → is_established a.state ≡ established
+    → IsSameStatus a (on_sack a point window trigger now).0
 unfolding on_sack
-sack_status true a point window wish now e =
+sack_status true a point window trigger now e =
     rw e (status_on a (counted_sack a) _ (status_by a (counted_sack a) refl refl refl refl refl refl refl)
-    (outcome_status (sack_outcome a.sender point) (counted_sack a) point window wish now))
-sack_status false a point window wish now e = rw e (status_same a)
+    (outcome_status (sack_outcome a.sender point) (counted_sack a) point window trigger now))
+sack_status false a point window trigger now e = rw e (status_same a)
 
 -- Any chunk: whether it failed, whether it was lost, and its payload size stay
 
@@ -151,10 +151,10 @@ works_same a = record { failed = refl; lost = refl; size = refl }
 works_by : (a b : Shown) → b.failed ≡ a.failed → b.lost ≡ a.lost → b.sender.max_payload_size ≡ a.sender.max_payload_size → KeepsWorking a b
 works_by a b failed lost size = record { failed = failed; lost = lost; size = size }
 
-init_works : (c : Bool) (a : Shown) (header : CommonHeader) (init : ChunkInit) (wish : AckWish) → is_beginning a.state ≡ c → KeepsWorking a (on_init a header init wish).0
+init_works : (c : Bool) (a : Shown) (header : CommonHeader) (init : ChunkInit) (trigger : AckTrigger) → is_beginning a.state ≡ c → KeepsWorking a (on_init a header init trigger).0
 unfolding on_init
-init_works true a header init wish e = rw e (works_by a _ refl refl refl)
-init_works false a header init wish e = rw e (works_same a)
+init_works true a header init trigger e = rw e (works_by a _ refl refl refl)
+init_works false a header init trigger e = rw e (works_same a)
 
 cookie_works : (o : Option (List ℕ)) (a : Shown) → KeepsWorking a (cookie_queued o a)
 cookie_works None a = works_same a
@@ -164,63 +164,63 @@ echo_works : (a : Shown) (now : ℕ) → KeepsWorking a (sends_cookie a now)
 unfolding sends_cookie
 echo_works a now = let w = cookie_works a.handshake.echo a in works_by a _ w.failed w.lost w.size
 
-echoed_works : (o : Option (List ℕ)) (a b : Shown) (wish : AckWish) (now : ℕ) → KeepsWorking a b → KeepsWorking a (echoed o b wish now).0
-echoed_works None a b wish now h = h
-echoed_works (Some cookie) a b wish now h =
+echoed_works : (o : Option (List ℕ)) (a b : Shown) (trigger : AckTrigger) (now : ℕ) → KeepsWorking a b → KeepsWorking a (echoed o b trigger now).0
+echoed_works None a b trigger now h = h
+echoed_works (Some cookie) a b trigger now h =
     let c : Shown = record b { handshake = (let h = b.handshake in record h { echo = Some cookie }); state = states.CookieEchoed } in
     let w = echo_works c now in
     works_by a _ (w.failed ∙ h.failed) (w.lost ∙ h.lost) (w.size ∙ h.size)
 
-init_ack_works : (waits back : Bool) (a : Shown) (header : CommonHeader) (init : ChunkInit) (wish : AckWish) (now : ℕ) → is_cookie_wait a.state ≡ waits
-    → comes_back a.handshake header ≡ back → KeepsWorking a (on_init_ack a header init wish now).0
+init_ack_works : (waits back : Bool) (a : Shown) (header : CommonHeader) (init : ChunkInit) (trigger : AckTrigger) (now : ℕ) → is_cookie_wait a.state ≡ waits
+    → comes_back a.handshake header ≡ back → KeepsWorking a (on_init_ack a header init trigger now).0
 unfolding on_init_ack
-init_ack_works true true a header init wish now e f =
-    rw (e, f) (echoed_works (first_cookie init.params) a _ wish now (works_by a _ refl refl refl))
-init_ack_works true false a header init wish now e f = rw (e, f) (works_by a _ refl refl refl)
-init_ack_works false back a header init wish now e f = rw e (works_same a)
+init_ack_works true true a header init trigger now e f =
+    rw (e, f) (echoed_works (first_cookie init.params) a _ trigger now (works_by a _ refl refl refl))
+init_ack_works true false a header init trigger now e f = rw (e, f) (works_by a _ refl refl refl)
+init_ack_works false back a header init trigger now e f = rw e (works_same a)
 
-cookie_echo_works : (issued begins established : Bool) (a : Shown) (cookie : List ℕ) (wish : AckWish) → has_issued a.handshake cookie ≡ issued
-    → is_beginning a.state ≡ begins → is_established a.state ≡ established → KeepsWorking a (on_cookie_echo a cookie wish).0
+cookie_echo_works : (issued begins established : Bool) (a : Shown) (cookie : List ℕ) (trigger : AckTrigger) → has_issued a.handshake cookie ≡ issued
+    → is_beginning a.state ≡ begins → is_established a.state ≡ established → KeepsWorking a (on_cookie_echo a cookie trigger).0
 unfolding on_cookie_echo
-cookie_echo_works false begins established a cookie wish e f g = rw e (works_same a)
-cookie_echo_works true true established a cookie wish e f g = rw (e, f) (works_by a _ refl refl refl)
-cookie_echo_works true false true a cookie wish e f g = rw (e, f, g) (works_by a _ refl refl refl)
-cookie_echo_works true false false a cookie wish e f g = rw (e, f, g) (works_same a)
+cookie_echo_works false begins established a cookie trigger e f g = rw e (works_same a)
+cookie_echo_works true true established a cookie trigger e f g = rw (e, f) (works_by a _ refl refl refl)
+cookie_echo_works true false true a cookie trigger e f g = rw (e, f, g) (works_by a _ refl refl refl)
+cookie_echo_works true false false a cookie trigger e f g = rw (e, f, g) (works_same a)
 
-cookie_ack_works : (c : Bool) (a : Shown) (wish : AckWish) → is_cookie_echoed a.state ≡ c → KeepsWorking a (on_cookie_ack a wish).0
+cookie_ack_works : (c : Bool) (a : Shown) (trigger : AckTrigger) → is_cookie_echoed a.state ≡ c → KeepsWorking a (on_cookie_ack a trigger).0
 unfolding on_cookie_ack
-cookie_ack_works true a wish e = rw e (works_by a _ refl refl refl)
-cookie_ack_works false a wish e = rw e (works_same a)
+cookie_ack_works true a trigger e = rw e (works_by a _ refl refl refl)
+cookie_ack_works false a trigger e = rw e (works_same a)
 
 information_works : (o : Option (List ℕ)) (a : Shown) → KeepsWorking a (information_returned o a)
 information_works None a = works_same a
 information_works (Some information) a = works_by a _ refl refl refl
 
-heartbeat_works : (a : Shown) (heartbeat : ChunkHeartbeat) (wish : AckWish) → KeepsWorking a (on_heartbeat a heartbeat wish).0
+heartbeat_works : (a : Shown) (heartbeat : ChunkHeartbeat) (trigger : AckTrigger) → KeepsWorking a (on_heartbeat a heartbeat trigger).0
 unfolding on_heartbeat
-heartbeat_works a heartbeat wish = information_works (information_of heartbeat.params) a
+heartbeat_works a heartbeat trigger = information_works (information_of heartbeat.params) a
 
 -- Any chunk that its own check accepts, or refuses
 
-kind_leaves : (header : CommonHeader) (c : Chunk) (a : Shown) (wish : AckWish) (now : ℕ) → Leaves c a (dispatched a header c wish now).0
-kind_leaves header (chunks.Data piece) a wish now = data_status a piece wish
-kind_leaves header (chunks.SelectiveAck k) a wish now = sack_status (is_established a.state) a k.cumulative_tsn_ack k.advertised_receiver_window_credit wish now refl
-kind_leaves header (chunks.Init x) a wish now = init_works (is_beginning a.state) a header x wish refl
-kind_leaves header (chunks.InitAck x) a wish now = init_ack_works (is_cookie_wait a.state) (comes_back a.handshake header) a header x wish now refl refl
-kind_leaves header (chunks.Heartbeat x) a wish now = heartbeat_works a x wish
-kind_leaves header (chunks.HeartbeatAck x) a wish now = works_same a
-kind_leaves header (chunks.Abort x) a wish now = works_same a
-kind_leaves header (chunks.Shutdown x) a wish now = works_same a
-kind_leaves header chunks.ShutdownAck a wish now = works_same a
-kind_leaves header (chunks.Error x) a wish now = works_same a
-kind_leaves header (chunks.CookieEcho x) a wish now =
-    cookie_echo_works (has_issued a.handshake x) (is_beginning a.state) (is_established a.state) a x wish refl refl refl
-kind_leaves header chunks.CookieAck a wish now = cookie_ack_works (is_cookie_echoed a.state) a wish refl
-kind_leaves header chunks.ShutdownComplete a wish now = works_same a
-kind_leaves header (chunks.Reconfig x) a wish now = works_same a
-kind_leaves header (chunks.ForwardTsn x) a wish now = works_same a
-kind_leaves header (chunks.IForwardTsn x) a wish now = works_same a
-kind_leaves header (chunks.Other kind flags value) a wish now = works_same a
+kind_leaves : (header : CommonHeader) (c : Chunk) (a : Shown) (trigger : AckTrigger) (now : ℕ) → Leaves c a (dispatched a header c trigger now).0
+kind_leaves header (chunks.Data piece) a trigger now = data_status a piece trigger
+kind_leaves header (chunks.SelectiveAck k) a trigger now = sack_status (is_established a.state) a k.cumulative_tsn_ack k.advertised_receiver_window_credit trigger now refl
+kind_leaves header (chunks.Init x) a trigger now = init_works (is_beginning a.state) a header x trigger refl
+kind_leaves header (chunks.InitAck x) a trigger now = init_ack_works (is_cookie_wait a.state) (comes_back a.handshake header) a header x trigger now refl refl
+kind_leaves header (chunks.Heartbeat x) a trigger now = heartbeat_works a x trigger
+kind_leaves header (chunks.HeartbeatAck x) a trigger now = works_same a
+kind_leaves header (chunks.Abort x) a trigger now = works_same a
+kind_leaves header (chunks.Shutdown x) a trigger now = works_same a
+kind_leaves header chunks.ShutdownAck a trigger now = works_same a
+kind_leaves header (chunks.Error x) a trigger now = works_same a
+kind_leaves header (chunks.CookieEcho x) a trigger now =
+    cookie_echo_works (has_issued a.handshake x) (is_beginning a.state) (is_established a.state) a x trigger refl refl refl
+kind_leaves header chunks.CookieAck a trigger now = cookie_ack_works (is_cookie_echoed a.state) a trigger refl
+kind_leaves header chunks.ShutdownComplete a trigger now = works_same a
+kind_leaves header (chunks.Reconfig x) a trigger now = works_same a
+kind_leaves header (chunks.ForwardTsn x) a trigger now = works_same a
+kind_leaves header (chunks.IForwardTsn x) a trigger now = works_same a
+kind_leaves header (chunks.Other kind flags value) a trigger now = works_same a
 
 same_leaves : (c : Chunk) (a : Shown) → Leaves c a a
 same_leaves (chunks.Data piece) a = status_same a
@@ -241,13 +241,13 @@ same_leaves (chunks.ForwardTsn x) a = works_same a
 same_leaves (chunks.IForwardTsn x) a = works_same a
 same_leaves (chunks.Other kind flags value) a = works_same a
 
-checked_leaves : (r : Result (Unit {0}) Error) (header : CommonHeader) (c : Chunk) (a : Shown) (wish : AckWish) (now : ℕ) → Leaves c a (checked_first r a header c wish now).0
-checked_leaves (Err fault) header c a wish now = same_leaves c a
-checked_leaves (Ok done) header c a wish now = kind_leaves header c a wish now
+checked_leaves : (r : Result (Unit {0}) Error) (header : CommonHeader) (c : Chunk) (a : Shown) (trigger : AckTrigger) (now : ℕ) → Leaves c a (checked_first r a header c trigger now).0
+checked_leaves (Err fault) header c a trigger now = same_leaves c a
+checked_leaves (Ok done) header c a trigger now = kind_leaves header c a trigger now
 
-pub chunk_leaves : (header : CommonHeader) (c : Chunk) (a : Shown) (wish : AckWish) (now : ℕ) → Leaves c a (on_chunk a header c wish now).0
+pub chunk_leaves : (header : CommonHeader) (c : Chunk) (a : Shown) (trigger : AckTrigger) (now : ℕ) → Leaves c a (on_chunk a header c trigger now).0
 unfolding on_chunk
-chunk_leaves header c a wish now = checked_leaves (checked_chunk c) header c a wish now
+chunk_leaves header c a trigger now = checked_leaves (checked_chunk c) header c a trigger now
 
 -- A poll for packets
 
@@ -318,7 +318,7 @@ polls_keep_the_status a now =
 pub opened_streams_keep_the_status : OpenedStreamsKeepTheStatus
 opened_streams_keep_the_status a id kind = status_by a _ refl refl refl refl refl refl refl
 
-written_status : (o : Option Stream) (a : Shown) (id : ℕ) (bytes : List ℕ) → IsSameStatus a (written_at o a id bytes)
+written_status : (o : Option StreamView) (a : Shown) (id : ℕ) (bytes : List ℕ) → IsSameStatus a (written_at o a id bytes)
 written_status None a id bytes = status_same a
 written_status (Some t) a id bytes = status_by a _ refl refl refl refl refl refl refl
 
@@ -346,7 +346,7 @@ t3_beside false failure a now = (status_same a, refl)
 t3_beside true true a now = (status_by a _ refl refl refl refl refl refl refl, refl)
 t3_beside true false a now = (status_by a _ refl refl refl refl refl refl refl, refl)
 
-ack_delay_beside : (expired : Bool) (a b : Shown) (now : ℕ) → (expiry_of names.Ack now b.timers).0 ≡ expired → IsSameBeside a b → IsSameBeside a (after_ack_delay b now)
+ack_delay_beside : (expired : Bool) (a b : Shown) (now : ℕ) → (expiry_of names.Ack now b.timers).expired ≡ expired → IsSameBeside a b → IsSameBeside a (after_ack_delay b now)
 ack_delay_beside false a b now e h = rw e h
 ack_delay_beside true a b now e (h, streams) = rw e (status_on a b _ h (status_by b _ refl refl refl refl refl refl refl), streams)
 
@@ -416,7 +416,7 @@ timers_keep_the_status a now =
     let b : Shown = after_t1_init a now in
     let c : Shown = after_handshake_timers a now in
     let d : Shown = after_t3 c now in
-    let first : IsSameBeside a b = t1_init_beside (expiry_of names.T1Init now a.timers).0 (expiry_of names.T1Init now a.timers).1 a now in
-    let second : IsSameBeside b c = t1_cookie_beside (expiry_of names.T1Cookie now b.timers).0 (expiry_of names.T1Cookie now b.timers).1 b now in
-    let third : IsSameBeside c d = t3_beside (expiry_of names.T3RTX now c.timers).0 (expiry_of names.T3RTX now c.timers).1 c now in
-    ack_delay_beside (expiry_of names.Ack now d.timers).0 a d now refl (beside_on a b d first (beside_on b c d second third))
+    let first : IsSameBeside a b = t1_init_beside (expiry_of names.T1Init now a.timers).expired (expiry_of names.T1Init now a.timers).failed a now in
+    let second : IsSameBeside b c = t1_cookie_beside (expiry_of names.T1Cookie now b.timers).expired (expiry_of names.T1Cookie now b.timers).failed b now in
+    let third : IsSameBeside c d = t3_beside (expiry_of names.T3RTX now c.timers).expired (expiry_of names.T3RTX now c.timers).failed c now in
+    ack_delay_beside (expiry_of names.Ack now d.timers).expired a d now refl (beside_on a b d first (beside_on b c d second third))

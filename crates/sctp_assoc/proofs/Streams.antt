@@ -6,8 +6,8 @@ use Rattle.std.proofs.lemmas.Bool.Decides.{nat_tests}
 use Rattle.std.specs.BTreeMap.{is_at, insert_entry}
 use Rattle.std.specs.Map.{lookup, set_value}
 use Rattle.sctp_wire_types.specs.declared.ids.PayloadProtocolIdentifier.{PayloadProtocolIdentifier}
-use Rattle.sctp_queues.specs.Stream.{Stream, fresh_stream}
-use Rattle.sctp_queues.specs.Streams.{StreamMap, made, stream_at, with_stream}
+use Rattle.sctp_streams.specs.Stream.{StreamView, fresh_stream}
+use Rattle.sctp_streams.specs.Streams.{StreamMap, made, stream_at, with_stream}
 
 -- a key is found exactly where it is the one that is looked for
 found_as : (n k : ℕ) → is_eq (nat_cmp n k) ≡ eqb n k
@@ -25,7 +25,7 @@ cond_swap n k l x y z apart =
     (λ (a : eqb n k ≡ false). rw a refl)
     (cases_Bool (eqb n k))
 
-set_step : (b : Bool) (e : ℕ × Stream) (es rest : List (ℕ × Stream)) (id n : ℕ) (s : Stream) → eqb id e.0 ≡ b
+set_step : (b : Bool) (e : ℕ × StreamView) (es rest : List (ℕ × StreamView)) (id n : ℕ) (s : StreamView) → eqb id e.0 ≡ b
     → (b ≡ false → lookup (is_at (nat_cmp n)) rest ≡ cond (eqb n id) (Some s) (lookup (is_at (nat_cmp n)) es))
     → lookup (is_at (nat_cmp n)) (cond b ((e.0, s) ∷ es) (e ∷ rest)) ≡ cond (eqb n id) (Some s) (cond (eqb n e.0) (Some e.1) (lookup (is_at (nat_cmp n)) es))
 set_step true e es rest id n s f hyp =
@@ -37,7 +37,7 @@ set_step true e es rest id n s f hyp =
     go false = refl
 set_step false e es rest id n s f hyp = rw (found_as n e.0, hyp refl) (cond_swap n e.0 id (Some s) (Some e.1) (lookup (is_at (nat_cmp n)) es) f)
 
-set_found : (es : List (ℕ × Stream)) (id n : ℕ) (t s : Stream) → lookup (is_at (nat_cmp id)) es ≡ Some t
+set_found : (es : List (ℕ × StreamView)) (id n : ℕ) (t s : StreamView) → lookup (is_at (nat_cmp id)) es ≡ Some t
     → lookup (is_at (nat_cmp n)) (set_value (is_at (nat_cmp id)) es s) ≡ cond (eqb n id) (Some s) (lookup (is_at (nat_cmp n)) es)
 set_found [] id n t s h = absurd (true≢false (ap is_some (sym h)))
 set_found (e ∷ es) id n t s h =
@@ -46,10 +46,10 @@ set_found (e ∷ es) id n t s h =
     (λ f. set_found es id n t s (sym (cond-false _ (Some e.1) (lookup (is_at (nat_cmp id)) es) f) ∙ sym (ap (λ (b : Bool). cond b (Some e.1) (lookup (is_at (nat_cmp id)) es)) (found_as id e.0)) ∙ h)))
 
 -- a live stream is another one now: the others stay
-pub at_with : (m : StreamMap) (id n : ℕ) (t s : Stream) → stream_at m id ≡ Some t → stream_at (with_stream m id s) n ≡ (if eqb n id then Some s else stream_at m n)
+pub at_with : (m : StreamMap) (id n : ℕ) (t s : StreamView) → stream_at m id ≡ Some t → stream_at (with_stream m id s) n ≡ (if eqb n id then Some s else stream_at m n)
 at_with m id n t s h = set_found m.by_id id n t s h
 
-insert_step : (o : Ordering) (e : ℕ × Stream) (es rest : List (ℕ × Stream)) (id n : ℕ) (s : Stream) → is_eq o ≡ false → eqb id e.0 ≡ false
+insert_step : (o : Ordering) (e : ℕ × StreamView) (es rest : List (ℕ × StreamView)) (id n : ℕ) (s : StreamView) → is_eq o ≡ false → eqb id e.0 ≡ false
     → lookup (is_at (nat_cmp n)) rest ≡ cond (eqb n id) (Some s) (lookup (is_at (nat_cmp n)) es)
     → lookup (is_at (nat_cmp n)) (match_ordering o ((id, s) ∷ e ∷ es) ((e.0, s) ∷ es) (e ∷ rest))
     ≡ cond (eqb n id) (Some s) (cond (eqb n e.0) (Some e.1) (lookup (is_at (nat_cmp n)) es))
@@ -57,11 +57,11 @@ insert_step Less e es rest id n s none apart hyp = rw (found_as n id, found_as n
 insert_step Equal e es rest id n s none apart hyp = absurd (true≢false none)
 insert_step Greater e es rest id n s none apart hyp = rw (found_as n e.0, hyp) (cond_swap n e.0 id (Some s) (Some e.1) (lookup (is_at (nat_cmp n)) es) apart)
 
-not_first : (b : Bool) (x : Stream) (o : Option Stream) → cond b (Some x) o ≡ None → (b ≡ false) × (o ≡ None)
+not_first : (b : Bool) (x : StreamView) (o : Option StreamView) → cond b (Some x) o ≡ None → (b ≡ false) × (o ≡ None)
 not_first true x o h = absurd (true≢false (ap is_some h))
 not_first false x o h = (refl, h)
 
-insert_found : (es : List (ℕ × Stream)) (id n : ℕ) (s : Stream) → lookup (is_at (nat_cmp id)) es ≡ None
+insert_found : (es : List (ℕ × StreamView)) (id n : ℕ) (s : StreamView) → lookup (is_at (nat_cmp id)) es ≡ None
     → lookup (is_at (nat_cmp n)) (insert_entry nat_cmp es id s) ≡ cond (eqb n id) (Some s) (lookup (is_at (nat_cmp n)) es)
 insert_found [] id n s h = rw (found_as n id) refl
 insert_found (e ∷ es) id n s h =

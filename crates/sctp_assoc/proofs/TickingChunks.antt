@@ -16,22 +16,22 @@ use Rattle.sctp_parts.specs.declared.timer.Timer.TheVariants as names
 use Rattle.sctp_parts.specs.Timers.{Timers, restarted_if_stale, started, with_stopped}
 use Rattle.sctp_parts.specs.Estimate.{Estimate}
 use Rattle.sctp_outbound_queue.specs.declared.message.InFlight.{InFlight}
-use Rattle.sctp_queues.specs.declared.event.AssociationError.{AssociationError}
-use Rattle.sctp_queues.specs.declared.event.AssociationError.TheVariants as reasons
-use Rattle.sctp_queues.specs.Streams.{StreamMap, bytes_waiting, generation_left, is_readable_in, pushed_in, refusal_in, stream_at}
-use Rattle.sctp_inbound.specs.declared.receiver.AckWish.{AckWish}
-use Rattle.sctp_inbound.specs.declared.receiver.AckWish.TheVariants as wishes
+use Rattle.sctp_streams.specs.declared.event.AssociationError.{AssociationError}
+use Rattle.sctp_streams.specs.declared.event.AssociationError.TheVariants as reasons
+use Rattle.sctp_streams.specs.Streams.{StreamMap, bytes_waiting, generation_left, is_readable_in, pushed_in, refusal_in, stream_at}
+use Rattle.sctp_inbound.specs.declared.receiver.AckTrigger.{AckTrigger}
+use Rattle.sctp_inbound.specs.declared.receiver.AckTrigger.TheVariants as triggers
 use Rattle.sctp_inbound.specs.Greeting.{first_cookie, information_of}
 use Rattle.sctp_inbound.specs.Handshake.{comes_back, has_issued}
 use Rattle.sctp_inbound.specs.Receiver.{credit_of, is_next_after, taken_to}
 use Rattle.sctp_outbound.specs.declared.sender.Sender.{Sender}
 use Rattle.sctp_outbound.specs.declared.sender.SackOutcome.{SackOutcome}
 use Rattle.sctp_outbound.specs.declared.sender.SackOutcome.TheVariants as outcomes
-use Rattle.sctp_outbound.specs.Sender.{acknowledged, points_to, sack_outcome, t3_after_sack, t3_cleared, with_window}
+use Rattle.sctp_outbound.specs.Sender.{acknowledged, tsns_up_to, sack_outcome, t3_after_sack, t3_cleared, with_window}
 use Rattle.sctp_assoc.specs.declared.inbound.Flow.{Flow}
 use Rattle.sctp_assoc.specs.declared.inbound.Flow.TheVariants as flows
 use Rattle.sctp_assoc.specs.Calls.{closed_open, is_beginning, is_closed_state, is_cookie_echoed, is_cookie_wait, is_established}
-use Rattle.sctp_assoc.specs.Handshake.{acknowledged_cookie, answered, connected, echoed, information_returned, met, on_cookie_ack, on_cookie_echo, on_heartbeat, on_init, on_init_ack, sends_cookie}
+use Rattle.sctp_assoc.specs.Handshake.{acknowledged_cookie, answered, connected, echoed, information_returned, learned, on_cookie_ack, on_cookie_echo, on_heartbeat, on_init, on_init_ack, sends_cookie}
 use Rattle.sctp_assoc.specs.Chunks.{after_chunks, after_packet, after_packet_of, asks_or_faults, checked_first, counted_data, counted_sack, dispatched, ended, goes_on, is_whole, on_chunk, on_counted_data, on_counted_sack, on_data, on_next_data, on_sack, stream_found, taken_in, told, with_acknowledged}
 use Rattle.sctp_assoc.specs.OneSide.{is_delayed}
 use Rattle.sctp_assoc.specs.Shown.{Shown}
@@ -62,39 +62,39 @@ taken_time None a piece e =
     rw e (time_on a b _ (time_by a b refl refl refl refl refl refl)
     (told_time (is_readable_in b.streams piece.stream_identifier) put.1 b piece.stream_identifier refl))
 
-asked_time : (x : Shown × Option Error) (piece : ChunkPayloadData) (wish : AckWish)
-    → (asks_or_faults x piece wish).0 ≡ x.0
-asked_time (a, None) piece wish = refl
-asked_time (a, Some fault) piece wish = refl
+asked_time : (x : Shown × Option Error) (piece : ChunkPayloadData) (trigger : AckTrigger)
+    → (asks_or_faults x piece trigger).0 ≡ x.0
+asked_time (a, None) piece trigger = refl
+asked_time (a, Some fault) piece trigger = refl
 
-next_data_time : (there credit : Bool) (a : Shown) (piece : ChunkPayloadData) (wish : AckWish)
+next_data_time : (there credit : Bool) (a : Shown) (piece : ChunkPayloadData) (trigger : AckTrigger)
     → ltb 0 (credit_of a.receiver (bytes_waiting a.streams)) ≡ credit
-    → IsSameTime a (on_next_data (a, there) piece wish).0
-next_data_time false credit a piece wish e = same_time a
-next_data_time true true a piece wish e =
-    rw (e, asked_time (taken_in a piece) piece wish)
+    → IsSameTime a (on_next_data (a, there) piece trigger).0
+next_data_time false credit a piece trigger e = same_time a
+next_data_time true true a piece trigger e =
+    rw (e, asked_time (taken_in a piece) piece trigger)
     (taken_time (refusal_in a.streams piece.stream_identifier piece a.receiver.max_receive_message_size) a piece refl)
-next_data_time true false a piece wish e = rw e (same_time a)
+next_data_time true false a piece trigger e = rw e (same_time a)
 
-found_next_time : (x : Shown × Bool) (a : Shown) (piece : ChunkPayloadData) (wish : AckWish) → IsSameTime a x.0
-    → IsSameTime a (on_next_data x piece wish).0
-found_next_time (b, there) a piece wish h = time_on a b _ h
-    (next_data_time there (ltb 0 (credit_of b.receiver (bytes_waiting b.streams))) b piece wish refl)
+found_next_time : (x : Shown × Bool) (a : Shown) (piece : ChunkPayloadData) (trigger : AckTrigger) → IsSameTime a x.0
+    → IsSameTime a (on_next_data x piece trigger).0
+found_next_time (b, there) a piece trigger h = time_on a b _ h
+    (next_data_time there (ltb 0 (credit_of b.receiver (bytes_waiting b.streams))) b piece trigger refl)
 
-counted_data_time : (next : Bool) (a : Shown) (piece : ChunkPayloadData) (wish : AckWish)
+counted_data_time : (next : Bool) (a : Shown) (piece : ChunkPayloadData) (trigger : AckTrigger)
     → (is_next_after a.receiver piece.tsn && is_whole piece) ≡ next
-    → IsSameTime a (on_counted_data a piece wish).0
-counted_data_time true a piece wish e =
-    rw e (found_next_time (stream_found a piece.stream_identifier) a piece wish
+    → IsSameTime a (on_counted_data a piece trigger).0
+counted_data_time true a piece trigger e =
+    rw e (found_next_time (stream_found a piece.stream_identifier) a piece trigger
     (found_time (is_some (stream_at a.streams piece.stream_identifier)) (generation_left a.streams) a
     piece.stream_identifier refl refl))
-counted_data_time false a piece wish e = rw e (same_time a)
+counted_data_time false a piece trigger e = rw e (same_time a)
 
-data_time : (a : Shown) (piece : ChunkPayloadData) (wish : AckWish) → IsSameTime a (on_data a piece wish).0
+data_time : (a : Shown) (piece : ChunkPayloadData) (trigger : AckTrigger) → IsSameTime a (on_data a piece trigger).0
 unfolding on_data
-data_time a piece wish =
+data_time a piece trigger =
     time_on a (counted_data a) _ (time_by a (counted_data a) refl refl refl refl refl refl)
-    (counted_data_time (is_next_after a.receiver piece.tsn && is_whole piece) (counted_data a) piece wish refl)
+    (counted_data_time (is_next_after a.receiver piece.tsn && is_whole piece) (counted_data a) piece trigger refl)
 
 -- SACK
 
@@ -170,25 +170,25 @@ taken_ticks a moved now (s, e, m) b k h = record {
       (sack_keeps_ack (ltb 0 (length s.queue.in_flight)) moved a.timers now e.rto) h.acks;
 }
 
-outcome_ticks : (o : SackOutcome) (a : Shown) (point window : ℕ) (wish : AckWish) (now : ℕ)
+outcome_ticks : (o : SackOutcome) (a : Shown) (point window : ℕ) (trigger : AckTrigger) (now : ℕ)
     → is_beginning a.state ≡ false → Ticks a
-    → Ticks (on_counted_sack o a point window wish now).0
-outcome_ticks outcomes.Older a point window wish now b h = h
-outcome_ticks outcomes.NotInFlight a point window wish now b h = h
-outcome_ticks outcomes.Taken a point window wish now b h =
-    taken_ticks a (ltb 0 (points_to a.sender point)) now
-    (acknowledged (points_to a.sender point) now (with_window a.sender window, a.estimate, a.streams)) b
-    (λ e. acknowledged_nothing (points_to a.sender point) now (with_window a.sender window) a.estimate a.streams e) h
+    → Ticks (on_counted_sack o a point window trigger now).0
+outcome_ticks outcomes.Older a point window trigger now b h = h
+outcome_ticks outcomes.NotInFlight a point window trigger now b h = h
+outcome_ticks outcomes.Taken a point window trigger now b h =
+    taken_ticks a (ltb 0 (tsns_up_to a.sender point)) now
+    (acknowledged (tsns_up_to a.sender point) now (with_window a.sender window, a.estimate, a.streams)) b
+    (λ e. acknowledged_nothing (tsns_up_to a.sender point) now (with_window a.sender window) a.estimate a.streams e) h
 
-sack_ticks : (established : Bool) (a : Shown) (point window : ℕ) (wish : AckWish) (now : ℕ)
+sack_ticks : (established : Bool) (a : Shown) (point window : ℕ) (trigger : AckTrigger) (now : ℕ)
     → is_established a.state ≡ established → Ticks a
-    → Ticks (on_sack a point window wish now).0
+    → Ticks (on_sack a point window trigger now).0
 unfolding on_sack
-sack_ticks true a point window wish now e h =
-    rw e (outcome_ticks (sack_outcome a.sender point) (counted_sack a) point window wish now
+sack_ticks true a point window trigger now e h =
+    rw e (outcome_ticks (sack_outcome a.sender point) (counted_sack a) point window trigger now
     (established_begins_no_more a.state e)
     (ticks_by a (counted_sack a) (time_by a (counted_sack a) refl refl refl refl refl refl) h))
-sack_ticks false a point window wish now e h = rw e h
+sack_ticks false a point window trigger now e h = rw e h
 
 -- The handshake
 
@@ -199,22 +199,22 @@ pub record IsFaulty (b : Shown) : Type 0 where
   pub if_closed : is_closed_state b.state ≡ true → Ticks b
 
 abbrev pub TicksOn : Shown × Flow → Type 0
-TicksOn (b, flows.Next wish) = Ticks b
+TicksOn (b, flows.Next trigger) = Ticks b
 TicksOn (b, flows.Fault fault) = IsFaulty b
 
 faulty : (b : Shown) → Ticks b → IsFaulty b
 faulty b h = record { working = h.working; not_lost = h.not_lost; if_closed = λ _. h }
 
 ticks_on : (x : Shown × Flow) → Ticks x.0 → TicksOn x
-ticks_on (b, flows.Next wish) h = h
+ticks_on (b, flows.Next trigger) h = h
 ticks_on (b, flows.Fault fault) h = faulty b h
 
-init_ticks : (c : Bool) (a : Shown) (header : CommonHeader) (init : ChunkInit) (wish : AckWish)
-    → is_beginning a.state ≡ c → Ticks a → Ticks (on_init a header init wish).0
+init_ticks : (c : Bool) (a : Shown) (header : CommonHeader) (init : ChunkInit) (trigger : AckTrigger)
+    → is_beginning a.state ≡ c → Ticks a → Ticks (on_init a header init trigger).0
 unfolding on_init
-init_ticks true a header init wish e h = rw e (ticks_by a (answered (met a header init))
-    (time_by a (answered (met a header init)) refl refl refl refl refl refl) h)
-init_ticks false a header init wish e h = rw e h
+init_ticks true a header init trigger e h = rw e (ticks_by a (answered (learned a header init))
+    (time_by a (answered (learned a header init)) refl refl refl refl refl refl) h)
+init_ticks false a header init trigger e h = rw e h
 
 waiting_is_open : (s : AssociationState) → is_cookie_wait s ≡ true
     → (is_closed_state s ≡ false) × (is_beginning s ≡ true)
@@ -248,34 +248,34 @@ echo_fits s f t now rto b h = record {
   unsent = λ _. h.unsent b;
 }
 
-echoed_ticks : (o : Option (List ℕ)) (b : Shown) (wish : AckWish) (now : ℕ) → b.failed ≡ false → b.lost ≡ false
+echoed_ticks : (o : Option (List ℕ)) (b : Shown) (trigger : AckTrigger) (now : ℕ) → b.failed ≡ false → b.lost ≡ false
     → is_cookie_wait b.state ≡ true
     → FitsTimers states.CookieEchoed b.sender.queue.in_flight (started names.T1Cookie now b.estimate.rto b.timers)
-    → is_some b.timers.ack.moment ≡ is_delayed b.receiver.ack_state → TicksOn (echoed o b wish now)
+    → is_some b.timers.ack.moment ≡ is_delayed b.receiver.ack_state → TicksOn (echoed o b trigger now)
 unfolding sends_cookie
-echoed_ticks None b wish now works lost e h k = record {
+echoed_ticks None b trigger now works lost e h k = record {
   working = works;
   not_lost = lost;
   if_closed = λ c. absurd (false≢true (sym (waiting_is_open b.state e).0 ∙ c));
 }
-echoed_ticks (Some cookie) b wish now works lost e h k = record {
+echoed_ticks (Some cookie) b trigger now works lost e h k = record {
   working = works;
   not_lost = lost;
   fits = h;
   acks = k;
 }
 
-init_ack_ticks : (waits back : Bool) (a : Shown) (header : CommonHeader) (init : ChunkInit) (wish : AckWish) (now : ℕ)
+init_ack_ticks : (waits back : Bool) (a : Shown) (header : CommonHeader) (init : ChunkInit) (trigger : AckTrigger) (now : ℕ)
     → is_cookie_wait a.state ≡ waits
-    → comes_back a.handshake header ≡ back → Ticks a → TicksOn (on_init_ack a header init wish now)
+    → comes_back a.handshake header ≡ back → Ticks a → TicksOn (on_init_ack a header init trigger now)
 unfolding on_init_ack
-init_ack_ticks true true a header init wish now e f h =
-    rw (e, f) (echoed_ticks (first_cookie init.params) _ wish now h.working h.not_lost e
+init_ack_ticks true true a header init trigger now e f h =
+    rw (e, f) (echoed_ticks (first_cookie init.params) _ trigger now h.working h.not_lost e
     (echo_fits a.state a.sender.queue.in_flight a.timers now a.estimate.rto (waiting_is_open a.state e).1 h.fits)
     h.acks)
-init_ack_ticks true false a header init wish now e f h = rw (e, f)
+init_ack_ticks true false a header init trigger now e f h = rw (e, f)
     (ticks_by a _ (time_by a _ refl refl refl refl refl refl) h)
-init_ack_ticks false back a header init wish now e f h = rw e h
+init_ack_ticks false back a header init trigger now e f h = rw e h
 
 -- it is established: neither timer of the handshake runs, and nothing was sent yet
 connected_fits : (s : AssociationState) (f : List InFlight) (t : Timers) → is_beginning s ≡ true → FitsTimers s f t
@@ -302,71 +302,71 @@ acknowledges_cookie : (a : Shown) → Ticks a → Ticks (acknowledged_cookie a)
 acknowledges_cookie a h = ticks_by a (acknowledged_cookie a)
     (time_by a (acknowledged_cookie a) refl refl refl refl refl refl) h
 
-cookie_echo_ticks : (issued begins established : Bool) (a : Shown) (cookie : List ℕ) (wish : AckWish)
+cookie_echo_ticks : (issued begins established : Bool) (a : Shown) (cookie : List ℕ) (trigger : AckTrigger)
     → has_issued a.handshake cookie ≡ issued
     → is_beginning a.state ≡ begins → is_established a.state ≡ established → Ticks a
-    → Ticks (on_cookie_echo a cookie wish).0
+    → Ticks (on_cookie_echo a cookie trigger).0
 unfolding on_cookie_echo
-cookie_echo_ticks false begins established a cookie wish e f g h = rw e h
-cookie_echo_ticks true true established a cookie wish e f g h = rw (e, f)
+cookie_echo_ticks false begins established a cookie trigger e f g h = rw e h
+cookie_echo_ticks true true established a cookie trigger e f g h = rw (e, f)
     (acknowledges_cookie (connected a) (connected_ticks a f h))
-cookie_echo_ticks true false true a cookie wish e f g h = rw (e, f, g) (acknowledges_cookie a h)
-cookie_echo_ticks true false false a cookie wish e f g h = rw (e, f, g) h
+cookie_echo_ticks true false true a cookie trigger e f g h = rw (e, f, g) (acknowledges_cookie a h)
+cookie_echo_ticks true false false a cookie trigger e f g h = rw (e, f, g) h
 
-cookie_ack_ticks : (c : Bool) (a : Shown) (wish : AckWish) → is_cookie_echoed a.state ≡ c → Ticks a
-    → Ticks (on_cookie_ack a wish).0
+cookie_ack_ticks : (c : Bool) (a : Shown) (trigger : AckTrigger) → is_cookie_echoed a.state ≡ c → Ticks a
+    → Ticks (on_cookie_ack a trigger).0
 unfolding on_cookie_ack
-cookie_ack_ticks true a wish e h = rw e (connected_ticks a (echoed_begins a.state e) h)
-cookie_ack_ticks false a wish e h = rw e h
+cookie_ack_ticks true a trigger e h = rw e (connected_ticks a (echoed_begins a.state e) h)
+cookie_ack_ticks false a trigger e h = rw e h
 
 information_ticks : (o : Option (List ℕ)) (a : Shown) → Ticks a → Ticks (information_returned o a)
 information_ticks None a h = h
 information_ticks (Some information) a h = ticks_by a _ (time_by a _ refl refl refl refl refl refl) h
 
-heartbeat_ticks : (a : Shown) (heartbeat : ChunkHeartbeat) (wish : AckWish) → Ticks a
-    → TicksOn (on_heartbeat a heartbeat wish)
+heartbeat_ticks : (a : Shown) (heartbeat : ChunkHeartbeat) (trigger : AckTrigger) → Ticks a
+    → TicksOn (on_heartbeat a heartbeat trigger)
 unfolding on_heartbeat
-heartbeat_ticks a heartbeat wish h = information_ticks (information_of heartbeat.params) a h
+heartbeat_ticks a heartbeat trigger h = information_ticks (information_of heartbeat.params) a h
 
 -- Any chunk
 
-kind_ticks : (header : CommonHeader) (c : Chunk) (a : Shown) (wish : AckWish) (now : ℕ) → Ticks a
-    → TicksOn (dispatched a header c wish now)
-kind_ticks header (chunks.Data piece) a wish now h = ticks_on (on_data a piece wish)
-    (ticks_by a (on_data a piece wish).0 (data_time a piece wish) h)
-kind_ticks header (chunks.SelectiveAck k) a wish now h =
-    ticks_on (on_sack a k.cumulative_tsn_ack k.advertised_receiver_window_credit wish now)
-    (sack_ticks (is_established a.state) a k.cumulative_tsn_ack k.advertised_receiver_window_credit wish now refl h)
-kind_ticks header (chunks.Init x) a wish now h = ticks_on (on_init a header x wish)
-    (init_ticks (is_beginning a.state) a header x wish refl h)
-kind_ticks header (chunks.InitAck x) a wish now h = init_ack_ticks (is_cookie_wait a.state)
-    (comes_back a.handshake header) a header x wish now refl refl h
-kind_ticks header (chunks.Heartbeat x) a wish now h = heartbeat_ticks a x wish h
-kind_ticks header (chunks.HeartbeatAck x) a wish now h = faulty a h
-kind_ticks header (chunks.Abort x) a wish now h = faulty a h
-kind_ticks header (chunks.Shutdown x) a wish now h = faulty a h
-kind_ticks header chunks.ShutdownAck a wish now h = faulty a h
-kind_ticks header (chunks.Error x) a wish now h = faulty a h
-kind_ticks header (chunks.CookieEcho x) a wish now h =
-    ticks_on (on_cookie_echo a x wish) (cookie_echo_ticks (has_issued a.handshake x) (is_beginning a.state)
-    (is_established a.state) a x wish refl refl refl h)
-kind_ticks header chunks.CookieAck a wish now h = ticks_on (on_cookie_ack a wish)
-    (cookie_ack_ticks (is_cookie_echoed a.state) a wish refl h)
-kind_ticks header chunks.ShutdownComplete a wish now h = faulty a h
-kind_ticks header (chunks.Reconfig x) a wish now h = faulty a h
-kind_ticks header (chunks.ForwardTsn x) a wish now h = faulty a h
-kind_ticks header (chunks.IForwardTsn x) a wish now h = faulty a h
-kind_ticks header (chunks.Other kind flags value) a wish now h = faulty a h
+kind_ticks : (header : CommonHeader) (c : Chunk) (a : Shown) (trigger : AckTrigger) (now : ℕ) → Ticks a
+    → TicksOn (dispatched a header c trigger now)
+kind_ticks header (chunks.Data piece) a trigger now h = ticks_on (on_data a piece trigger)
+    (ticks_by a (on_data a piece trigger).0 (data_time a piece trigger) h)
+kind_ticks header (chunks.SelectiveAck k) a trigger now h =
+    ticks_on (on_sack a k.cumulative_tsn_ack k.advertised_receiver_window_credit trigger now)
+    (sack_ticks (is_established a.state) a k.cumulative_tsn_ack k.advertised_receiver_window_credit trigger now refl h)
+kind_ticks header (chunks.Init x) a trigger now h = ticks_on (on_init a header x trigger)
+    (init_ticks (is_beginning a.state) a header x trigger refl h)
+kind_ticks header (chunks.InitAck x) a trigger now h = init_ack_ticks (is_cookie_wait a.state)
+    (comes_back a.handshake header) a header x trigger now refl refl h
+kind_ticks header (chunks.Heartbeat x) a trigger now h = heartbeat_ticks a x trigger h
+kind_ticks header (chunks.HeartbeatAck x) a trigger now h = faulty a h
+kind_ticks header (chunks.Abort x) a trigger now h = faulty a h
+kind_ticks header (chunks.Shutdown x) a trigger now h = faulty a h
+kind_ticks header chunks.ShutdownAck a trigger now h = faulty a h
+kind_ticks header (chunks.Error x) a trigger now h = faulty a h
+kind_ticks header (chunks.CookieEcho x) a trigger now h =
+    ticks_on (on_cookie_echo a x trigger) (cookie_echo_ticks (has_issued a.handshake x) (is_beginning a.state)
+    (is_established a.state) a x trigger refl refl refl h)
+kind_ticks header chunks.CookieAck a trigger now h = ticks_on (on_cookie_ack a trigger)
+    (cookie_ack_ticks (is_cookie_echoed a.state) a trigger refl h)
+kind_ticks header chunks.ShutdownComplete a trigger now h = faulty a h
+kind_ticks header (chunks.Reconfig x) a trigger now h = faulty a h
+kind_ticks header (chunks.ForwardTsn x) a trigger now h = faulty a h
+kind_ticks header (chunks.IForwardTsn x) a trigger now h = faulty a h
+kind_ticks header (chunks.Other kind flags value) a trigger now h = faulty a h
 
-checked_ticks : (r : Result (Unit {0}) Error) (header : CommonHeader) (c : Chunk) (a : Shown) (wish : AckWish)
-    (now : ℕ) → Ticks a → TicksOn (checked_first r a header c wish now)
-checked_ticks (Err fault) header c a wish now h = faulty a h
-checked_ticks (Ok done) header c a wish now h = kind_ticks header c a wish now h
+checked_ticks : (r : Result (Unit {0}) Error) (header : CommonHeader) (c : Chunk) (a : Shown) (trigger : AckTrigger)
+    (now : ℕ) → Ticks a → TicksOn (checked_first r a header c trigger now)
+checked_ticks (Err fault) header c a trigger now h = faulty a h
+checked_ticks (Ok done) header c a trigger now h = kind_ticks header c a trigger now h
 
-chunk_ticks : (header : CommonHeader) (c : Chunk) (a : Shown) (wish : AckWish) (now : ℕ) → Ticks a
-    → TicksOn (on_chunk a header c wish now)
+chunk_ticks : (header : CommonHeader) (c : Chunk) (a : Shown) (trigger : AckTrigger) (now : ℕ) → Ticks a
+    → TicksOn (on_chunk a header c trigger now)
 unfolding on_chunk
-chunk_ticks header c a wish now h = checked_ticks (checked_chunk c) header c a wish now h
+chunk_ticks header c a trigger now h = checked_ticks (checked_chunk c) header c a trigger now h
 
 -- A packet
 
@@ -382,15 +382,15 @@ fault_rests : (closed : Bool) (b : Shown) (reason : AssociationError) → is_clo
 fault_rests true b reason e h = inl (h.if_closed e)
 fault_rests false b reason e h = inr (closed_rests b reason)
 
-goes_on_soundly : (x : Shown × Flow) (more : Shown → AckWish → Shown) → TicksOn x
-    → ((b : Shown) (wish : AckWish) → Ticks b → IsSound (more b wish)) → IsSound (goes_on x more)
-goes_on_soundly (b, flows.Next wish) more h k = k b wish h
+goes_on_soundly : (x : Shown × Flow) (more : Shown → AckTrigger → Shown) → TicksOn x
+    → ((b : Shown) (trigger : AckTrigger) → Ticks b → IsSound (more b trigger)) → IsSound (goes_on x more)
+goes_on_soundly (b, flows.Next trigger) more h k = k b trigger h
 goes_on_soundly (b, flows.Fault fault) more h k = fault_rests (is_closed_state b.state) b reasons.AssociationClosed
     refl h
 
-ended_ticks : (wish : AckWish) (a : Shown) (now : ℕ) → Ticks a → Ticks (ended a wish now)
-ended_ticks wishes.None a now h = record { working = h.working; not_lost = h.not_lost; fits = h.fits; acks = h.acks }
-ended_ticks wishes.Delayed a now h = record {
+ended_ticks : (trigger : AckTrigger) (a : Shown) (now : ℕ) → Ticks a → Ticks (ended a trigger now)
+ended_ticks triggers.None a now h = record { working = h.working; not_lost = h.not_lost; fits = h.fits; acks = h.acks }
+ended_ticks triggers.Delayed a now h = record {
   working = h.working;
   not_lost = h.not_lost;
   fits = record {
@@ -401,7 +401,7 @@ ended_ticks wishes.Delayed a now h = record {
   };
   acks = refl;
 }
-ended_ticks wishes.Immediate a now h = record {
+ended_ticks triggers.Immediate a now h = record {
   working = h.working;
   not_lost = h.not_lost;
   fits = record {
@@ -413,17 +413,17 @@ ended_ticks wishes.Immediate a now h = record {
   acks = refl;
 }
 
-chunks_sound : (header : CommonHeader) (cs : List Chunk) (a : Shown) (wish : AckWish) (now : ℕ) → Ticks a
-    → IsSound (after_chunks header cs a wish now)
-chunks_sound header [] a wish now h = inl (ended_ticks wish a now h)
-chunks_sound header (c ∷ cs) a wish now h =
-    goes_on_soundly (on_chunk a header c wish now) (λ b next. after_chunks header cs b next now)
-    (chunk_ticks header c a wish now h)
+chunks_sound : (header : CommonHeader) (cs : List Chunk) (a : Shown) (trigger : AckTrigger) (now : ℕ) → Ticks a
+    → IsSound (after_chunks header cs a trigger now)
+chunks_sound header [] a trigger now h = inl (ended_ticks trigger a now h)
+chunks_sound header (c ∷ cs) a trigger now h =
+    goes_on_soundly (on_chunk a header c trigger now) (λ b next. after_chunks header cs b next now)
+    (chunk_ticks header c a trigger now h)
     (λ b next k. chunks_sound header cs b next now k)
 
 packet_of_sound : (packet : Option Packet) (a : Shown) (now : ℕ) → Ticks a → IsSound (after_packet_of a packet now)
 packet_of_sound None a now h = inl h
-packet_of_sound (Some packet) a now h = chunks_sound packet.common_header packet.chunks a wishes.None now h
+packet_of_sound (Some packet) a now h = chunks_sound packet.common_header packet.chunks a triggers.None now h
 
 sound_if : (c : Bool) (x y : Shown) → IsSound x → IsSound y → IsSound (if c then x else y)
 sound_if true x y h k = h

@@ -108,8 +108,8 @@ unfolding sends_cookie
 cookie_time None a now e = rw e (time_by _ _ refl refl refl refl refl refl)
 cookie_time (Some cookie) a now e = rw e (time_by _ _ refl refl refl refl refl refl)
 
-t1_init_ticks : (due failure : Bool) (a : Shown) (now : ℕ) → (expiry_of names.T1Init now a.timers).0 ≡ due
-    → (expiry_of names.T1Init now a.timers).1 ≡ failure → Ticks a
+t1_init_ticks : (due failure : Bool) (a : Shown) (now : ℕ) → (expiry_of names.T1Init now a.timers).expired ≡ due
+    → (expiry_of names.T1Init now a.timers).failed ≡ failure → Ticks a
     → Ticks (if due then (if failure then (let b = t1_init_expired a now in record b {
       handshake_fault = Some errors.ErrHandshakeInitAck;
     }) else sends_init (t1_init_expired a now) now) else a)
@@ -139,8 +139,8 @@ t1_init_ticks true false a now d e h =
           refl) h.acks;
     })
 
-t1_cookie_ticks : (due failure : Bool) (a : Shown) (now : ℕ) → (expiry_of names.T1Cookie now a.timers).0 ≡ due
-    → (expiry_of names.T1Cookie now a.timers).1 ≡ failure → Ticks a
+t1_cookie_ticks : (due failure : Bool) (a : Shown) (now : ℕ) → (expiry_of names.T1Cookie now a.timers).expired ≡ due
+    → (expiry_of names.T1Cookie now a.timers).failed ≡ failure → Ticks a
     → Ticks (if due then (if failure then (let b = t1_cookie_expired a now in record b {
       handshake_fault = Some errors.ErrHandshakeCookieEcho;
     }) else sends_cookie (t1_cookie_expired a now) now) else a)
@@ -192,8 +192,8 @@ t3_fits s f g t now u a b c d flies unsent h =
 map_nil : (f : List InFlight) → map marked_again f ≡ [] → f ≡ []
 map_nil f e = nil_from_length f (sym (length-map f marked_again) ∙ ap (λ (xs : List InFlight). length xs) e)
 
-t3_ticks : (due failure : Bool) (a : Shown) (now : ℕ) → (expiry_of names.T3RTX now a.timers).0 ≡ due
-    → (expiry_of names.T3RTX now a.timers).1 ≡ failure → Ticks a
+t3_ticks : (due failure : Bool) (a : Shown) (now : ℕ) → (expiry_of names.T3RTX now a.timers).expired ≡ due
+    → (expiry_of names.T3RTX now a.timers).failed ≡ failure → Ticks a
     → Ticks (if due then (if failure then t3_expired a now else retransmits (t3_expired a now) now) else a)
 t3_ticks false failure a now d e h = h
 t3_ticks true true a now d e h = record {
@@ -248,7 +248,7 @@ ticks_if false x y h k = k
 
 delay_ticks : (a : Shown) (now : ℕ) → Ticks a → Ticks (after_ack_delay a now)
 delay_ticks a now h =
-    ticks_if (expiry_of names.Ack now a.timers).0 _ a
+    ticks_if (expiry_of names.Ack now a.timers).expired _ a
     (record {
       working = h.working;
       not_lost = h.not_lost;
@@ -261,11 +261,11 @@ timeouts_tick a now h =
     let b : Shown = after_t1_init a now in
     let c : Shown = after_handshake_timers a now in
     let d : Shown = after_t3 c now in
-    let hb : Ticks b = t1_init_ticks (expiry_of names.T1Init now a.timers).0 (expiry_of names.T1Init now a.timers).1 a
+    let hb : Ticks b = t1_init_ticks (expiry_of names.T1Init now a.timers).expired (expiry_of names.T1Init now a.timers).failed a
     now refl refl h in
-    let hc : Ticks c = t1_cookie_ticks (expiry_of names.T1Cookie now b.timers).0
-    (expiry_of names.T1Cookie now b.timers).1 b now refl refl hb in
-    let hd : Ticks d = t3_ticks (expiry_of names.T3RTX now c.timers).0 (expiry_of names.T3RTX now c.timers).1 c now
+    let hc : Ticks c = t1_cookie_ticks (expiry_of names.T1Cookie now b.timers).expired
+    (expiry_of names.T1Cookie now b.timers).failed b now refl refl hb in
+    let hd : Ticks d = t3_ticks (expiry_of names.T3RTX now c.timers).expired (expiry_of names.T3RTX now c.timers).failed c now
     refl refl hc in
     delay_ticks d now hd
 
@@ -281,9 +281,9 @@ undue o now e = unarmed_is_not_due o now (ap (λ (z : Option ℕ). is_some z) e)
 pub unarmed_timeouts_do_nothing : (a : Shown) (now : ℕ) → IsNoneArmed a.timers → after_timeouts a now ≡ a
 unarmed_timeouts_do_nothing a now h =
     ap (λ (z : Shown). after_ack_delay (after_t3 (after_t1_cookie z now) now) now)
-    (quiet (expiry_of names.T1Init now a.timers).0 _ a (undue a.timers.t1_init.moment now (h names.T1Init)))
+    (quiet (expiry_of names.T1Init now a.timers).expired _ a (undue a.timers.t1_init.moment now (h names.T1Init)))
     ∙ ap (λ (z : Shown). after_ack_delay (after_t3 z now) now)
-    (quiet (expiry_of names.T1Cookie now a.timers).0 _ a (undue a.timers.t1_cookie.moment now (h names.T1Cookie)))
-    ∙ ap (λ (z : Shown). after_ack_delay z now) (quiet (expiry_of names.T3RTX now a.timers).0 _ a
+    (quiet (expiry_of names.T1Cookie now a.timers).expired _ a (undue a.timers.t1_cookie.moment now (h names.T1Cookie)))
+    ∙ ap (λ (z : Shown). after_ack_delay z now) (quiet (expiry_of names.T3RTX now a.timers).expired _ a
     (undue a.timers.t3_rtx.moment now (h names.T3RTX)))
-    ∙ quiet (expiry_of names.Ack now a.timers).0 _ a (undue a.timers.ack.moment now (h names.Ack))
+    ∙ quiet (expiry_of names.Ack now a.timers).expired _ a (undue a.timers.ack.moment now (h names.Ack))

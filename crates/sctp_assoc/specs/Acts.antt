@@ -6,8 +6,8 @@ use Rattle.sctp_outbound_queue.specs.declared.message.InFlight.{InFlight}
 use Rattle.sctp_outbound_queue.specs.Waiting.{Waiting}
 use Rattle.sctp_outbound_queue.specs.Message.{counted_again}
 use Rattle.sctp_outbound_queue.specs.Outbound.{Outbound, all_marked, changed_at, sent_next, with_message, without_first}
-use Rattle.sctp_queues.specs.Stream.{Stream, accepted_by}
-use Rattle.sctp_queues.specs.Streams.{StreamMap, changed_stream, stream_at, made, pushed_in, read_in, without_streams}
+use Rattle.sctp_streams.specs.Stream.{StreamView, accepted_by}
+use Rattle.sctp_streams.specs.Streams.{StreamMap, changed_stream, stream_at, made, pushed_in, read_in, without_streams}
 use Rattle.sctp_outbound.specs.Sender.{chunk_of, next_chunk_of, streams_after}
 use Rattle.sctp_model.specs.Packets.{mem}
 use Rattle.sctp_model.specs.Serial.{tsn}
@@ -27,7 +27,7 @@ pub record History : Type 0 where
   -- and the point: the first offset that neither came nor was passed over
   pub taken : List ℕ
   pub passed : ℕ
-  pub point : ℕ
+  pub cumulative_tsn_ack : ℕ
 
 -- the TSN before this one
 abbrev pub tsn_before : ℕ → ℕ
@@ -36,16 +36,16 @@ tsn_before t = (t + 2 ^ 32 - 1) % 2 ^ 32
 -- An association stands where its history says.
 pub record Binds (a : Shown) (h : History) : Type 0 where
   pub first : a.sender.queue.first_tsn ≡ tsn h.own h.base
-  pub point : a.receiver.point ≡ tsn_before (tsn h.peer h.point)
-  pub below : (o : ℕ) → o < h.point → (mem o h.taken ≡ true) ⊎ (o < h.passed)
+  pub cumulative_tsn_ack : a.receiver.peer_last_tsn ≡ tsn_before (tsn h.peer h.reach)
+  pub below : (o : ℕ) → o < h.reach → (mem o h.taken ≡ true) ⊎ (o < h.passed)
   -- so far nothing is held above the point
-  pub above : (o : ℕ) → mem o h.taken ≡ true → o < h.point
-  pub passed : h.passed ≤ h.point
+  pub above : (o : ℕ) → mem o h.taken ≡ true → o < h.reach
+  pub passed : h.passed ≤ h.reach
 
 -- Nothing came and nothing is acknowledged: the history on which an association begins. Until the peer's initial TSN is known it is
 -- taken to be 1.
 abbrev pub begun : ℕ → ℕ → History
-begun own peer = record { own = own; peer = peer; base = 0; taken = []; passed = 0; point = 0 }
+begun own peer = record { own = own; peer = peer; base = 0; taken = []; passed = 0; reach = 0 }
 
 -- What the two directions see of an association.
 pub record Parts : Type 0 where
@@ -59,7 +59,7 @@ parts a h = record { queue = a.sender.queue; streams = a.streams; history = h }
 -- One thing that an association does to its directions.
 pub data Act : Type 0 where
   -- the peer's initial TSN became known: nothing came from there on
-  Met : ℕ → Act
+  PeerKnown : ℕ → Act
   -- the application or the peer's DATA made a stream; its own messages have an identifier from this one on and this payload type
   Opened : ℕ → ℕ → PayloadProtocolIdentifier → Act
   -- a write of these bytes was accepted on a stream
@@ -95,13 +95,13 @@ without_first_pieces (suc n) p = without_first_pieces n (without_first_piece p)
 
 -- the DATA at the point came
 abbrev pub with_taken : History → History
-with_taken h = record h { taken = h.point ∷ h.taken; point = h.point + 1 }
+with_taken h = record h { taken = h.reach ∷ h.taken; reach = h.reach + 1 }
 
 -- the peer's DATA begins with this TSN
 abbrev pub with_peer : History → ℕ → History
-with_peer h t = record h { peer = t; taken = []; passed = 0; point = 0 }
+with_peer h t = record h { peer = t; taken = []; passed = 0; reach = 0 }
 
-abbrev pub with_written : Option Stream → Parts → ℕ → List ℕ → Parts
+abbrev pub with_written : Option StreamView → Parts → ℕ → List ℕ → Parts
 with_written None p id bytes = p
 with_written (Some s) p id bytes = record p {
   streams = changed_stream (λ t. accepted_by t s.default_payload_type (length bytes)) p.streams id;
@@ -110,11 +110,11 @@ with_written (Some s) p id bytes = record p {
 
 -- what an act makes of the parts
 abbrev pub done : Act → Parts → Parts
-done (Met t) p = record p { history = with_peer p.history t }
+done (PeerKnown t) p = record p { history = with_peer p.history t }
 done (Opened id first kind) p = record p { streams = made p.streams id first kind }
 done (Wrote id bytes) p = with_written (stream_at p.streams id) p id bytes
 done (Sent now) p = record p { queue = sent_next p.queue now }
-done (SentAgain place) p = record p { queue = changed_at counted_again p.queue place }
+done (SentAgain index) p = record p { queue = changed_at counted_again p.queue index }
 done Marked p = record p { queue = all_marked p.queue }
 done (Acknowledged n) p = without_first_pieces n p
 done (Took piece) p = record p {
@@ -132,9 +132,9 @@ done_all (x ∷ xs) p = done_all xs (done x p)
 -- an act can be done where the parts stand so
 abbrev pub Can : Act → Parts → Type 0
 Can (Sent now) p = is_some (slice_get p.queue.pending 0) ≡ true
-Can (SentAgain place) p = place < length p.queue.in_flight
+Can (SentAgain index) p = index < length p.queue.in_flight
 Can (Acknowledged n) p = n ≤ length p.queue.in_flight
-Can (Took piece) p = (piece.tsn ≡ tsn p.history.peer p.history.point) × (is_whole piece ≡ true)
+Can (Took piece) p = (piece.tsn ≡ tsn p.history.peer p.history.reach) × (is_whole piece ≡ true)
 Can act p = Unit {0}
 
 abbrev pub CanAll : List Act → Parts → Type 0
@@ -152,7 +152,7 @@ chunk_said (Some p) t = chunk_of p t ∷ []
 -- the DATA that an act gives out
 abbrev pub data_given : Act → Parts → List ChunkPayloadData
 data_given (Sent now) p = first_chunk_said p.queue.pending (tsn p.history.own (p.history.base + length p.queue.in_flight))
-data_given (SentAgain place) p = chunk_said (slice_get p.queue.in_flight place) (tsn p.history.own (p.history.base + place))
+data_given (SentAgain index) p = chunk_said (slice_get p.queue.in_flight index) (tsn p.history.own (p.history.base + index))
 data_given act p = []
 
 -- the DATA that acts give out, in order
@@ -171,7 +171,7 @@ pub record IsSamePast (h k : History) : Type 0 where
   pub peer : k.peer ≡ h.peer
   pub taken : k.taken ≡ h.taken
   pub passed : k.passed ≡ h.passed
-  pub point : k.point ≡ h.point
+  pub cumulative_tsn_ack : k.reach ≡ h.reach
 
 -- From each history on which the association stands, these acts lead from a to b.
 abbrev pub LeadsOn : List Act → Shown → Shown → Type 0

@@ -9,16 +9,16 @@ use Rattle.sctp_parts.specs.declared.timer.Timer.TheVariants as names
 use Rattle.sctp_parts.specs.State.{is_closing}
 use Rattle.sctp_parts.specs.Timers.{least_moment, after_expiry, expiry_of, with_moment, started}
 use Rattle.sctp_parts.specs.Stats.{one_more}
-use Rattle.sctp_queues.specs.declared.event.AssociationError.{AssociationError}
-use Rattle.sctp_queues.specs.declared.event.AssociationError.TheVariants as reasons
-use Rattle.sctp_queues.specs.declared.event.Event.{Event}
-use Rattle.sctp_queues.specs.declared.event.Event.TheVariants.{AssociationLost, DataChannelStatsFinal, HandshakeFailed}
+use Rattle.sctp_streams.specs.declared.event.AssociationError.{AssociationError}
+use Rattle.sctp_streams.specs.declared.event.AssociationError.TheVariants as reasons
+use Rattle.sctp_streams.specs.declared.event.Event.{Event}
+use Rattle.sctp_streams.specs.declared.event.Event.TheVariants.{AssociationLost, DataChannelStatsFinal, HandshakeFailed}
 use Rattle.sctp_outbound_queue.specs.Waiting.{Waiting}
 use Rattle.sctp_outbound_queue.specs.Outbound.{all_marked, with_message}
-use Rattle.sctp_receive_queues.specs.Messages.{Message}
+use Rattle.sctp_receive_queues.specs.Messages.{ReceivedMessage}
 use Rattle.sctp_receive_queues.specs.Reassembly.{ready}
-use Rattle.sctp_queues.specs.Stream.{Stream, accepted_by, params_for}
-use Rattle.sctp_queues.specs.Streams.{stream_at, generation_left, changed_stream, made, read_in, last_stats, without_streams}
+use Rattle.sctp_streams.specs.Stream.{StreamView, accepted_by, params_for}
+use Rattle.sctp_streams.specs.Streams.{stream_at, generation_left, changed_stream, made, read_in, last_stats, without_streams}
 use Rattle.sctp_inbound.specs.Receiver.{acknowledged_at_once}
 use Rattle.sctp_assoc.specs.Shown.{Shown, all_stopped}
 
@@ -106,14 +106,14 @@ t3_expired a now = record a { timers = with_moment names.T3RTX None (after_expir
 -- the retransmission timer as it is at a moment; past its limit of retries it is disarmed and nothing else happens
 abbrev pub after_t3 : Shown → ℕ → Shown
 after_t3 a now =
-    if (expiry_of names.T3RTX now a.timers).0 then
-    (if (expiry_of names.T3RTX now a.timers).1 then t3_expired a now else retransmits (t3_expired a now) now)
+    if (expiry_of names.T3RTX now a.timers).expired then
+    (if (expiry_of names.T3RTX now a.timers).failed then t3_expired a now else retransmits (t3_expired a now) now)
     else a
 
 -- the delay of an acknowledgement as it is at a moment (RFC 4960 section 6.2)
 abbrev pub after_ack_delay : Shown → ℕ → Shown
 after_ack_delay a now =
-    if (expiry_of names.Ack now a.timers).0 then record a {
+    if (expiry_of names.Ack now a.timers).expired then record a {
       timers = with_moment names.Ack None (after_expiry names.Ack now a.timers);
       counts = (let c = a.counts in record c { ack_timeouts = one_more c.ack_timeouts });
       receiver = acknowledged_at_once a.receiver;
@@ -149,7 +149,7 @@ stream_refusal a id =
     if is_some (stream_at a.streams id) then None else Some errors.ErrStreamNotExisted
 
 -- why a read is refused
-abbrev pub read_refusal_at : Option Stream → Option Error
+abbrev pub read_refusal_at : Option StreamView → Option Error
 read_refusal_at None = Some errors.ErrStreamClosed
 read_refusal_at (Some s) = None
 
@@ -158,24 +158,24 @@ read_refusal a id =
     if a.failed then Some errors.ErrAssociationFailed else read_refusal_at (stream_at a.streams id)
 
 -- what a read leaves and gives
-abbrev pub read_from_stream : Shown → ℕ → Shown × Option Message
+abbrev pub read_from_stream : Shown → ℕ → Shown × Option ReceivedMessage
 read_from_stream a id = (record a { streams = (read_in a.streams id).0 }, (read_in a.streams id).1)
 
-abbrev pub ready_of : Option Stream → List Message
+abbrev pub ready_of : Option StreamView → List ReceivedMessage
 ready_of None = []
 ready_of (Some s) = ready s.reassembly
 
 -- the messages that reads on a stream give, one after another
-abbrev pub ready_messages : Shown → ℕ → List Message
+abbrev pub ready_messages : Shown → ℕ → List ReceivedMessage
 ready_messages a id = ready_of (stream_at a.streams id)
 
-abbrev pub size_refusal : Shown → Stream → ℕ → Option Error
+abbrev pub size_refusal : Shown → StreamView → ℕ → Option Error
 size_refusal a s size =
     if size == 0 then Some errors.ErrEmptyMessage else
     if nat_lt a.max_send_message_size size || nat_lt a.sender.max_payload_size size then Some errors.ErrOutboundPacketTooLarge
     else None
 
-abbrev pub write_refusal_at : Shown → Option Stream → ℕ → Option Error
+abbrev pub write_refusal_at : Shown → Option StreamView → ℕ → Option Error
 write_refusal_at a None size = Some errors.ErrStreamClosed
 write_refusal_at a (Some s) size =
     if is_established a.state then size_refusal a s size else Some errors.ErrPayloadDataStateNotExist
@@ -186,7 +186,7 @@ write_refusal a id size =
     if a.failed then Some errors.ErrAssociationFailed else write_refusal_at a (stream_at a.streams id) size
 
 -- a message as it is written on a stream: ordered, reliable and of one piece
-abbrev pub message_of : Stream → ℕ → List ℕ → Waiting
+abbrev pub message_of : StreamView → ℕ → List ℕ → Waiting
 message_of s id bytes = record {
   message = record {
     message_id = 0;
@@ -203,7 +203,7 @@ message_of s id bytes = record {
   rest = [];
 }
 
-abbrev pub written_at : Option Stream → Shown → ℕ → List ℕ → Shown
+abbrev pub written_at : Option StreamView → Shown → ℕ → List ℕ → Shown
 written_at None a id bytes = a
 written_at (Some s) a id bytes = record a {
   streams = changed_stream (λ t. accepted_by t s.default_payload_type (length bytes)) a.streams id;
@@ -214,7 +214,7 @@ written_at (Some s) a id bytes = record a {
 abbrev pub written : Shown → ℕ → List ℕ → Shown
 written a id bytes = written_at (stream_at a.streams id) a id bytes
 
-abbrev pub buffered_at : Option Stream → Result ℕ Error
+abbrev pub buffered_at : Option StreamView → Result ℕ Error
 buffered_at None = Err errors.ErrStreamClosed
 buffered_at (Some s) = Ok s.buffered
 

@@ -13,8 +13,8 @@ use Rattle.sctp_wire.specs.declared.packet.Packet.{Packet}
 use Rattle.sctp_parts.specs.declared.state.AssociationState.{AssociationState}
 use Rattle.sctp_parts.specs.declared.state.AssociationState.TheVariants as states
 use Rattle.sctp_inbound.specs.Greeting.{first_cookie}
-use Rattle.sctp_inbound.specs.declared.receiver.AckWish.{AckWish}
-use Rattle.sctp_inbound.specs.declared.receiver.AckWish.TheVariants as wishes
+use Rattle.sctp_inbound.specs.declared.receiver.AckTrigger.{AckTrigger}
+use Rattle.sctp_inbound.specs.declared.receiver.AckTrigger.TheVariants as triggers
 use Rattle.sctp_model.specs.Serial.{tsn}
 use Rattle.sctp_assoc.specs.declared.inbound.Flow.{Flow}
 use Rattle.sctp_assoc.specs.declared.inbound.Flow.TheVariants as flows
@@ -38,10 +38,10 @@ pub record FitsNoMessage (a : Shown) (h : History) (piece : ChunkPayloadData) : 
 
 -- A SACK in Established acknowledges what was never sent: its point is not behind the acknowledged one, and is
 -- neither that one nor the TSN of a piece in flight. Numbers that the point names count modulo 2^32, as TSNs do.
-pub record AcknowledgesTheUnsent (a : Shown) (h : History) (point : ℕ) : Type 0 where
+pub record AcknowledgesTheUnsent (a : Shown) (h : History) (cumulative_tsn_ack : ℕ) : Type 0 where
   pub established : a.state ≡ states.Established
-  pub not_behind : tsn_gt (tsn_before (tsn h.own h.base)) point ≡ false
-  pub unsent : (n : ℕ) → n ≤ length a.sender.queue.in_flight → point % 2 ^ 32 ≢ tsn_before (tsn h.own (h.base + n))
+  pub not_behind : tsn_gt (tsn_before (tsn h.own h.base)) cumulative_tsn_ack ≡ false
+  pub unsent : (n : ℕ) → n ≤ length a.sender.queue.in_flight → cumulative_tsn_ack % 2 ^ 32 ≢ tsn_before (tsn h.own (h.base + n))
 
 -- The state is none in which a handshake is open or can begin.
 pub record IsPastTheHandshake (state : AssociationState) : Type 0 where
@@ -82,32 +82,32 @@ IsFault outcome = (error : Error) × (outcome.1 ≡ flows.Fault error)
 
 -- The faults are the causes, neither more nor fewer.
 abbrev pub FaultsAreCauses : Type 0
-FaultsAreCauses = (a : Shown) (h : History) (header : CommonHeader) (chunk : Chunk) (wish : AckWish) (now : ℕ)
-    → Binds a h → IsFault (on_chunk a header chunk wish now) ↔ IsCause a h header chunk
+FaultsAreCauses = (a : Shown) (h : History) (header : CommonHeader) (chunk : Chunk) (trigger : AckTrigger) (now : ℕ)
+    → Binds a h → IsFault (on_chunk a header chunk trigger now) ↔ IsCause a h header chunk
 
 -- Packets
 
 -- the chunk at this place of a packet is reached, with the association so: none of those before it is a fault
-abbrev pub Reaches : CommonHeader → List Chunk → Shown → AckWish → ℕ → ℕ → Shown → Type 0
-Reaches header [] a wish now place reached = ⊥
-Reaches header (c ∷ cs) a wish now zero reached = reached ≡ a
-Reaches header (c ∷ cs) a wish now (suc place) reached =
-    (b : Shown) × (next : AckWish) × (on_chunk a header c wish now ≡ (b, flows.Next next))
-    × Reaches header cs b next now place reached
+abbrev pub Reaches : CommonHeader → List Chunk → Shown → AckTrigger → ℕ → ℕ → Shown → Type 0
+Reaches header [] a trigger now index reached = ⊥
+Reaches header (c ∷ cs) a trigger now zero reached = reached ≡ a
+Reaches header (c ∷ cs) a trigger now (suc index) reached =
+    (b : Shown) × (next : AckTrigger) × (on_chunk a header c trigger now ≡ (b, flows.Next next))
+    × Reaches header cs b next now index reached
 
 -- A chunk of a packet is reached while the association is open.
-pub record IsReachedOpen (a : Shown) (packet : Packet) (now place : ℕ) (chunk : Chunk) (reached : Shown) : Type 0 where
-  pub there : slice_get packet.chunks place ≡ Some chunk
-  pub reaches : Reaches packet.common_header packet.chunks a wishes.None now place reached
+pub record IsReachedOpen (a : Shown) (packet : Packet) (now index : ℕ) (chunk : Chunk) (reached : Shown) : Type 0 where
+  pub there : slice_get packet.chunks index ≡ Some chunk
+  pub reaches : Reaches packet.common_header packet.chunks a triggers.None now index reached
   pub still_open : reached.state ≢ states.Closed
 
 -- One chunk of a packet is reached while the association is open, and is a cause whatever the history is on which
 -- that stands; it does stand on one.
 pub record HasCause (a : Shown) (packet : Packet) (now : ℕ) : Type 0 where
-  pub place : ℕ
+  pub index : ℕ
   pub chunk : Chunk
   pub reached : Shown
-  pub is_reached : IsReachedOpen a packet now place chunk reached
+  pub is_reached : IsReachedOpen a packet now index chunk reached
   pub stands : History
   pub binds : Binds reached stands
   pub is_cause : (h : History) → Binds reached h → IsCause reached h packet.common_header chunk
@@ -119,6 +119,6 @@ ClosingPacketsHaveCauses = (a : Shown) (h : History) (packet : Packet) (now : �
 
 -- A cause that a packet has closes, unless the association was lost before.
 abbrev pub CausesClose : Type 0
-CausesClose = (a : Shown) (packet : Packet) (now place : ℕ) (chunk : Chunk) (reached : Shown) (h : History)
-    → a.lost ≡ false → IsReachedOpen a packet now place chunk reached → Binds reached h
+CausesClose = (a : Shown) (packet : Packet) (now index : ℕ) (chunk : Chunk) (reached : Shown) (h : History)
+    → a.lost ≡ false → IsReachedOpen a packet now index chunk reached → Binds reached h
     → IsCause reached h packet.common_header chunk → closes a (Some packet) now ≡ true

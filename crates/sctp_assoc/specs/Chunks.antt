@@ -12,17 +12,17 @@ use Rattle.sctp_wire_types.specs.Checks.{checked_chunk}
 use Rattle.sctp_wire.specs.declared.packet.Packet.{Packet}
 use Rattle.sctp_parts.specs.Estimate.{Estimate}
 use Rattle.sctp_parts.specs.Stats.{one_more}
-use Rattle.sctp_queues.specs.declared.event.AssociationError.TheVariants as reasons
-use Rattle.sctp_queues.specs.declared.event.Event.TheVariants.{DatagramReceived}
-use Rattle.sctp_queues.specs.declared.event.Event.TheVariants as events
-use Rattle.sctp_queues.specs.Streams.{StreamMap, stream_at, made, generation_left, bytes_waiting, refusal_in, pushed_in, is_readable_in}
-use Rattle.sctp_inbound.specs.declared.receiver.AckWish.{AckWish}
-use Rattle.sctp_inbound.specs.declared.receiver.AckWish.TheVariants as wishes
+use Rattle.sctp_streams.specs.declared.event.AssociationError.TheVariants as reasons
+use Rattle.sctp_streams.specs.declared.event.Event.TheVariants.{DatagramReceived}
+use Rattle.sctp_streams.specs.declared.event.Event.TheVariants as events
+use Rattle.sctp_streams.specs.Streams.{StreamMap, stream_at, made, generation_left, bytes_waiting, refusal_in, pushed_in, is_readable_in}
+use Rattle.sctp_inbound.specs.declared.receiver.AckTrigger.{AckTrigger}
+use Rattle.sctp_inbound.specs.declared.receiver.AckTrigger.TheVariants as triggers
 use Rattle.sctp_inbound.specs.Receiver.{is_next_after, taken_to, asked, credit_of, ended_packet, ended_packet_timers}
 use Rattle.sctp_outbound.specs.declared.sender.Sender.{Sender}
 use Rattle.sctp_outbound.specs.declared.sender.SackOutcome.{SackOutcome}
 use Rattle.sctp_outbound.specs.declared.sender.SackOutcome.TheVariants as outcomes
-use Rattle.sctp_outbound.specs.Sender.{sack_outcome, points_to, with_window, acknowledged, t3_after_sack}
+use Rattle.sctp_outbound.specs.Sender.{sack_outcome, tsns_up_to, with_window, acknowledged, t3_after_sack}
 use Rattle.sctp_assoc.specs.declared.inbound.Flow.{Flow}
 use Rattle.sctp_assoc.specs.declared.inbound.Flow.TheVariants as flows
 use Rattle.sctp_assoc.specs.Calls.{is_established, closed_by}
@@ -70,28 +70,28 @@ taken_unless None a piece = (with_message a piece (pushed_in a.streams piece.str
 unfoldable pub taken_in : Shown → ChunkPayloadData → Shown × Option Error
 taken_in a piece = taken_unless (refusal_in a.streams piece.stream_identifier piece a.receiver.max_receive_message_size) a piece
 
-abbrev pub asks : Shown → ChunkPayloadData → AckWish → Shown × Flow
-asks a piece wish = (a, flows.Next (asked a.receiver wish piece.immediate_sack))
+abbrev pub asks : Shown → ChunkPayloadData → AckTrigger → Shown × Flow
+asks a piece trigger = (a, flows.Next (asked a.receiver trigger piece.immediate_sack))
 
-abbrev pub asks_or_faults : Shown × Option Error → ChunkPayloadData → AckWish → Shown × Flow
-asks_or_faults (a, None) piece wish = asks a piece wish
-asks_or_faults (a, Some fault) piece wish = (a, flows.Fault fault)
+abbrev pub asks_or_faults : Shown × Option Error → ChunkPayloadData → AckTrigger → Shown × Flow
+asks_or_faults (a, None) piece trigger = asks a piece trigger
+asks_or_faults (a, Some fault) piece trigger = (a, flows.Fault fault)
 
 -- DATA that is next in order comes to a stream that was found; without credit it is left
-abbrev pub on_next_data : Shown × Bool → ChunkPayloadData → AckWish → Shown × Flow
-on_next_data (a, false) piece wish = (a, flows.Next wish)
-on_next_data (a, true) piece wish =
-    if nat_lt 0 (credit_of a.receiver (bytes_waiting a.streams)) then asks_or_faults (taken_in a piece) piece wish else
-    asks a piece wish
+abbrev pub on_next_data : Shown × Bool → ChunkPayloadData → AckTrigger → Shown × Flow
+on_next_data (a, false) piece trigger = (a, flows.Next trigger)
+on_next_data (a, true) piece trigger =
+    if nat_lt 0 (credit_of a.receiver (bytes_waiting a.streams)) then asks_or_faults (taken_in a piece) piece trigger else
+    asks a piece trigger
 
-abbrev pub on_counted_data : Shown → ChunkPayloadData → AckWish → Shown × Flow
-on_counted_data a piece wish =
-    if is_next_after a.receiver piece.tsn && is_whole piece then on_next_data (stream_found a piece.stream_identifier) piece wish else
-    asks a piece wish
+abbrev pub on_counted_data : Shown → ChunkPayloadData → AckTrigger → Shown × Flow
+on_counted_data a piece trigger =
+    if is_next_after a.receiver piece.tsn && is_whole piece then on_next_data (stream_found a piece.stream_identifier) piece trigger else
+    asks a piece trigger
 
 -- DATA is counted; an ordered message in one piece that is next in order is taken in, and any DATA asks to be acknowledged
-unfoldable pub on_data : Shown → ChunkPayloadData → AckWish → Shown × Flow
-on_data a piece wish = on_counted_data (counted_data a) piece wish
+unfoldable pub on_data : Shown → ChunkPayloadData → AckTrigger → Shown × Flow
+on_data a piece trigger = on_counted_data (counted_data a) piece trigger
 
 -- SACK
 
@@ -108,67 +108,67 @@ with_acknowledged a moved now (sender, estimate, streams) = record a {
 
 -- a SACK is taken: the pieces up to its point are acknowledged, and its window is the peer's
 abbrev pub after_sack : Shown → ℕ → ℕ → ℕ → Shown
-after_sack a point window now =
-    with_acknowledged a (nat_lt 0 (points_to a.sender point)) now
-    (acknowledged (points_to a.sender point) now (with_window a.sender window, a.estimate, a.streams))
+after_sack a cumulative_tsn_ack window now =
+    with_acknowledged a (nat_lt 0 (tsns_up_to a.sender cumulative_tsn_ack)) now
+    (acknowledged (tsns_up_to a.sender cumulative_tsn_ack) now (with_window a.sender window, a.estimate, a.streams))
 
-abbrev pub on_counted_sack : SackOutcome → Shown → ℕ → ℕ → AckWish → ℕ → Shown × Flow
-on_counted_sack outcomes.Older a point window wish now = (a, flows.Next wish)
-on_counted_sack outcomes.NotInFlight a point window wish now = (a, flows.Fault errors.ErrInflightQueueTsnPop)
-on_counted_sack outcomes.Taken a point window wish now = (after_sack a point window now, flows.Next wish)
+abbrev pub on_counted_sack : SackOutcome → Shown → ℕ → ℕ → AckTrigger → ℕ → Shown × Flow
+on_counted_sack outcomes.Older a cumulative_tsn_ack window trigger now = (a, flows.Next trigger)
+on_counted_sack outcomes.NotInFlight a cumulative_tsn_ack window trigger now = (a, flows.Fault errors.ErrInflightQueueTsnPop)
+on_counted_sack outcomes.Taken a cumulative_tsn_ack window trigger now = (after_sack a cumulative_tsn_ack window now, flows.Next trigger)
 
 -- a SACK counts in Established alone; one whose point is not in flight is a fault
-unfoldable pub on_sack : Shown → ℕ → ℕ → AckWish → ℕ → Shown × Flow
-on_sack a point window wish now =
+unfoldable pub on_sack : Shown → ℕ → ℕ → AckTrigger → ℕ → Shown × Flow
+on_sack a cumulative_tsn_ack window trigger now =
     if is_established a.state then
-    on_counted_sack (sack_outcome a.sender point) (counted_sack a) point window wish now
-    else (a, flows.Next wish)
+    on_counted_sack (sack_outcome a.sender cumulative_tsn_ack) (counted_sack a) cumulative_tsn_ack window trigger now
+    else (a, flows.Next trigger)
 
 -- Any chunk
 
-abbrev pub dispatched : Shown → CommonHeader → Chunk → AckWish → ℕ → Shown × Flow
-dispatched a header (chunks.Data piece) wish now = on_data a piece wish
-dispatched a header (chunks.SelectiveAck sack) wish now =
-    on_sack a sack.cumulative_tsn_ack sack.advertised_receiver_window_credit wish now
-dispatched a header (chunks.Init init) wish now = on_init a header init wish
-dispatched a header (chunks.InitAck init) wish now = on_init_ack a header init wish now
-dispatched a header (chunks.CookieEcho cookie) wish now = on_cookie_echo a cookie wish
-dispatched a header chunks.CookieAck wish now = on_cookie_ack a wish
-dispatched a header (chunks.Heartbeat heartbeat) wish now = on_heartbeat a heartbeat wish
-dispatched a header (chunks.Abort abort) wish now = (a, flows.Fault errors.ErrAbortChunk)
-dispatched a header (chunks.Error error) wish now = (a, flows.Fault errors.ErrAbortChunk)
-dispatched a header chunk wish now = (a, flows.Fault errors.ErrChunkTypeUnhandled)
+abbrev pub dispatched : Shown → CommonHeader → Chunk → AckTrigger → ℕ → Shown × Flow
+dispatched a header (chunks.Data piece) trigger now = on_data a piece trigger
+dispatched a header (chunks.SelectiveAck sack) trigger now =
+    on_sack a sack.cumulative_tsn_ack sack.advertised_receiver_window_credit trigger now
+dispatched a header (chunks.Init init) trigger now = on_init a header init trigger
+dispatched a header (chunks.InitAck init) trigger now = on_init_ack a header init trigger now
+dispatched a header (chunks.CookieEcho cookie) trigger now = on_cookie_echo a cookie trigger
+dispatched a header chunks.CookieAck trigger now = on_cookie_ack a trigger
+dispatched a header (chunks.Heartbeat heartbeat) trigger now = on_heartbeat a heartbeat trigger
+dispatched a header (chunks.Abort abort) trigger now = (a, flows.Fault errors.ErrAbortChunk)
+dispatched a header (chunks.Error error) trigger now = (a, flows.Fault errors.ErrAbortChunk)
+dispatched a header chunk trigger now = (a, flows.Fault errors.ErrChunkTypeUnhandled)
 
-abbrev pub checked_first : Result (Unit {0}) Error → Shown → CommonHeader → Chunk → AckWish → ℕ → Shown × Flow
-checked_first (Err fault) a header chunk wish now = (a, flows.Fault fault)
-checked_first (Ok _) a header chunk wish now = dispatched a header chunk wish now
+abbrev pub checked_first : Result (Unit {0}) Error → Shown → CommonHeader → Chunk → AckTrigger → ℕ → Shown × Flow
+checked_first (Err fault) a header chunk trigger now = (a, flows.Fault fault)
+checked_first (Ok _) a header chunk trigger now = dispatched a header chunk trigger now
 
 -- a chunk of a packet with this header; one that its own check refuses is a fault, an ABORT closes and an ERROR is a fault, and so
 -- is any chunk that is not known
-unfoldable pub on_chunk : Shown → CommonHeader → Chunk → AckWish → ℕ → Shown × Flow
-on_chunk a header chunk wish now = checked_first (checked_chunk chunk) a header chunk wish now
+unfoldable pub on_chunk : Shown → CommonHeader → Chunk → AckTrigger → ℕ → Shown × Flow
+on_chunk a header chunk trigger now = checked_first (checked_chunk chunk) a header chunk trigger now
 
 -- A packet
 
-abbrev pub goes_on : Shown × Flow → (Shown → AckWish → Shown) → Shown
-goes_on (a, flows.Next wish) more = more a wish
+abbrev pub goes_on : Shown × Flow → (Shown → AckTrigger → Shown) → Shown
+goes_on (a, flows.Next trigger) more = more a trigger
 goes_on (a, flows.Fault fault) more = closed_by a reasons.AssociationClosed
 
 -- the acknowledgement that a packet's chunks asked for is arranged at its end
-abbrev pub ended : Shown → AckWish → ℕ → Shown
-ended a wish now = record a {
-  receiver = ended_packet a.receiver wish;
-  timers = ended_packet_timers a.timers wish now;
+abbrev pub ended : Shown → AckTrigger → ℕ → Shown
+ended a trigger now = record a {
+  receiver = ended_packet a.receiver trigger;
+  timers = ended_packet_timers a.timers trigger now;
 }
 
 -- the chunks in order; a fault ends the packet and closes an open association
-abbrev pub after_chunks : CommonHeader → List Chunk → Shown → AckWish → ℕ → Shown
-after_chunks header [] a wish now = ended a wish now
-after_chunks header (c ∷ cs) a wish now = goes_on (on_chunk a header c wish now) (λ b next. after_chunks header cs b next now)
+abbrev pub after_chunks : CommonHeader → List Chunk → Shown → AckTrigger → ℕ → Shown
+after_chunks header [] a trigger now = ended a trigger now
+after_chunks header (c ∷ cs) a trigger now = goes_on (on_chunk a header c trigger now) (λ b next. after_chunks header cs b next now)
 
 abbrev pub after_packet_of : Shown → Option Packet → ℕ → Shown
 after_packet_of a None now = a
-after_packet_of a (Some packet) now = after_chunks packet.common_header packet.chunks a wishes.None now
+after_packet_of a (Some packet) now = after_chunks packet.common_header packet.chunks a triggers.None now
 
 -- what came is processed unless the association was lost
 abbrev pub after_packet : Shown → Option Packet → ℕ → Shown

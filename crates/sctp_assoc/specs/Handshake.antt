@@ -8,10 +8,10 @@ use Rattle.sctp_wire_types.specs.declared.packet.CommonHeader.{CommonHeader}
 use Rattle.sctp_parts.specs.declared.state.AssociationState.TheVariants as states
 use Rattle.sctp_parts.specs.declared.timer.Timer.TheVariants as names
 use Rattle.sctp_parts.specs.Timers.{after_expiry, expiry_of, started, with_moment, with_stopped}
-use Rattle.sctp_queues.specs.declared.event.Event.TheVariants.{Connected}
+use Rattle.sctp_streams.specs.declared.event.Event.TheVariants.{Connected}
 use Rattle.sctp_inbound.specs.declared.handshake.Offer.{Offer}
-use Rattle.sctp_inbound.specs.declared.receiver.AckWish.{AckWish}
-use Rattle.sctp_inbound.specs.Handshake.{comes_back, established, has_issued, met_by_init, met_by_init_ack}
+use Rattle.sctp_inbound.specs.declared.receiver.AckTrigger.{AckTrigger}
+use Rattle.sctp_inbound.specs.Handshake.{comes_back, established, has_issued, learned_by_init, learned_by_init_ack}
 use Rattle.sctp_inbound.specs.Greeting.{first_cookie, heartbeat_ack_of, information_of, init_ack_of, init_of}
 use Rattle.sctp_inbound.specs.Receiver.{receiver_from}
 use Rattle.sctp_outbound.specs.Sender.{with_first_window}
@@ -22,26 +22,26 @@ use Rattle.sctp_assoc.specs.Calls.{is_beginning, is_cookie_echoed, is_cookie_wai
 use Rattle.sctp_assoc.specs.Shown.{Shown}
 
 -- the peer's initial TSN and its receive window are known
-abbrev pub meets : Shown → ℕ → ℕ → Shown
-meets a initial_tsn window = record a {
+abbrev pub learns_peer : Shown → ℕ → ℕ → Shown
+learns_peer a initial_tsn window = record a {
   receiver = receiver_from a.receiver initial_tsn;
   sender = with_first_window a.sender window;
 }
 
 -- INIT
 
-abbrev pub met : Shown → CommonHeader → ChunkInit → Shown
-met a header init =
-    meets (record a { handshake = met_by_init a.handshake header init }) init.initial_tsn init.advertised_receiver_window_credit
+abbrev pub learned : Shown → CommonHeader → ChunkInit → Shown
+learned a header init =
+    learns_peer (record a { handshake = learned_by_init a.handshake header init }) init.initial_tsn init.advertised_receiver_window_credit
 
 -- INIT ACK goes out, with this side's cookie and its whole receive buffer
 abbrev pub answered : Shown → Shown
 answered a = queued a (chunks.InitAck (init_ack_of a.handshake a.receiver.buffer_size))
 
 -- an INIT that comes before the association is established is answered; later it is a fault
-unfoldable pub on_init : Shown → CommonHeader → ChunkInit → AckWish → Shown × Flow
-on_init a header init wish =
-    if is_beginning a.state then (answered (met a header init), flows.Next wish) else (a, flows.Fault errors.ErrHandleInitState)
+unfoldable pub on_init : Shown → CommonHeader → ChunkInit → AckTrigger → Shown × Flow
+on_init a header init trigger =
+    if is_beginning a.state then (answered (learned a header init), flows.Next trigger) else (a, flows.Fault errors.ErrHandleInitState)
 
 -- COOKIE ECHO
 
@@ -59,23 +59,23 @@ with_echo a cookie now = sends_cookie (record a { handshake = (let h = a.handsha
 
 -- INIT ACK
 
-abbrev pub met_back : Shown → CommonHeader → ChunkInit → Shown
-met_back a header init =
-    (let b = meets (record a { handshake = met_by_init_ack a.handshake header init }) init.initial_tsn init.advertised_receiver_window_credit in
+abbrev pub learned_back : Shown → CommonHeader → ChunkInit → Shown
+learned_back a header init =
+    (let b = learns_peer (record a { handshake = learned_by_init_ack a.handshake header init }) init.initial_tsn init.advertised_receiver_window_credit in
     record b { timers = with_stopped names.T1Init b.timers })
 
-abbrev pub echoed : Option (List ℕ) → Shown → AckWish → ℕ → Shown × Flow
-echoed None a wish now = (a, flows.Fault errors.ErrInitAckNoCookie)
-echoed (Some cookie) a wish now = (with_echo a cookie now, flows.Next wish)
+abbrev pub echoed : Option (List ℕ) → Shown → AckTrigger → ℕ → Shown × Flow
+echoed None a trigger now = (a, flows.Fault errors.ErrInitAckNoCookie)
+echoed (Some cookie) a trigger now = (with_echo a cookie now, flows.Next trigger)
 
 -- an INIT ACK counts in CookieWait alone: its cookie is echoed, and without one it is a fault; with other ports than those of this
 -- side's INIT nothing but its tag and its numbers of streams count
-unfoldable pub on_init_ack : Shown → CommonHeader → ChunkInit → AckWish → ℕ → Shown × Flow
-on_init_ack a header init wish now =
+unfoldable pub on_init_ack : Shown → CommonHeader → ChunkInit → AckTrigger → ℕ → Shown × Flow
+on_init_ack a header init trigger now =
     if is_cookie_wait a.state then
-    (if comes_back a.handshake header then echoed (first_cookie init.params) (met_back a header init) wish now
-    else (record a { handshake = met_by_init_ack a.handshake header init }, flows.Next wish))
-    else (a, flows.Next wish)
+    (if comes_back a.handshake header then echoed (first_cookie init.params) (learned_back a header init) trigger now
+    else (record a { handshake = learned_by_init_ack a.handshake header init }, flows.Next trigger))
+    else (a, flows.Next trigger)
 
 -- the association is established, and nothing of the handshake is sent again
 abbrev pub connected : Shown → Shown
@@ -91,16 +91,16 @@ acknowledged_cookie a = queued a chunks.CookieAck
 
 -- a COOKIE ECHO with the cookie that this side gave out establishes the association, and is acknowledged; where it is established
 -- already it is acknowledged again
-unfoldable pub on_cookie_echo : Shown → List ℕ → AckWish → Shown × Flow
-on_cookie_echo a cookie wish =
+unfoldable pub on_cookie_echo : Shown → List ℕ → AckTrigger → Shown × Flow
+on_cookie_echo a cookie trigger =
     if has_issued a.handshake cookie then
-    (if is_beginning a.state then (acknowledged_cookie (connected a), flows.Next wish) else
-    if is_established a.state then (acknowledged_cookie a, flows.Next wish) else (a, flows.Next wish))
-    else (a, flows.Next wish)
+    (if is_beginning a.state then (acknowledged_cookie (connected a), flows.Next trigger) else
+    if is_established a.state then (acknowledged_cookie a, flows.Next trigger) else (a, flows.Next trigger))
+    else (a, flows.Next trigger)
 
 -- a COOKIE ACK counts in CookieEchoed alone
-unfoldable pub on_cookie_ack : Shown → AckWish → Shown × Flow
-on_cookie_ack a wish = if is_cookie_echoed a.state then (connected a, flows.Next wish) else (a, flows.Next wish)
+unfoldable pub on_cookie_ack : Shown → AckTrigger → Shown × Flow
+on_cookie_ack a trigger = if is_cookie_echoed a.state then (connected a, flows.Next trigger) else (a, flows.Next trigger)
 
 -- HEARTBEAT
 
@@ -109,8 +109,8 @@ information_returned None a = a
 information_returned (Some information) a = queued a (chunks.HeartbeatAck (heartbeat_ack_of information))
 
 -- the information with which a HEARTBEAT begins goes back
-unfoldable pub on_heartbeat : Shown → ChunkHeartbeat → AckWish → Shown × Flow
-on_heartbeat a heartbeat wish = (information_returned (information_of heartbeat.params) a, flows.Next wish)
+unfoldable pub on_heartbeat : Shown → ChunkHeartbeat → AckTrigger → Shown × Flow
+on_heartbeat a heartbeat trigger = (information_returned (information_of heartbeat.params) a, flows.Next trigger)
 
 -- the timers of the handshake
 
@@ -131,15 +131,15 @@ t1_cookie_expired a now = record a { timers = with_moment names.T1Cookie None (a
 -- INIT goes out again where it was not answered in time; past its limit of retries the handshake has failed
 abbrev pub after_t1_init : Shown → ℕ → Shown
 after_t1_init a now =
-    if (expiry_of names.T1Init now a.timers).0 then
-    (if (expiry_of names.T1Init now a.timers).1 then (let b = t1_init_expired a now in record b { handshake_fault = Some errors.ErrHandshakeInitAck })
+    if (expiry_of names.T1Init now a.timers).expired then
+    (if (expiry_of names.T1Init now a.timers).failed then (let b = t1_init_expired a now in record b { handshake_fault = Some errors.ErrHandshakeInitAck })
     else sends_init (t1_init_expired a now) now)
     else a
 
 -- COOKIE ECHO goes out again where it was not answered in time; past its limit of retries the handshake has failed
 abbrev pub after_t1_cookie : Shown → ℕ → Shown
 after_t1_cookie a now =
-    if (expiry_of names.T1Cookie now a.timers).0 then
-    (if (expiry_of names.T1Cookie now a.timers).1 then (let b = t1_cookie_expired a now in record b { handshake_fault = Some errors.ErrHandshakeCookieEcho })
+    if (expiry_of names.T1Cookie now a.timers).expired then
+    (if (expiry_of names.T1Cookie now a.timers).failed then (let b = t1_cookie_expired a now in record b { handshake_fault = Some errors.ErrHandshakeCookieEcho })
     else sends_cookie (t1_cookie_expired a now) now)
     else a

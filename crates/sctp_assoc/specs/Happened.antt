@@ -14,15 +14,15 @@ use Rattle.sctp_parts.specs.Timers.{expiry_of}
 use Rattle.sctp_outbound_queue.specs.declared.message.InFlight.{InFlight}
 use Rattle.sctp_outbound_queue.specs.Waiting.{Waiting}
 use Rattle.sctp_outbound_queue.specs.Outbound.{pieces_waiting}
-use Rattle.sctp_queues.specs.Streams.{stream_at, generation_left, bytes_waiting, refusal_in}
-use Rattle.sctp_inbound.specs.declared.receiver.AckWish.{AckWish}
-use Rattle.sctp_inbound.specs.declared.receiver.AckWish.TheVariants as wishes
+use Rattle.sctp_streams.specs.Streams.{stream_at, generation_left, bytes_waiting, refusal_in}
+use Rattle.sctp_inbound.specs.declared.receiver.AckTrigger.{AckTrigger}
+use Rattle.sctp_inbound.specs.declared.receiver.AckTrigger.TheVariants as triggers
 use Rattle.sctp_inbound.specs.Handshake.{comes_back, header_of}
 use Rattle.sctp_inbound.specs.Receiver.{is_next_after, credit_of}
 use Rattle.sctp_outbound.specs.declared.sender.SackOutcome.{SackOutcome}
 use Rattle.sctp_outbound.specs.declared.sender.SackOutcome.TheVariants as outcomes
 use Rattle.sctp_outbound.specs.declared.sender.Sender.{Sender}
-use Rattle.sctp_outbound.specs.Sender.{after_resending, both_windows, can_send_next, points_to, resends_alone, resent_by, sack_outcome, sent_one}
+use Rattle.sctp_outbound.specs.Sender.{after_resending, both_windows, can_send_next, tsns_up_to, resends_alone, resent_by, sack_outcome, sent_one}
 use Rattle.sctp_assoc.specs.declared.inbound.Flow.{Flow}
 use Rattle.sctp_assoc.specs.declared.inbound.Flow.TheVariants as flows
 use Rattle.sctp_assoc.specs.Acts.{Act, Binds, History, Leads, all_data_given, parts}
@@ -66,17 +66,17 @@ acts_of_outcome outcomes.NotInFlight n = []
 acts_of_outcome outcomes.Taken n = Act.Acknowledged n ∷ []
 
 abbrev pub acts_of_sack : Shown → ℕ → List Act
-acts_of_sack a point =
-    if is_established a.state then acts_of_outcome (sack_outcome a.sender point) (points_to a.sender point) else []
+acts_of_sack a cumulative_tsn_ack =
+    if is_established a.state then acts_of_outcome (sack_outcome a.sender cumulative_tsn_ack) (tsns_up_to a.sender cumulative_tsn_ack) else []
 
 -- an INIT that is answered tells the peer's initial TSN
 abbrev pub acts_of_init : Shown → ChunkInit → List Act
-acts_of_init a init = if is_beginning a.state then Act.Met init.initial_tsn ∷ [] else []
+acts_of_init a init = if is_beginning a.state then Act.PeerKnown init.initial_tsn ∷ [] else []
 
 -- an INIT ACK that counts does
 abbrev pub acts_of_init_ack : Shown → CommonHeader → ChunkInit → List Act
 acts_of_init_ack a header init =
-    if is_cookie_wait a.state then (if comes_back a.handshake header then Act.Met init.initial_tsn ∷ [] else []) else []
+    if is_cookie_wait a.state then (if comes_back a.handshake header then Act.PeerKnown init.initial_tsn ∷ [] else []) else []
 
 abbrev pub acts_of_kind : Shown → CommonHeader → Chunk → List Act
 acts_of_kind a header (chunks.Data piece) = acts_of_data a piece
@@ -95,19 +95,19 @@ acts_of_chunk a header chunk = acts_of_checked (checked_chunk chunk) a header ch
 abbrev pub acts_of_close : Shown → List Act
 acts_of_close a = if is_closed_state a.state then [] else Act.Ended ∷ []
 
-abbrev pub acts_after : Shown × Flow → (Shown → AckWish → List Act) → List Act
-acts_after (a, flows.Next wish) more = more a wish
+abbrev pub acts_after : Shown × Flow → (Shown → AckTrigger → List Act) → List Act
+acts_after (a, flows.Next trigger) more = more a trigger
 acts_after (a, flows.Fault fault) more = acts_of_close a
 
 -- the chunks of a packet, in order, up to a fault
-abbrev pub acts_of_chunks : CommonHeader → List Chunk → Shown → AckWish → ℕ → List Act
-acts_of_chunks header [] a wish now = []
-acts_of_chunks header (c ∷ cs) a wish now =
-    acts_of_chunk a header c ++ acts_after (on_chunk a header c wish now) (λ b next. acts_of_chunks header cs b next now)
+abbrev pub acts_of_chunks : CommonHeader → List Chunk → Shown → AckTrigger → ℕ → List Act
+acts_of_chunks header [] a trigger now = []
+acts_of_chunks header (c ∷ cs) a trigger now =
+    acts_of_chunk a header c ++ acts_after (on_chunk a header c trigger now) (λ b next. acts_of_chunks header cs b next now)
 
 abbrev pub acts_of_packet_of : Shown → Option Packet → ℕ → List Act
 acts_of_packet_of a None now = []
-acts_of_packet_of a (Some packet) now = acts_of_chunks packet.common_header packet.chunks a wishes.None now
+acts_of_packet_of a (Some packet) now = acts_of_chunks packet.common_header packet.chunks a triggers.None now
 
 -- a packet that comes, if there is one
 abbrev pub acts_of_packet : Shown → Option Packet → ℕ → List Act
@@ -115,11 +115,11 @@ acts_of_packet a packet now = if a.lost then [] else acts_of_packet_of a packet 
 
 -- the marked pieces that fit together into so many bytes go out again
 abbrev pub acts_of_resending : ℕ → ℕ → List InFlight → List Act
-acts_of_resending place room [] = []
-acts_of_resending place room (p ∷ ps) =
-    if not p.retransmit then acts_of_resending (place + 1) room ps else
+acts_of_resending index room [] = []
+acts_of_resending index room (p ∷ ps) =
+    if not p.retransmit then acts_of_resending (index + 1) room ps else
     if nat_lt room (length p.user_data) then [] else
-    Act.SentAgain place ∷ acts_of_resending (place + 1) (room - length p.user_data) ps
+    Act.SentAgain index ∷ acts_of_resending (index + 1) (room - length p.user_data) ps
 
 abbrev pub first_again : List InFlight → List Act
 first_again [] = []
@@ -185,8 +185,8 @@ pub record PollsOn (xs : List Act) (a b : Shown) (packets : List (List ℕ)) : T
 -- the retransmission timer, where it expired by a moment and is within its limit
 abbrev pub acts_of_t3 : Shown → ℕ → List Act
 acts_of_t3 a now =
-    if (expiry_of names.T3RTX now a.timers).0 then
-    (if (expiry_of names.T3RTX now a.timers).1 then [] else Act.Marked ∷ [])
+    if (expiry_of names.T3RTX now a.timers).expired then
+    (if (expiry_of names.T3RTX now a.timers).failed then [] else Act.Marked ∷ [])
     else []
 
 abbrev pub acts_of_timeouts : Shown → ℕ → List Act

@@ -6,9 +6,9 @@ use Rattle.sctp_wire_types.specs.declared.chunk.ChunkPayloadData.{ChunkPayloadDa
 use Rattle.sctp_wire_types.specs.declared.error.Error.{Error}
 use Rattle.sctp_wire_types.specs.declared.packet.CommonHeader.{CommonHeader}
 use Rattle.sctp_receive_queues.specs.Reassembly.{Reassembly, empty_reassembly, refusal}
-use Rattle.sctp_queues.specs.Stream.{Stream}
-use Rattle.sctp_queues.specs.Streams.{bytes_waiting, generation_left, stream_at}
-use Rattle.sctp_inbound.specs.declared.receiver.AckWish.{AckWish}
+use Rattle.sctp_streams.specs.Stream.{StreamView}
+use Rattle.sctp_streams.specs.Streams.{bytes_waiting, generation_left, stream_at}
+use Rattle.sctp_inbound.specs.declared.receiver.AckTrigger.{AckTrigger}
 use Rattle.sctp_model.specs.Serial.{tsn}
 use Rattle.sctp_assoc.specs.declared.inbound.Flow.TheVariants as flows
 use Rattle.sctp_assoc.specs.Acts.{Act, Binds, History}
@@ -28,7 +28,7 @@ HasStreamFor a id = (is_some (stream_at a.streams id) ≡ true) ⊎ (generation_
 -- DATA may be taken in: it stands on the point, it is an ordered message in one piece, its stream is live or can be
 -- made, and fewer bytes wait to be read than the receive buffer has.
 pub record MayTakeIn (a : Shown) (h : History) (piece : ChunkPayloadData) : Type 0 where
-  pub next : piece.tsn ≡ tsn h.peer h.point
+  pub next : piece.tsn ≡ tsn h.peer h.reach
   pub ordered : piece.unordered ≡ false
   pub begins : piece.beginning_fragment ≡ true
   pub ends : piece.ending_fragment ≡ true
@@ -36,7 +36,7 @@ pub record MayTakeIn (a : Shown) (h : History) (piece : ChunkPayloadData) : Type
   pub room : bytes_waiting a.streams < a.receiver.buffer_size
 
 -- what a stream holds; nothing where it is yet to be made
-abbrev pub held_by : Option Stream → Reassembly
+abbrev pub held_by : Option StreamView → Reassembly
 held_by None = empty_reassembly
 held_by (Some stream) = stream.reassembly
 
@@ -51,8 +51,8 @@ IsTakenIn a piece acts = OpensAndTakes a piece acts ⊎ TakesOnly a piece acts
 -- DATA that its stream does not refuse is taken in; DATA that it refuses is a fault.
 pub record IsTakenUnlessRefused (a : Shown) (header : CommonHeader) (piece : ChunkPayloadData) : Type 0 where
   pub taken : refusal_of a piece ≡ None → IsTakenIn a piece (acts_of_chunk a header (chunks.Data piece))
-  pub refused : (wish : AckWish) (now : ℕ) (error : Error) → refusal_of a piece ≡ Some error
-      → (on_chunk a header (chunks.Data piece) wish now).1 ≡ flows.Fault error
+  pub refused : (trigger : AckTrigger) (now : ℕ) (error : Error) → refusal_of a piece ≡ Some error
+      → (on_chunk a header (chunks.Data piece) trigger now).1 ≡ flows.Fault error
 
 -- What may be taken in is taken in, wherever the association stands: no side waits for ever on the next message.
 abbrev pub DataIsTakenIn : Type 0
@@ -67,6 +67,6 @@ pub record WasToBeTakenIn (a : Shown) (h : History) (chunk : Chunk) (piece : Chu
 
 -- Nothing else is taken in, of DATA or of any other chunk.
 abbrev pub NothingElseIsTakenIn : Type 0
-NothingElseIsTakenIn = (a : Shown) (h : History) (header : CommonHeader) (chunk : Chunk) (place : ℕ)
+NothingElseIsTakenIn = (a : Shown) (h : History) (header : CommonHeader) (chunk : Chunk) (index : ℕ)
     → (piece : ChunkPayloadData) → Binds a h
-    → slice_get (acts_of_chunk a header chunk) place ≡ Some (Act.Took piece) → WasToBeTakenIn a h chunk piece
+    → slice_get (acts_of_chunk a header chunk) index ≡ Some (Act.Took piece) → WasToBeTakenIn a h chunk piece

@@ -14,13 +14,13 @@ use Rattle.sctp_parts.specs.declared.state.AssociationState.TheVariants as state
 use Rattle.sctp_parts.specs.Timers.{stopped_timers}
 use Rattle.sctp_parts.specs.Estimate.{initial_estimate}
 use Rattle.sctp_parts.specs.Stats.{no_counts}
-use Rattle.sctp_queues.specs.declared.event.Event.TheVariants.{Connected}
-use Rattle.sctp_queues.specs.Streams.{no_stream}
+use Rattle.sctp_streams.specs.declared.event.Event.TheVariants.{Connected}
+use Rattle.sctp_streams.specs.Streams.{no_stream}
 use Rattle.sctp_inbound.specs.declared.handshake.Handshake.{Handshake}
 use Rattle.sctp_inbound.specs.Handshake.{by_tokens_of, fresh_of, offer_of, side_of}
 use Rattle.sctp_inbound.specs.Receiver.{fresh_receiver}
 use Rattle.sctp_outbound.specs.Sender.{fresh_sender}
-use Rattle.sctp_assoc.specs.declared.shared.ServerConfig.{ServerConfig}
+use Rattle.sctp_wire_types.specs.declared.config.ServerConfig.{ServerConfig}
 use Rattle.sctp_assoc.specs.Handshake.{sends_init}
 use Rattle.sctp_assoc.specs.Shown.{Shown}
 
@@ -33,7 +33,7 @@ join_refusal size own peer =
 -- an association of which nothing was sent and to which nothing came, in this state and with this handshake; the peer's DATA is to
 -- begin behind the point, and its window is this
 abbrev pub fresh_association : Settings → ℕ → SocketAddr → Option IpAddr → Side → AssociationState → Handshake → ℕ → ℕ → Shown
-fresh_association config size remote_addr local_ip side state handshake point window = record {
+fresh_association config size remote_addr local_ip side state handshake peer_last_tsn window = record {
   side = side;
   remote_addr = remote_addr;
   local_ip = local_ip;
@@ -42,7 +42,7 @@ fresh_association config size remote_addr local_ip side state handshake point wi
   failed = false;
   max_send_message_size = config.max_send_message_size;
   handshake = handshake;
-  receiver = fresh_receiver config.max_receive_buffer_size config.max_receive_message_size point;
+  receiver = fresh_receiver config.max_receive_buffer_size config.max_receive_message_size peer_last_tsn;
   sender = fresh_sender size handshake.my_initial_tsn window;
   streams = no_stream;
   events = [];

@@ -9,14 +9,14 @@ use Rattle.sctp_wire_types.specs.declared.packet.CommonHeader.{CommonHeader}
 use Rattle.sctp_wire.specs.declared.packet.Packet.{Packet}
 use Rattle.sctp_wire.specs.Packets.{spelling}
 use Rattle.sctp_parts.specs.declared.state.AssociationState.TheVariants as states
-use Rattle.sctp_queues.specs.declared.event.Event.{Event}
-use Rattle.sctp_queues.specs.declared.event.Event.TheVariants as events
-use Rattle.sctp_queues.specs.Streams.{bytes_waiting, stream_at}
+use Rattle.sctp_streams.specs.declared.event.Event.{Event}
+use Rattle.sctp_streams.specs.declared.event.Event.TheVariants as events
+use Rattle.sctp_streams.specs.Streams.{bytes_waiting, stream_at}
 use Rattle.sctp_outbound_queue.specs.Waiting.{Waiting}
 use Rattle.sctp_outbound_queue.specs.Message.{is_of}
 use Rattle.sctp_outbound_queue.specs.Outbound.{Outbound, next_tsn_of}
-use Rattle.sctp_inbound.specs.declared.receiver.AckWish.{AckWish}
-use Rattle.sctp_inbound.specs.declared.receiver.AckWish.TheVariants as wishes
+use Rattle.sctp_inbound.specs.declared.receiver.AckTrigger.{AckTrigger}
+use Rattle.sctp_inbound.specs.declared.receiver.AckTrigger.TheVariants as triggers
 use Rattle.sctp_inbound.specs.Handshake.{header_of}
 use Rattle.sctp_inbound.specs.Receiver.{sack_of}
 use Rattle.sctp_outbound.specs.Sender.{next_chunk_of}
@@ -97,18 +97,18 @@ PollsDoNotClose = (a : Shown) (now : ℕ) → StaysOpen a (polled a now).0
 abbrev pub TimersDoNotClose : Type 0
 TimersDoNotClose = (a : Shown) (now : ℕ) → StaysOpen a (after_timeouts a now)
 
-abbrev pub faults_or : Shown × Flow → (Shown → AckWish → Bool) → Bool
-faults_or (a, flows.Next wish) more = more a wish
+abbrev pub faults_or : Shown × Flow → (Shown → AckTrigger → Bool) → Bool
+faults_or (a, flows.Next trigger) more = more a trigger
 faults_or (a, flows.Fault fault) more = not (is_closed_state a.state)
 
 -- one of these chunks, taken in order, is a fault, and the association is open then
-abbrev pub is_faulted : CommonHeader → List Chunk → Shown → AckWish → ℕ → Bool
-is_faulted header [] a wish now = false
-is_faulted header (c ∷ cs) a wish now = faults_or (on_chunk a header c wish now) (λ b next. is_faulted header cs b next now)
+abbrev pub is_faulted : CommonHeader → List Chunk → Shown → AckTrigger → ℕ → Bool
+is_faulted header [] a trigger now = false
+is_faulted header (c ∷ cs) a trigger now = faults_or (on_chunk a header c trigger now) (λ b next. is_faulted header cs b next now)
 
 abbrev pub is_faulted_packet : Shown → Option Packet → ℕ → Bool
 is_faulted_packet a None now = false
-is_faulted_packet a (Some packet) now = is_faulted packet.common_header packet.chunks a wishes.None now
+is_faulted_packet a (Some packet) now = is_faulted packet.common_header packet.chunks a triggers.None now
 
 -- what came closes an open association: one of its chunks is a fault
 abbrev pub closes : Shown → Option Packet → ℕ → Bool
@@ -150,11 +150,11 @@ pub record IsFirstMissing (o : ℕ) (h : History) : Type 0 where
 -- neither claims what did not come nor keeps back what did.
 abbrev pub SacksNameThePoint : Type 0
 SacksNameThePoint = (a : Shown) (h : History) → Binds a h
-    → IsFirstMissing h.point h × ((sack_of a.receiver (bytes_waiting a.streams)).cumulative_tsn_ack ≡ tsn_before (tsn h.peer h.point))
+    → IsFirstMissing h.reach h × ((sack_of a.receiver (bytes_waiting a.streams)).cumulative_tsn_ack ≡ tsn_before (tsn h.peer h.reach))
 
 -- It says all of what came: the point, and past it exactly the offsets that came.
 abbrev pub SacksSayWhatCame : Type 0
-SacksSayWhatCame = (a : Shown) (h : History) → Binds a h → SaysWhatCame h.peer h.point h.taken (sack_of a.receiver (bytes_waiting a.streams))
+SacksSayWhatCame = (a : Shown) (h : History) → Binds a h → SaysWhatCame h.peer h.reach h.taken (sack_of a.receiver (bytes_waiting a.streams))
 
 -- The packet of an acknowledgement is that of a SACK which offers the room that is left in the receive buffer (RFC 4960 section 6.2).
 abbrev pub SacksOfferTheBuffer : Type 0

@@ -90,7 +90,7 @@ MayHear s = (s.completed ≡ true) ⊎ ((s.side ≡ sides.Client) × (s.knows �
 -- the peer's initial TSN became known where no DATA may have come yet, or what is known of it stays
 abbrev pub IsLearning : ℕ → List Act → Shown → Shown → Type 0
 IsLearning peer acts a b =
-    ((acts ≡ []) × (b.handshake.peer_initial_tsn ≡ a.handshake.peer_initial_tsn)) ⊎ ((acts ≡ Act.Met peer ∷ []) × (MayHear (stage_of a) → ⊥))
+    ((acts ≡ []) × (b.handshake.peer_initial_tsn ≡ a.handshake.peer_initial_tsn)) ⊎ ((acts ≡ Act.PeerKnown peer ∷ []) × (MayHear (stage_of a) → ⊥))
 
 -- A chunk of the handshake of a peer in the stage t led the association a by these acts to b: what waits stays truthful, and its stage
 -- is no earlier one. Where that establishes it, its DATA may come to the peer.

@@ -8,9 +8,9 @@ use Rattle.sctp_wire_types.specs.declared.chunk.ChunkPayloadData.{ChunkPayloadDa
 use Rattle.sctp_wire_types.specs.declared.packet.CommonHeader.{CommonHeader}
 use Rattle.sctp_wire_types.specs.Checks.{checked_chunk}
 use Rattle.sctp_wire.specs.declared.packet.Packet.{Packet}
-use Rattle.sctp_queues.specs.Streams.{bytes_waiting, generation_left, stream_at}
-use Rattle.sctp_inbound.specs.declared.receiver.AckWish.{AckWish}
-use Rattle.sctp_inbound.specs.declared.receiver.AckWish.TheVariants as wishes
+use Rattle.sctp_streams.specs.Streams.{bytes_waiting, generation_left, stream_at}
+use Rattle.sctp_inbound.specs.declared.receiver.AckTrigger.{AckTrigger}
+use Rattle.sctp_inbound.specs.declared.receiver.AckTrigger.TheVariants as triggers
 use Rattle.sctp_inbound.specs.Greeting.{first_cookie, information_of}
 use Rattle.sctp_inbound.specs.Handshake.{comes_back, has_issued}
 use Rattle.sctp_inbound.specs.Receiver.{credit_of, is_next_after}
@@ -70,19 +70,19 @@ abbrev pub chunk_takes_memory : Shown → CommonHeader → Chunk → Bool
 chunk_takes_memory a header chunk = is_ok (checked_chunk chunk) && takes_memory a header chunk
 
 -- a fault that closes an open association takes memory for the events that tell of it
-abbrev pub takes_memory_after : Shown × Flow → (Shown → AckWish → Bool) → Bool
-takes_memory_after (a, flows.Next wish) more = more a wish
+abbrev pub takes_memory_after : Shown × Flow → (Shown → AckTrigger → Bool) → Bool
+takes_memory_after (a, flows.Next trigger) more = more a trigger
 takes_memory_after (a, flows.Fault fault) more = not (is_closed_state a.state)
 
 -- one of these chunks, taken in order, takes memory, or is a fault that closes an open association
-abbrev pub chunks_take_memory : CommonHeader → List Chunk → Shown → AckWish → ℕ → Bool
-chunks_take_memory header [] a wish now = false
-chunks_take_memory header (c ∷ cs) a wish now =
-    chunk_takes_memory a header c || takes_memory_after (on_chunk a header c wish now) (λ b next. chunks_take_memory header cs b next now)
+abbrev pub chunks_take_memory : CommonHeader → List Chunk → Shown → AckTrigger → ℕ → Bool
+chunks_take_memory header [] a trigger now = false
+chunks_take_memory header (c ∷ cs) a trigger now =
+    chunk_takes_memory a header c || takes_memory_after (on_chunk a header c trigger now) (λ b next. chunks_take_memory header cs b next now)
 
 abbrev pub packet_takes_memory_of : Shown → Option Packet → ℕ → Bool
 packet_takes_memory_of a None now = false
-packet_takes_memory_of a (Some packet) now = chunks_take_memory packet.common_header packet.chunks a wishes.None now
+packet_takes_memory_of a (Some packet) now = chunks_take_memory packet.common_header packet.chunks a triggers.None now
 
 -- what came, if it is a packet, takes memory: the association was not lost, and a chunk that is reached takes some
 abbrev pub packet_takes_memory : Shown → Option Packet → ℕ → Bool

@@ -9,7 +9,7 @@ use Rattle.sctp_parts.specs.declared.state.AckState.TheVariants as acks
 use Rattle.sctp_parts.specs.declared.timer.Timer.TheVariants as names
 use Rattle.sctp_parts.specs.declared.timer.Timer.{Timer}
 use Rattle.sctp_parts.specs.Timers.{Timers, moment_of}
-use Rattle.sctp_queues.specs.declared.event.Event.{Event}
+use Rattle.sctp_streams.specs.declared.event.Event.{Event}
 use Rattle.sctp_assoc.specs.Calls.{event_polled, is_cookie_echoed, is_cookie_wait, open_refusal, opened, read_from_stream, read_refusal, write_refusal, written}
 use Rattle.sctp_assoc.specs.Chunks.{after_packet}
 use Rattle.sctp_assoc.specs.Laws.{losses}

@@ -11,11 +11,11 @@ use Rattle.sctp_wire_types.specs.declared.packet.CommonHeader.{CommonHeader}
 use Rattle.sctp_wire.specs.declared.packet.Packet.{Packet}
 use Rattle.sctp_wire.specs.Packets.{packet_at}
 use Rattle.sctp_receive_queues.specs.Reassembly.{empty_reassembly}
-use Rattle.sctp_queues.specs.declared.event.AssociationError.{AssociationError}
-use Rattle.sctp_queues.specs.declared.event.Event.{Event}
-use Rattle.sctp_queues.specs.Stream.{Stream}
-use Rattle.sctp_queues.specs.Streams.{made, stream_at}
-use Rattle.sctp_inbound.specs.declared.receiver.AckWish.{AckWish}
+use Rattle.sctp_streams.specs.declared.event.AssociationError.{AssociationError}
+use Rattle.sctp_streams.specs.declared.event.Event.{Event}
+use Rattle.sctp_streams.specs.Stream.{StreamView}
+use Rattle.sctp_streams.specs.Streams.{made, stream_at}
+use Rattle.sctp_inbound.specs.declared.receiver.AckTrigger.{AckTrigger}
 use Rattle.sctp_model.specs.Serial.{tsn}
 use Rattle.sctp_assoc.specs.Acts.{Act, Binds, History, LeadsOn, all_data_given, parts, tsn_before}
 use Rattle.sctp_assoc.specs.Calls.{closed_by, event_polled, is_closed_state, is_established, open_refusal, opened, read_from_stream, stream_refusal, write_refusal, written}
@@ -79,7 +79,7 @@ PollsKeepTheStatus = (a : Shown) (now : ℕ) → IsSameStatus a (polled a now).0
 -- A stream is live, of an association that works.
 pub record IsLive (a : Shown) (id : ℕ) : Type 0 where
   pub working : a.failed ≡ false
-  pub stream : Stream
+  pub stream : StreamView
   pub there : stream_at a.streams id ≡ Some stream
 
 -- A stream that is found is live.
@@ -109,7 +109,7 @@ AcceptedWritesFit = (a : Shown) (id size : ℕ) → write_refusal a id size ≡ 
 
 -- no live stream holds anything that came
 abbrev pub HoldsNothing : Shown → Type 0
-HoldsNothing a = (id : ℕ) (t : Stream) → stream_at a.streams id ≡ Some t → t.reassembly ≡ empty_reassembly
+HoldsNothing a = (id : ℕ) (t : StreamView) → stream_at a.streams id ≡ Some t → t.reassembly ≡ empty_reassembly
 
 -- A stream that is opened holds nothing, and the others are as they were.
 abbrev pub OpenedStreamsHoldNothing : Type 0
@@ -142,7 +142,7 @@ pub record TakesChunk (header : CommonHeader) (chunk : Chunk) (a b : Shown) : Ty
 
 -- Each chunk leads on by its acts.
 abbrev pub ChunksLeadOn : Type 0
-ChunksLeadOn = (header : CommonHeader) (chunk : Chunk) (a : Shown) (wish : AckWish) (now : ℕ) → TakesChunk header chunk a (on_chunk a header chunk wish now).0
+ChunksLeadOn = (header : CommonHeader) (chunk : Chunk) (a : Shown) (trigger : AckTrigger) (now : ℕ) → TakesChunk header chunk a (on_chunk a header chunk trigger now).0
 
 -- A packet without a fault came to its end: the directions see nothing of it.
 pub record EndsPacket (a b : Shown) : Type 0 where
@@ -151,7 +151,7 @@ pub record EndsPacket (a b : Shown) : Type 0 where
 
 -- The acknowledgement that a packet asks for at its end is no act (RFC 4960 section 6.2).
 abbrev pub PacketsEnd : Type 0
-PacketsEnd = (a : Shown) (wish : AckWish) (now : ℕ) → EndsPacket a (ended a wish now)
+PacketsEnd = (a : Shown) (trigger : AckTrigger) (now : ℕ) → EndsPacket a (ended a trigger now)
 
 -- It is closed and lost, no stream is live, and nothing waits to go out.
 pub record IsEnded (b : Shown) : Type 0 where
@@ -199,14 +199,14 @@ pub record OpensOnly (a : Shown) (piece : ChunkPayloadData) (acts : List Act) : 
 pub record OpensAndTakes (a : Shown) (piece : ChunkPayloadData) (acts : List Act) : Type 0 where
   pub first : ℕ
   pub kind : PayloadProtocolIdentifier
-  pub stream : Stream
+  pub stream : StreamView
   pub none : IsNotLive a piece.stream_identifier
   pub live : stream_at (made a.streams piece.stream_identifier first kind) piece.stream_identifier ≡ Some stream
   pub are : acts ≡ Act.Opened piece.stream_identifier first kind ∷ Act.Took piece ∷ []
 
 -- It was taken in by a live stream.
 pub record TakesOnly (a : Shown) (piece : ChunkPayloadData) (acts : List Act) : Type 0 where
-  pub stream : Stream
+  pub stream : StreamView
   pub live : stream_at a.streams piece.stream_identifier ≡ Some stream
   pub are : acts ≡ Act.Took piece ∷ []
 
@@ -219,11 +219,11 @@ abbrev pub DataIsTaken : Type 0
 DataIsTaken = (a : Shown) (header : CommonHeader) (piece : ChunkPayloadData) → IsTaking a piece (acts_of_chunk a header (chunks.Data piece))
 
 -- The first pieces in flight are acknowledged, so many that the point is the TSN before that of the next one.
-pub record Acknowledges (a : Shown) (h : History) (point : ℕ) (acts : List Act) : Type 0 where
+pub record Acknowledges (a : Shown) (h : History) (cumulative_tsn_ack : ℕ) (acts : List Act) : Type 0 where
   pub count : ℕ
   pub are : acts ≡ Act.Acknowledged count ∷ []
   pub within : count ≤ length a.sender.queue.in_flight
-  pub at : point % 2 ^ 32 ≡ tsn_before (tsn h.own (h.base + count))
+  pub at : cumulative_tsn_ack % 2 ^ 32 ≡ tsn_before (tsn h.own (h.base + count))
 
 -- A SACK acknowledges what its point says, or nothing (RFC 4960 section 6.2.1).
 abbrev pub SacksAcknowledge : Type 0
@@ -232,7 +232,7 @@ SacksAcknowledge = (a : Shown) (h : History) (header : CommonHeader) (sack : Chu
 
 -- The peer's initial TSN became known, or nothing did.
 abbrev pub IsMeeting : ChunkInit → List Act → Type 0
-IsMeeting init acts = (acts ≡ []) ⊎ (acts ≡ Act.Met init.initial_tsn ∷ [])
+IsMeeting init acts = (acts ≡ []) ⊎ (acts ≡ Act.PeerKnown init.initial_tsn ∷ [])
 
 -- INIT and INIT ACK tell the peer's initial TSN, or do nothing to the directions (RFC 4960 section 5.1).
 abbrev pub GreetingsMeet : Type 0
@@ -256,7 +256,7 @@ OtherChunksDoNothing = (a : Shown) (header : CommonHeader) (chunk : Chunk) → I
 -- acts that give out DATA
 abbrev pub GivesData : Act → Type 0
 GivesData (Act.Sent now) = ⊤
-GivesData (Act.SentAgain place) = ⊤
+GivesData (Act.SentAgain index) = ⊤
 GivesData act = ⊥
 
 -- an acknowledgement is due
@@ -289,7 +289,7 @@ IsWaitingToGo a chunk = (k : ℕ) × (c : ControlPacket) × (slice_get a.control
 -- a chunk that these acts of a poll give out: their DATA, or where a report is due a SACK that says what came
 abbrev pub IsExchanged : List Act → Shown → History → Chunk → Type 0
 IsExchanged acts a h (chunks.Data piece) = (k : ℕ) × (slice_get (all_data_given acts (parts a h)) k ≡ Some piece)
-IsExchanged acts a h (chunks.SelectiveAck sack) = (reports a ≡ true) × SaysWhatCame h.peer h.point h.taken sack
+IsExchanged acts a h (chunks.SelectiveAck sack) = (reports a ≡ true) × SaysWhatCame h.peer h.reach h.taken sack
 IsExchanged acts a h chunk = ⊥
 
 abbrev pub IsGivenBy : List Act → Shown → History → Chunk → Type 0

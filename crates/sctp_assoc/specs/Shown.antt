@@ -9,8 +9,8 @@ use Rattle.sctp_parts.specs.declared.timer.Timer.TheVariants as names
 use Rattle.sctp_parts.specs.Timers.{Timers, with_stopped}
 use Rattle.sctp_parts.specs.Estimate.{Estimate}
 use Rattle.sctp_parts.specs.Stats.{Counts}
-use Rattle.sctp_queues.specs.declared.event.Event.{Event}
-use Rattle.sctp_queues.specs.Streams.{StreamMap}
+use Rattle.sctp_streams.specs.declared.event.Event.{Event}
+use Rattle.sctp_streams.specs.Streams.{StreamMap}
 use Rattle.sctp_inbound.specs.declared.handshake.Handshake.{Handshake}
 use Rattle.sctp_inbound.specs.declared.receiver.Receiver.{Receiver}
 use Rattle.sctp_outbound.specs.declared.sender.Sender.{Sender}

@@ -7,9 +7,9 @@ use Rattle.sctp_wire_types.specs.Config.{Settings}
 use Rattle.sctp_parts.specs.declared.timer.Timer.{Timer}
 use Rattle.sctp_parts.specs.declared.timer.Timer.TheVariants as names
 use Rattle.sctp_parts.specs.Timers.{Timers, least_moment, limit_of, passes, timer_at}
-use Rattle.sctp_queues.specs.declared.event.AssociationError.{AssociationError}
-use Rattle.sctp_queues.specs.declared.event.Event.{Event}
-use Rattle.sctp_assoc.specs.declared.shared.ServerConfig.{ServerConfig}
+use Rattle.sctp_streams.specs.declared.event.AssociationError.{AssociationError}
+use Rattle.sctp_streams.specs.declared.event.Event.{Event}
+use Rattle.sctp_wire_types.specs.declared.config.ServerConfig.{ServerConfig}
 use Rattle.sctp_assoc.specs.Calls.{closed_by, is_closed_state, is_cookie_echoed, is_cookie_wait, is_established}
 use Rattle.sctp_assoc.specs.Join.{created, joined}
 use Rattle.sctp_assoc.specs.Laws.{losses}

@@ -17,18 +17,18 @@ ghost use Rattle.sctp_assoc.specs.Shown.{HasFailed, answers_of};
 ghost use Rattle.sctp_assoc.specs.Timeouts.{after_timeouts, handshake_goes_out_again};
 
 use crate::control::ControlPacket;
-use crate::{AssociationEvent, ServerConfig, Stream};
+use crate::{AssociationEvent, Stream};
 use bytes::Bytes;
 use sctp_inbound::{Handshake, Offer, Receiver};
 use sctp_outbound::Sender;
+use sctp_parts::estimate::RtoManager;
 use sctp_parts::shared::AssociationId;
 use sctp_parts::state::AssociationState;
 use sctp_parts::stats::AssociationStats;
-use sctp_parts::timer::{RtoManager, Timer, TimerTable};
-use sctp_queues::{Event, Events, Streams};
-use sctp_wire::{Payload, Transmit};
-use sctp_wire_types::{
-    ChunkInit, Error, Instant, PayloadProtocolIdentifier, Side, StreamId, TransportConfig,
+use sctp_parts::timer::{Timer, TimerTable};
+use sctp_wire_queues::{
+    ChunkInit, Error, Event, Events, Instant, Payload, PayloadProtocolIdentifier, ServerConfig,
+    Side, StreamId, Streams, Transmit, TransportConfig,
 };
 use std::alloc::{AllocError, Global};
 use std::marker::Model;
@@ -198,11 +198,11 @@ impl Association {
         side: Side,
         state: AssociationState,
         handshake: Handshake,
-        point: u32,
+        peer_last_tsn: u32,
         window: u32,
     ) -> Association
         requires { max_payload_size ≤ 65519 }
-        ensures { result ≡ fresh_association config.now max_payload_size remote_addr local_ip side state handshake point window }
+        ensures { result ≡ fresh_association config.now max_payload_size remote_addr local_ip side state handshake peer_last_tsn window }
     {
         let initial_tsn = handshake.my_initial_tsn;
         Association {
@@ -218,7 +218,7 @@ impl Association {
             receiver: Receiver::new(
                 config.max_receive_buffer_size(),
                 config.max_receive_message_size(),
-                point,
+                peer_last_tsn,
             ),
             sender: Sender::new(alloc, max_payload_size, initial_tsn, window),
             streams: Streams::new(alloc),
@@ -380,10 +380,10 @@ impl Association {
     fn on_t3(&mut self, now: Instant)
         ensures { self.new ≡ after_t3 self.old now }
     {
-        let (expired, failure, _) = self.timers.is_expired(Timer::T3RTX, now);
-        if expired {
+        let expiry = self.timers.is_expired(Timer::T3RTX, now);
+        if expiry.expired {
             self.timers.set(Timer::T3RTX, None);
-            if !failure {
+            if !expiry.failed {
                 self.stats.inc_t3timeouts();
                 self.sender.on_t3_timeout();
                 let rto = self.rto.get_rto();
@@ -395,8 +395,8 @@ impl Association {
     fn on_ack(&mut self, now: Instant)
         ensures { self.new ≡ after_ack_delay self.old now }
     {
-        let (expired, _, _) = self.timers.is_expired(Timer::Ack, now);
-        if expired {
+        let expiry = self.timers.is_expired(Timer::Ack, now);
+        if expiry.expired {
             self.timers.set(Timer::Ack, None);
             self.stats.inc_ack_timeouts();
             self.receiver.on_ack_timeout();

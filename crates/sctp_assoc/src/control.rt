@@ -3,7 +3,7 @@ ghost use Rattle.std.specs.Prelude.{◌≡◌, OnOk};
 ghost use Rattle.sctp_assoc.specs.Control.{queued};
 
 use crate::Association;
-use sctp_wire_types::{Chunk, CommonHeader};
+use sctp_wire_queues::{Chunk, CommonHeader};
 use std::alloc::AllocError;
 
 /// A packet of one chunk that waits to go out, under the header of the moment at which it was queued.

@@ -1,14 +1,14 @@
 // What an association does to itself: it closes, or it fails for want of memory.
 ghost use Rattle.std.specs.Prelude.{◌≡◌, ◌++◌, false, map, OnErr, OnOk};
-ghost use Rattle.sctp_queues.specs.Streams.{without_streams, last_stats};
-ghost use Rattle.sctp_queues.specs.declared.event.Event.TheVariants.{DataChannelStatsFinal};
+ghost use Rattle.sctp_streams.specs.Streams.{without_streams, last_stats};
+ghost use Rattle.sctp_streams.specs.declared.event.Event.TheVariants.{DataChannelStatsFinal};
 ghost use Rattle.sctp_assoc.specs.Calls.{closed_by, is_closed_state};
 ghost use Rattle.sctp_assoc.specs.Shown.{HasFailed, all_stopped, answers_of};
 
 use crate::Association;
 use sctp_parts::state::AssociationState;
 use sctp_parts::timer::{Timer, TimerTable};
-use sctp_queues::{AssociationError, Event, Events, Streams};
+use sctp_wire_queues::{AssociationError, Event, Events, Streams};
 use std::alloc::AllocError;
 
 /// What the questions about the state answered before a call.

@@ -10,8 +10,7 @@ use crate::control::ControlPacket;
 use bytes::Bytes;
 use sctp_parts::state::{AckState, AssociationState};
 use sctp_parts::timer::Timer;
-use sctp_wire::Packet;
-use sctp_wire_types::{Chunk, ChunkPayloadData, CommonHeader, Error, Instant, List};
+use sctp_wire_queues::{Chunk, ChunkPayloadData, CommonHeader, Error, Instant, List, Packet};
 use std::alloc::{AllocError, Global};
 use std::mem;
 

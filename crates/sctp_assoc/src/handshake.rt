@@ -1,17 +1,16 @@
 // The handshake, step by state and chunk, and the chunks beside it that are answered at once.
 ghost use Rattle.std.specs.Prelude.{◌≡◌, OnErr, OnOk, IfOk, is_some, true};
-ghost use Rattle.sctp_assoc.specs.Handshake.{after_t1_cookie, after_t1_init, connected, echoed, meets, met_back, on_cookie_ack, on_cookie_echo, on_heartbeat, on_init, on_init_ack, sends_cookie, sends_init, with_echo};
+ghost use Rattle.sctp_assoc.specs.Handshake.{after_t1_cookie, after_t1_init, connected, echoed, learns_peer, learned_back, on_cookie_ack, on_cookie_echo, on_heartbeat, on_init, on_init_ack, sends_cookie, sends_init, with_echo};
 ghost use Rattle.sctp_assoc.specs.Memory.{cookie_ack_takes_memory, cookie_echo_takes_memory, heartbeat_takes_memory, init_ack_takes_memory, init_takes_memory};
 ghost use Rattle.sctp_assoc.specs.Timeouts.{echoes_again, offers_again};
 
 use crate::Association;
 use crate::inbound::Flow;
 use bytes::Bytes;
-use sctp_inbound::{AckWish, heartbeat_ack, heartbeat_information, state_cookie};
+use sctp_inbound::{AckTrigger, heartbeat_ack, heartbeat_information, state_cookie};
 use sctp_parts::state::AssociationState;
 use sctp_parts::timer::Timer;
-use sctp_queues::Event;
-use sctp_wire_types::{Chunk, ChunkHeartbeat, ChunkInit, CommonHeader, Error, Instant};
+use sctp_wire_queues::{Chunk, ChunkHeartbeat, ChunkInit, CommonHeader, Error, Event, Instant};
 use std::alloc::AllocError;
 
 impl Association {
@@ -21,9 +20,9 @@ impl Association {
         &mut self,
         header: CommonHeader,
         init: ChunkInit,
-        wish: AckWish,
+        trigger: AckTrigger,
     ) -> Result<Flow, AllocError>
-        ensures exact { IfOk result (λ flow. on_init self.old header init wish ≡ (self.new, flow)) }
+        ensures exact { IfOk result (λ flow. on_init self.old header init trigger ≡ (self.new, flow)) }
         ensures grows { OnErr result (init_takes_memory self.old ≡ true) }
     {
         match self.state {
@@ -31,23 +30,23 @@ impl Association {
             | AssociationState::CookieWait
             | AssociationState::CookieEchoed => {
                 self.handshake.on_init(&header, &init);
-                self.meet(init.initial_tsn, init.advertised_receiver_window_credit);
+                self.learn_peer(init.initial_tsn, init.advertised_receiver_window_credit);
                 let answer = self
                     .handshake
                     .init_ack(self.alloc, self.receiver.buffer_size)?;
                 self.queue_control(Chunk::InitAck(answer))?;
-                Ok(Flow::Next(wish))
+                Ok(Flow::Next(trigger))
             }
             _ => Ok(Flow::Fault(Error::ErrHandleInitState)),
         }
     }
 
     // The peer's initial TSN and its receive window are known.
-    fn meet(&mut self, initial_tsn: u32, window: u32)
-        ensures { self.new ≡ meets self.old initial_tsn window }
+    fn learn_peer(&mut self, initial_tsn: u32, window: u32)
+        ensures { self.new ≡ learns_peer self.old initial_tsn window }
     {
-        self.receiver.meet(initial_tsn);
-        self.sender.meet(window);
+        self.receiver.set_initial_tsn(initial_tsn);
+        self.sender.set_peer_window(window);
     }
 
     // INIT ACK (RFC 4960 section 5.1): its cookie is echoed. With other ports than those of this side's INIT it is left.
@@ -56,24 +55,24 @@ impl Association {
         &mut self,
         header: CommonHeader,
         init: ChunkInit,
-        wish: AckWish,
+        trigger: AckTrigger,
         now: Instant,
     ) -> Result<Flow, AllocError>
-        ensures exact { IfOk result (λ flow. on_init_ack self.old header init wish now ≡ (self.new, flow)) }
+        ensures exact { IfOk result (λ flow. on_init_ack self.old header init trigger now ≡ (self.new, flow)) }
         ensures grows { OnErr result (init_ack_takes_memory self.old header init ≡ true) }
     {
         if self.state != AssociationState::CookieWait {
-            return Ok(Flow::Next(wish));
+            return Ok(Flow::Next(trigger));
         }
         if !self.handshake.on_init_ack(&header, &init) {
-            return Ok(Flow::Next(wish));
+            return Ok(Flow::Next(trigger));
         }
-        self.meet(init.initial_tsn, init.advertised_receiver_window_credit);
+        self.learn_peer(init.initial_tsn, init.advertised_receiver_window_credit);
         self.timers.stop(Timer::T1Init);
         match state_cookie(init) {
             Some(cookie) => {
                 self.echo(cookie, now)?;
-                Ok(Flow::Next(wish))
+                Ok(Flow::Next(trigger))
             }
             None => Ok(Flow::Fault(Error::ErrInitAckNoCookie)),
         }
@@ -92,13 +91,13 @@ impl Association {
     pub(crate) fn on_cookie_echo(
         &mut self,
         cookie: Bytes,
-        wish: AckWish,
+        trigger: AckTrigger,
     ) -> Result<Flow, AllocError>
-        ensures exact { IfOk result (λ flow. on_cookie_echo self.old cookie wish ≡ (self.new, flow)) }
+        ensures exact { IfOk result (λ flow. on_cookie_echo self.old cookie trigger ≡ (self.new, flow)) }
         ensures grows { OnErr result (cookie_echo_takes_memory self.old cookie ≡ true) }
     {
         if !self.handshake.has_issued(&cookie) {
-            return Ok(Flow::Next(wish));
+            return Ok(Flow::Next(trigger));
         }
         match self.state {
             AssociationState::Closed
@@ -110,19 +109,19 @@ impl Association {
             AssociationState::Established => self.queue_control(Chunk::CookieAck)?,
             _ => {}
         }
-        Ok(Flow::Next(wish))
+        Ok(Flow::Next(trigger))
     }
 
     // COOKIE ACK (RFC 4960 section 5.1): the echoed cookie established the association.
     #[tactic(auto, unfolding(crate::specs::Handshake::on_cookie_ack))]
-    pub(crate) fn on_cookie_ack(&mut self, wish: AckWish) -> Result<Flow, AllocError>
-        ensures exact { IfOk result (λ flow. on_cookie_ack self.old wish ≡ (self.new, flow)) }
+    pub(crate) fn on_cookie_ack(&mut self, trigger: AckTrigger) -> Result<Flow, AllocError>
+        ensures exact { IfOk result (λ flow. on_cookie_ack self.old trigger ≡ (self.new, flow)) }
         ensures grows { OnErr result (cookie_ack_takes_memory self.old ≡ true) }
     {
         if self.state == AssociationState::CookieEchoed {
             self.connect()?;
         }
-        Ok(Flow::Next(wish))
+        Ok(Flow::Next(trigger))
     }
 
     fn connect(&mut self) -> Result<(), AllocError>
@@ -140,16 +139,16 @@ impl Association {
     pub(crate) fn on_heartbeat(
         &mut self,
         heartbeat: ChunkHeartbeat,
-        wish: AckWish,
+        trigger: AckTrigger,
     ) -> Result<Flow, AllocError>
-        ensures exact { IfOk result (λ flow. on_heartbeat self.old heartbeat wish ≡ (self.new, flow)) }
+        ensures exact { IfOk result (λ flow. on_heartbeat self.old heartbeat trigger ≡ (self.new, flow)) }
         ensures grows { OnErr result (heartbeat_takes_memory heartbeat ≡ true) }
     {
         if let Some(information) = heartbeat_information(heartbeat) {
             let answer = heartbeat_ack(self.alloc, information)?;
             self.queue_control(Chunk::HeartbeatAck(answer))?;
         }
-        Ok(Flow::Next(wish))
+        Ok(Flow::Next(trigger))
     }
 
     // INIT goes out, and its timer runs (RFC 4960 section 5.1).
@@ -187,10 +186,10 @@ impl Association {
         ensures exact { OnOk result (self.new ≡ after_t1_init self.old now) }
         ensures again { OnErr result (offers_again self.old now ≡ true) }
     {
-        let (expired, failure, _) = self.timers.is_expired(Timer::T1Init, now);
-        if expired {
+        let expiry = self.timers.is_expired(Timer::T1Init, now);
+        if expiry.expired {
             self.timers.set(Timer::T1Init, None);
-            if failure {
+            if expiry.failed {
                 self.handshake_fault = Some(Error::ErrHandshakeInitAck);
             } else {
                 self.send_init(now)?;
@@ -204,10 +203,10 @@ impl Association {
         ensures exact { OnOk result (self.new ≡ after_t1_cookie self.old now) }
         ensures again { OnErr result (echoes_again self.old now ≡ true) }
     {
-        let (expired, failure, _) = self.timers.is_expired(Timer::T1Cookie, now);
-        if expired {
+        let expiry = self.timers.is_expired(Timer::T1Cookie, now);
+        if expiry.expired {
             self.timers.set(Timer::T1Cookie, None);
-            if failure {
+            if expiry.failed {
                 self.handshake_fault = Some(Error::ErrHandshakeCookieEcho);
             } else {
                 self.send_cookie(now)?;

@@ -2,26 +2,25 @@
 ghost use Rattle.std.specs.Prelude.{◌≡◌, ◌≢◌, ◌⊎◌, true, false, is_ok, OnErr, OnOk, IfOk, Ok, if◌then◌else◌};
 ghost use Rattle.sctp_wire.specs.Packets.{checked, finished};
 ghost use Rattle.sctp_inbound.specs.Receiver.{credit_of};
-ghost use Rattle.sctp_queues.specs.Streams.{bytes_waiting};
+ghost use Rattle.sctp_streams.specs.Streams.{bytes_waiting};
 ghost use Rattle.sctp_assoc.specs.Inbound.{packet_read, taken_packet};
 ghost use Rattle.sctp_assoc.specs.Memory.{chunk_takes_memory, chunks_take_memory, data_takes_memory, makes_stream, packet_takes_memory, takes_memory};
 ghost use Rattle.sctp_assoc.specs.Chunks.{after_chunks, after_packet, dispatched, is_whole, on_chunk, on_data, on_sack, stream_found, taken_in};
 
 use crate::Association;
-use sctp_inbound::AckWish;
+use sctp_inbound::AckTrigger;
 use sctp_outbound::SackOutcome;
 use sctp_parts::state::AssociationState;
-use sctp_queues::{AssociationError, Event};
-use sctp_wire::{Packet, PartialDecode, check_packet};
-use sctp_wire_types::{
-    Chunk, ChunkPayloadData, CommonHeader, Error, Instant, PayloadProtocolIdentifier, StreamEvent,
+use sctp_wire_queues::{
+    AssociationError, Chunk, ChunkPayloadData, CommonHeader, Error, Event, Instant, Packet,
+    PartialDecode, PayloadProtocolIdentifier, StreamEvent, check_packet,
 };
 use std::alloc::AllocError;
 
 /// How a packet goes on after one of its chunks.
 pub(crate) enum Flow {
-    /// With the next chunk; the wish is that of the packet so far.
-    Next(AckWish),
+    /// With the next chunk; the trigger is that of the packet so far.
+    Next(AckTrigger),
     /// The chunk is a fault: it ends the packet and closes an open association.
     Fault(Error),
 }
@@ -75,17 +74,17 @@ impl Association {
         chunks: Vec<Chunk>,
         now: Instant,
     ) -> Result<(), AllocError>
-        ensures exact { OnOk result (self.new ≡ after_chunks header chunks.items self.old AckWish.None now) }
-        ensures grows { OnErr result (chunks_take_memory header chunks.items self.old AckWish.None now ≡ true) }
+        ensures exact { OnOk result (self.new ≡ after_chunks header chunks.items self.old AckTrigger.None now) }
+        ensures grows { OnErr result (chunks_take_memory header chunks.items self.old AckTrigger.None now ≡ true) }
     {
-        let mut wish = AckWish::None;
+        let mut trigger = AckTrigger::None;
         for chunk in chunks {
-            match self.on_chunk(header, chunk, wish, now)? {
-                Flow::Next(next) => wish = next,
+            match self.on_chunk(header, chunk, trigger, now)? {
+                Flow::Next(next) => trigger = next,
                 Flow::Fault(_) => return self.close_with(AssociationError::AssociationClosed),
             }
         }
-        self.receiver.end_of_packet(&mut self.timers, wish, now);
+        self.receiver.end_of_packet(&mut self.timers, trigger, now);
         Ok(())
     }
 
@@ -94,41 +93,41 @@ impl Association {
         &mut self,
         header: CommonHeader,
         chunk: Chunk,
-        wish: AckWish,
+        trigger: AckTrigger,
         now: Instant,
     ) -> Result<Flow, AllocError>
-        ensures exact { IfOk result (λ flow. on_chunk self.old header chunk wish now ≡ (self.new, flow)) }
+        ensures exact { IfOk result (λ flow. on_chunk self.old header chunk trigger now ≡ (self.new, flow)) }
         ensures grows { OnErr result (chunk_takes_memory self.old header chunk ≡ true) }
     {
         if let Err(fault) = chunk.check() {
             return Ok(Flow::Fault(fault));
         }
-        self.dispatch(header, chunk, wish, now)
+        self.dispatch(header, chunk, trigger, now)
     }
 
     fn dispatch(
         &mut self,
         header: CommonHeader,
         chunk: Chunk,
-        wish: AckWish,
+        trigger: AckTrigger,
         now: Instant,
     ) -> Result<Flow, AllocError>
-        ensures exact { IfOk result (λ flow. dispatched self.old header chunk wish now ≡ (self.new, flow)) }
+        ensures exact { IfOk result (λ flow. dispatched self.old header chunk trigger now ≡ (self.new, flow)) }
         ensures grows { OnErr result (takes_memory self.old header chunk ≡ true) }
     {
         match chunk {
-            Chunk::Data(piece) => self.on_data(piece, wish),
+            Chunk::Data(piece) => self.on_data(piece, trigger),
             Chunk::SelectiveAck(sack) => Ok(self.on_sack(
                 sack.cumulative_tsn_ack,
                 sack.advertised_receiver_window_credit,
-                wish,
+                trigger,
                 now,
             )),
-            Chunk::Init(init) => self.on_init(header, init, wish),
-            Chunk::InitAck(init) => self.on_init_ack(header, init, wish, now),
-            Chunk::CookieEcho(cookie) => self.on_cookie_echo(cookie, wish),
-            Chunk::CookieAck => self.on_cookie_ack(wish),
-            Chunk::Heartbeat(heartbeat) => self.on_heartbeat(heartbeat, wish),
+            Chunk::Init(init) => self.on_init(header, init, trigger),
+            Chunk::InitAck(init) => self.on_init_ack(header, init, trigger, now),
+            Chunk::CookieEcho(cookie) => self.on_cookie_echo(cookie, trigger),
+            Chunk::CookieAck => self.on_cookie_ack(trigger),
+            Chunk::Heartbeat(heartbeat) => self.on_heartbeat(heartbeat, trigger),
             Chunk::Abort(_) | Chunk::Error(_) => Ok(Flow::Fault(Error::ErrAbortChunk)),
             _ => Ok(Flow::Fault(Error::ErrChunkTypeUnhandled)),
         }
@@ -136,15 +135,15 @@ impl Association {
 
     // DATA (RFC 4960 section 6.2). Only a whole ordered message at the TSN after the point is taken in.
     #[tactic(auto, unfolding(crate::specs::Chunks::on_data))]
-    fn on_data(&mut self, piece: ChunkPayloadData, wish: AckWish) -> Result<Flow, AllocError>
-        ensures exact { IfOk result (λ flow. on_data self.old piece wish ≡ (self.new, flow)) }
+    fn on_data(&mut self, piece: ChunkPayloadData, trigger: AckTrigger) -> Result<Flow, AllocError>
+        ensures exact { IfOk result (λ flow. on_data self.old piece trigger ≡ (self.new, flow)) }
         ensures grows { OnErr result (data_takes_memory self.old piece ≡ true) }
     {
         self.stats.inc_datas();
         let immediate = piece.immediate_sack;
         if self.receiver.is_next(piece.tsn) && is_whole(&piece) {
             if !self.has_stream(piece.stream_identifier)? {
-                return Ok(Flow::Next(wish));
+                return Ok(Flow::Next(trigger));
             }
             if self.credit() > 0 {
                 if let Some(fault) = self.take_in(piece)? {
@@ -152,7 +151,7 @@ impl Association {
                 }
             }
         }
-        Ok(Flow::Next(self.receiver.ask(wish, immediate)))
+        Ok(Flow::Next(self.receiver.ask(trigger, immediate)))
     }
 
     // Makes the stream where it is missing; false where no generation is left for it.
@@ -209,24 +208,30 @@ impl Association {
 
     // SACK (RFC 4960 section 6.2.1), read by its point and its window.
     #[tactic(auto, unfolding(crate::specs::Chunks::on_sack))]
-    fn on_sack(&mut self, point: u32, window: u32, wish: AckWish, now: Instant) -> Flow
-        ensures { on_sack self.old point window wish now ≡ (self.new, result) }
+    fn on_sack(
+        &mut self,
+        cumulative_tsn_ack: u32,
+        window: u32,
+        trigger: AckTrigger,
+        now: Instant,
+    ) -> Flow
+        ensures { on_sack self.old cumulative_tsn_ack window trigger now ≡ (self.new, result) }
     {
         if self.state != AssociationState::Established {
-            return Flow::Next(wish);
+            return Flow::Next(trigger);
         }
         self.stats.inc_sacks();
         let outcome = self.sender.on_sack(
             &mut self.timers,
             &mut self.rto,
             &mut self.streams,
-            point,
+            cumulative_tsn_ack,
             window,
             now,
         );
         match outcome {
             SackOutcome::NotInFlight => Flow::Fault(Error::ErrInflightQueueTsnPop),
-            _ => Flow::Next(wish),
+            _ => Flow::Next(trigger),
         }
     }
 }

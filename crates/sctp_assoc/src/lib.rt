@@ -61,15 +61,15 @@ pub use laws::{
     only_named_causes_close, packets_lead_on, sacks_name_the_point, timers_run_where_they_should,
     what_is_written_is_held, what_waits_goes_out,
 };
+pub use sctp_parts::estimate::RtoManager;
 pub use sctp_parts::shared::{AssociationId, EndpointEvent, IssuedAid};
 pub use sctp_parts::state::{AckMode, AckState, AssociationState};
 pub use sctp_parts::stats::AssociationStats;
-pub use sctp_parts::timer::{RtoManager, Timer, TimerTable, calculate_next_timeout};
-pub use sctp_queues::{AssociationError, Chunks, DataChannelStats, Event};
-pub use sctp_wire::{PartialDecode, Payload, Transmit};
-pub use sctp_wire_types::{
-    ChunkInit, EcnCodepoint, Error, Instant, List, Param, PayloadProtocolIdentifier,
-    ReliabilityType, Side, StreamEvent, StreamId, StreamResetError, TransportConfig,
+pub use sctp_parts::timer::{Timer, TimerTable, calculate_next_timeout};
+pub use sctp_wire_queues::{
+    AssociationError, ChunkInit, Chunks, DataChannelStats, EcnCodepoint, Error, Event, Instant,
+    List, Param, PartialDecode, Payload, PayloadProtocolIdentifier, ReliabilityType, ServerConfig,
+    Side, StreamEvent, StreamId, StreamResetError, Transmit, TransportConfig,
 };
-pub use shared::{AssociationEvent, ServerConfig};
+pub use shared::AssociationEvent;
 pub use stream::Stream;

@@ -5,7 +5,7 @@ ghost use Rattle.sctp_outbound.specs.Sender.{window_left, marks};
 use crate::Association;
 use sctp_parts::state::AssociationState;
 use sctp_parts::stats::AssociationStats;
-use sctp_wire_types::Side;
+use sctp_wire_queues::Side;
 use std::net::{IpAddr, SocketAddr};
 
 impl Association {
@@ -73,10 +73,10 @@ impl Association {
     }
 
     /// The cumulative TSN ack point: every TSN up to it came.
-    pub fn point(&self) -> u32
-        ensures { result ≡ self.now.receiver.point }
+    pub fn peer_last_tsn(&self) -> u32
+        ensures { result ≡ self.now.receiver.peer_last_tsn }
     {
-        self.receiver.point
+        self.receiver.peer_last_tsn
     }
 
     /// The verification tag of the packets that are given out.

@@ -2,7 +2,7 @@
 ghost use Rattle.std.specs.Prelude.{◌≡◌};
 ghost use Rattle.sctp_assoc.specs.Inbound.{transmit_of};
 
-use sctp_wire::Transmit;
+use sctp_wire_queues::Transmit;
 
 /// A datagram for an association.
 #[derive(Drop)]
@@ -18,7 +18,3 @@ impl AssociationEvent {
         AssociationEvent { transmit }
     }
 }
-
-/// Makes an association a server's. Nothing is set in it so far: what counts is that it is there.
-#[derive(Clone, Copy, Debug, Default)]
-pub struct ServerConfig {}

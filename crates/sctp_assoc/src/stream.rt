@@ -5,8 +5,7 @@ ghost use Rattle.sctp_assoc.specs.Lending.{lent, lender, id_of};
 ghost use Rattle.sctp_assoc.specs.Calls.{Refuses, RefusesOrLacksMemory, write_refusal, written, read_refusal, read_from_stream, ready_messages, buffered_of};
 
 use crate::Association;
-use sctp_queues::Chunks;
-use sctp_wire_types::{Error, StreamId};
+use sctp_wire_queues::{Chunks, Error, StreamId};
 
 /// A live stream, lent by its association for the calls of one stream.
 #[derive(Drop)]

@@ -5,10 +5,8 @@ ghost use Rattle.sctp_assoc.specs.Calls.{Refuses, RefusesOrLacksMemory, write_re
 
 use crate::Association;
 use bytes::Bytes;
-use sctp_outbound_queue::{Attributes, PendingMessage};
 use sctp_parts::state::AssociationState;
-use sctp_queues::Chunks;
-use sctp_wire_types::{Error, StreamId};
+use sctp_wire_queues::{Attributes, Chunks, Error, PendingMessage, StreamId};
 use std::alloc::AllocError;
 use std::collections::VecDeque;
 

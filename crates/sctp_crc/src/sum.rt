@@ -11,11 +11,11 @@ const SUM_LEN: usize = 4;
 
 /// What `byte` becomes after `8 * place + 8` bits.
 #[inline]
-fn looked_up(place: usize, byte: u8) -> u32
-    requires { place < 16 }
-    ensures { result ≡ crc_bits (8 * place + 8) byte }
+fn looked_up(index: usize, byte: u8) -> u32
+    requires { index < 16 }
+    ensures { result ≡ crc_bits (8 * index + 8) byte }
 {
-    TABLE[256 * place + byte as usize]
+    TABLE[256 * index + byte as usize]
 }
 
 // The lookups that do not need the state stand first, so that only four wait for it.

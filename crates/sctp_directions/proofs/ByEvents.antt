@@ -62,51 +62,51 @@ by_receiver P comes made opens reads closes (Event.End s) h = absurd h
 by_receiver P comes made opens reads closes (Event.Restart s) h = absurd h
 by_receiver P comes made opens reads closes (Event.Replace s q) h = absurd h
 
--- The acknowledged point moves on alone.
+-- The acknowledged reach moves on alone.
 
-counted_point : (b : Bool) (x : Sender) (s i : ℕ) → (counted x s i b).point ≡ x.point
-counted_point true x s i = refl
-counted_point false x s i = refl
+counted_reach : (b : Bool) (x : Sender) (s i : ℕ) → (counted x s i b).reach ≡ x.reach
+counted_reach true x s i = refl
+counted_reach false x s i = refl
 
-begun_on : (w : Direction) (s i number : ℕ) → w.sender.point ≤ (begin w s i number).sender.point
+begun_on : (w : Direction) (s i number : ℕ) → w.sender.reach ≤ (begin w s i number).sender.reach
 begun_on w s i number =
-    let e = counted_point (message_at w.sender.plan s i).ordered (machine.sent w.sender (first_place s i number)) s i in omega arith
+    let e = counted_reach (message_at w.sender.plan s i).ordered (machine.sent w.sender (first_place s i number)) s i in omega arith
 
-written_point : (w : Direction) (s : ℕ) (m : Message) → w.sender.point ≤ (happens w (Event.Write s m)).sender.point
+written_reach : (w : Direction) (s : ℕ) (m : Message) → w.sender.reach ≤ (happens w (Event.Write s m)).sender.reach
 unfolding happens
-written_point w s m = cond_both (is_empty m) w (record w { sender = written w.sender s (as_kept m) }) (λ v. w.sender.point ≤ v.sender.point)
+written_reach w s m = cond_both (is_empty m) w (record w { sender = written w.sender s (as_kept m) }) (λ v. w.sender.reach ≤ v.sender.reach)
     (λ b. omega arith) (λ b. omega arith)
 
-begun_point : (w : Direction) (s i any : ℕ) → w.sender.point ≤ (happens w (Event.Begin s i any)).sender.point
+begun_reach : (w : Direction) (s i any : ℕ) → w.sender.reach ≤ (happens w (Event.Begin s i any)).sender.reach
 unfolding happens
-begun_point w s i any = go w.sender.current
+begun_reach w s i any = go w.sender.current
   where
-    go : (c : Option Place) → w.sender.point ≤ (begin_if w s i any c).sender.point
-    go None = cond_both (can_begin w.sender s i) (begin w s i (number_for w.sender s i any)) w (λ v. w.sender.point ≤ v.sender.point)
+    go : (c : Option Place) → w.sender.reach ≤ (begin_if w s i any c).sender.reach
+    go None = cond_both (can_begin w.sender s i) (begin w s i (number_for w.sender s i any)) w (λ v. w.sender.reach ≤ v.sender.reach)
         (λ b. begun_on w s i (number_for w.sender s i any)) (λ b. omega arith)
     go (Some x) = omega arith
 
-resent_point : (w : Direction) (o : ℕ) → w.sender.point ≤ (happens w (Event.Resend o)).sender.point
+resent_reach : (w : Direction) (o : ℕ) → w.sender.reach ≤ (happens w (Event.Resend o)).sender.reach
 unfolding happens
-resent_point w o = cond_both (can_resend w.sender.plan o) (record w { datas = w.datas ++ data_at w.sender.plan o ∷ [] }) w
-    (λ v. w.sender.point ≤ v.sender.point) (λ b. omega arith) (λ b. omega arith)
+resent_reach w o = cond_both (can_resend w.sender.plan o) (record w { datas = w.datas ++ data_at w.sender.plan o ∷ [] }) w
+    (λ v. w.sender.reach ≤ v.sender.reach) (λ b. omega arith) (λ b. omega arith)
 
-sack_point : (w : Direction) (k : ℕ) → w.sender.point ≤ (happens w (Event.SackComes k)).sender.point
+sack_reach : (w : Direction) (k : ℕ) → w.sender.reach ≤ (happens w (Event.SackComes k)).sender.reach
 unfolding happens
-sack_point w k = go (slice_get w.sacks k)
+sack_reach w k = go (slice_get w.sacks k)
   where
-    go : (x : Option Sack) → w.sender.point ≤ (sack_comes w x).sender.point
+    go : (x : Option Sack) → w.sender.reach ≤ (sack_comes w x).sender.reach
     go None = omega arith
-    go (Some x) = cond_both (ltb x.point w.sender.point) w (record w { sender = acknowledged_by w.sender x }) (λ v. w.sender.point ≤ v.sender.point)
+    go (Some x) = cond_both (ltb x.reach w.sender.reach) w (record w { sender = acknowledged_by w.sender x }) (λ v. w.sender.reach ≤ v.sender.reach)
         (λ b. omega arith) (λ b. ltb-false _ _ b)
 
 pub senders_events_are_sent : SendersEventsAreSent
 senders_events_are_sent w e at =
-    by_sender (λ (x : Event). IsSentOn w (happens w x) × (w.sender.point ≤ (happens w x).sender.point))
-    (λ s m. (sent_write w s m, written_point w s m))
-    (λ s i any. ((sent_begin w s i any).on, begun_point w s i any))
-    (λ o. ((sent_resend w o).on, resent_point w o))
-    (λ k. ((sent_sack_comes w k).on, sack_point w k))
+    by_sender (λ (x : Event). IsSentOn w (happens w x) × (w.sender.reach ≤ (happens w x).sender.reach))
+    (λ s m. (sent_write w s m, written_reach w s m))
+    (λ s i any. ((sent_begin w s i any).on, begun_reach w s i any))
+    (λ o. ((sent_resend w o).on, resent_reach w o))
+    (λ k. ((sent_sack_comes w k).on, sack_reach w k))
     e at
 
 pub only_writes_accept : OnlyWritesAccept
@@ -149,7 +149,7 @@ sack_places w k = go (slice_get w.sacks k)
   where
     go : (x : Option Sack) → (sack_comes w x).sender.plan.places ≡ w.sender.plan.places
     go None = refl
-    go (Some x) = cond_both (ltb x.point w.sender.point) w (record w { sender = acknowledged_by w.sender x }) (λ v. v.sender.plan.places ≡ w.sender.plan.places)
+    go (Some x) = cond_both (ltb x.reach w.sender.reach) w (record w { sender = acknowledged_by w.sender x }) (λ v. v.sender.plan.places ≡ w.sender.plan.places)
         (λ b. refl) (λ b. refl)
 
 pub only_beginnings_assign : OnlyBeginningsAssign

@@ -8,7 +8,7 @@ use Rattle.std.proofs.lemmas.Bool.{and_from, and_left, and_parts, cond-true, con
 use Rattle.sctp_wire_types.specs.declared.chunk.ChunkPayloadData.{ChunkPayloadData}
 use Rattle.sctp_wire_types.specs.Ids.{number_of}
 use Rattle.sctp_wire_types.specs.Serial.{ssn_lt}
-use Rattle.sctp_receive_queues.specs.Messages.{Message, message_of}
+use Rattle.sctp_receive_queues.specs.Messages.{ReceivedMessage, message_of}
 use Rattle.sctp_receive_queues.specs.Pieces.{is_complete}
 use Rattle.sctp_receive_queues.specs.Reassembly.{Group, Reassembly, group_of, is_due, messages_held, pushed, put_at, read_from, read_ordered, ready, ready_on, ready_within, taken, with_ordered}
 use Rattle.sctp_model.specs.Messages.{Plan, place_at}
@@ -21,7 +21,7 @@ use Rattle.sctp_model.proofs.Gathering.{at_top}
 use Rattle.sctp_model.proofs.Lists.{all_push, all_weaker}
 use Rattle.sctp_model.proofs.Windows.{before_is, next_is}
 use Rattle.sctp_assoc.specs.Chunks.{is_whole}
-use Rattle.sctp_directions.specs.Incoming.{AreHeldAs, IsHeldAs, IsQueue, letter_of}
+use Rattle.sctp_directions.specs.Incoming.{AreHeldAs, IsHeldAs, IsQueue, letter_received}
 
 -- Lists
 
@@ -210,21 +210,21 @@ taken_first p n r g gs d i none held due =
 -- What a read gives where a message is held: the same letter, that of message `end`, and it leaves those from the next number on.
 pub record IsReadFrom (p : Plan) (end count : ℕ) (r : Reassembly) (q : Queue) : Type 0 where
   pub there : Taken
-  pub message : Message
+  pub message : ReceivedMessage
   pub rest : Reassembly
   pub model : next q ≡ Some there
   pub here : taken r ≡ (rest, Some message)
   pub left : IsQueue p (suc end) count rest there.rest
-  pub letter : letter_read there.got ≡ letter_of message
+  pub letter : letter_read there.got ≡ letter_received message
   pub ordered : there.got.ordered ≡ true
   pub number : (place_at p there.got.from).message ≡ end
 
 -- what the reader sees of a message of one piece
-sole_letter : (p : Plan) (n : ℕ) (g : Group) (d : Data) → IsHeldAs p n g d → letter_read (got_of (sole_run d)) ≡ letter_of (message_of g.pieces)
+sole_letter : (p : Plan) (n : ℕ) (g : Group) (d : Data) → IsHeldAs p n g d → letter_read (got_of (sole_run d)) ≡ letter_received (message_of g.pieces)
 sole_letter p n g d i =
     ap (λ (z : ℕ). letter z (d.bytes ++ [])) (sym i.payload_type)
     ∙ ap (λ (z : List ℕ). letter (number_of i.piece.payload_type) (z ++ [])) (sym i.bytes)
-    ∙ ap (λ z. letter_of (message_of z)) (sym i.pieces)
+    ∙ ap (λ z. letter_received (message_of z)) (sym i.pieces)
   where
     letter : ℕ → List ℕ → Letter
     letter kind bytes = record { payload_type = kind; bytes = bytes }
@@ -274,16 +274,16 @@ queue_read p end count r q h near = go r.ordered h.held refl refl h.groups
 -- What is ready
 
 drained_alike : (fuel : ℕ) (p : Plan) (end count : ℕ) (r : Reassembly) (q : Queue) → IsQueue p end count r q → count < end + 32768
-    → map letter_read (drain fuel q).gots ≡ map letter_of (ready_within fuel r)
+    → map letter_read (drain fuel q).gots ≡ map letter_received (ready_within fuel r)
 drained_alike zero p end count r q h near = refl
 drained_alike (suc n) p end count r q h near = ⊎_elim
     (λ (a : (next q ≡ None) × (taken r ≡ (r, None)) × (end ≡ count)).
-    ap (λ z. map letter_read (drain_on q z (drain n)).gots) a.0 ∙ sym (ap (λ z. map letter_of (ready_on z (ready_within n))) a.1))
+    ap (λ z. map letter_read (drain_on q z (drain n)).gots) a.0 ∙ sym (ap (λ z. map letter_received (ready_on z (ready_within n))) a.1))
     (λ (a : IsReadFrom p end count r q).
     ap (λ z. map letter_read (drain_on q z (drain n)).gots) a.model
     ∙ ap (λ z. z ∷ map letter_read (drain n a.there.rest).gots) a.letter
-    ∙ ap (λ z. letter_of a.message ∷ z) (drained_alike n p (suc end) count a.rest a.there.rest a.left (omega arith))
-    ∙ sym (ap (λ z. map letter_of (ready_on z (ready_within n))) a.here))
+    ∙ ap (λ z. letter_received a.message ∷ z) (drained_alike n p (suc end) count a.rest a.there.rest a.left (omega arith))
+    ∙ sym (ap (λ z. map letter_received (ready_on z (ready_within n))) a.here))
     (queue_read p end count r q h near)
 
 held_length : (p : Plan) (n : ℕ) (gs : List Group) (ds : List Data) → AreHeldAs p n gs ds → length ds ≡ length gs
@@ -294,7 +294,7 @@ held_length p n (g ∷ gs) (d ∷ ds) h = ap suc (held_length p (suc n) gs ds h.
 
 -- what reads would give, one after another, is the same at both
 pub queue_ready : (p : Plan) (end count : ℕ) (r : Reassembly) (q : Queue) → IsQueue p end count r q → count < end + 32768
-    → map letter_read (model_ready q) ≡ map letter_of (ready r)
+    → map letter_read (model_ready q) ≡ map letter_received (ready r)
 queue_ready p end count r q h near =
     ap (λ z. map letter_read (drain z q).gots) same ∙ drained_alike (messages_held r) p end count r q h near
   where

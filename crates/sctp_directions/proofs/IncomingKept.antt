@@ -4,13 +4,13 @@ use Rattle.std.specs.Prelude.{⊤, slice_get}
 use Rattle.std.proofs.lemmas.Bool.{cases_Bool, cond-true, cond-false, cond_both, eqb-true}
 use Rattle.sctp_outbound_queue.specs.declared.message.InFlight.{InFlight}
 use Rattle.sctp_receive_queues.specs.Reassembly.{Group}
-use Rattle.sctp_queues.specs.Stream.{Stream, accepted_by}
-use Rattle.sctp_queues.specs.Streams.{StreamMap, change_at, changed_stream, is_generation, stream_at}
+use Rattle.sctp_streams.specs.Stream.{StreamView, accepted_by}
+use Rattle.sctp_streams.specs.Streams.{StreamMap, change_at, changed_stream, is_generation, stream_at}
 use Rattle.sctp_outbound.specs.Sender.{streams_after}
 use Rattle.sctp_model.specs.Messages.{Message, Place, Plan, as_kept, message_at}
 use Rattle.sctp_model.specs.Packets.{Data, Sack, data_at}
 use Rattle.sctp_model.specs.Reassembly.{Queue}
-use Rattle.sctp_model.specs.Machine.{Direction, Event, Sender, acknowledged_by, begin, begin_if, counted, first_place, happens, next_data, number_for, point, sack_comes, sent, written}
+use Rattle.sctp_model.specs.Machine.{Direction, Event, Sender, acknowledged_by, begin, begin_if, counted, first_place, happens, next_data, number_for, reach, sack_comes, sent, written}
 use Rattle.sctp_model.specs.Safe.{read_end}
 use Rattle.sctp_model.specs.Invariants.{Invariant, IsGot}
 use Rattle.sctp_model.proofs.Growth.{IsExtended, message_extended, place_extended, read_end_kept}
@@ -19,7 +19,7 @@ use Rattle.sctp_assoc.specs.Acts.{Act, Parts, done, with_written, without_first_
 use Rattle.sctp_directions.specs.Plain.{IsPlain, count_below}
 use Rattle.sctp_directions.specs.Incoming.{AreHeldAs, FitsIncoming, IsQueue, IsQueueAt}
 use Rattle.sctp_assoc.proofs.Proved.{at_with}
-use Rattle.sctp_directions.proofs.IncomingStreams.{point_known}
+use Rattle.sctp_directions.proofs.IncomingStreams.{reach_known}
 use Rattle.sctp_directions.proofs.PlainSender.{count_kept}
 
 -- A report, and the end
@@ -38,17 +38,17 @@ reported_fits a w fits = record {
 -- What the association does as a sender
 
 -- the same is held of a stream, where it is live
-abbrev IsSameHeld : Option Stream → Option Stream → Type 0
+abbrev IsSameHeld : Option StreamView → Option StreamView → Type 0
 IsSameHeld None None = ⊤
 IsSameHeld None (Some u) = ⊥
 IsSameHeld (Some t) None = ⊥
 IsSameHeld (Some t) (Some u) = u.reassembly ≡ t.reassembly
 
-pub same_held : (x : Option Stream) → IsSameHeld x x
+pub same_held : (x : Option StreamView) → IsSameHeld x x
 same_held None = tt
 same_held (Some t) = refl
 
-queue_same : (p : Plan) (end count : ℕ) (x x' : Option Stream) (y : Option Queue) → IsSameHeld x x' → IsQueueAt p end count x y → IsQueueAt p end count x' y
+queue_same : (p : Plan) (end count : ℕ) (x x' : Option StreamView) (y : Option Queue) → IsSameHeld x x' → IsQueueAt p end count x y → IsQueueAt p end count x' y
 queue_same p end count None None y s h = h
 queue_same p end count None (Some u) y s h = absurd s
 queue_same p end count (Some t) None y s h = absurd s
@@ -56,11 +56,11 @@ queue_same p end count (Some t) (Some u) None s h = h
 queue_same p end count (Some t) (Some u) (Some q) s h = subst (λ z. IsQueue p end count z q) (sym s) h
 
 -- a change of a stream that leaves its reassembly leaves what is held
-changed_same : (f : Stream → Stream) → ((t : Stream) → (f t).reassembly ≡ t.reassembly) → (m : StreamMap) (id n : ℕ)
+changed_same : (f : StreamView → StreamView) → ((t : StreamView) → (f t).reassembly ≡ t.reassembly) → (m : StreamMap) (id n : ℕ)
     → IsSameHeld (stream_at m n) (stream_at (changed_stream f m id) n)
 changed_same f stays m id n = go (stream_at m id) refl
   where
-    go : (x : Option Stream) → stream_at m id ≡ x → IsSameHeld (stream_at m n) (stream_at (change_at f x m id) n)
+    go : (x : Option StreamView) → stream_at m id ≡ x → IsSameHeld (stream_at m n) (stream_at (change_at f x m id) n)
     go None e = same_held (stream_at m n)
     go (Some t) e = ⊎_elim
         (λ (b : eqb n id ≡ true). subst₂ IsSameHeld (sym (ap (stream_at m) (eqb-true n id b) ∙ e))
@@ -70,14 +70,14 @@ changed_same f stays m id n = go (stream_at m id) refl
         (cases_Bool (eqb n id))
 
 -- parts with the same past of the DATA that comes, and the same held of each stream
-pub fits_by : (a b : Parts) (w : Direction) → b.history.taken ≡ a.history.taken → b.history.passed ≡ a.history.passed → b.history.point ≡ a.history.point
+pub fits_by : (a b : Parts) (w : Direction) → b.history.taken ≡ a.history.taken → b.history.passed ≡ a.history.passed → b.history.reach ≡ a.history.reach
     → ((n : ℕ) → IsSameHeld (stream_at a.streams n) (stream_at b.streams n)) → FitsIncoming a w → FitsIncoming b w
 fits_by a b w taken passed at same fits = record {
   is_open = fits.is_open;
   taken = taken ∙ fits.taken;
   passed = passed ∙ fits.passed;
   at = at ∙ fits.at;
-  queues = λ n. queue_same w.sender.plan (read_end w.sender.plan 0 (w.reads n)) (count_below w.sender.plan n (point w.receiver))
+  queues = λ n. queue_same w.sender.plan (read_end w.sender.plan 0 (w.reads n)) (count_below w.sender.plan n (reach w.receiver))
       (stream_at a.streams n) (stream_at b.streams n) (w.receiver.queues n) (same n) (fits.queues n);
 }
 
@@ -85,7 +85,7 @@ fits_by a b w taken passed at same fits = record {
 pub wrote_fits : (a : Parts) (id : ℕ) (bytes : List ℕ) (w : Direction) → FitsIncoming a w → FitsIncoming (done (Act.Wrote id bytes) a) w
 wrote_fits a id bytes w fits = go (stream_at a.streams id)
   where
-    go : (x : Option Stream) → FitsIncoming (with_written x a id bytes) w
+    go : (x : Option StreamView) → FitsIncoming (with_written x a id bytes) w
     go None = fits
     go (Some s) = fits_by a (with_written (Some s) a id bytes) w refl refl refl
         (changed_same (λ t. accepted_by t s.default_payload_type (length bytes)) (λ t. refl) a.streams id) fits
@@ -95,8 +95,8 @@ pub sent_fits : (a : Parts) (now : ℕ) (w : Direction) → FitsIncoming a w →
 sent_fits a now w fits = fits_by a (done (Act.Sent now) a) w refl refl refl (λ n. same_held (stream_at a.streams n)) fits
 
 -- DATA that goes out again leaves what came as it is
-pub sent_again_fits : (a : Parts) (place : ℕ) (w : Direction) → FitsIncoming a w → FitsIncoming (done (Act.SentAgain place) a) w
-sent_again_fits a place w fits = fits_by a (done (Act.SentAgain place) a) w refl refl refl (λ n. same_held (stream_at a.streams n)) fits
+pub sent_again_fits : (a : Parts) (index : ℕ) (w : Direction) → FitsIncoming a w → FitsIncoming (done (Act.SentAgain index) a) w
+sent_again_fits a index w fits = fits_by a (done (Act.SentAgain index) a) w refl refl refl (λ n. same_held (stream_at a.streams n)) fits
 
 -- marking all that is outstanding leaves what came as it is
 pub marked_fits : (a : Parts) (w : Direction) → FitsIncoming a w → FitsIncoming (done Act.Marked a) w
@@ -140,7 +140,7 @@ held_kept p q e n (g ∷ gs) (d ∷ ds) h =
       held_kept p q e (suc n) gs ds h.1,
     )
 
-queue_kept : (p q : Plan) (e : IsExtended p q) (end count : ℕ) (x : Option Stream) (y : Option Queue) → IsQueueAt p end count x y → IsQueueAt q end count x y
+queue_kept : (p q : Plan) (e : IsExtended p q) (end count : ℕ) (x : Option StreamView) (y : Option Queue) → IsQueueAt p end count x y → IsQueueAt q end count x y
 queue_kept p q e end count None None h = h
 queue_kept p q e end count None (Some y) h = h
 queue_kept p q e end count (Some t) None h = h
@@ -166,8 +166,8 @@ extended_fits a w x datas e inv h fits = record {
   passed = fits.passed;
   at = fits.at;
   queues = λ n. subst₂ (λ y z. IsQueueAt x.plan y z (stream_at a.streams n) (w.receiver.queues n)) (sym (ends n))
-      (sym (count_kept w.sender.plan x.plan n (point w.receiver) (λ o l. e.places o (let k = point_known w inv h in omega arith))))
-      (queue_kept w.sender.plan x.plan e (read_end w.sender.plan 0 (w.reads n)) (count_below w.sender.plan n (point w.receiver)) (stream_at a.streams n) (w.receiver.queues n) (fits.queues n));
+      (sym (count_kept w.sender.plan x.plan n (reach w.receiver) (λ o l. e.places o (let k = reach_known w inv h in omega arith))))
+      (queue_kept w.sender.plan x.plan e (read_end w.sender.plan 0 (w.reads n)) (count_below w.sender.plan n (reach w.receiver)) (stream_at a.streams n) (w.receiver.queues n) (fits.queues n));
 }
   where
     ends : (n : ℕ) → read_end x.plan 0 (w.reads n) ≡ read_end w.sender.plan 0 (w.reads n)

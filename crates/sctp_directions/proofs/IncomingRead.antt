@@ -2,21 +2,21 @@
 use Rattle.std.proofs.Common.{◌≡◌, refl, sym, ap, ◌∙◌, subst, subst₂, ⊎_elim, ℕ, suc, arith, true, false, cond, eqb, List, [], ◌∷◌, ◌++◌, map, Option, Some, None}
 use Rattle.std.proofs.lemmas.Bool.{cases_Bool, cond-true, cond-false, eqb-true, eqb-false}
 use Rattle.sctp_wire_types.specs.declared.ids.PayloadProtocolIdentifier.{PayloadProtocolIdentifier}
-use Rattle.sctp_receive_queues.specs.Messages.{Message}
+use Rattle.sctp_receive_queues.specs.Messages.{ReceivedMessage}
 use Rattle.sctp_receive_queues.specs.Reassembly.{empty_reassembly, ready, taken}
-use Rattle.sctp_queues.specs.Stream.{Stream, fresh_stream, read_with}
-use Rattle.sctp_queues.specs.Streams.{StreamMap, made, read_at, read_in, stream_at, with_stream}
+use Rattle.sctp_streams.specs.Stream.{StreamView, fresh_stream, read_with}
+use Rattle.sctp_streams.specs.Streams.{StreamMap, made, read_at, read_in, stream_at, with_stream}
 use Rattle.sctp_model.specs.Messages.{Plan}
 use Rattle.sctp_model.specs.Reassembly.{Got, Queue, Taken, empty_queue, next}
 use Rattle.sctp_model.specs.Reassembly.{ready as model_ready}
-use Rattle.sctp_model.specs.Machine.{Direction, Event, happens, opened, point, put, read, was_read}
+use Rattle.sctp_model.specs.Machine.{Direction, Event, happens, opened, reach, put, read, was_read}
 use Rattle.sctp_model.specs.Safe.{IsWithin, letter_read, read_end}
 use Rattle.sctp_model.specs.Invariants.{Invariant}
 use Rattle.sctp_model.proofs.Growth.{at_put, off_put}
 use Rattle.sctp_model.proofs.Reading.{read_end_push}
 use Rattle.sctp_assoc.specs.Acts.{Act, Parts, done}
 use Rattle.sctp_directions.specs.Plain.{IsPlain, count_below}
-use Rattle.sctp_directions.specs.Incoming.{FitsIncoming, IsQueue, IsQueueAt, IsReadAs, letter_of}
+use Rattle.sctp_directions.specs.Incoming.{FitsIncoming, IsQueue, IsQueueAt, IsReadAs, letter_received}
 use Rattle.sctp_assoc.proofs.Proved.{at_made, at_with}
 use Rattle.sctp_directions.proofs.Held.{IsReadFrom, queue_read, queue_ready}
 use Rattle.sctp_directions.proofs.IncomingStreams.{held_near, no_queue_of, queue_of, queues_at}
@@ -28,11 +28,11 @@ unfolding happens
 read_happens w id q x e o n = ap (read w id) e ∙ cond-true w.receiver.is_open (was_read w id (next q)) w o ∙ ap (was_read w id) n
 
 -- what a read of the association leaves and gives, against what the model's read left
-abbrev IsReadAlike : Parts → Direction → ℕ → StreamMap × Option Message → Direction → Type 0
+abbrev IsReadAlike : Parts → Direction → ℕ → StreamMap × Option ReceivedMessage → Direction → Type 0
 IsReadAlike a w id x v =
     FitsIncoming (record a { streams = x.0 }) v × IsReadAs x.1 (w.reads id) (v.reads id) × ((s : ℕ) → eqb s id ≡ false → v.reads s ≡ w.reads s)
 
-none_alike : (a : Parts) (id : ℕ) (t : Stream) (w : Direction) → stream_at a.streams id ≡ Some t → FitsIncoming a w
+none_alike : (a : Parts) (id : ℕ) (t : StreamView) (w : Direction) → stream_at a.streams id ≡ Some t → FitsIncoming a w
     → IsReadAlike a w id (with_stream a.streams id t, None) w
 none_alike a id t w there fits = (
   record {
@@ -40,7 +40,7 @@ none_alike a id t w there fits = (
     taken = fits.taken;
     passed = fits.passed;
     at = fits.at;
-    queues = λ n. subst (λ z. IsQueueAt w.sender.plan (read_end w.sender.plan 0 (w.reads n)) (count_below w.sender.plan n (point w.receiver)) z (w.receiver.queues n)) (sym (same n)) (fits.queues n);
+    queues = λ n. subst (λ z. IsQueueAt w.sender.plan (read_end w.sender.plan 0 (w.reads n)) (count_below w.sender.plan n (reach w.receiver)) z (w.receiver.queues n)) (sym (same n)) (fits.queues n);
   },
   refl,
   λ s b. refl,
@@ -52,8 +52,8 @@ none_alike a id t w there fits = (
         (λ (b : eqb n id ≡ false). cond-false (eqb n id) (Some t) (stream_at a.streams n) b)
         (cases_Bool (eqb n id))
 
-some_alike : (a : Parts) (id : ℕ) (t u : Stream) (w : Direction) (q : Queue)
-    → (x : IsReadFrom w.sender.plan (read_end w.sender.plan 0 (w.reads id)) (count_below w.sender.plan id (point w.receiver)) t.reassembly q)
+some_alike : (a : Parts) (id : ℕ) (t u : StreamView) (w : Direction) (q : Queue)
+    → (x : IsReadFrom w.sender.plan (read_end w.sender.plan 0 (w.reads id)) (count_below w.sender.plan id (reach w.receiver)) t.reassembly q)
     → u.reassembly ≡ x.rest → stream_at a.streams id ≡ Some t → FitsIncoming a w
     → IsReadAlike a w id (with_stream a.streams id u, Some x.message) (was_read w id (Some x.there))
 some_alike a id t u w q x left there fits = (
@@ -82,7 +82,7 @@ some_alike a id t u w q x left there fits = (
     ends n = read_end p 0 (w.reads n)
 
     counts : ℕ → ℕ
-    counts n = count_below p n (point w.receiver)
+    counts n = count_below p n (reach w.receiver)
 
     after : ℕ → ℕ
     after n = read_end p 0 (put w.reads id reads n)
@@ -92,7 +92,7 @@ some_alike a id t u w q x left there fits = (
         ∙ cond-true x.there.got.ordered _ _ x.ordered ∙ ap suc x.number
 
 -- A read on a live stream gives at the association what the model's reader gets, and the other streams' reads stay.
-pub read_fits : (a : Parts) (id : ℕ) (t : Stream) (w : Direction) → stream_at a.streams id ≡ Some t → IsWithin w → Invariant w → IsPlain w → FitsIncoming a w
+pub read_fits : (a : Parts) (id : ℕ) (t : StreamView) (w : Direction) → stream_at a.streams id ≡ Some t → IsWithin w → Invariant w → IsPlain w → FitsIncoming a w
     → FitsIncoming (done (Act.WasRead id) a) (happens w (Event.Read id))
     × IsReadAs (read_in a.streams id).1 (w.reads id) ((happens w (Event.Read id)).reads id)
     × ((s : ℕ) → eqb s id ≡ false → (happens w (Event.Read id)).reads s ≡ w.reads s)
@@ -100,12 +100,12 @@ read_fits a id t w there within inv h fits =
     ⊎_elim
     (λ (n : (next queue.0 ≡ None) × (taken t.reassembly ≡ (t.reassembly, None)) × (end ≡ count)).
     subst₂ (IsReadAlike a w id)
-    (sym (ap (λ z. read_at z a.streams id) there ∙ ap (λ (z : Stream × Option Message). (with_stream a.streams id z.0, z.1)) (ap (read_with t) n.1)))
+    (sym (ap (λ z. read_at z a.streams id) there ∙ ap (λ (z : StreamView × Option ReceivedMessage). (with_stream a.streams id z.0, z.1)) (ap (read_with t) n.1)))
     (sym (read_happens w id queue.0 None queue.1 fits.is_open n.0))
     (none_alike a id t w there fits))
     (λ (x : IsReadFrom p end count t.reassembly queue.0).
     subst₂ (IsReadAlike a w id)
-    (sym (ap (λ z. read_at z a.streams id) there ∙ ap (λ (z : Stream × Option Message). (with_stream a.streams id z.0, z.1)) (ap (read_with t) x.here)))
+    (sym (ap (λ z. read_at z a.streams id) there ∙ ap (λ (z : StreamView × Option ReceivedMessage). (with_stream a.streams id z.0, z.1)) (ap (read_with t) x.here)))
     (sym (read_happens w id queue.0 (Some x.there) queue.1 fits.is_open x.model))
     (some_alike a id t (read_with t (x.rest, Some x.message)).0 w queue.0 x refl there fits))
     (queue_read p end count t.reassembly queue.0 queue.2 (held_near w id within inv h (let c = (queue.2).counted in omega arith)))
@@ -117,7 +117,7 @@ read_fits a id t w there within inv h fits =
     end = read_end p 0 (w.reads id)
 
     count : ℕ
-    count = count_below p id (point w.receiver)
+    count = count_below p id (reach w.receiver)
 
     queue : (q : Queue) × (w.receiver.queues id ≡ Some q) × IsQueue p end count t.reassembly q
     queue = queue_of p end count (stream_at a.streams id) (w.receiver.queues id) t there (fits.queues id)
@@ -129,16 +129,16 @@ unfolding happens
 no_read_fits a id w none fits = (
   ap (λ z. record a { streams = (read_at z a.streams id).0 }) none,
   ap (λ z. (read_at z a.streams id).1) none,
-  ap (read w id) (no_queue_of w.sender.plan (read_end w.sender.plan 0 (w.reads id)) (count_below w.sender.plan id (point w.receiver)) (stream_at a.streams id) (w.receiver.queues id) none (fits.queues id)).0,
+  ap (read w id) (no_queue_of w.sender.plan (read_end w.sender.plan 0 (w.reads id)) (count_below w.sender.plan id (reach w.receiver)) (stream_at a.streams id) (w.receiver.queues id) none (fits.queues id)).0,
 )
 
 -- what is ready on a live stream is the same at both: all that it holds
-pub ready_fits : (a : Parts) (id : ℕ) (t : Stream) (q : Queue) (w : Direction) → stream_at a.streams id ≡ Some t → w.receiver.queues id ≡ Some q
-    → IsWithin w → Invariant w → IsPlain w → FitsIncoming a w → map letter_read (model_ready q) ≡ map letter_of (ready t.reassembly)
+pub ready_fits : (a : Parts) (id : ℕ) (t : StreamView) (q : Queue) (w : Direction) → stream_at a.streams id ≡ Some t → w.receiver.queues id ≡ Some q
+    → IsWithin w → Invariant w → IsPlain w → FitsIncoming a w → map letter_read (model_ready q) ≡ map letter_received (ready t.reassembly)
 ready_fits a id t q w there model within inv h fits =
     let p = w.sender.plan in
     let end = read_end p 0 (w.reads id) in
-    let count = count_below p id (point w.receiver) in
+    let count = count_below p id (reach w.receiver) in
     let x = queue_of p end count (stream_at a.streams id) (w.receiver.queues id) t there (fits.queues id) in
     let e : Some q ≡ Some x.0 = sym model ∙ x.1 in
     let f : q ≡ x.0 = cc in
@@ -170,7 +170,7 @@ opened_fits a id first kind w none fits = record {
     ends n = read_end p 0 (w.reads n)
 
     counts : ℕ → ℕ
-    counts n = count_below p n (point w.receiver)
+    counts n = count_below p n (reach w.receiver)
 
     missing : (w.receiver.queues id ≡ None) × (ends id ≡ 0) × (counts id ≡ 0)
     missing = no_queue_of p (ends id) (counts id) (stream_at a.streams id) (w.receiver.queues id) none (fits.queues id)

@@ -5,7 +5,7 @@ use Rattle.std.specs.Prelude.{slice_get}
 use Rattle.std.proofs.lemmas.Bool.{cond-true, cond_both, ltb-false}
 use Rattle.sctp_model.specs.Messages.{Message, Place}
 use Rattle.sctp_model.specs.Packets.{Sack}
-use Rattle.sctp_model.specs.Machine.{Direction, Event, acknowledged_by, begin, begin_if, can_begin, happens, number_for, point, sack_comes}
+use Rattle.sctp_model.specs.Machine.{Direction, Event, acknowledged_by, begin, begin_if, can_begin, happens, number_for, reach, sack_comes}
 use Rattle.sctp_model.specs.Invariants.{Invariant, IsHonest}
 use Rattle.sctp_model.proofs.Lists.{all_get}
 use Rattle.sctp_model.proofs.Writing.{keeps_write}
@@ -34,8 +34,8 @@ invariant_resend w o h = either _ _ _ (λ b. keeps_resend w o b h) (λ b. h)
 
 acknowledged : (w : Direction) (n : ℕ) (k : Option Sack) → slice_get w.sacks n ≡ k → Invariant w → Invariant (sack_comes w k)
 acknowledged w n None e h = h
-acknowledged w n (Some k) e h = either (ltb k.point w.sender.point) w (record w { sender = acknowledged_by w.sender k }) (λ b. h)
-    (λ b. keeps_sack_comes w k (ltb-false _ _ b) (all_get (IsHonest w.receiver.taken w.receiver.passed (point w.receiver)) w.sacks n k e h.sacks) h)
+acknowledged w n (Some k) e h = either (ltb k.reach w.sender.reach) w (record w { sender = acknowledged_by w.sender k }) (λ b. h)
+    (λ b. keeps_sack_comes w k (ltb-false _ _ b) (all_get (IsHonest w.receiver.taken w.receiver.passed (reach w.receiver)) w.sacks n k e h.sacks) h)
 
 pub invariant_sack : (w : Direction) (k : ℕ) → Invariant w → Invariant (happens w (Event.SackComes k))
 unfolding happens

@@ -6,11 +6,11 @@ use Rattle.sctp_outbound_queue.specs.declared.message.InFlight.{InFlight}
 use Rattle.sctp_outbound_queue.specs.Message.{outstanding_bytes}
 use Rattle.sctp_outbound_queue.specs.Outbound.{without_first_of}
 use Rattle.sctp_outbound.specs.Sender.{streams_after}
-use Rattle.sctp_queues.specs.Stream.{Stream, released_from}
-use Rattle.sctp_queues.specs.Streams.{StreamMap, change_at, changed_stream, is_generation, stream_at, with_stream}
+use Rattle.sctp_streams.specs.Stream.{StreamView, released_from}
+use Rattle.sctp_streams.specs.Streams.{StreamMap, change_at, changed_stream, is_generation, stream_at, with_stream}
 use Rattle.sctp_model.specs.Messages.{Plan, accepted_bytes, bytes_at, bytes_below, message_of, piece_of, place_at}
 use Rattle.sctp_model.specs.Packets.{Sack}
-use Rattle.sctp_model.specs.Machine.{Direction, Event, acknowledged_by, happens, point, sack_comes}
+use Rattle.sctp_model.specs.Machine.{Direction, Event, acknowledged_by, happens, reach, sack_comes}
 use Rattle.sctp_model.specs.Invariants.{Invariant, IsHonest, gone_at}
 use Rattle.sctp_model.proofs.Coming.{keeps_sack_comes}
 use Rattle.sctp_model.proofs.Lists.{all_get}
@@ -35,26 +35,26 @@ bytes_rise p s m (suc n) l = ⊎_elim
     (λ (ne : m ≡ suc n → ⊥). let r = bytes_rise p s m n (omega (arith, ne)) in omega arith)
     (cases_eq m (suc n))
 
--- In a plain direction the bytes released are those below the acknowledged point.
-pub plain_released : (w : Direction) (s : ℕ) → Invariant w → IsPlain w → w.sender.point ≤ length w.sender.plan.places
-    → w.sender.released s ≡ bytes_to w.sender.plan s w.sender.point
+-- In a plain direction the bytes released are those below the acknowledged reach.
+pub plain_released : (w : Direction) (s : ℕ) → Invariant w → IsPlain w → w.sender.reach ≤ length w.sender.plan.places
+    → w.sender.released s ≡ bytes_to w.sender.plan s w.sender.reach
 plain_released w s inv h within =
     let p : Plan = w.sender.plan in
-    let tail = bytes_tail p (λ o. w.sender.acknowledged o && not (gone_at p w.sender.gone o)) s w.sender.point (length p.places) within past in
-    let same = bytes_same p (λ o. w.sender.acknowledged o && not (gone_at p w.sender.gone o)) (λ o. true) s w.sender.point (λ o l st. below o l) in
+    let tail = bytes_tail p (λ o. w.sender.acknowledged o && not (gone_at p w.sender.gone o)) s w.sender.reach (length p.places) within past in
+    let same = bytes_same p (λ o. w.sender.acknowledged o && not (gone_at p w.sender.gone o)) (λ o. true) s w.sender.reach (λ o l st. below o l) in
     let none = released_none p w.sender.gone s (h.stays s) in
     let all = inv.released s in
     omega arith
   where
-    past : (o : ℕ) → w.sender.point ≤ o → (w.sender.acknowledged o && not (gone_at w.sender.plan w.sender.gone o)) ≡ false
+    past : (o : ℕ) → w.sender.reach ≤ o → (w.sender.acknowledged o && not (gone_at w.sender.plan w.sender.gone o)) ≡ false
     past o l = rw (h.acknowledged o, le-ltb _ _ l) refl
 
-    below : (o : ℕ) → o < w.sender.point → (w.sender.acknowledged o && not (gone_at w.sender.plan w.sender.gone o)) ≡ true
+    below : (o : ℕ) → o < w.sender.reach → (w.sender.acknowledged o && not (gone_at w.sender.plan w.sender.gone o)) ≡ true
     below o l = rw (h.acknowledged o, lt-ltb _ _ l, h.stays (place_at w.sender.plan o).stream (place_at w.sender.plan o).message) refl
 
--- no more bytes lie below the acknowledged point than were accepted
-pub plain_within : (w : Direction) (s : ℕ) → Invariant w → IsPlain w → w.sender.point ≤ length w.sender.plan.places
-    → bytes_to w.sender.plan s w.sender.point ≤ accepted_bytes w.sender.plan s
+-- no more bytes lie below the acknowledged reach than were accepted
+pub plain_within : (w : Direction) (s : ℕ) → Invariant w → IsPlain w → w.sender.reach ≤ length w.sender.plan.places
+    → bytes_to w.sender.plan s w.sender.reach ≤ accepted_bytes w.sender.plan s
 plain_within w s inv h within =
     let most = released_within w.sender.plan w.over w.sender.acknowledged w.sender.gone s inv.planned in
     let all = inv.released s in
@@ -63,16 +63,16 @@ plain_within w s inv h within =
 
 -- One piece
 
--- the direction with its acknowledged point at this offset
+-- the direction with its acknowledged reach at this offset
 abbrev pub standing : Direction → ℕ → Direction
-standing w o = record w { sender = record w.sender { point = o; released = λ s. bytes_to w.sender.plan s o } }
+standing w o = record w { sender = record w.sender { reach = o; released = λ s. bytes_to w.sender.plan s o } }
 
-live_stream : (o : Option Stream) (generation : ℕ) → is_generation o generation ≡ true → (t : Stream) × (o ≡ Some t)
+live_stream : (o : Option StreamView) (generation : ℕ) → is_generation o generation ≡ true → (t : StreamView) × (o ≡ Some t)
 live_stream None generation l = absurd (false≢true l)
 live_stream (Some t) generation l = (t, refl)
 
 -- a piece that is outstanding releases its bytes
-streams_released : (initial : ℕ) (p : Plan) (m : StreamMap) (o : ℕ) (x : InFlight) (t : Stream) → IsInFlight initial p m o x
+streams_released : (initial : ℕ) (p : Plan) (m : StreamMap) (o : ℕ) (x : InFlight) (t : StreamView) → IsInFlight initial p m o x
     → stream_at m x.message.stream_identifier ≡ Some t → streams_after (Some x) m ≡ with_stream m x.message.stream_identifier (released_from t (length x.user_data))
 streams_released initial p m o x t h e =
     cond-true _ (changed_stream (λ s. released_from s (outstanding_bytes x)) m x.message.stream_identifier) m h.live
@@ -99,7 +99,7 @@ bytes_here initial p m o s x sent h =
 module _ (a : Parts) (w : Direction) (o : ℕ) (x : InFlight) (xs : List InFlight) (h : IsPlain w)
     (least : (s : ℕ) → bytes_to w.sender.plan s (suc o) ≤ accepted_bytes w.sender.plan s) (f : FitsOutgoing a (standing w o))
     (k : IsInFlight a.history.own w.sender.plan a.streams o x) (rest : AreInFlight a.history.own w.sender.plan a.streams (suc o) xs)
-    (t : Stream) (e : stream_at a.streams x.message.stream_identifier ≡ Some t) where
+    (t : StreamView) (e : stream_at a.streams x.message.stream_identifier ≡ Some t) where
   grows : (s : ℕ) → bytes_to w.sender.plan s (suc o) ≡ cond (eqb s x.message.stream_identifier) (length x.user_data) 0 + bytes_to w.sender.plan s o
   grows s = bytes_here a.history.own w.sender.plan a.streams o s x (h.places o k.known).sent k
 
@@ -180,39 +180,39 @@ all_acknowledged (suc n) a w o within h least f =
 
 -- A SACK comes
 
--- a SACK at or past the acknowledged point is taken
-pub happens_sack_comes : (w : Direction) (k : ℕ) (x : Sack) → slice_get w.sacks k ≡ Some x → w.sender.point ≤ x.point
+-- a SACK at or past the acknowledged reach is taken
+pub happens_sack_comes : (w : Direction) (k : ℕ) (x : Sack) → slice_get w.sacks k ≡ Some x → w.sender.reach ≤ x.reach
     → happens w (Event.SackComes k) ≡ record w { sender = acknowledged_by w.sender x }
 unfolding happens
 happens_sack_comes w k x e l = ap (sack_comes w) e ∙ cond-false _ w (record w { sender = acknowledged_by w.sender x }) (le-ltb _ _ l)
 
 -- So many of the first pieces in flight are acknowledged by a SACK: the direction's sender takes it.
-pub acknowledged : (a : Parts) (n k : ℕ) (x : Sack) (w : Direction) → slice_get w.sacks k ≡ Some x → x.point ≡ w.sender.point + n → n ≤ length a.queue.in_flight
+pub acknowledged : (a : Parts) (n k : ℕ) (x : Sack) (w : Direction) → slice_get w.sacks k ≡ Some x → x.reach ≡ w.sender.reach + n → n ≤ length a.queue.in_flight
     → Invariant w → IsPlain w → FitsOutgoing a w → FitsOutgoing (done (Act.Acknowledged n) a) (happens w (Event.SackComes k))
 acknowledged a n k x w e at within inv h f =
     subst (FitsOutgoing (without_first_pieces n a)) (sym (happens_sack_comes w k x e ahead))
-    (fits_as (without_first_pieces n a) (standing w (w.sender.point + n)) v refl refl at released
-    (all_acknowledged n a w w.sender.point within h
+    (fits_as (without_first_pieces n a) (standing w (w.sender.reach + n)) v refl refl at released
+    (all_acknowledged n a w w.sender.reach within h
     (λ s. subst (λ z. bytes_to w.sender.plan s z ≤ accepted_bytes w.sender.plan s) at (plain_within v s inv_now plain_now known_now))
-    (fits_as a w (standing w w.sender.point) refl refl refl (λ s. sym (plain_released w s inv h known_then)) f)))
+    (fits_as a w (standing w w.sender.reach) refl refl refl (λ s. sym (plain_released w s inv h known_then)) f)))
   where
     v : Direction
     v = record w { sender = acknowledged_by w.sender x }
 
-    ahead : w.sender.point ≤ x.point
+    ahead : w.sender.reach ≤ x.reach
     ahead = omega arith
 
-    known_now : x.point ≤ length w.sender.plan.places
-    known_now = let n = flight_length a.history.own w.sender.plan a.streams w.sender.point a.queue.in_flight f.flight in omega arith
+    known_now : x.reach ≤ length w.sender.plan.places
+    known_now = let n = flight_length a.history.own w.sender.plan a.streams w.sender.reach a.queue.in_flight f.flight in omega arith
 
-    known_then : w.sender.point ≤ length w.sender.plan.places
+    known_then : w.sender.reach ≤ length w.sender.plan.places
     known_then = let far = known_now in let on = ahead in omega arith
 
     inv_now : Invariant v
-    inv_now = keeps_sack_comes w x ahead (all_get (IsHonest w.receiver.taken w.receiver.passed (point w.receiver)) w.sacks k x e inv.sacks) inv
+    inv_now = keeps_sack_comes w x ahead (all_get (IsHonest w.receiver.taken w.receiver.passed (reach w.receiver)) w.sacks k x e inv.sacks) inv
 
     plain_now : IsPlain v
     plain_now = plain_acknowledged w x (all_get (λ (z : Sack). z.above ≡ []) w.sacks k x e h.sacks) ahead h
 
-    released : (s : ℕ) → v.sender.released s ≡ bytes_to w.sender.plan s (w.sender.point + n)
+    released : (s : ℕ) → v.sender.released s ≡ bytes_to w.sender.plan s (w.sender.reach + n)
     released s = plain_released v s inv_now plain_now known_now ∙ ap (bytes_to w.sender.plan s) at

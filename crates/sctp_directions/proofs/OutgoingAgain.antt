@@ -7,7 +7,7 @@ use Rattle.sctp_outbound_queue.specs.declared.message.InFlight.{InFlight}
 use Rattle.sctp_outbound_queue.specs.Message.{counted_again, is_outstanding, marked_again}
 use Rattle.sctp_outbound_queue.specs.Outbound.{changed_from}
 use Rattle.sctp_outbound.specs.Sender.{chunk_of}
-use Rattle.sctp_queues.specs.Streams.{StreamMap}
+use Rattle.sctp_streams.specs.Streams.{StreamMap}
 use Rattle.sctp_model.specs.Serial.{tsn}
 use Rattle.sctp_model.specs.Messages.{Plan}
 use Rattle.sctp_model.specs.Packets.{Data, data_at}
@@ -50,33 +50,33 @@ pub record IsResent (a : Parts) (act : Act) (w : Direction) (o : ℕ) : Type 0 w
   pub given : AllByRecursion (IsGiven a.history.own (happens w (Event.Resend o))) (data_given act a)
 
 -- An association sends a piece again: the direction gives out the DATA of its offset again.
-pub sent_again : (a : Parts) (place : ℕ) (w : Direction) → Can (Act.SentAgain place) a → IsPlain w → FitsOutgoing a w
-    → IsResent a (Act.SentAgain place) w (w.sender.point + place)
-sent_again a place w can h f = by_piece (slice_get a.queue.in_flight place) refl
+pub sent_again : (a : Parts) (index : ℕ) (w : Direction) → Can (Act.SentAgain index) a → IsPlain w → FitsOutgoing a w
+    → IsResent a (Act.SentAgain index) w (w.sender.reach + index)
+sent_again a index w can h f = by_piece (slice_get a.queue.in_flight index) refl
   where
-    within : w.sender.point + place < length w.sender.plan.places
-    within = let n = flight_length a.history.own w.sender.plan a.streams w.sender.point a.queue.in_flight f.flight in omega arith
+    within : w.sender.reach + index < length w.sender.plan.places
+    within = let n = flight_length a.history.own w.sender.plan a.streams w.sender.reach a.queue.in_flight f.flight in omega arith
 
-    by_piece : (o : Option InFlight) → slice_get a.queue.in_flight place ≡ o → IsResent a (Act.SentAgain place) w (w.sender.point + place)
-    by_piece None e = absurd (found a.queue.in_flight place can e)
+    by_piece : (o : Option InFlight) → slice_get a.queue.in_flight index ≡ o → IsResent a (Act.SentAgain index) w (w.sender.reach + index)
+    by_piece None e = absurd (found a.queue.in_flight index can e)
     by_piece (Some x) e =
-        let event = happens_resend w (w.sender.point + place) within h in
-        let here = flight_at a.history.own w.sender.plan a.streams w.sender.point a.queue.in_flight place x e f.flight in
+        let event = happens_resend w (w.sender.reach + index) within h in
+        let here = flight_at a.history.own w.sender.plan a.streams w.sender.reach a.queue.in_flight index x e f.flight in
         record {
-          fits = subst (FitsOutgoing (done (Act.SentAgain place) a)) (sym event)
-              (subst (λ o. FitsOutgoing (record a { queue = changed_from counted_again o a.queue place }) (record w { datas = w.datas ++ data_at w.sender.plan (w.sender.point + place) ∷ [] })) (sym e)
+          fits = subst (FitsOutgoing (done (Act.SentAgain index) a)) (sym event)
+              (subst (λ o. FitsOutgoing (record a { queue = changed_from counted_again o a.queue index }) (record w { datas = w.datas ++ data_at w.sender.plan (w.sender.reach + index) ∷ [] })) (sym e)
               (record {
                 base = f.base;
-                flight = flight_again a.history.own w.sender.plan a.streams w.sender.point a.queue.in_flight place x e f.flight;
+                flight = flight_again a.history.own w.sender.plan a.streams w.sender.reach a.queue.in_flight index x e f.flight;
                 waiting = f.waiting;
                 own_streams = f.own_streams;
               }));
-          given = subst (λ o. AllByRecursion (IsGiven a.history.own (happens w (Event.Resend (w.sender.point + place)))) (chunk_said o (tsn a.history.own (a.history.base + place)))) (sym e) (
-            subst (λ v. IsGiven a.history.own v (chunk_of x (tsn a.history.own (a.history.base + place)))) (sym event) (
+          given = subst (λ o. AllByRecursion (IsGiven a.history.own (happens w (Event.Resend (w.sender.reach + index)))) (chunk_said o (tsn a.history.own (a.history.base + index)))) (sym e) (
+            subst (λ v. IsGiven a.history.own v (chunk_of x (tsn a.history.own (a.history.base + index)))) (sym event) (
               length w.datas,
-              data_at w.sender.plan (w.sender.point + place),
+              data_at w.sender.plan (w.sender.reach + index),
               got_last w.datas _,
-              subst (λ b. IsSaid a.history.own (chunk_of x (tsn a.history.own (b + place))) (data_at w.sender.plan (w.sender.point + place))) (sym f.base) here.said,
+              subst (λ b. IsSaid a.history.own (chunk_of x (tsn a.history.own (b + index))) (data_at w.sender.plan (w.sender.reach + index))) (sym f.base) here.said,
             ),
             tt,
           );
@@ -95,7 +95,7 @@ flight_marked initial p m o (x ∷ xs) (h, hs) = (in_flight_marked initial p m o
 pub marked : (a : Parts) (w : Direction) → FitsOutgoing a w → FitsOutgoing (done Act.Marked a) w
 marked a w f = record {
   base = f.base;
-  flight = flight_marked a.history.own w.sender.plan a.streams w.sender.point a.queue.in_flight f.flight;
+  flight = flight_marked a.history.own w.sender.plan a.streams w.sender.reach a.queue.in_flight f.flight;
   waiting = f.waiting;
   own_streams = f.own_streams;
 }

@@ -3,10 +3,10 @@ use Rattle.std.proofs.Common.{ℕ, zero, suc, ◌+◌, ◌≡◌, ◌%◌, true,
 use Rattle.std.proofs.lemmas.Bool.{cases_eq, cond-true, cond-false, eq-eqb, ne_eqb, false≢true}
 use Rattle.sctp_wire_types.specs.declared.ids.PayloadProtocolIdentifier.{PayloadProtocolIdentifier}
 use Rattle.sctp_wire_types.specs.declared.chunk.ChunkPayloadData.{ChunkPayloadData}
-use Rattle.sctp_receive_queues.specs.Messages.{Message}
+use Rattle.sctp_receive_queues.specs.Messages.{ReceivedMessage}
 use Rattle.sctp_receive_queues.specs.Reassembly.{Reassembly, taken}
-use Rattle.sctp_queues.specs.Stream.{Stream, fresh_stream, read_with, stream_pushed, stream_read}
-use Rattle.sctp_queues.specs.Streams.{StreamMap, is_generation, made, pushed_at, read_at, stream_at, with_stream}
+use Rattle.sctp_streams.specs.Stream.{StreamView, fresh_stream, read_with, stream_pushed, stream_read}
+use Rattle.sctp_streams.specs.Streams.{StreamMap, is_generation, made, pushed_at, read_at, stream_at, with_stream}
 use Rattle.sctp_model.specs.Machine.{Direction}
 use Rattle.sctp_assoc.specs.Acts.{Act, History, Parts, done, with_taken, with_written, without_first_piece, without_first_pieces}
 use Rattle.sctp_directions.specs.Laws.{MeetsNobody}
@@ -16,7 +16,7 @@ use Rattle.sctp_assoc.proofs.Proved.{at_made}
 
 -- A stream is opened
 
-each_made : (m : StreamMap) (id first : ℕ) (kind : PayloadProtocolIdentifier) (P : ℕ → Option Stream → Type 0) → stream_at m id ≡ None
+each_made : (m : StreamMap) (id first : ℕ) (kind : PayloadProtocolIdentifier) (P : ℕ → Option StreamView → Type 0) → stream_at m id ≡ None
     → ((s : ℕ) → (s ≡ id → ⊥) → P s (stream_at m s)) → P id (Some (fresh_stream id m.next_generation first kind)) → (s : ℕ) → P s (stream_at (made m id first kind) s)
 each_made m id first kind P e all here s = ⊎_elim
     (λ (a : s ≡ id). subst (P s) (sym (at_made m id first s kind e ∙ cond-true _ (Some (fresh_stream id m.next_generation first kind)) (stream_at m s) (eq-eqb s id a)))
@@ -47,13 +47,13 @@ opened a id first kind w e f = fits_streams a (made a.streams id first kind) a.h
 -- The receiver's half of a stream changes
 
 -- The stream u is t as far as its sender goes.
-pub record IsSameSender (t u : Stream) : Type 0 where
+pub record IsSameSender (t u : StreamView) : Type 0 where
   pub generation : u.stats.generation ≡ t.stats.generation
   pub params : u.params ≡ t.params
   pub ssn : u.next_ssn ≡ t.next_ssn
   pub buffered : u.buffered ≡ t.buffered
 
-fits_beside : (a : Parts) (h : History) (id : ℕ) (t u : Stream) (w : Direction) → h.own ≡ a.history.own → h.base ≡ a.history.base → stream_at a.streams id ≡ Some t
+fits_beside : (a : Parts) (h : History) (id : ℕ) (t u : StreamView) (w : Direction) → h.own ≡ a.history.own → h.base ≡ a.history.base → stream_at a.streams id ≡ Some t
     → IsSameSender t u → FitsOutgoing a w → FitsOutgoing (record { queue = a.queue; streams = with_stream a.streams id u; history = h }) w
 fits_beside a h id t u w own base e s f = fits_streams a (with_stream a.streams id u) h w own base (live_with a.streams id t u e s.generation) all f
   where
@@ -71,11 +71,11 @@ fits_history : (a : Parts) (h : History) (w : Direction) → h.own ≡ a.history
     → FitsOutgoing (record a { history = h }) w
 fits_history a h w own base f = fits_streams a a.streams h w own base (λ s g l. l) f.own_streams f
 
--- The DATA at the point was taken in.
+-- The DATA at the reach was taken in.
 pub took : (a : Parts) (piece : ChunkPayloadData) (w : Direction) → FitsOutgoing a w → FitsOutgoing (done (Act.Took piece) a) w
 took a piece w f = by_stream (stream_at a.streams piece.stream_identifier) refl
   where
-    by_stream : (o : Option Stream) → stream_at a.streams piece.stream_identifier ≡ o → FitsOutgoing (done (Act.Took piece) a) w
+    by_stream : (o : Option StreamView) → stream_at a.streams piece.stream_identifier ≡ o → FitsOutgoing (done (Act.Took piece) a) w
     by_stream None e = subst (λ o. FitsOutgoing (record a { streams = (pushed_at o a.streams piece.stream_identifier piece).0; history = with_taken a.history }) w) (sym e)
         (fits_history a (with_taken a.history) w refl refl f)
     by_stream (Some t) e = subst (λ o. FitsOutgoing (record a { streams = (pushed_at o a.streams piece.stream_identifier piece).0; history = with_taken a.history }) w) (sym e)
@@ -83,7 +83,7 @@ took a piece w f = by_stream (stream_at a.streams piece.stream_identifier) refl
         (record { generation = refl; params = refl; ssn = refl; buffered = refl }) f)
 
 -- a read changes what was received alone
-read_beside : (t : Stream) (r : Reassembly × Option Message) → IsSameSender t (read_with t r).0
+read_beside : (t : StreamView) (r : Reassembly × Option ReceivedMessage) → IsSameSender t (read_with t r).0
 read_beside t (r, None) = record { generation = refl; params = refl; ssn = refl; buffered = refl }
 read_beside t (r, Some m) = record { generation = refl; params = refl; ssn = refl; buffered = refl }
 
@@ -91,7 +91,7 @@ read_beside t (r, Some m) = record { generation = refl; params = refl; ssn = ref
 pub was_read : (a : Parts) (id : ℕ) (w : Direction) → FitsOutgoing a w → FitsOutgoing (done (Act.WasRead id) a) w
 was_read a id w f = by_stream (stream_at a.streams id) refl
   where
-    by_stream : (o : Option Stream) → stream_at a.streams id ≡ o → FitsOutgoing (done (Act.WasRead id) a) w
+    by_stream : (o : Option StreamView) → stream_at a.streams id ≡ o → FitsOutgoing (done (Act.WasRead id) a) w
     by_stream None e = subst (λ o. FitsOutgoing (record a { streams = (read_at o a.streams id).0 }) w) (sym e) (fits_history a a.history w refl refl f)
     by_stream (Some t) e = subst (λ o. FitsOutgoing (record a { streams = (read_at o a.streams id).0 }) w) (sym e)
         (fits_beside a a.history id t (stream_read t).0 w refl refl e (read_beside t (taken t.reassembly)) f)
@@ -106,18 +106,18 @@ pieces_initials : (n : ℕ) (a : Parts) → ((without_first_pieces n a).history.
 pieces_initials zero a = (refl, refl)
 pieces_initials (suc n) a = pieces_initials n (without_first_piece a)
 
-written_initials : (o : Option Stream) (a : Parts) (id : ℕ) (bytes : List ℕ)
+written_initials : (o : Option StreamView) (a : Parts) (id : ℕ) (bytes : List ℕ)
     → ((with_written o a id bytes).history.own ≡ a.history.own) × ((with_written o a id bytes).history.peer ≡ a.history.peer)
 written_initials None a id bytes = (refl, refl)
 written_initials (Some t) a id bytes = (refl, refl)
 
 -- No act but a meeting changes the initial TSNs of an association's directions.
 pub same_initials : (x : Act) (a : Parts) → MeetsNobody x → ((done x a).history.own ≡ a.history.own) × ((done x a).history.peer ≡ a.history.peer)
-same_initials (Act.Met t) a nobody = absurd nobody
+same_initials (Act.PeerKnown t) a nobody = absurd nobody
 same_initials (Act.Opened id first kind) a nobody = (refl, refl)
 same_initials (Act.Wrote id bytes) a nobody = written_initials (stream_at a.streams id) a id bytes
 same_initials (Act.Sent now) a nobody = (refl, refl)
-same_initials (Act.SentAgain place) a nobody = (refl, refl)
+same_initials (Act.SentAgain index) a nobody = (refl, refl)
 same_initials Act.Marked a nobody = (refl, refl)
 same_initials (Act.Acknowledged n) a nobody = pieces_initials n a
 same_initials (Act.Took piece) a nobody = (refl, refl)

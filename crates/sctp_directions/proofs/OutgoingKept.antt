@@ -4,8 +4,8 @@ use Rattle.std.specs.Prelude.{slice_get}
 use Rattle.std.proofs.lemmas.Bool.{cases_eq, cond-true, cond-false, eq-eqb, ne_eqb}
 use Rattle.sctp_outbound_queue.specs.declared.message.InFlight.{InFlight}
 use Rattle.sctp_outbound_queue.specs.Waiting.{Waiting}
-use Rattle.sctp_queues.specs.Stream.{Stream}
-use Rattle.sctp_queues.specs.Streams.{StreamMap, is_generation, stream_at, with_stream}
+use Rattle.sctp_streams.specs.Stream.{StreamView}
+use Rattle.sctp_streams.specs.Streams.{StreamMap, is_generation, stream_at, with_stream}
 use Rattle.sctp_model.specs.Messages.{Message, Plan, message_at, no_message, place_at, sum_below}
 use Rattle.sctp_model.specs.Packets.{data_at}
 use Rattle.sctp_model.specs.Machine.{Direction, put}
@@ -26,7 +26,7 @@ abbrev pub KeepsLive : StreamMap → StreamMap → Type 0
 KeepsLive m n = (s generation : ℕ) → is_generation (stream_at m s) generation ≡ true → is_generation (stream_at n s) generation ≡ true
 
 -- what holds of one stream that is another now, and of each other one, holds of all
-pub each_with : (m : StreamMap) (id : ℕ) (t u : Stream) (P : ℕ → Option Stream → Type 0) → stream_at m id ≡ Some t
+pub each_with : (m : StreamMap) (id : ℕ) (t u : StreamView) (P : ℕ → Option StreamView → Type 0) → stream_at m id ≡ Some t
     → ((s : ℕ) → (s ≡ id → ⊥) → P s (stream_at m s)) → P id (Some u) → (s : ℕ) → P s (stream_at (with_stream m id u) s)
 each_with m id t u P e all here s = ⊎_elim
     (λ (a : s ≡ id). subst (P s) (sym (at_with m id s t u e ∙ cond-true _ (Some u) (stream_at m s) (eq-eqb s id a))) (subst (λ z. P z (Some u)) (sym a) here))
@@ -34,7 +34,7 @@ each_with m id t u P e all here s = ⊎_elim
     (cases_eq s id)
 
 -- a stream is another of its generation now
-pub live_with : (m : StreamMap) (id : ℕ) (t u : Stream) → stream_at m id ≡ Some t → u.stats.generation ≡ t.stats.generation → KeepsLive m (with_stream m id u)
+pub live_with : (m : StreamMap) (id : ℕ) (t u : StreamView) → stream_at m id ≡ Some t → u.stats.generation ≡ t.stats.generation → KeepsLive m (with_stream m id u)
 live_with m id t u e same s = each_with m id t u
     (λ s o. (generation : ℕ) → is_generation (stream_at m s) generation ≡ true → is_generation o generation ≡ true) e
     (λ s ne g l. l)
@@ -147,7 +147,7 @@ abbrev pub bytes_in : List Message → ℕ
 bytes_in ms = sum_below (λ i. length (get_or ms i no_message).bytes) (length ms)
 
 -- what a stream counts of its own messages hangs on those accepted on it alone
-pub own_kept : (p q : Plan) (freed s : ℕ) (o : Option Stream) → q.accepted s ≡ p.accepted s → IsOwnAt p freed s o → IsOwnAt q freed s o
+pub own_kept : (p q : Plan) (freed s : ℕ) (o : Option StreamView) → q.accepted s ≡ p.accepted s → IsOwnAt p freed s o → IsOwnAt q freed s o
 own_kept p q freed s None e h = (e ∙ h.0, h.1)
 own_kept p q freed s (Some t) e h = record {
   params = h.params;
@@ -161,18 +161,18 @@ pub fits_streams : (a : Parts) (n : StreamMap) (h : History) (w : Direction) →
     → FitsOutgoing (record { queue = a.queue; streams = n; history = h }) w
 fits_streams a n h w own base live all f = record {
   base = base ∙ f.base;
-  flight = subst (λ z. AreInFlight z w.sender.plan n w.sender.point a.queue.in_flight) (sym own)
+  flight = subst (λ z. AreInFlight z w.sender.plan n w.sender.reach a.queue.in_flight) (sym own)
       (flight_kept _ w.sender.plan w.sender.plan a.streams n _ _ (grown_same w.sender.plan) refl live f.flight);
   waiting = waiting_kept w.sender.plan w.sender.plan a.streams n _ _ (grown_same w.sender.plan) (λ s. refl) live f.waiting;
   own_streams = all;
 }
 
 -- A direction whose sender has the same plan, counters and released bytes is as good.
-pub fits_as : (a : Parts) (w v : Direction) → v.sender.plan ≡ w.sender.plan → v.sender.next ≡ w.sender.next → v.sender.point ≡ w.sender.point
+pub fits_as : (a : Parts) (w v : Direction) → v.sender.plan ≡ w.sender.plan → v.sender.next ≡ w.sender.next → v.sender.reach ≡ w.sender.reach
     → ((s : ℕ) → v.sender.released s ≡ w.sender.released s) → FitsOutgoing a w → FitsOutgoing a v
 fits_as a w v p n o r f = record {
   base = f.base ∙ sym o;
-  flight = subst (λ z. AreInFlight a.history.own z a.streams v.sender.point a.queue.in_flight) (sym p)
+  flight = subst (λ z. AreInFlight a.history.own z a.streams v.sender.reach a.queue.in_flight) (sym p)
       (subst (λ z. AreInFlight a.history.own w.sender.plan a.streams z a.queue.in_flight) (sym o) f.flight);
   waiting = subst (λ z. AreWaiting z a.streams v.sender.next a.queue.pending) (sym p)
       (subst (λ z. AreWaiting w.sender.plan a.streams z a.queue.pending) (sym n) f.waiting);

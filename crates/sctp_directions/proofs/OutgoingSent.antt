@@ -9,7 +9,7 @@ use Rattle.sctp_outbound_queue.specs.Waiting.{Waiting}
 use Rattle.sctp_outbound_queue.specs.Message.{sent_once}
 use Rattle.sctp_outbound_queue.specs.Outbound.{sent_from}
 use Rattle.sctp_outbound.specs.Sender.{chunk_of, next_chunk_of}
-use Rattle.sctp_queues.specs.Streams.{StreamMap, stream_at}
+use Rattle.sctp_streams.specs.Streams.{StreamMap, stream_at}
 use Rattle.sctp_model.specs.Serial.{tsn}
 use Rattle.sctp_model.specs.Messages.{Place, Plan, message_at, place_at}
 use Rattle.sctp_model.specs.Packets.{data_of}
@@ -57,8 +57,8 @@ flight_begun initial p q m o (y ∷ ys) x g e h (k, ks) =
     (in_flight_kept initial p q m m o y g (λ s generation l. l) k, flight_begun initial p q m (suc o) ys x g e h ks)
 
 -- the place and the direction of a message that waits, once it begins
-abbrev place_of : Direction → Waiting → Place
-place_of w x = first_place x.message.stream_identifier (w.sender.next x.message.stream_identifier) (w.sender.next x.message.stream_identifier)
+abbrev index_of : Direction → Waiting → Place
+index_of w x = first_place x.message.stream_identifier (w.sender.next x.message.stream_identifier) (w.sender.next x.message.stream_identifier)
 
 abbrev begun_by : Direction → Waiting → Direction
 begun_by w x = with_begun w x.message.stream_identifier (w.sender.next x.message.stream_identifier)
@@ -70,11 +70,11 @@ module _ (a : Parts) (now : ℕ) (x : Waiting) (xs : List Waiting) (w : Directio
   simple = h.messages x.message.stream_identifier (w.sender.next x.message.stream_identifier) k.known
 
   said : (o : ℕ) → IsSaid a.history.own (next_chunk_of x (tsn a.history.own o))
-      (data_of w.sender.plan o (place_of w x))
+      (data_of w.sender.plan o (index_of w x))
   said o = said_first a.history.own w.sender.plan a.streams o (w.sender.next x.message.stream_identifier) x k simple
 
   now_on : place_at (begun_by w x).sender.plan (length w.sender.plan.places)
-      ≡ place_of w x
+      ≡ index_of w x
   now_on = place_new w.sender.plan _ (length w.sender.plan.places) refl
 
   grown : IsGrown w.sender.plan (begun_by w x).sender.plan
@@ -87,7 +87,7 @@ module _ (a : Parts) (now : ℕ) (x : Waiting) (xs : List Waiting) (w : Directio
     known = omega (
       arith,
       length_push w.sender.plan.places
-          (place_of w x),
+          (index_of w x),
     );
     said = subst (λ z. IsSaid a.history.own (chunk_of (sent_once now x) (tsn a.history.own (length w.sender.plan.places)))
         (data_of (begun_by w x).sender.plan (length w.sender.plan.places) z))
@@ -100,7 +100,7 @@ module _ (a : Parts) (now : ℕ) (x : Waiting) (xs : List Waiting) (w : Directio
   fits_begun : FitsOutgoing (record a { queue = sent_from (x ∷ xs) a.queue now }) (begun_by w x)
   fits_begun = record {
     base = f.base;
-    flight = flight_begun a.history.own w.sender.plan _ a.streams w.sender.point a.queue.in_flight (sent_once now x) grown (length_placed w.sender.plan _) new_flies f.flight;
+    flight = flight_begun a.history.own w.sender.plan _ a.streams w.sender.reach a.queue.in_flight (sent_once now x) grown (length_placed w.sender.plan _) new_flies f.flight;
     waiting = subst (AreWaiting (begun_by w x).sender.plan a.streams
         (one_begun w.sender.next x.message.stream_identifier))
         (sym (cond-true _ xs _ (ap (λ z. eqb (length z) 0) k.whole)))
@@ -114,8 +114,8 @@ module _ (a : Parts) (now : ℕ) (x : Waiting) (xs : List Waiting) (w : Directio
     length w.datas,
     _,
     got_last w.datas _,
-    subst (λ o. IsSaid a.history.own (next_chunk_of x (tsn a.history.own o)) (next_data w.sender (place_of w x)))
-        (let n = flight_length a.history.own w.sender.plan a.streams w.sender.point a.queue.in_flight f.flight in let b = f.base in
+    subst (λ o. IsSaid a.history.own (next_chunk_of x (tsn a.history.own o)) (next_data w.sender (index_of w x)))
+        (let n = flight_length a.history.own w.sender.plan a.streams w.sender.reach a.queue.in_flight f.flight in let b = f.base in
         let e : length w.sender.plan.places ≡ a.history.base + length a.queue.in_flight = omega arith in e)
         new_flies.said,
   )

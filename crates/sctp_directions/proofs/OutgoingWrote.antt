@@ -7,8 +7,8 @@ use Rattle.sctp_wire_types.specs.declared.ids.PayloadProtocolIdentifier.TheVaria
 use Rattle.sctp_outbound_queue.specs.Waiting.{Waiting}
 use Rattle.sctp_outbound_queue.specs.Message.{accepted}
 use Rattle.sctp_outbound_queue.specs.Outbound.{with_message}
-use Rattle.sctp_queues.specs.Stream.{Stream, accepted_by, ordered_and_reliable, params_for}
-use Rattle.sctp_queues.specs.Streams.{StreamMap, change_at, is_generation, stream_at, with_stream}
+use Rattle.sctp_streams.specs.Stream.{StreamView, accepted_by, ordered_and_reliable, params_for}
+use Rattle.sctp_streams.specs.Streams.{StreamMap, change_at, is_generation, stream_at, with_stream}
 use Rattle.sctp_model.specs.Messages.{Message, Plan, message_at, no_message, sum_below}
 use Rattle.sctp_model.specs.Machine.{Direction, Event, happens, written}
 use Rattle.sctp_model.specs.Machine as machine
@@ -73,7 +73,7 @@ waiting_written p m n next (y ∷ ys) x new g l h (k, ks) =
 -- Streams
 
 -- what a stream with the params of the start gives its messages
-params_plain : (t : Stream) (kind : PayloadProtocolIdentifier) → t.params ≡ ordered_and_reliable → params_for t kind ≡ ordered_and_reliable
+params_plain : (t : StreamView) (kind : PayloadProtocolIdentifier) → t.params ≡ ordered_and_reliable → params_for t kind ≡ ordered_and_reliable
 params_plain t kinds.Dcep e = refl
 params_plain t kinds.String e = e
 params_plain t kinds.Binary e = e
@@ -81,7 +81,7 @@ params_plain t kinds.StringEmpty e = e
 params_plain t kinds.BinaryEmpty e = e
 params_plain t kinds.Unknown e = e
 
-own_written : (p : Plan) (freed id : ℕ) (t : Stream) (m : Message) → IsOwn p freed id t
+own_written : (p : Plan) (freed id : ℕ) (t : StreamView) (m : Message) → IsOwn p freed id t
     → IsOwn (machine.with_message p id m) freed id (accepted_by t t.default_payload_type (length m.bytes))
 own_written p freed id t m h =
     let grown = at_put p.accepted id id (p.accepted id ++ m ∷ []) refl in
@@ -99,13 +99,13 @@ own_written p freed id t m h =
 
 -- The write
 
-abbrev plan_wrote : Plan → ℕ → Stream → List ℕ → Plan
+abbrev plan_wrote : Plan → ℕ → StreamView → List ℕ → Plan
 plan_wrote p id t bytes = machine.with_message p id (message_on t bytes)
 
-abbrev streams_wrote : StreamMap → ℕ → Stream → List ℕ → StreamMap
+abbrev streams_wrote : StreamMap → ℕ → StreamView → List ℕ → StreamMap
 streams_wrote m id t bytes = with_stream m id (accepted_by t t.default_payload_type (length bytes))
 
-module _ (a : Parts) (id : ℕ) (bytes : List ℕ) (t : Stream) (w : Direction) (e : stream_at a.streams id ≡ Some t) (h : IsPlain w) (f : FitsOutgoing a w) where
+module _ (a : Parts) (id : ℕ) (bytes : List ℕ) (t : StreamView) (w : Direction) (e : stream_at a.streams id ≡ Some t) (h : IsPlain w) (f : FitsOutgoing a w) where
   grown : IsGrown w.sender.plan (plan_wrote w.sender.plan id t bytes)
   grown = grown_from _ _ (message_extended w.sender.plan id (message_on t bytes)
       (plain_known w h (waiting_within w.sender.plan a.streams w.sender.next a.queue.pending f.waiting)))
@@ -150,7 +150,7 @@ module _ (a : Parts) (id : ℕ) (bytes : List ℕ) (t : Stream) (w : Direction) 
   }
 
 -- A write of an association on a live stream: the direction's sender accepts the message as the stream has it.
-pub wrote : (a : Parts) (id : ℕ) (bytes : List ℕ) (t : Stream) (w : Direction) → stream_at a.streams id ≡ Some t → 0 < length bytes → length bytes ≤ w.sender.plan.size
+pub wrote : (a : Parts) (id : ℕ) (bytes : List ℕ) (t : StreamView) (w : Direction) → stream_at a.streams id ≡ Some t → 0 < length bytes → length bytes ≤ w.sender.plan.size
     → IsPlain w → FitsOutgoing a w → FitsOutgoing (done (Act.Wrote id bytes) a) (happens w (Event.Write id (message_on t bytes)))
 wrote a id bytes t w e some one h f =
     subst (FitsOutgoing (done (Act.Wrote id bytes) a)) (sym (happens_write w id (message_on t bytes) record { some = some; one = one; ordered = refl; policy = refl }))

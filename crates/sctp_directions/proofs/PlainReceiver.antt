@@ -1,68 +1,68 @@
--- What the receiver of a plain direction does: its point moves by one with each DATA, and it leaves the sender's side as it is.
+-- What the receiver of a plain direction does: its reach moves by one with each DATA, and it leaves the sender's side as it is.
 use Rattle.std.proofs.Common.{◌≡◌, ◌⊎◌, refl, sym, ap, ◌∙◌, subst, subst₂, inl, inr, ⊎_elim, ℕ, zero, suc, ◌+◌, ◌^◌, ◌<◌, ◌≤◌, arith, true, false, leb, List, [], ◌∷◌, ◌++◌, length, Option, Some, None}
 use Rattle.std.specs.Prelude.{filter, slice_get}
 use Rattle.std.specs.List.{AllByRecursion}
 use Rattle.std.proofs.lemmas.Bool.{and_from, cases_lt, cond-true, cond_both, eq-eqb, false_from_ne_true, le-leb, lt-leb, ltb-false, not_from_false, true≢false}
 use Rattle.sctp_model.specs.Packets.{Data, Sack, mem}
 use Rattle.sctp_model.specs.Reassembly.{Got, Queue, Taken, next}
-use Rattle.sctp_model.specs.Machine.{Direction, Event, Receiver, data_comes, happens, opened, point, put, read, sack_comes, sack_of, took, was_read}
+use Rattle.sctp_model.specs.Machine.{Direction, Event, Receiver, data_comes, happens, opened, reach, put, read, sack_comes, sack_of, took, was_read}
 use Rattle.sctp_model.specs.Safe.{IsWithin, unread}
 use Rattle.sctp_model.proofs.Arriving.{mem_new, mem_old}
-use Rattle.sctp_model.proofs.Basics.{point_below, point_from, point_stops}
+use Rattle.sctp_model.proofs.Basics.{reach_below, reach_from, reach_stops}
 use Rattle.sctp_model.proofs.Lists.{all_push}
 use Rattle.sctp_directions.specs.Events.{IsReceived}
 use Rattle.sctp_directions.specs.Plain.{IsPlain}
 
--- The point
+-- The reach
 
--- the point is the one number below which all was taken in or passed over, and that itself was not taken in
-pub point_is : (r : Receiver) (n : ℕ) → r.passed ≤ n → ((o : ℕ) → o < n → (mem o r.taken ≡ true) ⊎ (o < r.passed)) → mem n r.taken ≡ false → point r ≡ n
-point_is r n from below stops =
+-- the reach is the one number below which all was taken in or passed over, and that itself was not taken in
+pub reach_is : (r : Receiver) (n : ℕ) → r.passed ≤ n → ((o : ℕ) → o < n → (mem o r.taken ≡ true) ⊎ (o < r.passed)) → mem n r.taken ≡ false → reach r ≡ n
+reach_is r n from below stops =
     ⊎_elim
-    (λ (l : point r < n).
+    (λ (l : reach r < n).
     ⊎_elim
-    (λ (m : mem (point r) r.taken ≡ true). absurd (true≢false (sym m ∙ point_stops r)))
-    (λ (b : point r < r.passed). absurd (let f = point_from r in omega arith))
-    (below (point r) l))
-    (λ (g : n ≤ point r).
+    (λ (m : mem (reach r) r.taken ≡ true). absurd (true≢false (sym m ∙ reach_stops r)))
+    (λ (b : reach r < r.passed). absurd (let f = reach_from r in omega arith))
+    (below (reach r) l))
+    (λ (g : n ≤ reach r).
     ⊎_elim
-    (λ (l : n < point r).
+    (λ (l : n < reach r).
     ⊎_elim
     (λ (m : mem n r.taken ≡ true). absurd (true≢false (sym m ∙ stops)))
     (λ (b : n < r.passed). absurd (omega arith))
-    (point_below r n l))
-    (λ (e : point r ≤ n). omega arith)
-    (cases_lt n (point r)))
-    (cases_lt (point r) n)
+    (reach_below r n l))
+    (λ (e : reach r ≤ n). omega arith)
+    (cases_lt n (reach r)))
+    (cases_lt (reach r) n)
 
--- DATA at the point moves it by one, where nothing is held above it
-pub point_took : (r : Receiver) (d : Data) → ((o : ℕ) → mem o r.taken ≡ true → o < point r) → d.offset ≡ point r → point (took r d) ≡ suc (point r)
-point_took r d held e = point_is (took r d) (suc (point r)) (let f = point_from r in omega arith)
+-- DATA at the reach moves it by one, where nothing is held above it
+pub reach_took : (r : Receiver) (d : Data) → ((o : ℕ) → mem o r.taken ≡ true → o < reach r) → d.offset ≡ reach r → reach (took r d) ≡ suc (reach r)
+reach_took r d held e = reach_is (took r d) (suc (reach r)) (let f = reach_from r in omega arith)
     (λ o l. ⊎_elim
-    (λ (b : o < point r). ⊎_elim
+    (λ (b : o < reach r). ⊎_elim
     (λ (m : mem o r.taken ≡ true). inl (mem_old d.offset o r.taken m))
     (λ (f : o < r.passed). inr f)
-    (point_below r o b))
-    (λ (g : point r ≤ o). inl (here o (omega arith)))
-    (cases_lt o (point r)))
-    (false_from_ne_true _ (λ (m : mem (suc (point r)) (d.offset ∷ r.taken) ≡ true). ⊎_elim
-    (λ (c : d.offset ≡ suc (point r)). omega arith)
-    (λ (b : mem (suc (point r)) r.taken ≡ true). let l = held (suc (point r)) b in omega arith)
-    (mem_new d.offset (suc (point r)) r.taken m)))
+    (reach_below r o b))
+    (λ (g : reach r ≤ o). inl (here o (omega arith)))
+    (cases_lt o (reach r)))
+    (false_from_ne_true _ (λ (m : mem (suc (reach r)) (d.offset ∷ r.taken) ≡ true). ⊎_elim
+    (λ (c : d.offset ≡ suc (reach r)). omega arith)
+    (λ (b : mem (suc (reach r)) r.taken ≡ true). let l = held (suc (reach r)) b in omega arith)
+    (mem_new d.offset (suc (reach r)) r.taken m)))
   where
     here : (o : ℕ) → d.offset ≡ o → mem o (d.offset ∷ r.taken) ≡ true
     here o c = rw (eq-eqb d.offset o c) refl
 
 -- The events, by their cases
 
--- DATA at the point is taken in by a receiver that is open
-pub data_taken : (w : Direction) (k : ℕ) (d : Data) → slice_get w.datas k ≡ Some d → w.receiver.is_open ≡ true → d.offset ≡ point w.receiver
+-- DATA at the reach is taken in by a receiver that is open
+pub data_taken : (w : Direction) (k : ℕ) (d : Data) → slice_get w.datas k ≡ Some d → w.receiver.is_open ≡ true → d.offset ≡ reach w.receiver
     → happens w (Event.DataComes k) ≡ record w { receiver = took w.receiver d }
 unfolding happens
 data_taken w k d e o p =
     ap (data_comes w) e
     ∙ cond-true _ _ _ (and_from w.receiver.is_open _ o
-    (and_from (leb (point w.receiver) d.offset) _ (le-leb _ _ (omega arith)) (not_from_false _ (ap (λ z. mem z w.receiver.taken) p ∙ point_stops w.receiver))))
+    (and_from (leb (reach w.receiver) d.offset) _ (le-leb _ _ (omega arith)) (not_from_false _ (ap (λ z. mem z w.receiver.taken) p ∙ reach_stops w.receiver))))
 
 -- what holds before DATA comes and after one that is taken in holds after it
 pub data_cases : (P : Direction → Type 0) (w : Direction) (k : ℕ) → P w → ((d : Data) → slice_get w.datas k ≡ Some d → P (record w { receiver = took w.receiver d }))
@@ -98,7 +98,7 @@ none_above n (x ∷ xs) h =
 
 -- what a plain direction asks of its receiver's side
 pub plain_by : (w : Direction) (r : Receiver) (sacks : List Sack) (reads : ℕ → List Got) → AllByRecursion (λ (k : Sack). k.above ≡ []) sacks
-    → ((o : ℕ) → mem o r.taken ≡ true → o < point r) → r.passed ≡ 0 → IsPlain w → IsPlain (record w { receiver = r; sacks = sacks; reads = reads })
+    → ((o : ℕ) → mem o r.taken ≡ true → o < reach r) → r.passed ≡ 0 → IsPlain w → IsPlain (record w { receiver = r; sacks = sacks; reads = reads })
 plain_by w r sacks reads above taken passed h = record {
   messages = h.messages;
   places = h.places;
@@ -114,8 +114,8 @@ plain_by w r sacks reads above taken passed h = record {
   span = h.span;
 }
 
--- a direction stays plain when the DATA at its point comes
-pub plain_data : (w : Direction) (k : ℕ) (d : Data) → slice_get w.datas k ≡ Some d → d.offset ≡ point w.receiver → IsPlain w → IsPlain (happens w (Event.DataComes k))
+-- a direction stays plain when the DATA at its reach comes
+pub plain_data : (w : Direction) (k : ℕ) (d : Data) → slice_get w.datas k ≡ Some d → d.offset ≡ reach w.receiver → IsPlain w → IsPlain (happens w (Event.DataComes k))
 plain_data w k d e p h = data_cases IsPlain w k h
     (λ c f. taken c (ap (λ (z : Option Data). offset_of z) (sym f ∙ e) ∙ p))
   where
@@ -123,19 +123,19 @@ plain_data w k d e p h = data_cases IsPlain w k h
     offset_of None = 0
     offset_of (Some x) = x.offset
 
-    taken : (c : Data) → c.offset ≡ point w.receiver → IsPlain (record w { receiver = took w.receiver c })
+    taken : (c : Data) → c.offset ≡ reach w.receiver → IsPlain (record w { receiver = took w.receiver c })
     taken c q = plain_by w (took w.receiver c) w.sacks w.reads h.sacks
-        (λ o m. let g = point_took w.receiver c h.taken q in ⊎_elim
+        (λ o m. let g = reach_took w.receiver c h.taken q in ⊎_elim
         (λ (b : c.offset ≡ o). omega arith)
         (λ (b : mem o w.receiver.taken ≡ true). let l = h.taken o b in omega arith)
         (mem_new c.offset o w.receiver.taken m))
         h.unskipped h
 
--- it stays plain when its receiver reports: nothing is held above the point
+-- it stays plain when its receiver reports: nothing is held above the reach
 pub plain_sack : (w : Direction) → IsPlain w → IsPlain (happens w Event.SackMade)
 unfolding happens
 plain_sack w h = plain_by w w.receiver (w.sacks ++ sack_of w.receiver ∷ []) w.reads
-    (all_push (λ (k : Sack). k.above ≡ []) w.sacks (sack_of w.receiver) h.sacks (none_above (point w.receiver) w.receiver.taken h.taken)) h.taken h.unskipped h
+    (all_push (λ (k : Sack). k.above ≡ []) w.sacks (sack_of w.receiver) h.sacks (none_above (reach w.receiver) w.receiver.taken h.taken)) h.taken h.unskipped h
 
 -- it stays plain when a stream is opened
 pub plain_open : (w : Direction) (s : ℕ) → IsPlain w → IsPlain (happens w (Event.Open s))
@@ -230,7 +230,7 @@ close_takes w = refl
 within_by : (w v : Direction) → v.sender ≡ w.sender → v.reads ≡ w.reads → IsWithin w → IsWithin v
 within_by w v sender reads h = record {
   offsets = subst (λ z. length z.plan.places < 2 ^ 31) (sym sender) h.offsets;
-  flight = subst (λ z. length z.plan.places < z.point + 16384) (sym sender) h.flight;
+  flight = subst (λ z. length z.plan.places < z.reach + 16384) (sym sender) h.flight;
   unread = λ s. subst₂ (λ y z. unread y.plan s (z s) < 32768) (sym sender) (sym reads) (h.unread s);
 }
 
@@ -253,7 +253,7 @@ pub within_close : (w : Direction) → IsWithin w → IsWithin (happens w Event.
 unfolding happens
 within_close w h = within_by w (record w { receiver = record w.receiver { is_open = false } }) refl refl h
 
--- the numbers stay within their limits where a SACK comes: it moves the sender's point onwards or not at all
+-- the numbers stay within their limits where a SACK comes: it moves the sender's reach onwards or not at all
 pub within_sack_comes : (w : Direction) (k : ℕ) → IsWithin w → IsWithin (happens w (Event.SackComes k))
 unfolding happens
 within_sack_comes w k h = go (slice_get w.sacks k)
@@ -262,6 +262,6 @@ within_sack_comes w k h = go (slice_get w.sacks k)
     go None = h
     go (Some x) = cond_both _ w _ IsWithin (λ b. h) (λ b. record {
       offsets = h.offsets;
-      flight = (let f = h.flight in let l = ltb-false x.point w.sender.point b in omega arith);
+      flight = (let f = h.flight in let l = ltb-false x.reach w.sender.reach b in omega arith);
       unread = h.unread;
     })

@@ -216,16 +216,16 @@ plain_resend w o h = cond_both _ (record w { datas = w.datas ++ data_at w.sender
 
 -- a SACK comes
 
--- a SACK with nothing above its point names what lies below it
-names_below : (k : Sack) (o : ℕ) → k.above ≡ [] → names k o ≡ ltb o k.point
-names_below k o e = ap (λ z. ltb o k.point || mem o z) e ∙ or_false (ltb o k.point)
+-- a SACK with nothing above its reach names what lies below it
+names_below : (k : Sack) (o : ℕ) → k.above ≡ [] → names k o ≡ ltb o k.reach
+names_below k o e = ap (λ z. ltb o k.reach || mem o z) e ∙ or_false (ltb o k.reach)
   where
     or_false : (b : Bool) → (b || false) ≡ b
     or_false true = refl
     or_false false = refl
 
--- with what lies below a later point acknowledged, a direction stays plain
-pub plain_acknowledged : (w : Direction) (k : Sack) → k.above ≡ [] → w.sender.point ≤ k.point → IsPlain w → IsPlain (record w { sender = acknowledged_by w.sender k })
+-- with what lies below a later reach acknowledged, a direction stays plain
+pub plain_acknowledged : (w : Direction) (k : Sack) → k.above ≡ [] → w.sender.reach ≤ k.reach → IsPlain w → IsPlain (record w { sender = acknowledged_by w.sender k })
 plain_acknowledged w k e l h = record {
   messages = h.messages;
   places = h.places;
@@ -234,7 +234,7 @@ plain_acknowledged w k e l h = record {
   ssn = h.ssn;
   begun = h.begun;
   stays = h.stays;
-  acknowledged = λ o. rw (h.acknowledged o, names_below k o e) (both o w.sender.point k.point l);
+  acknowledged = λ o. rw (h.acknowledged o, names_below k o e) (both o w.sender.reach k.reach l);
   sacks = h.sacks;
   taken = h.taken;
   unskipped = h.unskipped;
@@ -251,5 +251,5 @@ plain_sack_comes w k h = comes (slice_get w.sacks k) refl
   where
     comes : (x : Option Sack) → slice_get w.sacks k ≡ x → IsPlain (sack_comes w x)
     comes None e = h
-    comes (Some x) e = cond_both (ltb x.point w.sender.point) w (record w { sender = acknowledged_by w.sender x }) IsPlain (λ b. h)
+    comes (Some x) e = cond_both (ltb x.reach w.sender.reach) w (record w { sender = acknowledged_by w.sender x }) IsPlain (λ b. h)
         (λ b. plain_acknowledged w x (all_get (λ (z : Sack). z.above ≡ []) w.sacks k x e h.sacks) (ltb-false _ _ b) h)

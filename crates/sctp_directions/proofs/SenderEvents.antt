@@ -65,5 +65,5 @@ sent_sack_comes w k = by_sack (slice_get w.sacks k)
   where
     by_sack : (x : Option Sack) → IsSentOnly w (sack_comes w x)
     by_sack None = sent_same w
-    by_sack (Some x) = cond_both (ltb x.point w.sender.point) w (record w { sender = acknowledged_by w.sender x }) (IsSentOnly w) (λ b. sent_same w)
+    by_sack (Some x) = cond_both (ltb x.reach w.sender.reach) w (record w { sender = acknowledged_by w.sender x }) (IsSentOnly w) (λ b. sent_same w)
         (λ b. record { on = record { datas = λ k d e. e; sacks = refl; receiver = refl; reads = refl; over = refl; size = refl }; accepted = refl })

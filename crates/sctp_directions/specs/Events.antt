@@ -1,7 +1,7 @@
 -- What an event leaves as it was of the direction in which it happens.
 use Rattle.std.specs.Prelude.{◌≡◌, ℕ, ◌<◌, length, slice_get, Some, ⊤}
 use Rattle.sctp_model.specs.Packets.{Data, Sack}
-use Rattle.sctp_model.specs.Machine.{Direction, Event, point}
+use Rattle.sctp_model.specs.Machine.{Direction, Event, reach}
 use Rattle.sctp_directions.specs.Plain.{IsSimple}
 
 -- The direction v is w after an event of the sender: the DATA given out stays, and the receiver's side is the same.
@@ -66,13 +66,13 @@ KeepsWithin (Event.Open s) = ⊤
 KeepsWithin Event.Close = ⊤
 KeepsWithin e = ⊥
 
--- events of a plain direction: a message in one piece is accepted, the next one begins, and DATA comes at the point
+-- events of a plain direction: a message in one piece is accepted, the next one begins, and DATA comes at the reach
 abbrev pub IsPlainEvent : Direction → Event → Type 0
 IsPlainEvent w (Event.Write s m) = IsSimple w.sender.plan.size m
 IsPlainEvent w (Event.Begin s i any) = (i ≡ w.sender.next s) × (i < length (w.sender.plan.accepted s))
 IsPlainEvent w (Event.Resend o) = ⊤
 IsPlainEvent w (Event.SackComes k) = ⊤
-IsPlainEvent w (Event.DataComes k) = (d : Data) × (slice_get w.datas k ≡ Some d) × (d.offset ≡ point w.receiver)
+IsPlainEvent w (Event.DataComes k) = (d : Data) × (slice_get w.datas k ≡ Some d) × (d.offset ≡ reach w.receiver)
 IsPlainEvent w Event.SackMade = ⊤
 IsPlainEvent w (Event.Open s) = ⊤
 IsPlainEvent w (Event.Read s) = ⊤

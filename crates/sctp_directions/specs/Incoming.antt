@@ -2,22 +2,22 @@
 use Rattle.std.specs.Prelude.{◌≡◌, ℕ, suc, ◌+◌, ◌%◌, ◌<◌, true, List, [], ◌∷◌, ◌++◌, length, reverse, Option, Some, None, ⊤}
 use Rattle.sctp_wire_types.specs.declared.chunk.ChunkPayloadData.{ChunkPayloadData}
 use Rattle.sctp_wire_types.specs.Ids.{number_of}
-use Rattle.sctp_receive_queues.specs.Messages.{Message}
+use Rattle.sctp_receive_queues.specs.Messages.{ReceivedMessage}
 use Rattle.sctp_receive_queues.specs.Reassembly.{Group, Reassembly}
-use Rattle.sctp_queues.specs.Stream.{Stream}
-use Rattle.sctp_queues.specs.Streams.{stream_at}
+use Rattle.sctp_streams.specs.Stream.{StreamView}
+use Rattle.sctp_streams.specs.Streams.{stream_at}
 use Rattle.sctp_model.specs.Messages.{Plan, place_at}
 use Rattle.sctp_model.specs.Packets.{Data}
 use Rattle.sctp_model.specs.Reassembly.{Got, Queue}
-use Rattle.sctp_model.specs.Machine.{Direction, point}
+use Rattle.sctp_model.specs.Machine.{Direction, reach}
 use Rattle.sctp_model.specs.Safe.{Letter, letter_read, read_end}
 use Rattle.sctp_assoc.specs.Acts.{Parts}
 use Rattle.sctp_assoc.specs.Chunks.{is_whole}
 use Rattle.sctp_directions.specs.Plain.{count_below}
 
 -- what a reader sees of a message
-abbrev pub letter_of : Message → Letter
-letter_of m = record { payload_type = number_of m.payload_type; bytes = m.bytes }
+abbrev pub letter_received : ReceivedMessage → Letter
+letter_received m = record { payload_type = number_of m.payload_type; bytes = m.bytes }
 
 -- A group of one piece is the DATA d, and that is message n of its stream.
 pub record IsHeldAs (p : Plan) (n : ℕ) (g : Group) (d : Data) : Type 0 where
@@ -55,7 +55,7 @@ pub record IsQueue (p : Plan) (end count : ℕ) (r : Reassembly) (q : Queue) : T
   pub none_complete : q.complete ≡ []
 
 -- a stream is live where the model has its queue; before that nothing of it came
-abbrev pub IsQueueAt : Plan → ℕ → ℕ → Option Stream → Option Queue → Type 0
+abbrev pub IsQueueAt : Plan → ℕ → ℕ → Option StreamView → Option Queue → Type 0
 IsQueueAt p end count None None = (end ≡ 0) × (count ≡ 0)
 IsQueueAt p end count None (Some q) = ⊥
 IsQueueAt p end count (Some t) None = ⊥
@@ -65,10 +65,10 @@ pub record FitsIncoming (a : Parts) (w : Direction) : Type 0 where
   pub is_open : w.receiver.is_open ≡ true
   pub taken : a.history.taken ≡ w.receiver.taken
   pub passed : a.history.passed ≡ w.receiver.passed
-  pub at : a.history.point ≡ point w.receiver
-  pub queues : (s : ℕ) → IsQueueAt w.sender.plan (read_end w.sender.plan 0 (w.reads s)) (count_below w.sender.plan s (point w.receiver)) (stream_at a.streams s) (w.receiver.queues s)
+  pub at : a.history.reach ≡ reach w.receiver
+  pub queues : (s : ℕ) → IsQueueAt w.sender.plan (read_end w.sender.plan 0 (w.reads s)) (count_below w.sender.plan s (reach w.receiver)) (stream_at a.streams s) (w.receiver.queues s)
 
 -- what a read answers is what the model's reader got
-abbrev pub IsReadAs : Option Message → List Got → List Got → Type 0
+abbrev pub IsReadAs : Option ReceivedMessage → List Got → List Got → Type 0
 IsReadAs None before after = after ≡ before
-IsReadAs (Some m) before after = (g : Got) × (after ≡ before ++ g ∷ []) × (letter_read g ≡ letter_of m)
+IsReadAs (Some m) before after = (g : Got) × (after ≡ before ++ g ∷ []) × (letter_read g ≡ letter_received m)

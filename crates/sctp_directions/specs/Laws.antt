@@ -4,14 +4,14 @@ use Rattle.std.specs.List.{AllByRecursion}
 use Rattle.sctp_wire_types.specs.declared.chunk.ChunkPayloadData.{ChunkPayloadData}
 use Rattle.sctp_wire_types.specs.declared.ids.PayloadProtocolIdentifier.{PayloadProtocolIdentifier}
 use Rattle.sctp_receive_queues.specs.Reassembly.{ready}
-use Rattle.sctp_queues.specs.Stream.{Stream}
-use Rattle.sctp_queues.specs.Streams.{read_in, stream_at}
+use Rattle.sctp_streams.specs.Stream.{StreamView}
+use Rattle.sctp_streams.specs.Streams.{read_in, stream_at}
 use Rattle.sctp_model.specs.Messages.{Message, accepted_bytes}
 use Rattle.sctp_model.specs.Packets.{Data, Sack, mem}
 use Rattle.sctp_model.specs.Reassembly as queue
 use Rattle.sctp_model.specs.Reassembly.{Queue}
 use Rattle.sctp_model.specs.Serial.{tsn}
-use Rattle.sctp_model.specs.Machine.{Direction, Event, fresh, happens, live, point}
+use Rattle.sctp_model.specs.Machine.{Direction, Event, fresh, happens, live, reach}
 use Rattle.sctp_model.specs.Invariants.{Invariant}
 use Rattle.sctp_model.specs.Safe.{IsWithin, letter_read}
 use Rattle.sctp_assoc.specs.Acts.{Act, Can, History, Parts, data_given, done, done_all, parts, tsn_before}
@@ -22,48 +22,48 @@ use Rattle.sctp_directions.specs.Events.{Accepts, Assigns, Brings, GivesAMessage
 use Rattle.sctp_directions.specs.Plain.{IsPlain, IsSimple}
 use Rattle.sctp_directions.specs.Said.{IsGiven, IsMade, IsSaid}
 use Rattle.sctp_directions.specs.Outgoing.{FitsOutgoing, message_on}
-use Rattle.sctp_directions.specs.Incoming.{FitsIncoming, IsReadAs, letter_of}
+use Rattle.sctp_directions.specs.Incoming.{FitsIncoming, IsReadAs, letter_received}
 
 -- A write on a live stream, of one piece, is accepted by the direction as that message.
 abbrev pub WritesAreAccepted : Type 0
-WritesAreAccepted = (a : Parts) (id : ℕ) (bytes : List ℕ) (t : Stream) (w : Direction) → stream_at a.streams id ≡ Some t → 0 < length bytes
+WritesAreAccepted = (a : Parts) (id : ℕ) (bytes : List ℕ) (t : StreamView) (w : Direction) → stream_at a.streams id ≡ Some t → 0 < length bytes
     → length bytes ≤ w.sender.plan.size → IsPlain w → FitsOutgoing a w
     → FitsOutgoing (done (Act.Wrote id bytes) a) (happens w (Event.Write id (message_on t bytes)))
 
 -- A piece that goes out again is that of its offset, and is DATA of the direction.
 abbrev pub PiecesAreGiven : Type 0
-PiecesAreGiven = (a : Parts) (place : ℕ) (w : Direction) → Can (Act.SentAgain place) a → IsPlain w → FitsOutgoing a w
-    → FitsOutgoing (done (Act.SentAgain place) a) (happens w (Event.Resend (w.sender.point + place)))
-    × AllByRecursion (IsGiven a.history.own (happens w (Event.Resend (w.sender.point + place)))) (data_given (Act.SentAgain place) a)
+PiecesAreGiven = (a : Parts) (index : ℕ) (w : Direction) → Can (Act.SentAgain index) a → IsPlain w → FitsOutgoing a w
+    → FitsOutgoing (done (Act.SentAgain index) a) (happens w (Event.Resend (w.sender.reach + index)))
+    × AllByRecursion (IsGiven a.history.own (happens w (Event.Resend (w.sender.reach + index)))) (data_given (Act.SentAgain index) a)
 
 -- What a SACK acknowledges at the association, it acknowledges at the direction's sender.
 abbrev pub AcknowledgementsAreAlike : Type 0
-AcknowledgementsAreAlike = (a : Parts) (n k : ℕ) (x : Sack) (w : Direction) → slice_get w.sacks k ≡ Some x → x.point ≡ w.sender.point + n
+AcknowledgementsAreAlike = (a : Parts) (n k : ℕ) (x : Sack) (w : Direction) → slice_get w.sacks k ≡ Some x → x.reach ≡ w.sender.reach + n
     → n ≤ length a.queue.in_flight → Invariant w → IsPlain w → FitsOutgoing a w
     → FitsOutgoing (done (Act.Acknowledged n) a) (happens w (Event.SackComes k))
 
--- DATA that is taken in stands on the point, and comes to the direction's receiver.
+-- DATA that is taken in stands on the reach, and comes to the direction's receiver.
 abbrev pub WhatIsTakenInComes : Type 0
-WhatIsTakenInComes = (a : Parts) (piece : ChunkPayloadData) (k : ℕ) (d : Data) (t : Stream) (w : Direction) → Can (Act.Took piece) a
+WhatIsTakenInComes = (a : Parts) (piece : ChunkPayloadData) (k : ℕ) (d : Data) (t : StreamView) (w : Direction) → Can (Act.Took piece) a
     → slice_get w.datas k ≡ Some d → IsSaid a.history.peer piece d → stream_at a.streams piece.stream_identifier ≡ Some t → IsWithin w → Invariant w
-    → IsPlain w → FitsIncoming a w → (d.offset ≡ point w.receiver) × FitsIncoming (done (Act.Took piece) a) (happens w (Event.DataComes k))
+    → IsPlain w → FitsIncoming a w → (d.offset ≡ reach w.receiver) × FitsIncoming (done (Act.Took piece) a) (happens w (Event.DataComes k))
 
 -- A read answers what the direction's reader gets, and changes no other stream's reads.
 abbrev pub ReadsAreAlike : Type 0
-ReadsAreAlike = (a : Parts) (id : ℕ) (t : Stream) (w : Direction) → stream_at a.streams id ≡ Some t → IsWithin w → Invariant w → IsPlain w → FitsIncoming a w
+ReadsAreAlike = (a : Parts) (id : ℕ) (t : StreamView) (w : Direction) → stream_at a.streams id ≡ Some t → IsWithin w → Invariant w → IsPlain w → FitsIncoming a w
     → FitsIncoming (done (Act.WasRead id) a) (happens w (Event.Read id))
     × IsReadAs (read_in a.streams id).1 (w.reads id) ((happens w (Event.Read id)).reads id)
     × ((s : ℕ) → (s == id) ≡ false → (happens w (Event.Read id)).reads s ≡ w.reads s)
 
 -- What is ready is the same on both sides.
 abbrev pub TheSameIsReady : Type 0
-TheSameIsReady = (a : Parts) (id : ℕ) (t : Stream) (q : Queue) (w : Direction) → stream_at a.streams id ≡ Some t → w.receiver.queues id ≡ Some q
-    → IsWithin w → Invariant w → IsPlain w → FitsIncoming a w → map letter_read (queue.ready q) ≡ map letter_of (ready t.reassembly)
+TheSameIsReady = (a : Parts) (id : ℕ) (t : StreamView) (q : Queue) (w : Direction) → stream_at a.streams id ≡ Some t → w.receiver.queues id ≡ Some q
+    → IsWithin w → Invariant w → IsPlain w → FitsIncoming a w → map letter_read (queue.ready q) ≡ map letter_received (ready t.reassembly)
 
 -- What is ready is the same on both sides, whether or not the stream is live.
 abbrev pub ReadyMessagesAreAlike : Type 0
 ReadyMessagesAreAlike = (a : Shown) (h : History) (id : ℕ) (w : Direction) → IsWithin w → Invariant w → IsPlain w → FitsIncoming (parts a h) w
-    → map letter_read (queue.ready (live (w.receiver.queues id))) ≡ map letter_of (ready_messages a id)
+    → map letter_read (queue.ready (live (w.receiver.queues id))) ≡ map letter_received (ready_messages a id)
 
 -- The other acts
 
@@ -71,7 +71,7 @@ ReadyMessagesAreAlike = (a : Shown) (h : History) (id : ℕ) (w : Direction) →
 abbrev pub IsOfItsOwn : Act → Type 0
 IsOfItsOwn (Act.Wrote id bytes) = ⊤
 IsOfItsOwn (Act.Sent now) = ⊤
-IsOfItsOwn (Act.SentAgain place) = ⊤
+IsOfItsOwn (Act.SentAgain index) = ⊤
 IsOfItsOwn Act.Marked = ⊤
 IsOfItsOwn (Act.Acknowledged n) = ⊤
 IsOfItsOwn act = ⊥
@@ -85,7 +85,7 @@ IsOfWhatComes act = ⊥
 
 -- it isn't that the peer's initial TSN became known
 abbrev pub MeetsNobody : Act → Type 0
-MeetsNobody (Act.Met t) = ⊥
+MeetsNobody (Act.PeerKnown t) = ⊥
 MeetsNobody act = ⊤
 
 -- Acts of its own leave it as a receiver, and acts of what comes leave it as a sender; none of them changes the initial TSNs.
@@ -120,22 +120,22 @@ SentPiecesBegin = (a : Parts) (now : ℕ) (w : Direction) → Can (Act.Sent now)
 -- of it.
 abbrev pub MeetingsAreNoEvents : Type 0
 MeetingsAreNoEvents = (a : Parts) (t : ℕ) (out coming : Direction) → coming.sender.plan.places ≡ [] → Invariant coming → IsPlain coming → FitsOutgoing a out
-    → FitsIncoming a coming → FitsOutgoing (done (Act.Met t) a) out × FitsIncoming (done (Act.Met t) a) coming
+    → FitsIncoming a coming → FitsOutgoing (done (Act.PeerKnown t) a) out × FitsIncoming (done (Act.PeerKnown t) a) coming
 
 -- Of a mark for sending again the direction knows nothing.
 abbrev pub MarksAreNoEvents : Type 0
 MarksAreNoEvents = (a : Parts) (w : Direction) → FitsOutgoing a w → FitsOutgoing (done Act.Marked a) w
 
--- A report is a SACK with the point of what came.
+-- A report is a SACK with the reach of what came.
 abbrev pub ReportsNameThePoint : Type 0
 ReportsNameThePoint = (a : Parts) (w : Direction) → FitsIncoming a w
-    → FitsIncoming a (happens w Event.SackMade) × IsMade a.history.peer (happens w Event.SackMade) (tsn_before (tsn a.history.peer a.history.point))
+    → FitsIncoming a (happens w Event.SackMade) × IsMade a.history.peer (happens w Event.SackMade) (tsn_before (tsn a.history.peer a.history.reach))
 
 -- A SACK that was made, and that acknowledges so many pieces at the association, acknowledges so many offsets.
 abbrev pub SacksMeanTheSame : Type 0
-SacksMeanTheSame = (a : Parts) (n t k : ℕ) (x : Sack) (w : Direction) → slice_get w.sacks k ≡ Some x → t ≡ tsn_before (tsn a.history.own x.point)
+SacksMeanTheSame = (a : Parts) (n t k : ℕ) (x : Sack) (w : Direction) → slice_get w.sacks k ≡ Some x → t ≡ tsn_before (tsn a.history.own x.reach)
     → t % 2 ^ 32 ≡ tsn_before (tsn a.history.own (a.history.base + n)) → n ≤ length a.queue.in_flight → IsWithin w → Invariant w → IsPlain w
-    → FitsOutgoing a w → x.point ≡ w.sender.point + n
+    → FitsOutgoing a w → x.reach ≡ w.sender.reach + n
 
 -- What is released of a live stream is what was accepted and is not buffered, by the association's own answer.
 abbrev pub WhatIsReleasedIsNotBuffered : Type 0
@@ -144,9 +144,9 @@ WhatIsReleasedIsNotBuffered = (a : Shown) (h : History) (id n : ℕ) (w : Direct
 
 -- The events
 
--- An event at the sender leaves the receiver's side and all DATA that was given out; the acknowledged point moves on alone.
+-- An event at the sender leaves the receiver's side and all DATA that was given out; the acknowledged reach moves on alone.
 abbrev pub SendersEventsAreSent : Type 0
-SendersEventsAreSent = (w : Direction) (e : Event) → IsAtSender e → IsSentOn w (happens w e) × (w.sender.point ≤ (happens w e).sender.point)
+SendersEventsAreSent = (w : Direction) (e : Event) → IsAtSender e → IsSentOn w (happens w e) × (w.sender.reach ≤ (happens w e).sender.reach)
 
 -- A write alone accepts, behind what was accepted before, and the beginning of a message alone assigns an offset.
 abbrev pub OnlyWritesAccept : Type 0

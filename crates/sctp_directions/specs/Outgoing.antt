@@ -3,8 +3,8 @@ use Rattle.std.specs.Prelude.{◌≡◌, ℕ, suc, ◌+◌, ◌%◌, ◌<◌, tr
 use Rattle.sctp_wire_types.specs.Ids.{number_of}
 use Rattle.sctp_outbound_queue.specs.declared.message.InFlight.{InFlight}
 use Rattle.sctp_outbound_queue.specs.Waiting.{Waiting}
-use Rattle.sctp_queues.specs.Stream.{Stream, ordered_and_reliable}
-use Rattle.sctp_queues.specs.Streams.{StreamMap, is_generation, stream_at}
+use Rattle.sctp_streams.specs.Stream.{StreamView, ordered_and_reliable}
+use Rattle.sctp_streams.specs.Streams.{StreamMap, is_generation, stream_at}
 use Rattle.sctp_outbound.specs.Sender.{chunk_of}
 use Rattle.sctp_model.specs.Messages.{Message, Plan, Policy, accepted_bytes, message_at}
 use Rattle.sctp_model.specs.Packets.{data_at}
@@ -14,7 +14,7 @@ use Rattle.sctp_assoc.specs.Acts.{Parts}
 use Rattle.sctp_directions.specs.Said.{IsSaid}
 
 -- a message as it is accepted on a stream
-abbrev pub message_on : Stream → List ℕ → Message
+abbrev pub message_on : StreamView → List ℕ → Message
 message_on t bytes = record {
   payload_type = number_of t.default_payload_type;
   bytes = bytes;
@@ -54,18 +54,18 @@ AreWaiting p m next (x ∷ xs) =
     × AreWaiting p m (put next x.message.stream_identifier (suc (next x.message.stream_identifier))) xs
 
 -- A live stream numbers its messages by those accepted, and counts as buffered what was accepted and not released.
-pub record IsOwn (p : Plan) (freed : ℕ) (s : ℕ) (t : Stream) : Type 0 where
+pub record IsOwn (p : Plan) (freed : ℕ) (s : ℕ) (t : StreamView) : Type 0 where
   pub params : t.params ≡ ordered_and_reliable
   pub ssn : t.next_ssn ≡ length (p.accepted s) % 65536
   pub buffered : t.buffered + freed ≡ accepted_bytes p s
 
 -- on a stream that is not live nothing was accepted
-abbrev pub IsOwnAt : Plan → ℕ → ℕ → Option Stream → Type 0
+abbrev pub IsOwnAt : Plan → ℕ → ℕ → Option StreamView → Type 0
 IsOwnAt p freed s None = (p.accepted s ≡ []) × (freed ≡ 0)
 IsOwnAt p freed s (Some t) = IsOwn p freed s t
 
 pub record FitsOutgoing (a : Parts) (w : Direction) : Type 0 where
-  pub base : a.history.base ≡ w.sender.point
-  pub flight : AreInFlight a.history.own w.sender.plan a.streams w.sender.point a.queue.in_flight
+  pub base : a.history.base ≡ w.sender.reach
+  pub flight : AreInFlight a.history.own w.sender.plan a.streams w.sender.reach a.queue.in_flight
   pub waiting : AreWaiting w.sender.plan a.streams w.sender.next a.queue.pending
   pub own_streams : (s : ℕ) → IsOwnAt w.sender.plan (w.sender.released s) s (stream_at a.streams s)

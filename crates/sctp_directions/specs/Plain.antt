@@ -4,7 +4,7 @@ use Rattle.std.specs.Prelude.{◌≡◌, ℕ, zero, suc, ◌+◌, ◌<◌, ◌�
 use Rattle.std.specs.List.{AllByRecursion}
 use Rattle.sctp_model.specs.Messages.{Message, Place, Plan, Policy, message_at, place_at}
 use Rattle.sctp_model.specs.Packets.{Sack, mem}
-use Rattle.sctp_model.specs.Machine.{Direction, point}
+use Rattle.sctp_model.specs.Machine.{Direction, reach}
 
 -- how many of the first offsets stand for pieces of stream s
 abbrev pub count_below : Plan → ℕ → ℕ → ℕ
@@ -33,8 +33,8 @@ pub record IsPlain (w : Direction) : Type 0 where
   pub ssn : (s : ℕ) → w.sender.ssn s ≡ w.sender.next s
   pub begun : (s i : ℕ) → w.sender.begun s i ≡ nat_lt i (w.sender.next s)
   pub stays : (s i : ℕ) → w.sender.gone s i ≡ false
-  pub acknowledged : (o : ℕ) → w.sender.acknowledged o ≡ nat_lt o w.sender.point
+  pub acknowledged : (o : ℕ) → w.sender.acknowledged o ≡ nat_lt o w.sender.reach
   pub sacks : AllByRecursion (λ (k : Sack). k.above ≡ []) w.sacks
-  pub taken : (o : ℕ) → mem o w.receiver.taken ≡ true → o < point w.receiver
+  pub taken : (o : ℕ) → mem o w.receiver.taken ≡ true → o < reach w.receiver
   pub unskipped : w.receiver.passed ≡ 0
   pub span : (s : ℕ) → w.over s ≡ false

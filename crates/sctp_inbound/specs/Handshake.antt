@@ -90,8 +90,8 @@ abbrev pub with_ports : Handshake → CommonHeader → Handshake
 with_ports h header = record h { source_port = header.destination_port; destination_port = header.source_port }
 
 -- an INIT came, and this side's cookie is given out in answer
-abbrev pub met_by_init : Handshake → CommonHeader → ChunkInit → Handshake
-met_by_init h header init =
+abbrev pub learned_by_init : Handshake → CommonHeader → ChunkInit → Handshake
+learned_by_init h header init =
     (let met = with_parameters (with_ports (with_answer h init) header) init in record met { cookie_issued = true })
 
 -- a packet goes the way back between the ports of this side's own
@@ -99,8 +99,8 @@ abbrev pub comes_back : Handshake → CommonHeader → Bool
 comes_back h header = header.destination_port == h.source_port && header.source_port == h.destination_port
 
 -- an INIT ACK came; with other ports its tag and its numbers of streams count alone
-abbrev pub met_by_init_ack : Handshake → CommonHeader → ChunkInit → Handshake
-met_by_init_ack h header init =
+abbrev pub learned_by_init_ack : Handshake → CommonHeader → ChunkInit → Handshake
+learned_by_init_ack h header init =
     if comes_back h header then (let met = with_parameters (with_answer h init) init in record met { offer = None }) else with_answer h init
 
 -- this is the cookie that was given out

@@ -6,28 +6,28 @@ use Rattle.sctp_parts.specs.declared.state.AckState.TheVariants as states
 use Rattle.sctp_parts.specs.declared.timer.Timer.TheVariants as names
 use Rattle.sctp_parts.specs.Timers.{Timers, started, with_stopped}
 use Rattle.sctp_inbound.specs.declared.receiver.Receiver.{Receiver}
-use Rattle.sctp_inbound.specs.declared.receiver.AckWish.{AckWish}
-use Rattle.sctp_inbound.specs.declared.receiver.AckWish.TheVariants as wishes
+use Rattle.sctp_inbound.specs.declared.receiver.AckTrigger.{AckTrigger}
+use Rattle.sctp_inbound.specs.declared.receiver.AckTrigger.TheVariants as triggers
 
 -- nothing came; this many bytes may wait for their reader, and a message may be so long
 abbrev pub fresh_receiver : ℕ → ℕ → ℕ → Receiver
-fresh_receiver size limit point = record { point = point; ack_state = states.Idle; buffer_size = size; max_receive_message_size = limit }
+fresh_receiver size limit peer_last_tsn = record { peer_last_tsn = peer_last_tsn; ack_state = states.Idle; buffer_size = size; max_receive_message_size = limit }
 
 -- the peer's initial TSN is known, and nothing came from there on
 abbrev pub receiver_from : Receiver → ℕ → Receiver
-receiver_from r initial_tsn = record r { point = (initial_tsn + 2 ^ 32 - 1) % 2 ^ 32 }
+receiver_from r initial_tsn = record r { peer_last_tsn = (initial_tsn + 2 ^ 32 - 1) % 2 ^ 32 }
 
 -- the TSN after the cumulative TSN ack point
 abbrev pub is_next_after : Receiver → ℕ → Bool
-is_next_after r tsn = tsn == (r.point + 1) % 2 ^ 32
+is_next_after r tsn = tsn == (r.peer_last_tsn + 1) % 2 ^ 32
 
 abbrev pub taken_to : Receiver → ℕ → Receiver
-taken_to r tsn = record r { point = tsn }
+taken_to r tsn = record r { peer_last_tsn = tsn }
 
-abbrev pub is_immediate : AckWish → Bool
-is_immediate wishes.None = false
-is_immediate wishes.Delayed = false
-is_immediate wishes.Immediate = true
+abbrev pub is_immediate : AckTrigger → Bool
+is_immediate triggers.None = false
+is_immediate triggers.Delayed = false
+is_immediate triggers.Immediate = true
 
 -- an acknowledgement waits already
 abbrev pub is_waiting : AckState → Bool
@@ -36,20 +36,20 @@ is_waiting states.Immediate = true
 is_waiting states.Delay = true
 
 -- a packet is acknowledged at once where a chunk of it asks so or one before it waits for its acknowledgement
-abbrev pub asked : Receiver → AckWish → Bool → AckWish
-asked r wish immediate =
-    if immediate || is_immediate wish || is_waiting r.ack_state then wishes.Immediate else wishes.Delayed
+abbrev pub asked : Receiver → AckTrigger → Bool → AckTrigger
+asked r trigger immediate =
+    if immediate || is_immediate trigger || is_waiting r.ack_state then triggers.Immediate else triggers.Delayed
 
-abbrev pub ended_packet : Receiver → AckWish → Receiver
-ended_packet r wishes.None = r
-ended_packet r wishes.Delayed = record r { ack_state = states.Delay }
-ended_packet r wishes.Immediate = record r { ack_state = states.Immediate }
+abbrev pub ended_packet : Receiver → AckTrigger → Receiver
+ended_packet r triggers.None = r
+ended_packet r triggers.Delayed = record r { ack_state = states.Delay }
+ended_packet r triggers.Immediate = record r { ack_state = states.Immediate }
 
 -- a delayed acknowledgement is due after 200 ms, an immediate one with the next packets
-abbrev pub ended_packet_timers : Timers → AckWish → ℕ → Timers
-ended_packet_timers t wishes.None now = t
-ended_packet_timers t wishes.Delayed now = started names.Ack now 200 t
-ended_packet_timers t wishes.Immediate now = with_stopped names.Ack t
+abbrev pub ended_packet_timers : Timers → AckTrigger → ℕ → Timers
+ended_packet_timers t triggers.None now = t
+ended_packet_timers t triggers.Delayed now = started names.Ack now 200 t
+ended_packet_timers t triggers.Immediate now = with_stopped names.Ack t
 
 abbrev pub acknowledged_at_once : Receiver → Receiver
 acknowledged_at_once r = record r { ack_state = states.Immediate }
@@ -64,7 +64,7 @@ acknowledged r = record r { ack_state = states.Idle }
 -- the acknowledgement that says what came (RFC 4960 section 3.3.4)
 abbrev pub sack_of : Receiver → ℕ → ChunkSelectiveAck
 sack_of r waiting = record {
-  cumulative_tsn_ack = r.point;
+  cumulative_tsn_ack = r.peer_last_tsn;
   advertised_receiver_window_credit = credit_of r waiting;
   gap_ack_blocks = [];
   duplicate_tsn = [];

@@ -1,7 +1,7 @@
 // Tags, ports and numbers of streams, as the two sides agree on them.
 ghost use Rattle.std.specs.Prelude.{◌≡◌};
 ghost use Rattle.std.specs.List.{list_any};
-ghost use Rattle.sctp_inbound.specs.Handshake.{by_tokens_of, comes_back, established, fresh_of, has_issued, header_of, met_by_init, met_by_init_ack, side_of, lists_forward_tsn, is_extensions_with_forward_tsn, offer_of, with_answer, with_parameters};
+ghost use Rattle.sctp_inbound.specs.Handshake.{by_tokens_of, comes_back, established, fresh_of, has_issued, header_of, learned_by_init, learned_by_init_ack, side_of, lists_forward_tsn, is_extensions_with_forward_tsn, offer_of, with_answer, with_parameters};
 
 use bytes::Bytes;
 use sctp_wire_types::{ChunkInit, CommonHeader, Param, Side, TransportConfig};
@@ -117,7 +117,7 @@ impl Handshake {
 
     /// An INIT came, which is answered by an INIT ACK with this side's cookie (RFC 4960 section 5.1).
     pub fn on_init(&mut self, header: &CommonHeader, init: &ChunkInit)
-        ensures { self.new ≡ met_by_init self.old header.now init.now }
+        ensures { self.new ≡ learned_by_init self.old header.now init.now }
     {
         self.take_answer(init);
         self.source_port = header.destination_port;
@@ -130,7 +130,7 @@ impl Handshake {
     /// its numbers of streams count.
     pub fn on_init_ack(&mut self, header: &CommonHeader, init: &ChunkInit) -> bool
         ensures answer { result ≡ comes_back self.old header.now }
-        ensures state { self.new ≡ met_by_init_ack self.old header.now init.now }
+        ensures state { self.new ≡ learned_by_init_ack self.old header.now init.now }
     {
         self.take_answer(init);
         if header.destination_port != self.source_port

@@ -7,4 +7,4 @@ mod receiver;
 
 pub use greeting::{heartbeat_ack, heartbeat_information, state_cookie};
 pub use handshake::{Handshake, Offer};
-pub use receiver::{AckWish, Receiver};
+pub use receiver::{AckTrigger, Receiver};

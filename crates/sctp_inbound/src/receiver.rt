@@ -9,7 +9,7 @@ use std::alloc::Global;
 
 /// How soon the chunks of one packet ask to be acknowledged.
 #[derive(Clone, Copy, Debug, PartialEq, Eq)]
-pub enum AckWish {
+pub enum AckTrigger {
     None,
     Delayed,
     Immediate,
@@ -19,7 +19,7 @@ pub enum AckWish {
 #[derive(Clone, Copy, Debug)]
 pub struct Receiver {
     /// Every TSN up to this one came or was skipped.
-    pub point: u32,
+    pub peer_last_tsn: u32,
     pub ack_state: AckState,
     /// Bytes that may wait for their reader.
     pub buffer_size: u32,
@@ -29,11 +29,11 @@ pub struct Receiver {
 
 impl Receiver {
     /// Nothing came; the first TSN to come is the one after `point`.
-    pub fn new(buffer_size: u32, max_receive_message_size: u32, point: u32) -> Self
-        ensures { result ≡ fresh_receiver buffer_size max_receive_message_size point }
+    pub fn new(buffer_size: u32, max_receive_message_size: u32, peer_last_tsn: u32) -> Self
+        ensures { result ≡ fresh_receiver buffer_size max_receive_message_size peer_last_tsn }
     {
         Receiver {
-            point,
+            peer_last_tsn,
             ack_state: AckState::Idle,
             buffer_size,
             max_receive_message_size,
@@ -41,50 +41,50 @@ impl Receiver {
     }
 
     /// The peer's initial TSN is known: nothing came of what it sends from there on.
-    pub fn meet(&mut self, initial_tsn: u32)
+    pub fn set_initial_tsn(&mut self, initial_tsn: u32)
         ensures { self.new ≡ receiver_from self.old initial_tsn }
     {
-        self.point = initial_tsn.wrapping_sub(1);
+        self.peer_last_tsn = initial_tsn.wrapping_sub(1);
     }
 
     /// Whether this is the TSN after the point.
     pub fn is_next(&self, tsn: u32) -> bool
         ensures { result ≡ is_next_after self.now tsn }
     {
-        tsn == self.point.wrapping_add(1)
+        tsn == self.peer_last_tsn.wrapping_add(1)
     }
 
     /// Moves the point to a TSN that came.
     pub fn take(&mut self, tsn: u32)
         ensures { self.new ≡ taken_to self.old tsn }
     {
-        self.point = tsn;
+        self.peer_last_tsn = tsn;
     }
 
-    /// The wish of a packet after one more chunk of it asked for an acknowledgement: at once where `immediate` is set
+    /// The trigger of a packet after one more chunk of it asked for an acknowledgement: at once where `immediate` is set
     /// or the last packet waits already, else delayed.
-    pub fn ask(&self, wish: AckWish, immediate: bool) -> AckWish
-        ensures { result ≡ asked self.now wish immediate }
+    pub fn ask(&self, trigger: AckTrigger, immediate: bool) -> AckTrigger
+        ensures { result ≡ asked self.now trigger immediate }
     {
-        if immediate || wish == AckWish::Immediate || self.ack_state != AckState::Idle {
-            AckWish::Immediate
+        if immediate || trigger == AckTrigger::Immediate || self.ack_state != AckState::Idle {
+            AckTrigger::Immediate
         } else {
-            AckWish::Delayed
+            AckTrigger::Delayed
         }
     }
 
-    /// Carries out a packet's wish: acknowledge with the next poll, or 200 ms from `now` (RFC 4960 section 6.2).
-    pub fn end_of_packet(&mut self, timers: &mut TimerTable, wish: AckWish, now: Instant)
-        ensures state { self.new ≡ ended_packet self.old wish }
-        ensures timers { timers.new ≡ ended_packet_timers timers.old wish now }
+    /// Carries out a packet's trigger: acknowledge with the next poll, or 200 ms from `now` (RFC 4960 section 6.2).
+    pub fn end_of_packet(&mut self, timers: &mut TimerTable, trigger: AckTrigger, now: Instant)
+        ensures state { self.new ≡ ended_packet self.old trigger }
+        ensures timers { timers.new ≡ ended_packet_timers timers.old trigger now }
     {
-        match wish {
-            AckWish::None => {}
-            AckWish::Delayed => {
+        match trigger {
+            AckTrigger::None => {}
+            AckTrigger::Delayed => {
                 self.ack_state = AckState::Delay;
                 timers.start(Timer::Ack, now, ACK_INTERVAL);
             }
-            AckWish::Immediate => {
+            AckTrigger::Immediate => {
                 self.ack_state = AckState::Immediate;
                 timers.stop(Timer::Ack);
             }
@@ -113,7 +113,7 @@ impl Receiver {
     {
         self.ack_state = AckState::Idle;
         ChunkSelectiveAck {
-            cumulative_tsn_ack: self.point,
+            cumulative_tsn_ack: self.peer_last_tsn,
             advertised_receiver_window_credit: self.credit(waiting),
             gap_ack_blocks: List::new(alloc),
             duplicate_tsn: List::new(alloc),

@@ -1,4 +1,4 @@
--- From the acknowledged point on, the sequence numbers of a stream's ordered messages ascend with their offsets, also past its span.
+-- From the acknowledged reach on, the sequence numbers of a stream's ordered messages ascend with their offsets, also past its span.
 use Rattle.std.proofs.Common.{ℕ, zero, suc, ◌+◌, ◌-◌, ◌<◌, ◌≤◌, ◌≡◌, true, not, eqb, List, [], ◌∷◌, length, drop, get_or, Option, Some, refl, sym, ap, ◌∙◌, subst, ⊎_elim, arith}
 use Rattle.std.proofs.lemmas.List.{length-drop, get_or-drop}
 use Rattle.std.proofs.lemmas.Bool.{cases_eq, and_parts, eq-eqb, true≢false, not-true}
@@ -9,20 +9,20 @@ use Rattle.sctp_model.proofs.Growth.{IsExtended, at_put, off_put, place_extended
 use Rattle.sctp_model.proofs.Placing.{place_new, placed_cases}
 
 -- more is acknowledged
-pub ascending_later : (p : Plan) (current : Option Place) (ssn : ℕ → ℕ) (point point' : ℕ) → point ≤ point'
-    → IsAscending p current ssn point → IsAscending p current ssn point'
-ascending_later p current ssn point point' on h = record {
+pub ascending_later : (p : Plan) (current : Option Place) (ssn : ℕ → ℕ) (reach reach' : ℕ) → reach ≤ reach'
+    → IsAscending p current ssn reach → IsAscending p current ssn reach'
+ascending_later p current ssn reach reach' on h = record {
   ascends = λ s o q from le a b. h.ascends s o q (omega arith) le a b;
   below = λ s o from a. h.below s o (omega arith) a;
   going = h.going;
 }
 
 -- more is accepted
-pub ascending_message : (p : Plan) (s : ℕ) (m : Message) (current : Option Place) (ssn : ℕ → ℕ) (point : ℕ)
+pub ascending_message : (p : Plan) (s : ℕ) (m : Message) (current : Option Place) (ssn : ℕ → ℕ) (reach : ℕ)
     → ((o : ℕ) → o < length p.places → (place_at p o).message < length (p.accepted (place_at p o).stream))
     → ((y : Place) → current ≡ Some y → y.message < length (p.accepted y.stream))
-    → IsAscending p current ssn point → IsAscending (with_message p s m) current ssn point
-ascending_message p s m current ssn point known going h = record {
+    → IsAscending p current ssn reach → IsAscending (with_message p s m) current ssn reach
+ascending_message p s m current ssn reach known going h = record {
   ascends = λ t o r from le a b. h.ascends t o r from le (at_before p q e t o true a.known a) (at_before p q e t r true b.known b);
   below = λ t o from a. h.below t o from (at_before p q e t o true a.known a);
   going = λ y is k. h.going y is (sym (ap (λ z. z.ordered) (e.messages y.stream y.message (going y is))) ∙ k);
@@ -35,14 +35,14 @@ ascending_message p s m current ssn point known going h = record {
     e = message_extended p s m known
 
 -- y gets the next offset
-pub ascending_placed : (p : Plan) (y : Place) (current current' : Option Place) (ssn ssn' : ℕ → ℕ) (point : ℕ)
+pub ascending_placed : (p : Plan) (y : Place) (current current' : Option Place) (ssn ssn' : ℕ → ℕ) (reach : ℕ)
     → ((o : ℕ) → o < length p.places → (place_at p o).message < length (p.accepted (place_at p o).stream))
-    → IsAscending p current ssn point → ((s : ℕ) → ssn s ≤ ssn' s)
+    → IsAscending p current ssn reach → ((s : ℕ) → ssn s ≤ ssn' s)
     → ((message_of p y).ordered ≡ true → y.ssn < ssn' y.stream)
-    → ((message_of p y).ordered ≡ true → (o : ℕ) → point ≤ o → IsAt p y.stream true o → (place_at p o).ssn ≤ y.ssn)
+    → ((message_of p y).ordered ≡ true → (o : ℕ) → reach ≤ o → IsAt p y.stream true o → (place_at p o).ssn ≤ y.ssn)
     → ((z : Place) → current' ≡ Some z → (message_of p z).ordered ≡ true → z.ssn < ssn' z.stream)
-    → IsAscending (with_place p y) current' ssn' point
-ascending_placed p y current current' ssn ssn' point known h more mine last going = record {
+    → IsAscending (with_place p y) current' ssn' reach
+ascending_placed p y current current' ssn ssn' reach known h more mine last going = record {
   ascends = ascends;
   below = λ s o from a. ⊎_elim
       (λ (b : o < length p.places). subst (λ z. z.ssn < ssn' s) (sym (old o b))
@@ -70,7 +70,7 @@ ascending_placed p y current current' ssn ssn' point known h more mine last goin
     kind : (s o : ℕ) → length p.places ≡ o → IsAt q s true o → (message_of p y).ordered ≡ true
     kind s o b a = sym (ap (λ z. (message_of p z).ordered) (new o b)) ∙ a.kind
 
-    ascends : (s o r : ℕ) → point ≤ o → o ≤ r → IsAt q s true o → IsAt q s true r → (place_at q o).ssn ≤ (place_at q r).ssn
+    ascends : (s o r : ℕ) → reach ≤ o → o ≤ r → IsAt q s true o → IsAt q s true r → (place_at q o).ssn ≤ (place_at q r).ssn
     ascends s o r from le ao ar = ⊎_elim
         (λ (b : r < length p.places).
         let a : o < length p.places = omega arith in
@@ -93,16 +93,16 @@ counted_more ssn s t = ⊎_elim
 pub counted_past : (ssn : ℕ → ℕ) (s n : ℕ) → n ≡ ssn s → n < put ssn s (suc (ssn s)) s
 counted_past ssn s n e = subst (λ z. n < z) (sym (at_put ssn s s (suc (ssn s)) refl)) (omega arith)
 
--- A stream's numbers begin again: none of its places lies from the acknowledged point on, and no message of it goes on.
+-- A stream's numbers begin again: none of its places lies from the acknowledged reach on, and no message of it goes on.
 
 none_at : (s : ℕ) (ys : List Place) (j : ℕ) → none_of s ys ≡ true → j < length ys → (get_or ys j no_place).stream ≡ s → ⊥
 none_at s [] j none l e = omega arith
 none_at s (y ∷ ys) zero none l e = true≢false (sym (eq-eqb _ _ e) ∙ not-true _ (and_parts (not (eqb y.stream s)) (none_of s ys) none).0)
 none_at s (y ∷ ys) (suc j) none l e = none_at s ys j (and_parts (not (eqb y.stream s)) (none_of s ys) none).1 (omega arith) e
 
-pub ascending_restart : (p : Plan) (current : Option Place) (ssn : ℕ → ℕ) (point s : ℕ) → none_of s (drop point p.places) ≡ true
-    → none_goes_on s current ≡ true → IsAscending p current ssn point → IsAscending p current (put ssn s 0) point
-ascending_restart p current ssn point s none still h = record {
+pub ascending_restart : (p : Plan) (current : Option Place) (ssn : ℕ → ℕ) (reach s : ℕ) → none_of s (drop reach p.places) ≡ true
+    → none_goes_on s current ≡ true → IsAscending p current ssn reach → IsAscending p current (put ssn s 0) reach
+ascending_restart p current ssn reach s none still h = record {
   ascends = h.ascends;
   below = λ t o from a. ⊎_elim
       (λ (e : t ≡ s). absurd (past o from a.known (a.stream ∙ e)))
@@ -114,6 +114,6 @@ ascending_restart p current ssn point s none still h = record {
       (cases_eq y.stream s);
 }
   where
-    past : (o : ℕ) → point ≤ o → o < length p.places → (place_at p o).stream ≡ s → ⊥
-    past o from l e = none_at s (drop point p.places) (o - point) none (let b = length-drop point p.places in omega arith)
-        (ap (λ z. z.stream) (get_or-drop point p.places (o - point) no_place ∙ ap (place_at p) (let u : point + (o - point) ≡ o = omega arith in u)) ∙ e)
+    past : (o : ℕ) → reach ≤ o → o < length p.places → (place_at p o).stream ≡ s → ⊥
+    past o from l e = none_at s (drop reach p.places) (o - reach) none (let b = length-drop reach p.places in omega arith)
+        (ap (λ z. z.stream) (get_or-drop reach p.places (o - reach) no_place ∙ ap (place_at p) (let u : reach + (o - reach) ≡ o = omega arith in u)) ∙ e)

@@ -3,7 +3,7 @@ use Rattle.std.proofs.Common.{ℕ, zero, suc, ◌+◌, ◌<◌, ◌≤◌, ◌�
 use Rattle.std.specs.Prelude.{filter}
 use Rattle.std.proofs.lemmas.Bool.{cases_Bool, cases_lt, cases_eq, or_cases, or_left, or_right, eqb-true, ltb-true, lt-ltb, le-leb, true≢false, false≢true, false_from_ne_true}
 use Rattle.sctp_model.specs.Packets.{mem, names}
-use Rattle.sctp_model.specs.Machine.{Receiver, climb, past_all, point, sack_of}
+use Rattle.sctp_model.specs.Machine.{Receiver, climb, past_all, reach, sack_of}
 
 -- Sets of offsets
 
@@ -32,26 +32,26 @@ climb_stops xs zero p h = false_from_ne_true _ (λ (m : mem p xs ≡ true). omeg
 climb_stops xs (suc n) p h =
     ⊎_elim (λ (b : mem p xs ≡ true). rw b (climb_stops xs n (suc p) (omega arith))) (λ (b : mem p xs ≡ false). rw b b) (cases_Bool (mem p xs))
 
-pub point_from : (r : Receiver) → r.passed ≤ point r
-point_from r = climb_from r.taken (past_all r.taken) r.passed
+pub reach_from : (r : Receiver) → r.passed ≤ reach r
+reach_from r = climb_from r.taken (past_all r.taken) r.passed
 
-pub point_below : (r : Receiver) (o : ℕ) → o < point r → (mem o r.taken ≡ true) ⊎ (o < r.passed)
-point_below r o h = ⊎_elim (λ (l : o < r.passed). inr l) (λ (g : r.passed ≤ o). inl (climb_in r.taken (past_all r.taken) r.passed o g h)) (cases_lt o r.passed)
+pub reach_below : (r : Receiver) (o : ℕ) → o < reach r → (mem o r.taken ≡ true) ⊎ (o < r.passed)
+reach_below r o h = ⊎_elim (λ (l : o < r.passed). inr l) (λ (g : r.passed ≤ o). inl (climb_in r.taken (past_all r.taken) r.passed o g h)) (cases_lt o r.passed)
 
-pub point_stops : (r : Receiver) → mem (point r) r.taken ≡ false
-point_stops r = climb_stops r.taken (past_all r.taken) r.passed (omega arith)
+pub reach_stops : (r : Receiver) → mem (reach r) r.taken ≡ false
+reach_stops r = climb_stops r.taken (past_all r.taken) r.passed (omega arith)
 
--- a receiver that took in or passed over all that another did has its point at least there
-pub point_grows : (r t : Receiver) → ((o : ℕ) → mem o r.taken ≡ true → mem o t.taken ≡ true) → r.passed ≤ t.passed → point r ≤ point t
-point_grows r t more far =
+-- a receiver that took in or passed over all that another did has its reach at least there
+pub reach_grows : (r t : Receiver) → ((o : ℕ) → mem o r.taken ≡ true → mem o t.taken ≡ true) → r.passed ≤ t.passed → reach r ≤ reach t
+reach_grows r t more far =
     ⊎_elim
-    (λ (l : point t < point r).
+    (λ (l : reach t < reach r).
     ⊎_elim
-    (λ (m : mem (point t) r.taken ≡ true). absurd (true≢false (sym (more _ m) ∙ point_stops t)))
-    (λ (b : point t < r.passed). absurd (let f = point_from t in omega arith))
-    (point_below r (point t) l))
-    (λ (g : point r ≤ point t). g)
-    (cases_lt (point t) (point r))
+    (λ (m : mem (reach t) r.taken ≡ true). absurd (true≢false (sym (more _ m) ∙ reach_stops t)))
+    (λ (b : reach t < r.passed). absurd (let f = reach_from t in omega arith))
+    (reach_below r (reach t) l))
+    (λ (g : reach r ≤ reach t). g)
+    (cases_lt (reach t) (reach r))
 
 pub mem-filter : (p : ℕ → Bool) (o : ℕ) (xs : List ℕ) → p o ≡ true → mem o xs ≡ true → mem o (filter p xs) ≡ true
 mem-filter p o [] h m = m
@@ -75,11 +75,11 @@ mem_from_filter p o (x ∷ xs) m =
     (λ (b : p x ≡ false). or_right _ _ (mem_from_filter p o xs (rw b at m)))
     (cases_Bool (p x))
 
-pub sack_named : (r : Receiver) (o : ℕ) → names (sack_of r) o ≡ true → (o < point r) ⊎ (mem o r.taken ≡ true)
+pub sack_named : (r : Receiver) (o : ℕ) → names (sack_of r) o ≡ true → (o < reach r) ⊎ (mem o r.taken ≡ true)
 sack_named r o h =
-    ⊎_elim (λ (l : ltb o (point r) ≡ true). inl (ltb-true _ _ l)) (λ (m : mem o (sack_of r).above ≡ true). inr (mem_from_filter _ o r.taken m)) (or_cases _ _ h)
+    ⊎_elim (λ (l : ltb o (reach r) ≡ true). inl (ltb-true _ _ l)) (λ (m : mem o (sack_of r).above ≡ true). inr (mem_from_filter _ o r.taken m)) (or_cases _ _ h)
 
-pub sack_names : (r : Receiver) (o : ℕ) → (o < point r) ⊎ (mem o r.taken ≡ true) → names (sack_of r) o ≡ true
+pub sack_names : (r : Receiver) (o : ℕ) → (o < reach r) ⊎ (mem o r.taken ≡ true) → names (sack_of r) o ≡ true
 sack_names r o (inl l) = or_left _ _ (lt-ltb _ _ l)
 sack_names r o (inr m) =
-    ⊎_elim (λ (l : o < point r). or_left _ _ (lt-ltb _ _ l)) (λ (g : point r ≤ o). or_right _ _ (mem-filter _ o r.taken (le-leb _ _ g) m)) (cases_lt o (point r))
+    ⊎_elim (λ (l : o < reach r). or_left _ _ (lt-ltb _ _ l)) (λ (g : reach r ≤ o). or_right _ _ (mem-filter _ o r.taken (le-leb _ _ g) m)) (cases_lt o (reach r))

@@ -4,10 +4,10 @@ use Rattle.std.proofs.lemmas.Bool.{cases_Bool, cases_lt, cases_eq, and_parts, or
 use Rattle.sctp_model.specs.Messages.{Plan, IsAt, place_at, bytes_at, bytes_below}
 use Rattle.sctp_model.specs.Packets.{Data, Sack, Forward, mem, names, data_at}
 use Rattle.sctp_model.specs.Reassembly.{Queue, Got, Taken, next, push, push_ordered, push_unordered}
-use Rattle.sctp_model.specs.Machine.{Direction, put, live, point, sack_of, is_new, took, moved, passes, acknowledged_by, gone_front, forward_of, opened, can_resend, none_of, none_goes_on, can_restart}
+use Rattle.sctp_model.specs.Machine.{Direction, put, live, reach, sack_of, is_new, took, moved, passes, acknowledged_by, gone_front, forward_of, opened, can_resend, none_of, none_goes_on, can_restart}
 use Rattle.sctp_model.specs.Safe.{IsWithin}
 use Rattle.sctp_model.specs.Invariants.{Invariant, IsPlanned, IsEarlier, IsPiece, IsHonest, IsForward, IsAccounted, IsStream, gone_at}
-use Rattle.sctp_model.proofs.Basics.{point_from, point_below, point_grows, sack_named}
+use Rattle.sctp_model.proofs.Basics.{reach_from, reach_below, reach_grows, sack_named}
 use Rattle.sctp_model.proofs.Lists.{all_weaker, all_push}
 use Rattle.sctp_model.proofs.Growth.{at_put, off_put}
 use Rattle.sctp_model.proofs.Ascending.{ascending_later, ascending_restart}
@@ -53,9 +53,9 @@ keeps_sack_made w h = record {
   passed = h.passed;
   tails = h.tails;
   sacks = all_push _ w.sacks _ h.sacks record {
-    point = omega arith;
+    reach = omega arith;
     named = λ o n. ⊎_elim
-        (λ (l : o < point w.receiver). point_below w.receiver o l)
+        (λ (l : o < reach w.receiver). reach_below w.receiver o l)
         (λ (m : mem o w.receiver.taken ≡ true). inl m)
         (sack_named w.receiver o n);
   };
@@ -110,12 +110,12 @@ bytes_added p gone acked named s (suc o) =
     part true false false true x = refl
     part true false false false x = refl
 
-pub keeps_sack_comes : (w : Direction) (k : Sack) → w.sender.point ≤ k.point → IsHonest w.receiver.taken w.receiver.passed (point w.receiver) k → Invariant w
+pub keeps_sack_comes : (w : Direction) (k : Sack) → w.sender.reach ≤ k.reach → IsHonest w.receiver.taken w.receiver.passed (reach w.receiver) k → Invariant w
     → Invariant (record w { sender = acknowledged_by w.sender k })
 keeps_sack_comes w k on t h = record {
   planned = h.planned;
   sending = h.sending;
-  ascending = ascending_later w.sender.plan w.sender.current w.sender.ssn w.sender.point k.point on h.ascending;
+  ascending = ascending_later w.sender.plan w.sender.current w.sender.ssn w.sender.reach k.reach on h.ascending;
   datas = h.datas;
   taken = h.taken;
   accounted = h.accounted;
@@ -127,9 +127,9 @@ keeps_sack_comes w k on t h = record {
       (λ (b : names k o ≡ true). t.named o b)
       (or_cases _ _ a);
   cumulative = λ o l. or_right _ _ (or_left _ _ (lt-ltb _ _ l));
-  behind = t.point;
+  behind = t.reach;
   forwards = all_weaker _ _ _ (λ f. forward_later w.sender.plan w.sender.gone w.over w.over w.sender.acknowledged (acknowledged_by w.sender k).acknowledged
-      w.sender.point k.point f (λ o a. or_left _ _ a) on (λ s v. v)) h.forwards;
+      w.sender.reach k.reach f (λ o a. or_left _ _ a) on (λ s v. v)) h.forwards;
   released = λ s.
       let a = h.released s in
       let b = bytes_added w.sender.plan w.sender.gone w.sender.acknowledged (names k) s (length w.sender.plan.places) in
@@ -161,12 +161,12 @@ keeps_data_comes w d piece new l h = record {
       (λ (f : o < w.receiver.passed). ⊎_elim
       (λ (m : mem o w.receiver.taken ≡ true). inl (or_right _ _ m))
       (λ (g : gone_at p w.sender.gone o ≡ true). inr g)
-      (h.accounted o (let a = point_from w.receiver in omega arith)))
-      (point_below (took w.receiver d) o b);
+      (h.accounted o (let a = reach_from w.receiver in omega arith)))
+      (reach_below (took w.receiver d) o b);
   passed = h.passed;
   tails = h.tails;
   sacks = all_weaker _ _ _ (λ k t. record {
-    point = let a = t.point in let b = further in omega arith;
+    reach = let a = t.reach in let b = further in omega arith;
     named = λ o n. ⊎_elim (λ (m : mem o w.receiver.taken ≡ true). inl (or_right _ _ m)) (λ (f : o < w.receiver.passed). inr f) (t.named o n);
   }) h.sacks;
   acknowledged = λ o a. ⊎_elim (λ (m : mem o w.receiver.taken ≡ true). inl (or_right _ _ m)) (λ (f : o < w.receiver.passed). inr f) (h.acknowledged o a);
@@ -181,7 +181,7 @@ keeps_data_comes w d piece new l h = record {
       (subst (λ z. StreamWith w w.sender.ssn (d.offset ∷ w.receiver.taken) w.receiver.passed (w.skipped s) s (push (live (w.receiver.queues z)) d) (w.reads s)) e
       (push_cases (λ z. StreamWith w w.sender.ssn (d.offset ∷ w.receiver.taken) w.receiver.passed (w.skipped s) s z (w.reads s)) (live (w.receiver.queues s)) d
       (λ k. stream_pushed p w.over w.sender.gone w.sender.current (w.sender.next s) (w.sender.ssn s) w.receiver.taken w.receiver.passed (w.skipped s) s (live (w.receiver.queues s)) (w.reads s) d
-      h.planned piece (here s true e k) unknown (let a = point_from w.receiver in omega (arith, past)) (l.unread s) (h.streams s v))
+      h.planned piece (here s true e k) unknown (let a = reach_from w.receiver in omega (arith, past)) (l.unread s) (h.streams s v))
       (λ k. stream_settled p w.over w.sender.gone w.sender.current (w.sender.next s) (w.sender.ssn s) w.receiver.taken w.receiver.passed (w.skipped s) s (live (w.receiver.queues s)) (w.reads s) d
       h.planned piece (here s false e k) unknown (h.streams s v)))))
       (λ (ne : s ≡ d.stream → ⊥).
@@ -198,24 +198,24 @@ keeps_data_comes w d piece new l h = record {
     stream : d.stream ≡ (place_at w.sender.plan d.offset).stream
     stream = ap (λ z. z.stream) piece.is
 
-    parts : (leb (point w.receiver) d.offset ≡ true) × (not (mem d.offset w.receiver.taken) ≡ true)
+    parts : (leb (reach w.receiver) d.offset ≡ true) × (not (mem d.offset w.receiver.taken) ≡ true)
     parts = and_parts _ _ new
 
-    past : point w.receiver ≤ d.offset
+    past : reach w.receiver ≤ d.offset
     past = leb-true _ _ parts.0
 
     unknown : mem d.offset w.receiver.taken ≡ false
     unknown = not-true _ parts.1
 
-    further : point w.receiver ≤ point (took w.receiver d)
-    further = point_grows w.receiver (took w.receiver d) (λ o m. or_right _ _ m) (omega arith)
+    further : reach w.receiver ≤ reach (took w.receiver d)
+    further = reach_grows w.receiver (took w.receiver d) (λ o m. or_right _ _ m) (omega arith)
 
     here : (s : ℕ) (k : Bool) → s ≡ d.stream → d.ordered ≡ k → IsAt w.sender.plan s k d.offset
     here s k e o = record { known = piece.known; stream = sym stream ∙ sym e; kind = sym (ap (λ z. z.ordered) piece.is) ∙ o }
 
 -- A FORWARD TSN is taken
 
-pub keeps_forward_comes : (w : Direction) (f : Forward) → IsForward w.sender.plan w.sender.gone w.over w.sender.acknowledged w.sender.point f → point w.receiver < f.point → IsWithin w → Invariant w
+pub keeps_forward_comes : (w : Direction) (f : Forward) → IsForward w.sender.plan w.sender.gone w.over w.sender.acknowledged w.sender.reach f → reach w.receiver < f.reach → IsWithin w → Invariant w
     → Invariant (passes w f)
 keeps_forward_comes w f t far l h = record {
   planned = h.planned;
@@ -225,35 +225,35 @@ keeps_forward_comes w f t far l h = record {
   taken = h.taken;
   accounted = λ o b. ⊎_elim
       (λ (m : mem o w.receiver.taken ≡ true). inl m)
-      (λ (a : o < f.point). account o a)
-      (point_below (moved w.receiver f) o b);
+      (λ (a : o < f.reach). account o a)
+      (reach_below (moved w.receiver f) o b);
   passed = t.known;
   tails = h.tails;
   sacks = all_weaker _ _ _ (λ k u. record {
-    point = let a = u.point in let b = further in omega arith;
-    named = λ o n. ⊎_elim (λ (m : mem o w.receiver.taken ≡ true). inl m) (λ (a : o < w.receiver.passed). inr (let b = point_from w.receiver in omega arith)) (u.named o n);
+    reach = let a = u.reach in let b = further in omega arith;
+    named = λ o n. ⊎_elim (λ (m : mem o w.receiver.taken ≡ true). inl m) (λ (a : o < w.receiver.passed). inr (let b = reach_from w.receiver in omega arith)) (u.named o n);
   }) h.sacks;
-  acknowledged = λ o a. ⊎_elim (λ (m : mem o w.receiver.taken ≡ true). inl m) (λ (b : o < w.receiver.passed). inr (let c = point_from w.receiver in omega arith)) (h.acknowledged o a);
+  acknowledged = λ o a. ⊎_elim (λ (m : mem o w.receiver.taken ≡ true). inl m) (λ (b : o < w.receiver.passed). inr (let c = reach_from w.receiver in omega arith)) (h.acknowledged o a);
   cumulative = h.cumulative;
   behind = let a = h.behind in let b = further in omega arith;
   forwards = h.forwards;
   released = h.released;
-  streams = λ s v. stream_forwarded w.sender.plan w.over w.sender.current w.sender.next w.sender.ssn w.sender.begun w.sender.gone w.sender.acknowledged w.sender.point w.receiver.taken w.receiver.passed (w.skipped s) s
-      (w.receiver.queues s) (w.reads s) f h.planned v h.sending t account h.tails (let b = point_from w.receiver in omega arith)
+  streams = λ s v. stream_forwarded w.sender.plan w.over w.sender.current w.sender.next w.sender.ssn w.sender.begun w.sender.gone w.sender.acknowledged w.sender.reach w.receiver.taken w.receiver.passed (w.skipped s) s
+      (w.receiver.queues s) (w.reads s) f h.planned v h.sending t account h.tails (let b = reach_from w.receiver in omega arith)
       (let a = l.flight in let b = h.behind in omega arith) (l.unread s) (h.streams s v);
 }
   where
-    account : (o : ℕ) → o < f.point → IsAccounted w.sender.plan w.sender.gone w.receiver.taken o
+    account : (o : ℕ) → o < f.reach → IsAccounted w.sender.plan w.sender.gone w.receiver.taken o
     account o l = ⊎_elim
         (λ (a : o < f.start). ⊎_elim
         (λ (m : mem o w.receiver.taken ≡ true). inl m)
-        (λ (b : o < w.receiver.passed). h.accounted o (let c = point_from w.receiver in omega arith))
+        (λ (b : o < w.receiver.passed). h.accounted o (let c = reach_from w.receiver in omega arith))
         (h.acknowledged o (t.acknowledged o a)))
         (λ (a : f.start ≤ o). inr (t.abandoned o a l))
         (cases_lt o f.start)
 
-    further : point w.receiver ≤ point (moved w.receiver f)
-    further = point_grows w.receiver (moved w.receiver f) (λ o m. m) (let b = point_from w.receiver in omega arith)
+    further : reach w.receiver ≤ reach (moved w.receiver f)
+    further = reach_grows w.receiver (moved w.receiver f) (λ o m. m) (let b = reach_from w.receiver in omega arith)
 
 -- The receiver's application
 
@@ -389,7 +389,7 @@ keeps_end w s h = record {
   cumulative = h.cumulative;
   behind = h.behind;
   forwards = all_weaker _ _ _ (λ f. forward_later w.sender.plan w.sender.gone w.over (put w.over s true) w.sender.acknowledged w.sender.acknowledged
-      w.sender.point w.sender.point f (λ o m. m) (omega arith) spans) h.forwards;
+      w.sender.reach w.sender.reach f (λ o m. m) (omega arith) spans) h.forwards;
   released = h.released;
   streams = λ t v. h.streams t (spans t v);
 }
@@ -414,7 +414,7 @@ keeps_restart w s can h = record {
         closed = g.closed;
         given_up = g.given_up;
       };
-  ascending = ascending_restart w.sender.plan w.sender.current w.sender.ssn w.sender.point s rest.0 rest.1 h.ascending;
+  ascending = ascending_restart w.sender.plan w.sender.current w.sender.ssn w.sender.reach s rest.0 rest.1 h.ascending;
   datas = h.datas;
   taken = h.taken;
   accounted = h.accounted;
@@ -430,10 +430,10 @@ keeps_restart w s can h = record {
       (sym (same t v)) (h.streams t v);
 }
   where
-    parts : (w.over s ≡ true) × ((none_of s (drop w.sender.point w.sender.plan.places) && none_goes_on s w.sender.current) ≡ true)
+    parts : (w.over s ≡ true) × ((none_of s (drop w.sender.reach w.sender.plan.places) && none_goes_on s w.sender.current) ≡ true)
     parts = and_parts _ _ can
 
-    rest : (none_of s (drop w.sender.point w.sender.plan.places) ≡ true) × (none_goes_on s w.sender.current ≡ true)
+    rest : (none_of s (drop w.sender.reach w.sender.plan.places) ≡ true) × (none_goes_on s w.sender.current ≡ true)
     rest = and_parts _ _ parts.1
 
     same : (t : ℕ) → w.over t ≡ false → put w.sender.ssn s 0 t ≡ w.sender.ssn t

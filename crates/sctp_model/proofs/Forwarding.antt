@@ -176,9 +176,9 @@ found_some p s (y ∷ ys) found zero l h =
 found_some p s (y ∷ ys) found (suc j) l h = found_some p s ys (cond (is_ordered_of p s y) (Some y.ssn) found) j (omega arith) h
 
 pub forward_made : (x : Sender) (over : ℕ → Bool) → IsPlanned x.plan over
-    → IsSending x.plan x.current x.next x.ssn x.begun x.gone over → IsAscending x.plan x.current x.ssn x.point
-    → ((o : ℕ) → o < x.point → x.acknowledged o ≡ true) → length x.plan.places < x.point + 16384 → 0 < length (gone_front x)
-    → IsForward x.plan x.gone over x.acknowledged x.point (forward_of x over)
+    → IsSending x.plan x.current x.next x.ssn x.begun x.gone over → IsAscending x.plan x.current x.ssn x.reach
+    → ((o : ℕ) → o < x.reach → x.acknowledged o ≡ true) → length x.plan.places < x.reach + 16384 → 0 < length (gone_front x)
+    → IsForward x.plan x.gone over x.acknowledged x.reach (forward_of x over)
 forward_made x over h g rising below flight some = record {
   behind = omega arith;
   ahead = omega arith;
@@ -187,8 +187,8 @@ forward_made x over h g rising below flight some = record {
   acknowledged = below;
   abandoned = gone;
   ends = λ o e. ends o e;
-  complete = λ s o a from l. found_some x.plan s (gone_front x) None (o - x.point) (omega arith)
-      (subst (λ z. is_ordered_of x.plan s z ≡ true) (sym (among_same x rest (o - x.point) (omega arith) ∙ place o from)) (and_from _ _ (eq-eqb _ _ a.stream) a.kind));
+  complete = λ s o a from l. found_some x.plan s (gone_front x) None (o - x.reach) (omega arith)
+      (subst (λ z. is_ordered_of x.plan s z ≡ true) (sym (among_same x rest (o - x.reach) (omega arith) ∙ place o from)) (and_from _ _ (eq-eqb _ _ a.stream) a.kind));
   reported = λ s m e. reported s m (last_of x.plan s m (gone_front x) None e);
   greatest_given_up = λ s m e o a from l. greatest_given_up s m (reported s m (last_of x.plan s m (gone_front x) None e)) o a from l;
   greatest = λ s m e v o a l. greatest s m v (reported s m (last_of x.plan s m (gone_front x) None e)) o a l;
@@ -196,23 +196,23 @@ forward_made x over h g rising below flight some = record {
 }
   where
     rest : List Place
-    rest = drop x.point x.plan.places
+    rest = drop x.reach x.plan.places
 
-    known : x.point + length (gone_front x) ≤ length x.plan.places
-    known = let a = among_short x (drop x.point x.plan.places) in let b = length-drop x.point x.plan.places in omega arith
+    known : x.reach + length (gone_front x) ≤ length x.plan.places
+    known = let a = among_short x (drop x.reach x.plan.places) in let b = length-drop x.reach x.plan.places in omega arith
 
-    place : (o : ℕ) → x.point ≤ o → get_or rest (o - x.point) no_place ≡ place_at x.plan o
-    place o l = get_or-drop x.point x.plan.places (o - x.point) no_place ∙ ap (place_at x.plan) (let e : x.point + (o - x.point) ≡ o = omega arith in e)
+    place : (o : ℕ) → x.reach ≤ o → get_or rest (o - x.reach) no_place ≡ place_at x.plan o
+    place o l = get_or-drop x.reach x.plan.places (o - x.reach) no_place ∙ ap (place_at x.plan) (let e : x.reach + (o - x.reach) ≡ o = omega arith in e)
 
-    gone : (o : ℕ) → x.point ≤ o → o < x.point + length (gone_front x) → gone_at x.plan x.gone o ≡ true
-    gone o a l = subst (λ z. is_gone x z ≡ true) (place o a) (among_gone x rest (o - x.point) (omega arith))
+    gone : (o : ℕ) → x.reach ≤ o → o < x.reach + length (gone_front x) → gone_at x.plan x.gone o ≡ true
+    gone o a l = subst (λ z. is_gone x z ≡ true) (place o a) (among_gone x rest (o - x.reach) (omega arith))
 
-    stops : (o : ℕ) → o ≡ x.point + length (gone_front x) → o < length x.plan.places → gone_at x.plan x.gone o ≡ false
+    stops : (o : ℕ) → o ≡ x.reach + length (gone_front x) → o < length x.plan.places → gone_at x.plan x.gone o ≡ false
     stops o e l = subst (λ z. is_gone x z ≡ false) (place o (omega arith))
-        (subst (λ z. is_gone x (get_or rest z no_place) ≡ false) (let u : length (gone_front x) ≡ o - x.point = omega arith in u)
-        (among_stops x rest (let b = length-drop x.point x.plan.places in omega arith)))
+        (subst (λ z. is_gone x (get_or rest z no_place) ≡ false) (let u : length (gone_front x) ≡ o - x.reach = omega arith in u)
+        (among_stops x rest (let b = length-drop x.reach x.plan.places in omega arith)))
 
-    ends : (o : ℕ) → x.point + length (gone_front x) ≡ suc o → (is_last x.plan (place_at x.plan o) ≡ true) ⊎ ((place_at x.plan o).marker ≡ true)
+    ends : (o : ℕ) → x.reach + length (gone_front x) ≡ suc o → (is_last x.plan (place_at x.plan o) ≡ true) ⊎ ((place_at x.plan o).marker ≡ true)
     ends o e = ⊎_elim (λ (a : is_last x.plan (place_at x.plan o) ≡ true). inl a) (λ (a : is_last x.plan (place_at x.plan o) ≡ false). ⊎_elim
         (λ (b : (place_at x.plan o).marker ≡ true). inr b)
         (λ (b : (place_at x.plan o).marker ≡ false). ⊎_elim
@@ -238,7 +238,7 @@ forward_made x over h g rising below flight some = record {
 
     reported : (s m : ℕ)
         → ((None ≡ Some m) × ((k : ℕ) → k < length (gone_front x) → is_ordered_of x.plan s (get_or (gone_front x) k no_place) ≡ false)) ⊎ ((j : ℕ) × IsLastOf x.plan s (gone_front x) m j)
-        → IsReported x.plan x.gone s x.point (x.point + length (gone_front x)) m
+        → IsReported x.plan x.gone s x.reach (x.reach + length (gone_front x)) m
     reported s m (inl r) = absurd (none_some r.0)
       where
         none_some : None ≡ Some m → ⊥
@@ -257,56 +257,56 @@ forward_made x over h g rising below flight some = record {
         k = r.1
 
         offset : ℕ
-        offset = x.point + r.0
+        offset = x.reach + r.0
 
-        inside : (o : ℕ) → x.point ≤ o → o < x.point + length (gone_front x) → get_or (gone_front x) (o - x.point) no_place ≡ place_at x.plan o
-        inside o a l = among_same x rest (o - x.point) (omega arith) ∙ place o a
+        inside : (o : ℕ) → x.reach ≤ o → o < x.reach + length (gone_front x) → get_or (gone_front x) (o - x.reach) no_place ≡ place_at x.plan o
+        inside o a l = among_same x rest (o - x.reach) (omega arith) ∙ place o a
 
         found : get_or (gone_front x) r.0 no_place ≡ place_at x.plan offset
-        found = ap (λ z. get_or (gone_front x) z no_place) (let e : r.0 ≡ offset - x.point = omega arith in e) ∙ inside offset (omega arith) (omega (arith, k.within))
+        found = ap (λ z. get_or (gone_front x) z no_place) (let e : r.0 ≡ offset - x.reach = omega arith in e) ∙ inside offset (omega arith) (omega (arith, k.within))
 
         parts : (eqb (place_at x.plan offset).stream s ≡ true) × ((message_of x.plan (place_at x.plan offset)).ordered ≡ true)
         parts = and_parts _ _ (subst (λ z. is_ordered_of x.plan s z ≡ true) found k.here)
 
-        up_to : (o : ℕ) → IsAt x.plan s true o → o < x.point + length (gone_front x) → o ≤ offset
+        up_to : (o : ℕ) → IsAt x.plan s true o → o < x.reach + length (gone_front x) → o ≤ offset
         up_to o a l = ⊎_elim
             (λ (b : offset < o). absurd (true≢false (
             sym (subst (λ z. is_ordered_of x.plan s z ≡ true) (sym (inside o (omega arith) l)) (and_from _ _ (eq-eqb _ _ a.stream) a.kind))
-            ∙ k.none_later (o - x.point) (omega arith) (omega arith))))
+            ∙ k.none_later (o - x.reach) (omega arith) (omega arith))))
             (λ (b : o ≤ offset). b)
             (cases_lt offset o)
 
-    greatest_given_up : (s m : ℕ) → IsReported x.plan x.gone s x.point (x.point + length (gone_front x)) m
-        → (o : ℕ) → IsAt x.plan s true o → x.point ≤ o → o < x.point + length (gone_front x) → (place_at x.plan o).ssn ≤ m
+    greatest_given_up : (s m : ℕ) → IsReported x.plan x.gone s x.reach (x.reach + length (gone_front x)) m
+        → (o : ℕ) → IsAt x.plan s true o → x.reach ≤ o → o < x.reach + length (gone_front x) → (place_at x.plan o).ssn ≤ m
     greatest_given_up s m r o a from l = subst (λ z. (place_at x.plan o).ssn ≤ z) (sym r.is) (rising.ascends s o r.offset from (r.last o a l) a r.at)
 
-    greatest : (s m : ℕ) → over s ≡ false → IsReported x.plan x.gone s x.point (x.point + length (gone_front x)) m
-        → (o : ℕ) → IsAt x.plan s true o → o < x.point + length (gone_front x) → (place_at x.plan o).ssn ≤ m
+    greatest : (s m : ℕ) → over s ≡ false → IsReported x.plan x.gone s x.reach (x.reach + length (gone_front x)) m
+        → (o : ℕ) → IsAt x.plan s true o → o < x.reach + length (gone_front x) → (place_at x.plan o).ssn ≤ m
     greatest s m v r o a l = subst (λ z. (place_at x.plan o).ssn ≤ z) (sym r.is) (h.pairs s v o r.offset (r.last o a l) a r.at).ssn
 
-    all : (s m : ℕ) → over s ≡ false → IsReported x.plan x.gone s x.point (x.point + length (gone_front x)) m
-        → (o : ℕ) → IsAt x.plan s true o → (place_at x.plan o).ssn ≤ m → o < x.point + length (gone_front x)
+    all : (s m : ℕ) → over s ≡ false → IsReported x.plan x.gone s x.reach (x.reach + length (gone_front x)) m
+        → (o : ℕ) → IsAt x.plan s true o → (place_at x.plan o).ssn ≤ m → o < x.reach + length (gone_front x)
     all s m v r o a l = ⊎_elim
         (λ (b : r.offset < o). stays_below o a (let e = r.is in omega arith) b)
         (λ (b : o ≤ r.offset). let c = r.below in omega arith)
         (cases_lt r.offset o)
       where
-        stays_below : (o : ℕ) → IsAt x.plan s true o → (place_at x.plan o).ssn ≤ (place_at x.plan r.offset).ssn → r.offset < o → o < x.point + length (gone_front x)
+        stays_below : (o : ℕ) → IsAt x.plan s true o → (place_at x.plan o).ssn ≤ (place_at x.plan r.offset).ssn → r.offset < o → o < x.reach + length (gone_front x)
         stays_below o a l b = ⊎_elim
-            (λ (c : o < x.point + length (gone_front x)). c)
-            (λ (c : x.point + length (gone_front x) ≤ o).
+            (λ (c : o < x.reach + length (gone_front x)). c)
+            (λ (c : x.reach + length (gone_front x) ≤ o).
             let pair = h.pairs s v r.offset o (omega arith) r.at a in
             let le = pair.ssn in
             let ak = a.known in
             let rb = r.below in
             let rf = r.from in
             let ra = r.at in
-            let w = between x.plan over r.offset (x.point + length (gone_front x)) o h (omega arith) c ak (ra.stream ∙ sym a.stream) (pair.together (omega arith)) in
+            let w = between x.plan over r.offset (x.reach + length (gone_front x)) o h (omega arith) c ak (ra.stream ∙ sym a.stream) (pair.together (omega arith)) in
             absurd (true≢false (sym (gone r.offset (omega arith) (omega arith))
             ∙ ap (λ z. x.gone z (place_at x.plan r.offset).message) (sym w.0)
-            ∙ ap (x.gone (place_at x.plan (x.point + length (gone_front x))).stream) (sym w.1)
-            ∙ stops (x.point + length (gone_front x)) refl (omega arith))))
-            (cases_lt o (x.point + length (gone_front x)))
+            ∙ ap (x.gone (place_at x.plan (x.reach + length (gone_front x))).stream) (sym w.1)
+            ∙ stops (x.reach + length (gone_front x)) refl (omega arith))))
+            (cases_lt o (x.reach + length (gone_front x)))
 
 -- It stays true when more gets an offset, is accepted or given up, or is taken in.
 pub forward_grows : (p r : Plan) (gone gone' : ℕ → ℕ → Bool) (over acked : ℕ → Bool) (now : ℕ) (f : Forward) → IsExtended p r

@@ -160,7 +160,7 @@ module _ (w : Direction) (s i number : ℕ) (numbered : (message_at w.sender.pla
       (λ ne. absurd (ne refl)))
       going_now (λ e. inl (left_none w.sender.plan (first_place s i number) e)))
       (ascending_placed w.sender.plan (first_place s i number) w.sender.current (left_after w.sender.plan (first_place s i number))
-      w.sender.ssn (put w.sender.ssn s (suc (w.sender.ssn s))) w.sender.point h.planned.known h.ascending (counted_more w.sender.ssn s)
+      w.sender.ssn (put w.sender.ssn s (suc (w.sender.ssn s))) w.sender.reach h.planned.known h.ascending (counted_more w.sender.ssn s)
       (λ k. counted_past w.sender.ssn s number (numbered kind))
       (λ k o from a. let b = h.ascending.below s o from a in let u = numbered kind in omega arith)
       (λ z e k. subst (λ x. x.ssn < put w.sender.ssn s (suc (w.sender.ssn s)) x.stream) (sym (left_some w.sender.plan (first_place s i number) z e).1)
@@ -249,7 +249,7 @@ module _ (w : Direction) (s i number : ℕ) (numbered : (message_at w.sender.pla
       (λ v k. absurd (true≢false (sym k ∙ kind)))
       going_now (λ e. inl (left_none w.sender.plan (first_place s i number) e)))
       (ascending_placed w.sender.plan (first_place s i number) w.sender.current (left_after w.sender.plan (first_place s i number))
-      w.sender.ssn w.sender.ssn w.sender.point h.planned.known h.ascending (λ t. omega arith)
+      w.sender.ssn w.sender.ssn w.sender.reach h.planned.known h.ascending (λ t. omega arith)
       (λ k. absurd (true≢false (sym k ∙ kind)))
       (λ k o from a. absurd (true≢false (sym k ∙ kind)))
       (λ z e k. absurd (true≢false (sym k ∙ ap (λ x. (message_of w.sender.plan x).ordered) (left_some w.sender.plan (first_place s i number) z e).1 ∙ kind))))
@@ -370,8 +370,8 @@ going_keeps w c y current' gone' rl ds is es em ep en more tail freed datas send
           ∙ ap (λ z. (message_at w.sender.plan y.stream z).ordered) (sym follows.message) ∙ k;
     }
 
-    ascending : IsAscending (with_place w.sender.plan y) current' w.sender.ssn w.sender.point
-    ascending = ascending_placed w.sender.plan y w.sender.current current' w.sender.ssn w.sender.ssn w.sender.point h.planned.known h.ascending (λ s. omega arith)
+    ascending : IsAscending (with_place w.sender.plan y) current' w.sender.ssn w.sender.reach
+    ascending = ascending_placed w.sender.plan y w.sender.current current' w.sender.ssn w.sender.ssn w.sender.reach h.planned.known h.ascending (λ s. omega arith)
         (λ k.
         let b = h.ascending.going c is (sym (ap (λ z. z.ordered) same) ∙ k) in
         let u = ap w.sender.ssn es in

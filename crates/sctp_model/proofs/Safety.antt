@@ -11,7 +11,7 @@ use Rattle.sctp_model.specs.Safe.{IsWhole, Names, AreInOrder, AreAll, AreDistinc
 use Rattle.sctp_model.specs.Invariants.{Invariant, IsPlanned, IsFull, IsGot, IsStream, NoneGone, numbers_of, gone_at}
 use Rattle.sctp_model.proofs.Lists.{all_mem, all_map, all_front}
 use Rattle.sctp_model.proofs.Ranks.{rank_rises, rank_found}
-use Rattle.sctp_model.proofs.Basics.{point_from}
+use Rattle.sctp_model.proofs.Basics.{reach_from}
 use Rattle.sctp_model.proofs.Released.{released_none}
 use Rattle.sctp_model.proofs.Drained.{IsDrained, drained, none_due}
 
@@ -189,7 +189,7 @@ safe_from w s h l v = record {
       (λ (f : o < passed). ⊎_elim
       (λ (m : mem o taken ≡ true). m)
       (λ (g : gone_at p gone o ≡ true). absurd (true≢false (sym g ∙ ap (λ z. gone z (place_at p o).message) st ∙ none kr (place_at p o).message)))
-      (h.accounted o (let f' = point_from w.receiver in omega arith)))
+      (h.accounted o (let f' = reach_from w.receiver in omega arith)))
       (h.acknowledged o (and_parts (w.sender.acknowledged o) (not (gone_at p gone o)) t).0)) in
       omega arith;
   all = λ kr is_open. (numbers_of p all, drained_all p w.over gone current (w.sender.next s) (w.sender.ssn s) taken passed skipped s end.rest all h.planned v (none kr) end_of.near end_of.stream end_of.none);

@@ -16,15 +16,15 @@ use Rattle.sctp_model.proofs.Windows.{up_to_is, next_is}
 use Rattle.sctp_model.proofs.Gathering.{at_filter}
 use Rattle.sctp_model.proofs.Due.{window}
 
--- Below the point of a FORWARD TSN a message that stays is whole.
+-- Below the reach of a FORWARD TSN a message that stays is whole.
 
 module _ (p : Plan) (over : ℕ → Bool) (gone : ℕ → ℕ → Bool) (acked : ℕ → Bool) (now : ℕ) (taken : List ℕ) (f : Forward) (s i : ℕ)
-    (hp : IsPlanned p over) (hf : IsForward p gone over acked now f) (account : (o : ℕ) → o < f.point → IsAccounted p gone taken o) (none : NoneGone gone s)
+    (hp : IsPlanned p over) (hf : IsForward p gone over acked now f) (account : (o : ℕ) → o < f.reach → IsAccounted p gone taken o) (none : NoneGone gone s)
     (tails : (o : ℕ) → o < length p.places → (place_at p o).marker ≡ true → gone_at p gone o ≡ true) where
   stays : (o : ℕ) → (place_at p o).stream ≡ s → gone_at p gone o ≡ false
   stays o st = ap (λ z. gone z (place_at p o).message) st ∙ none (place_at p o).message
 
-  taken_below : (o k : ℕ) → o < f.point → (place_at p o).stream ≡ s → (place_at p o).message ≡ i → (place_at p o).piece ≡ k → IsTaken p taken s i k
+  taken_below : (o k : ℕ) → o < f.reach → (place_at p o).stream ≡ s → (place_at p o).message ≡ i → (place_at p o).piece ≡ k → IsTaken p taken s i k
   taken_below o k l st m e = record {
     offset = o;
     known = let a = hf.known in omega arith;
@@ -38,7 +38,7 @@ module _ (p : Plan) (over : ℕ → Bool) (gone : ℕ → ℕ → Bool) (acked :
         (account o l);
   }
 
-  down : (n o j : ℕ) → (place_at p o).piece ≡ n + j → o < f.point → (place_at p o).stream ≡ s → (place_at p o).message ≡ i → IsTaken p taken s i j
+  down : (n o j : ℕ) → (place_at p o).piece ≡ n + j → o < f.reach → (place_at p o).stream ≡ s → (place_at p o).message ≡ i → IsTaken p taken s i j
   down zero o j e l st m = taken_below o j l st m (omega arith)
   down (suc n) o j e l st m =
       let b = hp.before o (n + j) (let a = hf.known in omega arith) (omega arith) in
@@ -48,7 +48,7 @@ module _ (p : Plan) (over : ℕ → Bool) (gone : ℕ → ℕ → Bool) (acked :
       down n b.0 j (let u : suc (place_at p b.0).piece ≡ suc (n + j) = sym w.piece ∙ (let v : (place_at p o).piece ≡ suc (n + j) = omega arith in v) in omega arith)
       (omega arith) (sym w.stream ∙ st) (sym w.message ∙ m)
 
-  up : (n o j : ℕ) → (place_at p o).piece + n ≡ j → o < f.point → (place_at p o).stream ≡ s → (place_at p o).message ≡ i
+  up : (n o j : ℕ) → (place_at p o).piece + n ≡ j → o < f.reach → (place_at p o).stream ≡ s → (place_at p o).message ≡ i
       → p.size * j < length (message_at p s i).bytes → IsTaken p taken s i j
   up zero o j e l st m len = taken_below o j l st m (omega arith)
   up (suc n) o j e l st m len =
@@ -58,13 +58,13 @@ module _ (p : Plan) (over : ℕ → Bool) (gone : ℕ → ℕ → Bool) (acked :
       let sent : (place_at p o).marker ≡ false = false_from_ne_true _ (λ (k : (place_at p o).marker ≡ true).
       true≢false (sym (tails o (let a = hf.known in omega arith) k) ∙ stays o st)) in
       ⊎_elim
-      (λ (b : suc o < f.point).
+      (λ (b : suc o < f.reach).
       let w = hp.after o (let a = hf.known in omega arith) more sent in
       up n (suc o) j (let u = w.piece in omega arith) b (w.stream ∙ st) (w.message ∙ m) len)
-      (λ (b : f.point ≤ suc o). absurd (true≢false (sym (hf.abandoned o (let a = hf.ahead in omega arith) (omega arith)) ∙ stays o st)))
-      (cases_lt (suc o) f.point)
+      (λ (b : f.reach ≤ suc o). absurd (true≢false (sym (hf.abandoned o (let a = hf.ahead in omega arith) (omega arith)) ∙ stays o st)))
+      (cases_lt (suc o) f.reach)
 
-  whole_below : (o : ℕ) → o < f.point → (place_at p o).stream ≡ s → (place_at p o).message ≡ i → IsWhole p taken s i
+  whole_below : (o : ℕ) → o < f.reach → (place_at p o).stream ≡ s → (place_at p o).message ≡ i → IsWhole p taken s i
   whole_below o l st m = record {
     accepted = subst (λ z. z < length (p.accepted s)) m (subst (λ z. (place_at p o).message < length (p.accepted z)) st (hp.known o (let a = hf.known in omega arith)));
     pieces = λ j len. ⊎_elim
@@ -114,18 +114,18 @@ ordered_on p gone current next ssn taken passed passed' skipped s low end q q' r
 ordered_skipped : (p : Plan) (over : ℕ → Bool) (current : Option Place) (next ssn : ℕ → ℕ) (begun gone : ℕ → ℕ → Bool) (acked : ℕ → Bool) (now : ℕ) (taken : List ℕ) (passed skipped s low end : ℕ)
     (q q' : Queue) (reads : List Got) (f : Forward) (m : ℕ)
     → IsPlanned p over → over s ≡ false → IsSending p current next ssn begun gone over → (hf : IsForward p gone over acked now f)
-    → IsReported p gone s f.start f.point m → ((o : ℕ) → IsAt p s true o → (place_at p o).ssn ≤ m → o < f.point)
-    → passed ≤ f.point → length p.places < f.point + 16384 → count_ordered (drop end (p.accepted s)) < 32768
+    → IsReported p gone s f.start f.reach m → ((o : ℕ) → IsAt p s true o → (place_at p o).ssn ≤ m → o < f.reach)
+    → passed ≤ f.reach → length p.places < f.reach + 16384 → count_ordered (drop end (p.accepted s)) < 32768
     → q'.cursor ≡ (skip q (m % 65536)).cursor → q'.ordered ≡ (skip q (m % 65536)).ordered
     → IsOrdered p gone current (next s) (ssn s) taken passed skipped s low end q reads
-    → IsOrdered p gone current (next s) (ssn s) taken f.point (max skipped (suc m)) s low end q' reads
+    → IsOrdered p gone current (next s) (ssn s) taken f.reach (max skipped (suc m)) s low end q' reads
 ordered_skipped p over current next ssn begun gone acked now taken passed skipped s low end q q' reads f m hp v g hf rep all far flight near ec eo h = record {
   cursor = cond (leb h.cursor top) (suc top) h.cursor;
   is = ec ∙ cursor_is;
   above = cases (λ z. low ≤ z) (λ l. let a = h.above in omega arith) (λ l. h.above);
   latest = cases (λ z. z ≡ max low (max skipped (suc m))) (λ l. let a = h.latest in let b = rep.is in omega arith) (λ l. let a = h.latest in let b = rep.is in omega arith);
   origin = ⊎_elim
-      (λ (l : suc top ≤ skipped). subst (λ z. (z ≡ 0) ⊎ IsSkipped p gone f.point s z) (let b = rep.is in let e : skipped ≡ max skipped (suc m) = omega arith in e)
+      (λ (l : suc top ≤ skipped). subst (λ z. (z ≡ 0) ⊎ IsSkipped p gone f.reach s z) (let b = rep.is in let e : skipped ≡ max skipped (suc m) = omega arith in e)
       (⊎_elim (λ (x : skipped ≡ 0). inl x) (λ (k : IsSkipped p gone passed s skipped). inr (record {
         offset = k.offset;
         below = let b = k.below in omega arith;
@@ -138,7 +138,7 @@ ordered_skipped p over current next ssn begun gone acked now taken passed skippe
   begun = cases (λ z. z ≤ ssn s) (λ l. earlier.below) (λ l. h.begun);
   going = λ y c st k. cases (λ z. z ≤ y.ssn) (λ l. past_current y c st k) (λ l. h.going y c st k);
   held = subst (AllByRecursion (IsHeld p taken s true low)) (sym eo) (all_filter (IsHeld p taken s true low) _ q.ordered h.held);
-  past = λ o a. cases (λ z. (place_at p o).ssn < z → (mem o taken ≡ true) ⊎ (o < f.point))
+  past = λ o a. cases (λ z. (place_at p o).ssn < z → (mem o taken ≡ true) ⊎ (o < f.reach))
       (λ l b. inr (all o a (let c = rep.is in omega arith)))
       (λ l b. ⊎_elim (λ (x : mem o taken ≡ true). inl x) (λ (x : o < passed). inr (omega arith)) (h.past o a b));
   later = h.later;
@@ -209,26 +209,26 @@ ordered_skipped p over current next ssn begun gone acked now taken passed skippe
         ∙ ap (gone y.stream) (pair.together e ∙ sym w.message) ∙ go.stays)) in
         omega (arith, apart)
 
--- what is kept of the unordered half: of messages that stay, all pieces of those that aren't whole lie past the point
+-- what is kept of the unordered half: of messages that stay, all pieces of those that aren't whole lie past the reach
 unordered_on : (p : Plan) (over : ℕ → Bool) (gone : ℕ → ℕ → Bool) (acked : ℕ → Bool) (now : ℕ) (taken : List ℕ) (s : ℕ) (q q' : Queue) (gots gots' : List Got) (f : Forward)
-    → IsPlanned p over → IsForward p gone over acked now f → ((o : ℕ) → o < f.point → IsAccounted p gone taken o)
+    → IsPlanned p over → IsForward p gone over acked now f → ((o : ℕ) → o < f.reach → IsAccounted p gone taken o)
     → ((o : ℕ) → o < length p.places → (place_at p o).marker ≡ true → gone_at p gone o ≡ true)
-    → q'.unordered ≡ (drop_unordered f.point q).unordered → gots' ≡ gots
+    → q'.unordered ≡ (drop_unordered f.reach q).unordered → gots' ≡ gots
     → IsUnordered p gone taken s q gots → IsUnordered p gone taken s q' gots'
 unordered_on p over gone acked now taken s q q' gots gots' f hp hf account tails eu eg u = subst (IsUnordered p gone taken s q') (sym eg) record {
-  held = subst (AllByRecursion (IsHeld p taken s false 0)) (sym eu) (all_filter (IsHeld p taken s false 0) (λ (d : Data). leb f.point d.offset) q.unordered u.held);
-  fresh = subst (AllByRecursion (IsFresh p gots)) (sym eu) (all_filter (IsFresh p gots) (λ (d : Data). leb f.point d.offset) q.unordered u.fresh);
+  held = subst (AllByRecursion (IsHeld p taken s false 0)) (sym eu) (all_filter (IsHeld p taken s false 0) (λ (d : Data). leb f.reach d.offset) q.unordered u.held);
+  fresh = subst (AllByRecursion (IsFresh p gots)) (sym eu) (all_filter (IsFresh p gots) (λ (d : Data). leb f.reach d.offset) q.unordered u.fresh);
   all = u.all;
   kept = λ none o a m. ⊎_elim
-      (λ (b : o < f.point). inr (u.all none (place_at p o).message
+      (λ (b : o < f.reach). inr (u.all none (place_at p o).message
       (whole_below p over gone acked now taken f s (place_at p o).message hp hf account none tails o b a.stream refl)
       (ap (λ z. is_ordered p z (place_at p o).message) (sym a.stream) ∙ a.kind)))
-      (λ (b : f.point ≤ o). ⊎_elim
+      (λ (b : f.reach ≤ o). ⊎_elim
       (λ (l : at o q.unordered ≡ Some (data_at p o)). inl (subst (λ z. at o z ≡ Some (data_at p o)) (sym eu)
-      (at_filter (λ (d : Data). leb f.point d.offset) o q.unordered (data_at p o) l (le-leb _ _ b))))
+      (at_filter (λ (d : Data). leb f.reach d.offset) o q.unordered (data_at p o) l (le-leb _ _ b))))
       (λ (l : mem (place_at p o).message (numbers_of p gots) ≡ true). inr l)
       (u.kept none o a m))
-      (cases_lt o f.point);
+      (cases_lt o f.reach);
 }
 
 skipped_unordered : (q : Queue) (m : Option ℕ) → ((skip_if q m).unordered ≡ q.unordered) × ((skip_if q m).complete ≡ q.complete)
@@ -256,29 +256,29 @@ stream_with p gone current next ssn taken passed passed' skipped skipped' s q q'
 pub stream_forwarded : (p : Plan) (over : ℕ → Bool) (current : Option Place) (next ssn : ℕ → ℕ) (begun gone : ℕ → ℕ → Bool) (acked : ℕ → Bool) (now : ℕ) (taken : List ℕ) (passed skipped s : ℕ)
     (queue : Option Queue) (reads : List Got) (f : Forward)
     → IsPlanned p over → over s ≡ false → IsSending p current next ssn begun gone over → IsForward p gone over acked now f
-    → ((o : ℕ) → o < f.point → IsAccounted p gone taken o)
+    → ((o : ℕ) → o < f.reach → IsAccounted p gone taken o)
     → ((o : ℕ) → o < length p.places → (place_at p o).marker ≡ true → gone_at p gone o ≡ true)
-    → passed ≤ f.point → length p.places < f.point + 16384 → unread p s reads < 32768
+    → passed ≤ f.reach → length p.places < f.reach + 16384 → unread p s reads < 32768
     → IsStream p gone current (next s) (ssn s) taken passed skipped s (live queue) reads
-    → IsStream p gone current (next s) (ssn s) taken f.point (skipped_by queue (f.numbers s) skipped) s (live (forwarded queue f.point (skips f s))) reads
+    → IsStream p gone current (next s) (ssn s) taken f.reach (skipped_by queue (f.numbers s) skipped) s (live (forwarded queue f.reach (skips f s))) reads
 stream_forwarded p over current next ssn begun gone acked now taken passed skipped s None reads f hp v g hf account tails far flight near w =
-    stream_with p gone current (next s) (ssn s) taken passed f.point skipped skipped s (live None) (live None) reads refl
-    (ordered_on p gone current (next s) (ssn s) taken passed f.point skipped s (read_ssn p 0 reads) (read_end p 0 reads) (live None) (live None) reads refl refl far w.ordered)
+    stream_with p gone current (next s) (ssn s) taken passed f.reach skipped skipped s (live None) (live None) reads refl
+    (ordered_on p gone current (next s) (ssn s) taken passed f.reach skipped s (read_ssn p 0 reads) (read_end p 0 reads) (live None) (live None) reads refl refl far w.ordered)
     w.unordered w
 stream_forwarded p over current next ssn begun gone acked now taken passed skipped s (Some q) reads f hp v g hf account tails far flight near w = go (f.numbers s) refl
   where
     go : (m : Option ℕ) → f.numbers s ≡ m
-        → IsStream p gone current (next s) (ssn s) taken f.point (skipped_by (Some q) m skipped) s (drop_unordered f.point (skip_if q (wrapped m))) reads
+        → IsStream p gone current (next s) (ssn s) taken f.reach (skipped_by (Some q) m skipped) s (drop_unordered f.reach (skip_if q (wrapped m))) reads
     go m e =
         let same = skipped_unordered q (wrapped m) in
-        stream_with p gone current (next s) (ssn s) taken passed f.point skipped (skipped_by (Some q) m skipped) s q (drop_unordered f.point (skip_if q (wrapped m))) reads same.1
+        stream_with p gone current (next s) (ssn s) taken passed f.reach skipped (skipped_by (Some q) m skipped) s q (drop_unordered f.reach (skip_if q (wrapped m))) reads same.1
         (ordered m e)
-        (unordered_on p over gone acked now taken s q (drop_unordered f.point (skip_if q (wrapped m))) (reads ++ q.complete) (reads ++ (skip_if q (wrapped m)).complete) f hp hf account tails
-        (ap (filter (λ (d : Data). leb f.point d.offset)) same.0) (ap (λ z. reads ++ z) same.1) w.unordered)
+        (unordered_on p over gone acked now taken s q (drop_unordered f.reach (skip_if q (wrapped m))) (reads ++ q.complete) (reads ++ (skip_if q (wrapped m)).complete) f hp hf account tails
+        (ap (filter (λ (d : Data). leb f.reach d.offset)) same.0) (ap (λ z. reads ++ z) same.1) w.unordered)
         w
       where
         ordered : (m : Option ℕ) → f.numbers s ≡ m
-            → IsOrdered p gone current (next s) (ssn s) taken f.point (skipped_by (Some q) m skipped) s (read_ssn p 0 reads) (read_end p 0 reads) (drop_unordered f.point (skip_if q (wrapped m))) reads
-        ordered None e = ordered_on p gone current (next s) (ssn s) taken passed f.point skipped s (read_ssn p 0 reads) (read_end p 0 reads) q (drop_unordered f.point q) reads refl refl far w.ordered
-        ordered (Some c) e = ordered_skipped p over current next ssn begun gone acked now taken passed skipped s (read_ssn p 0 reads) (read_end p 0 reads) q (drop_unordered f.point (skip q (c % 65536))) reads f c
+            → IsOrdered p gone current (next s) (ssn s) taken f.reach (skipped_by (Some q) m skipped) s (read_ssn p 0 reads) (read_end p 0 reads) (drop_unordered f.reach (skip_if q (wrapped m))) reads
+        ordered None e = ordered_on p gone current (next s) (ssn s) taken passed f.reach skipped s (read_ssn p 0 reads) (read_end p 0 reads) q (drop_unordered f.reach q) reads refl refl far w.ordered
+        ordered (Some c) e = ordered_skipped p over current next ssn begun gone acked now taken passed skipped s (read_ssn p 0 reads) (read_end p 0 reads) q (drop_unordered f.reach (skip q (c % 65536))) reads f c
             hp v g hf (hf.reported s c e) (hf.all s c e v) far flight near refl refl w.ordered

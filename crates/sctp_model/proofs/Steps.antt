@@ -5,7 +5,7 @@ use Rattle.std.proofs.lemmas.Bool.{and_parts, ltb-true, ltb-false, true≢false,
 use Rattle.sctp_model.specs.Messages.{Place, is_reliable, message_at}
 use Rattle.sctp_model.specs.Packets.{Data, Sack, Forward}
 use Rattle.sctp_model.specs.Reassembly.{Queue, Taken, next}
-use Rattle.sctp_model.specs.Machine.{Direction, Event, put_2, fresh, happens, run, point, begin, begin_if, number_for, can_begin, go_on, can_abandon, is_of, marked, tail_marked, left, unacknowledged, has_message, sack_comes, data_comes, forward_comes, is_new, took, was_read, read, passes, acknowledged_by}
+use Rattle.sctp_model.specs.Machine.{Direction, Event, put_2, fresh, happens, run, reach, begin, begin_if, number_for, can_begin, go_on, can_abandon, is_of, marked, tail_marked, left, unacknowledged, has_message, sack_comes, data_comes, forward_comes, is_new, took, was_read, read, passes, acknowledged_by}
 use Rattle.sctp_model.specs.Safe.{IsWithin, StaysWithin}
 use Rattle.sctp_model.specs.Invariants.{Invariant, IsPiece, IsHonest, IsForward, released_bytes}
 use Rattle.sctp_model.specs.Laws.{OneDirectionIsSafe}
@@ -66,8 +66,8 @@ abandon_step w s i c e can h = go c e
 
 sack_step : (w : Direction) (n : ℕ) (k : Option Sack) → slice_get w.sacks n ≡ k → Invariant w → Invariant (sack_comes w k)
 sack_step w n None e h = h
-sack_step w n (Some k) e h = either (ltb k.point w.sender.point) w (record w { sender = acknowledged_by w.sender k }) (λ b. h)
-    (λ b. keeps_sack_comes w k (ltb-false _ _ b) (all_get (IsHonest w.receiver.taken w.receiver.passed (point w.receiver)) w.sacks n k e h.sacks) h)
+sack_step w n (Some k) e h = either (ltb k.reach w.sender.reach) w (record w { sender = acknowledged_by w.sender k }) (λ b. h)
+    (λ b. keeps_sack_comes w k (ltb-false _ _ b) (all_get (IsHonest w.receiver.taken w.receiver.passed (reach w.receiver)) w.sacks n k e h.sacks) h)
 
 data_step : (w : Direction) (n : ℕ) (d : Option Data) → slice_get w.datas n ≡ d → IsWithin w → Invariant w → Invariant (data_comes w d)
 data_step w n None e l h = h
@@ -77,9 +77,9 @@ data_step w n (Some d) e l h = either (w.receiver.is_open && is_new w.receiver d
 
 forward_step : (w : Direction) (n : ℕ) (f : Option Forward) → slice_get w.forwards n ≡ f → IsWithin w → Invariant w → Invariant (forward_comes w f)
 forward_step w n None e l h = h
-forward_step w n (Some f) e l h = either (w.receiver.is_open && ltb (point w.receiver) f.point) (passes w f) w
-    (λ b. keeps_forward_comes w f (all_get (IsForward w.sender.plan w.sender.gone w.over w.sender.acknowledged w.sender.point) w.forwards n f e h.forwards)
-    (ltb-true _ _ (and_parts w.receiver.is_open (ltb (point w.receiver) f.point) b).1) l h)
+forward_step w n (Some f) e l h = either (w.receiver.is_open && ltb (reach w.receiver) f.reach) (passes w f) w
+    (λ b. keeps_forward_comes w f (all_get (IsForward w.sender.plan w.sender.gone w.over w.sender.acknowledged w.sender.reach) w.forwards n f e h.forwards)
+    (ltb-true _ _ (and_parts w.receiver.is_open (ltb (reach w.receiver) f.reach) b).1) l h)
     (λ b. h)
 
 read_step : (w : Direction) (s : ℕ) (q : Option Queue) → w.receiver.queues s ≡ q → IsWithin w → Invariant w → Invariant (read w s q)

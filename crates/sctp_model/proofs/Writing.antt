@@ -5,7 +5,7 @@ use Rattle.std.proofs.lemmas.List.{length_push, get_or_push}
 use Rattle.std.proofs.lemmas.Bool.{cases_Bool, cases_lt, cases_eq, and_parts, or_cases, eqb-true, eq-eqb, ne_eqb, ltb-true, true≢false, false_from_ne_true, cond-false, not-true}
 use Rattle.sctp_model.specs.Messages.{Message, Place, Plan, Policy, IsAt, no_message, as_kept, place_at, message_at, is_last, is_reliable, rank}
 use Rattle.sctp_model.specs.Packets.{Data, mem}
-use Rattle.sctp_model.specs.Machine.{Direction, put, put_2, live, point, with_message, written, is_empty, has_message, can_pass_over, passed_over, can_drop, dropped}
+use Rattle.sctp_model.specs.Machine.{Direction, put, put_2, live, reach, with_message, written, is_empty, has_message, can_pass_over, passed_over, can_drop, dropped}
 use Rattle.sctp_model.specs.Safe.{read_end, read_ssn}
 use Rattle.sctp_model.specs.Invariants.{Invariant, IsPlanned, IsEarlier, IsGoing, IsSending, IsAscending, IsPiece, IsStream, NoneGone, gone_at, released_bytes}
 use Rattle.sctp_model.proofs.Lists.{all_weaker}
@@ -15,7 +15,7 @@ use Rattle.sctp_model.proofs.Ascending.{ascending_message}
 use Rattle.sctp_model.proofs.Growing.{IsNew, IsCounted, stream_grows, stream_gone}
 use Rattle.sctp_model.proofs.Forwarding.{forward_grows}
 use Rattle.sctp_model.proofs.Released.{bytes_none, released_grown, released_given, released_aside}
-use Rattle.sctp_model.proofs.Basics.{point_below}
+use Rattle.sctp_model.proofs.Basics.{reach_below}
 
 abbrev pub StreamOf : Direction → (ℕ → ℕ → Bool) → ℕ → Type 0
 StreamOf w gone s = IsStream w.sender.plan gone w.sender.current (w.sender.next s) (w.sender.ssn s) w.receiver.taken w.receiver.passed (w.skipped s) s (live (w.receiver.queues s)) (w.reads s)
@@ -42,7 +42,7 @@ freed_now w r s i n h e is t = ⊎_elim
 
 pub grow_keeps : (w : Direction) (r : Plan) (c : Option Place) (nx sn : ℕ → ℕ) (bg gone' : ℕ → ℕ → Bool) (rl : ℕ → ℕ) (ds : List Data)
     → Invariant w → IsExtended w.sender.plan r → ((t i : ℕ) → w.sender.gone t i ≡ true → gone' t i ≡ true)
-    → IsPlanned r w.over → IsSending r c nx sn bg gone' w.over → IsAscending r c sn w.sender.point → AllByRecursion (IsPiece r) ds
+    → IsPlanned r w.over → IsSending r c nx sn bg gone' w.over → IsAscending r c sn w.sender.reach → AllByRecursion (IsPiece r) ds
     → ((o : ℕ) → o < length r.places → (place_at r o).marker ≡ true → gone_at r gone' o ≡ true)
     → ((s : ℕ) → w.over s ≡ false → (o : ℕ) → length w.sender.plan.places ≤ o → IsAt r s true o → (x : ℕ) → IsAt w.sender.plan s true x
     → gone_at w.sender.plan w.sender.gone x ≡ true → (place_at w.sender.plan x).ssn < (place_at r o).ssn)
@@ -73,7 +73,7 @@ grow_keeps w r c nx sn bg gone' rl ds h e more planned sending ascending datas t
   acknowledged = h.acknowledged;
   cumulative = h.cumulative;
   behind = h.behind;
-  forwards = all_weaker _ _ _ (λ f. forward_grows w.sender.plan r w.sender.gone gone' w.over w.sender.acknowledged w.sender.point f e more later) h.forwards;
+  forwards = all_weaker _ _ _ (λ f. forward_grows w.sender.plan r w.sender.gone gone' w.over w.sender.acknowledged w.sender.reach f e more later) h.forwards;
   released = freed;
   streams = λ s v.
       let st = stream_gone w.sender.plan w.sender.gone gone' w.sender.current (w.sender.next s) (w.sender.ssn s) w.receiver.taken w.receiver.passed (w.skipped s) s
@@ -82,13 +82,13 @@ grow_keeps w r c nx sn bg gone' rl ds h e more planned sending ascending datas t
       (live (w.receiver.queues s)) (w.reads s) e (λ o m. (h.taken o m).0) planned.filled (h.sending.within s) st (new s v st) (counts s v st);
 }
   where
-    gone_kept : (o : ℕ) → o < point w.receiver → gone_at w.sender.plan w.sender.gone o ≡ true → gone_at r gone' o ≡ true
+    gone_kept : (o : ℕ) → o < reach w.receiver → gone_at w.sender.plan w.sender.gone o ≡ true → gone_at r gone' o ≡ true
     gone_kept o l g = ⊎_elim
         (λ (a : o < length w.sender.plan.places). subst (λ z. gone' z.stream z.message ≡ true) (sym (e.places o a)) (more _ _ g))
         (λ (a : length w.sender.plan.places ≤ o). absurd (⊎_elim
         (λ (m : mem o w.receiver.taken ≡ true). let t = (h.taken o m).0 in omega arith)
         (λ (b : o < w.receiver.passed). let t = h.passed in omega arith)
-        (point_below w.receiver o l)))
+        (reach_below w.receiver o l)))
         (cases_lt o (length w.sender.plan.places))
 
 pub same_plan : (p : Plan) → ((o : ℕ) → o < length p.places → (place_at p o).message < length (p.accepted (place_at p o).stream)) → IsExtended p p
@@ -196,7 +196,7 @@ keeps_write w s m full h = grow_keeps w q w.sender.current w.sender.next w.sende
     (λ t i g. g)
     (planned_message p w.over s (as_kept m) (subst (λ z. 0 < length z) (sym (kept_bytes m)) (omega (arith, apart))) h.planned)
     (sending_message p w.sender.current w.sender.next w.sender.ssn w.sender.begun w.sender.gone w.over s (as_kept m) h.planned h.sending)
-    (ascending_message p s (as_kept m) w.sender.current w.sender.ssn w.sender.point h.planned.known
+    (ascending_message p s (as_kept m) w.sender.current w.sender.ssn w.sender.reach h.planned.known
     (λ y c. going_known p w.over w.sender.gone y h.planned (h.sending.going y c)) h.ascending)
     (all_weaker _ _ _ (λ d. piece_kept p q e d) h.datas)
     h.tails

@@ -4,7 +4,7 @@ use Rattle.std.specs.List.{AllByRecursion}
 use Rattle.sctp_model.specs.Messages.{Place, Plan, IsAt, place_at, message_at, message_of, is_last, is_reliable, rank, bytes_below, bytes_among}
 use Rattle.sctp_model.specs.Packets.{Data, Sack, Forward, mem, names, data_at}
 use Rattle.sctp_model.specs.Reassembly.{Got, Queue, at}
-use Rattle.sctp_model.specs.Machine.{Direction, live, point}
+use Rattle.sctp_model.specs.Machine.{Direction, live, reach}
 use Rattle.sctp_model.specs.Safe.{Tells, AreDistinct, AreRising, IsWhole, IsKeptOrdered, letter_read, letters_written, is_ordered, number_of, read_end, read_ssn}
 
 -- The assignment of offsets to places.
@@ -73,11 +73,11 @@ pub record IsSending (p : Plan) (current : Option Place) (next ssn : ℕ → ℕ
   -- nothing reliable is given up
   pub given_up : (s i : ℕ) → gone s i ≡ true → (i < length (p.accepted s)) × (is_reliable (message_at p s i).policy ≡ false)
 
--- The sequence numbers, before they wrap, of a stream's ordered messages from the acknowledged point on, also past its span: they
+-- The sequence numbers, before they wrap, of a stream's ordered messages from the acknowledged reach on, also past its span: they
 -- ascend with the offsets, and each is below the stream's next number. So is that of the message going on.
-pub record IsAscending (p : Plan) (current : Option Place) (ssn : ℕ → ℕ) (point : ℕ) : Type 0 where
-  pub ascends : (s o q : ℕ) → point ≤ o → o ≤ q → IsAt p s true o → IsAt p s true q → (place_at p o).ssn ≤ (place_at p q).ssn
-  pub below : (s o : ℕ) → point ≤ o → IsAt p s true o → (place_at p o).ssn < ssn s
+pub record IsAscending (p : Plan) (current : Option Place) (ssn : ℕ → ℕ) (reach : ℕ) : Type 0 where
+  pub ascends : (s o q : ℕ) → reach ≤ o → o ≤ q → IsAt p s true o → IsAt p s true q → (place_at p o).ssn ≤ (place_at p q).ssn
+  pub below : (s o : ℕ) → reach ≤ o → IsAt p s true o → (place_at p o).ssn < ssn s
   pub going : (y : Place) → current ≡ Some y → (message_of p y).ordered ≡ true → y.ssn < ssn y.stream
 
 abbrev pub gone_at : Plan → (ℕ → ℕ → Bool) → ℕ → Bool
@@ -103,39 +103,39 @@ pub record IsPiece (p : Plan) (d : Data) : Type 0 where
 
 -- a SACK names only what was taken in or passed over
 pub record IsHonest (taken : List ℕ) (passed : ℕ) (at : ℕ) (k : Sack) : Type 0 where
-  pub point : k.point ≤ at
+  pub reach : k.reach ≤ at
   pub named : (o : ℕ) → names k o ≡ true → (mem o taken ≡ true) ⊎ (o < passed)
 
--- m is the sequence number, before it wraps, of the last ordered message of stream s on the offsets from `start` to `point`, and
+-- m is the sequence number, before it wraps, of the last ordered message of stream s on the offsets from `start` to `reach`, and
 -- that message was given up
-pub record IsReported (p : Plan) (gone : ℕ → ℕ → Bool) (s start point m : ℕ) : Type 0 where
+pub record IsReported (p : Plan) (gone : ℕ → ℕ → Bool) (s start reach m : ℕ) : Type 0 where
   pub offset : ℕ
   pub from : start ≤ offset
-  pub below : offset < point
+  pub below : offset < reach
   pub at : IsAt p s true offset
   pub given_up : gone_at p gone offset ≡ true
   pub is : m ≡ (place_at p offset).ssn
-  pub last : (o : ℕ) → IsAt p s true o → o < point → o ≤ offset
+  pub last : (o : ℕ) → IsAt p s true o → o < reach → o ≤ offset
 
--- A FORWARD TSN: each offset below its point is acknowledged (those below `start`) or belongs to an abandoned
--- message (those from there on), its point is one past the last offset of an abandoned message, and for each stream with an ordered
--- message from `start` to the point it reports the last one's sequence number (`reported`). That is the greatest of these, whether
+-- A FORWARD TSN: each offset below its reach is acknowledged (those below `start`) or belongs to an abandoned
+-- message (those from there on), its reach is one past the last offset of an abandoned message, and for each stream with an ordered
+-- message from `start` to the reach it reports the last one's sequence number (`reported`). That is the greatest of these, whether
 -- or not the stream's span was over (`greatest_given_up`). If it wasn't over then, no ordered message below `start` has a greater
--- one either (`greatest`), and as long as it isn't over each one past the point has (`all`).
--- `acked` and `now` are what is acknowledged now, and the acknowledged point.
+-- one either (`greatest`), and as long as it isn't over each one past the reach has (`all`).
+-- `acked` and `now` are what is acknowledged now, and the acknowledged reach.
 pub record IsForward (p : Plan) (gone : ℕ → ℕ → Bool) (over : ℕ → Bool) (acked : ℕ → Bool) (now : ℕ) (f : Forward) : Type 0 where
   pub behind : f.start ≤ now
-  pub ahead : f.start < f.point
-  pub known : f.point ≤ length p.places
-  pub near : f.point ≤ f.start + 16384
+  pub ahead : f.start < f.reach
+  pub known : f.reach ≤ length p.places
+  pub near : f.reach ≤ f.start + 16384
   pub acknowledged : (o : ℕ) → o < f.start → acked o ≡ true
-  pub abandoned : (o : ℕ) → f.start ≤ o → o < f.point → gone_at p gone o ≡ true
-  pub ends : (o : ℕ) → f.point ≡ suc o → (is_last p (place_at p o) ≡ true) ⊎ ((place_at p o).marker ≡ true)
-  pub complete : (s o : ℕ) → IsAt p s true o → f.start ≤ o → o < f.point → (m : ℕ) × (f.numbers s ≡ Some m)
-  pub reported : (s m : ℕ) → f.numbers s ≡ Some m → IsReported p gone s f.start f.point m
-  pub greatest_given_up : (s m : ℕ) → f.numbers s ≡ Some m → (o : ℕ) → IsAt p s true o → f.start ≤ o → o < f.point → (place_at p o).ssn ≤ m
-  pub greatest : (s m : ℕ) → f.numbers s ≡ Some m → f.past s ≡ false → (o : ℕ) → IsAt p s true o → o < f.point → (place_at p o).ssn ≤ m
-  pub all : (s m : ℕ) → f.numbers s ≡ Some m → over s ≡ false → (o : ℕ) → IsAt p s true o → (place_at p o).ssn ≤ m → o < f.point
+  pub abandoned : (o : ℕ) → f.start ≤ o → o < f.reach → gone_at p gone o ≡ true
+  pub ends : (o : ℕ) → f.reach ≡ suc o → (is_last p (place_at p o) ≡ true) ⊎ ((place_at p o).marker ≡ true)
+  pub complete : (s o : ℕ) → IsAt p s true o → f.start ≤ o → o < f.reach → (m : ℕ) × (f.numbers s ≡ Some m)
+  pub reported : (s m : ℕ) → f.numbers s ≡ Some m → IsReported p gone s f.start f.reach m
+  pub greatest_given_up : (s m : ℕ) → f.numbers s ≡ Some m → (o : ℕ) → IsAt p s true o → f.start ≤ o → o < f.reach → (place_at p o).ssn ≤ m
+  pub greatest : (s m : ℕ) → f.numbers s ≡ Some m → f.past s ≡ false → (o : ℕ) → IsAt p s true o → o < f.reach → (place_at p o).ssn ≤ m
+  pub all : (s m : ℕ) → f.numbers s ≡ Some m → over s ≡ false → (o : ℕ) → IsAt p s true o → (place_at p o).ssn ≤ m → o < f.reach
 
 -- One stream at the receiver.
 
@@ -223,23 +223,23 @@ pub record IsStream (p : Plan) (gone : ℕ → ℕ → Bool) (current : Option P
 pub record Invariant (w : Direction) : Type 0 where
   pub planned : IsPlanned w.sender.plan w.over
   pub sending : IsSending w.sender.plan w.sender.current w.sender.next w.sender.ssn w.sender.begun w.sender.gone w.over
-  pub ascending : IsAscending w.sender.plan w.sender.current w.sender.ssn w.sender.point
+  pub ascending : IsAscending w.sender.plan w.sender.current w.sender.ssn w.sender.reach
   -- every DATA packet ever sent is its offset's piece
   pub datas : AllByRecursion (IsPiece w.sender.plan) w.datas
   pub taken : (o : ℕ) → mem o w.receiver.taken ≡ true → (o < length w.sender.plan.places) × ((place_at w.sender.plan o).marker ≡ false)
-  -- every offset below the receiver's point was taken in, or belongs to a message that was given up
-  pub accounted : (o : ℕ) → o < point w.receiver → IsAccounted w.sender.plan w.sender.gone w.receiver.taken o
+  -- every offset below the receiver's reach was taken in, or belongs to a message that was given up
+  pub accounted : (o : ℕ) → o < reach w.receiver → IsAccounted w.sender.plan w.sender.gone w.receiver.taken o
   pub passed : w.receiver.passed ≤ length w.sender.plan.places
   -- an unsent tail has an offset only where its message was abandoned
   pub tails : (o : ℕ) → o < length w.sender.plan.places → (place_at w.sender.plan o).marker ≡ true → gone_at w.sender.plan w.sender.gone o ≡ true
   -- every SACK ever sent names only what was taken in or passed over, also when it comes late
-  pub sacks : AllByRecursion (IsHonest w.receiver.taken w.receiver.passed (point w.receiver)) w.sacks
+  pub sacks : AllByRecursion (IsHonest w.receiver.taken w.receiver.passed (reach w.receiver)) w.sacks
   pub acknowledged : (o : ℕ) → w.sender.acknowledged o ≡ true → (mem o w.receiver.taken ≡ true) ⊎ (o < w.receiver.passed)
-  -- every offset below the sender's acknowledged point is acknowledged, and the receiver's point is as far at least
-  pub cumulative : (o : ℕ) → o < w.sender.point → w.sender.acknowledged o ≡ true
-  pub behind : w.sender.point ≤ point w.receiver
+  -- every offset below the sender's acknowledged reach is acknowledged, and the receiver's reach is as far at least
+  pub cumulative : (o : ℕ) → o < w.sender.reach → w.sender.acknowledged o ≡ true
+  pub behind : w.sender.reach ≤ reach w.receiver
   -- every FORWARD TSN ever sent is true
-  pub forwards : AllByRecursion (IsForward w.sender.plan w.sender.gone w.over w.sender.acknowledged w.sender.point) w.forwards
+  pub forwards : AllByRecursion (IsForward w.sender.plan w.sender.gone w.over w.sender.acknowledged w.sender.reach) w.forwards
   pub released : (s : ℕ) → w.sender.released s ≡ released_bytes w.sender.plan w.sender.acknowledged w.sender.gone s
   -- the order, the cursor and the reads of each stream within its span
   pub streams : (s : ℕ) → w.over s ≡ false

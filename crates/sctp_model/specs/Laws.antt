@@ -3,26 +3,26 @@ use Rattle.std.specs.Prelude.{ℕ, suc, ◌+◌, ◌-◌, ◌*◌, ◌%◌, ◌^
 use Rattle.sctp_model.specs.Messages.{piece_of, accepted_bytes}
 use Rattle.sctp_model.specs.Packets.{mem, names}
 use Rattle.sctp_model.specs.Serial.{tsn, before_16, before_32, offset_near, offset_spelt, offset_ahead}
-use Rattle.sctp_model.specs.Machine.{Direction, Event, Receiver, fresh, happens, run, live, point, sack_of}
+use Rattle.sctp_model.specs.Machine.{Direction, Event, Receiver, fresh, happens, run, live, reach, sack_of}
 use Rattle.sctp_model.specs.Safe.{IsSafe, IsWithin, StaysWithin, read_ssn}
 use Rattle.sctp_model.specs.Invariants.{Invariant}
 
 -- A TSN made from an offset less than 2^31 away is read as that offset, and of two such the earlier one is the one before.
 abbrev pub TsnsSpellOffsets : Type 0
-TsnsSpellOffsets = (initial point offset : ℕ) → offset < point + 2 ^ 31 → point < offset + 2 ^ 31
-    → (offset_near initial point (tsn initial offset) ≡ offset) × (before_32 (tsn initial point) (tsn initial offset) ≡ nat_lt point offset)
+TsnsSpellOffsets = (initial reach offset : ℕ) → offset < reach + 2 ^ 31 → reach < offset + 2 ^ 31
+    → (offset_near initial reach (tsn initial offset) ≡ offset) × (before_32 (tsn initial reach) (tsn initial offset) ≡ nat_lt reach offset)
 
 abbrev pub TsnsAheadSpellOffsets : Type 0
-TsnsAheadSpellOffsets = (initial point offset : ℕ) → point ≤ offset → offset < point + 2 ^ 31
-    → offset_ahead initial point (tsn initial offset) ≡ Some offset
+TsnsAheadSpellOffsets = (initial reach offset : ℕ) → reach ≤ offset → offset < reach + 2 ^ 31
+    → offset_ahead initial reach (tsn initial offset) ≡ Some offset
 
 -- A TSN shortly before the initial one spells no offset, and any other is read as before.
 abbrev pub TsnsBeforeTheInitialSpellNone : Type 0
-TsnsBeforeTheInitialSpellNone = (initial point n : ℕ) → 0 < n → point + n < 2 ^ 31 → offset_spelt initial point ((initial + 2 ^ 32 - n) % 2 ^ 32) ≡ None
+TsnsBeforeTheInitialSpellNone = (initial reach n : ℕ) → 0 < n → reach + n < 2 ^ 31 → offset_spelt initial reach ((initial + 2 ^ 32 - n) % 2 ^ 32) ≡ None
 
 abbrev pub TsnsPastTheInitialSpellSome : Type 0
-TsnsPastTheInitialSpellSome = (initial point offset : ℕ) → offset < point + 2 ^ 31 → point < offset + 2 ^ 31
-    → offset_spelt initial point (tsn initial offset) ≡ Some offset
+TsnsPastTheInitialSpellSome = (initial reach offset : ℕ) → offset < reach + 2 ^ 31 → reach < offset + 2 ^ 31
+    → offset_spelt initial reach (tsn initial offset) ≡ Some offset
 
 -- Stream sequence numbers compare as the numbers that they were before they wrapped, where those are less than 32,768 apart.
 abbrev pub SequenceNumbersCompare : Type 0
@@ -32,13 +32,13 @@ SequenceNumbersCompare = (a b : ℕ) → a < b + 32768 → b < a + 32768 → bef
 abbrev pub PiecesJoin : Type 0
 PiecesJoin = (size k : ℕ) (bytes : List ℕ) → take (size * k) bytes ++ piece_of size bytes k ≡ take (size * suc k) bytes
 
--- The cumulative point is the greatest p such that each offset below p was taken in or passed over.
-abbrev pub PointIsGreatest : Type 0
-PointIsGreatest = (r : Receiver) → ((o : ℕ) → o < point r → (mem o r.taken ≡ true) ⊎ (o < r.passed)) × (r.passed ≤ point r) × (mem (point r) r.taken ≡ false)
+-- The cumulative reach is the greatest p such that each offset below p was taken in or passed over.
+abbrev pub ReachIsGreatest : Type 0
+ReachIsGreatest = (r : Receiver) → ((o : ℕ) → o < reach r → (mem o r.taken ≡ true) ⊎ (o < r.passed)) × (r.passed ≤ reach r) × (mem (reach r) r.taken ≡ false)
 
--- A SACK names all that lies below the point or was taken in, and nothing else.
+-- A SACK names all that lies below the reach or was taken in, and nothing else.
 abbrev pub SacksAreExact : Type 0
-SacksAreExact = (r : Receiver) (o : ℕ) → (names (sack_of r) o ≡ true) ↔ ((o < point r) ⊎ (mem o r.taken ≡ true))
+SacksAreExact = (r : Receiver) (o : ℕ) → (names (sack_of r) o ≡ true) ↔ ((o < reach r) ⊎ (mem o r.taken ≡ true))
 
 -- Whatever happens, each stream within its span is safe, as long as the limits held after each event so far.
 abbrev pub OneDirectionIsSafe : Type 0

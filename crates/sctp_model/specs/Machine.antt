@@ -14,11 +14,11 @@ pub record Sender : Type 0 where
   pub ssn : ℕ → ℕ  -- by stream: the sequence number of the next ordered message
   pub begun : ℕ → ℕ → Bool  -- message i of stream s has an offset
   pub gone : ℕ → ℕ → Bool  -- message i of stream s was abandoned, or dropped unsent
-  pub point : ℕ  -- the acknowledged point: every offset below it is acknowledged
+  pub reach : ℕ  -- the acknowledged reach: every offset below it is acknowledged
   pub acknowledged : ℕ → Bool
   pub released : ℕ → ℕ  -- by stream: bytes that no longer count as buffered
 
--- The receiver of a direction: the offsets taken in, the greatest point of a FORWARD TSN taken, and by stream its reassembly,
+-- The receiver of a direction: the offsets taken in, the greatest reach of a FORWARD TSN taken, and by stream its reassembly,
 -- none while the stream isn't there.
 pub record Receiver : Type 0 where
   pub taken : List ℕ
@@ -56,7 +56,7 @@ fresh size = record {
     ssn = λ s. 0;
     begun = λ s i. false;
     gone = λ s i. false;
-    point = 0;
+    reach = 0;
     acknowledged = λ o. false;
     released = λ s. 0;
   };
@@ -190,33 +190,33 @@ abandoned x s i = left (tail_marked x s i x.current) s i
 abbrev pub is_gone : Sender → Place → Bool
 is_gone x y = x.gone y.stream y.message
 
--- a SACK whose point isn't below the acknowledged one acknowledges what it names (RFC 4960 section 6.2.1), and the bytes that it
+-- a SACK whose reach isn't below the acknowledged one acknowledges what it names (RFC 4960 section 6.2.1), and the bytes that it
 -- acknowledges for the first time are released
 abbrev pub newly : Sender → Sack → ℕ → Bool
 newly x k o = names k o && (not (x.acknowledged o) && not (is_gone x (place_at x.plan o)))
 
 abbrev pub acknowledged_by : Sender → Sack → Sender
 acknowledged_by x k = record x {
-  point = k.point;
+  reach = k.reach;
   acknowledged = λ o. x.acknowledged o || names k o;
   released = λ s. x.released s + bytes_below x.plan (newly x k) s (length x.plan.places);
 }
 
 abbrev pub sack_comes : Direction → Option Sack → Direction
 sack_comes w None = w
-sack_comes w (Some k) = if nat_lt k.point w.sender.point then w else record w { sender = acknowledged_by w.sender k }
+sack_comes w (Some k) = if nat_lt k.reach w.sender.reach then w else record w { sender = acknowledged_by w.sender k }
 
 -- the front of some places whose messages are all abandoned
 abbrev pub gone_among : Sender → List Place → List Place
 gone_among x [] = []
 gone_among x (y ∷ ys) = if is_gone x y then y ∷ gone_among x ys else []
 
--- the places past the acknowledged point, up to the first whose message isn't abandoned (RFC 3758 section 3.5, C2)
+-- the places past the acknowledged reach, up to the first whose message isn't abandoned (RFC 3758 section 3.5, C2)
 abbrev pub gone_front : Sender → List Place
-gone_front x = gone_among x (drop x.point x.plan.places)
+gone_front x = gone_among x (drop x.reach x.plan.places)
 
 -- the sequence number, before it wraps, of the last ordered message of stream s among these; no other of these has a greater one,
--- since from the acknowledged point on a stream's numbers ascend
+-- since from the acknowledged reach on a stream's numbers ascend
 abbrev pub is_ordered_of : Plan → ℕ → Place → Bool
 is_ordered_of p s y = (y.stream == s) && (message_of p y).ordered
 
@@ -226,9 +226,9 @@ last_ssn p s (y ∷ ys) found = last_ssn p s ys (if is_ordered_of p s y then Som
 
 abbrev pub forward_of : Sender → (ℕ → Bool) → Forward
 forward_of x over = record {
-  point = x.point + length (gone_front x);
+  reach = x.reach + length (gone_front x);
   numbers = λ s. last_ssn x.plan s (gone_front x) None;
-  start = x.point;
+  start = x.reach;
   past = over;
 }
 
@@ -243,17 +243,17 @@ abbrev pub past_all : List ℕ → ℕ
 past_all [] = 0
 past_all (o ∷ os) = suc o + past_all os
 
--- the cumulative point: each offset below it was taken in or passed over, and itself it was not
-abbrev pub point : Receiver → ℕ
-point r = climb r.taken (past_all r.taken) r.passed
+-- the cumulative reach: each offset below it was taken in or passed over, and itself it was not
+abbrev pub reach : Receiver → ℕ
+reach r = climb r.taken (past_all r.taken) r.passed
 
--- a SACK names the point, and of what was taken in all that lies above it (RFC 4960 section 6.2)
+-- a SACK names the reach, and of what was taken in all that lies above it (RFC 4960 section 6.2)
 abbrev pub sack_of : Receiver → Sack
-sack_of r = record { point = point r; above = filter (λ o. nat_le (point r) o) r.taken }
+sack_of r = record { reach = reach r; above = filter (λ o. nat_le (reach r) o) r.taken }
 
--- DATA is new where it lies at or past the point and wasn't taken in
+-- DATA is new where it lies at or past the reach and wasn't taken in
 abbrev pub is_new : Receiver → ℕ → Bool
-is_new r o = nat_le (point r) o && not (mem o r.taken)
+is_new r o = nat_le (reach r) o && not (mem o r.taken)
 
 -- a stream that isn't there is made, empty
 abbrev pub live : Option Queue → Queue
@@ -270,13 +270,13 @@ abbrev pub data_comes : Direction → Option Data → Direction
 data_comes w None = w
 data_comes w (Some d) = if w.receiver.is_open && is_new w.receiver d.offset then record w { receiver = took w.receiver d } else w
 
--- a FORWARD TSN above the point is taken (RFC 3758 section 3.6); it says nothing to a stream that isn't there
+-- a FORWARD TSN above the reach is taken (RFC 3758 section 3.6); it says nothing to a stream that isn't there
 abbrev pub forwarded : Option Queue → ℕ → Option ℕ → Option Queue
-forwarded None point m = None
-forwarded (Some q) point m = Some (drop_unordered point (skip_if q m))
+forwarded None reach m = None
+forwarded (Some q) reach m = Some (drop_unordered reach (skip_if q m))
 
 abbrev pub moved : Receiver → Forward → Receiver
-moved r f = record r { passed = f.point; queues = λ s. forwarded (r.queues s) f.point (skips f s) }
+moved r f = record r { passed = f.reach; queues = λ s. forwarded (r.queues s) f.reach (skips f s) }
 
 -- the number up to which a stream was skipped; one that isn't there is not skipped
 abbrev pub skipped_by : Option Queue → Option ℕ → ℕ → ℕ
@@ -289,7 +289,7 @@ passes w f = record w { receiver = moved w.receiver f; skipped = λ s. skipped_b
 
 abbrev pub forward_comes : Direction → Option Forward → Direction
 forward_comes w None = w
-forward_comes w (Some f) = if w.receiver.is_open && nat_lt (point w.receiver) f.point then passes w f else w
+forward_comes w (Some f) = if w.receiver.is_open && nat_lt (reach w.receiver) f.reach then passes w f else w
 
 abbrev pub was_read : Direction → ℕ → Option Taken → Direction
 was_read w s None = w
@@ -318,9 +318,9 @@ none_goes_on s (Some y) = not (y.stream == s)
 
 -- A stream's sequence numbers begin again only when the request to reset it ended in success (RFC 6525 section 5.1.2). That request
 -- first goes out when none of the stream's DATA is queued or not cumulatively acknowledged, and until it ended no write on the
--- stream is accepted. So by then each of its offsets lies below the acknowledged point, and no message of it goes on.
+-- stream is accepted. So by then each of its offsets lies below the acknowledged reach, and no message of it goes on.
 abbrev pub can_restart : Direction → ℕ → Bool
-can_restart w s = w.over s && (none_of s (drop w.sender.point w.sender.plan.places) && none_goes_on s w.sender.current)
+can_restart w s = w.over s && (none_of s (drop w.sender.reach w.sender.plan.places) && none_goes_on s w.sender.current)
 
 -- What may happen. An event that can't happen where it stands changes nothing.
 pub data Event : Type 0 where

@@ -1,4 +1,4 @@
--- What a packet says to the other side, in offsets. Points are numbers of offsets: `point` is one past the last offset meant.
+-- What a packet says to the other side, in offsets. A reach is a number of offsets: one past the last offset meant.
 use Rattle.std.specs.Prelude.{ℕ, ◌%◌, Bool, false, List, [], ◌∷◌, ◌==◌, ◌||◌, nat_lt, Option, Some, None}
 use Rattle.sctp_model.specs.Messages.{Plan, Place, place_at, message_of, piece_of, is_last}
 
@@ -14,16 +14,16 @@ pub record Data : Type 0 where
   pub payload_type : ℕ
   pub bytes : List ℕ
 
--- SACK (RFC 4960 section 3.3.4): every offset below the point, and the set of its gap ack blocks above.
+-- SACK (RFC 4960 section 3.3.4): every offset below the reach, and the set of its gap ack blocks above.
 pub record Sack : Type 0 where
-  pub point : ℕ
+  pub reach : ℕ
   pub above : List ℕ
 
--- FORWARD TSN (RFC 3758 section 3.2): the new point, and by stream the sequence number up to which ordered messages are skipped.
--- The packet has `point` and `skips`, which is all that a receiver goes by. Not in it are `numbers`, the sequence numbers before
--- they wrap, and of the moment when it was made its sender's acknowledged point (`start`) and the streams past their span (`past`).
+-- FORWARD TSN (RFC 3758 section 3.2): the new reach, and by stream the sequence number up to which ordered messages are skipped.
+-- The packet has `reach` and `skips`, which is all that a receiver goes by. Not in it are `numbers`, the sequence numbers before
+-- they wrap, and of the moment when it was made its sender's acknowledged reach (`start`) and the streams past their span (`past`).
 pub record Forward : Type 0 where
-  pub point : ℕ
+  pub reach : ℕ
   pub numbers : ℕ → Option ℕ
   pub start : ℕ
   pub past : ℕ → Bool
@@ -41,7 +41,7 @@ mem o [] = false
 mem o (x ∷ xs) = (x == o) || mem o xs
 
 abbrev pub names : Sack → ℕ → Bool
-names k o = nat_lt o k.point || mem o k.above
+names k o = nat_lt o k.reach || mem o k.above
 
 -- the DATA chunk of an offset, at its first sending and at each later one
 abbrev pub data_of : Plan → ℕ → Place → Data

@@ -190,6 +190,6 @@ abbrev pub skip_if : Queue → Option ℕ → Queue
 skip_if q None = q
 skip_if q (Some m) = skip q m
 
--- unordered pieces below a point whose message isn't complete are dropped
+-- unordered pieces below a reach whose message isn't complete are dropped
 abbrev pub drop_unordered : ℕ → Queue → Queue
-drop_unordered point q = record q { unordered = filter (λ (d : Data). nat_le point d.offset) q.unordered }
+drop_unordered reach q = record q { unordered = filter (λ (d : Data). nat_le reach d.offset) q.unordered }

@@ -78,7 +78,7 @@ SequenceNumbersWrap =
     map letter_read (ready (push (push at_the_end (whole_piece 9 0 (2 ∷ []))) (whole_piece 8 65535 (1 ∷ [])))) ≡ said (1 ∷ []) ∷ said (2 ∷ []) ∷ []
 
 -- Stream 0's first two messages are read. Its first one is abandoned all the same, since no SACK came, and so is stream 1's, which
--- is lost: the FORWARD TSN lies above the point, and skips stream 0 only up to the number 0. It is taken, the cursor stays at 2, and stream 1, of which nothing came, is not skipped,
+-- is lost: the FORWARD TSN lies above the reach, and skips stream 0 only up to the number 0. It is taken, the cursor stays at 2, and stream 1, of which nothing came, is not skipped,
 abbrev pub late_number : List Event
 late_number =
     Event.Write 0 (text true (Policy.Rexmit 0) (1 ∷ [])) ∷ Event.Write 0 (text true Policy.Reliable (2 ∷ []))
@@ -107,7 +107,7 @@ later_sack =
 abbrev pub both_sacks_again : List Event
 both_sacks_again = Event.SackComes 1 ∷ Event.SackComes 0 ∷ []
 
--- and once the middle piece came the fourth byte is released, and a SACK from before that leaves the point where it is.
+-- and once the middle piece came the fourth byte is released, and a SACK from before that leaves the reach where it is.
 abbrev pub last_sack : List Event
 last_sack = Event.DataComes 1 ∷ Event.SackMade ∷ Event.SackComes 2 ∷ Event.SackComes 0 ∷ []
 
@@ -115,7 +115,7 @@ abbrev pub SacksReleaseOnce : Type 0
 SacksReleaseOnce =
     ((run later_sack (fresh 2)).sender.released 0 ≡ 3) × ((run both_sacks_again (run later_sack (fresh 2))).sender.released 0 ≡ 3)
     × ((run last_sack (run both_sacks_again (run later_sack (fresh 2)))).sender.released 0 ≡ 4)
-    × ((run last_sack (run both_sacks_again (run later_sack (fresh 2)))).sender.point ≡ 3)
+    × ((run last_sack (run both_sacks_again (run later_sack (fresh 2)))).sender.reach ≡ 3)
 
 -- The first piece of an unordered message is held; the message is abandoned, and its FORWARD TSN drops that piece.
 abbrev pub unordered_held : List Event

@@ -137,7 +137,7 @@ unread p s gots = count_ordered (drop (read_end p 0 gots) (p.accepted s))
 -- The numbers that wrap are far from meeting themselves.
 pub record IsWithin (w : Direction) : Type 0 where
   pub offsets : length w.sender.plan.places < 2 ^ 31
-  pub flight : length w.sender.plan.places < w.sender.point + 16384
+  pub flight : length w.sender.plan.places < w.sender.reach + 16384
   pub unread : (s : ℕ) → unread w.sender.plan s (w.reads s) < 32768
 
 -- After each event so far.

@@ -25,18 +25,18 @@ before_32 a b = nat_lt 0 (past_32 a b) && nat_lt (past_32 a b) (2 ^ 31)
 abbrev pub tsn : ℕ → ℕ → ℕ
 tsn initial offset = (initial + offset) % 2 ^ 32
 
--- the offset nearest to `point` that the TSN t spells; a TSN of exactly half the range away is read as the one behind
+-- the offset nearest to `reach` that the TSN t spells; a TSN of exactly half the range away is read as the one behind
 abbrev pub offset_near : ℕ → ℕ → ℕ → ℕ
-offset_near initial point t =
-    if nat_lt (past_32 (tsn initial point) t) (2 ^ 31) then point + past_32 (tsn initial point) t else point + past_32 (tsn initial point) t - 2 ^ 32
+offset_near initial reach t =
+    if nat_lt (past_32 (tsn initial reach) t) (2 ^ 31) then reach + past_32 (tsn initial reach) t else reach + past_32 (tsn initial reach) t - 2 ^ 32
 
--- the offset that the TSN t spells, where it lies at or ahead of `point`
+-- the offset that the TSN t spells, where it lies at or ahead of `reach`
 abbrev pub offset_ahead : ℕ → ℕ → ℕ → Option ℕ
-offset_ahead initial point t =
-    if nat_lt (past_32 (tsn initial point) t) (2 ^ 31) then Some (point + past_32 (tsn initial point) t) else None
+offset_ahead initial reach t =
+    if nat_lt (past_32 (tsn initial reach) t) (2 ^ 31) then Some (reach + past_32 (tsn initial reach) t) else None
 
--- the offset nearest to `point` that the TSN t spells, none where that lies before offset 0
+-- the offset nearest to `reach` that the TSN t spells, none where that lies before offset 0
 abbrev pub offset_spelt : ℕ → ℕ → ℕ → Option ℕ
-offset_spelt initial point t =
-    if nat_lt (past_32 (tsn initial point) t) (2 ^ 31) then Some (point + past_32 (tsn initial point) t)
-    else if nat_lt (point + past_32 (tsn initial point) t) (2 ^ 32) then None else Some (point + past_32 (tsn initial point) t - 2 ^ 32)
+offset_spelt initial reach t =
+    if nat_lt (past_32 (tsn initial reach) t) (2 ^ 31) then Some (reach + past_32 (tsn initial reach) t)
+    else if nat_lt (reach + past_32 (tsn initial reach) t) (2 ^ 32) then None else Some (reach + past_32 (tsn initial reach) t - 2 ^ 32)

@@ -1,7 +1,7 @@
 //! Two ends of an association as definitions, and what is proved over them.
 #![tactic(auto)]
 
-ghost use Rattle.sctp_model.specs.Laws.{EachEventKeepsTheInvariant, OneDirectionIsSafe, TheInvariantHolds, TheInvariantIsEnough, NoMoreIsReleased, PiecesJoin, PointIsGreatest, SacksAreExact, SequenceNumbersCompare, TheCursorIsPastTheLater, TsnsAheadSpellOffsets, TsnsBeforeTheInitialSpellNone, TsnsPastTheInitialSpellSome, TsnsSpellOffsets};
+ghost use Rattle.sctp_model.specs.Laws.{EachEventKeepsTheInvariant, OneDirectionIsSafe, TheInvariantHolds, TheInvariantIsEnough, NoMoreIsReleased, PiecesJoin, ReachIsGreatest, SacksAreExact, SequenceNumbersCompare, TheCursorIsPastTheLater, TsnsAheadSpellOffsets, TsnsBeforeTheInitialSpellNone, TsnsPastTheInitialSpellSome, TsnsSpellOffsets};
 ghost use Rattle.sctp_model.specs.Runs.{ClosedReadsNothing, DroppedUnsent, FirstAbandonedAndSkipped, LateForwardChangesNothing, LateNumberLeavesTheCursor, PiecesOutOfOrder, SacksReleaseOnce, SequenceNumbersWrap, StreamBeginsAnew, StreamsDoNotWait, UnorderedIsDropped, UnorderedIsReadFirst};
 
 /// Serial numbers of 32 bits, as long as the offsets that they spell are less than half the range apart (RFC 4960 section 1.6).
@@ -22,9 +22,9 @@ pub fn pieces_join()
     ensures { PiecesJoin }
 {}
 
-/// The cumulative point of a receiver, and the SACK that it makes (RFC 4960 sections 3.3.4 and 6.2).
+/// The cumulative reach of a receiver, and the SACK that it makes (RFC 4960 sections 3.3.4 and 6.2).
 pub fn sacks_are_exact()
-    ensures point { PointIsGreatest }
+    ensures reach { ReachIsGreatest }
     ensures sack { SacksAreExact }
 {}
 

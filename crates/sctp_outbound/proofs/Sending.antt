@@ -11,7 +11,7 @@ use Rattle.sctp_outbound_queue.specs.declared.message.InFlight.{InFlight}
 use Rattle.sctp_outbound_queue.specs.Waiting.{Waiting}
 use Rattle.sctp_outbound_queue.specs.Message.{counted_again, piece_count, without_piece}
 use Rattle.sctp_outbound_queue.specs.Outbound.{tsn_at, pieces_waiting, left_behind, after_piece}
-use Rattle.sctp_queues.specs.Streams.{StreamMap}
+use Rattle.sctp_streams.specs.Streams.{StreamMap}
 use Rattle.sctp_outbound.specs.declared.sender.Sender.{Sender}
 use Rattle.sctp_outbound.specs.Sender.{after_first, after_resending, acknowledged, with_in_flight, resent_pieces, resent_chunks, tried_again, chunk_of, fits_windows, can_send_next, gives_data, goes_again, resends, resent_by, sends_new, sent_new, sent_one, sent_within}
 
@@ -147,78 +147,78 @@ pieces_full p ps room marked full = rw (marked, full)
 pub pieces_sent : (p : InFlight) (ps : List InFlight) (room : ℕ) → p.retransmit ≡ true → nat_lt room (length p.user_data) ≡ false → resent_pieces room (p ∷ ps) ≡ counted_again p ∷ resent_pieces (room - length p.user_data) ps
 pieces_sent p ps room marked fits = rw (marked, fits)
 
-pub chunks_skip : (p : InFlight) (ps : List InFlight) (first place room : ℕ) → p.retransmit ≡ false → resent_chunks first place room (p ∷ ps) ≡ resent_chunks first (place + 1) room ps
-chunks_skip p ps first place room unmarked = rw unmarked
+pub chunks_skip : (p : InFlight) (ps : List InFlight) (first index room : ℕ) → p.retransmit ≡ false → resent_chunks first index room (p ∷ ps) ≡ resent_chunks first (index + 1) room ps
+chunks_skip p ps first index room unmarked = rw unmarked
 
-pub chunks_full : (p : InFlight) (ps : List InFlight) (first place room : ℕ) → p.retransmit ≡ true → nat_lt room (length p.user_data) ≡ true → resent_chunks first place room (p ∷ ps) ≡ []
-chunks_full p ps first place room marked full = rw (marked, full)
+pub chunks_full : (p : InFlight) (ps : List InFlight) (first index room : ℕ) → p.retransmit ≡ true → nat_lt room (length p.user_data) ≡ true → resent_chunks first index room (p ∷ ps) ≡ []
+chunks_full p ps first index room marked full = rw (marked, full)
 
-pub chunks_sent : (p : InFlight) (ps : List InFlight) (first place room : ℕ) → p.retransmit ≡ true → nat_lt room (length p.user_data) ≡ false → resent_chunks first place room (p ∷ ps) ≡ chunk_of p (tsn_at first place) ∷ resent_chunks first (place + 1) (room - length p.user_data) ps
-chunks_sent p ps first place room marked fits = rw (marked, fits)
+pub chunks_sent : (p : InFlight) (ps : List InFlight) (first index room : ℕ) → p.retransmit ≡ true → nat_lt room (length p.user_data) ≡ false → resent_chunks first index room (p ∷ ps) ≡ chunk_of p (tsn_at first index) ∷ resent_chunks first (index + 1) (room - length p.user_data) ps
+chunks_sent p ps first index room marked fits = rw (marked, fits)
 
 one_more : {A : Type 0} → (a b w r : List A) (q : A) → b ≡ a ++ q ∷ [] → w ≡ q ∷ r → b ++ r ≡ a ++ w
 one_more a b w r q e f = rw (e, f, append_assoc)
 
-tried_skip : (p : InFlight) (s : Sender) (place left : ℕ) (out : List ChunkPayloadData) → p.retransmit ≡ false → tried_again (Some p) s place left out ≡ (s, out, Some left)
-tried_skip p s place left out unmarked = rw unmarked
+tried_skip : (p : InFlight) (s : Sender) (index left : ℕ) (out : List ChunkPayloadData) → p.retransmit ≡ false → tried_again (Some p) s index left out ≡ (s, out, Some left)
+tried_skip p s index left out unmarked = rw unmarked
 
-tried_full : (p : InFlight) (s : Sender) (place left : ℕ) (out : List ChunkPayloadData) → p.retransmit ≡ true → nat_lt left (length p.user_data) ≡ true → tried_again (Some p) s place left out ≡ (s, out, None)
-tried_full p s place left out marked full = rw (marked, full)
+tried_full : (p : InFlight) (s : Sender) (index left : ℕ) (out : List ChunkPayloadData) → p.retransmit ≡ true → nat_lt left (length p.user_data) ≡ true → tried_again (Some p) s index left out ≡ (s, out, None)
+tried_full p s index left out marked full = rw (marked, full)
 
-tried_sent : (p : InFlight) (s : Sender) (place left : ℕ) (out : List ChunkPayloadData) → p.retransmit ≡ true → nat_lt left (length p.user_data) ≡ false → tried_again (Some p) s place left out ≡ (with_in_flight s (set s.queue.in_flight place (counted_again p)), out ++ chunk_of p (tsn_at s.queue.first_tsn place) ∷ [], Some (left - length p.user_data))
-tried_sent p s place left out marked fits = rw (marked, fits)
+tried_sent : (p : InFlight) (s : Sender) (index left : ℕ) (out : List ChunkPayloadData) → p.retransmit ≡ true → nat_lt left (length p.user_data) ≡ false → tried_again (Some p) s index left out ≡ (with_in_flight s (set s.queue.in_flight index (counted_again p)), out ++ chunk_of p (tsn_at s.queue.first_tsn index) ∷ [], Some (left - length p.user_data))
+tried_sent p s index left out marked fits = rw (marked, fits)
 
 -- once the piece at a place is dealt with, the rest is resent as it was to be before
-pub record Stepped (s s2 : Sender) (place left left2 : ℕ) (out out2 : List ChunkPayloadData) : Type 0 where
+pub record Stepped (s s2 : Sender) (index left left2 : ℕ) (out out2 : List ChunkPayloadData) : Type 0 where
   pub count : length s2.queue.in_flight ≡ length s.queue.in_flight
   pub grown : length out ≤ length out2
   pub rest : s2 ≡ with_in_flight s s2.queue.in_flight
-  pub pieces : take (place + 1) s2.queue.in_flight ++ resent_pieces left2 (drop (place + 1) s2.queue.in_flight) ≡ take place s.queue.in_flight ++ resent_pieces left (drop place s.queue.in_flight)
-  pub chunks : out2 ++ resent_chunks s2.queue.first_tsn (place + 1) left2 (drop (place + 1) s2.queue.in_flight) ≡ out ++ resent_chunks s.queue.first_tsn place left (drop place s.queue.in_flight)
+  pub pieces : take (index + 1) s2.queue.in_flight ++ resent_pieces left2 (drop (index + 1) s2.queue.in_flight) ≡ take index s.queue.in_flight ++ resent_pieces left (drop index s.queue.in_flight)
+  pub chunks : out2 ++ resent_chunks s2.queue.first_tsn (index + 1) left2 (drop (index + 1) s2.queue.in_flight) ≡ out ++ resent_chunks s.queue.first_tsn index left (drop index s.queue.in_flight)
 
-skipped : (p : InFlight) (s : Sender) (place left : ℕ) (out : List ChunkPayloadData) → slice_get s.queue.in_flight place ≡ Some p → p.retransmit ≡ false → Stepped s s place left left out out
-skipped p s place left out here unmarked =
+skipped : (p : InFlight) (s : Sender) (index left : ℕ) (out : List ChunkPayloadData) → slice_get s.queue.in_flight index ≡ Some p → p.retransmit ≡ false → Stepped s s index left left out out
+skipped p s index left out here unmarked =
     let xs = s.queue.in_flight in
-    let ds = drop (place + 1) s.queue.in_flight in
+    let ds = drop (index + 1) s.queue.in_flight in
     record {
       count = refl;
       grown = omega arith;
       rest = refl;
       pieces =
-          one_more (take place xs) (take (place + 1) xs) (resent_pieces left (drop place xs)) (resent_pieces left ds) p
-          (take_get xs place p here) (ap (resent_pieces left) (drop_get xs place p here) ∙ pieces_skip p ds left unmarked);
+          one_more (take index xs) (take (index + 1) xs) (resent_pieces left (drop index xs)) (resent_pieces left ds) p
+          (take_get xs index p here) (ap (resent_pieces left) (drop_get xs index p here) ∙ pieces_skip p ds left unmarked);
       chunks =
-          ap (λ z. out ++ z) (sym (ap (resent_chunks s.queue.first_tsn place left) (drop_get xs place p here) ∙
-          chunks_skip p ds s.queue.first_tsn place left unmarked));
+          ap (λ z. out ++ z) (sym (ap (resent_chunks s.queue.first_tsn index left) (drop_get xs index p here) ∙
+          chunks_skip p ds s.queue.first_tsn index left unmarked));
     }
 
-sent_again_at : (p : InFlight) (s : Sender) (place left : ℕ) (out : List ChunkPayloadData) → slice_get s.queue.in_flight place ≡ Some p → p.retransmit ≡ true → nat_lt left (length p.user_data) ≡ false → Stepped s (with_in_flight s (set s.queue.in_flight place (counted_again p))) place left (left - length p.user_data) out (out ++ chunk_of p (tsn_at s.queue.first_tsn place) ∷ [])
-sent_again_at p s place left out here marked fits =
+sent_again_at : (p : InFlight) (s : Sender) (index left : ℕ) (out : List ChunkPayloadData) → slice_get s.queue.in_flight index ≡ Some p → p.retransmit ≡ true → nat_lt left (length p.user_data) ≡ false → Stepped s (with_in_flight s (set s.queue.in_flight index (counted_again p))) index left (left - length p.user_data) out (out ++ chunk_of p (tsn_at s.queue.first_tsn index) ∷ [])
+sent_again_at p s index left out here marked fits =
     let xs = s.queue.in_flight in
     let first = s.queue.first_tsn in
     let q = counted_again p in
     let left2 = left - length p.user_data in
-    let chunk = chunk_of p (tsn_at first place) in
-    let ys = set s.queue.in_flight place q in
-    let below = slice_get_within s.queue.in_flight place p here in
-    let same : drop (place + 1) ys ≡ drop (place + 1) xs = drop-set-lt (place + 1) xs place q (omega arith) in
+    let chunk = chunk_of p (tsn_at first index) in
+    let ys = set s.queue.in_flight index q in
+    let below = slice_get_within s.queue.in_flight index p here in
+    let same : drop (index + 1) ys ≡ drop (index + 1) xs = drop-set-lt (index + 1) xs index q (omega arith) in
     let more = more_by_one out chunk in
     record {
-      count = length-set xs place q;
+      count = length-set xs index q;
       grown = omega (arith, more);
       rest = refl;
       pieces =
-          one_more (take place xs) (take (place + 1) ys) (resent_pieces left (drop place xs))
-          (resent_pieces left2 (drop (place + 1) ys)) q (take_more_set xs place q below) (
-          ap (resent_pieces left) (drop_get xs place p here) ∙ pieces_sent p (drop (place + 1) xs) left marked fits ∙
+          one_more (take index xs) (take (index + 1) ys) (resent_pieces left (drop index xs))
+          (resent_pieces left2 (drop (index + 1) ys)) q (take_more_set xs index q below) (
+          ap (resent_pieces left) (drop_get xs index p here) ∙ pieces_sent p (drop (index + 1) xs) left marked fits ∙
           ap (λ z. q ∷ resent_pieces left2 z) (sym same)
           );
       chunks =
-          one_more out (out ++ chunk ∷ []) (resent_chunks first place left (drop place xs))
-          (resent_chunks first (place + 1) left2 (drop (place + 1) ys)) chunk refl (
-          ap (resent_chunks first place left) (drop_get xs place p here) ∙
-          chunks_sent p (drop (place + 1) xs) first place left marked fits ∙
-          ap (λ z. chunk ∷ resent_chunks first (place + 1) left2 z) (sym same)
+          one_more out (out ++ chunk ∷ []) (resent_chunks first index left (drop index xs))
+          (resent_chunks first (index + 1) left2 (drop (index + 1) ys)) chunk refl (
+          ap (resent_chunks first index left) (drop_get xs index p here) ∙
+          chunks_sent p (drop (index + 1) xs) first index left marked fits ∙
+          ap (λ z. chunk ∷ resent_chunks first (index + 1) left2 z) (sym same)
           );
     }
 
@@ -227,29 +227,29 @@ none_or_some s s2 out out2 left e =
     let m : None ≡ Some left = ap (λ (z : Sender × List ChunkPayloadData × Option ℕ). z.2) e in
     cc
 
-moved_to : (s s2 s3 : Sender) (place left left2 left3 : ℕ) (out out2 out3 : List ChunkPayloadData) → ◌≡◌ {A = Sender × List ChunkPayloadData × Option ℕ} (s3, out3, Some left3) (s2, out2, Some left2) → Stepped s s3 place left left3 out out3 → Stepped s s2 place left left2 out out2
-moved_to s s2 s3 place left left2 left3 out out2 out3 e step =
+moved_to : (s s2 s3 : Sender) (index left left2 left3 : ℕ) (out out2 out3 : List ChunkPayloadData) → ◌≡◌ {A = Sender × List ChunkPayloadData × Option ℕ} (s3, out3, Some left3) (s2, out2, Some left2) → Stepped s s3 index left left3 out out3 → Stepped s s2 index left left2 out out2
+moved_to s s2 s3 index left left2 left3 out out2 out3 e step =
     let a : s3 ≡ s2 = ap (λ (z : Sender × List ChunkPayloadData × Option ℕ). z.0) e in
     let b : out3 ≡ out2 = ap (λ (z : Sender × List ChunkPayloadData × Option ℕ). z.1) e in
     let some : Some left3 ≡ Some left2 = ap (λ (z : Sender × List ChunkPayloadData × Option ℕ). z.2) e in
     let d : left3 ≡ left2 = cc in
     rw (← a, ← b, ← d) step
 
-step_of : (o : Option InFlight) (s s2 : Sender) (place left left2 : ℕ) (out out2 : List ChunkPayloadData) → slice_get s.queue.in_flight place ≡ o → tried_again o s place left out ≡ (s2, out2, Some left2) → Stepped s s2 place left left2 out out2
-step_of None s s2 place left left2 out out2 here e = absurd (none_or_some s s2 out out2 left2 e)
-step_of (Some p) s s2 place left left2 out out2 here e =
+step_of : (o : Option InFlight) (s s2 : Sender) (index left left2 : ℕ) (out out2 : List ChunkPayloadData) → slice_get s.queue.in_flight index ≡ o → tried_again o s index left out ≡ (s2, out2, Some left2) → Stepped s s2 index left left2 out out2
+step_of None s s2 index left left2 out out2 here e = absurd (none_or_some s s2 out out2 left2 e)
+step_of (Some p) s s2 index left left2 out out2 here e =
     ⊎_elim (
     λ (marked : p.retransmit ≡ true). ⊎_elim (
-    λ (full : nat_lt left (length p.user_data) ≡ true). absurd (none_or_some s s2 out out2 left2 (sym (tried_full p s place left out marked full) ∙ e))
+    λ (full : nat_lt left (length p.user_data) ≡ true). absurd (none_or_some s s2 out out2 left2 (sym (tried_full p s index left out marked full) ∙ e))
     ) (
     λ (fits : nat_lt left (length p.user_data) ≡ false).
-    moved_to s s2 _ place left left2 _ out out2 _ (sym (tried_sent p s place left out marked fits) ∙ e)
-    (sent_again_at p s place left out here marked fits)
+    moved_to s s2 _ index left left2 _ out out2 _ (sym (tried_sent p s index left out marked fits) ∙ e)
+    (sent_again_at p s index left out here marked fits)
     ) (cases_Bool (nat_lt left (length p.user_data)))
     ) (
     λ (unmarked : p.retransmit ≡ false).
-    moved_to s s2 s place left left2 left out out2 out (sym (tried_skip p s place left out unmarked) ∙ e)
-    (skipped p s place left out here unmarked)
+    moved_to s s2 s index left left2 left out out2 out (sym (tried_skip p s index left out unmarked) ∙ e)
+    (skipped p s index left out here unmarked)
     ) (cases_Bool p.retransmit)
 
 none_past : (xs : List InFlight) (i : ℕ) → slice_get xs i ≡ None → length xs ≤ i
@@ -258,15 +258,15 @@ none_past (x ∷ xs) zero e = absurd (cc)
 none_past (x ∷ xs) (suc i) e = let below = none_past xs i e in omega arith
 
 -- nothing more is resent from a place on
-pub record Stopped (s s2 : Sender) (place left : ℕ) (out out2 : List ChunkPayloadData) : Type 0 where
+pub record Stopped (s s2 : Sender) (index left : ℕ) (out out2 : List ChunkPayloadData) : Type 0 where
   pub sender : s2 ≡ s
   pub sent : out2 ≡ out
-  pub pieces : resent_pieces left (drop place s.queue.in_flight) ≡ drop place s.queue.in_flight
-  pub chunks : resent_chunks s.queue.first_tsn place left (drop place s.queue.in_flight) ≡ []
+  pub pieces : resent_pieces left (drop index s.queue.in_flight) ≡ drop index s.queue.in_flight
+  pub chunks : resent_chunks s.queue.first_tsn index left (drop index s.queue.in_flight) ≡ []
 
-past_end : (s : Sender) (place left : ℕ) (out : List ChunkPayloadData) → length s.queue.in_flight ≤ place → Stopped s s place left out out
-past_end s place left out past =
-    let none : drop place s.queue.in_flight ≡ [] = drop_all place s.queue.in_flight past in
+past_end : (s : Sender) (index left : ℕ) (out : List ChunkPayloadData) → length s.queue.in_flight ≤ index → Stopped s s index left out out
+past_end s index left out past =
+    let none : drop index s.queue.in_flight ≡ [] = drop_all index s.queue.in_flight past in
     record {
       sender = refl;
       sent = refl;
@@ -274,41 +274,41 @@ past_end s place left out past =
       chunks = rw none;
     }
 
-does_not_fit : (p : InFlight) (s : Sender) (place left : ℕ) (out : List ChunkPayloadData) → slice_get s.queue.in_flight place ≡ Some p → p.retransmit ≡ true → nat_lt left (length p.user_data) ≡ true → Stopped s s place left out out
-does_not_fit p s place left out here marked full =
+does_not_fit : (p : InFlight) (s : Sender) (index left : ℕ) (out : List ChunkPayloadData) → slice_get s.queue.in_flight index ≡ Some p → p.retransmit ≡ true → nat_lt left (length p.user_data) ≡ true → Stopped s s index left out out
+does_not_fit p s index left out here marked full =
     let xs = s.queue.in_flight in
-    let ds = drop (place + 1) s.queue.in_flight in
+    let ds = drop (index + 1) s.queue.in_flight in
     record {
       sender = refl;
       sent = refl;
       pieces =
-          ap (resent_pieces left) (drop_get xs place p here) ∙ pieces_full p ds left marked full ∙
-          sym (drop_get xs place p here);
+          ap (resent_pieces left) (drop_get xs index p here) ∙ pieces_full p ds left marked full ∙
+          sym (drop_get xs index p here);
       chunks =
-          ap (resent_chunks s.queue.first_tsn place left) (drop_get xs place p here) ∙
-          chunks_full p ds s.queue.first_tsn place left marked full;
+          ap (resent_chunks s.queue.first_tsn index left) (drop_get xs index p here) ∙
+          chunks_full p ds s.queue.first_tsn index left marked full;
     }
 
-stopped_to : (s s2 s3 : Sender) (place left : ℕ) (out out2 out3 : List ChunkPayloadData) (o : Option ℕ) → ◌≡◌ {A = Sender × List ChunkPayloadData × Option ℕ} (s3, out3, o) (s2, out2, None) → Stopped s s3 place left out out3 → Stopped s s2 place left out out2
-stopped_to s s2 s3 place left out out2 out3 o e stop =
+stopped_to : (s s2 s3 : Sender) (index left : ℕ) (out out2 out3 : List ChunkPayloadData) (o : Option ℕ) → ◌≡◌ {A = Sender × List ChunkPayloadData × Option ℕ} (s3, out3, o) (s2, out2, None) → Stopped s s3 index left out out3 → Stopped s s2 index left out out2
+stopped_to s s2 s3 index left out out2 out3 o e stop =
     let a : s3 ≡ s2 = ap (λ (z : Sender × List ChunkPayloadData × Option ℕ). z.0) e in
     let b : out3 ≡ out2 = ap (λ (z : Sender × List ChunkPayloadData × Option ℕ). z.1) e in
     rw (← a, ← b) stop
 
-stop_of : (o : Option InFlight) (s s2 : Sender) (place left : ℕ) (out out2 : List ChunkPayloadData) → slice_get s.queue.in_flight place ≡ o → tried_again o s place left out ≡ (s2, out2, None) → Stopped s s2 place left out out2
-stop_of None s s2 place left out out2 here e =
-    stopped_to s s2 s place left out out2 out None e (past_end s place left out (none_past s.queue.in_flight place here))
-stop_of (Some p) s s2 place left out out2 here e =
+stop_of : (o : Option InFlight) (s s2 : Sender) (index left : ℕ) (out out2 : List ChunkPayloadData) → slice_get s.queue.in_flight index ≡ o → tried_again o s index left out ≡ (s2, out2, None) → Stopped s s2 index left out out2
+stop_of None s s2 index left out out2 here e =
+    stopped_to s s2 s index left out out2 out None e (past_end s index left out (none_past s.queue.in_flight index here))
+stop_of (Some p) s s2 index left out out2 here e =
     ⊎_elim (
     λ (marked : p.retransmit ≡ true). ⊎_elim (
     λ (full : nat_lt left (length p.user_data) ≡ true).
-    stopped_to s s2 s place left out out2 out None (sym (tried_full p s place left out marked full) ∙ e)
-    (does_not_fit p s place left out here marked full)
+    stopped_to s s2 s index left out out2 out None (sym (tried_full p s index left out marked full) ∙ e)
+    (does_not_fit p s index left out here marked full)
     ) (
-    λ (fits : nat_lt left (length p.user_data) ≡ false). absurd (none_or_some s2 _ out2 _ _ (sym e ∙ tried_sent p s place left out marked fits))
+    λ (fits : nat_lt left (length p.user_data) ≡ false). absurd (none_or_some s2 _ out2 _ _ (sym e ∙ tried_sent p s index left out marked fits))
     ) (cases_Bool (nat_lt left (length p.user_data)))
     ) (
-    λ (unmarked : p.retransmit ≡ false). absurd (none_or_some s2 s out2 out left (sym e ∙ tried_skip p s place left out unmarked))
+    λ (unmarked : p.retransmit ≡ false). absurd (none_or_some s2 s out2 out left (sym e ∙ tried_skip p s index left out unmarked))
     ) (cases_Bool p.retransmit)
 
 -- before a place the pieces are as they will stay; with what is resent of the rest they are what the whole was to become
@@ -343,14 +343,14 @@ resent_out s0 s s2 i end room left out0 out out2 inv e =
     stop.sent ∙ sym (append-nil out) ∙ ap (λ z. out ++ z) (sym stop.chunks) ∙ inv.chunks
 
 -- a piece that is to be sent again is the first of what is resent from its place on
-goes_first : (o : Option InFlight) (s : Sender) (place left : ℕ) → slice_get s.queue.in_flight place ≡ o → goes_again o left ≡ true
-    → 0 < length (resent_chunks s.queue.first_tsn place left (drop place s.queue.in_flight))
-goes_first None s place left here again = absurd (false_from_true again)
-goes_first (Some p) s place left here again =
+goes_first : (o : Option InFlight) (s : Sender) (index left : ℕ) → slice_get s.queue.in_flight index ≡ o → goes_again o left ≡ true
+    → 0 < length (resent_chunks s.queue.first_tsn index left (drop index s.queue.in_flight))
+goes_first None s index left here again = absurd (false_from_true again)
+goes_first (Some p) s index left here again =
     let parts = and_parts p.retransmit (not (nat_lt left (length p.user_data))) again in
     let first =
-    ap (resent_chunks s.queue.first_tsn place left) (drop_get s.queue.in_flight place p here) ∙
-    chunks_sent p (drop (place + 1) s.queue.in_flight) s.queue.first_tsn place left parts.0 (not-true _ parts.1) in
+    ap (resent_chunks s.queue.first_tsn index left) (drop_get s.queue.in_flight index p here) ∙
+    chunks_sent p (drop (index + 1) s.queue.in_flight) s.queue.first_tsn index left parts.0 (not-true _ parts.1) in
     rw first (omega arith)
 
 pub resends_some : (s0 s : Sender) (i end room left : ℕ) (out0 out : List ChunkPayloadData) → ResendsOn s0 s i end room left out0 out

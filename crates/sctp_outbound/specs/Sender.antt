@@ -10,7 +10,7 @@ use Rattle.sctp_outbound_queue.specs.declared.message.InFlight.{InFlight}
 use Rattle.sctp_outbound_queue.specs.Waiting.{Waiting}
 use Rattle.sctp_outbound_queue.specs.Message.{is_outstanding, outstanding_bytes, counted_again}
 use Rattle.sctp_outbound_queue.specs.Outbound.{empty_outbound, tsn_at, next_tsn_of, outstanding_of, without_first, pieces_waiting, sent_next}
-use Rattle.sctp_queues.specs.Streams.{StreamMap, released_in}
+use Rattle.sctp_streams.specs.Streams.{StreamMap, released_in}
 use Rattle.sctp_outbound.specs.declared.sender.Sender.{Sender}
 use Rattle.sctp_outbound.specs.declared.sender.SackOutcome.{SackOutcome}
 use Rattle.sctp_outbound.specs.declared.sender.SackOutcome.TheVariants as outcomes
@@ -43,12 +43,12 @@ abbrev pub marks : Sender → ℕ → Bool
 marks s tsn = is_to_resend (slice_get s.queue.in_flight (tsn_past s.queue.first_tsn tsn))
 
 -- the TSN before the first one in flight
-abbrev pub acked_point_of : Sender → ℕ
-acked_point_of s = (s.queue.first_tsn + 2 ^ 32 - 1) % 2 ^ 32
+abbrev pub cumulative_tsn_ack_point_of : Sender → ℕ
+cumulative_tsn_ack_point_of s = (s.queue.first_tsn + 2 ^ 32 - 1) % 2 ^ 32
 
 -- how many TSNs a point acknowledges
-abbrev pub points_to : Sender → ℕ → ℕ
-points_to s point = tsn_past (acked_point_of s) point
+abbrev pub tsns_up_to : Sender → ℕ → ℕ
+tsns_up_to s cumulative_tsn_ack = tsn_past (cumulative_tsn_ack_point_of s) cumulative_tsn_ack
 
 -- a piece gives a measurement: it is outstanding, was sent once, and its TSN is not below the one from which on times are
 -- measured
@@ -95,9 +95,9 @@ acknowledged (suc n) now all = acknowledged n now (after_first now all)
 -- what a cumulative TSN ack point is to the sender (RFC 4960 section 6.2.1): behind the one before it, beyond what is in
 -- flight, or taken
 abbrev pub sack_outcome : Sender → ℕ → SackOutcome
-sack_outcome s point =
-    if tsn_gt (acked_point_of s) point then outcomes.Older else
-    if nat_le (points_to s point) (length s.queue.in_flight) then outcomes.Taken else outcomes.NotInFlight
+sack_outcome s cumulative_tsn_ack =
+    if tsn_gt (cumulative_tsn_ack_point_of s) cumulative_tsn_ack then outcomes.Older else
+    if nat_le (tsns_up_to s cumulative_tsn_ack) (length s.queue.in_flight) then outcomes.Taken else outcomes.NotInFlight
 
 -- the window that a peer offers first is also where slow start ends
 abbrev pub with_first_window : Sender → ℕ → Sender
@@ -145,12 +145,12 @@ with_in_flight s pieces = record s { queue = (let q = s.queue in record q { in_f
 -- the DATA that is sent again: the marked pieces in the order of their TSNs, as long as they fit together into so many
 -- bytes (RFC 4960 section 6.3.3, rule E3)
 abbrev pub resent_chunks : ℕ → ℕ → ℕ → List InFlight → List ChunkPayloadData
-resent_chunks first place room [] = []
-resent_chunks first place room (p ∷ ps) =
-    if not p.retransmit then resent_chunks first (place + 1) room ps else
+resent_chunks first index room [] = []
+resent_chunks first index room (p ∷ ps) =
+    if not p.retransmit then resent_chunks first (index + 1) room ps else
     if nat_lt room (length p.user_data) then [] else
-    chunk_of p (tsn_at first place) ∷
-    resent_chunks first (place + 1) (room - length p.user_data) ps
+    chunk_of p (tsn_at first index) ∷
+    resent_chunks first (index + 1) (room - length p.user_data) ps
 
 -- the pieces in flight after that: those that were sent again lost their mark and count one sending more
 abbrev pub resent_pieces : ℕ → List InFlight → List InFlight
@@ -162,12 +162,12 @@ resent_pieces room (p ∷ ps) =
 
 -- what is left of so many bytes for the pieces behind one: None where it is marked and does not fit
 abbrev pub tried_again : Option InFlight → Sender → ℕ → ℕ → List ChunkPayloadData → Sender × List ChunkPayloadData × Option ℕ
-tried_again None s place room out = (s, out, None)
-tried_again (Some p) s place room out =
+tried_again None s index room out = (s, out, None)
+tried_again (Some p) s index room out =
     if not p.retransmit then (s, out, Some room) else
     if nat_lt room (length p.user_data) then (s, out, None) else (
-      with_in_flight s (slice_set s.queue.in_flight place (counted_again p)),
-      out ++ chunk_of p (tsn_at s.queue.first_tsn place) ∷ [],
+      with_in_flight s (slice_set s.queue.in_flight index (counted_again p)),
+      out ++ chunk_of p (tsn_at s.queue.first_tsn index) ∷ [],
       Some (room - length p.user_data),
     )
 

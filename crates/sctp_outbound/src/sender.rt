@@ -2,14 +2,15 @@
 ghost use Rattle.sctp_parts.specs.Estimate.{measured};
 ghost use Rattle.sctp_outbound_queue.specs.Message.{outstanding_bytes};
 ghost use Rattle.sctp_outbound_queue.specs.Outbound.{all_marked, after_piece, pieces_waiting};
-ghost use Rattle.sctp_queues.specs.Streams.{released_in};
+ghost use Rattle.sctp_streams.specs.Streams.{released_in};
 ghost use Rattle.std.specs.Prelude.{true, is_some, ◌≡◌, ◌+◌, ◌-◌, ◌/◌, if◌then◌else◌, ◌≤◌, ◌<◌, ◌^◌, ◌++◌, ◌∷◌, [], OnErr, OnOk, IfOk, IfSome, length, slice_get, nat_lt};
-ghost use Rattle.sctp_outbound.specs.Sender.{goes_again, resends, sends_new, fresh_sender, window_left, marks, acked_point_of, points_to, after_first, acknowledged, sack_outcome, with_first_window, with_window, t3_after_sack, chunk_of, next_chunk_of, data_of, can_send_next, is_measured, after_resending, resent_by, alone_length, with_in_flight, resent_pieces, resent_chunks, tried_again, sent_new, sent_within, sent_one};
+ghost use Rattle.sctp_outbound.specs.Sender.{goes_again, resends, sends_new, fresh_sender, window_left, marks, cumulative_tsn_ack_point_of, tsns_up_to, after_first, acknowledged, sack_outcome, with_first_window, with_window, t3_after_sack, chunk_of, next_chunk_of, data_of, can_send_next, is_measured, after_resending, resent_by, alone_length, with_in_flight, resent_pieces, resent_chunks, tried_again, sent_new, sent_within, sent_one};
 
 use bytes::Bytes;
 use sctp_outbound_queue::{Attributes, InFlight, OutboundQueue, PendingMessage};
-use sctp_parts::timer::{RtoManager, Timer, TimerTable};
-use sctp_queues::Streams;
+use sctp_parts::estimate::RtoManager;
+use sctp_parts::timer::{Timer, TimerTable};
+use sctp_streams::Streams;
 use sctp_wire_types::{ChunkPayloadData, Instant, sna32gt, sna32gte};
 use std::alloc::{AllocError, Global};
 
@@ -64,7 +65,7 @@ impl Sender {
     }
 
     /// The peer's receive window is known, in bytes, from its INIT or INIT ACK (RFC 4960 sections 5.1 and 7.2.1).
-    pub fn meet(&mut self, first_window: u32)
+    pub fn set_peer_window(&mut self, first_window: u32)
         ensures { self.new ≡ with_first_window self.old first_window }
     {
         self.advertised_window = first_window;
@@ -83,7 +84,7 @@ impl Sender {
     pub fn is_marked(&self, tsn: u32) -> bool
         ensures { result ≡ marks self.now tsn }
     {
-        match self.queue.get(self.queue.place_of(tsn)) {
+        match self.queue.get(self.queue.index_of(tsn)) {
             Some(piece) => piece.retransmit,
             None => false,
         }
@@ -95,20 +96,20 @@ impl Sender {
         timers: &mut TimerTable,
         rto: &mut RtoManager,
         streams: &mut Streams,
-        point: u32,
+        cumulative_tsn_ack: u32,
         window: u32,
         now: Instant,
     ) -> SackOutcome
         ensures older { (result ≡ SackOutcome.Older) → (self.new ≡ self.old) × (timers.new ≡ timers.old) × (rto.new ≡ rto.old) × (streams.new ≡ streams.old) }
         ensures unknown { (result ≡ SackOutcome.NotInFlight) → (self.new ≡ self.old) × (timers.new ≡ timers.old) × (rto.new ≡ rto.old) × (streams.new ≡ streams.old) }
-        ensures outcome { result ≡ sack_outcome self.old point }
-        ensures taken { (result ≡ SackOutcome.Taken) → acknowledged (points_to self.old point) now (with_window self.old window, rto.old, streams.old) ≡ (self.new, rto.new, streams.new) }
-        ensures timer { (result ≡ SackOutcome.Taken) → timers.new ≡ t3_after_sack (nat_lt 0 (points_to self.old point)) (length self.new.queue.in_flight) now rto.new.rto timers.old }
+        ensures outcome { result ≡ sack_outcome self.old cumulative_tsn_ack }
+        ensures taken { (result ≡ SackOutcome.Taken) → acknowledged (tsns_up_to self.old cumulative_tsn_ack) now (with_window self.old window, rto.old, streams.old) ≡ (self.new, rto.new, streams.new) }
+        ensures timer { (result ≡ SackOutcome.Taken) → timers.new ≡ t3_after_sack (nat_lt 0 (tsns_up_to self.old cumulative_tsn_ack)) (length self.new.queue.in_flight) now rto.new.rto timers.old }
     {
-        if sna32gt(self.acked_point(), point) {
+        if sna32gt(self.cumulative_tsn_ack_point(), cumulative_tsn_ack) {
             return SackOutcome::Older;
         }
-        let count = self.count_to(point);
+        let count = self.count_to(cumulative_tsn_ack);
         if count as usize > self.queue.inflight_len() {
             return SackOutcome::NotInFlight;
         }
@@ -134,17 +135,17 @@ impl Sender {
         }
     }
 
-    fn acked_point(&self) -> u32
-        ensures { result ≡ acked_point_of self.now }
+    fn cumulative_tsn_ack_point(&self) -> u32
+        ensures { result ≡ cumulative_tsn_ack_point_of self.now }
     {
         self.queue.first_tsn().wrapping_sub(1)
     }
 
     // How many TSNs a point acknowledges.
-    fn count_to(&self, point: u32) -> u32
-        ensures { result ≡ points_to self.now point }
+    fn count_to(&self, cumulative_tsn_ack: u32) -> u32
+        ensures { result ≡ tsns_up_to self.now cumulative_tsn_ack }
     {
-        point.wrapping_sub(self.acked_point())
+        cumulative_tsn_ack.wrapping_sub(self.cumulative_tsn_ack_point())
     }
 
     // The first `count` pieces in flight came, one after another.
@@ -236,8 +237,8 @@ impl Sender {
         ensures grows { OnErr result (nat_lt 0 (length (resent_chunks self.old.queue.first_tsn 0 room self.old.queue.in_flight)) ≡ true) }
     {
         let mut left = room;
-        for place in 0..self.queue.inflight_len() {
-            match self.resend(place, left, out)? {
+        for index in 0..self.queue.inflight_len() {
+            match self.resend(index, left, out)? {
                 Some(rest) => left = rest,
                 None => return Ok(()),
             }
@@ -249,14 +250,14 @@ impl Sender {
     // not fit.
     fn resend(
         &mut self,
-        place: usize,
+        index: usize,
         room: u64,
         out: &mut Vec<ChunkPayloadData>,
     ) -> Result<Option<u64>, AllocError>
-        ensures exact { IfOk result (λ rest. tried_again (slice_get self.old.queue.in_flight place) self.old place room out.old.items ≡ (self.new, out.new.items, rest)) }
-        ensures grows { OnErr result (goes_again (slice_get self.old.queue.in_flight place) room ≡ true) }
+        ensures exact { IfOk result (λ rest. tried_again (slice_get self.old.queue.in_flight index) self.old index room out.old.items ≡ (self.new, out.new.items, rest)) }
+        ensures grows { OnErr result (goes_again (slice_get self.old.queue.in_flight index) room ≡ true) }
     {
-        let Some(piece) = self.queue.get(place) else {
+        let Some(piece) = self.queue.get(index) else {
             return Ok(None);
         };
         if !piece.retransmit {
@@ -266,9 +267,9 @@ impl Sender {
         if length > room {
             return Ok(None);
         }
-        let chunk = sent_chunk(piece, self.queue.tsn_at(place))?;
+        let chunk = sent_chunk(piece, self.queue.tsn_at(index))?;
         out.push(chunk)?;
-        self.queue.resend(place);
+        self.queue.resend(index);
         Ok(Some(room - length))
     }
 

@@ -57,16 +57,16 @@ popped_from (p ∷ ps) q e =
 pub popped_bytes : (q : Outbound) → bytes_in (without_first q) + bytes_of_piece (slice_get q.in_flight 0) ≡ bytes_in q
 popped_bytes q = popped_from q.in_flight q refl
 
-acked_from : (o : Option InFlight) (q : Outbound) (place : ℕ) → slice_get q.in_flight place ≡ o → outstanding_of (changed_from acked o q place).in_flight + bytes_of_piece o ≡ outstanding_of q.in_flight
-acked_from None q place e = omega arith
-acked_from (Some p) q place e =
+acked_from : (o : Option InFlight) (q : Outbound) (index : ℕ) → slice_get q.in_flight index ≡ o → outstanding_of (changed_from acked o q index).in_flight + bytes_of_piece o ≡ outstanding_of q.in_flight
+acked_from None q index e = omega arith
+acked_from (Some p) q index e =
     let none : outstanding_bytes (acked p) ≡ 0 = refl in
-    let sum = sum_set outstanding_bytes q.in_flight place p (acked p) e in
+    let sum = sum_set outstanding_bytes q.in_flight index p (acked p) e in
     omega (arith, none, sum)
 
-pending_stays : (o : Option InFlight) (q : Outbound) (place : ℕ) → (changed_from acked o q place).pending ≡ q.pending
-pending_stays None q place = refl
-pending_stays (Some p) q place = refl
+pending_stays : (o : Option InFlight) (q : Outbound) (index : ℕ) → (changed_from acked o q index).pending ≡ q.pending
+pending_stays None q index = refl
+pending_stays (Some p) q index = refl
 
 pub acked_bytes : (q : Outbound) (tsn : ℕ) → bytes_in (acked_at q tsn).0 + (acked_at q tsn).1 ≡ bytes_in q
 acked_bytes q tsn =

@@ -144,8 +144,8 @@ expiry_is now q ms d b w o kept found left bytes =
     let same = (dropped_bytes now q.pending q.in_flight w o b d kept found bytes).0 in
     rw (left, same, ← found)
 
-pub abandoned_is : (q q1 q2 : Outbound) (tsn place : ℕ) (p : InFlight) (sent tail : ℕ) → place ≡ tsn_past q.first_tsn tsn → Some p ≡ slice_get q.in_flight place → sent ≡ outstanding_of_message p.message.message_id q.in_flight → tail_dropped q p.message.message_id ≡ (q1, tail) → q2 ≡ all_flagged p.message.message_id q1 → abandoned_at q tsn ≡ (q2, Some (released p.message (sent + tail)))
-abandoned_is q q1 q2 tsn place p sent tail there here bytes dropped flags =
+pub abandoned_is : (q q1 q2 : Outbound) (tsn index : ℕ) (p : InFlight) (sent tail : ℕ) → index ≡ tsn_past q.first_tsn tsn → Some p ≡ slice_get q.in_flight index → sent ≡ outstanding_of_message p.message.message_id q.in_flight → tail_dropped q p.message.message_id ≡ (q1, tail) → q2 ≡ all_flagged p.message.message_id q1 → abandoned_at q tsn ≡ (q2, Some (released p.message (sent + tail)))
+abandoned_is q q1 q2 tsn index p sent tail there here bytes dropped flags =
     let a : (tail_dropped q p.message.message_id).0 ≡ q1 = ap (λ (z : Outbound × ℕ). z.0) dropped in
     let b : (tail_dropped q p.message.message_id).1 ≡ tail = ap (λ (z : Outbound × ℕ). z.1) dropped in
     rw (← there, ← here, flags, bytes, ← a, ← b)

@@ -2,8 +2,8 @@
 use Rattle.std.specs.Prelude.{ℕ, Bool, true, false, not, [], ◌+◌, ◌-◌, ◌*◌, ◌%◌, ◌^◌, ◌==◌, ◌&&◌, if◌then◌else◌, length, drop, min, sum_by, nat_le, nat_lt, slice_index_or, Option, Some, None}
 use Rattle.sctp_outbound_queue.specs.declared.message.Attributes.{Attributes}
 use Rattle.sctp_outbound_queue.specs.declared.message.InFlight.{InFlight}
-use Rattle.sctp_outbound_queue.specs.declared.message.Policy.{Policy}
-use Rattle.sctp_outbound_queue.specs.declared.message.Policy.TheVariants.{Reliable, Rexmit, Timed}
+use Rattle.sctp_wire_types.specs.declared.reliability.Policy.{Policy}
+use Rattle.sctp_wire_types.specs.declared.reliability.Policy.TheVariants.{Reliable, Rexmit, Timed}
 use Rattle.sctp_outbound_queue.specs.Waiting.{Waiting}
 
 -- the bytes of a message that still wait to be sent

@@ -40,7 +40,7 @@ empty_outbound tsn = record { pending = []; in_flight = []; first_tsn = tsn; nex
 
 -- the TSN that is so many past the first one
 abbrev pub tsn_at : ℕ → ℕ → ℕ
-tsn_at first place = (first + place) % 2 ^ 32
+tsn_at first index = (first + index) % 2 ^ 32
 
 -- the TSN that the next piece gets
 abbrev pub next_tsn_of : Outbound → ℕ
@@ -88,12 +88,12 @@ abbrev pub without_first : Outbound → Outbound
 without_first q = without_first_of q.in_flight q
 
 abbrev pub changed_from : (InFlight → InFlight) → Option InFlight → Outbound → ℕ → Outbound
-changed_from change None q place = q
-changed_from change (Some p) q place = record q { in_flight = slice_set q.in_flight place (change p) }
+changed_from change None q index = q
+changed_from change (Some p) q index = record q { in_flight = slice_set q.in_flight index (change p) }
 
 -- the piece at a place, if there is one, was changed
 abbrev pub changed_at : (InFlight → InFlight) → Outbound → ℕ → Outbound
-changed_at change q place = changed_from change (slice_get q.in_flight place) q place
+changed_at change q index = changed_from change (slice_get q.in_flight index) q index
 
 abbrev pub bytes_of_piece : Option InFlight → ℕ
 bytes_of_piece None = 0

@@ -3,21 +3,10 @@ ghost use Rattle.std.specs.Prelude.{◌≡◌, ◌==◌, ◌+◌, ◌-◌, ◌^�
 ghost use Rattle.sctp_outbound_queue.specs.Message.{message_bytes, piece_count, accepted, sent_once, without_piece, marker_of, is_of, is_of_stream, is_waiting_of_stream, is_outstanding, outstanding_bytes, outstanding_bytes_of, acked, marked_again, counted_again, counted_fast, missed, flagged, deadline_under, started, waiting_started, sent_started, is_expired, is_expired_piece, is_expired_unsent, share_ssns, moved_down};
 
 use bytes::Bytes;
-use sctp_wire_types::{Instant, PayloadProtocolIdentifier, StreamId};
+use sctp_wire_types::{Instant, PayloadProtocolIdentifier, Policy, StreamId};
 use std::collections::VecDeque;
 use std::marker::Model;
 use std::mem;
-
-/// How long a message is kept for sending (RFC 3758 section 3.5).
-#[derive(Clone, Copy, Debug)]
-pub enum Policy {
-    /// Until it is acknowledged.
-    Reliable,
-    /// For this number of retransmissions.
-    Rexmit(u32),
-    /// For this time, in ms.
-    Timed(u32),
-}
 
 /// What the pieces of a message have in common.
 #[derive(Clone, Copy, Debug)]

@@ -159,15 +159,15 @@ impl OutboundQueue {
     }
 
     /// The TSN that is `place` past the first one.
-    pub fn tsn_at(&self, place: usize) -> u32
-        ensures { result ≡ tsn_at self.now.first_tsn place }
+    pub fn tsn_at(&self, index: usize) -> u32
+        ensures { result ≡ tsn_at self.now.first_tsn index }
     {
-        let distance = (place as u64 % 0x1_0000_0000) as u32;
+        let distance = (index as u64 % 0x1_0000_0000) as u32;
         self.first_tsn.wrapping_add(distance)
     }
 
     /// How far a TSN is past the first one.
-    pub fn place_of(&self, tsn: u32) -> usize
+    pub fn index_of(&self, tsn: u32) -> usize
         ensures { result ≡ tsn_past self.now.first_tsn tsn }
     {
         tsn.wrapping_sub(self.first_tsn) as usize
@@ -189,10 +189,10 @@ impl OutboundQueue {
     }
 
     /// The piece in flight that is `place` TSNs past the first.
-    pub fn get(&self, place: usize) -> Option<&InFlight>
-        ensures { option_copied result ≡ slice_get self.now.in_flight place }
+    pub fn get(&self, index: usize) -> Option<&InFlight>
+        ensures { option_copied result ≡ slice_get self.now.in_flight index }
     {
-        self.in_flight.get(place)
+        self.in_flight.get(index)
     }
 
     /// Takes out the first piece in flight: it is acknowledged cumulatively.
@@ -210,8 +210,8 @@ impl OutboundQueue {
     pub fn mark_as_acked(&mut self, tsn: u32) -> u64
         ensures { acked_at self.old tsn ≡ (self.new, result) }
     {
-        let place = self.place_of(tsn);
-        match self.in_flight.get_mut(place) {
+        let index = self.index_of(tsn);
+        match self.in_flight.get_mut(index) {
             Some(piece) => {
                 let bytes = piece.outstanding_bytes();
                 piece.acknowledge();
@@ -230,28 +230,28 @@ impl OutboundQueue {
     }
 
     /// Takes the mark off a piece and counts a sending.
-    pub fn resend(&mut self, place: usize)
-        ensures { self.new ≡ changed_at counted_again self.old place }
+    pub fn resend(&mut self, index: usize)
+        ensures { self.new ≡ changed_at counted_again self.old index }
     {
-        if let Some(piece) = self.in_flight.get_mut(place) {
+        if let Some(piece) = self.in_flight.get_mut(index) {
             piece.resend();
         }
     }
 
     /// Counts a sending by fast retransmission, which leaves the mark (RFC 4960 section 7.2.4).
-    pub fn resend_fast(&mut self, place: usize)
-        ensures { self.new ≡ changed_at counted_fast self.old place }
+    pub fn resend_fast(&mut self, index: usize)
+        ensures { self.new ≡ changed_at counted_fast self.old index }
     {
-        if let Some(piece) = self.in_flight.get_mut(place) {
+        if let Some(piece) = self.in_flight.get_mut(index) {
             piece.resend_fast();
         }
     }
 
     /// Counts that a SACK reported a piece missing, up to 3 (RFC 4960 section 7.2.4).
-    pub fn count_miss(&mut self, place: usize)
-        ensures { self.new ≡ changed_at missed self.old place }
+    pub fn count_miss(&mut self, index: usize)
+        ensures { self.new ≡ changed_at missed self.old index }
     {
-        if let Some(piece) = self.in_flight.get_mut(place) {
+        if let Some(piece) = self.in_flight.get_mut(index) {
             piece.miss();
         }
     }
@@ -261,7 +261,7 @@ impl OutboundQueue {
         ensures { result ≡ first_tsn_that is_outstanding self.now }
     {
         match first_outstanding(&self.in_flight) {
-            Some(place) => Some(self.tsn_at(place)),
+            Some(index) => Some(self.tsn_at(index)),
             None => None,
         }
     }
@@ -279,7 +279,7 @@ impl OutboundQueue {
         ensures { result ≡ abandoned_in_front_of self.now.in_flight }
     {
         match first_not_abandoned(&self.in_flight) {
-            Some(place) => place,
+            Some(index) => index,
             None => self.inflight_len(),
         }
     }
@@ -288,7 +288,7 @@ impl OutboundQueue {
     pub fn is_abandoned(&self, tsn: u32) -> bool
         ensures { result ≡ is_abandoned_piece (piece_at self.now tsn) }
     {
-        match self.get(self.place_of(tsn)) {
+        match self.get(self.index_of(tsn)) {
             Some(piece) => piece.abandoned,
             None => false,
         }
@@ -303,7 +303,7 @@ impl OutboundQueue {
     {
         // a use of a field opens the invariant for the proof
         let _ = &self.pending;
-        let Some(piece) = self.get(self.place_of(tsn)) else {
+        let Some(piece) = self.get(self.index_of(tsn)) else {
             return Ok(None);
         };
         let message = piece.message;
@@ -363,7 +363,7 @@ impl OutboundQueue {
         ensures { result ≡ first_tsn_that (is_expired_piece now) self.now }
     {
         match first_expired_piece(&self.in_flight, now) {
-            Some(place) => Some(self.tsn_at(place)),
+            Some(index) => Some(self.tsn_at(index)),
             None => None,
         }
     }

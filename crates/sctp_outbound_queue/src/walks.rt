@@ -98,9 +98,9 @@ pub(crate) fn drop_expired(
     ensures left { messages.new.items ≡ without_expired now messages.old.items }
 {
     match first_expired(messages, now) {
-        Some(place) => {
-            let dropped = messages.remove(place)?;
-            move_down_from(messages, place, &dropped);
+        Some(index) => {
+            let dropped = messages.remove(index)?;
+            move_down_from(messages, index, &dropped);
             Some(dropped)
         }
         None => None,
@@ -108,20 +108,20 @@ pub(crate) fn drop_expired(
 }
 
 fn first_expired(messages: &VecDeque<PendingMessage>, now: Instant) -> Option<usize>
-    ensures place { result ≡ position (is_expired_unsent now) messages.now.items }
-    ensures bound { IfSome result (λ place. place < length messages.now.items) }
+    ensures index { result ≡ position (is_expired_unsent now) messages.now.items }
+    ensures bound { IfSome result (λ index. index < length messages.now.items) }
 {
     messages
         .iter()
         .position(|message| message.is_expired_unsent(now))
 }
 
-fn move_down_from(messages: &mut VecDeque<PendingMessage>, place: usize, dropped: &PendingMessage)
-    requires { place ≤ length messages.old.items }
-    ensures { messages.new.items ≡ take place messages.old.items ++ map (moved_down dropped.now.message) (drop place messages.old.items) }
+fn move_down_from(messages: &mut VecDeque<PendingMessage>, index: usize, dropped: &PendingMessage)
+    requires { index ≤ length messages.old.items }
+    ensures { messages.new.items ≡ take index messages.old.items ++ map (moved_down dropped.now.message) (drop index messages.old.items) }
 {
     let later = messages.make_contiguous();
-    move_down(&mut later[place..], &dropped.message);
+    move_down(&mut later[index..], &dropped.message);
 }
 
 pub(crate) fn flag_all(pieces: &mut VecDeque<InFlight>, message_id: u64)

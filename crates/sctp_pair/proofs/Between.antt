@@ -28,7 +28,7 @@ pub record Goes (Brought : ℕ → Type 0) (w v : Direction) : Type 0 where
   pub taken : (o : ℕ) → mem o v.receiver.taken ≡ true → (mem o w.receiver.taken ≡ true) ⊎ Brought o
   pub datas : (k : ℕ) (d : Data) → slice_get w.datas k ≡ Some d → slice_get v.datas k ≡ Some d
   pub sacks : (k : ℕ) (x : Sack) → slice_get w.sacks k ≡ Some x → slice_get v.sacks k ≡ Some x
-  pub point_on : w.sender.point ≤ v.sender.point
+  pub reach_on : w.sender.reach ≤ v.sender.reach
 
 run_append : (es fs : List Event) (w : Direction) → run (es ++ fs) w ≡ run fs (run es w)
 run_append [] fs w = refl
@@ -44,7 +44,7 @@ goes_nowhere B w = record {
   taken = λ o m. inl m;
   datas = λ k d e. e;
   sacks = λ k x e. e;
-  point_on = omega arith;
+  reach_on = omega arith;
 }
 
 pub goes_on : (B : ℕ → Type 0) (w v u : Direction) → Goes B w v → Goes B v u → Goes B w u
@@ -57,7 +57,7 @@ goes_on B w v u g h = record {
   taken = λ o m. ⊎_elim (λ (n : mem o v.receiver.taken ≡ true). g.taken o n) (λ (b : B o). inr b) (h.taken o m);
   datas = λ k d e. h.datas k d (g.datas k d e);
   sacks = λ k x e. h.sacks k x (g.sacks k x e);
-  point_on = (let a = g.point_on in let b = h.point_on in omega arith);
+  reach_on = (let a = g.reach_on in let b = h.reach_on in omega arith);
 }
 
 -- one event at the sender that is no write
@@ -73,7 +73,7 @@ goes_by_sender B w e at none =
       taken = λ o m. inl (subst (λ (r : Receiver). mem o r.taken ≡ true) sent.0.receiver m);
       datas = sent.0.datas;
       sacks = λ k x g. subst (λ (ks : List Sack). slice_get ks k ≡ Some x) (sym sent.0.sacks) g;
-      point_on = sent.1;
+      reach_on = sent.1;
     }
 
 -- one event at the receiver that is no read
@@ -89,7 +89,7 @@ goes_by_receiver B w e at none brings =
       taken = λ o m. ⊎_elim (λ (n : mem o w.receiver.taken ≡ true). inl n) (λ (b : Brings w e o). inr (brings o b)) (only_what_is_brought_is_taken_in w e o at m);
       datas = λ k d g. subst (λ (ds : List Data). slice_get ds k ≡ Some d) (sym received.datas) g;
       sacks = received.sacks;
-      point_on = (let f = ap (λ (x : Sender). x.point) received.sender in omega arith);
+      reach_on = (let f = ap (λ (x : Sender). x.reach) received.sender in omega arith);
     }
 
 -- p is what the association's directions see of it, y is the other association
@@ -174,7 +174,7 @@ pub record Does (Added : ℕ → List Message) (Read : ℕ → Option letters.Me
   pub taken : (o : ℕ) → mem o v.receiver.taken ≡ true → (mem o w.receiver.taken ≡ true) ⊎ Brought o
   pub datas : (k : ℕ) (d : Data) → slice_get w.datas k ≡ Some d → slice_get v.datas k ≡ Some d
   pub sacks : (k : ℕ) (x : Sack) → slice_get w.sacks k ≡ Some x → slice_get v.sacks k ≡ Some x
-  pub point_on : w.sender.point ≤ v.sender.point
+  pub reach_on : w.sender.reach ≤ v.sender.reach
 
 abbrev pub nothing_added : ℕ → List Message
 nothing_added s = []
@@ -192,7 +192,7 @@ does_by_goes B w v g = record {
   taken = g.taken;
   datas = g.datas;
   sacks = g.sacks;
-  point_on = g.point_on;
+  reach_on = g.reach_on;
 }
 
 -- One association's call leads from its directions `out` and `coming`, and its stage `here`, to others, between which it stands then;

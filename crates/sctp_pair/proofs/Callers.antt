@@ -5,8 +5,8 @@ use Rattle.std.proofs.lemmas.List.{append-nil, append_assoc, map-append}
 use Rattle.std.specs.List.{AllByRecursion}
 use Rattle.sctp_wire.specs.declared.packet.Packet.{Packet}
 use Rattle.sctp_receive_queues.specs.Messages as letters
-use Rattle.sctp_queues.specs.Stream.{Stream}
-use Rattle.sctp_queues.specs.Streams.{stream_at}
+use Rattle.sctp_streams.specs.Stream.{StreamView}
+use Rattle.sctp_streams.specs.Streams.{stream_at}
 use Rattle.sctp_model.specs.Messages.{Message, message_at}
 use Rattle.sctp_model.specs.Packets.{mem}
 use Rattle.sctp_model.specs.Machine.{Direction}
@@ -62,7 +62,7 @@ wrote_live : (a b : Shown) (id count : ℕ) (bytes : List ℕ) → Writes a id b
     → bytes_accepted (messages_on (stream_at a.streams id) bytes) ≡ bytes ∷ []
 wrote_live a b id count bytes h =
     let can = accepted_writes_fit a id (length bytes) (first_none _ _ h.0) in
-    ap (λ (o : Option Stream). bytes_accepted (messages_on o bytes)) can.live.there
+    ap (λ (o : Option StreamView). bytes_accepted (messages_on o bytes)) can.live.there
 
 wrote_if : (c : Bool) (ms : List Message) (bytes : List ℕ) → bytes_accepted ms ≡ bytes ∷ [] → bytes_accepted (if c then ms else []) ≡ (if c then bytes ∷ [] else [])
 wrote_if true ms bytes e = e
@@ -81,7 +81,7 @@ told_written : (a : Step) (r : Reply) (x : Side2) (s : ℕ) (w : World) (q : End
 told_written (steps.Write side id bytes) (replies.Wrote count) x s w q h = told_written_at side x id count s bytes w q h
 told_written a r x s w q h = refl
 
-kept_on : (c : Bool) (o : Option Stream) (bytes : List ℕ) → AllByRecursion IsKept (if c then messages_on o bytes else [])
+kept_on : (c : Bool) (o : Option StreamView) (bytes : List ℕ) → AllByRecursion IsKept (if c then messages_on o bytes else [])
 kept_on false o bytes = tt
 kept_on true None bytes = tt
 kept_on true (Some t) bytes = (record { ordered = refl; reliable = refl }, tt)

@@ -137,8 +137,8 @@ sack_shape : (own peer t : ℕ) (a : Shown) (h : History) (y : Shown) (out comin
 sack_shape own peer t a h y out coming acts (inl n) made within holds =
     subst (Goes_out own peer a h y out coming) (sym n) (record { out2 = out; goes = goes_nowhere None_brought out; holds = holds; said = tt }, within, refl)
 sack_shape own peer t a h y out coming acts (inr s) (k, x, e, is) within holds =
-    let named : t ≡ tsn_before (tsn h.own x.point) = is ∙ ap (λ i. tsn_before (tsn i x.point)) (sym holds.own_is) in
-    let at : x.point ≡ out.sender.point + s.count =
+    let named : t ≡ tsn_before (tsn h.own x.reach) = is ∙ ap (λ i. tsn_before (tsn i x.reach)) (sym holds.own_is) in
+    let at : x.reach ≡ out.sender.reach + s.count =
     sacks_mean_the_same (parts a h) s.count t k x out e named s.at s.within within holds.sound_out.invariant holds.sound_out.plain holds.between.outgoing in
     let one = act_acknowledged own peer s.count k x (parts a h) y out coming holds e at s.within in
     subst (Goes_out own peer a h y out coming) (sym s.are) (one.0, one.1 within, one.2)

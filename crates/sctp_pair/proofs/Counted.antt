@@ -3,8 +3,8 @@ use Rattle.std.proofs.Common.{◌≡◌, sym, ap, ◌∙◌, subst, ℕ, ◌+◌
 use Rattle.std.proofs.lemmas.Bool.{ne_eqb}
 use Rattle.std.proofs.lemmas.List.{append-nil}
 use Rattle.std.proofs.lemmas.List.Sums.{sum_by-append, sum_by-cons}
-use Rattle.sctp_queues.specs.Stream.{Stream}
-use Rattle.sctp_queues.specs.Streams.{stream_at}
+use Rattle.sctp_streams.specs.Stream.{StreamView}
+use Rattle.sctp_streams.specs.Streams.{stream_at}
 use Rattle.sctp_model.specs.Messages.{Message}
 use Rattle.sctp_model.specs.Machine.{Direction}
 use Rattle.sctp_directions.specs.Counted.{HasAccepted, all_pieces, pieces_in}
@@ -33,7 +33,7 @@ none_counted n before after size same a =
     accepted_messages_are_counted n 0 0 before after size (λ s ne. stays s)
     (let e = ap (λ (ms : List Message). all_pieces before.sender.plan.size ms) (stays 0) in omega (arith, e)) a
 
-one_message : (size : ℕ) (o : Option Stream) (bytes : List ℕ) → all_pieces size (messages_on o bytes) ≤ pieces_in size (length bytes)
+one_message : (size : ℕ) (o : Option StreamView) (bytes : List ℕ) → all_pieces size (messages_on o bytes) ≤ pieces_in size (length bytes)
 one_message size None bytes = omega arith
 one_message size (Some t) bytes =
     let e = sum_by-cons (λ (m : Message). pieces_in size (length m.bytes)) (message_on t bytes) [] in omega (arith, e)

@@ -51,18 +51,18 @@ act_sent own peer now p y out coming h can =
     act_at_sender own peer (Act.Sent now) e (data_given (Act.Sent now) p) p y out coming h tt tt tt (λ n. n) begun.1.plain begun.1.fits
     (subst (λ o. AllByRecursion (IsGiven o (happens out e)) (data_given (Act.Sent now) p)) h.own_is begun.1.given)
 
-act_sent_again : (own peer place : ℕ) (p : Parts) (y : Shown) (out coming : Direction) → Holds own peer p y out coming → Can (Act.SentAgain place) p
-    → AfterOut own peer (done (Act.SentAgain place) p) y out coming (data_given (Act.SentAgain place) p)
-act_sent_again own peer place p y out coming h can =
-    let resent = pieces_given p place out can h.sound_out.plain h.between.outgoing in
-    let e : Event = Event.Resend (out.sender.point + place) in
-    act_at_sender own peer (Act.SentAgain place) e (data_given (Act.SentAgain place) p) p y out coming h tt tt tt (λ n. n)
+act_sent_again : (own peer index : ℕ) (p : Parts) (y : Shown) (out coming : Direction) → Holds own peer p y out coming → Can (Act.SentAgain index) p
+    → AfterOut own peer (done (Act.SentAgain index) p) y out coming (data_given (Act.SentAgain index) p)
+act_sent_again own peer index p y out coming h can =
+    let resent = pieces_given p index out can h.sound_out.plain h.between.outgoing in
+    let e : Event = Event.Resend (out.sender.reach + index) in
+    act_at_sender own peer (Act.SentAgain index) e (data_given (Act.SentAgain index) p) p y out coming h tt tt tt (λ n. n)
     (plain_events_keep_it_plain out e tt h.sound_out.plain) resent.0
-    (subst (λ o. AllByRecursion (IsGiven o (happens out e)) (data_given (Act.SentAgain place) p)) h.own_is resent.1)
+    (subst (λ o. AllByRecursion (IsGiven o (happens out e)) (data_given (Act.SentAgain index) p)) h.own_is resent.1)
 
 -- a SACK that acknowledges the first n pieces in flight
 pub act_acknowledged : (own peer n k : ℕ) (x : Sack) (p : Parts) (y : Shown) (out coming : Direction) → Holds own peer p y out coming
-    → slice_get out.sacks k ≡ Some x → x.point ≡ out.sender.point + n → Can (Act.Acknowledged n) p
+    → slice_get out.sacks k ≡ Some x → x.reach ≡ out.sender.reach + n → Can (Act.Acknowledged n) p
     → (after : AfterOut own peer (done (Act.Acknowledged n) p) y out coming []) × (IsWithin out → IsWithin after.out2)
     × (after.out2.sender.plan.places ≡ out.sender.plan.places)
 unfolding act_at_sender
@@ -79,9 +79,9 @@ given_grows own w v ds g h = all_weaker (IsGiven own w) (IsGiven own v) ds (λ c
 
 one_given : (own peer : ℕ) (x : Act) (p : Parts) (y : Shown) (out coming : Direction) → GivesData x → Can x p → Holds own peer p y out coming
     → AfterOut own peer (done x p) y out coming (data_given x p)
-one_given own peer (Act.Met t) p y out coming g can h = absurd g
+one_given own peer (Act.PeerKnown t) p y out coming g can h = absurd g
 one_given own peer (Act.Sent now) p y out coming g can h = act_sent own peer now p y out coming h can
-one_given own peer (Act.SentAgain place) p y out coming g can h = act_sent_again own peer place p y out coming h can
+one_given own peer (Act.SentAgain index) p y out coming g can h = act_sent_again own peer index p y out coming h can
 one_given own peer (Act.Opened id first kind) p y out coming g can h = absurd g
 one_given own peer (Act.Wrote id bytes) p y out coming g can h = absurd g
 one_given own peer Act.Marked p y out coming g can h = absurd g

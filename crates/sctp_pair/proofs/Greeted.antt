@@ -31,7 +31,7 @@ learnt own peer y out coming B acts a b k u is (inl (none, same)) =
     }
 learnt {here} {there} own peer y out coming B acts a b k u is (inr (met, deaf)) =
     let p : Parts = parts a u.stands.past in
-    let left : parts b k ≡ done_all (Act.Met peer ∷ []) (parts a u.stands.past) = is ∙ ap (λ (xs : List Act). done_all xs (parts a u.stands.past)) met in
+    let left : parts b k ≡ done_all (Act.PeerKnown peer ∷ []) (parts a u.stands.past) = is ∙ ap (λ (xs : List Act). done_all xs (parts a u.stands.past)) met in
     let never : there.completed ≡ false = ⊎_elim
     (λ (t : there.completed ≡ true). absurd (deaf (u.meets.hears t)))
     (λ (f : there.completed ≡ false). f)

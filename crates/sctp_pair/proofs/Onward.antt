@@ -4,7 +4,7 @@ use Rattle.std.specs.Prelude.{slice_get}
 use Rattle.sctp_model.specs.Messages.{Place, as_kept}
 use Rattle.sctp_model.specs.Packets.{Data, Forward, Sack, data_at}
 use Rattle.sctp_model.specs.Reassembly.{Queue, Taken, next}
-use Rattle.sctp_model.specs.Machine.{Direction, Event, abandoned, acknowledged_by, begin, begin_if, can_abandon, can_begin, can_drop, can_pass_over, can_resend, can_restart, data_comes, dropped, forward_comes, forward_of, go_on, gone_front, happens, is_empty, is_new, number_for, passed_over, passes, point, put, read, run, sack_comes, took, was_read, written}
+use Rattle.sctp_model.specs.Machine.{Direction, Event, abandoned, acknowledged_by, begin, begin_if, can_abandon, can_begin, can_drop, can_pass_over, can_resend, can_restart, data_comes, dropped, forward_comes, forward_of, go_on, gone_front, happens, is_empty, is_new, number_for, passed_over, passes, reach, put, read, run, sack_comes, took, was_read, written}
 
 pub record IsOnward (w v : Direction) : Type 0 where
   pub over : (s : ℕ) → w.over s ≡ true → v.over s ≡ true
@@ -33,7 +33,7 @@ goes w (Some y) = record { over = λ t o. o; closed = λ c. c }
 
 acknowledges : (w : Direction) (x : Option Sack) → IsOnward w (sack_comes w x)
 acknowledges w None = stays w
-acknowledges w (Some k) = where_it_cannot (ltb k.point w.sender.point) w (record w { sender = acknowledged_by w.sender k }) record { over = λ t o. o; closed = λ c. c }
+acknowledges w (Some k) = where_it_cannot (ltb k.reach w.sender.reach) w (record w { sender = acknowledged_by w.sender k }) record { over = λ t o. o; closed = λ c. c }
 
 takes : (w : Direction) (x : Option Data) → IsOnward w (data_comes w x)
 takes w None = stays w
@@ -41,7 +41,7 @@ takes w (Some d) = where_it_can (w.receiver.is_open && is_new w.receiver d.offse
 
 skips : (w : Direction) (x : Option Forward) → IsOnward w (forward_comes w x)
 skips w None = stays w
-skips w (Some f) = where_it_can (w.receiver.is_open && ltb (point w.receiver) f.point) w (passes w f) record { over = λ t o. o; closed = λ c. c }
+skips w (Some f) = where_it_can (w.receiver.is_open && ltb (reach w.receiver) f.reach) w (passes w f) record { over = λ t o. o; closed = λ c. c }
 
 gives : (w : Direction) (s : ℕ) (t : Option Taken) → IsOnward w (was_read w s t)
 gives w s None = stays w

@@ -190,7 +190,7 @@ brings_more own peer b y out coming B s = record {
     taken = λ o m. ⊎_elim (λ (n : mem o coming.receiver.taken ≡ true). inl n) (λ (n : ⊥). absurd n) (s.does_coming.taken o m);
     datas = s.does_coming.datas;
     sacks = s.does_coming.sacks;
-    point_on = s.does_coming.point_on;
+    reach_on = s.does_coming.reach_on;
   };
   sound_out = s.sound_out;
   sound_coming = s.sound_coming;

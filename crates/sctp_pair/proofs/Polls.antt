@@ -37,7 +37,7 @@ can_front (x ∷ xs) ys p (c, cs) = (c, can_front xs ys _ cs)
 -- What a poll with these acts gives is what its directions have.
 
 exchanged_said : (own peer : ℕ) (acts : List Act) (a : Shown) (h : History) (out coming : Direction) → AllByRecursion (IsGiven own out) (all_data_given acts (parts a h))
-    → (reports a ≡ true → IsMade peer coming (tsn_before (tsn h.peer h.point))) → (c : Chunk) → IsExchanged acts a h c → Says own peer out coming c
+    → (reports a ≡ true → IsMade peer coming (tsn_before (tsn h.peer h.reach))) → (c : Chunk) → IsExchanged acts a h c → Says own peer out coming c
 exchanged_said own peer acts a h out coming given made (chunks.Data piece) (k, e) = all_get (IsGiven own out) (all_data_given acts (parts a h)) k piece e given
 exchanged_said own peer acts a h out coming given made (chunks.SelectiveAck sack) (due, says) = subst (IsMade peer coming) (sym says.at) (made due)
 exchanged_said own peer acts a h out coming given made (chunks.Init x) n = absurd n
@@ -63,7 +63,7 @@ waiting_said own peer a s out coming at t c (k, w, e, is) =
     (all_get (λ (x : ControlPacket). Greets own (stage_of a) x.chunk) a.control k w e t.says)))
 
 chunk_said : (own peer : ℕ) (acts : List Act) (a : Shown) (h : History) (s : Stage) (out coming : Direction) → stage_of a ≡ s → IsTruthful own a
-    → AllByRecursion (IsGiven own out) (all_data_given acts (parts a h)) → (reports a ≡ true → IsMade peer coming (tsn_before (tsn h.peer h.point)))
+    → AllByRecursion (IsGiven own out) (all_data_given acts (parts a h)) → (reports a ≡ true → IsMade peer coming (tsn_before (tsn h.peer h.reach)))
     → (c : Chunk) → IsGivenBy acts a h c → IsSaidBy own peer s out coming c
 chunk_said own peer acts a h s out coming at t given made c (inl w) = waiting_said own peer a s out coming at t c w
 chunk_said own peer acts a h s out coming at t given made c (inr e) = inl (exchanged_said own peer acts a h out coming given made c e)
@@ -76,7 +76,7 @@ each_chunk Is Says (Some packet) f said = all_weaker Is Says packet.chunks f sai
 -- The report of a poll.
 
 report_if : (due : Bool) (own peer : ℕ) (p : Parts) (y : Shown) (out coming : Direction) → p.history.peer ≡ peer → IsWithin coming → Holds own peer p y out coming
-    → (after : AfterComing own peer p y out coming None_brought) × (due ≡ true → IsMade peer after.coming2 (tsn_before (tsn peer p.history.point)))
+    → (after : AfterComing own peer p y out coming None_brought) × (due ≡ true → IsMade peer after.coming2 (tsn_before (tsn peer p.history.reach)))
 report_if false own peer p y out coming known within h = (coming_nowhere own peer p y out coming None_brought within h, λ due. absurd (false≢true due))
 report_if true own peer p y out coming known within h =
     let report = act_reported own peer p y out coming None_brought h known within in (report.after, λ due. report.said)
@@ -115,8 +115,8 @@ open_polls {here} own peer acts a b y packets out coming f s established again s
     let there : parts b h ≡ done_all ds p =
     poll.leads.there ∙ ap (λ zs. done_all zs p) polling.are ∙ done_append ds ks p ∙ report_does_nothing (reports a) (done_all ds p) in
     let past_is : h ≡ (done_all ds p).history = ap (λ (z : Parts). z.history) there in
-    let at : tsn_before (tsn peer (done_all ds p).history.point) ≡ tsn_before (tsn h.peer h.point) =
-    ap (λ (z : History). tsn_before (tsn peer z.point)) (sym past_is) ∙ ap (λ n. tsn_before (tsn n h.point)) (sym known) in
+    let at : tsn_before (tsn peer (done_all ds p).history.reach) ≡ tsn_before (tsn h.peer h.reach) =
+    ap (λ (z : History). tsn_before (tsn peer z.reach)) (sym past_is) ∙ ap (λ n. tsn_before (tsn n h.reach)) (sym known) in
     let report = report_if (reports a) own peer (done_all ds p) y given.out2 coming (ap (λ (z : History). z.peer) (sym past_is) ∙ known) f.within_coming given.holds in
     let holds : Holds own peer (parts b h) y given.out2 report.0.coming2 = subst (λ z. Holds own peer z y given.out2 report.0.coming2) (sym there) report.0.holds in
     let data_is : all_data_given acts p ≡ all_data_given ds p =
@@ -193,7 +193,7 @@ open_without own peer a out coming same s = record {
   past = s.past;
   own_is = s.own_is;
   peer_is = s.peer_is;
-  binds = record { first = s.binds.first; point = s.binds.point; below = s.binds.below; above = s.binds.above; passed = s.binds.passed };
+  binds = record { first = s.binds.first; reach = s.binds.reach; below = s.binds.below; above = s.binds.above; passed = s.binds.passed };
   working = s.working;
   come = come_on a (without_control a) same s.come;
   present = s.present;

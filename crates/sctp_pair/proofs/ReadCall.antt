@@ -3,7 +3,7 @@ use Rattle.std.proofs.Common.{◌≡◌, refl, sym, ap, ◌∙◌, subst, ⊎_el
 use Rattle.std.specs.Prelude.{◌==◌, slice_get}
 use Rattle.std.proofs.lemmas.Bool.{cases_eq, cond-false, cond-true, eq-eqb, ne_eqb}
 use Rattle.std.proofs.lemmas.List.{append-nil}
-use Rattle.sctp_receive_queues.specs.Messages.{Message}
+use Rattle.sctp_receive_queues.specs.Messages.{ReceivedMessage}
 use Rattle.sctp_model.specs.Packets.{Data}
 use Rattle.sctp_model.specs.Reassembly.{Got}
 use Rattle.sctp_model.specs.Machine.{Direction, Event, happens}
@@ -25,23 +25,23 @@ use Rattle.sctp_pair.proofs.SimpleCalls.{by_working, closed_on, open_on, same_se
 use Rattle.sctp_pair.proofs.Stages.{at_same, stays_put}
 
 -- what a read with this reply gives on stream s
-abbrev pub read_by : Reply → ℕ → ℕ → Option Message
+abbrev pub read_by : Reply → ℕ → ℕ → Option ReceivedMessage
 read_by (replies.Read message) id s = if id == s then message else None
 read_by r id s = None
 
 -- An open association reads
 
 -- what was read on stream id, seen from stream s
-read_alone : (f g : ℕ → List Got) (id : ℕ) (message : Option Message) → IsReadAs message (f id) (g id) → ((s : ℕ) → eqb s id ≡ false → g s ≡ f s)
+read_alone : (f g : ℕ → List Got) (id : ℕ) (message : Option ReceivedMessage) → IsReadAs message (f id) (g id) → ((s : ℕ) → eqb s id ≡ false → g s ≡ f s)
     → (s : ℕ) → IsReadAs (if id == s then message else None) (f s) (g s)
 read_alone f g id message here others s = ⊎_elim
-    (λ (e : id ≡ s). subst (λ (z : Option Message). IsReadAs z (f s) (g s)) (sym (cond-true (eqb id s) message None (eq-eqb id s e)))
+    (λ (e : id ≡ s). subst (λ (z : Option ReceivedMessage). IsReadAs z (f s) (g s)) (sym (cond-true (eqb id s) message None (eq-eqb id s e)))
     (subst (λ z. IsReadAs message (f z) (g z)) e here))
-    (λ (ne : id ≡ s → ⊥). subst (λ (z : Option Message). IsReadAs z (f s) (g s)) (sym (cond-false (eqb id s) message None (ne_eqb id s ne)))
+    (λ (ne : id ≡ s → ⊥). subst (λ (z : Option ReceivedMessage). IsReadAs z (f s) (g s)) (sym (cond-false (eqb id s) message None (ne_eqb id s ne)))
     (others s (ne_eqb s id (λ c. ne (sym c)))))
     (cases_eq id s)
 
-read_does : (w : Direction) (id : ℕ) (message : Option Message) → IsReadAs message (w.reads id) ((happens w (Event.Read id)).reads id)
+read_does : (w : Direction) (id : ℕ) (message : Option ReceivedMessage) → IsReadAs message (w.reads id) ((happens w (Event.Read id)).reads id)
     → ((s : ℕ) → eqb s id ≡ false → (happens w (Event.Read id)).reads s ≡ w.reads s)
     → Does nothing_added (read_by (replies.Read message) id) None_brought w (happens w (Event.Read id))
 read_does w id message here others =
@@ -55,17 +55,17 @@ read_does w id message here others =
       taken = λ o m. only_what_is_brought_is_taken_in w (Event.Read id) o tt m;
       datas = λ k d e. subst (λ (ds : List Data). slice_get ds k ≡ Some d) (sym event.datas) e;
       sacks = event.sacks;
-      point_on = (let e = ap (λ x. x.point) event.sender in omega arith);
+      reach_on = (let e = ap (λ x. x.reach) event.sender in omega arith);
     }
 
-read_open : {here there : Stage} (own peer : ℕ) (a b y : Shown) (out coming : Direction) (id : ℕ) (message : Option Message) → IsLive a id
+read_open : {here there : Stage} (own peer : ℕ) (a b y : Shown) (out coming : Direction) (id : ℕ) (message : Option ReceivedMessage) → IsLive a id
     → read_from_stream a id ≡ (b, message) → Faces own peer here there a y out coming → StandsOpen own peer a out coming
     → Settles own peer here there b y out coming nothing_added (read_by (replies.Read message) id) None_brought
 read_open {here} own peer a b y out coming id message live e f s =
     let fits = reads_are_alike (parts a s.past) id live.stream coming live.there f.within_coming f.sound_coming.invariant f.sound_coming.plain s.between.incoming in
     let coming2 : Direction = happens coming (Event.Read id) in
     let m = read_leads_on a b id message e s.past s.binds in
-    let same : IsSameStatus a b = subst (IsSameStatus a) (ap (λ (x : Shown × Option Message). x.0) e) (reads_keep_the_status a id) in
+    let same : IsSameStatus a b = subst (IsSameStatus a) (ap (λ (x : Shown × Option ReceivedMessage). x.0) e) (reads_keep_the_status a id) in
     let received = receivers_events_are_received coming (Event.Read id) tt in
     record {
       out2 = out;
@@ -73,7 +73,7 @@ read_open {here} own peer a b y out coming id message live e f s =
       here2 = here;
       does_out = does_by_goes None_brought out out (goes_nowhere None_brought out);
       does_coming = read_does coming id message
-          (subst (λ (z : Option Message). IsReadAs z (coming.reads id) (coming2.reads id)) (ap (λ (x : Shown × Option Message). x.1) e) fits.1) fits.2;
+          (subst (λ (z : Option ReceivedMessage). IsReadAs z (coming.reads id) (coming2.reads id)) (ap (λ (x : Shown × Option ReceivedMessage). x.1) e) fits.1) fits.2;
       sound_out = f.sound_out;
       sound_coming = record {
         invariant = each_event_keeps_the_invariant coming (Event.Read id) f.within_coming f.sound_coming.invariant;
@@ -91,16 +91,16 @@ read_open {here} own peer a b y out coming id message live e f s =
 
 -- A closed association reads nothing
 
-read_closed : (own : ℕ) (a b : Shown) (coming : Direction) (id : ℕ) (message : Option Message) → IsLive a id → read_from_stream a id ≡ (b, message) → StandsClosed own a coming
+read_closed : (own : ℕ) (a b : Shown) (coming : Direction) (id : ℕ) (message : Option ReceivedMessage) → IsLive a id → read_from_stream a id ≡ (b, message) → StandsClosed own a coming
     → (message ≡ None) × IsSameStatus a b × StandsClosed own b coming
 read_closed own a b coming id message live e s =
     let nothing = what_holds_nothing_gives_nothing a id live s.nothing_left in
-    let left : (read_from_stream a id).0 ≡ b = ap (λ (x : Shown × Option Message). x.0) e in
+    let left : (read_from_stream a id).0 ≡ b = ap (λ (x : Shown × Option ReceivedMessage). x.0) e in
     let same : IsSameStatus a b = subst (IsSameStatus a) left (reads_keep_the_status a id) in
-    (sym (ap (λ (x : Shown × Option Message). x.1) e) ∙ nothing.0, same, closed_on own a b coming same (subst HoldsNothing left nothing.1) s)
+    (sym (ap (λ (x : Shown × Option ReceivedMessage). x.1) e) ∙ nothing.0, same, closed_on own a b coming same (subst HoldsNothing left nothing.1) s)
 
 -- a read that gave nothing
-none_read : {here there : Stage} (own peer : ℕ) (b y : Shown) (out coming : Direction) (id : ℕ) (message : Option Message) → message ≡ None
+none_read : {here there : Stage} (own peer : ℕ) (b y : Shown) (out coming : Direction) (id : ℕ) (message : Option ReceivedMessage) → message ≡ None
     → Settles own peer here there b y out coming nothing_added nothing_read None_brought
     → Settles own peer here there b y out coming nothing_added (read_by (replies.Read message) id) None_brought
 none_read own peer b y out coming id message e h =
@@ -115,11 +115,11 @@ none_read own peer b y out coming id message e h =
         is = d.is;
         accepted = d.accepted;
         size = d.size;
-        reads = read_alone coming.reads h.coming2.reads id message (subst (λ (z : Option Message). IsReadAs z (coming.reads id) (h.coming2.reads id)) (sym e) (d.reads id)) (λ s b. d.reads s);
+        reads = read_alone coming.reads h.coming2.reads id message (subst (λ (z : Option ReceivedMessage). IsReadAs z (coming.reads id) (h.coming2.reads id)) (sym e) (d.reads id)) (λ s b. d.reads s);
         taken = d.taken;
         datas = d.datas;
         sacks = d.sacks;
-        point_on = d.point_on;
+        reach_on = d.reach_on;
       };
       sound_out = h.sound_out;
       sound_coming = h.sound_coming;

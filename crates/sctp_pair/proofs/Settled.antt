@@ -81,7 +81,7 @@ direction_step step reply sender receiver w q initial before after Added Read Br
       (λ (n : mem o before.receiver.taken ≡ true). inl n)
       (λ (b : Brought o). inr (brings o b))
       (d.taken o m);
-  point_on = d.point_on;
+  reach_on = d.reach_on;
   no_more = no_more;
   size = d.size;
   span = λ s o. absurd (true≢false (sym o ∙ is.plain.span s));

@@ -210,7 +210,7 @@ opened_settles {here} {there} own peer a y out coming id kind e f =
     (opened_streams_hold_nothing a id kind free.1 s.nothing_left) s))))
     f.stands
 
--- A stream is opened at the application's wish: where the association is closed, it stays empty.
+-- A stream is opened at the application's trigger: where the association is closed, it stays empty.
 pub opens_settle : {here there : Stage} (own peer : ℕ) (a b y : Shown) (out coming : Direction) (id : ℕ) (kind : PayloadProtocolIdentifier) (r : Reply) → Opens a id kind r b
     → Faces own peer here there a y out coming → Settles own peer here there b y out coming nothing_added nothing_read None_brought
 opens_settle {here} {there} own peer a b y out coming id kind replies.Done h f =

@@ -8,8 +8,8 @@ use Rattle.sctp_model.specs.Serial.{tsn}
 use Rattle.sctp_model.specs.Machine.{Direction, Event, happens}
 use Rattle.sctp_model.specs.Safe.{IsWithin}
 use Rattle.sctp_model.proofs.Proved.{each_event_keeps_the_invariant}
-use Rattle.sctp_queues.specs.Stream.{Stream}
-use Rattle.sctp_queues.specs.Streams.{stream_at}
+use Rattle.sctp_streams.specs.Stream.{StreamView}
+use Rattle.sctp_streams.specs.Streams.{stream_at}
 use Rattle.sctp_assoc.specs.Acts.{Act, Can, Parts, done, tsn_before}
 use Rattle.sctp_assoc.specs.Shown.{Shown}
 use Rattle.sctp_directions.specs.Events.{Brings, GivesAMessage, IsAtReceiver, IsPlainEvent, KeepsWithin}
@@ -61,7 +61,7 @@ act_opened own peer id first kind p y out coming B h within none =
     let fits = opened_streams_are_alike p id first kind out coming none h.between.outgoing h.between.incoming in
     act_at_receiver own peer (Act.Opened id first kind) (Event.Open id) p y out coming B h tt within tt (λ n. n) tt tt (λ o n. absurd n) fits.0 fits.1
 
-pub act_took : (own peer k : ℕ) (piece : ChunkPayloadData) (d : Data) (t : Stream) (p : Parts) (y : Shown) (out coming : Direction) (B : ℕ → Type 0)
+pub act_took : (own peer k : ℕ) (piece : ChunkPayloadData) (d : Data) (t : StreamView) (p : Parts) (y : Shown) (out coming : Direction) (B : ℕ → Type 0)
     → Holds own peer p y out coming → p.history.peer ≡ peer → IsWithin coming → Can (Act.Took piece) p → slice_get coming.datas k ≡ Some d → IsSaid peer piece d
     → stream_at p.streams piece.stream_identifier ≡ Some t → B d.offset → AfterComing own peer (done (Act.Took piece) p) y out coming B
 act_took own peer k piece d t p y out coming B h known within can e said live brought =
@@ -74,10 +74,10 @@ act_took own peer k piece d t p y out coming B h known within can e said live br
         let same : c ≡ d = (let g : Some c ≡ Some d = sym found ∙ e in cc) in
         subst B (sym (at ∙ ap (λ (z : Data). z.offset) same)) brought
 
--- a SACK is made, whose point is that of what came
+-- a SACK is made, whose reach is that of what came
 pub record AfterReport (own peer : ℕ) (p : Parts) (y : Shown) (out coming : Direction) (B : ℕ → Type 0) : Type 0 where
   pub after : AfterComing own peer p y out coming B
-  pub said : IsMade peer after.coming2 (tsn_before (tsn peer p.history.point))
+  pub said : IsMade peer after.coming2 (tsn_before (tsn peer p.history.reach))
 
 pub act_reported : (own peer : ℕ) (p : Parts) (y : Shown) (out coming : Direction) (B : ℕ → Type 0) → Holds own peer p y out coming → p.history.peer ≡ peer → IsWithin coming
     → AfterReport own peer p y out coming B
@@ -86,5 +86,5 @@ act_reported own peer p y out coming B h known within =
     let report = reports_name_the_point p coming h.between.incoming in
     record {
       after = act_at_receiver own peer Act.Reported Event.SackMade p y out coming B h tt within tt (λ n. n) tt tt (λ o n. absurd n) h.between.outgoing report.0;
-      said = subst (λ (i : ℕ). IsMade i (happens coming Event.SackMade) (tsn_before (tsn i p.history.point))) known report.1;
+      said = subst (λ (i : ℕ). IsMade i (happens coming Event.SackMade) (tsn_before (tsn i p.history.reach))) known report.1;
     }

@@ -1,7 +1,7 @@
 -- An association tells its events and meets its timeouts: either leaves it between the same directions.
 use Rattle.std.proofs.Common.{◌≡◌, refl, sym, subst, ◌⊎◌, inl, inr, ℕ, false, List, [], ◌∷◌, Option}
 use Rattle.std.specs.List.{AllByRecursion}
-use Rattle.sctp_queues.specs.declared.event.Event.{Event}
+use Rattle.sctp_streams.specs.declared.event.Event.{Event}
 use Rattle.sctp_model.specs.Machine.{Direction}
 use Rattle.sctp_assoc.specs.Acts.{Act, Parts, done_all, parts}
 use Rattle.sctp_assoc.specs.Calls.{event_polled}

@@ -3,8 +3,8 @@ use Rattle.std.proofs.Common.{◌≡◌, refl, sym, ap, ◌∙◌, subst, inl, i
 use Rattle.std.specs.Prelude.{◌==◌, slice_get}
 use Rattle.std.proofs.lemmas.Bool.{true≢false}
 use Rattle.sctp_wire_types.specs.declared.error.Error.{Error}
-use Rattle.sctp_queues.specs.Stream.{Stream}
-use Rattle.sctp_queues.specs.Streams.{stream_at}
+use Rattle.sctp_streams.specs.Stream.{StreamView}
+use Rattle.sctp_streams.specs.Streams.{stream_at}
 use Rattle.sctp_model.specs.Messages.{Message}
 use Rattle.sctp_model.specs.Packets.{Sack, mem}
 use Rattle.sctp_model.specs.Machine.{Direction, Event, Receiver, happens}
@@ -36,7 +36,7 @@ pub first_none : (x y : Option Error) → first_refusal x y ≡ None → y ≡ N
 first_none None y e = e
 first_none (Some fault) y e = absurd (true≢false (ap is_some e))
 
-write_does : (a : Shown) (id n : ℕ) (bytes : List ℕ) (t : Stream) (w : Direction) → stream_at a.streams id ≡ Some t → IsSimple w.sender.plan.size (message_on t bytes)
+write_does : (a : Shown) (id n : ℕ) (bytes : List ℕ) (t : StreamView) (w : Direction) → stream_at a.streams id ≡ Some t → IsSimple w.sender.plan.size (message_on t bytes)
     → Does (written_by (replies.Wrote n) a id bytes) nothing_read None_brought w (happens w (Event.Write id (message_on t bytes)))
 write_does a id n bytes t w there simple =
     let sent = senders_events_are_sent w (Event.Write id (message_on t bytes)) tt in
@@ -50,14 +50,14 @@ write_does a id n bytes t w there simple =
       taken = λ o m. inl (subst (λ (r : Receiver). mem o r.taken ≡ true) sent.0.receiver m);
       datas = sent.0.datas;
       sacks = λ k x e. subst (λ (ks : List Sack). slice_get ks k ≡ Some x) (sym sent.0.sacks) e;
-      point_on = sent.1;
+      reach_on = sent.1;
     }
 
 written_settles : {here there : Stage} (own peer : ℕ) (a y : Shown) (out coming : Direction) (id n : ℕ) (bytes : List ℕ) → CanWrite a id (length bytes)
     → Faces own peer here there a y out coming → StandsOpen own peer a out coming
     → Settles own peer here there (written a id bytes) y out coming (written_by (replies.Wrote n) a id bytes) nothing_read None_brought
 written_settles {here} own peer a y out coming id n bytes can f s =
-    let t : Stream = can.live.stream in
+    let t : StreamView = can.live.stream in
     let there = can.live.there in
     let e : Event = Event.Write id (message_on t bytes) in
     let out2 : Direction = happens out e in

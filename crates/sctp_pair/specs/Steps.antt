@@ -142,8 +142,8 @@ Delivers a None now _ b = ⊥
 Delivers a (Some bytes) now reply b = TakesIn a bytes now reply b
 
 -- a question is answered and changes nothing
-abbrev pub Answers : Shown → Reply → Reply → Shown → Type 0
-Answers a answer reply b = (reply ≡ answer) × (b ≡ a)
+abbrev pub OnlyAnswers : Shown → Reply → Reply → Shown → Type 0
+OnlyAnswers a answer reply b = (reply ≡ answer) × (b ≡ a)
 
 -- Steps of a pair: p is what it was, q what it is then.
 
@@ -176,15 +176,15 @@ Steps (steps.Write side id bytes) p r q = AtSide side p (λ a b. Writes a id byt
 Steps (steps.Read side id) p r q = AtSide side p (λ a b. Reads a id r b) q
 Steps (steps.BufferedAmount side id) p r q = AtSide side p (λ a b. Buffers a id r b) q
 Steps (steps.Poll side) p r q = AtSide side p (λ a b. Tells a r b) q
-Steps (steps.PollTimeout side) p r q = AtSide side p (λ a b. Answers a (replies.Timeout (deadline_of a)) r b) q
+Steps (steps.PollTimeout side) p r q = AtSide side p (λ a b. OnlyAnswers a (replies.Timeout (deadline_of a)) r b) q
 Steps (steps.PollTransmit side now) p r q = SendsAt side p now r q
 Steps (steps.HandleTimeout side now) p r q = AtSide side p (λ a b. Expires a now r b) q
 Steps (steps.Deliver side number now) p r q = ComesTo side p number now r q
-Steps (steps.IsHandshaking side) p r q = AtSide side p (λ a b. Answers a (replies.State (not a.handshake.completed)) r b) q
-Steps (steps.IsClosed side) p r q = AtSide side p (λ a b. Answers a (replies.State (is_closed_state a.state)) r b) q
-Steps (steps.IsClosing side) p r q = AtSide side p (λ a b. Answers a (replies.State (has_begun_closing a)) r b) q
-Steps (steps.IsDrained side) p r q = AtSide side p (λ a b. Answers a (replies.State a.lost) r b) q
-Steps (steps.IsFailed side) p r q = AtSide side p (λ a b. Answers a (replies.State a.failed) r b) q
+Steps (steps.IsHandshaking side) p r q = AtSide side p (λ a b. OnlyAnswers a (replies.State (not a.handshake.completed)) r b) q
+Steps (steps.IsClosed side) p r q = AtSide side p (λ a b. OnlyAnswers a (replies.State (is_closed_state a.state)) r b) q
+Steps (steps.IsClosing side) p r q = AtSide side p (λ a b. OnlyAnswers a (replies.State (has_begun_closing a)) r b) q
+Steps (steps.IsDrained side) p r q = AtSide side p (λ a b. OnlyAnswers a (replies.State a.lost) r b) q
+Steps (steps.IsFailed side) p r q = AtSide side p (λ a b. OnlyAnswers a (replies.State a.failed) r b) q
 Steps (steps.Rtt side) p r q = AtSide side p (λ a b. Measures a r b) q
 
 -- the steps, with these replies, lead from p to q

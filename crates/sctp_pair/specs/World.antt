@@ -5,9 +5,9 @@ use Rattle.sctp_wire_types.specs.declared.chunk.ChunkForwardTsn.{ChunkForwardTsn
 use Rattle.sctp_wire_types.specs.declared.chunk.ChunkIForwardTsn.{ChunkIForwardTsn}
 use Rattle.sctp_wire_types.specs.declared.chunk.ChunkPayloadData.{ChunkPayloadData}
 use Rattle.sctp_wire.specs.declared.packet.Packet.{Packet}
-use Rattle.sctp_receive_queues.specs.Messages.{Message}
-use Rattle.sctp_queues.specs.Stream.{Stream}
-use Rattle.sctp_queues.specs.Streams.{stream_at}
+use Rattle.sctp_receive_queues.specs.Messages.{ReceivedMessage}
+use Rattle.sctp_streams.specs.Stream.{StreamView}
+use Rattle.sctp_streams.specs.Streams.{stream_at}
 use Rattle.sctp_model.specs.Messages as model
 use Rattle.sctp_model.specs.Messages.{accepted_bytes, is_reliable, message_at}
 use Rattle.sctp_model.specs.Packets.{mem}
@@ -18,7 +18,7 @@ use Rattle.sctp_model.specs.Safe.{IsSafe, IsWithin, letter_read}
 use Rattle.sctp_assoc.specs.Acts.{tsn_before}
 use Rattle.sctp_assoc.specs.Calls.{buffered_of, is_closed_state, ready_messages}
 use Rattle.sctp_assoc.specs.Shown.{Shown}
-use Rattle.sctp_directions.specs.Incoming.{IsReadAs, letter_of}
+use Rattle.sctp_directions.specs.Incoming.{IsReadAs, letter_received}
 use Rattle.sctp_directions.specs.Outgoing.{message_on}
 use Rattle.sctp_pair.specs.declared.step.Reply.{Reply}
 use Rattle.sctp_pair.specs.declared.step.Reply.TheVariants as replies
@@ -54,7 +54,7 @@ is_side sides.B sides.A = false
 is_side sides.B sides.B = true
 
 -- a message as it is accepted on a live stream
-abbrev pub messages_on : Option Stream → List ℕ → List model.Message
+abbrev pub messages_on : Option StreamView → List ℕ → List model.Message
 messages_on None bytes = []
 messages_on (Some t) bytes = message_on t bytes ∷ []
 
@@ -65,7 +65,7 @@ accepted_at (steps.Write side id bytes) (replies.Wrote count) x s w =
 accepted_at step reply x s w = []
 
 -- the message that a step's read answers at side x on stream s
-abbrev pub message_read : Step → Reply → Side2 → ℕ → Option Message
+abbrev pub message_read : Step → Reply → Side2 → ℕ → Option ReceivedMessage
 message_read (steps.Read side id) (replies.Read message) x s = if is_side side x && (id == s) then message else None
 message_read step reply x s = None
 
@@ -102,7 +102,7 @@ IsOpen a = (a.failed ≡ false) × (is_closed_state a.state ≡ false)
 
 -- What a step does to the direction from one side to the other, of this initial TSN: its write is accepted, its read gives the
 -- next message, and nothing is taken in but DATA of the packet that it delivers. Whatever else it does are events of the model; the
--- acknowledged point moves on alone, and a sender that isn't open afterwards assigned no offset. What a step may leave out of the
+-- acknowledged reach moves on alone, and a sender that isn't open afterwards assigned no offset. What a step may leave out of the
 -- promise is bounded, too: whose span ends, what is passed over or given up, and who stops receiving.
 pub record IsDirectionStep (step : Step) (reply : Reply) (sender receiver : Side2) (w : World) (q : Ends) (initial : ℕ) (before after : Direction) : Type 0 where
   pub events : List Event
@@ -111,7 +111,7 @@ pub record IsDirectionStep (step : Step) (reply : Reply) (sender receiver : Side
   pub read : (s : ℕ) → IsReadAs (message_read step reply receiver s) (before.reads s) (after.reads s)
   pub taken : (o : ℕ) → mem o after.receiver.taken ≡ true
       → (mem o before.receiver.taken ≡ true) ⊎ HasData (packet_brought step receiver w) (tsn initial o)
-  pub point_on : before.sender.point ≤ after.sender.point
+  pub reach_on : before.sender.reach ≤ after.sender.reach
   pub no_more : IsOpen (end_of sender q) ⊎ (after.sender.plan.places ≡ before.sender.plan.places)
   -- the payload size, by which messages are cut, stays
   pub size : after.sender.plan.size ≡ before.sender.plan.size
@@ -151,7 +151,7 @@ pub record IsPromised (sender receiver : Shown) (w : Direction) : Type 0 where
   pub safe : (s : ℕ) → w.over s ≡ false → IsSafe w s
   pub opens : IsOpen receiver → w.receiver.is_open ≡ true
   pub ready_is : IsOpen receiver → (s : ℕ) → w.over s ≡ false
-      → map letter_read (queue.ready (live (w.receiver.queues s))) ≡ map letter_of (ready_messages receiver s)
+      → map letter_read (queue.ready (live (w.receiver.queues s))) ≡ map letter_received (ready_messages receiver s)
   pub released_is : IsOpen sender → (s n : ℕ) → w.over s ≡ false → buffered_of sender s ≡ Ok n
       → n + w.sender.released s ≡ accepted_bytes w.sender.plan s
 

@@ -13,7 +13,7 @@ use sctp_assoc::{
     Association, AssociationEvent, Error, Instant, Payload, PayloadProtocolIdentifier, StreamId,
     Transmit,
 };
-use sctp_wire::PartialDecode;
+use sctp_wire_queues::PartialDecode;
 use std::alloc::AllocError;
 use std::net::SocketAddr;
 

@@ -11,7 +11,7 @@ use sctp_assoc::{
     Association, AssociationEvent, Error, Instant, Payload, StreamId, Transmit,
     what_is_written_is_held,
 };
-use sctp_wire::PartialDecode;
+use sctp_wire_queues::PartialDecode;
 use std::net::SocketAddr;
 
 /// Writes a message, gives out the packets that are due and then hands in a datagram, from wherever it came. A failed

@@ -1,4 +1,5 @@
 use Rattle.std.specs.Prelude.{◌≡◌, ℕ, ◌+◌, ◌-◌, ◌*◌, ◌^◌, ◌≤◌, min, nat_lt, nat_le, Bool, true, false, ◌&&◌, not, if◌then◌else◌, Option, Some, None, List, [], ◌∷◌, fold}
+use Rattle.sctp_parts.specs.declared.timer.Expiry.{Expiry}
 use Rattle.sctp_parts.specs.declared.timer.Timer.{Timer}
 use Rattle.sctp_parts.specs.declared.timer.Timer.TheVariants.{T1Init, T1Cookie, T2Shutdown, T3RTX, Reconfig, Ack}
 
@@ -158,10 +159,13 @@ abbrev pub passes : ℕ → Option ℕ → Bool
 passes retries None = false
 passes retries (Some limit) = nat_lt limit retries
 
--- what an expiry is answered with: whether the timer expired, whether the retry that was added passes the limit, and
--- the retries
-abbrev pub expiry_of : Timer → ℕ → Timers → Bool × Bool × ℕ
+-- what is seen of a timer at a moment: whether it expired, whether the retry that this added passes the limit, and the retries
+abbrev pub expiry_of : Timer → ℕ → Timers → Expiry
 expiry_of timer after t =
     let due = is_due (moment_of timer t) after in
     let retries = (timer_at timer (after_expiry timer after t)).retries in
-    (due, due && not (timer_at timer t).exempt && passes retries (limit_of timer t), retries)
+    record {
+      expired = due;
+      failed = due && not (timer_at timer t).exempt && passes retries (limit_of timer t);
+      retries = retries;
+    }

@@ -2,6 +2,7 @@
 //! timers with the estimate of the retransmission timeout.
 #![tactic(auto)]
 
+pub mod estimate;
 pub mod shared;
 pub mod state;
 pub mod stats;

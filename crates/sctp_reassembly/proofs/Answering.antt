@@ -2,7 +2,7 @@
 use Rattle.std.proofs.Common.{ℕ, ◌%◌, ◌^◌, ◌<◌, ◌≤◌, ◌≡◌, Bool, true, false, cond, not, eqb, ltb, leb, ◌&&◌, List, [], ◌∷◌, length, map, Option, Some, None, refl, sym, ap, ◌∙◌, subst, ⊎_elim, arith}
 use Rattle.std.proofs.lemmas.Bool.{cases_lt, lt-ltb, le-ltb, lt-leb, le-leb}
 use Rattle.sctp_wire_types.specs.Serial.{ssn_lte}
-use Rattle.sctp_receive_queues.specs.Messages.{Message, message_of as the_message}
+use Rattle.sctp_receive_queues.specs.Messages.{ReceivedMessage, message_of as the_message}
 use Rattle.sctp_receive_queues.specs.Pieces.{is_complete}
 use Rattle.sctp_receive_queues.specs.Reassembly.{Group, Reassembly, after_read, is_due, read_from, read_ordered}
 use Rattle.sctp_model.specs.Messages.{Plan, place_at}
@@ -14,7 +14,7 @@ use Rattle.sctp_model.specs.Invariants.{IsPlanned}
 use Rattle.sctp_model.proofs.Lists.{all_weaker, all_mem}
 use Rattle.sctp_model.proofs.Windows.{before_is, up_to_is}
 use Rattle.sctp_reassembly.specs.Laws.{ReadsAnswerAlike}
-use Rattle.sctp_reassembly.specs.Stands.{Held, IsGroup, AreGroups, AreSaid, offsets_in, numbers_in, letter_of, StandsFor, IsInWindow, IsAnsweredAlike}
+use Rattle.sctp_reassembly.specs.Stands.{Held, IsGroup, AreGroups, AreSaid, offsets_in, numbers_in, letter_received, StandsFor, IsInWindow, IsAnsweredAlike}
 use Rattle.sctp_reassembly.proofs.Kept.{IsAlone, first_alone, in_from, nothing_held, number_in, there_from}
 use Rattle.sctp_reassembly.proofs.Whole.{message_is, complete_is, letter_is}
 use Rattle.sctp_reassembly.proofs.Gathered.{is_rest}
@@ -52,8 +52,8 @@ first_due initial p came s low cursor r q g h w st i a =
     turned : (a b : ℕ) → ltb a b ≡ not (leb b a)
     turned a b = ⊎_elim (λ (l : a < b). lt-ltb a b l ∙ ap not (sym (lt-leb b a l))) (λ (g : b ≤ a). le-ltb a b g ∙ ap not (sym (le-leb b a g))) (cases_lt a b)
 
-decided : (initial : ℕ) (p : Plan) (s : ℕ) (q : Queue) (r after : Reassembly) (m : Message) (n : ℕ) (run : Run) (t c : Bool) → StandsFor initial p s r q
-    → (letter_of m ≡ letter_read (got_of run)) × StandsFor initial p s after (without q n)
+decided : (initial : ℕ) (p : Plan) (s : ℕ) (q : Queue) (r after : Reassembly) (m : ReceivedMessage) (n : ℕ) (run : Run) (t c : Bool) → StandsFor initial p s r q
+    → (letter_received m ≡ letter_read (got_of run)) × StandsFor initial p s after (without q n)
     → IsAnsweredAlike initial p s q (cond (t && c) (after, Some m) (r, None)) (cond (not t) None (taken_out q n (cond c (Some run) None)))
 decided initial p s q r after m n run true true st a = a
 decided initial p s q r after m n run true false st a = st
@@ -114,12 +114,12 @@ ordered_answered initial p over came s low cursor r q (g ∷ gs) (h ∷ hs) hp v
 pub read_alike : ReadsAnswerAlike
 read_alike initial p over came s low cursor r q hp v small w st = go r.complete q.complete refl refl st.complete
   where
-    go : (ms : List Message) (gots : List Got) → r.complete ≡ ms → q.complete ≡ gots → map letter_of ms ≡ map letter_read gots
+    go : (ms : List ReceivedMessage) (gots : List Got) → r.complete ≡ ms → q.complete ≡ gots → map letter_received ms ≡ map letter_read gots
         → IsAnsweredAlike initial p s q (read_from r ms) (next_from q gots)
     go [] [] e f l = ordered_answered initial p over came s low cursor r q r.ordered st.held hp v small w st st.groups st.ascends st.same refl
     go [] (x ∷ xs) e f l = absurd (cc)
     go (m ∷ ms) [] e f l = absurd (cc)
     go (m ∷ ms) (x ∷ xs) e f l = (
-      (let y : letter_of m ≡ letter_read x = cc in y),
-      record { held = st.held; groups = st.groups; ascends = st.ascends; same = st.same; next = st.next; waiting = st.waiting; complete = (let y : map letter_of ms ≡ map letter_read xs = cc in y) },
+      (let y : letter_received m ≡ letter_read x = cc in y),
+      record { held = st.held; groups = st.groups; ascends = st.ascends; same = st.same; next = st.next; waiting = st.waiting; complete = (let y : map letter_received ms ≡ map letter_read xs = cc in y) },
     )

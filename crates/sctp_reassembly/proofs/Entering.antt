@@ -4,7 +4,7 @@ use Rattle.std.specs.List.{AllByRecursion, remove}
 use Rattle.std.proofs.lemmas.Bool.{cases_Bool, ne_eqb, cond-false, lt-ltb, le-ltb, false≢true}
 use Rattle.sctp_wire_types.specs.declared.chunk.ChunkPayloadData.{ChunkPayloadData}
 use Rattle.sctp_wire_types.specs.Serial.{tsn_lt}
-use Rattle.sctp_receive_queues.specs.Messages.{Message, message_of}
+use Rattle.sctp_receive_queues.specs.Messages.{ReceivedMessage, message_of}
 use Rattle.sctp_receive_queues.specs.Pieces.{is_complete, is_past, is_last as is_last_piece, tsn_after}
 use Rattle.sctp_receive_queues.specs.Reassembly.{finished, joins_after, joins_before, part, place_for_tsn, put_between, run_at, run_before, run_place, with_unordered}
 use Rattle.sctp_model.specs.Messages.{Plan}
@@ -295,7 +295,7 @@ led_so initial p c o (y ∷ ys) (h ∷ hs) i l a s =
     (cases_Bool (leads p o h))
 
 -- the runs with the piece
-pub record IsEntered (initial : ℕ) (p : Plan) (c : ChunkPayloadData) (chunks : List (List ChunkPayloadData)) (place : ℕ) (all : List (List ℕ)) : Type 0 where
+pub record IsEntered (initial : ℕ) (p : Plan) (c : ChunkPayloadData) (chunks : List (List ChunkPayloadData)) (index : ℕ) (all : List (List ℕ)) : Type 0 where
   pub front : List (List ChunkPayloadData)
   pub run : List ChunkPayloadData
   pub back : List (List ChunkPayloadData)
@@ -303,7 +303,7 @@ pub record IsEntered (initial : ℕ) (p : Plan) (c : ChunkPayloadData) (chunks :
   pub first : ℕ
   pub rest : List ℕ
   pub later : List (List ℕ)
-  pub put : with_unordered chunks place c ≡ (front ++ run ∷ back, length front)
+  pub put : with_unordered chunks index c ≡ (front ++ run ∷ back, length front)
   pub is : all ≡ earlier ++ (first ∷ rest) ∷ later
   pub fronts : AreRuns initial p front earlier
   pub said : AreSaid initial p run (first ∷ rest)
@@ -311,10 +311,10 @@ pub record IsEntered (initial : ℕ) (p : Plan) (c : ChunkPayloadData) (chunks :
   pub only : AllByRecursion IsIncomplete chunks → AllByRecursion IsIncomplete front × AllByRecursion IsIncomplete back
 
 -- put beside a run in front
-put_after : (before after : List ChunkPayloadData) (chunks : List (List ChunkPayloadData)) (place : ℕ) (c : ChunkPayloadData) (b : Bool) → run_before chunks place ≡ before
-    → run_at chunks place ≡ after → joins_before before c ≡ b
-    → with_unordered chunks place c ≡ (put_between b (joins_after after c) chunks place (part b before ++ c ∷ part (joins_after after c) after), run_place b place)
-put_after before after chunks place c b e f g = rw (e, f, g) refl
+put_after : (before after : List ChunkPayloadData) (chunks : List (List ChunkPayloadData)) (index : ℕ) (c : ChunkPayloadData) (b : Bool) → run_before chunks index ≡ before
+    → run_at chunks index ≡ after → joins_before before c ≡ b
+    → with_unordered chunks index c ≡ (put_between b (joins_after after c) chunks index (part b before ++ c ∷ part (joins_after after c) after), run_place b index)
+put_after before after chunks index c b e f g = rw (e, f, g) refl
 
 pub entered : (initial : ℕ) (p : Plan) (c : ChunkPayloadData) (o : ℕ) (xs ys : List (List ChunkPayloadData)) (gs hs : List (List ℕ)) → IsSaid initial c (data_at p o) → o < 2 ^ 31
     → AreRuns initial p xs gs → AreRuns initial p ys hs → AllByRecursion AreSmall gs → AllByRecursion AreSmall hs
@@ -407,7 +407,7 @@ entered initial p c o xs ys gs hs i l a b s t =
         }
 
 -- a run at its place that is a whole message is taken out
-pub finished_is : (front back : List (List ChunkPayloadData)) (run : List ChunkPayloadData) (ms : List Message)
+pub finished_is : (front back : List (List ChunkPayloadData)) (run : List ChunkPayloadData) (ms : List ReceivedMessage)
     → finished (front ++ run ∷ back) (length front) ms ≡ cond (is_complete run) (front ++ back, ms ++ message_of run ∷ []) (front ++ run ∷ back, ms)
 finished_is front back run ms =
     ap (λ z. cond (is_complete z) (remove (front ++ run ∷ back) (length front), ms ++ message_of z ∷ []) (front ++ run ∷ back, ms)) (run_behind front (run ∷ back))

@@ -2,13 +2,13 @@
 use Rattle.std.proofs.Common.{ℕ, ◌≡◌, Bool, true, false, not, leb, ◌&&◌, List, [], ◌∷◌, ◌++◌, slice_get, Option, Some, None, refl, sym, ap, ◌∙◌, subst, ltb, arith}
 use Rattle.std.specs.List.{AllByRecursion}
 use Rattle.std.proofs.lemmas.Bool.{and_parts, and_from, cond-true, not-true, true≢false}
-use Rattle.sctp_receive_queues.specs.Messages.{Message}
+use Rattle.sctp_receive_queues.specs.Messages.{ReceivedMessage}
 use Rattle.sctp_receive_queues.specs.Reassembly.{Reassembly, pushed, taken, unordered_skipped}
 use Rattle.sctp_model.specs.Messages.{Plan}
 use Rattle.sctp_model.specs.Packets.{Data, Forward, mem, skips}
 use Rattle.sctp_model.specs.Serial.{tsn}
 use Rattle.sctp_model.specs.Reassembly.{Queue, Taken, at, drop_unordered, next, push, skip_if}
-use Rattle.sctp_model.specs.Machine.{Direction, Event, data_comes, forward_comes, forwarded, happens, is_new, live, passes, point, read, took, was_read}
+use Rattle.sctp_model.specs.Machine.{Direction, Event, data_comes, forward_comes, forwarded, happens, is_new, live, passes, reach, read, took, was_read}
 use Rattle.sctp_model.specs.Safe.{IsWithin, read_ssn}
 use Rattle.sctp_model.specs.Invariants.{IsForward, IsHeld, IsPiece}
 use Rattle.sctp_model.proofs.Coming.{keeps_data_comes}
@@ -52,7 +52,7 @@ data_that_comes_stands initial w k limit r c d l h v e opened n kind said st =
     let win' : IsInWindow p (d.offset ∷ w.receiver.taken) d.stream (read_ssn p 0 (w.reads d.stream)) win.0 (push q d)
     = subst (IsInWindow p (d.offset ∷ w.receiver.taken) d.stream (read_ssn p 0 (w.reads d.stream)) win.0) there win.1 in
     let free = not_held p w.receiver.taken d.stream (read_ssn p 0 (w.reads d.stream)) d.offset true q.ordered (h.streams d.stream v).ordered.held
-    (not-true (mem d.offset w.receiver.taken) (and_parts (leb (point w.receiver) d.offset) (not (mem d.offset w.receiver.taken)) n).1) in
+    (not-true (mem d.offset w.receiver.taken) (and_parts (leb (reach w.receiver) d.offset) (not (mem d.offset w.receiver.taken)) n).1) in
     let both = ordered_pieces_stand initial p w.over (d.offset ∷ w.receiver.taken) d.stream (read_ssn p 0 (w.reads d.stream)) win.0 d.offset limit r q c
     h.planned v l.offsets st (subst (IsSaid initial c) piece.is said) (sym (ap (λ z. z.ordered) piece.is) ∙ kind) free
     (subst (λ z. IsInWindow p (d.offset ∷ w.receiver.taken) d.stream (read_ssn p 0 (w.reads d.stream)) win.0 (push q z)) piece.is win') in (
@@ -69,7 +69,7 @@ unordered_data_that_comes_stands initial w k limit r c d l h v e opened n kind s
     let there : push q d ≡ live ((happens w (Event.DataComes k)).receiver.queues d.stream)
     = sym (ap live (at_put w.receiver.queues d.stream d.stream (Some (push q d)) refl)) ∙ ap (λ (z : Direction). live (z.receiver.queues d.stream)) (sym (came_in w k d e opened n)) in
     let free = not_held p w.receiver.taken d.stream 0 d.offset false q.unordered (h.streams d.stream v).unordered.held
-    (not-true (mem d.offset w.receiver.taken) (and_parts (leb (point w.receiver) d.offset) (not (mem d.offset w.receiver.taken)) n).1) in
+    (not-true (mem d.offset w.receiver.taken) (and_parts (leb (reach w.receiver) d.offset) (not (mem d.offset w.receiver.taken)) n).1) in
     let loose : IsLoose p d.stream d.offset = record {
       at = record { known = piece.known; stream = sym (ap (λ z. z.stream) piece.is); kind = sym (ap (λ z. z.ordered) piece.is) ∙ kind };
       sent = piece.sent;
@@ -82,7 +82,7 @@ unfolding happens
 was_so w s q e opened = ap (read w s) e ∙ cond-true w.receiver.is_open (was_read w s (next q)) w opened
 
 -- what a read that happens leaves
-read_so : (initial : ℕ) (w : Direction) (s : ℕ) (r : Reassembly) (q : Queue) (x : Reassembly × Option Message) (y : Option Taken) → w.receiver.queues s ≡ Some q
+read_so : (initial : ℕ) (w : Direction) (s : ℕ) (r : Reassembly) (q : Queue) (x : Reassembly × Option ReceivedMessage) (y : Option Taken) → w.receiver.queues s ≡ Some q
     → IsAnsweredAlike initial w.sender.plan s q x y
     → StandsFor initial w.sender.plan s x.0 (live ((was_read w s y).receiver.queues s)) × IsReadAs x.1 (w.reads s) ((was_read w s y).reads s)
 read_so initial w s r q (r', None) None e a = (subst (λ z. StandsFor initial w.sender.plan s r' (live z)) (sym e) a, refl)
@@ -105,11 +105,11 @@ a_read_that_happens_stands initial w s r q l h v opened e st =
 
 -- A FORWARD TSN
 
-came_forward : (w : Direction) (k : ℕ) (f : Forward) → slice_get w.forwards k ≡ Some f → w.receiver.is_open ≡ true → ltb (point w.receiver) f.point ≡ true
+came_forward : (w : Direction) (k : ℕ) (f : Forward) → slice_get w.forwards k ≡ Some f → w.receiver.is_open ≡ true → ltb (reach w.receiver) f.reach ≡ true
     → happens w (Event.ForwardComes k) ≡ passes w f
 unfolding happens
 came_forward w k f e o n =
-    ap (forward_comes w) e ∙ cond-true (w.receiver.is_open && ltb (point w.receiver) f.point) (passes w f) w (and_from w.receiver.is_open (ltb (point w.receiver) f.point) o n)
+    ap (forward_comes w) e ∙ cond-true (w.receiver.is_open && ltb (reach w.receiver) f.reach) (passes w f) w (and_from w.receiver.is_open (ltb (reach w.receiver) f.reach) o n)
 
 pub a_forward_that_comes_stands : AForwardThatComesStands
 a_forward_that_comes_stands initial w k s o r q f l h v e opened n at there st =
@@ -117,11 +117,11 @@ a_forward_that_comes_stands initial w k s o r q f l h v e opened n at there st =
     let low = read_ssn p 0 (w.reads s) in
     let win = invariant_window w l h s v in
     let win' : IsInWindow p w.receiver.taken s low win.0 q = subst (IsInWindow p w.receiver.taken s low win.0) (ap live there) win.1 in
-    let known = (all_get (IsForward p w.sender.gone w.over w.sender.acknowledged w.sender.point) w.forwards k f e h.forwards).known in
+    let known = (all_get (IsForward p w.sender.gone w.over w.sender.acknowledged w.sender.reach) w.forwards k f e h.forwards).known in
     let small = l.offsets in
     let after = unordered_skipped (skipped_if r (skips f s)) (tsn initial o) in
     subst (λ (z : Direction). StandsFor initial p s after (live (z.receiver.queues s))) (sym (came_forward w k f e opened n))
-    (subst (λ (z : Option Queue). StandsFor initial p s after (live (forwarded z f.point (skips f s)))) (sym there)
+    (subst (λ (z : Option Queue). StandsFor initial p s after (live (forwarded z f.reach (skips f s)))) (sym there)
     (subst (λ (z : ℕ). StandsFor initial p s after (drop_unordered z (skip_if q (skips f s)))) (sym at)
     (unordered_drops_stand initial p w.over s o (skipped_if r (skips f s)) (skip_if q (skips f s)) h.planned l.offsets (omega arith) (go win' (skips f s)))))
   where

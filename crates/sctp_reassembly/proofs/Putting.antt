@@ -5,7 +5,7 @@ use Rattle.std.proofs.lemmas.Bool.{cases_Bool, cases_eq, eqb-false, eq-eqb, ne_e
 use Rattle.sctp_wire_types.specs.Ids.{number_of}
 use Rattle.sctp_wire_types.specs.Serial.{tsn_lt}
 use Rattle.sctp_wire_types.specs.declared.chunk.ChunkPayloadData.{ChunkPayloadData}
-use Rattle.sctp_receive_queues.specs.Pieces.{begins, breaks_ends, contradicts, ends, has_other_type, has_tsn, is_last as is_last_piece, place_of}
+use Rattle.sctp_receive_queues.specs.Pieces.{begins, breaks_ends, contradicts, ends, has_other_type, has_tsn, is_last as is_last_piece, index_of}
 use Rattle.sctp_model.specs.Messages.{Plan, place_at, is_last}
 use Rattle.sctp_model.specs.Packets.{mem, data_at}
 use Rattle.sctp_model.specs.Serial.{tsn}
@@ -109,15 +109,15 @@ eqb_up a b =
 abbrev past : ChunkPayloadData → ChunkPayloadData → Bool
 past c x = tsn_lt c.tsn x.tsn
 
-place_here : (c d : ChunkPayloadData) (ds : List ChunkPayloadData) → tsn_lt c.tsn d.tsn ≡ true → place_of c.tsn (d ∷ ds) ≡ 0
+place_here : (c d : ChunkPayloadData) (ds : List ChunkPayloadData) → tsn_lt c.tsn d.tsn ≡ true → index_of c.tsn (d ∷ ds) ≡ 0
 place_here c d ds e = ap (λ z. unwrap_or z (suc (length ds))) (position_here (past c) d ds e)
 
-place_later : (c d : ChunkPayloadData) (ds : List ChunkPayloadData) → tsn_lt c.tsn d.tsn ≡ false → place_of c.tsn (d ∷ ds) ≡ suc (place_of c.tsn ds)
+place_later : (c d : ChunkPayloadData) (ds : List ChunkPayloadData) → tsn_lt c.tsn d.tsn ≡ false → index_of c.tsn (d ∷ ds) ≡ suc (index_of c.tsn ds)
 place_later c d ds e = ap (λ z. unwrap_or z (suc (length ds))) (position_later (past c) d ds e) ∙ unwrap_up (position (past c) ds) (length ds)
 
 front_fits : (initial : ℕ) (p : Plan) (over : ℕ → Bool) (s n : ℕ) (c : ChunkPayloadData) (o : ℕ) (cs : List ChunkPayloadData) (os : List ℕ) → IsPlanned p over → over s ≡ false
     → IsSaid initial c (data_at p o) → o < 2 ^ 31 → IsOf p s n o → AreSaid initial p cs os → AllByRecursion (IsOf p s n) os → AllByRecursion (λ (x : ℕ). x < 2 ^ 31) os
-    → mem o os ≡ false → cond (eqb (place_of c.tsn cs) 0) (begins cs) c.beginning_fragment ≡ false
+    → mem o os ≡ false → cond (eqb (index_of c.tsn cs) 0) (begins cs) c.beginning_fragment ≡ false
 front_fits initial p over s n c o [] os h v i l x a m t out = refl
 front_fits initial p over s n c o (d ∷ ds) [] h v i l x a m t out = absurd a
 front_fits initial p over s n c o (d ∷ ds) (y ∷ ys) h v i l x a m t out =
@@ -129,13 +129,13 @@ front_fits initial p over s n c o (d ∷ ds) (y ∷ ys) h v i l x a m t out =
     ∙ a.0.first ∙ (between p over s n o y h v x m.0 (ltb-true o y b)).0)
     (λ (b : ltb o y ≡ false).
     ap (λ z. cond (eqb z 0) d.beginning_fragment c.beginning_fragment) (place_later c d ds (e ∙ b))
-    ∙ cond-false (eqb (suc (place_of c.tsn ds)) 0) d.beginning_fragment c.beginning_fragment (ne_eqb (suc (place_of c.tsn ds)) 0 (λ (k : suc (place_of c.tsn ds) ≡ 0). omega arith))
+    ∙ cond-false (eqb (suc (index_of c.tsn ds)) 0) d.beginning_fragment c.beginning_fragment (ne_eqb (suc (index_of c.tsn ds)) 0 (λ (k : suc (index_of c.tsn ds) ≡ 0). omega arith))
     ∙ i.first ∙ (between p over s n y o h v m.0 x (let g = ltb-false o y b in omega (arith, apart_from))).0)
     (cases_Bool (ltb o y))
 
 back_fits : (initial : ℕ) (p : Plan) (over : ℕ → Bool) (s n : ℕ) (c : ChunkPayloadData) (o : ℕ) (cs : List ChunkPayloadData) (os : List ℕ) → IsPlanned p over → over s ≡ false
     → IsSaid initial c (data_at p o) → o < 2 ^ 31 → IsOf p s n o → AreSaid initial p cs os → AllByRecursion (IsOf p s n) os → AllByRecursion (λ (x : ℕ). x < 2 ^ 31) os
-    → mem o os ≡ false → cond (eqb (place_of c.tsn cs) (length cs)) (ends cs) c.ending_fragment ≡ false
+    → mem o os ≡ false → cond (eqb (index_of c.tsn cs) (length cs)) (ends cs) c.ending_fragment ≡ false
 back_fits initial p over s n c o [] os h v i l x a m t out = refl
 back_fits initial p over s n c o (d ∷ ds) [] h v i l x a m t out = absurd a
 back_fits initial p over s n c o (d ∷ ds) (y ∷ ys) h v i l x a m t out =
@@ -149,16 +149,16 @@ back_fits initial p over s n c o (d ∷ ds) (y ∷ ys) h v i l x a m t out =
     ∙ i.last ∙ (between p over s n o y h v x m.0 (ltb-true o y b)).1)
     (λ (b : ltb o y ≡ false).
     ap (λ z. cond (eqb z (suc (length ds))) (ends (d ∷ ds)) c.ending_fragment) (place_later c d ds (e ∙ b))
-    ∙ ap (λ z. cond z (ends (d ∷ ds)) c.ending_fragment) (eqb_up (place_of c.tsn ds) (length ds))
+    ∙ ap (λ z. cond z (ends (d ∷ ds)) c.ending_fragment) (eqb_up (index_of c.tsn ds) (length ds))
     ∙ rest ds ys a.1 (between p over s n y o h v m.0 x (let g = ltb-false o y b in omega (arith, apart_from))).1
     (back_fits initial p over s n c o ds ys h v i l x a.1 m.1 t.1 parts.1))
     (cases_Bool (ltb o y))
   where
     rest : (ds : List ChunkPayloadData) (ys : List ℕ) → AreSaid initial p ds ys → is_last p (place_at p y) ≡ false
-        → cond (eqb (place_of c.tsn ds) (length ds)) (ends ds) c.ending_fragment ≡ false
-        → cond (eqb (place_of c.tsn ds) (length ds)) (ends (d ∷ ds)) c.ending_fragment ≡ false
+        → cond (eqb (index_of c.tsn ds) (length ds)) (ends ds) c.ending_fragment ≡ false
+        → cond (eqb (index_of c.tsn ds) (length ds)) (ends (d ∷ ds)) c.ending_fragment ≡ false
     rest [] zs b f g = a.0.last ∙ f
-    rest (k ∷ ks) zs b f g = ap (λ z. cond (eqb (place_of c.tsn (k ∷ ks)) (length (k ∷ ks))) (is_last_piece z) c.ending_fragment) (last_later d k ks) ∙ g
+    rest (k ∷ ks) zs b f g = ap (λ z. cond (eqb (index_of c.tsn (k ∷ ks)) (length (k ∷ ks))) (is_last_piece z) c.ending_fragment) (last_later d k ks) ∙ g
 
 neither_of : (a b c : Bool) → a ≡ false → b ≡ false → c ≡ false → ((a || b) || c) ≡ false
 neither_of a b c x y z = rw (x, y, z) refl
@@ -167,7 +167,7 @@ pub piece_fits : (initial : ℕ) (p : Plan) (over : ℕ → Bool) (s n : ℕ) (c
     → IsSaid initial c (data_at p o) → o < 2 ^ 31 → IsOf p s n o → AreSaid initial p cs os → AllByRecursion (IsOf p s n) os → AllByRecursion (λ (x : ℕ). x < 2 ^ 31) os
     → mem o os ≡ false → contradicts cs c ≡ false
 piece_fits initial p over s n c o cs os h v i l x a m t out =
-    neither_of (has_tsn c.tsn cs) (has_other_type cs c) (breaks_ends (place_of c.tsn cs) cs c)
+    neither_of (has_tsn c.tsn cs) (has_other_type cs c) (breaks_ends (index_of c.tsn cs) cs c)
     (has_none initial p c o cs os i l a t ∙ out)
     (same_type initial p over s n c o cs os h v i x a m)
     (rw (front_fits initial p over s n c o cs os h v i l x a m t out) (back_fits initial p over s n c o cs os h v i l x a m t out))

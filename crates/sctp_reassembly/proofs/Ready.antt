@@ -1,7 +1,7 @@
 -- What is ready is the same on both sides.
 use Rattle.std.proofs.Common.{ℕ, zero, suc, ◌+◌, ◌%◌, ◌^◌, ◌<◌, ◌≤◌, ◌≡◌, Bool, true, false, not, eqb, List, [], ◌∷◌, length, map, Option, Some, None, refl, sym, ap, ◌∙◌, subst, ⊎_elim, arith}
 use Rattle.std.proofs.lemmas.Bool.{cases_Bool, cond-true, cond-false}
-use Rattle.sctp_receive_queues.specs.Messages.{Message}
+use Rattle.sctp_receive_queues.specs.Messages.{ReceivedMessage}
 use Rattle.sctp_receive_queues.specs.Reassembly.{Reassembly, messages_held, ready_on, ready_within, taken}
 use Rattle.sctp_receive_queues.proofs.Ready.{TakesOne, takes_one}
 use Rattle.sctp_model.specs.Messages.{Plan}
@@ -15,7 +15,7 @@ use Rattle.sctp_model.proofs.Due.{least_is}
 use Rattle.sctp_model.proofs.Lists.{all_both, all_filter, all_weaker}
 use Rattle.sctp_model.proofs.Windows.{next_is}
 use Rattle.sctp_reassembly.specs.Laws.{TheSameIsReady}
-use Rattle.sctp_reassembly.specs.Stands.{IsAnsweredAlike, IsInWindow, StandsFor, letter_of}
+use Rattle.sctp_reassembly.specs.Stands.{IsAnsweredAlike, IsInWindow, StandsFor, letter_received}
 use Rattle.sctp_reassembly.proofs.Answering.{read_alike}
 use Rattle.sctp_reassembly.proofs.Reading.{near_too}
 use Rattle.sctp_reassembly.proofs.Whole.{IsNearBy}
@@ -80,7 +80,7 @@ window_read p came s low cursor q t w e = go q.complete e
 
 -- one after another, so many reads on each side as are enough there
 
-nothing_more : (n m : ℕ) (r : Reassembly) (q : Queue) → taken r ≡ (r, None) → next q ≡ None → map letter_of (ready_within n r) ≡ map letter_read (drain m q).gots
+nothing_more : (n m : ℕ) (r : Reassembly) (q : Queue) → taken r ≡ (r, None) → next q ≡ None → map letter_received (ready_within n r) ≡ map letter_read (drain m q).gots
 nothing_more zero zero r q e f = refl
 nothing_more zero (suc m) r q e f = rw f refl
 nothing_more (suc n) zero r q e f = rw e refl
@@ -88,18 +88,18 @@ nothing_more (suc n) (suc m) r q e f = rw (e, f) refl
 
 ready_alike : (initial : ℕ) (p : Plan) (over : ℕ → Bool) (came : List ℕ) (s low cursor n m : ℕ) (r : Reassembly) (q : Queue) → IsPlanned p over → over s ≡ false
     → length p.places < 2 ^ 31 → IsInWindow p came s low cursor q → StandsFor initial p s r q → messages_held r ≤ n → waiting q ≤ m
-    → map letter_of (ready_within n r) ≡ map letter_read (drain m q).gots
+    → map letter_received (ready_within n r) ≡ map letter_read (drain m q).gots
 ready_alike initial p over came s low cursor zero m r q h v small w st ln lm = none_held (taken r) (next q) refl refl (takes_one r) (read_alike initial p over came s low cursor r q h v small w st)
   where
-    none_held : (x : Reassembly × Option Message) (y : Option Taken) → taken r ≡ x → next q ≡ y → TakesOne r x → IsAnsweredAlike initial p s q x y
+    none_held : (x : Reassembly × Option ReceivedMessage) (y : Option Taken) → taken r ≡ x → next q ≡ y → TakesOne r x → IsAnsweredAlike initial p s q x y
         → [] ≡ map letter_read (drain m q).gots
     none_held (r', None) None e f t a = nothing_more zero m r q (e ∙ ap (λ (z : Reassembly). (z, None)) t) f
     none_held (r', None) (Some y) e f t a = absurd a
     none_held (r', Some x) y e f t a = absurd (omega arith)
 ready_alike initial p over came s low cursor (suc n) zero r q h v small w st ln lm = none_held (taken r) (next q) refl refl (takes_one r) (read_alike initial p over came s low cursor r q h v small w st)
   where
-    none_held : (x : Reassembly × Option Message) (y : Option Taken) → taken r ≡ x → next q ≡ y → TakesOne r x → IsAnsweredAlike initial p s q x y
-        → map letter_of (ready_within (suc n) r) ≡ []
+    none_held : (x : Reassembly × Option ReceivedMessage) (y : Option Taken) → taken r ≡ x → next q ≡ y → TakesOne r x → IsAnsweredAlike initial p s q x y
+        → map letter_received (ready_within (suc n) r) ≡ []
     none_held (r', None) None e f t a = nothing_more (suc n) zero r q (e ∙ ap (λ (z : Reassembly). (z, None)) t) f
     none_held (r', None) (Some y) e f t a = absurd a
     none_held (r', Some x) None e f t a = absurd a
@@ -108,17 +108,17 @@ ready_alike initial p over came s low cursor (suc n) (suc m) r q h v small w st 
     go (taken r) (next q) refl refl (takes_one r) (read_alike initial p over came s low cursor r q h v small w st)
     (λ k r' q' w' st' l l'. ready_alike initial p over came s low k n m r' q' h v small w' st' l l')
   where
-    go : (x : Reassembly × Option Message) (y : Option Taken) → taken r ≡ x → next q ≡ y → TakesOne r x → IsAnsweredAlike initial p s q x y
+    go : (x : Reassembly × Option ReceivedMessage) (y : Option Taken) → taken r ≡ x → next q ≡ y → TakesOne r x → IsAnsweredAlike initial p s q x y
         → ((k : ℕ) (r' : Reassembly) (q' : Queue) → IsInWindow p came s low k q' → StandsFor initial p s r' q' → messages_held r' ≤ n → waiting q' ≤ m
-        → map letter_of (ready_within n r') ≡ map letter_read (drain m q').gots)
-        → map letter_of (ready_on x (ready_within n)) ≡ map letter_read (drain_on q y (drain m)).gots
+        → map letter_received (ready_within n r') ≡ map letter_read (drain m q').gots)
+        → map letter_received (ready_on x (ready_within n)) ≡ map letter_read (drain_on q y (drain m)).gots
     go (r', None) None e f t a i = refl
     go (r', None) (Some y) e f t a i = absurd a
     go (r', Some x) None e f t a i = absurd a
     go (r', Some x) (Some y) e f t a i =
         let z = window_read p came s low cursor q y w f in
         let more = i z.0 r' y.rest z.1 a.1 (omega arith) (let l = read_shrinks q y f in omega arith) in
-        ap (λ b. b ∷ map letter_of (ready_within n r')) a.0 ∙ ap (λ b. letter_read y.got ∷ b) more
+        ap (λ b. b ∷ map letter_received (ready_within n r')) a.0 ∙ ap (λ b. letter_read y.got ∷ b) more
 
 pub the_same_is_ready : TheSameIsReady
 the_same_is_ready initial p over came s low cursor r q h v small w st =

@@ -14,7 +14,7 @@ use Rattle.sctp_model.specs.Safe.{AreRising, letter_read}
 use Rattle.sctp_model.specs.Invariants.{IsPlanned}
 use Rattle.sctp_model.proofs.Lists.{all_back, all_filter, all_front, all_join, all_mem, all_weaker, map-join, mem-join}
 use Rattle.sctp_reassembly.specs.Laws.{UnorderedPiecesStand}
-use Rattle.sctp_reassembly.specs.Stands.{AreRuns, AreSaid, IsForBytesAlone, IsLoose, StandsFor, letter_of, runs_of}
+use Rattle.sctp_reassembly.specs.Stands.{AreRuns, AreSaid, IsForBytesAlone, IsLoose, StandsFor, letter_received, runs_of}
 use Rattle.sctp_reassembly.proofs.Entering.{AreSmall, IsEntered, IsIncomplete, entered, finished_is, place_is, runs_join, runs_split}
 use Rattle.sctp_reassembly.proofs.Fitting.{beside, fits_between}
 use Rattle.sctp_reassembly.proofs.Found.{AreHeld, is_whole, run_at, whole_found}
@@ -158,18 +158,18 @@ not_whole initial p (c ∷ cs) (g ∷ gs) a s u = (one g a.0 s.0, not_whole init
     one (o ∷ r) a s = sym (complete_is initial p c o r a s) ∙ u.0
 
 -- both sides with the piece, where it makes its message whole (or not)
-entered_so : (initial : ℕ) (p : Plan) (over : ℕ → Bool) (s o : ℕ) (r : Reassembly) (q : Queue) (c : ChunkPayloadData) (chunks : List (List ChunkPayloadData)) (place : ℕ) (os : List ℕ)
+entered_so : (initial : ℕ) (p : Plan) (over : ℕ → Bool) (s o : ℕ) (r : Reassembly) (q : Queue) (c : ChunkPayloadData) (chunks : List (List ChunkPayloadData)) (index : ℕ) (os : List ℕ)
     → IsPlanned p over → StandsFor initial p s r q → AreHeld p s (data_at p o ∷ q.unordered) os → AreSmall os
-    → AllByRecursion IsIncomplete chunks → IsEntered initial p c chunks place (runs_of p os)
-    → StandsFor initial p s (with_put r (finished (view_with chunks place c).0 (view_with chunks place c).1 r.complete)) (push_unordered q (data_at p o))
-entered_so initial p over s o r q c chunks place os h st held small incomplete t =
+    → AllByRecursion IsIncomplete chunks → IsEntered initial p c chunks index (runs_of p os)
+    → StandsFor initial p s (with_put r (finished (view_with chunks index c).0 (view_with chunks index c).1 r.complete)) (push_unordered q (data_at p o))
+entered_so initial p over s o r q c chunks index os h st held small incomplete t =
     let d = data_at p o in
     let u = t.only incomplete in
     let all_small = subst (AllByRecursion AreSmall) t.is (all_in (λ (x : ℕ). x < 2 ^ 31) p os small) in
     let small_front = all_front AreSmall t.earlier ((t.first ∷ t.rest) ∷ t.later) all_small in
     let small_back = all_back AreSmall t.earlier ((t.first ∷ t.rest) ∷ t.later) all_small in
     let whole = is_whole p (t.first ∷ t.rest) in
-    let view : with_put r (finished (view_with chunks place c).0 (view_with chunks place c).1 r.complete)
+    let view : with_put r (finished (view_with chunks index c).0 (view_with chunks index c).1 r.complete)
     ≡ with_put r (cond whole (t.front ++ t.back, r.complete ++ message_of t.run ∷ []) (t.front ++ t.run ∷ t.back, r.complete))
     = ap (λ z. with_put r (finished z.0 z.1 r.complete)) t.put
     ∙ ap (with_put r) (finished_is t.front t.back t.run r.complete
@@ -179,15 +179,15 @@ entered_so initial p over s o r q c chunks place os h st held small incomplete t
     (not_whole initial p t.front t.earlier t.fronts small_front u.0) (not_whole initial p t.back t.later t.backs small_back.1 u.1)) in
     subst (λ z. StandsFor initial p s z (push_unordered q d)) (sym view)
     (subst (λ z. StandsFor initial p s (with_put r (cond whole (t.front ++ t.back, r.complete ++ message_of t.run ∷ []) (t.front ++ t.run ∷ t.back, r.complete))) z) (sym model)
-    (decided initial p s o r q c chunks place os st held t u (complete_is initial p t.run t.first t.rest t.said small_back.0) whole refl))
+    (decided initial p s o r q c chunks index os st held t u (complete_is initial p t.run t.first t.rest t.said small_back.0) whole refl))
   where
-    decided : (initial : ℕ) (p : Plan) (s o : ℕ) (r : Reassembly) (q : Queue) (c : ChunkPayloadData) (chunks : List (List ChunkPayloadData)) (place : ℕ) (os : List ℕ)
-        → StandsFor initial p s r q → AreHeld p s (data_at p o ∷ q.unordered) os → (t : IsEntered initial p c chunks place (runs_of p os))
+    decided : (initial : ℕ) (p : Plan) (s o : ℕ) (r : Reassembly) (q : Queue) (c : ChunkPayloadData) (chunks : List (List ChunkPayloadData)) (index : ℕ) (os : List ℕ)
+        → StandsFor initial p s r q → AreHeld p s (data_at p o ∷ q.unordered) os → (t : IsEntered initial p c chunks index (runs_of p os))
         → AllByRecursion IsIncomplete t.front × AllByRecursion IsIncomplete t.back → is_complete t.run ≡ is_whole p (t.first ∷ t.rest)
         → (b : Bool) → is_whole p (t.first ∷ t.rest) ≡ b
         → StandsFor initial p s (with_put r (cond b (t.front ++ t.back, r.complete ++ message_of t.run ∷ []) (t.front ++ t.run ∷ t.back, r.complete)))
         (settle (with_unordered q (data_at p o)) (cond b (Some (run_at p t.first t.rest)) None))
-    decided initial p s o r q c chunks place os st held t u full false e = record {
+    decided initial p s o r q c chunks index os st held t u full false e = record {
       held = st.held;
       groups = st.groups;
       ascends = st.ascends;
@@ -205,7 +205,7 @@ entered_so initial p over s o r q c chunks place os h st held small incomplete t
       };
       complete = st.complete;
     }
-    decided initial p s o r q c chunks place os st held t u full true e =
+    decided initial p s o r q c chunks index os st held t u full true e =
         let gone = t.first ∷ t.rest in
         let keeps : ℕ → Bool = λ (x : ℕ). not (is_some (at x (map (data_at p) gone))) in
         let is = parts_are p os t.earlier t.later gone t.is in
@@ -233,8 +233,8 @@ entered_so initial p over s o r q c chunks place os h st held small incomplete t
             exact = all_filter (λ (d : Data). d ≡ data_at p d.offset) (λ (d : Data). not (is_some (at d.offset (map (data_at p) (t.first ∷ t.rest))))) (data_at p o ∷ q.unordered) held.exact;
             incomplete = all_join IsIncomplete t.front t.back u.0 u.1;
           };
-          complete = map-join letter_of r.complete (message_of t.run ∷ [])
-              ∙ ap (λ z. z ++ letter_of (message_of t.run) ∷ []) st.complete
+          complete = map-join letter_received r.complete (message_of t.run ∷ [])
+              ∙ ap (λ z. z ++ letter_received (message_of t.run) ∷ []) st.complete
               ∙ ap (λ z. map letter_read q.complete ++ z ∷ []) (letter_is initial p t.run t.first t.rest t.said)
               ∙ sym (map-join letter_read q.complete (got_of (run_at p t.first t.rest) ∷ []));
         }
@@ -262,7 +262,7 @@ unordered_pieces_stand initial p over s o limit r q c h small st i loose new =
     (subst (AreRuns initial p r.unordered) (ap (runs_of p) k.is ∙ runs_apart p o k.below k.above k.less k.more) w.runs) in
     let xs = two.0 in
     let ys = two.1 in
-    let place : place_for_tsn c.tsn r.unordered ≡ length xs
+    let index : place_for_tsn c.tsn r.unordered ≡ length xs
     = ap (place_for_tsn c.tsn) two.2 ∙ place_is initial p c o xs ys (runs_of p k.below) (runs_of p k.above) i little two.3 two.4 is_less (some_in p k.above) is_more small_above in
     let put = entered initial p c o xs ys (runs_of p k.below) (runs_of p k.above) i little two.3 two.4 small_below small_above in
     let os = k.below ++ o ∷ k.above in
@@ -277,12 +277,12 @@ unordered_pieces_stand initial p over s o limit r q c h small st i loose new =
     let view : pushed r c ≡ (with_put r (finished (view_with (xs ++ ys) (length xs) c).0 (view_with (xs ++ ys) (length xs) c).1 r.complete), true)
     = cond-true c.unordered (with_put r (unordered_put r.unordered r.complete c), true)
     (cond (ssn_lt c.stream_sequence_number r.next_ssn) (r, false) (record r { ordered = with_ordered r.ordered c }, true)) out
-    ∙ ap (λ z. (with_put r (finished (view_with r.unordered z c).0 (view_with r.unordered z c).1 r.complete), true)) place
+    ∙ ap (λ z. (with_put r (finished (view_with r.unordered z c).0 (view_with r.unordered z c).1 r.complete), true)) index
     ∙ ap (λ z. (with_put r (finished (view_with z (length xs) c).0 (view_with z (length xs) c).1 r.complete), true)) two.2 in
     let model : push q d ≡ push_unordered q d = cond-false d.ordered (push_ordered q d) (push_unordered q d) loose.at.kind in
     let reason : refusal r c limit ≡ refusal_between (run_before (xs ++ ys) (length xs)) c (the_run_at (xs ++ ys) (length xs)) limit
     = cond-true c.unordered (refusal_of_unordered r.unordered c limit) (cond (ssn_lt c.stream_sequence_number r.next_ssn) None (refusal_of_ordered r.ordered c limit)) out
-    ∙ ap (λ z. refusal_between (run_before r.unordered z) c (the_run_at r.unordered z) limit) place
+    ∙ ap (λ z. refusal_between (run_before r.unordered z) c (the_run_at r.unordered z) limit) index
     ∙ ap (λ z. refusal_between (run_before z (length xs)) c (the_run_at z (length xs)) limit) two.2 in (
       subst (λ z. StandsFor initial p s (pushed r c).0 z) (sym model) (subst (λ z. StandsFor initial p s z.0 (push_unordered q d)) (sym view) both),
       subst IsForBytesAlone (sym reason) (fits_between initial p over s c o limit xs ys (runs_of p k.below) (runs_of p k.above) h i little loose two.3 two.4

@@ -15,7 +15,7 @@ use Rattle.sctp_model.proofs.Lists.{all_weaker, all_both, all_mem}
 use Rattle.sctp_model.proofs.Windows.{same_from}
 use Rattle.sctp_model.proofs.Gathering.{at_found}
 use Rattle.sctp_model.proofs.Due.{begins_found, begins_finds, first_is, ssn_is}
-use Rattle.sctp_reassembly.specs.Stands.{AreSaid, letter_of}
+use Rattle.sctp_reassembly.specs.Stands.{AreSaid, letter_received}
 use Rattle.sctp_reassembly.proofs.Chains.{apart, one_message}
 use Rattle.sctp_reassembly.proofs.Gathered.{AreAllOf, is_rest, run_is}
 use Rattle.sctp_reassembly.proofs.Tsns.{tsn_next}
@@ -142,7 +142,7 @@ joined_is initial p (c ∷ cs) [] a = absurd a
 joined_is initial p (c ∷ cs) (o ∷ os) a = ap (λ z. z ++ joined cs) a.0.bytes ∙ ap (λ z. (data_at p o).bytes ++ z) (joined_is initial p cs os a.1)
 
 pub letter_is : (initial : ℕ) (p : Plan) (cs : List ChunkPayloadData) (o : ℕ) (rest : List ℕ) → AreSaid initial p cs (o ∷ rest)
-    → letter_of (message_of cs) ≡ letter_read (got_of (record { head = data_at p o; pieces = map (data_at p) (o ∷ rest) }))
+    → letter_received (message_of cs) ≡ letter_read (got_of (record { head = data_at p o; pieces = map (data_at p) (o ∷ rest) }))
 letter_is initial p [] o rest a = absurd a
 letter_is initial p (c ∷ cs) o rest a =
     ap (λ (z : ℕ). the_letter z (joined (c ∷ cs))) a.0.payload_type ∙ ap (the_letter (data_at p o).payload_type) (joined_is initial p (c ∷ cs) (o ∷ rest) a)

@@ -7,10 +7,10 @@ use Rattle.sctp_model.specs.Messages.{Plan, place_at}
 use Rattle.sctp_model.specs.Packets.{Data, Forward, data_at, skips}
 use Rattle.sctp_model.specs.Serial.{tsn, up_to_16}
 use Rattle.sctp_model.specs.Reassembly.{Queue, at, drop_unordered, empty_queue, next, push, ready, skip}
-use Rattle.sctp_model.specs.Machine.{Direction, Event, happens, is_new, live, point}
+use Rattle.sctp_model.specs.Machine.{Direction, Event, happens, is_new, live, reach}
 use Rattle.sctp_model.specs.Safe.{IsWithin, letter_read, read_ssn}
 use Rattle.sctp_model.specs.Invariants.{Invariant, IsPlanned}
-use Rattle.sctp_reassembly.specs.Stands.{IsSaid, IsInWindow, IsLoose, StandsFor, IsAnsweredAlike, IsForBytesAlone, IsReadAs, IsSpared, bounded_at, letter_of, skipped_if}
+use Rattle.sctp_reassembly.specs.Stands.{IsSaid, IsInWindow, IsLoose, StandsFor, IsAnsweredAlike, IsForBytesAlone, IsReadAs, IsSpared, bounded_at, letter_received, skipped_if}
 
 -- A piece of an ordered message that came is put to the others of its message on both sides, or on both sides it is of a message
 -- that lies before the next one. It is refused for the bytes of its message alone.
@@ -60,7 +60,7 @@ TheInvariantGivesTheWindow = (w : Direction) → IsWithin w → Invariant w → 
 abbrev pub TheSameIsReady : Type 0
 TheSameIsReady = (initial : ℕ) (p : Plan) (over : ℕ → Bool) (came : List ℕ) (s low cursor : ℕ) (r : Reassembly) (q : Queue)
     → IsPlanned p over → over s ≡ false → length p.places < 2 ^ 31 → IsInWindow p came s low cursor q → StandsFor initial p s r q
-    → map letter_of (view_ready r) ≡ map letter_read (ready q)
+    → map letter_received (view_ready r) ≡ map letter_read (ready q)
 
 -- A piece of an unordered message that came, of as many pieces as it may have and in any order, is put to those of its message that
 -- wait on both sides, and where with it the message is whole, that is the last complete one on both sides. It is refused for the bytes
@@ -99,9 +99,9 @@ AReadThatHappensStands = (initial : ℕ) (w : Direction) (s : ℕ) (r : Reassemb
     × IsReadAs (taken r).1 (w.reads s) ((happens w (Event.Read s)).reads s)
 
 -- A FORWARD TSN that comes and is ahead is a skip, and a drop of the pieces of unordered messages up to the offset o, the last one
--- below its point: the TSN of that is the one that the FORWARD TSN says.
+-- below its reach: the TSN of that is the one that the FORWARD TSN says.
 abbrev pub AForwardThatComesStands : Type 0
 AForwardThatComesStands = (initial : ℕ) (w : Direction) (k s o : ℕ) (r : Reassembly) (q : Queue) (f : Forward)
-    → IsWithin w → Invariant w → w.over s ≡ false → slice_get w.forwards k ≡ Some f → w.receiver.is_open ≡ true → nat_lt (point w.receiver) f.point ≡ true
-    → f.point ≡ suc o → w.receiver.queues s ≡ Some q → StandsFor initial w.sender.plan s r q
+    → IsWithin w → Invariant w → w.over s ≡ false → slice_get w.forwards k ≡ Some f → w.receiver.is_open ≡ true → nat_lt (reach w.receiver) f.reach ≡ true
+    → f.reach ≡ suc o → w.receiver.queues s ≡ Some q → StandsFor initial w.sender.plan s r q
     → StandsFor initial w.sender.plan s (unordered_skipped (skipped_if r (skips f s)) (tsn initial o)) (live ((happens w (Event.ForwardComes k)).receiver.queues s))

@@ -6,7 +6,7 @@ use Rattle.sctp_wire_types.specs.declared.chunk.ChunkPayloadData.{ChunkPayloadDa
 use Rattle.sctp_wire_types.specs.declared.error.Error.{Error}
 use Rattle.sctp_wire_types.specs.declared.error.Error.TheVariants as errors
 use Rattle.sctp_wire_types.specs.Ids.{number_of}
-use Rattle.sctp_receive_queues.specs.Messages.{Message}
+use Rattle.sctp_receive_queues.specs.Messages.{ReceivedMessage}
 use Rattle.sctp_receive_queues.specs.Pieces.{is_complete}
 use Rattle.sctp_receive_queues.specs.Reassembly.{Group, Reassembly, skipped}
 use Rattle.sctp_model.specs.Messages.{Plan, IsAt, place_at, is_last}
@@ -65,8 +65,8 @@ abbrev pub numbers_in : List Held → List ℕ
 numbers_in hs = map (λ (h : Held). h.number) hs
 
 -- what a reader sees of a message
-abbrev pub letter_of : Message → Letter
-letter_of m = record { payload_type = number_of m.payload_type; bytes = m.bytes }
+abbrev pub letter_received : ReceivedMessage → Letter
+letter_received m = record { payload_type = number_of m.payload_type; bytes = m.bytes }
 
 -- The pieces of unordered messages that wait for others of their message (RFC 4960 sections 6.6 and 6.9).
 
@@ -120,7 +120,7 @@ pub record StandsFor (initial : ℕ) (p : Plan) (s : ℕ) (r : Reassembly) (q : 
   pub same : (o : ℕ) → at o q.ordered ≡ (if mem o (offsets_in held) then Some (data_at p o) else None)
   pub next : r.next_ssn ≡ q.cursor
   pub waiting : AreWaiting initial p s r.unordered q.unordered
-  pub complete : map letter_of r.complete ≡ map letter_read q.complete
+  pub complete : map letter_received r.complete ≡ map letter_read q.complete
 
 -- What the model's invariant gives of a stream within its span: what is held are pieces that were taken in, their numbers before
 -- they wrap lie from `low` on and less than half the range apart, and so does the cursor, which is `cursor` before it wraps.
@@ -132,20 +132,20 @@ pub record IsInWindow (p : Plan) (taken : List ℕ) (s low cursor : ℕ) (q : Qu
   pub until : cursor ≤ low + 32767
 
 -- a read answers the same letter on both sides, or nothing on both, and afterwards one stands for the other again
-abbrev pub IsAnsweredAlike : ℕ → Plan → ℕ → Queue → Reassembly × Option Message → Option Taken → Type 0
+abbrev pub IsAnsweredAlike : ℕ → Plan → ℕ → Queue → Reassembly × Option ReceivedMessage → Option Taken → Type 0
 IsAnsweredAlike initial p s q (r, None) None = StandsFor initial p s r q
 IsAnsweredAlike initial p s q (r, None) (Some t) = ⊥
 IsAnsweredAlike initial p s q (r, Some m) None = ⊥
-IsAnsweredAlike initial p s q (r, Some m) (Some t) = (letter_of m ≡ letter_read t.got) × StandsFor initial p s r t.rest
+IsAnsweredAlike initial p s q (r, Some m) (Some t) = (letter_received m ≡ letter_read t.got) × StandsFor initial p s r t.rest
 
 -- where it is refused at all, that is for the bytes that its message would have, and not for a contradiction
 abbrev pub IsForBytesAlone : Option Error → Type 0
 IsForBytesAlone e = (e ≡ None) ⊎ (e ≡ Some errors.ErrInboundMessageTooLarge)
 
 -- what a read answers is what the model's reader got
-abbrev pub IsReadAs : Option Message → List Got → List Got → Type 0
+abbrev pub IsReadAs : Option ReceivedMessage → List Got → List Got → Type 0
 IsReadAs None before after = after ≡ before
-IsReadAs (Some m) before after = (g : Got) × (after ≡ before ++ g ∷ []) × (letter_of m ≡ letter_read g)
+IsReadAs (Some m) before after = (g : Got) × (after ≡ before ++ g ∷ []) × (letter_received m ≡ letter_read g)
 
 -- a skip where a FORWARD TSN reports a sequence number for the stream
 abbrev pub skipped_if : Reassembly → Option ℕ → Reassembly

@@ -89,34 +89,34 @@ dropped : (g : Bool) (p x : ℕ) → has_offset x ≡ true → (g && has_offset 
 dropped true p x h e = grind (arith, nat_tests, h, e)
 dropped false p x h e = refl
 
-in_offsets : (g : Bool) (point x : ℕ) (ts : List ℕ) → has_offset x ≡ true → list_any (λ o. eqb o x) (offsets_in g point ts) ≡ list_any (λ t. is_greater g point t && eqb (tsn_past point t) x) ts
-in_offsets g point x [] h = refl
-in_offsets g point x (t ∷ ts) h =
+in_offsets : (g : Bool) (cumulative_tsn x : ℕ) (ts : List ℕ) → has_offset x ≡ true → list_any (λ o. eqb o x) (offsets_in g cumulative_tsn ts) ≡ list_any (λ t. is_greater g cumulative_tsn t && eqb (tsn_past cumulative_tsn t) x) ts
+in_offsets g cumulative_tsn x [] h = refl
+in_offsets g cumulative_tsn x (t ∷ ts) h =
     ⊎_elim
-    (λ (e : (is_greater g point t && has_offset (tsn_past point t)) ≡ true).
-    rw (e, kept (is_greater g point t) (tsn_past point t) x e) (ap (λ z. eqb (tsn_past point t) x || z) (in_offsets g point x ts h)))
-    (λ (e : (is_greater g point t && has_offset (tsn_past point t)) ≡ false).
-    rw (e, dropped (is_greater g point t) (tsn_past point t) x h e) (in_offsets g point x ts h))
-    (cases_Bool (is_greater g point t && has_offset (tsn_past point t)))
+    (λ (e : (is_greater g cumulative_tsn t && has_offset (tsn_past cumulative_tsn t)) ≡ true).
+    rw (e, kept (is_greater g cumulative_tsn t) (tsn_past cumulative_tsn t) x e) (ap (λ z. eqb (tsn_past cumulative_tsn t) x || z) (in_offsets g cumulative_tsn x ts h)))
+    (λ (e : (is_greater g cumulative_tsn t && has_offset (tsn_past cumulative_tsn t)) ≡ false).
+    rw (e, dropped (is_greater g cumulative_tsn t) (tsn_past cumulative_tsn t) x h e) (in_offsets g cumulative_tsn x ts h))
+    (cases_Bool (is_greater g cumulative_tsn t && has_offset (tsn_past cumulative_tsn t)))
 
 either : (b q : Bool) → ((cond b true false && q) || (cond b false true && q)) ≡ q
 either true true = refl
 either true false = refl
 either false q = refl
 
-both_sides : (point x : ℕ) (ts : List ℕ) → (list_any (λ t. is_greater true point t && eqb (tsn_past point t) x) ts || list_any (λ t. is_greater false point t && eqb (tsn_past point t) x) ts) ≡ is_held_at point x ts
-both_sides point x [] = refl
-both_sides point x (t ∷ ts) =
-    or_swap (is_greater true point t && eqb (tsn_past point t) x) (list_any (λ t. is_greater true point t && eqb (tsn_past point t) x) ts) (is_greater false point t && eqb (tsn_past point t) x) (list_any (λ t. is_greater false point t && eqb (tsn_past point t) x) ts) ∙
-    ap (λ z. z || (list_any (λ t. is_greater true point t && eqb (tsn_past point t) x) ts || list_any (λ t. is_greater false point t && eqb (tsn_past point t) x) ts)) (either (ltb point t) (eqb (tsn_past point t) x)) ∙
-    ap (λ z. eqb (tsn_past point t) x || z) (both_sides point x ts)
+both_sides : (cumulative_tsn x : ℕ) (ts : List ℕ) → (list_any (λ t. is_greater true cumulative_tsn t && eqb (tsn_past cumulative_tsn t) x) ts || list_any (λ t. is_greater false cumulative_tsn t && eqb (tsn_past cumulative_tsn t) x) ts) ≡ is_held_at cumulative_tsn x ts
+both_sides cumulative_tsn x [] = refl
+both_sides cumulative_tsn x (t ∷ ts) =
+    or_swap (is_greater true cumulative_tsn t && eqb (tsn_past cumulative_tsn t) x) (list_any (λ t. is_greater true cumulative_tsn t && eqb (tsn_past cumulative_tsn t) x) ts) (is_greater false cumulative_tsn t && eqb (tsn_past cumulative_tsn t) x) (list_any (λ t. is_greater false cumulative_tsn t && eqb (tsn_past cumulative_tsn t) x) ts) ∙
+    ap (λ z. z || (list_any (λ t. is_greater true cumulative_tsn t && eqb (tsn_past cumulative_tsn t) x) ts || list_any (λ t. is_greater false cumulative_tsn t && eqb (tsn_past cumulative_tsn t) x) ts)) (either (ltb cumulative_tsn t) (eqb (tsn_past cumulative_tsn t) x)) ∙
+    ap (λ z. eqb (tsn_past cumulative_tsn t) x || z) (both_sides cumulative_tsn x ts)
 
-pub named_exactly : (point x : ℕ) (ts : List ℕ) → 0 < x → x < 2 ^ 16 → is_named x (gap_ack_blocks point ts) ≡ is_held_at point x ts
-named_exactly point x ts above below =
+pub named_exactly : (cumulative_tsn x : ℕ) (ts : List ℕ) → 0 < x → x < 2 ^ 16 → is_named x (gap_ack_blocks cumulative_tsn ts) ≡ is_held_at cumulative_tsn x ts
+named_exactly cumulative_tsn x ts above below =
     let h : has_offset x ≡ true = grind (arith, nat_tests, above, below) in
-    named x (offsets_of point ts) ∙
-    list_any-append (λ o. eqb o x) (offsets_in true point ts) (offsets_in false point ts) ∙
-    rw (in_offsets true point x ts h, in_offsets false point x ts h) (both_sides point x ts)
+    named x (offsets_of cumulative_tsn ts) ∙
+    list_any-append (λ o. eqb o x) (offsets_in true cumulative_tsn ts) (offsets_in false cumulative_tsn ts) ∙
+    rw (in_offsets true cumulative_tsn x ts h, in_offsets false cumulative_tsn x ts h) (both_sides cumulative_tsn x ts)
 
 -- The offsets ascend, and so the runs are maximal.
 
@@ -161,64 +161,64 @@ ascending_keys least (t ∷ ts) s b l = (
       (λ k d h. less_than t _ (All-after_first nat_cmp t ts s k d h)),
 )
 
-greater_past : (point t : ℕ) → ltb point t ≡ true → t < 2 ^ 32 → tsn_past point t + point ≡ t
-greater_past point t e b = let h : point < t = grind (arith, nat_tests, e) in omega (arith, h, b)
+greater_past : (cumulative_tsn t : ℕ) → ltb cumulative_tsn t ≡ true → t < 2 ^ 32 → tsn_past cumulative_tsn t + cumulative_tsn ≡ t
+greater_past cumulative_tsn t e b = let h : cumulative_tsn < t = grind (arith, nat_tests, e) in omega (arith, h, b)
 
-greater_ascend : (point l m : ℕ) (ts rest : List ℕ) → point < 2 ^ 32 → AscendsBelow l ts → m + point ≤ l ⊎ m ≤ 1 → m ≤ 2 ^ 32 - point → Ascends (2 ^ 32 - point) rest → Ascends m (offsets_in true point ts ++ rest)
-greater_ascend point l m [] rest p a w u r = ascends_from _ m rest u r
-greater_ascend point l m (t ∷ ts) rest p a w u r =
+greater_ascend : (cumulative_tsn l m : ℕ) (ts rest : List ℕ) → cumulative_tsn < 2 ^ 32 → AscendsBelow l ts → m + cumulative_tsn ≤ l ⊎ m ≤ 1 → m ≤ 2 ^ 32 - cumulative_tsn → Ascends (2 ^ 32 - cumulative_tsn) rest → Ascends m (offsets_in true cumulative_tsn ts ++ rest)
+greater_ascend cumulative_tsn l m [] rest p a w u r = ascends_from _ m rest u r
+greater_ascend cumulative_tsn l m (t ∷ ts) rest p a w u r =
     ⊎_elim
-    (λ (e : (is_greater true point t && has_offset (tsn_past point t)) ≡ true).
+    (λ (e : (is_greater true cumulative_tsn t && has_offset (tsn_past cumulative_tsn t)) ≡ true).
     rw e (
-    let g = is_past point t (and_parts (is_greater true point t) _ e).0 in
-    let same : tsn_past point t + point ≡ t = greater_past point t g a.1 in (
-      least m point l t (tsn_past point t) same (and_parts (is_greater true point t) _ e).1 a.0 w,
-      greater_ascend point (t + 1) (tsn_past point t + 1) ts rest p a.2 (inl (omega (arith, same))) (omega (arith, same, a.1, p)) r,
+    let g = is_past cumulative_tsn t (and_parts (is_greater true cumulative_tsn t) _ e).0 in
+    let same : tsn_past cumulative_tsn t + cumulative_tsn ≡ t = greater_past cumulative_tsn t g a.1 in (
+      least m cumulative_tsn l t (tsn_past cumulative_tsn t) same (and_parts (is_greater true cumulative_tsn t) _ e).1 a.0 w,
+      greater_ascend cumulative_tsn (t + 1) (tsn_past cumulative_tsn t + 1) ts rest p a.2 (inl (omega (arith, same))) (omega (arith, same, a.1, p)) r,
     )
     ))
-    (λ (e : (is_greater true point t && has_offset (tsn_past point t)) ≡ false).
-    rw e (greater_ascend point (t + 1) m ts rest p a.2 (later_least m point l t a.0 w) u r))
-    (cases_Bool (is_greater true point t && has_offset (tsn_past point t)))
+    (λ (e : (is_greater true cumulative_tsn t && has_offset (tsn_past cumulative_tsn t)) ≡ false).
+    rw e (greater_ascend cumulative_tsn (t + 1) m ts rest p a.2 (later_least m cumulative_tsn l t a.0 w) u r))
+    (cases_Bool (is_greater true cumulative_tsn t && has_offset (tsn_past cumulative_tsn t)))
   where
-    is_past : (point t : ℕ) → is_greater true point t ≡ true → ltb point t ≡ true
-    is_past point t e = grind (arith, nat_tests, e)
+    is_past : (cumulative_tsn t : ℕ) → is_greater true cumulative_tsn t ≡ true → ltb cumulative_tsn t ≡ true
+    is_past cumulative_tsn t e = grind (arith, nat_tests, e)
 
-    least : (m point l t d : ℕ) → d + point ≡ t → has_offset d ≡ true → l ≤ t → (m + point ≤ l) ⊎ (m ≤ 1) → m ≤ d
-    least m point l t d same h a w =
+    least : (m cumulative_tsn l t d : ℕ) → d + cumulative_tsn ≡ t → has_offset d ≡ true → l ≤ t → (m + cumulative_tsn ≤ l) ⊎ (m ≤ 1) → m ≤ d
+    least m cumulative_tsn l t d same h a w =
         let positive : 0 < d = grind (arith, nat_tests, h) in
-        ⊎_elim (λ (c : m + point ≤ l). omega (arith, same, a, c)) (λ (c : m ≤ 1). omega (arith, positive, c)) w
+        ⊎_elim (λ (c : m + cumulative_tsn ≤ l). omega (arith, same, a, c)) (λ (c : m ≤ 1). omega (arith, positive, c)) w
 
-    later_least : (m point l t : ℕ) → l ≤ t → (m + point ≤ l) ⊎ (m ≤ 1) → (m + point ≤ t + 1) ⊎ (m ≤ 1)
-    later_least m point l t a w = ⊎_elim (λ (c : m + point ≤ l). inl (omega (arith, a, c))) (λ (c : m ≤ 1). inr c) w
+    later_least : (m cumulative_tsn l t : ℕ) → l ≤ t → (m + cumulative_tsn ≤ l) ⊎ (m ≤ 1) → (m + cumulative_tsn ≤ t + 1) ⊎ (m ≤ 1)
+    later_least m cumulative_tsn l t a w = ⊎_elim (λ (c : m + cumulative_tsn ≤ l). inl (omega (arith, a, c))) (λ (c : m ≤ 1). inr c) w
 
-behind_past : (point t : ℕ) → ltb point t ≡ false → has_offset (tsn_past point t) ≡ true → point < 2 ^ 32 → tsn_past point t ≡ t + 2 ^ 32 - point
-behind_past point t e h p =
-    let le : t ≤ point = grind (arith, nat_tests, e) in
-    let positive : 0 < tsn_past point t = grind (arith, nat_tests, h) in
+behind_past : (cumulative_tsn t : ℕ) → ltb cumulative_tsn t ≡ false → has_offset (tsn_past cumulative_tsn t) ≡ true → cumulative_tsn < 2 ^ 32 → tsn_past cumulative_tsn t ≡ t + 2 ^ 32 - cumulative_tsn
+behind_past cumulative_tsn t e h p =
+    let le : t ≤ cumulative_tsn = grind (arith, nat_tests, e) in
+    let positive : 0 < tsn_past cumulative_tsn t = grind (arith, nat_tests, h) in
     omega (arith, le, positive, p)
 
-behind_ascend : (point l m : ℕ) (ts : List ℕ) → point < 2 ^ 32 → AscendsBelow l ts → m ≤ l + 2 ^ 32 - point → Ascends m (offsets_in false point ts)
-behind_ascend point l m [] p a w = tt
-behind_ascend point l m (t ∷ ts) p a w =
+behind_ascend : (cumulative_tsn l m : ℕ) (ts : List ℕ) → cumulative_tsn < 2 ^ 32 → AscendsBelow l ts → m ≤ l + 2 ^ 32 - cumulative_tsn → Ascends m (offsets_in false cumulative_tsn ts)
+behind_ascend cumulative_tsn l m [] p a w = tt
+behind_ascend cumulative_tsn l m (t ∷ ts) p a w =
     ⊎_elim
-    (λ (e : (is_greater false point t && has_offset (tsn_past point t)) ≡ true).
+    (λ (e : (is_greater false cumulative_tsn t && has_offset (tsn_past cumulative_tsn t)) ≡ true).
     rw e (
-    let same = behind_past point t (is_behind point t (and_parts (is_greater false point t) _ e).0) (and_parts (is_greater false point t) _ e).1 p in (
+    let same = behind_past cumulative_tsn t (is_behind cumulative_tsn t (and_parts (is_greater false cumulative_tsn t) _ e).0) (and_parts (is_greater false cumulative_tsn t) _ e).1 p in (
       omega (arith, same, a.0, w, p),
-      behind_ascend point (t + 1) (tsn_past point t + 1) ts p a.2 (omega (arith, same, p)),
+      behind_ascend cumulative_tsn (t + 1) (tsn_past cumulative_tsn t + 1) ts p a.2 (omega (arith, same, p)),
     )
     ))
-    (λ (e : (is_greater false point t && has_offset (tsn_past point t)) ≡ false).
-    rw e (behind_ascend point (t + 1) m ts p a.2 (omega (arith, a.0, w, p))))
-    (cases_Bool (is_greater false point t && has_offset (tsn_past point t)))
+    (λ (e : (is_greater false cumulative_tsn t && has_offset (tsn_past cumulative_tsn t)) ≡ false).
+    rw e (behind_ascend cumulative_tsn (t + 1) m ts p a.2 (omega (arith, a.0, w, p))))
+    (cases_Bool (is_greater false cumulative_tsn t && has_offset (tsn_past cumulative_tsn t)))
   where
-    is_behind : (point t : ℕ) → is_greater false point t ≡ true → ltb point t ≡ false
-    is_behind point t e = grind (arith, nat_tests, e)
+    is_behind : (cumulative_tsn t : ℕ) → is_greater false cumulative_tsn t ≡ true → ltb cumulative_tsn t ≡ false
+    is_behind cumulative_tsn t e = grind (arith, nat_tests, e)
 
-pub maximal_runs : (point : ℕ) (ts : List ℕ) → point < 2 ^ 32 → IsStrictlySortedBy nat_cmp ts → All (λ t. t < 2 ^ 32) ts → AreRuns 1 (gap_ack_blocks point ts)
-maximal_runs point ts p s b =
+pub maximal_runs : (cumulative_tsn : ℕ) (ts : List ℕ) → cumulative_tsn < 2 ^ 32 → IsStrictlySortedBy nat_cmp ts → All (λ t. t < 2 ^ 32) ts → AreRuns 1 (gap_ack_blocks cumulative_tsn ts)
+maximal_runs cumulative_tsn ts p s b =
     let a = ascending_keys 0 ts s b (λ k d h. omega arith) in
-    apart (offsets_of point ts) (
-    greater_ascend point 0 1 ts (offsets_in false point ts) p a (inr (omega arith)) (omega (arith, p))
-    (behind_ascend point 0 (2 ^ 32 - point) ts p a (omega (arith, p)))
+    apart (offsets_of cumulative_tsn ts) (
+    greater_ascend cumulative_tsn 0 1 ts (offsets_in false cumulative_tsn ts) p a (inr (omega arith)) (omega (arith, p))
+    (behind_ascend cumulative_tsn 0 (2 ^ 32 - cumulative_tsn) ts p a (omega (arith, p)))
     )

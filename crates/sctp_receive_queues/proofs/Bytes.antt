@@ -9,8 +9,8 @@ use Rattle.std.proofs.lemmas.List.Quantifiers.{position-Some}
 use Rattle.std.proofs.lemmas.List.Sums.{sum_by-cons, sum_by-append, sum_by-insert, sum_by-remove, sum_by-set}
 use Rattle.std.proofs.lemmas.Option.{slice_get-get_or, slice_get_past}
 use Rattle.sctp_wire_types.specs.declared.chunk.ChunkPayloadData.{ChunkPayloadData}
-use Rattle.sctp_receive_queues.specs.Messages.{Message, message_of, joined}
-use Rattle.sctp_receive_queues.specs.Pieces.{bytes_of, is_complete, place_of}
+use Rattle.sctp_receive_queues.specs.Messages.{ReceivedMessage, message_of, joined}
+use Rattle.sctp_receive_queues.specs.Pieces.{bytes_of, is_complete, index_of}
 use Rattle.sctp_receive_queues.specs.Reassembly.{Group, bytes_in_groups, bytes_in_runs, bytes_in_messages, group_of, grown, put_at, with_ordered, place_of_ssn, place_for_ssn, run_before, run_at, place_for_tsn, joins_before, joins_after, part, put_between, with_unordered, finished, unordered_put, saturated_bytes, stays, above, trimmed}
 use Rattle.sctp_receive_queues.proofs.Places.{run_get}
 use Rattle.sctp_receive_queues.proofs.Sums.{saturated_sum, filter_sum}
@@ -21,7 +21,7 @@ group_bytes g = bytes_of g.pieces
 piece_bytes : ChunkPayloadData → ℕ
 piece_bytes p = length p.user_data
 
-message_bytes : Message → ℕ
+message_bytes : ReceivedMessage → ℕ
 message_bytes m = length m.bytes
 
 joined_bytes : (a b : List ChunkPayloadData) (p : ChunkPayloadData) → bytes_of (a ++ p ∷ b) ≡ bytes_of a + (length p.user_data + bytes_of b)
@@ -35,7 +35,7 @@ message_length run = length-flat_map (λ (p : ChunkPayloadData). p.user_data) ru
 -- Ordered messages.
 
 grown_bytes : (g : Group) (p : ChunkPayloadData) → bytes_of (grown g p).pieces ≡ bytes_of g.pieces + length p.user_data
-grown_bytes g p = sum_by-insert (λ (p : ChunkPayloadData). length p.user_data) g.pieces (place_of p.tsn g.pieces) p
+grown_bytes g p = sum_by-insert (λ (p : ChunkPayloadData). length p.user_data) g.pieces (index_of p.tsn g.pieces) p
 
 put_bytes : (o : Option ℕ) (groups : List Group) (p : ChunkPayloadData) → ((k : ℕ) → o ≡ Some k → k < length groups) → bytes_in_groups (put_at o groups p) ≡ bytes_in_groups groups + length p.user_data
 put_bytes None groups p within =
@@ -126,21 +126,21 @@ with_bytes runs k p =
 not_complete : (runs : List (List ChunkPayloadData)) (k : ℕ) → length runs ≤ k → is_complete (run_at runs k) ≡ false
 not_complete runs k le = rw (slice_get_past runs k le) refl
 
-finished_bytes : (runs : List (List ChunkPayloadData)) (k : ℕ) (ms : List Message) → bytes_in_runs (finished runs k ms).0 + bytes_in_messages (finished runs k ms).1 ≡ bytes_in_runs runs + bytes_in_messages ms
+finished_bytes : (runs : List (List ChunkPayloadData)) (k : ℕ) (ms : List ReceivedMessage) → bytes_in_runs (finished runs k ms).0 + bytes_in_messages (finished runs k ms).1 ≡ bytes_in_runs runs + bytes_in_messages ms
 finished_bytes runs k ms =
     ⊎_elim
     (λ (e : is_complete (run_at runs k) ≡ true).
     let bound : k < length runs = ⊎_elim (λ (h : k < length runs). h) (λ (h : length runs ≤ k). let no = not_complete runs k h in absurd (cc)) (cases_lt k (length runs)) in
     let fewer = sum_by-remove bytes_of runs k [] bound in
     let same : bytes_of (run_at runs k) ≡ bytes_of (get_or runs k []) = ap bytes_of (run_get runs k) in
-    let more = sum_by-append (λ (m : Message). length m.bytes) ms (message_of (run_at runs k) ∷ []) in
-    let one = sum_by-cons (λ (m : Message). length m.bytes) (message_of (run_at runs k)) [] in
+    let more = sum_by-append (λ (m : ReceivedMessage). length m.bytes) ms (message_of (run_at runs k) ∷ []) in
+    let one = sum_by-cons (λ (m : ReceivedMessage). length m.bytes) (message_of (run_at runs k)) [] in
     let long = message_length (run_at runs k) in
     rw e (omega (arith, fewer, same, more, one, long)))
     (λ (e : is_complete (run_at runs k) ≡ false). rw e refl)
     (cases_Bool (is_complete (run_at runs k)))
 
-pub unordered_bytes : (runs : List (List ChunkPayloadData)) (ms : List Message) (p : ChunkPayloadData) → bytes_in_runs (unordered_put runs ms p).0 + bytes_in_messages (unordered_put runs ms p).1 ≡ bytes_in_runs runs + bytes_in_messages ms + length p.user_data
+pub unordered_bytes : (runs : List (List ChunkPayloadData)) (ms : List ReceivedMessage) (p : ChunkPayloadData) → bytes_in_runs (unordered_put runs ms p).0 + bytes_in_messages (unordered_put runs ms p).1 ≡ bytes_in_runs runs + bytes_in_messages ms + length p.user_data
 unordered_bytes runs ms p =
     let k = place_for_tsn p.tsn runs in
     let put = with_bytes runs k p in
@@ -166,12 +166,12 @@ trimmed_bytes tsn runs =
     let fewer = filter_sum bytes_of (λ (r : List ChunkPayloadData). not (eqb (length r) 0)) (map (above tsn) runs) in
     omega (arith, fewer, above_bytes tsn runs)
 
-pub held_exactly : (groups : List Group) (runs : List (List ChunkPayloadData)) (ms : List Message) → bytes_in_groups groups + bytes_in_runs runs + bytes_in_messages ms < 2 ^ 64 → min (min (saturated_bytes (λ (g : Group). bytes_of g.pieces) groups + saturated_bytes bytes_of runs) (2 ^ 64 - 1) + saturated_bytes (λ (m : Message). length m.bytes) ms) (2 ^ 64 - 1) ≡ bytes_in_groups groups + bytes_in_runs runs + bytes_in_messages ms
+pub held_exactly : (groups : List Group) (runs : List (List ChunkPayloadData)) (ms : List ReceivedMessage) → bytes_in_groups groups + bytes_in_runs runs + bytes_in_messages ms < 2 ^ 64 → min (min (saturated_bytes (λ (g : Group). bytes_of g.pieces) groups + saturated_bytes bytes_of runs) (2 ^ 64 - 1) + saturated_bytes (λ (m : ReceivedMessage). length m.bytes) ms) (2 ^ 64 - 1) ≡ bytes_in_groups groups + bytes_in_runs runs + bytes_in_messages ms
 held_exactly groups runs ms small =
     rw (
       saturated_sum (λ (g : Group). bytes_of g.pieces) groups (omega (arith, small)),
       saturated_sum bytes_of runs (omega (arith, small)),
-      saturated_sum (λ (m : Message). length m.bytes) ms (omega (arith, small)),
+      saturated_sum (λ (m : ReceivedMessage). length m.bytes) ms (omega (arith, small)),
     )
     (small_sum (bytes_in_groups groups) (bytes_in_runs runs) (bytes_in_messages ms) small)
   where

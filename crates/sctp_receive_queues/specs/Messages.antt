@@ -7,7 +7,7 @@ use Rattle.sctp_wire_types.specs.declared.ids.PayloadProtocolIdentifier.TheVaria
 use Rattle.sctp_receive_queues.specs.Pieces.{first_of}
 
 -- a message as it was written and is read: its payload type and its bytes (RFC 4960 section 10.1)
-pub record Message : Type 0 where
+pub record ReceivedMessage : Type 0 where
   pub payload_type : PayloadProtocolIdentifier
   pub bytes : List ℕ
 
@@ -34,11 +34,11 @@ kind_of None = kinds.Unknown
 kind_of (Some p) = p.payload_type
 
 -- the message that these pieces make up
-abbrev pub message_of : List ChunkPayloadData → Message
+abbrev pub message_of : List ChunkPayloadData → ReceivedMessage
 message_of pieces = record { payload_type = kind_of (first_of pieces); bytes = joined pieces }
 
 -- a cut of at most max bytes from the front of what is left of a message
-abbrev pub IsCut : ℕ → Message → Message → Option (List ℕ) → Type 0
+abbrev pub IsCut : ℕ → ReceivedMessage → ReceivedMessage → Option (List ℕ) → Type 0
 IsCut max m n None = (n ≡ m) × ((max ≡ 0) ⊎ (m.bytes ≡ []))
 IsCut max m n (Some cut) =
     (0 < length cut) × (length cut ≤ max) × (n.payload_type ≡ m.payload_type) × (m.bytes ≡ cut ++ n.bytes)

@@ -61,20 +61,20 @@ abbrev pub has_other_type : List ChunkPayloadData → ChunkPayloadData → Bool
 has_other_type pieces p = differs_from p (first_of pieces)
 
 -- in front of the first piece that is past this TSN, else at the end
-abbrev pub place_of : ℕ → List ChunkPayloadData → ℕ
-place_of tsn pieces =
+abbrev pub index_of : ℕ → List ChunkPayloadData → ℕ
+index_of tsn pieces =
     unwrap_or (position (λ (p : ChunkPayloadData). tsn_lt tsn p.tsn) pieces) (length pieces)
 
 -- with this piece at its place a first piece is not at the lowest TSN, or a last one is not at the highest
 abbrev pub breaks_ends : ℕ → List ChunkPayloadData → ChunkPayloadData → Bool
-breaks_ends place pieces p =
-    (if place == 0 then begins pieces else p.beginning_fragment) ||
-    (if place == length pieces then ends pieces else p.ending_fragment)
+breaks_ends index pieces p =
+    (if index == 0 then begins pieces else p.beginning_fragment) ||
+    (if index == length pieces then ends pieces else p.ending_fragment)
 
 -- a piece contradicts those held of its message
 abbrev pub contradicts : List ChunkPayloadData → ChunkPayloadData → Bool
 contradicts pieces p =
-    has_tsn p.tsn pieces || has_other_type pieces p || breaks_ends (place_of p.tsn pieces) pieces p
+    has_tsn p.tsn pieces || has_other_type pieces p || breaks_ends (index_of p.tsn pieces) pieces p
 
 -- why a piece is refused beside those held of its message
 abbrev pub refusal_of : List ChunkPayloadData → ChunkPayloadData → ℕ → Option Error

@@ -5,8 +5,8 @@ use Rattle.sctp_wire_types.specs.Serial.{ssn_lt, ssn_lte, tsn_lte}
 use Rattle.sctp_wire_types.specs.declared.chunk.ChunkPayloadData.{ChunkPayloadData}
 use Rattle.sctp_wire_types.specs.declared.error.Error.{Error}
 use Rattle.sctp_wire_types.specs.declared.error.Error.TheVariants as errors
-use Rattle.sctp_receive_queues.specs.Messages.{Message, message_of}
-use Rattle.sctp_receive_queues.specs.Pieces.{bytes_of, is_complete, begins, ends, has_other_type, place_of, refusal_of, first_is_after, last_is_before, covers, is_past, is_later, last_of}
+use Rattle.sctp_receive_queues.specs.Messages.{ReceivedMessage, message_of}
+use Rattle.sctp_receive_queues.specs.Pieces.{bytes_of, is_complete, begins, ends, has_other_type, index_of, refusal_of, first_is_after, last_is_before, covers, is_past, is_later, last_of}
 
 -- An ordered message that is put together: its SSN, and the pieces held of it in the order of their TSNs.
 pub record Group : Type 0 where
@@ -22,7 +22,7 @@ pub record Reassembly : Type 0 where
   -- TSNs follow one another
   pub unordered : List (List ChunkPayloadData)
   -- the complete unordered messages, in the order of their completion
-  pub complete : List Message
+  pub complete : List ReceivedMessage
 
 abbrev pub empty_reassembly : Reassembly
 empty_reassembly = record { next_ssn = 0; ordered = []; unordered = []; complete = [] }
@@ -35,8 +35,8 @@ bytes_in_groups groups = sum_by (λ (g : Group). bytes_of g.pieces) groups
 abbrev pub bytes_in_runs : List (List ChunkPayloadData) → ℕ
 bytes_in_runs runs = sum_by bytes_of runs
 
-abbrev pub bytes_in_messages : List Message → ℕ
-bytes_in_messages messages = sum_by (λ (m : Message). length m.bytes) messages
+abbrev pub bytes_in_messages : List ReceivedMessage → ℕ
+bytes_in_messages messages = sum_by (λ (m : ReceivedMessage). length m.bytes) messages
 
 -- the bytes of all pieces that came and were not read
 abbrev pub bytes_waiting : Reassembly → ℕ
@@ -59,15 +59,15 @@ abbrev pub place_for_ssn : ℕ → List Group → ℕ
 place_for_ssn ssn groups = unwrap_or (position (λ (g : Group). ssn_lt ssn g.ssn) groups) (length groups)
 
 abbrev pub grown : Group → ChunkPayloadData → Group
-grown g p = record g { pieces = insert g.pieces (place_of p.tsn g.pieces) p }
+grown g p = record g { pieces = insert g.pieces (index_of p.tsn g.pieces) p }
 
 abbrev pub grown_at : Option Group → ℕ → List Group → ChunkPayloadData → List Group
-grown_at None place groups p = groups
-grown_at (Some g) place groups p = slice_set groups place (grown g p)
+grown_at None index groups p = groups
+grown_at (Some g) index groups p = slice_set groups index (grown g p)
 
 abbrev pub put_at : Option ℕ → List Group → ChunkPayloadData → List Group
 put_at None groups p = insert groups (place_for_ssn p.stream_sequence_number groups) (group_of p)
-put_at (Some place) groups p = grown_at (slice_get groups place) place groups p
+put_at (Some index) groups p = grown_at (slice_get groups index) index groups p
 
 -- the messages with a piece at its place
 abbrev pub with_ordered : List Group → ChunkPayloadData → List Group
@@ -79,7 +79,7 @@ pieces_of (Some g) = g.pieces
 
 abbrev pub pieces_at : Option ℕ → List Group → List ChunkPayloadData
 pieces_at None groups = []
-pieces_at (Some place) groups = pieces_of (slice_get groups place)
+pieces_at (Some index) groups = pieces_of (slice_get groups index)
 
 -- why an ordered piece is refused beside those held of its message
 abbrev pub refusal_of_ordered : List Group → ChunkPayloadData → ℕ → Option Error
@@ -93,7 +93,7 @@ is_due next (Some g) = ssn_lte g.ssn next && is_complete g.pieces
 abbrev pub after_read : ℕ → ℕ → ℕ
 after_read ssn next = if ssn == next then (next + 1) % 2 ^ 16 else next
 
-abbrev pub read_ordered : Reassembly → List Group → Reassembly × Option Message
+abbrev pub read_ordered : Reassembly → List Group → Reassembly × Option ReceivedMessage
 read_ordered q [] = (q, None)
 read_ordered q (g ∷ gs) =
     if is_due q.next_ssn (Some g) then (
@@ -102,13 +102,13 @@ read_ordered q (g ∷ gs) =
     )
     else (q, None)
 
-abbrev pub read_from : Reassembly → List Message → Reassembly × Option Message
+abbrev pub read_from : Reassembly → List ReceivedMessage → Reassembly × Option ReceivedMessage
 read_from q [] = read_ordered q q.ordered
 read_from q (m ∷ ms) = (record q { complete = ms }, Some m)
 
 -- what is left after a read, and what the read gives: complete unordered messages first, then the first ordered one held
 -- where it is complete and not past the next SSN; one with the next SSN moves that by one
-abbrev pub taken : Reassembly → Reassembly × Option Message
+abbrev pub taken : Reassembly → Reassembly × Option ReceivedMessage
 taken q = read_from q q.complete
 
 abbrev pub is_ready : Reassembly → Bool
@@ -142,11 +142,11 @@ place_for_tsn tsn runs = unwrap_or (position (λ r. is_past r tsn) runs) (length
 
 -- the run in front of a place
 abbrev pub run_before : List (List ChunkPayloadData) → ℕ → List ChunkPayloadData
-run_before runs place = if place == 0 then [] else unwrap_or (slice_get runs (place - 1)) []
+run_before runs index = if index == 0 then [] else unwrap_or (slice_get runs (index - 1)) []
 
 -- the run at a place
 abbrev pub run_at : List (List ChunkPayloadData) → ℕ → List ChunkPayloadData
-run_at runs place = unwrap_or (slice_get runs place) []
+run_at runs index = unwrap_or (slice_get runs index) []
 
 -- of two pieces with neighbouring TSNs the one ends a message and the other does not begin one, or the other way round, or
 -- they are of one message and have different payload types
@@ -188,34 +188,34 @@ refusal_between before p after limit =
 -- why an unordered piece is refused beside those held
 abbrev pub refusal_of_unordered : List (List ChunkPayloadData) → ChunkPayloadData → ℕ → Option Error
 refusal_of_unordered runs p limit =
-    let place = place_for_tsn p.tsn runs in
-    refusal_between (run_before runs place) p (run_at runs place) limit
+    let index = place_for_tsn p.tsn runs in
+    refusal_between (run_before runs index) p (run_at runs index) limit
 
 abbrev pub put_between : Bool → Bool → List (List ChunkPayloadData) → ℕ → List ChunkPayloadData → List (List ChunkPayloadData)
-put_between false false runs place run = insert runs place run
-put_between true false runs place run = slice_set runs (place - 1) run
-put_between false true runs place run = slice_set runs place run
-put_between true true runs place run = remove (slice_set runs (place - 1) run) place
+put_between false false runs index run = insert runs index run
+put_between true false runs index run = slice_set runs (index - 1) run
+put_between false true runs index run = slice_set runs index run
+put_between true true runs index run = remove (slice_set runs (index - 1) run) index
 
 -- the place of the piece's run
 abbrev pub run_place : Bool → ℕ → ℕ
-run_place joins_before place = if joins_before then place - 1 else place
+run_place joins_before index = if joins_before then index - 1 else index
 
 -- the runs with a piece that has this place among them, and the place of its run
 abbrev pub with_unordered : List (List ChunkPayloadData) → ℕ → ChunkPayloadData → List (List ChunkPayloadData) × ℕ
-with_unordered runs place p = (
-  put_between (joins_before (run_before runs place) p) (joins_after (run_at runs place) p) runs place (joined_run (run_before runs place) p (run_at runs place)),
-  run_place (joins_before (run_before runs place) p) place,
+with_unordered runs index p = (
+  put_between (joins_before (run_before runs index) p) (joins_after (run_at runs index) p) runs index (joined_run (run_before runs index) p (run_at runs index)),
+  run_place (joins_before (run_before runs index) p) index,
 )
 
 -- a run that is a complete message is that
-abbrev pub finished : List (List ChunkPayloadData) → ℕ → List Message → List (List ChunkPayloadData) × List Message
-finished runs place messages =
-    if is_complete (run_at runs place) then (remove runs place, messages ++ message_of (run_at runs place) ∷ [])
+abbrev pub finished : List (List ChunkPayloadData) → ℕ → List ReceivedMessage → List (List ChunkPayloadData) × List ReceivedMessage
+finished runs index messages =
+    if is_complete (run_at runs index) then (remove runs index, messages ++ message_of (run_at runs index) ∷ [])
     else (runs, messages)
 
 -- an unordered piece is held, and where it completes its message, that is the last of the complete ones
-abbrev pub unordered_put : List (List ChunkPayloadData) → List Message → ChunkPayloadData → List (List ChunkPayloadData) × List Message
+abbrev pub unordered_put : List (List ChunkPayloadData) → List ReceivedMessage → ChunkPayloadData → List (List ChunkPayloadData) × List ReceivedMessage
 unordered_put runs messages p =
     let put = with_unordered runs (place_for_tsn p.tsn runs) p in finished put.0 put.1 messages
 
@@ -229,7 +229,7 @@ trimmed tsn runs = filter (λ (r : List ChunkPayloadData). not (length r == 0)) 
 
 -- A piece that came.
 
-abbrev pub with_put : Reassembly → List (List ChunkPayloadData) × List Message → Reassembly
+abbrev pub with_put : Reassembly → List (List ChunkPayloadData) × List ReceivedMessage → Reassembly
 with_put q put = record q { unordered = put.0; complete = put.1 }
 
 -- a piece is held, but for an ordered one of a message before the next SSN, and whether it is
@@ -252,12 +252,12 @@ unordered_skipped q tsn = record q { unordered = trimmed tsn q.unordered }
 
 -- What reads give.
 
-abbrev pub ready_on : Reassembly × Option Message → (Reassembly → List Message) → List Message
+abbrev pub ready_on : Reassembly × Option ReceivedMessage → (Reassembly → List ReceivedMessage) → List ReceivedMessage
 ready_on (q, None) more = []
 ready_on (q, Some m) more = m ∷ more q
 
 -- what so many reads give, one after another, up to the first that gives none
-abbrev pub ready_within : ℕ → Reassembly → List Message
+abbrev pub ready_within : ℕ → Reassembly → List ReceivedMessage
 ready_within zero q = []
 ready_within (suc n) q = ready_on (taken q) (ready_within n)
 
@@ -266,7 +266,7 @@ abbrev pub messages_held : Reassembly → ℕ
 messages_held q = length q.complete + length q.ordered
 
 -- what reads give, repeated until one gives none
-abbrev pub ready : Reassembly → List Message
+abbrev pub ready : Reassembly → List ReceivedMessage
 ready q = ready_within (messages_held q) q
 
 -- A read gives the first of these and leaves the others; it gives none where there are none, and leaves all as it is.

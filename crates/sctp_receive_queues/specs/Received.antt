@@ -21,51 +21,51 @@ has_offset distance = nat_lt 0 distance && nat_le distance 65535
 
 -- DATA with this TSN did not come yet
 abbrev pub is_new : List ℕ → ℕ → ℕ → Bool
-is_new tsns tsn point = has_offset (tsn_past point tsn) && not (is_held tsn tsns)
+is_new tsns tsn cumulative_tsn = has_offset (tsn_past cumulative_tsn tsn) && not (is_held tsn tsns)
 
 -- a TSN is held where it is new
 abbrev pub with_tsn : List ℕ → ℕ → ℕ → List ℕ × Bool
-with_tsn tsns tsn point =
-    if is_new tsns tsn point then (insert_key nat_cmp tsns tsn, true) else (tsns, false)
+with_tsn tsns tsn cumulative_tsn =
+    if is_new tsns tsn cumulative_tsn then (insert_key nat_cmp tsns tsn, true) else (tsns, false)
 
 abbrev pub next_tsn : ℕ → ℕ
 next_tsn tsn = (tsn + 1) % 2 ^ 32
 
 -- the point moves over the TSNs that follow it, at most n of them, and they are held no more
 abbrev pub advanced : ℕ → ℕ → List ℕ → ℕ × List ℕ
-advanced zero point tsns = (point, tsns)
-advanced (suc n) point tsns =
-    if is_held (next_tsn point) tsns then advanced n (next_tsn point) (remove_key (is_at (nat_cmp (next_tsn point))) tsns)
-    else (point, tsns)
+advanced zero cumulative_tsn tsns = (cumulative_tsn, tsns)
+advanced (suc n) cumulative_tsn tsns =
+    if is_held (next_tsn cumulative_tsn) tsns then advanced n (next_tsn cumulative_tsn) (remove_key (is_at (nat_cmp (next_tsn cumulative_tsn))) tsns)
+    else (cumulative_tsn, tsns)
 
 -- the one of two TSNs that is farther past the point
 abbrev pub later_of : ℕ → Option ℕ → ℕ → ℕ
-later_of point None t = t
-later_of point (Some last) t = if nat_lt (tsn_past point last) (tsn_past point t) then t else last
+later_of cumulative_tsn None t = t
+later_of cumulative_tsn (Some last) t = if nat_lt (tsn_past cumulative_tsn last) (tsn_past cumulative_tsn t) then t else last
 
 -- the TSN that is farthest past the point
 abbrev pub last_received : ℕ → List ℕ → Option ℕ
-last_received point tsns = fold (λ last t. Some (later_of point last t)) None tsns
+last_received cumulative_tsn tsns = fold (λ last t. Some (later_of cumulative_tsn last t)) None tsns
 
 -- no TSN is farther past the point; there is none only where there are no TSNs
 abbrev pub IsFarthest : ℕ → List ℕ → Option ℕ → Type 0
-IsFarthest point tsns None = tsns ≡ []
-IsFarthest point tsns (Some t) = AllByRecursion (λ u. tsn_past point u ≤ tsn_past point t) tsns
+IsFarthest cumulative_tsn tsns None = tsns ≡ []
+IsFarthest cumulative_tsn tsns (Some t) = AllByRecursion (λ u. tsn_past cumulative_tsn u ≤ tsn_past cumulative_tsn t) tsns
 
 -- a TSN is greater than the point as a number, or it is not
 abbrev pub is_greater : Bool → ℕ → ℕ → Bool
-is_greater greater point tsn = if nat_lt point tsn then greater else not greater
+is_greater greater cumulative_tsn tsn = if nat_lt cumulative_tsn tsn then greater else not greater
 
 -- how far the TSNs that are greater than the point as numbers, or those that are not, are past it
 abbrev pub offsets_in : Bool → ℕ → List ℕ → List ℕ
-offsets_in greater point [] = []
-offsets_in greater point (t ∷ ts) =
-    if is_greater greater point t && has_offset (tsn_past point t) then tsn_past point t ∷ offsets_in greater point ts
-    else offsets_in greater point ts
+offsets_in greater cumulative_tsn [] = []
+offsets_in greater cumulative_tsn (t ∷ ts) =
+    if is_greater greater cumulative_tsn t && has_offset (tsn_past cumulative_tsn t) then tsn_past cumulative_tsn t ∷ offsets_in greater cumulative_tsn ts
+    else offsets_in greater cumulative_tsn ts
 
 -- how far the TSNs are past the point: the numbers of TSNs go round, so those behind the point as numbers are farther
 abbrev pub offsets_of : ℕ → List ℕ → List ℕ
-offsets_of point tsns = offsets_in true point tsns ++ offsets_in false point tsns
+offsets_of cumulative_tsn tsns = offsets_in true cumulative_tsn tsns ++ offsets_in false cumulative_tsn tsns
 
 abbrev pub block : ℕ → ℕ → GapAckBlock
 block start end = record { start = start; end = end }
@@ -82,7 +82,7 @@ runs_of (o ∷ os) = runs_from (block o o) os
 
 -- the gap ack blocks of a SACK with this point
 abbrev pub gap_ack_blocks : ℕ → List ℕ → List GapAckBlock
-gap_ack_blocks point tsns = runs_of (offsets_of point tsns)
+gap_ack_blocks cumulative_tsn tsns = runs_of (offsets_of cumulative_tsn tsns)
 
 -- an offset lies within one of the blocks
 abbrev pub is_named : ℕ → List GapAckBlock → Bool
@@ -90,7 +90,7 @@ is_named o blocks = list_any (λ (b : GapAckBlock). nat_le b.start o && nat_le o
 
 -- a TSN that is this far past the point is held
 abbrev pub is_held_at : ℕ → ℕ → List ℕ → Bool
-is_held_at point offset tsns = list_any (λ t. tsn_past point t == offset) tsns
+is_held_at cumulative_tsn offset tsns = list_any (λ t. tsn_past cumulative_tsn t == offset) tsns
 
 -- the blocks ascend, and between two of them an offset is missing; the first one begins at `least` or later
 abbrev pub AreRuns : ℕ → List GapAckBlock → Type 0

@@ -18,9 +18,9 @@ pub struct Chunks {
 
 impl Model for Chunks {
     ghost use Rattle.std.specs.Prelude.{◌≡◌, length};
-    ghost use Rattle.sctp_receive_queues.specs.Messages.{Message, joined};
+    ghost use Rattle.sctp_receive_queues.specs.Messages.{ReceivedMessage, joined};
 
-    ghost Value = { Message };
+    ghost Value = { ReceivedMessage };
 
     ghost view = { λ c. record { payload_type = c.ppi; bytes = joined c.pieces.items } };
 

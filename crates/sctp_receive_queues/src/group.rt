@@ -110,21 +110,21 @@ pub(crate) fn refusal(
     ensures { result ≡ refusal_of_ordered groups.now.items piece.now limit }
 {
     match find(groups, piece.stream_sequence_number) {
-        Some(place) => refusal_at(groups, place, piece, limit),
+        Some(index) => refusal_at(groups, index, piece, limit),
         None => refusal_of_first(piece, limit),
     }
 }
 
 fn refusal_at(
     groups: &VecDeque<Group>,
-    place: usize,
+    index: usize,
     piece: &ChunkPayloadData,
     limit: u32,
 ) -> Option<Error>
-    requires { place < length groups.now.items }
-    ensures { result ≡ refusal_of (pieces_at (Some place) groups.now.items) piece.now limit }
+    requires { index < length groups.now.items }
+    ensures { result ≡ refusal_of (pieces_at (Some index) groups.now.items) piece.now limit }
 {
-    match groups.get(place) {
+    match groups.get(index) {
         Some(group) => group.refusal(piece, limit),
         None => None,
     }
@@ -153,31 +153,31 @@ pub(crate) fn put(
     ensures refused { IfErr result (λ e. ((e ≡ Error.ErrNoMemory) × (refusal_of_ordered groups.old.items piece limit ≡ None)) ⊎ (refusal_of_ordered groups.old.items piece limit ≡ Some e)) }
 {
     match find(groups, piece.stream_sequence_number) {
-        Some(place) => add_at(groups, place, piece, limit),
+        Some(index) => add_at(groups, index, piece, limit),
         None => add_new(groups, alloc, piece, limit),
     }
 }
 
 fn find(groups: &VecDeque<Group>, ssn: u16) -> Option<usize>
     ensures found { result ≡ place_of_ssn ssn groups.now.items }
-    ensures bound { IfSome result (λ place. place < length groups.now.items) }
+    ensures bound { IfSome result (λ index. index < length groups.now.items) }
 {
     groups.iter().position(|group| group.ssn() == ssn)
 }
 
 fn add_at(
     groups: &mut VecDeque<Group>,
-    place: usize,
+    index: usize,
     piece: ChunkPayloadData,
     limit: u32,
 ) -> Result<(), Error>
-    requires { place < length groups.old.items }
-    ensures put { OnOk result (groups.new.items ≡ put_at (Some place) groups.old.items piece) }
+    requires { index < length groups.old.items }
+    ensures put { OnOk result (groups.new.items ≡ put_at (Some index) groups.old.items piece) }
     ensures unchanged { OnErr result (groups.new.items ≡ groups.old.items) }
-    ensures taken { IsOk result → refusal_of (pieces_at (Some place) groups.old.items) piece limit ≡ None }
-    ensures refused { IfErr result (λ e. ((e ≡ Error.ErrNoMemory) × (refusal_of (pieces_at (Some place) groups.old.items) piece limit ≡ None)) ⊎ (refusal_of (pieces_at (Some place) groups.old.items) piece limit ≡ Some e)) }
+    ensures taken { IsOk result → refusal_of (pieces_at (Some index) groups.old.items) piece limit ≡ None }
+    ensures refused { IfErr result (λ e. ((e ≡ Error.ErrNoMemory) × (refusal_of (pieces_at (Some index) groups.old.items) piece limit ≡ None)) ⊎ (refusal_of (pieces_at (Some index) groups.old.items) piece limit ≡ Some e)) }
 {
-    match groups.get_mut(place) {
+    match groups.get_mut(index) {
         Some(group) => group.add(piece, limit),
         None => Ok(()),
     }
@@ -197,26 +197,26 @@ fn add_new(
     if let Some(error) = refusal_of_first(&piece, limit) {
         return Err(error);
     }
-    let place = place_for(groups, piece.stream_sequence_number);
+    let index = index_for(groups, piece.stream_sequence_number);
     let group = Group::of(alloc, piece)?;
-    groups.insert(place, group)?;
+    groups.insert(index, group)?;
     Ok(())
 }
 
 // In front of the first message that is past this SSN, else at the end.
-fn place_for(groups: &VecDeque<Group>, ssn: u16) -> usize
-    ensures place { result ≡ place_for_ssn ssn groups.now.items }
+fn index_for(groups: &VecDeque<Group>, ssn: u16) -> usize
+    ensures index { result ≡ place_for_ssn ssn groups.now.items }
     ensures bound { result ≤ length groups.now.items }
 {
     match first_past(groups, ssn) {
-        Some(place) => place,
+        Some(index) => index,
         None => groups.len(),
     }
 }
 
 fn first_past(groups: &VecDeque<Group>, ssn: u16) -> Option<usize>
     ensures first { result ≡ position (λ g. ssn_lt ssn g.ssn) groups.now.items }
-    ensures bound { IfSome result (λ place. place < length groups.now.items) }
+    ensures bound { IfSome result (λ index. index < length groups.now.items) }
 {
     groups.iter().position(|group| sna16lt(ssn, group.ssn()))
 }

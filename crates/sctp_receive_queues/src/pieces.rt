@@ -1,7 +1,7 @@
 // The pieces held of one message.
 ghost use Rattle.std.specs.Prelude.{◌≡◌, ◌+◌, ◌<◌, ◌^◌, ◌∷◌, [], ◌++◌, length, insert, IfOk, OnOk, OnErr, IfSome, ◌≤◌, ◌==◌, position, None, nat_lt, not, fold, min, ◌-◌};
 ghost use Rattle.sctp_wire_types.specs.Serial.{tsn_lt, tsn_past};
-ghost use Rattle.sctp_receive_queues.specs.Pieces.{bytes_of, begins, ends, is_complete, follows, first_is_after, last_is_before, covers, is_past, is_later, last_of, is_after, has_tsn, has_other_type, place_of, breaks_ends, contradicts, refusal_of};
+ghost use Rattle.sctp_receive_queues.specs.Pieces.{bytes_of, begins, ends, is_complete, follows, first_is_after, last_is_before, covers, is_past, is_later, last_of, is_after, has_tsn, has_other_type, index_of, breaks_ends, contradicts, refusal_of};
 ghost use Rattle.sctp_receive_queues.specs.Messages.{message_of};
 ghost use Rattle.sctp_receive_queues.specs.Reassembly.{tears, is_torn_before, is_torn_after, joins_before, joins_after, above};
 
@@ -207,15 +207,15 @@ impl Pieces {
 
     // Whether a first piece would not be at the lowest TSN, or a last one not at the highest.
     fn breaks_ends(&self, piece: &ChunkPayloadData) -> bool
-        ensures { result ≡ breaks_ends (place_of piece.now.tsn self.now) self.now piece.now }
+        ensures { result ≡ breaks_ends (index_of piece.now.tsn self.now) self.now piece.now }
     {
-        let place = place_in(&self.list, piece.tsn);
-        let breaks_start = if place == 0 {
+        let index = place_in(&self.list, piece.tsn);
+        let breaks_start = if index == 0 {
             self.begins()
         } else {
             piece.beginning_fragment
         };
-        let breaks_end = if place == self.list.len() {
+        let breaks_end = if index == self.list.len() {
             self.ends()
         } else {
             piece.ending_fragment
@@ -226,12 +226,12 @@ impl Pieces {
     // Puts a piece at its place; where memory is refused nothing changes.
     pub(crate) fn insert(&mut self, piece: ChunkPayloadData) -> Result<(), AllocError>
         requires { bytes_of self.old + length piece.user_data < 2 ^ 64 }
-        ensures put { OnOk result (self.new ≡ insert self.old (place_of piece.tsn self.old) piece) }
+        ensures put { OnOk result (self.new ≡ insert self.old (index_of piece.tsn self.old) piece) }
         ensures unchanged { OnErr result (self.new ≡ self.old) }
     {
-        let place = place_in(&self.list, piece.tsn);
+        let index = place_in(&self.list, piece.tsn);
         let bytes = piece.user_data.len() as u64;
-        self.list.insert(place, piece)?;
+        self.list.insert(index, piece)?;
         self.bytes += bytes;
         Ok(())
     }
@@ -330,18 +330,18 @@ fn has_tsn(list: &VecDeque<ChunkPayloadData>, tsn: u32) -> bool
 
 // In front of the first piece that is past this TSN, else at the end.
 fn place_in(list: &VecDeque<ChunkPayloadData>, tsn: u32) -> usize
-    ensures place { result ≡ place_of tsn list.now.items }
+    ensures index { result ≡ index_of tsn list.now.items }
     ensures bound { result ≤ length list.now.items }
 {
     match first_past(list, tsn) {
-        Some(place) => place,
+        Some(index) => index,
         None => list.len(),
     }
 }
 
 fn first_past(list: &VecDeque<ChunkPayloadData>, tsn: u32) -> Option<usize>
     ensures first { result ≡ position (λ p. tsn_lt tsn p.tsn) list.now.items }
-    ensures bound { IfSome result (λ place. place < length list.now.items) }
+    ensures bound { IfSome result (λ index. index < length list.now.items) }
 {
     list.iter().position(|piece| sna32lt(tsn, piece.tsn))
 }

@@ -41,10 +41,10 @@ impl ReceiveQueue {
     }
 
     /// Whether DATA with this TSN is new: 1 to 65,535 past the point and not held.
-    pub fn can_push(&self, tsn: u32, point: u32) -> bool
-        ensures { result ≡ is_new self.now tsn point }
+    pub fn can_push(&self, tsn: u32, cumulative_tsn: u32) -> bool
+        ensures { result ≡ is_new self.now tsn cumulative_tsn }
     {
-        let distance = tsn.wrapping_sub(point);
+        let distance = tsn.wrapping_sub(cumulative_tsn);
         0 < distance && distance <= 65_535 && !self.contains(tsn)
     }
 
@@ -56,11 +56,11 @@ impl ReceiveQueue {
     }
 
     /// Adds a TSN where `can_push`, and answers whether it did. Where memory is refused the set stays as it was.
-    pub fn push(&mut self, tsn: u32, point: u32) -> Result<bool, AllocError>
-        ensures pushed { IfOk result (λ added. with_tsn self.old tsn point ≡ (self.new, added)) }
+    pub fn push(&mut self, tsn: u32, cumulative_tsn: u32) -> Result<bool, AllocError>
+        ensures pushed { IfOk result (λ added. with_tsn self.old tsn cumulative_tsn ≡ (self.new, added)) }
         ensures unchanged { OnErr result (self.new ≡ self.old) }
     {
-        if !self.can_push(tsn, point) {
+        if !self.can_push(tsn, cumulative_tsn) {
             return Ok(false);
         }
         self.tsns.insert(tsn)?;
@@ -86,15 +86,15 @@ impl ReceiveQueue {
 
     /// Takes out the TSNs that follow the point one after another, and answers the last of them: where the cumulative TSN
     /// ack point moves (RFC 4960 section 6.2).
-    pub fn advance(&mut self, point: u32) -> u32
-        ensures moved { advanced (length self.old) point self.old ≡ (result, self.new) }
+    pub fn advance(&mut self, cumulative_tsn: u32) -> u32
+        ensures moved { advanced (length self.old) cumulative_tsn self.old ≡ (result, self.new) }
         ensures stops { is_held ((result + 1) % 2 ^ 32) self.new ≡ false }
     {
-        let mut point = point;
-        while self.pop(point.wrapping_add(1)).is_some() {
-            point = point.wrapping_add(1);
+        let mut cumulative_tsn = cumulative_tsn;
+        while self.pop(cumulative_tsn.wrapping_add(1)).is_some() {
+            cumulative_tsn = cumulative_tsn.wrapping_add(1);
         }
-        point
+        cumulative_tsn
     }
 
     /// The TSNs held, as the SACK for this point says them: the maximal runs, ascending, by their first and last offset from
@@ -102,42 +102,42 @@ impl ReceiveQueue {
     pub fn get_gap_ack_blocks(
         &self,
         alloc: Global,
-        point: u32,
+        cumulative_tsn: u32,
     ) -> Result<List<GapAckBlock>, AllocError>
-        ensures blocks { IfOk result (λ blocks. blocks ≡ gap_ack_blocks point self.now) }
-        ensures exact { IfOk result (λ blocks. (o : ℕ) → 0 < o → o < 2 ^ 16 → is_named o blocks ≡ is_held_at point o self.now) }
+        ensures blocks { IfOk result (λ blocks. blocks ≡ gap_ack_blocks cumulative_tsn self.now) }
+        ensures exact { IfOk result (λ blocks. (o : ℕ) → 0 < o → o < 2 ^ 16 → is_named o blocks ≡ is_held_at cumulative_tsn o self.now) }
         ensures maximal { IfOk result (λ blocks. AreRuns 1 blocks) }
     {
-        let offsets = self.offsets(alloc, point)?;
+        let offsets = self.offsets(alloc, cumulative_tsn)?;
         let blocks = runs(alloc, &offsets)?;
         Ok(List::from_vec(blocks))
     }
 
     // Offsets from the point, ascending: the TSNs past the point as numbers come before those behind it, which wrapped.
-    fn offsets(&self, alloc: Global, point: u32) -> Result<Vec<u16>, AllocError>
-        ensures offsets { IfOk result (λ offsets. offsets.items ≡ offsets_of point self.now) }
+    fn offsets(&self, alloc: Global, cumulative_tsn: u32) -> Result<Vec<u16>, AllocError>
+        ensures offsets { IfOk result (λ offsets. offsets.items ≡ offsets_of cumulative_tsn self.now) }
         ensures tsns { OnOk result (AreTsns self.now × IsStrictlySortedBy nat_cmp self.now) }
     {
         let mut offsets = Vec::with_capacity(alloc, self.tsns.len())?;
-        add_offsets(&mut offsets, &self.tsns, point, true)?;
-        add_offsets(&mut offsets, &self.tsns, point, false)?;
+        add_offsets(&mut offsets, &self.tsns, cumulative_tsn, true)?;
+        add_offsets(&mut offsets, &self.tsns, cumulative_tsn, false)?;
         Ok(offsets)
     }
 
     /// The TSN held that is farthest past the point; None where nothing is held.
-    pub fn get_last_tsn_received(&self, point: u32) -> Option<u32>
-        ensures last { result ≡ last_received point self.now }
-        ensures farthest { IsFarthest point self.now result }
+    pub fn get_last_tsn_received(&self, cumulative_tsn: u32) -> Option<u32>
+        ensures last { result ≡ last_received cumulative_tsn self.now }
+        ensures farthest { IsFarthest cumulative_tsn self.now result }
     {
-        self.farthest(point)
+        self.farthest(cumulative_tsn)
     }
 
-    fn farthest(&self, point: u32) -> Option<u32>
-        ensures { result ≡ last_received point self.now }
+    fn farthest(&self, cumulative_tsn: u32) -> Option<u32>
+        ensures { result ≡ last_received cumulative_tsn self.now }
     {
         let mut last = None;
         for tsn in &self.tsns {
-            last = Some(later(point, last, *tsn));
+            last = Some(later(cumulative_tsn, last, *tsn));
         }
         last
     }
@@ -156,11 +156,11 @@ impl ReceiveQueue {
 }
 
 // The one of two TSNs that is farther past the point.
-fn later(point: u32, last: Option<u32>, tsn: u32) -> u32
-    ensures { result ≡ later_of point last tsn }
+fn later(cumulative_tsn: u32, last: Option<u32>, tsn: u32) -> u32
+    ensures { result ≡ later_of cumulative_tsn last tsn }
 {
     match last {
-        Some(last) if tsn.wrapping_sub(point) <= last.wrapping_sub(point) => last,
+        Some(last) if tsn.wrapping_sub(cumulative_tsn) <= last.wrapping_sub(cumulative_tsn) => last,
         _ => tsn,
     }
 }
@@ -168,14 +168,18 @@ fn later(point: u32, last: Option<u32>, tsn: u32) -> u32
 fn add_offsets(
     offsets: &mut Vec<u16>,
     tsns: &BTreeSet<u32>,
-    point: u32,
+    cumulative_tsn: u32,
     greater: bool,
 ) -> Result<(), AllocError>
-    ensures { OnOk result (offsets.new.items ≡ offsets.old.items ++ offsets_in greater point tsns.now.keys) }
+    ensures { OnOk result (offsets.new.items ≡ offsets.old.items ++ offsets_in greater cumulative_tsn tsns.now.keys) }
 {
     for tsn in tsns {
-        let is_on_side = if point < *tsn { greater } else { !greater };
-        let offset = tsn.wrapping_sub(point);
+        let is_on_side = if cumulative_tsn < *tsn {
+            greater
+        } else {
+            !greater
+        };
+        let offset = tsn.wrapping_sub(cumulative_tsn);
         if is_on_side && 0 < offset && offset <= 65_535 {
             offsets.push(offset as u16)?;
         }

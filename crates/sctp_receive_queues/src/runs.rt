@@ -20,7 +20,7 @@ pub(crate) fn refusal_of(
 ) -> Option<Error>
     ensures { result ≡ refusal_of_unordered runs.now.items piece.now limit }
 {
-    refusal(runs, place_for(runs, piece.tsn), piece, limit)
+    refusal(runs, index_for(runs, piece.tsn), piece, limit)
 }
 
 // Puts a piece to the others, and its message to the complete ones where this was its last piece. Where the piece is refused
@@ -38,123 +38,123 @@ pub(crate) fn put(
     ensures taken { IsOk result → refusal_of_unordered runs.old.items piece limit ≡ None }
     ensures refused { IfErr result (λ e. ((e ≡ Error.ErrNoMemory) × (refusal_of_unordered runs.old.items piece limit ≡ None)) ⊎ (refusal_of_unordered runs.old.items piece limit ≡ Some e)) }
 {
-    let place = place_for(runs, piece.tsn);
-    if let Some(error) = refusal(runs, place, &piece, limit) {
+    let index = index_for(runs, piece.tsn);
+    if let Some(error) = refusal(runs, index, &piece, limit) {
         return Err(error);
     }
     complete.reserve(1)?;
-    let place = join(runs, place, alloc, piece)?;
-    finish(runs, complete, place);
+    let index = join(runs, index, alloc, piece)?;
+    finish(runs, complete, index);
     Ok(())
 }
 
 // In front of the first run that is past this TSN, else at the end.
-fn place_for(runs: &VecDeque<Pieces>, tsn: u32) -> usize
-    ensures place { result ≡ place_for_tsn tsn runs.now.items }
+fn index_for(runs: &VecDeque<Pieces>, tsn: u32) -> usize
+    ensures index { result ≡ place_for_tsn tsn runs.now.items }
     ensures bound { result ≤ length runs.now.items }
 {
     match first_past(runs, tsn) {
-        Some(place) => place,
+        Some(index) => index,
         None => runs.len(),
     }
 }
 
 fn first_past(runs: &VecDeque<Pieces>, tsn: u32) -> Option<usize>
     ensures first { result ≡ position (λ r. is_past r tsn) runs.now.items }
-    ensures bound { IfSome result (λ place. place < length runs.now.items) }
+    ensures bound { IfSome result (λ index. index < length runs.now.items) }
 {
     runs.iter().position(|run| run.is_past(tsn))
 }
 
-fn before(runs: &VecDeque<Pieces>, place: usize) -> Option<&Pieces>
-    ensures { unwrap_or (option_copied result) [] ≡ run_before runs.now.items place }
+fn before(runs: &VecDeque<Pieces>, index: usize) -> Option<&Pieces>
+    ensures { unwrap_or (option_copied result) [] ≡ run_before runs.now.items index }
 {
-    if place == 0 {
+    if index == 0 {
         return None;
     }
-    runs.get(place - 1)
+    runs.get(index - 1)
 }
 
-fn at(runs: &VecDeque<Pieces>, place: usize) -> Option<&Pieces>
-    ensures { unwrap_or (option_copied result) [] ≡ run_at runs.now.items place }
+fn at(runs: &VecDeque<Pieces>, index: usize) -> Option<&Pieces>
+    ensures { unwrap_or (option_copied result) [] ≡ run_at runs.now.items index }
 {
-    runs.get(place)
+    runs.get(index)
 }
 
 // Why a piece is refused between its neighbours, if it is.
 fn refusal(
     runs: &VecDeque<Pieces>,
-    place: usize,
+    index: usize,
     piece: &ChunkPayloadData,
     limit: u32,
 ) -> Option<Error>
-    ensures refusal { result ≡ refusal_between (run_before runs.now.items place) piece.now (run_at runs.now.items place) limit }
-    ensures small { result ≡ None → bytes_of (part (joins_before (run_before runs.now.items place) piece.now) (run_before runs.now.items place)) + length piece.now.user_data + bytes_of (part (joins_after (run_at runs.now.items place) piece.now) (run_at runs.now.items place)) ≤ limit }
+    ensures refusal { result ≡ refusal_between (run_before runs.now.items index) piece.now (run_at runs.now.items index) limit }
+    ensures small { result ≡ None → bytes_of (part (joins_before (run_before runs.now.items index) piece.now) (run_before runs.now.items index)) + length piece.now.user_data + bytes_of (part (joins_after (run_at runs.now.items index) piece.now) (run_at runs.now.items index)) ≤ limit }
 {
-    if contradicts_before(runs, place, piece) || contradicts_after(runs, place, piece) {
+    if contradicts_before(runs, index, piece) || contradicts_after(runs, index, piece) {
         return Some(Error::ErrContradictoryPieces);
     }
-    let bytes = bytes_before(runs, place, piece)
+    let bytes = bytes_before(runs, index, piece)
         .saturating_add(piece.user_data.len() as u64)
-        .saturating_add(bytes_after(runs, place, piece));
+        .saturating_add(bytes_after(runs, index, piece));
     if bytes > limit as u64 {
         return Some(Error::ErrInboundMessageTooLarge);
     }
     None
 }
 
-fn contradicts_before(runs: &VecDeque<Pieces>, place: usize, piece: &ChunkPayloadData) -> bool
-    ensures { result ≡ (covers (run_before runs.now.items place) piece.now.tsn || is_torn_before (run_before runs.now.items place) piece.now) }
+fn contradicts_before(runs: &VecDeque<Pieces>, index: usize, piece: &ChunkPayloadData) -> bool
+    ensures { result ≡ (covers (run_before runs.now.items index) piece.now.tsn || is_torn_before (run_before runs.now.items index) piece.now) }
 {
-    match before(runs, place) {
+    match before(runs, index) {
         Some(run) => run.covers(piece.tsn) || run.is_torn_before(piece),
         None => false,
     }
 }
 
-fn contradicts_after(runs: &VecDeque<Pieces>, place: usize, piece: &ChunkPayloadData) -> bool
-    ensures { result ≡ is_torn_after (run_at runs.now.items place) piece.now }
+fn contradicts_after(runs: &VecDeque<Pieces>, index: usize, piece: &ChunkPayloadData) -> bool
+    ensures { result ≡ is_torn_after (run_at runs.now.items index) piece.now }
 {
-    match at(runs, place) {
+    match at(runs, index) {
         Some(run) => run.is_torn_after(piece),
         None => false,
     }
 }
 
-fn is_joined_before(runs: &VecDeque<Pieces>, place: usize, piece: &ChunkPayloadData) -> bool
-    ensures joins { result ≡ joins_before (run_before runs.now.items place) piece.now }
-    ensures place { IsTrue result → 0 < place }
-    ensures bound { IsTrue result → place - 1 < length runs.now.items }
+fn is_joined_before(runs: &VecDeque<Pieces>, index: usize, piece: &ChunkPayloadData) -> bool
+    ensures joins { result ≡ joins_before (run_before runs.now.items index) piece.now }
+    ensures index { IsTrue result → 0 < index }
+    ensures bound { IsTrue result → index - 1 < length runs.now.items }
 {
-    match before(runs, place) {
+    match before(runs, index) {
         Some(run) => run.joins_before(piece),
         None => false,
     }
 }
 
-fn is_joined_after(runs: &VecDeque<Pieces>, place: usize, piece: &ChunkPayloadData) -> bool
-    ensures joins { result ≡ joins_after (run_at runs.now.items place) piece.now }
-    ensures bound { IsTrue result → place < length runs.now.items }
+fn is_joined_after(runs: &VecDeque<Pieces>, index: usize, piece: &ChunkPayloadData) -> bool
+    ensures joins { result ≡ joins_after (run_at runs.now.items index) piece.now }
+    ensures bound { IsTrue result → index < length runs.now.items }
 {
-    match at(runs, place) {
+    match at(runs, index) {
         Some(run) => run.joins_after(piece),
         None => false,
     }
 }
 
-fn bytes_before(runs: &VecDeque<Pieces>, place: usize, piece: &ChunkPayloadData) -> u64
-    ensures { result ≡ bytes_of (part (joins_before (run_before runs.now.items place) piece.now) (run_before runs.now.items place)) }
+fn bytes_before(runs: &VecDeque<Pieces>, index: usize, piece: &ChunkPayloadData) -> u64
+    ensures { result ≡ bytes_of (part (joins_before (run_before runs.now.items index) piece.now) (run_before runs.now.items index)) }
 {
-    match before(runs, place) {
+    match before(runs, index) {
         Some(run) if run.joins_before(piece) => run.bytes(),
         _ => 0,
     }
 }
 
-fn bytes_after(runs: &VecDeque<Pieces>, place: usize, piece: &ChunkPayloadData) -> u64
-    ensures { result ≡ bytes_of (part (joins_after (run_at runs.now.items place) piece.now) (run_at runs.now.items place)) }
+fn bytes_after(runs: &VecDeque<Pieces>, index: usize, piece: &ChunkPayloadData) -> u64
+    ensures { result ≡ bytes_of (part (joins_after (run_at runs.now.items index) piece.now) (run_at runs.now.items index)) }
 {
-    match at(runs, place) {
+    match at(runs, index) {
         Some(run) if run.joins_after(piece) => run.bytes(),
         _ => 0,
     }
@@ -163,49 +163,49 @@ fn bytes_after(runs: &VecDeque<Pieces>, place: usize, piece: &ChunkPayloadData) 
 // Puts a piece to the runs that it goes on with, and answers the place of its run.
 fn join(
     runs: &mut VecDeque<Pieces>,
-    place: usize,
+    index: usize,
     alloc: Global,
     piece: ChunkPayloadData,
 ) -> Result<usize, AllocError>
-    requires place { place ≤ length runs.old.items }
-    requires bytes { bytes_of (part (joins_before (run_before runs.old.items place) piece) (run_before runs.old.items place)) + length piece.user_data + bytes_of (part (joins_after (run_at runs.old.items place) piece) (run_at runs.old.items place)) < 2 ^ 64 }
-    ensures put { IfOk result (λ k. with_unordered runs.old.items place piece ≡ (runs.new.items, k)) }
+    requires index { index ≤ length runs.old.items }
+    requires bytes { bytes_of (part (joins_before (run_before runs.old.items index) piece) (run_before runs.old.items index)) + length piece.user_data + bytes_of (part (joins_after (run_at runs.old.items index) piece) (run_at runs.old.items index)) < 2 ^ 64 }
+    ensures put { IfOk result (λ k. with_unordered runs.old.items index piece ≡ (runs.new.items, k)) }
     ensures unchanged { OnErr result (runs.new.items ≡ runs.old.items) }
 {
-    let joins_before = is_joined_before(runs, place, &piece);
-    let joins_after = is_joined_after(runs, place, &piece);
+    let joins_before = is_joined_before(runs, index, &piece);
+    let joins_after = is_joined_after(runs, index, &piece);
     match (joins_before, joins_after) {
         (false, false) => {
             let run = Pieces::of(alloc, piece)?;
-            runs.insert(place, run)?;
-            Ok(place)
+            runs.insert(index, run)?;
+            Ok(index)
         }
         (true, false) => {
-            push_back_at(runs, place - 1, piece)?;
-            Ok(place - 1)
+            push_back_at(runs, index - 1, piece)?;
+            Ok(index - 1)
         }
         (false, true) => {
-            push_front_at(runs, place, piece)?;
-            Ok(place)
+            push_front_at(runs, index, piece)?;
+            Ok(index)
         }
         (true, true) => {
-            join_at(runs, place, alloc, piece)?;
-            Ok(place - 1)
+            join_at(runs, index, alloc, piece)?;
+            Ok(index - 1)
         }
     }
 }
 
 fn push_back_at(
     runs: &mut VecDeque<Pieces>,
-    place: usize,
+    index: usize,
     piece: ChunkPayloadData,
 ) -> Result<(), AllocError>
-    requires place { place < length runs.old.items }
-    requires bytes { bytes_of (run_at runs.old.items place) + length piece.user_data < 2 ^ 64 }
-    ensures put { OnOk result (runs.new.items ≡ slice_set runs.old.items place (run_at runs.old.items place ++ piece ∷ [])) }
+    requires index { index < length runs.old.items }
+    requires bytes { bytes_of (run_at runs.old.items index) + length piece.user_data < 2 ^ 64 }
+    ensures put { OnOk result (runs.new.items ≡ slice_set runs.old.items index (run_at runs.old.items index ++ piece ∷ [])) }
     ensures unchanged { OnErr result (runs.new.items ≡ runs.old.items) }
 {
-    match runs.get_mut(place) {
+    match runs.get_mut(index) {
         Some(run) => run.push_back(piece),
         None => Ok(()),
     }
@@ -213,15 +213,15 @@ fn push_back_at(
 
 fn push_front_at(
     runs: &mut VecDeque<Pieces>,
-    place: usize,
+    index: usize,
     piece: ChunkPayloadData,
 ) -> Result<(), AllocError>
-    requires place { place < length runs.old.items }
-    requires bytes { bytes_of (run_at runs.old.items place) + length piece.user_data < 2 ^ 64 }
-    ensures put { OnOk result (runs.new.items ≡ slice_set runs.old.items place (piece ∷ run_at runs.old.items place)) }
+    requires index { index < length runs.old.items }
+    requires bytes { bytes_of (run_at runs.old.items index) + length piece.user_data < 2 ^ 64 }
+    ensures put { OnOk result (runs.new.items ≡ slice_set runs.old.items index (piece ∷ run_at runs.old.items index)) }
     ensures unchanged { OnErr result (runs.new.items ≡ runs.old.items) }
 {
-    match runs.get_mut(place) {
+    match runs.get_mut(index) {
         Some(run) => run.push_front(piece),
         None => Ok(()),
     }
@@ -230,35 +230,35 @@ fn push_front_at(
 // Puts a piece between the run in front of a place and the run at it.
 fn join_at(
     runs: &mut VecDeque<Pieces>,
-    place: usize,
+    index: usize,
     alloc: Global,
     piece: ChunkPayloadData,
 ) -> Result<(), AllocError>
-    requires first { 0 < place }
-    requires place { place < length runs.old.items }
-    requires bytes { bytes_of (run_at runs.old.items (place - 1)) + length piece.user_data + bytes_of (run_at runs.old.items place) < 2 ^ 64 }
-    ensures put { OnOk result (runs.new.items ≡ remove (slice_set runs.old.items (place - 1) (run_at runs.old.items (place - 1) ++ piece ∷ run_at runs.old.items place)) place) }
+    requires first { 0 < index }
+    requires index { index < length runs.old.items }
+    requires bytes { bytes_of (run_at runs.old.items (index - 1)) + length piece.user_data + bytes_of (run_at runs.old.items index) < 2 ^ 64 }
+    ensures put { OnOk result (runs.new.items ≡ remove (slice_set runs.old.items (index - 1) (run_at runs.old.items (index - 1) ++ piece ∷ run_at runs.old.items index)) index) }
     ensures unchanged { OnErr result (runs.new.items ≡ runs.old.items) }
 {
-    let mut behind = replace_at(runs, place, Pieces::none(alloc));
-    match join_front(runs, place - 1, piece, &mut behind) {
+    let mut behind = replace_at(runs, index, Pieces::none(alloc));
+    match join_front(runs, index - 1, piece, &mut behind) {
         Ok(()) => {
-            runs.remove(place);
+            runs.remove(index);
             Ok(())
         }
         Err(error) => {
-            replace_at(runs, place, behind);
+            replace_at(runs, index, behind);
             Err(error)
         }
     }
 }
 
-fn replace_at(runs: &mut VecDeque<Pieces>, place: usize, run: Pieces) -> Pieces
-    requires { place < length runs.old.items }
-    ensures taken { result ≡ run_at runs.old.items place }
-    ensures put { runs.new.items ≡ slice_set runs.old.items place run }
+fn replace_at(runs: &mut VecDeque<Pieces>, index: usize, run: Pieces) -> Pieces
+    requires { index < length runs.old.items }
+    ensures taken { result ≡ run_at runs.old.items index }
+    ensures put { runs.new.items ≡ slice_set runs.old.items index run }
 {
-    match runs.get_mut(place) {
+    match runs.get_mut(index) {
         Some(held) => mem::replace(held, run),
         None => run,
     }
@@ -266,38 +266,38 @@ fn replace_at(runs: &mut VecDeque<Pieces>, place: usize, run: Pieces) -> Pieces
 
 fn join_front(
     runs: &mut VecDeque<Pieces>,
-    place: usize,
+    index: usize,
     piece: ChunkPayloadData,
     behind: &mut Pieces,
 ) -> Result<(), AllocError>
-    requires place { place < length runs.old.items }
-    requires bytes { bytes_of (run_at runs.old.items place) + length piece.user_data + bytes_of behind.old < 2 ^ 64 }
-    ensures put { OnOk result (runs.new.items ≡ slice_set runs.old.items place (run_at runs.old.items place ++ piece ∷ behind.old)) }
+    requires index { index < length runs.old.items }
+    requires bytes { bytes_of (run_at runs.old.items index) + length piece.user_data + bytes_of behind.old < 2 ^ 64 }
+    ensures put { OnOk result (runs.new.items ≡ slice_set runs.old.items index (run_at runs.old.items index ++ piece ∷ behind.old)) }
     ensures unchanged { OnErr result (runs.new.items ≡ runs.old.items) }
     ensures behind { OnErr result (behind.new ≡ behind.old) }
 {
-    match runs.get_mut(place) {
+    match runs.get_mut(index) {
         Some(run) => run.join(piece, behind),
         None => Ok(()),
     }
 }
 
 // Where the run at a place is a complete message, it is that.
-fn finish(runs: &mut VecDeque<Pieces>, complete: &mut VecDeque<Chunks>, place: usize)
+fn finish(runs: &mut VecDeque<Pieces>, complete: &mut VecDeque<Chunks>, index: usize)
     requires { deque_len complete.old < deque_capacity complete.old }
-    ensures { finished runs.old.items place complete.old.items ≡ (runs.new.items, complete.new.items) }
+    ensures { finished runs.old.items index complete.old.items ≡ (runs.new.items, complete.new.items) }
 {
-    if is_complete_at(runs, place) {
-        if let Some(run) = runs.remove(place) {
+    if is_complete_at(runs, index) {
+        if let Some(run) = runs.remove(index) {
             complete.push_back_reserved(run.into_chunks());
         }
     }
 }
 
-fn is_complete_at(runs: &VecDeque<Pieces>, place: usize) -> bool
-    ensures { result ≡ is_complete (run_at runs.now.items place) }
+fn is_complete_at(runs: &VecDeque<Pieces>, index: usize) -> bool
+    ensures { result ≡ is_complete (run_at runs.now.items index) }
 {
-    match runs.get(place) {
+    match runs.get(index) {
         Some(run) => run.is_complete(),
         None => false,
     }

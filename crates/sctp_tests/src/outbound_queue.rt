@@ -1,7 +1,7 @@
 // What waits to be sent is sent and given up.
 use bytes::Bytes;
-use sctp_outbound_queue::{Attributes, OutboundQueue, PendingMessage, Policy};
-use sctp_wire_types::{Instant, PayloadProtocolIdentifier};
+use sctp_outbound_queue::{Attributes, OutboundQueue, PendingMessage};
+use sctp_wire_types::{Instant, PayloadProtocolIdentifier, Policy};
 use std::alloc::{AllocError, Global};
 use std::collections::VecDeque;
 use std::test::Fail;

@@ -1,6 +1,6 @@
 // Streams and events are kept, and errors have their texts.
 use crate::received::piece;
-use sctp_queues::{AssociationError, Event, Events, Streams};
+use sctp_streams::{AssociationError, Event, Events, Streams};
 use sctp_wire_types::{Error, PayloadProtocolIdentifier};
 use std::test::Fail;
 

@@ -1,7 +1,8 @@
 // Values from outside of the proofs: worked cases of the timers, the estimate and the small types.
+use sctp_parts::estimate::RtoManager;
 use sctp_parts::shared::{EcnCodepoint, Instant};
 use sctp_parts::state::{AckMode, AckState, AssociationState};
-use sctp_parts::timer::{RtoManager, Timer, TimerTable, calculate_next_timeout};
+use sctp_parts::timer::{Expiry, Timer, TimerTable, calculate_next_timeout};
 use std::test::Fail;
 
 #[test]
@@ -184,10 +185,14 @@ fn expiries_pass_the_limit(rt: HostRuntime) {
         if exempt {
             table.suppress_error_count(Timer::T1Init);
         }
-        for answer in answers {
+        for (expired, failed, retries) in answers {
             assert_eq!(rt;
                 table.is_expired(Timer::T1Init, at),
-                answer,
+                Expiry {
+                    expired,
+                    failed,
+                    retries,
+                },
                 "with the limit {limit}"
             );
         }

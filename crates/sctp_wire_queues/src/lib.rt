@@ -1,5 +1,20 @@
-//! What an association stands on: packets and queues.
+//! The layer below the association, as the association and what stands above it name it: packets with their chunks, streams and
+//! events, and the queues of what is to be sent and of what came.
 #![tactic(auto)]
 
-pub use sctp_queues as queues;
-pub use sctp_wire as wire;
+pub use sctp_outbound_queue::{Attributes, InFlight, OutboundQueue, PendingMessage, Released};
+pub use sctp_receive_queues::{Chunks, ReassemblyQueue, ReceiveQueue};
+pub use sctp_streams::{
+    AssociationError, DataChannelStats, Event, Events, RecvSendState, ReliabilityParams,
+    StreamState, Streams,
+};
+pub use sctp_wire::{
+    Chunk, ChunkAbort, ChunkError, ChunkForwardTsn, ChunkHeartbeat, ChunkIForwardTsn, ChunkInit,
+    ChunkPayloadData, ChunkReconfig, ChunkSelectiveAck, CommonHeader, EcnCodepoint, Error,
+    ErrorCause, Fault, GapAckBlock, IForwardTsnEntry, Instant, List, Packet, Param,
+    ParamOutgoingResetRequest, ParamReconfigResponse, PartialDecode, Payload,
+    PayloadProtocolIdentifier, Policy, ReconfigResult, ReliabilityType, ServerConfig, Side,
+    SkippedStream, StreamEvent, StreamId, StreamResetError, Transmit, TransportConfig,
+    check_packet, crc32c, sna16gt, sna16gte, sna16lt, sna16lte, sna32gt, sna32gte, sna32lt,
+    sna32lte,
+};

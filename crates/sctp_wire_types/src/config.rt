@@ -273,6 +273,6 @@ impl Default for TransportConfig {
     }
 }
 
-/// Marks an association as the server of its handshake; it holds nothing.
+/// Makes an association the server of its handshake. Nothing is set in it so far: what counts is that it is there.
 #[derive(Clone, Copy, Debug, Default)]
 pub struct ServerConfig;

@@ -53,15 +53,3 @@ impl PayloadProtocolIdentifier {
         }
     }
 }
-
-/// How long a message is kept for sending (RFC 3758 section 3.5).
-#[derive(Clone, Copy, Debug, PartialEq, Eq, Default)]
-pub enum ReliabilityType {
-    /// Until it is acknowledged.
-    #[default]
-    Reliable,
-    /// For a number of retransmissions.
-    Rexmit,
-    /// For a time, in ms.
-    Timed,
-}

@@ -12,6 +12,7 @@ mod instant;
 mod list;
 mod packet;
 mod param;
+mod reliability;
 mod serial;
 
 pub use chunk::{
@@ -22,11 +23,12 @@ pub use chunk::{
 pub use config::{ServerConfig, TransportConfig};
 pub use error::{Error, Fault};
 pub use event::{StreamEvent, StreamResetError};
-pub use ids::{PayloadProtocolIdentifier, ReliabilityType, Side, StreamId};
+pub use ids::{PayloadProtocolIdentifier, Side, StreamId};
 pub use instant::{EcnCodepoint, Instant};
 pub use list::List;
 pub use packet::CommonHeader;
 pub use param::{Param, ParamOutgoingResetRequest, ParamReconfigResponse, ReconfigResult};
+pub use reliability::{Policy, ReliabilityType};
 pub use serial::{
     sna16gt, sna16gte, sna16lt, sna16lte, sna32gt, sna32gte, sna32lt, sna32lte,
     ssn_order_is_of_offsets, tsn_order_is_of_offsets,

@@ -46,7 +46,7 @@ pub(crate) fn told(association: &mut Association) -> Result<Option<Event>, Error
 pub(crate) fn numbers(association: &Association) -> (u32, u32, u32, (u16, u16), bool) {
     (
         association.rwnd(),
-        association.point(),
+        association.peer_last_tsn(),
         association.peer_tag(),
         association.stream_counts(),
         association.uses_forward_tsn(),

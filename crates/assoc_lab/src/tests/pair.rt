@@ -64,7 +64,7 @@ fn a_run_gives_replies_packets_and_counts(rt: HostRuntime) -> Result<(), Fail> {
     assert!(rt; pair.packet(Side2::A, 1).is_none());
     assert_eq!(rt; counts(pair.association(Side2::A)), [0, 1, 0, 0, 0]);
     assert_eq!(rt; counts(pair.association(Side2::B)), [1, 0, 0, 1, 0]);
-    assert_eq!(rt; pair.association(Side2::B).point(), 100);
+    assert_eq!(rt; pair.association(Side2::B).peer_last_tsn(), 100);
     Ok(())
 }
 

@@ -1,6 +1,6 @@
 use Rattle.std.proofs.Common.{◌≡◌, ◌++◌, map, length}
-use Rattle.sctp_queues.specs.Streams.{last_stats, without_streams}
-use Rattle.sctp_queues.specs.declared.event.Event.TheVariants.{DataChannelStatsFinal}
+use Rattle.sctp_streams.specs.Streams.{last_stats, without_streams}
+use Rattle.sctp_streams.specs.declared.event.Event.TheVariants.{DataChannelStatsFinal}
 use Rattle.sctp_assoc.proofs.effects.end_streams.Given as goal
 
 abbrev pub invariant-ending : goal.invariant-ending

@@ -3,4 +3,4 @@ use Rattle.sctp_crc.proofs.Entries.{table_is}
 use Rattle.sctp_crc.proofs.sum.looked_up.Goals as goal
 
 pub returns : goal.returns
-returns c = table_is c.args.place c.args.byte c.requires (omega arith)
+returns c = table_is c.args.index c.args.byte c.requires (omega arith)

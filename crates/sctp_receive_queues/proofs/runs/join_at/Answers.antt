@@ -7,13 +7,13 @@ use Rattle.sctp_receive_queues.proofs.runs.join_at.Goals as goal
 pub returns-in-Ok-clause-put : goal.returns-in-Ok-clause-put
 returns-in-Ok-clause-put c =
     let runs = c.args.runs.now.items in
-    let place = c.args.place in
-    let all : c.remove.new.self.items ≡ remove (set (set runs place []) (place - 1) (run_at (set runs place []) (place - 1) ++ c.args.piece ∷ run_at runs place)) place = search rules in
-    all ∙ joined_place runs place c.args.piece c.requires.first
+    let index = c.args.index in
+    let all : c.remove.new.self.items ≡ remove (set (set runs index []) (index - 1) (run_at (set runs index []) (index - 1) ++ c.args.piece ∷ run_at runs index)) index = search rules in
+    all ∙ joined_place runs index c.args.piece c.requires.first
 
 pub returns-in-Err-clause-unchanged : goal.returns-in-Err-clause-unchanged
 returns-in-Err-clause-unchanged c =
     let runs = c.args.runs.now.items in
-    let place = c.args.place in
-    let all : c.replace_at.new.runs.items ≡ set (set runs place []) place (run_at runs place) = search rules in
-    all ∙ restored_place runs place
+    let index = c.args.index in
+    let all : c.replace_at.new.runs.items ≡ set (set runs index []) index (run_at runs index) = search rules in
+    all ∙ restored_place runs index

@@ -13,14 +13,14 @@ loop-chunk-preserved c =
     record {
       same = search rules;
       grows = λ takes. c.loop-chunk.invariant.grows (rw items (later_takes c.args.header c.in-Some.chunk (into_iter_items c.next.new.self)
-          c.loop-chunk.self c.on_chunk.new.self c.loop-chunk.wish c.in-Next.next c.args.now said takes));
+          c.loop-chunk.self c.on_chunk.new.self c.loop-chunk.trigger c.in-Next.next c.args.now said takes));
     }
 
 pub returns-in_err-next-clause-grows : goal.returns-in_err-next-clause-grows
 returns-in_err-next-clause-grows c =
     let items : into_iter_items c.loop-chunk.chunk-iterator ≡ c.in-Some.chunk ∷ into_iter_items c.next.new.self = search rules in
     on_err c.from_residual.result (c.loop-chunk.invariant.grows (rw items (first_takes c.args.header c.in-Some.chunk (into_iter_items c.next.new.self)
-    c.loop-chunk.self c.loop-chunk.wish c.args.now c.in_err-next.ensures.grows)))
+    c.loop-chunk.self c.loop-chunk.trigger c.args.now c.in_err-next.ensures.grows)))
 
 pub returns-in-Fault-clause-grows : goal.returns-in-Fault-clause-grows
 returns-in-Fault-clause-grows c =
@@ -28,5 +28,5 @@ returns-in-Fault-clause-grows c =
     let said = c.in_ok-next.ensures.exact ∙ ap (λ (z : Flow). (c.on_chunk.new.self, z)) c.in-Fault.is in
     on_err_weaker c.close_with.result
     (λ (still : is_closed_state c.on_chunk.new.self.state ≡ false). c.loop-chunk.invariant.grows (rw items (fault_takes c.args.header c.in-Some.chunk (into_iter_items c.next.new.self)
-    c.loop-chunk.self c.on_chunk.new.self c.loop-chunk.wish c.in-Fault.field-0 c.args.now said still)))
+    c.loop-chunk.self c.on_chunk.new.self c.loop-chunk.trigger c.in-Fault.field-0 c.args.now said still)))
     c.close_with.ensures.grows

@@ -1,5 +1,5 @@
 use Rattle.std.proofs.Common.{rules, ◌≡◌, true, nat_lt, ◌&&◌}
-use Rattle.sctp_queues.specs.Streams.{bytes_waiting}
+use Rattle.sctp_streams.specs.Streams.{bytes_waiting}
 use Rattle.sctp_inbound.specs.Receiver.{credit_of, is_next_after}
 use Rattle.sctp_assoc.specs.Chunks.{counted_data, is_whole, stream_found}
 use Rattle.sctp_assoc.proofs.Growing.{on_err, taking_takes}

@@ -7,11 +7,11 @@ use Rattle.sctp_receive_queues.proofs.receive_queue.ReceiveQueue.get_gap_ack_blo
 
 pub returns-clause-exact : goal.returns-clause-exact
 returns-clause-exact c =
-    let e : c.from_vec.result ≡ gap_ack_blocks c.args.point c.args.self.now = search rules in
-    λ o above below. rw e (named_exactly c.args.point o c.args.self.now above below)
+    let e : c.from_vec.result ≡ gap_ack_blocks c.args.cumulative_tsn c.args.self.now = search rules in
+    λ o above below. rw e (named_exactly c.args.cumulative_tsn o c.args.self.now above below)
 
 pub returns-clause-maximal : goal.returns-clause-maximal
 returns-clause-maximal c =
-    let e : c.from_vec.result ≡ gap_ack_blocks c.args.point c.args.self.now = search rules in
+    let e : c.from_vec.result ≡ gap_ack_blocks c.args.cumulative_tsn c.args.self.now = search rules in
     let tsns : AreTsns c.args.self.now × IsStrictlySortedBy nat_cmp c.args.self.now = search rules in
-    rw e (maximal_runs c.args.point c.args.self.now c.ranges.point.fits tsns.1 tsns.0)
+    rw e (maximal_runs c.args.cumulative_tsn c.args.self.now c.ranges.cumulative_tsn.fits tsns.1 tsns.0)

@@ -2,4 +2,4 @@ use Rattle.sctp_receive_queues.proofs.Last.{farthest}
 use Rattle.sctp_receive_queues.proofs.receive_queue.ReceiveQueue.get_last_tsn_received.Goals as goal
 
 pub returns-clause-farthest : goal.returns-clause-farthest
-returns-clause-farthest c = rw c.farthest.ensures (farthest c.args.point c.args.self.now)
+returns-clause-farthest c = rw c.farthest.ensures (farthest c.args.cumulative_tsn c.args.self.now)

@@ -2,11 +2,12 @@
 ghost use Rattle.std.specs.Prelude.{◌≡◌, ◌==◌, true, false, if◌then◌else◌, length, IfOk, OnOk, OnErr, is_some, IsOk, IfErr, ◌⊎◌, Some, None};
 ghost use Rattle.std.specs.Option.{option_copied, option_copied_mut};
 ghost use Rattle.std.specs.Borrow.{sem};
-ghost use Rattle.sctp_queues.specs.Streams.{no_stream, stream_at, has_room, made, generation_left, bytes_waiting, first_ended, changed_stream, released_in, is_generation, pushed_in, refusal_in, read_in, is_readable_in};
-ghost use Rattle.sctp_queues.specs.Stream.{accepted_by};
-ghost use Rattle.sctp_queues.specs.Lending.{LendsStream};
+ghost use Rattle.sctp_streams.specs.Streams.{no_stream, stream_at, has_room, made, generation_left, bytes_waiting, first_ended, changed_stream, released_in, is_generation, pushed_in, refusal_in, read_in, is_readable_in};
+ghost use Rattle.sctp_streams.specs.Stream.{accepted_by};
+ghost use Rattle.sctp_streams.specs.Lending.{LendsStream};
 
-use crate::{Chunks, DataChannelStats, StreamState};
+use crate::{DataChannelStats, StreamState};
+use sctp_receive_queues::Chunks;
 use sctp_wire_types::{ChunkPayloadData, Error, PayloadProtocolIdentifier, StreamId};
 use std::alloc::{AllocError, Global};
 use std::collections::BTreeMap;
@@ -20,7 +21,7 @@ pub struct Streams {
 }
 
 impl Model for Streams {
-    ghost use Rattle.sctp_queues.specs.Streams.{StreamMap};
+    ghost use Rattle.sctp_streams.specs.Streams.{StreamMap};
 
     ghost Value = { StreamMap };
 

@@ -1,8 +1,8 @@
 // The two halves of a stream, and how its messages are sent.
 ghost use Rattle.std.specs.Prelude.{◌≡◌};
-ghost use Rattle.sctp_queues.specs.Stream.{halves_of, ordered_and_reliable, is_read_half_open, is_write_half_open, without_read_half, without_write_half};
+ghost use Rattle.sctp_streams.specs.Stream.{halves_of, ordered_and_reliable, is_read_half_open, is_write_half_open, without_read_half, without_write_half};
 
-use sctp_outbound_queue::Policy;
+use sctp_wire_types::Policy;
 
 /// Which halves of a stream are open. The numbers are those of the ported crate: 1 for the read half, 2 for the write half.
 #[derive(Clone, Copy, Debug, PartialEq, Eq)]

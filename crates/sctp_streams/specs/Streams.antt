@@ -6,15 +6,15 @@ use Rattle.std.specs.Map.{lookup, set_value}
 use Rattle.sctp_wire_types.specs.declared.ids.PayloadProtocolIdentifier.{PayloadProtocolIdentifier}
 use Rattle.sctp_wire_types.specs.declared.chunk.ChunkPayloadData.{ChunkPayloadData}
 use Rattle.sctp_wire_types.specs.declared.error.Error.{Error}
-use Rattle.sctp_queues.specs.declared.stats.DataChannelStats.{DataChannelStats}
-use Rattle.sctp_receive_queues.specs.Messages.{Message}
+use Rattle.sctp_streams.specs.declared.stats.DataChannelStats.{DataChannelStats}
+use Rattle.sctp_receive_queues.specs.Messages.{ReceivedMessage}
 use Rattle.sctp_receive_queues.specs.Reassembly.{is_ready, refusal}
 use Rattle.sctp_receive_queues.specs.Reassembly as reassembly
-use Rattle.sctp_queues.specs.Stream.{Stream, fresh_stream, released_from, stream_pushed, stream_read}
+use Rattle.sctp_streams.specs.Stream.{StreamView, fresh_stream, released_from, stream_pushed, stream_read}
 
 pub record StreamMap : Type 0 where
   -- the live streams by their identifiers, which ascend
-  pub by_id : List (ℕ × Stream)
+  pub by_id : List (ℕ × StreamView)
   -- the number of the next generation
   pub next_generation : ℕ
 
@@ -22,28 +22,28 @@ abbrev pub no_stream : StreamMap
 no_stream = record { by_id = []; next_generation = 0 }
 
 -- the live stream of an identifier
-abbrev pub stream_at : StreamMap → ℕ → Option Stream
+abbrev pub stream_at : StreamMap → ℕ → Option StreamView
 stream_at m id = lookup (is_at (nat_cmp id)) m.by_id
 
 -- the stream of this identifier, if it is live, is this one
-abbrev pub with_stream : StreamMap → ℕ → Stream → StreamMap
+abbrev pub with_stream : StreamMap → ℕ → StreamView → StreamMap
 with_stream m id s = record m { by_id = set_value (is_at (nat_cmp id)) m.by_id s }
 
-abbrev pub change_at : (Stream → Stream) → Option Stream → StreamMap → ℕ → StreamMap
+abbrev pub change_at : (StreamView → StreamView) → Option StreamView → StreamMap → ℕ → StreamMap
 change_at f None m id = m
 change_at f (Some s) m id = with_stream m id (f s)
 
 -- the stream of this identifier, if it is live, is changed
-abbrev pub changed_stream : (Stream → Stream) → StreamMap → ℕ → StreamMap
+abbrev pub changed_stream : (StreamView → StreamView) → StreamMap → ℕ → StreamMap
 changed_stream f m id = change_at f (stream_at m id) m id
 
 -- the buffered amount is a number of 64 bits with so many bytes more; where no stream is live nothing is buffered
-abbrev pub has_room : Option Stream → ℕ → Bool
+abbrev pub has_room : Option StreamView → ℕ → Bool
 has_room None bytes = true
 has_room (Some s) bytes = nat_lt (s.buffered + bytes) (2 ^ 64)
 
 -- a live stream is of this generation
-abbrev pub is_generation : Option Stream → ℕ → Bool
+abbrev pub is_generation : Option StreamView → ℕ → Bool
 is_generation None generation = false
 is_generation (Some s) generation = s.stats.generation == generation
 
@@ -52,7 +52,7 @@ abbrev pub released_in : StreamMap → ℕ → ℕ → ℕ → StreamMap
 released_in m id generation bytes =
     if is_generation (stream_at m id) generation then changed_stream (λ s. released_from s bytes) m id else m
 
-abbrev pub pushed_at : Option Stream → StreamMap → ℕ → ChunkPayloadData → StreamMap × Bool
+abbrev pub pushed_at : Option StreamView → StreamMap → ℕ → ChunkPayloadData → StreamMap × Bool
 pushed_at None m id p = (m, false)
 pushed_at (Some s) m id p = (with_stream m id (stream_pushed s p).0, (stream_pushed s p).1)
 
@@ -60,7 +60,7 @@ pushed_at (Some s) m id p = (with_stream m id (stream_pushed s p).0, (stream_pus
 abbrev pub pushed_in : StreamMap → ℕ → ChunkPayloadData → StreamMap × Bool
 pushed_in m id p = pushed_at (stream_at m id) m id p
 
-abbrev pub refusal_at : Option Stream → ChunkPayloadData → ℕ → Option Error
+abbrev pub refusal_at : Option StreamView → ChunkPayloadData → ℕ → Option Error
 refusal_at None p limit = None
 refusal_at (Some s) p limit = refusal s.reassembly p limit
 
@@ -68,15 +68,15 @@ refusal_at (Some s) p limit = refusal s.reassembly p limit
 abbrev pub refusal_in : StreamMap → ℕ → ChunkPayloadData → ℕ → Option Error
 refusal_in m id p limit = refusal_at (stream_at m id) p limit
 
-abbrev pub read_at : Option Stream → StreamMap → ℕ → StreamMap × Option Message
+abbrev pub read_at : Option StreamView → StreamMap → ℕ → StreamMap × Option ReceivedMessage
 read_at None m id = (m, None)
 read_at (Some s) m id = (with_stream m id (stream_read s).0, (stream_read s).1)
 
 -- what a read on a stream leaves and gives
-abbrev pub read_in : StreamMap → ℕ → StreamMap × Option Message
+abbrev pub read_in : StreamMap → ℕ → StreamMap × Option ReceivedMessage
 read_in m id = read_at (stream_at m id) m id
 
-abbrev pub is_readable_at : Option Stream → Bool
+abbrev pub is_readable_at : Option StreamView → Bool
 is_readable_at None = false
 is_readable_at (Some s) = is_ready s.reassembly
 
@@ -94,14 +94,14 @@ made m id first kind = record {
 }
 
 -- the live streams, identifiers ascending
-abbrev pub live_streams : StreamMap → List Stream
+abbrev pub live_streams : StreamMap → List StreamView
 live_streams m = map (λ e. e.1) m.by_id
 
 -- the bytes that came and were not read, at most the greatest number of 64 bits
 abbrev pub bytes_waiting : StreamMap → ℕ
 bytes_waiting m = fold (λ sum s. min (sum + reassembly.bytes_waiting s.reassembly) (2 ^ 64 - 1)) 0 (live_streams m)
 
-abbrev pub first_ended_of : List (ℕ × Stream) → ℕ → StreamMap × Option DataChannelStats
+abbrev pub first_ended_of : List (ℕ × StreamView) → ℕ → StreamMap × Option DataChannelStats
 first_ended_of [] next = (record { by_id = []; next_generation = next }, None)
 first_ended_of (e ∷ es) next = (record { by_id = es; next_generation = next }, Some e.1.stats)
 
@@ -109,7 +109,7 @@ first_ended_of (e ∷ es) next = (record { by_id = es; next_generation = next },
 abbrev pub first_ended : StreamMap → StreamMap × Option DataChannelStats
 first_ended m = first_ended_of m.by_id m.next_generation
 
-abbrev pub stats_of_each : List (ℕ × Stream) → List DataChannelStats
+abbrev pub stats_of_each : List (ℕ × StreamView) → List DataChannelStats
 stats_of_each [] = []
 stats_of_each (e ∷ es) = e.1.stats ∷ stats_of_each es
 

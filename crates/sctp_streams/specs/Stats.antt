@@ -2,7 +2,7 @@
 use Rattle.std.specs.Prelude.{ℕ, ◌+◌, ◌-◌, ◌^◌, min}
 use Rattle.sctp_wire_types.specs.declared.ids.PayloadProtocolIdentifier.{PayloadProtocolIdentifier}
 use Rattle.sctp_wire_types.specs.declared.ids.PayloadProtocolIdentifier.TheVariants as kinds
-use Rattle.sctp_queues.specs.declared.stats.DataChannelStats.{DataChannelStats}
+use Rattle.sctp_streams.specs.declared.stats.DataChannelStats.{DataChannelStats}
 
 -- whether a message of this payload type is application data: 1 or 0
 abbrev pub messages_of : PayloadProtocolIdentifier → ℕ

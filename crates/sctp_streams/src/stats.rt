@@ -1,6 +1,6 @@
 // What one stream generation carried.
 ghost use Rattle.std.specs.Prelude.{◌≡◌};
-ghost use Rattle.sctp_queues.specs.Stats.{fresh_stats, messages_of, bytes_of, with_sent, with_received};
+ghost use Rattle.sctp_streams.specs.Stats.{fresh_stats, messages_of, bytes_of, with_sent, with_received};
 
 use sctp_wire_types::{PayloadProtocolIdentifier, StreamId};
 

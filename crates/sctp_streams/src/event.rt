@@ -1,6 +1,6 @@
 // Events that an application asks for.
 ghost use Rattle.std.specs.Prelude.{◌≡◌, [], ◌∷◌, ◌++◌, ◌≤◌, OnOk, OnErr, option_to_list, slice_get};
-ghost use Rattle.sctp_queues.specs.declared.event.AssociationError.TheVariants.{HandshakeFailed};
+ghost use Rattle.sctp_streams.specs.declared.event.AssociationError.TheVariants.{HandshakeFailed};
 
 use crate::DataChannelStats;
 use sctp_wire_types::{Error, StreamEvent};
@@ -58,7 +58,7 @@ pub struct Events {
 
 impl Model for Events {
     ghost use Rattle.std.specs.Prelude.{List};
-    ghost use Rattle.sctp_queues.specs.declared.event.Event.{Event};
+    ghost use Rattle.sctp_streams.specs.declared.event.Event.{Event};
 
     ghost Value = { List Event };
 

@@ -1,16 +1,16 @@
 -- One live stream of an association (RFC 4960 section 1.3, "Stream").
 use Rattle.std.specs.Prelude.{ℕ, Bool, true, false, ◌&&◌, ◌==◌, ◌+◌, ◌-◌, ◌%◌, ◌^◌, if◌then◌else◌, nat_lt, nat_le, length, Option, Some, None}
 use Rattle.sctp_wire_types.specs.declared.ids.PayloadProtocolIdentifier.TheVariants as kinds
-use Rattle.sctp_outbound_queue.specs.declared.message.Policy.TheVariants.{Reliable}
-use Rattle.sctp_queues.specs.declared.halves.RecvSendState.{RecvSendState}
-use Rattle.sctp_queues.specs.declared.halves.RecvSendState.TheVariants as open_halves
-use Rattle.sctp_queues.specs.declared.halves.ReliabilityParams.{ReliabilityParams}
+use Rattle.sctp_wire_types.specs.declared.reliability.Policy.TheVariants.{Reliable}
+use Rattle.sctp_streams.specs.declared.halves.RecvSendState.{RecvSendState}
+use Rattle.sctp_streams.specs.declared.halves.RecvSendState.TheVariants as open_halves
+use Rattle.sctp_streams.specs.declared.halves.ReliabilityParams.{ReliabilityParams}
 use Rattle.sctp_wire_types.specs.declared.ids.PayloadProtocolIdentifier.{PayloadProtocolIdentifier}
-use Rattle.sctp_queues.specs.declared.stats.DataChannelStats.{DataChannelStats}
+use Rattle.sctp_streams.specs.declared.stats.DataChannelStats.{DataChannelStats}
 use Rattle.sctp_wire_types.specs.declared.chunk.ChunkPayloadData.{ChunkPayloadData}
-use Rattle.sctp_receive_queues.specs.Messages.{Message}
+use Rattle.sctp_receive_queues.specs.Messages.{ReceivedMessage}
 use Rattle.sctp_receive_queues.specs.Reassembly.{Reassembly, empty_reassembly, pushed, taken}
-use Rattle.sctp_queues.specs.Stats.{fresh_stats, with_sent, with_received}
+use Rattle.sctp_streams.specs.Stats.{fresh_stats, with_sent, with_received}
 
 -- The halves of a stream.
 
@@ -47,7 +47,7 @@ without_write_half open_halves.ReadWritable = open_halves.Readable
 abbrev pub ordered_and_reliable : ReliabilityParams
 ordered_and_reliable = record { unordered = false; policy = Reliable }
 
-pub record Stream : Type 0 where
+pub record StreamView : Type 0 where
   pub stats : DataChannelStats
   -- messages of this generation have this identifier or a greater one
   pub first_message_id : ℕ
@@ -63,7 +63,7 @@ pub record Stream : Type 0 where
   pub high_mark : ℕ
   pub reassembly : Reassembly
 
-abbrev pub fresh_stream : ℕ → ℕ → ℕ → PayloadProtocolIdentifier → Stream
+abbrev pub fresh_stream : ℕ → ℕ → ℕ → PayloadProtocolIdentifier → StreamView
 fresh_stream id generation first kind = record {
   stats = fresh_stats id generation;
   first_message_id = first;
@@ -77,15 +77,15 @@ fresh_stream id generation first kind = record {
   reassembly = empty_reassembly;
 }
 
-abbrev pub with_halves : Stream → RecvSendState → Stream
+abbrev pub with_halves : StreamView → RecvSendState → StreamView
 with_halves s h = record s { halves = h }
 
-abbrev pub with_params : Stream → ReliabilityParams → Stream
+abbrev pub with_params : StreamView → ReliabilityParams → StreamView
 with_params s params = record s { params = params }
 
 -- order and reliability of a message that is written now; one of the data channel establishment protocol is ordered and
 -- reliable (RFC 8832 section 6)
-abbrev pub params_for : Stream → PayloadProtocolIdentifier → ReliabilityParams
+abbrev pub params_for : StreamView → PayloadProtocolIdentifier → ReliabilityParams
 params_for s kinds.Dcep = ordered_and_reliable
 params_for s kinds.String = s.params
 params_for s kinds.Binary = s.params
@@ -94,7 +94,7 @@ params_for s kinds.BinaryEmpty = s.params
 params_for s kinds.Unknown = s.params
 
 -- a message was accepted for sending; an ordered one has the SSN that was next (RFC 4960 section 6.6)
-abbrev pub accepted_by : Stream → PayloadProtocolIdentifier → ℕ → Stream
+abbrev pub accepted_by : StreamView → PayloadProtocolIdentifier → ℕ → StreamView
 accepted_by s kind bytes = record s {
   next_ssn = (if (params_for s kind).unordered then s.next_ssn else (s.next_ssn + 1) % 2 ^ 16);
   buffered = s.buffered + bytes;
@@ -102,32 +102,32 @@ accepted_by s kind bytes = record s {
 }
 
 -- so many bytes more take the buffered amount from below the high mark to it or above
-abbrev pub reaches_high_mark : Stream → ℕ → Bool
+abbrev pub reaches_high_mark : StreamView → ℕ → Bool
 reaches_high_mark s bytes = nat_lt s.buffered s.high_mark && nat_le s.high_mark (s.buffered + bytes)
 
 -- bytes that the peer acknowledged, or that were given up, were released
-abbrev pub released_from : Stream → ℕ → Stream
+abbrev pub released_from : StreamView → ℕ → StreamView
 released_from s bytes = record s { buffered = s.buffered - bytes }
 
 -- their release takes the buffered amount from above the low mark to it or below
-abbrev pub falls_to_low_mark : Stream → ℕ → Bool
+abbrev pub falls_to_low_mark : StreamView → ℕ → Bool
 falls_to_low_mark s bytes = nat_lt s.low_mark s.buffered && nat_le (s.buffered - bytes) s.low_mark
 
 -- an ordered message was dropped before any of it was sent
-abbrev pub with_ssn_given_back : Stream → Stream
+abbrev pub with_ssn_given_back : StreamView → StreamView
 with_ssn_given_back s = record s { next_ssn = (s.next_ssn + 2 ^ 16 - 1) % 2 ^ 16 }
 
-abbrev pub with_restarted_ssn : Stream → Stream
+abbrev pub with_restarted_ssn : StreamView → StreamView
 with_restarted_ssn s = record s { next_ssn = 0 }
 
-abbrev pub stream_pushed : Stream → ChunkPayloadData → Stream × Bool
+abbrev pub stream_pushed : StreamView → ChunkPayloadData → StreamView × Bool
 stream_pushed s p = (record s { reassembly = (pushed s.reassembly p).0 }, (pushed s.reassembly p).1)
 
-abbrev pub read_with : Stream → Reassembly × Option Message → Stream × Option Message
+abbrev pub read_with : StreamView → Reassembly × Option ReceivedMessage → StreamView × Option ReceivedMessage
 read_with s (r, None) = (record s { reassembly = r }, None)
 read_with s (r, Some m) =
     (record s { reassembly = r; stats = with_received s.stats m.payload_type (length m.bytes) }, Some m)
 
 -- what is left of a stream after a read, and what the read gives
-abbrev pub stream_read : Stream → Stream × Option Message
+abbrev pub stream_read : StreamView → StreamView × Option ReceivedMessage
 stream_read s = read_with s (taken s.reassembly)

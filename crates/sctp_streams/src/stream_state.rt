@@ -1,9 +1,10 @@
 // One live stream.
 ghost use Rattle.std.specs.Prelude.{◌≡◌, ◌+◌, ◌<◌, ◌≤◌, ◌^◌, IfOk, IfErr, OnOk, OnErr, IsOk, ◌⊎◌, Some, None};
-ghost use Rattle.sctp_queues.specs.Stream.{fresh_stream, params_for, accepted_by, reaches_high_mark, released_from, falls_to_low_mark, with_ssn_given_back, with_restarted_ssn, with_params, with_halves, without_read_half, without_write_half, is_read_half_open, is_write_half_open, stream_pushed, stream_read};
+ghost use Rattle.sctp_streams.specs.Stream.{fresh_stream, params_for, accepted_by, reaches_high_mark, released_from, falls_to_low_mark, with_ssn_given_back, with_restarted_ssn, with_params, with_halves, without_read_half, without_write_half, is_read_half_open, is_write_half_open, stream_pushed, stream_read};
 ghost use Rattle.sctp_receive_queues.specs.Reassembly.{is_ready, bytes_waiting, refusal};
 
-use crate::{Chunks, DataChannelStats, ReassemblyQueue, RecvSendState, ReliabilityParams};
+use crate::{DataChannelStats, RecvSendState, ReliabilityParams};
+use sctp_receive_queues::{Chunks, ReassemblyQueue};
 use sctp_wire_types::{ChunkPayloadData, Error, PayloadProtocolIdentifier, StreamId};
 use std::alloc::{AllocError, Global};
 use std::marker::Model;
@@ -26,9 +27,9 @@ pub struct StreamState {
 }
 
 impl Model for StreamState {
-    ghost use Rattle.sctp_queues.specs.Stream.{Stream};
+    ghost use Rattle.sctp_streams.specs.Stream.{StreamView};
 
-    ghost Value = { Stream };
+    ghost Value = { StreamView };
 
     ghost view = { λ s. record {
       stats = s.stats;

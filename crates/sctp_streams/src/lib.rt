@@ -1,0 +1,15 @@
+//! The streams of an association and its events: what each stream has to be read, how its messages are sent, and what it
+//! counts. Each struct owns its state and calls nothing above it.
+#![tactic(auto)]
+
+mod event;
+mod halves;
+mod stats;
+mod stream_state;
+mod streams;
+
+pub use event::{AssociationError, Event, Events};
+pub use halves::{RecvSendState, ReliabilityParams};
+pub use stats::DataChannelStats;
+pub use stream_state::StreamState;
+pub use streams::Streams;

@@ -1,0 +1,24 @@
+// Partial reliability (RFC 3758): how long a message is kept for sending.
+
+/// How long a message is kept for sending (RFC 3758 section 3.5).
+#[derive(Clone, Copy, Debug)]
+pub enum Policy {
+    /// Until it is acknowledged.
+    Reliable,
+    /// For this number of retransmissions.
+    Rexmit(u32),
+    /// For this time, in ms.
+    Timed(u32),
+}
+
+/// The kinds of [`Policy`].
+#[derive(Clone, Copy, Debug, PartialEq, Eq, Default)]
+pub enum ReliabilityType {
+    /// Until it is acknowledged.
+    #[default]
+    Reliable,
+    /// For a number of retransmissions.
+    Rexmit,
+    /// For a time, in ms.
+    Timed,
+}
