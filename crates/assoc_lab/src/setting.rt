@@ -66,12 +66,23 @@ pub fn snapped(
     tsn_b: u32,
 ) -> Result<Pair, Error> {
     let config = TransportConfig::default();
-    let token_a = token(alloc, &config, TAG_A, tsn_a)?;
-    let token_b = token(alloc, &config, TAG_B, tsn_b)?;
+    snapped_under(alloc, &config, max_payload_size, tsn_a, tsn_b)
+}
+
+/// Two associations that tokens join, both with this configuration.
+pub fn snapped_under(
+    alloc: Global,
+    config: &TransportConfig,
+    max_payload_size: u32,
+    tsn_a: u32,
+    tsn_b: u32,
+) -> Result<Pair, Error> {
+    let token_a = token(alloc, config, TAG_A, tsn_a)?;
+    let token_b = token(alloc, config, TAG_B, tsn_b)?;
     Pair::snap(
         alloc,
-        &config,
-        &config,
+        config,
+        config,
         max_payload_size,
         max_payload_size,
         &token_a,

@@ -1,6 +1,6 @@
 // A run of a pair, and what its readers show.
 use crate::line::{Line, parse};
-use crate::setting::{address, snapped, token};
+use crate::setting::{snapped, snapped_under};
 use crate::show::show;
 use crate::tests::association::standing;
 use sctp_assoc::{Association, AssociationState, Error, TransportConfig};
@@ -39,6 +39,13 @@ fn text_of(alloc: Global, replies: Vec<Reply>) -> Result<String, AllocError> {
     Ok(text)
 }
 
+// The replies to these steps. It is the one function here that calls `Pair::run`, so its contract is read once.
+fn replies_to(alloc: Global, pair: &mut Pair, text: &str) -> Result<String, Error> {
+    let steps = steps_of(alloc, text)?;
+    let replies = pair.run(steps.as_slice())?;
+    Ok(text_of(alloc, replies)?)
+}
+
 // DATA, SACK, expiries of the retransmission timer and of the delay of an acknowledgement, fast retransmissions.
 fn counts(association: &Association) -> [u64; 5] {
     let stats = association.stats();
@@ -54,9 +61,7 @@ fn counts(association: &Association) -> [u64; 5] {
 #[test]
 fn a_run_gives_replies_packets_and_counts(rt: HostRuntime) -> Result<(), Fail> {
     let mut pair = snapped(rt.alloc(), 1200, 100, 500)?;
-    let steps = steps_of(rt.alloc(), STEPS)?;
-    let replies = pair.run(steps.as_slice())?;
-    let text = text_of(rt.alloc(), replies)?;
+    let text = replies_to(rt.alloc(), &mut pair, STEPS)?;
     assert_eq!(rt; text.as_str(), REPLIES);
     // common header 12, DATA header 16, two bytes and their padding
     let length = pair.packet(Side2::A, 0).map_or(0, |packet| packet.len());
@@ -76,46 +81,24 @@ static SHORT_REPLIES: &str = "ok\nwrote 2\npackets 0 1\nok\nmessage 53 6869\nref
 /// Where B closes instead, its stream is not live when it is read.
 static CLOSED_REPLIES: &str = "ok\nwrote 2\npackets 0 1\nok\nrefused 9\nrefused 9\n";
 
-// A pair whose sides take messages of at most `limit` bytes.
-fn limited(alloc: Global, limit: u32) -> Result<Pair, Error> {
-    let config = TransportConfig::default().with_max_receive_message_size(limit);
-    let token_a = token(alloc, &config, 1, 100)?;
-    let token_b = token(alloc, &config, 2, 500)?;
-    Pair::snap(
-        alloc,
-        &config,
-        &config,
-        1200,
-        1200,
-        &token_a,
-        &token_b,
-        address(2),
-        address(1),
-    )
-}
-
-// What the short message is answered under this limit, and B's state behind it.
+// What the short message is answered where both sides take messages of at most `limit` bytes, and B's state behind it.
 fn received(alloc: Global, limit: u32) -> Result<(String, AssociationState), Error> {
-    let mut pair = limited(alloc, limit)?;
-    let steps = steps_of(alloc, SHORT_STEPS)?;
-    let replies = pair.run(steps.as_slice())?;
-    let text = text_of(alloc, replies)?;
+    let config = TransportConfig::default().with_max_receive_message_size(limit);
+    let mut pair = snapped_under(alloc, &config, 1200, 100, 500)?;
+    let text = replies_to(alloc, &mut pair, SHORT_STEPS)?;
     let (state, _) = standing(pair.association(Side2::B));
     Ok((text, state))
 }
 
 #[test]
-fn a_message_at_the_limit_is_read(rt: HostRuntime) -> Result<(), Fail> {
-    let (text, state) = received(rt.alloc(), 2)?;
-    assert_eq!(rt; text.as_str(), SHORT_REPLIES);
-    assert_eq!(rt; state, AssociationState::Established);
-    Ok(())
-}
-
-#[test]
 fn a_message_past_the_limit_closes_its_receiver(rt: HostRuntime) -> Result<(), Fail> {
-    let (text, state) = received(rt.alloc(), 1)?;
-    assert_eq!(rt; text.as_str(), CLOSED_REPLIES);
-    assert_eq!(rt; state, AssociationState::Closed);
+    for (limit, replies, state) in [
+        (2, SHORT_REPLIES, AssociationState::Established),
+        (1, CLOSED_REPLIES, AssociationState::Closed),
+    ] {
+        let (text, standing) = received(rt.alloc(), limit)?;
+        assert_eq!(rt; text.as_str(), replies);
+        assert_eq!(rt; standing, state);
+    }
     Ok(())
 }
