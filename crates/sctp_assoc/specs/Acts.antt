@@ -27,7 +27,7 @@ pub record History : Type 0 where
   -- and the point: the first offset that neither came nor was passed over
   pub taken : List ℕ
   pub passed : ℕ
-  pub cumulative_tsn_ack : ℕ
+  pub reach : ℕ
 
 -- the TSN before this one
 abbrev pub tsn_before : ℕ → ℕ
@@ -36,7 +36,7 @@ tsn_before t = (t + 2 ^ 32 - 1) % 2 ^ 32
 -- An association stands where its history says.
 pub record Binds (a : Shown) (h : History) : Type 0 where
   pub first : a.sender.queue.first_tsn ≡ tsn h.own h.base
-  pub cumulative_tsn_ack : a.receiver.peer_last_tsn ≡ tsn_before (tsn h.peer h.reach)
+  pub reach : a.receiver.peer_last_tsn ≡ tsn_before (tsn h.peer h.reach)
   pub below : (o : ℕ) → o < h.reach → (mem o h.taken ≡ true) ⊎ (o < h.passed)
   -- so far nothing is held above the point
   pub above : (o : ℕ) → mem o h.taken ≡ true → o < h.reach
@@ -171,7 +171,7 @@ pub record IsSamePast (h k : History) : Type 0 where
   pub peer : k.peer ≡ h.peer
   pub taken : k.taken ≡ h.taken
   pub passed : k.passed ≡ h.passed
-  pub cumulative_tsn_ack : k.reach ≡ h.reach
+  pub reach : k.reach ≡ h.reach
 
 -- From each history on which the association stands, these acts lead from a to b.
 abbrev pub LeadsOn : List Act → Shown → Shown → Type 0
