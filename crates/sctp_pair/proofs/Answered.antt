@@ -62,11 +62,11 @@ write_call side id bytes replies.NoSuchPacket w initial = quiet_call (steps.Writ
 
 -- A read reads at its side what its reply says, and nothing at the other side.
 
-read_here : (side : Side2) (id : ℕ) (m : Option letters.Message) (s : ℕ) → read_by (replies.Read m) id s ≡ message_read (steps.Read side id) (replies.Read m) side s
+read_here : (side : Side2) (id : ℕ) (m : Option letters.ReceivedMessage) (s : ℕ) → read_by (replies.Read m) id s ≡ message_read (steps.Read side id) (replies.Read m) side s
 read_here sides.A id m s = refl
 read_here sides.B id m s = refl
 
-read_there : (side : Side2) (id : ℕ) (m : Option letters.Message) (s : ℕ) → None ≡ message_read (steps.Read side id) (replies.Read m) (other_side side) s
+read_there : (side : Side2) (id : ℕ) (m : Option letters.ReceivedMessage) (s : ℕ) → None ≡ message_read (steps.Read side id) (replies.Read m) (other_side side) s
 read_there sides.A id m s = refl
 read_there sides.B id m s = refl
 

@@ -36,7 +36,7 @@ initial_to sides.A w = w.initial_b
 initial_to sides.B w = w.initial_a
 
 -- A change of one side's association leads safely where it settles and is what the step does.
-change_leads : (side : Side2) (step : Step) (r : Reply) (q : Ends) (w : World) (Changes : Shown → Shown → Type 0) (Added : Shown → ℕ → List Message) (Read : ℕ → Option letters.Message)
+change_leads : (side : Side2) (step : Step) (r : Reply) (q : Ends) (w : World) (Changes : Shown → Shown → Type 0) (Added : Shown → ℕ → List Message) (Read : ℕ → Option letters.ReceivedMessage)
     → ((own peer : ℕ) (here there : Stage) (a b y : Shown) (out coming : Direction) → Changes a b → Faces own peer here there a y out coming → Settles own peer here there b y out coming (Added a) Read None_brought)
     → IsCallAt step r side w (initial_to side w) (Added (end_of side w.ends)) Read None_brought
     → Fits w.ends w → AtSide side w.ends Changes q → Steps step w.ends r q → LeadsSafely step r w q

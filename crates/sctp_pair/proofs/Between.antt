@@ -165,7 +165,7 @@ other_by_coming peer own y coming coming2 out same h =
     h
 
 -- What a call does to a direction: what it accepts there, what it reads, and what may be taken in.
-pub record Does (Added : ℕ → List Message) (Read : ℕ → Option letters.Message) (Brought : ℕ → Type 0) (w v : Direction) : Type 0 where
+pub record Does (Added : ℕ → List Message) (Read : ℕ → Option letters.ReceivedMessage) (Brought : ℕ → Type 0) (w v : Direction) : Type 0 where
   pub events : List Event
   pub is : v ≡ run events w
   pub accepted : (s : ℕ) → v.sender.plan.accepted s ≡ w.sender.plan.accepted s ++ Added s
@@ -179,7 +179,7 @@ pub record Does (Added : ℕ → List Message) (Read : ℕ → Option letters.Me
 abbrev pub nothing_added : ℕ → List Message
 nothing_added s = []
 
-abbrev pub nothing_read : ℕ → Option letters.Message
+abbrev pub nothing_read : ℕ → Option letters.ReceivedMessage
 nothing_read s = None
 
 pub does_by_goes : (B : ℕ → Type 0) (w v : Direction) → Goes B w v → Does nothing_added nothing_read B w v
@@ -197,7 +197,7 @@ does_by_goes B w v g = record {
 
 -- One association's call leads from its directions `out` and `coming`, and its stage `here`, to others, between which it stands then;
 -- the other association, whose stage is `there`, stands there too.
-pub record Settles (own peer : ℕ) (here there : Stage) (b y : Shown) (out coming : Direction) (Added : ℕ → List Message) (Read : ℕ → Option letters.Message) (Brought : ℕ → Type 0) : Type 0 where
+pub record Settles (own peer : ℕ) (here there : Stage) (b y : Shown) (out coming : Direction) (Added : ℕ → List Message) (Read : ℕ → Option letters.ReceivedMessage) (Brought : ℕ → Type 0) : Type 0 where
   pub out2 : Direction
   pub coming2 : Direction
   pub here2 : Stage

@@ -48,7 +48,7 @@ step_from : (x : Side2) (a : Step) (r : Reply) (w v : World) → IsWorldStep a w
 step_from sides.A a r w v h = h.ab_step
 step_from sides.B a r w v h = h.ba_step
 
-told_read_if : (c : Bool) (m : Option letters.Message) → bytes_of (if c then m else None) ≡ (if c then bytes_of m else [])
+told_read_if : (c : Bool) (m : Option letters.ReceivedMessage) → bytes_of (if c then m else None) ≡ (if c then bytes_of m else [])
 told_read_if true m = refl
 told_read_if false m = refl
 

@@ -32,7 +32,7 @@ of_letters_written [] = refl
 of_letters_written (m ∷ ms) = ap (λ z. m.bytes ∷ z) (of_letters_written ms)
 
 -- A message that is read comes behind those read before.
-pub read_grows : (m : Option letters.Message) (before after : List Got) → IsReadAs m before after → bytes_got after ≡ bytes_got before ++ bytes_of m
+pub read_grows : (m : Option letters.ReceivedMessage) (before after : List Got) → IsReadAs m before after → bytes_got after ≡ bytes_got before ++ bytes_of m
 read_grows None before after e = ap bytes_got e ∙ sym (append-nil (bytes_got before))
 read_grows (Some m) before after (g, e, l) =
     ap bytes_got e ∙ map-append (λ (x : Got). x.bytes) before (g ∷ [])

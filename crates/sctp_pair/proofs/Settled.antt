@@ -58,7 +58,7 @@ faces_b w f = record {
 
 -- What a step and its reply add, read and bring is at this side this alone, and at the other side nothing; the DATA that comes to
 -- this side has this initial TSN.
-pub record IsCallAt (step : Step) (reply : Reply) (side : Side2) (w : World) (initial : ℕ) (Added : ℕ → List Message) (Read : ℕ → Option letters.Message) (Brought : ℕ → Type 0) : Type 0 where
+pub record IsCallAt (step : Step) (reply : Reply) (side : Side2) (w : World) (initial : ℕ) (Added : ℕ → List Message) (Read : ℕ → Option letters.ReceivedMessage) (Brought : ℕ → Type 0) : Type 0 where
   pub adds : (s : ℕ) → Added s ≡ accepted_at step reply side s w
   pub reads : (s : ℕ) → Read s ≡ message_read step reply side s
   pub brings : (o : ℕ) → Brought o → HasData (packet_brought step side w) (tsn initial o)
@@ -67,7 +67,7 @@ pub record IsCallAt (step : Step) (reply : Reply) (side : Side2) (w : World) (in
 
 -- what a call does to a direction is what a step does there, where it adds, reads and brings the same
 direction_step : (step : Step) (reply : Reply) (sender receiver : Side2) (w : World) (q : Ends) (initial : ℕ) (before after : Direction)
-    (Added : ℕ → List Message) (Read : ℕ → Option letters.Message) (Brought : ℕ → Type 0) → Does Added Read Brought before after
+    (Added : ℕ → List Message) (Read : ℕ → Option letters.ReceivedMessage) (Brought : ℕ → Type 0) → Does Added Read Brought before after
     → ((s : ℕ) → Added s ≡ accepted_at step reply sender s w) → ((s : ℕ) → Read s ≡ message_read step reply receiver s)
     → ((o : ℕ) → Brought o → HasData (packet_brought step receiver w) (tsn initial o))
     → IsOpen (end_of sender q) ⊎ (after.sender.plan.places ≡ before.sender.plan.places) → IsSound before → IsSound after
@@ -76,7 +76,7 @@ direction_step step reply sender receiver w q initial before after Added Read Br
   events = d.events;
   happened = d.is;
   accepted = λ s. d.accepted s ∙ ap (λ (z : List Message). before.sender.plan.accepted s ++ z) (adds s);
-  read = λ s. subst (λ (z : Option letters.Message). IsReadAs z (before.reads s) (after.reads s)) (reads s) (d.reads s);
+  read = λ s. subst (λ (z : Option letters.ReceivedMessage). IsReadAs z (before.reads s) (after.reads s)) (reads s) (d.reads s);
   taken = λ o m. ⊎_elim
       (λ (n : mem o before.receiver.taken ≡ true). inl n)
       (λ (b : Brought o). inr (brings o b))
@@ -109,7 +109,7 @@ silent_on own peer s t b out coming before goes at (inr same) silent never = sam
     (cases_Bool s.completed))
 
 -- A call of A that settles leads from the world to one in which the pair stands: the packets that it gave out are A's next ones.
-pub settled_a : (step : Step) (r : Reply) (q : Ends) (w : World) (Added : ℕ → List Message) (Read : ℕ → Option letters.Message) (Brought : ℕ → Type 0)
+pub settled_a : (step : Step) (r : Reply) (q : Ends) (w : World) (Added : ℕ → List Message) (Read : ℕ → Option letters.ReceivedMessage) (Brought : ℕ → Type 0)
     (given : List (List ℕ)) (fits : Fits w.ends w) → q.b ≡ w.ends.b → q.packets_a ≡ w.ends.packets_a ++ given → q.packets_b ≡ w.ends.packets_b
     → Steps step w.ends r q → (s : Settles w.initial_a w.initial_b fits.stand.stage_a fits.stand.stage_b q.a w.ends.b w.ab w.ba Added Read Brought)
     → AreSaid w.initial_a w.initial_b s.here2 s.out2 s.coming2 given → IsCallAt step r sides.A w w.initial_b Added Read Brought → LeadsSafely step r w q
@@ -156,7 +156,7 @@ settled_a step r q w Added Read Brought given fits same_b more same_packets ends
     }
 
 -- The same of a call of B.
-pub settled_b : (step : Step) (r : Reply) (q : Ends) (w : World) (Added : ℕ → List Message) (Read : ℕ → Option letters.Message) (Brought : ℕ → Type 0)
+pub settled_b : (step : Step) (r : Reply) (q : Ends) (w : World) (Added : ℕ → List Message) (Read : ℕ → Option letters.ReceivedMessage) (Brought : ℕ → Type 0)
     (given : List (List ℕ)) (fits : Fits w.ends w) → q.a ≡ w.ends.a → q.packets_b ≡ w.ends.packets_b ++ given → q.packets_a ≡ w.ends.packets_a
     → Steps step w.ends r q → (s : Settles w.initial_b w.initial_a fits.stand.stage_b fits.stand.stage_a q.b w.ends.a w.ba w.ab Added Read Brought)
     → AreSaid w.initial_b w.initial_a s.here2 s.out2 s.coming2 given → IsCallAt step r sides.B w w.initial_a Added Read Brought → LeadsSafely step r w q
