@@ -1,45 +1,68 @@
-//! The association layer of SCTP (RFC 4960) without input or output: datagrams, moments and calls of the application go in; events,
-//! deadlines and packets come out.
+//! The association layer of SCTP (RFC 4960) without input or output. Datagrams, moments and calls of the application
+//! go in; events, deadlines and packets come out.
 //!
 //! # Where to start
 //!
-//! An [`Association`] is one side. [`Association::new`] makes a client or a server, which a handshake is to establish;
-//! [`Association::new_with_out_of_band_init`] makes one that is established at once, by tokens that both sides exchanged in another way.
+//! An [`Association`] is one side. There are two ways to make one:
 //!
-//! | Calls | Who makes them, and when |
+//! - [`Association::new`] makes a client or a server, which a handshake is to establish.
+//! - [`Association::new_with_out_of_band_init`] makes one that is established at once. Both sides exchanged their
+//!   INIT chunks in another way before; such a chunk is called a token.
+//!
+//! | Calls | Who makes them |
 //! |---|---|
-//! | [`Association::handle_event`] | the driver, for each datagram that came from the peer |
-//! | [`Association::poll_timeout`], [`Association::handle_timeout`] | the driver: it sleeps until the moment that the first one names, and then calls the second one |
-//! | [`Association::poll`] | the driver or the application, after each of these, until it answers None |
-//! | [`Association::open_stream`], [`Association::stream`] | the application, for a [`Stream`]: its reads and writes |
-//! | [`Association::poll_transmit`] | the driver, after all of these: the packets that are due now |
+//! | [`Association::handle_timeout`], [`Association::handle_event`] | the driver: a moment or a datagram came |
+//! | [`Association::poll`] | the driver or the application: what happened |
+//! | [`Association::open_stream`], [`Association::stream`] | the application: a [`Stream`], to write and to read |
+//! | [`Association::poll_transmit`], [`Association::poll_timeout`] | the driver: what to send, and when to wake |
 //! | `state`, `is_closed`, `rtt`, `cwnd` and the other questions | anybody, at any time; they change nothing |
 //!
-//! The order of a driver's loop: timers that expired, the datagram, events with the reads and writes that they lead to, packets, the next
-//! moment. No order is wrong, though: each call is safe in each state, and refuses by name what it cannot do.
+//! # The loop
+//!
+//! One turn of a driver's loop, at the moment `now`:
+//!
+//! 1. If `poll_timeout` answers a moment that is not after `now`, call `handle_timeout`.
+//! 2. If a datagram came, read it by [`PartialDecode::unmarshal`] and hand it to `handle_event`. Leave one that
+//!    cannot be read: it is no SCTP packet, or there was no memory for it.
+//! 3. Call `poll` until it answers None. On [`StreamEvent::Readable`] read that stream until `read` answers None.
+//!    From [`Event::Connected`] on streams can be written.
+//! 4. Call `poll_transmit`, and send each of the datagrams that it answers.
+//! 5. Sleep until the moment that `poll_timeout` answers, or until a datagram comes.
+//!
+//! A new client begins with step 4, since its INIT waits there. After a write outside of the loop, go on with step 4.
+//!
+//! This order is advice. Each call is safe in each state and at each moment, and refuses by name what it cannot do.
 //!
 //! # Moments
 //!
-//! An [`Instant`] counts nanoseconds from a moment that the driver chooses; the largest one is some 584 years later. Nothing here reads a
-//! clock. A moment that is earlier than one before it is no error.
+//! An [`Instant`] counts nanoseconds from a moment that the driver chooses, up to some 584 years. Nothing here reads
+//! a clock. A moment that is earlier than one before it is no error.
 //!
-//! # Refusals
+//! # Memory and refusals
 //!
-//! A call that answers an error other than want of memory changed nothing. [`Error::ErrNoMemory`] of a constructor, of `open_stream` or of a
-//! write changed nothing either. Of `handle_event`, `handle_timeout` and `poll_transmit` it leaves the association failed
-//! ([`Association::is_failed`]): no timer runs, the questions about the state answer what they answered before the call, and each later call
-//! that answers a `Result` answers [`Error::ErrAssociationFailed`].
+//! What may take memory answers a `Result`, and says [`Error::ErrNoMemory`] where it gets none. What that leaves
+//! depends on the call:
+//!
+//! - `handle_event`, `handle_timeout` and `poll_transmit` leave the association failed ([`Association::is_failed`]).
+//!   No timer runs, and each later call that answers a `Result` answers [`Error::ErrAssociationFailed`]. The
+//!   questions about the state answer what they answered before the call.
+//! - Any other call changed nothing, and may be made again.
+//!
+//! A call that answers another error changed nothing.
 //!
 //! # Faults
 //!
-//! A datagram that does not decode changes nothing. A chunk that is a fault in its state (RFC 4960 sections 3.3 and 8.5.1) ends the processing
-//! of its packet and closes an open association: its timers stop, each live stream gives its last counters
-//! ([`Event::DataChannelStatsFinal`]), and [`Event::AssociationLost`] is the last event. After that no datagram changes anything.
+//! A datagram that does not decode changes nothing. A chunk that has no business in its state is a *fault*: an ABORT,
+//! a SACK of a TSN that was not sent, an INIT once the association is established, a chunk that is not processed yet.
+//! A fault ends the processing of its packet. If the association is open (in any state but Closed), the fault also
+//! closes it: all timers stop, no packet waits any more, each live stream ends with its last counters
+//! ([`Event::DataChannelStatsFinal`]), and [`Event::AssociationLost`] tells it. After that no datagram changes
+//! anything.
 //!
 //! # What is left to the driver
 //!
-//! The check of the verification tag (RFC 4960 section 8.5), ports, addresses, and the choice of first TSN, tag and cookie, which nobody
-//! should be able to guess.
+//! To check the verification tag of each packet (RFC 4960 section 8.5), to find the association that a datagram is
+//! for, and to choose first TSN, tag and cookie, which nobody else should be able to guess.
 #![tactic(auto)]
 
 mod association;
