@@ -38,9 +38,12 @@ use std::time::Duration;
 /// Greatest payload of one DATA chunk, in bytes.
 const MAX_PAYLOAD_SIZE: u32 = 65_519;
 
-/// One side of an SCTP association. It reads no clock and no random source: moments and first numbers are handed in.
+/// One side of an SCTP association (RFC 4960): what it has to send, what came, its streams, timers and events. It
+/// reads no clock and no random source: moments, first numbers and the cookie are handed in. The page of this crate
+/// says who makes which call, and when.
+///
 /// A call that finds no memory may leave the association failed; then every call that answers a `Result` answers
-/// `ErrAssociationFailed`.
+/// `ErrAssociationFailed` and changes nothing.
 #[derive(Drop)]
 pub struct Association {
     pub(crate) alloc: Global,
@@ -48,7 +51,7 @@ pub struct Association {
     pub(crate) remote_addr: SocketAddr,
     pub(crate) local_ip: Option<IpAddr>,
     pub(crate) state: AssociationState,
-    /// The association was established and closed.
+    /// A fault closed the association while its state was any but Closed.
     pub(crate) lost: bool,
     /// An earlier call found no memory in its middle.
     pub(crate) failed: bool,
@@ -94,10 +97,16 @@ impl Model for Association {
 }
 
 impl Association {
-    /// An association that a handshake is to establish (RFC 4960 section 5.1): a server's, which waits for an INIT, where
-    /// there is a `server_config`, else a client's, whose INIT goes out with the next poll. `local_aid` is this side's
-    /// verification tag, and `cookie` its State Cookie, which nobody else should be able to guess. Refused where the
-    /// payload size is not in 1 to 65,519 bytes, where `initial_tsn` is 0, and where memory is.
+    /// Makes an association that a handshake is to establish (RFC 4960 section 5.1). With a `server_config` it is a
+    /// server, which stays in Closed until an INIT and then a COOKIE ECHO came. Without one it is a client in
+    /// CookieWait: its INIT waits for the next `poll_transmit`, and the timer of it runs from `now`.
+    ///
+    /// `max_payload_size` is the greatest payload of one DATA chunk, in bytes, 1 to 65,519; a packet of one has 28
+    /// bytes more, and padding. `local_aid` is this side's verification tag (a peer refuses 0), `initial_tsn` its
+    /// first TSN and `cookie` its State Cookie: nobody else should be able to guess them. The addresses are copied
+    /// and never looked at.
+    ///
+    /// Refused, in this order: `ErrBadPayloadSize`, `ErrBadInitialTsn` for the `initial_tsn` 0, `ErrNoMemory`.
     #[tactic(auto, using(crate::proofs::Beginning::created_binds))]
     pub fn new(
         alloc: Global,
@@ -149,9 +158,13 @@ impl Association {
         Ok(association)
     }
 
-    /// An association that is established at once, by two tokens that the sides exchanged in another way. Refused
-    /// where the payload size is not in 1 to 65,519 bytes, where a token would be refused as an INIT, and where memory
-    /// is.
+    /// Makes an association that is established at once. Its two sides exchanged their INIT chunks in another way, as
+    /// by the extension SNAP; such a chunk is called a token. `local_init` is this side's token and `remote_init` the
+    /// peer's. No packet of a handshake goes out, and `Event::Connected` waits for `poll`. The other arguments are
+    /// those of `new`.
+    ///
+    /// Refused, in this order: `ErrBadPayloadSize`; `ErrBadToken` where a token has an initiate tag 0, a number of
+    /// streams 0 or a window below 1500 bytes (RFC 4960 section 3.3.2); `ErrNoMemory`.
     pub fn new_with_out_of_band_init(
         alloc: Global,
         config: &TransportConfig,
@@ -188,7 +201,8 @@ impl Association {
         Ok(association)
     }
 
-    // Nothing was sent and nothing came. `point` is the cumulative TSN ack point and `window` the peer's receive window.
+    // Nothing was sent and nothing came. `peer_last_tsn` is the cumulative TSN ack point and `window` the peer's
+    // receive window.
     fn fresh(
         alloc: Global,
         config: &TransportConfig,
@@ -239,7 +253,9 @@ impl Association {
         }
     }
 
-    /// The oldest event that nobody asked for yet; with none left that the handshake failed, once.
+    /// Takes out the oldest event; None where none waits. That the handshake failed is told behind all other events,
+    /// once, as `Event::HandshakeFailed`. Call it until it answers None: after a constructor, `handle_event` and
+    /// `handle_timeout`. Its one error is `ErrAssociationFailed`; the events that waited are not told then.
     #[tactic(auto, using(crate::proofs::Joining::poll_leads_on))]
     pub fn poll(&mut self) -> Result<Option<Event>, Error>
         ensures failed { IsErrOf result Error.ErrAssociationFailed ↔ (self.old.failed ≡ true) }
@@ -265,15 +281,23 @@ impl Association {
         }
     }
 
-    /// The moment at which `handle_timeout` has something to do; None where no timer runs.
+    /// The moment at which the next timer expires; None where no timer runs. A driver sleeps until then, or until a
+    /// datagram comes. Where the moment is not after now, `handle_timeout` is due. Ask again at the end of each turn
+    /// of the loop.
     pub fn poll_timeout(&self) -> Option<Instant>
         ensures { result ≡ least_moment self.now.timers }
     {
         self.timers.next_timeout()
     }
 
-    /// All packets that are due at `now`, in the order in which they go out; None where none is. It lacks memory only where
-    /// there is something to give.
+    /// All packets that are due at `now`, in the order in which they are to go out; None where none is due. Each
+    /// entry of the `Payload::RawEncode` is one datagram. Packets of the handshake and answers go first, in every
+    /// state. In Established there follow DATA that the retransmission timer marked, new DATA within both windows (or
+    /// one piece that probes them, where nothing is in flight), and a SACK that is due. Call it last in each turn of
+    /// the loop, and after writes.
+    ///
+    /// Errors: `ErrAssociationFailed`, and `ErrNoMemory` only where there is something to give. After the latter the
+    /// association is failed, and the packets of this call are lost.
     pub fn poll_transmit(&mut self, now: Instant) -> Result<Option<Transmit>, Error>
         ensures failed { IsErrOf result Error.ErrAssociationFailed ↔ (self.old.failed ≡ true) }
         ensures refused { IsErrOf result Error.ErrAssociationFailed → self.new ≡ self.old }
@@ -313,7 +337,16 @@ impl Association {
         })
     }
 
-    /// Processes one datagram. It lacks memory only where one is to be read, and never after a loss.
+    /// Processes one datagram that came from the peer; only its moment and its payload are looked at. The verification
+    /// tag is the driver's to check before (RFC 4960 section 8.5). What the datagram leads to is seen by `poll`,
+    /// `poll_transmit` and `poll_timeout`.
+    ///
+    /// It answers Ok also where nothing changes: the datagram does not decode, is refused as a packet, comes after a
+    /// loss, or is a `Payload::RawEncode`. A chunk that is a fault ends the packet and closes an open association;
+    /// that is no error of this call, but `Event::AssociationLost`.
+    ///
+    /// Errors: `ErrAssociationFailed`, and `ErrNoMemory` only where a datagram is to be read, never after a loss.
+    /// After the latter the association is failed.
     #[tactic(auto, using(crate::proofs::Joining::packet_leads_on))]
     pub fn handle_event(&mut self, event: AssociationEvent) -> Result<(), Error>
         ensures failed { IsErrOf result Error.ErrAssociationFailed ↔ (self.old.failed ≡ true) }
@@ -343,8 +376,13 @@ impl Association {
         }
     }
 
-    /// Does what the timers that expired by `now` ask for. It lacks memory only where INIT or COOKIE ECHO is to go out again
-    /// (RFC 4960 section 5.1).
+    /// Does what the timers that expired by `now` ask for, and nothing where none did. INIT or COOKIE ECHO waits to
+    /// go out again, or past `max_init_retransmits` the handshake failed (RFC 4960 section 5.1). DATA in flight is
+    /// marked to be sent again, but not past `max_data_retransmits` (section 6.3.3). A delayed SACK becomes due
+    /// (section 6.2). `poll_transmit` gives the packets.
+    ///
+    /// Errors: `ErrAssociationFailed`, and `ErrNoMemory` only where INIT or COOKIE ECHO is to go out again. After the
+    /// latter the association is failed.
     #[tactic(auto, using(crate::proofs::Joining::timeouts_lead_on))]
     pub fn handle_timeout(&mut self, now: Instant) -> Result<(), Error>
         ensures failed { IsErrOf result Error.ErrAssociationFailed ↔ (self.old.failed ≡ true) }
@@ -403,7 +441,12 @@ impl Association {
         }
     }
 
-    /// Makes a new generation of a stream. `default_payload_type` is that of messages written without one.
+    /// Makes a stream on this side, in a new generation, and lends it for its calls. What is written on it carries
+    /// `default_payload_type`. Nothing is sent for it: the peer sees the stream with its first DATA. Any state and
+    /// any identifier will do; the numbers of streams that the handshake agreed on are not enforced.
+    ///
+    /// Refused, in this order with nothing changed: `ErrAssociationFailed`; `ErrStreamAlreadyExist`, also where the
+    /// peer opened it; `ErrStreamCreateFailed` where no generation is left (the last one is 2^64 - 2); `ErrNoMemory`.
     #[tactic(auto, using(crate::proofs::Joining::open_leads_on))]
     pub fn open_stream(
         &mut self,
@@ -427,7 +470,8 @@ impl Association {
         Ok(Stream::new(self, id))
     }
 
-    /// The live stream of this identifier.
+    /// Lends the live stream of this identifier for its calls: one that `open_stream` made, or DATA that came. A loss
+    /// ends all streams. Refused, in this order with nothing changed: `ErrAssociationFailed`, `ErrStreamNotExisted`.
     pub fn stream(&mut self, id: StreamId) -> Result<Stream<'_>, Error>
         ensures* lends { sem 𝓛 (rests_if_refused self.entry result) }
         ensures refused { Refuses result (stream_refusal self.old id) }
@@ -442,42 +486,46 @@ impl Association {
         Ok(Stream::new(self, id))
     }
 
-    /// Whether the association was never established.
+    /// Whether the association was not established yet. Once it was, this stays false, also after a loss.
     pub fn is_handshaking(&self) -> bool
         ensures { result ≡ not self.now.handshake.completed }
     {
         !self.handshake.completed
     }
 
-    /// Whether the state is Closed; so also before a handshake began.
+    /// Whether the state is Closed: that of a server until a handshake establishes it, and of any side after a loss.
     pub fn is_closed(&self) -> bool
         ensures { result ≡ is_closed_state self.now.state }
     {
         self.state == AssociationState::Closed
     }
 
-    /// Whether a shutdown has begun and the association is not closed yet.
+    /// Whether a shutdown has begun and the association is not closed yet (RFC 4960 section 9.2). No call begins one
+    /// so far.
     pub fn is_closing(&self) -> bool
         ensures { result ≡ is_closing self.now.state }
     {
         self.state.is_closing()
     }
 
-    /// Whether the association was lost; nothing is left to do for it then.
+    /// Whether the association was lost: a fault closed it. Nothing is left to do for it then but to ask for its
+    /// events.
     pub fn is_drained(&self) -> bool
         ensures { result ≡ self.now.lost }
     {
         self.lost
     }
 
-    /// Whether an earlier call found no memory in its middle.
+    /// Whether an earlier call found no memory in its middle. Then the association is over, no timer runs, and the
+    /// other questions about the state answer what they answered before that call.
     pub fn is_failed(&self) -> bool
         ensures { result ≡ self.now.failed }
     {
         self.failed
     }
 
-    /// The retransmission timeout, as the crate that this one is a port of answers here.
+    /// The retransmission timeout of RFC 4960 section 6.3.1, in whole ms, and not the round trip that the name says:
+    /// so does the crate that this one is a port of.
     pub fn rtt(&self) -> Duration
         ensures { as_nanos result ≡ self.now.estimate.rto * 1000000 }
     {

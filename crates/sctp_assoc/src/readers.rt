@@ -9,84 +9,92 @@ use sctp_wire_queues::Side;
 use std::net::{IpAddr, SocketAddr};
 
 impl Association {
-    /// The state (RFC 4960 section 4).
+    /// The state (RFC 4960 section 4). A server that waits for its handshake is in Closed.
     pub fn state(&self) -> AssociationState
         ensures { result ≡ self.now.state }
     {
         self.state
     }
 
-    /// How much of what happened (RFC 4960 sections 6.2, 6.3 and 7.2.4).
+    /// What was counted since the association was made: DATA and SACK chunks that came, and expired timers (RFC 4960
+    /// sections 6.2 and 6.3). Nothing is retransmitted fast so far (section 7.2.4), so that count is 0.
     pub fn stats(&self) -> AssociationStats
         ensures { result ≡ self.now.counts }
     {
         self.stats
     }
 
-    /// Which side this is: a client's handshake begins with its INIT.
+    /// Which side this is: a client's handshake begins with its INIT. With tokens the side with the lesser tag is the
+    /// server, and with equal tags both are.
     pub fn side(&self) -> Side
         ensures { result ≡ self.now.side }
     {
         self.side
     }
 
-    /// The peer's address, as it was handed in.
+    /// The peer's address, as it was handed in. It stands in each `Transmit` that is given out, and is never looked at.
     pub fn remote_addr(&self) -> SocketAddr
         ensures { result ≡ self.now.remote_addr }
     {
         self.remote_addr
     }
 
-    /// This side's address, as it was handed in.
+    /// This side's address, as it was handed in. It stands in each `Transmit` that is given out, and is never looked
+    /// at.
     pub fn local_ip(&self) -> Option<IpAddr>
         ensures { result ≡ self.now.local_ip }
     {
         self.local_ip
     }
 
-    /// Greatest packet, in bytes: the payload size and 28.
+    /// The payload size and 28, in bytes: a packet of one DATA chunk with the greatest payload, without padding. A
+    /// packet of the handshake, or an answer to a HEARTBEAT, may be longer.
     pub fn mtu(&self) -> u32
         ensures { result ≡ self.now.sender.mtu }
     {
         self.sender.mtu
     }
 
-    /// Congestion window, in bytes.
+    /// Congestion window, in bytes (RFC 4960 section 7.2.1). It keeps its first value so far.
     pub fn cwnd(&self) -> u32
         ensures { result ≡ self.now.sender.cwnd }
     {
         self.sender.cwnd
     }
 
-    /// Slow start threshold, in bytes.
+    /// Slow start threshold, in bytes: the receive window that the peer's token, INIT or INIT ACK said (RFC 4960
+    /// section 7.2.1). Nothing else changes it so far.
     pub fn ssthresh(&self) -> u32
         ensures { result ≡ self.now.sender.ssthresh }
     {
         self.sender.ssthresh
     }
 
-    /// The peer's receive window less what is in flight, in bytes.
+    /// The peer's receive window, as it last said it, less the bytes in flight; 0 where these are more.
     pub fn rwnd(&self) -> u32
         ensures { result ≡ window_left self.now.sender }
     {
         self.sender.rwnd()
     }
 
-    /// The cumulative TSN ack point: every TSN up to it came.
+    /// The cumulative TSN ack point (RFC 4960 section 6.2): of the TSNs that the peer sent, the last one that came in
+    /// order. Before any DATA came it is the one before the peer's initial TSN, or 0 until that is known.
     pub fn peer_last_tsn(&self) -> u32
         ensures { result ≡ self.now.receiver.peer_last_tsn }
     {
         self.receiver.peer_last_tsn
     }
 
-    /// The verification tag of the packets that are given out.
+    /// The peer's verification tag, which stands in the packets that are given out; 0 until a token, an INIT or an
+    /// INIT ACK says it.
     pub fn peer_tag(&self) -> u32
         ensures { result ≡ self.now.handshake.peer_verification_tag }
     {
         self.handshake.peer_verification_tag
     }
 
-    /// Streams that may be sent on and that may be received on.
+    /// On how many streams this side may send, and on how many it may receive, as far as both sides agreed so far
+    /// (RFC 4960 section 5.1.1). No call enforces them.
     pub fn stream_counts(&self) -> (u16, u16)
         ensures { result ≡ (self.now.handshake.num_outbound_streams, self.now.handshake.num_inbound_streams) }
     {
@@ -96,14 +104,16 @@ impl Association {
         )
     }
 
-    /// Whether messages may be skipped by FORWARD TSN (RFC 3758).
+    /// Whether the peer lists FORWARD TSN among its extensions (RFC 3758, RFC 5061 section 4.2.7). No message is
+    /// skipped so far.
     pub fn uses_forward_tsn(&self) -> bool
         ensures { result ≡ self.now.handshake.use_forward_tsn }
     {
         self.handshake.use_forward_tsn
     }
 
-    /// Whether the retransmission timer marked this TSN and it was neither sent again since nor acknowledged.
+    /// Whether the retransmission timer marked the DATA of this TSN, and it was neither sent again since nor
+    /// acknowledged. False for a TSN that is not in flight.
     pub fn is_marked(&self, tsn: u32) -> bool
         ensures { result ≡ marks self.now.sender tsn }
     {

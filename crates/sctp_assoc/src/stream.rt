@@ -7,7 +7,8 @@ ghost use Rattle.sctp_assoc.specs.Calls.{Refuses, RefusesOrLacksMemory, write_re
 use crate::Association;
 use sctp_wire_queues::{Chunks, Error, StreamId};
 
-/// A live stream, lent by its association for the calls of one stream.
+/// A live stream, lent by its association for the calls of one stream. The association can be called again once the
+/// loan is over.
 #[derive(Drop)]
 pub struct Stream<'a> {
     association: &'a mut Association,
@@ -23,7 +24,10 @@ impl<'a> Stream<'a> {
         Stream { association, id }
     }
 
-    /// The next message; None where none is ready.
+    /// Takes out the next message, whole; None where none is ready. After `StreamEvent::Readable` read until it
+    /// answers None; a later Readable may then find nothing. What was read no longer takes room in the receive
+    /// buffer, which the next SACK says to the peer. Refused, with nothing changed: `ErrAssociationFailed`,
+    /// `ErrStreamClosed`.
     pub fn read(&mut self) -> Result<Option<Chunks>, Error>
         ensures same { lender self.new ≡ lender self.old }
         ensures id { id_of self.new ≡ id_of self.old }
@@ -38,9 +42,13 @@ impl<'a> Stream<'a> {
         self.association.read_stream(self.id)
     }
 
-    /// Accepts a message of the stream's own payload type and answers its length, in bytes. Refused outside
-    /// Established, for an empty message, for one that is longer than the greatest that may be sent, and where memory
-    /// is; then nothing changes. A message longer than one DATA chunk is not yet sent and is refused too.
+    /// Accepts one message under the stream's payload type and answers its length, in bytes. The bytes are copied;
+    /// they go out with `poll_transmit`, as the windows allow.
+    ///
+    /// Refused, in this order with nothing changed: `ErrAssociationFailed`; `ErrStreamClosed`;
+    /// `ErrPayloadDataStateNotExist` outside Established; `ErrEmptyMessage`; `ErrOutboundPacketTooLarge` for a
+    /// message that is longer than `max_send_message_size` or than one DATA chunk takes (messages of several pieces
+    /// are not sent so far); `ErrNoMemory`.
     pub fn write(&mut self, bytes: &[u8]) -> Result<usize, Error>
         ensures same { lender self.new ≡ lender self.old }
         ensures id { id_of self.new ≡ id_of self.old }
@@ -53,7 +61,8 @@ impl<'a> Stream<'a> {
         self.association.write_stream(self.id, bytes)
     }
 
-    /// Bytes that were accepted and are not released, of this generation.
+    /// Bytes that were accepted on this generation of the stream and are not released. A SACK releases those of the
+    /// DATA up to its cumulative TSN ack. Refused, with nothing changed: `ErrAssociationFailed`, `ErrStreamClosed`.
     pub fn buffered_amount(&self) -> Result<usize, Error>
         ensures { result ≡ buffered_of (lent self.now) (id_of self.now) }
     {

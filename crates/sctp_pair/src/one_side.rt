@@ -14,8 +14,12 @@ use sctp_assoc::{
 use sctp_wire_queues::PartialDecode;
 use std::net::SocketAddr;
 
-/// Writes a message, gives out the packets that are due and then hands in a datagram, from wherever it came. A failed
-/// association refuses that with nothing changed; the message waits or is in flight where the datagram is no packet.
+/// Writes a message on a live stream, asks for the packets that are due at `now`, and then hands in a datagram, from
+/// wherever it came. It answers these packets, and leaves a datagram that cannot be read as a packet.
+///
+/// A failed association refuses all of this with nothing changed. Any other error is that of the first call which was
+/// refused; what the calls before it did stays done, and packets that were asked for are lost. Where the datagram is no
+/// packet, the message waits or is in flight.
 pub fn exchange(
     association: &mut Association,
     id: StreamId,

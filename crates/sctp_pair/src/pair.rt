@@ -19,7 +19,12 @@ use std::alloc::Global;
 use std::marker::Model;
 use std::net::SocketAddr;
 
-/// Two associations and all packets that they gave out, numbered 0, 1, 2 and so on for each side.
+/// Two associations that face each other, A and B, and all packets that they gave out, numbered 0, 1, 2 and so on for
+/// each side. These packets are the network: a step delivers any of them, late, again, in any order or never, and
+/// none is altered or forged.
+///
+/// A pair is for simulators, for tests, and for whoever needs the promise of delivery: it is said of `run` and
+/// `step`.
 #[derive(Drop)]
 pub struct Pair {
     alloc: Global,
@@ -45,8 +50,12 @@ impl Model for Pair {
 }
 
 impl Pair {
-    /// A pair that two tokens join: `token_a` is A's own and what B knows of A, `token_b` the other way round.
-    /// `remote_of_a` is the address at which A reaches B. Refused where A would be refused, or else B.
+    /// A pair whose sides are established from the start, without a handshake: their two INIT chunks were exchanged
+    /// in another way, as by the extension SNAP, of which this call has its name. Such a chunk is called a token.
+    /// `token_a` is A's own and what B knows of A, `token_b` the other way round. Each payload size is 1 to 65,519
+    /// bytes. `remote_of_a` is the address at which A reaches B.
+    ///
+    /// Refused where A would be refused by `Association::new_with_out_of_band_init`, or else B. Nothing is left then.
     ///
     /// It stands in the world in which nothing happened yet.
     pub fn snap(
@@ -102,9 +111,12 @@ impl Pair {
         })
     }
 
-    /// A pair of which A is the client and B the server, before any packet (RFC 4960 section 5.1). Tags, first TSNs and
-    /// cookies are each side's own. `remote_of_a` is the address at which A reaches B. Refused where A would be refused,
-    /// or else B.
+    /// A pair of which A is the client and B the server, before any packet (RFC 4960 section 5.1). A's INIT comes
+    /// with its first `Step::PollTransmit`, and the timer of it runs from `now`. Tags, first TSNs and cookies are
+    /// each side's own, and each payload size is 1 to 65,519 bytes. `remote_of_a` is the address at which A reaches
+    /// B.
+    ///
+    /// Refused where A would be refused by `Association::new`, or else B. Nothing is left then.
     ///
     /// It stands in the world in which nothing happened yet.
     pub fn client_server(
@@ -170,7 +182,7 @@ impl Pair {
         })
     }
 
-    /// The packet of this number that a side gave out.
+    /// The packet of this number that a side gave out; None where it gave out none of this number.
     pub fn packet(&self, side: Side2, number: u64) -> Option<&Bytes>
         ensures { option_copied result ≡ slice_get (packets_of side self.now) number }
     {
@@ -180,7 +192,7 @@ impl Pair {
         }
     }
 
-    /// One side, to be looked at.
+    /// One side, to be looked at: its state, its numbers and its counts.
     pub fn association(&self, side: Side2) -> &Association
         ensures { result.now ≡ end_of side self.now }
     {
@@ -190,15 +202,17 @@ impl Pair {
         }
     }
 
-    /// Carries out the steps, in order. Refused for want of memory before the first step alone, with nothing changed.
+    /// Carries out the steps, in order, and answers one reply for each. A step that is refused is a reply, and the
+    /// steps after it are carried out all the same. `ErrNoMemory` is an error of this call alone, where there is no
+    /// room for the replies: it comes before the first step, with nothing changed.
     ///
-    /// From each world that the pair fits, the steps lead from world to world, in each of which the pair stands; as long as each so
-    /// far is within the limits, it is safe. As long as the messages that each side accepted since the pair was made have
-    /// fewer than 16,384 pieces, each of these worlds is safe (`counted`).
+    /// From each world that the pair fits, the steps lead from world to world, in each of which the pair stands; as
+    /// long as each so far is within the limits, it is safe. As long as the messages that each side accepted since
+    /// the pair was made have fewer than 16,384 pieces, each of these worlds is safe (`counted`).
     ///
-    /// All steps of the pair so far have these behind them then (`came`), and what they tell by themselves: what either side read
-    /// on a stream is in order a front of what the other side wrote on it (`front`), and nothing of it is read before the first
-    /// delivery (`brought`), where each side accepted few pieces in all of them.
+    /// All steps of the pair so far have these behind them then (`came`), and what they tell by themselves: what
+    /// either side read on a stream is in order a front of what the other side wrote on it (`front`), and nothing of
+    /// it is read before the first delivery (`brought`), where each side accepted few pieces in all of them.
     #[tactic(auto, using(crate::proofs::Worlds::runs_lead, crate::proofs::Counted::runs_lead_counted))]
     pub fn run(&mut self, steps: &[Step]) -> Result<Vec<Reply>, Error>
         ensures ok { IfOk result (λ replies. Runs steps.now replies.items self.old self.new) }
@@ -212,11 +226,11 @@ impl Pair {
         self.carry_out_all(steps)
     }
 
-    /// Carries out one step.
+    /// Carries out one step and answers what came of it; a refusal is a reply, too.
     ///
-    /// From each world that the pair fits, it leads to a next one, in which the pair stands; where that is within the limits, it is
-    /// safe. Where the messages that each side accepted, this step's included, have fewer than 16,384 pieces, the next world is safe
-    /// (`counted`). The last three clauses are those of `run`, for this one step.
+    /// From each world that the pair fits, it leads to a next one, in which the pair stands; where that is within the
+    /// limits, it is safe. Where the messages that each side accepted, this step's included, have fewer than 16,384
+    /// pieces, the next world is safe (`counted`). The last three clauses are those of `run`, for this one step.
     #[tactic(auto, using(crate::proofs::Assembled::step_leads, crate::proofs::Counted::step_leads_counted))]
     pub fn step(&mut self, step: &Step) -> Reply
         ensures exact { Steps step.now self.old result self.new }

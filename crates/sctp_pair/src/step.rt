@@ -3,88 +3,111 @@ use bytes::Bytes;
 use sctp_assoc::{Chunks, Event, Instant, PayloadProtocolIdentifier, StreamId};
 use std::time::Duration;
 
-/// One of the two sides of a pair.
+/// One of the two sides of a pair. `A` and `B` say nothing of client and server; that is `Side`, of an association.
 #[derive(Clone, Copy, Debug, PartialEq, Eq)]
 pub enum Side2 {
     A,
     B,
 }
 
-/// One call of one side, or the delivery of one packet to it. A step of a stream first asks for the live stream.
+/// One call of one side, or the delivery of one packet to it. The calls are those of `Association`; a step of a
+/// stream first asks for the live stream.
 #[derive(Debug, Drop)]
 pub enum Step {
+    /// `Association::open_stream`. Its reply is `Done`.
     OpenStream {
         side: Side2,
         id: StreamId,
         payload_type: PayloadProtocolIdentifier,
     },
+    /// `Association::stream`: whether such a stream is live. Its reply is `Done`, or a refusal where it is not.
     Stream {
         side: Side2,
         id: StreamId,
     },
+    /// `Stream::write` of one message. Its reply is `Wrote`.
     Write {
         side: Side2,
         id: StreamId,
         bytes: Bytes,
     },
+    /// `Stream::read` of the next message. Its reply is `Read`.
     Read {
         side: Side2,
         id: StreamId,
     },
+    /// `Stream::buffered_amount`. Its reply is `BufferedAmount`.
     BufferedAmount {
         side: Side2,
         id: StreamId,
     },
+    /// `Association::poll`. Its reply is `Event`.
     Poll {
         side: Side2,
     },
+    /// `Association::poll_timeout`. Its reply is `Timeout`.
     PollTimeout {
         side: Side2,
     },
+    /// `Association::poll_transmit`. Its packets get the next numbers of their side, and wait to be delivered. Its
+    /// reply is `Sent` or `NothingSent`.
     PollTransmit {
         side: Side2,
         now: Instant,
     },
+    /// `Association::handle_timeout`. Its reply is `Done`.
     HandleTimeout {
         side: Side2,
         now: Instant,
     },
-    /// Hands `side` the packet of this number that the other side gave out.
+    /// Hands `side` the packet of this number that the other side gave out, by `Association::handle_event`. The
+    /// packet can be delivered again. Its reply is `Done`, also where the packet changes nothing, or `NoSuchPacket`.
     Deliver {
         side: Side2,
         number: u64,
         now: Instant,
     },
+    /// `Association::is_handshaking`. The reply of this question and of those after it but the last is `State`.
     IsHandshaking {
         side: Side2,
     },
+    /// `Association::is_closed`.
     IsClosed {
         side: Side2,
     },
+    /// `Association::is_closing`.
     IsClosing {
         side: Side2,
     },
+    /// `Association::is_drained`.
     IsDrained {
         side: Side2,
     },
+    /// `Association::is_failed`.
     IsFailed {
         side: Side2,
     },
+    /// `Association::rtt`, the retransmission timeout. Its reply is `Rtt`.
     Rtt {
         side: Side2,
     },
 }
 
-/// What a step was answered.
+/// What a step was answered. Each step may be answered `Refused`, but for `PollTimeout`, `Rtt` and the questions
+/// about the state.
 #[derive(Debug, Drop)]
 pub enum Reply {
     /// The call was carried out and answers nothing else.
     Done,
-    /// Bytes that were accepted.
+    /// A message of this length, in bytes, was accepted.
     Wrote(usize),
+    /// The message that was read; None where none was ready.
     Read(Option<Chunks>),
+    /// Bytes that were accepted on the stream and are not released.
     BufferedAmount(usize),
+    /// The oldest event; None where none waited.
     Event(Option<Event>),
+    /// The moment at which the next timer expires; None where no timer runs.
     Timeout(Option<Instant>),
     /// Packets that a poll gave out: the number of the first one, and how many.
     Sent { first: u64, count: u64 },
@@ -92,8 +115,10 @@ pub enum Reply {
     NothingSent,
     /// What a question about the state was answered.
     State(bool),
+    /// The retransmission timeout.
     Rtt(Duration),
-    /// The refusal's number.
+    /// The number of the refusal, as `Error::number` gives it. Of number 4, want of memory, the packets of a poll may
+    /// be lost, or the side may have failed; of any other number nothing changed.
     Refused(u8),
     /// The other side gave out no packet of this number; nothing changed.
     NoSuchPacket,

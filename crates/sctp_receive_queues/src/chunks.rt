@@ -8,9 +8,11 @@ use sctp_wire_types::{ChunkPayloadData, Error, PayloadProtocolIdentifier};
 use std::collections::VecDeque;
 use std::marker::Model;
 
-/// A complete message: its payload type and its bytes, in the pieces that brought them.
+/// A complete message, as `Stream::read` gives it: its payload type and its bytes, in the pieces that brought them.
+/// `next` takes the bytes out, from the front.
 #[derive(Debug, Drop)]
 pub struct Chunks {
+    /// The message's payload type.
     pub ppi: PayloadProtocolIdentifier,
     pieces: VecDeque<ChunkPayloadData>,
     bytes: u64,
@@ -47,21 +49,23 @@ impl Chunks {
         self.ppi
     }
 
-    /// Bytes that were not taken out yet.
+    /// How many bytes were not taken out yet.
     pub fn len(&self) -> usize
         ensures { result ≡ length self.now.bytes }
     {
         self.bytes as usize
     }
 
+    /// Whether all bytes were taken out.
     pub fn is_empty(&self) -> bool
         ensures { result ≡ (length self.now.bytes == 0) }
     {
         self.bytes == 0
     }
 
-    /// Takes out the next cut: at most `max` bytes, and never bytes of two pieces. None at the end, or for a `max` of 0. Where
-    /// memory is refused nothing is taken out.
+    /// Takes out the next cut: at most `max` bytes, and never bytes of two pieces, so that it may be shorter than
+    /// `max` before the end. The bytes are shared with the datagram and not copied. None at the end, or for a `max`
+    /// of 0. The only error is `ErrNoMemory`, and nothing is taken out then.
     pub fn next(&mut self, max: usize) -> Result<Option<Bytes>, Error>
         ensures cut { IfOk result (λ cut. IsCut max self.old self.new cut) }
         ensures refused { OnErr result (result ≡ Err Error.ErrNoMemory) }
@@ -76,8 +80,8 @@ impl Chunks {
     }
 }
 
-// Takes the first `max` bytes of the first piece that has any, or all of its bytes where it has fewer. A caller of `next` sees
-// the message and not its pieces, so this length is said here.
+// Takes the first `max` bytes of the first piece that has any, or all of its bytes where it has fewer. A caller of
+// `next` sees the message and not its pieces, so this length is said here.
 fn cut_next(pieces: &mut VecDeque<ChunkPayloadData>, max: usize) -> Result<Bytes, Error>
     requires max { 0 < max }
     requires some { 0 < length (joined pieces.old.items) }

@@ -9,7 +9,9 @@ use std::collections::VecDeque;
 use std::marker::Model;
 use thiserror::Error as ThisError;
 
-/// Why an association was lost or never came about.
+/// Why an association was lost or never came about. So far two are told: `HandshakeFailed`, whose error is
+/// `ErrHandshakeInitAck` or `ErrHandshakeCookieEcho`, and `AssociationClosed`, for every fault that closes an
+/// association, whatever its text says. The others are those of the ported crate.
 #[derive(Clone, Copy, Debug, PartialEq, ThisError)]
 pub enum AssociationError {
     #[error("{0}")]
@@ -38,15 +40,20 @@ impl From<Error> for AssociationError {
     }
 }
 
-/// What happened to an association.
+/// What happened to an association, as `Association::poll` tells it.
 #[derive(Clone, Copy, Debug, PartialEq)]
 pub enum Event {
+    /// The association is established (RFC 4960 section 5.1): messages can be written from now on.
     Connected,
+    /// INIT or COOKIE ECHO was not answered, and its retries passed `max_init_retransmits`.
     HandshakeFailed { reason: AssociationError },
+    /// A fault closed the association.
     AssociationLost { reason: AssociationError },
+    /// Something happened on a stream.
     Stream(StreamEvent),
-    /// The last counters of a stream generation.
+    /// The last counters of a stream generation that ended.
     DataChannelStatsFinal(DataChannelStats),
+    /// DATA was taken in; told once for each such chunk.
     DatagramReceived,
 }
 

@@ -4,7 +4,8 @@ ghost use Rattle.sctp_streams.specs.Stream.{halves_of, ordered_and_reliable, is_
 
 use sctp_wire_types::Policy;
 
-/// Which halves of a stream are open. The numbers are those of the ported crate: 1 for the read half, 2 for the write half.
+/// Which halves of a stream are open. The numbers are those of the ported crate: 1 for the read half, 2 for the write
+/// half. No call of an association closes a half so far.
 #[derive(Clone, Copy, Debug, PartialEq, Eq)]
 pub enum RecvSendState {
     Closed = 0,
@@ -28,12 +29,14 @@ impl From<u8> for RecvSendState {
 }
 
 impl RecvSendState {
+    /// Whether messages can be read.
     pub fn is_read_half_open(self) -> bool
         ensures { result ≡ is_read_half_open self }
     {
         matches!(self, RecvSendState::Readable | RecvSendState::ReadWritable)
     }
 
+    /// Whether messages can be written.
     pub fn is_write_half_open(self) -> bool
         ensures { result ≡ is_write_half_open self }
     {
@@ -66,12 +69,14 @@ impl RecvSendState {
 /// How messages are sent: in order or not, and how long each is tried (RFC 3758 sections 3.5 and 4.1).
 #[derive(Clone, Copy, Debug)]
 pub struct ReliabilityParams {
+    /// Messages carry the U flag and are read in any order (RFC 4960 section 6.6).
     pub unordered: bool,
+    /// How long a message is kept for sending.
     pub policy: Policy,
 }
 
 impl ReliabilityParams {
-    /// What a stream begins with.
+    /// What a stream begins with: messages in order, each kept until it is acknowledged.
     pub fn ordered_and_reliable() -> ReliabilityParams
         ensures { result ≡ ordered_and_reliable }
     {

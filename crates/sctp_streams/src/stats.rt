@@ -4,16 +4,21 @@ ghost use Rattle.sctp_streams.specs.Stats.{fresh_stats, messages_of, bytes_of, w
 
 use sctp_wire_types::{PayloadProtocolIdentifier, StreamId};
 
-/// Counters of one generation of a stream. Only payload types of WebRTC application data are counted; each counter
-/// stays at the greatest u64 once it is there.
+/// Counters of one generation of a stream. Only messages of WebRTC application data are counted: neither those of the
+/// payload type `Dcep` nor those of `Unknown`. Of an empty message (`StringEmpty`, `BinaryEmpty`) no byte counts. Each
+/// counter stays at the greatest u64 once it is there.
 #[derive(Clone, Copy, Debug, PartialEq, Eq)]
 pub struct DataChannelStats {
     pub stream_identifier: StreamId,
-    /// Generations of all streams are numbered 0, 1, 2 and so on.
+    /// Generations of all streams of an association are numbered 0, 1, 2 and so on, as they are made.
     pub generation: u64,
+    /// Messages that were accepted for sending.
     pub messages_sent: u64,
+    /// Their bytes.
     pub bytes_sent: u64,
+    /// Messages that were read.
     pub messages_received: u64,
+    /// Their bytes.
     pub bytes_received: u64,
 }
 

@@ -10,9 +10,12 @@ use sctp_wire_read::{read_chunks, read_u16, read_u32};
 use sctp_wire_types::{CommonHeader, Error, Fault};
 use std::alloc::Global;
 
-/// A datagram whose checksum is right and whose common header was read.
+/// A datagram whose checksum is right and whose common header was read (RFC 4960 sections 3.1 and 6.8). Its chunks
+/// are read by `finish`, which `Association::handle_event` calls; so a driver can look at ports and verification tag
+/// before.
 #[derive(Debug, Drop)]
 pub struct PartialDecode {
+    /// Ports and verification tag.
     pub common_header: CommonHeader,
     /// The chunks, still to be read: a cut of the datagram.
     pub remaining: Bytes,
@@ -77,15 +80,18 @@ impl PartialDecode {
         })
     }
 
-    /// Reads the common header of a datagram. One of fewer than 12 bytes is refused with `Fault::Short`, one whose checksum
-    /// differs with `Fault::Checksum`.
+    /// Reads the common header of a datagram and compares its checksum, CRC32c (RFC 4960 section 6.8). The bytes are
+    /// shared and not copied. Refused as `Malformed`: with `Fault::Short` where it has fewer than 12 bytes, with
+    /// `Fault::Checksum` where the checksum differs. `ErrNoMemory` where memory is refused; the datagram can be read
+    /// again then.
     pub fn unmarshal(datagram: &Bytes) -> Result<PartialDecode, Error>
         ensures exact { Gives result (partial_at datagram.now) }
     {
         Ok(PartialDecode::read(datagram)?)
     }
 
-    /// Reads the chunks. The error is the first fault from left to right.
+    /// Reads the chunks (RFC 4960 section 3.2), without a look at the state or at what they ask for. The error is the
+    /// first fault from left to right, as `Malformed`, or `ErrNoMemory`; what was read up to there is dropped.
     pub fn finish(self, alloc: Global) -> Result<Packet, Error>
         ensures exact { Gives result (finished self) }
 

@@ -3,7 +3,8 @@ ghost use Rattle.std.specs.Prelude.{◌≡◌};
 
 use std::marker::Model;
 
-/// Limits and timeouts of an association.
+/// Limits and timeouts of an association. `default` has the values named below; each `with_..` changes one. They are
+/// read when an association is made, and no value is refused here.
 #[derive(Clone, Copy, Debug)]
 pub struct TransportConfig {
     max_receive_buffer_size: u32,
@@ -57,7 +58,8 @@ impl Model for TransportConfig {
 }
 
 impl TransportConfig {
-    /// Receive buffer, in bytes.
+    /// Receive buffer, in bytes; 1,048,576 by default. INIT and INIT ACK offer it as the receive window, and a peer
+    /// refuses one below 1500 (RFC 4960 section 3.3.2). A SACK offers what is left of it.
     pub fn max_receive_buffer_size(&self) -> u32
         ensures { result ≡ self.now.max_receive_buffer_size }
     {
@@ -73,7 +75,8 @@ impl TransportConfig {
         config
     }
 
-    /// Greatest message that may be written, in bytes.
+    /// Greatest message that may be written, in bytes; 65,536 by default. A message also has to fit into one DATA
+    /// chunk so far.
     pub fn max_send_message_size(&self) -> u32
         ensures { result ≡ self.now.max_send_message_size }
     {
@@ -89,7 +92,7 @@ impl TransportConfig {
         config
     }
 
-    /// Greatest message that is reassembled, in bytes.
+    /// Greatest message that may come, in bytes; 65,536 by default. A longer one is a fault and closes the association.
     pub fn max_receive_message_size(&self) -> u32
         ensures { result ≡ self.now.max_receive_message_size }
     {
@@ -105,7 +108,7 @@ impl TransportConfig {
         config
     }
 
-    /// Streams offered for sending.
+    /// Streams offered for sending, 65,535 by default. With 0 a peer refuses the INIT (RFC 4960 section 3.3.2).
     pub fn max_num_outbound_streams(&self) -> u16
         ensures { result ≡ self.now.max_num_outbound_streams }
     {
@@ -121,7 +124,7 @@ impl TransportConfig {
         config
     }
 
-    /// Streams offered for receiving.
+    /// Streams offered for receiving, 65,535 by default. With 0 a peer refuses the INIT (RFC 4960 section 3.3.2).
     pub fn max_num_inbound_streams(&self) -> u16
         ensures { result ≡ self.now.max_num_inbound_streams }
     {
@@ -137,7 +140,8 @@ impl TransportConfig {
         config
     }
 
-    /// Own port.
+    /// Own SCTP port, 5000 by default. A server takes it from the INIT instead. A packet with port 0 is refused where
+    /// it comes.
     pub fn local_port(&self) -> u16
         ensures { result ≡ self.now.local_port }
     {
@@ -153,7 +157,8 @@ impl TransportConfig {
         config
     }
 
-    /// The peer's port.
+    /// The peer's SCTP port, 5000 by default. A server takes it from the INIT instead. A packet with port 0 is
+    /// refused where it comes.
     pub fn remote_port(&self) -> u16
         ensures { result ≡ self.now.remote_port }
     {
@@ -169,7 +174,7 @@ impl TransportConfig {
         config
     }
 
-    /// Retransmission timeout before the first measurement, in ms.
+    /// Retransmission timeout before the first measurement, in ms; 3000 by default (RFC 4960 sections 6.3.1 and 15).
     pub fn rto_initial_ms(&self) -> u64
         ensures { result ≡ self.now.rto_initial_ms }
     {
@@ -185,7 +190,8 @@ impl TransportConfig {
         config
     }
 
-    /// Least retransmission timeout, in ms.
+    /// Least retransmission timeout after a measurement, in ms; 1000 by default (RFC 4960 sections 6.3.1 and 15).
+    /// Where it is above the greatest one, that one counts.
     pub fn rto_min_ms(&self) -> u64
         ensures { result ≡ self.now.rto_min_ms }
     {
@@ -201,7 +207,8 @@ impl TransportConfig {
         config
     }
 
-    /// Greatest retransmission timeout, in ms.
+    /// Greatest retransmission timeout, in ms, also of a timer that backs off; 60,000 by default (RFC 4960 sections
+    /// 6.3.1, 6.3.3 and 15).
     pub fn rto_max_ms(&self) -> u64
         ensures { result ≡ self.now.rto_max_ms }
     {
@@ -217,7 +224,8 @@ impl TransportConfig {
         config
     }
 
-    /// Retries of the handshake and of reset requests; None is no limit.
+    /// How often INIT, and COOKIE ECHO, go out again before the handshake fails; 8 by default, None is no limit (RFC
+    /// 4960 section 15).
     pub fn max_init_retransmits(&self) -> Option<usize>
         ensures { result ≡ self.now.max_init_retransmits }
     {
@@ -233,7 +241,8 @@ impl TransportConfig {
         config
     }
 
-    /// Retries of DATA; None is no limit.
+    /// How often the retransmission timer may expire without an acknowledgement between; None, by default, is no
+    /// limit. Past it the timer stops, DATA stays in flight, and no event tells of it so far.
     pub fn max_data_retransmits(&self) -> Option<usize>
         ensures { result ≡ self.now.max_data_retransmits }
     {
@@ -273,6 +282,7 @@ impl Default for TransportConfig {
     }
 }
 
-/// Makes an association the server of its handshake. Nothing is set in it so far: what counts is that it is there.
+/// Makes an association the server of its handshake, which waits for an INIT. Nothing is set in it so far: what
+/// counts is that it is there.
 #[derive(Clone, Copy, Debug, Default)]
 pub struct ServerConfig;

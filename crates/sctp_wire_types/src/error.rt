@@ -6,7 +6,8 @@ ghost use Rattle.sctp_wire_types.specs.declared.error.Error.TheVariants.{ErrNoMe
 use std::alloc::{AllocError, AllocFailed};
 use thiserror::Error as ThisError;
 
-/// Why bytes are not read as a packet, or a packet is not written.
+/// Why bytes are not read as a packet, a packet is not written, or a packet or its chunk is refused before it is
+/// processed (RFC 4960 sections 3 and 8.5.1).
 #[derive(Clone, Copy, Debug, PartialEq, Eq, ThisError)]
 pub enum Fault {
     #[error("bytes end before their form does")]
@@ -31,7 +32,23 @@ pub enum Fault {
     Window,
 }
 
-/// What a call refuses, and what a chunk may be refused for. The variants with a number are those that `number` names.
+/// What a call refuses, and what a chunk may be refused for.
+///
+/// | Error | Who answers it |
+/// |---|---|
+/// | `ErrBadPayloadSize`, `ErrBadInitialTsn`, `ErrBadToken` | the constructors of an association |
+/// | `ErrNoMemory` | whatever may take memory, where it gets none |
+/// | `ErrAssociationFailed` | each call after one that found no memory in its middle |
+/// | `ErrStreamAlreadyExist`, `ErrStreamCreateFailed` | `Association::open_stream` |
+/// | `ErrStreamNotExisted` | `Association::stream` |
+/// | `ErrStreamClosed` | the calls of a stream |
+/// | `ErrPayloadDataStateNotExist`, `ErrEmptyMessage`, `ErrOutboundPacketTooLarge` | `Stream::write` |
+/// | `Malformed` | reading and writing of packets, and the checks of packets and chunks |
+/// | `ErrHandshakeInitAck`, `ErrHandshakeCookieEcho` | no call; the event `HandshakeFailed` has them |
+///
+/// `ErrHandleInitState`, `ErrInitAckNoCookie`, `ErrAbortChunk`, `ErrChunkTypeUnhandled`, `ErrInflightQueueTsnPop`,
+/// `ErrContradictoryPieces` and `ErrInboundMessageTooLarge` are faults of chunks: they close an association and are
+/// answered by no call of it. The others are those of calls that do not exist so far.
 #[derive(Clone, Copy, Debug, PartialEq, Eq, ThisError)]
 pub enum Error {
     #[error("payload size is not in 1 to 65519")]
@@ -93,7 +110,7 @@ pub enum Error {
 }
 
 impl Error {
-    /// The refusal's number, 1 to 23; 0 for an error that has none.
+    /// The refusal's number, 1 to 23, as replies of a pair have it; 0 for an error that has none.
     pub fn number(&self) -> u8
         ensures { result ≡ refusal_number self.now }
     {

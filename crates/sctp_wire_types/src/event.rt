@@ -1,24 +1,26 @@
 // What an application is told of its streams.
 use crate::StreamId;
 
-/// How the reset of a stream failed (RFC 6525 section 4.4).
+/// How the reset of a stream failed (RFC 6525 section 4.4). No stream is reset so far.
 #[derive(Clone, Copy, Debug, PartialEq, Eq)]
 pub enum StreamResetError {
     Denied,
     Failed,
 }
 
-/// Something that happened on a stream. `Writable`, `Stopped` and `Available` are never made.
+/// Something that happened on a stream. So far an association tells `Opened` and `Readable` alone.
 #[derive(Clone, Copy, Debug, PartialEq, Eq)]
 pub enum StreamEvent {
-    /// The peer opened the stream.
+    /// DATA came for a stream that was not there, and made it.
     Opened {
         id: StreamId,
     },
-    /// A message can be read.
+    /// A message came and can be read. Each that comes is told, so whoever reads until None may find nothing at the
+    /// next one.
     Readable {
         id: StreamId,
     },
+    /// Never told.
     Writable {
         id: StreamId,
     },
@@ -35,6 +37,7 @@ pub enum StreamEvent {
         id: StreamId,
         reason: StreamResetError,
     },
+    /// Never told.
     Stopped {
         id: StreamId,
         error_code: u16,
@@ -47,5 +50,6 @@ pub enum StreamEvent {
     BufferedAmountHigh {
         id: StreamId,
     },
+    /// Never told.
     Available,
 }

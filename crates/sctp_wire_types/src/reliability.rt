@@ -1,6 +1,7 @@
 // Partial reliability (RFC 3758): how long a message is kept for sending.
 
-/// How long a message is kept for sending (RFC 3758 section 3.5).
+/// How long a message is kept for sending (RFC 3758 sections 3.5 and 4.1). Messages of an association are reliable so
+/// far; the queue of what is to be sent knows the other kinds.
 #[derive(Clone, Copy, Debug)]
 pub enum Policy {
     /// Until it is acknowledged.
@@ -11,7 +12,7 @@ pub enum Policy {
     Timed(u32),
 }
 
-/// The kinds of [`Policy`].
+/// The kinds of [`Policy`], without their numbers.
 #[derive(Clone, Copy, Debug, PartialEq, Eq, Default)]
 pub enum ReliabilityType {
     /// Until it is acknowledged.
