@@ -206,13 +206,16 @@ impl Pair {
     /// steps after it are carried out all the same. `ErrNoMemory` is an error of this call alone, where there is no
     /// room for the replies: it comes before the first step, with nothing changed.
     ///
-    /// From each world that the pair fits, the steps lead from world to world, in each of which the pair stands; as
-    /// long as each so far is within the limits, it is safe. As long as the messages that each side accepted since
-    /// the pair was made have fewer than 16,384 pieces, each of these worlds is safe (`counted`).
+    /// The promise of delivery is said of all steps since the pair was made, these among them (`came`). It holds as
+    /// long as the messages that each side accepted in all of them have fewer than 16,384 pieces; a piece is what one
+    /// DATA chunk has room for. On each stream, the messages that one side's reads answered are, in order, a prefix
+    /// of those that the other side's accepted writes gave (`front`). Nothing is read at a side before the first step
+    /// that asks for a delivery to it (`brought`).
     ///
-    /// All steps of the pair so far have these behind them then (`came`), and what they tell by themselves: what
-    /// either side read on a stream is in order a front of what the other side wrote on it (`front`), and nothing of
-    /// it is read before the first delivery (`brought`), where each side accepted few pieces in all of them.
+    /// More is said over worlds, which docs/MODEL.md has in words. From each world that the pair fits, the steps lead
+    /// from world to world, in each of which the pair stands. As long as each so far is within the limits, it is safe
+    /// (`headline`). As long as the messages that each side accepted since the pair was made have fewer than 16,384
+    /// pieces, each of these worlds is safe (`counted`).
     #[tactic(auto, using(crate::proofs::Worlds::runs_lead, crate::proofs::Counted::runs_lead_counted))]
     pub fn run(&mut self, steps: &[Step]) -> Result<Vec<Reply>, Error>
         ensures ok { IfOk result (λ replies. Runs steps.now replies.items self.old self.new) }
@@ -228,9 +231,11 @@ impl Pair {
 
     /// Carries out one step and answers what came of it; a refusal is a reply, too.
     ///
-    /// From each world that the pair fits, it leads to a next one, in which the pair stands; where that is within the
-    /// limits, it is safe. Where the messages that each side accepted, this step's included, have fewer than 16,384
-    /// pieces, the next world is safe (`counted`). The last three clauses are those of `run`, for this one step.
+    /// The promise of delivery is that of `run`, for this one step: the clauses `came`, `front` and `brought`.
+    ///
+    /// From each world that the pair fits, the step leads to a next one, in which the pair stands. Where that is
+    /// within the limits, it is safe (`headline`). Where the messages that each side accepted, this step's included,
+    /// have fewer than 16,384 pieces, the next world is safe (`counted`).
     #[tactic(auto, using(crate::proofs::Assembled::step_leads, crate::proofs::Counted::step_leads_counted))]
     pub fn step(&mut self, step: &Step) -> Reply
         ensures exact { Steps step.now self.old result self.new }

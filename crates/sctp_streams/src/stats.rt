@@ -9,6 +9,7 @@ use sctp_wire_types::{PayloadProtocolIdentifier, StreamId};
 /// counter stays at the greatest u64 once it is there.
 #[derive(Clone, Copy, Debug, PartialEq, Eq)]
 pub struct DataChannelStats {
+    /// The stream's identifier.
     pub stream_identifier: StreamId,
     /// Generations of all streams of an association are numbered 0, 1, 2 and so on, as they are made.
     pub generation: u64,
