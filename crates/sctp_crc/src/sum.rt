@@ -9,7 +9,7 @@ const SUM_AT: usize = 8;
 
 const SUM_LEN: usize = 4;
 
-/// What `byte` becomes after `8 * place + 8` bits.
+/// What `byte` becomes after `8 * index + 8` bits.
 #[inline]
 fn looked_up(index: usize, byte: u8) -> u32
     requires { index < 16 }

@@ -28,7 +28,7 @@ pub struct Receiver {
 }
 
 impl Receiver {
-    /// Nothing came; the first TSN to come is the one after `point`.
+    /// Nothing came; the first TSN to come is the one after `peer_last_tsn`. Sizes are in bytes.
     pub fn new(buffer_size: u32, max_receive_message_size: u32, peer_last_tsn: u32) -> Self
         ensures { result ≡ fresh_receiver buffer_size max_receive_message_size peer_last_tsn }
     {
@@ -47,14 +47,14 @@ impl Receiver {
         self.peer_last_tsn = initial_tsn.wrapping_sub(1);
     }
 
-    /// Whether this is the TSN after the point.
+    /// Whether this is the TSN after `peer_last_tsn`.
     pub fn is_next(&self, tsn: u32) -> bool
         ensures { result ≡ is_next_after self.now tsn }
     {
         tsn == self.peer_last_tsn.wrapping_add(1)
     }
 
-    /// Moves the point to a TSN that came.
+    /// Moves `peer_last_tsn` to a TSN that came.
     pub fn take(&mut self, tsn: u32)
         ensures { self.new ≡ taken_to self.old tsn }
     {

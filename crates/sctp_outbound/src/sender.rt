@@ -20,7 +20,7 @@ const PACKET_OVERHEAD: u32 = 28;
 /// What a SACK was to the sender.
 #[derive(Clone, Copy, Debug, PartialEq, Eq)]
 pub enum SackOutcome {
-    /// Its point is behind the acknowledged one; nothing changed.
+    /// Its cumulative TSN ack is behind what is acknowledged already; nothing changed.
     Older,
     /// It acknowledges a TSN that is not in flight; nothing changed.
     NotInFlight,
@@ -90,7 +90,7 @@ impl Sender {
         }
     }
 
-    /// Takes in the cumulative TSN ack point and the window of a SACK (RFC 4960 section 6.2.1).
+    /// Takes in the cumulative TSN ack and the window of a SACK (RFC 4960 section 6.2.1).
     pub fn on_sack(
         &mut self,
         timers: &mut TimerTable,
@@ -141,7 +141,7 @@ impl Sender {
         self.queue.first_tsn().wrapping_sub(1)
     }
 
-    // How many TSNs a point acknowledges.
+    // How many TSNs a cumulative TSN ack acknowledges.
     fn count_to(&self, cumulative_tsn_ack: u32) -> u32
         ensures { result ≡ tsns_up_to self.now cumulative_tsn_ack }
     {

@@ -158,7 +158,7 @@ impl OutboundQueue {
         self.tsn_at(self.in_flight.len())
     }
 
-    /// The TSN that is `place` past the first one.
+    /// The TSN that is `index` past the first one.
     pub fn tsn_at(&self, index: usize) -> u32
         ensures { result ≡ tsn_at self.now.first_tsn index }
     {
@@ -188,7 +188,7 @@ impl OutboundQueue {
         Ok(())
     }
 
-    /// The piece in flight that is `place` TSNs past the first.
+    /// The piece in flight that is `index` TSNs past the first; None where there is none.
     pub fn get(&self, index: usize) -> Option<&InFlight>
         ensures { option_copied result ≡ slice_get self.now.in_flight index }
     {
