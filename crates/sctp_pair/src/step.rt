@@ -67,23 +67,23 @@ pub enum Step {
         number: u64,
         now: Instant,
     },
-    /// `Association::is_handshaking`. The reply of this question and of those after it but the last is `State`.
+    /// `Association::is_handshaking`. Its reply is `State`.
     IsHandshaking {
         side: Side2,
     },
-    /// `Association::is_closed`.
+    /// `Association::is_closed`. Its reply is `State`.
     IsClosed {
         side: Side2,
     },
-    /// `Association::is_closing`.
+    /// `Association::is_closing`. Its reply is `State`.
     IsClosing {
         side: Side2,
     },
-    /// `Association::is_drained`.
+    /// `Association::is_drained`. Its reply is `State`.
     IsDrained {
         side: Side2,
     },
-    /// `Association::is_failed`.
+    /// `Association::is_failed`. Its reply is `State`.
     IsFailed {
         side: Side2,
     },
