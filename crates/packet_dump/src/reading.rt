@@ -1,6 +1,6 @@
 // What stands in one line.
 ghost use Rattle.std.specs.Prelude.{IfOk};
-ghost use Rattle.sctp_wire_forms.specs.Results.{Gives};
+ghost use Rattle.sctp_wire.specs.Results.{Gives};
 ghost use Rattle.sctp_wire.specs.Packets.{packet_at};
 ghost use Rattle.packet_dump.specs.Lines.{Shows};
 

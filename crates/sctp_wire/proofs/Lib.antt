@@ -1,3 +1,11 @@
+pub mod Loop
+pub mod Writing
+pub mod Again
+pub mod ParamsAgain
+pub mod ChunksAgain
+pub mod Kept
+pub mod ParamsKept
+pub mod ChunksKept
 pub mod Marshalled
 pub mod PacketsAgain
 pub mod PacketsKept

@@ -7,10 +7,10 @@ use Rattle.sctp_crc.specs.Crc.{crc_run, crc32c, sum_of_packet}
 use Rattle.sctp_wire_types.specs.declared.error.Fault.{Fault}
 use Rattle.sctp_wire_types.specs.declared.error.Fault.TheVariants.{Long}
 use Rattle.sctp_wire_types.specs.declared.packet.CommonHeader.{CommonHeader}
-use Rattle.sctp_wire_forms.specs.Results.{◌>>=◌}
-use Rattle.sctp_wire_forms.specs.Reading.{chunks_at}
-use Rattle.sctp_wire_forms.specs.Frames.{u16_at, u32_at}
-use Rattle.sctp_wire_forms.proofs.ChunksAgain.{chunks_again}
+use Rattle.sctp_wire.specs.Results.{◌>>=◌}
+use Rattle.sctp_wire.specs.Reading.{chunks_at}
+use Rattle.sctp_wire.specs.Frames.{u16_at, u32_at}
+use Rattle.sctp_wire.proofs.ChunksAgain.{chunks_again}
 use Rattle.sctp_wire.specs.declared.packet.Packet.{Packet}
 use Rattle.sctp_wire.specs.declared.partial.PartialDecode.{PartialDecode}
 use Rattle.sctp_wire.specs.Packets.{header_at, sum_at, partial_at, finished, packet_at, packet_fits, packet_is_plain, IsHeader, IsPacket, unsummed, spelling, written}

@@ -2,9 +2,9 @@
 use Rattle.std.proofs.Common.{◌≡◌, ℕ, true, List, Ok, refl}
 use Rattle.sctp_wire_types.specs.declared.chunk.Chunk.{Chunk}
 use Rattle.sctp_wire_types.specs.declared.packet.CommonHeader.{CommonHeader}
-use Rattle.sctp_wire_forms.specs.Reading.{chunks_at}
-use Rattle.sctp_wire_forms.proofs.Kept.{AreBytes}
-use Rattle.sctp_wire_forms.proofs.ChunksKept.{chunks_kept}
+use Rattle.sctp_wire.specs.Reading.{chunks_at}
+use Rattle.sctp_wire.proofs.Kept.{AreBytes}
+use Rattle.sctp_wire.proofs.ChunksKept.{chunks_kept}
 use Rattle.sctp_wire.specs.declared.packet.Packet.{Packet}
 use Rattle.sctp_wire.specs.Packets.{packet_at, packet_fits, packet_is_plain, IsHeader, spelling, written}
 use Rattle.sctp_wire.proofs.PacketsAgain.{packet_again}

@@ -1,10 +1,14 @@
 //! SCTP packets: read from datagrams, written as datagrams (RFC 4960 section 3), and the types that the layers above share.
 #![tactic(auto)]
 
+mod error;
+mod frame;
 mod packet;
 mod partial;
+mod read;
 mod refuse;
 mod transmit;
+mod write;
 
 pub use packet::Packet;
 pub use partial::PartialDecode;

@@ -2,11 +2,11 @@
 ghost use Rattle.std.specs.Prelude.{◌≡◌, ◌≤◌, ◌++◌, length, take, drop, OnOk, IfOk, IsTrue};
 ghost use Rattle.std.specs.Int.{w32, to_le_bytes};
 
+use crate::error::WireError;
+use crate::write::{put_u16, put_u32, write_chunks};
 use bytes::Bytes;
 use sctp_crc::packet_sum;
-use sctp_wire_forms::WireError;
 use sctp_wire_types::{Chunk, CommonHeader, Error, List};
-use sctp_wire_write::{put_u16, put_u32, write_chunks};
 use std::alloc::{AllocError, Global};
 
 /// One packet, as it is or will be spelled in a datagram (RFC 4960 section 3).
@@ -32,7 +32,7 @@ fn set_sum(bytes: &mut [u8], sum: u32)
 }
 
 impl Packet {
-    ghost use Rattle.sctp_wire_forms.specs.Results.{Gives, Yields, Builds};
+    ghost use Rattle.sctp_wire.specs.Results.{Gives, Yields, Builds};
     ghost use Rattle.sctp_wire.specs.Packets.{packet_fits, packet_is_plain, packet_at, unsummed, spelling, written, IsPacket};
 
     fn unsummed(&self, alloc: Global) -> Result<Vec<u8>, WireError>

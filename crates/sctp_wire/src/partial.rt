@@ -1,12 +1,12 @@
 // A datagram of which the header was read.
 ghost use Rattle.std.specs.Prelude.{◌≡◌, ℕ, ◌<◌, slice_index, IfOk};
-ghost use Rattle.sctp_wire_forms.specs.Ranges.{IsU16, IsU32};
+ghost use Rattle.sctp_wire.specs.Ranges.{IsU16, IsU32};
 
 use crate::Packet;
+use crate::error::WireError;
+use crate::read::{read_chunks, read_u16, read_u32};
 use bytes::Bytes;
 use sctp_crc::packet_sum;
-use sctp_wire_forms::WireError;
-use sctp_wire_read::{read_chunks, read_u16, read_u32};
 use sctp_wire_types::{CommonHeader, Error, Fault};
 use std::alloc::Global;
 
@@ -30,7 +30,7 @@ fn note_ranges(source_port: u16, destination_port: u16, verification_tag: u32, b
 {}
 
 impl PartialDecode {
-    ghost use Rattle.sctp_wire_forms.specs.Results.{Gives, Yields};
+    ghost use Rattle.sctp_wire.specs.Results.{Gives, Yields};
     ghost use Rattle.sctp_wire.specs.Packets.{partial_at, finished, packet_at, spelling, written};
 
     #[tactic(auto, unfolding(crate::specs::Packets::partial_at))]

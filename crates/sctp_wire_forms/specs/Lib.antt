@@ -1,5 +1,0 @@
-pub mod Results
-pub mod Frames
-pub mod Reading
-pub mod Spelling
-pub mod Ranges
