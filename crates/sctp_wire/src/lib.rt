@@ -1,14 +1,17 @@
 //! SCTP packets: read from datagrams, written as datagrams (RFC 4960 section 3), and the types that the layers above share.
 #![tactic(auto)]
 
+mod chunk;
+mod entries;
 mod error;
 mod frame;
+mod items;
+mod number;
 mod packet;
+mod param;
 mod partial;
-mod read;
 mod refuse;
 mod transmit;
-mod write;
 
 pub use packet::Packet;
 pub use partial::PartialDecode;

@@ -2,8 +2,9 @@
 ghost use Rattle.std.specs.Prelude.{◌≡◌, ◌≤◌, ◌++◌, length, take, drop, OnOk, IfOk, IsTrue};
 ghost use Rattle.std.specs.Int.{w32, to_le_bytes};
 
+use crate::chunk::write_chunks;
 use crate::error::WireError;
-use crate::write::{put_u16, put_u32, write_chunks};
+use crate::number::{put_u16, put_u32};
 use bytes::Bytes;
 use sctp_crc::packet_sum;
 use sctp_wire_types::{Chunk, CommonHeader, Error, List};

@@ -3,8 +3,9 @@ ghost use Rattle.std.specs.Prelude.{◌≡◌, ℕ, ◌<◌, slice_index, IfOk};
 ghost use Rattle.sctp_wire.specs.Ranges.{IsU16, IsU32};
 
 use crate::Packet;
+use crate::chunk::read_chunks;
 use crate::error::WireError;
-use crate::read::{read_chunks, read_u16, read_u32};
+use crate::number::{read_u16, read_u32};
 use bytes::Bytes;
 use sctp_crc::packet_sum;
 use sctp_wire_types::{CommonHeader, Error, Fault};
