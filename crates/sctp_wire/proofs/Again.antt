@@ -10,7 +10,9 @@ use Rattle.sctp_wire_types.specs.declared.error.Fault.{Fault}
 use Rattle.sctp_wire_types.specs.declared.error.Fault.TheVariants.{Short, Length}
 use Rattle.sctp_wire.specs.declared.frame.Frame.{Frame}
 use Rattle.sctp_wire.specs.Results.{◌>>=◌}
-use Rattle.sctp_wire.specs.Frames.{u16_at, pad_len, padded_len, frame_at, items_at, entries_at, zeros, bare, padded, joined, frame_fits}
+use Rattle.sctp_wire.specs.Numbers.{u16_at}
+use Rattle.sctp_wire.specs.Frames.{pad_len, padded_len, frame_at, items_at, entries_at, zeros, bare, padded, frame_fits}
+use Rattle.sctp_wire.specs.Frames.{joined}
 use Rattle.sctp_wire.proofs.Loop.{items_end, items_step}
 
 pub length-zeros : (n : ℕ) → length (zeros n) ≡ n

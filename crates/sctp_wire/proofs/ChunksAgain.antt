@@ -22,10 +22,19 @@ use Rattle.sctp_wire_types.specs.declared.ids.PayloadProtocolIdentifier.TheVaria
 use Rattle.sctp_wire_types.specs.Ids.{identifier_of, number_of}
 use Rattle.sctp_wire.specs.declared.frame.Frame.{Frame}
 use Rattle.sctp_wire.specs.Results.{◌>>=◌}
-use Rattle.sctp_wire.specs.Frames.{u16_at, u32_at, frame_at, entries_at, bare, padded, joined, frame_fits}
-use Rattle.sctp_wire.specs.Reading.{payload_data_of, init_of, block_at, tsn_at, selective_ack_of, point_of, reconfig_of, skipped_at, forward_tsn_of, message_skip_at, i_forward_tsn_of, param_of, params_at, causes_at, chunk_of, chunks_at}
-use Rattle.sctp_wire.specs.Spelling.{framed, bit, payload_data_flags, payload_data_value, init_value, block_bytes, tsn_bytes, selective_ack_value, reconfig_list, reconfig_params, skipped_bytes, forward_tsn_value, message_skip_bytes, i_forward_tsn_value, param_frame, param_fits, chunk_frame, parts_fit, chunk_fits, chunk_bytes}
-use Rattle.sctp_wire.specs.Ranges.{IsU16, IsU32, IsParam, IsPayloadData, IsInit, IsBlock, IsSack, IsSkipped, IsForwardTsn, IsMessageSkip, IsIForwardTsn, IsChunk, param_is_plain, chunk_is_plain}
+use Rattle.sctp_wire.specs.Numbers.{u16_at, u32_at, IsU16, IsU32, bit}
+use Rattle.sctp_wire.specs.Frames.{frame_at, entries_at, framed, bare, padded, frame_fits, joined}
+use Rattle.sctp_wire.specs.Params.{param_of, param_frame, param_fits, IsParam, param_is_plain, params_at, causes_at}
+use Rattle.sctp_wire.specs.PayloadData.{payload_data_of, payload_data_flags, payload_data_value, IsPayloadData}
+use Rattle.sctp_wire.specs.Init.{init_of, init_value, IsInit}
+use Rattle.sctp_wire.specs.SelectiveAck.{block_at, block_bytes, IsBlock, tsn_at, tsn_bytes, selective_ack_of}
+use Rattle.sctp_wire.specs.SelectiveAck.{selective_ack_value, IsSack}
+use Rattle.sctp_wire.specs.ForwardTsn.{skipped_at, skipped_bytes, IsSkipped, forward_tsn_of, forward_tsn_value}
+use Rattle.sctp_wire.specs.ForwardTsn.{IsForwardTsn, message_skip_at, message_skip_bytes, IsMessageSkip}
+use Rattle.sctp_wire.specs.ForwardTsn.{i_forward_tsn_of, i_forward_tsn_value, IsIForwardTsn}
+use Rattle.sctp_wire.specs.Reconfig.{reconfig_of, reconfig_list, reconfig_params}
+use Rattle.sctp_wire.specs.Chunks.{point_of, chunk_of, chunks_at, chunk_frame, parts_fit, chunk_fits, chunk_bytes}
+use Rattle.sctp_wire.specs.Chunks.{IsChunk, chunk_is_plain}
 use Rattle.sctp_wire.proofs.Writing.{flat_length, sack_length}
 use Rattle.sctp_wire.proofs.Again.{IsAgain, frame_last, frame_padded, entries_again, items_again}
 use Rattle.sctp_wire.proofs.ParamsAgain.{params_again, causes_again, params_are_again}

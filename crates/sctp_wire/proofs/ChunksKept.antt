@@ -14,10 +14,18 @@ use Rattle.sctp_wire_types.specs.declared.chunk.ChunkForwardTsn.{ChunkForwardTsn
 use Rattle.sctp_wire_types.specs.declared.chunk.ChunkIForwardTsn.{ChunkIForwardTsn}
 use Rattle.sctp_wire.specs.declared.frame.Frame.{Frame}
 use Rattle.sctp_wire.specs.Results.{◌>>=◌}
-use Rattle.sctp_wire.specs.Frames.{u16_at, u32_at, frame_at, entries_at, joined, frame_fits}
-use Rattle.sctp_wire.specs.Reading.{payload_data_of, init_of, block_at, tsn_at, selective_ack_of, point_of, reconfig_of, skipped_at, forward_tsn_of, message_skip_at, i_forward_tsn_of, param_of, params_at, causes_at, chunk_of, chunks_at}
-use Rattle.sctp_wire.specs.Spelling.{payload_data_value, init_value, selective_ack_value, skipped_bytes, forward_tsn_value, message_skip_bytes, i_forward_tsn_value, reconfig_params, param_frame, param_fits, cause_frame, cause_fits, chunk_frame, chunk_fits}
-use Rattle.sctp_wire.specs.Ranges.{IsU16, IsU32, IsPayloadData, IsInit, IsBlock, IsSack, IsSkipped, IsForwardTsn, IsMessageSkip, IsIForwardTsn, IsChunk, param_is_plain, chunk_is_plain}
+use Rattle.sctp_wire.specs.Numbers.{u16_at, u32_at, IsU16, IsU32}
+use Rattle.sctp_wire.specs.Frames.{frame_at, entries_at, frame_fits, joined}
+use Rattle.sctp_wire.specs.Params.{param_of, param_frame, param_fits, param_is_plain, params_at, cause_frame}
+use Rattle.sctp_wire.specs.Params.{cause_fits, causes_at}
+use Rattle.sctp_wire.specs.PayloadData.{payload_data_of, payload_data_value, IsPayloadData}
+use Rattle.sctp_wire.specs.Init.{init_of, init_value, IsInit}
+use Rattle.sctp_wire.specs.SelectiveAck.{block_at, IsBlock, tsn_at, selective_ack_of, selective_ack_value, IsSack}
+use Rattle.sctp_wire.specs.ForwardTsn.{skipped_at, skipped_bytes, IsSkipped, forward_tsn_of, forward_tsn_value}
+use Rattle.sctp_wire.specs.ForwardTsn.{IsForwardTsn, message_skip_at, message_skip_bytes, IsMessageSkip}
+use Rattle.sctp_wire.specs.ForwardTsn.{i_forward_tsn_of, i_forward_tsn_value, IsIForwardTsn}
+use Rattle.sctp_wire.specs.Reconfig.{reconfig_of, reconfig_params}
+use Rattle.sctp_wire.specs.Chunks.{point_of, chunk_of, chunks_at, chunk_frame, chunk_fits, IsChunk, chunk_is_plain}
 use Rattle.sctp_wire.proofs.Loop.{ok_is}
 use Rattle.sctp_wire.proofs.Writing.{flat_length, sack_length}
 use Rattle.sctp_wire.proofs.Kept.{AreBytes, AreBytes-drop, u16_below, u32_below, bind_ok, choose, frame_kept, entries_kept, entries_count, joined_length, items_kept}

@@ -8,7 +8,9 @@ use Rattle.sctp_wire_types.specs.declared.error.Fault.{Fault}
 use Rattle.sctp_wire_types.specs.declared.error.Fault.TheVariants.{Short, Length}
 use Rattle.sctp_wire.specs.declared.frame.Frame.{Frame}
 use Rattle.sctp_wire.specs.Results.{◌>>=◌}
-use Rattle.sctp_wire.specs.Frames.{u16_at, u32_at, pad_len, padded_len, frame_at, items_within, items_at, entries_at, zeros, bare, padded, joined}
+use Rattle.sctp_wire.specs.Numbers.{u16_at, u32_at}
+use Rattle.sctp_wire.specs.Frames.{pad_len, padded_len, frame_at, items_within, items_at, entries_at, zeros, bare}
+use Rattle.sctp_wire.specs.Frames.{padded, joined}
 use Rattle.sctp_wire.proofs.Loop.{guard_ok, ok_is}
 use Rattle.sctp_wire.proofs.Again.{length-zeros}
 

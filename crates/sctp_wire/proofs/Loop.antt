@@ -9,7 +9,8 @@ use Rattle.sctp_wire.specs.declared.error.WireError.{WireError}
 use Rattle.sctp_wire.specs.declared.error.WireError.TheVariants as wire
 use Rattle.sctp_wire.specs.declared.frame.Frame.{Frame}
 use Rattle.sctp_wire.specs.Results.{◌>>=◌, Fails}
-use Rattle.sctp_wire.specs.Frames.{u16_at, padded_len, pad_len, frame_at, items_within, items_at, entries_at}
+use Rattle.sctp_wire.specs.Numbers.{u16_at}
+use Rattle.sctp_wire.specs.Frames.{pad_len, padded_len, frame_at, items_within, items_at, entries_at}
 
 -- a test that did not fail
 pub guard_ok : {A : Type 0} (b : Bool) (d : Fault) (read : Result A Fault) (y : A) → cond b (Err d) read ≡ Ok y → (b ≡ false) × (read ≡ Ok y)

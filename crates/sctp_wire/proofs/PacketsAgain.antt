@@ -8,8 +8,8 @@ use Rattle.sctp_wire_types.specs.declared.error.Fault.{Fault}
 use Rattle.sctp_wire_types.specs.declared.error.Fault.TheVariants.{Long}
 use Rattle.sctp_wire_types.specs.declared.packet.CommonHeader.{CommonHeader}
 use Rattle.sctp_wire.specs.Results.{◌>>=◌}
-use Rattle.sctp_wire.specs.Reading.{chunks_at}
-use Rattle.sctp_wire.specs.Frames.{u16_at, u32_at}
+use Rattle.sctp_wire.specs.Numbers.{u16_at, u32_at}
+use Rattle.sctp_wire.specs.Chunks.{chunks_at}
 use Rattle.sctp_wire.proofs.ChunksAgain.{chunks_again}
 use Rattle.sctp_wire.specs.declared.packet.Packet.{Packet}
 use Rattle.sctp_wire.specs.declared.partial.PartialDecode.{PartialDecode}

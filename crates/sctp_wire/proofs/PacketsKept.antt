@@ -2,7 +2,7 @@
 use Rattle.std.proofs.Common.{◌≡◌, ℕ, true, List, Ok, refl}
 use Rattle.sctp_wire_types.specs.declared.chunk.Chunk.{Chunk}
 use Rattle.sctp_wire_types.specs.declared.packet.CommonHeader.{CommonHeader}
-use Rattle.sctp_wire.specs.Reading.{chunks_at}
+use Rattle.sctp_wire.specs.Chunks.{chunks_at}
 use Rattle.sctp_wire.proofs.Kept.{AreBytes}
 use Rattle.sctp_wire.proofs.ChunksKept.{chunks_kept}
 use Rattle.sctp_wire.specs.declared.packet.Packet.{Packet}

@@ -14,10 +14,12 @@ use Rattle.sctp_wire_types.specs.declared.param.ReconfigResult.{ReconfigResult}
 use Rattle.sctp_wire_types.specs.declared.param.ReconfigResult.TheVariants as results
 use Rattle.sctp_wire.specs.declared.frame.Frame.{Frame}
 use Rattle.sctp_wire.specs.Results.{◌>>=◌}
-use Rattle.sctp_wire.specs.Frames.{u16_at, u32_at, entries_at, joined, frame_fits}
-use Rattle.sctp_wire.specs.Reading.{result_of, reset_request_of, reset_response_of, param_of, cause_of, params_at, causes_at}
-use Rattle.sctp_wire.specs.Spelling.{number_of_result, identifier_bytes, reset_request_value, reset_response_value, param_frame, param_fits, cause_frame, cause_fits}
-use Rattle.sctp_wire.specs.Ranges.{IsU16, IsU32, IsResetRequest, IsResetResponse, IsParam, IsCause, param_is_plain}
+use Rattle.sctp_wire.specs.Numbers.{u16_at, u32_at, IsU16, IsU32}
+use Rattle.sctp_wire.specs.Frames.{entries_at, frame_fits, joined}
+use Rattle.sctp_wire.specs.Params.{result_of, number_of_result, reset_request_of, identifier_bytes, reset_request_value}
+use Rattle.sctp_wire.specs.Params.{IsResetRequest, reset_response_of, reset_response_value, IsResetResponse, param_of}
+use Rattle.sctp_wire.specs.Params.{param_frame, param_fits, IsParam, param_is_plain, params_at, cause_of, cause_frame}
+use Rattle.sctp_wire.specs.Params.{cause_fits, IsCause, causes_at}
 use Rattle.sctp_wire.proofs.Writing.{flat_length}
 use Rattle.sctp_wire.proofs.Again.{IsAgain, entries_again, joined_again}
 

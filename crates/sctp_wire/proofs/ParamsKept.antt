@@ -10,10 +10,12 @@ use Rattle.sctp_wire_types.specs.declared.param.ParamOutgoingResetRequest.{Param
 use Rattle.sctp_wire_types.specs.declared.param.ParamReconfigResponse.{ParamReconfigResponse}
 use Rattle.sctp_wire.specs.declared.frame.Frame.{Frame}
 use Rattle.sctp_wire.specs.Results.{◌>>=◌}
-use Rattle.sctp_wire.specs.Frames.{u16_at, u32_at, entries_at, joined, frame_fits}
-use Rattle.sctp_wire.specs.Reading.{result_of, reset_request_of, reset_response_of, param_of, cause_of, params_at, causes_at}
-use Rattle.sctp_wire.specs.Spelling.{identifier_bytes, reset_request_value, reset_response_value, param_frame, param_fits, cause_frame, cause_fits}
-use Rattle.sctp_wire.specs.Ranges.{IsU16, IsU32, IsResetRequest, IsResetResponse, IsParam, IsCause, param_is_plain}
+use Rattle.sctp_wire.specs.Numbers.{u16_at, u32_at, IsU16, IsU32}
+use Rattle.sctp_wire.specs.Frames.{entries_at, frame_fits, joined}
+use Rattle.sctp_wire.specs.Params.{result_of, reset_request_of, identifier_bytes, reset_request_value, IsResetRequest}
+use Rattle.sctp_wire.specs.Params.{reset_response_of, reset_response_value, IsResetResponse, param_of, param_frame}
+use Rattle.sctp_wire.specs.Params.{param_fits, IsParam, param_is_plain, params_at, cause_of, cause_frame, cause_fits}
+use Rattle.sctp_wire.specs.Params.{IsCause, causes_at}
 use Rattle.sctp_wire.proofs.Loop.{ok_is}
 use Rattle.sctp_wire.proofs.Writing.{flat_length}
 use Rattle.sctp_wire.proofs.Kept.{AreBytes, AreBytes-drop, u16_below, u32_below, bind_ok, choose, entries_kept, entries_count, items_kept}

@@ -7,8 +7,8 @@ use Rattle.std.proofs.lemmas.List.Concat.{flat_map-cons}
 use Rattle.std.specs.Int.{w16, to_be_bytes}
 use Rattle.sctp_wire.specs.declared.frame.Frame.{Frame}
 use Rattle.sctp_wire_types.specs.declared.chunk.ChunkSelectiveAck.{ChunkSelectiveAck}
-use Rattle.sctp_wire.specs.Spelling.{framed, block_bytes, tsn_bytes, selective_ack_value}
-use Rattle.sctp_wire.specs.Frames.{bare, padded, joined, frame_fits, zeros, pad_len}
+use Rattle.sctp_wire.specs.Frames.{pad_len, zeros, framed, bare, padded, frame_fits, joined}
+use Rattle.sctp_wire.specs.SelectiveAck.{block_bytes, tsn_bytes, selective_ack_value}
 
 -- ---- whether all items fit, as far as the loop has come
 

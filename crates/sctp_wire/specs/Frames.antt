@@ -1,19 +1,13 @@
 -- Chunks, parameters and error causes as frames: a head, a length, a value and padding (RFC 4960 sections 3.2 and 3.2.1).
-use Rattle.std.specs.Prelude.{◌≡◌, ℕ, zero, suc, ◌+◌, ◌-◌, ◌*◌, ◌/◌, ◌%◌, ◌^◌, ◌<◌, ◌==◌, if◌then◌else◌, nat_lt, Bool, true, false, ◌&&◌, List, [], ◌∷◌, ◌++◌, length, take, drop, Result, Ok, Err}
-use Rattle.std.specs.Int.{w16, w32, from_be_bytes, to_be_bytes}
+use Rattle.std.specs.Prelude.{◌≡◌, ℕ, zero, suc, ◌+◌, ◌-◌, ◌%◌, if◌then◌else◌, nat_lt, Bool, true, false, List, [], ◌∷◌, ◌++◌, length, take, drop, Result, Ok, Err}
+use Rattle.std.specs.Int.{w16, to_be_bytes}
 use Rattle.sctp_wire_types.specs.declared.error.Fault.{Fault}
 use Rattle.sctp_wire_types.specs.declared.error.Fault.TheVariants.{Short, Length, Long}
 use Rattle.sctp_wire.specs.declared.error.WireError.{WireError}
 use Rattle.sctp_wire.specs.declared.error.WireError.TheVariants as wire
 use Rattle.sctp_wire.specs.declared.frame.Frame.{Frame}
 use Rattle.sctp_wire.specs.Results.{◌>>=◌}
-
--- the number of two or of four bytes at a place, high byte first
-abbrev pub u16_at : List ℕ → ℕ → ℕ
-u16_at bytes at = from_be_bytes w16 (take 2 (drop at bytes))
-
-abbrev pub u32_at : List ℕ → ℕ → ℕ
-u32_at bytes at = from_be_bytes w32 (take 4 (drop at bytes))
+use Rattle.sctp_wire.specs.Numbers.{u16_at}
 
 -- how many zeros follow a value of this length: up to a multiple of 4
 abbrev pub pad_len : ℕ → ℕ
@@ -49,6 +43,9 @@ entries_at entry_at width (suc n) bytes = entry_at bytes ∷ entries_at entry_at
 abbrev pub zeros : ℕ → List ℕ
 zeros zero = []
 zeros (suc n) = 0 ∷ zeros n
+
+abbrev pub framed : ℕ → List ℕ → Frame
+framed head value = record { head = head; value = value }
 
 -- a frame's spelling without its padding, and with it
 abbrev pub bare : Frame → List ℕ

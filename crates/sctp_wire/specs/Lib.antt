@@ -1,6 +1,11 @@
 pub mod Results
+pub mod Numbers
 pub mod Frames
-pub mod Reading
-pub mod Spelling
-pub mod Ranges
+pub mod Params
+pub mod PayloadData
+pub mod Init
+pub mod SelectiveAck
+pub mod ForwardTsn
+pub mod Reconfig
+pub mod Chunks
 pub mod Packets

@@ -11,10 +11,8 @@ use Rattle.sctp_wire_types.specs.declared.chunk.Chunk.{Chunk}
 use Rattle.sctp_wire_types.specs.declared.chunk.Chunk.TheVariants as chunks
 use Rattle.sctp_wire_types.specs.declared.packet.CommonHeader.{CommonHeader}
 use Rattle.sctp_wire.specs.Results.{◌>>=◌}
-use Rattle.sctp_wire.specs.Frames.{u16_at, u32_at}
-use Rattle.sctp_wire.specs.Reading.{chunks_at}
-use Rattle.sctp_wire.specs.Spelling.{chunk_fits, chunk_bytes}
-use Rattle.sctp_wire.specs.Ranges.{IsU16, IsU32, IsChunk, chunk_is_plain}
+use Rattle.sctp_wire.specs.Numbers.{u16_at, u32_at, IsU16, IsU32}
+use Rattle.sctp_wire.specs.Chunks.{chunks_at, chunk_fits, chunk_bytes, IsChunk, chunk_is_plain}
 use Rattle.sctp_wire.specs.declared.packet.Packet.{Packet}
 use Rattle.sctp_wire.specs.declared.partial.PartialDecode.{PartialDecode}
 

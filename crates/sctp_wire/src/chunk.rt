@@ -10,9 +10,7 @@ ghost use Rattle.std.specs.Prelude.{◌≡◌, ◌+◌, ◌*◌, ◌++◌, ◌&&
 ghost use Rattle.std.specs.List.{flat_map, list_all, AllByRecursion};
 ghost use Rattle.sctp_wire.specs.Results.{Yields, Writes};
 ghost use Rattle.sctp_wire.specs.Frames.{padded, frame_fits};
-ghost use Rattle.sctp_wire.specs.Reading.{chunk_of, chunks_at};
-ghost use Rattle.sctp_wire.specs.Spelling.{chunk_frame, parts_fit, chunk_fits, chunk_bytes};
-ghost use Rattle.sctp_wire.specs.Ranges.{IsChunk};
+ghost use Rattle.sctp_wire.specs.Chunks.{chunk_of, chunks_at, chunk_frame, parts_fit, chunk_fits, chunk_bytes, IsChunk};
 
 use crate::error::WireError;
 use crate::frame::{Frame, put_padded};
@@ -31,7 +29,7 @@ use std::alloc::Global;
 impl Item for Chunk {
     ghost item_of = { chunk_of };
 
-    #[tactic(auto, unfolding(crate::specs::Reading::chunk_of))]
+    #[tactic(auto, unfolding(crate::specs::Chunks::chunk_of))]
     fn read(alloc: Global, frame: Frame) -> Result<Chunk, WireError> {
         let flags = frame.head % 256;
         let value = frame.value;

@@ -1,15 +1,16 @@
 // Lists of entries of one width.
 ghost use Rattle.std.specs.Prelude.{◌≡◌, ℕ, ◌*◌, ◌≤◌, List as Items, ◌++◌, length, IfOk, OnOk};
 ghost use Rattle.std.specs.List.{flat_map, AllByRecursion};
-ghost use Rattle.sctp_wire.specs.Frames.{entries_at, u16_at, u32_at};
-ghost use Rattle.sctp_wire.specs.Spelling.{tsn_bytes, identifier_bytes};
-ghost use Rattle.sctp_wire.specs.Ranges.{IsU16, IsU32};
+ghost use Rattle.sctp_wire.specs.Numbers.{u16_at, u32_at, IsU16, IsU32};
+ghost use Rattle.sctp_wire.specs.Frames.{entries_at};
+ghost use Rattle.sctp_wire.specs.Params.{identifier_bytes};
+ghost use Rattle.sctp_wire.specs.SelectiveAck.{tsn_bytes};
 
 use crate::number::{put_u16, put_u32, read_u16, read_u32};
 use sctp_wire_types::List;
 use std::alloc::{AllocError, Global};
 
-/// A part of a chunk that comes in any number.
+/// A part of a chunk that comes in any number, as it is read.
 pub(crate) trait Entry: Sized + Drop {
     ghost WIDTH: { ℕ };
 
@@ -42,7 +43,7 @@ pub(crate) fn read_entries<T: Entry>(
     Ok(List::from_vec(entries))
 }
 
-/// A part of a chunk that comes in any number.
+/// A part of a chunk that comes in any number, as it is written.
 pub(crate) trait PutEntry: Sized {
     ghost entry_bytes: { Self → Items ℕ };
 

@@ -2,9 +2,9 @@
 ghost use Rattle.std.specs.Prelude.{◌≡◌, ◌<◌, ◌+◌, ◌++◌, length, IfOk, OnOk};
 ghost use Rattle.std.specs.Int.{w16, to_be_bytes};
 ghost use Rattle.sctp_wire.specs.Results.{Yields, Writes};
-ghost use Rattle.sctp_wire.specs.Frames.{WritesBare, bare, padded, zeros, pad_len, padded_len, frame_at, frame_fits};
-ghost use Rattle.sctp_wire.specs.Spelling.{framed};
-ghost use Rattle.sctp_wire.specs.Ranges.{IsU16};
+ghost use Rattle.sctp_wire.specs.Numbers.{IsU16};
+ghost use Rattle.sctp_wire.specs.Frames.{pad_len, padded_len, frame_at, zeros, framed, bare, padded, frame_fits};
+ghost use Rattle.sctp_wire.specs.Frames.{WritesBare};
 
 use crate::error::WireError;
 use crate::number::{put_u16, read_u16};

@@ -4,7 +4,7 @@ ghost use Rattle.std.specs.List.{list_all, AllByRecursion};
 ghost use Rattle.sctp_wire_types.specs.declared.error.Fault.{Fault as Faults};
 ghost use Rattle.sctp_wire.specs.declared.frame.Frame.{Frame as Framed};
 ghost use Rattle.sctp_wire.specs.Results.{Yields, Writes};
-ghost use Rattle.sctp_wire.specs.Frames.{WritesBare, bare, joined, items_at, frame_fits};
+ghost use Rattle.sctp_wire.specs.Frames.{items_at, bare, frame_fits, joined, WritesBare};
 
 use crate::error::WireError;
 use crate::frame::{Frame, put_padding, read_frame};

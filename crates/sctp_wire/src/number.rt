@@ -1,8 +1,7 @@
 // Numbers, high byte first: read at a place, and written at the end.
 ghost use Rattle.std.specs.Prelude.{◌≡◌, ◌+◌, ◌≤◌, ◌++◌, length, OnOk};
 ghost use Rattle.std.specs.Int.{w16, w32, to_be_bytes};
-ghost use Rattle.sctp_wire.specs.Frames.{u16_at, u32_at};
-ghost use Rattle.sctp_wire.specs.Ranges.{IsU16, IsU32};
+ghost use Rattle.sctp_wire.specs.Numbers.{u16_at, u32_at, IsU16, IsU32};
 
 use std::alloc::AllocError;
 

@@ -1,11 +1,10 @@
 // Parameters and error causes.
 ghost use Rattle.std.specs.Prelude.{◌≡◌, ◌++◌, OnOk, IfOk};
 ghost use Rattle.sctp_wire.specs.Results.{Yields};
-ghost use Rattle.sctp_wire.specs.Reading.{result_of, reset_request_of, reset_response_of, param_of};
-ghost use Rattle.sctp_wire.specs.Reading.{cause_of, params_at, causes_at};
-ghost use Rattle.sctp_wire.specs.Spelling.{number_of_result, reset_request_value, reset_response_value};
-ghost use Rattle.sctp_wire.specs.Spelling.{param_frame, cause_frame};
-ghost use Rattle.sctp_wire.specs.Ranges.{IsResetRequest, IsResetResponse, IsParam, IsCause};
+ghost use Rattle.sctp_wire.specs.Params.{result_of, number_of_result, reset_request_of, reset_request_value};
+ghost use Rattle.sctp_wire.specs.Params.{IsResetRequest, reset_response_of, reset_response_value, IsResetResponse};
+ghost use Rattle.sctp_wire.specs.Params.{param_of, param_frame, IsParam, params_at, cause_of, cause_frame, IsCause};
+ghost use Rattle.sctp_wire.specs.Params.{causes_at};
 
 use crate::entries::{put_entries, read_entries};
 use crate::error::WireError;
@@ -49,7 +48,7 @@ fn result_number(outcome: ReconfigResult) -> u32
     }
 }
 
-#[tactic(auto, unfolding(crate::specs::Reading::reset_request_of))]
+#[tactic(auto, unfolding(crate::specs::Params::reset_request_of))]
 fn read_reset_request(alloc: Global, value: &[u8]) -> Result<ParamOutgoingResetRequest, WireError>
     ensures { Yields result (reset_request_of value.now) }
 {
@@ -80,7 +79,7 @@ fn reset_request_bytes(
     Ok(value)
 }
 
-#[tactic(auto, unfolding(crate::specs::Reading::reset_response_of))]
+#[tactic(auto, unfolding(crate::specs::Params::reset_response_of))]
 fn read_reset_response(value: &[u8]) -> Result<ParamReconfigResponse, WireError>
     ensures { Yields result (reset_response_of value.now) }
 {
@@ -109,7 +108,7 @@ fn reset_response_bytes(
 impl Item for Param {
     ghost item_of = { param_of };
 
-    #[tactic(auto, unfolding(crate::specs::Reading::param_of))]
+    #[tactic(auto, unfolding(crate::specs::Params::param_of))]
     fn read(alloc: Global, frame: Frame) -> Result<Param, WireError> {
         match frame.head {
             1 => Ok(Param::HeartbeatInfo(frame.value)),

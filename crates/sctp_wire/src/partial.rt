@@ -1,6 +1,6 @@
 // A datagram of which the header was read.
 ghost use Rattle.std.specs.Prelude.{◌≡◌, ℕ, ◌<◌, slice_index, IfOk};
-ghost use Rattle.sctp_wire.specs.Ranges.{IsU16, IsU32};
+ghost use Rattle.sctp_wire.specs.Numbers.{IsU16, IsU32};
 
 use crate::Packet;
 use crate::chunk::read_chunks;

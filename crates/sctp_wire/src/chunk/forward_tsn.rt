@@ -1,11 +1,10 @@
 // FORWARD TSN (RFC 3758 section 3.2) and I-FORWARD-TSN (RFC 8260 section 2.3.1).
 ghost use Rattle.std.specs.Prelude.{◌≡◌, ◌++◌, OnOk};
 ghost use Rattle.sctp_wire.specs.Results.{Yields, Writes};
-ghost use Rattle.sctp_wire.specs.Frames.{padded, frame_fits};
-ghost use Rattle.sctp_wire.specs.Reading.{skipped_at, message_skip_at, forward_tsn_of, i_forward_tsn_of};
-ghost use Rattle.sctp_wire.specs.Spelling.{framed, skipped_bytes, message_skip_bytes};
-ghost use Rattle.sctp_wire.specs.Spelling.{forward_tsn_value, i_forward_tsn_value};
-ghost use Rattle.sctp_wire.specs.Ranges.{IsSkipped, IsMessageSkip, IsForwardTsn, IsIForwardTsn};
+ghost use Rattle.sctp_wire.specs.Frames.{framed, padded, frame_fits};
+ghost use Rattle.sctp_wire.specs.ForwardTsn.{skipped_at, skipped_bytes, IsSkipped, forward_tsn_of, forward_tsn_value};
+ghost use Rattle.sctp_wire.specs.ForwardTsn.{IsForwardTsn, message_skip_at, message_skip_bytes, IsMessageSkip};
+ghost use Rattle.sctp_wire.specs.ForwardTsn.{i_forward_tsn_of, i_forward_tsn_value, IsIForwardTsn};
 
 use crate::entries::{Entry, PutEntry, put_entries, read_entries};
 use crate::error::WireError;
@@ -40,7 +39,7 @@ impl PutEntry for SkippedStream {
     }
 }
 
-#[tactic(auto, unfolding(crate::specs::Reading::forward_tsn_of))]
+#[tactic(auto, unfolding(crate::specs::ForwardTsn::forward_tsn_of))]
 pub(crate) fn read_forward_tsn(alloc: Global, value: &[u8]) -> Result<ChunkForwardTsn, WireError>
     ensures { Yields result (forward_tsn_of value.now) }
 {
@@ -97,7 +96,7 @@ impl PutEntry for IForwardTsnEntry {
     }
 }
 
-#[tactic(auto, unfolding(crate::specs::Reading::i_forward_tsn_of))]
+#[tactic(auto, unfolding(crate::specs::ForwardTsn::i_forward_tsn_of))]
 pub(crate) fn read_i_forward_tsn(alloc: Global, value: &[u8]) -> Result<ChunkIForwardTsn, WireError>
     ensures { Yields result (i_forward_tsn_of value.now) }
 {

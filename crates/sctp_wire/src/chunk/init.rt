@@ -2,10 +2,9 @@
 ghost use Rattle.std.specs.Prelude.{◌≡◌, ◌++◌, ◌&&◌, OnOk};
 ghost use Rattle.std.specs.List.{list_all};
 ghost use Rattle.sctp_wire.specs.Results.{Yields, Writes};
-ghost use Rattle.sctp_wire.specs.Frames.{padded, frame_fits};
-ghost use Rattle.sctp_wire.specs.Reading.{init_of};
-ghost use Rattle.sctp_wire.specs.Spelling.{framed, init_value, param_fits};
-ghost use Rattle.sctp_wire.specs.Ranges.{IsInit};
+ghost use Rattle.sctp_wire.specs.Frames.{framed, padded, frame_fits};
+ghost use Rattle.sctp_wire.specs.Params.{param_fits};
+ghost use Rattle.sctp_wire.specs.Init.{init_of, init_value, IsInit};
 
 use crate::error::WireError;
 use crate::frame::put_padded;
@@ -16,7 +15,7 @@ use bytes::Bytes;
 use sctp_wire_types::{ChunkInit, Fault};
 use std::alloc::Global;
 
-#[tactic(auto, unfolding(crate::specs::Reading::init_of))]
+#[tactic(auto, unfolding(crate::specs::Init::init_of))]
 pub(crate) fn read_init(alloc: Global, value: Bytes) -> Result<ChunkInit, WireError>
     ensures { Yields result (init_of value) }
 {

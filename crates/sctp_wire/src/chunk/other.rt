@@ -4,10 +4,10 @@ ghost use Rattle.std.specs.Prelude.{◌≡◌, ◌<◌, ◌+◌, ◌*◌, ◌&&�
 ghost use Rattle.std.specs.List.{list_all, AllByRecursion};
 ghost use Rattle.std.specs.Int.{w32, to_be_bytes};
 ghost use Rattle.sctp_wire.specs.Results.{Yields, Writes};
-ghost use Rattle.sctp_wire.specs.Frames.{padded, joined, frame_fits};
-ghost use Rattle.sctp_wire.specs.Reading.{point_of};
-ghost use Rattle.sctp_wire.specs.Spelling.{framed, param_fits, param_frame, cause_fits, cause_frame};
-ghost use Rattle.sctp_wire.specs.Ranges.{IsU32, IsParam, IsCause};
+ghost use Rattle.sctp_wire.specs.Numbers.{IsU32};
+ghost use Rattle.sctp_wire.specs.Frames.{framed, padded, frame_fits, joined};
+ghost use Rattle.sctp_wire.specs.Params.{param_frame, param_fits, IsParam, cause_frame, cause_fits, IsCause};
+ghost use Rattle.sctp_wire.specs.Chunks.{point_of};
 
 use crate::error::WireError;
 use crate::frame::put_padded;
@@ -46,7 +46,7 @@ pub(crate) fn put_causes(
     put_padded(out, head, value.as_slice())
 }
 
-#[tactic(auto, unfolding(crate::specs::Reading::point_of))]
+#[tactic(auto, unfolding(crate::specs::Chunks::point_of))]
 pub(crate) fn read_point(value: &[u8]) -> Result<u32, WireError>
     ensures { Yields result (point_of value.now) }
 {

@@ -1,10 +1,9 @@
 // DATA (RFC 4960 section 3.3.1).
 ghost use Rattle.std.specs.Prelude.{◌≡◌, ◌≤◌, ◌++◌, OnOk};
 ghost use Rattle.sctp_wire.specs.Results.{Yields, Writes};
-ghost use Rattle.sctp_wire.specs.Frames.{padded, frame_fits};
-ghost use Rattle.sctp_wire.specs.Reading.{payload_data_of};
-ghost use Rattle.sctp_wire.specs.Spelling.{framed, bit, payload_data_flags, payload_data_value};
-ghost use Rattle.sctp_wire.specs.Ranges.{IsPayloadData};
+ghost use Rattle.sctp_wire.specs.Numbers.{bit};
+ghost use Rattle.sctp_wire.specs.Frames.{framed, padded, frame_fits};
+ghost use Rattle.sctp_wire.specs.PayloadData.{payload_data_of, payload_data_flags, payload_data_value, IsPayloadData};
 
 use crate::error::WireError;
 use crate::frame::{MAX_VALUE, put_head, put_padding};
@@ -13,7 +12,7 @@ use bytes::Bytes;
 use sctp_wire_types::{ChunkPayloadData, Fault, PayloadProtocolIdentifier};
 use std::alloc::AllocError;
 
-#[tactic(auto, unfolding(crate::specs::Reading::payload_data_of))]
+#[tactic(auto, unfolding(crate::specs::PayloadData::payload_data_of))]
 pub(crate) fn read_payload_data(flags: u16, value: Bytes) -> Result<ChunkPayloadData, WireError>
     ensures { Yields result (payload_data_of flags value) }
 {

@@ -2,10 +2,9 @@
 ghost use Rattle.std.specs.Prelude.{◌≡◌, ◌++◌, ◌&&◌, OnOk};
 ghost use Rattle.std.specs.List.{list_all, AllByRecursion};
 ghost use Rattle.sctp_wire.specs.Results.{Yields, Writes};
-ghost use Rattle.sctp_wire.specs.Frames.{padded, joined, frame_fits};
-ghost use Rattle.sctp_wire.specs.Reading.{reconfig_of};
-ghost use Rattle.sctp_wire.specs.Spelling.{framed, reconfig_list, reconfig_params, param_fits, param_frame};
-ghost use Rattle.sctp_wire.specs.Ranges.{IsParam};
+ghost use Rattle.sctp_wire.specs.Frames.{framed, padded, frame_fits, joined};
+ghost use Rattle.sctp_wire.specs.Params.{param_frame, param_fits, IsParam};
+ghost use Rattle.sctp_wire.specs.Reconfig.{reconfig_of, reconfig_list, reconfig_params};
 
 use crate::error::WireError;
 use crate::frame::{put_padded, put_padding, read_frame};
@@ -14,7 +13,7 @@ use bytes::Bytes;
 use sctp_wire_types::{ChunkReconfig, Param};
 use std::alloc::Global;
 
-#[tactic(auto, unfolding(crate::specs::Reading::reconfig_of))]
+#[tactic(auto, unfolding(crate::specs::Reconfig::reconfig_of))]
 pub(crate) fn read_reconfig(alloc: Global, value: Bytes) -> Result<ChunkReconfig, WireError>
     ensures { Yields result (reconfig_of value) }
 {

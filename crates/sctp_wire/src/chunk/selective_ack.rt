@@ -1,10 +1,9 @@
 // SACK (RFC 4960 section 3.3.4).
 ghost use Rattle.std.specs.Prelude.{◌≡◌, ◌<◌, ◌++◌, length, OnOk};
 ghost use Rattle.sctp_wire.specs.Results.{Yields, Writes};
-ghost use Rattle.sctp_wire.specs.Frames.{padded, frame_fits};
-ghost use Rattle.sctp_wire.specs.Reading.{block_at, selective_ack_of};
-ghost use Rattle.sctp_wire.specs.Spelling.{framed, block_bytes, selective_ack_value};
-ghost use Rattle.sctp_wire.specs.Ranges.{IsBlock, IsSack};
+ghost use Rattle.sctp_wire.specs.Frames.{framed, padded, frame_fits};
+ghost use Rattle.sctp_wire.specs.SelectiveAck.{block_at, block_bytes, IsBlock, selective_ack_of, selective_ack_value};
+ghost use Rattle.sctp_wire.specs.SelectiveAck.{IsSack};
 
 use crate::entries::{Entry, PutEntry, put_entries, read_entries};
 use crate::error::WireError;
@@ -39,7 +38,7 @@ impl PutEntry for GapAckBlock {
     }
 }
 
-#[tactic(auto, unfolding(crate::specs::Reading::selective_ack_of))]
+#[tactic(auto, unfolding(crate::specs::SelectiveAck::selective_ack_of))]
 pub(crate) fn read_selective_ack(
     alloc: Global,
     value: &[u8],

@@ -1,7 +1,6 @@
 use Rattle.std.proofs.Common.{◌≡◌, ◌++◌, take, drop}
 use Rattle.std.specs.List.{flat_map, list_all, AllByRecursion}
-use Rattle.sctp_wire.specs.Spelling.{chunk_fits, chunk_bytes}
-use Rattle.sctp_wire.specs.Ranges.{IsChunk}
+use Rattle.sctp_wire.specs.Chunks.{chunk_fits, chunk_bytes, IsChunk}
 use Rattle.sctp_wire.proofs.chunk.write_chunks.Given as goal
 
 abbrev pub invariant-chunks : goal.invariant-chunks

@@ -1,6 +1,6 @@
 use Rattle.std.proofs.Common.{◌≡◌, Bool, ◌++◌, take, drop}
 use Rattle.std.specs.List.{list_all, AllByRecursion}
-use Rattle.sctp_wire.specs.Frames.{joined, frame_fits}
+use Rattle.sctp_wire.specs.Frames.{frame_fits, joined}
 use Rattle.sctp_wire.proofs.Writing.{owed}
 use Rattle.sctp_wire.proofs.items.put_items.Given as goal
 

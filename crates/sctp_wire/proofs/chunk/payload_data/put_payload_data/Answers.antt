@@ -1,5 +1,5 @@
 use Rattle.std.proofs.Common.{◌+◌, length, arith}
-use Rattle.sctp_wire.specs.Spelling.{payload_data_flags, payload_data_value}
+use Rattle.sctp_wire.specs.PayloadData.{payload_data_flags, payload_data_value}
 use Rattle.sctp_wire.proofs.Writing.{frame_written}
 use Rattle.sctp_wire.proofs.chunk.payload_data.put_payload_data.Goals as goal
 

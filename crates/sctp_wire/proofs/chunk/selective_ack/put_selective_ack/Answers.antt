@@ -1,5 +1,5 @@
 use Rattle.std.proofs.Common.{refl, arith}
-use Rattle.sctp_wire.specs.Spelling.{selective_ack_value}
+use Rattle.sctp_wire.specs.SelectiveAck.{selective_ack_value}
 use Rattle.sctp_wire.proofs.Writing.{frame_written, sack_length, sack_long}
 use Rattle.sctp_wire.proofs.chunk.selective_ack.put_selective_ack.Goals as goal
 
