@@ -88,7 +88,8 @@ closed_open a reason = record a {
 }
 
 -- an open association was closed: no timer runs on, no packet waits to go out, each live stream gives its last counters, and the
--- loss is the last event; a closed one stays as it is
+-- loss is the last of the queued events (a fault of the handshake that nobody was told yet is told behind them); a closed one stays
+-- as it is
 abbrev pub closed_by : Shown → AssociationError → Shown
 closed_by a reason = if is_closed_state a.state then a else closed_open a reason
 

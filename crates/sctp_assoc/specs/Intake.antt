@@ -25,8 +25,8 @@ receive_limit a = a.receiver.max_receive_message_size
 abbrev pub HasStreamFor : Shown → ℕ → Type 0
 HasStreamFor a id = (is_some (stream_at a.streams id) ≡ true) ⊎ (generation_left a.streams ≡ true)
 
--- DATA may be taken in: it stands on the point, it is an ordered message in one piece, its stream is live or can be
--- made, and fewer bytes wait to be read than the receive buffer has.
+-- DATA may be taken in: it has the next TSN, it is an ordered message in one piece, its stream is live or can be made,
+-- and fewer bytes wait to be read than the receive buffer has.
 pub record MayTakeIn (a : Shown) (h : History) (piece : ChunkPayloadData) : Type 0 where
   pub next : piece.tsn ≡ tsn h.peer h.reach
   pub ordered : piece.unordered ≡ false
@@ -54,7 +54,8 @@ pub record IsTakenUnlessRefused (a : Shown) (header : CommonHeader) (piece : Chu
   pub refused : (trigger : AckTrigger) (now : ℕ) (error : Error) → refusal_of a piece ≡ Some error
       → (on_chunk a header (chunks.Data piece) trigger now).1 ≡ flows.Fault error
 
--- What may be taken in is taken in, wherever the association stands: no side waits for ever on the next message.
+-- What may be taken in is taken in unless its stream refuses it, whatever state the association is in and whatever came
+-- before.
 abbrev pub DataIsTakenIn : Type 0
 DataIsTakenIn = (a : Shown) (h : History) (header : CommonHeader) (piece : ChunkPayloadData) → Binds a h
     → MayTakeIn a h piece → IsTakenUnlessRefused a header piece

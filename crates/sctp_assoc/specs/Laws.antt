@@ -41,8 +41,7 @@ pub record IsNextWithNothingInFlight (a : Shown) (m : Waiting) : Type 0 where
   pub waits : a.sender.queue.pending ≡ m ∷ others
   pub flown : a.sender.queue.in_flight ≡ []
 
--- The DATA of a poll then begins with that message's next piece, whatever the windows are (RFC 4960 section 6.1, rules A and B):
--- no side waits for ever on a window.
+-- The DATA of a poll then begins with that message's next piece, whatever the windows are (RFC 4960 section 6.1, rules A and B).
 abbrev pub WhatWaitsIsPolled : Type 0
 WhatWaitsIsPolled = (a : Shown) (now : ℕ) (m : Waiting) → IsNextWithNothingInFlight a m
     → slice_get (data_polled a now).1 0 ≡ Some (next_chunk_of m (next_tsn_of a.sender.queue))
@@ -152,7 +151,7 @@ abbrev pub SacksNameThePoint : Type 0
 SacksNameThePoint = (a : Shown) (h : History) → Binds a h
     → IsFirstMissing h.reach h × ((sack_of a.receiver (bytes_waiting a.streams)).cumulative_tsn_ack ≡ tsn_before (tsn h.peer h.reach))
 
--- It says all of what came: the point, and past it exactly the offsets that came.
+-- It says what came: the point, and of the 65,535 TSNs past it, which are all that gap ack blocks can name, exactly those that came.
 abbrev pub SacksSayWhatCame : Type 0
 SacksSayWhatCame = (a : Shown) (h : History) → Binds a h → SaysWhatCame h.peer h.reach h.taken (sack_of a.receiver (bytes_waiting a.streams))
 

@@ -55,7 +55,8 @@ cookie_ack_takes_memory a = is_cookie_echoed a.state
 abbrev pub heartbeat_takes_memory : ChunkHeartbeat → Bool
 heartbeat_takes_memory heartbeat = is_some (information_of heartbeat.params)
 
--- what a chunk that passes its check takes memory for; SACK, ABORT, ERROR and any chunk that is not known take none
+-- whether a chunk that passes its check takes memory itself. A SACK takes none. Nor do ABORT, ERROR and chunks that are not
+-- processed, but they are faults: the close of an open association takes memory for its events (`takes_memory_after`)
 abbrev pub takes_memory : Shown → CommonHeader → Chunk → Bool
 takes_memory a header (chunks.Data piece) = data_takes_memory a piece
 takes_memory a header (chunks.Init init) = init_takes_memory a
@@ -65,7 +66,7 @@ takes_memory a header chunks.CookieAck = cookie_ack_takes_memory a
 takes_memory a header (chunks.Heartbeat heartbeat) = heartbeat_takes_memory heartbeat
 takes_memory a header chunk = false
 
--- a chunk that its own check refuses takes no memory
+-- a chunk that its own check refuses takes no memory itself; it is a fault, too
 abbrev pub chunk_takes_memory : Shown → CommonHeader → Chunk → Bool
 chunk_takes_memory a header chunk = is_ok (checked_chunk chunk) && takes_memory a header chunk
 
@@ -74,7 +75,7 @@ abbrev pub takes_memory_after : Shown × Flow → (Shown → AckTrigger → Bool
 takes_memory_after (a, flows.Next trigger) more = more a trigger
 takes_memory_after (a, flows.Fault fault) more = not (is_closed_state a.state)
 
--- one of these chunks, taken in order, takes memory, or is a fault that closes an open association
+-- one of these chunks, taken in order up to the first fault, takes memory, or is a fault that closes an open association
 abbrev pub chunks_take_memory : CommonHeader → List Chunk → Shown → AckTrigger → ℕ → Bool
 chunks_take_memory header [] a trigger now = false
 chunks_take_memory header (c ∷ cs) a trigger now =

@@ -22,7 +22,7 @@ pub record Shown : Type 0 where
   pub remote_addr : SocketAddr
   pub local_ip : Option IpAddr
   pub state : AssociationState
-  -- it was established and closed
+  -- it was open, established or with its handshake under way, and was closed
   pub lost : Bool
   -- an earlier call found no memory in its middle
   pub failed : Bool

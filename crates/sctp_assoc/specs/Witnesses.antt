@@ -50,7 +50,7 @@ pub record TellsOneLoss (told : List Event) (b : Shown) : Type 0 where
   pub told_at_most : losses told ≤ loss_count b.lost
   pub in_all : b.failed ≡ false → losses told + losses b.events ≡ loss_count b.lost
 
--- No association tells of more than one loss, and it tells of one exactly where it was lost.
+-- No association tells of more than one loss. One that works told of one, or has one waiting to be told, exactly where it was lost.
 abbrev pub LossesAreToldOnce : Type 0
 LossesAreToldOnce = AfterEveryRun TellsOneLoss
 
@@ -64,8 +64,8 @@ has_given_up timer t = passes (timer_at timer t).retries (limit_of timer t)
 abbrev pub IsTimed : Timer → Timers → Type 0
 IsTimed timer t = (is_armed timer t ≡ true) ⊎ (has_given_up timer t ≡ true)
 
--- In Established the retransmission timer runs as long as DATA is in flight, unless its retries passed their limit: what was
--- lost on the way goes out again (RFC 4960 section 6.3.2, rules R1 and R3).
+-- In Established the retransmission timer runs as long as DATA is in flight, unless its retries passed their limit (RFC 4960
+-- section 6.3.2, rules R1 and R3). What goes out again when it expires stands in the equations of timeouts and polls.
 abbrev pub OutstandingDataIsTimed : Type 0
 OutstandingDataIsTimed = OfEachSide (λ b. b.failed ≡ false → is_established b.state ≡ true
     → 0 < length b.sender.queue.in_flight → IsTimed names.T3RTX b.timers)
@@ -99,8 +99,8 @@ IsHandshakeUntimed t = (is_armed names.T1Init t ≡ false) × (is_armed names.T1
 abbrev pub NoHandshakeTimerRunsOnceEstablished : Type 0
 NoHandshakeTimerRunsOnceEstablished = OfEachSide (λ b. is_established b.state ≡ true → IsHandshakeUntimed b.timers)
 
--- The timer of acknowledgements runs where one is delayed, and there alone: what came is acknowledged in time, or with the next
--- packets that go out (RFC 4960 section 6.2).
+-- The timer of acknowledgements runs where one is delayed, and there alone (RFC 4960 section 6.2). At which moment it expires
+-- stands in the equation of a packet's end.
 abbrev pub DelayedSacksAreTimed : Type 0
 DelayedSacksAreTimed = OfEachSide (λ b. b.failed ≡ false → b.lost ≡ false
     → is_armed names.Ack b.timers ≡ is_delayed b.receiver.ack_state)

@@ -22,7 +22,7 @@ pub(crate) struct StateAnswers {
 
 impl Association {
     // Closes an open association once: no timer runs on, no packet waits to go out, each live stream gets its last
-    // counters, and the loss is the last event. In Closed nothing changes.
+    // counters, and the loss is queued last. In Closed nothing changes.
     pub(crate) fn close_with(&mut self, reason: AssociationError) -> Result<(), AllocError>
         ensures exact { OnOk result (self.new ≡ closed_by self.old reason) }
         ensures grows { OnErr result (is_closed_state self.old.state ≡ false) }

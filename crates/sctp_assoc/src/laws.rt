@@ -105,15 +105,17 @@ pub fn calls_are_made_of_acts()
     ensures timeouts { TimeoutsMarkAtMost }
 {}
 
-/// Losing: over every list of calls that a side gets, it tells of one loss where it was lost, and of none else.
+/// Losing: over every list of calls that a side gets, the losses that were told and those that wait to be told are one where it was
+/// lost, and none else; one that failed told of at most one.
 pub fn at_most_one_loss()
     ensures created { CreatedSidesAreFresh }
     ensures joined { JoinedSidesAreFresh }
     ensures told { LossesAreToldOnce }
 {}
 
-/// Timing: over every list of calls each timer of DATA, of the handshake and of acknowledgements runs where it should, and there
-/// alone (RFC 4960 sections 5.1, 6.2 and 6.3.2). A side that failed or was lost waits for no moment.
+/// Timing: over every list of calls each timer of DATA, of the handshake and of acknowledgements runs where it should, unless its
+/// retries passed their limit, and there alone (RFC 4960 sections 5.1, 6.2 and 6.3.2). A side that failed or was lost waits for no
+/// moment.
 pub fn timers_run_where_they_should()
     ensures data { OutstandingDataIsTimed }
     ensures no_data { NothingInFlightIsNotTimed }

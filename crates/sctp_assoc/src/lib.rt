@@ -56,8 +56,8 @@
 //! a SACK of a TSN that was not sent, an INIT once the association is established, a chunk that is not processed yet.
 //! A fault ends the processing of its packet. If the association is open (in any state but Closed), the fault also
 //! closes it: all timers stop, no packet waits any more, each live stream ends with its last counters
-//! ([`Event::DataChannelStatsFinal`]), and [`Event::AssociationLost`] tells it. After that no datagram changes
-//! anything.
+//! ([`Event::DataChannelStatsFinal`]), and [`Event::AssociationLost`] tells it. Only a failed handshake that nobody was
+//! told of yet is told behind it. After that no datagram changes anything.
 //!
 //! # What is left to the driver
 //!
