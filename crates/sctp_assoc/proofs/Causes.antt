@@ -105,7 +105,7 @@ unfolding on_sack
 sack_flow true a point window trigger now e = rw e (outcome_flow (sack_outcome a.sender point) _ point window trigger now)
 sack_flow false a point window trigger now e = rw e refl
 
--- the point is beyond what is in flight
+-- the SACK's point is beyond what is in flight
 pub record IsBeyond (established older within : Bool) : Type 0 where
   pub counts : established ≡ true
   pub ahead : older ≡ false

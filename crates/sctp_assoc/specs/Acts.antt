@@ -16,7 +16,7 @@ use Rattle.sctp_assoc.specs.Chunks.{is_whole}
 use Rattle.sctp_assoc.specs.Shown.{Shown}
 
 -- What is past of an association, in offsets. An offset is the distance of a TSN from the initial TSN of its direction, and
--- never wraps. Points are numbers of offsets: one past the last offset meant.
+-- never wraps. A reach is a number of offsets: one past the last offset meant.
 pub record History : Type 0 where
   -- the initial TSN of its own DATA, and of the DATA that comes
   pub own : ℕ
@@ -24,7 +24,7 @@ pub record History : Type 0 where
   -- the offsets of its own DATA below this one are acknowledged; the first piece in flight stands on it
   pub base : ℕ
   -- the offsets of DATA that was taken in; one past the greatest one that a FORWARD TSN passed over, 0 before the first;
-  -- and the point: the first offset that neither came nor was passed over
+  -- and the reach: the first offset that neither came nor was passed over
   pub taken : List ℕ
   pub passed : ℕ
   pub reach : ℕ
@@ -38,7 +38,7 @@ pub record Binds (a : Shown) (h : History) : Type 0 where
   pub first : a.sender.queue.first_tsn ≡ tsn h.own h.base
   pub reach : a.receiver.peer_last_tsn ≡ tsn_before (tsn h.peer h.reach)
   pub below : (o : ℕ) → o < h.reach → (mem o h.taken ≡ true) ⊎ (o < h.passed)
-  -- so far nothing is held above the point
+  -- so far nothing that came lies at the reach or past it
   pub above : (o : ℕ) → mem o h.taken ≡ true → o < h.reach
   pub passed : h.passed ≤ h.reach
 
@@ -72,7 +72,7 @@ pub data Act : Type 0 where
   Marked : Act
   -- so many of the first pieces in flight were acknowledged
   Acknowledged : ℕ → Act
-  -- the DATA at the point was taken in
+  -- the DATA at the reach was taken in
   Took : ChunkPayloadData → Act
   -- a SACK went out
   Reported : Act
@@ -93,7 +93,7 @@ abbrev pub without_first_pieces : ℕ → Parts → Parts
 without_first_pieces zero p = p
 without_first_pieces (suc n) p = without_first_pieces n (without_first_piece p)
 
--- the DATA at the point came
+-- the DATA at the reach came
 abbrev pub with_taken : History → History
 with_taken h = record h { taken = h.reach ∷ h.taken; reach = h.reach + 1 }
 

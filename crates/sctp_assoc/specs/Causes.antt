@@ -37,7 +37,7 @@ pub record FitsNoMessage (a : Shown) (h : History) (piece : ChunkPayloadData) : 
   pub refused : refusal_of a piece ≡ Some error
 
 -- A SACK in Established acknowledges what was never sent: its point is not behind the acknowledged one, and is
--- neither that one nor the TSN of a piece in flight. Numbers that the point names count modulo 2^32, as TSNs do.
+-- neither that one nor the TSN of a piece in flight. The number that the SACK names counts modulo 2^32, as TSNs do.
 pub record AcknowledgesTheUnsent (a : Shown) (h : History) (cumulative_tsn_ack : ℕ) : Type 0 where
   pub established : a.state ≡ states.Established
   pub not_behind : tsn_gt (tsn_before (tsn h.own h.base)) cumulative_tsn_ack ≡ false

@@ -31,7 +31,7 @@ join_refusal size own peer =
     if is_err (checked_init own) || is_err (checked_init peer) then Some errors.ErrBadToken else None
 
 -- an association of which nothing was sent and to which nothing came, in this state and with this handshake; the peer's DATA is to
--- begin behind the point, and its window is this
+-- begin behind `peer_last_tsn`, and its window is this
 abbrev pub fresh_association : Settings → ℕ → SocketAddr → Option IpAddr → Side → AssociationState → Handshake → ℕ → ℕ → Shown
 fresh_association config size remote_addr local_ip side state handshake peer_last_tsn window = record {
   side = side;
