@@ -42,7 +42,7 @@ AcknowledgementsAreAlike = (a : Parts) (n k : ℕ) (x : Sack) (w : Direction) �
     → n ≤ length a.queue.in_flight → Invariant w → IsPlain w → FitsOutgoing a w
     → FitsOutgoing (done (Act.Acknowledged n) a) (happens w (Event.SackComes k))
 
--- DATA that is taken in stands on the reach, and comes to the direction's receiver.
+-- DATA that is taken in stands at the receiver's reach, and comes to that receiver.
 abbrev pub WhatIsTakenInComes : Type 0
 WhatIsTakenInComes = (a : Parts) (piece : ChunkPayloadData) (k : ℕ) (d : Data) (t : StreamView) (w : Direction) → Can (Act.Took piece) a
     → slice_get w.datas k ≡ Some d → IsSaid a.history.peer piece d → stream_at a.streams piece.stream_identifier ≡ Some t → IsWithin w → Invariant w
@@ -126,7 +126,7 @@ MeetingsAreNoEvents = (a : Parts) (t : ℕ) (out coming : Direction) → coming.
 abbrev pub MarksAreNoEvents : Type 0
 MarksAreNoEvents = (a : Parts) (w : Direction) → FitsOutgoing a w → FitsOutgoing (done Act.Marked a) w
 
--- A report is a SACK with the reach of what came.
+-- A report is a SACK of the receiver, which names the TSN before that of the reach.
 abbrev pub ReportsNameThePoint : Type 0
 ReportsNameThePoint = (a : Parts) (w : Direction) → FitsIncoming a w
     → FitsIncoming a (happens w Event.SackMade) × IsMade a.history.peer (happens w Event.SackMade) (tsn_before (tsn a.history.peer a.history.reach))
@@ -144,7 +144,7 @@ WhatIsReleasedIsNotBuffered = (a : Shown) (h : History) (id n : ℕ) (w : Direct
 
 -- The events
 
--- An event at the sender leaves the receiver's side and all DATA that was given out; the acknowledged reach moves on alone.
+-- An event at the sender leaves the receiver's side and all DATA that was given out, and never moves the acknowledged reach back.
 abbrev pub SendersEventsAreSent : Type 0
 SendersEventsAreSent = (w : Direction) (e : Event) → IsAtSender e → IsSentOn w (happens w e) × (w.sender.reach ≤ (happens w e).sender.reach)
 

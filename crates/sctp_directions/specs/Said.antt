@@ -24,7 +24,7 @@ pub record IsSaid (initial : ℕ) (c : ChunkPayloadData) (d : Data) : Type 0 whe
 abbrev pub IsGiven : ℕ → Direction → ChunkPayloadData → Type 0
 IsGiven initial w c = (k : ℕ) × (d : Data) × (slice_get w.datas k ≡ Some d) × IsSaid initial c d
 
--- a SACK with this reach is one that the direction's receiver ever made
+-- a SACK with this cumulative TSN ack is one that the direction's receiver ever made
 abbrev pub IsMade : ℕ → Direction → ℕ → Type 0
 IsMade initial w t = (k : ℕ) × (x : Sack) × (slice_get w.sacks k ≡ Some x) × (t ≡ tsn_before (tsn initial x.reach))
 

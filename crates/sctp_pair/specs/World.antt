@@ -102,7 +102,7 @@ IsOpen a = (a.failed ≡ false) × (is_closed_state a.state ≡ false)
 
 -- What a step does to the direction from one side to the other, of this initial TSN: its write is accepted, its read gives the
 -- next message, and nothing is taken in but DATA of the packet that it delivers. Whatever else it does are events of the model; the
--- acknowledged reach moves on alone, and a sender that isn't open afterwards assigned no offset. What a step may leave out of the
+-- acknowledged reach never moves back, and a sender that isn't open afterwards assigned no offset. What a step may leave out of the
 -- promise is bounded, too: whose span ends, what is passed over or given up, and who stops receiving.
 pub record IsDirectionStep (step : Step) (reply : Reply) (sender receiver : Side2) (w : World) (q : Ends) (initial : ℕ) (before after : Direction) : Type 0 where
   pub events : List Event
