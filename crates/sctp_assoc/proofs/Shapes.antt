@@ -1,7 +1,7 @@
 -- Of which acts chunks, polls and timeouts are made.
-use Rattle.std.proofs.Common.{◌≡◌, refl, sym, ap, ◌∙◌, subst, ◌⊎◌, ⊎_elim, inl, inr, ℕ, zero, suc, ◌+◌, ◌-◌, ◌%◌, ◌^◌, arith, Bool, true, false, eqb, ltb, ◌&&◌, not, if◌then◌else◌, List, [], ◌∷◌, ◌++◌, length, Option, Some, None, is_some, Result, Ok, Err}
+use Rattle.std.proofs.Common.{◌≡◌, refl, sym, ap, ◌∙◌, subst, ◌⊎◌, ⊎_elim, inl, inr, ℕ, zero, suc, ◌<◌, ◌≤◌, ◌+◌, ◌-◌, ◌%◌, ◌^◌, arith, Bool, true, false, eqb, leb, ltb, ◌&&◌, not, if◌then◌else◌, List, [], ◌∷◌, ◌++◌, length, Option, Some, None, is_some, Result, Ok, Err}
 use Rattle.std.specs.List.{AllByRecursion}
-use Rattle.std.proofs.lemmas.Bool.{cond-true, eq-eqb}
+use Rattle.std.proofs.lemmas.Bool.{cond-true, eq-eqb, false≢true, le-leb, lt-ltb}
 use Rattle.sctp_wire_types.specs.declared.chunk.Chunk.{Chunk}
 use Rattle.sctp_wire_types.specs.declared.chunk.Chunk.TheVariants as chunks
 use Rattle.sctp_wire_types.specs.declared.chunk.ChunkPayloadData.{ChunkPayloadData}
@@ -11,7 +11,7 @@ use Rattle.sctp_wire_types.specs.declared.chunk.ChunkSelectiveAck.{ChunkSelectiv
 use Rattle.sctp_wire_types.specs.declared.error.Error.{Error}
 use Rattle.sctp_wire_types.specs.declared.ids.PayloadProtocolIdentifier.TheVariants as kinds
 use Rattle.sctp_wire_types.specs.Checks.{checked_chunk}
-use Rattle.sctp_wire_types.specs.Serial.{tsn_past}
+use Rattle.sctp_wire_types.specs.Serial.{tsn_gt, tsn_lt, tsn_past}
 use Rattle.sctp_parts.specs.declared.timer.Timer.TheVariants as names
 use Rattle.sctp_parts.specs.Timers.{expiry_of}
 use Rattle.sctp_outbound_queue.specs.declared.message.InFlight.{InFlight}
@@ -25,15 +25,15 @@ use Rattle.sctp_inbound.specs.Receiver.{credit_of, is_next_after}
 use Rattle.sctp_outbound.specs.declared.sender.SackOutcome.{SackOutcome}
 use Rattle.sctp_outbound.specs.declared.sender.SackOutcome.TheVariants as outcomes
 use Rattle.sctp_outbound.specs.declared.sender.Sender.{Sender}
-use Rattle.sctp_outbound.specs.Sender.{after_resending, both_windows, can_send_next, tsns_up_to, resends_alone, resent_by, sack_outcome, sent_one}
+use Rattle.sctp_outbound.specs.Sender.{after_resending, both_windows, can_send_next, cumulative_tsn_ack_point_of, tsns_up_to, resends_alone, resent_by, sack_outcome, sent_one}
 use Rattle.sctp_model.specs.Serial.{tsn}
 use Rattle.sctp_model.proofs.Lists.{all_join}
-use Rattle.sctp_assoc.specs.Acts.{Act, CanAll, parts, tsn_before}
+use Rattle.sctp_assoc.specs.Acts.{Act, Binds, CanAll, History, parts, tsn_before}
 use Rattle.sctp_assoc.specs.Calls.{is_beginning, is_cookie_wait, is_established}
 use Rattle.sctp_assoc.specs.Chunks.{counted_data, is_whole, stream_found, with_new_stream}
 use Rattle.sctp_assoc.specs.Happened.{acts_of_ack, acts_of_checked, acts_of_chunk, acts_of_data_poll, acts_of_found, acts_of_marks, acts_of_new, acts_of_outcome, acts_of_resending, acts_of_sending, acts_of_stream, acts_unless_refused, first_again, first_sent}
 use Rattle.sctp_assoc.specs.Timeouts.{after_handshake_timers}
-use Rattle.sctp_assoc.specs.Shapes.{DataIsTaken, GivesData, GreetingsMeet, IsMeeting, IsOther, IsTaking, OtherChunksDoNothing, PollsGiveAndReport, SacksAcknowledge, TimeoutsMarkAtMost}
+use Rattle.sctp_assoc.specs.Shapes.{DataIsTaken, GivesData, GreetingsMeet, IsMeeting, IsOther, IsTaking, OtherChunksDoNothing, OtherSacksDoNothing, PollsGiveAndReport, SacksAcknowledge, TakenSacksAcknowledge, TimeoutsMarkAtMost}
 use Rattle.sctp_assoc.specs.Shown.{Shown}
 use Rattle.sctp_assoc.proofs.Joining.{chunk_leads}
 use Rattle.sctp_assoc.proofs.Streams.{at_made}
@@ -129,6 +129,74 @@ sacks_acknowledge a h header sack binds =
           (point_back h.own h.base sack.cumulative_tsn_ack);
     }))
     (checked_sack (checked_chunk (chunks.SelectiveAck sack)) a header sack)
+
+-- a SACK that names what was sent is taken
+
+acked_at : (a : Shown) (h : History) → Binds a h → cumulative_tsn_ack_point_of a.sender ≡ tsn_before (tsn h.own h.base)
+acked_at a h binds = ap (λ (t : ℕ). (t + 2 ^ 32 - 1) % 2 ^ 32) binds.first
+
+named_past : (own base n : ℕ) → n < 2 ^ 31 → tsn_past (tsn_before (tsn own base)) (tsn_before (tsn own (base + n))) ≡ n
+named_past own base n near = omega (arith, near)
+
+named_first : (own base : ℕ) → tsn_before (tsn own base) ≡ tsn_before (tsn own (base + 0))
+named_first own base = omega arith
+
+same_is_not_behind : (same past : Bool) → same ≡ true → (not same && not past) ≡ false
+same_is_not_behind same past e = rw e refl
+
+ahead_is_not_behind : (same some near : Bool) → some ≡ true → near ≡ true → (not same && not (some && near)) ≡ false
+ahead_is_not_behind true some near e f = refl
+ahead_is_not_behind false some near e f = rw (e, f) refl
+
+not_behind : (acked t n : ℕ) → tsn_past acked t ≡ n → n < 2 ^ 31 → (n ≡ 0 → acked ≡ t) → tsn_gt acked t ≡ false
+not_behind acked t zero e near same = same_is_not_behind (eqb acked t) (tsn_lt acked t) (eq-eqb acked t (same refl))
+not_behind acked t (suc n) e near same =
+    ahead_is_not_behind (eqb acked t) (ltb 0 (tsn_past acked t)) (ltb (tsn_past acked t) (2 ^ 31))
+    (lt-ltb 0 (tsn_past acked t) (subst (λ (p : ℕ). 0 < p) (sym e) (omega arith)))
+    (lt-ltb (tsn_past acked t) (2 ^ 31) (subst (λ (p : ℕ). p < 2 ^ 31) (sym e) near))
+
+outcome_taken : (older within : Bool) → older ≡ false → within ≡ true
+    → (if older then outcomes.Older else if within then outcomes.Taken else outcomes.NotInFlight) ≡ outcomes.Taken
+outcome_taken older within e f = rw (e, f) refl
+
+taken_acts : (established : Bool) (o : SackOutcome) (n count : ℕ) → established ≡ true → o ≡ outcomes.Taken → n ≡ count
+    → (if established then acts_of_outcome o n else []) ≡ Act.Acknowledged count ∷ []
+taken_acts established o n count e f g = rw (e, f, g) refl
+
+pub taken_sacks_acknowledge : TakenSacksAcknowledge
+taken_sacks_acknowledge a h header sack count established binds names =
+    let acked = cumulative_tsn_ack_point_of a.sender in
+    let t = sack.cumulative_tsn_ack in
+    let at : cumulative_tsn_ack_point_of a.sender ≡ tsn_before (tsn h.own h.base) = acked_at a h binds in
+    let past : tsn_past (cumulative_tsn_ack_point_of a.sender) sack.cumulative_tsn_ack ≡ count =
+    ap (λ (z : ℕ). tsn_past z sack.cumulative_tsn_ack) at ∙ ap (λ (z : ℕ). tsn_past (tsn_before (tsn h.own h.base)) z) names.at
+    ∙ named_past h.own h.base count names.near in
+    let first : count ≡ 0 → cumulative_tsn_ack_point_of a.sender ≡ sack.cumulative_tsn_ack =
+    λ (none : count ≡ 0). at ∙ named_first h.own h.base ∙ ap (λ (n : ℕ). tsn_before (tsn h.own (h.base + n))) (sym none) ∙ sym names.at in
+    taken_acts (is_established a.state) (sack_outcome a.sender t) (tsns_up_to a.sender t) count established
+    (outcome_taken (tsn_gt acked t) (leb (tsns_up_to a.sender t) (length a.sender.queue.in_flight))
+    (not_behind acked t count past names.near first)
+    (le-leb (tsns_up_to a.sender t) (length a.sender.queue.in_flight)
+    (subst (λ (p : ℕ). p ≤ length a.sender.queue.in_flight) (sym past) names.within)))
+    past
+
+other_acts_of_sack : (established older within : Bool) (n : ℕ) → (established ≡ false) ⊎ (older ≡ true)
+    → (if established then acts_of_outcome (if older then outcomes.Older else if within then outcomes.Taken else outcomes.NotInFlight) n else []) ≡ []
+other_acts_of_sack false older within n other = refl
+other_acts_of_sack true true within n other = refl
+other_acts_of_sack true false within n (inl e) = absurd (false≢true (sym e))
+other_acts_of_sack true false within n (inr e) = absurd (false≢true e)
+
+pub other_sacks_do_nothing : OtherSacksDoNothing
+other_sacks_do_nothing a h header sack binds other =
+    let acked = cumulative_tsn_ack_point_of a.sender in
+    let t = sack.cumulative_tsn_ack in
+    other_acts_of_sack (is_established a.state) (tsn_gt acked t) (leb (tsns_up_to a.sender t) (length a.sender.queue.in_flight)) (tsns_up_to a.sender t)
+    (⊎_elim
+    (λ (e : is_established a.state ≡ false). inl e)
+    (λ (e : tsn_gt (tsn_before (tsn h.own h.base)) sack.cumulative_tsn_ack ≡ true).
+    inr (ap (λ (z : ℕ). tsn_gt z sack.cumulative_tsn_ack) (acked_at a h binds) ∙ e))
+    other)
 
 -- INIT and INIT ACK
 

@@ -1,6 +1,7 @@
 -- What calls leave of an association beside its directions, and of which acts they are made: for whoever builds on it.
 use Rattle.std.specs.Prelude.{◌≡◌, ◌⊎◌, ◌<◌, ◌≤◌, ℕ, ◌+◌, ◌%◌, ◌^◌, Bool, true, false, List, [], ◌∷◌, ◌++◌, length, slice_get, if◌then◌else◌, Option, Some, None, ⊤}
 use Rattle.std.specs.List.{AllByRecursion}
+use Rattle.sctp_wire_types.specs.Serial.{tsn_gt}
 use Rattle.sctp_wire_types.specs.declared.chunk.Chunk.{Chunk}
 use Rattle.sctp_wire_types.specs.declared.chunk.Chunk.TheVariants as chunks
 use Rattle.sctp_wire_types.specs.declared.chunk.ChunkInit.{ChunkInit}
@@ -229,6 +230,25 @@ pub record Acknowledges (a : Shown) (h : History) (cumulative_tsn_ack : ℕ) (ac
 abbrev pub SacksAcknowledge : Type 0
 SacksAcknowledge = (a : Shown) (h : History) (header : CommonHeader) (sack : ChunkSelectiveAck) → Binds a h
     → (acts_of_chunk a header (chunks.SelectiveAck sack) ≡ []) ⊎ Acknowledges a h sack.cumulative_tsn_ack (acts_of_chunk a header (chunks.SelectiveAck sack))
+
+-- A SACK names the TSN of the last of the first so many pieces in flight, or with none of them the acknowledged point.
+-- They are fewer than half of all TSNs.
+pub record NamesTheSent (a : Shown) (h : History) (cumulative_tsn_ack count : ℕ) : Type 0 where
+  pub within : count ≤ length a.sender.queue.in_flight
+  pub near : count < 2 ^ 31
+  pub at : cumulative_tsn_ack ≡ tsn_before (tsn h.own (h.base + count))
+
+-- In Established such a SACK acknowledges exactly these pieces (RFC 4960 section 6.2.1).
+abbrev pub TakenSacksAcknowledge : Type 0
+TakenSacksAcknowledge = (a : Shown) (h : History) (header : CommonHeader) (sack : ChunkSelectiveAck) (count : ℕ)
+    → is_established a.state ≡ true → Binds a h → NamesTheSent a h sack.cumulative_tsn_ack count
+    → acts_of_chunk a header (chunks.SelectiveAck sack) ≡ Act.Acknowledged count ∷ []
+
+-- Outside of Established a SACK acknowledges nothing, and neither does one whose point lies behind the acknowledged one.
+abbrev pub OtherSacksDoNothing : Type 0
+OtherSacksDoNothing = (a : Shown) (h : History) (header : CommonHeader) (sack : ChunkSelectiveAck) → Binds a h
+    → (is_established a.state ≡ false) ⊎ (tsn_gt (tsn_before (tsn h.own h.base)) sack.cumulative_tsn_ack ≡ true)
+    → acts_of_chunk a header (chunks.SelectiveAck sack) ≡ []
 
 -- The peer's initial TSN became known, or nothing did.
 abbrev pub IsMeeting : ChunkInit → List Act → Type 0

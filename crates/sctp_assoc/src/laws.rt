@@ -1,5 +1,5 @@
 // Laws of one side, for whoever builds on it.
-ghost use Rattle.sctp_assoc.specs.Shapes.{AcceptedWritesFit, ChunksLeadOn, DataIsTaken, EstablishedIsNotClosed, EstablishedSidesTalk, FaultsClose, FoundStreamsAreLive, GreetingsMeet, GreetingsStayTrue, LostAssociationsTakeNothing, NoPacketChangesNothing, OpenedStreamsHoldNothing, OpenedStreamsKeepTheStatus, OpenedStreamsWereNotLive, OtherChunksDoNothing, PacketsEnd, PollsGiveAndReport, PollsKeepTheStatus, PollsOutsideEstablishedGiveWhatWaits, PollsSayTheirActs, ReadsKeepTheStatus, SacksAcknowledge, TheSameHandshakeIsTheSameStage, TimeoutsMarkAtMost, TimersKeepTheStatus, ToldEventsKeepTheStatus, WhatHoldsNothingGivesNothing, WhatWaitsGoesOutAsItIs, WritesKeepTheStatus};
+ghost use Rattle.sctp_assoc.specs.Shapes.{AcceptedWritesFit, ChunksLeadOn, DataIsTaken, EstablishedIsNotClosed, EstablishedSidesTalk, FaultsClose, FoundStreamsAreLive, GreetingsMeet, GreetingsStayTrue, LostAssociationsTakeNothing, NoPacketChangesNothing, OpenedStreamsHoldNothing, OpenedStreamsKeepTheStatus, OpenedStreamsWereNotLive, OtherChunksDoNothing, OtherSacksDoNothing, PacketsEnd, PollsGiveAndReport, PollsKeepTheStatus, PollsOutsideEstablishedGiveWhatWaits, PollsSayTheirActs, ReadsKeepTheStatus, SacksAcknowledge, TakenSacksAcknowledge, TheSameHandshakeIsTheSameStage, TimeoutsMarkAtMost, TimersKeepTheStatus, ToldEventsKeepTheStatus, WhatHoldsNothingGivesNothing, WhatWaitsGoesOutAsItIs, WritesKeepTheStatus};
 ghost use Rattle.sctp_assoc.specs.Causes.{CausesClose, ClosingPacketsHaveCauses, FaultsAreCauses};
 ghost use Rattle.sctp_assoc.specs.Intake.{DataIsTakenIn, NothingElseIsTakenIn};
 ghost use Rattle.sctp_assoc.specs.Laws.{DueSacksGoOut, FaultsAloneClose, OpenedStreamsDoNotClose, PollsDoNotClose, PollsKeepWhatIsHeld, ReadsDoNotClose, SacksNameThePoint, SacksOfferTheBuffer, SacksSayWhatCame, TimersDoNotClose, WhatWaitsGoesOut, WhatWaitsIsGiven, WhatWaitsIsPolled, WritesAreHeld, WritesDoNotClose};
@@ -96,6 +96,8 @@ pub fn packets_lead_on()
 pub fn calls_are_made_of_acts()
     ensures data { DataIsTaken }
     ensures sack { SacksAcknowledge }
+    ensures taken { TakenSacksAcknowledge }
+    ensures older { OtherSacksDoNothing }
     ensures greeting { GreetingsMeet }
     ensures other { OtherChunksDoNothing }
     ensures poll { PollsGiveAndReport }

@@ -1,4 +1,4 @@
-use Rattle.sctp_assoc.proofs.Proved.{data_is_taken, greetings_meet, other_chunks_do_nothing, polls_give_and_report, polls_outside_established_give_what_waits, polls_say_their_acts, sacks_acknowledge, timeouts_mark_at_most, what_waits_goes_out_as_it_is}
+use Rattle.sctp_assoc.proofs.Proved.{data_is_taken, greetings_meet, other_chunks_do_nothing, other_sacks_do_nothing, polls_give_and_report, polls_outside_established_give_what_waits, polls_say_their_acts, sacks_acknowledge, taken_sacks_acknowledge, timeouts_mark_at_most, what_waits_goes_out_as_it_is}
 use Rattle.sctp_assoc.proofs.laws.calls_are_made_of_acts.Goals as goal
 
 pub returns-clause-data : goal.returns-clause-data
@@ -6,6 +6,12 @@ returns-clause-data c = data_is_taken
 
 pub returns-clause-sack : goal.returns-clause-sack
 returns-clause-sack c = sacks_acknowledge
+
+pub returns-clause-taken : goal.returns-clause-taken
+returns-clause-taken c = taken_sacks_acknowledge
+
+pub returns-clause-older : goal.returns-clause-older
+returns-clause-older c = other_sacks_do_nothing
 
 pub returns-clause-other : goal.returns-clause-other
 returns-clause-other c = other_chunks_do_nothing
