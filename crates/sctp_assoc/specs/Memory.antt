@@ -8,7 +8,7 @@ use Rattle.sctp_wire_types.specs.declared.chunk.ChunkPayloadData.{ChunkPayloadDa
 use Rattle.sctp_wire_types.specs.declared.packet.CommonHeader.{CommonHeader}
 use Rattle.sctp_wire_types.specs.Checks.{checked_chunk}
 use Rattle.sctp_wire.specs.declared.packet.Packet.{Packet}
-use Rattle.sctp_streams.specs.Streams.{bytes_waiting, generation_left, stream_at}
+use Rattle.sctp_streams.specs.Streams.{bytes_waiting, generation_left, refusal_in, stream_at}
 use Rattle.sctp_inbound.specs.declared.receiver.AckTrigger.{AckTrigger}
 use Rattle.sctp_inbound.specs.declared.receiver.AckTrigger.TheVariants as triggers
 use Rattle.sctp_inbound.specs.Greeting.{first_cookie, information_of}
@@ -24,16 +24,19 @@ use Rattle.sctp_assoc.specs.Shown.{Shown}
 abbrev pub makes_stream : Shown → ℕ → Bool
 makes_stream a id = not (is_some (stream_at a.streams id)) && generation_left a.streams
 
--- a message on a live stream is taken in where credit is left
-abbrev pub keeps_message : Shown → ℕ → Bool
-keeps_message a id = is_some (stream_at a.streams id) && nat_lt 0 (credit_of a.receiver (bytes_waiting a.streams))
+-- a message on a live stream is taken in where credit is left and its stream does not refuse it
+abbrev pub keeps_message : Shown → ChunkPayloadData → Bool
+keeps_message a piece =
+    is_some (stream_at a.streams piece.stream_identifier)
+    && (nat_lt 0 (credit_of a.receiver (bytes_waiting a.streams))
+    && not (is_some (refusal_in a.streams piece.stream_identifier piece a.receiver.max_receive_message_size)))
 
--- DATA takes memory only where it is an ordered message in one piece and next in order, and it is taken in or its stream is made
--- (RFC 4960 section 6.2)
+-- DATA itself takes memory only where it is an ordered message in one piece and next in order, and its stream is made or it is
+-- taken in (RFC 4960 section 6.2). Where a live stream refuses it, memory is taken for the close alone (`takes_memory_after`)
 abbrev pub data_takes_memory : Shown → ChunkPayloadData → Bool
 data_takes_memory a piece =
     (is_next_after a.receiver piece.tsn && is_whole piece)
-    && (makes_stream a piece.stream_identifier || keeps_message a piece.stream_identifier)
+    && (makes_stream a piece.stream_identifier || keeps_message a piece)
 
 -- an INIT is answered only before the association is established (RFC 4960 section 5.1)
 abbrev pub init_takes_memory : Shown → Bool

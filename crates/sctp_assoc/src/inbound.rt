@@ -1,8 +1,8 @@
 // One datagram, chunk by chunk.
-ghost use Rattle.std.specs.Prelude.{◌≡◌, ◌≢◌, ◌⊎◌, true, false, is_ok, OnErr, OnOk, IfOk, Ok, if◌then◌else◌};
+ghost use Rattle.std.specs.Prelude.{◌≡◌, ◌≢◌, ◌⊎◌, true, false, is_ok, OnErr, OnOk, IfOk, Ok, None, if◌then◌else◌};
 ghost use Rattle.sctp_wire.specs.Packets.{checked, finished};
 ghost use Rattle.sctp_inbound.specs.Receiver.{credit_of};
-ghost use Rattle.sctp_streams.specs.Streams.{bytes_waiting};
+ghost use Rattle.sctp_streams.specs.Streams.{bytes_waiting, refusal_in};
 ghost use Rattle.sctp_assoc.specs.Inbound.{packet_read, taken_packet};
 ghost use Rattle.sctp_assoc.specs.Memory.{chunk_takes_memory, chunks_take_memory, data_takes_memory, makes_stream, packet_takes_memory, takes_memory};
 ghost use Rattle.sctp_assoc.specs.Chunks.{after_chunks, after_packet, dispatched, is_whole, on_chunk, on_data, on_sack, stream_found, taken_in};
@@ -178,10 +178,11 @@ impl Association {
     }
 
     // Hands a message to its stream and then moves the point; answers why the stream refuses it, if it does: one that is
-    // longer than the limit is a refusal.
-    #[tactic(auto, unfolding(crate::specs::Chunks::taken_in))]
+    // longer than the limit is a refusal. What the stream refuses lacks no memory.
+    #[tactic(auto, using(crate::proofs::Growing::not_for_memory), unfolding(crate::specs::Chunks::taken_in))]
     fn take_in(&mut self, piece: ChunkPayloadData) -> Result<Option<Error>, AllocError>
-        ensures { IfOk result (λ fault. taken_in self.old piece ≡ (self.new, fault)) }
+        ensures exact { IfOk result (λ fault. taken_in self.old piece ≡ (self.new, fault)) }
+        ensures grows { OnErr result (refusal_in self.old.streams piece.stream_identifier piece self.old.receiver.max_receive_message_size ≡ None) }
     {
         let id = piece.stream_identifier;
         let tsn = piece.tsn;
