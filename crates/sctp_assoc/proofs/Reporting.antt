@@ -17,12 +17,12 @@ use Rattle.sctp_assoc.specs.Acts.{History}
 use Rattle.sctp_assoc.specs.Calls.{after_ack_delay, after_t3, is_established, retransmits, t3_expired}
 use Rattle.sctp_assoc.specs.Handshake.{after_t1_init, sends_cookie, sends_init, t1_cookie_expired, t1_init_expired}
 use Rattle.sctp_assoc.specs.Timeouts.{after_handshake_timers}
-use Rattle.sctp_assoc.specs.Laws.{DueSacksGoOut, PollsDoNotClose, SacksOfferTheBuffer, SacksSayWhatCame, StaysOpen, TimersDoNotClose}
-use Rattle.sctp_assoc.specs.Polled.{ack_after, ack_polled, control_packets, data_packets, data_polled, exchange_polled, is_due, sack_packet, with_sent_data, without_control}
+use Rattle.sctp_assoc.specs.Laws.{DueSacksGoOut, PollsDoNotClose, SacksAreSpelled, SacksOfferTheBuffer, SacksSayWhatCame, StaysOpen, TimersDoNotClose}
+use Rattle.sctp_assoc.specs.Polled.{ack_after, ack_polled, control_packets, data_packets, data_polled, exchange_polled, is_due, packet_bytes, packet_with, sack_chunk, sack_packet, spelled, with_sent_data, without_control}
 use Rattle.sctp_assoc.specs.Shown.{Shown}
 use Rattle.sctp_assoc.proofs.Giving.{IsSentBeside, data_poll_stays}
 use Rattle.sctp_assoc.proofs.Polling.{ack_said, both_first, both_second}
-use Rattle.sctp_assoc.proofs.Waits.{ack_behind}
+use Rattle.sctp_assoc.proofs.Waits.{ack_behind, fits_written}
 
 open_on : (a b c : Shown) → StaysOpen a b → StaysOpen b c → StaysOpen a c
 open_on a b c m n = record { state = n.state ∙ m.state; lost = n.lost ∙ m.lost; events = n.events ∙ m.events }
@@ -89,6 +89,10 @@ sacks_say_what_came a h binds = record {
 
 pub sacks_offer_the_buffer : SacksOfferTheBuffer
 sacks_offer_the_buffer a = (sack_of a.receiver (bytes_waiting a.streams), refl, refl)
+
+pub sacks_are_spelled : SacksAreSpelled
+unfolding packet_bytes
+sacks_are_spelled a = ap spelled (fits_written (packet_with (header_of a.handshake) (sack_chunk a)) refl)
 
 -- Timers leave an association open.
 

@@ -111,7 +111,7 @@ short_enough n e = rw (lt-ltb n 65532 e) refl
 data_fits : (header : CommonHeader) (c : ChunkPayloadData) → length c.user_data ≤ 65519 → packet_fits (packet_with header (chunks.Data c)) ≡ true
 data_fits header c short = short_enough _ (omega (arith, short))
 
-fits_written : (p : Packet) → packet_fits p ≡ true → written p ≡ Ok (spelling p)
+pub fits_written : (p : Packet) → packet_fits p ≡ true → written p ≡ Ok (spelling p)
 unfolding written
 fits_written p fits = rw fits refl
 

@@ -28,7 +28,7 @@ use Rattle.sctp_assoc.specs.Acts.{Binds, History, all_data_given, parts, tsn_bef
 use Rattle.sctp_assoc.specs.Calls.{is_closed_state, is_established, opened, read_from_stream, written}
 use Rattle.sctp_assoc.specs.Chunks.{after_packet, on_chunk}
 use Rattle.sctp_assoc.specs.Happened.{acts_of_poll}
-use Rattle.sctp_assoc.specs.Polled.{control_packets, data_polled, is_due, packet_bytes, packet_with, polled, sack_packet}
+use Rattle.sctp_assoc.specs.Polled.{control_packets, data_polled, is_due, packet_bytes, packet_with, polled, sack_chunk, sack_packet}
 use Rattle.sctp_assoc.specs.Reports.{SaysWhatCame}
 use Rattle.sctp_assoc.specs.Shown.{Shown}
 use Rattle.sctp_assoc.specs.Timeouts.{after_timeouts}
@@ -161,7 +161,11 @@ SacksOfferTheBuffer = (a : Shown)
     → (sack : ChunkSelectiveAck) × (sack_packet a ≡ packet_bytes (header_of a.handshake) (chunks.SelectiveAck sack))
     × (sack.advertised_receiver_window_credit ≡ a.receiver.buffer_size - bytes_waiting a.streams)
 
--- A SACK that is due goes out with the next poll, behind the DATA.
+-- It is one datagram, as each SACK that is made is short enough to be spelled.
+abbrev pub SacksAreSpelled : Type 0
+SacksAreSpelled = (a : Shown) → sack_packet a ≡ spelling (packet_with (header_of a.handshake) (sack_chunk a)) ∷ []
+
+-- A SACK that is due goes out with the next poll in Established, as its last packet.
 abbrev pub DueSacksGoOut : Type 0
 DueSacksGoOut = (a : Shown) (now : ℕ) → is_established a.state ≡ true → is_due a.receiver.ack_state ≡ true
     → (packets : List (List ℕ)) × ((polled a now).1 ≡ packets ++ sack_packet a)

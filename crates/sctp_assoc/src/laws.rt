@@ -2,7 +2,7 @@
 ghost use Rattle.sctp_assoc.specs.Shapes.{AcceptedWritesFit, ChunksLeadOn, DataIsTaken, EstablishedIsNotClosed, EstablishedSidesTalk, FaultsClose, FoundStreamsAreLive, GreetingsMeet, GreetingsStayTrue, LostAssociationsTakeNothing, NoPacketChangesNothing, OpenedStreamsHoldNothing, OpenedStreamsKeepTheStatus, OpenedStreamsWereNotLive, OtherChunksDoNothing, OtherSacksDoNothing, PacketsEnd, PollsGiveAndReport, PollsKeepTheStatus, PollsOutsideEstablishedGiveWhatWaits, PollsSayTheirActs, ReadsKeepTheStatus, SacksAcknowledge, TakenSacksAcknowledge, TheSameHandshakeIsTheSameStage, TimeoutsMarkAtMost, TimersKeepTheStatus, ToldEventsKeepTheStatus, WhatHoldsNothingGivesNothing, WhatWaitsGoesOutAsItIs, WritesKeepTheStatus};
 ghost use Rattle.sctp_assoc.specs.Causes.{CausesClose, ClosingPacketsHaveCauses, FaultsAreCauses};
 ghost use Rattle.sctp_assoc.specs.Intake.{DataIsTakenIn, NothingElseIsTakenIn};
-ghost use Rattle.sctp_assoc.specs.Laws.{DueSacksGoOut, FaultsAloneClose, OpenedStreamsDoNotClose, PollsDoNotClose, PollsKeepWhatIsHeld, ReadsDoNotClose, SacksNameThePoint, SacksOfferTheBuffer, SacksSayWhatCame, TimersDoNotClose, WhatWaitsGoesOut, WhatWaitsIsGiven, WhatWaitsIsPolled, WritesAreHeld, WritesDoNotClose};
+ghost use Rattle.sctp_assoc.specs.Laws.{DueSacksGoOut, FaultsAloneClose, OpenedStreamsDoNotClose, PollsDoNotClose, PollsKeepWhatIsHeld, ReadsDoNotClose, SacksAreSpelled, SacksNameThePoint, SacksOfferTheBuffer, SacksSayWhatCame, TimersDoNotClose, WhatWaitsGoesOut, WhatWaitsIsGiven, WhatWaitsIsPolled, WritesAreHeld, WritesDoNotClose};
 ghost use Rattle.sctp_assoc.specs.Witnesses.{CookiesAreTimedInCookieEchoedAlone, CreatedSidesAreFresh, DelayedSacksAreTimed, EchoedCookiesAreTimed, FailedSidesWaitForNothing, FailuresStopTheTimers, InitsAreTimedInCookieWaitAlone, JoinedSidesAreFresh, LossesAreToldOnce, LossesStopTheTimers, LostSidesWaitForNothing, NoHandshakeTimerRunsOnceEstablished, NothingInFlightIsNotTimed, OutstandingDataIsTimed, SentInitsAreTimed};
 
 /// Sending: what waits goes out with the next poll where nothing is in flight (RFC 4960 section 6.1).
@@ -35,11 +35,13 @@ pub fn only_named_causes_close()
     ensures causes { CausesClose }
 {}
 
-/// Reporting: a SACK says what came, and goes out where it is due (RFC 4960 sections 3.3.4 and 6.2).
+/// Reporting: a SACK says what came, is one datagram, and goes out with the next poll where it is due (RFC 4960 sections 3.3.4
+/// and 6.2).
 pub fn sacks_name_the_point()
     ensures point { SacksNameThePoint }
     ensures said { SacksSayWhatCame }
     ensures window { SacksOfferTheBuffer }
+    ensures spelled { SacksAreSpelled }
     ensures due { DueSacksGoOut }
 {}
 

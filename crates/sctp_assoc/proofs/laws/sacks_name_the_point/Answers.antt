@@ -1,8 +1,11 @@
-use Rattle.sctp_assoc.proofs.Reporting.{due_sacks_go_out, sacks_offer_the_buffer, sacks_say_what_came}
+use Rattle.sctp_assoc.proofs.Reporting.{due_sacks_go_out, sacks_are_spelled, sacks_offer_the_buffer, sacks_say_what_came}
 use Rattle.sctp_assoc.proofs.laws.sacks_name_the_point.Goals as goal
 
 pub returns-clause-due : goal.returns-clause-due
 returns-clause-due c = due_sacks_go_out
+
+pub returns-clause-spelled : goal.returns-clause-spelled
+returns-clause-spelled c = sacks_are_spelled
 
 pub returns-clause-said : goal.returns-clause-said
 returns-clause-said c = sacks_say_what_came
