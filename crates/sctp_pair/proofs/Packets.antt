@@ -219,10 +219,11 @@ processed_settles {here} {there} own peer now a y packet out coming said f =
     f.stands
 
 refused_settles : {here there : Stage} (own peer n : ℕ) (a b y : Shown) (packet : Option Packet) (out coming : Direction) (B : ℕ → Type 0)
-    → HadFailed a n b ⊎ (Fails a n b ⊎ LacksMemory a n b) → Faces own peer here there a y out coming
-    → Settles own peer here there b y out coming nothing_added nothing_read B
+    → HadFailed a n b ⊎ (((a.lost ≡ false) × Fails a n b) ⊎ LacksMemory a n b)
+    → Faces own peer here there a y out coming → Settles own peer here there b y out coming nothing_added nothing_read B
 refused_settles own peer n a b y packet out coming B (inl had) f = brings_more own peer b y out coming B (same_settles own peer a b y out coming had.2 f)
-refused_settles own peer n a b y packet out coming B (inr (inl fails)) f = brings_more own peer b y out coming B (fails_settle own peer a b y out coming fails.2.marked f)
+refused_settles own peer n a b y packet out coming B (inr (inl (present, fails))) f =
+    brings_more own peer b y out coming B (fails_settle own peer a b y out coming fails.2.marked f)
 refused_settles own peer n a b y packet out coming B (inr (inr same)) f = brings_more own peer b y out coming B (same_settles own peer a b y out coming same.2 f)
 
 -- a packet that the other side gave out comes

@@ -15,7 +15,7 @@ use Rattle.sctp_assoc.specs.Calls.{is_established}
 use Rattle.sctp_assoc.specs.Happened.{Polls, PollsOn, acts_of_poll}
 use Rattle.sctp_assoc.specs.declared.control.ControlPacket.{ControlPacket}
 use Rattle.sctp_assoc.specs.Meeting.{Greets, IsTruthful, Stage, stage_of}
-use Rattle.sctp_assoc.specs.Polled.{AreControlReadAgain, control_packets, polled, without_control}
+use Rattle.sctp_assoc.specs.Polled.{AreControlReadAgain, control_packets, has_something_to_give, polled, without_control}
 use Rattle.sctp_assoc.specs.Shapes.{IsExchanged, IsGivenBy, IsPolling, IsSameStatus, IsWaitingToGo, OfEachChunk, reports}
 use Rattle.sctp_assoc.specs.Shown.{Shown}
 use Rattle.sctp_assoc.proofs.Proved.{done_append, established_sides_talk, given_append, polls_give_and_report, polls_keep_the_status, polls_outside_established_give_what_waits, polls_say_their_acts, what_waits_goes_out_as_it_is}
@@ -247,10 +247,11 @@ gives_nothing : {here there : Stage} (own peer : ℕ) (b y : Shown) (packets mor
 gives_nothing own peer b y packets more out coming s e = (s, [], e ∙ sym (append-nil packets), tt)
 
 refused_polls : {here there : Stage} (own peer now n : ℕ) (a b y : Shown) (packets more : List (List ℕ)) (out coming : Direction)
-    → (HadFailed a n b × (more ≡ packets)) ⊎ ((Fails a n b × (more ≡ packets)) ⊎ LosesSome a packets now n b more) → Faces own peer here there a y out coming
-    → PollSettled own peer here there b y packets more out coming
+    → (HadFailed a n b × (more ≡ packets))
+    ⊎ (((has_something_to_give a now ≡ true) × Fails a n b × (more ≡ packets)) ⊎ LosesSome a packets now n b more)
+    → Faces own peer here there a y out coming → PollSettled own peer here there b y packets more out coming
 refused_polls own peer now n a b y packets more out coming (inl (had, e)) f = gives_nothing own peer b y packets more out coming (same_settles own peer a b y out coming had.2 f) e
-refused_polls own peer now n a b y packets more out coming (inr (inl (fails, e))) f =
+refused_polls own peer now n a b y packets more out coming (inr (inl (gives, fails, e))) f =
     gives_nothing own peer b y packets more out coming (fails_settle own peer a b y out coming fails.2.marked f) e
 refused_polls own peer now n a b y packets more out coming (inr (inr (working, number, is, polls, (kept, fewer, e)))) f =
     let poll = any_polls own peer now a b y (polled a now).1 out coming working (pair_is (polled a now) b is) polls f in (

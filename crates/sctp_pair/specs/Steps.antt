@@ -11,7 +11,7 @@ use Rattle.sctp_assoc.specs.Calls.{buffered_of, deadline_of, event_polled, has_b
 use Rattle.sctp_assoc.specs.Chunks.{after_packet}
 use Rattle.sctp_assoc.specs.Happened.{PollsOn, acts_of_poll}
 use Rattle.sctp_assoc.specs.Inbound.{taken_packet}
-use Rattle.sctp_assoc.specs.Polled.{polled}
+use Rattle.sctp_assoc.specs.Polled.{has_something_to_give, polled}
 use Rattle.sctp_assoc.specs.Shown.{HasFailed, Shown, answers_of}
 use Rattle.sctp_assoc.specs.Timeouts.{after_timeouts, handshake_goes_out_again}
 use Rattle.sctp_pair.specs.declared.step.Reply.{Reply}
@@ -106,7 +106,7 @@ Keeps packets given (replies.Refused n) more =
 Keeps packets given _ more = ⊥
 
 -- a poll for packets: they are what its acts give out, and get the next numbers of their side; that there are none is an answer of its
--- own
+-- own; memory is wanted only where there is something to give
 abbrev pub GivesOut : Shown → List (List ℕ) → ℕ → Reply → Shown → List (List ℕ) → Type 0
 GivesOut a packets now replies.NothingSent b more =
     (a.failed ≡ false) × (polled a now ≡ (b, [])) × PollsOn (acts_of_poll a now) a b [] × (more ≡ packets)
@@ -114,7 +114,8 @@ GivesOut a packets now (replies.Sent first count) b more =
     (a.failed ≡ false) × (0 < count) × (first ≡ length packets) × (count ≡ length (polled a now).1) × ((polled a now).0 ≡ b)
     × PollsOn (acts_of_poll a now) a b (polled a now).1 × (more ≡ packets ++ (polled a now).1)
 GivesOut a packets now (replies.Refused n) b more =
-    (HadFailed a n b × (more ≡ packets)) ⊎ ((Fails a n b × (more ≡ packets)) ⊎ LosesSome a packets now n b more)
+    (HadFailed a n b × (more ≡ packets))
+    ⊎ (((has_something_to_give a now ≡ true) × Fails a n b × (more ≡ packets)) ⊎ LosesSome a packets now n b more)
 GivesOut a packets now _ b more = ⊥
 
 -- the packet that a datagram spells; none where it does not decode or is refused as a packet
@@ -125,10 +126,12 @@ packet_in bytes = taken_packet (packet_at bytes)
 abbrev pub LacksMemory : Shown → ℕ → Shown → Type 0
 LacksMemory a n b = (a.failed ≡ false) × (n ≡ refusal_number errors.ErrNoMemory) × (b ≡ a)
 
--- a packet comes, or a datagram that spells none; one that finds no memory to be read is lost
+-- a packet comes, or a datagram that spells none; one that finds no memory to be read is dropped, and an association that
+-- was lost does not fail by any
 abbrev pub TakesPacket : Shown → Option Packet → ℕ → Reply → Shown → Type 0
 TakesPacket a packet now replies.Done b = (a.failed ≡ false) × (b ≡ after_packet a packet now)
-TakesPacket a packet now (replies.Refused n) b = HadFailed a n b ⊎ (Fails a n b ⊎ LacksMemory a n b)
+TakesPacket a packet now (replies.Refused n) b =
+    HadFailed a n b ⊎ (((a.lost ≡ false) × Fails a n b) ⊎ LacksMemory a n b)
 TakesPacket a packet now _ b = ⊥
 
 -- a datagram comes
