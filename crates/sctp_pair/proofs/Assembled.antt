@@ -16,14 +16,14 @@ use Rattle.sctp_pair.specs.declared.step.Side2.{Side2}
 use Rattle.sctp_pair.specs.declared.step.Side2.TheVariants as sides
 use Rattle.sctp_pair.specs.declared.step.Step.{Step}
 use Rattle.sctp_pair.specs.declared.step.Step.TheVariants as steps
-use Rattle.sctp_pair.specs.Ends.{Ends, end_of}
+use Rattle.sctp_pair.specs.Ends.{Ends, end_of, packets_of}
 use Rattle.sctp_pair.specs.Steps.{AtSide, Buffers, ComesTo, Delivers, Expires, Finds, Measures, Opens, Reads, SendsAt, Steps, Tells, Writes, packet_in}
-use Rattle.sctp_pair.specs.World.{HasData, World, packet_of_bytes}
+use Rattle.sctp_pair.specs.World.{HasData, World, other_side, packet_brought, packet_of_bytes}
 use Rattle.sctp_pair.specs.Fits.{AreSaid, Fits, IsSaidBy, LeadsSafely}
 use Rattle.sctp_pair.proofs.Between.{Faces, None_brought, Settles, nothing_added, nothing_read}
 use Rattle.sctp_pair.proofs.Settled.{IsCallAt, faces_a, faces_b, settled_a, settled_b}
 use Rattle.sctp_pair.proofs.Answered.{IsQuiet, quiet_call, read_call, write_call}
-use Rattle.sctp_pair.proofs.Packets.{packet_settles}
+use Rattle.sctp_pair.proofs.Packets.{brings_more, brought_by, packet_settles}
 use Rattle.sctp_pair.proofs.Polls.{poll_settles}
 use Rattle.sctp_pair.proofs.ReadCall.{read_by, reads_settle}
 use Rattle.sctp_pair.proofs.SimpleCalls.{buffers_same, finds_same, measures_same, opens_settle, same_settles}
@@ -90,26 +90,48 @@ none_delivered a now replies.NoSuchPacket b h = h
 -- What comes to a side, if anything does: its DATA is what is brought.
 delivered : {here there : Stage} (own peer now : ℕ) (a b y : Shown) (packets : List (List ℕ)) (number : ℕ) (found : Option (List ℕ)) (r : Reply) (out coming : Direction)
     → slice_get packets number ≡ found → Delivers a found now r b → AreSaid peer own there coming out packets → Faces own peer here there a y out coming
-    → Settles own peer here there b y out coming nothing_added nothing_read (λ o. HasData (packet_of_bytes found) (tsn peer o))
+    → Settles own peer here there b y out coming nothing_added nothing_read (λ o. HasData (brought_by r (packet_of_bytes found)) (tsn peer o))
 delivered own peer now a b y packets number None r out coming e h said f =
-    same_settles own peer a b y out coming (none_delivered a now r b h) f
+    brings_more own peer b y out coming (λ o. HasData (brought_by r None) (tsn peer o))
+    (same_settles own peer a b y out coming (none_delivered a now r b h) f)
 delivered {here} {there} own peer now a b y packets number (Some bytes) r out coming e h said f =
     packet_settles own peer now a b y (packet_in bytes) r out coming h
     (all_get (λ (x : List ℕ). OfEachChunk (IsSaidBy peer own there coming out) (packet_in x)) packets number bytes e said) f
+
+brought_here : (side : Side2) (number now : ℕ) (r : Reply) (w : World)
+    → brought_by r (packet_of_bytes (slice_get (packets_of (other_side side) w.ends) number))
+    ≡ packet_brought (steps.Deliver side number now) r side w
+brought_here sides.A number now replies.Done w = refl
+brought_here sides.B number now replies.Done w = refl
+brought_here side number now r w = refl
 
 -- A delivery leads safely.
 come_leads : (side : Side2) (number now : ℕ) (r : Reply) (q : Ends) (w : World) → Fits w.ends w → ComesTo side w.ends number now r q
     → LeadsSafely (steps.Deliver side number now) r w q
 come_leads sides.A number now r q w fits (h, e) =
-    settled_a (steps.Deliver sides.A number now) r q w nothing_added nothing_read (λ o. HasData (packet_of_bytes (slice_get w.ends.packets_b number)) (tsn w.initial_b o)) [] fits
+    settled_a (steps.Deliver sides.A number now) r q w nothing_added nothing_read
+    (λ o. HasData (brought_by r (packet_of_bytes (slice_get w.ends.packets_b number))) (tsn w.initial_b o)) [] fits
     (ap (λ (z : Ends). z.b) e) (ap (λ (z : Ends). z.packets_a) e ∙ sym (append-nil w.ends.packets_a)) (ap (λ (z : Ends). z.packets_b) e) (h, e)
     (delivered w.initial_a w.initial_b now w.ends.a q.a w.ends.b w.ends.packets_b number (slice_get w.ends.packets_b number) r w.ab w.ba refl h fits.stand.said_b (faces_a w fits)) tt
-    record { adds = λ s. refl; reads = λ s. refl; brings = λ o b. b; adds_alone = λ s. refl; reads_alone = λ s. refl }
+    record {
+      adds = λ s. refl;
+      reads = λ s. refl;
+      brings = λ o b. subst (λ z. HasData z (tsn w.initial_b o)) (brought_here sides.A number now r w) b;
+      adds_alone = λ s. refl;
+      reads_alone = λ s. refl;
+    }
 come_leads sides.B number now r q w fits (h, e) =
-    settled_b (steps.Deliver sides.B number now) r q w nothing_added nothing_read (λ o. HasData (packet_of_bytes (slice_get w.ends.packets_a number)) (tsn w.initial_a o)) [] fits
+    settled_b (steps.Deliver sides.B number now) r q w nothing_added nothing_read
+    (λ o. HasData (brought_by r (packet_of_bytes (slice_get w.ends.packets_a number))) (tsn w.initial_a o)) [] fits
     (ap (λ (z : Ends). z.a) e) (ap (λ (z : Ends). z.packets_b) e ∙ sym (append-nil w.ends.packets_b)) (ap (λ (z : Ends). z.packets_a) e) (h, e)
     (delivered w.initial_b w.initial_a now w.ends.b q.b w.ends.a w.ends.packets_a number (slice_get w.ends.packets_a number) r w.ba w.ab refl h fits.stand.said_a (faces_b w fits)) tt
-    record { adds = λ s. refl; reads = λ s. refl; brings = λ o b. b; adds_alone = λ s. refl; reads_alone = λ s. refl }
+    record {
+      adds = λ s. refl;
+      reads = λ s. refl;
+      brings = λ o b. subst (λ z. HasData z (tsn w.initial_a o)) (brought_here sides.B number now r w) b;
+      adds_alone = λ s. refl;
+      reads_alone = λ s. refl;
+    }
 
 -- each step from the pair of the world
 step_at : (step : Step) (q : Ends) (r : Reply) (w : World) → Steps step w.ends r q → Fits w.ends w → LeadsSafely step r w q

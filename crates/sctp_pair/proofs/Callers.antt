@@ -238,21 +238,21 @@ fronts size_a size_b ss rs p c few x s =
 
 -- Before the first delivery
 
-not_brought : (a : Step) (y : Side2) (w : World) → delivers_to y a ≡ false → packet_brought a y w ≡ None
-not_brought (steps.Deliver side number now) y w e = rw e refl
-not_brought a y w e = refl
+not_brought : (a : Step) (r : Reply) (y : Side2) (w : World) → delivers_to y a r ≡ false → packet_brought a r y w ≡ None
+not_brought (steps.Deliver side number now) replies.Done y w e = rw e refl
+not_brought a r y w e = refl
 
 nothing_behind : (xs ys : List (List ℕ)) → [] ≡ xs ++ ys → ys ≡ []
 nothing_behind [] ys e = sym e
 nothing_behind (x ∷ xs) ys e = absurd (cc)
 
-untaken_on : (a : Step) (r : Reply) (x : Side2) (w v : World) → IsWorldStep a w r v → delivers_to (other_side x) a ≡ false
+untaken_on : (a : Step) (r : Reply) (x : Side2) (w v : World) → IsWorldStep a w r v → delivers_to (other_side x) a r ≡ false
     → ((o : ℕ) → mem o (from x w).receiver.taken ≡ true → ⊥) → (o : ℕ) → mem o (from x v).receiver.taken ≡ true → ⊥
 untaken_on a r x w v h none before o m =
     ⊎_elim
     (λ (old : mem o (from x w).receiver.taken ≡ true). before o old)
-    (λ (b : HasData (packet_brought a (other_side x) w) (tsn (initial_of x w) o)).
-    subst (λ (z : Option Packet). HasData z (tsn (initial_of x w) o)) (not_brought a (other_side x) w none) b)
+    (λ (b : HasData (packet_brought a r (other_side x) w) (tsn (initial_of x w) o)).
+    subst (λ (z : Option Packet). HasData z (tsn (initial_of x w) o)) (not_brought a r (other_side x) w none) b)
     ((step_from x a r w v h).taken o m)
 
 bare : (ss : List Step) (rs : List Reply) (x : Side2) (s : ℕ) (w : World) (n m : ℕ) (q : Ends) → RunsCounted ss rs w n m q
@@ -264,15 +264,15 @@ bare (a ∷ ss) (r ∷ rs) x s w n m q (v, step, next) few none span =
     let l : ℕ = pieces_b w a r in
     let after = next (few_first a r ss rs w n m few) in
     ⊎_elim
-    (λ (b : delivers_to (other_side x) a ≡ true). rw b refl)
-    (λ (b : delivers_to (other_side x) a ≡ false).
+    (λ (b : delivers_to (other_side x) a r ≡ true). rw b refl)
+    (λ (b : delivers_to (other_side x) a r ≡ false).
     let still = untaken_on a r x w v step b none in
     let within = span_one a r x w v step s span in
     let unread = nothing_read_of_none (from x v) s (safe_from x s (n + k) (m + l) v.ends v after.1 within) still (filled_from x s (n + k) (m + l) v.ends v after.1) in
     let this : bytes_read a r (other_side x) s ≡ [] =
     nothing_behind (bytes_got ((from x w).reads s)) (bytes_read a r (other_side x) s) (sym (ap bytes_got unread) ∙ read_one a r x w v step s) in
     rw (b, this) (bare ss rs x s v (n + k) (m + l) q after.2 (few_rest a r ss rs w v n m step few) still within))
-    (cases_Bool (delivers_to (other_side x) a))
+    (cases_Bool (delivers_to (other_side x) a r))
 bare [] (r ∷ rs) x s w n m q h few none span = absurd h
 bare (a ∷ ss) [] x s w n m q h few none span = absurd h
 
@@ -280,7 +280,7 @@ turned_back : (x : Side2) → other_side (other_side x) ≡ x
 turned_back sides.A = refl
 turned_back sides.B = refl
 
--- Until a packet was delivered to a side nothing is read there.
+-- Until a packet was handed to a side nothing is read there.
 unbrought : (size_a size_b : ℕ) (ss : List Step) (rs : List Reply) (p : Ends) → CameBy size_a size_b ss rs p → AcceptFew size_a size_b ss rs → NothingIsReadUnbrought ss rs
 unbrought size_a size_b ss rs p c few x s =
     let w : World = empty_world c.begin c.new.initial_a c.new.initial_b size_a size_b in

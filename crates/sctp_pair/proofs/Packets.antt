@@ -174,7 +174,8 @@ failed_after own peer there now a packet out coming said f = ⊎_elim
     (cases_Bool a.lost)
 
 -- what may be brought is more than nothing
-brings_more : {here there : Stage} (own peer : ℕ) (b y : Shown) (out coming : Direction) (B : ℕ → Type 0) → Settles own peer here there b y out coming nothing_added nothing_read None_brought
+pub brings_more : {here there : Stage} (own peer : ℕ) (b y : Shown) (out coming : Direction) (B : ℕ → Type 0)
+    → Settles own peer here there b y out coming nothing_added nothing_read None_brought
     → Settles own peer here there b y out coming nothing_added nothing_read B
 brings_more own peer b y out coming B s = record {
   out2 = s.out2;
@@ -218,22 +219,28 @@ processed_settles {here} {there} own peer now a y packet out coming said f =
     r)
     f.stands
 
-refused_settles : {here there : Stage} (own peer n : ℕ) (a b y : Shown) (packet : Option Packet) (out coming : Direction) (B : ℕ → Type 0)
+refused_settles : {here there : Stage} (own peer n : ℕ) (a b y : Shown) (out coming : Direction)
     → HadFailed a n b ⊎ (((a.lost ≡ false) × Fails a n b) ⊎ LacksMemory a n b)
-    → Faces own peer here there a y out coming → Settles own peer here there b y out coming nothing_added nothing_read B
-refused_settles own peer n a b y packet out coming B (inl had) f = brings_more own peer b y out coming B (same_settles own peer a b y out coming had.2 f)
-refused_settles own peer n a b y packet out coming B (inr (inl (present, fails))) f =
-    brings_more own peer b y out coming B (fails_settle own peer a b y out coming fails.2.marked f)
-refused_settles own peer n a b y packet out coming B (inr (inr same)) f = brings_more own peer b y out coming B (same_settles own peer a b y out coming same.2 f)
+    → Faces own peer here there a y out coming → Settles own peer here there b y out coming nothing_added nothing_read None_brought
+refused_settles own peer n a b y out coming (inl had) f = same_settles own peer a b y out coming had.2 f
+refused_settles own peer n a b y out coming (inr (inl (present, fails))) f =
+    fails_settle own peer a b y out coming fails.2.marked f
+refused_settles own peer n a b y out coming (inr (inr same)) f = same_settles own peer a b y out coming same.2 f
+
+-- what a packet with this reply brings: one that is refused brings nothing
+abbrev pub brought_by : Reply → Option Packet → Option Packet
+brought_by replies.Done packet = packet
+brought_by reply packet = None
 
 -- a packet that the other side gave out comes
 pub packet_settles : {here there : Stage} (own peer now : ℕ) (a b y : Shown) (packet : Option Packet) (r : Reply) (out coming : Direction) → TakesPacket a packet now r b
     → OfEachChunk (IsSaidBy peer own there coming out) packet → Faces own peer here there a y out coming
-    → Settles own peer here there b y out coming nothing_added nothing_read (λ o. HasData packet (tsn peer o))
+    → Settles own peer here there b y out coming nothing_added nothing_read
+    (λ o. HasData (brought_by r packet) (tsn peer o))
 packet_settles {here} {there} own peer now a b y packet replies.Done out coming h said f =
     subst (λ z. Settles own peer here there z y out coming nothing_added nothing_read (λ o. HasData packet (tsn peer o))) (sym h.1) (processed_settles own peer now a y packet out coming said f)
 packet_settles own peer now a b y packet (replies.Refused n) out coming h said f =
-    refused_settles own peer n a b y packet out coming (λ o. HasData packet (tsn peer o)) h f
+    refused_settles own peer n a b y out coming h f
 packet_settles own peer now a b y packet (replies.Wrote n) out coming h said f = absurd h
 packet_settles own peer now a b y packet (replies.Read m) out coming h said f = absurd h
 packet_settles own peer now a b y packet (replies.BufferedAmount n) out coming h said f = absurd h

@@ -61,7 +61,7 @@ faces_b w f = record {
 pub record IsCallAt (step : Step) (reply : Reply) (side : Side2) (w : World) (initial : ℕ) (Added : ℕ → List Message) (Read : ℕ → Option letters.ReceivedMessage) (Brought : ℕ → Type 0) : Type 0 where
   pub adds : (s : ℕ) → Added s ≡ accepted_at step reply side s w
   pub reads : (s : ℕ) → Read s ≡ message_read step reply side s
-  pub brings : (o : ℕ) → Brought o → HasData (packet_brought step side w) (tsn initial o)
+  pub brings : (o : ℕ) → Brought o → HasData (packet_brought step reply side w) (tsn initial o)
   pub adds_alone : (s : ℕ) → [] ≡ accepted_at step reply (other_side side) s w
   pub reads_alone : (s : ℕ) → None ≡ message_read step reply (other_side side) s
 
@@ -69,7 +69,7 @@ pub record IsCallAt (step : Step) (reply : Reply) (side : Side2) (w : World) (in
 direction_step : (step : Step) (reply : Reply) (sender receiver : Side2) (w : World) (q : Ends) (initial : ℕ) (before after : Direction)
     (Added : ℕ → List Message) (Read : ℕ → Option letters.ReceivedMessage) (Brought : ℕ → Type 0) → Does Added Read Brought before after
     → ((s : ℕ) → Added s ≡ accepted_at step reply sender s w) → ((s : ℕ) → Read s ≡ message_read step reply receiver s)
-    → ((o : ℕ) → Brought o → HasData (packet_brought step receiver w) (tsn initial o))
+    → ((o : ℕ) → Brought o → HasData (packet_brought step reply receiver w) (tsn initial o))
     → IsOpen (end_of sender q) ⊎ (after.sender.plan.places ≡ before.sender.plan.places) → IsSound before → IsSound after
     → (after.receiver.is_open ≡ true) ⊎ (IsOpen (end_of receiver q) → ⊥) → IsDirectionStep step reply sender receiver w q initial before after
 direction_step step reply sender receiver w q initial before after Added Read Brought d adds reads brings no_more was is receives = record {

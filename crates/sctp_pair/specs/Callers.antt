@@ -29,10 +29,10 @@ abbrev pub bytes_read : Step → Reply → Side2 → ℕ → List (List ℕ)
 bytes_read (steps.Read side id) (replies.Read message) x s = if is_side side x && (id == s) then bytes_of message else []
 bytes_read step reply x s = []
 
--- this step hands side x a packet of the other side
-abbrev pub delivers_to : Side2 → Step → Bool
-delivers_to x (steps.Deliver side number now) = is_side side x
-delivers_to x step = false
+-- this step handed side x a packet of the other side; one that is refused, or is not there, does not count
+abbrev pub delivers_to : Side2 → Step → Reply → Bool
+delivers_to x (steps.Deliver side number now) replies.Done = is_side side x
+delivers_to x step reply = false
 
 -- Rows of steps with their replies
 
@@ -48,9 +48,10 @@ read_in (a ∷ ss) (r ∷ rs) x s = bytes_read a r x s ++ read_in ss rs x s
 read_in [] rs x s = []
 read_in (a ∷ ss) [] x s = []
 
--- of that, what it read before the first delivery to it
+-- of that, what it read before the first packet that it was handed
 abbrev pub read_undelivered : List Step → List Reply → Side2 → ℕ → List (List ℕ)
-read_undelivered (a ∷ ss) (r ∷ rs) x s = if delivers_to x a then [] else bytes_read a r x s ++ read_undelivered ss rs x s
+read_undelivered (a ∷ ss) (r ∷ rs) x s =
+    if delivers_to x a r then [] else bytes_read a r x s ++ read_undelivered ss rs x s
 read_undelivered [] rs x s = []
 read_undelivered (a ∷ ss) [] x s = []
 
@@ -69,7 +70,7 @@ IsFrontOf xs ys = (rest : List (List ℕ)) × (ys ≡ xs ++ rest)
 abbrev pub ReadsAreFronts : List Step → List Reply → Type 0
 ReadsAreFronts ss rs = (x : Side2) (s : ℕ) → IsFrontOf (read_in ss rs (other_side x) s) (written_in ss rs x s)
 
--- a side to which no packet was delivered yet reads nothing
+-- a side that was handed no packet yet reads nothing
 abbrev pub NothingIsReadUnbrought : List Step → List Reply → Type 0
 NothingIsReadUnbrought ss rs = (x : Side2) (s : ℕ) → read_undelivered ss rs x s ≡ []
 

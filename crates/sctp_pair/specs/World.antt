@@ -73,11 +73,11 @@ abbrev pub packet_of_bytes : Option (List ℕ) → Option Packet
 packet_of_bytes None = None
 packet_of_bytes (Some bytes) = packet_in bytes
 
--- the packet that a step hands to side x, as what it spells
-abbrev pub packet_brought : Step → Side2 → World → Option Packet
-packet_brought (steps.Deliver side number now) x w =
+-- the packet that a step hands to side x, as what it spells; one that is refused is not handed over
+abbrev pub packet_brought : Step → Reply → Side2 → World → Option Packet
+packet_brought (steps.Deliver side number now) replies.Done x w =
     if is_side side x then packet_of_bytes (slice_get (packets_of (other_side x) w.ends) number) else None
-packet_brought step x w = None
+packet_brought step reply x w = None
 
 -- the packet has DATA with this TSN
 abbrev pub HasData : Option Packet → ℕ → Type 0
@@ -110,7 +110,7 @@ pub record IsDirectionStep (step : Step) (reply : Reply) (sender receiver : Side
   pub accepted : (s : ℕ) → after.sender.plan.accepted s ≡ before.sender.plan.accepted s ++ accepted_at step reply sender s w
   pub read : (s : ℕ) → IsReadAs (message_read step reply receiver s) (before.reads s) (after.reads s)
   pub taken : (o : ℕ) → mem o after.receiver.taken ≡ true
-      → (mem o before.receiver.taken ≡ true) ⊎ HasData (packet_brought step receiver w) (tsn initial o)
+      → (mem o before.receiver.taken ≡ true) ⊎ HasData (packet_brought step reply receiver w) (tsn initial o)
   pub reach_on : before.sender.reach ≤ after.sender.reach
   pub no_more : IsOpen (end_of sender q) ⊎ (after.sender.plan.places ≡ before.sender.plan.places)
   -- the payload size, by which messages are cut, stays
@@ -122,7 +122,7 @@ pub record IsDirectionStep (step : Step) (reply : Reply) (sender receiver : Side
   -- what the receiver passed over moves only to the new cumulative TSN of a FORWARD TSN in the packet that the step delivers
   -- (RFC 3758 section 3.6); `passed` is one past the greatest offset passed over
   pub passed : (after.receiver.passed ≡ before.receiver.passed)
-      ⊎ HasForward (packet_brought step receiver w) (tsn_before (tsn initial after.receiver.passed))
+      ⊎ HasForward (packet_brought step reply receiver w) (tsn_before (tsn initial after.receiver.passed))
   -- no reliable message is given up (RFC 3758 section 3.5)
   pub given_up : (s i : ℕ) → after.sender.gone s i ≡ true
       → (before.sender.gone s i ≡ true) ⊎ (is_reliable (message_at after.sender.plan s i).policy ≡ false)

@@ -209,8 +209,8 @@ impl Pair {
     /// The promise of delivery is said of all steps since the pair was made, these among them (`came`). It holds as
     /// long as the messages that each side accepted in all of them have fewer than 16,384 pieces; a piece is what one
     /// DATA chunk has room for. On each stream, the messages that one side's reads answered are, in order, a prefix
-    /// of those that the other side's accepted writes gave (`front`). Nothing is read at a side before the first step
-    /// that asks for a delivery to it (`brought`).
+    /// of those that the other side's accepted writes gave (`front`). Nothing is read at a side before the first
+    /// delivery to it that is answered `Done` (`brought`).
     ///
     /// More is said over worlds, which docs/MODEL.md has in words. From each world that the pair fits, the steps lead
     /// from world to world, in each of which the pair stands. As long as each so far is within the limits, it is safe

@@ -1,4 +1,4 @@
-use Rattle.pair_callers.proofs.Taken.{other_takes_none_on, passes_on, takes_none_without, takes_on}
+use Rattle.pair_callers.proofs.Taken.{other_takes_none_on, passes_on, takes_none_refused, takes_none_without, takes_on}
 use Rattle.pair_callers.proofs.delivering.deliver_packet.Goals as goal
 
 pub returns-clause-taken : goal.returns-clause-taken
@@ -8,6 +8,11 @@ returns-clause-taken c =
 pub returns-clause-without_data : goal.returns-clause-without_data
 returns-clause-without_data c =
     takes_none_without c.args.side c.args.number c.args.now c.step.result c.args.pair.now c.step.new.self
+    c.step.ensures.headline
+
+pub returns-clause-refused : goal.returns-clause-refused
+returns-clause-refused c =
+    takes_none_refused c.args.side c.args.number c.args.now c.step.result c.args.pair.now c.step.new.self
     c.step.ensures.headline
 
 pub returns-clause-other : goal.returns-clause-other
