@@ -1,21 +1,25 @@
 -- What each act of an association leaves of how it stands between its directions.
-use Rattle.std.proofs.Common.{◌≡◌, refl, sym, ap, ◌∙◌, subst, ℕ, ◌<◌, ◌≤◌, ◌+◌, ◌%◌, ◌^◌, arith, Bool, true, false, if◌then◌else◌, [], ◌∷◌, map, length, Option, Some, None, Ok, Err, is_ok}
-use Rattle.std.proofs.lemmas.Bool.{true≢false}
+use Rattle.std.proofs.Common.{◌≡◌, refl, sym, ap, ◌∙◌, subst, ⊎_elim, ℕ, ◌<◌, ◌≤◌, ◌+◌, ◌-◌, ◌%◌, ◌^◌, arith, Bool, true, false, leb, if◌then◌else◌, List, [], ◌∷◌, map, length, Option, Some, None, Ok, Err, is_ok}
+use Rattle.std.proofs.lemmas.Bool.{cases_Bool, false_from_ne_true, le-leb, true≢false}
+use Rattle.sctp_wire_types.specs.declared.chunk.ChunkSelectiveAck.{ChunkSelectiveAck}
 use Rattle.sctp_wire_types.specs.declared.error.Error.TheVariants as errors
 use Rattle.std.specs.Prelude.{slice_get}
 use Rattle.sctp_streams.specs.Stream.{StreamView}
 use Rattle.sctp_streams.specs.Streams.{stream_at}
 use Rattle.sctp_model.specs.Messages.{accepted_bytes}
+use Rattle.sctp_model.specs.Packets.{mem}
 use Rattle.sctp_model.specs.Reassembly as queue
 use Rattle.sctp_model.specs.Serial.{tsn}
-use Rattle.sctp_model.specs.Machine.{Direction, Event, happens, live, reach, sack_of}
+use Rattle.sctp_model.specs.Machine.{Direction, Event, Receiver, happens, live, reach, sack_of}
 use Rattle.sctp_model.specs.Invariants.{Invariant, IsHonest}
 use Rattle.sctp_model.specs.Safe.{IsWithin, letter_read, read_end}
+use Rattle.sctp_model.proofs.Basics.{mem-filter, mem_from_filter}
 use Rattle.sctp_model.proofs.Lists.{all_get}
 use Rattle.sctp_assoc.specs.Acts.{Act, Parts, done, parts, tsn_before}
 use Rattle.sctp_assoc.specs.Calls.{buffered_at, ready_of}
+use Rattle.sctp_assoc.specs.Reports.{SaysWhatCame}
 use Rattle.sctp_directions.specs.Incoming.{FitsIncoming, letter_received}
-use Rattle.sctp_directions.specs.Laws.{ActsKeepTheInitialTsns, OpenedStreamsAreAlike, OwnActsLeaveWhatComes, PiecesAreGiven, ReadyMessagesAreAlike, ReportsNameThePoint, SacksMeanTheSame, WhatComesLeavesItsOwn, WhatIsReleasedIsNotBuffered}
+use Rattle.sctp_directions.specs.Laws.{ActsKeepTheInitialTsns, OpenedStreamsAreAlike, OwnActsLeaveWhatComes, PiecesAreGiven, ReadyMessagesAreAlike, ReportsSayWhatCame, SacksMeanTheSame, WhatComesLeavesItsOwn, WhatIsReleasedIsNotBuffered}
 use Rattle.sctp_directions.specs.Outgoing.{FitsOutgoing, IsOwn, IsOwnAt}
 use Rattle.sctp_directions.specs.Plain.{IsPlain, count_below}
 use Rattle.sctp_directions.proofs.IncomingKept.{acknowledged_fits, marked_fits, reported_fits, sent_again_fits, sent_fits, wrote_fits}
@@ -70,9 +74,37 @@ made_last : (w : Direction) → slice_get (happens w Event.SackMade).sacks (leng
 unfolding happens
 made_last w = got_last w.sacks (sack_of w.receiver)
 
-pub reports_name_the_point : ReportsNameThePoint
-reports_name_the_point a w fits =
-    (reported_fits a w fits, (length w.sacks, sack_of w.receiver, made_last w, ap (λ n. tsn_before (tsn a.history.peer n)) fits.at))
+-- from the reach on, the SACK that is made has what was taken in
+above_from : (r : Receiver) (o : ℕ) → reach r ≤ o → mem o (sack_of r).above ≡ mem o r.taken
+above_from r o from =
+    ⊎_elim
+    (λ (b : mem o r.taken ≡ true). mem-filter (λ n. leb (reach r) n) o r.taken (le-leb _ _ from) b ∙ sym b)
+    (λ (b : mem o r.taken ≡ false).
+    false_from_ne_true _ (λ (m : mem o (sack_of r).above ≡ true). true≢false (sym (mem_from_filter _ o r.taken m) ∙ b)) ∙ sym b)
+    (cases_Bool (mem o r.taken))
+
+-- the offset that a gap ack block counts as o from the point
+on_from : (n o : ℕ) → 0 < o → n ≤ n + o - 1
+on_from n o some = omega arith
+
+-- what says what came to the association says what the SACK that is made has
+made_says : (a : Parts) (w : Direction) (c : ChunkSelectiveAck) → FitsIncoming a w
+    → SaysWhatCame a.history.peer a.history.reach a.history.taken c
+    → SaysWhatCame a.history.peer (reach w.receiver) (sack_of w.receiver).above c
+made_says a w c fits says =
+    let at : SaysWhatCame a.history.peer (reach w.receiver) a.history.taken c =
+    subst (λ (n : ℕ). SaysWhatCame a.history.peer n a.history.taken c) fits.at says in
+    let is : SaysWhatCame a.history.peer (reach w.receiver) w.receiver.taken c =
+    subst (λ (os : List ℕ). SaysWhatCame a.history.peer (reach w.receiver) os c) fits.taken at in
+    record {
+      at = is.at;
+      set = λ o some small. is.set o some small
+          ∙ sym (above_from w.receiver (reach w.receiver + o - 1) (on_from (reach w.receiver) o some));
+    }
+
+pub reports_say_what_came : ReportsSayWhatCame
+reports_say_what_came a w fits =
+    (reported_fits a w fits, λ c says. (length w.sacks, sack_of w.receiver, made_last w, made_says a w c fits says))
 
 -- two reaches of offsets that are known, and that are less than half the range of the TSNs
 same_reach : (own at p l t : ℕ) → t ≡ tsn_before (tsn own p) → t % 2 ^ 32 ≡ tsn_before (tsn own at) → at ≤ l → p ≤ l → l < 2 ^ 31 → p ≡ at

@@ -6,7 +6,7 @@ use Rattle.sctp_directions.proofs.OutgoingAcknowledged.{acknowledged}
 use Rattle.sctp_directions.proofs.OutgoingAgain.{marked}
 use Rattle.sctp_directions.proofs.OutgoingSent.{sent}
 use Rattle.sctp_directions.proofs.OutgoingWrote.{wrote}
-pub use Rattle.sctp_directions.proofs.ByActs.{acts_keep_the_initial_tsns, opened_streams_are_alike, own_acts_leave_what_comes, pieces_given, ready_messages_are_alike, reports_name_the_point, sacks_mean_the_same, what_comes_leaves_its_own, what_is_released_is_not_buffered}
+pub use Rattle.sctp_directions.proofs.ByActs.{acts_keep_the_initial_tsns, opened_streams_are_alike, own_acts_leave_what_comes, pieces_given, ready_messages_are_alike, reports_say_what_came, sacks_mean_the_same, what_comes_leaves_its_own, what_is_released_is_not_buffered}
 pub use Rattle.sctp_directions.proofs.ByEvents.{closed_receivers_are_not_open, events_keep_the_limits, fresh_directions_are_plain, only_beginnings_assign, only_reads_give_messages, only_what_is_brought_is_taken_in, only_writes_accept, plain_events_keep_it_plain, receivers_events_are_received, senders_events_are_sent, senders_events_keep_the_invariant, senders_events_leave_what_comes, writes_are_accepted_last}
 pub use Rattle.sctp_directions.proofs.Counted.{accepted_messages_are_counted, few_messages_stay_within, nothing_is_accepted_at_first}
 pub use Rattle.sctp_directions.proofs.Pieces.{pieces_are_counted, short_messages_are_one_piece}

@@ -2,6 +2,7 @@
 use Rattle.std.specs.Prelude.{◌≡◌, ◌⊎◌, ℕ, ◌+◌, ◌*◌, ◌<◌, ◌≤◌, ◌%◌, ◌^◌, true, false, List, [], ◌∷◌, ◌++◌, if◌then◌else◌, length, slice_get, map, ◌==◌, Some, None, Ok, ⊤}
 use Rattle.std.specs.List.{AllByRecursion}
 use Rattle.sctp_wire_types.specs.declared.chunk.ChunkPayloadData.{ChunkPayloadData}
+use Rattle.sctp_wire_types.specs.declared.chunk.ChunkSelectiveAck.{ChunkSelectiveAck}
 use Rattle.sctp_wire_types.specs.declared.ids.PayloadProtocolIdentifier.{PayloadProtocolIdentifier}
 use Rattle.sctp_receive_queues.specs.Reassembly.{ready}
 use Rattle.sctp_streams.specs.Stream.{StreamView}
@@ -16,6 +17,7 @@ use Rattle.sctp_model.specs.Invariants.{Invariant}
 use Rattle.sctp_model.specs.Safe.{IsWithin, letter_read}
 use Rattle.sctp_assoc.specs.Acts.{Act, Can, History, Parts, data_given, done, done_all, parts, tsn_before}
 use Rattle.sctp_assoc.specs.Calls.{buffered_of, ready_messages}
+use Rattle.sctp_assoc.specs.Reports.{SaysWhatCame}
 use Rattle.sctp_assoc.specs.Shown.{Shown}
 use Rattle.sctp_directions.specs.Counted.{HasAccepted, all_pieces, pieces_in}
 use Rattle.sctp_directions.specs.Events.{Accepts, Assigns, Brings, GivesAMessage, IsAtReceiver, IsAtSender, IsPlainEvent, IsReceived, IsSentOn, KeepsWithin}
@@ -126,10 +128,13 @@ MeetingsAreNoEvents = (a : Parts) (t : ℕ) (out coming : Direction) → coming.
 abbrev pub MarksAreNoEvents : Type 0
 MarksAreNoEvents = (a : Parts) (w : Direction) → FitsOutgoing a w → FitsOutgoing (done Act.Marked a) w
 
--- A report is a SACK of the receiver, which names the TSN before that of the reach.
-abbrev pub ReportsNameThePoint : Type 0
-ReportsNameThePoint = (a : Parts) (w : Direction) → FitsIncoming a w
-    → FitsIncoming a (happens w Event.SackMade) × IsMade a.history.peer (happens w Event.SackMade) (tsn_before (tsn a.history.peer a.history.reach))
+-- A report makes a SACK, and any chunk that says what came to the association is that one: its point and its set are the
+-- receiver's.
+abbrev pub ReportsSayWhatCame : Type 0
+ReportsSayWhatCame = (a : Parts) (w : Direction) → FitsIncoming a w
+    → FitsIncoming a (happens w Event.SackMade)
+    × ((c : ChunkSelectiveAck) → SaysWhatCame a.history.peer a.history.reach a.history.taken c
+    → IsMade a.history.peer (happens w Event.SackMade) c)
 
 -- A SACK that was made, and that acknowledges so many pieces at the association, acknowledges so many offsets.
 abbrev pub SacksMeanTheSame : Type 0

@@ -3,11 +3,12 @@ use Rattle.std.specs.Prelude.{◌≡◌, ℕ, not, slice_get, Some}
 use Rattle.sctp_wire_types.specs.declared.chunk.Chunk.{Chunk}
 use Rattle.sctp_wire_types.specs.declared.chunk.Chunk.TheVariants as chunks
 use Rattle.sctp_wire_types.specs.declared.chunk.ChunkPayloadData.{ChunkPayloadData}
+use Rattle.sctp_wire_types.specs.declared.chunk.ChunkSelectiveAck.{ChunkSelectiveAck}
 use Rattle.sctp_wire_types.specs.Ids.{number_of}
 use Rattle.sctp_model.specs.Packets.{Data, Sack}
 use Rattle.sctp_model.specs.Serial.{tsn}
 use Rattle.sctp_model.specs.Machine.{Direction}
-use Rattle.sctp_assoc.specs.Acts.{tsn_before}
+use Rattle.sctp_assoc.specs.Reports.{SaysWhatCame}
 
 -- A DATA chunk is this DATA of a direction with this initial TSN.
 pub record IsSaid (initial : ℕ) (c : ChunkPayloadData) (d : Data) : Type 0 where
@@ -24,13 +25,14 @@ pub record IsSaid (initial : ℕ) (c : ChunkPayloadData) (d : Data) : Type 0 whe
 abbrev pub IsGiven : ℕ → Direction → ChunkPayloadData → Type 0
 IsGiven initial w c = (k : ℕ) × (d : Data) × (slice_get w.datas k ≡ Some d) × IsSaid initial c d
 
--- a SACK with this cumulative TSN ack is one that the direction's receiver ever made
-abbrev pub IsMade : ℕ → Direction → ℕ → Type 0
-IsMade initial w t = (k : ℕ) × (x : Sack) × (slice_get w.sacks k ≡ Some x) × (t ≡ tsn_before (tsn initial x.reach))
+-- A SACK is one that the direction's receiver ever made: it names that one's reach, and its gap ack blocks name what that
+-- one has above it.
+abbrev pub IsMade : ℕ → Direction → ChunkSelectiveAck → Type 0
+IsMade initial w c = (k : ℕ) × (x : Sack) × (slice_get w.sacks k ≡ Some x) × SaysWhatCame initial x.reach x.above c
 
 -- a chunk that a side gives out: DATA of its own direction, or a SACK for the one that comes to it; own and peer are their
 -- initial TSNs
 abbrev pub Says : ℕ → ℕ → Direction → Direction → Chunk → Type 0
 Says own peer out coming (chunks.Data c) = IsGiven own out c
-Says own peer out coming (chunks.SelectiveAck k) = IsMade peer coming k.cumulative_tsn_ack
+Says own peer out coming (chunks.SelectiveAck c) = IsMade peer coming c
 Says own peer out coming chunk = ⊥

@@ -2,7 +2,7 @@
 //! runs here; each empty function carries a law that is proved.
 #![tactic(auto)]
 
-ghost use Rattle.sctp_directions.specs.Laws.{AcceptedMessagesAreCounted, AcknowledgementsAreAlike, ActsKeepTheInitialTsns, ClosedReceiversAreNotOpen, EventsKeepTheLimits, FewMessagesStayWithin, FreshDirectionsArePlain, MarksAreNoEvents, MeetingsAreNoEvents, NothingIsAcceptedAtFirst, OnlyBeginningsAssign, OnlyReadsGiveMessages, OnlyWhatIsBroughtIsTakenIn, OnlyWritesAccept, OpenedStreamsAreAlike, OwnActsLeaveWhatComes, PiecesAreCounted, PiecesAreGiven, PlainEventsKeepItPlain, ReadsAreAlike, ReadyMessagesAreAlike, ReceiversEventsAreReceived, ReportsNameThePoint, SacksMeanTheSame, SendersEventsAreSent, SendersEventsKeepTheInvariant, SendersEventsLeaveWhatComes, SentPiecesBegin, ShortMessagesAreOnePiece, TheSameIsReady, WhatComesLeavesItsOwn, WhatIsReleasedIsNotBuffered, WhatIsTakenInComes, WritesAreAccepted, WritesAreAcceptedLast};
+ghost use Rattle.sctp_directions.specs.Laws.{AcceptedMessagesAreCounted, AcknowledgementsAreAlike, ActsKeepTheInitialTsns, ClosedReceiversAreNotOpen, EventsKeepTheLimits, FewMessagesStayWithin, FreshDirectionsArePlain, MarksAreNoEvents, MeetingsAreNoEvents, NothingIsAcceptedAtFirst, OnlyBeginningsAssign, OnlyReadsGiveMessages, OnlyWhatIsBroughtIsTakenIn, OnlyWritesAccept, OpenedStreamsAreAlike, OwnActsLeaveWhatComes, PiecesAreCounted, PiecesAreGiven, PlainEventsKeepItPlain, ReadsAreAlike, ReadyMessagesAreAlike, ReceiversEventsAreReceived, ReportsSayWhatCame, SacksMeanTheSame, SendersEventsAreSent, SendersEventsKeepTheInvariant, SendersEventsLeaveWhatComes, SentPiecesBegin, ShortMessagesAreOnePiece, TheSameIsReady, WhatComesLeavesItsOwn, WhatIsReleasedIsNotBuffered, WhatIsTakenInComes, WritesAreAccepted, WritesAreAcceptedLast};
 
 /// What an association writes, sends for the first time or again, marks and finds acknowledged happens at the sender of its
 /// direction, and leaves the one that comes to it.
@@ -22,7 +22,7 @@ pub fn its_own_acts_are_events()
 pub fn what_comes_to_it_are_events()
     ensures opened { OpenedStreamsAreAlike }
     ensures taken { WhatIsTakenInComes }
-    ensures reports { ReportsNameThePoint }
+    ensures reports { ReportsSayWhatCame }
     ensures reads { ReadsAreAlike }
     ensures ready { TheSameIsReady }
     ensures messages { ReadyMessagesAreAlike }

@@ -132,14 +132,17 @@ abbrev Goes_out : ℕ → ℕ → Shown → History → Shown → Direction → 
 Goes_out own peer a h y out coming acts =
     (after : AfterOut own peer (done_all acts (parts a h)) y out coming []) × IsWithin after.out2 × (after.out2.sender.plan.places ≡ out.sender.plan.places)
 
-sack_shape : (own peer t : ℕ) (a : Shown) (h : History) (y : Shown) (out coming : Direction) (acts : List Act) → (acts ≡ []) ⊎ Acknowledges a h t acts
-    → IsMade own out t → IsWithin out → Holds own peer (parts a h) y out coming → Goes_out own peer a h y out coming acts
-sack_shape own peer t a h y out coming acts (inl n) made within holds =
+sack_shape : (own peer : ℕ) (c : ChunkSelectiveAck) (a : Shown) (h : History) (y : Shown) (out coming : Direction)
+    (acts : List Act) → (acts ≡ []) ⊎ Acknowledges a h c.cumulative_tsn_ack acts → IsMade own out c → IsWithin out
+    → Holds own peer (parts a h) y out coming → Goes_out own peer a h y out coming acts
+sack_shape own peer c a h y out coming acts (inl n) made within holds =
     subst (Goes_out own peer a h y out coming) (sym n) (record { out2 = out; goes = goes_nowhere None_brought out; holds = holds; said = tt }, within, refl)
-sack_shape own peer t a h y out coming acts (inr s) (k, x, e, is) within holds =
-    let named : t ≡ tsn_before (tsn h.own x.reach) = is ∙ ap (λ i. tsn_before (tsn i x.reach)) (sym holds.own_is) in
+sack_shape own peer c a h y out coming acts (inr s) (k, x, e, says) within holds =
+    let named : c.cumulative_tsn_ack ≡ tsn_before (tsn h.own x.reach) =
+    says.at ∙ ap (λ i. tsn_before (tsn i x.reach)) (sym holds.own_is) in
     let at : x.reach ≡ out.sender.reach + s.count =
-    sacks_mean_the_same (parts a h) s.count t k x out e named s.at s.within within holds.sound_out.invariant holds.sound_out.plain holds.between.outgoing in
+    sacks_mean_the_same (parts a h) s.count c.cumulative_tsn_ack k x out e named s.at s.within within
+    holds.sound_out.invariant holds.sound_out.plain holds.between.outgoing in
     let one = act_acknowledged own peer s.count k x (parts a h) y out coming holds e at s.within in
     subst (Goes_out own peer a h y out coming) (sym s.are) (one.0, one.1 within, one.2)
 
@@ -148,14 +151,15 @@ sack_meets_nobody a h t acts (inl n) = subst (AllByRecursion MeetsNobody) (sym n
 sack_meets_nobody a h t acts (inr s) = subst (AllByRecursion MeetsNobody) (sym s.are) (tt, tt)
 
 sack_step : {here there : Stage} (own peer : ℕ) (y : Shown) (out coming : Direction) (B : ℕ → Type 0) (header : CommonHeader) (s : ChunkSelectiveAck) (a b : Shown)
-    → TakesChunk header (chunks.SelectiveAck s) a b → IsMade own out s.cumulative_tsn_ack → Underway own peer here there y out coming B a
+    → TakesChunk header (chunks.SelectiveAck s) a b → IsMade own out s → Underway own peer here there y out coming B a
     → Underway own peer here there y out coming B b
 unfolding stands_by
-sack_step own peer y out coming B header s a b takes (k, x, e, is) u =
+sack_step own peer y out coming B header s a b takes (k, x, e, says) u =
     let acts : List Act = acts_of_chunk a header (chunks.SelectiveAck s) in
     let shape = sacks_acknowledge a u.stands.past header s u.stands.binds in
     let leads = takes.leads u.stands.past u.stands.binds in
-    let both = sack_shape own peer s.cumulative_tsn_ack a u.stands.past y u.out2 u.coming2 acts shape (k, x, u.goes_out.sacks k x e, is) u.within_out u.holds in
+    let both = sack_shape own peer s a u.stands.past y u.out2 u.coming2 acts shape
+    (k, x, u.goes_out.sacks k x e, says) u.within_out u.holds in
     let after = both.0 in
     let holds : Holds own peer (parts b leads.0) y after.out2 u.coming2 =
     subst (λ p. Holds own peer p y after.out2 u.coming2) (sym leads.1.there) after.holds in
@@ -189,7 +193,7 @@ SaidIn own peer there out coming packet c = IsSaidBy peer own there coming out c
 -- it is DATA, a SACK or the handshake's
 said_cases : {there : Stage} (own peer : ℕ) (out coming : Direction) (packet : Option Packet) (P : Chunk → Type 0)
     → ((piece : ChunkPayloadData) → IsGiven peer coming piece → HasData packet piece.tsn → P (chunks.Data piece))
-    → ((s : ChunkSelectiveAck) → IsMade own out s.cumulative_tsn_ack → P (chunks.SelectiveAck s)) → ((c : Chunk) → Greets peer there c → P c)
+    → ((s : ChunkSelectiveAck) → IsMade own out s → P (chunks.SelectiveAck s)) → ((c : Chunk) → Greets peer there c → P c)
     → (c : Chunk) → SaidIn own peer there out coming packet c → P c
 said_cases own peer out coming packet P gives acks greets c (inr said, here) = greets c said
 said_cases own peer out coming packet P gives acks greets (chunks.Data piece) (inl said, here) = gives piece said here

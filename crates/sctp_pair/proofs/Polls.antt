@@ -6,11 +6,10 @@ use Rattle.std.proofs.lemmas.List.{append-nil, take-append-drop}
 use Rattle.sctp_wire_types.specs.declared.chunk.Chunk.{Chunk}
 use Rattle.sctp_wire_types.specs.declared.chunk.Chunk.TheVariants as chunks
 use Rattle.sctp_wire.specs.declared.packet.Packet.{Packet}
-use Rattle.sctp_model.specs.Serial.{tsn}
 use Rattle.sctp_model.specs.Machine.{Direction}
 use Rattle.sctp_model.specs.Safe.{IsWithin}
 use Rattle.sctp_model.proofs.Lists.{all_front, all_get, all_weaker}
-use Rattle.sctp_assoc.specs.Acts.{Act, CanAll, History, Parts, all_data_given, done_all, parts, tsn_before}
+use Rattle.sctp_assoc.specs.Acts.{Act, CanAll, History, Parts, all_data_given, done_all, parts}
 use Rattle.sctp_assoc.specs.Calls.{is_established}
 use Rattle.sctp_assoc.specs.Happened.{Polls, PollsOn, acts_of_poll}
 use Rattle.sctp_assoc.specs.declared.control.ControlPacket.{ControlPacket}
@@ -19,7 +18,7 @@ use Rattle.sctp_assoc.specs.Polled.{AreControlReadAgain, control_packets, has_so
 use Rattle.sctp_assoc.specs.Shapes.{IsExchanged, IsGivenBy, IsPolling, IsSameStatus, IsWaitingToGo, OfEachChunk, reports}
 use Rattle.sctp_assoc.specs.Shown.{Shown}
 use Rattle.sctp_assoc.proofs.Proved.{done_append, established_sides_talk, given_append, polls_give_and_report, polls_keep_the_status, polls_outside_established_give_what_waits, polls_say_their_acts, what_waits_goes_out_as_it_is}
-use Rattle.sctp_directions.specs.Said.{IsGiven, IsMade, Says}
+use Rattle.sctp_directions.specs.Said.{IsGiven, Says}
 use Rattle.sctp_pair.specs.declared.step.Reply.{Reply}
 use Rattle.sctp_pair.specs.declared.step.Reply.TheVariants as replies
 use Rattle.sctp_pair.specs.Fits.{AreSaid, IsSaidBy, Stands, StandsClosed, StandsFailed, StandsOpen}
@@ -28,7 +27,7 @@ use Rattle.sctp_pair.proofs.Between.{Faces, Holds, None_brought, Settles, does_b
 use Rattle.sctp_pair.proofs.Giving.{all_given}
 use Rattle.sctp_pair.proofs.SimpleCalls.{closed_on, fails_settle, same_settles, still}
 use Rattle.sctp_pair.proofs.Stages.{at_same, come_on, stays_put}
-use Rattle.sctp_pair.proofs.Taking.{AfterComing, act_reported, coming_nowhere}
+use Rattle.sctp_pair.proofs.Taking.{AfterComing, ReportsSaid, act_reported, coming_nowhere}
 
 can_front : (xs ys : List Act) (p : Parts) → CanAll (xs ++ ys) p → CanAll xs p
 can_front [] ys p c = tt
@@ -37,9 +36,9 @@ can_front (x ∷ xs) ys p (c, cs) = (c, can_front xs ys _ cs)
 -- What a poll with these acts gives is what its directions have.
 
 exchanged_said : (own peer : ℕ) (acts : List Act) (a : Shown) (h : History) (out coming : Direction) → AllByRecursion (IsGiven own out) (all_data_given acts (parts a h))
-    → (reports a ≡ true → IsMade peer coming (tsn_before (tsn h.peer h.reach))) → (c : Chunk) → IsExchanged acts a h c → Says own peer out coming c
+    → (reports a ≡ true → ReportsSaid peer h coming) → (c : Chunk) → IsExchanged acts a h c → Says own peer out coming c
 exchanged_said own peer acts a h out coming given made (chunks.Data piece) (k, e) = all_get (IsGiven own out) (all_data_given acts (parts a h)) k piece e given
-exchanged_said own peer acts a h out coming given made (chunks.SelectiveAck sack) (due, says) = subst (IsMade peer coming) (sym says.at) (made due)
+exchanged_said own peer acts a h out coming given made (chunks.SelectiveAck sack) (due, says) = made due sack says
 exchanged_said own peer acts a h out coming given made (chunks.Init x) n = absurd n
 exchanged_said own peer acts a h out coming given made (chunks.InitAck x) n = absurd n
 exchanged_said own peer acts a h out coming given made (chunks.Heartbeat x) n = absurd n
@@ -63,7 +62,7 @@ waiting_said own peer a s out coming at t c (k, w, e, is) =
     (all_get (λ (x : ControlPacket). Greets own (stage_of a) x.chunk) a.control k w e t.says)))
 
 chunk_said : (own peer : ℕ) (acts : List Act) (a : Shown) (h : History) (s : Stage) (out coming : Direction) → stage_of a ≡ s → IsTruthful own a
-    → AllByRecursion (IsGiven own out) (all_data_given acts (parts a h)) → (reports a ≡ true → IsMade peer coming (tsn_before (tsn h.peer h.reach)))
+    → AllByRecursion (IsGiven own out) (all_data_given acts (parts a h)) → (reports a ≡ true → ReportsSaid peer h coming)
     → (c : Chunk) → IsGivenBy acts a h c → IsSaidBy own peer s out coming c
 chunk_said own peer acts a h s out coming at t given made c (inl w) = waiting_said own peer a s out coming at t c w
 chunk_said own peer acts a h s out coming at t given made c (inr e) = inl (exchanged_said own peer acts a h out coming given made c e)
@@ -76,7 +75,7 @@ each_chunk Is Says (Some packet) f said = all_weaker Is Says packet.chunks f sai
 -- The report of a poll.
 
 report_if : (due : Bool) (own peer : ℕ) (p : Parts) (y : Shown) (out coming : Direction) → p.history.peer ≡ peer → IsWithin coming → Holds own peer p y out coming
-    → (after : AfterComing own peer p y out coming None_brought) × (due ≡ true → IsMade peer after.coming2 (tsn_before (tsn peer p.history.reach)))
+    → (after : AfterComing own peer p y out coming None_brought) × (due ≡ true → ReportsSaid peer p.history after.coming2)
 report_if false own peer p y out coming known within h = (coming_nowhere own peer p y out coming None_brought within h, λ due. absurd (false≢true due))
 report_if true own peer p y out coming known within h =
     let report = act_reported own peer p y out coming None_brought h known within in (report.after, λ due. report.said)
@@ -115,8 +114,6 @@ open_polls {here} own peer acts a b y packets out coming f s established again s
     let there : parts b h ≡ done_all ds p =
     poll.leads.there ∙ ap (λ zs. done_all zs p) polling.are ∙ done_append ds ks p ∙ report_does_nothing (reports a) (done_all ds p) in
     let past_is : h ≡ (done_all ds p).history = ap (λ (z : Parts). z.history) there in
-    let at : tsn_before (tsn peer (done_all ds p).history.reach) ≡ tsn_before (tsn h.peer h.reach) =
-    ap (λ (z : History). tsn_before (tsn peer z.reach)) (sym past_is) ∙ ap (λ n. tsn_before (tsn n h.reach)) (sym known) in
     let report = report_if (reports a) own peer (done_all ds p) y given.out2 coming (ap (λ (z : History). z.peer) (sym past_is) ∙ known) f.within_coming given.holds in
     let holds : Holds own peer (parts b h) y given.out2 report.0.coming2 = subst (λ z. Holds own peer z y given.out2 report.0.coming2) (sym there) report.0.holds in
     let data_is : all_data_given acts p ≡ all_data_given ds p =
@@ -155,7 +152,8 @@ open_polls {here} own peer acts a b y packets out coming f s established again s
           (λ (bytes : List ℕ). OfEachChunk (IsSaidBy own peer here given.out2 report.0.coming2) (packet_in bytes)) packets
           (λ bytes all. each_chunk (IsGivenBy acts a h) (IsSaidBy own peer here given.out2 report.0.coming2) (packet_in bytes)
           (chunk_said own peer acts a h here given.out2 report.0.coming2 (f.at s.working) s.truthful
-          (subst (λ z. AllByRecursion (IsGiven own given.out2) z) (sym data_is) given.said) (λ due. subst (IsMade peer report.0.coming2) at (report.1 due))) all)
+          (subst (λ z. AllByRecursion (IsGiven own given.out2) z) (sym data_is) given.said)
+          (λ due. subst (λ (z : History). ReportsSaid peer z report.0.coming2) (sym past_is) (report.1 due))) all)
           (polls_say_their_acts acts a b h packets s.truthful.plain again established s.binds poll);
     }
 

@@ -2,22 +2,23 @@
 use Rattle.std.proofs.Common.{◌≡◌, refl, sym, ap, ◌∙◌, subst, ℕ, [], ◌∷◌, Some, None}
 use Rattle.std.specs.Prelude.{slice_get}
 use Rattle.sctp_wire_types.specs.declared.chunk.ChunkPayloadData.{ChunkPayloadData}
+use Rattle.sctp_wire_types.specs.declared.chunk.ChunkSelectiveAck.{ChunkSelectiveAck}
 use Rattle.sctp_wire_types.specs.declared.ids.PayloadProtocolIdentifier.{PayloadProtocolIdentifier}
 use Rattle.sctp_model.specs.Packets.{Data}
-use Rattle.sctp_model.specs.Serial.{tsn}
 use Rattle.sctp_model.specs.Machine.{Direction, Event, happens}
 use Rattle.sctp_model.specs.Safe.{IsWithin}
 use Rattle.sctp_model.proofs.Proved.{each_event_keeps_the_invariant}
 use Rattle.sctp_streams.specs.Stream.{StreamView}
 use Rattle.sctp_streams.specs.Streams.{stream_at}
-use Rattle.sctp_assoc.specs.Acts.{Act, Can, Parts, done, tsn_before}
+use Rattle.sctp_assoc.specs.Acts.{Act, Can, History, Parts, done}
+use Rattle.sctp_assoc.specs.Reports.{SaysWhatCame}
 use Rattle.sctp_assoc.specs.Shown.{Shown}
 use Rattle.sctp_directions.specs.Events.{Brings, GivesAMessage, IsAtReceiver, IsPlainEvent, KeepsWithin}
 use Rattle.sctp_directions.specs.Incoming.{FitsIncoming}
 use Rattle.sctp_directions.specs.Outgoing.{FitsOutgoing}
 use Rattle.sctp_directions.specs.Said.{IsMade, IsSaid}
 use Rattle.sctp_directions.specs.Laws.{MeetsNobody}
-use Rattle.sctp_directions.proofs.Proved.{acts_keep_the_initial_tsns, events_keep_the_limits, opened_streams_are_alike, plain_events_keep_it_plain, receivers_events_are_received, reports_name_the_point, what_comes_leaves_its_own, what_is_taken_in_comes}
+use Rattle.sctp_directions.proofs.Proved.{acts_keep_the_initial_tsns, events_keep_the_limits, opened_streams_are_alike, plain_events_keep_it_plain, receivers_events_are_received, reports_say_what_came, what_comes_leaves_its_own, what_is_taken_in_comes}
 use Rattle.sctp_pair.proofs.Between.{Goes, Holds, goes_by_receiver, goes_nowhere, other_by_coming}
 
 -- What was done at the receiver of the direction that comes.
@@ -74,17 +75,21 @@ act_took own peer k piece d t p y out coming B h known within can e said live br
         let same : c ≡ d = (let g : Some c ≡ Some d = sym found ∙ e in cc) in
         subst B (sym (at ∙ ap (λ (z : Data). z.offset) same)) brought
 
--- a SACK is made, whose reach is that of what came
+-- what says what came is a SACK that was made
+abbrev pub ReportsSaid : ℕ → History → Direction → Type 0
+ReportsSaid peer h coming = (c : ChunkSelectiveAck) → SaysWhatCame h.peer h.reach h.taken c → IsMade peer coming c
+
+-- a SACK is made, which is any that says what came
 pub record AfterReport (own peer : ℕ) (p : Parts) (y : Shown) (out coming : Direction) (B : ℕ → Type 0) : Type 0 where
   pub after : AfterComing own peer p y out coming B
-  pub said : IsMade peer after.coming2 (tsn_before (tsn peer p.history.reach))
+  pub said : ReportsSaid peer p.history after.coming2
 
 pub act_reported : (own peer : ℕ) (p : Parts) (y : Shown) (out coming : Direction) (B : ℕ → Type 0) → Holds own peer p y out coming → p.history.peer ≡ peer → IsWithin coming
     → AfterReport own peer p y out coming B
 unfolding act_at_receiver
 act_reported own peer p y out coming B h known within =
-    let report = reports_name_the_point p coming h.between.incoming in
+    let report = reports_say_what_came p coming h.between.incoming in
     record {
       after = act_at_receiver own peer Act.Reported Event.SackMade p y out coming B h tt within tt (λ n. n) tt tt (λ o n. absurd n) h.between.outgoing report.0;
-      said = subst (λ (i : ℕ). IsMade i (happens coming Event.SackMade) (tsn_before (tsn i p.history.reach))) known report.1;
+      said = λ c says. subst (λ (i : ℕ). IsMade i (happens coming Event.SackMade) c) known (report.1 c says);
     }

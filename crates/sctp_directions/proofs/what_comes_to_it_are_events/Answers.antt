@@ -1,4 +1,4 @@
-use Rattle.sctp_directions.proofs.Proved.{acts_keep_the_initial_tsns, meetings_are_no_events, opened_streams_are_alike, reads_are_alike, ready_messages_are_alike, reports_name_the_point, the_same_is_ready, what_comes_leaves_its_own, what_is_taken_in_comes}
+use Rattle.sctp_directions.proofs.Proved.{acts_keep_the_initial_tsns, meetings_are_no_events, opened_streams_are_alike, reads_are_alike, ready_messages_are_alike, reports_say_what_came, the_same_is_ready, what_comes_leaves_its_own, what_is_taken_in_comes}
 use Rattle.sctp_directions.proofs.what_comes_to_it_are_events.Goals as goal
 
 pub returns-clause-opened : goal.returns-clause-opened
@@ -8,7 +8,7 @@ pub returns-clause-taken : goal.returns-clause-taken
 returns-clause-taken c = what_is_taken_in_comes
 
 pub returns-clause-reports : goal.returns-clause-reports
-returns-clause-reports c = reports_name_the_point
+returns-clause-reports c = reports_say_what_came
 
 pub returns-clause-reads : goal.returns-clause-reads
 returns-clause-reads c = reads_are_alike
