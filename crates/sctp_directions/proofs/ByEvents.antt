@@ -9,11 +9,11 @@ use Rattle.sctp_model.specs.Machine as machine
 use Rattle.sctp_model.specs.Machine.{Direction, Event, Sender, acknowledged_by, begin, begin_if, can_begin, can_resend, counted, first_place, fresh, happens, is_empty, number_for, put, sack_comes, written}
 use Rattle.sctp_model.specs.Invariants.{Invariant}
 use Rattle.sctp_model.proofs.Growth.{at_put, off_put}
+use Rattle.sctp_model.proofs.Steps.{begin_event_keeps, resend_event_keeps, sack_event_keeps, write_event_keeps}
 use Rattle.sctp_directions.specs.Events.{Accepts, Assigns, Brings, GivesAMessage, IsAtReceiver, IsAtSender, IsReceived, IsSentOn}
 use Rattle.sctp_directions.specs.Laws.{ClosedReceiversAreNotOpen, EventsKeepTheLimits, FreshDirectionsArePlain, OnlyBeginningsAssign, OnlyReadsGiveMessages, OnlyWhatIsBroughtIsTakenIn, OnlyWritesAccept, PlainEventsKeepItPlain, ReceiversEventsAreReceived, SendersEventsAreSent, SendersEventsKeepTheInvariant, SendersEventsLeaveWhatComes, WritesAreAcceptedLast}
 use Rattle.sctp_directions.specs.Incoming.{FitsIncoming}
 use Rattle.sctp_directions.proofs.IncomingKept.{begin_fits, resend_fits, sack_comes_fits, write_fits}
-use Rattle.sctp_directions.proofs.Invariants.{invariant_begin, invariant_resend, invariant_sack, invariant_write}
 use Rattle.sctp_directions.proofs.PlainReceiver.{close_received, close_takes, closed, data_cases, data_received, data_takes, open_received, open_takes, plain_close, plain_data, plain_open, plain_read, plain_sack, read_received, read_takes, sack_received, sack_takes, within_close, within_data, within_open, within_sack, within_sack_comes}
 use Rattle.sctp_directions.proofs.PlainSender.{happens_write, plain_begin, plain_resend, plain_sack_comes, plain_write}
 use Rattle.sctp_directions.proofs.SenderEvents.{sent_begin, sent_resend, sent_sack_comes, sent_write}
@@ -217,8 +217,8 @@ closed_receivers_are_not_open = closed
 
 pub senders_events_keep_the_invariant : SendersEventsKeepTheInvariant
 senders_events_keep_the_invariant w e at h =
-    by_sender (λ (x : Event). Invariant (happens w x)) (λ s m. invariant_write w s m h) (λ s i any. invariant_begin w s i any h) (λ o. invariant_resend w o h)
-    (λ k. invariant_sack w k h) e at
+    by_sender (λ (x : Event). Invariant (happens w x)) (λ s m. write_event_keeps w s m h) (λ s i any. begin_event_keeps w s i any h) (λ o. resend_event_keeps w o h)
+    (λ k. sack_event_keeps w k h) e at
 
 pub senders_events_leave_what_comes : SendersEventsLeaveWhatComes
 senders_events_leave_what_comes a w e at inv plain fits =

@@ -2,7 +2,7 @@
 use Rattle.std.proofs.Common.{ℕ, ◌+◌, ◌<◌, ◌≡◌, Bool, true, false, not, cond, eqb, ltb, ◌&&◌, List, [], ◌∷◌, Option, Some, None, refl, sym, ap, ◌∙◌, inl, arith}
 use Rattle.std.specs.Prelude.{slice_get}
 use Rattle.std.proofs.lemmas.Bool.{and_parts, ltb-true, ltb-false, true≢false, false≢true, cond-true, cond_both, eqb-true, eq-eqb, and_from, not-true}
-use Rattle.sctp_model.specs.Messages.{Place, is_reliable, message_at}
+use Rattle.sctp_model.specs.Messages.{Message, Place, is_reliable, message_at}
 use Rattle.sctp_model.specs.Packets.{Data, Sack, Forward}
 use Rattle.sctp_model.specs.Reassembly.{Queue, Taken, next}
 use Rattle.sctp_model.specs.Machine.{Direction, Event, put_2, fresh, happens, run, reach, begin, begin_if, number_for, can_begin, go_on, can_abandon, is_of, marked, tail_marked, left, unacknowledged, has_message, sack_comes, data_comes, forward_comes, is_new, took, was_read, read, passes, acknowledged_by}
@@ -90,16 +90,36 @@ read_step w s (Some q) e l h = either w.receiver.is_open (was_read w s (next q))
     go None f = h
     go (Some t) f = keeps_read w s q t e f l h
 
+-- These events keep it whether or not the limits hold.
+
+pub write_event_keeps : (w : Direction) (s : ℕ) (m : Message) → Invariant w → Invariant (happens w (Event.Write s m))
+unfolding happens
+write_event_keeps w s m h = either _ _ _ (λ b. h) (λ b. keeps_write w s m b h)
+
+pub begin_event_keeps : (w : Direction) (s i any : ℕ) → Invariant w → Invariant (happens w (Event.Begin s i any))
+unfolding happens
+begin_event_keeps w s i any h = begin_step w s i any w.sender.current refl h
+
+pub resend_event_keeps : (w : Direction) (o : ℕ) → Invariant w → Invariant (happens w (Event.Resend o))
+unfolding happens
+resend_event_keeps w o h = either _ _ _ (λ b. keeps_resend w o b h) (λ b. h)
+
+pub sack_event_keeps : (w : Direction) (k : ℕ) → Invariant w → Invariant (happens w (Event.SackComes k))
+unfolding happens
+sack_event_keeps w k h = sack_step w k (slice_get w.sacks k) refl h
+
+-- Every event keeps it where the limits hold.
+
 pub happens_keeps : (w : Direction) (e : Event) → IsWithin w → Invariant w → Invariant (happens w e)
 unfolding happens
-happens_keeps w (Event.Write s m) l h = either _ _ _ (λ b. h) (λ b. keeps_write w s m b h)
+happens_keeps w (Event.Write s m) l h = write_event_keeps w s m h
 happens_keeps w (Event.PassOver s) l h = either _ _ _ (λ b. keeps_pass_over w s b h) (λ b. h)
 happens_keeps w (Event.Drop s i) l h = either _ _ _ (λ b. keeps_drop w s i b h) (λ b. h)
-happens_keeps w (Event.Begin s i any) l h = begin_step w s i any w.sender.current refl h
+happens_keeps w (Event.Begin s i any) l h = begin_event_keeps w s i any h
 happens_keeps w Event.GoOn l h = go_on_step w w.sender.current refl h
-happens_keeps w (Event.Resend o) l h = either _ _ _ (λ b. keeps_resend w o b h) (λ b. h)
+happens_keeps w (Event.Resend o) l h = resend_event_keeps w o h
 happens_keeps w (Event.Abandon s i) l h = either _ _ _ (λ b. abandon_step w s i w.sender.current refl b h) (λ b. h)
-happens_keeps w (Event.SackComes k) l h = sack_step w k (slice_get w.sacks k) refl h
+happens_keeps w (Event.SackComes k) l h = sack_event_keeps w k h
 happens_keeps w Event.ForwardMade l h = either _ _ _ (λ b. keeps_forward_made w l (ltb-true _ _ b) h) (λ b. h)
 happens_keeps w (Event.DataComes k) l h = data_step w k (slice_get w.datas k) refl l h
 happens_keeps w Event.SackMade l h = keeps_sack_made w h
