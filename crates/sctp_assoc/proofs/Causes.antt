@@ -1,7 +1,7 @@
 -- A chunk is a fault exactly where it has one of the causes that are named; a packet closes an association only by
 -- such a cause.
 use Rattle.std.proofs.Common.{◌≡◌, ◌≢◌, refl, sym, ap, ◌∙◌, inl, inr, ℕ, ◌<◌, ◌≤◌, ◌+◌, ◌-◌, ◌%◌, ◌^◌, arith, Bool, true, false, eqb, leb, ◌&&◌, if◌then◌else◌, List, length, Option, Some, None, is_some, Result, Ok, Err, is_ok}
-use Rattle.std.proofs.lemmas.Bool.{and_parts, eq-eqb, eqb-true, false≢true, leb-false, leb-true}
+use Rattle.std.proofs.lemmas.Bool.{and_from, and_parts, eq-eqb, eqb-true, false≢true, leb-false, leb-true}
 use Rattle.sctp_wire_types.specs.Checks.{checked_chunk}
 use Rattle.sctp_wire_types.specs.Serial.{tsn_gt, tsn_past}
 use Rattle.sctp_wire_types.specs.declared.chunk.Chunk.{Chunk}
@@ -239,14 +239,11 @@ init_ack_cause a header init trigger now error e =
       no_cookie = l.none;
     }
 
-same_ports : (b c : Bool) → b ≡ true → c ≡ true → (b && c) ≡ true
-same_ports b c e f = rw (e, f) refl
-
 cause_init_ack : (a : Shown) (header : CommonHeader) (init : ChunkInit) (trigger : AckTrigger) (now : ℕ)
     → BringsNoCookie a header init → IsFault (on_init_ack a header init trigger now)
 cause_init_ack a header init trigger now c =
     let back : comes_back a.handshake header ≡ true =
-    same_ports (eqb header.destination_port a.handshake.source_port) (eqb header.source_port a.handshake.destination_port)
+    and_from (eqb header.destination_port a.handshake.source_port) (eqb header.source_port a.handshake.destination_port)
     (eq-eqb header.destination_port a.handshake.source_port c.destination) (eq-eqb header.source_port a.handshake.destination_port c.source) in (
       errors.ErrInitAckNoCookie,
       fault_from (on_init_ack a header init trigger now).1 errors.ErrInitAckNoCookie

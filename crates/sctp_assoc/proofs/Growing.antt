@@ -24,11 +24,6 @@ use Rattle.sctp_assoc.specs.Memory.{chunk_takes_memory, chunks_take_memory, data
 use Rattle.sctp_assoc.specs.Polled.{data_polled, exchange_gives, is_due, with_sent_data}
 use Rattle.sctp_assoc.specs.Shown.{Shown}
 
--- what holds anyway holds where a call fails
-pub on_err : {T E P : Type 0} → (r : Result T E) → P → OnErr r P
-on_err (Ok value) h = tt
-on_err (Err error) h = h
-
 -- DATA
 
 abbrev is_for_memory : Option Error → Bool

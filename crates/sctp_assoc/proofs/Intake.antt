@@ -4,7 +4,7 @@ use Rattle.std.specs.Prelude.{slice_get}
 use Rattle.std.specs.BTreeMap.{is_at, insert_entry}
 use Rattle.std.specs.Map.{lookup}
 use Rattle.std.specs.Ordering.{match_ordering}
-use Rattle.std.proofs.lemmas.Bool.{and_parts, cond-true, eq-eqb, eqb-true, false≢true, lt-ltb, ltb-true, or_cases, or_left, or_right, true≢false}
+use Rattle.std.proofs.lemmas.Bool.{and_from, and_parts, cond-true, eq-eqb, eqb-true, false≢true, lt-ltb, ltb-true, or_cases, or_left, or_right, true≢false}
 use Rattle.sctp_wire_types.specs.declared.chunk.Chunk.TheVariants as chunks
 use Rattle.sctp_wire_types.specs.declared.chunk.ChunkPayloadData.{ChunkPayloadData}
 use Rattle.sctp_wire_types.specs.declared.chunk.ChunkInit.{ChunkInit}
@@ -26,6 +26,7 @@ use Rattle.sctp_assoc.specs.Happened.{acts_of_chunk, acts_of_data, acts_of_found
 use Rattle.sctp_assoc.specs.Intake.{DataIsTakenIn, IsTakenIn, MayTakeIn, NothingElseIsTakenIn, WasToBeTakenIn, held_by, receive_limit, refusal_of}
 use Rattle.sctp_assoc.specs.Shapes.{Acknowledges, IsMeeting}
 use Rattle.sctp_assoc.specs.Shown.{Shown}
+use Rattle.sctp_assoc.proofs.Joining.{next_tsn}
 use Rattle.sctp_assoc.proofs.Shapes.{greetings_meet, other_chunks_do_nothing, sacks_acknowledge}
 use Rattle.sctp_assoc.proofs.Streams.{at_made}
 
@@ -175,9 +176,6 @@ pub record Passes (a : Shown) (piece : ChunkPayloadData) : Type 0 where
   pub found : is_found a piece ≡ true
   pub room : has_room a ≡ true
 
-both : (b c : Bool) → b ≡ true → c ≡ true → (b && c) ≡ true
-both b c e f = rw (e, f) refl
-
 whole_parts : (u b e : Bool) → (not u && b && e) ≡ true → (u ≡ false) × (b ≡ true) × (e ≡ true)
 whole_parts true b e w = absurd (false≢true w)
 whole_parts false false e w = absurd (false≢true w)
@@ -186,9 +184,6 @@ whole_parts false true true w = (refl, refl, refl)
 
 after_point : (peer at point t : ℕ) → point ≡ tsn_before (tsn peer at) → t ≡ tsn peer at → t ≡ (point + 1) % 2 ^ 32
 after_point peer at point t e f = rw (f, e) (omega arith)
-
-at_point : (peer at point t : ℕ) → point ≡ tsn_before (tsn peer at) → t ≡ (point + 1) % 2 ^ 32 → t ≡ tsn peer at
-at_point peer at point t e f = rw (f, e) (omega arith)
 
 room_left : (size waiting : ℕ) → waiting < size → 0 < size - waiting
 room_left size waiting l = omega (arith, l)
@@ -205,7 +200,7 @@ may_passes a h piece binds may =
     let whole : is_whole piece ≡ true = rw (may.ordered, may.begins, may.ends) refl in
     let next : is_next_after a.receiver piece.tsn ≡ true = eq-eqb piece.tsn ((a.receiver.peer_last_tsn + 1) % 2 ^ 32) (after_point h.peer h.reach a.receiver.peer_last_tsn piece.tsn binds.reach may.next) in
     record {
-      next = both (is_next_after a.receiver piece.tsn) (is_whole piece) next whole;
+      next = and_from (is_next_after a.receiver piece.tsn) (is_whole piece) next whole;
       found = stream_found_as (is_some (stream_at a.streams piece.stream_identifier)) (generation_left a.streams) may.stream;
       room = lt-ltb 0 (a.receiver.buffer_size - bytes_waiting a.streams) (room_left a.receiver.buffer_size (bytes_waiting a.streams) may.room);
     }
@@ -216,7 +211,7 @@ passes_may a h piece binds p =
     let n = and_parts (is_next_after a.receiver piece.tsn) (is_whole piece) p.next in
     let w = whole_parts piece.unordered piece.beginning_fragment piece.ending_fragment n.1 in
     record {
-      next = at_point h.peer h.reach a.receiver.peer_last_tsn piece.tsn binds.reach (eqb-true piece.tsn ((a.receiver.peer_last_tsn + 1) % 2 ^ 32) n.0);
+      next = next_tsn h.peer h.reach a.receiver.peer_last_tsn piece.tsn binds.reach (eqb-true piece.tsn ((a.receiver.peer_last_tsn + 1) % 2 ^ 32) n.0);
       ordered = w.0;
       begins = w.1;
       ends = w.2;

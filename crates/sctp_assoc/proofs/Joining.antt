@@ -110,7 +110,7 @@ told_receiver : (c : Bool) (b : Shown) (id : ℕ) (kept : Bool) → (kept && is_
 told_receiver true b id kept e = rw e refl
 told_receiver false b id kept e = rw e refl
 
-next_tsn : (peer at point t : ℕ) → point ≡ tsn_before (tsn peer at) → t ≡ (point + 1) % 2 ^ 32 → t ≡ tsn peer at
+pub next_tsn : (peer at point t : ℕ) → point ≡ tsn_before (tsn peer at) → t ≡ (point + 1) % 2 ^ 32 → t ≡ tsn peer at
 next_tsn peer at point t e f = rw (f, e) (omega arith)
 
 before_next : (peer at : ℕ) → tsn peer at ≡ tsn_before (tsn peer (at + 1))
@@ -164,7 +164,7 @@ unfolding taken_in
 taking_leads a piece h binds next whole =
     taking_leads_unless (refusal_in a.streams piece.stream_identifier piece a.receiver.max_receive_message_size) a piece h binds next whole
 
-asks_same : (x : Shown × Option Error) (piece : ChunkPayloadData) (trigger : AckTrigger) → (asks_or_faults x piece trigger).0 ≡ x.0
+pub asks_same : (x : Shown × Option Error) (piece : ChunkPayloadData) (trigger : AckTrigger) → (asks_or_faults x piece trigger).0 ≡ x.0
 asks_same (a, None) piece trigger = refl
 asks_same (a, Some fault) piece trigger = refl
 

@@ -27,7 +27,7 @@ use Rattle.sctp_outbound.specs.declared.sender.SackOutcome.TheVariants as outcom
 use Rattle.sctp_outbound.specs.declared.sender.Sender.{Sender}
 use Rattle.sctp_outbound.specs.Sender.{acknowledged, after_first, after_resending, can_send_next, tsns_up_to, resent_by, sack_outcome, sender_after, sent_new, sent_one, sent_within, with_window}
 use Rattle.sctp_assoc.specs.Calls.{after_ack_delay, after_t3, event_from, is_beginning, is_cookie_echoed, is_cookie_wait, is_established, retransmits, t3_expired, written_at}
-use Rattle.sctp_assoc.specs.Chunks.{asks_or_faults, checked_first, counted_data, dispatched, on_counted_data, counted_sack, is_whole, on_chunk, on_counted_sack, on_data, on_next_data, on_sack, stream_found, taken_in, told}
+use Rattle.sctp_assoc.specs.Chunks.{checked_first, counted_data, dispatched, on_counted_data, counted_sack, is_whole, on_chunk, on_counted_sack, on_data, on_next_data, on_sack, stream_found, taken_in, told}
 use Rattle.sctp_assoc.specs.Handshake.{after_t1_init, cookie_queued, echoed, information_returned, init_queued, on_cookie_ack, on_cookie_echo, on_heartbeat, on_init, on_init_ack, sends_cookie, sends_init, t1_cookie_expired, t1_init_expired}
 use Rattle.sctp_assoc.specs.Polled.{ack_after, ack_polled, control_packets, data_packets, data_polled, exchange_polled, is_due, packet_with, with_sent_data, without_control}
 use Rattle.sctp_assoc.specs.Timeouts.{after_handshake_timers}
@@ -39,6 +39,7 @@ use Rattle.sctp_wire_types.specs.declared.chunk.ChunkInit.{ChunkInit}
 use Rattle.sctp_wire_types.specs.declared.chunk.ChunkHeartbeat.{ChunkHeartbeat}
 use Rattle.sctp_wire.specs.Packets.{packet_is_plain}
 use Rattle.sctp_assoc.specs.Shown.{Shown}
+use Rattle.sctp_assoc.proofs.Joining.{asks_same}
 use Rattle.sctp_assoc.proofs.Polling.{both_first}
 use Rattle.sctp_assoc.proofs.Truth.{keeps_saying, truthful_silent, truthful_still, truthful_with}
 
@@ -90,15 +91,11 @@ taken_status None a piece e =
     let b : Shown = record a { streams = put.0; receiver = taken_to a.receiver piece.tsn } in
     rw e (status_on a b _ (status_by a b refl refl refl refl refl refl refl) (told_if (is_readable_in b.streams piece.stream_identifier) put.1 b piece.stream_identifier refl))
 
-asked_status : (x : Shown × Option Error) (piece : ChunkPayloadData) (trigger : AckTrigger) → (asks_or_faults x piece trigger).0 ≡ x.0
-asked_status (a, None) piece trigger = refl
-asked_status (a, Some fault) piece trigger = refl
-
 next_data_status : (there credit : Bool) (a : Shown) (piece : ChunkPayloadData) (trigger : AckTrigger) → ltb 0 (credit_of a.receiver (bytes_waiting a.streams)) ≡ credit
     → IsSameStatus a (on_next_data (a, there) piece trigger).0
 next_data_status false credit a piece trigger e = status_same a
 next_data_status true true a piece trigger e =
-    rw (e, asked_status (taken_in a piece) piece trigger) (taken_status (refusal_in a.streams piece.stream_identifier piece a.receiver.max_receive_message_size) a piece refl)
+    rw (e, asks_same (taken_in a piece) piece trigger) (taken_status (refusal_in a.streams piece.stream_identifier piece a.receiver.max_receive_message_size) a piece refl)
 next_data_status true false a piece trigger e = rw e (status_same a)
 
 found_next_status : (x : Shown × Bool) (a : Shown) (piece : ChunkPayloadData) (trigger : AckTrigger) → IsSameStatus a x.0 → IsSameStatus a (on_next_data x piece trigger).0

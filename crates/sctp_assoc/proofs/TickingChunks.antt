@@ -32,9 +32,10 @@ use Rattle.sctp_assoc.specs.declared.inbound.Flow.{Flow}
 use Rattle.sctp_assoc.specs.declared.inbound.Flow.TheVariants as flows
 use Rattle.sctp_assoc.specs.Calls.{closed_open, is_beginning, is_closed_state, is_cookie_echoed, is_cookie_wait, is_established}
 use Rattle.sctp_assoc.specs.Handshake.{acknowledged_cookie, answered, connected, echoed, information_returned, learned, on_cookie_ack, on_cookie_echo, on_heartbeat, on_init, on_init_ack, sends_cookie}
-use Rattle.sctp_assoc.specs.Chunks.{after_chunks, after_packet, after_packet_of, asks_or_faults, checked_first, counted_data, counted_sack, dispatched, ended, goes_on, is_whole, on_chunk, on_counted_data, on_counted_sack, on_data, on_next_data, on_sack, stream_found, taken_in, told, with_acknowledged}
+use Rattle.sctp_assoc.specs.Chunks.{after_chunks, after_packet, after_packet_of, checked_first, counted_data, counted_sack, dispatched, ended, goes_on, is_whole, on_chunk, on_counted_data, on_counted_sack, on_data, on_next_data, on_sack, stream_found, taken_in, told, with_acknowledged}
 use Rattle.sctp_assoc.specs.OneSide.{is_delayed}
 use Rattle.sctp_assoc.specs.Shown.{Shown}
+use Rattle.sctp_assoc.proofs.Joining.{asks_same}
 use Rattle.sctp_assoc.proofs.Ticking.{AtRest, FitsTimers, IsSameTime, Ticks, ack_kept, established_begins_no_more, fits_as_many, fits_restarted, none_armed, restarted, restarted_keeps_ack, same_time, ticks_by, time_by, time_on}
 
 -- DATA leaves all of it
@@ -62,17 +63,12 @@ taken_time None a piece e =
     rw e (time_on a b _ (time_by a b refl refl refl refl refl refl)
     (told_time (is_readable_in b.streams piece.stream_identifier) put.1 b piece.stream_identifier refl))
 
-asked_time : (x : Shown × Option Error) (piece : ChunkPayloadData) (trigger : AckTrigger)
-    → (asks_or_faults x piece trigger).0 ≡ x.0
-asked_time (a, None) piece trigger = refl
-asked_time (a, Some fault) piece trigger = refl
-
 next_data_time : (there credit : Bool) (a : Shown) (piece : ChunkPayloadData) (trigger : AckTrigger)
     → ltb 0 (credit_of a.receiver (bytes_waiting a.streams)) ≡ credit
     → IsSameTime a (on_next_data (a, there) piece trigger).0
 next_data_time false credit a piece trigger e = same_time a
 next_data_time true true a piece trigger e =
-    rw (e, asked_time (taken_in a piece) piece trigger)
+    rw (e, asks_same (taken_in a piece) piece trigger)
     (taken_time (refusal_in a.streams piece.stream_identifier piece a.receiver.max_receive_message_size) a piece refl)
 next_data_time true false a piece trigger e = rw e (same_time a)
 

@@ -1,5 +1,6 @@
 use Rattle.std.proofs.Common.{rules}
-use Rattle.sctp_assoc.proofs.Growing.{ack_is_given, on_err, pieces_are_given}
+use Rattle.sctp_assoc.proofs.Growing.{ack_is_given, pieces_are_given}
+use Rattle.sctp_outbound.proofs.Sending.{on_err}
 use Rattle.sctp_assoc.proofs.ReadAgain.{poll_again}
 use Rattle.sctp_assoc.proofs.association.Association.gather_established.Goals as goal
 

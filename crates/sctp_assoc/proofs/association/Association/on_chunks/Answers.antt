@@ -3,7 +3,8 @@ use Rattle.std.proofs.lemmas.Result.{on_err_weaker}
 use Rattle.std.specs.Vec.Iter.{into_iter_items}
 use Rattle.sctp_assoc.specs.declared.inbound.Flow.{Flow}
 use Rattle.sctp_assoc.specs.Calls.{is_closed_state}
-use Rattle.sctp_assoc.proofs.Growing.{fault_takes, first_takes, later_takes, on_err}
+use Rattle.sctp_assoc.proofs.Growing.{fault_takes, first_takes, later_takes}
+use Rattle.sctp_outbound.proofs.Sending.{on_err}
 use Rattle.sctp_assoc.proofs.association.Association.on_chunks.Goals as goal
 
 pub loop-chunk-preserved : goal.loop-chunk-preserved

@@ -2,7 +2,8 @@ use Rattle.std.proofs.Common.{rules, ◌≡◌, true, nat_lt, ◌&&◌, None}
 use Rattle.sctp_streams.specs.Streams.{bytes_waiting, refusal_in}
 use Rattle.sctp_inbound.specs.Receiver.{credit_of, is_next_after}
 use Rattle.sctp_assoc.specs.Chunks.{counted_data, is_whole, stream_found}
-use Rattle.sctp_assoc.proofs.Growing.{on_err, taking_takes}
+use Rattle.sctp_assoc.proofs.Growing.{taking_takes}
+use Rattle.sctp_outbound.proofs.Sending.{on_err}
 use Rattle.sctp_assoc.proofs.association.Association.on_data.Goals as goal
 
 pub returns-in_err-fault-clause-grows : goal.returns-in_err-fault-clause-grows
