@@ -44,15 +44,16 @@ pub ack_said : (b : Shown) → (ack_polled b).1 ≡ acks_given b
 unfolding ack_polled
 ack_said b = ack_said_if (is_due b.receiver.ack_state) b
 
-ack_silent : (due : Bool) (p : Parts) → all_data_given (if due then Act.Reported ∷ [] else []) p ≡ []
-ack_silent true p = refl
-ack_silent false p = refl
+-- a report gives no DATA out
+pub reports_are_silent : (due : Bool) (p : Parts) → all_data_given (if due then Act.Reported ∷ [] else []) p ≡ []
+reports_are_silent true p = refl
+reports_are_silent false p = refl
 
 -- the DATA of a poll is what its acts give out
 pieces_said : (pieces : List ChunkPayloadData) (xs : List Act) (a b : Shown) (h : History) → Adds xs (parts a h) (parts b h) [] pieces
     → pieces ≡ all_data_given (xs ++ acts_of_ack a) (parts a h)
 pieces_said pieces xs a b h adds = adds.all ∙ sym (given_append xs (acts_of_ack a) (parts a h)
-    ∙ ap (λ (z : List ChunkPayloadData). all_data_given xs (parts a h) ++ z) (ack_silent (is_due a.receiver.ack_state) (done_all xs (parts a h)))
+    ∙ ap (λ (z : List ChunkPayloadData). all_data_given xs (parts a h) ++ z) (reports_are_silent (is_due a.receiver.ack_state) (done_all xs (parts a h)))
     ∙ append-nil (all_data_given xs (parts a h)) ∙ adds.gives.said)
 
 poll_of : (x : Shown × List ChunkPayloadData) (xs : List Act) (a : Shown) (h : History) → IsSentBeside a x.0 → Binds a h

@@ -17,7 +17,7 @@ use Rattle.sctp_assoc.specs.Meeting.{Greets, IsTruthful, Stage, stage_of}
 use Rattle.sctp_assoc.specs.Polled.{AreControlReadAgain, control_packets, has_something_to_give, polled, without_control}
 use Rattle.sctp_assoc.specs.Shapes.{IsExchanged, IsGivenBy, IsPolling, IsSameStatus, IsWaitingToGo, OfEachChunk, reports}
 use Rattle.sctp_assoc.specs.Shown.{Shown}
-use Rattle.sctp_assoc.proofs.Proved.{done_append, established_sides_talk, given_append, polls_give_and_report, polls_keep_the_status, polls_outside_established_give_what_waits, polls_say_their_acts, what_waits_goes_out_as_it_is}
+use Rattle.sctp_assoc.proofs.Proved.{done_append, established_sides_talk, given_append, polls_give_and_report, polls_keep_the_status, polls_outside_established_give_what_waits, polls_say_their_acts, reports_are_silent, what_waits_goes_out_as_it_is}
 use Rattle.sctp_directions.specs.Said.{IsGiven, Says}
 use Rattle.sctp_pair.specs.declared.step.Reply.{Reply}
 use Rattle.sctp_pair.specs.declared.step.Reply.TheVariants as replies
@@ -84,10 +84,6 @@ report_does_nothing : (due : Bool) (p : Parts) → done_all (if due then Act.Rep
 report_does_nothing true p = refl
 report_does_nothing false p = refl
 
-report_silent : (due : Bool) (p : Parts) → all_data_given (if due then Act.Reported ∷ [] else []) p ≡ []
-report_silent true p = refl
-report_silent false p = refl
-
 -- An association polls: what it gives out is what its directions have then, or says what is so of its handshake.
 pub record Polled (own peer : ℕ) (here there : Stage) (b y : Shown) (out coming : Direction) (packets : List (List ℕ)) : Type 0 where
   pub settles : Settles own peer here there b y out coming nothing_added nothing_read None_brought
@@ -117,7 +113,7 @@ open_polls {here} own peer acts a b y packets out coming f s established again s
     let report = report_if (reports a) own peer (done_all ds p) y given.out2 coming (ap (λ (z : History). z.peer) (sym past_is) ∙ known) f.within_coming given.holds in
     let holds : Holds own peer (parts b h) y given.out2 report.0.coming2 = subst (λ z. Holds own peer z y given.out2 report.0.coming2) (sym there) report.0.holds in
     let data_is : all_data_given acts p ≡ all_data_given ds p =
-    ap (λ zs. all_data_given zs p) polling.are ∙ given_append ds ks p ∙ ap (λ z. all_data_given ds p ++ z) (report_silent (reports a) (done_all ds p))
+    ap (λ zs. all_data_given zs p) polling.are ∙ given_append ds ks p ∙ ap (λ z. all_data_given ds p ++ z) (reports_are_silent (reports a) (done_all ds p))
     ∙ append-nil (all_data_given ds p) in
     let stands : StandsOpen own peer b given.out2 report.0.coming2 = record {
       past = h;
