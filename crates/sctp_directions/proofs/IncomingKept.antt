@@ -15,6 +15,7 @@ use Rattle.sctp_model.specs.Safe.{read_end}
 use Rattle.sctp_model.specs.Invariants.{Invariant, IsGot}
 use Rattle.sctp_model.proofs.Growth.{IsExtended, message_extended, place_extended, read_end_kept}
 use Rattle.sctp_model.proofs.Lists.{all_front}
+use Rattle.sctp_model.proofs.Writing.{same_plan}
 use Rattle.sctp_assoc.specs.Acts.{Act, Parts, done, with_written, without_first_piece}
 use Rattle.sctp_directions.specs.Plain.{IsPlain, count_below}
 use Rattle.sctp_directions.specs.Incoming.{AreHeldAs, FitsIncoming, IsQueue, IsQueueAt}
@@ -199,22 +200,11 @@ begin_fits a w s i any inv h fits = go w.sender.current
         (λ b. fits)
     go (Some y) = fits
 
-same_extended : (w : Direction) → Invariant w → IsExtended w.sender.plan w.sender.plan
-same_extended w inv = record {
-  size = refl;
-  more = omega arith;
-  places = λ o l. refl;
-  known = inv.planned.known;
-  longer = λ s. omega arith;
-  messages = λ s i l. refl;
-  fronts = λ s i l. refl;
-}
-
 -- DATA that the other side gives out again leaves the receiver as it is
 pub resend_fits : (a : Parts) (w : Direction) (o : ℕ) → Invariant w → IsPlain w → FitsIncoming a w → FitsIncoming a (happens w (Event.Resend o))
 unfolding happens
 resend_fits a w o inv h fits = cond_both _ _ w (FitsIncoming a)
-    (λ b. extended_fits a w w.sender (w.datas ++ data_at w.sender.plan o ∷ []) (same_extended w inv) inv h fits) (λ b. fits)
+    (λ b. extended_fits a w w.sender (w.datas ++ data_at w.sender.plan o ∷ []) (same_plan w.sender.plan inv.planned.known) inv h fits) (λ b. fits)
 
 -- a SACK that comes to the other side leaves the receiver as it is
 pub sack_comes_fits : (a : Parts) (w : Direction) (k : ℕ) → Invariant w → IsPlain w → FitsIncoming a w → FitsIncoming a (happens w (Event.SackComes k))
@@ -223,4 +213,4 @@ sack_comes_fits a w k inv h fits = go (slice_get w.sacks k)
   where
     go : (x : Option Sack) → FitsIncoming a (sack_comes w x)
     go None = fits
-    go (Some x) = cond_both _ w _ (FitsIncoming a) (λ b. fits) (λ b. extended_fits a w (acknowledged_by w.sender x) w.datas (same_extended w inv) inv h fits)
+    go (Some x) = cond_both _ w _ (FitsIncoming a) (λ b. fits) (λ b. extended_fits a w (acknowledged_by w.sender x) w.datas (same_plan w.sender.plan inv.planned.known) inv h fits)

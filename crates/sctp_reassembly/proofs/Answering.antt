@@ -17,15 +17,12 @@ use Rattle.sctp_reassembly.specs.Laws.{ReadsAnswerAlike}
 use Rattle.sctp_reassembly.specs.Stands.{Held, IsGroup, AreGroups, AreSaid, offsets_in, numbers_in, letter_received, StandsFor, IsInWindow, IsAnsweredAlike}
 use Rattle.sctp_reassembly.proofs.Kept.{IsAlone, first_alone, in_from, nothing_held, number_in, there_from}
 use Rattle.sctp_reassembly.proofs.Whole.{message_is, complete_is, letter_is}
-use Rattle.sctp_reassembly.proofs.Gathered.{is_rest}
+use Rattle.sctp_reassembly.proofs.Gathered.{is_rest, run_at}
 use Rattle.sctp_reassembly.proofs.Reading.{in_window, least_first, stands_after}
 
 -- the message of these offsets is all there
 abbrev pub is_all : Plan → ℕ → List ℕ → Bool
 is_all p o rest = eqb (place_at p o).piece 0 && is_rest p (o ∷ rest)
-
-abbrev pub run_at : Plan → ℕ → List ℕ → Run
-run_at p o rest = record { head = data_at p o; pieces = map (data_at p) (o ∷ rest) }
 
 -- a group is complete where all of its message is there
 pub group_is : (initial : ℕ) (p : Plan) (s : ℕ) (held : List Data) (g : Group) (h : Held) → length p.places < 2 ^ 31 → IsGroup initial p s g h → (a : IsAlone p s held h)

@@ -10,7 +10,7 @@ use Rattle.sctp_model.specs.Invariants.{IsPlanned}
 use Rattle.sctp_model.proofs.Gathering.{at_top}
 use Rattle.sctp_model.proofs.Lists.{all_back, all_both, all_join, all_mem, all_weaker}
 use Rattle.sctp_reassembly.specs.Stands.{IsLoose, leads, led, runs_of}
-use Rattle.sctp_reassembly.proofs.Gathered.{is_rest, longer, run_none}
+use Rattle.sctp_reassembly.proofs.Gathered.{is_rest, longer, run_at, run_none}
 use Rattle.sctp_reassembly.proofs.Runs.{leads_to}
 use Rattle.sctp_reassembly.proofs.Whole.{IsThere, all_there}
 
@@ -223,9 +223,6 @@ find_one held (x ∷ xs) r o d a e f g =
 abbrev pub is_whole : Plan → List ℕ → Bool
 is_whole p [] = false
 is_whole p (o ∷ r) = eqb (place_at p o).piece 0 && is_rest p (o ∷ r)
-
-abbrev pub run_at : Plan → ℕ → List ℕ → Run
-run_at p o r = record { head = data_at p o; pieces = map (data_at p) (o ∷ r) }
 
 found_so : (p : Plan) (held : List Data) (d : Data) (o : ℕ) (r : List ℕ) (b : Bool) → d ≡ data_at p o
     → run_from (top held) o held ≡ cond b (Some (map (data_at p) (o ∷ r))) None → run_of held d ≡ cond b (Some (run_at p o r)) None

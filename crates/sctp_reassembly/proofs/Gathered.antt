@@ -4,7 +4,7 @@ use Rattle.std.specs.List.{AllByRecursion}
 use Rattle.std.proofs.lemmas.Bool.{cases_Bool, eqb-true, ne_eqb, or_cases, false_from_ne_true, false≢true, cond-false}
 use Rattle.sctp_model.specs.Messages.{Plan, place_at, is_last}
 use Rattle.sctp_model.specs.Packets.{Data, mem, data_at}
-use Rattle.sctp_model.specs.Reassembly.{at, top, with_first, run_on, run_from}
+use Rattle.sctp_model.specs.Reassembly.{Run, at, top, with_first, run_on, run_from}
 use Rattle.sctp_model.specs.Safe.{AreRising}
 use Rattle.sctp_model.specs.Invariants.{IsPlanned, IsHeld}
 use Rattle.sctp_model.proofs.Lists.{all_mem}
@@ -17,6 +17,10 @@ abbrev pub is_rest : Plan → List ℕ → Bool
 is_rest p [] = false
 is_rest p (o ∷ []) = is_last p (place_at p o)
 is_rest p (o ∷ x ∷ xs) = eqb x (suc o) && is_rest p (x ∷ xs)
+
+-- the run of the piece at an offset and of those behind it
+abbrev pub run_at : Plan → ℕ → List ℕ → Run
+run_at p o rest = record { head = data_at p o; pieces = map (data_at p) (o ∷ rest) }
 
 pub run_none : (m o : ℕ) (held : List Data) → at o held ≡ None → run_from m o held ≡ None
 run_none zero o held e = refl

@@ -1,6 +1,7 @@
 -- A piece of an ordered message that came: one side stands for the other with it.
 use Rattle.std.proofs.Common.{ℕ, ◌+◌, ◌%◌, ◌^◌, ◌<◌, ◌≡◌, Bool, true, false, cond, eqb, ltb, ◌||◌, List, [], ◌∷◌, length, Option, Some, None, refl, sym, ap, ◌∙◌, subst, ⊎_elim, arith}
 use Rattle.std.specs.List.{AllByRecursion}
+use Rattle.std.proofs.Math.Bool.{or_assoc}
 use Rattle.std.proofs.lemmas.Bool.{cases_Bool, eqb-true, eqb-false, ne_eqb, ltb-true, ltb-false}
 use Rattle.sctp_wire_types.specs.Serial.{ssn_lt}
 use Rattle.sctp_wire_types.specs.declared.chunk.ChunkPayloadData.{ChunkPayloadData}
@@ -14,7 +15,7 @@ use Rattle.sctp_model.proofs.Lists.{all_weaker, mem_neither, mem-join}
 use Rattle.sctp_model.proofs.Windows.{before_is, same_is}
 use Rattle.sctp_reassembly.specs.Stands.{Held, IsSaid, AreSaid, IsOf, IsGroup, AreGroups, offsets_in, numbers_in}
 use Rattle.sctp_reassembly.proofs.Placed.{AreOthers, AreSplit, entered, grown_is, position_here, position_later, up_one}
-use Rattle.sctp_reassembly.proofs.Putting.{all_put, mem_put, piece_fits, put_offset, rising_put, said_put, some_put}
+use Rattle.sctp_reassembly.proofs.Putting.{all_put, mem_put, piece_fits, put_offset, rising_put, said_put, some_put, swap_or}
 
 -- the offset o of the message with number n among those held
 abbrev pub put_in : ℕ → ℕ → List Held → List Held
@@ -27,27 +28,18 @@ put_in n o (h ∷ hs) =
 abbrev pub AreNear : ℕ → Held → Type 0
 AreNear n h = (h.number < n + 32768) × (n < h.number + 32768)
 
-join_or : (a b c : Bool) → ((a || b) || c) ≡ (a || (b || c))
-join_or true b c = refl
-join_or false b c = refl
-
-swap_or : (a b c : Bool) → (b || (a || c)) ≡ (a || (b || c))
-swap_or true true c = refl
-swap_or true false c = refl
-swap_or false b c = refl
-
 pub mem_put_in : (n o x : ℕ) (hs : List Held) → mem x (offsets_in (put_in n o hs)) ≡ (eqb o x || mem x (offsets_in hs))
 mem_put_in n o x [] = refl
 mem_put_in n o x (h ∷ hs) =
     ⊎_elim
     (λ (b : eqb h.number n ≡ true). rw b (
     mem-join x (put_offset o h.offsets) (offsets_in hs) ∙ ap (λ z. z || mem x (offsets_in hs)) (mem_put (λ (y : ℕ). ltb o y) o x h.offsets)
-    ∙ join_or (eqb o x) (mem x h.offsets) (mem x (offsets_in hs)) ∙ ap (λ z. eqb o x || z) (sym (mem-join x h.offsets (offsets_in hs)))))
+    ∙ or_assoc (eqb o x) (mem x h.offsets) (mem x (offsets_in hs)) ∙ ap (λ z. eqb o x || z) (sym (mem-join x h.offsets (offsets_in hs)))))
     (λ (b : eqb h.number n ≡ false). rw b (⊎_elim
     (λ (l : ltb n h.number ≡ true). rw l refl)
     (λ (l : ltb n h.number ≡ false). rw l (
     mem-join x h.offsets (offsets_in (put_in n o hs)) ∙ ap (λ z. mem x h.offsets || z) (mem_put_in n o x hs)
-    ∙ swap_or (eqb o x) (mem x h.offsets) (mem x (offsets_in hs)) ∙ ap (λ z. eqb o x || z) (sym (mem-join x h.offsets (offsets_in hs)))))
+    ∙ swap_or (mem x h.offsets) (eqb o x) (mem x (offsets_in hs)) ∙ ap (λ z. eqb o x || z) (sym (mem-join x h.offsets (offsets_in hs)))))
     (cases_Bool (ltb n h.number))))
     (cases_Bool (eqb h.number n))
 

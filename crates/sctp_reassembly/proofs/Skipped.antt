@@ -16,7 +16,8 @@ use Rattle.sctp_model.proofs.Due.{IsNear, near_all, window_next}
 use Rattle.sctp_model.proofs.Lists.{all_mem, all_weaker, mem-join}
 use Rattle.sctp_reassembly.specs.Laws.{EmptyOnesStand, OrderedSkipsStand, TheInvariantGivesTheWindow}
 use Rattle.sctp_reassembly.specs.Stands.{Held, IsOf, IsGroup, AreGroups, offsets_in, numbers_in, IsInWindow}
-use Rattle.sctp_reassembly.proofs.Answering.{group_is, is_all, run_at}
+use Rattle.sctp_reassembly.proofs.Answering.{group_is, is_all}
+use Rattle.sctp_reassembly.proofs.Gathered.{run_at}
 use Rattle.sctp_reassembly.proofs.Kept.{IsAlone, all_alone, and_none, at_filtered, in_from, nested, there_from}
 use Rattle.sctp_reassembly.proofs.Whole.{IsNearBy, message_is}
 

@@ -17,7 +17,8 @@ use Rattle.sctp_reassembly.specs.Laws.{UnorderedPiecesStand}
 use Rattle.sctp_reassembly.specs.Stands.{AreRuns, AreSaid, IsForBytesAlone, IsLoose, StandsFor, letter_received, runs_of}
 use Rattle.sctp_reassembly.proofs.Entering.{AreSmall, IsEntered, IsIncomplete, entered, finished_is, place_is, runs_join, runs_split}
 use Rattle.sctp_reassembly.proofs.Fitting.{beside, fits_between}
-use Rattle.sctp_reassembly.proofs.Found.{AreHeld, is_whole, run_at, whole_found}
+use Rattle.sctp_reassembly.proofs.Found.{AreHeld, is_whole, whole_found}
+use Rattle.sctp_reassembly.proofs.Gathered.{run_at}
 use Rattle.sctp_reassembly.proofs.Kept.{nested}
 use Rattle.sctp_reassembly.proofs.Putting.{swap_or}
 use Rattle.sctp_reassembly.proofs.Runs.{all_in, chains, joined, joined_append, joined_runs, runs_apart, runs_meet, runs_parts, some_in}
