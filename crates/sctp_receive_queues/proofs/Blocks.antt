@@ -17,11 +17,12 @@ use Rattle.std.proofs.lemmas.Map.Keys.{sorted_tail}
 use Rattle.std.proofs.lemmas.Map.Views.{All-after_first}
 use Rattle.sctp_wire_types.specs.Serial.{tsn_past}
 use Rattle.sctp_wire_types.specs.declared.chunk.GapAckBlock.{GapAckBlock}
-use Rattle.sctp_receive_queues.specs.Received.{is_held, has_offset, next_tsn, advanced, is_greater, offsets_in, offsets_of, block, runs_from, runs_of, gap_ack_blocks, is_named, is_held_at, AreRuns}
+use Rattle.sctp_receive_queues.specs.Pieces.{tsn_after}
+use Rattle.sctp_receive_queues.specs.Received.{is_held, has_offset, advanced, is_greater, offsets_in, offsets_of, block, runs_from, runs_of, gap_ack_blocks, is_named, is_held_at, AreRuns}
 
 -- The point moves on.
 
-advance_more : (p : ℕ) (ks ns : List ℕ) → is_held (next_tsn p) ks ≡ true → length ns + 1 ≡ length ks → ns ≡ remove_key (is_at (nat_cmp (next_tsn p))) ks → advanced (length ns) (next_tsn p) ns ≡ advanced (length ks) p ks
+advance_more : (p : ℕ) (ks ns : List ℕ) → is_held (tsn_after p) ks ≡ true → length ns + 1 ≡ length ks → ns ≡ remove_key (is_at (nat_cmp (tsn_after p))) ks → advanced (length ns) (tsn_after p) ns ≡ advanced (length ks) p ks
 advance_more p ks ns held shorter e =
     let n : length ks ≡ suc (length ns) = omega (arith, shorter) in
     rw (n, held, e)
@@ -32,9 +33,9 @@ some_popped false tsn popped is some = sym (ap is_some is) ∙ some
 
 -- over a TSN that was taken out
 pub advance_over : (p : ℕ) (ks ns : List ℕ) (popped : Option ℕ)
-    → popped ≡ cond (is_held (next_tsn p) ks) (Some (next_tsn p)) None → is_some popped ≡ true
-    → length ns + cond (is_some popped) 1 0 ≡ length ks → ns ≡ remove_key (is_at (nat_cmp (next_tsn p))) ks
-    → advanced (length ns) (next_tsn p) ns ≡ advanced (length ks) p ks
+    → popped ≡ cond (is_held (tsn_after p) ks) (Some (tsn_after p)) None → is_some popped ≡ true
+    → length ns + cond (is_some popped) 1 0 ≡ length ks → ns ≡ remove_key (is_at (nat_cmp (tsn_after p))) ks
+    → advanced (length ns) (tsn_after p) ns ≡ advanced (length ks) p ks
 advance_over p ks ns popped is some shorter e =
     advance_more p ks ns (some_popped _ _ popped is some) (rw some at shorter) e
 

@@ -33,6 +33,7 @@ begins pieces = is_first (first_of pieces)
 abbrev pub ends : List ChunkPayloadData → Bool
 ends pieces = is_last (last_of pieces)
 
+-- the TSN that follows
 abbrev pub tsn_after : ℕ → ℕ
 tsn_after tsn = (tsn + 1) % 2 ^ 32
 

@@ -7,6 +7,7 @@ use Rattle.std.specs.BTreeSet.{insert_key}
 use Rattle.std.specs.Set.{remove_key}
 use Rattle.sctp_wire_types.specs.Serial.{tsn_past}
 use Rattle.sctp_wire_types.specs.declared.chunk.GapAckBlock.{GapAckBlock}
+use Rattle.sctp_receive_queues.specs.Pieces.{tsn_after}
 
 -- TSNs are numbers of 32 bits
 abbrev pub AreTsns : List ℕ → Type 0
@@ -28,14 +29,11 @@ abbrev pub with_tsn : List ℕ → ℕ → ℕ → List ℕ × Bool
 with_tsn tsns tsn cumulative_tsn =
     if is_new tsns tsn cumulative_tsn then (insert_key nat_cmp tsns tsn, true) else (tsns, false)
 
-abbrev pub next_tsn : ℕ → ℕ
-next_tsn tsn = (tsn + 1) % 2 ^ 32
-
 -- the point moves over the TSNs that follow it, at most n of them, and they are held no more
 abbrev pub advanced : ℕ → ℕ → List ℕ → ℕ × List ℕ
 advanced zero cumulative_tsn tsns = (cumulative_tsn, tsns)
 advanced (suc n) cumulative_tsn tsns =
-    if is_held (next_tsn cumulative_tsn) tsns then advanced n (next_tsn cumulative_tsn) (remove_key (is_at (nat_cmp (next_tsn cumulative_tsn))) tsns)
+    if is_held (tsn_after cumulative_tsn) tsns then advanced n (tsn_after cumulative_tsn) (remove_key (is_at (nat_cmp (tsn_after cumulative_tsn))) tsns)
     else (cumulative_tsn, tsns)
 
 -- the one of two TSNs that is farther past the point
