@@ -5,5 +5,4 @@ mod Taken
 mod Kept
 mod Questions
 mod Counted
-mod Results
 mod Lasts

@@ -13,6 +13,7 @@ pub mod Packets
 pub mod Polls
 pub mod Promised
 pub mod ReadCall
+pub mod Results
 pub mod Running
 pub mod Saying
 pub mod Settled

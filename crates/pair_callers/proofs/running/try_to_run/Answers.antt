@@ -1,5 +1,5 @@
 use Rattle.pair_callers.proofs.Questions.{as_many_replies}
-use Rattle.pair_callers.proofs.Results.{if_ok}
+use Rattle.sctp_pair.proofs.Results.{if_ok}
 use Rattle.pair_callers.proofs.running.try_to_run.Goals as goal
 
 pub returns-clause-each : goal.returns-clause-each
