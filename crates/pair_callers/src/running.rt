@@ -1,6 +1,7 @@
 // Running: what a run and a question leave, and what a pair is that was just made.
-ghost use Rattle.std.specs.Prelude.{◌≡◌, ℕ, IfOk, OnErr, length, slice_get};
+ghost use Rattle.std.specs.Prelude.{◌≡◌, ℕ, [], IfOk, OnErr, length, slice_get};
 ghost use Rattle.std.specs.Option.{option_copied};
+ghost use Rattle.sctp_pair.specs.Callers.{CameBy};
 ghost use Rattle.sctp_pair.specs.Ends.{end_of, packets_of};
 ghost use Rattle.sctp_pair.specs.World.{World};
 ghost use Rattle.sctp_pair.specs.Counted.{FitsCounted};
@@ -69,7 +70,8 @@ pub fn join(
     remote_of_a: SocketAddr,
     remote_of_b: SocketAddr,
 ) -> Result<Pair, Error>
-    ensures { IfOk result (λ p. BeginsWithNothing p) }
+    ensures empty { IfOk result (λ p. BeginsWithNothing p) }
+    ensures new { IfOk result (λ p. CameBy max_payload_size max_payload_size [] [] p) }
 {
     Pair::snap(
         alloc,

@@ -2,6 +2,7 @@
 ghost use Rattle.std.specs.Prelude.{◌≡◌, ◌∷◌, ◌++◌, [], IfOk, length};
 ghost use Rattle.sctp_pair.specs.Callers.{AcceptFew, NothingIsReadUnbrought, ReadsAreFronts};
 
+use crate::running::join;
 use sctp_assoc::{AssociationId, ChunkInit, Error, Instant, ServerConfig, TransportConfig};
 use sctp_pair::{Pair, Reply, Step};
 use std::alloc::Global;
@@ -25,11 +26,9 @@ pub fn run_joined(
     ensures brought { IfOk result (λ replies.
         AcceptFew max_payload_size max_payload_size steps.now replies.items → NothingIsReadUnbrought steps.now replies.items) }
 {
-    let mut pair = Pair::snap(
+    let mut pair = join(
         alloc,
         config,
-        config,
-        max_payload_size,
         max_payload_size,
         token_a,
         token_b,
@@ -94,11 +93,9 @@ pub fn run_and_step(
         AcceptFew max_payload_size max_payload_size (steps.now ++ last.now ∷ []) (replies.items ++ reply ∷ [])
         → ReadsAreFronts (steps.now ++ last.now ∷ []) (replies.items ++ reply ∷ [])) }
 {
-    let mut pair = Pair::snap(
+    let mut pair = join(
         alloc,
         config,
-        config,
-        max_payload_size,
         max_payload_size,
         token_a,
         token_b,
