@@ -6,3 +6,4 @@ mod Kept
 mod Questions
 mod Counted
 mod Lasts
+mod SentIsHeld

@@ -1,9 +1,10 @@
 //! Callers of a pair, each of which needs one part of what `Pair` promises: where a clause of `Pair` or a field of
-//! what it promises is lost, a function here is no longer proved.
+//! what it promises is lost, a function here is no longer proved. `exchange` is a caller of one association, and cites its laws.
 #![tactic(auto)]
 
 mod buffering;
 mod delivering;
+mod exchanging;
 mod lasting;
 mod reading;
 mod running;
@@ -12,6 +13,7 @@ mod writing;
 
 pub use buffering::{ask_buffered, step_and_look};
 pub use delivering::{deliver_packet, expire_timers, step_once};
+pub use exchanging::exchange;
 pub use lasting::{poll_event, step_and_last};
 pub use reading::{read_message, step_and_tell};
 pub use running::{

@@ -7,7 +7,6 @@ pub mod Counted
 pub mod Giving
 pub mod Greeted
 pub mod Letters
-mod OneSide
 pub mod Onward
 pub mod Packets
 pub mod Polls

@@ -3,10 +3,8 @@
 #![tactic(auto)]
 
 mod calls;
-mod one_side;
 mod pair;
 mod step;
 
-pub use one_side::exchange;
 pub use pair::Pair;
 pub use step::{Reply, Side2, Step};

@@ -1,4 +1,4 @@
-// One side by itself, whatever its peer is: what follows from the clauses of its calls alone.
+// Exchanging: what follows for one association, whatever its peer is, from the clauses of its calls alone.
 ghost use Rattle.std.specs.Prelude.{◌≡◌, ◌*◌, None, true, IfOk, OnErr, OnOk};
 ghost use Rattle.sctp_assoc.specs.Calls.{stream_refusal, written};
 ghost use Rattle.sctp_assoc.specs.Chunks.{after_packet};

@@ -1,5 +1,5 @@
-use Rattle.sctp_pair.proofs.OneSide.{sent_is_held}
-use Rattle.sctp_pair.proofs.one_side.send.Goals as goal
+use Rattle.pair_callers.proofs.SentIsHeld.{sent_is_held}
+use Rattle.pair_callers.proofs.exchanging.send.Goals as goal
 
 pub returns-clause-held : goal.returns-clause-held
 returns-clause-held c =
