@@ -23,7 +23,7 @@ use Rattle.sctp_directions.specs.Laws.{ActsKeepTheInitialTsns, OpenedStreamsAreA
 use Rattle.sctp_directions.specs.Outgoing.{FitsOutgoing, IsOwn, IsOwnAt}
 use Rattle.sctp_directions.specs.Plain.{IsPlain, count_below}
 use Rattle.sctp_directions.proofs.IncomingKept.{acknowledged_fits, marked_fits, reported_fits, sent_again_fits, sent_fits, wrote_fits}
-use Rattle.sctp_directions.proofs.IncomingRead.{opened_fits, ready_fits}
+use Rattle.sctp_directions.proofs.IncomingRead.{opened_fits, the_same_is_ready}
 use Rattle.sctp_directions.proofs.IncomingStreams.{no_queue_of, reach_known, queue_of}
 use Rattle.sctp_directions.proofs.OutgoingAgain.{sent_again}
 use Rattle.sctp_directions.proofs.OutgoingBeside.{opened, same_initials, took, was_read}
@@ -67,8 +67,8 @@ pub opened_streams_are_alike : OpenedStreamsAreAlike
 opened_streams_are_alike a id first kind out coming none outgoing incoming =
     (opened a id first kind out none outgoing, opened_fits a id first kind coming none incoming)
 
-pub pieces_given : PiecesAreGiven
-pieces_given a index w can plain fits = let again = sent_again a index w can plain fits in (again.fits, again.given)
+pub pieces_are_given : PiecesAreGiven
+pieces_are_given a index w can plain fits = let again = sent_again a index w can plain fits in (again.fits, again.given)
 
 made_last : (w : Direction) → slice_get (happens w Event.SackMade).sacks (length w.sacks) ≡ Some (sack_of w.receiver)
 unfolding happens
@@ -128,7 +128,7 @@ ready_at None a id w there within inv plain fits =
 ready_at (Some t) a id w there within inv plain fits =
     let p = w.sender.plan in
     let x = queue_of p (read_end p 0 (w.reads id)) (count_below p id (reach w.receiver)) (stream_at a.streams id) (w.receiver.queues id) t there (fits.queues id) in
-    ap (λ z. map letter_read (queue.ready (live z))) x.1 ∙ ready_fits a id t x.0 w there x.1 within inv plain fits
+    ap (λ z. map letter_read (queue.ready (live z))) x.1 ∙ the_same_is_ready a id t x.0 w there x.1 within inv plain fits
 
 pub ready_messages_are_alike : ReadyMessagesAreAlike
 ready_messages_are_alike a h id w within inv plain fits = ready_at (stream_at a.streams id) (parts a h) id w refl within inv plain fits

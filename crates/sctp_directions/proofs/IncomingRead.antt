@@ -10,13 +10,13 @@ use Rattle.sctp_model.specs.Messages.{Plan}
 use Rattle.sctp_model.specs.Reassembly.{Got, Queue, Taken, empty_queue, next}
 use Rattle.sctp_model.specs.Reassembly.{ready as model_ready}
 use Rattle.sctp_model.specs.Machine.{Direction, Event, happens, opened, reach, put, read, was_read}
-use Rattle.sctp_model.specs.Safe.{IsWithin, letter_read, read_end}
-use Rattle.sctp_model.specs.Invariants.{Invariant}
+use Rattle.sctp_model.specs.Safe.{letter_read, read_end}
 use Rattle.sctp_model.proofs.Growth.{at_put, off_put}
 use Rattle.sctp_model.proofs.Reading.{read_end_push}
 use Rattle.sctp_assoc.specs.Acts.{Act, Parts, done}
-use Rattle.sctp_directions.specs.Plain.{IsPlain, count_below}
-use Rattle.sctp_directions.specs.Incoming.{FitsIncoming, IsQueue, IsQueueAt, IsReadAs, letter_received}
+use Rattle.sctp_directions.specs.Plain.{count_below}
+use Rattle.sctp_directions.specs.Incoming.{FitsIncoming, IsQueue, IsQueueAt, IsReadAs}
+use Rattle.sctp_directions.specs.Laws.{ReadsAreAlike, TheSameIsReady}
 use Rattle.sctp_assoc.proofs.Proved.{at_made, at_with}
 use Rattle.sctp_directions.proofs.Held.{IsReadFrom, queue_read, queue_ready}
 use Rattle.sctp_directions.proofs.IncomingStreams.{held_near, no_queue_of, queue_of, queues_at}
@@ -92,11 +92,8 @@ some_alike a id t u w q x left there fits = (
         ∙ cond-true x.there.got.ordered _ _ x.ordered ∙ ap suc x.number
 
 -- A read on a live stream gives at the association what the model's reader gets, and the other streams' reads stay.
-pub read_fits : (a : Parts) (id : ℕ) (t : StreamView) (w : Direction) → stream_at a.streams id ≡ Some t → IsWithin w → Invariant w → IsPlain w → FitsIncoming a w
-    → FitsIncoming (done (Act.WasRead id) a) (happens w (Event.Read id))
-    × IsReadAs (read_in a.streams id).1 (w.reads id) ((happens w (Event.Read id)).reads id)
-    × ((s : ℕ) → eqb s id ≡ false → (happens w (Event.Read id)).reads s ≡ w.reads s)
-read_fits a id t w there within inv h fits =
+pub reads_are_alike : ReadsAreAlike
+reads_are_alike a id t w there within inv h fits =
     ⊎_elim
     (λ (n : (next queue.0 ≡ None) × (taken t.reassembly ≡ (t.reassembly, None)) × (end ≡ count)).
     subst₂ (IsReadAlike a w id)
@@ -133,9 +130,8 @@ no_read_fits a id w none fits = (
 )
 
 -- what is ready on a live stream is the same at both: all that it holds
-pub ready_fits : (a : Parts) (id : ℕ) (t : StreamView) (q : Queue) (w : Direction) → stream_at a.streams id ≡ Some t → w.receiver.queues id ≡ Some q
-    → IsWithin w → Invariant w → IsPlain w → FitsIncoming a w → map letter_read (model_ready q) ≡ map letter_received (ready t.reassembly)
-ready_fits a id t q w there model within inv h fits =
+pub the_same_is_ready : TheSameIsReady
+the_same_is_ready a id t q w there model within inv h fits =
     let p = w.sender.plan in
     let end = read_end p 0 (w.reads id) in
     let count = count_below p id (reach w.receiver) in

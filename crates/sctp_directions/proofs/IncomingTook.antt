@@ -1,24 +1,24 @@
 -- The DATA that an association takes in is the DATA at the receiver's reach, and one event of its direction.
 use Rattle.std.proofs.Common.{◌≡◌, refl, sym, ap, ◌∙◌, subst, subst₂, ℕ, suc, ◌+◌, ◌*◌, ◌%◌, ◌<◌, arith, true, false, not, cond, eqb, leb, ◌∷◌, length, Some}
-use Rattle.std.specs.Prelude.{slice_get}
 use Rattle.std.proofs.lemmas.Bool.{eq-eqb, eqb-false, ne_eqb, le-leb}
 use Rattle.sctp_wire_types.specs.declared.chunk.ChunkPayloadData.{ChunkPayloadData}
 use Rattle.sctp_receive_queues.specs.Reassembly.{group_of}
-use Rattle.sctp_streams.specs.Stream.{StreamView, stream_pushed}
+use Rattle.sctp_streams.specs.Stream.{stream_pushed}
 use Rattle.sctp_streams.specs.Streams.{pushed_at, pushed_in, stream_at}
 use Rattle.sctp_model.specs.Messages.{Plan, message_of, place_at}
 use Rattle.sctp_model.specs.Packets.{Data}
 use Rattle.sctp_model.specs.Serial.{tsn}
 use Rattle.sctp_model.specs.Reassembly.{Queue, push}
-use Rattle.sctp_model.specs.Machine.{Direction, Event, happens, live, reach, took}
+use Rattle.sctp_model.specs.Machine.{Direction, live, reach, took}
 use Rattle.sctp_model.specs.Safe.{IsWithin, read_end}
 use Rattle.sctp_model.specs.Invariants.{Invariant, IsPiece}
 use Rattle.sctp_model.proofs.Lists.{all_get}
-use Rattle.sctp_assoc.specs.Acts.{Act, Can, Parts, done}
+use Rattle.sctp_assoc.specs.Acts.{Act, done}
 use Rattle.sctp_assoc.specs.Chunks.{is_whole}
 use Rattle.sctp_directions.specs.Plain.{IsPlain, IsSimple, IsSole, count_below}
 use Rattle.sctp_directions.specs.Said.{IsSaid}
 use Rattle.sctp_directions.specs.Incoming.{FitsIncoming, IsHeldAs, IsQueue, IsQueueAt}
+use Rattle.sctp_directions.specs.Laws.{WhatIsTakenInComes}
 use Rattle.sctp_assoc.proofs.Proved.{at_with}
 use Rattle.sctp_directions.proofs.Held.{queue_pushed}
 use Rattle.sctp_directions.proofs.IncomingStreams.{held_near, reach_known, queue_of, queues_at}
@@ -71,10 +71,8 @@ at_reach initial w c d said at given within inv h =
     omega arith
 
 -- an association that takes in the DATA at its reach does what the model's receiver does
-pub took_fits : (a : Parts) (piece : ChunkPayloadData) (k : ℕ) (d : Data) (t : StreamView) (w : Direction) → Can (Act.Took piece) a → slice_get w.datas k ≡ Some d
-    → IsSaid a.history.peer piece d → stream_at a.streams piece.stream_identifier ≡ Some t → IsWithin w → Invariant w → IsPlain w → FitsIncoming a w
-    → (d.offset ≡ reach w.receiver) × FitsIncoming (done (Act.Took piece) a) (happens w (Event.DataComes k))
-took_fits a piece k d t w can e said there within inv h fits = (
+pub what_is_taken_in_comes : WhatIsTakenInComes
+what_is_taken_in_comes a piece k d t w can e said there within inv h fits = (
   here,
   subst (FitsIncoming (done (Act.Took piece) a)) (sym (data_taken w k d e fits.is_open here)) (record {
     is_open = fits.is_open;

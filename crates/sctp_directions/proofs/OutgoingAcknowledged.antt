@@ -15,9 +15,10 @@ use Rattle.sctp_model.specs.Invariants.{Invariant, IsHonest, gone_at}
 use Rattle.sctp_model.proofs.Coming.{keeps_sack_comes}
 use Rattle.sctp_model.proofs.Lists.{all_get}
 use Rattle.sctp_model.proofs.Released.{bytes_same, bytes_tail, released_none, released_within}
-use Rattle.sctp_assoc.specs.Acts.{Act, Parts, done, without_first_piece, without_first_pieces}
+use Rattle.sctp_assoc.specs.Acts.{Parts, without_first_piece, without_first_pieces}
 use Rattle.sctp_directions.specs.Plain.{IsPlain}
 use Rattle.sctp_directions.specs.Outgoing.{AreInFlight, FitsOutgoing, IsInFlight, IsOwn, IsOwnAt}
+use Rattle.sctp_directions.specs.Laws.{AcknowledgementsAreAlike}
 use Rattle.sctp_directions.proofs.OutgoingKept.{each_with, fits_as, flight_kept, flight_length, grown_same, live_with, waiting_kept}
 use Rattle.sctp_directions.proofs.PlainSender.{plain_acknowledged}
 
@@ -187,9 +188,8 @@ unfolding happens
 happens_sack_comes w k x e l = ap (sack_comes w) e ∙ cond-false _ w (record w { sender = acknowledged_by w.sender x }) (le-ltb _ _ l)
 
 -- So many of the first pieces in flight are acknowledged by a SACK: the direction's sender takes it.
-pub acknowledged : (a : Parts) (n k : ℕ) (x : Sack) (w : Direction) → slice_get w.sacks k ≡ Some x → x.reach ≡ w.sender.reach + n → n ≤ length a.queue.in_flight
-    → Invariant w → IsPlain w → FitsOutgoing a w → FitsOutgoing (done (Act.Acknowledged n) a) (happens w (Event.SackComes k))
-acknowledged a n k x w e at within inv h f =
+pub acknowledgements_are_alike : AcknowledgementsAreAlike
+acknowledgements_are_alike a n k x w e at within inv h f =
     subst (FitsOutgoing (without_first_pieces n a)) (sym (happens_sack_comes w k x e ahead))
     (fits_as (without_first_pieces n a) (standing w (w.sender.reach + n)) v refl refl at released
     (all_acknowledged n a w w.sender.reach within h

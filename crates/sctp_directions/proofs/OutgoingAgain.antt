@@ -16,6 +16,7 @@ use Rattle.sctp_assoc.specs.Acts.{Act, Can, Parts, chunk_said, data_given, done}
 use Rattle.sctp_directions.specs.Plain.{IsPlain}
 use Rattle.sctp_directions.specs.Said.{IsGiven, IsSaid}
 use Rattle.sctp_directions.specs.Outgoing.{AreInFlight, FitsOutgoing, IsInFlight}
+use Rattle.sctp_directions.specs.Laws.{MarksAreNoEvents}
 use Rattle.sctp_directions.proofs.OutgoingKept.{flight_at, flight_length}
 use Rattle.sctp_directions.proofs.OutgoingSent.{got_last}
 
@@ -92,8 +93,8 @@ flight_marked initial p m o [] h = h
 flight_marked initial p m o (x ∷ xs) (h, hs) = (in_flight_marked initial p m o x h, flight_marked initial p m (suc o) xs hs)
 
 -- All that is outstanding is marked to be sent again, of which the direction knows nothing.
-pub marked : (a : Parts) (w : Direction) → FitsOutgoing a w → FitsOutgoing (done Act.Marked a) w
-marked a w f = record {
+pub marks_are_no_events : MarksAreNoEvents
+marks_are_no_events a w f = record {
   base = f.base;
   flight = flight_marked a.history.own w.sender.plan a.streams w.sender.reach a.queue.in_flight f.flight;
   waiting = f.waiting;

@@ -17,8 +17,8 @@ use Rattle.sctp_model.specs.Machine.{Direction, Event, first_place, happens, nex
 use Rattle.sctp_model.specs.Invariants.{Invariant}
 use Rattle.sctp_model.proofs.Growth.{place_extended}
 use Rattle.sctp_model.proofs.Placing.{length_placed, place_new}
-use Rattle.sctp_assoc.specs.Acts.{Act, Can, Parts, done, first_chunk_said}
-use Rattle.sctp_directions.specs.Laws.{IsBegun}
+use Rattle.sctp_assoc.specs.Acts.{Act, Parts, done, first_chunk_said}
+use Rattle.sctp_directions.specs.Laws.{IsBegun, SentPiecesBegin}
 use Rattle.sctp_directions.specs.Plain.{IsPlain, IsSimple}
 use Rattle.sctp_directions.specs.Said.{IsGiven, IsSaid}
 use Rattle.sctp_directions.specs.Outgoing.{AreInFlight, AreWaiting, FitsOutgoing, IsInFlight, IsWaiting}
@@ -121,8 +121,8 @@ module _ (a : Parts) (now : ℕ) (x : Waiting) (xs : List Waiting) (w : Directio
   )
 
 -- An association sends a piece for the first time: it is a message that begins.
-pub sent : (a : Parts) (now : ℕ) (w : Direction) → Can (Act.Sent now) a → Invariant w → IsPlain w → FitsOutgoing a w → (s : ℕ) × IsBegun a (Act.Sent now) w s
-sent a now w can inv h f = by_first a.queue.pending refl can f.waiting
+pub sent_pieces_begin : SentPiecesBegin
+sent_pieces_begin a now w can inv h f = by_first a.queue.pending refl can f.waiting
   where
     by_first : (ps : List Waiting) → a.queue.pending ≡ ps → is_some (slice_get ps 0) ≡ true → AreWaiting w.sender.plan a.streams w.sender.next ps
         → (s : ℕ) × IsBegun a (Act.Sent now) w s

@@ -10,13 +10,14 @@ use Rattle.sctp_outbound_queue.specs.Outbound.{with_message}
 use Rattle.sctp_streams.specs.Stream.{StreamView, accepted_by, ordered_and_reliable, params_for}
 use Rattle.sctp_streams.specs.Streams.{StreamMap, change_at, is_generation, stream_at, with_stream}
 use Rattle.sctp_model.specs.Messages.{Message, Plan, message_at, no_message, sum_below}
-use Rattle.sctp_model.specs.Machine.{Direction, Event, happens, written}
+use Rattle.sctp_model.specs.Machine.{Direction, written}
 use Rattle.sctp_model.specs.Machine as machine
 use Rattle.sctp_model.proofs.Growth.{at_put, off_put, message_extended}
 use Rattle.sctp_assoc.specs.Acts.{Act, Parts, done, with_written}
 use Rattle.sctp_assoc.specs.Calls.{message_of}
 use Rattle.sctp_directions.specs.Plain.{IsPlain}
 use Rattle.sctp_directions.specs.Outgoing.{AreWaiting, FitsOutgoing, IsOwn, IsOwnAt, IsWaiting, message_on}
+use Rattle.sctp_directions.specs.Laws.{WritesAreAccepted}
 use Rattle.sctp_directions.proofs.OutgoingKept.{IsGrown, KeepsLive, bytes_in, each_with, flight_kept, grown_from, live_with, one_begun, one_waiting_kept, own_kept, plain_known, waiting_within}
 use Rattle.sctp_directions.proofs.PlainSender.{happens_write}
 
@@ -150,9 +151,8 @@ module _ (a : Parts) (id : ℕ) (bytes : List ℕ) (t : StreamView) (w : Directi
   }
 
 -- A write of an association on a live stream: the direction's sender accepts the message as the stream has it.
-pub wrote : (a : Parts) (id : ℕ) (bytes : List ℕ) (t : StreamView) (w : Direction) → stream_at a.streams id ≡ Some t → 0 < length bytes → length bytes ≤ w.sender.plan.size
-    → IsPlain w → FitsOutgoing a w → FitsOutgoing (done (Act.Wrote id bytes) a) (happens w (Event.Write id (message_on t bytes)))
-wrote a id bytes t w e some one h f =
+pub writes_are_accepted : WritesAreAccepted
+writes_are_accepted a id bytes t w e some one h f =
     subst (FitsOutgoing (done (Act.Wrote id bytes) a)) (sym (happens_write w id (message_on t bytes) record { some = some; one = one; ordered = refl; policy = refl }))
     (subst (λ o. FitsOutgoing (with_written o a id bytes) (record w { sender = written w.sender id (message_on t bytes) })) (sym e)
     (subst (λ o. FitsOutgoing (record a {

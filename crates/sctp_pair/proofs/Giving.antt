@@ -15,7 +15,7 @@ use Rattle.sctp_directions.specs.Laws.{MeetsNobody, IsOfItsOwn}
 use Rattle.sctp_directions.specs.Outgoing.{FitsOutgoing}
 use Rattle.sctp_directions.specs.Plain.{IsPlain}
 use Rattle.sctp_directions.specs.Said.{IsGiven}
-use Rattle.sctp_directions.proofs.Proved.{acknowledgements_are_alike, acts_keep_the_initial_tsns, events_keep_the_limits, only_beginnings_assign, own_acts_leave_what_comes, pieces_given, plain_events_keep_it_plain, senders_events_are_sent, senders_events_keep_the_invariant, senders_events_leave_what_comes, sent_pieces_begin}
+use Rattle.sctp_directions.proofs.Proved.{acknowledgements_are_alike, acts_keep_the_initial_tsns, events_keep_the_limits, only_beginnings_assign, own_acts_leave_what_comes, pieces_are_given, plain_events_keep_it_plain, senders_events_are_sent, senders_events_keep_the_invariant, senders_events_leave_what_comes, sent_pieces_begin}
 use Rattle.sctp_pair.proofs.Between.{Goes, Holds, None_brought, goes_by_sender, goes_nowhere, goes_on, other_by_out}
 
 -- What was done at the sender of the own direction, and the DATA that it gave out.
@@ -54,7 +54,7 @@ act_sent own peer now p y out coming h can =
 act_sent_again : (own peer index : ℕ) (p : Parts) (y : Shown) (out coming : Direction) → Holds own peer p y out coming → Can (Act.SentAgain index) p
     → AfterOut own peer (done (Act.SentAgain index) p) y out coming (data_given (Act.SentAgain index) p)
 act_sent_again own peer index p y out coming h can =
-    let resent = pieces_given p index out can h.sound_out.plain h.between.outgoing in
+    let resent = pieces_are_given p index out can h.sound_out.plain h.between.outgoing in
     let e : Event = Event.Resend (out.sender.reach + index) in
     act_at_sender own peer (Act.SentAgain index) e (data_given (Act.SentAgain index) p) p y out coming h tt tt tt (λ n. n)
     (plain_events_keep_it_plain out e tt h.sound_out.plain) resent.0

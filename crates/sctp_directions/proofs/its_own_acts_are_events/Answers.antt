@@ -1,4 +1,4 @@
-use Rattle.sctp_directions.proofs.Proved.{acknowledgements_are_alike, marks_are_no_events, own_acts_leave_what_comes, pieces_given, sacks_mean_the_same, sent_pieces_begin, what_is_released_is_not_buffered, writes_are_accepted}
+use Rattle.sctp_directions.proofs.Proved.{acknowledgements_are_alike, marks_are_no_events, own_acts_leave_what_comes, pieces_are_given, sacks_mean_the_same, sent_pieces_begin, what_is_released_is_not_buffered, writes_are_accepted}
 use Rattle.sctp_directions.proofs.its_own_acts_are_events.Goals as goal
 
 pub returns-clause-writes : goal.returns-clause-writes
@@ -8,7 +8,7 @@ pub returns-clause-begins : goal.returns-clause-begins
 returns-clause-begins c = sent_pieces_begin
 
 pub returns-clause-pieces : goal.returns-clause-pieces
-returns-clause-pieces c = pieces_given
+returns-clause-pieces c = pieces_are_given
 
 pub returns-clause-marks : goal.returns-clause-marks
 returns-clause-marks c = marks_are_no_events
