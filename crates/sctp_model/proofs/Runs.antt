@@ -3,49 +3,49 @@ use Rattle.std.proofs.Common.{refl}
 use Rattle.sctp_model.specs.Machine.{happens}
 use Rattle.sctp_model.specs.Runs.{ClosedReadsNothing, DroppedUnsent, FirstAbandonedAndSkipped, LateForwardChangesNothing, LateNumberLeavesTheCursor, PiecesOutOfOrder, SacksReleaseOnce, SequenceNumbersWrap, StreamBeginsAnew, StreamsDoNotWait, UnorderedIsDropped, UnorderedIsReadFirst}
 
-pub pieces : PiecesOutOfOrder
+pub pieces_out_of_order : PiecesOutOfOrder
 unfolding happens
-pieces = refl
+pieces_out_of_order = refl
 
-pub skipped : FirstAbandonedAndSkipped
+pub first_abandoned_and_skipped : FirstAbandonedAndSkipped
 unfolding happens
-skipped = refl
+first_abandoned_and_skipped = refl
 
-pub late : LateForwardChangesNothing
+pub late_forward_changes_nothing : LateForwardChangesNothing
 unfolding happens
-late = refl
+late_forward_changes_nothing = refl
 
-pub unordered : UnorderedIsReadFirst
+pub unordered_is_read_first : UnorderedIsReadFirst
 unfolding happens
-unordered = refl
+unordered_is_read_first = refl
 
-pub wrap : SequenceNumbersWrap
-wrap = refl
+pub sequence_numbers_wrap : SequenceNumbersWrap
+sequence_numbers_wrap = refl
 
-pub cursor : LateNumberLeavesTheCursor
+pub late_number_leaves_the_cursor : LateNumberLeavesTheCursor
 unfolding happens
-cursor = (refl, refl, refl, refl, refl)
+late_number_leaves_the_cursor = (refl, refl, refl, refl, refl)
 
-pub released : SacksReleaseOnce
+pub sacks_release_once : SacksReleaseOnce
 unfolding happens
-released = (refl, refl, refl, refl)
+sacks_release_once = (refl, refl, refl, refl)
 
-pub dropped : UnorderedIsDropped
+pub unordered_is_dropped : UnorderedIsDropped
 unfolding happens
-dropped = (refl, refl, refl)
+unordered_is_dropped = (refl, refl, refl)
 
-pub streams : StreamsDoNotWait
+pub streams_do_not_wait : StreamsDoNotWait
 unfolding happens
-streams = (refl, refl, refl)
+streams_do_not_wait = (refl, refl, refl)
 
-pub unsent : DroppedUnsent
+pub dropped_unsent : DroppedUnsent
 unfolding happens
-unsent = (refl, refl, refl)
+dropped_unsent = (refl, refl, refl)
 
-pub closed : ClosedReadsNothing
+pub closed_reads_nothing : ClosedReadsNothing
 unfolding happens
-closed = refl
+closed_reads_nothing = refl
 
-pub anew : StreamBeginsAnew
+pub stream_begins_anew : StreamBeginsAnew
 unfolding happens
-anew = (refl, refl, refl, refl, refl, refl, refl, refl)
+stream_begins_anew = (refl, refl, refl, refl, refl, refl, refl, refl)

@@ -6,9 +6,10 @@ use Rattle.std.proofs.lemmas.Bool.{cases_Bool, cases_lt, cases_eq, and_parts, or
 use Rattle.sctp_model.specs.Messages.{Place, Plan, place_at, bytes_at, bytes_below, rank}
 use Rattle.sctp_model.specs.Packets.{mem}
 use Rattle.sctp_model.specs.Reassembly.{Queue, Got, Drained, next, next_from, next_ordered, drain, waiting}
-use Rattle.sctp_model.specs.Machine.{Direction, live}
-use Rattle.sctp_model.specs.Safe.{IsWhole, Names, AreInOrder, AreAll, AreDistinct, AreRising, IsToBeHad, IsPrefix, IsKeptOrdered, IsKeptReliable, IsSafe, IsWithin, is_ordered, number_of, read_end, read_ssn, unread}
-use Rattle.sctp_model.specs.Invariants.{Invariant, IsPlanned, IsFull, IsGot, IsStream, NoneGone, numbers_of, gone_at}
+use Rattle.sctp_model.specs.Machine.{live}
+use Rattle.sctp_model.specs.Safe.{IsWhole, Names, AreInOrder, AreAll, AreDistinct, AreRising, IsToBeHad, IsPrefix, IsKeptOrdered, IsKeptReliable, is_ordered, number_of, read_end, read_ssn, unread}
+use Rattle.sctp_model.specs.Invariants.{IsPlanned, IsFull, IsGot, IsStream, NoneGone, numbers_of, gone_at}
+use Rattle.sctp_model.specs.Laws.{TheInvariantIsEnough}
 use Rattle.sctp_model.proofs.Lists.{all_mem, all_map, all_front}
 use Rattle.sctp_model.proofs.Ranks.{rank_rises, rank_found}
 use Rattle.sctp_model.proofs.Basics.{reach_from}
@@ -172,8 +173,8 @@ bytes_fewer p a b s (suc o) h =
     (cases_Bool (eqb (place_at p o).stream s)) in
     omega arith
 
-pub safe_from : (w : Direction) (s : ℕ) → Invariant w → IsWithin w → w.over s ≡ false → IsSafe w s
-safe_from w s h l v = record {
+pub the_invariant_is_enough : TheInvariantIsEnough
+the_invariant_is_enough w l h s v = record {
   read = (numbers_of p (w.reads s), in_order p gone current (w.sender.next s) (w.sender.ssn s) taken passed skipped s q (w.reads s) stream);
   prefix = λ ko kr is_open.
       let d = end_of in

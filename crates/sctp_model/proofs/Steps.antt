@@ -8,13 +8,13 @@ use Rattle.sctp_model.specs.Reassembly.{Queue, Taken, next}
 use Rattle.sctp_model.specs.Machine.{Direction, Event, put_2, fresh, happens, run, reach, begin, begin_if, number_for, can_begin, go_on, can_abandon, is_of, marked, tail_marked, left, unacknowledged, has_message, sack_comes, data_comes, forward_comes, is_new, took, was_read, read, passes, acknowledged_by}
 use Rattle.sctp_model.specs.Safe.{IsWithin, StaysWithin}
 use Rattle.sctp_model.specs.Invariants.{Invariant, IsPiece, IsHonest, IsForward, released_bytes}
-use Rattle.sctp_model.specs.Laws.{OneDirectionIsSafe}
+use Rattle.sctp_model.specs.Laws.{EachEventKeepsTheInvariant, OneDirectionIsSafe}
 use Rattle.sctp_model.proofs.Lists.{all_get}
 use Rattle.sctp_model.proofs.Writing.{keeps_write, keeps_pass_over, keeps_drop, given_keeps}
 use Rattle.sctp_model.proofs.Giving.{keeps_begin, keeps_go_on, keeps_marked, marked_frees}
 use Rattle.sctp_model.proofs.Released.{released_given}
 use Rattle.sctp_model.proofs.Coming.{keeps_resend, keeps_sack_made, keeps_forward_made, keeps_sack_comes, keeps_data_comes, keeps_forward_comes, keeps_read, keeps_open, keeps_replace, keeps_close, keeps_end, keeps_restart}
-use Rattle.sctp_model.proofs.Safety.{safe_from}
+use Rattle.sctp_model.proofs.Safety.{the_invariant_is_enough}
 
 either : (b : Bool) (x y : Direction) → (b ≡ true → Invariant x) → (b ≡ false → Invariant y) → Invariant (cond b x y)
 either b x y = cond_both b x y Invariant
@@ -110,26 +110,26 @@ sack_event_keeps w k h = sack_step w k (slice_get w.sacks k) refl h
 
 -- Every event keeps it where the limits hold.
 
-pub happens_keeps : (w : Direction) (e : Event) → IsWithin w → Invariant w → Invariant (happens w e)
+pub each_event_keeps_the_invariant : EachEventKeepsTheInvariant
 unfolding happens
-happens_keeps w (Event.Write s m) l h = write_event_keeps w s m h
-happens_keeps w (Event.PassOver s) l h = either _ _ _ (λ b. keeps_pass_over w s b h) (λ b. h)
-happens_keeps w (Event.Drop s i) l h = either _ _ _ (λ b. keeps_drop w s i b h) (λ b. h)
-happens_keeps w (Event.Begin s i any) l h = begin_event_keeps w s i any h
-happens_keeps w Event.GoOn l h = go_on_step w w.sender.current refl h
-happens_keeps w (Event.Resend o) l h = resend_event_keeps w o h
-happens_keeps w (Event.Abandon s i) l h = either _ _ _ (λ b. abandon_step w s i w.sender.current refl b h) (λ b. h)
-happens_keeps w (Event.SackComes k) l h = sack_event_keeps w k h
-happens_keeps w Event.ForwardMade l h = either _ _ _ (λ b. keeps_forward_made w l (ltb-true _ _ b) h) (λ b. h)
-happens_keeps w (Event.DataComes k) l h = data_step w k (slice_get w.datas k) refl l h
-happens_keeps w Event.SackMade l h = keeps_sack_made w h
-happens_keeps w (Event.ForwardComes k) l h = forward_step w k (slice_get w.forwards k) refl l h
-happens_keeps w (Event.Open s) l h = keeps_open w s h
-happens_keeps w (Event.Read s) l h = read_step w s (w.receiver.queues s) refl l h
-happens_keeps w Event.Close l h = keeps_close w h
-happens_keeps w (Event.End s) l h = keeps_end w s h
-happens_keeps w (Event.Restart s) l h = either _ _ _ (λ b. keeps_restart w s b h) (λ b. h)
-happens_keeps w (Event.Replace s q) l h = either _ _ _ (λ b. keeps_replace w s q b h) (λ b. h)
+each_event_keeps_the_invariant w (Event.Write s m) l h = write_event_keeps w s m h
+each_event_keeps_the_invariant w (Event.PassOver s) l h = either _ _ _ (λ b. keeps_pass_over w s b h) (λ b. h)
+each_event_keeps_the_invariant w (Event.Drop s i) l h = either _ _ _ (λ b. keeps_drop w s i b h) (λ b. h)
+each_event_keeps_the_invariant w (Event.Begin s i any) l h = begin_event_keeps w s i any h
+each_event_keeps_the_invariant w Event.GoOn l h = go_on_step w w.sender.current refl h
+each_event_keeps_the_invariant w (Event.Resend o) l h = resend_event_keeps w o h
+each_event_keeps_the_invariant w (Event.Abandon s i) l h = either _ _ _ (λ b. abandon_step w s i w.sender.current refl b h) (λ b. h)
+each_event_keeps_the_invariant w (Event.SackComes k) l h = sack_event_keeps w k h
+each_event_keeps_the_invariant w Event.ForwardMade l h = either _ _ _ (λ b. keeps_forward_made w l (ltb-true _ _ b) h) (λ b. h)
+each_event_keeps_the_invariant w (Event.DataComes k) l h = data_step w k (slice_get w.datas k) refl l h
+each_event_keeps_the_invariant w Event.SackMade l h = keeps_sack_made w h
+each_event_keeps_the_invariant w (Event.ForwardComes k) l h = forward_step w k (slice_get w.forwards k) refl l h
+each_event_keeps_the_invariant w (Event.Open s) l h = keeps_open w s h
+each_event_keeps_the_invariant w (Event.Read s) l h = read_step w s (w.receiver.queues s) refl l h
+each_event_keeps_the_invariant w Event.Close l h = keeps_close w h
+each_event_keeps_the_invariant w (Event.End s) l h = keeps_end w s h
+each_event_keeps_the_invariant w (Event.Restart s) l h = either _ _ _ (λ b. keeps_restart w s b h) (λ b. h)
+each_event_keeps_the_invariant w (Event.Replace s q) l h = either _ _ _ (λ b. keeps_replace w s q b h) (λ b. h)
 
 pub fresh_holds : (size : ℕ) → 0 < size → Invariant (fresh size)
 fresh_holds size some = record {
@@ -213,9 +213,9 @@ fresh_holds size some = record {
 
 pub run_keeps : (es : List Event) (w : Direction) → StaysWithin w es → Invariant w → Invariant (run es w) × IsWithin (run es w)
 run_keeps [] w l h = (h, l)
-run_keeps (e ∷ es) w l h = run_keeps es (happens w e) l.1 (happens_keeps w e l.0 h)
+run_keeps (e ∷ es) w l h = run_keeps es (happens w e) l.1 (each_event_keeps_the_invariant w e l.0 h)
 
-pub one_direction : OneDirectionIsSafe
-one_direction size some events l s v =
+pub one_direction_is_safe : OneDirectionIsSafe
+one_direction_is_safe size some events l s v =
     let r = run_keeps events (fresh size) l (fresh_holds size some) in
-    safe_from (run events (fresh size)) s r.0 r.1 v
+    the_invariant_is_enough (run events (fresh size)) r.1 r.0 s v

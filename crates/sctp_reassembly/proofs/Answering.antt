@@ -108,8 +108,8 @@ ordered_answered initial p over came s low cursor r q (g ∷ gs) (h ∷ hs) hp v
     (first_alone initial p s q.ordered g gs h hs rise a (there_from p q.ordered (h ∷ hs) same) (λ x d f m. in_from p q.ordered (h ∷ hs) same x d f))
     (least_number initial p s q.ordered (g ∷ gs) h hs a rise same)
 
-pub read_alike : ReadsAnswerAlike
-read_alike initial p over came s low cursor r q hp v small w st = go r.complete q.complete refl refl st.complete
+pub reads_answer_alike : ReadsAnswerAlike
+reads_answer_alike initial p over came s low cursor r q hp v small w st = go r.complete q.complete refl refl st.complete
   where
     go : (ms : List ReceivedMessage) (gots : List Got) → r.complete ≡ ms → q.complete ≡ gots → map letter_received ms ≡ map letter_read gots
         → IsAnsweredAlike initial p s q (read_from r ms) (next_from q gots)

@@ -17,11 +17,11 @@ use Rattle.sctp_model.proofs.Growth.{at_put}
 use Rattle.sctp_model.proofs.Lists.{all_get}
 use Rattle.sctp_reassembly.specs.Laws.{AForwardThatComesStands, AReadThatHappensStands, DataThatComesStands, UnorderedDataThatComesStands}
 use Rattle.sctp_reassembly.specs.Stands.{IsAnsweredAlike, IsInWindow, IsLoose, IsReadAs, IsSaid, StandsFor, skipped_if}
-use Rattle.sctp_reassembly.proofs.Answering.{read_alike}
+use Rattle.sctp_reassembly.proofs.Answering.{reads_answer_alike}
 use Rattle.sctp_reassembly.proofs.Arriving.{ordered_pieces_stand}
 use Rattle.sctp_reassembly.proofs.Dropping.{unordered_drops_stand}
 use Rattle.sctp_reassembly.proofs.Unordered.{unordered_pieces_stand}
-use Rattle.sctp_reassembly.proofs.Skipped.{invariant_window, ordered_skips_stand}
+use Rattle.sctp_reassembly.proofs.Skipped.{the_invariant_gives_the_window, ordered_skips_stand}
 
 -- what was taken in is no longer new
 not_held : (p : Plan) (came : List ℕ) (s low o : ℕ) (ordered : Bool) (held : List Data) → AllByRecursion (IsHeld p came s ordered low) held → mem o came ≡ false
@@ -47,7 +47,7 @@ data_that_comes_stands initial w k limit r c d l h v e opened n kind said st =
     let piece = all_get (IsPiece p) w.datas k d e h.datas in
     let after : Direction = record w { receiver = took w.receiver d } in
     let within : IsWithin after = record { offsets = l.offsets; flight = l.flight; unread = l.unread } in
-    let win = invariant_window after within (keeps_data_comes w d piece n l h) d.stream v in
+    let win = the_invariant_gives_the_window after within (keeps_data_comes w d piece n l h) d.stream v in
     let there : live (after.receiver.queues d.stream) ≡ push q d = ap live (at_put w.receiver.queues d.stream d.stream (Some (push q d)) refl) in
     let win' : IsInWindow p (d.offset ∷ w.receiver.taken) d.stream (read_ssn p 0 (w.reads d.stream)) win.0 (push q d)
     = subst (IsInWindow p (d.offset ∷ w.receiver.taken) d.stream (read_ssn p 0 (w.reads d.stream)) win.0) there win.1 in
@@ -96,9 +96,9 @@ read_so initial w s r q (r', Some m) (Some t) e a = (
 pub a_read_that_happens_stands : AReadThatHappensStands
 a_read_that_happens_stands initial w s r q l h v opened e st =
     let p = w.sender.plan in
-    let win = invariant_window w l h s v in
+    let win = the_invariant_gives_the_window w l h s v in
     let there : live (w.receiver.queues s) ≡ q = ap live e in
-    let alike = read_alike initial p w.over w.receiver.taken s (read_ssn p 0 (w.reads s)) win.0 r q h.planned v l.offsets
+    let alike = reads_answer_alike initial p w.over w.receiver.taken s (read_ssn p 0 (w.reads s)) win.0 r q h.planned v l.offsets
     (subst (IsInWindow p w.receiver.taken s (read_ssn p 0 (w.reads s)) win.0) there win.1) st in
     subst (λ (z : Direction). StandsFor initial p s (taken r).0 (live (z.receiver.queues s)) × IsReadAs (taken r).1 (w.reads s) (z.reads s)) (sym (was_so w s q e opened))
     (read_so initial w s r q (taken r) (next q) e alike)
@@ -115,7 +115,7 @@ pub a_forward_that_comes_stands : AForwardThatComesStands
 a_forward_that_comes_stands initial w k s o r q f l h v e opened n at there st =
     let p = w.sender.plan in
     let low = read_ssn p 0 (w.reads s) in
-    let win = invariant_window w l h s v in
+    let win = the_invariant_gives_the_window w l h s v in
     let win' : IsInWindow p w.receiver.taken s low win.0 q = subst (IsInWindow p w.receiver.taken s low win.0) (ap live there) win.1 in
     let known = (all_get (IsForward p w.sender.gone w.over w.sender.acknowledged w.sender.reach) w.forwards k f e h.forwards).known in
     let small = l.offsets in
@@ -125,7 +125,7 @@ a_forward_that_comes_stands initial w k s o r q f l h v e opened n at there st =
     (subst (λ (z : ℕ). StandsFor initial p s after (drop_unordered z (skip_if q (skips f s)))) (sym at)
     (unordered_drops_stand initial p w.over s o (skipped_if r (skips f s)) (skip_if q (skips f s)) h.planned l.offsets (omega arith) (go win' (skips f s)))))
   where
-    go : IsInWindow w.sender.plan w.receiver.taken s (read_ssn w.sender.plan 0 (w.reads s)) (invariant_window w l h s v).0 q → (m : Option ℕ)
+    go : IsInWindow w.sender.plan w.receiver.taken s (read_ssn w.sender.plan 0 (w.reads s)) (the_invariant_gives_the_window w l h s v).0 q → (m : Option ℕ)
         → StandsFor initial w.sender.plan s (skipped_if r m) (skip_if q m)
     go x None = st
-    go x (Some m) = ordered_skips_stand initial w.sender.plan w.over w.receiver.taken s (read_ssn w.sender.plan 0 (w.reads s)) (invariant_window w l h s v).0 m r q h.planned v l.offsets x st
+    go x (Some m) = ordered_skips_stand initial w.sender.plan w.over w.receiver.taken s (read_ssn w.sender.plan 0 (w.reads s)) (the_invariant_gives_the_window w l h s v).0 m r q h.planned v l.offsets x st

@@ -16,7 +16,7 @@ use Rattle.sctp_model.proofs.Lists.{all_both, all_filter, all_weaker}
 use Rattle.sctp_model.proofs.Windows.{next_is}
 use Rattle.sctp_reassembly.specs.Laws.{TheSameIsReady}
 use Rattle.sctp_reassembly.specs.Stands.{IsAnsweredAlike, IsInWindow, StandsFor, letter_received}
-use Rattle.sctp_reassembly.proofs.Answering.{read_alike}
+use Rattle.sctp_reassembly.proofs.Answering.{reads_answer_alike}
 use Rattle.sctp_reassembly.proofs.Reading.{near_too}
 use Rattle.sctp_reassembly.proofs.Whole.{IsNearBy}
 
@@ -89,14 +89,14 @@ nothing_more (suc n) (suc m) r q e f = rw (e, f) refl
 ready_alike : (initial : ℕ) (p : Plan) (over : ℕ → Bool) (came : List ℕ) (s low cursor n m : ℕ) (r : Reassembly) (q : Queue) → IsPlanned p over → over s ≡ false
     → length p.places < 2 ^ 31 → IsInWindow p came s low cursor q → StandsFor initial p s r q → messages_held r ≤ n → waiting q ≤ m
     → map letter_received (ready_within n r) ≡ map letter_read (drain m q).gots
-ready_alike initial p over came s low cursor zero m r q h v small w st ln lm = none_held (taken r) (next q) refl refl (takes_one r) (read_alike initial p over came s low cursor r q h v small w st)
+ready_alike initial p over came s low cursor zero m r q h v small w st ln lm = none_held (taken r) (next q) refl refl (takes_one r) (reads_answer_alike initial p over came s low cursor r q h v small w st)
   where
     none_held : (x : Reassembly × Option ReceivedMessage) (y : Option Taken) → taken r ≡ x → next q ≡ y → TakesOne r x → IsAnsweredAlike initial p s q x y
         → [] ≡ map letter_read (drain m q).gots
     none_held (r', None) None e f t a = nothing_more zero m r q (e ∙ ap (λ (z : Reassembly). (z, None)) t) f
     none_held (r', None) (Some y) e f t a = absurd a
     none_held (r', Some x) y e f t a = absurd (omega arith)
-ready_alike initial p over came s low cursor (suc n) zero r q h v small w st ln lm = none_held (taken r) (next q) refl refl (takes_one r) (read_alike initial p over came s low cursor r q h v small w st)
+ready_alike initial p over came s low cursor (suc n) zero r q h v small w st ln lm = none_held (taken r) (next q) refl refl (takes_one r) (reads_answer_alike initial p over came s low cursor r q h v small w st)
   where
     none_held : (x : Reassembly × Option ReceivedMessage) (y : Option Taken) → taken r ≡ x → next q ≡ y → TakesOne r x → IsAnsweredAlike initial p s q x y
         → map letter_received (ready_within (suc n) r) ≡ []
@@ -105,7 +105,7 @@ ready_alike initial p over came s low cursor (suc n) zero r q h v small w st ln 
     none_held (r', Some x) None e f t a = absurd a
     none_held (r', Some x) (Some y) e f t a = absurd (let l = read_shrinks q y f in omega arith)
 ready_alike initial p over came s low cursor (suc n) (suc m) r q h v small w st ln lm =
-    go (taken r) (next q) refl refl (takes_one r) (read_alike initial p over came s low cursor r q h v small w st)
+    go (taken r) (next q) refl refl (takes_one r) (reads_answer_alike initial p over came s low cursor r q h v small w st)
     (λ k r' q' w' st' l l'. ready_alike initial p over came s low k n m r' q' h v small w' st' l l')
   where
     go : (x : Reassembly × Option ReceivedMessage) (y : Option Taken) → taken r ≡ x → next q ≡ y → TakesOne r x → IsAnsweredAlike initial p s q x y

@@ -116,8 +116,8 @@ near_by : (p : Plan) (low : ℕ) (d : Data) → IsNear p low d → IsNearBy p lo
 unfolding IsNear
 near_by p low d n = n
 
-pub invariant_window : TheInvariantGivesTheWindow
-invariant_window w l i s v =
+pub the_invariant_gives_the_window : TheInvariantGivesTheWindow
+the_invariant_gives_the_window w l i s v =
     let p = w.sender.plan in
     let h = (i.streams s v).ordered in
     let low = read_ssn p 0 (w.reads s) in

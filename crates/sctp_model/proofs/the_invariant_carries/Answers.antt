@@ -1,15 +1,14 @@
 use Rattle.std.proofs.Common.{◌%◌, ◌≤◌, ap, sym, subst, ◌∙◌}
 use Rattle.sctp_model.specs.Messages.{accepted_bytes}
 use Rattle.sctp_model.proofs.Released.{released_within}
-use Rattle.sctp_model.proofs.Safety.{safe_from}
-use Rattle.sctp_model.proofs.Steps.{happens_keeps}
+use Rattle.sctp_model.proofs.Proved.{each_event_keeps_the_invariant, the_invariant_is_enough}
 use Rattle.sctp_model.proofs.the_invariant_carries.Goals as goal
 
 pub returns-clause-kept : goal.returns-clause-kept
-returns-clause-kept c = happens_keeps
+returns-clause-kept c = each_event_keeps_the_invariant
 
 pub returns-clause-enough : goal.returns-clause-enough
-returns-clause-enough c w l h s v = safe_from w s h l v
+returns-clause-enough c = the_invariant_is_enough
 
 pub returns-clause-cursor : goal.returns-clause-cursor
 returns-clause-cursor c w h s v = let o = (h.streams s v).ordered in o.is ∙ ap (λ z. z % 65536) o.latest

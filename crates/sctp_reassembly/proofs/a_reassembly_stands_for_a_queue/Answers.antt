@@ -1,4 +1,4 @@
-use Rattle.sctp_reassembly.proofs.Answering.{read_alike}
+use Rattle.sctp_reassembly.proofs.Answering.{reads_answer_alike}
 use Rattle.sctp_reassembly.proofs.Arriving.{ordered_pieces_stand}
 use Rattle.sctp_reassembly.proofs.Ready.{the_same_is_ready}
 use Rattle.sctp_reassembly.proofs.Skipped.{ordered_skips_stand}
@@ -11,7 +11,7 @@ pub returns-clause-pieces : goal.returns-clause-pieces
 returns-clause-pieces c = ordered_pieces_stand
 
 pub returns-clause-reads : goal.returns-clause-reads
-returns-clause-reads c = read_alike
+returns-clause-reads c = reads_answer_alike
 
 pub returns-clause-skips : goal.returns-clause-skips
 returns-clause-skips c = ordered_skips_stand
