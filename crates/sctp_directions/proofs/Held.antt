@@ -8,6 +8,7 @@ use Rattle.std.proofs.lemmas.Bool.{and_from, and_left, and_parts, cond-true, con
 use Rattle.sctp_wire_types.specs.declared.chunk.ChunkPayloadData.{ChunkPayloadData}
 use Rattle.sctp_wire_types.specs.Ids.{number_of}
 use Rattle.sctp_wire_types.specs.Serial.{ssn_lt}
+use Rattle.sctp_receive_queues.proofs.Cuts.{bytes_of_pieces}
 use Rattle.sctp_receive_queues.specs.Messages.{ReceivedMessage, message_of}
 use Rattle.sctp_receive_queues.specs.Pieces.{is_complete}
 use Rattle.sctp_receive_queues.specs.Reassembly.{Group, Reassembly, group_of, is_due, messages_held, pushed, put_at, read_from, read_ordered, ready, ready_on, ready_within, taken, with_ordered}
@@ -224,6 +225,7 @@ sole_letter : (p : Plan) (n : ℕ) (g : Group) (d : Data) → IsHeldAs p n g d �
 sole_letter p n g d i =
     ap (λ (z : ℕ). letter z (d.bytes ++ [])) (sym i.payload_type)
     ∙ ap (λ (z : List ℕ). letter (number_of i.piece.payload_type) (z ++ [])) (sym i.bytes)
+    ∙ ap (letter (number_of i.piece.payload_type)) (sym (bytes_of_pieces (i.piece ∷ [])))
     ∙ ap (λ z. letter_received (message_of z)) (sym i.pieces)
   where
     letter : ℕ → List ℕ → Letter

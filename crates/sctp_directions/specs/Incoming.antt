@@ -2,7 +2,7 @@
 use Rattle.std.specs.Prelude.{◌≡◌, ℕ, suc, ◌+◌, ◌%◌, ◌<◌, true, List, [], ◌∷◌, ◌++◌, length, reverse, Option, Some, None, ⊤}
 use Rattle.sctp_wire_types.specs.declared.chunk.ChunkPayloadData.{ChunkPayloadData}
 use Rattle.sctp_wire_types.specs.Ids.{number_of}
-use Rattle.sctp_receive_queues.specs.Messages.{ReceivedMessage}
+use Rattle.sctp_receive_queues.specs.Messages.{ReceivedMessage, bytes_left}
 use Rattle.sctp_receive_queues.specs.Reassembly.{Group, Reassembly}
 use Rattle.sctp_streams.specs.Stream.{StreamView}
 use Rattle.sctp_streams.specs.Streams.{stream_at}
@@ -17,7 +17,7 @@ use Rattle.sctp_directions.specs.Plain.{count_below}
 
 -- what a reader sees of a message
 abbrev pub letter_received : ReceivedMessage → Letter
-letter_received m = record { payload_type = number_of m.payload_type; bytes = m.bytes }
+letter_received m = record { payload_type = number_of m.payload_type; bytes = bytes_left m }
 
 -- A group of one piece is the DATA d, and that is message n of its stream.
 pub record IsHeldAs (p : Plan) (n : ℕ) (g : Group) (d : Data) : Type 0 where

@@ -1,6 +1,6 @@
 -- What a caller of a pair can tell of it by its steps and their replies alone: what it wrote and what it read.
 use Rattle.std.specs.Prelude.{◌≡◌, ℕ, ◌+◌, ◌&&◌, ◌==◌, Bool, false, if◌then◌else◌, List, [], ◌∷◌, ◌++◌, Option, Some, None}
-use Rattle.sctp_receive_queues.specs.Messages.{ReceivedMessage}
+use Rattle.sctp_receive_queues.specs.Messages.{ReceivedMessage, bytes_left}
 use Rattle.sctp_pair.specs.declared.step.Reply.{Reply}
 use Rattle.sctp_pair.specs.declared.step.Reply.TheVariants as replies
 use Rattle.sctp_pair.specs.declared.step.Side2.{Side2}
@@ -22,7 +22,7 @@ bytes_written step reply x s = []
 -- the bytes of a message, if there is one
 abbrev pub bytes_of : Option ReceivedMessage → List (List ℕ)
 bytes_of None = []
-bytes_of (Some message) = message.bytes ∷ []
+bytes_of (Some message) = bytes_left message ∷ []
 
 -- the message that a read of side x on stream s was answered, as its bytes
 abbrev pub bytes_read : Step → Reply → Side2 → ℕ → List (List ℕ)

@@ -3,6 +3,8 @@ use Rattle.std.proofs.Common.{ℕ, suc, ◌+◌, ◌-◌, ◌%◌, ◌^◌, ◌<
 use Rattle.std.specs.List.{AllByRecursion}
 use Rattle.std.proofs.lemmas.Bool.{cases_Bool, eqb-true, eqb-false, eq-eqb, or_cases}
 use Rattle.sctp_wire_types.specs.declared.chunk.ChunkPayloadData.{ChunkPayloadData}
+use Rattle.sctp_wire_types.specs.Ids.{number_of}
+use Rattle.sctp_receive_queues.proofs.Cuts.{bytes_of_pieces}
 use Rattle.sctp_receive_queues.specs.Messages.{joined, message_of}
 use Rattle.sctp_receive_queues.specs.Pieces.{ends, follows, is_complete, is_last as is_last_piece, last_of, tsn_after}
 use Rattle.sctp_model.specs.Messages.{Plan, place_at}
@@ -145,7 +147,8 @@ pub letter_is : (initial : ℕ) (p : Plan) (cs : List ChunkPayloadData) (o : ℕ
     → letter_received (message_of cs) ≡ letter_read (got_of (record { head = data_at p o; pieces = map (data_at p) (o ∷ rest) }))
 letter_is initial p [] o rest a = absurd a
 letter_is initial p (c ∷ cs) o rest a =
-    ap (λ (z : ℕ). the_letter z (joined (c ∷ cs))) a.0.payload_type ∙ ap (the_letter (data_at p o).payload_type) (joined_is initial p (c ∷ cs) (o ∷ rest) a)
+    ap (the_letter (number_of c.payload_type)) (bytes_of_pieces (c ∷ cs))
+    ∙ ap (λ (z : ℕ). the_letter z (joined (c ∷ cs))) a.0.payload_type ∙ ap (the_letter (data_at p o).payload_type) (joined_is initial p (c ∷ cs) (o ∷ rest) a)
   where
     the_letter : ℕ → List ℕ → Letter
     the_letter k bs = record { payload_type = k; bytes = bs }

@@ -6,7 +6,7 @@ use Rattle.sctp_wire_types.specs.declared.chunk.ChunkPayloadData.{ChunkPayloadDa
 use Rattle.sctp_wire_types.specs.declared.error.Error.{Error}
 use Rattle.sctp_wire_types.specs.declared.error.Error.TheVariants as errors
 use Rattle.sctp_wire_types.specs.Ids.{number_of}
-use Rattle.sctp_receive_queues.specs.Messages.{ReceivedMessage}
+use Rattle.sctp_receive_queues.specs.Messages.{ReceivedMessage, bytes_left}
 use Rattle.sctp_receive_queues.specs.Pieces.{is_complete}
 use Rattle.sctp_receive_queues.specs.Reassembly.{Group, Reassembly, skipped}
 use Rattle.sctp_model.specs.Messages.{Plan, IsAt, place_at, is_last}
@@ -66,7 +66,7 @@ numbers_in hs = map (λ (h : Held). h.number) hs
 
 -- what a reader sees of a message
 abbrev pub letter_received : ReceivedMessage → Letter
-letter_received m = record { payload_type = number_of m.payload_type; bytes = m.bytes }
+letter_received m = record { payload_type = number_of m.payload_type; bytes = bytes_left m }
 
 -- The pieces of unordered messages that wait for others of their message (RFC 4960 sections 6.6 and 6.9).
 

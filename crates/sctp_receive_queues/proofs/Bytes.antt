@@ -9,9 +9,10 @@ use Rattle.std.proofs.lemmas.List.Quantifiers.{position-Some}
 use Rattle.std.proofs.lemmas.List.Sums.{sum_by-cons, sum_by-append, sum_by-insert, sum_by-remove, sum_by-set}
 use Rattle.std.proofs.lemmas.Option.{slice_get-get_or, slice_get_past}
 use Rattle.sctp_wire_types.specs.declared.chunk.ChunkPayloadData.{ChunkPayloadData}
-use Rattle.sctp_receive_queues.specs.Messages.{ReceivedMessage, message_of, joined}
+use Rattle.sctp_receive_queues.specs.Messages.{ReceivedMessage, bytes_left, message_of}
 use Rattle.sctp_receive_queues.specs.Pieces.{bytes_of, is_complete, index_of}
 use Rattle.sctp_receive_queues.specs.Reassembly.{Group, bytes_in_groups, bytes_in_runs, bytes_in_messages, group_of, grown, put_at, with_ordered, place_of_ssn, place_for_ssn, run_before, run_at, place_for_tsn, joins_before, joins_after, part, put_between, with_unordered, finished, unordered_put, saturated_bytes, stays, above, trimmed}
+use Rattle.sctp_receive_queues.proofs.Cuts.{bytes_of_pieces}
 use Rattle.sctp_receive_queues.proofs.Places.{run_get}
 use Rattle.sctp_receive_queues.proofs.Sums.{saturated_sum, filter_sum}
 
@@ -22,15 +23,15 @@ piece_bytes : ChunkPayloadData → ℕ
 piece_bytes p = length p.user_data
 
 message_bytes : ReceivedMessage → ℕ
-message_bytes m = length m.bytes
+message_bytes m = length (bytes_left m)
 
 joined_bytes : (a b : List ChunkPayloadData) (p : ChunkPayloadData) → bytes_of (a ++ p ∷ b) ≡ bytes_of a + (length p.user_data + bytes_of b)
 joined_bytes a b p =
     sum_by-append (λ (p : ChunkPayloadData). length p.user_data) a (p ∷ b) ∙
     ap (λ n. bytes_of a + n) (sum_by-cons (λ (p : ChunkPayloadData). length p.user_data) p b)
 
-pub message_length : (run : List ChunkPayloadData) → length (joined run) ≡ bytes_of run
-message_length run = length-flat_map (λ (p : ChunkPayloadData). p.user_data) run
+pub message_length : (run : List ChunkPayloadData) → length (bytes_left (message_of run)) ≡ bytes_of run
+message_length run = ap length (bytes_of_pieces run) ∙ length-flat_map (λ (p : ChunkPayloadData). p.user_data) run
 
 -- Ordered messages.
 
@@ -133,8 +134,8 @@ finished_bytes runs k ms =
     let bound : k < length runs = ⊎_elim (λ (h : k < length runs). h) (λ (h : length runs ≤ k). let no = not_complete runs k h in absurd (cc)) (cases_lt k (length runs)) in
     let fewer = sum_by-remove bytes_of runs k [] bound in
     let same : bytes_of (run_at runs k) ≡ bytes_of (get_or runs k []) = ap bytes_of (run_get runs k) in
-    let more = sum_by-append (λ (m : ReceivedMessage). length m.bytes) ms (message_of (run_at runs k) ∷ []) in
-    let one = sum_by-cons (λ (m : ReceivedMessage). length m.bytes) (message_of (run_at runs k)) [] in
+    let more = sum_by-append (λ (m : ReceivedMessage). length (bytes_left m)) ms (message_of (run_at runs k) ∷ []) in
+    let one = sum_by-cons (λ (m : ReceivedMessage). length (bytes_left m)) (message_of (run_at runs k)) [] in
     let long = message_length (run_at runs k) in
     rw e (omega (arith, fewer, same, more, one, long)))
     (λ (e : is_complete (run_at runs k) ≡ false). rw e refl)
@@ -166,12 +167,12 @@ trimmed_bytes tsn runs =
     let fewer = filter_sum bytes_of (λ (r : List ChunkPayloadData). not (eqb (length r) 0)) (map (above tsn) runs) in
     omega (arith, fewer, above_bytes tsn runs)
 
-pub held_exactly : (groups : List Group) (runs : List (List ChunkPayloadData)) (ms : List ReceivedMessage) → bytes_in_groups groups + bytes_in_runs runs + bytes_in_messages ms < 2 ^ 64 → min (min (saturated_bytes (λ (g : Group). bytes_of g.pieces) groups + saturated_bytes bytes_of runs) (2 ^ 64 - 1) + saturated_bytes (λ (m : ReceivedMessage). length m.bytes) ms) (2 ^ 64 - 1) ≡ bytes_in_groups groups + bytes_in_runs runs + bytes_in_messages ms
+pub held_exactly : (groups : List Group) (runs : List (List ChunkPayloadData)) (ms : List ReceivedMessage) → bytes_in_groups groups + bytes_in_runs runs + bytes_in_messages ms < 2 ^ 64 → min (min (saturated_bytes (λ (g : Group). bytes_of g.pieces) groups + saturated_bytes bytes_of runs) (2 ^ 64 - 1) + saturated_bytes (λ (m : ReceivedMessage). length (bytes_left m)) ms) (2 ^ 64 - 1) ≡ bytes_in_groups groups + bytes_in_runs runs + bytes_in_messages ms
 held_exactly groups runs ms small =
     rw (
       saturated_sum (λ (g : Group). bytes_of g.pieces) groups (omega (arith, small)),
       saturated_sum bytes_of runs (omega (arith, small)),
-      saturated_sum (λ (m : ReceivedMessage). length m.bytes) ms (omega (arith, small)),
+      saturated_sum (λ (m : ReceivedMessage). length (bytes_left m)) ms (omega (arith, small)),
     )
     (small_sum (bytes_in_groups groups) (bytes_in_runs runs) (bytes_in_messages ms) small)
   where

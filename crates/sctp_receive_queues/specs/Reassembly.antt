@@ -5,7 +5,7 @@ use Rattle.sctp_wire_types.specs.Serial.{ssn_lt, ssn_lte, tsn_lte}
 use Rattle.sctp_wire_types.specs.declared.chunk.ChunkPayloadData.{ChunkPayloadData}
 use Rattle.sctp_wire_types.specs.declared.error.Error.{Error}
 use Rattle.sctp_wire_types.specs.declared.error.Error.TheVariants as errors
-use Rattle.sctp_receive_queues.specs.Messages.{ReceivedMessage, message_of}
+use Rattle.sctp_receive_queues.specs.Messages.{ReceivedMessage, bytes_left, message_of}
 use Rattle.sctp_receive_queues.specs.Pieces.{bytes_of, is_complete, begins, ends, has_other_type, index_of, refusal_of, first_is_after, last_is_before, covers, is_past, is_later, last_of}
 
 -- An ordered message that is put together: its SSN, and the pieces held of it in the order of their TSNs.
@@ -36,7 +36,7 @@ abbrev pub bytes_in_runs : List (List ChunkPayloadData) → ℕ
 bytes_in_runs runs = sum_by bytes_of runs
 
 abbrev pub bytes_in_messages : List ReceivedMessage → ℕ
-bytes_in_messages messages = sum_by (λ (m : ReceivedMessage). length m.bytes) messages
+bytes_in_messages messages = sum_by (λ (m : ReceivedMessage). length (bytes_left m)) messages
 
 -- the bytes of all pieces that came and were not read
 abbrev pub bytes_waiting : Reassembly → ℕ

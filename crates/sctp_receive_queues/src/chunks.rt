@@ -1,6 +1,8 @@
 // A message as a reader gets it.
-ghost use Rattle.std.specs.Prelude.{◌≡◌, ◌==◌, ◌+◌, length, OnErr, OnOk, IfOk, Some, ◌++◌, slice_get, take, drop, ◌<◌, ◌≤◌};
-ghost use Rattle.sctp_receive_queues.specs.Messages.{joined, front_bytes, first_bytes, is_blank, message_of, IsCut};
+ghost use Rattle.std.specs.Prelude.{◌≡◌, ◌==◌, ◌++◌, length, OnErr, OnOk, IfOk, IfSome, Some, slice_get, ◌<◌};
+ghost use Rattle.std.specs.List.{concat};
+ghost use Rattle.sctp_receive_queues.specs.Messages.{bytes_left, filled, first_cut, behind_cut, front_bytes};
+ghost use Rattle.sctp_receive_queues.specs.Messages.{is_blank, message_of, IsCut};
 ghost use Rattle.sctp_receive_queues.specs.Pieces.{bytes_of};
 
 use bytes::Bytes;
@@ -20,13 +22,14 @@ pub struct Chunks {
 
 impl Model for Chunks {
     ghost use Rattle.std.specs.Prelude.{◌≡◌, length};
-    ghost use Rattle.sctp_receive_queues.specs.Messages.{ReceivedMessage, joined};
+    ghost use Rattle.std.specs.List.{concat};
+    ghost use Rattle.sctp_receive_queues.specs.Messages.{ReceivedMessage, filled};
 
     ghost Value = { ReceivedMessage };
 
-    ghost view = { λ c. record { payload_type = c.ppi; bytes = joined c.pieces.items } };
+    ghost view = { λ c. record { payload_type = c.ppi; pieces = filled c.pieces.items } };
 
-    ghost invariant = { λ c. c.bytes ≡ length (joined c.pieces.items) };
+    ghost invariant = { λ c. c.bytes ≡ length (concat (filled c.pieces.items)) };
 }
 
 impl Chunks {
@@ -51,23 +54,25 @@ impl Chunks {
 
     /// How many bytes were not taken out yet.
     pub fn len(&self) -> usize
-        ensures { result ≡ length self.now.bytes }
+        ensures { result ≡ length (bytes_left self.now) }
     {
         self.bytes as usize
     }
 
     /// Whether all bytes were taken out.
     pub fn is_empty(&self) -> bool
-        ensures { result ≡ (length self.now.bytes == 0) }
+        ensures { result ≡ (length (bytes_left self.now) == 0) }
     {
         self.bytes == 0
     }
 
-    /// Takes out the next cut: at most `max` bytes, and never bytes of two pieces, so that it may be shorter than
-    /// `max` before the end. The bytes are shared with the datagram and not copied. None at the end, or for a `max`
-    /// of 0. The only error is `ErrNoMemory`, and nothing is taken out then.
+    /// Takes out the next cut: the first `max` bytes of the first piece that has bytes left, or all of them where there
+    /// are fewer, and never bytes of two pieces. The bytes are shared with the datagram and not copied. None at the end,
+    /// or for a `max` of 0. The only error is `ErrNoMemory`, and nothing is taken out then.
     pub fn next(&mut self, max: usize) -> Result<Option<Bytes>, Error>
         ensures cut { IfOk result (λ cut. IsCut max self.old self.new cut) }
+        ensures some { IfOk result (λ cut. IfSome cut (λ bytes. 0 < length bytes)) }
+        ensures in_order { IfOk result (λ cut. IfSome cut (λ bytes. bytes_left self.old ≡ bytes ++ bytes_left self.new)) }
         ensures refused { OnErr result (result ≡ Err Error.ErrNoMemory) }
         ensures unchanged { OnErr result (self.new ≡ self.old) }
     {
@@ -80,17 +85,15 @@ impl Chunks {
     }
 }
 
-// Takes the first `max` bytes of the first piece that has any, or all of its bytes where it has fewer. A caller of
-// `next` sees the message and not its pieces, so this length is said here.
+// Takes the first `max` bytes of the first piece that has any, or all of its bytes where it has fewer.
 fn cut_next(pieces: &mut VecDeque<ChunkPayloadData>, max: usize) -> Result<Bytes, Error>
     requires max { 0 < max }
-    requires some { 0 < length (joined pieces.old.items) }
-    ensures cut { IfOk result (λ cut. cut ≡ take max (first_bytes pieces.old.items)) }
-    ensures left { OnOk result (front_bytes pieces.new.items ≡ drop max (first_bytes pieces.old.items)) }
-    ensures rest { IfOk result (λ cut. joined pieces.old.items ≡ cut ++ joined pieces.new.items) }
+    requires some { 0 < length (concat (filled pieces.old.items)) }
+    ensures cut { IfOk result (λ cut. first_cut max (filled pieces.old.items) ≡ Some cut) }
+    ensures left { OnOk result (filled pieces.new.items ≡ behind_cut max (filled pieces.old.items)) }
     ensures some { IfOk result (λ cut. 0 < length cut) }
     ensures refused { OnErr result (result ≡ Err Error.ErrNoMemory) }
-    ensures unchanged { OnErr result (joined pieces.new.items ≡ joined pieces.old.items) }
+    ensures unchanged { OnErr result (filled pieces.new.items ≡ filled pieces.old.items) }
 {
     drop_empty(pieces);
     cut_first(pieces, max)
@@ -98,9 +101,8 @@ fn cut_next(pieces: &mut VecDeque<ChunkPayloadData>, max: usize) -> Result<Bytes
 
 // Drops pieces without bytes in front.
 fn drop_empty(pieces: &mut VecDeque<ChunkPayloadData>)
-    ensures same { joined pieces.new.items ≡ joined pieces.old.items }
-    ensures first { 0 < length (joined pieces.old.items) → 0 < length (front_bytes pieces.new.items) }
-    ensures front { front_bytes pieces.new.items ≡ first_bytes pieces.old.items }
+    ensures same { filled pieces.new.items ≡ filled pieces.old.items }
+    ensures first { 0 < length (concat (filled pieces.old.items)) → 0 < length (front_bytes pieces.new.items) }
 {
     while is_front_empty(pieces) {
         pieces.pop_front();
@@ -120,13 +122,11 @@ fn is_front_empty(pieces: &VecDeque<ChunkPayloadData>) -> bool
 fn cut_first(pieces: &mut VecDeque<ChunkPayloadData>, max: usize) -> Result<Bytes, Error>
     requires max { 0 < max }
     requires first { 0 < length (front_bytes pieces.old.items) }
-    ensures exact { IfOk result (λ cut. cut ≡ take max (front_bytes pieces.old.items)) }
-    ensures left { OnOk result (front_bytes pieces.new.items ≡ drop max (front_bytes pieces.old.items)) }
-    ensures cut { IfOk result (λ cut. joined pieces.old.items ≡ cut ++ joined pieces.new.items) }
+    ensures cut { IfOk result (λ cut. first_cut max (filled pieces.old.items) ≡ Some cut) }
+    ensures left { OnOk result (filled pieces.new.items ≡ behind_cut max (filled pieces.old.items)) }
     ensures some { IfOk result (λ cut. 0 < length cut) }
-    ensures most { IfOk result (λ cut. length cut ≤ max) }
     ensures refused { OnErr result (result ≡ Err Error.ErrNoMemory) }
-    ensures unchanged { OnErr result (joined pieces.new.items ≡ joined pieces.old.items) }
+    ensures unchanged { OnErr result (filled pieces.new.items ≡ filled pieces.old.items) }
 {
     let Some(first) = pieces.get_mut(0) else {
         return Ok(Bytes::new());

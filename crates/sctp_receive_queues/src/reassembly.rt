@@ -1,5 +1,6 @@
 // The pieces of one stream's messages until they are read.
 ghost use Rattle.std.specs.Prelude.{◌≡◌, ◌+◌, ◌-◌, ◌^◌, ◌⊎◌, min, None, Some, IsOk, IfOk, IfErr, OnOk, OnErr, drop, length, slice_get};
+ghost use Rattle.sctp_receive_queues.specs.Messages.{bytes_left};
 ghost use Rattle.sctp_receive_queues.specs.Pieces.{bytes_of};
 ghost use Rattle.sctp_receive_queues.specs.Reassembly.{empty_reassembly, with_ordered, with_put, unordered_put, refusal_of_ordered, refusal_of_unordered, saturated_bytes, bytes_waiting, bytes_in_groups, bytes_in_runs, bytes_in_messages, pushed, refusal, is_ready, is_due, ready, taken, next_after_skip, skipped, bounded, unordered_skipped};
 
@@ -219,7 +220,7 @@ fn bytes_held(
     unordered: &VecDeque<Pieces>,
     complete: &VecDeque<Chunks>,
 ) -> u64
-    ensures { result ≡ min (min (saturated_bytes (λ g. bytes_of g.pieces) ordered.now.items + saturated_bytes bytes_of unordered.now.items) (2 ^ 64 - 1) + saturated_bytes (λ m. length m.bytes) complete.now.items) (2 ^ 64 - 1) }
+    ensures { result ≡ min (min (saturated_bytes (λ g. bytes_of g.pieces) ordered.now.items + saturated_bytes bytes_of unordered.now.items) (2 ^ 64 - 1) + saturated_bytes (λ m. length (bytes_left m)) complete.now.items) (2 ^ 64 - 1) }
 {
     in_groups(ordered)
         .saturating_add(in_runs(unordered))
@@ -243,7 +244,7 @@ fn in_runs(unordered: &VecDeque<Pieces>) -> u64
 }
 
 fn in_messages(complete: &VecDeque<Chunks>) -> u64
-    ensures { result ≡ saturated_bytes (λ m. length m.bytes) complete.now.items }
+    ensures { result ≡ saturated_bytes (λ m. length (bytes_left m)) complete.now.items }
 {
     complete.iter().fold(
         0u64,

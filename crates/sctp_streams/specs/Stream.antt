@@ -8,7 +8,7 @@ use Rattle.sctp_streams.specs.declared.halves.ReliabilityParams.{ReliabilityPara
 use Rattle.sctp_wire_types.specs.declared.ids.PayloadProtocolIdentifier.{PayloadProtocolIdentifier}
 use Rattle.sctp_streams.specs.declared.stats.DataChannelStats.{DataChannelStats}
 use Rattle.sctp_wire_types.specs.declared.chunk.ChunkPayloadData.{ChunkPayloadData}
-use Rattle.sctp_receive_queues.specs.Messages.{ReceivedMessage}
+use Rattle.sctp_receive_queues.specs.Messages.{ReceivedMessage, bytes_left}
 use Rattle.sctp_receive_queues.specs.Reassembly.{Reassembly, empty_reassembly, pushed, taken}
 use Rattle.sctp_streams.specs.Stats.{fresh_stats, with_sent, with_received}
 
@@ -126,7 +126,7 @@ stream_pushed s p = (record s { reassembly = (pushed s.reassembly p).0 }, (pushe
 abbrev pub read_with : StreamView → Reassembly × Option ReceivedMessage → StreamView × Option ReceivedMessage
 read_with s (r, None) = (record s { reassembly = r }, None)
 read_with s (r, Some m) =
-    (record s { reassembly = r; stats = with_received s.stats m.payload_type (length m.bytes) }, Some m)
+    (record s { reassembly = r; stats = with_received s.stats m.payload_type (length (bytes_left m)) }, Some m)
 
 -- what is left of a stream after a read, and what the read gives
 abbrev pub stream_read : StreamView → StreamView × Option ReceivedMessage
