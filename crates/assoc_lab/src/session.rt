@@ -30,8 +30,8 @@ impl From<AllocError> for Stop {
     }
 }
 
-/// Carries out the steps of `input`, one a line, writes a reply a line to `output`, and answers the exit status: 0, or 2
-/// after a line that is no step or a fault of input or output, which `errors` is told.
+/// Carries out the steps of `input`, one a line, writes a reply a line to `output`, and answers the exit status: 0, or
+/// 2 after a line that is no step or a fault of input or output, which `errors` is told.
 pub fn session<R: Read + Drop, W: Write + Drop, E: Write + Drop>(
     alloc: Global,
     input: R,

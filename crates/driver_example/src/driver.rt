@@ -1,4 +1,5 @@
-// The loop of a driver: timers, the datagram, events with the reads and writes that they lead to, packets, the next moment.
+// The loop of a driver: timers, the datagram, events with the reads and writes that they lead to, packets, the next
+// moment.
 use crate::line::{Happening, parse};
 use anyhow::Result;
 use bytes::Bytes;

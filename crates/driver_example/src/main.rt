@@ -1,5 +1,5 @@
-//! A server that echoes each message on the stream on which it came, as a driver of one association: datagrams and moments
-//! come in as lines on standard input, and what the association gives out goes to standard output.
+//! A server that echoes each message on the stream on which it came, as a driver of one association: datagrams and
+//! moments come in as lines on standard input, and what the association gives out goes to standard output.
 //!
 //! | Line in | |
 //! |---|---|

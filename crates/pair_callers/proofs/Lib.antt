@@ -1,9 +1,9 @@
-mod Going
-mod Letters
-mod Accepted
-mod Taken
-mod Kept
-mod Questions
-mod Counted
-mod Lasts
+mod AcceptedWrites
+mod FewAccepted
+mod NotEnded
+mod QuestionSteps
+mod ReadMessages
+mod ReadyOrBuffered
 mod SentIsHeld
+mod StepsByDirection
+mod TakenAndAssigned

@@ -36,8 +36,8 @@ pub record IsOfAccepted (w : Direction) (s : ℕ) (letter : Letter) : Type 0 whe
 abbrev pub letter_at : Plan → ℕ → ℕ → Letter
 letter_at p s i = letter_written (message_at p s i)
 
--- What was read on stream s are these messages, by their numbers: each was accepted, none comes twice, and the ordered ones
--- come in the order of their acceptance.
+-- What was read on stream s are these messages, by their numbers: each was accepted, none comes twice, and the ordered
+-- ones come in the order of their acceptance.
 pub record AreNumbered (w : Direction) (s : ℕ) : Type 0 where
   pub numbers : List ℕ
   pub tell : letters_read w s ≡ map (letter_at w.sender.plan s) numbers

@@ -21,16 +21,16 @@ answer_in reply = false
 abbrev pub TellsAccepted : World → Type 0
 TellsAccepted w = (side : Side2) (s : ℕ) → (to_side side w).over s ≡ false → AreNumbered (to_side side w) s
 
--- The steps with these replies lead from world to world. As long as each so far is within the limits, what was read in it
--- are accepted messages, and the pair fits the last one.
+-- The steps with these replies lead from world to world. As long as each so far is within the limits, what was read in
+-- it are accepted messages, and the pair fits the last one.
 abbrev pub RunsTelling : List Step → List Reply → World → Ends → Type 0
 RunsTelling [] [] w q = Fits q w
 RunsTelling (s ∷ ss) (r ∷ rs) w q = (v : World) × (IsWithinLimits v → TellsAccepted v × RunsTelling ss rs v q)
 RunsTelling [] (r ∷ rs) w q = ⊥
 RunsTelling (s ∷ ss) [] w q = ⊥
 
--- The steps with these replies lead from world to world. As long as each side accepted few pieces, what was read in each are
--- accepted messages.
+-- The steps with these replies lead from world to world. As long as each side accepted few pieces, what was read in
+-- each are accepted messages.
 abbrev pub RunsCounting : List Step → List Reply → World → ℕ → ℕ → Type 0
 RunsCounting [] [] w n m = ⊤
 RunsCounting (s ∷ ss) (r ∷ rs) w n m = (v : World) × (AreFew (n + pieces_a w s r) (m + pieces_b w s r)
@@ -38,8 +38,8 @@ RunsCounting (s ∷ ss) (r ∷ rs) w n m = (v : World) × (AreFew (n + pieces_a 
 RunsCounting [] (r ∷ rs) w n m = ⊥
 RunsCounting (s ∷ ss) [] w n m = ⊥
 
--- One step leads to a next world. Where each side accepted few pieces, what was read in it are accepted messages, and the
--- pair fits it with its pieces counted on.
+-- One step leads to a next world. Where each side accepted few pieces, what was read in it are accepted messages, and
+-- the pair fits it with its pieces counted on.
 abbrev pub StepsTelling : Step → Reply → Ends → Ends → Type 0
 StepsTelling step reply p q = (n m : ℕ) (w : World) → FitsCounted n m p w
     → AreFew (n + pieces_a w step reply) (m + pieces_b w step reply)

@@ -4,7 +4,8 @@ ghost use Rattle.sctp_assoc.specs.Calls.{buffered_of};
 ghost use Rattle.sctp_pair.specs.Ends.{end_of};
 ghost use Rattle.sctp_pair.specs.World.{IsOpen};
 ghost use Rattle.pair_callers.specs.Going.{GoesOnWithin, from_side, to_side};
-ghost use Rattle.pair_callers.specs.Buffering.{IsAllThatCame, IsAllToBeHad, IsFrontOfWhatCame, IsKept, IsReliable, KeepsWhatDidNotCome, amount_in};
+ghost use Rattle.pair_callers.specs.Buffering.{IsAllThatCame, IsAllToBeHad, IsFrontOfWhatCame, IsKept, IsReliable};
+ghost use Rattle.pair_callers.specs.Buffering.{KeepsWhatDidNotCome, amount_in};
 
 use sctp_assoc::StreamId;
 use sctp_pair::{Pair, Reply, Side2, Step};

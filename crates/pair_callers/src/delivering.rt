@@ -7,8 +7,8 @@ ghost use Rattle.pair_callers.specs.Delivering.{HasNoData, PassesBy, TakesNothin
 use sctp_assoc::Instant;
 use sctp_pair::{Pair, Reply, Side2, Step};
 
-/// Hands a side the packet of this number that the other side gave out. Nothing is taken in of one that is refused or is
-/// not there.
+/// Hands a side the packet of this number that the other side gave out. Nothing is taken in of one that is refused or
+/// is not there.
 pub fn deliver_packet(pair: &mut Pair, side: Side2, number: u64, now: Instant) -> Reply
     ensures taken { GoesOn pair.old pair.new (λ w v. TakesOf (packet_for side number pair.old) side w v) }
     ensures without_data { HasNoData (packet_for side number pair.old) → GoesOn pair.old pair.new (λ w v.

@@ -3,7 +3,7 @@ ghost use Rattle.std.specs.Prelude.{◌≡◌, ◌*◌, None, true, IfOk, OnErr,
 ghost use Rattle.sctp_assoc.specs.Calls.{stream_refusal, written};
 ghost use Rattle.sctp_assoc.specs.Chunks.{after_packet};
 ghost use Rattle.sctp_assoc.specs.Laws.{is_held};
-ghost use Rattle.sctp_assoc.specs.Polled.{packets_of, polled};
+ghost use Rattle.sctp_assoc.specs.Gather.{packets_of, polled};
 ghost use Rattle.sctp_pair.specs.Steps.{packet_in};
 
 use bytes::Bytes;
@@ -28,10 +28,13 @@ pub fn exchange(
     remote: SocketAddr,
     now: Instant,
 ) -> Result<Option<Transmit>, Error>
-    ensures failed { association.old.failed ≡ true → (result ≡ Err Error.ErrAssociationFailed) × (association.new ≡ association.old) }
+    ensures failed { association.old.failed ≡ true
+        → (result ≡ Err Error.ErrAssociationFailed) × (association.new ≡ association.old) }
     ensures given { IfOk result (λ given. (polled (written association.old id message.now) now).1 ≡ packets_of given) }
-    ensures ok { OnOk result (association.new ≡ after_packet (polled (written association.old id message.now) now).0 (packet_in datagram.now) now) }
-    ensures held { OnOk result (packet_in datagram.now ≡ None → is_held association.new.sender.queue association.old.sender.queue.next_message_id ≡ true) }
+    ensures ok { OnOk result (association.new
+        ≡ after_packet (polled (written association.old id message.now) now).0 (packet_in datagram.now) now) }
+    ensures held { OnOk result (packet_in datagram.now ≡ None
+        → is_held association.new.sender.queue association.old.sender.queue.next_message_id ≡ true) }
 {
     let given = send(association, id, message, now)?;
     hand_in(association, datagram, remote, now)?;
@@ -44,9 +47,12 @@ fn send(
     message: &Bytes,
     now: Instant,
 ) -> Result<Option<Transmit>, Error>
-    ensures failed { association.old.failed ≡ true → (result ≡ Err Error.ErrAssociationFailed) × (association.new ≡ association.old) }
-    ensures ok { IfOk result (λ given. polled (written association.old id message.now) now ≡ (association.new, packets_of given)) }
-    ensures held { OnOk result (is_held association.new.sender.queue association.old.sender.queue.next_message_id ≡ true) }
+    ensures failed { association.old.failed ≡ true
+        → (result ≡ Err Error.ErrAssociationFailed) × (association.new ≡ association.old) }
+    ensures ok { IfOk result
+        (λ given. polled (written association.old id message.now) now ≡ (association.new, packets_of given)) }
+    ensures held { OnOk result
+        (is_held association.new.sender.queue association.old.sender.queue.next_message_id ≡ true) }
 {
     what_is_written_is_held();
     write(association, id, message)?;

@@ -48,7 +48,8 @@ pub fn run_and_tell(pair: &mut Pair, steps: &[Step]) -> Result<Vec<Reply>, Error
 
 /// Runs the steps of a caller that counts its writes: what was read are accepted messages.
 pub fn run_and_count(pair: &mut Pair, steps: &[Step]) -> Result<Vec<Reply>, Error>
-    ensures { IfOk result (λ replies. (n m : ℕ) (w : World) → FitsCounted n m pair.old w → RunsCounting steps.now replies.items w n m) }
+    ensures { IfOk result (λ replies. (n m : ℕ) (w : World) → FitsCounted n m pair.old w
+        → RunsCounting steps.now replies.items w n m) }
 {
     pair.run(steps)
 }

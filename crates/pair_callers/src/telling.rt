@@ -1,4 +1,5 @@
-// Telling: what the replies of all steps tell of a pair that was just made, with no world and no premise but few writes.
+// Telling: what the replies of all steps tell of a pair that was just made, with no world and no premise but few
+// writes.
 ghost use Rattle.std.specs.Prelude.{◌≡◌, ◌∷◌, ◌++◌, [], IfOk, length};
 ghost use Rattle.sctp_pair.specs.Callers.{AcceptFew, NothingIsReadUnbrought, ReadsAreFronts};
 
@@ -8,8 +9,8 @@ use sctp_pair::{Pair, Reply, Step};
 use std::alloc::Global;
 use std::net::SocketAddr;
 
-/// Joins two associations by their tokens and runs the steps: what one side read is a front of what the other one wrote, and
-/// nothing was read that was not brought.
+/// Joins two associations by their tokens and runs the steps: what one side read is a front of what the other one
+/// wrote, and nothing was read that was not brought.
 pub fn run_joined(
     alloc: Global,
     config: &TransportConfig,
@@ -24,7 +25,8 @@ pub fn run_joined(
     ensures front { IfOk result (λ replies.
         AcceptFew max_payload_size max_payload_size steps.now replies.items → ReadsAreFronts steps.now replies.items) }
     ensures brought { IfOk result (λ replies.
-        AcceptFew max_payload_size max_payload_size steps.now replies.items → NothingIsReadUnbrought steps.now replies.items) }
+        AcceptFew max_payload_size max_payload_size steps.now replies.items
+        → NothingIsReadUnbrought steps.now replies.items) }
 {
     let mut pair = join(
         alloc,
@@ -55,7 +57,8 @@ pub fn run_client_server(
     ensures front { IfOk result (λ replies.
         AcceptFew max_payload_size max_payload_size steps.now replies.items → ReadsAreFronts steps.now replies.items) }
     ensures brought { IfOk result (λ replies.
-        AcceptFew max_payload_size max_payload_size steps.now replies.items → NothingIsReadUnbrought steps.now replies.items) }
+        AcceptFew max_payload_size max_payload_size steps.now replies.items
+        → NothingIsReadUnbrought steps.now replies.items) }
 {
     let mut pair = Pair::client_server(
         alloc,

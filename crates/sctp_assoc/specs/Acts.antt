@@ -1,5 +1,7 @@
--- What the calls of an association do to the two directions between which it stands: to its own DATA, and to the DATA that comes.
-use Rattle.std.specs.Prelude.{◌≡◌, ◌⊎◌, ◌<◌, ◌≤◌, ℕ, zero, suc, true, List, [], ◌∷◌, ◌++◌, ◌+◌, ◌-◌, ◌%◌, ◌^◌, is_some, length, slice_get, Option, Some, None}
+-- What the calls of an association do to the two directions between which it stands: to its own DATA, and to the DATA
+-- that comes.
+use Rattle.std.specs.Prelude.{◌≡◌, ◌⊎◌, ◌<◌, ◌≤◌, ℕ, zero, suc, true, List, [], ◌∷◌, ◌++◌, ◌+◌, ◌-◌, ◌%◌, ◌^◌, is_some}
+use Rattle.std.specs.Prelude.{length, slice_get, Option, Some, None}
 use Rattle.sctp_wire_types.specs.declared.chunk.ChunkPayloadData.{ChunkPayloadData}
 use Rattle.sctp_wire_types.specs.declared.ids.PayloadProtocolIdentifier.{PayloadProtocolIdentifier}
 use Rattle.sctp_outbound_queue.specs.declared.message.InFlight.{InFlight}
@@ -15,16 +17,16 @@ use Rattle.sctp_assoc.specs.Calls.{message_of}
 use Rattle.sctp_assoc.specs.Chunks.{is_whole}
 use Rattle.sctp_assoc.specs.Shown.{Shown}
 
--- What is past of an association, in offsets. An offset is the distance of a TSN from the initial TSN of its direction, and
--- never wraps. A reach is a number of offsets: one past the last offset meant.
+-- What is past of an association, in offsets. An offset is the distance of a TSN from the initial TSN of its direction,
+-- and never wraps. A reach is a number of offsets: one past the last offset meant.
 pub record History : Type 0 where
   -- the initial TSN of its own DATA, and of the DATA that comes
   pub own : ℕ
   pub peer : ℕ
   -- the offsets of its own DATA below this one are acknowledged; the first piece in flight stands on it
   pub base : ℕ
-  -- the offsets of DATA that was taken in; one past the greatest one that a FORWARD TSN passed over, 0 before the first;
-  -- and the reach: the first offset that neither came nor was passed over
+  -- the offsets of DATA that was taken in; one past the greatest one that a FORWARD TSN passed over, 0 before the
+  -- first; and the reach: the first offset that neither came nor was passed over
   pub taken : List ℕ
   pub passed : ℕ
   pub reach : ℕ
@@ -42,8 +44,8 @@ pub record Binds (a : Shown) (h : History) : Type 0 where
   pub above : (o : ℕ) → mem o h.taken ≡ true → o < h.reach
   pub passed : h.passed ≤ h.reach
 
--- Nothing came and nothing is acknowledged: the history on which an association begins. Until the peer's initial TSN is known it is
--- taken to be 1.
+-- Nothing came and nothing is acknowledged: the history on which an association begins. Until the peer's initial TSN is
+-- known it is taken to be 1.
 abbrev pub begun : ℕ → ℕ → History
 begun own peer = record { own = own; peer = peer; base = 0; taken = []; passed = 0; reach = 0 }
 
@@ -60,7 +62,8 @@ parts a h = record { queue = a.sender.queue; streams = a.streams; history = h }
 pub data Act : Type 0 where
   -- the peer's initial TSN became known: nothing came from there on
   PeerKnown : ℕ → Act
-  -- the application or the peer's DATA made a stream; its own messages have an identifier from this one on and this payload type
+  -- the application or the peer's DATA made a stream; its own messages have an identifier from this one on and this
+  -- payload type
   Opened : ℕ → ℕ → PayloadProtocolIdentifier → Act
   -- a write of these bytes was accepted on a stream
   Wrote : ℕ → List ℕ → Act
@@ -151,8 +154,10 @@ chunk_said (Some p) t = chunk_of p t ∷ []
 
 -- the DATA that an act gives out
 abbrev pub data_given : Act → Parts → List ChunkPayloadData
-data_given (Sent now) p = first_chunk_said p.queue.pending (tsn p.history.own (p.history.base + length p.queue.in_flight))
-data_given (SentAgain index) p = chunk_said (slice_get p.queue.in_flight index) (tsn p.history.own (p.history.base + index))
+data_given (Sent now) p =
+    first_chunk_said p.queue.pending (tsn p.history.own (p.history.base + length p.queue.in_flight))
+data_given (SentAgain index) p =
+    chunk_said (slice_get p.queue.in_flight index) (tsn p.history.own (p.history.base + index))
 data_given act p = []
 
 -- the DATA that acts give out, in order

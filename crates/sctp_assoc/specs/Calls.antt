@@ -1,5 +1,6 @@
 -- What the calls of an application do to an association.
-use Rattle.std.specs.Prelude.{◌≡◌, ℕ, Bool, true, false, List, [], ◌∷◌, ◌++◌, ◌==◌, ◌||◌, if◌then◌else◌, length, map, nat_lt, is_some, Option, Some, None, Result, Ok, Err}
+use Rattle.std.specs.Prelude.{◌≡◌, ℕ, Bool, true, false, List, [], ◌∷◌, ◌++◌, ◌==◌, ◌||◌, if◌then◌else◌, length, map}
+use Rattle.std.specs.Prelude.{nat_lt, is_some, Option, Some, None, Result, Ok, Err}
 use Rattle.sctp_wire_types.specs.declared.error.Error.{Error}
 use Rattle.sctp_wire_types.specs.declared.error.Error.TheVariants as errors
 use Rattle.sctp_wire_types.specs.declared.ids.PayloadProtocolIdentifier.{PayloadProtocolIdentifier}
@@ -18,7 +19,8 @@ use Rattle.sctp_outbound_queue.specs.Outbound.{all_marked, with_message}
 use Rattle.sctp_receive_queues.specs.Messages.{ReceivedMessage}
 use Rattle.sctp_receive_queues.specs.Reassembly.{ready}
 use Rattle.sctp_streams.specs.Stream.{StreamView, accepted_by, params_for}
-use Rattle.sctp_streams.specs.Streams.{stream_at, generation_left, changed_stream, made, read_in, last_stats, without_streams}
+use Rattle.sctp_streams.specs.Streams.{stream_at, generation_left, changed_stream, made, read_in, last_stats}
+use Rattle.sctp_streams.specs.Streams.{without_streams}
 use Rattle.sctp_inbound.specs.Receiver.{acknowledged_at_once}
 use Rattle.sctp_assoc.specs.Shown.{Shown, all_stopped}
 
@@ -87,9 +89,9 @@ closed_open a reason = record a {
   events = a.events ++ map DataChannelStatsFinal (last_stats a.streams) ++ AssociationLost reason ∷ [];
 }
 
--- an open association was closed: no timer runs on, no packet waits to go out, each live stream gives its last counters, and the
--- loss is the last of the queued events (a fault of the handshake that nobody was told yet is told behind them); a closed one stays
--- as it is
+-- an open association was closed: no timer runs on, no packet waits to go out, each live stream gives its last
+-- counters, and the loss is the last of the queued events (a fault of the handshake that nobody was told yet is told
+-- behind them); a closed one stays as it is
 abbrev pub closed_by : Shown → AssociationError → Shown
 closed_by a reason = if is_closed_state a.state then a else closed_open a reason
 
@@ -173,7 +175,8 @@ ready_messages a id = ready_of (stream_at a.streams id)
 abbrev pub size_refusal : Shown → StreamView → ℕ → Option Error
 size_refusal a s size =
     if size == 0 then Some errors.ErrEmptyMessage else
-    if nat_lt a.max_send_message_size size || nat_lt a.sender.max_payload_size size then Some errors.ErrOutboundPacketTooLarge
+    if nat_lt a.max_send_message_size size || nat_lt a.sender.max_payload_size size then
+    Some errors.ErrOutboundPacketTooLarge
     else None
 
 abbrev pub write_refusal_at : Shown → Option StreamView → ℕ → Option Error
@@ -240,6 +243,7 @@ abbrev pub event_from : List Event → Shown → Shown × Option Event
 event_from [] a = (record a { handshake_fault = None }, fault_told a.handshake_fault)
 event_from (e ∷ es) a = (record a { events = es }, Some e)
 
--- what is left after a poll for events, and what it gives: the oldest event, and with none left that the handshake failed, once
+-- what is left after a poll for events, and what it gives: the oldest event, and with none left that the handshake
+-- failed, once
 abbrev pub event_polled : Shown → Shown × Option Event
 event_polled a = event_from a.events a

@@ -1,6 +1,7 @@
 -- What closes an association: the chunks that are faults, by what stands in them and in the state (RFC 4960
 -- sections 3.3, 5 and 6.2.1).
-use Rattle.std.specs.Prelude.{◌≡◌, ◌≢◌, ◌⊎◌, ◌↔◌, ◌≤◌, ℕ, zero, suc, ◌+◌, ◌%◌, ◌^◌, true, false, List, [], ◌∷◌, length, slice_get, Some, None, Err, ⊤}
+use Rattle.std.specs.Prelude.{◌≡◌, ◌≢◌, ◌⊎◌, ◌↔◌, ◌≤◌, ℕ, zero, suc, ◌+◌, ◌%◌, ◌^◌, true, false, List, [], ◌∷◌, length}
+use Rattle.std.specs.Prelude.{slice_get, Some, None, Err, ⊤}
 use Rattle.sctp_wire_types.specs.Checks.{checked_chunk}
 use Rattle.sctp_wire_types.specs.Serial.{tsn_gt}
 use Rattle.sctp_wire_types.specs.declared.chunk.Chunk.{Chunk}
@@ -41,7 +42,8 @@ pub record FitsNoMessage (a : Shown) (h : History) (piece : ChunkPayloadData) : 
 pub record AcknowledgesTheUnsent (a : Shown) (h : History) (cumulative_tsn_ack : ℕ) : Type 0 where
   pub established : a.state ≡ states.Established
   pub not_behind : tsn_gt (tsn_before (tsn h.own h.base)) cumulative_tsn_ack ≡ false
-  pub unsent : (n : ℕ) → n ≤ length a.sender.queue.in_flight → cumulative_tsn_ack % 2 ^ 32 ≢ tsn_before (tsn h.own (h.base + n))
+  pub unsent : (n : ℕ) → n ≤ length a.sender.queue.in_flight
+      → cumulative_tsn_ack % 2 ^ 32 ≢ tsn_before (tsn h.own (h.base + n))
 
 -- The state is none in which a handshake is open or can begin.
 pub record IsPastTheHandshake (state : AssociationState) : Type 0 where

@@ -1,5 +1,6 @@
 -- What the chunks of a packet do to an association (RFC 4960 sections 3.3 and 6.2).
-use Rattle.std.specs.Prelude.{ℕ, Bool, true, false, List, [], ◌∷◌, ◌++◌, ◌&&◌, if◌then◌else◌, not, is_some, length, nat_lt, Option, Some, None, Result, Ok, Err}
+use Rattle.std.specs.Prelude.{ℕ, Bool, true, false, List, [], ◌∷◌, ◌++◌, ◌&&◌, if◌then◌else◌, not, is_some, length}
+use Rattle.std.specs.Prelude.{nat_lt, Option, Some, None, Result, Ok, Err}
 use Rattle.sctp_wire_types.specs.declared.error.Error.{Error}
 use Rattle.sctp_wire_types.specs.declared.error.Error.TheVariants as errors
 use Rattle.sctp_wire_types.specs.declared.chunk.Chunk.{Chunk}
@@ -15,7 +16,8 @@ use Rattle.sctp_parts.specs.Stats.{one_more}
 use Rattle.sctp_streams.specs.declared.event.AssociationError.TheVariants as reasons
 use Rattle.sctp_streams.specs.declared.event.Event.TheVariants.{DatagramReceived}
 use Rattle.sctp_streams.specs.declared.event.Event.TheVariants as events
-use Rattle.sctp_streams.specs.Streams.{StreamMap, stream_at, made, generation_left, bytes_waiting, refusal_in, pushed_in, is_readable_in}
+use Rattle.sctp_streams.specs.Streams.{StreamMap, stream_at, made, generation_left, bytes_waiting, refusal_in}
+use Rattle.sctp_streams.specs.Streams.{pushed_in, is_readable_in}
 use Rattle.sctp_inbound.specs.declared.receiver.AckTrigger.{AckTrigger}
 use Rattle.sctp_inbound.specs.declared.receiver.AckTrigger.TheVariants as triggers
 use Rattle.sctp_inbound.specs.Receiver.{is_next_after, taken_to, asked, credit_of, ended_packet, ended_packet_timers}
@@ -68,7 +70,8 @@ taken_unless None a piece = (with_message a piece (pushed_in a.streams piece.str
 
 -- a message goes to its stream and the point moves to its TSN, or the stream refuses it, as one longer than the limit
 unfoldable pub taken_in : Shown → ChunkPayloadData → Shown × Option Error
-taken_in a piece = taken_unless (refusal_in a.streams piece.stream_identifier piece a.receiver.max_receive_message_size) a piece
+taken_in a piece =
+    taken_unless (refusal_in a.streams piece.stream_identifier piece a.receiver.max_receive_message_size) a piece
 
 abbrev pub asks : Shown → ChunkPayloadData → AckTrigger → Shown × Flow
 asks a piece trigger = (a, flows.Next (asked a.receiver trigger piece.immediate_sack))
@@ -81,15 +84,18 @@ asks_or_faults (a, Some fault) piece trigger = (a, flows.Fault fault)
 abbrev pub on_next_data : Shown × Bool → ChunkPayloadData → AckTrigger → Shown × Flow
 on_next_data (a, false) piece trigger = (a, flows.Next trigger)
 on_next_data (a, true) piece trigger =
-    if nat_lt 0 (credit_of a.receiver (bytes_waiting a.streams)) then asks_or_faults (taken_in a piece) piece trigger else
+    if nat_lt 0 (credit_of a.receiver (bytes_waiting a.streams)) then
+    asks_or_faults (taken_in a piece) piece trigger else
     asks a piece trigger
 
 abbrev pub on_counted_data : Shown → ChunkPayloadData → AckTrigger → Shown × Flow
 on_counted_data a piece trigger =
-    if is_next_after a.receiver piece.tsn && is_whole piece then on_next_data (stream_found a piece.stream_identifier) piece trigger else
+    if is_next_after a.receiver piece.tsn && is_whole piece then
+    on_next_data (stream_found a piece.stream_identifier) piece trigger else
     asks a piece trigger
 
--- DATA is counted; an ordered message in one piece that is next in order is taken in, and any DATA asks to be acknowledged
+-- DATA is counted; an ordered message in one piece that is next in order is taken in, and any DATA asks to be
+-- acknowledged
 unfoldable pub on_data : Shown → ChunkPayloadData → AckTrigger → Shown × Flow
 on_data a piece trigger = on_counted_data (counted_data a) piece trigger
 
@@ -114,8 +120,10 @@ after_sack a cumulative_tsn_ack window now =
 
 abbrev pub on_counted_sack : SackOutcome → Shown → ℕ → ℕ → AckTrigger → ℕ → Shown × Flow
 on_counted_sack outcomes.Older a cumulative_tsn_ack window trigger now = (a, flows.Next trigger)
-on_counted_sack outcomes.NotInFlight a cumulative_tsn_ack window trigger now = (a, flows.Fault errors.ErrInflightQueueTsnPop)
-on_counted_sack outcomes.Taken a cumulative_tsn_ack window trigger now = (after_sack a cumulative_tsn_ack window now, flows.Next trigger)
+on_counted_sack outcomes.NotInFlight a cumulative_tsn_ack window trigger now =
+    (a, flows.Fault errors.ErrInflightQueueTsnPop)
+on_counted_sack outcomes.Taken a cumulative_tsn_ack window trigger now =
+    (after_sack a cumulative_tsn_ack window now, flows.Next trigger)
 
 -- a SACK counts in Established alone; one whose point is not in flight is a fault
 unfoldable pub on_sack : Shown → ℕ → ℕ → AckTrigger → ℕ → Shown × Flow
@@ -143,8 +151,8 @@ abbrev pub checked_first : Result (Unit {0}) Error → Shown → CommonHeader �
 checked_first (Err fault) a header chunk trigger now = (a, flows.Fault fault)
 checked_first (Ok _) a header chunk trigger now = dispatched a header chunk trigger now
 
--- a chunk of a packet with this header; one that its own check refuses is a fault, an ABORT closes and an ERROR is a fault, and so
--- is any chunk that is not known
+-- a chunk of a packet with this header; one that its own check refuses is a fault, an ABORT closes and an ERROR is a
+-- fault, and so is any chunk that is not known
 unfoldable pub on_chunk : Shown → CommonHeader → Chunk → AckTrigger → ℕ → Shown × Flow
 on_chunk a header chunk trigger now = checked_first (checked_chunk chunk) a header chunk trigger now
 
@@ -164,7 +172,8 @@ ended a trigger now = record a {
 -- the chunks in order; a fault ends the packet and closes an open association
 abbrev pub after_chunks : CommonHeader → List Chunk → Shown → AckTrigger → ℕ → Shown
 after_chunks header [] a trigger now = ended a trigger now
-after_chunks header (c ∷ cs) a trigger now = goes_on (on_chunk a header c trigger now) (λ b next. after_chunks header cs b next now)
+after_chunks header (c ∷ cs) a trigger now =
+    goes_on (on_chunk a header c trigger now) (λ b next. after_chunks header cs b next now)
 
 abbrev pub after_packet_of : Shown → Option Packet → ℕ → Shown
 after_packet_of a None now = a

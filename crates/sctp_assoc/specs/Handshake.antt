@@ -1,4 +1,5 @@
--- The handshake, step by state and chunk, and the chunks beside it that are answered at once (RFC 4960 sections 5.1, 5.2 and 8.3).
+-- The handshake, step by state and chunk, and the chunks beside it that are answered at once (RFC 4960 sections 5.1,
+-- 5.2 and 8.3).
 use Rattle.std.specs.Prelude.{ℕ, List, [], ◌∷◌, ◌++◌, if◌then◌else◌, Option, Some, None}
 use Rattle.sctp_wire_types.specs.declared.chunk.Chunk.TheVariants as chunks
 use Rattle.sctp_wire_types.specs.declared.chunk.ChunkHeartbeat.{ChunkHeartbeat}
@@ -32,7 +33,8 @@ learns_peer a initial_tsn window = record a {
 
 abbrev pub learned : Shown → CommonHeader → ChunkInit → Shown
 learned a header init =
-    learns_peer (record a { handshake = learned_by_init a.handshake header init }) init.initial_tsn init.advertised_receiver_window_credit
+    learns_peer (record a { handshake = learned_by_init a.handshake header init }) init.initial_tsn
+    init.advertised_receiver_window_credit
 
 -- INIT ACK goes out, with this side's cookie and its whole receive buffer
 abbrev pub answered : Shown → Shown
@@ -41,7 +43,8 @@ answered a = queued a (chunks.InitAck (init_ack_of a.handshake a.receiver.buffer
 -- an INIT that comes before the association is established is answered; later it is a fault
 unfoldable pub on_init : Shown → CommonHeader → ChunkInit → AckTrigger → Shown × Flow
 on_init a header init trigger =
-    if is_beginning a.state then (answered (learned a header init), flows.Next trigger) else (a, flows.Fault errors.ErrHandleInitState)
+    if is_beginning a.state then (answered (learned a header init), flows.Next trigger) else
+    (a, flows.Fault errors.ErrHandleInitState)
 
 -- COOKIE ECHO
 
@@ -51,25 +54,31 @@ cookie_queued (Some cookie) a = queued a (chunks.CookieEcho cookie)
 
 -- the peer's cookie goes back to it, and the timer of that runs
 unfoldable pub sends_cookie : Shown → ℕ → Shown
-sends_cookie a now = (let b = cookie_queued a.handshake.echo a in record b { timers = started names.T1Cookie now b.estimate.rto b.timers })
+sends_cookie a now =
+    (let b = cookie_queued a.handshake.echo a in
+    record b { timers = started names.T1Cookie now b.estimate.rto b.timers })
 
 -- a cookie came, and is echoed
 abbrev pub with_echo : Shown → List ℕ → ℕ → Shown
-with_echo a cookie now = sends_cookie (record a { handshake = (let h = a.handshake in record h { echo = Some cookie }); state = states.CookieEchoed }) now
+with_echo a cookie now =
+    sends_cookie
+    (record a { handshake = (let h = a.handshake in record h { echo = Some cookie }); state = states.CookieEchoed }) now
 
 -- INIT ACK
 
 abbrev pub learned_back : Shown → CommonHeader → ChunkInit → Shown
 learned_back a header init =
-    (let b = learns_peer (record a { handshake = learned_by_init_ack a.handshake header init }) init.initial_tsn init.advertised_receiver_window_credit in
+    (let b =
+    learns_peer (record a { handshake = learned_by_init_ack a.handshake header init }) init.initial_tsn
+    init.advertised_receiver_window_credit in
     record b { timers = with_stopped names.T1Init b.timers })
 
 abbrev pub echoed : Option (List ℕ) → Shown → AckTrigger → ℕ → Shown × Flow
 echoed None a trigger now = (a, flows.Fault errors.ErrInitAckNoCookie)
 echoed (Some cookie) a trigger now = (with_echo a cookie now, flows.Next trigger)
 
--- an INIT ACK counts in CookieWait alone: its cookie is echoed, and without one it is a fault; with other ports than those of this
--- side's INIT nothing but its tag and its numbers of streams count
+-- an INIT ACK counts in CookieWait alone: its cookie is echoed, and without one it is a fault; with other ports than
+-- those of this side's INIT nothing but its tag and its numbers of streams count
 unfoldable pub on_init_ack : Shown → CommonHeader → ChunkInit → AckTrigger → ℕ → Shown × Flow
 on_init_ack a header init trigger now =
     if is_cookie_wait a.state then
@@ -89,8 +98,8 @@ connected a = record a {
 abbrev pub acknowledged_cookie : Shown → Shown
 acknowledged_cookie a = queued a chunks.CookieAck
 
--- a COOKIE ECHO with the cookie that this side gave out establishes the association, and is acknowledged; where it is established
--- already it is acknowledged again
+-- a COOKIE ECHO with the cookie that this side gave out establishes the association, and is acknowledged; where it is
+-- established already it is acknowledged again
 unfoldable pub on_cookie_echo : Shown → List ℕ → AckTrigger → Shown × Flow
 on_cookie_echo a cookie trigger =
     if has_issued a.handshake cookie then
@@ -100,7 +109,8 @@ on_cookie_echo a cookie trigger =
 
 -- a COOKIE ACK counts in CookieEchoed alone
 unfoldable pub on_cookie_ack : Shown → AckTrigger → Shown × Flow
-on_cookie_ack a trigger = if is_cookie_echoed a.state then (connected a, flows.Next trigger) else (a, flows.Next trigger)
+on_cookie_ack a trigger =
+    if is_cookie_echoed a.state then (connected a, flows.Next trigger) else (a, flows.Next trigger)
 
 -- HEARTBEAT
 
@@ -120,19 +130,22 @@ init_queued (Some offer) a = queued a (chunks.Init (init_of a.handshake offer))
 
 -- INIT goes out, and the timer of that runs
 unfoldable pub sends_init : Shown → ℕ → Shown
-sends_init a now = (let b = init_queued a.handshake.offer a in record b { timers = started names.T1Init now b.estimate.rto b.timers })
+sends_init a now =
+    (let b = init_queued a.handshake.offer a in record b { timers = started names.T1Init now b.estimate.rto b.timers })
 
 abbrev pub t1_init_expired : Shown → ℕ → Shown
 t1_init_expired a now = record a { timers = with_moment names.T1Init None (after_expiry names.T1Init now a.timers) }
 
 abbrev pub t1_cookie_expired : Shown → ℕ → Shown
-t1_cookie_expired a now = record a { timers = with_moment names.T1Cookie None (after_expiry names.T1Cookie now a.timers) }
+t1_cookie_expired a now =
+    record a { timers = with_moment names.T1Cookie None (after_expiry names.T1Cookie now a.timers) }
 
 -- INIT goes out again where it was not answered in time; past its limit of retries the handshake has failed
 abbrev pub after_t1_init : Shown → ℕ → Shown
 after_t1_init a now =
     if (expiry_of names.T1Init now a.timers).expired then
-    (if (expiry_of names.T1Init now a.timers).failed then (let b = t1_init_expired a now in record b { handshake_fault = Some errors.ErrHandshakeInitAck })
+    (if (expiry_of names.T1Init now a.timers).failed then
+    (let b = t1_init_expired a now in record b { handshake_fault = Some errors.ErrHandshakeInitAck })
     else sends_init (t1_init_expired a now) now)
     else a
 
@@ -140,6 +153,7 @@ after_t1_init a now =
 abbrev pub after_t1_cookie : Shown → ℕ → Shown
 after_t1_cookie a now =
     if (expiry_of names.T1Cookie now a.timers).expired then
-    (if (expiry_of names.T1Cookie now a.timers).failed then (let b = t1_cookie_expired a now in record b { handshake_fault = Some errors.ErrHandshakeCookieEcho })
+    (if (expiry_of names.T1Cookie now a.timers).failed then
+    (let b = t1_cookie_expired a now in record b { handshake_fault = Some errors.ErrHandshakeCookieEcho })
     else sends_cookie (t1_cookie_expired a now) now)
     else a

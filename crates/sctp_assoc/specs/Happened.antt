@@ -1,5 +1,6 @@
 -- What each call does to the two directions.
-use Rattle.std.specs.Prelude.{◌≡◌, ℕ, zero, suc, Bool, true, false, List, [], ◌∷◌, ◌++◌, ◌&&◌, ◌+◌, ◌-◌, ◌==◌, if◌then◌else◌, not, is_some, length, nat_lt, Option, Some, None, Result, Ok, Err}
+use Rattle.std.specs.Prelude.{◌≡◌, ℕ, zero, suc, Bool, true, false, List, [], ◌∷◌, ◌++◌, ◌&&◌, ◌+◌, ◌-◌, ◌==◌}
+use Rattle.std.specs.Prelude.{if◌then◌else◌, not, is_some, length, nat_lt, Option, Some, None, Result, Ok, Err}
 use Rattle.sctp_wire_types.specs.declared.error.Error.{Error}
 use Rattle.sctp_wire_types.specs.declared.chunk.Chunk.{Chunk}
 use Rattle.sctp_wire_types.specs.declared.chunk.Chunk.TheVariants as chunks
@@ -22,13 +23,15 @@ use Rattle.sctp_inbound.specs.Receiver.{is_next_after, credit_of}
 use Rattle.sctp_outbound.specs.declared.sender.SackOutcome.{SackOutcome}
 use Rattle.sctp_outbound.specs.declared.sender.SackOutcome.TheVariants as outcomes
 use Rattle.sctp_outbound.specs.declared.sender.Sender.{Sender}
-use Rattle.sctp_outbound.specs.Sender.{after_resending, both_windows, can_send_next, tsns_up_to, resends_alone, resent_by, sack_outcome, sent_one}
+use Rattle.sctp_outbound.specs.Sender.{after_resending, both_windows, can_send_next, tsns_up_to, resends_alone}
+use Rattle.sctp_outbound.specs.Sender.{resent_by, sack_outcome, sent_one}
 use Rattle.sctp_assoc.specs.declared.inbound.Flow.{Flow}
 use Rattle.sctp_assoc.specs.declared.inbound.Flow.TheVariants as flows
 use Rattle.sctp_assoc.specs.Acts.{Act, Binds, History, Leads, all_data_given, parts}
 use Rattle.sctp_assoc.specs.Calls.{is_beginning, is_closed_state, is_cookie_wait, is_established}
 use Rattle.sctp_assoc.specs.Chunks.{counted_data, is_whole, on_chunk, stream_found}
-use Rattle.sctp_assoc.specs.Polled.{AckIsReadAgain, AreControlReadAgain, AreReadAgain, control_packets, data_packets, is_due, sack_packet}
+use Rattle.sctp_assoc.specs.Gather.{AckIsReadAgain, AreControlReadAgain, AreReadAgain, control_packets, data_packets}
+use Rattle.sctp_assoc.specs.Gather.{is_due, sack_packet}
 use Rattle.sctp_assoc.specs.Timeouts.{after_handshake_timers}
 use Rattle.sctp_assoc.specs.Shown.{Shown}
 
@@ -46,7 +49,8 @@ acts_unless_refused None piece = Act.Took piece ∷ []
 
 -- and is taken in unless its stream refuses it
 abbrev pub acts_of_taking : Shown → ChunkPayloadData → List Act
-acts_of_taking a piece = acts_unless_refused (refusal_in a.streams piece.stream_identifier piece a.receiver.max_receive_message_size) piece
+acts_of_taking a piece =
+    acts_unless_refused (refusal_in a.streams piece.stream_identifier piece a.receiver.max_receive_message_size) piece
 
 abbrev pub acts_of_found : Shown × Bool → ChunkPayloadData → List Act
 acts_of_found (a, false) piece = []
@@ -67,7 +71,8 @@ acts_of_outcome outcomes.Taken n = Act.Acknowledged n ∷ []
 
 abbrev pub acts_of_sack : Shown → ℕ → List Act
 acts_of_sack a cumulative_tsn_ack =
-    if is_established a.state then acts_of_outcome (sack_outcome a.sender cumulative_tsn_ack) (tsns_up_to a.sender cumulative_tsn_ack) else []
+    if is_established a.state then
+    acts_of_outcome (sack_outcome a.sender cumulative_tsn_ack) (tsns_up_to a.sender cumulative_tsn_ack) else []
 
 -- an INIT that is answered tells the peer's initial TSN
 abbrev pub acts_of_init : Shown → ChunkInit → List Act
@@ -76,7 +81,8 @@ acts_of_init a init = if is_beginning a.state then Act.PeerKnown init.initial_ts
 -- an INIT ACK that counts does
 abbrev pub acts_of_init_ack : Shown → CommonHeader → ChunkInit → List Act
 acts_of_init_ack a header init =
-    if is_cookie_wait a.state then (if comes_back a.handshake header then Act.PeerKnown init.initial_tsn ∷ [] else []) else []
+    if is_cookie_wait a.state then
+    (if comes_back a.handshake header then Act.PeerKnown init.initial_tsn ∷ [] else []) else []
 
 abbrev pub acts_of_kind : Shown → CommonHeader → Chunk → List Act
 acts_of_kind a header (chunks.Data piece) = acts_of_data a piece
@@ -103,7 +109,8 @@ acts_after (a, flows.Fault fault) more = acts_of_close a
 abbrev pub acts_of_chunks : CommonHeader → List Chunk → Shown → AckTrigger → ℕ → List Act
 acts_of_chunks header [] a trigger now = []
 acts_of_chunks header (c ∷ cs) a trigger now =
-    acts_of_chunk a header c ++ acts_after (on_chunk a header c trigger now) (λ b next. acts_of_chunks header cs b next now)
+    acts_of_chunk a header c ++ acts_after (on_chunk a header c trigger now)
+    (λ b next. acts_of_chunks header cs b next now)
 
 abbrev pub acts_of_packet_of : Shown → Option Packet → ℕ → List Act
 acts_of_packet_of a None now = []
@@ -161,23 +168,26 @@ acts_of_poll a now = if is_established a.state then acts_of_data_poll a now ++ a
 abbrev pub acks_given : Shown → List (List ℕ)
 acks_given a = if is_due a.receiver.ack_state then sack_packet a else []
 
--- the packets of these acts: those that wait, and in Established their DATA, under the TSNs of its offsets, and then the
--- acknowledgement
+-- the packets of these acts: those that wait, and in Established their DATA, under the TSNs of its offsets, and then
+-- the acknowledgement
 abbrev pub exchange_given : List Act → Shown → History → List (List ℕ)
 exchange_given xs a h =
-    if is_established a.state then data_packets (header_of a.handshake) (all_data_given xs (parts a h)) ++ acks_given a else []
+    if is_established a.state then
+    data_packets (header_of a.handshake) (all_data_given xs (parts a h)) ++ acks_given a else []
 
 abbrev pub packets_given : List Act → Shown → History → List (List ℕ)
 packets_given xs a h = control_packets a.control ++ exchange_given xs a h
 
--- A poll for packets leads on by its acts, and gives what they say: each packet is read as the chunk that it was made of.
+-- A poll for packets leads on by its acts, and gives what they say: each packet is read as the chunk that it was made
+-- of.
 pub record Polls (xs : List Act) (a : Shown) (h : History) (b : Shown) (packets : List (List ℕ)) : Type 0 where
   pub leads : Leads xs a h b h
   pub said : packets ≡ packets_given xs a h
   pub data_again : is_established a.state ≡ true → AreReadAgain (header_of a.handshake) (all_data_given xs (parts a h))
   pub ack_again : is_established a.state ≡ true → AckIsReadAgain a
 
--- A poll for packets does and gives so from each history on which the association stands; what waited is read again as what it was.
+-- A poll for packets does and gives so from each history on which the association stands; what waited is read again as
+-- what it was.
 pub record PollsOn (xs : List Act) (a b : Shown) (packets : List (List ℕ)) : Type 0 where
   pub control_again : AreControlReadAgain a.control
   pub from : (h : History) → Binds a h → Polls xs a h b packets

@@ -1,5 +1,6 @@
 -- Laws of one side: what follows from the equations of its calls, for whoever builds on it.
-use Rattle.std.specs.Prelude.{◌≡◌, ◌⊎◌, ◌<◌, ◌≤◌, ℕ, ◌+◌, ◌-◌, ◌&&◌, ◌||◌, ◌==◌, is_some, not, Bool, true, false, List, [], ◌∷◌, ◌++◌, length, slice_get, if◌then◌else◌, Option, Some, None}
+use Rattle.std.specs.Prelude.{◌≡◌, ◌⊎◌, ◌<◌, ◌≤◌, ℕ, ◌+◌, ◌-◌, ◌&&◌, ◌||◌, ◌==◌, is_some, not, Bool, true, false, List}
+use Rattle.std.specs.Prelude.{[], ◌∷◌, ◌++◌, length, slice_get, if◌then◌else◌, Option, Some, None}
 use Rattle.std.specs.List.{list_any, sum_by}
 use Rattle.sctp_wire_types.specs.declared.chunk.Chunk.{Chunk}
 use Rattle.sctp_wire_types.specs.declared.chunk.Chunk.TheVariants as chunks
@@ -28,7 +29,8 @@ use Rattle.sctp_assoc.specs.Acts.{Binds, History, all_data_given, parts, tsn_bef
 use Rattle.sctp_assoc.specs.Calls.{is_closed_state, is_established, opened, read_from_stream, written}
 use Rattle.sctp_assoc.specs.Chunks.{after_packet, on_chunk}
 use Rattle.sctp_assoc.specs.Happened.{acts_of_poll}
-use Rattle.sctp_assoc.specs.Polled.{control_packets, data_polled, is_due, packet_bytes, packet_with, polled, sack_chunk, sack_packet}
+use Rattle.sctp_assoc.specs.Gather.{control_packets, data_polled, is_due, packet_bytes, packet_with, polled, sack_chunk}
+use Rattle.sctp_assoc.specs.Gather.{sack_packet}
 use Rattle.sctp_assoc.specs.Reports.{SaysWhatCame}
 use Rattle.sctp_assoc.specs.Shown.{Shown}
 use Rattle.sctp_assoc.specs.Timeouts.{after_timeouts}
@@ -41,19 +43,22 @@ pub record IsNextWithNothingInFlight (a : Shown) (m : Waiting) : Type 0 where
   pub waits : a.sender.queue.pending ≡ m ∷ others
   pub flown : a.sender.queue.in_flight ≡ []
 
--- The DATA of a poll then begins with that message's next piece, whatever the windows are (RFC 4960 section 6.1, rules A and B).
+-- The DATA of a poll then begins with that message's next piece, whatever the windows are (RFC 4960 section 6.1, rules
+-- A and B).
 abbrev pub WhatWaitsIsPolled : Type 0
 WhatWaitsIsPolled = (a : Shown) (now : ℕ) (m : Waiting) → IsNextWithNothingInFlight a m
     → slice_get (data_polled a now).1 0 ≡ Some (next_chunk_of m (next_tsn_of a.sender.queue))
 
 -- In Established its acts give that DATA, under the TSN of the first offset that is not acknowledged.
 abbrev pub WhatWaitsIsGiven : Type 0
-WhatWaitsIsGiven = (a : Shown) (h : History) (now : ℕ) (m : Waiting) → is_established a.state ≡ true → Binds a h → IsNextWithNothingInFlight a m
+WhatWaitsIsGiven = (a : Shown) (h : History) (now : ℕ) (m : Waiting) → is_established a.state ≡ true → Binds a h
+    → IsNextWithNothingInFlight a m
     → slice_get (all_data_given (acts_of_poll a now) (parts a h)) 0 ≡ Some (next_chunk_of m (tsn h.own h.base))
 
 -- A piece that one DATA chunk has room for is the first packet that goes out behind those that wait already.
 abbrev pub WhatWaitsGoesOut : Type 0
-WhatWaitsGoesOut = (a : Shown) (now : ℕ) (m : Waiting) → is_established a.state ≡ true → IsNextWithNothingInFlight a m → length m.user_data ≤ 65519
+WhatWaitsGoesOut = (a : Shown) (now : ℕ) (m : Waiting) → is_established a.state ≡ true → IsNextWithNothingInFlight a m
+    → length m.user_data ≤ 65519
     → slice_get (polled a now).1 (length (control_packets a.control))
     ≡ Some (spelling (packet_with (header_of a.handshake) (chunks.Data (next_chunk_of m (next_tsn_of a.sender.queue)))))
 
@@ -61,7 +66,8 @@ WhatWaitsGoesOut = (a : Shown) (now : ℕ) (m : Waiting) → is_established a.st
 
 -- a piece of this message waits to be sent or is in flight
 abbrev pub is_held : Outbound → ℕ → Bool
-is_held q number = list_any (λ (m : Waiting). m.message.message_id == number) q.pending || list_any (is_of number) q.in_flight
+is_held q number =
+    list_any (λ (m : Waiting). m.message.message_id == number) q.pending || list_any (is_of number) q.in_flight
 
 -- A message that a live stream accepted is held, under the number that was next.
 abbrev pub WritesAreHeld : Type 0
@@ -70,7 +76,9 @@ WritesAreHeld = (a : Shown) (id : ℕ) (bytes : List ℕ) → is_some (stream_at
 
 -- A poll loses no message: what waited goes out and then is in flight.
 abbrev pub PollsKeepWhatIsHeld : Type 0
-PollsKeepWhatIsHeld = (a : Shown) (now number : ℕ) → is_held a.sender.queue number ≡ true → is_held (polled a now).0.sender.queue number ≡ true
+PollsKeepWhatIsHeld =
+    (a : Shown) (now number : ℕ) → is_held a.sender.queue number ≡ true
+    → is_held (polled a now).0.sender.queue number ≡ true
 
 -- Closing
 
@@ -103,7 +111,8 @@ faults_or (a, flows.Fault fault) more = not (is_closed_state a.state)
 -- one of these chunks, taken in order, is a fault, and the association is open then
 abbrev pub is_faulted : CommonHeader → List Chunk → Shown → AckTrigger → ℕ → Bool
 is_faulted header [] a trigger now = false
-is_faulted header (c ∷ cs) a trigger now = faults_or (on_chunk a header c trigger now) (λ b next. is_faulted header cs b next now)
+is_faulted header (c ∷ cs) a trigger now =
+    faults_or (on_chunk a header c trigger now) (λ b next. is_faulted header cs b next now)
 
 abbrev pub is_faulted_packet : Shown → Option Packet → ℕ → Bool
 is_faulted_packet a None now = false
@@ -125,16 +134,19 @@ loss_of events.DatagramReceived = 0
 abbrev pub losses : List Event → ℕ
 losses queued = sum_by loss_of queued
 
--- An association closed, or it did not: if so it is lost, and one event more tells of it; if not, it isn't closed unless it was.
+-- An association closed, or it did not: if so it is lost, and one event more tells of it; if not, it isn't closed
+-- unless it was.
 pub record IsClosedIf (closing : Bool) (a b : Shown) : Type 0 where
   pub closed : closing ≡ true → b.state ≡ states.Closed
   pub still_open : closing ≡ false → is_closed_state b.state ≡ true → is_closed_state a.state ≡ true
   pub lost : b.lost ≡ (closing || a.lost)
   pub told : losses b.events ≡ losses a.events + (if closing then 1 else 0)
 
--- A packet closes an association exactly where a chunk of the packet is a fault while it is open, and the loss is told once.
+-- A packet closes an association exactly where a chunk of the packet is a fault while it is open, and the loss is told
+-- once.
 abbrev pub FaultsAloneClose : Type 0
-FaultsAloneClose = (a : Shown) (packet : Option Packet) (now : ℕ) → IsClosedIf (closes a packet now) a (after_packet a packet now)
+FaultsAloneClose =
+    (a : Shown) (packet : Option Packet) (now : ℕ) → IsClosedIf (closes a packet now) a (after_packet a packet now)
 
 -- Reporting
 
@@ -145,17 +157,22 @@ pub record IsFirstMissing (o : ℕ) (h : History) : Type 0 where
   pub passed : h.passed ≤ o
   pub above : (n : ℕ) → mem n h.taken ≡ true → n < o
 
--- A SACK names the TSN before that of the first offset that neither came nor was passed over (RFC 4960 section 3.3.4): it
--- neither claims what did not come nor keeps back what did.
+-- A SACK names the TSN before that of the first offset that neither came nor was passed over (RFC 4960 section 3.3.4):
+-- it neither claims what did not come nor keeps back what did.
 abbrev pub SacksNameThePoint : Type 0
 SacksNameThePoint = (a : Shown) (h : History) → Binds a h
-    → IsFirstMissing h.reach h × ((sack_of a.receiver (bytes_waiting a.streams)).cumulative_tsn_ack ≡ tsn_before (tsn h.peer h.reach))
+    → IsFirstMissing h.reach h
+    × ((sack_of a.receiver (bytes_waiting a.streams)).cumulative_tsn_ack ≡ tsn_before (tsn h.peer h.reach))
 
--- It says what came: the point, and of the 65,535 TSNs past it, which are all that gap ack blocks can name, exactly those that came.
+-- It says what came: the point, and of the 65,535 TSNs past it, which are all that gap ack blocks can name, exactly
+-- those that came.
 abbrev pub SacksSayWhatCame : Type 0
-SacksSayWhatCame = (a : Shown) (h : History) → Binds a h → SaysWhatCame h.peer h.reach h.taken (sack_of a.receiver (bytes_waiting a.streams))
+SacksSayWhatCame =
+    (a : Shown) (h : History) → Binds a h
+    → SaysWhatCame h.peer h.reach h.taken (sack_of a.receiver (bytes_waiting a.streams))
 
--- The packet of an acknowledgement is that of a SACK which offers the room that is left in the receive buffer (RFC 4960 section 6.2).
+-- The packet of an acknowledgement is that of a SACK which offers the room that is left in the receive buffer (RFC 4960
+-- section 6.2).
 abbrev pub SacksOfferTheBuffer : Type 0
 SacksOfferTheBuffer = (a : Shown)
     → (sack : ChunkSelectiveAck) × (sack_packet a ≡ packet_bytes (header_of a.handshake) (chunks.SelectiveAck sack))

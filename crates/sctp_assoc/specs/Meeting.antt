@@ -11,11 +11,11 @@ use Rattle.sctp_inbound.specs.Greeting.{first_cookie}
 use Rattle.sctp_assoc.specs.declared.control.ControlPacket.{ControlPacket}
 use Rattle.sctp_assoc.specs.Acts.{Act}
 use Rattle.sctp_assoc.specs.Happened.{acts_of_chunk}
-use Rattle.sctp_assoc.specs.Polled.{WaitPlainly}
+use Rattle.sctp_assoc.specs.Gather.{WaitPlainly}
 use Rattle.sctp_assoc.specs.Shown.{Shown}
 
--- What the handshake of a side tells the other one of it: whether it is client or server, whether it knows the peer's initial TSN,
--- and whether it is established or was.
+-- What the handshake of a side tells the other one of it: whether it is client or server, whether it knows the peer's
+-- initial TSN, and whether it is established or was.
 pub record Stage : Type 0 where
   pub side : Side
   pub knows : Bool
@@ -30,9 +30,9 @@ pub record IsNoEarlier (s t : Stage) : Type 0 where
   pub knows : s.knows ≡ true → t.knows ≡ true
   pub completed : s.completed ≡ true → t.completed ≡ true
 
--- What a packet of the handshake says of the side that gives it out, whose initial TSN is own: INIT and INIT ACK say that TSN, and
--- INIT that the side is a client; an INIT ACK has a cookie; a COOKIE ECHO says that a client learnt the peer's initial TSN, and a
--- COOKIE ACK that the side is established or was.
+-- What a packet of the handshake says of the side that gives it out, whose initial TSN is own: INIT and INIT ACK say
+-- that TSN, and INIT that the side is a client; an INIT ACK has a cookie; a COOKIE ECHO says that a client learnt the
+-- peer's initial TSN, and a COOKIE ACK that the side is established or was.
 abbrev pub Greets : ℕ → Stage → Chunk → Type 0
 Greets own s (chunks.Init init) = (init.initial_tsn ≡ own) × (s.side ≡ sides.Client)
 Greets own s (chunks.InitAck init) = (init.initial_tsn ≡ own) × (is_some (first_cookie init.params) ≡ true)
@@ -40,8 +40,9 @@ Greets own s (chunks.CookieEcho cookie) = (s.side ≡ sides.Client) × (s.knows 
 Greets own s chunks.CookieAck = s.completed ≡ true
 Greets own s chunk = ⊥
 
--- Its initial TSN is own. Each packet that waits to go out says what is so, and keeps nothing under `Other` whose type has a variant
--- of its own; an INIT is kept for its timer by a client alone, and a COOKIE ECHO by a client that knows the peer's initial TSN.
+-- Its initial TSN is own. Each packet that waits to go out says what is so, and keeps nothing under `Other` whose type
+-- has a variant of its own; an INIT is kept for its timer by a client alone, and a COOKIE ECHO by a client that knows
+-- the peer's initial TSN.
 pub record IsTruthful (own : ℕ) (a : Shown) : Type 0 where
   pub tsn : a.handshake.my_initial_tsn ≡ own
   pub says : AllByRecursion (λ (c : ControlPacket). Greets own (stage_of a) c.chunk) a.control
@@ -82,18 +83,19 @@ pub record IsEstablished (a : Shown) : Type 0 where
 abbrev pub HasCome : Shown → Type 0
 HasCome a = AwaitsInitAck a ⊎ (AwaitsCookieAck a ⊎ (Listens a ⊎ IsEstablished a))
 
--- DATA may come to a side in this stage: it is established or was, or it is a client that knows the peer's initial TSN, and echoes its
--- cookie (DATA may overtake COOKIE ACK, RFC 4960 section 5.1)
+-- DATA may come to a side in this stage: it is established or was, or it is a client that knows the peer's initial TSN,
+-- and echoes its cookie (DATA may overtake COOKIE ACK, RFC 4960 section 5.1)
 abbrev pub MayHear : Stage → Type 0
 MayHear s = (s.completed ≡ true) ⊎ ((s.side ≡ sides.Client) × (s.knows ≡ true))
 
 -- the peer's initial TSN became known where no DATA may have come yet, or what is known of it stays
 abbrev pub IsLearning : ℕ → List Act → Shown → Shown → Type 0
 IsLearning peer acts a b =
-    ((acts ≡ []) × (b.handshake.peer_initial_tsn ≡ a.handshake.peer_initial_tsn)) ⊎ ((acts ≡ Act.PeerKnown peer ∷ []) × (MayHear (stage_of a) → ⊥))
+    ((acts ≡ []) × (b.handshake.peer_initial_tsn ≡ a.handshake.peer_initial_tsn))
+    ⊎ ((acts ≡ Act.PeerKnown peer ∷ []) × (MayHear (stage_of a) → ⊥))
 
--- A chunk of the handshake of a peer in the stage t led the association a by these acts to b: what waits stays truthful, and its stage
--- is no earlier one. Where that establishes it, its DATA may come to the peer.
+-- A chunk of the handshake of a peer in the stage t led the association a by these acts to b: what waits stays
+-- truthful, and its stage is no earlier one. Where that establishes it, its DATA may come to the peer.
 pub record IsGreeted (own peer : ℕ) (t : Stage) (acts : List Act) (a b : Shown) : Type 0 where
   pub truthful : IsTruthful own b
   pub come : HasCome b
@@ -105,8 +107,9 @@ pub record IsGreeted (own peer : ℕ) (t : Stage) (acts : List Act) (a b : Shown
 abbrev pub IsDoneAmongClients : Stage → Stage → Type 0
 IsDoneAmongClients s t = s.side ≡ sides.Client → t.side ≡ sides.Client → s.completed ≡ true
 
--- A chunk that made b of a leads the handshake on where a peer in the stage t says it truthfully, and where a is truthful, too, and not
--- one of two clients that wait.
+-- A chunk that made b of a leads the handshake on where a peer in the stage t says it truthfully, and where a is
+-- truthful, too, and not one of two clients that wait.
 abbrev pub GreetsOn : CommonHeader → Chunk → Shown → Shown → Type 0
-GreetsOn header chunk a b = (own peer : ℕ) (t : Stage) → Greets peer t chunk → IsDoneAmongClients (stage_of a) t → IsTruthful own a → HasCome a
+GreetsOn header chunk a b = (own peer : ℕ) (t : Stage) → Greets peer t chunk → IsDoneAmongClients (stage_of a) t
+    → IsTruthful own a → HasCome a
     → IsGreeted own peer t (acts_of_chunk a header chunk) a b

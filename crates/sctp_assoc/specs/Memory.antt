@@ -1,5 +1,6 @@
 -- Where what comes takes memory: a call may fail for want of memory only there.
-use Rattle.std.specs.Prelude.{ℕ, Bool, false, List, [], ◌∷◌, ◌&&◌, ◌||◌, not, is_ok, is_some, nat_lt, Option, Some, None}
+use Rattle.std.specs.Prelude.{ℕ, Bool, false, List, [], ◌∷◌, ◌&&◌, ◌||◌, not, is_ok, is_some, nat_lt, Option, Some}
+use Rattle.std.specs.Prelude.{None}
 use Rattle.sctp_wire_types.specs.declared.chunk.Chunk.{Chunk}
 use Rattle.sctp_wire_types.specs.declared.chunk.Chunk.TheVariants as chunks
 use Rattle.sctp_wire_types.specs.declared.chunk.ChunkHeartbeat.{ChunkHeartbeat}
@@ -31,8 +32,9 @@ keeps_message a piece =
     && (nat_lt 0 (credit_of a.receiver (bytes_waiting a.streams))
     && not (is_some (refusal_in a.streams piece.stream_identifier piece a.receiver.max_receive_message_size)))
 
--- DATA itself takes memory only where it is an ordered message in one piece and next in order, and its stream is made or it is
--- taken in (RFC 4960 section 6.2). Where a live stream refuses it, memory is taken for the close alone (`takes_memory_after`)
+-- DATA itself takes memory only where it is an ordered message in one piece and next in order, and its stream is made
+-- or it is taken in (RFC 4960 section 6.2). Where a live stream refuses it, memory is taken for the close alone
+-- (`takes_memory_after`)
 abbrev pub data_takes_memory : Shown → ChunkPayloadData → Bool
 data_takes_memory a piece =
     (is_next_after a.receiver piece.tsn && is_whole piece)
@@ -42,9 +44,11 @@ data_takes_memory a piece =
 abbrev pub init_takes_memory : Shown → Bool
 init_takes_memory a = is_beginning a.state
 
--- the cookie of an INIT ACK is echoed in CookieWait alone, where the INIT ACK comes between the ports of this side's INIT
+-- the cookie of an INIT ACK is echoed in CookieWait alone, where the INIT ACK comes between the ports of this side's
+-- INIT
 abbrev pub init_ack_takes_memory : Shown → CommonHeader → ChunkInit → Bool
-init_ack_takes_memory a header init = is_cookie_wait a.state && (comes_back a.handshake header && is_some (first_cookie init.params))
+init_ack_takes_memory a header init =
+    is_cookie_wait a.state && (comes_back a.handshake header && is_some (first_cookie init.params))
 
 -- a COOKIE ECHO is acknowledged only with the cookie that this side gave out, and not in a shutdown
 abbrev pub cookie_echo_takes_memory : Shown → List ℕ → Bool
@@ -58,8 +62,9 @@ cookie_ack_takes_memory a = is_cookie_echoed a.state
 abbrev pub heartbeat_takes_memory : ChunkHeartbeat → Bool
 heartbeat_takes_memory heartbeat = is_some (information_of heartbeat.params)
 
--- whether a chunk that passes its check takes memory itself. A SACK takes none. Nor do ABORT, ERROR and chunks that are not
--- processed, but they are faults: the close of an open association takes memory for its events (`takes_memory_after`)
+-- whether a chunk that passes its check takes memory itself. A SACK takes none. Nor do ABORT, ERROR and chunks that are
+-- not processed, but they are faults: the close of an open association takes memory for its events
+-- (`takes_memory_after`)
 abbrev pub takes_memory : Shown → CommonHeader → Chunk → Bool
 takes_memory a header (chunks.Data piece) = data_takes_memory a piece
 takes_memory a header (chunks.Init init) = init_takes_memory a
@@ -78,11 +83,13 @@ abbrev pub takes_memory_after : Shown × Flow → (Shown → AckTrigger → Bool
 takes_memory_after (a, flows.Next trigger) more = more a trigger
 takes_memory_after (a, flows.Fault fault) more = not (is_closed_state a.state)
 
--- one of these chunks, taken in order up to the first fault, takes memory, or is a fault that closes an open association
+-- one of these chunks, taken in order up to the first fault, takes memory, or is a fault that closes an open
+-- association
 abbrev pub chunks_take_memory : CommonHeader → List Chunk → Shown → AckTrigger → ℕ → Bool
 chunks_take_memory header [] a trigger now = false
 chunks_take_memory header (c ∷ cs) a trigger now =
-    chunk_takes_memory a header c || takes_memory_after (on_chunk a header c trigger now) (λ b next. chunks_take_memory header cs b next now)
+    chunk_takes_memory a header c
+    || takes_memory_after (on_chunk a header c trigger now) (λ b next. chunks_take_memory header cs b next now)
 
 abbrev pub packet_takes_memory_of : Shown → Option Packet → ℕ → Bool
 packet_takes_memory_of a None now = false

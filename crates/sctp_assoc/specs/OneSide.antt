@@ -1,5 +1,6 @@
 -- One side over every list of calls: what each public call may do, and the runs that are made of them.
-use Rattle.std.specs.Prelude.{◌≡◌, ◌⊎◌, ℕ, Bool, true, false, List, [], ◌∷◌, ◌++◌, if◌then◌else◌, length, is_some, Option, Some, None}
+use Rattle.std.specs.Prelude.{◌≡◌, ◌⊎◌, ℕ, Bool, true, false, List, [], ◌∷◌, ◌++◌, if◌then◌else◌, length, is_some}
+use Rattle.std.specs.Prelude.{Option, Some, None}
 use Rattle.sctp_wire_types.specs.declared.error.Error.{Error}
 use Rattle.sctp_wire_types.specs.declared.error.Error.TheVariants as errors
 use Rattle.sctp_wire_types.specs.declared.ids.PayloadProtocolIdentifier.{PayloadProtocolIdentifier}
@@ -10,10 +11,11 @@ use Rattle.sctp_parts.specs.declared.timer.Timer.TheVariants as names
 use Rattle.sctp_parts.specs.declared.timer.Timer.{Timer}
 use Rattle.sctp_parts.specs.Timers.{Timers, moment_of}
 use Rattle.sctp_streams.specs.declared.event.Event.{Event}
-use Rattle.sctp_assoc.specs.Calls.{event_polled, is_cookie_echoed, is_cookie_wait, open_refusal, opened, read_from_stream, read_refusal, write_refusal, written}
+use Rattle.sctp_assoc.specs.Calls.{event_polled, is_cookie_echoed, is_cookie_wait, open_refusal, opened}
+use Rattle.sctp_assoc.specs.Calls.{read_from_stream, read_refusal, write_refusal, written}
 use Rattle.sctp_assoc.specs.Chunks.{after_packet}
 use Rattle.sctp_assoc.specs.Laws.{losses}
-use Rattle.sctp_assoc.specs.Polled.{polled}
+use Rattle.sctp_assoc.specs.Gather.{polled}
 use Rattle.sctp_assoc.specs.Shown.{HasFailed, Shown, answers_of}
 use Rattle.sctp_assoc.specs.Timeouts.{after_timeouts}
 
@@ -114,9 +116,9 @@ abbrev pub IsRun : List Call → List Event → Shown → Shown → Type 0
 IsRun [] told a b = IsRefused told a b
 IsRun (call ∷ calls) told a b = RunsOn call (λ later c. IsRun calls later c b) told a
 
--- An association as a constructor leaves it: it works, no loss waits to be told, no DATA was sent and T3-rtx does not run;
--- the timer of INIT runs in CookieWait alone, that of COOKIE ECHO in CookieEchoed alone (RFC 4960 section 5.1), and that of
--- an acknowledgement where one is delayed.
+-- An association as a constructor leaves it: it works, no loss waits to be told, no DATA was sent and T3-rtx does not
+-- run; the timer of INIT runs in CookieWait alone, that of COOKIE ECHO in CookieEchoed alone (RFC 4960 section 5.1),
+-- and that of an acknowledgement where one is delayed.
 pub record IsFresh (a : Shown) : Type 0 where
   pub working : a.failed ≡ false
   pub not_lost : a.lost ≡ false

@@ -1,5 +1,6 @@
 -- What calls leave of an association beside its directions, and of which acts they are made: for whoever builds on it.
-use Rattle.std.specs.Prelude.{◌≡◌, ◌⊎◌, ◌<◌, ◌≤◌, ℕ, ◌+◌, ◌%◌, ◌^◌, Bool, true, false, List, [], ◌∷◌, ◌++◌, length, slice_get, if◌then◌else◌, Option, Some, None, ⊤}
+use Rattle.std.specs.Prelude.{◌≡◌, ◌⊎◌, ◌<◌, ◌≤◌, ℕ, ◌+◌, ◌%◌, ◌^◌, Bool, true, false, List, [], ◌∷◌, ◌++◌, length}
+use Rattle.std.specs.Prelude.{slice_get, if◌then◌else◌, Option, Some, None, ⊤}
 use Rattle.std.specs.List.{AllByRecursion}
 use Rattle.sctp_wire_types.specs.Serial.{tsn_gt}
 use Rattle.sctp_wire_types.specs.declared.chunk.Chunk.{Chunk}
@@ -19,12 +20,13 @@ use Rattle.sctp_streams.specs.Streams.{made, stream_at}
 use Rattle.sctp_inbound.specs.declared.receiver.AckTrigger.{AckTrigger}
 use Rattle.sctp_model.specs.Serial.{tsn}
 use Rattle.sctp_assoc.specs.Acts.{Act, Binds, History, LeadsOn, all_data_given, parts, tsn_before}
-use Rattle.sctp_assoc.specs.Calls.{closed_by, event_polled, is_closed_state, is_established, open_refusal, opened, read_from_stream, stream_refusal, write_refusal, written}
+use Rattle.sctp_assoc.specs.Calls.{closed_by, event_polled, is_closed_state, is_established, open_refusal, opened}
+use Rattle.sctp_assoc.specs.Calls.{read_from_stream, stream_refusal, write_refusal, written}
 use Rattle.sctp_assoc.specs.Chunks.{after_packet, ended, on_chunk}
 use Rattle.sctp_assoc.specs.Happened.{Polls, acts_of_chunk, acts_of_poll, acts_of_timeouts}
 use Rattle.sctp_assoc.specs.Inbound.{taken_packet}
 use Rattle.sctp_assoc.specs.Meeting.{Greets, GreetsOn, HasCome, IsEstablished, IsNoEarlier, IsTruthful, Stage, stage_of}
-use Rattle.sctp_assoc.specs.Polled.{AreControlReadAgain, WaitPlainly, control_packets, is_due, polled, without_control}
+use Rattle.sctp_assoc.specs.Gather.{AreControlReadAgain, WaitPlainly, control_packets, is_due, polled, without_control}
 use Rattle.sctp_assoc.specs.Reports.{SaysWhatCame}
 use Rattle.sctp_assoc.specs.Shown.{Shown}
 use Rattle.sctp_assoc.specs.Timeouts.{after_timeouts}
@@ -32,8 +34,8 @@ use Rattle.sctp_assoc.specs.declared.control.ControlPacket.{ControlPacket}
 
 -- Status
 
--- Whether it failed, its state, whether it was lost, its payload size, its side and its handshake are as they were, and what waits to
--- go out is truthful where it was.
+-- Whether it failed, its state, whether it was lost, its payload size, its side and its handshake are as they were, and
+-- what waits to go out is truthful where it was.
 pub record IsSameStatus (a b : Shown) : Type 0 where
   pub failed : b.failed ≡ a.failed
   pub state : b.state ≡ a.state
@@ -56,7 +58,8 @@ EstablishedSidesTalk = (a : Shown) → is_established a.state ≡ true → HasCo
 abbrev pub GreetingsStayTrue : Type 0
 GreetingsStayTrue = (own : ℕ) (s t : Stage) (chunk : Chunk) → IsNoEarlier s t → Greets own s chunk → Greets own t chunk
 
--- The application's calls, timers and polls leave the status; of these, events that are told and timers leave the streams, too.
+-- The application's calls, timers and polls leave the status; of these, events that are told and timers leave the
+-- streams, too.
 abbrev pub OpenedStreamsKeepTheStatus : Type 0
 OpenedStreamsKeepTheStatus = (a : Shown) (id : ℕ) (kind : PayloadProtocolIdentifier) → IsSameStatus a (opened a id kind)
 
@@ -67,10 +70,12 @@ abbrev pub ReadsKeepTheStatus : Type 0
 ReadsKeepTheStatus = (a : Shown) (id : ℕ) → IsSameStatus a (read_from_stream a id).0
 
 abbrev pub ToldEventsKeepTheStatus : Type 0
-ToldEventsKeepTheStatus = (a b : Shown) (event : Option Event) → event_polled a ≡ (b, event) → IsSameStatus a b × (b.streams ≡ a.streams)
+ToldEventsKeepTheStatus =
+    (a b : Shown) (event : Option Event) → event_polled a ≡ (b, event) → IsSameStatus a b × (b.streams ≡ a.streams)
 
 abbrev pub TimersKeepTheStatus : Type 0
-TimersKeepTheStatus = (a : Shown) (now : ℕ) → IsSameStatus a (after_timeouts a now) × ((after_timeouts a now).streams ≡ a.streams)
+TimersKeepTheStatus =
+    (a : Shown) (now : ℕ) → IsSameStatus a (after_timeouts a now) × ((after_timeouts a now).streams ≡ a.streams)
 
 abbrev pub PollsKeepTheStatus : Type 0
 PollsKeepTheStatus = (a : Shown) (now : ℕ) → IsSameStatus a (polled a now).0
@@ -95,7 +100,8 @@ IsNotLive a id = stream_at a.streams id ≡ None
 abbrev pub OpenedStreamsWereNotLive : Type 0
 OpenedStreamsWereNotLive = (a : Shown) (id : ℕ) → open_refusal a id ≡ None → (a.failed ≡ false) × IsNotLive a id
 
--- A message of this size is accepted on a live stream in Established: it has a byte at least, and one DATA chunk has room for it.
+-- A message of this size is accepted on a live stream in Established: it has a byte at least, and one DATA chunk has
+-- room for it.
 pub record CanWrite (a : Shown) (id size : ℕ) : Type 0 where
   pub live : IsLive a id
   pub established : is_established a.state ≡ true
@@ -114,7 +120,9 @@ HoldsNothing a = (id : ℕ) (t : StreamView) → stream_at a.streams id ≡ Some
 
 -- A stream that is opened holds nothing, and the others are as they were.
 abbrev pub OpenedStreamsHoldNothing : Type 0
-OpenedStreamsHoldNothing = (a : Shown) (id : ℕ) (kind : PayloadProtocolIdentifier) → IsNotLive a id → HoldsNothing a → HoldsNothing (opened a id kind)
+OpenedStreamsHoldNothing =
+    (a : Shown) (id : ℕ) (kind : PayloadProtocolIdentifier) → IsNotLive a id → HoldsNothing a
+    → HoldsNothing (opened a id kind)
 
 -- A read where no stream holds anything gives nothing, and leaves it so.
 abbrev pub WhatHoldsNothingGivesNothing : Type 0
@@ -135,7 +143,8 @@ Leaves (chunks.Data piece) a b = IsSameStatus a b
 Leaves (chunks.SelectiveAck sack) a b = IsSameStatus a b
 Leaves chunk a b = KeepsWorking a b
 
--- A chunk of a packet with this header made b of the association a: by its acts, and where it is one of a handshake, that goes on.
+-- A chunk of a packet with this header made b of the association a: by its acts, and where it is one of a handshake,
+-- that goes on.
 pub record TakesChunk (header : CommonHeader) (chunk : Chunk) (a b : Shown) : Type 0 where
   pub leads : LeadsOn (acts_of_chunk a header chunk) a b
   pub leaves : Leaves chunk a b
@@ -143,7 +152,9 @@ pub record TakesChunk (header : CommonHeader) (chunk : Chunk) (a b : Shown) : Ty
 
 -- Each chunk leads on by its acts.
 abbrev pub ChunksLeadOn : Type 0
-ChunksLeadOn = (header : CommonHeader) (chunk : Chunk) (a : Shown) (trigger : AckTrigger) (now : ℕ) → TakesChunk header chunk a (on_chunk a header chunk trigger now).0
+ChunksLeadOn =
+    (header : CommonHeader) (chunk : Chunk) (a : Shown) (trigger : AckTrigger) (now : ℕ)
+    → TakesChunk header chunk a (on_chunk a header chunk trigger now).0
 
 -- A packet without a fault came to its end: the directions see nothing of it.
 pub record EndsPacket (a b : Shown) : Type 0 where
@@ -182,7 +193,8 @@ EstablishedIsNotClosed = (a : Shown) → is_established a.state ≡ true → is_
 
 -- An association that was lost takes nothing, and where nothing came nothing changes.
 abbrev pub LostAssociationsTakeNothing : Type 0
-LostAssociationsTakeNothing = (a : Shown) (packet : Option Packet) (now : ℕ) → a.lost ≡ true → after_packet a packet now ≡ a
+LostAssociationsTakeNothing =
+    (a : Shown) (packet : Option Packet) (now : ℕ) → a.lost ≡ true → after_packet a packet now ≡ a
 
 abbrev pub NoPacketChangesNothing : Type 0
 NoPacketChangesNothing = (a : Shown) (now : ℕ) → after_packet a None now ≡ a
@@ -217,7 +229,9 @@ IsTaking a piece acts = (acts ≡ []) ⊎ (OpensOnly a piece acts ⊎ (OpensAndT
 
 -- DATA may make its stream first, and may be taken in; nothing else (RFC 4960 section 6.2).
 abbrev pub DataIsTaken : Type 0
-DataIsTaken = (a : Shown) (header : CommonHeader) (piece : ChunkPayloadData) → IsTaking a piece (acts_of_chunk a header (chunks.Data piece))
+DataIsTaken =
+    (a : Shown) (header : CommonHeader) (piece : ChunkPayloadData)
+    → IsTaking a piece (acts_of_chunk a header (chunks.Data piece))
 
 -- The first pieces in flight are acknowledged, so many that the point is the TSN before that of the next one.
 pub record Acknowledges (a : Shown) (h : History) (cumulative_tsn_ack : ℕ) (acts : List Act) : Type 0 where
@@ -229,7 +243,8 @@ pub record Acknowledges (a : Shown) (h : History) (cumulative_tsn_ack : ℕ) (ac
 -- A SACK acknowledges what its point says, or nothing (RFC 4960 section 6.2.1).
 abbrev pub SacksAcknowledge : Type 0
 SacksAcknowledge = (a : Shown) (h : History) (header : CommonHeader) (sack : ChunkSelectiveAck) → Binds a h
-    → (acts_of_chunk a header (chunks.SelectiveAck sack) ≡ []) ⊎ Acknowledges a h sack.cumulative_tsn_ack (acts_of_chunk a header (chunks.SelectiveAck sack))
+    → (acts_of_chunk a header (chunks.SelectiveAck sack) ≡ [])
+    ⊎ Acknowledges a h sack.cumulative_tsn_ack (acts_of_chunk a header (chunks.SelectiveAck sack))
 
 -- A SACK names the TSN of the last of the first so many pieces in flight, or with none of them the acknowledged point.
 -- They are fewer than half of all TSNs.
@@ -244,7 +259,8 @@ TakenSacksAcknowledge = (a : Shown) (h : History) (header : CommonHeader) (sack 
     → is_established a.state ≡ true → Binds a h → NamesTheSent a h sack.cumulative_tsn_ack count
     → acts_of_chunk a header (chunks.SelectiveAck sack) ≡ Act.Acknowledged count ∷ []
 
--- Outside of Established a SACK acknowledges nothing, and neither does one whose point lies behind the acknowledged one.
+-- Outside of Established a SACK acknowledges nothing, and neither does one whose point lies behind the acknowledged
+-- one.
 abbrev pub OtherSacksDoNothing : Type 0
 OtherSacksDoNothing = (a : Shown) (h : History) (header : CommonHeader) (sack : ChunkSelectiveAck) → Binds a h
     → (is_established a.state ≡ false) ⊎ (tsn_gt (tsn_before (tsn h.own h.base)) sack.cumulative_tsn_ack ≡ true)
@@ -257,7 +273,8 @@ IsMeeting init acts = (acts ≡ []) ⊎ (acts ≡ Act.PeerKnown init.initial_tsn
 -- INIT and INIT ACK tell the peer's initial TSN, or do nothing to the directions (RFC 4960 section 5.1).
 abbrev pub GreetingsMeet : Type 0
 GreetingsMeet = (a : Shown) (header : CommonHeader) (init : ChunkInit)
-    → IsMeeting init (acts_of_chunk a header (chunks.Init init)) × IsMeeting init (acts_of_chunk a header (chunks.InitAck init))
+    → IsMeeting init (acts_of_chunk a header (chunks.Init init))
+    × IsMeeting init (acts_of_chunk a header (chunks.InitAck init))
 
 -- neither DATA nor a SACK, nor one that tells an initial TSN
 abbrev pub IsOther : Chunk → Type 0
@@ -269,7 +286,8 @@ IsOther chunk = ⊤
 
 -- Any other chunk does nothing to the directions, unless it is a fault and closes.
 abbrev pub OtherChunksDoNothing : Type 0
-OtherChunksDoNothing = (a : Shown) (header : CommonHeader) (chunk : Chunk) → IsOther chunk → acts_of_chunk a header chunk ≡ []
+OtherChunksDoNothing =
+    (a : Shown) (header : CommonHeader) (chunk : Chunk) → IsOther chunk → acts_of_chunk a header chunk ≡ []
 
 -- The acts of a poll and of timeouts
 
@@ -295,7 +313,9 @@ PollsGiveAndReport = (a : Shown) (now : ℕ) → is_established a.state ≡ true
 
 -- In any other state a poll gives what waits to go out, and nothing else.
 abbrev pub PollsOutsideEstablishedGiveWhatWaits : Type 0
-PollsOutsideEstablishedGiveWhatWaits = (a : Shown) (now : ℕ) → is_established a.state ≡ false → polled a now ≡ (without_control a, control_packets a.control)
+PollsOutsideEstablishedGiveWhatWaits =
+    (a : Shown) (now : ℕ) → is_established a.state ≡ false
+    → polled a now ≡ (without_control a, control_packets a.control)
 
 -- of what a datagram spells, if it spells a packet, each chunk is so
 abbrev pub OfEachChunk : (Chunk → Type 0) → Option Packet → Type 0
@@ -317,13 +337,16 @@ IsGivenBy acts a h chunk = IsWaitingToGo a chunk ⊎ IsExchanged acts a h chunk
 
 -- The packets of a poll are of such chunks alone.
 abbrev pub PollsSayTheirActs : Type 0
-PollsSayTheirActs = (acts : List Act) (a b : Shown) (h : History) (packets : List (List ℕ)) → WaitPlainly a → AreControlReadAgain a.control → is_established a.state ≡ true → Binds a h
-    → Polls acts a h b packets → AllByRecursion (λ (bytes : List ℕ). OfEachChunk (IsGivenBy acts a h) (taken_packet (packet_at bytes))) packets
+PollsSayTheirActs = (acts : List Act) (a b : Shown) (h : History) (packets : List (List ℕ)) → WaitPlainly a
+    → AreControlReadAgain a.control → is_established a.state ≡ true → Binds a h
+    → Polls acts a h b packets
+    → AllByRecursion (λ (bytes : List ℕ). OfEachChunk (IsGivenBy acts a h) (taken_packet (packet_at bytes))) packets
 
 -- What waits goes out in packets of those chunks alone.
 abbrev pub WhatWaitsGoesOutAsItIs : Type 0
 WhatWaitsGoesOutAsItIs = (a : Shown) → WaitPlainly a → AreControlReadAgain a.control
-    → AllByRecursion (λ (bytes : List ℕ). OfEachChunk (IsWaitingToGo a) (taken_packet (packet_at bytes))) (control_packets a.control)
+    → AllByRecursion (λ (bytes : List ℕ). OfEachChunk (IsWaitingToGo a) (taken_packet (packet_at bytes)))
+    (control_packets a.control)
 
 -- Timeouts at most mark all that is outstanding (RFC 4960 section 6.3.3).
 abbrev pub TimeoutsMarkAtMost : Type 0

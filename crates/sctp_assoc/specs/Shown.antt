@@ -51,7 +51,8 @@ all_stopped t =
 abbrev pub answers_of : Shown → StateAnswers
 answers_of a = record { state = a.state; lost = a.lost; completed = a.handshake.completed }
 
--- a call found no memory in its middle: no timer runs on, and the questions about the state answer what they answered before it
+-- a call found no memory in its middle: no timer runs on, and the questions about the state answer what they answered
+-- before it
 pub record HasFailed (before : StateAnswers) (a : Shown) : Type 0 where
   pub marked : a.failed ≡ true
   pub state_stays : a.state ≡ before.state

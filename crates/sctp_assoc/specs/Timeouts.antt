@@ -15,11 +15,15 @@ after_timeouts a now = after_ack_delay (after_t3 (after_handshake_timers a now) 
 
 -- INIT is to go out again: its timer expired within its limit (RFC 4960 section 5.1)
 abbrev pub offers_again : Shown → ℕ → Bool
-offers_again a now = is_some a.handshake.offer && ((expiry_of names.T1Init now a.timers).expired && not (expiry_of names.T1Init now a.timers).failed)
+offers_again a now =
+    is_some a.handshake.offer
+    && ((expiry_of names.T1Init now a.timers).expired && not (expiry_of names.T1Init now a.timers).failed)
 
 -- COOKIE ECHO is to go out again: its timer expired within its limit
 abbrev pub echoes_again : Shown → ℕ → Bool
-echoes_again a now = is_some a.handshake.echo && ((expiry_of names.T1Cookie now a.timers).expired && not (expiry_of names.T1Cookie now a.timers).failed)
+echoes_again a now =
+    is_some a.handshake.echo
+    && ((expiry_of names.T1Cookie now a.timers).expired && not (expiry_of names.T1Cookie now a.timers).failed)
 
 -- INIT or COOKIE ECHO is to go out again; the timer of INIT is looked at first
 abbrev pub handshake_goes_out_again : Shown → ℕ → Bool

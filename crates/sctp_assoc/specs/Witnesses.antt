@@ -1,5 +1,6 @@
 -- What holds of one side after every list of calls: a loss is told once, and timers run where they should.
-use Rattle.std.specs.Prelude.{◌≡◌, ◌⊎◌, ◌<◌, ℕ, ◌+◌, ◌≤◌, Bool, true, false, List, [], if◌then◌else◌, length, Option, None}
+use Rattle.std.specs.Prelude.{◌≡◌, ◌⊎◌, ◌<◌, ℕ, ◌+◌, ◌≤◌, Bool, true, false, List, [], if◌then◌else◌, length, Option}
+use Rattle.std.specs.Prelude.{None}
 use Rattle.std.specs.declared.net.ip_addr.IpAddr.{IpAddr}
 use Rattle.std.specs.declared.net.socket_addr.SocketAddr.{SocketAddr}
 use Rattle.sctp_wire_types.specs.declared.chunk.ChunkInit.{ChunkInit}
@@ -11,7 +12,7 @@ use Rattle.sctp_streams.specs.declared.event.AssociationError.{AssociationError}
 use Rattle.sctp_streams.specs.declared.event.Event.{Event}
 use Rattle.sctp_wire_types.specs.declared.config.ServerConfig.{ServerConfig}
 use Rattle.sctp_assoc.specs.Calls.{closed_by, is_closed_state, is_cookie_echoed, is_cookie_wait, is_established}
-use Rattle.sctp_assoc.specs.Join.{created, joined}
+use Rattle.sctp_assoc.specs.Created.{created, joined}
 use Rattle.sctp_assoc.specs.Laws.{losses}
 use Rattle.sctp_assoc.specs.OneSide.{Call, FailsFrom, IsFresh, IsRun, is_armed, is_delayed}
 use Rattle.sctp_assoc.specs.Shown.{Shown}
@@ -44,13 +45,14 @@ OfEachSide Holds = AfterEveryRun (λ told b. Holds b)
 abbrev pub loss_count : Bool → ℕ
 loss_count lost = if lost then 1 else 0
 
--- The losses that were told, and those that wait to be told, are one where the association was lost, else none. In one that
--- failed what waits is not told any more.
+-- The losses that were told, and those that wait to be told, are one where the association was lost, else none. In one
+-- that failed what waits is not told any more.
 pub record TellsOneLoss (told : List Event) (b : Shown) : Type 0 where
   pub told_at_most : losses told ≤ loss_count b.lost
   pub in_all : b.failed ≡ false → losses told + losses b.events ≡ loss_count b.lost
 
--- No association tells of more than one loss. One that works told of one, or has one waiting to be told, exactly where it was lost.
+-- No association tells of more than one loss. One that works told of one, or has one waiting to be told, exactly where
+-- it was lost.
 abbrev pub LossesAreToldOnce : Type 0
 LossesAreToldOnce = AfterEveryRun TellsOneLoss
 
@@ -64,8 +66,9 @@ has_given_up timer t = passes (timer_at timer t).retries (limit_of timer t)
 abbrev pub IsTimed : Timer → Timers → Type 0
 IsTimed timer t = (is_armed timer t ≡ true) ⊎ (has_given_up timer t ≡ true)
 
--- In Established the retransmission timer runs as long as DATA is in flight, unless its retries passed their limit (RFC 4960
--- section 6.3.2, rules R1 and R3). What goes out again when it expires stands in the equations of timeouts and polls.
+-- In Established the retransmission timer runs as long as DATA is in flight, unless its retries passed their limit (RFC
+-- 4960 section 6.3.2, rules R1 and R3). What goes out again when it expires stands in the equations of timeouts and
+-- polls.
 abbrev pub OutstandingDataIsTimed : Type 0
 OutstandingDataIsTimed = OfEachSide (λ b. b.failed ≡ false → is_established b.state ≡ true
     → 0 < length b.sender.queue.in_flight → IsTimed names.T3RTX b.timers)
@@ -74,8 +77,8 @@ OutstandingDataIsTimed = OfEachSide (λ b. b.failed ≡ false → is_established
 abbrev pub NothingInFlightIsNotTimed : Type 0
 NothingInFlightIsNotTimed = OfEachSide (λ b. b.sender.queue.in_flight ≡ [] → is_armed names.T3RTX b.timers ≡ false)
 
--- INIT and COOKIE ECHO are timed while they wait for their answer, unless the retries passed their limit (RFC 4960 section
--- 5.1).
+-- INIT and COOKIE ECHO are timed while they wait for their answer, unless the retries passed their limit (RFC 4960
+-- section 5.1).
 abbrev pub SentInitsAreTimed : Type 0
 SentInitsAreTimed = OfEachSide (λ b. b.failed ≡ false → is_cookie_wait b.state ≡ true → IsTimed names.T1Init b.timers)
 
@@ -99,8 +102,8 @@ IsHandshakeUntimed t = (is_armed names.T1Init t ≡ false) × (is_armed names.T1
 abbrev pub NoHandshakeTimerRunsOnceEstablished : Type 0
 NoHandshakeTimerRunsOnceEstablished = OfEachSide (λ b. is_established b.state ≡ true → IsHandshakeUntimed b.timers)
 
--- The timer of acknowledgements runs where one is delayed, and there alone (RFC 4960 section 6.2). At which moment it expires
--- stands in the equation of a packet's end.
+-- The timer of acknowledgements runs where one is delayed, and there alone (RFC 4960 section 6.2). At which moment it
+-- expires stands in the equation of a packet's end.
 abbrev pub DelayedSacksAreTimed : Type 0
 DelayedSacksAreTimed = OfEachSide (λ b. b.failed ≡ false → b.lost ≡ false
     → is_armed names.Ack b.timers ≡ is_delayed b.receiver.ack_state)

@@ -1,18 +1,20 @@
 // The surface of an association.
-ghost use Rattle.std.specs.Prelude.{◌≡◌, ◌↔◌, ◌*◌, ◌∷◌, ◌⊎◌, ◌≤◌, [], true, false, not, IsNone, IfSome, OnOk, OnErr, IfOk, IsErrOf};
+ghost use Rattle.std.specs.Prelude.{◌≡◌, ◌↔◌, ◌*◌, ◌∷◌, ◌⊎◌, ◌≤◌, [], true, false, not, IsNone, IfSome, OnOk, OnErr};
+ghost use Rattle.std.specs.Prelude.{IfOk, IsErrOf};
 ghost use Rattle.std.specs.Borrow.{sem};
 ghost use Rattle.std.specs.Duration.{as_nanos};
 ghost use Rattle.std.specs.Option.{option_copied};
 ghost use Rattle.sctp_parts.specs.State.{is_closing};
 ghost use Rattle.sctp_parts.specs.Timers.{least_moment};
-ghost use Rattle.sctp_assoc.specs.Calls.{Refuses, RefusesOrLacksMemory, open_refusal, stream_refusal, usable, opened, is_closed_state, after_t3, after_ack_delay, event_from, event_polled};
+ghost use Rattle.sctp_assoc.specs.Calls.{Refuses, RefusesOrLacksMemory, open_refusal, stream_refusal, usable, opened};
+ghost use Rattle.sctp_assoc.specs.Calls.{is_closed_state, after_t3, after_ack_delay, event_from, event_polled};
 ghost use Rattle.sctp_assoc.specs.Chunks.{after_packet};
 ghost use Rattle.sctp_assoc.specs.Acts.{Act, LeadsOn, begun, Binds};
 ghost use Rattle.sctp_assoc.specs.Happened.{PollsOn, acts_of_packet, acts_of_poll, acts_of_timeouts};
 ghost use Rattle.sctp_assoc.specs.Inbound.{is_datagram, packet_of, transmit_of};
-ghost use Rattle.sctp_assoc.specs.Join.{create_refusal, created, fresh_association, join_refusal, joined};
-ghost use Rattle.sctp_assoc.specs.Lending.{rests_if_refused, lent, lender, id_of};
-ghost use Rattle.sctp_assoc.specs.Polled.{IsAddressed, has_something_to_give, packets_of, polled};
+ghost use Rattle.sctp_assoc.specs.Created.{create_refusal, created, fresh_association, join_refusal, joined};
+ghost use Rattle.sctp_assoc.specs.Stream.{rests_if_refused, lent, lender, id_of};
+ghost use Rattle.sctp_assoc.specs.Gather.{IsAddressed, has_something_to_give, packets_of, polled};
 ghost use Rattle.sctp_assoc.specs.Shown.{HasFailed, answers_of};
 ghost use Rattle.sctp_assoc.specs.Timeouts.{after_timeouts, handshake_goes_out_again};
 
@@ -107,7 +109,7 @@ impl Association {
     /// and never looked at.
     ///
     /// Refused, in this order: `ErrBadPayloadSize`, `ErrBadInitialTsn` for the `initial_tsn` 0, `ErrNoMemory`.
-    #[tactic(auto, using(crate::proofs::Beginning::created_binds))]
+    #[tactic(auto, using(crate::proofs::FreshHistory::created_binds))]
     pub fn new(
         alloc: Global,
         server_config: Option<&ServerConfig>,
@@ -122,7 +124,8 @@ impl Association {
     ) -> Result<Association, Error>
         ensures refused { RefusesOrLacksMemory result (create_refusal max_payload_size initial_tsn) }
         ensures begins { IfOk result (λ a. Binds a (begun initial_tsn 1)) }
-        ensures created { IfOk result (λ a. a ≡ created (option_copied server_config.entry) config.now max_payload_size local_aid initial_tsn cookie remote_addr local_ip now) }
+        ensures created { IfOk result (λ a. a ≡ created (option_copied server_config.entry) config.now max_payload_size
+            local_aid initial_tsn cookie remote_addr local_ip now) }
     {
         if max_payload_size == 0 || MAX_PAYLOAD_SIZE < max_payload_size {
             return Err(Error::ErrBadPayloadSize);
@@ -176,7 +179,8 @@ impl Association {
     ) -> Result<Association, Error>
         ensures refused { RefusesOrLacksMemory result (join_refusal max_payload_size local_init.now remote_init.now) }
         ensures begins { IfOk result (λ a. Binds a (begun local_init.now.initial_tsn remote_init.now.initial_tsn)) }
-        ensures joined { IfOk result (λ a. a ≡ joined config.now max_payload_size remote_addr local_ip local_init.now remote_init.now) }
+        ensures joined { IfOk result
+            (λ a. a ≡ joined config.now max_payload_size remote_addr local_ip local_init.now remote_init.now) }
     {
         if max_payload_size == 0 || MAX_PAYLOAD_SIZE < max_payload_size {
             return Err(Error::ErrBadPayloadSize);
@@ -216,7 +220,8 @@ impl Association {
         window: u32,
     ) -> Association
         requires { max_payload_size ≤ 65519 }
-        ensures { result ≡ fresh_association config.now max_payload_size remote_addr local_ip side state handshake peer_last_tsn window }
+        ensures { result ≡ fresh_association config.now max_payload_size remote_addr local_ip side state handshake
+            peer_last_tsn window }
     {
         let initial_tsn = handshake.my_initial_tsn;
         Association {
@@ -256,7 +261,7 @@ impl Association {
     /// Takes out the oldest event; None where none waits. That the handshake failed is told behind all other events,
     /// once, as `Event::HandshakeFailed`. Call it until it answers None: after a constructor, `handle_event` and
     /// `handle_timeout`. Its one error is `ErrAssociationFailed`; the events that waited are not told then.
-    #[tactic(auto, using(crate::proofs::Joining::poll_leads_on))]
+    #[tactic(auto, using(crate::proofs::CallsLeadOn::poll_leads_on))]
     pub fn poll(&mut self) -> Result<Option<Event>, Error>
         ensures failed { IsErrOf result Error.ErrAssociationFailed ↔ (self.old.failed ≡ true) }
         ensures ok { IfOk result (λ event. event_polled self.old ≡ (self.new, event)) }
@@ -347,7 +352,7 @@ impl Association {
     ///
     /// Errors: `ErrAssociationFailed`, and `ErrNoMemory` only where a datagram is to be read, never after a loss.
     /// After the latter the association is failed.
-    #[tactic(auto, using(crate::proofs::Joining::packet_leads_on))]
+    #[tactic(auto, using(crate::proofs::CallsLeadOn::packet_leads_on))]
     pub fn handle_event(&mut self, event: AssociationEvent) -> Result<(), Error>
         ensures failed { IsErrOf result Error.ErrAssociationFailed ↔ (self.old.failed ≡ true) }
         ensures refused { IsErrOf result Error.ErrAssociationFailed → self.new ≡ self.old }
@@ -356,7 +361,8 @@ impl Association {
         ensures read { IsErrOf result Error.ErrNoMemory → is_datagram (transmit_of event).payload ≡ true }
         ensures only { OnErr result ((result ≡ Err Error.ErrAssociationFailed) ⊎ (result ≡ Err Error.ErrNoMemory)) }
         ensures ok { OnOk result (self.new ≡ after_packet self.old (packet_of event) (transmit_of event).now) }
-        ensures acts { OnOk result (LeadsOn (acts_of_packet self.old (packet_of event) (transmit_of event).now) self.old self.new) }
+        ensures acts { OnOk result
+            (LeadsOn (acts_of_packet self.old (packet_of event) (transmit_of event).now) self.old self.new) }
     {
         self.check_usable()?;
         let transmit = event.transmit;
@@ -383,7 +389,7 @@ impl Association {
     ///
     /// Errors: `ErrAssociationFailed`, and `ErrNoMemory` only where INIT or COOKIE ECHO is to go out again. After the
     /// latter the association is failed.
-    #[tactic(auto, using(crate::proofs::Joining::timeouts_lead_on))]
+    #[tactic(auto, using(crate::proofs::CallsLeadOn::timeouts_lead_on))]
     pub fn handle_timeout(&mut self, now: Instant) -> Result<(), Error>
         ensures failed { IsErrOf result Error.ErrAssociationFailed ↔ (self.old.failed ≡ true) }
         ensures refused { IsErrOf result Error.ErrAssociationFailed → self.new ≡ self.old }
@@ -447,7 +453,7 @@ impl Association {
     ///
     /// Refused, in this order with nothing changed: `ErrAssociationFailed`; `ErrStreamAlreadyExist`, also where the
     /// peer opened it; `ErrStreamCreateFailed` where no generation is left (the last one is 2^64 - 2); `ErrNoMemory`.
-    #[tactic(auto, using(crate::proofs::Joining::open_leads_on))]
+    #[tactic(auto, using(crate::proofs::CallsLeadOn::open_leads_on))]
     pub fn open_stream(
         &mut self,
         id: StreamId,
@@ -456,7 +462,8 @@ impl Association {
         ensures* lends { sem 𝓛 (rests_if_refused self.entry result) }
         ensures refused { RefusesOrLacksMemory result (open_refusal self.old id) }
         ensures ok { IfOk result (λ s. lent s ≡ opened self.old id default_payload_type) }
-        ensures acts { IfOk result (λ s. LeadsOn (Act.Opened id self.old.sender.queue.next_message_id default_payload_type ∷ []) self.old (lent s)) }
+        ensures acts { IfOk result (λ s. LeadsOn
+            (Act.Opened id self.old.sender.queue.next_message_id default_payload_type ∷ []) self.old (lent s)) }
         ensures same { IfOk result (λ s. lender s ≡ self.entry.ghost_name) }
         ensures id { IfOk result (λ s. id_of s ≡ id) }
     {

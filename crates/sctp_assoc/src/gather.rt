@@ -3,7 +3,11 @@ ghost use Rattle.std.specs.Prelude.{◌≡◌, ◌++◌, ◌&&◌, true, length,
 ghost use Rattle.sctp_wire.specs.Packets.{packet_is_plain};
 ghost use Rattle.sctp_outbound.specs.Sender.{gives_data};
 ghost use Rattle.sctp_assoc.specs.Calls.{is_established};
-ghost use Rattle.sctp_assoc.specs.Polled.{AckIsReadAgain, AreControlReadAgain, AreReadAgain, ExchangeIsReadAgain, IsReadAgain, PollIsReadAgain, ack_after, ack_polled, after_both, control_packets, data_packets, data_polled, exchange_gives, exchange_polled, has_something_to_give, is_due, packet_bytes, packet_with, polled, without_control};
+ghost use Rattle.sctp_assoc.specs.Gather.{AckIsReadAgain, AreControlReadAgain, AreReadAgain, ExchangeIsReadAgain};
+ghost use Rattle.sctp_assoc.specs.Gather.{IsReadAgain, PollIsReadAgain, ack_after, ack_polled, after_both};
+ghost use Rattle.sctp_assoc.specs.Gather.{control_packets, data_packets, data_polled, exchange_gives, exchange_polled};
+ghost use Rattle.sctp_assoc.specs.Gather.{has_something_to_give, is_due, packet_bytes, packet_with, polled};
+ghost use Rattle.sctp_assoc.specs.Gather.{without_control};
 
 use crate::Association;
 use crate::control::ControlPacket;
@@ -15,8 +19,8 @@ use std::alloc::{AllocError, Global};
 use std::mem;
 
 impl Association {
-    // The packets that wait, then DATA that is sent again, then new DATA, then the acknowledgement. It lacks memory only
-    // where there is something to give.
+    // The packets that wait, then DATA that is sent again, then new DATA, then the acknowledgement. It lacks memory
+    // only where there is something to give.
     pub(crate) fn gather(&mut self, now: Instant) -> Result<Vec<Bytes>, AllocError>
         ensures exact { IfOk result (λ packets. polled self.old now ≡ (self.new, packets.items)) }
         ensures control_again { OnOk result (AreControlReadAgain self.old.control) }
@@ -30,9 +34,10 @@ impl Association {
         Ok(packets)
     }
 
-    #[tactic(auto, unfolding(crate::specs::Polled::exchange_polled))]
+    #[tactic(auto, unfolding(crate::specs::Gather::exchange_polled))]
     fn gather_exchange(&mut self, packets: &mut Vec<Bytes>, now: Instant) -> Result<(), AllocError>
-        ensures exact { OnOk result (after_both packets.old.items (exchange_polled self.old now) ≡ (self.new, packets.new.items)) }
+        ensures exact { OnOk result
+            (after_both packets.old.items (exchange_polled self.old now) ≡ (self.new, packets.new.items)) }
         ensures again { OnOk result (PollIsReadAgain self.old now) }
         ensures grows { OnErr result ((is_established self.old.state && exchange_gives self.old now) ≡ true) }
     {
@@ -47,7 +52,8 @@ impl Association {
         packets: &mut Vec<Bytes>,
         now: Instant,
     ) -> Result<(), AllocError>
-        ensures exact { OnOk result (after_both packets.old.items (ack_after (data_polled self.old now)) ≡ (self.new, packets.new.items)) }
+        ensures exact { OnOk result
+            (after_both packets.old.items (ack_after (data_polled self.old now)) ≡ (self.new, packets.new.items)) }
         ensures again { OnOk result (ExchangeIsReadAgain self.old now) }
         ensures grows { OnErr result (exchange_gives self.old now ≡ true) }
     {
@@ -57,7 +63,7 @@ impl Association {
         Ok(())
     }
 
-    #[tactic(auto, unfolding(crate::specs::Polled::data_polled), using(sctp_outbound::proofs::Sending::resending_gives, sctp_outbound::proofs::Sending::sending_gives))]
+    #[tactic(auto, unfolding(crate::specs::Gather::data_polled), using(sctp_outbound::proofs::SenderSteps::resending_gives, sctp_outbound::proofs::SenderSteps::sending_gives))]
     fn gather_data(&mut self, now: Instant) -> Result<Vec<ChunkPayloadData>, AllocError>
         ensures exact { IfOk result (λ pieces. data_polled self.old now ≡ (self.new, pieces.items)) }
         ensures grows { OnErr result (gives_data self.old.sender now ≡ true) }
@@ -72,9 +78,10 @@ impl Association {
         Ok(chunks)
     }
 
-    #[tactic(auto, unfolding(crate::specs::Polled::ack_polled))]
+    #[tactic(auto, unfolding(crate::specs::Gather::ack_polled))]
     fn gather_ack(&mut self, packets: &mut Vec<Bytes>) -> Result<(), AllocError>
-        ensures exact { OnOk result (after_both packets.old.items (ack_polled self.old) ≡ (self.new, packets.new.items)) }
+        ensures exact { OnOk result
+            (after_both packets.old.items (ack_polled self.old) ≡ (self.new, packets.new.items)) }
         ensures again { OnOk result (AckIsReadAgain self.old) }
         ensures grows { OnErr result (is_due self.old.receiver.ack_state ≡ true) }
     {
@@ -89,7 +96,7 @@ impl Association {
 }
 
 // The packets that wait, oldest first.
-#[tactic(auto, using(crate::proofs::ReadAgain::one_more_control_again))]
+#[tactic(auto, using(crate::proofs::PacketsReadAgain::one_more_control_again))]
 fn put_control(
     packets: &mut Vec<Bytes>,
     alloc: Global,
@@ -106,7 +113,7 @@ fn put_control(
 }
 
 // Each DATA chunk in a packet of its own.
-#[tactic(auto, using(crate::proofs::ReadAgain::one_more_again))]
+#[tactic(auto, using(crate::proofs::PacketsReadAgain::one_more_again))]
 fn put_data(
     packets: &mut Vec<Bytes>,
     alloc: Global,
@@ -124,7 +131,7 @@ fn put_data(
 }
 
 // Spells a packet of one chunk. A chunk that is longer than its length field can say is not sent.
-#[tactic(auto, unfolding(crate::specs::Polled::packet_bytes), using(crate::proofs::ReadAgain::read_again))]
+#[tactic(auto, unfolding(crate::specs::Gather::packet_bytes), using(crate::proofs::PacketsReadAgain::read_again))]
 fn put_packet(
     packets: &mut Vec<Bytes>,
     alloc: Global,
@@ -132,7 +139,8 @@ fn put_packet(
     chunk: Chunk,
 ) -> Result<(), AllocError>
     ensures exact { OnOk result (packets.new.items ≡ packets.old.items ++ packet_bytes common_header chunk) }
-    ensures again { OnOk result (packet_is_plain (packet_with common_header chunk) ≡ true → IsReadAgain common_header chunk) }
+    ensures again { OnOk result (packet_is_plain (packet_with common_header chunk) ≡ true
+        → IsReadAgain common_header chunk) }
 {
     let mut chunks = List::new(alloc);
     chunks.push(chunk)?;

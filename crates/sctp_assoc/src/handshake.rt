@@ -1,7 +1,10 @@
 // The handshake, step by state and chunk, and the chunks beside it that are answered at once.
 ghost use Rattle.std.specs.Prelude.{◌≡◌, OnErr, OnOk, IfOk, is_some, true};
-ghost use Rattle.sctp_assoc.specs.Handshake.{after_t1_cookie, after_t1_init, connected, echoed, learns_peer, learned_back, on_cookie_ack, on_cookie_echo, on_heartbeat, on_init, on_init_ack, sends_cookie, sends_init, with_echo};
-ghost use Rattle.sctp_assoc.specs.Memory.{cookie_ack_takes_memory, cookie_echo_takes_memory, heartbeat_takes_memory, init_ack_takes_memory, init_takes_memory};
+ghost use Rattle.sctp_assoc.specs.Handshake.{after_t1_cookie, after_t1_init, connected, echoed, learns_peer};
+ghost use Rattle.sctp_assoc.specs.Handshake.{learned_back, on_cookie_ack, on_cookie_echo, on_heartbeat, on_init};
+ghost use Rattle.sctp_assoc.specs.Handshake.{on_init_ack, sends_cookie, sends_init, with_echo};
+ghost use Rattle.sctp_assoc.specs.Memory.{cookie_ack_takes_memory, cookie_echo_takes_memory, heartbeat_takes_memory};
+ghost use Rattle.sctp_assoc.specs.Memory.{init_ack_takes_memory, init_takes_memory};
 ghost use Rattle.sctp_assoc.specs.Timeouts.{echoes_again, offers_again};
 
 use crate::Association;
@@ -49,7 +52,8 @@ impl Association {
         self.sender.set_peer_window(window);
     }
 
-    // INIT ACK (RFC 4960 section 5.1): its cookie is echoed. With other ports than those of this side's INIT it is left.
+    // INIT ACK (RFC 4960 section 5.1): its cookie is echoed. With other ports than those of this side's INIT it is
+    // left.
     #[tactic(auto, unfolding(crate::specs::Handshake::on_init_ack))]
     pub(crate) fn on_init_ack(
         &mut self,

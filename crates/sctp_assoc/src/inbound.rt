@@ -4,8 +4,10 @@ ghost use Rattle.sctp_wire.specs.Packets.{checked, finished};
 ghost use Rattle.sctp_inbound.specs.Receiver.{credit_of};
 ghost use Rattle.sctp_streams.specs.Streams.{bytes_waiting, refusal_in};
 ghost use Rattle.sctp_assoc.specs.Inbound.{packet_read, taken_packet};
-ghost use Rattle.sctp_assoc.specs.Memory.{chunk_takes_memory, chunks_take_memory, data_takes_memory, makes_stream, packet_takes_memory, takes_memory};
-ghost use Rattle.sctp_assoc.specs.Chunks.{after_chunks, after_packet, dispatched, is_whole, on_chunk, on_data, on_sack, stream_found, taken_in};
+ghost use Rattle.sctp_assoc.specs.Memory.{chunk_takes_memory, chunks_take_memory, data_takes_memory, makes_stream};
+ghost use Rattle.sctp_assoc.specs.Memory.{packet_takes_memory, takes_memory};
+ghost use Rattle.sctp_assoc.specs.Chunks.{after_chunks, after_packet, dispatched, is_whole, on_chunk, on_data, on_sack};
+ghost use Rattle.sctp_assoc.specs.Chunks.{stream_found, taken_in};
 
 use crate::Association;
 use sctp_inbound::AckTrigger;
@@ -46,7 +48,8 @@ impl Association {
     fn on_read(&mut self, read: Result<Packet, Error>, now: Instant) -> Result<(), AllocError>
         ensures exact { OnOk result (self.new ≡ after_packet self.old (packet_read read) now) }
         ensures was_read { OnOk result (read ≢ Err Error.ErrNoMemory) }
-        ensures grows { OnErr result ((read ≡ Err Error.ErrNoMemory) ⊎ (packet_takes_memory self.old (packet_read read) now ≡ true)) }
+        ensures grows { OnErr result
+            ((read ≡ Err Error.ErrNoMemory) ⊎ (packet_takes_memory self.old (packet_read read) now ≡ true)) }
     {
         match read {
             Ok(packet) => self.on_packet(packet, now),
@@ -177,12 +180,13 @@ impl Association {
         Ok(true)
     }
 
-    // Hands a message to its stream and then moves the point; answers why the stream refuses it, if it does: one that is
-    // longer than the limit is a refusal. What the stream refuses lacks no memory.
-    #[tactic(auto, using(crate::proofs::Growing::not_for_memory), unfolding(crate::specs::Chunks::taken_in))]
+    // Hands a message to its stream and then moves the point; answers why the stream refuses it, if it does: one that
+    // is longer than the limit is a refusal. What the stream refuses lacks no memory.
+    #[tactic(auto, using(crate::proofs::MemoryTaken::not_for_memory), unfolding(crate::specs::Chunks::taken_in))]
     fn take_in(&mut self, piece: ChunkPayloadData) -> Result<Option<Error>, AllocError>
         ensures exact { IfOk result (λ fault. taken_in self.old piece ≡ (self.new, fault)) }
-        ensures grows { OnErr result (refusal_in self.old.streams piece.stream_identifier piece self.old.receiver.max_receive_message_size ≡ None) }
+        ensures grows { OnErr result (refusal_in self.old.streams piece.stream_identifier piece
+            self.old.receiver.max_receive_message_size ≡ None) }
     {
         let id = piece.stream_identifier;
         let tsn = piece.tsn;

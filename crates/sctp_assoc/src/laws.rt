@@ -1,9 +1,26 @@
 // Laws of one side, for whoever builds on it.
-ghost use Rattle.sctp_assoc.specs.Shapes.{AcceptedWritesFit, ChunksLeadOn, DataIsTaken, EstablishedIsNotClosed, EstablishedSidesTalk, FaultsClose, FoundStreamsAreLive, GreetingsMeet, GreetingsStayTrue, LostAssociationsTakeNothing, NoPacketChangesNothing, OpenedStreamsHoldNothing, OpenedStreamsKeepTheStatus, OpenedStreamsWereNotLive, OtherChunksDoNothing, OtherSacksDoNothing, PacketsEnd, PollsGiveAndReport, PollsKeepTheStatus, PollsOutsideEstablishedGiveWhatWaits, PollsSayTheirActs, ReadsKeepTheStatus, SacksAcknowledge, TakenSacksAcknowledge, TheSameHandshakeIsTheSameStage, TimeoutsMarkAtMost, TimersKeepTheStatus, ToldEventsKeepTheStatus, WhatHoldsNothingGivesNothing, WhatWaitsGoesOutAsItIs, WritesKeepTheStatus};
+ghost use Rattle.sctp_assoc.specs.Shapes.{AcceptedWritesFit, ChunksLeadOn, DataIsTaken, EstablishedIsNotClosed};
+ghost use Rattle.sctp_assoc.specs.Shapes.{EstablishedSidesTalk, FaultsClose, FoundStreamsAreLive, GreetingsMeet};
+ghost use Rattle.sctp_assoc.specs.Shapes.{GreetingsStayTrue, LostAssociationsTakeNothing, NoPacketChangesNothing};
+ghost use Rattle.sctp_assoc.specs.Shapes.{OpenedStreamsHoldNothing, OpenedStreamsKeepTheStatus};
+ghost use Rattle.sctp_assoc.specs.Shapes.{OpenedStreamsWereNotLive, OtherChunksDoNothing, OtherSacksDoNothing};
+ghost use Rattle.sctp_assoc.specs.Shapes.{PacketsEnd, PollsGiveAndReport, PollsKeepTheStatus};
+ghost use Rattle.sctp_assoc.specs.Shapes.{PollsOutsideEstablishedGiveWhatWaits, PollsSayTheirActs, ReadsKeepTheStatus};
+ghost use Rattle.sctp_assoc.specs.Shapes.{SacksAcknowledge, TakenSacksAcknowledge, TheSameHandshakeIsTheSameStage};
+ghost use Rattle.sctp_assoc.specs.Shapes.{TimeoutsMarkAtMost, TimersKeepTheStatus, ToldEventsKeepTheStatus};
+ghost use Rattle.sctp_assoc.specs.Shapes.{WhatHoldsNothingGivesNothing, WhatWaitsGoesOutAsItIs, WritesKeepTheStatus};
 ghost use Rattle.sctp_assoc.specs.Causes.{CausesClose, ClosingPacketsHaveCauses, FaultsAreCauses};
 ghost use Rattle.sctp_assoc.specs.Intake.{DataIsTakenIn, NothingElseIsTakenIn};
-ghost use Rattle.sctp_assoc.specs.Laws.{DueSacksGoOut, FaultsAloneClose, OpenedStreamsDoNotClose, PollsDoNotClose, PollsKeepWhatIsHeld, ReadsDoNotClose, SacksAreSpelled, SacksNameThePoint, SacksOfferTheBuffer, SacksSayWhatCame, TimersDoNotClose, WhatWaitsGoesOut, WhatWaitsIsGiven, WhatWaitsIsPolled, WritesAreHeld, WritesDoNotClose};
-ghost use Rattle.sctp_assoc.specs.Witnesses.{CookiesAreTimedInCookieEchoedAlone, CreatedSidesAreFresh, DelayedSacksAreTimed, EchoedCookiesAreTimed, FailedSidesWaitForNothing, FailuresStopTheTimers, InitsAreTimedInCookieWaitAlone, JoinedSidesAreFresh, LossesAreToldOnce, LossesStopTheTimers, LostSidesWaitForNothing, NoHandshakeTimerRunsOnceEstablished, NothingInFlightIsNotTimed, OutstandingDataIsTimed, SentInitsAreTimed};
+ghost use Rattle.sctp_assoc.specs.Laws.{DueSacksGoOut, FaultsAloneClose, OpenedStreamsDoNotClose, PollsDoNotClose};
+ghost use Rattle.sctp_assoc.specs.Laws.{PollsKeepWhatIsHeld, ReadsDoNotClose, SacksAreSpelled, SacksNameThePoint};
+ghost use Rattle.sctp_assoc.specs.Laws.{SacksOfferTheBuffer, SacksSayWhatCame, TimersDoNotClose, WhatWaitsGoesOut};
+ghost use Rattle.sctp_assoc.specs.Laws.{WhatWaitsIsGiven, WhatWaitsIsPolled, WritesAreHeld, WritesDoNotClose};
+ghost use Rattle.sctp_assoc.specs.Witnesses.{CookiesAreTimedInCookieEchoedAlone, CreatedSidesAreFresh};
+ghost use Rattle.sctp_assoc.specs.Witnesses.{DelayedSacksAreTimed, EchoedCookiesAreTimed, FailedSidesWaitForNothing};
+ghost use Rattle.sctp_assoc.specs.Witnesses.{FailuresStopTheTimers, InitsAreTimedInCookieWaitAlone};
+ghost use Rattle.sctp_assoc.specs.Witnesses.{JoinedSidesAreFresh, LossesAreToldOnce, LossesStopTheTimers};
+ghost use Rattle.sctp_assoc.specs.Witnesses.{LostSidesWaitForNothing, NoHandshakeTimerRunsOnceEstablished};
+ghost use Rattle.sctp_assoc.specs.Witnesses.{NothingInFlightIsNotTimed, OutstandingDataIsTimed, SentInitsAreTimed};
 
 /// Sending: what waits goes out with the next poll where nothing is in flight (RFC 4960 section 6.1).
 pub fn what_waits_goes_out()
@@ -28,15 +45,16 @@ pub fn faults_alone_close()
     ensures timers { TimersDoNotClose }
 {}
 
-/// Causes: a chunk is a fault exactly where it has one of the causes that are named, and so a packet closes only by such a cause.
+/// Causes: a chunk is a fault exactly where it has one of the causes that are named, and so a packet closes only by
+/// such a cause.
 pub fn only_named_causes_close()
     ensures chunk { FaultsAreCauses }
     ensures packet { ClosingPacketsHaveCauses }
     ensures causes { CausesClose }
 {}
 
-/// Reporting: a SACK says what came, is one datagram, and goes out with the next poll where it is due (RFC 4960 sections 3.3.4
-/// and 6.2).
+/// Reporting: a SACK says what came, is one datagram, and goes out with the next poll where it is due (RFC 4960
+/// sections 3.3.4 and 6.2).
 pub fn sacks_name_the_point()
     ensures point { SacksNameThePoint }
     ensures said { SacksSayWhatCame }
@@ -51,8 +69,8 @@ pub fn data_is_taken_in()
     ensures no_other { NothingElseIsTakenIn }
 {}
 
-/// Status: whether it failed, its state, whether it was lost, its payload size, its side and its handshake change by no call of the
-/// application, by no timer and by no poll, and what waits to go out stays truthful.
+/// Status: whether it failed, its state, whether it was lost, its payload size, its side and its handshake change by no
+/// call of the application, by no timer and by no poll, and what waits to go out stays truthful.
 pub fn calls_keep_the_status()
     ensures opened { OpenedStreamsKeepTheStatus }
     ensures written { WritesKeepTheStatus }
@@ -62,8 +80,8 @@ pub fn calls_keep_the_status()
     ensures polled { PollsKeepTheStatus }
 {}
 
-/// Stages: what a side's packets said of its handshake stays so in each later stage (RFC 4960 section 5.1). Where the handshake is
-/// the same, so is the stage.
+/// Stages: what a side's packets said of its handshake stays so in each later stage (RFC 4960 section 5.1). Where the
+/// handshake is the same, so is the stage.
 pub fn greetings_stay_true()
     ensures same { TheSameHandshakeIsTheSameStage }
     ensures established { EstablishedSidesTalk }
@@ -83,8 +101,8 @@ pub fn nothing_comes_of_nothing()
     ensures read { WhatHoldsNothingGivesNothing }
 {}
 
-/// Packets: each chunk leads on by its acts, and so does the end; where a chunk is one of a truthful peer's handshake, that goes on.
-/// A fault closes, and an association that was lost takes nothing.
+/// Packets: each chunk leads on by its acts, and so does the end; where a chunk is one of a truthful peer's handshake,
+/// that goes on. A fault closes, and an association that was lost takes nothing.
 pub fn packets_lead_on()
     ensures chunks { ChunksLeadOn }
     ensures ends { PacketsEnd }
@@ -94,7 +112,8 @@ pub fn packets_lead_on()
     ensures none { NoPacketChangesNothing }
 {}
 
-/// Acts: of which acts each chunk, a poll and timeouts are made, and that the packets of a poll say what its acts give out.
+/// Acts: of which acts each chunk, a poll and timeouts are made, and that the packets of a poll say what its acts give
+/// out.
 pub fn calls_are_made_of_acts()
     ensures data { DataIsTaken }
     ensures sack { SacksAcknowledge }
@@ -109,17 +128,17 @@ pub fn calls_are_made_of_acts()
     ensures timeouts { TimeoutsMarkAtMost }
 {}
 
-/// Losing: over every list of calls that a side gets, the losses that were told and those that wait to be told are one where it was
-/// lost, and none else; one that failed told of at most one.
+/// Losing: over every list of calls that a side gets, the losses that were told and those that wait to be told are one
+/// where it was lost, and none else; one that failed told of at most one.
 pub fn at_most_one_loss()
     ensures created { CreatedSidesAreFresh }
     ensures joined { JoinedSidesAreFresh }
     ensures told { LossesAreToldOnce }
 {}
 
-/// Timing: over every list of calls each timer of DATA, of the handshake and of acknowledgements runs where it should, unless its
-/// retries passed their limit, and there alone (RFC 4960 sections 5.1, 6.2 and 6.3.2). A side that failed or was lost waits for no
-/// moment.
+/// Timing: over every list of calls each timer of DATA, of the handshake and of acknowledgements runs where it should,
+/// unless its retries passed their limit, and there alone (RFC 4960 sections 5.1, 6.2 and 6.3.2). A side that failed or
+/// was lost waits for no moment.
 pub fn timers_run_where_they_should()
     ensures data { OutstandingDataIsTimed }
     ensures no_data { NothingInFlightIsNotTimed }

@@ -1,8 +1,9 @@
 // The calls of one stream.
 ghost use Rattle.std.specs.Prelude.{◌≡◌, ◌↔◌, ◌∷◌, [], drop, length, slice_get, IsNone, OnOk, OnErr, IfOk};
 ghost use Rattle.sctp_assoc.specs.Acts.{Act, LeadsOn};
-ghost use Rattle.sctp_assoc.specs.Lending.{lent, lender, id_of};
-ghost use Rattle.sctp_assoc.specs.Calls.{Refuses, RefusesOrLacksMemory, write_refusal, written, read_refusal, read_from_stream, ready_messages, buffered_of};
+ghost use Rattle.sctp_assoc.specs.Stream.{lent, lender, id_of};
+ghost use Rattle.sctp_assoc.specs.Calls.{Refuses, RefusesOrLacksMemory, write_refusal, written, read_refusal};
+ghost use Rattle.sctp_assoc.specs.Calls.{read_from_stream, ready_messages, buffered_of};
 
 use crate::Association;
 use sctp_wire_queues::{Chunks, Error, StreamId};
@@ -33,10 +34,14 @@ impl<'a> Stream<'a> {
         ensures id { id_of self.new ≡ id_of self.old }
         ensures refused { Refuses result (read_refusal (lent self.old) (id_of self.old)) }
         ensures err { OnErr result (lent self.new ≡ lent self.old) }
-        ensures ok { IfOk result (λ message. read_from_stream (lent self.old) (id_of self.old) ≡ (lent self.new, message)) }
-        ensures first { IfOk result (λ message. message ≡ slice_get (ready_messages (lent self.old) (id_of self.old)) 0) }
-        ensures others { OnOk result (ready_messages (lent self.new) (id_of self.old) ≡ drop 1 (ready_messages (lent self.old) (id_of self.old))) }
-        ensures none { IfOk result (λ message. IsNone message ↔ (ready_messages (lent self.old) (id_of self.old) ≡ [])) }
+        ensures ok { IfOk result
+            (λ message. read_from_stream (lent self.old) (id_of self.old) ≡ (lent self.new, message)) }
+        ensures first { IfOk result
+            (λ message. message ≡ slice_get (ready_messages (lent self.old) (id_of self.old)) 0) }
+        ensures others { OnOk result (ready_messages (lent self.new) (id_of self.old)
+            ≡ drop 1 (ready_messages (lent self.old) (id_of self.old))) }
+        ensures none { IfOk result
+            (λ message. IsNone message ↔ (ready_messages (lent self.old) (id_of self.old) ≡ [])) }
         ensures acts { OnOk result (LeadsOn (Act.WasRead (id_of self.old) ∷ []) (lent self.old) (lent self.new)) }
     {
         self.association.read_stream(self.id)
@@ -52,11 +57,13 @@ impl<'a> Stream<'a> {
     pub fn write(&mut self, bytes: &[u8]) -> Result<usize, Error>
         ensures same { lender self.new ≡ lender self.old }
         ensures id { id_of self.new ≡ id_of self.old }
-        ensures refused { RefusesOrLacksMemory result (write_refusal (lent self.old) (id_of self.old) (length bytes.now)) }
+        ensures refused { RefusesOrLacksMemory result
+            (write_refusal (lent self.old) (id_of self.old) (length bytes.now)) }
         ensures err { OnErr result (lent self.new ≡ lent self.old) }
         ensures ok { IfOk result (λ n. n ≡ length bytes.now) }
         ensures accepted { OnOk result (lent self.new ≡ written (lent self.old) (id_of self.old) bytes.now) }
-        ensures acts { OnOk result (LeadsOn (Act.Wrote (id_of self.old) bytes.now ∷ []) (lent self.old) (lent self.new)) }
+        ensures acts { OnOk result
+            (LeadsOn (Act.Wrote (id_of self.old) bytes.now ∷ []) (lent self.old) (lent self.new)) }
     {
         self.association.write_stream(self.id, bytes)
     }

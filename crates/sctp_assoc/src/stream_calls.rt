@@ -1,7 +1,8 @@
 // What an association does for the calls of its streams.
 ghost use Rattle.std.specs.Prelude.{◌≡◌, ◌↔◌, ◌∷◌, [], drop, length, slice_get, IsNone, OnOk, OnErr, IfOk};
 ghost use Rattle.sctp_assoc.specs.Acts.{Act, LeadsOn};
-ghost use Rattle.sctp_assoc.specs.Calls.{Refuses, RefusesOrLacksMemory, write_refusal, written, read_refusal, read_from_stream, ready_messages, buffered_of};
+ghost use Rattle.sctp_assoc.specs.Calls.{Refuses, RefusesOrLacksMemory, write_refusal, written, read_refusal};
+ghost use Rattle.sctp_assoc.specs.Calls.{read_from_stream, ready_messages, buffered_of};
 
 use crate::Association;
 use bytes::Bytes;
@@ -11,7 +12,7 @@ use std::alloc::AllocError;
 use std::collections::VecDeque;
 
 impl Association {
-    #[tactic(auto, using(crate::proofs::Joining::read_leads_on))]
+    #[tactic(auto, using(crate::proofs::CallsLeadOn::read_leads_on))]
     pub(crate) fn read_stream(&mut self, id: StreamId) -> Result<Option<Chunks>, Error>
         ensures refused { Refuses result (read_refusal self.old id) }
         ensures err { OnErr result (self.new ≡ self.old) }
@@ -28,7 +29,7 @@ impl Association {
         Ok(self.streams.read(id))
     }
 
-    #[tactic(auto, using(crate::proofs::Joining::write_leads_on))]
+    #[tactic(auto, using(crate::proofs::CallsLeadOn::write_leads_on))]
     pub(crate) fn write_stream(&mut self, id: StreamId, bytes: &[u8]) -> Result<usize, Error>
         ensures refused { RefusesOrLacksMemory result (write_refusal self.old id (length bytes.now)) }
         ensures err { OnErr result (self.new ≡ self.old) }
@@ -63,7 +64,8 @@ impl Association {
         Ok(())
     }
 
-    // Queues a message of a live stream and counts it. A buffered amount past the greatest u64 counts as want of memory.
+    // Queues a message of a live stream and counts it. A buffered amount past the greatest u64 counts as want of
+    // memory.
     fn accept(&mut self, id: StreamId, bytes: &[u8]) -> Result<(), AllocError>
         ensures ok { OnOk result (self.new ≡ written self.old id bytes.now) }
         ensures err { OnErr result (self.new ≡ self.old) }

@@ -1,3 +1,3 @@
-pub mod Bits
-pub mod Entries
-pub mod Runs
+pub mod BlockRuns
+pub mod LinearBits
+pub mod TableEntries

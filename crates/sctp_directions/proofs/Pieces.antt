@@ -9,7 +9,8 @@ use Rattle.sctp_directions.specs.Counted.{all_pieces, pieces_in}
 use Rattle.sctp_directions.specs.Laws.{PiecesAreCounted, ShortMessagesAreOnePiece}
 
 below_all : (size bytes k : ℕ) → 0 < size → k < pieces_in size bytes → size * k < bytes
-below_all size bytes k some l = let m = mul-le-mul_left size (let u : k + 1 ≤ pieces_in size bytes = omega arith in u) in omega (arith, m)
+below_all size bytes k some l =
+    let m = mul-le-mul_left size (let u : k + 1 ≤ pieces_in size bytes = omega arith in u) in omega (arith, m)
 
 all_below : (size bytes k : ℕ) → 0 < size → size * k < bytes → k < pieces_in size bytes
 all_below size bytes k some l = ⊎_elim
@@ -29,7 +30,8 @@ short_messages_are_one_piece size bytes some one =
     (cases_lt 1 (pieces_in size bytes))
 
 -- messages of which none is empty have a piece each, at least
-pub messages_have_pieces : (size : ℕ) (ms : List Message) → 0 < size → ((i : ℕ) → i < length ms → 0 < length (get_or ms i no_message).bytes)
+pub messages_have_pieces : (size : ℕ) (ms : List Message) → 0 < size
+    → ((i : ℕ) → i < length ms → 0 < length (get_or ms i no_message).bytes)
     → length ms ≤ all_pieces size ms
 messages_have_pieces size [] some filled = omega arith
 messages_have_pieces size (m ∷ ms) some filled =

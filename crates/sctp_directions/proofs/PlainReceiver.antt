@@ -1,14 +1,18 @@
--- What the receiver of a plain direction does: its reach moves by one with each DATA, and it leaves the sender's side as it is.
-use Rattle.std.proofs.Common.{◌≡◌, ◌⊎◌, refl, sym, ap, ◌∙◌, subst, subst₂, inl, inr, ⊎_elim, ℕ, zero, suc, ◌+◌, ◌^◌, ◌<◌, ◌≤◌, arith, true, false, leb, List, [], ◌∷◌, ◌++◌, length, Option, Some, None}
+-- What the receiver of a plain direction does: its reach moves by one with each DATA, and it leaves the sender's side
+-- as it is.
+use Rattle.std.proofs.Common.{◌≡◌, ◌⊎◌, refl, sym, ap, ◌∙◌, subst, subst₂, inl, inr, ⊎_elim, ℕ, zero, suc, ◌+◌, ◌^◌}
+use Rattle.std.proofs.Common.{◌<◌, ◌≤◌, arith, true, false, leb, List, [], ◌∷◌, ◌++◌, length, Option, Some, None}
 use Rattle.std.specs.Prelude.{filter, slice_get}
 use Rattle.std.specs.List.{AllByRecursion}
-use Rattle.std.proofs.lemmas.Bool.{and_from, cases_lt, cond-true, cond_both, eq-eqb, false_from_ne_true, le-leb, lt-leb, ltb-false, not_from_false, true≢false}
+use Rattle.std.proofs.lemmas.Bool.{and_from, cases_lt, cond-true, cond_both, eq-eqb, false_from_ne_true, le-leb, lt-leb}
+use Rattle.std.proofs.lemmas.Bool.{ltb-false, not_from_false, true≢false}
 use Rattle.sctp_model.specs.Packets.{Data, Sack, mem}
 use Rattle.sctp_model.specs.Reassembly.{Got, Queue, Taken, next}
-use Rattle.sctp_model.specs.Machine.{Direction, Event, Receiver, data_comes, happens, opened, reach, put, read, sack_comes, sack_of, took, was_read}
+use Rattle.sctp_model.specs.Machine.{Direction, Event, Receiver, data_comes, happens, opened, reach, put, read}
+use Rattle.sctp_model.specs.Machine.{sack_comes, sack_of, took, was_read}
 use Rattle.sctp_model.specs.Safe.{IsWithin, unread}
-use Rattle.sctp_model.proofs.Arriving.{mem_new, mem_old}
-use Rattle.sctp_model.proofs.Basics.{reach_below, reach_from, reach_stops}
+use Rattle.sctp_model.proofs.StreamsTakeData.{mem_new, mem_old}
+use Rattle.sctp_model.proofs.OffsetSets.{reach_below, reach_from, reach_stops}
 use Rattle.sctp_model.proofs.Lists.{all_push}
 use Rattle.sctp_directions.specs.Events.{IsReceived}
 use Rattle.sctp_directions.specs.Plain.{IsPlain}
@@ -16,7 +20,8 @@ use Rattle.sctp_directions.specs.Plain.{IsPlain}
 -- The reach
 
 -- the reach is the one number below which all was taken in or passed over, and that itself was not taken in
-pub reach_is : (r : Receiver) (n : ℕ) → r.passed ≤ n → ((o : ℕ) → o < n → (mem o r.taken ≡ true) ⊎ (o < r.passed)) → mem n r.taken ≡ false → reach r ≡ n
+pub reach_is : (r : Receiver) (n : ℕ) → r.passed ≤ n → ((o : ℕ) → o < n → (mem o r.taken ≡ true) ⊎ (o < r.passed))
+    → mem n r.taken ≡ false → reach r ≡ n
 reach_is r n from below stops =
     ⊎_elim
     (λ (l : reach r < n).
@@ -36,7 +41,8 @@ reach_is r n from below stops =
     (cases_lt (reach r) n)
 
 -- DATA at the reach moves it by one, where nothing is held above it
-pub reach_took : (r : Receiver) (d : Data) → ((o : ℕ) → mem o r.taken ≡ true → o < reach r) → d.offset ≡ reach r → reach (took r d) ≡ suc (reach r)
+pub reach_took : (r : Receiver) (d : Data) → ((o : ℕ) → mem o r.taken ≡ true → o < reach r) → d.offset ≡ reach r
+    → reach (took r d) ≡ suc (reach r)
 reach_took r d held e = reach_is (took r d) (suc (reach r)) (let f = reach_from r in omega arith)
     (λ o l. ⊎_elim
     (λ (b : o < reach r). ⊎_elim
@@ -56,16 +62,19 @@ reach_took r d held e = reach_is (took r d) (suc (reach r)) (let f = reach_from 
 -- The events, by their cases
 
 -- DATA at the reach is taken in by a receiver that is open
-pub data_taken : (w : Direction) (k : ℕ) (d : Data) → slice_get w.datas k ≡ Some d → w.receiver.is_open ≡ true → d.offset ≡ reach w.receiver
+pub data_taken : (w : Direction) (k : ℕ) (d : Data) → slice_get w.datas k ≡ Some d → w.receiver.is_open ≡ true
+    → d.offset ≡ reach w.receiver
     → happens w (Event.DataComes k) ≡ record w { receiver = took w.receiver d }
 unfolding happens
 data_taken w k d e o p =
     ap (data_comes w) e
     ∙ cond-true _ _ _ (and_from w.receiver.is_open _ o
-    (and_from (leb (reach w.receiver) d.offset) _ (le-leb _ _ (omega arith)) (not_from_false _ (ap (λ z. mem z w.receiver.taken) p ∙ reach_stops w.receiver))))
+    (and_from (leb (reach w.receiver) d.offset) _ (le-leb _ _ (omega arith))
+    (not_from_false _ (ap (λ z. mem z w.receiver.taken) p ∙ reach_stops w.receiver))))
 
 -- what holds before DATA comes and after one that is taken in holds after it
-pub data_cases : (P : Direction → Type 0) (w : Direction) (k : ℕ) → P w → ((d : Data) → slice_get w.datas k ≡ Some d → P (record w { receiver = took w.receiver d }))
+pub data_cases : (P : Direction → Type 0) (w : Direction) (k : ℕ) → P w
+    → ((d : Data) → slice_get w.datas k ≡ Some d → P (record w { receiver = took w.receiver d }))
     → P (happens w (Event.DataComes k))
 unfolding happens
 data_cases P w k h f = go (slice_get w.datas k) refl
@@ -76,7 +85,8 @@ data_cases P w k h f = go (slice_get w.datas k) refl
 
 -- what holds before a read and after one that gives a message holds after it
 pub read_cases : (P : Direction → Type 0) (w : Direction) (s : ℕ) → P w
-    → ((q : Queue) (t : Taken) → w.receiver.queues s ≡ Some q → next q ≡ Some t → P (was_read w s (Some t))) → P (happens w (Event.Read s))
+    → ((q : Queue) (t : Taken) → w.receiver.queues s ≡ Some q → next q ≡ Some t → P (was_read w s (Some t)))
+    → P (happens w (Event.Read s))
 unfolding happens
 read_cases P w s h f = queued (w.receiver.queues s) refl
   where
@@ -97,8 +107,10 @@ none_above n (x ∷ xs) h =
     rw (lt-leb n x l) (none_above n xs (λ o m. h o (mem_old x o xs m)))
 
 -- what a plain direction asks of its receiver's side
-pub plain_by : (w : Direction) (r : Receiver) (sacks : List Sack) (reads : ℕ → List Got) → AllByRecursion (λ (k : Sack). k.above ≡ []) sacks
-    → ((o : ℕ) → mem o r.taken ≡ true → o < reach r) → r.passed ≡ 0 → IsPlain w → IsPlain (record w { receiver = r; sacks = sacks; reads = reads })
+pub plain_by : (w : Direction) (r : Receiver) (sacks : List Sack) (reads : ℕ → List Got)
+    → AllByRecursion (λ (k : Sack). k.above ≡ []) sacks
+    → ((o : ℕ) → mem o r.taken ≡ true → o < reach r) → r.passed ≡ 0 → IsPlain w
+    → IsPlain (record w { receiver = r; sacks = sacks; reads = reads })
 plain_by w r sacks reads above taken passed h = record {
   messages = h.messages;
   places = h.places;
@@ -115,7 +127,8 @@ plain_by w r sacks reads above taken passed h = record {
 }
 
 -- a direction stays plain when the DATA at its reach comes
-pub plain_data : (w : Direction) (k : ℕ) (d : Data) → slice_get w.datas k ≡ Some d → d.offset ≡ reach w.receiver → IsPlain w → IsPlain (happens w (Event.DataComes k))
+pub plain_data : (w : Direction) (k : ℕ) (d : Data) → slice_get w.datas k ≡ Some d → d.offset ≡ reach w.receiver
+    → IsPlain w → IsPlain (happens w (Event.DataComes k))
 plain_data w k d e p h = data_cases IsPlain w k h
     (λ c f. taken c (ap (λ (z : Option Data). offset_of z) (sym f ∙ e) ∙ p))
   where
@@ -135,17 +148,21 @@ plain_data w k d e p h = data_cases IsPlain w k h
 pub plain_sack : (w : Direction) → IsPlain w → IsPlain (happens w Event.SackMade)
 unfolding happens
 plain_sack w h = plain_by w w.receiver (w.sacks ++ sack_of w.receiver ∷ []) w.reads
-    (all_push (λ (k : Sack). k.above ≡ []) w.sacks (sack_of w.receiver) h.sacks (none_above (reach w.receiver) w.receiver.taken h.taken)) h.taken h.unskipped h
+    (all_push (λ (k : Sack). k.above ≡ []) w.sacks (sack_of w.receiver) h.sacks
+    (none_above (reach w.receiver) w.receiver.taken h.taken)) h.taken h.unskipped h
 
 -- it stays plain when a stream is opened
 pub plain_open : (w : Direction) (s : ℕ) → IsPlain w → IsPlain (happens w (Event.Open s))
 unfolding happens
-plain_open w s h = plain_by w (record w.receiver { queues = put w.receiver.queues s (opened (w.receiver.queues s)) }) w.sacks w.reads h.sacks h.taken h.unskipped h
+plain_open w s h =
+    plain_by w (record w.receiver { queues = put w.receiver.queues s (opened (w.receiver.queues s)) }) w.sacks w.reads
+    h.sacks h.taken h.unskipped h
 
 -- it stays plain when a stream is read
 pub plain_read : (w : Direction) (s : ℕ) → IsPlain w → IsPlain (happens w (Event.Read s))
 plain_read w s h = read_cases IsPlain w s h
-    (λ q t e f. plain_by w (record w.receiver { queues = put w.receiver.queues s (Some t.rest) }) w.sacks (put w.reads s (w.reads s ++ t.got ∷ [])) h.sacks h.taken h.unskipped h)
+    (λ q t e f. plain_by w (record w.receiver { queues = put w.receiver.queues s (Some t.rest) }) w.sacks
+    (put w.reads s (w.reads s ++ t.got ∷ [])) h.sacks h.taken h.unskipped h)
 
 -- it stays plain when the receiver closes
 pub plain_close : (w : Direction) → IsPlain w → IsPlain (happens w Event.Close)
@@ -154,19 +171,22 @@ plain_close w h = plain_by w (record w.receiver { is_open = false }) w.sacks w.r
 
 -- What the receiver's events leave
 
-received_by : (w : Direction) (r : Receiver) (reads : ℕ → List Got) → IsReceived w (record w { receiver = r; reads = reads })
+received_by : (w : Direction) (r : Receiver) (reads : ℕ → List Got)
+    → IsReceived w (record w { receiver = r; reads = reads })
 received_by w r reads = record { sender = refl; over = refl; datas = refl; sacks = λ k x e. e }
 
 -- DATA that comes concerns the receiver alone
 pub data_received : (w : Direction) (k : ℕ) → IsReceived w (happens w (Event.DataComes k))
-data_received w k = data_cases (IsReceived w) w k (received_by w w.receiver w.reads) (λ d e. received_by w (took w.receiver d) w.reads)
+data_received w k =
+    data_cases (IsReceived w) w k (received_by w w.receiver w.reads) (λ d e. received_by w (took w.receiver d) w.reads)
 
 -- a SACK that is made comes behind those made before, which stay where they are
 pub sack_received : (w : Direction) → IsReceived w (happens w Event.SackMade)
 unfolding happens
 sack_received w = record { sender = refl; over = refl; datas = refl; sacks = λ k x e. get_before w.sacks k x e }
   where
-    get_before : (xs : List Sack) (k : ℕ) (x : Sack) → slice_get xs k ≡ Some x → slice_get (xs ++ sack_of w.receiver ∷ []) k ≡ Some x
+    get_before : (xs : List Sack) (k : ℕ) (x : Sack) → slice_get xs k ≡ Some x
+        → slice_get (xs ++ sack_of w.receiver ∷ []) k ≡ Some x
     get_before [] k x e = absurd (cc)
     get_before (y ∷ xs) zero x e = e
     get_before (y ∷ xs) (suc k) x e = get_before xs k x e
@@ -174,12 +194,14 @@ sack_received w = record { sender = refl; over = refl; datas = refl; sacks = λ 
 -- opening a stream concerns the receiver alone
 pub open_received : (w : Direction) (s : ℕ) → IsReceived w (happens w (Event.Open s))
 unfolding happens
-open_received w s = received_by w (record w.receiver { queues = put w.receiver.queues s (opened (w.receiver.queues s)) }) w.reads
+open_received w s =
+    received_by w (record w.receiver { queues = put w.receiver.queues s (opened (w.receiver.queues s)) }) w.reads
 
 -- a read concerns the receiver and what was read alone
 pub read_received : (w : Direction) (s : ℕ) → IsReceived w (happens w (Event.Read s))
 read_received w s = read_cases (IsReceived w) w s (received_by w w.receiver w.reads)
-    (λ q t e f. received_by w (record w.receiver { queues = put w.receiver.queues s (Some t.rest) }) (put w.reads s (w.reads s ++ t.got ∷ [])))
+    (λ q t e f. received_by w (record w.receiver { queues = put w.receiver.queues s (Some t.rest) })
+    (put w.reads s (w.reads s ++ t.got ∷ [])))
 
 -- the receiver's end concerns the receiver alone
 pub close_received : (w : Direction) → IsReceived w (happens w Event.Close)
@@ -192,16 +214,20 @@ unfolding happens
 closed w = refl
 
 -- all else stays when a receiver closes
-pub close_leaves : (w : Direction) → happens w Event.Close ≡ record w { receiver = record w.receiver { is_open = false } }
+pub close_leaves : (w : Direction)
+    → happens w Event.Close ≡ record w { receiver = record w.receiver { is_open = false } }
 unfolding happens
 close_leaves w = refl
 
 -- what is taken in grows by the offset of the DATA that comes alone
-pub data_takes : (w : Direction) (k : ℕ) (d : Data) (o : ℕ) → slice_get w.datas k ≡ Some d → mem o (happens w (Event.DataComes k)).receiver.taken ≡ true
+pub data_takes : (w : Direction) (k : ℕ) (d : Data) (o : ℕ) → slice_get w.datas k ≡ Some d
+    → mem o (happens w (Event.DataComes k)).receiver.taken ≡ true
     → (mem o w.receiver.taken ≡ true) ⊎ (o ≡ d.offset)
-data_takes w k d o e = data_cases (λ v. mem o v.receiver.taken ≡ true → (mem o w.receiver.taken ≡ true) ⊎ (o ≡ d.offset)) w k (λ m. inl m)
+data_takes w k d o e =
+    data_cases (λ v. mem o v.receiver.taken ≡ true → (mem o w.receiver.taken ≡ true) ⊎ (o ≡ d.offset)) w k (λ m. inl m)
     (λ c f m. ⊎_elim
-    (λ (b : c.offset ≡ o). let same : c ≡ d = (let g : Some c ≡ Some d = sym f ∙ e in cc) in inr (sym b ∙ ap (λ z. z.offset) same))
+    (λ (b : c.offset ≡ o). let same : c ≡ d = (let g : Some c ≡ Some d = sym f ∙ e in cc) in
+    inr (sym b ∙ ap (λ z. z.offset) same))
     (λ (b : mem o w.receiver.taken ≡ true). inl b)
     (mem_new c.offset o w.receiver.taken m))
 
@@ -236,7 +262,8 @@ within_by w v sender reads h = record {
 
 -- the numbers stay within their limits where DATA comes
 pub within_data : (w : Direction) (k : ℕ) → IsWithin w → IsWithin (happens w (Event.DataComes k))
-within_data w k h = data_cases IsWithin w k h (λ d e. within_by w (record w { receiver = took w.receiver d }) refl refl h)
+within_data w k h =
+    data_cases IsWithin w k h (λ d e. within_by w (record w { receiver = took w.receiver d }) refl refl h)
 
 -- the numbers stay within their limits where a SACK is made
 pub within_sack : (w : Direction) → IsWithin w → IsWithin (happens w Event.SackMade)
@@ -246,7 +273,10 @@ within_sack w h = within_by w (record w { sacks = w.sacks ++ sack_of w.receiver 
 -- the numbers stay within their limits where a stream is opened
 pub within_open : (w : Direction) (s : ℕ) → IsWithin w → IsWithin (happens w (Event.Open s))
 unfolding happens
-within_open w s h = within_by w (record w { receiver = record w.receiver { queues = put w.receiver.queues s (opened (w.receiver.queues s)) } }) refl refl h
+within_open w s h =
+    within_by w
+    (record w { receiver = record w.receiver { queues = put w.receiver.queues s (opened (w.receiver.queues s)) } }) refl
+    refl h
 
 -- the numbers stay within their limits where the receiver closes
 pub within_close : (w : Direction) → IsWithin w → IsWithin (happens w Event.Close)

@@ -1,4 +1,5 @@
--- How an association stands between its directions, and what is so of each of them, under names that stay whatever it is made of.
+-- How an association stands between its directions, and what is so of each of them, under names that stay whatever it
+-- is made of.
 use Rattle.sctp_model.specs.Machine.{Direction}
 use Rattle.sctp_model.specs.Invariants.{Invariant}
 use Rattle.sctp_assoc.specs.Acts.{Parts}
@@ -6,8 +7,8 @@ use Rattle.sctp_directions.specs.Incoming.{FitsIncoming}
 use Rattle.sctp_directions.specs.Outgoing.{FitsOutgoing}
 use Rattle.sctp_directions.specs.Plain.{IsPlain}
 
--- An association stands between its own direction and the one that comes to it: it is the sender of the one, and the receiver of the
--- other.
+-- An association stands between its own direction and the one that comes to it: it is the sender of the one, and the
+-- receiver of the other.
 pub record FitsBetween (a : Parts) (out coming : Direction) : Type 0 where
   pub outgoing : FitsOutgoing a out
   pub incoming : FitsIncoming a coming

@@ -1,5 +1,6 @@
 -- How an association stands as the receiver of a direction.
-use Rattle.std.specs.Prelude.{◌≡◌, ℕ, suc, ◌+◌, ◌%◌, ◌<◌, true, List, [], ◌∷◌, ◌++◌, length, reverse, Option, Some, None, ⊤}
+use Rattle.std.specs.Prelude.{◌≡◌, ℕ, suc, ◌+◌, ◌%◌, ◌<◌, true, List, [], ◌∷◌, ◌++◌, length, reverse, Option, Some}
+use Rattle.std.specs.Prelude.{None, ⊤}
 use Rattle.sctp_wire_types.specs.declared.chunk.ChunkPayloadData.{ChunkPayloadData}
 use Rattle.sctp_wire_types.specs.Ids.{number_of}
 use Rattle.sctp_receive_queues.specs.Messages.{ReceivedMessage, bytes_left}
@@ -66,7 +67,9 @@ pub record FitsIncoming (a : Parts) (w : Direction) : Type 0 where
   pub taken : a.history.taken ≡ w.receiver.taken
   pub passed : a.history.passed ≡ w.receiver.passed
   pub at : a.history.reach ≡ reach w.receiver
-  pub queues : (s : ℕ) → IsQueueAt w.sender.plan (read_end w.sender.plan 0 (w.reads s)) (count_below w.sender.plan s (reach w.receiver)) (stream_at a.streams s) (w.receiver.queues s)
+  pub queues : (s : ℕ)
+      → IsQueueAt w.sender.plan (read_end w.sender.plan 0 (w.reads s)) (count_below w.sender.plan s (reach w.receiver))
+      (stream_at a.streams s) (w.receiver.queues s)
 
 -- what a read answers is what the model's reader got
 abbrev pub IsReadAs : Option ReceivedMessage → List Got → List Got → Type 0

@@ -1,5 +1,6 @@
 -- The laws of an association between its directions: each thing that it does to them is an event of the model.
-use Rattle.std.specs.Prelude.{◌≡◌, ◌⊎◌, ℕ, ◌+◌, ◌*◌, ◌<◌, ◌≤◌, ◌%◌, ◌^◌, true, false, List, [], ◌∷◌, ◌++◌, if◌then◌else◌, length, slice_get, map, ◌==◌, Some, None, Ok, ⊤}
+use Rattle.std.specs.Prelude.{◌≡◌, ◌⊎◌, ℕ, ◌+◌, ◌*◌, ◌<◌, ◌≤◌, ◌%◌, ◌^◌, true, false, List, [], ◌∷◌, ◌++◌}
+use Rattle.std.specs.Prelude.{if◌then◌else◌, length, slice_get, map, ◌==◌, Some, None, Ok, ⊤}
 use Rattle.std.specs.List.{AllByRecursion}
 use Rattle.sctp_wire_types.specs.declared.chunk.ChunkPayloadData.{ChunkPayloadData}
 use Rattle.sctp_wire_types.specs.declared.chunk.ChunkSelectiveAck.{ChunkSelectiveAck}
@@ -20,7 +21,8 @@ use Rattle.sctp_assoc.specs.Calls.{buffered_of, ready_messages}
 use Rattle.sctp_assoc.specs.Reports.{SaysWhatCame}
 use Rattle.sctp_assoc.specs.Shown.{Shown}
 use Rattle.sctp_directions.specs.Counted.{HasAccepted, all_pieces, pieces_in}
-use Rattle.sctp_directions.specs.Events.{Accepts, Assigns, Brings, GivesAMessage, IsAtReceiver, IsAtSender, IsPlainEvent, IsReceived, IsSentOn, KeepsWithin}
+use Rattle.sctp_directions.specs.Events.{Accepts, Assigns, Brings, GivesAMessage, IsAtReceiver, IsAtSender}
+use Rattle.sctp_directions.specs.Events.{IsPlainEvent, IsReceived, IsSentOn, KeepsWithin}
 use Rattle.sctp_directions.specs.Plain.{IsPlain, IsSimple}
 use Rattle.sctp_directions.specs.Said.{IsGiven, IsMade, IsSaid}
 use Rattle.sctp_directions.specs.Outgoing.{FitsOutgoing, message_on}
@@ -28,7 +30,8 @@ use Rattle.sctp_directions.specs.Incoming.{FitsIncoming, IsReadAs, letter_receiv
 
 -- A write on a live stream, of one piece, is accepted by the direction as that message.
 abbrev pub WritesAreAccepted : Type 0
-WritesAreAccepted = (a : Parts) (id : ℕ) (bytes : List ℕ) (t : StreamView) (w : Direction) → stream_at a.streams id ≡ Some t → 0 < length bytes
+WritesAreAccepted = (a : Parts) (id : ℕ) (bytes : List ℕ) (t : StreamView) (w : Direction)
+    → stream_at a.streams id ≡ Some t → 0 < length bytes
     → length bytes ≤ w.sender.plan.size → IsPlain w → FitsOutgoing a w
     → FitsOutgoing (done (Act.Wrote id bytes) a) (happens w (Event.Write id (message_on t bytes)))
 
@@ -36,35 +39,44 @@ WritesAreAccepted = (a : Parts) (id : ℕ) (bytes : List ℕ) (t : StreamView) (
 abbrev pub PiecesAreGiven : Type 0
 PiecesAreGiven = (a : Parts) (index : ℕ) (w : Direction) → Can (Act.SentAgain index) a → IsPlain w → FitsOutgoing a w
     → FitsOutgoing (done (Act.SentAgain index) a) (happens w (Event.Resend (w.sender.reach + index)))
-    × AllByRecursion (IsGiven a.history.own (happens w (Event.Resend (w.sender.reach + index)))) (data_given (Act.SentAgain index) a)
+    × AllByRecursion (IsGiven a.history.own (happens w (Event.Resend (w.sender.reach + index))))
+    (data_given (Act.SentAgain index) a)
 
 -- What a SACK acknowledges at the association, it acknowledges at the direction's sender.
 abbrev pub AcknowledgementsAreAlike : Type 0
-AcknowledgementsAreAlike = (a : Parts) (n k : ℕ) (x : Sack) (w : Direction) → slice_get w.sacks k ≡ Some x → x.reach ≡ w.sender.reach + n
+AcknowledgementsAreAlike = (a : Parts) (n k : ℕ) (x : Sack) (w : Direction) → slice_get w.sacks k ≡ Some x
+    → x.reach ≡ w.sender.reach + n
     → n ≤ length a.queue.in_flight → Invariant w → IsPlain w → FitsOutgoing a w
     → FitsOutgoing (done (Act.Acknowledged n) a) (happens w (Event.SackComes k))
 
 -- DATA that is taken in stands at the receiver's reach, and comes to that receiver.
 abbrev pub WhatIsTakenInComes : Type 0
-WhatIsTakenInComes = (a : Parts) (piece : ChunkPayloadData) (k : ℕ) (d : Data) (t : StreamView) (w : Direction) → Can (Act.Took piece) a
-    → slice_get w.datas k ≡ Some d → IsSaid a.history.peer piece d → stream_at a.streams piece.stream_identifier ≡ Some t → IsWithin w → Invariant w
-    → IsPlain w → FitsIncoming a w → (d.offset ≡ reach w.receiver) × FitsIncoming (done (Act.Took piece) a) (happens w (Event.DataComes k))
+WhatIsTakenInComes = (a : Parts) (piece : ChunkPayloadData) (k : ℕ) (d : Data) (t : StreamView) (w : Direction)
+    → Can (Act.Took piece) a
+    → slice_get w.datas k ≡ Some d → IsSaid a.history.peer piece d
+    → stream_at a.streams piece.stream_identifier ≡ Some t → IsWithin w → Invariant w
+    → IsPlain w → FitsIncoming a w
+    → (d.offset ≡ reach w.receiver) × FitsIncoming (done (Act.Took piece) a) (happens w (Event.DataComes k))
 
 -- A read answers what the direction's reader gets, and changes no other stream's reads.
 abbrev pub ReadsAreAlike : Type 0
-ReadsAreAlike = (a : Parts) (id : ℕ) (t : StreamView) (w : Direction) → stream_at a.streams id ≡ Some t → IsWithin w → Invariant w → IsPlain w → FitsIncoming a w
+ReadsAreAlike = (a : Parts) (id : ℕ) (t : StreamView) (w : Direction) → stream_at a.streams id ≡ Some t → IsWithin w
+    → Invariant w → IsPlain w → FitsIncoming a w
     → FitsIncoming (done (Act.WasRead id) a) (happens w (Event.Read id))
     × IsReadAs (read_in a.streams id).1 (w.reads id) ((happens w (Event.Read id)).reads id)
     × ((s : ℕ) → (s == id) ≡ false → (happens w (Event.Read id)).reads s ≡ w.reads s)
 
 -- What is ready is the same on both sides.
 abbrev pub TheSameIsReady : Type 0
-TheSameIsReady = (a : Parts) (id : ℕ) (t : StreamView) (q : Queue) (w : Direction) → stream_at a.streams id ≡ Some t → w.receiver.queues id ≡ Some q
-    → IsWithin w → Invariant w → IsPlain w → FitsIncoming a w → map letter_read (queue.ready q) ≡ map letter_received (ready t.reassembly)
+TheSameIsReady = (a : Parts) (id : ℕ) (t : StreamView) (q : Queue) (w : Direction) → stream_at a.streams id ≡ Some t
+    → w.receiver.queues id ≡ Some q
+    → IsWithin w → Invariant w → IsPlain w → FitsIncoming a w
+    → map letter_read (queue.ready q) ≡ map letter_received (ready t.reassembly)
 
 -- What is ready is the same on both sides, whether or not the stream is live.
 abbrev pub ReadyMessagesAreAlike : Type 0
-ReadyMessagesAreAlike = (a : Shown) (h : History) (id : ℕ) (w : Direction) → IsWithin w → Invariant w → IsPlain w → FitsIncoming (parts a h) w
+ReadyMessagesAreAlike = (a : Shown) (h : History) (id : ℕ) (w : Direction) → IsWithin w → Invariant w → IsPlain w
+    → FitsIncoming (parts a h) w
     → map letter_read (queue.ready (live (w.receiver.queues id))) ≡ map letter_received (ready_messages a id)
 
 -- The other acts
@@ -90,12 +102,15 @@ abbrev pub MeetsNobody : Act → Type 0
 MeetsNobody (Act.PeerKnown t) = ⊥
 MeetsNobody act = ⊤
 
--- Acts of its own leave it as a receiver, and acts of what comes leave it as a sender; none of them changes the initial TSNs.
+-- Acts of its own leave it as a receiver, and acts of what comes leave it as a sender; none of them changes the initial
+-- TSNs.
 abbrev pub OwnActsLeaveWhatComes : Type 0
-OwnActsLeaveWhatComes = (act : Act) (a : Parts) (w : Direction) → IsOfItsOwn act → FitsIncoming a w → FitsIncoming (done act a) w
+OwnActsLeaveWhatComes =
+    (act : Act) (a : Parts) (w : Direction) → IsOfItsOwn act → FitsIncoming a w → FitsIncoming (done act a) w
 
 abbrev pub WhatComesLeavesItsOwn : Type 0
-WhatComesLeavesItsOwn = (act : Act) (a : Parts) (w : Direction) → IsOfWhatComes act → FitsOutgoing a w → FitsOutgoing (done act a) w
+WhatComesLeavesItsOwn =
+    (act : Act) (a : Parts) (w : Direction) → IsOfWhatComes act → FitsOutgoing a w → FitsOutgoing (done act a) w
 
 abbrev pub ActsKeepTheInitialTsns : Type 0
 ActsKeepTheInitialTsns = (acts : List Act) (a : Parts) → AllByRecursion MeetsNobody acts
@@ -103,9 +118,11 @@ ActsKeepTheInitialTsns = (acts : List Act) (a : Parts) → AllByRecursion MeetsN
 
 -- A stream that is made is opened at the direction's receiver, and begins anew at its sender.
 abbrev pub OpenedStreamsAreAlike : Type 0
-OpenedStreamsAreAlike = (a : Parts) (id first : ℕ) (kind : PayloadProtocolIdentifier) (out coming : Direction) → stream_at a.streams id ≡ None
+OpenedStreamsAreAlike = (a : Parts) (id first : ℕ) (kind : PayloadProtocolIdentifier) (out coming : Direction)
+    → stream_at a.streams id ≡ None
     → FitsOutgoing a out → FitsIncoming a coming
-    → FitsOutgoing (done (Act.Opened id first kind) a) out × FitsIncoming (done (Act.Opened id first kind) a) (happens coming (Event.Open id))
+    → FitsOutgoing (done (Act.Opened id first kind) a) out
+    × FitsIncoming (done (Act.Opened id first kind) a) (happens coming (Event.Open id))
 
 -- A piece that goes out for the first time is a message that begins, of some stream, and is DATA of the direction.
 pub record IsBegun (a : Parts) (act : Act) (w : Direction) (s : ℕ) : Type 0 where
@@ -115,21 +132,24 @@ pub record IsBegun (a : Parts) (act : Act) (w : Direction) (s : ℕ) : Type 0 wh
   pub given : AllByRecursion (IsGiven a.history.own (happens w (Event.Begin s (w.sender.next s) 0))) (data_given act a)
 
 abbrev pub SentPiecesBegin : Type 0
-SentPiecesBegin = (a : Parts) (now : ℕ) (w : Direction) → Can (Act.Sent now) a → Invariant w → IsPlain w → FitsOutgoing a w
+SentPiecesBegin = (a : Parts) (now : ℕ) (w : Direction) → Can (Act.Sent now) a → Invariant w → IsPlain w
+    → FitsOutgoing a w
     → (s : ℕ) × IsBegun a (Act.Sent now) w s
 
--- Where no offset was assigned in the direction that comes, the peer's initial TSN may become known: the directions know nothing
--- of it.
+-- Where no offset was assigned in the direction that comes, the peer's initial TSN may become known: the directions
+-- know nothing of it.
 abbrev pub MeetingsAreNoEvents : Type 0
-MeetingsAreNoEvents = (a : Parts) (t : ℕ) (out coming : Direction) → coming.sender.plan.places ≡ [] → Invariant coming → IsPlain coming → FitsOutgoing a out
-    → FitsIncoming a coming → FitsOutgoing (done (Act.PeerKnown t) a) out × FitsIncoming (done (Act.PeerKnown t) a) coming
+MeetingsAreNoEvents = (a : Parts) (t : ℕ) (out coming : Direction) → coming.sender.plan.places ≡ [] → Invariant coming
+    → IsPlain coming → FitsOutgoing a out
+    → FitsIncoming a coming
+    → FitsOutgoing (done (Act.PeerKnown t) a) out × FitsIncoming (done (Act.PeerKnown t) a) coming
 
 -- Of a mark for sending again the direction knows nothing.
 abbrev pub MarksAreNoEvents : Type 0
 MarksAreNoEvents = (a : Parts) (w : Direction) → FitsOutgoing a w → FitsOutgoing (done Act.Marked a) w
 
--- A report makes a SACK, and any chunk that says what came to the association is that one: its point and its set are the
--- receiver's.
+-- A report makes a SACK, and any chunk that says what came to the association is that one: its point and its set are
+-- the receiver's.
 abbrev pub ReportsSayWhatCame : Type 0
 ReportsSayWhatCame = (a : Parts) (w : Direction) → FitsIncoming a w
     → FitsIncoming a (happens w Event.SackMade)
@@ -138,53 +158,66 @@ ReportsSayWhatCame = (a : Parts) (w : Direction) → FitsIncoming a w
 
 -- A SACK that was made, and that acknowledges so many pieces at the association, acknowledges so many offsets.
 abbrev pub SacksMeanTheSame : Type 0
-SacksMeanTheSame = (a : Parts) (n t k : ℕ) (x : Sack) (w : Direction) → slice_get w.sacks k ≡ Some x → t ≡ tsn_before (tsn a.history.own x.reach)
-    → t % 2 ^ 32 ≡ tsn_before (tsn a.history.own (a.history.base + n)) → n ≤ length a.queue.in_flight → IsWithin w → Invariant w → IsPlain w
+SacksMeanTheSame = (a : Parts) (n t k : ℕ) (x : Sack) (w : Direction) → slice_get w.sacks k ≡ Some x
+    → t ≡ tsn_before (tsn a.history.own x.reach)
+    → t % 2 ^ 32 ≡ tsn_before (tsn a.history.own (a.history.base + n)) → n ≤ length a.queue.in_flight → IsWithin w
+    → Invariant w → IsPlain w
     → FitsOutgoing a w → x.reach ≡ w.sender.reach + n
 
 -- What is released of a live stream is what was accepted and is not buffered, by the association's own answer.
 abbrev pub WhatIsReleasedIsNotBuffered : Type 0
-WhatIsReleasedIsNotBuffered = (a : Shown) (h : History) (id n : ℕ) (w : Direction) → buffered_of a id ≡ Ok n → FitsOutgoing (parts a h) w
+WhatIsReleasedIsNotBuffered = (a : Shown) (h : History) (id n : ℕ) (w : Direction) → buffered_of a id ≡ Ok n
+    → FitsOutgoing (parts a h) w
     → n + w.sender.released id ≡ accepted_bytes w.sender.plan id
 
 -- The events
 
--- An event at the sender leaves the receiver's side and all DATA that was given out, and never moves the acknowledged reach back.
+-- An event at the sender leaves the receiver's side and all DATA that was given out, and never moves the acknowledged
+-- reach back.
 abbrev pub SendersEventsAreSent : Type 0
-SendersEventsAreSent = (w : Direction) (e : Event) → IsAtSender e → IsSentOn w (happens w e) × (w.sender.reach ≤ (happens w e).sender.reach)
+SendersEventsAreSent =
+    (w : Direction) (e : Event) → IsAtSender e
+    → IsSentOn w (happens w e) × (w.sender.reach ≤ (happens w e).sender.reach)
 
 -- A write alone accepts, behind what was accepted before, and the beginning of a message alone assigns an offset.
 abbrev pub OnlyWritesAccept : Type 0
-OnlyWritesAccept = (w : Direction) (e : Event) → IsAtSender e → (Accepts e → ⊥) → (happens w e).sender.plan.accepted ≡ w.sender.plan.accepted
+OnlyWritesAccept =
+    (w : Direction) (e : Event) → IsAtSender e → (Accepts e → ⊥)
+    → (happens w e).sender.plan.accepted ≡ w.sender.plan.accepted
 
 abbrev pub WritesAreAcceptedLast : Type 0
 WritesAreAcceptedLast = (w : Direction) (s t : ℕ) (m : Message) → IsSimple w.sender.plan.size m
     → (happens w (Event.Write s m)).sender.plan.accepted t ≡ w.sender.plan.accepted t ++ (if s == t then m ∷ [] else [])
 
 abbrev pub OnlyBeginningsAssign : Type 0
-OnlyBeginningsAssign = (w : Direction) (e : Event) → IsAtSender e → (Assigns e → ⊥) → (happens w e).sender.plan.places ≡ w.sender.plan.places
+OnlyBeginningsAssign =
+    (w : Direction) (e : Event) → IsAtSender e → (Assigns e → ⊥)
+    → (happens w e).sender.plan.places ≡ w.sender.plan.places
 
 -- An event at the receiver leaves the sender's side; it takes in what it brings alone, and only a read gives a message.
 abbrev pub ReceiversEventsAreReceived : Type 0
 ReceiversEventsAreReceived = (w : Direction) (e : Event) → IsAtReceiver e → IsReceived w (happens w e)
 
 abbrev pub OnlyWhatIsBroughtIsTakenIn : Type 0
-OnlyWhatIsBroughtIsTakenIn = (w : Direction) (e : Event) (o : ℕ) → IsAtReceiver e → mem o (happens w e).receiver.taken ≡ true
+OnlyWhatIsBroughtIsTakenIn = (w : Direction) (e : Event) (o : ℕ) → IsAtReceiver e
+    → mem o (happens w e).receiver.taken ≡ true
     → (mem o w.receiver.taken ≡ true) ⊎ Brings w e o
 
 abbrev pub OnlyReadsGiveMessages : Type 0
-OnlyReadsGiveMessages = (w : Direction) (e : Event) (s : ℕ) → IsAtReceiver e → (GivesAMessage e → ⊥) → (happens w e).reads s ≡ w.reads s
+OnlyReadsGiveMessages =
+    (w : Direction) (e : Event) (s : ℕ) → IsAtReceiver e → (GivesAMessage e → ⊥) → (happens w e).reads s ≡ w.reads s
 
 abbrev pub ClosedReceiversAreNotOpen : Type 0
 ClosedReceiversAreNotOpen = (w : Direction) → (happens w Event.Close).receiver.is_open ≡ false
 
--- What holds before an event at the sender holds after it, whether or not the limits do: the invariant, and how an association
--- stands as the receiver.
+-- What holds before an event at the sender holds after it, whether or not the limits do: the invariant, and how an
+-- association stands as the receiver.
 abbrev pub SendersEventsKeepTheInvariant : Type 0
 SendersEventsKeepTheInvariant = (w : Direction) (e : Event) → IsAtSender e → Invariant w → Invariant (happens w e)
 
 abbrev pub SendersEventsLeaveWhatComes : Type 0
-SendersEventsLeaveWhatComes = (a : Parts) (w : Direction) (e : Event) → IsAtSender e → Invariant w → IsPlain w → FitsIncoming a w
+SendersEventsLeaveWhatComes = (a : Parts) (w : Direction) (e : Event) → IsAtSender e → Invariant w → IsPlain w
+    → FitsIncoming a w
     → FitsIncoming a (happens w e)
 
 -- A direction stays plain, and within the limits where the event is no write, no beginning and no read.
@@ -194,9 +227,12 @@ PlainEventsKeepItPlain = (w : Direction) (e : Event) → IsPlainEvent w e → Is
 abbrev pub EventsKeepTheLimits : Type 0
 EventsKeepTheLimits = (w : Direction) (e : Event) → KeepsWithin e → IsWithin w → IsWithin (happens w e)
 
--- A message has the pieces whose first byte lies within it, as `IsWhole` counts them; one that fits a payload has one piece.
+-- A message has the pieces whose first byte lies within it, as `IsWhole` counts them; one that fits a payload has one
+-- piece.
 abbrev pub PiecesAreCounted : Type 0
-PiecesAreCounted = (size bytes k : ℕ) → 0 < size → (k < pieces_in size bytes → size * k < bytes) × (size * k < bytes → k < pieces_in size bytes)
+PiecesAreCounted =
+    (size bytes k : ℕ) → 0 < size
+    → (k < pieces_in size bytes → size * k < bytes) × (size * k < bytes → k < pieces_in size bytes)
 
 abbrev pub ShortMessagesAreOnePiece : Type 0
 ShortMessagesAreOnePiece = (size bytes : ℕ) → 0 < bytes → bytes ≤ size → pieces_in size bytes ≡ 1
@@ -205,15 +241,16 @@ ShortMessagesAreOnePiece = (size bytes : ℕ) → 0 < bytes → bytes ≤ size �
 abbrev pub FewMessagesStayWithin : Type 0
 FewMessagesStayWithin = (n : ℕ) (w : Direction) → n < 16384 → HasAccepted n w → Invariant w → IsPlain w → IsWithin w
 
--- A direction in which nothing happened has no piece, and one in which the messages of one stream have at most k pieces more, and the
--- others are as they were, has at most k more.
+-- A direction in which nothing happened has no piece, and one in which the messages of one stream have at most k pieces
+-- more, and the others are as they were, has at most k more.
 abbrev pub NothingIsAcceptedAtFirst : Type 0
 NothingIsAcceptedAtFirst = (size : ℕ) → HasAccepted 0 (fresh size)
 
 abbrev pub AcceptedMessagesAreCounted : Type 0
 AcceptedMessagesAreCounted = (n k id : ℕ) (w v : Direction) → v.sender.plan.size ≡ w.sender.plan.size
     → ((s : ℕ) → (s ≡ id → ⊥) → v.sender.plan.accepted s ≡ w.sender.plan.accepted s)
-    → all_pieces w.sender.plan.size (v.sender.plan.accepted id) ≤ all_pieces w.sender.plan.size (w.sender.plan.accepted id) + k
+    → all_pieces w.sender.plan.size (v.sender.plan.accepted id)
+    ≤ all_pieces w.sender.plan.size (w.sender.plan.accepted id) + k
     → HasAccepted n w → HasAccepted (n + k) v
 
 -- A direction in which nothing happened is plain.

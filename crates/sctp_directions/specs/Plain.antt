@@ -1,6 +1,7 @@
--- A direction as associations use it so far: each message is ordered, reliable and of one piece, none is given up, and DATA is
--- taken in where it is next in order alone.
-use Rattle.std.specs.Prelude.{◌≡◌, ℕ, zero, suc, ◌+◌, ◌<◌, ◌≤◌, true, false, [], length, ◌==◌, nat_lt, if◌then◌else◌, None}
+-- A direction as associations use it so far: each message is ordered, reliable and of one piece, none is given up, and
+-- DATA is taken in where it is next in order alone.
+use Rattle.std.specs.Prelude.{◌≡◌, ℕ, zero, suc, ◌+◌, ◌<◌, ◌≤◌, true, false, [], length, ◌==◌, nat_lt, if◌then◌else◌}
+use Rattle.std.specs.Prelude.{None}
 use Rattle.std.specs.List.{AllByRecursion}
 use Rattle.sctp_model.specs.Messages.{Message, Place, Plan, Policy, message_at, place_at}
 use Rattle.sctp_model.specs.Packets.{Sack, mem}
@@ -18,7 +19,8 @@ pub record IsSimple (size : ℕ) (m : Message) : Type 0 where
   pub ordered : m.ordered ≡ true
   pub policy : m.policy ≡ Policy.Reliable
 
--- The place x of the offset o is the whole of its message, and that is the next of its stream after those on the offsets before.
+-- The place x of the offset o is the whole of its message, and that is the next of its stream after those on the
+-- offsets before.
 pub record IsSole (p : Plan) (o : ℕ) (x : Place) : Type 0 where
   pub piece : x.piece ≡ 0
   pub sent : x.marker ≡ false
@@ -26,7 +28,8 @@ pub record IsSole (p : Plan) (o : ℕ) (x : Place) : Type 0 where
   pub message : x.message ≡ count_below p x.stream o
 
 pub record IsPlain (w : Direction) : Type 0 where
-  pub messages : (s i : ℕ) → i < length (w.sender.plan.accepted s) → IsSimple w.sender.plan.size (message_at w.sender.plan s i)
+  pub messages : (s i : ℕ) → i < length (w.sender.plan.accepted s)
+      → IsSimple w.sender.plan.size (message_at w.sender.plan s i)
   pub places : (o : ℕ) → o < length w.sender.plan.places → IsSole w.sender.plan o (place_at w.sender.plan o)
   pub current : w.sender.current ≡ None
   pub next : (s : ℕ) → w.sender.next s ≡ count_below w.sender.plan s (length w.sender.plan.places)

@@ -25,13 +25,13 @@ pub record IsSaid (initial : ℕ) (c : ChunkPayloadData) (d : Data) : Type 0 whe
 abbrev pub IsGiven : ℕ → Direction → ChunkPayloadData → Type 0
 IsGiven initial w c = (k : ℕ) × (d : Data) × (slice_get w.datas k ≡ Some d) × IsSaid initial c d
 
--- A SACK is one that the direction's receiver ever made: it names that one's reach, and its gap ack blocks name what that
--- one has above it.
+-- A SACK is one that the direction's receiver ever made: it names that one's reach, and its gap ack blocks name what
+-- that one has above it.
 abbrev pub IsMade : ℕ → Direction → ChunkSelectiveAck → Type 0
 IsMade initial w c = (k : ℕ) × (x : Sack) × (slice_get w.sacks k ≡ Some x) × SaysWhatCame initial x.reach x.above c
 
--- a chunk that a side gives out: DATA of its own direction, or a SACK for the one that comes to it; own and peer are their
--- initial TSNs
+-- a chunk that a side gives out: DATA of its own direction, or a SACK for the one that comes to it; own and peer are
+-- their initial TSNs
 abbrev pub Says : ℕ → ℕ → Direction → Direction → Chunk → Type 0
 Says own peer out coming (chunks.Data c) = IsGiven own out c
 Says own peer out coming (chunks.SelectiveAck c) = IsMade peer coming c

@@ -1,11 +1,22 @@
-//! What one association is to the two directions between which it stands: its own DATA, and the DATA that comes to it. No code
-//! runs here; each empty function carries a law that is proved.
+//! What one association is to the two directions between which it stands: its own DATA, and the DATA that comes to it.
+//! No code runs here; each empty function carries a law that is proved.
 #![tactic(auto)]
 
-ghost use Rattle.sctp_directions.specs.Laws.{AcceptedMessagesAreCounted, AcknowledgementsAreAlike, ActsKeepTheInitialTsns, ClosedReceiversAreNotOpen, EventsKeepTheLimits, FewMessagesStayWithin, FreshDirectionsArePlain, MarksAreNoEvents, MeetingsAreNoEvents, NothingIsAcceptedAtFirst, OnlyBeginningsAssign, OnlyReadsGiveMessages, OnlyWhatIsBroughtIsTakenIn, OnlyWritesAccept, OpenedStreamsAreAlike, OwnActsLeaveWhatComes, PiecesAreCounted, PiecesAreGiven, PlainEventsKeepItPlain, ReadsAreAlike, ReadyMessagesAreAlike, ReceiversEventsAreReceived, ReportsSayWhatCame, SacksMeanTheSame, SendersEventsAreSent, SendersEventsKeepTheInvariant, SendersEventsLeaveWhatComes, SentPiecesBegin, ShortMessagesAreOnePiece, TheSameIsReady, WhatComesLeavesItsOwn, WhatIsReleasedIsNotBuffered, WhatIsTakenInComes, WritesAreAccepted, WritesAreAcceptedLast};
+ghost use Rattle.sctp_directions.specs.Laws.{AcceptedMessagesAreCounted, AcknowledgementsAreAlike};
+ghost use Rattle.sctp_directions.specs.Laws.{ActsKeepTheInitialTsns, ClosedReceiversAreNotOpen, EventsKeepTheLimits};
+ghost use Rattle.sctp_directions.specs.Laws.{FewMessagesStayWithin, FreshDirectionsArePlain, MarksAreNoEvents};
+ghost use Rattle.sctp_directions.specs.Laws.{MeetingsAreNoEvents, NothingIsAcceptedAtFirst, OnlyBeginningsAssign};
+ghost use Rattle.sctp_directions.specs.Laws.{OnlyReadsGiveMessages, OnlyWhatIsBroughtIsTakenIn, OnlyWritesAccept};
+ghost use Rattle.sctp_directions.specs.Laws.{OpenedStreamsAreAlike, OwnActsLeaveWhatComes, PiecesAreCounted};
+ghost use Rattle.sctp_directions.specs.Laws.{PiecesAreGiven, PlainEventsKeepItPlain, ReadsAreAlike};
+ghost use Rattle.sctp_directions.specs.Laws.{ReadyMessagesAreAlike, ReceiversEventsAreReceived, ReportsSayWhatCame};
+ghost use Rattle.sctp_directions.specs.Laws.{SacksMeanTheSame, SendersEventsAreSent, SendersEventsKeepTheInvariant};
+ghost use Rattle.sctp_directions.specs.Laws.{SendersEventsLeaveWhatComes, SentPiecesBegin, ShortMessagesAreOnePiece};
+ghost use Rattle.sctp_directions.specs.Laws.{TheSameIsReady, WhatComesLeavesItsOwn, WhatIsReleasedIsNotBuffered};
+ghost use Rattle.sctp_directions.specs.Laws.{WhatIsTakenInComes, WritesAreAccepted, WritesAreAcceptedLast};
 
-/// What an association writes, sends for the first time or again, marks and finds acknowledged happens at the sender of its
-/// direction, and leaves the one that comes to it.
+/// What an association writes, sends for the first time or again, marks and finds acknowledged happens at the sender of
+/// its direction, and leaves the one that comes to it.
 pub fn its_own_acts_are_events()
     ensures writes { WritesAreAccepted }
     ensures begins { SentPiecesBegin }
@@ -17,8 +28,8 @@ pub fn its_own_acts_are_events()
     ensures leave { OwnActsLeaveWhatComes }
 {}
 
-/// What an association opens, takes in, reports and reads happens at the receiver of the direction that comes to it, and what can
-/// be read is the same there.
+/// What an association opens, takes in, reports and reads happens at the receiver of the direction that comes to it,
+/// and what can be read is the same there.
 pub fn what_comes_to_it_are_events()
     ensures opened { OpenedStreamsAreAlike }
     ensures taken { WhatIsTakenInComes }
@@ -49,8 +60,8 @@ pub fn events_at_the_receiver_leave_the_sender()
     ensures closed { ClosedReceiversAreNotOpen }
 {}
 
-/// Accepted messages can be counted by their pieces, and a plain direction that has the invariant and fewer than 16,384 pieces is
-/// within the limits.
+/// Accepted messages can be counted by their pieces, and a plain direction that has the invariant and fewer than 16,384
+/// pieces is within the limits.
 pub fn few_messages_stay_within()
     ensures pieces { PiecesAreCounted }
     ensures one { ShortMessagesAreOnePiece }

@@ -1,5 +1,6 @@
 -- What two sides agree on before DATA flows (RFC 4960 section 5.1).
-use Rattle.std.specs.Prelude.{ℕ, Bool, true, false, ◌==◌, ◌&&◌, ◌||◌, if◌then◌else◌, min, nat_le, List, [], Option, Some, None}
+use Rattle.std.specs.Prelude.{ℕ, Bool, true, false, ◌==◌, ◌&&◌, ◌||◌, if◌then◌else◌, min, nat_le, List, [], Option}
+use Rattle.std.specs.Prelude.{Some, None}
 use Rattle.std.specs.List.{list_any}
 use Rattle.std.specs.Str.{bytes_eq}
 use Rattle.sctp_wire_types.specs.declared.ids.Side.{Side}
@@ -12,7 +13,8 @@ use Rattle.sctp_wire_types.specs.Config.{Settings}
 use Rattle.sctp_inbound.specs.declared.handshake.Handshake.{Handshake}
 use Rattle.sctp_inbound.specs.declared.handshake.Offer.{Offer}
 
--- a Supported Extensions parameter that lists FORWARD TSN, chunk type 192 (RFC 5061 section 4.2.7, RFC 3758 section 3.1)
+-- a Supported Extensions parameter that lists FORWARD TSN, chunk type 192 (RFC 5061 section 4.2.7, RFC 3758 section
+-- 3.1)
 abbrev pub is_extensions_with_forward_tsn : Param → Bool
 is_extensions_with_forward_tsn (params.HeartbeatInfo bytes) = false
 is_extensions_with_forward_tsn (params.StateCookie bytes) = false
@@ -70,7 +72,8 @@ fresh_of config tag initial_tsn cookie offer = record {
   echo = None;
 }
 
--- the tag and the numbers of streams that an INIT or INIT ACK says: each side sends on no more streams than the other takes
+-- the tag and the numbers of streams that an INIT or INIT ACK says: each side sends on no more streams than the other
+-- takes
 abbrev pub with_answer : Handshake → ChunkInit → Handshake
 with_answer h init = record h {
   num_inbound_streams = min h.num_inbound_streams init.num_outbound_streams;
@@ -101,7 +104,8 @@ comes_back h header = header.destination_port == h.source_port && header.source_
 -- an INIT ACK came; with other ports its tag and its numbers of streams count alone
 abbrev pub learned_by_init_ack : Handshake → CommonHeader → ChunkInit → Handshake
 learned_by_init_ack h header init =
-    if comes_back h header then (let met = with_parameters (with_answer h init) init in record met { offer = None }) else with_answer h init
+    if comes_back h header then
+    (let met = with_parameters (with_answer h init) init in record met { offer = None }) else with_answer h init
 
 -- this is the cookie that was given out
 abbrev pub has_issued : Handshake → List ℕ → Bool

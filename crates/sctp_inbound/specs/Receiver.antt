@@ -11,7 +11,12 @@ use Rattle.sctp_inbound.specs.declared.receiver.AckTrigger.TheVariants as trigge
 
 -- nothing came; this many bytes may wait for their reader, and a message may be so long
 abbrev pub fresh_receiver : ℕ → ℕ → ℕ → Receiver
-fresh_receiver size limit peer_last_tsn = record { peer_last_tsn = peer_last_tsn; ack_state = states.Idle; buffer_size = size; max_receive_message_size = limit }
+fresh_receiver size limit peer_last_tsn = record {
+  peer_last_tsn = peer_last_tsn;
+  ack_state = states.Idle;
+  buffer_size = size;
+  max_receive_message_size = limit;
+}
 
 -- the peer's initial TSN is known, and nothing came from there on
 abbrev pub receiver_from : Receiver → ℕ → Receiver

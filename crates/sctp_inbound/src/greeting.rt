@@ -1,13 +1,15 @@
 // The chunks of the handshake, and what is read out of them.
 ghost use Rattle.std.specs.Prelude.{◌≡◌, IfOk};
-ghost use Rattle.sctp_inbound.specs.Greeting.{cookie_in, first_cookie, heartbeat_ack_of, information_of, init_ack_of, init_of};
+ghost use Rattle.sctp_inbound.specs.Greeting.{cookie_in, first_cookie, heartbeat_ack_of, information_of, init_ack_of};
+ghost use Rattle.sctp_inbound.specs.Greeting.{init_of};
 
 use crate::{Handshake, Offer};
 use bytes::Bytes;
 use sctp_wire_types::{ChunkHeartbeat, ChunkInit, List, Param};
 use std::alloc::{AllocError, Global};
 
-/// The extensions that an INIT or INIT ACK lists: RE-CONFIG (RFC 6525) and FORWARD TSN (RFC 3758), by their chunk types.
+/// The extensions that an INIT or INIT ACK lists: RE-CONFIG (RFC 6525) and FORWARD TSN (RFC 3758), by their chunk
+/// types.
 static EXTENSIONS: [u8; 2] = [130, 192];
 
 impl Handshake {

@@ -1,7 +1,9 @@
 // Tags, ports and numbers of streams, as the two sides agree on them.
 ghost use Rattle.std.specs.Prelude.{◌≡◌};
 ghost use Rattle.std.specs.List.{list_any};
-ghost use Rattle.sctp_inbound.specs.Handshake.{by_tokens_of, comes_back, established, fresh_of, has_issued, header_of, learned_by_init, learned_by_init_ack, side_of, lists_forward_tsn, is_extensions_with_forward_tsn, offer_of, with_answer, with_parameters};
+ghost use Rattle.sctp_inbound.specs.Handshake.{by_tokens_of, comes_back, established, fresh_of, has_issued, header_of};
+ghost use Rattle.sctp_inbound.specs.Handshake.{learned_by_init, learned_by_init_ack, side_of, lists_forward_tsn};
+ghost use Rattle.sctp_inbound.specs.Handshake.{is_extensions_with_forward_tsn, offer_of, with_answer, with_parameters};
 
 use bytes::Bytes;
 use sctp_wire_types::{ChunkInit, CommonHeader, Param, Side, TransportConfig};

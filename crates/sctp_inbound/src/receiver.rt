@@ -1,6 +1,8 @@
 // What came and when it is acknowledged.
 ghost use Rattle.std.specs.Prelude.{◌≡◌, IfOk};
-ghost use Rattle.sctp_inbound.specs.Receiver.{fresh_receiver, is_next_after, receiver_from, taken_to, asked, ended_packet, ended_packet_timers, credit_of, acknowledged_at_once, acknowledged, sack_of};
+ghost use Rattle.sctp_inbound.specs.Receiver.{fresh_receiver, is_next_after, receiver_from, taken_to, asked};
+ghost use Rattle.sctp_inbound.specs.Receiver.{ended_packet, ended_packet_timers, credit_of, acknowledged_at_once};
+ghost use Rattle.sctp_inbound.specs.Receiver.{acknowledged, sack_of};
 
 use sctp_parts::state::AckState;
 use sctp_parts::timer::{ACK_INTERVAL, Timer, TimerTable};
@@ -61,8 +63,8 @@ impl Receiver {
         self.peer_last_tsn = tsn;
     }
 
-    /// The trigger of a packet after one more chunk of it asked for an acknowledgement: at once where `immediate` is set
-    /// or the last packet waits already, else delayed.
+    /// The trigger of a packet after one more chunk of it asked for an acknowledgement: at once where `immediate` is
+    /// set or the last packet waits already, else delayed.
     pub fn ask(&self, trigger: AckTrigger, immediate: bool) -> AckTrigger
         ensures { result ≡ asked self.now trigger immediate }
     {

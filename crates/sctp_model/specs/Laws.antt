@@ -1,5 +1,6 @@
 -- The laws that stand on the contracts of this crate's functions.
-use Rattle.std.specs.Prelude.{ℕ, suc, ◌+◌, ◌-◌, ◌*◌, ◌%◌, ◌^◌, ◌<◌, ◌≤◌, ◌≡◌, ◌↔◌, ◌⊎◌, max, true, false, List, ◌++◌, take, Some, None, nat_lt}
+use Rattle.std.specs.Prelude.{ℕ, suc, ◌+◌, ◌-◌, ◌*◌, ◌%◌, ◌^◌, ◌<◌, ◌≤◌, ◌≡◌, ◌↔◌, ◌⊎◌, max, true, false, List, ◌++◌}
+use Rattle.std.specs.Prelude.{take, Some, None, nat_lt}
 use Rattle.sctp_model.specs.Messages.{piece_of, accepted_bytes}
 use Rattle.sctp_model.specs.Packets.{mem, names}
 use Rattle.sctp_model.specs.Serial.{tsn, before_16, before_32, offset_near, offset_spelt, offset_ahead}
@@ -7,10 +8,12 @@ use Rattle.sctp_model.specs.Machine.{Direction, Event, Receiver, fresh, happens,
 use Rattle.sctp_model.specs.Safe.{IsSafe, IsWithin, StaysWithin, read_ssn}
 use Rattle.sctp_model.specs.Invariants.{Invariant}
 
--- A TSN made from an offset less than 2^31 away is read as that offset, and of two such the earlier one is the one before.
+-- A TSN made from an offset less than 2^31 away is read as that offset, and of two such the earlier one is the one
+-- before.
 abbrev pub TsnsSpellOffsets : Type 0
 TsnsSpellOffsets = (initial reach offset : ℕ) → offset < reach + 2 ^ 31 → reach < offset + 2 ^ 31
-    → (offset_near initial reach (tsn initial offset) ≡ offset) × (before_32 (tsn initial reach) (tsn initial offset) ≡ nat_lt reach offset)
+    → (offset_near initial reach (tsn initial offset) ≡ offset)
+    × (before_32 (tsn initial reach) (tsn initial offset) ≡ nat_lt reach offset)
 
 abbrev pub TsnsAheadSpellOffsets : Type 0
 TsnsAheadSpellOffsets = (initial reach offset : ℕ) → reach ≤ offset → offset < reach + 2 ^ 31
@@ -18,13 +21,16 @@ TsnsAheadSpellOffsets = (initial reach offset : ℕ) → reach ≤ offset → of
 
 -- A TSN shortly before the initial one spells no offset, and any other is read as before.
 abbrev pub TsnsBeforeTheInitialSpellNone : Type 0
-TsnsBeforeTheInitialSpellNone = (initial reach n : ℕ) → 0 < n → reach + n < 2 ^ 31 → offset_spelt initial reach ((initial + 2 ^ 32 - n) % 2 ^ 32) ≡ None
+TsnsBeforeTheInitialSpellNone =
+    (initial reach n : ℕ) → 0 < n → reach + n < 2 ^ 31
+    → offset_spelt initial reach ((initial + 2 ^ 32 - n) % 2 ^ 32) ≡ None
 
 abbrev pub TsnsPastTheInitialSpellSome : Type 0
 TsnsPastTheInitialSpellSome = (initial reach offset : ℕ) → offset < reach + 2 ^ 31 → reach < offset + 2 ^ 31
     → offset_spelt initial reach (tsn initial offset) ≡ Some offset
 
--- Stream sequence numbers compare as the numbers that they were before they wrapped, where those are less than 32,768 apart.
+-- Stream sequence numbers compare as the numbers that they were before they wrapped, where those are less than 32,768
+-- apart.
 abbrev pub SequenceNumbersCompare : Type 0
 SequenceNumbersCompare = (a b : ℕ) → a < b + 32768 → b < a + 32768 → before_16 (a % 65536) (b % 65536) ≡ nat_lt a b
 
@@ -34,7 +40,10 @@ PiecesJoin = (size k : ℕ) (bytes : List ℕ) → take (size * k) bytes ++ piec
 
 -- The cumulative reach is the greatest p such that each offset below p was taken in or passed over.
 abbrev pub ReachIsGreatest : Type 0
-ReachIsGreatest = (r : Receiver) → ((o : ℕ) → o < reach r → (mem o r.taken ≡ true) ⊎ (o < r.passed)) × (r.passed ≤ reach r) × (mem (reach r) r.taken ≡ false)
+ReachIsGreatest =
+    (r : Receiver)
+    → ((o : ℕ) → o < reach r → (mem o r.taken ≡ true) ⊎ (o < r.passed)) × (r.passed ≤ reach r)
+    × (mem (reach r) r.taken ≡ false)
 
 -- A SACK names all that lies below the reach or was taken in, and nothing else.
 abbrev pub SacksAreExact : Type 0
@@ -47,7 +56,9 @@ OneDirectionIsSafe = (size : ℕ) → 0 < size → (events : List Event) → Sta
 
 -- What is proved of every direction on the way, and later layers build on.
 abbrev pub TheInvariantHolds : Type 0
-TheInvariantHolds = (size : ℕ) → 0 < size → (events : List Event) → StaysWithin (fresh size) events → Invariant (run events (fresh size))
+TheInvariantHolds =
+    (size : ℕ) → 0 < size → (events : List Event) → StaysWithin (fresh size) events
+    → Invariant (run events (fresh size))
 
 -- From any direction on, not only from the start: each event keeps the invariant where the limits hold,
 abbrev pub EachEventKeepsTheInvariant : Type 0
@@ -57,8 +68,8 @@ EachEventKeepsTheInvariant = (w : Direction) (e : Event) → IsWithin w → Inva
 abbrev pub TheInvariantIsEnough : Type 0
 TheInvariantIsEnough = (w : Direction) → IsWithin w → Invariant w → (s : ℕ) → w.over s ≡ false → IsSafe w s
 
--- Of what the invariant says of a stream within its span: the ordered cursor is one past the later of the sequence numbers of the
--- last ordered message read and of the last one skipped, 0 where there is neither, modulo 2^16.
+-- Of what the invariant says of a stream within its span: the ordered cursor is one past the later of the sequence
+-- numbers of the last ordered message read and of the last one skipped, 0 where there is neither, modulo 2^16.
 abbrev pub TheCursorIsPastTheLater : Type 0
 TheCursorIsPastTheLater = (w : Direction) → Invariant w → (s : ℕ) → w.over s ≡ false
     → (live (w.receiver.queues s)).cursor ≡ max (read_ssn w.sender.plan 0 (w.reads s)) (w.skipped s) % 65536

@@ -1,8 +1,10 @@
--- One direction as a machine: a sender, a receiver, and a network between them that loses, repeats, delays and reorders,
--- but alters and forges nothing. What an implementation may choose freely is an event; what its rules fix (all that a SACK and a
--- FORWARD TSN say) is made by its rule.
-use Rattle.std.specs.Prelude.{ℕ, zero, suc, ◌+◌, ◌-◌, max, Bool, true, false, not, ◌&&◌, ◌||◌, List, [], ◌∷◌, ◌++◌, length, drop, filter, Option, Some, None, slice_get, ◌==◌, nat_lt, nat_le, if◌then◌else◌}
-use Rattle.sctp_model.specs.Messages.{Message, Place, Plan, as_kept, is_reliable, place_at, message_at, message_of, is_last, bytes_below}
+-- One direction as a machine: a sender, a receiver, and a network between them that loses, repeats, delays and
+-- reorders, but alters and forges nothing. What an implementation may choose freely is an event; what its rules fix
+-- (all that a SACK and a FORWARD TSN say) is made by its rule.
+use Rattle.std.specs.Prelude.{ℕ, zero, suc, ◌+◌, ◌-◌, max, Bool, true, false, not, ◌&&◌, ◌||◌, List, [], ◌∷◌, ◌++◌}
+use Rattle.std.specs.Prelude.{length, drop, filter, Option, Some, None, slice_get, ◌==◌, nat_lt, nat_le, if◌then◌else◌}
+use Rattle.sctp_model.specs.Messages.{Message, Place, Plan, as_kept, is_reliable, place_at, message_at, message_of}
+use Rattle.sctp_model.specs.Messages.{is_last, bytes_below}
 use Rattle.sctp_model.specs.Packets.{Data, Sack, Forward, mem, names, skips, data_at}
 use Rattle.sctp_model.specs.Reassembly.{Queue, Got, Taken, empty_queue, next, push, skip_if, drop_unordered}
 
@@ -18,16 +20,16 @@ pub record Sender : Type 0 where
   pub acknowledged : ℕ → Bool
   pub released : ℕ → ℕ  -- by stream: bytes that no longer count as buffered
 
--- The receiver of a direction: the offsets taken in, the greatest reach of a FORWARD TSN taken, and by stream its reassembly,
--- none while the stream isn't there.
+-- The receiver of a direction: the offsets taken in, the greatest reach of a FORWARD TSN taken, and by stream its
+-- reassembly, none while the stream isn't there.
 pub record Receiver : Type 0 where
   pub taken : List ℕ
   pub passed : ℕ
   pub queues : ℕ → Option Queue
   pub is_open : Bool  -- neither closed nor failed
 
--- Both ends, all that was ever given out, what was read and what was skipped. Loss, repetition, delay and reordering are one
--- thing: of what was given out any may come, at any time and again.
+-- Both ends, all that was ever given out, what was read and what was skipped. Loss, repetition, delay and reordering
+-- are one thing: of what was given out any may come, at any time and again.
 pub record Direction : Type 0 where
   pub sender : Sender
   pub receiver : Receiver
@@ -35,10 +37,11 @@ pub record Direction : Type 0 where
   pub sacks : List Sack
   pub forwards : List Forward
   pub reads : ℕ → List Got
-  -- by stream: one past the greatest sequence number, before it wraps, that a FORWARD TSN skipped in it, of those taken while the
-  -- stream was there; 0 before the first. No step looks at it.
+  -- by stream: one past the greatest sequence number, before it wraps, that a FORWARD TSN skipped in it, of those taken
+  -- while the stream was there; 0 before the first. No step looks at it.
   pub skipped : ℕ → ℕ
-  pub over : ℕ → Bool  -- the stream's span is over: a reset was asked for, or the stream retired or stopped, at either end
+  -- the stream's span is over: a reset was asked for, or the stream retired or stopped, at either end
+  pub over : ℕ → Bool
 
 abbrev pub put : {X : Type 0} → (ℕ → X) → ℕ → X → ℕ → X
 put f s x t = if t == s then x else f t
@@ -86,7 +89,8 @@ has_message p s i = nat_lt i (length (p.accepted s))
 
 -- the stream's next ordered message is looked for one number further: the message there is unordered, or was dropped
 abbrev pub can_pass_over : Sender → ℕ → Bool
-can_pass_over x s = has_message x.plan s (x.next s) && (not (message_at x.plan s (x.next s)).ordered || x.gone s (x.next s))
+can_pass_over x s =
+    has_message x.plan s (x.next s) && (not (message_at x.plan s (x.next s)).ordered || x.gone s (x.next s))
 
 abbrev pub passed_over : Sender → ℕ → Sender
 passed_over x s = record x { next = put x.next s (suc (x.next s)) }
@@ -134,7 +138,8 @@ abbrev pub sent : Sender → Place → Sender
 sent x y = record x { plan = with_place x.plan y; current = left_after x.plan y }
 
 abbrev pub counted : Sender → ℕ → ℕ → Bool → Sender
-counted x s i true = record x { begun = put_2 x.begun s i; next = put x.next s (suc i); ssn = put x.ssn s (suc (x.ssn s)) }
+counted x s i true =
+    record x { begun = put_2 x.begun s i; next = put x.next s (suc i); ssn = put x.ssn s (suc (x.ssn s)) }
 counted x s i false = record x { begun = put_2 x.begun s i }
 
 abbrev pub next_data : Sender → Place → Data
@@ -159,7 +164,8 @@ go_on w (Some y) = record w { sender = sent w.sender y; datas = w.datas ++ next_
 abbrev pub can_resend : Plan → ℕ → Bool
 can_resend p o = nat_lt o (length p.places) && not (place_at p o).marker
 
--- a message of which something was sent is abandoned whole; a tail that is still unsent gets one offset (RFC 3758 section 3.5, A3)
+-- a message of which something was sent is abandoned whole; a tail that is still unsent gets one offset (RFC 3758
+-- section 3.5, A3)
 abbrev pub can_abandon : Sender → ℕ → ℕ → Bool
 can_abandon x s i = has_message x.plan s i && (x.begun s i && not (x.gone s i) && not (is_reliable (message_at x.plan s i).policy))
 
@@ -190,8 +196,8 @@ abandoned x s i = left (tail_marked x s i x.current) s i
 abbrev pub is_gone : Sender → Place → Bool
 is_gone x y = x.gone y.stream y.message
 
--- a SACK whose reach isn't below the acknowledged one acknowledges what it names (RFC 4960 section 6.2.1), and the bytes that it
--- acknowledges for the first time are released
+-- a SACK whose reach isn't below the acknowledged one acknowledges what it names (RFC 4960 section 6.2.1), and the
+-- bytes that it acknowledges for the first time are released
 abbrev pub newly : Sender → Sack → ℕ → Bool
 newly x k o = names k o && (not (x.acknowledged o) && not (is_gone x (place_at x.plan o)))
 
@@ -215,8 +221,8 @@ gone_among x (y ∷ ys) = if is_gone x y then y ∷ gone_among x ys else []
 abbrev pub gone_front : Sender → List Place
 gone_front x = gone_among x (drop x.reach x.plan.places)
 
--- the sequence number, before it wraps, of the last ordered message of stream s among these; no other of these has a greater one,
--- since from the acknowledged reach on a stream's numbers ascend
+-- the sequence number, before it wraps, of the last ordered message of stream s among these; no other of these has a
+-- greater one, since from the acknowledged reach on a stream's numbers ascend
 abbrev pub is_ordered_of : Plan → ℕ → Place → Bool
 is_ordered_of p s y = (y.stream == s) && (message_of p y).ordered
 
@@ -268,7 +274,8 @@ took r d = record r {
 
 abbrev pub data_comes : Direction → Option Data → Direction
 data_comes w None = w
-data_comes w (Some d) = if w.receiver.is_open && is_new w.receiver d.offset then record w { receiver = took w.receiver d } else w
+data_comes w (Some d) =
+    if w.receiver.is_open && is_new w.receiver d.offset then record w { receiver = took w.receiver d } else w
 
 -- a FORWARD TSN above the reach is taken (RFC 3758 section 3.6); it says nothing to a stream that isn't there
 abbrev pub forwarded : Option Queue → ℕ → Option ℕ → Option Queue
@@ -285,7 +292,10 @@ skipped_by (Some q) None before = before
 skipped_by (Some q) (Some n) before = max before (suc n)
 
 abbrev pub passes : Direction → Forward → Direction
-passes w f = record w { receiver = moved w.receiver f; skipped = λ s. skipped_by (w.receiver.queues s) (f.numbers s) (w.skipped s) }
+passes w f = record w {
+  receiver = moved w.receiver f;
+  skipped = λ s. skipped_by (w.receiver.queues s) (f.numbers s) (w.skipped s);
+}
 
 abbrev pub forward_comes : Direction → Option Forward → Direction
 forward_comes w None = w
@@ -316,9 +326,10 @@ abbrev pub none_goes_on : ℕ → Option Place → Bool
 none_goes_on s None = true
 none_goes_on s (Some y) = not (y.stream == s)
 
--- A stream's sequence numbers begin again only when the request to reset it ended in success (RFC 6525 section 5.1.2). That request
--- first goes out when none of the stream's DATA is queued or not cumulatively acknowledged, and until it ended no write on the
--- stream is accepted. So by then each of its offsets lies below the acknowledged reach, and no message of it goes on.
+-- A stream's sequence numbers begin again only when the request to reset it ended in success (RFC 6525 section 5.1.2).
+-- That request first goes out when none of the stream's DATA is queued or not cumulatively acknowledged, and until it
+-- ended no write on the stream is accepted. So by then each of its offsets lies below the acknowledged reach, and no
+-- message of it goes on.
 abbrev pub can_restart : Direction → ℕ → Bool
 can_restart w s = w.over s && (none_of s (drop w.sender.reach w.sender.plan.places) && none_goes_on s w.sender.current)
 
@@ -327,8 +338,8 @@ pub data Event : Type 0 where
   Write : ℕ → Message → Event  -- a write on a stream is accepted
   PassOver : ℕ → Event
   Drop : ℕ → ℕ → Event  -- message i of stream s is dropped unsent
-  -- the first piece of message i of stream s gets the next offset and goes out; the third number is the sequence number that it
-  -- carries if it is unordered
+  -- the first piece of message i of stream s gets the next offset and goes out; the third number is the sequence number
+  -- that it carries if it is unordered
   Begin : ℕ → ℕ → ℕ → Event
   GoOn : Event  -- so does the next piece of the message that was begun
   Resend : ℕ → Event  -- the piece of an offset goes out again
@@ -351,19 +362,25 @@ happens w (PassOver s) = if can_pass_over w.sender s then record w { sender = pa
 happens w (Drop s i) = if can_drop w.sender s i then record w { sender = dropped w.sender s i } else w
 happens w (Begin s i any) = begin_if w s i any w.sender.current
 happens w GoOn = go_on w w.sender.current
-happens w (Resend o) = if can_resend w.sender.plan o then record w { datas = w.datas ++ data_at w.sender.plan o ∷ [] } else w
+happens w (Resend o) =
+    if can_resend w.sender.plan o then record w { datas = w.datas ++ data_at w.sender.plan o ∷ [] } else w
 happens w (Abandon s i) = if can_abandon w.sender s i then record w { sender = abandoned w.sender s i } else w
 happens w (SackComes k) = sack_comes w (slice_get w.sacks k)
-happens w ForwardMade = if nat_lt 0 (length (gone_front w.sender)) then record w { forwards = w.forwards ++ forward_of w.sender w.over ∷ [] } else w
+happens w ForwardMade =
+    if nat_lt 0 (length (gone_front w.sender)) then
+    record w { forwards = w.forwards ++ forward_of w.sender w.over ∷ [] } else w
 happens w (DataComes k) = data_comes w (slice_get w.datas k)
 happens w SackMade = record w { sacks = w.sacks ++ sack_of w.receiver ∷ [] }
 happens w (ForwardComes k) = forward_comes w (slice_get w.forwards k)
-happens w (Open s) = record w { receiver = record w.receiver { queues = put w.receiver.queues s (opened (w.receiver.queues s)) } }
+happens w (Open s) =
+    record w { receiver = record w.receiver { queues = put w.receiver.queues s (opened (w.receiver.queues s)) } }
 happens w (Read s) = read w s (w.receiver.queues s)
 happens w Close = record w { receiver = record w.receiver { is_open = false } }
 happens w (End s) = record w { over = put w.over s true }
-happens w (Restart s) = if can_restart w s then record w { sender = record w.sender { ssn = put w.sender.ssn s 0 } } else w
-happens w (Replace s q) = if w.over s then record w { receiver = record w.receiver { queues = put w.receiver.queues s q } } else w
+happens w (Restart s) =
+    if can_restart w s then record w { sender = record w.sender { ssn = put w.sender.ssn s 0 } } else w
+happens w (Replace s q) =
+    if w.over s then record w { receiver = record w.receiver { queues = put w.receiver.queues s q } } else w
 
 abbrev pub run : List Event → Direction → Direction
 run [] w = w

@@ -1,8 +1,10 @@
 -- What an application hands to a direction, and on which offsets its pieces stand. An offset is the distance of a TSN
 -- from its direction's initial TSN; it never wraps. A stream, a message of it and a piece of that are numbered from 0.
-use Rattle.std.specs.Prelude.{ℕ, zero, suc, ◌+◌, ◌*◌, ◌<◌, ◌≡◌, Bool, true, false, List, [], ◌∷◌, length, get_or, take, drop, ◌==◌, nat_le, if◌then◌else◌}
+use Rattle.std.specs.Prelude.{ℕ, zero, suc, ◌+◌, ◌*◌, ◌<◌, ◌≡◌, Bool, true, false, List, [], ◌∷◌, length, get_or, take}
+use Rattle.std.specs.Prelude.{drop, ◌==◌, nat_le, if◌then◌else◌}
 
--- How long a message is tried (RFC 3758 section 3.5 and 4.1): for ever, for so many retries, or for so many milliseconds.
+-- How long a message is tried (RFC 3758 section 3.5 and 4.1): for ever, for so many retries, or for so many
+-- milliseconds.
 pub data Policy : Type 0 where
   Reliable : Policy
   Rexmit : ℕ → Policy
@@ -20,8 +22,8 @@ pub record Message : Type 0 where
   pub ordered : Bool
   pub policy : Policy
 
--- what is kept of a written message: one of the data channel establishment protocol (payload type 50) is ordered and reliable
--- (RFC 8832 section 6)
+-- what is kept of a written message: one of the data channel establishment protocol (payload type 50) is ordered and
+-- reliable (RFC 8832 section 6)
 abbrev pub as_kept : Message → Message
 as_kept m = if m.payload_type == 50 then record m { ordered = true; policy = Policy.Reliable } else m
 
@@ -36,9 +38,10 @@ piece_of size bytes k = take size (drop (size * k) bytes)
 abbrev pub is_last_piece : ℕ → List ℕ → ℕ → Bool
 is_last_piece size bytes k = nat_le (length bytes) (size * suc k)
 
--- What an offset stands for: a piece of a message. `ssn` is the stream sequence number before it wraps: of an ordered message how
--- many ordered ones of the stream got an offset before it (within the stream's span), of an unordered one any number. A `marker`
--- stands for the whole tail from its piece on that was still unsent when its message was abandoned; it is never sent.
+-- What an offset stands for: a piece of a message. `ssn` is the stream sequence number before it wraps: of an ordered
+-- message how many ordered ones of the stream got an offset before it (within the stream's span), of an unordered one
+-- any number. A `marker` stands for the whole tail from its piece on that was still unsent when its message was
+-- abandoned; it is never sent.
 pub record Place : Type 0 where
   pub stream : ℕ
   pub message : ℕ
@@ -91,7 +94,8 @@ bytes_at p x = if x.marker then 0 else length (piece_of p.size (message_of p x).
 abbrev pub bytes_below : Plan → (ℕ → Bool) → ℕ → ℕ → ℕ
 bytes_below p test s zero = 0
 bytes_below p test s (suc o) =
-    (if (place_at p o).stream == s then (if test o then bytes_at p (place_at p o) else 0) else 0) + bytes_below p test s o
+    (if (place_at p o).stream == s then (if test o then bytes_at p (place_at p o) else 0) else 0)
+    + bytes_below p test s o
 
 -- f 0 + f 1 + .. + f (n - 1)
 abbrev pub sum_below : (ℕ → ℕ) → ℕ → ℕ

@@ -2,8 +2,8 @@
 use Rattle.std.specs.Prelude.{ℕ, ◌%◌, Bool, false, List, [], ◌∷◌, ◌==◌, ◌||◌, nat_lt, Option, Some, None}
 use Rattle.sctp_model.specs.Messages.{Plan, Place, place_at, message_of, piece_of, is_last}
 
--- DATA (RFC 4960 section 3.3.1): `first` and `last` are the B and E bits, `ordered` is the U bit turned round. The stream
--- sequence number of an unordered piece may be any and says nothing.
+-- DATA (RFC 4960 section 3.3.1): `first` and `last` are the B and E bits, `ordered` is the U bit turned round. The
+-- stream sequence number of an unordered piece may be any and says nothing.
 pub record Data : Type 0 where
   pub offset : ℕ
   pub stream : ℕ
@@ -19,9 +19,10 @@ pub record Sack : Type 0 where
   pub reach : ℕ
   pub above : List ℕ
 
--- FORWARD TSN (RFC 3758 section 3.2): the new reach, and by stream the sequence number up to which ordered messages are skipped.
--- The packet has `reach` and `skips`, which is all that a receiver goes by. Not in it are `numbers`, the sequence numbers before
--- they wrap, and of the moment when it was made its sender's acknowledged reach (`start`) and the streams past their span (`past`).
+-- FORWARD TSN (RFC 3758 section 3.2): the new reach, and by stream the sequence number up to which ordered messages are
+-- skipped. The packet has `reach` and `skips`, which is all that a receiver goes by. Not in it are `numbers`, the
+-- sequence numbers before they wrap, and of the moment when it was made its sender's acknowledged reach (`start`) and
+-- the streams past their span (`past`).
 pub record Forward : Type 0 where
   pub reach : ℕ
   pub numbers : ℕ → Option ℕ

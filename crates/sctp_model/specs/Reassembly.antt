@@ -1,5 +1,6 @@
 -- The reassembly of one stream at the receiver (RFC 4960 sections 6.5, 6.6 and 6.9; RFC 3758 section 3.6).
-use Rattle.std.specs.Prelude.{ℕ, zero, suc, ◌+◌, ◌%◌, max, Bool, not, ◌&&◌, ◌||◌, List, [], ◌∷◌, ◌++◌, length, flat_map, filter, Option, Some, None, is_some, ◌==◌, nat_le, if◌then◌else◌}
+use Rattle.std.specs.Prelude.{ℕ, zero, suc, ◌+◌, ◌%◌, max, Bool, not, ◌&&◌, ◌||◌, List, [], ◌∷◌, ◌++◌, length, flat_map}
+use Rattle.std.specs.Prelude.{filter, Option, Some, None, is_some, ◌==◌, nat_le, if◌then◌else◌}
 use Rattle.sctp_model.specs.Packets.{Data}
 use Rattle.sctp_model.specs.Serial.{before_16, up_to_16}
 
@@ -35,8 +36,8 @@ abbrev pub with_first : Data → Option (List Data) → Option (List Data)
 with_first d None = None
 with_first d (Some ds) = Some (d ∷ ds)
 
--- the pieces held from offset o on, one offset after another, up to one with the last flag; none if one of them is missing
--- (at most n of them, and `top held` is enough)
+-- the pieces held from offset o on, one offset after another, up to one with the last flag; none if one of them is
+-- missing (at most n of them, and `top held` is enough)
 abbrev pub run_on : Option Data → Option (List Data) → Option (List Data)
 run_on None rest = None
 run_on (Some d) rest = if d.last then Some (d ∷ []) else with_first d rest
@@ -153,7 +154,8 @@ or_else (Some r) _ = Some r
 -- the first of the pieces ds that begins a message all of which is held
 abbrev pub first_complete : List Data → List Data → Option Run
 first_complete held [] = None
-first_complete held (d ∷ ds) = if d.first then or_else (run_of held d) (first_complete held ds) else first_complete held ds
+first_complete held (d ∷ ds) =
+    if d.first then or_else (run_of held d) (first_complete held ds) else first_complete held ds
 
 abbrev pub settle : Queue → Option Run → Queue
 settle q None = q
@@ -178,8 +180,8 @@ push_unordered q d = settle (with_unordered q d) (first_complete (d ∷ q.unorde
 abbrev pub push : Queue → Data → Queue
 push q d = if d.ordered then push_ordered q d else push_unordered q d
 
--- A skip up to the sequence number m: incomplete ordered messages up to it are dropped, complete ones stay readable, and the
--- cursor moves past m where it was not past it.
+-- A skip up to the sequence number m: incomplete ordered messages up to it are dropped, complete ones stay readable,
+-- and the cursor moves past m where it was not past it.
 abbrev pub skip : Queue → ℕ → Queue
 skip q m = record q {
   cursor = if up_to_16 q.cursor m then (m + 1) % 65536 else q.cursor;

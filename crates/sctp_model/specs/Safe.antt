@@ -1,14 +1,16 @@
--- What is promised of one direction: what is read was accepted, whole, at most once and in order; on reliable streams, what was or
--- can be read at an open receiver is the longest accepted front whose pieces were all taken in; and no byte is released before it was.
-use Rattle.std.specs.Prelude.{ℕ, suc, ◌+◌, ◌*◌, ◌^◌, ◌<◌, ◌≤◌, ◌≡◌, Bool, true, false, ⊤, List, [], ◌∷◌, ◌++◌, length, map, filter, take, drop, if◌then◌else◌}
+-- What is promised of one direction: what is read was accepted, whole, at most once and in order; on reliable streams,
+-- what was or can be read at an open receiver is the longest accepted front whose pieces were all taken in; and no byte
+-- is released before it was.
+use Rattle.std.specs.Prelude.{ℕ, suc, ◌+◌, ◌*◌, ◌^◌, ◌<◌, ◌≤◌, ◌≡◌, Bool, true, false, ⊤, List, [], ◌∷◌, ◌++◌, length}
+use Rattle.std.specs.Prelude.{map, filter, take, drop, if◌then◌else◌}
 use Rattle.std.specs.List.{AllByRecursion}
 use Rattle.sctp_model.specs.Messages.{Message, Plan, place_at, message_at, count_ordered, is_reliable, bytes_below}
 use Rattle.sctp_model.specs.Packets.{mem}
 use Rattle.sctp_model.specs.Reassembly.{Got, ready}
 use Rattle.sctp_model.specs.Machine.{Direction, Event, happens, live}
 
--- Piece k of message i of stream s stands on an offset that was taken in. That offset stands for the piece itself and not for an
--- abandoned tail, so it came with the piece's bytes.
+-- Piece k of message i of stream s stands on an offset that was taken in. That offset stands for the piece itself and
+-- not for an abandoned tail, so it came with the piece's bytes.
 pub record IsTaken (p : Plan) (taken : List ℕ) (s i k : ℕ) : Type 0 where
   pub offset : ℕ
   pub known : offset < length p.places
@@ -48,8 +50,8 @@ AreRising (i ∷ is) = AllByRecursion (λ (j : ℕ). i < j) is × AreRising is
 abbrev pub is_ordered : Plan → ℕ → ℕ → Bool
 is_ordered p s i = (message_at p s i).ordered
 
--- One list of numbers for all that was read: each member is that message and whole, no message comes twice, and the ordered
--- ones come in the order of their acceptance.
+-- One list of numbers for all that was read: each member is that message and whole, no message comes twice, and the
+-- ordered ones come in the order of their acceptance.
 pub record AreInOrder (p : Plan) (taken : List ℕ) (s : ℕ) (gots : List Got) (numbers : List ℕ) : Type 0 where
   pub named : Names p taken s gots numbers
   pub once : AreDistinct numbers
@@ -86,7 +88,8 @@ IsExactly p taken s gots = (count : ℕ) × IsPrefix p taken s count × (map let
 
 abbrev pub IsFront : Plan → List ℕ → ℕ → List Got → Type 0
 IsFront p taken s gots =
-    (count : ℕ) × (some : ℕ) × IsPrefix p taken s count × (some ≤ count) × (map letter_read gots ≡ letters_written p s some)
+    (count : ℕ) × (some : ℕ) × IsPrefix p taken s count × (some ≤ count)
+    × (map letter_read gots ≡ letters_written p s some)
 
 -- Message i is to be had: it is whole, and where it is ordered, so is each ordered message before it.
 pub record IsToBeHad (p : Plan) (taken : List ℕ) (s i : ℕ) : Type 0 where
@@ -115,7 +118,8 @@ pub record IsSafe (w : Direction) (s : ℕ) : Type 0 where
   pub all : IsKeptReliable w.sender.plan s → w.receiver.is_open ≡ true
       → (numbers : List ℕ) × AreAll w.sender.plan w.receiver.taken s (read_or_ready w s) numbers
 
--- The last ordered message read, as one past its number and one past its sequence number before that wraps; 0 where there is none.
+-- The last ordered message read, as one past its number and one past its sequence number before that wraps; 0 where
+-- there is none.
 abbrev pub number_of : Plan → Got → ℕ
 number_of p g = (place_at p g.from).message
 

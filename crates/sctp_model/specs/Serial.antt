@@ -1,4 +1,5 @@
--- Serial numbers (RFC 4960 section 1.6, RFC 1982): numbers of 16 or 32 bits that wrap, compared within half their range.
+-- Serial numbers (RFC 4960 section 1.6, RFC 1982): numbers of 16 or 32 bits that wrap, compared within half their
+-- range.
 use Rattle.std.specs.Prelude.{ℕ, ◌+◌, ◌-◌, ◌%◌, ◌^◌, Bool, ◌&&◌, ◌||◌, ◌==◌, nat_lt, if◌then◌else◌, Option, Some, None}
 
 -- how far the 16-bit number b lies past a
@@ -28,7 +29,8 @@ tsn initial offset = (initial + offset) % 2 ^ 32
 -- the offset nearest to `reach` that the TSN t spells; a TSN of exactly half the range away is read as the one behind
 abbrev pub offset_near : ℕ → ℕ → ℕ → ℕ
 offset_near initial reach t =
-    if nat_lt (past_32 (tsn initial reach) t) (2 ^ 31) then reach + past_32 (tsn initial reach) t else reach + past_32 (tsn initial reach) t - 2 ^ 32
+    if nat_lt (past_32 (tsn initial reach) t) (2 ^ 31) then reach + past_32 (tsn initial reach) t else
+    reach + past_32 (tsn initial reach) t - 2 ^ 32
 
 -- the offset that the TSN t spells, where it lies at or ahead of `reach`
 abbrev pub offset_ahead : ℕ → ℕ → ℕ → Option ℕ
@@ -39,4 +41,5 @@ offset_ahead initial reach t =
 abbrev pub offset_spelt : ℕ → ℕ → ℕ → Option ℕ
 offset_spelt initial reach t =
     if nat_lt (past_32 (tsn initial reach) t) (2 ^ 31) then Some (reach + past_32 (tsn initial reach) t)
-    else if nat_lt (reach + past_32 (tsn initial reach) t) (2 ^ 32) then None else Some (reach + past_32 (tsn initial reach) t - 2 ^ 32)
+    else if nat_lt (reach + past_32 (tsn initial reach) t) (2 ^ 32) then None else
+    Some (reach + past_32 (tsn initial reach) t - 2 ^ 32)

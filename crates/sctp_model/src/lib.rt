@@ -1,10 +1,18 @@
 //! Two ends of an association as definitions, and what is proved over them.
 #![tactic(auto)]
 
-ghost use Rattle.sctp_model.specs.Laws.{EachEventKeepsTheInvariant, OneDirectionIsSafe, TheInvariantHolds, TheInvariantIsEnough, NoMoreIsReleased, PiecesJoin, ReachIsGreatest, SacksAreExact, SequenceNumbersCompare, TheCursorIsPastTheLater, TsnsAheadSpellOffsets, TsnsBeforeTheInitialSpellNone, TsnsPastTheInitialSpellSome, TsnsSpellOffsets};
-ghost use Rattle.sctp_model.specs.Runs.{ClosedReadsNothing, DroppedUnsent, FirstAbandonedAndSkipped, LateForwardChangesNothing, LateNumberLeavesTheCursor, PiecesOutOfOrder, SacksReleaseOnce, SequenceNumbersWrap, StreamBeginsAnew, StreamsDoNotWait, UnorderedIsDropped, UnorderedIsReadFirst};
+ghost use Rattle.sctp_model.specs.Laws.{EachEventKeepsTheInvariant, OneDirectionIsSafe, TheInvariantHolds};
+ghost use Rattle.sctp_model.specs.Laws.{TheInvariantIsEnough, NoMoreIsReleased, PiecesJoin, ReachIsGreatest};
+ghost use Rattle.sctp_model.specs.Laws.{SacksAreExact, SequenceNumbersCompare, TheCursorIsPastTheLater};
+ghost use Rattle.sctp_model.specs.Laws.{TsnsAheadSpellOffsets, TsnsBeforeTheInitialSpellNone};
+ghost use Rattle.sctp_model.specs.Laws.{TsnsPastTheInitialSpellSome, TsnsSpellOffsets};
+ghost use Rattle.sctp_model.specs.Runs.{ClosedReadsNothing, DroppedUnsent, FirstAbandonedAndSkipped};
+ghost use Rattle.sctp_model.specs.Runs.{LateForwardChangesNothing, LateNumberLeavesTheCursor, PiecesOutOfOrder};
+ghost use Rattle.sctp_model.specs.Runs.{SacksReleaseOnce, SequenceNumbersWrap, StreamBeginsAnew, StreamsDoNotWait};
+ghost use Rattle.sctp_model.specs.Runs.{UnorderedIsDropped, UnorderedIsReadFirst};
 
-/// Serial numbers of 32 bits, as long as the offsets that they spell are less than half the range apart (RFC 4960 section 1.6).
+/// Serial numbers of 32 bits, as long as the offsets that they spell are less than half the range apart (RFC 4960
+/// section 1.6).
 pub fn tsns_spell_offsets()
     ensures near { TsnsSpellOffsets }
     ensures ahead { TsnsAheadSpellOffsets }
@@ -12,7 +20,8 @@ pub fn tsns_spell_offsets()
     ensures past { TsnsPastTheInitialSpellSome }
 {}
 
-/// Stream sequence numbers of 16 bits, as long as they are less than half the range apart (RFC 4960 sections 1.6 and 6.5).
+/// Stream sequence numbers of 16 bits, as long as they are less than half the range apart (RFC 4960 sections 1.6 and
+/// 6.5).
 pub fn sequence_numbers_compare()
     ensures { SequenceNumbersCompare }
 {}
@@ -44,17 +53,17 @@ pub fn runs_compute()
     ensures anew { StreamBeginsAnew }
 {}
 
-/// One direction of an association over every list of what may happen, for many streams at once: what is read was accepted,
-/// whole, at most once and in order; on a reliable stream, what was or can be read at an open receiver is exactly the longest
-/// accepted front whose pieces were all taken in, and no byte is released earlier.
+/// One direction of an association over every list of what may happen, for many streams at once: what is read was
+/// accepted, whole, at most once and in order; on a reliable stream, what was or can be read at an open receiver is
+/// exactly the longest accepted front whose pieces were all taken in, and no byte is released earlier.
 pub fn one_direction_is_safe()
     ensures safe { OneDirectionIsSafe }
     ensures invariant { TheInvariantHolds }
 {}
 
-/// What carries that theorem, for whoever builds on it: each event keeps the invariant from any direction on that is within the
-/// limits, and the invariant with the limits gives the promise. It fixes each ordered cursor too, and no more
-/// bytes are released than were accepted.
+/// What carries that theorem, for whoever builds on it: each event keeps the invariant from any direction on that is
+/// within the limits, and the invariant with the limits gives the promise. It fixes each ordered cursor too, and no
+/// more bytes are released than were accepted.
 pub fn the_invariant_carries()
     ensures kept { EachEventKeepsTheInvariant }
     ensures enough { TheInvariantIsEnough }

@@ -1,5 +1,7 @@
 -- The sender of DATA (RFC 4960 sections 6 and 7).
-use Rattle.std.specs.Prelude.{ℕ, is_some, zero, suc, not, nat_lt, ◌++◌, slice_set, Bool, false, List, [], ◌∷◌, ◌+◌, ◌-◌, ◌*◌, ◌/◌, ◌%◌, ◌^◌, ◌==◌, ◌&&◌, if◌then◌else◌, length, min, max, nat_le, slice_get, Option, Some, None}
+use Rattle.std.specs.Prelude.{ℕ, is_some, zero, suc, not, nat_lt, ◌++◌, slice_set, Bool, false, List, [], ◌∷◌, ◌+◌, ◌-◌}
+use Rattle.std.specs.Prelude.{◌*◌, ◌/◌, ◌%◌, ◌^◌, ◌==◌, ◌&&◌, if◌then◌else◌, length, min, max, nat_le, slice_get}
+use Rattle.std.specs.Prelude.{Option, Some, None}
 use Rattle.sctp_wire_types.specs.Serial.{tsn_past, tsn_gt, tsn_gte}
 use Rattle.sctp_wire_types.specs.declared.chunk.ChunkPayloadData.{ChunkPayloadData}
 use Rattle.sctp_parts.specs.declared.timer.Timer.TheVariants as names
@@ -9,7 +11,8 @@ use Rattle.sctp_outbound_queue.specs.declared.message.Attributes.{Attributes}
 use Rattle.sctp_outbound_queue.specs.declared.message.InFlight.{InFlight}
 use Rattle.sctp_outbound_queue.specs.Waiting.{Waiting}
 use Rattle.sctp_outbound_queue.specs.Message.{is_outstanding, outstanding_bytes, counted_again}
-use Rattle.sctp_outbound_queue.specs.Outbound.{empty_outbound, tsn_at, next_tsn_of, outstanding_of, without_first, pieces_waiting, sent_next}
+use Rattle.sctp_outbound_queue.specs.Outbound.{empty_outbound, tsn_at, next_tsn_of, outstanding_of, without_first}
+use Rattle.sctp_outbound_queue.specs.Outbound.{pieces_waiting, sent_next}
 use Rattle.sctp_streams.specs.Streams.{StreamMap, released_in}
 use Rattle.sctp_outbound.specs.declared.sender.Sender.{Sender}
 use Rattle.sctp_outbound.specs.declared.sender.SackOutcome.{SackOutcome}
@@ -50,8 +53,8 @@ cumulative_tsn_ack_point_of s = (s.queue.first_tsn + 2 ^ 32 - 1) % 2 ^ 32
 abbrev pub tsns_up_to : Sender → ℕ → ℕ
 tsns_up_to s cumulative_tsn_ack = tsn_past (cumulative_tsn_ack_point_of s) cumulative_tsn_ack
 
--- a piece gives a measurement: it is outstanding, was sent once, and its TSN is not below the one from which on times are
--- measured
+-- a piece gives a measurement: it is outstanding, was sent once, and its TSN is not below the one from which on times
+-- are measured
 abbrev pub is_measured : Sender → ℕ → InFlight → Bool
 is_measured s tsn p = is_outstanding p && (p.sent_count == 1) && tsn_gte tsn s.min_tsn2measure_rtt
 
@@ -68,7 +71,8 @@ sender_after_first s = sender_after (slice_get s.queue.in_flight 0) s
 
 abbrev pub estimate_after : Option InFlight → Sender → ℕ → Estimate → Estimate
 estimate_after None s now e = e
-estimate_after (Some p) s now e = if is_measured s s.queue.first_tsn p then measured ((now - p.since) / 1000000) e else e
+estimate_after (Some p) s now e =
+    if is_measured s s.queue.first_tsn p then measured ((now - p.since) / 1000000) e else e
 
 -- the estimate once the first piece in flight is acknowledged (RFC 4960 section 6.3.1)
 abbrev pub estimate_after_first : Sender → ℕ → Estimate → Estimate
@@ -92,8 +96,8 @@ abbrev pub acknowledged : ℕ → ℕ → Sender × Estimate × StreamMap → Se
 acknowledged zero now all = all
 acknowledged (suc n) now all = acknowledged n now (after_first now all)
 
--- what a cumulative TSN ack point is to the sender (RFC 4960 section 6.2.1): behind the one before it, beyond what is in
--- flight, or taken
+-- what a cumulative TSN ack point is to the sender (RFC 4960 section 6.2.1): behind the one before it, beyond what is
+-- in flight, or taken
 abbrev pub sack_outcome : Sender → ℕ → SackOutcome
 sack_outcome s cumulative_tsn_ack =
     if tsn_gt (cumulative_tsn_ack_point_of s) cumulative_tsn_ack then outcomes.Older else
@@ -161,7 +165,8 @@ resent_pieces room (p ∷ ps) =
     counted_again p ∷ resent_pieces (room - length p.user_data) ps
 
 -- what is left of so many bytes for the pieces behind one: None where it is marked and does not fit
-abbrev pub tried_again : Option InFlight → Sender → ℕ → ℕ → List ChunkPayloadData → Sender × List ChunkPayloadData × Option ℕ
+abbrev pub tried_again : Option InFlight → Sender → ℕ → ℕ → List ChunkPayloadData
+    → Sender × List ChunkPayloadData × Option ℕ
 tried_again None s index room out = (s, out, None)
 tried_again (Some p) s index room out =
     if not p.retransmit then (s, out, Some room) else
@@ -234,7 +239,8 @@ sent_one [] s out now = (s, out)
 sent_one (m ∷ ms) s out now =
     (record s { queue = sent_next s.queue now }, out ++ next_chunk_of m (next_tsn_of s.queue) ∷ [])
 
--- of the first n pieces that wait those go out, in the order in which they were accepted, that both windows have room for
+-- of the first n pieces that wait those go out, in the order in which they were accepted, that both windows have room
+-- for
 abbrev pub sent_within : ℕ → Sender → List ChunkPayloadData → ℕ → Sender × List ChunkPayloadData
 sent_within zero s out now = (s, out)
 sent_within (suc n) s out now =

@@ -3,8 +3,14 @@ ghost use Rattle.sctp_parts.specs.Estimate.{measured};
 ghost use Rattle.sctp_outbound_queue.specs.Message.{outstanding_bytes};
 ghost use Rattle.sctp_outbound_queue.specs.Outbound.{all_marked, after_piece, pieces_waiting};
 ghost use Rattle.sctp_streams.specs.Streams.{released_in};
-ghost use Rattle.std.specs.Prelude.{true, is_some, ◌≡◌, ◌+◌, ◌-◌, ◌/◌, if◌then◌else◌, ◌≤◌, ◌<◌, ◌^◌, ◌++◌, ◌∷◌, [], OnErr, OnOk, IfOk, IfSome, length, slice_get, nat_lt};
-ghost use Rattle.sctp_outbound.specs.Sender.{goes_again, resends, sends_new, fresh_sender, window_left, marks, cumulative_tsn_ack_point_of, tsns_up_to, after_first, acknowledged, sack_outcome, with_first_window, with_window, t3_after_sack, chunk_of, next_chunk_of, data_of, can_send_next, is_measured, after_resending, resent_by, alone_length, with_in_flight, resent_pieces, resent_chunks, tried_again, sent_new, sent_within, sent_one};
+ghost use Rattle.std.specs.Prelude.{true, is_some, ◌≡◌, ◌+◌, ◌-◌, ◌/◌, if◌then◌else◌, ◌≤◌, ◌<◌, ◌^◌, ◌++◌, ◌∷◌, []};
+ghost use Rattle.std.specs.Prelude.{OnErr, OnOk, IfOk, IfSome, length, slice_get, nat_lt};
+ghost use Rattle.sctp_outbound.specs.Sender.{goes_again, resends, sends_new, fresh_sender, window_left, marks};
+ghost use Rattle.sctp_outbound.specs.Sender.{cumulative_tsn_ack_point_of, tsns_up_to, after_first, acknowledged};
+ghost use Rattle.sctp_outbound.specs.Sender.{sack_outcome, with_first_window, with_window, t3_after_sack, chunk_of};
+ghost use Rattle.sctp_outbound.specs.Sender.{next_chunk_of, data_of, can_send_next, is_measured, after_resending};
+ghost use Rattle.sctp_outbound.specs.Sender.{resent_by, alone_length, with_in_flight, resent_pieces, resent_chunks};
+ghost use Rattle.sctp_outbound.specs.Sender.{tried_again, sent_new, sent_within, sent_one};
 
 use bytes::Bytes;
 use sctp_outbound_queue::{Attributes, InFlight, OutboundQueue, PendingMessage};
@@ -100,11 +106,17 @@ impl Sender {
         window: u32,
         now: Instant,
     ) -> SackOutcome
-        ensures older { (result ≡ SackOutcome.Older) → (self.new ≡ self.old) × (timers.new ≡ timers.old) × (rto.new ≡ rto.old) × (streams.new ≡ streams.old) }
-        ensures unknown { (result ≡ SackOutcome.NotInFlight) → (self.new ≡ self.old) × (timers.new ≡ timers.old) × (rto.new ≡ rto.old) × (streams.new ≡ streams.old) }
+        ensures older { (result ≡ SackOutcome.Older)
+            → (self.new ≡ self.old) × (timers.new ≡ timers.old) × (rto.new ≡ rto.old) × (streams.new ≡ streams.old) }
+        ensures unknown { (result ≡ SackOutcome.NotInFlight)
+            → (self.new ≡ self.old) × (timers.new ≡ timers.old) × (rto.new ≡ rto.old) × (streams.new ≡ streams.old) }
         ensures outcome { result ≡ sack_outcome self.old cumulative_tsn_ack }
-        ensures taken { (result ≡ SackOutcome.Taken) → acknowledged (tsns_up_to self.old cumulative_tsn_ack) now (with_window self.old window, rto.old, streams.old) ≡ (self.new, rto.new, streams.new) }
-        ensures timer { (result ≡ SackOutcome.Taken) → timers.new ≡ t3_after_sack (nat_lt 0 (tsns_up_to self.old cumulative_tsn_ack)) (length self.new.queue.in_flight) now rto.new.rto timers.old }
+        ensures taken { (result ≡ SackOutcome.Taken)
+            → acknowledged (tsns_up_to self.old cumulative_tsn_ack) now
+            (with_window self.old window, rto.old, streams.old) ≡ (self.new, rto.new, streams.new) }
+        ensures timer { (result ≡ SackOutcome.Taken)
+            → timers.new ≡ t3_after_sack (nat_lt 0 (tsns_up_to self.old cumulative_tsn_ack))
+            (length self.new.queue.in_flight) now rto.new.rto timers.old }
     {
         if sna32gt(self.cumulative_tsn_ack_point(), cumulative_tsn_ack) {
             return SackOutcome::Older;
@@ -179,8 +191,10 @@ impl Sender {
         next_tsn: u32,
         now: Instant,
     )
-        ensures sender { self.new ≡ (if is_measured self.old tsn piece.now then record self.old { min_tsn2measure_rtt = next_tsn } else self.old) }
-        ensures estimate { rto.new ≡ (if is_measured self.old tsn piece.now then measured ((now - piece.now.since) / 1000000) rto.old else rto.old) }
+        ensures sender { self.new ≡ (if is_measured self.old tsn piece.now then
+            record self.old { min_tsn2measure_rtt = next_tsn } else self.old) }
+        ensures estimate { rto.new ≡ (if is_measured self.old tsn piece.now then
+            measured ((now - piece.now.since) / 1000000) rto.old else rto.old) }
     {
         if piece.is_outstanding()
             && piece.sent_count == 1
@@ -232,9 +246,12 @@ impl Sender {
         room: u64,
         out: &mut Vec<ChunkPayloadData>,
     ) -> Result<(), AllocError>
-        ensures sender { OnOk result (self.new ≡ with_in_flight self.old (resent_pieces room self.old.queue.in_flight)) }
-        ensures chunks { OnOk result (out.new.items ≡ out.old.items ++ resent_chunks self.old.queue.first_tsn 0 room self.old.queue.in_flight) }
-        ensures grows { OnErr result (nat_lt 0 (length (resent_chunks self.old.queue.first_tsn 0 room self.old.queue.in_flight)) ≡ true) }
+        ensures sender { OnOk result
+            (self.new ≡ with_in_flight self.old (resent_pieces room self.old.queue.in_flight)) }
+        ensures chunks { OnOk result
+            (out.new.items ≡ out.old.items ++ resent_chunks self.old.queue.first_tsn 0 room self.old.queue.in_flight) }
+        ensures grows { OnErr result
+            (nat_lt 0 (length (resent_chunks self.old.queue.first_tsn 0 room self.old.queue.in_flight)) ≡ true) }
     {
         let mut left = room;
         for index in 0..self.queue.inflight_len() {
@@ -246,15 +263,16 @@ impl Sender {
         Ok(())
     }
 
-    // Sends the piece at a place again, where it is marked, and answers what is left of `room` bytes; None where it does
-    // not fit.
+    // Sends the piece at a place again, where it is marked, and answers what is left of `room` bytes; None where it
+    // does not fit.
     fn resend(
         &mut self,
         index: usize,
         room: u64,
         out: &mut Vec<ChunkPayloadData>,
     ) -> Result<Option<u64>, AllocError>
-        ensures exact { IfOk result (λ rest. tried_again (slice_get self.old.queue.in_flight index) self.old index room out.old.items ≡ (self.new, out.new.items, rest)) }
+        ensures exact { IfOk result (λ rest. tried_again (slice_get self.old.queue.in_flight index) self.old index room
+            out.old.items ≡ (self.new, out.new.items, rest)) }
         ensures grows { OnErr result (goes_again (slice_get self.old.queue.in_flight index) room ≡ true) }
     {
         let Some(piece) = self.queue.get(index) else {
@@ -300,8 +318,10 @@ impl Sender {
         out: &mut Vec<ChunkPayloadData>,
         now: Instant,
     ) -> Result<(), AllocError>
-        ensures exact { OnOk result (sent_within (pieces_waiting self.old.queue.pending) self.old out.old.items now ≡ (self.new, out.new.items)) }
-        ensures grows { OnErr result (nat_lt (length out.old.items) (length (sent_within (pieces_waiting self.old.queue.pending) self.old out.old.items now).1) ≡ true) }
+        ensures exact { OnOk result (sent_within (pieces_waiting self.old.queue.pending) self.old out.old.items now
+            ≡ (self.new, out.new.items)) }
+        ensures grows { OnErr result (nat_lt (length out.old.items)
+            (length (sent_within (pieces_waiting self.old.queue.pending) self.old out.old.items now).1) ≡ true) }
     {
         while self.next_fits() {
             self.send_one(out, now)?;
@@ -312,7 +332,8 @@ impl Sender {
     // Puts the next piece that waits in flight.
     #[tactic(auto, unfolding(crate::specs::Sender::sent_one))]
     fn send_one(&mut self, out: &mut Vec<ChunkPayloadData>, now: Instant) -> Result<(), AllocError>
-        ensures sent { OnOk result (sent_one self.old.queue.pending self.old out.old.items now ≡ (self.new, out.new.items)) }
+        ensures sent { OnOk result
+            (sent_one self.old.queue.pending self.old out.old.items now ≡ (self.new, out.new.items)) }
         ensures pending { OnOk result (self.new.queue.pending ≡ after_piece self.old.queue.pending) }
         ensures grows { OnErr result (is_some (slice_get self.old.queue.pending 0) ≡ true) }
     {
@@ -342,7 +363,8 @@ impl Sender {
 
 // Gives an acknowledged piece's bytes back to its stream, those that were outstanding until then.
 fn release(streams: &mut Streams, piece: &InFlight)
-    ensures { streams.new ≡ released_in streams.old piece.now.message.stream_identifier piece.now.message.generation (outstanding_bytes piece.now) }
+    ensures { streams.new ≡ released_in streams.old piece.now.message.stream_identifier piece.now.message.generation
+        (outstanding_bytes piece.now) }
 {
     streams.release(
         piece.message.stream_identifier,

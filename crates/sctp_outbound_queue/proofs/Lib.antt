@@ -1,3 +1,3 @@
-pub mod Dropped
-pub mod Leaving
-pub mod Sums
+pub mod ByteSums
+pub mod BytesLeft
+pub mod ExpiredUnsent

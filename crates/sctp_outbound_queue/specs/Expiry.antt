@@ -5,7 +5,8 @@ use Rattle.std.specs.List.{list_any}
 use Rattle.sctp_outbound_queue.specs.declared.message.InFlight.{InFlight}
 use Rattle.sctp_outbound_queue.specs.declared.queue.Released.{Released}
 use Rattle.sctp_outbound_queue.specs.Waiting.{Waiting}
-use Rattle.sctp_outbound_queue.specs.Message.{message_bytes, is_of, waiting_started, sent_started, is_expired, is_expired_unsent, moved_down}
+use Rattle.sctp_outbound_queue.specs.Message.{message_bytes, is_of, waiting_started, sent_started, is_expired}
+use Rattle.sctp_outbound_queue.specs.Message.{is_expired_unsent, moved_down}
 use Rattle.sctp_outbound_queue.specs.Outbound.{Outbound, tsn_at, tail_dropped, released}
 
 -- the time of each message that has one runs

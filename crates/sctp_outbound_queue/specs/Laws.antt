@@ -3,7 +3,8 @@ use Rattle.std.specs.Prelude.{◌≡◌, ℕ, ◌+◌, Bool, true, not, ◌||◌
 use Rattle.std.specs.List.{list_all}
 use Rattle.sctp_outbound_queue.specs.declared.queue.Released.{Released}
 use Rattle.sctp_outbound_queue.specs.Message.{is_of}
-use Rattle.sctp_outbound_queue.specs.Outbound.{Outbound, waiting_of, outstanding_of, sent_next, without_first, bytes_of_piece, acked_at, abandoned_at}
+use Rattle.sctp_outbound_queue.specs.Outbound.{Outbound, waiting_of, outstanding_of, sent_next, without_first}
+use Rattle.sctp_outbound_queue.specs.Outbound.{bytes_of_piece, acked_at, abandoned_at}
 use Rattle.sctp_outbound_queue.specs.Expiry.{after_expiry, after_tail_expiry}
 
 -- the bytes that wait or are outstanding
@@ -44,4 +45,6 @@ abbrev pub is_whole : ℕ → Outbound → Bool
 is_whole id q = list_all (λ p. not (is_of id p) || p.abandoned) q.in_flight
 
 abbrev pub AbandonsWhole : Type 0
-AbandonsWhole = (q r : Outbound) (tsn : ℕ) (a : Released) → abandoned_at q tsn ≡ (r, Some a) → is_whole a.message.message_id r ≡ true
+AbandonsWhole =
+    (q r : Outbound) (tsn : ℕ) (a : Released) → abandoned_at q tsn ≡ (r, Some a)
+    → is_whole a.message.message_id r ≡ true

@@ -1,12 +1,15 @@
 -- What waits to be sent and what is in flight (RFC 4960 section 6.1).
-use Rattle.std.specs.Prelude.{◌≡◌, ℕ, Bool, List, [], ◌∷◌, ◌++◌, ◌+◌, ◌-◌, ◌<◌, ◌%◌, ◌^◌, ◌==◌, ◌||◌, if◌then◌else◌, length, map, sum_by, slice_get, slice_set, Option, Some, None, not, false}
+use Rattle.std.specs.Prelude.{◌≡◌, ℕ, Bool, List, [], ◌∷◌, ◌++◌, ◌+◌, ◌-◌, ◌<◌, ◌%◌, ◌^◌, ◌==◌, ◌||◌, if◌then◌else◌}
+use Rattle.std.specs.Prelude.{length, map, sum_by, slice_get, slice_set, Option, Some, None, not, false}
 use Rattle.std.specs.List.{list_any, position_or_len}
 use Rattle.sctp_wire_types.specs.Serial.{tsn_past}
 use Rattle.sctp_outbound_queue.specs.declared.message.InFlight.{InFlight}
 use Rattle.sctp_outbound_queue.specs.declared.message.Attributes.{Attributes}
 use Rattle.sctp_outbound_queue.specs.declared.queue.Released.{Released}
 use Rattle.sctp_outbound_queue.specs.Waiting.{Waiting}
-use Rattle.sctp_outbound_queue.specs.Message.{message_bytes, piece_count, accepted, sent_once, without_piece, marker_of, is_of_stream, is_waiting_of_stream, outstanding_bytes, outstanding_bytes_of, acked, marked_again, flagged}
+use Rattle.sctp_outbound_queue.specs.Message.{message_bytes, piece_count, accepted, sent_once, without_piece, marker_of}
+use Rattle.sctp_outbound_queue.specs.Message.{is_of_stream, is_waiting_of_stream, outstanding_bytes}
+use Rattle.sctp_outbound_queue.specs.Message.{outstanding_bytes_of, acked, marked_again, flagged}
 
 pub record Outbound : Type 0 where
   -- the messages that wait to be sent, in the order in which they were accepted; of the first one a part may be sent
@@ -29,8 +32,8 @@ outstanding_of pieces = sum_by outstanding_bytes pieces
 abbrev pub outstanding_of_message : ℕ → List InFlight → ℕ
 outstanding_of_message id pieces = sum_by (outstanding_bytes_of id) pieces
 
--- two numbers that are kept as the queue changes are the bytes that wait and the outstanding bytes, and both together are
--- below the greatest number of 64 bits
+-- two numbers that are kept as the queue changes are the bytes that wait and the outstanding bytes, and both together
+-- are below the greatest number of 64 bits
 abbrev pub AreKept : List Waiting → List InFlight → ℕ → ℕ → Type 0
 AreKept pending in_flight waiting outstanding =
     (waiting ≡ waiting_of pending) × (outstanding ≡ outstanding_of in_flight) × (waiting + outstanding < 2 ^ 64 - 1)
@@ -123,8 +126,8 @@ tail_dropped_from (m ∷ ms) q id =
     (record q { pending = ms; in_flight = q.in_flight ++ marker_of m.message ∷ [] }, message_bytes m)
     else (q, 0)
 
--- if the first message that waits is this one: its unsent pieces are dropped, and a marker takes the next TSN; the bytes
--- dropped
+-- if the first message that waits is this one: its unsent pieces are dropped, and a marker takes the next TSN; the
+-- bytes dropped
 abbrev pub tail_dropped : Outbound → ℕ → Outbound × ℕ
 tail_dropped q id = tail_dropped_from q.pending q id
 

@@ -1,8 +1,9 @@
 // What holds of the queue's calls together.
-ghost use Rattle.sctp_outbound_queue.specs.Laws.{SendsBytes, PopsBytes, AcknowledgesBytes, AbandonsBytes, ExpiresBytes, ExpiresTailBytes, AbandonsWhole};
+ghost use Rattle.sctp_outbound_queue.specs.Laws.{SendsBytes, PopsBytes, AcknowledgesBytes, AbandonsBytes, ExpiresBytes};
+ghost use Rattle.sctp_outbound_queue.specs.Laws.{ExpiresTailBytes, AbandonsWhole};
 
-/// Sending leaves the number of bytes that wait or are outstanding, and each call that answers bytes answers exactly those
-/// by which they became fewer.
+/// Sending leaves the number of bytes that wait or are outstanding, and each call that answers bytes answers exactly
+/// those by which they became fewer.
 pub fn released_bytes_are_exact()
     ensures sent { SendsBytes }
     ensures popped { PopsBytes }

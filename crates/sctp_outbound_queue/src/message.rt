@@ -1,6 +1,11 @@
 // Messages, cut into pieces, and pieces in flight.
 ghost use Rattle.std.specs.Prelude.{◌≡◌, ◌==◌, ◌+◌, ◌-◌, ◌^◌, length, min, fold};
-ghost use Rattle.sctp_outbound_queue.specs.Message.{message_bytes, piece_count, accepted, sent_once, without_piece, marker_of, is_of, is_of_stream, is_waiting_of_stream, is_outstanding, outstanding_bytes, outstanding_bytes_of, acked, marked_again, counted_again, counted_fast, missed, flagged, deadline_under, started, waiting_started, sent_started, is_expired, is_expired_piece, is_expired_unsent, share_ssns, moved_down};
+ghost use Rattle.sctp_outbound_queue.specs.Message.{message_bytes, piece_count, accepted, sent_once, without_piece};
+ghost use Rattle.sctp_outbound_queue.specs.Message.{marker_of, is_of, is_of_stream, is_waiting_of_stream};
+ghost use Rattle.sctp_outbound_queue.specs.Message.{is_outstanding, outstanding_bytes, outstanding_bytes_of, acked};
+ghost use Rattle.sctp_outbound_queue.specs.Message.{marked_again, counted_again, counted_fast, missed, flagged};
+ghost use Rattle.sctp_outbound_queue.specs.Message.{deadline_under, started, waiting_started, sent_started, is_expired};
+ghost use Rattle.sctp_outbound_queue.specs.Message.{is_expired_piece, is_expired_unsent, share_ssns, moved_down};
 
 use bytes::Bytes;
 use sctp_wire_types::{Instant, PayloadProtocolIdentifier, Policy, StreamId};

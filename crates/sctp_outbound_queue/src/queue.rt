@@ -1,10 +1,18 @@
 // Messages that wait to be sent, and pieces in flight.
-ghost use Rattle.std.specs.Prelude.{◌≡◌, ◌==◌, ◌&&◌, ◌+◌, ◌-◌, ◌^◌, length, map, min, nat_lt, position, slice_get, IfOk, OnOk, OnErr};
+ghost use Rattle.std.specs.Prelude.{◌≡◌, ◌==◌, ◌&&◌, ◌+◌, ◌-◌, ◌^◌, length, map, min, nat_lt, position, slice_get};
+ghost use Rattle.std.specs.Prelude.{IfOk, OnOk, OnErr};
 ghost use Rattle.std.specs.Option.{option_copied, option_map};
 ghost use Rattle.sctp_wire_types.specs.Serial.{tsn_past};
-ghost use Rattle.sctp_outbound_queue.specs.Message.{is_outstanding, is_expired_piece, is_expired_unsent, counted_again, counted_fast, missed, marked_again, flagged, waiting_started, sent_started, moved_down, sent_once};
-ghost use Rattle.sctp_outbound_queue.specs.Outbound.{empty_outbound, tsn_at, next_tsn_of, waiting_of, outstanding_of, outstanding_of_message, pieces_waiting, with_message, sent_next, after_piece, without_first, changed_at, acked_at, piece_at, all_marked, has_stream, abandoned_in_front_of, tail_dropped, all_flagged, abandoned_at, is_abandoned_piece};
-ghost use Rattle.sctp_outbound_queue.specs.Expiry.{all_started, first_tsn_that, without_expired, after_expiry, after_tail_expiry, is_expired_tail};
+ghost use Rattle.sctp_outbound_queue.specs.Message.{is_outstanding, is_expired_piece, is_expired_unsent, counted_again};
+ghost use Rattle.sctp_outbound_queue.specs.Message.{counted_fast, missed, marked_again, flagged, waiting_started};
+ghost use Rattle.sctp_outbound_queue.specs.Message.{sent_started, moved_down, sent_once};
+ghost use Rattle.sctp_outbound_queue.specs.Outbound.{empty_outbound, tsn_at, next_tsn_of, waiting_of, outstanding_of};
+ghost use Rattle.sctp_outbound_queue.specs.Outbound.{outstanding_of_message, pieces_waiting, with_message, sent_next};
+ghost use Rattle.sctp_outbound_queue.specs.Outbound.{after_piece, without_first, changed_at, acked_at, piece_at};
+ghost use Rattle.sctp_outbound_queue.specs.Outbound.{all_marked, has_stream, abandoned_in_front_of, tail_dropped};
+ghost use Rattle.sctp_outbound_queue.specs.Outbound.{all_flagged, abandoned_at, is_abandoned_piece};
+ghost use Rattle.sctp_outbound_queue.specs.Expiry.{all_started, first_tsn_that, without_expired, after_expiry};
+ghost use Rattle.sctp_outbound_queue.specs.Expiry.{after_tail_expiry, is_expired_tail};
 
 use crate::walks::{
     any_of_message, any_of_stream, any_waiting_of_stream, bytes_of_message, drop_expired,
@@ -273,8 +281,8 @@ impl OutboundQueue {
         any_waiting_of_stream(&self.pending, id) || any_of_stream(&self.in_flight, id)
     }
 
-    /// How many of the first pieces in flight are abandoned, one after another: so far past the TSN before the first one
-    /// lies the advanced peer ack point (RFC 3758 section 3.5).
+    /// How many of the first pieces in flight are abandoned, one after another: so far past the TSN before the first
+    /// one lies the advanced peer ack point (RFC 3758 section 3.5).
     pub fn abandoned_in_front(&self) -> usize
         ensures { result ≡ abandoned_in_front_of self.now.in_flight }
     {
@@ -295,8 +303,8 @@ impl OutboundQueue {
     }
 
     /// Abandons the message of a TSN in flight whole (RFC 3758 section 3.5): every piece of it that is in flight, an
-    /// acknowledged one too, and its unsent pieces, for which a marker takes the next TSN. Answers what is released; None
-    /// where the TSN is not in flight.
+    /// acknowledged one too, and its unsent pieces, for which a marker takes the next TSN. Answers what is released;
+    /// None where the TSN is not in flight.
     pub fn abandon(&mut self, tsn: u32) -> Result<Option<Released>, AllocError>
         ensures ok { IfOk result (λ released. abandoned_at self.old tsn ≡ (self.new, released)) }
         ensures err { OnErr result (self.new ≡ self.old) }

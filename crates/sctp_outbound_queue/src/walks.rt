@@ -1,8 +1,12 @@
 // What goes over a list of the queue.
-ghost use Rattle.std.specs.Prelude.{◌≡◌, ◌+◌, ◌-◌, ◌^◌, ◌<◌, ◌≤◌, ◌++◌, not, length, map, min, fold, find, take, drop, position, slice_get, IfSome};
+ghost use Rattle.std.specs.Prelude.{◌≡◌, ◌+◌, ◌-◌, ◌^◌, ◌<◌, ◌≤◌, ◌++◌, not, length, map, min, fold, find, take, drop};
+ghost use Rattle.std.specs.Prelude.{position, slice_get, IfSome};
 ghost use Rattle.std.specs.List.{list_any};
 ghost use Rattle.std.specs.Option.{option_map};
-ghost use Rattle.sctp_outbound_queue.specs.Message.{piece_count, is_of, is_of_stream, is_waiting_of_stream, is_outstanding, outstanding_bytes_of, is_expired_piece, is_expired_unsent, marked_again, flagged, waiting_started, sent_started, moved_down, sent_once};
+ghost use Rattle.sctp_outbound_queue.specs.Message.{piece_count, is_of, is_of_stream, is_waiting_of_stream};
+ghost use Rattle.sctp_outbound_queue.specs.Message.{is_outstanding, outstanding_bytes_of, is_expired_piece};
+ghost use Rattle.sctp_outbound_queue.specs.Message.{is_expired_unsent, marked_again, flagged, waiting_started};
+ghost use Rattle.sctp_outbound_queue.specs.Message.{sent_started, moved_down, sent_once};
 ghost use Rattle.sctp_outbound_queue.specs.Outbound.{outstanding_of_message, pieces_waiting, after_piece};
 ghost use Rattle.sctp_outbound_queue.specs.Expiry.{without_expired};
 
@@ -118,7 +122,8 @@ fn first_expired(messages: &VecDeque<PendingMessage>, now: Instant) -> Option<us
 
 fn move_down_from(messages: &mut VecDeque<PendingMessage>, index: usize, dropped: &PendingMessage)
     requires { index ≤ length messages.old.items }
-    ensures { messages.new.items ≡ take index messages.old.items ++ map (moved_down dropped.now.message) (drop index messages.old.items) }
+    ensures { messages.new.items ≡ take index messages.old.items
+        ++ map (moved_down dropped.now.message) (drop index messages.old.items) }
 {
     let later = messages.make_contiguous();
     move_down(&mut later[index..], &dropped.message);

@@ -1,5 +1,6 @@
 -- Along the steps of a pair, what was written and read as the steps and their replies tell it is what its worlds have.
-use Rattle.std.proofs.Common.{◌≡◌, refl, sym, ap, ◌∙◌, subst, ⊎_elim, ℕ, ◌+◌, ◌<◌, arith, Bool, true, false, eqb, ◌&&◌, if◌then◌else◌, List, [], ◌∷◌, ◌++◌, length, Option, Some, None}
+use Rattle.std.proofs.Common.{◌≡◌, refl, sym, ap, ◌∙◌, subst, ⊎_elim, ℕ, ◌+◌, ◌<◌, arith, Bool, true, false, eqb, ◌&&◌}
+use Rattle.std.proofs.Common.{if◌then◌else◌, List, [], ◌∷◌, ◌++◌, length, Option, Some, None}
 use Rattle.std.proofs.lemmas.Bool.{cases_Bool, true≢false}
 use Rattle.std.proofs.lemmas.List.{append-nil, append_assoc, map-append}
 use Rattle.std.specs.List.{AllByRecursion}
@@ -21,15 +22,19 @@ use Rattle.sctp_pair.specs.declared.step.Side2.{Side2}
 use Rattle.sctp_pair.specs.declared.step.Side2.TheVariants as sides
 use Rattle.sctp_pair.specs.declared.step.Step.{Step}
 use Rattle.sctp_pair.specs.declared.step.Step.TheVariants as steps
-use Rattle.sctp_pair.specs.Callers.{AcceptFew, CameBy, ComesOn, HoldsOn, IsFrontOf, NothingIsReadUnbrought, ReadsAreFronts, accepted_in, bytes_of, bytes_read, bytes_written, delivers_to, read_in, read_undelivered, written_in}
+use Rattle.sctp_pair.specs.Callers.{AcceptFew, CameBy, ComesOn, HoldsOn, IsFrontOf, NothingIsReadUnbrought}
+use Rattle.sctp_pair.specs.Callers.{ReadsAreFronts, accepted_in, bytes_of, bytes_read, bytes_written, delivers_to}
+use Rattle.sctp_pair.specs.Callers.{read_in, read_undelivered, written_in}
 use Rattle.sctp_pair.specs.Counted.{AreFew, FitsCounted, RunsCounted, pieces_a, pieces_b}
 use Rattle.sctp_pair.specs.Ends.{Ends, end_of}
 use Rattle.sctp_pair.specs.Steps.{Runs, Steps, Writes}
-use Rattle.sctp_pair.specs.World.{EndsSpan, HasData, IsDirectionStep, IsWorldStep, World, accepted_at, empty_world, is_side, message_read, messages_on, other_side, packet_brought}
+use Rattle.sctp_pair.specs.World.{EndsSpan, HasData, IsDirectionStep, IsWorldStep, World, accepted_at, empty_world}
+use Rattle.sctp_pair.specs.World.{is_side, message_read, messages_on, other_side, packet_brought}
 use Rattle.sctp_pair.proofs.Counted.{runs_lead_counted}
-use Rattle.sctp_pair.proofs.Letters.{IsKept, bytes_accepted, bytes_got, nothing_read_of_none, read_grows, reads_are_a_front}
+use Rattle.sctp_pair.proofs.MessageBytes.{IsKept, bytes_accepted, bytes_got, nothing_read_of_none, read_grows}
+use Rattle.sctp_pair.proofs.MessageBytes.{reads_are_a_front}
 use Rattle.sctp_pair.proofs.Promised.{safe_world}
-use Rattle.sctp_pair.proofs.Running.{runs_join}
+use Rattle.sctp_pair.proofs.RunsJoined.{runs_join}
 use Rattle.sctp_pair.proofs.WriteCall.{first_none}
 
 -- One step
@@ -48,7 +53,8 @@ step_from : (x : Side2) (a : Step) (r : Reply) (w v : World) → IsWorldStep a w
 step_from sides.A a r w v h = h.ab_step
 step_from sides.B a r w v h = h.ba_step
 
-told_read_if : (c : Bool) (m : Option letters.ReceivedMessage) → bytes_of (if c then m else None) ≡ (if c then bytes_of m else [])
+told_read_if : (c : Bool) (m : Option letters.ReceivedMessage)
+    → bytes_of (if c then m else None) ≡ (if c then bytes_of m else [])
 told_read_if true m = refl
 told_read_if false m = refl
 
@@ -64,16 +70,23 @@ wrote_live a b id count bytes h =
     let can = accepted_writes_fit a id (length bytes) (first_none _ _ h.0) in
     ap (λ (o : Option StreamView). bytes_accepted (messages_on o bytes)) can.live.there
 
-wrote_if : (c : Bool) (ms : List Message) (bytes : List ℕ) → bytes_accepted ms ≡ bytes ∷ [] → bytes_accepted (if c then ms else []) ≡ (if c then bytes ∷ [] else [])
+wrote_if : (c : Bool) (ms : List Message) (bytes : List ℕ) → bytes_accepted ms ≡ bytes ∷ []
+    → bytes_accepted (if c then ms else []) ≡ (if c then bytes ∷ [] else [])
 wrote_if true ms bytes e = e
 wrote_if false ms bytes e = refl
 
-told_written_at : (side x : Side2) (id count s : ℕ) (bytes : List ℕ) (w : World) (q : Ends) → Steps (steps.Write side id bytes) w.ends (replies.Wrote count) q
-    → bytes_accepted (accepted_at (steps.Write side id bytes) (replies.Wrote count) x s w) ≡ bytes_written (steps.Write side id bytes) (replies.Wrote count) x s
-told_written_at sides.A sides.A id count s bytes w q h = wrote_if (eqb id s) (messages_on (stream_at w.ends.a.streams id) bytes) bytes (wrote_live w.ends.a q.a id count bytes h.0)
+told_written_at : (side x : Side2) (id count s : ℕ) (bytes : List ℕ) (w : World) (q : Ends)
+    → Steps (steps.Write side id bytes) w.ends (replies.Wrote count) q
+    → bytes_accepted (accepted_at (steps.Write side id bytes) (replies.Wrote count) x s w)
+    ≡ bytes_written (steps.Write side id bytes) (replies.Wrote count) x s
+told_written_at sides.A sides.A id count s bytes w q h =
+    wrote_if (eqb id s) (messages_on (stream_at w.ends.a.streams id) bytes) bytes
+    (wrote_live w.ends.a q.a id count bytes h.0)
 told_written_at sides.A sides.B id count s bytes w q h = refl
 told_written_at sides.B sides.A id count s bytes w q h = refl
-told_written_at sides.B sides.B id count s bytes w q h = wrote_if (eqb id s) (messages_on (stream_at w.ends.b.streams id) bytes) bytes (wrote_live w.ends.b q.b id count bytes h.0)
+told_written_at sides.B sides.B id count s bytes w q h =
+    wrote_if (eqb id s) (messages_on (stream_at w.ends.b.streams id) bytes) bytes
+    (wrote_live w.ends.b q.b id count bytes h.0)
 
 -- what a reply says of a write is what was accepted
 told_written : (a : Step) (r : Reply) (x : Side2) (s : ℕ) (w : World) (q : Ends) → Steps a w.ends r q
@@ -81,21 +94,26 @@ told_written : (a : Step) (r : Reply) (x : Side2) (s : ℕ) (w : World) (q : End
 told_written (steps.Write side id bytes) (replies.Wrote count) x s w q h = told_written_at side x id count s bytes w q h
 told_written a r x s w q h = refl
 
-kept_on : (c : Bool) (o : Option StreamView) (bytes : List ℕ) → AllByRecursion IsKept (if c then messages_on o bytes else [])
+kept_on : (c : Bool) (o : Option StreamView) (bytes : List ℕ)
+    → AllByRecursion IsKept (if c then messages_on o bytes else [])
 kept_on false o bytes = tt
 kept_on true None bytes = tt
 kept_on true (Some t) bytes = (record { ordered = refl; reliable = refl }, tt)
 
 -- each message that a step accepts is ordered and reliable
 accepted_kept : (a : Step) (r : Reply) (x : Side2) (s : ℕ) (w : World) → AllByRecursion IsKept (accepted_at a r x s w)
-accepted_kept (steps.Write side id bytes) (replies.Wrote count) x s w = kept_on (is_side side x && eqb id s) (stream_at (end_of x w.ends).streams id) bytes
+accepted_kept (steps.Write side id bytes) (replies.Wrote count) x s w =
+    kept_on (is_side side x && eqb id s) (stream_at (end_of x w.ends).streams id) bytes
 accepted_kept a r x s w = tt
 
 -- What rows of steps made of the direction of which side x is the sender, as they tell it.
 record Grew (ss : List Step) (rs : List Reply) (x : Side2) (before after : Direction) : Type 0 where
-  written : (s : ℕ) → bytes_accepted (after.sender.plan.accepted s) ≡ bytes_accepted (before.sender.plan.accepted s) ++ written_in ss rs x s
+  written : (s : ℕ)
+      → bytes_accepted (after.sender.plan.accepted s) ≡ bytes_accepted (before.sender.plan.accepted s)
+      ++ written_in ss rs x s
   read : (s : ℕ) → bytes_got (after.reads s) ≡ bytes_got (before.reads s) ++ read_in ss rs (other_side x) s
-  kept : (s : ℕ) → AllByRecursion IsKept (before.sender.plan.accepted s) → AllByRecursion IsKept (after.sender.plan.accepted s)
+  kept : (s : ℕ) → AllByRecursion IsKept (before.sender.plan.accepted s)
+      → AllByRecursion IsKept (after.sender.plan.accepted s)
   span : (s : ℕ) → before.over s ≡ false → after.over s ≡ false
 
 grew_nothing : (x : Side2) (d : Direction) → Grew [] [] x d d
@@ -107,19 +125,23 @@ grew_nothing x d = record {
 }
 
 wrote_one : (a : Step) (r : Reply) (x : Side2) (w v : World) → IsWorldStep a w r v → (s : ℕ)
-    → bytes_accepted ((from x v).sender.plan.accepted s) ≡ bytes_accepted ((from x w).sender.plan.accepted s) ++ bytes_written a r x s
+    → bytes_accepted ((from x v).sender.plan.accepted s) ≡ bytes_accepted ((from x w).sender.plan.accepted s)
+    ++ bytes_written a r x s
 wrote_one a r x w v h s =
-    ap bytes_accepted ((step_from x a r w v h).accepted s) ∙ map-append (λ (m : Message). m.bytes) ((from x w).sender.plan.accepted s) (accepted_at a r x s w)
+    ap bytes_accepted ((step_from x a r w v h).accepted s)
+    ∙ map-append (λ (m : Message). m.bytes) ((from x w).sender.plan.accepted s) (accepted_at a r x s w)
     ∙ ap (λ z. bytes_accepted ((from x w).sender.plan.accepted s) ++ z) (told_written a r x s w v.ends h.ends_step)
 
 read_one : (a : Step) (r : Reply) (x : Side2) (w v : World) → IsWorldStep a w r v → (s : ℕ)
     → bytes_got ((from x v).reads s) ≡ bytes_got ((from x w).reads s) ++ bytes_read a r (other_side x) s
 read_one a r x w v h s =
-    read_grows (message_read a r (other_side x) s) ((from x w).reads s) ((from x v).reads s) ((step_from x a r w v h).read s)
+    read_grows (message_read a r (other_side x) s) ((from x w).reads s) ((from x v).reads s)
+    ((step_from x a r w v h).read s)
     ∙ ap (λ z. bytes_got ((from x w).reads s) ++ z) (told_read a r (other_side x) s)
 
 -- no step ends a stream's span so far
-span_one : (a : Step) (r : Reply) (x : Side2) (w v : World) → IsWorldStep a w r v → (s : ℕ) → (from x w).over s ≡ false → (from x v).over s ≡ false
+span_one : (a : Step) (r : Reply) (x : Side2) (w v : World) → IsWorldStep a w r v → (s : ℕ) → (from x w).over s ≡ false
+    → (from x v).over s ≡ false
 span_one a r x w v h s still =
     ⊎_elim
     (λ (over : (from x v).over s ≡ true). ⊎_elim
@@ -129,13 +151,16 @@ span_one a r x w v h s still =
     (λ (within : (from x v).over s ≡ false). within)
     (cases_Bool ((from x v).over s))
 
-grew_on : (a : Step) (r : Reply) (ss : List Step) (rs : List Reply) (x : Side2) (w v : World) (after : Direction) → IsWorldStep a w r v
+grew_on : (a : Step) (r : Reply) (ss : List Step) (rs : List Reply) (x : Side2) (w v : World) (after : Direction)
+    → IsWorldStep a w r v
     → Grew ss rs x (from x v) after → Grew (a ∷ ss) (r ∷ rs) x (from x w) after
 grew_on a r ss rs x w v after h more = record {
   written = λ s. more.written s ∙ ap (λ z. z ++ written_in ss rs x s) (wrote_one a r x w v h s)
-      ∙ append_assoc (bytes_accepted ((from x w).sender.plan.accepted s)) (bytes_written a r x s) (written_in ss rs x s);
+      ∙ append_assoc (bytes_accepted ((from x w).sender.plan.accepted s)) (bytes_written a r x s)
+      (written_in ss rs x s);
   read = λ s. more.read s ∙ ap (λ z. z ++ read_in ss rs (other_side x) s) (read_one a r x w v h s)
-      ∙ append_assoc (bytes_got ((from x w).reads s)) (bytes_read a r (other_side x) s) (read_in ss rs (other_side x) s);
+      ∙ append_assoc (bytes_got ((from x w).reads s)) (bytes_read a r (other_side x) s)
+      (read_in ss rs (other_side x) s);
   kept = λ s k. more.kept s (subst (AllByRecursion IsKept) (sym ((step_from x a r w v h).accepted s))
       (all_join IsKept ((from x w).sender.plan.accepted s) (accepted_at a r x s w) k (accepted_kept a r x s w)));
   span = λ s o. more.span s (span_one a r x w v h s o);
@@ -156,7 +181,8 @@ abbrev FewFrom : ℕ → ℕ → World → List Step → List Reply → Type 0
 FewFrom n m w ss rs =
     AreFew (n + accepted_in w.ab.sender.plan.size sides.A ss rs) (m + accepted_in w.ba.sender.plan.size sides.B ss rs)
 
-few_first : (a : Step) (r : Reply) (ss : List Step) (rs : List Reply) (w : World) (n m : ℕ) → FewFrom n m w (a ∷ ss) (r ∷ rs)
+few_first : (a : Step) (r : Reply) (ss : List Step) (rs : List Reply) (w : World) (n m : ℕ)
+    → FewFrom n m w (a ∷ ss) (r ∷ rs)
     → AreFew (n + pieces_a w a r) (m + pieces_b w a r)
 few_first a r ss rs w n m few =
     let k : ℕ = pieces_a w a r in
@@ -166,7 +192,8 @@ few_first a r ss rs w n m few =
     (omega arith, omega arith)
 
 -- payload sizes stay
-few_rest : (a : Step) (r : Reply) (ss : List Step) (rs : List Reply) (w v : World) (n m : ℕ) → IsWorldStep a w r v → FewFrom n m w (a ∷ ss) (r ∷ rs)
+few_rest : (a : Step) (r : Reply) (ss : List Step) (rs : List Reply) (w v : World) (n m : ℕ) → IsWorldStep a w r v
+    → FewFrom n m w (a ∷ ss) (r ∷ rs)
     → FewFrom (n + pieces_a w a r) (m + pieces_b w a r) v ss rs
 few_rest a r ss rs w v n m h few =
     let k : ℕ = pieces_a w a r in
@@ -185,7 +212,8 @@ reached [] [] w n m q h few = record { last = w; of_a = n; of_b = m; fits = h; g
 reached (a ∷ ss) (r ∷ rs) w n m q (v, step, next) few =
     let k : ℕ = pieces_a w a r in
     let l : ℕ = pieces_b w a r in
-    let rest = reached ss rs v (n + k) (m + l) q (next (few_first a r ss rs w n m few)).2 (few_rest a r ss rs w v n m step few) in
+    let rest =
+    reached ss rs v (n + k) (m + l) q (next (few_first a r ss rs w n m few)).2 (few_rest a r ss rs w v n m step few) in
     record {
       last = rest.last;
       of_a = rest.of_a;
@@ -197,12 +225,14 @@ reached [] (r ∷ rs) w n m q h few = absurd h
 reached (a ∷ ss) [] w n m q h few = absurd h
 
 -- in a world that a pair fits each stream within its span is safe, and no message is empty
-safe_from : (x : Side2) (s n m : ℕ) (p : Ends) (w : World) → FitsCounted n m p w → (from x w).over s ≡ false → IsSafe (from x w) s
+safe_from : (x : Side2) (s n m : ℕ) (p : Ends) (w : World) → FitsCounted n m p w → (from x w).over s ≡ false
+    → IsSafe (from x w) s
 safe_from sides.A s n m p w f span = (safe_world p w f.fits).ab_safe.safe s span
 safe_from sides.B s n m p w f span = (safe_world p w f.fits).ba_safe.safe s span
 
 filled_from : (x : Side2) (s n m : ℕ) (p : Ends) (w : World) → FitsCounted n m p w
-    → (i : ℕ) → i < length ((from x w).sender.plan.accepted s) → 0 < length (message_at (from x w).sender.plan s i).bytes
+    → (i : ℕ) → i < length ((from x w).sender.plan.accepted s)
+    → 0 < length (message_at (from x w).sender.plan s i).bytes
 filled_from sides.A s n m p w f i b = f.fits.stand.sound_ab.invariant.planned.filled s i b
 filled_from sides.B s n m p w f i b = f.fits.stand.sound_ba.invariant.planned.filled s i b
 
@@ -213,11 +243,15 @@ record IsFresh (d : Direction) : Type 0 where
   untaken : (o : ℕ) → mem o d.receiver.taken ≡ true → ⊥
   within : (s : ℕ) → d.over s ≡ false
 
-fresh_from : (x : Side2) (p : Ends) (initial_a initial_b size_a size_b : ℕ) → IsFresh (from x (empty_world p initial_a initial_b size_a size_b))
-fresh_from sides.A p initial_a initial_b size_a size_b = record { accepted = λ s. refl; unread = λ s. refl; untaken = λ o m. true≢false (sym m); within = λ s. refl }
-fresh_from sides.B p initial_a initial_b size_a size_b = record { accepted = λ s. refl; unread = λ s. refl; untaken = λ o m. true≢false (sym m); within = λ s. refl }
+fresh_from : (x : Side2) (p : Ends) (initial_a initial_b size_a size_b : ℕ)
+    → IsFresh (from x (empty_world p initial_a initial_b size_a size_b))
+fresh_from sides.A p initial_a initial_b size_a size_b =
+    record { accepted = λ s. refl; unread = λ s. refl; untaken = λ o m. true≢false (sym m); within = λ s. refl }
+fresh_from sides.B p initial_a initial_b size_a size_b =
+    record { accepted = λ s. refl; unread = λ s. refl; untaken = λ o m. true≢false (sym m); within = λ s. refl }
 
-front_along : (ss : List Step) (rs : List Reply) (x : Side2) (s : ℕ) (before after : Direction) → IsFresh before → Grew ss rs x before after → (after.over s ≡ false → IsSafe after s)
+front_along : (ss : List Step) (rs : List Reply) (x : Side2) (s : ℕ) (before after : Direction) → IsFresh before
+    → Grew ss rs x before after → (after.over s ≡ false → IsSafe after s)
     → IsFrontOf (read_in ss rs (other_side x) s) (written_in ss rs x s)
 front_along ss rs x s before after first grew safe =
     let kept = grew.kept s (subst (AllByRecursion IsKept) (sym (first.accepted s)) tt) in
@@ -229,12 +263,15 @@ front_along ss rs x s before after first grew safe =
     (front.0, sym wrote ∙ front.1 ∙ ap (λ z. z ++ front.0) read)
 
 -- What was read is a front of what was written.
-fronts : (size_a size_b : ℕ) (ss : List Step) (rs : List Reply) (p : Ends) → CameBy size_a size_b ss rs p → AcceptFew size_a size_b ss rs → ReadsAreFronts ss rs
+fronts : (size_a size_b : ℕ) (ss : List Step) (rs : List Reply) (p : Ends) → CameBy size_a size_b ss rs p
+    → AcceptFew size_a size_b ss rs → ReadsAreFronts ss rs
 fronts size_a size_b ss rs p c few x s =
     let w : World = empty_world c.begin c.new.initial_a c.new.initial_b size_a size_b in
     let h = runs_lead_counted ss rs c.begin p c.led 0 0 w c.new.fits in
     let r = reached ss rs w 0 0 p h (let f = few.0 in omega arith, let f = few.1 in omega arith) in
-    front_along ss rs x s (from x w) (from x r.last) (fresh_from x c.begin c.new.initial_a c.new.initial_b size_a size_b) (r.grew x) (safe_from x s r.of_a r.of_b p r.last r.fits)
+    front_along ss rs x s (from x w) (from x r.last)
+    (fresh_from x c.begin c.new.initial_a c.new.initial_b size_a size_b) (r.grew x)
+    (safe_from x s r.of_a r.of_b p r.last r.fits)
 
 -- Before the first delivery
 
@@ -246,7 +283,8 @@ nothing_behind : (xs ys : List (List ℕ)) → [] ≡ xs ++ ys → ys ≡ []
 nothing_behind [] ys e = sym e
 nothing_behind (x ∷ xs) ys e = absurd (cc)
 
-untaken_on : (a : Step) (r : Reply) (x : Side2) (w v : World) → IsWorldStep a w r v → delivers_to (other_side x) a r ≡ false
+untaken_on : (a : Step) (r : Reply) (x : Side2) (w v : World) → IsWorldStep a w r v
+    → delivers_to (other_side x) a r ≡ false
     → ((o : ℕ) → mem o (from x w).receiver.taken ≡ true → ⊥) → (o : ℕ) → mem o (from x v).receiver.taken ≡ true → ⊥
 untaken_on a r x w v h none before o m =
     ⊎_elim
@@ -255,7 +293,8 @@ untaken_on a r x w v h none before o m =
     subst (λ (z : Option Packet). HasData z (tsn (initial_of x w) o)) (not_brought a r (other_side x) w none) b)
     ((step_from x a r w v h).taken o m)
 
-bare : (ss : List Step) (rs : List Reply) (x : Side2) (s : ℕ) (w : World) (n m : ℕ) (q : Ends) → RunsCounted ss rs w n m q
+bare : (ss : List Step) (rs : List Reply) (x : Side2) (s : ℕ) (w : World) (n m : ℕ) (q : Ends)
+    → RunsCounted ss rs w n m q
     → FewFrom n m w ss rs → ((o : ℕ) → mem o (from x w).receiver.taken ≡ true → ⊥) → (from x w).over s ≡ false
     → read_undelivered ss rs (other_side x) s ≡ []
 bare [] [] x s w n m q h few none span = refl
@@ -268,9 +307,12 @@ bare (a ∷ ss) (r ∷ rs) x s w n m q (v, step, next) few none span =
     (λ (b : delivers_to (other_side x) a r ≡ false).
     let still = untaken_on a r x w v step b none in
     let within = span_one a r x w v step s span in
-    let unread = nothing_read_of_none (from x v) s (safe_from x s (n + k) (m + l) v.ends v after.1 within) still (filled_from x s (n + k) (m + l) v.ends v after.1) in
+    let unread =
+    nothing_read_of_none (from x v) s (safe_from x s (n + k) (m + l) v.ends v after.1 within) still
+    (filled_from x s (n + k) (m + l) v.ends v after.1) in
     let this : bytes_read a r (other_side x) s ≡ [] =
-    nothing_behind (bytes_got ((from x w).reads s)) (bytes_read a r (other_side x) s) (sym (ap bytes_got unread) ∙ read_one a r x w v step s) in
+    nothing_behind (bytes_got ((from x w).reads s)) (bytes_read a r (other_side x) s)
+    (sym (ap bytes_got unread) ∙ read_one a r x w v step s) in
     rw (b, this) (bare ss rs x s v (n + k) (m + l) q after.2 (few_rest a r ss rs w v n m step few) still within))
     (cases_Bool (delivers_to (other_side x) a r))
 bare [] (r ∷ rs) x s w n m q h few none span = absurd h
@@ -281,24 +323,29 @@ turned_back sides.A = refl
 turned_back sides.B = refl
 
 -- Until a packet was handed to a side nothing is read there.
-unbrought : (size_a size_b : ℕ) (ss : List Step) (rs : List Reply) (p : Ends) → CameBy size_a size_b ss rs p → AcceptFew size_a size_b ss rs → NothingIsReadUnbrought ss rs
+unbrought : (size_a size_b : ℕ) (ss : List Step) (rs : List Reply) (p : Ends) → CameBy size_a size_b ss rs p
+    → AcceptFew size_a size_b ss rs → NothingIsReadUnbrought ss rs
 unbrought size_a size_b ss rs p c few x s =
     let w : World = empty_world c.begin c.new.initial_a c.new.initial_b size_a size_b in
     let h = runs_lead_counted ss rs c.begin p c.led 0 0 w c.new.fits in
     let first = fresh_from (other_side x) c.begin c.new.initial_a c.new.initial_b size_a size_b in
     subst (λ y. read_undelivered ss rs y s ≡ []) (turned_back x)
-    (bare ss rs (other_side x) s w 0 0 p h (let f = few.0 in omega arith, let f = few.1 in omega arith) first.untaken (first.within s))
+    (bare ss rs (other_side x) s w 0 0 p h (let f = few.0 in omega arith, let f = few.1 in omega arith) first.untaken
+    (first.within s))
 
 -- All steps so far
 
 -- steps that lead on from a pair follow those that led to it
 pub comes_on : (more : List Step) (answers : List Reply) (p q : Ends) → Runs more answers p q → ComesOn more answers p q
-comes_on more answers p q led size_a size_b ss rs c = record { begin = c.begin; new = c.new; led = runs_join ss rs c.begin p q more answers c.led led }
+comes_on more answers p q led size_a size_b ss rs c =
+    record { begin = c.begin; new = c.new; led = runs_join ss rs c.begin p q more answers c.led led }
 
-pub fronts_on : (more : List Step) (answers : List Reply) (p q : Ends) → Runs more answers p q → HoldsOn ReadsAreFronts more answers p
+pub fronts_on : (more : List Step) (answers : List Reply) (p q : Ends) → Runs more answers p q
+    → HoldsOn ReadsAreFronts more answers p
 fronts_on more answers p q led size_a size_b ss rs c few =
     fronts size_a size_b (ss ++ more) (rs ++ answers) q (comes_on more answers p q led size_a size_b ss rs c) few
 
-pub unbrought_on : (more : List Step) (answers : List Reply) (p q : Ends) → Runs more answers p q → HoldsOn NothingIsReadUnbrought more answers p
+pub unbrought_on : (more : List Step) (answers : List Reply) (p q : Ends) → Runs more answers p q
+    → HoldsOn NothingIsReadUnbrought more answers p
 unbrought_on more answers p q led size_a size_b ss rs c few =
     unbrought size_a size_b (ss ++ more) (rs ++ answers) q (comes_on more answers p q led size_a size_b ss rs c) few

@@ -1,5 +1,6 @@
 -- Where few pieces are accepted, each world is within the limits, and so it is safe.
-use Rattle.std.proofs.Common.{◌≡◌, sym, ap, ◌∙◌, subst, ℕ, ◌+◌, ◌≤◌, arith, Bool, true, false, eqb, ◌&&◌, if◌then◌else◌, List, [], ◌∷◌, ◌++◌, length, Option, Some, None}
+use Rattle.std.proofs.Common.{◌≡◌, sym, ap, ◌∙◌, subst, ℕ, ◌+◌, ◌≤◌, arith, Bool, true, false, eqb, ◌&&◌, if◌then◌else◌}
+use Rattle.std.proofs.Common.{List, [], ◌∷◌, ◌++◌, length, Option, Some, None}
 use Rattle.std.proofs.lemmas.Bool.{ne_eqb}
 use Rattle.std.proofs.lemmas.List.{append-nil}
 use Rattle.std.proofs.lemmas.List.Sums.{sum_by-append, sum_by-cons}
@@ -9,7 +10,8 @@ use Rattle.sctp_model.specs.Messages.{Message}
 use Rattle.sctp_model.specs.Machine.{Direction}
 use Rattle.sctp_directions.specs.Counted.{HasAccepted, all_pieces, pieces_in}
 use Rattle.sctp_directions.specs.Outgoing.{message_on}
-use Rattle.sctp_directions.proofs.Proved.{accepted_messages_are_counted, few_messages_stay_within, nothing_is_accepted_at_first}
+use Rattle.sctp_directions.proofs.Proved.{accepted_messages_are_counted, few_messages_stay_within}
+use Rattle.sctp_directions.proofs.Proved.{nothing_is_accepted_at_first}
 use Rattle.sctp_pair.specs.declared.step.Reply.{Reply}
 use Rattle.sctp_pair.specs.declared.step.Reply.TheVariants as replies
 use Rattle.sctp_pair.specs.declared.step.Side2.{Side2}
@@ -21,37 +23,45 @@ use Rattle.sctp_pair.specs.Steps.{Runs, Steps}
 use Rattle.sctp_pair.specs.World.{IsWithinLimits, World, accepted_at, empty_world, is_side, messages_on}
 use Rattle.sctp_pair.specs.Counted.{FitsCounted, LeadsCounted, RunsCounted, pieces_a, pieces_b, pieces_of}
 use Rattle.sctp_pair.specs.Fits.{Fits}
-use Rattle.sctp_pair.proofs.Assembled.{step_leads}
+use Rattle.sctp_pair.proofs.StepsLead.{step_leads}
 
 -- What a step accepts is counted
 
 -- nothing more was accepted
 none_counted : (n : ℕ) (before after : Direction) → after.sender.plan.size ≡ before.sender.plan.size
-    → ((s : ℕ) → after.sender.plan.accepted s ≡ before.sender.plan.accepted s ++ []) → HasAccepted n before → HasAccepted (n + 0) after
+    → ((s : ℕ) → after.sender.plan.accepted s ≡ before.sender.plan.accepted s ++ []) → HasAccepted n before
+    → HasAccepted (n + 0) after
 none_counted n before after size same a =
     let stays = λ (s : ℕ). same s ∙ append-nil (before.sender.plan.accepted s) in
     accepted_messages_are_counted n 0 0 before after size (λ s ne. stays s)
     (let e = ap (λ (ms : List Message). all_pieces before.sender.plan.size ms) (stays 0) in omega (arith, e)) a
 
-one_message : (size : ℕ) (o : Option StreamView) (bytes : List ℕ) → all_pieces size (messages_on o bytes) ≤ pieces_in size (length bytes)
+one_message : (size : ℕ) (o : Option StreamView) (bytes : List ℕ)
+    → all_pieces size (messages_on o bytes) ≤ pieces_in size (length bytes)
 one_message size None bytes = omega arith
 one_message size (Some t) bytes =
     let e = sum_by-cons (λ (m : Message). pieces_in size (length m.bytes)) (message_on t bytes) [] in omega (arith, e)
 
 -- on one stream these messages were accepted, which have at most so many pieces
-some_counted : (here : Bool) (n id more : ℕ) (ms : List Message) (before after : Direction) → after.sender.plan.size ≡ before.sender.plan.size
+some_counted : (here : Bool) (n id more : ℕ) (ms : List Message) (before after : Direction)
+    → after.sender.plan.size ≡ before.sender.plan.size
     → ((s : ℕ) → after.sender.plan.accepted s ≡ before.sender.plan.accepted s ++ (if here && eqb id s then ms else []))
-    → all_pieces before.sender.plan.size ms ≤ more → HasAccepted n before → HasAccepted (n + (if here then more else 0)) after
+    → all_pieces before.sender.plan.size ms ≤ more → HasAccepted n before
+    → HasAccepted (n + (if here then more else 0)) after
 some_counted false n id more ms before after size same most a = none_counted n before after size same a
 some_counted true n id more ms before after size same most a =
     accepted_messages_are_counted n more id before after size
-    (λ s ne. same s ∙ ap (λ (c : Bool). before.sender.plan.accepted s ++ (if c then ms else [])) (ne_eqb id s (λ (q : id ≡ s). ne (sym q))) ∙ append-nil (before.sender.plan.accepted s))
+    (λ s ne. same s ∙ ap (λ (c : Bool). before.sender.plan.accepted s ++ (if c then ms else []))
+    (ne_eqb id s (λ (q : id ≡ s). ne (sym q))) ∙ append-nil (before.sender.plan.accepted s))
     grown a
   where
-    grown : all_pieces before.sender.plan.size (after.sender.plan.accepted id) ≤ all_pieces before.sender.plan.size (before.sender.plan.accepted id) + more
+    grown : all_pieces before.sender.plan.size (after.sender.plan.accepted id)
+        ≤ all_pieces before.sender.plan.size (before.sender.plan.accepted id) + more
     grown =
         let e = ap (λ (xs : List Message). all_pieces before.sender.plan.size xs) (same id) in
-        let f = sum_by-append (λ (m : Message). pieces_in before.sender.plan.size (length m.bytes)) (before.sender.plan.accepted id) (if eqb id id then ms else []) in
+        let f =
+        sum_by-append (λ (m : Message). pieces_in before.sender.plan.size (length m.bytes))
+        (before.sender.plan.accepted id) (if eqb id id then ms else []) in
         let g = at_most (eqb id id) in
         omega (arith, e, f, g)
       where
@@ -59,8 +69,11 @@ some_counted true n id more ms before after size same most a =
         at_most true = most
         at_most false = omega arith
 
-write_counted : (x side : Side2) (id n : ℕ) (bytes : List ℕ) (r : Reply) (w : World) (before after : Direction) → after.sender.plan.size ≡ before.sender.plan.size
-    → ((s : ℕ) → after.sender.plan.accepted s ≡ before.sender.plan.accepted s ++ accepted_at (steps.Write side id bytes) r x s w) → HasAccepted n before
+write_counted : (x side : Side2) (id n : ℕ) (bytes : List ℕ) (r : Reply) (w : World) (before after : Direction)
+    → after.sender.plan.size ≡ before.sender.plan.size
+    → ((s : ℕ)
+    → after.sender.plan.accepted s ≡ before.sender.plan.accepted s ++ accepted_at (steps.Write side id bytes) r x s w)
+    → HasAccepted n before
     → HasAccepted (n + pieces_of before.sender.plan.size x (steps.Write side id bytes) r) after
 write_counted x side id n bytes (replies.Wrote count) w before after size same a =
     let ms : List Message = messages_on (stream_at (end_of x w.ends).streams id) bytes in
@@ -68,20 +81,30 @@ write_counted x side id n bytes (replies.Wrote count) w before after size same a
     (one_message before.sender.plan.size (stream_at (end_of x w.ends).streams id) bytes) a
 write_counted x side id n bytes replies.Done w before after size same a = none_counted n before after size same a
 write_counted x side id n bytes (replies.Read m) w before after size same a = none_counted n before after size same a
-write_counted x side id n bytes (replies.BufferedAmount k) w before after size same a = none_counted n before after size same a
-write_counted x side id n bytes (replies.Event event) w before after size same a = none_counted n before after size same a
-write_counted x side id n bytes (replies.Timeout moment) w before after size same a = none_counted n before after size same a
-write_counted x side id n bytes (replies.Sent first count) w before after size same a = none_counted n before after size same a
+write_counted x side id n bytes (replies.BufferedAmount k) w before after size same a =
+    none_counted n before after size same a
+write_counted x side id n bytes (replies.Event event) w before after size same a =
+    none_counted n before after size same a
+write_counted x side id n bytes (replies.Timeout moment) w before after size same a =
+    none_counted n before after size same a
+write_counted x side id n bytes (replies.Sent first count) w before after size same a =
+    none_counted n before after size same a
 write_counted x side id n bytes replies.NothingSent w before after size same a = none_counted n before after size same a
-write_counted x side id n bytes (replies.State answer) w before after size same a = none_counted n before after size same a
-write_counted x side id n bytes (replies.Rtt duration) w before after size same a = none_counted n before after size same a
+write_counted x side id n bytes (replies.State answer) w before after size same a =
+    none_counted n before after size same a
+write_counted x side id n bytes (replies.Rtt duration) w before after size same a =
+    none_counted n before after size same a
 write_counted x side id n bytes (replies.Refused k) w before after size same a = none_counted n before after size same a
-write_counted x side id n bytes replies.NoSuchPacket w before after size same a = none_counted n before after size same a
+write_counted x side id n bytes replies.NoSuchPacket w before after size same a =
+    none_counted n before after size same a
 
-step_counted : (x : Side2) (step : Step) (n : ℕ) (r : Reply) (w : World) (before after : Direction) → after.sender.plan.size ≡ before.sender.plan.size
-    → ((s : ℕ) → after.sender.plan.accepted s ≡ before.sender.plan.accepted s ++ accepted_at step r x s w) → HasAccepted n before
+step_counted : (x : Side2) (step : Step) (n : ℕ) (r : Reply) (w : World) (before after : Direction)
+    → after.sender.plan.size ≡ before.sender.plan.size
+    → ((s : ℕ) → after.sender.plan.accepted s ≡ before.sender.plan.accepted s ++ accepted_at step r x s w)
+    → HasAccepted n before
     → HasAccepted (n + pieces_of before.sender.plan.size x step r) after
-step_counted x (steps.Write side id bytes) n r w before after size same a = write_counted x side id n bytes r w before after size same a
+step_counted x (steps.Write side id bytes) n r w before after size same a =
+    write_counted x side id n bytes r w before after size same a
 step_counted x (steps.OpenStream side id kind) n r w before after size same a = none_counted n before after size same a
 step_counted x (steps.Stream side id) n r w before after size same a = none_counted n before after size same a
 step_counted x (steps.Read side id) n r w before after size same a = none_counted n before after size same a
@@ -99,7 +122,8 @@ step_counted x (steps.IsFailed side) n r w before after size same a = none_count
 step_counted x (steps.Rtt side) n r w before after size same a = none_counted n before after size same a
 
 -- A step leads to a world that is safe where few pieces were accepted.
-pub step_leads_counted : (step : Step) (p q : Ends) (r : Reply) → Steps step p r q → (n m : ℕ) (w : World) → FitsCounted n m p w → LeadsCounted step r w n m q
+pub step_leads_counted : (step : Step) (p q : Ends) (r : Reply) → Steps step p r q → (n m : ℕ) (w : World)
+    → FitsCounted n m p w → LeadsCounted step r w n m q
 step_leads_counted step p q r h n m w f =
     let x = step_leads step p q r h w f.fits in
     let v : World = x.0 in
@@ -116,7 +140,8 @@ step_leads_counted step p q r h n m w f =
     )
 
 -- So does a row of steps.
-pub runs_lead_counted : (ss : List Step) (rs : List Reply) (p q : Ends) → Runs ss rs p q → (n m : ℕ) (w : World) → FitsCounted n m p w → RunsCounted ss rs w n m q
+pub runs_lead_counted : (ss : List Step) (rs : List Reply) (p q : Ends) → Runs ss rs p q → (n m : ℕ) (w : World)
+    → FitsCounted n m p w → RunsCounted ss rs w n m q
 runs_lead_counted [] [] p q e n m w fits = subst (λ (z : Ends). FitsCounted n m z w) (sym e) fits
 runs_lead_counted (s ∷ ss) (r ∷ rs) p q (u, first, rest) n m w fits =
     let x = step_leads_counted s p u r first n m w fits in
@@ -125,13 +150,18 @@ runs_lead_counted (s ∷ ss) (r ∷ rs) p q (u, first, rest) n m w fits =
       x.0,
       x.1,
       λ few.
-          let next = x.2 few in
-          (next.0, subst (λ (z : Ends). FitsCounted a b z x.0) next.1.fits.stand.is next.1, runs_lead_counted ss rs u q rest a b x.0 next.1),
+          let next = x.2 few in (
+            next.0,
+            subst (λ (z : Ends). FitsCounted a b z x.0) next.1.fits.stand.is next.1,
+            runs_lead_counted ss rs u q rest a b x.0 next.1,
+          ),
     )
 runs_lead_counted [] (r ∷ rs) p q h n m w fits = absurd h
 runs_lead_counted (s ∷ ss) [] p q h n m w fits = absurd h
 
 -- A pair that fits the empty world fits it with no piece.
-pub fits_with_none : (p : Ends) (initial_a initial_b size_a size_b : ℕ) → Fits p (empty_world p initial_a initial_b size_a size_b)
+pub fits_with_none : (p : Ends) (initial_a initial_b size_a size_b : ℕ)
+    → Fits p (empty_world p initial_a initial_b size_a size_b)
     → FitsCounted 0 0 p (empty_world p initial_a initial_b size_a size_b)
-fits_with_none p initial_a initial_b size_a size_b f = record { fits = f; of_a = nothing_is_accepted_at_first size_a; of_b = nothing_is_accepted_at_first size_b }
+fits_with_none p initial_a initial_b size_a size_b f =
+    record { fits = f; of_a = nothing_is_accepted_at_first size_a; of_b = nothing_is_accepted_at_first size_b }

@@ -12,7 +12,8 @@ use Rattle.sctp_pair.specs.World.{IsOpen, IsPromised, IsSafeWorld, World}
 use Rattle.sctp_pair.specs.Fits.{Fits, Stands, StandsClosed, StandsFailed, StandsOpen}
 
 -- an open association stands open
-pub stands_open : (own peer : ℕ) (a : Shown) (out coming : Direction) → IsOpen a → Stands own peer a out coming → StandsOpen own peer a out coming
+pub stands_open : (own peer : ℕ) (a : Shown) (out coming : Direction) → IsOpen a → Stands own peer a out coming
+    → StandsOpen own peer a out coming
 stands_open own peer a out coming o h =
     ⊎_elim
     (λ (s : StandsOpen own peer a out coming). s)
@@ -23,7 +24,8 @@ stands_open own peer a out coming o h =
     h
 
 -- the receiver of what comes to an association is open, or the association is closed or failed
-pub receives_or_stopped : (own peer : ℕ) (a : Shown) (out coming : Direction) → Stands own peer a out coming → (coming.receiver.is_open ≡ true) ⊎ (IsOpen a → ⊥)
+pub receives_or_stopped : (own peer : ℕ) (a : Shown) (out coming : Direction) → Stands own peer a out coming
+    → (coming.receiver.is_open ≡ true) ⊎ (IsOpen a → ⊥)
 receives_or_stopped own peer a out coming h =
     ⊎_elim
     (λ (s : StandsOpen own peer a out coming). inl s.between.incoming.is_open)
@@ -34,7 +36,8 @@ receives_or_stopped own peer a out coming h =
     h
 
 -- Where the sender and the receiver of a direction stand in it, and it is within the limits, the promise of it holds.
-pub promised : (own peer : ℕ) (sender receiver : Shown) (w back : Direction) → Stands own peer sender w back → Stands peer own receiver back w
+pub promised : (own peer : ℕ) (sender receiver : Shown) (w back : Direction) → Stands own peer sender w back
+    → Stands peer own receiver back w
     → IsWithin w → IsSound w → IsPromised sender receiver w
 promised own peer sender receiver w back giving taking within sound = record {
   safe = λ s span. the_invariant_is_enough w within sound.invariant s span;
@@ -50,6 +53,10 @@ promised own peer sender receiver w back giving taking within sound = record {
 -- A world in which a pair stands is safe.
 pub safe_world : (p : Ends) (w : World) → Fits p w → IsSafeWorld w
 safe_world p w f = record {
-  ab_safe = promised w.initial_a w.initial_b w.ends.a w.ends.b w.ab w.ba f.stand.side_a f.stand.side_b f.within.0 f.stand.sound_ab;
-  ba_safe = promised w.initial_b w.initial_a w.ends.b w.ends.a w.ba w.ab f.stand.side_b f.stand.side_a f.within.1 f.stand.sound_ba;
+  ab_safe =
+      promised w.initial_a w.initial_b w.ends.a w.ends.b w.ab w.ba f.stand.side_a f.stand.side_b f.within.0
+      f.stand.sound_ab;
+  ba_safe =
+      promised w.initial_b w.initial_a w.ends.b w.ends.a w.ba w.ab f.stand.side_b f.stand.side_a f.within.1
+      f.stand.sound_ba;
 }

@@ -1,5 +1,6 @@
 -- Each simple call of an association that faces another one leads to directions between which both of them stand.
-use Rattle.std.proofs.Common.{◌≡◌, refl, sym, ap, ◌∙◌, subst, ◌⊎◌, ⊎_elim, inl, inr, ℕ, true, false, List, [], ◌∷◌, None}
+use Rattle.std.proofs.Common.{◌≡◌, refl, sym, ap, ◌∙◌, subst, ◌⊎◌, ⊎_elim, inl, inr, ℕ, true, false, List, [], ◌∷◌}
+use Rattle.std.proofs.Common.{None}
 use Rattle.std.proofs.lemmas.Bool.{true≢false}
 use Rattle.std.specs.List.{AllByRecursion}
 use Rattle.sctp_wire_types.specs.declared.ids.PayloadProtocolIdentifier.{PayloadProtocolIdentifier}
@@ -10,21 +11,26 @@ use Rattle.sctp_assoc.specs.Calls.{is_closed_state, is_established, open_refusal
 use Rattle.sctp_assoc.specs.Meeting.{Stage}
 use Rattle.sctp_assoc.specs.Shapes.{HoldsNothing, IsNotLive, IsSameStatus}
 use Rattle.sctp_assoc.specs.Shown.{Shown}
-use Rattle.sctp_assoc.proofs.Proved.{open_leads_on, opened_streams_hold_nothing, opened_streams_keep_the_status, opened_streams_were_not_live}
+use Rattle.sctp_assoc.proofs.Proved.{open_leads_on, opened_streams_hold_nothing, opened_streams_keep_the_status}
+use Rattle.sctp_assoc.proofs.Proved.{opened_streams_were_not_live}
 use Rattle.sctp_directions.specs.Events.{Brings, GivesAMessage, IsAtReceiver, IsPlainEvent}
 use Rattle.sctp_directions.specs.Outgoing.{FitsOutgoing}
 use Rattle.sctp_directions.specs.Incoming.{FitsIncoming}
 use Rattle.sctp_directions.specs.Laws.{MeetsNobody}
-use Rattle.sctp_directions.proofs.Proved.{acts_keep_the_initial_tsns, closed_receivers_are_not_open, opened_streams_are_alike, plain_events_keep_it_plain, receivers_events_are_received}
+use Rattle.sctp_directions.proofs.Proved.{acts_keep_the_initial_tsns, closed_receivers_are_not_open}
+use Rattle.sctp_directions.proofs.Proved.{opened_streams_are_alike, plain_events_keep_it_plain}
+use Rattle.sctp_directions.proofs.Proved.{receivers_events_are_received}
 use Rattle.sctp_pair.specs.declared.step.Reply.{Reply}
 use Rattle.sctp_pair.specs.declared.step.Reply.TheVariants as replies
 use Rattle.sctp_pair.specs.Fits.{IsAt, Stands, StandsClosed, StandsFailed, StandsOpen}
 use Rattle.sctp_pair.specs.Steps.{Buffers, Finds, Measures, Opens}
-use Rattle.sctp_pair.proofs.Between.{Faces, None_brought, Settles, does_by_goes, goes_by_receiver, goes_nowhere, nothing_added, nothing_read, other_by_coming}
-use Rattle.sctp_pair.proofs.Stages.{at_same, come_on, known_before, stays_put}
+use Rattle.sctp_pair.proofs.BetweenDirections.{Faces, None_brought, Settles, does_by_goes, goes_by_receiver}
+use Rattle.sctp_pair.proofs.BetweenDirections.{goes_nowhere, nothing_added, nothing_read, other_by_coming}
+use Rattle.sctp_pair.proofs.HandshakeStages.{at_same, come_on, known_before, stays_put}
 
 -- Nothing happened to the directions, and the association stands between them still.
-unfoldable pub still : {here there : Stage} (own peer : ℕ) (a b y : Shown) (out coming : Direction) → Faces own peer here there a y out coming → IsAt b here → Stands own peer b out coming
+unfoldable pub still : {here there : Stage} (own peer : ℕ) (a b y : Shown) (out coming : Direction)
+    → Faces own peer here there a y out coming → IsAt b here → Stands own peer b out coming
     → Settles own peer here there b y out coming nothing_added nothing_read None_brought
 still {here} own peer a b y out coming f at s = record {
   out2 = out;
@@ -44,15 +50,18 @@ still {here} own peer a b y out coming f at s = record {
 }
 
 -- a call that does nothing
-pub nothing_settles : {here there : Stage} (own peer : ℕ) (a y : Shown) (out coming : Direction) → Faces own peer here there a y out coming
+pub nothing_settles : {here there : Stage} (own peer : ℕ) (a y : Shown) (out coming : Direction)
+    → Faces own peer here there a y out coming
     → Settles own peer here there a y out coming nothing_added nothing_read None_brought
 nothing_settles own peer a y out coming f = still own peer a a y out coming f f.at f.stands
 
 -- a call that leaves the association as it is
-pub same_settles : {here there : Stage} (own peer : ℕ) (a b y : Shown) (out coming : Direction) → b ≡ a → Faces own peer here there a y out coming
+pub same_settles : {here there : Stage} (own peer : ℕ) (a b y : Shown) (out coming : Direction) → b ≡ a
+    → Faces own peer here there a y out coming
     → Settles own peer here there b y out coming nothing_added nothing_read None_brought
 same_settles {here} {there} own peer a b y out coming e f =
-    subst (λ z. Settles own peer here there z y out coming nothing_added nothing_read None_brought) (sym e) (nothing_settles own peer a y out coming f)
+    subst (λ z. Settles own peer here there z y out coming nothing_added nothing_read None_brought) (sym e)
+    (nothing_settles own peer a y out coming f)
 
 -- Questions change nothing
 
@@ -103,9 +112,10 @@ measures_same a replies.NoSuchPacket b h = absurd h
 
 -- One event of the receiver
 
--- an event of the receiver that is no read and brings nothing happened to the direction that comes, and the association stands
--- between its directions then
-pub settles_by_receiver : {here there : Stage} (own peer : ℕ) (a b y : Shown) (out coming : Direction) (e : Event) → Faces own peer here there a y out coming → IsAtReceiver e → (GivesAMessage e → ⊥)
+-- an event of the receiver that is no read and brings nothing happened to the direction that comes, and the association
+-- stands between its directions then
+pub settles_by_receiver : {here there : Stage} (own peer : ℕ) (a b y : Shown) (out coming : Direction) (e : Event)
+    → Faces own peer here there a y out coming → IsAtReceiver e → (GivesAMessage e → ⊥)
     → ((o : ℕ) → Brings coming e o → ⊥) → IsPlainEvent coming e → IsAt b here → Stands own peer b out (happens coming e)
     → Settles own peer here there b y out coming nothing_added nothing_read None_brought
 settles_by_receiver {here} own peer a b y out coming e f at none brings plain now s =
@@ -115,7 +125,8 @@ settles_by_receiver {here} own peer a b y out coming e f at none brings plain no
       coming2 = happens coming e;
       here2 = here;
       does_out = does_by_goes None_brought out out (goes_nowhere None_brought out);
-      does_coming = does_by_goes None_brought coming (happens coming e) (goes_by_receiver None_brought coming e at none brings);
+      does_coming =
+          does_by_goes None_brought coming (happens coming e) (goes_by_receiver None_brought coming e at none brings);
       sound_out = f.sound_out;
       sound_coming = record {
         invariant = each_event_keeps_the_invariant coming e f.within_coming f.sound_coming.invariant;
@@ -132,23 +143,31 @@ settles_by_receiver {here} own peer a b y out coming e f at none brings plain no
 
 -- The association failed
 
--- An association that failed, or fails in this call, stops receiving: that is an event of the direction that comes to it.
-pub fails_settle : {here there : Stage} (own peer : ℕ) (a b y : Shown) (out coming : Direction) → b.failed ≡ true → Faces own peer here there a y out coming
+-- An association that failed, or fails in this call, stops receiving: that is an event of the direction that comes to
+-- it.
+pub fails_settle : {here there : Stage} (own peer : ℕ) (a b y : Shown) (out coming : Direction) → b.failed ≡ true
+    → Faces own peer here there a y out coming
     → Settles own peer here there b y out coming nothing_added nothing_read None_brought
 fails_settle own peer a b y out coming failed f =
-    settles_by_receiver own peer a b y out coming Event.Close f tt (λ n. n) (λ o n. n) tt (λ working. absurd (true≢false (sym failed ∙ working)))
+    settles_by_receiver own peer a b y out coming Event.Close f tt (λ n. n) (λ o n. n) tt
+    (λ working. absurd (true≢false (sym failed ∙ working)))
     (inr (inr record { failed = failed; stopped = closed_receivers_are_not_open coming }))
 
 -- An open association goes on
 
 -- An open association whose status stays stands open where acts lead, between directions that fit what they did.
-pub open_on : (own peer : ℕ) (a b : Shown) (out coming out2 coming2 : Direction) (xs : List Act) (k : History) (s : StandsOpen own peer a out coming)
-    → AllByRecursion MeetsNobody xs → Leads xs a s.past b k → IsSameStatus a b → out2.sender.plan.size ≡ out.sender.plan.size → FitsOutgoing (done_all xs (parts a s.past)) out2
+pub open_on : (own peer : ℕ) (a b : Shown) (out coming out2 coming2 : Direction) (xs : List Act) (k : History)
+    (s : StandsOpen own peer a out coming)
+    → AllByRecursion MeetsNobody xs → Leads xs a s.past b k → IsSameStatus a b
+    → out2.sender.plan.size ≡ out.sender.plan.size → FitsOutgoing (done_all xs (parts a s.past)) out2
     → FitsIncoming (done_all xs (parts a s.past)) coming2 → StandsOpen own peer b out2 coming2
 open_on own peer a b out coming out2 coming2 xs k s nobody m status size outgoing incoming = record {
   past = k;
-  own_is = ap (λ (p : Parts). p.history.own) m.there ∙ (acts_keep_the_initial_tsns xs (parts a s.past) nobody).0 ∙ s.own_is;
-  peer_is = λ known. ap (λ (p : Parts). p.history.peer) m.there ∙ (acts_keep_the_initial_tsns xs (parts a s.past) nobody).1 ∙ s.peer_is (known_before a b status known);
+  own_is =
+      ap (λ (p : Parts). p.history.own) m.there ∙ (acts_keep_the_initial_tsns xs (parts a s.past) nobody).0 ∙ s.own_is;
+  peer_is =
+      λ known. ap (λ (p : Parts). p.history.peer) m.there ∙ (acts_keep_the_initial_tsns xs (parts a s.past) nobody).1
+      ∙ s.peer_is (known_before a b status known);
   binds = m.binds;
   working = status.failed ∙ s.working;
   come = come_on a b status s.come;
@@ -164,7 +183,8 @@ open_on own peer a b out coming out2 coming2 xs k s nobody m status size outgoin
 -- A closed association stays closed
 
 -- A closed association whose status stays, and whose streams hold nothing, stands closed.
-pub closed_on : (own : ℕ) (a b : Shown) (coming : Direction) → IsSameStatus a b → HoldsNothing b → StandsClosed own a coming → StandsClosed own b coming
+pub closed_on : (own : ℕ) (a b : Shown) (coming : Direction) → IsSameStatus a b → HoldsNothing b
+    → StandsClosed own a coming → StandsClosed own b coming
 closed_on own a b coming status empty s = record {
   closed = ap is_closed_state status.state ∙ s.closed;
   unestablished = ap is_established status.state ∙ s.unestablished;
@@ -175,7 +195,8 @@ closed_on own a b coming status empty s = record {
 }
 
 -- a failed association does nothing that one that works does
-pub by_working : (own peer : ℕ) (a : Shown) (out coming : Direction) (T : Type 0) → a.failed ≡ false → (StandsOpen own peer a out coming → T) → (StandsClosed own a coming → T)
+pub by_working : (own peer : ℕ) (a : Shown) (out coming : Direction) (T : Type 0) → a.failed ≡ false
+    → (StandsOpen own peer a out coming → T) → (StandsClosed own a coming → T)
     → Stands own peer a out coming → T
 by_working own peer a out coming T working opens closes h = ⊎_elim
     opens
@@ -187,34 +208,44 @@ by_working own peer a out coming T working opens closes h = ⊎_elim
 
 -- A stream is opened
 
-opened_open : {here there : Stage} (own peer : ℕ) (a y : Shown) (out coming : Direction) (id : ℕ) (kind : PayloadProtocolIdentifier) → IsNotLive a id
+opened_open : {here there : Stage} (own peer : ℕ) (a y : Shown) (out coming : Direction) (id : ℕ)
+    (kind : PayloadProtocolIdentifier) → IsNotLive a id
     → Faces own peer here there a y out coming → StandsOpen own peer a out coming
     → Settles own peer here there (opened a id kind) y out coming nothing_added nothing_read None_brought
 opened_open {here} own peer a y out coming id kind none f s =
     let first : ℕ = a.sender.queue.next_message_id in
     let m = open_leads_on a (opened a id kind) id kind refl s.past s.binds in
-    let fits = opened_streams_are_alike (parts a s.past) id first kind out coming none s.between.outgoing s.between.incoming in
+    let fits =
+    opened_streams_are_alike (parts a s.past) id first kind out coming none s.between.outgoing s.between.incoming in
     settles_by_receiver own peer a (opened a id kind) y out coming (Event.Open id) f tt (λ n. n) (λ o n. n) tt
     (at_same a (opened a id kind) here (opened_streams_keep_the_status a id kind) f.at)
-    (inl (open_on own peer a (opened a id kind) out coming out (happens coming (Event.Open id)) (Act.Opened id first kind ∷ []) m.0 s (tt, tt) m.1
+    (inl (open_on own peer a (opened a id kind) out coming out (happens coming (Event.Open id))
+    (Act.Opened id first kind ∷ []) m.0 s (tt, tt) m.1
     (opened_streams_keep_the_status a id kind) refl fits.0 fits.1))
 
-opened_settles : {here there : Stage} (own peer : ℕ) (a y : Shown) (out coming : Direction) (id : ℕ) (kind : PayloadProtocolIdentifier) → open_refusal a id ≡ None
-    → Faces own peer here there a y out coming → Settles own peer here there (opened a id kind) y out coming nothing_added nothing_read None_brought
+opened_settles : {here there : Stage} (own peer : ℕ) (a y : Shown) (out coming : Direction) (id : ℕ)
+    (kind : PayloadProtocolIdentifier) → open_refusal a id ≡ None
+    → Faces own peer here there a y out coming
+    → Settles own peer here there (opened a id kind) y out coming nothing_added nothing_read None_brought
 opened_settles {here} {there} own peer a y out coming id kind e f =
     let free = opened_streams_were_not_live a id e in
-    by_working own peer a out coming (Settles own peer here there (opened a id kind) y out coming nothing_added nothing_read None_brought) free.0
+    by_working own peer a out coming
+    (Settles own peer here there (opened a id kind) y out coming nothing_added nothing_read None_brought) free.0
     (λ s. opened_open own peer a y out coming id kind free.1 f s)
-    (λ s. still own peer a (opened a id kind) y out coming f (at_same a (opened a id kind) here (opened_streams_keep_the_status a id kind) f.at)
+    (λ s. still own peer a (opened a id kind) y out coming f
+    (at_same a (opened a id kind) here (opened_streams_keep_the_status a id kind) f.at)
     (inr (inl (closed_on own a (opened a id kind) coming (opened_streams_keep_the_status a id kind)
     (opened_streams_hold_nothing a id kind free.1 s.nothing_left) s))))
     f.stands
 
 -- A stream is opened at the application's trigger: where the association is closed, it stays empty.
-pub opens_settle : {here there : Stage} (own peer : ℕ) (a b y : Shown) (out coming : Direction) (id : ℕ) (kind : PayloadProtocolIdentifier) (r : Reply) → Opens a id kind r b
-    → Faces own peer here there a y out coming → Settles own peer here there b y out coming nothing_added nothing_read None_brought
+pub opens_settle : {here there : Stage} (own peer : ℕ) (a b y : Shown) (out coming : Direction) (id : ℕ)
+    (kind : PayloadProtocolIdentifier) (r : Reply) → Opens a id kind r b
+    → Faces own peer here there a y out coming
+    → Settles own peer here there b y out coming nothing_added nothing_read None_brought
 opens_settle {here} {there} own peer a b y out coming id kind replies.Done h f =
-    subst (λ z. Settles own peer here there z y out coming nothing_added nothing_read None_brought) (sym h.1) (opened_settles own peer a y out coming id kind h.0 f)
+    subst (λ z. Settles own peer here there z y out coming nothing_added nothing_read None_brought) (sym h.1)
+    (opened_settles own peer a y out coming id kind h.0 f)
 opens_settle own peer a b y out coming id kind (replies.Refused n) h f = same_settles own peer a b y out coming h.1 f
 opens_settle own peer a b y out coming id kind (replies.Wrote n) h f = absurd h
 opens_settle own peer a b y out coming id kind (replies.Read message) h f = absurd h

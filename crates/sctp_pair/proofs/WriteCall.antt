@@ -1,5 +1,6 @@
 -- A write that an association accepts: the direction accepts that message behind those accepted before.
-use Rattle.std.proofs.Common.{◌≡◌, refl, sym, ap, ◌∙◌, subst, inl, inr, ℕ, ◌≤◌, true, if◌then◌else◌, List, [], ◌∷◌, ◌++◌, length, Option, Some, None, is_some}
+use Rattle.std.proofs.Common.{◌≡◌, refl, sym, ap, ◌∙◌, subst, inl, inr, ℕ, ◌≤◌, true, if◌then◌else◌, List, [], ◌∷◌}
+use Rattle.std.proofs.Common.{◌++◌, length, Option, Some, None, is_some}
 use Rattle.std.specs.Prelude.{◌==◌, slice_get}
 use Rattle.std.proofs.lemmas.Bool.{true≢false}
 use Rattle.sctp_wire_types.specs.declared.error.Error.{Error}
@@ -16,15 +17,19 @@ use Rattle.sctp_assoc.specs.Shown.{Shown}
 use Rattle.sctp_assoc.proofs.Proved.{accepted_writes_fit, write_leads_on, writes_keep_the_status}
 use Rattle.sctp_directions.specs.Plain.{IsSimple}
 use Rattle.sctp_directions.specs.Outgoing.{message_on}
-use Rattle.sctp_directions.proofs.Proved.{only_beginnings_assign, own_acts_leave_what_comes, plain_events_keep_it_plain, senders_events_are_sent, senders_events_keep_the_invariant, senders_events_leave_what_comes, writes_are_accepted, writes_are_accepted_last}
+use Rattle.sctp_directions.proofs.Proved.{only_beginnings_assign, own_acts_leave_what_comes, plain_events_keep_it_plain}
+use Rattle.sctp_directions.proofs.Proved.{senders_events_are_sent, senders_events_keep_the_invariant}
+use Rattle.sctp_directions.proofs.Proved.{senders_events_leave_what_comes, writes_are_accepted}
+use Rattle.sctp_directions.proofs.Proved.{writes_are_accepted_last}
 use Rattle.sctp_pair.specs.declared.step.Reply.{Reply}
 use Rattle.sctp_pair.specs.declared.step.Reply.TheVariants as replies
 use Rattle.sctp_pair.specs.Fits.{StandsOpen}
 use Rattle.sctp_pair.specs.Steps.{Writes, first_refusal}
 use Rattle.sctp_pair.specs.World.{messages_on}
-use Rattle.sctp_pair.proofs.Between.{Does, Faces, None_brought, Settles, does_by_goes, goes_nowhere, nothing_read, other_by_out}
+use Rattle.sctp_pair.proofs.BetweenDirections.{Does, Faces, None_brought, Settles, does_by_goes, goes_nowhere}
+use Rattle.sctp_pair.proofs.BetweenDirections.{nothing_read, other_by_out}
 use Rattle.sctp_pair.proofs.SimpleCalls.{by_working, open_on, same_settles}
-use Rattle.sctp_pair.proofs.Stages.{at_same, stays_put}
+use Rattle.sctp_pair.proofs.HandshakeStages.{at_same, stays_put}
 
 -- what a write with this reply adds to what was accepted on stream s
 abbrev pub written_by : Reply → Shown → ℕ → List ℕ → ℕ → List Message
@@ -36,8 +41,10 @@ pub first_none : (x y : Option Error) → first_refusal x y ≡ None → y ≡ N
 first_none None y e = e
 first_none (Some fault) y e = absurd (true≢false (ap is_some e))
 
-write_does : (a : Shown) (id n : ℕ) (bytes : List ℕ) (t : StreamView) (w : Direction) → stream_at a.streams id ≡ Some t → IsSimple w.sender.plan.size (message_on t bytes)
-    → Does (written_by (replies.Wrote n) a id bytes) nothing_read None_brought w (happens w (Event.Write id (message_on t bytes)))
+write_does : (a : Shown) (id n : ℕ) (bytes : List ℕ) (t : StreamView) (w : Direction) → stream_at a.streams id ≡ Some t
+    → IsSimple w.sender.plan.size (message_on t bytes)
+    → Does (written_by (replies.Wrote n) a id bytes) nothing_read None_brought w
+    (happens w (Event.Write id (message_on t bytes)))
 write_does a id n bytes t w there simple =
     let sent = senders_events_are_sent w (Event.Write id (message_on t bytes)) tt in
     record {
@@ -53,9 +60,11 @@ write_does a id n bytes t w there simple =
       reach_on = sent.1;
     }
 
-written_settles : {here there : Stage} (own peer : ℕ) (a y : Shown) (out coming : Direction) (id n : ℕ) (bytes : List ℕ) → CanWrite a id (length bytes)
+written_settles : {here there : Stage} (own peer : ℕ) (a y : Shown) (out coming : Direction) (id n : ℕ) (bytes : List ℕ)
+    → CanWrite a id (length bytes)
     → Faces own peer here there a y out coming → StandsOpen own peer a out coming
-    → Settles own peer here there (written a id bytes) y out coming (written_by (replies.Wrote n) a id bytes) nothing_read None_brought
+    → Settles own peer here there (written a id bytes) y out coming (written_by (replies.Wrote n) a id bytes)
+    nothing_read None_brought
 written_settles {here} own peer a y out coming id n bytes can f s =
     let t : StreamView = can.live.stream in
     let there = can.live.there in
@@ -63,7 +72,8 @@ written_settles {here} own peer a y out coming id n bytes can f s =
     let out2 : Direction = happens out e in
     let sent = senders_events_are_sent out e tt in
     let one : length bytes ≤ out.sender.plan.size = subst (λ z. length bytes ≤ z) (sym s.size) can.one in
-    let simple : IsSimple out.sender.plan.size (message_on t bytes) = record { some = can.some; one = one; ordered = refl; policy = refl } in
+    let simple : IsSimple out.sender.plan.size
+    (message_on t bytes) = record { some = can.some; one = one; ordered = refl; policy = refl } in
     let m = write_leads_on a (written a id bytes) id bytes refl s.past s.binds in
     record {
       out2 = out2;
@@ -76,11 +86,15 @@ written_settles {here} own peer a y out coming id n bytes can f s =
         plain = plain_events_keep_it_plain out e simple f.sound_out.plain;
       };
       sound_coming = f.sound_coming;
-      stands = inl (open_on own peer a (written a id bytes) out coming out2 coming (Act.Wrote id bytes ∷ []) m.0 s (tt, tt) m.1
+      stands =
+          inl (open_on own peer a (written a id bytes) out coming out2 coming (Act.Wrote id bytes ∷ []) m.0
+          s (tt, tt) m.1
           (writes_keep_the_status a id bytes) sent.0.size
           (writes_are_accepted (parts a s.past) id bytes t out there can.some one f.sound_out.plain s.between.outgoing)
           (own_acts_leave_what_comes (Act.Wrote id bytes) (parts a s.past) coming tt s.between.incoming));
-      other = other_by_out peer own y coming out out2 (λ p g. senders_events_leave_what_comes p out e tt f.sound_out.invariant f.sound_out.plain g)
+      other =
+          other_by_out peer own y coming out out2
+          (λ p g. senders_events_leave_what_comes p out e tt f.sound_out.invariant f.sound_out.plain g)
           (ap (λ (r : Receiver). r.is_open) sent.0.receiver) f.other;
       goes = stays_put here;
       at = at_same a (written a id bytes) here (writes_keep_the_status a id bytes) f.at;
@@ -90,12 +104,16 @@ written_settles {here} own peer a y out coming id n bytes can f s =
     }
 
 -- A write: the message that an accepted one brings is the next of its stream. A closed association refuses it.
-pub writes_settle : {here there : Stage} (own peer : ℕ) (a b y : Shown) (out coming : Direction) (id : ℕ) (bytes : List ℕ) (r : Reply) → Writes a id bytes r b
-    → Faces own peer here there a y out coming → Settles own peer here there b y out coming (written_by r a id bytes) nothing_read None_brought
+pub writes_settle : {here there : Stage} (own peer : ℕ) (a b y : Shown) (out coming : Direction) (id : ℕ)
+    (bytes : List ℕ) (r : Reply) → Writes a id bytes r b
+    → Faces own peer here there a y out coming
+    → Settles own peer here there b y out coming (written_by r a id bytes) nothing_read None_brought
 writes_settle {here} {there} own peer a b y out coming id bytes (replies.Wrote n) h f =
     let can = accepted_writes_fit a id (length bytes) (first_none _ _ h.0) in
-    subst (λ z. Settles own peer here there z y out coming (written_by (replies.Wrote n) a id bytes) nothing_read None_brought) (sym h.2)
-    (by_working own peer a out coming (Settles own peer here there (written a id bytes) y out coming (written_by (replies.Wrote n) a id bytes) nothing_read None_brought) can.live.working
+    subst (λ z. Settles own peer here there z y out coming (written_by (replies.Wrote n) a id bytes) nothing_read
+    None_brought) (sym h.2)
+    (by_working own peer a out coming (Settles own peer here there (written a id bytes) y out coming
+    (written_by (replies.Wrote n) a id bytes) nothing_read None_brought) can.live.working
     (λ s. written_settles own peer a y out coming id n bytes can f s)
     (λ s. absurd (true≢false (sym can.established ∙ s.unestablished)))
     f.stands)

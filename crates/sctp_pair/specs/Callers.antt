@@ -1,5 +1,6 @@
 -- What a caller of a pair can tell of it by its steps and their replies alone: what it wrote and what it read.
-use Rattle.std.specs.Prelude.{◌≡◌, ℕ, ◌+◌, ◌&&◌, ◌==◌, Bool, false, if◌then◌else◌, List, [], ◌∷◌, ◌++◌, Option, Some, None}
+use Rattle.std.specs.Prelude.{◌≡◌, ℕ, ◌+◌, ◌&&◌, ◌==◌, Bool, false, if◌then◌else◌, List, [], ◌∷◌, ◌++◌, Option, Some}
+use Rattle.std.specs.Prelude.{None}
 use Rattle.sctp_receive_queues.specs.Messages.{ReceivedMessage, bytes_left}
 use Rattle.sctp_pair.specs.declared.step.Reply.{Reply}
 use Rattle.sctp_pair.specs.declared.step.Reply.TheVariants as replies
@@ -16,7 +17,8 @@ use Rattle.sctp_pair.specs.World.{empty_world, is_side, other_side}
 
 -- the message that this step wrote at side x on stream s, as its bytes, where the write was accepted
 abbrev pub bytes_written : Step → Reply → Side2 → ℕ → List (List ℕ)
-bytes_written (steps.Write side id bytes) (replies.Wrote count) x s = if is_side side x && (id == s) then bytes ∷ [] else []
+bytes_written (steps.Write side id bytes) (replies.Wrote count) x s =
+    if is_side side x && (id == s) then bytes ∷ [] else []
 bytes_written step reply x s = []
 
 -- the bytes of a message, if there is one
@@ -26,7 +28,8 @@ bytes_of (Some message) = bytes_left message ∷ []
 
 -- the message that a read of side x on stream s was answered, as its bytes
 abbrev pub bytes_read : Step → Reply → Side2 → ℕ → List (List ℕ)
-bytes_read (steps.Read side id) (replies.Read message) x s = if is_side side x && (id == s) then bytes_of message else []
+bytes_read (steps.Read side id) (replies.Read message) x s =
+    if is_side side x && (id == s) then bytes_of message else []
 bytes_read step reply x s = []
 
 -- this step handed side x a packet of the other side; one that is refused, or is not there, does not count
@@ -74,7 +77,8 @@ ReadsAreFronts ss rs = (x : Side2) (s : ℕ) → IsFrontOf (read_in ss rs (other
 abbrev pub NothingIsReadUnbrought : List Step → List Reply → Type 0
 NothingIsReadUnbrought ss rs = (x : Side2) (s : ℕ) → read_undelivered ss rs x s ≡ []
 
--- Each side accepted few pieces in all of these steps, where A puts at most size_a bytes of a message into a piece, B at most size_b.
+-- Each side accepted few pieces in all of these steps, where A puts at most size_a bytes of a message into a piece, B
+-- at most size_b.
 abbrev pub AcceptFew : ℕ → ℕ → List Step → List Reply → Type 0
 AcceptFew size_a size_b ss rs = AreFew (accepted_in size_a sides.A ss rs) (accepted_in size_b sides.B ss rs)
 
@@ -98,7 +102,8 @@ ComesOn more answers p q =
     (size_a size_b : ℕ) (ss : List Step) (rs : List Reply) → CameBy size_a size_b ss rs p
     → CameBy size_a size_b (ss ++ more) (rs ++ answers) q
 
--- Whatever steps led to p, this holds of them with these behind them, where each side accepted few pieces in all of them.
+-- Whatever steps led to p, this holds of them with these behind them, where each side accepted few pieces in all of
+-- them.
 abbrev pub HoldsOn : (List Step → List Reply → Type 0) → List Step → List Reply → Ends → Type 0
 HoldsOn Law more answers p =
     (size_a size_b : ℕ) (ss : List Step) (rs : List Reply) → CameBy size_a size_b ss rs p

@@ -1,4 +1,5 @@
--- Steps of a pair at which few pieces are accepted: who makes them counts the pieces of its own writes, and needs no other premise.
+-- Steps of a pair at which few pieces are accepted: who makes them counts the pieces of its own writes, and needs no
+-- other premise.
 use Rattle.std.specs.Prelude.{ℕ, ◌<◌, ◌+◌, if◌then◌else◌, List, [], ◌∷◌, length}
 use Rattle.sctp_directions.specs.Counted.{HasAccepted, pieces_in}
 use Rattle.sctp_pair.specs.declared.step.Reply.{Reply}
@@ -13,11 +14,12 @@ use Rattle.sctp_pair.specs.Fits.{Fits}
 
 -- the pieces, of at most `size` bytes each, of the message that this side accepted by the step, if that is such a write
 abbrev pub pieces_of : ℕ → Side2 → Step → Reply → ℕ
-pieces_of size x (steps.Write side id bytes) (replies.Wrote count) = if is_side side x then pieces_in size (length bytes) else 0
+pieces_of size x (steps.Write side id bytes) (replies.Wrote count) =
+    if is_side side x then pieces_in size (length bytes) else 0
 pieces_of size x step reply = 0
 
--- the pieces that A and B accepted by a step of the world; the payload sizes are those that the pair was made with, and stay
--- (`IsDirectionStep.size`)
+-- the pieces that A and B accepted by a step of the world; the payload sizes are those that the pair was made with, and
+-- stay (`IsDirectionStep.size`)
 abbrev pub pieces_a : World → Step → Reply → ℕ
 pieces_a w step reply = pieces_of w.ab.sender.plan.size sides.A step reply
 
@@ -34,15 +36,16 @@ pub record FitsCounted (n m : ℕ) (p : Ends) (w : World) : Type 0 where
 abbrev pub AreFew : ℕ → ℕ → Type 0
 AreFew n m = (n < 16384) × (m < 16384)
 
--- One step leads to a next world. Where each side accepted few pieces, this step's included, that is safe, and the pair fits it.
+-- One step leads to a next world. Where each side accepted few pieces, this step's included, that is safe, and the pair
+-- fits it.
 abbrev pub LeadsCounted : Step → Reply → World → ℕ → ℕ → Ends → Type 0
 LeadsCounted step reply w n m q =
     (v : World) × IsWorldStep step w reply v
     × (AreFew (n + pieces_a w step reply) (m + pieces_b w step reply)
     → IsSafeWorld v × FitsCounted (n + pieces_a w step reply) (m + pieces_b w step reply) q v)
 
--- The steps with these replies lead from world to world, from w on. As long as each side accepted few pieces, each is safe, and the
--- pair fits it.
+-- The steps with these replies lead from world to world, from w on. As long as each side accepted few pieces, each is
+-- safe, and the pair fits it.
 abbrev pub RunsCounted : List Step → List Reply → World → ℕ → ℕ → Ends → Type 0
 RunsCounted [] [] w n m q = FitsCounted n m q w
 RunsCounted (s ∷ ss) (r ∷ rs) w n m q =

@@ -16,8 +16,9 @@ use Rattle.sctp_pair.specs.Ends.{Ends}
 use Rattle.sctp_pair.specs.Steps.{packet_in}
 use Rattle.sctp_pair.specs.World.{IsSafeWorld, IsWithinLimits, IsWorldStep, World}
 
--- An association that was neither lost nor failed (a server that listens, in state Closed, is one, too) stands between its own direction
--- and the one that comes to it; own and peer are their initial TSNs. What it knows of the peer's is true.
+-- An association that was neither lost nor failed (a server that listens, in state Closed, is one, too) stands between
+-- its own direction and the one that comes to it; own and peer are their initial TSNs. What it knows of the peer's is
+-- true.
 pub record StandsOpen (own peer : ℕ) (a : Shown) (out coming : Direction) : Type 0 where
   pub past : History
   pub own_is : past.own ≡ own
@@ -30,8 +31,8 @@ pub record StandsOpen (own peer : ℕ) (a : Shown) (out coming : Direction) : Ty
   pub size : out.sender.plan.size ≡ a.sender.max_payload_size
   pub between : FitsBetween (parts a past) out coming
 
--- A closed one is lost and receives nothing more, the streams that were opened since then are empty, and what waits to go out is
--- truthful.
+-- A closed one is lost and receives nothing more, the streams that were opened since then are empty, and what waits to
+-- go out is truthful.
 pub record StandsClosed (own : ℕ) (a : Shown) (coming : Direction) : Type 0 where
   pub closed : is_closed_state a.state ≡ true
   pub unestablished : is_established a.state ≡ false
@@ -48,12 +49,13 @@ pub record StandsFailed (a : Shown) (coming : Direction) : Type 0 where
 abbrev pub Stands : ℕ → ℕ → Shown → Direction → Direction → Type 0
 Stands own peer a out coming = StandsOpen own peer a out coming ⊎ (StandsClosed own a coming ⊎ StandsFailed a coming)
 
--- an association that did not fail is in this stage of its handshake; a failed one may be in any of which its packets say what is so
+-- an association that did not fail is in this stage of its handshake; a failed one may be in any of which its packets
+-- say what is so
 abbrev pub IsAt : Shown → Stage → Type 0
 IsAt a s = a.failed ≡ false → stage_of a ≡ s
 
--- The stages of two sides agree: where both are clients, both are established or were; and where one is, or was, its DATA may come to
--- the other.
+-- The stages of two sides agree: where both are clients, both are established or were; and where one is, or was, its
+-- DATA may come to the other.
 pub record StagesAgree (s t : Stage) : Type 0 where
   pub one : IsDoneAmongClients s t
   pub other : IsDoneAmongClients t s
@@ -64,13 +66,15 @@ pub record StagesAgree (s t : Stage) : Type 0 where
 abbrev pub IsSilent : Stage → Direction → Type 0
 IsSilent s w = s.completed ≡ false → w.sender.plan.places ≡ []
 
--- a chunk that a side in this stage gives out: DATA of its own direction, a SACK for the one that comes to it, or its handshake's
+-- a chunk that a side in this stage gives out: DATA of its own direction, a SACK for the one that comes to it, or its
+-- handshake's
 abbrev pub IsSaidBy : ℕ → ℕ → Stage → Direction → Direction → Chunk → Type 0
 IsSaidBy own peer s out coming chunk = Says own peer out coming chunk ⊎ Greets own s chunk
 
 -- each datagram that a side gave out, if it spells a packet, is of such chunks
 abbrev pub AreSaid : ℕ → ℕ → Stage → Direction → Direction → List (List ℕ) → Type 0
-AreSaid own peer s out coming packets = AllByRecursion (λ (bytes : List ℕ). OfEachChunk (IsSaidBy own peer s out coming) (packet_in bytes)) packets
+AreSaid own peer s out coming packets =
+    AllByRecursion (λ (bytes : List ℕ). OfEachChunk (IsSaidBy own peer s out coming) (packet_in bytes)) packets
 
 -- A pair stands in a world: both directions are sound, and both sides stand between them.
 pub record StandsIn (p : Ends) (w : World) : Type 0 where
@@ -96,10 +100,11 @@ pub record Fits (p : Ends) (w : World) : Type 0 where
 
 -- One step leads to a next world, in which the pair stands then; where that is within the limits, it is safe.
 abbrev pub LeadsSafely : Step → Reply → World → Ends → Type 0
-LeadsSafely step reply w q = (v : World) × IsWorldStep step w reply v × StandsIn q v × (IsWithinLimits v → IsSafeWorld v)
+LeadsSafely step reply w q =
+    (v : World) × IsWorldStep step w reply v × StandsIn q v × (IsWithinLimits v → IsSafeWorld v)
 
--- The steps with these replies lead from world to world, from w on, and the pair stands in each. As long as each so far is within the
--- limits, it is safe too, and so it goes on; in the last one the pair fits.
+-- The steps with these replies lead from world to world, from w on, and the pair stands in each. As long as each so far
+-- is within the limits, it is safe too, and so it goes on; in the last one the pair fits.
 abbrev pub RunsSafely : List Step → List Reply → World → Ends → Type 0
 RunsSafely [] [] w q = Fits q w
 RunsSafely (s ∷ ss) (r ∷ rs) w q =

@@ -1,5 +1,6 @@
 -- What a step of a pair does and replies.
-use Rattle.std.specs.Prelude.{◌≡◌, ◌<◌, ◌⊎◌, ℕ, true, false, not, List, [], ◌∷◌, ◌++◌, ◌*◌, length, take, slice_get, Option, Some, None, Ok}
+use Rattle.std.specs.Prelude.{◌≡◌, ◌<◌, ◌⊎◌, ℕ, true, false, not, List, [], ◌∷◌, ◌++◌, ◌*◌, length, take, slice_get}
+use Rattle.std.specs.Prelude.{Option, Some, None, Ok}
 use Rattle.std.specs.Duration.{as_nanos}
 use Rattle.sctp_wire_types.specs.declared.error.Error.{Error}
 use Rattle.sctp_wire_types.specs.declared.error.Error.TheVariants as errors
@@ -7,11 +8,12 @@ use Rattle.sctp_wire_types.specs.declared.ids.PayloadProtocolIdentifier.{Payload
 use Rattle.sctp_wire_types.specs.Errors.{refusal_number}
 use Rattle.sctp_wire.specs.declared.packet.Packet.{Packet}
 use Rattle.sctp_wire.specs.Packets.{packet_at}
-use Rattle.sctp_assoc.specs.Calls.{buffered_of, deadline_of, event_polled, has_begun_closing, is_closed_state, open_refusal, opened, read_from_stream, stream_refusal, write_refusal, written}
+use Rattle.sctp_assoc.specs.Calls.{buffered_of, deadline_of, event_polled, has_begun_closing, is_closed_state}
+use Rattle.sctp_assoc.specs.Calls.{open_refusal, opened, read_from_stream, stream_refusal, write_refusal, written}
 use Rattle.sctp_assoc.specs.Chunks.{after_packet}
 use Rattle.sctp_assoc.specs.Happened.{PollsOn, acts_of_poll}
 use Rattle.sctp_assoc.specs.Inbound.{taken_packet}
-use Rattle.sctp_assoc.specs.Polled.{has_something_to_give, polled}
+use Rattle.sctp_assoc.specs.Gather.{has_something_to_give, polled}
 use Rattle.sctp_assoc.specs.Shown.{HasFailed, Shown, answers_of}
 use Rattle.sctp_assoc.specs.Timeouts.{after_timeouts, handshake_goes_out_again}
 use Rattle.sctp_pair.specs.declared.step.Reply.{Reply}
@@ -92,7 +94,8 @@ Expires a now _ b = ⊥
 -- of the packets of a poll the first one for which room was refused is lost, and all behind it
 abbrev pub LosesSome : Shown → List (List ℕ) → ℕ → ℕ → Shown → List (List ℕ) → Type 0
 LosesSome a packets now n b more =
-    (a.failed ≡ false) × (n ≡ refusal_number errors.ErrNoMemory) × ((polled a now).0 ≡ b) × PollsOn (acts_of_poll a now) a b (polled a now).1
+    (a.failed ≡ false) × (n ≡ refusal_number errors.ErrNoMemory) × ((polled a now).0 ≡ b)
+    × PollsOn (acts_of_poll a now) a b (polled a now).1
     × ((kept : ℕ) × (kept < length (polled a now).1) × (more ≡ packets ++ take kept (polled a now).1))
 
 -- packets get the next numbers of their side, or where room is refused a front of them that is not all
@@ -105,13 +108,14 @@ Keeps packets given (replies.Refused n) more =
     × ((kept : ℕ) × (kept < length given) × (more ≡ packets ++ take kept given))
 Keeps packets given _ more = ⊥
 
--- a poll for packets: they are what its acts give out, and get the next numbers of their side; that there are none is an answer of its
--- own; memory is wanted only where there is something to give
+-- a poll for packets: they are what its acts give out, and get the next numbers of their side; that there are none is
+-- an answer of its own; memory is wanted only where there is something to give
 abbrev pub GivesOut : Shown → List (List ℕ) → ℕ → Reply → Shown → List (List ℕ) → Type 0
 GivesOut a packets now replies.NothingSent b more =
     (a.failed ≡ false) × (polled a now ≡ (b, [])) × PollsOn (acts_of_poll a now) a b [] × (more ≡ packets)
 GivesOut a packets now (replies.Sent first count) b more =
-    (a.failed ≡ false) × (0 < count) × (first ≡ length packets) × (count ≡ length (polled a now).1) × ((polled a now).0 ≡ b)
+    (a.failed ≡ false) × (0 < count) × (first ≡ length packets) × (count ≡ length (polled a now).1)
+    × ((polled a now).0 ≡ b)
     × PollsOn (acts_of_poll a now) a b (polled a now).1 × (more ≡ packets ++ (polled a now).1)
 GivesOut a packets now (replies.Refused n) b more =
     (HadFailed a n b × (more ≡ packets))
@@ -126,8 +130,8 @@ packet_in bytes = taken_packet (packet_at bytes)
 abbrev pub LacksMemory : Shown → ℕ → Shown → Type 0
 LacksMemory a n b = (a.failed ≡ false) × (n ≡ refusal_number errors.ErrNoMemory) × (b ≡ a)
 
--- a packet comes, or a datagram that spells none; one that finds no memory to be read is dropped, and an association that
--- was lost does not fail by any
+-- a packet comes, or a datagram that spells none; one that finds no memory to be read is dropped, and an association
+-- that was lost does not fail by any
 abbrev pub TakesPacket : Shown → Option Packet → ℕ → Reply → Shown → Type 0
 TakesPacket a packet now replies.Done b = (a.failed ≡ false) × (b ≡ after_packet a packet now)
 TakesPacket a packet now (replies.Refused n) b =
@@ -183,7 +187,8 @@ Steps (steps.PollTimeout side) p r q = AtSide side p (λ a b. OnlyAnswers a (rep
 Steps (steps.PollTransmit side now) p r q = SendsAt side p now r q
 Steps (steps.HandleTimeout side now) p r q = AtSide side p (λ a b. Expires a now r b) q
 Steps (steps.Deliver side number now) p r q = ComesTo side p number now r q
-Steps (steps.IsHandshaking side) p r q = AtSide side p (λ a b. OnlyAnswers a (replies.State (not a.handshake.completed)) r b) q
+Steps (steps.IsHandshaking side) p r q =
+    AtSide side p (λ a b. OnlyAnswers a (replies.State (not a.handshake.completed)) r b) q
 Steps (steps.IsClosed side) p r q = AtSide side p (λ a b. OnlyAnswers a (replies.State (is_closed_state a.state)) r b) q
 Steps (steps.IsClosing side) p r q = AtSide side p (λ a b. OnlyAnswers a (replies.State (has_begun_closing a)) r b) q
 Steps (steps.IsDrained side) p r q = AtSide side p (λ a b. OnlyAnswers a (replies.State a.lost) r b) q

@@ -1,5 +1,6 @@
 -- Both directions between two associations that face each other, and all that ever happened in them.
-use Rattle.std.specs.Prelude.{◌≡◌, ◌≤◌, ℕ, Bool, true, false, ◌&&◌, ◌++◌, ◌+◌, ◌==◌, ◌⊎◌, if◌then◌else◌, List, [], ◌∷◌, map, slice_get, Option, Some, None, Ok}
+use Rattle.std.specs.Prelude.{◌≡◌, ◌≤◌, ℕ, Bool, true, false, ◌&&◌, ◌++◌, ◌+◌, ◌==◌, ◌⊎◌, if◌then◌else◌, List, [], ◌∷◌}
+use Rattle.std.specs.Prelude.{map, slice_get, Option, Some, None, Ok}
 use Rattle.sctp_wire_types.specs.declared.chunk.Chunk.TheVariants as chunks
 use Rattle.sctp_wire_types.specs.declared.chunk.ChunkForwardTsn.{ChunkForwardTsn}
 use Rattle.sctp_wire_types.specs.declared.chunk.ChunkIForwardTsn.{ChunkIForwardTsn}
@@ -29,8 +30,8 @@ use Rattle.sctp_pair.specs.declared.step.Step.TheVariants as steps
 use Rattle.sctp_pair.specs.Ends.{Ends, end_of, packets_of}
 use Rattle.sctp_pair.specs.Steps.{Steps, packet_in}
 
--- Both associations with every packet that they gave out, their initial TSNs, and the two directions: what was accepted on each
--- stream and on which offsets it stands, what was given out, what was taken in, and what was read.
+-- Both associations with every packet that they gave out, their initial TSNs, and the two directions: what was accepted
+-- on each stream and on which offsets it stands, what was given out, what was taken in, and what was read.
 pub record World : Type 0 where
   pub ends : Ends
   pub initial_a : ℕ
@@ -85,14 +86,18 @@ HasData None t = ⊥
 HasData (Some packet) t =
     (k : ℕ) × (c : ChunkPayloadData) × (slice_get packet.chunks k ≡ Some (chunks.Data c)) × (c.tsn ≡ t)
 
--- The packet has a FORWARD TSN with this new cumulative TSN (RFC 3758 section 3.2), or an I-FORWARD-TSN (RFC 8260 section 2.3.1).
+-- The packet has a FORWARD TSN with this new cumulative TSN (RFC 3758 section 3.2), or an I-FORWARD-TSN (RFC 8260
+-- section 2.3.1).
 abbrev pub HasForward : Option Packet → ℕ → Type 0
 HasForward None t = ⊥
 HasForward (Some packet) t =
-    ((k : ℕ) × (c : ChunkForwardTsn) × (slice_get packet.chunks k ≡ Some (chunks.ForwardTsn c)) × (c.new_cumulative_tsn ≡ t))
-    ⊎ ((k : ℕ) × (c : ChunkIForwardTsn) × (slice_get packet.chunks k ≡ Some (chunks.IForwardTsn c)) × (c.new_cumulative_tsn ≡ t))
+    ((k : ℕ) × (c : ChunkForwardTsn) × (slice_get packet.chunks k ≡ Some (chunks.ForwardTsn c))
+    × (c.new_cumulative_tsn ≡ t))
+    ⊎ ((k : ℕ) × (c : ChunkIForwardTsn) × (slice_get packet.chunks k ≡ Some (chunks.IForwardTsn c))
+    × (c.new_cumulative_tsn ≡ t))
 
--- A step with this reply may end the span of stream s: it resets, retires or stops the stream at either end. So far none does.
+-- A step with this reply may end the span of stream s: it resets, retires or stops the stream at either end. So far
+-- none does.
 abbrev pub EndsSpan : Step → Reply → ℕ → Type 0
 EndsSpan step reply s = ⊥
 
@@ -100,14 +105,17 @@ EndsSpan step reply s = ⊥
 abbrev pub IsOpen : Shown → Type 0
 IsOpen a = (a.failed ≡ false) × (is_closed_state a.state ≡ false)
 
--- What a step does to the direction from one side to the other, of this initial TSN: its write is accepted, its read gives the
--- next message, and nothing is taken in but DATA of the packet that it delivers. Whatever else it does are events of the model; the
--- acknowledged reach never moves back, and a sender that isn't open afterwards assigned no offset. What a step may leave out of the
--- promise is bounded, too: whose span ends, what is passed over or given up, and who stops receiving.
-pub record IsDirectionStep (step : Step) (reply : Reply) (sender receiver : Side2) (w : World) (q : Ends) (initial : ℕ) (before after : Direction) : Type 0 where
+-- What a step does to the direction from one side to the other, of this initial TSN: its write is accepted, its read
+-- gives the next message, and nothing is taken in but DATA of the packet that it delivers. Whatever else it does are
+-- events of the model; the acknowledged reach never moves back, and a sender that isn't open afterwards assigned no
+-- offset. What a step may leave out of the promise is bounded, too: whose span ends, what is passed over or given up,
+-- and who stops receiving.
+pub record IsDirectionStep (step : Step) (reply : Reply) (sender receiver : Side2) (w : World) (q : Ends) (initial : ℕ)
+    (before after : Direction) : Type 0 where
   pub events : List Event
   pub happened : after ≡ run events before
-  pub accepted : (s : ℕ) → after.sender.plan.accepted s ≡ before.sender.plan.accepted s ++ accepted_at step reply sender s w
+  pub accepted : (s : ℕ)
+      → after.sender.plan.accepted s ≡ before.sender.plan.accepted s ++ accepted_at step reply sender s w
   pub read : (s : ℕ) → IsReadAs (message_read step reply receiver s) (before.reads s) (after.reads s)
   pub taken : (o : ℕ) → mem o after.receiver.taken ≡ true
       → (mem o before.receiver.taken ≡ true) ⊎ HasData (packet_brought step reply receiver w) (tsn initial o)
@@ -115,18 +123,19 @@ pub record IsDirectionStep (step : Step) (reply : Reply) (sender receiver : Side
   pub no_more : IsOpen (end_of sender q) ⊎ (after.sender.plan.places ≡ before.sender.plan.places)
   -- the payload size, by which messages are cut, stays
   pub size : after.sender.plan.size ≡ before.sender.plan.size
-  -- a stream's span ends only where the step resets, retires or stops the stream at either end (RFC 6525 section 5), and does not
-  -- begin again
+  -- a stream's span ends only where the step resets, retires or stops the stream at either end (RFC 6525 section 5),
+  -- and does not begin again
   pub span : (s : ℕ) → after.over s ≡ true → (before.over s ≡ true) ⊎ EndsSpan step reply s
   pub span_over : (s : ℕ) → before.over s ≡ true → after.over s ≡ true
-  -- what the receiver passed over moves only to the new cumulative TSN of a FORWARD TSN in the packet that the step delivers
-  -- (RFC 3758 section 3.6); `passed` is one past the greatest offset passed over
+  -- what the receiver passed over moves only to the new cumulative TSN of a FORWARD TSN in the packet that the step
+  -- delivers (RFC 3758 section 3.6); `passed` is one past the greatest offset passed over
   pub passed : (after.receiver.passed ≡ before.receiver.passed)
       ⊎ HasForward (packet_brought step reply receiver w) (tsn_before (tsn initial after.receiver.passed))
   -- no reliable message is given up (RFC 3758 section 3.5)
   pub given_up : (s i : ℕ) → after.sender.gone s i ≡ true
       → (before.sender.gone s i ≡ true) ⊎ (is_reliable (message_at after.sender.plan s i).policy ≡ false)
-  -- the receiver of a side that is neither closed nor failed after the step does not close, and a closed one does not open again
+  -- the receiver of a side that is neither closed nor failed after the step does not close, and a closed one does not
+  -- open again
   pub closes : (after.receiver.is_open ≡ true) ⊎ ((before.receiver.is_open ≡ false) ⊎ (IsOpen (end_of receiver q) → ⊥))
   pub stays_closed : before.receiver.is_open ≡ false → after.receiver.is_open ≡ false
 
@@ -142,11 +151,11 @@ pub record IsWorldStep (step : Step) (w : World) (reply : Reply) (v : World) : T
 abbrev pub IsWithinLimits : World → Type 0
 IsWithinLimits w = IsWithin w.ab × IsWithin w.ba
 
--- What is promised of the direction w from one association to the other: each stream within its span is safe, and what safety
--- speaks of are the associations' own values: the receiver is open where it is neither closed nor failed; of a stream within its span
--- what is ready is what reads would answer one after another, and what is released is what was accepted and is not buffered. Past its
--- span a stream may have begun anew at either end, while the direction counts on. A span ends by such a step alone
--- (`IsDirectionStep.span`), and none is over in the empty world.
+-- What is promised of the direction w from one association to the other: each stream within its span is safe, and what
+-- safety speaks of are the associations' own values: the receiver is open where it is neither closed nor failed; of a
+-- stream within its span what is ready is what reads would answer one after another, and what is released is what was
+-- accepted and is not buffered. Past its span a stream may have begun anew at either end, while the direction counts
+-- on. A span ends by such a step alone (`IsDirectionStep.span`), and none is over in the empty world.
 pub record IsPromised (sender receiver : Shown) (w : Direction) : Type 0 where
   pub safe : (s : ℕ) → w.over s ≡ false → IsSafe w s
   pub opens : IsOpen receiver → w.receiver.is_open ≡ true

@@ -4,8 +4,9 @@ ghost use Rattle.sctp_wire.specs.Packets.{finished};
 ghost use Rattle.sctp_assoc.specs.Calls.{RefusesOrLacksMemory, written};
 ghost use Rattle.sctp_assoc.specs.Chunks.{after_packet};
 ghost use Rattle.sctp_assoc.specs.Inbound.{taken_packet};
-ghost use Rattle.sctp_assoc.specs.Polled.{bytes_within};
-ghost use Rattle.sctp_pair.specs.Steps.{Buffers, Delivers, Expires, Fails, Finds, GivesOut, HadFailed, Opens, Reads, Keeps, TakesIn, TakesPacket, Tells, Writes, refusal_to_write};
+ghost use Rattle.sctp_assoc.specs.Gather.{bytes_within};
+ghost use Rattle.sctp_pair.specs.Steps.{Buffers, Delivers, Expires, Fails, Finds, GivesOut, HadFailed, Opens, Reads};
+ghost use Rattle.sctp_pair.specs.Steps.{Keeps, TakesIn, TakesPacket, Tells, Writes, refusal_to_write};
 
 use crate::Reply;
 use bytes::Bytes;
@@ -144,8 +145,8 @@ fn keep_all(packets: &mut Vec<Bytes>, sent: Vec<Bytes>) -> Result<(), AllocError
     Ok(())
 }
 
-// Hands a packet that the other side gave out to an association. A packet that finds no memory to be read is lost. A failed
-// association refuses each datagram, whatever it spells.
+// Hands a packet that the other side gave out to an association. A packet that finds no memory to be read is lost. A
+// failed association refuses each datagram, whatever it spells.
 pub(crate) fn deliver(
     association: &mut Association,
     packets: &[Bytes],

@@ -1,13 +1,14 @@
 // The pair, and a run of steps on it.
 ghost use Rattle.std.specs.Prelude.{◌≡◌, ℕ, length, slice_get, [], ◌∷◌, None, OnErr, IfOk, vec_len};
 ghost use Rattle.std.specs.Option.{option_copied};
-ghost use Rattle.sctp_assoc.specs.Join.{client, create_refusal, join_refusal, joined, server};
+ghost use Rattle.sctp_assoc.specs.Created.{client, create_refusal, join_refusal, joined, server};
 ghost use Rattle.sctp_pair.specs.Callers.{CameBy, ComesOn, HoldsOn, NothingIsReadUnbrought, ReadsAreFronts};
 ghost use Rattle.sctp_pair.specs.Ends.{JoinRefuses, packets_of, end_of};
 ghost use Rattle.sctp_pair.specs.World.{World, empty_world};
 ghost use Rattle.sctp_pair.specs.Counted.{FitsCounted, LeadsCounted, RunsCounted};
 ghost use Rattle.sctp_pair.specs.Fits.{Fits, LeadsSafely, RunsSafely};
-ghost use Rattle.sctp_pair.specs.Steps.{AtSide, Buffers, ComesTo, Expires, Finds, Opens, Reads, Runs, SendsAt, Steps, Tells, Writes};
+ghost use Rattle.sctp_pair.specs.Steps.{AtSide, Buffers, ComesTo, Expires, Finds, Opens, Reads, Runs, SendsAt, Steps};
+ghost use Rattle.sctp_pair.specs.Steps.{Tells, Writes};
 
 use crate::{Reply, Side2, Step, calls};
 use bytes::Bytes;
@@ -78,8 +79,10 @@ impl Pair {
         ensures refused { JoinRefuses result
             (join_refusal max_payload_size_a token_a.now token_b.now)
             (join_refusal max_payload_size_b token_b.now token_a.now) }
-        ensures fits { IfOk result (λ p. Fits p (empty_world p token_a.now.initial_tsn token_b.now.initial_tsn max_payload_size_a max_payload_size_b)) }
-        ensures counted { IfOk result (λ p. FitsCounted 0 0 p (empty_world p token_a.now.initial_tsn token_b.now.initial_tsn max_payload_size_a max_payload_size_b)) }
+        ensures fits { IfOk result (λ p. Fits p
+            (empty_world p token_a.now.initial_tsn token_b.now.initial_tsn max_payload_size_a max_payload_size_b)) }
+        ensures counted { IfOk result (λ p. FitsCounted 0 0 p
+            (empty_world p token_a.now.initial_tsn token_b.now.initial_tsn max_payload_size_a max_payload_size_b)) }
         ensures new { IfOk result (λ p. CameBy max_payload_size_a max_payload_size_b [] [] p) }
     {
         let a = Association::new_with_out_of_band_init(
@@ -142,9 +145,11 @@ impl Pair {
           packets_a = [];
           packets_b = [];
         }) }
-        ensures refused { JoinRefuses result (create_refusal max_payload_size_a tsn_a) (create_refusal max_payload_size_b tsn_b) }
+        ensures refused { JoinRefuses result (create_refusal max_payload_size_a tsn_a)
+            (create_refusal max_payload_size_b tsn_b) }
         ensures fits { IfOk result (λ p. Fits p (empty_world p tsn_a tsn_b max_payload_size_a max_payload_size_b)) }
-        ensures counted { IfOk result (λ p. FitsCounted 0 0 p (empty_world p tsn_a tsn_b max_payload_size_a max_payload_size_b)) }
+        ensures counted { IfOk result
+            (λ p. FitsCounted 0 0 p (empty_world p tsn_a tsn_b max_payload_size_a max_payload_size_b)) }
         ensures new { IfOk result (λ p. CameBy max_payload_size_a max_payload_size_b [] [] p) }
     {
         let a = Association::new(
@@ -216,12 +221,14 @@ impl Pair {
     /// from world to world, in each of which the pair stands. As long as each so far is within the limits, it is safe
     /// (`headline`). As long as the messages that each side accepted since the pair was made have fewer than 16,384
     /// pieces, each of these worlds is safe (`counted`).
-    #[tactic(auto, using(crate::proofs::Worlds::runs_lead, crate::proofs::Counted::runs_lead_counted))]
+    #[tactic(auto, using(crate::proofs::RunsOfWorlds::runs_lead, crate::proofs::Counted::runs_lead_counted))]
     pub fn run(&mut self, steps: &[Step]) -> Result<Vec<Reply>, Error>
         ensures ok { IfOk result (λ replies. Runs steps.now replies.items self.old self.new) }
         ensures refused { OnErr result ((result ≡ Err Error.ErrNoMemory) × (self.new ≡ self.old)) }
-        ensures headline { IfOk result (λ replies. (w : World) → Fits self.old w → RunsSafely steps.now replies.items w self.new) }
-        ensures counted { IfOk result (λ replies. (n m : ℕ) (w : World) → FitsCounted n m self.old w → RunsCounted steps.now replies.items w n m self.new) }
+        ensures headline { IfOk result (λ replies. (w : World) → Fits self.old w
+            → RunsSafely steps.now replies.items w self.new) }
+        ensures counted { IfOk result (λ replies. (n m : ℕ) (w : World) → FitsCounted n m self.old w
+            → RunsCounted steps.now replies.items w n m self.new) }
         ensures came { IfOk result (λ replies. ComesOn steps.now replies.items self.old self.new) }
         ensures front { IfOk result (λ replies. HoldsOn ReadsAreFronts steps.now replies.items self.old) }
         ensures brought { IfOk result (λ replies. HoldsOn NothingIsReadUnbrought steps.now replies.items self.old) }
@@ -236,11 +243,12 @@ impl Pair {
     /// From each world that the pair fits, the step leads to a next one, in which the pair stands. Where that is
     /// within the limits, it is safe (`headline`). Where the messages that each side accepted, this step's included,
     /// have fewer than 16,384 pieces, the next world is safe (`counted`).
-    #[tactic(auto, using(crate::proofs::Assembled::step_leads, crate::proofs::Counted::step_leads_counted))]
+    #[tactic(auto, using(crate::proofs::StepsLead::step_leads, crate::proofs::Counted::step_leads_counted))]
     pub fn step(&mut self, step: &Step) -> Reply
         ensures exact { Steps step.now self.old result self.new }
         ensures headline { (w : World) → Fits self.old w → LeadsSafely step.now result w self.new }
-        ensures counted { (n m : ℕ) (w : World) → FitsCounted n m self.old w → LeadsCounted step.now result w n m self.new }
+        ensures counted { (n m : ℕ) (w : World) → FitsCounted n m self.old w
+            → LeadsCounted step.now result w n m self.new }
         ensures came { ComesOn (step.now ∷ []) (result ∷ []) self.old self.new }
         ensures front { HoldsOn ReadsAreFronts (step.now ∷ []) (result ∷ []) self.old }
         ensures brought { HoldsOn NothingIsReadUnbrought (step.now ∷ []) (result ∷ []) self.old }
@@ -248,7 +256,7 @@ impl Pair {
         self.carry_out(step)
     }
 
-    #[tactic(auto, using(crate::proofs::Running::run_next))]
+    #[tactic(auto, using(crate::proofs::RunsJoined::run_next))]
     fn carry_out_all(&mut self, steps: &[Step]) -> Result<Vec<Reply>, Error>
         ensures ok { IfOk result (λ replies. Runs steps.now replies.items self.old self.new) }
         ensures refused { OnErr result ((result ≡ Err Error.ErrNoMemory) × (self.new ≡ self.old)) }

@@ -1,4 +1,5 @@
-use Rattle.std.proofs.Common.{◌≡◌, ◌↔◌, ℕ, ◌≤◌, min, Option, Some, None, IfSome, IsNone, refl, ap, sym, ◌∙◌, ◌⊎◌, ⊎_elim, arith, rules}
+use Rattle.std.proofs.Common.{◌≡◌, ◌↔◌, ℕ, ◌≤◌, min, Option, Some, None, IfSome, IsNone, refl, ap, sym, ◌∙◌, ◌⊎◌}
+use Rattle.std.proofs.Common.{⊎_elim, arith, rules}
 use Rattle.sctp_parts.specs.declared.timer.Timer.{Timer}
 use Rattle.sctp_parts.specs.declared.timer.Timer.TheVariants.{T1Init, T1Cookie, T2Shutdown, T3RTX, Reconfig, Ack}
 use Rattle.sctp_parts.specs.Timers.{Timers, moment_of, earlier, least_moment, IsNoneArmed, IsLeastArmed}
@@ -53,7 +54,8 @@ of_earlier : (t : Timers) (a b : Option ℕ) → IsOfTimer t a → IsOfTimer t b
 of_earlier t None b f g m e = g m e
 of_earlier t (Some a) None f g m e = f m e
 of_earlier t (Some a) (Some b) f g m e =
-    ⊎_elim (λ (h : min a b ≡ a). f m (ap Some (sym h) ∙ e)) (λ (h : min a b ≡ b). g m (ap Some (sym h) ∙ e)) (min_cases a b)
+    ⊎_elim (λ (h : min a b ≡ a). f m (ap Some (sym h) ∙ e)) (λ (h : min a b ≡ b). g m (ap Some (sym h) ∙ e))
+    (min_cases a b)
   where
     min_cases : (x y : ℕ) → (min x y ≡ x) ⊎ (min x y ≡ y)
     min_cases x y = grind arith
@@ -72,7 +74,8 @@ some_least (Some m) P f = f m refl
 pub least_armed : (t : Timers) → IfSome (least_moment t) (λ moment. IsLeastArmed t moment)
 least_armed t = some_least (least_moment t) _ (λ m e. record {
   armed = least_of_timer t m e;
-  least = λ timer other is. let found = least_at_most t timer other is in omega (arith, found.2, same m found.0 (sym e ∙ found.1));
+  least = λ timer other is. let found = least_at_most t timer other is in
+      omega (arith, found.2, same m found.0 (sym e ∙ found.1));
 })
   where
     same : (x y : ℕ) → Some x ≡ Some y → x ≡ y

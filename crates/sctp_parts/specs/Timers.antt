@@ -1,4 +1,5 @@
-use Rattle.std.specs.Prelude.{◌≡◌, ℕ, ◌+◌, ◌-◌, ◌*◌, ◌^◌, ◌≤◌, min, nat_lt, nat_le, Bool, true, false, ◌&&◌, not, if◌then◌else◌, Option, Some, None, List, [], ◌∷◌, fold}
+use Rattle.std.specs.Prelude.{◌≡◌, ℕ, ◌+◌, ◌-◌, ◌*◌, ◌^◌, ◌≤◌, min, nat_lt, nat_le, Bool, true, false, ◌&&◌, not}
+use Rattle.std.specs.Prelude.{if◌then◌else◌, Option, Some, None, List, [], ◌∷◌, fold}
 use Rattle.sctp_parts.specs.declared.timer.Expiry.{Expiry}
 use Rattle.sctp_parts.specs.declared.timer.Timer.{Timer}
 use Rattle.sctp_parts.specs.declared.timer.Timer.TheVariants.{T1Init, T1Cookie, T2Shutdown, T3RTX, Reconfig, Ack}
@@ -11,8 +12,8 @@ pub record TimerState : Type 0 where
   pub exempt : Bool
 
 -- a map from the six names to their timers, with the limits on retries (None for no limit) of the handshake's timers
--- and of T3RTX, and the greatest interval, in ms, to which a timer backs off (RFC 4960 section 15: Max.Init.Retransmits,
--- Association.Max.Retrans, RTO.Max)
+-- and of T3RTX, and the greatest interval, in ms, to which a timer backs off (RFC 4960 section 15:
+-- Max.Init.Retransmits, Association.Max.Retrans, RTO.Max)
 pub record Timers : Type 0 where
   pub t1_init : TimerState
   pub t1_cookie : TimerState
@@ -91,7 +92,8 @@ pub record IsLeastArmed (t : Timers) (moment : ℕ) : Type 0 where
   pub armed : (timer : Timer) × (moment_of timer t ≡ Some moment)
   pub least : (timer : Timer) (other : ℕ) → moment_of timer t ≡ Some other → moment ≤ other
 
--- the timeout, in ms, after a number of retries: doubled for each, up to a greatest one (RFC 4960 section 6.3.3, rule E2)
+-- the timeout, in ms, after a number of retries: doubled for each, up to a greatest one (RFC 4960 section 6.3.3, rule
+-- E2)
 unfoldable pub backed_off : ℕ → ℕ → ℕ → ℕ
 backed_off rto retries rto_max = if nat_lt retries 31 then min (rto * 2 ^ retries) rto_max else rto_max
 
@@ -159,7 +161,8 @@ abbrev pub passes : ℕ → Option ℕ → Bool
 passes retries None = false
 passes retries (Some limit) = nat_lt limit retries
 
--- what is seen of a timer at a moment: whether it expired, whether the retry that this added passes the limit, and the retries
+-- what is seen of a timer at a moment: whether it expired, whether the retry that this added passes the limit, and the
+-- retries
 abbrev pub expiry_of : Timer → ℕ → Timers → Expiry
 expiry_of timer after t =
     let due = is_due (moment_of timer t) after in

@@ -1,13 +1,6 @@
 // The estimate of the timeout of retransmissions (RFC 4960 section 6.3.1).
 ghost use Rattle.std.specs.Prelude.{◌≡◌, ◌-◌, ◌^◌, min};
-ghost use Rattle.sctp_parts.specs.Estimate.{
-  initial_estimate,
-  measured,
-  forgotten,
-  next_four_rttvar,
-  next_srtt,
-  rto_of,
-};
+ghost use Rattle.sctp_parts.specs.Estimate.{initial_estimate, measured, forgotten, next_four_rttvar, next_srtt, rto_of};
 
 use std::marker::Model;
 

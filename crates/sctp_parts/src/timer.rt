@@ -125,25 +125,10 @@ impl Default for TimerTable {
 
 impl TimerTable {
     ghost use Rattle.sctp_parts.specs.declared.timer.Timer.{Timer};
-    ghost use Rattle.sctp_parts.specs.Timers.{
-      stopped_timers,
-      moment_of,
-      with_moment,
-      least_moment,
-      IsNoneArmed,
-      IsLeastArmed,
-      started,
-      restarted_if_stale,
-      with_stopped,
-      without_retries,
-      with_exemption,
-      after_expiry,
-      expiry_of,
-      timer_at,
-      with_timer,
-      limit_of,
-      run_of,
-    };
+    ghost use Rattle.sctp_parts.specs.Timers.{stopped_timers, moment_of, with_moment, least_moment, IsNoneArmed};
+    ghost use Rattle.sctp_parts.specs.Timers.{IsLeastArmed, started, restarted_if_stale, with_stopped, without_retries};
+    ghost use Rattle.sctp_parts.specs.Timers.{with_exemption, after_expiry, expiry_of, timer_at, with_timer, limit_of};
+    ghost use Rattle.sctp_parts.specs.Timers.{run_of};
 
     /// Six stopped timers. `max_init` limits the retries of T1Init, T1Cookie and Reconfig, `max_data` those of T3RTX;
     /// None is no limit. `rto_max` is the greatest interval, in ms, to which a timer backs off.
@@ -236,8 +221,8 @@ impl TimerTable {
         self.set_entry(timer, entry);
     }
 
-    /// Looks at the timer at the moment `after`. It expired where it is armed at a moment that is not after it; an expiry
-    /// adds one retry or uses up the exemption. The timer stays armed.
+    /// Looks at the timer at the moment `after`. It expired where it is armed at a moment that is not after it; an
+    /// expiry adds one retry or uses up the exemption. The timer stays armed.
     pub fn is_expired(&mut self, timer: Timer, after: Instant) -> Expiry
         ensures state { self.new ≡ after_expiry timer after self.old }
         ensures answer { result ≡ expiry_of timer after self.old }

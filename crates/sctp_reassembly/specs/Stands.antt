@@ -1,6 +1,7 @@
--- A stream's reassembly stands for a queue of the model: it holds the same pieces, put together by messages (RFC 4960 sections 6.5,
--- 6.6 and 6.9).
-use Rattle.std.specs.Prelude.{◌≡◌, ℕ, suc, ◌+◌, ◌%◌, ◌<◌, ◌≤◌, ◌⊎◌, Bool, true, false, not, ◌&&◌, ◌==◌, List, [], ◌∷◌, ◌++◌, length, map, filter, flat_map, nat_lt, if◌then◌else◌, Option, Some, None, ⊤}
+-- A stream's reassembly stands for a queue of the model: it holds the same pieces, put together by messages (RFC 4960
+-- sections 6.5, 6.6 and 6.9).
+use Rattle.std.specs.Prelude.{◌≡◌, ℕ, suc, ◌+◌, ◌%◌, ◌<◌, ◌≤◌, ◌⊎◌, Bool, true, false, not, ◌&&◌, ◌==◌, List, [], ◌∷◌}
+use Rattle.std.specs.Prelude.{◌++◌, length, map, filter, flat_map, nat_lt, if◌then◌else◌, Option, Some, None, ⊤}
 use Rattle.std.specs.List.{AllByRecursion}
 use Rattle.sctp_wire_types.specs.declared.chunk.ChunkPayloadData.{ChunkPayloadData}
 use Rattle.sctp_wire_types.specs.declared.error.Error.{Error}
@@ -70,8 +71,8 @@ letter_received m = record { payload_type = number_of m.payload_type; bytes = by
 
 -- The pieces of unordered messages that wait for others of their message (RFC 4960 sections 6.6 and 6.9).
 
--- the run begins at the next offset, and that is of the same message: the piece at the offset o doesn't end its own (RFC 4960
--- section 3.3.1)
+-- the run begins at the next offset, and that is of the same message: the piece at the offset o doesn't end its own
+-- (RFC 4960 section 3.3.1)
 abbrev pub leads : Plan → ℕ → List ℕ → Bool
 leads p o [] = false
 leads p o (x ∷ xs) = (x == suc o) && not (is_last p (place_at p o))
@@ -81,8 +82,8 @@ abbrev pub led : Plan → ℕ → List (List ℕ) → List (List ℕ)
 led p o [] = (o ∷ []) ∷ []
 led p o (r ∷ rs) = if leads p o r then (o ∷ r) ∷ rs else (o ∷ []) ∷ r ∷ rs
 
--- Ascending offsets cut into runs, each as long as can be: the offsets of a run follow one another, and its pieces are of one message
--- (RFC 4960 section 6.9).
+-- Ascending offsets cut into runs, each as long as can be: the offsets of a run follow one another, and its pieces are
+-- of one message (RFC 4960 section 6.9).
 abbrev pub runs_of : Plan → List ℕ → List (List ℕ)
 runs_of p [] = []
 runs_of p (o ∷ os) = led p o (runs_of p os)
@@ -99,9 +100,10 @@ pub record IsLoose (p : Plan) (s o : ℕ) : Type 0 where
   pub at : IsAt p s false o
   pub sent : (place_at p o).marker ≡ false
 
--- The chunks are the runs of these offsets, none of them a whole message, and what the model holds of unordered messages at an
--- offset is its DATA where that is one of them, and nothing elsewhere.
-pub record AreWaiting (initial : ℕ) (p : Plan) (s : ℕ) (chunks : List (List ChunkPayloadData)) (held : List Data) : Type 0 where
+-- The chunks are the runs of these offsets, none of them a whole message, and what the model holds of unordered
+-- messages at an offset is its DATA where that is one of them, and nothing elsewhere.
+pub record AreWaiting (initial : ℕ) (p : Plan) (s : ℕ) (chunks : List (List ChunkPayloadData))
+    (held : List Data) : Type 0 where
   pub offsets : List ℕ
   pub runs : AreRuns initial p chunks (runs_of p offsets)
   pub ascends : AreRising offsets
@@ -110,9 +112,9 @@ pub record AreWaiting (initial : ℕ) (p : Plan) (s : ℕ) (chunks : List (List 
   pub exact : AllByRecursion (λ (d : Data). d ≡ data_at p d.offset) held
   pub incomplete : AllByRecursion (λ (r : List ChunkPayloadData). is_complete r ≡ false) chunks
 
--- The groups ascend strictly by the number of their message, and what the model holds of ordered messages at an offset is its DATA
--- where one of the groups has it, and nothing elsewhere. The same message is next, the same pieces of unordered messages wait, and the
--- same unordered messages are complete, in the same order.
+-- The groups ascend strictly by the number of their message, and what the model holds of ordered messages at an offset
+-- is its DATA where one of the groups has it, and nothing elsewhere. The same message is next, the same pieces of
+-- unordered messages wait, and the same unordered messages are complete, in the same order.
 pub record StandsFor (initial : ℕ) (p : Plan) (s : ℕ) (r : Reassembly) (q : Queue) : Type 0 where
   pub held : List Held
   pub groups : AreGroups initial p s r.ordered held
@@ -122,8 +124,9 @@ pub record StandsFor (initial : ℕ) (p : Plan) (s : ℕ) (r : Reassembly) (q : 
   pub waiting : AreWaiting initial p s r.unordered q.unordered
   pub complete : map letter_received r.complete ≡ map letter_read q.complete
 
--- What the model's invariant gives of a stream within its span: what is held are pieces that were taken in, their numbers before
--- they wrap lie from `low` on and less than half the range apart, and so does the cursor, which is `cursor` before it wraps.
+-- What the model's invariant gives of a stream within its span: what is held are pieces that were taken in, their
+-- numbers before they wrap lie from `low` on and less than half the range apart, and so does the cursor, which is
+-- `cursor` before it wraps.
 pub record IsInWindow (p : Plan) (taken : List ℕ) (s low cursor : ℕ) (q : Queue) : Type 0 where
   pub held : AllByRecursion (IsHeld p taken s true low) q.ordered
   pub near : AllByRecursion (λ (d : Data). (place_at p d.offset).ssn < low + 32767) q.ordered
@@ -136,7 +139,8 @@ abbrev pub IsAnsweredAlike : ℕ → Plan → ℕ → Queue → Reassembly × Op
 IsAnsweredAlike initial p s q (r, None) None = StandsFor initial p s r q
 IsAnsweredAlike initial p s q (r, None) (Some t) = ⊥
 IsAnsweredAlike initial p s q (r, Some m) None = ⊥
-IsAnsweredAlike initial p s q (r, Some m) (Some t) = (letter_received m ≡ letter_read t.got) × StandsFor initial p s r t.rest
+IsAnsweredAlike initial p s q (r, Some m) (Some t) =
+    (letter_received m ≡ letter_read t.got) × StandsFor initial p s r t.rest
 
 -- where it is refused at all, that is for the bytes that its message would have, and not for a contradiction
 abbrev pub IsForBytesAlone : Option Error → Type 0
@@ -163,14 +167,16 @@ abbrev pub just_before : ℕ → Option ℕ → ℕ
 just_before m None = m
 just_before m (Some c) = (c + 65535) % 65536
 
--- how far a skip up to m goes that leaves each message with a piece past the offset o: the sequence number in front of the first of
--- these, and m where there is none up to m
+-- how far a skip up to m goes that leaves each message with a piece past the offset o: the sequence number in front of
+-- the first of these, and m where there is none up to m
 abbrev pub bounded_at : Queue → ℕ → ℕ → ℕ
 bounded_at q m o = just_before m (least (held_past q m o))
 
--- A queue after a skip up to b still has the pieces of each ordered message with one held past the offset o, and such a message that
--- didn't lie before the next one doesn't now.
+-- A queue after a skip up to b still has the pieces of each ordered message with one held past the offset o, and such a
+-- message that didn't lie before the next one doesn't now.
 pub record IsSpared (p : Plan) (o b : ℕ) (q : Queue) : Type 0 where
-  pub pieces : (x y : ℕ) (d e : Data) → at x q.ordered ≡ Some d → at y q.ordered ≡ Some e → o < y → (place_at p x).ssn ≡ (place_at p y).ssn
+  pub pieces : (x y : ℕ) (d e : Data) → at x q.ordered ≡ Some d → at y q.ordered ≡ Some e → o < y
+      → (place_at p x).ssn ≡ (place_at p y).ssn
       → at x (skip q b).ordered ≡ Some d
-  pub cursor : (y : ℕ) (e : Data) → at y q.ordered ≡ Some e → o < y → before_16 e.ssn q.cursor ≡ false → before_16 e.ssn (skip q b).cursor ≡ false
+  pub cursor : (y : ℕ) (e : Data) → at y q.ordered ≡ Some e → o < y → before_16 e.ssn q.cursor ≡ false
+      → before_16 e.ssn (skip q b).cursor ≡ false

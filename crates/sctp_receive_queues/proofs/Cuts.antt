@@ -1,10 +1,12 @@
 -- The bytes of a message that are left, and those of its cuts.
-use Rattle.std.proofs.Common.{◌≡◌, ℕ, ◌+◌, Bool, true, false, eqb, cond, List, [], ◌∷◌, ◌++◌, length, take, drop, Some, None, refl, ap, sym, ◌∙◌, ◌⊎◌, inl, inr, arith}
+use Rattle.std.proofs.Common.{◌≡◌, ℕ, ◌+◌, Bool, true, false, eqb, cond, List, [], ◌∷◌, ◌++◌, length, take, drop, Some}
+use Rattle.std.proofs.Common.{None, refl, ap, sym, ◌∙◌, ◌⊎◌, inl, inr, arith}
 use Rattle.std.specs.List.{concat}
 use Rattle.std.proofs.lemmas.Bool.{cond-false, ne_eqb}
 use Rattle.std.proofs.lemmas.List.{append_assoc, length-append, nil_from_length, take-append-drop}
 use Rattle.sctp_wire_types.specs.declared.chunk.ChunkPayloadData.{ChunkPayloadData}
-use Rattle.sctp_receive_queues.specs.Messages.{IsCut, ReceivedMessage, behind_cut, bytes_left, filled, first_cut, in_front, joined, message_of}
+use Rattle.sctp_receive_queues.specs.Messages.{IsCut, ReceivedMessage, behind_cut, bytes_left, filled, first_cut}
+use Rattle.sctp_receive_queues.specs.Messages.{in_front, joined, message_of}
 
 in_front_joins : (bytes : List ℕ) (others : List (List ℕ)) → concat (in_front bytes others) ≡ bytes ++ concat others
 in_front_joins [] others = refl

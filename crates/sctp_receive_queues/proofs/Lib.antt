@@ -1,7 +1,7 @@
-pub mod Blocks
-pub mod Bytes
+pub mod ByteSums
+pub mod BytesWaiting
 pub mod Cuts
-pub mod Last
-pub mod Places
-pub mod Ready
-pub mod Sums
+pub mod GapAckBlocks
+pub mod LastReceived
+pub mod ReadyMessages
+pub mod RunPlaces

@@ -1,13 +1,14 @@
 -- Messages as they are read.
-use Rattle.std.specs.Prelude.{ℕ, ◌≡◌, Bool, false, ◌==◌, if◌then◌else◌, List, [], ◌∷◌, take, drop, length, Option, Some, None}
+use Rattle.std.specs.Prelude.{ℕ, ◌≡◌, Bool, false, ◌==◌, if◌then◌else◌, List, [], ◌∷◌, take, drop, length, Option, Some}
+use Rattle.std.specs.Prelude.{None}
 use Rattle.std.specs.List.{concat, flat_map}
 use Rattle.sctp_wire_types.specs.declared.chunk.ChunkPayloadData.{ChunkPayloadData}
 use Rattle.sctp_wire_types.specs.declared.ids.PayloadProtocolIdentifier.{PayloadProtocolIdentifier}
 use Rattle.sctp_wire_types.specs.declared.ids.PayloadProtocolIdentifier.TheVariants as kinds
 use Rattle.sctp_receive_queues.specs.Pieces.{first_of}
 
--- a message as it was written and is read: its payload type (RFC 4960 section 10.1), and of each of its pieces, in order, the
--- bytes that are left; a piece without any is left out
+-- a message as it was written and is read: its payload type (RFC 4960 section 10.1), and of each of its pieces, in
+-- order, the bytes that are left; a piece without any is left out
 pub record ReceivedMessage : Type 0 where
   pub payload_type : PayloadProtocolIdentifier
   pub pieces : List (List ℕ)
@@ -48,8 +49,8 @@ message_of pieces = record { payload_type = kind_of (first_of pieces); pieces = 
 
 -- What a reader takes out of the pieces that are left.
 
--- the first max bytes of the first piece, or all of its bytes where it has fewer; none for a max of 0, or where no piece is
--- left
+-- the first max bytes of the first piece, or all of its bytes where it has fewer; none for a max of 0, or where no
+-- piece is left
 abbrev pub first_cut : ℕ → List (List ℕ) → Option (List ℕ)
 first_cut max [] = None
 first_cut max (bytes ∷ others) = if max == 0 then None else Some (take max bytes)

@@ -1,12 +1,15 @@
 -- The pieces of one stream's messages until they are read (RFC 4960 sections 6.5, 6.6 and 6.9, RFC 3758 section 3.6).
-use Rattle.std.specs.Prelude.{◌≡◌, ℕ, zero, suc, ◌+◌, ◌-◌, ◌%◌, ◌^◌, ◌==◌, ◌&&◌, ◌||◌, not, nat_lt, if◌then◌else◌, Bool, true, false, List, [], ◌∷◌, ◌++◌, length, drop, position, insert, remove, filter, map, fold, min, slice_get, slice_set, unwrap_or, Option, Some, None}
+use Rattle.std.specs.Prelude.{◌≡◌, ℕ, zero, suc, ◌+◌, ◌-◌, ◌%◌, ◌^◌, ◌==◌, ◌&&◌, ◌||◌, not, nat_lt, if◌then◌else◌, Bool}
+use Rattle.std.specs.Prelude.{true, false, List, [], ◌∷◌, ◌++◌, length, drop, position, insert, remove, filter, map}
+use Rattle.std.specs.Prelude.{fold, min, slice_get, slice_set, unwrap_or, Option, Some, None}
 use Rattle.std.specs.List.{sum_by}
 use Rattle.sctp_wire_types.specs.Serial.{ssn_lt, ssn_lte, tsn_lte}
 use Rattle.sctp_wire_types.specs.declared.chunk.ChunkPayloadData.{ChunkPayloadData}
 use Rattle.sctp_wire_types.specs.declared.error.Error.{Error}
 use Rattle.sctp_wire_types.specs.declared.error.Error.TheVariants as errors
 use Rattle.sctp_receive_queues.specs.Messages.{ReceivedMessage, bytes_left, message_of}
-use Rattle.sctp_receive_queues.specs.Pieces.{bytes_of, is_complete, begins, ends, has_other_type, index_of, refusal_of, first_is_after, last_is_before, covers, is_past, is_later, last_of}
+use Rattle.sctp_receive_queues.specs.Pieces.{bytes_of, is_complete, begins, ends, has_other_type, index_of, refusal_of}
+use Rattle.sctp_receive_queues.specs.Pieces.{first_is_after, last_is_before, covers, is_past, is_later, last_of}
 
 -- An ordered message that is put together: its SSN, and the pieces held of it in the order of their TSNs.
 pub record Group : Type 0 where
@@ -18,8 +21,8 @@ pub record Reassembly : Type 0 where
   pub next_ssn : ℕ
   -- the ordered messages, in the order of their SSNs
   pub ordered : List Group
-  -- the pieces of unordered messages that are not complete, in the order of their TSNs: runs of pieces of one message whose
-  -- TSNs follow one another
+  -- the pieces of unordered messages that are not complete, in the order of their TSNs: runs of pieces of one message
+  -- whose TSNs follow one another
   pub unordered : List (List ChunkPayloadData)
   -- the complete unordered messages, in the order of their completion
   pub complete : List ReceivedMessage
@@ -106,8 +109,8 @@ abbrev pub read_from : Reassembly → List ReceivedMessage → Reassembly × Opt
 read_from q [] = read_ordered q q.ordered
 read_from q (m ∷ ms) = (record q { complete = ms }, Some m)
 
--- what is left after a read, and what the read gives: complete unordered messages first, then the first ordered one held
--- where it is complete and not past the next SSN; one with the next SSN moves that by one
+-- what is left after a read, and what the read gives: complete unordered messages first, then the first ordered one
+-- held where it is complete and not past the next SSN; one with the next SSN moves that by one
 abbrev pub taken : Reassembly → Reassembly × Option ReceivedMessage
 taken q = read_from q q.complete
 
@@ -148,8 +151,8 @@ run_before runs index = if index == 0 then [] else unwrap_or (slice_get runs (in
 abbrev pub run_at : List (List ChunkPayloadData) → ℕ → List ChunkPayloadData
 run_at runs index = unwrap_or (slice_get runs index) []
 
--- of two pieces with neighbouring TSNs the one ends a message and the other does not begin one, or the other way round, or
--- they are of one message and have different payload types
+-- of two pieces with neighbouring TSNs the one ends a message and the other does not begin one, or the other way round,
+-- or they are of one message and have different payload types
 abbrev pub tears : Bool → Bool → Bool → Bool
 tears ended begun other = if ended then not begun else begun || other
 
@@ -178,7 +181,8 @@ joined_run before p after = part (joins_before before p) before ++ p ∷ part (j
 
 abbrev pub refusal_between : List ChunkPayloadData → ChunkPayloadData → List ChunkPayloadData → ℕ → Option Error
 refusal_between before p after limit =
-    if covers before p.tsn || is_torn_before before p || is_torn_after after p then Some errors.ErrContradictoryPieces else
+    if covers before p.tsn || is_torn_before before p || is_torn_after after p then
+    Some errors.ErrContradictoryPieces else
     if nat_lt limit (
     bytes_of (part (joins_before before p) before) + length p.user_data +
     bytes_of (part (joins_after after p) after)
@@ -191,7 +195,8 @@ refusal_of_unordered runs p limit =
     let index = place_for_tsn p.tsn runs in
     refusal_between (run_before runs index) p (run_at runs index) limit
 
-abbrev pub put_between : Bool → Bool → List (List ChunkPayloadData) → ℕ → List ChunkPayloadData → List (List ChunkPayloadData)
+abbrev pub put_between : Bool → Bool → List (List ChunkPayloadData) → ℕ → List ChunkPayloadData
+    → List (List ChunkPayloadData)
 put_between false false runs index run = insert runs index run
 put_between true false runs index run = slice_set runs (index - 1) run
 put_between false true runs index run = slice_set runs index run
@@ -204,18 +209,21 @@ run_place joins_before index = if joins_before then index - 1 else index
 -- the runs with a piece that has this place among them, and the place of its run
 abbrev pub with_unordered : List (List ChunkPayloadData) → ℕ → ChunkPayloadData → List (List ChunkPayloadData) × ℕ
 with_unordered runs index p = (
-  put_between (joins_before (run_before runs index) p) (joins_after (run_at runs index) p) runs index (joined_run (run_before runs index) p (run_at runs index)),
+  put_between (joins_before (run_before runs index) p) (joins_after (run_at runs index) p) runs index
+      (joined_run (run_before runs index) p (run_at runs index)),
   run_place (joins_before (run_before runs index) p) index,
 )
 
 -- a run that is a complete message is that
-abbrev pub finished : List (List ChunkPayloadData) → ℕ → List ReceivedMessage → List (List ChunkPayloadData) × List ReceivedMessage
+abbrev pub finished : List (List ChunkPayloadData) → ℕ → List ReceivedMessage
+    → List (List ChunkPayloadData) × List ReceivedMessage
 finished runs index messages =
     if is_complete (run_at runs index) then (remove runs index, messages ++ message_of (run_at runs index) ∷ [])
     else (runs, messages)
 
 -- an unordered piece is held, and where it completes its message, that is the last of the complete ones
-abbrev pub unordered_put : List (List ChunkPayloadData) → List ReceivedMessage → ChunkPayloadData → List (List ChunkPayloadData) × List ReceivedMessage
+abbrev pub unordered_put : List (List ChunkPayloadData) → List ReceivedMessage → ChunkPayloadData
+    → List (List ChunkPayloadData) × List ReceivedMessage
 unordered_put runs messages p =
     let put = with_unordered runs (place_for_tsn p.tsn runs) p in finished put.0 put.1 messages
 

@@ -1,5 +1,6 @@
 -- The TSNs that came above the cumulative TSN ack point (RFC 4960 sections 3.3.4 and 6.2).
-use Rattle.std.specs.Prelude.{◌≡◌, ℕ, zero, suc, ◌<◌, ◌≤◌, ◌+◌, ◌%◌, ◌^◌, ◌==◌, ◌&&◌, not, nat_lt, nat_le, if◌then◌else◌, Bool, true, false, List, [], ◌∷◌, ◌++◌, Option, Some, None, fold}
+use Rattle.std.specs.Prelude.{◌≡◌, ℕ, zero, suc, ◌<◌, ◌≤◌, ◌+◌, ◌%◌, ◌^◌, ◌==◌, ◌&&◌, not, nat_lt, nat_le}
+use Rattle.std.specs.Prelude.{if◌then◌else◌, Bool, true, false, List, [], ◌∷◌, ◌++◌, Option, Some, None, fold}
 use Rattle.std.specs.List.{list_any, All, AllByRecursion}
 use Rattle.std.specs.Ordering.{nat_cmp}
 use Rattle.std.specs.BTreeMap.{is_at}
@@ -33,13 +34,15 @@ with_tsn tsns tsn cumulative_tsn =
 abbrev pub advanced : ℕ → ℕ → List ℕ → ℕ × List ℕ
 advanced zero cumulative_tsn tsns = (cumulative_tsn, tsns)
 advanced (suc n) cumulative_tsn tsns =
-    if is_held (tsn_after cumulative_tsn) tsns then advanced n (tsn_after cumulative_tsn) (remove_key (is_at (nat_cmp (tsn_after cumulative_tsn))) tsns)
+    if is_held (tsn_after cumulative_tsn) tsns then
+    advanced n (tsn_after cumulative_tsn) (remove_key (is_at (nat_cmp (tsn_after cumulative_tsn))) tsns)
     else (cumulative_tsn, tsns)
 
 -- the one of two TSNs that is farther past the point
 abbrev pub later_of : ℕ → Option ℕ → ℕ → ℕ
 later_of cumulative_tsn None t = t
-later_of cumulative_tsn (Some last) t = if nat_lt (tsn_past cumulative_tsn last) (tsn_past cumulative_tsn t) then t else last
+later_of cumulative_tsn (Some last) t =
+    if nat_lt (tsn_past cumulative_tsn last) (tsn_past cumulative_tsn t) then t else last
 
 -- the TSN that is farthest past the point
 abbrev pub last_received : ℕ → List ℕ → Option ℕ
@@ -48,7 +51,8 @@ last_received cumulative_tsn tsns = fold (λ last t. Some (later_of cumulative_t
 -- no TSN is farther past the point; there is none only where there are no TSNs
 abbrev pub IsFarthest : ℕ → List ℕ → Option ℕ → Type 0
 IsFarthest cumulative_tsn tsns None = tsns ≡ []
-IsFarthest cumulative_tsn tsns (Some t) = AllByRecursion (λ u. tsn_past cumulative_tsn u ≤ tsn_past cumulative_tsn t) tsns
+IsFarthest cumulative_tsn tsns (Some t) =
+    AllByRecursion (λ u. tsn_past cumulative_tsn u ≤ tsn_past cumulative_tsn t) tsns
 
 -- a TSN is greater than the point as a number, or it is not
 abbrev pub is_greater : Bool → ℕ → ℕ → Bool
@@ -58,7 +62,8 @@ is_greater greater cumulative_tsn tsn = if nat_lt cumulative_tsn tsn then greate
 abbrev pub offsets_in : Bool → ℕ → List ℕ → List ℕ
 offsets_in greater cumulative_tsn [] = []
 offsets_in greater cumulative_tsn (t ∷ ts) =
-    if is_greater greater cumulative_tsn t && has_offset (tsn_past cumulative_tsn t) then tsn_past cumulative_tsn t ∷ offsets_in greater cumulative_tsn ts
+    if is_greater greater cumulative_tsn t && has_offset (tsn_past cumulative_tsn t) then
+    tsn_past cumulative_tsn t ∷ offsets_in greater cumulative_tsn ts
     else offsets_in greater cumulative_tsn ts
 
 -- how far the TSNs are past the point: the numbers of TSNs go round, so those behind the point as numbers are farther

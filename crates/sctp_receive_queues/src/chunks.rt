@@ -67,12 +67,13 @@ impl Chunks {
     }
 
     /// Takes out the next cut: the first `max` bytes of the first piece that has bytes left, or all of them where there
-    /// are fewer, and never bytes of two pieces. The bytes are shared with the datagram and not copied. None at the end,
-    /// or for a `max` of 0. The only error is `ErrNoMemory`, and nothing is taken out then.
+    /// are fewer, and never bytes of two pieces. The bytes are shared with the datagram and not copied. None at the
+    /// end, or for a `max` of 0. The only error is `ErrNoMemory`, and nothing is taken out then.
     pub fn next(&mut self, max: usize) -> Result<Option<Bytes>, Error>
         ensures cut { IfOk result (λ cut. IsCut max self.old self.new cut) }
         ensures some { IfOk result (λ cut. IfSome cut (λ bytes. 0 < length bytes)) }
-        ensures in_order { IfOk result (λ cut. IfSome cut (λ bytes. bytes_left self.old ≡ bytes ++ bytes_left self.new)) }
+        ensures in_order { IfOk result
+            (λ cut. IfSome cut (λ bytes. bytes_left self.old ≡ bytes ++ bytes_left self.new)) }
         ensures refused { OnErr result (result ≡ Err Error.ErrNoMemory) }
         ensures unchanged { OnErr result (self.new ≡ self.old) }
     {

@@ -1,9 +1,11 @@
 // Ordered messages that are put together, in the order of their SSNs.
-ghost use Rattle.std.specs.Prelude.{◌≡◌, ◌<◌, ◌≤◌, ◌⊎◌, length, [], position, slice_get, None, Some, IsOk, IfOk, IfErr, OnOk, OnErr, IfSome, filter};
+ghost use Rattle.std.specs.Prelude.{◌≡◌, ◌<◌, ◌≤◌, ◌⊎◌, length, [], position, slice_get, None, Some, IsOk, IfOk, IfErr};
+ghost use Rattle.std.specs.Prelude.{OnOk, OnErr, IfSome, filter};
 ghost use Rattle.sctp_wire_types.specs.Serial.{ssn_lt};
 ghost use Rattle.sctp_receive_queues.specs.Messages.{message_of};
 ghost use Rattle.sctp_receive_queues.specs.Pieces.{bytes_of, is_complete, refusal_of, is_later, last_of};
-ghost use Rattle.sctp_receive_queues.specs.Reassembly.{group_of, grown, put_at, pieces_at, place_of_ssn, place_for_ssn, with_ordered, refusal_of_ordered, bounded, stays};
+ghost use Rattle.sctp_receive_queues.specs.Reassembly.{group_of, grown, put_at, pieces_at, place_of_ssn, place_for_ssn};
+ghost use Rattle.sctp_receive_queues.specs.Reassembly.{with_ordered, refusal_of_ordered, bounded, stays};
 
 use crate::Chunks;
 use crate::pieces::Pieces;
@@ -82,7 +84,8 @@ impl Group {
         ensures added { OnOk result (self.new ≡ grown self.old piece) }
         ensures unchanged { OnErr result (self.new ≡ self.old) }
         ensures taken { IsOk result → refusal_of self.old.pieces piece limit ≡ None }
-        ensures refused { IfErr result (λ e. ((e ≡ Error.ErrNoMemory) × (refusal_of self.old.pieces piece limit ≡ None)) ⊎ (refusal_of self.old.pieces piece limit ≡ Some e)) }
+        ensures refused { IfErr result (λ e. ((e ≡ Error.ErrNoMemory) × (refusal_of self.old.pieces piece limit ≡ None))
+            ⊎ (refusal_of self.old.pieces piece limit ≡ Some e)) }
     {
         if let Some(error) = self.pieces.refusal(&piece, limit) {
             return Err(error);
@@ -150,7 +153,9 @@ pub(crate) fn put(
     ensures put { OnOk result (groups.new.items ≡ with_ordered groups.old.items piece) }
     ensures unchanged { OnErr result (groups.new.items ≡ groups.old.items) }
     ensures taken { IsOk result → refusal_of_ordered groups.old.items piece limit ≡ None }
-    ensures refused { IfErr result (λ e. ((e ≡ Error.ErrNoMemory) × (refusal_of_ordered groups.old.items piece limit ≡ None)) ⊎ (refusal_of_ordered groups.old.items piece limit ≡ Some e)) }
+    ensures refused { IfErr result
+        (λ e. ((e ≡ Error.ErrNoMemory) × (refusal_of_ordered groups.old.items piece limit ≡ None))
+        ⊎ (refusal_of_ordered groups.old.items piece limit ≡ Some e)) }
 {
     match find(groups, piece.stream_sequence_number) {
         Some(index) => add_at(groups, index, piece, limit),
@@ -175,7 +180,9 @@ fn add_at(
     ensures put { OnOk result (groups.new.items ≡ put_at (Some index) groups.old.items piece) }
     ensures unchanged { OnErr result (groups.new.items ≡ groups.old.items) }
     ensures taken { IsOk result → refusal_of (pieces_at (Some index) groups.old.items) piece limit ≡ None }
-    ensures refused { IfErr result (λ e. ((e ≡ Error.ErrNoMemory) × (refusal_of (pieces_at (Some index) groups.old.items) piece limit ≡ None)) ⊎ (refusal_of (pieces_at (Some index) groups.old.items) piece limit ≡ Some e)) }
+    ensures refused { IfErr result
+        (λ e. ((e ≡ Error.ErrNoMemory) × (refusal_of (pieces_at (Some index) groups.old.items) piece limit ≡ None))
+        ⊎ (refusal_of (pieces_at (Some index) groups.old.items) piece limit ≡ Some e)) }
 {
     match groups.get_mut(index) {
         Some(group) => group.add(piece, limit),
@@ -192,7 +199,9 @@ fn add_new(
     ensures put { OnOk result (groups.new.items ≡ put_at None groups.old.items piece) }
     ensures unchanged { OnErr result (groups.new.items ≡ groups.old.items) }
     ensures taken { IsOk result → refusal_of (pieces_at None groups.old.items) piece limit ≡ None }
-    ensures refused { IfErr result (λ e. ((e ≡ Error.ErrNoMemory) × (refusal_of (pieces_at None groups.old.items) piece limit ≡ None)) ⊎ (refusal_of (pieces_at None groups.old.items) piece limit ≡ Some e)) }
+    ensures refused { IfErr result
+        (λ e. ((e ≡ Error.ErrNoMemory) × (refusal_of (pieces_at None groups.old.items) piece limit ≡ None))
+        ⊎ (refusal_of (pieces_at None groups.old.items) piece limit ≡ Some e)) }
 {
     if let Some(error) = refusal_of_first(&piece, limit) {
         return Err(error);

@@ -1,5 +1,5 @@
-//! What came and was not handed on yet: the TSNs held above the cumulative TSN ack point, and the pieces of one stream's
-//! messages until they are read.
+//! What came and was not handed on yet: the TSNs held above the cumulative TSN ack point, and the pieces of one
+//! stream's messages until they are read.
 #![tactic(auto)]
 
 mod chunks;

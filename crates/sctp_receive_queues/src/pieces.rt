@@ -1,9 +1,14 @@
 // The pieces held of one message.
-ghost use Rattle.std.specs.Prelude.{◌≡◌, ◌+◌, ◌<◌, ◌^◌, ◌∷◌, [], ◌++◌, length, insert, IfOk, OnOk, OnErr, IfSome, ◌≤◌, ◌==◌, position, None, nat_lt, not, fold, min, ◌-◌};
+ghost use Rattle.std.specs.Prelude.{◌≡◌, ◌+◌, ◌<◌, ◌^◌, ◌∷◌, [], ◌++◌, length, insert, IfOk, OnOk, OnErr, IfSome, ◌≤◌};
+ghost use Rattle.std.specs.Prelude.{◌==◌, position, None, nat_lt, not, fold, min, ◌-◌};
 ghost use Rattle.sctp_wire_types.specs.Serial.{tsn_lt, tsn_past};
-ghost use Rattle.sctp_receive_queues.specs.Pieces.{bytes_of, begins, ends, is_complete, follows, first_is_after, last_is_before, covers, is_past, is_later, last_of, is_after, has_tsn, has_other_type, index_of, breaks_ends, contradicts, refusal_of};
+ghost use Rattle.sctp_receive_queues.specs.Pieces.{bytes_of, begins, ends, is_complete, follows, first_is_after};
+ghost use Rattle.sctp_receive_queues.specs.Pieces.{last_is_before, covers, is_past, is_later, last_of, is_after};
+ghost use Rattle.sctp_receive_queues.specs.Pieces.{has_tsn, has_other_type, index_of, breaks_ends, contradicts};
+ghost use Rattle.sctp_receive_queues.specs.Pieces.{refusal_of};
 ghost use Rattle.sctp_receive_queues.specs.Messages.{message_of};
-ghost use Rattle.sctp_receive_queues.specs.Reassembly.{tears, is_torn_before, is_torn_after, joins_before, joins_after, above};
+ghost use Rattle.sctp_receive_queues.specs.Reassembly.{tears, is_torn_before, is_torn_after, joins_before, joins_after};
+ghost use Rattle.sctp_receive_queues.specs.Reassembly.{above};
 
 use crate::Chunks;
 use sctp_wire_types::{ChunkPayloadData, Error, sna32lt, sna32lte};
@@ -298,8 +303,8 @@ impl Pieces {
     }
 }
 
-// Whether two pieces with neighbouring TSNs contradict each other: the one ends a message and the other does not begin one,
-// or the other way round, or they are of one message and have different payload types.
+// Whether two pieces with neighbouring TSNs contradict each other: the one ends a message and the other does not begin
+// one, or the other way round, or they are of one message and have different payload types.
 fn tears(ended: bool, begun: bool, other_type: bool) -> bool
     ensures { result ≡ tears ended begun other_type }
 {

@@ -1,8 +1,13 @@
 // The pieces of one stream's messages until they are read.
-ghost use Rattle.std.specs.Prelude.{◌≡◌, ◌+◌, ◌-◌, ◌^◌, ◌⊎◌, min, None, Some, IsOk, IfOk, IfErr, OnOk, OnErr, drop, length, slice_get};
+ghost use Rattle.std.specs.Prelude.{◌≡◌, ◌+◌, ◌-◌, ◌^◌, ◌⊎◌, min, None, Some, IsOk, IfOk, IfErr, OnOk, OnErr, drop};
+ghost use Rattle.std.specs.Prelude.{length, slice_get};
 ghost use Rattle.sctp_receive_queues.specs.Messages.{bytes_left};
 ghost use Rattle.sctp_receive_queues.specs.Pieces.{bytes_of};
-ghost use Rattle.sctp_receive_queues.specs.Reassembly.{empty_reassembly, with_ordered, with_put, unordered_put, refusal_of_ordered, refusal_of_unordered, saturated_bytes, bytes_waiting, bytes_in_groups, bytes_in_runs, bytes_in_messages, pushed, refusal, is_ready, is_due, ready, taken, next_after_skip, skipped, bounded, unordered_skipped};
+ghost use Rattle.sctp_receive_queues.specs.Reassembly.{empty_reassembly, with_ordered, with_put, unordered_put};
+ghost use Rattle.sctp_receive_queues.specs.Reassembly.{refusal_of_ordered, refusal_of_unordered, saturated_bytes};
+ghost use Rattle.sctp_receive_queues.specs.Reassembly.{bytes_waiting, bytes_in_groups, bytes_in_runs};
+ghost use Rattle.sctp_receive_queues.specs.Reassembly.{bytes_in_messages, pushed, refusal, is_ready, is_due, ready};
+ghost use Rattle.sctp_receive_queues.specs.Reassembly.{taken, next_after_skip, skipped, bounded, unordered_skipped};
 
 use crate::group::{self, Group};
 use crate::pieces::Pieces;
@@ -12,9 +17,9 @@ use std::alloc::Global;
 use std::collections::VecDeque;
 use std::marker::Model;
 
-/// What came of one stream and was not read: the SSN that is read next, the ordered messages in the order of their SSNs, the
-/// pieces of unordered messages that are not complete, and the complete unordered messages in the order of their completion
-/// (RFC 4960 sections 6.5, 6.6 and 6.9).
+/// What came of one stream and was not read: the SSN that is read next, the ordered messages in the order of their
+/// SSNs, the pieces of unordered messages that are not complete, and the complete unordered messages in the order of
+/// their completion (RFC 4960 sections 6.5, 6.6 and 6.9).
 #[derive(Debug, Drop)]
 pub struct ReassemblyQueue {
     alloc: Global,
@@ -28,13 +33,20 @@ pub struct ReassemblyQueue {
 
 impl Model for ReassemblyQueue {
     ghost use Rattle.std.specs.Prelude.{◌≡◌, ◌+◌};
-    ghost use Rattle.sctp_receive_queues.specs.Reassembly.{Reassembly, bytes_in_groups, bytes_in_runs, bytes_in_messages};
+    ghost use Rattle.sctp_receive_queues.specs.Reassembly.{Reassembly, bytes_in_groups, bytes_in_runs};
+    ghost use Rattle.sctp_receive_queues.specs.Reassembly.{bytes_in_messages};
 
     ghost Value = { Reassembly };
 
-    ghost view = { λ q. record { next_ssn = q.next_ssn; ordered = q.ordered.items; unordered = q.unordered.items; complete = q.complete.items } };
+    ghost view = { λ q. record {
+      next_ssn = q.next_ssn;
+      ordered = q.ordered.items;
+      unordered = q.unordered.items;
+      complete = q.complete.items;
+    } };
 
-    ghost invariant = { λ q. q.waiting ≡ bytes_in_groups q.ordered.items + bytes_in_runs q.unordered.items + bytes_in_messages q.complete.items };
+    ghost invariant = { λ q. q.waiting ≡ bytes_in_groups q.ordered.items + bytes_in_runs q.unordered.items
+        + bytes_in_messages q.complete.items };
 }
 
 impl ReassemblyQueue {
@@ -52,15 +64,16 @@ impl ReassemblyQueue {
         }
     }
 
-    /// Keeps a piece, and answers whether it did: not an ordered one of a message before the SSN that is read next. Refused, with
-    /// nothing changed, where the pieces held of its message contradict it (`ErrContradictoryPieces`), where with it they have
-    /// more than `limit` bytes (`ErrInboundMessageTooLarge`). Where neither holds it is refused where memory is
-    /// (`ErrNoMemory`); so too where more bytes would wait than a u64 can say.
+    /// Keeps a piece, and answers whether it did: not an ordered one of a message before the SSN that is read next.
+    /// Refused, with nothing changed, where the pieces held of its message contradict it (`ErrContradictoryPieces`),
+    /// where with it they have more than `limit` bytes (`ErrInboundMessageTooLarge`). Where neither holds it is refused
+    /// where memory is (`ErrNoMemory`); so too where more bytes would wait than a u64 can say.
     pub fn push(&mut self, piece: ChunkPayloadData, limit: u32) -> Result<bool, Error>
         ensures pushed { IfOk result (λ kept. pushed self.old piece ≡ (self.new, kept)) }
         ensures unchanged { OnErr result (self.new ≡ self.old) }
         ensures taken { IsOk result → refusal self.old piece limit ≡ None }
-        ensures refused { IfErr result (λ e. ((e ≡ Error.ErrNoMemory) × (refusal self.old piece limit ≡ None)) ⊎ (refusal self.old piece limit ≡ Some e)) }
+        ensures refused { IfErr result (λ e. ((e ≡ Error.ErrNoMemory) × (refusal self.old piece limit ≡ None))
+            ⊎ (refusal self.old piece limit ≡ Some e)) }
     {
         if piece.unordered {
             self.push_unordered(piece, limit)?;
@@ -74,10 +87,13 @@ impl ReassemblyQueue {
     }
 
     fn push_ordered(&mut self, piece: ChunkPayloadData, limit: u32) -> Result<(), Error>
-        ensures pushed { OnOk result (self.new ≡ (let q = self.old in record q { ordered = with_ordered q.ordered piece })) }
+        ensures pushed { OnOk result
+            (self.new ≡ (let q = self.old in record q { ordered = with_ordered q.ordered piece })) }
         ensures unchanged { OnErr result (self.new ≡ self.old) }
         ensures taken { IsOk result → refusal_of_ordered self.old.ordered piece limit ≡ None }
-        ensures refused { IfErr result (λ e. ((e ≡ Error.ErrNoMemory) × (refusal_of_ordered self.old.ordered piece limit ≡ None)) ⊎ (refusal_of_ordered self.old.ordered piece limit ≡ Some e)) }
+        ensures refused { IfErr result
+            (λ e. ((e ≡ Error.ErrNoMemory) × (refusal_of_ordered self.old.ordered piece limit ≡ None))
+            ⊎ (refusal_of_ordered self.old.ordered piece limit ≡ Some e)) }
     {
         let bytes = piece.user_data.len() as u64;
         let Some(waiting) = self.waiting.checked_add(bytes) else {
@@ -92,10 +108,13 @@ impl ReassemblyQueue {
     }
 
     fn push_unordered(&mut self, piece: ChunkPayloadData, limit: u32) -> Result<(), Error>
-        ensures pushed { OnOk result (self.new ≡ with_put self.old (unordered_put self.old.unordered self.old.complete piece)) }
+        ensures pushed { OnOk result
+            (self.new ≡ with_put self.old (unordered_put self.old.unordered self.old.complete piece)) }
         ensures unchanged { OnErr result (self.new ≡ self.old) }
         ensures taken { IsOk result → refusal_of_unordered self.old.unordered piece limit ≡ None }
-        ensures refused { IfErr result (λ e. ((e ≡ Error.ErrNoMemory) × (refusal_of_unordered self.old.unordered piece limit ≡ None)) ⊎ (refusal_of_unordered self.old.unordered piece limit ≡ Some e)) }
+        ensures refused { IfErr result
+            (λ e. ((e ≡ Error.ErrNoMemory) × (refusal_of_unordered self.old.unordered piece limit ≡ None))
+            ⊎ (refusal_of_unordered self.old.unordered piece limit ≡ Some e)) }
     {
         let bytes = piece.user_data.len() as u64;
         let Some(waiting) = self.waiting.checked_add(bytes) else {
@@ -115,17 +134,17 @@ impl ReassemblyQueue {
         Ok(())
     }
 
-    /// Whether an unordered message is complete, or the first ordered one held is complete and not past the SSN that is read
-    /// next.
+    /// Whether an unordered message is complete, or the first ordered one held is complete and not past the SSN that is
+    /// read next.
     pub fn is_readable(&self) -> bool
         ensures { result ≡ is_ready self.now }
     {
         !self.complete.is_empty() || is_first_due(&self.ordered, self.next_ssn)
     }
 
-    /// Takes out the next message: complete unordered ones first, in the order of their completion, then the first ordered one
-    /// where it is complete and not past the SSN that is read next. One with that SSN moves it by one.
-    #[tactic(auto, using(crate::proofs::Ready::read_gives_the_first))]
+    /// Takes out the next message: complete unordered ones first, in the order of their completion, then the first
+    /// ordered one where it is complete and not past the SSN that is read next. One with that SSN moves it by one.
+    #[tactic(auto, using(crate::proofs::ReadyMessages::read_gives_the_first))]
     pub fn read(&mut self) -> Option<Chunks>
         ensures taken { taken self.old ≡ (self.new, result) }
         ensures first { result ≡ slice_get (ready self.old) 0 }
@@ -162,8 +181,8 @@ impl ReassemblyQueue {
         self.waiting = bytes_held(&self.ordered, &self.unordered, &self.complete);
     }
 
-    /// How far a skip up to an SSN goes among the messages that have no piece above a TSN: the greatest SSN up to this one
-    /// that is before every ordered message with such a piece.
+    /// How far a skip up to an SSN goes among the messages that have no piece above a TSN: the greatest SSN up to this
+    /// one that is before every ordered message with such a piece.
     pub fn applicable_forward_tsn_for_ordered_bounded(&self, ssn: u16, tsn: u32) -> u16
         ensures { result ≡ bounded self.now.ordered ssn tsn }
     {
@@ -220,7 +239,10 @@ fn bytes_held(
     unordered: &VecDeque<Pieces>,
     complete: &VecDeque<Chunks>,
 ) -> u64
-    ensures { result ≡ min (min (saturated_bytes (λ g. bytes_of g.pieces) ordered.now.items + saturated_bytes bytes_of unordered.now.items) (2 ^ 64 - 1) + saturated_bytes (λ m. length (bytes_left m)) complete.now.items) (2 ^ 64 - 1) }
+    ensures { result
+        ≡ min
+        (min (saturated_bytes (λ g. bytes_of g.pieces) ordered.now.items + saturated_bytes bytes_of unordered.now.items)
+        (2 ^ 64 - 1) + saturated_bytes (λ m. length (bytes_left m)) complete.now.items) (2 ^ 64 - 1) }
 {
     in_groups(ordered)
         .saturating_add(in_runs(unordered))

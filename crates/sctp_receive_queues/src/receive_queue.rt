@@ -1,11 +1,15 @@
 // TSNs that came and stand above the cumulative TSN ack point.
-ghost use Rattle.std.specs.Prelude.{◌≡◌, ℕ, ◌+◌, ◌%◌, ◌^◌, ◌<◌, ◌==◌, ◌++◌, not, if◌then◌else◌, length, [], filter, Some, None, is_some, false, IfOk, OnOk, OnErr};
+ghost use Rattle.std.specs.Prelude.{◌≡◌, ℕ, ◌+◌, ◌%◌, ◌^◌, ◌<◌, ◌==◌, ◌++◌, not, if◌then◌else◌, length, [], filter};
+ghost use Rattle.std.specs.Prelude.{Some, None, is_some, false, IfOk, OnOk, OnErr};
 ghost use Rattle.std.specs.Ordering.{nat_cmp};
 ghost use Rattle.std.specs.BTreeMap.{is_at};
 ghost use Rattle.std.specs.Set.{remove_key};
 ghost use Rattle.std.specs.List.Sorted.{IsStrictlySortedBy};
 ghost use Rattle.sctp_wire_types.specs.Serial.{tsn_lte};
-ghost use Rattle.sctp_receive_queues.specs.Received.{is_held, is_new, with_tsn, last_received, later_of, block, runs_from, advanced, offsets_of, offsets_in, runs_of, gap_ack_blocks, is_named, is_held_at, AreRuns, AreTsns, IsFarthest};
+ghost use Rattle.sctp_receive_queues.specs.Received.{is_held, is_new, with_tsn, last_received, later_of, block};
+ghost use Rattle.sctp_receive_queues.specs.Received.{runs_from, advanced, offsets_of, offsets_in, runs_of};
+ghost use Rattle.sctp_receive_queues.specs.Received.{gap_ack_blocks, is_named, is_held_at, AreRuns, AreTsns};
+ghost use Rattle.sctp_receive_queues.specs.Received.{IsFarthest};
 
 use sctp_wire_types::{GapAckBlock, List, sna32lte};
 use std::alloc::{AllocError, Global};
@@ -84,8 +88,8 @@ impl ReceiveQueue {
         self.tsns.retain(|held| !sna32lte(*held, tsn));
     }
 
-    /// Takes out the TSNs that follow the point one after another, and answers the last of them: where the cumulative TSN
-    /// ack point moves (RFC 4960 section 6.2).
+    /// Takes out the TSNs that follow the point one after another, and answers the last of them: where the cumulative
+    /// TSN ack point moves (RFC 4960 section 6.2).
     pub fn advance(&mut self, cumulative_tsn: u32) -> u32
         ensures moved { advanced (length self.old) cumulative_tsn self.old ≡ (result, self.new) }
         ensures stops { is_held ((result + 1) % 2 ^ 32) self.new ≡ false }
@@ -97,15 +101,17 @@ impl ReceiveQueue {
         cumulative_tsn
     }
 
-    /// The TSNs held, as the SACK for this point says them: the maximal runs, ascending, by their first and last offset from
-    /// the point (RFC 4960 section 3.3.4). TSNs that are not 1 to 65,535 past the point have no offset and are left out.
+    /// The TSNs held, as the SACK for this point says them: the maximal runs, ascending, by their first and last offset
+    /// from the point (RFC 4960 section 3.3.4). TSNs that are not 1 to 65,535 past the point have no offset and are
+    /// left out.
     pub fn get_gap_ack_blocks(
         &self,
         alloc: Global,
         cumulative_tsn: u32,
     ) -> Result<List<GapAckBlock>, AllocError>
         ensures blocks { IfOk result (λ blocks. blocks ≡ gap_ack_blocks cumulative_tsn self.now) }
-        ensures exact { IfOk result (λ blocks. (o : ℕ) → 0 < o → o < 2 ^ 16 → is_named o blocks ≡ is_held_at cumulative_tsn o self.now) }
+        ensures exact { IfOk result (λ blocks. (o : ℕ) → 0 < o → o < 2 ^ 16
+            → is_named o blocks ≡ is_held_at cumulative_tsn o self.now) }
         ensures maximal { IfOk result (λ blocks. AreRuns 1 blocks) }
     {
         let offsets = self.offsets(alloc, cumulative_tsn)?;

@@ -1,9 +1,14 @@
-// Pieces of unordered messages that are not complete: runs of pieces of one message whose TSNs follow one another, in the
-// order of their TSNs.
-ghost use Rattle.std.specs.Prelude.{◌≡◌, ◌+◌, ◌-◌, ◌<◌, ◌≤◌, ◌^◌, ◌⊎◌, ◌||◌, ◌==◌, not, map, length, position, remove, None, Some, IsOk, IfOk, IfErr, OnOk, OnErr, IfSome, filter, true, IsTrue, [], unwrap_or, option_copied, slice_set, ◌++◌, ◌∷◌};
+// Pieces of unordered messages that are not complete: runs of pieces of one message whose TSNs follow one another, in
+// the order of their TSNs.
+ghost use Rattle.std.specs.Prelude.{◌≡◌, ◌+◌, ◌-◌, ◌<◌, ◌≤◌, ◌^◌, ◌⊎◌, ◌||◌, ◌==◌, not, map, length, position, remove};
+ghost use Rattle.std.specs.Prelude.{None, Some, IsOk, IfOk, IfErr, OnOk, OnErr, IfSome, filter, true, IsTrue, []};
+ghost use Rattle.std.specs.Prelude.{unwrap_or, option_copied, slice_set, ◌++◌, ◌∷◌};
 ghost use Rattle.std.specs.VecDeque.{deque_len, deque_capacity};
 ghost use Rattle.sctp_receive_queues.specs.Pieces.{bytes_of, is_complete, covers, is_past};
-ghost use Rattle.sctp_receive_queues.specs.Reassembly.{run_before, run_at, place_for_tsn, is_torn_before, is_torn_after, joins_before, joins_after, part, with_unordered, finished, unordered_put, refusal_of_unordered, refusal_between, above, trimmed};
+ghost use Rattle.sctp_receive_queues.specs.Reassembly.{run_before, run_at, place_for_tsn, is_torn_before};
+ghost use Rattle.sctp_receive_queues.specs.Reassembly.{is_torn_after, joins_before, joins_after, part, with_unordered};
+ghost use Rattle.sctp_receive_queues.specs.Reassembly.{finished, unordered_put, refusal_of_unordered, refusal_between};
+ghost use Rattle.sctp_receive_queues.specs.Reassembly.{above, trimmed};
 
 use crate::Chunks;
 use crate::pieces::Pieces;
@@ -23,8 +28,8 @@ pub(crate) fn refusal_of(
     refusal(runs, index_for(runs, piece.tsn), piece, limit)
 }
 
-// Puts a piece to the others, and its message to the complete ones where this was its last piece. Where the piece is refused
-// nothing changes.
+// Puts a piece to the others, and its message to the complete ones where this was its last piece. Where the piece is
+// refused nothing changes.
 pub(crate) fn put(
     runs: &mut VecDeque<Pieces>,
     complete: &mut VecDeque<Chunks>,
@@ -32,11 +37,14 @@ pub(crate) fn put(
     piece: ChunkPayloadData,
     limit: u32,
 ) -> Result<(), Error>
-    ensures put { OnOk result (unordered_put runs.old.items complete.old.items piece ≡ (runs.new.items, complete.new.items)) }
+    ensures put { OnOk result
+        (unordered_put runs.old.items complete.old.items piece ≡ (runs.new.items, complete.new.items)) }
     ensures unchanged { OnErr result (runs.new.items ≡ runs.old.items) }
     ensures complete_stay { OnErr result (complete.new.items ≡ complete.old.items) }
     ensures taken { IsOk result → refusal_of_unordered runs.old.items piece limit ≡ None }
-    ensures refused { IfErr result (λ e. ((e ≡ Error.ErrNoMemory) × (refusal_of_unordered runs.old.items piece limit ≡ None)) ⊎ (refusal_of_unordered runs.old.items piece limit ≡ Some e)) }
+    ensures refused { IfErr result
+        (λ e. ((e ≡ Error.ErrNoMemory) × (refusal_of_unordered runs.old.items piece limit ≡ None))
+        ⊎ (refusal_of_unordered runs.old.items piece limit ≡ Some e)) }
 {
     let index = index_for(runs, piece.tsn);
     if let Some(error) = refusal(runs, index, &piece, limit) {
@@ -88,8 +96,12 @@ fn refusal(
     piece: &ChunkPayloadData,
     limit: u32,
 ) -> Option<Error>
-    ensures refusal { result ≡ refusal_between (run_before runs.now.items index) piece.now (run_at runs.now.items index) limit }
-    ensures small { result ≡ None → bytes_of (part (joins_before (run_before runs.now.items index) piece.now) (run_before runs.now.items index)) + length piece.now.user_data + bytes_of (part (joins_after (run_at runs.now.items index) piece.now) (run_at runs.now.items index)) ≤ limit }
+    ensures refusal { result ≡ refusal_between (run_before runs.now.items index) piece.now
+        (run_at runs.now.items index) limit }
+    ensures small { result ≡ None
+        → bytes_of (part (joins_before (run_before runs.now.items index) piece.now) (run_before runs.now.items index))
+        + length piece.now.user_data + bytes_of
+        (part (joins_after (run_at runs.now.items index) piece.now) (run_at runs.now.items index)) ≤ limit }
 {
     if contradicts_before(runs, index, piece) || contradicts_after(runs, index, piece) {
         return Some(Error::ErrContradictoryPieces);
@@ -104,7 +116,8 @@ fn refusal(
 }
 
 fn contradicts_before(runs: &VecDeque<Pieces>, index: usize, piece: &ChunkPayloadData) -> bool
-    ensures { result ≡ (covers (run_before runs.now.items index) piece.now.tsn || is_torn_before (run_before runs.now.items index) piece.now) }
+    ensures { result ≡ (covers (run_before runs.now.items index) piece.now.tsn
+        || is_torn_before (run_before runs.now.items index) piece.now) }
 {
     match before(runs, index) {
         Some(run) => run.covers(piece.tsn) || run.is_torn_before(piece),
@@ -143,7 +156,8 @@ fn is_joined_after(runs: &VecDeque<Pieces>, index: usize, piece: &ChunkPayloadDa
 }
 
 fn bytes_before(runs: &VecDeque<Pieces>, index: usize, piece: &ChunkPayloadData) -> u64
-    ensures { result ≡ bytes_of (part (joins_before (run_before runs.now.items index) piece.now) (run_before runs.now.items index)) }
+    ensures { result ≡ bytes_of
+        (part (joins_before (run_before runs.now.items index) piece.now) (run_before runs.now.items index)) }
 {
     match before(runs, index) {
         Some(run) if run.joins_before(piece) => run.bytes(),
@@ -152,7 +166,8 @@ fn bytes_before(runs: &VecDeque<Pieces>, index: usize, piece: &ChunkPayloadData)
 }
 
 fn bytes_after(runs: &VecDeque<Pieces>, index: usize, piece: &ChunkPayloadData) -> u64
-    ensures { result ≡ bytes_of (part (joins_after (run_at runs.now.items index) piece.now) (run_at runs.now.items index)) }
+    ensures { result ≡ bytes_of
+        (part (joins_after (run_at runs.now.items index) piece.now) (run_at runs.now.items index)) }
 {
     match at(runs, index) {
         Some(run) if run.joins_after(piece) => run.bytes(),
@@ -168,7 +183,9 @@ fn join(
     piece: ChunkPayloadData,
 ) -> Result<usize, AllocError>
     requires index { index ≤ length runs.old.items }
-    requires bytes { bytes_of (part (joins_before (run_before runs.old.items index) piece) (run_before runs.old.items index)) + length piece.user_data + bytes_of (part (joins_after (run_at runs.old.items index) piece) (run_at runs.old.items index)) < 2 ^ 64 }
+    requires bytes { bytes_of (part (joins_before (run_before runs.old.items index) piece)
+        (run_before runs.old.items index)) + length piece.user_data + bytes_of
+        (part (joins_after (run_at runs.old.items index) piece) (run_at runs.old.items index)) < 2 ^ 64 }
     ensures put { IfOk result (λ k. with_unordered runs.old.items index piece ≡ (runs.new.items, k)) }
     ensures unchanged { OnErr result (runs.new.items ≡ runs.old.items) }
 {
@@ -202,7 +219,8 @@ fn push_back_at(
 ) -> Result<(), AllocError>
     requires index { index < length runs.old.items }
     requires bytes { bytes_of (run_at runs.old.items index) + length piece.user_data < 2 ^ 64 }
-    ensures put { OnOk result (runs.new.items ≡ slice_set runs.old.items index (run_at runs.old.items index ++ piece ∷ [])) }
+    ensures put { OnOk result
+        (runs.new.items ≡ slice_set runs.old.items index (run_at runs.old.items index ++ piece ∷ [])) }
     ensures unchanged { OnErr result (runs.new.items ≡ runs.old.items) }
 {
     match runs.get_mut(index) {
@@ -236,8 +254,11 @@ fn join_at(
 ) -> Result<(), AllocError>
     requires first { 0 < index }
     requires index { index < length runs.old.items }
-    requires bytes { bytes_of (run_at runs.old.items (index - 1)) + length piece.user_data + bytes_of (run_at runs.old.items index) < 2 ^ 64 }
-    ensures put { OnOk result (runs.new.items ≡ remove (slice_set runs.old.items (index - 1) (run_at runs.old.items (index - 1) ++ piece ∷ run_at runs.old.items index)) index) }
+    requires bytes { bytes_of (run_at runs.old.items (index - 1)) + length piece.user_data
+        + bytes_of (run_at runs.old.items index) < 2 ^ 64 }
+    ensures put { OnOk result (runs.new.items
+        ≡ remove (slice_set runs.old.items (index - 1)
+        (run_at runs.old.items (index - 1) ++ piece ∷ run_at runs.old.items index)) index) }
     ensures unchanged { OnErr result (runs.new.items ≡ runs.old.items) }
 {
     let mut behind = replace_at(runs, index, Pieces::none(alloc));
@@ -272,7 +293,8 @@ fn join_front(
 ) -> Result<(), AllocError>
     requires index { index < length runs.old.items }
     requires bytes { bytes_of (run_at runs.old.items index) + length piece.user_data + bytes_of behind.old < 2 ^ 64 }
-    ensures put { OnOk result (runs.new.items ≡ slice_set runs.old.items index (run_at runs.old.items index ++ piece ∷ behind.old)) }
+    ensures put { OnOk result
+        (runs.new.items ≡ slice_set runs.old.items index (run_at runs.old.items index ++ piece ∷ behind.old)) }
     ensures unchanged { OnErr result (runs.new.items ≡ runs.old.items) }
     ensures behind { OnErr result (behind.new ≡ behind.old) }
 {

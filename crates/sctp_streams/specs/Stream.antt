@@ -1,5 +1,6 @@
 -- One live stream of an association (RFC 4960 section 1.3, "Stream").
-use Rattle.std.specs.Prelude.{ℕ, Bool, true, false, ◌&&◌, ◌==◌, ◌+◌, ◌-◌, ◌%◌, ◌^◌, if◌then◌else◌, nat_lt, nat_le, length, Option, Some, None}
+use Rattle.std.specs.Prelude.{ℕ, Bool, true, false, ◌&&◌, ◌==◌, ◌+◌, ◌-◌, ◌%◌, ◌^◌, if◌then◌else◌, nat_lt, nat_le}
+use Rattle.std.specs.Prelude.{length, Option, Some, None}
 use Rattle.sctp_wire_types.specs.declared.ids.PayloadProtocolIdentifier.TheVariants as kinds
 use Rattle.sctp_wire_types.specs.declared.reliability.Policy.TheVariants.{Reliable}
 use Rattle.sctp_streams.specs.declared.halves.RecvSendState.{RecvSendState}

@@ -1,6 +1,7 @@
 // The two halves of a stream, and how its messages are sent.
 ghost use Rattle.std.specs.Prelude.{◌≡◌};
-ghost use Rattle.sctp_streams.specs.Stream.{halves_of, ordered_and_reliable, is_read_half_open, is_write_half_open, without_read_half, without_write_half};
+ghost use Rattle.sctp_streams.specs.Stream.{halves_of, ordered_and_reliable, is_read_half_open, is_write_half_open};
+ghost use Rattle.sctp_streams.specs.Stream.{without_read_half, without_write_half};
 
 use sctp_wire_types::Policy;
 

@@ -1,5 +1,5 @@
-//! The streams of an association and its events: what each stream has to be read, how its messages are sent, and what it
-//! counts. Each struct owns its state and calls nothing above it.
+//! The streams of an association and its events: what each stream has to be read, how its messages are sent, and what
+//! it counts. Each struct owns its state and calls nothing above it.
 #![tactic(auto)]
 
 mod event;

@@ -1,6 +1,9 @@
 // One live stream.
 ghost use Rattle.std.specs.Prelude.{◌≡◌, ◌+◌, ◌<◌, ◌≤◌, ◌^◌, IfOk, IfErr, OnOk, OnErr, IsOk, ◌⊎◌, Some, None};
-ghost use Rattle.sctp_streams.specs.Stream.{fresh_stream, params_for, accepted_by, reaches_high_mark, released_from, falls_to_low_mark, with_ssn_given_back, with_restarted_ssn, with_params, with_halves, without_read_half, without_write_half, is_read_half_open, is_write_half_open, stream_pushed, stream_read};
+ghost use Rattle.sctp_streams.specs.Stream.{fresh_stream, params_for, accepted_by, reaches_high_mark, released_from};
+ghost use Rattle.sctp_streams.specs.Stream.{falls_to_low_mark, with_ssn_given_back, with_restarted_ssn, with_params};
+ghost use Rattle.sctp_streams.specs.Stream.{with_halves, without_read_half, without_write_half, is_read_half_open};
+ghost use Rattle.sctp_streams.specs.Stream.{is_write_half_open, stream_pushed, stream_read};
 ghost use Rattle.sctp_receive_queues.specs.Reassembly.{is_ready, bytes_waiting, refusal};
 
 use crate::{DataChannelStats, RecvSendState, ReliabilityParams};
@@ -46,8 +49,9 @@ impl Model for StreamState {
 }
 
 impl StreamState {
-    /// A stream that carried nothing yet: both halves are open, messages are ordered and reliable, the low mark is 0 bytes
-    /// and the high mark the greatest u64. `first_message_id` is the identifier that the next message gets. Takes no memory.
+    /// A stream that carried nothing yet: both halves are open, messages are ordered and reliable, the low mark is 0
+    /// bytes and the high mark the greatest u64. `first_message_id` is the identifier that the next message gets. Takes
+    /// no memory.
     pub fn new(
         alloc: Global,
         id: StreamId,
@@ -155,8 +159,8 @@ impl StreamState {
         self.params = params;
     }
 
-    /// Order and reliability of a message that is written now: one of the data channel establishment protocol is ordered
-    /// and reliable (RFC 8832 section 6), any other is as the stream says.
+    /// Order and reliability of a message that is written now: one of the data channel establishment protocol is
+    /// ordered and reliable (RFC 8832 section 6), any other is as the stream says.
     pub fn params_for(&self, payload_type: PayloadProtocolIdentifier) -> ReliabilityParams
         ensures { result ≡ params_for self.now payload_type }
     {
@@ -192,9 +196,9 @@ impl StreamState {
         self.high_mark = bytes;
     }
 
-    /// Counts a message of `bytes` bytes as accepted; an ordered one has the SSN that was next. Answers whether the high
-    /// mark was reached. Refused, with nothing changed, where more bytes would be buffered than a u64 can say: that counts as
-    /// want of memory.
+    /// Counts a message of `bytes` bytes as accepted; an ordered one has the SSN that was next. Answers whether the
+    /// high mark was reached. Refused, with nothing changed, where more bytes would be buffered than a u64 can say:
+    /// that counts as want of memory.
     pub fn accept(
         &mut self,
         payload_type: PayloadProtocolIdentifier,
@@ -247,7 +251,9 @@ impl StreamState {
         ensures pushed { IfOk result (λ kept. stream_pushed self.old piece ≡ (self.new, kept)) }
         ensures unchanged { OnErr result (self.new ≡ self.old) }
         ensures taken { IsOk result → refusal self.old.reassembly piece limit ≡ None }
-        ensures refused { IfErr result (λ e. ((e ≡ Error.ErrNoMemory) × (refusal self.old.reassembly piece limit ≡ None)) ⊎ (refusal self.old.reassembly piece limit ≡ Some e)) }
+        ensures refused { IfErr result
+            (λ e. ((e ≡ Error.ErrNoMemory) × (refusal self.old.reassembly piece limit ≡ None))
+            ⊎ (refusal self.old.reassembly piece limit ≡ Some e)) }
     {
         self.reassembly.push(piece, limit)
     }

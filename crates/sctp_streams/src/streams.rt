@@ -1,8 +1,11 @@
 // The live streams of an association.
-ghost use Rattle.std.specs.Prelude.{◌≡◌, ◌==◌, true, false, if◌then◌else◌, length, IfOk, OnOk, OnErr, is_some, IsOk, IfErr, ◌⊎◌, Some, None};
+ghost use Rattle.std.specs.Prelude.{◌≡◌, ◌==◌, true, false, if◌then◌else◌, length, IfOk, OnOk, OnErr, is_some, IsOk};
+ghost use Rattle.std.specs.Prelude.{IfErr, ◌⊎◌, Some, None};
 ghost use Rattle.std.specs.Option.{option_copied, option_copied_mut};
 ghost use Rattle.std.specs.Borrow.{sem};
-ghost use Rattle.sctp_streams.specs.Streams.{no_stream, stream_at, has_room, made, generation_left, bytes_waiting, first_ended, changed_stream, released_in, is_generation, pushed_in, refusal_in, read_in, is_readable_in};
+ghost use Rattle.sctp_streams.specs.Streams.{no_stream, stream_at, has_room, made, generation_left, bytes_waiting};
+ghost use Rattle.sctp_streams.specs.Streams.{first_ended, changed_stream, released_in, is_generation, pushed_in};
+ghost use Rattle.sctp_streams.specs.Streams.{refusal_in, read_in, is_readable_in};
 ghost use Rattle.sctp_streams.specs.Stream.{accepted_by};
 ghost use Rattle.sctp_streams.specs.Lending.{LendsStream};
 
@@ -61,8 +64,8 @@ impl Streams {
         self.by_id.get_mut(&id)
     }
 
-    /// Counts a message as accepted on a live stream. Refused, with nothing changed, where more bytes would be buffered there than
-    /// a u64 can say: that counts as want of memory.
+    /// Counts a message as accepted on a live stream. Refused, with nothing changed, where more bytes would be buffered
+    /// there than a u64 can say: that counts as want of memory.
     #[tactic(auto, using(std::proofs::lemmas::Map::Steps::set_value_same))]
     pub fn accept(
         &mut self,
@@ -108,7 +111,8 @@ impl Streams {
         ensures pushed { IfOk result (λ kept. pushed_in self.old id piece ≡ (self.new, kept)) }
         ensures unchanged { OnErr result (self.new ≡ self.old) }
         ensures taken { IsOk result → refusal_in self.old id piece limit ≡ None }
-        ensures refused { IfErr result (λ e. ((e ≡ Error.ErrNoMemory) × (refusal_in self.old id piece limit ≡ None)) ⊎ (refusal_in self.old id piece limit ≡ Some e)) }
+        ensures refused { IfErr result (λ e. ((e ≡ Error.ErrNoMemory) × (refusal_in self.old id piece limit ≡ None))
+            ⊎ (refusal_in self.old id piece limit ≡ Some e)) }
     {
         match self.get_mut(id) {
             Some(stream) => stream.push(piece, limit),
@@ -143,8 +147,9 @@ impl Streams {
         self.next_generation < u64::MAX
     }
 
-    /// Makes a stream, in the next generation. `first_message_id` is the identifier that the next message gets. Refused, with
-    /// nothing changed, where no generation is left (`ErrStreamCreateFailed`), and where memory is (`ErrNoMemory`).
+    /// Makes a stream, in the next generation. `first_message_id` is the identifier that the next message gets.
+    /// Refused, with nothing changed, where no generation is left (`ErrStreamCreateFailed`), and where memory is
+    /// (`ErrNoMemory`).
     pub fn make(
         &mut self,
         alloc: Global,
@@ -154,7 +159,8 @@ impl Streams {
     ) -> Result<(), Error>
         ensures ok { OnOk result (self.new ≡ made self.old id first_message_id default_payload_type) }
         ensures left { IsOk result → generation_left self.old ≡ true }
-        ensures refused { IfErr result (λ e. e ≡ (if generation_left self.old then Error.ErrNoMemory else Error.ErrStreamCreateFailed)) }
+        ensures refused { IfErr result
+            (λ e. e ≡ (if generation_left self.old then Error.ErrNoMemory else Error.ErrStreamCreateFailed)) }
         ensures err { OnErr result (self.new ≡ self.old) }
     {
         if !self.has_generation() {

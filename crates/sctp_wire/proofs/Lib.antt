@@ -1,11 +1,11 @@
-pub mod Loop
-pub mod Writing
-pub mod Again
-pub mod ParamsAgain
 pub mod ChunksAgain
-pub mod Kept
-pub mod ParamsKept
 pub mod ChunksKept
+pub mod FrameLoop
+pub mod FramesAgain
+pub mod FramesKept
+pub mod ListsWritten
 pub mod Marshalled
 pub mod PacketsAgain
 pub mod PacketsKept
+pub mod ParamsAgain
+pub mod ParamsKept

@@ -1,6 +1,7 @@
--- Chunks of every kind: what bytes are read as, what they are spelled as, the ranges of their numbers, and which stand for
--- themselves: one kept under `Other` has no type that another variant has.
-use Rattle.std.specs.Prelude.{ℕ, ◌+◌, ◌*◌, ◌/◌, ◌%◌, ◌<◌, ◌==◌, if◌then◌else◌, nat_lt, Bool, true, ◌&&◌, List, [], length, Result, Ok, Err, ◌||◌, not}
+-- Chunks of every kind: what bytes are read as, what they are spelled as, the ranges of their numbers, and which stand
+-- for themselves: one kept under `Other` has no type that another variant has.
+use Rattle.std.specs.Prelude.{ℕ, ◌+◌, ◌*◌, ◌/◌, ◌%◌, ◌<◌, ◌==◌, if◌then◌else◌, nat_lt, Bool, true, ◌&&◌, List, []}
+use Rattle.std.specs.Prelude.{length, Result, Ok, Err, ◌||◌, not}
 use Rattle.std.specs.Int.{w32, to_be_bytes}
 use Rattle.std.specs.List.{list_all, AllByRecursion}
 use Rattle.sctp_wire_types.specs.declared.error.Fault.{Fault}
@@ -27,16 +28,21 @@ point_of value = if nat_lt (length value) 4 then Err Short else Ok (u32_at value
 -- the chunks that come while an association stands
 unfoldable pub chunk_of : Frame → Result Chunk Fault
 chunk_of frame =
-    if frame.head / 256 == 0 then (payload_data_of (frame.head % 256) frame.value >>= λ chunk. Ok (chunks.Data chunk)) else
+    if frame.head / 256 == 0 then
+    (payload_data_of (frame.head % 256) frame.value >>= λ chunk. Ok (chunks.Data chunk)) else
     if frame.head / 256 == 1 then (init_of frame.value >>= λ chunk. Ok (chunks.Init chunk)) else
     if frame.head / 256 == 2 then (init_of frame.value >>= λ chunk. Ok (chunks.InitAck chunk)) else
     if frame.head / 256 == 3 then (selective_ack_of frame.value >>= λ chunk. Ok (chunks.SelectiveAck chunk)) else
-    if frame.head / 256 == 4 then (params_at frame.value >>= λ params. Ok (chunks.Heartbeat (record { params = params }))) else
-    if frame.head / 256 == 5 then (params_at frame.value >>= λ params. Ok (chunks.HeartbeatAck (record { params = params }))) else
-    if frame.head / 256 == 6 then (causes_at frame.value >>= λ causes. Ok (chunks.Abort (record { error_causes = causes }))) else
+    if frame.head / 256 == 4 then
+    (params_at frame.value >>= λ params. Ok (chunks.Heartbeat (record { params = params }))) else
+    if frame.head / 256 == 5 then
+    (params_at frame.value >>= λ params. Ok (chunks.HeartbeatAck (record { params = params }))) else
+    if frame.head / 256 == 6 then
+    (causes_at frame.value >>= λ causes. Ok (chunks.Abort (record { error_causes = causes }))) else
     if frame.head / 256 == 7 then (point_of frame.value >>= λ point. Ok (chunks.Shutdown point)) else
     if frame.head / 256 == 8 then Ok chunks.ShutdownAck else
-    if frame.head / 256 == 9 then (causes_at frame.value >>= λ causes. Ok (chunks.Error (record { error_causes = causes }))) else
+    if frame.head / 256 == 9 then
+    (causes_at frame.value >>= λ causes. Ok (chunks.Error (record { error_causes = causes }))) else
     if frame.head / 256 == 10 then Ok (chunks.CookieEcho frame.value) else
     if frame.head / 256 == 11 then Ok chunks.CookieAck else
     if frame.head / 256 == 14 then Ok chunks.ShutdownComplete else
@@ -103,7 +109,8 @@ IsChunk _ = Unit {0}
 
 abbrev pub names_chunk : ℕ → Bool
 names_chunk kind =
-    kind == 0 || kind == 1 || kind == 2 || kind == 3 || kind == 4 || kind == 5 || kind == 6 || kind == 7 || kind == 8 || kind == 9
+    kind == 0 || kind == 1 || kind == 2 || kind == 3 || kind == 4 || kind == 5 || kind == 6 || kind == 7
+    || kind == 8 || kind == 9
     || kind == 10 || kind == 11 || kind == 14 || kind == 130 || kind == 192 || kind == 194
 
 abbrev pub chunk_is_plain : Chunk → Bool

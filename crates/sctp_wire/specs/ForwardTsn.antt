@@ -24,7 +24,10 @@ IsSkipped s = IsU16 s.stream_identifier × IsU16 s.stream_sequence_number
 unfoldable pub forward_tsn_of : List ℕ → Result ChunkForwardTsn Fault
 forward_tsn_of value =
     if nat_lt (length value) 4 then Err Short else
-    Ok (record { new_cumulative_tsn = u32_at value 0; streams = entries_at skipped_at 4 ((length value - 4) / 4) (drop 4 value) })
+    Ok (record {
+      new_cumulative_tsn = u32_at value 0;
+      streams = entries_at skipped_at 4 ((length value - 4) / 4) (drop 4 value);
+    })
 
 abbrev pub forward_tsn_value : ChunkForwardTsn → List ℕ
 forward_tsn_value c = to_be_bytes w32 c.new_cumulative_tsn ++ flat_map skipped_bytes c.streams
@@ -33,10 +36,15 @@ abbrev pub IsForwardTsn : ChunkForwardTsn → Type 0
 IsForwardTsn c = IsU32 c.new_cumulative_tsn × AllByRecursion IsSkipped c.streams
 
 abbrev pub message_skip_at : List ℕ → IForwardTsnEntry
-message_skip_at bytes = record { stream_identifier = u16_at bytes 0; unordered = u16_at bytes 2 % 2 == 1; message_identifier = u32_at bytes 4 }
+message_skip_at bytes = record {
+  stream_identifier = u16_at bytes 0;
+  unordered = u16_at bytes 2 % 2 == 1;
+  message_identifier = u32_at bytes 4;
+}
 
 abbrev pub message_skip_bytes : IForwardTsnEntry → List ℕ
-message_skip_bytes e = to_be_bytes w16 e.stream_identifier ++ to_be_bytes w16 (bit e.unordered 1) ++ to_be_bytes w32 e.message_identifier
+message_skip_bytes e =
+    to_be_bytes w16 e.stream_identifier ++ to_be_bytes w16 (bit e.unordered 1) ++ to_be_bytes w32 e.message_identifier
 
 abbrev pub IsMessageSkip : IForwardTsnEntry → Type 0
 IsMessageSkip e = IsU16 e.stream_identifier × IsU32 e.message_identifier
@@ -45,7 +53,10 @@ IsMessageSkip e = IsU16 e.stream_identifier × IsU32 e.message_identifier
 unfoldable pub i_forward_tsn_of : List ℕ → Result ChunkIForwardTsn Fault
 i_forward_tsn_of value =
     if nat_lt (length value) 4 then Err Short else
-    Ok (record { new_cumulative_tsn = u32_at value 0; entries = entries_at message_skip_at 8 ((length value - 4) / 8) (drop 4 value) })
+    Ok (record {
+      new_cumulative_tsn = u32_at value 0;
+      entries = entries_at message_skip_at 8 ((length value - 4) / 8) (drop 4 value);
+    })
 
 abbrev pub i_forward_tsn_value : ChunkIForwardTsn → List ℕ
 i_forward_tsn_value c = to_be_bytes w32 c.new_cumulative_tsn ++ flat_map message_skip_bytes c.entries

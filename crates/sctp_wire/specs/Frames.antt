@@ -1,5 +1,7 @@
--- Chunks, parameters and error causes as frames: a head, a length, a value and padding (RFC 4960 sections 3.2 and 3.2.1).
-use Rattle.std.specs.Prelude.{◌≡◌, ℕ, zero, suc, ◌+◌, ◌-◌, ◌%◌, if◌then◌else◌, nat_lt, Bool, true, false, List, [], ◌∷◌, ◌++◌, length, take, drop, Result, Ok, Err}
+-- Chunks, parameters and error causes as frames: a head, a length, a value and padding (RFC 4960 sections 3.2 and
+-- 3.2.1).
+use Rattle.std.specs.Prelude.{◌≡◌, ℕ, zero, suc, ◌+◌, ◌-◌, ◌%◌, if◌then◌else◌, nat_lt, Bool, true, false, List, [], ◌∷◌}
+use Rattle.std.specs.Prelude.{◌++◌, length, take, drop, Result, Ok, Err}
 use Rattle.std.specs.Int.{w16, to_be_bytes}
 use Rattle.sctp_wire_types.specs.declared.error.Fault.{Fault}
 use Rattle.sctp_wire_types.specs.declared.error.Fault.TheVariants.{Short, Length, Long}
@@ -23,14 +25,18 @@ frame_at bytes =
     if nat_lt (length bytes) 4 then Err Short else
     if nat_lt (u16_at bytes 2) 4 then Err Length else
     if nat_lt (length bytes) (u16_at bytes 2) then Err Short else
-    Ok (record { head = u16_at bytes 0; value = take (u16_at bytes 2 - 4) (drop 4 bytes) }, drop (padded_len (u16_at bytes 2)) bytes)
+    Ok (
+      record { head = u16_at bytes 0; value = take (u16_at bytes 2 - 4) (drop 4 bytes) },
+      drop (padded_len (u16_at bytes 2)) bytes,
+    )
 
 -- the values of the frames, until fewer than `least` bytes are left; the first number bounds the steps
 unfoldable pub items_within : {A : Type 0} → ℕ → (Frame → Result A Fault) → ℕ → List ℕ → Result (List A) Fault
 items_within zero item_of least bytes = Ok []
 items_within (suc n) item_of least bytes =
     if nat_lt (length bytes) least then Ok [] else
-    (frame_at bytes >>= λ frame. item_of frame.0 >>= λ item. items_within n item_of least frame.1 >>= λ items. Ok (item ∷ items))
+    (frame_at bytes >>= λ frame. item_of frame.0 >>= λ item. items_within n item_of least frame.1 >>= λ items.
+    Ok (item ∷ items))
 
 unfoldable pub items_at : {A : Type 0} → (Frame → Result A Fault) → ℕ → List ℕ → Result (List A) Fault
 items_at item_of least bytes = items_within (suc (length bytes)) item_of least bytes

@@ -31,5 +31,6 @@ init_value c =
 
 abbrev pub IsInit : ChunkInit → Type 0
 IsInit c =
-    IsU32 c.initiate_tag × IsU32 c.advertised_receiver_window_credit × IsU16 c.num_outbound_streams × IsU16 c.num_inbound_streams
+    IsU32 c.initiate_tag × IsU32 c.advertised_receiver_window_credit × IsU16 c.num_outbound_streams
+    × IsU16 c.num_inbound_streams
     × IsU32 c.initial_tsn × AllByRecursion IsParam c.params

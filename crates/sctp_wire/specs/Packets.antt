@@ -1,5 +1,6 @@
 -- Packets (RFC 4960 section 3).
-use Rattle.std.specs.Prelude.{◌≡◌, ℕ, ◌+◌, ◌==◌, if◌then◌else◌, nat_lt, not, Bool, true, false, ◌&&◌, ◌||◌, List, [], ◌∷◌, ◌++◌, length, take, drop, Result, Ok, Err}
+use Rattle.std.specs.Prelude.{◌≡◌, ℕ, ◌+◌, ◌==◌, if◌then◌else◌, nat_lt, not, Bool, true, false, ◌&&◌, ◌||◌, List, []}
+use Rattle.std.specs.Prelude.{◌∷◌, ◌++◌, length, take, drop, Result, Ok, Err}
 use Rattle.std.specs.List.{flat_map, list_all, list_any, AllByRecursion}
 use Rattle.std.specs.Int.{w16, w32, from_le_bytes, to_le_bytes, to_be_bytes}
 use Rattle.sctp_crc.specs.Crc.{sum_of_packet}
@@ -17,7 +18,8 @@ use Rattle.sctp_wire.specs.declared.packet.Packet.{Packet}
 use Rattle.sctp_wire.specs.declared.partial.PartialDecode.{PartialDecode}
 
 abbrev pub header_at : List ℕ → CommonHeader
-header_at bytes = record { source_port = u16_at bytes 0; destination_port = u16_at bytes 2; verification_tag = u32_at bytes 4 }
+header_at bytes =
+    record { source_port = u16_at bytes 0; destination_port = u16_at bytes 2; verification_tag = u32_at bytes 4 }
 
 -- the checksum that stands in a packet, low byte first (RFC 4960 appendix B)
 abbrev pub sum_at : List ℕ → ℕ
@@ -31,7 +33,8 @@ partial_at bytes =
     Ok (record { common_header = header_at bytes; remaining = drop 12 bytes })
 
 unfoldable pub finished : PartialDecode → Result Packet Fault
-finished partial = chunks_at partial.remaining >>= λ chunks. Ok (record { common_header = partial.common_header; chunks = chunks })
+finished partial =
+    chunks_at partial.remaining >>= λ chunks. Ok (record { common_header = partial.common_header; chunks = chunks })
 
 -- what a datagram spells, or its first fault
 abbrev pub packet_at : List ℕ → Result Packet Fault
@@ -43,13 +46,17 @@ packet_fits packet = list_all chunk_fits packet.chunks
 
 -- a packet's bytes with this checksum
 abbrev pub header_bytes : CommonHeader → List ℕ
-header_bytes header = to_be_bytes w16 header.source_port ++ to_be_bytes w16 header.destination_port ++ to_be_bytes w32 header.verification_tag
+header_bytes header =
+    to_be_bytes w16 header.source_port ++ to_be_bytes w16 header.destination_port
+    ++ to_be_bytes w32 header.verification_tag
 
 abbrev pub unsummed : Packet → List ℕ
 unsummed packet = header_bytes packet.common_header ++ to_be_bytes w32 0 ++ flat_map chunk_bytes packet.chunks
 
 unfoldable pub spelling : Packet → List ℕ
-spelling packet = header_bytes packet.common_header ++ to_le_bytes w32 (sum_of_packet (unsummed packet)) ++ flat_map chunk_bytes packet.chunks
+spelling packet =
+    header_bytes packet.common_header ++ to_le_bytes w32 (sum_of_packet (unsummed packet))
+    ++ flat_map chunk_bytes packet.chunks
 
 unfoldable pub written : Packet → Result (List ℕ) Fault
 written packet = if packet_fits packet then Ok (spelling packet) else Err faults.Long
@@ -73,6 +80,9 @@ is_init _ = false
 -- (RFC 4960 sections 3.1, 6.10 and 8.5.1)
 abbrev pub checked : Packet → Result (Unit {0}) Error
 checked packet =
-    if packet.common_header.source_port == 0 || packet.common_header.destination_port == 0 then Err (errors.Malformed faults.Port) else
-    if list_any is_init packet.chunks && not (length packet.chunks == 1) then Err (errors.Malformed faults.InitBundled) else
-    if list_any is_init packet.chunks && not (packet.common_header.verification_tag == 0) then Err (errors.Malformed faults.InitTag) else Ok tt
+    if packet.common_header.source_port == 0 || packet.common_header.destination_port == 0 then
+    Err (errors.Malformed faults.Port) else
+    if list_any is_init packet.chunks && not (length packet.chunks == 1) then
+    Err (errors.Malformed faults.InitBundled) else
+    if list_any is_init packet.chunks && not (packet.common_header.verification_tag == 0) then
+    Err (errors.Malformed faults.InitTag) else Ok tt

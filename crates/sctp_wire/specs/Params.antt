@@ -1,6 +1,7 @@
--- Parameters and error causes: what bytes are read as, what values are spelled as, and the ranges of their numbers. What is
--- kept under `Other` stands for itself where its type is none that another variant has.
-use Rattle.std.specs.Prelude.{ℕ, ◌-◌, ◌/◌, ◌==◌, if◌then◌else◌, nat_lt, Bool, true, List, ◌++◌, length, drop, Result, Ok, Err, ◌||◌, not}
+-- Parameters and error causes: what bytes are read as, what values are spelled as, and the ranges of their numbers.
+-- What is kept under `Other` stands for itself where its type is none that another variant has.
+use Rattle.std.specs.Prelude.{ℕ, ◌-◌, ◌/◌, ◌==◌, if◌then◌else◌, nat_lt, Bool, true, List, ◌++◌, length, drop, Result}
+use Rattle.std.specs.Prelude.{Ok, Err, ◌||◌, not}
 use Rattle.std.specs.Int.{w16, w32, to_be_bytes}
 use Rattle.std.specs.List.{flat_map, AllByRecursion}
 use Rattle.sctp_wire_types.specs.declared.error.Fault.{Fault}
@@ -59,7 +60,9 @@ reset_request_value p =
     ++ to_be_bytes w32 p.sender_last_tsn ++ flat_map identifier_bytes p.stream_identifiers
 
 abbrev pub IsResetRequest : ParamOutgoingResetRequest → Type 0
-IsResetRequest p = IsU32 p.reconfig_request_sequence_number × IsU32 p.reconfig_response_sequence_number × IsU32 p.sender_last_tsn × AllByRecursion IsU16 p.stream_identifiers
+IsResetRequest p =
+    IsU32 p.reconfig_request_sequence_number × IsU32 p.reconfig_response_sequence_number × IsU32 p.sender_last_tsn
+    × AllByRecursion IsU16 p.stream_identifiers
 
 -- Re-configuration Response (RFC 6525 section 4.4)
 unfoldable pub reset_response_of : List ℕ → Result ParamReconfigResponse Fault
@@ -68,7 +71,8 @@ reset_response_of value =
     Ok (record { reconfig_response_sequence_number = u32_at value 0; result = result_of (u32_at value 4) })
 
 abbrev pub reset_response_value : ParamReconfigResponse → List ℕ
-reset_response_value p = to_be_bytes w32 p.reconfig_response_sequence_number ++ to_be_bytes w32 (number_of_result p.result)
+reset_response_value p =
+    to_be_bytes w32 p.reconfig_response_sequence_number ++ to_be_bytes w32 (number_of_result p.result)
 
 abbrev pub IsResetResponse : ParamReconfigResponse → Type 0
 IsResetResponse p = IsU32 p.reconfig_response_sequence_number

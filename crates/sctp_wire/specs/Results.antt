@@ -23,7 +23,8 @@ abbrev pub Yields : {Y : Type 0} → Result Y WireError → Result Y Fault → T
 Yields (Ok x) given = given ≡ Ok x
 Yields (Err e) given = Fails e given
 
--- the bytes were written at the end, all of them, where they fit; refused as too long where they do not; or memory ran out
+-- the bytes were written at the end, all of them, where they fit; refused as too long where they do not; or memory ran
+-- out
 abbrev pub Writes : Result (Unit {0}) WireError → Bool → List ℕ → List ℕ → List ℕ → Type 0
 Writes (Ok _) fits old new bytes = (fits ≡ true) × (new ≡ old ++ bytes)
 Writes (Err wire.NoMemory) fits old new bytes = Unit {0}

@@ -43,4 +43,6 @@ selective_ack_value c =
     ++ flat_map block_bytes c.gap_ack_blocks ++ flat_map tsn_bytes c.duplicate_tsn
 
 abbrev pub IsSack : ChunkSelectiveAck → Type 0
-IsSack c = IsU32 c.cumulative_tsn_ack × IsU32 c.advertised_receiver_window_credit × AllByRecursion IsBlock c.gap_ack_blocks × AllByRecursion IsU32 c.duplicate_tsn
+IsSack c =
+    IsU32 c.cumulative_tsn_ack × IsU32 c.advertised_receiver_window_credit × AllByRecursion IsBlock c.gap_ack_blocks
+    × AllByRecursion IsU32 c.duplicate_tsn

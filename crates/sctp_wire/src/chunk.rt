@@ -107,7 +107,8 @@ pub(crate) fn write_chunks(
     out: &mut Vec<u8>,
     chunks: &[Chunk],
 ) -> Result<(), WireError>
-    ensures bytes { Writes result (list_all chunk_fits chunks.now) out.old.items out.new.items (flat_map chunk_bytes chunks.now) }
+    ensures bytes { Writes result (list_all chunk_fits chunks.now) out.old.items out.new.items
+        (flat_map chunk_bytes chunks.now) }
     ensures range { OnOk result (AllByRecursion IsChunk chunks.now) }
 {
     'chunks: for chunk in chunks {

@@ -91,7 +91,8 @@ pub(crate) fn put_padding(out: &mut Vec<u8>, len: usize) -> Result<(), AllocErro
 
 /// A frame with its padding.
 pub(crate) fn put_padded(out: &mut Vec<u8>, head: u16, value: &[u8]) -> Result<(), WireError>
-    ensures { Writes result (frame_fits (framed head value.now)) out.old.items out.new.items (padded (framed head value.now)) }
+    ensures { Writes result (frame_fits (framed head value.now)) out.old.items out.new.items
+        (padded (framed head value.now)) }
 {
     let len = put_bare(out, head, value)?;
     put_padding(out, len)?;

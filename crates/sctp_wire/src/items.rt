@@ -58,7 +58,8 @@ pub(crate) fn put_items<T: PutItem>(
     out: &mut Vec<u8>,
     items: &[T],
 ) -> Result<(), WireError>
-    ensures bytes { Writes result (list_all (λ x. frame_fits (T.frame_of x)) items.now) out.old.items out.new.items (joined T.frame_of items.now) }
+    ensures bytes { Writes result (list_all (λ x. frame_fits (T.frame_of x)) items.now) out.old.items out.new.items
+        (joined T.frame_of items.now) }
     ensures range { OnOk result (AllByRecursion T.IsItem items.now) }
 {
     let mut last_len = 0;

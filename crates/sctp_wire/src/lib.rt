@@ -1,4 +1,5 @@
-//! SCTP packets: read from datagrams, written as datagrams (RFC 4960 section 3), and the types that the layers above share.
+//! SCTP packets: read from datagrams, written as datagrams (RFC 4960 section 3), and the types that the layers above
+//! share.
 #![tactic(auto)]
 
 mod chunk;

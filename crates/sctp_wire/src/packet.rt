@@ -34,7 +34,8 @@ fn set_sum(bytes: &mut [u8], sum: u32)
 
 impl Packet {
     ghost use Rattle.sctp_wire.specs.Results.{Gives, Yields, Builds};
-    ghost use Rattle.sctp_wire.specs.Packets.{packet_fits, packet_is_plain, packet_at, unsummed, spelling, written, IsPacket};
+    ghost use Rattle.sctp_wire.specs.Packets.{packet_fits, packet_is_plain, packet_at, unsummed, spelling, written};
+    ghost use Rattle.sctp_wire.specs.Packets.{IsPacket};
 
     fn unsummed(&self, alloc: Global) -> Result<Vec<u8>, WireError>
         ensures bytes { Builds result (packet_fits self.now) (unsummed self.now) }
@@ -61,8 +62,8 @@ impl Packet {
         Ok(Bytes::from_vec(out)?)
     }
 
-    /// The datagram that spells this packet, with its checksum. A chunk or a parameter that is too long for its 16-bit length
-    /// is refused with `Fault::Long`.
+    /// The datagram that spells this packet, with its checksum. A chunk or a parameter that is too long for its 16-bit
+    /// length is refused with `Fault::Long`.
     #[tactic(auto, using(crate::proofs::PacketsAgain::written_again))]
     pub fn marshal(&self, alloc: Global) -> Result<Bytes, Error>
         ensures exact { Gives result (written self.now) }

@@ -62,7 +62,8 @@ impl PartialDecode {
     #[tactic(auto, unfolding(crate::specs::Packets::finished))]
     fn read_rest(self, alloc: Global) -> Result<Packet, WireError>
         ensures exact { Yields result (finished self) }
-        ensures content { IfOk result (λ packet. (written packet ≡ Ok (spelling packet)) × (packet_at (spelling packet) ≡ Ok packet)) }
+        ensures content { IfOk result
+            (λ packet. (written packet ≡ Ok (spelling packet)) × (packet_at (spelling packet) ≡ Ok packet)) }
     {
         let PartialDecode {
             common_header,
@@ -97,7 +98,8 @@ impl PartialDecode {
         ensures exact { Gives result (finished self) }
 
         // What is read can be written, and what is written of it is read as the same packet.
-        ensures content { IfOk result (λ packet. (written packet ≡ Ok (spelling packet)) × (packet_at (spelling packet) ≡ Ok packet)) }
+        ensures content { IfOk result
+            (λ packet. (written packet ≡ Ok (spelling packet)) × (packet_at (spelling packet) ≡ Ok packet)) }
     {
         Ok(self.read_rest(alloc)?)
     }

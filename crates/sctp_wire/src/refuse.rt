@@ -6,8 +6,8 @@ ghost use Rattle.sctp_wire.specs.Packets.{checked, is_init as is_init_chunk};
 use crate::Packet;
 use sctp_wire_types::{Chunk, Error, Fault};
 
-/// Refuses a port 0, an INIT that is not alone and an INIT under a verification tag other than 0 (RFC 4960 sections 3.1,
-/// 6.10 and 8.5.1).
+/// Refuses a port 0, an INIT that is not alone and an INIT under a verification tag other than 0 (RFC 4960 sections
+/// 3.1, 6.10 and 8.5.1).
 pub fn check_packet(packet: &Packet) -> Result<(), Error>
     ensures { result ≡ checked packet.now }
 {

@@ -1,5 +1,5 @@
-//! The layer below the association, as the association and what stands above it name it: packets with their chunks, streams and
-//! events, and the queues of what is to be sent and of what came.
+//! The layer below the association, as the association and what stands above it name it: packets with their chunks,
+//! streams and events, and the queues of what is to be sent and of what came.
 #![tactic(auto)]
 
 pub use sctp_outbound_queue::{Attributes, InFlight, OutboundQueue, PendingMessage, Released};

@@ -12,7 +12,8 @@ use Rattle.sctp_wire_types.specs.declared.chunk.ChunkInit.{ChunkInit}
 abbrev pub checked_init : ChunkInit → Result (Unit {0}) Error
 checked_init init =
     if init.initiate_tag == 0 then Err (errors.Malformed faults.InitiateTag) else
-    if init.num_outbound_streams == 0 || init.num_inbound_streams == 0 then Err (errors.Malformed faults.StreamCount) else
+    if init.num_outbound_streams == 0 || init.num_inbound_streams == 0 then
+    Err (errors.Malformed faults.StreamCount) else
     if nat_lt init.advertised_receiver_window_credit 1500 then Err (errors.Malformed faults.Window) else Ok tt
 
 -- other chunks pass

@@ -8,8 +8,8 @@ use crate::{Chunk, ChunkInit, Error, Fault};
 const LEAST_WINDOW: u32 = 1500;
 
 impl ChunkInit {
-    /// Refuses an initiate tag 0, a number of streams 0 and a receive window below 1500 bytes (RFC 4960 sections 3.3.2 and
-    /// 3.3.3).
+    /// Refuses an initiate tag 0, a number of streams 0 and a receive window below 1500 bytes (RFC 4960 sections 3.3.2
+    /// and 3.3.3).
     pub fn check(&self) -> Result<(), Error>
         ensures { result ≡ checked_init self.now }
     {

@@ -41,8 +41,8 @@ pub(crate) fn told(association: &mut Association) -> Result<Option<Event>, Error
     association.poll()
 }
 
-/// The peer's window, the cumulative TSN ack point and the peer's tag, streams that may be sent on and received on, and whether
-/// FORWARD TSN is in use.
+/// The peer's window, the cumulative TSN ack point and the peer's tag, streams that may be sent on and received on, and
+/// whether FORWARD TSN is in use.
 pub(crate) fn numbers(association: &Association) -> (u32, u32, u32, (u16, u16), bool) {
     (
         association.rwnd(),

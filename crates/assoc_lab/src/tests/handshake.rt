@@ -12,8 +12,8 @@ use sctp_pair::Reply;
 use std::alloc::Global;
 use std::test::Fail;
 
-/// INIT: initiate tag 0x12345678, window 131,072, 1024 streams each way, first TSN 1, Forward TSN supported, RE-CONFIG and
-/// FORWARD TSN listed.
+/// INIT: initiate tag 0x12345678, window 131,072, 1024 streams each way, first TSN 1, Forward TSN supported, RE-CONFIG
+/// and FORWARD TSN listed.
 static INIT: &str = "\
 1388138800000000925755c7\
 0100002012345678000200000400040000000001\
@@ -33,8 +33,8 @@ static INIT_UNDER_TAG: &str = "\
 8008000882c040c2c0000004
 ";
 
-/// The answer: INIT ACK under the tag 0x12345678 with initiate tag 2, window 1,048,576, 1024 streams each way, first TSN
-/// 500, the State Cookie, RE-CONFIG and FORWARD TSN.
+/// The answer: INIT ACK under the tag 0x12345678 with initiate tag 2, window 1,048,576, 1024 streams each way, first
+/// TSN 500, the State Cookie, RE-CONFIG and FORWARD TSN.
 static INIT_ACK: &str = "\
 13881388123456784d46dd23\
 0200003e000000020010000004000400000001f4\
@@ -50,7 +50,8 @@ static INIT_ACK_OF_OTHER_PORTS: &str = "\
 8008000682c00000
 ";
 
-/// A client's INIT: initiate tag 1, window 1,048,576, 65,535 streams each way, first TSN 100, RE-CONFIG and FORWARD TSN.
+/// A client's INIT: initiate tag 1, window 1,048,576, 65,535 streams each way, first TSN 100, RE-CONFIG and FORWARD
+/// TSN.
 static CLIENT_INIT: &str = "\
 13881388000000003de19426\
 0100001a0000000100100000ffffffff00000064\

@@ -1,5 +1,5 @@
-// Whole sessions over memory: output, errors and status are compared. The stored run of the program is one more: one message and
-// its acknowledgement.
+// Whole sessions over memory: output, errors and status are compared. The stored run of the program is one more: one
+// message and its acknowledgement.
 use crate::session::session;
 use std::alloc::{AllocError, Global};
 use std::process::Abort;
@@ -166,8 +166,8 @@ fn sessions_give_their_replies(rt: HostRuntime) -> Result<(), Fail> {
 /// How many messages wait at once, and how many packets and events then do.
 const MANY: u64 = 1_000;
 
-// A side writes many messages and gives them all out at once; the other side gets all their packets before it asks for the
-// first event, or reads.
+// A side writes many messages and gives them all out at once; the other side gets all their packets before it asks for
+// the first event, or reads.
 fn many_waiting(alloc: Global) -> Result<String, AllocError> {
     let mut text = String::new(alloc);
     text.push_str("snap 1200 100 500=ok\nopen A 1 53=ok\n")?;

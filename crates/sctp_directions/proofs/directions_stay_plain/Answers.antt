@@ -1,4 +1,5 @@
-use Rattle.sctp_directions.proofs.Proved.{events_keep_the_limits, fresh_directions_are_plain, plain_events_keep_it_plain}
+use Rattle.sctp_directions.proofs.Proved.{events_keep_the_limits, fresh_directions_are_plain}
+use Rattle.sctp_directions.proofs.Proved.{plain_events_keep_it_plain}
 use Rattle.sctp_directions.proofs.directions_stay_plain.Goals as goal
 
 pub returns-clause-fresh : goal.returns-clause-fresh

@@ -1,4 +1,5 @@
-use Rattle.sctp_directions.proofs.Proved.{closed_receivers_are_not_open, only_reads_give_messages, only_what_is_brought_is_taken_in, receivers_events_are_received}
+use Rattle.sctp_directions.proofs.Proved.{closed_receivers_are_not_open, only_reads_give_messages}
+use Rattle.sctp_directions.proofs.Proved.{only_what_is_brought_is_taken_in, receivers_events_are_received}
 use Rattle.sctp_directions.proofs.events_at_the_receiver_leave_the_sender.Goals as goal
 
 pub returns-clause-received : goal.returns-clause-received

@@ -1,4 +1,6 @@
-use Rattle.sctp_directions.proofs.Proved.{only_beginnings_assign, only_writes_accept, senders_events_are_sent, senders_events_keep_the_invariant, senders_events_leave_what_comes, writes_are_accepted_last}
+use Rattle.sctp_directions.proofs.Proved.{only_beginnings_assign, only_writes_accept, senders_events_are_sent}
+use Rattle.sctp_directions.proofs.Proved.{senders_events_keep_the_invariant, senders_events_leave_what_comes}
+use Rattle.sctp_directions.proofs.Proved.{writes_are_accepted_last}
 use Rattle.sctp_directions.proofs.events_at_the_sender_leave_the_receiver.Goals as goal
 
 pub returns-clause-sent : goal.returns-clause-sent

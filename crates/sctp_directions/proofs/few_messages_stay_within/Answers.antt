@@ -1,4 +1,6 @@
-use Rattle.sctp_directions.proofs.Proved.{accepted_messages_are_counted, few_messages_stay_within, nothing_is_accepted_at_first, pieces_are_counted, short_messages_are_one_piece}
+use Rattle.sctp_directions.proofs.Proved.{accepted_messages_are_counted, few_messages_stay_within}
+use Rattle.sctp_directions.proofs.Proved.{nothing_is_accepted_at_first, pieces_are_counted}
+use Rattle.sctp_directions.proofs.Proved.{short_messages_are_one_piece}
 use Rattle.sctp_directions.proofs.few_messages_stay_within.Goals as goal
 
 pub returns-clause-pieces : goal.returns-clause-pieces

@@ -1,4 +1,6 @@
-use Rattle.sctp_directions.proofs.Proved.{acknowledgements_are_alike, marks_are_no_events, own_acts_leave_what_comes, pieces_are_given, sacks_mean_the_same, sent_pieces_begin, what_is_released_is_not_buffered, writes_are_accepted}
+use Rattle.sctp_directions.proofs.Proved.{acknowledgements_are_alike, marks_are_no_events, own_acts_leave_what_comes}
+use Rattle.sctp_directions.proofs.Proved.{pieces_are_given, sacks_mean_the_same, sent_pieces_begin}
+use Rattle.sctp_directions.proofs.Proved.{what_is_released_is_not_buffered, writes_are_accepted}
 use Rattle.sctp_directions.proofs.its_own_acts_are_events.Goals as goal
 
 pub returns-clause-writes : goal.returns-clause-writes

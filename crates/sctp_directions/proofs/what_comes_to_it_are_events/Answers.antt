@@ -1,4 +1,6 @@
-use Rattle.sctp_directions.proofs.Proved.{acts_keep_the_initial_tsns, meetings_are_no_events, opened_streams_are_alike, reads_are_alike, ready_messages_are_alike, reports_say_what_came, the_same_is_ready, what_comes_leaves_its_own, what_is_taken_in_comes}
+use Rattle.sctp_directions.proofs.Proved.{acts_keep_the_initial_tsns, meetings_are_no_events, opened_streams_are_alike}
+use Rattle.sctp_directions.proofs.Proved.{reads_are_alike, ready_messages_are_alike, reports_say_what_came}
+use Rattle.sctp_directions.proofs.Proved.{the_same_is_ready, what_comes_leaves_its_own, what_is_taken_in_comes}
 use Rattle.sctp_directions.proofs.what_comes_to_it_are_events.Goals as goal
 
 pub returns-clause-opened : goal.returns-clause-opened

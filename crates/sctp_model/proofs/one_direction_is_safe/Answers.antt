@@ -1,4 +1,4 @@
-use Rattle.sctp_model.proofs.Steps.{fresh_holds, one_direction_is_safe, run_keeps}
+use Rattle.sctp_model.proofs.EventsKeepInvariant.{fresh_holds, one_direction_is_safe, run_keeps}
 use Rattle.sctp_model.specs.Machine.{fresh}
 use Rattle.sctp_model.proofs.one_direction_is_safe.Goals as goal
 

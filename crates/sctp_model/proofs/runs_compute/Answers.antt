@@ -1,4 +1,8 @@
-use Rattle.sctp_model.proofs.Runs.{closed_reads_nothing, dropped_unsent, first_abandoned_and_skipped, late_forward_changes_nothing, late_number_leaves_the_cursor, pieces_out_of_order, sacks_release_once, sequence_numbers_wrap, stream_begins_anew, streams_do_not_wait, unordered_is_dropped, unordered_is_read_first}
+use Rattle.sctp_model.proofs.ExampleRuns.{closed_reads_nothing, dropped_unsent, first_abandoned_and_skipped}
+use Rattle.sctp_model.proofs.ExampleRuns.{late_forward_changes_nothing, late_number_leaves_the_cursor}
+use Rattle.sctp_model.proofs.ExampleRuns.{pieces_out_of_order, sacks_release_once, sequence_numbers_wrap}
+use Rattle.sctp_model.proofs.ExampleRuns.{stream_begins_anew, streams_do_not_wait, unordered_is_dropped}
+use Rattle.sctp_model.proofs.ExampleRuns.{unordered_is_read_first}
 use Rattle.sctp_model.proofs.runs_compute.Goals as goal
 
 pub returns-clause-pieces : goal.returns-clause-pieces

@@ -1,4 +1,4 @@
-use Rattle.sctp_model.proofs.Basics.{reach_from, reach_below, reach_stops, sack_named, sack_names}
+use Rattle.sctp_model.proofs.OffsetSets.{reach_from, reach_below, reach_stops, sack_named, sack_names}
 use Rattle.sctp_model.proofs.sacks_are_exact.Goals as goal
 
 pub returns-clause-reach : goal.returns-clause-reach

@@ -1,6 +1,6 @@
 use Rattle.std.proofs.Common.{◌%◌, ◌≤◌, ap, sym, subst, ◌∙◌}
 use Rattle.sctp_model.specs.Messages.{accepted_bytes}
-use Rattle.sctp_model.proofs.Released.{released_within}
+use Rattle.sctp_model.proofs.ReleasedBytes.{released_within}
 use Rattle.sctp_model.proofs.Proved.{each_event_keeps_the_invariant, the_invariant_is_enough}
 use Rattle.sctp_model.proofs.the_invariant_carries.Goals as goal
 

@@ -1,4 +1,5 @@
-use Rattle.sctp_reassembly.proofs.Events.{a_forward_that_comes_stands, a_read_that_happens_stands, data_that_comes_stands, unordered_data_that_comes_stands}
+use Rattle.sctp_reassembly.proofs.LawsInEvents.{a_forward_that_comes_stands, a_read_that_happens_stands}
+use Rattle.sctp_reassembly.proofs.LawsInEvents.{data_that_comes_stands, unordered_data_that_comes_stands}
 use Rattle.sctp_reassembly.proofs.a_reassembly_follows_the_machine.Goals as goal
 
 pub returns-clause-data : goal.returns-clause-data

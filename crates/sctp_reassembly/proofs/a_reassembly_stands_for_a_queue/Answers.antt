@@ -1,10 +1,10 @@
-use Rattle.sctp_reassembly.proofs.Answering.{reads_answer_alike}
-use Rattle.sctp_reassembly.proofs.Arriving.{ordered_pieces_stand}
-use Rattle.sctp_reassembly.proofs.Ready.{the_same_is_ready}
-use Rattle.sctp_reassembly.proofs.Skipped.{ordered_skips_stand}
-use Rattle.sctp_reassembly.proofs.Bounding.{bounded_skips_spare, bounded_skips_stand}
-use Rattle.sctp_reassembly.proofs.Dropping.{unordered_drops_stand}
-use Rattle.sctp_reassembly.proofs.Unordered.{unordered_pieces_stand}
+use Rattle.sctp_reassembly.proofs.ReadAnswers.{reads_answer_alike}
+use Rattle.sctp_reassembly.proofs.OrderedArrives.{ordered_pieces_stand}
+use Rattle.sctp_reassembly.proofs.ReadyAlike.{the_same_is_ready}
+use Rattle.sctp_reassembly.proofs.SkipsAlike.{ordered_skips_stand}
+use Rattle.sctp_reassembly.proofs.BoundedSkips.{bounded_skips_spare, bounded_skips_stand}
+use Rattle.sctp_reassembly.proofs.UnorderedDropped.{unordered_drops_stand}
+use Rattle.sctp_reassembly.proofs.UnorderedArrives.{unordered_pieces_stand}
 use Rattle.sctp_reassembly.proofs.a_reassembly_stands_for_a_queue.Goals as goal
 
 pub returns-clause-pieces : goal.returns-clause-pieces

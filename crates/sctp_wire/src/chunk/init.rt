@@ -47,7 +47,8 @@ pub(crate) fn put_init(
     head: u16,
     init: &ChunkInit,
 ) -> Result<(), WireError>
-    ensures bytes { Writes result (list_all param_fits init.now.params && frame_fits (framed head (init_value init.now)))
+    ensures bytes { Writes result
+        (list_all param_fits init.now.params && frame_fits (framed head (init_value init.now)))
         out.old.items out.new.items (padded (framed head (init_value init.now))) }
     ensures range { OnOk result (IsInit init.now) }
 {

@@ -22,7 +22,8 @@ pub(crate) fn put_params(
     head: u16,
     params: &[Param],
 ) -> Result<(), WireError>
-    ensures bytes { Writes result (list_all param_fits params.now && frame_fits (framed head (joined param_frame params.now)))
+    ensures bytes { Writes result
+        (list_all param_fits params.now && frame_fits (framed head (joined param_frame params.now)))
         out.old.items out.new.items (padded (framed head (joined param_frame params.now))) }
     ensures range { OnOk result (AllByRecursion IsParam params.now) }
 {
@@ -37,7 +38,8 @@ pub(crate) fn put_causes(
     head: u16,
     causes: &[ErrorCause],
 ) -> Result<(), WireError>
-    ensures bytes { Writes result (list_all cause_fits causes.now && frame_fits (framed head (joined cause_frame causes.now)))
+    ensures bytes { Writes result
+        (list_all cause_fits causes.now && frame_fits (framed head (joined cause_frame causes.now)))
         out.old.items out.new.items (padded (framed head (joined cause_frame causes.now))) }
     ensures range { OnOk result (AllByRecursion IsCause causes.now) }
 {

@@ -40,7 +40,8 @@ fn put_reconfig_params(
     first: &Param,
     second: &Option<Param>,
 ) -> Result<(), WireError>
-    ensures bytes { Writes result (list_all param_fits (reconfig_list first.now second.now)) out.old.items out.new.items (joined param_frame (reconfig_list first.now second.now)) }
+    ensures bytes { Writes result (list_all param_fits (reconfig_list first.now second.now)) out.old.items out.new.items
+        (joined param_frame (reconfig_list first.now second.now)) }
     ensures range { OnOk result (AllByRecursion IsParam (reconfig_list first.now second.now)) }
 {
     let len = first.put(alloc, out)?;
@@ -59,7 +60,8 @@ pub(crate) fn put_reconfig(
     out: &mut Vec<u8>,
     reconfig: &ChunkReconfig,
 ) -> Result<(), WireError>
-    ensures bytes { Writes result (list_all param_fits (reconfig_params reconfig.now) && frame_fits (framed 33280 (joined param_frame (reconfig_params reconfig.now))))
+    ensures bytes { Writes result (list_all param_fits (reconfig_params reconfig.now)
+        && frame_fits (framed 33280 (joined param_frame (reconfig_params reconfig.now))))
         out.old.items out.new.items (padded (framed 33280 (joined param_frame (reconfig_params reconfig.now)))) }
     ensures range { OnOk result (AllByRecursion IsParam (reconfig_params reconfig.now)) }
 {

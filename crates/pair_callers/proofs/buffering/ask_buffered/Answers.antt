@@ -1,4 +1,4 @@
-use Rattle.pair_callers.proofs.Kept.{amount_told, asked_same, kept_on}
+use Rattle.pair_callers.proofs.ReadyOrBuffered.{amount_told, asked_same, kept_on}
 use Rattle.pair_callers.proofs.buffering.ask_buffered.Goals as goal
 
 pub returns-clause-amount : goal.returns-clause-amount

@@ -1,4 +1,4 @@
-use Rattle.pair_callers.proofs.Kept.{front_on, mixed_on, ready_on}
+use Rattle.pair_callers.proofs.ReadyOrBuffered.{front_on, mixed_on, ready_on}
 use Rattle.pair_callers.proofs.buffering.step_and_look.Goals as goal
 
 pub returns-clause-ready : goal.returns-clause-ready

@@ -1,4 +1,5 @@
-use Rattle.pair_callers.proofs.Taken.{other_takes_none_on, passes_on, takes_none_refused, takes_none_without, takes_on}
+use Rattle.pair_callers.proofs.TakenAndAssigned.{other_takes_none_on, passes_on, takes_none_refused, takes_none_without}
+use Rattle.pair_callers.proofs.TakenAndAssigned.{takes_on}
 use Rattle.pair_callers.proofs.delivering.deliver_packet.Goals as goal
 
 pub returns-clause-taken : goal.returns-clause-taken

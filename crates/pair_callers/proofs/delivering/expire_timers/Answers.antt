@@ -1,4 +1,4 @@
-use Rattle.pair_callers.proofs.Taken.{timers_take_none}
+use Rattle.pair_callers.proofs.TakenAndAssigned.{timers_take_none}
 use Rattle.pair_callers.proofs.delivering.expire_timers.Goals as goal
 
 pub returns : goal.returns

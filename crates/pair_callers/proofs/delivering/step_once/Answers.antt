@@ -1,4 +1,4 @@
-use Rattle.pair_callers.proofs.Taken.{acknowledged_on, assigned_on}
+use Rattle.pair_callers.proofs.TakenAndAssigned.{acknowledged_on, assigned_on}
 use Rattle.pair_callers.proofs.delivering.step_once.Goals as goal
 
 pub returns-clause-acknowledged : goal.returns-clause-acknowledged

@@ -1,4 +1,4 @@
-use Rattle.pair_callers.proofs.Letters.{reads_accepted, reads_on}
+use Rattle.pair_callers.proofs.ReadMessages.{reads_accepted, reads_on}
 use Rattle.pair_callers.proofs.reading.read_message.Goals as goal
 
 pub returns-clause-next : goal.returns-clause-next

@@ -1,4 +1,4 @@
-use Rattle.pair_callers.proofs.Letters.{numbered}
+use Rattle.pair_callers.proofs.ReadMessages.{numbered}
 use Rattle.pair_callers.proofs.reading.step_and_tell.Goals as goal
 
 pub returns-clause-numbered : goal.returns-clause-numbered

@@ -1,5 +1,5 @@
 use Rattle.std.proofs.Common.{◌∙◌}
-use Rattle.pair_callers.proofs.Questions.{lost_same, lost_told}
+use Rattle.pair_callers.proofs.QuestionSteps.{lost_same, lost_told}
 use Rattle.pair_callers.proofs.running.is_lost.Goals as goal
 
 pub returns-clause-lost : goal.returns-clause-lost

@@ -1,5 +1,5 @@
-use Rattle.pair_callers.proofs.Counted.{begins_with_nothing}
-use Rattle.sctp_pair.proofs.Results.{if_ok}
+use Rattle.pair_callers.proofs.FewAccepted.{begins_with_nothing}
+use Rattle.sctp_pair.proofs.AnsweredValues.{if_ok}
 use Rattle.pair_callers.proofs.running.join.Goals as goal
 
 pub returns-clause-empty : goal.returns-clause-empty

@@ -1,5 +1,5 @@
-use Rattle.pair_callers.proofs.Counted.{runs_tell}
-use Rattle.sctp_pair.proofs.Results.{if_ok}
+use Rattle.pair_callers.proofs.FewAccepted.{runs_tell}
+use Rattle.sctp_pair.proofs.AnsweredValues.{if_ok}
 use Rattle.pair_callers.proofs.running.run_and_tell.Goals as goal
 
 pub returns : goal.returns

@@ -1,4 +1,4 @@
-use Rattle.pair_callers.proofs.Counted.{steps_tell}
+use Rattle.pair_callers.proofs.FewAccepted.{steps_tell}
 use Rattle.pair_callers.proofs.running.step_and_count.Goals as goal
 
 pub returns : goal.returns

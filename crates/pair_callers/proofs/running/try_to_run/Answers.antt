@@ -1,5 +1,5 @@
-use Rattle.pair_callers.proofs.Questions.{as_many_replies}
-use Rattle.sctp_pair.proofs.Results.{if_ok}
+use Rattle.pair_callers.proofs.QuestionSteps.{as_many_replies}
+use Rattle.sctp_pair.proofs.AnsweredValues.{if_ok}
 use Rattle.pair_callers.proofs.running.try_to_run.Goals as goal
 
 pub returns-clause-each : goal.returns-clause-each

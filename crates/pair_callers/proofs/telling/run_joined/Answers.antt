@@ -1,6 +1,6 @@
 use Rattle.std.specs.Prelude.{[]}
-use Rattle.pair_callers.proofs.Questions.{as_many_replies}
-use Rattle.sctp_pair.proofs.Results.{if_ok}
+use Rattle.pair_callers.proofs.QuestionSteps.{as_many_replies}
+use Rattle.sctp_pair.proofs.AnsweredValues.{if_ok}
 use Rattle.pair_callers.proofs.telling.run_joined.Goals as goal
 
 pub returns-clause-each : goal.returns-clause-each

@@ -1,5 +1,5 @@
 use Rattle.std.proofs.Common.{sym, ◌∙◌}
-use Rattle.pair_callers.proofs.Accepted.{accepts_on, refused_on, wrote_all}
+use Rattle.pair_callers.proofs.AcceptedWrites.{accepts_on, refused_on, wrote_all}
 use Rattle.pair_callers.proofs.writing.write_message.Goals as goal
 
 pub returns-clause-count : goal.returns-clause-count

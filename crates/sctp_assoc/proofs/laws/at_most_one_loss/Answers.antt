@@ -1,5 +1,5 @@
-use Rattle.sctp_assoc.proofs.Losing.{losses_are_told_once}
-use Rattle.sctp_assoc.proofs.Runs.{created_sides_are_fresh, joined_sides_are_fresh}
+use Rattle.sctp_assoc.proofs.LossToldOnce.{losses_are_told_once}
+use Rattle.sctp_assoc.proofs.TimersOverRuns.{created_sides_are_fresh, joined_sides_are_fresh}
 use Rattle.sctp_assoc.proofs.laws.at_most_one_loss.Goals as goal
 
 pub returns-clause-created : goal.returns-clause-created

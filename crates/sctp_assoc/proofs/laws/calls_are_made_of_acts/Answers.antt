@@ -1,4 +1,7 @@
-use Rattle.sctp_assoc.proofs.Proved.{data_is_taken, greetings_meet, other_chunks_do_nothing, other_sacks_do_nothing, polls_give_and_report, polls_outside_established_give_what_waits, polls_say_their_acts, sacks_acknowledge, taken_sacks_acknowledge, timeouts_mark_at_most, what_waits_goes_out_as_it_is}
+use Rattle.sctp_assoc.proofs.Proved.{data_is_taken, greetings_meet, other_chunks_do_nothing, other_sacks_do_nothing}
+use Rattle.sctp_assoc.proofs.Proved.{polls_give_and_report, polls_outside_established_give_what_waits}
+use Rattle.sctp_assoc.proofs.Proved.{polls_say_their_acts, sacks_acknowledge, taken_sacks_acknowledge}
+use Rattle.sctp_assoc.proofs.Proved.{timeouts_mark_at_most, what_waits_goes_out_as_it_is}
 use Rattle.sctp_assoc.proofs.laws.calls_are_made_of_acts.Goals as goal
 
 pub returns-clause-data : goal.returns-clause-data

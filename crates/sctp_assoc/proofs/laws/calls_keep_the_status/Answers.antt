@@ -1,4 +1,5 @@
-use Rattle.sctp_assoc.proofs.Proved.{opened_streams_keep_the_status, polls_keep_the_status, reads_keep_the_status, timers_keep_the_status, told_events_keep_the_status, writes_keep_the_status}
+use Rattle.sctp_assoc.proofs.Proved.{opened_streams_keep_the_status, polls_keep_the_status, reads_keep_the_status}
+use Rattle.sctp_assoc.proofs.Proved.{timers_keep_the_status, told_events_keep_the_status, writes_keep_the_status}
 use Rattle.sctp_assoc.proofs.laws.calls_keep_the_status.Goals as goal
 
 pub returns-clause-opened : goal.returns-clause-opened

@@ -1,4 +1,4 @@
-use Rattle.sctp_assoc.proofs.Intake.{data_is_taken_in, nothing_else_is_taken_in}
+use Rattle.sctp_assoc.proofs.DataIntake.{data_is_taken_in, nothing_else_is_taken_in}
 use Rattle.sctp_assoc.proofs.laws.data_is_taken_in.Goals as goal
 
 pub returns-clause-taken : goal.returns-clause-taken

@@ -1,5 +1,5 @@
-use Rattle.sctp_assoc.proofs.Closing.{faults_alone_close}
-use Rattle.sctp_assoc.proofs.Reporting.{polls_do_not_close, timers_do_not_close}
+use Rattle.sctp_assoc.proofs.ClosingPackets.{faults_alone_close}
+use Rattle.sctp_assoc.proofs.DueSacks.{polls_do_not_close, timers_do_not_close}
 use Rattle.sctp_assoc.proofs.laws.faults_alone_close.Goals as goal
 
 pub returns-clause-packets : goal.returns-clause-packets

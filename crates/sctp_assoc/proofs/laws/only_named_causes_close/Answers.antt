@@ -1,5 +1,5 @@
-use Rattle.sctp_assoc.proofs.Caused.{causes_close, closing_packets_have_causes}
-use Rattle.sctp_assoc.proofs.Causes.{faults_are_causes}
+use Rattle.sctp_assoc.proofs.ClosingCauses.{causes_close, closing_packets_have_causes}
+use Rattle.sctp_assoc.proofs.FaultCauses.{faults_are_causes}
 use Rattle.sctp_assoc.proofs.laws.only_named_causes_close.Goals as goal
 
 pub returns-clause-chunk : goal.returns-clause-chunk

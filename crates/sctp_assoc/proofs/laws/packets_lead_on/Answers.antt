@@ -1,4 +1,5 @@
-use Rattle.sctp_assoc.proofs.Proved.{chunks_lead_on, established_is_not_closed, faults_close, lost_associations_take_nothing, no_packet_changes_nothing, packets_end}
+use Rattle.sctp_assoc.proofs.Proved.{chunks_lead_on, established_is_not_closed, faults_close}
+use Rattle.sctp_assoc.proofs.Proved.{lost_associations_take_nothing, no_packet_changes_nothing, packets_end}
 use Rattle.sctp_assoc.proofs.laws.packets_lead_on.Goals as goal
 
 pub returns-clause-chunks : goal.returns-clause-chunks

@@ -1,4 +1,4 @@
-use Rattle.sctp_assoc.proofs.Reporting.{due_sacks_go_out, sacks_are_spelled, sacks_offer_the_buffer, sacks_say_what_came}
+use Rattle.sctp_assoc.proofs.DueSacks.{due_sacks_go_out, sacks_are_spelled, sacks_offer_the_buffer, sacks_say_what_came}
 use Rattle.sctp_assoc.proofs.laws.sacks_name_the_point.Goals as goal
 
 pub returns-clause-due : goal.returns-clause-due

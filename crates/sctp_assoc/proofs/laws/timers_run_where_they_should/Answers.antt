@@ -1,4 +1,9 @@
-use Rattle.sctp_assoc.proofs.Runs.{cookies_are_timed_in_cookie_echoed_alone, delayed_sacks_are_timed, echoed_cookies_are_timed, failed_sides_wait_for_nothing, failures_stop_the_timers, inits_are_timed_in_cookie_wait_alone, losses_stop_the_timers, lost_sides_wait_for_nothing, no_handshake_timer_runs_once_established, nothing_in_flight_is_not_timed, outstanding_data_is_timed, sent_inits_are_timed}
+use Rattle.sctp_assoc.proofs.TimersOverRuns.{cookies_are_timed_in_cookie_echoed_alone, delayed_sacks_are_timed}
+use Rattle.sctp_assoc.proofs.TimersOverRuns.{echoed_cookies_are_timed, failed_sides_wait_for_nothing}
+use Rattle.sctp_assoc.proofs.TimersOverRuns.{failures_stop_the_timers, inits_are_timed_in_cookie_wait_alone}
+use Rattle.sctp_assoc.proofs.TimersOverRuns.{losses_stop_the_timers, lost_sides_wait_for_nothing}
+use Rattle.sctp_assoc.proofs.TimersOverRuns.{no_handshake_timer_runs_once_established, nothing_in_flight_is_not_timed}
+use Rattle.sctp_assoc.proofs.TimersOverRuns.{outstanding_data_is_timed, sent_inits_are_timed}
 use Rattle.sctp_assoc.proofs.laws.timers_run_where_they_should.Goals as goal
 
 pub returns-clause-data : goal.returns-clause-data

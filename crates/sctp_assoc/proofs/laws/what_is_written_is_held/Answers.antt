@@ -1,4 +1,4 @@
-use Rattle.sctp_assoc.proofs.Keeping.{polls_keep_what_is_held, writes_are_held}
+use Rattle.sctp_assoc.proofs.WrittenIsHeld.{polls_keep_what_is_held, writes_are_held}
 use Rattle.sctp_assoc.proofs.laws.what_is_written_is_held.Goals as goal
 
 pub returns-clause-written : goal.returns-clause-written

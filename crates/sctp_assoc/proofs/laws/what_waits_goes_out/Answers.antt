@@ -1,4 +1,4 @@
-use Rattle.sctp_assoc.proofs.Waits.{what_waits_goes_out, what_waits_is_given, what_waits_is_polled}
+use Rattle.sctp_assoc.proofs.WaitingGoesOut.{what_waits_goes_out, what_waits_is_given, what_waits_is_polled}
 use Rattle.sctp_assoc.proofs.laws.what_waits_goes_out.Goals as goal
 
 pub returns-clause-polled : goal.returns-clause-polled

@@ -1,5 +1,5 @@
 use Rattle.std.proofs.Common.{arith}
-use Rattle.sctp_crc.proofs.Entries.{table_is}
+use Rattle.sctp_crc.proofs.TableEntries.{table_is}
 use Rattle.sctp_crc.proofs.sum.looked_up.Goals as goal
 
 pub returns : goal.returns

@@ -1,5 +1,5 @@
 use Rattle.std.proofs.Common.{arith}
-use Rattle.sctp_crc.proofs.Runs.{byte_run}
+use Rattle.sctp_crc.proofs.BlockRuns.{byte_run}
 use Rattle.sctp_crc.proofs.sum.run_byte.Goals as goal
 
 pub returns : goal.returns

@@ -6,5 +6,6 @@ use Rattle.sctp_outbound_queue.proofs.walks.flag_each.Goals as goal
 pub loop-piece-preserved : goal.loop-piece-preserved
 loop-piece-preserved c =
     rw (c.abandon.ensures, ← c.piece-item.is)
-    (map_over_more (flagged c.args.message_id) c.args.pieces.now c.loop-piece.pieces c.loop-piece.piece-index c.piece-item.result
+    (map_over_more (flagged c.args.message_id) c.args.pieces.now c.loop-piece.pieces c.loop-piece.piece-index
+    c.piece-item.result
     (omega arith) c.loop-piece.invariant c.piece-item.is)

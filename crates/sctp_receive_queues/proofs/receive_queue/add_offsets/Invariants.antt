@@ -4,4 +4,5 @@ use Rattle.sctp_receive_queues.proofs.receive_queue.add_offsets.Given as goal
 
 abbrev pub invariant-loop-tsn : goal.invariant-loop-tsn
 invariant-loop-tsn l =
-    l.offsets.items ++ offsets_in l.greater l.cumulative_tsn l.tsn-iterator ≡ l.fn.offsets.items ++ offsets_in l.greater l.cumulative_tsn l.tsns.keys
+    l.offsets.items ++ offsets_in l.greater l.cumulative_tsn l.tsn-iterator
+    ≡ l.fn.offsets.items ++ offsets_in l.greater l.cumulative_tsn l.tsns.keys

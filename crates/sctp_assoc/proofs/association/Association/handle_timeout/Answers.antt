@@ -1,4 +1,4 @@
-use Rattle.sctp_assoc.proofs.Joining.{timeouts_lead_on}
+use Rattle.sctp_assoc.proofs.CallsLeadOn.{timeouts_lead_on}
 use Rattle.sctp_assoc.proofs.association.Association.handle_timeout.Goals as goal
 
 pub returns-in-Ok-clause-acts : goal.returns-in-Ok-clause-acts

@@ -2,14 +2,19 @@ use Rattle.std.proofs.Common.{rules, ◌≡◌, true, nat_lt, ◌&&◌, None}
 use Rattle.sctp_streams.specs.Streams.{bytes_waiting, refusal_in}
 use Rattle.sctp_inbound.specs.Receiver.{credit_of, is_next_after}
 use Rattle.sctp_assoc.specs.Chunks.{counted_data, is_whole, stream_found}
-use Rattle.sctp_assoc.proofs.Growing.{taking_takes}
-use Rattle.sctp_outbound.proofs.Sending.{on_err}
+use Rattle.sctp_assoc.proofs.MemoryTaken.{taking_takes}
+use Rattle.sctp_outbound.proofs.SenderSteps.{on_err}
 use Rattle.sctp_assoc.proofs.association.Association.on_data.Goals as goal
 
 pub returns-in_err-fault-clause-grows : goal.returns-in_err-fault-clause-grows
 returns-in_err-fault-clause-grows c =
-    let next : (is_next_after c.args.self.now.receiver c.args.piece.tsn && is_whole c.args.piece) ≡ true = search rules in
-    let found : stream_found (counted_data c.args.self.now) c.args.piece.stream_identifier ≡ (c.has_stream.new.self, true) = search rules in
-    let credit : nat_lt 0 (credit_of c.has_stream.new.self.receiver (bytes_waiting c.has_stream.new.self.streams)) ≡ true = search rules in
-    let free : refusal_in c.has_stream.new.self.streams c.args.piece.stream_identifier c.args.piece c.has_stream.new.self.receiver.max_receive_message_size ≡ None = search rules in
-    on_err c.from_residual-in_err-fault.result (taking_takes c.args.self.now c.has_stream.new.self c.args.piece next found credit free)
+    let next : (is_next_after c.args.self.now.receiver c.args.piece.tsn && is_whole c.args.piece) ≡ true =
+    search rules in
+    let found : stream_found (counted_data c.args.self.now) c.args.piece.stream_identifier
+    ≡ (c.has_stream.new.self, true) = search rules in
+    let credit : nat_lt 0 (credit_of c.has_stream.new.self.receiver (bytes_waiting c.has_stream.new.self.streams))
+    ≡ true = search rules in
+    let free : refusal_in c.has_stream.new.self.streams c.args.piece.stream_identifier c.args.piece
+    c.has_stream.new.self.receiver.max_receive_message_size ≡ None = search rules in
+    on_err c.from_residual-in_err-fault.result
+    (taking_takes c.args.self.now c.has_stream.new.self c.args.piece next found credit free)

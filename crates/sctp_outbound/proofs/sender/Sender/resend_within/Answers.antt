@@ -1,4 +1,4 @@
-use Rattle.sctp_outbound.proofs.Sending.{on_err, resends_on, resends_some, resent_sender, resent_out}
+use Rattle.sctp_outbound.proofs.SenderSteps.{on_err, resends_on, resends_some, resent_sender, resent_out}
 use Rattle.sctp_outbound.proofs.sender.Sender.resend_within.Goals as goal
 
 pub returns-in-None-clause-sender : goal.returns-in-None-clause-sender

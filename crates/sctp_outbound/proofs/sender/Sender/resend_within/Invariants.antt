@@ -1,4 +1,4 @@
-use Rattle.sctp_outbound.proofs.Sending.{ResendsOn}
+use Rattle.sctp_outbound.proofs.SenderSteps.{ResendsOn}
 use Rattle.sctp_outbound.proofs.sender.Sender.resend_within.Given as goal
 
 abbrev pub invariant-loop-index : goal.invariant-loop-index

@@ -1,5 +1,5 @@
 use Rattle.std.proofs.Common.{rules, ◌≡◌, false}
-use Rattle.sctp_outbound.proofs.Sending.{on_err, probe_sends}
+use Rattle.sctp_outbound.proofs.SenderSteps.{on_err, probe_sends}
 use Rattle.sctp_outbound.specs.Sender.{can_send_next}
 use Rattle.sctp_outbound.proofs.sender.Sender.send_new.Goals as goal
 

@@ -1,12 +1,14 @@
 use Rattle.std.proofs.Common.{sym, ◌∙◌, arith}
 use Rattle.sctp_outbound_queue.specs.Outbound.{pieces_waiting}
-use Rattle.sctp_outbound.proofs.Sending.{on_err, sent_one_grows, within_end, within_sends_on, within_step}
+use Rattle.sctp_outbound.proofs.SenderSteps.{on_err, sent_one_grows, within_end, within_sends_on, within_step}
 use Rattle.sctp_outbound.proofs.sender.Sender.send_within.Goals as goal
 
 pub loop-now-preserved : goal.loop-now-preserved
 loop-now-preserved c =
     let fits = sym c.next_fits.ensures ∙ c.loop-now-test.true in
-    let one = sent_one_grows c.loop-now.self c.send_one.new.self c.loop-now.out.items c.send_one.new.out.items c.args.now c.in_ok-send_one.ensures.sent in
+    let one =
+    sent_one_grows c.loop-now.self c.send_one.new.self c.loop-now.out.items c.send_one.new.out.items c.args.now
+    c.in_ok-send_one.ensures.sent in
     record {
       same =
           within_step c.loop-now.self c.send_one.new.self c.loop-now.out.items c.send_one.new.out.items c.args.now

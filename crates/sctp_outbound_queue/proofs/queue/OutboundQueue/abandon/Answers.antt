@@ -1,11 +1,12 @@
 use Rattle.std.proofs.Common.{arith, ap, ℕ}
 use Rattle.sctp_outbound_queue.specs.Outbound.{Outbound, AreKept}
-use Rattle.sctp_outbound_queue.proofs.Sums.{released_bound, abandoned_is}
+use Rattle.sctp_outbound_queue.proofs.ByteSums.{released_bound, abandoned_is}
 use Rattle.sctp_outbound_queue.proofs.queue.OutboundQueue.abandon.Goals as goal
 
 pub overflow_add-result : goal.overflow_add-result
 overflow_add-result c =
-    let kept : AreKept c.args.self.now.pending c.args.self.now.in_flight c.self.inside.pending_bytes c.self.inside.outstanding_bytes = rw (← c.self.view_is) c.self.invariant in
+    let kept : AreKept c.args.self.now.pending c.args.self.now.in_flight c.self.inside.pending_bytes
+    c.self.inside.outstanding_bytes = rw (← c.self.view_is) c.self.invariant in
     let bound = released_bound c.args.self.now c.in-Some.piece.now.message.message_id _ _ kept in
     let tail = ap (λ (z : Outbound × ℕ). z.1) c.in_ok-tail.ensures.ok in
     let sent = c.bytes_of_message-sent.ensures in
@@ -13,4 +14,5 @@ overflow_add-result c =
 
 pub returns-clause-ok : goal.returns-clause-ok
 returns-clause-ok c =
-    abandoned_is c.args.self.now _ _ c.args.tsn _ c.in-Some.piece.now _ _ c.index_of.ensures c.in-Some.ensures c.bytes_of_message-sent.ensures c.in_ok-tail.ensures.ok c.flag.ensures
+    abandoned_is c.args.self.now _ _ c.args.tsn _ c.in-Some.piece.now _ _ c.index_of.ensures c.in-Some.ensures
+    c.bytes_of_message-sent.ensures c.in_ok-tail.ensures.ok c.flag.ensures

@@ -1,6 +1,6 @@
 use Rattle.std.proofs.Common.{sym, ◌∙◌, not}
 use Rattle.sctp_outbound_queue.specs.declared.message.InFlight.{InFlight}
-use Rattle.sctp_outbound_queue.proofs.Dropped.{not_found}
+use Rattle.sctp_outbound_queue.proofs.ExpiredUnsent.{not_found}
 use Rattle.sctp_outbound_queue.proofs.queue.OutboundQueue.abandoned_in_front.Goals as goal
 
 pub returns-in-None : goal.returns-in-None

@@ -1,6 +1,6 @@
 use Rattle.std.proofs.Common.{◌≡◌, ap}
 use Rattle.sctp_outbound_queue.specs.Waiting.{Waiting}
-use Rattle.sctp_outbound_queue.proofs.Sums.{kept_same, kept_dropped, dropped_bytes, expiry_is}
+use Rattle.sctp_outbound_queue.proofs.ByteSums.{kept_same, kept_dropped, dropped_bytes, expiry_is}
 use Rattle.sctp_outbound_queue.proofs.queue.OutboundQueue.expire_pending.Goals as goal
 
 pub invariant_of-self-in-None : goal.invariant_of-self-in-None
@@ -25,7 +25,8 @@ invariant_of-self c =
 
 pub returns-in-Some : goal.returns-in-Some
 returns-in-Some c =
-    let same : c.dropped.inside.message ≡ c.in-Some.dropped.message = ap (λ (m : Waiting). m.message) c.dropped.view_is in
+    let same : c.dropped.inside.message ≡ c.in-Some.dropped.message =
+    ap (λ (m : Waiting). m.message) c.dropped.view_is in
     rw (← c.self.view_is, same) (
     expiry_is c.args.now _ c.drop_expired.new.messages.items c.in-Some.dropped c.bytes-bytes.result
     c.self.inside.pending_bytes c.self.inside.outstanding_bytes c.self.invariant c.in-Some.ensures.dropped

@@ -1,23 +1,28 @@
 use Rattle.sctp_pair.specs.Callers.{ComesOn, HoldsOn, NothingIsReadUnbrought, ReadsAreFronts}
 use Rattle.sctp_pair.specs.Steps.{Runs}
 use Rattle.sctp_pair.proofs.Callers.{comes_on, fronts_on, unbrought_on}
-use Rattle.sctp_pair.proofs.Results.{if_ok}
+use Rattle.sctp_pair.proofs.AnsweredValues.{if_ok}
 use Rattle.sctp_pair.proofs.pair.Pair.run.Goals as goal
 
 pub returns-clause-came : goal.returns-clause-came
 returns-clause-came c =
-    if_ok c.carry_out_all.result (λ replies. Runs c.args.steps.now replies.items c.args.self.now c.carry_out_all.new.self)
-    (λ replies. ComesOn c.args.steps.now replies.items c.args.self.now c.carry_out_all.new.self) c.carry_out_all.ensures.ok
+    if_ok c.carry_out_all.result
+    (λ replies. Runs c.args.steps.now replies.items c.args.self.now c.carry_out_all.new.self)
+    (λ replies. ComesOn c.args.steps.now replies.items c.args.self.now c.carry_out_all.new.self)
+    c.carry_out_all.ensures.ok
     (λ replies led. comes_on c.args.steps.now replies.items c.args.self.now c.carry_out_all.new.self led)
 
 pub returns-clause-front : goal.returns-clause-front
 returns-clause-front c =
-    if_ok c.carry_out_all.result (λ replies. Runs c.args.steps.now replies.items c.args.self.now c.carry_out_all.new.self)
+    if_ok c.carry_out_all.result
+    (λ replies. Runs c.args.steps.now replies.items c.args.self.now c.carry_out_all.new.self)
     (λ replies. HoldsOn ReadsAreFronts c.args.steps.now replies.items c.args.self.now) c.carry_out_all.ensures.ok
     (λ replies led. fronts_on c.args.steps.now replies.items c.args.self.now c.carry_out_all.new.self led)
 
 pub returns-clause-brought : goal.returns-clause-brought
 returns-clause-brought c =
-    if_ok c.carry_out_all.result (λ replies. Runs c.args.steps.now replies.items c.args.self.now c.carry_out_all.new.self)
-    (λ replies. HoldsOn NothingIsReadUnbrought c.args.steps.now replies.items c.args.self.now) c.carry_out_all.ensures.ok
+    if_ok c.carry_out_all.result
+    (λ replies. Runs c.args.steps.now replies.items c.args.self.now c.carry_out_all.new.self)
+    (λ replies. HoldsOn NothingIsReadUnbrought c.args.steps.now replies.items c.args.self.now)
+    c.carry_out_all.ensures.ok
     (λ replies led. unbrought_on c.args.steps.now replies.items c.args.self.now c.carry_out_all.new.self led)

@@ -1,6 +1,6 @@
 use Rattle.std.proofs.Common.{refl}
 use Rattle.sctp_pair.proofs.Counted.{fits_with_none}
-use Rattle.sctp_pair.proofs.Starting.{fits_start}
+use Rattle.sctp_pair.proofs.NewPairs.{fits_start}
 use Rattle.sctp_pair.proofs.pair.Pair.snap.Goals as goal
 
 -- both associations stand where nothing happened, and no packet was given out
@@ -8,13 +8,24 @@ pub returns-clause-fits : goal.returns-clause-fits
 returns-clause-fits c =
     let a = c.in_ok-a.ensures in
     let b = c.in_ok-b.ensures in
-    fits_start c.args.config_a.now c.args.config_b.now c.args.max_payload_size_a c.args.max_payload_size_b c.args.remote_of_a c.args.remote_of_b c.args.token_a.now c.args.token_b.now
-    c.in_ok-a.a c.in_ok-b.b a.refused b.refused a.joined b.joined a.begins b.begins _ (rw (c.new.ensures.items, c.new-2.ensures.items) refl)
+    fits_start c.args.config_a.now c.args.config_b.now c.args.max_payload_size_a c.args.max_payload_size_b
+    c.args.remote_of_a c.args.remote_of_b c.args.token_a.now c.args.token_b.now
+    c.in_ok-a.a c.in_ok-b.b a.refused b.refused a.joined b.joined a.begins b.begins _
+    (rw (c.new.ensures.items, c.new-2.ensures.items) refl)
 
 pub returns-clause-counted : goal.returns-clause-counted
 returns-clause-counted c =
-    fits_with_none _ c.args.token_a.now.initial_tsn c.args.token_b.now.initial_tsn c.args.max_payload_size_a c.args.max_payload_size_b (returns-clause-fits c)
+    fits_with_none _ c.args.token_a.now.initial_tsn c.args.token_b.now.initial_tsn c.args.max_payload_size_a
+    c.args.max_payload_size_b (returns-clause-fits c)
 
 -- no step led to it yet
 pub returns-clause-new : goal.returns-clause-new
-returns-clause-new c = record { begin = _; new = record { initial_a = c.args.token_a.now.initial_tsn; initial_b = c.args.token_b.now.initial_tsn; fits = returns-clause-counted c }; led = refl }
+returns-clause-new c = record {
+  begin = _;
+  new = record {
+    initial_a = c.args.token_a.now.initial_tsn;
+    initial_b = c.args.token_b.now.initial_tsn;
+    fits = returns-clause-counted c;
+  };
+  led = refl;
+}

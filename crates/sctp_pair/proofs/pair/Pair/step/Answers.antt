@@ -4,17 +4,22 @@ use Rattle.sctp_pair.proofs.Counted.{step_leads_counted}
 use Rattle.sctp_pair.proofs.pair.Pair.step.Goals as goal
 
 pub returns-clause-counted : goal.returns-clause-counted
-returns-clause-counted c n m w fits = step_leads_counted c.args.step.now c.args.self.now c.carry_out.new.self c.carry_out.result c.carry_out.ensures n m w fits
+returns-clause-counted c n m w fits =
+    step_leads_counted c.args.step.now c.args.self.now c.carry_out.new.self c.carry_out.result
+    c.carry_out.ensures n m w fits
 
 -- the step is a run of one
 pub returns-clause-came : goal.returns-clause-came
 returns-clause-came c =
-    comes_on (c.args.step.now ∷ []) (c.carry_out.result ∷ []) c.args.self.now c.carry_out.new.self (c.carry_out.new.self, c.carry_out.ensures, refl)
+    comes_on (c.args.step.now ∷ []) (c.carry_out.result ∷ []) c.args.self.now c.carry_out.new.self
+    (c.carry_out.new.self, c.carry_out.ensures, refl)
 
 pub returns-clause-front : goal.returns-clause-front
 returns-clause-front c =
-    fronts_on (c.args.step.now ∷ []) (c.carry_out.result ∷ []) c.args.self.now c.carry_out.new.self (c.carry_out.new.self, c.carry_out.ensures, refl)
+    fronts_on (c.args.step.now ∷ []) (c.carry_out.result ∷ []) c.args.self.now c.carry_out.new.self
+    (c.carry_out.new.self, c.carry_out.ensures, refl)
 
 pub returns-clause-brought : goal.returns-clause-brought
 returns-clause-brought c =
-    unbrought_on (c.args.step.now ∷ []) (c.carry_out.result ∷ []) c.args.self.now c.carry_out.new.self (c.carry_out.new.self, c.carry_out.ensures, refl)
+    unbrought_on (c.args.step.now ∷ []) (c.carry_out.result ∷ []) c.args.self.now c.carry_out.new.self
+    (c.carry_out.new.self, c.carry_out.ensures, refl)

@@ -3,7 +3,8 @@ use Rattle.std.specs.List.{concat}
 use Rattle.sctp_receive_queues.specs.Messages.{ReceivedMessage, bytes_left, filled}
 use Rattle.sctp_receive_queues.proofs.Cuts.{cut_and_rest, no_cut, none_filled}
 use Rattle.sctp_receive_queues.proofs.chunks.Chunks.next.Goals as goal
-use Rattle.sctp_receive_queues.proofs.chunks.Chunks.next.Goals.{then-max-eq0-via-then-max-eq0, then-max-eq0-via-else-max-eq0+then-self-eq0}
+use Rattle.sctp_receive_queues.proofs.chunks.Chunks.next.Goals.{then-max-eq0-via-then-max-eq0}
+use Rattle.sctp_receive_queues.proofs.chunks.Chunks.next.Goals.{then-max-eq0-via-else-max-eq0+then-self-eq0}
 
 pub returns-then-max-eq0-clause-cut : goal.returns-then-max-eq0-clause-cut
 returns-then-max-eq0-clause-cut c =

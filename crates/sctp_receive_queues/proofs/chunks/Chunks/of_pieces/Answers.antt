@@ -1,5 +1,5 @@
 use Rattle.std.proofs.Common.{◌∙◌, sym}
-use Rattle.sctp_receive_queues.proofs.Bytes.{message_length}
+use Rattle.sctp_receive_queues.proofs.BytesWaiting.{message_length}
 use Rattle.sctp_receive_queues.proofs.chunks.Chunks.of_pieces.Goals as goal
 
 pub invariant_of-result : goal.invariant_of-result

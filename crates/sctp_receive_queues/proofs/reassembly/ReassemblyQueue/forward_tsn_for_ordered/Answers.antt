@@ -1,6 +1,6 @@
 use Rattle.std.proofs.Common.{◌≡◌, ◌+◌, ◌<◌, ◌^◌, ◌∙◌, filter, arith, rules}
 use Rattle.sctp_receive_queues.specs.Reassembly.{bytes_in_groups, bytes_in_runs, bytes_in_messages, stays}
-use Rattle.sctp_receive_queues.proofs.Bytes.{stays_bytes, held_exactly}
+use Rattle.sctp_receive_queues.proofs.BytesWaiting.{stays_bytes, held_exactly}
 use Rattle.sctp_receive_queues.proofs.reassembly.ReassemblyQueue.forward_tsn_for_ordered.Goals as goal
 
 pub invariant_of-self : goal.invariant_of-self
@@ -8,5 +8,6 @@ invariant_of-self c =
     let q = c.self.inside in
     let e : c.skip.new.groups.items ≡ filter (stays c.args.ssn) q.ordered.items = search rules in
     let fewer = stays_bytes c.args.ssn q.ordered.items in
-    let small : bytes_in_groups c.skip.new.groups.items + bytes_in_runs q.unordered.items + bytes_in_messages q.complete.items < 2 ^ 64 = rw e (omega (arith, fewer, c.self.invariant)) in
+    let small : bytes_in_groups c.skip.new.groups.items + bytes_in_runs q.unordered.items
+    + bytes_in_messages q.complete.items < 2 ^ 64 = rw e (omega (arith, fewer, c.self.invariant)) in
     c.bytes_held-self-inside.ensures ∙ held_exactly c.skip.new.groups.items q.unordered.items q.complete.items small

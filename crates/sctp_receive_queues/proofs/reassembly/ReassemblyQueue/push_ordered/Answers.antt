@@ -1,6 +1,6 @@
 use Rattle.std.proofs.Common.{◌≡◌, ◌+◌, length, arith, rules}
 use Rattle.sctp_receive_queues.specs.Reassembly.{with_ordered}
-use Rattle.sctp_receive_queues.proofs.Bytes.{ordered_bytes}
+use Rattle.sctp_receive_queues.proofs.BytesWaiting.{ordered_bytes}
 use Rattle.sctp_receive_queues.proofs.reassembly.ReassemblyQueue.push_ordered.Goals as goal
 
 pub invariant_of-self-2 : goal.invariant_of-self-2

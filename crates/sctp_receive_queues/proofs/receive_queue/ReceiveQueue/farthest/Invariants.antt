@@ -4,4 +4,5 @@ use Rattle.sctp_receive_queues.proofs.receive_queue.ReceiveQueue.farthest.Given 
 
 abbrev pub invariant-loop-tsn : goal.invariant-loop-tsn
 invariant-loop-tsn l =
-    fold (λ last t. Some (later_of l.cumulative_tsn last t)) l.last l.tsn-iterator ≡ last_received l.cumulative_tsn l.self
+    fold (λ last t. Some (later_of l.cumulative_tsn last t)) l.last l.tsn-iterator
+    ≡ last_received l.cumulative_tsn l.self

@@ -1,4 +1,4 @@
-use Rattle.sctp_receive_queues.proofs.Last.{farthest}
+use Rattle.sctp_receive_queues.proofs.LastReceived.{farthest}
 use Rattle.sctp_receive_queues.proofs.receive_queue.ReceiveQueue.get_last_tsn_received.Goals as goal
 
 pub returns-clause-farthest : goal.returns-clause-farthest

@@ -1,0 +1,676 @@
+-- What each call does to the two directions is what its acts say.
+use Rattle.std.proofs.Common.{◌≡◌, refl, sym, ap, ◌∙◌, ◌⊎◌, ⊎_elim, inl, inr, ℕ, ◌<◌, ◌≤◌, ◌+◌, ◌-◌, ◌%◌, ◌^◌, arith}
+use Rattle.std.proofs.Common.{Bool, true, false, eqb, ◌&&◌, List, [], ◌∷◌, ◌++◌, length, if◌then◌else◌, nat_lt, nat_le}
+use Rattle.std.proofs.Common.{Option, Some, None, Result, Ok, Err, is_some}
+use Rattle.std.proofs.lemmas.Bool.{and_parts, cases_eq, eq-eqb, eqb-true, false≢true, leb-true, or_cases, or_left}
+use Rattle.std.proofs.lemmas.Bool.{or_right}
+use Rattle.sctp_wire_types.specs.Serial.{tsn_gt}
+use Rattle.sctp_wire_types.specs.declared.chunk.ChunkPayloadData.{ChunkPayloadData}
+use Rattle.sctp_wire_types.specs.declared.chunk.Chunk.{Chunk}
+use Rattle.sctp_wire_types.specs.declared.chunk.Chunk.TheVariants as chunks
+use Rattle.sctp_wire_types.specs.declared.chunk.ChunkHeartbeat.{ChunkHeartbeat}
+use Rattle.sctp_wire_types.specs.declared.chunk.ChunkInit.{ChunkInit}
+use Rattle.sctp_wire_types.specs.declared.packet.CommonHeader.{CommonHeader}
+use Rattle.sctp_wire_types.specs.declared.error.Error.{Error}
+use Rattle.sctp_wire_types.specs.declared.error.Error.TheVariants as errors
+use Rattle.sctp_wire_types.specs.Checks.{checked_chunk}
+use Rattle.sctp_wire.specs.declared.packet.Packet.{Packet}
+use Rattle.sctp_wire_types.specs.declared.ids.PayloadProtocolIdentifier.TheVariants as kinds
+use Rattle.sctp_model.specs.Packets.{mem}
+use Rattle.sctp_model.specs.Serial.{tsn}
+use Rattle.sctp_parts.specs.declared.timer.Timer.TheVariants as names
+use Rattle.sctp_parts.specs.Estimate.{Estimate}
+use Rattle.sctp_parts.specs.Timers.{expiry_of}
+use Rattle.sctp_wire_types.specs.declared.ids.PayloadProtocolIdentifier.{PayloadProtocolIdentifier}
+use Rattle.sctp_receive_queues.specs.Messages.{ReceivedMessage}
+use Rattle.sctp_streams.specs.declared.event.Event.{Event}
+use Rattle.sctp_streams.specs.Stream.{StreamView}
+use Rattle.sctp_streams.specs.declared.event.AssociationError.{AssociationError}
+use Rattle.sctp_streams.specs.declared.event.AssociationError.TheVariants as reasons
+use Rattle.sctp_streams.specs.Streams.{StreamMap, bytes_waiting, generation_left, is_readable_in, pushed_in, read_in}
+use Rattle.sctp_streams.specs.Streams.{refusal_in, stream_at}
+use Rattle.sctp_inbound.specs.declared.receiver.AckTrigger.{AckTrigger}
+use Rattle.sctp_inbound.specs.declared.receiver.AckTrigger.TheVariants as triggers
+use Rattle.sctp_inbound.specs.declared.receiver.Receiver.{Receiver}
+use Rattle.sctp_inbound.specs.declared.handshake.Offer.{Offer}
+use Rattle.sctp_inbound.specs.Greeting.{first_cookie, information_of}
+use Rattle.sctp_inbound.specs.Handshake.{comes_back, has_issued}
+use Rattle.sctp_inbound.specs.Receiver.{credit_of, is_next_after, taken_to}
+use Rattle.sctp_outbound_queue.specs.Outbound.{Outbound}
+use Rattle.sctp_outbound.specs.declared.sender.Sender.{Sender}
+use Rattle.sctp_outbound.specs.declared.sender.SackOutcome.{SackOutcome}
+use Rattle.sctp_outbound.specs.declared.sender.SackOutcome.TheVariants as outcomes
+use Rattle.sctp_outbound.specs.Sender.{cumulative_tsn_ack_point_of, acknowledged, tsns_up_to, sack_outcome, with_window}
+use Rattle.sctp_assoc.specs.declared.inbound.Flow.{Flow}
+use Rattle.sctp_assoc.specs.declared.inbound.Flow.TheVariants as flows
+use Rattle.sctp_assoc.specs.Acts.{Act, Binds, CanAll, History, Leads, Parts, IsSamePast, LeadsOn, done, done_all, parts}
+use Rattle.sctp_assoc.specs.Acts.{tsn_before, with_peer, with_taken, with_written}
+use Rattle.sctp_assoc.specs.Calls.{after_ack_delay, after_t3, closed_by, closed_open, event_from, event_polled, opened}
+use Rattle.sctp_assoc.specs.Calls.{read_from_stream, retransmits, t3_expired, written, written_at, is_beginning}
+use Rattle.sctp_assoc.specs.Calls.{is_closed_state, is_cookie_echoed, is_cookie_wait, is_established}
+use Rattle.sctp_assoc.specs.Chunks.{after_chunks, after_packet, after_packet_of, after_sack, asks_or_faults}
+use Rattle.sctp_assoc.specs.Chunks.{checked_first, counted_data, counted_sack, dispatched, ended, goes_on, is_whole}
+use Rattle.sctp_assoc.specs.Chunks.{on_chunk, on_counted_sack, on_data, on_next_data, on_sack, stream_found, taken_in}
+use Rattle.sctp_assoc.specs.Chunks.{taken_unless, told, with_acknowledged, with_message, with_new_stream}
+use Rattle.sctp_assoc.specs.Happened.{acts_after, acts_of_checked, acts_of_chunk, acts_of_chunks, acts_of_close}
+use Rattle.sctp_assoc.specs.Happened.{acts_of_kind, acts_of_packet, acts_of_packet_of, acts_of_data, acts_of_found}
+use Rattle.sctp_assoc.specs.Happened.{acts_of_outcome, acts_of_sack, acts_of_stream, acts_of_init, acts_of_init_ack}
+use Rattle.sctp_assoc.specs.Happened.{acts_of_t3, acts_of_taking, acts_of_timeouts, acts_unless_refused}
+use Rattle.sctp_assoc.specs.Handshake.{acknowledged_cookie, after_t1_cookie, after_t1_init, answered, connected}
+use Rattle.sctp_assoc.specs.Handshake.{cookie_queued, echoed, information_returned, init_queued, learned, on_cookie_ack}
+use Rattle.sctp_assoc.specs.Handshake.{on_cookie_echo, on_heartbeat, on_init, on_init_ack, sends_cookie, sends_init}
+use Rattle.sctp_assoc.specs.Handshake.{t1_cookie_expired, t1_init_expired, with_echo}
+use Rattle.sctp_assoc.specs.Timeouts.{after_handshake_timers, after_timeouts}
+use Rattle.sctp_assoc.specs.Shown.{Shown}
+use Rattle.sctp_assoc.proofs.ActsKeepOffsets.{acknowledged_tied, acts_tied, can_append, done_append}
+use Rattle.sctp_assoc.proofs.ActsKeepOffsets.{pieces_acknowledged}
+
+pub leads_on : (xs ys : List Act) (a b c : Shown) (h k l : History) → Leads xs a h b k → Leads ys b k c l
+    → Leads (xs ++ ys) a h c l
+leads_on xs ys a b c h k l m n = record {
+  can = can_append xs ys (parts a h) m.can (rw (← m.there) n.can);
+  there = rw (done_append xs ys (parts a h), ← m.there) n.there;
+  binds = n.binds;
+}
+
+-- Where the directions see another queue or other streams, but the same receiver.
+pub leads_by : (xs : List Act) (a b : Shown) (h : History) → Binds a h → CanAll xs (parts a h)
+    → (b' : parts b (done_all xs (parts a h)).history ≡ done_all xs (parts a h))
+    → b.receiver.peer_last_tsn ≡ a.receiver.peer_last_tsn
+    → IsSamePast h (done_all xs (parts a h)).history
+    → Leads xs a h b (done_all xs (parts a h)).history
+leads_by xs a b h binds can there point same = record {
+  can = can;
+  there = there;
+  binds = record {
+    first = ap (λ (p : Parts). p.queue.first_tsn) there ∙ acts_tied xs (parts a h) can binds.first;
+    reach = point ∙ binds.reach ∙ rw (same.peer, same.reach) refl;
+    below = rw (same.taken, same.passed, same.reach) binds.below;
+    above = rw (same.taken, same.reach) binds.above;
+    passed = rw (same.passed, same.reach) binds.passed;
+  };
+}
+
+-- the chunks of a packet
+
+pub past_itself : (h : History) → IsSamePast h h
+past_itself h = record { peer = refl; taken = refl; passed = refl; reach = refl }
+
+-- nothing that the directions see changed
+pub leads_nowhere : (a b : Shown) (h : History) → Binds a h → parts b h ≡ parts a h
+    → b.receiver.peer_last_tsn ≡ a.receiver.peer_last_tsn → Leads [] a h b h
+leads_nowhere a b h binds same point = leads_by [] a b h binds tt same point (past_itself h)
+
+close_leads : (closed : Bool) (a : Shown) (reason : AssociationError) (h : History) → is_closed_state a.state ≡ closed
+    → Binds a h
+    → Leads (acts_of_close a) a h (closed_by a reason) h
+close_leads true a reason h e binds = rw e (leads_nowhere a a h binds refl refl)
+close_leads false a reason h e binds =
+    rw e (leads_by (Act.Ended ∷ []) a (closed_open a reason) h binds (tt, tt) refl refl (past_itself h))
+
+stream_leads : (there left : Bool) (a : Shown) (id : ℕ) (h : History) → is_some (stream_at a.streams id) ≡ there
+    → generation_left a.streams ≡ left → Binds a h
+    → Leads (acts_of_stream a id) a h (stream_found a id).0 h
+unfolding stream_found
+stream_leads true left a id h e f binds = rw e (leads_nowhere a a h binds refl refl)
+stream_leads false true a id h e f binds =
+    rw (e, f) (leads_by (Act.Opened id a.sender.queue.next_message_id kinds.Unknown ∷ []) a (with_new_stream a id) h
+    binds (tt, tt) refl refl (past_itself h))
+stream_leads false false a id h e f binds = rw (e, f) (leads_nowhere a a h binds refl refl)
+
+pub stream_receiver : (there left : Bool) (a : Shown) (id : ℕ) → is_some (stream_at a.streams id) ≡ there
+    → generation_left a.streams ≡ left
+    → (stream_found a id).0.receiver ≡ a.receiver
+unfolding stream_found
+stream_receiver true left a id e f = rw e refl
+stream_receiver false true a id e f = rw (e, f) refl
+stream_receiver false false a id e f = rw (e, f) refl
+
+-- DATA
+
+told_parts : (c : Bool) (b : Shown) (id : ℕ) (kept : Bool) (h : History) → (kept && is_readable_in b.streams id) ≡ c
+    → parts (told b id kept) h ≡ parts b h
+told_parts true b id kept h e = rw e refl
+told_parts false b id kept h e = rw e refl
+
+told_receiver : (c : Bool) (b : Shown) (id : ℕ) (kept : Bool) → (kept && is_readable_in b.streams id) ≡ c
+    → (told b id kept).receiver ≡ b.receiver
+told_receiver true b id kept e = rw e refl
+told_receiver false b id kept e = rw e refl
+
+pub next_tsn : (peer at point t : ℕ) → point ≡ tsn_before (tsn peer at) → t ≡ (point + 1) % 2 ^ 32 → t ≡ tsn peer at
+next_tsn peer at point t e f = rw (f, e) (omega arith)
+
+before_next : (peer at : ℕ) → tsn peer at ≡ tsn_before (tsn peer (at + 1))
+before_next peer at = omega arith
+
+taken_below : (h : History) → ((o : ℕ) → o < h.reach → (mem o h.taken ≡ true) ⊎ (o < h.passed))
+    → (o : ℕ) → o < h.reach + 1 → (mem o (h.reach ∷ h.taken) ≡ true) ⊎ (o < h.passed)
+taken_below h below o l = ⊎_elim
+    (λ (e : h.reach ≡ o). inl (or_left (eqb h.reach o) (mem o h.taken) (eq-eqb h.reach o e)))
+    (λ (ne : h.reach ≡ o → ⊥). ⊎_elim
+    (λ (m : mem o h.taken ≡ true). inl (or_right (eqb h.reach o) (mem o h.taken) m))
+    (λ (q : o < h.passed). inr q)
+    (below o (omega (arith, ne))))
+    (cases_eq h.reach o)
+
+taken_above : (h : History) → ((o : ℕ) → mem o h.taken ≡ true → o < h.reach) → (o : ℕ)
+    → mem o (h.reach ∷ h.taken) ≡ true → o < h.reach + 1
+taken_above h above o m = ⊎_elim
+    (λ (e : eqb h.reach o ≡ true). omega (arith, eqb-true h.reach o e))
+    (λ (r : mem o h.taken ≡ true). omega (arith, above o r))
+    (or_cases (eqb h.reach o) (mem o h.taken) m)
+
+took_leads : (a : Shown) (piece : ChunkPayloadData) (h : History) → Binds a h
+    → is_next_after a.receiver piece.tsn ≡ true → is_whole piece ≡ true
+    → (x : StreamMap × Bool) → x ≡ pushed_in a.streams piece.stream_identifier piece
+    → Leads (Act.Took piece ∷ []) a h (with_message a piece x) (with_taken h)
+took_leads a piece h binds next whole (streams, kept) e =
+    let b : Shown = record a { streams = streams; receiver = taken_to a.receiver piece.tsn } in
+    let here : piece.tsn ≡ tsn h.peer h.reach =
+    next_tsn h.peer h.reach a.receiver.peer_last_tsn piece.tsn binds.reach
+    (eqb-true piece.tsn ((a.receiver.peer_last_tsn + 1) % 2 ^ 32) next) in
+    let same =
+    told_parts (kept && is_readable_in streams piece.stream_identifier) b piece.stream_identifier kept
+    (with_taken h) refl in
+    let point =
+    ap (λ (r : Receiver). r.peer_last_tsn)
+    (told_receiver (kept && is_readable_in streams piece.stream_identifier) b piece.stream_identifier kept refl) in
+    record {
+      can = ((here, whole), tt);
+      there = same ∙ rw (← e) refl;
+      binds = record {
+        first = ap (λ (p : Parts). p.queue.first_tsn) same ∙ binds.first;
+        reach = point ∙ here ∙ before_next h.peer h.reach;
+        below = taken_below h binds.below;
+        above = taken_above h binds.above;
+        passed = omega (arith, binds.passed);
+      };
+    }
+
+taking_leads_unless : (o : Option Error) (a : Shown) (piece : ChunkPayloadData) (h : History)
+    → Binds a h → is_next_after a.receiver piece.tsn ≡ true → is_whole piece ≡ true
+    → (k : History) × Leads (acts_unless_refused o piece) a h (taken_unless o a piece).0 k
+taking_leads_unless (Some fault) a piece h binds next whole = (h, leads_nowhere a a h binds refl refl)
+taking_leads_unless None a piece h binds next whole = (with_taken h, took_leads a piece h binds next whole _ refl)
+
+taking_leads : (a : Shown) (piece : ChunkPayloadData) (h : History) → Binds a h
+    → is_next_after a.receiver piece.tsn ≡ true → is_whole piece ≡ true
+    → (k : History) × Leads (acts_of_taking a piece) a h (taken_in a piece).0 k
+unfolding taken_in
+taking_leads a piece h binds next whole =
+    taking_leads_unless (refusal_in a.streams piece.stream_identifier piece a.receiver.max_receive_message_size) a piece
+    h binds next whole
+
+pub asks_same : (x : Shown × Option Error) (piece : ChunkPayloadData) (trigger : AckTrigger)
+    → (asks_or_faults x piece trigger).0 ≡ x.0
+asks_same (a, None) piece trigger = refl
+asks_same (a, Some fault) piece trigger = refl
+
+credit_leads : (c : Bool) (b : Shown) (piece : ChunkPayloadData) (trigger : AckTrigger) (h : History)
+    → nat_lt 0 (credit_of b.receiver (bytes_waiting b.streams)) ≡ c
+    → Binds b h → is_next_after b.receiver piece.tsn ≡ true → is_whole piece ≡ true
+    → (k : History) × Leads (acts_of_found (b, true) piece) b h (on_next_data (b, true) piece trigger).0 k
+credit_leads true b piece trigger h e binds next whole =
+    let t = taking_leads b piece h binds next whole in
+    rw (e, asks_same (taken_in b piece) piece trigger) t
+credit_leads false b piece trigger h e binds next whole = rw e (h, leads_nowhere b b h binds refl refl)
+
+found_leads : (x : Shown × Bool) (piece : ChunkPayloadData) (trigger : AckTrigger) (h : History) → Binds x.0 h
+    → is_next_after x.0.receiver piece.tsn ≡ true
+    → is_whole piece ≡ true → (k : History) × Leads (acts_of_found x piece) x.0 h (on_next_data x piece trigger).0 k
+found_leads (b, false) piece trigger h binds next whole = (h, leads_nowhere b b h binds refl refl)
+found_leads (b, true) piece trigger h binds next whole =
+    credit_leads (nat_lt 0 (credit_of b.receiver (bytes_waiting b.streams))) b piece trigger h refl binds next whole
+
+next_leads : (c : Bool) (a : Shown) (piece : ChunkPayloadData) (trigger : AckTrigger) (h : History)
+    → (is_next_after a.receiver piece.tsn && is_whole piece) ≡ c
+    → Binds a h → (k : History) × Leads (acts_of_data a piece) a h (on_data a piece trigger).0 k
+unfolding on_data
+next_leads false a piece trigger h e binds = rw e (h, leads_nowhere a (counted_data a) h binds refl refl)
+next_leads true a piece trigger h e binds =
+    let both = and_parts (is_next_after a.receiver piece.tsn) (is_whole piece) e in
+    let b : Shown = counted_data a in
+    let counted : Binds b h = record {
+      first = binds.first;
+      reach = binds.reach;
+      below = binds.below;
+      above = binds.above;
+      passed = binds.passed;
+    } in
+    let id = piece.stream_identifier in
+    let made = stream_leads (is_some (stream_at a.streams id)) (generation_left a.streams) b id h refl refl counted in
+    let same = stream_receiver (is_some (stream_at a.streams id)) (generation_left a.streams) b id refl refl in
+    let rest = found_leads (stream_found b id) piece trigger h made.binds (rw same both.0) both.1 in
+    rw e (
+      rest.0,
+      leads_on (acts_of_stream a id) (acts_of_found (stream_found b id) piece) a (stream_found b id).0
+          (on_next_data (stream_found b id) piece trigger).0 h h rest.0
+          (record { can = made.can; there = made.there; binds = made.binds }) rest.1,
+    )
+
+-- SACK
+
+abbrev is_taken : SackOutcome → Bool
+is_taken outcomes.Older = false
+is_taken outcomes.NotInFlight = false
+is_taken outcomes.Taken = true
+
+taken_within : (older within : Bool) (s : Sender) (point : ℕ) → tsn_gt (cumulative_tsn_ack_point_of s) point ≡ older
+    → nat_le (tsns_up_to s point) (length s.queue.in_flight) ≡ within → sack_outcome s point ≡ outcomes.Taken
+    → tsns_up_to s point ≤ length s.queue.in_flight
+taken_within true within s point e f t =
+    let u : is_taken (sack_outcome s point) ≡ true = ap is_taken t in let v = rw e at u in absurd (false≢true v)
+taken_within false true s point e f t = leb-true (tsns_up_to s point) (length s.queue.in_flight) f
+taken_within false false s point e f t =
+    let u : is_taken (sack_outcome s point) ≡ true = ap is_taken t in let v = rw (e, f) at u in absurd (false≢true v)
+
+acknowledged_parts : (a : Shown) (moved : Bool) (now : ℕ) (x : Sender × Estimate × StreamMap) (k : History)
+    → parts (with_acknowledged a moved now x) k ≡ record { queue = x.0.queue; streams = x.2; history = k }
+acknowledged_parts a moved now (s, e, m) k = refl
+
+acknowledged_receiver : (a : Shown) (moved : Bool) (now : ℕ) (x : Sender × Estimate × StreamMap)
+    → (with_acknowledged a moved now x).receiver ≡ a.receiver
+acknowledged_receiver a moved now (s, e, m) = refl
+
+sack_taken_leads : (a : Shown) (point window now : ℕ) (h : History) → Binds a h
+    → tsns_up_to a.sender point ≤ length a.sender.queue.in_flight
+    → Leads (Act.Acknowledged (tsns_up_to a.sender point) ∷ []) a h (after_sack (counted_sack a) point window now)
+    (record h { base = h.base + tsns_up_to a.sender point })
+sack_taken_leads a point window now h binds within =
+    let n = tsns_up_to a.sender point in
+    let x = acknowledged n now (with_window a.sender window, a.estimate, a.streams) in
+    let k : History = record h { base = h.base + n } in
+    let same = acknowledged_parts (counted_sack a) (nat_lt 0 n) now x k in
+    let all = pieces_acknowledged n now (with_window a.sender window) a.estimate a.streams h in
+    let tied = acknowledged_tied n (parts a h) within binds.first in
+    record {
+      can = (within, tt);
+      there = same ∙ sym all;
+      binds = record {
+        first =
+            ap (λ (p : Parts). p.queue.first_tsn) (same ∙ sym all) ∙ tied
+            ∙ ap (λ (p : Parts). tsn p.history.own p.history.base) all;
+        reach =
+            ap (λ (r : Receiver). r.peer_last_tsn) (acknowledged_receiver (counted_sack a) (nat_lt 0 n) now x)
+            ∙ binds.reach;
+        below = binds.below;
+        above = binds.above;
+        passed = binds.passed;
+      };
+    }
+
+outcome_leads : (o : SackOutcome) (a : Shown) (point window : ℕ) (trigger : AckTrigger) (now : ℕ) (h : History)
+    → sack_outcome a.sender point ≡ o → Binds a h
+    → (k : History) × Leads (acts_of_outcome o (tsns_up_to a.sender point)) a h
+    (on_counted_sack o (counted_sack a) point window trigger now).0 k
+outcome_leads outcomes.Older a point window trigger now h e binds =
+    (h, leads_nowhere a (counted_sack a) h binds refl refl)
+outcome_leads outcomes.NotInFlight a point window trigger now h e binds =
+    (h, leads_nowhere a (counted_sack a) h binds refl refl)
+outcome_leads outcomes.Taken a point window trigger now h e binds = (
+  _,
+  sack_taken_leads a point window now h binds
+      (taken_within (tsn_gt (cumulative_tsn_ack_point_of a.sender) point)
+      (nat_le (tsns_up_to a.sender point) (length a.sender.queue.in_flight)) a.sender point refl refl e),
+)
+
+sack_leads : (c : Bool) (a : Shown) (point window : ℕ) (trigger : AckTrigger) (now : ℕ) (h : History)
+    → is_established a.state ≡ c → Binds a h
+    → (k : History) × Leads (acts_of_sack a point) a h (on_sack a point window trigger now).0 k
+unfolding on_sack
+sack_leads false a point window trigger now h e binds = rw e (h, leads_nowhere a a h binds refl refl)
+sack_leads true a point window trigger now h e binds =
+    rw e (outcome_leads (sack_outcome a.sender point) a point window trigger now h refl binds)
+
+-- the handshake
+
+-- the peer's initial TSN became known
+met_leads : (a b : Shown) (t : ℕ) (h : History) → Binds a h → b.sender.queue ≡ a.sender.queue → b.streams ≡ a.streams
+    → b.receiver.peer_last_tsn ≡ (t + 2 ^ 32 - 1) % 2 ^ 32
+    → (k : History) × Leads (Act.PeerKnown t ∷ []) a h b k
+met_leads a b t h binds queue streams point = (
+  with_peer h t,
+  record {
+    can = (tt, tt);
+    there = rw (queue, streams) refl;
+    binds = record {
+      first = ap (λ (q : Outbound). q.first_tsn) queue ∙ binds.first;
+      reach = point ∙ omega arith;
+      below = λ o l. absurd (omega (arith, l));
+      above = λ o m. absurd (false≢true m);
+      passed = omega arith;
+    };
+  },
+)
+
+init_leads : (c : Bool) (a : Shown) (header : CommonHeader) (init : ChunkInit) (trigger : AckTrigger) (h : History)
+    → is_beginning a.state ≡ c → Binds a h
+    → (k : History) × Leads (acts_of_init a init) a h (on_init a header init trigger).0 k
+unfolding on_init
+init_leads true a header init trigger h e binds =
+    rw e (met_leads a (answered (learned a header init)) init.initial_tsn h binds refl refl refl)
+init_leads false a header init trigger h e binds = rw e (h, leads_nowhere a a h binds refl refl)
+
+echoed_leads : (o : Option (List ℕ)) (a b : Shown) (t : ℕ) (trigger : AckTrigger) (now : ℕ) (h : History) → Binds a h
+    → b.sender.queue ≡ a.sender.queue → b.streams ≡ a.streams
+    → b.receiver.peer_last_tsn ≡ (t + 2 ^ 32 - 1) % 2 ^ 32
+    → (k : History) × Leads (Act.PeerKnown t ∷ []) a h (echoed o b trigger now).0 k
+unfolding sends_cookie
+echoed_leads None a b t trigger now h binds queue streams point = met_leads a b t h binds queue streams point
+echoed_leads (Some cookie) a b t trigger now h binds queue streams point =
+    met_leads a (with_echo b cookie now) t h binds queue streams point
+
+init_ack_leads : (waits back : Bool) (a : Shown) (header : CommonHeader) (init : ChunkInit) (trigger : AckTrigger)
+    (now : ℕ) (h : History) → is_cookie_wait a.state ≡ waits
+    → comes_back a.handshake header ≡ back → Binds a h
+    → (k : History) × Leads (acts_of_init_ack a header init) a h (on_init_ack a header init trigger now).0 k
+unfolding on_init_ack
+init_ack_leads true true a header init trigger now h e f binds =
+    rw (e, f) (echoed_leads (first_cookie init.params) a _ init.initial_tsn trigger now h binds refl refl refl)
+init_ack_leads true false a header init trigger now h e f binds =
+    rw (e, f) (h, leads_nowhere a _ h binds refl refl)
+init_ack_leads false back a header init trigger now h e f binds = rw e (h, leads_nowhere a a h binds refl refl)
+
+cookie_echo_leads : (issued beginning established : Bool) (a : Shown) (cookie : List ℕ) (trigger : AckTrigger)
+    (h : History) → has_issued a.handshake cookie ≡ issued
+    → is_beginning a.state ≡ beginning → is_established a.state ≡ established → Binds a h
+    → (k : History) × Leads [] a h (on_cookie_echo a cookie trigger).0 k
+unfolding on_cookie_echo
+cookie_echo_leads false beginning established a cookie trigger h e f g binds =
+    rw e (h, leads_nowhere a a h binds refl refl)
+cookie_echo_leads true true established a cookie trigger h e f g binds =
+    rw (e, f) (h, leads_nowhere a (acknowledged_cookie (connected a)) h binds refl refl)
+cookie_echo_leads true false true a cookie trigger h e f g binds =
+    rw (e, f, g) (h, leads_nowhere a (acknowledged_cookie a) h binds refl refl)
+cookie_echo_leads true false false a cookie trigger h e f g binds =
+    rw (e, f, g) (h, leads_nowhere a a h binds refl refl)
+
+cookie_ack_leads : (c : Bool) (a : Shown) (trigger : AckTrigger) (h : History) → is_cookie_echoed a.state ≡ c
+    → Binds a h → (k : History) × Leads [] a h (on_cookie_ack a trigger).0 k
+unfolding on_cookie_ack
+cookie_ack_leads true a trigger h e binds = rw e (h, leads_nowhere a (connected a) h binds refl refl)
+cookie_ack_leads false a trigger h e binds = rw e (h, leads_nowhere a a h binds refl refl)
+
+returned_leads : (o : Option (List ℕ)) (a : Shown) (h : History) → Binds a h
+    → (k : History) × Leads [] a h (information_returned o a) k
+returned_leads None a h binds = (h, leads_nowhere a a h binds refl refl)
+returned_leads (Some information) a h binds =
+    (h, leads_nowhere a (information_returned (Some information) a) h binds refl refl)
+
+heartbeat_leads : (a : Shown) (heartbeat : ChunkHeartbeat) (trigger : AckTrigger) (h : History) → Binds a h
+    → (k : History) × Leads [] a h (on_heartbeat a heartbeat trigger).0 k
+unfolding on_heartbeat
+heartbeat_leads a heartbeat trigger h binds = returned_leads (information_of heartbeat.params) a h binds
+
+-- any chunk, and a packet
+
+kind_leads : (header : CommonHeader) (c : Chunk) (a : Shown) (trigger : AckTrigger) (now : ℕ) (h : History) → Binds a h
+    → (k : History) × Leads (acts_of_kind a header c) a h (dispatched a header c trigger now).0 k
+kind_leads header (chunks.Data piece) a trigger now h binds =
+    next_leads (is_next_after a.receiver piece.tsn && is_whole piece) a piece trigger h refl binds
+kind_leads header (chunks.SelectiveAck sack) a trigger now h binds =
+    sack_leads (is_established a.state) a sack.cumulative_tsn_ack sack.advertised_receiver_window_credit trigger
+    now h refl binds
+kind_leads header (chunks.Init init) a trigger now h binds =
+    init_leads (is_beginning a.state) a header init trigger h refl binds
+kind_leads header (chunks.InitAck init) a trigger now h binds =
+    init_ack_leads (is_cookie_wait a.state) (comes_back a.handshake header) a header init trigger now h refl refl binds
+kind_leads header (chunks.Heartbeat x) a trigger now h binds = heartbeat_leads a x trigger h binds
+kind_leads header (chunks.HeartbeatAck x) a trigger now h binds = (h, leads_nowhere a a h binds refl refl)
+kind_leads header (chunks.Abort x) a trigger now h binds = (h, leads_nowhere a a h binds refl refl)
+kind_leads header (chunks.Shutdown x) a trigger now h binds = (h, leads_nowhere a a h binds refl refl)
+kind_leads header chunks.ShutdownAck a trigger now h binds = (h, leads_nowhere a a h binds refl refl)
+kind_leads header (chunks.Error x) a trigger now h binds = (h, leads_nowhere a a h binds refl refl)
+kind_leads header (chunks.CookieEcho x) a trigger now h binds =
+    cookie_echo_leads (has_issued a.handshake x) (is_beginning a.state) (is_established a.state) a x trigger h refl
+    refl refl binds
+kind_leads header chunks.CookieAck a trigger now h binds =
+    cookie_ack_leads (is_cookie_echoed a.state) a trigger h refl binds
+kind_leads header chunks.ShutdownComplete a trigger now h binds = (h, leads_nowhere a a h binds refl refl)
+kind_leads header (chunks.Reconfig x) a trigger now h binds = (h, leads_nowhere a a h binds refl refl)
+kind_leads header (chunks.ForwardTsn x) a trigger now h binds = (h, leads_nowhere a a h binds refl refl)
+kind_leads header (chunks.IForwardTsn x) a trigger now h binds = (h, leads_nowhere a a h binds refl refl)
+kind_leads header (chunks.Other kind flags value) a trigger now h binds = (h, leads_nowhere a a h binds refl refl)
+
+checked_leads : (r : Result (Unit {0}) Error) (header : CommonHeader) (c : Chunk) (a : Shown) (trigger : AckTrigger)
+    (now : ℕ) (h : History) → Binds a h
+    → (k : History) × Leads (acts_of_checked r a header c) a h (checked_first r a header c trigger now).0 k
+checked_leads (Err fault) header c a trigger now h binds = (h, leads_nowhere a a h binds refl refl)
+checked_leads (Ok done) header c a trigger now h binds = kind_leads header c a trigger now h binds
+
+pub chunk_leads : (header : CommonHeader) (c : Chunk) (a : Shown) (trigger : AckTrigger) (now : ℕ) (h : History)
+    → Binds a h
+    → (k : History) × Leads (acts_of_chunk a header c) a h (on_chunk a header c trigger now).0 k
+unfolding on_chunk
+chunk_leads header c a trigger now h binds = checked_leads (checked_chunk c) header c a trigger now h binds
+
+ended_point : (a : Shown) (trigger : AckTrigger) (now : ℕ)
+    → (ended a trigger now).receiver.peer_last_tsn ≡ a.receiver.peer_last_tsn
+ended_point a triggers.None now = refl
+ended_point a triggers.Delayed now = refl
+ended_point a triggers.Immediate now = refl
+
+-- what follows a chunk leads on, where the rest of the packet does
+goes_leads : (x : Shown × Flow) (h : History) (more : Shown → AckTrigger → Shown) (acts : Shown → AckTrigger → List Act)
+    → ((b : Shown) (trigger : AckTrigger) → Binds b h → (k : History) × Leads (acts b trigger) b h (more b trigger) k)
+    → Binds x.0 h → (k : History) × Leads (acts_after x acts) x.0 h (goes_on x more) k
+goes_leads (b, flows.Next trigger) h more acts on binds = on b trigger binds
+goes_leads (b, flows.Fault fault) h more acts on binds =
+    (h, close_leads (is_closed_state b.state) b reasons.AssociationClosed h refl binds)
+
+pub chunks_lead : (header : CommonHeader) (cs : List Chunk) (a : Shown) (trigger : AckTrigger) (now : ℕ) (h : History)
+    → Binds a h
+    → (k : History) × Leads (acts_of_chunks header cs a trigger now) a h (after_chunks header cs a trigger now) k
+chunks_lead header [] a trigger now h binds =
+    (h, leads_nowhere a (ended a trigger now) h binds refl (ended_point a trigger now))
+chunks_lead header (c ∷ cs) a trigger now h binds =
+    let one = chunk_leads header c a trigger now h binds in
+    let rest =
+    goes_leads (on_chunk a header c trigger now) one.0 (λ b next. after_chunks header cs b next now)
+    (λ b next. acts_of_chunks header cs b next now)
+    (λ b next bound. chunks_lead header cs b next now one.0 bound) one.1.binds in (
+      rest.0,
+      leads_on (acts_of_chunk a header c) _ a (on_chunk a header c trigger now).0
+          (after_chunks header (c ∷ cs) a trigger now) h one.0 rest.0 one.1 rest.1,
+    )
+
+packet_of_leads : (packet : Option Packet) (a : Shown) (now : ℕ) (h : History) → Binds a h
+    → (k : History) × Leads (acts_of_packet_of a packet now) a h (after_packet_of a packet now) k
+packet_of_leads None a now h binds = (h, leads_nowhere a a h binds refl refl)
+packet_of_leads (Some packet) a now h binds = chunks_lead packet.common_header packet.chunks a triggers.None now h binds
+
+packet_leads_unless : (lost : Bool) (packet : Option Packet) (a : Shown) (now : ℕ) (h : History) → Binds a h
+    → (k : History) × Leads (if lost then [] else acts_of_packet_of a packet now) a h
+    (if lost then a else after_packet_of a packet now) k
+packet_leads_unless true packet a now h binds = (h, leads_nowhere a a h binds refl refl)
+packet_leads_unless false packet a now h binds = packet_of_leads packet a now h binds
+
+-- a packet that comes
+pub packet_leads : (packet : Option Packet) (a : Shown) (now : ℕ) (h : History) → Binds a h
+    → (k : History) × Leads (acts_of_packet a packet now) a h (after_packet a packet now) k
+packet_leads packet a now h binds = packet_leads_unless a.lost packet a now h binds
+
+pub packet_leads_on : (a b : Shown) (packet : Option Packet) (now : ℕ) → b ≡ after_packet a packet now
+    → LeadsOn (acts_of_packet a packet now) a b
+packet_leads_on a b packet now e h binds = rw e (packet_leads packet a now h binds)
+
+-- the calls of an application
+
+-- what changes beside the directions does no harm
+leads_beside : (xs : List Act) (a b c : Shown) (h k : History) → parts c k ≡ parts b k
+    → c.receiver.peer_last_tsn ≡ b.receiver.peer_last_tsn → Leads xs a h b k → Leads xs a h c k
+leads_beside xs a b c h k same point m = record {
+  can = m.can;
+  there = same ∙ m.there;
+  binds = record {
+    first = ap (λ (p : Parts). p.queue.first_tsn) same ∙ m.binds.first;
+    reach = point ∙ m.binds.reach;
+    below = m.binds.below;
+    above = m.binds.above;
+    passed = m.binds.passed;
+  };
+}
+
+written_parts : (o : Option StreamView) (a : Shown) (id : ℕ) (bytes : List ℕ) (h : History)
+    → parts (written_at o a id bytes) h ≡ with_written o (parts a h) id bytes
+written_parts None a id bytes h = refl
+written_parts (Some s) a id bytes h = refl
+
+written_receiver : (o : Option StreamView) (a : Shown) (id : ℕ) (bytes : List ℕ)
+    → (written_at o a id bytes).receiver ≡ a.receiver
+written_receiver None a id bytes = refl
+written_receiver (Some s) a id bytes = refl
+
+written_history : (o : Option StreamView) (a : Shown) (id : ℕ) (bytes : List ℕ) (h : History)
+    → (with_written o (parts a h) id bytes).history ≡ h
+written_history None a id bytes h = refl
+written_history (Some s) a id bytes h = refl
+
+written_leads : (a : Shown) (id : ℕ) (bytes : List ℕ) (h : History) → Binds a h
+    → Leads (Act.Wrote id bytes ∷ []) a h (written a id bytes) h
+written_leads a id bytes h binds =
+    let o = stream_at a.streams id in
+    let there = written_parts o a id bytes h in
+    record {
+      can = (tt, tt);
+      there = there;
+      binds = record {
+        first =
+            ap (λ (p : Parts). p.queue.first_tsn) there
+            ∙ acts_tied (Act.Wrote id bytes ∷ []) (parts a h) (tt, tt) binds.first
+            ∙ ap (λ (k : History). tsn k.own k.base) (written_history o a id bytes h);
+        reach = ap (λ (r : Receiver). r.peer_last_tsn) (written_receiver o a id bytes) ∙ binds.reach;
+        below = binds.below;
+        above = binds.above;
+        passed = binds.passed;
+      };
+    }
+
+pub write_leads_on : (a b : Shown) (id : ℕ) (bytes : List ℕ) → b ≡ written a id bytes
+    → LeadsOn (Act.Wrote id bytes ∷ []) a b
+write_leads_on a b id bytes e h binds = rw e (h, written_leads a id bytes h binds)
+
+pub read_leads_on : (a b : Shown) (id : ℕ) (message : Option ReceivedMessage) → read_from_stream a id ≡ (b, message)
+    → LeadsOn (Act.WasRead id ∷ []) a b
+read_leads_on a b id message e h binds =
+    let is : b ≡ record a { streams = (read_in a.streams id).0 } =
+    sym (ap (λ (x : Shown × Option ReceivedMessage). x.0) e) in (
+      h,
+      rw is (leads_by (Act.WasRead id ∷ []) a (record a { streams = (read_in a.streams id).0 }) h binds (tt, tt) refl
+          refl (past_itself h)),
+    )
+
+pub open_leads_on : (a b : Shown) (id : ℕ) (kind : PayloadProtocolIdentifier) → b ≡ opened a id kind
+    → LeadsOn (Act.Opened id a.sender.queue.next_message_id kind ∷ []) a b
+open_leads_on a b id kind e h binds = (
+  h,
+  rw e (leads_by (Act.Opened id a.sender.queue.next_message_id kind ∷ []) a (opened a id kind) h binds (tt, tt) refl
+      refl (past_itself h)),
+)
+
+polled_leads : (events : List Event) (a : Shown) (h : History) → Binds a h → Leads [] a h (event_from events a).0 h
+polled_leads [] a h binds = leads_nowhere a (event_from [] a).0 h binds refl refl
+polled_leads (e ∷ es) a h binds = leads_nowhere a (event_from (e ∷ es) a).0 h binds refl refl
+
+pub poll_leads_on : (a b : Shown) (event : Option Event) → event_polled a ≡ (b, event) → LeadsOn [] a b
+poll_leads_on a b event e h binds =
+    let is : b ≡ (event_from a.events a).0 = sym (ap (λ (x : Shown × Option Event). x.0) e) in
+    (h, rw is (polled_leads a.events a h binds))
+
+t3_leads : (expired failure : Bool) (a : Shown) (now : ℕ) (h : History) → Binds a h
+    → Leads (if expired then (if failure then [] else Act.Marked ∷ []) else []) a h
+    (if expired then (if failure then t3_expired a now else retransmits (t3_expired a now) now) else a) h
+t3_leads false failure a now h binds = leads_nowhere a a h binds refl refl
+t3_leads true true a now h binds = leads_nowhere a (t3_expired a now) h binds refl refl
+t3_leads true false a now h binds =
+    leads_by (Act.Marked ∷ []) a (retransmits (t3_expired a now) now) h binds (tt, tt) refl refl (past_itself h)
+
+ack_delay_leads : (expired : Bool) (xs : List Act) (a b : Shown) (now : ℕ) (h : History)
+    → (expiry_of names.Ack now b.timers).expired ≡ expired → Leads xs a h b h
+    → Leads xs a h (after_ack_delay b now) h
+ack_delay_leads false xs a b now h e m = rw e m
+ack_delay_leads true xs a b now h e m =
+    leads_beside xs a b (after_ack_delay b now) h h (rw e refl) (rw e refl) m
+
+-- the timers of the handshake change nothing that the directions see
+init_queued_beside : (o : Option Offer) (a : Shown) (h : History) → Binds a h → Leads [] a h (init_queued o a) h
+init_queued_beside None a h binds = leads_nowhere a a h binds refl refl
+init_queued_beside (Some offer) a h binds = leads_nowhere a (init_queued (Some offer) a) h binds refl refl
+
+cookie_queued_leads : (o : Option (List ℕ)) (a : Shown) (h : History) → Binds a h → Leads [] a h (cookie_queued o a) h
+cookie_queued_leads None a h binds = leads_nowhere a a h binds refl refl
+cookie_queued_leads (Some cookie) a h binds = leads_nowhere a (cookie_queued (Some cookie) a) h binds refl refl
+
+pub sends_init_leads : (a : Shown) (now : ℕ) (h : History) → Binds a h → Leads [] a h (sends_init a now) h
+unfolding sends_init
+sends_init_leads a now h binds =
+    let b : Shown = init_queued a.handshake.offer a in
+    leads_beside [] a b (sends_init a now) h h refl refl (init_queued_beside a.handshake.offer a h binds)
+
+sends_cookie_leads : (a : Shown) (now : ℕ) (h : History) → Binds a h → Leads [] a h (sends_cookie a now) h
+unfolding sends_cookie
+sends_cookie_leads a now h binds =
+    let b : Shown = cookie_queued a.handshake.echo a in
+    leads_beside [] a b (sends_cookie a now) h h refl refl (cookie_queued_leads a.handshake.echo a h binds)
+
+t1_init_leads : (expired failure : Bool) (a : Shown) (now : ℕ) (h : History) → Binds a h
+    → Leads [] a h
+    (if expired then
+    (if failure then (let b = t1_init_expired a now in record b { handshake_fault = Some errors.ErrHandshakeInitAck })
+    else sends_init (t1_init_expired a now) now) else a) h
+t1_init_leads false failure a now h binds = leads_nowhere a a h binds refl refl
+t1_init_leads true true a now h binds = leads_nowhere a _ h binds refl refl
+t1_init_leads true false a now h binds =
+    leads_on [] [] a (t1_init_expired a now) (sends_init (t1_init_expired a now) now) h h h
+    (leads_nowhere a (t1_init_expired a now) h binds refl refl)
+    (sends_init_leads (t1_init_expired a now) now h (record {
+      first = binds.first;
+      reach = binds.reach;
+      below = binds.below;
+      above = binds.above;
+      passed = binds.passed;
+    }))
+
+t1_cookie_leads : (expired failure : Bool) (a : Shown) (now : ℕ) (h : History) → Binds a h
+    → Leads [] a h
+    (if expired then
+    (if failure then (let b =
+    t1_cookie_expired a now in record b { handshake_fault = Some errors.ErrHandshakeCookieEcho }) else
+    sends_cookie (t1_cookie_expired a now) now) else a) h
+t1_cookie_leads false failure a now h binds = leads_nowhere a a h binds refl refl
+t1_cookie_leads true true a now h binds = leads_nowhere a _ h binds refl refl
+t1_cookie_leads true false a now h binds =
+    leads_on [] [] a (t1_cookie_expired a now) (sends_cookie (t1_cookie_expired a now) now) h h h
+    (leads_nowhere a (t1_cookie_expired a now) h binds refl refl)
+    (sends_cookie_leads (t1_cookie_expired a now) now h (record {
+      first = binds.first;
+      reach = binds.reach;
+      below = binds.below;
+      above = binds.above;
+      passed = binds.passed;
+    }))
+
+pub handshake_timers_lead : (a : Shown) (now : ℕ) (h : History) → Binds a h
+    → Leads [] a h (after_handshake_timers a now) h
+handshake_timers_lead a now h binds =
+    let one =
+    t1_init_leads (expiry_of names.T1Init now a.timers).expired (expiry_of names.T1Init now a.timers).failed a
+    now h binds in
+    let b : Shown = after_t1_init a now in
+    leads_on [] [] a b (after_t1_cookie b now) h h h one
+    (t1_cookie_leads (expiry_of names.T1Cookie now b.timers).expired (expiry_of names.T1Cookie now b.timers).failed b
+    now h one.binds)
+
+pub timeouts_lead_on : (a b : Shown) (now : ℕ) → b ≡ after_timeouts a now → LeadsOn (acts_of_timeouts a now) a b
+timeouts_lead_on a b now e h binds =
+    let first = handshake_timers_lead a now h binds in
+    let c : Shown = after_handshake_timers a now in
+    let t3 =
+    t3_leads (expiry_of names.T3RTX now c.timers).expired (expiry_of names.T3RTX now c.timers).failed c now h
+    first.binds in (
+      h,
+      rw e (leads_on [] (acts_of_t3 c now) a c (after_ack_delay (after_t3 c now) now) h h h first
+          (ack_delay_leads (expiry_of names.Ack now (after_t3 c now).timers).expired (acts_of_t3 c now) c
+          (after_t3 c now) now h refl t3)),
+    )

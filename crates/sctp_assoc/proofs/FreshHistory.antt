@@ -1,0 +1,31 @@
+-- An association begins on the history in which nothing happened.
+use Rattle.std.proofs.Common.{◌≡◌, refl, ◌∙◌, ℕ, ◌^◌, ◌<◌, List, Option, Some, None, arith}
+use Rattle.std.proofs.lemmas.Bool.{false≢true}
+use Rattle.std.specs.declared.net.ip_addr.IpAddr.{IpAddr}
+use Rattle.std.specs.declared.net.socket_addr.SocketAddr.{SocketAddr}
+use Rattle.sctp_wire_types.specs.Config.{Settings}
+use Rattle.sctp_wire_types.specs.declared.config.ServerConfig.{ServerConfig}
+use Rattle.sctp_assoc.specs.Acts.{Binds, begun}
+use Rattle.sctp_assoc.specs.Created.{created, server, silent_client}
+use Rattle.sctp_assoc.specs.Shown.{Shown}
+use Rattle.sctp_assoc.proofs.CallsLeadOn.{sends_init_leads}
+
+fresh_binds : (a : Shown) (tsn : ℕ) → tsn < 2 ^ 32 → a.sender.queue.first_tsn ≡ tsn → a.receiver.peer_last_tsn ≡ 0
+    → Binds a (begun tsn 1)
+fresh_binds a tsn small first point = record {
+  first = first ∙ omega (arith, small);
+  reach = point ∙ omega arith;
+  below = λ o l. absurd (omega (arith, l));
+  above = λ o m. absurd (false≢true m);
+  passed = omega arith;
+}
+
+-- an association that a handshake is to establish
+pub created_binds : (of_server : Option ServerConfig) (config : Settings) (size tag tsn : ℕ) (cookie : List ℕ)
+    (remote : SocketAddr) (local : Option IpAddr) (now : ℕ) → tsn < 2 ^ 32
+    → Binds (created of_server config size tag tsn cookie remote local now) (begun tsn 1)
+created_binds None config size tag tsn cookie remote local now small =
+    let a : Shown = silent_client config size tag tsn cookie remote local in
+    (sends_init_leads a now (begun tsn 1) (fresh_binds a tsn small refl refl)).binds
+created_binds (Some of_server) config size tag tsn cookie remote local now small =
+    fresh_binds (server config size tag tsn cookie remote local) tsn small refl refl

@@ -1,0 +1,174 @@
+-- Where memory may lack: what takes some takes it by what stands in chunk and state.
+use Rattle.std.proofs.Common.{◌≡◌, ◌≢◌, refl, sym, ap, ◌∙◌, subst, ℕ, ◌+◌, Bool, true, false, not, ◌&&◌, ◌||◌}
+use Rattle.std.proofs.Common.{if◌then◌else◌, is_some, nat_lt, length, List, ◌∷◌, Option, Some, None, Result, Ok, Err}
+use Rattle.std.specs.Prelude.{OnErr}
+use Rattle.std.proofs.lemmas.Bool.{false≢true, or_left, or_right}
+use Rattle.sctp_wire_types.specs.declared.chunk.Chunk.{Chunk}
+use Rattle.sctp_wire_types.specs.declared.chunk.ChunkPayloadData.{ChunkPayloadData}
+use Rattle.sctp_wire_types.specs.declared.error.Error.{Error}
+use Rattle.sctp_wire_types.specs.declared.error.Error.TheVariants as errors
+use Rattle.sctp_wire_types.specs.declared.packet.CommonHeader.{CommonHeader}
+use Rattle.sctp_wire_types.specs.Serial.{ssn_lt}
+use Rattle.sctp_receive_queues.specs.Pieces.{bytes_of, contradicts, covers, refusal_of}
+use Rattle.sctp_receive_queues.specs.Reassembly.{is_torn_after, is_torn_before, joins_after, joins_before, part}
+use Rattle.sctp_receive_queues.specs.Reassembly.{pieces_at, place_for_tsn, place_of_ssn, refusal_between}
+use Rattle.sctp_receive_queues.specs.Reassembly.{refusal_of_ordered, refusal_of_unordered, run_at, run_before}
+use Rattle.sctp_streams.specs.Stream.{StreamView}
+use Rattle.sctp_streams.specs.Streams.{StreamMap, bytes_waiting, generation_left, refusal_at, refusal_in, stream_at}
+use Rattle.sctp_inbound.specs.declared.receiver.AckTrigger.{AckTrigger}
+use Rattle.sctp_inbound.specs.declared.receiver.Receiver.{Receiver}
+use Rattle.sctp_inbound.specs.Receiver.{credit_of, is_next_after}
+use Rattle.sctp_outbound.specs.declared.sender.Sender.{Sender}
+use Rattle.sctp_outbound.specs.Sender.{after_resending, resent_by, sent_new}
+use Rattle.sctp_assoc.specs.declared.inbound.Flow.TheVariants as flows
+use Rattle.sctp_assoc.specs.Calls.{is_closed_state}
+use Rattle.sctp_assoc.specs.Chunks.{counted_data, is_whole, on_chunk, stream_found}
+use Rattle.sctp_assoc.specs.Memory.{chunk_takes_memory, chunks_take_memory, data_takes_memory, keeps_message}
+use Rattle.sctp_assoc.specs.Memory.{makes_stream, takes_memory_after}
+use Rattle.sctp_assoc.specs.Gather.{data_polled, exchange_gives, is_due, with_sent_data}
+use Rattle.sctp_assoc.specs.Shown.{Shown}
+
+-- DATA
+
+abbrev is_for_memory : Option Error → Bool
+is_for_memory (Some errors.ErrNoMemory) = true
+is_for_memory (Some error) = false
+is_for_memory None = false
+
+kind_names : (torn long : Bool)
+    → is_for_memory (if torn then Some errors.ErrContradictoryPieces else
+    if long then Some errors.ErrInboundMessageTooLarge else None) ≡ false
+kind_names true long = refl
+kind_names false true = refl
+kind_names false false = refl
+
+refusal_names : (unordered old : Bool) (x y : Option Error) → is_for_memory x ≡ false → is_for_memory y ≡ false
+    → is_for_memory (if unordered then x else if old then None else y) ≡ false
+refusal_names true old x y e f = e
+refusal_names false true x y e f = refl
+refusal_names false false x y e f = f
+
+pieces_names : (pieces : List ChunkPayloadData) (piece : ChunkPayloadData) (limit : ℕ)
+    → is_for_memory (refusal_of pieces piece limit) ≡ false
+pieces_names pieces piece limit =
+    kind_names (contradicts pieces piece) (nat_lt limit (bytes_of pieces + length piece.user_data))
+
+between_names : (before : List ChunkPayloadData) (piece : ChunkPayloadData) (after : List ChunkPayloadData) (limit : ℕ)
+    → is_for_memory (refusal_between before piece after limit) ≡ false
+between_names before piece after limit =
+    kind_names (covers before piece.tsn || is_torn_before before piece || is_torn_after after piece)
+    (nat_lt limit (bytes_of (part (joins_before before piece) before) + length piece.user_data
+    + bytes_of (part (joins_after after piece) after)))
+
+refused_at_names : (o : Option StreamView) (piece : ChunkPayloadData) (limit : ℕ)
+    → is_for_memory (refusal_at o piece limit) ≡ false
+refused_at_names None piece limit = refl
+refused_at_names (Some stream) piece limit =
+    let q = stream.reassembly in
+    let index = place_for_tsn piece.tsn q.unordered in
+    refusal_names piece.unordered (ssn_lt piece.stream_sequence_number q.next_ssn)
+    (refusal_of_unordered q.unordered piece limit) (refusal_of_ordered q.ordered piece limit)
+    (between_names (run_before q.unordered index) piece (run_at q.unordered index) limit)
+    (pieces_names (pieces_at (place_of_ssn piece.stream_sequence_number q.ordered) q.ordered) piece limit)
+
+-- a stream refuses no piece for want of memory
+pub not_for_memory : (m : StreamMap) (id : ℕ) (piece : ChunkPayloadData) (limit : ℕ)
+    → refusal_in m id piece limit ≢ Some errors.ErrNoMemory
+not_for_memory m id piece limit e =
+    false≢true (sym (refused_at_names (stream_at m id) piece limit) ∙ ap is_for_memory e)
+
+-- this stream refuses the piece
+abbrev refuses : Shown → ChunkPayloadData → Bool
+refuses a piece = is_some (refusal_in a.streams piece.stream_identifier piece a.receiver.max_receive_message_size)
+
+credit_and_room : (credit refused : Bool) → credit ≡ true → refused ≡ false → (credit && not refused) ≡ true
+credit_and_room credit refused e f = rw (e, f) refl
+
+found_takes : (there left : Bool) (a b : Shown) (piece : ChunkPayloadData)
+    → is_some (stream_at a.streams piece.stream_identifier) ≡ there
+    → generation_left a.streams ≡ left → stream_found a piece.stream_identifier ≡ (b, true)
+    → nat_lt 0 (credit_of b.receiver (bytes_waiting b.streams)) ≡ true → refuses b piece ≡ false
+    → (makes_stream a piece.stream_identifier || keeps_message a piece) ≡ true
+unfolding stream_found
+found_takes true left a b piece e f found credit free =
+    let step : stream_found a piece.stream_identifier ≡ (a, true) = rw e refl in
+    let same : a ≡ b = ap (λ (z : Shown × Bool). z.0) (sym step ∙ found) in
+    rw e (credit_and_room (nat_lt 0 (credit_of a.receiver (bytes_waiting a.streams))) (refuses a piece)
+    (subst (λ (z : Shown). nat_lt 0 (credit_of z.receiver (bytes_waiting z.streams)) ≡ true) (sym same) credit)
+    (subst (λ (z : Shown). refuses z piece ≡ false) (sym same) free))
+found_takes false true a b piece e f found credit free = rw (e, f) refl
+found_takes false false a b piece e f found credit free =
+    let step : stream_found a piece.stream_identifier ≡ (a, false) = rw (e, f) refl in
+    absurd (false≢true (ap (λ (z : Shown × Bool). z.1) (sym step ∙ found)))
+
+-- DATA that comes to a stream that was found and does not refuse it, with credit left
+pub taking_takes : (a b : Shown) (piece : ChunkPayloadData)
+    → (is_next_after a.receiver piece.tsn && is_whole piece) ≡ true
+    → stream_found (counted_data a) piece.stream_identifier ≡ (b, true)
+    → nat_lt 0 (credit_of b.receiver (bytes_waiting b.streams)) ≡ true
+    → refusal_in b.streams piece.stream_identifier piece b.receiver.max_receive_message_size ≡ None
+    → data_takes_memory a piece ≡ true
+taking_takes a b piece next found credit free =
+    let takes =
+    found_takes (is_some (stream_at a.streams piece.stream_identifier)) (generation_left a.streams) (counted_data a) b
+    piece refl refl found credit (ap is_some free) in
+    rw next takes
+
+-- the chunks of a packet
+
+pub first_takes : (header : CommonHeader) (c : Chunk) (cs : List Chunk) (a : Shown) (trigger : AckTrigger) (now : ℕ)
+    → chunk_takes_memory a header c ≡ true
+    → chunks_take_memory header (c ∷ cs) a trigger now ≡ true
+first_takes header c cs a trigger now takes =
+    or_left (chunk_takes_memory a header c) (takes_memory_after (on_chunk a header c trigger now)
+    (λ b next. chunks_take_memory header cs b next now)) takes
+
+pub later_takes : (header : CommonHeader) (c : Chunk) (cs : List Chunk) (a b : Shown)
+    (trigger next : AckTrigger) (now : ℕ)
+    → on_chunk a header c trigger now ≡ (b, flows.Next next) → chunks_take_memory header cs b next now ≡ true
+    → chunks_take_memory header (c ∷ cs) a trigger now ≡ true
+later_takes header c cs a b trigger next now e takes =
+    or_right (chunk_takes_memory a header c)
+    (takes_memory_after (on_chunk a header c trigger now) (λ b next. chunks_take_memory header cs b next now))
+    (rw e takes)
+
+pub fault_takes : (header : CommonHeader) (c : Chunk) (cs : List Chunk) (a b : Shown) (trigger : AckTrigger)
+    (fault : Error) (now : ℕ)
+    → on_chunk a header c trigger now ≡ (b, flows.Fault fault) → is_closed_state b.state ≡ false
+    → chunks_take_memory header (c ∷ cs) a trigger now ≡ true
+fault_takes header c cs a b trigger fault now e still =
+    or_right (chunk_takes_memory a header c)
+    (takes_memory_after (on_chunk a header c trigger now) (λ b next. chunks_take_memory header cs b next now))
+    (rw (e, still) refl)
+
+-- polling
+
+sent_pieces : (a : Shown) (count now : ℕ) (x : Sender × List ChunkPayloadData) → (with_sent_data a count now x).1 ≡ x.1
+sent_pieces a count now (sender, pieces) = refl
+
+sent_receiver : (a : Shown) (count now : ℕ) (x : Sender × List ChunkPayloadData)
+    → (with_sent_data a count now x).0.receiver ≡ a.receiver
+sent_receiver a count now (sender, pieces) = refl
+
+-- DATA that a poll gives is given
+pub pieces_are_given : (a b : Shown) (now : ℕ) (pieces : List ChunkPayloadData) → data_polled a now ≡ (b, pieces)
+    → nat_lt 0 (length pieces) ≡ true
+    → exchange_gives a now ≡ true
+unfolding data_polled
+pieces_are_given a b now pieces e some =
+    let same : (sent_new (after_resending a.sender) (resent_by a.sender) now).1 ≡ pieces =
+    sym (sent_pieces a (length (resent_by a.sender)) now (sent_new (after_resending a.sender) (resent_by a.sender) now))
+    ∙ ap (λ (z : Shown × List ChunkPayloadData). z.1) e in
+    or_left _ _ (subst (λ (z : List ChunkPayloadData). nat_lt 0 (length z) ≡ true) (sym same) some)
+
+-- an acknowledgement that is due behind the DATA was due before it
+pub ack_is_given : (a b : Shown) (now : ℕ) (pieces : List ChunkPayloadData) → data_polled a now ≡ (b, pieces)
+    → is_due b.receiver.ack_state ≡ true
+    → exchange_gives a now ≡ true
+unfolding data_polled
+ack_is_given a b now pieces e due =
+    let same : a.receiver ≡ b.receiver =
+    sym
+    (sent_receiver a (length (resent_by a.sender)) now (sent_new (after_resending a.sender) (resent_by a.sender) now))
+    ∙ ap (λ (z : Shown × List ChunkPayloadData). z.0.receiver) e in
+    or_right _ _ (subst (λ (z : Receiver). is_due z.ack_state ≡ true) (sym same) due)

@@ -1,0 +1,314 @@
+-- What a poll gives out is what its acts say.
+use Rattle.std.proofs.Common.{◌≡◌, refl, sym, ap, ◌∙◌, ⊎_elim, ℕ, zero, suc, ◌<◌, ◌+◌, ◌-◌, arith, Bool, true, false}
+use Rattle.std.proofs.Common.{if◌then◌else◌, List, [], ◌∷◌, ◌++◌, length, nat_lt, slice_get, slice_set, Some}
+use Rattle.std.proofs.lemmas.Bool.{cases_Bool, false≢true}
+use Rattle.std.proofs.lemmas.List.{append_assoc, append-nil}
+use Rattle.sctp_wire_types.specs.declared.chunk.ChunkPayloadData.{ChunkPayloadData}
+use Rattle.sctp_model.specs.Serial.{tsn}
+use Rattle.sctp_outbound_queue.specs.declared.message.InFlight.{InFlight}
+use Rattle.sctp_outbound_queue.specs.Waiting.{Waiting}
+use Rattle.sctp_outbound_queue.specs.Message.{counted_again}
+use Rattle.sctp_outbound_queue.specs.Outbound.{Outbound, next_tsn_of, pieces_waiting, sent_next, tsn_at}
+use Rattle.sctp_streams.specs.Streams.{StreamMap}
+use Rattle.sctp_outbound.specs.declared.sender.Sender.{Sender}
+use Rattle.sctp_outbound.specs.Sender.{after_resending, both_windows, can_send_next, chunk_of, first_chunk}
+use Rattle.sctp_outbound.specs.Sender.{first_counted, fits_windows, resends_alone, resent_by, resent_chunks}
+use Rattle.sctp_outbound.specs.Sender.{resent_pieces, sent_new, sent_one, sent_within, with_in_flight}
+use Rattle.sctp_assoc.specs.Acts.{Act, CanAll, History, Parts, done_all, all_data_given, first_chunk_said, parts}
+use Rattle.sctp_assoc.specs.Gather.{AckIsReadAgain, data_polled, with_sent_data}
+use Rattle.sctp_assoc.specs.Shown.{Shown}
+use Rattle.sctp_assoc.specs.Happened.{acks_given, acts_of_ack, acts_of_data_poll, acts_of_marks, acts_of_new}
+use Rattle.sctp_assoc.specs.Happened.{acts_of_resending, acts_of_sending, first_again, first_sent}
+use Rattle.sctp_assoc.proofs.ActsKeepOffsets.{Tied, can_append, done_append, given_append, sent_first}
+use Rattle.sctp_outbound.proofs.SenderSteps.{chunks_full, chunks_sent, chunks_skip, pieces_full, pieces_sent}
+use Rattle.sctp_outbound.proofs.SenderSteps.{pieces_skip}
+
+-- Acts can be done, lead from some parts to others, and give out this DATA.
+pub record Gives (xs : List Act) (p q : Parts) (given : List ChunkPayloadData) : Type 0 where
+  pub can : CanAll xs p
+  pub there : q ≡ done_all xs p
+  pub said : all_data_given xs p ≡ given
+
+pub gives_on : (xs ys : List Act) (p q r : Parts) (first second : List ChunkPayloadData) → Gives xs p q first
+    → Gives ys q r second → Gives (xs ++ ys) p r (first ++ second)
+gives_on xs ys p q r first second m n = record {
+  can = can_append xs ys p m.can (rw (← m.there) n.can);
+  there = rw (done_append xs ys p, ← m.there) n.there;
+  said = rw (given_append xs ys p, ← m.there, m.said, n.said) refl;
+}
+
+gives_none : (p : Parts) → Gives [] p p []
+gives_none p = record { can = tt; there = refl; said = refl }
+
+abbrev with_pieces : Parts → List InFlight → Parts
+with_pieces p pieces = record p { queue = (let q = p.queue in record q { in_flight = pieces }) }
+
+-- Pieces that go out again.
+
+place_tsn : (own base first index : ℕ) → first ≡ tsn own base → tsn own (base + index) ≡ tsn_at first index
+place_tsn own base first index e = rw e (omega arith)
+
+get_behind : {X : Type 0} (xs ys : List X) (x : X) → slice_get (xs ++ x ∷ ys) (length xs) ≡ Some x
+get_behind [] ys x = refl
+get_behind (z ∷ zs) ys x = get_behind zs ys x
+
+set_behind : {X : Type 0} (xs ys : List X) (x y : X) → slice_set (xs ++ x ∷ ys) (length xs) y ≡ xs ++ y ∷ ys
+set_behind [] ys x y = refl
+set_behind (z ∷ zs) ys x y = ap (λ (l : List _). z ∷ l) (set_behind zs ys x y)
+
+one_longer : {X : Type 0} (xs : List X) (x : X) → length (xs ++ x ∷ []) ≡ length xs + 1
+one_longer [] x = refl
+one_longer (z ∷ zs) x = let e = one_longer zs x in omega (arith, e)
+
+behind_more : {X : Type 0} (xs ys : List X) (x : X) → length xs < length (xs ++ x ∷ ys)
+behind_more [] ys x = omega arith
+behind_more (z ∷ zs) ys x = let e = behind_more zs ys x in omega (arith, e)
+
+again_one : (x : InFlight) (ps xs : List InFlight) (p : Parts) → p.queue.in_flight ≡ xs ++ x ∷ ps → Tied p
+    → Gives (Act.SentAgain (length xs) ∷ []) p (with_pieces p (xs ++ counted_again x ∷ ps))
+    (chunk_of x (tsn_at p.queue.first_tsn (length xs)) ∷ [])
+again_one x ps xs p e tied =
+    let held : slice_get p.queue.in_flight (length xs) ≡ Some x = rw e (get_behind xs ps x) in
+    let put : slice_set p.queue.in_flight (length xs) (counted_again x) ≡ xs ++ counted_again x ∷ ps =
+    rw e (set_behind xs ps x (counted_again x)) in
+    record {
+      can = (rw e (behind_more xs ps x), tt);
+      there = rw (held, put) refl;
+      said = rw (held, place_tsn p.history.own p.history.base p.queue.first_tsn (length xs) tied) refl;
+    }
+
+gives_same : (xs ys : List Act) (p q r : Parts) (c d : List ChunkPayloadData) → xs ≡ ys → q ≡ r → c ≡ d → Gives ys p r d
+    → Gives xs p q c
+gives_same xs ys p q r c d e f g m = rw (e, f, g) m
+
+acts_skip : (p : InFlight) (ps : List InFlight) (index room : ℕ) → p.retransmit ≡ false
+    → acts_of_resending index room (p ∷ ps) ≡ acts_of_resending (index + 1) room ps
+acts_skip p ps index room unmarked = rw unmarked
+
+acts_full : (p : InFlight) (ps : List InFlight) (index room : ℕ) → p.retransmit ≡ true
+    → nat_lt room (length p.user_data) ≡ true → acts_of_resending index room (p ∷ ps) ≡ []
+acts_full p ps index room marked full = rw (marked, full)
+
+acts_sent : (p : InFlight) (ps : List InFlight) (index room : ℕ) → p.retransmit ≡ true
+    → nat_lt room (length p.user_data) ≡ false
+    → acts_of_resending index room (p ∷ ps) ≡ Act.SentAgain index
+    ∷ acts_of_resending (index + 1) (room - length p.user_data) ps
+acts_sent p ps index room marked fits = rw (marked, fits)
+
+-- the pieces behind one more
+shifted : (c : InFlight) (xs rest : List InFlight) (acts : ℕ → List Act)
+    (chunks : ℕ → List ChunkPayloadData) (p : Parts)
+    → Gives (acts (length (xs ++ c ∷ []))) p (with_pieces p ((xs ++ c ∷ []) ++ rest)) (chunks (length (xs ++ c ∷ [])))
+    → Gives (acts (length xs + 1)) p (with_pieces p (xs ++ c ∷ rest)) (chunks (length xs + 1))
+shifted c xs rest acts chunks p m =
+    gives_same _ _ p _ _ _ _ (ap acts (sym (one_longer xs c)))
+    (ap (λ (z : List InFlight). with_pieces p z) (sym (append_assoc xs (c ∷ []) rest)))
+    (ap chunks (sym (one_longer xs c))) m
+
+pub resending : (ps xs : List InFlight) (room : ℕ) (p : Parts) → p.queue.in_flight ≡ xs ++ ps → Tied p
+    → Gives (acts_of_resending (length xs) room ps) p (with_pieces p (xs ++ resent_pieces room ps))
+    (resent_chunks p.queue.first_tsn (length xs) room ps)
+resending [] xs room p e tied = record { can = tt; there = rw (← e) refl; said = refl }
+resending (x ∷ ps) xs room p e tied = ⊎_elim
+    (λ (marked : x.retransmit ≡ true). ⊎_elim
+    (λ (full : nat_lt room (length x.user_data) ≡ true).
+    gives_same _ _ p _ _ _ _ (acts_full x ps (length xs) room marked full)
+    (ap (λ (z : List InFlight). with_pieces p (xs ++ z)) (pieces_full x ps room marked full))
+    (chunks_full x ps p.queue.first_tsn (length xs) room marked full)
+    (record { can = tt; there = rw (← e) refl; said = refl }))
+    (λ (fits : nat_lt room (length x.user_data) ≡ false).
+    let c : InFlight = counted_again x in
+    let left : ℕ = room - length x.user_data in
+    let q : Parts = with_pieces p (xs ++ c ∷ ps) in
+    let rest = resending ps (xs ++ c ∷ []) left q (sym (append_assoc xs (c ∷ []) ps)) tied in
+    let moved =
+    shifted c xs (resent_pieces left ps) (λ (n : ℕ). acts_of_resending n left ps)
+    (λ (n : ℕ). resent_chunks p.queue.first_tsn n left ps) q rest in
+    gives_same _ _ p _ _ _ _ (acts_sent x ps (length xs) room marked fits)
+    (ap (λ (z : List InFlight). with_pieces p (xs ++ z)) (pieces_sent x ps room marked fits))
+    (chunks_sent x ps p.queue.first_tsn (length xs) room marked fits)
+    (gives_on (Act.SentAgain (length xs) ∷ []) (acts_of_resending (length xs + 1) left ps) p q _ _ _
+    (again_one x ps xs p e tied) moved))
+    (cases_Bool (nat_lt room (length x.user_data))))
+    (λ (unmarked : x.retransmit ≡ false).
+    let rest = resending ps (xs ++ x ∷ []) room p (e ∙ sym (append_assoc xs (x ∷ []) ps)) tied in
+    let moved =
+    shifted x xs (resent_pieces room ps) (λ (n : ℕ). acts_of_resending n room ps)
+    (λ (n : ℕ). resent_chunks p.queue.first_tsn n room ps) p rest in
+    gives_same _ _ p _ _ _ _ (acts_skip x ps (length xs) room unmarked)
+    (ap (λ (z : List InFlight). with_pieces p (xs ++ z)) (pieces_skip x ps room unmarked))
+    (chunks_skip x ps p.queue.first_tsn (length xs) room unmarked) moved)
+    (cases_Bool x.retransmit)
+
+first_again_gives : (ps : List InFlight) (p : Parts) → p.queue.in_flight ≡ ps → Tied p
+    → Gives (first_again ps) p (with_pieces p (first_counted ps)) (first_chunk p.queue.first_tsn ps)
+first_again_gives [] p e tied = record { can = tt; there = rw (← e) refl; said = refl }
+first_again_gives (x ∷ ps) p e tied = again_one x ps [] p e tied
+
+-- the parts of a sender beside some streams
+abbrev pub sending : Sender → StreamMap → History → Parts
+sending s m h = record { queue = s.queue; streams = m; history = h }
+
+marks_give_if : (alone : Bool) (s : Sender) (m : StreamMap) (h : History) → s.queue.first_tsn ≡ tsn h.own h.base
+    → Gives (if alone then first_again s.queue.in_flight else acts_of_resending 0 (both_windows s) s.queue.in_flight)
+    (sending s m h)
+    (sending (with_in_flight s
+    (if alone then first_counted s.queue.in_flight else resent_pieces (both_windows s) s.queue.in_flight)) m h)
+    (if alone then first_chunk s.queue.first_tsn s.queue.in_flight else
+    resent_chunks s.queue.first_tsn 0 (both_windows s) s.queue.in_flight)
+marks_give_if true s m h tied = first_again_gives s.queue.in_flight (sending s m h) refl tied
+marks_give_if false s m h tied = resending s.queue.in_flight [] (both_windows s) (sending s m h) refl tied
+
+pub marks_give : (s : Sender) (m : StreamMap) (h : History) → s.queue.first_tsn ≡ tsn h.own h.base
+    → Gives (acts_of_marks s) (sending s m h) (sending (after_resending s) m h) (resent_by s)
+marks_give s m h tied = marks_give_if (resends_alone s) s m h tied
+
+-- Pieces that go out for the first time.
+
+pub one_queue : (ms : List Waiting) (s : Sender) (out : List ChunkPayloadData) (now : ℕ) → s.queue.pending ≡ ms
+    → (sent_one ms s out now).0.queue ≡ sent_next s.queue now
+unfolding sent_one
+one_queue [] s out now e = rw e refl
+one_queue (m ∷ ms) s out now e = refl
+
+one_said : (ms : List Waiting) (s : Sender) (out : List ChunkPayloadData) (now : ℕ)
+    → (sent_one ms s out now).1 ≡ out ++ first_chunk_said ms (next_tsn_of s.queue)
+unfolding sent_one
+one_said [] s out now = sym (append-nil out)
+one_said (m ∷ ms) s out now = refl
+
+one_tied : (s : Sender) (out : List ChunkPayloadData) (now : ℕ) (h : History) → s.queue.first_tsn ≡ tsn h.own h.base
+    → (sent_one s.queue.pending s out now).0.queue.first_tsn ≡ tsn h.own h.base
+one_tied s out now h tied =
+    ap (λ (q : Outbound). q.first_tsn) (one_queue s.queue.pending s out now refl)
+    ∙ sent_first s.queue.pending s.queue now ∙ tied
+
+one_gives : (ms : List Waiting) (s : Sender) (out : List ChunkPayloadData) (now : ℕ) (m : StreamMap) (h : History)
+    → s.queue.pending ≡ ms
+    → s.queue.first_tsn ≡ tsn h.own h.base
+    → Gives (first_sent ms now) (sending s m h) (sending (sent_one ms s out now).0 m h)
+    (first_chunk_said ms (next_tsn_of s.queue))
+unfolding sent_one
+one_gives [] s out now m h e tied = gives_none (sending s m h)
+one_gives (w ∷ ws) s out now m h e tied = record {
+  can = (rw e refl, tt);
+  there = refl;
+  said = rw (e, place_tsn h.own h.base s.queue.first_tsn (length s.queue.in_flight) tied) refl;
+}
+
+is_pending : (ms : List Waiting) (s : Sender) (now : ℕ) → fits_windows s (slice_get ms 0) ≡ true
+    → first_sent ms now ≡ Act.Sent now ∷ []
+is_pending [] s now fits = absurd (false≢true fits)
+is_pending (m ∷ ms) s now fits = refl
+
+-- DATA behind other DATA that a poll gives out
+pub record Adds (xs : List Act) (p q : Parts) (before after : List ChunkPayloadData) : Type 0 where
+  pub given : List ChunkPayloadData
+  pub gives : Gives xs p q given
+  pub all : after ≡ before ++ given
+
+adds_none : (p : Parts) (out : List ChunkPayloadData) → Adds [] p p out out
+adds_none p out = record { given = []; gives = gives_none p; all = sym (append-nil out) }
+
+adds_on : (xs ys : List Act) (p q r : Parts) (a b c : List ChunkPayloadData) → Adds xs p q a b → Adds ys q r b c
+    → Adds (xs ++ ys) p r a c
+adds_on xs ys p q r a b c m n = record {
+  given = m.given ++ n.given;
+  gives = gives_on xs ys p q r m.given n.given m.gives n.gives;
+  all = n.all ∙ ap (λ (z : List ChunkPayloadData). z ++ n.given) m.all ∙ append_assoc a m.given n.given;
+}
+
+adds_same : (xs ys : List Act) (p q : Parts) (a b : List ChunkPayloadData) → xs ≡ ys → Adds xs p q a b → Adds ys p q a b
+adds_same xs ys p q a b e m = rw (← e) m
+
+one_adds : (s : Sender) (out : List ChunkPayloadData) (now : ℕ) (m : StreamMap) (h : History)
+    → s.queue.first_tsn ≡ tsn h.own h.base
+    → Adds (first_sent s.queue.pending now) (sending s m h) (sending (sent_one s.queue.pending s out now).0 m h) out
+    (sent_one s.queue.pending s out now).1
+one_adds s out now m h tied = record {
+  given = first_chunk_said s.queue.pending (next_tsn_of s.queue);
+  gives = one_gives s.queue.pending s out now m h refl tied;
+  all = one_said s.queue.pending s out now;
+}
+
+sending_adds_if : (c : Bool) (n : ℕ) (s : Sender) (out : List ChunkPayloadData) (now : ℕ) (m : StreamMap) (h : History)
+    → can_send_next s ≡ c
+    → s.queue.first_tsn ≡ tsn h.own h.base
+    → ((t : Sender) (more : List ChunkPayloadData) → t.queue.first_tsn ≡ tsn h.own h.base
+    → Adds (acts_of_sending n t more now) (sending t m h) (sending (sent_within n t more now).0 m h) more
+    (sent_within n t more now).1)
+    → Adds (if c then (let sent =
+    sent_one s.queue.pending s out now in Act.Sent now ∷ acts_of_sending n sent.0 sent.1 now) else []) (sending s m h)
+    (sending (if c then (let sent = sent_one s.queue.pending s out now in sent_within n sent.0 sent.1 now) else
+    (s, out)).0 m h) out
+    (if c then (let sent = sent_one s.queue.pending s out now in sent_within n sent.0 sent.1 now) else (s, out)).1
+sending_adds_if false n s out now m h e tied rest = adds_none (sending s m h) out
+sending_adds_if true n s out now m h e tied rest =
+    let sent = sent_one s.queue.pending s out now in
+    let one =
+    adds_same (first_sent s.queue.pending now) (Act.Sent now ∷ []) _ _ _ _ (is_pending s.queue.pending s now e)
+    (one_adds s out now m h tied) in
+    adds_on (Act.Sent now ∷ []) (acts_of_sending n sent.0 sent.1 now) (sending s m h) (sending sent.0 m h) _
+    out sent.1 _ one
+    (rest sent.0 sent.1 (one_tied s out now h tied))
+
+pub sending_adds : (n : ℕ) (s : Sender) (out : List ChunkPayloadData) (now : ℕ) (m : StreamMap) (h : History)
+    → s.queue.first_tsn ≡ tsn h.own h.base
+    → Adds (acts_of_sending n s out now) (sending s m h) (sending (sent_within n s out now).0 m h) out
+    (sent_within n s out now).1
+sending_adds zero s out now m h tied = adds_none (sending s m h) out
+sending_adds (suc n) s out now m h tied =
+    sending_adds_if (can_send_next s) n s out now m h refl tied (λ t more bound. sending_adds n t more now m h bound)
+
+new_adds_if : (c : Bool) (s : Sender) (out : List ChunkPayloadData) (now : ℕ) (m : StreamMap) (h : History)
+    → s.queue.first_tsn ≡ tsn h.own h.base
+    → Adds (if c then first_sent s.queue.pending now else acts_of_sending (pieces_waiting s.queue.pending) s out now)
+    (sending s m h)
+    (sending (if c then sent_one s.queue.pending s out now else
+    sent_within (pieces_waiting s.queue.pending) s out now).0 m h) out
+    (if c then sent_one s.queue.pending s out now else sent_within (pieces_waiting s.queue.pending) s out now).1
+new_adds_if true s out now m h tied = one_adds s out now m h tied
+new_adds_if false s out now m h tied = sending_adds (pieces_waiting s.queue.pending) s out now m h tied
+
+-- All DATA of a poll.
+
+sent_data_parts : (a : Shown) (count now : ℕ) (x : Sender × List ChunkPayloadData) (h : History)
+    → parts (with_sent_data a count now x).0 h ≡ sending x.0 a.streams h
+sent_data_parts a count now (s, pieces) h = refl
+
+pub sent_data_said : (a : Shown) (count now : ℕ) (x : Sender × List ChunkPayloadData)
+    → (with_sent_data a count now x).1 ≡ x.1
+sent_data_said a count now (s, pieces) = refl
+
+-- what a poll's DATA leaves as it is
+pub record IsSentBeside (a b : Shown) : Type 0 where
+  pub receiver : b.receiver ≡ a.receiver
+  pub handshake : b.handshake ≡ a.handshake
+  pub acts : acts_of_ack b ≡ acts_of_ack a
+  pub acks : acks_given b ≡ acks_given a
+  pub again : AckIsReadAgain b → AckIsReadAgain a
+
+sent_data_stays : (a : Shown) (count now : ℕ) (x : Sender × List ChunkPayloadData)
+    → IsSentBeside a (with_sent_data a count now x).0
+sent_data_stays a count now (s, pieces) =
+    record { receiver = refl; handshake = refl; acts = refl; acks = refl; again = λ x. x }
+
+pub data_poll_stays : (a : Shown) (now : ℕ) → IsSentBeside a (data_polled a now).0
+unfolding data_polled
+data_poll_stays a now =
+    sent_data_stays a (length (resent_by a.sender)) now (sent_new (after_resending a.sender) (resent_by a.sender) now)
+
+pub data_poll_adds : (a : Shown) (now : ℕ) (h : History) → a.sender.queue.first_tsn ≡ tsn h.own h.base
+    → Adds (acts_of_data_poll a now) (parts a h) (parts (data_polled a now).0 h) [] (data_polled a now).1
+unfolding data_polled
+data_poll_adds a now h tied =
+    let s : Sender = after_resending a.sender in
+    let x = sent_new s (resent_by a.sender) now in
+    let again : Adds (acts_of_marks a.sender) (parts a h) (sending s a.streams h) [] (resent_by a.sender) =
+    record { given = resent_by a.sender; gives = marks_give a.sender a.streams h tied; all = refl } in
+    let fresh = new_adds_if _ s (resent_by a.sender) now a.streams h tied in
+    let both =
+    adds_on (acts_of_marks a.sender) (acts_of_new s (resent_by a.sender) now) (parts a h) (sending s a.streams h)
+    (sending x.0 a.streams h) [] _ x.1 again fresh in
+    rw (sent_data_parts a (length (resent_by a.sender)) now x h, sent_data_said a (length (resent_by a.sender)) now x)
+    both

@@ -1,0 +1,155 @@
+-- What a poll for packets gives, and in which order (RFC 4960 sections 6.1, 6.2 and 6.10).
+use Rattle.std.specs.Prelude.{◌≡◌, ℕ, Bool, true, false, List, [], ◌∷◌, ◌++◌, ◌&&◌, ◌||◌, if◌then◌else◌, length, nat_lt}
+use Rattle.std.specs.Prelude.{Option, Some, None, Result, Ok, Err}
+use Rattle.std.specs.List.{AllByRecursion}
+use Rattle.sctp_wire_types.specs.declared.chunk.Chunk.{Chunk}
+use Rattle.sctp_wire_types.specs.declared.chunk.Chunk.TheVariants as chunks
+use Rattle.sctp_wire_types.specs.declared.chunk.ChunkPayloadData.{ChunkPayloadData}
+use Rattle.sctp_wire_types.specs.declared.error.Fault.{Fault}
+use Rattle.sctp_wire_types.specs.declared.packet.CommonHeader.{CommonHeader}
+use Rattle.sctp_wire.specs.declared.packet.Packet.{Packet}
+use Rattle.sctp_wire.specs.declared.transmit.Payload.{Payload}
+use Rattle.sctp_wire.specs.declared.transmit.Payload.TheVariants as payloads
+use Rattle.sctp_wire.specs.declared.transmit.Transmit.{Transmit}
+use Rattle.sctp_wire.specs.Packets.{packet_at, packet_is_plain, written}
+use Rattle.sctp_parts.specs.declared.state.AckState.{AckState}
+use Rattle.sctp_parts.specs.declared.state.AckState.TheVariants as acks
+use Rattle.sctp_parts.specs.declared.timer.Timer.TheVariants as names
+use Rattle.sctp_parts.specs.Timers.{Timers, restarted_if_stale}
+use Rattle.sctp_streams.specs.Streams.{bytes_waiting}
+use Rattle.sctp_inbound.specs.Handshake.{header_of}
+use Rattle.sctp_inbound.specs.Receiver.{acknowledged, sack_of}
+use Rattle.sctp_outbound.specs.declared.sender.Sender.{Sender}
+use Rattle.sctp_outbound.specs.Sender.{after_resending, gives_data, resent_by, sent_new}
+use Rattle.sctp_assoc.specs.declared.control.ControlPacket.{ControlPacket}
+use Rattle.sctp_assoc.specs.Calls.{is_established}
+use Rattle.sctp_assoc.specs.Shown.{Shown}
+
+-- a packet of one chunk
+abbrev pub packet_with : CommonHeader → Chunk → Packet
+packet_with header chunk = record { common_header = header; chunks = chunk ∷ [] }
+
+abbrev pub spelled : Result (List ℕ) Fault → List (List ℕ)
+spelled (Ok bytes) = bytes ∷ []
+spelled (Err fault) = []
+
+-- the bytes of a packet of one chunk; none where the chunk is longer than its length field can say
+unfoldable pub packet_bytes : CommonHeader → Chunk → List (List ℕ)
+packet_bytes header chunk = spelled (written (packet_with header chunk))
+
+-- each DATA chunk in a packet of its own
+abbrev pub data_packets : CommonHeader → List ChunkPayloadData → List (List ℕ)
+data_packets header [] = []
+data_packets header (c ∷ cs) = packet_bytes header (chunks.Data c) ++ data_packets header cs
+
+-- the retransmission timer runs where DATA was sent for the first time (RFC 4960 section 6.3.2)
+abbrev pub t3_after_sending : Bool → ℕ → ℕ → Timers → Timers
+t3_after_sending sent now rto t = if sent then restarted_if_stale names.T3RTX now rto t else t
+
+abbrev pub with_sent_data : Shown → ℕ → ℕ → Sender × List ChunkPayloadData → Shown × List ChunkPayloadData
+with_sent_data a count now (sender, pieces) = (
+  record a {
+    sender = sender;
+    timers = t3_after_sending (nat_lt count (length pieces)) now a.estimate.rto a.timers;
+  },
+  pieces,
+)
+
+-- the DATA of a poll, in order: that which the retransmission timer marked, and then new DATA
+unfoldable pub data_polled : Shown → ℕ → Shown × List ChunkPayloadData
+data_polled a now =
+    with_sent_data a (length (resent_by a.sender)) now (sent_new (after_resending a.sender) (resent_by a.sender) now)
+
+abbrev pub is_due : AckState → Bool
+is_due acks.Idle = false
+is_due acks.Immediate = true
+is_due acks.Delay = false
+
+-- the acknowledgement of what came
+abbrev pub sack_chunk : Shown → Chunk
+sack_chunk a = chunks.SelectiveAck (sack_of a.receiver (bytes_waiting a.streams))
+
+abbrev pub sack_packet : Shown → List (List ℕ)
+sack_packet a = packet_bytes (header_of a.handshake) (sack_chunk a)
+
+-- the acknowledgement, where it is due
+unfoldable pub ack_polled : Shown → Shown × List (List ℕ)
+ack_polled a =
+    if is_due a.receiver.ack_state then (record a { receiver = acknowledged a.receiver }, sack_packet a) else (a, [])
+
+abbrev pub after_both : List (List ℕ) → Shown × List (List ℕ) → Shown × List (List ℕ)
+after_both packets (a, more) = (a, packets ++ more)
+
+abbrev pub ack_after : Shown × List ChunkPayloadData → Shown × List (List ℕ)
+ack_after (a, pieces) = after_both (data_packets (header_of a.handshake) pieces) (ack_polled a)
+
+-- the packets that wait to go out before any DATA
+abbrev pub control_packets : List ControlPacket → List (List ℕ)
+control_packets [] = []
+control_packets (c ∷ cs) = packet_bytes c.header c.chunk ++ control_packets cs
+
+abbrev pub without_control : Shown → Shown
+without_control a = record a { control = [] }
+
+-- in Established DATA, and then the acknowledgement
+unfoldable pub exchange_polled : Shown → ℕ → Shown × List (List ℕ)
+exchange_polled a now = if is_established a.state then ack_after (data_polled a now) else (a, [])
+
+-- what a poll leaves, and the packets that it gives: those that wait, and in Established DATA and then the
+-- acknowledgement
+abbrev pub polled : Shown → ℕ → Shown × List (List ℕ)
+polled a now = after_both (control_packets a.control) (exchange_polled (without_control a) now)
+
+-- the exchange of a poll has something to give: DATA goes out, or an acknowledgement is due
+abbrev pub exchange_gives : Shown → ℕ → Bool
+exchange_gives a now = gives_data a.sender now || is_due a.receiver.ack_state
+
+-- a poll has something to give: a packet waits, or in Established its exchange does
+abbrev pub has_something_to_give : Shown → ℕ → Bool
+has_something_to_give a now = nat_lt 0 (length a.control) || (is_established a.state && exchange_gives a now)
+
+abbrev pub bytes_within : Payload → List (List ℕ)
+bytes_within (payloads.RawEncode packets) = packets.items
+bytes_within (payloads.PartialDecode datagram) = []
+
+-- the packets that are handed out
+abbrev pub packets_of : Option Transmit → List (List ℕ)
+packets_of None = []
+packets_of (Some t) = bytes_within t.payload
+
+-- packets are handed out with the moment of the poll and the association's own addresses, and without a congestion mark
+pub record IsAddressed (a : Shown) (now : ℕ) (t : Transmit) : Type 0 where
+  pub moment : t.now ≡ now
+  pub remote : t.remote ≡ a.remote_addr
+  pub local : t.local_ip ≡ a.local_ip
+  pub unmarked : t.ecn ≡ None
+
+-- a packet of one chunk, where it is spelled, is read as that packet again
+abbrev pub IsReadAgain : CommonHeader → Chunk → Type 0
+IsReadAgain header chunk =
+    (bytes : List ℕ) → packet_bytes header chunk ≡ bytes ∷ [] → packet_at bytes ≡ Ok (packet_with header chunk)
+
+abbrev pub AreReadAgain : CommonHeader → List ChunkPayloadData → Type 0
+AreReadAgain header pieces = AllByRecursion (λ (c : ChunkPayloadData). IsReadAgain header (chunks.Data c)) pieces
+
+abbrev pub AckIsReadAgain : Shown → Type 0
+AckIsReadAgain a = is_due a.receiver.ack_state ≡ true → IsReadAgain (header_of a.handshake) (sack_chunk a)
+
+-- one that waits is, where nothing in it is kept under `Other` whose type has a variant of its own
+abbrev pub ControlIsReadAgain : ControlPacket → Type 0
+ControlIsReadAgain c = packet_is_plain (packet_with c.header c.chunk) ≡ true → IsReadAgain c.header c.chunk
+
+-- nothing that waits to go out is kept so
+abbrev pub WaitPlainly : Shown → Type 0
+WaitPlainly a = AllByRecursion (λ (c : ControlPacket). packet_is_plain (packet_with c.header c.chunk) ≡ true) a.control
+
+abbrev pub AreControlReadAgain : List ControlPacket → Type 0
+AreControlReadAgain cs = AllByRecursion ControlIsReadAgain cs
+
+-- each packet of DATA, and of the acknowledgement behind it, is
+abbrev pub ExchangeIsReadAgain : Shown → ℕ → Type 0
+ExchangeIsReadAgain a now =
+    AreReadAgain (header_of a.handshake) (data_polled a now).1 × AckIsReadAgain (data_polled a now).0
+
+abbrev pub PollIsReadAgain : Shown → ℕ → Type 0
+PollIsReadAgain a now = is_established a.state ≡ true → ExchangeIsReadAgain a now

@@ -1,0 +1,465 @@
+use Rattle.std.proofs.Common.{◌≡◌, ℕ, zero, suc, ◌+◌, ◌-◌, ◌<◌, ◌≤◌, Bool, true, false, ◌&&◌, not, is_some, nat_lt}
+use Rattle.std.proofs.Common.{List, [], ◌∷◌, ◌++◌, Option, Some, None, Result, Ok, Err, length, take, drop, set}
+use Rattle.std.proofs.Common.{slice_get, refl, ap, sym, subst, ◌∙◌, ⊎_elim, append_assoc, arith}
+use Rattle.std.proofs.lemmas.List.{length-append, length_push, take_more, take_more_set, drop_more, drop_all}
+use Rattle.std.proofs.lemmas.List.{drop-set-lt, length-drop, take-append-drop, append-nil, length-set}
+use Rattle.std.proofs.lemmas.Option.{get_or_from_slice_get, slice_get_within}
+use Rattle.std.proofs.lemmas.Bool.{and_parts, cases_Bool, lt-ltb, ltb-true, not-true}
+use Rattle.std.proofs.lemmas.Bool.Decides.{nat_tests}
+use Rattle.sctp_wire_types.specs.declared.chunk.ChunkPayloadData.{ChunkPayloadData}
+use Rattle.sctp_parts.specs.Estimate.{Estimate}
+use Rattle.std.specs.Prelude.{◌==◌, OnErr}
+use Rattle.std.proofs.lemmas.List.Sums.{sum_by-cons}
+use Rattle.sctp_outbound_queue.specs.declared.message.InFlight.{InFlight}
+use Rattle.sctp_outbound_queue.specs.Waiting.{Waiting}
+use Rattle.sctp_outbound_queue.specs.Message.{counted_again, piece_count, without_piece}
+use Rattle.sctp_outbound_queue.specs.Outbound.{tsn_at, pieces_waiting, left_behind, after_piece}
+use Rattle.sctp_streams.specs.Streams.{StreamMap}
+use Rattle.sctp_outbound.specs.declared.sender.Sender.{Sender}
+use Rattle.sctp_outbound.specs.Sender.{after_first, after_resending, acknowledged, with_in_flight, resent_pieces}
+use Rattle.sctp_outbound.specs.Sender.{resent_chunks, tried_again, chunk_of, fits_windows, can_send_next, gives_data}
+use Rattle.sctp_outbound.specs.Sender.{goes_again, resends, resent_by, sends_new, sent_new, sent_one, sent_within}
+
+pub acknowledge_more : (n i now : ℕ) (all : Sender × Estimate × StreamMap) → i < n
+    → acknowledged (n - (i + 1)) now (after_first now all) ≡ acknowledged (n - i) now all
+acknowledge_more n i now all below =
+    let e : n - i ≡ suc (n - (i + 1)) = omega arith in
+    rw e
+
+pub acknowledge_end : (n i now : ℕ) (all : Sender × Estimate × StreamMap) → n ≤ i → acknowledged (n - i) now all ≡ all
+acknowledge_end n i now all above =
+    let e : n - i ≡ 0 = omega arith in
+    rw e
+
+-- pieces that wait
+
+false_from_true : false ≡ true → ⊥
+false_from_true e = cc
+
+left_pieces : (m : Waiting) (ms : List Waiting) → pieces_waiting (m ∷ ms) ≡ suc (pieces_waiting (left_behind m ms))
+left_pieces m ms =
+    let all = sum_by-cons piece_count m ms in
+    ⊎_elim (
+    λ (none : (length m.rest == 0) ≡ true).
+    rw none (grind (arith, nat_tests, all, none))
+    ) (
+    λ (more : (length m.rest == 0) ≡ false).
+    let left = sum_by-cons piece_count (without_piece m) ms in
+    let rest = length-drop 1 m.rest in
+    rw more (grind (arith, nat_tests, all, left, rest, more))
+    ) (cases_Bool (length m.rest == 0))
+
+pub one_piece_less : (s : Sender) (ms : List Waiting) → fits_windows s (slice_get ms 0) ≡ true
+    → pieces_waiting ms ≡ suc (pieces_waiting (after_piece ms))
+one_piece_less s [] fits = absurd (false_from_true fits)
+one_piece_less s (m ∷ ms) fits = left_pieces m ms
+
+within_one : (n k : ℕ) (s s2 : Sender) (out out2 : List ChunkPayloadData) (now : ℕ) → n ≡ suc k → can_send_next s ≡ true
+    → sent_one s.queue.pending s out now ≡ (s2, out2) → sent_within k s2 out2 now ≡ sent_within n s out now
+within_one n k s s2 out out2 now less fits sent =
+    rw (less, fits) (ap (λ (z : Sender × List ChunkPayloadData). sent_within k z.0 z.1 now) (sym sent))
+
+pub within_step : (s s2 : Sender) (out out2 : List ChunkPayloadData) (now : ℕ) → can_send_next s ≡ true
+    → sent_one s.queue.pending s out now ≡ (s2, out2) → s2.queue.pending ≡ after_piece s.queue.pending
+    → sent_within (pieces_waiting s2.queue.pending) s2 out2 now ≡ sent_within (pieces_waiting s.queue.pending) s out now
+within_step s s2 out out2 now fits sent left =
+    within_one (pieces_waiting s.queue.pending) (pieces_waiting s2.queue.pending) s s2 out out2 now
+    (one_piece_less s s.queue.pending fits ∙ ap (λ ms. suc (pieces_waiting ms)) (sym left)) fits sent
+
+pub within_end : (n : ℕ) (s : Sender) (out : List ChunkPayloadData) (now : ℕ) → can_send_next s ≡ false
+    → sent_within n s out now ≡ (s, out)
+within_end zero s out now full = refl
+within_end (suc n) s out now full = rw full
+
+-- what holds anyway holds where a call fails
+pub on_err : {T E P : Type 0} → (r : Result T E) → P → OnErr r P
+on_err (Ok value) h = tt
+on_err (Err error) h = h
+
+-- how much is sent
+
+more_by_one : (out : List ChunkPayloadData) (chunk : ChunkPayloadData) → length (out ++ chunk ∷ []) ≡ length out + 1
+more_by_one out chunk = length-append out (chunk ∷ [])
+
+one_more_sent : (ms : List Waiting) (s : Sender) (out : List ChunkPayloadData) (now : ℕ)
+    → is_some (slice_get ms 0) ≡ true
+    → length (sent_one ms s out now).1 ≡ length out + 1
+unfolding sent_one
+one_more_sent [] s out now waits = absurd (false_from_true waits)
+one_more_sent (m ∷ ms) s out now waits = more_by_one out _
+
+one_grows : (ms : List Waiting) (s : Sender) (out : List ChunkPayloadData) (now : ℕ)
+    → length out ≤ length (sent_one ms s out now).1
+unfolding sent_one
+one_grows [] s out now = omega arith
+one_grows (m ∷ ms) s out now = let more = one_more_sent (m ∷ ms) s out now refl in omega (arith, more)
+
+within_grows : (n : ℕ) (s : Sender) (out : List ChunkPayloadData) (now : ℕ)
+    → length out ≤ length (sent_within n s out now).1
+within_grows zero s out now = omega arith
+within_grows (suc n) s out now =
+    let sent = sent_one s.queue.pending s out now in
+    let one = one_grows s.queue.pending s out now in
+    let rest = within_grows n sent.0 sent.1 now in
+    ⊎_elim
+    (λ (fits : can_send_next s ≡ true). rw fits (omega (arith, one, rest)))
+    (λ (full : can_send_next s ≡ false). rw full (omega arith))
+    (cases_Bool (can_send_next s))
+
+fits_some : (s : Sender) (o : Option Waiting) → fits_windows s o ≡ true → is_some o ≡ true
+fits_some s None fits = absurd (false_from_true fits)
+fits_some s (Some m) fits = refl
+
+within_sends_of : (n k : ℕ) (s : Sender) (out : List ChunkPayloadData) (now : ℕ) → n ≡ suc k → can_send_next s ≡ true
+    → length out < length (sent_within n s out now).1
+within_sends_of n k s out now less fits =
+    let sent = sent_one s.queue.pending s out now in
+    let one = one_more_sent s.queue.pending s out now (fits_some s (slice_get s.queue.pending 0) fits) in
+    let rest = within_grows k sent.0 sent.1 now in
+    rw (less, fits) (omega (arith, one, rest))
+
+-- where the next piece fits, some is sent
+pub within_sends : (s : Sender) (out : List ChunkPayloadData) (now : ℕ) → can_send_next s ≡ true
+    → length out < length (sent_within (pieces_waiting s.queue.pending) s out now).1
+within_sends s out now fits =
+    within_sends_of (pieces_waiting s.queue.pending) (pieces_waiting (after_piece s.queue.pending)) s out now
+    (one_piece_less s s.queue.pending fits) fits
+
+-- with nothing in flight the piece that probes the windows is sent
+pub probe_sends : (s : Sender) (out : List ChunkPayloadData) (now : ℕ) → (length s.queue.in_flight == 0) ≡ true
+    → can_send_next s ≡ false
+    → is_some (slice_get s.queue.pending 0) ≡ true → sends_new s out now ≡ true
+probe_sends s out now none full waits =
+    let one = one_more_sent s.queue.pending s out now waits in
+    rw (none, full) (lt-ltb _ _ (omega (arith, one)))
+
+pub new_grows : (s : Sender) (out : List ChunkPayloadData) (now : ℕ) → length out ≤ length (sent_new s out now).1
+new_grows s out now =
+    ⊎_elim
+    (λ (probes : (length s.queue.in_flight == 0 && not (can_send_next s)) ≡ true).
+    rw probes (one_grows s.queue.pending s out now))
+    (λ (runs : (length s.queue.in_flight == 0 && not (can_send_next s)) ≡ false).
+    rw runs (within_grows (pieces_waiting s.queue.pending) s out now))
+    (cases_Bool (length s.queue.in_flight == 0 && not (can_send_next s)))
+
+-- pieces in flight
+
+drop_get : (xs : List InFlight) (i : ℕ) (p : InFlight) → slice_get xs i ≡ Some p → drop i xs ≡ p ∷ drop (i + 1) xs
+drop_get xs i p e =
+    let same = get_or_from_slice_get xs i p p e in
+    rw (drop_more xs i p (slice_get_within xs i p e), same)
+
+take_get : (xs : List InFlight) (i : ℕ) (p : InFlight) → slice_get xs i ≡ Some p → take (i + 1) xs ≡ take i xs ++ p ∷ []
+take_get xs i p e =
+    let same = get_or_from_slice_get xs i p p e in
+    rw (take_more xs i p (slice_get_within xs i p e), same)
+
+-- what is resent where the first piece in flight is not marked, does not fit, or is sent again: of the pieces that
+-- stay, and of the DATA
+
+pub pieces_skip : (p : InFlight) (ps : List InFlight) (room : ℕ) → p.retransmit ≡ false
+    → resent_pieces room (p ∷ ps) ≡ p ∷ resent_pieces room ps
+pieces_skip p ps room unmarked = rw unmarked
+
+pub pieces_full : (p : InFlight) (ps : List InFlight) (room : ℕ) → p.retransmit ≡ true
+    → nat_lt room (length p.user_data) ≡ true → resent_pieces room (p ∷ ps) ≡ p ∷ ps
+pieces_full p ps room marked full = rw (marked, full)
+
+pub pieces_sent : (p : InFlight) (ps : List InFlight) (room : ℕ) → p.retransmit ≡ true
+    → nat_lt room (length p.user_data) ≡ false
+    → resent_pieces room (p ∷ ps) ≡ counted_again p ∷ resent_pieces (room - length p.user_data) ps
+pieces_sent p ps room marked fits = rw (marked, fits)
+
+pub chunks_skip : (p : InFlight) (ps : List InFlight) (first index room : ℕ) → p.retransmit ≡ false
+    → resent_chunks first index room (p ∷ ps) ≡ resent_chunks first (index + 1) room ps
+chunks_skip p ps first index room unmarked = rw unmarked
+
+pub chunks_full : (p : InFlight) (ps : List InFlight) (first index room : ℕ) → p.retransmit ≡ true
+    → nat_lt room (length p.user_data) ≡ true → resent_chunks first index room (p ∷ ps) ≡ []
+chunks_full p ps first index room marked full = rw (marked, full)
+
+pub chunks_sent : (p : InFlight) (ps : List InFlight) (first index room : ℕ) → p.retransmit ≡ true
+    → nat_lt room (length p.user_data) ≡ false
+    → resent_chunks first index room (p ∷ ps) ≡ chunk_of p (tsn_at first index)
+    ∷ resent_chunks first (index + 1) (room - length p.user_data) ps
+chunks_sent p ps first index room marked fits = rw (marked, fits)
+
+one_more : {A : Type 0} → (a b w r : List A) (q : A) → b ≡ a ++ q ∷ [] → w ≡ q ∷ r → b ++ r ≡ a ++ w
+one_more a b w r q e f = rw (e, f, append_assoc)
+
+tried_skip : (p : InFlight) (s : Sender) (index left : ℕ) (out : List ChunkPayloadData) → p.retransmit ≡ false
+    → tried_again (Some p) s index left out ≡ (s, out, Some left)
+tried_skip p s index left out unmarked = rw unmarked
+
+tried_full : (p : InFlight) (s : Sender) (index left : ℕ) (out : List ChunkPayloadData) → p.retransmit ≡ true
+    → nat_lt left (length p.user_data) ≡ true → tried_again (Some p) s index left out ≡ (s, out, None)
+tried_full p s index left out marked full = rw (marked, full)
+
+tried_sent : (p : InFlight) (s : Sender) (index left : ℕ) (out : List ChunkPayloadData) → p.retransmit ≡ true
+    → nat_lt left (length p.user_data) ≡ false
+    → tried_again (Some p) s index left out ≡ (
+      with_in_flight s (set s.queue.in_flight index (counted_again p)),
+      out ++ chunk_of p (tsn_at s.queue.first_tsn index) ∷ [],
+      Some (left - length p.user_data),
+    )
+tried_sent p s index left out marked fits = rw (marked, fits)
+
+-- once the piece at a place is dealt with, the rest is resent as it was to be before
+pub record Stepped (s s2 : Sender) (index left left2 : ℕ) (out out2 : List ChunkPayloadData) : Type 0 where
+  pub count : length s2.queue.in_flight ≡ length s.queue.in_flight
+  pub grown : length out ≤ length out2
+  pub rest : s2 ≡ with_in_flight s s2.queue.in_flight
+  pub pieces : take (index + 1) s2.queue.in_flight ++ resent_pieces left2 (drop (index + 1) s2.queue.in_flight)
+      ≡ take index s.queue.in_flight ++ resent_pieces left (drop index s.queue.in_flight)
+  pub chunks : out2 ++ resent_chunks s2.queue.first_tsn (index + 1) left2 (drop (index + 1) s2.queue.in_flight)
+      ≡ out ++ resent_chunks s.queue.first_tsn index left (drop index s.queue.in_flight)
+
+skipped : (p : InFlight) (s : Sender) (index left : ℕ) (out : List ChunkPayloadData)
+    → slice_get s.queue.in_flight index ≡ Some p → p.retransmit ≡ false → Stepped s s index left left out out
+skipped p s index left out here unmarked =
+    let xs = s.queue.in_flight in
+    let ds = drop (index + 1) s.queue.in_flight in
+    record {
+      count = refl;
+      grown = omega arith;
+      rest = refl;
+      pieces =
+          one_more (take index xs) (take (index + 1) xs) (resent_pieces left (drop index xs)) (resent_pieces left ds) p
+          (take_get xs index p here)
+          (ap (resent_pieces left) (drop_get xs index p here) ∙ pieces_skip p ds left unmarked);
+      chunks =
+          ap (λ z. out ++ z) (sym (ap (resent_chunks s.queue.first_tsn index left) (drop_get xs index p here) ∙
+          chunks_skip p ds s.queue.first_tsn index left unmarked));
+    }
+
+sent_again_at : (p : InFlight) (s : Sender) (index left : ℕ) (out : List ChunkPayloadData)
+    → slice_get s.queue.in_flight index ≡ Some p → p.retransmit ≡ true → nat_lt left (length p.user_data) ≡ false
+    → Stepped s (with_in_flight s (set s.queue.in_flight index (counted_again p))) index left
+    (left - length p.user_data) out (out ++ chunk_of p (tsn_at s.queue.first_tsn index) ∷ [])
+sent_again_at p s index left out here marked fits =
+    let xs = s.queue.in_flight in
+    let first = s.queue.first_tsn in
+    let q = counted_again p in
+    let left2 = left - length p.user_data in
+    let chunk = chunk_of p (tsn_at first index) in
+    let ys = set s.queue.in_flight index q in
+    let below = slice_get_within s.queue.in_flight index p here in
+    let same : drop (index + 1) ys ≡ drop (index + 1) xs = drop-set-lt (index + 1) xs index q (omega arith) in
+    let more = more_by_one out chunk in
+    record {
+      count = length-set xs index q;
+      grown = omega (arith, more);
+      rest = refl;
+      pieces =
+          one_more (take index xs) (take (index + 1) ys) (resent_pieces left (drop index xs))
+          (resent_pieces left2 (drop (index + 1) ys)) q (take_more_set xs index q below) (
+          ap (resent_pieces left) (drop_get xs index p here) ∙ pieces_sent p (drop (index + 1) xs) left marked fits ∙
+          ap (λ z. q ∷ resent_pieces left2 z) (sym same)
+          );
+      chunks =
+          one_more out (out ++ chunk ∷ []) (resent_chunks first index left (drop index xs))
+          (resent_chunks first (index + 1) left2 (drop (index + 1) ys)) chunk refl (
+          ap (resent_chunks first index left) (drop_get xs index p here) ∙
+          chunks_sent p (drop (index + 1) xs) first index left marked fits ∙
+          ap (λ z. chunk ∷ resent_chunks first (index + 1) left2 z) (sym same)
+          );
+    }
+
+none_or_some : (s s2 : Sender) (out out2 : List ChunkPayloadData) (left : ℕ)
+    → ◌≡◌ {A = Sender × List ChunkPayloadData × Option ℕ} (s, out, None) (s2, out2, Some left) → ⊥
+none_or_some s s2 out out2 left e =
+    let m : None ≡ Some left = ap (λ (z : Sender × List ChunkPayloadData × Option ℕ). z.2) e in
+    cc
+
+moved_to : (s s2 s3 : Sender) (index left left2 left3 : ℕ) (out out2 out3 : List ChunkPayloadData)
+    → ◌≡◌ {A = Sender × List ChunkPayloadData × Option ℕ} (s3, out3, Some left3) (s2, out2, Some left2)
+    → Stepped s s3 index left left3 out out3 → Stepped s s2 index left left2 out out2
+moved_to s s2 s3 index left left2 left3 out out2 out3 e step =
+    let a : s3 ≡ s2 = ap (λ (z : Sender × List ChunkPayloadData × Option ℕ). z.0) e in
+    let b : out3 ≡ out2 = ap (λ (z : Sender × List ChunkPayloadData × Option ℕ). z.1) e in
+    let some : Some left3 ≡ Some left2 = ap (λ (z : Sender × List ChunkPayloadData × Option ℕ). z.2) e in
+    let d : left3 ≡ left2 = cc in
+    rw (← a, ← b, ← d) step
+
+step_of : (o : Option InFlight) (s s2 : Sender) (index left left2 : ℕ) (out out2 : List ChunkPayloadData)
+    → slice_get s.queue.in_flight index ≡ o → tried_again o s index left out ≡ (s2, out2, Some left2)
+    → Stepped s s2 index left left2 out out2
+step_of None s s2 index left left2 out out2 here e = absurd (none_or_some s s2 out out2 left2 e)
+step_of (Some p) s s2 index left left2 out out2 here e =
+    ⊎_elim (
+    λ (marked : p.retransmit ≡ true). ⊎_elim (
+    λ (full : nat_lt left (length p.user_data) ≡ true).
+    absurd (none_or_some s s2 out out2 left2 (sym (tried_full p s index left out marked full) ∙ e))
+    ) (
+    λ (fits : nat_lt left (length p.user_data) ≡ false).
+    moved_to s s2 _ index left left2 _ out out2 _ (sym (tried_sent p s index left out marked fits) ∙ e)
+    (sent_again_at p s index left out here marked fits)
+    ) (cases_Bool (nat_lt left (length p.user_data)))
+    ) (
+    λ (unmarked : p.retransmit ≡ false).
+    moved_to s s2 s index left left2 left out out2 out (sym (tried_skip p s index left out unmarked) ∙ e)
+    (skipped p s index left out here unmarked)
+    ) (cases_Bool p.retransmit)
+
+none_past : (xs : List InFlight) (i : ℕ) → slice_get xs i ≡ None → length xs ≤ i
+none_past [] i e = omega arith
+none_past (x ∷ xs) zero e = absurd (cc)
+none_past (x ∷ xs) (suc i) e = let below = none_past xs i e in omega arith
+
+-- nothing more is resent from a place on
+pub record Stopped (s s2 : Sender) (index left : ℕ) (out out2 : List ChunkPayloadData) : Type 0 where
+  pub sender : s2 ≡ s
+  pub sent : out2 ≡ out
+  pub pieces : resent_pieces left (drop index s.queue.in_flight) ≡ drop index s.queue.in_flight
+  pub chunks : resent_chunks s.queue.first_tsn index left (drop index s.queue.in_flight) ≡ []
+
+past_end : (s : Sender) (index left : ℕ) (out : List ChunkPayloadData) → length s.queue.in_flight ≤ index
+    → Stopped s s index left out out
+past_end s index left out past =
+    let none : drop index s.queue.in_flight ≡ [] = drop_all index s.queue.in_flight past in
+    record {
+      sender = refl;
+      sent = refl;
+      pieces = rw none;
+      chunks = rw none;
+    }
+
+does_not_fit : (p : InFlight) (s : Sender) (index left : ℕ) (out : List ChunkPayloadData)
+    → slice_get s.queue.in_flight index ≡ Some p → p.retransmit ≡ true → nat_lt left (length p.user_data) ≡ true
+    → Stopped s s index left out out
+does_not_fit p s index left out here marked full =
+    let xs = s.queue.in_flight in
+    let ds = drop (index + 1) s.queue.in_flight in
+    record {
+      sender = refl;
+      sent = refl;
+      pieces =
+          ap (resent_pieces left) (drop_get xs index p here) ∙ pieces_full p ds left marked full ∙
+          sym (drop_get xs index p here);
+      chunks =
+          ap (resent_chunks s.queue.first_tsn index left) (drop_get xs index p here) ∙
+          chunks_full p ds s.queue.first_tsn index left marked full;
+    }
+
+stopped_to : (s s2 s3 : Sender) (index left : ℕ) (out out2 out3 : List ChunkPayloadData) (o : Option ℕ)
+    → ◌≡◌ {A = Sender × List ChunkPayloadData × Option ℕ} (s3, out3, o) (s2, out2, None)
+    → Stopped s s3 index left out out3 → Stopped s s2 index left out out2
+stopped_to s s2 s3 index left out out2 out3 o e stop =
+    let a : s3 ≡ s2 = ap (λ (z : Sender × List ChunkPayloadData × Option ℕ). z.0) e in
+    let b : out3 ≡ out2 = ap (λ (z : Sender × List ChunkPayloadData × Option ℕ). z.1) e in
+    rw (← a, ← b) stop
+
+stop_of : (o : Option InFlight) (s s2 : Sender) (index left : ℕ) (out out2 : List ChunkPayloadData)
+    → slice_get s.queue.in_flight index ≡ o → tried_again o s index left out ≡ (s2, out2, None)
+    → Stopped s s2 index left out out2
+stop_of None s s2 index left out out2 here e =
+    stopped_to s s2 s index left out out2 out None e
+    (past_end s index left out (none_past s.queue.in_flight index here))
+stop_of (Some p) s s2 index left out out2 here e =
+    ⊎_elim (
+    λ (marked : p.retransmit ≡ true). ⊎_elim (
+    λ (full : nat_lt left (length p.user_data) ≡ true).
+    stopped_to s s2 s index left out out2 out None (sym (tried_full p s index left out marked full) ∙ e)
+    (does_not_fit p s index left out here marked full)
+    ) (
+    λ (fits : nat_lt left (length p.user_data) ≡ false).
+    absurd (none_or_some s2 _ out2 _ _ (sym e ∙ tried_sent p s index left out marked fits))
+    ) (cases_Bool (nat_lt left (length p.user_data)))
+    ) (
+    λ (unmarked : p.retransmit ≡ false).
+    absurd (none_or_some s2 s out2 out left (sym e ∙ tried_skip p s index left out unmarked))
+    ) (cases_Bool p.retransmit)
+
+-- before a place the pieces are as they will stay; with what is resent of the rest they are what the whole was to
+-- become
+pub record ResendsOn (s0 s : Sender) (i end room left : ℕ) (out0 out : List ChunkPayloadData) : Type 0 where
+  pub count : end ≡ length s.queue.in_flight
+  pub grown : length out0 ≤ length out
+  pub rest : s ≡ with_in_flight s0 s.queue.in_flight
+  pub pieces : take i s.queue.in_flight ++ resent_pieces left (drop i s.queue.in_flight)
+      ≡ resent_pieces room s0.queue.in_flight
+  pub chunks : out ++ resent_chunks s.queue.first_tsn i left (drop i s.queue.in_flight)
+      ≡ out0 ++ resent_chunks s0.queue.first_tsn 0 room s0.queue.in_flight
+
+pub resends_on : (s0 s s2 : Sender) (i end room left left2 : ℕ) (out0 out out2 : List ChunkPayloadData)
+    → ResendsOn s0 s i end room left out0 out
+    → tried_again (slice_get s.queue.in_flight i) s i left out ≡ (s2, out2, Some left2)
+    → ResendsOn s0 s2 (i + 1) end room left2 out0 out2
+resends_on s0 s s2 i end room left left2 out0 out out2 inv e =
+    let step = step_of (slice_get s.queue.in_flight i) s s2 i left left2 out out2 refl e in
+    record {
+      count = inv.count ∙ sym step.count;
+      grown = omega (arith, inv.grown, step.grown);
+      rest = step.rest ∙ ap (λ (z : Sender). with_in_flight z s2.queue.in_flight) inv.rest;
+      pieces = step.pieces ∙ inv.pieces;
+      chunks = step.chunks ∙ inv.chunks;
+    }
+
+pub resent_sender : (s0 s s2 : Sender) (i end room left : ℕ) (out0 out out2 : List ChunkPayloadData)
+    → ResendsOn s0 s i end room left out0 out
+    → tried_again (slice_get s.queue.in_flight i) s i left out ≡ (s2, out2, None)
+    → s2 ≡ with_in_flight s0 (resent_pieces room s0.queue.in_flight)
+resent_sender s0 s s2 i end room left out0 out out2 inv e =
+    let stop = stop_of (slice_get s.queue.in_flight i) s s2 i left out out2 refl e in
+    let xs = s.queue.in_flight in
+    let all : xs ≡ resent_pieces room s0.queue.in_flight =
+    sym (take-append-drop i xs) ∙ ap (λ z. take i xs ++ z) (sym stop.pieces) ∙ inv.pieces in
+    stop.sender ∙ inv.rest ∙ ap (with_in_flight s0) all
+
+pub resent_out : (s0 s s2 : Sender) (i end room left : ℕ) (out0 out out2 : List ChunkPayloadData)
+    → ResendsOn s0 s i end room left out0 out
+    → tried_again (slice_get s.queue.in_flight i) s i left out ≡ (s2, out2, None)
+    → out2 ≡ out0 ++ resent_chunks s0.queue.first_tsn 0 room s0.queue.in_flight
+resent_out s0 s s2 i end room left out0 out out2 inv e =
+    let stop = stop_of (slice_get s.queue.in_flight i) s s2 i left out out2 refl e in
+    stop.sent ∙ sym (append-nil out) ∙ ap (λ z. out ++ z) (sym stop.chunks) ∙ inv.chunks
+
+-- a piece that is to be sent again is the first of what is resent from its place on
+goes_first : (o : Option InFlight) (s : Sender) (index left : ℕ) → slice_get s.queue.in_flight index ≡ o
+    → goes_again o left ≡ true
+    → 0 < length (resent_chunks s.queue.first_tsn index left (drop index s.queue.in_flight))
+goes_first None s index left here again = absurd (false_from_true again)
+goes_first (Some p) s index left here again =
+    let parts = and_parts p.retransmit (not (nat_lt left (length p.user_data))) again in
+    let first =
+    ap (resent_chunks s.queue.first_tsn index left) (drop_get s.queue.in_flight index p here) ∙
+    chunks_sent p (drop (index + 1) s.queue.in_flight) s.queue.first_tsn index left parts.0 (not-true _ parts.1) in
+    rw first (omega arith)
+
+pub resends_some : (s0 s : Sender) (i end room left : ℕ) (out0 out : List ChunkPayloadData)
+    → ResendsOn s0 s i end room left out0 out
+    → goes_again (slice_get s.queue.in_flight i) left ≡ true
+    → nat_lt 0 (length (resent_chunks s0.queue.first_tsn 0 room s0.queue.in_flight)) ≡ true
+resends_some s0 s i end room left out0 out inv again =
+    let rest = resent_chunks s.queue.first_tsn i left (drop i s.queue.in_flight) in
+    let all = resent_chunks s0.queue.first_tsn 0 room s0.queue.in_flight in
+    let some = goes_first (slice_get s.queue.in_flight i) s i left refl again in
+    let lengths : length out + length rest ≡ length out0 + length all =
+    sym (length-append out rest) ∙ ap length inv.chunks ∙ length-append out0 all in
+    lt-ltb _ _ (omega (arith, lengths, some, inv.grown))
+
+-- where a piece behind fits after some were sent, more is sent than before
+pub within_sends_on : (s0 s : Sender) (out0 out : List ChunkPayloadData) (now : ℕ) → can_send_next s ≡ true
+    → length out0 ≤ length out
+    → sent_within (pieces_waiting s.queue.pending) s out now ≡ sent_within (pieces_waiting s0.queue.pending) s0 out0 now
+    → nat_lt (length out0) (length (sent_within (pieces_waiting s0.queue.pending) s0 out0 now).1) ≡ true
+within_sends_on s0 s out0 out now fits grown same =
+    let some = within_sends s out now fits in
+    rw (← same) (lt-ltb _ _ (omega (arith, some, grown)))
+
+pub sent_one_grows : (s s2 : Sender) (out out2 : List ChunkPayloadData) (now : ℕ)
+    → sent_one s.queue.pending s out now ≡ (s2, out2) → length out ≤ length out2
+sent_one_grows s s2 out out2 now e =
+    subst (λ (z : Sender × List ChunkPayloadData). length out ≤ length z.1) e (one_grows s.queue.pending s out now)
+
+-- DATA of a poll that is sent again is given
+pub resending_gives : (s : Sender) (now : ℕ) → resends s ≡ true → gives_data s now ≡ true
+resending_gives s now again =
+    let grown = new_grows (after_resending s) (resent_by s) now in
+    let some = ltb-true _ _ again in
+    lt-ltb _ _ (omega (arith, grown, some))
+
+-- and so is DATA that is sent behind it for the first time
+pub sending_gives : (s : Sender) (now : ℕ) → sends_new (after_resending s) (resent_by s) now ≡ true
+    → gives_data s now ≡ true
+sending_gives s now new = let some = ltb-true _ _ new in lt-ltb _ _ (omega (arith, some))

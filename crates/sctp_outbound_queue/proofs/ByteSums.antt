@@ -1,0 +1,182 @@
+-- Sums over what waits and what is in flight.
+use Rattle.std.proofs.Common.{◌≡◌, ℕ, suc, ◌+◌, ◌-◌, ◌^◌, ◌<◌, ◌≤◌, ◌==◌, true, false, List, [], ◌∷◌, ◌++◌, Some, None}
+use Rattle.std.proofs.Common.{length, map, min, fold, drop, slice_get, slice_index_or, refl, ap, sym, ◌∙◌, ⊎_elim}
+use Rattle.std.proofs.Common.{arith}
+use Rattle.std.specs.Prelude.{sum_by, find}
+use Rattle.sctp_wire_types.specs.Serial.{tsn_past}
+use Rattle.sctp_outbound_queue.proofs.ExpiredUnsent.{without_none, without_bytes}
+use Rattle.std.specs.Option.{option_map}
+use Rattle.std.proofs.lemmas.List.Sums.{sum_by-cons, sum_by_push}
+use Rattle.std.proofs.lemmas.Bool.{cases_Bool}
+use Rattle.std.proofs.lemmas.Bool.Decides.{nat_tests}
+use Rattle.sctp_outbound_queue.specs.declared.message.InFlight.{InFlight}
+use Rattle.sctp_outbound_queue.specs.Waiting.{Waiting}
+use Rattle.sctp_outbound_queue.specs.Message.{message_bytes, is_expired_unsent, without_piece, sent_once, is_of}
+use Rattle.sctp_outbound_queue.specs.Message.{outstanding_bytes, outstanding_bytes_of, flagged}
+use Rattle.sctp_outbound_queue.specs.Expiry.{without_expired, after_expiry}
+use Rattle.sctp_outbound_queue.specs.Outbound.{abandoned_at, all_flagged, released, Outbound, AreKept, waiting_of}
+use Rattle.sctp_outbound_queue.specs.Outbound.{outstanding_of, outstanding_of_message, left_behind, after_piece}
+use Rattle.sctp_outbound_queue.specs.Outbound.{tail_dropped, tail_dropped_from}
+
+-- a sum that stops at a greatest number
+pub fold_saturates : {X : Type 0} (f : X → ℕ) (most a : ℕ) (xs : List X) → a ≤ most
+    → fold (λ s x. min (s + f x) most) a xs ≡ min (a + sum_by f xs) most
+fold_saturates f most a [] within = omega arith
+fold_saturates f most a (x ∷ xs) within =
+    let rest = fold_saturates f most (min (a + f x) most) xs (omega arith) in
+    let cons = sum_by-cons f x xs in
+    rest ∙ omega (arith, cons)
+
+pub fold_saturates_twice : {X : Type 0} (f : X → ℕ) (most a : ℕ) (xs : List X) → a ≤ most
+    → fold (λ s x. min (s + min (f x) most) most) a xs ≡ min (a + sum_by f xs) most
+fold_saturates_twice f most a [] within = omega arith
+fold_saturates_twice f most a (x ∷ xs) within =
+    let rest = fold_saturates_twice f most (min (a + min (f x) most) most) xs (omega arith) in
+    let cons = sum_by-cons f x xs in
+    rest ∙ omega (arith, cons)
+
+-- what is left of a message once a piece of it was sent
+
+false_from_true : true ≡ false → ⊥
+false_from_true e = cc
+
+no_zero : (n : ℕ) → (suc n == 0) ≡ true → ⊥
+no_zero n e = grind (arith, nat_tests, e)
+
+rest_bytes : (rest : List (List ℕ)) → (length rest == 0) ≡ false
+    → length (slice_index_or rest 0 []) + sum_by length (drop 1 rest) ≡ sum_by length rest
+rest_bytes [] more = absurd (false_from_true more)
+rest_bytes (piece ∷ rest) more = sym (sum_by-cons length piece rest)
+
+no_rest_bytes : (rest : List (List ℕ)) → (length rest == 0) ≡ true → sum_by length rest ≡ 0
+no_rest_bytes [] none = refl
+no_rest_bytes (piece ∷ rest) none = absurd (no_zero (length rest) none)
+
+pub left_behind_bytes : (m : Waiting) (ms : List Waiting)
+    → waiting_of (left_behind m ms) + length m.user_data ≡ waiting_of (m ∷ ms)
+left_behind_bytes m ms =
+    let all = sum_by-cons message_bytes m ms in
+    ⊎_elim (
+    λ (none : (length m.rest == 0) ≡ true).
+    let empty = no_rest_bytes m.rest none in
+    rw none (omega (arith, all, empty))
+    ) (
+    λ (more : (length m.rest == 0) ≡ false).
+    let rest = rest_bytes m.rest more in
+    let left = sum_by-cons message_bytes (without_piece m) ms in
+    rw more (omega (arith, all, rest, left))
+    ) (cases_Bool (length m.rest == 0))
+
+pub after_piece_bytes : (now : ℕ) (ms : List Waiting) (p : InFlight)
+    → option_map (sent_once now) (slice_get ms 0) ≡ Some p
+    → waiting_of (after_piece ms) + outstanding_bytes p ≡ waiting_of ms
+after_piece_bytes now [] p e = absurd (cc)
+after_piece_bytes now (m ∷ ms) p e =
+    let same : sent_once now m ≡ p = cc in
+    rw (← same) (left_behind_bytes m ms)
+
+-- an abandoned message
+
+flagged_yes : (id : ℕ) (p : InFlight) → is_of id p ≡ true
+    → outstanding_bytes (flagged id p) + outstanding_bytes_of id p ≡ outstanding_bytes p
+flagged_yes id p ours =
+    ⊎_elim (λ (a : p.acked ≡ true). rw (ours, a)) (λ (a : p.acked ≡ false). rw (ours, a) (omega arith))
+    (cases_Bool p.acked)
+
+flagged_no : (id : ℕ) (p : InFlight) → is_of id p ≡ false
+    → outstanding_bytes (flagged id p) + outstanding_bytes_of id p ≡ outstanding_bytes p
+flagged_no id p other = rw other (omega arith)
+
+flagged_one : (id : ℕ) (p : InFlight)
+    → outstanding_bytes (flagged id p) + outstanding_bytes_of id p ≡ outstanding_bytes p
+flagged_one id p = ⊎_elim (flagged_yes id p) (flagged_no id p) (cases_Bool (is_of id p))
+
+pub flagged_sum : (id : ℕ) (ps : List InFlight)
+    → outstanding_of (map (flagged id) ps) + outstanding_of_message id ps ≡ outstanding_of ps
+flagged_sum id [] = refl
+flagged_sum id (p ∷ ps) =
+    let one = flagged_one id p in
+    let more = flagged_sum id ps in
+    let a = sum_by-cons outstanding_bytes (flagged id p) (map (flagged id) ps) in
+    let b = sum_by-cons (outstanding_bytes_of id) p ps in
+    let c = sum_by-cons outstanding_bytes p ps in
+    omega (arith, one, more, a, b, c)
+
+-- the unsent pieces of the first message
+
+tail_from : (ms : List Waiting) (q : Outbound) (id : ℕ) → (tail_dropped_from ms q id).1 ≤ waiting_of ms
+tail_from [] q id = omega arith
+tail_from (m ∷ ms) q id =
+    let all = sum_by-cons message_bytes m ms in
+    ⊎_elim (λ (a : (m.message.message_id == id) ≡ true). rw a (omega (arith, all))) (
+    λ (a : (m.message.message_id == id) ≡ false). rw a (omega arith)
+    ) (cases_Bool (m.message.message_id == id))
+
+pub released_bound : (q : Outbound) (id waiting outstanding : ℕ) → AreKept q.pending q.in_flight waiting outstanding
+    → outstanding_of_message id q.in_flight + (tail_dropped q id).1 < 2 ^ 64
+released_bound q id waiting outstanding kept =
+    let tail = tail_from q.pending q id in
+    let sent = flagged_sum id q.in_flight in
+    omega (arith, tail, sent, kept.0, kept.1, kept.2)
+
+-- the kept sums after a change
+
+pub kept_sent : (now : ℕ) (ms ms2 : List Waiting) (ps ps1 ps2 : List InFlight) (w o b : ℕ) (p : InFlight)
+    → AreKept ms ps w o → Some p ≡ option_map (sent_once now) (slice_get ms 0) → ms2 ≡ after_piece ms → ps1 ≡ ps
+    → ps2 ≡ ps1 ++ p ∷ [] → b ≡ outstanding_bytes p → AreKept ms2 ps2 (w - b) (o + b)
+kept_sent now ms ms2 ps ps1 ps2 w o b p kept first left same more bytes =
+    let a = after_piece_bytes now ms p (sym first) in
+    let push = sum_by_push outstanding_bytes ps p in
+    let c = kept.0 in
+    let d = kept.1 in
+    let e = kept.2 in
+    rw (left, more, same, bytes) (omega (arith, a, c), omega (arith, push, d), omega (arith, a, c, e))
+
+pub kept_flagged : (id : ℕ) (ms : List Waiting) (ps ps2 : List InFlight) (w o b : ℕ) → AreKept ms ps w o
+    → b ≡ min (outstanding_of_message id ps) (2 ^ 64 - 1) → ps2 ≡ map (flagged id) ps → AreKept ms ps2 w (o - b)
+kept_flagged id ms ps ps2 w o b kept bytes flags =
+    let a = flagged_sum id ps in
+    let c = kept.0 in
+    let d = kept.1 in
+    let e = kept.2 in
+    rw flags (c, omega (arith, a, bytes, d, e), omega (arith, e))
+
+pub kept_same : (now : ℕ) (ms ms2 : List Waiting) (ps : List InFlight) (w o : ℕ) → AreKept ms ps w o
+    → None ≡ find (is_expired_unsent now) ms → ms2 ≡ without_expired now ms → AreKept ms2 ps w o
+kept_same now ms ms2 ps w o kept none left =
+    rw (left, without_none now ms (sym none)) kept
+
+pub kept_dropped : (now : ℕ) (ms ms2 : List Waiting) (ps : List InFlight) (w o b : ℕ) (d : Waiting) → AreKept ms ps w o
+    → Some d ≡ find (is_expired_unsent now) ms → ms2 ≡ without_expired now ms → b ≡ min (message_bytes d) (2 ^ 64 - 1)
+    → AreKept ms2 ps (w - b) o
+kept_dropped now ms ms2 ps w o b d kept found left bytes =
+    let a = without_bytes now ms d (sym found) in
+    let c = kept.0 in
+    let e = kept.2 in
+    rw left (omega (arith, a, bytes, c, e), kept.1, omega (arith, e))
+
+pub dropped_bytes : (now : ℕ) (ms : List Waiting) (ps : List InFlight) (w o b : ℕ) (d : Waiting) → AreKept ms ps w o
+    → Some d ≡ find (is_expired_unsent now) ms → b ≡ min (message_bytes d) (2 ^ 64 - 1)
+    → (b ≡ message_bytes d) × (b ≤ w)
+dropped_bytes now ms ps w o b d kept found bytes =
+    let a = without_bytes now ms d (sym found) in
+    let c = kept.0 in
+    let e = kept.2 in
+    (omega (arith, a, bytes, c, e), omega (arith, a, bytes, c, e))
+
+pub expiry_is : (now : ℕ) (q : Outbound) (ms : List Waiting) (d : Waiting) (b w o : ℕ)
+    → AreKept q.pending q.in_flight w o → Some d ≡ find (is_expired_unsent now) q.pending
+    → ms ≡ without_expired now q.pending → b ≡ min (message_bytes d) (2 ^ 64 - 1)
+    → after_expiry now q ≡ (record q { pending = ms }, Some (released d.message b))
+expiry_is now q ms d b w o kept found left bytes =
+    let same = (dropped_bytes now q.pending q.in_flight w o b d kept found bytes).0 in
+    rw (left, same, ← found)
+
+pub abandoned_is : (q q1 q2 : Outbound) (tsn index : ℕ) (p : InFlight) (sent tail : ℕ)
+    → index ≡ tsn_past q.first_tsn tsn → Some p ≡ slice_get q.in_flight index
+    → sent ≡ outstanding_of_message p.message.message_id q.in_flight → tail_dropped q p.message.message_id ≡ (q1, tail)
+    → q2 ≡ all_flagged p.message.message_id q1 → abandoned_at q tsn ≡ (q2, Some (released p.message (sent + tail)))
+abandoned_is q q1 q2 tsn index p sent tail there here bytes dropped flags =
+    let a : (tail_dropped q p.message.message_id).0 ≡ q1 = ap (λ (z : Outbound × ℕ). z.0) dropped in
+    let b : (tail_dropped q p.message.message_id).1 ≡ tail = ap (λ (z : Outbound × ℕ). z.1) dropped in
+    rw (← there, ← here, flags, bytes, ← a, ← b)

@@ -1,0 +1,56 @@
+-- How an association stands between two chunks of a packet.
+use Rattle.std.proofs.Common.{◌≡◌, sym, ◌∙◌, subst, ℕ}
+use Rattle.sctp_model.specs.Machine.{Direction}
+use Rattle.sctp_model.specs.Safe.{IsWithin}
+use Rattle.sctp_assoc.specs.Acts.{Binds, History, parts}
+use Rattle.sctp_assoc.specs.Meeting.{IsNoEarlier, Stage, stage_of}
+use Rattle.sctp_assoc.specs.Shapes.{IsSameStatus}
+use Rattle.sctp_assoc.specs.Shown.{Shown}
+use Rattle.sctp_pair.specs.Fits.{IsSilent, StagesAgree, StandsOpen}
+use Rattle.sctp_pair.proofs.BetweenDirections.{Goes, Holds, None_brought}
+use Rattle.sctp_pair.proofs.HandshakeStages.{come_on, known_before, same_stage}
+
+-- Between two chunks of a packet: the association is open, stands between directions to which the packet led so far,
+-- and is in a stage to which it led.
+pub record Underway (own peer : ℕ) (here there : Stage) (y : Shown) (out coming : Direction) (B : ℕ → Type 0)
+    (a : Shown) : Type 0 where
+  pub out2 : Direction
+  pub coming2 : Direction
+  pub goes_out : Goes None_brought out out2
+  pub goes_coming : Goes B coming coming2
+  pub within_out : IsWithin out2
+  pub within_coming : IsWithin coming2
+  pub places_same : out2.sender.plan.places ≡ out.sender.plan.places
+  pub coming_still : coming2.sender ≡ coming.sender
+  pub silent : IsSilent there coming2
+  pub goes : IsNoEarlier here (stage_of a)
+  pub meets : StagesAgree (stage_of a) there
+  pub stands : StandsOpen own peer a out2 coming2
+  pub holds : Holds own peer (parts a stands.past) y out2 coming2
+
+-- the same association, or one that differs beside its directions, stands open where its parts hold
+unfoldable pub stands_by : (own peer : ℕ) (a b y : Shown) (k : History) (out coming out2 coming2 : Direction)
+    → (s : StandsOpen own peer a out coming) → IsSameStatus a b → Binds b k
+    → (k.peer ≡ s.past.peer) → out2.sender.plan.size ≡ out.sender.plan.size → Holds own peer (parts b k) y out2 coming2
+    → StandsOpen own peer b out2 coming2
+stands_by own peer a b y k out coming out2 coming2 s same binds met size h = record {
+  past = k;
+  own_is = h.own_is;
+  peer_is = λ known. met ∙ s.peer_is (known_before a b same known);
+  binds = binds;
+  working = same.failed ∙ s.working;
+  come = come_on a b same s.come;
+  present = same.lost ∙ s.present;
+  truthful = same.truthful own s.truthful;
+  size = size ∙ s.size ∙ sym same.size;
+  between = h.between;
+}
+
+-- where the status stays, so does what the stage says
+pub goes_same : {here : Stage} (a b : Shown) → IsSameStatus a b → IsNoEarlier here (stage_of a)
+    → IsNoEarlier here (stage_of b)
+goes_same {here} a b same g = subst (IsNoEarlier here) (sym (same_stage a b same)) g
+
+pub meets_same : {there : Stage} (a b : Shown) → IsSameStatus a b → StagesAgree (stage_of a) there
+    → StagesAgree (stage_of b) there
+meets_same {there} a b same m = subst (λ (s : Stage). StagesAgree s there) (sym (same_stage a b same)) m

@@ -1,0 +1,239 @@
+-- One association between its two directions, while the other one stands still: what each of its acts makes of them.
+use Rattle.std.proofs.Common.{◌≡◌, refl, sym, ap, ◌∙◌, subst, ◌⊎◌, ⊎_elim, inl, inr, ℕ, true, List, [], ◌∷◌, ◌++◌}
+use Rattle.std.proofs.Common.{Option, Some, None, arith, ◌≤◌}
+use Rattle.std.specs.Prelude.{slice_get}
+use Rattle.std.proofs.lemmas.List.{append-nil}
+use Rattle.sctp_receive_queues.specs.Messages as letters
+use Rattle.sctp_model.specs.Messages.{Message}
+use Rattle.sctp_model.specs.Packets.{Data, Sack, mem}
+use Rattle.sctp_model.specs.Machine.{Direction, Event, Receiver, Sender, happens, run}
+use Rattle.sctp_model.specs.Safe.{IsWithin}
+use Rattle.sctp_assoc.specs.Acts.{Parts, parts}
+use Rattle.sctp_assoc.specs.Calls.{is_established}
+use Rattle.sctp_assoc.specs.Meeting.{IsNoEarlier, Stage}
+use Rattle.sctp_assoc.specs.Shown.{Shown}
+use Rattle.sctp_directions.specs.Events.{Accepts, Brings, GivesAMessage, IsAtReceiver, IsAtSender}
+use Rattle.sctp_directions.specs.Outgoing.{FitsOutgoing}
+use Rattle.sctp_directions.specs.Incoming.{FitsIncoming, IsReadAs}
+use Rattle.sctp_directions.specs.Between.{FitsBetween, IsSound}
+use Rattle.sctp_directions.proofs.Proved.{only_reads_give_messages, only_what_is_brought_is_taken_in}
+use Rattle.sctp_directions.proofs.Proved.{only_writes_accept, receivers_events_are_received, senders_events_are_sent}
+use Rattle.sctp_pair.specs.Fits.{IsAt, IsSilent, StagesAgree, Stands, StandsClosed, StandsFailed, StandsOpen}
+
+-- What stays and what grows of a direction by events that neither accept nor read: what they take in was there, or was
+-- brought.
+pub record Goes (Brought : ℕ → Type 0) (w v : Direction) : Type 0 where
+  pub events : List Event
+  pub is : v ≡ run events w
+  pub accepted : (s : ℕ) → v.sender.plan.accepted s ≡ w.sender.plan.accepted s
+  pub size : v.sender.plan.size ≡ w.sender.plan.size
+  pub reads : (s : ℕ) → v.reads s ≡ w.reads s
+  pub taken : (o : ℕ) → mem o v.receiver.taken ≡ true → (mem o w.receiver.taken ≡ true) ⊎ Brought o
+  pub datas : (k : ℕ) (d : Data) → slice_get w.datas k ≡ Some d → slice_get v.datas k ≡ Some d
+  pub sacks : (k : ℕ) (x : Sack) → slice_get w.sacks k ≡ Some x → slice_get v.sacks k ≡ Some x
+  pub reach_on : w.sender.reach ≤ v.sender.reach
+
+run_append : (es fs : List Event) (w : Direction) → run (es ++ fs) w ≡ run fs (run es w)
+run_append [] fs w = refl
+run_append (e ∷ es) fs w = run_append es fs (happens w e)
+
+pub goes_nowhere : (B : ℕ → Type 0) (w : Direction) → Goes B w w
+goes_nowhere B w = record {
+  events = [];
+  is = refl;
+  accepted = λ s. refl;
+  size = refl;
+  reads = λ s. refl;
+  taken = λ o m. inl m;
+  datas = λ k d e. e;
+  sacks = λ k x e. e;
+  reach_on = omega arith;
+}
+
+pub goes_on : (B : ℕ → Type 0) (w v u : Direction) → Goes B w v → Goes B v u → Goes B w u
+goes_on B w v u g h = record {
+  events = g.events ++ h.events;
+  is = h.is ∙ ap (run h.events) g.is ∙ sym (run_append g.events h.events w);
+  accepted = λ s. h.accepted s ∙ g.accepted s;
+  size = h.size ∙ g.size;
+  reads = λ s. h.reads s ∙ g.reads s;
+  taken = λ o m. ⊎_elim (λ (n : mem o v.receiver.taken ≡ true). g.taken o n) (λ (b : B o). inr b) (h.taken o m);
+  datas = λ k d e. h.datas k d (g.datas k d e);
+  sacks = λ k x e. h.sacks k x (g.sacks k x e);
+  reach_on = (let a = g.reach_on in let b = h.reach_on in omega arith);
+}
+
+-- one event at the sender that is no write
+pub goes_by_sender : (B : ℕ → Type 0) (w : Direction) (e : Event) → IsAtSender e → (Accepts e → ⊥)
+    → Goes B w (happens w e)
+goes_by_sender B w e at none =
+    let sent = senders_events_are_sent w e at in
+    record {
+      events = e ∷ [];
+      is = refl;
+      accepted = λ s. ap (λ (f : ℕ → List Message). f s) (only_writes_accept w e at none);
+      size = sent.0.size;
+      reads = λ s. ap (λ f. f s) sent.0.reads;
+      taken = λ o m. inl (subst (λ (r : Receiver). mem o r.taken ≡ true) sent.0.receiver m);
+      datas = sent.0.datas;
+      sacks = λ k x g. subst (λ (ks : List Sack). slice_get ks k ≡ Some x) (sym sent.0.sacks) g;
+      reach_on = sent.1;
+    }
+
+-- one event at the receiver that is no read
+pub goes_by_receiver : (B : ℕ → Type 0) (w : Direction) (e : Event) → IsAtReceiver e → (GivesAMessage e → ⊥)
+    → ((o : ℕ) → Brings w e o → B o) → Goes B w (happens w e)
+goes_by_receiver B w e at none brings =
+    let received = receivers_events_are_received w e at in
+    record {
+      events = e ∷ [];
+      is = refl;
+      accepted = λ s. ap (λ (x : Sender). x.plan.accepted s) received.sender;
+      size = ap (λ (x : Sender). x.plan.size) received.sender;
+      reads = λ s. only_reads_give_messages w e s at none;
+      taken =
+          λ o m. ⊎_elim (λ (n : mem o w.receiver.taken ≡ true). inl n) (λ (b : Brings w e o). inr (brings o b))
+          (only_what_is_brought_is_taken_in w e o at m);
+      datas = λ k d g. subst (λ (ds : List Data). slice_get ds k ≡ Some d) (sym received.datas) g;
+      sacks = received.sacks;
+      reach_on = (let f = ap (λ (x : Sender). x.reach) received.sender in omega arith);
+    }
+
+-- p is what the association's directions see of it, y is the other association
+pub record Holds (own peer : ℕ) (p : Parts) (y : Shown) (out coming : Direction) : Type 0 where
+  pub own_is : p.history.own ≡ own
+  pub sound_out : IsSound out
+  pub sound_coming : IsSound coming
+  pub between : FitsBetween p out coming
+  pub other : Stands peer own y coming out
+
+-- Nothing is brought.
+abbrev pub None_brought : ℕ → Type 0
+None_brought o = ⊥
+
+-- the sender of a direction stayed
+pub outgoing_same : (p : Parts) (w v : Direction) → v.sender ≡ w.sender → FitsOutgoing p w → FitsOutgoing p v
+outgoing_same p w v e f =
+    let g : FitsOutgoing p (record w { sender = v.sender }) =
+    subst (λ (x : Sender). FitsOutgoing p (record w { sender = x })) (sym e) f in
+    record { base = g.base; flight = g.flight; waiting = g.waiting; own_streams = g.own_streams }
+
+-- how the other association stands, where something happened at this one's sender
+pub other_by_out : (peer own : ℕ) (y : Shown) (coming out out2 : Direction)
+    → ((a : Parts) → FitsIncoming a out → FitsIncoming a out2)
+    → out2.receiver.is_open ≡ out.receiver.is_open → Stands peer own y coming out → Stands peer own y coming out2
+other_by_out peer own y coming out out2 fits same h =
+    ⊎_elim
+    (λ (s : StandsOpen peer own y coming out). inl record {
+      past = s.past;
+      own_is = s.own_is;
+      peer_is = s.peer_is;
+      binds = s.binds;
+      working = s.working;
+      come = s.come;
+      present = s.present;
+      truthful = s.truthful;
+      size = s.size;
+      between = record { outgoing = s.between.outgoing; incoming = fits (parts y s.past) s.between.incoming };
+    })
+    (λ (r : StandsClosed peer y out ⊎ StandsFailed y out).
+    ⊎_elim
+    (λ (s : StandsClosed peer y out). inr (inl record {
+      closed = s.closed;
+      unestablished = s.unestablished;
+      lost = s.lost;
+      stopped = same ∙ s.stopped;
+      nothing_left = s.nothing_left;
+      truthful = s.truthful;
+    }))
+    (λ (s : StandsFailed y out). inr (inr record { failed = s.failed; stopped = same ∙ s.stopped }))
+    r)
+    h
+
+-- and where something happened at this one's receiver
+pub other_by_coming : (peer own : ℕ) (y : Shown) (coming coming2 out : Direction) → coming2.sender ≡ coming.sender
+    → Stands peer own y coming out → Stands peer own y coming2 out
+other_by_coming peer own y coming coming2 out same h =
+    ⊎_elim
+    (λ (s : StandsOpen peer own y coming out). inl record {
+      past = s.past;
+      own_is = s.own_is;
+      peer_is = s.peer_is;
+      binds = s.binds;
+      working = s.working;
+      come = s.come;
+      present = s.present;
+      truthful = s.truthful;
+      size = ap (λ (x : Sender). x.plan.size) same ∙ s.size;
+      between = record {
+        outgoing = outgoing_same (parts y s.past) coming coming2 same s.between.outgoing;
+        incoming = s.between.incoming;
+      };
+    })
+    (λ (r : StandsClosed peer y out ⊎ StandsFailed y out). inr r)
+    h
+
+-- What a call does to a direction: what it accepts there, what it reads, and what may be taken in.
+pub record Does (Added : ℕ → List Message) (Read : ℕ → Option letters.ReceivedMessage) (Brought : ℕ → Type 0)
+    (w v : Direction) : Type 0 where
+  pub events : List Event
+  pub is : v ≡ run events w
+  pub accepted : (s : ℕ) → v.sender.plan.accepted s ≡ w.sender.plan.accepted s ++ Added s
+  pub size : v.sender.plan.size ≡ w.sender.plan.size
+  pub reads : (s : ℕ) → IsReadAs (Read s) (w.reads s) (v.reads s)
+  pub taken : (o : ℕ) → mem o v.receiver.taken ≡ true → (mem o w.receiver.taken ≡ true) ⊎ Brought o
+  pub datas : (k : ℕ) (d : Data) → slice_get w.datas k ≡ Some d → slice_get v.datas k ≡ Some d
+  pub sacks : (k : ℕ) (x : Sack) → slice_get w.sacks k ≡ Some x → slice_get v.sacks k ≡ Some x
+  pub reach_on : w.sender.reach ≤ v.sender.reach
+
+abbrev pub nothing_added : ℕ → List Message
+nothing_added s = []
+
+abbrev pub nothing_read : ℕ → Option letters.ReceivedMessage
+nothing_read s = None
+
+pub does_by_goes : (B : ℕ → Type 0) (w v : Direction) → Goes B w v → Does nothing_added nothing_read B w v
+does_by_goes B w v g = record {
+  events = g.events;
+  is = g.is;
+  accepted = λ s. g.accepted s ∙ sym (append-nil (w.sender.plan.accepted s));
+  size = g.size;
+  reads = g.reads;
+  taken = g.taken;
+  datas = g.datas;
+  sacks = g.sacks;
+  reach_on = g.reach_on;
+}
+
+-- One association's call leads from its directions `out` and `coming`, and its stage `here`, to others, between which
+-- it stands then; the other association, whose stage is `there`, stands there too.
+pub record Settles (own peer : ℕ) (here there : Stage) (b y : Shown) (out coming : Direction) (Added : ℕ → List Message)
+    (Read : ℕ → Option letters.ReceivedMessage) (Brought : ℕ → Type 0) : Type 0 where
+  pub out2 : Direction
+  pub coming2 : Direction
+  pub here2 : Stage
+  pub does_out : Does Added nothing_read None_brought out out2
+  pub does_coming : Does nothing_added Read Brought coming coming2
+  pub sound_out : IsSound out2
+  pub sound_coming : IsSound coming2
+  pub stands : Stands own peer b out2 coming2
+  pub other : Stands peer own y coming2 out2
+  pub goes : IsNoEarlier here here2
+  pub at : IsAt b here2
+  pub meets : StagesAgree here2 there
+  -- no offset is assigned where the association isn't established afterwards, and none of the other side's ever
+  pub no_more : ((is_established b.state ≡ true) × StandsOpen own peer b out2 coming2)
+      ⊎ (out2.sender.plan.places ≡ out.sender.plan.places)
+  pub coming_still : coming2.sender ≡ coming.sender
+
+-- Two associations between the same two directions, before a call of the first one.
+pub record Faces (own peer : ℕ) (here there : Stage) (a y : Shown) (out coming : Direction) : Type 0 where
+  pub within_out : IsWithin out
+  pub within_coming : IsWithin coming
+  pub sound_out : IsSound out
+  pub sound_coming : IsSound coming
+  pub stands : Stands own peer a out coming
+  pub other : Stands peer own y coming out
+  pub at : IsAt a here
+  pub meets : StagesAgree here there
+  pub silent : IsSilent there coming

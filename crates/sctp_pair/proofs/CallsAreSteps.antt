@@ -1,0 +1,256 @@
+-- A call of one association, between its directions, is a step of the world of both.
+use Rattle.std.proofs.Common.{◌≡◌, refl, sym, ap, ◌∙◌, subst, ◌⊎◌, ⊎_elim, inl, inr, ℕ, true, false, List, [], ◌++◌}
+use Rattle.std.proofs.Common.{Option, None}
+use Rattle.std.proofs.lemmas.Bool.{cases_Bool, true≢false}
+use Rattle.sctp_receive_queues.specs.Messages as letters
+use Rattle.sctp_model.specs.Messages.{Message}
+use Rattle.sctp_model.specs.Packets.{mem}
+use Rattle.sctp_model.specs.Serial.{tsn}
+use Rattle.sctp_model.specs.Machine.{Direction, Sender}
+use Rattle.sctp_model.proofs.Lists.{all_join}
+use Rattle.sctp_assoc.specs.Calls.{is_established}
+use Rattle.sctp_assoc.specs.Meeting.{IsNoEarlier, Stage}
+use Rattle.sctp_assoc.specs.Shapes.{OfEachChunk}
+use Rattle.sctp_assoc.specs.Shown.{Shown}
+use Rattle.sctp_assoc.proofs.Proved.{established_is_not_closed, established_sides_talk}
+use Rattle.sctp_directions.specs.Incoming.{IsReadAs}
+use Rattle.sctp_directions.specs.Between.{IsSound}
+use Rattle.sctp_pair.specs.declared.step.Reply.{Reply}
+use Rattle.sctp_pair.specs.declared.step.Side2.{Side2}
+use Rattle.sctp_pair.specs.declared.step.Side2.TheVariants as sides
+use Rattle.sctp_pair.specs.declared.step.Step.{Step}
+use Rattle.sctp_pair.specs.Ends.{Ends, end_of}
+use Rattle.sctp_pair.specs.Steps.{Steps, packet_in}
+use Rattle.sctp_pair.specs.World.{HasData, IsDirectionStep, IsOpen, World, accepted_at, message_read, other_side}
+use Rattle.sctp_pair.specs.World.{packet_brought}
+use Rattle.sctp_pair.specs.Fits.{AreSaid, Fits, IsAt, IsSaidBy, IsSilent, LeadsSafely, Stands, StandsIn, StandsOpen}
+use Rattle.sctp_pair.proofs.BetweenDirections.{Does, Faces, None_brought, Settles, nothing_added, nothing_read}
+use Rattle.sctp_pair.proofs.NeverTakenBack.{runs_are_onward}
+use Rattle.sctp_pair.proofs.Promised.{receives_or_stopped, safe_world}
+use Rattle.sctp_pair.proofs.SaidStaysSaid.{said_grows}
+use Rattle.sctp_pair.proofs.HandshakeStages.{stays_put, turned}
+
+-- the associations face each other between the directions of the world, seen from A
+pub faces_a : (w : World) (f : Fits w.ends w)
+    → Faces w.initial_a w.initial_b f.stand.stage_a f.stand.stage_b w.ends.a w.ends.b w.ab w.ba
+faces_a w f = record {
+  within_out = f.within.0;
+  within_coming = f.within.1;
+  sound_out = f.stand.sound_ab;
+  sound_coming = f.stand.sound_ba;
+  stands = f.stand.side_a;
+  other = f.stand.side_b;
+  at = f.stand.at_a;
+  meets = f.stand.meets;
+  silent = f.stand.silent_b;
+}
+
+-- and seen from B
+pub faces_b : (w : World) (f : Fits w.ends w)
+    → Faces w.initial_b w.initial_a f.stand.stage_b f.stand.stage_a w.ends.b w.ends.a w.ba w.ab
+faces_b w f = record {
+  within_out = f.within.1;
+  within_coming = f.within.0;
+  sound_out = f.stand.sound_ba;
+  sound_coming = f.stand.sound_ab;
+  stands = f.stand.side_b;
+  other = f.stand.side_a;
+  at = f.stand.at_b;
+  meets = turned f.stand.stage_a f.stand.stage_b f.stand.meets;
+  silent = f.stand.silent_a;
+}
+
+-- What a step and its reply add, read and bring is at this side this alone, and at the other side nothing; the DATA
+-- that comes to this side has this initial TSN.
+pub record IsCallAt (step : Step) (reply : Reply) (side : Side2) (w : World) (initial : ℕ) (Added : ℕ → List Message)
+    (Read : ℕ → Option letters.ReceivedMessage) (Brought : ℕ → Type 0) : Type 0 where
+  pub adds : (s : ℕ) → Added s ≡ accepted_at step reply side s w
+  pub reads : (s : ℕ) → Read s ≡ message_read step reply side s
+  pub brings : (o : ℕ) → Brought o → HasData (packet_brought step reply side w) (tsn initial o)
+  pub adds_alone : (s : ℕ) → [] ≡ accepted_at step reply (other_side side) s w
+  pub reads_alone : (s : ℕ) → None ≡ message_read step reply (other_side side) s
+
+-- what a call does to a direction is what a step does there, where it adds, reads and brings the same
+direction_step : (step : Step) (reply : Reply) (sender receiver : Side2) (w : World) (q : Ends) (initial : ℕ)
+    (before after : Direction)
+    (Added : ℕ → List Message) (Read : ℕ → Option letters.ReceivedMessage) (Brought : ℕ → Type 0)
+    → Does Added Read Brought before after
+    → ((s : ℕ) → Added s ≡ accepted_at step reply sender s w) → ((s : ℕ) → Read s ≡ message_read step reply receiver s)
+    → ((o : ℕ) → Brought o → HasData (packet_brought step reply receiver w) (tsn initial o))
+    → IsOpen (end_of sender q) ⊎ (after.sender.plan.places ≡ before.sender.plan.places) → IsSound before → IsSound after
+    → (after.receiver.is_open ≡ true) ⊎ (IsOpen (end_of receiver q) → ⊥)
+    → IsDirectionStep step reply sender receiver w q initial before after
+direction_step step reply sender receiver w q initial before after Added Read Brought d adds reads brings no_more was is
+    receives = record {
+      events = d.events;
+      happened = d.is;
+      accepted = λ s. d.accepted s ∙ ap (λ (z : List Message). before.sender.plan.accepted s ++ z) (adds s);
+      read =
+          λ s. subst (λ (z : Option letters.ReceivedMessage). IsReadAs z (before.reads s) (after.reads s))
+          (reads s) (d.reads s);
+      taken = λ o m. ⊎_elim
+          (λ (n : mem o before.receiver.taken ≡ true). inl n)
+          (λ (b : Brought o). inr (brings o b))
+          (d.taken o m);
+      reach_on = d.reach_on;
+      no_more = no_more;
+      size = d.size;
+      span = λ s o. absurd (true≢false (sym o ∙ is.plain.span s));
+      span_over = λ s o. ap (λ (z : Direction). z.over s) d.is ∙ (runs_are_onward d.events before).over s o;
+      passed = inl (is.plain.unskipped ∙ sym was.plain.unskipped);
+      given_up = λ s i g. inr (is.invariant.sending.given_up s i g).1;
+      closes =
+          ⊎_elim (λ (o : after.receiver.is_open ≡ true). inl o)
+          (λ (n : IsOpen (end_of receiver q) → ⊥). inr (inr n)) receives;
+      stays_closed = λ c. ap (λ (z : Direction). z.receiver.is_open) d.is ∙ (runs_are_onward d.events before).closed c;
+    }
+
+-- an association that is established is open
+is_open : (own peer : ℕ) (b : Shown) (out coming before : Direction)
+    → ((is_established b.state ≡ true) × StandsOpen own peer b out coming)
+    ⊎ (out.sender.plan.places ≡ before.sender.plan.places)
+    → IsOpen b ⊎ (out.sender.plan.places ≡ before.sender.plan.places)
+is_open own peer b out coming before (inl (established, s)) = inl (s.working, established_is_not_closed b established)
+is_open own peer b out coming before (inr e) = inr e
+
+-- Who was never established goes on to be silent.
+silent_on : (own peer : ℕ) (s t : Stage) (b : Shown) (out coming before : Direction) → IsNoEarlier s t → IsAt b t
+    → ((is_established b.state ≡ true) × StandsOpen own peer b out coming)
+    ⊎ (out.sender.plan.places ≡ before.sender.plan.places) → IsSilent s before → IsSilent t out
+silent_on own peer s t b out coming before goes at (inl (established, h)) silent never =
+    absurd
+    (true≢false (sym (established_sides_talk b established h.come).completed
+    ∙ ap (λ (z : Stage). z.completed) (at h.working) ∙ never))
+silent_on own peer s t b out coming before goes at (inr same) silent never = same ∙ silent (⊎_elim
+    (λ (done : s.completed ≡ true). absurd (true≢false (sym (goes.completed done) ∙ never)))
+    (λ (begun : s.completed ≡ false). begun)
+    (cases_Bool s.completed))
+
+-- A call of A that settles leads from the world to one in which the pair stands: the packets that it gave out are A's
+-- next ones.
+pub settled_a : (step : Step) (r : Reply) (q : Ends) (w : World) (Added : ℕ → List Message)
+    (Read : ℕ → Option letters.ReceivedMessage) (Brought : ℕ → Type 0)
+    (given : List (List ℕ)) (fits : Fits w.ends w) → q.b ≡ w.ends.b → q.packets_a ≡ w.ends.packets_a ++ given
+    → q.packets_b ≡ w.ends.packets_b
+    → Steps step w.ends r q
+    → (s : Settles w.initial_a w.initial_b fits.stand.stage_a fits.stand.stage_b q.a w.ends.b w.ab w.ba Added
+    Read Brought)
+    → AreSaid w.initial_a w.initial_b s.here2 s.out2 s.coming2 given
+    → IsCallAt step r sides.A w w.initial_b Added Read Brought → LeadsSafely step r w q
+settled_a step r q w Added Read Brought given fits same_b more same_packets ends s said call = (
+  v,
+  record {
+    ends_step = ends;
+    same_a = refl;
+    same_b = refl;
+    ab_step =
+        direction_step step r sides.A sides.B w q w.initial_a w.ab s.out2 Added nothing_read None_brought s.does_out
+        call.adds call.reads_alone (λ o n. absurd n)
+        (is_open w.initial_a w.initial_b q.a s.out2 s.coming2 w.ab s.no_more)
+        fits.stand.sound_ab s.sound_out
+        (receives_or_stopped w.initial_b w.initial_a q.b s.coming2 s.out2 stands.side_b);
+    ba_step =
+        direction_step step r sides.B sides.A w q w.initial_b w.ba s.coming2 nothing_added Read Brought s.does_coming
+        call.adds_alone call.reads call.brings (inr (ap (λ (x : Sender). x.plan.places) s.coming_still))
+        fits.stand.sound_ba s.sound_coming
+        (receives_or_stopped w.initial_a w.initial_b q.a s.out2 s.coming2 stands.side_a);
+  },
+  stands,
+  λ within. safe_world q v (record { within = within; stand = stands }),
+)
+  where
+    v : World
+    v = record { ends = q; initial_a = w.initial_a; initial_b = w.initial_b; ab = s.out2; ba = s.coming2 }
+
+    stands : StandsIn q v
+    stands = record {
+      is = refl;
+      sound_ab = s.sound_out;
+      sound_ba = s.sound_coming;
+      side_a = s.stands;
+      side_b = subst (λ (z : Shown). Stands w.initial_b w.initial_a z s.coming2 s.out2) (sym same_b) s.other;
+      stage_a = s.here2;
+      stage_b = fits.stand.stage_b;
+      at_a = s.at;
+      at_b = subst (λ (z : Shown). IsAt z fits.stand.stage_b) (sym same_b) fits.stand.at_b;
+      meets = s.meets;
+      silent_a =
+          silent_on w.initial_a w.initial_b fits.stand.stage_a s.here2 q.a s.out2 s.coming2 w.ab s.goes s.at s.no_more
+          fits.stand.silent_a;
+      silent_b = λ never. ap (λ (x : Sender). x.plan.places) s.coming_still ∙ fits.stand.silent_b never;
+      said_a = subst (λ (z : List (List ℕ)). AreSaid w.initial_a w.initial_b s.here2 s.out2 s.coming2 z) (sym more)
+          (all_join (λ (bytes : List ℕ). OfEachChunk (IsSaidBy w.initial_a w.initial_b s.here2 s.out2 s.coming2)
+          (packet_in bytes)) w.ends.packets_a given
+          (said_grows w.initial_a w.initial_b fits.stand.stage_a s.here2 w.ab w.ba s.out2 s.coming2 w.ends.packets_a
+          s.goes (s.does_out).datas (s.does_coming).sacks fits.stand.said_a) said);
+      said_b =
+          subst (λ (z : List (List ℕ)). AreSaid w.initial_b w.initial_a fits.stand.stage_b s.coming2 s.out2 z)
+          (sym same_packets)
+          (said_grows w.initial_b w.initial_a fits.stand.stage_b fits.stand.stage_b w.ba w.ab s.coming2 s.out2
+          w.ends.packets_b (stays_put fits.stand.stage_b) (s.does_coming).datas (s.does_out).sacks
+          fits.stand.said_b);
+    }
+
+-- The same of a call of B.
+pub settled_b : (step : Step) (r : Reply) (q : Ends) (w : World) (Added : ℕ → List Message)
+    (Read : ℕ → Option letters.ReceivedMessage) (Brought : ℕ → Type 0)
+    (given : List (List ℕ)) (fits : Fits w.ends w) → q.a ≡ w.ends.a → q.packets_b ≡ w.ends.packets_b ++ given
+    → q.packets_a ≡ w.ends.packets_a
+    → Steps step w.ends r q
+    → (s : Settles w.initial_b w.initial_a fits.stand.stage_b fits.stand.stage_a q.b w.ends.a w.ba w.ab Added
+    Read Brought)
+    → AreSaid w.initial_b w.initial_a s.here2 s.out2 s.coming2 given
+    → IsCallAt step r sides.B w w.initial_a Added Read Brought → LeadsSafely step r w q
+settled_b step r q w Added Read Brought given fits same_a more same_packets ends s said call = (
+  v,
+  record {
+    ends_step = ends;
+    same_a = refl;
+    same_b = refl;
+    ab_step =
+        direction_step step r sides.A sides.B w q w.initial_a w.ab s.coming2 nothing_added Read Brought s.does_coming
+        call.adds_alone call.reads call.brings (inr (ap (λ (x : Sender). x.plan.places) s.coming_still))
+        fits.stand.sound_ab s.sound_coming
+        (receives_or_stopped w.initial_b w.initial_a q.b s.out2 s.coming2 stands.side_b);
+    ba_step =
+        direction_step step r sides.B sides.A w q w.initial_b w.ba s.out2 Added nothing_read None_brought s.does_out
+        call.adds call.reads_alone (λ o n. absurd n)
+        (is_open w.initial_b w.initial_a q.b s.out2 s.coming2 w.ba s.no_more)
+        fits.stand.sound_ba s.sound_out
+        (receives_or_stopped w.initial_a w.initial_b q.a s.coming2 s.out2 stands.side_a);
+  },
+  stands,
+  λ within. safe_world q v (record { within = within; stand = stands }),
+)
+  where
+    v : World
+    v = record { ends = q; initial_a = w.initial_a; initial_b = w.initial_b; ab = s.coming2; ba = s.out2 }
+
+    stands : StandsIn q v
+    stands = record {
+      is = refl;
+      sound_ab = s.sound_coming;
+      sound_ba = s.sound_out;
+      side_a = subst (λ (z : Shown). Stands w.initial_a w.initial_b z s.coming2 s.out2) (sym same_a) s.other;
+      side_b = s.stands;
+      stage_a = fits.stand.stage_a;
+      stage_b = s.here2;
+      at_a = subst (λ (z : Shown). IsAt z fits.stand.stage_a) (sym same_a) fits.stand.at_a;
+      at_b = s.at;
+      meets = turned s.here2 fits.stand.stage_a s.meets;
+      silent_a = λ never. ap (λ (x : Sender). x.plan.places) s.coming_still ∙ fits.stand.silent_a never;
+      silent_b =
+          silent_on w.initial_b w.initial_a fits.stand.stage_b s.here2 q.b s.out2 s.coming2 w.ba s.goes s.at s.no_more
+          fits.stand.silent_b;
+      said_a =
+          subst (λ (z : List (List ℕ)). AreSaid w.initial_a w.initial_b fits.stand.stage_a s.coming2 s.out2 z)
+          (sym same_packets)
+          (said_grows w.initial_a w.initial_b fits.stand.stage_a fits.stand.stage_a w.ab w.ba s.coming2 s.out2
+          w.ends.packets_a (stays_put fits.stand.stage_a) (s.does_coming).datas (s.does_out).sacks
+          fits.stand.said_a);
+      said_b = subst (λ (z : List (List ℕ)). AreSaid w.initial_b w.initial_a s.here2 s.out2 s.coming2 z) (sym more)
+          (all_join (λ (bytes : List ℕ). OfEachChunk (IsSaidBy w.initial_b w.initial_a s.here2 s.out2 s.coming2)
+          (packet_in bytes)) w.ends.packets_b given
+          (said_grows w.initial_b w.initial_a fits.stand.stage_b s.here2 w.ba w.ab s.out2 s.coming2 w.ends.packets_b
+          s.goes (s.does_out).datas (s.does_coming).sacks fits.stand.said_b) said);
+    }

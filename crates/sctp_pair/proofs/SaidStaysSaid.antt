@@ -1,0 +1,77 @@
+-- What a side's packets say of its directions stays said while these go on.
+use Rattle.std.proofs.Common.{◌≡◌, inl, inr, ℕ, List, Option, Some, None}
+use Rattle.std.specs.Prelude.{slice_get}
+use Rattle.sctp_wire_types.specs.declared.chunk.Chunk.{Chunk}
+use Rattle.sctp_wire_types.specs.declared.chunk.Chunk.TheVariants as chunks
+use Rattle.sctp_wire.specs.declared.packet.Packet.{Packet}
+use Rattle.sctp_model.specs.Packets.{Data, Sack}
+use Rattle.sctp_model.specs.Machine.{Direction}
+use Rattle.sctp_model.proofs.Lists.{all_weaker}
+use Rattle.sctp_assoc.specs.Meeting.{IsNoEarlier, Stage}
+use Rattle.sctp_assoc.specs.Shapes.{OfEachChunk}
+use Rattle.sctp_assoc.proofs.Proved.{greetings_stay_true}
+use Rattle.sctp_directions.specs.Said.{Says}
+use Rattle.sctp_pair.specs.Steps.{packet_in}
+use Rattle.sctp_pair.specs.Fits.{AreSaid, IsSaidBy}
+
+-- whatever DATA was given out in a direction stays given out
+abbrev pub KeepsDatas : Direction → Direction → Type 0
+KeepsDatas w v = (k : ℕ) (d : Data) → slice_get w.datas k ≡ Some d → slice_get v.datas k ≡ Some d
+
+-- and whatever SACK its receiver made stays made
+abbrev pub KeepsSacks : Direction → Direction → Type 0
+KeepsSacks w v = (k : ℕ) (x : Sack) → slice_get w.sacks k ≡ Some x → slice_get v.sacks k ≡ Some x
+
+-- one chunk
+chunk_grows : (own peer : ℕ) (out coming out2 coming2 : Direction) → KeepsDatas out out2 → KeepsSacks coming coming2
+    → (c : Chunk)
+    → Says own peer out coming c → Says own peer out2 coming2 c
+chunk_grows own peer out coming out2 coming2 datas sacks (chunks.Data c) (k, d, there, said) =
+    (k, d, datas k d there, said)
+chunk_grows own peer out coming out2 coming2 datas sacks (chunks.SelectiveAck c) (k, x, there, made) =
+    (k, x, sacks k x there, made)
+chunk_grows own peer out coming out2 coming2 datas sacks (chunks.Init c) h = absurd h
+chunk_grows own peer out coming out2 coming2 datas sacks (chunks.InitAck c) h = absurd h
+chunk_grows own peer out coming out2 coming2 datas sacks (chunks.Heartbeat c) h = absurd h
+chunk_grows own peer out coming out2 coming2 datas sacks (chunks.HeartbeatAck c) h = absurd h
+chunk_grows own peer out coming out2 coming2 datas sacks (chunks.Abort c) h = absurd h
+chunk_grows own peer out coming out2 coming2 datas sacks (chunks.Shutdown c) h = absurd h
+chunk_grows own peer out coming out2 coming2 datas sacks chunks.ShutdownAck h = absurd h
+chunk_grows own peer out coming out2 coming2 datas sacks (chunks.Error c) h = absurd h
+chunk_grows own peer out coming out2 coming2 datas sacks (chunks.CookieEcho c) h = absurd h
+chunk_grows own peer out coming out2 coming2 datas sacks chunks.CookieAck h = absurd h
+chunk_grows own peer out coming out2 coming2 datas sacks chunks.ShutdownComplete h = absurd h
+chunk_grows own peer out coming out2 coming2 datas sacks (chunks.Reconfig c) h = absurd h
+chunk_grows own peer out coming out2 coming2 datas sacks (chunks.ForwardTsn c) h = absurd h
+chunk_grows own peer out coming out2 coming2 datas sacks (chunks.IForwardTsn c) h = absurd h
+chunk_grows own peer out coming out2 coming2 datas sacks (chunks.Other kind flags value) h = absurd h
+
+-- a chunk of the handshake says it of a later stage, too
+said_by_grows : (own peer : ℕ) (s t : Stage) (out coming out2 coming2 : Direction) → IsNoEarlier s t
+    → KeepsDatas out out2 → KeepsSacks coming coming2 → (c : Chunk)
+    → IsSaidBy own peer s out coming c → IsSaidBy own peer t out2 coming2 c
+said_by_grows own peer s t out coming out2 coming2 goes datas sacks c (inl said) =
+    inl (chunk_grows own peer out coming out2 coming2 datas sacks c said)
+said_by_grows own peer s t out coming out2 coming2 goes datas sacks c (inr greets) =
+    inr (greetings_stay_true own s t c goes greets)
+
+-- one packet
+packet_grows : (own peer : ℕ) (s t : Stage) (out coming out2 coming2 : Direction) → IsNoEarlier s t
+    → KeepsDatas out out2 → KeepsSacks coming coming2 → (packet : Option Packet)
+    → OfEachChunk (IsSaidBy own peer s out coming) packet → OfEachChunk (IsSaidBy own peer t out2 coming2) packet
+packet_grows own peer s t out coming out2 coming2 goes datas sacks None h = h
+packet_grows own peer s t out coming out2 coming2 goes datas sacks (Some packet) h =
+    all_weaker (IsSaidBy own peer s out coming) (IsSaidBy own peer t out2 coming2) packet.chunks
+    (said_by_grows own peer s t out coming out2 coming2 goes datas sacks) h
+
+-- Packets that say what their directions have, and what is so of their side's handshake, say it of what these became.
+pub said_grows : (own peer : ℕ) (s t : Stage) (out coming out2 coming2 : Direction) (packets : List (List ℕ))
+    → IsNoEarlier s t → KeepsDatas out out2 → KeepsSacks coming coming2
+    → AreSaid own peer s out coming packets → AreSaid own peer t out2 coming2 packets
+said_grows own peer s t out coming out2 coming2 packets goes datas sacks h =
+    all_weaker
+    (λ (bytes : List ℕ). OfEachChunk (IsSaidBy own peer s out coming) (packet_in bytes))
+    (λ (bytes : List ℕ). OfEachChunk (IsSaidBy own peer t out2 coming2) (packet_in bytes))
+    packets
+    (λ bytes said. packet_grows own peer s t out coming out2 coming2 goes datas sacks (packet_in bytes) said)
+    h
