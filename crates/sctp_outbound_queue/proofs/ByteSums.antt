@@ -121,10 +121,11 @@ released_bound q id waiting outstanding kept =
 
 -- the kept sums after a change
 
-pub kept_sent : (now : ℕ) (ms ms2 : List Waiting) (ps ps1 ps2 : List InFlight) (w o b : ℕ) (p : InFlight)
-    → AreKept ms ps w o → Some p ≡ option_map (sent_once now) (slice_get ms 0) → ms2 ≡ after_piece ms → ps1 ≡ ps
-    → ps2 ≡ ps1 ++ p ∷ [] → b ≡ outstanding_bytes p → AreKept ms2 ps2 (w - b) (o + b)
-kept_sent now ms ms2 ps ps1 ps2 w o b p kept first left same more bytes =
+pub kept_sent : {ms2 : List Waiting} {ps1 ps2 : List InFlight} {w o b : ℕ} {p : InFlight} (now : ℕ) (ms : List Waiting)
+    (ps : List InFlight) → AreKept ms ps w o
+    → Some p ≡ option_map (sent_once now) (slice_get ms 0) → ms2 ≡ after_piece ms → ps1 ≡ ps → ps2 ≡ ps1 ++ p ∷ []
+    → b ≡ outstanding_bytes p → AreKept ms2 ps2 (w - b) (o + b)
+kept_sent {p} now ms ps kept first left same more bytes =
     let a = after_piece_bytes now ms p (sym first) in
     let push = sum_by_push outstanding_bytes ps p in
     let c = kept.0 in
@@ -132,51 +133,55 @@ kept_sent now ms ms2 ps ps1 ps2 w o b p kept first left same more bytes =
     let e = kept.2 in
     rw (left, more, same, bytes) (omega (arith, a, c), omega (arith, push, d), omega (arith, a, c, e))
 
-pub kept_flagged : (id : ℕ) (ms : List Waiting) (ps ps2 : List InFlight) (w o b : ℕ) → AreKept ms ps w o
-    → b ≡ min (outstanding_of_message id ps) (2 ^ 64 - 1) → ps2 ≡ map (flagged id) ps → AreKept ms ps2 w (o - b)
-kept_flagged id ms ps ps2 w o b kept bytes flags =
+pub kept_flagged : {ps2 : List InFlight} {w o b : ℕ} (id : ℕ) (ms : List Waiting) (ps : List InFlight)
+    → AreKept ms ps w o → b ≡ min (outstanding_of_message id ps) (2 ^ 64 - 1)
+    → ps2 ≡ map (flagged id) ps → AreKept ms ps2 w (o - b)
+kept_flagged id ms ps kept bytes flags =
     let a = flagged_sum id ps in
     let c = kept.0 in
     let d = kept.1 in
     let e = kept.2 in
     rw flags (c, omega (arith, a, bytes, d, e), omega (arith, e))
 
-pub kept_same : (now : ℕ) (ms ms2 : List Waiting) (ps : List InFlight) (w o : ℕ) → AreKept ms ps w o
-    → None ≡ find (is_expired_unsent now) ms → ms2 ≡ without_expired now ms → AreKept ms2 ps w o
-kept_same now ms ms2 ps w o kept none left =
+pub kept_same : {ms2 : List Waiting} {w o : ℕ} (now : ℕ) (ms : List Waiting) (ps : List InFlight) → AreKept ms ps w o
+    → None ≡ find (is_expired_unsent now) ms
+    → ms2 ≡ without_expired now ms → AreKept ms2 ps w o
+kept_same now ms ps kept none left =
     rw (left, without_none now ms (sym none)) kept
 
-pub kept_dropped : (now : ℕ) (ms ms2 : List Waiting) (ps : List InFlight) (w o b : ℕ) (d : Waiting) → AreKept ms ps w o
+pub kept_dropped : {ms2 : List Waiting} {w o b : ℕ} {d : Waiting} (now : ℕ) (ms : List Waiting) (ps : List InFlight)
+    → AreKept ms ps w o
     → Some d ≡ find (is_expired_unsent now) ms → ms2 ≡ without_expired now ms → b ≡ min (message_bytes d) (2 ^ 64 - 1)
     → AreKept ms2 ps (w - b) o
-kept_dropped now ms ms2 ps w o b d kept found left bytes =
-    let a = without_bytes now ms d (sym found) in
+kept_dropped now ms ps kept found left bytes =
+    let a = without_bytes now ms _ (sym found) in
     let c = kept.0 in
     let e = kept.2 in
     rw left (omega (arith, a, bytes, c, e), kept.1, omega (arith, e))
 
-pub dropped_bytes : (now : ℕ) (ms : List Waiting) (ps : List InFlight) (w o b : ℕ) (d : Waiting) → AreKept ms ps w o
-    → Some d ≡ find (is_expired_unsent now) ms → b ≡ min (message_bytes d) (2 ^ 64 - 1)
-    → (b ≡ message_bytes d) × (b ≤ w)
-dropped_bytes now ms ps w o b d kept found bytes =
-    let a = without_bytes now ms d (sym found) in
+pub dropped_bytes : {w o b : ℕ} {d : Waiting} (now : ℕ) (ms : List Waiting) (ps : List InFlight) → AreKept ms ps w o
+    → Some d ≡ find (is_expired_unsent now) ms
+    → b ≡ min (message_bytes d) (2 ^ 64 - 1) → (b ≡ message_bytes d) × (b ≤ w)
+dropped_bytes now ms ps kept found bytes =
+    let a = without_bytes now ms _ (sym found) in
     let c = kept.0 in
     let e = kept.2 in
     (omega (arith, a, bytes, c, e), omega (arith, a, bytes, c, e))
 
-pub expiry_is : (now : ℕ) (q : Outbound) (ms : List Waiting) (d : Waiting) (b w o : ℕ)
+pub expiry_is : {ms : List Waiting} {d : Waiting} {b w o : ℕ} (now : ℕ) (q : Outbound)
     → AreKept q.pending q.in_flight w o → Some d ≡ find (is_expired_unsent now) q.pending
     → ms ≡ without_expired now q.pending → b ≡ min (message_bytes d) (2 ^ 64 - 1)
     → after_expiry now q ≡ (record q { pending = ms }, Some (released d.message b))
-expiry_is now q ms d b w o kept found left bytes =
-    let same = (dropped_bytes now q.pending q.in_flight w o b d kept found bytes).0 in
+expiry_is now q kept found left bytes =
+    let same = (dropped_bytes now q.pending q.in_flight kept found bytes).0 in
     rw (left, same, ← found)
 
-pub abandoned_is : (q q1 q2 : Outbound) (tsn index : ℕ) (p : InFlight) (sent tail : ℕ)
+pub abandoned_is : {q1 q2 : Outbound} {index : ℕ} {p : InFlight} {sent tail : ℕ} (q : Outbound) (tsn : ℕ)
     → index ≡ tsn_past q.first_tsn tsn → Some p ≡ slice_get q.in_flight index
     → sent ≡ outstanding_of_message p.message.message_id q.in_flight → tail_dropped q p.message.message_id ≡ (q1, tail)
-    → q2 ≡ all_flagged p.message.message_id q1 → abandoned_at q tsn ≡ (q2, Some (released p.message (sent + tail)))
-abandoned_is q q1 q2 tsn index p sent tail there here bytes dropped flags =
+    → q2 ≡ all_flagged p.message.message_id q1
+    → abandoned_at q tsn ≡ (q2, Some (released p.message (sent + tail)))
+abandoned_is {q1} {p} q tsn there here bytes dropped flags =
     let a : (tail_dropped q p.message.message_id).0 ≡ q1 = ap (λ (z : Outbound × ℕ). z.0) dropped in
-    let b : (tail_dropped q p.message.message_id).1 ≡ tail = ap (λ (z : Outbound × ℕ). z.1) dropped in
+    let b : (tail_dropped q p.message.message_id).1 ≡ _ = ap (λ (z : Outbound × ℕ). z.1) dropped in
     rw (← there, ← here, flags, bytes, ← a, ← b)

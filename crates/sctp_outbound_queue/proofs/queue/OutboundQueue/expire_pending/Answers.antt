@@ -5,22 +5,19 @@ use Rattle.sctp_outbound_queue.proofs.queue.OutboundQueue.expire_pending.Goals a
 
 pub invariant_of-self-in-None : goal.invariant_of-self-in-None
 invariant_of-self-in-None c =
-    kept_same c.args.now c.self.inside.pending.items c.drop_expired.new.messages.items c.self.inside.in_flight.items
-    c.self.inside.pending_bytes c.self.inside.outstanding_bytes c.self.invariant c.in-None.ensures.dropped
-    c.in-None.ensures.left
+    kept_same c.args.now c.self.inside.pending.items c.self.inside.in_flight.items c.self.invariant
+    c.in-None.ensures.dropped c.in-None.ensures.left
 
 pub overflow_sub-self : goal.overflow_sub-self
 overflow_sub-self c =
     (
-    dropped_bytes c.args.now c.self.inside.pending.items c.self.inside.in_flight.items c.self.inside.pending_bytes
-    c.self.inside.outstanding_bytes c.bytes-bytes.result c.in-Some.dropped c.self.invariant c.in-Some.ensures.dropped
-    c.bytes-bytes.ensures
+    dropped_bytes c.args.now c.self.inside.pending.items c.self.inside.in_flight.items c.self.invariant
+    c.in-Some.ensures.dropped c.bytes-bytes.ensures
     ).1
 
 pub invariant_of-self : goal.invariant_of-self
 invariant_of-self c =
-    kept_dropped c.args.now c.self.inside.pending.items c.drop_expired.new.messages.items c.self.inside.in_flight.items
-    c.self.inside.pending_bytes c.self.inside.outstanding_bytes c.bytes-bytes.result c.in-Some.dropped c.self.invariant
+    kept_dropped c.args.now c.self.inside.pending.items c.self.inside.in_flight.items c.self.invariant
     c.in-Some.ensures.dropped c.in-Some.ensures.left c.bytes-bytes.ensures
 
 pub returns-in-Some : goal.returns-in-Some
@@ -28,7 +25,5 @@ returns-in-Some c =
     let same : c.dropped.inside.message ≡ c.in-Some.dropped.message =
     ap (λ (m : Waiting). m.message) c.dropped.view_is in
     rw (← c.self.view_is, same) (
-    expiry_is c.args.now _ c.drop_expired.new.messages.items c.in-Some.dropped c.bytes-bytes.result
-    c.self.inside.pending_bytes c.self.inside.outstanding_bytes c.self.invariant c.in-Some.ensures.dropped
-    c.in-Some.ensures.left c.bytes-bytes.ensures
+    expiry_is c.args.now _ c.self.invariant c.in-Some.ensures.dropped c.in-Some.ensures.left c.bytes-bytes.ensures
     )

@@ -12,6 +12,5 @@ overflow_sub-self c =
 
 pub invariant_of-self : goal.invariant_of-self
 invariant_of-self c =
-    kept_flagged c.args.message_id c.self.inside.pending.items c.self.inside.in_flight.items c.flag_all.new.pieces.items
-    c.self.inside.pending_bytes c.self.inside.outstanding_bytes c.bytes_of_message.result c.self.invariant
+    kept_flagged c.args.message_id c.self.inside.pending.items c.self.inside.in_flight.items c.self.invariant
     c.bytes_of_message.ensures c.flag_all.ensures
