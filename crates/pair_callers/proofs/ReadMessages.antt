@@ -10,7 +10,8 @@ use Rattle.sctp_model.specs.Messages.{Plan, message_at}
 use Rattle.sctp_model.specs.Machine.{Direction}
 use Rattle.sctp_model.specs.Reassembly.{Got}
 use Rattle.sctp_model.specs.Safe.{IsSafe, Letter, Names, Tells, letter_read, letter_written}
-use Rattle.sctp_directions.specs.Incoming.{IsReadAs, letter_received}
+use Rattle.sctp_directions.specs.Incoming.{IsReadAs}
+use Rattle.sctp_reassembly.specs.Stands.{letter_received}
 use Rattle.sctp_pair.specs.declared.step.Reply.{Reply}
 use Rattle.sctp_pair.specs.declared.step.Reply.TheVariants as replies
 use Rattle.sctp_pair.specs.declared.step.Side2.{Side2}

@@ -6,7 +6,7 @@ use Rattle.sctp_model.specs.Machine.{Direction}
 use Rattle.sctp_model.specs.Safe.{IsKeptOrdered, IsKeptReliable, IsToBeHad, IsWhole, Letter, letter_written}
 use Rattle.sctp_assoc.specs.Calls.{ready_messages}
 use Rattle.sctp_assoc.specs.Shown.{Shown}
-use Rattle.sctp_directions.specs.Incoming.{letter_received}
+use Rattle.sctp_reassembly.specs.Stands.{letter_received}
 use Rattle.sctp_pair.specs.declared.step.Reply.{Reply}
 use Rattle.sctp_pair.specs.declared.step.Reply.TheVariants as replies
 use Rattle.pair_callers.specs.Reading.{letter_at, letters_read}

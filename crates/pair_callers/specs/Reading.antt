@@ -5,7 +5,7 @@ use Rattle.sctp_receive_queues.specs.Messages.{ReceivedMessage}
 use Rattle.sctp_model.specs.Messages.{Plan, message_at}
 use Rattle.sctp_model.specs.Machine.{Direction}
 use Rattle.sctp_model.specs.Safe.{AreDistinct, AreRising, IsWhole, Letter, is_ordered, letter_read, letter_written}
-use Rattle.sctp_directions.specs.Incoming.{letter_received}
+use Rattle.sctp_reassembly.specs.Stands.{letter_received}
 use Rattle.sctp_pair.specs.declared.step.Reply.{Reply}
 use Rattle.sctp_pair.specs.declared.step.Reply.TheVariants as replies
 

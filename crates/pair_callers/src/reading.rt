@@ -3,7 +3,7 @@ ghost use Rattle.std.specs.Prelude.{◌≡◌, ℕ, false, IfSome};
 ghost use Rattle.sctp_pair.specs.Steps.{Steps};
 ghost use Rattle.pair_callers.specs.Going.{GoesOn, GoesOnWithin, to_side};
 ghost use Rattle.pair_callers.specs.Reading.{AreNumbered, IsOfAccepted, ReadsNext, message_in};
-ghost use Rattle.sctp_directions.specs.Incoming.{letter_received};
+ghost use Rattle.sctp_reassembly.specs.Stands.{letter_received};
 
 use sctp_assoc::{Chunks, StreamId};
 use sctp_pair::{Pair, Reply, Side2, Step};

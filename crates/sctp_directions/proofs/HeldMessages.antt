@@ -29,7 +29,8 @@ use Rattle.sctp_model.proofs.CompleteRuns.{at_top}
 use Rattle.sctp_model.proofs.Lists.{all_push, all_weaker}
 use Rattle.sctp_model.proofs.NumberWindows.{before_is, next_is}
 use Rattle.sctp_assoc.specs.Chunks.{is_whole}
-use Rattle.sctp_directions.specs.Incoming.{AreHeldAs, IsHeldAs, IsQueue, letter_received}
+use Rattle.sctp_directions.specs.Incoming.{AreHeldAs, IsHeldAs, IsQueue}
+use Rattle.sctp_reassembly.specs.Stands.{letter_received}
 
 -- Lists
 

@@ -20,7 +20,8 @@ use Rattle.sctp_model.proofs.Lists.{all_get}
 use Rattle.sctp_assoc.specs.Acts.{Act, Parts, done, parts, tsn_before}
 use Rattle.sctp_assoc.specs.Calls.{buffered_at, ready_of}
 use Rattle.sctp_assoc.specs.Reports.{SaysWhatCame}
-use Rattle.sctp_directions.specs.Incoming.{FitsIncoming, letter_received}
+use Rattle.sctp_directions.specs.Incoming.{FitsIncoming}
+use Rattle.sctp_reassembly.specs.Stands.{letter_received}
 use Rattle.sctp_directions.specs.Laws.{ActsKeepTheInitialTsns, OpenedStreamsAreAlike, OwnActsLeaveWhatComes}
 use Rattle.sctp_directions.specs.Laws.{PiecesAreGiven, ReadyMessagesAreAlike, ReportsSayWhatCame, SacksMeanTheSame}
 use Rattle.sctp_directions.specs.Laws.{WhatComesLeavesItsOwn, WhatIsReleasedIsNotBuffered}

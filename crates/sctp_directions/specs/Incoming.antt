@@ -12,13 +12,10 @@ use Rattle.sctp_model.specs.Packets.{Data}
 use Rattle.sctp_model.specs.Reassembly.{Got, Queue}
 use Rattle.sctp_model.specs.Machine.{Direction, reach}
 use Rattle.sctp_model.specs.Safe.{Letter, letter_read, read_end}
+use Rattle.sctp_reassembly.specs.Stands.{letter_received}
 use Rattle.sctp_assoc.specs.Acts.{Parts}
 use Rattle.sctp_assoc.specs.Chunks.{is_whole}
 use Rattle.sctp_directions.specs.Plain.{count_below}
-
--- what a reader sees of a message
-abbrev pub letter_received : ReceivedMessage → Letter
-letter_received m = record { payload_type = number_of m.payload_type; bytes = bytes_left m }
 
 -- A group of one piece is the DATA d, and that is message n of its stream.
 pub record IsHeldAs (p : Plan) (n : ℕ) (g : Group) (d : Data) : Type 0 where

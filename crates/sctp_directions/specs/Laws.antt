@@ -26,7 +26,8 @@ use Rattle.sctp_directions.specs.Events.{IsPlainEvent, IsReceived, IsSentOn, Kee
 use Rattle.sctp_directions.specs.Plain.{IsPlain, IsSimple}
 use Rattle.sctp_directions.specs.Said.{IsGiven, IsMade, IsSaid}
 use Rattle.sctp_directions.specs.Outgoing.{FitsOutgoing, message_on}
-use Rattle.sctp_directions.specs.Incoming.{FitsIncoming, IsReadAs, letter_received}
+use Rattle.sctp_directions.specs.Incoming.{FitsIncoming, IsReadAs}
+use Rattle.sctp_reassembly.specs.Stands.{letter_received}
 
 -- A write on a live stream, of one piece, is accepted by the direction as that message.
 abbrev pub WritesAreAccepted : Type 0

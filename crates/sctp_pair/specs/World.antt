@@ -19,7 +19,8 @@ use Rattle.sctp_model.specs.Safe.{IsSafe, IsWithin, letter_read}
 use Rattle.sctp_assoc.specs.Acts.{tsn_before}
 use Rattle.sctp_assoc.specs.Calls.{buffered_of, is_closed_state, ready_messages}
 use Rattle.sctp_assoc.specs.Shown.{Shown}
-use Rattle.sctp_directions.specs.Incoming.{IsReadAs, letter_received}
+use Rattle.sctp_directions.specs.Incoming.{IsReadAs}
+use Rattle.sctp_reassembly.specs.Stands.{letter_received}
 use Rattle.sctp_directions.specs.Outgoing.{message_on}
 use Rattle.sctp_pair.specs.declared.step.Reply.{Reply}
 use Rattle.sctp_pair.specs.declared.step.Reply.TheVariants as replies

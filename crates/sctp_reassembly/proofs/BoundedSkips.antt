@@ -22,7 +22,7 @@ use Rattle.sctp_model.proofs.Lists.{all_both, all_filter, all_mem, all_passed, a
 use Rattle.sctp_model.proofs.Lists.{mem_right}
 use Rattle.sctp_model.proofs.NumberWindows.{before_is, same_from, up_to_is}
 use Rattle.sctp_reassembly.specs.Laws.{BoundedSkipsSpare, BoundedSkipsStand}
-use Rattle.sctp_reassembly.specs.Stands.{Held, IsOf, AreSaid, IsGroup, AreGroups, offsets_in, numbers_in, StandsFor}
+use Rattle.sctp_reassembly.specs.Stands.{Held, IsOf, CarryDataOf, IsGroup, AreGroups, offsets_in, numbers_in, StandsFor}
 use Rattle.sctp_reassembly.specs.Stands.{IsInWindow, IsSpared, bounded_at, held_past, just_before}
 use Rattle.sctp_reassembly.proofs.UnorderedFits.{end_is, end_of}
 use Rattle.sctp_reassembly.proofs.HeldMessages.{and_none, at_filtered, in_from, later_number, there_from}
@@ -173,7 +173,7 @@ module _ (initial : ℕ) (p : Plan) (over : ℕ → Bool) (came : List ℕ) (s l
   has_end : (g : Group) (k : Held) → IsGroup initial p s g k → HasEnd initial o g k
   has_end g k i = go g.pieces k.offsets refl refl i.pieces i.some i.rising i.mine
     where
-      go : (cs : List ChunkPayloadData) (os : List ℕ) → g.pieces ≡ cs → k.offsets ≡ os → AreSaid initial p cs os
+      go : (cs : List ChunkPayloadData) (os : List ℕ) → g.pieces ≡ cs → k.offsets ≡ os → CarryDataOf initial p cs os
           → 0 < length os → AreRising os
           → AllByRecursion (IsOf p s k.number) os → HasEnd initial o g k
       go cs [] e f a n r m = absurd (omega arith)

@@ -19,7 +19,7 @@ use Rattle.sctp_model.proofs.PlansGrow.{at_put}
 use Rattle.sctp_model.proofs.Lists.{all_get}
 use Rattle.sctp_reassembly.specs.Laws.{AForwardThatComesStands, AReadThatHappensStands, DataThatComesStands}
 use Rattle.sctp_reassembly.specs.Laws.{UnorderedDataThatComesStands}
-use Rattle.sctp_reassembly.specs.Stands.{IsAnsweredAlike, IsInWindow, IsLoose, IsReadAs, IsSaid, StandsFor, skipped_if}
+use Rattle.sctp_reassembly.specs.Stands.{IsAnsweredAlike, IsInWindow, IsLoose, IsReadAs, CarriesData, StandsFor, skipped_if}
 use Rattle.sctp_reassembly.proofs.ReadAnswers.{reads_answer_alike}
 use Rattle.sctp_reassembly.proofs.OrderedArrives.{ordered_pieces_stand}
 use Rattle.sctp_reassembly.proofs.UnorderedDropped.{unordered_drops_stand}
@@ -66,7 +66,7 @@ data_that_comes_stands initial w k limit r c d l h v e opened n kind said st =
     let both =
     ordered_pieces_stand initial p w.over (d.offset ∷ w.receiver.taken) d.stream (read_ssn p 0 (w.reads d.stream)) win.0
     d.offset limit r q c
-    h.planned v l.offsets st (subst (IsSaid initial c) piece.is said) (sym (ap (λ z. z.ordered) piece.is) ∙ kind) free
+    h.planned v l.offsets st (subst (CarriesData initial c) piece.is said) (sym (ap (λ z. z.ordered) piece.is) ∙ kind) free
     (subst (λ z. IsInWindow p (d.offset ∷ w.receiver.taken) d.stream (read_ssn p 0 (w.reads d.stream)) win.0 (push q z))
     piece.is win') in (
       subst (StandsFor initial p d.stream (pushed r c).0)
@@ -97,7 +97,7 @@ unordered_data_that_comes_stands initial w k limit r c d l h v e opened n kind s
     } in
     let both =
     unordered_pieces_stand initial p w.over d.stream d.offset limit r q c h.planned l.offsets st
-    (subst (IsSaid initial c) piece.is said) loose free in
+    (subst (CarriesData initial c) piece.is said) loose free in
     (subst (StandsFor initial p d.stream (pushed r c).0) (ap (push q) (sym piece.is) ∙ there) both.0, both.1)
 
 was_so : (w : Direction) (s : ℕ) (q : Queue) → w.receiver.queues s ≡ Some q → w.receiver.is_open ≡ true

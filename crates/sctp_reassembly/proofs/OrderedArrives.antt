@@ -18,7 +18,7 @@ use Rattle.sctp_model.specs.Reassembly.{Queue, at, push, push_ordered, push_unor
 use Rattle.sctp_model.specs.Invariants.{IsPlanned}
 use Rattle.sctp_model.proofs.Lists.{all_weaker}
 use Rattle.sctp_reassembly.specs.Laws.{OrderedPiecesStand}
-use Rattle.sctp_reassembly.specs.Stands.{Held, IsSaid, IsOf, AreGroups, offsets_in, StandsFor, IsInWindow}
+use Rattle.sctp_reassembly.specs.Stands.{Held, CarriesData, IsOf, AreGroups, offsets_in, StandsFor, IsInWindow}
 use Rattle.sctp_reassembly.specs.Stands.{IsForBytesAlone}
 use Rattle.sctp_reassembly.proofs.HeldMessages.{IsAlone, all_alone, in_from, there_from}
 use Rattle.sctp_reassembly.proofs.PlaceRecursion.{with_ordered_is}
@@ -72,7 +72,7 @@ kept_if b r after = cond b (r, false) (after, true)
 module _ (initial : ℕ) (p : Plan) (over : ℕ → Bool) (came : List ℕ) (s low cursor o limit : ℕ) (r : Reassembly)
     (q : Queue) (c : ChunkPayloadData)
     (h : IsPlanned p over) (v : over s ≡ false) (small : length p.places < 2 ^ 31) (st : StandsFor initial p s r q)
-    (i : IsSaid initial c (data_at p o)) (kind : (data_at p o).ordered ≡ true) (new : at o q.ordered ≡ None)
+    (i : CarriesData initial c (data_at p o)) (kind : (data_at p o).ordered ≡ true) (new : at o q.ordered ≡ None)
     (w : IsInWindow p came s low cursor (push q (data_at p o))) where
   narrower : (d : Data) → IsInWindow p came s low cursor (with_piece q d) → IsInWindow p came s low cursor q
   narrower d x = record { held = x.held.1; near = x.near.1; is = x.is; above = x.above; until = x.until }

@@ -14,7 +14,7 @@ use Rattle.sctp_model.specs.Safe.{AreRising}
 use Rattle.sctp_model.specs.Invariants.{IsPlanned}
 use Rattle.sctp_model.proofs.Lists.{all_weaker, mem_neither, mem-join}
 use Rattle.sctp_model.proofs.NumberWindows.{before_is, same_is}
-use Rattle.sctp_reassembly.specs.Stands.{Held, IsSaid, AreSaid, IsOf, IsGroup, AreGroups, offsets_in, numbers_in}
+use Rattle.sctp_reassembly.specs.Stands.{Held, CarriesData, CarryDataOf, IsOf, IsGroup, AreGroups, offsets_in, numbers_in}
 use Rattle.sctp_reassembly.proofs.PlaceRecursion.{AreOthers, AreSplit, entered, grown_is, position_here, position_later}
 use Rattle.sctp_reassembly.proofs.PlaceRecursion.{up_one}
 use Rattle.sctp_reassembly.proofs.PiecePlace.{all_put, mem_put, piece_fits, put_offset, rising_put, said_put, some_put}
@@ -124,13 +124,13 @@ offsets_small p s n os small a = all_weaker _ _ os (λ x m. let k = m.at.known i
 
 -- a group of one piece
 new_group : (initial : ℕ) (p : Plan) (s n o : ℕ) (c : ChunkPayloadData) → c.stream_sequence_number ≡ n % 65536
-    → IsSaid initial c (data_at p o) → IsOf p s n o
+    → CarriesData initial c (data_at p o) → IsOf p s n o
     → IsGroup initial p s (group_of c) (record { number = n; offsets = o ∷ [] })
 new_group initial p s n o c e i x =
     record { ssn = e; pieces = (i, tt); some = omega arith; rising = (tt, tt); mine = (x, tt) }
 
 grown_group : (initial : ℕ) (p : Plan) (s n o : ℕ) (c : ChunkPayloadData) (g : Group) (h : Held)
-    → length p.places < 2 ^ 31 → IsSaid initial c (data_at p o) → IsOf p s n o
+    → length p.places < 2 ^ 31 → CarriesData initial c (data_at p o) → IsOf p s n o
     → IsGroup initial p s g h → h.number ≡ n → mem o h.offsets ≡ false
     → IsGroup initial p s (grown g c) (record { number = n; offsets = put_offset o h.offsets })
 grown_group initial p s n o c g h small i x a e out = record {
@@ -146,11 +146,11 @@ grown_group initial p s n o c g h small i x a e out = record {
 }
   where
     AreSaidAt : List ChunkPayloadData → Type 0
-    AreSaidAt z = AreSaid initial p z (put_offset o h.offsets)
+    AreSaidAt z = CarryDataOf initial p z (put_offset o h.offsets)
 
 pub groups_in : (initial : ℕ) (p : Plan) (s n o : ℕ) (c : ChunkPayloadData) (gs : List Group) (hs : List Held)
     → length p.places < 2 ^ 31 → c.stream_sequence_number ≡ n % 65536
-    → IsSaid initial c (data_at p o) → IsOf p s n o → AreGroups initial p s gs hs → AllByRecursion (AreNear n) hs
+    → CarriesData initial c (data_at p o) → IsOf p s n o → AreGroups initial p s gs hs → AllByRecursion (AreNear n) hs
     → mem o (offsets_in hs) ≡ false
     → AreGroups initial p s (entered gs c) (put_in n o hs)
 groups_in initial p s n o c [] [] small e i x a w out = (new_group initial p s n o c e i x, tt)
@@ -176,7 +176,7 @@ groups_in initial p s n o c (g ∷ gs) (h ∷ hs) small e i x a w out =
 pub fits_there : (initial : ℕ) (p : Plan) (over : ℕ → Bool) (s n o : ℕ) (c : ChunkPayloadData) (gs : List Group)
     (hs : List Held) → IsPlanned p over → over s ≡ false
     → length p.places < 2 ^ 31 → c.stream_sequence_number ≡ n % 65536
-    → IsSaid initial c (data_at p o) → IsOf p s n o → AreGroups initial p s gs hs → AllByRecursion (AreNear n) hs
+    → CarriesData initial c (data_at p o) → IsOf p s n o → AreGroups initial p s gs hs → AllByRecursion (AreNear n) hs
     → mem o (offsets_in hs) ≡ false
     → contradicts (pieces_at (place_of_ssn c.stream_sequence_number gs) gs) c ≡ false
 fits_there initial p over s n o c [] hs h v small e i x a w out = refl

@@ -15,7 +15,7 @@ use Rattle.sctp_model.specs.Serial.{tsn}
 use Rattle.sctp_model.specs.Safe.{AreRising}
 use Rattle.sctp_model.specs.Invariants.{IsPlanned}
 use Rattle.sctp_model.proofs.Lists.{all_weaker}
-use Rattle.sctp_reassembly.specs.Stands.{AreSaid, IsSaid, IsOf}
+use Rattle.sctp_reassembly.specs.Stands.{CarryDataOf, CarriesData, IsOf}
 use Rattle.sctp_reassembly.proofs.PieceChains.{apart, not_last, one_message, same_text}
 use Rattle.sctp_reassembly.proofs.PlaceRecursion.{position_here, position_later, put_before, up_one}
 use Rattle.sctp_reassembly.proofs.TsnOrder.{tsn_before, tsn_same}
@@ -66,9 +66,9 @@ rising_put o (x ∷ xs) r m =
 
 -- the chunks are those of the offsets again
 pub said_put : (initial : ℕ) (p : Plan) (c : ChunkPayloadData) (o : ℕ) (cs : List ChunkPayloadData) (os : List ℕ)
-    → IsSaid initial c (data_at p o) → o < 2 ^ 31
-    → AreSaid initial p cs os → AllByRecursion (λ (x : ℕ). x < 2 ^ 31) os
-    → AreSaid initial p (put_before (λ (x : ChunkPayloadData). tsn_lt c.tsn x.tsn) c cs) (put_offset o os)
+    → CarriesData initial c (data_at p o) → o < 2 ^ 31
+    → CarryDataOf initial p cs os → AllByRecursion (λ (x : ℕ). x < 2 ^ 31) os
+    → CarryDataOf initial p (put_before (λ (x : ChunkPayloadData). tsn_lt c.tsn x.tsn) c cs) (put_offset o os)
 said_put initial p c o [] [] i l a s = (i, tt)
 said_put initial p c o [] (x ∷ xs) i l a s = absurd a
 said_put initial p c o (d ∷ ds) [] i l a s = absurd a
@@ -95,8 +95,8 @@ between p over s n a b h v x y l =
     )
 
 has_none : (initial : ℕ) (p : Plan) (c : ChunkPayloadData) (o : ℕ) (cs : List ChunkPayloadData) (os : List ℕ)
-    → IsSaid initial c (data_at p o) → o < 2 ^ 31
-    → AreSaid initial p cs os → AllByRecursion (λ (x : ℕ). x < 2 ^ 31) os → has_tsn c.tsn cs ≡ mem o os
+    → CarriesData initial c (data_at p o) → o < 2 ^ 31
+    → CarryDataOf initial p cs os → AllByRecursion (λ (x : ℕ). x < 2 ^ 31) os → has_tsn c.tsn cs ≡ mem o os
 has_none initial p c o [] [] i l a s = refl
 has_none initial p c o [] (x ∷ xs) i l a s = absurd a
 has_none initial p c o (d ∷ ds) [] i l a s = absurd a
@@ -107,7 +107,7 @@ has_none initial p c o (d ∷ ds) (x ∷ xs) i l a s =
 
 same_type : (initial : ℕ) (p : Plan) (over : ℕ → Bool) (s n : ℕ) (c : ChunkPayloadData) (o : ℕ)
     (cs : List ChunkPayloadData) (os : List ℕ) → IsPlanned p over → over s ≡ false
-    → IsSaid initial c (data_at p o) → IsOf p s n o → AreSaid initial p cs os → AllByRecursion (IsOf p s n) os
+    → CarriesData initial c (data_at p o) → IsOf p s n o → CarryDataOf initial p cs os → AllByRecursion (IsOf p s n) os
     → has_other_type cs c ≡ false
 same_type initial p over s n c o [] os h v i x a m = refl
 same_type initial p over s n c o (d ∷ ds) [] h v i x a m = absurd a
@@ -144,7 +144,7 @@ place_later c d ds e =
 
 front_fits : (initial : ℕ) (p : Plan) (over : ℕ → Bool) (s n : ℕ) (c : ChunkPayloadData) (o : ℕ)
     (cs : List ChunkPayloadData) (os : List ℕ) → IsPlanned p over → over s ≡ false
-    → IsSaid initial c (data_at p o) → o < 2 ^ 31 → IsOf p s n o → AreSaid initial p cs os
+    → CarriesData initial c (data_at p o) → o < 2 ^ 31 → IsOf p s n o → CarryDataOf initial p cs os
     → AllByRecursion (IsOf p s n) os → AllByRecursion (λ (x : ℕ). x < 2 ^ 31) os
     → mem o os ≡ false → cond (eqb (index_of c.tsn cs) 0) (begins cs) c.beginning_fragment ≡ false
 front_fits initial p over s n c o [] os h v i l x a m t out = refl
@@ -166,7 +166,7 @@ front_fits initial p over s n c o (d ∷ ds) (y ∷ ys) h v i l x a m t out =
 
 back_fits : (initial : ℕ) (p : Plan) (over : ℕ → Bool) (s n : ℕ) (c : ChunkPayloadData) (o : ℕ)
     (cs : List ChunkPayloadData) (os : List ℕ) → IsPlanned p over → over s ≡ false
-    → IsSaid initial c (data_at p o) → o < 2 ^ 31 → IsOf p s n o → AreSaid initial p cs os
+    → CarriesData initial c (data_at p o) → o < 2 ^ 31 → IsOf p s n o → CarryDataOf initial p cs os
     → AllByRecursion (IsOf p s n) os → AllByRecursion (λ (x : ℕ). x < 2 ^ 31) os
     → mem o os ≡ false → cond (eqb (index_of c.tsn cs) (length cs)) (ends cs) c.ending_fragment ≡ false
 back_fits initial p over s n c o [] os h v i l x a m t out = refl
@@ -189,7 +189,7 @@ back_fits initial p over s n c o (d ∷ ds) (y ∷ ys) h v i l x a m t out =
     (back_fits initial p over s n c o ds ys h v i l x a.1 m.1 t.1 parts.1))
     (cases_Bool (ltb o y))
   where
-    rest : (ds : List ChunkPayloadData) (ys : List ℕ) → AreSaid initial p ds ys → is_last p (place_at p y) ≡ false
+    rest : (ds : List ChunkPayloadData) (ys : List ℕ) → CarryDataOf initial p ds ys → is_last p (place_at p y) ≡ false
         → cond (eqb (index_of c.tsn ds) (length ds)) (ends ds) c.ending_fragment ≡ false
         → cond (eqb (index_of c.tsn ds) (length ds)) (ends (d ∷ ds)) c.ending_fragment ≡ false
     rest [] zs b f g = a.0.last ∙ f
@@ -202,7 +202,7 @@ neither_of a b c x y z = rw (x, y, z) refl
 
 pub piece_fits : (initial : ℕ) (p : Plan) (over : ℕ → Bool) (s n : ℕ) (c : ChunkPayloadData) (o : ℕ)
     (cs : List ChunkPayloadData) (os : List ℕ) → IsPlanned p over → over s ≡ false
-    → IsSaid initial c (data_at p o) → o < 2 ^ 31 → IsOf p s n o → AreSaid initial p cs os
+    → CarriesData initial c (data_at p o) → o < 2 ^ 31 → IsOf p s n o → CarryDataOf initial p cs os
     → AllByRecursion (IsOf p s n) os → AllByRecursion (λ (x : ℕ). x < 2 ^ 31) os
     → mem o os ≡ false → contradicts cs c ≡ false
 piece_fits initial p over s n c o cs os h v i l x a m t out =

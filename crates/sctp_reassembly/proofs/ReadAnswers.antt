@@ -16,7 +16,7 @@ use Rattle.sctp_model.specs.Invariants.{IsPlanned}
 use Rattle.sctp_model.proofs.Lists.{all_weaker, all_mem}
 use Rattle.sctp_model.proofs.NumberWindows.{before_is, up_to_is}
 use Rattle.sctp_reassembly.specs.Laws.{ReadsAnswerAlike}
-use Rattle.sctp_reassembly.specs.Stands.{Held, IsGroup, AreGroups, AreSaid, offsets_in, numbers_in, letter_received}
+use Rattle.sctp_reassembly.specs.Stands.{Held, IsGroup, AreGroups, CarryDataOf, offsets_in, numbers_in, letter_received}
 use Rattle.sctp_reassembly.specs.Stands.{StandsFor, IsInWindow, IsAnsweredAlike}
 use Rattle.sctp_reassembly.proofs.HeldMessages.{IsAlone, first_alone, in_from, nothing_held, number_in, there_from}
 use Rattle.sctp_reassembly.proofs.WholeMessages.{message_is, complete_is, letter_is}
@@ -32,7 +32,7 @@ pub group_is : (initial : ℕ) (p : Plan) (s : ℕ) (held : List Data) (g : Grou
     → IsGroup initial p s g h → (a : IsAlone p s held h)
     → is_complete g.pieces ≡ is_all p a.first a.rest
 group_is initial p s held g h small i a =
-    complete_is initial p g.pieces a.first a.rest (subst (AreSaid initial p g.pieces) a.offsets i.pieces)
+    complete_is initial p g.pieces a.first a.rest (subst (CarryDataOf initial p g.pieces) a.offsets i.pieces)
     (all_weaker _ _ (a.first ∷ a.rest) (λ x m. let k = m.at.known in omega arith) a.all.from.mine)
 
 -- A read of a stream whose reassembly stands for a queue in its window
@@ -95,7 +95,7 @@ module _ (initial : ℕ) (p : Plan) (over : ℕ → Bool) (came : List ℕ) (s l
       (cond (not (leb h.number cursor)) None (taken_out q n (cond done (Some run) None)))) (sym is)
       (decided after (the_message g.pieces) n run (leb h.number cursor) done (
         letter_is initial p g.pieces alone.first alone.rest
-            (subst (AreSaid initial p g.pieces) alone.offsets a.0.pieces),
+            (subst (CarryDataOf initial p g.pieces) alone.offsets a.0.pieces),
         stands_after initial p came s low cursor r q g gs h hs w a rise.0 alone st e,
       )))
 

@@ -20,7 +20,7 @@ use Rattle.sctp_model.specs.Safe.{AreRising, letter_read}
 use Rattle.sctp_model.specs.Invariants.{IsPlanned}
 use Rattle.sctp_model.proofs.Lists.{all_back, all_filter, all_front, all_join, all_mem, all_weaker, map-join, mem-join}
 use Rattle.sctp_reassembly.specs.Laws.{UnorderedPiecesStand}
-use Rattle.sctp_reassembly.specs.Stands.{AreRuns, AreSaid, IsForBytesAlone, IsLoose, StandsFor, letter_received}
+use Rattle.sctp_reassembly.specs.Stands.{AreRuns, CarryDataOf, IsForBytesAlone, IsLoose, StandsFor, letter_received}
 use Rattle.sctp_reassembly.specs.Stands.{runs_of}
 use Rattle.sctp_reassembly.proofs.UnorderedEnters.{AreSmall, IsEntered, IsIncomplete, entered, finished_is, place_is}
 use Rattle.sctp_reassembly.proofs.UnorderedEnters.{runs_join, runs_split}
@@ -193,7 +193,7 @@ not_whole initial p [] (g ∷ gs) a s u = absurd a
 not_whole initial p (c ∷ cs) [] a s u = absurd a
 not_whole initial p (c ∷ cs) (g ∷ gs) a s u = (one g a.0 s.0, not_whole initial p cs gs a.1 s.1 u.1)
   where
-    one : (g : List ℕ) → AreSaid initial p c g → AreSmall g → is_whole p g ≡ false
+    one : (g : List ℕ) → CarryDataOf initial p c g → AreSmall g → is_whole p g ≡ false
     one [] a s = refl
     one (o ∷ r) a s = sym (complete_is initial p c o r a s) ∙ u.0
 

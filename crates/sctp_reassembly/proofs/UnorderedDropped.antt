@@ -14,7 +14,7 @@ use Rattle.sctp_model.specs.Safe.{AreRising}
 use Rattle.sctp_model.specs.Invariants.{IsPlanned}
 use Rattle.sctp_model.proofs.Lists.{all_both, all_filter, all_map, all_weaker}
 use Rattle.sctp_reassembly.specs.Laws.{UnorderedDropsStand}
-use Rattle.sctp_reassembly.specs.Stands.{AreRuns, AreSaid, IsLoose, leads, led, runs_of}
+use Rattle.sctp_reassembly.specs.Stands.{AreRuns, CarryDataOf, IsLoose, leads, led, runs_of}
 use Rattle.sctp_reassembly.proofs.UnorderedEnters.{AreSmall, IsIncomplete}
 use Rattle.sctp_reassembly.proofs.UnorderedFound.{is_whole}
 use Rattle.sctp_reassembly.proofs.MessageRuns.{is_rest}
@@ -55,8 +55,8 @@ not_up_to x o =
     all_of false = refl
 
 said_above : (initial : ℕ) (p : Plan) (o : ℕ) (cs : List ChunkPayloadData) (r : List ℕ) → o < 2 ^ 31
-    → AreSaid initial p cs r → AreSmall r
-    → AreSaid initial p (above (tsn initial o) cs) (left_in o r)
+    → CarryDataOf initial p cs r → AreSmall r
+    → CarryDataOf initial p (above (tsn initial o) cs) (left_in o r)
 said_above initial p o [] [] l a s = tt
 said_above initial p o [] (x ∷ xs) l a s = absurd a
 said_above initial p o (d ∷ ds) [] l a s = absurd a
@@ -69,7 +69,7 @@ said_above initial p o (d ∷ ds) (x ∷ xs) l a s =
     ⊎_elim (λ (b : past o x ≡ true). rw (test ∙ b, b) (a.0, more)) (λ (b : past o x ≡ false). rw (test ∙ b, b) more)
     (cases_Bool (past o x))
 
-said_length : (initial : ℕ) (p : Plan) (cs : List ChunkPayloadData) (r : List ℕ) → AreSaid initial p cs r
+said_length : (initial : ℕ) (p : Plan) (cs : List ChunkPayloadData) (r : List ℕ) → CarryDataOf initial p cs r
     → length cs ≡ length r
 said_length initial p [] [] a = refl
 said_length initial p [] (x ∷ xs) a = absurd a
@@ -168,7 +168,7 @@ incomplete_from initial p [] gs a s w = tt
 incomplete_from initial p (c ∷ cs) [] a s w = absurd a
 incomplete_from initial p (c ∷ cs) (g ∷ gs) a s w = (one c g a.0 s.0 w.0, incomplete_from initial p cs gs a.1 s.1 w.1)
   where
-    one : (c : List ChunkPayloadData) (g : List ℕ) → AreSaid initial p c g → AreSmall g → is_whole p g ≡ false
+    one : (c : List ChunkPayloadData) (g : List ℕ) → CarryDataOf initial p c g → AreSmall g → is_whole p g ≡ false
         → IsIncomplete c
     one [] [] a s w = refl
     one (d ∷ ds) [] a s w = absurd a

@@ -14,7 +14,7 @@ use Rattle.sctp_model.specs.Messages.{Plan}
 use Rattle.sctp_model.specs.Packets.{data_at}
 use Rattle.sctp_model.specs.Serial.{tsn}
 use Rattle.sctp_model.proofs.Lists.{all_back, all_front}
-use Rattle.sctp_reassembly.specs.Stands.{AreRuns, AreSaid, IsSaid, leads, led}
+use Rattle.sctp_reassembly.specs.Stands.{AreRuns, CarryDataOf, CarriesData, leads, led}
 use Rattle.sctp_reassembly.proofs.PiecePlace.{unwrap_up}
 use Rattle.sctp_reassembly.proofs.PlaceRecursion.{position_here, position_later}
 use Rattle.sctp_reassembly.proofs.OffsetRuns.{last_leads, meet, meet_last, met}
@@ -75,8 +75,8 @@ AreSmall os = AllByRecursion (λ (x : ℕ). x < 2 ^ 31) os
 
 -- the piece goes on with the run in front where that leads to it
 pub joins_front : (initial : ℕ) (p : Plan) (c : ChunkPayloadData) (o : ℕ) (os : List ℕ) (cs : List ChunkPayloadData)
-    (z : List ℕ) → IsSaid initial c (data_at p o) → o < 2 ^ 31
-    → AreSaid initial p cs z → AreSmall z → joins_before cs c ≡ last_leads p z (o ∷ os)
+    (z : List ℕ) → CarriesData initial c (data_at p o) → o < 2 ^ 31
+    → CarryDataOf initial p cs z → AreSmall z → joins_before cs c ≡ last_leads p z (o ∷ os)
 joins_front initial p c o os [] [] i l a s = refl
 joins_front initial p c o os [] (x ∷ xs) i l a s = absurd a
 joins_front initial p c o os (d ∷ ds) [] i l a s = absurd a
@@ -100,8 +100,8 @@ joins_front initial p c o os (d ∷ e ∷ es) (x ∷ y ∷ ys) i l a s =
 
 -- and the run behind with it, where it leads to that
 joins_back : (initial : ℕ) (p : Plan) (c : ChunkPayloadData) (o : ℕ) (cs : List ChunkPayloadData) (y : List ℕ)
-    → IsSaid initial c (data_at p o) → o < 2 ^ 31
-    → AreSaid initial p cs y → AreSmall y → joins_after cs c ≡ leads p o y
+    → CarriesData initial c (data_at p o) → o < 2 ^ 31
+    → CarryDataOf initial p cs y → AreSmall y → joins_after cs c ≡ leads p o y
 joins_back initial p c o [] [] i l a s = refl
 joins_back initial p c o [] (x ∷ xs) i l a s = absurd a
 joins_back initial p c o (d ∷ ds) [] i l a s = absurd a
@@ -132,9 +132,9 @@ runs_join initial p [] ys (g ∷ gs) hs a b = absurd a
 runs_join initial p (x ∷ xs) ys [] hs a b = absurd a
 runs_join initial p (x ∷ xs) ys (g ∷ gs) hs a b = (a.0, runs_join initial p xs ys gs hs a.1 b)
 
-said_join : (initial : ℕ) (p : Plan) (xs ys : List ChunkPayloadData) (os qs : List ℕ) → AreSaid initial p xs os
-    → AreSaid initial p ys qs
-    → AreSaid initial p (xs ++ ys) (os ++ qs)
+said_join : (initial : ℕ) (p : Plan) (xs ys : List ChunkPayloadData) (os qs : List ℕ) → CarryDataOf initial p xs os
+    → CarryDataOf initial p ys qs
+    → CarryDataOf initial p (xs ++ ys) (os ++ qs)
 said_join initial p [] ys [] qs a b = b
 said_join initial p [] ys (o ∷ os) qs a b = absurd a
 said_join initial p (x ∷ xs) ys [] qs a b = absurd a
@@ -149,7 +149,7 @@ pub record HasLast (initial : ℕ) (p : Plan) (cs : List (List ChunkPayloadData)
   pub are_chunks : cs ≡ chunks ++ run ∷ []
   pub are_offsets : gs ≡ offsets ++ last ∷ []
   pub before : AreRuns initial p chunks offsets
-  pub said : AreSaid initial p run last
+  pub said : CarryDataOf initial p run last
 
 pub last_cases : (initial : ℕ) (p : Plan) (cs : List (List ChunkPayloadData)) (gs : List (List ℕ))
     → AreRuns initial p cs gs
@@ -199,14 +199,14 @@ place_between t (x ∷ xs) ys a b =
     ∙ ap suc (place_between t xs ys a.1 b)
 
 not_past : (initial : ℕ) (p : Plan) (c : ChunkPayloadData) (o : ℕ) (cs : List (List ChunkPayloadData))
-    (gs : List (List ℕ)) → IsSaid initial c (data_at p o) → o < 2 ^ 31
+    (gs : List (List ℕ)) → CarriesData initial c (data_at p o) → o < 2 ^ 31
     → AreRuns initial p cs gs → AllByRecursion (AllByRecursion (λ (x : ℕ). x < o)) gs → AreNotPast c.tsn cs
 not_past initial p c o [] [] i l a b = tt
 not_past initial p c o [] (g ∷ gs) i l a b = absurd a
 not_past initial p c o (r ∷ rs) [] i l a b = absurd a
 not_past initial p c o (r ∷ rs) (g ∷ gs) i l a b = (one r g a.0 b.0, not_past initial p c o rs gs i l a.1 b.1)
   where
-    one : (r : List ChunkPayloadData) (g : List ℕ) → AreSaid initial p r g → AllByRecursion (λ (x : ℕ). x < o) g
+    one : (r : List ChunkPayloadData) (g : List ℕ) → CarryDataOf initial p r g → AllByRecursion (λ (x : ℕ). x < o) g
         → is_past r c.tsn ≡ false
     one [] g a b = refl
     one (d ∷ ds) [] a b = absurd a
@@ -216,7 +216,7 @@ not_past initial p c o (r ∷ rs) (g ∷ gs) i l a b = (one r g a.0 b.0, not_pas
         ∙ le-ltb o x (omega arith)
 
 all_past : (initial : ℕ) (p : Plan) (c : ChunkPayloadData) (o : ℕ) (cs : List (List ChunkPayloadData))
-    (gs : List (List ℕ)) → IsSaid initial c (data_at p o) → o < 2 ^ 31
+    (gs : List (List ℕ)) → CarriesData initial c (data_at p o) → o < 2 ^ 31
     → AreRuns initial p cs gs → AllByRecursion (λ (g : List ℕ). 0 < length g) gs
     → AllByRecursion (AllByRecursion (λ (x : ℕ). o < x)) gs → AllByRecursion AreSmall gs
     → AllByRecursion (λ (r : List ChunkPayloadData). is_past r c.tsn ≡ true) cs
@@ -226,7 +226,7 @@ all_past initial p c o (r ∷ rs) [] i l a n b s = absurd a
 all_past initial p c o (r ∷ rs) (g ∷ gs) i l a n b s =
     (one r g a.0 n.0 b.0 s.0, all_past initial p c o rs gs i l a.1 n.1 b.1 s.1)
   where
-    one : (r : List ChunkPayloadData) (g : List ℕ) → AreSaid initial p r g → 0 < length g
+    one : (r : List ChunkPayloadData) (g : List ℕ) → CarryDataOf initial p r g → 0 < length g
         → AllByRecursion (λ (x : ℕ). o < x) g → AreSmall g → is_past r c.tsn ≡ true
     one r [] a n b s = absurd (omega arith)
     one [] (x ∷ xs) a n b s = absurd a
@@ -235,7 +235,7 @@ all_past initial p c o (r ∷ rs) (g ∷ gs) i l a n b s =
         ∙ lt-ltb o x b.0
 
 pub place_is : (initial : ℕ) (p : Plan) (c : ChunkPayloadData) (o : ℕ) (xs ys : List (List ChunkPayloadData))
-    (gs hs : List (List ℕ)) → IsSaid initial c (data_at p o) → o < 2 ^ 31
+    (gs hs : List (List ℕ)) → CarriesData initial c (data_at p o) → o < 2 ^ 31
     → AreRuns initial p xs gs → AreRuns initial p ys hs → AllByRecursion (AllByRecursion (λ (x : ℕ). x < o)) gs
     → AllByRecursion (λ (g : List ℕ). 0 < length g) hs → AllByRecursion (AllByRecursion (λ (x : ℕ). o < x)) hs
     → AllByRecursion AreSmall hs
@@ -256,7 +256,7 @@ record IsLed (initial : ℕ) (p : Plan) (c : ChunkPayloadData) (o : ℕ) (ys : L
   pub rest : List ℕ
   pub later : List (List ℕ)
   pub part_is : part (joins_after (head_run ys) c) (head_run ys) ≡ more
-  pub said : AreSaid initial p more rest
+  pub said : CarryDataOf initial p more rest
   pub backs : AreRuns initial p back later
   pub is : led p o hs ≡ (o ∷ rest) ∷ later
   pub alone : (front : List (List ChunkPayloadData)) (run : List ChunkPayloadData)
@@ -282,7 +282,7 @@ set_two front ys z y run =
     ∙ remove_seam (front ++ run ∷ []) ys y ∙ append_assoc front (run ∷ []) ys
 
 led_so : (initial : ℕ) (p : Plan) (c : ChunkPayloadData) (o : ℕ) (ys : List (List ChunkPayloadData))
-    (hs : List (List ℕ)) → IsSaid initial c (data_at p o) → o < 2 ^ 31
+    (hs : List (List ℕ)) → CarriesData initial c (data_at p o) → o < 2 ^ 31
     → AreRuns initial p ys hs → AllByRecursion AreSmall hs → IsLed initial p c o ys hs
 led_so initial p c o [] [] i l a s = record {
   more = [];
@@ -351,7 +351,7 @@ pub record IsEntered (initial : ℕ) (p : Plan) (c : ChunkPayloadData) (chunks :
   pub put : with_unordered chunks index c ≡ (front ++ run ∷ back, length front)
   pub is : all ≡ earlier ++ (first ∷ rest) ∷ later
   pub fronts : AreRuns initial p front earlier
-  pub said : AreSaid initial p run (first ∷ rest)
+  pub said : CarryDataOf initial p run (first ∷ rest)
   pub backs : AreRuns initial p back later
   pub only : AllByRecursion IsIncomplete chunks → AllByRecursion IsIncomplete front × AllByRecursion IsIncomplete back
 
@@ -367,7 +367,7 @@ put_after : (before after : List ChunkPayloadData) (chunks : List (List ChunkPay
 put_after before after chunks index c b e f g = rw (e, f, g) refl
 
 pub entered : (initial : ℕ) (p : Plan) (c : ChunkPayloadData) (o : ℕ) (xs ys : List (List ChunkPayloadData))
-    (gs hs : List (List ℕ)) → IsSaid initial c (data_at p o) → o < 2 ^ 31
+    (gs hs : List (List ℕ)) → CarriesData initial c (data_at p o) → o < 2 ^ 31
     → AreRuns initial p xs gs → AreRuns initial p ys hs → AllByRecursion AreSmall gs → AllByRecursion AreSmall hs
     → IsEntered initial p c (xs ++ ys) (length xs) (meet p gs (led p o hs))
 entered initial p c o xs ys gs hs i l a b s t =
@@ -406,7 +406,7 @@ entered initial p c o xs ys gs hs i l a b s t =
     }
 
     behind : (zs : List (List ChunkPayloadData)) (z : List ChunkPayloadData) (ks : List (List ℕ)) (k : List ℕ)
-        → AreRuns initial p zs ks → AreSaid initial p z k → AreSmall k
+        → AreRuns initial p zs ks → CarryDataOf initial p z k → AreSmall k
         → IsEntered initial p c ((zs ++ z ∷ []) ++ ys) (length (zs ++ z ∷ [])) (meet p (ks ++ k ∷ []) (led p o hs))
     behind zs z ks k before said small =
         let test = joins_front initial p c o w.rest z k i l said small in
@@ -442,7 +442,7 @@ entered initial p c o xs ys gs hs i l a b s t =
         (cases_Bool (last_leads p k (o ∷ w.rest)))
       where
         on : (zs : List (List ChunkPayloadData)) (z : List ChunkPayloadData) (ks : List (List ℕ)) (k : List ℕ)
-            → AreRuns initial p zs ks → AreSaid initial p z k
+            → AreRuns initial p zs ks → CarryDataOf initial p z k
             → last_leads p k (o ∷ w.rest) ≡ true
             → with_unordered ((zs ++ z ∷ []) ++ ys) (length (zs ++ z ∷ [])) c
             ≡ (

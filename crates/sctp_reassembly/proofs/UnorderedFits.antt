@@ -17,7 +17,7 @@ use Rattle.sctp_model.specs.Packets.{data_at}
 use Rattle.sctp_model.specs.Serial.{tsn}
 use Rattle.sctp_model.specs.Invariants.{IsPlanned}
 use Rattle.sctp_model.proofs.Lists.{all_back}
-use Rattle.sctp_reassembly.specs.Stands.{AreRuns, AreSaid, IsForBytesAlone, IsLoose, IsSaid}
+use Rattle.sctp_reassembly.specs.Stands.{AreRuns, CarryDataOf, IsForBytesAlone, IsLoose, CarriesData}
 use Rattle.sctp_reassembly.proofs.PieceChains.{not_last, same_text}
 use Rattle.sctp_reassembly.proofs.UnorderedEnters.{AreSmall, HasLast, head_run, last_cases, run_behind, run_in_front}
 use Rattle.sctp_reassembly.proofs.OffsetRuns.{IsChain}
@@ -69,8 +69,8 @@ untorn p over s a b other h x y e f =
     rw (l, ap (λ z. eqb (place_at p z).piece 0) e ∙ t.1) (f (subst (AreTogether p a) (sym e) t.0)))
     (cases_Bool (is_last p (place_at p a)))
 
-same_type : (initial : ℕ) (p : Plan) (c d : ChunkPayloadData) (o x : ℕ) → IsSaid initial c (data_at p o)
-    → IsSaid initial d (data_at p x) → AreTogether p x o
+same_type : (initial : ℕ) (p : Plan) (c d : ChunkPayloadData) (o x : ℕ) → CarriesData initial c (data_at p o)
+    → CarriesData initial d (data_at p x) → AreTogether p x o
     → not (eqb (number_of d.payload_type) (number_of c.payload_type)) ≡ false
 same_type initial p c d o x i j t =
     ap not (eq-eqb (number_of d.payload_type) (number_of c.payload_type)
@@ -83,8 +83,8 @@ end_of o [] = o
 end_of o (x ∷ xs) = end_of x xs
 
 pub end_is : (initial : ℕ) (p : Plan) (d : ChunkPayloadData) (ds : List ChunkPayloadData) (x : ℕ) (xs : List ℕ)
-    → AreSaid initial p (d ∷ ds) (x ∷ xs)
-    → (e : ChunkPayloadData) × (last_of (d ∷ ds) ≡ Some e) × IsSaid initial e (data_at p (end_of x xs))
+    → CarryDataOf initial p (d ∷ ds) (x ∷ xs)
+    → (e : ChunkPayloadData) × (last_of (d ∷ ds) ≡ Some e) × CarriesData initial e (data_at p (end_of x xs))
 end_is initial p d [] x [] a = (d, refl, a.0)
 end_is initial p d [] x (y ∷ ys) a = absurd a.1
 end_is initial p d (e ∷ es) x [] a = absurd a.1
@@ -106,7 +106,7 @@ chain_together p over s x (y ∷ ys) h k a =
     record { stream = one.stream ∙ more.stream; message = one.message ∙ more.message }
 
 chain_length : (initial : ℕ) (p : Plan) (d : ChunkPayloadData) (ds : List ChunkPayloadData) (x : ℕ) (xs : List ℕ)
-    (o : ℕ) → AreSaid initial p (d ∷ ds) (x ∷ xs)
+    (o : ℕ) → CarryDataOf initial p (d ∷ ds) (x ∷ xs)
     → IsChain p (x ∷ xs) → AllByRecursion (λ (y : ℕ). y < o) (x ∷ xs) → x + length (d ∷ ds) ≤ o
 chain_length initial p d [] x [] o a k b = let l = b.0 in omega arith
 chain_length initial p d [] x (y ∷ ys) o a k b = absurd a.1
@@ -124,8 +124,8 @@ pub record IsBeside (p : Plan) (s : ℕ) (P : ℕ → Type 0) (r : List ℕ) : T
   pub side : AllByRecursion P r
 
 uncovered : (initial : ℕ) (p : Plan) (s : ℕ) (c : ChunkPayloadData) (o : ℕ) (cs : List ChunkPayloadData) (r : List ℕ)
-    → IsSaid initial c (data_at p o) → o < 2 ^ 31
-    → AreSaid initial p cs r → IsBeside p s (λ (y : ℕ). y < o) r → covers cs c.tsn ≡ false
+    → CarriesData initial c (data_at p o) → o < 2 ^ 31
+    → CarryDataOf initial p cs r → IsBeside p s (λ (y : ℕ). y < o) r → covers cs c.tsn ≡ false
 uncovered initial p s c o [] [] i l a b = refl
 uncovered initial p s c o [] (x ∷ xs) i l a b = absurd a
 uncovered initial p s c o (d ∷ ds) [] i l a b = absurd a
@@ -140,8 +140,8 @@ uncovered initial p s c o (d ∷ ds) (x ∷ xs) i l a b =
 
 untorn_before : (initial : ℕ) (p : Plan) (over : ℕ → Bool) (s : ℕ) (c : ChunkPayloadData) (o : ℕ)
     (cs : List ChunkPayloadData) (r : List ℕ) → IsPlanned p over
-    → IsSaid initial c (data_at p o) → o < 2 ^ 31 → IsLoose p s o
-    → AreSaid initial p cs r → IsBeside p s (λ (y : ℕ). y < o) r → is_torn_before cs c ≡ false
+    → CarriesData initial c (data_at p o) → o < 2 ^ 31 → IsLoose p s o
+    → CarryDataOf initial p cs r → IsBeside p s (λ (y : ℕ). y < o) r → is_torn_before cs c ≡ false
 untorn_before initial p over s c o [] [] h i l m a b = refl
 untorn_before initial p over s c o [] (x ∷ xs) h i l m a b = absurd a
 untorn_before initial p over s c o (d ∷ ds) [] h i l m a b = absurd a
@@ -166,8 +166,8 @@ untorn_before initial p over s c o (d ∷ ds) (x ∷ xs) h i l m a b =
 
 untorn_after : (initial : ℕ) (p : Plan) (over : ℕ → Bool) (s : ℕ) (c : ChunkPayloadData) (o : ℕ)
     (cs : List ChunkPayloadData) (r : List ℕ) → IsPlanned p over
-    → IsSaid initial c (data_at p o) → o < 2 ^ 31 → IsLoose p s o
-    → AreSaid initial p cs r → IsBeside p s (λ (y : ℕ). o < y) r → is_torn_after cs c ≡ false
+    → CarriesData initial c (data_at p o) → o < 2 ^ 31 → IsLoose p s o
+    → CarryDataOf initial p cs r → IsBeside p s (λ (y : ℕ). o < y) r → is_torn_after cs c ≡ false
 untorn_after initial p over s c o [] [] h i l m a b = refl
 untorn_after initial p over s c o [] (x ∷ xs) h i l m a b = absurd a
 untorn_after initial p over s c o (d ∷ ds) [] h i l m a b = absurd a
@@ -211,7 +211,7 @@ beside p s P (g ∷ gs) a b c d =
 
 pub fits_between : (initial : ℕ) (p : Plan) (over : ℕ → Bool) (s : ℕ) (c : ChunkPayloadData) (o limit : ℕ)
     (xs ys : List (List ChunkPayloadData)) (gs hs : List (List ℕ)) → IsPlanned p over
-    → IsSaid initial c (data_at p o) → o < 2 ^ 31 → IsLoose p s o
+    → CarriesData initial c (data_at p o) → o < 2 ^ 31 → IsLoose p s o
     → AreRuns initial p xs gs → AreRuns initial p ys hs → AreBeside p s (λ (y : ℕ). y < o) gs
     → AreBeside p s (λ (y : ℕ). o < y) hs
     → IsForBytesAlone (refusal_between (run_before (xs ++ ys) (length xs)) c (run_at (xs ++ ys) (length xs)) limit)

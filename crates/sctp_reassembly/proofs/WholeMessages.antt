@@ -19,7 +19,7 @@ use Rattle.sctp_model.proofs.Lists.{all_weaker, all_both, all_mem}
 use Rattle.sctp_model.proofs.NumberWindows.{same_from}
 use Rattle.sctp_model.proofs.CompleteRuns.{at_found}
 use Rattle.sctp_model.proofs.NextOrdered.{begins_found, begins_finds, first_is, ssn_is}
-use Rattle.sctp_reassembly.specs.Stands.{AreSaid, letter_received}
+use Rattle.sctp_reassembly.specs.Stands.{CarryDataOf, letter_received}
 use Rattle.sctp_reassembly.proofs.PieceChains.{apart, one_message}
 use Rattle.sctp_reassembly.proofs.MessageRuns.{AreAllOf, is_rest, run_is}
 use Rattle.sctp_reassembly.proofs.TsnOrder.{tsn_next}
@@ -136,7 +136,7 @@ and_true true = refl
 and_true false = refl
 
 rest_is : (initial : ℕ) (p : Plan) (c : ChunkPayloadData) (cs : List ChunkPayloadData) (o : ℕ) (rest : List ℕ)
-    → AreSaid initial p (c ∷ cs) (o ∷ rest)
+    → CarryDataOf initial p (c ∷ cs) (o ∷ rest)
     → AllByRecursion (λ (x : ℕ). x < 2 ^ 31) (o ∷ rest)
     → (ends (c ∷ cs) && follows None (c ∷ cs)) ≡ is_rest p (o ∷ rest)
 rest_is initial p c [] o [] a l = and_true c.ending_fragment ∙ a.0.last
@@ -158,7 +158,7 @@ and_join false b c = refl
 
 -- these pieces are a whole message
 pub complete_is : (initial : ℕ) (p : Plan) (cs : List ChunkPayloadData) (o : ℕ) (rest : List ℕ)
-    → AreSaid initial p cs (o ∷ rest)
+    → CarryDataOf initial p cs (o ∷ rest)
     → AllByRecursion (λ (x : ℕ). x < 2 ^ 31) (o ∷ rest)
     → is_complete cs ≡ (eqb (place_at p o).piece 0 && is_rest p (o ∷ rest))
 complete_is initial p [] o rest a l = absurd a
@@ -168,7 +168,7 @@ complete_is initial p (c ∷ cs) o rest a l =
     ∙ ap (λ z. eqb (place_at p o).piece 0 && z) (rest_is initial p c cs o rest a l)
 
 -- and its bytes are the DATA's
-joined_is : (initial : ℕ) (p : Plan) (cs : List ChunkPayloadData) (os : List ℕ) → AreSaid initial p cs os
+joined_is : (initial : ℕ) (p : Plan) (cs : List ChunkPayloadData) (os : List ℕ) → CarryDataOf initial p cs os
     → joined cs ≡ flat_map (λ (d : Data). d.bytes) (map (data_at p) os)
 joined_is initial p [] [] a = refl
 joined_is initial p [] (o ∷ os) a = absurd a
@@ -177,7 +177,7 @@ joined_is initial p (c ∷ cs) (o ∷ os) a =
     ap (λ z. z ++ joined cs) a.0.bytes ∙ ap (λ z. (data_at p o).bytes ++ z) (joined_is initial p cs os a.1)
 
 pub letter_is : (initial : ℕ) (p : Plan) (cs : List ChunkPayloadData) (o : ℕ) (rest : List ℕ)
-    → AreSaid initial p cs (o ∷ rest)
+    → CarryDataOf initial p cs (o ∷ rest)
     → letter_received (message_of cs)
     ≡ letter_read (got_of (record { head = data_at p o; pieces = map (data_at p) (o ∷ rest) }))
 letter_is initial p [] o rest a = absurd a

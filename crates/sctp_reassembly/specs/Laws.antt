@@ -12,7 +12,7 @@ use Rattle.sctp_model.specs.Reassembly.{Queue, at, drop_unordered, empty_queue, 
 use Rattle.sctp_model.specs.Machine.{Direction, Event, happens, is_new, live, reach}
 use Rattle.sctp_model.specs.Safe.{IsWithin, letter_read, read_ssn}
 use Rattle.sctp_model.specs.Invariants.{Invariant, IsPlanned}
-use Rattle.sctp_reassembly.specs.Stands.{IsSaid, IsInWindow, IsLoose, StandsFor, IsAnsweredAlike, IsForBytesAlone}
+use Rattle.sctp_reassembly.specs.Stands.{CarriesData, IsInWindow, IsLoose, StandsFor, IsAnsweredAlike, IsForBytesAlone}
 use Rattle.sctp_reassembly.specs.Stands.{IsReadAs, IsSpared, bounded_at, letter_received, skipped_if}
 
 -- A piece of an ordered message that came is put to the others of its message on both sides, or on both sides it is of
@@ -21,7 +21,7 @@ abbrev pub OrderedPiecesStand : Type 0
 OrderedPiecesStand = (initial : ℕ) (p : Plan) (over : ℕ → Bool) (came : List ℕ) (s low cursor o limit : ℕ)
     (r : Reassembly) (q : Queue) (c : ChunkPayloadData)
     → IsPlanned p over → over s ≡ false → length p.places < 2 ^ 31 → StandsFor initial p s r q
-    → IsSaid initial c (data_at p o) → (data_at p o).ordered ≡ true → at o q.ordered ≡ None
+    → CarriesData initial c (data_at p o) → (data_at p o).ordered ≡ true → at o q.ordered ≡ None
     → IsInWindow p came s low cursor (push q (data_at p o))
     → StandsFor initial p s (pushed r c).0 (push q (data_at p o)) × IsForBytesAlone (refusal r c limit)
 
@@ -86,7 +86,7 @@ abbrev pub UnorderedPiecesStand : Type 0
 UnorderedPiecesStand = (initial : ℕ) (p : Plan) (over : ℕ → Bool) (s o limit : ℕ) (r : Reassembly) (q : Queue)
     (c : ChunkPayloadData)
     → IsPlanned p over → length p.places < 2 ^ 31 → StandsFor initial p s r q
-    → IsSaid initial c (data_at p o) → IsLoose p s o → at o q.unordered ≡ None
+    → CarriesData initial c (data_at p o) → IsLoose p s o → at o q.unordered ≡ None
     → StandsFor initial p s (pushed r c).0 (push q (data_at p o)) × IsForBytesAlone (refusal r c limit)
 
 -- A drop of the pieces of unordered messages up to an offset drops the same pieces on both sides.
@@ -101,7 +101,7 @@ abbrev pub DataThatComesStands : Type 0
 DataThatComesStands = (initial : ℕ) (w : Direction) (k limit : ℕ) (r : Reassembly) (c : ChunkPayloadData) (d : Data)
     → IsWithin w → Invariant w → w.over d.stream ≡ false → slice_get w.datas k ≡ Some d → w.receiver.is_open ≡ true
     → is_new w.receiver d.offset ≡ true
-    → d.ordered ≡ true → IsSaid initial c d
+    → d.ordered ≡ true → CarriesData initial c d
     → StandsFor initial w.sender.plan d.stream r (live (w.receiver.queues d.stream))
     → StandsFor initial w.sender.plan d.stream (pushed r c).0
     (live ((happens w (Event.DataComes k)).receiver.queues d.stream)) × IsForBytesAlone (refusal r c limit)
@@ -112,7 +112,7 @@ UnorderedDataThatComesStands = (initial : ℕ) (w : Direction) (k limit : ℕ) (
     (c : ChunkPayloadData) (d : Data)
     → IsWithin w → Invariant w → w.over d.stream ≡ false → slice_get w.datas k ≡ Some d → w.receiver.is_open ≡ true
     → is_new w.receiver d.offset ≡ true
-    → d.ordered ≡ false → IsSaid initial c d
+    → d.ordered ≡ false → CarriesData initial c d
     → StandsFor initial w.sender.plan d.stream r (live (w.receiver.queues d.stream))
     → StandsFor initial w.sender.plan d.stream (pushed r c).0
     (live ((happens w (Event.DataComes k)).receiver.queues d.stream)) × IsForBytesAlone (refusal r c limit)

@@ -17,8 +17,8 @@ use Rattle.sctp_model.specs.Reassembly.{Got, Queue, Taken, at, least, skip}
 use Rattle.sctp_model.specs.Safe.{AreRising, Letter, letter_read}
 use Rattle.sctp_model.specs.Invariants.{IsHeld}
 
--- A DATA chunk is this DATA of a direction with this initial TSN.
-pub record IsSaid (initial : ℕ) (c : ChunkPayloadData) (d : Data) : Type 0 where
+-- A DATA chunk carries this DATA of a direction with this initial TSN, on whatever stream.
+pub record CarriesData (initial : ℕ) (c : ChunkPayloadData) (d : Data) : Type 0 where
   pub tsn : c.tsn ≡ tsn initial d.offset
   pub ssn : c.stream_sequence_number ≡ d.ssn
   pub ordered : c.unordered ≡ not d.ordered
@@ -28,11 +28,11 @@ pub record IsSaid (initial : ℕ) (c : ChunkPayloadData) (d : Data) : Type 0 whe
   pub bytes : c.user_data ≡ d.bytes
 
 -- the chunks are the DATA of these offsets, one for each and in the same order
-abbrev pub AreSaid : ℕ → Plan → List ChunkPayloadData → List ℕ → Type 0
-AreSaid initial p [] [] = ⊤
-AreSaid initial p [] (o ∷ os) = ⊥
-AreSaid initial p (c ∷ cs) [] = ⊥
-AreSaid initial p (c ∷ cs) (o ∷ os) = IsSaid initial c (data_at p o) × AreSaid initial p cs os
+abbrev pub CarryDataOf : ℕ → Plan → List ChunkPayloadData → List ℕ → Type 0
+CarryDataOf initial p [] [] = ⊤
+CarryDataOf initial p [] (o ∷ os) = ⊥
+CarryDataOf initial p (c ∷ cs) [] = ⊥
+CarryDataOf initial p (c ∷ cs) (o ∷ os) = CarriesData initial c (data_at p o) × CarryDataOf initial p cs os
 
 -- What is held of an ordered message: its stream sequence number before that wraps, and the offsets of the pieces.
 pub record Held : Type 0 where
@@ -48,7 +48,7 @@ pub record IsOf (p : Plan) (s number o : ℕ) : Type 0 where
 -- A group is what is held of one message: at least one piece, the pieces in the order of their offsets.
 pub record IsGroup (initial : ℕ) (p : Plan) (s : ℕ) (g : Group) (h : Held) : Type 0 where
   pub ssn : g.ssn ≡ h.number % 65536
-  pub pieces : AreSaid initial p g.pieces h.offsets
+  pub pieces : CarryDataOf initial p g.pieces h.offsets
   pub some : 0 < length h.offsets
   pub rising : AreRising h.offsets
   pub mine : AllByRecursion (IsOf p s h.number) h.offsets
@@ -93,7 +93,7 @@ abbrev pub AreRuns : ℕ → Plan → List (List ChunkPayloadData) → List (Lis
 AreRuns initial p [] [] = ⊤
 AreRuns initial p [] (r ∷ rs) = ⊥
 AreRuns initial p (c ∷ cs) [] = ⊥
-AreRuns initial p (c ∷ cs) (r ∷ rs) = AreSaid initial p c r × AreRuns initial p cs rs
+AreRuns initial p (c ∷ cs) (r ∷ rs) = CarryDataOf initial p c r × AreRuns initial p cs rs
 
 -- the offset o is that of a piece of an unordered message of stream s
 pub record IsLoose (p : Plan) (s o : ℕ) : Type 0 where
