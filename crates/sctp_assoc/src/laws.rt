@@ -53,8 +53,8 @@ pub fn only_named_causes_close()
     ensures causes { CausesClose }
 {}
 
-/// Reporting: a SACK says what came, is one datagram, and goes out with the next poll where it is due (RFC 4960
-/// sections 3.3.4 and 6.2).
+/// Reporting: a SACK says what came, is one datagram, and in Established goes out with the next poll where it is due
+/// (RFC 4960 sections 3.3.4 and 6.2).
 pub fn sacks_name_the_point()
     ensures point { SacksNameThePoint }
     ensures said { SacksSayWhatCame }
