@@ -16,7 +16,7 @@ pub record Sender : Type 0 where
   pub ssn : ℕ → ℕ  -- by stream: the sequence number of the next ordered message
   pub begun : ℕ → ℕ → Bool  -- message i of stream s has an offset
   pub gone : ℕ → ℕ → Bool  -- message i of stream s was abandoned, or dropped unsent
-  pub reach : ℕ  -- the acknowledged reach: every offset below it is acknowledged
+  pub reach : ℕ  -- the acknowledged reach, how far the acknowledgements reach: every offset below it is acknowledged
   pub acknowledged : ℕ → Bool
   pub released : ℕ → ℕ  -- by stream: bytes that no longer count as buffered
 
