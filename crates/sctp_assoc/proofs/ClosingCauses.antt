@@ -9,7 +9,6 @@ use Rattle.sctp_wire_types.specs.declared.chunk.Chunk.TheVariants as chunks
 use Rattle.sctp_wire_types.specs.declared.chunk.ChunkInit.{ChunkInit}
 use Rattle.sctp_wire_types.specs.declared.error.Error.{Error}
 use Rattle.sctp_wire_types.specs.declared.packet.CommonHeader.{CommonHeader}
-use Rattle.sctp_wire.specs.declared.packet.Packet.{Packet}
 use Rattle.sctp_parts.specs.declared.state.AssociationState.{AssociationState}
 use Rattle.sctp_parts.specs.declared.state.AssociationState.TheVariants as states
 use Rattle.sctp_inbound.specs.declared.receiver.AckTrigger.{AckTrigger}
@@ -20,10 +19,10 @@ use Rattle.sctp_assoc.specs.declared.inbound.Flow.{Flow}
 use Rattle.sctp_assoc.specs.declared.inbound.Flow.TheVariants as flows
 use Rattle.sctp_assoc.specs.Acts.{Binds, History}
 use Rattle.sctp_assoc.specs.Calls.{is_beginning, is_closed_state, is_cookie_wait}
-use Rattle.sctp_assoc.specs.Causes.{CausesClose, ClosingPacketsHaveCauses, IsCause, IsReachedOpen, Reaches}
+use Rattle.sctp_assoc.specs.Causes.{CausesClose, ClosingPacketsHaveCauses, IsCause, Reaches}
 use Rattle.sctp_assoc.specs.Chunks.{checked_first, dispatched, on_chunk}
 use Rattle.sctp_assoc.specs.Handshake.{echoed, on_init, on_init_ack}
-use Rattle.sctp_assoc.specs.Laws.{closes, faults_or, is_faulted, is_faulted_packet}
+use Rattle.sctp_assoc.specs.Laws.{faults_or, is_faulted, is_faulted_packet}
 use Rattle.sctp_assoc.specs.Shown.{Shown}
 use Rattle.sctp_assoc.proofs.PacketLaws.{chunks_lead_on}
 use Rattle.sctp_assoc.proofs.FaultCauses.{cookie_ack_flow, echo_flow, faults_are_causes, heartbeat_flow, never}
@@ -40,52 +39,63 @@ open_state states.ShutdownReceived n = refl
 open_state states.ShutdownSent n = refl
 
 -- a fault leaves the state
+fault_leaves_init : (beginning : Bool) (a : Shown) (header : CommonHeader) (init : ChunkInit) (trigger : AckTrigger)
+    (error : Error) → is_beginning a.state ≡ beginning
+    → fault_of (on_init a header init trigger).1 ≡ Some error → (on_init a header init trigger).0.state ≡ a.state
+unfolding on_init
+fault_leaves_init true a header init trigger error e f = rw e refl
+fault_leaves_init false a header init trigger error e f = rw e refl
+
 fault_leaves_echo : (o : Option (List ℕ)) (b : Shown) (trigger : AckTrigger) (now : ℕ) (error : Error)
     → fault_of (echoed o b trigger now).1 ≡ Some error → (echoed o b trigger now).0.state ≡ b.state
 fault_leaves_echo None b trigger now error f = refl
 fault_leaves_echo (Some cookie) b trigger now error f = absurd (never None error refl f)
 
-module _ (header : CommonHeader) (a : Shown) (trigger : AckTrigger) (now : ℕ) (error : Error) where
-  fault_leaves_init : (beginning : Bool) (init : ChunkInit) → is_beginning a.state ≡ beginning
-      → fault_of (on_init a header init trigger).1 ≡ Some error → (on_init a header init trigger).0.state ≡ a.state
-  unfolding on_init
-  fault_leaves_init true init e f = rw e refl
-  fault_leaves_init false init e f = rw e refl
+fault_leaves_init_ack : (waits back : Bool) (a : Shown) (header : CommonHeader) (init : ChunkInit)
+    (trigger : AckTrigger) (now : ℕ) (error : Error) → is_cookie_wait a.state ≡ waits
+    → comes_back a.handshake header ≡ back → fault_of (on_init_ack a header init trigger now).1 ≡ Some error
+    → (on_init_ack a header init trigger now).0.state ≡ a.state
+unfolding on_init_ack
+fault_leaves_init_ack true true a header init trigger now error e g f =
+    let fault = rw (e, g) at f in
+    rw (e, g) (fault_leaves_echo (first_cookie init.params) _ trigger now error fault)
+fault_leaves_init_ack true false a header init trigger now error e g f = rw (e, g) refl
+fault_leaves_init_ack false back a header init trigger now error e g f = rw e refl
 
-  fault_leaves_init_ack : (waits back : Bool) (init : ChunkInit) → is_cookie_wait a.state ≡ waits
-      → comes_back a.handshake header ≡ back → fault_of (on_init_ack a header init trigger now).1 ≡ Some error
-      → (on_init_ack a header init trigger now).0.state ≡ a.state
-  unfolding on_init_ack
-  fault_leaves_init_ack true true init e g f =
-      let fault = rw (e, g) at f in
-      rw (e, g) (fault_leaves_echo (first_cookie init.params) _ trigger now error fault)
-  fault_leaves_init_ack true false init e g f = rw (e, g) refl
-  fault_leaves_init_ack false back init e g f = rw e refl
+fault_leaves_kind : (header : CommonHeader) (c : Chunk) (a : Shown) (trigger : AckTrigger) (now : ℕ) (error : Error)
+    → fault_of (dispatched a header c trigger now).1 ≡ Some error
+    → (dispatched a header c trigger now).0.state ≡ a.state
+unfolding on_chunk
+fault_leaves_kind header (chunks.Data piece) a trigger now error f =
+    (chunks_lead_on header (chunks.Data piece) a trigger now).leaves.state
+fault_leaves_kind header (chunks.SelectiveAck sack) a trigger now error f =
+    (chunks_lead_on header (chunks.SelectiveAck sack) a trigger now).leaves.state
+fault_leaves_kind header (chunks.Init x) a trigger now error f =
+    fault_leaves_init (is_beginning a.state) a header x trigger error refl f
+fault_leaves_kind header (chunks.InitAck x) a trigger now error f =
+    fault_leaves_init_ack (is_cookie_wait a.state) (comes_back a.handshake header) a header x trigger now
+    error refl refl f
+fault_leaves_kind header (chunks.CookieEcho x) a trigger now error f =
+    absurd (never _ error (echo_flow _ _ _ a x trigger refl refl refl) f)
+fault_leaves_kind header chunks.CookieAck a trigger now error f =
+    absurd (never _ error (cookie_ack_flow _ a trigger refl) f)
+fault_leaves_kind header (chunks.Heartbeat x) a trigger now error f =
+    absurd (never _ error (heartbeat_flow a x trigger) f)
+fault_leaves_kind header c a trigger now error f = refl
 
-  fault_leaves_kind : (c : Chunk) → fault_of (dispatched a header c trigger now).1 ≡ Some error
-      → (dispatched a header c trigger now).0.state ≡ a.state
-  unfolding on_chunk
-  fault_leaves_kind (chunks.Data piece) f = (chunks_lead_on header (chunks.Data piece) a trigger now).leaves.state
-  fault_leaves_kind (chunks.SelectiveAck sack) f =
-      (chunks_lead_on header (chunks.SelectiveAck sack) a trigger now).leaves.state
-  fault_leaves_kind (chunks.Init x) f = fault_leaves_init (is_beginning a.state) x refl f
-  fault_leaves_kind (chunks.InitAck x) f =
-      fault_leaves_init_ack (is_cookie_wait a.state) (comes_back a.handshake header) x refl refl f
-  fault_leaves_kind (chunks.CookieEcho x) f = absurd (never _ error (echo_flow _ _ _ a x trigger refl refl refl) f)
-  fault_leaves_kind chunks.CookieAck f = absurd (never _ error (cookie_ack_flow _ a trigger refl) f)
-  fault_leaves_kind (chunks.Heartbeat x) f = absurd (never _ error (heartbeat_flow a x trigger) f)
-  fault_leaves_kind c f = refl
+fault_leaves_checked : (r : Result (Unit {0}) Error) (header : CommonHeader) (c : Chunk) (a : Shown)
+    (trigger : AckTrigger) (now : ℕ) (error : Error)
+    → fault_of (checked_first r a header c trigger now).1 ≡ Some error
+    → (checked_first r a header c trigger now).0.state ≡ a.state
+fault_leaves_checked (Err fault) header c a trigger now error f = refl
+fault_leaves_checked (Ok done) header c a trigger now error f = fault_leaves_kind header c a trigger now error f
 
-  fault_leaves_checked : (r : Result (Unit {0}) Error) (c : Chunk)
-      → fault_of (checked_first r a header c trigger now).1 ≡ Some error
-      → (checked_first r a header c trigger now).0.state ≡ a.state
-  fault_leaves_checked (Err fault) c f = refl
-  fault_leaves_checked (Ok done) c f = fault_leaves_kind c f
-
-  fault_leaves_state : (c : Chunk) → fault_of (on_chunk a header c trigger now).1 ≡ Some error
-      → (on_chunk a header c trigger now).0.state ≡ a.state
-  unfolding on_chunk
-  fault_leaves_state c f = fault_leaves_checked (checked_chunk c) c f
+fault_leaves_state : (header : CommonHeader) (c : Chunk) (a : Shown) (trigger : AckTrigger) (now : ℕ) (error : Error)
+    → fault_of (on_chunk a header c trigger now).1 ≡ Some error
+    → (on_chunk a header c trigger now).0.state ≡ a.state
+unfolding on_chunk
+fault_leaves_state header c a trigger now error f =
+    fault_leaves_checked (checked_chunk c) header c a trigger now error f
 
 -- One of these chunks is reached while the association is open, and is a cause.
 record CauseAmong (header : CommonHeader) (cs : List Chunk) (a : Shown) (trigger : AckTrigger) (now : ℕ) : Type 0 where
@@ -99,38 +109,52 @@ record CauseAmong (header : CommonHeader) (cs : List Chunk) (a : Shown) (trigger
   binds : Binds reached stands
   is_cause : (h : History) → Binds reached h → IsCause reached h header chunk
 
-module _ (header : CommonHeader) (c : Chunk) (cs : List Chunk) (a : Shown) (trigger : AckTrigger) (now : ℕ) where
-  cause_here : (h : History) (error : Error) → Binds a h → (on_chunk a header c trigger now).1 ≡ flows.Fault error
-      → not (is_closed_state (on_chunk a header c trigger now).0.state) ≡ true
-      → CauseAmong header (c ∷ cs) a trigger now
-  cause_here h error binds fault n =
-      let same = fault_leaves_state header a trigger now error c (ap fault_of fault) in
-      record {
-        index = 0;
-        chunk = c;
-        reached = a;
-        there = refl;
-        reaches = refl;
-        still_open =
-            λ closed. false≢true (sym (ap (λ (s : AssociationState). not (is_closed_state s)) (same ∙ closed)) ∙ n);
-        stands = h;
-        binds = binds;
-        is_cause = λ k stands. (faults_are_causes a k header c trigger now stands).0 (error, fault);
-      }
+cause_here : (header : CommonHeader) (c : Chunk) (cs : List Chunk) (a b : Shown) (h : History) (trigger : AckTrigger)
+    (now : ℕ) (error : Error) → Binds a h
+    → on_chunk a header c trigger now ≡ (b, flows.Fault error) → not (is_closed_state b.state) ≡ true
+    → CauseAmong header (c ∷ cs) a trigger now
+cause_here header c cs a b h trigger now error binds e n =
+    let fault : (on_chunk a header c trigger now).1 ≡ flows.Fault error = ap (λ (x : Shown × Flow). x.1) e in
+    let same : b.state ≡ a.state =
+    sym (ap (λ (x : Shown × Flow). x.0.state) e)
+    ∙ fault_leaves_state header c a trigger now error (ap fault_of fault) in
+    record {
+      index = 0;
+      chunk = c;
+      reached = a;
+      there = refl;
+      reaches = refl;
+      still_open =
+          λ closed. false≢true (sym (ap (λ (s : AssociationState). not (is_closed_state s)) (same ∙ closed)) ∙ n);
+      stands = h;
+      binds = binds;
+      is_cause = λ k stands. (faults_are_causes a k header c trigger now stands).0 (error, fault);
+    }
 
-  cause_on : (b : Shown) (next : AckTrigger) → on_chunk a header c trigger now ≡ (b, flows.Next next)
-      → CauseAmong header cs b next now → CauseAmong header (c ∷ cs) a trigger now
-  cause_on b next e m = record {
-    index = suc m.index;
-    chunk = m.chunk;
-    reached = m.reached;
-    there = m.there;
-    reaches = (b, next, e, m.reaches);
-    still_open = m.still_open;
-    stands = m.stands;
-    binds = m.binds;
-    is_cause = m.is_cause;
-  }
+cause_on : (header : CommonHeader) (c : Chunk) (cs : List Chunk) (a b : Shown) (trigger next : AckTrigger) (now : ℕ)
+    → on_chunk a header c trigger now ≡ (b, flows.Next next)
+    → CauseAmong header cs b next now → CauseAmong header (c ∷ cs) a trigger now
+cause_on header c cs a b trigger next now e m = record {
+  index = suc m.index;
+  chunk = m.chunk;
+  reached = m.reached;
+  there = m.there;
+  reaches = (b, next, e, m.reaches);
+  still_open = m.still_open;
+  stands = m.stands;
+  binds = m.binds;
+  is_cause = m.is_cause;
+}
+
+cause_step : (x : Shown × Flow) (header : CommonHeader) (c : Chunk) (cs : List Chunk) (a : Shown) (h k : History)
+    (trigger : AckTrigger) (now : ℕ) → Binds a h
+    → on_chunk a header c trigger now ≡ x → Binds x.0 k → faults_or x (λ b next. is_faulted header cs b next now) ≡ true
+    → ((b : Shown) (next : AckTrigger) → Binds b k → is_faulted header cs b next now ≡ true
+    → CauseAmong header cs b next now) → CauseAmong header (c ∷ cs) a trigger now
+cause_step (b, flows.Next next) header c cs a h k trigger now binds e stands f more =
+    cause_on header c cs a b trigger next now e (more b next stands f)
+cause_step (b, flows.Fault error) header c cs a h k trigger now binds e stands f more =
+    cause_here header c cs a b h trigger now error binds e f
 
 cause_among : (header : CommonHeader) (cs : List Chunk) (a : Shown) (h : History) (trigger : AckTrigger) (now : ℕ)
     → Binds a h → is_faulted header cs a trigger now ≡ true
@@ -138,18 +162,8 @@ cause_among : (header : CommonHeader) (cs : List Chunk) (a : Shown) (h : History
 cause_among header [] a h trigger now binds f = absurd (false≢true f)
 cause_among header (c ∷ cs) a h trigger now binds f =
     let next = (chunks_lead_on header c a trigger now).leads h binds in
-    step (on_chunk a header c trigger now) next.0 refl next.1.binds f
+    cause_step (on_chunk a header c trigger now) header c cs a h next.0 trigger now binds refl next.1.binds f
     (λ b wished stands g. cause_among header cs b next.0 wished now stands g)
-  where
-    step : (x : Shown × Flow) (k : History) → on_chunk a header c trigger now ≡ x → Binds x.0 k
-        → faults_or x (λ b next. is_faulted header cs b next now) ≡ true
-        → ((b : Shown) (next : AckTrigger) → Binds b k → is_faulted header cs b next now ≡ true
-        → CauseAmong header cs b next now)
-        → CauseAmong header (c ∷ cs) a trigger now
-    step (b, flows.Next next) k e stands g more = cause_on header c cs a trigger now b next e (more b next stands g)
-    step (b, flows.Fault error) k e stands g more =
-        cause_here header c cs a trigger now h error binds (ap (λ (x : Shown × Flow). x.1) e)
-        (ap (λ (x : Shown × Flow). not (is_closed_state x.0.state)) e ∙ g)
 
 closes_by : (lost faulted : Bool) → (not lost && faulted) ≡ true → faulted ≡ true
 closes_by true faulted e = absurd (false≢true e)
@@ -178,36 +192,33 @@ abbrev chunk_or : Chunk → Option Chunk → Chunk
 chunk_or other None = other
 chunk_or other (Some chunk) = chunk
 
+caused : (header : CommonHeader) (cs : List Chunk) (index : ℕ) (chunk : Chunk) (a reached : Shown) (h : History)
+    (trigger : AckTrigger) (now : ℕ)
+    → slice_get cs index ≡ Some chunk → Reaches header cs a trigger now index reached → reached.state ≢ states.Closed
+    → Binds reached h → IsCause reached h header chunk
+    → is_faulted header cs a trigger now ≡ true
+caused header [] index chunk a reached h trigger now there reaches opened binds cause = absurd reaches
+caused header (c ∷ cs) zero chunk a reached h trigger now there reaches opened binds cause =
+    let here : chunk ≡ c = sym (ap (chunk_or c) there) in
+    let stands : Binds a h = subst (λ (z : Shown). Binds z h) reaches binds in
+    let is_cause : IsCause a h header c =
+    subst (λ (z : Shown). IsCause z h header c) reaches
+    (subst (λ (z : Chunk). IsCause reached h header z) here cause) in
+    let fault = (faults_are_causes a h header c trigger now stands).1 is_cause in
+    let left : (on_chunk a header c trigger now).0.state ≡ a.state =
+    fault_leaves_state header c a trigger now fault.0 (ap fault_of fault.1) in
+    fault_counts (on_chunk a header c trigger now) (λ b next. is_faulted header cs b next now) fault.0
+    (ap fault_of fault.1)
+    (ap is_closed_state (left ∙ sym (ap (λ (z : Shown). z.state) reaches)) ∙ open_state reached.state opened)
+caused header (c ∷ cs) (suc index) chunk a reached h trigger now there (b, next, e, reaches) opened binds cause =
+    ap (λ (x : Shown × Flow). faults_or x (λ d wished. is_faulted header cs d wished now)) e
+    ∙ caused header cs index chunk b reached h next now there reaches opened binds cause
+
 closes_unless : (lost faulted : Bool) → lost ≡ false → faulted ≡ true → (not lost && faulted) ≡ true
 closes_unless lost faulted e f = rw (e, f) refl
 
--- A chunk of a packet that is reached while the association is open, and is a cause
-module _ (a : Shown) (packet : Packet) (now index : ℕ) (chunk : Chunk) (reached : Shown) (h : History)
-    (present : a.lost ≡ false) (r : IsReachedOpen a packet now index chunk reached) (binds : Binds reached h)
-    (cause : IsCause reached h packet.common_header chunk) where
-  caused : (cs : List Chunk) (i : ℕ) (b : Shown) (trigger : AckTrigger) → slice_get cs i ≡ Some chunk
-      → Reaches packet.common_header cs b trigger now i reached
-      → is_faulted packet.common_header cs b trigger now ≡ true
-  caused [] i b trigger there reaches = absurd reaches
-  caused (c ∷ cs) zero b trigger there reaches =
-      let header = packet.common_header in
-      let here : chunk ≡ c = sym (ap (chunk_or c) there) in
-      let stands : Binds b h = subst (λ (z : Shown). Binds z h) reaches binds in
-      let is_cause : IsCause b h header c = subst (λ (z : Shown). IsCause z h header c) reaches
-      (subst (λ (z : Chunk). IsCause reached h header z) here cause) in
-      let fault = (faults_are_causes b h header c trigger now stands).1 is_cause in
-      let left : (on_chunk b header c trigger now).0.state ≡ b.state =
-      fault_leaves_state header b trigger now fault.0 c (ap fault_of fault.1) in
-      fault_counts (on_chunk b header c trigger now) (λ d next. is_faulted header cs d next now) fault.0
-      (ap fault_of fault.1) (ap is_closed_state (left ∙ sym (ap (λ (z : Shown). z.state) reaches))
-      ∙ open_state reached.state r.still_open)
-  caused (c ∷ cs) (suc i) b trigger there (d, next, e, reaches) =
-      ap (λ (x : Shown × Flow). faults_or x (λ z wished. is_faulted packet.common_header cs z wished now)) e
-      ∙ caused cs i d next there reaches
-
-  cause_closes : closes a (Some packet) now ≡ true
-  cause_closes = closes_unless a.lost (is_faulted_packet a (Some packet) now) present
-      (caused packet.chunks index a triggers.None r.there r.reaches)
-
 pub causes_close : CausesClose
-causes_close = cause_closes
+causes_close a packet now index chunk reached h present r binds cause =
+    closes_unless a.lost (is_faulted_packet a (Some packet) now) present
+    (caused packet.common_header packet.chunks index chunk a reached h triggers.None now r.there r.reaches
+    r.still_open binds cause)

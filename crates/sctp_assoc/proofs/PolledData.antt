@@ -1,7 +1,7 @@
 -- What a poll gives out is what its acts say.
-use Rattle.std.proofs.Common.{◌≡◌, refl, sym, ap, ◌∙◌, ℕ, zero, suc, ◌<◌, ◌+◌, ◌-◌, arith, Bool, true, false}
+use Rattle.std.proofs.Common.{◌≡◌, refl, sym, ap, ◌∙◌, ⊎_elim, ℕ, zero, suc, ◌<◌, ◌+◌, ◌-◌, arith, Bool, true, false}
 use Rattle.std.proofs.Common.{if◌then◌else◌, List, [], ◌∷◌, ◌++◌, length, nat_lt, slice_get, slice_set, Some}
-use Rattle.std.proofs.lemmas.Bool.{false≢true}
+use Rattle.std.proofs.lemmas.Bool.{cases_Bool, false≢true}
 use Rattle.std.proofs.lemmas.List.{append_assoc, append-nil}
 use Rattle.sctp_wire_types.specs.declared.chunk.ChunkPayloadData.{ChunkPayloadData}
 use Rattle.sctp_model.specs.Serial.{tsn}
@@ -20,7 +20,7 @@ use Rattle.sctp_assoc.specs.Shown.{Shown}
 use Rattle.sctp_assoc.specs.Happened.{acks_given, acts_of_ack, acts_of_data_poll, acts_of_marks, acts_of_new}
 use Rattle.sctp_assoc.specs.Happened.{acts_of_resending, acts_of_sending, first_again, first_sent}
 use Rattle.sctp_assoc.proofs.ActsKeepOffsets.{Tied, can_append, done_append, given_append, sent_first}
-use Rattle.sctp_outbound.proofs.SenderSteps.{by_piece, chunks_full, chunks_sent, chunks_skip, pieces_full, pieces_sent}
+use Rattle.sctp_outbound.proofs.SenderSteps.{chunks_full, chunks_sent, chunks_skip, pieces_full, pieces_sent}
 use Rattle.sctp_outbound.proofs.SenderSteps.{pieces_skip}
 
 -- Acts can be done, lead from some parts to others, and give out this DATA.
@@ -29,9 +29,9 @@ pub record Gives (xs : List Act) (p q : Parts) (given : List ChunkPayloadData) :
   pub there : q ≡ done_all xs p
   pub said : all_data_given xs p ≡ given
 
-pub gives_on : {p q r : Parts} {first second : List ChunkPayloadData} (xs ys : List Act) → Gives xs p q first
+pub gives_on : (xs ys : List Act) (p q r : Parts) (first second : List ChunkPayloadData) → Gives xs p q first
     → Gives ys q r second → Gives (xs ++ ys) p r (first ++ second)
-gives_on {p} xs ys m n = record {
+gives_on xs ys p q r first second m n = record {
   can = can_append xs ys p m.can (rw (← m.there) n.can);
   there = rw (done_append xs ys p, ← m.there) n.there;
   said = rw (given_append xs ys p, ← m.there, m.said, n.said) refl;
@@ -77,9 +77,9 @@ again_one x ps xs p e tied =
       said = rw (held, place_tsn p.history.own p.history.base p.queue.first_tsn (length xs) tied) refl;
     }
 
-gives_same : {xs ys : List Act} {p q r : Parts} {c d : List ChunkPayloadData} → xs ≡ ys → q ≡ r → c ≡ d → Gives ys p r d
+gives_same : (xs ys : List Act) (p q r : Parts) (c d : List ChunkPayloadData) → xs ≡ ys → q ≡ r → c ≡ d → Gives ys p r d
     → Gives xs p q c
-gives_same e f g m = rw (e, f, g) m
+gives_same xs ys p q r c d e f g m = rw (e, f, g) m
 
 acts_skip : (p : InFlight) (ps : List InFlight) (index room : ℕ) → p.retransmit ≡ false
     → acts_of_resending index room (p ∷ ps) ≡ acts_of_resending (index + 1) room ps
@@ -101,7 +101,7 @@ shifted : (c : InFlight) (xs rest : List InFlight) (acts : ℕ → List Act)
     → Gives (acts (length (xs ++ c ∷ []))) p (with_pieces p ((xs ++ c ∷ []) ++ rest)) (chunks (length (xs ++ c ∷ [])))
     → Gives (acts (length xs + 1)) p (with_pieces p (xs ++ c ∷ rest)) (chunks (length xs + 1))
 shifted c xs rest acts chunks p m =
-    gives_same (ap acts (sym (one_longer xs c)))
+    gives_same _ _ p _ _ _ _ (ap acts (sym (one_longer xs c)))
     (ap (λ (z : List InFlight). with_pieces p z) (sym (append_assoc xs (c ∷ []) rest)))
     (ap chunks (sym (one_longer xs c))) m
 
@@ -109,21 +109,14 @@ pub resending : (ps xs : List InFlight) (room : ℕ) (p : Parts) → p.queue.in_
     → Gives (acts_of_resending (length xs) room ps) p (with_pieces p (xs ++ resent_pieces room ps))
     (resent_chunks p.queue.first_tsn (length xs) room ps)
 resending [] xs room p e tied = record { can = tt; there = rw (← e) refl; said = refl }
-resending (x ∷ ps) xs room p e tied = by_piece room x
-    (λ unmarked.
-    let rest = resending ps (xs ++ x ∷ []) room p (e ∙ sym (append_assoc xs (x ∷ []) ps)) tied in
-    let moved =
-    shifted x xs (resent_pieces room ps) (λ (n : ℕ). acts_of_resending n room ps)
-    (λ (n : ℕ). resent_chunks p.queue.first_tsn n room ps) p rest in
-    gives_same (acts_skip x ps (length xs) room unmarked)
-    (ap (λ (z : List InFlight). with_pieces p (xs ++ z)) (pieces_skip x ps room unmarked))
-    (chunks_skip x ps p.queue.first_tsn (length xs) room unmarked) moved)
-    (λ marked full.
-    gives_same (acts_full x ps (length xs) room marked full)
+resending (x ∷ ps) xs room p e tied = ⊎_elim
+    (λ (marked : x.retransmit ≡ true). ⊎_elim
+    (λ (full : nat_lt room (length x.user_data) ≡ true).
+    gives_same _ _ p _ _ _ _ (acts_full x ps (length xs) room marked full)
     (ap (λ (z : List InFlight). with_pieces p (xs ++ z)) (pieces_full x ps room marked full))
     (chunks_full x ps p.queue.first_tsn (length xs) room marked full)
     (record { can = tt; there = rw (← e) refl; said = refl }))
-    (λ marked fits.
+    (λ (fits : nat_lt room (length x.user_data) ≡ false).
     let c : InFlight = counted_again x in
     let left : ℕ = room - length x.user_data in
     let q : Parts = with_pieces p (xs ++ c ∷ ps) in
@@ -131,11 +124,21 @@ resending (x ∷ ps) xs room p e tied = by_piece room x
     let moved =
     shifted c xs (resent_pieces left ps) (λ (n : ℕ). acts_of_resending n left ps)
     (λ (n : ℕ). resent_chunks p.queue.first_tsn n left ps) q rest in
-    gives_same (acts_sent x ps (length xs) room marked fits)
+    gives_same _ _ p _ _ _ _ (acts_sent x ps (length xs) room marked fits)
     (ap (λ (z : List InFlight). with_pieces p (xs ++ z)) (pieces_sent x ps room marked fits))
     (chunks_sent x ps p.queue.first_tsn (length xs) room marked fits)
-    (gives_on (Act.SentAgain (length xs) ∷ []) (acts_of_resending (length xs + 1) left ps)
+    (gives_on (Act.SentAgain (length xs) ∷ []) (acts_of_resending (length xs + 1) left ps) p q _ _ _
     (again_one x ps xs p e tied) moved))
+    (cases_Bool (nat_lt room (length x.user_data))))
+    (λ (unmarked : x.retransmit ≡ false).
+    let rest = resending ps (xs ++ x ∷ []) room p (e ∙ sym (append_assoc xs (x ∷ []) ps)) tied in
+    let moved =
+    shifted x xs (resent_pieces room ps) (λ (n : ℕ). acts_of_resending n room ps)
+    (λ (n : ℕ). resent_chunks p.queue.first_tsn n room ps) p rest in
+    gives_same _ _ p _ _ _ _ (acts_skip x ps (length xs) room unmarked)
+    (ap (λ (z : List InFlight). with_pieces p (xs ++ z)) (pieces_skip x ps room unmarked))
+    (chunks_skip x ps p.queue.first_tsn (length xs) room unmarked) moved)
+    (cases_Bool x.retransmit)
 
 first_again_gives : (ps : List InFlight) (p : Parts) → p.queue.in_flight ≡ ps → Tied p
     → Gives (first_again ps) p (with_pieces p (first_counted ps)) (first_chunk p.queue.first_tsn ps)
@@ -174,6 +177,25 @@ unfolding sent_one
 one_said [] s out now = sym (append-nil out)
 one_said (m ∷ ms) s out now = refl
 
+one_tied : (s : Sender) (out : List ChunkPayloadData) (now : ℕ) (h : History) → s.queue.first_tsn ≡ tsn h.own h.base
+    → (sent_one s.queue.pending s out now).0.queue.first_tsn ≡ tsn h.own h.base
+one_tied s out now h tied =
+    ap (λ (q : Outbound). q.first_tsn) (one_queue s.queue.pending s out now refl)
+    ∙ sent_first s.queue.pending s.queue now ∙ tied
+
+one_gives : (ms : List Waiting) (s : Sender) (out : List ChunkPayloadData) (now : ℕ) (m : StreamMap) (h : History)
+    → s.queue.pending ≡ ms
+    → s.queue.first_tsn ≡ tsn h.own h.base
+    → Gives (first_sent ms now) (sending s m h) (sending (sent_one ms s out now).0 m h)
+    (first_chunk_said ms (next_tsn_of s.queue))
+unfolding sent_one
+one_gives [] s out now m h e tied = gives_none (sending s m h)
+one_gives (w ∷ ws) s out now m h e tied = record {
+  can = (rw e refl, tt);
+  there = refl;
+  said = rw (e, place_tsn h.own h.base s.queue.first_tsn (length s.queue.in_flight) tied) refl;
+}
+
 is_pending : (ms : List Waiting) (s : Sender) (now : ℕ) → fits_windows s (slice_get ms 0) ≡ true
     → first_sent ms now ≡ Act.Sent now ∷ []
 is_pending [] s now fits = absurd (false≢true fits)
@@ -188,75 +210,65 @@ pub record Adds (xs : List Act) (p q : Parts) (before after : List ChunkPayloadD
 adds_none : (p : Parts) (out : List ChunkPayloadData) → Adds [] p p out out
 adds_none p out = record { given = []; gives = gives_none p; all = sym (append-nil out) }
 
-adds_on : {p q r : Parts} {a b c : List ChunkPayloadData} (xs ys : List Act) → Adds xs p q a b → Adds ys q r b c
+adds_on : (xs ys : List Act) (p q r : Parts) (a b c : List ChunkPayloadData) → Adds xs p q a b → Adds ys q r b c
     → Adds (xs ++ ys) p r a c
-adds_on {a} xs ys m n = record {
+adds_on xs ys p q r a b c m n = record {
   given = m.given ++ n.given;
-  gives = gives_on xs ys m.gives n.gives;
+  gives = gives_on xs ys p q r m.given n.given m.gives n.gives;
   all = n.all ∙ ap (λ (z : List ChunkPayloadData). z ++ n.given) m.all ∙ append_assoc a m.given n.given;
 }
 
-adds_same : {xs ys : List Act} {p q : Parts} {a b : List ChunkPayloadData} → xs ≡ ys → Adds xs p q a b → Adds ys p q a b
-adds_same e m = rw (← e) m
+adds_same : (xs ys : List Act) (p q : Parts) (a b : List ChunkPayloadData) → xs ≡ ys → Adds xs p q a b → Adds ys p q a b
+adds_same xs ys p q a b e m = rw (← e) m
 
-module _ (now : ℕ) (m : StreamMap) (h : History) where
-  one_tied : (s : Sender) (out : List ChunkPayloadData) → s.queue.first_tsn ≡ tsn h.own h.base
-      → (sent_one s.queue.pending s out now).0.queue.first_tsn ≡ tsn h.own h.base
-  one_tied s out tied = ap (λ (q : Outbound). q.first_tsn) (one_queue s.queue.pending s out now refl)
-      ∙ sent_first s.queue.pending s.queue now ∙ tied
+one_adds : (s : Sender) (out : List ChunkPayloadData) (now : ℕ) (m : StreamMap) (h : History)
+    → s.queue.first_tsn ≡ tsn h.own h.base
+    → Adds (first_sent s.queue.pending now) (sending s m h) (sending (sent_one s.queue.pending s out now).0 m h) out
+    (sent_one s.queue.pending s out now).1
+one_adds s out now m h tied = record {
+  given = first_chunk_said s.queue.pending (next_tsn_of s.queue);
+  gives = one_gives s.queue.pending s out now m h refl tied;
+  all = one_said s.queue.pending s out now;
+}
 
-  one_gives : (ms : List Waiting) (s : Sender) (out : List ChunkPayloadData) → s.queue.pending ≡ ms
-      → s.queue.first_tsn ≡ tsn h.own h.base
-      → Gives (first_sent ms now) (sending s m h) (sending (sent_one ms s out now).0 m h)
-      (first_chunk_said ms (next_tsn_of s.queue))
-  unfolding sent_one
-  one_gives [] s out e tied = gives_none (sending s m h)
-  one_gives (w ∷ ws) s out e tied = record {
-    can = (rw e refl, tt);
-    there = refl;
-    said = rw (e, place_tsn h.own h.base s.queue.first_tsn (length s.queue.in_flight) tied) refl;
-  }
+sending_adds_if : (c : Bool) (n : ℕ) (s : Sender) (out : List ChunkPayloadData) (now : ℕ) (m : StreamMap) (h : History)
+    → can_send_next s ≡ c
+    → s.queue.first_tsn ≡ tsn h.own h.base
+    → ((t : Sender) (more : List ChunkPayloadData) → t.queue.first_tsn ≡ tsn h.own h.base
+    → Adds (acts_of_sending n t more now) (sending t m h) (sending (sent_within n t more now).0 m h) more
+    (sent_within n t more now).1)
+    → Adds (if c then (let sent =
+    sent_one s.queue.pending s out now in Act.Sent now ∷ acts_of_sending n sent.0 sent.1 now) else []) (sending s m h)
+    (sending (if c then (let sent = sent_one s.queue.pending s out now in sent_within n sent.0 sent.1 now) else
+    (s, out)).0 m h) out
+    (if c then (let sent = sent_one s.queue.pending s out now in sent_within n sent.0 sent.1 now) else (s, out)).1
+sending_adds_if false n s out now m h e tied rest = adds_none (sending s m h) out
+sending_adds_if true n s out now m h e tied rest =
+    let sent = sent_one s.queue.pending s out now in
+    let one =
+    adds_same (first_sent s.queue.pending now) (Act.Sent now ∷ []) _ _ _ _ (is_pending s.queue.pending s now e)
+    (one_adds s out now m h tied) in
+    adds_on (Act.Sent now ∷ []) (acts_of_sending n sent.0 sent.1 now) (sending s m h) (sending sent.0 m h) _
+    out sent.1 _ one
+    (rest sent.0 sent.1 (one_tied s out now h tied))
 
-  one_adds : (s : Sender) (out : List ChunkPayloadData) → s.queue.first_tsn ≡ tsn h.own h.base
-      → Adds (first_sent s.queue.pending now) (sending s m h)
-      (sending (sent_one s.queue.pending s out now).0 m h) out (sent_one s.queue.pending s out now).1
-  one_adds s out tied = record {
-    given = first_chunk_said s.queue.pending (next_tsn_of s.queue);
-    gives = one_gives s.queue.pending s out refl tied;
-    all = one_said s.queue.pending s out now;
-  }
+pub sending_adds : (n : ℕ) (s : Sender) (out : List ChunkPayloadData) (now : ℕ) (m : StreamMap) (h : History)
+    → s.queue.first_tsn ≡ tsn h.own h.base
+    → Adds (acts_of_sending n s out now) (sending s m h) (sending (sent_within n s out now).0 m h) out
+    (sent_within n s out now).1
+sending_adds zero s out now m h tied = adds_none (sending s m h) out
+sending_adds (suc n) s out now m h tied =
+    sending_adds_if (can_send_next s) n s out now m h refl tied (λ t more bound. sending_adds n t more now m h bound)
 
-  sending_adds_if : (c : Bool) (n : ℕ) (s : Sender) (out : List ChunkPayloadData) → can_send_next s ≡ c
-      → s.queue.first_tsn ≡ tsn h.own h.base
-      → ((t : Sender) (more : List ChunkPayloadData) → t.queue.first_tsn ≡ tsn h.own h.base
-      → Adds (acts_of_sending n t more now) (sending t m h)
-      (sending (sent_within n t more now).0 m h) more (sent_within n t more now).1)
-      → Adds (if c then (let sent =
-      sent_one s.queue.pending s out now in Act.Sent now ∷ acts_of_sending n sent.0 sent.1 now) else []) (sending s m h)
-      (sending (if c then (let sent = sent_one s.queue.pending s out now in sent_within n sent.0 sent.1 now) else
-      (s, out)).0 m h) out
-      (if c then (let sent = sent_one s.queue.pending s out now in sent_within n sent.0 sent.1 now) else (s, out)).1
-  sending_adds_if false n s out e tied rest = adds_none (sending s m h) out
-  sending_adds_if true n s out e tied rest =
-      let sent = sent_one s.queue.pending s out now in
-      let one = adds_same (is_pending s.queue.pending s now e) (one_adds s out tied) in
-      adds_on (Act.Sent now ∷ []) (acts_of_sending n sent.0 sent.1 now) one (rest sent.0 sent.1 (one_tied s out tied))
-
-  sending_adds : (n : ℕ) (s : Sender) (out : List ChunkPayloadData) → s.queue.first_tsn ≡ tsn h.own h.base
-      → Adds (acts_of_sending n s out now) (sending s m h)
-      (sending (sent_within n s out now).0 m h) out (sent_within n s out now).1
-  sending_adds zero s out tied = adds_none (sending s m h) out
-  sending_adds (suc n) s out tied =
-      sending_adds_if (can_send_next s) n s out refl tied (λ t more bound. sending_adds n t more bound)
-
-  new_adds_if : (c : Bool) (s : Sender) (out : List ChunkPayloadData) → s.queue.first_tsn ≡ tsn h.own h.base
-      → Adds (if c then first_sent s.queue.pending now else acts_of_sending (pieces_waiting s.queue.pending) s out now)
-      (sending s m h)
-      (sending (if c then sent_one s.queue.pending s out now else
-      sent_within (pieces_waiting s.queue.pending) s out now).0 m h) out
-      (if c then sent_one s.queue.pending s out now else sent_within (pieces_waiting s.queue.pending) s out now).1
-  new_adds_if true s out tied = one_adds s out tied
-  new_adds_if false s out tied = sending_adds (pieces_waiting s.queue.pending) s out tied
+new_adds_if : (c : Bool) (s : Sender) (out : List ChunkPayloadData) (now : ℕ) (m : StreamMap) (h : History)
+    → s.queue.first_tsn ≡ tsn h.own h.base
+    → Adds (if c then first_sent s.queue.pending now else acts_of_sending (pieces_waiting s.queue.pending) s out now)
+    (sending s m h)
+    (sending (if c then sent_one s.queue.pending s out now else
+    sent_within (pieces_waiting s.queue.pending) s out now).0 m h) out
+    (if c then sent_one s.queue.pending s out now else sent_within (pieces_waiting s.queue.pending) s out now).1
+new_adds_if true s out now m h tied = one_adds s out now m h tied
+new_adds_if false s out now m h tied = sending_adds (pieces_waiting s.queue.pending) s out now m h tied
 
 -- All DATA of a poll.
 
@@ -294,8 +306,9 @@ data_poll_adds a now h tied =
     let x = sent_new s (resent_by a.sender) now in
     let again : Adds (acts_of_marks a.sender) (parts a h) (sending s a.streams h) [] (resent_by a.sender) =
     record { given = resent_by a.sender; gives = marks_give a.sender a.streams h tied; all = refl } in
-    let fresh = new_adds_if now a.streams h _ s (resent_by a.sender) tied in
-    let both = adds_on {r = sending x.0 a.streams h} {c = x.1} (acts_of_marks a.sender)
-    (acts_of_new s (resent_by a.sender) now) again fresh in
+    let fresh = new_adds_if _ s (resent_by a.sender) now a.streams h tied in
+    let both =
+    adds_on (acts_of_marks a.sender) (acts_of_new s (resent_by a.sender) now) (parts a h) (sending s a.streams h)
+    (sending x.0 a.streams h) [] _ x.1 again fresh in
     rw (sent_data_parts a (length (resent_by a.sender)) now x h, sent_data_said a (length (resent_by a.sender)) now x)
     both

@@ -25,12 +25,12 @@ kept_if : {A : Type 0} (c : Bool) (x y : Timers) (part : Timers → A) → part 
 kept_if true x y part e = e
 kept_if false x y part e = refl
 
-pub fits_of : {d l : Option ℕ} (s : AssociationState) (g : List InFlight) (u : Timers) → u.data_limit ≡ d
+pub fits_of : (s : AssociationState) (g : List InFlight) (u : Timers) (d l : Option ℕ) → u.data_limit ≡ d
     → u.handshake_limit ≡ l
     → Flies (is_established s) g u.t3_rtx d → Waits (is_cookie_wait s) u.t1_init l
     → Waits (is_cookie_echoed s) u.t1_cookie l → (is_beginning s ≡ true → g ≡ [])
     → FitsTimers s g u
-fits_of s g u e k flies inits cookies unsent = record {
+fits_of s g u d l e k flies inits cookies unsent = record {
   flies = subst (λ (z : Option ℕ). Flies (is_established s) g u.t3_rtx z) (sym e) flies;
   inits = subst (λ (z : Option ℕ). Waits (is_cookie_wait s) u.t1_init z) (sym k) inits;
   cookies = subst (λ (z : Option ℕ). Waits (is_cookie_echoed s) u.t1_cookie z) (sym k) cookies;
@@ -43,6 +43,40 @@ flies_still established f x y l e h = subst (λ (z : TimerState). Flies establis
 
 pub waits_still : (there : Bool) (x y : TimerState) (l : Option ℕ) → y ≡ x → Waits there x l → Waits there y l
 waits_still there x y l e h = subst (λ (z : TimerState). Waits there z l) (sym e) h
+
+-- The timers of INIT and of COOKIE ECHO
+
+init_fits : (s : AssociationState) (f : List InFlight) (t : Timers) (now : ℕ) (u : Timers)
+    → u.t3_rtx ≡ (after_expiry names.T1Init now t).t3_rtx
+    → u.t1_cookie ≡ (after_expiry names.T1Init now t).t1_cookie
+    → u.data_limit ≡ (after_expiry names.T1Init now t).data_limit
+    → u.handshake_limit ≡ (after_expiry names.T1Init now t).handshake_limit
+    → Waits (is_cookie_wait s) u.t1_init t.handshake_limit → FitsTimers s f t → FitsTimers s f u
+init_fits s f t now u a b c d w h =
+    let due = is_due t.t1_init.moment now in
+    let x : Timers = with_timer names.T1Init (expired_state t.t1_init) t in
+    fits_of s f u t.data_limit t.handshake_limit (c ∙ kept_if due x t (λ (z : Timers). z.data_limit) refl)
+    (d ∙ kept_if due x t (λ (z : Timers). z.handshake_limit) refl)
+    (flies_still (is_established s) f t.t3_rtx u.t3_rtx t.data_limit
+    (a ∙ kept_if due x t (λ (z : Timers). z.t3_rtx) refl) h.flies) w
+    (waits_still (is_cookie_echoed s) t.t1_cookie u.t1_cookie t.handshake_limit
+    (b ∙ kept_if due x t (λ (z : Timers). z.t1_cookie) refl) h.cookies) h.unsent
+
+cookie_fits : (s : AssociationState) (f : List InFlight) (t : Timers) (now : ℕ) (u : Timers)
+    → u.t3_rtx ≡ (after_expiry names.T1Cookie now t).t3_rtx
+    → u.t1_init ≡ (after_expiry names.T1Cookie now t).t1_init
+    → u.data_limit ≡ (after_expiry names.T1Cookie now t).data_limit
+    → u.handshake_limit ≡ (after_expiry names.T1Cookie now t).handshake_limit
+    → Waits (is_cookie_echoed s) u.t1_cookie t.handshake_limit → FitsTimers s f t → FitsTimers s f u
+cookie_fits s f t now u a b c d w h =
+    let due = is_due t.t1_cookie.moment now in
+    let x : Timers = with_timer names.T1Cookie (expired_state t.t1_cookie) t in
+    fits_of s f u t.data_limit t.handshake_limit (c ∙ kept_if due x t (λ (z : Timers). z.data_limit) refl)
+    (d ∙ kept_if due x t (λ (z : Timers). z.handshake_limit) refl)
+    (flies_still (is_established s) f t.t3_rtx u.t3_rtx t.data_limit
+    (a ∙ kept_if due x t (λ (z : Timers). z.t3_rtx) refl) h.flies)
+    (waits_still (is_cookie_wait s) t.t1_init u.t1_init t.handshake_limit
+    (b ∙ kept_if due x t (λ (z : Timers). z.t1_init) refl) h.inits) w h.unsent
 
 expiry_keeps_ack : (due : Bool) (x t : Timers) → x.ack ≡ t.ack → (if due then x else t).ack ≡ t.ack
 expiry_keeps_ack due x t e = kept_if due x t (λ (z : Timers). z.ack) e
@@ -79,210 +113,173 @@ unfolding sends_cookie
 cookie_time None a now e = rw e (time_by _ _ refl refl refl refl refl refl)
 cookie_time (Some cookie) a now e = rw e (time_by _ _ refl refl refl refl refl refl)
 
+t1_init_ticks : (due failure : Bool) (a : Shown) (now : ℕ) → (expiry_of names.T1Init now a.timers).expired ≡ due
+    → (expiry_of names.T1Init now a.timers).failed ≡ failure → Ticks a
+    → Ticks (if due then (if failure then (let b = t1_init_expired a now in record b {
+      handshake_fault = Some errors.ErrHandshakeInitAck;
+    }) else sends_init (t1_init_expired a now) now) else a)
+t1_init_ticks false failure a now d e h = h
+t1_init_ticks true true a now d e h = record {
+  working = h.working;
+  not_lost = h.not_lost;
+  fits = init_fits a.state a.sender.queue.in_flight a.timers now (t1_init_expired a now).timers refl refl refl refl
+      (given_up (is_cookie_wait a.state) (t1_init_expired a now).timers.t1_init a.timers.handshake_limit refl
+      (third (is_due a.timers.t1_init.moment now) (not a.timers.t1_init.exempt)
+      (passes (after_expiry names.T1Init now a.timers).t1_init.retries a.timers.handshake_limit) e)) h.fits;
+  acks = ack_kept (t1_init_expired a now).timers a.timers a.receiver.ack_state
+      (expiry_keeps_ack (is_due a.timers.t1_init.moment now)
+      (with_timer names.T1Init (expired_state a.timers.t1_init) a.timers) a.timers refl)
+      h.acks;
+}
+t1_init_ticks true false a now d e h =
+    let b : Shown = t1_init_expired a now in
+    let c : Shown = record b { timers = started names.T1Init now b.estimate.rto b.timers } in
+    ticks_by c (sends_init b now) (init_time b.handshake.offer b now refl) (record {
+      working = h.working;
+      not_lost = h.not_lost;
+      fits = init_fits a.state a.sender.queue.in_flight a.timers now c.timers refl refl refl refl
+          (running (is_cookie_wait a.state) a.timers.t1_init c.timers.t1_init a.timers.handshake_limit now d
+          h.fits.inits refl) h.fits;
+      acks = ack_kept c.timers a.timers a.receiver.ack_state
+          (expiry_keeps_ack (is_due a.timers.t1_init.moment now)
+          (with_timer names.T1Init (expired_state a.timers.t1_init) a.timers) a.timers
+          refl) h.acks;
+    })
+
+t1_cookie_ticks : (due failure : Bool) (a : Shown) (now : ℕ) → (expiry_of names.T1Cookie now a.timers).expired ≡ due
+    → (expiry_of names.T1Cookie now a.timers).failed ≡ failure → Ticks a
+    → Ticks (if due then (if failure then (let b = t1_cookie_expired a now in record b {
+      handshake_fault = Some errors.ErrHandshakeCookieEcho;
+    }) else sends_cookie (t1_cookie_expired a now) now) else a)
+t1_cookie_ticks false failure a now d e h = h
+t1_cookie_ticks true true a now d e h = record {
+  working = h.working;
+  not_lost = h.not_lost;
+  fits = cookie_fits a.state a.sender.queue.in_flight a.timers now (t1_cookie_expired a now).timers refl refl refl refl
+      (given_up (is_cookie_echoed a.state) (t1_cookie_expired a now).timers.t1_cookie a.timers.handshake_limit refl
+      (third (is_due a.timers.t1_cookie.moment now) (not a.timers.t1_cookie.exempt)
+      (passes (after_expiry names.T1Cookie now a.timers).t1_cookie.retries a.timers.handshake_limit) e)) h.fits;
+  acks = ack_kept (t1_cookie_expired a now).timers a.timers a.receiver.ack_state
+      (expiry_keeps_ack (is_due a.timers.t1_cookie.moment now)
+      (with_timer names.T1Cookie (expired_state a.timers.t1_cookie) a.timers) a.timers refl)
+      h.acks;
+}
+t1_cookie_ticks true false a now d e h =
+    let b : Shown = t1_cookie_expired a now in
+    let c : Shown = record b { timers = started names.T1Cookie now b.estimate.rto b.timers } in
+    ticks_by c (sends_cookie b now) (cookie_time b.handshake.echo b now refl) (record {
+      working = h.working;
+      not_lost = h.not_lost;
+      fits = cookie_fits a.state a.sender.queue.in_flight a.timers now c.timers refl refl refl refl
+          (running (is_cookie_echoed a.state) a.timers.t1_cookie c.timers.t1_cookie a.timers.handshake_limit now d
+          h.fits.cookies refl) h.fits;
+      acks = ack_kept c.timers a.timers a.receiver.ack_state
+          (expiry_keeps_ack (is_due a.timers.t1_cookie.moment now)
+          (with_timer names.T1Cookie (expired_state a.timers.t1_cookie) a.timers) a.timers
+          refl) h.acks;
+    })
+
+-- The retransmission timer
+
+t3_fits : (s : AssociationState) (f g : List InFlight) (t : Timers) (now : ℕ) (u : Timers)
+    → u.t1_init ≡ (after_expiry names.T3RTX now t).t1_init
+    → u.t1_cookie ≡ (after_expiry names.T3RTX now t).t1_cookie
+    → u.data_limit ≡ (after_expiry names.T3RTX now t).data_limit
+    → u.handshake_limit ≡ (after_expiry names.T3RTX now t).handshake_limit
+    → Flies (is_established s) g u.t3_rtx t.data_limit → (is_beginning s ≡ true → g ≡ []) → FitsTimers s f t
+    → FitsTimers s g u
+t3_fits s f g t now u a b c d flies unsent h =
+    let due = is_due t.t3_rtx.moment now in
+    let x : Timers = with_timer names.T3RTX (expired_state t.t3_rtx) t in
+    fits_of s g u t.data_limit t.handshake_limit (c ∙ kept_if due x t (λ (z : Timers). z.data_limit) refl)
+    (d ∙ kept_if due x t (λ (z : Timers). z.handshake_limit) refl) flies
+    (waits_still (is_cookie_wait s) t.t1_init u.t1_init t.handshake_limit
+    (a ∙ kept_if due x t (λ (z : Timers). z.t1_init) refl) h.inits)
+    (waits_still (is_cookie_echoed s) t.t1_cookie u.t1_cookie t.handshake_limit
+    (b ∙ kept_if due x t (λ (z : Timers). z.t1_cookie) refl) h.cookies) unsent
+
 map_nil : (f : List InFlight) → map marked_again f ≡ [] → f ≡ []
 map_nil f e = nil_from_length f (sym (length-map f marked_again) ∙ ap (λ (xs : List InFlight). length xs) e)
+
+t3_ticks : (due failure : Bool) (a : Shown) (now : ℕ) → (expiry_of names.T3RTX now a.timers).expired ≡ due
+    → (expiry_of names.T3RTX now a.timers).failed ≡ failure → Ticks a
+    → Ticks (if due then (if failure then t3_expired a now else retransmits (t3_expired a now) now) else a)
+t3_ticks false failure a now d e h = h
+t3_ticks true true a now d e h = record {
+  working = h.working;
+  not_lost = h.not_lost;
+  fits = t3_fits a.state a.sender.queue.in_flight a.sender.queue.in_flight a.timers now (t3_expired a now).timers refl
+      refl refl refl
+      (record {
+        timed = λ _ _. inr (third (is_due a.timers.t3_rtx.moment now) (not a.timers.t3_rtx.exempt)
+            (passes (after_expiry names.T3RTX now a.timers).t3_rtx.retries a.timers.data_limit) e);
+        none = λ _. refl;
+      })
+      h.fits.unsent h.fits;
+  acks = ack_kept (t3_expired a now).timers a.timers a.receiver.ack_state
+      (expiry_keeps_ack (is_due a.timers.t3_rtx.moment now)
+      (with_timer names.T3RTX (expired_state a.timers.t3_rtx) a.timers)
+      a.timers refl) h.acks;
+}
+t3_ticks true false a now d e h = record {
+  working = h.working;
+  not_lost = h.not_lost;
+  fits = t3_fits a.state a.sender.queue.in_flight _ a.timers now (retransmits (t3_expired a now) now).timers refl refl
+      refl refl (record {
+        timed = λ _ _. inl refl;
+        none = λ z. absurd (true≢false (sym d ∙ unarmed_is_not_due a.timers.t3_rtx.moment now
+            (h.fits.flies.none (map_nil a.sender.queue.in_flight z))));
+      }) (λ b. ap (λ (f : List InFlight). map marked_again f) (h.fits.unsent b)) h.fits;
+  acks = ack_kept (retransmits (t3_expired a now) now).timers a.timers a.receiver.ack_state
+      (expiry_keeps_ack (is_due a.timers.t3_rtx.moment now)
+      (with_timer names.T3RTX (expired_state a.timers.t3_rtx) a.timers)
+      a.timers refl) h.acks;
+}
+
+-- The delay of an acknowledgement
+
+ack_fits : (s : AssociationState) (f : List InFlight) (t : Timers) (now : ℕ) → FitsTimers s f t
+    → FitsTimers s f (with_moment names.Ack None (after_expiry names.Ack now t))
+ack_fits s f t now h =
+    let due = is_due t.ack.moment now in
+    let x : Timers = with_timer names.Ack (expired_state t.ack) t in
+    let u : Timers = with_moment names.Ack None (after_expiry names.Ack now t) in
+    fits_of s f u t.data_limit t.handshake_limit (kept_if due x t (λ (z : Timers). z.data_limit) refl)
+    (kept_if due x t (λ (z : Timers). z.handshake_limit) refl)
+    (flies_still (is_established s) f t.t3_rtx u.t3_rtx t.data_limit (kept_if due x t (λ (z : Timers). z.t3_rtx) refl)
+    h.flies)
+    (waits_still (is_cookie_wait s) t.t1_init u.t1_init t.handshake_limit
+    (kept_if due x t (λ (z : Timers). z.t1_init) refl) h.inits)
+    (waits_still (is_cookie_echoed s) t.t1_cookie u.t1_cookie t.handshake_limit
+    (kept_if due x t (λ (z : Timers). z.t1_cookie) refl) h.cookies) h.unsent
 
 ticks_if : (c : Bool) (x y : Shown) → Ticks x → Ticks y → Ticks (if c then x else y)
 ticks_if true x y h k = h
 ticks_if false x y h k = k
 
--- A timer that expired in an association whose timers run where they should
-module _ (a : Shown) (now : ℕ) (h : Ticks a) where
-  init_fits : (u : Timers)
-      → u.t3_rtx ≡ (after_expiry names.T1Init now a.timers).t3_rtx
-      → u.t1_cookie ≡ (after_expiry names.T1Init now a.timers).t1_cookie
-      → u.data_limit ≡ (after_expiry names.T1Init now a.timers).data_limit
-      → u.handshake_limit ≡ (after_expiry names.T1Init now a.timers).handshake_limit
-      → Waits (is_cookie_wait a.state) u.t1_init a.timers.handshake_limit
-      → FitsTimers a.state a.sender.queue.in_flight u
-  init_fits u i c d l w =
-      let t = a.timers in
-      let due = is_due t.t1_init.moment now in
-      let x : Timers = with_timer names.T1Init (expired_state t.t1_init) t in
-      fits_of a.state a.sender.queue.in_flight u (d ∙ kept_if due x t (λ (z : Timers). z.data_limit) refl)
-      (l ∙ kept_if due x t (λ (z : Timers). z.handshake_limit) refl)
-      (flies_still (is_established a.state) a.sender.queue.in_flight t.t3_rtx u.t3_rtx t.data_limit
-      (i ∙ kept_if due x t (λ (z : Timers). z.t3_rtx) refl) h.fits.flies) w
-      (waits_still (is_cookie_echoed a.state) t.t1_cookie u.t1_cookie t.handshake_limit
-      (c ∙ kept_if due x t (λ (z : Timers). z.t1_cookie) refl) h.fits.cookies) h.fits.unsent
-
-  cookie_fits : (u : Timers)
-      → u.t3_rtx ≡ (after_expiry names.T1Cookie now a.timers).t3_rtx
-      → u.t1_init ≡ (after_expiry names.T1Cookie now a.timers).t1_init
-      → u.data_limit ≡ (after_expiry names.T1Cookie now a.timers).data_limit
-      → u.handshake_limit ≡ (after_expiry names.T1Cookie now a.timers).handshake_limit
-      → Waits (is_cookie_echoed a.state) u.t1_cookie a.timers.handshake_limit
-      → FitsTimers a.state a.sender.queue.in_flight u
-  cookie_fits u i c d l w =
-      let t = a.timers in
-      let due = is_due t.t1_cookie.moment now in
-      let x : Timers = with_timer names.T1Cookie (expired_state t.t1_cookie) t in
-      fits_of a.state a.sender.queue.in_flight u (d ∙ kept_if due x t (λ (z : Timers). z.data_limit) refl)
-      (l ∙ kept_if due x t (λ (z : Timers). z.handshake_limit) refl)
-      (flies_still (is_established a.state) a.sender.queue.in_flight t.t3_rtx u.t3_rtx t.data_limit
-      (i ∙ kept_if due x t (λ (z : Timers). z.t3_rtx) refl) h.fits.flies)
-      (waits_still (is_cookie_wait a.state) t.t1_init u.t1_init t.handshake_limit
-      (c ∙ kept_if due x t (λ (z : Timers). z.t1_init) refl) h.fits.inits) w h.fits.unsent
-
-  t1_init_ticks : (due failure : Bool) → (expiry_of names.T1Init now a.timers).expired ≡ due
-      → (expiry_of names.T1Init now a.timers).failed ≡ failure
-      → Ticks (if due then (if failure then (let b = t1_init_expired a now in record b {
-        handshake_fault = Some errors.ErrHandshakeInitAck;
-      }) else sends_init (t1_init_expired a now) now) else a)
-  t1_init_ticks false failure d e = h
-  t1_init_ticks true true d e = record {
-    working = h.working;
-    not_lost = h.not_lost;
-    fits = init_fits (t1_init_expired a now).timers refl refl refl refl
-        (given_up (is_cookie_wait a.state) (t1_init_expired a now).timers.t1_init a.timers.handshake_limit refl
-        (third (is_due a.timers.t1_init.moment now) (not a.timers.t1_init.exempt)
-        (passes (after_expiry names.T1Init now a.timers).t1_init.retries a.timers.handshake_limit) e));
-    acks = ack_kept (t1_init_expired a now).timers a.timers a.receiver.ack_state
-        (expiry_keeps_ack (is_due a.timers.t1_init.moment now)
-        (with_timer names.T1Init (expired_state a.timers.t1_init) a.timers) a.timers refl)
-        h.acks;
-  }
-  t1_init_ticks true false d e =
-      let b : Shown = t1_init_expired a now in
-      let c : Shown = record b { timers = started names.T1Init now b.estimate.rto b.timers } in
-      ticks_by c (sends_init b now) (init_time b.handshake.offer b now refl) (record {
-        working = h.working;
-        not_lost = h.not_lost;
-        fits = init_fits c.timers refl refl refl refl
-            (running (is_cookie_wait a.state) a.timers.t1_init c.timers.t1_init a.timers.handshake_limit now d
-            h.fits.inits refl);
-        acks = ack_kept c.timers a.timers a.receiver.ack_state
-            (expiry_keeps_ack (is_due a.timers.t1_init.moment now)
-            (with_timer names.T1Init (expired_state a.timers.t1_init) a.timers) a.timers
-            refl) h.acks;
-      })
-
-  t1_cookie_ticks : (due failure : Bool) → (expiry_of names.T1Cookie now a.timers).expired ≡ due
-      → (expiry_of names.T1Cookie now a.timers).failed ≡ failure
-      → Ticks (if due then (if failure then (let b = t1_cookie_expired a now in record b {
-        handshake_fault = Some errors.ErrHandshakeCookieEcho;
-      }) else sends_cookie (t1_cookie_expired a now) now) else a)
-  t1_cookie_ticks false failure d e = h
-  t1_cookie_ticks true true d e = record {
-    working = h.working;
-    not_lost = h.not_lost;
-    fits = cookie_fits (t1_cookie_expired a now).timers refl refl refl refl
-        (given_up (is_cookie_echoed a.state) (t1_cookie_expired a now).timers.t1_cookie a.timers.handshake_limit refl
-        (third (is_due a.timers.t1_cookie.moment now) (not a.timers.t1_cookie.exempt)
-        (passes (after_expiry names.T1Cookie now a.timers).t1_cookie.retries a.timers.handshake_limit) e));
-    acks = ack_kept (t1_cookie_expired a now).timers a.timers a.receiver.ack_state
-        (expiry_keeps_ack (is_due a.timers.t1_cookie.moment now)
-        (with_timer names.T1Cookie (expired_state a.timers.t1_cookie) a.timers) a.timers refl)
-        h.acks;
-  }
-  t1_cookie_ticks true false d e =
-      let b : Shown = t1_cookie_expired a now in
-      let c : Shown = record b { timers = started names.T1Cookie now b.estimate.rto b.timers } in
-      ticks_by c (sends_cookie b now) (cookie_time b.handshake.echo b now refl) (record {
-        working = h.working;
-        not_lost = h.not_lost;
-        fits = cookie_fits c.timers refl refl refl refl
-            (running (is_cookie_echoed a.state) a.timers.t1_cookie c.timers.t1_cookie a.timers.handshake_limit now d
-            h.fits.cookies refl);
-        acks = ack_kept c.timers a.timers a.receiver.ack_state
-            (expiry_keeps_ack (is_due a.timers.t1_cookie.moment now)
-            (with_timer names.T1Cookie (expired_state a.timers.t1_cookie) a.timers) a.timers
-            refl) h.acks;
-      })
-
-  -- The retransmission timer
-
-  t3_fits : (g : List InFlight) (u : Timers)
-      → u.t1_init ≡ (after_expiry names.T3RTX now a.timers).t1_init
-      → u.t1_cookie ≡ (after_expiry names.T3RTX now a.timers).t1_cookie
-      → u.data_limit ≡ (after_expiry names.T3RTX now a.timers).data_limit
-      → u.handshake_limit ≡ (after_expiry names.T3RTX now a.timers).handshake_limit
-      → Flies (is_established a.state) g u.t3_rtx a.timers.data_limit → (is_beginning a.state ≡ true → g ≡ [])
-      → FitsTimers a.state g u
-  t3_fits g u i c d l flies unsent =
-      let t = a.timers in
-      let due = is_due t.t3_rtx.moment now in
-      let x : Timers = with_timer names.T3RTX (expired_state t.t3_rtx) t in
-      fits_of a.state g u (d ∙ kept_if due x t (λ (z : Timers). z.data_limit) refl)
-      (l ∙ kept_if due x t (λ (z : Timers). z.handshake_limit) refl) flies
-      (waits_still (is_cookie_wait a.state) t.t1_init u.t1_init t.handshake_limit
-      (i ∙ kept_if due x t (λ (z : Timers). z.t1_init) refl) h.fits.inits)
-      (waits_still (is_cookie_echoed a.state) t.t1_cookie u.t1_cookie t.handshake_limit
-      (c ∙ kept_if due x t (λ (z : Timers). z.t1_cookie) refl) h.fits.cookies) unsent
-
-  t3_ticks : (due failure : Bool) → (expiry_of names.T3RTX now a.timers).expired ≡ due
-      → (expiry_of names.T3RTX now a.timers).failed ≡ failure
-      → Ticks (if due then (if failure then t3_expired a now else retransmits (t3_expired a now) now) else a)
-  t3_ticks false failure d e = h
-  t3_ticks true true d e = record {
-    working = h.working;
-    not_lost = h.not_lost;
-    fits = t3_fits a.sender.queue.in_flight (t3_expired a now).timers refl refl refl refl
-        (record {
-          timed = λ _ _. inr (third (is_due a.timers.t3_rtx.moment now) (not a.timers.t3_rtx.exempt)
-              (passes (after_expiry names.T3RTX now a.timers).t3_rtx.retries a.timers.data_limit) e);
-          none = λ _. refl;
-        })
-        h.fits.unsent;
-    acks = ack_kept (t3_expired a now).timers a.timers a.receiver.ack_state
-        (expiry_keeps_ack (is_due a.timers.t3_rtx.moment now)
-        (with_timer names.T3RTX (expired_state a.timers.t3_rtx) a.timers)
-        a.timers refl) h.acks;
-  }
-  t3_ticks true false d e = record {
-    working = h.working;
-    not_lost = h.not_lost;
-    fits = t3_fits _ (retransmits (t3_expired a now) now).timers refl refl refl refl
-        (record {
-          timed = λ _ _. inl refl;
-          none = λ z. absurd (true≢false (sym d ∙ unarmed_is_not_due a.timers.t3_rtx.moment now
-              (h.fits.flies.none (map_nil a.sender.queue.in_flight z))));
-        }) (λ b. ap (λ (f : List InFlight). map marked_again f) (h.fits.unsent b));
-    acks = ack_kept (retransmits (t3_expired a now) now).timers a.timers a.receiver.ack_state
-        (expiry_keeps_ack (is_due a.timers.t3_rtx.moment now)
-        (with_timer names.T3RTX (expired_state a.timers.t3_rtx) a.timers)
-        a.timers refl) h.acks;
-  }
-
-  -- The delay of an acknowledgement
-
-  ack_fits : FitsTimers a.state a.sender.queue.in_flight
-      (with_moment names.Ack None (after_expiry names.Ack now a.timers))
-  ack_fits =
-      let t = a.timers in
-      let due = is_due t.ack.moment now in
-      let x : Timers = with_timer names.Ack (expired_state t.ack) t in
-      let u : Timers = with_moment names.Ack None (after_expiry names.Ack now t) in
-      fits_of a.state a.sender.queue.in_flight u (kept_if due x t (λ (z : Timers). z.data_limit) refl)
-      (kept_if due x t (λ (z : Timers). z.handshake_limit) refl)
-      (flies_still (is_established a.state) a.sender.queue.in_flight t.t3_rtx u.t3_rtx t.data_limit
-      (kept_if due x t (λ (z : Timers). z.t3_rtx) refl) h.fits.flies)
-      (waits_still (is_cookie_wait a.state) t.t1_init u.t1_init t.handshake_limit
-      (kept_if due x t (λ (z : Timers). z.t1_init) refl) h.fits.inits)
-      (waits_still (is_cookie_echoed a.state) t.t1_cookie u.t1_cookie t.handshake_limit
-      (kept_if due x t (λ (z : Timers). z.t1_cookie) refl) h.fits.cookies) h.fits.unsent
-
-  delay_ticks : Ticks (after_ack_delay a now)
-  delay_ticks =
-      ticks_if (expiry_of names.Ack now a.timers).expired _ a
-      (record {
-        working = h.working;
-        not_lost = h.not_lost;
-        fits = ack_fits;
-        acks = refl;
-      }) h
+delay_ticks : (a : Shown) (now : ℕ) → Ticks a → Ticks (after_ack_delay a now)
+delay_ticks a now h =
+    ticks_if (expiry_of names.Ack now a.timers).expired _ a
+    (record {
+      working = h.working;
+      not_lost = h.not_lost;
+      fits = ack_fits a.state a.sender.queue.in_flight a.timers now h.fits;
+      acks = refl;
+    }) h
 
 pub timeouts_tick : (a : Shown) (now : ℕ) → Ticks a → Ticks (after_timeouts a now)
 timeouts_tick a now h =
     let b : Shown = after_t1_init a now in
     let c : Shown = after_handshake_timers a now in
     let d : Shown = after_t3 c now in
-    let hb : Ticks b = t1_init_ticks a now h (expiry_of names.T1Init now a.timers).expired
-    (expiry_of names.T1Init now a.timers).failed refl refl in
-    let hc : Ticks c = t1_cookie_ticks b now hb (expiry_of names.T1Cookie now b.timers).expired
-    (expiry_of names.T1Cookie now b.timers).failed refl refl in
-    let hd : Ticks d = t3_ticks c now hc (expiry_of names.T3RTX now c.timers).expired
-    (expiry_of names.T3RTX now c.timers).failed refl refl in
+    let hb : Ticks b =
+    t1_init_ticks (expiry_of names.T1Init now a.timers).expired (expiry_of names.T1Init now a.timers).failed a
+    now refl refl h in
+    let hc : Ticks c = t1_cookie_ticks (expiry_of names.T1Cookie now b.timers).expired
+    (expiry_of names.T1Cookie now b.timers).failed b now refl refl hb in
+    let hd : Ticks d =
+    t3_ticks (expiry_of names.T3RTX now c.timers).expired (expiry_of names.T3RTX now c.timers).failed c now
+    refl refl hc in
     delay_ticks d now hd
 
 -- Where no timer runs nothing happens

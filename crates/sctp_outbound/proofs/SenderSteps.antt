@@ -1,8 +1,8 @@
-use Rattle.std.proofs.Common.{◌≡◌, ℕ, zero, suc, ◌+◌, ◌-◌, ◌<◌, ◌≤◌, true, false, ◌&&◌, not, is_some, nat_lt, List, []}
-use Rattle.std.proofs.Common.{◌∷◌, ◌++◌, Option, Some, None, Result, Ok, Err, length, take, drop, set, slice_get, refl}
-use Rattle.std.proofs.Common.{ap, sym, subst, ◌∙◌, ⊎_elim, append_assoc, arith}
-use Rattle.std.proofs.lemmas.List.{length-append, take_more, take_more_set, drop_more, drop_all, drop-set-lt}
-use Rattle.std.proofs.lemmas.List.{length-drop, take-append-drop, append-nil, length-set}
+use Rattle.std.proofs.Common.{◌≡◌, ℕ, zero, suc, ◌+◌, ◌-◌, ◌<◌, ◌≤◌, Bool, true, false, ◌&&◌, not, is_some, nat_lt}
+use Rattle.std.proofs.Common.{List, [], ◌∷◌, ◌++◌, Option, Some, None, Result, Ok, Err, length, take, drop, set}
+use Rattle.std.proofs.Common.{slice_get, refl, ap, sym, subst, ◌∙◌, ⊎_elim, append_assoc, arith}
+use Rattle.std.proofs.lemmas.List.{length-append, length_push, take_more, take_more_set, drop_more, drop_all}
+use Rattle.std.proofs.lemmas.List.{drop-set-lt, length-drop, take-append-drop, append-nil, length-set}
 use Rattle.std.proofs.lemmas.Option.{get_or_from_slice_get, slice_get_within}
 use Rattle.std.proofs.lemmas.Bool.{and_parts, cases_Bool, lt-ltb, ltb-true, not-true}
 use Rattle.std.proofs.lemmas.Bool.Decides.{nat_tests}
@@ -54,16 +54,17 @@ pub one_piece_less : (s : Sender) (ms : List Waiting) → fits_windows s (slice_
 one_piece_less s [] fits = absurd (false_from_true fits)
 one_piece_less s (m ∷ ms) fits = left_pieces m ms
 
+within_one : (n k : ℕ) (s s2 : Sender) (out out2 : List ChunkPayloadData) (now : ℕ) → n ≡ suc k → can_send_next s ≡ true
+    → sent_one s.queue.pending s out now ≡ (s2, out2) → sent_within k s2 out2 now ≡ sent_within n s out now
+within_one n k s s2 out out2 now less fits sent =
+    rw (less, fits) (ap (λ (z : Sender × List ChunkPayloadData). sent_within k z.0 z.1 now) (sym sent))
+
 pub within_step : (s s2 : Sender) (out out2 : List ChunkPayloadData) (now : ℕ) → can_send_next s ≡ true
     → sent_one s.queue.pending s out now ≡ (s2, out2) → s2.queue.pending ≡ after_piece s.queue.pending
     → sent_within (pieces_waiting s2.queue.pending) s2 out2 now ≡ sent_within (pieces_waiting s.queue.pending) s out now
 within_step s s2 out out2 now fits sent left =
-    within_one (pieces_waiting s.queue.pending) (pieces_waiting s2.queue.pending)
-    (one_piece_less s s.queue.pending fits ∙ ap (λ ms. suc (pieces_waiting ms)) (sym left))
-  where
-    within_one : (n k : ℕ) → n ≡ suc k → sent_within k s2 out2 now ≡ sent_within n s out now
-    within_one n k less =
-        rw (less, fits) (ap (λ (z : Sender × List ChunkPayloadData). sent_within k z.0 z.1 now) (sym sent))
+    within_one (pieces_waiting s.queue.pending) (pieces_waiting s2.queue.pending) s s2 out out2 now
+    (one_piece_less s s.queue.pending fits ∙ ap (λ ms. suc (pieces_waiting ms)) (sym left)) fits sent
 
 pub within_end : (n : ℕ) (s : Sender) (out : List ChunkPayloadData) (now : ℕ) → can_send_next s ≡ false
     → sent_within n s out now ≡ (s, out)
@@ -186,19 +187,22 @@ chunks_sent p ps first index room marked fits = rw (marked, fits)
 one_more : {A : Type 0} → (a b w r : List A) (q : A) → b ≡ a ++ q ∷ [] → w ≡ q ∷ r → b ++ r ≡ a ++ w
 one_more a b w r q e f = rw (e, f, append_assoc)
 
--- a piece isn't marked, or it is and doesn't fit, or it is and fits
-pub by_piece : {T : Type 0} (left : ℕ) (p : InFlight) → (p.retransmit ≡ false → T)
-    → (p.retransmit ≡ true → nat_lt left (length p.user_data) ≡ true → T)
-    → (p.retransmit ≡ true → nat_lt left (length p.user_data) ≡ false → T) → T
-by_piece left p skips full sent =
-    ⊎_elim
-    (λ (marked : p.retransmit ≡ true).
-    ⊎_elim
-    (λ (over : nat_lt left (length p.user_data) ≡ true). full marked over)
-    (λ (fits : nat_lt left (length p.user_data) ≡ false). sent marked fits)
-    (cases_Bool (nat_lt left (length p.user_data))))
-    (λ (unmarked : p.retransmit ≡ false). skips unmarked)
-    (cases_Bool p.retransmit)
+tried_skip : (p : InFlight) (s : Sender) (index left : ℕ) (out : List ChunkPayloadData) → p.retransmit ≡ false
+    → tried_again (Some p) s index left out ≡ (s, out, Some left)
+tried_skip p s index left out unmarked = rw unmarked
+
+tried_full : (p : InFlight) (s : Sender) (index left : ℕ) (out : List ChunkPayloadData) → p.retransmit ≡ true
+    → nat_lt left (length p.user_data) ≡ true → tried_again (Some p) s index left out ≡ (s, out, None)
+tried_full p s index left out marked full = rw (marked, full)
+
+tried_sent : (p : InFlight) (s : Sender) (index left : ℕ) (out : List ChunkPayloadData) → p.retransmit ≡ true
+    → nat_lt left (length p.user_data) ≡ false
+    → tried_again (Some p) s index left out ≡ (
+      with_in_flight s (set s.queue.in_flight index (counted_again p)),
+      out ++ chunk_of p (tsn_at s.queue.first_tsn index) ∷ [],
+      Some (left - length p.user_data),
+    )
+tried_sent p s index left out marked fits = rw (marked, fits)
 
 -- once the piece at a place is dealt with, the rest is resent as it was to be before
 pub record Stepped (s s2 : Sender) (index left left2 : ℕ) (out out2 : List ChunkPayloadData) : Type 0 where
@@ -210,17 +214,56 @@ pub record Stepped (s s2 : Sender) (index left left2 : ℕ) (out out2 : List Chu
   pub chunks : out2 ++ resent_chunks s2.queue.first_tsn (index + 1) left2 (drop (index + 1) s2.queue.in_flight)
       ≡ out ++ resent_chunks s.queue.first_tsn index left (drop index s.queue.in_flight)
 
--- nothing more is resent from a place on
-pub record Stopped (s s2 : Sender) (index left : ℕ) (out out2 : List ChunkPayloadData) : Type 0 where
-  pub sender : s2 ≡ s
-  pub sent : out2 ≡ out
-  pub pieces : resent_pieces left (drop index s.queue.in_flight) ≡ drop index s.queue.in_flight
-  pub chunks : resent_chunks s.queue.first_tsn index left (drop index s.queue.in_flight) ≡ []
+skipped : (p : InFlight) (s : Sender) (index left : ℕ) (out : List ChunkPayloadData)
+    → slice_get s.queue.in_flight index ≡ Some p → p.retransmit ≡ false → Stepped s s index left left out out
+skipped p s index left out here unmarked =
+    let xs = s.queue.in_flight in
+    let ds = drop (index + 1) s.queue.in_flight in
+    record {
+      count = refl;
+      grown = omega arith;
+      rest = refl;
+      pieces =
+          one_more (take index xs) (take (index + 1) xs) (resent_pieces left (drop index xs)) (resent_pieces left ds) p
+          (take_get xs index p here)
+          (ap (resent_pieces left) (drop_get xs index p here) ∙ pieces_skip p ds left unmarked);
+      chunks =
+          ap (λ z. out ++ z) (sym (ap (resent_chunks s.queue.first_tsn index left) (drop_get xs index p here) ∙
+          chunks_skip p ds s.queue.first_tsn index left unmarked));
+    }
 
-none_past : (xs : List InFlight) (i : ℕ) → slice_get xs i ≡ None → length xs ≤ i
-none_past [] i e = omega arith
-none_past (x ∷ xs) zero e = absurd (cc)
-none_past (x ∷ xs) (suc i) e = let below = none_past xs i e in omega arith
+sent_again_at : (p : InFlight) (s : Sender) (index left : ℕ) (out : List ChunkPayloadData)
+    → slice_get s.queue.in_flight index ≡ Some p → p.retransmit ≡ true → nat_lt left (length p.user_data) ≡ false
+    → Stepped s (with_in_flight s (set s.queue.in_flight index (counted_again p))) index left
+    (left - length p.user_data) out (out ++ chunk_of p (tsn_at s.queue.first_tsn index) ∷ [])
+sent_again_at p s index left out here marked fits =
+    let xs = s.queue.in_flight in
+    let first = s.queue.first_tsn in
+    let q = counted_again p in
+    let left2 = left - length p.user_data in
+    let chunk = chunk_of p (tsn_at first index) in
+    let ys = set s.queue.in_flight index q in
+    let below = slice_get_within s.queue.in_flight index p here in
+    let same : drop (index + 1) ys ≡ drop (index + 1) xs = drop-set-lt (index + 1) xs index q (omega arith) in
+    let more = more_by_one out chunk in
+    record {
+      count = length-set xs index q;
+      grown = omega (arith, more);
+      rest = refl;
+      pieces =
+          one_more (take index xs) (take (index + 1) ys) (resent_pieces left (drop index xs))
+          (resent_pieces left2 (drop (index + 1) ys)) q (take_more_set xs index q below) (
+          ap (resent_pieces left) (drop_get xs index p here) ∙ pieces_sent p (drop (index + 1) xs) left marked fits ∙
+          ap (λ z. q ∷ resent_pieces left2 z) (sym same)
+          );
+      chunks =
+          one_more out (out ++ chunk ∷ []) (resent_chunks first index left (drop index xs))
+          (resent_chunks first (index + 1) left2 (drop (index + 1) ys)) chunk refl (
+          ap (resent_chunks first index left) (drop_get xs index p here) ∙
+          chunks_sent p (drop (index + 1) xs) first index left marked fits ∙
+          ap (λ z. chunk ∷ resent_chunks first (index + 1) left2 z) (sym same)
+          );
+    }
 
 none_or_some : (s s2 : Sender) (out out2 : List ChunkPayloadData) (left : ℕ)
     → ◌≡◌ {A = Sender × List ChunkPayloadData × Option ℕ} (s, out, None) (s2, out2, Some left) → ⊥
@@ -228,140 +271,104 @@ none_or_some s s2 out out2 left e =
     let m : None ≡ Some left = ap (λ (z : Sender × List ChunkPayloadData × Option ℕ). z.2) e in
     cc
 
--- The piece at a place is tried again.
-module _ (s : Sender) (index left : ℕ) (out : List ChunkPayloadData) where
-  tried_skip : (p : InFlight) → p.retransmit ≡ false → tried_again (Some p) s index left out ≡ (s, out, Some left)
-  tried_skip p unmarked = rw unmarked
+moved_to : (s s2 s3 : Sender) (index left left2 left3 : ℕ) (out out2 out3 : List ChunkPayloadData)
+    → ◌≡◌ {A = Sender × List ChunkPayloadData × Option ℕ} (s3, out3, Some left3) (s2, out2, Some left2)
+    → Stepped s s3 index left left3 out out3 → Stepped s s2 index left left2 out out2
+moved_to s s2 s3 index left left2 left3 out out2 out3 e step =
+    let a : s3 ≡ s2 = ap (λ (z : Sender × List ChunkPayloadData × Option ℕ). z.0) e in
+    let b : out3 ≡ out2 = ap (λ (z : Sender × List ChunkPayloadData × Option ℕ). z.1) e in
+    let some : Some left3 ≡ Some left2 = ap (λ (z : Sender × List ChunkPayloadData × Option ℕ). z.2) e in
+    let d : left3 ≡ left2 = cc in
+    rw (← a, ← b, ← d) step
 
-  tried_full : (p : InFlight) → p.retransmit ≡ true → nat_lt left (length p.user_data) ≡ true
-      → tried_again (Some p) s index left out ≡ (s, out, None)
-  tried_full p marked full = rw (marked, full)
+step_of : (o : Option InFlight) (s s2 : Sender) (index left left2 : ℕ) (out out2 : List ChunkPayloadData)
+    → slice_get s.queue.in_flight index ≡ o → tried_again o s index left out ≡ (s2, out2, Some left2)
+    → Stepped s s2 index left left2 out out2
+step_of None s s2 index left left2 out out2 here e = absurd (none_or_some s s2 out out2 left2 e)
+step_of (Some p) s s2 index left left2 out out2 here e =
+    ⊎_elim (
+    λ (marked : p.retransmit ≡ true). ⊎_elim (
+    λ (full : nat_lt left (length p.user_data) ≡ true).
+    absurd (none_or_some s s2 out out2 left2 (sym (tried_full p s index left out marked full) ∙ e))
+    ) (
+    λ (fits : nat_lt left (length p.user_data) ≡ false).
+    moved_to s s2 _ index left left2 _ out out2 _ (sym (tried_sent p s index left out marked fits) ∙ e)
+    (sent_again_at p s index left out here marked fits)
+    ) (cases_Bool (nat_lt left (length p.user_data)))
+    ) (
+    λ (unmarked : p.retransmit ≡ false).
+    moved_to s s2 s index left left2 left out out2 out (sym (tried_skip p s index left out unmarked) ∙ e)
+    (skipped p s index left out here unmarked)
+    ) (cases_Bool p.retransmit)
 
-  tried_sent : (p : InFlight) → p.retransmit ≡ true → nat_lt left (length p.user_data) ≡ false
-      → tried_again (Some p) s index left out
-      ≡ (
-        with_in_flight s (set s.queue.in_flight index (counted_again p)),
-        out ++ chunk_of p (tsn_at s.queue.first_tsn index) ∷ [],
-        Some (left - length p.user_data),
-      )
-  tried_sent p marked fits = rw (marked, fits)
+none_past : (xs : List InFlight) (i : ℕ) → slice_get xs i ≡ None → length xs ≤ i
+none_past [] i e = omega arith
+none_past (x ∷ xs) zero e = absurd (cc)
+none_past (x ∷ xs) (suc i) e = let below = none_past xs i e in omega arith
 
-  skipped : (p : InFlight) → slice_get s.queue.in_flight index ≡ Some p → p.retransmit ≡ false
-      → Stepped s s index left left out out
-  skipped p here unmarked =
-      let xs = s.queue.in_flight in
-      let ds = drop (index + 1) s.queue.in_flight in
-      record {
-        count = refl;
-        grown = omega arith;
-        rest = refl;
-        pieces =
-            one_more (take index xs) (take (index + 1) xs) (resent_pieces left (drop index xs))
-            (resent_pieces left ds) p
-            (take_get xs index p here)
-            (ap (resent_pieces left) (drop_get xs index p here) ∙ pieces_skip p ds left unmarked);
-        chunks =
-            ap (λ z. out ++ z) (sym (ap (resent_chunks s.queue.first_tsn index left) (drop_get xs index p here) ∙
-            chunks_skip p ds s.queue.first_tsn index left unmarked));
-      }
+-- nothing more is resent from a place on
+pub record Stopped (s s2 : Sender) (index left : ℕ) (out out2 : List ChunkPayloadData) : Type 0 where
+  pub sender : s2 ≡ s
+  pub sent : out2 ≡ out
+  pub pieces : resent_pieces left (drop index s.queue.in_flight) ≡ drop index s.queue.in_flight
+  pub chunks : resent_chunks s.queue.first_tsn index left (drop index s.queue.in_flight) ≡ []
 
-  sent_again_at : (p : InFlight) → slice_get s.queue.in_flight index ≡ Some p → p.retransmit ≡ true
-      → nat_lt left (length p.user_data) ≡ false
-      → Stepped s (with_in_flight s (set s.queue.in_flight index (counted_again p))) index left
-      (left - length p.user_data) out (out ++ chunk_of p (tsn_at s.queue.first_tsn index) ∷ [])
-  sent_again_at p here marked fits =
-      let xs = s.queue.in_flight in
-      let first = s.queue.first_tsn in
-      let q = counted_again p in
-      let left2 = left - length p.user_data in
-      let chunk = chunk_of p (tsn_at first index) in
-      let ys = set s.queue.in_flight index q in
-      let below = slice_get_within s.queue.in_flight index p here in
-      let same : drop (index + 1) ys ≡ drop (index + 1) xs = drop-set-lt (index + 1) xs index q (omega arith) in
-      let more = more_by_one out chunk in
-      record {
-        count = length-set xs index q;
-        grown = omega (arith, more);
-        rest = refl;
-        pieces =
-            one_more (take index xs) (take (index + 1) ys) (resent_pieces left (drop index xs))
-            (resent_pieces left2 (drop (index + 1) ys)) q (take_more_set xs index q below) (
-            ap (resent_pieces left) (drop_get xs index p here) ∙ pieces_sent p (drop (index + 1) xs) left marked fits ∙
-            ap (λ z. q ∷ resent_pieces left2 z) (sym same)
-            );
-        chunks =
-            one_more out (out ++ chunk ∷ []) (resent_chunks first index left (drop index xs))
-            (resent_chunks first (index + 1) left2 (drop (index + 1) ys)) chunk refl (
-            ap (resent_chunks first index left) (drop_get xs index p here) ∙
-            chunks_sent p (drop (index + 1) xs) first index left marked fits ∙
-            ap (λ z. chunk ∷ resent_chunks first (index + 1) left2 z) (sym same)
-            );
-      }
+past_end : (s : Sender) (index left : ℕ) (out : List ChunkPayloadData) → length s.queue.in_flight ≤ index
+    → Stopped s s index left out out
+past_end s index left out past =
+    let none : drop index s.queue.in_flight ≡ [] = drop_all index s.queue.in_flight past in
+    record {
+      sender = refl;
+      sent = refl;
+      pieces = rw none;
+      chunks = rw none;
+    }
 
-  moved_to : (s2 s3 : Sender) (left2 left3 : ℕ) (out2 out3 : List ChunkPayloadData)
-      → ◌≡◌ {A = Sender × List ChunkPayloadData × Option ℕ} (s3, out3, Some left3) (s2, out2, Some left2)
-      → Stepped s s3 index left left3 out out3 → Stepped s s2 index left left2 out out2
-  moved_to s2 s3 left2 left3 out2 out3 e step =
-      let a : s3 ≡ s2 = ap (λ (z : Sender × List ChunkPayloadData × Option ℕ). z.0) e in
-      let b : out3 ≡ out2 = ap (λ (z : Sender × List ChunkPayloadData × Option ℕ). z.1) e in
-      let some : Some left3 ≡ Some left2 = ap (λ (z : Sender × List ChunkPayloadData × Option ℕ). z.2) e in
-      let d : left3 ≡ left2 = cc in
-      rw (← a, ← b, ← d) step
+does_not_fit : (p : InFlight) (s : Sender) (index left : ℕ) (out : List ChunkPayloadData)
+    → slice_get s.queue.in_flight index ≡ Some p → p.retransmit ≡ true → nat_lt left (length p.user_data) ≡ true
+    → Stopped s s index left out out
+does_not_fit p s index left out here marked full =
+    let xs = s.queue.in_flight in
+    let ds = drop (index + 1) s.queue.in_flight in
+    record {
+      sender = refl;
+      sent = refl;
+      pieces =
+          ap (resent_pieces left) (drop_get xs index p here) ∙ pieces_full p ds left marked full ∙
+          sym (drop_get xs index p here);
+      chunks =
+          ap (resent_chunks s.queue.first_tsn index left) (drop_get xs index p here) ∙
+          chunks_full p ds s.queue.first_tsn index left marked full;
+    }
 
-  step_of : (o : Option InFlight) (s2 : Sender) (left2 : ℕ) (out2 : List ChunkPayloadData)
-      → slice_get s.queue.in_flight index ≡ o
-      → tried_again o s index left out ≡ (s2, out2, Some left2) → Stepped s s2 index left left2 out out2
-  step_of None s2 left2 out2 here e = absurd (none_or_some s s2 out out2 left2 e)
-  step_of (Some p) s2 left2 out2 here e =
-      by_piece left p
-      (λ unmarked. moved_to s2 s left2 left out2 out (sym (tried_skip p unmarked) ∙ e) (skipped p here unmarked))
-      (λ marked full. absurd (none_or_some s s2 out out2 left2 (sym (tried_full p marked full) ∙ e)))
-      (λ marked fits. moved_to s2 _ left2 _ out2 _ (sym (tried_sent p marked fits) ∙ e)
-      (sent_again_at p here marked fits))
+stopped_to : (s s2 s3 : Sender) (index left : ℕ) (out out2 out3 : List ChunkPayloadData) (o : Option ℕ)
+    → ◌≡◌ {A = Sender × List ChunkPayloadData × Option ℕ} (s3, out3, o) (s2, out2, None)
+    → Stopped s s3 index left out out3 → Stopped s s2 index left out out2
+stopped_to s s2 s3 index left out out2 out3 o e stop =
+    let a : s3 ≡ s2 = ap (λ (z : Sender × List ChunkPayloadData × Option ℕ). z.0) e in
+    let b : out3 ≡ out2 = ap (λ (z : Sender × List ChunkPayloadData × Option ℕ). z.1) e in
+    rw (← a, ← b) stop
 
-  past_end : length s.queue.in_flight ≤ index → Stopped s s index left out out
-  past_end past =
-      let none : drop index s.queue.in_flight ≡ [] = drop_all index s.queue.in_flight past in
-      record {
-        sender = refl;
-        sent = refl;
-        pieces = rw none;
-        chunks = rw none;
-      }
-
-  does_not_fit : (p : InFlight) → slice_get s.queue.in_flight index ≡ Some p → p.retransmit ≡ true
-      → nat_lt left (length p.user_data) ≡ true → Stopped s s index left out out
-  does_not_fit p here marked full =
-      let xs = s.queue.in_flight in
-      let ds = drop (index + 1) s.queue.in_flight in
-      record {
-        sender = refl;
-        sent = refl;
-        pieces =
-            ap (resent_pieces left) (drop_get xs index p here) ∙ pieces_full p ds left marked full ∙
-            sym (drop_get xs index p here);
-        chunks =
-            ap (resent_chunks s.queue.first_tsn index left) (drop_get xs index p here) ∙
-            chunks_full p ds s.queue.first_tsn index left marked full;
-      }
-
-  stopped_to : (s2 s3 : Sender) (out2 out3 : List ChunkPayloadData) (o : Option ℕ)
-      → ◌≡◌ {A = Sender × List ChunkPayloadData × Option ℕ} (s3, out3, o) (s2, out2, None)
-      → Stopped s s3 index left out out3 → Stopped s s2 index left out out2
-  stopped_to s2 s3 out2 out3 o e stop =
-      let a : s3 ≡ s2 = ap (λ (z : Sender × List ChunkPayloadData × Option ℕ). z.0) e in
-      let b : out3 ≡ out2 = ap (λ (z : Sender × List ChunkPayloadData × Option ℕ). z.1) e in
-      rw (← a, ← b) stop
-
-  stop_of : (o : Option InFlight) (s2 : Sender) (out2 : List ChunkPayloadData) → slice_get s.queue.in_flight index ≡ o
-      → tried_again o s index left out ≡ (s2, out2, None) → Stopped s s2 index left out out2
-  stop_of None s2 out2 here e = stopped_to s2 s out2 out None e (past_end (none_past s.queue.in_flight index here))
-  stop_of (Some p) s2 out2 here e =
-      by_piece left p
-      (λ unmarked. absurd (none_or_some s2 s out2 out left (sym e ∙ tried_skip p unmarked)))
-      (λ marked full. stopped_to s2 s out2 out None (sym (tried_full p marked full) ∙ e)
-      (does_not_fit p here marked full))
-      (λ marked fits. absurd (none_or_some s2 _ out2 _ _ (sym e ∙ tried_sent p marked fits)))
+stop_of : (o : Option InFlight) (s s2 : Sender) (index left : ℕ) (out out2 : List ChunkPayloadData)
+    → slice_get s.queue.in_flight index ≡ o → tried_again o s index left out ≡ (s2, out2, None)
+    → Stopped s s2 index left out out2
+stop_of None s s2 index left out out2 here e =
+    stopped_to s s2 s index left out out2 out None e
+    (past_end s index left out (none_past s.queue.in_flight index here))
+stop_of (Some p) s s2 index left out out2 here e =
+    ⊎_elim (
+    λ (marked : p.retransmit ≡ true). ⊎_elim (
+    λ (full : nat_lt left (length p.user_data) ≡ true).
+    stopped_to s s2 s index left out out2 out None (sym (tried_full p s index left out marked full) ∙ e)
+    (does_not_fit p s index left out here marked full)
+    ) (
+    λ (fits : nat_lt left (length p.user_data) ≡ false).
+    absurd (none_or_some s2 _ out2 _ _ (sym e ∙ tried_sent p s index left out marked fits))
+    ) (cases_Bool (nat_lt left (length p.user_data)))
+    ) (
+    λ (unmarked : p.retransmit ≡ false).
+    absurd (none_or_some s2 s out2 out left (sym e ∙ tried_skip p s index left out unmarked))
+    ) (cases_Bool p.retransmit)
 
 -- before a place the pieces are as they will stay; with what is resent of the rest they are what the whole was to
 -- become
@@ -374,12 +381,12 @@ pub record ResendsOn (s0 s : Sender) (i end room left : ℕ) (out0 out : List Ch
   pub chunks : out ++ resent_chunks s.queue.first_tsn i left (drop i s.queue.in_flight)
       ≡ out0 ++ resent_chunks s0.queue.first_tsn 0 room s0.queue.in_flight
 
-pub resends_on : {s0 s s2 : Sender} {i end room left left2 : ℕ} {out0 out out2 : List ChunkPayloadData}
+pub resends_on : (s0 s s2 : Sender) (i end room left left2 : ℕ) (out0 out out2 : List ChunkPayloadData)
     → ResendsOn s0 s i end room left out0 out
     → tried_again (slice_get s.queue.in_flight i) s i left out ≡ (s2, out2, Some left2)
     → ResendsOn s0 s2 (i + 1) end room left2 out0 out2
-resends_on {s} {s2} {i} {left} {left2} {out} {out2} inv e =
-    let step = step_of s i left out (slice_get s.queue.in_flight i) s2 left2 out2 refl e in
+resends_on s0 s s2 i end room left left2 out0 out out2 inv e =
+    let step = step_of (slice_get s.queue.in_flight i) s s2 i left left2 out out2 refl e in
     record {
       count = inv.count ∙ sym step.count;
       grown = omega (arith, inv.grown, step.grown);
@@ -388,23 +395,23 @@ resends_on {s} {s2} {i} {left} {left2} {out} {out2} inv e =
       chunks = step.chunks ∙ inv.chunks;
     }
 
-pub resent_sender : {s0 s s2 : Sender} {i end room left : ℕ} {out0 out out2 : List ChunkPayloadData}
+pub resent_sender : (s0 s s2 : Sender) (i end room left : ℕ) (out0 out out2 : List ChunkPayloadData)
     → ResendsOn s0 s i end room left out0 out
     → tried_again (slice_get s.queue.in_flight i) s i left out ≡ (s2, out2, None)
     → s2 ≡ with_in_flight s0 (resent_pieces room s0.queue.in_flight)
-resent_sender {s0} {s} {s2} {i} {room} {left} {out} {out2} inv e =
-    let stop = stop_of s i left out (slice_get s.queue.in_flight i) s2 out2 refl e in
+resent_sender s0 s s2 i end room left out0 out out2 inv e =
+    let stop = stop_of (slice_get s.queue.in_flight i) s s2 i left out out2 refl e in
     let xs = s.queue.in_flight in
     let all : xs ≡ resent_pieces room s0.queue.in_flight =
     sym (take-append-drop i xs) ∙ ap (λ z. take i xs ++ z) (sym stop.pieces) ∙ inv.pieces in
     stop.sender ∙ inv.rest ∙ ap (with_in_flight s0) all
 
-pub resent_out : {s0 s s2 : Sender} {i end room left : ℕ} {out0 out out2 : List ChunkPayloadData}
+pub resent_out : (s0 s s2 : Sender) (i end room left : ℕ) (out0 out out2 : List ChunkPayloadData)
     → ResendsOn s0 s i end room left out0 out
     → tried_again (slice_get s.queue.in_flight i) s i left out ≡ (s2, out2, None)
     → out2 ≡ out0 ++ resent_chunks s0.queue.first_tsn 0 room s0.queue.in_flight
-resent_out {s} {s2} {i} {left} {out} {out2} inv e =
-    let stop = stop_of s i left out (slice_get s.queue.in_flight i) s2 out2 refl e in
+resent_out s0 s s2 i end room left out0 out out2 inv e =
+    let stop = stop_of (slice_get s.queue.in_flight i) s s2 i left out out2 refl e in
     stop.sent ∙ sym (append-nil out) ∙ ap (λ z. out ++ z) (sym stop.chunks) ∙ inv.chunks
 
 -- a piece that is to be sent again is the first of what is resent from its place on
@@ -419,11 +426,11 @@ goes_first (Some p) s index left here again =
     chunks_sent p (drop (index + 1) s.queue.in_flight) s.queue.first_tsn index left parts.0 (not-true _ parts.1) in
     rw first (omega arith)
 
-pub resends_some : {s0 s : Sender} {i end room left : ℕ} {out0 out : List ChunkPayloadData}
+pub resends_some : (s0 s : Sender) (i end room left : ℕ) (out0 out : List ChunkPayloadData)
     → ResendsOn s0 s i end room left out0 out
     → goes_again (slice_get s.queue.in_flight i) left ≡ true
     → nat_lt 0 (length (resent_chunks s0.queue.first_tsn 0 room s0.queue.in_flight)) ≡ true
-resends_some {s0} {s} {i} {room} {left} {out0} {out} inv again =
+resends_some s0 s i end room left out0 out inv again =
     let rest = resent_chunks s.queue.first_tsn i left (drop i s.queue.in_flight) in
     let all = resent_chunks s0.queue.first_tsn 0 room s0.queue.in_flight in
     let some = goes_first (slice_get s.queue.in_flight i) s i left refl again in

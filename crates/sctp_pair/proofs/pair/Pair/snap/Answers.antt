@@ -8,23 +8,10 @@ pub returns-clause-fits : goal.returns-clause-fits
 returns-clause-fits c =
     let a = c.in_ok-a.ensures in
     let b = c.in_ok-b.ensures in
-    fits_start {a = c.in_ok-a.a} {b = c.in_ok-b.b}
-    c.args.max_payload_size_a c.args.max_payload_size_b c.args.token_a.now c.args.token_b.now
-    record {
-      config = c.args.config_a.now;
-      remote = c.args.remote_of_a;
-      accepted = a.refused;
-      is = a.joined;
-      binds = a.begins;
-    }
-    record {
-      config = c.args.config_b.now;
-      remote = c.args.remote_of_b;
-      accepted = b.refused;
-      is = b.joined;
-      binds = b.begins;
-    }
-    _ (rw (c.new.ensures.items, c.new-2.ensures.items) refl)
+    fits_start c.args.config_a.now c.args.config_b.now c.args.max_payload_size_a c.args.max_payload_size_b
+    c.args.remote_of_a c.args.remote_of_b c.args.token_a.now c.args.token_b.now
+    c.in_ok-a.a c.in_ok-b.b a.refused b.refused a.joined b.joined a.begins b.begins _
+    (rw (c.new.ensures.items, c.new-2.ensures.items) refl)
 
 pub returns-clause-counted : goal.returns-clause-counted
 returns-clause-counted c =
