@@ -10,7 +10,7 @@ use std::alloc::Global;
 use std::net::SocketAddr;
 
 /// Joins two associations by their tokens and runs the steps: what one side read is a front of what the other one
-/// wrote, and nothing was read that was not brought.
+/// wrote, and nothing was read before the first delivery.
 pub fn run_joined(
     alloc: Global,
     config: &TransportConfig,

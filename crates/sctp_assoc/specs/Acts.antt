@@ -60,7 +60,7 @@ parts a h = record { queue = a.sender.queue; streams = a.streams; history = h }
 
 -- One thing that an association does to its directions.
 pub data Act : Type 0 where
-  -- the peer's initial TSN became known: nothing came from there on
+  -- the peer's initial TSN became known: no DATA from it on came yet
   PeerKnown : ℕ → Act
   -- the application or the peer's DATA made a stream; its own messages have an identifier from this one on and this
   -- payload type

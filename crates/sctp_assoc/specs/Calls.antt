@@ -48,7 +48,7 @@ is_established states.ShutdownPending = false
 is_established states.ShutdownReceived = false
 is_established states.ShutdownSent = false
 
--- the association was not established yet, or was before a handshake began
+-- Closed, CookieWait or CookieEchoed: an INIT is answered then
 abbrev pub is_beginning : AssociationState → Bool
 is_beginning states.Closed = true
 is_beginning states.CookieWait = true
@@ -145,7 +145,7 @@ open_refusal a id =
     if is_some (stream_at a.streams id) then Some errors.ErrStreamAlreadyExist else
     if generation_left a.streams then None else Some errors.ErrStreamCreateFailed
 
--- why a live stream is not found
+-- why no stream is lent
 abbrev pub stream_refusal : Shown → ℕ → Option Error
 stream_refusal a id =
     if a.failed then Some errors.ErrAssociationFailed else
@@ -189,7 +189,7 @@ abbrev pub write_refusal : Shown → ℕ → ℕ → Option Error
 write_refusal a id size =
     if a.failed then Some errors.ErrAssociationFailed else write_refusal_at a (stream_at a.streams id) size
 
--- a message as it is written on a stream: ordered, reliable and of one piece
+-- a message as it is written on a stream: under the stream's parameters, and of one piece
 abbrev pub message_of : StreamView → ℕ → List ℕ → Waiting
 message_of s id bytes = record {
   message = record {

@@ -94,8 +94,8 @@ on_counted_data a piece trigger =
     on_next_data (stream_found a piece.stream_identifier) piece trigger else
     asks a piece trigger
 
--- DATA is counted; an ordered message in one piece that is next in order is taken in, and any DATA asks to be
--- acknowledged
+-- DATA is counted; an ordered message in one piece that is next in order is taken in where credit is left and its
+-- stream does not refuse it; DATA asks to be acknowledged unless it is a fault or no generation is left for its stream
 unfoldable pub on_data : Shown → ChunkPayloadData → AckTrigger → Shown × Flow
 on_data a piece trigger = on_counted_data (counted_data a) piece trigger
 
@@ -151,8 +151,8 @@ abbrev pub checked_first : Result (Unit {0}) Error → Shown → CommonHeader �
 checked_first (Err fault) a header chunk trigger now = (a, flows.Fault fault)
 checked_first (Ok _) a header chunk trigger now = dispatched a header chunk trigger now
 
--- a chunk of a packet with this header; one that its own check refuses is a fault, an ABORT closes and an ERROR is a
--- fault, and so is any chunk that is not known
+-- a chunk of a packet with this header; one that its own check refuses is a fault, and so are ABORT, ERROR and
+-- any chunk that is not processed
 unfoldable pub on_chunk : Shown → CommonHeader → Chunk → AckTrigger → ℕ → Shown × Flow
 on_chunk a header chunk trigger now = checked_first (checked_chunk chunk) a header chunk trigger now
 

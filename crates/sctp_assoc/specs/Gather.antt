@@ -117,7 +117,8 @@ abbrev pub packets_of : Option Transmit → List (List ℕ)
 packets_of None = []
 packets_of (Some t) = bytes_within t.payload
 
--- packets are handed out with the moment of the poll and the association's own addresses, and without a congestion mark
+-- packets are handed out with the moment of the poll and the two addresses that it was given, and without a congestion
+-- mark
 pub record IsAddressed (a : Shown) (now : ℕ) (t : Transmit) : Type 0 where
   pub moment : t.now ≡ now
   pub remote : t.remote ≡ a.remote_addr
@@ -135,18 +136,19 @@ AreReadAgain header pieces = AllByRecursion (λ (c : ChunkPayloadData). IsReadAg
 abbrev pub AckIsReadAgain : Shown → Type 0
 AckIsReadAgain a = is_due a.receiver.ack_state ≡ true → IsReadAgain (header_of a.handshake) (sack_chunk a)
 
--- one that waits is, where nothing in it is kept under `Other` whose type has a variant of its own
+-- a packet that waits is read again as it was made, where nothing in it is kept under `Other` whose type has a variant
+-- of its own
 abbrev pub ControlIsReadAgain : ControlPacket → Type 0
 ControlIsReadAgain c = packet_is_plain (packet_with c.header c.chunk) ≡ true → IsReadAgain c.header c.chunk
 
--- nothing that waits to go out is kept so
+-- nothing that waits to go out is kept under `Other` so
 abbrev pub WaitPlainly : Shown → Type 0
 WaitPlainly a = AllByRecursion (λ (c : ControlPacket). packet_is_plain (packet_with c.header c.chunk) ≡ true) a.control
 
 abbrev pub AreControlReadAgain : List ControlPacket → Type 0
 AreControlReadAgain cs = AllByRecursion ControlIsReadAgain cs
 
--- each packet of DATA, and of the acknowledgement behind it, is
+-- each packet of DATA, and that of the acknowledgement behind it, is read again as it was made
 abbrev pub ExchangeIsReadAgain : Shown → ℕ → Type 0
 ExchangeIsReadAgain a now =
     AreReadAgain (header_of a.handshake) (data_polled a now).1 × AckIsReadAgain (data_polled a now).0

@@ -86,7 +86,7 @@ on_init_ack a header init trigger now =
     else (record a { handshake = learned_by_init_ack a.handshake header init }, flows.Next trigger))
     else (a, flows.Next trigger)
 
--- the association is established, and nothing of the handshake is sent again
+-- the association is established, and no timer sends anything of the handshake again
 abbrev pub connected : Shown → Shown
 connected a = record a {
   timers = with_stopped names.T1Cookie (with_stopped names.T1Init a.timers);

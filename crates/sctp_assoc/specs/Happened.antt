@@ -47,7 +47,7 @@ abbrev pub acts_unless_refused : Option Error → ChunkPayloadData → List Act
 acts_unless_refused (Some fault) piece = []
 acts_unless_refused None piece = Act.Took piece ∷ []
 
--- and is taken in unless its stream refuses it
+-- DATA that is next in order, with its stream there and credit left, is taken in unless its stream refuses it
 abbrev pub acts_of_taking : Shown → ChunkPayloadData → List Act
 acts_of_taking a piece =
     acts_unless_refused (refusal_in a.streams piece.stream_identifier piece a.receiver.max_receive_message_size) piece
@@ -78,7 +78,7 @@ acts_of_sack a cumulative_tsn_ack =
 abbrev pub acts_of_init : Shown → ChunkInit → List Act
 acts_of_init a init = if is_beginning a.state then Act.PeerKnown init.initial_tsn ∷ [] else []
 
--- an INIT ACK that counts does
+-- and so does an INIT ACK in CookieWait between the ports of this side's INIT
 abbrev pub acts_of_init_ack : Shown → CommonHeader → ChunkInit → List Act
 acts_of_init_ack a header init =
     if is_cookie_wait a.state then

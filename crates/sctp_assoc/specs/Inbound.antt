@@ -1,4 +1,4 @@
--- What a datagram brings to an association (RFC 4960 section 8.5).
+-- What a datagram brings to an association.
 use Rattle.std.specs.Prelude.{Bool, true, false, is_ok, if◌then◌else◌, Result, Ok, Err, Option, Some, None}
 use Rattle.sctp_wire_types.specs.declared.error.Error.{Error}
 use Rattle.sctp_wire_types.specs.declared.error.Fault.{Fault}
@@ -13,6 +13,7 @@ use Rattle.sctp_assoc.specs.declared.shared.AssociationEvent.{AssociationEvent}
 abbrev pub transmit_of : AssociationEvent → Transmit
 transmit_of event = event.transmit
 
+-- the packet that a datagram's bytes spell; none where they spell none, or it is refused as a packet
 abbrev pub taken_packet : Result Packet Fault → Option Packet
 taken_packet (Ok packet) = if is_ok (checked packet) then Some packet else None
 taken_packet (Err fault) = None

@@ -54,8 +54,8 @@ pub record IsTakenUnlessRefused (a : Shown) (header : CommonHeader) (piece : Chu
   pub refused : (trigger : AckTrigger) (now : ℕ) (error : Error) → refusal_of a piece ≡ Some error
       → (on_chunk a header (chunks.Data piece) trigger now).1 ≡ flows.Fault error
 
--- What may be taken in is taken in unless its stream refuses it, whatever state the association is in and whatever came
--- before.
+-- Of a chunk that is reached: what may be taken in is taken in unless its stream refuses it, whatever state the
+-- association is in and whatever came before.
 abbrev pub DataIsTakenIn : Type 0
 DataIsTakenIn = (a : Shown) (h : History) (header : CommonHeader) (piece : ChunkPayloadData) → Binds a h
     → MayTakeIn a h piece → IsTakenUnlessRefused a header piece

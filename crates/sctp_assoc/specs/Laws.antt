@@ -74,7 +74,7 @@ abbrev pub WritesAreHeld : Type 0
 WritesAreHeld = (a : Shown) (id : ℕ) (bytes : List ℕ) → is_some (stream_at a.streams id) ≡ true
     → is_held (written a id bytes).sender.queue a.sender.queue.next_message_id ≡ true
 
--- A poll loses no message: what waited goes out and then is in flight.
+-- A poll loses no message: what waited or was in flight does so after it.
 abbrev pub PollsKeepWhatIsHeld : Type 0
 PollsKeepWhatIsHeld =
     (a : Shown) (now number : ℕ) → is_held a.sender.queue number ≡ true
@@ -88,7 +88,7 @@ pub record StaysOpen (a b : Shown) : Type 0 where
   pub lost : b.lost ≡ a.lost
   pub events : b.events ≡ a.events
 
--- No call of an application, no timer and no poll closes an association.
+-- No write, opened stream, read, poll for packets or timer closes an association.
 abbrev pub WritesDoNotClose : Type 0
 WritesDoNotClose = (a : Shown) (id : ℕ) (bytes : List ℕ) → StaysOpen a (written a id bytes)
 
@@ -150,22 +150,22 @@ FaultsAloneClose =
 
 -- Reporting
 
--- This offset is the first that neither came nor was passed over, and nothing that came lies above it.
+-- This offset is the first that was neither taken in nor passed over, and nothing that was taken in lies above it.
 pub record IsFirstMissing (o : ℕ) (h : History) : Type 0 where
   pub before : (n : ℕ) → n < o → (mem n h.taken ≡ true) ⊎ (n < h.passed)
   pub missing : mem o h.taken ≡ false
   pub passed : h.passed ≤ o
   pub above : (n : ℕ) → mem n h.taken ≡ true → n < o
 
--- A SACK names the TSN before that of the first offset that neither came nor was passed over (RFC 4960 section 3.3.4):
--- it neither claims what did not come nor keeps back what did.
+-- A SACK names the TSN before that of the first offset that was neither taken in nor passed over (RFC 4960 section
+-- 3.3.4): it neither claims what was not taken in nor keeps back what was.
 abbrev pub SacksNameThePoint : Type 0
 SacksNameThePoint = (a : Shown) (h : History) → Binds a h
     → IsFirstMissing h.reach h
     × ((sack_of a.receiver (bytes_waiting a.streams)).cumulative_tsn_ack ≡ tsn_before (tsn h.peer h.reach))
 
--- It says what came: the point, and of the 65,535 TSNs past it, which are all that gap ack blocks can name, exactly
--- those that came.
+-- It says what was taken in: the point, and of the 65,535 TSNs past it, which are all that gap ack blocks can name,
+-- exactly those that were.
 abbrev pub SacksSayWhatCame : Type 0
 SacksSayWhatCame =
     (a : Shown) (h : History) → Binds a h

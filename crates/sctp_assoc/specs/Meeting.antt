@@ -83,8 +83,8 @@ pub record IsEstablished (a : Shown) : Type 0 where
 abbrev pub HasCome : Shown → Type 0
 HasCome a = AwaitsInitAck a ⊎ (AwaitsCookieAck a ⊎ (Listens a ⊎ IsEstablished a))
 
--- DATA may come to a side in this stage: it is established or was, or it is a client that knows the peer's initial TSN,
--- and echoes its cookie (DATA may overtake COOKIE ACK, RFC 4960 section 5.1)
+-- DATA may come to a side in this stage: it is established or was, or it is a client that knows the peer's initial TSN
+-- (DATA may overtake COOKIE ACK, RFC 4960 section 5.1)
 abbrev pub MayHear : Stage → Type 0
 MayHear s = (s.completed ≡ true) ⊎ ((s.side ≡ sides.Client) × (s.knows ≡ true))
 

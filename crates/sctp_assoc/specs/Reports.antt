@@ -1,4 +1,4 @@
--- What an acknowledgement says of what came (RFC 4960 section 3.3.4).
+-- What an acknowledgement says of what came and was taken in (RFC 4960 section 3.3.4).
 use Rattle.std.specs.Prelude.{◌≡◌, ◌<◌, ℕ, ◌+◌, ◌-◌, ◌^◌, List}
 use Rattle.sctp_wire_types.specs.declared.chunk.ChunkSelectiveAck.{ChunkSelectiveAck}
 use Rattle.sctp_receive_queues.specs.Received.{is_named}
@@ -6,9 +6,9 @@ use Rattle.sctp_model.specs.Packets.{mem}
 use Rattle.sctp_model.specs.Serial.{tsn}
 use Rattle.sctp_assoc.specs.Acts.{tsn_before}
 
--- A SACK says what came: its point is the TSN before that of this reach, and of the 65,535 offsets from the reach on,
--- which are all that gap ack blocks can name, its blocks name exactly those that came. Blocks count from the SACK's
--- point: the reach itself is their 1.
+-- A SACK says what came, as far as it was taken in: its point is the TSN before that of this reach, and of the 65,535
+-- offsets from the reach on, which are all that gap ack blocks can name, its blocks name exactly those that came.
+-- Blocks count from the SACK's point: the reach itself is their 1.
 pub record SaysWhatCame (peer reach : ℕ) (came : List ℕ) (sack : ChunkSelectiveAck) : Type 0 where
   pub at : sack.cumulative_tsn_ack ≡ tsn_before (tsn peer reach)
   pub set : (o : ℕ) → 0 < o → o < 2 ^ 16 → is_named o sack.gap_ack_blocks ≡ mem (reach + o - 1) came

@@ -58,8 +58,8 @@ EstablishedSidesTalk = (a : Shown) → is_established a.state ≡ true → HasCo
 abbrev pub GreetingsStayTrue : Type 0
 GreetingsStayTrue = (own : ℕ) (s t : Stage) (chunk : Chunk) → IsNoEarlier s t → Greets own s chunk → Greets own t chunk
 
--- The application's calls, timers and polls leave the status; of these, events that are told and timers leave the
--- streams, too.
+-- The application's calls, timers and polls that are carried out leave the status. Events that are told and timers
+-- leave the streams, too.
 abbrev pub OpenedStreamsKeepTheStatus : Type 0
 OpenedStreamsKeepTheStatus = (a : Shown) (id : ℕ) (kind : PayloadProtocolIdentifier) → IsSameStatus a (opened a id kind)
 
@@ -100,15 +100,15 @@ IsNotLive a id = stream_at a.streams id ≡ None
 abbrev pub OpenedStreamsWereNotLive : Type 0
 OpenedStreamsWereNotLive = (a : Shown) (id : ℕ) → open_refusal a id ≡ None → (a.failed ≡ false) × IsNotLive a id
 
--- A message of this size is accepted on a live stream in Established: it has a byte at least, and one DATA chunk has
--- room for it.
+-- What an accepted write of this size had: a live stream, an association in Established, a byte at least, and room in
+-- one DATA chunk.
 pub record CanWrite (a : Shown) (id size : ℕ) : Type 0 where
   pub live : IsLive a id
   pub established : is_established a.state ≡ true
   pub some : 0 < size
   pub one : size ≤ a.sender.max_payload_size
 
--- A write that is accepted can be.
+-- A write that nothing refuses has these. (That it is accepted needs more: `write_refusal`, and memory.)
 abbrev pub AcceptedWritesFit : Type 0
 AcceptedWritesFit = (a : Shown) (id size : ℕ) → write_refusal a id size ≡ None → CanWrite a id size
 
@@ -183,7 +183,7 @@ pub record Closes (a b : Shown) : Type 0 where
   pub ends : is_closed_state a.state ≡ false → IsEnded b
   pub stays : is_closed_state a.state ≡ true → b ≡ a
 
--- A chunk that is a fault closes an open association.
+-- What a close leaves of an association.
 abbrev pub FaultsClose : Type 0
 FaultsClose = (a : Shown) (reason : AssociationError) → Closes a (closed_by a reason)
 

@@ -66,9 +66,9 @@ has_given_up timer t = passes (timer_at timer t).retries (limit_of timer t)
 abbrev pub IsTimed : Timer → Timers → Type 0
 IsTimed timer t = (is_armed timer t ≡ true) ⊎ (has_given_up timer t ≡ true)
 
--- In Established the retransmission timer runs as long as DATA is in flight, unless its retries passed their limit (RFC
--- 4960 section 6.3.2, rules R1 and R3). What goes out again when it expires stands in the equations of timeouts and
--- polls.
+-- At a side that did not fail, in Established, the retransmission timer runs as long as DATA is in flight, unless its
+-- retries passed their limit (RFC 4960 section 6.3.2, rules R1 and R3). What goes out again when it expires stands in
+-- the equations of timeouts and polls.
 abbrev pub OutstandingDataIsTimed : Type 0
 OutstandingDataIsTimed = OfEachSide (λ b. b.failed ≡ false → is_established b.state ≡ true
     → 0 < length b.sender.queue.in_flight → IsTimed names.T3RTX b.timers)
@@ -77,8 +77,8 @@ OutstandingDataIsTimed = OfEachSide (λ b. b.failed ≡ false → is_established
 abbrev pub NothingInFlightIsNotTimed : Type 0
 NothingInFlightIsNotTimed = OfEachSide (λ b. b.sender.queue.in_flight ≡ [] → is_armed names.T3RTX b.timers ≡ false)
 
--- INIT and COOKIE ECHO are timed while they wait for their answer, unless the retries passed their limit (RFC 4960
--- section 5.1).
+-- At a side that did not fail INIT and COOKIE ECHO are timed while they wait for their answer, unless the retries
+-- passed their limit (RFC 4960 section 5.1).
 abbrev pub SentInitsAreTimed : Type 0
 SentInitsAreTimed = OfEachSide (λ b. b.failed ≡ false → is_cookie_wait b.state ≡ true → IsTimed names.T1Init b.timers)
 
@@ -98,7 +98,7 @@ CookiesAreTimedInCookieEchoedAlone = OfEachSide (λ b. is_armed names.T1Cookie b
 abbrev pub IsHandshakeUntimed : Timers → Type 0
 IsHandshakeUntimed t = (is_armed names.T1Init t ≡ false) × (is_armed names.T1Cookie t ≡ false)
 
--- So in Established nothing of the handshake goes out again.
+-- So in Established no timer sends anything of the handshake again.
 abbrev pub NoHandshakeTimerRunsOnceEstablished : Type 0
 NoHandshakeTimerRunsOnceEstablished = OfEachSide (λ b. is_established b.state ≡ true → IsHandshakeUntimed b.timers)
 

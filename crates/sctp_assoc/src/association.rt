@@ -259,8 +259,9 @@ impl Association {
     }
 
     /// Takes out the oldest event; None where none waits. That the handshake failed is told behind all other events,
-    /// once, as `Event::HandshakeFailed`. Call it until it answers None: after a constructor, `handle_event` and
-    /// `handle_timeout`. Its one error is `ErrAssociationFailed`; the events that waited are not told then.
+    /// as `Event::HandshakeFailed`, once for each of its timers that gave up; it may follow `Event::Connected`. Call it
+    /// until it answers None: after a constructor, `handle_event` and `handle_timeout`. Its one error is
+    /// `ErrAssociationFailed`; the events that waited are not told then.
     #[tactic(auto, using(crate::proofs::CallsLeadOn::poll_leads_on))]
     pub fn poll(&mut self) -> Result<Option<Event>, Error>
         ensures failed { IsErrOf result Error.ErrAssociationFailed ↔ (self.old.failed ≡ true) }

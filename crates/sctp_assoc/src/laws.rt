@@ -22,20 +22,21 @@ ghost use Rattle.sctp_assoc.specs.Witnesses.{JoinedSidesAreFresh, LossesAreToldO
 ghost use Rattle.sctp_assoc.specs.Witnesses.{LostSidesWaitForNothing, NoHandshakeTimerRunsOnceEstablished};
 ghost use Rattle.sctp_assoc.specs.Witnesses.{NothingInFlightIsNotTimed, OutstandingDataIsTimed, SentInitsAreTimed};
 
-/// Sending: what waits goes out with the next poll where nothing is in flight (RFC 4960 section 6.1).
+/// Sending: the next piece that waits goes out with the next poll where nothing is in flight (RFC 4960 section 6.1).
 pub fn what_waits_goes_out()
     ensures polled { WhatWaitsIsPolled }
     ensures given { WhatWaitsIsGiven }
     ensures packet { WhatWaitsGoesOut }
 {}
 
-/// Keeping: what was written waits or is in flight, and a poll loses none of it.
+/// Keeping: what was just written waits or is in flight, and a poll that does not fail loses none of what does.
 pub fn what_is_written_is_held()
     ensures written { WritesAreHeld }
     ensures polled { PollsKeepWhatIsHeld }
 {}
 
-/// Closing: a packet with a fault closes an open association, once, and nothing else closes it.
+/// Closing: a packet with a fault closes an open association, once, and no other packet does, and no write, opened
+/// stream, read, poll for packets or timer.
 pub fn faults_alone_close()
     ensures packets { FaultsAloneClose }
     ensures writes { WritesDoNotClose }
@@ -53,8 +54,8 @@ pub fn only_named_causes_close()
     ensures causes { CausesClose }
 {}
 
-/// Reporting: a SACK says what came, is one datagram, and in Established goes out with the next poll where it is due
-/// (RFC 4960 sections 3.3.4 and 6.2).
+/// Reporting: a SACK says what was taken in, is one datagram, and in Established goes out with the next poll where it
+/// is due (RFC 4960 sections 3.3.4 and 6.2).
 pub fn sacks_name_the_point()
     ensures point { SacksNameThePoint }
     ensures said { SacksSayWhatCame }
@@ -70,7 +71,8 @@ pub fn data_is_taken_in()
 {}
 
 /// Status: whether it failed, its state, whether it was lost, its payload size, its side and its handshake change by no
-/// call of the application, by no timer and by no poll, and what waits to go out stays truthful.
+/// call of the application, no timer and no poll that is carried out, and what waits to go out stays truthful. (One
+/// that finds no memory in its middle fails the association.)
 pub fn calls_keep_the_status()
     ensures opened { OpenedStreamsKeepTheStatus }
     ensures written { WritesKeepTheStatus }
@@ -129,7 +131,7 @@ pub fn calls_are_made_of_acts()
 {}
 
 /// Losing: over every list of calls that a side gets, the losses that were told and those that wait to be told are one
-/// where it was lost, and none else; one that failed told of at most one.
+/// if it was lost, otherwise none; one that failed told of at most one.
 pub fn at_most_one_loss()
     ensures created { CreatedSidesAreFresh }
     ensures joined { JoinedSidesAreFresh }

@@ -20,7 +20,7 @@ pub record IsReceived (w v : Direction) : Type 0 where
   pub datas : v.datas ≡ w.datas
   pub sacks : (k : ℕ) (x : Sack) → slice_get w.sacks k ≡ Some x → slice_get v.sacks k ≡ Some x
 
--- Which events meet a direction between associations: at its sender that these are,
+-- events that happen at the sender of a direction between associations
 abbrev pub IsAtSender : Event → Type 0
 IsAtSender (Event.Write s m) = ⊤
 IsAtSender (Event.Begin s i any) = ⊤
@@ -28,7 +28,7 @@ IsAtSender (Event.Resend o) = ⊤
 IsAtSender (Event.SackComes k) = ⊤
 IsAtSender e = ⊥
 
--- and at its receiver these.
+-- events that happen at its receiver
 abbrev pub IsAtReceiver : Event → Type 0
 IsAtReceiver (Event.DataComes k) = ⊤
 IsAtReceiver Event.SackMade = ⊤
@@ -42,7 +42,7 @@ abbrev pub Accepts : Event → Type 0
 Accepts (Event.Write s m) = ⊤
 Accepts e = ⊥
 
--- assigns an offset
+-- an event of the sender assigns an offset
 abbrev pub Assigns : Event → Type 0
 Assigns (Event.Begin s i any) = ⊤
 Assigns e = ⊥

@@ -117,7 +117,7 @@ abbrev pub ActsKeepTheInitialTsns : Type 0
 ActsKeepTheInitialTsns = (acts : List Act) (a : Parts) → AllByRecursion MeetsNobody acts
     → ((done_all acts a).history.own ≡ a.history.own) × ((done_all acts a).history.peer ≡ a.history.peer)
 
--- A stream that is made is opened at the direction's receiver, and begins anew at its sender.
+-- A stream that is made is opened at the receiver of the direction that comes, and its own direction is as it was.
 abbrev pub OpenedStreamsAreAlike : Type 0
 OpenedStreamsAreAlike = (a : Parts) (id first : ℕ) (kind : PayloadProtocolIdentifier) (out coming : Direction)
     → stream_at a.streams id ≡ None

@@ -21,7 +21,7 @@ abbrev pub packets_of : Side2 → Ends → List (List ℕ)
 packets_of sides.A p = p.packets_a
 packets_of sides.B p = p.packets_b
 
--- A's refusal is answered first; without one want of memory at either side, or B's refusal
+-- A's refusal is answered first; without one, want of memory at either side, or B's refusal
 abbrev pub JoinRefuses : {T : Type 0} → Result T Error → Option Error → Option Error → Type 0
 JoinRefuses (Ok pair) first second = (first ≡ None) × (second ≡ None)
 JoinRefuses (Err e) (Some refusal) second = e ≡ refusal

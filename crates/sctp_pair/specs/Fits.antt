@@ -49,8 +49,8 @@ pub record StandsFailed (a : Shown) (coming : Direction) : Type 0 where
 abbrev pub Stands : ℕ → ℕ → Shown → Direction → Direction → Type 0
 Stands own peer a out coming = StandsOpen own peer a out coming ⊎ (StandsClosed own a coming ⊎ StandsFailed a coming)
 
--- an association that did not fail is in this stage of its handshake; a failed one may be in any of which its packets
--- say what is so
+-- an association that did not fail is in this stage of its handshake; a failed one may be in any stage
+-- of which its packets say what is so
 abbrev pub IsAt : Shown → Stage → Type 0
 IsAt a s = a.failed ≡ false → stage_of a ≡ s
 

@@ -36,7 +36,7 @@ abbrev pub IsNumberOrMemory : Option Error → ℕ → Type 0
 IsNumberOrMemory None n = n ≡ refusal_number errors.ErrNoMemory
 IsNumberOrMemory (Some e) n = n ≡ refusal_number e
 
--- a call of a stream is refused where the stream is, else for a reason of its own
+-- a call of a stream is refused as the call that lends the stream is, else for a reason of its own
 abbrev pub first_refusal : Option Error → Option Error → Option Error
 first_refusal None own = own
 first_refusal (Some e) own = Some e

@@ -98,7 +98,7 @@ HasForward (Some packet) t =
     × (c.new_cumulative_tsn ≡ t))
 
 -- A step with this reply may end the span of stream s: it resets, retires or stops the stream at either end. So far
--- none does.
+-- none does (a loss is no such end: it closes the receiver).
 abbrev pub EndsSpan : Step → Reply → ℕ → Type 0
 EndsSpan step reply s = ⊥
 
@@ -153,10 +153,11 @@ abbrev pub IsWithinLimits : World → Type 0
 IsWithinLimits w = IsWithin w.ab × IsWithin w.ba
 
 -- What is promised of the direction w from one association to the other: each stream within its span is safe, and what
--- safety speaks of are the associations' own values: the receiver is open where it is neither closed nor failed; of a
--- stream within its span what is ready is what reads would answer one after another, and what is released is what was
--- accepted and is not buffered. Past its span a stream may have begun anew at either end, while the direction counts
--- on. A span ends by such a step alone (`IsDirectionStep.span`), and none is over in the empty world.
+-- safety speaks of are the associations' own values: the receiver is open where it is neither closed nor failed. Of a
+-- stream within its span: where the receiver is neither, what is ready is what reads would answer one after another;
+-- where the sender is neither, what is released is what was accepted and is not buffered. Past its span a stream may
+-- have begun anew at either end, while the direction counts on. A span ends by such a step alone
+-- (`IsDirectionStep.span`), and none is over in the empty world.
 pub record IsPromised (sender receiver : Shown) (w : Direction) : Type 0 where
   pub safe : (s : ℕ) → w.over s ≡ false → IsSafe w s
   pub opens : IsOpen receiver → w.receiver.is_open ≡ true

@@ -208,7 +208,7 @@ impl Pair {
     }
 
     /// Carries out the steps, in order, and answers one reply for each. A step that is refused is a reply, and the
-    /// steps after it are carried out all the same. `ErrNoMemory` is an error of this call alone, where there is no
+    /// steps after it are carried out all the same. `ErrNoMemory` is this call's only error, where there is no
     /// room for the replies: it comes before the first step, with nothing changed.
     ///
     /// The promise of delivery is said of all steps since the pair was made, these among them (`came`). It holds as

@@ -7,7 +7,7 @@ use Rattle.sctp_wire_types.specs.declared.ids.PayloadProtocolIdentifier.{Payload
 use Rattle.sctp_wire_types.specs.declared.ids.PayloadProtocolIdentifier.TheVariants as kinds
 use Rattle.sctp_receive_queues.specs.Pieces.{first_of}
 
--- a message as it was written and is read: its payload type (RFC 4960 section 10.1), and of each of its pieces, in
+-- a message as it is read: its payload type (RFC 4960 section 10.1), and of each of its pieces, in
 -- order, the bytes that are left; a piece without any is left out
 pub record ReceivedMessage : Type 0 where
   pub payload_type : PayloadProtocolIdentifier

@@ -25,7 +25,7 @@ use Rattle.sctp_wire.specs.Reconfig.{reconfig_of, reconfig_params}
 unfoldable pub point_of : List ℕ → Result ℕ Fault
 point_of value = if nat_lt (length value) 4 then Err Short else Ok (u32_at value 0)
 
--- the chunks that come while an association stands
+-- the chunk that a frame spells, by the type in its head
 unfoldable pub chunk_of : Frame → Result Chunk Fault
 chunk_of frame =
     if frame.head / 256 == 0 then

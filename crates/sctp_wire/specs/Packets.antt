@@ -44,7 +44,7 @@ packet_at bytes = partial_at bytes >>= finished
 abbrev pub packet_fits : Packet → Bool
 packet_fits packet = list_all chunk_fits packet.chunks
 
--- a packet's bytes with this checksum
+-- the bytes of a header's ports and verification tag
 abbrev pub header_bytes : CommonHeader → List ℕ
 header_bytes header =
     to_be_bytes w16 header.source_port ++ to_be_bytes w16 header.destination_port

@@ -17,7 +17,7 @@ pub struct Packet {
     pub chunks: List<Chunk>,
 }
 
-// Room for a whole datagram where DATA goes, and for a few fields elsewhere.
+// How much room is made at first: 1200 bytes where DATA goes, and a few fields elsewhere.
 fn room_for(chunks: &[Chunk]) -> usize {
     match chunks {
         [Chunk::Data(_), ..] => 1200,

@@ -11,7 +11,8 @@ use sctp_crc::packet_sum;
 use sctp_wire_types::{CommonHeader, Error, Fault};
 use std::alloc::Global;
 
-/// A datagram whose checksum is right and whose common header was read (RFC 4960 sections 3.1 and 6.8). Its chunks
+/// What `unmarshal` makes of a datagram whose checksum is right: its common header was read (RFC 4960 sections 3.1 and
+/// 6.8). Its chunks
 /// are read by `finish`, which `Association::handle_event` calls; so a driver can look at ports and verification tag
 /// before.
 #[derive(Debug, Drop)]
