@@ -9,7 +9,7 @@ ghost use Rattle.sctp_pair.specs.Steps.{packet_in};
 use bytes::Bytes;
 use sctp_assoc::{
     Association, AssociationEvent, Error, Instant, Payload, StreamId, Transmit,
-    what_is_written_is_held,
+    writes_and_polls_lose_nothing,
 };
 use sctp_wire_queues::PartialDecode;
 use std::net::SocketAddr;
@@ -54,7 +54,7 @@ fn send(
     ensures held { OnOk result
         (is_held association.new.sender.queue association.old.sender.queue.next_message_id ≡ true) }
 {
-    what_is_written_is_held();
+    writes_and_polls_lose_nothing();
     write(association, id, message)?;
     association.poll_transmit(now)
 }

@@ -19,7 +19,7 @@ use Rattle.sctp_assoc.specs.Calls.{after_ack_delay, after_t3, is_established, re
 use Rattle.sctp_assoc.specs.Handshake.{after_t1_init, sends_cookie, sends_init, t1_cookie_expired, t1_init_expired}
 use Rattle.sctp_assoc.specs.Timeouts.{after_handshake_timers}
 use Rattle.sctp_assoc.specs.Laws.{DueSacksGoOut, PollsDoNotClose, SacksAreSpelled, SacksOfferTheBuffer}
-use Rattle.sctp_assoc.specs.Laws.{SacksSayWhatCame, StaysOpen, TimersDoNotClose}
+use Rattle.sctp_assoc.specs.Laws.{SacksSayWhatWasTaken, StaysOpen, TimersDoNotClose}
 use Rattle.sctp_assoc.specs.Gather.{ack_after, ack_polled, control_packets, data_packets, data_polled, exchange_polled}
 use Rattle.sctp_assoc.specs.Gather.{is_due, packet_bytes, packet_with, sack_chunk, sack_packet, spelled, with_sent_data}
 use Rattle.sctp_assoc.specs.Gather.{without_control}
@@ -95,8 +95,8 @@ none_above h above o far = ⊎_elim
     (λ (n : mem o h.taken ≡ false). n)
     (cases_Bool (mem o h.taken))
 
-pub sacks_say_what_came : SacksSayWhatCame
-sacks_say_what_came a h binds = record {
+pub sacks_say_what_was_taken : SacksSayWhatWasTaken
+sacks_say_what_was_taken a h binds = record {
   at = binds.reach;
   set = λ o some within. sym (none_above h binds.above (h.reach + o - 1) (omega (arith, some)));
 }

@@ -8,7 +8,7 @@ use Rattle.sctp_receive_queues.specs.Reassembly.{empty_reassembly, taken}
 use Rattle.sctp_streams.specs.Stream.{StreamView, fresh_stream, read_with, stream_read}
 use Rattle.sctp_streams.specs.Streams.{StreamMap, generation_left, read_at, read_in, stream_at, with_stream}
 use Rattle.sctp_assoc.specs.Calls.{is_established, opened, write_refusal_at}
-use Rattle.sctp_assoc.specs.Shapes.{AcceptedWritesFit, CanWrite, FoundStreamsAreLive, IsLive, OpenedStreamsHoldNothing}
+use Rattle.sctp_assoc.specs.Shapes.{AcceptedWritesFit, WasWritable, FoundStreamsAreLive, IsLive, OpenedStreamsHoldNothing}
 use Rattle.sctp_assoc.specs.Shapes.{OpenedStreamsWereNotLive, WhatHoldsNothingGivesNothing}
 use Rattle.sctp_assoc.specs.Shown.{Shown}
 use Rattle.sctp_assoc.proofs.StreamsChanged.{at_made, at_with}
@@ -47,7 +47,7 @@ size_free true false false e = (refl, refl, refl)
 
 write_free : (failed : Bool) (x : Option StreamView) (a : Shown) (id size : ℕ) → a.failed ≡ failed
     → stream_at a.streams id ≡ x
-    → (if failed then Some errors.ErrAssociationFailed else write_refusal_at a x size) ≡ None → CanWrite a id size
+    → (if failed then Some errors.ErrAssociationFailed else write_refusal_at a x size) ≡ None → WasWritable a id size
 write_free true x a id size working there e = absurd (true≢false (ap is_some e))
 write_free false None a id size working there e = absurd (true≢false (ap is_some e))
 write_free false (Some t) a id size working there e =

@@ -10,7 +10,7 @@ use Rattle.sctp_streams.specs.Streams.{stream_at}
 use Rattle.sctp_assoc.specs.Calls.{event_from, fault_told, written_at}
 use Rattle.sctp_assoc.specs.Chunks.{after_packet}
 use Rattle.sctp_assoc.specs.Laws.{IsClosedIf, StaysOpen, closes, is_faulted_packet, loss_of, losses}
-use Rattle.sctp_assoc.specs.OneSide.{Call, Calls, IsFresh, IsRefused, IsRun, carried_out, told_by, with_told}
+use Rattle.sctp_assoc.specs.OneSide.{Call, Calls, IsFresh, IsUnchanged, IsRun, carried_out, told_by, with_told}
 use Rattle.sctp_assoc.specs.Gather.{polled}
 use Rattle.sctp_assoc.specs.Shown.{Shown}
 use Rattle.sctp_assoc.specs.Timeouts.{after_timeouts}
@@ -103,9 +103,9 @@ counts_on true n a x works h t =
 counts_still : (n : ℕ) (a : Shown) → Counts n a → Counts (n + losses []) a
 counts_still n a h = record { at_most = omega (arith, h.at_most); in_all = λ e. omega (arith, h.in_all e) }
 
-counts_refused : (n : ℕ) (told : List Event) (a b : Shown) → Counts n a → IsRefused told a b
+counts_unchanged : (n : ℕ) (told : List Event) (a b : Shown) → Counts n a → IsUnchanged told a b
     → Counts (n + losses told) b
-counts_refused n told a b h r =
+counts_unchanged n told a b h r =
     subst (λ (z : List Event). Counts (n + losses z) b) (sym r.silent)
     (counts_still n b (subst (λ (z : Shown). Counts n z) (sym r.same) h))
 
@@ -119,13 +119,13 @@ call_counts : (call : Call) (n : ℕ) (told : List Event) (a b : Shown) → Coun
 call_counts call n told a b h (inl c) =
     subst (λ (x : Shown × List Event). Counts (n + losses x.1) x.0) c.there
     (counts_on (closes_by call a) n a (carried_out call a) (accepted_works call a c.accepted) h (carried_tells call a))
-call_counts call n told a b h (inr (inl c)) = counts_refused n told a b h c
+call_counts call n told a b h (inr (inl c)) = counts_unchanged n told a b h c
 call_counts call n told a b h (inr (inr c)) =
     subst (λ (z : List Event). Counts (n + losses z) b) (sym c.silent) (counts_fell n a b h (fell a b c.failed))
 
 run_counts : (calls : List Call) (n : ℕ) (told : List Event) (a b : Shown) → Counts n a → IsRun calls told a b
     → Counts (n + losses told) b
-run_counts [] n told a b h r = counts_refused n told a b h r
+run_counts [] n told a b h r = counts_unchanged n told a b h r
 run_counts (c ∷ cs) n told a b h r =
     let all : losses told ≡ losses r.first + losses r.later = ap losses r.in_order
     ∙ sum_by-append loss_of r.first r.later in

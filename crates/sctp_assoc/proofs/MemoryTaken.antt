@@ -11,7 +11,7 @@ use Rattle.sctp_wire_types.specs.declared.packet.CommonHeader.{CommonHeader}
 use Rattle.sctp_wire_types.specs.Serial.{ssn_lt}
 use Rattle.sctp_receive_queues.specs.Pieces.{bytes_of, contradicts, covers, refusal_of}
 use Rattle.sctp_receive_queues.specs.Reassembly.{is_torn_after, is_torn_before, joins_after, joins_before, part}
-use Rattle.sctp_receive_queues.specs.Reassembly.{pieces_at, place_for_tsn, place_of_ssn, refusal_between}
+use Rattle.sctp_receive_queues.specs.Reassembly.{pieces_at, index_for_tsn, index_of_ssn, refusal_between}
 use Rattle.sctp_receive_queues.specs.Reassembly.{refusal_of_ordered, refusal_of_unordered, run_at, run_before}
 use Rattle.sctp_streams.specs.Stream.{StreamView}
 use Rattle.sctp_streams.specs.Streams.{StreamMap, bytes_waiting, generation_left, refusal_at, refusal_in, stream_at}
@@ -65,11 +65,11 @@ refused_at_names : (o : Option StreamView) (piece : ChunkPayloadData) (limit : �
 refused_at_names None piece limit = refl
 refused_at_names (Some stream) piece limit =
     let q = stream.reassembly in
-    let index = place_for_tsn piece.tsn q.unordered in
+    let index = index_for_tsn piece.tsn q.unordered in
     refusal_names piece.unordered (ssn_lt piece.stream_sequence_number q.next_ssn)
     (refusal_of_unordered q.unordered piece limit) (refusal_of_ordered q.ordered piece limit)
     (between_names (run_before q.unordered index) piece (run_at q.unordered index) limit)
-    (pieces_names (pieces_at (place_of_ssn piece.stream_sequence_number q.ordered) q.ordered) piece limit)
+    (pieces_names (pieces_at (index_of_ssn piece.stream_sequence_number q.ordered) q.ordered) piece limit)
 
 -- a stream refuses no piece for want of memory
 pub not_for_memory : (m : StreamMap) (id : ℕ) (piece : ChunkPayloadData) (limit : ℕ)

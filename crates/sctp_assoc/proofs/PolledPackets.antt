@@ -24,7 +24,7 @@ use Rattle.sctp_assoc.specs.Gather.{packet_bytes, packet_with, sack_chunk, sack_
 use Rattle.sctp_assoc.specs.Shapes.{IsGivenBy, IsWaitingToGo, OfEachChunk, PollsOutsideEstablishedGiveWhatWaits}
 use Rattle.sctp_assoc.specs.Shapes.{PollsSayTheirActs, WhatWaitsGoesOutAsItIs}
 use Rattle.sctp_assoc.specs.Shown.{Shown}
-use Rattle.sctp_assoc.proofs.DueSacks.{sacks_say_what_came}
+use Rattle.sctp_assoc.proofs.DueSacks.{sacks_say_what_was_taken}
 
 -- each chunk that a datagram spells is so
 abbrev AreOf : (Chunk → Type 0) → List (List ℕ) → Type 0
@@ -108,7 +108,7 @@ polls_say_their_acts acts a b h packets plain again established binds polls =
     (λ (c : ChunkPayloadData). IsGivenBy acts a h (chunks.Data c))
     (all_data_given acts (parts a h)) (λ c there. inr there) (each_there (all_data_given acts (parts a h)))))
     (ack_says (is_due a.receiver.ack_state) (IsGivenBy acts a h) a refl (polls.ack_again established)
-    (λ due. inr (due, sacks_say_what_came a h binds)))))
+    (λ due. inr (due, sacks_say_what_was_taken a h binds)))))
 
 exchange_nothing : (a : Shown) (now : ℕ) → is_established a.state ≡ false → exchange_polled a now ≡ (a, [])
 unfolding exchange_polled

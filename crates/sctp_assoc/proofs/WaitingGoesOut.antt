@@ -21,7 +21,7 @@ use Rattle.sctp_outbound.specs.Sender.{sent_within}
 use Rattle.sctp_assoc.specs.Acts.{all_data_given, parts}
 use Rattle.sctp_assoc.specs.Happened.{acts_of_ack, acts_of_data_poll}
 use Rattle.sctp_assoc.specs.Calls.{is_established}
-use Rattle.sctp_assoc.specs.Laws.{IsNextWithNothingInFlight, WhatWaitsGoesOut, WhatWaitsIsGiven, WhatWaitsIsPolled}
+use Rattle.sctp_assoc.specs.Laws.{IsNextWithNothingInFlight, PollsBeginWithWhatWaits, WhatWaitsIsGiven, WhatWaitsIsPolled}
 use Rattle.sctp_assoc.specs.Gather.{ack_after, ack_polled, control_packets, data_packets, data_polled, exchange_polled}
 use Rattle.sctp_assoc.specs.Gather.{packet_bytes, packet_with, spelled, without_control}
 use Rattle.sctp_assoc.specs.Shown.{Shown}
@@ -167,8 +167,8 @@ behind : {X : Type 0} (xs ys : List X) → slice_get (xs ++ ys) (length xs) ≡ 
 behind [] ys = refl
 behind (x ∷ xs) ys = behind xs ys
 
-pub what_waits_goes_out : WhatWaitsGoesOut
-what_waits_goes_out a now m established next short =
+pub polls_begin_with_what_waits : PollsBeginWithWhatWaits
+polls_begin_with_what_waits a now m established next short =
     let b : Shown = without_control a in
     let waits : IsNextWithNothingInFlight b
     m = record { others = next.others; waits = next.waits; flown = next.flown } in

@@ -31,7 +31,7 @@ use Rattle.sctp_assoc.specs.Chunks.{after_packet, on_chunk}
 use Rattle.sctp_assoc.specs.Happened.{acts_of_poll}
 use Rattle.sctp_assoc.specs.Gather.{control_packets, data_polled, is_due, packet_bytes, packet_with, polled, sack_chunk}
 use Rattle.sctp_assoc.specs.Gather.{sack_packet}
-use Rattle.sctp_assoc.specs.Reports.{SaysWhatCame}
+use Rattle.sctp_assoc.specs.Reports.{SaysWhatWasTaken}
 use Rattle.sctp_assoc.specs.Shown.{Shown}
 use Rattle.sctp_assoc.specs.Timeouts.{after_timeouts}
 
@@ -56,8 +56,8 @@ WhatWaitsIsGiven = (a : Shown) (h : History) (now : ℕ) (m : Waiting) → is_es
     → slice_get (all_data_given (acts_of_poll a now) (parts a h)) 0 ≡ Some (next_chunk_of m (tsn h.own h.base))
 
 -- A piece that one DATA chunk has room for is the first packet that goes out behind those that wait already.
-abbrev pub WhatWaitsGoesOut : Type 0
-WhatWaitsGoesOut = (a : Shown) (now : ℕ) (m : Waiting) → is_established a.state ≡ true → IsNextWithNothingInFlight a m
+abbrev pub PollsBeginWithWhatWaits : Type 0
+PollsBeginWithWhatWaits = (a : Shown) (now : ℕ) (m : Waiting) → is_established a.state ≡ true → IsNextWithNothingInFlight a m
     → length m.user_data ≤ 65519
     → slice_get (polled a now).1 (length (control_packets a.control))
     ≡ Some (spelling (packet_with (header_of a.handshake) (chunks.Data (next_chunk_of m (next_tsn_of a.sender.queue)))))
@@ -166,10 +166,10 @@ SacksNameThePoint = (a : Shown) (h : History) → Binds a h
 
 -- It says what was taken in: the point, and of the 65,535 TSNs past it, which are all that gap ack blocks can name,
 -- exactly those that were.
-abbrev pub SacksSayWhatCame : Type 0
-SacksSayWhatCame =
+abbrev pub SacksSayWhatWasTaken : Type 0
+SacksSayWhatWasTaken =
     (a : Shown) (h : History) → Binds a h
-    → SaysWhatCame h.peer h.reach h.taken (sack_of a.receiver (bytes_waiting a.streams))
+    → SaysWhatWasTaken h.peer h.reach h.taken (sack_of a.receiver (bytes_waiting a.streams))
 
 -- The packet of an acknowledgement is that of a SACK which offers the room that is left in the receive buffer (RFC 4960
 -- section 6.2).

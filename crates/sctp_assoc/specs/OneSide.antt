@@ -87,7 +87,7 @@ pub record IsCarriedOut (call : Call) (told : List Event) (a b : Shown) : Type 0
   pub there : carried_out call a ≡ (b, told)
 
 -- The call was refused, by a rule or for want of memory: nothing changed.
-pub record IsRefused (told : List Event) (a b : Shown) : Type 0 where
+pub record IsUnchanged (told : List Event) (a b : Shown) : Type 0 where
   pub same : b ≡ a
   pub silent : told ≡ []
 
@@ -100,7 +100,7 @@ pub record FailsInside (call : Call) (told : List Event) (a b : Shown) : Type 0 
 
 -- This call led from a to b, and told these events.
 abbrev pub Calls : Call → List Event → Shown → Shown → Type 0
-Calls call told a b = IsCarriedOut call told a b ⊎ (IsRefused told a b ⊎ FailsInside call told a b)
+Calls call told a b = IsCarriedOut call told a b ⊎ (IsUnchanged told a b ⊎ FailsInside call told a b)
 
 -- The first call of more led to an association from which the others lead on.
 pub record RunsOn (call : Call) (Others : List Event → Shown → Type 0) (told : List Event) (a : Shown) : Type 0 where
@@ -113,7 +113,7 @@ pub record RunsOn (call : Call) (Others : List Event → Shown → Type 0) (told
 
 -- These calls, in order, led from a to b, and told these events.
 abbrev pub IsRun : List Call → List Event → Shown → Shown → Type 0
-IsRun [] told a b = IsRefused told a b
+IsRun [] told a b = IsUnchanged told a b
 IsRun (call ∷ calls) told a b = RunsOn call (λ later c. IsRun calls later c b) told a
 
 -- An association as a constructor leaves it: it works, no loss waits to be told, no DATA was sent and T3-rtx does not

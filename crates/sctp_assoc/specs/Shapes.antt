@@ -27,7 +27,7 @@ use Rattle.sctp_assoc.specs.Happened.{Polls, acts_of_chunk, acts_of_poll, acts_o
 use Rattle.sctp_assoc.specs.Inbound.{taken_packet}
 use Rattle.sctp_assoc.specs.Meeting.{Greets, GreetsOn, HasCome, IsEstablished, IsNoEarlier, IsTruthful, Stage, stage_of}
 use Rattle.sctp_assoc.specs.Gather.{AreControlReadAgain, WaitPlainly, control_packets, is_due, polled, without_control}
-use Rattle.sctp_assoc.specs.Reports.{SaysWhatCame}
+use Rattle.sctp_assoc.specs.Reports.{SaysWhatWasTaken}
 use Rattle.sctp_assoc.specs.Shown.{Shown}
 use Rattle.sctp_assoc.specs.Timeouts.{after_timeouts}
 use Rattle.sctp_assoc.specs.declared.control.ControlPacket.{ControlPacket}
@@ -102,7 +102,7 @@ OpenedStreamsWereNotLive = (a : Shown) (id : ℕ) → open_refusal a id ≡ None
 
 -- What an accepted write of this size had: a live stream, an association in Established, a byte at least, and room in
 -- one DATA chunk.
-pub record CanWrite (a : Shown) (id size : ℕ) : Type 0 where
+pub record WasWritable (a : Shown) (id size : ℕ) : Type 0 where
   pub live : IsLive a id
   pub established : is_established a.state ≡ true
   pub some : 0 < size
@@ -110,7 +110,7 @@ pub record CanWrite (a : Shown) (id size : ℕ) : Type 0 where
 
 -- A write that nothing refuses has these. (That it is accepted needs more: `write_refusal`, and memory.)
 abbrev pub AcceptedWritesFit : Type 0
-AcceptedWritesFit = (a : Shown) (id size : ℕ) → write_refusal a id size ≡ None → CanWrite a id size
+AcceptedWritesFit = (a : Shown) (id size : ℕ) → write_refusal a id size ≡ None → WasWritable a id size
 
 -- Streams that hold nothing
 
@@ -329,7 +329,7 @@ IsWaitingToGo a chunk = (k : ℕ) × (c : ControlPacket) × (slice_get a.control
 -- a chunk that these acts of a poll give out: their DATA, or where a report is due a SACK that says what came
 abbrev pub IsExchanged : List Act → Shown → History → Chunk → Type 0
 IsExchanged acts a h (chunks.Data piece) = (k : ℕ) × (slice_get (all_data_given acts (parts a h)) k ≡ Some piece)
-IsExchanged acts a h (chunks.SelectiveAck sack) = (reports a ≡ true) × SaysWhatCame h.peer h.reach h.taken sack
+IsExchanged acts a h (chunks.SelectiveAck sack) = (reports a ≡ true) × SaysWhatWasTaken h.peer h.reach h.taken sack
 IsExchanged acts a h chunk = ⊥
 
 abbrev pub IsGivenBy : List Act → Shown → History → Chunk → Type 0

@@ -13,7 +13,7 @@ ghost use Rattle.sctp_assoc.specs.Causes.{CausesClose, ClosingPacketsHaveCauses,
 ghost use Rattle.sctp_assoc.specs.Intake.{DataIsTakenIn, NothingElseIsTakenIn};
 ghost use Rattle.sctp_assoc.specs.Laws.{DueSacksGoOut, FaultsAloneClose, OpenedStreamsDoNotClose, PollsDoNotClose};
 ghost use Rattle.sctp_assoc.specs.Laws.{PollsKeepWhatIsHeld, ReadsDoNotClose, SacksAreSpelled, SacksNameThePoint};
-ghost use Rattle.sctp_assoc.specs.Laws.{SacksOfferTheBuffer, SacksSayWhatCame, TimersDoNotClose, WhatWaitsGoesOut};
+ghost use Rattle.sctp_assoc.specs.Laws.{SacksOfferTheBuffer, SacksSayWhatWasTaken, TimersDoNotClose, PollsBeginWithWhatWaits};
 ghost use Rattle.sctp_assoc.specs.Laws.{WhatWaitsIsGiven, WhatWaitsIsPolled, WritesAreHeld, WritesDoNotClose};
 ghost use Rattle.sctp_assoc.specs.Witnesses.{CookiesAreTimedInCookieEchoedAlone, CreatedSidesAreFresh};
 ghost use Rattle.sctp_assoc.specs.Witnesses.{DelayedSacksAreTimed, EchoedCookiesAreTimed, FailedSidesWaitForNothing};
@@ -23,14 +23,14 @@ ghost use Rattle.sctp_assoc.specs.Witnesses.{LostSidesWaitForNothing, NoHandshak
 ghost use Rattle.sctp_assoc.specs.Witnesses.{NothingInFlightIsNotTimed, OutstandingDataIsTimed, SentInitsAreTimed};
 
 /// Sending: the next piece that waits goes out with the next poll where nothing is in flight (RFC 4960 section 6.1).
-pub fn what_waits_goes_out()
+pub fn polls_begin_with_what_waits()
     ensures polled { WhatWaitsIsPolled }
     ensures given { WhatWaitsIsGiven }
-    ensures packet { WhatWaitsGoesOut }
+    ensures packet { PollsBeginWithWhatWaits }
 {}
 
 /// Keeping: what was just written waits or is in flight, and a poll that does not fail loses none of what does.
-pub fn what_is_written_is_held()
+pub fn writes_and_polls_lose_nothing()
     ensures written { WritesAreHeld }
     ensures polled { PollsKeepWhatIsHeld }
 {}
@@ -58,7 +58,7 @@ pub fn only_named_causes_close()
 /// is due (RFC 4960 sections 3.3.4 and 6.2).
 pub fn sacks_name_the_point()
     ensures point { SacksNameThePoint }
-    ensures said { SacksSayWhatCame }
+    ensures said { SacksSayWhatWasTaken }
     ensures window { SacksOfferTheBuffer }
     ensures spelled { SacksAreSpelled }
     ensures due { DueSacksGoOut }

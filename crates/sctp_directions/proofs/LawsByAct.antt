@@ -19,11 +19,11 @@ use Rattle.sctp_model.proofs.OffsetSets.{mem-filter, mem_from_filter}
 use Rattle.sctp_model.proofs.Lists.{all_get}
 use Rattle.sctp_assoc.specs.Acts.{Act, Parts, done, parts, tsn_before}
 use Rattle.sctp_assoc.specs.Calls.{buffered_at, ready_of}
-use Rattle.sctp_assoc.specs.Reports.{SaysWhatCame}
+use Rattle.sctp_assoc.specs.Reports.{SaysWhatWasTaken}
 use Rattle.sctp_directions.specs.Incoming.{FitsIncoming}
 use Rattle.sctp_reassembly.specs.Stands.{letter_received}
 use Rattle.sctp_directions.specs.Laws.{ActsKeepTheInitialTsns, OpenedStreamsAreAlike, OwnActsLeaveWhatComes}
-use Rattle.sctp_directions.specs.Laws.{PiecesAreGiven, ReadyMessagesAreAlike, ReportsSayWhatCame, SacksMeanTheSame}
+use Rattle.sctp_directions.specs.Laws.{PiecesAreGiven, ReadyMessagesAreAlike, ReportsSayWhatWasTaken, SacksMeanTheSame}
 use Rattle.sctp_directions.specs.Laws.{WhatComesLeavesItsOwn, WhatIsReleasedIsNotBuffered}
 use Rattle.sctp_directions.specs.Outgoing.{FitsOutgoing, IsOwn, IsOwnAt}
 use Rattle.sctp_directions.specs.Plain.{IsPlain, count_below}
@@ -96,21 +96,21 @@ on_from n o some = omega arith
 
 -- what says what came to the association says what the SACK that is made has
 made_says : (a : Parts) (w : Direction) (c : ChunkSelectiveAck) → FitsIncoming a w
-    → SaysWhatCame a.history.peer a.history.reach a.history.taken c
-    → SaysWhatCame a.history.peer (reach w.receiver) (sack_of w.receiver).above c
+    → SaysWhatWasTaken a.history.peer a.history.reach a.history.taken c
+    → SaysWhatWasTaken a.history.peer (reach w.receiver) (sack_of w.receiver).above c
 made_says a w c fits says =
-    let at : SaysWhatCame a.history.peer (reach w.receiver) a.history.taken c =
-    subst (λ (n : ℕ). SaysWhatCame a.history.peer n a.history.taken c) fits.at says in
-    let is : SaysWhatCame a.history.peer (reach w.receiver) w.receiver.taken c =
-    subst (λ (os : List ℕ). SaysWhatCame a.history.peer (reach w.receiver) os c) fits.taken at in
+    let at : SaysWhatWasTaken a.history.peer (reach w.receiver) a.history.taken c =
+    subst (λ (n : ℕ). SaysWhatWasTaken a.history.peer n a.history.taken c) fits.at says in
+    let is : SaysWhatWasTaken a.history.peer (reach w.receiver) w.receiver.taken c =
+    subst (λ (os : List ℕ). SaysWhatWasTaken a.history.peer (reach w.receiver) os c) fits.taken at in
     record {
       at = is.at;
       set = λ o some small. is.set o some small
           ∙ sym (above_from w.receiver (reach w.receiver + o - 1) (on_from (reach w.receiver) o some));
     }
 
-pub reports_say_what_came : ReportsSayWhatCame
-reports_say_what_came a w fits =
+pub reports_say_what_was_taken : ReportsSayWhatWasTaken
+reports_say_what_was_taken a w fits =
     (reported_fits a w fits, λ c says. (length w.sacks, sack_of w.receiver, made_last w, made_says a w c fits says))
 
 -- two reaches of offsets that are known, and that are less than half the range of the TSNs

@@ -18,7 +18,7 @@ use Rattle.sctp_model.specs.Invariants.{Invariant}
 use Rattle.sctp_model.specs.Safe.{IsWithin, letter_read}
 use Rattle.sctp_assoc.specs.Acts.{Act, Can, History, Parts, data_given, done, done_all, parts, tsn_before}
 use Rattle.sctp_assoc.specs.Calls.{buffered_of, ready_messages}
-use Rattle.sctp_assoc.specs.Reports.{SaysWhatCame}
+use Rattle.sctp_assoc.specs.Reports.{SaysWhatWasTaken}
 use Rattle.sctp_assoc.specs.Shown.{Shown}
 use Rattle.sctp_directions.specs.Counted.{HasAccepted, all_pieces, pieces_in}
 use Rattle.sctp_directions.specs.Events.{Accepts, Assigns, Brings, GivesAMessage, IsAtReceiver, IsAtSender}
@@ -151,10 +151,10 @@ MarksAreNoEvents = (a : Parts) (w : Direction) → FitsOutgoing a w → FitsOutg
 
 -- A report makes a SACK, and any chunk that says what came to the association is that one: its point and its set are
 -- the receiver's.
-abbrev pub ReportsSayWhatCame : Type 0
-ReportsSayWhatCame = (a : Parts) (w : Direction) → FitsIncoming a w
+abbrev pub ReportsSayWhatWasTaken : Type 0
+ReportsSayWhatWasTaken = (a : Parts) (w : Direction) → FitsIncoming a w
     → FitsIncoming a (happens w Event.SackMade)
-    × ((c : ChunkSelectiveAck) → SaysWhatCame a.history.peer a.history.reach a.history.taken c
+    × ((c : ChunkSelectiveAck) → SaysWhatWasTaken a.history.peer a.history.reach a.history.taken c
     → IsMade a.history.peer (happens w Event.SackMade) c)
 
 -- A SACK that was made, and that acknowledges so many pieces at the association, acknowledges so many offsets.

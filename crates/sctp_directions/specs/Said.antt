@@ -8,7 +8,7 @@ use Rattle.sctp_wire_types.specs.Ids.{number_of}
 use Rattle.sctp_model.specs.Packets.{Data, Sack}
 use Rattle.sctp_model.specs.Serial.{tsn}
 use Rattle.sctp_model.specs.Machine.{Direction}
-use Rattle.sctp_assoc.specs.Reports.{SaysWhatCame}
+use Rattle.sctp_assoc.specs.Reports.{SaysWhatWasTaken}
 
 -- A DATA chunk is this DATA of a direction with this initial TSN.
 pub record IsSaid (initial : ℕ) (c : ChunkPayloadData) (d : Data) : Type 0 where
@@ -28,7 +28,7 @@ IsGiven initial w c = (k : ℕ) × (d : Data) × (slice_get w.datas k ≡ Some d
 -- A SACK is one that the direction's receiver ever made: it names that one's reach, and its gap ack blocks name what
 -- that one has above it.
 abbrev pub IsMade : ℕ → Direction → ChunkSelectiveAck → Type 0
-IsMade initial w c = (k : ℕ) × (x : Sack) × (slice_get w.sacks k ≡ Some x) × SaysWhatCame initial x.reach x.above c
+IsMade initial w c = (k : ℕ) × (x : Sack) × (slice_get w.sacks k ≡ Some x) × SaysWhatWasTaken initial x.reach x.above c
 
 -- a chunk that a side gives out: DATA of its own direction, or a SACK for the one that comes to it; own and peer are
 -- their initial TSNs

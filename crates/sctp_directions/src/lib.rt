@@ -9,7 +9,7 @@ ghost use Rattle.sctp_directions.specs.Laws.{MeetingsAreNoEvents, NothingIsAccep
 ghost use Rattle.sctp_directions.specs.Laws.{OnlyReadsGiveMessages, OnlyWhatIsBroughtIsTakenIn, OnlyWritesAccept};
 ghost use Rattle.sctp_directions.specs.Laws.{OpenedStreamsAreAlike, OwnActsLeaveWhatComes, PiecesAreCounted};
 ghost use Rattle.sctp_directions.specs.Laws.{PiecesAreGiven, PlainEventsKeepItPlain, ReadsAreAlike};
-ghost use Rattle.sctp_directions.specs.Laws.{ReadyMessagesAreAlike, ReceiversEventsAreReceived, ReportsSayWhatCame};
+ghost use Rattle.sctp_directions.specs.Laws.{ReadyMessagesAreAlike, ReceiversEventsAreReceived, ReportsSayWhatWasTaken};
 ghost use Rattle.sctp_directions.specs.Laws.{SacksMeanTheSame, SendersEventsAreSent, SendersEventsKeepTheInvariant};
 ghost use Rattle.sctp_directions.specs.Laws.{SendersEventsLeaveWhatComes, SentPiecesBegin, ShortMessagesAreOnePiece};
 ghost use Rattle.sctp_directions.specs.Laws.{TheSameIsReady, WhatComesLeavesItsOwn, WhatIsReleasedIsNotBuffered};
@@ -33,7 +33,7 @@ pub fn its_own_acts_are_events()
 pub fn what_comes_to_it_are_events()
     ensures opened { OpenedStreamsAreAlike }
     ensures taken { WhatIsTakenInComes }
-    ensures reports { ReportsSayWhatCame }
+    ensures reports { ReportsSayWhatWasTaken }
     ensures reads { ReadsAreAlike }
     ensures ready { TheSameIsReady }
     ensures messages { ReadyMessagesAreAlike }

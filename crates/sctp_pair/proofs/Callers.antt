@@ -22,7 +22,7 @@ use Rattle.sctp_pair.specs.declared.step.Side2.{Side2}
 use Rattle.sctp_pair.specs.declared.step.Side2.TheVariants as sides
 use Rattle.sctp_pair.specs.declared.step.Step.{Step}
 use Rattle.sctp_pair.specs.declared.step.Step.TheVariants as steps
-use Rattle.sctp_pair.specs.Callers.{AcceptFew, CameBy, ComesOn, HoldsOn, IsFrontOf, NothingIsReadUnbrought}
+use Rattle.sctp_pair.specs.Callers.{AcceptFew, CameBy, ComesOn, HoldsOn, IsFrontOf, NothingIsReadBeforeADelivery}
 use Rattle.sctp_pair.specs.Callers.{ReadsAreFronts, accepted_in, bytes_of, bytes_read, bytes_written, delivers_to}
 use Rattle.sctp_pair.specs.Callers.{read_in, read_undelivered, written_in}
 use Rattle.sctp_pair.specs.Counted.{AreFew, FitsCounted, RunsCounted, pieces_a, pieces_b}
@@ -324,7 +324,7 @@ turned_back sides.B = refl
 
 -- Until a packet was handed to a side nothing is read there.
 unbrought : (size_a size_b : ℕ) (ss : List Step) (rs : List Reply) (p : Ends) → CameBy size_a size_b ss rs p
-    → AcceptFew size_a size_b ss rs → NothingIsReadUnbrought ss rs
+    → AcceptFew size_a size_b ss rs → NothingIsReadBeforeADelivery ss rs
 unbrought size_a size_b ss rs p c few x s =
     let w : World = empty_world c.begin c.new.initial_a c.new.initial_b size_a size_b in
     let h = runs_lead_counted ss rs c.begin p c.led 0 0 w c.new.fits in
@@ -346,6 +346,6 @@ fronts_on more answers p q led size_a size_b ss rs c few =
     fronts size_a size_b (ss ++ more) (rs ++ answers) q (comes_on more answers p q led size_a size_b ss rs c) few
 
 pub unbrought_on : (more : List Step) (answers : List Reply) (p q : Ends) → Runs more answers p q
-    → HoldsOn NothingIsReadUnbrought more answers p
+    → HoldsOn NothingIsReadBeforeADelivery more answers p
 unbrought_on more answers p q led size_a size_b ss rs c few =
     unbrought size_a size_b (ss ++ more) (rs ++ answers) q (comes_on more answers p q led size_a size_b ss rs c) few

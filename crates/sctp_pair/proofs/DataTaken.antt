@@ -12,7 +12,7 @@ use Rattle.sctp_model.proofs.Proved.{each_event_keeps_the_invariant}
 use Rattle.sctp_streams.specs.Stream.{StreamView}
 use Rattle.sctp_streams.specs.Streams.{stream_at}
 use Rattle.sctp_assoc.specs.Acts.{Act, Can, History, Parts, done}
-use Rattle.sctp_assoc.specs.Reports.{SaysWhatCame}
+use Rattle.sctp_assoc.specs.Reports.{SaysWhatWasTaken}
 use Rattle.sctp_assoc.specs.Shown.{Shown}
 use Rattle.sctp_directions.specs.Events.{Brings, GivesAMessage, IsAtReceiver, IsPlainEvent, KeepsWithin}
 use Rattle.sctp_directions.specs.Incoming.{FitsIncoming}
@@ -21,7 +21,7 @@ use Rattle.sctp_directions.specs.Said.{IsMade, IsSaid}
 use Rattle.sctp_directions.specs.Laws.{MeetsNobody}
 use Rattle.sctp_directions.proofs.Proved.{acts_keep_the_initial_tsns, events_keep_the_limits, opened_streams_are_alike}
 use Rattle.sctp_directions.proofs.Proved.{plain_events_keep_it_plain, receivers_events_are_received}
-use Rattle.sctp_directions.proofs.Proved.{reports_say_what_came, what_comes_leaves_its_own, what_is_taken_in_comes}
+use Rattle.sctp_directions.proofs.Proved.{reports_say_what_was_taken, what_comes_leaves_its_own, what_is_taken_in_comes}
 use Rattle.sctp_pair.proofs.BetweenDirections.{Goes, Holds, goes_by_receiver, goes_nowhere, other_by_coming}
 
 -- What was done at the receiver of the direction that comes.
@@ -94,7 +94,7 @@ act_took own peer k piece d t p y out coming B h known within can e said live br
 
 -- what says what came is a SACK that was made
 abbrev pub ReportsSaid : ℕ → History → Direction → Type 0
-ReportsSaid peer h coming = (c : ChunkSelectiveAck) → SaysWhatCame h.peer h.reach h.taken c → IsMade peer coming c
+ReportsSaid peer h coming = (c : ChunkSelectiveAck) → SaysWhatWasTaken h.peer h.reach h.taken c → IsMade peer coming c
 
 -- a SACK is made, which is any that says what came
 pub record AfterReport (own peer : ℕ) (p : Parts) (y : Shown) (out coming : Direction) (B : ℕ → Type 0) : Type 0 where
@@ -106,7 +106,7 @@ pub act_reported : (own peer : ℕ) (p : Parts) (y : Shown) (out coming : Direct
     → AfterReport own peer p y out coming B
 unfolding act_at_receiver
 act_reported own peer p y out coming B h known within =
-    let report = reports_say_what_came p coming h.between.incoming in
+    let report = reports_say_what_was_taken p coming h.between.incoming in
     record {
       after =
           act_at_receiver own peer Act.Reported Event.SackMade p y out coming B h tt within tt (λ n. n) tt tt

@@ -12,7 +12,7 @@ use Rattle.sctp_model.specs.Machine.{Direction, Event, Receiver, happens}
 use Rattle.sctp_assoc.specs.Acts.{Act, parts}
 use Rattle.sctp_assoc.specs.Calls.{written}
 use Rattle.sctp_assoc.specs.Meeting.{Stage}
-use Rattle.sctp_assoc.specs.Shapes.{CanWrite}
+use Rattle.sctp_assoc.specs.Shapes.{WasWritable}
 use Rattle.sctp_assoc.specs.Shown.{Shown}
 use Rattle.sctp_assoc.proofs.Proved.{accepted_writes_fit, write_leads_on, writes_keep_the_status}
 use Rattle.sctp_directions.specs.Plain.{IsSimple}
@@ -61,7 +61,7 @@ write_does a id n bytes t w there simple =
     }
 
 written_settles : {here there : Stage} (own peer : ℕ) (a y : Shown) (out coming : Direction) (id n : ℕ) (bytes : List ℕ)
-    → CanWrite a id (length bytes)
+    → WasWritable a id (length bytes)
     → Faces own peer here there a y out coming → StandsOpen own peer a out coming
     → Settles own peer here there (written a id bytes) y out coming (written_by (replies.Wrote n) a id bytes)
     nothing_read None_brought

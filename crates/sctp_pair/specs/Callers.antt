@@ -74,8 +74,8 @@ abbrev pub ReadsAreFronts : List Step → List Reply → Type 0
 ReadsAreFronts ss rs = (x : Side2) (s : ℕ) → IsFrontOf (read_in ss rs (other_side x) s) (written_in ss rs x s)
 
 -- a side that was handed no packet yet reads nothing
-abbrev pub NothingIsReadUnbrought : List Step → List Reply → Type 0
-NothingIsReadUnbrought ss rs = (x : Side2) (s : ℕ) → read_undelivered ss rs x s ≡ []
+abbrev pub NothingIsReadBeforeADelivery : List Step → List Reply → Type 0
+NothingIsReadBeforeADelivery ss rs = (x : Side2) (s : ℕ) → read_undelivered ss rs x s ≡ []
 
 -- Each side accepted few pieces in all of these steps, where A puts at most size_a bytes of a message into a piece, B
 -- at most size_b.

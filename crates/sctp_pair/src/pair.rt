@@ -2,7 +2,7 @@
 ghost use Rattle.std.specs.Prelude.{◌≡◌, ℕ, length, slice_get, [], ◌∷◌, None, OnErr, IfOk, vec_len};
 ghost use Rattle.std.specs.Option.{option_copied};
 ghost use Rattle.sctp_assoc.specs.Created.{client, create_refusal, join_refusal, joined, server};
-ghost use Rattle.sctp_pair.specs.Callers.{CameBy, ComesOn, HoldsOn, NothingIsReadUnbrought, ReadsAreFronts};
+ghost use Rattle.sctp_pair.specs.Callers.{CameBy, ComesOn, HoldsOn, NothingIsReadBeforeADelivery, ReadsAreFronts};
 ghost use Rattle.sctp_pair.specs.Ends.{JoinRefuses, packets_of, end_of};
 ghost use Rattle.sctp_pair.specs.World.{World, empty_world};
 ghost use Rattle.sctp_pair.specs.Counted.{FitsCounted, LeadsCounted, RunsCounted};
@@ -215,7 +215,7 @@ impl Pair {
     /// long as the messages that each side accepted in all of them have fewer than 16,384 pieces; a piece is what one
     /// DATA chunk has room for. On each stream, the messages that one side's reads answered are, in order, a prefix
     /// of those that the other side's accepted writes gave (`front`). Nothing is read at a side before the first
-    /// delivery to it that is answered `Done` (`brought`).
+    /// delivery to it that is answered `Done` (`undelivered`).
     ///
     /// More is said over worlds, which docs/MODEL.md has in words. From each world that the pair fits, the steps lead
     /// from world to world, in each of which the pair stands. As long as each so far is within the limits, it is safe
@@ -231,14 +231,14 @@ impl Pair {
             → RunsCounted steps.now replies.items w n m self.new) }
         ensures came { IfOk result (λ replies. ComesOn steps.now replies.items self.old self.new) }
         ensures front { IfOk result (λ replies. HoldsOn ReadsAreFronts steps.now replies.items self.old) }
-        ensures brought { IfOk result (λ replies. HoldsOn NothingIsReadUnbrought steps.now replies.items self.old) }
+        ensures undelivered { IfOk result (λ replies. HoldsOn NothingIsReadBeforeADelivery steps.now replies.items self.old) }
     {
         self.carry_out_all(steps)
     }
 
     /// Carries out one step and answers what came of it; a refusal is a reply, too.
     ///
-    /// The promise of delivery is that of `run`, for this one step: the clauses `came`, `front` and `brought`.
+    /// The promise of delivery is that of `run`, for this one step: the clauses `came`, `front` and `undelivered`.
     ///
     /// From each world that the pair fits, the step leads to a next one, in which the pair stands. Where that is
     /// within the limits, it is safe (`headline`). Where the messages that each side accepted, this step's included,
@@ -251,7 +251,7 @@ impl Pair {
             → LeadsCounted step.now result w n m self.new }
         ensures came { ComesOn (step.now ∷ []) (result ∷ []) self.old self.new }
         ensures front { HoldsOn ReadsAreFronts (step.now ∷ []) (result ∷ []) self.old }
-        ensures brought { HoldsOn NothingIsReadUnbrought (step.now ∷ []) (result ∷ []) self.old }
+        ensures undelivered { HoldsOn NothingIsReadBeforeADelivery (step.now ∷ []) (result ∷ []) self.old }
     {
         self.carry_out(step)
     }

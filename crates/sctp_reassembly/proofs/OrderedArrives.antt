@@ -8,7 +8,7 @@ use Rattle.sctp_wire_types.specs.declared.chunk.ChunkPayloadData.{ChunkPayloadDa
 use Rattle.sctp_wire_types.specs.declared.error.Error.{Error}
 use Rattle.sctp_wire_types.specs.declared.error.Error.TheVariants as errors
 use Rattle.sctp_receive_queues.specs.Pieces.{bytes_of, contradicts, refusal_of}
-use Rattle.sctp_receive_queues.specs.Reassembly.{Reassembly, pieces_at, place_of_ssn, pushed, refusal}
+use Rattle.sctp_receive_queues.specs.Reassembly.{Reassembly, pieces_at, index_of_ssn, pushed, refusal}
 use Rattle.sctp_receive_queues.specs.Reassembly.{refusal_of_ordered, refusal_of_unordered, unordered_put, with_ordered}
 use Rattle.sctp_receive_queues.specs.Reassembly.{with_put}
 use Rattle.sctp_model.specs.Messages.{Plan, place_at}
@@ -75,7 +75,7 @@ taken_in : (initial : ℕ) (p : Plan) (over : ℕ → Bool) (came : List ℕ) (s
     → CarriesData initial c (data_at p o) → at o q.ordered ≡ None
     → IsInWindow p came s low cursor (with_piece q (data_at p o))
     → StandsFor initial p s (record r { ordered = with_ordered r.ordered c }) (with_piece q (data_at p o))
-    × (contradicts (pieces_at (place_of_ssn c.stream_sequence_number r.ordered) r.ordered) c ≡ false)
+    × (contradicts (pieces_at (index_of_ssn c.stream_sequence_number r.ordered) r.ordered) c ≡ false)
 taken_in initial p over came s low cursor o r q c h v small st i new w =
     let here = w.held.0 in
     let n : ℕ = (place_at p o).ssn in
@@ -150,7 +150,7 @@ ordered_pieces_stand initial p over came s low cursor o limit r q c h v small st
     let both =
     decided initial p came s low cursor r after q (with_piece q d) (refusal_of_ordered r.ordered c limit) b st
     (λ w'. let t = taken_in initial p over came s low cursor o r q c h v small st i new w' in
-    (t.0, for_bytes (pieces_at (place_of_ssn c.stream_sequence_number r.ordered) r.ordered) c limit t.1))
+    (t.0, for_bytes (pieces_at (index_of_ssn c.stream_sequence_number r.ordered) r.ordered) c limit t.1))
     (subst (IsInWindow p came s low cursor) model w) in (
       subst (λ z. StandsFor initial p s (pushed r c).0 z) (sym model)
           (subst (λ z. StandsFor initial p s z.0 (cond b q (with_piece q d))) (sym view) both.0),

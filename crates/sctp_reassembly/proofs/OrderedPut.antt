@@ -7,7 +7,7 @@ use Rattle.std.proofs.lemmas.Bool.{cases_Bool, eqb-true, eqb-false, ne_eqb, ltb-
 use Rattle.sctp_wire_types.specs.Serial.{ssn_lt}
 use Rattle.sctp_wire_types.specs.declared.chunk.ChunkPayloadData.{ChunkPayloadData}
 use Rattle.sctp_receive_queues.specs.Pieces.{contradicts}
-use Rattle.sctp_receive_queues.specs.Reassembly.{Group, group_of, grown, pieces_at, place_of_ssn}
+use Rattle.sctp_receive_queues.specs.Reassembly.{Group, group_of, grown, pieces_at, index_of_ssn}
 use Rattle.sctp_model.specs.Messages.{Plan}
 use Rattle.sctp_model.specs.Packets.{mem, data_at}
 use Rattle.sctp_model.specs.Safe.{AreRising}
@@ -178,7 +178,7 @@ pub fits_there : (initial : ℕ) (p : Plan) (over : ℕ → Bool) (s n o : ℕ) 
     → length p.places < 2 ^ 31 → c.stream_sequence_number ≡ n % 65536
     → CarriesData initial c (data_at p o) → IsOf p s n o → AreGroups initial p s gs hs → AllByRecursion (AreNear n) hs
     → mem o (offsets_in hs) ≡ false
-    → contradicts (pieces_at (place_of_ssn c.stream_sequence_number gs) gs) c ≡ false
+    → contradicts (pieces_at (index_of_ssn c.stream_sequence_number gs) gs) c ≡ false
 fits_there initial p over s n o c [] hs h v small e i x a w out = refl
 fits_there initial p over s n o c (g ∷ gs) [] h v small e i x a w out = absurd a
 fits_there initial p over s n o c (g ∷ gs) (k ∷ ks) h v small e i x a w out =
@@ -196,7 +196,7 @@ fits_there initial p over s n o c (g ∷ gs) (k ∷ ks) h v small e i x a w out 
     ap (λ z. contradicts (pieces_at z (g ∷ gs)) c)
     (position_later (λ (y : Group). eqb y.ssn c.stream_sequence_number) g gs
     (same_number initial p s n c g k e a.0 w.0 ∙ b))
-    ∙ ap (λ z. contradicts z c) (further (place_of_ssn c.stream_sequence_number gs))
+    ∙ ap (λ z. contradicts z c) (further (index_of_ssn c.stream_sequence_number gs))
     ∙ fits_there initial p over s n o c gs ks h v small e i x a.1 w.1 parts.1)
     (cases_Bool (eqb k.number n))
   where

@@ -6,8 +6,8 @@ use Rattle.std.specs.List.{position_or_len}
 use Rattle.std.proofs.lemmas.Bool.{cases_Bool, cases_lt, lt-ltb, le-ltb}
 use Rattle.sctp_wire_types.specs.Serial.{tsn_lt, ssn_lt}
 use Rattle.sctp_wire_types.specs.declared.chunk.ChunkPayloadData.{ChunkPayloadData}
-use Rattle.sctp_receive_queues.specs.Reassembly.{Group, group_of, grown, grown_at, put_at, with_ordered, place_of_ssn}
-use Rattle.sctp_receive_queues.specs.Reassembly.{place_for_ssn}
+use Rattle.sctp_receive_queues.specs.Reassembly.{Group, group_of, grown, grown_at, put_at, with_ordered, index_of_ssn}
+use Rattle.sctp_receive_queues.specs.Reassembly.{index_for_ssn}
 
 abbrev pub up_one : Option ℕ → Option ℕ
 up_one None = None
@@ -72,13 +72,13 @@ abbrev pub AreSplit : ℕ → List Group → Type 0
 AreSplit ssn [] = ⊤
 AreSplit ssn (g ∷ gs) = (ssn_lt ssn g.ssn ≡ true → AreOthers ssn gs) × AreSplit ssn gs
 
-pub none_there : (ssn : ℕ) (gs : List Group) → AreOthers ssn gs → place_of_ssn ssn gs ≡ None
+pub none_there : (ssn : ℕ) (gs : List Group) → AreOthers ssn gs → index_of_ssn ssn gs ≡ None
 none_there ssn [] a = refl
 none_there ssn (g ∷ gs) a = position_later (λ (x : Group). eqb x.ssn ssn) g gs a.0 ∙ ap up_one (none_there ssn gs a.1)
 
 -- a group further on has the number
 some_there : (k : Option ℕ) (g : Group) (gs : List Group) (p : ChunkPayloadData)
-    → place_for_ssn p.stream_sequence_number (g ∷ gs)
+    → index_for_ssn p.stream_sequence_number (g ∷ gs)
     ≡ unwrap_or (up_one (position (λ (x : Group). ssn_lt p.stream_sequence_number x.ssn) gs)) (suc (length gs))
     → put_at (up_one k) (g ∷ gs) p ≡ g ∷ put_at k gs p
 some_there None g gs p e =
@@ -90,12 +90,12 @@ some_there (Some k) g gs p e = go (slice_get gs k)
     go (Some h) = refl
 
 first_past : (g : Group) (gs : List Group) (p : ChunkPayloadData) → ssn_lt p.stream_sequence_number g.ssn ≡ false
-    → place_for_ssn p.stream_sequence_number (g ∷ gs)
+    → index_for_ssn p.stream_sequence_number (g ∷ gs)
     ≡ unwrap_or (up_one (position (λ (x : Group). ssn_lt p.stream_sequence_number x.ssn) gs)) (suc (length gs))
 first_past g gs p e = rw (position_later (λ (x : Group). ssn_lt p.stream_sequence_number x.ssn) g gs e) refl
 
 first_here : (g : Group) (gs : List Group) (p : ChunkPayloadData) → ssn_lt p.stream_sequence_number g.ssn ≡ true
-    → place_for_ssn p.stream_sequence_number (g ∷ gs) ≡ 0
+    → index_for_ssn p.stream_sequence_number (g ∷ gs) ≡ 0
 first_here g gs p e = rw (position_here (λ (x : Group). ssn_lt p.stream_sequence_number x.ssn) g gs e) refl
 
 -- in ascending groups a piece goes to its message's group, else in front of the first one past it
@@ -114,7 +114,7 @@ with_ordered_is (g ∷ gs) p a =
     ∙ ap (λ z. insert (g ∷ gs) z (group_of p)) (first_here g gs p l)
     ∙ rw (b, l) refl)
     (λ (l : ssn_lt p.stream_sequence_number g.ssn ≡ false).
-    some_there (place_of_ssn p.stream_sequence_number gs) g gs p (first_past g gs p l)
+    some_there (index_of_ssn p.stream_sequence_number gs) g gs p (first_past g gs p l)
     ∙ ap (λ z. g ∷ z) (with_ordered_is gs p a.1) ∙ rw (b, l) refl)
     (cases_Bool (ssn_lt p.stream_sequence_number g.ssn)))
     (cases_Bool (eqb g.ssn p.stream_sequence_number))

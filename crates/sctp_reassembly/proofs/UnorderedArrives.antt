@@ -9,7 +9,7 @@ use Rattle.sctp_wire_types.specs.Serial.{ssn_lt}
 use Rattle.sctp_wire_types.specs.declared.chunk.ChunkPayloadData.{ChunkPayloadData}
 use Rattle.sctp_receive_queues.specs.Messages.{message_of}
 use Rattle.sctp_receive_queues.specs.Pieces.{is_complete}
-use Rattle.sctp_receive_queues.specs.Reassembly.{Reassembly, finished, place_for_tsn, pushed, refusal, refusal_between}
+use Rattle.sctp_receive_queues.specs.Reassembly.{Reassembly, finished, index_for_tsn, pushed, refusal, refusal_between}
 use Rattle.sctp_receive_queues.specs.Reassembly.{refusal_of_ordered, refusal_of_unordered, run_at as the_run_at}
 use Rattle.sctp_receive_queues.specs.Reassembly.{run_before, unordered_put, with_ordered, with_put}
 use Rattle.sctp_receive_queues.specs.Reassembly.{with_unordered as view_with}
@@ -332,9 +332,9 @@ unordered_pieces_stand initial p over s o limit r q c h small st i loose new =
     w.runs) in
     let xs = two.0 in
     let ys = two.1 in
-    let index : place_for_tsn c.tsn r.unordered ≡ length xs
+    let index : index_for_tsn c.tsn r.unordered ≡ length xs
     =
-    ap (place_for_tsn c.tsn) two.2 ∙ place_is initial p c o xs ys (runs_of p k.below) (runs_of p k.above) i little two.3
+    ap (index_for_tsn c.tsn) two.2 ∙ place_is initial p c o xs ys (runs_of p k.below) (runs_of p k.above) i little two.3
     two.4 is_less (some_in p k.above) is_more small_above in
     let put =
     entered initial p c o xs ys (runs_of p k.below) (runs_of p k.above) i little two.3 two.4 small_below small_above in

@@ -8,7 +8,7 @@ use Rattle.sctp_wire_types.specs.declared.chunk.ChunkPayloadData.{ChunkPayloadDa
 use Rattle.sctp_wire_types.specs.Serial.{tsn_lt}
 use Rattle.sctp_receive_queues.specs.Messages.{ReceivedMessage, message_of}
 use Rattle.sctp_receive_queues.specs.Pieces.{is_complete, is_past, is_last as is_last_piece, tsn_after}
-use Rattle.sctp_receive_queues.specs.Reassembly.{finished, joins_after, joins_before, part, place_for_tsn, put_between}
+use Rattle.sctp_receive_queues.specs.Reassembly.{finished, joins_after, joins_before, part, index_for_tsn, put_between}
 use Rattle.sctp_receive_queues.specs.Reassembly.{run_at, run_before, run_place, with_unordered}
 use Rattle.sctp_model.specs.Messages.{Plan}
 use Rattle.sctp_model.specs.Packets.{data_at}
@@ -188,7 +188,7 @@ AreNotPast t cs = AllByRecursion (λ (r : List ChunkPayloadData). is_past r t �
 
 place_between : (t : ℕ) (xs ys : List (List ChunkPayloadData)) → AreNotPast t xs
     → AllByRecursion (λ (r : List ChunkPayloadData). is_past r t ≡ true) ys
-    → place_for_tsn t (xs ++ ys) ≡ length xs
+    → index_for_tsn t (xs ++ ys) ≡ length xs
 place_between t [] [] a b = refl
 place_between t [] (y ∷ ys) a b =
     ap (λ z. unwrap_or z (suc (length ys))) (position_here (λ (r : List ChunkPayloadData). is_past r t) y ys b.0)
@@ -239,7 +239,7 @@ pub place_is : (initial : ℕ) (p : Plan) (c : ChunkPayloadData) (o : ℕ) (xs y
     → AreRuns initial p xs gs → AreRuns initial p ys hs → AllByRecursion (AllByRecursion (λ (x : ℕ). x < o)) gs
     → AllByRecursion (λ (g : List ℕ). 0 < length g) hs → AllByRecursion (AllByRecursion (λ (x : ℕ). o < x)) hs
     → AllByRecursion AreSmall hs
-    → place_for_tsn c.tsn (xs ++ ys) ≡ length xs
+    → index_for_tsn c.tsn (xs ++ ys) ≡ length xs
 place_is initial p c o xs ys gs hs i l a b u n v s =
     place_between c.tsn xs ys (not_past initial p c o xs gs i l a u) (all_past initial p c o ys hs i l b n v s)
 

@@ -14,8 +14,8 @@ use Rattle.sctp_wire_types.specs.declared.chunk.ChunkPayloadData.{ChunkPayloadDa
 use Rattle.sctp_receive_queues.specs.Messages.{ReceivedMessage, bytes_left, message_of}
 use Rattle.sctp_receive_queues.specs.Pieces.{bytes_of, is_complete, index_of}
 use Rattle.sctp_receive_queues.specs.Reassembly.{Group, bytes_in_groups, bytes_in_runs, bytes_in_messages, group_of}
-use Rattle.sctp_receive_queues.specs.Reassembly.{grown, put_at, with_ordered, place_of_ssn, place_for_ssn, run_before}
-use Rattle.sctp_receive_queues.specs.Reassembly.{run_at, place_for_tsn, joins_before, joins_after, part, put_between}
+use Rattle.sctp_receive_queues.specs.Reassembly.{grown, put_at, with_ordered, index_of_ssn, index_for_ssn, run_before}
+use Rattle.sctp_receive_queues.specs.Reassembly.{run_at, index_for_tsn, joins_before, joins_after, part, put_between}
 use Rattle.sctp_receive_queues.specs.Reassembly.{with_unordered, finished, unordered_put, saturated_bytes, stays, above}
 use Rattle.sctp_receive_queues.specs.Reassembly.{trimmed}
 use Rattle.sctp_receive_queues.proofs.Cuts.{bytes_of_pieces}
@@ -49,7 +49,7 @@ put_bytes : (o : Option ℕ) (groups : List Group) (p : ChunkPayloadData) → ((
     → bytes_in_groups (put_at o groups p) ≡ bytes_in_groups groups + length p.user_data
 put_bytes None groups p within =
     let sums =
-    sum_by-insert (λ (g : Group). bytes_of g.pieces) groups (place_for_ssn p.stream_sequence_number groups)
+    sum_by-insert (λ (g : Group). bytes_of g.pieces) groups (index_for_ssn p.stream_sequence_number groups)
     (group_of p) in
     omega (arith, sums, joined_bytes [] [] p)
 put_bytes (Some k) groups p within =
@@ -62,7 +62,7 @@ put_bytes (Some k) groups p within =
 pub ordered_bytes : (groups : List Group) (p : ChunkPayloadData)
     → bytes_in_groups (with_ordered groups p) ≡ bytes_in_groups groups + length p.user_data
 ordered_bytes groups p =
-    put_bytes (place_of_ssn p.stream_sequence_number groups) groups p
+    put_bytes (index_of_ssn p.stream_sequence_number groups) groups p
     (λ k e. (position-Some (λ (g : Group). eqb g.ssn p.stream_sequence_number) groups k (group_of p) e).0)
 
 -- Unordered messages.
@@ -177,7 +177,7 @@ pub unordered_bytes : (runs : List (List ChunkPayloadData)) (ms : List ReceivedM
     → bytes_in_runs (unordered_put runs ms p).0 + bytes_in_messages (unordered_put runs ms p).1
     ≡ bytes_in_runs runs + bytes_in_messages ms + length p.user_data
 unordered_bytes runs ms p =
-    let k = place_for_tsn p.tsn runs in
+    let k = index_for_tsn p.tsn runs in
     let put = with_bytes runs k p in
     let done = finished_bytes (with_unordered runs k p).0 (with_unordered runs k p).1 ms in
     done ∙ rw put (omega arith)

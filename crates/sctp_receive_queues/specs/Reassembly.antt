@@ -54,12 +54,12 @@ saturated_bytes f xs = fold (λ sum x. min (sum + f x) (2 ^ 64 - 1)) 0 xs
 abbrev pub group_of : ChunkPayloadData → Group
 group_of p = record { ssn = p.stream_sequence_number; pieces = p ∷ [] }
 
-abbrev pub place_of_ssn : ℕ → List Group → Option ℕ
-place_of_ssn ssn groups = position (λ (g : Group). g.ssn == ssn) groups
+abbrev pub index_of_ssn : ℕ → List Group → Option ℕ
+index_of_ssn ssn groups = position (λ (g : Group). g.ssn == ssn) groups
 
 -- in front of the first message that is past this SSN, else at the end
-abbrev pub place_for_ssn : ℕ → List Group → ℕ
-place_for_ssn ssn groups = unwrap_or (position (λ (g : Group). ssn_lt ssn g.ssn) groups) (length groups)
+abbrev pub index_for_ssn : ℕ → List Group → ℕ
+index_for_ssn ssn groups = unwrap_or (position (λ (g : Group). ssn_lt ssn g.ssn) groups) (length groups)
 
 abbrev pub grown : Group → ChunkPayloadData → Group
 grown g p = record g { pieces = insert g.pieces (index_of p.tsn g.pieces) p }
@@ -69,12 +69,12 @@ grown_at None index groups p = groups
 grown_at (Some g) index groups p = slice_set groups index (grown g p)
 
 abbrev pub put_at : Option ℕ → List Group → ChunkPayloadData → List Group
-put_at None groups p = insert groups (place_for_ssn p.stream_sequence_number groups) (group_of p)
+put_at None groups p = insert groups (index_for_ssn p.stream_sequence_number groups) (group_of p)
 put_at (Some index) groups p = grown_at (slice_get groups index) index groups p
 
 -- the messages with a piece at its place
 abbrev pub with_ordered : List Group → ChunkPayloadData → List Group
-with_ordered groups p = put_at (place_of_ssn p.stream_sequence_number groups) groups p
+with_ordered groups p = put_at (index_of_ssn p.stream_sequence_number groups) groups p
 
 abbrev pub pieces_of : Option Group → List ChunkPayloadData
 pieces_of None = []
@@ -87,7 +87,7 @@ pieces_at (Some index) groups = pieces_of (slice_get groups index)
 -- why an ordered piece is refused beside those held of its message
 abbrev pub refusal_of_ordered : List Group → ChunkPayloadData → ℕ → Option Error
 refusal_of_ordered groups p limit =
-    refusal_of (pieces_at (place_of_ssn p.stream_sequence_number groups) groups) p limit
+    refusal_of (pieces_at (index_of_ssn p.stream_sequence_number groups) groups) p limit
 
 abbrev pub is_due : ℕ → Option Group → Bool
 is_due next None = false
@@ -140,8 +140,8 @@ bounded (g ∷ gs) ssn tsn =
 -- Unordered messages.
 
 -- in front of the first run that is past this TSN, else at the end
-abbrev pub place_for_tsn : ℕ → List (List ChunkPayloadData) → ℕ
-place_for_tsn tsn runs = unwrap_or (position (λ r. is_past r tsn) runs) (length runs)
+abbrev pub index_for_tsn : ℕ → List (List ChunkPayloadData) → ℕ
+index_for_tsn tsn runs = unwrap_or (position (λ r. is_past r tsn) runs) (length runs)
 
 -- the run in front of a place
 abbrev pub run_before : List (List ChunkPayloadData) → ℕ → List ChunkPayloadData
@@ -192,7 +192,7 @@ refusal_between before p after limit =
 -- why an unordered piece is refused beside those held
 abbrev pub refusal_of_unordered : List (List ChunkPayloadData) → ChunkPayloadData → ℕ → Option Error
 refusal_of_unordered runs p limit =
-    let index = place_for_tsn p.tsn runs in
+    let index = index_for_tsn p.tsn runs in
     refusal_between (run_before runs index) p (run_at runs index) limit
 
 abbrev pub put_between : Bool → Bool → List (List ChunkPayloadData) → ℕ → List ChunkPayloadData
@@ -225,7 +225,7 @@ finished runs index messages =
 abbrev pub unordered_put : List (List ChunkPayloadData) → List ReceivedMessage → ChunkPayloadData
     → List (List ChunkPayloadData) × List ReceivedMessage
 unordered_put runs messages p =
-    let put = with_unordered runs (place_for_tsn p.tsn runs) p in finished put.0 put.1 messages
+    let put = with_unordered runs (index_for_tsn p.tsn runs) p in finished put.0 put.1 messages
 
 -- the pieces past a TSN
 abbrev pub above : ℕ → List ChunkPayloadData → List ChunkPayloadData

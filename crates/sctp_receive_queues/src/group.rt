@@ -4,7 +4,7 @@ ghost use Rattle.std.specs.Prelude.{OnOk, OnErr, IfSome, filter};
 ghost use Rattle.sctp_wire_types.specs.Serial.{ssn_lt};
 ghost use Rattle.sctp_receive_queues.specs.Messages.{message_of};
 ghost use Rattle.sctp_receive_queues.specs.Pieces.{bytes_of, is_complete, refusal_of, is_later, last_of};
-ghost use Rattle.sctp_receive_queues.specs.Reassembly.{group_of, grown, put_at, pieces_at, place_of_ssn, place_for_ssn};
+ghost use Rattle.sctp_receive_queues.specs.Reassembly.{group_of, grown, put_at, pieces_at, index_of_ssn, index_for_ssn};
 ghost use Rattle.sctp_receive_queues.specs.Reassembly.{with_ordered, refusal_of_ordered, bounded, stays};
 
 use crate::Chunks;
@@ -164,7 +164,7 @@ pub(crate) fn put(
 }
 
 fn find(groups: &VecDeque<Group>, ssn: u16) -> Option<usize>
-    ensures found { result ≡ place_of_ssn ssn groups.now.items }
+    ensures found { result ≡ index_of_ssn ssn groups.now.items }
     ensures bound { IfSome result (λ index. index < length groups.now.items) }
 {
     groups.iter().position(|group| group.ssn() == ssn)
@@ -214,7 +214,7 @@ fn add_new(
 
 // In front of the first message that is past this SSN, else at the end.
 fn index_for(groups: &VecDeque<Group>, ssn: u16) -> usize
-    ensures index { result ≡ place_for_ssn ssn groups.now.items }
+    ensures index { result ≡ index_for_ssn ssn groups.now.items }
     ensures bound { result ≤ length groups.now.items }
 {
     match first_past(groups, ssn) {

@@ -5,7 +5,7 @@ ghost use Rattle.std.specs.Prelude.{None, Some, IsOk, IfOk, IfErr, OnOk, OnErr, 
 ghost use Rattle.std.specs.Prelude.{unwrap_or, option_copied, slice_set, ◌++◌, ◌∷◌};
 ghost use Rattle.std.specs.VecDeque.{deque_len, deque_capacity};
 ghost use Rattle.sctp_receive_queues.specs.Pieces.{bytes_of, is_complete, covers, is_past};
-ghost use Rattle.sctp_receive_queues.specs.Reassembly.{run_before, run_at, place_for_tsn, is_torn_before};
+ghost use Rattle.sctp_receive_queues.specs.Reassembly.{run_before, run_at, index_for_tsn, is_torn_before};
 ghost use Rattle.sctp_receive_queues.specs.Reassembly.{is_torn_after, joins_before, joins_after, part, with_unordered};
 ghost use Rattle.sctp_receive_queues.specs.Reassembly.{finished, unordered_put, refusal_of_unordered, refusal_between};
 ghost use Rattle.sctp_receive_queues.specs.Reassembly.{above, trimmed};
@@ -58,7 +58,7 @@ pub(crate) fn put(
 
 // In front of the first run that is past this TSN, else at the end.
 fn index_for(runs: &VecDeque<Pieces>, tsn: u32) -> usize
-    ensures index { result ≡ place_for_tsn tsn runs.now.items }
+    ensures index { result ≡ index_for_tsn tsn runs.now.items }
     ensures bound { result ≤ length runs.now.items }
 {
     match first_past(runs, tsn) {

@@ -1,5 +1,5 @@
 use Rattle.sctp_directions.proofs.Proved.{acts_keep_the_initial_tsns, meetings_are_no_events, opened_streams_are_alike}
-use Rattle.sctp_directions.proofs.Proved.{reads_are_alike, ready_messages_are_alike, reports_say_what_came}
+use Rattle.sctp_directions.proofs.Proved.{reads_are_alike, ready_messages_are_alike, reports_say_what_was_taken}
 use Rattle.sctp_directions.proofs.Proved.{the_same_is_ready, what_comes_leaves_its_own, what_is_taken_in_comes}
 use Rattle.sctp_directions.proofs.what_comes_to_it_are_events.Goals as goal
 
@@ -10,7 +10,7 @@ pub returns-clause-taken : goal.returns-clause-taken
 returns-clause-taken c = what_is_taken_in_comes
 
 pub returns-clause-reports : goal.returns-clause-reports
-returns-clause-reports c = reports_say_what_came
+returns-clause-reports c = reports_say_what_was_taken
 
 pub returns-clause-reads : goal.returns-clause-reads
 returns-clause-reads c = reads_are_alike

@@ -12,6 +12,6 @@ pub returns-clause-front : goal.returns-clause-front
 returns-clause-front c = if_ok c.run.result _ _ c.run.ensures.front (λ replies h.
     h c.args.max_payload_size c.args.max_payload_size [] [] c.in_ok-pair.ensures.new)
 
-pub returns-clause-brought : goal.returns-clause-brought
-returns-clause-brought c = if_ok c.run.result _ _ c.run.ensures.brought (λ replies h.
+pub returns-clause-undelivered : goal.returns-clause-undelivered
+returns-clause-undelivered c = if_ok c.run.result _ _ c.run.ensures.undelivered (λ replies h.
     h c.args.max_payload_size c.args.max_payload_size [] [] c.in_ok-pair.ensures.new)

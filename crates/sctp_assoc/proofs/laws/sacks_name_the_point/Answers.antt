@@ -1,4 +1,4 @@
-use Rattle.sctp_assoc.proofs.DueSacks.{due_sacks_go_out, sacks_are_spelled, sacks_offer_the_buffer, sacks_say_what_came}
+use Rattle.sctp_assoc.proofs.DueSacks.{due_sacks_go_out, sacks_are_spelled, sacks_offer_the_buffer, sacks_say_what_was_taken}
 use Rattle.sctp_assoc.proofs.laws.sacks_name_the_point.Goals as goal
 
 pub returns-clause-due : goal.returns-clause-due
@@ -8,7 +8,7 @@ pub returns-clause-spelled : goal.returns-clause-spelled
 returns-clause-spelled c = sacks_are_spelled
 
 pub returns-clause-said : goal.returns-clause-said
-returns-clause-said c = sacks_say_what_came
+returns-clause-said c = sacks_say_what_was_taken
 
 pub returns-clause-window : goal.returns-clause-window
 returns-clause-window c = sacks_offer_the_buffer

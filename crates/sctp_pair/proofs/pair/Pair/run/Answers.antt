@@ -1,4 +1,4 @@
-use Rattle.sctp_pair.specs.Callers.{ComesOn, HoldsOn, NothingIsReadUnbrought, ReadsAreFronts}
+use Rattle.sctp_pair.specs.Callers.{ComesOn, HoldsOn, NothingIsReadBeforeADelivery, ReadsAreFronts}
 use Rattle.sctp_pair.specs.Steps.{Runs}
 use Rattle.sctp_pair.proofs.Callers.{comes_on, fronts_on, unbrought_on}
 use Rattle.sctp_pair.proofs.AnsweredValues.{if_ok}
@@ -19,10 +19,10 @@ returns-clause-front c =
     (λ replies. HoldsOn ReadsAreFronts c.args.steps.now replies.items c.args.self.now) c.carry_out_all.ensures.ok
     (λ replies led. fronts_on c.args.steps.now replies.items c.args.self.now c.carry_out_all.new.self led)
 
-pub returns-clause-brought : goal.returns-clause-brought
-returns-clause-brought c =
+pub returns-clause-undelivered : goal.returns-clause-undelivered
+returns-clause-undelivered c =
     if_ok c.carry_out_all.result
     (λ replies. Runs c.args.steps.now replies.items c.args.self.now c.carry_out_all.new.self)
-    (λ replies. HoldsOn NothingIsReadUnbrought c.args.steps.now replies.items c.args.self.now)
+    (λ replies. HoldsOn NothingIsReadBeforeADelivery c.args.steps.now replies.items c.args.self.now)
     c.carry_out_all.ensures.ok
     (λ replies led. unbrought_on c.args.steps.now replies.items c.args.self.now c.carry_out_all.new.self led)

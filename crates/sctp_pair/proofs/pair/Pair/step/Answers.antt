@@ -19,7 +19,7 @@ returns-clause-front c =
     fronts_on (c.args.step.now ∷ []) (c.carry_out.result ∷ []) c.args.self.now c.carry_out.new.self
     (c.carry_out.new.self, c.carry_out.ensures, refl)
 
-pub returns-clause-brought : goal.returns-clause-brought
-returns-clause-brought c =
+pub returns-clause-undelivered : goal.returns-clause-undelivered
+returns-clause-undelivered c =
     unbrought_on (c.args.step.now ∷ []) (c.carry_out.result ∷ []) c.args.self.now c.carry_out.new.self
     (c.carry_out.new.self, c.carry_out.ensures, refl)

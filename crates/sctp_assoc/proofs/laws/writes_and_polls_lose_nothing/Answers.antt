@@ -1,5 +1,5 @@
 use Rattle.sctp_assoc.proofs.WrittenIsHeld.{polls_keep_what_is_held, writes_are_held}
-use Rattle.sctp_assoc.proofs.laws.what_is_written_is_held.Goals as goal
+use Rattle.sctp_assoc.proofs.laws.writes_and_polls_lose_nothing.Goals as goal
 
 pub returns-clause-written : goal.returns-clause-written
 returns-clause-written c = writes_are_held

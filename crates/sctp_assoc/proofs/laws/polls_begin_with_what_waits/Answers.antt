@@ -1,5 +1,5 @@
-use Rattle.sctp_assoc.proofs.WaitingGoesOut.{what_waits_goes_out, what_waits_is_given, what_waits_is_polled}
-use Rattle.sctp_assoc.proofs.laws.what_waits_goes_out.Goals as goal
+use Rattle.sctp_assoc.proofs.WaitingGoesOut.{polls_begin_with_what_waits, what_waits_is_given, what_waits_is_polled}
+use Rattle.sctp_assoc.proofs.laws.polls_begin_with_what_waits.Goals as goal
 
 pub returns-clause-polled : goal.returns-clause-polled
 returns-clause-polled c = what_waits_is_polled
@@ -8,4 +8,4 @@ pub returns-clause-given : goal.returns-clause-given
 returns-clause-given c = what_waits_is_given
 
 pub returns-clause-packet : goal.returns-clause-packet
-returns-clause-packet c = what_waits_goes_out
+returns-clause-packet c = polls_begin_with_what_waits
