@@ -1,14 +1,7 @@
 //! Carries out a session of two associations: one step a line on standard input, one reply a line on standard output.
 #![tactic(auto)]
 
-mod line;
-mod session;
-mod setting;
-mod show;
-#[cfg(test)]
-mod tests;
-
-use session::session;
+use assoc_session::session;
 use std::process::ExitCode;
 
 fn main(rt: HostRuntime) -> ExitCode {

@@ -84,6 +84,7 @@ pub use laws::{
     only_named_causes_close, packets_lead_on, sacks_name_the_point, timers_run_where_they_should,
     writes_and_polls_lose_nothing, polls_begin_with_what_waits,
 };
+pub use sctp_inbound::SUPPORTED_EXTENSIONS;
 pub use sctp_parts::estimate::RtoManager;
 pub use sctp_parts::shared::{AssociationId, EndpointEvent, IssuedAid};
 pub use sctp_parts::state::{AckMode, AckState, AssociationState};

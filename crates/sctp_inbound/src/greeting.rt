@@ -8,9 +8,9 @@ use bytes::Bytes;
 use sctp_wire_types::{ChunkHeartbeat, ChunkInit, List, Param};
 use std::alloc::{AllocError, Global};
 
-/// The extensions that an INIT or INIT ACK lists: RE-CONFIG (RFC 6525) and FORWARD TSN (RFC 3758), by their chunk
-/// types.
-static EXTENSIONS: [u8; 2] = [130, 192];
+/// The extensions that an INIT or INIT ACK lists, and that a token is to list: RE-CONFIG (RFC 6525) and FORWARD TSN
+/// (RFC 3758), by their chunk types.
+pub static SUPPORTED_EXTENSIONS: [u8; 2] = [130, 192];
 
 impl Handshake {
     /// The INIT with this offer (RFC 4960 section 3.3.2).
@@ -18,7 +18,7 @@ impl Handshake {
         ensures { IfOk result (λ init. init ≡ init_of self.now offer) }
     {
         let mut params = List::new(alloc);
-        params.push(Param::SupportedExtensions(Bytes::from_static(&EXTENSIONS)))?;
+        params.push(Param::SupportedExtensions(Bytes::from_static(&SUPPORTED_EXTENSIONS)))?;
         Ok(ChunkInit {
             initiate_tag: self.my_verification_tag,
             advertised_receiver_window_credit: offer.window,
@@ -35,7 +35,7 @@ impl Handshake {
     {
         let mut params = List::new(alloc);
         params.push(Param::StateCookie(self.cookie.clone()?))?;
-        params.push(Param::SupportedExtensions(Bytes::from_static(&EXTENSIONS)))?;
+        params.push(Param::SupportedExtensions(Bytes::from_static(&SUPPORTED_EXTENSIONS)))?;
         Ok(ChunkInit {
             initiate_tag: self.my_verification_tag,
             advertised_receiver_window_credit: window,

@@ -5,6 +5,6 @@ mod greeting;
 mod handshake;
 mod receiver;
 
-pub use greeting::{heartbeat_ack, heartbeat_information, state_cookie};
+pub use greeting::{SUPPORTED_EXTENSIONS, heartbeat_ack, heartbeat_information, state_cookie};
 pub use handshake::{Handshake, Offer};
 pub use receiver::{AckTrigger, Receiver};

@@ -1,7 +1,9 @@
 // The setting in which every session runs.
 use crate::line::Beginning;
 use bytes::Bytes;
-use sctp_assoc::{ChunkInit, Error, Instant, ServerConfig, TransportConfig};
+use sctp_assoc::{
+    ChunkInit, Error, Instant, SUPPORTED_EXTENSIONS, ServerConfig, TransportConfig,
+};
 use sctp_pair::Pair;
 use sctp_wire_queues::{List, Param};
 use std::alloc::{AllocError, Global};
@@ -11,9 +13,6 @@ use std::net::{IpAddr, Ipv4Addr, SocketAddr};
 const TAG_A: u32 = 1;
 
 const TAG_B: u32 = 2;
-
-/// RE-CONFIG and FORWARD TSN, the extensions that both sides list.
-static EXTENSIONS: [u8; 2] = [130, 192];
 
 /// The State Cookie of either side.
 const COOKIE: [u8; 32] = [67; 32];
@@ -93,14 +92,14 @@ pub fn snapped_under(
 }
 
 /// What one side offers, as an INIT would say it.
-pub fn token(
+fn token(
     alloc: Global,
     config: &TransportConfig,
     initiate_tag: u32,
     initial_tsn: u32,
 ) -> Result<ChunkInit, AllocError> {
     let mut params = List::new(alloc);
-    params.push(Param::SupportedExtensions(Bytes::from_static(&EXTENSIONS)))?;
+    params.push(Param::SupportedExtensions(Bytes::from_static(&SUPPORTED_EXTENSIONS)))?;
     Ok(ChunkInit {
         initiate_tag,
         advertised_receiver_window_credit: config.max_receive_buffer_size(),
@@ -112,6 +111,6 @@ pub fn token(
 }
 
 /// An address of the documentation range, at port 5000.
-pub fn address(host: u8) -> SocketAddr {
+fn address(host: u8) -> SocketAddr {
     SocketAddr::new(IpAddr::V4(Ipv4Addr::new(192, 0, 2, host)), 5000)
 }

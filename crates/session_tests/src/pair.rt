@@ -1,8 +1,5 @@
 // A run of a pair, and what its readers show.
-use crate::line::{Line, parse};
-use crate::setting::{snapped, snapped_under};
-use crate::show::show;
-use crate::tests::association::standing;
+use assoc_session::{Line, parse, show, snapped, snapped_under};
 use sctp_assoc::{Association, AssociationState, Error, TransportConfig};
 use sctp_pair::{Pair, Reply, Side2, Step};
 use std::alloc::{AllocError, Global};
@@ -86,7 +83,7 @@ fn received(alloc: Global, limit: u32) -> Result<(String, AssociationState), Err
     let config = TransportConfig::default().with_max_receive_message_size(limit);
     let mut pair = snapped_under(alloc, &config, 1200, 100, 500)?;
     let text = replies_to(alloc, &mut pair, SHORT_STEPS)?;
-    let (state, _) = standing(pair.association(Side2::B));
+    let state = pair.association(Side2::B).state();
     Ok((text, state))
 }
 

@@ -1,6 +1,6 @@
 // Whole sessions over memory: output, errors and status are compared. The stored run of the program is one more: one
 // message and its acknowledgement.
-use crate::session::session;
+use assoc_session::session;
 use std::alloc::{AllocError, Global};
 use std::process::Abort;
 use std::test::Fail;

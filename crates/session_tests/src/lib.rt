@@ -1,0 +1,7 @@
+//! Tests of whole sessions of two associations, and of a pair's replies, packets and counts.
+#![tactic(auto)]
+
+#[cfg(test)]
+mod pair;
+#[cfg(test)]
+mod sessions;
