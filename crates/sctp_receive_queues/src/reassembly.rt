@@ -86,6 +86,20 @@ impl ReassemblyQueue {
         Ok(true)
     }
 
+    /// Why the pieces held, or their bytes, refuse a piece (`ErrContradictoryPieces`, `ErrInboundMessageTooLarge`); None
+    /// where neither does.
+    pub fn refusal(&self, piece: &ChunkPayloadData, limit: u32) -> Option<Error>
+        ensures { result ≡ refusal self.now piece.now limit }
+    {
+        if piece.unordered {
+            return runs::refusal_of(&self.unordered, piece, limit);
+        }
+        if sna16lt(piece.stream_sequence_number, self.next_ssn) {
+            return None;
+        }
+        group::refusal(&self.ordered, piece, limit)
+    }
+
     fn push_ordered(&mut self, piece: ChunkPayloadData, limit: u32) -> Result<(), Error>
         ensures pushed { OnOk result
             (self.new ≡ (let q = self.old in record q { ordered = with_ordered q.ordered piece })) }

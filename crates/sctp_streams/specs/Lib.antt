@@ -1,4 +1,3 @@
-pub mod Lending
 pub mod Stats
 pub mod Stream
 pub mod Streams

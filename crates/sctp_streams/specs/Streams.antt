@@ -1,6 +1,6 @@
 -- The live streams of an association and their generations.
 use Rattle.std.specs.Prelude.{ℕ, Bool, true, false, ◌==◌, if◌then◌else◌, List, [], ◌∷◌, ◌+◌, ◌-◌, ◌^◌, fold, map, min}
-use Rattle.std.specs.Prelude.{nat_lt, Option, Some, None}
+use Rattle.std.specs.Prelude.{nat_lt, sum_by, Option, Some, None}
 use Rattle.std.specs.Ordering.{nat_cmp}
 use Rattle.std.specs.BTreeMap.{is_at, insert_entry}
 use Rattle.std.specs.Map.{lookup, set_value}
@@ -97,6 +97,10 @@ made m id first kind = record {
 -- the live streams, identifiers ascending
 abbrev pub live_streams : StreamMap → List StreamView
 live_streams m = map (λ e. e.1) m.by_id
+
+-- the bytes that came and were not read, of some streams by their identifiers
+abbrev pub waiting_in : List (ℕ × StreamView) → ℕ
+waiting_in es = sum_by (λ (s : StreamView). reassembly.bytes_waiting s.reassembly) (map (λ e. e.1) es)
 
 -- the bytes that came and were not read, at most the greatest number of 64 bits
 abbrev pub bytes_waiting : StreamMap → ℕ

@@ -246,6 +246,13 @@ impl StreamState {
         self.next_ssn = 0;
     }
 
+    /// Why what is held of this stream refuses a piece, if it does.
+    pub fn refusal(&self, piece: &ChunkPayloadData, limit: u32) -> Option<Error>
+        ensures { result ≡ refusal self.now.reassembly piece.now limit }
+    {
+        self.reassembly.refusal(piece, limit)
+    }
+
     /// Keeps a message that came, where its SSN is not an old one, and answers whether it did.
     pub fn push(&mut self, piece: ChunkPayloadData, limit: u32) -> Result<bool, Error>
         ensures pushed { IfOk result (λ kept. stream_pushed self.old piece ≡ (self.new, kept)) }

@@ -1,13 +1,11 @@
 // The live streams of an association.
 ghost use Rattle.std.specs.Prelude.{◌≡◌, ◌==◌, true, false, if◌then◌else◌, length, IfOk, OnOk, OnErr, is_some, IsOk};
 ghost use Rattle.std.specs.Prelude.{IfErr, ◌⊎◌, Some, None};
-ghost use Rattle.std.specs.Option.{option_copied, option_copied_mut};
-ghost use Rattle.std.specs.Borrow.{sem};
+ghost use Rattle.std.specs.Option.{option_copied};
 ghost use Rattle.sctp_streams.specs.Streams.{no_stream, stream_at, has_room, made, generation_left, bytes_waiting};
 ghost use Rattle.sctp_streams.specs.Streams.{first_ended, changed_stream, released_in, is_generation, pushed_in};
 ghost use Rattle.sctp_streams.specs.Streams.{refusal_in, read_in, is_readable_in};
 ghost use Rattle.sctp_streams.specs.Stream.{accepted_by};
-ghost use Rattle.sctp_streams.specs.Lending.{LendsStream};
 
 use crate::{DataChannelStats, StreamState};
 use sctp_receive_queues::Chunks;
@@ -21,14 +19,19 @@ use std::marker::Model;
 pub struct Streams {
     by_id: BTreeMap<StreamId, StreamState>,
     next_generation: u64,
+    // Bytes that came and were not read, of all of these streams.
+    waiting: u64,
 }
 
 impl Model for Streams {
-    ghost use Rattle.sctp_streams.specs.Streams.{StreamMap};
+    ghost use Rattle.std.specs.Prelude.{◌≡◌};
+    ghost use Rattle.sctp_streams.specs.Streams.{StreamMap, waiting_in};
 
     ghost Value = { StreamMap };
 
     ghost view = { λ s. record { by_id = s.by_id.entries; next_generation = s.next_generation } };
+
+    ghost invariant = { λ s. s.waiting ≡ waiting_in s.by_id.entries };
 }
 
 impl Streams {
@@ -39,6 +42,7 @@ impl Streams {
         Streams {
             by_id: BTreeMap::new(alloc),
             next_generation: 0,
+            waiting: 0,
         }
     }
 
@@ -56,14 +60,6 @@ impl Streams {
         self.by_id.get(&id)
     }
 
-    /// The live stream of this identifier, to be changed.
-    pub fn get_mut(&mut self, id: StreamId) -> Option<&mut StreamState>
-        ensures* lends { sem 𝓛 (LendsStream self.entry id result) }
-        ensures value { option_copied_mut result ≡ stream_at self.old id }
-    {
-        self.by_id.get_mut(&id)
-    }
-
     /// Counts a message as accepted on a live stream. Refused, with nothing changed, where more bytes would be buffered
     /// there than a u64 can say: that counts as want of memory.
     #[tactic(auto, using(std::proofs::lemmas::Map::Steps::set_value_same))]
@@ -78,7 +74,7 @@ impl Streams {
         ensures fits { IsOk result → has_room (stream_at self.old id) bytes ≡ true }
         ensures unchanged { OnErr result (self.new ≡ self.old) }
     {
-        if let Some(stream) = self.get_mut(id) {
+        if let Some(stream) = self.by_id.get_mut(&id) {
             stream.accept(payload_type, bytes)?;
         }
         Ok(())
@@ -89,7 +85,7 @@ impl Streams {
         ensures { self.new ≡ released_in self.old id generation bytes }
     {
         if self.is_live(id, generation) {
-            if let Some(stream) = self.get_mut(id) {
+            if let Some(stream) = self.by_id.get_mut(&id) {
                 stream.on_buffer_released(bytes);
             }
         }
@@ -105,7 +101,7 @@ impl Streams {
     }
 
     /// Keeps a piece that came on a live stream, and answers whether it did; false where the stream is not live.
-    /// Where it is refused nothing changes.
+    /// Where it is refused nothing changes. Where more bytes would wait than a u64 can say, that counts as want of memory.
     #[tactic(auto, using(std::proofs::lemmas::Map::Steps::set_value_same))]
     pub fn push(&mut self, id: StreamId, piece: ChunkPayloadData, limit: u32) -> Result<bool, Error>
         ensures pushed { IfOk result (λ kept. pushed_in self.old id piece ≡ (self.new, kept)) }
@@ -114,20 +110,29 @@ impl Streams {
         ensures refused { IfErr result (λ e. ((e ≡ Error.ErrNoMemory) × (refusal_in self.old id piece limit ≡ None))
             ⊎ (refusal_in self.old id piece limit ≡ Some e)) }
     {
-        match self.get_mut(id) {
-            Some(stream) => stream.push(piece, limit),
-            None => Ok(false),
+        let Some(stream) = self.by_id.get_mut(&id) else {
+            return Ok(false);
+        };
+        let Some(waiting) = self.waiting.checked_add(piece.user_data.len() as u64) else {
+            return match stream.refusal(&piece, limit) {
+                Some(error) => Err(error),
+                None => Err(Error::ErrNoMemory),
+            };
+        };
+        let kept = stream.push(piece, limit)?;
+        if kept {
+            self.waiting = waiting;
         }
+        Ok(kept)
     }
 
     /// Takes out the message of a live stream that is to be read next.
     pub fn read(&mut self, id: StreamId) -> Option<Chunks>
         ensures { read_in self.old id ≡ (self.new, result) }
     {
-        match self.get_mut(id) {
-            Some(stream) => stream.read(),
-            None => None,
-        }
+        let message = self.by_id.get_mut(&id)?.read()?;
+        self.waiting = self.waiting.saturating_sub(message.len() as u64);
+        Some(message)
     }
 
     /// Whether a stream is live and a message of it can be read.
@@ -173,7 +178,9 @@ impl Streams {
             first_message_id,
             default_payload_type,
         );
-        self.by_id.insert(id, stream)?;
+        if let Some(replaced) = self.by_id.insert(id, stream)? {
+            self.waiting = self.waiting.saturating_sub(replaced.waiting_bytes());
+        }
         self.next_generation += 1;
         Ok(())
     }
@@ -182,10 +189,7 @@ impl Streams {
     pub fn waiting_bytes(&self) -> u64
         ensures { result ≡ bytes_waiting self.now }
     {
-        self.by_id.values().fold(
-            0u64,
-            |sum, stream| sum.saturating_add(stream.waiting_bytes()),
-        )
+        self.waiting
     }
 
     /// Number of live streams.
@@ -206,6 +210,7 @@ impl Streams {
         ensures { first_ended self.old ≡ (self.new, result) }
     {
         let (_, stream) = self.by_id.pop_first()?;
+        self.waiting = self.waiting.saturating_sub(stream.waiting_bytes());
         Some(stream.stats())
     }
 }
