@@ -1,5 +1,6 @@
 pub mod BoundedSkips
 pub mod HeldMessages
+pub mod IndexRecursion
 pub mod LawsInEvents
 pub mod MessageRuns
 pub mod OffsetRuns
@@ -7,7 +8,6 @@ pub mod OrderedArrives
 pub mod OrderedPut
 pub mod PieceChains
 pub mod PiecePlace
-pub mod PlaceRecursion
 pub mod ReadAnswers
 pub mod ReadsAlike
 pub mod ReadyAlike

@@ -21,7 +21,7 @@ use Rattle.sctp_reassembly.specs.Laws.{OrderedPiecesStand}
 use Rattle.sctp_reassembly.specs.Stands.{Held, CarriesData, IsOf, AreGroups, offsets_in, StandsFor, IsInWindow}
 use Rattle.sctp_reassembly.specs.Stands.{IsForBytesAlone}
 use Rattle.sctp_reassembly.proofs.HeldMessages.{IsAlone, all_alone, in_from, there_from}
-use Rattle.sctp_reassembly.proofs.PlaceRecursion.{with_ordered_is}
+use Rattle.sctp_reassembly.proofs.IndexRecursion.{with_ordered_is}
 use Rattle.sctp_reassembly.proofs.OrderedPut.{AreNear, fits_there, groups_in, mem_put_in, put_in, rising_in, split}
 use Rattle.sctp_reassembly.proofs.ReadsAlike.{in_window}
 

@@ -15,8 +15,8 @@ use Rattle.sctp_model.specs.Invariants.{IsPlanned}
 use Rattle.sctp_model.proofs.Lists.{all_weaker, mem_neither, mem-join}
 use Rattle.sctp_model.proofs.NumberWindows.{before_is, same_is}
 use Rattle.sctp_reassembly.specs.Stands.{Held, CarriesData, CarryDataOf, IsOf, IsGroup, AreGroups, offsets_in, numbers_in}
-use Rattle.sctp_reassembly.proofs.PlaceRecursion.{AreOthers, AreSplit, entered, grown_is, position_here, position_later}
-use Rattle.sctp_reassembly.proofs.PlaceRecursion.{up_one}
+use Rattle.sctp_reassembly.proofs.IndexRecursion.{AreOthers, AreSplit, entered, grown_is, position_here, position_later}
+use Rattle.sctp_reassembly.proofs.IndexRecursion.{up_one}
 use Rattle.sctp_reassembly.proofs.PiecePlace.{all_put, mem_put, piece_fits, put_offset, rising_put, said_put, some_put}
 use Rattle.sctp_reassembly.proofs.PiecePlace.{swap_or}
 

@@ -17,7 +17,7 @@ use Rattle.sctp_model.specs.Invariants.{IsPlanned}
 use Rattle.sctp_model.proofs.Lists.{all_weaker}
 use Rattle.sctp_reassembly.specs.Stands.{CarryDataOf, CarriesData, IsOf}
 use Rattle.sctp_reassembly.proofs.PieceChains.{apart, not_last, one_message, same_text}
-use Rattle.sctp_reassembly.proofs.PlaceRecursion.{position_here, position_later, put_before, up_one}
+use Rattle.sctp_reassembly.proofs.IndexRecursion.{position_here, position_later, put_before, up_one}
 use Rattle.sctp_reassembly.proofs.TsnOrder.{tsn_before, tsn_same}
 use Rattle.sctp_reassembly.proofs.WholeMessages.{last_later}
 

@@ -16,7 +16,7 @@ use Rattle.sctp_model.specs.Serial.{tsn}
 use Rattle.sctp_model.proofs.Lists.{all_back, all_front}
 use Rattle.sctp_reassembly.specs.Stands.{AreRuns, CarryDataOf, CarriesData, leads, led}
 use Rattle.sctp_reassembly.proofs.PiecePlace.{unwrap_up}
-use Rattle.sctp_reassembly.proofs.PlaceRecursion.{position_here, position_later}
+use Rattle.sctp_reassembly.proofs.IndexRecursion.{position_here, position_later}
 use Rattle.sctp_reassembly.proofs.OffsetRuns.{last_leads, meet, meet_last, met}
 use Rattle.sctp_reassembly.proofs.TsnOrder.{tsn_before, tsn_next}
 use Rattle.sctp_reassembly.proofs.WholeMessages.{last_later}
