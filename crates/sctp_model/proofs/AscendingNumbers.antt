@@ -14,7 +14,7 @@ use Rattle.sctp_model.proofs.OffsetPlaces.{place_new, placed_cases}
 pub ascending_later : (p : Plan) (current : Option Place) (ssn : ℕ → ℕ) (reach reach' : ℕ) → reach ≤ reach'
     → IsAscending p current ssn reach → IsAscending p current ssn reach'
 ascending_later p current ssn reach reach' on h = record {
-  ascends = λ s o q from le a b. h.ascends s o q (omega arith) le a b;
+  ascends = λ s o q from. h.ascends s o q (omega arith);
   below = λ s o from a. h.below s o (omega arith) a;
   going = h.going;
 }
@@ -38,58 +38,60 @@ ascending_message p s m current ssn reach known going h = record {
     e : IsExtended p q
     e = message_extended p s m known
 
--- y gets the next offset
-pub ascending_placed : (p : Plan) (y : Place) (current current' : Option Place) (ssn ssn' : ℕ → ℕ) (reach : ℕ)
-    → ((o : ℕ) → o < length p.places → (place_at p o).message < length (p.accepted (place_at p o).stream))
-    → IsAscending p current ssn reach → ((s : ℕ) → ssn s ≤ ssn' s)
-    → ((message_of p y).ordered ≡ true → y.ssn < ssn' y.stream)
-    → ((message_of p y).ordered ≡ true → (o : ℕ) → reach ≤ o → IsAt p y.stream true o → (place_at p o).ssn ≤ y.ssn)
-    → ((z : Place) → current' ≡ Some z → (message_of p z).ordered ≡ true → z.ssn < ssn' z.stream)
-    → IsAscending (with_place p y) current' ssn' reach
-ascending_placed p y current current' ssn ssn' reach known h more mine last going = record {
-  ascends = ascends;
-  below = λ s o from a. ⊎_elim
-      (λ (b : o < length p.places). subst (λ z. z.ssn < ssn' s) (sym (old o b))
-      (let c = h.below s o from (at_before p q e s o true b a) in let u = more s in omega arith))
-      (λ (b : length p.places ≡ o). subst (λ z. z.ssn < ssn' s) (sym (new o b))
-      (subst (λ z. y.ssn < ssn' z) (stream s o b a) (mine (kind s o b a))))
-      (placed_cases p y o a.known);
-  going = going;
-}
-  where
-    q : Plan
-    q = with_place p y
+module _ {p : Plan} (y : Place) {current : Option Place} (current' : Option Place) {ssn : ℕ → ℕ} (ssn' : ℕ → ℕ)
+    {reach : ℕ}
+    (known : (o : ℕ) → o < length p.places → (place_at p o).message < length (p.accepted (place_at p o).stream))
+    (h : IsAscending p current ssn reach) where
+  -- y gets the next offset
+  pub ascending_placed : ((s : ℕ) → ssn s ≤ ssn' s) → ((message_of p y).ordered ≡ true → y.ssn < ssn' y.stream)
+      → ((message_of p y).ordered ≡ true → (o : ℕ) → reach ≤ o → IsAt p y.stream true o → (place_at p o).ssn ≤ y.ssn)
+      → ((z : Place) → current' ≡ Some z → (message_of p z).ordered ≡ true → z.ssn < ssn' z.stream)
+      → IsAscending (with_place p y) current' ssn' reach
+  ascending_placed more mine last going = record {
+    ascends = ascends;
+    below = λ s o from a. ⊎_elim
+        (λ (b : o < length p.places). subst (λ z. z.ssn < ssn' s) (sym (old o b))
+        (let c = h.below s o from (at_before p q e s o true b a) in let u = more s in omega arith))
+        (λ (b : length p.places ≡ o). subst (λ z. z.ssn < ssn' s) (sym (new o b))
+        (subst (λ z. y.ssn < ssn' z) (stream s o b a) (mine (kind s o b a))))
+        (placed_cases p y o a.known);
+    going = going;
+  }
+    where
+      q : Plan
+      q = with_place p y
 
-    e : IsExtended p q
-    e = place_extended p y known
+      e : IsExtended p q
+      e = place_extended p y known
 
-    old : (o : ℕ) → o < length p.places → place_at q o ≡ place_at p o
-    old o l = e.places o l
+      old : (o : ℕ) → o < length p.places → place_at q o ≡ place_at p o
+      old o l = e.places o l
 
-    new : (o : ℕ) → length p.places ≡ o → place_at q o ≡ y
-    new o c = place_new p y o c
+      new : (o : ℕ) → length p.places ≡ o → place_at q o ≡ y
+      new o c = place_new p y o c
 
-    stream : (s o : ℕ) → length p.places ≡ o → IsAt q s true o → y.stream ≡ s
-    stream s o b a = sym (ap (λ z. z.stream) (new o b)) ∙ a.stream
+      stream : (s o : ℕ) → length p.places ≡ o → IsAt q s true o → y.stream ≡ s
+      stream s o b a = sym (ap (λ z. z.stream) (new o b)) ∙ a.stream
 
-    kind : (s o : ℕ) → length p.places ≡ o → IsAt q s true o → (message_of p y).ordered ≡ true
-    kind s o b a = sym (ap (λ z. (message_of p z).ordered) (new o b)) ∙ a.kind
+      kind : (s o : ℕ) → length p.places ≡ o → IsAt q s true o → (message_of p y).ordered ≡ true
+      kind s o b a = sym (ap (λ z. (message_of p z).ordered) (new o b)) ∙ a.kind
 
-    ascends : (s o r : ℕ) → reach ≤ o → o ≤ r → IsAt q s true o → IsAt q s true r
-        → (place_at q o).ssn ≤ (place_at q r).ssn
-    ascends s o r from le ao ar = ⊎_elim
-        (λ (b : r < length p.places).
-        let a : o < length p.places = omega arith in
-        subst (λ z. z.ssn ≤ (place_at q r).ssn) (sym (old o a)) (subst (λ z. (place_at p o).ssn ≤ z.ssn) (sym (old r b))
-        (h.ascends s o r from le (at_before p q e s o true a ao) (at_before p q e s r true b ar))))
-        (λ (b : length p.places ≡ r). ⊎_elim
-        (λ (a : o < length p.places). subst (λ z. z.ssn ≤ (place_at q r).ssn) (sym (old o a))
-        (subst (λ z. (place_at p o).ssn ≤ z.ssn) (sym (new r b))
-        (last (kind s r b ar) o from
-        (subst (λ z. IsAt p z true o) (sym (stream s r b ar)) (at_before p q e s o true a ao)))))
-        (λ (a : length p.places ≡ o). subst (λ z. (place_at q o).ssn ≤ (place_at q z).ssn) (sym a ∙ b) (omega arith))
-        (placed_cases p y o ao.known))
-        (placed_cases p y r ar.known)
+      ascends : (s o r : ℕ) → reach ≤ o → o ≤ r → IsAt q s true o → IsAt q s true r
+          → (place_at q o).ssn ≤ (place_at q r).ssn
+      ascends s o r from le ao ar = ⊎_elim
+          (λ (b : r < length p.places).
+          let a : o < length p.places = omega arith in
+          subst (λ z. z.ssn ≤ (place_at q r).ssn) (sym (old o a))
+          (subst (λ z. (place_at p o).ssn ≤ z.ssn) (sym (old r b))
+          (h.ascends s o r from le (at_before p q e s o true a ao) (at_before p q e s r true b ar))))
+          (λ (b : length p.places ≡ r). ⊎_elim
+          (λ (a : o < length p.places). subst (λ z. z.ssn ≤ (place_at q r).ssn) (sym (old o a))
+          (subst (λ z. (place_at p o).ssn ≤ z.ssn) (sym (new r b))
+          (last (kind s r b ar) o from
+          (subst (λ z. IsAt p z true o) (sym (stream s r b ar)) (at_before p q e s o true a ao)))))
+          (λ (a : length p.places ≡ o). subst (λ z. (place_at q o).ssn ≤ (place_at q z).ssn) (sym a ∙ b) (omega arith))
+          (placed_cases p y o ao.known))
+          (placed_cases p y r ar.known)
 
 -- a stream's next number, after it was used
 pub counted_more : (ssn : ℕ → ℕ) (s t : ℕ) → ssn t ≤ put ssn s (suc (ssn s)) t

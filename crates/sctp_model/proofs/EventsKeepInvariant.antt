@@ -57,7 +57,7 @@ abandon_step w s i c e can h = go c e
     freed : w.sender.released s + unacknowledged w.sender s i
         ≡ released_bytes w.sender.plan w.sender.acknowledged (put_2 w.sender.gone s i) s
     freed =
-        released_given w.sender.plan w.over w.sender.acknowledged w.sender.gone s i (w.sender.released s) h.planned
+        released_given w.sender.acknowledged w.sender.gone s i (w.sender.released s) h.planned
         stays (ltb-true _ _ parts.0) (h.released s)
 
     some_same : (y z : Place) → Some y ≡ Some z → y ≡ z

@@ -41,26 +41,27 @@ back p over (suc n) o j h l e =
       },
     )
 
-pub between : (p : Plan) (over : ℕ → Bool) (a b c : ℕ) → IsPlanned p over → a ≤ b → b ≤ c → c < length p.places
-    → (place_at p a).stream ≡ (place_at p c).stream → (place_at p a).message ≡ (place_at p c).message
-    → ((place_at p b).stream ≡ (place_at p a).stream) × ((place_at p b).message ≡ (place_at p a).message)
-between p over a b c h ab bc l st m =
-    let fa = back p over (place_at p a).piece a 0 h (omega arith) (omega arith) in
-    let fc = back p over (place_at p c).piece c 0 h l (omega arith) in
-    let ka = fa.1 in
-    let kc = fc.1 in
-    let ia = ka.is in
-    let ic = kc.is in
-    let same : fa.0 ≡ fc.0 =
-    h.one fa.0 fc.0 (omega arith) (omega arith) (ka.stream ∙ st ∙ sym kc.stream) (ka.message ∙ m ∙ sym kc.message)
-    (ka.piece ∙ sym kc.piece) in
-    let fb = back p over (c - b) c ((place_at p c).piece - (c - b)) h l (omega arith) in
-    let kb = fb.1 in
-    let ib = kb.is in
-    let here : fb.0 ≡ b = omega arith in (
-      sym (ap (λ z. (place_at p z).stream) here) ∙ kb.stream ∙ sym st,
-      sym (ap (λ z. (place_at p z).message) here) ∙ kb.message ∙ sym m,
-    )
+module _ {p : Plan} {over : ℕ → Bool} (a b c : ℕ) (h : IsPlanned p over) where
+  pub between : a ≤ b → b ≤ c → c < length p.places → (place_at p a).stream ≡ (place_at p c).stream
+      → (place_at p a).message ≡ (place_at p c).message
+      → ((place_at p b).stream ≡ (place_at p a).stream) × ((place_at p b).message ≡ (place_at p a).message)
+  between ab bc l st m =
+      let fa = back p over (place_at p a).piece a 0 h (omega arith) (omega arith) in
+      let fc = back p over (place_at p c).piece c 0 h l (omega arith) in
+      let ka = fa.1 in
+      let kc = fc.1 in
+      let ia = ka.is in
+      let ic = kc.is in
+      let same : fa.0 ≡ fc.0 =
+      h.one fa.0 fc.0 (omega arith) (omega arith) (ka.stream ∙ st ∙ sym kc.stream) (ka.message ∙ m ∙ sym kc.message)
+      (ka.piece ∙ sym kc.piece) in
+      let fb = back p over (c - b) c ((place_at p c).piece - (c - b)) h l (omega arith) in
+      let kb = fb.1 in
+      let ib = kb.is in
+      let here : fb.0 ≡ b = omega arith in (
+        sym (ap (λ z. (place_at p z).stream) here) ∙ kb.stream ∙ sym st,
+        sym (ap (λ z. (place_at p z).message) here) ∙ kb.message ∙ sym m,
+      )
 
 -- the front of the abandoned
 
@@ -225,8 +226,8 @@ forward_made x over h g rising below flight some = record {
   reported = λ s m e. reported s m (last_of x.plan s m (gone_front x) None e);
   greatest_given_up =
       λ s m e o a from l. greatest_given_up s m (reported s m (last_of x.plan s m (gone_front x) None e)) o a from l;
-  greatest = λ s m e v o a l. greatest s m v (reported s m (last_of x.plan s m (gone_front x) None e)) o a l;
-  all = λ s m e v o a l. all s m v (reported s m (last_of x.plan s m (gone_front x) None e)) o a l;
+  greatest = λ s m e v. greatest s m v (reported s m (last_of x.plan s m (gone_front x) None e));
+  all = λ s m e v. all s m v (reported s m (last_of x.plan s m (gone_front x) None e));
 }
   where
     rest : List Place
@@ -358,7 +359,7 @@ forward_made x over h g rising below flight some = record {
             let rf = r.from in
             let ra = r.at in
             let w =
-            between x.plan over r.offset (x.reach + length (gone_front x)) o h (omega arith) c ak
+            between r.offset (x.reach + length (gone_front x)) o h (omega arith) c ak
             (ra.stream ∙ sym a.stream) (pair.together (omega arith)) in
             absurd (true≢false (sym (gone r.offset (omega arith) (omega arith))
             ∙ ap (λ z. x.gone z (place_at x.plan r.offset).message) (sym w.0)
@@ -366,73 +367,76 @@ forward_made x over h g rising below flight some = record {
             ∙ stops (x.reach + length (gone_front x)) refl (omega arith))))
             (cases_lt o (x.reach + length (gone_front x)))
 
--- It stays true when more gets an offset, is accepted or given up, or is taken in.
-pub forward_grows : (p r : Plan) (gone gone' : ℕ → ℕ → Bool) (over acked : ℕ → Bool) (now : ℕ) (f : Forward)
-    → IsExtended p r
-    → ((t i : ℕ) → gone t i ≡ true → gone' t i ≡ true)
-    → ((s : ℕ) → over s ≡ false → (o : ℕ) → length p.places ≤ o → IsAt r s true o → (x : ℕ) → IsAt p s true x
-    → gone_at p gone x ≡ true → (place_at p x).ssn < (place_at r o).ssn)
-    → IsForward p gone over acked now f → IsForward r gone' over acked now f
-forward_grows p r gone gone' over acked now f e more new h = record {
-  behind = h.behind;
-  ahead = h.ahead;
-  known = let a = h.known in let b = e.more in omega arith;
-  near = h.near;
-  acknowledged = h.acknowledged;
-  abandoned = λ o a l. gone_kept o (let b = h.known in omega arith) (h.abandoned o a l);
-  ends = λ o l. ⊎_elim
-      (λ (a : is_last p (place_at p o) ≡ true). inl (last_kept p r e o (let b = h.known in omega arith) ∙ a))
-      (λ (a : (place_at p o).marker ≡ true). inr (ap (λ z. z.marker) (e.places o (let b = h.known in omega arith)) ∙ a))
-      (h.ends o l);
-  complete = λ s o a from l. h.complete s o (at_before p r e s o true (let b = h.known in omega arith) a) from l;
-  reported = λ s m k.
-      let q = h.reported s m k in
-      let at = q.at in
-      record {
-        offset = q.offset;
-        from = q.from;
-        below = q.below;
-        at = at_kept p r e s q.offset true q.at;
-        given_up = gone_kept q.offset at.known q.given_up;
-        is = q.is ∙ ap (λ z. z.ssn) (sym (e.places q.offset at.known));
-        last = λ o a l. q.last o (at_before p r e s o true (let b = h.known in omega arith) a) l;
-      };
-  greatest_given_up = λ s m k o a from l.
-      let lo : o < length p.places = (let b = h.known in omega arith) in
-      subst (λ z. z.ssn ≤ m) (sym (e.places o lo)) (h.greatest_given_up s m k o (at_before p r e s o true lo a) from l);
-  greatest = λ s m k v o a l.
-      let lo : o < length p.places = (let b = h.known in omega arith) in
-      subst (λ z. z.ssn ≤ m) (sym (e.places o lo)) (h.greatest s m k v o (at_before p r e s o true lo a) l);
-  all = λ s m k v o a l.
-      let q = h.reported s m k in
-      ⊎_elim
-      (λ (lo : o < length p.places).
-      h.all s m k v o (at_before p r e s o true lo a) (subst (λ z. z.ssn ≤ m) (e.places o lo) l))
-      (λ (lo : length p.places ≤ o). absurd (
-      let b = new s v o lo a q.offset q.at q.given_up in
-      let c = q.is in
-      omega arith))
-      (cases_lt o (length p.places));
-}
-  where
-    gone_kept : (o : ℕ) → o < length p.places → gone_at p gone o ≡ true → gone_at r gone' o ≡ true
-    gone_kept o l g = subst (λ z. gone' z.stream z.message ≡ true) (sym (e.places o l)) (more _ _ g)
+module _ (p r : Plan) (gone gone' : ℕ → ℕ → Bool) (over acked : ℕ → Bool) (now : ℕ) (f : Forward)
+    (e : IsExtended p r) where
+  -- It stays true when more gets an offset, is accepted or given up, or is taken in.
+  pub forward_grows : ((t i : ℕ) → gone t i ≡ true → gone' t i ≡ true)
+      → ((s : ℕ) → over s ≡ false → (o : ℕ) → length p.places ≤ o → IsAt r s true o → (x : ℕ) → IsAt p s true x →
+      gone_at p gone x ≡ true → (place_at p x).ssn < (place_at r o).ssn)
+      → IsForward p gone over acked now f → IsForward r gone' over acked now f
+  forward_grows more new h = record {
+    behind = h.behind;
+    ahead = h.ahead;
+    known = let a = h.known in let b = e.more in omega arith;
+    near = h.near;
+    acknowledged = h.acknowledged;
+    abandoned = λ o a l. gone_kept o (let b = h.known in omega arith) (h.abandoned o a l);
+    ends = λ o l. ⊎_elim
+        (λ (a : is_last p (place_at p o) ≡ true). inl (last_kept p r e o (let b = h.known in omega arith) ∙ a))
+        (λ (a : (place_at p o).marker ≡ true). inr
+        (ap (λ z. z.marker) (e.places o (let b = h.known in omega arith)) ∙ a))
+        (h.ends o l);
+    complete = λ s o a from l. h.complete s o (at_before p r e s o true (let b = h.known in omega arith) a) from l;
+    reported = λ s m k.
+        let q = h.reported s m k in
+        let at = q.at in
+        record {
+          offset = q.offset;
+          from = q.from;
+          below = q.below;
+          at = at_kept p r e s q.offset true q.at;
+          given_up = gone_kept q.offset at.known q.given_up;
+          is = q.is ∙ ap (λ z. z.ssn) (sym (e.places q.offset at.known));
+          last = λ o a l. q.last o (at_before p r e s o true (let b = h.known in omega arith) a) l;
+        };
+    greatest_given_up = λ s m k o a from l.
+        let lo : o < length p.places = (let b = h.known in omega arith) in
+        subst (λ z. z.ssn ≤ m) (sym (e.places o lo))
+        (h.greatest_given_up s m k o (at_before p r e s o true lo a) from l);
+    greatest = λ s m k v o a l.
+        let lo : o < length p.places = (let b = h.known in omega arith) in
+        subst (λ z. z.ssn ≤ m) (sym (e.places o lo)) (h.greatest s m k v o (at_before p r e s o true lo a) l);
+    all = λ s m k v o a l.
+        let q = h.reported s m k in
+        ⊎_elim
+        (λ (lo : o < length p.places).
+        h.all s m k v o (at_before p r e s o true lo a) (subst (λ z. z.ssn ≤ m) (e.places o lo) l))
+        (λ (lo : length p.places ≤ o). absurd (
+        let b = new s v o lo a q.offset q.at q.given_up in
+        let c = q.is in
+        omega arith))
+        (cases_lt o (length p.places));
+  }
+    where
+      gone_kept : (o : ℕ) → o < length p.places → gone_at p gone o ≡ true → gone_at r gone' o ≡ true
+      gone_kept o l g = subst (λ z. gone' z.stream z.message ≡ true) (sym (e.places o l)) (more _ _ g)
 
--- and when more is acknowledged, or the span of a stream ends
-pub forward_later : (p : Plan) (gone : ℕ → ℕ → Bool) (over over' acked acked' : ℕ → Bool) (now now' : ℕ) (f : Forward)
-    → ((o : ℕ) → acked o ≡ true → acked' o ≡ true) → now ≤ now' → ((s : ℕ) → over' s ≡ false → over s ≡ false)
-    → IsForward p gone over acked now f → IsForward p gone over' acked' now' f
-forward_later p gone over over' acked acked' now now' f more on spans h = record {
-  behind = let a = h.behind in omega arith;
-  ahead = h.ahead;
-  known = h.known;
-  near = h.near;
-  acknowledged = λ o l. more o (h.acknowledged o l);
-  abandoned = h.abandoned;
-  ends = h.ends;
-  complete = h.complete;
-  reported = h.reported;
-  greatest_given_up = h.greatest_given_up;
-  greatest = h.greatest;
-  all = λ s m k v. h.all s m k (spans s v);
-}
+module _ (p : Plan) (gone : ℕ → ℕ → Bool) (over over' acked acked' : ℕ → Bool) (now now' : ℕ) (f : Forward) where
+  -- and when more is acknowledged, or the span of a stream ends
+  pub forward_later : ((o : ℕ) → acked o ≡ true → acked' o ≡ true) → now ≤ now'
+      → ((s : ℕ) → over' s ≡ false → over s ≡ false) → IsForward p gone over acked now f
+      → IsForward p gone over' acked' now' f
+  forward_later more on spans h = record {
+    behind = let a = h.behind in omega arith;
+    ahead = h.ahead;
+    known = h.known;
+    near = h.near;
+    acknowledged = λ o l. more o (h.acknowledged o l);
+    abandoned = h.abandoned;
+    ends = h.ends;
+    complete = h.complete;
+    reported = h.reported;
+    greatest_given_up = h.greatest_given_up;
+    greatest = h.greatest;
+    all = λ s m k v. h.all s m k (spans s v);
+  }

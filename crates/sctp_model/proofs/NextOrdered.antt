@@ -14,18 +14,19 @@ use Rattle.sctp_model.proofs.OrderedRanks.{rank_yes, rank_rest}
 use Rattle.sctp_model.proofs.NumberWindows.{before_is, same_from}
 use Rattle.sctp_model.proofs.CompleteRuns.{IsRunOf, run_is}
 
--- Sequence numbers of a stream that are still needed lie in a window of half the range.
-pub window : (p : Plan) (over : ℕ → Bool) (s low end o : ℕ) → IsPlanned p over → IsAt p s true o
-    → (place_at p o).ssn + rank (p.accepted s) end ≤ low + rank (p.accepted s) (place_at p o).message
-    → count_ordered (drop end (p.accepted s)) < 32768 → (place_at p o).ssn < low + 32767
-window p over s low end o h a link unread =
-    let known : (place_at p o).message < length (p.accepted s) =
-    subst (λ z. (place_at p o).message < length (p.accepted z)) a.stream (h.known o a.known) in
-    let ordered : (message_at p s (place_at p o).message).ordered ≡ true =
-    subst (λ z. (message_at p z (place_at p o).message).ordered ≡ true) a.stream a.kind in
-    let more = rank_yes (p.accepted s) (place_at p o).message known ordered in
-    let rest = rank_rest (p.accepted s) end (suc (place_at p o).message) in
-    omega arith
+module _ {p : Plan} {over : ℕ → Bool} {s : ℕ} (low end : ℕ) (h : IsPlanned p over) where
+  -- Sequence numbers of a stream that are still needed lie in a window of half the range.
+  pub window : (o : ℕ) → IsAt p s true o
+      → (place_at p o).ssn + rank (p.accepted s) end ≤ low + rank (p.accepted s) (place_at p o).message
+      → count_ordered (drop end (p.accepted s)) < 32768 → (place_at p o).ssn < low + 32767
+  window o a link unread =
+      let known : (place_at p o).message < length (p.accepted s) =
+      subst (λ z. (place_at p o).message < length (p.accepted z)) a.stream (h.known o a.known) in
+      let ordered : (message_at p s (place_at p o).message).ordered ≡ true =
+      subst (λ z. (message_at p z (place_at p o).message).ordered ≡ true) a.stream a.kind in
+      let more = rank_yes (p.accepted s) (place_at p o).message known ordered in
+      let rest = rank_rest (p.accepted s) end (suc (place_at p o).message) in
+      omega arith
 
 pub window_next : (p : Plan) (s low end next ssn : ℕ) → ssn + rank (p.accepted s) end ≤ low + rank (p.accepted s) next
     → count_ordered (drop end (p.accepted s)) < 32768 → ssn ≤ low + 32767
@@ -34,19 +35,19 @@ window_next p s low end next ssn gap unread = let rest = rank_rest (p.accepted s
 unfoldable pub IsNear : Plan → ℕ → Data → Type 0
 IsNear p low d = (place_at p d.offset).ssn < low + 32767
 
-pub near_all : (p : Plan) (over : ℕ → Bool) (taken : List ℕ) (s low end : ℕ) (held : List Data) → IsPlanned p over
-    → AllByRecursion (IsHeld p taken s true low) held
-    → ((o : ℕ) → IsAt p s true o → low ≤ (place_at p o).ssn
-    → (place_at p o).ssn + rank (p.accepted s) end ≤ low + rank (p.accepted s) (place_at p o).message)
-    → count_ordered (drop end (p.accepted s)) < 32768
-    → AllByRecursion (λ (d : Data). IsHeld p taken s true low d × IsNear p low d) held
-unfolding IsNear
-near_all p over taken s low end [] h a link unread = tt
-near_all p over taken s low end (d ∷ ds) h a link unread =
-    let x = a.0 in (
-      (x, window p over s low end d.offset h x.at (link d.offset x.at x.above) unread),
-      near_all p over taken s low end ds h a.1 link unread,
-    )
+module _ {p : Plan} {over : ℕ → Bool} (taken : List ℕ) {s : ℕ} (low end : ℕ) (h : IsPlanned p over) where
+  pub near_all : (held : List Data) → AllByRecursion (IsHeld p taken s true low) held
+      → ((o : ℕ) → IsAt p s true o → low ≤ (place_at p o).ssn → (place_at p o).ssn + rank (p.accepted s) end ≤ low +
+      rank (p.accepted s) (place_at p o).message)
+      → count_ordered (drop end (p.accepted s)) < 32768
+      → AllByRecursion (λ (d : Data). IsHeld p taken s true low d × IsNear p low d) held
+  unfolding IsNear
+  near_all [] a link unread = tt
+  near_all (d ∷ ds) a link unread =
+      let x = a.0 in (
+        (x, window low end h d.offset x.at (link d.offset x.at x.above) unread),
+        near_all ds a.1 link unread,
+      )
 
 -- the least sequence number held, without wrap
 pub record IsLeast (p : Plan) (low : ℕ) (held : List Data) (least : ℕ) : Type 0 where
@@ -70,53 +71,54 @@ pub ssn_is : (p : Plan) (taken : List ℕ) (s low : ℕ) (k : Bool) (d : Data) �
     → d.ssn ≡ (place_at p d.offset).ssn % 65536
 ssn_is p taken s low k d h = ap (λ z. z.ssn) h.is
 
-pub least_is : (p : Plan) (taken : List ℕ) (s low : ℕ) (held : List Data) (c : ℕ)
-    → AllByRecursion (λ (d : Data). IsHeld p taken s true low d × IsNear p low d) held → least held ≡ Some c
-    → IsLeast p low held c
-unfolding IsNear
-least_is p taken s low [] c a e = absurd (cc)
-least_is p taken s low (d ∷ ds) c a e =
-    let b = a.0 in
-    go (least ds) refl (λ e' f. least_is p taken s low ds e' a.1 f)
-    (let x : earlier d.ssn (least ds) ≡ c = cc in x) b.0 b.1
-  where
-    go : (l : Option ℕ) → least ds ≡ l → ((e' : ℕ) → least ds ≡ Some e' → IsLeast p low ds e') → earlier d.ssn l ≡ c
-        → IsHeld p taken s true low d → (place_at p d.offset).ssn < low + 32767 → IsLeast p low (d ∷ ds) c
-    go None n i f h near = record {
-      number = (place_at p d.offset).ssn;
-      is = sym f ∙ ssn_is p taken s low true d h;
-      above = h.above;
-      near = near;
-      below = (
-        omega arith,
-        subst (λ z. AllByRecursion (λ (x : Data). (place_at p d.offset).ssn ≤ (place_at p x.offset).ssn) z)
-            (sym (least_none ds n)) tt,
-      );
-    }
-    go (Some e') n i f h near =
-        let r = i e' n in
-        let ha = h.above in
-        let ra = r.above in
-        let rn = r.near in
-        let test : before_16 e' d.ssn ≡ ltb r.number (place_at p d.offset).ssn
-        = ap (λ z. before_16 z d.ssn) r.is ∙ ap (before_16 (r.number % 65536)) (ssn_is p taken s low true d h)
-        ∙ before_is r.number (place_at p d.offset).ssn (omega arith) (omega arith) in
-        ⊎_elim
-        (λ (l : r.number < (place_at p d.offset).ssn). record {
-          number = r.number;
-          is = sym f ∙ cond-true (before_16 e' d.ssn) e' d.ssn (test ∙ lt-ltb _ _ l) ∙ r.is;
-          above = r.above;
-          near = r.near;
-          below = (omega arith, r.below);
-        })
-        (λ (g : (place_at p d.offset).ssn ≤ r.number). record {
-          number = (place_at p d.offset).ssn;
-          is = sym f ∙ cond-false (before_16 e' d.ssn) e' d.ssn (test ∙ le-ltb _ _ g) ∙ ssn_is p taken s low true d h;
-          above = h.above;
-          near = near;
-          below = (omega arith, all_below p (place_at p d.offset).ssn r.number ds g r.below);
-        })
-        (cases_lt r.number (place_at p d.offset).ssn)
+module _ (p : Plan) (taken : List ℕ) (s low : ℕ) where
+  pub least_is : (held : List Data) (c : ℕ)
+      → AllByRecursion (λ (d : Data). IsHeld p taken s true low d × IsNear p low d) held → least held ≡ Some c
+      → IsLeast p low held c
+  unfolding IsNear
+  least_is [] c a e = absurd (cc)
+  least_is (d ∷ ds) c a e =
+      let b = a.0 in
+      go (least ds) refl (λ e' f. least_is ds e' a.1 f)
+      (let x : earlier d.ssn (least ds) ≡ c = cc in x) b.0 b.1
+    where
+      go : (l : Option ℕ) → least ds ≡ l → ((e' : ℕ) → least ds ≡ Some e' → IsLeast p low ds e') → earlier d.ssn l ≡ c
+          → IsHeld p taken s true low d → (place_at p d.offset).ssn < low + 32767 → IsLeast p low (d ∷ ds) c
+      go None n i f h near = record {
+        number = (place_at p d.offset).ssn;
+        is = sym f ∙ ssn_is p taken s low true d h;
+        above = h.above;
+        near = near;
+        below = (
+          omega arith,
+          subst (λ z. AllByRecursion (λ (x : Data). (place_at p d.offset).ssn ≤ (place_at p x.offset).ssn) z)
+              (sym (least_none ds n)) tt,
+        );
+      }
+      go (Some e') n i f h near =
+          let r = i e' n in
+          let ha = h.above in
+          let ra = r.above in
+          let rn = r.near in
+          let test : before_16 e' d.ssn ≡ ltb r.number (place_at p d.offset).ssn
+          = ap (λ z. before_16 z d.ssn) r.is ∙ ap (before_16 (r.number % 65536)) (ssn_is p taken s low true d h)
+          ∙ before_is r.number (place_at p d.offset).ssn (omega arith) (omega arith) in
+          ⊎_elim
+          (λ (l : r.number < (place_at p d.offset).ssn). record {
+            number = r.number;
+            is = sym f ∙ cond-true (before_16 e' d.ssn) e' d.ssn (test ∙ lt-ltb _ _ l) ∙ r.is;
+            above = r.above;
+            near = r.near;
+            below = (omega arith, r.below);
+          })
+          (λ (g : (place_at p d.offset).ssn ≤ r.number). record {
+            number = (place_at p d.offset).ssn;
+            is = sym f ∙ cond-false (before_16 e' d.ssn) e' d.ssn (test ∙ le-ltb _ _ g) ∙ ssn_is p taken s low true d h;
+            above = h.above;
+            near = near;
+            below = (omega arith, all_below p (place_at p d.offset).ssn r.number ds g r.below);
+          })
+          (cases_lt r.number (place_at p d.offset).ssn)
 
 -- the piece that begins a message
 pub begins_found : (P : Data → Type 0) (c : ℕ) (held : List Data) (d : Data) → begins c held ≡ Some d
@@ -157,42 +159,41 @@ pub record IsRunFound (p : Plan) (taken : List ℕ) (s : ℕ) (k : Bool) (low c 
   pub first : (place_at p r.head.offset).piece ≡ 0
   pub run : IsRunOf p taken s r.head.offset r.pieces
 
-pub run_of_is : (p : Plan) (over : ℕ → Bool) (taken : List ℕ) (s : ℕ) (k : Bool) (low : ℕ) (held : List Data) (d : Data)
-    (r : Run) → IsPlanned p over
-    → AllByRecursion (IsHeld p taken s k low) held → run_of held d ≡ Some r
-    → (r.head ≡ d) × IsRunOf p taken s d.offset r.pieces
-run_of_is p over taken s k low held d r h a e = go (run_from (top held) d.offset held) refl e
-  where
-    go : (x : Option (List Data)) → run_from (top held) d.offset held ≡ x → run_with d x ≡ Some r
-        → (r.head ≡ d) × IsRunOf p taken s d.offset r.pieces
-    go None f g = absurd (cc)
-    go (Some ps) f g =
-        let i : record { head = d; pieces = ps } ≡ r = cc in (
-          sym (ap (λ z. z.head) i),
-          run_is p over taken s k low held (top held) d.offset r.pieces h a (f ∙ ap (λ z. Some z.pieces) i),
-        )
+module _ {p : Plan} {over : ℕ → Bool} {taken : List ℕ} {s : ℕ} (k : Bool) (low : ℕ) (held : List Data)
+    (h : IsPlanned p over) (a : AllByRecursion (IsHeld p taken s k low) held) where
+  pub run_of_is : (d : Data) (r : Run) → run_of held d ≡ Some r → (r.head ≡ d) × IsRunOf p taken s d.offset r.pieces
+  run_of_is d r e = go (run_from (top held) d.offset held) refl e
+    where
+      go : (x : Option (List Data)) → run_from (top held) d.offset held ≡ x → run_with d x ≡ Some r
+          → (r.head ≡ d) × IsRunOf p taken s d.offset r.pieces
+      go None f g = absurd (cc)
+      go (Some ps) f g =
+          let i : record { head = d; pieces = ps } ≡ r = cc in (
+            sym (ap (λ z. z.head) i),
+            run_is k low held h a (top held) d.offset r.pieces (f ∙ ap (λ z. Some z.pieces) i),
+          )
 
 pub first_is : (p : Plan) (taken : List ℕ) (s low : ℕ) (k : Bool) (d : Data) → IsHeld p taken s k low d → d.first ≡ true
     → (place_at p d.offset).piece ≡ 0
 first_is p taken s low k d h f = eqb-true _ _ (sym (ap (λ z. z.first) h.is) ∙ f)
 
-pub message_in_is : (p : Plan) (over : ℕ → Bool) (taken : List ℕ) (s : ℕ) (low c : ℕ) (held : List Data) (r : Run)
-    → IsPlanned p over
-    → AllByRecursion (IsHeld p taken s true low) held → message_in held c ≡ Some r → IsRunFound p taken s true low c r
-message_in_is p over taken s low c held r h a e = go (begins c held) refl e
-  where
-    go : (x : Option Data) → begins c held ≡ x → run_begun held x ≡ Some r → IsRunFound p taken s true low c r
-    go None f g = absurd (cc)
-    go (Some d) f g =
-        let b = begins_found (IsHeld p taken s true low) c held d f a in
-        let w = run_of_is p over taken s true low held d r h a g in
-        let i = sym w.0 in
-        record {
-          head = subst (IsHeld p taken s true low) i b.0;
-          ssn = ap (λ z. z.ssn) w.0 ∙ b.1;
-          first = subst (λ z. (place_at p z.offset).piece ≡ 0) i (first_is p taken s low true d b.0 b.2);
-          run = subst (λ z. IsRunOf p taken s z.offset r.pieces) i w.1;
-        }
+module _ {p : Plan} {over : ℕ → Bool} {taken : List ℕ} {s : ℕ} (low : ℕ) (held : List Data)
+    (h : IsPlanned p over) (a : AllByRecursion (IsHeld p taken s true low) held) where
+  pub message_in_is : (c : ℕ) (r : Run) → message_in held c ≡ Some r → IsRunFound p taken s true low c r
+  message_in_is c r e = go (begins c held) refl e
+    where
+      go : (x : Option Data) → begins c held ≡ x → run_begun held x ≡ Some r → IsRunFound p taken s true low c r
+      go None f g = absurd (cc)
+      go (Some d) f g =
+          let b = begins_found (IsHeld p taken s true low) c held d f a in
+          let w = run_of_is true low held h a d r g in
+          let i = sym w.0 in
+          record {
+            head = subst (IsHeld p taken s true low) i b.0;
+            ssn = ap (λ z. z.ssn) w.0 ∙ b.1;
+            first = subst (λ z. (place_at p z.offset).piece ≡ 0) i (first_is p taken s low true d b.0 b.2);
+            run = subst (λ z. IsRunOf p taken s z.offset r.pieces) i w.1;
+          }
 
 -- What a read of an ordered message gives: `number` is its sequence number without wrap.
 pub record IsDue (p : Plan) (taken : List ℕ) (s low cursor : ℕ) (q : Queue) (t : Taken) : Type 0 where
@@ -207,50 +208,51 @@ pub record IsDue (p : Plan) (taken : List ℕ) (s low cursor : ℕ) (q : Queue) 
   pub got : t.got ≡ got_of run
   pub rest : t.rest ≡ without q (number % 65536)
 
-pub due_is : (p : Plan) (over : ℕ → Bool) (taken : List ℕ) (s low cursor : ℕ) (q : Queue) (t : Taken) → IsPlanned p over
-    → AllByRecursion (λ (d : Data). IsHeld p taken s true low d × IsNear p low d) q.ordered
-    → AllByRecursion (IsHeld p taken s true low) q.ordered
-    → ((o : ℕ) → IsAt p s true o → low ≤ (place_at p o).ssn → (place_at p o).ssn < low + 32767)
-    → q.cursor ≡ cursor % 65536 → low ≤ cursor → cursor ≤ low + 32767 → next_ordered q ≡ Some t
-    → IsDue p taken s low cursor q t
-due_is p over taken s low cursor q t h near held narrow is above until e = go (least q.ordered) refl e
-  where
-    take_it : (c : ℕ) → IsLeast p low q.ordered c → before_16 q.cursor c ≡ false → (x : Option Run)
-        → message_in q.ordered c ≡ x → taken_out q c x ≡ Some t
-        → IsDue p taken s low cursor q t
-    take_it c l b None m f = absurd (cc)
-    take_it c l b (Some r) m f =
-        let la = l.above in
-        let ln = l.near in
-        let i : record { got = got_of r; rest = without q c } ≡ t = cc in
-        let order : before_16 q.cursor c ≡ ltb cursor l.number
-        =
-        ap (λ z. before_16 z c) is ∙ ap (before_16 (cursor % 65536)) l.is
-        ∙ before_is cursor l.number (omega arith) (omega arith) in
-        let u = message_in_is p over taken s low c q.ordered r h held m in
-        let hd = u.head in
-        let ha = hd.above in
-        let hn = narrow r.head.offset hd.at hd.above in
-        record {
-          number = l.number;
-          above = l.above;
-          near = l.near;
-          until = ltb-false _ _ (sym order ∙ b);
-          least = l.below;
-          run = r;
-          found = subst (λ z. IsRunFound p taken s true low z r) l.is u;
-          ssn = same_from _ _ (omega arith) (omega arith) (sym (ssn_is p taken s low true r.head hd) ∙ u.ssn ∙ l.is);
-          got = sym (ap (λ z. z.got) i);
-          rest = sym (ap (λ z. z.rest) i) ∙ ap (without q) l.is;
-        }
+module _ {p : Plan} {over : ℕ → Bool} (taken : List ℕ) (s low cursor : ℕ) (q : Queue) (t : Taken)
+    (h : IsPlanned p over)
+    (near : AllByRecursion (λ (d : Data). IsHeld p taken s true low d × IsNear p low d) q.ordered)
+    (held : AllByRecursion (IsHeld p taken s true low) q.ordered) where
+  pub due_is : ((o : ℕ) → IsAt p s true o → low ≤ (place_at p o).ssn → (place_at p o).ssn < low + 32767)
+      → q.cursor ≡ cursor % 65536 → low ≤ cursor → cursor ≤ low + 32767 → next_ordered q ≡ Some t
+      → IsDue p taken s low cursor q t
+  due_is narrow is above until e = go (least q.ordered) refl e
+    where
+      take_it : (c : ℕ) → IsLeast p low q.ordered c → before_16 q.cursor c ≡ false → (x : Option Run)
+          → message_in q.ordered c ≡ x → taken_out q c x ≡ Some t
+          → IsDue p taken s low cursor q t
+      take_it c l b None m f = absurd (cc)
+      take_it c l b (Some r) m f =
+          let la = l.above in
+          let ln = l.near in
+          let i : record { got = got_of r; rest = without q c } ≡ t = cc in
+          let order : before_16 q.cursor c ≡ ltb cursor l.number
+          =
+          ap (λ z. before_16 z c) is ∙ ap (before_16 (cursor % 65536)) l.is
+          ∙ before_is cursor l.number (omega arith) (omega arith) in
+          let u = message_in_is low q.ordered h held c r m in
+          let hd = u.head in
+          let ha = hd.above in
+          let hn = narrow r.head.offset hd.at hd.above in
+          record {
+            number = l.number;
+            above = l.above;
+            near = l.near;
+            until = ltb-false _ _ (sym order ∙ b);
+            least = l.below;
+            run = r;
+            found = subst (λ z. IsRunFound p taken s true low z r) l.is u;
+            ssn = same_from _ _ (omega arith) (omega arith) (sym (ssn_is p taken s low true r.head hd) ∙ u.ssn ∙ l.is);
+            got = sym (ap (λ z. z.got) i);
+            rest = sym (ap (λ z. z.rest) i) ∙ ap (without q) l.is;
+          }
 
-    go : (c : Option ℕ) → least q.ordered ≡ c → next_of q c ≡ Some t → IsDue p taken s low cursor q t
-    go None l f = absurd (cc)
-    go (Some c) l f =
-        ⊎_elim
-        (λ (b : before_16 q.cursor c ≡ true). absurd (let n : None ≡ Some t =
-        sym (cond-true (before_16 q.cursor c) None (taken_out q c (message_in q.ordered c)) b) ∙ f in cc))
-        (λ (b : before_16 q.cursor c ≡ false).
-        take_it c (least_is p taken s low q.ordered c near l) b (message_in q.ordered c) refl
-        (sym (cond-false (before_16 q.cursor c) None (taken_out q c (message_in q.ordered c)) b) ∙ f))
-        (cases_Bool (before_16 q.cursor c))
+      go : (c : Option ℕ) → least q.ordered ≡ c → next_of q c ≡ Some t → IsDue p taken s low cursor q t
+      go None l f = absurd (cc)
+      go (Some c) l f =
+          ⊎_elim
+          (λ (b : before_16 q.cursor c ≡ true). absurd (let n : None ≡ Some t =
+          sym (cond-true (before_16 q.cursor c) None (taken_out q c (message_in q.ordered c)) b) ∙ f in cc))
+          (λ (b : before_16 q.cursor c ≡ false).
+          take_it c (least_is p taken s low q.ordered c near l) b (message_in q.ordered c) refl
+          (sym (cond-false (before_16 q.cursor c) None (taken_out q c (message_in q.ordered c)) b) ∙ f))
+          (cases_Bool (before_16 q.cursor c))

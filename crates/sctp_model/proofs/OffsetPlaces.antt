@@ -44,38 +44,38 @@ pair_self p s y o = record {
   rank = omega arith;
 }
 
-pair_to : (p : Plan) (s : ℕ) (x y x' y' : Place) (o r : ℕ) → x' ≡ x → y' ≡ y → IsPair p s x y o r
-    → IsPair (with_place p y) s x' y' o r
-pair_to p s x y x' y' o r a b h =
-    subst (λ z. IsPair (with_place p y) s z y' o r) (sym a)
-    (subst (λ z. IsPair (with_place p y) s x z o r) (sym b) record {
-      ssn = h.ssn;
-      together = h.together;
-      alike = h.alike;
-      near = h.near;
-      rank = h.rank;
-    })
+module _ {p : Plan} {s : ℕ} {x y : Place} (x' y' : Place) {o r : ℕ} (a : x' ≡ x) (b : y' ≡ y)
+    (h : IsPair p s x y o r) where
+  pair_to : IsPair (with_place p y) s x' y' o r
+  pair_to =
+      subst (λ z. IsPair (with_place p y) s z y' o r) (sym a)
+      (subst (λ z. IsPair (with_place p y) s x z o r) (sym b) record {
+        ssn = h.ssn;
+        together = h.together;
+        alike = h.alike;
+        near = h.near;
+        rank = h.rank;
+      })
 
-pair_old : (p : Plan) (s : ℕ) (z x y x' y' : Place) (o r : ℕ) → x' ≡ x → y' ≡ y → IsPair p s x y o r
-    → IsPair (with_place p z) s x' y' o r
-pair_old p s z x y x' y' o r a b h =
-    subst (λ v. IsPair (with_place p z) s v y' o r) (sym a)
-    (subst (λ v. IsPair (with_place p z) s x v o r) (sym b) record {
-      ssn = h.ssn;
-      together = h.together;
-      alike = h.alike;
-      near = h.near;
-      rank = h.rank;
-    })
+  pair_old : (z : Place) → IsPair (with_place p z) s x' y' o r
+  pair_old z =
+      subst (λ v. IsPair (with_place p z) s v y' o r) (sym a)
+      (subst (λ v. IsPair (with_place p z) s x v o r) (sym b) record {
+        ssn = h.ssn;
+        together = h.together;
+        alike = h.alike;
+        near = h.near;
+        rank = h.rank;
+      })
 
-before_to : (p : Plan) (y : Place) (o q : ℕ) (x z : Place) → o ≡ suc q → place_at (with_place p y) q ≡ x
-    → place_at (with_place p y) o ≡ z
-    → Follows x z → x.marker ≡ false → IsBefore (with_place p y) o q
-before_to p y o q x z n a b f m = record {
-  next = n;
-  follows = follows_kept x z (place_at (with_place p y) q) (place_at (with_place p y) o) a b f;
-  sent = ap (λ v. v.marker) a ∙ m;
-}
+module _ (p : Plan) (y : Place) (o q : ℕ) (x z : Place) where
+  before_to : o ≡ suc q → place_at (with_place p y) q ≡ x → place_at (with_place p y) o ≡ z → Follows x z
+      → x.marker ≡ false → IsBefore (with_place p y) o q
+  before_to n a b f m = record {
+    next = n;
+    follows = follows_kept x z (place_at (with_place p y) q) (place_at (with_place p y) o) a b f;
+    sent = ap (λ v. v.marker) a ∙ m;
+  }
 
 pub planned_next : (p : Plan) (over : ℕ → Bool) (y : Place) → IsPlanned p over → IsNext p over y
     → IsPlanned (with_place p y) over
@@ -177,18 +177,18 @@ planned_next p over y h n = record {
     pairs s v o r le ao ar = ⊎_elim
         (λ (b : r < length p.places).
         let a : o < length p.places = omega arith in
-        pair_old p s y (place_at p o) (place_at p r) (place_at q o) (place_at q r) o r (old o a) (old r b)
-        (h.pairs s v o r le (at_before p q e s o true a ao) (at_before p q e s r true b ar)))
+        pair_old (place_at q o) (place_at q r) (old o a) (old r b)
+        (h.pairs s v o r le (at_before p q e s o true a ao) (at_before p q e s r true b ar)) y)
         (λ (b : length p.places ≡ r).
         let sy : y.stream ≡ s = sym (ap (λ z. z.stream) (new r b)) ∙ ar.stream in
         let ky : (message_of p y).ordered ≡ true = sym (ap (λ z. (message_of p z).ordered) (new r b)) ∙ ar.kind in
         ⊎_elim
-        (λ (a : o < length p.places). pair_to p s (place_at p o) y (place_at q o) (place_at q r) o r (old o a) (new r b)
+        (λ (a : o < length p.places). pair_to (place_at q o) (place_at q r) (old o a) (new r b)
         (subst (λ z. IsPair p s (place_at p o) y o z) b
         (subst (λ z. IsPair p z (place_at p o) y o (length p.places)) sy
         (n.pairs (subst (λ z. over z ≡ false) (sym sy) v) ky o
         (subst (λ z. IsAt p z true o) (sym sy) (at_before p q e s o true a ao))))))
-        (λ (a : length p.places ≡ o). pair_to p s y y (place_at q o) (place_at q r) o r (new o a) (new r b)
+        (λ (a : length p.places ≡ o). pair_to (place_at q o) (place_at q r) (new o a) (new r b)
         (subst (λ z. IsPair p s y y o z) (sym a ∙ b) (pair_self p s y o)))
         (placed_cases p y o ao.known))
         (placed_cases p y r ar.known)

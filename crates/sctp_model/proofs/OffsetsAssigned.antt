@@ -79,18 +79,17 @@ new_piece p y sent = record {
   sent = ap (λ z. z.marker) (place_new p y (length p.places) refl) ∙ sent;
 }
 
-tails_placed : (p : Plan) (gone gone' : ℕ → ℕ → Bool) (y : Place) → IsExtended p (with_place p y)
-    → ((t i : ℕ) → gone t i ≡ true → gone' t i ≡ true)
-    → ((o : ℕ) → o < length p.places → (place_at p o).marker ≡ true → gone_at p gone o ≡ true)
-    → (y.marker ≡ true → gone' y.stream y.message ≡ true)
-    → (o : ℕ) → o < length (with_place p y).places → (place_at (with_place p y) o).marker ≡ true
-    → gone_at (with_place p y) gone' o ≡ true
-tails_placed p gone gone' y e more old new o l m = ⊎_elim
-    (λ (a : o < length p.places). subst (λ z. gone' z.stream z.message ≡ true) (sym (e.places o a))
-    (more _ _ (old o a (sym (ap (λ z. z.marker) (e.places o a)) ∙ m))))
-    (λ (a : length p.places ≡ o). subst (λ z. gone' z.stream z.message ≡ true) (sym (place_new p y o a))
-    (new (sym (ap (λ z. z.marker) (place_new p y o a)) ∙ m)))
-    (placed_cases p y o l)
+module _ (p : Plan) (gone gone' : ℕ → ℕ → Bool) (y : Place) where
+  tails_placed : IsExtended p (with_place p y) → ((t i : ℕ) → gone t i ≡ true → gone' t i ≡ true)
+      → ((o : ℕ) → o < length p.places → (place_at p o).marker ≡ true → gone_at p gone o ≡ true)
+      → (y.marker ≡ true → gone' y.stream y.message ≡ true) → (o : ℕ) → o < length (with_place p y).places
+      → (place_at (with_place p y) o).marker ≡ true → gone_at (with_place p y) gone' o ≡ true
+  tails_placed e more old new o l m = ⊎_elim
+      (λ (a : o < length p.places). subst (λ z. gone' z.stream z.message ≡ true) (sym (e.places o a))
+      (more _ _ (old o a (sym (ap (λ z. z.marker) (e.places o a)) ∙ m))))
+      (λ (a : length p.places ≡ o). subst (λ z. gone' z.stream z.message ≡ true) (sym (place_new p y o a))
+      (new (sym (ap (λ z. z.marker) (place_new p y o a)) ∙ m)))
+      (placed_cases p y o l)
 
 earlier_placed : (p : Plan) (y : Place) (s next ssn : ℕ) (x : Place) (o : ℕ) → IsEarlier p s next ssn x o
     → IsEarlier (with_place p y) s next ssn x o
@@ -120,7 +119,7 @@ module _ (w : Direction) (s i number : ℕ) (numbered : (message_at w.sender.pla
 
   next_place : IsNext w.sender.plan w.over (first_place s i number)
   next_place =
-      next_first w.sender.plan w.sender.current w.sender.next w.sender.ssn w.sender.begun w.sender.gone w.over
+      next_first
       (first_place s i number)
       h.planned h.sending none refl numbered unsent.0 unsent.1 due
 
@@ -169,10 +168,9 @@ module _ (w : Direction) (s i number : ℕ) (numbered : (message_at w.sender.pla
       w.sender.released
       (w.datas ++ next_data w.sender (first_place s i number) ∷ []) h longer (λ t j g. g)
       (planned_next w.sender.plan w.over (first_place s i number) h.planned next_place)
-      (sending_placed w.sender.plan (first_place s i number) w.sender.current
-      (left_after w.sender.plan (first_place s i number)) w.sender.next (put w.sender.next s (suc i))
-      w.sender.ssn (put w.sender.ssn s (suc (w.sender.ssn s))) w.sender.begun (put_2 w.sender.begun s i) w.sender.gone
-      w.over h.planned h.sending
+      (sending_placed (first_place s i number)
+      (left_after w.sender.plan (first_place s i number)) (put w.sender.next s (suc i))
+      (put w.sender.ssn s (suc (w.sender.ssn s))) (put_2 w.sender.begun s i) h.planned h.sending
       (λ t. put_cases t (λ a b. a ≤ length (w.sender.plan.accepted t))
       (λ e. let u = ap (λ z. length (w.sender.plan.accepted z)) e in omega (arith, unsent.0))
       (λ ne. h.sending.within t))
@@ -197,9 +195,9 @@ module _ (w : Direction) (s i number : ℕ) (numbered : (message_at w.sender.pla
       })
       (λ ne. absurd (ne refl)))
       going_now (λ e. inl (left_none w.sender.plan (first_place s i number) e)))
-      (ascending_placed w.sender.plan (first_place s i number) w.sender.current
+      (ascending_placed (first_place s i number)
       (left_after w.sender.plan (first_place s i number))
-      w.sender.ssn (put w.sender.ssn s (suc (w.sender.ssn s))) w.sender.reach h.planned.known h.ascending
+      (put w.sender.ssn s (suc (w.sender.ssn s))) h.planned.known h.ascending
       (counted_more w.sender.ssn s)
       (λ k. counted_past w.sender.ssn s number (numbered kind))
       (λ k o from a. let b = h.ascending.below s o from a in let u = numbered kind in omega arith)
@@ -306,18 +304,17 @@ module _ (w : Direction) (s i number : ℕ) (numbered : (message_at w.sender.pla
       w.sender.next w.sender.ssn (put_2 w.sender.begun s i) w.sender.gone w.sender.released
       (w.datas ++ next_data w.sender (first_place s i number) ∷ []) h longer (λ t j g. g)
       (planned_next w.sender.plan w.over (first_place s i number) h.planned next_place)
-      (sending_placed w.sender.plan (first_place s i number) w.sender.current
-      (left_after w.sender.plan (first_place s i number)) w.sender.next w.sender.next
-      w.sender.ssn w.sender.ssn w.sender.begun (put_2 w.sender.begun s i) w.sender.gone w.over h.planned h.sending
+      (sending_placed (first_place s i number)
+      (left_after w.sender.plan (first_place s i number)) w.sender.next w.sender.ssn
+      (put_2 w.sender.begun s i) h.planned h.sending
       h.sending.within begun_cases (gone_now w.sender.begun s i)
       (λ t. omega arith) (λ k. absurd (true≢false (sym k ∙ kind)))
       (λ t v o a. earlier_placed w.sender.plan (first_place s i number) t (w.sender.next t) (w.sender.ssn t)
       (place_at w.sender.plan o) o (h.sending.earlier t v o a))
       (λ v k. absurd (true≢false (sym k ∙ kind)))
       going_now (λ e. inl (left_none w.sender.plan (first_place s i number) e)))
-      (ascending_placed w.sender.plan (first_place s i number) w.sender.current
-      (left_after w.sender.plan (first_place s i number))
-      w.sender.ssn w.sender.ssn w.sender.reach h.planned.known h.ascending (λ t. omega arith)
+      (ascending_placed (first_place s i number)
+      (left_after w.sender.plan (first_place s i number)) w.sender.ssn h.planned.known h.ascending (λ t. omega arith)
       (λ k. absurd (true≢false (sym k ∙ kind)))
       (λ k o from a. absurd (true≢false (sym k ∙ kind)))
       (λ z e k.
@@ -351,177 +348,185 @@ module _ (w : Direction) (s i number : ℕ) (numbered : (message_at w.sender.pla
 
 -- The message goes on, with its next piece or with the marker of its tail.
 
-going_keeps : (w : Direction) (c y : Place) (current' : Option Place) (gone' : ℕ → ℕ → Bool) (rl : ℕ → ℕ)
-    (ds : List Data) → w.sender.current ≡ Some c
-    → y.stream ≡ c.stream → y.message ≡ c.message → y.piece ≡ c.piece → y.ssn ≡ c.ssn
-    → ((t i : ℕ) → w.sender.gone t i ≡ true → gone' t i ≡ true)
-    → (y.marker ≡ true → gone' y.stream y.message ≡ true)
-    → ((s : ℕ) → rl s ≡ released_bytes (with_place w.sender.plan y) w.sender.acknowledged gone' s)
-    → AllByRecursion (IsPiece (with_place w.sender.plan y)) ds
-    → IsSending (with_place w.sender.plan y) current' w.sender.next w.sender.ssn w.sender.begun gone' w.over
-    → ((z : Place) → current' ≡ Some z → (z.stream ≡ c.stream) × (z.message ≡ c.message) × (z.ssn ≡ c.ssn))
-    → Invariant w
-    → Invariant (record w {
-      sender = record w.sender { plan = with_place w.sender.plan y; current = current'; gone = gone'; released = rl };
-      datas = ds;
-    })
-going_keeps w c y current' gone' rl ds is es em ep en more tail freed datas sending next h =
-    grow_keeps w (with_place p y) current' w.sender.next w.sender.ssn w.sender.begun gone' rl ds h longer more
-    (planned_next p w.over y h.planned (next_following p w.over y g.last h.planned g.is follows g.sent g.more))
-    sending
-    ascending
-    datas
-    (tails_placed p w.sender.gone gone' y longer more h.tails tail)
-    (λ t v o l a x ax given.
-    let n = new_is p y t o l a in
-    let m = last_at t n.2 n.3 in
-    let mk = g.is in
-    let xk = ax.known in
-    let pair = h.planned.pairs t v x g.last (omega arith) ax m in
-    let le = pair.ssn in
-    let ws = follows.ssn in
-    let apart : (place_at p x).ssn ≡ (place_at p g.last).ssn → ⊥ =
-    (λ (e : (place_at p x).ssn ≡ (place_at p g.last).ssn).
-    true≢false (sym given ∙ ap (λ z. w.sender.gone z (place_at p x).message) (ax.stream ∙ sym n.2 ∙ es)
-    ∙ ap (w.sender.gone c.stream) (pair.together e ∙ sym g.follows.message) ∙ g.stays)) in
-    subst (λ z. (place_at p x).ssn < z.ssn) (sym n.1) (omega (arith, apart)))
-    freed
-    (λ t v st o l a.
-    let n = new_is p y t o l a in
-    let m = last_at t n.2 n.3 in
-    let q = st.ordered in
-    let ahead : q.cursor ≤ c.ssn = q.going c is (sym es ∙ n.2) (sym (ap (λ z. z.ordered) same) ∙ n.3) in
-    let above = q.above in
-    let ws = follows.ssn in
-    let wm = follows.message in
-    let low : read_ssn p 0 (w.reads t) ≤ (place_at p g.last).ssn = omega arith in
-    record {
-      ahead = subst (λ z. q.cursor ≤ z.ssn) (sym n.1) (omega arith);
-      later = subst (λ z. read_end p 0 (w.reads t) ≤ z.message) (sym n.1) (let b = q.later g.last m low in omega arith);
-      link =
-          subst (λ z. z.ssn + rank (p.accepted t) (read_end p 0 (w.reads t))
-          ≤ read_ssn p 0 (w.reads t) + rank (p.accepted t) z.message) (sym n.1)
-          (let b = q.link g.last m low in let u = ap (rank (p.accepted t)) wm in omega arith);
-      exact = λ no. subst (λ z. z.ssn ≡ rank (p.accepted t) z.message) (sym n.1)
-          (ws ∙ (q.full no).exact g.last m ∙ ap (rank (p.accepted t)) (sym wm));
-    })
-    (λ t v st.
-    let q = st.ordered in
-    record {
-      going = λ z e sz k.
+module _ (w : Direction) (c y : Place) (current' : Option Place) (gone' : ℕ → ℕ → Bool) (rl : ℕ → ℕ)
+    (ds : List Data) (is : w.sender.current ≡ Some c) (es : y.stream ≡ c.stream) (em : y.message ≡ c.message)
+    (ep : y.piece ≡ c.piece) (en : y.ssn ≡ c.ssn) where
+  going_keeps : ((t i : ℕ) → w.sender.gone t i ≡ true → gone' t i ≡ true)
+      → (y.marker ≡ true → gone' y.stream y.message ≡ true)
+      → ((s : ℕ) → rl s ≡ released_bytes (with_place w.sender.plan y) w.sender.acknowledged gone' s)
+      → AllByRecursion (IsPiece (with_place w.sender.plan y)) ds
+      → IsSending (with_place w.sender.plan y) current' w.sender.next w.sender.ssn w.sender.begun gone' w.over
+      → ((z : Place) → current' ≡ Some z → (z.stream ≡ c.stream) × (z.message ≡ c.message) × (z.ssn ≡ c.ssn))
+      → Invariant w
+      → Invariant
+      (record w {
+        sender = record w.sender {
+          plan = with_place w.sender.plan y;
+          current = current';
+          gone = gone';
+          released = rl;
+        };
+        datas = ds;
+      })
+  going_keeps more tail freed datas sending next h =
+      grow_keeps w (with_place p y) current' w.sender.next w.sender.ssn w.sender.begun gone' rl ds h longer more
+      (planned_next p w.over y h.planned (next_following p w.over y g.last h.planned g.is follows g.sent g.more))
+      sending
+      ascending
+      datas
+      (tails_placed p w.sender.gone gone' y longer more h.tails tail)
+      (λ t v o l a x ax given.
+      let n = new_is p y t o l a in
+      let m = last_at t n.2 n.3 in
+      let mk = g.is in
+      let xk = ax.known in
+      let pair = h.planned.pairs t v x g.last (omega arith) ax m in
+      let le = pair.ssn in
+      let ws = follows.ssn in
+      let apart : (place_at p x).ssn ≡ (place_at p g.last).ssn → ⊥ =
+      (λ (e : (place_at p x).ssn ≡ (place_at p g.last).ssn).
+      true≢false (sym given ∙ ap (λ z. w.sender.gone z (place_at p x).message) (ax.stream ∙ sym n.2 ∙ es)
+      ∙ ap (w.sender.gone c.stream) (pair.together e ∙ sym g.follows.message) ∙ g.stays)) in
+      subst (λ z. (place_at p x).ssn < z.ssn) (sym n.1) (omega (arith, apart)))
+      freed
+      (λ t v st o l a.
+      let n = new_is p y t o l a in
+      let m = last_at t n.2 n.3 in
+      let q = st.ordered in
+      let ahead : q.cursor ≤ c.ssn = q.going c is (sym es ∙ n.2) (sym (ap (λ z. z.ordered) same) ∙ n.3) in
+      let above = q.above in
+      let ws = follows.ssn in
+      let wm = follows.message in
+      let low : read_ssn p 0 (w.reads t) ≤ (place_at p g.last).ssn = omega arith in
+      record {
+        ahead = subst (λ z. q.cursor ≤ z.ssn) (sym n.1) (omega arith);
+        later = subst (λ z. read_end p 0 (w.reads t) ≤ z.message) (sym n.1)
+            (let b = q.later g.last m low in omega arith);
+        link =
+            subst (λ z. z.ssn + rank (p.accepted t) (read_end p 0 (w.reads t))
+            ≤ read_ssn p 0 (w.reads t) + rank (p.accepted t) z.message) (sym n.1)
+            (let b = q.link g.last m low in let u = ap (rank (p.accepted t)) wm in omega arith);
+        exact = λ no. subst (λ z. z.ssn ≡ rank (p.accepted t) z.message) (sym n.1)
+            (ws ∙ (q.full no).exact g.last m ∙ ap (rank (p.accepted t)) (sym wm));
+      })
+      (λ t v st.
+      let q = st.ordered in
+      record {
+        going = λ z e sz k.
+            let x = next z e in
+            let ord : (message_of p c).ordered ≡ true =
+            ap (λ u. (message_at p u c.message).ordered) (sym x.0)
+            ∙ ap (λ u. (message_at p z.stream u).ordered) (sym x.1) ∙ k in
+            let b = q.going c is (sym x.0 ∙ sz) ord in
+            let u = x.2 in
+            omega arith;
+        begun = q.begun;
+        until = q.until;
+        gap = q.gap;
+        level = λ no. (q.full no).level_next;
+      })
+    where
+      p : Plan
+      p = w.sender.plan
+
+      g : IsGoing w.sender.plan w.sender.gone c
+      g = h.sending.going c is
+
+      follows : Follows (place_at w.sender.plan g.last) y
+      follows = record {
+        stream = es ∙ g.follows.stream;
+        message = em ∙ g.follows.message;
+        ssn = en ∙ g.follows.ssn;
+        piece = ep ∙ g.follows.piece;
+      }
+
+      longer : IsExtended w.sender.plan (with_place w.sender.plan y)
+      longer = place_extended w.sender.plan y h.planned.known
+
+      same : message_of w.sender.plan y ≡ message_of w.sender.plan c
+      same = ap (λ z. message_at w.sender.plan z y.message) es ∙ ap (message_at w.sender.plan c.stream) em
+
+      last_at : (t : ℕ) → y.stream ≡ t → (message_of w.sender.plan y).ordered ≡ true → IsAt w.sender.plan t true g.last
+      last_at t e k = record {
+        known = let n = g.is in omega arith;
+        stream = sym follows.stream ∙ e;
+        kind = ap (λ z. (message_at w.sender.plan z (place_at w.sender.plan g.last).message).ordered)
+            (sym follows.stream)
+            ∙ ap (λ z. (message_at w.sender.plan y.stream z).ordered) (sym follows.message) ∙ k;
+      }
+
+      ascending : IsAscending (with_place w.sender.plan y) current' w.sender.ssn w.sender.reach
+      ascending =
+          ascending_placed y current' w.sender.ssn
+          h.planned.known h.ascending (λ s. omega arith)
+          (λ k.
+          let b = h.ascending.going c is (sym (ap (λ z. z.ordered) same) ∙ k) in
+          let u = ap w.sender.ssn es in
+          omega arith)
+          (λ k o from a.
+          let m = last_at y.stream refl k in
+          let b = h.ascending.ascends y.stream o g.last from (let n = g.is in let l = a.known in omega arith) a m in
+          let u = follows.ssn in
+          omega arith)
+          (λ z e k.
           let x = next z e in
-          let ord : (message_of p c).ordered ≡ true =
-          ap (λ u. (message_at p u c.message).ordered) (sym x.0)
-          ∙ ap (λ u. (message_at p z.stream u).ordered) (sym x.1) ∙ k in
-          let b = q.going c is (sym x.0 ∙ sz) ord in
-          let u = x.2 in
-          omega arith;
-      begun = q.begun;
-      until = q.until;
-      gap = q.gap;
-      level = λ no. (q.full no).level_next;
-    })
-  where
-    p : Plan
-    p = w.sender.plan
+          let b = h.ascending.going c is
+          (ap (λ u. (message_at w.sender.plan u c.message).ordered) (sym x.0)
+          ∙ ap (λ u. (message_at w.sender.plan z.stream u).ordered) (sym x.1) ∙ k) in
+          let u = ap w.sender.ssn x.0 in
+          let v = x.2 in
+          omega arith)
 
-    g : IsGoing w.sender.plan w.sender.gone c
-    g = h.sending.going c is
+module _ (w : Direction) (c y : Place) (current' : Option Place) where
+  -- the sender after the next place of the message that goes on
+  sending_following : w.sender.current ≡ Some c → y.stream ≡ c.stream → y.message ≡ c.message → y.ssn ≡ c.ssn
+      → Invariant w → ((z : Place) → current' ≡ Some z → IsGoing (with_place w.sender.plan y) w.sender.gone z)
+      → (current' ≡ None → (is_last w.sender.plan y ≡ true) ⊎ (y.marker ≡ true))
+      → IsSending (with_place w.sender.plan y) current' w.sender.next w.sender.ssn w.sender.begun w.sender.gone w.over
+  sending_following is es em en h going closed =
+      sending_placed y current' w.sender.next w.sender.ssn
+      w.sender.begun h.planned h.sending
+      h.sending.within (λ t i b. b)
+      (let f = g.follows in
+      subst (λ z. w.sender.begun z y.message ≡ true) (sym (es ∙ f.stream))
+      (subst (λ z. w.sender.begun (place_at p g.last).stream z ≡ true) (sym (em ∙ f.message))
+      (h.sending.counted g.last (let n = g.is in omega arith))))
+      (λ t. omega arith)
+      (λ k. let f = g.follows in
+      let b = h.sending.numbers y.stream g.last (last_at k) in
+      let mm : y.message ≡ (place_at p g.last).message = em ∙ f.message in
+      omega arith)
+      (λ t v o a. earlier_placed p y t (w.sender.next t) (w.sender.ssn t) (place_at p o) o (h.sending.earlier t v o a))
+      (λ v k.
+      let f = g.follows in
+      let n = g.is in
+      let x = h.sending.earlier y.stream v g.last (last_at k) in
+      let ss : y.ssn ≡ (place_at p g.last).ssn = en ∙ f.ssn in
+      let mm : y.message ≡ (place_at p g.last).message = em ∙ f.message in
+      record {
+        below = let b = x.below in omega arith;
+        near = let b = x.near in let q = length_placed p y in omega arith;
+        rank = let b = x.rank in let u = ap (rank (p.accepted y.stream)) mm in omega arith;
+      })
+      going closed
+    where
+      p : Plan
+      p = w.sender.plan
 
-    follows : Follows (place_at w.sender.plan g.last) y
-    follows = record {
-      stream = es ∙ g.follows.stream;
-      message = em ∙ g.follows.message;
-      ssn = en ∙ g.follows.ssn;
-      piece = ep ∙ g.follows.piece;
-    }
+      g : IsGoing w.sender.plan w.sender.gone c
+      g = h.sending.going c is
 
-    longer : IsExtended w.sender.plan (with_place w.sender.plan y)
-    longer = place_extended w.sender.plan y h.planned.known
-
-    same : message_of w.sender.plan y ≡ message_of w.sender.plan c
-    same = ap (λ z. message_at w.sender.plan z y.message) es ∙ ap (message_at w.sender.plan c.stream) em
-
-    last_at : (t : ℕ) → y.stream ≡ t → (message_of w.sender.plan y).ordered ≡ true → IsAt w.sender.plan t true g.last
-    last_at t e k = record {
-      known = let n = g.is in omega arith;
-      stream = sym follows.stream ∙ e;
-      kind = ap (λ z. (message_at w.sender.plan z (place_at w.sender.plan g.last).message).ordered) (sym follows.stream)
-          ∙ ap (λ z. (message_at w.sender.plan y.stream z).ordered) (sym follows.message) ∙ k;
-    }
-
-    ascending : IsAscending (with_place w.sender.plan y) current' w.sender.ssn w.sender.reach
-    ascending =
-        ascending_placed w.sender.plan y w.sender.current current' w.sender.ssn w.sender.ssn w.sender.reach
-        h.planned.known h.ascending (λ s. omega arith)
-        (λ k.
-        let b = h.ascending.going c is (sym (ap (λ z. z.ordered) same) ∙ k) in
-        let u = ap w.sender.ssn es in
-        omega arith)
-        (λ k o from a.
-        let m = last_at y.stream refl k in
-        let b = h.ascending.ascends y.stream o g.last from (let n = g.is in let l = a.known in omega arith) a m in
-        let u = follows.ssn in
-        omega arith)
-        (λ z e k.
-        let x = next z e in
-        let b = h.ascending.going c is
-        (ap (λ u. (message_at w.sender.plan u c.message).ordered) (sym x.0)
-        ∙ ap (λ u. (message_at w.sender.plan z.stream u).ordered) (sym x.1) ∙ k) in
-        let u = ap w.sender.ssn x.0 in
-        let v = x.2 in
-        omega arith)
-
--- the sender after the next place of the message that goes on
-sending_following : (w : Direction) (c y : Place) (current' : Option Place) → w.sender.current ≡ Some c
-    → y.stream ≡ c.stream → y.message ≡ c.message → y.ssn ≡ c.ssn → Invariant w
-    → ((z : Place) → current' ≡ Some z → IsGoing (with_place w.sender.plan y) w.sender.gone z)
-    → (current' ≡ None → (is_last w.sender.plan y ≡ true) ⊎ (y.marker ≡ true))
-    → IsSending (with_place w.sender.plan y) current' w.sender.next w.sender.ssn w.sender.begun w.sender.gone w.over
-sending_following w c y current' is es em en h going closed =
-    sending_placed p y w.sender.current current' w.sender.next w.sender.next w.sender.ssn w.sender.ssn w.sender.begun
-    w.sender.begun w.sender.gone w.over h.planned h.sending
-    h.sending.within (λ t i b. b)
-    (let f = g.follows in
-    subst (λ z. w.sender.begun z y.message ≡ true) (sym (es ∙ f.stream))
-    (subst (λ z. w.sender.begun (place_at p g.last).stream z ≡ true) (sym (em ∙ f.message))
-    (h.sending.counted g.last (let n = g.is in omega arith))))
-    (λ t. omega arith)
-    (λ k. let f = g.follows in
-    let b = h.sending.numbers y.stream g.last (last_at k) in
-    let mm : y.message ≡ (place_at p g.last).message = em ∙ f.message in
-    omega arith)
-    (λ t v o a. earlier_placed p y t (w.sender.next t) (w.sender.ssn t) (place_at p o) o (h.sending.earlier t v o a))
-    (λ v k.
-    let f = g.follows in
-    let n = g.is in
-    let x = h.sending.earlier y.stream v g.last (last_at k) in
-    let ss : y.ssn ≡ (place_at p g.last).ssn = en ∙ f.ssn in
-    let mm : y.message ≡ (place_at p g.last).message = em ∙ f.message in
-    record {
-      below = let b = x.below in omega arith;
-      near = let b = x.near in let q = length_placed p y in omega arith;
-      rank = let b = x.rank in let u = ap (rank (p.accepted y.stream)) mm in omega arith;
-    })
-    going closed
-  where
-    p : Plan
-    p = w.sender.plan
-
-    g : IsGoing w.sender.plan w.sender.gone c
-    g = h.sending.going c is
-
-    last_at : (message_of w.sender.plan y).ordered ≡ true → IsAt w.sender.plan y.stream true g.last
-    last_at k =
-        let f = g.follows in
-        record {
-          known = let n = g.is in omega arith;
-          stream = sym f.stream ∙ sym es;
-          kind =
-              ap (λ z. (message_at w.sender.plan z (place_at w.sender.plan g.last).message).ordered)
-              (sym f.stream ∙ sym es)
-              ∙ ap (λ z. (message_at w.sender.plan y.stream z).ordered) (sym f.message ∙ sym em) ∙ k;
-        }
+      last_at : (message_of w.sender.plan y).ordered ≡ true → IsAt w.sender.plan y.stream true g.last
+      last_at k =
+          let f = g.follows in
+          record {
+            known = let n = g.is in omega arith;
+            stream = sym f.stream ∙ sym es;
+            kind =
+                ap (λ z. (message_at w.sender.plan z (place_at w.sender.plan g.last).message).ordered)
+                (sym f.stream ∙ sym es)
+                ∙ ap (λ z. (message_at w.sender.plan y.stream z).ordered) (sym f.message ∙ sym em) ∙ k;
+          }
 
 pub keeps_go_on : (w : Direction) (c : Place) → w.sender.current ≡ Some c → Invariant w
     → Invariant (record w { sender = sent w.sender c; datas = w.datas ++ next_data w.sender c ∷ [] })
@@ -552,7 +557,7 @@ pub marked_frees : (w : Direction) (s i : ℕ) (c : Place) → w.sender.current 
     ≡ released_bytes (with_place w.sender.plan (record c { marker = true })) w.sender.acknowledged
     (put_2 w.sender.gone s i) s
 marked_frees w s i c is es ei known h =
-    released_given r w.over w.sender.acknowledged w.sender.gone s i (w.sender.released s)
+    released_given w.sender.acknowledged w.sender.gone s i (w.sender.released s)
     (planned_next w.sender.plan w.over y h.planned
     (next_following w.sender.plan w.over y g.last h.planned g.is f g.sent g.more))
     (ap (λ z. w.sender.gone z i) (sym es) ∙ ap (w.sender.gone c.stream) (sym ei) ∙ g.stays)
@@ -571,46 +576,52 @@ marked_frees w s i c is es ei known h =
     f : Follows (place_at w.sender.plan g.last) (record c { marker = true })
     f = record { stream = g.follows.stream; message = g.follows.message; ssn = g.follows.ssn; piece = g.follows.piece }
 
-pub keeps_marked : (w : Direction) (s i n : ℕ) (c : Place) → w.sender.current ≡ Some c → c.stream ≡ s → c.message ≡ i
-    → i < length (w.sender.plan.accepted s) → is_reliable (message_at w.sender.plan s i).policy ≡ false
-    → n ≡ released_bytes (with_place w.sender.plan (record c { marker = true })) w.sender.acknowledged
-    (put_2 w.sender.gone s i) s → Invariant w
-    → Invariant
-    (record w {
-      sender = record (marked w.sender c) { gone = put_2 w.sender.gone s i; released = put w.sender.released s n };
-    })
-keeps_marked w s i n c is es ei known unreliable freed h =
-    going_keeps w c (record c { marker = true }) None (put_2 w.sender.gone s i) (put w.sender.released s n) w.datas is
-    refl refl refl refl
-    (gone_more w.sender.gone s i)
-    (λ m. subst (λ z. put_2 w.sender.gone s i z c.message ≡ true) (sym es)
-    (subst (λ z. put_2 w.sender.gone s i s z ≡ true) (sym ei) (gone_now w.sender.gone s i)))
-    (freed_now w (with_place w.sender.plan (record c { marker = true })) s i n h
-    (place_extended w.sender.plan (record c { marker = true }) h.planned.known) freed)
-    (all_weaker _ _ _ (λ d. piece_kept w.sender.plan (with_place w.sender.plan (record c { marker = true }))
-    (place_extended w.sender.plan (record c { marker = true }) h.planned.known) d) h.datas)
-    (let g =
-    sending_following w c (record c { marker = true }) None is refl refl refl h (λ z e. absurd (none_some z e))
-    (λ e. inr refl) in
-    record {
-      within = g.within;
-      counted = g.counted;
-      numbers = g.numbers;
-      earlier = g.earlier;
-      going = λ z e. absurd (none_some z e);
-      closed = g.closed;
-      given_up = λ t j b. ⊎_elim
-          (λ (here : (t ≡ s) × (j ≡ i)). (
-            subst (λ z. z < length (w.sender.plan.accepted t)) (sym here.1)
-                (subst (λ z. i < length (w.sender.plan.accepted z)) (sym here.0) known),
-            ap (λ z. is_reliable (message_at w.sender.plan t z).policy) here.1
-                ∙ ap (λ z. is_reliable (message_at w.sender.plan z i).policy) here.0 ∙ unreliable,
-          ))
-          (λ (there : w.sender.gone t j ≡ true). g.given_up t j there)
-          (gone_cases w.sender.gone s i t j b);
-    })
-    (λ z e. absurd (none_some z e))
-    h
-  where
-    none_some : (z : Place) → None ≡ Some z → ⊥
-    none_some z e = cc
+module _ (w : Direction) (s i n : ℕ) (c : Place) where
+  pub keeps_marked : w.sender.current ≡ Some c → c.stream ≡ s → c.message ≡ i → i < length (w.sender.plan.accepted s)
+      → is_reliable (message_at w.sender.plan s i).policy ≡ false
+      → n ≡ released_bytes (with_place w.sender.plan (record c { marker = true })) w.sender.acknowledged
+      (put_2 w.sender.gone s i) s
+      → Invariant w
+      → Invariant
+      (record w {
+        sender = record (marked w.sender c) {
+          gone = put_2 w.sender.gone s i;
+          released = put w.sender.released
+              s n;
+        };
+      })
+  keeps_marked is es ei known unreliable freed h =
+      going_keeps w c (record c { marker = true }) None (put_2 w.sender.gone s i) (put w.sender.released s n) w.datas is
+      refl refl refl refl
+      (gone_more w.sender.gone s i)
+      (λ m. subst (λ z. put_2 w.sender.gone s i z c.message ≡ true) (sym es)
+      (subst (λ z. put_2 w.sender.gone s i s z ≡ true) (sym ei) (gone_now w.sender.gone s i)))
+      (freed_now w (with_place w.sender.plan (record c { marker = true })) s i n h
+      (place_extended w.sender.plan (record c { marker = true }) h.planned.known) freed)
+      (all_weaker _ _ _ (λ d. piece_kept w.sender.plan (with_place w.sender.plan (record c { marker = true }))
+      (place_extended w.sender.plan (record c { marker = true }) h.planned.known) d) h.datas)
+      (let g =
+      sending_following w c (record c { marker = true }) None is refl refl refl h (λ z e. absurd (none_some z e))
+      (λ e. inr refl) in
+      record {
+        within = g.within;
+        counted = g.counted;
+        numbers = g.numbers;
+        earlier = g.earlier;
+        going = λ z e. absurd (none_some z e);
+        closed = g.closed;
+        given_up = λ t j b. ⊎_elim
+            (λ (here : (t ≡ s) × (j ≡ i)). (
+              subst (λ z. z < length (w.sender.plan.accepted t)) (sym here.1)
+                  (subst (λ z. i < length (w.sender.plan.accepted z)) (sym here.0) known),
+              ap (λ z. is_reliable (message_at w.sender.plan t z).policy) here.1
+                  ∙ ap (λ z. is_reliable (message_at w.sender.plan z i).policy) here.0 ∙ unreliable,
+            ))
+            (λ (there : w.sender.gone t j ≡ true). g.given_up t j there)
+            (gone_cases w.sender.gone s i t j b);
+      })
+      (λ z e. absurd (none_some z e))
+      h
+    where
+      none_some : (z : Place) → None ≡ Some z → ⊥
+      none_some z e = cc

@@ -135,46 +135,45 @@ taken_kept p q e taken s i k t = record {
   taken_in = t.taken_in;
 }
 
-pub taken_before : (p q : Plan) (e : IsExtended p q) (taken : List ℕ) (s i k : ℕ)
-    → ((o : ℕ) → mem o taken ≡ true → o < length p.places)
-    → IsTaken q taken s i k → IsTaken p taken s i k
-taken_before p q e taken s i k below t =
-    let l = below t.offset t.taken_in in
-    let y = sym (e.places t.offset l) in
-    record {
-      offset = t.offset;
-      known = l;
-      stream = ap (λ z. z.stream) y ∙ t.stream;
-      message = ap (λ z. z.message) y ∙ t.message;
-      piece = ap (λ z. z.piece) y ∙ t.piece;
-      sent = ap (λ z. z.marker) y ∙ t.sent;
-      taken_in = t.taken_in;
-    }
+module _ (p q : Plan) (e : IsExtended p q) (taken : List ℕ) (s i : ℕ) where
+  pub taken_before : (k : ℕ) → ((o : ℕ) → mem o taken ≡ true → o < length p.places) → IsTaken q taken s i k
+      → IsTaken p taken s i k
+  taken_before k below t =
+      let l = below t.offset t.taken_in in
+      let y = sym (e.places t.offset l) in
+      record {
+        offset = t.offset;
+        known = l;
+        stream = ap (λ z. z.stream) y ∙ t.stream;
+        message = ap (λ z. z.message) y ∙ t.message;
+        piece = ap (λ z. z.piece) y ∙ t.piece;
+        sent = ap (λ z. z.marker) y ∙ t.sent;
+        taken_in = t.taken_in;
+      }
 
-pub whole_kept : (p q : Plan) (e : IsExtended p q) (taken : List ℕ) (s i : ℕ) → IsWhole p taken s i
-    → IsWhole q taken s i
-whole_kept p q e taken s i w = record {
-  accepted = let l = e.longer s in let a = w.accepted in omega arith;
-  pieces = λ k h. taken_kept p q e taken s i k (w.pieces k (subst (λ z. z * k < length (message_at p s i).bytes) e.size
-      (subst (λ z. q.size * k < length z.bytes) (e.messages s i w.accepted) h)));
-}
+  pub whole_kept : IsWhole p taken s i → IsWhole q taken s i
+  whole_kept w = record {
+    accepted = let l = e.longer s in let a = w.accepted in omega arith;
+    pieces = λ k h. taken_kept p q e taken s i k
+        (w.pieces k (subst (λ z. z * k < length (message_at p s i).bytes) e.size
+        (subst (λ z. q.size * k < length z.bytes) (e.messages s i w.accepted) h)));
+  }
 
--- a message that is whole was accepted before, since one of its bytes was taken in
-pub whole_before : (p q : Plan) (e : IsExtended p q) (taken : List ℕ) (s i : ℕ)
-    → ((o : ℕ) → mem o taken ≡ true → o < length p.places)
-    → 0 < length (message_at q s i).bytes → IsWhole q taken s i → IsWhole p taken s i
-whole_before p q e taken s i below filled w =
-    let first = taken_before p q e taken s i 0 below (w.pieces 0 (omega arith)) in
-    let accepted : i < length (p.accepted s) = subst (λ z. z < length (p.accepted s)) first.message
-    (subst (λ z. (place_at p first.offset).message < length (p.accepted z)) first.stream
-    (e.known first.offset first.known)) in
-    record {
-      accepted = accepted;
-      pieces =
-          λ k h. taken_before p q e taken s i k below
-          (w.pieces k (subst (λ z. z * k < length (message_at q s i).bytes) (sym e.size)
-          (subst (λ z. p.size * k < length z.bytes) (sym (e.messages s i accepted)) h)));
-    }
+  -- a message that is whole was accepted before, since one of its bytes was taken in
+  pub whole_before : ((o : ℕ) → mem o taken ≡ true → o < length p.places) → 0 < length (message_at q s i).bytes
+      → IsWhole q taken s i → IsWhole p taken s i
+  whole_before below filled w =
+      let first = taken_before 0 below (w.pieces 0 (omega arith)) in
+      let accepted : i < length (p.accepted s) = subst (λ z. z < length (p.accepted s)) first.message
+      (subst (λ z. (place_at p first.offset).message < length (p.accepted z)) first.stream
+      (e.known first.offset first.known)) in
+      record {
+        accepted = accepted;
+        pieces =
+            λ k h. taken_before k below
+            (w.pieces k (subst (λ z. z * k < length (message_at q s i).bytes) (sym e.size)
+            (subst (λ z. p.size * k < length z.bytes) (sym (e.messages s i accepted)) h)));
+      }
 
 pub tells_kept : (p q : Plan) (e : IsExtended p q) (taken : List ℕ) (s : ℕ) (g : Got) (i : ℕ) → Tells p taken s g i
     → Tells q taken s g i
@@ -239,17 +238,18 @@ held_kept p q e taken s low k d h = record {
 pub follows_kept : (x y x' y' : Place) → x' ≡ x → y' ≡ y → Follows x y → Follows x' y'
 follows_kept x y x' y' a b f = subst (λ z. Follows z y') (sym a) (subst (λ z. Follows x z) (sym b) f)
 
-pub pair_kept : (p q : Plan) (e : IsExtended p q) (s : ℕ) (x y : Place) (o r : ℕ) → x.message ≤ length (p.accepted s)
-    → y.message ≤ length (p.accepted s)
-    → IsPair p s x y o r → IsPair q s x y o r
-pair_kept p q e s x y o r lx ly h = record {
-  ssn = h.ssn;
-  together = h.together;
-  alike = h.alike;
-  near = h.near;
-  rank =
-      let a = rank_kept p q e s x.message lx in let b = rank_kept p q e s y.message ly in let c = h.rank in omega arith;
-}
+module _ {p q : Plan} (e : IsExtended p q) {s : ℕ} {x y : Place} {o r : ℕ} where
+  pub pair_kept : x.message ≤ length (p.accepted s) → y.message ≤ length (p.accepted s) → IsPair p s x y o r
+      → IsPair q s x y o r
+  pair_kept lx ly h = record {
+    ssn = h.ssn;
+    together = h.together;
+    alike = h.alike;
+    near = h.near;
+    rank =
+        let a = rank_kept p q e s x.message lx in let b = rank_kept p q e s y.message ly in let c
+        = h.rank in omega arith;
+  }
 
 pub bytes_kept : (p q : Plan) (e : IsExtended p q) (test : ℕ → Bool) (s n : ℕ) → n ≤ length p.places
     → bytes_below q test s n ≡ bytes_below p test s n

@@ -202,9 +202,10 @@ keeps_data_comes w d piece new l h = record {
       (push (live (w.receiver.queues z)) d) (w.reads s)) e
       (push_cases (λ z. StreamWith w w.sender.ssn (d.offset ∷ w.receiver.taken) w.receiver.passed (w.skipped s) s z
       (w.reads s)) (live (w.receiver.queues s)) d
-      (λ k. stream_pushed p w.over w.sender.gone w.sender.current (w.sender.next s) (w.sender.ssn s) w.receiver.taken
-      w.receiver.passed (w.skipped s) s (live (w.receiver.queues s)) (w.reads s) d
-      h.planned piece (here s true e k) unknown (let a = reach_from w.receiver in omega (arith, past)) (l.unread s)
+      (λ k. stream_pushed p w.sender.gone w.sender.current (w.sender.next s) (w.sender.ssn s) w.receiver.taken
+      w.receiver.passed (w.skipped s) s d
+      h.planned piece (here s true e k) unknown (let a = reach_from w.receiver in omega (arith, past))
+      (live (w.receiver.queues s)) (w.reads s) (l.unread s)
       (h.streams s v))
       (λ k. stream_settled p w.over w.sender.gone w.sender.current (w.sender.next s) (w.sender.ssn s) w.receiver.taken
       w.receiver.passed (w.skipped s) s (live (w.receiver.queues s)) (w.reads s) d
@@ -273,11 +274,10 @@ keeps_forward_comes w f t far l h = record {
   forwards = h.forwards;
   released = h.released;
   streams =
-      λ s v. stream_forwarded w.sender.plan w.over w.sender.current w.sender.next w.sender.ssn w.sender.begun
-      w.sender.gone w.sender.acknowledged w.sender.reach w.receiver.taken w.receiver.passed (w.skipped s) s
-      (w.receiver.queues s) (w.reads s) f h.planned v h.sending t account h.tails
+      λ s v. stream_forwarded h.planned v h.sending t account h.tails
       (let b = reach_from w.receiver in omega arith)
-      (let a = l.flight in let b = h.behind in omega arith) (l.unread s) (h.streams s v);
+      (let a = l.flight in let b = h.behind in omega arith) (l.unread s)
+      (w.receiver.queues s) (h.streams s v);
 }
   where
     account : (o : ℕ) → o < f.reach → IsAccounted w.sender.plan w.sender.gone w.receiver.taken o
@@ -323,8 +323,7 @@ keeps_read w s q t is e l h = record {
       (sym (at_put w.reads s r (w.reads s ++ t.got ∷ []) a))
       (subst (λ z. StreamWith w w.sender.ssn w.receiver.taken w.receiver.passed (w.skipped z) z t.rest
       (w.reads s ++ t.got ∷ [])) (sym a)
-      (stream_read w.sender.plan w.over w.sender.current w.sender.next w.sender.ssn w.sender.begun w.sender.gone
-      w.receiver.taken w.receiver.passed (w.skipped s) s q (w.reads s) t
+      (stream_read t
       h.planned (subst (λ z. w.over z ≡ false) a v) h.sending (λ o m. (h.taken o m).0) (l.unread s)
       (subst (λ z. StreamWith w w.sender.ssn w.receiver.taken w.receiver.passed (w.skipped s) s (live z) (w.reads s)) is
       (h.streams s (subst (λ z. w.over z ≡ false) a v))) e))))

@@ -123,48 +123,49 @@ short p x = split x.marker
         let b = length-drop (p.size * x.piece) (message_of p x).bytes in
         omega arith
 
-pub fits : (p : Plan) (over : ℕ → Bool) (test : ℕ → Bool) (s i n m : ℕ) → IsPlanned p over → n ≤ length p.places
-    → ((o : ℕ) → o < n → (place_at p o).stream ≡ s → (place_at p o).message ≡ i
-    → min (length (message_at p s i).bytes) (p.size * suc (place_at p o).piece) ≤ m)
-    → bytes_below p (λ o. test o && eqb (place_at p o).message i) s n ≤ m
-fits p over test s i zero m h l b = omega arith
-fits p over test s i (suc o) m h l b =
-    ⊎_elim
-    (λ (t : (eqb (place_at p o).stream s && (test o && eqb (place_at p o).message i)) ≡ true).
-    let parts = and_parts (eqb (place_at p o).stream s) (test o && eqb (place_at p o).message i) t in
-    let st = eqb-true _ _ parts.0 in
-    let mg = eqb-true _ _ (and_parts (test o) (eqb (place_at p o).message i) parts.1).1 in
-    let text : message_of p (place_at p o) ≡ message_at p s i =
-    ap (λ z. message_at p z (place_at p o).message) st ∙ ap (message_at p s) mg in
-    let x = short p (place_at p o) in
-    let lengths = ap (λ z. length z.bytes) text in
-    let here = h.piece o (omega arith) in
-    let top = b o (omega arith) st mg in
-    let r = fits p over test s i o (p.size * (place_at p o).piece) h (omega arith) (λ q lq sq mq.
-    let less =
-    mul-le-mul_left p.size (let u : suc (place_at p q).piece ≤ (place_at p o).piece =
-    piece_below p over q o h lq (omega arith) (sq ∙ sym st) (mq ∙ sym mg) in u) in
-    omega arith) in
-    let one =
-    part (eqb (place_at p o).stream s) (test o && eqb (place_at p o).message i) (bytes_at p (place_at p o))
-    ∙ cond-true _ (bytes_at p (place_at p o)) 0 t in
-    omega arith)
-    (λ (t : (eqb (place_at p o).stream s && (test o && eqb (place_at p o).message i)) ≡ false).
-    let r = fits p over test s i o m h (omega arith) (λ q lq. b q (omega arith)) in
-    let one =
-    part (eqb (place_at p o).stream s) (test o && eqb (place_at p o).message i) (bytes_at p (place_at p o))
-    ∙ cond-false _ (bytes_at p (place_at p o)) 0 t in
-    omega arith)
-    (cases_Bool (eqb (place_at p o).stream s && (test o && eqb (place_at p o).message i)))
-  where
-    part : (a t : Bool) (x : ℕ) → cond a (cond t x 0) 0 ≡ cond (a && t) x 0
-    part true t x = refl
-    part false t x = refl
+module _ {p : Plan} {over : ℕ → Bool} (test : ℕ → Bool) (s i : ℕ) (h : IsPlanned p over) where
+  pub fits : (n m : ℕ) → n ≤ length p.places
+      → ((o : ℕ) → o < n → (place_at p o).stream ≡ s → (place_at p o).message ≡ i → min (length (message_at p s
+      i).bytes) (p.size * suc (place_at p o).piece) ≤ m)
+      → bytes_below p (λ o. test o && eqb (place_at p o).message i) s n ≤ m
+  fits zero m l b = omega arith
+  fits (suc o) m l b =
+      ⊎_elim
+      (λ (t : (eqb (place_at p o).stream s && (test o && eqb (place_at p o).message i)) ≡ true).
+      let parts = and_parts (eqb (place_at p o).stream s) (test o && eqb (place_at p o).message i) t in
+      let st = eqb-true _ _ parts.0 in
+      let mg = eqb-true _ _ (and_parts (test o) (eqb (place_at p o).message i) parts.1).1 in
+      let text : message_of p (place_at p o) ≡ message_at p s i =
+      ap (λ z. message_at p z (place_at p o).message) st ∙ ap (message_at p s) mg in
+      let x = short p (place_at p o) in
+      let lengths = ap (λ z. length z.bytes) text in
+      let here = h.piece o (omega arith) in
+      let top = b o (omega arith) st mg in
+      let r = fits o (p.size * (place_at p o).piece) (omega arith) (λ q lq sq mq.
+      let less =
+      mul-le-mul_left p.size (let u : suc (place_at p q).piece ≤ (place_at p o).piece =
+      piece_below p over q o h lq (omega arith) (sq ∙ sym st) (mq ∙ sym mg) in u) in
+      omega arith) in
+      let one =
+      part (eqb (place_at p o).stream s) (test o && eqb (place_at p o).message i) (bytes_at p (place_at p o))
+      ∙ cond-true _ (bytes_at p (place_at p o)) 0 t in
+      omega arith)
+      (λ (t : (eqb (place_at p o).stream s && (test o && eqb (place_at p o).message i)) ≡ false).
+      let r = fits o m (omega arith) (λ q lq. b q (omega arith)) in
+      let one =
+      part (eqb (place_at p o).stream s) (test o && eqb (place_at p o).message i) (bytes_at p (place_at p o))
+      ∙ cond-false _ (bytes_at p (place_at p o)) 0 t in
+      omega arith)
+      (cases_Bool (eqb (place_at p o).stream s && (test o && eqb (place_at p o).message i)))
+    where
+      part : (a t : Bool) (x : ℕ) → cond a (cond t x 0) 0 ≡ cond (a && t) x 0
+      part true t x = refl
+      part false t x = refl
 
 pub message_fits : (p : Plan) (over : ℕ → Bool) (test : ℕ → Bool) (s i : ℕ) → IsPlanned p over
     → bytes_below p (λ o. test o && eqb (place_at p o).message i) s (length p.places) ≤ length (message_at p s i).bytes
 message_fits p over test s i h =
-    fits p over test s i (length p.places) (length (message_at p s i).bytes) h (omega arith) (λ o l st m. omega arith)
+    fits test s i h (length p.places) (length (message_at p s i).bytes) (omega arith) (λ o l st m. omega arith)
 
 -- More is accepted or gets an offset
 
@@ -231,26 +232,26 @@ given_bytes p acked gone s i (suc o) stays =
     part true true false true x f = refl
     part true true false false x f = omega arith
 
--- its other bytes are released now
-pub released_given : (p : Plan) (over : ℕ → Bool) (acked : ℕ → Bool) (gone : ℕ → ℕ → Bool) (s i released : ℕ)
-    → IsPlanned p over
-    → gone s i ≡ false → i < length (p.accepted s) → released ≡ released_bytes p acked gone s
-    → released + (length (message_at p s i).bytes
-    - bytes_below p (λ o. acked o && eqb (place_at p o).message i) s (length p.places))
-    ≡ released_bytes p acked (put_2 gone s i) s
-released_given p over acked gone s i released h stays known e =
-    let a = given_bytes p acked gone s i (length p.places) stays in
-    let b : bytes_among p (put_2 gone s i s) s ≡ bytes_among p (gone s) s + length (message_at p s i).bytes
-    =
-    sum_plus (λ j. cond (gone s j) (length (message_at p s j).bytes) 0)
-    (λ j. cond (put_2 gone s i s j) (length (message_at p s j).bytes) 0)
-    i (length (message_at p s i).bytes) (length (p.accepted s)) known
-    (let x = cond-true (put_2 gone s i s i) (length (message_at p s i).bytes) 0 (gone_now gone s i) in
-    let y = cond-false (gone s i) (length (message_at p s i).bytes) 0 stays in
-    omega arith)
-    (λ j ne. ap (λ z. cond z (length (message_at p s j).bytes) 0) (gone_beside gone s i j ne)) in
-    let c = message_fits p over acked s i h in
-    omega arith
+module _ {p : Plan} {over : ℕ → Bool} (acked : ℕ → Bool) (gone : ℕ → ℕ → Bool) (s i released : ℕ)
+    (h : IsPlanned p over) where
+  -- its other bytes are released now
+  pub released_given : gone s i ≡ false → i < length (p.accepted s) → released ≡ released_bytes p acked gone s
+      → released
+      + (length (message_at p s i).bytes - bytes_below p (λ o. acked o && eqb (place_at p o).message i) s (length
+      p.places)) ≡ released_bytes p acked (put_2 gone s i) s
+  released_given stays known e =
+      let a = given_bytes p acked gone s i (length p.places) stays in
+      let b : bytes_among p (put_2 gone s i s) s ≡ bytes_among p (gone s) s + length (message_at p s i).bytes
+      =
+      sum_plus (λ j. cond (gone s j) (length (message_at p s j).bytes) 0)
+      (λ j. cond (put_2 gone s i s j) (length (message_at p s j).bytes) 0)
+      i (length (message_at p s i).bytes) (length (p.accepted s)) known
+      (let x = cond-true (put_2 gone s i s i) (length (message_at p s i).bytes) 0 (gone_now gone s i) in
+      let y = cond-false (gone s i) (length (message_at p s i).bytes) 0 stays in
+      omega arith)
+      (λ j ne. ap (λ z. cond z (length (message_at p s j).bytes) 0) (gone_beside gone s i j ne)) in
+      let c = message_fits p over acked s i h in
+      omega arith
 
 pub released_aside : (p : Plan) (acked : ℕ → Bool) (gone : ℕ → ℕ → Bool) (s i t : ℕ) → (t ≡ s → ⊥)
     → released_bytes p acked (put_2 gone s i) t ≡ released_bytes p acked gone t

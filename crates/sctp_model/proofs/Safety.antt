@@ -61,20 +61,6 @@ numbers-join : (p : Plan) (xs ys : List Got) → numbers_of p (xs ++ ys) ≡ num
 numbers-join p [] ys = refl
 numbers-join p (x ∷ xs) ys = ap (λ z. number_of p x ∷ z) (numbers-join p xs ys)
 
-in_order : (p : Plan) (gone : ℕ → ℕ → Bool) (current : Option Place) (next_number ssn : ℕ) (taken : List ℕ)
-    (passed skipped s : ℕ) (q : Queue) (gots : List Got)
-    → IsStream p gone current next_number ssn taken passed skipped s q gots
-    → AreInOrder p taken s gots (numbers_of p gots)
-in_order p gone current next_number ssn taken passed skipped s q gots w =
-    let a = all_front (IsGot p taken s) gots q.complete w.got in
-    record {
-      named = names_of p taken s gots a;
-      once =
-          distinct_front (numbers_of p gots) (numbers_of p q.complete)
-          (subst AreDistinct (numbers-join p gots q.complete) w.once);
-      rising = subst AreRising (sym (ordered_numbers p taken s gots a)) w.rising;
-    }
-
 whole_of : (p : Plan) (taken : List ℕ) (s i : ℕ) (gots : List Got) → AllByRecursion (IsGot p taken s) gots
     → mem i (numbers_of p gots) ≡ true → IsWhole p taken s i
 whole_of p taken s i gots a m =
@@ -85,35 +71,35 @@ whole_of p taken s i gots a m =
     wholes [] b = tt
     wholes (g ∷ gs) b = ((b.0).tells.whole, wholes gs b.1)
 
--- of what was read, the ordered messages have numbers below the last one's
-ordered_below : (p : Plan) (taken : List ℕ) (s end i : ℕ) (gs : List Got) → AllByRecursion (IsGot p taken s) gs
-    → AllByRecursion (λ (j : ℕ). j < end) (numbers_of p (filter (λ (g : Got). g.ordered) gs)) → is_ordered p s i ≡ true
-    → mem i (numbers_of p gs) ≡ true → i < end
-ordered_below p taken s end i gs a b o m = all_mem (λ (j : ℕ). j < end) _ i b
-    (subst (λ z. mem i z ≡ true) (ordered_numbers p taken s gs a) (mem_kept (numbers_of p gs) m))
-  where
-    mem_kept : (xs : List ℕ) → mem i xs ≡ true → mem i (filter (is_ordered p s) xs) ≡ true
-    mem_kept [] m = m
-    mem_kept (x ∷ xs) m = ⊎_elim
-        (λ (e : eqb x i ≡ true). subst (λ z. mem i z ≡ true)
-        (sym (cond-true (is_ordered p s x) (x ∷ filter (is_ordered p s) xs) (filter (is_ordered p s) xs)
-        (ap (is_ordered p s) (eqb-true x i e) ∙ o)))
-        (ap (λ w. w || mem i (filter (is_ordered p s) xs)) e))
-        (λ (r : mem i xs ≡ true). ⊎_elim
-        (λ (k : is_ordered p s x ≡ true). subst (λ z. mem i z ≡ true)
-        (sym (cond-true (is_ordered p s x) (x ∷ filter (is_ordered p s) xs) (filter (is_ordered p s) xs) k))
-        (or_right_true (eqb x i) _ (mem_kept xs r)))
-        (λ (k : is_ordered p s x ≡ false). subst (λ z. mem i z ≡ true)
-        (sym (cond-false (is_ordered p s x) (x ∷ filter (is_ordered p s) xs) (filter (is_ordered p s) xs) k))
-        (mem_kept xs r))
-        (cases_Bool (is_ordered p s x)))
-        (or_cases _ _ m)
-      where
-        or_right_true : (a b : Bool) → b ≡ true → (a || b) ≡ true
-        or_right_true true b e = refl
-        or_right_true false b e = e
-
--- A drained stream kept reliable.
+module _ (p : Plan) (taken : List ℕ) (s end : ℕ) where
+  -- of what was read, the ordered messages have numbers below the last one's
+  ordered_below : (i : ℕ) (gs : List Got) → AllByRecursion (IsGot p taken s) gs
+      → AllByRecursion (λ (j : ℕ). j < end) (numbers_of p (filter (λ (g : Got). g.ordered) gs))
+      → is_ordered p s i ≡ true
+      → mem i (numbers_of p gs) ≡ true → i < end
+  ordered_below i gs a b o m = all_mem (λ (j : ℕ). j < end) _ i b
+      (subst (λ z. mem i z ≡ true) (ordered_numbers p taken s gs a) (mem_kept (numbers_of p gs) m))
+    where
+      mem_kept : (xs : List ℕ) → mem i xs ≡ true → mem i (filter (is_ordered p s) xs) ≡ true
+      mem_kept [] m = m
+      mem_kept (x ∷ xs) m = ⊎_elim
+          (λ (e : eqb x i ≡ true). subst (λ z. mem i z ≡ true)
+          (sym (cond-true (is_ordered p s x) (x ∷ filter (is_ordered p s) xs) (filter (is_ordered p s) xs)
+          (ap (is_ordered p s) (eqb-true x i e) ∙ o)))
+          (ap (λ w. w || mem i (filter (is_ordered p s) xs)) e))
+          (λ (r : mem i xs ≡ true). ⊎_elim
+          (λ (k : is_ordered p s x ≡ true). subst (λ z. mem i z ≡ true)
+          (sym (cond-true (is_ordered p s x) (x ∷ filter (is_ordered p s) xs) (filter (is_ordered p s) xs) k))
+          (or_right_true (eqb x i) _ (mem_kept xs r)))
+          (λ (k : is_ordered p s x ≡ false). subst (λ z. mem i z ≡ true)
+          (sym (cond-false (is_ordered p s x) (x ∷ filter (is_ordered p s) xs) (filter (is_ordered p s) xs) k))
+          (mem_kept xs r))
+          (cases_Bool (is_ordered p s x)))
+          (or_cases _ _ m)
+        where
+          or_right_true : (a b : Bool) → b ≡ true → (a || b) ≡ true
+          or_right_true true b e = refl
+          or_right_true false b e = e
 
 empty_complete : (q : Queue) → next q ≡ None → q.complete ≡ []
 empty_complete q e = go q.complete refl e
@@ -122,76 +108,91 @@ empty_complete q e = go q.complete refl e
     go [] n f = n
     go (g ∷ gs) n f = absurd (cc)
 
-drained_all : (p : Plan) (over : ℕ → Bool) (gone : ℕ → ℕ → Bool) (current : Option Place) (next_number ssn : ℕ)
-    (taken : List ℕ) (passed skipped s : ℕ) (q : Queue) (gots : List Got)
-    → IsPlanned p over → over s ≡ false → NoneGone gone s → unread p s gots < 32768
-    → IsStream p gone current next_number ssn taken passed skipped s q gots → next q ≡ None
-    → AreAll p taken s gots (numbers_of p gots)
-drained_all p over gone current next_number ssn taken passed skipped s q gots hp v none near w e = record {
-  in_order = in_order p gone current next_number ssn taken passed skipped s q gots w;
-  sound = λ i m. record {
-    whole = whole_of p taken s i gots got m;
-    before =
-        λ o j l k. whole_of p taken s j gots got
-        (f.read j (let b = ordered_below p taken s (read_end p 0 gots) i gots got w.below o m in omega arith) k);
-  };
-  complete = λ i t. ⊎_elim
-      (λ (o : is_ordered p s i ≡ true). ordered i t o)
-      (λ (o : is_ordered p s i ≡ false). subst (λ z. mem i (numbers_of p z) ≡ true)
-      (ap (λ z. gots ++ z) empty ∙ append-nil gots) (w.unordered.all none i t.whole o))
-      (cases_Bool (is_ordered p s i));
-}
-  where
-    got : AllByRecursion (IsGot p taken s) gots
-    got = all_front (IsGot p taken s) gots q.complete w.got
-
-    empty : q.complete ≡ []
-    empty = empty_complete q e
-
-    f : IsFull p taken s next_number ssn w.ordered.cursor (read_ssn p 0 gots) (read_end p 0 gots) q gots
-    f = w.ordered.full none
-
-    due : next_ordered q ≡ None
-    due = sym (ap (next_from q) empty) ∙ e
-
-    ordered : (i : ℕ) → IsToBeHad p taken s i → is_ordered p s i ≡ true → mem i (numbers_of p gots) ≡ true
-    ordered i t o = ⊎_elim
-        (λ (l : i < read_end p 0 gots). f.read i l o)
-        (λ (l : read_end p 0 gots ≤ i). absurd (
-        let r = rank_rises (p.accepted s) (read_end p 0 gots) i l in
-        let b = f.level in
-        let tw = t.whole in
-        ⊎_elim
-        (λ (same : rank (p.accepted s) i ≡ read_ssn p 0 gots).
-        none_due p over gone current next_number ssn taken passed skipped s (read_ssn p 0 gots) (read_end p 0 gots) q
-        gots i hp v none near w.ordered due o same t.whole)
-        (λ (apart : rank (p.accepted s) i ≡ read_ssn p 0 gots → ⊥).
-        let j =
-        rank_found (p.accepted s) i (read_ssn p 0 gots) (let a = tw.accepted in omega arith) (omega (arith, apart)) in
-        none_due p over gone current next_number ssn taken passed skipped s (read_ssn p 0 gots) (read_end p 0 gots) q
-        gots j.0 hp v none near w.ordered due j.2 j.3 (t.before o j.0 j.1 j.2))
-        (cases_eq (rank (p.accepted s) i) (read_ssn p 0 gots))))
-        (cases_lt i (read_end p 0 gots))
-
-drained_prefix : (p : Plan) (over : ℕ → Bool) (gone : ℕ → ℕ → Bool) (current : Option Place) (next_number ssn : ℕ)
-    (taken : List ℕ) (passed skipped s : ℕ) (q : Queue) (gots : List Got)
-    → IsPlanned p over → over s ≡ false → NoneGone gone s → unread p s gots < 32768
-    → next_number ≤ length (p.accepted s) → IsKeptOrdered p s
-    → IsStream p gone current next_number ssn taken passed skipped s q gots → next q ≡ None
-    → IsPrefix p taken s (read_end p 0 gots)
-drained_prefix p over gone current next_number ssn taken passed skipped s q gots hp v none near within kept w e =
+in_order : (p : Plan) (taken : List ℕ) (s : ℕ) (q : Queue) (gots : List Got)
+    → AllByRecursion (IsGot p taken s) (gots ++ q.complete) → AreDistinct (numbers_of p (gots ++ q.complete))
+    → AreRising (numbers_of p (filter (λ (g : Got). g.ordered) gots)) → AreInOrder p taken s gots (numbers_of p gots)
+in_order p taken s q gots got once rising =
+    let a = all_front (IsGot p taken s) gots q.complete got in
     record {
-      within = let a = w.ordered.until in omega arith;
-      whole = λ i l. whole_of p taken s i gots (all_front (IsGot p taken s) gots q.complete w.got)
-          (f.read i l (kept i (let a = w.ordered.until in omega arith)));
-      longest =
-          λ t. none_due p over gone current next_number ssn taken passed skipped s (read_ssn p 0 gots)
-          (read_end p 0 gots) q gots (read_end p 0 gots) hp v none near w.ordered
-          (sym (ap (next_from q) (empty_complete q e)) ∙ e) (kept _ t.accepted) (sym f.level) t;
+      named = names_of p taken s gots a;
+      once =
+          distinct_front (numbers_of p gots) (numbers_of p q.complete)
+          (subst AreDistinct (numbers-join p gots q.complete) once);
+      rising = subst AreRising (sym (ordered_numbers p taken s gots a)) rising;
     }
-  where
-    f : IsFull p taken s next_number ssn w.ordered.cursor (read_ssn p 0 gots) (read_end p 0 gots) q gots
-    f = w.ordered.full none
+
+module _ (p : Plan) (gone : ℕ → ℕ → Bool) (current : Option Place) (next_number ssn : ℕ) (taken : List ℕ)
+    (passed skipped s : ℕ) (q : Queue) (gots : List Got) where
+  -- what holds of the stream, by its queue and what was read of it
+  abbrev IsStreamDrained : Queue → List Got → Type 0
+  IsStreamDrained = IsStream p gone current next_number ssn taken passed skipped s
+
+  drained_all : {over : ℕ → Bool} → IsPlanned p over → over s ≡ false → NoneGone gone s → unread p s gots < 32768
+      → IsStreamDrained q gots → next q ≡ None
+      → AreAll p taken s gots (numbers_of p gots)
+  drained_all hp v none near w e = record {
+    in_order = in_order p taken s q gots w.got w.once w.rising;
+    sound = λ i m. record {
+      whole = whole_of p taken s i gots got m;
+      before =
+          λ o j l k. read_whole j
+          (f.read j (let b = ordered_below p taken s (read_end p 0 gots) i gots got w.below o m in omega arith) k);
+    };
+    complete = λ i t. ⊎_elim
+        (λ (o : is_ordered p s i ≡ true). ordered i t o)
+        (λ (o : is_ordered p s i ≡ false). subst (λ z. mem i (numbers_of p z) ≡ true)
+        (ap (λ z. gots ++ z) empty ∙ append-nil gots) (w.unordered.all none i t.whole o))
+        (cases_Bool (is_ordered p s i));
+  }
+    where
+      got : AllByRecursion (IsGot p taken s) gots
+      got = all_front (IsGot p taken s) gots q.complete w.got
+
+      empty : q.complete ≡ []
+      empty = empty_complete q e
+
+      f : IsFull p taken s next_number ssn w.ordered.cursor (read_ssn p 0 gots) (read_end p 0 gots) q gots
+      f = w.ordered.full none
+
+      read_whole : (j : ℕ) → mem j (numbers_of p gots) ≡ true → IsWhole p taken s j
+      read_whole j m = whole_of p taken s j gots got m
+
+      due : next_ordered q ≡ None
+      due = sym (ap (next_from q) empty) ∙ e
+
+      ordered : (i : ℕ) → IsToBeHad p taken s i → is_ordered p s i ≡ true → mem i (numbers_of p gots) ≡ true
+      ordered i t o = ⊎_elim
+          (λ (l : i < read_end p 0 gots). f.read i l o)
+          (λ (l : read_end p 0 gots ≤ i). absurd (
+          let r = rank_rises (p.accepted s) (read_end p 0 gots) i l in
+          let b = f.level in
+          let tw = t.whole in
+          ⊎_elim
+          (λ (same : rank (p.accepted s) i ≡ read_ssn p 0 gots).
+          none_due hp v none near w.ordered due o same t.whole)
+          (λ (apart : rank (p.accepted s) i ≡ read_ssn p 0 gots → ⊥).
+          let j =
+          rank_found (p.accepted s) i (read_ssn p 0 gots) (let a = tw.accepted in omega arith) (omega (arith, apart)) in
+          none_due hp v none near w.ordered due j.2 j.3 (t.before o j.0 j.1 j.2))
+          (cases_eq (rank (p.accepted s) i) (read_ssn p 0 gots))))
+          (cases_lt i (read_end p 0 gots))
+
+  drained_prefix : {over : ℕ → Bool} → IsPlanned p over → over s ≡ false → NoneGone gone s → unread p s gots < 32768
+      → next_number ≤ length (p.accepted s) → IsKeptOrdered p s
+      → IsStreamDrained q gots → next q ≡ None
+      → IsPrefix p taken s (read_end p 0 gots)
+  drained_prefix hp v none near within kept w e =
+      record {
+        within = let a = w.ordered.until in omega arith;
+        whole = λ i l. whole_of p taken s i gots (all_front (IsGot p taken s) gots q.complete w.got)
+            (f.read i l (kept i (let a = w.ordered.until in omega arith)));
+        longest =
+            λ t. none_due hp v none near w.ordered
+            (sym (ap (next_from q) (empty_complete q e)) ∙ e) (kept _ t.accepted) (sym f.level) t;
+      }
+    where
+      f : IsFull p taken s next_number ssn w.ordered.cursor (read_ssn p 0 gots) (read_end p 0 gots) q gots
+      f = w.ordered.full none
 
 bytes_fewer : (p : Plan) (a b : ℕ → Bool) (s n : ℕ)
     → ((o : ℕ) → o < n → (place_at p o).stream ≡ s → a o ≡ true → b o ≡ true)
@@ -214,7 +215,7 @@ pub the_invariant_is_enough : TheInvariantIsEnough
 the_invariant_is_enough w l h s v = record {
   read = (
     numbers_of p (w.reads s),
-    in_order p gone current (w.sender.next s) (w.sender.ssn s) taken passed skipped s q (w.reads s) stream,
+    in_order p taken s q (w.reads s) stream.got stream.once stream.rising,
   );
   prefix = λ ko kr is_open.
       let d = end_of in
@@ -238,7 +239,7 @@ the_invariant_is_enough w l h s v = record {
       omega arith;
   all = λ kr is_open. (
     numbers_of p all,
-    drained_all p w.over gone current (w.sender.next s) (w.sender.ssn s) taken passed skipped s end.rest all h.planned v
+    drained_all p gone current (w.sender.next s) (w.sender.ssn s) taken passed skipped s end.rest all h.planned v
         (none kr) end_of.near end_of.stream end_of.none,
   );
 }
@@ -275,9 +276,9 @@ the_invariant_is_enough w l h s v = record {
 
     end_of : IsDrained p gone current (w.sender.next s) (w.sender.ssn s) taken passed skipped s (w.reads s) end
     end_of =
-        drained p w.over current w.sender.next w.sender.ssn w.sender.begun gone taken passed skipped s (waiting q) q
-        (w.reads s) h.planned v h.sending
-        (λ o m. (h.taken o m).0) (l.unread s) (omega arith) stream
+        drained h.planned v h.sending
+        (λ o m. (h.taken o m).0) (waiting q) q
+        (w.reads s) (l.unread s) (omega arith) stream
 
     none : IsKeptReliable p s → NoneGone gone s
     none kr i = false_from_ne_true _ (λ (g : gone s i ≡ true).
@@ -286,6 +287,6 @@ the_invariant_is_enough w l h s v = record {
 
     prefix_of : IsKeptOrdered p s → IsKeptReliable p s → IsPrefix p taken s (read_end p 0 all)
     prefix_of ko kr =
-        drained_prefix p w.over gone current (w.sender.next s) (w.sender.ssn s) taken passed skipped s end.rest all
+        drained_prefix p gone current (w.sender.next s) (w.sender.ssn s) taken passed skipped s end.rest all
         h.planned v (none kr) end_of.near
         (h.sending.within s) ko end_of.stream end_of.none

@@ -56,69 +56,78 @@ freed_now w r s i n h e is t = ⊎_elim
     ∙ sym (released_aside r w.sender.acknowledged w.sender.gone s i t ne))
     (cases_eq t s)
 
-pub grow_keeps : (w : Direction) (r : Plan) (c : Option Place) (nx sn : ℕ → ℕ) (bg gone' : ℕ → ℕ → Bool) (rl : ℕ → ℕ)
-    (ds : List Data)
-    → Invariant w → IsExtended w.sender.plan r → ((t i : ℕ) → w.sender.gone t i ≡ true → gone' t i ≡ true)
-    → IsPlanned r w.over → IsSending r c nx sn bg gone' w.over → IsAscending r c sn w.sender.reach
-    → AllByRecursion (IsPiece r) ds
-    → ((o : ℕ) → o < length r.places → (place_at r o).marker ≡ true → gone_at r gone' o ≡ true)
-    → ((s : ℕ) → w.over s ≡ false → (o : ℕ) → length w.sender.plan.places ≤ o → IsAt r s true o → (x : ℕ)
-    → IsAt w.sender.plan s true x
-    → gone_at w.sender.plan w.sender.gone x ≡ true → (place_at w.sender.plan x).ssn < (place_at r o).ssn)
-    → ((s : ℕ) → rl s ≡ released_bytes r w.sender.acknowledged gone' s)
-    → ((s : ℕ) → w.over s ≡ false → (st : StreamOf w gone' s) → (o : ℕ) → length w.sender.plan.places ≤ o
-    → IsAt r s true o
-    → IsNew r gone' s (st.ordered).cursor (read_ssn w.sender.plan 0 (w.reads s))
-    (read_end w.sender.plan 0 (w.reads s)) o)
-    → ((s : ℕ) → w.over s ≡ false → (st : StreamOf w gone' s)
-    → IsCounted r gone' c (nx s) (sn s) s (st.ordered).cursor (read_ssn w.sender.plan 0 (w.reads s))
-    (read_end w.sender.plan 0 (w.reads s)))
-    → Invariant (record w {
-      sender = record w.sender { plan = r; current = c; next = nx; ssn = sn; begun = bg; gone = gone'; released = rl };
-      datas = ds;
-    })
-grow_keeps w r c nx sn bg gone' rl ds h e more planned sending ascending datas tails later freed new counts = record {
-  planned = planned;
-  sending = sending;
-  ascending = ascending;
-  datas = datas;
-  taken = λ o m.
-      let t = h.taken o m in
-      (let a = t.0 in let b = e.more in omega arith, ap (λ z. z.marker) (e.places o t.0) ∙ t.1);
-  accounted = λ o l. ⊎_elim
-      (λ (m : mem o w.receiver.taken ≡ true). inl m)
-      (λ (g : gone_at w.sender.plan w.sender.gone o ≡ true). inr (gone_kept o l g))
-      (h.accounted o l);
-  passed = let a = h.passed in let b = e.more in omega arith;
-  tails = tails;
-  sacks = h.sacks;
-  acknowledged = h.acknowledged;
-  cumulative = h.cumulative;
-  behind = h.behind;
-  forwards =
-      all_weaker _ _ _ (λ f. forward_grows w.sender.plan r w.sender.gone gone' w.over w.sender.acknowledged
-      w.sender.reach f e more later) h.forwards;
-  released = freed;
-  streams = λ s v.
-      let st =
-      stream_gone w.sender.plan w.sender.gone gone' w.sender.current (w.sender.next s) (w.sender.ssn s) w.receiver.taken
-      w.receiver.passed (w.skipped s) s
-      (live (w.receiver.queues s)) (w.reads s) more (h.streams s v) in
-      stream_grows w.sender.plan r gone' w.sender.current c (w.sender.next s) (nx s) (w.sender.ssn s) (sn s)
-      w.receiver.taken w.receiver.passed (w.skipped s) s
-      (live (w.receiver.queues s)) (w.reads s) e (λ o m. (h.taken o m).0) planned.filled (h.sending.within s) st
-      (new s v st) (counts s v st);
-}
-  where
-    gone_kept : (o : ℕ) → o < reach w.receiver → gone_at w.sender.plan w.sender.gone o ≡ true → gone_at r gone' o ≡ true
-    gone_kept o l g = ⊎_elim
-        (λ (a : o < length w.sender.plan.places).
-        subst (λ z. gone' z.stream z.message ≡ true) (sym (e.places o a)) (more _ _ g))
-        (λ (a : length w.sender.plan.places ≤ o). absurd (⊎_elim
-        (λ (m : mem o w.receiver.taken ≡ true). let t = (h.taken o m).0 in omega arith)
-        (λ (b : o < w.receiver.passed). let t = h.passed in omega arith)
-        (reach_below w.receiver o l)))
-        (cases_lt o (length w.sender.plan.places))
+module _ (w : Direction) (r : Plan) (c : Option Place) (nx sn : ℕ → ℕ) (bg gone' : ℕ → ℕ → Bool) (rl : ℕ → ℕ)
+    (ds : List Data) (h : Invariant w) (e : IsExtended w.sender.plan r)
+    (more : (t i : ℕ) → w.sender.gone t i ≡ true → gone' t i ≡ true) (planned : IsPlanned r w.over) where
+  pub grow_keeps : IsSending r c nx sn bg gone' w.over → IsAscending r c sn w.sender.reach
+      → AllByRecursion (IsPiece r) ds
+      → ((o : ℕ) → o < length r.places → (place_at r o).marker ≡ true → gone_at r gone' o ≡ true)
+      → ((s : ℕ) → w.over s ≡ false → (o : ℕ) → length w.sender.plan.places ≤ o → IsAt r s true o → (x : ℕ) → IsAt
+      w.sender.plan s true x → gone_at w.sender.plan w.sender.gone x
+      ≡ true → (place_at w.sender.plan x).ssn < (place_at r o).ssn)
+      → ((s : ℕ) → rl s ≡ released_bytes r w.sender.acknowledged gone' s)
+      → ((s : ℕ) → w.over s ≡ false → (st : StreamOf w gone' s) → (o : ℕ) → length w.sender.plan.places ≤ o → IsAt r s
+      true o → IsNew r gone' s (st.ordered).cursor (read_ssn w.sender.plan 0 (w.reads s))
+      (read_end w.sender.plan 0 (w.reads s)) o)
+      → ((s : ℕ) → w.over s ≡ false → (st : StreamOf w gone' s) → IsCounted r gone' c (nx s) (sn s) s
+      (st.ordered).cursor (read_ssn w.sender.plan 0 (w.reads s)) (read_end w.sender.plan 0 (w.reads s)))
+      → Invariant
+      (record w {
+        sender = record w.sender {
+          plan = r;
+          current = c;
+          next = nx;
+          ssn = sn;
+          begun = bg;
+          gone = gone';
+          released = rl;
+        };
+        datas = ds;
+      })
+  grow_keeps sending ascending datas tails later freed new counts = record {
+    planned = planned;
+    sending = sending;
+    ascending = ascending;
+    datas = datas;
+    taken = λ o m.
+        let t = h.taken o m in
+        (let a = t.0 in let b = e.more in omega arith, ap (λ z. z.marker) (e.places o t.0) ∙ t.1);
+    accounted = λ o l. ⊎_elim
+        (λ (m : mem o w.receiver.taken ≡ true). inl m)
+        (λ (g : gone_at w.sender.plan w.sender.gone o ≡ true). inr (gone_kept o l g))
+        (h.accounted o l);
+    passed = let a = h.passed in let b = e.more in omega arith;
+    tails = tails;
+    sacks = h.sacks;
+    acknowledged = h.acknowledged;
+    cumulative = h.cumulative;
+    behind = h.behind;
+    forwards =
+        all_weaker _ _ _ (λ f. forward_grows w.sender.plan r w.sender.gone gone' w.over w.sender.acknowledged
+        w.sender.reach f e more later) h.forwards;
+    released = freed;
+    streams = λ s v.
+        let st =
+        stream_gone w.sender.plan w.sender.gone gone' w.sender.current (w.sender.next s)
+        (w.sender.ssn s) w.receiver.taken
+        w.receiver.passed (w.skipped s) s
+        (live (w.receiver.queues s)) (w.reads s) more (h.streams s v) in
+        stream_grows w.sender.plan r gone' w.sender.current c (w.sender.next s) (nx s) (w.sender.ssn s) (sn s)
+        w.receiver.taken w.receiver.passed (w.skipped s) s
+        (live (w.receiver.queues s)) (w.reads s) e (λ o m. (h.taken o m).0) planned.filled (h.sending.within s) st
+        (new s v st) (counts s v st);
+  }
+    where
+      gone_kept : (o : ℕ) → o < reach w.receiver → gone_at w.sender.plan w.sender.gone o ≡ true
+          → gone_at r gone' o ≡ true
+      gone_kept o l g = ⊎_elim
+          (λ (a : o < length w.sender.plan.places).
+          subst (λ z. gone' z.stream z.message ≡ true) (sym (e.places o a)) (more _ _ g))
+          (λ (a : length w.sender.plan.places ≤ o). absurd (⊎_elim
+          (λ (m : mem o w.receiver.taken ≡ true). let t = (h.taken o m).0 in omega arith)
+          (λ (b : o < w.receiver.passed). let t = h.passed in omega arith)
+          (reach_below w.receiver o l)))
+          (cases_lt o (length w.sender.plan.places))
 
 pub same_plan : (p : Plan)
     → ((o : ℕ) → o < length p.places → (place_at p o).message < length (p.accepted (place_at p o).stream))
@@ -172,13 +181,15 @@ planned_message p over s m filled h = record {
   before = λ o k l x. let b = h.before o k l x in
       let c = b.1 in
       (b.0, record { next = c.next; follows = c.follows; sent = c.sent });
-  rises = λ t o r l a b. h.rises t o r l (at_before p q e t o true a.known a) (at_before p q e t r true b.known b);
+  rises = λ t o r l a b.
+      let before = at_before p q e t in
+      h.rises t o r l (before o true a.known a) (before r true b.known b);
   pairs = λ t v o r l a b.
       let a' = at_before p q e t o true a.known a in
       let b' = at_before p q e t r true b.known b in
       let ko = subst (λ z. (place_at p o).message < length (p.accepted z)) a'.stream (h.known o a.known) in
       let kr = subst (λ z. (place_at p r).message < length (p.accepted z)) b'.stream (h.known r b.known) in
-      pair_kept p q e t (place_at p o) (place_at p r) o r (omega (arith, ko)) (omega (arith, kr))
+      pair_kept e (omega (arith, ko)) (omega (arith, kr))
       (h.pairs t v o r l a' b');
 }
   where
@@ -188,54 +199,53 @@ planned_message p over s m filled h = record {
     e : IsExtended p q
     e = message_extended p s m h.known
 
-sending_message : (p : Plan) (current : Option Place) (next ssn : ℕ → ℕ) (begun gone : ℕ → ℕ → Bool) (over : ℕ → Bool)
-    (s : ℕ) (m : Message)
-    → IsPlanned p over → IsSending p current next ssn begun gone over
-    → IsSending (with_message p s m) current next ssn begun gone over
-sending_message p current next ssn begun gone over s m h g = record {
-  within = λ t. let a = g.within t in let b = e.longer t in omega arith;
-  counted = g.counted;
-  numbers = λ t o a. g.numbers t o (at_before p q e t o true a.known a);
-  earlier = λ t v o a.
-      let a' = at_before p q e t o true a.known a in
-      let ko = subst (λ z. (place_at p o).message < length (p.accepted z)) a'.stream (h.known o a.known) in
-      let x = g.earlier t v o a' in
-      record {
-        below = x.below;
-        near = x.near;
-        rank =
-            let b = x.rank in
-            let c = rank_kept p q e t (place_at p o).message (omega (arith, ko)) in
-            let d = rank_kept p q e t (next t) (g.within t) in omega arith;
-      };
-  going = λ y c.
-      let x = g.going y c in
-      let i = x.is in
-      record {
-        last = x.last;
-        is = x.is;
-        follows = x.follows;
-        sent = x.sent;
-        more = last_kept p q e x.last (omega arith) ∙ x.more;
-        stays = x.stays;
-        plain = x.plain;
-      };
-  closed = λ c o l. ⊎_elim
-      (λ (a : is_last p (place_at p o) ≡ true). inl (last_kept p q e o (omega arith) ∙ a))
-      (λ (a : (place_at p o).marker ≡ true). inr a)
-      (g.closed c o l);
-  given_up = λ t i a.
-      let x = g.given_up t i a in (
-        let b = x.0 in let c = e.longer t in omega arith,
-        subst (λ z. is_reliable z.policy ≡ false) (sym (e.messages t i x.0)) x.1,
-      );
-}
-  where
-    q : Plan
-    q = with_message p s m
+module _ {p : Plan} {current : Option Place} {next ssn : ℕ → ℕ} {begun gone : ℕ → ℕ → Bool} {over : ℕ → Bool}
+    (s : ℕ) (m : Message) (h : IsPlanned p over) (g : IsSending p current next ssn begun gone over) where
+  sending_message : IsSending (with_message p s m) current next ssn begun gone over
+  sending_message = record {
+    within = λ t. let a = g.within t in let b = e.longer t in omega arith;
+    counted = g.counted;
+    numbers = λ t o a. g.numbers t o (at_before p q e t o true a.known a);
+    earlier = λ t v o a.
+        let a' = at_before p q e t o true a.known a in
+        let ko = subst (λ z. (place_at p o).message < length (p.accepted z)) a'.stream (h.known o a.known) in
+        let x = g.earlier t v o a' in
+        record {
+          below = x.below;
+          near = x.near;
+          rank =
+              let b = x.rank in
+              let c = rank_kept p q e t (place_at p o).message (omega (arith, ko)) in
+              let d = rank_kept p q e t (next t) (g.within t) in omega arith;
+        };
+    going = λ y c.
+        let x = g.going y c in
+        let i = x.is in
+        record {
+          last = x.last;
+          is = x.is;
+          follows = x.follows;
+          sent = x.sent;
+          more = last_kept p q e x.last (omega arith) ∙ x.more;
+          stays = x.stays;
+          plain = x.plain;
+        };
+    closed = λ c o l. ⊎_elim
+        (λ (a : is_last p (place_at p o) ≡ true). inl (last_kept p q e o (omega arith) ∙ a))
+        (λ (a : (place_at p o).marker ≡ true). inr a)
+        (g.closed c o l);
+    given_up = λ t i a.
+        let x = g.given_up t i a in (
+          let b = x.0 in let c = e.longer t in omega arith,
+          subst (λ z. is_reliable z.policy ≡ false) (sym (e.messages t i x.0)) x.1,
+        );
+  }
+    where
+      q : Plan
+      q = with_message p s m
 
-    e : IsExtended p q
-    e = message_extended p s m h.known
+      e : IsExtended p q
+      e = message_extended p s m h.known
 
 -- the message going on was accepted
 going_known : (p : Plan) (over : ℕ → Bool) (gone : ℕ → ℕ → Bool) (y : Place) → IsPlanned p over → IsGoing p gone y
@@ -254,15 +264,15 @@ keeps_write w s m full h =
     (λ t i g. g)
     (planned_message p w.over s (as_kept m) (subst (λ z. 0 < length z) (sym (kept_bytes m)) (omega (arith, apart)))
     h.planned)
-    (sending_message p w.sender.current w.sender.next w.sender.ssn w.sender.begun w.sender.gone w.over s (as_kept m)
+    (sending_message s (as_kept m)
     h.planned h.sending)
     (ascending_message p s (as_kept m) w.sender.current w.sender.ssn w.sender.reach h.planned.known
     (λ y c. going_known p w.over w.sender.gone y h.planned (h.sending.going y c)) h.ascending)
     (all_weaker _ _ _ (λ d. piece_kept p q e d) h.datas)
     h.tails
-    (λ t v o l a. no_new p q t o refl l a)
+    (λ t v o. no_new p q t o refl)
     (freed_same w q h e)
-    (λ t v st o l a. no_new p q t o refl l a)
+    (λ t v st o. no_new p q t o refl)
     (λ t v st.
     let o = st.ordered in
     let n = h.sending.within t in
@@ -331,9 +341,9 @@ keeps_pass_over w s can h =
     h.ascending
     h.datas
     h.tails
-    (λ t v o l a. no_new p p t o refl l a)
+    (λ t v o. no_new p p t o refl)
     h.released
-    (λ t v st o l a. no_new p p t o refl l a)
+    (λ t v st o. no_new p p t o refl)
     (λ t v st.
     let o = st.ordered in
     record {
@@ -397,40 +407,42 @@ gone_cases gone s i t j g = ⊎_elim
     (λ (b : (eqb t s && eqb j i) ≡ false). inr (sym (cond-false _ true (gone t j) b) ∙ g))
     (cases_Bool (eqb t s && eqb j i))
 
-pub sending_gone : (p : Plan) (current : Option Place) (next ssn : ℕ → ℕ) (begun gone : ℕ → ℕ → Bool)
-    (over : ℕ → Bool) (s i : ℕ)
-    → i < length (p.accepted s) → is_reliable (message_at p s i).policy ≡ false
-    → ((y : Place) → current ≡ Some y → (y.stream ≡ s) × (y.message ≡ i) → ⊥)
-    → IsSending p current next ssn begun gone over → IsSending p current next ssn begun (put_2 gone s i) over
-sending_gone p current next ssn begun gone over s i known unreliable apart g = record {
-  within = g.within;
-  counted = g.counted;
-  numbers = g.numbers;
-  earlier = g.earlier;
-  going = λ y c.
-      let x = g.going y c in
-      record {
-        last = x.last;
-        is = x.is;
-        follows = x.follows;
-        sent = x.sent;
-        more = x.more;
-        stays = false_from_ne_true _ (λ (b : put_2 gone s i y.stream y.message ≡ true). ⊎_elim
-            (λ (here : (y.stream ≡ s) × (y.message ≡ i)). apart y c here)
-            (λ (there : gone y.stream y.message ≡ true). true≢false (sym there ∙ x.stays))
-            (gone_cases gone s i y.stream y.message b));
-        plain = x.plain;
-      };
-  closed = g.closed;
-  given_up = λ t j b. ⊎_elim
-      (λ (here : (t ≡ s) × (j ≡ i)). (
-        subst (λ z. z < length (p.accepted t)) (sym here.1) (subst (λ z. i < length (p.accepted z)) (sym here.0) known),
-        ap (λ z. is_reliable (message_at p t z).policy) here.1 ∙ ap (λ z. is_reliable (message_at p z i).policy) here.0
-            ∙ unreliable,
-      ))
-      (λ (there : gone t j ≡ true). g.given_up t j there)
-      (gone_cases gone s i t j b);
-}
+module _ {p : Plan} {current : Option Place} {next ssn : ℕ → ℕ} {begun gone : ℕ → ℕ → Bool} {over : ℕ → Bool}
+    (s i : ℕ) (known : i < length (p.accepted s)) (unreliable : is_reliable (message_at p s i).policy ≡ false)
+    (apart : (y : Place) → current ≡ Some y → (y.stream ≡ s) × (y.message ≡ i) → ⊥)
+    (g : IsSending p current next ssn begun gone over) where
+  pub sending_gone : IsSending p current next ssn begun (put_2 gone s i) over
+  sending_gone = record {
+    within = g.within;
+    counted = g.counted;
+    numbers = g.numbers;
+    earlier = g.earlier;
+    going = λ y c.
+        let x = g.going y c in
+        record {
+          last = x.last;
+          is = x.is;
+          follows = x.follows;
+          sent = x.sent;
+          more = x.more;
+          stays = false_from_ne_true _ (λ (b : put_2 gone s i y.stream y.message ≡ true). ⊎_elim
+              (λ (here : (y.stream ≡ s) × (y.message ≡ i)). apart y c here)
+              (λ (there : gone y.stream y.message ≡ true). true≢false (sym there ∙ x.stays))
+              (gone_cases gone s i y.stream y.message b));
+          plain = x.plain;
+        };
+    closed = g.closed;
+    given_up = λ t j b. ⊎_elim
+        (λ (here : (t ≡ s) × (j ≡ i)). (
+          subst (λ z. z < length (p.accepted t)) (sym here.1)
+              (subst (λ z. i < length (p.accepted z)) (sym here.0) known),
+          ap (λ z. is_reliable (message_at p t z).policy) here.1
+              ∙ ap (λ z. is_reliable (message_at p z i).policy) here.0
+              ∙ unreliable,
+        ))
+        (λ (there : gone t j ≡ true). g.given_up t j there)
+        (gone_cases gone s i t j b);
+  }
 
 pub given_keeps : (w : Direction) (s i n : ℕ) → i < length (w.sender.plan.accepted s)
     → is_reliable (message_at w.sender.plan s i).policy ≡ false
@@ -444,14 +456,14 @@ given_keeps w s i n known unreliable apart freed h =
     (same_plan p h.planned.known)
     (gone_more w.sender.gone s i)
     h.planned
-    (sending_gone p w.sender.current w.sender.next w.sender.ssn w.sender.begun w.sender.gone w.over s i known unreliable
+    (sending_gone s i known unreliable
     apart h.sending)
     h.ascending
     h.datas
     (λ o l m. gone_more w.sender.gone s i _ _ (h.tails o l m))
-    (λ t v o l a. no_new p p t o refl l a)
+    (λ t v o. no_new p p t o refl)
     (freed_now w p s i n h (same_plan p h.planned.known) freed)
-    (λ t v st o l a. no_new p p t o refl l a)
+    (λ t v st o. no_new p p t o refl)
     (λ t v st.
     let o = st.ordered in
     record { going = o.going; begun = o.begun; until = o.until; gap = o.gap; level = λ none. (o.full none).level_next })
@@ -475,7 +487,7 @@ keeps_drop w s i can h =
     ∙ ap (λ z. w.sender.begun z (place_at w.sender.plan x.last).message) (sym f.stream ∙ same.0)
     ∙ ap (w.sender.begun s) (sym f.message ∙ same.1) ∙ not-true _ c.0))
     (let all =
-    released_given w.sender.plan w.over w.sender.acknowledged w.sender.gone s i (w.sender.released s) h.planned
+    released_given w.sender.acknowledged w.sender.gone s i (w.sender.released s) h.planned
     (not-true _ c.1) (ltb-true _ _ b.0) (h.released s) in
     let none =
     bytes_none w.sender.plan (λ o. w.sender.acknowledged o && eqb (place_at w.sender.plan o).message i) s

@@ -91,263 +91,270 @@ module _ (p : Plan) (over : ℕ → Bool) (gone : ℕ → ℕ → Bool) (acked :
         (cases_lt j (place_at p o).piece);
   }
 
--- the ordered half, where nothing of this stream is skipped
-ordered_on : (p : Plan) (gone : ℕ → ℕ → Bool) (current : Option Place) (next ssn : ℕ) (taken : List ℕ)
-    (passed passed' skipped s low end : ℕ) (q q' : Queue) (reads : List Got)
-    → q'.cursor ≡ q.cursor → q'.ordered ≡ q.ordered → passed ≤ passed'
-    → IsOrdered p gone current next ssn taken passed skipped s low end q reads
-    → IsOrdered p gone current next ssn taken passed' skipped s low end q' reads
-ordered_on p gone current next ssn taken passed passed' skipped s low end q q' reads c o far h = record {
-  cursor = h.cursor;
-  is = c ∙ h.is;
-  above = h.above;
-  latest = h.latest;
-  origin = ⊎_elim (λ (x : skipped ≡ 0). inl x) (λ (k : IsSkipped p gone passed s skipped). inr (record {
-    offset = k.offset;
-    below = let b = k.below in omega arith;
-    at = k.at;
-    given_up = k.given_up;
-    is = k.is;
-  })) h.origin;
-  begun = h.begun;
-  going = h.going;
-  held = subst (AllByRecursion (IsHeld p taken s true low)) (sym o) h.held;
-  past = λ y a l. ⊎_elim (λ (m : mem y taken ≡ true). inl m) (λ (b : y < passed). inr (omega arith)) (h.past y a l);
-  later = h.later;
-  link = h.link;
-  until = h.until;
-  gap = h.gap;
-  full = λ none.
-      let f = h.full none in
-      record {
-        unskipped = f.unskipped;
-        level = f.level;
-        exact = f.exact;
-        level_next = f.level_next;
-        held = λ y a m l. subst (λ z. at y z ≡ Some (data_at p y)) (sym o) (f.held y a m l);
-        read = f.read;
-        letters = f.letters;
-      };
-}
+module _ (p : Plan) (gone : ℕ → ℕ → Bool) (current : Option Place) (next ssn : ℕ) (taken : List ℕ)
+    (passed passed' skipped s : ℕ) where
+  -- what holds of the ordered half where the offsets below this one were passed over
+  abbrev IsOrderedPast : ℕ → ℕ → ℕ → Queue → List Got → Type 0
+  IsOrderedPast now = IsOrdered p gone current next ssn taken now skipped s
 
--- the ordered half, where the sequence number m is reported: the 16 bits are read rightly, as everything in flight is
--- near
-ordered_skipped : (p : Plan) (over : ℕ → Bool) (current : Option Place) (next ssn : ℕ → ℕ) (begun gone : ℕ → ℕ → Bool)
-    (acked : ℕ → Bool) (now : ℕ) (taken : List ℕ) (passed skipped s low end : ℕ)
-    (q q' : Queue) (reads : List Got) (f : Forward) (m : ℕ)
-    → IsPlanned p over → over s ≡ false → IsSending p current next ssn begun gone over
-    → (hf : IsForward p gone over acked now f)
-    → IsReported p gone s f.start f.reach m → ((o : ℕ) → IsAt p s true o → (place_at p o).ssn ≤ m → o < f.reach)
-    → passed ≤ f.reach → length p.places < f.reach + 16384 → count_ordered (drop end (p.accepted s)) < 32768
-    → q'.cursor ≡ (skip q (m % 65536)).cursor → q'.ordered ≡ (skip q (m % 65536)).ordered
-    → IsOrdered p gone current (next s) (ssn s) taken passed skipped s low end q reads
-    → IsOrdered p gone current (next s) (ssn s) taken f.reach (max skipped (suc m)) s low end q' reads
-ordered_skipped p over current next ssn begun gone acked now taken passed skipped s low end q q' reads f m hp v g hf rep
-    all far flight near ec eo h = record {
-      cursor = cond (leb h.cursor top) (suc top) h.cursor;
-      is = ec ∙ cursor_is;
-      above = cases (λ z. low ≤ z) (λ l. let a = h.above in omega arith) (λ l. h.above);
-      latest =
-          cases (λ z. z ≡ max low (max skipped (suc m))) (λ l. let a = h.latest in let b = rep.is in omega arith)
-          (λ l. let a = h.latest in let b = rep.is in omega arith);
-      origin = ⊎_elim
-          (λ (l : suc top ≤ skipped). subst (λ z. (z ≡ 0) ⊎ IsSkipped p gone f.reach s z)
-          (let b = rep.is in let e : skipped ≡ max skipped (suc m) = omega arith in e)
-          (⊎_elim (λ (x : skipped ≡ 0). inl x) (λ (k : IsSkipped p gone passed s skipped). inr (record {
-            offset = k.offset;
-            below = let b = k.below in omega arith;
-            at = k.at;
-            given_up = k.given_up;
-            is = k.is;
-          })) h.origin))
-          (λ (l : skipped < suc top). inr (record {
-            offset = rep.offset;
-            below = rep.below;
-            at = rep.at;
-            given_up = rep.given_up;
-            is = let b = rep.is in omega arith;
-          }))
-          (swap (cases_lt skipped (suc top)));
-      begun = cases (λ z. z ≤ ssn s) (λ l. earlier.below) (λ l. h.begun);
-      going = λ y c st k. cases (λ z. z ≤ y.ssn) (λ l. past_current y c st k) (λ l. h.going y c st k);
-      held =
-          subst (AllByRecursion (IsHeld p taken s true low)) (sym eo)
-          (all_filter (IsHeld p taken s true low) _ q.ordered h.held);
-      past = λ o a. cases (λ z. (place_at p o).ssn < z → (mem o taken ≡ true) ⊎ (o < f.reach))
-          (λ l b. inr (all o a (let c = rep.is in omega arith)))
-          (λ l b. ⊎_elim (λ (x : mem o taken ≡ true). inl x) (λ (x : o < passed). inr (omega arith)) (h.past o a b));
-      later = h.later;
-      link = h.link;
-      until = h.until;
-      gap = h.gap;
-      full =
-          λ none.
-          absurd
-          (true≢false (sym rep.given_up ∙ ap (λ z. gone z (place_at p rep.offset).message) rep.at.stream
-          ∙ none (place_at p rep.offset).message));
-    }
-  where
-    top : ℕ
-    top = (place_at p rep.offset).ssn
+  -- the ordered half, where nothing of this stream is skipped
+  ordered_on : (low end : ℕ) (q q' : Queue) (reads : List Got) → q'.cursor ≡ q.cursor → q'.ordered ≡ q.ordered
+      → passed ≤ passed' → IsOrderedPast passed low end q reads
+      → IsOrderedPast passed' low end q' reads
+  ordered_on low end q q' reads c o far h = record {
+    cursor = h.cursor;
+    is = c ∙ h.is;
+    above = h.above;
+    latest = h.latest;
+    origin = ⊎_elim (λ (x : skipped ≡ 0). inl x) (λ (k : IsSkipped p gone passed s skipped). inr (record {
+      offset = k.offset;
+      below = let b = k.below in omega arith;
+      at = k.at;
+      given_up = k.given_up;
+      is = k.is;
+    })) h.origin;
+    begun = h.begun;
+    going = h.going;
+    held = subst (AllByRecursion (IsHeld p taken s true low)) (sym o) h.held;
+    past = λ y a l. ⊎_elim (λ (m : mem y taken ≡ true). inl m) (λ (b : y < passed). inr (omega arith)) (h.past y a l);
+    later = h.later;
+    link = h.link;
+    until = h.until;
+    gap = h.gap;
+    full = λ none.
+        let f = h.full none in
+        record {
+          unskipped = f.unskipped;
+          level = f.level;
+          exact = f.exact;
+          level_next = f.level_next;
+          held = λ y a m l. subst (λ z. at y z ≡ Some (data_at p y)) (sym o) (f.held y a m l);
+          read = f.read;
+          letters = f.letters;
+        };
+  }
 
-    swap : (skipped < suc top) ⊎ (suc top ≤ skipped) → (suc top ≤ skipped) ⊎ (skipped < suc top)
-    swap (inl a) = inr a
-    swap (inr a) = inl a
+module _ {p : Plan} {over : ℕ → Bool} {current : Option Place} {next ssn : ℕ → ℕ} {begun gone : ℕ → ℕ → Bool}
+    {taken : List ℕ} {passed skipped s : ℕ} {acked : ℕ → Bool} {now low end : ℕ} {q : Queue} {reads : List Got}
+    {f : Forward} {m : ℕ} (hp : IsPlanned p over) (v : over s ≡ false)
+    (g : IsSending p current next ssn begun gone over) (hf : IsForward p gone over acked now f)
+    (rep : IsReported p gone s f.start f.reach m)
+    (all : (o : ℕ) → IsAt p s true o → (place_at p o).ssn ≤ m → o < f.reach) (far : passed ≤ f.reach)
+    (flight : length p.places < f.reach + 16384) (near : count_ordered (drop end (p.accepted s)) < 32768)
+    (h : IsOrdered p gone current (next s) (ssn s) taken passed skipped s low end q reads) where
+  -- the ordered half, where the sequence number m is reported: the 16 bits are read rightly, as everything in flight is
+  -- near
+  ordered_skipped : (q' : Queue) → q'.cursor ≡ (skip q (m % 65536)).cursor → q'.ordered ≡ (skip q (m % 65536)).ordered
+      → IsOrdered p gone current (next s) (ssn s) taken f.reach (max skipped (suc m)) s low end q' reads
+  ordered_skipped q' ec eo = record {
+    cursor = cond (leb h.cursor top) (suc top) h.cursor;
+    is = ec ∙ cursor_is;
+    above = cases (λ z. low ≤ z) (λ l. let a = h.above in omega arith) (λ l. h.above);
+    latest =
+        cases (λ z. z ≡ max low (max skipped (suc m))) (λ l. let a = h.latest in let b = rep.is in omega arith)
+        (λ l. let a = h.latest in let b = rep.is in omega arith);
+    origin = ⊎_elim
+        (λ (l : suc top ≤ skipped). subst (λ z. (z ≡ 0) ⊎ IsSkipped p gone f.reach s z)
+        (let b = rep.is in let e : skipped ≡ max skipped (suc m) = omega arith in e)
+        (⊎_elim (λ (x : skipped ≡ 0). inl x) (λ (k : IsSkipped p gone passed s skipped). inr (record {
+          offset = k.offset;
+          below = let b = k.below in omega arith;
+          at = k.at;
+          given_up = k.given_up;
+          is = k.is;
+        })) h.origin))
+        (λ (l : skipped < suc top). inr (record {
+          offset = rep.offset;
+          below = rep.below;
+          at = rep.at;
+          given_up = rep.given_up;
+          is = let b = rep.is in omega arith;
+        }))
+        (swap (cases_lt skipped (suc top)));
+    begun = cases (λ z. z ≤ ssn s) (λ l. earlier.below) (λ l. h.begun);
+    going = λ y c st k. cases (λ z. z ≤ y.ssn) (λ l. past_current y c st k) (λ l. h.going y c st k);
+    held =
+        subst (AllByRecursion (IsHeld p taken s true low)) (sym eo)
+        (all_filter (IsHeld p taken s true low) _ q.ordered h.held);
+    past = λ o a. cases (λ z. (place_at p o).ssn < z → (mem o taken ≡ true) ⊎ (o < f.reach))
+        (λ l b. inr (all o a (let c = rep.is in omega arith)))
+        (λ l b. ⊎_elim (λ (x : mem o taken ≡ true). inl x) (λ (x : o < passed). inr (omega arith)) (h.past o a b));
+    later = h.later;
+    link = h.link;
+    until = h.until;
+    gap = h.gap;
+    full =
+        λ none.
+        absurd
+        (true≢false (sym rep.given_up ∙ ap (λ z. gone z (place_at p rep.offset).message) rep.at.stream
+        ∙ none (place_at p rep.offset).message));
+  }
+    where
+      top : ℕ
+      top = (place_at p rep.offset).ssn
 
-    earlier : IsEarlier p s (next s) (ssn s) (place_at p rep.offset) rep.offset
-    earlier = g.earlier s v rep.offset rep.at
+      swap : (skipped < suc top) ⊎ (suc top ≤ skipped) → (suc top ≤ skipped) ⊎ (skipped < suc top)
+      swap (inl a) = inr a
+      swap (inr a) = inl a
 
-    behind : h.cursor < top + 32768
-    behind = let a = earlier.near in let b = h.begun in let c = hf.near in let d = rep.from in omega arith
+      earlier : IsEarlier p s (next s) (ssn s) (place_at p rep.offset) rep.offset
+      earlier = g.earlier s v rep.offset rep.at
 
-    ahead : top < h.cursor + 32768
-    ahead = ⊎_elim
-        (λ (l : low ≤ top). let w = window p over s low end rep.offset hp rep.at (h.link rep.offset rep.at l) near in
-        let a = h.above in omega arith)
-        (λ (l : top < low). let a = h.above in omega arith)
-        (either (cases_lt top low))
-      where
-        either : (top < low) ⊎ (low ≤ top) → (low ≤ top) ⊎ (top < low)
-        either (inl a) = inr a
-        either (inr a) = inl a
+      behind : h.cursor < top + 32768
+      behind = let a = earlier.near in let b = h.begun in let c = hf.near in let d = rep.from in omega arith
 
-    cases : (P : ℕ → Type 0) → (h.cursor ≤ top → P (suc top)) → (top < h.cursor → P h.cursor)
-        → P (cond (leb h.cursor top) (suc top) h.cursor)
-    cases P a b = ⊎_elim
-        (λ (l : top < h.cursor). subst P (sym (cond-false (leb h.cursor top) (suc top) h.cursor (lt-leb _ _ l))) (b l))
-        (λ (l : h.cursor ≤ top). subst P (sym (cond-true (leb h.cursor top) (suc top) h.cursor (le-leb _ _ l))) (a l))
-        (cases_lt top h.cursor)
+      ahead : top < h.cursor + 32768
+      ahead = ⊎_elim
+          (λ (l : low ≤ top). let w = window low end hp rep.offset rep.at (h.link rep.offset rep.at l) near in
+          let a = h.above in omega arith)
+          (λ (l : top < low). let a = h.above in omega arith)
+          (either (cases_lt top low))
+        where
+          either : (top < low) ⊎ (low ≤ top) → (low ≤ top) ⊎ (top < low)
+          either (inl a) = inr a
+          either (inr a) = inl a
 
-    cursor_is : cond (up_to_16 q.cursor (m % 65536)) ((m % 65536 + 1) % 65536) q.cursor
-        ≡ cond (leb h.cursor top) (suc top) h.cursor % 65536
-    cursor_is =
-        ap (λ z. cond (up_to_16 q.cursor (z % 65536)) ((z % 65536 + 1) % 65536) q.cursor) rep.is
-        ∙ ap (λ z. cond (up_to_16 z (top % 65536)) ((top % 65536 + 1) % 65536) z) h.is
-        ∙ ap (λ z. cond z ((top % 65536 + 1) % 65536) (h.cursor % 65536)) (up_to_is h.cursor top behind ahead)
-        ∙ ap (λ z. cond (leb h.cursor top) z (h.cursor % 65536)) (next_is top)
-        ∙ split (leb h.cursor top)
-      where
-        split : (b : Bool) → cond b (suc top % 65536) (h.cursor % 65536) ≡ cond b (suc top) h.cursor % 65536
-        split true = refl
-        split false = refl
+      cases : (P : ℕ → Type 0) → (h.cursor ≤ top → P (suc top)) → (top < h.cursor → P h.cursor)
+          → P (cond (leb h.cursor top) (suc top) h.cursor)
+      cases P a b = ⊎_elim
+          (λ (l : top < h.cursor). subst P (sym (cond-false (leb h.cursor top) (suc top) h.cursor (lt-leb _ _ l)))
+          (b l))
+          (λ (l : h.cursor ≤ top). subst P (sym (cond-true (leb h.cursor top) (suc top) h.cursor (le-leb _ _ l))) (a l))
+          (cases_lt top h.cursor)
 
-    past_current : (y : Place) → current ≡ Some y → y.stream ≡ s → (message_of p y).ordered ≡ true → suc top ≤ y.ssn
-    past_current y c st k =
-        let go = g.going y c in
-        let w = go.follows in
-        let n = go.is in
-        let ra = rep.at in
-        let rk = ra.known in
-        let am : IsAt p s true go.last = record {
-          known = omega arith;
-          stream = sym w.stream ∙ st;
-          kind =
-              ap (λ z. (message_at p z (place_at p go.last).message).ordered) (sym w.stream)
-              ∙ ap (λ z. (message_at p y.stream z).ordered) (sym w.message) ∙ k;
-        } in
-        let pair = hp.pairs s v rep.offset go.last (omega arith) ra am in
-        let le = pair.ssn in
-        let ws = w.ssn in
-        let apart : top ≡ (place_at p go.last).ssn → ⊥ = (λ (e : top ≡ (place_at p go.last).ssn).
-        true≢false (sym rep.given_up ∙ ap (λ z. gone z (place_at p rep.offset).message) (ra.stream ∙ sym st)
-        ∙ ap (gone y.stream) (pair.together e ∙ sym w.message) ∙ go.stays)) in
-        omega (arith, apart)
+      cursor_is : cond (up_to_16 q.cursor (m % 65536)) ((m % 65536 + 1) % 65536) q.cursor
+          ≡ cond (leb h.cursor top) (suc top) h.cursor % 65536
+      cursor_is =
+          ap (λ z. cond (up_to_16 q.cursor (z % 65536)) ((z % 65536 + 1) % 65536) q.cursor) rep.is
+          ∙ ap (λ z. cond (up_to_16 z (top % 65536)) ((top % 65536 + 1) % 65536) z) h.is
+          ∙ ap (λ z. cond z ((top % 65536 + 1) % 65536) (h.cursor % 65536)) (up_to_is h.cursor top behind ahead)
+          ∙ ap (λ z. cond (leb h.cursor top) z (h.cursor % 65536)) (next_is top)
+          ∙ split (leb h.cursor top)
+        where
+          split : (b : Bool) → cond b (suc top % 65536) (h.cursor % 65536) ≡ cond b (suc top) h.cursor % 65536
+          split true = refl
+          split false = refl
 
--- what is kept of the unordered half: of messages that stay, all pieces of those that aren't whole lie past the reach
-unordered_on : (p : Plan) (over : ℕ → Bool) (gone : ℕ → ℕ → Bool) (acked : ℕ → Bool) (now : ℕ) (taken : List ℕ) (s : ℕ)
-    (q q' : Queue) (gots gots' : List Got) (f : Forward)
-    → IsPlanned p over → IsForward p gone over acked now f → ((o : ℕ) → o < f.reach → IsAccounted p gone taken o)
-    → ((o : ℕ) → o < length p.places → (place_at p o).marker ≡ true → gone_at p gone o ≡ true)
-    → q'.unordered ≡ (drop_unordered f.reach q).unordered → gots' ≡ gots
-    → IsUnordered p gone taken s q gots → IsUnordered p gone taken s q' gots'
-unordered_on p over gone acked now taken s q q' gots gots' f hp hf account tails eu eg u =
-    subst (IsUnordered p gone taken s q') (sym eg) record {
-      held =
-          subst (AllByRecursion (IsHeld p taken s false 0)) (sym eu)
-          (all_filter (IsHeld p taken s false 0) (λ (d : Data). leb f.reach d.offset) q.unordered u.held);
-      fresh =
-          subst (AllByRecursion (IsFresh p gots)) (sym eu)
-          (all_filter (IsFresh p gots) (λ (d : Data). leb f.reach d.offset) q.unordered u.fresh);
-      all = u.all;
-      kept = λ none o a m. ⊎_elim
-          (λ (b : o < f.reach). inr (u.all none (place_at p o).message
-          (whole_below p over gone acked now taken f s (place_at p o).message hp hf account none tails o b
-          a.stream refl)
-          (ap (λ z. is_ordered p z (place_at p o).message) (sym a.stream) ∙ a.kind)))
-          (λ (b : f.reach ≤ o). ⊎_elim
-          (λ (l : at o q.unordered ≡ Some (data_at p o)). inl (subst (λ z. at o z ≡ Some (data_at p o)) (sym eu)
-          (at_filter (λ (d : Data). leb f.reach d.offset) o q.unordered (data_at p o) l (le-leb _ _ b))))
-          (λ (l : mem (place_at p o).message (numbers_of p gots) ≡ true). inr l)
-          (u.kept none o a m))
-          (cases_lt o f.reach);
-    }
+      past_current : (y : Place) → current ≡ Some y → y.stream ≡ s → (message_of p y).ordered ≡ true → suc top ≤ y.ssn
+      past_current y c st k =
+          let go = g.going y c in
+          let w = go.follows in
+          let n = go.is in
+          let ra = rep.at in
+          let rk = ra.known in
+          let am : IsAt p s true go.last = record {
+            known = omega arith;
+            stream = sym w.stream ∙ st;
+            kind =
+                ap (λ z. (message_at p z (place_at p go.last).message).ordered) (sym w.stream)
+                ∙ ap (λ z. (message_at p y.stream z).ordered) (sym w.message) ∙ k;
+          } in
+          let pair = hp.pairs s v rep.offset go.last (omega arith) ra am in
+          let le = pair.ssn in
+          let ws = w.ssn in
+          let apart : top ≡ (place_at p go.last).ssn → ⊥ = (λ (e : top ≡ (place_at p go.last).ssn).
+          true≢false (sym rep.given_up ∙ ap (λ z. gone z (place_at p rep.offset).message) (ra.stream ∙ sym st)
+          ∙ ap (gone y.stream) (pair.together e ∙ sym w.message) ∙ go.stays)) in
+          omega (arith, apart)
+
+module _ {p : Plan} {over : ℕ → Bool} {gone : ℕ → ℕ → Bool} {acked : ℕ → Bool} {now : ℕ} {taken : List ℕ}
+    {s : ℕ} {f : Forward} (hp : IsPlanned p over) (hf : IsForward p gone over acked now f)
+    (account : (o : ℕ) → o < f.reach → IsAccounted p gone taken o)
+    (tails : (o : ℕ) → o < length p.places → (place_at p o).marker ≡ true → gone_at p gone o ≡ true) where
+  -- what is kept of the unordered half: of messages that stay, all pieces of those that aren't whole lie past the reach
+  unordered_on : (q q' : Queue) (gots gots' : List Got) → q'.unordered ≡ (drop_unordered f.reach q).unordered
+      → gots' ≡ gots → IsUnordered p gone taken s q gots → IsUnordered p gone taken s q' gots'
+  unordered_on q q' gots gots' eu eg u =
+      subst (IsUnordered p gone taken s q') (sym eg) record {
+        held =
+            subst (AllByRecursion (IsHeld p taken s false 0)) (sym eu)
+            (all_filter (IsHeld p taken s false 0) (λ (d : Data). leb f.reach d.offset) q.unordered u.held);
+        fresh =
+            subst (AllByRecursion (IsFresh p gots)) (sym eu)
+            (all_filter (IsFresh p gots) (λ (d : Data). leb f.reach d.offset) q.unordered u.fresh);
+        all = u.all;
+        kept = λ none o a m. ⊎_elim
+            (λ (b : o < f.reach). inr (u.all none (place_at p o).message
+            (whole_below p over gone acked now taken f s (place_at p o).message hp hf account none tails o b
+            a.stream refl)
+            (ap (λ z. is_ordered p z (place_at p o).message) (sym a.stream) ∙ a.kind)))
+            (λ (b : f.reach ≤ o). ⊎_elim
+            (λ (l : at o q.unordered ≡ Some (data_at p o)). inl (subst (λ z. at o z ≡ Some (data_at p o)) (sym eu)
+            (at_filter (λ (d : Data). leb f.reach d.offset) o q.unordered (data_at p o) l (le-leb _ _ b))))
+            (λ (l : mem (place_at p o).message (numbers_of p gots) ≡ true). inr l)
+            (u.kept none o a m))
+            (cases_lt o f.reach);
+      }
 
 skipped_unordered : (q : Queue) (m : Option ℕ)
     → ((skip_if q m).unordered ≡ q.unordered) × ((skip_if q m).complete ≡ q.complete)
 skipped_unordered q None = (refl, refl)
 skipped_unordered q (Some m) = (refl, refl)
 
-stream_with : (p : Plan) (gone : ℕ → ℕ → Bool) (current : Option Place) (next ssn : ℕ) (taken : List ℕ)
-    (passed passed' skipped skipped' s : ℕ) (q q' : Queue) (reads : List Got)
-    → q'.complete ≡ q.complete
-    → IsOrdered p gone current next ssn taken passed' skipped' s (read_ssn p 0 reads) (read_end p 0 reads) q' reads
-    → IsUnordered p gone taken s q' (reads ++ q'.complete)
-    → IsStream p gone current next ssn taken passed skipped s q reads
-    → IsStream p gone current next ssn taken passed' skipped' s q' reads
-stream_with p gone current next ssn taken passed passed' skipped skipped' s q q' reads e o u w = record {
-  got = subst (λ z. AllByRecursion (IsGot p taken s) (reads ++ z)) (sym e) w.got;
-  once = subst (λ z. AreDistinctNumbers z) (sym e) w.once;
-  rising = w.rising;
-  below = w.below;
-  complete = subst (AllByRecursion (λ (g : Got). g.ordered ≡ false)) (sym e) w.complete;
-  ordered = o;
-  unordered = u;
-}
-  where
-    AreDistinctNumbers : List Got → Type 0
-    AreDistinctNumbers z = AreDistinct (numbers_of p (reads ++ z))
+module _ (p : Plan) (gone : ℕ → ℕ → Bool) (current : Option Place) (next ssn : ℕ) (taken : List ℕ)
+    (passed passed' skipped skipped' s : ℕ) where
+  -- what holds of the stream where the offsets below the first number were passed over, and the sequence numbers below
+  -- the second one were skipped
+  abbrev IsStreamPast : ℕ → ℕ → Queue → List Got → Type 0
+  IsStreamPast now left = IsStream p gone current next ssn taken now left s
 
-pub stream_forwarded : (p : Plan) (over : ℕ → Bool) (current : Option Place) (next ssn : ℕ → ℕ)
-    (begun gone : ℕ → ℕ → Bool) (acked : ℕ → Bool) (now : ℕ) (taken : List ℕ) (passed skipped s : ℕ)
-    (queue : Option Queue) (reads : List Got) (f : Forward)
-    → IsPlanned p over → over s ≡ false → IsSending p current next ssn begun gone over
-    → IsForward p gone over acked now f
-    → ((o : ℕ) → o < f.reach → IsAccounted p gone taken o)
-    → ((o : ℕ) → o < length p.places → (place_at p o).marker ≡ true → gone_at p gone o ≡ true)
-    → passed ≤ f.reach → length p.places < f.reach + 16384 → unread p s reads < 32768
-    → IsStream p gone current (next s) (ssn s) taken passed skipped s (live queue) reads
-    → IsStream p gone current (next s) (ssn s) taken f.reach (skipped_by queue (f.numbers s) skipped) s
-    (live (forwarded queue f.reach (skips f s))) reads
-stream_forwarded p over current next ssn begun gone acked now taken passed skipped s None reads f hp v g hf account
-    tails far flight near w =
-    stream_with p gone current (next s) (ssn s) taken passed f.reach skipped skipped s (live None)
-    (live None) reads refl
-    (ordered_on p gone current (next s) (ssn s) taken passed f.reach skipped s (read_ssn p 0 reads) (read_end p 0 reads)
-    (live None) (live None) reads refl refl far w.ordered)
-    w.unordered w
-stream_forwarded p over current next ssn begun gone acked now taken passed skipped s (Some q) reads f hp v g hf account
-    tails far flight near w = go (f.numbers s) refl
-  where
-    go : (m : Option ℕ) → f.numbers s ≡ m
-        → IsStream p gone current (next s) (ssn s) taken f.reach (skipped_by (Some q) m skipped) s
-        (drop_unordered f.reach (skip_if q (wrapped m))) reads
-    go m e =
-        let same = skipped_unordered q (wrapped m) in
-        stream_with p gone current (next s) (ssn s) taken passed f.reach skipped (skipped_by (Some q) m skipped) s q
-        (drop_unordered f.reach (skip_if q (wrapped m))) reads same.1
-        (ordered m e)
-        (unordered_on p over gone acked now taken s q (drop_unordered f.reach (skip_if q (wrapped m)))
-        (reads ++ q.complete) (reads ++ (skip_if q (wrapped m)).complete) f hp hf account tails
-        (ap (filter (λ (d : Data). leb f.reach d.offset)) same.0) (ap (λ z. reads ++ z) same.1) w.unordered)
-        w
-      where
-        ordered : (m : Option ℕ) → f.numbers s ≡ m
-            → IsOrdered p gone current (next s) (ssn s) taken f.reach (skipped_by (Some q) m skipped) s
-            (read_ssn p 0 reads) (read_end p 0 reads) (drop_unordered f.reach (skip_if q (wrapped m))) reads
-        ordered None e =
-            ordered_on p gone current (next s) (ssn s) taken passed f.reach skipped s (read_ssn p 0 reads)
-            (read_end p 0 reads) q (drop_unordered f.reach q) reads refl refl far w.ordered
-        ordered (Some c) e =
-            ordered_skipped p over current next ssn begun gone acked now taken passed skipped s (read_ssn p 0 reads)
-            (read_end p 0 reads) q (drop_unordered f.reach (skip q (c % 65536))) reads f c
-            hp v g hf (hf.reported s c e) (hf.all s c e v) far flight near refl refl w.ordered
+  stream_with : (q q' : Queue) (reads : List Got) → q'.complete ≡ q.complete
+      → IsOrdered p gone current next ssn taken passed' skipped' s (read_ssn p 0 reads) (read_end p 0 reads) q' reads
+      → IsUnordered p gone taken s q' (reads ++ q'.complete)
+      → IsStreamPast passed skipped q reads
+      → IsStreamPast passed' skipped' q' reads
+  stream_with q q' reads e o u w = record {
+    got = subst (λ z. AllByRecursion (IsGot p taken s) (reads ++ z)) (sym e) w.got;
+    once = subst (λ z. AreDistinctNumbers z) (sym e) w.once;
+    rising = w.rising;
+    below = w.below;
+    complete = subst (AllByRecursion (λ (g : Got). g.ordered ≡ false)) (sym e) w.complete;
+    ordered = o;
+    unordered = u;
+  }
+    where
+      AreDistinctNumbers : List Got → Type 0
+      AreDistinctNumbers z = AreDistinct (numbers_of p (reads ++ z))
+
+module _ {p : Plan} {over : ℕ → Bool} {current : Option Place} {next ssn : ℕ → ℕ} {begun gone : ℕ → ℕ → Bool}
+    {taken : List ℕ} {passed skipped s : ℕ} {acked : ℕ → Bool} {now : ℕ} {reads : List Got} {f : Forward}
+    (hp : IsPlanned p over) (v : over s ≡ false) (g : IsSending p current next ssn begun gone over)
+    (hf : IsForward p gone over acked now f) (account : (o : ℕ) → o < f.reach → IsAccounted p gone taken o)
+    (tails : (o : ℕ) → o < length p.places → (place_at p o).marker ≡ true → gone_at p gone o ≡ true)
+    (far : passed ≤ f.reach) (flight : length p.places < f.reach + 16384) (near : unread p s reads < 32768) where
+  pub stream_forwarded : (queue : Option Queue)
+      → IsStream p gone current (next s) (ssn s) taken passed skipped s (live queue) reads
+      → IsStream p gone current (next s) (ssn s) taken f.reach (skipped_by queue (f.numbers s) skipped) s
+      (live (forwarded queue f.reach (skips f s))) reads
+  stream_forwarded None w =
+      stream_with p gone current (next s) (ssn s) taken passed f.reach skipped skipped s (live None)
+      (live None) reads refl
+      (ordered_on p gone current (next s) (ssn s) taken passed f.reach skipped s (read_ssn p 0 reads)
+      (read_end p 0 reads)
+      (live None) (live None) reads refl refl far w.ordered)
+      w.unordered w
+  stream_forwarded (Some q) w = go (f.numbers s) refl
+    where
+      go : (m : Option ℕ) → f.numbers s ≡ m
+          → IsStream p gone current (next s) (ssn s) taken f.reach (skipped_by (Some q) m skipped) s
+          (drop_unordered f.reach (skip_if q (wrapped m))) reads
+      go m e =
+          let same = skipped_unordered q (wrapped m) in
+          stream_with p gone current (next s) (ssn s) taken passed f.reach skipped (skipped_by (Some q) m skipped) s q
+          (drop_unordered f.reach (skip_if q (wrapped m))) reads same.1
+          (ordered m e)
+          (unordered_on hp hf account tails q (drop_unordered f.reach (skip_if q (wrapped m)))
+          (reads ++ q.complete) (reads ++ (skip_if q (wrapped m)).complete)
+          (ap (filter (λ (d : Data). leb f.reach d.offset)) same.0) (ap (λ z. reads ++ z) same.1) w.unordered)
+          w
+        where
+          ordered : (m : Option ℕ) → f.numbers s ≡ m
+              → IsOrdered p gone current (next s) (ssn s) taken f.reach (skipped_by (Some q) m skipped) s
+              (read_ssn p 0 reads) (read_end p 0 reads) (drop_unordered f.reach (skip_if q (wrapped m))) reads
+          ordered None e =
+              ordered_on p gone current (next s) (ssn s) taken passed f.reach skipped s (read_ssn p 0 reads)
+              (read_end p 0 reads) q (drop_unordered f.reach q) reads refl refl far w.ordered
+          ordered (Some c) e =
+              ordered_skipped
+              hp v g hf (hf.reported s c e) (hf.all s c e v) far flight near w.ordered
+              (drop_unordered f.reach (skip q (c % 65536))) refl refl

@@ -74,107 +74,35 @@ whole_less p taken x s i apart w = record {
       };
 }
 
--- The ordered half, with an offset x that isn't one of an ordered message of this stream.
-pub ordered_aside : (p : Plan) (gone : ℕ → ℕ → Bool) (current : Option Place) (next ssn : ℕ) (taken : List ℕ)
-    (passed skipped s low end x : ℕ) (q q' : Queue) (reads : List Got)
-    → q'.cursor ≡ q.cursor → q'.ordered ≡ q.ordered → (IsAt p s true x → ⊥)
-    → IsOrdered p gone current next ssn taken passed skipped s low end q reads
-    → IsOrdered p gone current next ssn (x ∷ taken) passed skipped s low end q' reads
-ordered_aside p gone current next ssn taken passed skipped s low end x q q' reads c o apart h = record {
-  cursor = h.cursor;
-  is = c ∙ h.is;
-  above = h.above;
-  latest = h.latest;
-  origin = h.origin;
-  begun = h.begun;
-  going = h.going;
-  held =
-      subst (AllByRecursion (IsHeld p (x ∷ taken) s true low)) (sym o)
-      (all_weaker _ _ _ (λ d. held_more p taken x s low true d) h.held);
-  past =
-      λ y a l. ⊎_elim (λ (m : mem y taken ≡ true). inl (mem_old x y taken m)) (λ (b : y < passed). inr b)
-      (h.past y a l);
-  later = h.later;
-  link = h.link;
-  until = h.until;
-  gap = h.gap;
-  full = λ none.
-      let f = h.full none in
-      record {
-        unskipped = f.unskipped;
-        level = f.level;
-        exact = f.exact;
-        level_next = f.level_next;
-        held = λ y a m l. subst (λ z. at y z ≡ Some (data_at p y)) (sym o) (f.held y a
-            (⊎_elim (λ (e : x ≡ y). absurd (apart (subst (IsAt p s true) (sym e) a))) (λ (b : mem y taken ≡ true). b)
-            (mem_new x y taken m)) l);
-        read = f.read;
-        letters = f.letters;
-      };
-}
+module _ (p : Plan) (gone : ℕ → ℕ → Bool) (current : Option Place) (next ssn : ℕ) (taken : List ℕ)
+    (passed skipped s : ℕ) where
+  -- what holds of its ordered half where these offsets were taken in
+  abbrev IsOrderedOf : List ℕ → ℕ → ℕ → Queue → List Got → Type 0
+  IsOrderedOf came = IsOrdered p gone current next ssn came passed skipped s
 
--- DATA of another stream
-pub stream_aside : (p : Plan) (gone : ℕ → ℕ → Bool) (current : Option Place) (next ssn : ℕ) (taken : List ℕ)
-    (passed skipped s x : ℕ) (q : Queue) (reads : List Got)
-    → ((place_at p x).stream ≡ s → ⊥)
-    → IsStream p gone current next ssn taken passed skipped s q reads
-    → IsStream p gone current next ssn (x ∷ taken) passed skipped s q reads
-stream_aside p gone current next ssn taken passed skipped s x q reads apart w = record {
-  got = all_weaker _ _ _ (λ g. got_more p taken x s g) w.got;
-  once = w.once;
-  rising = w.rising;
-  below = w.below;
-  complete = w.complete;
-  ordered =
-      ordered_aside p gone current next ssn taken passed skipped s (read_ssn p 0 reads) (read_end p 0 reads) x q q reads
-      refl refl (λ a. apart a.stream) w.ordered;
-  unordered =
-      let u = w.unordered in
-      record {
-        held = all_weaker _ _ _ (λ d. held_more p taken x s 0 false d) u.held;
-        fresh = u.fresh;
-        all =
-            λ none i v k. u.all none i
-            (whole_less p taken x s i (λ j t e. apart (ap (λ z. (place_at p z).stream) e ∙ t.stream)) v) k;
-        kept = λ none o a m. u.kept none o a (⊎_elim
-            (λ (e : x ≡ o). absurd (apart (ap (λ z. (place_at p z).stream) e ∙ a.stream)))
-            (λ (b : mem o taken ≡ true). b)
-            (mem_new x o taken m));
-      };
-}
+  -- what holds of the stream where these offsets were taken in
+  abbrev IsStreamOf : List ℕ → Queue → List Got → Type 0
+  IsStreamOf came = IsStream p gone current next ssn came passed skipped s
 
--- an ordered piece: it isn't behind the cursor, so it is kept
-ordered_pushed : (p : Plan) (over : ℕ → Bool) (gone : ℕ → ℕ → Bool) (current : Option Place) (next ssn : ℕ)
-    (taken : List ℕ) (passed skipped s low end : ℕ) (q : Queue) (reads : List Got) (d : Data)
-    → IsPlanned p over → IsPiece p d → IsAt p s true d.offset → mem d.offset taken ≡ false → passed ≤ d.offset
-    → count_ordered (drop end (p.accepted s)) < 32768
-    → IsOrdered p gone current next ssn taken passed skipped s low end q reads
-    → (push_ordered q d ≡ record q { ordered = d ∷ q.ordered })
-    × IsOrdered p gone current next ssn (d.offset ∷ taken) passed skipped s low end
-    (record q { ordered = d ∷ q.ordered }) reads
-ordered_pushed p over gone current next ssn taken passed skipped s low end q reads d hp piece a new far near h = (
-  cond-false (before_16 d.ssn q.cursor) q (record q { ordered = d ∷ q.ordered }) test,
-  record {
+  -- The ordered half, with an offset x that isn't one of an ordered message of this stream.
+  pub ordered_aside : {x : ℕ} (low end : ℕ) (q q' : Queue) (reads : List Got) → q'.cursor ≡ q.cursor
+      → q'.ordered ≡ q.ordered → (IsAt p s true x → ⊥)
+      → IsOrderedOf taken low end q reads
+      → IsOrderedOf (x ∷ taken) low end q' reads
+  ordered_aside {x = x} low end q q' reads c o apart h = record {
     cursor = h.cursor;
-    is = h.is;
+    is = c ∙ h.is;
     above = h.above;
     latest = h.latest;
     origin = h.origin;
     begun = h.begun;
     going = h.going;
-    held = (
-      record {
-        is = piece.is;
-        at = a;
-        sent = piece.sent;
-        taken_in = or_left _ _ (eq-eqb d.offset d.offset refl);
-        above = let b = ahead in let c = h.above in omega arith;
-      },
-      all_weaker _ _ _ (λ e. held_more p taken d.offset s low true e) h.held,
-    );
+    held =
+        subst (AllByRecursion (IsHeld p (x ∷ taken) s true low)) (sym o)
+        (all_weaker _ _ _ (λ d. held_more p taken x s low true d) h.held);
     past =
-        λ y b l. ⊎_elim (λ (m : mem y taken ≡ true). inl (mem_old d.offset y taken m)) (λ (c : y < passed). inr c)
-        (h.past y b l);
+        λ y a l. ⊎_elim (λ (m : mem y taken ≡ true). inl (mem_old x y taken m)) (λ (b : y < passed). inr b)
+        (h.past y a l);
     later = h.later;
     link = h.link;
     until = h.until;
@@ -186,65 +114,148 @@ ordered_pushed p over gone current next ssn taken passed skipped s low end q rea
           level = f.level;
           exact = f.exact;
           level_next = f.level_next;
-          held = λ y b m l. ⊎_elim
-              (λ (e : eqb d.offset y ≡ true). cond-true (eqb d.offset y) (Some d) (at y q.ordered) e
-              ∙ ap Some (piece.is ∙ ap (data_at p) (eqb-true _ _ e)))
-              (λ (e : eqb d.offset y ≡ false). cond-false (eqb d.offset y) (Some d) (at y q.ordered) e
-              ∙ f.held y b (sym (ap (λ z. z || mem y taken) e) ∙ m) l)
-              (cases_Bool (eqb d.offset y));
+          held = λ y a m l. subst (λ z. at y z ≡ Some (data_at p y)) (sym o) (f.held y a
+              (⊎_elim (λ (e : x ≡ y). absurd (apart (subst (IsAt p s true) (sym e) a))) (λ (b : mem y taken ≡ true). b)
+              (mem_new x y taken m)) l);
           read = f.read;
           letters = f.letters;
         };
-  },
-)
-  where
-    ahead : h.cursor ≤ (place_at p d.offset).ssn
-    ahead = ⊎_elim
-        (λ (l : (place_at p d.offset).ssn < h.cursor). absurd (⊎_elim
-        (λ (m : mem d.offset taken ≡ true). true≢false (sym m ∙ new))
-        (λ (b : d.offset < passed). omega arith)
-        (h.past d.offset a l)))
-        (λ (g : h.cursor ≤ (place_at p d.offset).ssn). g)
-        (cases_lt (place_at p d.offset).ssn h.cursor)
+  }
 
-    test : before_16 d.ssn q.cursor ≡ false
-    test =
-        let b = ahead in
-        let c = h.above in
-        let n = window p over s low end d.offset hp a (h.link d.offset a (omega arith)) near in
-        ap (λ z. before_16 z q.cursor) (ap (λ z. z.ssn) piece.is)
-        ∙ ap (before_16 ((place_at p d.offset).ssn % 65536)) h.is
-        ∙ before_is (place_at p d.offset).ssn h.cursor (omega arith) (omega arith) ∙ le-ltb _ _ b
+  -- DATA of another stream
+  pub stream_aside : (x : ℕ) (q : Queue) (reads : List Got) → ((place_at p x).stream ≡ s → ⊥)
+      → IsStreamOf taken q reads
+      → IsStreamOf (x ∷ taken) q reads
+  stream_aside x q reads apart w = record {
+    got = all_weaker _ _ _ (λ g. got_more p taken x s g) w.got;
+    once = w.once;
+    rising = w.rising;
+    below = w.below;
+    complete = w.complete;
+    ordered =
+        ordered_aside (read_ssn p 0 reads) (read_end p 0 reads) q q reads
+        refl refl (λ a. apart a.stream) w.ordered;
+    unordered =
+        let u = w.unordered in
+        record {
+          held = all_weaker _ _ _ (λ d. held_more p taken x s 0 false d) u.held;
+          fresh = u.fresh;
+          all =
+              λ none i v k. u.all none i
+              (whole_less p taken x s i (λ j t e. apart (ap (λ z. (place_at p z).stream) e ∙ t.stream)) v) k;
+          kept = λ none o a m. u.kept none o a (⊎_elim
+              (λ (e : x ≡ o). absurd (apart (ap (λ z. (place_at p z).stream) e ∙ a.stream)))
+              (λ (b : mem o taken ≡ true). b)
+              (mem_new x o taken m));
+        };
+  }
 
-pub stream_pushed : (p : Plan) (over : ℕ → Bool) (gone : ℕ → ℕ → Bool) (current : Option Place) (next ssn : ℕ)
-    (taken : List ℕ) (passed skipped s : ℕ) (q : Queue) (reads : List Got) (d : Data)
-    → IsPlanned p over → IsPiece p d → IsAt p s true d.offset → mem d.offset taken ≡ false → passed ≤ d.offset
-    → unread p s reads < 32768
-    → IsStream p gone current next ssn taken passed skipped s q reads
-    → IsStream p gone current next ssn (d.offset ∷ taken) passed skipped s (push_ordered q d) reads
-stream_pushed p over gone current next ssn taken passed skipped s q reads d hp piece a new far near w =
-    let b =
-    ordered_pushed p over gone current next ssn taken passed skipped s (read_ssn p 0 reads) (read_end p 0 reads) q reads
-    d hp piece a new far near w.ordered in
-    let u = w.unordered in
-    subst (λ z. IsStream p gone current next ssn (d.offset ∷ taken) passed skipped s z reads) (sym b.0) record {
-      got = all_weaker _ _ _ (λ g. got_more p taken d.offset s g) w.got;
-      once = w.once;
-      rising = w.rising;
-      below = w.below;
-      complete = w.complete;
-      ordered = b.1;
-      unordered = record {
-        held = all_weaker _ _ _ (λ e. held_more p taken d.offset s 0 false e) u.held;
-        fresh = u.fresh;
-        all = λ none i v k. u.all none i (whole_less p taken d.offset s i
-            (λ j t e. true≢false (sym a.kind ∙ ap (λ z. (message_of p (place_at p z)).ordered) e
-            ∙ ap (λ z. (message_at p z (place_at p t.offset).message).ordered) t.stream
-            ∙ ap (is_ordered p s) t.message ∙ k)) v) k;
-        kept = λ none o c m. u.kept none o c (⊎_elim
-            (λ (e : d.offset ≡ o).
-            absurd (true≢false (sym a.kind ∙ ap (λ z. (message_of p (place_at p z)).ordered) e ∙ c.kind)))
-            (λ (l : mem o taken ≡ true). l)
-            (mem_new d.offset o taken m));
-      };
-    }
+module _ (p : Plan) (gone : ℕ → ℕ → Bool) (current : Option Place) (next ssn : ℕ) (taken : List ℕ)
+    (passed skipped s : ℕ) {over : ℕ → Bool} (d : Data) (hp : IsPlanned p over) (piece : IsPiece p d)
+    (a : IsAt p s true d.offset) (new : mem d.offset taken ≡ false) (far : passed ≤ d.offset) where
+  -- what holds of its ordered half where these offsets were taken in
+  abbrev IsOrderedWith : List ℕ → ℕ → ℕ → Queue → List Got → Type 0
+  IsOrderedWith came = IsOrdered p gone current next ssn came passed skipped s
+
+  -- what holds of the stream where these offsets were taken in
+  abbrev IsStreamWith : List ℕ → Queue → List Got → Type 0
+  IsStreamWith came = IsStream p gone current next ssn came passed skipped s
+
+  -- an ordered piece: it isn't behind the cursor, so it is kept
+  ordered_pushed : (low end : ℕ) (q : Queue) (reads : List Got) → count_ordered (drop end (p.accepted s)) < 32768
+      → IsOrderedWith taken low end q reads
+      → (push_ordered q d ≡ record q { ordered = d ∷ q.ordered })
+      × IsOrderedWith (d.offset ∷ taken) low end
+      (record q { ordered = d ∷ q.ordered }) reads
+  ordered_pushed low end q reads near h = (
+    cond-false (before_16 d.ssn q.cursor) q (record q { ordered = d ∷ q.ordered }) test,
+    record {
+      cursor = h.cursor;
+      is = h.is;
+      above = h.above;
+      latest = h.latest;
+      origin = h.origin;
+      begun = h.begun;
+      going = h.going;
+      held = (
+        record {
+          is = piece.is;
+          at = a;
+          sent = piece.sent;
+          taken_in = or_left _ _ (eq-eqb d.offset d.offset refl);
+          above = let b = ahead in let c = h.above in omega arith;
+        },
+        all_weaker _ _ _ (λ e. held_more p taken d.offset s low true e) h.held,
+      );
+      past =
+          λ y b l. ⊎_elim (λ (m : mem y taken ≡ true). inl (mem_old d.offset y taken m)) (λ (c : y < passed). inr c)
+          (h.past y b l);
+      later = h.later;
+      link = h.link;
+      until = h.until;
+      gap = h.gap;
+      full = λ none.
+          let f = h.full none in
+          record {
+            unskipped = f.unskipped;
+            level = f.level;
+            exact = f.exact;
+            level_next = f.level_next;
+            held = λ y b m l. ⊎_elim
+                (λ (e : eqb d.offset y ≡ true). cond-true (eqb d.offset y) (Some d) (at y q.ordered) e
+                ∙ ap Some (piece.is ∙ ap (data_at p) (eqb-true _ _ e)))
+                (λ (e : eqb d.offset y ≡ false). cond-false (eqb d.offset y) (Some d) (at y q.ordered) e
+                ∙ f.held y b (sym (ap (λ z. z || mem y taken) e) ∙ m) l)
+                (cases_Bool (eqb d.offset y));
+            read = f.read;
+            letters = f.letters;
+          };
+    },
+  )
+    where
+      ahead : h.cursor ≤ (place_at p d.offset).ssn
+      ahead = ⊎_elim
+          (λ (l : (place_at p d.offset).ssn < h.cursor). absurd (⊎_elim
+          (λ (m : mem d.offset taken ≡ true). true≢false (sym m ∙ new))
+          (λ (b : d.offset < passed). omega arith)
+          (h.past d.offset a l)))
+          (λ (g : h.cursor ≤ (place_at p d.offset).ssn). g)
+          (cases_lt (place_at p d.offset).ssn h.cursor)
+
+      test : before_16 d.ssn q.cursor ≡ false
+      test =
+          let b = ahead in
+          let c = h.above in
+          let n = window low end hp d.offset a (h.link d.offset a (omega arith)) near in
+          ap (λ z. before_16 z q.cursor) (ap (λ z. z.ssn) piece.is)
+          ∙ ap (before_16 ((place_at p d.offset).ssn % 65536)) h.is
+          ∙ before_is (place_at p d.offset).ssn h.cursor (omega arith) (omega arith) ∙ le-ltb _ _ b
+
+  pub stream_pushed : (q : Queue) (reads : List Got) → unread p s reads < 32768
+      → IsStreamWith taken q reads
+      → IsStreamWith (d.offset ∷ taken) (push_ordered q d) reads
+  stream_pushed q reads near w =
+      let b =
+      ordered_pushed (read_ssn p 0 reads) (read_end p 0 reads) q reads near w.ordered in
+      let u = w.unordered in
+      subst (λ z. IsStreamWith (d.offset ∷ taken) z reads) (sym b.0) record {
+        got = all_weaker _ _ _ (λ g. got_more p taken d.offset s g) w.got;
+        once = w.once;
+        rising = w.rising;
+        below = w.below;
+        complete = w.complete;
+        ordered = b.1;
+        unordered = record {
+          held = all_weaker _ _ _ (λ e. held_more p taken d.offset s 0 false e) u.held;
+          fresh = u.fresh;
+          all = λ none i v k. u.all none i (whole_less p taken d.offset s i
+              (λ j t e. true≢false (sym a.kind ∙ ap (λ z. (message_of p (place_at p z)).ordered) e
+              ∙ ap (λ z. (message_at p z (place_at p t.offset).message).ordered) t.stream
+              ∙ ap (is_ordered p s) t.message ∙ k)) v) k;
+          kept = λ none o c m. u.kept none o c (⊎_elim
+              (λ (e : d.offset ≡ o).
+              absurd (true≢false (sym a.kind ∙ ap (λ z. (message_of p (place_at p z)).ordered) e ∙ c.kind)))
+              (λ (l : mem o taken ≡ true). l)
+              (mem_new d.offset o taken m));
+        };
+      }

@@ -72,21 +72,20 @@ complete_finds held (x ∷ xs) o d r e f g n =
     none_right None h = h
     none_right (Some z) h = absurd (cc)
 
--- what was given is whole, so a new piece isn't of it
-fresh_piece : (p : Plan) (over : ℕ → Bool) (taken : List ℕ) (s x : ℕ) (gots : List Got) → IsPlanned p over
-    → x < length p.places → (place_at p x).stream ≡ s
-    → mem x taken ≡ false → AllByRecursion (IsGot p taken s) gots
-    → mem (place_at p x).message (numbers_of p gots) ≡ false
-fresh_piece p over taken s x gots hp known st new a =
-    false_from_ne_true _ (λ (m : mem (place_at p x).message (numbers_of p gots) ≡ true).
-    true≢false (sym (whole_taken p over taken s x hp known st
-    (all_mem (IsWhole p taken s) (numbers_of p gots) _
-    (all_map (IsWhole p taken s) (number_of p) gots (wholes gots a)) m)) ∙ new))
-  where
-    wholes : (gs : List Got) → AllByRecursion (IsGot p taken s) gs
-        → AllByRecursion (λ (g : Got). IsWhole p taken s (number_of p g)) gs
-    wholes [] b = tt
-    wholes (g ∷ gs) b = ((b.0).tells.whole, wholes gs b.1)
+module _ {p : Plan} {over : ℕ → Bool} (taken : List ℕ) (s : ℕ) (gots : List Got) (hp : IsPlanned p over) where
+  -- what was given is whole, so a new piece isn't of it
+  fresh_piece : (x : ℕ) → x < length p.places → (place_at p x).stream ≡ s → mem x taken ≡ false
+      → AllByRecursion (IsGot p taken s) gots → mem (place_at p x).message (numbers_of p gots) ≡ false
+  fresh_piece x known st new a =
+      false_from_ne_true _ (λ (m : mem (place_at p x).message (numbers_of p gots) ≡ true).
+      true≢false (sym (whole_taken p over taken s x hp known st
+      (all_mem (IsWhole p taken s) (numbers_of p gots) _
+      (all_map (IsWhole p taken s) (number_of p) gots (wholes gots a)) m)) ∙ new))
+    where
+      wholes : (gs : List Got) → AllByRecursion (IsGot p taken s) gs
+          → AllByRecursion (λ (g : Got). IsWhole p taken s (number_of p g)) gs
+      wholes [] b = tt
+      wholes (g ∷ gs) b = ((b.0).tells.whole, wholes gs b.1)
 
 module _ (p : Plan) (over : ℕ → Bool) (gone : ℕ → ℕ → Bool) (taken : List ℕ) (s : ℕ) (q : Queue)
     (gots : List Got) (d : Data)
@@ -108,7 +107,7 @@ module _ (p : Plan) (over : ℕ → Bool) (gone : ℕ → ℕ → Bool) (taken :
   )
 
   fresh_now : AllByRecursion (IsFresh p gots) (d ∷ q.unordered)
-  fresh_now = (fresh_piece p over taken s d.offset gots hp a.known a.stream new got, u.fresh)
+  fresh_now = (fresh_piece taken s gots hp d.offset a.known a.stream new got, u.fresh)
 
   -- another message was whole before
   whole_then : (i : ℕ) → (i ≡ (place_at p d.offset).message → ⊥) → IsWhole p (d.offset ∷ taken) s i
@@ -137,7 +136,7 @@ module _ (p : Plan) (over : ℕ → Bool) (gone : ℕ → ℕ → Bool) (taken :
       let first = w.pieces 0 (let f = hp.filled s i w.accepted in omega arith) in
       let h = has 0 first in
       let r =
-      run_found p over (d ∷ q.unordered) (top (d ∷ q.unordered)) s first.offset hp first.known first.stream
+      run_found (d ∷ q.unordered) s hp (top (d ∷ q.unordered)) first.offset first.known first.stream
       (omega arith) (held_at 0 first)
       (λ j b l. subst (λ z. HasPiece p (d ∷ q.unordered) s z j) (sym first.message)
       (has j (w.pieces j (subst (λ z. p.size * j < length (message_at p s z).bytes) first.message
@@ -194,7 +193,7 @@ module _ (p : Plan) (over : ℕ → Bool) (gone : ℕ → ℕ → Bool) (taken :
         (all_both (IsHeld p (d.offset ∷ taken) s false 0) (IsFresh p gots) (d ∷ q.unordered) held_now fresh_now)
 
     run : (r.head ≡ found.0) × IsRunOf p (d.offset ∷ taken) s (found.0).offset r.pieces
-    run = run_of_is p over (d.offset ∷ taken) s false 0 (d ∷ q.unordered) found.0 r hp held_now found.3
+    run = run_of_is false 0 (d ∷ q.unordered) hp held_now found.0 r found.3
 
     settled_got : IsGot p (d.offset ∷ taken) s (got_of r) × ((got_of r).ordered ≡ false)
         × (mem (number_of p (got_of r)) (numbers_of p gots) ≡ false)
@@ -206,7 +205,7 @@ module _ (p : Plan) (over : ℕ → Bool) (gone : ℕ → ℕ → Bool) (taken :
         =
         subst (λ z. (place_at p z.offset).piece ≡ 0) (sym run.0)
         (first_is p (d.offset ∷ taken) s 0 false found.0 f.0 found.2) in (
-          run_got p over (d.offset ∷ taken) s false 0 r hp hd first
+          run_got hp hd first
               (subst (λ z. IsRunOf p (d.offset ∷ taken) s z.offset r.pieces) (sym run.0) run.1),
           ap (λ z. z.ordered) hd.is ∙ hd.at.kind,
           subst (λ z. mem (place_at p z.offset).message (numbers_of p gots) ≡ false) (sym run.0) f.1,
@@ -291,52 +290,56 @@ module _ (p : Plan) (over : ℕ → Bool) (gone : ℕ → ℕ → Bool) (taken :
             run_here.mine in
             other (ap (λ z. (place_at p z).message) (sym m.1) ∙ m.0))
 
-pub stream_settled : (p : Plan) (over : ℕ → Bool) (gone : ℕ → ℕ → Bool) (current : Option Place) (next ssn : ℕ)
-    (taken : List ℕ) (passed skipped s : ℕ) (q : Queue) (reads : List Got) (d : Data)
-    → IsPlanned p over → IsPiece p d → IsAt p s false d.offset → mem d.offset taken ≡ false
-    → IsStream p gone current next ssn taken passed skipped s q reads
-    → IsStream p gone current next ssn (d.offset ∷ taken) passed skipped s (push_unordered q d) reads
-stream_settled p over gone current next ssn taken passed skipped s q reads d hp piece a new w =
-    go (first_complete (d ∷ q.unordered) (d ∷ q.unordered)) refl
-  where
-    ordered : (q' : Queue) → q'.cursor ≡ q.cursor → q'.ordered ≡ q.ordered
-        → IsOrdered p gone current next ssn (d.offset ∷ taken) passed skipped s (read_ssn p 0 reads)
-        (read_end p 0 reads) q' reads
-    ordered q' c o =
-        ordered_aside p gone current next ssn taken passed skipped s (read_ssn p 0 reads) (read_end p 0 reads) d.offset
-        q q' reads c o
-        (λ b. true≢false (sym b.kind ∙ a.kind)) w.ordered
+module _ (p : Plan) (over : ℕ → Bool) (gone : ℕ → ℕ → Bool) (current : Option Place) (next ssn : ℕ)
+    (taken : List ℕ) (passed skipped s : ℕ) (q : Queue) (reads : List Got) (d : Data) where
+  -- what holds of the stream where these offsets were taken in
+  abbrev IsStreamOf : List ℕ → Queue → List Got → Type 0
+  IsStreamOf came = IsStream p gone current next ssn came passed skipped s
 
-    go : (r : Option Run) → first_complete (d ∷ q.unordered) (d ∷ q.unordered) ≡ r
-        → IsStream p gone current next ssn (d.offset ∷ taken) passed skipped s (settle (with_unordered q d) r) reads
-    go None e = record {
-      got = all_weaker _ _ _ (λ g. got_more p taken d.offset s g) w.got;
-      once = w.once;
-      rising = w.rising;
-      below = w.below;
-      complete = w.complete;
-      ordered = ordered (with_unordered q d) refl refl;
-      unordered = unsettled p over gone taken s q (reads ++ q.complete) d hp piece a new w.got w.unordered e;
-    }
-    go (Some r) e =
-        let g = settled_got p over gone taken s q (reads ++ q.complete) d hp piece a new w.got w.unordered r e in
-        let same : (reads ++ q.complete) ++ got_of r ∷ [] ≡ reads ++ (q.complete ++ got_of r ∷ []) =
-        append_assoc reads q.complete (got_of r ∷ []) in
-        record {
-          got = subst (AllByRecursion (IsGot p (d.offset ∷ taken) s)) same
-              (all_push (IsGot p (d.offset ∷ taken) s) (reads ++ q.complete) (got_of r)
-              (all_weaker _ _ _ (λ x. got_more p taken d.offset s x) w.got) g.0);
-          once =
-              subst (λ z. AreDistinct (numbers_of p z)) same
-              (subst AreDistinct (sym (map-join (number_of p) (reads ++ q.complete) (got_of r ∷ [])))
-              (distinct_insert (numbers_of p (reads ++ q.complete)) [] (number_of p (got_of r))
-              (subst AreDistinct (sym (append-nil (numbers_of p (reads ++ q.complete)))) w.once)
-              (subst (λ z. mem (number_of p (got_of r)) z ≡ false)
-              (sym (append-nil (numbers_of p (reads ++ q.complete)))) g.2)));
-          rising = w.rising;
-          below = w.below;
-          complete = all_push (λ (x : Got). x.ordered ≡ false) q.complete (got_of r) w.complete g.1;
-          ordered = ordered (settle (with_unordered q d) (Some r)) refl refl;
-          unordered = subst (IsUnordered p gone (d.offset ∷ taken) s (settle (with_unordered q d) (Some r))) same
-              (settled p over gone taken s q (reads ++ q.complete) d hp piece a new w.got w.unordered r e);
-        }
+  pub stream_settled : IsPlanned p over → IsPiece p d → IsAt p s false d.offset → mem d.offset taken ≡ false
+      → IsStreamOf taken q reads
+      → IsStreamOf (d.offset ∷ taken) (push_unordered q d) reads
+  stream_settled hp piece a new w =
+      go (first_complete (d ∷ q.unordered) (d ∷ q.unordered)) refl
+    where
+      ordered : (q' : Queue) → q'.cursor ≡ q.cursor → q'.ordered ≡ q.ordered
+          → IsOrdered p gone current next ssn (d.offset ∷ taken) passed skipped s (read_ssn p 0 reads)
+          (read_end p 0 reads) q' reads
+      ordered q' c o =
+          ordered_aside p gone current next ssn taken passed skipped s (read_ssn p 0 reads) (read_end p 0 reads)
+          q q' reads c o
+          (λ b. true≢false (sym b.kind ∙ a.kind)) w.ordered
+
+      go : (r : Option Run) → first_complete (d ∷ q.unordered) (d ∷ q.unordered) ≡ r
+          → IsStreamOf (d.offset ∷ taken) (settle (with_unordered q d) r) reads
+      go None e = record {
+        got = all_weaker _ _ _ (λ g. got_more p taken d.offset s g) w.got;
+        once = w.once;
+        rising = w.rising;
+        below = w.below;
+        complete = w.complete;
+        ordered = ordered (with_unordered q d) refl refl;
+        unordered = unsettled p over gone taken s q (reads ++ q.complete) d hp piece a new w.got w.unordered e;
+      }
+      go (Some r) e =
+          let g = settled_got p over gone taken s q (reads ++ q.complete) d hp piece a new w.got w.unordered r e in
+          let same : (reads ++ q.complete) ++ got_of r ∷ [] ≡ reads ++ (q.complete ++ got_of r ∷ []) =
+          append_assoc reads q.complete (got_of r ∷ []) in
+          record {
+            got = subst (AllByRecursion (IsGot p (d.offset ∷ taken) s)) same
+                (all_push (IsGot p (d.offset ∷ taken) s) (reads ++ q.complete) (got_of r)
+                (all_weaker _ _ _ (λ x. got_more p taken d.offset s x) w.got) g.0);
+            once =
+                subst (λ z. AreDistinct (numbers_of p z)) same
+                (subst AreDistinct (sym (map-join (number_of p) (reads ++ q.complete) (got_of r ∷ [])))
+                (distinct_insert (numbers_of p (reads ++ q.complete)) [] (number_of p (got_of r))
+                (subst AreDistinct (sym (append-nil (numbers_of p (reads ++ q.complete)))) w.once)
+                (subst (λ z. mem (number_of p (got_of r)) z ≡ false)
+                (sym (append-nil (numbers_of p (reads ++ q.complete)))) g.2)));
+            rising = w.rising;
+            below = w.below;
+            complete = all_push (λ (x : Got). x.ordered ≡ false) q.complete (got_of r) w.complete g.1;
+            ordered = ordered (settle (with_unordered q d) (Some r)) refl refl;
+            unordered = subst (IsUnordered p gone (d.offset ∷ taken) s (settle (with_unordered q d) (Some r))) same
+                (settled p over gone taken s q (reads ++ q.complete) d hp piece a new w.got w.unordered r e);
+          }

@@ -26,11 +26,9 @@ number_in initial p s (g ∷ gs) (h ∷ hs) o a m =
     (mem_cases o h.offsets (offsets_in hs) m)
 
 -- an offset of a later message is none of the first
-pub later_number : (initial : ℕ) (p : Plan) (s : ℕ) (h : Held) (gs : List Group) (hs : List Held) (o : ℕ)
-    → AreRising (numbers_in (h ∷ hs)) → AreGroups initial p s gs hs
-    → mem o (offsets_in hs) ≡ true → h.number < (place_at p o).ssn
-later_number initial p s h gs hs o r a m =
-    all_mem (λ (j : ℕ). h.number < j) (numbers_in hs) (place_at p o).ssn r.0 (number_in initial p s gs hs o a m)
+pub later_number : (p : Plan) (h : Held) (hs : List Held) (o : ℕ) → AreRising (numbers_in (h ∷ hs))
+    → mem (place_at p o).ssn (numbers_in hs) ≡ true → h.number < (place_at p o).ssn
+later_number p h hs o r m = all_mem (λ (j : ℕ). h.number < j) (numbers_in hs) (place_at p o).ssn r.0 m
 
 -- what is held at the offsets of these messages
 abbrev pub AreThere : Plan → List Data → List Held → Type 0
@@ -41,19 +39,6 @@ abbrev pub AreFull : Plan → List Data → List Held → Type 0
 AreFull p held hs =
     (x : ℕ) (d : Data) → at x held ≡ Some d → mem (place_at p x).ssn (numbers_in hs) ≡ true
     → mem x (offsets_in hs) ≡ true
-
-pub full_rest : (initial : ℕ) (p : Plan) (s : ℕ) (held : List Data) (g : Group) (h : Held) (hs : List Held)
-    → AreRising (numbers_in (h ∷ hs)) → IsGroup initial p s g h
-    → AreFull p held (h ∷ hs) → AreFull p held hs
-full_rest initial p s held g h hs r i f x d e m =
-    ⊎_elim
-    (λ (l : mem x h.offsets ≡ true). absurd (
-    let n = all_mem (IsOf p s h.number) h.offsets x i.mine l in
-    let less = all_mem (λ (j : ℕ). h.number < j) (numbers_in hs) (place_at p x).ssn r.0 m in
-    let same = n.is in
-    omega arith))
-    (λ (t : mem x (offsets_in hs) ≡ true). t)
-    (mem_cases x h.offsets (offsets_in hs) (f x d e (or_right _ _ m)))
 
 -- the offsets of a message are all that is held of it
 pub record IsAlone (p : Plan) (s : ℕ) (held : List Data) (h : Held) : Type 0 where
@@ -82,17 +67,35 @@ alone_with p s held h (o ∷ os) e some r m t f = record {
   };
 }
 
-pub first_alone : (initial : ℕ) (p : Plan) (s : ℕ) (held : List Data) (g : Group) (gs : List Group) (h : Held)
-    (hs : List Held) → AreRising (numbers_in (h ∷ hs))
-    → AreGroups initial p s (g ∷ gs) (h ∷ hs) → AreThere p held (h ∷ hs) → AreFull p held (h ∷ hs) → IsAlone p s held h
-first_alone initial p s held g gs h hs r a t f =
-    let i = a.0 in
-    alone_with p s held h h.offsets refl i.some i.rising i.mine (λ x m. t x (mem_left x h.offsets (offsets_in hs) m))
-    (λ x d e n. ⊎_elim
-    (λ (l : mem x h.offsets ≡ true). l)
-    (λ (m : mem x (offsets_in hs) ≡ true).
-    absurd (let less = later_number initial p s h gs hs x r a.1 m in omega arith))
-    (mem_cases x h.offsets (offsets_in hs) (f x d e (or_left _ _ (eq-eqb h.number (place_at p x).ssn (sym n))))))
+module _ {initial : ℕ} {p : Plan} {s : ℕ} {g : Group} {h : Held} (held : List Data) (hs : List Held)
+    (r : AreRising (numbers_in (h ∷ hs))) (i : IsGroup initial p s g h) where
+  pub full_rest : AreFull p held (h ∷ hs) → AreFull p held hs
+  full_rest f x d e m =
+      ⊎_elim
+      (λ (l : mem x h.offsets ≡ true). absurd (
+      let n = all_mem (IsOf p s h.number) h.offsets x i.mine l in
+      let less = all_mem (λ (j : ℕ). h.number < j) (numbers_in hs) (place_at p x).ssn r.0 m in
+      let same = n.is in
+      omega arith))
+      (λ (t : mem x (offsets_in hs) ≡ true). t)
+      (mem_cases x h.offsets (offsets_in hs) (f x d e (or_right _ _ m)))
+
+  pub first_alone : (gs : List Group) → AreGroups initial p s gs hs → AreThere p held (h ∷ hs) → AreFull p held (h ∷ hs)
+      → IsAlone p s held h
+  first_alone gs a t f =
+      alone_with p s held h h.offsets refl i.some i.rising i.mine (λ x m. t x (mem_left x h.offsets (offsets_in hs) m))
+      (λ x d e n. ⊎_elim
+      (λ (l : mem x h.offsets ≡ true). l)
+      (λ (m : mem x (offsets_in hs) ≡ true).
+      absurd (let less = later_number p h hs x r (number_in initial p s gs hs x a m) in omega arith))
+      (mem_cases x h.offsets (offsets_in hs) (f x d e (or_left _ _ (eq-eqb h.number (place_at p x).ssn (sym n))))))
+
+-- the first of some groups with the message that it is held of, and nothing else of that is held
+pub record BeginsWith (initial : ℕ) (p : Plan) (s : ℕ) (held : List Data) (g : Group) (gs : List Group) (h : Held)
+    (hs : List Held) : Type 0 where
+  pub groups : AreGroups initial p s (g ∷ gs) (h ∷ hs)
+  pub rising : AllByRecursion (λ (j : ℕ). h.number < j) (numbers_in hs)
+  pub alone : IsAlone p s held h
 
 pub all_alone : (initial : ℕ) (p : Plan) (s : ℕ) (held : List Data) (gs : List Group) (hs : List Held)
     → AreRising (numbers_in hs)
@@ -100,9 +103,9 @@ pub all_alone : (initial : ℕ) (p : Plan) (s : ℕ) (held : List Data) (gs : Li
 all_alone initial p s held gs [] r a t f = tt
 all_alone initial p s held [] (h ∷ hs) r a t f = absurd a
 all_alone initial p s held (g ∷ gs) (h ∷ hs) r a t f = (
-  first_alone initial p s held g gs h hs r a t f,
+  first_alone held hs r a.0 gs a.1 t f,
   all_alone initial p s held gs hs r.1 a.1 (λ x m. t x (mem_right x h.offsets (offsets_in hs) m))
-      (full_rest initial p s held g h hs r a.0 f),
+      (full_rest held hs r a.0 f),
 )
 
 -- from what the relation says
@@ -122,6 +125,10 @@ in_from p held hs same x d e =
   where
     none_some : None ≡ Some d → ⊥
     none_some i = cc
+
+pub full_from : (p : Plan) (held : List Data) (hs : List Held)
+    → ((o : ℕ) → at o held ≡ cond (mem o (offsets_in hs)) (Some (data_at p o)) None) → AreFull p held hs
+full_from p held hs same x d e m = in_from p held hs same x d e
 
 -- what a filter leaves at an offset
 pub at_filtered : (p : Plan) (f : Data → Bool) (o : ℕ) (held : List Data)

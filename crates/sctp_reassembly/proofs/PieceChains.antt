@@ -33,43 +33,41 @@ start_of p over (suc n) o h l e =
       piece = r.piece;
     }
 
--- two offsets of one message are as far apart as their pieces
-pub apart : (p : Plan) (over : ℕ → Bool) (o q : ℕ) → IsPlanned p over → o < length p.places → q < length p.places
-    → (place_at p o).stream ≡ (place_at p q).stream → (place_at p o).message ≡ (place_at p q).message
-    → o + (place_at p q).piece ≡ q + (place_at p o).piece
-apart p over o q h lo lq st m =
-    let a = start_of p over (place_at p o).piece o h lo refl in
-    let b = start_of p over (place_at p q).piece q h lq refl in
-    let fa = a.from in
-    let fb = b.from in
-    let e : a.offset ≡ b.offset =
-    h.one a.offset b.offset (omega arith) (omega arith) (a.stream ∙ st ∙ sym b.stream) (a.message ∙ m ∙ sym b.message)
-    (a.piece ∙ sym b.piece) in
-    omega arith
-
 pub same_text : (p : Plan) (o q : ℕ) → (place_at p o).stream ≡ (place_at p q).stream
     → (place_at p o).message ≡ (place_at p q).message
     → message_of p (place_at p o) ≡ message_of p (place_at p q)
 same_text p o q st m = ap (λ z. message_at p z (place_at p o).message) st ∙ ap (message_at p (place_at p q).stream) m
 
--- a piece with a later one of its message is not the last
-pub not_last : (p : Plan) (over : ℕ → Bool) (o q : ℕ) → IsPlanned p over → o < q → q < length p.places
-    → (place_at p o).stream ≡ (place_at p q).stream → (place_at p o).message ≡ (place_at p q).message
-    → is_last p (place_at p o) ≡ false
-not_last p over o q h l lq st m =
-    let d = apart p over o q h (omega arith) lq st m in
-    let sizes : p.size * suc (place_at p o).piece ≤ p.size * (place_at p q).piece =
-    mul-le-mul_left p.size (let u : suc (place_at p o).piece ≤ (place_at p q).piece = omega arith in u) in
-    let text = h.piece q lq in
-    lt-leb _ _ (subst (λ z. p.size * suc (place_at p o).piece < length z.bytes) (sym (same_text p o q st m))
-    (omega arith))
+module _ {p : Plan} {over : ℕ → Bool} (h : IsPlanned p over) where
+  -- two offsets of one message are as far apart as their pieces
+  pub apart : (o q : ℕ) → o < length p.places → q < length p.places → (place_at p o).stream ≡ (place_at p q).stream
+      → (place_at p o).message ≡ (place_at p q).message → o + (place_at p q).piece ≡ q + (place_at p o).piece
+  apart o q lo lq st m =
+      let a = start_of p over (place_at p o).piece o h lo refl in
+      let b = start_of p over (place_at p q).piece q h lq refl in
+      let fa = a.from in
+      let fb = b.from in
+      let e : a.offset ≡ b.offset =
+      h.one a.offset b.offset (omega arith) (omega arith) (a.stream ∙ st ∙ sym b.stream) (a.message ∙ m ∙ sym b.message)
+      (a.piece ∙ sym b.piece) in
+      omega arith
 
--- ordered messages of a stream within its span that have one number are one
-pub one_message : (p : Plan) (over : ℕ → Bool) (s o q : ℕ) → IsPlanned p over → over s ≡ false → IsAt p s true o
-    → IsAt p s true q
-    → (place_at p o).ssn ≡ (place_at p q).ssn → (place_at p o).message ≡ (place_at p q).message
-one_message p over s o q h v a b e =
-    ⊎_elim
-    (λ (l : o < q). let pair = h.pairs s v o q (omega arith) a b in pair.together e)
-    (λ (g : q ≤ o). let pair = h.pairs s v q o g b a in sym (pair.together (sym e)))
-    (cases_lt o q)
+  -- a piece with a later one of its message is not the last
+  pub not_last : (o q : ℕ) → o < q → q < length p.places → (place_at p o).stream ≡ (place_at p q).stream
+      → (place_at p o).message ≡ (place_at p q).message → is_last p (place_at p o) ≡ false
+  not_last o q l lq st m =
+      let d = apart o q (omega arith) lq st m in
+      let sizes : p.size * suc (place_at p o).piece ≤ p.size * (place_at p q).piece =
+      mul-le-mul_left p.size (let u : suc (place_at p o).piece ≤ (place_at p q).piece = omega arith in u) in
+      let text = h.piece q lq in
+      lt-leb _ _ (subst (λ z. p.size * suc (place_at p o).piece < length z.bytes) (sym (same_text p o q st m))
+      (omega arith))
+
+  -- ordered messages of a stream within its span that have one number are one
+  pub one_message : {s o q : ℕ} → over s ≡ false → IsAt p s true o → IsAt p s true q
+      → (place_at p o).ssn ≡ (place_at p q).ssn → (place_at p o).message ≡ (place_at p q).message
+  one_message {s = s} {o = o} {q = q} v a b e =
+      ⊎_elim
+      (λ (l : o < q). let pair = h.pairs s v o q (omega arith) a b in pair.together e)
+      (λ (g : q ≤ o). let pair = h.pairs s v q o g b a in sym (pair.together (sym e)))
+      (cases_lt o q)

@@ -64,59 +64,34 @@ rising_put o (x ∷ xs) r m =
     ))
     (cases_Bool (ltb o x))
 
--- the chunks are those of the offsets again
-pub said_put : (initial : ℕ) (p : Plan) (c : ChunkPayloadData) (o : ℕ) (cs : List ChunkPayloadData) (os : List ℕ)
-    → CarriesData initial c (data_at p o) → o < 2 ^ 31
-    → CarryDataOf initial p cs os → AllByRecursion (λ (x : ℕ). x < 2 ^ 31) os
-    → CarryDataOf initial p (put_before (λ (x : ChunkPayloadData). tsn_lt c.tsn x.tsn) c cs) (put_offset o os)
-said_put initial p c o [] [] i l a s = (i, tt)
-said_put initial p c o [] (x ∷ xs) i l a s = absurd a
-said_put initial p c o (d ∷ ds) [] i l a s = absurd a
-said_put initial p c o (d ∷ ds) (x ∷ xs) i l a s =
-    let e : tsn_lt c.tsn d.tsn ≡ ltb o x =
-    ap (λ z. tsn_lt z d.tsn) i.tsn ∙ ap (tsn_lt (tsn initial o)) a.0.tsn ∙ tsn_before initial o x l s.0 in
-    ⊎_elim
-    (λ (b : ltb o x ≡ true). rw (e, b) (i, a))
-    (λ (b : ltb o x ≡ false). rw (e, b) (a.0, said_put initial p c o ds xs i l a.1 s.1))
-    (cases_Bool (ltb o x))
+module _ {initial : ℕ} {c : ChunkPayloadData} (p : Plan) (o : ℕ) (i : CarriesData initial c (data_at p o))
+    (l : o < 2 ^ 31) where
+  -- the chunks are those of the offsets again
+  pub said_put : (cs : List ChunkPayloadData) (os : List ℕ) → CarryDataOf initial p cs os
+      → AllByRecursion (λ (x : ℕ). x < 2 ^ 31) os
+      → CarryDataOf initial p (put_before (λ (x : ChunkPayloadData). tsn_lt c.tsn x.tsn) c cs) (put_offset o os)
+  said_put [] [] a s = (i, tt)
+  said_put [] (x ∷ xs) a s = absurd a
+  said_put (d ∷ ds) [] a s = absurd a
+  said_put (d ∷ ds) (x ∷ xs) a s =
+      let e : tsn_lt c.tsn d.tsn ≡ ltb o x =
+      ap (λ z. tsn_lt z d.tsn) i.tsn ∙ ap (tsn_lt (tsn initial o)) a.0.tsn ∙ tsn_before initial o x l s.0 in
+      ⊎_elim
+      (λ (b : ltb o x ≡ true). rw (e, b) (i, a))
+      (λ (b : ltb o x ≡ false). rw (e, b) (a.0, said_put ds xs a.1 s.1))
+      (cases_Bool (ltb o x))
 
--- An honest piece that is new contradicts nothing.
+  -- An honest piece that is new contradicts nothing.
 
--- of two pieces of one message the later one doesn't begin it, and the earlier one doesn't end it
-pub between : (p : Plan) (over : ℕ → Bool) (s n a b : ℕ) → IsPlanned p over → over s ≡ false → IsOf p s n a
-    → IsOf p s n b → a < b
-    → (eqb (place_at p b).piece 0 ≡ false) × (is_last p (place_at p a) ≡ false)
-between p over s n a b h v x y l =
-    let st = x.at.stream ∙ sym y.at.stream in
-    let m = one_message p over s a b h v x.at y.at (x.is ∙ sym y.is) in
-    let d = apart p over a b h x.at.known y.at.known st m in (
-      ne_eqb (place_at p b).piece 0 (λ (e : (place_at p b).piece ≡ 0). omega arith),
-      not_last p over a b h l y.at.known st m,
-    )
-
-has_none : (initial : ℕ) (p : Plan) (c : ChunkPayloadData) (o : ℕ) (cs : List ChunkPayloadData) (os : List ℕ)
-    → CarriesData initial c (data_at p o) → o < 2 ^ 31
-    → CarryDataOf initial p cs os → AllByRecursion (λ (x : ℕ). x < 2 ^ 31) os → has_tsn c.tsn cs ≡ mem o os
-has_none initial p c o [] [] i l a s = refl
-has_none initial p c o [] (x ∷ xs) i l a s = absurd a
-has_none initial p c o (d ∷ ds) [] i l a s = absurd a
-has_none initial p c o (d ∷ ds) (x ∷ xs) i l a s =
-    let e : eqb d.tsn c.tsn ≡ eqb x o =
-    ap (λ z. eqb z c.tsn) a.0.tsn ∙ ap (eqb (tsn initial x)) i.tsn ∙ tsn_same initial x o s.0 l in
-    ap (λ z. z || has_tsn c.tsn ds) e ∙ ap (λ z. eqb x o || z) (has_none initial p c o ds xs i l a.1 s.1)
-
-same_type : (initial : ℕ) (p : Plan) (over : ℕ → Bool) (s n : ℕ) (c : ChunkPayloadData) (o : ℕ)
-    (cs : List ChunkPayloadData) (os : List ℕ) → IsPlanned p over → over s ≡ false
-    → CarriesData initial c (data_at p o) → IsOf p s n o → CarryDataOf initial p cs os → AllByRecursion (IsOf p s n) os
-    → has_other_type cs c ≡ false
-same_type initial p over s n c o [] os h v i x a m = refl
-same_type initial p over s n c o (d ∷ ds) [] h v i x a m = absurd a
-same_type initial p over s n c o (d ∷ ds) (y ∷ ys) h v i x a m =
-    let z = m.0 in
-    let text =
-    same_text p y o (z.at.stream ∙ sym x.at.stream) (one_message p over s y o h v z.at x.at (z.is ∙ sym x.is)) in
-    ap not (eq-eqb (number_of d.payload_type) (number_of c.payload_type)
-    (a.0.payload_type ∙ ap (λ t. t.payload_type) text ∙ sym i.payload_type))
+  has_none : (cs : List ChunkPayloadData) (os : List ℕ) → CarryDataOf initial p cs os
+      → AllByRecursion (λ (x : ℕ). x < 2 ^ 31) os → has_tsn c.tsn cs ≡ mem o os
+  has_none [] [] a s = refl
+  has_none [] (x ∷ xs) a s = absurd a
+  has_none (d ∷ ds) [] a s = absurd a
+  has_none (d ∷ ds) (x ∷ xs) a s =
+      let e : eqb d.tsn c.tsn ≡ eqb x o =
+      ap (λ z. eqb z c.tsn) a.0.tsn ∙ ap (eqb (tsn initial x)) i.tsn ∙ tsn_same initial x o s.0 l in
+      ap (λ z. z || has_tsn c.tsn ds) e ∙ ap (λ z. eqb x o || z) (has_none ds xs a.1 s.1)
 
 pub unwrap_up : (k : Option ℕ) (n : ℕ) → unwrap_or (up_one k) (suc n) ≡ suc (unwrap_or k n)
 unwrap_up None n = refl
@@ -142,72 +117,92 @@ place_later c d ds e =
     ap (λ z. unwrap_or z (suc (length ds))) (position_later (past c) d ds e)
     ∙ unwrap_up (position (past c) ds) (length ds)
 
-front_fits : (initial : ℕ) (p : Plan) (over : ℕ → Bool) (s n : ℕ) (c : ChunkPayloadData) (o : ℕ)
-    (cs : List ChunkPayloadData) (os : List ℕ) → IsPlanned p over → over s ≡ false
-    → CarriesData initial c (data_at p o) → o < 2 ^ 31 → IsOf p s n o → CarryDataOf initial p cs os
-    → AllByRecursion (IsOf p s n) os → AllByRecursion (λ (x : ℕ). x < 2 ^ 31) os
-    → mem o os ≡ false → cond (eqb (index_of c.tsn cs) 0) (begins cs) c.beginning_fragment ≡ false
-front_fits initial p over s n c o [] os h v i l x a m t out = refl
-front_fits initial p over s n c o (d ∷ ds) [] h v i l x a m t out = absurd a
-front_fits initial p over s n c o (d ∷ ds) (y ∷ ys) h v i l x a m t out =
-    let e : tsn_lt c.tsn d.tsn ≡ ltb o y =
-    ap (λ z. tsn_lt z d.tsn) i.tsn ∙ ap (tsn_lt (tsn initial o)) a.0.tsn ∙ tsn_before initial o y l t.0 in
-    let apart_from = eqb-false y o (or_parts (eqb y o) (mem o ys) out).0 in
-    ⊎_elim
-    (λ (b : ltb o y ≡ true).
-    ap (λ z. cond (eqb z 0) d.beginning_fragment c.beginning_fragment) (place_here c d ds (e ∙ b))
-    ∙ a.0.first ∙ (between p over s n o y h v x m.0 (ltb-true o y b)).0)
-    (λ (b : ltb o y ≡ false).
-    ap (λ z. cond (eqb z 0) d.beginning_fragment c.beginning_fragment) (place_later c d ds (e ∙ b))
-    ∙ cond-false (eqb (suc (index_of c.tsn ds)) 0) d.beginning_fragment c.beginning_fragment
-    (ne_eqb (suc (index_of c.tsn ds)) 0 (λ (k : suc (index_of c.tsn ds) ≡ 0). omega arith))
-    ∙ i.first ∙ (between p over s n y o h v m.0 x (let g = ltb-false o y b in omega (arith, apart_from))).0)
-    (cases_Bool (ltb o y))
-
-back_fits : (initial : ℕ) (p : Plan) (over : ℕ → Bool) (s n : ℕ) (c : ChunkPayloadData) (o : ℕ)
-    (cs : List ChunkPayloadData) (os : List ℕ) → IsPlanned p over → over s ≡ false
-    → CarriesData initial c (data_at p o) → o < 2 ^ 31 → IsOf p s n o → CarryDataOf initial p cs os
-    → AllByRecursion (IsOf p s n) os → AllByRecursion (λ (x : ℕ). x < 2 ^ 31) os
-    → mem o os ≡ false → cond (eqb (index_of c.tsn cs) (length cs)) (ends cs) c.ending_fragment ≡ false
-back_fits initial p over s n c o [] os h v i l x a m t out = refl
-back_fits initial p over s n c o (d ∷ ds) [] h v i l x a m t out = absurd a
-back_fits initial p over s n c o (d ∷ ds) (y ∷ ys) h v i l x a m t out =
-    let e : tsn_lt c.tsn d.tsn ≡ ltb o y =
-    ap (λ z. tsn_lt z d.tsn) i.tsn ∙ ap (tsn_lt (tsn initial o)) a.0.tsn ∙ tsn_before initial o y l t.0 in
-    let parts = or_parts (eqb y o) (mem o ys) out in
-    let apart_from = eqb-false y o parts.0 in
-    ⊎_elim
-    (λ (b : ltb o y ≡ true).
-    ap (λ z. cond (eqb z (suc (length ds))) (ends (d ∷ ds)) c.ending_fragment) (place_here c d ds (e ∙ b))
-    ∙ cond-false (eqb 0 (suc (length ds))) (ends (d ∷ ds)) c.ending_fragment
-    (ne_eqb 0 (suc (length ds)) (λ (k : 0 ≡ suc (length ds)). omega arith))
-    ∙ i.last ∙ (between p over s n o y h v x m.0 (ltb-true o y b)).1)
-    (λ (b : ltb o y ≡ false).
-    ap (λ z. cond (eqb z (suc (length ds))) (ends (d ∷ ds)) c.ending_fragment) (place_later c d ds (e ∙ b))
-    ∙ ap (λ z. cond z (ends (d ∷ ds)) c.ending_fragment) (eqb_up (index_of c.tsn ds) (length ds))
-    ∙ rest ds ys a.1 (between p over s n y o h v m.0 x (let g = ltb-false o y b in omega (arith, apart_from))).1
-    (back_fits initial p over s n c o ds ys h v i l x a.1 m.1 t.1 parts.1))
-    (cases_Bool (ltb o y))
-  where
-    rest : (ds : List ChunkPayloadData) (ys : List ℕ) → CarryDataOf initial p ds ys → is_last p (place_at p y) ≡ false
-        → cond (eqb (index_of c.tsn ds) (length ds)) (ends ds) c.ending_fragment ≡ false
-        → cond (eqb (index_of c.tsn ds) (length ds)) (ends (d ∷ ds)) c.ending_fragment ≡ false
-    rest [] zs b f g = a.0.last ∙ f
-    rest (k ∷ ks) zs b f g =
-        ap (λ z. cond (eqb (index_of c.tsn (k ∷ ks)) (length (k ∷ ks))) (is_last_piece z) c.ending_fragment)
-        (last_later d k ks) ∙ g
-
 neither_of : (a b c : Bool) → a ≡ false → b ≡ false → c ≡ false → ((a || b) || c) ≡ false
 neither_of a b c x y z = rw (x, y, z) refl
 
-pub piece_fits : (initial : ℕ) (p : Plan) (over : ℕ → Bool) (s n : ℕ) (c : ChunkPayloadData) (o : ℕ)
-    (cs : List ChunkPayloadData) (os : List ℕ) → IsPlanned p over → over s ≡ false
-    → CarriesData initial c (data_at p o) → o < 2 ^ 31 → IsOf p s n o → CarryDataOf initial p cs os
-    → AllByRecursion (IsOf p s n) os → AllByRecursion (λ (x : ℕ). x < 2 ^ 31) os
-    → mem o os ≡ false → contradicts cs c ≡ false
-piece_fits initial p over s n c o cs os h v i l x a m t out =
-    neither_of (has_tsn c.tsn cs) (has_other_type cs c) (breaks_ends (index_of c.tsn cs) cs c)
-    (has_none initial p c o cs os i l a t ∙ out)
-    (same_type initial p over s n c o cs os h v i x a m)
-    (rw (front_fits initial p over s n c o cs os h v i l x a m t out)
-    (back_fits initial p over s n c o cs os h v i l x a m t out))
+module _ {p : Plan} {over : ℕ → Bool} {s n : ℕ} (h : IsPlanned p over) (v : over s ≡ false) where
+  -- of two pieces of one message the later one doesn't begin it, and the earlier one doesn't end it
+  pub between : (a b : ℕ) → IsOf p s n a → IsOf p s n b → a < b
+      → (eqb (place_at p b).piece 0 ≡ false) × (is_last p (place_at p a) ≡ false)
+  between a b x y l =
+      let st = x.at.stream ∙ sym y.at.stream in
+      let m = one_message h v x.at y.at (x.is ∙ sym y.is) in
+      let d = apart h a b x.at.known y.at.known st m in (
+        ne_eqb (place_at p b).piece 0 (λ (e : (place_at p b).piece ≡ 0). omega arith),
+        not_last h a b l y.at.known st m,
+      )
+
+module _ {initial : ℕ} {p : Plan} {over : ℕ → Bool} {s n : ℕ} {c : ChunkPayloadData} {o : ℕ}
+    (h : IsPlanned p over) (v : over s ≡ false) (i : CarriesData initial c (data_at p o)) (l : o < 2 ^ 31)
+    (x : IsOf p s n o) where
+  same_type : (cs : List ChunkPayloadData) (os : List ℕ) → CarryDataOf initial p cs os → AllByRecursion (IsOf p s n) os
+      → has_other_type cs c ≡ false
+  same_type [] os a m = refl
+  same_type (d ∷ ds) [] a m = absurd a
+  same_type (d ∷ ds) (y ∷ ys) a m =
+      let z = m.0 in
+      let text =
+      same_text p y o (z.at.stream ∙ sym x.at.stream) (one_message h v z.at x.at (z.is ∙ sym x.is)) in
+      ap not (eq-eqb (number_of d.payload_type) (number_of c.payload_type)
+      (a.0.payload_type ∙ ap (λ t. t.payload_type) text ∙ sym i.payload_type))
+
+  front_fits : (cs : List ChunkPayloadData) (os : List ℕ) → CarryDataOf initial p cs os → AllByRecursion (IsOf p s n) os
+      → AllByRecursion (λ (x : ℕ). x < 2 ^ 31) os → mem o os ≡ false
+      → cond (eqb (index_of c.tsn cs) 0) (begins cs) c.beginning_fragment ≡ false
+  front_fits [] os a m t out = refl
+  front_fits (d ∷ ds) [] a m t out = absurd a
+  front_fits (d ∷ ds) (y ∷ ys) a m t out =
+      let e : tsn_lt c.tsn d.tsn ≡ ltb o y =
+      ap (λ z. tsn_lt z d.tsn) i.tsn ∙ ap (tsn_lt (tsn initial o)) a.0.tsn ∙ tsn_before initial o y l t.0 in
+      let apart_from = eqb-false y o (or_parts (eqb y o) (mem o ys) out).0 in
+      ⊎_elim
+      (λ (b : ltb o y ≡ true).
+      ap (λ z. cond (eqb z 0) d.beginning_fragment c.beginning_fragment) (place_here c d ds (e ∙ b))
+      ∙ a.0.first ∙ (between h v o y x m.0 (ltb-true o y b)).0)
+      (λ (b : ltb o y ≡ false).
+      ap (λ z. cond (eqb z 0) d.beginning_fragment c.beginning_fragment) (place_later c d ds (e ∙ b))
+      ∙ cond-false (eqb (suc (index_of c.tsn ds)) 0) d.beginning_fragment c.beginning_fragment
+      (ne_eqb (suc (index_of c.tsn ds)) 0 (λ (k : suc (index_of c.tsn ds) ≡ 0). omega arith))
+      ∙ i.first ∙ (between h v y o m.0 x (let g = ltb-false o y b in omega (arith, apart_from))).0)
+      (cases_Bool (ltb o y))
+
+  back_fits : (cs : List ChunkPayloadData) (os : List ℕ) → CarryDataOf initial p cs os → AllByRecursion (IsOf p s n) os
+      → AllByRecursion (λ (x : ℕ). x < 2 ^ 31) os → mem o os ≡ false
+      → cond (eqb (index_of c.tsn cs) (length cs)) (ends cs) c.ending_fragment ≡ false
+  back_fits [] os a m t out = refl
+  back_fits (d ∷ ds) [] a m t out = absurd a
+  back_fits (d ∷ ds) (y ∷ ys) a m t out =
+      let e : tsn_lt c.tsn d.tsn ≡ ltb o y =
+      ap (λ z. tsn_lt z d.tsn) i.tsn ∙ ap (tsn_lt (tsn initial o)) a.0.tsn ∙ tsn_before initial o y l t.0 in
+      let parts = or_parts (eqb y o) (mem o ys) out in
+      let apart_from = eqb-false y o parts.0 in
+      ⊎_elim
+      (λ (b : ltb o y ≡ true).
+      ap (λ z. cond (eqb z (suc (length ds))) (ends (d ∷ ds)) c.ending_fragment) (place_here c d ds (e ∙ b))
+      ∙ cond-false (eqb 0 (suc (length ds))) (ends (d ∷ ds)) c.ending_fragment
+      (ne_eqb 0 (suc (length ds)) (λ (k : 0 ≡ suc (length ds)). omega arith))
+      ∙ i.last ∙ (between h v o y x m.0 (ltb-true o y b)).1)
+      (λ (b : ltb o y ≡ false).
+      ap (λ z. cond (eqb z (suc (length ds))) (ends (d ∷ ds)) c.ending_fragment) (place_later c d ds (e ∙ b))
+      ∙ ap (λ z. cond z (ends (d ∷ ds)) c.ending_fragment) (eqb_up (index_of c.tsn ds) (length ds))
+      ∙ rest ds ys a.1 (between h v y o m.0 x (let g = ltb-false o y b in omega (arith, apart_from))).1
+      (back_fits ds ys a.1 m.1 t.1 parts.1))
+      (cases_Bool (ltb o y))
+    where
+      rest : (ds : List ChunkPayloadData) (ys : List ℕ) → CarryDataOf initial p ds ys → is_last p (place_at p y) ≡ false
+          → cond (eqb (index_of c.tsn ds) (length ds)) (ends ds) c.ending_fragment ≡ false
+          → cond (eqb (index_of c.tsn ds) (length ds)) (ends (d ∷ ds)) c.ending_fragment ≡ false
+      rest [] zs b f g = a.0.last ∙ f
+      rest (k ∷ ks) zs b f g =
+          ap (λ z. cond (eqb (index_of c.tsn (k ∷ ks)) (length (k ∷ ks))) (is_last_piece z) c.ending_fragment)
+          (last_later d k ks) ∙ g
+
+  pub piece_fits : (cs : List ChunkPayloadData) (os : List ℕ) → CarryDataOf initial p cs os
+      → AllByRecursion (IsOf p s n) os → AllByRecursion (λ (x : ℕ). x < 2 ^ 31) os → mem o os ≡ false
+      → contradicts cs c ≡ false
+  piece_fits cs os a m t out =
+      neither_of (has_tsn c.tsn cs) (has_other_type cs c) (breaks_ends (index_of c.tsn cs) cs c)
+      (has_none p o i l cs os a t ∙ out)
+      (same_type cs os a m)
+      (rw (front_fits cs os a m t out)
+      (back_fits cs os a m t out))

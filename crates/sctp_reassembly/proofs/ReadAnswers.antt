@@ -5,12 +5,12 @@ use Rattle.std.proofs.lemmas.Bool.{cases_lt, lt-ltb, le-ltb, lt-leb, le-leb}
 use Rattle.sctp_wire_types.specs.Serial.{ssn_lte}
 use Rattle.sctp_receive_queues.specs.Messages.{ReceivedMessage, message_of as the_message}
 use Rattle.sctp_receive_queues.specs.Pieces.{is_complete}
-use Rattle.sctp_receive_queues.specs.Reassembly.{Group, Reassembly, after_read, is_due, read_from, read_ordered}
+use Rattle.sctp_receive_queues.specs.Reassembly.{Group, Reassembly, after_read, is_due, read_from, read_ordered, taken}
 use Rattle.sctp_model.specs.Messages.{Plan, place_at}
 use Rattle.sctp_model.specs.Packets.{Data, mem, data_at}
 use Rattle.sctp_model.specs.Serial.{before_16}
 use Rattle.sctp_model.specs.Reassembly.{Got, Queue, Run, at, got_of, least, message_in, without, taken_out, next_of}
-use Rattle.sctp_model.specs.Reassembly.{next_from, next_ordered}
+use Rattle.sctp_model.specs.Reassembly.{next_from, next_ordered, next}
 use Rattle.sctp_model.specs.Safe.{AreRising, letter_read}
 use Rattle.sctp_model.specs.Invariants.{IsPlanned}
 use Rattle.sctp_model.proofs.Lists.{all_weaker, all_mem}
@@ -18,7 +18,8 @@ use Rattle.sctp_model.proofs.NumberWindows.{before_is, up_to_is}
 use Rattle.sctp_reassembly.specs.Laws.{ReadsAnswerAlike}
 use Rattle.sctp_reassembly.specs.Stands.{Held, IsGroup, AreGroups, CarryDataOf, offsets_in, numbers_in, letter_received}
 use Rattle.sctp_reassembly.specs.Stands.{StandsFor, IsInWindow, IsAnsweredAlike}
-use Rattle.sctp_reassembly.proofs.HeldMessages.{IsAlone, first_alone, in_from, nothing_held, number_in, there_from}
+use Rattle.sctp_reassembly.proofs.HeldMessages.{IsAlone, first_alone, full_from, in_from, nothing_held, number_in}
+use Rattle.sctp_reassembly.proofs.HeldMessages.{there_from, BeginsWith}
 use Rattle.sctp_reassembly.proofs.WholeMessages.{message_is, complete_is, letter_is}
 use Rattle.sctp_reassembly.proofs.MessageRuns.{is_rest, run_at}
 use Rattle.sctp_reassembly.proofs.ReadsAlike.{in_window, least_first, stands_after}
@@ -27,132 +28,129 @@ use Rattle.sctp_reassembly.proofs.ReadsAlike.{in_window, least_first, stands_aft
 abbrev pub is_all : Plan → ℕ → List ℕ → Bool
 is_all p o rest = eqb (place_at p o).piece 0 && is_rest p (o ∷ rest)
 
--- a group is complete where all of its message is there
-pub group_is : (initial : ℕ) (p : Plan) (s : ℕ) (held : List Data) (g : Group) (h : Held) → length p.places < 2 ^ 31
-    → IsGroup initial p s g h → (a : IsAlone p s held h)
-    → is_complete g.pieces ≡ is_all p a.first a.rest
-group_is initial p s held g h small i a =
-    complete_is initial p g.pieces a.first a.rest (subst (CarryDataOf initial p g.pieces) a.offsets i.pieces)
-    (all_weaker _ _ (a.first ∷ a.rest) (λ x m. let k = m.at.known in omega arith) a.all.from.mine)
+module _ {initial : ℕ} {p : Plan} {s : ℕ} {held : List Data} {g : Group} {h : Held}
+    (small : length p.places < 2 ^ 31) (i : IsGroup initial p s g h) (a : IsAlone p s held h) where
+  -- a group is complete where all of its message is there
+  pub group_is : is_complete g.pieces ≡ is_all p a.first a.rest
+  group_is =
+      complete_is initial p g.pieces a.first a.rest (subst (CarryDataOf initial p g.pieces) a.offsets i.pieces)
+      (all_weaker _ _ (a.first ∷ a.rest) (λ x m. let k = m.at.known in omega arith) a.all.from.mine)
 
--- it is due where its number isn't past the cursor
-first_due : (initial : ℕ) (p : Plan) (came : List ℕ) (s low cursor : ℕ) (r : Reassembly) (q : Queue) (g : Group)
-    (h : Held) → IsInWindow p came s low cursor q
-    → StandsFor initial p s r q → IsGroup initial p s g h → IsAlone p s q.ordered h
-    → (ssn_lte g.ssn r.next_ssn ≡ leb h.number cursor)
-    × (before_16 q.cursor (h.number % 65536) ≡ not (leb h.number cursor))
-first_due initial p came s low cursor r q g h w st i a =
-    let b = in_window p came s low cursor q a.first w a.all.from.there.0 in
-    let b0 = b.0 in
-    let b1 = b.1 in
-    let n = a.all.from.mine.0.is in
-    let above = w.above in
-    let until = w.until in (
-      ap (λ z. ssn_lte z r.next_ssn) i.ssn ∙ ap (ssn_lte (h.number % 65536)) (st.next ∙ w.is)
-          ∙ up_to_is h.number cursor (omega arith) (omega arith),
-      ap (λ z. before_16 z (h.number % 65536)) w.is ∙ before_is cursor h.number (omega arith) (omega arith)
-          ∙ turned cursor h.number,
-    )
-  where
-    turned : (a b : ℕ) → ltb a b ≡ not (leb b a)
-    turned a b =
-        ⊎_elim (λ (l : a < b). lt-ltb a b l ∙ ap not (sym (lt-leb b a l)))
-        (λ (g : b ≤ a). le-ltb a b g ∙ ap not (sym (le-leb b a g))) (cases_lt a b)
+module _ {initial : ℕ} {p : Plan} {over : ℕ → Bool} {came : List ℕ} {s low cursor : ℕ} {r : Reassembly}
+    {q : Queue} (hp : IsPlanned p over) (v : over s ≡ false) (small : length p.places < 2 ^ 31)
+    (w : IsInWindow p came s low cursor q) (st : StandsFor initial p s r q) where
+  -- it is due where its number isn't past the cursor
+  first_due : (g : Group) (h : Held) → IsGroup initial p s g h → IsAlone p s q.ordered h
+      → (ssn_lte g.ssn r.next_ssn ≡ leb h.number cursor)
+      × (before_16 q.cursor (h.number % 65536) ≡ not (leb h.number cursor))
+  first_due g h i a =
+      let b = in_window w a.first a.all.from.there.0 in
+      let b0 = b.0 in
+      let b1 = b.1 in
+      let n = a.all.from.mine.0.is in
+      let above = w.above in
+      let until = w.until in (
+        ap (λ z. ssn_lte z r.next_ssn) i.ssn ∙ ap (ssn_lte (h.number % 65536)) (st.next ∙ w.is)
+            ∙ up_to_is h.number cursor (omega arith) (omega arith),
+        ap (λ z. before_16 z (h.number % 65536)) w.is ∙ before_is cursor h.number (omega arith) (omega arith)
+            ∙ turned cursor h.number,
+      )
+    where
+      turned : (a b : ℕ) → ltb a b ≡ not (leb b a)
+      turned a b =
+          ⊎_elim (λ (l : a < b). lt-ltb a b l ∙ ap not (sym (lt-leb b a l)))
+          (λ (g : b ≤ a). le-ltb a b g ∙ ap not (sym (le-leb b a g))) (cases_lt a b)
 
-decided : (initial : ℕ) (p : Plan) (s : ℕ) (q : Queue) (r after : Reassembly) (m : ReceivedMessage) (n : ℕ) (run : Run)
-    (t c : Bool) → StandsFor initial p s r q
-    → (letter_received m ≡ letter_read (got_of run)) × StandsFor initial p s after (without q n)
-    → IsAnsweredAlike initial p s q (cond (t && c) (after, Some m) (r, None))
-    (cond (not t) None (taken_out q n (cond c (Some run) None)))
-decided initial p s q r after m n run true true st a = a
-decided initial p s q r after m n run true false st a = st
-decided initial p s q r after m n run false c st a = st
+  decided : (after : Reassembly) (m : ReceivedMessage) (n : ℕ) (run : Run) (t c : Bool)
+      → (letter_received m ≡ letter_read (got_of run)) × StandsFor initial p s after (without q n)
+      → IsAnsweredAlike initial p s q (cond (t && c) (after, Some m) (r, None))
+      (cond (not t) None (taken_out q n (cond c (Some run) None)))
+  decided after m n run true true a = a
+  decided after m n run true false a = st
+  decided after m n run false c a = st
 
-first_answered : (initial : ℕ) (p : Plan) (over : ℕ → Bool) (came : List ℕ) (s low cursor : ℕ) (r : Reassembly)
-    (q : Queue) (g : Group) (gs : List Group) (h : Held) (hs : List Held)
-    → IsPlanned p over → over s ≡ false → length p.places < 2 ^ 31 → IsInWindow p came s low cursor q
-    → (st : StandsFor initial p s r q)
-    → AreGroups initial p s (g ∷ gs) (h ∷ hs) → AreRising (numbers_in (h ∷ hs)) → st.held ≡ h ∷ hs
-    → IsAlone p s q.ordered h
-    → ((o : ℕ) (d : Data) → at o q.ordered ≡ Some d → h.number ≤ (place_at p o).ssn)
-    → IsAnsweredAlike initial p s q (read_ordered r (g ∷ gs)) (next_ordered q)
-first_answered initial p over came s low cursor r q g gs h hs hp v small w st a rise e alone below =
-    let n : ℕ = h.number % 65536 in
-    let due = first_due initial p came s low cursor r q g h w st a.0 alone in
-    let done = is_all p alone.first alone.rest in
-    let run = run_at p alone.first alone.rest in
-    let after : Reassembly = record r { next_ssn = after_read g.ssn r.next_ssn; ordered = gs } in
-    let is : is_due r.next_ssn (Some g) ≡ (leb h.number cursor && done)
-    =
-    ap (λ z. z && is_complete g.pieces) due.0
-    ∙ ap (λ z. leb h.number cursor && z) (group_is initial p s q.ordered g h small a.0 alone) in
-    let other : next_ordered q ≡ cond (not (leb h.number cursor)) None (taken_out q n (cond done (Some run) None))
-    = ap (next_of q) (least_first p came s low cursor q h w alone below)
-    ∙ ap (λ z. cond z None (taken_out q n (message_in q.ordered n))) due.1
-    ∙ ap (λ z. cond (not (leb h.number cursor)) None (taken_out q n z))
-    (message_is p over came s low h.number q.ordered alone.first alone.rest hp v w.held w.near alone.all) in
-    subst (λ z. IsAnsweredAlike initial p s q (read_ordered r (g ∷ gs)) z) (sym other)
-    (subst (λ z. IsAnsweredAlike initial p s q (cond z (after, Some (the_message g.pieces)) (r, None))
-    (cond (not (leb h.number cursor)) None (taken_out q n (cond done (Some run) None)))) (sym is)
-    (decided initial p s q r after (the_message g.pieces) n run (leb h.number cursor) done st (
-      letter_is initial p g.pieces alone.first alone.rest (subst (CarryDataOf initial p g.pieces) alone.offsets a.0.pieces),
-      stands_after initial p came s low cursor r q g gs h hs w a rise.0 alone st e,
-    )))
+  first_answered : (g : Group) (gs : List Group) (h : Held) (hs : List Held) → AreGroups initial p s (g ∷ gs) (h ∷ hs)
+      → AreRising (numbers_in (h ∷ hs)) → st.held ≡ h ∷ hs → IsAlone p s q.ordered h
+      → ((o : ℕ) (d : Data) → at o q.ordered ≡ Some d → h.number ≤ (place_at p o).ssn)
+      → IsAnsweredAlike initial p s q (read_ordered r (g ∷ gs)) (next_ordered q)
+  first_answered g gs h hs a rise e alone below =
+      let n : ℕ = h.number % 65536 in
+      let due = first_due g h a.0 alone in
+      let done = is_all p alone.first alone.rest in
+      let run = run_at p alone.first alone.rest in
+      let begin : BeginsWith initial p s q.ordered g gs h hs = record { groups = a; rising = rise.0; alone = alone } in
+      let after : Reassembly = record r { next_ssn = after_read g.ssn r.next_ssn; ordered = gs } in
+      let is : is_due r.next_ssn (Some g) ≡ (leb h.number cursor && done)
+      =
+      ap (λ z. z && is_complete g.pieces) due.0
+      ∙ ap (λ z. leb h.number cursor && z) (group_is small a.0 alone) in
+      let other : next_ordered q ≡ cond (not (leb h.number cursor)) None (taken_out q n (cond done (Some run) None))
+      = ap (next_of q) (least_first w h alone below)
+      ∙ ap (λ z. cond z None (taken_out q n (message_in q.ordered n))) due.1
+      ∙ ap (λ z. cond (not (leb h.number cursor)) None (taken_out q n z))
+      (message_is came low hp v w.held w.near alone.all) in
+      subst (λ z. IsAnsweredAlike initial p s q (read_ordered r (g ∷ gs)) z) (sym other)
+      (subst (λ z. IsAnsweredAlike initial p s q (cond z (after, Some (the_message g.pieces)) (r, None))
+      (cond (not (leb h.number cursor)) None (taken_out q n (cond done (Some run) None)))) (sym is)
+      (decided after (the_message g.pieces) n run (leb h.number cursor) done (
+        letter_is initial p g.pieces alone.first alone.rest
+            (subst (CarryDataOf initial p g.pieces) alone.offsets a.0.pieces),
+        stands_after w begin r st e,
+      )))
 
--- the first message held has the least number
-least_number : (initial : ℕ) (p : Plan) (s : ℕ) (held : List Data) (gs : List Group) (h : Held) (hs : List Held)
-    → AreGroups initial p s gs (h ∷ hs) → AreRising (numbers_in (h ∷ hs))
-    → ((o : ℕ) → at o held ≡ cond (mem o (offsets_in (h ∷ hs))) (Some (data_at p o)) None)
-    → (o : ℕ) (d : Data) → at o held ≡ Some d → h.number ≤ (place_at p o).ssn
-least_number initial p s held gs h hs a rise same o d e =
-    all_mem (λ (j : ℕ). h.number ≤ j) (numbers_in (h ∷ hs)) (place_at p o).ssn
-    (le_refl_of h.number, all_weaker _ _ (numbers_in hs) (λ j (l : h.number < j). omega arith) rise.0)
-    (number_in initial p s gs (h ∷ hs) o a (in_from p held (h ∷ hs) same o d e))
-  where
-    le_refl_of : (n : ℕ) → n ≤ n
-    le_refl_of n = omega arith
+  -- the first message held has the least number
+  least_number : (gs : List Group) (h : Held) (hs : List Held) → AreGroups initial p s gs (h ∷ hs)
+      → AreRising (numbers_in (h ∷ hs))
+      → ((o : ℕ) → at o q.ordered ≡ cond (mem o (offsets_in (h ∷ hs))) (Some (data_at p o)) None) → (o : ℕ) (d : Data)
+      → at o q.ordered ≡ Some d → h.number ≤ (place_at p o).ssn
+  least_number gs h hs a rise same o d e =
+      all_mem (λ (j : ℕ). h.number ≤ j) (numbers_in (h ∷ hs)) (place_at p o).ssn
+      (le_refl_of h.number, all_weaker _ _ (numbers_in hs) (λ j (l : h.number < j). omega arith) rise.0)
+      (number_in initial p s gs (h ∷ hs) o a (in_from p q.ordered (h ∷ hs) same o d e))
+    where
+      le_refl_of : (n : ℕ) → n ≤ n
+      le_refl_of n = omega arith
 
-ordered_answered : (initial : ℕ) (p : Plan) (over : ℕ → Bool) (came : List ℕ) (s low cursor : ℕ) (r : Reassembly)
-    (q : Queue) (gs : List Group) (hs : List Held)
-    → IsPlanned p over → over s ≡ false → length p.places < 2 ^ 31 → IsInWindow p came s low cursor q
-    → (st : StandsFor initial p s r q)
-    → AreGroups initial p s gs hs → AreRising (numbers_in hs)
-    → ((o : ℕ) → at o q.ordered ≡ cond (mem o (offsets_in hs)) (Some (data_at p o)) None) → st.held ≡ hs
-    → IsAnsweredAlike initial p s q (read_ordered r gs) (next_ordered q)
-ordered_answered initial p over came s low cursor r q [] [] hp v small w st a rise same e =
-    subst (λ z. IsAnsweredAlike initial p s q (r, None) (next_of q z))
-    (sym (ap the_least (nothing_held q.ordered same))) st
-  where
-    the_least : List Data → Option ℕ
-    the_least ds = least ds
-ordered_answered initial p over came s low cursor r q [] (h ∷ hs) hp v small w st a rise same e = absurd a
-ordered_answered initial p over came s low cursor r q (g ∷ gs) [] hp v small w st a rise same e = absurd a
-ordered_answered initial p over came s low cursor r q (g ∷ gs) (h ∷ hs) hp v small w st a rise same e =
-    first_answered initial p over came s low cursor r q g gs h hs hp v small w st a rise e
-    (first_alone initial p s q.ordered g gs h hs rise a (there_from p q.ordered (h ∷ hs) same)
-    (λ x d f m. in_from p q.ordered (h ∷ hs) same x d f))
-    (least_number initial p s q.ordered (g ∷ gs) h hs a rise same)
+  ordered_answered : (gs : List Group) (hs : List Held) → AreGroups initial p s gs hs → AreRising (numbers_in hs)
+      → ((o : ℕ) → at o q.ordered ≡ cond (mem o (offsets_in hs)) (Some (data_at p o)) None) → st.held ≡ hs
+      → IsAnsweredAlike initial p s q (read_ordered r gs) (next_ordered q)
+  ordered_answered [] [] a rise same e =
+      subst (λ z. IsAnsweredAlike initial p s q (r, None) (next_of q z))
+      (sym (ap the_least (nothing_held q.ordered same))) st
+    where
+      the_least : List Data → Option ℕ
+      the_least ds = least ds
+  ordered_answered [] (h ∷ hs) a rise same e = absurd a
+  ordered_answered (g ∷ gs) [] a rise same e = absurd a
+  ordered_answered (g ∷ gs) (h ∷ hs) a rise same e =
+      first_answered g gs h hs a rise e
+      (first_alone q.ordered hs rise a.0 gs a.1 (there_from p q.ordered (h ∷ hs) same)
+      (full_from p q.ordered (h ∷ hs) same))
+      (least_number (g ∷ gs) h hs a rise same)
+
+  pub answered : IsAnsweredAlike initial p s q (taken r) (next q)
+  answered = go r.complete q.complete refl refl st.complete
+    where
+      go : (ms : List ReceivedMessage) (gots : List Got) → r.complete ≡ ms → q.complete ≡ gots
+          → map letter_received ms ≡ map letter_read gots
+          → IsAnsweredAlike initial p s q (read_from r ms) (next_from q gots)
+      go [] [] e f l =
+          ordered_answered r.ordered st.held st.groups
+          st.ascends st.same refl
+      go [] (x ∷ xs) e f l = absurd (cc)
+      go (m ∷ ms) [] e f l = absurd (cc)
+      go (m ∷ ms) (x ∷ xs) e f l = (
+        (let y : letter_received m ≡ letter_read x = cc in y),
+        record {
+          held = st.held;
+          groups = st.groups;
+          ascends = st.ascends;
+          same = st.same;
+          next = st.next;
+          waiting = st.waiting;
+          complete = (let y : map letter_received ms ≡ map letter_read xs = cc in y);
+        },
+      )
 
 pub reads_answer_alike : ReadsAnswerAlike
-reads_answer_alike initial p over came s low cursor r q hp v small w st = go r.complete q.complete refl refl st.complete
-  where
-    go : (ms : List ReceivedMessage) (gots : List Got) → r.complete ≡ ms → q.complete ≡ gots
-        → map letter_received ms ≡ map letter_read gots
-        → IsAnsweredAlike initial p s q (read_from r ms) (next_from q gots)
-    go [] [] e f l =
-        ordered_answered initial p over came s low cursor r q r.ordered st.held hp v small w st st.groups
-        st.ascends st.same refl
-    go [] (x ∷ xs) e f l = absurd (cc)
-    go (m ∷ ms) [] e f l = absurd (cc)
-    go (m ∷ ms) (x ∷ xs) e f l = (
-      (let y : letter_received m ≡ letter_read x = cc in y),
-      record {
-        held = st.held;
-        groups = st.groups;
-        ascends = st.ascends;
-        same = st.same;
-        next = st.next;
-        waiting = st.waiting;
-        complete = (let y : map letter_received ms ≡ map letter_read xs = cc in y);
-      },
-    )
+reads_answer_alike initial p over came s low cursor r q = answered

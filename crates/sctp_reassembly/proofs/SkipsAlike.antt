@@ -4,22 +4,23 @@ use Rattle.std.proofs.Common.{filter, is_some, Option, Some, None, refl, sym, ap
 use Rattle.std.specs.List.{AllByRecursion}
 use Rattle.std.proofs.lemmas.Bool.{cases_Bool}
 use Rattle.sctp_receive_queues.specs.Pieces.{is_complete}
-use Rattle.sctp_receive_queues.specs.Reassembly.{Group, next_after_skip, stays}
+use Rattle.sctp_receive_queues.specs.Reassembly.{Group, next_after_skip, stays, Reassembly, skipped}
 use Rattle.sctp_wire_types.specs.Serial.{ssn_lte}
 use Rattle.sctp_model.specs.Messages.{Plan, place_at}
 use Rattle.sctp_model.specs.Packets.{Data, mem, data_at}
 use Rattle.sctp_model.specs.Serial.{up_to_16}
-use Rattle.sctp_model.specs.Reassembly.{Queue, Run, message_in}
+use Rattle.sctp_model.specs.Reassembly.{Queue, Run, message_in, skip}
 use Rattle.sctp_model.specs.Safe.{AreRising, read_end, read_ssn}
 use Rattle.sctp_model.specs.Machine.{live}
 use Rattle.sctp_model.specs.Invariants.{IsPlanned}
 use Rattle.sctp_model.proofs.NextOrdered.{IsNear, near_all, window_next}
 use Rattle.sctp_model.proofs.Lists.{all_mem, all_weaker, mem-join}
 use Rattle.sctp_reassembly.specs.Laws.{EmptyOnesStand, OrderedSkipsStand, TheInvariantGivesTheWindow}
-use Rattle.sctp_reassembly.specs.Stands.{Held, IsOf, IsGroup, AreGroups, offsets_in, numbers_in, IsInWindow}
+use Rattle.sctp_reassembly.specs.Stands.{Held, IsOf, IsGroup, AreGroups, offsets_in, numbers_in, IsInWindow, StandsFor}
 use Rattle.sctp_reassembly.proofs.ReadAnswers.{group_is, is_all}
 use Rattle.sctp_reassembly.proofs.MessageRuns.{run_at}
-use Rattle.sctp_reassembly.proofs.HeldMessages.{IsAlone, all_alone, and_none, at_filtered, in_from, nested, there_from}
+use Rattle.sctp_reassembly.proofs.HeldMessages.{IsAlone, all_alone, and_none, at_filtered, full_from, nested}
+use Rattle.sctp_reassembly.proofs.HeldMessages.{there_from}
 use Rattle.sctp_reassembly.proofs.WholeMessages.{IsNearBy, message_is}
 
 -- the messages whose number passes a test
@@ -67,64 +68,68 @@ offsets_of_those initial p s keeps (g ∷ gs) (h ∷ hs) x a =
     (cases_Bool (keeps h.number)))
     (cases_Bool (mem x h.offsets))
 
-groups_of_those : (initial : ℕ) (p : Plan) (s m : ℕ) (held : List Data) (keeps : ℕ → Bool) (gs : List Group)
-    (hs : List Held) → AreGroups initial p s gs hs
-    → AllByRecursion (IsAlone p s held) hs
-    → ((g : Group) (h : Held) → IsGroup initial p s g h → IsAlone p s held h → stays m g ≡ keeps h.number)
-    → AreGroups initial p s (filter (stays m) gs) (those keeps hs)
-groups_of_those initial p s m held keeps [] [] a l f = tt
-groups_of_those initial p s m held keeps [] (h ∷ hs) a l f = absurd a
-groups_of_those initial p s m held keeps (g ∷ gs) [] a l f = absurd a
-groups_of_those initial p s m held keeps (g ∷ gs) (h ∷ hs) a l f =
-    let same = f g h a.0 l.0 in
-    let more = groups_of_those initial p s m held keeps gs hs a.1 l.1 f in
-    ⊎_elim (λ (b : keeps h.number ≡ true). rw (same ∙ b, b) (a.0, more))
-    (λ (b : keeps h.number ≡ false). rw (same ∙ b, b) more) (cases_Bool (keeps h.number))
-
 -- a message stays past a skip where it lies past it, or all of it is there
 abbrev pub keeps_past : List Data → ℕ → ℕ → Bool
 keeps_past held m n = not (up_to_16 (n % 65536) m) || is_some (message_in held (n % 65536))
 
-same_stays : (initial : ℕ) (p : Plan) (over : ℕ → Bool) (came : List ℕ) (s low cursor m : ℕ) (q : Queue) (g : Group)
-    (h : Held) → IsPlanned p over → over s ≡ false
-    → length p.places < 2 ^ 31 → IsInWindow p came s low cursor q → IsGroup initial p s g h → IsAlone p s q.ordered h
-    → stays m g ≡ keeps_past q.ordered m h.number
-same_stays initial p over came s low cursor m q g h hp v small w i a =
-    let done = is_all p a.first a.rest in
-    ap (λ z. not (ssn_lte z m) || is_complete g.pieces) i.ssn
-    ∙ ap (λ z. not (up_to_16 (h.number % 65536) m) || z) (group_is initial p s q.ordered g h small i a ∙ sym (
-    ap (λ z. found z) (message_is p over came s low h.number q.ordered a.first a.rest hp v w.held w.near a.all)
-    ∙ there done (run_at p a.first a.rest)))
-  where
-    found : Option Run → Bool
-    found x = is_some x
+module _ (initial : ℕ) (p : Plan) (over : ℕ → Bool) (came : List ℕ) (s low cursor m : ℕ) (r : Reassembly)
+    (q : Queue) (hp : IsPlanned p over) (v : over s ≡ false) (small : length p.places < 2 ^ 31)
+    (w : IsInWindow p came s low cursor q) (st : StandsFor initial p s r q) where
+  groups_of_those : (held : List Data) (keeps : ℕ → Bool) (gs : List Group) (hs : List Held)
+      → AreGroups initial p s gs hs
+      → AllByRecursion (IsAlone p s held) hs
+      → ((g : Group) (h : Held) → IsGroup initial p s g h → IsAlone p s held h → stays m g ≡ keeps h.number)
+      → AreGroups initial p s (filter (stays m) gs) (those keeps hs)
+  groups_of_those held keeps [] [] a l f = tt
+  groups_of_those held keeps [] (h ∷ hs) a l f = absurd a
+  groups_of_those held keeps (g ∷ gs) [] a l f = absurd a
+  groups_of_those held keeps (g ∷ gs) (h ∷ hs) a l f =
+      let same = f g h a.0 l.0 in
+      let more = groups_of_those held keeps gs hs a.1 l.1 f in
+      ⊎_elim (λ (b : keeps h.number ≡ true). rw (same ∙ b, b) (a.0, more))
+      (λ (b : keeps h.number ≡ false). rw (same ∙ b, b) more) (cases_Bool (keeps h.number))
 
-    there : (b : Bool) (r : Run) → is_some (cond b (Some r) None) ≡ b
-    there true r = refl
-    there false r = refl
+  same_stays : (g : Group) (h : Held) → IsGroup initial p s g h → IsAlone p s q.ordered h
+      → stays m g ≡ keeps_past q.ordered m h.number
+  same_stays g h i a =
+      let done = is_all p a.first a.rest in
+      ap (λ z. not (ssn_lte z m) || is_complete g.pieces) i.ssn
+      ∙ ap (λ z. not (up_to_16 (h.number % 65536) m) || z) (group_is small i a ∙ sym (
+      ap (λ z. found z) (message_is came low hp v w.held w.near a.all)
+      ∙ there done (run_at p a.first a.rest)))
+    where
+      found : Option Run → Bool
+      found x = is_some x
+
+      there : (b : Bool) (r : Run) → is_some (cond b (Some r) None) ≡ b
+      there true r = refl
+      there false r = refl
+
+  skips_stand : StandsFor initial p s (skipped r m) (skip q m)
+  skips_stand =
+      let keeps = keeps_past q.ordered m in
+      let alone =
+      all_alone initial p s q.ordered r.ordered st.held st.ascends st.groups (there_from p q.ordered st.held st.same)
+      (full_from p q.ordered st.held st.same) in
+      record {
+        held = those keeps st.held;
+        groups = groups_of_those q.ordered keeps r.ordered st.held st.groups alone
+            (λ g h i a. same_stays g h i a);
+        ascends = rising_those keeps st.held st.ascends;
+        same = λ o.
+            at_filtered p (λ (d : Data). not (up_to_16 d.ssn m) || is_some (message_in q.ordered d.ssn)) o q.ordered
+            (all_weaker _ _ q.ordered (λ d x. x.is) w.held)
+            ∙ ap (λ z. cond (keeps (place_at p o).ssn) z None) (st.same o)
+            ∙ nested (keeps (place_at p o).ssn) (mem o (offsets_in st.held)) (data_at p o)
+            ∙ ap (λ z. cond z (Some (data_at p o)) None)
+            (sym (offsets_of_those initial p s keeps r.ordered st.held o st.groups));
+        next = ap (λ z. next_after_skip z m) st.next;
+        waiting = st.waiting;
+        complete = st.complete;
+      }
 
 pub ordered_skips_stand : OrderedSkipsStand
-ordered_skips_stand initial p over came s low cursor m r q hp v small w st =
-    let keeps = keeps_past q.ordered m in
-    let alone =
-    all_alone initial p s q.ordered r.ordered st.held st.ascends st.groups (there_from p q.ordered st.held st.same)
-    (λ x d f k. in_from p q.ordered st.held st.same x d f) in
-    record {
-      held = those keeps st.held;
-      groups = groups_of_those initial p s m q.ordered keeps r.ordered st.held st.groups alone
-          (λ g h i a. same_stays initial p over came s low cursor m q g h hp v small w i a);
-      ascends = rising_those keeps st.held st.ascends;
-      same = λ o.
-          at_filtered p (λ (d : Data). not (up_to_16 d.ssn m) || is_some (message_in q.ordered d.ssn)) o q.ordered
-          (all_weaker _ _ q.ordered (λ d x. x.is) w.held)
-          ∙ ap (λ z. cond (keeps (place_at p o).ssn) z None) (st.same o)
-          ∙ nested (keeps (place_at p o).ssn) (mem o (offsets_in st.held)) (data_at p o)
-          ∙ ap (λ z. cond z (Some (data_at p o)) None)
-          (sym (offsets_of_those initial p s keeps r.ordered st.held o st.groups));
-      next = ap (λ z. next_after_skip z m) st.next;
-      waiting = st.waiting;
-      complete = st.complete;
-    }
+ordered_skips_stand = skips_stand
 
 pub empty_ones_stand : EmptyOnesStand
 empty_ones_stand initial p s = record {
@@ -152,8 +157,8 @@ the_invariant_gives_the_window w l i s v =
       record {
         held = h.held;
         near = all_weaker _ _ (live (w.receiver.queues s)).ordered (λ d x. near_by p low d x.1)
-            (near_all p w.over w.receiver.taken s low (read_end p 0 (w.reads s)) (live (w.receiver.queues s)).ordered
-            i.planned h.held h.link (l.unread s));
+            (near_all w.receiver.taken low (read_end p 0 (w.reads s))
+            i.planned (live (w.receiver.queues s)).ordered h.held h.link (l.unread s));
         is = h.is;
         above = h.above;
         until = omega arith;

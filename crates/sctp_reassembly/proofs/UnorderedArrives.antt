@@ -21,8 +21,9 @@ use Rattle.sctp_model.specs.Invariants.{IsPlanned}
 use Rattle.sctp_model.proofs.Lists.{all_back, all_filter, all_front, all_join, all_mem, all_weaker, map-join, mem-join}
 use Rattle.sctp_reassembly.specs.Laws.{UnorderedPiecesStand}
 use Rattle.sctp_reassembly.specs.Stands.{AreRuns, CarryDataOf, IsForBytesAlone, IsLoose, StandsFor, letter_received}
-use Rattle.sctp_reassembly.specs.Stands.{runs_of}
-use Rattle.sctp_reassembly.proofs.UnorderedEnters.{AreSmall, IsEntered, IsIncomplete, entered, finished_is, place_is}
+use Rattle.sctp_reassembly.specs.Stands.{runs_of, CarriesData}
+use Rattle.sctp_reassembly.proofs.UnorderedEnters.{AreSmall, IsEntered, IsIncomplete, entered, finished_is, all_past}
+use Rattle.sctp_reassembly.proofs.UnorderedEnters.{not_past, place_between}
 use Rattle.sctp_reassembly.proofs.UnorderedEnters.{runs_join, runs_split}
 use Rattle.sctp_reassembly.proofs.UnorderedFits.{beside, fits_between}
 use Rattle.sctp_reassembly.proofs.UnorderedFound.{AreHeld, is_whole, whole_found}
@@ -197,200 +198,209 @@ not_whole initial p (c ∷ cs) (g ∷ gs) a s u = (one g a.0 s.0, not_whole init
     one [] a s = refl
     one (o ∷ r) a s = sym (complete_is initial p c o r a s) ∙ u.0
 
--- both sides with the piece, where it makes its message whole (or not)
-entered_so : (initial : ℕ) (p : Plan) (over : ℕ → Bool) (s o : ℕ) (r : Reassembly) (q : Queue) (c : ChunkPayloadData)
-    (chunks : List (List ChunkPayloadData)) (index : ℕ) (os : List ℕ)
-    → IsPlanned p over → StandsFor initial p s r q → AreHeld p s (data_at p o ∷ q.unordered) os → AreSmall os
-    → AllByRecursion IsIncomplete chunks → IsEntered initial p c chunks index (runs_of p os)
-    → StandsFor initial p s (with_put r (finished (view_with chunks index c).0 (view_with chunks index c).1 r.complete))
-    (push_unordered q (data_at p o))
-entered_so initial p over s o r q c chunks index os h st held small incomplete t =
-    let d = data_at p o in
-    let u = t.only incomplete in
-    let all_small = subst (AllByRecursion AreSmall) t.is (all_in (λ (x : ℕ). x < 2 ^ 31) p os small) in
-    let small_front = all_front AreSmall t.earlier ((t.first ∷ t.rest) ∷ t.later) all_small in
-    let small_back = all_back AreSmall t.earlier ((t.first ∷ t.rest) ∷ t.later) all_small in
-    let whole = is_whole p (t.first ∷ t.rest) in
-    let view : with_put r (finished (view_with chunks index c).0 (view_with chunks index c).1 r.complete)
-    ≡ with_put r (cond whole (t.front ++ t.back, r.complete ++ message_of t.run ∷ [])
-    (t.front ++ t.run ∷ t.back, r.complete))
-    = ap (λ z. with_put r (finished z.0 z.1 r.complete)) t.put
-    ∙ ap (with_put r) (finished_is t.front t.back t.run r.complete
-    ∙ ap (λ z. cond z (t.front ++ t.back, r.complete ++ message_of t.run ∷ []) (t.front ++ t.run ∷ t.back, r.complete))
-    (complete_is initial p t.run t.first t.rest t.said small_back.0)) in
-    let model : push_unordered q d ≡ settle (with_unordered q d) (cond whole (Some (run_at p t.first t.rest)) None)
-    =
-    ap (settle (with_unordered q d))
-    (whole_found p over s (d ∷ q.unordered) os t.earlier t.later t.first t.rest h held t.is
-    (not_whole initial p t.front t.earlier t.fronts small_front u.0)
-    (not_whole initial p t.back t.later t.backs small_back.1 u.1)) in
-    subst (λ z. StandsFor initial p s z (push_unordered q d)) (sym view)
-    (subst
-    (λ z.
-    StandsFor initial p s
-    (with_put r (cond whole (t.front ++ t.back, r.complete ++ message_of t.run ∷ [])
-    (t.front ++ t.run ∷ t.back, r.complete))) z) (sym model)
-    (decided initial p s o r q c chunks index os st held t u
-    (complete_is initial p t.run t.first t.rest t.said small_back.0) whole refl))
-  where
-    decided : (initial : ℕ) (p : Plan) (s o : ℕ) (r : Reassembly) (q : Queue) (c : ChunkPayloadData)
-        (chunks : List (List ChunkPayloadData)) (index : ℕ) (os : List ℕ)
-        → StandsFor initial p s r q → AreHeld p s (data_at p o ∷ q.unordered) os
-        → (t : IsEntered initial p c chunks index (runs_of p os))
-        → AllByRecursion IsIncomplete t.front × AllByRecursion IsIncomplete t.back
-        → is_complete t.run ≡ is_whole p (t.first ∷ t.rest)
-        → (b : Bool) → is_whole p (t.first ∷ t.rest) ≡ b
-        → StandsFor initial p s (with_put r
-        (cond b (t.front ++ t.back, r.complete ++ message_of t.run ∷ []) (t.front ++ t.run ∷ t.back, r.complete)))
-        (settle (with_unordered q (data_at p o)) (cond b (Some (run_at p t.first t.rest)) None))
-    decided initial p s o r q c chunks index os st held t u full false e = record {
-      held = st.held;
-      groups = st.groups;
-      ascends = st.ascends;
-      same = st.same;
-      next = st.next;
-      waiting = record {
-        offsets = os;
-        runs = subst (AreRuns initial p (t.front ++ t.run ∷ t.back)) (sym t.is)
-            (runs_join initial p t.front (t.run ∷ t.back) t.earlier ((t.first ∷ t.rest) ∷ t.later) t.fronts
-            (t.said, t.backs));
-        ascends = held.ascends;
-        mine = held.mine;
-        same = held.same;
-        exact = held.exact;
-        incomplete = all_join IsIncomplete t.front (t.run ∷ t.back) u.0 (full ∙ e, u.1);
-      };
-      complete = st.complete;
-    }
-    decided initial p s o r q c chunks index os st held t u full true e =
-        let gone = t.first ∷ t.rest in
-        let keeps : ℕ → Bool = λ (x : ℕ). not (is_some (at x (map (data_at p) gone))) in
-        let is = parts_are p os t.earlier t.later gone t.is in
-        let rising = subst AreRising is held.ascends in
-        let left = joined t.earlier ++ joined t.later in
-        record {
-          held = st.held;
-          groups = st.groups;
-          ascends = st.ascends;
-          same = st.same;
-          next = st.next;
-          waiting = record {
-            offsets = joined t.earlier ++ joined t.later;
-            runs =
-                subst (AreRuns initial p (t.front ++ t.back))
-                (sym (left_runs p os t.earlier t.later t.first t.rest held.ascends t.is))
-                (runs_join initial p t.front t.back t.earlier t.later t.fronts t.backs);
-            ascends = rising_without (joined t.earlier) gone (joined t.later) rising;
-            mine =
-                all_without (IsLoose p s) (joined t.earlier) gone (joined t.later)
-                (subst (AllByRecursion (IsLoose p s)) is held.mine);
-            same = λ x.
-                at_kept (λ (y : ℕ). not (is_some (at y (map (data_at p) (t.first ∷ t.rest))))) x
-                (data_at p o ∷ q.unordered)
-                ∙ ap (λ z. cond (not (is_some (at x (map (data_at p) (t.first ∷ t.rest))))) z None) (held.same x)
-                ∙ ap (λ z. cond (not z) (cond (mem x os) (Some (data_at p x)) None) None)
-                (at_pieces p x (t.first ∷ t.rest))
-                ∙ nested (not (mem x (t.first ∷ t.rest))) (mem x os) (data_at p x)
-                ∙ ap (λ z. cond (not (mem x (t.first ∷ t.rest)) && mem x z) (Some (data_at p x)) None) is
-                ∙ ap (λ z. cond z (Some (data_at p x)) None)
-                (mem_without (joined t.earlier) (t.first ∷ t.rest) (joined t.later) x rising);
-            exact =
-                all_filter (λ (d : Data). d ≡ data_at p d.offset) (λ (d : Data).
-                not (is_some (at d.offset (map (data_at p) (t.first ∷ t.rest)))))
-                (data_at p o ∷ q.unordered) held.exact;
-            incomplete = all_join IsIncomplete t.front t.back u.0 u.1;
-          };
-          complete = map-join letter_received r.complete (message_of t.run ∷ [])
-              ∙ ap (λ z. z ++ letter_received (message_of t.run) ∷ []) st.complete
-              ∙ ap (λ z. map letter_read q.complete ++ z ∷ []) (letter_is initial p t.run t.first t.rest t.said)
-              ∙ sym (map-join letter_read q.complete (got_of (run_at p t.first t.rest) ∷ []));
-        }
+module _ {initial : ℕ} {p : Plan} {over : ℕ → Bool} {s : ℕ} (o : ℕ) {r : Reassembly} {q : Queue}
+    {c : ChunkPayloadData} {chunks : List (List ChunkPayloadData)} {index : ℕ} {os : List ℕ}
+    (h : IsPlanned p over) (st : StandsFor initial p s r q) (held : AreHeld p s (data_at p o ∷ q.unordered) os)
+    (t : IsEntered initial p c chunks index (runs_of p os)) where
+  decided : AllByRecursion IsIncomplete t.front × AllByRecursion IsIncomplete t.back
+      → is_complete t.run ≡ is_whole p (t.first ∷ t.rest) → (b : Bool) → is_whole p (t.first ∷ t.rest) ≡ b
+      → StandsFor initial p s
+      (with_put r (cond b (t.front ++ t.back, r.complete ++ message_of t.run ∷ []) (
+        t.front ++ t.run ∷ t.back,
+        r.complete,
+      ))) (settle (with_unordered q (data_at p o)) (cond b (Some (run_at p t.first t.rest)) None))
+  decided u full false e = record {
+    held = st.held;
+    groups = st.groups;
+    ascends = st.ascends;
+    same = st.same;
+    next = st.next;
+    waiting = record {
+      offsets = os;
+      runs = subst (AreRuns initial p (t.front ++ t.run ∷ t.back)) (sym t.is)
+          (runs_join initial p t.front (t.run ∷ t.back) t.earlier ((t.first ∷ t.rest) ∷ t.later) t.fronts
+          (t.said, t.backs));
+      ascends = held.ascends;
+      mine = held.mine;
+      same = held.same;
+      exact = held.exact;
+      incomplete = all_join IsIncomplete t.front (t.run ∷ t.back) u.0 (full ∙ e, u.1);
+    };
+    complete = st.complete;
+  }
+  decided u full true e =
+      let gone = t.first ∷ t.rest in
+      let keeps : ℕ → Bool = λ (x : ℕ). not (is_some (at x (map (data_at p) gone))) in
+      let is = parts_are p os t.earlier t.later gone t.is in
+      let rising = subst AreRising is held.ascends in
+      let left = joined t.earlier ++ joined t.later in
+      record {
+        held = st.held;
+        groups = st.groups;
+        ascends = st.ascends;
+        same = st.same;
+        next = st.next;
+        waiting = record {
+          offsets = joined t.earlier ++ joined t.later;
+          runs =
+              subst (AreRuns initial p (t.front ++ t.back))
+              (sym (left_runs p os t.earlier t.later t.first t.rest held.ascends t.is))
+              (runs_join initial p t.front t.back t.earlier t.later t.fronts t.backs);
+          ascends = rising_without (joined t.earlier) gone (joined t.later) rising;
+          mine =
+              all_without (IsLoose p s) (joined t.earlier) gone (joined t.later)
+              (subst (AllByRecursion (IsLoose p s)) is held.mine);
+          same = λ x.
+              at_kept (λ (y : ℕ). not (is_some (at y (map (data_at p) (t.first ∷ t.rest))))) x
+              (data_at p o ∷ q.unordered)
+              ∙ ap (λ z. cond (not (is_some (at x (map (data_at p) (t.first ∷ t.rest))))) z None) (held.same x)
+              ∙ ap (λ z. cond (not z) (cond (mem x os) (Some (data_at p x)) None) None)
+              (at_pieces p x (t.first ∷ t.rest))
+              ∙ nested (not (mem x (t.first ∷ t.rest))) (mem x os) (data_at p x)
+              ∙ ap (λ z. cond (not (mem x (t.first ∷ t.rest)) && mem x z) (Some (data_at p x)) None) is
+              ∙ ap (λ z. cond z (Some (data_at p x)) None)
+              (mem_without (joined t.earlier) (t.first ∷ t.rest) (joined t.later) x rising);
+          exact =
+              all_filter (λ (d : Data). d ≡ data_at p d.offset) (λ (d : Data).
+              not (is_some (at d.offset (map (data_at p) (t.first ∷ t.rest)))))
+              (data_at p o ∷ q.unordered) held.exact;
+          incomplete = all_join IsIncomplete t.front t.back u.0 u.1;
+        };
+        complete = map-join letter_received r.complete (message_of t.run ∷ [])
+            ∙ ap (λ z. z ++ letter_received (message_of t.run) ∷ []) st.complete
+            ∙ ap (λ z. map letter_read q.complete ++ z ∷ []) (letter_is initial p t.run t.first t.rest t.said)
+            ∙ sym (map-join letter_read q.complete (got_of (run_at p t.first t.rest) ∷ []));
+      }
+
+  -- both sides with the piece, where it makes its message whole (or not)
+  entered_so : AreSmall os → AllByRecursion IsIncomplete chunks
+      → StandsFor initial p s
+      (with_put r (finished (view_with chunks index c).0 (view_with chunks index c).1 r.complete))
+      (push_unordered q (data_at p o))
+  entered_so small incomplete =
+      let d = data_at p o in
+      let u = t.only incomplete in
+      let all_small = subst (AllByRecursion AreSmall) t.is (all_in (λ (x : ℕ). x < 2 ^ 31) p os small) in
+      let small_front = all_front AreSmall t.earlier ((t.first ∷ t.rest) ∷ t.later) all_small in
+      let small_back = all_back AreSmall t.earlier ((t.first ∷ t.rest) ∷ t.later) all_small in
+      let whole = is_whole p (t.first ∷ t.rest) in
+      let view : with_put r (finished (view_with chunks index c).0 (view_with chunks index c).1 r.complete)
+      ≡ with_put r (cond whole (t.front ++ t.back, r.complete ++ message_of t.run ∷ [])
+      (t.front ++ t.run ∷ t.back, r.complete))
+      = ap (λ z. with_put r (finished z.0 z.1 r.complete)) t.put
+      ∙ ap (with_put r) (finished_is t.front t.back t.run r.complete
+      ∙ ap (λ z. cond z (t.front ++ t.back, r.complete ++ message_of t.run ∷ [])
+      (t.front ++ t.run ∷ t.back, r.complete))
+      (complete_is initial p t.run t.first t.rest t.said small_back.0)) in
+      let model : push_unordered q d ≡ settle (with_unordered q d) (cond whole (Some (run_at p t.first t.rest)) None)
+      =
+      ap (settle (with_unordered q d))
+      (whole_found h held t.earlier t.later t.first t.rest t.is
+      (not_whole initial p t.front t.earlier t.fronts small_front u.0)
+      (not_whole initial p t.back t.later t.backs small_back.1 u.1)) in
+      subst (λ z. StandsFor initial p s z (push_unordered q d)) (sym view)
+      (subst
+      (λ z.
+      StandsFor initial p s
+      (with_put r (cond whole (t.front ++ t.back, r.complete ++ message_of t.run ∷ [])
+      (t.front ++ t.run ∷ t.back, r.complete))) z) (sym model)
+      (decided u
+      (complete_is initial p t.run t.first t.rest t.said small_back.0) whole refl))
+
+module _ {initial : ℕ} {p : Plan} {over : ℕ → Bool} {s o : ℕ} (limit : ℕ) {r : Reassembly} {q : Queue}
+    {c : ChunkPayloadData} (h : IsPlanned p over) (small : length p.places < 2 ^ 31)
+    (st : StandsFor initial p s r q) (i : CarriesData initial c (data_at p o)) (loose : IsLoose p s o) where
+  pub loose_piece_stands : at o q.unordered ≡ None
+      → StandsFor initial p s (pushed r c).0 (push q (data_at p o)) × IsForBytesAlone (refusal r c limit)
+  loose_piece_stands new =
+      let d = data_at p o in
+      let w = st.waiting in
+      let known = loose.at.known in
+      let little : o < 2 ^ 31 = omega arith in
+      let out : c.unordered ≡ true = i.ordered ∙ ap not loose.at.kind in
+      let fresh : mem o w.offsets ≡ false =
+      false_from_ne_true _ (λ (m : mem o w.offsets ≡ true).
+      none_some (sym new ∙ w.same o ∙ cond-true (mem o w.offsets) (Some d) None m)) in
+      let k = parted w.offsets o w.ascends fresh in
+      let rising = subst AreRising k.is w.ascends in
+      let mine = subst (AllByRecursion (IsLoose p s)) k.is w.mine in
+      let mine_below = all_front (IsLoose p s) k.below k.above mine in
+      let mine_above = all_back (IsLoose p s) k.below k.above mine in
+      let low_below = smalls small k.below mine_below in
+      let low_above = smalls small k.above mine_above in
+      let small_below = all_in (λ (x : ℕ). x < 2 ^ 31) p k.below low_below in
+      let small_above = all_in (λ (x : ℕ). x < 2 ^ 31) p k.above low_above in
+      let is_less = all_in (λ (x : ℕ). x < o) p k.below k.less in
+      let is_more = all_in (λ (x : ℕ). o < x) p k.above k.more in
+      let two = runs_split initial p r.unordered (runs_of p k.below) (runs_of p k.above)
+      (subst (AreRuns initial p r.unordered) (ap (runs_of p) k.is ∙ runs_apart p o k.below k.above k.less k.more)
+      w.runs) in
+      let xs = two.0 in
+      let ys = two.1 in
+      let index : index_for_tsn c.tsn r.unordered ≡ length xs
+      =
+      ap (index_for_tsn c.tsn) two.2 ∙ place_between c.tsn xs ys
+      (not_past p o i little xs (runs_of p k.below) two.3 is_less)
+      (all_past p o i little ys (runs_of p k.above) two.4 (some_in p k.above) is_more small_above) in
+      let put =
+      entered p o i little xs ys (runs_of p k.below) (runs_of p k.above) two.3 two.4 small_below small_above in
+      let os = k.below ++ o ∷ k.above in
+      let held : AreHeld p s (d ∷ q.unordered) os = record {
+        ascends = rising_between k.below k.above o rising k.less k.more;
+        mine = all_between (IsLoose p s) k.below k.above o mine loose;
+        same =
+            λ x. with_it x (mem x w.offsets) (w.same x) ∙ ap (λ z. cond z (Some (data_at p x)) None)
+            (ap (λ z. eqb o x || mem x z) k.is ∙ sym (mem_between k.below k.above o x));
+        exact = (refl, w.exact);
+      } in
+      let both =
+      entered_so o h st held
+      (subst (IsEntered initial p c (xs ++ ys) (length xs)) (sym (runs_meet p k.below (o ∷ k.above))) put)
+      (smalls small os held.mine)
+      (subst (AllByRecursion IsIncomplete) two.2 w.incomplete) in
+      let view : pushed r c
+      ≡ (
+        with_put r (finished (view_with (xs ++ ys) (length xs) c).0 (view_with (xs ++ ys) (length xs) c).1 r.complete),
+        true,
+      )
+      = cond-true c.unordered (with_put r (unordered_put r.unordered r.complete c), true)
+      (cond (ssn_lt c.stream_sequence_number r.next_ssn) (r, false)
+      (record r { ordered = with_ordered r.ordered c }, true)) out
+      ∙ ap (λ z. (with_put r (finished (view_with r.unordered z c).0 (view_with r.unordered z c).1 r.complete), true))
+      index
+      ∙ ap (λ z. (with_put r (finished (view_with z (length xs) c).0 (view_with z (length xs) c).1 r.complete), true))
+      two.2 in
+      let model : push q d ≡ push_unordered q d =
+      cond-false d.ordered (push_ordered q d) (push_unordered q d) loose.at.kind in
+      let reason : refusal r c limit ≡ refusal_between (run_before (xs ++ ys) (length xs)) c
+      (the_run_at (xs ++ ys) (length xs)) limit
+      =
+      cond-true c.unordered (refusal_of_unordered r.unordered c limit)
+      (cond (ssn_lt c.stream_sequence_number r.next_ssn) None (refusal_of_ordered r.ordered c limit)) out
+      ∙ ap (λ z. refusal_between (run_before r.unordered z) c (the_run_at r.unordered z) limit) index
+      ∙ ap (λ z. refusal_between (run_before z (length xs)) c (the_run_at z (length xs)) limit) two.2 in (
+        subst (λ z. StandsFor initial p s (pushed r c).0 z) (sym model)
+            (subst (λ z. StandsFor initial p s z.0 (push_unordered q d)) (sym view) both),
+        subst IsForBytesAlone (sym reason) (fits_between h i little loose limit xs ys (runs_of p k.below)
+            (runs_of p k.above) two.3 two.4
+            (beside p s (λ (x : ℕ). x < o) (runs_of p k.below) (chains p k.below)
+            (all_in (IsLoose p s) p k.below mine_below) small_below is_less)
+            (beside p s (λ (x : ℕ). o < x) (runs_of p k.above) (chains p k.above)
+            (all_in (IsLoose p s) p k.above mine_above) small_above is_more)),
+      )
+    where
+      none_some : None ≡ Some (data_at p o) → ⊥
+      none_some e = cc
+
+      smalls : length p.places < 2 ^ 31 → (os : List ℕ) → AllByRecursion (IsLoose p s) os → AreSmall os
+      smalls small os a = all_weaker _ _ os (λ x m. let l = m.at.known in omega arith) a
+
+      with_it : (x : ℕ) (b : Bool) → at x q.unordered ≡ cond b (Some (data_at p x)) None
+          → at x (data_at p o ∷ q.unordered) ≡ cond (eqb o x || b) (Some (data_at p x)) None
+      with_it x b e = ⊎_elim
+          (λ (t : eqb o x ≡ true). rw t (ap (λ z. Some (data_at p z)) (eqb-true o x t)))
+          (λ (t : eqb o x ≡ false). rw t e)
+          (cases_Bool (eqb o x))
 
 pub unordered_pieces_stand : UnorderedPiecesStand
-unordered_pieces_stand initial p over s o limit r q c h small st i loose new =
-    let d = data_at p o in
-    let w = st.waiting in
-    let known = loose.at.known in
-    let little : o < 2 ^ 31 = omega arith in
-    let out : c.unordered ≡ true = i.ordered ∙ ap not loose.at.kind in
-    let fresh : mem o w.offsets ≡ false =
-    false_from_ne_true _ (λ (m : mem o w.offsets ≡ true).
-    none_some (sym new ∙ w.same o ∙ cond-true (mem o w.offsets) (Some d) None m)) in
-    let k = parted w.offsets o w.ascends fresh in
-    let rising = subst AreRising k.is w.ascends in
-    let mine = subst (AllByRecursion (IsLoose p s)) k.is w.mine in
-    let mine_below = all_front (IsLoose p s) k.below k.above mine in
-    let mine_above = all_back (IsLoose p s) k.below k.above mine in
-    let low_below = smalls small k.below mine_below in
-    let low_above = smalls small k.above mine_above in
-    let small_below = all_in (λ (x : ℕ). x < 2 ^ 31) p k.below low_below in
-    let small_above = all_in (λ (x : ℕ). x < 2 ^ 31) p k.above low_above in
-    let is_less = all_in (λ (x : ℕ). x < o) p k.below k.less in
-    let is_more = all_in (λ (x : ℕ). o < x) p k.above k.more in
-    let two = runs_split initial p r.unordered (runs_of p k.below) (runs_of p k.above)
-    (subst (AreRuns initial p r.unordered) (ap (runs_of p) k.is ∙ runs_apart p o k.below k.above k.less k.more)
-    w.runs) in
-    let xs = two.0 in
-    let ys = two.1 in
-    let index : index_for_tsn c.tsn r.unordered ≡ length xs
-    =
-    ap (index_for_tsn c.tsn) two.2 ∙ place_is initial p c o xs ys (runs_of p k.below) (runs_of p k.above) i little two.3
-    two.4 is_less (some_in p k.above) is_more small_above in
-    let put =
-    entered initial p c o xs ys (runs_of p k.below) (runs_of p k.above) i little two.3 two.4 small_below small_above in
-    let os = k.below ++ o ∷ k.above in
-    let held : AreHeld p s (d ∷ q.unordered) os = record {
-      ascends = rising_between k.below k.above o rising k.less k.more;
-      mine = all_between (IsLoose p s) k.below k.above o mine loose;
-      same =
-          λ x. with_it x (mem x w.offsets) (w.same x) ∙ ap (λ z. cond z (Some (data_at p x)) None)
-          (ap (λ z. eqb o x || mem x z) k.is ∙ sym (mem_between k.below k.above o x));
-      exact = (refl, w.exact);
-    } in
-    let both =
-    entered_so initial p over s o r q c (xs ++ ys) (length xs) os h st held (smalls small os held.mine)
-    (subst (AllByRecursion IsIncomplete) two.2 w.incomplete)
-    (subst (IsEntered initial p c (xs ++ ys) (length xs)) (sym (runs_meet p k.below (o ∷ k.above))) put) in
-    let view : pushed r c
-    ≡ (
-      with_put r (finished (view_with (xs ++ ys) (length xs) c).0 (view_with (xs ++ ys) (length xs) c).1 r.complete),
-      true,
-    )
-    = cond-true c.unordered (with_put r (unordered_put r.unordered r.complete c), true)
-    (cond (ssn_lt c.stream_sequence_number r.next_ssn) (r, false)
-    (record r { ordered = with_ordered r.ordered c }, true)) out
-    ∙ ap (λ z. (with_put r (finished (view_with r.unordered z c).0 (view_with r.unordered z c).1 r.complete), true))
-    index
-    ∙ ap (λ z. (with_put r (finished (view_with z (length xs) c).0 (view_with z (length xs) c).1 r.complete), true))
-    two.2 in
-    let model : push q d ≡ push_unordered q d =
-    cond-false d.ordered (push_ordered q d) (push_unordered q d) loose.at.kind in
-    let reason : refusal r c limit ≡ refusal_between (run_before (xs ++ ys) (length xs)) c
-    (the_run_at (xs ++ ys) (length xs)) limit
-    =
-    cond-true c.unordered (refusal_of_unordered r.unordered c limit)
-    (cond (ssn_lt c.stream_sequence_number r.next_ssn) None (refusal_of_ordered r.ordered c limit)) out
-    ∙ ap (λ z. refusal_between (run_before r.unordered z) c (the_run_at r.unordered z) limit) index
-    ∙ ap (λ z. refusal_between (run_before z (length xs)) c (the_run_at z (length xs)) limit) two.2 in (
-      subst (λ z. StandsFor initial p s (pushed r c).0 z) (sym model)
-          (subst (λ z. StandsFor initial p s z.0 (push_unordered q d)) (sym view) both),
-      subst IsForBytesAlone (sym reason) (fits_between initial p over s c o limit xs ys (runs_of p k.below)
-          (runs_of p k.above) h i little loose two.3 two.4
-          (beside p s (λ (x : ℕ). x < o) (runs_of p k.below) (chains p k.below)
-          (all_in (IsLoose p s) p k.below mine_below) small_below is_less)
-          (beside p s (λ (x : ℕ). o < x) (runs_of p k.above) (chains p k.above)
-          (all_in (IsLoose p s) p k.above mine_above) small_above is_more)),
-    )
-  where
-    none_some : None ≡ Some (data_at p o) → ⊥
-    none_some e = cc
-
-    smalls : length p.places < 2 ^ 31 → (os : List ℕ) → AllByRecursion (IsLoose p s) os → AreSmall os
-    smalls small os a = all_weaker _ _ os (λ x m. let l = m.at.known in omega arith) a
-
-    with_it : (x : ℕ) (b : Bool) → at x q.unordered ≡ cond b (Some (data_at p x)) None
-        → at x (data_at p o ∷ q.unordered) ≡ cond (eqb o x || b) (Some (data_at p x)) None
-    with_it x b e = ⊎_elim
-        (λ (t : eqb o x ≡ true). rw t (ap (λ z. Some (data_at p z)) (eqb-true o x t)))
-        (λ (t : eqb o x ≡ false). rw t e)
-        (cases_Bool (eqb o x))
+unordered_pieces_stand initial p over s o limit r q c = loose_piece_stands limit

@@ -6,15 +6,16 @@ use Rattle.std.proofs.lemmas.Bool.{cases_Bool, cases_lt, eqb-true, eq-eqb, ne_eq
 use Rattle.std.proofs.lemmas.Bool.{le-ltb}
 use Rattle.sctp_wire_types.specs.Serial.{tsn_lt, tsn_lte}
 use Rattle.sctp_wire_types.specs.declared.chunk.ChunkPayloadData.{ChunkPayloadData}
-use Rattle.sctp_receive_queues.specs.Reassembly.{above, trimmed}
+use Rattle.sctp_receive_queues.specs.Reassembly.{above, trimmed, Reassembly, unordered_skipped}
 use Rattle.sctp_model.specs.Messages.{Plan, place_at}
 use Rattle.sctp_model.specs.Packets.{Data, mem, data_at}
 use Rattle.sctp_model.specs.Serial.{tsn}
 use Rattle.sctp_model.specs.Safe.{AreRising}
 use Rattle.sctp_model.specs.Invariants.{IsPlanned}
+use Rattle.sctp_model.specs.Reassembly.{drop_unordered, Queue}
 use Rattle.sctp_model.proofs.Lists.{all_both, all_filter, all_map, all_weaker}
 use Rattle.sctp_reassembly.specs.Laws.{UnorderedDropsStand}
-use Rattle.sctp_reassembly.specs.Stands.{AreRuns, CarryDataOf, IsLoose, leads, led, runs_of}
+use Rattle.sctp_reassembly.specs.Stands.{AreRuns, CarryDataOf, IsLoose, leads, led, runs_of, StandsFor}
 use Rattle.sctp_reassembly.proofs.UnorderedEnters.{AreSmall, IsIncomplete}
 use Rattle.sctp_reassembly.proofs.UnorderedFound.{is_whole}
 use Rattle.sctp_reassembly.proofs.MessageRuns.{is_rest}
@@ -140,26 +141,27 @@ chain_past p o x [] k b = (b, tt)
 chain_past p o x (y ∷ ys) k b =
     (b, chain_past p o y ys k.2 (let l = leb-true (suc o) x b in let e = k.0 in le-leb (suc o) y (omega arith)))
 
-part_of : (p : Plan) (over : ℕ → Bool) (s o : ℕ) (r : List ℕ) → IsPlanned p over → IsChain p r
-    → AllByRecursion (IsLoose p s) r → is_whole p r ≡ false
-    → is_whole p (left_in o r) ≡ false
-part_of p over s o [] h k a w = refl
-part_of p over s o (x ∷ []) h k a w =
-    ⊎_elim (λ (b : past o x ≡ true). rw b w) (λ (b : past o x ≡ false). rw b refl) (cases_Bool (past o x))
-part_of p over s o (x ∷ y ∷ ys) h k a w =
-    ⊎_elim
-    (λ (b : past o x ≡ true). ap (is_whole p) (filter_all (past o) (x ∷ y ∷ ys) (chain_past p o x (y ∷ ys) k b)) ∙ w)
-    (λ (b : past o x ≡ false).
-    let f = h.after x (subst (λ z. z < length p.places) k.0 a.1.0.at.known) k.1 a.0.sent in
-    let next = f.piece in
-    let piece : (place_at p y).piece ≡ suc (place_at p x).piece = ap (λ z. (place_at p z).piece) k.0 ∙ next in
-    let out : is_whole p (y ∷ ys) ≡ false =
-    ap (λ z. z && is_rest p (y ∷ ys)) (ne_eqb (place_at p y).piece 0 (λ (e : (place_at p y).piece ≡ 0). omega arith)) in
-    ap (is_whole p) (left_out b) ∙ part_of p over s o (y ∷ ys) h k.2 a.1 out)
-    (cases_Bool (past o x))
-  where
-    left_out : past o x ≡ false → left_in o (x ∷ y ∷ ys) ≡ left_in o (y ∷ ys)
-    left_out b = rw b refl
+module _ {p : Plan} {over : ℕ → Bool} (s o : ℕ) (h : IsPlanned p over) where
+  part_of : (r : List ℕ) → IsChain p r → AllByRecursion (IsLoose p s) r → is_whole p r ≡ false
+      → is_whole p (left_in o r) ≡ false
+  part_of [] k a w = refl
+  part_of (x ∷ []) k a w =
+      ⊎_elim (λ (b : past o x ≡ true). rw b w) (λ (b : past o x ≡ false). rw b refl) (cases_Bool (past o x))
+  part_of (x ∷ y ∷ ys) k a w =
+      ⊎_elim
+      (λ (b : past o x ≡ true). ap (is_whole p) (filter_all (past o) (x ∷ y ∷ ys) (chain_past p o x (y ∷ ys) k b)) ∙ w)
+      (λ (b : past o x ≡ false).
+      let f = h.after x (subst (λ z. z < length p.places) k.0 a.1.0.at.known) k.1 a.0.sent in
+      let next = f.piece in
+      let piece : (place_at p y).piece ≡ suc (place_at p x).piece = ap (λ z. (place_at p z).piece) k.0 ∙ next in
+      let out : is_whole p (y ∷ ys) ≡ false =
+      ap (λ z. z && is_rest p (y ∷ ys))
+      (ne_eqb (place_at p y).piece 0 (λ (e : (place_at p y).piece ≡ 0). omega arith)) in
+      ap (is_whole p) (left_out b) ∙ part_of (y ∷ ys) k.2 a.1 out)
+      (cases_Bool (past o x))
+    where
+      left_out : past o x ≡ false → left_in o (x ∷ y ∷ ys) ≡ left_in o (y ∷ ys)
+      left_out b = rw b refl
 
 incomplete_from : (initial : ℕ) (p : Plan) (cs : List (List ChunkPayloadData)) (gs : List (List ℕ))
     → AreRuns initial p cs gs → AllByRecursion AreSmall gs
@@ -199,45 +201,52 @@ mem_left_in f x (y ∷ ys) =
     (cases_Bool (f y)))
     (cases_Bool (eqb y x))
 
+module _ (initial : ℕ) (p : Plan) (over : ℕ → Bool) (s o : ℕ) (r : Reassembly) (q : Queue)
+    (h : IsPlanned p over) (small : length p.places < 2 ^ 31) (l : o < 2 ^ 31) where
+  drops_stand : StandsFor initial p s r q
+      → StandsFor initial p s (unordered_skipped r (tsn initial o)) (drop_unordered (suc o) q)
+  drops_stand st =
+      let w = st.waiting in
+      let little = all_weaker _ _ w.offsets
+      (λ x m. let k = m.at.known in let y : x < 2 ^ 31 = omega arith in y) w.mine in
+      let all_little = all_in (λ (x : ℕ). x < 2 ^ 31) p w.offsets little in
+      let offsets = left_in o w.offsets in
+      let is = runs_past p o w.offsets w.ascends in
+      let runs : AreRuns initial p (trimmed (tsn initial o) r.unordered) (runs_of p (left_in o w.offsets))
+      =
+      subst (AreRuns initial p (trimmed (tsn initial o) r.unordered)) (sym is)
+      (runs_kept initial p o r.unordered (runs_of p w.offsets) l w.runs all_little) in
+      let parts : AllByRecursion (λ (g : List ℕ). is_whole p (left_in o g) ≡ false) (runs_of p w.offsets)
+      = all_weaker _ _ (runs_of p w.offsets) (λ g x. part_of s o h g x.0.0 x.0.1 x.1)
+      (all_both _ _ (runs_of p w.offsets)
+      (all_both _ _ (runs_of p w.offsets) (chains p w.offsets) (all_in (IsLoose p s) p w.offsets w.mine))
+      (not_whole initial p r.unordered (runs_of p w.offsets) w.runs all_little w.incomplete)) in
+      record {
+        held = st.held;
+        groups = st.groups;
+        ascends = st.ascends;
+        same = st.same;
+        next = st.next;
+        waiting = record {
+          offsets = left_in o w.offsets;
+          runs = runs;
+          ascends = rising_left (past o) w.offsets w.ascends;
+          mine = all_filter (IsLoose p s) (past o) w.offsets w.mine;
+          same = λ x.
+              at_kept (past o) x q.unordered ∙ ap (λ z. cond (past o x) z None) (w.same x)
+              ∙ nested (past o x) (mem x w.offsets) (data_at p x)
+              ∙ ap (λ z. cond z (Some (data_at p x)) None) (sym (mem_left_in (past o) x w.offsets));
+          exact = all_filter (λ (d : Data). d ≡ data_at p d.offset) (λ (d : Data). past o d.offset) q.unordered w.exact;
+          incomplete =
+              incomplete_from initial p (trimmed (tsn initial o) r.unordered) (runs_of p (left_in o w.offsets)) runs
+              (all_in (λ (x : ℕ). x < 2 ^ 31) p (left_in o w.offsets)
+              (all_filter (λ (x : ℕ). x < 2 ^ 31) (past o) w.offsets little))
+              (subst (AllByRecursion (λ (g : List ℕ). is_whole p g ≡ false)) (sym is)
+              (all_filter (λ (g : List ℕ). is_whole p g ≡ false) is_some_run (map (left_in o) (runs_of p w.offsets))
+              (all_map (λ (g : List ℕ). is_whole p g ≡ false) (left_in o) (runs_of p w.offsets) parts)));
+        };
+        complete = st.complete;
+      }
+
 pub unordered_drops_stand : UnorderedDropsStand
-unordered_drops_stand initial p over s o r q h small l st =
-    let w = st.waiting in
-    let little = all_weaker _ _ w.offsets (λ x m. let k = m.at.known in let y : x < 2 ^ 31 = omega arith in y) w.mine in
-    let all_little = all_in (λ (x : ℕ). x < 2 ^ 31) p w.offsets little in
-    let offsets = left_in o w.offsets in
-    let is = runs_past p o w.offsets w.ascends in
-    let runs : AreRuns initial p (trimmed (tsn initial o) r.unordered) (runs_of p (left_in o w.offsets))
-    =
-    subst (AreRuns initial p (trimmed (tsn initial o) r.unordered)) (sym is)
-    (runs_kept initial p o r.unordered (runs_of p w.offsets) l w.runs all_little) in
-    let parts : AllByRecursion (λ (g : List ℕ). is_whole p (left_in o g) ≡ false) (runs_of p w.offsets)
-    = all_weaker _ _ (runs_of p w.offsets) (λ g x. part_of p over s o g h x.0.0 x.0.1 x.1)
-    (all_both _ _ (runs_of p w.offsets)
-    (all_both _ _ (runs_of p w.offsets) (chains p w.offsets) (all_in (IsLoose p s) p w.offsets w.mine))
-    (not_whole initial p r.unordered (runs_of p w.offsets) w.runs all_little w.incomplete)) in
-    record {
-      held = st.held;
-      groups = st.groups;
-      ascends = st.ascends;
-      same = st.same;
-      next = st.next;
-      waiting = record {
-        offsets = left_in o w.offsets;
-        runs = runs;
-        ascends = rising_left (past o) w.offsets w.ascends;
-        mine = all_filter (IsLoose p s) (past o) w.offsets w.mine;
-        same = λ x.
-            at_kept (past o) x q.unordered ∙ ap (λ z. cond (past o x) z None) (w.same x)
-            ∙ nested (past o x) (mem x w.offsets) (data_at p x)
-            ∙ ap (λ z. cond z (Some (data_at p x)) None) (sym (mem_left_in (past o) x w.offsets));
-        exact = all_filter (λ (d : Data). d ≡ data_at p d.offset) (λ (d : Data). past o d.offset) q.unordered w.exact;
-        incomplete =
-            incomplete_from initial p (trimmed (tsn initial o) r.unordered) (runs_of p (left_in o w.offsets)) runs
-            (all_in (λ (x : ℕ). x < 2 ^ 31) p (left_in o w.offsets)
-            (all_filter (λ (x : ℕ). x < 2 ^ 31) (past o) w.offsets little))
-            (subst (AllByRecursion (λ (g : List ℕ). is_whole p g ≡ false)) (sym is)
-            (all_filter (λ (g : List ℕ). is_whole p g ≡ false) is_some_run (map (left_in o) (runs_of p w.offsets))
-            (all_map (λ (g : List ℕ). is_whole p g ≡ false) (left_in o) (runs_of p w.offsets) parts)));
-      };
-      complete = st.complete;
-    }
+unordered_drops_stand = drops_stand

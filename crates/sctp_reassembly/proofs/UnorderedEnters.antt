@@ -73,45 +73,6 @@ none_in_front ys = refl
 abbrev pub AreSmall : List ℕ → Type 0
 AreSmall os = AllByRecursion (λ (x : ℕ). x < 2 ^ 31) os
 
--- the piece goes on with the run in front where that leads to it
-pub joins_front : (initial : ℕ) (p : Plan) (c : ChunkPayloadData) (o : ℕ) (os : List ℕ) (cs : List ChunkPayloadData)
-    (z : List ℕ) → CarriesData initial c (data_at p o) → o < 2 ^ 31
-    → CarryDataOf initial p cs z → AreSmall z → joins_before cs c ≡ last_leads p z (o ∷ os)
-joins_front initial p c o os [] [] i l a s = refl
-joins_front initial p c o os [] (x ∷ xs) i l a s = absurd a
-joins_front initial p c o os (d ∷ ds) [] i l a s = absurd a
-joins_front initial p c o os (d ∷ []) (x ∷ []) i l a s =
-    let first : eqb c.tsn (tsn_after d.tsn) ≡ eqb o (suc x)
-    =
-    ap (λ z. eqb z (tsn_after d.tsn)) i.tsn ∙ ap (λ z. eqb (tsn initial o) (tsn_after z)) a.0.tsn
-    ∙ tsn_next initial x o s.0 l in
-    ap (λ z. z && not d.ending_fragment) first ∙ ap (λ z. eqb o (suc x) && not z) a.0.last
-joins_front initial p c o os (d ∷ []) (x ∷ y ∷ ys) i l a s = absurd a.1
-joins_front initial p c o os (d ∷ e ∷ es) (x ∷ []) i l a s = absurd a.1
-joins_front initial p c o os (d ∷ e ∷ es) (x ∷ y ∷ ys) i l a s =
-    ap (λ z. joined_by z) (last_later d e es) ∙ joins_front initial p c o os (e ∷ es) (y ∷ ys) i l a.1 s.1
-  where
-    joined_by : Option ChunkPayloadData → Bool
-    joined_by z = is_before z && not (is_last_piece z)
-      where
-        is_before : Option ChunkPayloadData → Bool
-        is_before None = false
-        is_before (Some q) = eqb c.tsn (tsn_after q.tsn)
-
--- and the run behind with it, where it leads to that
-joins_back : (initial : ℕ) (p : Plan) (c : ChunkPayloadData) (o : ℕ) (cs : List ChunkPayloadData) (y : List ℕ)
-    → CarriesData initial c (data_at p o) → o < 2 ^ 31
-    → CarryDataOf initial p cs y → AreSmall y → joins_after cs c ≡ leads p o y
-joins_back initial p c o [] [] i l a s = refl
-joins_back initial p c o [] (x ∷ xs) i l a s = absurd a
-joins_back initial p c o (d ∷ ds) [] i l a s = absurd a
-joins_back initial p c o (d ∷ ds) (x ∷ xs) i l a s =
-    let first : eqb d.tsn (tsn_after c.tsn) ≡ eqb x (suc o)
-    =
-    ap (λ z. eqb z (tsn_after c.tsn)) a.0.tsn ∙ ap (λ z. eqb (tsn initial x) (tsn_after z)) i.tsn
-    ∙ tsn_next initial o x l s.0 in
-    ap (λ z. z && not c.ending_fragment) first ∙ ap (λ z. eqb x (suc o) && not z) i.last
-
 -- Runs of chunks beside runs of offsets.
 
 pub runs_split : (initial : ℕ) (p : Plan) (cs : List (List ChunkPayloadData)) (gs hs : List (List ℕ))
@@ -186,7 +147,7 @@ last_cases initial p (c ∷ cs) (g ∷ gs) a =
 abbrev pub AreNotPast : ℕ → List (List ChunkPayloadData) → Type 0
 AreNotPast t cs = AllByRecursion (λ (r : List ChunkPayloadData). is_past r t ≡ false) cs
 
-place_between : (t : ℕ) (xs ys : List (List ChunkPayloadData)) → AreNotPast t xs
+pub place_between : (t : ℕ) (xs ys : List (List ChunkPayloadData)) → AreNotPast t xs
     → AllByRecursion (λ (r : List ChunkPayloadData). is_past r t ≡ true) ys
     → index_for_tsn t (xs ++ ys) ≡ length xs
 place_between t [] [] a b = refl
@@ -197,53 +158,6 @@ place_between t (x ∷ xs) ys a b =
     (position_later (λ (r : List ChunkPayloadData). is_past r t) x (xs ++ ys) a.0)
     ∙ unwrap_up (position (λ (r : List ChunkPayloadData). is_past r t) (xs ++ ys)) (length (xs ++ ys))
     ∙ ap suc (place_between t xs ys a.1 b)
-
-not_past : (initial : ℕ) (p : Plan) (c : ChunkPayloadData) (o : ℕ) (cs : List (List ChunkPayloadData))
-    (gs : List (List ℕ)) → CarriesData initial c (data_at p o) → o < 2 ^ 31
-    → AreRuns initial p cs gs → AllByRecursion (AllByRecursion (λ (x : ℕ). x < o)) gs → AreNotPast c.tsn cs
-not_past initial p c o [] [] i l a b = tt
-not_past initial p c o [] (g ∷ gs) i l a b = absurd a
-not_past initial p c o (r ∷ rs) [] i l a b = absurd a
-not_past initial p c o (r ∷ rs) (g ∷ gs) i l a b = (one r g a.0 b.0, not_past initial p c o rs gs i l a.1 b.1)
-  where
-    one : (r : List ChunkPayloadData) (g : List ℕ) → CarryDataOf initial p r g → AllByRecursion (λ (x : ℕ). x < o) g
-        → is_past r c.tsn ≡ false
-    one [] g a b = refl
-    one (d ∷ ds) [] a b = absurd a
-    one (d ∷ ds) (x ∷ xs) a b =
-        let less = b.0 in
-        ap (λ z. tsn_lt z d.tsn) i.tsn ∙ ap (tsn_lt (tsn initial o)) a.0.tsn ∙ tsn_before initial o x l (omega arith)
-        ∙ le-ltb o x (omega arith)
-
-all_past : (initial : ℕ) (p : Plan) (c : ChunkPayloadData) (o : ℕ) (cs : List (List ChunkPayloadData))
-    (gs : List (List ℕ)) → CarriesData initial c (data_at p o) → o < 2 ^ 31
-    → AreRuns initial p cs gs → AllByRecursion (λ (g : List ℕ). 0 < length g) gs
-    → AllByRecursion (AllByRecursion (λ (x : ℕ). o < x)) gs → AllByRecursion AreSmall gs
-    → AllByRecursion (λ (r : List ChunkPayloadData). is_past r c.tsn ≡ true) cs
-all_past initial p c o [] [] i l a n b s = tt
-all_past initial p c o [] (g ∷ gs) i l a n b s = absurd a
-all_past initial p c o (r ∷ rs) [] i l a n b s = absurd a
-all_past initial p c o (r ∷ rs) (g ∷ gs) i l a n b s =
-    (one r g a.0 n.0 b.0 s.0, all_past initial p c o rs gs i l a.1 n.1 b.1 s.1)
-  where
-    one : (r : List ChunkPayloadData) (g : List ℕ) → CarryDataOf initial p r g → 0 < length g
-        → AllByRecursion (λ (x : ℕ). o < x) g → AreSmall g → is_past r c.tsn ≡ true
-    one r [] a n b s = absurd (omega arith)
-    one [] (x ∷ xs) a n b s = absurd a
-    one (d ∷ ds) (x ∷ xs) a n b s =
-        ap (λ z. tsn_lt z d.tsn) i.tsn ∙ ap (tsn_lt (tsn initial o)) a.0.tsn ∙ tsn_before initial o x l s.0
-        ∙ lt-ltb o x b.0
-
-pub place_is : (initial : ℕ) (p : Plan) (c : ChunkPayloadData) (o : ℕ) (xs ys : List (List ChunkPayloadData))
-    (gs hs : List (List ℕ)) → CarriesData initial c (data_at p o) → o < 2 ^ 31
-    → AreRuns initial p xs gs → AreRuns initial p ys hs → AllByRecursion (AllByRecursion (λ (x : ℕ). x < o)) gs
-    → AllByRecursion (λ (g : List ℕ). 0 < length g) hs → AllByRecursion (AllByRecursion (λ (x : ℕ). o < x)) hs
-    → AllByRecursion AreSmall hs
-    → index_for_tsn c.tsn (xs ++ ys) ≡ length xs
-place_is initial p c o xs ys gs hs i l a b u n v s =
-    place_between c.tsn xs ys (not_past initial p c o xs gs i l a u) (all_past initial p c o ys hs i l b n v s)
-
--- What is put there.
 
 abbrev pub IsIncomplete : List ChunkPayloadData → Type 0
 IsIncomplete r = is_complete r ≡ false
@@ -281,63 +195,6 @@ set_two front ys z y run =
     ∙ ap (remove ((front ++ run ∷ []) ++ y ∷ ys)) (length_last front z ∙ sym (length_last front run))
     ∙ remove_seam (front ++ run ∷ []) ys y ∙ append_assoc front (run ∷ []) ys
 
-led_so : (initial : ℕ) (p : Plan) (c : ChunkPayloadData) (o : ℕ) (ys : List (List ChunkPayloadData))
-    (hs : List (List ℕ)) → CarriesData initial c (data_at p o) → o < 2 ^ 31
-    → AreRuns initial p ys hs → AllByRecursion AreSmall hs → IsLed initial p c o ys hs
-led_so initial p c o [] [] i l a s = record {
-  more = [];
-  back = [];
-  rest = [];
-  later = [];
-  part_is = refl;
-  said = tt;
-  backs = tt;
-  is = refl;
-  alone = λ front run. insert_seam front [] run;
-  joined = λ front z run. set_last front [] z run;
-  only = λ u. tt;
-}
-led_so initial p c o [] (h ∷ hs) i l a s = absurd a
-led_so initial p c o (y ∷ ys) [] i l a s = absurd a
-led_so initial p c o (y ∷ ys) (h ∷ hs) i l a s =
-    let test = joins_back initial p c o y h i l a.0 s.0 in
-    ⊎_elim
-    (λ (b : leads p o h ≡ true). record {
-      more = y;
-      back = ys;
-      rest = h;
-      later = hs;
-      part_is = ap (λ k. part k y) (test ∙ b);
-      said = a.0;
-      backs = a.1;
-      is = ap (λ k. cond k ((o ∷ h) ∷ hs) ((o ∷ []) ∷ h ∷ hs)) b;
-      alone =
-          λ front run. ap (λ k. put_between false k (front ++ y ∷ ys) (length front) run) (test ∙ b)
-          ∙ set_seam front ys y run;
-      joined =
-          λ front z run. ap (λ k. put_between true k ((front ++ z ∷ []) ++ y ∷ ys) (length (front ++ z ∷ [])) run)
-          (test ∙ b) ∙ set_two front ys z y run;
-      only = λ u. u.1;
-    })
-    (λ (b : leads p o h ≡ false). record {
-      more = [];
-      back = y ∷ ys;
-      rest = [];
-      later = h ∷ hs;
-      part_is = ap (λ k. part k y) (test ∙ b);
-      said = tt;
-      backs = a;
-      is = ap (λ k. cond k ((o ∷ h) ∷ hs) ((o ∷ []) ∷ h ∷ hs)) b;
-      alone =
-          λ front run. ap (λ k. put_between false k (front ++ y ∷ ys) (length front) run) (test ∙ b)
-          ∙ insert_seam front (y ∷ ys) run;
-      joined =
-          λ front z run. ap (λ k. put_between true k ((front ++ z ∷ []) ++ y ∷ ys) (length (front ++ z ∷ [])) run)
-          (test ∙ b) ∙ set_last front (y ∷ ys) z run;
-      only = λ u. u;
-    })
-    (cases_Bool (leads p o h))
-
 -- the runs with the piece
 pub record IsEntered (initial : ℕ) (p : Plan) (c : ChunkPayloadData) (chunks : List (List ChunkPayloadData)) (index : ℕ)
     (all : List (List ℕ)) : Type 0 where
@@ -366,115 +223,248 @@ put_after : (before after : List ChunkPayloadData) (chunks : List (List ChunkPay
     )
 put_after before after chunks index c b e f g = rw (e, f, g) refl
 
-pub entered : (initial : ℕ) (p : Plan) (c : ChunkPayloadData) (o : ℕ) (xs ys : List (List ChunkPayloadData))
-    (gs hs : List (List ℕ)) → CarriesData initial c (data_at p o) → o < 2 ^ 31
-    → AreRuns initial p xs gs → AreRuns initial p ys hs → AllByRecursion AreSmall gs → AllByRecursion AreSmall hs
-    → IsEntered initial p c (xs ++ ys) (length xs) (meet p gs (led p o hs))
-entered initial p c o xs ys gs hs i l a b s t =
-    ⊎_elim
-    (λ (n : (xs ≡ []) × (gs ≡ [])).
-    subst (λ z. IsEntered initial p c (z ++ ys) (length z) (meet p gs (led p o hs))) (sym n.0)
-    (subst (λ z. IsEntered initial p c ys 0 (meet p z (led p o hs))) (sym n.1) at_front))
-    (λ (n : HasLast initial p xs gs).
-    subst (λ z. IsEntered initial p c (z ++ ys) (length z) (meet p gs (led p o hs))) (sym n.are_chunks)
-    (subst (λ z. IsEntered initial p c ((n.chunks ++ n.run ∷ []) ++ ys) (length (n.chunks ++ n.run ∷ []))
-    (meet p z (led p o hs))) (sym n.are_offsets)
-    (behind n.chunks n.run n.offsets n.last n.before n.said
-    (all_back AreSmall n.offsets (n.last ∷ []) (subst (AllByRecursion AreSmall) n.are_offsets s)).0)))
-    (last_cases initial p xs gs a)
-  where
-    w : IsLed initial p c o ys hs
-    w = led_so initial p c o ys hs i l b t
+module _ {initial : ℕ} {c : ChunkPayloadData} (p : Plan) (o : ℕ) (i : CarriesData initial c (data_at p o))
+    (l : o < 2 ^ 31) where
+  -- the piece goes on with the run in front where that leads to it
+  pub joins_front : (os : List ℕ) (cs : List ChunkPayloadData) (z : List ℕ) → CarryDataOf initial p cs z → AreSmall z
+      → joins_before cs c ≡ last_leads p z (o ∷ os)
+  joins_front os [] [] a s = refl
+  joins_front os [] (x ∷ xs) a s = absurd a
+  joins_front os (d ∷ ds) [] a s = absurd a
+  joins_front os (d ∷ []) (x ∷ []) a s =
+      let first : eqb c.tsn (tsn_after d.tsn) ≡ eqb o (suc x)
+      =
+      ap (λ z. eqb z (tsn_after d.tsn)) i.tsn ∙ ap (λ z. eqb (tsn initial o) (tsn_after z)) a.0.tsn
+      ∙ tsn_next initial x o s.0 l in
+      ap (λ z. z && not d.ending_fragment) first ∙ ap (λ z. eqb o (suc x) && not z) a.0.last
+  joins_front os (d ∷ []) (x ∷ y ∷ ys) a s = absurd a.1
+  joins_front os (d ∷ e ∷ es) (x ∷ []) a s = absurd a.1
+  joins_front os (d ∷ e ∷ es) (x ∷ y ∷ ys) a s =
+      ap (λ z. joined_by z) (last_later d e es) ∙ joins_front os (e ∷ es) (y ∷ ys) a.1 s.1
+    where
+      joined_by : Option ChunkPayloadData → Bool
+      joined_by z = is_before z && not (is_last_piece z)
+        where
+          is_before : Option ChunkPayloadData → Bool
+          is_before None = false
+          is_before (Some q) = eqb c.tsn (tsn_after q.tsn)
 
-    at_front : IsEntered initial p c ys 0 (led p o hs)
-    at_front = record {
-      front = [];
-      run = c ∷ w.more;
-      back = w.back;
-      earlier = [];
-      first = o;
-      rest = w.rest;
-      later = w.later;
-      put = put_after [] (head_run ys) ys 0 c false (none_in_front ys) (run_behind [] ys) refl
-          ∙ ap (λ z. (z, 0)) (w.alone [] (c ∷ part (joins_after (head_run ys) c) (head_run ys)))
-          ∙ ap (λ z. ((c ∷ z) ∷ w.back, 0)) w.part_is;
-      is = w.is;
-      fronts = tt;
-      said = (i, w.said);
-      backs = w.backs;
-      only = λ u. (tt, w.only u);
-    }
+  -- and the run behind with it, where it leads to that
+  joins_back : (cs : List ChunkPayloadData) (y : List ℕ) → CarryDataOf initial p cs y → AreSmall y
+      → joins_after cs c ≡ leads p o y
+  joins_back [] [] a s = refl
+  joins_back [] (x ∷ xs) a s = absurd a
+  joins_back (d ∷ ds) [] a s = absurd a
+  joins_back (d ∷ ds) (x ∷ xs) a s =
+      let first : eqb d.tsn (tsn_after c.tsn) ≡ eqb x (suc o)
+      =
+      ap (λ z. eqb z (tsn_after c.tsn)) a.0.tsn ∙ ap (λ z. eqb (tsn initial x) (tsn_after z)) i.tsn
+      ∙ tsn_next initial o x l s.0 in
+      ap (λ z. z && not c.ending_fragment) first ∙ ap (λ z. eqb x (suc o) && not z) i.last
 
-    behind : (zs : List (List ChunkPayloadData)) (z : List ChunkPayloadData) (ks : List (List ℕ)) (k : List ℕ)
-        → AreRuns initial p zs ks → CarryDataOf initial p z k → AreSmall k
-        → IsEntered initial p c ((zs ++ z ∷ []) ++ ys) (length (zs ++ z ∷ [])) (meet p (ks ++ k ∷ []) (led p o hs))
-    behind zs z ks k before said small =
-        let test = joins_front initial p c o w.rest z k i l said small in
-        let model : meet p (ks ++ k ∷ []) (led p o hs) ≡ ks ++ met p k ((o ∷ w.rest) ∷ w.later)
-        = ap (meet p (ks ++ k ∷ [])) w.is ∙ meet_last p ks k ((o ∷ w.rest) ∷ w.later) in
-        ⊎_elim
-        (λ (e : last_leads p k (o ∷ w.rest) ≡ true).
-        on zs z ks k before said e (put_after z (head_run ys) ((zs ++ z ∷ []) ++ ys) (length (zs ++ z ∷ [])) c true
-        (run_in_front zs ys z) (run_behind (zs ++ z ∷ []) ys) (test ∙ e))
-        (model ∙ ap (λ y. ks ++ cond y ((k ++ (o ∷ w.rest)) ∷ w.later) (k ∷ (o ∷ w.rest) ∷ w.later)) e))
-        (λ (e : last_leads p k (o ∷ w.rest) ≡ false). record {
-          front = zs ++ z ∷ [];
-          run = c ∷ w.more;
-          back = w.back;
-          earlier = ks ++ k ∷ [];
-          first = o;
-          rest = w.rest;
-          later = w.later;
-          put =
-              put_after z (head_run ys) ((zs ++ z ∷ []) ++ ys) (length (zs ++ z ∷ [])) c false (run_in_front zs ys z)
-              (run_behind (zs ++ z ∷ []) ys) (test ∙ e)
-              ∙ ap (λ y. (y, length (zs ++ z ∷ [])))
-              (w.alone (zs ++ z ∷ []) (c ∷ part (joins_after (head_run ys) c) (head_run ys)))
-              ∙ ap (λ y. ((zs ++ z ∷ []) ++ (c ∷ y) ∷ w.back, length (zs ++ z ∷ []))) w.part_is;
-          is =
-              model ∙ ap (λ y. ks ++ cond y ((k ++ (o ∷ w.rest)) ∷ w.later) (k ∷ (o ∷ w.rest) ∷ w.later)) e
-              ∙ sym (append_assoc ks (k ∷ []) ((o ∷ w.rest) ∷ w.later));
-          fronts = runs_join initial p zs (z ∷ []) ks (k ∷ []) before (said, tt);
-          said = (i, w.said);
-          backs = w.backs;
-          only = λ u. (all_front IsIncomplete (zs ++ z ∷ []) ys u, w.only (all_back IsIncomplete (zs ++ z ∷ []) ys u));
-        })
-        (cases_Bool (last_leads p k (o ∷ w.rest)))
-      where
-        on : (zs : List (List ChunkPayloadData)) (z : List ChunkPayloadData) (ks : List (List ℕ)) (k : List ℕ)
-            → AreRuns initial p zs ks → CarryDataOf initial p z k
-            → last_leads p k (o ∷ w.rest) ≡ true
-            → with_unordered ((zs ++ z ∷ []) ++ ys) (length (zs ++ z ∷ [])) c
-            ≡ (
-              put_between true (joins_after (head_run ys) c) ((zs ++ z ∷ []) ++ ys) (length (zs ++ z ∷ []))
-                  (z ++ c ∷ part (joins_after (head_run ys) c) (head_run ys)),
-              length (zs ++ z ∷ []) - 1,
-            )
-            → meet p (ks ++ k ∷ []) (led p o hs) ≡ ks ++ (k ++ (o ∷ w.rest)) ∷ w.later
-            → IsEntered initial p c ((zs ++ z ∷ []) ++ ys) (length (zs ++ z ∷ [])) (meet p (ks ++ k ∷ []) (led p o hs))
-        on zs z ks [] before said e f g = absurd (false≢true e)
-        on zs z ks (x ∷ k) before said e f g = record {
-          front = zs;
-          run = z ++ c ∷ w.more;
-          back = w.back;
-          earlier = ks;
-          first = x;
-          rest = k ++ (o ∷ w.rest);
-          later = w.later;
-          put =
-              f ∙ ap (λ y. (y, length (zs ++ z ∷ []) - 1))
-              (w.joined zs z (z ++ c ∷ part (joins_after (head_run ys) c) (head_run ys)))
-              ∙ ap (λ y. (zs ++ (z ++ c ∷ y) ∷ w.back, length (zs ++ z ∷ []) - 1)) w.part_is
-              ∙ ap (λ y. (zs ++ (z ++ c ∷ w.more) ∷ w.back, y)) (one_less zs z);
-          is = g;
-          fronts = before;
-          said = said_join initial p z (c ∷ w.more) (x ∷ k) (o ∷ w.rest) said (i, w.said);
-          backs = w.backs;
-          only = λ u. (
-            all_front IsIncomplete zs (z ∷ []) (all_front IsIncomplete (zs ++ z ∷ []) ys u),
-            w.only (all_back IsIncomplete (zs ++ z ∷ []) ys u),
-          );
-        }
+  pub not_past : (cs : List (List ChunkPayloadData)) (gs : List (List ℕ)) → AreRuns initial p cs gs
+      → AllByRecursion (AllByRecursion (λ (x : ℕ). x < o)) gs → AreNotPast c.tsn cs
+  not_past [] [] a b = tt
+  not_past [] (g ∷ gs) a b = absurd a
+  not_past (r ∷ rs) [] a b = absurd a
+  not_past (r ∷ rs) (g ∷ gs) a b = (one r g a.0 b.0, not_past rs gs a.1 b.1)
+    where
+      one : (r : List ChunkPayloadData) (g : List ℕ) → CarryDataOf initial p r g → AllByRecursion (λ (x : ℕ). x < o) g
+          → is_past r c.tsn ≡ false
+      one [] g a b = refl
+      one (d ∷ ds) [] a b = absurd a
+      one (d ∷ ds) (x ∷ xs) a b =
+          let less = b.0 in
+          ap (λ z. tsn_lt z d.tsn) i.tsn ∙ ap (tsn_lt (tsn initial o)) a.0.tsn ∙ tsn_before initial o x l (omega arith)
+          ∙ le-ltb o x (omega arith)
+
+  pub all_past : (cs : List (List ChunkPayloadData)) (gs : List (List ℕ)) → AreRuns initial p cs gs
+      → AllByRecursion (λ (g : List ℕ). 0 < length g) gs → AllByRecursion (AllByRecursion (λ (x : ℕ). o < x)) gs
+      → AllByRecursion AreSmall gs → AllByRecursion (λ (r : List ChunkPayloadData). is_past r c.tsn ≡ true) cs
+  all_past [] [] a n b s = tt
+  all_past [] (g ∷ gs) a n b s = absurd a
+  all_past (r ∷ rs) [] a n b s = absurd a
+  all_past (r ∷ rs) (g ∷ gs) a n b s =
+      (one r g a.0 n.0 b.0 s.0, all_past rs gs a.1 n.1 b.1 s.1)
+    where
+      one : (r : List ChunkPayloadData) (g : List ℕ) → CarryDataOf initial p r g → 0 < length g
+          → AllByRecursion (λ (x : ℕ). o < x) g → AreSmall g → is_past r c.tsn ≡ true
+      one r [] a n b s = absurd (omega arith)
+      one [] (x ∷ xs) a n b s = absurd a
+      one (d ∷ ds) (x ∷ xs) a n b s =
+          ap (λ z. tsn_lt z d.tsn) i.tsn ∙ ap (tsn_lt (tsn initial o)) a.0.tsn ∙ tsn_before initial o x l s.0
+          ∙ lt-ltb o x b.0
+
+  led_so : (ys : List (List ChunkPayloadData)) (hs : List (List ℕ)) → AreRuns initial p ys hs
+      → AllByRecursion AreSmall hs
+      → IsLed initial p c o ys hs
+  led_so [] [] a s = record {
+    more = [];
+    back = [];
+    rest = [];
+    later = [];
+    part_is = refl;
+    said = tt;
+    backs = tt;
+    is = refl;
+    alone = λ front run. insert_seam front [] run;
+    joined = λ front z run. set_last front [] z run;
+    only = λ u. tt;
+  }
+  led_so [] (h ∷ hs) a s = absurd a
+  led_so (y ∷ ys) [] a s = absurd a
+  led_so (y ∷ ys) (h ∷ hs) a s =
+      let test = joins_back y h a.0 s.0 in
+      ⊎_elim
+      (λ (b : leads p o h ≡ true). record {
+        more = y;
+        back = ys;
+        rest = h;
+        later = hs;
+        part_is = ap (λ k. part k y) (test ∙ b);
+        said = a.0;
+        backs = a.1;
+        is = ap (λ k. cond k ((o ∷ h) ∷ hs) ((o ∷ []) ∷ h ∷ hs)) b;
+        alone =
+            λ front run. ap (λ k. put_between false k (front ++ y ∷ ys) (length front) run) (test ∙ b)
+            ∙ set_seam front ys y run;
+        joined =
+            λ front z run. ap (λ k. put_between true k ((front ++ z ∷ []) ++ y ∷ ys) (length (front ++ z ∷ [])) run)
+            (test ∙ b) ∙ set_two front ys z y run;
+        only = λ u. u.1;
+      })
+      (λ (b : leads p o h ≡ false). record {
+        more = [];
+        back = y ∷ ys;
+        rest = [];
+        later = h ∷ hs;
+        part_is = ap (λ k. part k y) (test ∙ b);
+        said = tt;
+        backs = a;
+        is = ap (λ k. cond k ((o ∷ h) ∷ hs) ((o ∷ []) ∷ h ∷ hs)) b;
+        alone =
+            λ front run. ap (λ k. put_between false k (front ++ y ∷ ys) (length front) run) (test ∙ b)
+            ∙ insert_seam front (y ∷ ys) run;
+        joined =
+            λ front z run. ap (λ k. put_between true k ((front ++ z ∷ []) ++ y ∷ ys) (length (front ++ z ∷ [])) run)
+            (test ∙ b) ∙ set_last front (y ∷ ys) z run;
+        only = λ u. u;
+      })
+      (cases_Bool (leads p o h))
+
+  pub entered : (xs ys : List (List ChunkPayloadData)) (gs hs : List (List ℕ)) → AreRuns initial p xs gs
+      → AreRuns initial p ys hs → AllByRecursion AreSmall gs → AllByRecursion AreSmall hs
+      → IsEntered initial p c (xs ++ ys) (length xs) (meet p gs (led p o hs))
+  entered xs ys gs hs a b s t =
+      ⊎_elim
+      (λ (n : (xs ≡ []) × (gs ≡ [])).
+      subst (λ z. IsEntered initial p c (z ++ ys) (length z) (meet p gs (led p o hs))) (sym n.0)
+      (subst (λ z. IsEntered initial p c ys 0 (meet p z (led p o hs))) (sym n.1) at_front))
+      (λ (n : HasLast initial p xs gs).
+      subst (λ z. IsEntered initial p c (z ++ ys) (length z) (meet p gs (led p o hs))) (sym n.are_chunks)
+      (subst (λ z. IsEntered initial p c ((n.chunks ++ n.run ∷ []) ++ ys) (length (n.chunks ++ n.run ∷ []))
+      (meet p z (led p o hs))) (sym n.are_offsets)
+      (behind n.chunks n.run n.offsets n.last n.before n.said
+      (all_back AreSmall n.offsets (n.last ∷ []) (subst (AllByRecursion AreSmall) n.are_offsets s)).0)))
+      (last_cases initial p xs gs a)
+    where
+      w : IsLed initial p c o ys hs
+      w = led_so ys hs b t
+
+      at_front : IsEntered initial p c ys 0 (led p o hs)
+      at_front = record {
+        front = [];
+        run = c ∷ w.more;
+        back = w.back;
+        earlier = [];
+        first = o;
+        rest = w.rest;
+        later = w.later;
+        put = put_after [] (head_run ys) ys 0 c false (none_in_front ys) (run_behind [] ys) refl
+            ∙ ap (λ z. (z, 0)) (w.alone [] (c ∷ part (joins_after (head_run ys) c) (head_run ys)))
+            ∙ ap (λ z. ((c ∷ z) ∷ w.back, 0)) w.part_is;
+        is = w.is;
+        fronts = tt;
+        said = (i, w.said);
+        backs = w.backs;
+        only = λ u. (tt, w.only u);
+      }
+
+      behind : (zs : List (List ChunkPayloadData)) (z : List ChunkPayloadData) (ks : List (List ℕ)) (k : List ℕ)
+          → AreRuns initial p zs ks → CarryDataOf initial p z k → AreSmall k
+          → IsEntered initial p c ((zs ++ z ∷ []) ++ ys) (length (zs ++ z ∷ [])) (meet p (ks ++ k ∷ []) (led p o hs))
+      behind zs z ks k before said small =
+          let test = joins_front w.rest z k said small in
+          let model : meet p (ks ++ k ∷ []) (led p o hs) ≡ ks ++ met p k ((o ∷ w.rest) ∷ w.later)
+          = ap (meet p (ks ++ k ∷ [])) w.is ∙ meet_last p ks k ((o ∷ w.rest) ∷ w.later) in
+          ⊎_elim
+          (λ (e : last_leads p k (o ∷ w.rest) ≡ true).
+          on zs z ks k before said e (put_after z (head_run ys) ((zs ++ z ∷ []) ++ ys) (length (zs ++ z ∷ [])) c true
+          (run_in_front zs ys z) (run_behind (zs ++ z ∷ []) ys) (test ∙ e))
+          (model ∙ ap (λ y. ks ++ cond y ((k ++ (o ∷ w.rest)) ∷ w.later) (k ∷ (o ∷ w.rest) ∷ w.later)) e))
+          (λ (e : last_leads p k (o ∷ w.rest) ≡ false). record {
+            front = zs ++ z ∷ [];
+            run = c ∷ w.more;
+            back = w.back;
+            earlier = ks ++ k ∷ [];
+            first = o;
+            rest = w.rest;
+            later = w.later;
+            put =
+                put_after z (head_run ys) ((zs ++ z ∷ []) ++ ys) (length (zs ++ z ∷ [])) c false (run_in_front zs ys z)
+                (run_behind (zs ++ z ∷ []) ys) (test ∙ e)
+                ∙ ap (λ y. (y, length (zs ++ z ∷ [])))
+                (w.alone (zs ++ z ∷ []) (c ∷ part (joins_after (head_run ys) c) (head_run ys)))
+                ∙ ap (λ y. ((zs ++ z ∷ []) ++ (c ∷ y) ∷ w.back, length (zs ++ z ∷ []))) w.part_is;
+            is =
+                model ∙ ap (λ y. ks ++ cond y ((k ++ (o ∷ w.rest)) ∷ w.later) (k ∷ (o ∷ w.rest) ∷ w.later)) e
+                ∙ sym (append_assoc ks (k ∷ []) ((o ∷ w.rest) ∷ w.later));
+            fronts = runs_join initial p zs (z ∷ []) ks (k ∷ []) before (said, tt);
+            said = (i, w.said);
+            backs = w.backs;
+            only = λ u. (
+              all_front IsIncomplete (zs ++ z ∷ []) ys u,
+              w.only
+                  (all_back IsIncomplete (zs ++ z ∷ []) ys u),
+            );
+          })
+          (cases_Bool (last_leads p k (o ∷ w.rest)))
+        where
+          on : (zs : List (List ChunkPayloadData)) (z : List ChunkPayloadData) (ks : List (List ℕ)) (k : List ℕ)
+              → AreRuns initial p zs ks → CarryDataOf initial p z k
+              → last_leads p k (o ∷ w.rest) ≡ true
+              → with_unordered ((zs ++ z ∷ []) ++ ys) (length (zs ++ z ∷ [])) c
+              ≡ (
+                put_between true (joins_after (head_run ys) c) ((zs ++ z ∷ []) ++ ys) (length (zs ++ z ∷ []))
+                    (z ++ c ∷ part (joins_after (head_run ys) c) (head_run ys)),
+                length (zs ++ z ∷ []) - 1,
+              )
+              → meet p (ks ++ k ∷ []) (led p o hs) ≡ ks ++ (k ++ (o ∷ w.rest)) ∷ w.later
+              → IsEntered initial p c ((zs ++ z ∷ []) ++ ys) (length (zs ++ z ∷ []))
+              (meet p (ks ++ k ∷ []) (led p o hs))
+          on zs z ks [] before said e f g = absurd (false≢true e)
+          on zs z ks (x ∷ k) before said e f g = record {
+            front = zs;
+            run = z ++ c ∷ w.more;
+            back = w.back;
+            earlier = ks;
+            first = x;
+            rest = k ++ (o ∷ w.rest);
+            later = w.later;
+            put =
+                f ∙ ap (λ y. (y, length (zs ++ z ∷ []) - 1))
+                (w.joined zs z (z ++ c ∷ part (joins_after (head_run ys) c) (head_run ys)))
+                ∙ ap (λ y. (zs ++ (z ++ c ∷ y) ∷ w.back, length (zs ++ z ∷ []) - 1)) w.part_is
+                ∙ ap (λ y. (zs ++ (z ++ c ∷ w.more) ∷ w.back, y)) (one_less zs z);
+            is = g;
+            fronts = before;
+            said = said_join initial p z (c ∷ w.more) (x ∷ k) (o ∷ w.rest) said (i, w.said);
+            backs = w.backs;
+            only = λ u. (
+              all_front IsIncomplete zs (z ∷ []) (all_front IsIncomplete (zs ++ z ∷ []) ys u),
+              w.only (all_back IsIncomplete (zs ++ z ∷ []) ys u),
+            );
+          }
 
 -- a run at its place that is a whole message is taken out
 pub finished_is : (front back : List (List ChunkPayloadData)) (run : List ChunkPayloadData) (ms : List ReceivedMessage)

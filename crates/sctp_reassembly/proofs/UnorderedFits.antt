@@ -24,50 +24,49 @@ use Rattle.sctp_reassembly.proofs.OffsetRuns.{IsChain}
 use Rattle.sctp_reassembly.proofs.TsnOrder.{tsn_next}
 use Rattle.sctp_reassembly.proofs.WholeMessages.{last_later}
 
--- behind the last piece of a message stands the first one of another
-first_after : (p : Plan) (over : ℕ → Bool) (s a : ℕ) → IsPlanned p over → IsLoose p s a → IsLoose p s (suc a)
-    → is_last p (place_at p a) ≡ true → (place_at p (suc a)).piece ≡ 0
-first_after p over s a h x y l = go (place_at p (suc a)).piece refl
-  where
-    go : (k : ℕ) → (place_at p (suc a)).piece ≡ k → k ≡ 0
-    go zero e = refl
-    go (suc k) e =
-        let b = h.before (suc a) k y.at.known e in
-        let c = b.1 in
-        let f = c.follows in
-        let next = c.next in
-        let q : b.0 ≡ a = omega arith in
-        absurd (true≢false (sym l ∙ not_last p over a (suc a) h (omega arith) y.at.known
-        (sym (f.stream ∙ ap (λ z. (place_at p z).stream) q)) (sym (f.message ∙ ap (λ z. (place_at p z).message) q))))
-
 -- pieces of one message
 record AreTogether (p : Plan) (a b : ℕ) : Type 0 where
   pub stream : (place_at p a).stream ≡ (place_at p b).stream
   pub message : (place_at p a).message ≡ (place_at p b).message
 
-next_together : (p : Plan) (over : ℕ → Bool) (s a : ℕ) → IsPlanned p over → IsLoose p s a → IsLoose p s (suc a)
-    → is_last p (place_at p a) ≡ false
-    → AreTogether p a (suc a) × (eqb (place_at p (suc a)).piece 0 ≡ false)
-next_together p over s a h x y l =
-    let f = h.after a y.at.known l x.sent in
-    let piece = f.piece in (
-      record { stream = sym f.stream; message = sym f.message },
-      ne_eqb (place_at p (suc a)).piece 0 (λ (e : (place_at p (suc a)).piece ≡ 0). omega arith),
-    )
+module _ {p : Plan} {over : ℕ → Bool} {s : ℕ} (h : IsPlanned p over) where
+  -- behind the last piece of a message stands the first one of another
+  first_after : (a : ℕ) → IsLoose p s a → IsLoose p s (suc a) → is_last p (place_at p a) ≡ true
+      → (place_at p (suc a)).piece ≡ 0
+  first_after a x y l = go (place_at p (suc a)).piece refl
+    where
+      go : (k : ℕ) → (place_at p (suc a)).piece ≡ k → k ≡ 0
+      go zero e = refl
+      go (suc k) e =
+          let b = h.before (suc a) k y.at.known e in
+          let c = b.1 in
+          let f = c.follows in
+          let next = c.next in
+          let q : b.0 ≡ a = omega arith in
+          absurd (true≢false (sym l ∙ not_last h a (suc a) (omega arith) y.at.known
+          (sym (f.stream ∙ ap (λ z. (place_at p z).stream) q)) (sym (f.message ∙ ap (λ z. (place_at p z).message) q))))
 
--- two neighbours
-untorn : (p : Plan) (over : ℕ → Bool) (s a b : ℕ) (other : Bool) → IsPlanned p over → IsLoose p s a → IsLoose p s b
-    → b ≡ suc a
-    → (AreTogether p a b → other ≡ false) → tears (is_last p (place_at p a)) (eqb (place_at p b).piece 0) other ≡ false
-untorn p over s a b other h x y e f =
-    ⊎_elim
-    (λ (l : is_last p (place_at p a) ≡ true).
-    let first = first_after p over s a h x (subst (IsLoose p s) e y) l in
-    rw l (ap not (eq-eqb (place_at p b).piece 0 (ap (λ z. (place_at p z).piece) e ∙ first))))
-    (λ (l : is_last p (place_at p a) ≡ false).
-    let t = next_together p over s a h x (subst (IsLoose p s) e y) l in
-    rw (l, ap (λ z. eqb (place_at p z).piece 0) e ∙ t.1) (f (subst (AreTogether p a) (sym e) t.0)))
-    (cases_Bool (is_last p (place_at p a)))
+  next_together : (a : ℕ) → IsLoose p s a → IsLoose p s (suc a) → is_last p (place_at p a) ≡ false
+      → AreTogether p a (suc a) × (eqb (place_at p (suc a)).piece 0 ≡ false)
+  next_together a x y l =
+      let f = h.after a y.at.known l x.sent in
+      let piece = f.piece in (
+        record { stream = sym f.stream; message = sym f.message },
+        ne_eqb (place_at p (suc a)).piece 0 (λ (e : (place_at p (suc a)).piece ≡ 0). omega arith),
+      )
+
+  -- two neighbours
+  untorn : (a b : ℕ) (other : Bool) → IsLoose p s a → IsLoose p s b → b ≡ suc a → (AreTogether p a b → other ≡ false)
+      → tears (is_last p (place_at p a)) (eqb (place_at p b).piece 0) other ≡ false
+  untorn a b other x y e f =
+      ⊎_elim
+      (λ (l : is_last p (place_at p a) ≡ true).
+      let first = first_after a x (subst (IsLoose p s) e y) l in
+      rw l (ap not (eq-eqb (place_at p b).piece 0 (ap (λ z. (place_at p z).piece) e ∙ first))))
+      (λ (l : is_last p (place_at p a) ≡ false).
+      let t = next_together a x (subst (IsLoose p s) e y) l in
+      rw (l, ap (λ z. eqb (place_at p z).piece 0) e ∙ t.1) (f (subst (AreTogether p a) (sym e) t.0)))
+      (cases_Bool (is_last p (place_at p a)))
 
 same_type : (initial : ℕ) (p : Plan) (c d : ChunkPayloadData) (o x : ℕ) → CarriesData initial c (data_at p o)
     → CarriesData initial d (data_at p x) → AreTogether p x o
@@ -101,20 +100,9 @@ chain_together : (p : Plan) (over : ℕ → Bool) (s x : ℕ) (xs : List ℕ) �
 chain_together p over s x [] h k a = record { stream = refl; message = refl }
 chain_together p over s x (y ∷ ys) h k a =
     let one : AreTogether p x y =
-    subst (AreTogether p x) (sym k.0) (next_together p over s x h a.0 (subst (IsLoose p s) k.0 a.1.0) k.1).0 in
+    subst (AreTogether p x) (sym k.0) (next_together h x a.0 (subst (IsLoose p s) k.0 a.1.0) k.1).0 in
     let more = chain_together p over s y ys h k.2 a.1 in
     record { stream = one.stream ∙ more.stream; message = one.message ∙ more.message }
-
-chain_length : (initial : ℕ) (p : Plan) (d : ChunkPayloadData) (ds : List ChunkPayloadData) (x : ℕ) (xs : List ℕ)
-    (o : ℕ) → CarryDataOf initial p (d ∷ ds) (x ∷ xs)
-    → IsChain p (x ∷ xs) → AllByRecursion (λ (y : ℕ). y < o) (x ∷ xs) → x + length (d ∷ ds) ≤ o
-chain_length initial p d [] x [] o a k b = let l = b.0 in omega arith
-chain_length initial p d [] x (y ∷ ys) o a k b = absurd a.1
-chain_length initial p d (e ∷ es) x [] o a k b = absurd a.1
-chain_length initial p d (e ∷ es) x (y ∷ ys) o a k b =
-    let t = chain_length initial p e es y ys o a.1 k.2 b.1 in
-    let n = k.0 in
-    omega arith
 
 -- what is said of a run beside the piece o: its offsets lie on one side of it
 pub record IsBeside (p : Plan) (s : ℕ) (P : ℕ → Type 0) (r : List ℕ) : Type 0 where
@@ -122,69 +110,6 @@ pub record IsBeside (p : Plan) (s : ℕ) (P : ℕ → Type 0) (r : List ℕ) : T
   pub mine : AllByRecursion (IsLoose p s) r
   pub small : AreSmall r
   pub side : AllByRecursion P r
-
-uncovered : (initial : ℕ) (p : Plan) (s : ℕ) (c : ChunkPayloadData) (o : ℕ) (cs : List ChunkPayloadData) (r : List ℕ)
-    → CarriesData initial c (data_at p o) → o < 2 ^ 31
-    → CarryDataOf initial p cs r → IsBeside p s (λ (y : ℕ). y < o) r → covers cs c.tsn ≡ false
-uncovered initial p s c o [] [] i l a b = refl
-uncovered initial p s c o [] (x ∷ xs) i l a b = absurd a
-uncovered initial p s c o (d ∷ ds) [] i l a b = absurd a
-uncovered initial p s c o (d ∷ ds) (x ∷ xs) i l a b =
-    let n = chain_length initial p d ds x xs o a b.chain b.side in
-    let less = b.side.0 in
-    let small = b.small.0 in
-    let far : tsn_past (tsn initial x) (tsn initial o) ≡ o - x = omega arith in
-    ap (λ z. ltb (tsn_past z c.tsn) (length (d ∷ ds))) a.0.tsn
-    ∙ ap (λ z. ltb (tsn_past (tsn initial x) z) (length (d ∷ ds))) i.tsn
-    ∙ ap (λ z. ltb z (length (d ∷ ds))) far ∙ le-ltb (o - x) (length (d ∷ ds)) (omega arith)
-
-untorn_before : (initial : ℕ) (p : Plan) (over : ℕ → Bool) (s : ℕ) (c : ChunkPayloadData) (o : ℕ)
-    (cs : List ChunkPayloadData) (r : List ℕ) → IsPlanned p over
-    → CarriesData initial c (data_at p o) → o < 2 ^ 31 → IsLoose p s o
-    → CarryDataOf initial p cs r → IsBeside p s (λ (y : ℕ). y < o) r → is_torn_before cs c ≡ false
-untorn_before initial p over s c o [] [] h i l m a b = refl
-untorn_before initial p over s c o [] (x ∷ xs) h i l m a b = absurd a
-untorn_before initial p over s c o (d ∷ ds) [] h i l m a b = absurd a
-untorn_before initial p over s c o (d ∷ ds) (x ∷ xs) h i l m a b =
-    let e = end_is initial p d ds x xs a in
-    let z : ℕ = end_of x xs in
-    let near : eqb c.tsn (tsn_after (e.0).tsn) ≡ eqb o (suc z)
-    =
-    ap (λ y. eqb y (tsn_after (e.0).tsn)) i.tsn ∙ ap (λ y. eqb (tsn initial o) (tsn_after y)) e.2.tsn
-    ∙ tsn_next initial z o (end_all (λ (y : ℕ). y < 2 ^ 31) x xs b.small) l in
-    ap (λ y. is_right_before c.tsn y && tears (is_last_piece y) c.beginning_fragment (has_other_type (d ∷ ds) c)) e.1
-    ∙ ap (λ y. y && tears (e.0).ending_fragment c.beginning_fragment (has_other_type (d ∷ ds) c)) near
-    ∙ ⊎_elim
-    (λ (t : eqb o (suc z) ≡ true).
-    rw t (ap (λ y. tears y c.beginning_fragment (has_other_type (d ∷ ds) c)) e.2.last
-    ∙ ap (λ y. tears (is_last p (place_at p z)) y (has_other_type (d ∷ ds) c)) i.first
-    ∙ untorn p over s z o (has_other_type (d ∷ ds) c) h (end_all (IsLoose p s) x xs b.mine) m (eqb-true o (suc z) t)
-    (λ u. let v = chain_together p over s x xs h b.chain b.mine in
-    same_type initial p c d o x i a.0 (record { stream = v.stream ∙ u.stream; message = v.message ∙ u.message }))))
-    (λ (t : eqb o (suc z) ≡ false). rw t refl)
-    (cases_Bool (eqb o (suc z)))
-
-untorn_after : (initial : ℕ) (p : Plan) (over : ℕ → Bool) (s : ℕ) (c : ChunkPayloadData) (o : ℕ)
-    (cs : List ChunkPayloadData) (r : List ℕ) → IsPlanned p over
-    → CarriesData initial c (data_at p o) → o < 2 ^ 31 → IsLoose p s o
-    → CarryDataOf initial p cs r → IsBeside p s (λ (y : ℕ). o < y) r → is_torn_after cs c ≡ false
-untorn_after initial p over s c o [] [] h i l m a b = refl
-untorn_after initial p over s c o [] (x ∷ xs) h i l m a b = absurd a
-untorn_after initial p over s c o (d ∷ ds) [] h i l m a b = absurd a
-untorn_after initial p over s c o (d ∷ ds) (x ∷ xs) h i l m a b =
-    let near : eqb d.tsn (tsn_after c.tsn) ≡ eqb x (suc o)
-    =
-    ap (λ y. eqb y (tsn_after c.tsn)) a.0.tsn ∙ ap (λ y. eqb (tsn initial x) (tsn_after y)) i.tsn
-    ∙ tsn_next initial o x l b.small.0 in
-    ap (λ y. y && tears c.ending_fragment d.beginning_fragment (has_other_type (d ∷ ds) c)) near
-    ∙ ⊎_elim
-    (λ (t : eqb x (suc o) ≡ true).
-    rw t (ap (λ y. tears y d.beginning_fragment (has_other_type (d ∷ ds) c)) i.last
-    ∙ ap (λ y. tears (is_last p (place_at p o)) y (has_other_type (d ∷ ds) c)) a.0.first
-    ∙ untorn p over s o x (has_other_type (d ∷ ds) c) h m b.mine.0 (eqb-true x (suc o) t)
-    (λ u. same_type initial p c d o x i a.0 (record { stream = sym u.stream; message = sym u.message }))))
-    (λ (t : eqb x (suc o) ≡ false). rw t refl)
-    (cases_Bool (eqb x (suc o)))
 
 for_bytes : (b : Bool) → IsForBytesAlone (cond b (Some errors.ErrInboundMessageTooLarge) None)
 for_bytes true = inr refl
@@ -209,38 +134,107 @@ beside p s P [] a b c d = tt
 beside p s P (g ∷ gs) a b c d =
     (record { chain = a.0; mine = b.0; small = c.0; side = d.0 }, beside p s P gs a.1 b.1 c.1 d.1)
 
-pub fits_between : (initial : ℕ) (p : Plan) (over : ℕ → Bool) (s : ℕ) (c : ChunkPayloadData) (o limit : ℕ)
-    (xs ys : List (List ChunkPayloadData)) (gs hs : List (List ℕ)) → IsPlanned p over
-    → CarriesData initial c (data_at p o) → o < 2 ^ 31 → IsLoose p s o
-    → AreRuns initial p xs gs → AreRuns initial p ys hs → AreBeside p s (λ (y : ℕ). y < o) gs
-    → AreBeside p s (λ (y : ℕ). o < y) hs
-    → IsForBytesAlone (refusal_between (run_before (xs ++ ys) (length xs)) c (run_at (xs ++ ys) (length xs)) limit)
-fits_between initial p over s c o limit xs ys gs hs h i l m a b u v =
-    ⊎_elim
-    (λ (n : (xs ≡ []) × (gs ≡ [])).
-    subst (λ z. IsForBytesAlone
-    (refusal_between (run_before (z ++ ys) (length z)) c (run_at (z ++ ys) (length z)) limit)) (sym n.0)
-    (subst (λ z. IsForBytesAlone (refusal_between [] c z limit)) (sym (run_behind [] ys))
-    (between [] c (head_run ys) limit refl refl after)))
-    (λ (n : HasLast initial p xs gs).
-    let t = subst (AreBeside p s (λ (y : ℕ). y < o)) n.are_offsets u in
-    let k = (all_back (IsBeside p s (λ (y : ℕ). y < o)) n.offsets (n.last ∷ []) t).0 in
-    subst (λ z. IsForBytesAlone
-    (refusal_between (run_before (z ++ ys) (length z)) c (run_at (z ++ ys) (length z)) limit)) (sym n.are_chunks)
-    (subst
-    (λ z.
-    IsForBytesAlone (refusal_between z c (run_at ((n.chunks ++ n.run ∷ []) ++ ys) (length (n.chunks ++ n.run ∷ [])))
-    limit)) (sym (run_in_front n.chunks ys n.run))
-    (subst (λ z. IsForBytesAlone (refusal_between n.run c z limit)) (sym (run_behind (n.chunks ++ n.run ∷ []) ys))
-    (between n.run c (head_run ys) limit (uncovered initial p s c o n.run n.last i l n.said k)
-    (untorn_before initial p over s c o n.run n.last h i l m n.said k) after))))
-    (last_cases initial p xs gs a)
-  where
-    after : is_torn_after (head_run ys) c ≡ false
-    after = go ys hs b v
-      where
-        go : (ys : List (List ChunkPayloadData)) (hs : List (List ℕ)) → AreRuns initial p ys hs
-            → AreBeside p s (λ (y : ℕ). o < y) hs → is_torn_after (head_run ys) c ≡ false
-        go [] hs b v = refl
-        go (y ∷ ys) [] b v = absurd b
-        go (y ∷ ys) (z ∷ zs) b v = untorn_after initial p over s c o y z h i l m b.0 v.0
+module _ {initial : ℕ} {p : Plan} {over : ℕ → Bool} {s : ℕ} {c : ChunkPayloadData} {o : ℕ}
+    (h : IsPlanned p over) (i : CarriesData initial c (data_at p o)) (l : o < 2 ^ 31) (m : IsLoose p s o) where
+  chain_length : (d : ChunkPayloadData) (ds : List ChunkPayloadData) (x : ℕ) (xs : List ℕ)
+      → CarryDataOf initial p (d ∷ ds) (x ∷ xs) → IsChain p (x ∷ xs) → AllByRecursion (λ (y : ℕ). y < o) (x ∷ xs)
+      → x + length (d ∷ ds) ≤ o
+  chain_length d [] x [] a k b = let l = b.0 in omega arith
+  chain_length d [] x (y ∷ ys) a k b = absurd a.1
+  chain_length d (e ∷ es) x [] a k b = absurd a.1
+  chain_length d (e ∷ es) x (y ∷ ys) a k b =
+      let t = chain_length e es y ys a.1 k.2 b.1 in
+      let n = k.0 in
+      omega arith
+
+  uncovered : (cs : List ChunkPayloadData) (r : List ℕ) → CarryDataOf initial p cs r → IsBeside p s (λ (y : ℕ). y < o) r
+      → covers cs c.tsn ≡ false
+  uncovered [] [] a b = refl
+  uncovered [] (x ∷ xs) a b = absurd a
+  uncovered (d ∷ ds) [] a b = absurd a
+  uncovered (d ∷ ds) (x ∷ xs) a b =
+      let n = chain_length d ds x xs a b.chain b.side in
+      let less = b.side.0 in
+      let small = b.small.0 in
+      let far : tsn_past (tsn initial x) (tsn initial o) ≡ o - x = omega arith in
+      ap (λ z. ltb (tsn_past z c.tsn) (length (d ∷ ds))) a.0.tsn
+      ∙ ap (λ z. ltb (tsn_past (tsn initial x) z) (length (d ∷ ds))) i.tsn
+      ∙ ap (λ z. ltb z (length (d ∷ ds))) far ∙ le-ltb (o - x) (length (d ∷ ds)) (omega arith)
+
+  untorn_before : (cs : List ChunkPayloadData) (r : List ℕ) → CarryDataOf initial p cs r
+      → IsBeside p s (λ (y : ℕ). y < o) r → is_torn_before cs c ≡ false
+  untorn_before [] [] a b = refl
+  untorn_before [] (x ∷ xs) a b = absurd a
+  untorn_before (d ∷ ds) [] a b = absurd a
+  untorn_before (d ∷ ds) (x ∷ xs) a b =
+      let e = end_is initial p d ds x xs a in
+      let z : ℕ = end_of x xs in
+      let near : eqb c.tsn (tsn_after (e.0).tsn) ≡ eqb o (suc z)
+      =
+      ap (λ y. eqb y (tsn_after (e.0).tsn)) i.tsn ∙ ap (λ y. eqb (tsn initial o) (tsn_after y)) e.2.tsn
+      ∙ tsn_next initial z o (end_all (λ (y : ℕ). y < 2 ^ 31) x xs b.small) l in
+      ap (λ y. is_right_before c.tsn y && tears (is_last_piece y) c.beginning_fragment (has_other_type (d ∷ ds) c)) e.1
+      ∙ ap (λ y. y && tears (e.0).ending_fragment c.beginning_fragment (has_other_type (d ∷ ds) c)) near
+      ∙ ⊎_elim
+      (λ (t : eqb o (suc z) ≡ true).
+      rw t (ap (λ y. tears y c.beginning_fragment (has_other_type (d ∷ ds) c)) e.2.last
+      ∙ ap (λ y. tears (is_last p (place_at p z)) y (has_other_type (d ∷ ds) c)) i.first
+      ∙ untorn h z o (has_other_type (d ∷ ds) c) (end_all (IsLoose p s) x xs b.mine) m (eqb-true o (suc z) t)
+      (λ u. let v = chain_together p over s x xs h b.chain b.mine in
+      same_type initial p c d o x i a.0 (record { stream = v.stream ∙ u.stream; message = v.message ∙ u.message }))))
+      (λ (t : eqb o (suc z) ≡ false). rw t refl)
+      (cases_Bool (eqb o (suc z)))
+
+  untorn_after : (cs : List ChunkPayloadData) (r : List ℕ) → CarryDataOf initial p cs r
+      → IsBeside p s (λ (y : ℕ). o < y) r → is_torn_after cs c ≡ false
+  untorn_after [] [] a b = refl
+  untorn_after [] (x ∷ xs) a b = absurd a
+  untorn_after (d ∷ ds) [] a b = absurd a
+  untorn_after (d ∷ ds) (x ∷ xs) a b =
+      let near : eqb d.tsn (tsn_after c.tsn) ≡ eqb x (suc o)
+      =
+      ap (λ y. eqb y (tsn_after c.tsn)) a.0.tsn ∙ ap (λ y. eqb (tsn initial x) (tsn_after y)) i.tsn
+      ∙ tsn_next initial o x l b.small.0 in
+      ap (λ y. y && tears c.ending_fragment d.beginning_fragment (has_other_type (d ∷ ds) c)) near
+      ∙ ⊎_elim
+      (λ (t : eqb x (suc o) ≡ true).
+      rw t (ap (λ y. tears y d.beginning_fragment (has_other_type (d ∷ ds) c)) i.last
+      ∙ ap (λ y. tears (is_last p (place_at p o)) y (has_other_type (d ∷ ds) c)) a.0.first
+      ∙ untorn h o x (has_other_type (d ∷ ds) c) m b.mine.0 (eqb-true x (suc o) t)
+      (λ u. same_type initial p c d o x i a.0 (record { stream = sym u.stream; message = sym u.message }))))
+      (λ (t : eqb x (suc o) ≡ false). rw t refl)
+      (cases_Bool (eqb x (suc o)))
+
+  pub fits_between : (limit : ℕ) (xs ys : List (List ChunkPayloadData)) (gs hs : List (List ℕ))
+      → AreRuns initial p xs gs
+      → AreRuns initial p ys hs → AreBeside p s (λ (y : ℕ). y < o) gs → AreBeside p s (λ (y : ℕ). o < y) hs
+      → IsForBytesAlone (refusal_between (run_before (xs ++ ys) (length xs)) c (run_at (xs ++ ys) (length xs)) limit)
+  fits_between limit xs ys gs hs a b u v =
+      ⊎_elim
+      (λ (n : (xs ≡ []) × (gs ≡ [])).
+      subst (λ z. IsForBytesAlone
+      (refusal_between (run_before (z ++ ys) (length z)) c (run_at (z ++ ys) (length z)) limit)) (sym n.0)
+      (subst (λ z. IsForBytesAlone (refusal_between [] c z limit)) (sym (run_behind [] ys))
+      (between [] c (head_run ys) limit refl refl after)))
+      (λ (n : HasLast initial p xs gs).
+      let t = subst (AreBeside p s (λ (y : ℕ). y < o)) n.are_offsets u in
+      let k = (all_back (IsBeside p s (λ (y : ℕ). y < o)) n.offsets (n.last ∷ []) t).0 in
+      subst (λ z. IsForBytesAlone
+      (refusal_between (run_before (z ++ ys) (length z)) c (run_at (z ++ ys) (length z)) limit)) (sym n.are_chunks)
+      (subst
+      (λ z.
+      IsForBytesAlone (refusal_between z c (run_at ((n.chunks ++ n.run ∷ []) ++ ys) (length (n.chunks ++ n.run ∷ [])))
+      limit)) (sym (run_in_front n.chunks ys n.run))
+      (subst (λ z. IsForBytesAlone (refusal_between n.run c z limit)) (sym (run_behind (n.chunks ++ n.run ∷ []) ys))
+      (between n.run c (head_run ys) limit (uncovered n.run n.last n.said k)
+      (untorn_before n.run n.last n.said k) after))))
+      (last_cases initial p xs gs a)
+    where
+      after : is_torn_after (head_run ys) c ≡ false
+      after = go ys hs b v
+        where
+          go : (ys : List (List ChunkPayloadData)) (hs : List (List ℕ)) → AreRuns initial p ys hs
+              → AreBeside p s (λ (y : ℕ). o < y) hs → is_torn_after (head_run ys) c ≡ false
+          go [] hs b v = refl
+          go (y ∷ ys) [] b v = absurd b
+          go (y ∷ ys) (z ∷ zs) b v = untorn_after y z b.0 v.0

@@ -160,47 +160,47 @@ all_found p fuel held o [] r a t = first_and p fuel held o [] r a t tt
 all_found p fuel held o (x ∷ xs) r a t =
     first_and p fuel held o (x ∷ xs) r a t (all_found p fuel held x xs r.1 (held_later p held o x xs r a) t)
 
--- a piece that begins a message begins a run
-pub begins_run : (P : List ℕ → Type 0) (p : Plan) (over : ℕ → Bool) (s : ℕ) (os : List ℕ) (x : ℕ) → IsPlanned p over
-    → AllByRecursion (IsLoose p s) os → mem x os ≡ true
-    → (place_at p x).piece ≡ 0 → AllByRecursion P (runs_of p os) → (r : List ℕ) × P (x ∷ r)
-begins_run P p over s [] x h a m z all = absurd (false≢true m)
-begins_run P p over s (o ∷ os) x h a m z all =
-    ⊎_elim
-    (λ (e : eqb o x ≡ true).
-    let f = led_first p o (runs_of p os) in
-    let t = subst (AllByRecursion P) f.2 all in
-    (f.0, subst (λ y. P (y ∷ f.0)) (eqb-true o x e) t.0))
-    (λ (k : mem x os ≡ true). go (runs_of p os) refl k all (λ Q t. begins_run Q p over s os x h a.1 k z t))
-    (or_cases (eqb o x) (mem x os) m)
-  where
-    no_lead : mem x os ≡ true → (r : List ℕ) → leads p o (x ∷ r) ≡ true → ⊥
-    no_lead k r b =
-        let t = leads_to p o x r b in
-        let first = a.0 in
-        let mine = all_mem (IsLoose p s) os x a.1 k in
-        let known = mine.at.known in
-        let next = t.0 in
-        let w = h.after o (omega arith) t.1 first.sent in
-        let piece = w.piece in
-        let none : (place_at p (suc o)).piece ≡ 0 = ap (λ y. (place_at p y).piece) (sym next) ∙ z in
-        omega arith
+module _ {p : Plan} {over : ℕ → Bool} (s x : ℕ) (h : IsPlanned p over) (z : (place_at p x).piece ≡ 0) where
+  -- a piece that begins a message begins a run
+  pub begins_run : (P : List ℕ → Type 0) (os : List ℕ) → AllByRecursion (IsLoose p s) os → mem x os ≡ true
+      → AllByRecursion P (runs_of p os) → (r : List ℕ) × P (x ∷ r)
+  begins_run P [] a m all = absurd (false≢true m)
+  begins_run P (o ∷ os) a m all =
+      ⊎_elim
+      (λ (e : eqb o x ≡ true).
+      let f = led_first p o (runs_of p os) in
+      let t = subst (AllByRecursion P) f.2 all in
+      (f.0, subst (λ y. P (y ∷ f.0)) (eqb-true o x e) t.0))
+      (λ (k : mem x os ≡ true). go (runs_of p os) refl k all (λ Q t. begins_run Q os a.1 k t))
+      (or_cases (eqb o x) (mem x os) m)
+    where
+      no_lead : mem x os ≡ true → (r : List ℕ) → leads p o (x ∷ r) ≡ true → ⊥
+      no_lead k r b =
+          let t = leads_to p o x r b in
+          let first = a.0 in
+          let mine = all_mem (IsLoose p s) os x a.1 k in
+          let known = mine.at.known in
+          let next = t.0 in
+          let w = h.after o (omega arith) t.1 first.sent in
+          let piece = w.piece in
+          let none : (place_at p (suc o)).piece ≡ 0 = ap (λ y. (place_at p y).piece) (sym next) ∙ z in
+          omega arith
 
-    go : (rs : List (List ℕ)) → runs_of p os ≡ rs → mem x os ≡ true → AllByRecursion P (led p o rs)
-        → ((Q : List ℕ → Type 0) → AllByRecursion Q (runs_of p os) → (r : List ℕ) × Q (x ∷ r))
-        → (r : List ℕ) × P (x ∷ r)
-    go [] e k b again = again P (subst (AllByRecursion P) (sym e) tt)
-    go (y ∷ ys) e k b again = ⊎_elim
-        (λ (l : leads p o y ≡ true).
-        let c : AllByRecursion P ((o ∷ y) ∷ ys) = rw l at b in
-        let i = again (λ (r : List ℕ). (r ≡ y) ⊎ P r) (subst (AllByRecursion (λ (r : List ℕ). (r ≡ y) ⊎ P r)) (sym e)
-        (inl refl, all_weaker P (λ (r : List ℕ). (r ≡ y) ⊎ P r) ys (λ r q. inr q) c.1)) in
-        ⊎_elim (λ (same : x ∷ i.0 ≡ y). absurd (no_lead k i.0 (ap (leads p o) same ∙ l)))
-        (λ (q : P (x ∷ i.0)). (i.0, q)) i.1)
-        (λ (l : leads p o y ≡ false).
-        let c : AllByRecursion P ((o ∷ []) ∷ y ∷ ys) = rw l at b in
-        again P (subst (AllByRecursion P) (sym e) c.1))
-        (cases_Bool (leads p o y))
+      go : (rs : List (List ℕ)) → runs_of p os ≡ rs → mem x os ≡ true → AllByRecursion P (led p o rs)
+          → ((Q : List ℕ → Type 0) → AllByRecursion Q (runs_of p os) → (r : List ℕ) × Q (x ∷ r))
+          → (r : List ℕ) × P (x ∷ r)
+      go [] e k b again = again P (subst (AllByRecursion P) (sym e) tt)
+      go (y ∷ ys) e k b again = ⊎_elim
+          (λ (l : leads p o y ≡ true).
+          let c : AllByRecursion P ((o ∷ y) ∷ ys) = rw l at b in
+          let i = again (λ (r : List ℕ). (r ≡ y) ⊎ P r) (subst (AllByRecursion (λ (r : List ℕ). (r ≡ y) ⊎ P r)) (sym e)
+          (inl refl, all_weaker P (λ (r : List ℕ). (r ≡ y) ⊎ P r) ys (λ r q. inr q) c.1)) in
+          ⊎_elim (λ (same : x ∷ i.0 ≡ y). absurd (no_lead k i.0 (ap (leads p o) same ∙ l)))
+          (λ (q : P (x ∷ i.0)). (i.0, q)) i.1)
+          (λ (l : leads p o y ≡ false).
+          let c : AllByRecursion P ((o ∷ []) ∷ y ∷ ys) = rw l at b in
+          again P (subst (AllByRecursion P) (sym e) c.1))
+          (cases_Bool (leads p o y))
 
 -- The first whole message among those held.
 
@@ -291,65 +291,66 @@ runs_found : (p : Plan) (s : ℕ) (held : List Data) (os : List ℕ) → AreHeld
 runs_found p s held [] a = tt
 runs_found p s held (o ∷ os) a = all_found p (top held) held o os a.ascends (λ x l. a.same x) (omega arith)
 
--- what the model finds, where no run but one may be a whole message
-pub whole_found : (p : Plan) (over : ℕ → Bool) (s : ℕ) (held : List Data) (os : List ℕ) (gs hs : List (List ℕ)) (o : ℕ)
-    (r : List ℕ) → IsPlanned p over → AreHeld p s held os
-    → runs_of p os ≡ gs ++ (o ∷ r) ∷ hs → AllByRecursion (λ (k : List ℕ). is_whole p k ≡ false) gs
-    → AllByRecursion (λ (k : List ℕ). is_whole p k ≡ false) hs
-    → first_complete held held ≡ cond (is_whole p (o ∷ r)) (Some (run_at p o r)) None
-whole_found p over s held os gs hs o r h a e u v = go (is_whole p (o ∷ r)) refl
-  where
-    found : AllByRecursion (IsFound p (top held) held) (gs ++ (o ∷ r) ∷ hs)
-    found = subst (AllByRecursion (IsFound p (top held) held)) e (runs_found p s held os a)
+module _ {p : Plan} {over : ℕ → Bool} {s : ℕ} {held : List Data} {os : List ℕ} (h : IsPlanned p over)
+    (a : AreHeld p s held os) where
+  -- what the model finds, where no run but one may be a whole message
+  pub whole_found : (gs hs : List (List ℕ)) (o : ℕ) (r : List ℕ) → runs_of p os ≡ gs ++ (o ∷ r) ∷ hs
+      → AllByRecursion (λ (k : List ℕ). is_whole p k ≡ false) gs
+      → AllByRecursion (λ (k : List ℕ). is_whole p k ≡ false) hs
+      → first_complete held held ≡ cond (is_whole p (o ∷ r)) (Some (run_at p o r)) None
+  whole_found gs hs o r e u v = go (is_whole p (o ∷ r)) refl
+    where
+      found : AllByRecursion (IsFound p (top held) held) (gs ++ (o ∷ r) ∷ hs)
+      found = subst (AllByRecursion (IsFound p (top held) held)) e (runs_found p s held os a)
 
-    -- of each piece that begins a message
-    first_piece : (P : List ℕ → Type 0) → AllByRecursion P (gs ++ (o ∷ r) ∷ hs) → (d : Data)
-        → (d ≡ data_at p d.offset) × IsThere held d.offset → d.first ≡ true
-        → (k : List ℕ) × ((P (d.offset ∷ k) × IsFound p (top held) held (d.offset ∷ k))
-        × ((place_at p d.offset).piece ≡ 0))
-    first_piece P t d i f =
-        let zero_there : (place_at p d.offset).piece ≡ 0 = eqb-true _ _ (sym (ap (λ z. z.first) i.0) ∙ f) in
-        let b =
-        begins_run (λ (k : List ℕ). P k × IsFound p (top held) held k) p over s os d.offset h a.mine
-        (in_offsets p held os d.offset i.1.0 a.same i.1.1) zero_there
-        (subst (AllByRecursion (λ (k : List ℕ). P k × IsFound p (top held) held k)) (sym e)
-        (all_both P (IsFound p (top held) held) (gs ++ (o ∷ r) ∷ hs) t found)) in
-        (b.0, (b.1, zero_there))
+      -- of each piece that begins a message
+      first_piece : (P : List ℕ → Type 0) → AllByRecursion P (gs ++ (o ∷ r) ∷ hs) → (d : Data)
+          → (d ≡ data_at p d.offset) × IsThere held d.offset → d.first ≡ true
+          → (k : List ℕ) × ((P (d.offset ∷ k) × IsFound p (top held) held (d.offset ∷ k))
+          × ((place_at p d.offset).piece ≡ 0))
+      first_piece P t d i f =
+          let zero_there : (place_at p d.offset).piece ≡ 0 = eqb-true _ _ (sym (ap (λ z. z.first) i.0) ∙ f) in
+          let b =
+          begins_run s d.offset h zero_there (λ (k : List ℕ). P k × IsFound p (top held) held k) os a.mine
+          (in_offsets p held os d.offset i.1.0 a.same i.1.1)
+          (subst (AllByRecursion (λ (k : List ℕ). P k × IsFound p (top held) held k)) (sym e)
+          (all_both P (IsFound p (top held) held) (gs ++ (o ∷ r) ∷ hs) t found)) in
+          (b.0, (b.1, zero_there))
 
-    there : AllByRecursion (λ (d : Data). (d ≡ data_at p d.offset) × IsThere held d.offset) held
-    there =
-        all_both (λ (d : Data). d ≡ data_at p d.offset) (λ (d : Data). IsThere held d.offset) held a.exact
-        (all_there held)
+      there : AllByRecursion (λ (d : Data). (d ≡ data_at p d.offset) × IsThere held d.offset) held
+      there =
+          all_both (λ (d : Data). d ≡ data_at p d.offset) (λ (d : Data). IsThere held d.offset) held a.exact
+          (all_there held)
 
-    not_whole : (d : Data) (k : List ℕ) → d ≡ data_at p d.offset → is_whole p (d.offset ∷ k) ≡ false
-        → IsFound p (top held) held (d.offset ∷ k) → (place_at p d.offset).piece ≡ 0
-        → run_of held d ≡ None
-    not_whole d k i w f z =
-        let out : is_rest p (d.offset ∷ k) ≡ false =
-        sym (ap (λ y. y && is_rest p (d.offset ∷ k)) (eq-eqb (place_at p d.offset).piece 0 z)) ∙ w in
-        found_so p held d d.offset k (is_rest p (d.offset ∷ k)) i f.1
-        ∙ ap (λ y. cond y (Some (run_at p d.offset k)) None) out
+      not_whole : (d : Data) (k : List ℕ) → d ≡ data_at p d.offset → is_whole p (d.offset ∷ k) ≡ false
+          → IsFound p (top held) held (d.offset ∷ k) → (place_at p d.offset).piece ≡ 0
+          → run_of held d ≡ None
+      not_whole d k i w f z =
+          let out : is_rest p (d.offset ∷ k) ≡ false =
+          sym (ap (λ y. y && is_rest p (d.offset ∷ k)) (eq-eqb (place_at p d.offset).piece 0 z)) ∙ w in
+          found_so p held d d.offset k (is_rest p (d.offset ∷ k)) i f.1
+          ∙ ap (λ y. cond y (Some (run_at p d.offset k)) None) out
 
-    go : (b : Bool) → is_whole p (o ∷ r) ≡ b → first_complete held held ≡ cond b (Some (run_at p o r)) None
-    go false w = find_none held held (all_weaker _ _ held (λ d i f.
-        let k =
-        first_piece (λ (x : List ℕ). is_whole p x ≡ false)
-        (all_join (λ (x : List ℕ). is_whole p x ≡ false) gs ((o ∷ r) ∷ hs) u (w, v)) d i f in
-        let kk = k.1.0 in
-        not_whole d k.0 i.0 kk.0 kk.1 k.1.1) there)
-    go true w =
-        let mine = all_back (IsFound p (top held) held) gs ((o ∷ r) ∷ hs) found in
-        let parts = and_parts (eqb (place_at p o).piece 0) (is_rest p (o ∷ r)) w in
-        let one : (d : Data) → d ≡ data_at p o → run_of held d ≡ Some (run_at p o r)
-        =
-        (λ d i. found_so p held d o r (is_rest p (o ∷ r)) i mine.0.1
-        ∙ ap (λ y. cond y (Some (run_at p o r)) None) parts.1) in
-        find_one held held (run_at p o r) o (data_at p o) (all_weaker _ _ held (λ d i f.
-        let k = first_piece (λ (x : List ℕ). (is_whole p x ≡ false) ⊎ (x ≡ o ∷ r))
-        (all_join (λ (x : List ℕ). (is_whole p x ≡ false) ⊎ (x ≡ o ∷ r)) gs ((o ∷ r) ∷ hs)
-        (all_weaker _ _ gs (λ x y. inl y) u) (inr refl, all_weaker _ _ hs (λ x y. inl y) v)) d i f in
-        let kk = k.1.0 in
-        ⊎_elim
-        (λ (y : is_whole p (d.offset ∷ k.0) ≡ false). inl (not_whole d k.0 i.0 y kk.1 k.1.1))
-        (λ (y : d.offset ∷ k.0 ≡ o ∷ r). inr (one d (i.0 ∙ ap (data_at p) (let z : d.offset ≡ o = cc in z))))
-        kk.0) there) mine.0.0 parts.0 (one (data_at p o) refl)
+      go : (b : Bool) → is_whole p (o ∷ r) ≡ b → first_complete held held ≡ cond b (Some (run_at p o r)) None
+      go false w = find_none held held (all_weaker _ _ held (λ d i f.
+          let k =
+          first_piece (λ (x : List ℕ). is_whole p x ≡ false)
+          (all_join (λ (x : List ℕ). is_whole p x ≡ false) gs ((o ∷ r) ∷ hs) u (w, v)) d i f in
+          let kk = k.1.0 in
+          not_whole d k.0 i.0 kk.0 kk.1 k.1.1) there)
+      go true w =
+          let mine = all_back (IsFound p (top held) held) gs ((o ∷ r) ∷ hs) found in
+          let parts = and_parts (eqb (place_at p o).piece 0) (is_rest p (o ∷ r)) w in
+          let one : (d : Data) → d ≡ data_at p o → run_of held d ≡ Some (run_at p o r)
+          =
+          (λ d i. found_so p held d o r (is_rest p (o ∷ r)) i mine.0.1
+          ∙ ap (λ y. cond y (Some (run_at p o r)) None) parts.1) in
+          find_one held held (run_at p o r) o (data_at p o) (all_weaker _ _ held (λ d i f.
+          let k = first_piece (λ (x : List ℕ). (is_whole p x ≡ false) ⊎ (x ≡ o ∷ r))
+          (all_join (λ (x : List ℕ). (is_whole p x ≡ false) ⊎ (x ≡ o ∷ r)) gs ((o ∷ r) ∷ hs)
+          (all_weaker _ _ gs (λ x y. inl y) u) (inr refl, all_weaker _ _ hs (λ x y. inl y) v)) d i f in
+          let kk = k.1.0 in
+          ⊎_elim
+          (λ (y : is_whole p (d.offset ∷ k.0) ≡ false). inl (not_whole d k.0 i.0 y kk.1 k.1.1))
+          (λ (y : d.offset ∷ k.0 ≡ o ∷ r). inr (one d (i.0 ∙ ap (data_at p) (let z : d.offset ≡ o = cc in z))))
+          kk.0) there) mine.0.0 parts.0 (one (data_at p o) refl)

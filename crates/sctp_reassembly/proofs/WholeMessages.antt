@@ -53,72 +53,68 @@ not_below o x rest r m =
     ⊎_elim (λ (e : eqb o x ≡ true). let i = eqb-true o x e in omega arith)
     (λ (t : mem x rest ≡ true). let l = all_mem (λ (j : ℕ). o < j) rest x r.0 t in omega arith) (or_cases _ _ m)
 
--- a piece that begins the message is the first one held of it
-head_is : (p : Plan) (over : ℕ → Bool) (taken : List ℕ) (s low number : ℕ) (held : List Data) (o : ℕ) (rest : List ℕ)
-    (x : Data) → IsPlanned p over → over s ≡ false
-    → AllByRecursion (IsHeld p taken s true low) held → AllByRecursion (IsNearBy p low) held
-    → IsAllOf p s number held o rest
-    → begins (number % 65536) held ≡ Some x → (x ≡ data_at p o) × ((place_at p o).piece ≡ 0)
-head_is p over taken s low number held o rest x h v ah near a e =
-    let f =
-    begins_found (λ (d : Data). (IsHeld p taken s true low d × IsNearBy p low d) × IsThere held d.offset)
-    (number % 65536) held x e
-    (all_both _ _ held (all_both _ _ held ah near) (all_there held)) in
-    let hx = f.0.0.0 in
-    let nx = f.0.0.1 in
-    let first = a.from.mine.0 in
-    let nf = (at_found (IsNearBy p low) o held (data_at p o) a.from.there.0 near).0 in
-    let hf = (at_found (IsHeld p taken s true low) o held (data_at p o) a.from.there.0 ah).0 in
-    let lo = hf.above in
-    let lx = hx.above in
-    let fi = first.is in
-    let n : (place_at p x.offset).ssn ≡ number =
-    same_from _ _ (omega arith) (omega arith) (sym (ssn_is p taken s low true x hx) ∙ f.1) in
-    let zero_there : (place_at p x.offset).piece ≡ 0 = first_is p taken s low true x hx f.2 in
-    let later = not_below o x.offset rest a.from.rising (a.full x.offset f.0.1.0 f.0.1.1 n) in
-    let far = apart p over o x.offset h first.at.known hx.at.known (first.at.stream ∙ sym hx.at.stream)
-    (one_message p over s o x.offset h v first.at hx.at (first.is ∙ sym n)) in
-    let same : x.offset ≡ o = omega arith in
-    (hx.is ∙ ap (data_at p) same, omega arith)
-
 found : (held : List Data) (d : Data) (b : Bool) (ps : List Data)
     → run_from (top held) d.offset held ≡ cond b (Some ps) None
     → run_of held d ≡ cond b (Some (record { head = d; pieces = ps })) None
 found held d true ps e = ap (run_with d) e
 found held d false ps e = ap (run_with d) e
 
--- the model finds the message with this number exactly where its pieces are held from the first to the last
-pub message_is : (p : Plan) (over : ℕ → Bool) (taken : List ℕ) (s low number : ℕ) (held : List Data) (o : ℕ)
-    (rest : List ℕ) → IsPlanned p over → over s ≡ false
-    → AllByRecursion (IsHeld p taken s true low) held → AllByRecursion (IsNearBy p low) held
-    → IsAllOf p s number held o rest
-    → message_in held (number % 65536)
-    ≡ cond (eqb (place_at p o).piece 0 && is_rest p (o ∷ rest))
-    (Some (record { head = data_at p o; pieces = map (data_at p) (o ∷ rest) })) None
-message_is p over taken s low number held o rest h v ah near a =
-    ⊎_elim
-    (λ (b : eqb (place_at p o).piece 0 ≡ true).
-    let first = a.from.mine.0 in
-    let x = begins_finds (number % 65536) o held (data_at p o) a.from.there.0 (ap (λ z. z % 65536) first.is) b in
-    let i = head_is p over taken s low number held o rest x.0 h v ah near a x.1 in
-    ap (run_begun held) (x.1 ∙ ap Some i.0)
-    ∙ found held (data_at p o) (is_rest p (o ∷ rest)) (map (data_at p) (o ∷ rest))
-    (run_is p over taken s low number (top held) held o rest h v ah a.from (omega arith))
-    ∙ ap (λ z. cond (z && is_rest p (o ∷ rest))
-    (Some (record { head = data_at p o; pieces = map (data_at p) (o ∷ rest) })) None) (sym b))
-    (λ (b : eqb (place_at p o).piece 0 ≡ false). go b (begins (number % 65536) held) refl)
-    (cases_Bool (eqb (place_at p o).piece 0))
-  where
-    go : eqb (place_at p o).piece 0 ≡ false → (x : Option Data) → begins (number % 65536) held ≡ x
-        → message_in held (number % 65536)
-        ≡ cond (eqb (place_at p o).piece 0 && is_rest p (o ∷ rest))
-        (Some (record { head = data_at p o; pieces = map (data_at p) (o ∷ rest) })) None
-    go b None e =
-        ap (run_begun held) e
-        ∙ ap (λ z. cond (z && is_rest p (o ∷ rest))
-        (Some (record { head = data_at p o; pieces = map (data_at p) (o ∷ rest) })) None) (sym b)
-    go b (Some x) e =
-        absurd (eqb-false (place_at p o).piece 0 b (head_is p over taken s low number held o rest x h v ah near a e).1)
+module _ {p : Plan} {over : ℕ → Bool} (taken : List ℕ) {s : ℕ} (low : ℕ) {number : ℕ} {held : List Data} {o : ℕ}
+    {rest : List ℕ} (h : IsPlanned p over) (v : over s ≡ false)
+    (ah : AllByRecursion (IsHeld p taken s true low) held) (near : AllByRecursion (IsNearBy p low) held)
+    (a : IsAllOf p s number held o rest) where
+  -- a piece that begins the message is the first one held of it
+  head_is : (x : Data) → begins (number % 65536) held ≡ Some x → (x ≡ data_at p o) × ((place_at p o).piece ≡ 0)
+  head_is x e =
+      let f =
+      begins_found (λ (d : Data). (IsHeld p taken s true low d × IsNearBy p low d) × IsThere held d.offset)
+      (number % 65536) held x e
+      (all_both _ _ held (all_both _ _ held ah near) (all_there held)) in
+      let hx = f.0.0.0 in
+      let nx = f.0.0.1 in
+      let first = a.from.mine.0 in
+      let nf = (at_found (IsNearBy p low) o held (data_at p o) a.from.there.0 near).0 in
+      let hf = (at_found (IsHeld p taken s true low) o held (data_at p o) a.from.there.0 ah).0 in
+      let lo = hf.above in
+      let lx = hx.above in
+      let fi = first.is in
+      let n : (place_at p x.offset).ssn ≡ number =
+      same_from _ _ (omega arith) (omega arith) (sym (ssn_is p taken s low true x hx) ∙ f.1) in
+      let zero_there : (place_at p x.offset).piece ≡ 0 = first_is p taken s low true x hx f.2 in
+      let later = not_below o x.offset rest a.from.rising (a.full x.offset f.0.1.0 f.0.1.1 n) in
+      let far = apart h o x.offset first.at.known hx.at.known (first.at.stream ∙ sym hx.at.stream)
+      (one_message h v first.at hx.at (first.is ∙ sym n)) in
+      let same : x.offset ≡ o = omega arith in
+      (hx.is ∙ ap (data_at p) same, omega arith)
+
+  -- the model finds the message with this number exactly where its pieces are held from the first to the last
+  pub message_is : message_in held (number % 65536)
+      ≡ cond (eqb (place_at p o).piece 0 && is_rest p (o ∷ rest))
+      (Some (record { head = data_at p o; pieces = map (data_at p) (o ∷ rest) })) None
+  message_is =
+      ⊎_elim
+      (λ (b : eqb (place_at p o).piece 0 ≡ true).
+      let first = a.from.mine.0 in
+      let x = begins_finds (number % 65536) o held (data_at p o) a.from.there.0 (ap (λ z. z % 65536) first.is) b in
+      let i = head_is x.0 x.1 in
+      ap (run_begun held) (x.1 ∙ ap Some i.0)
+      ∙ found held (data_at p o) (is_rest p (o ∷ rest)) (map (data_at p) (o ∷ rest))
+      (run_is taken low h v ah (top held) o rest a.from (omega arith))
+      ∙ ap (λ z. cond (z && is_rest p (o ∷ rest))
+      (Some (record { head = data_at p o; pieces = map (data_at p) (o ∷ rest) })) None) (sym b))
+      (λ (b : eqb (place_at p o).piece 0 ≡ false). go b (begins (number % 65536) held) refl)
+      (cases_Bool (eqb (place_at p o).piece 0))
+    where
+      go : eqb (place_at p o).piece 0 ≡ false → (x : Option Data) → begins (number % 65536) held ≡ x
+          → message_in held (number % 65536)
+          ≡ cond (eqb (place_at p o).piece 0 && is_rest p (o ∷ rest))
+          (Some (record { head = data_at p o; pieces = map (data_at p) (o ∷ rest) })) None
+      go b None e =
+          ap (run_begun held) e
+          ∙ ap (λ z. cond (z && is_rest p (o ∷ rest))
+          (Some (record { head = data_at p o; pieces = map (data_at p) (o ∷ rest) })) None) (sym b)
+      go b (Some x) e =
+          absurd (eqb-false (place_at p o).piece 0 b (head_is x e).1)
 
 -- The same of the groups.
 
