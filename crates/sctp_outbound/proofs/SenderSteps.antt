@@ -54,16 +54,17 @@ pub one_piece_less : (s : Sender) (ms : List Waiting) → fits_windows s (slice_
 one_piece_less s [] fits = absurd (false_from_true fits)
 one_piece_less s (m ∷ ms) fits = left_pieces m ms
 
-within_one : (n k : ℕ) (s s2 : Sender) (out out2 : List ChunkPayloadData) (now : ℕ) → n ≡ suc k → can_send_next s ≡ true
-    → sent_one s.queue.pending s out now ≡ (s2, out2) → sent_within k s2 out2 now ≡ sent_within n s out now
-within_one n k s s2 out out2 now less fits sent =
+within_one : {s2 : Sender} {out2 : List ChunkPayloadData} (n k : ℕ) (s : Sender) (out : List ChunkPayloadData) (now : ℕ)
+    → n ≡ suc k → can_send_next s ≡ true → sent_one s.queue.pending s out now ≡ (s2, out2)
+    → sent_within k s2 out2 now ≡ sent_within n s out now
+within_one n k s out now less fits sent =
     rw (less, fits) (ap (λ (z : Sender × List ChunkPayloadData). sent_within k z.0 z.1 now) (sym sent))
 
 pub within_step : (s s2 : Sender) (out out2 : List ChunkPayloadData) (now : ℕ) → can_send_next s ≡ true
     → sent_one s.queue.pending s out now ≡ (s2, out2) → s2.queue.pending ≡ after_piece s.queue.pending
     → sent_within (pieces_waiting s2.queue.pending) s2 out2 now ≡ sent_within (pieces_waiting s.queue.pending) s out now
 within_step s s2 out out2 now fits sent left =
-    within_one (pieces_waiting s.queue.pending) (pieces_waiting s2.queue.pending) s s2 out out2 now
+    within_one (pieces_waiting s.queue.pending) (pieces_waiting s2.queue.pending) s out now
     (one_piece_less s s.queue.pending fits ∙ ap (λ ms. suc (pieces_waiting ms)) (sym left)) fits sent
 
 pub within_end : (n : ℕ) (s : Sender) (out : List ChunkPayloadData) (now : ℕ) → can_send_next s ≡ false
@@ -265,39 +266,40 @@ sent_again_at p s index left out here marked fits =
           );
     }
 
-none_or_some : (s s2 : Sender) (out out2 : List ChunkPayloadData) (left : ℕ)
+none_or_some : {s s2 : Sender} {out out2 : List ChunkPayloadData} {left : ℕ}
     → ◌≡◌ {A = Sender × List ChunkPayloadData × Option ℕ} (s, out, None) (s2, out2, Some left) → ⊥
-none_or_some s s2 out out2 left e =
+none_or_some {left = left} e =
     let m : None ≡ Some left = ap (λ (z : Sender × List ChunkPayloadData × Option ℕ). z.2) e in
     cc
 
-moved_to : (s s2 s3 : Sender) (index left left2 left3 : ℕ) (out out2 out3 : List ChunkPayloadData)
-    → ◌≡◌ {A = Sender × List ChunkPayloadData × Option ℕ} (s3, out3, Some left3) (s2, out2, Some left2)
-    → Stepped s s3 index left left3 out out3 → Stepped s s2 index left left2 out out2
-moved_to s s2 s3 index left left2 left3 out out2 out3 e step =
-    let a : s3 ≡ s2 = ap (λ (z : Sender × List ChunkPayloadData × Option ℕ). z.0) e in
-    let b : out3 ≡ out2 = ap (λ (z : Sender × List ChunkPayloadData × Option ℕ). z.1) e in
-    let some : Some left3 ≡ Some left2 = ap (λ (z : Sender × List ChunkPayloadData × Option ℕ). z.2) e in
-    let d : left3 ≡ left2 = cc in
-    rw (← a, ← b, ← d) step
+module _ {s s2 s3 : Sender} {index left left2 left3 : ℕ} {out out2 out3 : List ChunkPayloadData} where
+  moved_to : ◌≡◌ {A = Sender × List ChunkPayloadData × Option ℕ} (s3, out3, Some left3) (s2, out2, Some left2)
+      → Stepped s s3 index left left3 out out3 → Stepped s s2 index left left2 out out2
+  moved_to e step =
+      let a : s3 ≡ s2 = ap (λ (z : Sender × List ChunkPayloadData × Option ℕ). z.0) e in
+      let b : out3 ≡ out2 = ap (λ (z : Sender × List ChunkPayloadData × Option ℕ). z.1) e in
+      let some : Some left3 ≡ Some left2 = ap (λ (z : Sender × List ChunkPayloadData × Option ℕ). z.2) e in
+      let d : left3 ≡ left2 = cc in
+      rw (← a, ← b, ← d) step
 
-step_of : (o : Option InFlight) (s s2 : Sender) (index left left2 : ℕ) (out out2 : List ChunkPayloadData)
+step_of : {s2 : Sender} {left2 : ℕ} {out2 : List ChunkPayloadData} (o : Option InFlight) (s : Sender) (index left : ℕ)
+    (out : List ChunkPayloadData)
     → slice_get s.queue.in_flight index ≡ o → tried_again o s index left out ≡ (s2, out2, Some left2)
     → Stepped s s2 index left left2 out out2
-step_of None s s2 index left left2 out out2 here e = absurd (none_or_some s s2 out out2 left2 e)
-step_of (Some p) s s2 index left left2 out out2 here e =
+step_of None s index left out here e = absurd (none_or_some e)
+step_of (Some p) s index left out here e =
     ⊎_elim (
     λ (marked : p.retransmit ≡ true). ⊎_elim (
     λ (full : nat_lt left (length p.user_data) ≡ true).
-    absurd (none_or_some s s2 out out2 left2 (sym (tried_full p s index left out marked full) ∙ e))
+    absurd (none_or_some (sym (tried_full p s index left out marked full) ∙ e))
     ) (
     λ (fits : nat_lt left (length p.user_data) ≡ false).
-    moved_to s s2 _ index left left2 _ out out2 _ (sym (tried_sent p s index left out marked fits) ∙ e)
+    moved_to (sym (tried_sent p s index left out marked fits) ∙ e)
     (sent_again_at p s index left out here marked fits)
     ) (cases_Bool (nat_lt left (length p.user_data)))
     ) (
     λ (unmarked : p.retransmit ≡ false).
-    moved_to s s2 s index left left2 left out out2 out (sym (tried_skip p s index left out unmarked) ∙ e)
+    moved_to (sym (tried_skip p s index left out unmarked) ∙ e)
     (skipped p s index left out here unmarked)
     ) (cases_Bool p.retransmit)
 
@@ -341,33 +343,34 @@ does_not_fit p s index left out here marked full =
           chunks_full p ds s.queue.first_tsn index left marked full;
     }
 
-stopped_to : (s s2 s3 : Sender) (index left : ℕ) (out out2 out3 : List ChunkPayloadData) (o : Option ℕ)
-    → ◌≡◌ {A = Sender × List ChunkPayloadData × Option ℕ} (s3, out3, o) (s2, out2, None)
-    → Stopped s s3 index left out out3 → Stopped s s2 index left out out2
-stopped_to s s2 s3 index left out out2 out3 o e stop =
-    let a : s3 ≡ s2 = ap (λ (z : Sender × List ChunkPayloadData × Option ℕ). z.0) e in
-    let b : out3 ≡ out2 = ap (λ (z : Sender × List ChunkPayloadData × Option ℕ). z.1) e in
-    rw (← a, ← b) stop
+module _ {s s2 s3 : Sender} {index left : ℕ} {out out2 out3 : List ChunkPayloadData} {o : Option ℕ} where
+  stopped_to : ◌≡◌ {A = Sender × List ChunkPayloadData × Option ℕ} (s3, out3, o) (s2, out2, None)
+      → Stopped s s3 index left out out3 → Stopped s s2 index left out out2
+  stopped_to e stop =
+      let a : s3 ≡ s2 = ap (λ (z : Sender × List ChunkPayloadData × Option ℕ). z.0) e in
+      let b : out3 ≡ out2 = ap (λ (z : Sender × List ChunkPayloadData × Option ℕ). z.1) e in
+      rw (← a, ← b) stop
 
-stop_of : (o : Option InFlight) (s s2 : Sender) (index left : ℕ) (out out2 : List ChunkPayloadData)
+stop_of : {s2 : Sender} {out2 : List ChunkPayloadData} (o : Option InFlight) (s : Sender) (index left : ℕ)
+    (out : List ChunkPayloadData)
     → slice_get s.queue.in_flight index ≡ o → tried_again o s index left out ≡ (s2, out2, None)
     → Stopped s s2 index left out out2
-stop_of None s s2 index left out out2 here e =
-    stopped_to s s2 s index left out out2 out None e
+stop_of None s index left out here e =
+    stopped_to e
     (past_end s index left out (none_past s.queue.in_flight index here))
-stop_of (Some p) s s2 index left out out2 here e =
+stop_of (Some p) s index left out here e =
     ⊎_elim (
     λ (marked : p.retransmit ≡ true). ⊎_elim (
     λ (full : nat_lt left (length p.user_data) ≡ true).
-    stopped_to s s2 s index left out out2 out None (sym (tried_full p s index left out marked full) ∙ e)
+    stopped_to (sym (tried_full p s index left out marked full) ∙ e)
     (does_not_fit p s index left out here marked full)
     ) (
     λ (fits : nat_lt left (length p.user_data) ≡ false).
-    absurd (none_or_some s2 _ out2 _ _ (sym e ∙ tried_sent p s index left out marked fits))
+    absurd (none_or_some (sym e ∙ tried_sent p s index left out marked fits))
     ) (cases_Bool (nat_lt left (length p.user_data)))
     ) (
     λ (unmarked : p.retransmit ≡ false).
-    absurd (none_or_some s2 s out2 out left (sym e ∙ tried_skip p s index left out unmarked))
+    absurd (none_or_some (sym e ∙ tried_skip p s index left out unmarked))
     ) (cases_Bool p.retransmit)
 
 -- before a place the pieces are as they will stay; with what is resent of the rest they are what the whole was to
@@ -381,39 +384,6 @@ pub record ResendsOn (s0 s : Sender) (i end room left : ℕ) (out0 out : List Ch
   pub chunks : out ++ resent_chunks s.queue.first_tsn i left (drop i s.queue.in_flight)
       ≡ out0 ++ resent_chunks s0.queue.first_tsn 0 room s0.queue.in_flight
 
-pub resends_on : (s0 s s2 : Sender) (i end room left left2 : ℕ) (out0 out out2 : List ChunkPayloadData)
-    → ResendsOn s0 s i end room left out0 out
-    → tried_again (slice_get s.queue.in_flight i) s i left out ≡ (s2, out2, Some left2)
-    → ResendsOn s0 s2 (i + 1) end room left2 out0 out2
-resends_on s0 s s2 i end room left left2 out0 out out2 inv e =
-    let step = step_of (slice_get s.queue.in_flight i) s s2 i left left2 out out2 refl e in
-    record {
-      count = inv.count ∙ sym step.count;
-      grown = omega (arith, inv.grown, step.grown);
-      rest = step.rest ∙ ap (λ (z : Sender). with_in_flight z s2.queue.in_flight) inv.rest;
-      pieces = step.pieces ∙ inv.pieces;
-      chunks = step.chunks ∙ inv.chunks;
-    }
-
-pub resent_sender : (s0 s s2 : Sender) (i end room left : ℕ) (out0 out out2 : List ChunkPayloadData)
-    → ResendsOn s0 s i end room left out0 out
-    → tried_again (slice_get s.queue.in_flight i) s i left out ≡ (s2, out2, None)
-    → s2 ≡ with_in_flight s0 (resent_pieces room s0.queue.in_flight)
-resent_sender s0 s s2 i end room left out0 out out2 inv e =
-    let stop = stop_of (slice_get s.queue.in_flight i) s s2 i left out out2 refl e in
-    let xs = s.queue.in_flight in
-    let all : xs ≡ resent_pieces room s0.queue.in_flight =
-    sym (take-append-drop i xs) ∙ ap (λ z. take i xs ++ z) (sym stop.pieces) ∙ inv.pieces in
-    stop.sender ∙ inv.rest ∙ ap (with_in_flight s0) all
-
-pub resent_out : (s0 s s2 : Sender) (i end room left : ℕ) (out0 out out2 : List ChunkPayloadData)
-    → ResendsOn s0 s i end room left out0 out
-    → tried_again (slice_get s.queue.in_flight i) s i left out ≡ (s2, out2, None)
-    → out2 ≡ out0 ++ resent_chunks s0.queue.first_tsn 0 room s0.queue.in_flight
-resent_out s0 s s2 i end room left out0 out out2 inv e =
-    let stop = stop_of (slice_get s.queue.in_flight i) s s2 i left out out2 refl e in
-    stop.sent ∙ sym (append-nil out) ∙ ap (λ z. out ++ z) (sym stop.chunks) ∙ inv.chunks
-
 -- a piece that is to be sent again is the first of what is resent from its place on
 goes_first : (o : Option InFlight) (s : Sender) (index left : ℕ) → slice_get s.queue.in_flight index ≡ o
     → goes_again o left ≡ true
@@ -426,17 +396,47 @@ goes_first (Some p) s index left here again =
     chunks_sent p (drop (index + 1) s.queue.in_flight) s.queue.first_tsn index left parts.0 (not-true _ parts.1) in
     rw first (omega arith)
 
-pub resends_some : (s0 s : Sender) (i end room left : ℕ) (out0 out : List ChunkPayloadData)
-    → ResendsOn s0 s i end room left out0 out
-    → goes_again (slice_get s.queue.in_flight i) left ≡ true
-    → nat_lt 0 (length (resent_chunks s0.queue.first_tsn 0 room s0.queue.in_flight)) ≡ true
-resends_some s0 s i end room left out0 out inv again =
-    let rest = resent_chunks s.queue.first_tsn i left (drop i s.queue.in_flight) in
-    let all = resent_chunks s0.queue.first_tsn 0 room s0.queue.in_flight in
-    let some = goes_first (slice_get s.queue.in_flight i) s i left refl again in
-    let lengths : length out + length rest ≡ length out0 + length all =
-    sym (length-append out rest) ∙ ap length inv.chunks ∙ length-append out0 all in
-    lt-ltb _ _ (omega (arith, lengths, some, inv.grown))
+module _ {s0 s : Sender} {i end room left : ℕ} {out0 out : List ChunkPayloadData}
+    (inv : ResendsOn s0 s i end room left out0 out) where
+  pub resends_on : {s2 : Sender} {left2 : ℕ} {out2 : List ChunkPayloadData}
+      → tried_again (slice_get s.queue.in_flight i) s i left out ≡ (s2, out2, Some left2)
+      → ResendsOn s0 s2 (i + 1) end room left2 out0 out2
+  resends_on {s2 = s2} e =
+      let step = step_of (slice_get s.queue.in_flight i) s i left out refl e in
+      record {
+        count = inv.count ∙ sym step.count;
+        grown = omega (arith, inv.grown, step.grown);
+        rest = step.rest ∙ ap (λ (z : Sender). with_in_flight z s2.queue.in_flight) inv.rest;
+        pieces = step.pieces ∙ inv.pieces;
+        chunks = step.chunks ∙ inv.chunks;
+      }
+
+  pub resent_sender : {s2 : Sender} {out2 : List ChunkPayloadData}
+      → tried_again (slice_get s.queue.in_flight i) s i left out ≡ (s2, out2, None)
+      → s2 ≡ with_in_flight s0 (resent_pieces room s0.queue.in_flight)
+  resent_sender e =
+      let stop = stop_of (slice_get s.queue.in_flight i) s i left out refl e in
+      let xs = s.queue.in_flight in
+      let all : xs ≡ resent_pieces room s0.queue.in_flight =
+      sym (take-append-drop i xs) ∙ ap (λ z. take i xs ++ z) (sym stop.pieces) ∙ inv.pieces in
+      stop.sender ∙ inv.rest ∙ ap (with_in_flight s0) all
+
+  pub resent_out : {s2 : Sender} {out2 : List ChunkPayloadData}
+      → tried_again (slice_get s.queue.in_flight i) s i left out ≡ (s2, out2, None)
+      → out2 ≡ out0 ++ resent_chunks s0.queue.first_tsn 0 room s0.queue.in_flight
+  resent_out e =
+      let stop = stop_of (slice_get s.queue.in_flight i) s i left out refl e in
+      stop.sent ∙ sym (append-nil out) ∙ ap (λ z. out ++ z) (sym stop.chunks) ∙ inv.chunks
+
+  pub resends_some : goes_again (slice_get s.queue.in_flight i) left ≡ true
+      → nat_lt 0 (length (resent_chunks s0.queue.first_tsn 0 room s0.queue.in_flight)) ≡ true
+  resends_some again =
+      let rest = resent_chunks s.queue.first_tsn i left (drop i s.queue.in_flight) in
+      let all = resent_chunks s0.queue.first_tsn 0 room s0.queue.in_flight in
+      let some = goes_first (slice_get s.queue.in_flight i) s i left refl again in
+      let lengths : length out + length rest ≡ length out0 + length all =
+      sym (length-append out rest) ∙ ap length inv.chunks ∙ length-append out0 all in
+      lt-ltb _ _ (omega (arith, lengths, some, inv.grown))
 
 -- where a piece behind fits after some were sent, more is sent than before
 pub within_sends_on : (s0 s : Sender) (out0 out : List ChunkPayloadData) (now : ℕ) → can_send_next s ≡ true
