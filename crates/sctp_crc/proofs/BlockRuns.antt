@@ -1,5 +1,5 @@
 -- A run over a block, as lookups that can be made side by side.
-use Rattle.std.proofs.Common.{◌≡◌, ℕ, zero, suc, ◌+◌, ◌*◌, ◌/◌, ◌%◌, ◌^◌, ◌<◌, ◌≤◌, List, [], ◌∷◌, ◌++◌, length, get_or}
+use Rattle.std.proofs.Common.{◌≡◌, ℕ, suc, ◌+◌, ◌*◌, ◌/◌, ◌%◌, ◌^◌, ◌<◌, ◌≤◌, List, [], ◌∷◌, ◌++◌, length, get_or}
 use Rattle.std.proofs.Common.{take, drop, refl, sym, ap, ◌∙◌, arith}
 use Rattle.std.specs.Int.Bits.{bit_xor, xor_assoc, xor_zero_r}
 use Rattle.std.proofs.lemmas.List.{take-append-drop, drop-drop, at_drop_more, at_drop_all}
@@ -50,68 +50,41 @@ run_mixed (b ∷ bs) s fits =
     ∙ ap (λ (z : ℕ). bit_xor z (crc_run (s / 256) bs)) (more_bits bs b (bit_xor (s % 256) b))
     ∙ ap (bit_xor (crc_bits (8 * length (b ∷ bs)) (bit_xor (s % 256) b))) rest
 
-sixteen_mixed : (s b0 b1 b2 b3 b4 b5 b6 b7 b8 b9 b10 b11 b12 b13 b14 b15 : ℕ) → s < 2 ^ 32
-    → mixed s (b0 ∷ b1 ∷ b2 ∷ b3 ∷ b4 ∷ b5 ∷ b6 ∷ b7 ∷ b8 ∷ b9 ∷ b10 ∷ b11 ∷ b12 ∷ b13 ∷ b14 ∷ b15 ∷ [])
-    ≡ bit_xor (crc_bits 128 (bit_xor (s % 256) b0))
-    (bit_xor (crc_bits 120 (bit_xor (s / 256 % 256) b1))
-    (bit_xor (crc_bits 112 (bit_xor (s / 65536 % 256) b2)) (bit_xor (crc_bits 104 (bit_xor (s / 16777216) b3))
-    (bit_xor (crc_bits 96 b4)
-    (bit_xor (crc_bits 88 b5)
-    (bit_xor (crc_bits 80 b6) (bit_xor (crc_bits 72 b7)
-    (bit_xor (crc_bits 64 b8) (bit_xor (crc_bits 56 b9) (bit_xor (crc_bits 48 b10) (bit_xor (crc_bits 40 b11)
-    (bit_xor (crc_bits 32 b12) (bit_xor (crc_bits 24 b13) (bit_xor (crc_bits 16 b14) (crc_bits 8 b15)))))))))))))))
-sixteen_mixed s b0 b1 b2 b3 b4 b5 b6 b7 b8 b9 b10 b11 b12 b13 b14 b15 lt =
+-- a block's bytes, one by one
+abbrev cells : List ℕ → List ℕ
+cells xs =
+    get_or xs 0 0 ∷ get_or xs 1 0 ∷ get_or xs 2 0 ∷ get_or xs 3 0 ∷ get_or xs 4 0 ∷ get_or xs 5 0 ∷ get_or xs 6 0
+    ∷ get_or xs 7 0 ∷ get_or xs 8 0 ∷ get_or xs 9 0 ∷ get_or xs 10 0 ∷ get_or xs 11 0 ∷ get_or xs 12 0 ∷ get_or xs 13 0
+    ∷ get_or xs 14 0 ∷ get_or xs 15 0 ∷ []
+
+cells_are : (xs : List ℕ) → length xs ≡ 16 → xs ≡ cells xs
+cells_are (x0 ∷ x1 ∷ x2 ∷ x3 ∷ x4 ∷ x5 ∷ x6 ∷ x7 ∷ x8 ∷ x9 ∷ x10 ∷ x11 ∷ x12 ∷ x13 ∷ x14 ∷ x15 ∷ []) len = refl
+cells_are _ len = absurd (omega arith)
+
+-- what is looked up for each byte of a block, taken together
+abbrev looked_up : ℕ → List ℕ → ℕ
+looked_up s xs =
+    bit_xor (crc_bits 128 (bit_xor (s % 256) (get_or xs 0 0)))
+    (bit_xor (crc_bits 120 (bit_xor (s / 256 % 256) (get_or xs 1 0)))
+    (bit_xor (crc_bits 112 (bit_xor (s / 65536 % 256) (get_or xs 2 0)))
+    (bit_xor (crc_bits 104 (bit_xor (s / 16777216) (get_or xs 3 0)))
+    (bit_xor (crc_bits 96 (get_or xs 4 0)) (bit_xor (crc_bits 88 (get_or xs 5 0))
+    (bit_xor (crc_bits 80 (get_or xs 6 0)) (bit_xor (crc_bits 72 (get_or xs 7 0))
+    (bit_xor (crc_bits 64 (get_or xs 8 0)) (bit_xor (crc_bits 56 (get_or xs 9 0))
+    (bit_xor (crc_bits 48 (get_or xs 10 0)) (bit_xor (crc_bits 40 (get_or xs 11 0))
+    (bit_xor (crc_bits 32 (get_or xs 12 0)) (bit_xor (crc_bits 24 (get_or xs 13 0))
+    (bit_xor (crc_bits 16 (get_or xs 14 0)) (crc_bits 8 (get_or xs 15 0))))))))))))))))
+
+sixteen_mixed : (s : ℕ) (xs : List ℕ) → s < 2 ^ 32 → mixed s (cells xs) ≡ looked_up s xs
+sixteen_mixed s xs lt =
     let gone : s / 256 / 256 / 256 / 256 ≡ 0 = omega arith in
     let fourth : s / 256 / 256 / 256 % 256 ≡ s / 16777216 = omega arith in
     let third : s / 256 / 256 ≡ s / 65536 = omega arith in
     rw (gone, fourth, third, xor_zero_r) refl
 
-cells : (xs : List ℕ) → length xs ≡ 16 → (b0 b1 b2 b3 b4 b5 b6 b7 b8 b9 b10 b11 b12 b13 b14 b15 : ℕ)
-    → get_or xs 0 0 ≡ b0 → get_or xs 1 0 ≡ b1 → get_or xs 2 0 ≡ b2 → get_or xs 3 0 ≡ b3 → get_or xs 4 0 ≡ b4
-    → get_or xs 5 0 ≡ b5 → get_or xs 6 0 ≡ b6 → get_or xs 7 0 ≡ b7
-    → get_or xs 8 0 ≡ b8 → get_or xs 9 0 ≡ b9 → get_or xs 10 0 ≡ b10 → get_or xs 11 0 ≡ b11 → get_or xs 12 0 ≡ b12
-    → get_or xs 13 0 ≡ b13 → get_or xs 14 0 ≡ b14 → get_or xs 15 0 ≡ b15
-    → xs ≡ b0 ∷ b1 ∷ b2 ∷ b3 ∷ b4 ∷ b5 ∷ b6 ∷ b7 ∷ b8 ∷ b9 ∷ b10 ∷ b11 ∷ b12 ∷ b13 ∷ b14 ∷ b15 ∷ []
-cells (x0 ∷ x1 ∷ x2 ∷ x3 ∷ x4 ∷ x5 ∷ x6 ∷ x7 ∷ x8 ∷ x9 ∷ x10 ∷ x11 ∷ x12 ∷ x13 ∷ x14 ∷ x15 ∷ []) len b0 b1 b2 b3 b4 b5
-    b6 b7 b8 b9 b10 b11 b12 b13 b14 b15 e0 e1 e2 e3 e4 e5 e6 e7 e8 e9 e10 e11 e12 e13 e14 e15 =
-    rw (e0, e1, e2, e3, e4, e5, e6, e7, e8, e9, e10, e11, e12, e13, e14, e15) refl
-cells _ len b0 b1 b2 b3 b4 b5 b6 b7 b8 b9 b10 b11 b12 b13 b14 b15 e0 e1 e2 e3 e4 e5 e6 e7 e8 e9 e10 e11 e12 e13 e14
-    e15 = absurd (omega arith)
-
-pub sixteen_run : (s : ℕ) (xs : List ℕ) (x0 x1 x2 x3 x4 x5 x6 x7 x8 x9 x10 x11 x12 x13 x14 x15 : ℕ) → s < 2 ^ 32
-    → length xs ≡ 16 → AreBytes xs
-    → x0 ≡ crc_bits 128 (bit_xor (s % 256) (get_or xs 0 0))
-    → x1 ≡ crc_bits 120 (bit_xor (s / 256 % 256) (get_or xs 1 0))
-    → x2 ≡ crc_bits 112 (bit_xor (s / 65536 % 256) (get_or xs 2 0))
-    → x3 ≡ crc_bits 104 (bit_xor (s / 16777216) (get_or xs 3 0)) → x4 ≡ crc_bits 96 (get_or xs 4 0)
-    → x5 ≡ crc_bits 88 (get_or xs 5 0) → x6 ≡ crc_bits 80 (get_or xs 6 0) → x7 ≡ crc_bits 72 (get_or xs 7 0)
-    → x8 ≡ crc_bits 64 (get_or xs 8 0) → x9 ≡ crc_bits 56 (get_or xs 9 0) → x10 ≡ crc_bits 48 (get_or xs 10 0)
-    → x11 ≡ crc_bits 40 (get_or xs 11 0) → x12 ≡ crc_bits 32 (get_or xs 12 0) → x13 ≡ crc_bits 24 (get_or xs 13 0)
-    → x14 ≡ crc_bits 16 (get_or xs 14 0) → x15 ≡ crc_bits 8 (get_or xs 15 0)
-    → bit_xor x0
-    (bit_xor x1
-    (bit_xor x2
-    (bit_xor x3
-    (bit_xor x4
-    (bit_xor x5
-    (bit_xor x6
-    (bit_xor x7 (bit_xor x8
-    (bit_xor x9 (bit_xor x10 (bit_xor x11 (bit_xor x12 (bit_xor x13 (bit_xor x14 x15)))))))))))))) ≡ crc_run s xs
-sixteen_run s xs x0 x1 x2 x3 x4 x5 x6 x7 x8 x9 x10 x11 x12 x13 x14 x15 lt len fits e0 e1 e2 e3 e4 e5 e6 e7 e8 e9 e10 e11
-    e12 e13 e14 e15 =
-    let block : crc_run s xs ≡ mixed s (get_or xs 0 0 ∷ get_or xs 1 0 ∷ get_or xs 2 0 ∷ get_or xs 3 0 ∷ get_or xs 4 0
-    ∷ get_or xs 5 0 ∷ get_or xs 6 0 ∷ get_or xs 7 0 ∷ get_or xs 8 0 ∷ get_or xs 9 0 ∷ get_or xs 10 0 ∷ get_or xs 11 0
-    ∷ get_or xs 12 0 ∷ get_or xs 13 0 ∷ get_or xs 14 0 ∷ get_or xs 15 0 ∷ []) =
-    run_mixed xs s fits
-    ∙ ap (mixed s) (cells xs len (get_or xs 0 0) (get_or xs 1 0) (get_or xs 2 0) (get_or xs 3 0) (get_or xs 4 0)
-    (get_or xs 5 0) (get_or xs 6 0) (get_or xs 7 0) (get_or xs 8 0) (get_or xs 9 0) (get_or xs 10 0) (get_or xs 11 0)
-    (get_or xs 12 0) (get_or xs 13 0) (get_or xs 14 0) (get_or xs 15 0) refl refl refl refl refl refl refl refl refl
-    refl refl refl refl refl refl refl) in
-    let spread =
-    block ∙ sixteen_mixed s (get_or xs 0 0) (get_or xs 1 0) (get_or xs 2 0) (get_or xs 3 0) (get_or xs 4 0)
-    (get_or xs 5 0) (get_or xs 6 0) (get_or xs 7 0) (get_or xs 8 0) (get_or xs 9 0) (get_or xs 10 0) (get_or xs 11 0)
-    (get_or xs 12 0) (get_or xs 13 0) (get_or xs 14 0) (get_or xs 15 0) lt in
-    rw (e0, e1, e2, e3, e4, e5, e6, e7, e8, e9, e10, e11, e12, e13, e14, e15) (sym spread)
+pub sixteen_run : (s : ℕ) (xs : List ℕ) → s < 2 ^ 32 → length xs ≡ 16 → AreBytes xs → looked_up s xs ≡ crc_run s xs
+sixteen_run s xs lt len fits =
+    sym (run_mixed xs s fits ∙ ap (mixed s) (cells_are xs len) ∙ sixteen_mixed s xs lt)
 
 pub byte_run : (s b x : ℕ) → b < 256 → x ≡ crc_bits 8 (bit_xor (s % 256) b) → bit_xor x (s / 256) ≡ crc_run s (b ∷ [])
 unfolding crc_run crc_byte
