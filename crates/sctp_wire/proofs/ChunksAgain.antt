@@ -108,15 +108,15 @@ identifier_again kinds.StringEmpty = refl
 identifier_again kinds.BinaryEmpty = refl
 identifier_again kinds.Unknown = refl
 
-payload_made : (flags : ℕ) (bytes : List ℕ) (c : ChunkPayloadData) → 12 ≤ length bytes
-    → eqb (flags / 4 % 2) 1 ≡ c.unordered → eqb (flags / 2 % 2) 1 ≡ c.beginning_fragment
-    → eqb (flags % 2) 1 ≡ c.ending_fragment → eqb (flags / 8 % 2) 1 ≡ c.immediate_sack
-    → u32_at bytes 0 ≡ c.tsn → u16_at bytes 4 ≡ c.stream_identifier → u16_at bytes 6 ≡ c.stream_sequence_number
-    → identifier_of (u32_at bytes 8) ≡ c.payload_type → drop 12 bytes ≡ c.user_data
-    → payload_data_of flags bytes ≡ Ok c
-unfolding payload_data_of
-payload_made flags bytes c long u b e i e0 e4 e6 e8 rest =
-    let t : ltb (length bytes) 12 ≡ false = le-ltb _ _ long in rw (t, u, b, e, i, e0, e4, e6, e8, rest) refl
+module _ (flags : ℕ) (bytes : List ℕ) (c : ChunkPayloadData) (long : 12 ≤ length bytes) where
+  payload_made : eqb (flags / 4 % 2) 1 ≡ c.unordered → eqb (flags / 2 % 2) 1 ≡ c.beginning_fragment
+      → eqb (flags % 2) 1 ≡ c.ending_fragment → eqb (flags / 8 % 2) 1 ≡ c.immediate_sack → u32_at bytes 0 ≡ c.tsn
+      → u16_at bytes 4 ≡ c.stream_identifier → u16_at bytes 6 ≡ c.stream_sequence_number
+      → identifier_of (u32_at bytes 8) ≡ c.payload_type → drop 12 bytes ≡ c.user_data
+      → payload_data_of flags bytes ≡ Ok c
+  unfolding payload_data_of
+  payload_made u b e i e0 e4 e6 e8 rest =
+      let t : ltb (length bytes) 12 ≡ false = le-ltb _ _ long in rw (t, u, b, e, i, e0, e4, e6, e8, rest) refl
 
 payload_again : (c : ChunkPayloadData) → IsPayloadData c
     → payload_data_of (payload_data_flags c % 256) (payload_data_value c) ≡ Ok c
@@ -157,16 +157,16 @@ block_again : (x : GapAckBlock) (rest : List ℕ) → IsBlock x → block_at (bl
 block_again x rest h =
     block_made x _ _ (from_be_bytes-to_be_bytes_2 x.start h.0) (from_be_bytes-to_be_bytes_2 x.end h.1)
 
-sack_made : (bytes : List ℕ) (b d : ℕ) (c : ChunkSelectiveAck) → 12 + 4 * b + 4 * d ≤ length bytes
-    → u32_at bytes 0 ≡ c.cumulative_tsn_ack → u32_at bytes 4 ≡ c.advertised_receiver_window_credit → u16_at bytes 8 ≡ b
-    → u16_at bytes 10 ≡ d
-    → entries_at block_at 4 b (drop 12 bytes) ≡ c.gap_ack_blocks
-    → entries_at tsn_at 4 d (drop (12 + 4 * b) bytes) ≡ c.duplicate_tsn → selective_ack_of bytes ≡ Ok c
-unfolding selective_ack_of
-sack_made bytes b d c long e0 e4 e8 e10 blocks duplicates =
-    let t : ltb (length bytes) 12 ≡ false = le-ltb _ _ (omega arith) in
-    let s : ltb (length bytes) (12 + 4 * b + 4 * d) ≡ false = le-ltb _ _ long in
-    rw (t, e8, e10, s, e0, e4, blocks, duplicates) refl
+module _ (bytes : List ℕ) (b d : ℕ) (c : ChunkSelectiveAck) where
+  sack_made : 12 + 4 * b + 4 * d ≤ length bytes → u32_at bytes 0 ≡ c.cumulative_tsn_ack
+      → u32_at bytes 4 ≡ c.advertised_receiver_window_credit → u16_at bytes 8 ≡ b → u16_at bytes 10 ≡ d
+      → entries_at block_at 4 b (drop 12 bytes) ≡ c.gap_ack_blocks
+      → entries_at tsn_at 4 d (drop (12 + 4 * b) bytes) ≡ c.duplicate_tsn → selective_ack_of bytes ≡ Ok c
+  unfolding selective_ack_of
+  sack_made long e0 e4 e8 e10 blocks duplicates =
+      let t : ltb (length bytes) 12 ≡ false = le-ltb _ _ (omega arith) in
+      let s : ltb (length bytes) (12 + 4 * b + 4 * d) ≡ false = le-ltb _ _ long in
+      rw (t, e8, e10, s, e0, e4, blocks, duplicates) refl
 
 sack_again : (c : ChunkSelectiveAck) → IsSack c → frame_fits (framed 768 (selective_ack_value c)) ≡ true
     → selective_ack_of (selective_ack_value c) ≡ Ok c
@@ -200,12 +200,12 @@ reconfig_one : (bytes : List ℕ) (f : Frame) (one : Param) → frame_at bytes �
 unfolding reconfig_of
 reconfig_one bytes f one e p = rw (e, p) refl
 
-reconfig_two : (bytes : List ℕ) (f g : Frame) (rest : List ℕ) (one two : Param) → frame_at bytes ≡ Ok (f, rest)
-    → param_of f ≡ Ok one → 4 ≤ length rest → frame_at rest ≡ Ok (g, []) → param_of g ≡ Ok two
-    → reconfig_of bytes ≡ Ok (record { first = one; second = Some two })
-unfolding reconfig_of
-reconfig_two bytes f g rest one two e p long e2 q =
-    let t : ltb (length rest) 4 ≡ false = le-ltb _ _ long in rw (e, p, t, e2, q) refl
+module _ (bytes : List ℕ) (f g : Frame) (rest : List ℕ) (one two : Param) where
+  reconfig_two : frame_at bytes ≡ Ok (f, rest) → param_of f ≡ Ok one → 4 ≤ length rest → frame_at rest ≡ Ok (g, [])
+      → param_of g ≡ Ok two → reconfig_of bytes ≡ Ok (record { first = one; second = Some two })
+  unfolding reconfig_of
+  reconfig_two e p long e2 q =
+      let t : ltb (length rest) 4 ≡ false = le-ltb _ _ long in rw (e, p, t, e2, q) refl
 
 reconfig_again : (one : Param) (o : Option Param) → AllByRecursion (IsAgain param_of param_frame) (reconfig_list one o)
     → reconfig_of (joined param_frame (reconfig_list one o)) ≡ Ok (record { first = one; second = o })
@@ -295,29 +295,29 @@ data_chunk : (f : Frame) (c : ChunkPayloadData) → f.head / 256 ≡ 0 → paylo
 unfolding chunk_of
 data_chunk f c kind e = rw (kind, e) refl
 
-none_of_all : (a b c d e f g h i j k l m n o p : Bool)
-    → not (a || b || c || d || e || f || g || h || i || j || k || l || m || n || o || p) ≡ true
-    → (a ≡ false) × (b ≡ false) × (c ≡ false) × (d ≡ false) × (e ≡ false) × (f ≡ false) × (g ≡ false) × (h ≡ false)
-    × (i ≡ false) × (j ≡ false) × (k ≡ false) × (l ≡ false) × (m ≡ false) × (n ≡ false) × (o ≡ false) × (p ≡ false)
-none_of_all a b c d e f g h i j k l m n o p plain =
-    let p15 =
-    or_parts (a || b || c || d || e || f || g || h || i || j || k || l || m || n || o) p
-    (not-true (a || b || c || d || e || f || g || h || i || j || k || l || m || n || o || p) plain) in
-    let p14 = or_parts (a || b || c || d || e || f || g || h || i || j || k || l || m || n) o p15.0 in
-    let p13 = or_parts (a || b || c || d || e || f || g || h || i || j || k || l || m) n p14.0 in
-    let p12 = or_parts (a || b || c || d || e || f || g || h || i || j || k || l) m p13.0 in
-    let p11 = or_parts (a || b || c || d || e || f || g || h || i || j || k) l p12.0 in
-    let p10 = or_parts (a || b || c || d || e || f || g || h || i || j) k p11.0 in
-    let p9 = or_parts (a || b || c || d || e || f || g || h || i) j p10.0 in
-    let p8 = or_parts (a || b || c || d || e || f || g || h) i p9.0 in
-    let p7 = or_parts (a || b || c || d || e || f || g) h p8.0 in
-    let p6 = or_parts (a || b || c || d || e || f) g p7.0 in
-    let p5 = or_parts (a || b || c || d || e) f p6.0 in
-    let p4 = or_parts (a || b || c || d) e p5.0 in
-    let p3 = or_parts (a || b || c) d p4.0 in
-    let p2 = or_parts (a || b) c p3.0 in
-    let p1 = or_parts (a) b p2.0 in
-    (p1.0, p1.1, p2.1, p3.1, p4.1, p5.1, p6.1, p7.1, p8.1, p9.1, p10.1, p11.1, p12.1, p13.1, p14.1, p15.1)
+module _ (a b c d e f g h i j k l m n o p : Bool) where
+  none_of_all : not (a || b || c || d || e || f || g || h || i || j || k || l || m || n || o || p) ≡ true
+      → (a ≡ false) × (b ≡ false) × (c ≡ false) × (d ≡ false) × (e ≡ false) × (f ≡ false) × (g ≡ false) × (h ≡ false)
+      × (i ≡ false) × (j ≡ false) × (k ≡ false) × (l ≡ false) × (m ≡ false) × (n ≡ false) × (o ≡ false) × (p ≡ false)
+  none_of_all plain =
+      let p15 =
+      or_parts (a || b || c || d || e || f || g || h || i || j || k || l || m || n || o) p
+      (not-true (a || b || c || d || e || f || g || h || i || j || k || l || m || n || o || p) plain) in
+      let p14 = or_parts (a || b || c || d || e || f || g || h || i || j || k || l || m || n) o p15.0 in
+      let p13 = or_parts (a || b || c || d || e || f || g || h || i || j || k || l || m) n p14.0 in
+      let p12 = or_parts (a || b || c || d || e || f || g || h || i || j || k || l) m p13.0 in
+      let p11 = or_parts (a || b || c || d || e || f || g || h || i || j || k) l p12.0 in
+      let p10 = or_parts (a || b || c || d || e || f || g || h || i || j) k p11.0 in
+      let p9 = or_parts (a || b || c || d || e || f || g || h || i) j p10.0 in
+      let p8 = or_parts (a || b || c || d || e || f || g || h) i p9.0 in
+      let p7 = or_parts (a || b || c || d || e || f || g) h p8.0 in
+      let p6 = or_parts (a || b || c || d || e || f) g p7.0 in
+      let p5 = or_parts (a || b || c || d || e) f p6.0 in
+      let p4 = or_parts (a || b || c || d) e p5.0 in
+      let p3 = or_parts (a || b || c) d p4.0 in
+      let p2 = or_parts (a || b) c p3.0 in
+      let p1 = or_parts (a) b p2.0 in
+      (p1.0, p1.1, p2.1, p3.1, p4.1, p5.1, p6.1, p7.1, p8.1, p9.1, p10.1, p11.1, p12.1, p13.1, p14.1, p15.1)
 
 other_chunk : (f : Frame) (kind flags : ℕ) → f.head / 256 ≡ kind → f.head % 256 ≡ flags
     → not (eqb kind 0 || eqb kind 1 || eqb kind 2 || eqb kind 3 || eqb kind 4 || eqb kind 5 || eqb kind 6 || eqb kind 7

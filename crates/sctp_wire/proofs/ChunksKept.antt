@@ -231,11 +231,8 @@ ChunkKept len c = IsWholeChunk c × (length (chunk_frame c).value ≤ len)
 fits_below : (a b : ℕ) → a ≤ b → b < 65532 → ltb a 65532 ≡ true
 fits_below a b le lt = lt-ltb a 65532 (omega arith)
 
-no_kind : (a b c d e f g h i j k l m n o p : Bool) → a ≡ false → b ≡ false → c ≡ false → d ≡ false → e ≡ false
-    → f ≡ false → g ≡ false → h ≡ false → i ≡ false → j ≡ false → k ≡ false → l ≡ false → m ≡ false → n ≡ false
-    → o ≡ false → p ≡ false → not (a || b || c || d || e || f || g || h || i || j || k || l || m || n || o || p) ≡ true
-no_kind a b c d e f g h i j k l m n o p e0 e1 e2 e3 e4 e5 e6 e7 e8 e9 e10 e11 e12 e13 e14 e15 =
-    rw (e0, e1, e2, e3, e4, e5, e6, e7, e8, e9, e10, e11, e12, e13, e14, e15) refl
+neither : {a b : Bool} → a ≡ false → b ≡ false → (a || b) ≡ false
+neither x y = rw (x, y) refl
 
 abbrev done : Chunk → Result Chunk Fault
 done c = Ok c
@@ -402,11 +399,11 @@ chunk_case f c e h =
     choose (eqb (f.head / 256) 130) _ _ _ e12 (λ t k. reconfig_case f c h k) (λ n13 e13.
     choose (eqb (f.head / 256) 192) _ _ _ e13 (λ t k. forward_case f c h k) (λ n14 e14.
     choose (eqb (f.head / 256) 194) _ _ _ e14 (λ t k. i_forward_case f c h k) (λ n15 e15.
-    other_case f c h e15 (no_kind (eqb (f.head / 256) 0) (eqb (f.head / 256) 1) (eqb (f.head / 256) 2)
-    (eqb (f.head / 256) 3) (eqb (f.head / 256) 4) (eqb (f.head / 256) 5) (eqb (f.head / 256) 6) (eqb (f.head / 256) 7)
-    (eqb (f.head / 256) 8) (eqb (f.head / 256) 9) (eqb (f.head / 256) 10) (eqb (f.head / 256) 11)
-    (eqb (f.head / 256) 14) (eqb (f.head / 256) 130) (eqb (f.head / 256) 192) (eqb (f.head / 256) 194) n0 n1 n2 n3 n4 n5
-    n6 n7 n8 n9 n10 n11 n12 n13 n14 n15)))))))))))))))))
+    let low = neither (neither (neither n0 n1) n2) n3 in
+    let more = neither (neither (neither (neither low n4) n5) n6) n7 in
+    let further = neither (neither (neither (neither more n8) n9) n10) n11 in
+    let all = neither (neither (neither (neither further n12) n13) n14) n15 in
+    other_case f c h e15 (ap not all)))))))))))))))))
 
 pub record AreWholeChunks (cs : List Chunk) : Type 0 where
   pub ranges : AllByRecursion IsChunk cs

@@ -102,14 +102,14 @@ regroup : {A : Type 0} (front : List A) (x : A) (r : Result (List A) Fault)
 regroup front x (Ok xs) = ap done (simp append_assoc)
 regroup front x (Err d) = refl
 
-pub goes_on : {A : Type 0} (item_of : Frame → Result A Fault) (least : ℕ) (front : List A) (bytes : List ℕ) (f : Frame)
-    (rest : List ℕ) (x : A) (total : Result (List A) Fault)
-    → least ≤ length bytes → frame_at bytes ≡ Ok (f, rest) → item_of f ≡ Ok x
-    → with_front front (items_at item_of least bytes) ≡ total
-    → with_front (front ++ x ∷ []) (items_at item_of least rest) ≡ total
-goes_on item_of least front bytes f rest x total le e i so_far =
-    sym (regroup front x (items_at item_of least rest))
-    ∙ sym (ap (with_front front) (items_step item_of least bytes f rest le e ∙ rw i refl)) ∙ so_far
+module _ {A : Type 0} (item_of : Frame → Result A Fault) (least : ℕ) (front : List A) (bytes : List ℕ)
+    (f : Frame) (rest : List ℕ) (x : A) (total : Result (List A) Fault) where
+  pub goes_on : least ≤ length bytes → frame_at bytes ≡ Ok (f, rest) → item_of f ≡ Ok x
+      → with_front front (items_at item_of least bytes) ≡ total
+      → with_front (front ++ x ∷ []) (items_at item_of least rest) ≡ total
+  goes_on le e i so_far =
+      sym (regroup front x (items_at item_of least rest))
+      ∙ sym (ap (with_front front) (items_step item_of least bytes f rest le e ∙ rw i refl)) ∙ so_far
 
 pub frame_fails : {A : Type 0} (item_of : Frame → Result A Fault) (least : ℕ) (front : List A) (bytes : List ℕ)
     (e : WireError) (total : Result (List A) Fault)
@@ -119,14 +119,15 @@ frame_fails item_of least front bytes wire.NoMemory total le h so_far = tt
 frame_fails item_of least front bytes (wire.Malformed d) total le h so_far =
     sym so_far ∙ ap (with_front front) (items_fault item_of least bytes d le h)
 
-pub item_fails : {A : Type 0} (item_of : Frame → Result A Fault) (least : ℕ) (front : List A) (bytes : List ℕ)
-    (f : Frame) (rest : List ℕ) (e : WireError) (total : Result (List A) Fault)
-    → least ≤ length bytes → frame_at bytes ≡ Ok (f, rest) → Fails e (item_of f)
-    → with_front front (items_at item_of least bytes) ≡ total → Fails e total
-item_fails item_of least front bytes f rest wire.NoMemory total le i h so_far = tt
-item_fails item_of least front bytes f rest (wire.Malformed d) total le i h so_far =
-    let step : items_at item_of least bytes ≡ Err d = items_step item_of least bytes f rest le i ∙ rw h refl in
-    sym so_far ∙ ap (with_front front) step
+module _ {A : Type 0} (item_of : Frame → Result A Fault) (least : ℕ) (front : List A) (bytes : List ℕ)
+    (f : Frame) (rest : List ℕ) where
+  pub item_fails : (e : WireError) (total : Result (List A) Fault) → least ≤ length bytes
+      → frame_at bytes ≡ Ok (f, rest)
+      → Fails e (item_of f) → with_front front (items_at item_of least bytes) ≡ total → Fails e total
+  item_fails wire.NoMemory total le i h so_far = tt
+  item_fails (wire.Malformed d) total le i h so_far =
+      let step : items_at item_of least bytes ≡ Err d = items_step item_of least bytes f rest le i ∙ rw h refl in
+      sym so_far ∙ ap (with_front front) step
 
 pub is_done : {A : Type 0} (item_of : Frame → Result A Fault) (least : ℕ) (front : List A) (bytes : List ℕ)
     (total : Result (List A) Fault)

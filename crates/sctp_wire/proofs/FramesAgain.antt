@@ -21,17 +21,17 @@ pub length-zeros : (n : ℕ) → length (zeros n) ≡ n
 length-zeros zero = refl
 length-zeros (suc n) = ap suc (length-zeros n)
 
--- a frame, from what stands at its places
-frame_made : (bytes : List ℕ) (head l : ℕ) (value rest : List ℕ) → 4 + l ≤ length bytes → u16_at bytes 0 ≡ head
-    → u16_at bytes 2 ≡ 4 + l → take l (drop 4 bytes) ≡ value → drop (padded_len (4 + l)) bytes ≡ rest
-    → frame_at bytes ≡ Ok (record { head = head; value = value }, rest)
-unfolding frame_at
-frame_made bytes head l value rest long e0 e2 v r =
-    let t0 : ltb (length bytes) 4 ≡ false = le-ltb _ _ (omega arith) in
-    let t1 : ltb (4 + l) 4 ≡ false = le-ltb _ _ (omega arith) in
-    let t2 : ltb (length bytes) (4 + l) ≡ false = le-ltb _ _ long in
-    let less : 4 + l - 4 ≡ l = omega arith in
-    rw (t0, e2, t1, t2, less, e0, v, r) refl
+module _ (bytes : List ℕ) (head l : ℕ) (value rest : List ℕ) where
+  -- a frame, from what stands at its places
+  frame_made : 4 + l ≤ length bytes → u16_at bytes 0 ≡ head → u16_at bytes 2 ≡ 4 + l → take l (drop 4 bytes) ≡ value
+      → drop (padded_len (4 + l)) bytes ≡ rest → frame_at bytes ≡ Ok (record { head = head; value = value }, rest)
+  unfolding frame_at
+  frame_made long e0 e2 v r =
+      let t0 : ltb (length bytes) 4 ≡ false = le-ltb _ _ (omega arith) in
+      let t1 : ltb (4 + l) 4 ≡ false = le-ltb _ _ (omega arith) in
+      let t2 : ltb (length bytes) (4 + l) ≡ false = le-ltb _ _ long in
+      let less : 4 + l - 4 ≡ l = omega arith in
+      rw (t0, e2, t1, t2, less, e0, v, r) refl
 
 pub frame_bare : (f : Frame) (tail : List ℕ) → frame_fits f ≡ true → f.head < 2 ^ 16
     → frame_at (bare f ++ tail) ≡ Ok (f, drop (pad_len (length f.value)) tail)

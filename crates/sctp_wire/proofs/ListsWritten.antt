@@ -33,12 +33,13 @@ all_done p xs i le so_far = sym so_far ∙ at_drop_all (list_all p) xs i le
 
 -- ---- bytes, all items with their padding
 
-pub flat_map_next : {A : Type 0} (f : A → List ℕ) (old out new : List ℕ) (xs : List A) (i : ℕ) (x : A) → i < length xs
-    → x ≡ get_or xs i x → new ≡ out ++ f x → out ≡ old ++ flat_map f (take i xs)
-    → new ≡ old ++ flat_map f (take (i + 1) xs)
-flat_map_next f old out new xs i x lt is made so_far =
-    made ∙ ap (λ (r : List ℕ). r ++ f x) so_far ∙ flat_map_more f old (take i xs) x
-    ∙ ap (λ y. old ++ flat_map f (take i xs ++ y ∷ [])) is ∙ ap (λ ys. old ++ flat_map f ys) (sym (take_more xs i x lt))
+module _ {A : Type 0} (f : A → List ℕ) (old out new : List ℕ) (xs : List A) (i : ℕ) (x : A) where
+  pub flat_map_next : i < length xs → x ≡ get_or xs i x → new ≡ out ++ f x → out ≡ old ++ flat_map f (take i xs)
+      → new ≡ old ++ flat_map f (take (i + 1) xs)
+  flat_map_next lt is made so_far =
+      made ∙ ap (λ (r : List ℕ). r ++ f x) so_far ∙ flat_map_more f old (take i xs) x
+      ∙ ap (λ y. old ++ flat_map f (take i xs ++ y ∷ [])) is
+      ∙ ap (λ ys. old ++ flat_map f ys) (sym (take_more xs i x lt))
 
 -- ---- bytes, all items but the last with their padding
 
@@ -63,20 +64,20 @@ unfolding owed joined
 owed_all frame_of [] = refl
 owed_all frame_of (x ∷ xs) = owed_joined frame_of 0 x xs
 
-pub owed_next : {A : Type 0} (frame_of : A → Frame) (last : ℕ) (out new : List ℕ) (xs : List A) (i : ℕ) (x : A) (n : ℕ)
-    (total : List ℕ)
-    → i < length xs → x ≡ get_or xs i x → new ≡ (out ++ zeros (pad_len last)) ++ bare (frame_of x)
-    → n ≡ length (frame_of x).value → out ++ owed frame_of last (drop i xs) ≡ total
-    → new ++ owed frame_of n (drop (i + 1) xs) ≡ total
-unfolding owed
-owed_next frame_of last out new xs i x n total lt is made len so_far =
-    let step = from_item (owed frame_of last) xs i x lt is in
-    let flat : ((out ++ zeros (pad_len last)) ++ bare (frame_of x))
-    ++ owed frame_of (length (frame_of x).value) (drop (i + 1) xs)
-    ≡ out
-    ++ (zeros (pad_len last) ++ (bare (frame_of x) ++ owed frame_of (length (frame_of x).value) (drop (i + 1) xs))) =
-    simp append_assoc in
-    rw (made, len) (flat ∙ sym (ap (λ (r : List ℕ). out ++ r) step) ∙ so_far)
+module _ {A : Type 0} (frame_of : A → Frame) (last : ℕ) (out new : List ℕ) (xs : List A) (i : ℕ) (x : A) (n : ℕ)
+    (total : List ℕ) where
+  pub owed_next : i < length xs → x ≡ get_or xs i x → new ≡ (out ++ zeros (pad_len last)) ++ bare (frame_of x)
+      → n ≡ length (frame_of x).value → out ++ owed frame_of last (drop i xs) ≡ total
+      → new ++ owed frame_of n (drop (i + 1) xs) ≡ total
+  unfolding owed
+  owed_next lt is made len so_far =
+      let step = from_item (owed frame_of last) xs i x lt is in
+      let flat : ((out ++ zeros (pad_len last)) ++ bare (frame_of x))
+      ++ owed frame_of (length (frame_of x).value) (drop (i + 1) xs)
+      ≡ out
+      ++ (zeros (pad_len last) ++ (bare (frame_of x) ++ owed frame_of (length (frame_of x).value) (drop (i + 1) xs))) =
+      simp append_assoc in
+      rw (made, len) (flat ∙ sym (ap (λ (r : List ℕ). out ++ r) step) ∙ so_far)
 
 pub owed_end : {A : Type 0} (frame_of : A → Frame) (last : ℕ) (out : List ℕ) (xs : List A) (i : ℕ) (total : List ℕ)
     → length xs ≤ i → out ++ owed frame_of last (drop i xs) ≡ total → out ≡ total
@@ -86,12 +87,13 @@ owed_end frame_of last out xs i total le so_far =
 
 -- ---- a frame whose value is written in place
 
-pub frame_written : (old one two three : List ℕ) (h head l : ℕ) (value : List ℕ) → h ≡ head → l ≡ length value
-    → l < 65532
-    → one ≡ old ++ to_be_bytes w16 h ++ to_be_bytes w16 (4 + l) → two ≡ one ++ value → three ≡ two ++ zeros (pad_len l)
-    → (frame_fits (framed head value) ≡ true) × (three ≡ old ++ padded (framed head value))
-frame_written old one two three h head l value e len lt first second third =
-    (rw (← len) (lt-ltb _ _ lt), rw (third, second, first, e, len) (simp append_assoc))
+module _ (old one two three : List ℕ) (h head l : ℕ) (value : List ℕ) where
+  pub frame_written : h ≡ head → l ≡ length value → l < 65532
+      → one ≡ old ++ to_be_bytes w16 h ++ to_be_bytes w16 (4 + l)
+      → two ≡ one ++ value → three ≡ two ++ zeros (pad_len l)
+      → (frame_fits (framed head value) ≡ true) × (three ≡ old ++ padded (framed head value))
+  frame_written e len lt first second third =
+      (rw (← len) (lt-ltb _ _ lt), rw (third, second, first, e, len) (simp append_assoc))
 
 -- ---- lengths of entries
 

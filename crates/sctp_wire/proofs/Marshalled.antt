@@ -23,12 +23,12 @@ whole out items len same is =
     ap (λ rest. take len (out ++ rest)) nothing ∙ ap (λ all. take len all) (append-nil out)
     ∙ take_all len out (omega arith)
 
-pub marshalled : (p : Packet) (items out last : List ℕ) (sum len : ℕ) → packet_fits p ≡ true → items ≡ unsummed p
-    → sum ≡ sum_of_packet items
-    → out ≡ take 8 items ++ to_le_bytes w32 sum ++ drop 12 items → last ≡ take len (out ++ drop (length out) items)
-    → len ≡ length items → written p ≡ Ok last
-unfolding written
-marshalled p items out last sum len fits made summing put ended is =
-    let spelled =
-    ended ∙ whole out items len (same_length p items out sum made put) is ∙ summed p items out sum made summing put in
-    rw (fits, spelled) refl
+module _ (p : Packet) (items out last : List ℕ) (sum len : ℕ) where
+  pub marshalled : packet_fits p ≡ true → items ≡ unsummed p → sum ≡ sum_of_packet items
+      → out ≡ take 8 items ++ to_le_bytes w32 sum ++ drop 12 items → last ≡ take len (out ++ drop (length out) items)
+      → len ≡ length items → written p ≡ Ok last
+  unfolding written
+  marshalled fits made summing put ended is =
+      let spelled =
+      ended ∙ whole out items len (same_length p items out sum made put) is ∙ summed p items out sum made summing put in
+      rw (fits, spelled) refl

@@ -87,9 +87,9 @@ ParamKept len p = IsWhole p × (length (param_frame p).value ≤ len)
 fits_below : (a b : ℕ) → a ≤ b → b < 65532 → ltb a 65532 ≡ true
 fits_below a b le lt = lt-ltb a 65532 (omega arith)
 
-not_any_of_five : (a b c d e : Bool) → a ≡ false → b ≡ false → c ≡ false → d ≡ false → e ≡ false
-    → not (a || b || c || d || e) ≡ true
-not_any_of_five a b c d e p q r s t = rw (p, q, r, s, t) refl
+module _ (a b c d e : Bool) where
+  not_any_of_five : a ≡ false → b ≡ false → c ≡ false → d ≡ false → e ≡ false → not (a || b || c || d || e) ≡ true
+  not_any_of_five p q r s t = rw (p, q, r, s, t) refl
 
 pub param_kept : (f : Frame) (p : Param) → param_of f ≡ Ok p → f.head < 2 ^ 16 → length f.value < 65532
     → AreBytes f.value → ParamKept (length f.value) p
@@ -140,7 +140,7 @@ pub params_kept : (bytes : List ℕ) (ps : List Param) → AreBytes bytes → pa
     → AreWhole ps × (length (joined param_frame ps) ≤ length bytes)
 params_kept bytes ps h e =
     let kept =
-    items_kept IsWhole param_of param_frame 4 (λ f p e head short fits. param_kept f p e head short fits)
+    items_kept IsWhole param_of param_frame 4 param_kept
     bytes ps h e in
     (all_whole_params ps kept.0, kept.1)
 
@@ -172,6 +172,6 @@ pub causes_kept : (bytes : List ℕ) (cs : List ErrorCause) → AreBytes bytes �
     → AreCauses cs × (length (joined cause_frame cs) ≤ length bytes)
 causes_kept bytes cs h e =
     let kept =
-    items_kept CauseFits cause_of cause_frame 4 (λ f c e head short fits. cause_kept f c e head short fits)
+    items_kept CauseFits cause_of cause_frame 4 cause_kept
     bytes cs h e in
     (all_causes cs kept.0, kept.1)
