@@ -98,13 +98,18 @@ nothing_waits q l =
     let b : q.ordered ≡ [] = nil_from_length q.ordered (omega arith) in
     ap (next_from q) a ∙ ap (λ z. next_of q (least z)) b
 
--- after all that is ready was read: what holds still, and no read gives anything
-pub record IsDrained (p : Plan) (gone : ℕ → ℕ → Bool) (current : Option Place) (next_number ssn : ℕ) (taken : List ℕ)
-    (passed skipped s : ℕ) (reads : List Got) (d : Drained) : Type 0 where
-  pub stream : IsStream p gone current next_number ssn taken passed skipped s d.rest (reads ++ d.gots)
-  pub near : unread p s (reads ++ d.gots) < 32768
-  pub on : read_end p 0 reads ≤ read_end p 0 (reads ++ d.gots)
-  pub none : next d.rest ≡ None
+module _ (p : Plan) (gone : ℕ → ℕ → Bool) (current : Option Place) (next_number ssn : ℕ) (taken : List ℕ)
+    (passed skipped s : ℕ) where
+  -- what holds of the stream, by its queue and what was read of it
+  abbrev IsStreamLeft : Queue → List Got → Type 0
+  IsStreamLeft = IsStream p gone current next_number ssn taken passed skipped s
+
+  -- after all that is ready was read: what holds still, and no read gives anything
+  pub record IsDrained (reads : List Got) (d : Drained) : Type 0 where
+    pub stream : IsStreamLeft d.rest (reads ++ d.gots)
+    pub near : unread p s (reads ++ d.gots) < 32768
+    pub on : read_end p 0 reads ≤ read_end p 0 (reads ++ d.gots)
+    pub none : next d.rest ≡ None
 
 count_less : (ms : List Message) (i j : ℕ) → i ≤ j → count_ordered (drop j ms) ≤ count_ordered (drop i ms)
 count_less [] zero zero l = omega arith

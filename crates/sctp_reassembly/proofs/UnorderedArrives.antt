@@ -23,8 +23,7 @@ use Rattle.sctp_reassembly.specs.Laws.{UnorderedPiecesStand}
 use Rattle.sctp_reassembly.specs.Stands.{AreRuns, CarryDataOf, IsForBytesAlone, IsLoose, StandsFor, letter_received}
 use Rattle.sctp_reassembly.specs.Stands.{runs_of, CarriesData}
 use Rattle.sctp_reassembly.proofs.UnorderedEnters.{AreSmall, IsEntered, IsIncomplete, entered, finished_is, all_past}
-use Rattle.sctp_reassembly.proofs.UnorderedEnters.{not_past, place_between}
-use Rattle.sctp_reassembly.proofs.UnorderedEnters.{runs_join, runs_split}
+use Rattle.sctp_reassembly.proofs.UnorderedEnters.{not_past, place_between, runs_join, runs_split}
 use Rattle.sctp_reassembly.proofs.UnorderedFits.{beside, fits_between}
 use Rattle.sctp_reassembly.proofs.UnorderedFound.{AreHeld, is_whole, whole_found}
 use Rattle.sctp_reassembly.proofs.MessageRuns.{run_at}

@@ -148,36 +148,35 @@ Keeps {A = A} P item_of frame_of =
     (f : Frame) (x : A) → item_of f ≡ Ok x → f.head < 2 ^ 16 → length f.value < 65532 → AreBytes f.value
     → P x × (length (frame_of x).value ≤ length f.value)
 
-within_kept : {A : Type 0} (P : A → Type 0) (item_of : Frame → Result A Fault) (frame_of : A → Frame) (least : ℕ)
-    → Keeps P item_of frame_of
-    → (n : ℕ) (bytes : List ℕ) (xs : List A) → AreBytes bytes → items_within n item_of least bytes ≡ Ok xs
-    → AllByRecursion P xs × (length (joined frame_of xs) ≤ length bytes)
-unfolding items_within joined
-within_kept {A = A} P item_of frame_of least each zero bytes xs h e =
-    subst (λ (ys : List A). AllByRecursion P ys × (length (joined frame_of ys) ≤ length bytes)) (ok_is [] xs e)
-    (tt, omega arith)
-within_kept {A = A} P item_of frame_of least each (suc n) bytes xs h e =
-    choose (ltb (length bytes) least) _ _ _ e
-    (λ t k. subst (λ (ys : List A). AllByRecursion P ys × (length (joined frame_of ys) ≤ length bytes)) (ok_is [] xs k)
-    (tt, omega arith))
-    (λ t k.
-    let a =
-    bind_ok (frame_at bytes) (λ frame. item_of frame.0 >>= λ item. items_within n item_of least frame.1 >>= λ items.
-    Ok (item ∷ items)) xs k in
-    let b =
-    bind_ok (item_of a.0.0) (λ item. items_within n item_of least a.0.1 >>= λ items. Ok (item ∷ items)) xs a.2 in
-    let c = bind_ok (items_within n item_of least a.0.1) (λ items. Ok (b.0 ∷ items)) xs b.2 in
-    let f = frame_kept bytes a.0.0 a.0.1 h a.1 in
-    let here = each a.0.0 b.0 b.1 f.head f.short f.value in
-    let others = within_kept P item_of frame_of least each n a.0.1 c.0 f.others c.1 in
-    subst (λ (ys : List A). AllByRecursion P ys × (length (joined frame_of ys) ≤ length bytes))
-    (ok_is (b.0 ∷ c.0) xs c.2)
-    ((here.0, others.0), joined_length frame_of b.0 c.0 bytes a.0.0 a.0.1 f here.1 others.1))
+module _ {A : Type 0} (P : A → Type 0) (item_of : Frame → Result A Fault) (frame_of : A → Frame) (least : ℕ)
+    (each : Keeps P item_of frame_of) where
+  within_kept : (n : ℕ) (bytes : List ℕ) (xs : List A) → AreBytes bytes → items_within n item_of least bytes ≡ Ok xs
+      → AllByRecursion P xs × (length (joined frame_of xs) ≤ length bytes)
+  unfolding items_within joined
+  within_kept zero bytes xs h e =
+      subst (λ (ys : List A). AllByRecursion P ys × (length (joined frame_of ys) ≤ length bytes)) (ok_is [] xs e)
+      (tt, omega arith)
+  within_kept (suc n) bytes xs h e =
+      choose (ltb (length bytes) least) _ _ _ e
+      (λ t k. subst (λ (ys : List A). AllByRecursion P ys × (length (joined frame_of ys) ≤ length bytes))
+      (ok_is [] xs k)
+      (tt, omega arith))
+      (λ t k.
+      let a =
+      bind_ok (frame_at bytes) (λ frame. item_of frame.0 >>= λ item. items_within n item_of least frame.1 >>= λ items.
+      Ok (item ∷ items)) xs k in
+      let b =
+      bind_ok (item_of a.0.0) (λ item. items_within n item_of least a.0.1 >>= λ items. Ok (item ∷ items)) xs a.2 in
+      let c = bind_ok (items_within n item_of least a.0.1) (λ items. Ok (b.0 ∷ items)) xs b.2 in
+      let f = frame_kept bytes a.0.0 a.0.1 h a.1 in
+      let here = each a.0.0 b.0 b.1 f.head f.short f.value in
+      let others = within_kept n a.0.1 c.0 f.others c.1 in
+      subst (λ (ys : List A). AllByRecursion P ys × (length (joined frame_of ys) ≤ length bytes))
+      (ok_is (b.0 ∷ c.0) xs c.2)
+      ((here.0, others.0), joined_length frame_of b.0 c.0 bytes a.0.0 a.0.1 f here.1 others.1))
 
-pub items_kept : {A : Type 0} (P : A → Type 0) (item_of : Frame → Result A Fault) (frame_of : A → Frame) (least : ℕ)
-    → Keeps P item_of frame_of
-    → (bytes : List ℕ) (xs : List A) → AreBytes bytes → items_at item_of least bytes ≡ Ok xs
-    → AllByRecursion P xs × (length (joined frame_of xs) ≤ length bytes)
-unfolding items_at
-items_kept P item_of frame_of least each bytes xs h e =
-    within_kept P item_of frame_of least each (suc (length bytes)) bytes xs h e
+  pub items_kept : (bytes : List ℕ) (xs : List A) → AreBytes bytes → items_at item_of least bytes ≡ Ok xs
+      → AllByRecursion P xs × (length (joined frame_of xs) ≤ length bytes)
+  unfolding items_at
+  items_kept bytes xs h e =
+      within_kept (suc (length bytes)) bytes xs h e
