@@ -140,8 +140,7 @@ module _ {p : Plan} {over : ℕ → Bool} {current : Option Place} {next' ssn : 
       go (next q) refl (λ t e.
       let a = read_on t hp v g below near w e in
       let c = count_less (p.accepted s) (read_end p 0 reads) (read_end p 0 (reads ++ t.got ∷ [])) a in
-      drained n t.rest (reads ++ t.got ∷ [])
-      (omega arith) (let r = read_shrinks q t e in omega arith)
+      drained n t.rest (reads ++ t.got ∷ []) (omega arith) (let r = read_shrinks q t e in omega arith)
       (stream_read t hp v g below near w e))
     where
       go : (x : Option Taken) → next q ≡ x

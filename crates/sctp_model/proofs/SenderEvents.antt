@@ -110,8 +110,7 @@ module _ (w : Direction) (r : Plan) (c : Option Place) (nx sn : ℕ → ℕ) (bg
         let st =
         stream_gone w.sender.plan w.sender.gone gone' w.sender.current (w.sender.next s)
         (w.sender.ssn s) w.receiver.taken
-        w.receiver.passed (w.skipped s) s
-        (live (w.receiver.queues s)) (w.reads s) more (h.streams s v) in
+        w.receiver.passed (w.skipped s) s (live (w.receiver.queues s)) (w.reads s) more (h.streams s v) in
         stream_grows w.sender.plan r gone' w.sender.current c (w.sender.next s) (nx s) (w.sender.ssn s) (sn s)
         w.receiver.taken w.receiver.passed (w.skipped s) s
         (live (w.receiver.queues s)) (w.reads s) e (λ o m. (h.taken o m).0) planned.filled (h.sending.within s) st

@@ -170,8 +170,7 @@ module _ (p r : Plan) (gone : ℕ → ℕ → Bool) (current current' : Option P
             (sym (read_end_kept p r e taken s 0 reads got))
             (subst (λ z. IsOrderedNow z (read_end p 0 reads) q reads)
             (sym (read_ssn_kept p r e taken s 0 reads got))
-            (ordered_grows (read_ssn p 0 reads)
-            (read_end p 0 reads) got
+            (ordered_grows (read_ssn p 0 reads) (read_end p 0 reads) got
             (let a = w.ordered.until in omega arith) w.ordered new c));
         unordered = unordered_grows (reads ++ q.complete) w.got filled w.unordered;
       }

@@ -355,6 +355,5 @@ module _ {p : Plan} {over : ℕ → Bool} {current : Option Place} {next ssn : �
               ordered_on p gone current (next s) (ssn s) taken passed f.reach skipped s (read_ssn p 0 reads)
               (read_end p 0 reads) q (drop_unordered f.reach q) reads refl refl far w.ordered
           ordered (Some c) e =
-              ordered_skipped
-              hp v g hf (hf.reported s c e) (hf.all s c e v) far flight near w.ordered
+              ordered_skipped hp v g hf (hf.reported s c e) (hf.all s c e v) far flight near w.ordered
               (drop_unordered f.reach (skip q (c % 65536))) refl refl

@@ -133,8 +133,7 @@ module _ (p : Plan) (gone : ℕ → ℕ → Bool) (current : Option Place) (next
     below = w.below;
     complete = w.complete;
     ordered =
-        ordered_aside (read_ssn p 0 reads) (read_end p 0 reads) q q reads
-        refl refl (λ a. apart a.stream) w.ordered;
+        ordered_aside (read_ssn p 0 reads) (read_end p 0 reads) q q reads refl refl (λ a. apart a.stream) w.ordered;
     unordered =
         let u = w.unordered in
         record {

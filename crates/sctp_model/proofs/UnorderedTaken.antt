@@ -307,8 +307,7 @@ module _ (p : Plan) (over : ℕ → Bool) (gone : ℕ → ℕ → Bool) (current
           (read_end p 0 reads) q' reads
       ordered q' c o =
           ordered_aside p gone current next ssn taken passed skipped s (read_ssn p 0 reads) (read_end p 0 reads)
-          q q' reads c o
-          (λ b. true≢false (sym b.kind ∙ a.kind)) w.ordered
+          q q' reads c o (λ b. true≢false (sym b.kind ∙ a.kind)) w.ordered
 
       go : (r : Option Run) → first_complete (d ∷ q.unordered) (d ∷ q.unordered) ≡ r
           → IsStreamOf (d.offset ∷ taken) (settle (with_unordered q d) r) reads

@@ -108,27 +108,26 @@ all_alone initial p s held (g ∷ gs) (h ∷ hs) r a t f = (
       (full_rest held hs r a.0 f),
 )
 
--- from what the relation says
-pub there_from : (p : Plan) (held : List Data) (hs : List Held)
-    → ((o : ℕ) → at o held ≡ cond (mem o (offsets_in hs)) (Some (data_at p o)) None) → AreThere p held hs
-there_from p held hs same x m = same x ∙ cond-true (mem x (offsets_in hs)) (Some (data_at p x)) None m
+module _ (p : Plan) (held : List Data) (hs : List Held)
+    (same : (o : ℕ) → at o held ≡ cond (mem o (offsets_in hs)) (Some (data_at p o)) None) where
+  -- from what the relation says
+  pub there_from : AreThere p held hs
+  there_from x m = same x ∙ cond-true (mem x (offsets_in hs)) (Some (data_at p x)) None m
 
-pub in_from : (p : Plan) (held : List Data) (hs : List Held)
-    → ((o : ℕ) → at o held ≡ cond (mem o (offsets_in hs)) (Some (data_at p o)) None)
-    → (x : ℕ) (d : Data) → at x held ≡ Some d → mem x (offsets_in hs) ≡ true
-in_from p held hs same x d e =
-    ⊎_elim
-    (λ (b : mem x (offsets_in hs) ≡ true). b)
-    (λ (b : mem x (offsets_in hs) ≡ false).
-    absurd (none_some (sym (cond-false (mem x (offsets_in hs)) (Some (data_at p x)) None b) ∙ sym (same x) ∙ e)))
-    (cases_Bool (mem x (offsets_in hs)))
-  where
-    none_some : None ≡ Some d → ⊥
-    none_some i = cc
+  pub in_from : (x : ℕ) (d : Data) → at x held ≡ Some d → mem x (offsets_in hs) ≡ true
+  in_from x d e =
+      ⊎_elim
+      (λ (b : mem x (offsets_in hs) ≡ true). b)
+      (λ (b : mem x (offsets_in hs) ≡ false).
+      absurd (none_some (sym (cond-false (mem x (offsets_in hs)) (Some (data_at p x)) None b) ∙ sym (same x) ∙ e)))
+      (cases_Bool (mem x (offsets_in hs)))
+    where
+      none_some : None ≡ Some d → ⊥
+      none_some i = cc
 
-pub full_from : (p : Plan) (held : List Data) (hs : List Held)
-    → ((o : ℕ) → at o held ≡ cond (mem o (offsets_in hs)) (Some (data_at p o)) None) → AreFull p held hs
-full_from p held hs same x d e m = in_from p held hs same x d e
+  -- so nothing else of their numbers is held
+  pub full_from : AreFull p held hs
+  full_from x d e m = in_from x d e
 
 -- what a filter leaves at an offset
 pub at_filtered : (p : Plan) (f : Data → Bool) (o : ℕ) (held : List Data)

@@ -117,8 +117,7 @@ module _ (initial : ℕ) (w : Direction) (k limit : ℕ) (r : Reassembly) (c : C
         sent = piece.sent;
       } in
       let both =
-      loose_piece_stands limit h.planned l.offsets st
-      (subst (CarriesData initial c) piece.is said) loose free in
+      loose_piece_stands limit h.planned l.offsets st (subst (CarriesData initial c) piece.is said) loose free in
       (subst (StandsFor initial p d.stream (pushed r c).0) (ap (push q) (sym piece.is) ∙ there) both.0, both.1)
 
 pub unordered_data_that_comes_stands : UnorderedDataThatComesStands

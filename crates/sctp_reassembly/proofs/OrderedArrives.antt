@@ -111,8 +111,7 @@ module _ (initial : ℕ) (p : Plan) (over : ℕ → Bool) (came : List ℕ) (s l
       let n : ℕ = (place_at p o).ssn in
       let x : IsOf p s n o = record { at = here.at; sent = here.sent; is = refl } in
       let near =
-      all_near (narrower q (data_at p o) w) st n
-      here.above w.near.0 in
+      all_near (narrower q (data_at p o) w) st n here.above w.near.0 in
       let out = not_among p q.ordered st.held o new st.same in
       let brings : BringsPiece initial p over s n o c = record {
         planned = h;

@@ -73,8 +73,7 @@ module _ {p : Plan} {came : List ℕ} {s low cursor : ℕ} {q : Queue} (w : IsIn
           (all_both _ _ q.ordered w.held (all_weaker _ _ q.ordered (near_too p low) w.near)) e in
           let m =
           least_among (λ (d : Data). (IsHeld p came s true low d × IsNearBy p low d) × IsThere q.ordered d.offset)
-          q.ordered c
-          (all_both _ _ q.ordered (all_both _ _ q.ordered w.held w.near) (all_there q.ordered)) e in
+          q.ordered c (all_both _ _ q.ordered (all_both _ _ q.ordered w.held w.near) (all_there q.ordered)) e in
           let hd = m.1.0.0 in
           let hn = m.1.0.1 in
           let ab = hd.above in

@@ -303,8 +303,7 @@ module _ {initial : ℕ} {p : Plan} {over : ℕ → Bool} {s : ℕ} (o : ℕ) {r
       StandsFor initial p s
       (with_put r (cond whole (t.front ++ t.back, r.complete ++ message_of t.run ∷ [])
       (t.front ++ t.run ∷ t.back, r.complete))) z) (sym model)
-      (decided u
-      (complete_is initial p t.run t.first t.rest t.said small_back.0) whole refl))
+      (decided u (complete_is initial p t.run t.first t.rest t.said small_back.0) whole refl))
 
 module _ {initial : ℕ} {p : Plan} {over : ℕ → Bool} {s o : ℕ} (limit : ℕ) {r : Reassembly} {q : Queue}
     {c : ChunkPayloadData} (h : IsPlanned p over) (small : length p.places < 2 ^ 31)

@@ -231,6 +231,7 @@ ChunkKept len c = IsWholeChunk c × (length (chunk_frame c).value ≤ len)
 fits_below : (a b : ℕ) → a ≤ b → b < 65532 → ltb a 65532 ≡ true
 fits_below a b le lt = lt-ltb a 65532 (omega arith)
 
+-- of two tests that fail, neither holds
 neither : {a b : Bool} → a ≡ false → b ≡ false → (a || b) ≡ false
 neither x y = rw (x, y) refl
 
