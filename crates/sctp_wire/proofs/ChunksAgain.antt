@@ -295,29 +295,18 @@ data_chunk : (f : Frame) (c : ChunkPayloadData) → f.head / 256 ≡ 0 → paylo
 unfolding chunk_of
 data_chunk f c kind e = rw (kind, e) refl
 
-module _ (a b c d e f g h i j k l m n o p : Bool) where
-  none_of_all : not (a || b || c || d || e || f || g || h || i || j || k || l || m || n || o || p) ≡ true
-      → (a ≡ false) × (b ≡ false) × (c ≡ false) × (d ≡ false) × (e ≡ false) × (f ≡ false) × (g ≡ false) × (h ≡ false)
-      × (i ≡ false) × (j ≡ false) × (k ≡ false) × (l ≡ false) × (m ≡ false) × (n ≡ false) × (o ≡ false) × (p ≡ false)
-  none_of_all plain =
-      let p15 =
-      or_parts (a || b || c || d || e || f || g || h || i || j || k || l || m || n || o) p
-      (not-true (a || b || c || d || e || f || g || h || i || j || k || l || m || n || o || p) plain) in
-      let p14 = or_parts (a || b || c || d || e || f || g || h || i || j || k || l || m || n) o p15.0 in
-      let p13 = or_parts (a || b || c || d || e || f || g || h || i || j || k || l || m) n p14.0 in
-      let p12 = or_parts (a || b || c || d || e || f || g || h || i || j || k || l) m p13.0 in
-      let p11 = or_parts (a || b || c || d || e || f || g || h || i || j || k) l p12.0 in
-      let p10 = or_parts (a || b || c || d || e || f || g || h || i || j) k p11.0 in
-      let p9 = or_parts (a || b || c || d || e || f || g || h || i) j p10.0 in
-      let p8 = or_parts (a || b || c || d || e || f || g || h) i p9.0 in
-      let p7 = or_parts (a || b || c || d || e || f || g) h p8.0 in
-      let p6 = or_parts (a || b || c || d || e || f) g p7.0 in
-      let p5 = or_parts (a || b || c || d || e) f p6.0 in
-      let p4 = or_parts (a || b || c || d) e p5.0 in
-      let p3 = or_parts (a || b || c) d p4.0 in
-      let p2 = or_parts (a || b) c p3.0 in
-      let p1 = or_parts (a) b p2.0 in
-      (p1.0, p1.1, p2.1, p3.1, p4.1, p5.1, p6.1, p7.1, p8.1, p9.1, p10.1, p11.1, p12.1, p13.1, p14.1, p15.1)
+-- one of the tests holds
+abbrev any_of : Bool → List Bool → Bool
+any_of a [] = a
+any_of a (b ∷ bs) = any_of (a || b) bs
+
+none_of : (a : Bool) (bs : List Bool) → any_of a bs ≡ false
+    → (a ≡ false) × AllByRecursion (λ (b : Bool). b ≡ false) bs
+none_of a [] e = (e, tt)
+none_of a (b ∷ bs) e =
+    let r = none_of (a || b) bs e in
+    let parts = or_parts a b r.0 in
+    (parts.0, (parts.1, r.1))
 
 other_chunk : (f : Frame) (kind flags : ℕ) → f.head / 256 ≡ kind → f.head % 256 ≡ flags
     → not (eqb kind 0 || eqb kind 1 || eqb kind 2 || eqb kind 3 || eqb kind 4 || eqb kind 5 || eqb kind 6 || eqb kind 7
@@ -327,10 +316,32 @@ other_chunk : (f : Frame) (kind flags : ℕ) → f.head / 256 ≡ kind → f.hea
 unfolding chunk_of
 other_chunk f kind flags row column plain =
     let p =
-    none_of_all (eqb kind 0) (eqb kind 1) (eqb kind 2) (eqb kind 3) (eqb kind 4) (eqb kind 5) (eqb kind 6) (eqb kind 7)
-    (eqb kind 8) (eqb kind 9) (eqb kind 10) (eqb kind 11) (eqb kind 14) (eqb kind 130) (eqb kind 192)
-    (eqb kind 194) plain in
-    rw (row, column, p.0, p.1, p.2, p.3, p.4, p.5, p.6, p.7, p.8, p.9, p.10, p.11, p.12, p.13, p.14, p.15) refl
+    none_of (eqb kind 0) (eqb kind 1 ∷ eqb kind 2 ∷ eqb kind 3 ∷ eqb kind 4 ∷ eqb kind 5 ∷ eqb kind 6 ∷ eqb kind 7
+    ∷ eqb kind 8 ∷ eqb kind 9 ∷ eqb kind 10 ∷ eqb kind 11 ∷ eqb kind 14 ∷ eqb kind 130 ∷ eqb kind 192 ∷ eqb kind 194
+    ∷ []) (not-true _ plain) in
+    let q = p.1.1.1.1 in
+    let r = q.1.1.1.1 in
+    let t = r.1.1.1.1 in
+    rw (
+      row,
+      column,
+      p.0,
+      p.1.0,
+      p.1.1.0,
+      p.1.1.1.0,
+      q.0,
+      q.1.0,
+      q.1.1.0,
+      q.1.1.1.0,
+      r.0,
+      r.1.0,
+      r.1.1.0,
+      r.1.1.1.0,
+      t.0,
+      t.1.0,
+      t.1.1.0,
+      t.1.1.1.0,
+    ) refl
 
 pub chunk_again : (c : Chunk) → IsChunk c → chunk_fits c ≡ true → chunk_is_plain c ≡ true
     → chunk_of (chunk_frame c) ≡ Ok c
