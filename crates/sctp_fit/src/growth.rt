@@ -1,0 +1,13 @@
+// What events leave as it was.
+ghost use Rattle.sctp_fit.specs.Growth.{EventsKeepTheCount, FreshOnesReceiveNothing, MeetingsAreNoEvents};
+ghost use Rattle.sctp_fit.specs.Growth.{ReceiversEventsLeaveWhatIsSent, SendersEventsLeaveWhatComes};
+
+/// An event at one end of a direction leaves what the association has at the other, begun messages stay counted as they
+/// are, and at first nothing came on either side.
+pub fn events_leave_the_other_end()
+    ensures incoming { SendersEventsLeaveWhatComes }
+    ensures outgoing { ReceiversEventsLeaveWhatIsSent }
+    ensures counted { EventsKeepTheCount }
+    ensures meetings { MeetingsAreNoEvents }
+    ensures fresh { FreshOnesReceiveNothing }
+{}

@@ -1,0 +1,18 @@
+//! How an association's queues and streams stand to the two directions of the model between which it is: as the sender of
+//! one, with messages of several pieces, ordered or not, reliable or not, and acknowledged in any order, and as the
+//! receiver of the other, with DATA in any order. No code runs here; each empty function carries laws that are proved.
+#![tactic(auto)]
+
+mod acknowledgements;
+mod arrivals;
+mod growth;
+mod held_set;
+mod sendings;
+mod writes;
+
+pub use acknowledgements::acknowledgements_are_alike;
+pub use arrivals::what_comes_is_alike;
+pub use growth::events_leave_the_other_end;
+pub use held_set::the_set_holds_what_lies_past_the_reach;
+pub use sendings::sent_pieces_are_events;
+pub use writes::writes_are_accepted;
