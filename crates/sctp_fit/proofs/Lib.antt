@@ -1,0 +1,2 @@
+pub mod DataTaken
+pub mod StreamsThere

@@ -1,0 +1,15 @@
+use Rattle.sctp_fit.proofs.DataTaken.{new_tsns_spell_their_offsets, opened_streams_are_alike, reports_change_nothing}
+use Rattle.sctp_fit.proofs.DataTaken.{what_is_taken_in_comes}
+use Rattle.sctp_fit.proofs.arrivals.what_comes_is_alike.Goals as goal
+
+pub returns-clause-offsets : goal.returns-clause-offsets
+returns-clause-offsets c = new_tsns_spell_their_offsets
+
+pub returns-clause-taken : goal.returns-clause-taken
+returns-clause-taken c = what_is_taken_in_comes
+
+pub returns-clause-opened : goal.returns-clause-opened
+returns-clause-opened c = opened_streams_are_alike
+
+pub returns-clause-reports : goal.returns-clause-reports
+returns-clause-reports c = reports_change_nothing
