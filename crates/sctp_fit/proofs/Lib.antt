@@ -1,2 +1,3 @@
 pub mod DataTaken
+pub mod ReadsAnswered
 pub mod StreamsThere
