@@ -1,3 +1,4 @@
 pub mod DataTaken
+pub mod QueuesPinned
 pub mod ReadsAnswered
 pub mod StreamsThere
