@@ -1,8 +1,10 @@
 pub mod BegunCounts
 pub mod DataTaken
+pub mod HeldTsns
 pub mod OtherEnd
 pub mod PlansExtended
 pub mod QueuesPinned
+pub mod ReachClimbs
 pub mod ReadsAnswered
 pub mod StandsOn
 pub mod StreamsThere
