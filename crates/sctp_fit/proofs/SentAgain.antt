@@ -1,0 +1,137 @@
+-- A piece in flight carries what its offset says, so one that goes out again is DATA that the direction gives out again.
+use Rattle.std.proofs.Common.{ℕ, zero, suc, ◌+◌, ◌<◌, ◌≡◌, Bool, true, false, not, List, [], ◌∷◌, ◌++◌, length, Some}
+use Rattle.std.proofs.Common.{refl, sym, ap, ◌∙◌, subst, arith}
+use Rattle.std.specs.Prelude.{slice_get, slice_set}
+use Rattle.std.proofs.lemmas.Bool.{and_parts, cond-true, false_from_ne_true, lt-ltb, not-true, true≢false}
+use Rattle.sctp_outbound_queue.specs.declared.message.InFlight.{InFlight}
+use Rattle.sctp_outbound_queue.specs.Message.{counted_again, is_outstanding}
+use Rattle.sctp_outbound_queue.specs.Outbound.{changed_at, changed_from}
+use Rattle.sctp_outbound.specs.Sender.{chunk_of}
+use Rattle.sctp_model.specs.Serial.{tsn}
+use Rattle.sctp_model.specs.Messages.{Place, Plan, message_at, place_at}
+use Rattle.sctp_model.specs.Packets.{data_at, data_of}
+use Rattle.sctp_model.specs.Machine.{Direction, Event, happens}
+use Rattle.sctp_model.specs.Invariants.{Invariant}
+use Rattle.sctp_fit.specs.Incoming.{IsSaid}
+use Rattle.sctp_fit.specs.Outgoing.{AreInFlight, FitsOutgoing, IsInFlight, IsMessage, IsPieceOf, Names, Sending}
+use Rattle.sctp_fit.specs.Sendings.{IsGiven, PiecesAreGiven}
+use Rattle.sctp_fit.proofs.Marks.{in_flight_same}
+
+-- the last of a list
+pub got_last : {X : Type 0} (xs : List X) (x : X) → slice_get (xs ++ x ∷ []) (length xs) ≡ Some x
+got_last [] x = refl
+got_last (y ∷ ys) x = got_last ys x
+
+-- a piece that carries what its place says is said to be DATA of the place's offset
+pub said_at : (initial : ℕ) (n : Names) (p : Plan) (o : ℕ) (y : Place) (x : InFlight)
+    → IsMessage n p y.message y.ssn x.message → x.message.stream_identifier ≡ y.stream → IsPieceOf p y x
+    → IsSaid initial (chunk_of x (tsn initial o)) (data_of p o y)
+said_at initial n p o y x m e k = record {
+  stream = e;
+  carries = record {
+    tsn = refl;
+    ssn = m.ssn;
+    ordered = m.ordered ∙ ap (λ s. not (message_at p s y.message).ordered) e;
+    first = k.first;
+    last = k.last;
+    payload_type = m.payload_type ∙ ap (λ s. (message_at p s y.message).payload_type) e;
+    bytes = k.bytes;
+  };
+}
+
+module _ (n : Names) (p : Plan) (acknowledged : ℕ → Bool) (gone : ℕ → ℕ → Bool) where
+  -- the piece at a place of the flight stands on its offset
+  pub flight_at : (o : ℕ) (xs : List InFlight) (k : ℕ) (x : InFlight) → slice_get xs k ≡ Some x
+      → AreInFlight n p acknowledged gone o xs → IsInFlight n p acknowledged gone (o + k) x
+  flight_at o [] k x e h = absurd (cc)
+  flight_at o (y ∷ ys) zero x e (h, hs) =
+      subst (λ z. IsInFlight n p acknowledged gone z x) (let l : o ≡ o + 0 = omega arith in l)
+      (subst (IsInFlight n p acknowledged gone o) (let s : y ≡ x = cc in s) h)
+  flight_at o (y ∷ ys) (suc k) x e (h, hs) =
+      subst (λ z. IsInFlight n p acknowledged gone z x) (let l : suc o + k ≡ o + suc k = omega arith in l)
+      (flight_at (suc o) ys k x e hs)
+
+  -- as many offsets are in flight as lie past the first
+  pub flight_length : (o : ℕ) (xs : List InFlight) → AreInFlight n p acknowledged gone o xs
+      → o + length xs ≡ length p.places
+  flight_length o [] h = omega (arith, h)
+  flight_length o (x ∷ xs) (h, hs) = let r = flight_length (suc o) xs hs in omega arith
+
+  -- one more sending says nothing new of a piece
+  flight_again : (o : ℕ) (xs : List InFlight) (k : ℕ) (x : InFlight) → slice_get xs k ≡ Some x
+      → AreInFlight n p acknowledged gone o xs → AreInFlight n p acknowledged gone o (slice_set xs k (counted_again x))
+  flight_again o [] k x e h = absurd (cc)
+  flight_again o (y ∷ ys) zero x e (h, hs) = (
+    in_flight_same n p acknowledged gone o x (counted_again x) (record {
+      message = record {
+        id = refl;
+        stream = refl;
+        generation = refl;
+        unordered = refl;
+        ssn = refl;
+        payload_type = refl;
+        policy = refl;
+      };
+      first = refl;
+      last = refl;
+      bytes = refl;
+      acked = refl;
+      abandoned = refl;
+    }) (subst (IsInFlight n p acknowledged gone o) (let s : y ≡ x = cc in s) h),
+    hs,
+  )
+  flight_again o (y ∷ ys) (suc k) x e (h, hs) = (h, flight_again (suc o) ys k x e hs)
+
+-- the direction, with the DATA of the offset o given out again
+abbrev resent : Direction → ℕ → Direction
+resent w o = record w { datas = w.datas ++ data_at w.sender.plan o ∷ [] }
+
+happens_resend : (w : Direction) (o : ℕ) → o < length w.sender.plan.places
+    → (place_at w.sender.plan o).marker ≡ false → happens w (Event.Resend o) ≡ resent w o
+unfolding happens
+happens_resend w o l m = cond-true _ (resent w o) w (rw (lt-ltb _ _ l, m) refl)
+
+-- An outstanding piece that goes out again is that of its offset, and is DATA of the direction.
+pub pieces_are_given : PiecesAreGiven
+pieces_are_given own a index x w e out inv f = (
+  subst (FitsOutgoing (record a { queue = changed_at counted_again a.queue index })) (sym event)
+      (subst (λ found. FitsOutgoing (record a { queue = changed_from counted_again found a.queue index })
+      (resent w (w.sender.reach + index))) (sym e)
+      (record {
+        named = f.named;
+        names = f.names;
+        size = f.size;
+        base = f.base;
+        flight =
+            flight_again f.named w.sender.plan w.sender.acknowledged w.sender.gone w.sender.reach
+            a.queue.in_flight index x e f.flight;
+        waiting = f.waiting;
+        live = f.live;
+        own_streams = f.own_streams;
+      })),
+  subst (λ v. IsGiven own v (chunk_of x (tsn own (a.base + index)))) (sym event) (
+    length w.datas,
+    data_at w.sender.plan (w.sender.reach + index),
+    got_last w.datas _,
+    subst (λ b. IsSaid own (chunk_of x (tsn own (b + index))) (data_at w.sender.plan (w.sender.reach + index)))
+        (sym f.base)
+        (said_at own f.named w.sender.plan (w.sender.reach + index) _ x here.message here.stream (here.piece sent)),
+  ),
+)
+  where
+    here : IsInFlight f.named w.sender.plan w.sender.acknowledged w.sender.gone (w.sender.reach + index) x
+    here =
+        flight_at f.named w.sender.plan w.sender.acknowledged w.sender.gone w.sender.reach a.queue.in_flight index x
+        e f.flight
+
+    -- it stays, so its place is no marker
+    stays : x.abandoned ≡ false
+    stays = not-true _ (and_parts (not x.acked) (not x.abandoned) out).1
+
+    sent : (place_at w.sender.plan (w.sender.reach + index)).marker ≡ false
+    sent =
+        false_from_ne_true _ (λ (m : (place_at w.sender.plan (w.sender.reach + index)).marker ≡ true).
+        true≢false (sym (inv.tails (w.sender.reach + index) here.known m) ∙ sym here.abandoned ∙ stays))
+
+    event : happens w (Event.Resend (w.sender.reach + index)) ≡ resent w (w.sender.reach + index)
+    event = happens_resend w (w.sender.reach + index) here.known sent

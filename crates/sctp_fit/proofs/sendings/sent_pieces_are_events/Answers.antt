@@ -1,0 +1,9 @@
+use Rattle.sctp_fit.proofs.Marks.{marks_are_no_events}
+use Rattle.sctp_fit.proofs.SentAgain.{pieces_are_given}
+use Rattle.sctp_fit.proofs.sendings.sent_pieces_are_events.Goals as goal
+
+pub returns-clause-again : goal.returns-clause-again
+returns-clause-again c = pieces_are_given
+
+pub returns-clause-marks : goal.returns-clause-marks
+returns-clause-marks c = marks_are_no_events
