@@ -1,7 +1,9 @@
 pub mod BegunCounts
 pub mod DataTaken
+mod FirstPiece
 pub mod HeldTsns
 mod Marks
+mod NextPiece
 pub mod OtherEnd
 pub mod PlansExtended
 pub mod QueuesPinned
@@ -10,3 +12,4 @@ pub mod ReadsAnswered
 mod SentAgain
 pub mod StandsOn
 pub mod StreamsThere
+mod UnsentKept

@@ -4,16 +4,15 @@ use Rattle.std.proofs.Common.{refl, sym, ap, ◌∙◌, subst, arith}
 use Rattle.std.specs.Prelude.{slice_get, slice_set}
 use Rattle.std.proofs.lemmas.Bool.{and_parts, cond-true, false_from_ne_true, lt-ltb, not-true, true≢false}
 use Rattle.sctp_outbound_queue.specs.declared.message.InFlight.{InFlight}
-use Rattle.sctp_outbound_queue.specs.Message.{counted_again, is_outstanding}
+use Rattle.sctp_outbound_queue.specs.Message.{counted_again}
 use Rattle.sctp_outbound_queue.specs.Outbound.{changed_at, changed_from}
 use Rattle.sctp_outbound.specs.Sender.{chunk_of}
 use Rattle.sctp_model.specs.Serial.{tsn}
 use Rattle.sctp_model.specs.Messages.{Place, Plan, message_at, place_at}
 use Rattle.sctp_model.specs.Packets.{data_at, data_of}
 use Rattle.sctp_model.specs.Machine.{Direction, Event, happens}
-use Rattle.sctp_model.specs.Invariants.{Invariant}
 use Rattle.sctp_fit.specs.Incoming.{IsSaid}
-use Rattle.sctp_fit.specs.Outgoing.{AreInFlight, FitsOutgoing, IsInFlight, IsMessage, IsPieceOf, Names, Sending}
+use Rattle.sctp_fit.specs.Outgoing.{AreInFlight, FitsOutgoing, IsInFlight, IsMessage, IsPieceOf, Names}
 use Rattle.sctp_fit.specs.Sendings.{IsGiven, PiecesAreGiven}
 use Rattle.sctp_fit.proofs.Marks.{in_flight_same}
 

@@ -1,6 +1,10 @@
+use Rattle.sctp_fit.proofs.FirstPiece.{sent_pieces_are_events}
 use Rattle.sctp_fit.proofs.Marks.{marks_are_no_events}
 use Rattle.sctp_fit.proofs.SentAgain.{pieces_are_given}
 use Rattle.sctp_fit.proofs.sendings.sent_pieces_are_events.Goals as goal
+
+pub returns-clause-sent : goal.returns-clause-sent
+returns-clause-sent c = sent_pieces_are_events
 
 pub returns-clause-again : goal.returns-clause-again
 returns-clause-again c = pieces_are_given
