@@ -1,4 +1,5 @@
--- A piece in flight carries what its offset says, so one that goes out again is DATA that the direction gives out again.
+-- A piece in flight carries what its offset says, so one that goes out again is DATA that the direction gives out
+-- again.
 use Rattle.std.proofs.Common.{ℕ, zero, suc, ◌+◌, ◌<◌, ◌≡◌, Bool, true, false, not, List, [], ◌∷◌, ◌++◌, length, Some}
 use Rattle.std.proofs.Common.{refl, sym, ap, ◌∙◌, subst, arith}
 use Rattle.std.specs.Prelude.{slice_get, slice_set}
