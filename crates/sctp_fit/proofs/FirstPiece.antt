@@ -1,4 +1,4 @@
--- The events by which a piece goes out: a message goes on, or it begins, and before an ordered one begins, the direction
+-- The events by which a piece goes out: a message goes on or begins, and before an ordered one begins, the direction
 -- passes over those before it that don't wait.
 use Rattle.std.proofs.Common.{ℕ, zero, suc, ◌+◌, ◌<◌, ◌≤◌, ◌≡◌, Bool, true, false, not, eqb, ◌&&◌, ◌||◌, List, [], ◌∷◌}
 use Rattle.std.proofs.Common.{◌++◌, length, Some, None, refl, sym, ap, ◌∙◌, ⊎_elim, if◌then◌else◌, arith}

@@ -31,7 +31,7 @@ use Rattle.sctp_fit.specs.Sendings.{IsGiven, IsSentBy, SendsNext, SentPiecesAreE
 use Rattle.sctp_fit.proofs.SentAgain.{flight_length, got_last, said_at}
 use Rattle.sctp_fit.proofs.UnsentKept.{alike_same, attributes_kept, unsent_kept}
 use Rattle.sctp_fit.proofs.FirstPiece.{Counters, PassesTo, alike_begun, counters_of, happens_begin, happens_go_on}
-use Rattle.sctp_fit.proofs.FirstPiece.{passable, passes, unsent_then, with_piece}
+use Rattle.sctp_fit.proofs.FirstPiece.{passable, passes, with_piece}
 
 -- an offset that isn't assigned isn't acknowledged
 not_acknowledged : (w : Direction) → Invariant w → w.sender.acknowledged (length w.sender.plan.places) ≡ false
@@ -57,11 +57,11 @@ last_of size bytes k first (r ∷ rs) (a, b, c) = eqb-suc-zero (length rs) ∙ s
 
 -- What is in flight
 
-module _ (n : Names) (p q : Plan) (e : IsExtended p q) (acknowledged : ℕ → Bool) (gone : ℕ → ℕ → Bool) where
+module _ (n : Names) (p q : Plan) (e : IsExtended p q) where
   -- a piece in flight stays that of its offset when the plan grows
-  pub in_flight_kept : (o : ℕ) (x : InFlight) → IsInFlight n p acknowledged gone o x
-      → IsInFlight n q acknowledged gone o x
-  in_flight_kept o x h = record {
+  pub in_flight_kept : {acknowledged : ℕ → Bool} {gone : ℕ → ℕ → Bool} → (o : ℕ) (x : InFlight)
+      → IsInFlight n p acknowledged gone o x → IsInFlight n q acknowledged gone o x
+  in_flight_kept {gone = gone} o x h = record {
     known = let l = h.known in let m = e.more in omega arith;
     stream = h.stream ∙ ap (λ z. z.stream) (sym (e.places o h.known));
     message =
@@ -80,10 +80,11 @@ module _ (n : Names) (p q : Plan) (e : IsExtended p q) (acknowledged : ℕ → B
   }
 
   -- the pieces in flight, with one on the next offset
-  pub flight_placed : (o : ℕ) (xs : List InFlight) (x : InFlight) → length q.places ≡ suc (length p.places)
+  pub flight_placed : {acknowledged : ℕ → Bool} {gone : ℕ → ℕ → Bool} → (o : ℕ) (xs : List InFlight) (x : InFlight)
+      → length q.places ≡ suc (length p.places)
       → IsInFlight n q acknowledged gone (length p.places) x → AreInFlight n p acknowledged gone o xs
       → AreInFlight n q acknowledged gone o (xs ++ x ∷ [])
-  flight_placed o [] x l h all =
+  flight_placed {acknowledged = acknowledged} {gone = gone} o [] x l h all =
       (subst (λ z. IsInFlight n q acknowledged gone z x) (sym all) h, ap suc all ∙ sym l)
   flight_placed o (y ∷ ys) x l h (k, ks) = (in_flight_kept o y k, flight_placed (suc o) ys x l h ks)
 
@@ -232,8 +233,8 @@ module _ (own : ℕ) (a : Sending) (now : ℕ) (w : Direction) (inv : Invariant 
           base = f.base;
           flight =
               flight_placed f.named w.sender.plan (with_place w.sender.plan y) (extended f.named w inv x y h)
-              w.sender.acknowledged w.sender.gone w.sender.reach a.queue.in_flight (sent_once now x)
-              (length_placed w.sender.plan y) (flies f.named w inv x y h now) f.flight;
+              w.sender.reach a.queue.in_flight (sent_once now x) (length_placed w.sender.plan y)
+              (flies f.named w inv x y h now) f.flight;
           waiting = waiting_left f.named w inv x y h (is_unsent (with_piece w y c).sender) c.ssn xs all;
           live = λ s t there.
               subst (λ z. IsNumbered f.named z s t)
@@ -265,8 +266,8 @@ module _ (own : ℕ) (a : Sending) (now : ℕ) (w : Direction) (inv : Invariant 
           stays = going.stays;
         })
         (unsent_kept f.named w.sender.plan (with_place w.sender.plan y)
-        (place_extended w.sender.plan y inv.planned.known) (is_unsent w.sender) (is_unsent w.sender) (λ s. 0) (λ s. 0)
-        w.sender.ssn xs (alike_same (is_unsent w.sender) (λ s. 0)) all)
+        (place_extended w.sender.plan y inv.planned.known) w.sender.ssn xs
+        (alike_same (is_unsent w.sender) (λ s. 0)) all)
         (λ s. ap (λ (b : Bool). numbers_after (if b then w.sender.ssn else numbers_past w.sender.ssn x.message) xs s)
         (sym h.begun)),
   )
@@ -332,8 +333,7 @@ module _ (own : ℕ) (a : Sending) (now : ℕ) (w : Direction) (inv : Invariant 
             }) r.events r.sends (r.leads ∙ b.1)
                 (record { waits = h.waits; stream = refl; first = ap not h.begun; stays = stays })
                 (unsent_kept f.named w.sender.plan (with_place w.sender.plan y)
-                (place_extended w.sender.plan y inv.planned.known) (is_unsent w.sender) (unsent_then w.sender s i)
-                (put (λ t. 0) s (suc i)) (λ t. 0) (numbers_past w.sender.ssn x.message) xs
+                (place_extended w.sender.plan y inv.planned.known) (numbers_past w.sender.ssn x.message) xs
                 (alike_begun w.sender s i (λ j l. h.next j (omega arith) l)) all)
                 (λ t. ap
                 (λ (k : Bool). numbers_after (if k then w.sender.ssn else numbers_past w.sender.ssn x.message) xs t)

@@ -77,13 +77,13 @@ module _ (n : Names) (p q : Plan) (e : IsExtended p q) where
   }
 
   -- All that waits unsent stays so, where what is unsent is alike.
-  pub unsent_kept : (unsent fewer : ℕ → ℕ → Bool) (from to numbers : ℕ → ℕ) (xs : List Waiting)
+  pub unsent_kept : {unsent fewer : ℕ → ℕ → Bool} {from to : ℕ → ℕ} → (numbers : ℕ → ℕ) (xs : List Waiting)
       → AreAlike unsent fewer from to → AreUnsent n p unsent from numbers xs → AreUnsent n q fewer to numbers xs
-  unsent_kept unsent fewer from to numbers [] a h = λ s i l. ⊎_elim
+  unsent_kept {from = from} numbers [] a h = λ s i l. ⊎_elim
       (λ (b : i < from s). a.below s i l b)
       (λ (b : from s ≤ i). a.same s i b ∙ h s i b)
       (cases_lt i (from s))
-  unsent_kept unsent fewer from to numbers (x ∷ xs) a (i, h, hs) = (
+  unsent_kept {unsent = unsent} {fewer = fewer} {from = from} {to = to} numbers (x ∷ xs) a (i, h, hs) = (
     i,
     record {
       waits = waiting_kept i _ 0 x h.waits;
@@ -92,10 +92,10 @@ module _ (n : Names) (p q : Plan) (e : IsExtended p q) where
       past = let l = a.lower x.message.stream_identifier in let b = h.past in omega arith;
       next = λ j l b. ⊎_elim
           (λ (c : j < from x.message.stream_identifier). a.below x.message.stream_identifier j l c)
-          (λ (c : from x.message.stream_identifier ≤ j).
-          a.same x.message.stream_identifier j c ∙ h.next j c b)
+          (λ (c : from x.message.stream_identifier ≤ j). a.same x.message.stream_identifier j c ∙ h.next j c b)
           (cases_lt j (from x.message.stream_identifier));
     },
-    unsent_kept unsent fewer (put from x.message.stream_identifier (suc i)) (put to x.message.stream_identifier (suc i))
-        (numbers_past numbers x.message) xs (alike_past unsent fewer from to x.message.stream_identifier i h.past a) hs,
+    unsent_kept {from = put from x.message.stream_identifier (suc i)} {to = put to x.message.stream_identifier (suc i)}
+        (numbers_past numbers x.message) xs
+        (alike_past unsent fewer from to x.message.stream_identifier i h.past a) hs,
   )
