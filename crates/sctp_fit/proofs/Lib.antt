@@ -3,6 +3,8 @@ pub mod DataTaken
 mod FirstPiece
 pub mod HeldTsns
 mod Marks
+mod MessagesAccepted
+mod NamesKept
 mod NextPiece
 pub mod OtherEnd
 pub mod PlansExtended
@@ -11,5 +13,7 @@ pub mod ReachClimbs
 pub mod ReadsAnswered
 mod SentAgain
 pub mod StandsOn
+mod StreamsChanged
 pub mod StreamsThere
+mod Unsent
 mod UnsentKept
