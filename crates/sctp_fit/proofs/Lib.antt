@@ -6,6 +6,7 @@ mod Marks
 mod MessagesAccepted
 mod NamesKept
 mod NextPiece
+mod NothingToSend
 pub mod OtherEnd
 pub mod PlansExtended
 pub mod QueuesPinned
