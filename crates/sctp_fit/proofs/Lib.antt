@@ -8,6 +8,7 @@ mod NamesKept
 mod NextPiece
 mod NothingToSend
 pub mod OtherEnd
+mod Pinned
 pub mod PlansExtended
 pub mod QueuesPinned
 pub mod ReachClimbs

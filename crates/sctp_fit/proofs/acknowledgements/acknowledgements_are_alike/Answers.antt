@@ -1,0 +1,8 @@
+use Rattle.sctp_fit.proofs.Pinned.{senders_are_pinned, what_is_released_is_not_buffered}
+use Rattle.sctp_fit.proofs.acknowledgements.acknowledgements_are_alike.Goals as goal
+
+pub returns-clause-released : goal.returns-clause-released
+returns-clause-released c = what_is_released_is_not_buffered
+
+pub returns-clause-pinned : goal.returns-clause-pinned
+returns-clause-pinned c = senders_are_pinned
