@@ -1,6 +1,8 @@
 pub mod BegunCounts
+mod BytesReleased
 pub mod DataTaken
 mod FirstPiece
+mod FlightAcknowledged
 pub mod HeldTsns
 mod Marks
 mod MessagesAccepted
