@@ -1,10 +1,10 @@
 -- The laws of acknowledgements: what a SACK acknowledges at an association, by its point and by its gap ack blocks, it
 -- acknowledges at the direction's sender, and the same bytes are released (RFC 4960 section 6.2.1).
-use Rattle.std.specs.Prelude.{◌≡◌, ℕ, suc, ◌+◌, ◌<◌, ◌≤◌, Bool, true, false, List, [], ◌∷◌, length, drop, slice_get}
-use Rattle.std.specs.Prelude.{if◌then◌else◌, nat_lt, Some}
+use Rattle.std.specs.Prelude.{◌≡◌, ℕ, suc, ◌+◌, ◌<◌, ◌≤◌, Bool, false, List, [], ◌∷◌, length, drop, slice_get}
+use Rattle.std.specs.Prelude.{if◌then◌else◌, Some}
 use Rattle.sctp_outbound_queue.specs.declared.message.InFlight.{InFlight}
 use Rattle.sctp_outbound_queue.specs.Message.{acked}
-use Rattle.sctp_outbound_queue.specs.Outbound.{Outbound, tsn_at}
+use Rattle.sctp_outbound_queue.specs.Outbound.{tsn_at}
 use Rattle.sctp_streams.specs.Stream.{StreamView}
 use Rattle.sctp_streams.specs.Streams.{StreamMap, stream_at}
 use Rattle.sctp_outbound.specs.Sender.{streams_after}

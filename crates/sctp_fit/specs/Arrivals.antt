@@ -1,6 +1,6 @@
 -- The laws of DATA that comes and of reads: what an association takes in comes to the direction's receiver, in whatever
 -- order, and its readers get what that one's readers get (RFC 4960 sections 6.2, 6.5 and 6.6).
-use Rattle.std.specs.Prelude.{◌≡◌, ℕ, ◌+◌, ◌<◌, ◌==◌, ◌^◌, true, false, List, [], ◌∷◌, length, map, slice_get, Some, None}
+use Rattle.std.specs.Prelude.{◌≡◌, ℕ, ◌<◌, ◌==◌, ◌^◌, true, false, ◌∷◌, length, map, slice_get, Some, None}
 use Rattle.sctp_wire_types.specs.declared.chunk.ChunkPayloadData.{ChunkPayloadData}
 use Rattle.sctp_wire_types.specs.declared.ids.PayloadProtocolIdentifier.{PayloadProtocolIdentifier}
 use Rattle.sctp_receive_queues.specs.Reassembly.{Reassembly, ready, refusal}
@@ -14,7 +14,7 @@ use Rattle.sctp_model.specs.Machine.{Direction, Event, happens, is_new, live}
 use Rattle.sctp_model.specs.Invariants.{Invariant}
 use Rattle.sctp_model.specs.Safe.{IsWithin, letter_read}
 use Rattle.sctp_reassembly.specs.Stands.{IsForBytesAlone, IsReadAs, StandsFor, letter_received}
-use Rattle.sctp_fit.specs.Incoming.{FitsIncoming, IsSaid, Receiving, offset_of, reach_of}
+use Rattle.sctp_fit.specs.Incoming.{FitsIncoming, IsSaid, Receiving, offset_of}
 
 -- a piece was taken in on the offset o
 abbrev pub took : Receiving → ChunkPayloadData → ℕ → Receiving

@@ -1,12 +1,11 @@
 -- How what an association took in and holds for its readers stands to the receiver of a direction: DATA in any order,
 -- ordered or not, of messages of several pieces (RFC 4960 sections 6.2, 6.5, 6.6 and 6.9).
-use Rattle.std.specs.Prelude.{◌≡◌, ℕ, suc, ◌+◌, ◌<◌, ◌≤◌, true, false, List, ◌∷◌, Option, Some, None, ⊤}
-use Rattle.std.specs.List.{AllByRecursion}
+use Rattle.std.specs.Prelude.{◌≡◌, ℕ, ◌+◌, true, false, List, Option, Some, None, ⊤}
 use Rattle.sctp_wire_types.specs.declared.chunk.ChunkPayloadData.{ChunkPayloadData}
 use Rattle.sctp_streams.specs.Stream.{StreamView}
 use Rattle.sctp_streams.specs.Streams.{StreamMap, stream_at}
 use Rattle.sctp_model.specs.Messages.{Plan}
-use Rattle.sctp_model.specs.Packets.{Data, mem}
+use Rattle.sctp_model.specs.Packets.{Data}
 use Rattle.sctp_model.specs.Reassembly.{Queue}
 use Rattle.sctp_model.specs.Serial.{past_32, tsn}
 use Rattle.sctp_model.specs.Machine.{Direction, climb, past_all}

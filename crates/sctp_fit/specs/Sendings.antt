@@ -1,12 +1,12 @@
 -- The laws of DATA that goes out, for the first time or again: each piece is DATA of the direction.
-use Rattle.std.specs.Prelude.{◌≡◌, ℕ, ◌+◌, true, false, List, [], ◌∷◌, ◌++◌, length, slice_get, is_some, Some, ⊤}
+use Rattle.std.specs.Prelude.{◌≡◌, ℕ, ◌+◌, true, List, [], ◌∷◌, length, slice_get, is_some, Some, ⊤}
 use Rattle.std.specs.List.{AllByRecursion}
 use Rattle.sctp_wire_types.specs.declared.chunk.ChunkPayloadData.{ChunkPayloadData}
 use Rattle.sctp_outbound_queue.specs.declared.message.Attributes.{Attributes}
 use Rattle.sctp_outbound_queue.specs.declared.message.InFlight.{InFlight}
 use Rattle.sctp_outbound_queue.specs.Waiting.{Waiting}
 use Rattle.sctp_outbound_queue.specs.Message.{counted_again, is_outstanding}
-use Rattle.sctp_outbound_queue.specs.Outbound.{Outbound, changed_at, sent_next}
+use Rattle.sctp_outbound_queue.specs.Outbound.{changed_at, sent_next}
 use Rattle.sctp_outbound.specs.Sender.{chunk_of, next_chunk_of}
 use Rattle.sctp_model.specs.Packets.{Data}
 use Rattle.sctp_model.specs.Serial.{tsn}

@@ -1,10 +1,10 @@
 -- The laws of writes and of streams that are opened: an association that accepts a message or makes a stream still fits
 -- its direction, in which the message is accepted.
-use Rattle.std.specs.Prelude.{◌≡◌, ℕ, ◌<◌, ◌+◌, ◌%◌, ◌^◌, false, not, List, [], length, Some, None}
+use Rattle.std.specs.Prelude.{◌≡◌, ℕ, ◌<◌, false, not, List, length, Some, None}
 use Rattle.sctp_wire_types.specs.Ids.{number_of}
 use Rattle.sctp_wire_types.specs.declared.ids.PayloadProtocolIdentifier.{PayloadProtocolIdentifier}
 use Rattle.sctp_outbound_queue.specs.Waiting.{Waiting}
-use Rattle.sctp_outbound_queue.specs.Outbound.{Outbound, empty_outbound, with_message}
+use Rattle.sctp_outbound_queue.specs.Outbound.{empty_outbound, with_message}
 use Rattle.sctp_streams.specs.Stream.{StreamView, accepted_by, params_for}
 use Rattle.sctp_streams.specs.Streams.{changed_stream, made, no_stream, stream_at}
 use Rattle.sctp_model.specs.Messages.{Message}
