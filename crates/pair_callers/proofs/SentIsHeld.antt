@@ -3,10 +3,10 @@ use Rattle.std.proofs.Common.{◌≡◌, sym, ap, ◌∙◌, ℕ, true, List, Op
 use Rattle.sctp_wire_types.specs.declared.error.Error.{Error}
 use Rattle.sctp_wire.specs.declared.transmit.Transmit.{Transmit}
 use Rattle.sctp_assoc.specs.Calls.{stream_refusal, written}
-use Rattle.sctp_assoc.specs.Laws.{PollsKeepWhatIsHeld, WritesAreHeld, is_held}
+use Rattle.sctp_sides.specs.Laws.{PollsKeepWhatIsHeld, WritesAreHeld, is_held}
 use Rattle.sctp_assoc.specs.Gather.{packets_of, polled}
 use Rattle.sctp_assoc.specs.Shown.{Shown}
-use Rattle.sctp_assoc.proofs.Proved.{found_streams_are_live}
+use Rattle.sctp_sides.proofs.Proved.{found_streams_are_live}
 
 -- the association a was m after the write
 pub sent_is_held : WritesAreHeld → PollsKeepWhatIsHeld

@@ -2,15 +2,13 @@
 ghost use Rattle.std.specs.Prelude.{◌≡◌, ◌*◌, None, true, IfOk, OnErr, OnOk};
 ghost use Rattle.sctp_assoc.specs.Calls.{stream_refusal, written};
 ghost use Rattle.sctp_assoc.specs.Chunks.{after_packet};
-ghost use Rattle.sctp_assoc.specs.Laws.{is_held};
+ghost use Rattle.sctp_sides.specs.Laws.{is_held};
 ghost use Rattle.sctp_assoc.specs.Gather.{packets_of, polled};
 ghost use Rattle.sctp_pair.specs.Steps.{packet_in};
 
 use bytes::Bytes;
-use sctp_assoc::{
-    Association, AssociationEvent, Error, Instant, Payload, StreamId, Transmit,
-    writes_and_polls_lose_nothing,
-};
+use sctp_assoc::{Association, AssociationEvent, Error, Instant, Payload, StreamId, Transmit};
+use sctp_sides::writes_and_polls_lose_nothing;
 use sctp_wire_queues::PartialDecode;
 use std::net::SocketAddr;
 

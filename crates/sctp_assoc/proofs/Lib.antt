@@ -1,31 +1,8 @@
-mod ActsKeepOffsets
-mod ActsOfChunks
-mod CallsLeadOn
-mod ClosingCauses
-mod ClosingPackets
-mod DataIntake
-mod DueSacks
-mod FaultCauses
+pub mod ActsKeepOffsets
+pub mod CallsLeadOn
 mod FreshHistory
-mod HandshakeChunks
-mod HandshakeTruth
-mod LiveStreams
-mod LossToldOnce
 mod MemoryTaken
-mod PacketLaws
-mod PacketsByChunks
 mod PacketsReadAgain
-mod PolledData
-mod PolledPackets
-mod PollsLeadOn
-pub mod Proved
-mod Status
+pub mod PolledData
+pub mod PollsLeadOn
 mod StreamReads
-mod StreamsChanged
-mod TimersOverChunks
-mod TimersOverPolls
-mod TimersOverRuns
-mod TimersOverTimeouts
-mod TimersRun
-mod WaitingGoesOut
-mod WrittenIsHeld

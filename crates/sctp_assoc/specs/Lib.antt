@@ -1,6 +1,5 @@
 pub mod Acts
 pub mod Calls
-pub mod Causes
 pub mod Chunks
 pub mod Control
 pub mod Created
@@ -8,14 +7,7 @@ pub mod Gather
 pub mod Handshake
 pub mod Happened
 pub mod Inbound
-pub mod Intake
-pub mod Laws
-pub mod Meeting
 pub mod Memory
-pub mod OneSide
-pub mod Reports
-pub mod Shapes
 pub mod Shown
 pub mod Stream
 pub mod Timeouts
-pub mod Witnesses

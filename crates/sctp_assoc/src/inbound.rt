@@ -20,7 +20,7 @@ use sctp_wire_queues::{
 use std::alloc::AllocError;
 
 /// How a packet goes on after one of its chunks.
-pub(crate) enum Flow {
+pub enum Flow {
     /// With the next chunk; the trigger is that of the packet so far.
     Next(AckTrigger),
     /// The chunk is a fault: it ends the packet and closes an open association.

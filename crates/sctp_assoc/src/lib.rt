@@ -71,19 +71,12 @@ mod effects;
 mod gather;
 mod handshake;
 mod inbound;
-mod laws;
 mod readers;
 mod shared;
 mod stream;
 mod stream_calls;
 
 pub use association::Association;
-pub use laws::{
-    accepted_calls_could_be_done, at_most_one_loss, calls_are_made_of_acts, calls_keep_the_status,
-    data_is_taken_in, faults_alone_close, greetings_stay_true, nothing_comes_of_nothing,
-    only_named_causes_close, packets_lead_on, sacks_name_the_point, timers_run_where_they_should,
-    writes_and_polls_lose_nothing, polls_begin_with_what_waits,
-};
 pub use sctp_inbound::SUPPORTED_EXTENSIONS;
 pub use sctp_parts::estimate::RtoManager;
 pub use sctp_parts::shared::{AssociationId, EndpointEvent, IssuedAid};

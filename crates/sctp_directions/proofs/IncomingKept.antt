@@ -22,7 +22,7 @@ use Rattle.sctp_model.proofs.SenderEvents.{same_plan}
 use Rattle.sctp_assoc.specs.Acts.{Act, Parts, done, with_written, without_first_piece}
 use Rattle.sctp_directions.specs.Plain.{IsPlain, count_below}
 use Rattle.sctp_directions.specs.Incoming.{AreHeldAs, FitsIncoming, IsQueue, IsQueueAt}
-use Rattle.sctp_assoc.proofs.Proved.{at_with}
+use Rattle.sctp_sides.proofs.Proved.{at_with}
 use Rattle.sctp_directions.proofs.IncomingStreams.{reach_known}
 use Rattle.sctp_directions.proofs.PlainSender.{count_kept}
 

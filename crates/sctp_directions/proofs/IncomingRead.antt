@@ -18,7 +18,7 @@ use Rattle.sctp_assoc.specs.Acts.{Act, Parts, done}
 use Rattle.sctp_directions.specs.Plain.{count_below}
 use Rattle.sctp_directions.specs.Incoming.{FitsIncoming, IsQueue, IsQueueAt, IsReadAs}
 use Rattle.sctp_directions.specs.Laws.{ReadsAreAlike, TheSameIsReady}
-use Rattle.sctp_assoc.proofs.Proved.{at_made, at_with}
+use Rattle.sctp_sides.proofs.Proved.{at_made, at_with}
 use Rattle.sctp_directions.proofs.HeldMessages.{IsReadFrom, queue_read, queue_ready}
 use Rattle.sctp_directions.proofs.IncomingStreams.{held_near, no_queue_of, queue_of, queues_at}
 

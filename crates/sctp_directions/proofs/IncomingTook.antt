@@ -20,7 +20,7 @@ use Rattle.sctp_directions.specs.Plain.{IsPlain, IsSimple, IsSole, count_below}
 use Rattle.sctp_directions.specs.Said.{IsSaid}
 use Rattle.sctp_directions.specs.Incoming.{FitsIncoming, IsHeldAs, IsQueue, IsQueueAt}
 use Rattle.sctp_directions.specs.Laws.{WhatIsTakenInComes}
-use Rattle.sctp_assoc.proofs.Proved.{at_with}
+use Rattle.sctp_sides.proofs.Proved.{at_with}
 use Rattle.sctp_directions.proofs.HeldMessages.{queue_pushed}
 use Rattle.sctp_directions.proofs.IncomingStreams.{held_near, reach_known, queue_of, queues_at}
 use Rattle.sctp_directions.proofs.PlainReceiver.{data_taken, reach_took}

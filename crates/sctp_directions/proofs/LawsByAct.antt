@@ -19,7 +19,7 @@ use Rattle.sctp_model.proofs.OffsetSets.{mem-filter, mem_from_filter}
 use Rattle.sctp_model.proofs.Lists.{all_get}
 use Rattle.sctp_assoc.specs.Acts.{Act, Parts, done, parts, tsn_before}
 use Rattle.sctp_assoc.specs.Calls.{buffered_at, ready_of}
-use Rattle.sctp_assoc.specs.Reports.{SaysWhatWasTaken}
+use Rattle.sctp_sides.specs.Reports.{SaysWhatWasTaken}
 use Rattle.sctp_directions.specs.Incoming.{FitsIncoming}
 use Rattle.sctp_reassembly.specs.Stands.{letter_received}
 use Rattle.sctp_directions.specs.Laws.{ActsKeepTheInitialTsns, OpenedStreamsAreAlike, OwnActsLeaveWhatComes}

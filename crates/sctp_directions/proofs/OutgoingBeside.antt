@@ -14,7 +14,7 @@ use Rattle.sctp_assoc.specs.Acts.{without_first_pieces}
 use Rattle.sctp_directions.specs.Laws.{MeetsNobody}
 use Rattle.sctp_directions.specs.Outgoing.{FitsOutgoing, IsOwn, IsOwnAt}
 use Rattle.sctp_directions.proofs.OutgoingKept.{KeepsLive, bytes_in, each_with, fits_streams, live_with}
-use Rattle.sctp_assoc.proofs.Proved.{at_made}
+use Rattle.sctp_sides.proofs.Proved.{at_made}
 
 -- A stream is opened
 

@@ -18,7 +18,7 @@ use Rattle.sctp_directions.specs.Plain.{IsPlain, count_below}
 use Rattle.sctp_directions.specs.Said.{IsSaid}
 use Rattle.sctp_directions.specs.Outgoing.{AreInFlight, AreWaiting, FitsOutgoing, IsInFlight, IsOwnAt, IsWaiting}
 use Rattle.sctp_directions.proofs.PlainSender.{count_rises}
-use Rattle.sctp_assoc.proofs.Proved.{at_with}
+use Rattle.sctp_sides.proofs.Proved.{at_with}
 
 -- Streams
 

@@ -18,7 +18,7 @@ use Rattle.sctp_model.specs.Invariants.{Invariant}
 use Rattle.sctp_model.specs.Safe.{IsWithin, letter_read}
 use Rattle.sctp_assoc.specs.Acts.{Act, Can, History, Parts, data_given, done, done_all, parts, tsn_before}
 use Rattle.sctp_assoc.specs.Calls.{buffered_of, ready_messages}
-use Rattle.sctp_assoc.specs.Reports.{SaysWhatWasTaken}
+use Rattle.sctp_sides.specs.Reports.{SaysWhatWasTaken}
 use Rattle.sctp_assoc.specs.Shown.{Shown}
 use Rattle.sctp_directions.specs.Counted.{HasAccepted, all_pieces, pieces_in}
 use Rattle.sctp_directions.specs.Events.{Accepts, Assigns, Brings, GivesAMessage, IsAtReceiver, IsAtSender}

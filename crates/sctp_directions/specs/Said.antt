@@ -8,7 +8,7 @@ use Rattle.sctp_wire_types.specs.Ids.{number_of}
 use Rattle.sctp_model.specs.Packets.{Data, Sack}
 use Rattle.sctp_model.specs.Serial.{tsn}
 use Rattle.sctp_model.specs.Machine.{Direction}
-use Rattle.sctp_assoc.specs.Reports.{SaysWhatWasTaken}
+use Rattle.sctp_sides.specs.Reports.{SaysWhatWasTaken}
 
 -- A DATA chunk is this DATA of a direction with this initial TSN.
 pub record IsSaid (initial : ℕ) (c : ChunkPayloadData) (d : Data) : Type 0 where

@@ -3,8 +3,8 @@ use Rattle.std.proofs.Common.{◌≡◌, sym, ◌∙◌, subst, ℕ}
 use Rattle.sctp_model.specs.Machine.{Direction}
 use Rattle.sctp_model.specs.Safe.{IsWithin}
 use Rattle.sctp_assoc.specs.Acts.{Binds, History, parts}
-use Rattle.sctp_assoc.specs.Meeting.{IsNoEarlier, Stage, stage_of}
-use Rattle.sctp_assoc.specs.Shapes.{IsSameStatus}
+use Rattle.sctp_sides.specs.Meeting.{IsNoEarlier, Stage, stage_of}
+use Rattle.sctp_sides.specs.Shapes.{IsSameStatus}
 use Rattle.sctp_assoc.specs.Shown.{Shown}
 use Rattle.sctp_pair.specs.Fits.{IsSilent, StagesAgree, StandsOpen}
 use Rattle.sctp_pair.proofs.BetweenDirections.{Goes, Holds, None_brought}

@@ -10,7 +10,7 @@ use Rattle.sctp_model.specs.Machine.{Direction, Event, Receiver, Sender, happens
 use Rattle.sctp_model.specs.Safe.{IsWithin}
 use Rattle.sctp_assoc.specs.Acts.{Parts, parts}
 use Rattle.sctp_assoc.specs.Calls.{is_established}
-use Rattle.sctp_assoc.specs.Meeting.{IsNoEarlier, Stage}
+use Rattle.sctp_sides.specs.Meeting.{IsNoEarlier, Stage}
 use Rattle.sctp_assoc.specs.Shown.{Shown}
 use Rattle.sctp_directions.specs.Events.{Accepts, Brings, GivesAMessage, IsAtReceiver, IsAtSender}
 use Rattle.sctp_directions.specs.Outgoing.{FitsOutgoing}

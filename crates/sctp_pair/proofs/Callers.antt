@@ -15,7 +15,7 @@ use Rattle.sctp_model.specs.Serial.{tsn}
 use Rattle.sctp_model.specs.Safe.{IsSafe}
 use Rattle.sctp_model.proofs.Lists.{all_join}
 use Rattle.sctp_assoc.specs.Shown.{Shown}
-use Rattle.sctp_assoc.proofs.Proved.{accepted_writes_fit}
+use Rattle.sctp_sides.proofs.Proved.{accepted_writes_fit}
 use Rattle.sctp_pair.specs.declared.step.Reply.{Reply}
 use Rattle.sctp_pair.specs.declared.step.Reply.TheVariants as replies
 use Rattle.sctp_pair.specs.declared.step.Side2.{Side2}

@@ -9,10 +9,10 @@ use Rattle.sctp_model.specs.Serial.{tsn}
 use Rattle.sctp_model.specs.Machine.{Direction, Sender}
 use Rattle.sctp_model.proofs.Lists.{all_join}
 use Rattle.sctp_assoc.specs.Calls.{is_established}
-use Rattle.sctp_assoc.specs.Meeting.{IsNoEarlier, Stage}
-use Rattle.sctp_assoc.specs.Shapes.{OfEachChunk}
+use Rattle.sctp_sides.specs.Meeting.{IsNoEarlier, Stage}
+use Rattle.sctp_sides.specs.Shapes.{OfEachChunk}
 use Rattle.sctp_assoc.specs.Shown.{Shown}
-use Rattle.sctp_assoc.proofs.Proved.{established_is_not_closed, established_sides_talk}
+use Rattle.sctp_sides.proofs.Proved.{established_is_not_closed, established_sides_talk}
 use Rattle.sctp_directions.specs.Incoming.{IsReadAs}
 use Rattle.sctp_directions.specs.Between.{IsSound}
 use Rattle.sctp_pair.specs.declared.step.Reply.{Reply}

@@ -9,7 +9,7 @@ use Rattle.sctp_model.specs.Machine.{Direction, Event, Receiver, happens}
 use Rattle.sctp_model.specs.Safe.{IsWithin}
 use Rattle.sctp_model.proofs.Lists.{all_join, all_weaker}
 use Rattle.sctp_assoc.specs.Acts.{Act, Can, CanAll, Parts, all_data_given, data_given, done, done_all}
-use Rattle.sctp_assoc.specs.Shapes.{GivesData}
+use Rattle.sctp_sides.specs.Shapes.{GivesData}
 use Rattle.sctp_assoc.specs.Shown.{Shown}
 use Rattle.sctp_directions.specs.Events.{Accepts, IsAtSender}
 use Rattle.sctp_directions.specs.Laws.{MeetsNobody, IsOfItsOwn}

@@ -12,7 +12,7 @@ use Rattle.sctp_model.proofs.Proved.{each_event_keeps_the_invariant}
 use Rattle.sctp_streams.specs.Stream.{StreamView}
 use Rattle.sctp_streams.specs.Streams.{stream_at}
 use Rattle.sctp_assoc.specs.Acts.{Act, Can, History, Parts, done}
-use Rattle.sctp_assoc.specs.Reports.{SaysWhatWasTaken}
+use Rattle.sctp_sides.specs.Reports.{SaysWhatWasTaken}
 use Rattle.sctp_assoc.specs.Shown.{Shown}
 use Rattle.sctp_directions.specs.Events.{Brings, GivesAMessage, IsAtReceiver, IsPlainEvent, KeepsWithin}
 use Rattle.sctp_directions.specs.Incoming.{FitsIncoming}

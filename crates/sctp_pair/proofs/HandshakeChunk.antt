@@ -6,8 +6,8 @@ use Rattle.sctp_wire_types.specs.declared.packet.CommonHeader.{CommonHeader}
 use Rattle.sctp_model.specs.Machine.{Direction}
 use Rattle.sctp_assoc.specs.Acts.{Act, History, Parts, done_all, parts}
 use Rattle.sctp_assoc.specs.Happened.{acts_of_chunk}
-use Rattle.sctp_assoc.specs.Meeting.{Greets, IsLearning, MayHear, Stage, stage_of}
-use Rattle.sctp_assoc.specs.Shapes.{TakesChunk}
+use Rattle.sctp_sides.specs.Meeting.{Greets, IsLearning, MayHear, Stage, stage_of}
+use Rattle.sctp_sides.specs.Shapes.{TakesChunk}
 use Rattle.sctp_assoc.specs.Shown.{Shown}
 use Rattle.sctp_directions.proofs.Proved.{meetings_are_no_events}
 use Rattle.sctp_pair.proofs.BetweenDirections.{Holds}

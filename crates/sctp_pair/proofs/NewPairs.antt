@@ -14,7 +14,7 @@ use Rattle.sctp_model.proofs.Proved.{fresh_holds}
 use Rattle.sctp_assoc.specs.Acts.{Binds, begun}
 use Rattle.sctp_assoc.specs.Handshake.{sends_init}
 use Rattle.sctp_assoc.specs.Created.{client, create_refusal, join_refusal, joined, server}
-use Rattle.sctp_assoc.specs.Meeting.{stage_of}
+use Rattle.sctp_sides.specs.Meeting.{stage_of}
 use Rattle.sctp_assoc.specs.Shown.{Shown}
 use Rattle.sctp_directions.proofs.Proved.{fresh_directions_are_plain}
 use Rattle.sctp_pair.specs.Ends.{Ends}

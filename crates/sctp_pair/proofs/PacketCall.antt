@@ -10,11 +10,11 @@ use Rattle.sctp_model.proofs.Proved.{each_event_keeps_the_invariant}
 use Rattle.sctp_assoc.specs.Acts.{Parts, parts}
 use Rattle.sctp_assoc.specs.Calls.{is_closed_state}
 use Rattle.sctp_assoc.specs.Chunks.{after_packet}
-use Rattle.sctp_assoc.specs.Meeting.{IsNoEarlier, Stage, stage_of}
-use Rattle.sctp_assoc.specs.Shapes.{Closes, EndsPacket, IsEnded, OfEachChunk}
+use Rattle.sctp_sides.specs.Meeting.{IsNoEarlier, Stage, stage_of}
+use Rattle.sctp_sides.specs.Shapes.{Closes, EndsPacket, IsEnded, OfEachChunk}
 use Rattle.sctp_assoc.specs.Shown.{Shown}
-use Rattle.sctp_assoc.proofs.Proved.{lost_associations_take_nothing, no_packet_changes_nothing, packets_carry}
-use Rattle.sctp_assoc.proofs.Proved.{the_same_handshake_is_the_same_stage}
+use Rattle.sctp_sides.proofs.Proved.{lost_associations_take_nothing, no_packet_changes_nothing, packets_carry}
+use Rattle.sctp_sides.proofs.Proved.{the_same_handshake_is_the_same_stage}
 use Rattle.sctp_directions.proofs.Proved.{closed_receivers_are_not_open, plain_events_keep_it_plain}
 use Rattle.sctp_directions.proofs.Proved.{receivers_events_are_received}
 use Rattle.sctp_pair.specs.Fits.{IsSaidBy, StagesAgree, StandsClosed, StandsFailed, StandsOpen}

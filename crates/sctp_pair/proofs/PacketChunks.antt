@@ -20,10 +20,10 @@ use Rattle.sctp_model.specs.Safe.{IsWithin}
 use Rattle.sctp_model.proofs.Lists.{all_get}
 use Rattle.sctp_assoc.specs.Acts.{Act, CanAll, History, Parts, done, done_all, parts, tsn_before}
 use Rattle.sctp_assoc.specs.Happened.{acts_of_chunk}
-use Rattle.sctp_assoc.specs.Meeting.{Greets, Stage}
-use Rattle.sctp_assoc.specs.Shapes.{Acknowledges, IsTaking, OpensAndTakes, OpensOnly, TakesChunk, TakesOnly}
+use Rattle.sctp_sides.specs.Meeting.{Greets, Stage}
+use Rattle.sctp_sides.specs.Shapes.{Acknowledges, IsTaking, OpensAndTakes, OpensOnly, TakesChunk, TakesOnly}
 use Rattle.sctp_assoc.specs.Shown.{Shown}
-use Rattle.sctp_assoc.proofs.Proved.{data_is_taken, sacks_acknowledge}
+use Rattle.sctp_sides.proofs.Proved.{data_is_taken, sacks_acknowledge}
 use Rattle.sctp_directions.specs.Laws.{MeetsNobody}
 use Rattle.sctp_directions.specs.Said.{IsGiven, IsMade, IsSaid}
 use Rattle.sctp_directions.proofs.Proved.{acts_keep_the_initial_tsns, sacks_mean_the_same}

@@ -14,15 +14,15 @@ use Rattle.sctp_assoc.specs.Acts.{Act, CanAll, History, Parts, all_data_given, d
 use Rattle.sctp_assoc.specs.Calls.{is_established}
 use Rattle.sctp_assoc.specs.Happened.{Polls, PollsOn, acts_of_poll}
 use Rattle.sctp_assoc.specs.declared.control.ControlPacket.{ControlPacket}
-use Rattle.sctp_assoc.specs.Meeting.{Greets, IsTruthful, Stage, stage_of}
+use Rattle.sctp_sides.specs.Meeting.{Greets, IsTruthful, Stage, stage_of}
 use Rattle.sctp_assoc.specs.Gather.{AreControlReadAgain, control_packets, has_something_to_give, polled}
 use Rattle.sctp_assoc.specs.Gather.{without_control}
-use Rattle.sctp_assoc.specs.Shapes.{IsExchanged, IsGivenBy, IsPolling, IsSameStatus, IsWaitingToGo, OfEachChunk}
-use Rattle.sctp_assoc.specs.Shapes.{reports}
+use Rattle.sctp_sides.specs.Shapes.{IsExchanged, IsGivenBy, IsPolling, IsSameStatus, IsWaitingToGo, OfEachChunk}
+use Rattle.sctp_sides.specs.Shapes.{reports}
 use Rattle.sctp_assoc.specs.Shown.{Shown}
-use Rattle.sctp_assoc.proofs.Proved.{done_append, established_sides_talk, given_append, polls_give_and_report}
-use Rattle.sctp_assoc.proofs.Proved.{polls_keep_the_status, polls_outside_established_give_what_waits}
-use Rattle.sctp_assoc.proofs.Proved.{polls_say_their_acts, reports_are_silent, what_waits_goes_out_as_it_is}
+use Rattle.sctp_sides.proofs.Proved.{done_append, established_sides_talk, given_append, polls_give_and_report}
+use Rattle.sctp_sides.proofs.Proved.{polls_keep_the_status, polls_outside_established_give_what_waits}
+use Rattle.sctp_sides.proofs.Proved.{polls_say_their_acts, reports_are_silent, what_waits_goes_out_as_it_is}
 use Rattle.sctp_directions.specs.Said.{IsGiven, Says}
 use Rattle.sctp_pair.specs.declared.step.Reply.{Reply}
 use Rattle.sctp_pair.specs.declared.step.Reply.TheVariants as replies

@@ -11,11 +11,11 @@ use Rattle.sctp_model.specs.Machine.{Direction, Event, happens}
 use Rattle.sctp_model.proofs.Proved.{each_event_keeps_the_invariant}
 use Rattle.sctp_assoc.specs.Acts.{Act, parts}
 use Rattle.sctp_assoc.specs.Calls.{read_from_stream}
-use Rattle.sctp_assoc.specs.Meeting.{Stage}
-use Rattle.sctp_assoc.specs.Shapes.{HoldsNothing, IsLive, IsSameStatus}
+use Rattle.sctp_sides.specs.Meeting.{Stage}
+use Rattle.sctp_sides.specs.Shapes.{HoldsNothing, IsLive, IsSameStatus}
 use Rattle.sctp_assoc.specs.Shown.{Shown}
-use Rattle.sctp_assoc.proofs.Proved.{found_streams_are_live, read_leads_on, reads_keep_the_status}
-use Rattle.sctp_assoc.proofs.Proved.{what_holds_nothing_gives_nothing}
+use Rattle.sctp_sides.proofs.Proved.{found_streams_are_live, read_leads_on, reads_keep_the_status}
+use Rattle.sctp_sides.proofs.Proved.{what_holds_nothing_gives_nothing}
 use Rattle.sctp_directions.specs.Incoming.{IsReadAs}
 use Rattle.sctp_directions.proofs.Proved.{only_what_is_brought_is_taken_in, plain_events_keep_it_plain, reads_are_alike}
 use Rattle.sctp_directions.proofs.Proved.{receivers_events_are_received, what_comes_leaves_its_own}

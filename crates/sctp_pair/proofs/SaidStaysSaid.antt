@@ -7,9 +7,9 @@ use Rattle.sctp_wire.specs.declared.packet.Packet.{Packet}
 use Rattle.sctp_model.specs.Packets.{Data, Sack}
 use Rattle.sctp_model.specs.Machine.{Direction}
 use Rattle.sctp_model.proofs.Lists.{all_weaker}
-use Rattle.sctp_assoc.specs.Meeting.{IsNoEarlier, Stage}
-use Rattle.sctp_assoc.specs.Shapes.{OfEachChunk}
-use Rattle.sctp_assoc.proofs.Proved.{greetings_stay_true}
+use Rattle.sctp_sides.specs.Meeting.{IsNoEarlier, Stage}
+use Rattle.sctp_sides.specs.Shapes.{OfEachChunk}
+use Rattle.sctp_sides.proofs.Proved.{greetings_stay_true}
 use Rattle.sctp_directions.specs.Said.{Says}
 use Rattle.sctp_pair.specs.Steps.{packet_in}
 use Rattle.sctp_pair.specs.Fits.{AreSaid, IsSaidBy}

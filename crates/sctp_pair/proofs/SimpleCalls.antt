@@ -8,11 +8,11 @@ use Rattle.sctp_model.specs.Machine.{Direction, Event, happens}
 use Rattle.sctp_model.proofs.Proved.{each_event_keeps_the_invariant}
 use Rattle.sctp_assoc.specs.Acts.{Act, History, Leads, Parts, done_all, parts}
 use Rattle.sctp_assoc.specs.Calls.{is_closed_state, is_established, open_refusal, opened}
-use Rattle.sctp_assoc.specs.Meeting.{Stage}
-use Rattle.sctp_assoc.specs.Shapes.{HoldsNothing, IsNotLive, IsSameStatus}
+use Rattle.sctp_sides.specs.Meeting.{Stage}
+use Rattle.sctp_sides.specs.Shapes.{HoldsNothing, IsNotLive, IsSameStatus}
 use Rattle.sctp_assoc.specs.Shown.{Shown}
-use Rattle.sctp_assoc.proofs.Proved.{open_leads_on, opened_streams_hold_nothing, opened_streams_keep_the_status}
-use Rattle.sctp_assoc.proofs.Proved.{opened_streams_were_not_live}
+use Rattle.sctp_sides.proofs.Proved.{open_leads_on, opened_streams_hold_nothing, opened_streams_keep_the_status}
+use Rattle.sctp_sides.proofs.Proved.{opened_streams_were_not_live}
 use Rattle.sctp_directions.specs.Events.{Brings, GivesAMessage, IsAtReceiver, IsPlainEvent}
 use Rattle.sctp_directions.specs.Outgoing.{FitsOutgoing}
 use Rattle.sctp_directions.specs.Incoming.{FitsIncoming}

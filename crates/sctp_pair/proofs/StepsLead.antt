@@ -7,8 +7,8 @@ use Rattle.sctp_model.specs.Messages.{Message}
 use Rattle.sctp_model.specs.Serial.{tsn}
 use Rattle.sctp_model.specs.Machine.{Direction}
 use Rattle.sctp_model.proofs.Lists.{all_get}
-use Rattle.sctp_assoc.specs.Meeting.{Stage}
-use Rattle.sctp_assoc.specs.Shapes.{OfEachChunk}
+use Rattle.sctp_sides.specs.Meeting.{Stage}
+use Rattle.sctp_sides.specs.Shapes.{OfEachChunk}
 use Rattle.sctp_assoc.specs.Shown.{Shown}
 use Rattle.sctp_pair.specs.declared.step.Reply.{Reply}
 use Rattle.sctp_pair.specs.declared.step.Reply.TheVariants as replies

@@ -5,13 +5,13 @@ use Rattle.sctp_streams.specs.declared.event.Event.{Event}
 use Rattle.sctp_model.specs.Machine.{Direction}
 use Rattle.sctp_assoc.specs.Acts.{Act, Parts, done_all, parts}
 use Rattle.sctp_assoc.specs.Calls.{event_polled}
-use Rattle.sctp_assoc.specs.Meeting.{Stage}
+use Rattle.sctp_sides.specs.Meeting.{Stage}
 use Rattle.sctp_assoc.specs.Timeouts.{after_timeouts}
 use Rattle.sctp_assoc.specs.Happened.{acts_of_timeouts}
-use Rattle.sctp_assoc.specs.Shapes.{HoldsNothing}
+use Rattle.sctp_sides.specs.Shapes.{HoldsNothing}
 use Rattle.sctp_assoc.specs.Shown.{Shown}
-use Rattle.sctp_assoc.proofs.Proved.{poll_leads_on, timeouts_lead_on, timeouts_mark_at_most, timers_keep_the_status}
-use Rattle.sctp_assoc.proofs.Proved.{told_events_keep_the_status}
+use Rattle.sctp_sides.proofs.Proved.{poll_leads_on, timeouts_lead_on, timeouts_mark_at_most, timers_keep_the_status}
+use Rattle.sctp_sides.proofs.Proved.{told_events_keep_the_status}
 use Rattle.sctp_directions.specs.Outgoing.{FitsOutgoing}
 use Rattle.sctp_directions.specs.Incoming.{FitsIncoming}
 use Rattle.sctp_directions.specs.Laws.{MeetsNobody}

@@ -11,10 +11,10 @@ use Rattle.sctp_model.specs.Packets.{Sack, mem}
 use Rattle.sctp_model.specs.Machine.{Direction, Event, Receiver, happens}
 use Rattle.sctp_assoc.specs.Acts.{Act, parts}
 use Rattle.sctp_assoc.specs.Calls.{written}
-use Rattle.sctp_assoc.specs.Meeting.{Stage}
-use Rattle.sctp_assoc.specs.Shapes.{WasWritable}
+use Rattle.sctp_sides.specs.Meeting.{Stage}
+use Rattle.sctp_sides.specs.Shapes.{WasWritable}
 use Rattle.sctp_assoc.specs.Shown.{Shown}
-use Rattle.sctp_assoc.proofs.Proved.{accepted_writes_fit, write_leads_on, writes_keep_the_status}
+use Rattle.sctp_sides.proofs.Proved.{accepted_writes_fit, write_leads_on, writes_keep_the_status}
 use Rattle.sctp_directions.specs.Plain.{IsSimple}
 use Rattle.sctp_directions.specs.Outgoing.{message_on}
 use Rattle.sctp_directions.proofs.Proved.{only_beginnings_assign, own_acts_leave_what_comes, plain_events_keep_it_plain}

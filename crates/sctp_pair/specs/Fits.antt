@@ -5,8 +5,8 @@ use Rattle.sctp_wire_types.specs.declared.chunk.Chunk.{Chunk}
 use Rattle.sctp_model.specs.Machine.{Direction}
 use Rattle.sctp_assoc.specs.Acts.{Binds, History, parts}
 use Rattle.sctp_assoc.specs.Calls.{is_closed_state, is_established}
-use Rattle.sctp_assoc.specs.Meeting.{Greets, HasCome, IsDoneAmongClients, IsTruthful, MayHear, Stage, stage_of}
-use Rattle.sctp_assoc.specs.Shapes.{HoldsNothing, OfEachChunk}
+use Rattle.sctp_sides.specs.Meeting.{Greets, HasCome, IsDoneAmongClients, IsTruthful, MayHear, Stage, stage_of}
+use Rattle.sctp_sides.specs.Shapes.{HoldsNothing, OfEachChunk}
 use Rattle.sctp_assoc.specs.Shown.{Shown}
 use Rattle.sctp_directions.specs.Said.{Says}
 use Rattle.sctp_directions.specs.Between.{FitsBetween, IsSound}

@@ -1,8 +1,0 @@
-use Rattle.sctp_assoc.proofs.DataIntake.{data_is_taken_in, nothing_else_is_taken_in}
-use Rattle.sctp_assoc.proofs.laws.data_is_taken_in.Goals as goal
-
-pub returns-clause-taken : goal.returns-clause-taken
-returns-clause-taken c = data_is_taken_in
-
-pub returns-clause-no_other : goal.returns-clause-no_other
-returns-clause-no_other c = nothing_else_is_taken_in

@@ -1,0 +1,349 @@
+-- Of which acts chunks, polls and timeouts are made.
+use Rattle.std.proofs.Common.{◌≡◌, refl, sym, ap, ◌∙◌, subst, ◌⊎◌, ⊎_elim, inl, inr, ℕ, zero, suc, ◌<◌, ◌≤◌, ◌+◌, ◌-◌}
+use Rattle.std.proofs.Common.{◌%◌, ◌^◌, arith, Bool, true, false, eqb, leb, ltb, ◌&&◌, not, if◌then◌else◌, List, []}
+use Rattle.std.proofs.Common.{◌∷◌, ◌++◌, length, Option, Some, None, is_some, Result, Ok, Err}
+use Rattle.std.specs.List.{AllByRecursion}
+use Rattle.std.proofs.lemmas.Bool.{cond-true, eq-eqb, false≢true, le-leb, lt-ltb}
+use Rattle.sctp_wire_types.specs.declared.chunk.Chunk.{Chunk}
+use Rattle.sctp_wire_types.specs.declared.chunk.Chunk.TheVariants as chunks
+use Rattle.sctp_wire_types.specs.declared.chunk.ChunkPayloadData.{ChunkPayloadData}
+use Rattle.sctp_wire_types.specs.declared.chunk.ChunkInit.{ChunkInit}
+use Rattle.sctp_wire_types.specs.declared.packet.CommonHeader.{CommonHeader}
+use Rattle.sctp_wire_types.specs.declared.chunk.ChunkSelectiveAck.{ChunkSelectiveAck}
+use Rattle.sctp_wire_types.specs.declared.error.Error.{Error}
+use Rattle.sctp_wire_types.specs.declared.ids.PayloadProtocolIdentifier.TheVariants as kinds
+use Rattle.sctp_wire_types.specs.Checks.{checked_chunk}
+use Rattle.sctp_wire_types.specs.Serial.{tsn_gt, tsn_lt, tsn_past}
+use Rattle.sctp_parts.specs.declared.timer.Timer.TheVariants as names
+use Rattle.sctp_parts.specs.Timers.{expiry_of}
+use Rattle.sctp_outbound_queue.specs.declared.message.InFlight.{InFlight}
+use Rattle.sctp_outbound_queue.specs.Waiting.{Waiting}
+use Rattle.sctp_outbound_queue.specs.Outbound.{pieces_waiting}
+use Rattle.sctp_streams.specs.Stream.{StreamView, fresh_stream}
+use Rattle.sctp_streams.specs.Streams.{bytes_waiting, generation_left, refusal_in, stream_at}
+use Rattle.sctp_inbound.specs.declared.receiver.AckTrigger.TheVariants as triggers
+use Rattle.sctp_inbound.specs.Handshake.{comes_back}
+use Rattle.sctp_inbound.specs.Receiver.{credit_of, is_next_after}
+use Rattle.sctp_outbound.specs.declared.sender.SackOutcome.{SackOutcome}
+use Rattle.sctp_outbound.specs.declared.sender.SackOutcome.TheVariants as outcomes
+use Rattle.sctp_outbound.specs.declared.sender.Sender.{Sender}
+use Rattle.sctp_outbound.specs.Sender.{after_resending, both_windows, can_send_next, cumulative_tsn_ack_point_of}
+use Rattle.sctp_outbound.specs.Sender.{tsns_up_to, resends_alone, resent_by, sack_outcome, sent_one}
+use Rattle.sctp_model.specs.Serial.{tsn}
+use Rattle.sctp_model.proofs.Lists.{all_join}
+use Rattle.sctp_assoc.specs.Acts.{Act, Binds, CanAll, History, parts, tsn_before}
+use Rattle.sctp_assoc.specs.Calls.{is_beginning, is_cookie_wait, is_established}
+use Rattle.sctp_assoc.specs.Chunks.{counted_data, is_whole, stream_found, with_new_stream}
+use Rattle.sctp_assoc.specs.Happened.{acts_of_ack, acts_of_checked, acts_of_chunk, acts_of_data_poll, acts_of_found}
+use Rattle.sctp_assoc.specs.Happened.{acts_of_marks, acts_of_new, acts_of_outcome, acts_of_resending, acts_of_sending}
+use Rattle.sctp_assoc.specs.Happened.{acts_of_stream, acts_unless_refused, first_again, first_sent}
+use Rattle.sctp_assoc.specs.Timeouts.{after_handshake_timers}
+use Rattle.sctp_sides.specs.Shapes.{DataIsTaken, GivesData, GreetingsMeet, IsMeeting, IsOther, IsTaking}
+use Rattle.sctp_sides.specs.Shapes.{OtherChunksDoNothing, OtherSacksDoNothing, PollsGiveAndReport, SacksAcknowledge}
+use Rattle.sctp_sides.specs.Shapes.{TakenSacksAcknowledge, TimeoutsMarkAtMost}
+use Rattle.sctp_assoc.specs.Shown.{Shown}
+use Rattle.sctp_assoc.proofs.CallsLeadOn.{chunk_leads}
+use Rattle.sctp_sides.proofs.StreamsChanged.{at_made}
+
+-- DATA
+
+taking_if : (credit : Bool) (refusal : Option Error) (piece : ChunkPayloadData)
+    → ((if credit then acts_unless_refused refusal piece else []) ≡ [])
+    ⊎ ((if credit then acts_unless_refused refusal piece else []) ≡ Act.Took piece ∷ [])
+taking_if true None piece = inr refl
+taking_if true (Some fault) piece = inl refl
+taking_if false refusal piece = inl refl
+
+found_acts : (x : Shown) (piece : ChunkPayloadData)
+    → (acts_of_found (x, true) piece ≡ []) ⊎ (acts_of_found (x, true) piece ≡ Act.Took piece ∷ [])
+found_acts x piece =
+    taking_if (ltb 0 (credit_of x.receiver (bytes_waiting x.streams)))
+    (refusal_in x.streams piece.stream_identifier piece x.receiver.max_receive_message_size) piece
+
+stream_acts : (o : Option StreamView) (left : Bool) (a : Shown) (piece : ChunkPayloadData)
+    → stream_at a.streams piece.stream_identifier ≡ o → generation_left a.streams ≡ left
+    → IsTaking a piece (acts_of_stream a piece.stream_identifier
+    ++ acts_of_found (stream_found (counted_data a) piece.stream_identifier) piece)
+unfolding stream_found
+stream_acts (Some t) left a piece e f =
+    let there : is_some (stream_at a.streams piece.stream_identifier) ≡ true = ap is_some e in
+    rw there (⊎_elim (λ (n : acts_of_found (counted_data a, true) piece ≡ []). inl n)
+    (λ (n : acts_of_found (counted_data a, true) piece ≡ Act.Took piece ∷ []).
+    inr (inr (inr (record { stream = t; live = e; are = n })))) (found_acts (counted_data a) piece))
+stream_acts None false a piece e f =
+    let there : is_some (stream_at a.streams piece.stream_identifier) ≡ false = ap is_some e in
+    rw (there, f) (inl refl)
+stream_acts None true a piece e f =
+    let there : is_some (stream_at a.streams piece.stream_identifier) ≡ false = ap is_some e in
+    let id = piece.stream_identifier in
+    let b : Shown = with_new_stream (counted_data a) id in
+    let number = a.sender.queue.next_message_id in
+    let act = Act.Opened id number kinds.Unknown in
+    let made_at = at_made a.streams id number id kinds.Unknown e ∙ cond-true (eqb id id) _ _ (eq-eqb id id refl) in
+    rw (there, f) (⊎_elim
+    (λ (n : acts_of_found (b, true) piece ≡ []).
+    inr (inl (record { first = number; kind = kinds.Unknown; none = e; are = ap (λ z. act ∷ z) n })))
+    (λ (n : acts_of_found (b, true) piece ≡ Act.Took piece ∷ []). inr (inr (inl (record {
+      first = number;
+      kind = kinds.Unknown;
+      stream = fresh_stream id a.streams.next_generation number kinds.Unknown;
+      none = e;
+      live = made_at;
+      are = ap (λ z. act ∷ z) n;
+    }))))
+    (found_acts b piece))
+
+next_acts : (next : Bool) (a : Shown) (piece : ChunkPayloadData)
+    → IsTaking a piece (if next then acts_of_stream a piece.stream_identifier
+    ++ acts_of_found (stream_found (counted_data a) piece.stream_identifier) piece else [])
+next_acts true a piece =
+    stream_acts (stream_at a.streams piece.stream_identifier) (generation_left a.streams) a piece refl refl
+next_acts false a piece = inl refl
+
+checked_acts : (r : Result (Unit {0}) Error) (a : Shown) (header : CommonHeader) (piece : ChunkPayloadData)
+    → IsTaking a piece (acts_of_checked r a header (chunks.Data piece))
+checked_acts (Err fault) a header piece = inl refl
+checked_acts (Ok done) a header piece = next_acts (is_next_after a.receiver piece.tsn && is_whole piece) a piece
+
+pub data_is_taken : DataIsTaken
+data_is_taken a header piece = checked_acts (checked_chunk (chunks.Data piece)) a header piece
+
+-- SACK
+
+outcome_acts : (o : SackOutcome) (n : ℕ) → (acts_of_outcome o n ≡ []) ⊎ (acts_of_outcome o n ≡ Act.Acknowledged n ∷ [])
+outcome_acts outcomes.Older n = inl refl
+outcome_acts outcomes.NotInFlight n = inl refl
+outcome_acts outcomes.Taken n = inr refl
+
+sack_if : (established : Bool) (o : SackOutcome) (n : ℕ)
+    → ((if established then acts_of_outcome o n else []) ≡ [])
+    ⊎ ((if established then acts_of_outcome o n else []) ≡ Act.Acknowledged n ∷ [])
+sack_if true o n = outcome_acts o n
+sack_if false o n = inl refl
+
+checked_sack : (r : Result (Unit {0}) Error) (a : Shown) (header : CommonHeader) (k : ChunkSelectiveAck)
+    → (acts_of_checked r a header (chunks.SelectiveAck k) ≡ [])
+    ⊎ (acts_of_checked r a header (chunks.SelectiveAck k)
+    ≡ Act.Acknowledged (tsns_up_to a.sender k.cumulative_tsn_ack) ∷ [])
+checked_sack (Err fault) a header k = inl refl
+checked_sack (Ok done) a header k =
+    sack_if (is_established a.state) (sack_outcome a.sender k.cumulative_tsn_ack)
+    (tsns_up_to a.sender k.cumulative_tsn_ack)
+
+-- a point that is n past the TSN before the first one in flight
+point_back : (own base t : ℕ)
+    → t % 2 ^ 32 ≡ tsn_before (tsn own (base + tsn_past ((tsn own base + 2 ^ 32 - 1) % 2 ^ 32) t))
+point_back own base t = omega arith
+
+pub sacks_acknowledge : SacksAcknowledge
+sacks_acknowledge a h header sack binds =
+    let acts = acts_of_chunk a header (chunks.SelectiveAck sack) in
+    let t = sack.cumulative_tsn_ack in
+    let n = tsns_up_to a.sender t in
+    ⊎_elim
+    (λ (e : acts_of_chunk a header (chunks.SelectiveAck sack) ≡ []). inl e)
+    (λ (e : acts_of_chunk a header (chunks.SelectiveAck sack)
+    ≡ Act.Acknowledged (tsns_up_to a.sender sack.cumulative_tsn_ack) ∷ []).
+    let leads = chunk_leads header (chunks.SelectiveAck sack) a triggers.None 0 h binds in
+    let can = subst (λ zs. CanAll zs (parts a h)) e leads.1.can in
+    inr (record {
+      count = tsns_up_to a.sender sack.cumulative_tsn_ack;
+      are = e;
+      within = can.0;
+      at =
+          subst (λ (f : ℕ). sack.cumulative_tsn_ack % 2 ^ 32 ≡ tsn_before
+          (tsn h.own (h.base + tsn_past ((f + 2 ^ 32 - 1) % 2 ^ 32) sack.cumulative_tsn_ack))) (sym binds.first)
+          (point_back h.own h.base sack.cumulative_tsn_ack);
+    }))
+    (checked_sack (checked_chunk (chunks.SelectiveAck sack)) a header sack)
+
+-- a SACK that names what was sent is taken
+
+acked_at : (a : Shown) (h : History) → Binds a h → cumulative_tsn_ack_point_of a.sender ≡ tsn_before (tsn h.own h.base)
+acked_at a h binds = ap (λ (t : ℕ). (t + 2 ^ 32 - 1) % 2 ^ 32) binds.first
+
+named_past : (own base n : ℕ) → n < 2 ^ 31 → tsn_past (tsn_before (tsn own base)) (tsn_before (tsn own (base + n))) ≡ n
+named_past own base n near = omega (arith, near)
+
+named_first : (own base : ℕ) → tsn_before (tsn own base) ≡ tsn_before (tsn own (base + 0))
+named_first own base = omega arith
+
+same_is_not_behind : (same past : Bool) → same ≡ true → (not same && not past) ≡ false
+same_is_not_behind same past e = rw e refl
+
+ahead_is_not_behind : (same some near : Bool) → some ≡ true → near ≡ true → (not same && not (some && near)) ≡ false
+ahead_is_not_behind true some near e f = refl
+ahead_is_not_behind false some near e f = rw (e, f) refl
+
+not_behind : (acked t n : ℕ) → tsn_past acked t ≡ n → n < 2 ^ 31 → (n ≡ 0 → acked ≡ t) → tsn_gt acked t ≡ false
+not_behind acked t zero e near same = same_is_not_behind (eqb acked t) (tsn_lt acked t) (eq-eqb acked t (same refl))
+not_behind acked t (suc n) e near same =
+    ahead_is_not_behind (eqb acked t) (ltb 0 (tsn_past acked t)) (ltb (tsn_past acked t) (2 ^ 31))
+    (lt-ltb 0 (tsn_past acked t) (subst (λ (p : ℕ). 0 < p) (sym e) (omega arith)))
+    (lt-ltb (tsn_past acked t) (2 ^ 31) (subst (λ (p : ℕ). p < 2 ^ 31) (sym e) near))
+
+outcome_taken : (older within : Bool) → older ≡ false → within ≡ true
+    → (if older then outcomes.Older else if within then outcomes.Taken else outcomes.NotInFlight) ≡ outcomes.Taken
+outcome_taken older within e f = rw (e, f) refl
+
+taken_acts : (established : Bool) (o : SackOutcome) (n count : ℕ) → established ≡ true → o ≡ outcomes.Taken → n ≡ count
+    → (if established then acts_of_outcome o n else []) ≡ Act.Acknowledged count ∷ []
+taken_acts established o n count e f g = rw (e, f, g) refl
+
+pub taken_sacks_acknowledge : TakenSacksAcknowledge
+taken_sacks_acknowledge a h header sack count established binds names =
+    let acked = cumulative_tsn_ack_point_of a.sender in
+    let t = sack.cumulative_tsn_ack in
+    let at : cumulative_tsn_ack_point_of a.sender ≡ tsn_before (tsn h.own h.base) = acked_at a h binds in
+    let past : tsn_past (cumulative_tsn_ack_point_of a.sender) sack.cumulative_tsn_ack ≡ count =
+    ap (λ (z : ℕ). tsn_past z sack.cumulative_tsn_ack) at
+    ∙ ap (λ (z : ℕ). tsn_past (tsn_before (tsn h.own h.base)) z) names.at
+    ∙ named_past h.own h.base count names.near in
+    let first : count ≡ 0 → cumulative_tsn_ack_point_of a.sender ≡ sack.cumulative_tsn_ack =
+    λ (none : count ≡ 0). at ∙ named_first h.own h.base ∙ ap (λ (n : ℕ). tsn_before (tsn h.own (h.base + n))) (sym none)
+    ∙ sym names.at in
+    taken_acts (is_established a.state) (sack_outcome a.sender t) (tsns_up_to a.sender t) count established
+    (outcome_taken (tsn_gt acked t) (leb (tsns_up_to a.sender t) (length a.sender.queue.in_flight))
+    (not_behind acked t count past names.near first)
+    (le-leb (tsns_up_to a.sender t) (length a.sender.queue.in_flight)
+    (subst (λ (p : ℕ). p ≤ length a.sender.queue.in_flight) (sym past) names.within)))
+    past
+
+other_acts_of_sack : (established older within : Bool) (n : ℕ) → (established ≡ false) ⊎ (older ≡ true)
+    → (if established then acts_of_outcome
+    (if older then outcomes.Older else if within then outcomes.Taken else outcomes.NotInFlight) n else []) ≡ []
+other_acts_of_sack false older within n other = refl
+other_acts_of_sack true true within n other = refl
+other_acts_of_sack true false within n (inl e) = absurd (false≢true (sym e))
+other_acts_of_sack true false within n (inr e) = absurd (false≢true e)
+
+pub other_sacks_do_nothing : OtherSacksDoNothing
+other_sacks_do_nothing a h header sack binds other =
+    let acked = cumulative_tsn_ack_point_of a.sender in
+    let t = sack.cumulative_tsn_ack in
+    other_acts_of_sack (is_established a.state) (tsn_gt acked t)
+    (leb (tsns_up_to a.sender t) (length a.sender.queue.in_flight)) (tsns_up_to a.sender t)
+    (⊎_elim
+    (λ (e : is_established a.state ≡ false). inl e)
+    (λ (e : tsn_gt (tsn_before (tsn h.own h.base)) sack.cumulative_tsn_ack ≡ true).
+    inr (ap (λ (z : ℕ). tsn_gt z sack.cumulative_tsn_ack) (acked_at a h binds) ∙ e))
+    other)
+
+-- INIT and INIT ACK
+
+meeting_if : (c : Bool) (init : ChunkInit) → IsMeeting init (if c then Act.PeerKnown init.initial_tsn ∷ [] else [])
+meeting_if true init = inr refl
+meeting_if false init = inl refl
+
+coming_back_if : (waits back : Bool) (init : ChunkInit)
+    → IsMeeting init (if waits then (if back then Act.PeerKnown init.initial_tsn ∷ [] else []) else [])
+coming_back_if true back init = meeting_if back init
+coming_back_if false back init = inl refl
+
+checked_init : (r : Result (Unit {0}) Error) (a : Shown) (header : CommonHeader) (init : ChunkInit)
+    → IsMeeting init (acts_of_checked r a header (chunks.Init init))
+checked_init (Err fault) a header init = inl refl
+checked_init (Ok done) a header init = meeting_if (is_beginning a.state) init
+
+checked_init_ack : (r : Result (Unit {0}) Error) (a : Shown) (header : CommonHeader) (init : ChunkInit)
+    → IsMeeting init (acts_of_checked r a header (chunks.InitAck init))
+checked_init_ack (Err fault) a header init = inl refl
+checked_init_ack (Ok done) a header init = coming_back_if (is_cookie_wait a.state) (comes_back a.handshake header) init
+
+pub greetings_meet : GreetingsMeet
+greetings_meet a header init = (
+  checked_init (checked_chunk (chunks.Init init)) a header init,
+  checked_init_ack (checked_chunk (chunks.InitAck init)) a header init,
+)
+
+-- Any other chunk
+
+other_acts : (r : Result (Unit {0}) Error) (a : Shown) (header : CommonHeader) (c : Chunk) → IsOther c
+    → acts_of_checked r a header c ≡ []
+other_acts (Err fault) a header c other = refl
+other_acts (Ok done) a header (chunks.Data x) other = absurd other
+other_acts (Ok done) a header (chunks.SelectiveAck x) other = absurd other
+other_acts (Ok done) a header (chunks.Init x) other = absurd other
+other_acts (Ok done) a header (chunks.InitAck x) other = absurd other
+other_acts (Ok done) a header (chunks.Heartbeat x) other = refl
+other_acts (Ok done) a header (chunks.HeartbeatAck x) other = refl
+other_acts (Ok done) a header (chunks.Abort x) other = refl
+other_acts (Ok done) a header (chunks.Shutdown x) other = refl
+other_acts (Ok done) a header chunks.ShutdownAck other = refl
+other_acts (Ok done) a header (chunks.Error x) other = refl
+other_acts (Ok done) a header (chunks.CookieEcho x) other = refl
+other_acts (Ok done) a header chunks.CookieAck other = refl
+other_acts (Ok done) a header chunks.ShutdownComplete other = refl
+other_acts (Ok done) a header (chunks.Reconfig x) other = refl
+other_acts (Ok done) a header (chunks.ForwardTsn x) other = refl
+other_acts (Ok done) a header (chunks.IForwardTsn x) other = refl
+other_acts (Ok done) a header (chunks.Other kind flags value) other = refl
+
+pub other_chunks_do_nothing : OtherChunksDoNothing
+other_chunks_do_nothing a header c other = other_acts (checked_chunk c) a header c other
+
+-- Polls
+
+give_if : (c : Bool) (xs ys : List Act) → AllByRecursion GivesData xs → AllByRecursion GivesData ys
+    → AllByRecursion GivesData (if c then xs else ys)
+give_if true xs ys g h = g
+give_if false xs ys g h = h
+
+resending_gives : (index room : ℕ) (ps : List InFlight) → AllByRecursion GivesData (acts_of_resending index room ps)
+resending_gives index room [] = tt
+resending_gives index room (p ∷ ps) =
+    give_if (not p.retransmit) (acts_of_resending (index + 1) room ps) _ (resending_gives (index + 1) room ps)
+    (give_if (ltb room (length p.user_data)) []
+    (Act.SentAgain index ∷ acts_of_resending (index + 1) (room - length p.user_data) ps) tt
+    (tt, resending_gives (index + 1) (room - length p.user_data) ps))
+
+first_again_gives : (ps : List InFlight) → AllByRecursion GivesData (first_again ps)
+first_again_gives [] = tt
+first_again_gives (p ∷ ps) = (tt, tt)
+
+first_sent_gives : (ms : List Waiting) (now : ℕ) → AllByRecursion GivesData (first_sent ms now)
+first_sent_gives [] now = tt
+first_sent_gives (m ∷ ms) now = (tt, tt)
+
+sending_gives : (n : ℕ) (s : Sender) (out : List ChunkPayloadData) (now : ℕ)
+    → AllByRecursion GivesData (acts_of_sending n s out now)
+sending_gives zero s out now = tt
+sending_gives (suc n) s out now =
+    let one = sent_one s.queue.pending s out now in
+    give_if (can_send_next s) (Act.Sent now ∷ acts_of_sending n one.0 one.1 now) []
+    (tt, sending_gives n one.0 one.1 now) tt
+
+new_gives : (s : Sender) (out : List ChunkPayloadData) (now : ℕ) → AllByRecursion GivesData (acts_of_new s out now)
+new_gives s out now =
+    give_if (eqb (length s.queue.in_flight) 0 && not (can_send_next s)) (first_sent s.queue.pending now)
+    (acts_of_sending (pieces_waiting s.queue.pending) s out now)
+    (first_sent_gives s.queue.pending now) (sending_gives (pieces_waiting s.queue.pending) s out now)
+
+data_poll_gives : (a : Shown) (now : ℕ) → AllByRecursion GivesData (acts_of_data_poll a now)
+data_poll_gives a now =
+    all_join GivesData (acts_of_marks a.sender) (acts_of_new (after_resending a.sender) (resent_by a.sender) now)
+    (give_if (resends_alone a.sender) (first_again a.sender.queue.in_flight)
+    (acts_of_resending 0 (both_windows a.sender) a.sender.queue.in_flight)
+    (first_again_gives a.sender.queue.in_flight) (resending_gives 0 (both_windows a.sender) a.sender.queue.in_flight))
+    (new_gives (after_resending a.sender) (resent_by a.sender) now)
+
+pub polls_give_and_report : PollsGiveAndReport
+polls_give_and_report a now established = record {
+  given = acts_of_data_poll a now;
+  give = data_poll_gives a now;
+  are = cond-true (is_established a.state) (acts_of_data_poll a now ++ acts_of_ack a) [] established;
+}
+
+-- Timeouts
+
+timeouts_mark_if : (expired failure : Bool)
+    → ((if expired then (if failure then [] else Act.Marked ∷ []) else []) ≡ [])
+    ⊎ ((if expired then (if failure then [] else Act.Marked ∷ []) else []) ≡ Act.Marked ∷ [])
+timeouts_mark_if false failure = inl refl
+timeouts_mark_if true true = inl refl
+timeouts_mark_if true false = inr refl
+
+pub timeouts_mark_at_most : TimeoutsMarkAtMost
+timeouts_mark_at_most a now =
+    let b : Shown = after_handshake_timers a now in
+    timeouts_mark_if (expiry_of names.T3RTX now b.timers).expired (expiry_of names.T3RTX now b.timers).failed

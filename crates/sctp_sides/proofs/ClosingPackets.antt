@@ -1,0 +1,336 @@
+-- A packet closes an association exactly where it is open and a chunk of the packet is a fault.
+use Rattle.std.proofs.Common.{◌≡◌, refl, sym, ap, ◌∙◌, ℕ, ◌+◌, arith, Bool, true, false, not, ◌&&◌, if◌then◌else◌, List}
+use Rattle.std.proofs.Common.{[], ◌∷◌, ◌++◌, map, nat_lt, Option, Some, None, Result, Ok, Err, is_some}
+use Rattle.std.proofs.lemmas.Bool.{false≢true}
+use Rattle.std.proofs.lemmas.List.Sums.{sum_by-append, sum_by-cons}
+use Rattle.sctp_wire_types.specs.declared.chunk.Chunk.{Chunk}
+use Rattle.sctp_wire_types.specs.declared.chunk.Chunk.TheVariants as chunks
+use Rattle.sctp_wire_types.specs.declared.chunk.ChunkPayloadData.{ChunkPayloadData}
+use Rattle.sctp_wire_types.specs.declared.chunk.ChunkHeartbeat.{ChunkHeartbeat}
+use Rattle.sctp_wire_types.specs.declared.chunk.ChunkInit.{ChunkInit}
+use Rattle.sctp_wire_types.specs.declared.packet.CommonHeader.{CommonHeader}
+use Rattle.sctp_wire_types.specs.declared.error.Error.{Error}
+use Rattle.sctp_wire_types.specs.declared.event.StreamEvent.TheVariants.{Opened, Readable}
+use Rattle.sctp_wire_types.specs.Checks.{checked_chunk}
+use Rattle.sctp_wire.specs.declared.packet.Packet.{Packet}
+use Rattle.sctp_parts.specs.declared.state.AssociationState.TheVariants as states
+use Rattle.sctp_parts.specs.Estimate.{Estimate}
+use Rattle.sctp_streams.specs.declared.event.AssociationError.{AssociationError}
+use Rattle.sctp_streams.specs.declared.event.AssociationError.TheVariants as reasons
+use Rattle.sctp_streams.specs.declared.event.Event.{Event}
+use Rattle.sctp_streams.specs.declared.event.Event.TheVariants.{AssociationLost, Connected, DataChannelStatsFinal}
+use Rattle.sctp_streams.specs.declared.event.Event.TheVariants.{DatagramReceived}
+use Rattle.sctp_streams.specs.declared.event.Event.TheVariants as events
+use Rattle.sctp_streams.specs.declared.stats.DataChannelStats.{DataChannelStats}
+use Rattle.sctp_streams.specs.Streams.{StreamMap, bytes_waiting, generation_left, is_readable_in, last_stats, pushed_in}
+use Rattle.sctp_streams.specs.Streams.{refusal_in, stream_at}
+use Rattle.sctp_inbound.specs.declared.receiver.AckTrigger.{AckTrigger}
+use Rattle.sctp_inbound.specs.declared.receiver.AckTrigger.TheVariants as triggers
+use Rattle.sctp_inbound.specs.Greeting.{first_cookie, information_of}
+use Rattle.sctp_inbound.specs.Handshake.{comes_back, has_issued}
+use Rattle.sctp_inbound.specs.Receiver.{credit_of, is_next_after}
+use Rattle.sctp_outbound.specs.declared.sender.Sender.{Sender}
+use Rattle.sctp_outbound.specs.declared.sender.SackOutcome.{SackOutcome}
+use Rattle.sctp_outbound.specs.declared.sender.SackOutcome.TheVariants as outcomes
+use Rattle.sctp_outbound.specs.Sender.{acknowledged, tsns_up_to, sack_outcome, with_window}
+use Rattle.sctp_assoc.specs.declared.inbound.Flow.{Flow}
+use Rattle.sctp_assoc.specs.declared.inbound.Flow.TheVariants as flows
+use Rattle.sctp_assoc.specs.Calls.{closed_by, is_beginning, is_closed_state, is_cookie_echoed, is_cookie_wait}
+use Rattle.sctp_assoc.specs.Calls.{is_established}
+use Rattle.sctp_assoc.specs.Handshake.{acknowledged_cookie, answered, connected, echoed, information_returned, learned}
+use Rattle.sctp_assoc.specs.Handshake.{on_cookie_ack, on_cookie_echo, on_heartbeat, on_init, on_init_ack, sends_cookie}
+use Rattle.sctp_assoc.specs.Chunks.{after_chunks, after_packet_of, asks_or_faults, checked_first, dispatched, goes_on}
+use Rattle.sctp_assoc.specs.Chunks.{is_whole, on_chunk, on_counted_data, on_counted_sack, on_data, on_next_data}
+use Rattle.sctp_assoc.specs.Chunks.{on_sack, stream_found, taken_in, taken_unless, told, with_acknowledged}
+use Rattle.sctp_assoc.specs.Chunks.{with_message}
+use Rattle.sctp_sides.specs.Laws.{FaultsAloneClose, IsClosedIf, faults_or, is_faulted, is_faulted_packet, loss_of}
+use Rattle.sctp_sides.specs.Laws.{losses}
+use Rattle.sctp_assoc.specs.Shown.{Shown}
+
+-- What a chunk leaves of an association's end: it isn't closed unless it was, and the mark of a loss and the losses
+-- among the events are the same.
+pub record GoesOn (a b : Shown) : Type 0 where
+  pub still_open : is_closed_state b.state ≡ true → is_closed_state a.state ≡ true
+  pub lost : b.lost ≡ a.lost
+  pub told : losses b.events ≡ losses a.events
+
+goes_on_there : (a b c : Shown) → GoesOn a b → GoesOn b c → GoesOn a c
+goes_on_there a b c m n =
+    record { still_open = λ e. m.still_open (n.still_open e); lost = n.lost ∙ m.lost; told = n.told ∙ m.told }
+
+-- nothing of the end changed, or one event came that is no loss
+stays : (a b : Shown) → b.state ≡ a.state → b.lost ≡ a.lost → b.events ≡ a.events → GoesOn a b
+stays a b s l e = record { still_open = λ c. ap is_closed_state (sym s) ∙ c; lost = l; told = ap losses e }
+
+one_more_told : (queued : List Event) (event : Event) → losses (queued ++ event ∷ []) ≡ losses queued + loss_of event
+one_more_told queued event =
+    sum_by-append loss_of queued (event ∷ [])
+    ∙ ap (λ (n : ℕ). losses queued + n) (sum_by-cons loss_of event [] ∙ omega arith)
+
+tells : (queued : List Event) (event : Event) → loss_of event ≡ 0 → losses (queued ++ event ∷ []) ≡ losses queued
+tells queued event e = one_more_told queued event ∙ ap (λ (n : ℕ). losses queued + n) e ∙ omega arith
+
+-- DATA
+
+told_goes_on : (c : Bool) (b : Shown) (id : ℕ) (kept : Bool) → (kept && is_readable_in b.streams id) ≡ c
+    → GoesOn b (told b id kept)
+told_goes_on true b id kept e = rw e (record {
+  still_open = λ c. c;
+  lost = refl;
+  told =
+      tells (b.events ++ DatagramReceived ∷ []) (events.Stream (Readable id)) refl
+      ∙ tells b.events DatagramReceived refl;
+})
+told_goes_on false b id kept e =
+    rw e (record { still_open = λ c. c; lost = refl; told = tells b.events DatagramReceived refl })
+
+message_goes_on : (a : Shown) (piece : ChunkPayloadData) (x : StreamMap × Bool) → GoesOn a (with_message a piece x)
+message_goes_on a piece (streams, kept) =
+    let m = told_goes_on _ _ piece.stream_identifier kept refl in
+    record { still_open = m.still_open; lost = m.lost; told = m.told }
+
+taking_goes_on : (o : Option Error) (a : Shown) (piece : ChunkPayloadData) → GoesOn a (taken_unless o a piece).0
+taking_goes_on (Some fault) a piece = stays a a refl refl refl
+taking_goes_on None a piece = message_goes_on a piece (pushed_in a.streams piece.stream_identifier piece)
+
+asked_goes_on : (a : Shown) (x : Shown × Option Error) (piece : ChunkPayloadData) (trigger : AckTrigger) → GoesOn a x.0
+    → GoesOn a (asks_or_faults x piece trigger).0
+asked_goes_on a (b, None) piece trigger m = m
+asked_goes_on a (b, Some fault) piece trigger m = m
+
+credit_goes_on : (c : Bool) (b : Shown) (piece : ChunkPayloadData) (trigger : AckTrigger)
+    → nat_lt 0 (credit_of b.receiver (bytes_waiting b.streams)) ≡ c
+    → GoesOn b (on_next_data (b, true) piece trigger).0
+unfolding taken_in
+credit_goes_on true b piece trigger e =
+    rw e (asked_goes_on b (taken_in b piece) piece trigger
+    (taking_goes_on (refusal_in b.streams piece.stream_identifier piece _) b piece))
+credit_goes_on false b piece trigger e = rw e (stays b b refl refl refl)
+
+next_goes_on : (x : Shown × Bool) (piece : ChunkPayloadData) (trigger : AckTrigger)
+    → GoesOn x.0 (on_next_data x piece trigger).0
+next_goes_on (b, false) piece trigger = stays b b refl refl refl
+next_goes_on (b, true) piece trigger = credit_goes_on _ b piece trigger refl
+
+found_goes_on : (there left : Bool) (a : Shown) (id : ℕ) → is_some (stream_at a.streams id) ≡ there
+    → generation_left a.streams ≡ left
+    → GoesOn a (stream_found a id).0
+unfolding stream_found
+found_goes_on true left a id e f = rw e (stays a a refl refl refl)
+found_goes_on false true a id e f =
+    rw (e, f) (record { still_open = λ c. c; lost = refl; told = tells a.events (events.Stream (Opened id)) refl })
+found_goes_on false false a id e f = rw (e, f) (stays a a refl refl refl)
+
+data_goes_on : (c : Bool) (b : Shown) (piece : ChunkPayloadData) (trigger : AckTrigger)
+    → (is_next_after b.receiver piece.tsn && is_whole piece) ≡ c
+    → GoesOn b (on_counted_data b piece trigger).0
+data_goes_on false b piece trigger e = rw e (stays b b refl refl refl)
+data_goes_on true b piece trigger e =
+    let id = piece.stream_identifier in
+    rw e (goes_on_there b (stream_found b id).0 _ (found_goes_on _ _ b id refl refl)
+    (next_goes_on (stream_found b id) piece trigger))
+
+on_data_goes_on : (a : Shown) (piece : ChunkPayloadData) (trigger : AckTrigger) → GoesOn a (on_data a piece trigger).0
+unfolding on_data
+on_data_goes_on a piece trigger =
+    let m = data_goes_on _ _ piece trigger refl in
+    record { still_open = m.still_open; lost = m.lost; told = m.told }
+
+-- SACK
+
+acknowledged_goes_on : (a : Shown) (moved : Bool) (now : ℕ) (x : Sender × Estimate × StreamMap)
+    → GoesOn a (with_acknowledged a moved now x)
+acknowledged_goes_on a moved now (s, e, m) = stays a _ refl refl refl
+
+outcome_goes_on : (o : SackOutcome) (b : Shown) (point window : ℕ) (trigger : AckTrigger) (now : ℕ)
+    → GoesOn b (on_counted_sack o b point window trigger now).0
+outcome_goes_on outcomes.Older b point window trigger now = stays b b refl refl refl
+outcome_goes_on outcomes.NotInFlight b point window trigger now = stays b b refl refl refl
+outcome_goes_on outcomes.Taken b point window trigger now =
+    acknowledged_goes_on b (nat_lt 0 (tsns_up_to b.sender point)) now
+    (acknowledged (tsns_up_to b.sender point) now (with_window b.sender window, b.estimate, b.streams))
+
+sack_goes_on : (c : Bool) (a : Shown) (point window : ℕ) (trigger : AckTrigger) (now : ℕ) → is_established a.state ≡ c
+    → GoesOn a (on_sack a point window trigger now).0
+unfolding on_sack
+sack_goes_on true a point window trigger now e =
+    let m = outcome_goes_on (sack_outcome a.sender point) _ point window trigger now in
+    rw e (record { still_open = m.still_open; lost = m.lost; told = m.told })
+sack_goes_on false a point window trigger now e = rw e (stays a a refl refl refl)
+
+-- the handshake
+
+init_goes_on : (c : Bool) (a : Shown) (header : CommonHeader) (init : ChunkInit) (trigger : AckTrigger)
+    → is_beginning a.state ≡ c → GoesOn a (on_init a header init trigger).0
+unfolding on_init
+init_goes_on true a header init trigger e = rw e (stays a (answered (learned a header init)) refl refl refl)
+init_goes_on false a header init trigger e = rw e (stays a a refl refl refl)
+
+echoed_goes_on : (o : Option (List ℕ)) (a b : Shown) (trigger : AckTrigger) (now : ℕ) → b.state ≡ a.state
+    → b.lost ≡ a.lost → b.events ≡ a.events → GoesOn a (echoed o b trigger now).0
+unfolding sends_cookie
+echoed_goes_on None a b trigger now s l e = stays a b s l e
+echoed_goes_on (Some cookie) a b trigger now s l e =
+    record { still_open = λ c. absurd (false≢true c); lost = l; told = ap losses e }
+
+init_ack_goes_on : (waits back : Bool) (a : Shown) (header : CommonHeader) (init : ChunkInit) (trigger : AckTrigger)
+    (now : ℕ) → is_cookie_wait a.state ≡ waits
+    → comes_back a.handshake header ≡ back → GoesOn a (on_init_ack a header init trigger now).0
+unfolding on_init_ack
+init_ack_goes_on true true a header init trigger now e f =
+    rw (e, f) (echoed_goes_on (first_cookie init.params) a _ trigger now refl refl refl)
+init_ack_goes_on true false a header init trigger now e f = rw (e, f) (stays a _ refl refl refl)
+init_ack_goes_on false back a header init trigger now e f = rw e (stays a a refl refl refl)
+
+connected_goes_on : (a b : Shown) → b.state ≡ states.Established → b.lost ≡ a.lost
+    → b.events ≡ a.events ++ Connected ∷ [] → GoesOn a b
+connected_goes_on a b s l e = record {
+  still_open = λ c. absurd (false≢true (ap is_closed_state (sym s) ∙ c));
+  lost = l;
+  told = ap losses e ∙ tells a.events Connected refl;
+}
+
+cookie_echo_goes_on : (issued beginning established : Bool) (a : Shown) (cookie : List ℕ) (trigger : AckTrigger)
+    → has_issued a.handshake cookie ≡ issued
+    → is_beginning a.state ≡ beginning → is_established a.state ≡ established
+    → GoesOn a (on_cookie_echo a cookie trigger).0
+unfolding on_cookie_echo
+cookie_echo_goes_on false beginning established a cookie trigger e f g = rw e (stays a a refl refl refl)
+cookie_echo_goes_on true true established a cookie trigger e f g =
+    rw (e, f) (connected_goes_on a (acknowledged_cookie (connected a)) refl refl refl)
+cookie_echo_goes_on true false true a cookie trigger e f g =
+    rw (e, f, g) (stays a (acknowledged_cookie a) refl refl refl)
+cookie_echo_goes_on true false false a cookie trigger e f g = rw (e, f, g) (stays a a refl refl refl)
+
+cookie_ack_goes_on : (c : Bool) (a : Shown) (trigger : AckTrigger) → is_cookie_echoed a.state ≡ c
+    → GoesOn a (on_cookie_ack a trigger).0
+unfolding on_cookie_ack
+cookie_ack_goes_on true a trigger e = rw e (connected_goes_on a (connected a) refl refl refl)
+cookie_ack_goes_on false a trigger e = rw e (stays a a refl refl refl)
+
+returned_goes_on : (o : Option (List ℕ)) (a : Shown) → GoesOn a (information_returned o a)
+returned_goes_on None a = stays a a refl refl refl
+returned_goes_on (Some information) a = stays a (information_returned (Some information) a) refl refl refl
+
+heartbeat_goes_on : (a : Shown) (heartbeat : ChunkHeartbeat) (trigger : AckTrigger)
+    → GoesOn a (on_heartbeat a heartbeat trigger).0
+unfolding on_heartbeat
+heartbeat_goes_on a heartbeat trigger = returned_goes_on (information_of heartbeat.params) a
+
+-- Any chunk
+
+kind_goes_on : (header : CommonHeader) (c : Chunk) (a : Shown) (trigger : AckTrigger) (now : ℕ)
+    → GoesOn a (dispatched a header c trigger now).0
+kind_goes_on header (chunks.Data piece) a trigger now = on_data_goes_on a piece trigger
+kind_goes_on header (chunks.SelectiveAck sack) a trigger now =
+    sack_goes_on _ a sack.cumulative_tsn_ack sack.advertised_receiver_window_credit trigger now refl
+kind_goes_on header (chunks.Init x) a trigger now = init_goes_on _ a header x trigger refl
+kind_goes_on header (chunks.InitAck x) a trigger now = init_ack_goes_on _ _ a header x trigger now refl refl
+kind_goes_on header (chunks.Heartbeat x) a trigger now = heartbeat_goes_on a x trigger
+kind_goes_on header (chunks.HeartbeatAck x) a trigger now = stays a a refl refl refl
+kind_goes_on header (chunks.Abort x) a trigger now = stays a a refl refl refl
+kind_goes_on header (chunks.Shutdown x) a trigger now = stays a a refl refl refl
+kind_goes_on header chunks.ShutdownAck a trigger now = stays a a refl refl refl
+kind_goes_on header (chunks.Error x) a trigger now = stays a a refl refl refl
+kind_goes_on header (chunks.CookieEcho x) a trigger now = cookie_echo_goes_on _ _ _ a x trigger refl refl refl
+kind_goes_on header chunks.CookieAck a trigger now = cookie_ack_goes_on _ a trigger refl
+kind_goes_on header chunks.ShutdownComplete a trigger now = stays a a refl refl refl
+kind_goes_on header (chunks.Reconfig x) a trigger now = stays a a refl refl refl
+kind_goes_on header (chunks.ForwardTsn x) a trigger now = stays a a refl refl refl
+kind_goes_on header (chunks.IForwardTsn x) a trigger now = stays a a refl refl refl
+kind_goes_on header (chunks.Other kind flags value) a trigger now = stays a a refl refl refl
+
+checked_goes_on : (r : Result (Unit {0}) Error) (header : CommonHeader) (c : Chunk) (a : Shown) (trigger : AckTrigger)
+    (now : ℕ) → GoesOn a (checked_first r a header c trigger now).0
+checked_goes_on (Err fault) header c a trigger now = stays a a refl refl refl
+checked_goes_on (Ok done) header c a trigger now = kind_goes_on header c a trigger now
+
+chunk_goes_on : (header : CommonHeader) (c : Chunk) (a : Shown) (trigger : AckTrigger) (now : ℕ)
+    → GoesOn a (on_chunk a header c trigger now).0
+unfolding on_chunk
+chunk_goes_on header c a trigger now = checked_goes_on (checked_chunk c) header c a trigger now
+
+-- A packet
+
+last_counters_tell : (stats : List DataChannelStats) → losses (map DataChannelStatsFinal stats) ≡ 0
+last_counters_tell [] = refl
+last_counters_tell (s ∷ ss) =
+    sum_by-cons loss_of (DataChannelStatsFinal s) (map DataChannelStatsFinal ss)
+    ∙ ap (λ (n : ℕ). 0 + n) (last_counters_tell ss)
+
+loss_told : (queued : List Event) (stats : List DataChannelStats) (reason : AssociationError)
+    → losses (queued ++ map DataChannelStatsFinal stats ++ AssociationLost reason ∷ []) ≡ losses queued + 1
+loss_told queued stats reason =
+    one_more_told (queued ++ map DataChannelStatsFinal stats) (AssociationLost reason)
+    ∙ ap (λ (n : ℕ). n + 1) (sum_by-append loss_of queued (map DataChannelStatsFinal stats)
+    ∙ ap (λ (n : ℕ). losses queued + n) (last_counters_tell stats)
+    ∙ omega arith)
+
+-- an association that is open is closed by a fault that came after chunks that leave its end as it was
+fault_closes : (closed : Bool) (a b : Shown) (reason : AssociationError) → is_closed_state b.state ≡ closed → GoesOn a b
+    → IsClosedIf (not closed) a (closed_by b reason)
+fault_closes true a b reason e m = rw e (record {
+  closed = λ c. absurd (false≢true c);
+  still_open = λ _ c. m.still_open c;
+  lost = m.lost;
+  told = m.told ∙ omega arith;
+})
+fault_closes false a b reason e m = rw e (record {
+  closed = λ _. refl;
+  still_open = λ c _. absurd (false≢true (sym c));
+  lost = refl;
+  told = loss_told b.events (last_stats b.streams) reason ∙ ap (λ (n : ℕ). n + 1) m.told;
+})
+
+-- what closes an association whose end is as that of another one closes that one
+closed_from : (closing : Bool) (a b c : Shown) → GoesOn a b → IsClosedIf closing b c → IsClosedIf closing a c
+closed_from true a b c m n = record {
+  closed = n.closed;
+  still_open = λ e _. absurd (false≢true (sym e));
+  lost = n.lost;
+  told = n.told ∙ ap (λ (k : ℕ). k + 1) m.told;
+}
+closed_from false a b c m n = record {
+  closed = n.closed;
+  still_open = λ e s. m.still_open (n.still_open e s);
+  lost = n.lost ∙ m.lost;
+  told = n.told ∙ ap (λ (k : ℕ). k + 0) m.told;
+}
+
+stays_open : (a b : Shown) → b.state ≡ a.state → b.lost ≡ a.lost → b.events ≡ a.events → IsClosedIf false a b
+stays_open a b s l e = record {
+  closed = λ c. absurd (false≢true c);
+  still_open = λ _ c. ap is_closed_state (sym s) ∙ c;
+  lost = l;
+  told = ap losses e ∙ omega arith;
+}
+
+after_fault : (x : Shown × Flow) (a : Shown) (more : Shown → AckTrigger → Shown) (faulted : Shown → AckTrigger → Bool)
+    → GoesOn a x.0
+    → ((b : Shown) (trigger : AckTrigger) → IsClosedIf (faulted b trigger) b (more b trigger))
+    → IsClosedIf (faults_or x faulted) a (goes_on x more)
+after_fault (b, flows.Next trigger) a more faulted m on =
+    closed_from (faulted b trigger) a b (more b trigger) m (on b trigger)
+after_fault (b, flows.Fault fault) a more faulted m on =
+    fault_closes (is_closed_state b.state) a b reasons.AssociationClosed refl m
+
+chunks_close : (header : CommonHeader) (cs : List Chunk) (a : Shown) (trigger : AckTrigger) (now : ℕ)
+    → IsClosedIf (is_faulted header cs a trigger now) a (after_chunks header cs a trigger now)
+chunks_close header [] a trigger now = stays_open a _ refl refl refl
+chunks_close header (c ∷ cs) a trigger now =
+    after_fault (on_chunk a header c trigger now) a (λ b next. after_chunks header cs b next now)
+    (λ b next. is_faulted header cs b next now)
+    (chunk_goes_on header c a trigger now) (λ b next. chunks_close header cs b next now)
+
+packet_closes : (packet : Option Packet) (a : Shown) (now : ℕ)
+    → IsClosedIf (is_faulted_packet a packet now) a (after_packet_of a packet now)
+packet_closes None a now = stays_open a a refl refl refl
+packet_closes (Some packet) a now = chunks_close packet.common_header packet.chunks a triggers.None now
+
+packet_closes_unless : (lost : Bool) (packet : Option Packet) (a : Shown) (now : ℕ)
+    → IsClosedIf (not lost && is_faulted_packet a packet now) a (if lost then a else after_packet_of a packet now)
+packet_closes_unless true packet a now = stays_open a a refl refl refl
+packet_closes_unless false packet a now = packet_closes packet a now
+
+pub faults_alone_close : FaultsAloneClose
+faults_alone_close a packet now = packet_closes_unless a.lost packet a now

@@ -1,0 +1,360 @@
+-- A chunk is a fault exactly where it has one of the causes that are named; a packet closes an association only by
+-- such a cause.
+use Rattle.std.proofs.Common.{◌≡◌, ◌≢◌, refl, sym, ap, ◌∙◌, inl, inr, ℕ, ◌<◌, ◌≤◌, ◌+◌, ◌-◌, ◌%◌, ◌^◌, arith, Bool}
+use Rattle.std.proofs.Common.{true, false, eqb, leb, ◌&&◌, if◌then◌else◌, List, length, Option, Some, None, is_some}
+use Rattle.std.proofs.Common.{Result, Ok, Err, is_ok}
+use Rattle.std.proofs.lemmas.Bool.{and_from, and_parts, eq-eqb, eqb-true, false≢true, leb-false, leb-true}
+use Rattle.sctp_wire_types.specs.Checks.{checked_chunk}
+use Rattle.sctp_wire_types.specs.Serial.{tsn_gt, tsn_past}
+use Rattle.sctp_wire_types.specs.declared.chunk.Chunk.{Chunk}
+use Rattle.sctp_wire_types.specs.declared.chunk.Chunk.TheVariants as chunks
+use Rattle.sctp_wire_types.specs.declared.chunk.ChunkHeartbeat.{ChunkHeartbeat}
+use Rattle.sctp_wire_types.specs.declared.chunk.ChunkInit.{ChunkInit}
+use Rattle.sctp_wire_types.specs.declared.chunk.ChunkPayloadData.{ChunkPayloadData}
+use Rattle.sctp_wire_types.specs.declared.error.Error.{Error}
+use Rattle.sctp_wire_types.specs.declared.error.Error.TheVariants as errors
+use Rattle.sctp_wire_types.specs.declared.packet.CommonHeader.{CommonHeader}
+use Rattle.sctp_parts.specs.declared.state.AssociationState.{AssociationState}
+use Rattle.sctp_parts.specs.declared.state.AssociationState.TheVariants as states
+use Rattle.sctp_inbound.specs.declared.receiver.AckTrigger.{AckTrigger}
+use Rattle.sctp_inbound.specs.Greeting.{first_cookie}
+use Rattle.sctp_inbound.specs.Handshake.{comes_back, has_issued}
+use Rattle.sctp_outbound.specs.declared.sender.SackOutcome.{SackOutcome}
+use Rattle.sctp_outbound.specs.declared.sender.SackOutcome.TheVariants as outcomes
+use Rattle.sctp_outbound.specs.Sender.{cumulative_tsn_ack_point_of, tsns_up_to, sack_outcome}
+use Rattle.sctp_model.specs.Serial.{tsn}
+use Rattle.sctp_assoc.specs.Acts.{Binds, History, tsn_before}
+use Rattle.sctp_assoc.specs.Calls.{is_beginning, is_cookie_echoed, is_cookie_wait, is_established}
+use Rattle.sctp_sides.specs.Causes.{AcknowledgesTheUnsent, BringsNoCookie, FaultsAreCauses, FitsNoMessage, IsCause}
+use Rattle.sctp_sides.specs.Causes.{IsCauseOfItsKind, IsFault, IsPastTheHandshake}
+use Rattle.sctp_assoc.specs.Chunks.{checked_first, dispatched, on_chunk, on_counted_sack, on_data, on_sack}
+use Rattle.sctp_assoc.specs.Handshake.{echoed, on_cookie_ack, on_cookie_echo, on_heartbeat, on_init, on_init_ack}
+use Rattle.sctp_assoc.specs.Shown.{Shown}
+use Rattle.sctp_sides.proofs.DataIntake.{data_passed, fault_from, fault_of, may_passes, passes_may, refused_data}
+
+-- States by their tests
+
+established_state : (s : AssociationState) → is_established s ≡ true → s ≡ states.Established
+established_state states.Closed e = absurd (false≢true e)
+established_state states.CookieWait e = absurd (false≢true e)
+established_state states.CookieEchoed e = absurd (false≢true e)
+established_state states.Established e = refl
+established_state states.ShutdownAckSent e = absurd (false≢true e)
+established_state states.ShutdownPending e = absurd (false≢true e)
+established_state states.ShutdownReceived e = absurd (false≢true e)
+established_state states.ShutdownSent e = absurd (false≢true e)
+
+waiting_state : (s : AssociationState) → is_cookie_wait s ≡ true → s ≡ states.CookieWait
+waiting_state states.Closed e = absurd (false≢true e)
+waiting_state states.CookieWait e = refl
+waiting_state states.CookieEchoed e = absurd (false≢true e)
+waiting_state states.Established e = absurd (false≢true e)
+waiting_state states.ShutdownAckSent e = absurd (false≢true e)
+waiting_state states.ShutdownPending e = absurd (false≢true e)
+waiting_state states.ShutdownReceived e = absurd (false≢true e)
+waiting_state states.ShutdownSent e = absurd (false≢true e)
+
+past_handshake : (s : AssociationState) → is_beginning s ≡ false → IsPastTheHandshake s
+past_handshake s f = record {
+  not_closed = λ e. false≢true (sym f ∙ ap is_beginning e);
+  not_waiting = λ e. false≢true (sym f ∙ ap is_beginning e);
+  not_echoed = λ e. false≢true (sym f ∙ ap is_beginning e);
+}
+
+handshake_past : (s : AssociationState) → IsPastTheHandshake s → is_beginning s ≡ false
+handshake_past states.Closed p = absurd (p.not_closed refl)
+handshake_past states.CookieWait p = absurd (p.not_waiting refl)
+handshake_past states.CookieEchoed p = absurd (p.not_echoed refl)
+handshake_past states.Established p = refl
+handshake_past states.ShutdownAckSent p = refl
+handshake_past states.ShutdownPending p = refl
+handshake_past states.ShutdownReceived p = refl
+handshake_past states.ShutdownSent p = refl
+
+-- no fault
+pub never : (o : Option Error) (error : Error) → o ≡ None → o ≡ Some error → ⊥
+never o error n e = false≢true (ap is_some (sym n ∙ e))
+
+-- DATA
+
+data_cause : (a : Shown) (h : History) (piece : ChunkPayloadData) (trigger : AckTrigger) (error : Error) → Binds a h
+    → fault_of (on_data a piece trigger).1 ≡ Some error → FitsNoMessage a h piece
+data_cause a h piece trigger error binds e =
+    let p = data_passed a piece trigger error e in
+    record { may = passes_may a h piece binds p.0; error = error; refused = p.1 }
+
+cause_data : (a : Shown) (h : History) (piece : ChunkPayloadData) (trigger : AckTrigger) → Binds a h
+    → FitsNoMessage a h piece → IsFault (on_data a piece trigger)
+cause_data a h piece trigger binds c = (
+  c.error,
+  fault_from (on_data a piece trigger).1 c.error
+      (refused_data a piece trigger (may_passes a h piece binds c.may) ∙ c.refused),
+)
+
+-- SACK
+
+abbrev outcome_fault : SackOutcome → Option Error
+outcome_fault outcomes.Older = None
+outcome_fault outcomes.NotInFlight = Some errors.ErrInflightQueueTsnPop
+outcome_fault outcomes.Taken = None
+
+outcome_flow : (o : SackOutcome) (b : Shown) (point window : ℕ) (trigger : AckTrigger) (now : ℕ)
+    → fault_of (on_counted_sack o b point window trigger now).1 ≡ outcome_fault o
+outcome_flow outcomes.Older b point window trigger now = refl
+outcome_flow outcomes.NotInFlight b point window trigger now = refl
+outcome_flow outcomes.Taken b point window trigger now = refl
+
+sack_flow : (established : Bool) (a : Shown) (point window : ℕ) (trigger : AckTrigger) (now : ℕ)
+    → is_established a.state ≡ established
+    → fault_of (on_sack a point window trigger now).1
+    ≡ (if established then outcome_fault (sack_outcome a.sender point) else None)
+unfolding on_sack
+sack_flow true a point window trigger now e =
+    rw e (outcome_flow (sack_outcome a.sender point) _ point window trigger now)
+sack_flow false a point window trigger now e = rw e refl
+
+-- the SACK's point is beyond what is in flight
+pub record IsBeyond (established older within : Bool) : Type 0 where
+  pub counts : established ≡ true
+  pub ahead : older ≡ false
+  pub beyond : within ≡ false
+
+beyond_if : (established older within : Bool) (error : Error)
+    → (if established then outcome_fault (if older then outcomes.Older else if within then outcomes.Taken else
+    outcomes.NotInFlight) else None) ≡ Some error
+    → IsBeyond established older within
+beyond_if false older within error e = absurd (never None error refl e)
+beyond_if true true within error e = absurd (never None error refl e)
+beyond_if true false true error e = absurd (never None error refl e)
+beyond_if true false false error e = record { counts = refl; ahead = refl; beyond = refl }
+
+-- how far a point is past the one acknowledged, where it stands before this offset
+past_is : (own base n t : ℕ) → t % 2 ^ 32 ≡ tsn_before (tsn own (base + n))
+    → tsn_past (tsn_before (tsn own base)) t ≤ n
+past_is own base n t e = omega (arith, e)
+
+point_back : (own base t : ℕ) → t % 2 ^ 32 ≡ tsn_before (tsn own (base + tsn_past (tsn_before (tsn own base)) t))
+point_back own base t = omega arith
+
+acked_at : (a : Shown) (h : History) → Binds a h → cumulative_tsn_ack_point_of a.sender ≡ tsn_before (tsn h.own h.base)
+acked_at a h binds = ap (λ (t : ℕ). (t + 2 ^ 32 - 1) % 2 ^ 32) binds.first
+
+never_sent : (acked own base flown t : ℕ) → acked ≡ tsn_before (tsn own base) → leb (tsn_past acked t) flown ≡ false
+    → (n : ℕ) → n ≤ flown → t % 2 ^ 32 ≢ tsn_before (tsn own (base + n))
+never_sent acked own base flown t at beyond n within e =
+    let far : flown < tsn_past acked t = leb-false (tsn_past acked t) flown beyond in
+    let near : tsn_past (tsn_before (tsn own base)) t ≤ n = past_is own base n t e in
+    let same : tsn_past acked t ≡ tsn_past (tsn_before (tsn own base)) t = ap (λ (z : ℕ). tsn_past z t) at in
+    absurd (beyond_both (tsn_past acked t) (tsn_past (tsn_before (tsn own base)) t) n flown far near same within)
+  where
+    beyond_both : (p q n f : ℕ) → f < p → q ≤ n → p ≡ q → n ≤ f → ⊥
+    beyond_both p q n f far near same within = omega (arith, far, near, same, within)
+
+sent_if : (within : Bool) (acked own base flown t : ℕ) → leb (tsn_past acked t) flown ≡ within
+    → acked ≡ tsn_before (tsn own base)
+    → ((n : ℕ) → n ≤ flown → t % 2 ^ 32 ≢ tsn_before (tsn own (base + n))) → within ≡ false
+sent_if false acked own base flown t e at unsent = refl
+sent_if true acked own base flown t e at unsent =
+    absurd (unsent (tsn_past acked t) (leb-true (tsn_past acked t) flown e)
+    (point_back own base t ∙ ap (λ (z : ℕ). tsn_before (tsn own (base + tsn_past z t))) (sym at)))
+
+sack_cause : (a : Shown) (h : History) (point window : ℕ) (trigger : AckTrigger) (now : ℕ) (error : Error) → Binds a h
+    → fault_of (on_sack a point window trigger now).1 ≡ Some error
+    → AcknowledgesTheUnsent a h point
+sack_cause a h point window trigger now error binds e =
+    let b =
+    beyond_if (is_established a.state) (tsn_gt (cumulative_tsn_ack_point_of a.sender) point)
+    (leb (tsns_up_to a.sender point) (length a.sender.queue.in_flight)) error
+    (sym (sack_flow (is_established a.state) a point window trigger now refl) ∙ e) in
+    record {
+      established = established_state a.state b.counts;
+      not_behind = sym (ap (λ (z : ℕ). tsn_gt z point) (acked_at a h binds)) ∙ b.ahead;
+      unsent =
+          never_sent (cumulative_tsn_ack_point_of a.sender) h.own h.base (length a.sender.queue.in_flight) point
+          (acked_at a h binds) b.beyond;
+    }
+
+beyond_faults : (established older within : Bool) → established ≡ true → older ≡ false → within ≡ false
+    → (if established then outcome_fault
+    (if older then outcomes.Older else if within then outcomes.Taken else outcomes.NotInFlight) else None)
+    ≡ Some errors.ErrInflightQueueTsnPop
+beyond_faults established older within e f g = rw (e, f, g) refl
+
+cause_sack : (a : Shown) (h : History) (point window : ℕ) (trigger : AckTrigger) (now : ℕ) → Binds a h
+    → AcknowledgesTheUnsent a h point → IsFault (on_sack a point window trigger now)
+cause_sack a h point window trigger now binds c = (
+  errors.ErrInflightQueueTsnPop,
+  fault_from (on_sack a point window trigger now).1 errors.ErrInflightQueueTsnPop
+      (sack_flow (is_established a.state) a point window trigger now refl
+      ∙ beyond_faults (is_established a.state) (tsn_gt (cumulative_tsn_ack_point_of a.sender) point)
+      (leb (tsns_up_to a.sender point) (length a.sender.queue.in_flight))
+      (ap is_established c.established) (ap (λ (z : ℕ). tsn_gt z point) (acked_at a h binds) ∙ c.not_behind)
+      (sent_if _ (cumulative_tsn_ack_point_of a.sender) h.own h.base (length a.sender.queue.in_flight) point refl
+      (acked_at a h binds) c.unsent)),
+)
+
+-- INIT and INIT ACK
+
+init_flow : (beginning : Bool) (a : Shown) (header : CommonHeader) (init : ChunkInit) (trigger : AckTrigger)
+    → is_beginning a.state ≡ beginning
+    → fault_of (on_init a header init trigger).1 ≡ (if beginning then None else Some errors.ErrHandleInitState)
+unfolding on_init
+init_flow true a header init trigger e = rw e refl
+init_flow false a header init trigger e = rw e refl
+
+init_if : (beginning : Bool) (error : Error)
+    → (if beginning then None else Some errors.ErrHandleInitState) ≡ Some error → beginning ≡ false
+init_if true error e = absurd (never None error refl e)
+init_if false error e = refl
+
+abbrev cookie_fault : Option (List ℕ) → Option Error
+cookie_fault None = Some errors.ErrInitAckNoCookie
+cookie_fault (Some cookie) = None
+
+echoed_flow : (o : Option (List ℕ)) (b : Shown) (trigger : AckTrigger) (now : ℕ)
+    → fault_of (echoed o b trigger now).1 ≡ cookie_fault o
+echoed_flow None b trigger now = refl
+echoed_flow (Some cookie) b trigger now = refl
+
+init_ack_flow : (waits back : Bool) (a : Shown) (header : CommonHeader) (init : ChunkInit)
+    (trigger : AckTrigger) (now : ℕ)
+    → is_cookie_wait a.state ≡ waits
+    → comes_back a.handshake header ≡ back
+    → fault_of (on_init_ack a header init trigger now).1
+    ≡ (if waits then (if back then cookie_fault (first_cookie init.params) else None) else None)
+unfolding on_init_ack
+init_ack_flow true true a header init trigger now e f = rw (e, f) (echoed_flow (first_cookie init.params) _ trigger now)
+init_ack_flow true false a header init trigger now e f = rw (e, f) refl
+init_ack_flow false back a header init trigger now e f = rw e refl
+
+-- no cookie came back
+pub record IsLacking (waits back : Bool) (o : Option (List ℕ)) : Type 0 where
+  pub waiting : waits ≡ true
+  pub returned : back ≡ true
+  pub none : o ≡ None
+
+lacking_if : (waits back : Bool) (o : Option (List ℕ)) (error : Error)
+    → (if waits then (if back then cookie_fault o else None) else None) ≡ Some error → IsLacking waits back o
+lacking_if false back o error e = absurd (never None error refl e)
+lacking_if true false o error e = absurd (never None error refl e)
+lacking_if true true (Some cookie) error e = absurd (never None error refl e)
+lacking_if true true None error e = record { waiting = refl; returned = refl; none = refl }
+
+lacking_faults : (waits back : Bool) (o : Option (List ℕ)) → waits ≡ true → back ≡ true → o ≡ None
+    → (if waits then (if back then cookie_fault o else None) else None) ≡ Some errors.ErrInitAckNoCookie
+lacking_faults waits back o e f g = rw (e, f, g) refl
+
+init_ack_cause : (a : Shown) (header : CommonHeader) (init : ChunkInit) (trigger : AckTrigger) (now : ℕ) (error : Error)
+    → fault_of (on_init_ack a header init trigger now).1 ≡ Some error
+    → BringsNoCookie a header init
+init_ack_cause a header init trigger now error e =
+    let l =
+    lacking_if (is_cookie_wait a.state) (comes_back a.handshake header) (first_cookie init.params) error
+    (sym (init_ack_flow _ _ a header init trigger now refl refl) ∙ e) in
+    let ports =
+    and_parts (eqb header.destination_port a.handshake.source_port)
+    (eqb header.source_port a.handshake.destination_port) l.returned in
+    record {
+      waits = waiting_state a.state l.waiting;
+      source = eqb-true header.source_port a.handshake.destination_port ports.1;
+      destination = eqb-true header.destination_port a.handshake.source_port ports.0;
+      no_cookie = l.none;
+    }
+
+cause_init_ack : (a : Shown) (header : CommonHeader) (init : ChunkInit) (trigger : AckTrigger) (now : ℕ)
+    → BringsNoCookie a header init → IsFault (on_init_ack a header init trigger now)
+cause_init_ack a header init trigger now c =
+    let back : comes_back a.handshake header ≡ true =
+    and_from (eqb header.destination_port a.handshake.source_port) (eqb header.source_port a.handshake.destination_port)
+    (eq-eqb header.destination_port a.handshake.source_port c.destination)
+    (eq-eqb header.source_port a.handshake.destination_port c.source) in (
+      errors.ErrInitAckNoCookie,
+      fault_from (on_init_ack a header init trigger now).1 errors.ErrInitAckNoCookie
+          (init_ack_flow _ _ a header init trigger now refl refl
+          ∙ lacking_faults (is_cookie_wait a.state) (comes_back a.handshake header) (first_cookie init.params)
+          (ap is_cookie_wait c.waits) back c.no_cookie),
+    )
+
+-- The chunks that are never faults
+
+pub echo_flow : (issued beginning established : Bool) (a : Shown) (cookie : List ℕ) (trigger : AckTrigger)
+    → has_issued a.handshake cookie ≡ issued
+    → is_beginning a.state ≡ beginning → is_established a.state ≡ established
+    → fault_of (on_cookie_echo a cookie trigger).1 ≡ None
+unfolding on_cookie_echo
+echo_flow false beginning established a cookie trigger e f g = rw e refl
+echo_flow true true established a cookie trigger e f g = rw (e, f) refl
+echo_flow true false true a cookie trigger e f g = rw (e, f, g) refl
+echo_flow true false false a cookie trigger e f g = rw (e, f, g) refl
+
+pub cookie_ack_flow : (echoes : Bool) (a : Shown) (trigger : AckTrigger) → is_cookie_echoed a.state ≡ echoes
+    → fault_of (on_cookie_ack a trigger).1 ≡ None
+unfolding on_cookie_ack
+cookie_ack_flow true a trigger e = rw e refl
+cookie_ack_flow false a trigger e = rw e refl
+
+pub heartbeat_flow : (a : Shown) (heartbeat : ChunkHeartbeat) (trigger : AckTrigger)
+    → fault_of (on_heartbeat a heartbeat trigger).1 ≡ None
+unfolding on_heartbeat
+heartbeat_flow a heartbeat trigger = refl
+
+-- Any chunk
+
+kind_cause : (header : CommonHeader) (c : Chunk) (a : Shown) (h : History) (trigger : AckTrigger) (now : ℕ)
+    (error : Error)
+    → Binds a h
+    → fault_of (dispatched a header c trigger now).1 ≡ Some error → IsCauseOfItsKind a h header c
+kind_cause header (chunks.Data piece) a h trigger now error binds e = data_cause a h piece trigger error binds e
+kind_cause header (chunks.SelectiveAck sack) a h trigger now error binds e =
+    sack_cause a h sack.cumulative_tsn_ack sack.advertised_receiver_window_credit trigger now error binds e
+kind_cause header (chunks.Init x) a h trigger now error binds e =
+    past_handshake a.state
+    (init_if (is_beginning a.state) error (sym (init_flow (is_beginning a.state) a header x trigger refl) ∙ e))
+kind_cause header (chunks.InitAck x) a h trigger now error binds e = init_ack_cause a header x trigger now error e
+kind_cause header (chunks.CookieEcho x) a h trigger now error binds e =
+    absurd (never _ error (echo_flow _ _ _ a x trigger refl refl refl) e)
+kind_cause header chunks.CookieAck a h trigger now error binds e =
+    absurd (never _ error (cookie_ack_flow _ a trigger refl) e)
+kind_cause header (chunks.Heartbeat x) a h trigger now error binds e =
+    absurd (never _ error (heartbeat_flow a x trigger) e)
+kind_cause header c a h trigger now error binds e = tt
+
+cause_kind : (header : CommonHeader) (c : Chunk) (a : Shown) (h : History) (trigger : AckTrigger) (now : ℕ) → Binds a h
+    → IsCauseOfItsKind a h header c
+    → IsFault (dispatched a header c trigger now)
+cause_kind header (chunks.Data piece) a h trigger now binds cause = cause_data a h piece trigger binds cause
+cause_kind header (chunks.SelectiveAck sack) a h trigger now binds cause =
+    cause_sack a h sack.cumulative_tsn_ack sack.advertised_receiver_window_credit trigger now binds cause
+cause_kind header (chunks.Init x) a h trigger now binds cause = (
+  errors.ErrHandleInitState,
+  fault_from (on_init a header x trigger).1 errors.ErrHandleInitState
+      (init_flow false a header x trigger (handshake_past a.state cause)),
+)
+cause_kind header (chunks.InitAck x) a h trigger now binds cause = cause_init_ack a header x trigger now cause
+cause_kind header (chunks.CookieEcho x) a h trigger now binds cause = absurd cause
+cause_kind header chunks.CookieAck a h trigger now binds cause = absurd cause
+cause_kind header (chunks.Heartbeat x) a h trigger now binds cause = absurd cause
+cause_kind header (chunks.Abort x) a h trigger now binds cause = (errors.ErrAbortChunk, refl)
+cause_kind header (chunks.Error x) a h trigger now binds cause = (errors.ErrAbortChunk, refl)
+cause_kind header c a h trigger now binds cause = (errors.ErrChunkTypeUnhandled, refl)
+
+fault_cause : (r : Result (Unit {0}) Error) (header : CommonHeader) (c : Chunk) (a : Shown) (h : History)
+    (trigger : AckTrigger) (now : ℕ) → checked_chunk c ≡ r → Binds a h
+    → IsFault (checked_first r a header c trigger now) → IsCause a h header c
+fault_cause (Err error) header c a h trigger now e binds f = inl (error, e)
+fault_cause (Ok done) header c a h trigger now e binds (error, f) =
+    inr (kind_cause header c a h trigger now error binds (ap fault_of f))
+
+cause_fault : (r : Result (Unit {0}) Error) (header : CommonHeader) (c : Chunk) (a : Shown) (h : History)
+    (trigger : AckTrigger) (now : ℕ) → checked_chunk c ≡ r → Binds a h
+    → IsCause a h header c → IsFault (checked_first r a header c trigger now)
+cause_fault (Err error) header c a h trigger now e binds cause = (error, refl)
+cause_fault (Ok done) header c a h trigger now e binds (inl (error, f)) = absurd (false≢true (ap is_ok (sym f ∙ e)))
+cause_fault (Ok done) header c a h trigger now e binds (inr kind) = cause_kind header c a h trigger now binds kind
+
+pub faults_are_causes : FaultsAreCauses
+unfolding on_chunk
+faults_are_causes a h header c trigger now binds = (
+  fault_cause (checked_chunk c) header c a h trigger now refl binds,
+  cause_fault (checked_chunk c) header c a h trigger now refl binds,
+)

@@ -1,0 +1,370 @@
+-- The chunks of a handshake lead it on as it is to go, and what waits to go out stays truthful.
+use Rattle.std.proofs.Common.{◌≡◌, refl, sym, ap, ◌∙◌, inl, inr, ℕ, Bool, true, false, if◌then◌else◌, ◌&&◌, List, []}
+use Rattle.std.proofs.Common.{◌∷◌, ◌++◌, Option, Some, None, is_some, Result, Ok, Err}
+use Rattle.std.specs.Str.{bytes_eq}
+use Rattle.std.proofs.lemmas.Bool.{false≢true, true≢false}
+use Rattle.sctp_wire_types.specs.declared.chunk.Chunk.{Chunk}
+use Rattle.sctp_wire_types.specs.declared.chunk.Chunk.TheVariants as chunks
+use Rattle.sctp_wire_types.specs.declared.chunk.ChunkInit.{ChunkInit}
+use Rattle.sctp_wire_types.specs.declared.error.Error.{Error}
+use Rattle.sctp_wire_types.specs.declared.ids.Side.{Side}
+use Rattle.sctp_wire_types.specs.declared.ids.Side.TheVariants as sides
+use Rattle.sctp_wire_types.specs.declared.packet.CommonHeader.{CommonHeader}
+use Rattle.sctp_wire_types.specs.Checks.{checked_chunk}
+use Rattle.sctp_inbound.specs.declared.handshake.Handshake.{Handshake}
+use Rattle.sctp_inbound.specs.declared.handshake.Offer.{Offer}
+use Rattle.sctp_inbound.specs.declared.receiver.AckTrigger.{AckTrigger}
+use Rattle.sctp_inbound.specs.Greeting.{first_cookie}
+use Rattle.sctp_inbound.specs.Handshake.{comes_back, has_issued, header_of}
+use Rattle.sctp_assoc.specs.declared.control.ControlPacket.{ControlPacket}
+use Rattle.sctp_assoc.specs.Acts.{Act}
+use Rattle.sctp_assoc.specs.Calls.{is_beginning, is_cookie_echoed, is_cookie_wait, is_established}
+use Rattle.sctp_assoc.specs.Chunks.{checked_first, on_chunk}
+use Rattle.sctp_assoc.specs.Handshake.{acknowledged_cookie, answered, connected, echoed, learned, on_cookie_ack}
+use Rattle.sctp_assoc.specs.Handshake.{on_cookie_echo, on_init, on_init_ack, sends_cookie, with_echo}
+use Rattle.sctp_assoc.specs.Happened.{acts_of_checked}
+use Rattle.sctp_sides.specs.Meeting.{AwaitsInitAck, Greets, GreetsOn, HasCome, IsDoneAmongClients, IsGreeted}
+use Rattle.sctp_sides.specs.Meeting.{IsNoEarlier, IsTruthful, Listens, MayHear, Stage, stage_of}
+use Rattle.sctp_sides.specs.Shapes.{EstablishedSidesTalk, TheSameHandshakeIsTheSameStage}
+use Rattle.sctp_assoc.specs.Shown.{Shown}
+use Rattle.sctp_sides.proofs.HandshakeTruth.{KeepsSaying, truthful_still, truthful_with}
+
+not_both : sides.Client ≡ sides.Server → ⊥
+not_both e = cc
+
+-- an association that no chunk changes
+nothing_greeted : (own peer : ℕ) (t : Stage) (a : Shown) → IsTruthful own a → HasCome a → IsGreeted own peer t [] a a
+nothing_greeted own peer t a truthful come = record {
+  truthful = truthful;
+  come = come;
+  goes = record { side = refl; knows = λ k. k; completed = λ d. d };
+  completes = λ d. inl d;
+  learns = inl (refl, refl);
+}
+
+-- INIT: a server takes it, and an association that is established doesn't
+
+-- who takes an INIT listens: of two clients neither waits
+listens : (a : Shown) (t : Stage) → is_beginning a.state ≡ true → t.side ≡ sides.Client
+    → IsDoneAmongClients (stage_of a) t → HasCome a → Listens a
+listens a t e client one (inl w) = absurd (true≢false (sym (one w.client client) ∙ w.incomplete))
+listens a t e client one (inr (inl w)) = absurd (true≢false (sym (one w.client client) ∙ w.incomplete))
+listens a t e client one (inr (inr (inl l))) = l
+listens a t e client one (inr (inr (inr s))) = absurd (true≢false (sym e ∙ ap is_beginning s.state))
+
+listener_is_deaf : (a : Shown) → Listens a → MayHear (stage_of a) → ⊥
+listener_is_deaf a l (inl completed) = true≢false (sym completed ∙ l.incomplete)
+listener_is_deaf a l (inr (client, known)) = not_both (sym client ∙ l.server)
+
+init_greets : (c : Bool) (own peer : ℕ) (t : Stage) (a : Shown) (header : CommonHeader) (init : ChunkInit)
+    (trigger : AckTrigger) → is_beginning a.state ≡ c
+    → Greets peer t (chunks.Init init) → IsDoneAmongClients (stage_of a) t → IsTruthful own a → HasCome a
+    → IsGreeted own peer t (if c then Act.PeerKnown init.initial_tsn ∷ [] else []) a (on_init a header init trigger).0
+unfolding on_init
+init_greets true own peer t a header init trigger e (is, client) one truthful come =
+    let b : Shown = answered (learned a header init) in
+    let l = listens a t e client one come in
+    let goes : IsNoEarlier (stage_of a) (stage_of b) = record { side = refl; knows = λ k. refl; completed = λ d. d } in
+    let keeps : KeepsSaying a b = record { tsn = refl; goes = goes; offers = λ o. o; echoes = λ x. inl x } in
+    rw e (record {
+      truthful = truthful_with own a b _ truthful keeps refl (truthful.tsn, refl) refl;
+      come =
+          inr (inr (inl record { server = l.server; state = l.state; incomplete = l.incomplete; issued = λ i. refl }));
+      goes = goes;
+      completes = λ d. inl d;
+      learns = inr (ap (λ (n : ℕ). Act.PeerKnown n ∷ []) is, listener_is_deaf a l);
+    })
+init_greets false own peer t a header init trigger e said one truthful come =
+    rw e (nothing_greeted own peer t a truthful come)
+
+-- COOKIE ACK completes what a client began
+
+connected_keeps : (a : Shown) → KeepsSaying a (connected a)
+connected_keeps a = record {
+  tsn = refl;
+  goes = record { side = refl; knows = λ k. k; completed = λ d. refl };
+  offers = λ o. absurd (false≢true o);
+  echoes = λ x. absurd (false≢true x);
+}
+
+ack_come : (a : Shown) → is_cookie_echoed a.state ≡ true → HasCome a → HasCome (connected a)
+ack_come a e (inl w) = absurd (true≢false (sym e ∙ ap is_cookie_echoed w.state))
+ack_come a e (inr (inl w)) = inr (inr (inr record { state = refl; completed = refl; known = w.known }))
+ack_come a e (inr (inr (inl l))) = absurd (true≢false (sym e ∙ ap is_cookie_echoed l.state))
+ack_come a e (inr (inr (inr s))) = absurd (true≢false (sym e ∙ ap is_cookie_echoed s.state))
+
+cookie_ack_greets : (c : Bool) (own peer : ℕ) (t : Stage) (a : Shown) (trigger : AckTrigger)
+    → is_cookie_echoed a.state ≡ c → t.completed ≡ true → IsTruthful own a → HasCome a
+    → IsGreeted own peer t [] a (on_cookie_ack a trigger).0
+unfolding on_cookie_ack
+cookie_ack_greets true own peer t a trigger e said truthful come =
+    let k = connected_keeps a in
+    rw e (record {
+      truthful = truthful_still own a (connected a) truthful k refl;
+      come = ack_come a e come;
+      goes = k.goes;
+      completes = λ d. inr (inl said);
+      learns = inl (refl, refl);
+    })
+cookie_ack_greets false own peer t a trigger e said truthful come = rw e (nothing_greeted own peer t a truthful come)
+
+-- COOKIE ECHO completes what a server began
+
+echo_come : (a : Shown) → a.handshake.cookie_issued ≡ true → is_beginning a.state ≡ true → HasCome a
+    → HasCome (acknowledged_cookie (connected a))
+echo_come a issued begins (inl w) = absurd (true≢false (sym issued ∙ w.unissued))
+echo_come a issued begins (inr (inl w)) = absurd (true≢false (sym issued ∙ w.unissued))
+echo_come a issued begins (inr (inr (inl l))) =
+    inr (inr (inr record { state = refl; completed = refl; known = l.issued issued }))
+echo_come a issued begins (inr (inr (inr s))) = absurd (true≢false (sym begins ∙ ap is_beginning s.state))
+
+issued_of : (issued same : Bool) → (issued && same) ≡ true → issued ≡ true
+issued_of true same e = refl
+issued_of false same e = e
+
+pub established_sides_talk : EstablishedSidesTalk
+established_sides_talk a e (inl w) = absurd (true≢false (sym e ∙ ap is_established w.state))
+established_sides_talk a e (inr (inl w)) = absurd (true≢false (sym e ∙ ap is_established w.state))
+established_sides_talk a e (inr (inr (inl l))) = absurd (true≢false (sym e ∙ ap is_established l.state))
+established_sides_talk a e (inr (inr (inr s))) = s
+
+cookie_echo_greets : (issued begins established : Bool) (own peer : ℕ) (t : Stage) (a : Shown) (cookie : List ℕ)
+    (trigger : AckTrigger) → has_issued a.handshake cookie ≡ issued
+    → is_beginning a.state ≡ begins → is_established a.state ≡ established → (t.side ≡ sides.Client) × (t.knows ≡ true)
+    → IsTruthful own a → HasCome a
+    → IsGreeted own peer t [] a (on_cookie_echo a cookie trigger).0
+unfolding on_cookie_echo
+cookie_echo_greets false begins established own peer t a cookie trigger e f g said truthful come =
+    rw e (nothing_greeted own peer t a truthful come)
+cookie_echo_greets true true established own peer t a cookie trigger e f g said truthful come =
+    let issued = issued_of a.handshake.cookie_issued (bytes_eq a.handshake.cookie cookie) e in
+    let b : Shown = acknowledged_cookie (connected a) in
+    let k = connected_keeps a in
+    let keeps : KeepsSaying a b = record {
+      tsn = k.tsn;
+      goes = record { side = refl; knows = λ k. k; completed = λ d. refl };
+      offers = k.offers;
+      echoes = k.echoes;
+    } in
+    rw (e, f) (record {
+      truthful = truthful_with own a b _ truthful keeps refl refl refl;
+      come = echo_come a issued f come;
+      goes = keeps.goes;
+      completes = λ d. inr (inr said);
+      learns = inl (refl, refl);
+    })
+cookie_echo_greets true false true own peer t a cookie trigger e f g said truthful come =
+    let b : Shown = acknowledged_cookie a in
+    let keeps : KeepsSaying a b = record {
+      tsn = refl;
+      goes = record { side = refl; knows = λ k. k; completed = λ d. d };
+      offers = λ o. o;
+      echoes = λ x. inl x;
+    } in
+    let s = established_sides_talk a g come in
+    rw (e, f, g) (record {
+      truthful = truthful_with own a b _ truthful keeps refl s.completed refl;
+      come = inr (inr (inr record { state = s.state; completed = s.completed; known = s.known }));
+      goes = keeps.goes;
+      completes = λ d. inl d;
+      learns = inl (refl, refl);
+    })
+cookie_echo_greets true false false own peer t a cookie trigger e f g said truthful come =
+    rw (e, f, g) (nothing_greeted own peer t a truthful come)
+
+-- INIT ACK: a client that waits for it takes it
+
+-- What an INIT ACK with the ports of the INIT leaves, its cookie aside.
+record IsMetBack (initial_tsn : ℕ) (a m : Shown) : Type 0 where
+  pub side : m.side ≡ a.side
+  pub state : m.state ≡ a.state
+  pub control : m.control ≡ a.control
+  pub tsn : m.handshake.my_initial_tsn ≡ a.handshake.my_initial_tsn
+  pub known : m.handshake.peer_initial_tsn ≡ Some initial_tsn
+  pub completed : m.handshake.completed ≡ a.handshake.completed
+  pub issued : m.handshake.cookie_issued ≡ a.handshake.cookie_issued
+  pub offer : m.handshake.offer ≡ None
+  pub echo : m.handshake.echo ≡ a.handshake.echo
+
+waits_for_it : (a : Shown) → is_cookie_wait a.state ≡ true → HasCome a → AwaitsInitAck a
+waits_for_it a e (inl w) = w
+waits_for_it a e (inr (inl w)) = absurd (true≢false (sym e ∙ ap is_cookie_wait w.state))
+waits_for_it a e (inr (inr (inl l))) = absurd (true≢false (sym e ∙ ap is_cookie_wait l.state))
+waits_for_it a e (inr (inr (inr s))) = absurd (true≢false (sym e ∙ ap is_cookie_wait s.state))
+
+waiting_is_deaf : (a : Shown) → AwaitsInitAck a → MayHear (stage_of a) → ⊥
+waiting_is_deaf a w (inl completed) = true≢false (sym completed ∙ w.incomplete)
+waiting_is_deaf a w (inr (client, known)) = true≢false (sym known ∙ w.unknown)
+
+none_is : (o : Option Offer) → o ≡ None → is_some o ≡ true → ⊥
+none_is o e s = false≢true (ap is_some (sym e) ∙ s)
+
+echoed_greets : (o : Option (List ℕ)) (own peer : ℕ) (t : Stage) (a m : Shown) (n : ℕ) (trigger : AckTrigger) (now : ℕ)
+    → is_some o ≡ true → IsTruthful own a → AwaitsInitAck a → n ≡ peer
+    → IsMetBack n a m → IsGreeted own peer t (Act.PeerKnown n ∷ []) a (echoed o m trigger now).0
+unfolding sends_cookie
+echoed_greets None own peer t a m n trigger now some truthful w is met = absurd (false≢true some)
+echoed_greets (Some cookie) own peer t a m n trigger now some truthful w is met =
+    let b : Shown = with_echo m cookie now in
+    let c : ControlPacket = record { header = header_of m.handshake; chunk = chunks.CookieEcho cookie } in
+    let known : is_some m.handshake.peer_initial_tsn ≡ true = ap is_some met.known in
+    let goes : IsNoEarlier (stage_of a)
+    (stage_of b) = record { side = met.side; knows = λ k. known; completed = λ d. met.completed ∙ d } in
+    let keeps : KeepsSaying a b = record {
+      tsn = met.tsn;
+      goes = goes;
+      offers = λ s. absurd (none_is m.handshake.offer met.offer s);
+      echoes = λ x. inr (met.side ∙ w.client, known);
+    } in
+    record {
+      truthful =
+          truthful_with own a b c truthful keeps (ap (λ (z : List ControlPacket). z ++ c ∷ []) met.control)
+          (met.side ∙ w.client, known) refl;
+      come = inr (inl record {
+        client = met.side ∙ w.client;
+        state = refl;
+        incomplete = met.completed ∙ w.incomplete;
+        unissued = met.issued ∙ w.unissued;
+        known = known;
+      });
+      goes = goes;
+      completes = λ d. inl (sym met.completed ∙ d);
+      learns = inr (ap (λ (x : ℕ). Act.PeerKnown x ∷ []) is, waiting_is_deaf a w);
+    }
+
+-- with other ports it leaves all but a tag and numbers of streams
+other_ports_greet : (own peer : ℕ) (t : Stage) (a b : Shown) → IsTruthful own a → AwaitsInitAck a → b.side ≡ a.side
+    → b.state ≡ a.state → b.control ≡ a.control
+    → b.handshake.my_initial_tsn ≡ a.handshake.my_initial_tsn
+    → b.handshake.peer_initial_tsn ≡ a.handshake.peer_initial_tsn → b.handshake.completed ≡ a.handshake.completed
+    → b.handshake.cookie_issued ≡ a.handshake.cookie_issued → b.handshake.offer ≡ a.handshake.offer
+    → b.handshake.echo ≡ a.handshake.echo → IsGreeted own peer t [] a b
+other_ports_greet own peer t a b truthful w side state control tsn known completed issued offer echo =
+    let goes : IsNoEarlier (stage_of a)
+    (stage_of b) = record { side = side; knows = λ k. ap is_some known ∙ k; completed = λ d. completed ∙ d } in
+    record {
+      truthful = truthful_still own a b truthful record {
+        tsn = tsn;
+        goes = goes;
+        offers = λ o. ap is_some (sym offer) ∙ o;
+        echoes = λ x. inl (ap is_some (sym echo) ∙ x);
+      } control;
+      come = inl record {
+        client = side ∙ w.client;
+        state = state ∙ w.state;
+        incomplete = completed ∙ w.incomplete;
+        unissued = issued ∙ w.unissued;
+        unknown = ap is_some known ∙ w.unknown;
+      };
+      goes = goes;
+      completes = λ d. inl (sym completed ∙ d);
+      learns = inl (refl, known);
+    }
+
+init_ack_greets : (waits back : Bool) (own peer : ℕ) (t : Stage) (a : Shown) (header : CommonHeader) (init : ChunkInit)
+    (trigger : AckTrigger) (now : ℕ) → is_cookie_wait a.state ≡ waits
+    → comes_back a.handshake header ≡ back → Greets peer t (chunks.InitAck init) → IsTruthful own a → HasCome a
+    → IsGreeted own peer t (if waits then (if back then Act.PeerKnown init.initial_tsn ∷ [] else []) else []) a
+    (on_init_ack a header init trigger now).0
+unfolding on_init_ack
+init_ack_greets true true own peer t a header init trigger now e f (is, some) truthful come =
+    rw (e, f) (echoed_greets (first_cookie init.params) own peer t a _ init.initial_tsn trigger now some truthful
+    (waits_for_it a e come) is
+    record {
+      side = refl;
+      state = refl;
+      control = refl;
+      tsn = refl;
+      known = refl;
+      completed = refl;
+      issued = refl;
+      offer = refl;
+      echo = refl;
+    })
+init_ack_greets true false own peer t a header init trigger now e f said truthful come =
+    rw (e, f) (other_ports_greet own peer t a _ truthful (waits_for_it a e come) refl refl refl refl refl refl
+    refl refl refl)
+init_ack_greets false back own peer t a header init trigger now e f said truthful come =
+    rw e (nothing_greeted own peer t a truthful come)
+
+-- Any chunk that its own check accepts, or refuses
+
+kind_greets : (own peer : ℕ) (t : Stage) (r : Result (Unit {0}) Error) (header : CommonHeader) (c : Chunk) (a : Shown)
+    (trigger : AckTrigger) (now : ℕ) → Greets peer t c → IsDoneAmongClients (stage_of a) t
+    → IsTruthful own a → HasCome a
+    → IsGreeted own peer t (acts_of_checked r a header c) a (checked_first r a header c trigger now).0
+kind_greets own peer t (Err fault) header c a trigger now said one truthful come =
+    nothing_greeted own peer t a truthful come
+kind_greets own peer t (Ok done) header (chunks.Init x) a trigger now said one truthful come =
+    init_greets (is_beginning a.state) own peer t a header x trigger refl said one truthful come
+kind_greets own peer t (Ok done) header (chunks.InitAck x) a trigger now said one truthful come =
+    init_ack_greets (is_cookie_wait a.state) (comes_back a.handshake header) own peer t a header x trigger now refl refl
+    said truthful come
+kind_greets own peer t (Ok done) header (chunks.CookieEcho x) a trigger now said one truthful come =
+    cookie_echo_greets (has_issued a.handshake x) (is_beginning a.state) (is_established a.state) own peer t a x trigger
+    refl refl refl said truthful come
+kind_greets own peer t (Ok done) header chunks.CookieAck a trigger now said one truthful come =
+    cookie_ack_greets (is_cookie_echoed a.state) own peer t a trigger refl said truthful come
+kind_greets own peer t (Ok done) header (chunks.Data x) a trigger now said one truthful come = absurd said
+kind_greets own peer t (Ok done) header (chunks.SelectiveAck x) a trigger now said one truthful come = absurd said
+kind_greets own peer t (Ok done) header (chunks.Heartbeat x) a trigger now said one truthful come = absurd said
+kind_greets own peer t (Ok done) header (chunks.HeartbeatAck x) a trigger now said one truthful come = absurd said
+kind_greets own peer t (Ok done) header (chunks.Abort x) a trigger now said one truthful come = absurd said
+kind_greets own peer t (Ok done) header (chunks.Shutdown x) a trigger now said one truthful come = absurd said
+kind_greets own peer t (Ok done) header chunks.ShutdownAck a trigger now said one truthful come = absurd said
+kind_greets own peer t (Ok done) header (chunks.Error x) a trigger now said one truthful come = absurd said
+kind_greets own peer t (Ok done) header chunks.ShutdownComplete a trigger now said one truthful come = absurd said
+kind_greets own peer t (Ok done) header (chunks.Reconfig x) a trigger now said one truthful come = absurd said
+kind_greets own peer t (Ok done) header (chunks.ForwardTsn x) a trigger now said one truthful come = absurd said
+kind_greets own peer t (Ok done) header (chunks.IForwardTsn x) a trigger now said one truthful come = absurd said
+kind_greets own peer t (Ok done) header (chunks.Other kind flags value) a trigger now said one truthful come =
+    absurd said
+
+pub chunk_greets : (header : CommonHeader) (c : Chunk) (a : Shown) (trigger : AckTrigger) (now : ℕ)
+    → GreetsOn header c a (on_chunk a header c trigger now).0
+unfolding on_chunk
+chunk_greets header c a trigger now own peer t said one truthful come =
+    kind_greets own peer t (checked_chunk c) header c a trigger now said one truthful come
+
+-- The same handshake in the same state has come as far.
+come_on : (a b : Shown) → b.side ≡ a.side → b.state ≡ a.state → b.handshake ≡ a.handshake → HasCome a → HasCome b
+come_on a b side state same (inl w) = inl record {
+  client = side ∙ w.client;
+  state = state ∙ w.state;
+  incomplete = ap (λ (x : Handshake). x.completed) same ∙ w.incomplete;
+  unissued = ap (λ (x : Handshake). x.cookie_issued) same ∙ w.unissued;
+  unknown = ap (λ (x : Handshake). is_some x.peer_initial_tsn) same ∙ w.unknown;
+}
+come_on a b side state same (inr (inl w)) = inr (inl record {
+  client = side ∙ w.client;
+  state = state ∙ w.state;
+  incomplete = ap (λ (x : Handshake). x.completed) same ∙ w.incomplete;
+  unissued = ap (λ (x : Handshake). x.cookie_issued) same ∙ w.unissued;
+  known = ap (λ (x : Handshake). is_some x.peer_initial_tsn) same ∙ w.known;
+})
+come_on a b side state same (inr (inr (inl l))) = inr (inr (inl record {
+  server = side ∙ l.server;
+  state = state ∙ l.state;
+  incomplete = ap (λ (x : Handshake). x.completed) same ∙ l.incomplete;
+  issued =
+      λ i. ap (λ (x : Handshake). is_some x.peer_initial_tsn) same
+      ∙ l.issued (ap (λ (x : Handshake). x.cookie_issued) (sym same) ∙ i);
+}))
+come_on a b side state same (inr (inr (inr s))) = inr (inr (inr record {
+  state = state ∙ s.state;
+  completed = ap (λ (x : Handshake). x.completed) same ∙ s.completed;
+  known = ap (λ (x : Handshake). is_some x.peer_initial_tsn) same ∙ s.known;
+}))
+
+pub the_same_handshake_is_the_same_stage : TheSameHandshakeIsTheSameStage
+the_same_handshake_is_the_same_stage a b side same = (
+  ap
+      (λ (z : Side). record {
+        side = z;
+        knows = is_some b.handshake.peer_initial_tsn;
+        completed = b.handshake.completed;
+      }) side
+      ∙ ap (λ (h : Handshake). record { side = a.side; knows = is_some h.peer_initial_tsn; completed = h.completed })
+      same,
+  λ state come. come_on a b side state same come,
+)

@@ -1,0 +1,23 @@
+mod ActsOfChunks
+mod ClosingCauses
+mod ClosingPackets
+mod DataIntake
+mod DueSacks
+mod FaultCauses
+mod HandshakeChunks
+mod HandshakeTruth
+mod LiveStreams
+mod LossToldOnce
+mod PacketLaws
+mod PacketsByChunks
+mod PolledPackets
+pub mod Proved
+mod Status
+mod StreamsChanged
+mod TimersOverChunks
+mod TimersOverPolls
+mod TimersOverRuns
+mod TimersOverTimeouts
+mod TimersRun
+mod WaitingGoesOut
+mod WrittenIsHeld

@@ -1,0 +1,108 @@
+-- Live streams: what calls that were not refused can rely on, and streams that hold nothing.
+use Rattle.std.proofs.Common.{◌≡◌, refl, sym, ap, ◌∙◌, ⊎_elim, ℕ, arith, Bool, true, false, eqb, ltb, ◌||◌}
+use Rattle.std.proofs.Common.{if◌then◌else◌, Option, Some, None, is_some}
+use Rattle.std.proofs.lemmas.Bool.{cases_Bool, cond-false, cond-true, eqb-false, ltb-false, or_parts, true≢false}
+use Rattle.sctp_wire_types.specs.declared.error.Error.TheVariants as errors
+use Rattle.sctp_receive_queues.specs.Messages.{ReceivedMessage}
+use Rattle.sctp_receive_queues.specs.Reassembly.{empty_reassembly, taken}
+use Rattle.sctp_streams.specs.Stream.{StreamView, fresh_stream, read_with, stream_read}
+use Rattle.sctp_streams.specs.Streams.{StreamMap, generation_left, read_at, read_in, stream_at, with_stream}
+use Rattle.sctp_assoc.specs.Calls.{is_established, opened, write_refusal_at}
+use Rattle.sctp_sides.specs.Shapes.{AcceptedWritesFit, WasWritable, FoundStreamsAreLive, IsLive, OpenedStreamsHoldNothing}
+use Rattle.sctp_sides.specs.Shapes.{OpenedStreamsWereNotLive, WhatHoldsNothingGivesNothing}
+use Rattle.sctp_assoc.specs.Shown.{Shown}
+use Rattle.sctp_sides.proofs.StreamsChanged.{at_made, at_with}
+
+-- Refusals
+
+found_if : (failed : Bool) (o : Option StreamView) (a : Shown) (id : ℕ) → a.failed ≡ failed → stream_at a.streams id ≡ o
+    → (if failed then Some errors.ErrAssociationFailed else if is_some o then None else Some errors.ErrStreamNotExisted)
+    ≡ None → IsLive a id
+found_if true o a id f there e = absurd (true≢false (ap is_some e))
+found_if false None a id f there e = absurd (true≢false (ap is_some e))
+found_if false (Some t) a id f there e = record { working = f; stream = t; there = there }
+
+pub found_streams_are_live : FoundStreamsAreLive
+found_streams_are_live a id e = found_if a.failed (stream_at a.streams id) a id refl refl e
+
+free_if : (failed : Bool) (o : Option StreamView) (left : Bool)
+    → (if failed then Some errors.ErrAssociationFailed else if is_some o then Some errors.ErrStreamAlreadyExist else
+    if left then None else Some errors.ErrStreamCreateFailed) ≡ None
+    → (failed ≡ false) × (o ≡ None)
+free_if true o left e = absurd (true≢false (ap is_some e))
+free_if false (Some t) left e = absurd (true≢false (ap is_some e))
+free_if false None left e = (refl, refl)
+
+pub opened_streams_were_not_live : OpenedStreamsWereNotLive
+opened_streams_were_not_live a id e = free_if a.failed (stream_at a.streams id) (generation_left a.streams) e
+
+size_free : (established empty large : Bool)
+    → (if established then (if empty then Some errors.ErrEmptyMessage else
+    if large then Some errors.ErrOutboundPacketTooLarge else None) else Some errors.ErrPayloadDataStateNotExist) ≡ None
+    → (established ≡ true) × (empty ≡ false) × (large ≡ false)
+size_free false empty large e = absurd (true≢false (ap is_some e))
+size_free true true large e = absurd (true≢false (ap is_some e))
+size_free true false true e = absurd (true≢false (ap is_some e))
+size_free true false false e = (refl, refl, refl)
+
+write_free : (failed : Bool) (x : Option StreamView) (a : Shown) (id size : ℕ) → a.failed ≡ failed
+    → stream_at a.streams id ≡ x
+    → (if failed then Some errors.ErrAssociationFailed else write_refusal_at a x size) ≡ None → WasWritable a id size
+write_free true x a id size working there e = absurd (true≢false (ap is_some e))
+write_free false None a id size working there e = absurd (true≢false (ap is_some e))
+write_free false (Some t) a id size working there e =
+    let free =
+    size_free (is_established a.state) (eqb size 0)
+    (ltb a.max_send_message_size size || ltb a.sender.max_payload_size size) e in
+    record {
+      live = record { working = working; stream = t; there = there };
+      established = free.0;
+      some = (let ne = eqb-false size 0 free.1 in omega (arith, ne));
+      one =
+          ltb-false a.sender.max_payload_size size
+          (or_parts (ltb a.max_send_message_size size) (ltb a.sender.max_payload_size size) free.2).1;
+    }
+
+pub accepted_writes_fit : AcceptedWritesFit
+accepted_writes_fit a id size e = write_free a.failed (stream_at a.streams id) a id size refl refl e
+
+-- Streams that hold nothing
+
+-- no stream of the map holds anything
+abbrev AreEmpty : StreamMap → Type 0
+AreEmpty m = (s : ℕ) (t : StreamView) → stream_at m s ≡ Some t → t.reassembly ≡ empty_reassembly
+
+-- nor where one of them became another one that is empty
+empty_beside : (m n : StreamMap) (id : ℕ) (u : StreamView) → u.reassembly ≡ empty_reassembly
+    → ((s : ℕ) → stream_at n s ≡ (if eqb s id then Some u else stream_at m s)) → AreEmpty m → AreEmpty n
+empty_beside m n id u empty at all s t e = ⊎_elim
+    (λ (b : eqb s id ≡ true).
+    let f : Some u ≡ Some t = sym (cond-true (eqb s id) (Some u) (stream_at m s) b) ∙ sym (at s) ∙ e in
+    let g : u ≡ t = cc in
+    ap (λ (z : StreamView). z.reassembly) (sym g) ∙ empty)
+    (λ (b : eqb s id ≡ false). all s t (sym (cond-false (eqb s id) (Some u) (stream_at m s) b) ∙ sym (at s) ∙ e))
+    (cases_Bool (eqb s id))
+
+pub opened_streams_hold_nothing : OpenedStreamsHoldNothing
+opened_streams_hold_nothing a id kind none all =
+    let first : ℕ = a.sender.queue.next_message_id in
+    empty_beside a.streams (opened a id kind).streams id (fresh_stream id a.streams.next_generation first kind) refl
+    (λ s. at_made a.streams id first s kind none) all
+
+empty_read : (t : StreamView) → t.reassembly ≡ empty_reassembly
+    → stream_read t ≡ (record t { reassembly = empty_reassembly }, None)
+empty_read t e = ap (λ r. read_with t (taken r)) e
+
+pub what_holds_nothing_gives_nothing : WhatHoldsNothingGivesNothing
+what_holds_nothing_gives_nothing a id live all =
+    let t : StreamView = live.stream in
+    let u : StreamView = record t { reassembly = empty_reassembly } in
+    let left : read_in a.streams id ≡ (with_stream a.streams id u, None) =
+    ap (λ o. read_at o a.streams id) live.there
+    ∙ ap (λ (z : StreamView × Option ReceivedMessage). (with_stream a.streams id z.0, z.1))
+    (empty_read t (all id t live.there)) in (
+      ap (λ (z : StreamMap × Option ReceivedMessage). z.1) left,
+      empty_beside a.streams (read_in a.streams id).0 id u refl
+          (λ n. ap (λ (z : StreamMap × Option ReceivedMessage). stream_at z.0 n) left
+          ∙ at_with a.streams id n t u live.there) all,
+    )

@@ -1,0 +1,144 @@
+-- Over every list of calls a side tells of at most one loss.
+use Rattle.std.proofs.Common.{◌≡◌, refl, sym, ap, ◌∙◌, subst, inl, inr, ℕ, ◌+◌, ◌≤◌, arith, Bool, true, false, ◌&&◌}
+use Rattle.std.proofs.Common.{◌||◌, not, if◌then◌else◌, List, [], ◌∷◌, Option, Some, None}
+use Rattle.std.proofs.lemmas.Bool.{and_parts, false≢true, not-true, true≢false}
+use Rattle.std.proofs.lemmas.List.Sums.{sum_by-append, sum_by-cons}
+use Rattle.sctp_wire_types.specs.declared.error.Error.{Error}
+use Rattle.sctp_streams.specs.declared.event.Event.{Event}
+use Rattle.sctp_streams.specs.Stream.{StreamView}
+use Rattle.sctp_streams.specs.Streams.{stream_at}
+use Rattle.sctp_assoc.specs.Calls.{event_from, fault_told, written_at}
+use Rattle.sctp_assoc.specs.Chunks.{after_packet}
+use Rattle.sctp_sides.specs.Laws.{IsClosedIf, StaysOpen, closes, is_faulted_packet, loss_of, losses}
+use Rattle.sctp_sides.specs.OneSide.{Call, Calls, IsFresh, IsUnchanged, IsRun, carried_out, told_by, with_told}
+use Rattle.sctp_assoc.specs.Gather.{polled}
+use Rattle.sctp_assoc.specs.Shown.{Shown}
+use Rattle.sctp_assoc.specs.Timeouts.{after_timeouts}
+use Rattle.sctp_sides.specs.Witnesses.{LossesAreToldOnce, loss_count}
+use Rattle.sctp_sides.proofs.ClosingPackets.{faults_alone_close}
+use Rattle.sctp_sides.proofs.DueSacks.{polls_do_not_close, timers_do_not_close}
+use Rattle.sctp_sides.proofs.TimersOverRuns.{Fell, accepted_works, fell}
+
+-- Of these losses that were told, and those that wait, there is one where it was lost.
+record Counts (n : ℕ) (a : Shown) : Type 0 where
+  at_most : n ≤ loss_count a.lost
+  in_all : a.failed ≡ false → n + losses a.events ≡ loss_count a.lost
+
+-- What a call that is carried out told and left: one loss more where it closed the association, which was not lost.
+record Tells (closing : Bool) (a : Shown) (x : Shown × List Event) : Type 0 where
+  lost : x.0.lost ≡ (closing || a.lost)
+  count : losses x.1 + losses x.0.events ≡ losses a.events + (if closing then 1 else 0)
+  once : closing ≡ true → a.lost ≡ false
+
+tells_nothing : (a b : Shown) → b.lost ≡ a.lost → b.events ≡ a.events → Tells false a (b, [])
+tells_nothing a b lost events =
+    let n : losses b.events ≡ losses a.events = ap losses events in
+    record { lost = lost; count = omega (arith, n); once = λ e. absurd (false≢true e) }
+
+write_tells : (o : Option StreamView) (a : Shown) (id : ℕ) (bytes : List ℕ)
+    → Tells false a (written_at o a id bytes, [])
+write_tells None a id bytes = tells_nothing a a refl refl
+write_tells (Some s) a id bytes = tells_nothing a _ refl refl
+
+fault_counts : (o : Option Error) → losses (told_by (fault_told o)) ≡ 0
+fault_counts None = refl
+fault_counts (Some fault) = refl
+
+poll_tells : (queued : List Event) (a : Shown) → a.events ≡ queued → Tells false a (with_told (event_from queued a))
+poll_tells [] a e =
+    let n : losses (told_by (fault_told a.handshake_fault)) ≡ 0 = fault_counts a.handshake_fault in
+    record { lost = refl; count = omega (arith, n); once = λ c. absurd (false≢true c) }
+poll_tells (event ∷ later) a e =
+    let one : losses (event ∷ []) ≡ loss_of event + losses [] = sum_by-cons loss_of event [] in
+    let all : losses a.events ≡ loss_of event + losses later = ap losses e ∙ sum_by-cons loss_of event later in
+    record { lost = refl; count = omega (arith, one, all); once = λ c. absurd (false≢true c) }
+
+closes_once : (lost faulted : Bool) → (not lost && faulted) ≡ true → lost ≡ false
+closes_once lost faulted e = not-true lost (and_parts (not lost) faulted e).0
+
+packet_tells : (closing : Bool) (a b : Shown) → IsClosedIf closing a b → (closing ≡ true → a.lost ≡ false)
+    → Tells closing a (b, [])
+packet_tells closing a b h once = record { lost = h.lost; count = omega (arith, h.told); once = once }
+
+-- how a call that is carried out closes the association
+abbrev closes_by : Call → Shown → Bool
+closes_by (Call.OpenStream id kind) a = false
+closes_by (Call.Write id bytes) a = false
+closes_by (Call.Read id) a = false
+closes_by Call.Poll a = false
+closes_by (Call.PollTransmit now) a = false
+closes_by (Call.HandleTimeout now) a = false
+closes_by (Call.HandleEvent packet now) a = closes a packet now
+
+open_tells : (a b : Shown) → StaysOpen a b → Tells false a (b, [])
+open_tells a b h = tells_nothing a b h.lost h.events
+
+carried_tells : (call : Call) (a : Shown) → Tells (closes_by call a) a (carried_out call a)
+carried_tells (Call.OpenStream id kind) a = tells_nothing a _ refl refl
+carried_tells (Call.Write id bytes) a = write_tells (stream_at a.streams id) a id bytes
+carried_tells (Call.Read id) a = tells_nothing a _ refl refl
+carried_tells Call.Poll a = poll_tells a.events a refl
+carried_tells (Call.PollTransmit now) a = open_tells a (polled a now).0 (polls_do_not_close a now)
+carried_tells (Call.HandleTimeout now) a = open_tells a (after_timeouts a now) (timers_do_not_close a now)
+carried_tells (Call.HandleEvent packet now) a =
+    packet_tells (closes a packet now) a (after_packet a packet now) (faults_alone_close a packet now)
+    (closes_once a.lost (is_faulted_packet a packet now))
+
+counts_all : (n : ℕ) (x : Shown × List Event) → n + losses x.1 + losses x.0.events ≡ loss_count x.0.lost
+    → Counts (n + losses x.1) x.0
+counts_all n x e = record { at_most = omega (arith, e); in_all = λ _. e }
+
+counts_on : (closing : Bool) (n : ℕ) (a : Shown) (x : Shown × List Event) → a.failed ≡ false → Counts n a
+    → Tells closing a x → Counts (n + losses x.1) x.0
+counts_on false n a x works h t =
+    let before : n + losses a.events ≡ loss_count a.lost = h.in_all works in
+    let after : loss_count x.0.lost ≡ loss_count a.lost = ap loss_count t.lost in
+    counts_all n x (omega (arith, before, after, t.count))
+counts_on true n a x works h t =
+    let before : n + losses a.events ≡ loss_count a.lost = h.in_all works in
+    let none : loss_count a.lost ≡ 0 = ap loss_count (t.once refl) in
+    let after : loss_count x.0.lost ≡ 1 = ap loss_count t.lost in
+    counts_all n x (omega (arith, before, none, after, t.count))
+
+counts_still : (n : ℕ) (a : Shown) → Counts n a → Counts (n + losses []) a
+counts_still n a h = record { at_most = omega (arith, h.at_most); in_all = λ e. omega (arith, h.in_all e) }
+
+counts_unchanged : (n : ℕ) (told : List Event) (a b : Shown) → Counts n a → IsUnchanged told a b
+    → Counts (n + losses told) b
+counts_unchanged n told a b h r =
+    subst (λ (z : List Event). Counts (n + losses z) b) (sym r.silent)
+    (counts_still n b (subst (λ (z : Shown). Counts n z) (sym r.same) h))
+
+counts_fell : (n : ℕ) (a b : Shown) → Counts n a → Fell a b → Counts (n + losses []) b
+counts_fell n a b h f =
+    let same : loss_count b.lost ≡ loss_count a.lost = ap loss_count f.lost in
+    record { at_most = omega (arith, h.at_most, same); in_all = λ e. absurd (true≢false (sym f.failed ∙ e)) }
+
+call_counts : (call : Call) (n : ℕ) (told : List Event) (a b : Shown) → Counts n a → Calls call told a b
+    → Counts (n + losses told) b
+call_counts call n told a b h (inl c) =
+    subst (λ (x : Shown × List Event). Counts (n + losses x.1) x.0) c.there
+    (counts_on (closes_by call a) n a (carried_out call a) (accepted_works call a c.accepted) h (carried_tells call a))
+call_counts call n told a b h (inr (inl c)) = counts_unchanged n told a b h c
+call_counts call n told a b h (inr (inr c)) =
+    subst (λ (z : List Event). Counts (n + losses z) b) (sym c.silent) (counts_fell n a b h (fell a b c.failed))
+
+run_counts : (calls : List Call) (n : ℕ) (told : List Event) (a b : Shown) → Counts n a → IsRun calls told a b
+    → Counts (n + losses told) b
+run_counts [] n told a b h r = counts_unchanged n told a b h r
+run_counts (c ∷ cs) n told a b h r =
+    let all : losses told ≡ losses r.first + losses r.later = ap losses r.in_order
+    ∙ sum_by-append loss_of r.first r.later in
+    let sums : n + losses r.first + losses r.later ≡ n + losses told = omega (arith, all) in
+    subst (λ (z : ℕ). Counts z b) sums (run_counts cs (n + losses r.first) r.later r.middle b
+    (call_counts c n r.first a r.middle h r.called) r.others)
+
+fresh_counts : (a : Shown) → IsFresh a → Counts 0 a
+fresh_counts a h =
+    let none : loss_count a.lost ≡ 0 = ap loss_count h.not_lost in
+    record { at_most = omega arith; in_all = λ e. omega (arith, h.untold, none) }
+
+pub losses_are_told_once : LossesAreToldOnce
+losses_are_told_once calls told a b h r =
+    let all = run_counts calls 0 told a b (fresh_counts a h) r in
+    record { told_at_most = omega (arith, all.at_most); in_all = λ e. omega (arith, all.in_all e) }

@@ -1,0 +1,115 @@
+-- The chunks of a packet, its end, and how a fault closes.
+use Rattle.std.proofs.Common.{◌≡◌, refl, sym, ◌∙◌, subst, ℕ, Bool, true, false, if◌then◌else◌, Some, None}
+use Rattle.std.specs.List.{AllByRecursion}
+use Rattle.std.proofs.lemmas.Bool.{cond-false, cond-true, false≢true, true≢false}
+use Rattle.sctp_wire_types.specs.declared.chunk.Chunk.{Chunk}
+use Rattle.sctp_wire_types.specs.declared.packet.CommonHeader.{CommonHeader}
+use Rattle.sctp_wire.specs.declared.packet.Packet.{Packet}
+use Rattle.sctp_parts.specs.declared.state.AssociationState.{AssociationState}
+use Rattle.sctp_parts.specs.declared.state.AssociationState.TheVariants as states
+use Rattle.sctp_streams.specs.declared.event.AssociationError.{AssociationError}
+use Rattle.sctp_streams.specs.declared.event.AssociationError.TheVariants as reasons
+use Rattle.sctp_streams.specs.Stream.{StreamView}
+use Rattle.sctp_inbound.specs.declared.receiver.AckTrigger.{AckTrigger}
+use Rattle.sctp_inbound.specs.declared.receiver.AckTrigger.TheVariants as triggers
+use Rattle.sctp_assoc.specs.Calls.{closed_by, closed_open, is_closed_state, is_established}
+use Rattle.sctp_assoc.specs.Chunks.{after_packet, after_packet_of, ended, on_chunk}
+use Rattle.sctp_sides.specs.Shapes.{ChunksLeadOn, Closes, EndsPacket, EstablishedIsNotClosed, FaultsClose}
+use Rattle.sctp_sides.specs.Shapes.{LostAssociationsTakeNothing, NoPacketChangesNothing, PacketsEnd, TakesChunk}
+use Rattle.sctp_assoc.specs.Shown.{Shown}
+use Rattle.sctp_sides.proofs.PacketsByChunks.{chunks_carry}
+use Rattle.sctp_assoc.proofs.CallsLeadOn.{chunk_leads, leads_nowhere}
+use Rattle.sctp_sides.proofs.HandshakeChunks.{chunk_greets}
+use Rattle.sctp_sides.proofs.Status.{chunk_leaves, status_by}
+use Rattle.sctp_sides.proofs.HandshakeTruth.{keeps_saying, truthful_silent}
+
+pub chunks_lead_on : ChunksLeadOn
+chunks_lead_on header c a trigger now = record {
+  leads = λ h binds. chunk_leads header c a trigger now h binds;
+  leaves = chunk_leaves header c a trigger now;
+  greets = chunk_greets header c a trigger now;
+}
+
+pub packets_end : PacketsEnd
+packets_end a trigger now = record {
+  leads = λ h binds. (h, leads_nowhere a (ended a trigger now) h binds refl (point_stays trigger));
+  same = status_by a (ended a trigger now) refl refl refl refl refl refl refl;
+}
+  where
+    point_stays : (w : AckTrigger) → (ended a w now).receiver.peer_last_tsn ≡ a.receiver.peer_last_tsn
+    point_stays triggers.None = refl
+    point_stays triggers.Delayed = refl
+    point_stays triggers.Immediate = refl
+
+none_some : (t : StreamView) → None ≡ Some t → ⊥
+none_some t e = cc
+
+closes_if : (c : Bool) (a : Shown) (reason : AssociationError) → is_closed_state a.state ≡ c
+    → Closes a (if c then a else closed_open a reason)
+closes_if true a reason e = record {
+  failed = refl;
+  side = refl;
+  handshake = refl;
+  truthful = λ own t. t;
+  ends = λ f. absurd (true≢false (sym e ∙ f));
+  stays = λ f. refl;
+}
+closes_if false a reason e = record {
+  failed = refl;
+  side = refl;
+  handshake = refl;
+  truthful =
+      λ own t. truthful_silent own a (closed_open a reason) t (keeps_saying a (closed_open a reason) refl refl) refl;
+  ends = λ f. record {
+    closed = refl;
+    unestablished = refl;
+    lost = refl;
+    none_live = λ id. refl;
+    holds_nothing = λ id t there. absurd (none_some t there);
+    silent = refl;
+  };
+  stays = λ f. absurd (true≢false (sym f ∙ e));
+}
+
+pub faults_close : FaultsClose
+faults_close a reason = closes_if (is_closed_state a.state) a reason refl
+
+not_closed : (s : AssociationState) → is_established s ≡ true → is_closed_state s ≡ false
+not_closed states.Closed e = absurd (false≢true e)
+not_closed states.CookieWait e = refl
+not_closed states.CookieEchoed e = refl
+not_closed states.Established e = refl
+not_closed states.ShutdownAckSent e = refl
+not_closed states.ShutdownPending e = refl
+not_closed states.ShutdownReceived e = refl
+not_closed states.ShutdownSent e = refl
+
+pub established_is_not_closed : EstablishedIsNotClosed
+established_is_not_closed a e = not_closed a.state e
+
+pub lost_associations_take_nothing : LostAssociationsTakeNothing
+lost_associations_take_nothing a packet now e = cond-true a.lost a (after_packet_of a packet now) e
+
+nothing_if : (lost : Bool) (a : Shown) → (if lost then a else a) ≡ a
+nothing_if true a = refl
+nothing_if false a = refl
+
+pub no_packet_changes_nothing : NoPacketChangesNothing
+no_packet_changes_nothing a now = nothing_if a.lost a
+
+-- What each chunk of a packet carries on, the packet does: P holds before each chunk, and Q once the packet is over, at
+-- its end or where a fault closes.
+pub packets_carry : (P Q : Shown → Type 0) (Said : Chunk → Type 0)
+    → ((header : CommonHeader) (c : Chunk) (a b : Shown) → Said c → TakesChunk header c a b → P a → P b)
+    → ((a b : Shown) → EndsPacket a b → P a → Q b)
+    → ((a b : Shown) → Closes a b → P a → Q b)
+    → (packet : Packet) (a : Shown) (now : ℕ) → a.lost ≡ false → AllByRecursion Said packet.chunks → P a
+    → Q (after_packet a (Some packet) now)
+packets_carry P Q Said takes ends closes packet a now present said h =
+    subst Q (sym (cond-false a.lost a (after_packet_of a (Some packet) now) present))
+    (chunks_carry P Q Said
+    (λ header c b trigger at s p.
+    takes header c b (on_chunk b header c trigger at).0 s (chunks_lead_on header c b trigger at) p)
+    (λ b trigger at p. ends b (ended b trigger at) (packets_end b trigger at) p)
+    (λ b p. closes b (closed_by b reasons.AssociationClosed) (faults_close b reasons.AssociationClosed) p)
+    packet.common_header packet.chunks a triggers.None now said h)

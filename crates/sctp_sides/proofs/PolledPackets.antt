@@ -1,0 +1,128 @@
+-- The packets of a poll say what its acts give out.
+use Rattle.std.proofs.Common.{◌≡◌, refl, sym, ap, ◌∙◌, inl, inr, subst, ℕ, suc, Bool, true, false, if◌then◌else◌, List}
+use Rattle.std.proofs.Common.{[], ◌∷◌, ◌++◌, Some, None, Result, Ok, Err, is_ok}
+use Rattle.std.specs.Prelude.{slice_get}
+use Rattle.std.specs.List.{AllByRecursion}
+use Rattle.std.proofs.lemmas.Bool.{cond-false, cond-true}
+use Rattle.std.proofs.lemmas.List.{append-nil}
+use Rattle.sctp_wire_types.specs.declared.chunk.Chunk.{Chunk}
+use Rattle.sctp_wire_types.specs.declared.chunk.Chunk.TheVariants as chunks
+use Rattle.sctp_wire_types.specs.declared.chunk.ChunkPayloadData.{ChunkPayloadData}
+use Rattle.sctp_wire_types.specs.declared.error.Fault.{Fault}
+use Rattle.sctp_wire_types.specs.declared.packet.CommonHeader.{CommonHeader}
+use Rattle.sctp_wire.specs.Packets.{checked, packet_at, packet_is_plain, written}
+use Rattle.sctp_inbound.specs.Handshake.{header_of}
+use Rattle.sctp_model.proofs.Lists.{all_join, all_weaker}
+use Rattle.sctp_assoc.specs.Acts.{all_data_given, parts}
+use Rattle.sctp_assoc.specs.Calls.{is_established}
+use Rattle.sctp_assoc.specs.Happened.{acks_given}
+use Rattle.sctp_assoc.specs.Inbound.{taken_packet}
+use Rattle.sctp_assoc.specs.declared.control.ControlPacket.{ControlPacket}
+use Rattle.sctp_assoc.specs.Gather.{AckIsReadAgain, AreControlReadAgain, AreReadAgain, IsReadAgain, ack_after}
+use Rattle.sctp_assoc.specs.Gather.{after_both, control_packets, data_packets, data_polled, exchange_polled, is_due}
+use Rattle.sctp_assoc.specs.Gather.{packet_bytes, packet_with, sack_chunk, sack_packet, spelled, without_control}
+use Rattle.sctp_sides.specs.Shapes.{IsGivenBy, IsWaitingToGo, OfEachChunk, PollsOutsideEstablishedGiveWhatWaits}
+use Rattle.sctp_sides.specs.Shapes.{PollsSayTheirActs, WhatWaitsGoesOutAsItIs}
+use Rattle.sctp_assoc.specs.Shown.{Shown}
+use Rattle.sctp_sides.proofs.DueSacks.{sacks_say_what_was_taken}
+
+-- each chunk that a datagram spells is so
+abbrev AreOf : (Chunk → Type 0) → List (List ℕ) → Type 0
+AreOf Is packets = AllByRecursion (λ (bytes : List ℕ). OfEachChunk Is (taken_packet (packet_at bytes))) packets
+
+-- A packet of one chunk says what its chunk says.
+
+taken_says : (c : Bool) (Is : Chunk → Type 0) (header : CommonHeader) (chunk : Chunk) → Is chunk
+    → OfEachChunk Is (if c then Some (packet_with header chunk) else None)
+taken_says true Is header chunk s = (s, tt)
+taken_says false Is header chunk s = tt
+
+spelled_says : (r : Result (List ℕ) Fault) (Is : Chunk → Type 0) (header : CommonHeader) (chunk : Chunk)
+    → ((bytes : List ℕ) → spelled r ≡ bytes ∷ [] → packet_at bytes ≡ Ok (packet_with header chunk)) → Is chunk
+    → AreOf Is (spelled r)
+spelled_says (Ok bytes) Is header chunk again s = (
+  subst (λ z. OfEachChunk Is (taken_packet z)) (sym (again bytes refl))
+      (taken_says (is_ok (checked (packet_with header chunk))) Is header chunk s),
+  tt,
+)
+spelled_says (Err fault) Is header chunk again s = tt
+
+one_says : (Is : Chunk → Type 0) (header : CommonHeader) (chunk : Chunk) → IsReadAgain header chunk → Is chunk
+    → AreOf Is (packet_bytes header chunk)
+unfolding packet_bytes
+one_says Is header chunk again s = spelled_says (written (packet_with header chunk)) Is header chunk again s
+
+data_says : (Is : Chunk → Type 0) (header : CommonHeader) (cs : List ChunkPayloadData) → AreReadAgain header cs
+    → AllByRecursion (λ (c : ChunkPayloadData). Is (chunks.Data c)) cs → AreOf Is (data_packets header cs)
+data_says Is header [] again all = tt
+data_says Is header (c ∷ cs) (again, more) (one, rest) =
+    all_join (λ (bytes : List ℕ). OfEachChunk Is (taken_packet (packet_at bytes))) (packet_bytes header (chunks.Data c))
+    (data_packets header cs)
+    (one_says Is header (chunks.Data c) again one) (data_says Is header cs more rest)
+
+ack_says : (due : Bool) (Is : Chunk → Type 0) (a : Shown) → is_due a.receiver.ack_state ≡ due → AckIsReadAgain a
+    → (is_due a.receiver.ack_state ≡ true → Is (sack_chunk a)) → AreOf Is (if due then sack_packet a else [])
+ack_says false Is a e again s = tt
+ack_says true Is a e again s = one_says Is (header_of a.handshake) (sack_chunk a) (again e) (s e)
+
+-- each of a list stands in it
+each_there : {X : Type 0} (xs : List X) → AllByRecursion (λ (x : X). (k : ℕ) × (slice_get xs k ≡ Some x)) xs
+each_there [] = tt
+each_there {X} (x ∷ xs) = (
+  (0, refl),
+  all_weaker (λ (y : X). (k : ℕ) × (slice_get xs k ≡ Some y)) (λ (y : X). (k : ℕ) × (slice_get (x ∷ xs) k ≡ Some y)) xs
+      (λ y there. (suc there.0, there.1)) (each_there xs),
+)
+
+waiting_say : (Is : Chunk → Type 0) (cs : List ControlPacket) → AreControlReadAgain cs
+    → AllByRecursion (λ (c : ControlPacket). packet_is_plain (packet_with c.header c.chunk) ≡ true) cs
+    → AllByRecursion (λ (c : ControlPacket). Is c.chunk) cs → AreOf Is (control_packets cs)
+waiting_say Is [] again plain all = tt
+waiting_say Is (c ∷ cs) (again, more) (plain, others) (one, rest) =
+    all_join (λ (bytes : List ℕ). OfEachChunk Is (taken_packet (packet_at bytes))) (packet_bytes c.header c.chunk)
+    (control_packets cs)
+    (one_says Is c.header c.chunk (again plain) one) (waiting_say Is cs more others rest)
+
+pub polls_say_their_acts : PollsSayTheirActs
+polls_say_their_acts acts a b h packets plain again established binds polls =
+    let Is : Chunk → Type 0 = IsGivenBy acts a h in
+    let header = header_of a.handshake in
+    let given = all_data_given acts (parts a h) in
+    let exchanged =
+    cond-true (is_established a.state)
+    (data_packets (header_of a.handshake) (all_data_given acts (parts a h)) ++ acks_given a) [] established in
+    let said = polls.said ∙ ap (λ (z : List (List ℕ)). control_packets a.control ++ z) exchanged in
+    subst (AreOf (IsGivenBy acts a h)) (sym said)
+    (all_join (λ (bytes : List ℕ). OfEachChunk (IsGivenBy acts a h) (taken_packet (packet_at bytes)))
+    (control_packets a.control)
+    (data_packets (header_of a.handshake) (all_data_given acts (parts a h)) ++ acks_given a)
+    (waiting_say (IsGivenBy acts a h) a.control again plain
+    (all_weaker (λ (c : ControlPacket). (k : ℕ) × (slice_get a.control k ≡ Some c))
+    (λ (c : ControlPacket). IsGivenBy acts a h c.chunk) a.control
+    (λ c there. inl (there.0, c, there.1, refl)) (each_there a.control)))
+    (all_join (λ (bytes : List ℕ). OfEachChunk (IsGivenBy acts a h) (taken_packet (packet_at bytes)))
+    (data_packets (header_of a.handshake) (all_data_given acts (parts a h))) (acks_given a)
+    (data_says (IsGivenBy acts a h) (header_of a.handshake) (all_data_given acts (parts a h))
+    (polls.data_again established)
+    (all_weaker (λ (c : ChunkPayloadData). (k : ℕ) × (slice_get (all_data_given acts (parts a h)) k ≡ Some c))
+    (λ (c : ChunkPayloadData). IsGivenBy acts a h (chunks.Data c))
+    (all_data_given acts (parts a h)) (λ c there. inr there) (each_there (all_data_given acts (parts a h)))))
+    (ack_says (is_due a.receiver.ack_state) (IsGivenBy acts a h) a refl (polls.ack_again established)
+    (λ due. inr (due, sacks_say_what_was_taken a h binds)))))
+
+exchange_nothing : (a : Shown) (now : ℕ) → is_established a.state ≡ false → exchange_polled a now ≡ (a, [])
+unfolding exchange_polled
+exchange_nothing a now e = cond-false (is_established a.state) (ack_after (data_polled a now)) (a, []) e
+
+pub polls_outside_established_give_what_waits : PollsOutsideEstablishedGiveWhatWaits
+polls_outside_established_give_what_waits a now e =
+    ap (λ (x : Shown × List (List ℕ)). after_both (control_packets a.control) x)
+    (exchange_nothing (without_control a) now e)
+    ∙ ap (λ (z : List (List ℕ)). (without_control a, z)) (append-nil (control_packets a.control))
+
+pub what_waits_goes_out_as_it_is : WhatWaitsGoesOutAsItIs
+what_waits_goes_out_as_it_is a plain again =
+    waiting_say (IsWaitingToGo a) a.control again plain
+    (all_weaker (λ (c : ControlPacket). (k : ℕ) × (slice_get a.control k ≡ Some c))
+    (λ (c : ControlPacket). IsWaitingToGo a c.chunk) a.control
+    (λ c there. (there.0, c, there.1, refl)) (each_there a.control))

@@ -1,0 +1,440 @@
+-- The chunks of a packet keep the timers where they should run, and a fault stops them all.
+use Rattle.std.proofs.Common.{◌≡◌, refl, sym, ap, ◌∙◌, ◌⊎◌, inl, inr, ℕ, zero, suc, ◌<◌, arith, Bool, true, false, ltb}
+use Rattle.std.proofs.Common.{◌&&◌, if◌then◌else◌, List, [], ◌∷◌, length, Option, Some, None, is_some, Result, Ok, Err}
+use Rattle.std.proofs.lemmas.Bool.{false≢true, ltb-false, ltb-true, true≢false}
+use Rattle.sctp_wire_types.specs.declared.chunk.Chunk.{Chunk}
+use Rattle.sctp_wire_types.specs.declared.chunk.Chunk.TheVariants as chunks
+use Rattle.sctp_wire_types.specs.declared.chunk.ChunkPayloadData.{ChunkPayloadData}
+use Rattle.sctp_wire_types.specs.declared.chunk.ChunkHeartbeat.{ChunkHeartbeat}
+use Rattle.sctp_wire_types.specs.declared.chunk.ChunkInit.{ChunkInit}
+use Rattle.sctp_wire_types.specs.declared.error.Error.{Error}
+use Rattle.sctp_wire_types.specs.declared.packet.CommonHeader.{CommonHeader}
+use Rattle.sctp_wire_types.specs.Checks.{checked_chunk}
+use Rattle.sctp_wire.specs.declared.packet.Packet.{Packet}
+use Rattle.sctp_parts.specs.declared.state.AssociationState.{AssociationState}
+use Rattle.sctp_parts.specs.declared.state.AssociationState.TheVariants as states
+use Rattle.sctp_parts.specs.declared.timer.Timer.TheVariants as names
+use Rattle.sctp_parts.specs.Timers.{Timers, restarted_if_stale, started, with_stopped}
+use Rattle.sctp_parts.specs.Estimate.{Estimate}
+use Rattle.sctp_outbound_queue.specs.declared.message.InFlight.{InFlight}
+use Rattle.sctp_streams.specs.declared.event.AssociationError.{AssociationError}
+use Rattle.sctp_streams.specs.declared.event.AssociationError.TheVariants as reasons
+use Rattle.sctp_streams.specs.Streams.{StreamMap, bytes_waiting, generation_left, is_readable_in, pushed_in, refusal_in}
+use Rattle.sctp_streams.specs.Streams.{stream_at}
+use Rattle.sctp_inbound.specs.declared.receiver.AckTrigger.{AckTrigger}
+use Rattle.sctp_inbound.specs.declared.receiver.AckTrigger.TheVariants as triggers
+use Rattle.sctp_inbound.specs.Greeting.{first_cookie, information_of}
+use Rattle.sctp_inbound.specs.Handshake.{comes_back, has_issued}
+use Rattle.sctp_inbound.specs.Receiver.{credit_of, is_next_after, taken_to}
+use Rattle.sctp_outbound.specs.declared.sender.Sender.{Sender}
+use Rattle.sctp_outbound.specs.declared.sender.SackOutcome.{SackOutcome}
+use Rattle.sctp_outbound.specs.declared.sender.SackOutcome.TheVariants as outcomes
+use Rattle.sctp_outbound.specs.Sender.{acknowledged, tsns_up_to, sack_outcome, t3_after_sack, t3_cleared, with_window}
+use Rattle.sctp_assoc.specs.declared.inbound.Flow.{Flow}
+use Rattle.sctp_assoc.specs.declared.inbound.Flow.TheVariants as flows
+use Rattle.sctp_assoc.specs.Calls.{closed_open, is_beginning, is_closed_state, is_cookie_echoed, is_cookie_wait}
+use Rattle.sctp_assoc.specs.Calls.{is_established}
+use Rattle.sctp_assoc.specs.Handshake.{acknowledged_cookie, answered, connected, echoed, information_returned, learned}
+use Rattle.sctp_assoc.specs.Handshake.{on_cookie_ack, on_cookie_echo, on_heartbeat, on_init, on_init_ack, sends_cookie}
+use Rattle.sctp_assoc.specs.Chunks.{after_chunks, after_packet, after_packet_of, checked_first, counted_data}
+use Rattle.sctp_assoc.specs.Chunks.{counted_sack, dispatched, ended, goes_on, is_whole, on_chunk, on_counted_data}
+use Rattle.sctp_assoc.specs.Chunks.{on_counted_sack, on_data, on_next_data, on_sack, stream_found, taken_in, told}
+use Rattle.sctp_assoc.specs.Chunks.{with_acknowledged}
+use Rattle.sctp_sides.specs.OneSide.{is_delayed}
+use Rattle.sctp_assoc.specs.Shown.{Shown}
+use Rattle.sctp_assoc.proofs.CallsLeadOn.{asks_same}
+use Rattle.sctp_sides.proofs.TimersRun.{AtRest, FitsTimers, IsSameTime, Ticks, ack_kept, established_begins_no_more}
+use Rattle.sctp_sides.proofs.TimersRun.{fits_as_many, fits_restarted, none_armed, restarted, restarted_keeps_ack}
+use Rattle.sctp_sides.proofs.TimersRun.{same_time, ticks_by, time_by, time_on}
+
+-- DATA leaves all of it
+
+found_time : (there left : Bool) (a : Shown) (id : ℕ) → is_some (stream_at a.streams id) ≡ there
+    → generation_left a.streams ≡ left → IsSameTime a (stream_found a id).0
+unfolding stream_found
+found_time true left a id e f = rw e (same_time a)
+found_time false true a id e f = rw (e, f) (time_by a _ refl refl refl refl refl refl)
+found_time false false a id e f = rw (e, f) (same_time a)
+
+told_time : (readable kept : Bool) (a : Shown) (id : ℕ) → is_readable_in a.streams id ≡ readable
+    → IsSameTime a (told a id kept)
+told_time true true a id e = rw e (time_by a _ refl refl refl refl refl refl)
+told_time false true a id e = rw e (time_by a _ refl refl refl refl refl refl)
+told_time readable false a id e = time_by a _ refl refl refl refl refl refl
+
+taken_time : (refusal : Option Error) (a : Shown) (piece : ChunkPayloadData)
+    → refusal_in a.streams piece.stream_identifier piece a.receiver.max_receive_message_size ≡ refusal
+    → IsSameTime a (taken_in a piece).0
+unfolding taken_in
+taken_time (Some fault) a piece e = rw e (same_time a)
+taken_time None a piece e =
+    let put = pushed_in a.streams piece.stream_identifier piece in
+    let b : Shown = record a { streams = put.0; receiver = taken_to a.receiver piece.tsn } in
+    rw e (time_on a b _ (time_by a b refl refl refl refl refl refl)
+    (told_time (is_readable_in b.streams piece.stream_identifier) put.1 b piece.stream_identifier refl))
+
+next_data_time : (there credit : Bool) (a : Shown) (piece : ChunkPayloadData) (trigger : AckTrigger)
+    → ltb 0 (credit_of a.receiver (bytes_waiting a.streams)) ≡ credit
+    → IsSameTime a (on_next_data (a, there) piece trigger).0
+next_data_time false credit a piece trigger e = same_time a
+next_data_time true true a piece trigger e =
+    rw (e, asks_same (taken_in a piece) piece trigger)
+    (taken_time (refusal_in a.streams piece.stream_identifier piece a.receiver.max_receive_message_size) a piece refl)
+next_data_time true false a piece trigger e = rw e (same_time a)
+
+found_next_time : (x : Shown × Bool) (a : Shown) (piece : ChunkPayloadData) (trigger : AckTrigger) → IsSameTime a x.0
+    → IsSameTime a (on_next_data x piece trigger).0
+found_next_time (b, there) a piece trigger h = time_on a b _ h
+    (next_data_time there (ltb 0 (credit_of b.receiver (bytes_waiting b.streams))) b piece trigger refl)
+
+counted_data_time : (next : Bool) (a : Shown) (piece : ChunkPayloadData) (trigger : AckTrigger)
+    → (is_next_after a.receiver piece.tsn && is_whole piece) ≡ next
+    → IsSameTime a (on_counted_data a piece trigger).0
+counted_data_time true a piece trigger e =
+    rw e (found_next_time (stream_found a piece.stream_identifier) a piece trigger
+    (found_time (is_some (stream_at a.streams piece.stream_identifier)) (generation_left a.streams) a
+    piece.stream_identifier refl refl))
+counted_data_time false a piece trigger e = rw e (same_time a)
+
+data_time : (a : Shown) (piece : ChunkPayloadData) (trigger : AckTrigger) → IsSameTime a (on_data a piece trigger).0
+unfolding on_data
+data_time a piece trigger =
+    time_on a (counted_data a) _ (time_by a (counted_data a) refl refl refl refl refl refl)
+    (counted_data_time (is_next_after a.receiver piece.tsn && is_whole piece) (counted_data a) piece trigger refl)
+
+-- SACK
+
+acknowledged_nothing : (n now : ℕ) (s : Sender) (e : Estimate) (m : StreamMap) → ltb 0 n ≡ false
+    → (acknowledged n now (s, e, m)).0.queue.in_flight ≡ s.queue.in_flight
+acknowledged_nothing zero now s e m h = refl
+acknowledged_nothing (suc n) now s e m h = absurd (omega (arith, ltb-false 0 (suc n) h))
+
+cleared : (moved : Bool) (s : AssociationState) (f g : List InFlight) (t : Timers) (now rto : ℕ)
+    → is_beginning s ≡ false → 0 < length g → FitsTimers s f t
+    → FitsTimers s g (restarted_if_stale names.T3RTX now rto (t3_cleared moved t))
+cleared moved s f g t now rto b p h =
+    let r = restarted now rto (t3_cleared moved t) in
+    fits_restarted s f g t (restarted_if_stale names.T3RTX now rto (t3_cleared moved t)) b
+    (record {
+      armed = r.armed;
+      init = r.init ∙ kept moved;
+      cookie = r.cookie
+          ∙ kept_cookie moved;
+      data_limit = r.data_limit ∙ kept_data moved;
+      handshake_limit = r.handshake_limit
+          ∙ kept_limit moved;
+    }) p h
+  where
+    kept : (c : Bool) → (t3_cleared c t).t1_init ≡ t.t1_init
+    kept true = refl
+    kept false = refl
+
+    kept_cookie : (c : Bool) → (t3_cleared c t).t1_cookie ≡ t.t1_cookie
+    kept_cookie true = refl
+    kept_cookie false = refl
+
+    kept_data : (c : Bool) → (t3_cleared c t).data_limit ≡ t.data_limit
+    kept_data true = refl
+    kept_data false = refl
+
+    kept_limit : (c : Bool) → (t3_cleared c t).handshake_limit ≡ t.handshake_limit
+    kept_limit true = refl
+    kept_limit false = refl
+
+-- T3-rtx after a SACK that left these pieces in flight: where nothing was acknowledged the pieces are the same
+sack_fits : (left moved : Bool) (s : AssociationState) (f g : List InFlight) (t : Timers) (now rto : ℕ)
+    → is_beginning s ≡ false → ltb 0 (length g) ≡ left
+    → (moved ≡ false → g ≡ f) → FitsTimers s f t
+    → FitsTimers s g (if left then restarted_if_stale names.T3RTX now rto (t3_cleared moved t) else if moved
+    then with_stopped names.T3RTX t else t)
+sack_fits true moved s f g t now rto b e k h = cleared moved s f g t now rto b (ltb-true 0 (length g) e) h
+sack_fits false true s f g t now rto b e k h = record {
+  flies = record { timed = λ _ p. absurd (omega (arith, p, ltb-false 0 (length g) e)); none = λ _. refl };
+  inits = h.inits;
+  cookies = h.cookies;
+  unsent = λ z. absurd (false≢true (sym b ∙ z));
+}
+sack_fits false false s f g t now rto b e k h = fits_as_many s f g t (ap (λ (z : List InFlight). length z) (k refl)) h
+
+sack_keeps_ack : (left moved : Bool) (t : Timers) (now rto : ℕ)
+    → (if left then restarted_if_stale names.T3RTX now rto (t3_cleared moved t)
+    else if moved then with_stopped names.T3RTX t else t).ack ≡ t.ack
+sack_keeps_ack true true t now rto = restarted_keeps_ack now rto (t3_cleared true t)
+sack_keeps_ack true false t now rto = restarted_keeps_ack now rto (t3_cleared false t)
+sack_keeps_ack false true t now rto = refl
+sack_keeps_ack false false t now rto = refl
+
+taken_ticks : (a : Shown) (moved : Bool) (now : ℕ) (x : Sender × Estimate × StreamMap) → is_beginning a.state ≡ false
+    → (moved ≡ false → x.0.queue.in_flight ≡ a.sender.queue.in_flight) → Ticks a
+    → Ticks (with_acknowledged a moved now x)
+taken_ticks a moved now (s, e, m) b k h = record {
+  working = h.working;
+  not_lost = h.not_lost;
+  fits = sack_fits (ltb 0 (length s.queue.in_flight)) moved a.state a.sender.queue.in_flight s.queue.in_flight a.timers
+      now e.rto b refl k h.fits;
+  acks = ack_kept (t3_after_sack moved (length s.queue.in_flight) now e.rto a.timers) a.timers a.receiver.ack_state
+      (sack_keeps_ack (ltb 0 (length s.queue.in_flight)) moved a.timers now e.rto) h.acks;
+}
+
+outcome_ticks : (o : SackOutcome) (a : Shown) (point window : ℕ) (trigger : AckTrigger) (now : ℕ)
+    → is_beginning a.state ≡ false → Ticks a
+    → Ticks (on_counted_sack o a point window trigger now).0
+outcome_ticks outcomes.Older a point window trigger now b h = h
+outcome_ticks outcomes.NotInFlight a point window trigger now b h = h
+outcome_ticks outcomes.Taken a point window trigger now b h =
+    taken_ticks a (ltb 0 (tsns_up_to a.sender point)) now
+    (acknowledged (tsns_up_to a.sender point) now (with_window a.sender window, a.estimate, a.streams)) b
+    (λ e. acknowledged_nothing (tsns_up_to a.sender point) now (with_window a.sender window) a.estimate a.streams e) h
+
+sack_ticks : (established : Bool) (a : Shown) (point window : ℕ) (trigger : AckTrigger) (now : ℕ)
+    → is_established a.state ≡ established → Ticks a
+    → Ticks (on_sack a point window trigger now).0
+unfolding on_sack
+sack_ticks true a point window trigger now e h =
+    rw e (outcome_ticks (sack_outcome a.sender point) (counted_sack a) point window trigger now
+    (established_begins_no_more a.state e)
+    (ticks_by a (counted_sack a) (time_by a (counted_sack a) refl refl refl refl refl refl) h))
+sack_ticks false a point window trigger now e h = rw e h
+
+-- The handshake
+
+-- A chunk led on, or was a fault in an association that is as it should be, if it is closed.
+pub record IsFaulty (b : Shown) : Type 0 where
+  pub working : b.failed ≡ false
+  pub not_lost : b.lost ≡ false
+  pub if_closed : is_closed_state b.state ≡ true → Ticks b
+
+abbrev pub TicksOn : Shown × Flow → Type 0
+TicksOn (b, flows.Next trigger) = Ticks b
+TicksOn (b, flows.Fault fault) = IsFaulty b
+
+faulty : (b : Shown) → Ticks b → IsFaulty b
+faulty b h = record { working = h.working; not_lost = h.not_lost; if_closed = λ _. h }
+
+ticks_on : (x : Shown × Flow) → Ticks x.0 → TicksOn x
+ticks_on (b, flows.Next trigger) h = h
+ticks_on (b, flows.Fault fault) h = faulty b h
+
+init_ticks : (c : Bool) (a : Shown) (header : CommonHeader) (init : ChunkInit) (trigger : AckTrigger)
+    → is_beginning a.state ≡ c → Ticks a → Ticks (on_init a header init trigger).0
+unfolding on_init
+init_ticks true a header init trigger e h = rw e (ticks_by a (answered (learned a header init))
+    (time_by a (answered (learned a header init)) refl refl refl refl refl refl) h)
+init_ticks false a header init trigger e h = rw e h
+
+waiting_is_open : (s : AssociationState) → is_cookie_wait s ≡ true
+    → (is_closed_state s ≡ false) × (is_beginning s ≡ true)
+waiting_is_open states.Closed e = absurd (false≢true e)
+waiting_is_open states.CookieWait e = (refl, refl)
+waiting_is_open states.CookieEchoed e = absurd (false≢true e)
+waiting_is_open states.Established e = absurd (false≢true e)
+waiting_is_open states.ShutdownAckSent e = absurd (false≢true e)
+waiting_is_open states.ShutdownPending e = absurd (false≢true e)
+waiting_is_open states.ShutdownReceived e = absurd (false≢true e)
+waiting_is_open states.ShutdownSent e = absurd (false≢true e)
+
+echoed_begins : (s : AssociationState) → is_cookie_echoed s ≡ true → is_beginning s ≡ true
+echoed_begins states.Closed e = absurd (false≢true e)
+echoed_begins states.CookieWait e = absurd (false≢true e)
+echoed_begins states.CookieEchoed e = refl
+echoed_begins states.Established e = absurd (false≢true e)
+echoed_begins states.ShutdownAckSent e = absurd (false≢true e)
+echoed_begins states.ShutdownPending e = absurd (false≢true e)
+echoed_begins states.ShutdownReceived e = absurd (false≢true e)
+echoed_begins states.ShutdownSent e = absurd (false≢true e)
+
+-- in CookieEchoed the timer of INIT is stopped and that of COOKIE ECHO runs
+echo_fits : (s : AssociationState) (f : List InFlight) (t : Timers) (now rto : ℕ) → is_beginning s ≡ true
+    → FitsTimers s f t
+    → FitsTimers states.CookieEchoed f (started names.T1Cookie now rto (with_stopped names.T1Init t))
+echo_fits s f t now rto b h = record {
+  flies = record { timed = λ e _. absurd (false≢true e); none = h.flies.none };
+  inits = record { alone = λ _. refl; timed = λ e. absurd (false≢true e) };
+  cookies = record { alone = λ e. absurd (true≢false e); timed = λ _. inl refl };
+  unsent = λ _. h.unsent b;
+}
+
+echoed_ticks : (o : Option (List ℕ)) (b : Shown) (trigger : AckTrigger) (now : ℕ) → b.failed ≡ false → b.lost ≡ false
+    → is_cookie_wait b.state ≡ true
+    → FitsTimers states.CookieEchoed b.sender.queue.in_flight (started names.T1Cookie now b.estimate.rto b.timers)
+    → is_some b.timers.ack.moment ≡ is_delayed b.receiver.ack_state → TicksOn (echoed o b trigger now)
+unfolding sends_cookie
+echoed_ticks None b trigger now works lost e h k = record {
+  working = works;
+  not_lost = lost;
+  if_closed = λ c. absurd (false≢true (sym (waiting_is_open b.state e).0 ∙ c));
+}
+echoed_ticks (Some cookie) b trigger now works lost e h k = record {
+  working = works;
+  not_lost = lost;
+  fits = h;
+  acks = k;
+}
+
+init_ack_ticks : (waits back : Bool) (a : Shown) (header : CommonHeader) (init : ChunkInit)
+    (trigger : AckTrigger) (now : ℕ)
+    → is_cookie_wait a.state ≡ waits
+    → comes_back a.handshake header ≡ back → Ticks a → TicksOn (on_init_ack a header init trigger now)
+unfolding on_init_ack
+init_ack_ticks true true a header init trigger now e f h =
+    rw (e, f) (echoed_ticks (first_cookie init.params) _ trigger now h.working h.not_lost e
+    (echo_fits a.state a.sender.queue.in_flight a.timers now a.estimate.rto (waiting_is_open a.state e).1 h.fits)
+    h.acks)
+init_ack_ticks true false a header init trigger now e f h = rw (e, f)
+    (ticks_by a _ (time_by a _ refl refl refl refl refl refl) h)
+init_ack_ticks false back a header init trigger now e f h = rw e h
+
+-- it is established: neither timer of the handshake runs, and nothing was sent yet
+connected_fits : (s : AssociationState) (f : List InFlight) (t : Timers) → is_beginning s ≡ true → FitsTimers s f t
+    → FitsTimers states.Established f (with_stopped names.T1Cookie (with_stopped names.T1Init t))
+connected_fits s f t b h = record {
+  flies = record {
+    timed = λ _ p. absurd (omega (arith, p, ap (λ (z : List InFlight). length z) (h.unsent b)));
+    none = h.flies.none;
+  };
+  inits = record { alone = λ _. refl; timed = λ e. absurd (false≢true e) };
+  cookies = record { alone = λ _. refl; timed = λ e. absurd (false≢true e) };
+  unsent = λ e. absurd (false≢true e);
+}
+
+connected_ticks : (a : Shown) → is_beginning a.state ≡ true → Ticks a → Ticks (connected a)
+connected_ticks a b h = record {
+  working = h.working;
+  not_lost = h.not_lost;
+  fits = connected_fits a.state a.sender.queue.in_flight a.timers b h.fits;
+  acks = h.acks;
+}
+
+acknowledges_cookie : (a : Shown) → Ticks a → Ticks (acknowledged_cookie a)
+acknowledges_cookie a h = ticks_by a (acknowledged_cookie a)
+    (time_by a (acknowledged_cookie a) refl refl refl refl refl refl) h
+
+cookie_echo_ticks : (issued begins established : Bool) (a : Shown) (cookie : List ℕ) (trigger : AckTrigger)
+    → has_issued a.handshake cookie ≡ issued
+    → is_beginning a.state ≡ begins → is_established a.state ≡ established → Ticks a
+    → Ticks (on_cookie_echo a cookie trigger).0
+unfolding on_cookie_echo
+cookie_echo_ticks false begins established a cookie trigger e f g h = rw e h
+cookie_echo_ticks true true established a cookie trigger e f g h = rw (e, f)
+    (acknowledges_cookie (connected a) (connected_ticks a f h))
+cookie_echo_ticks true false true a cookie trigger e f g h = rw (e, f, g) (acknowledges_cookie a h)
+cookie_echo_ticks true false false a cookie trigger e f g h = rw (e, f, g) h
+
+cookie_ack_ticks : (c : Bool) (a : Shown) (trigger : AckTrigger) → is_cookie_echoed a.state ≡ c → Ticks a
+    → Ticks (on_cookie_ack a trigger).0
+unfolding on_cookie_ack
+cookie_ack_ticks true a trigger e h = rw e (connected_ticks a (echoed_begins a.state e) h)
+cookie_ack_ticks false a trigger e h = rw e h
+
+information_ticks : (o : Option (List ℕ)) (a : Shown) → Ticks a → Ticks (information_returned o a)
+information_ticks None a h = h
+information_ticks (Some information) a h = ticks_by a _ (time_by a _ refl refl refl refl refl refl) h
+
+heartbeat_ticks : (a : Shown) (heartbeat : ChunkHeartbeat) (trigger : AckTrigger) → Ticks a
+    → TicksOn (on_heartbeat a heartbeat trigger)
+unfolding on_heartbeat
+heartbeat_ticks a heartbeat trigger h = information_ticks (information_of heartbeat.params) a h
+
+-- Any chunk
+
+kind_ticks : (header : CommonHeader) (c : Chunk) (a : Shown) (trigger : AckTrigger) (now : ℕ) → Ticks a
+    → TicksOn (dispatched a header c trigger now)
+kind_ticks header (chunks.Data piece) a trigger now h = ticks_on (on_data a piece trigger)
+    (ticks_by a (on_data a piece trigger).0 (data_time a piece trigger) h)
+kind_ticks header (chunks.SelectiveAck k) a trigger now h =
+    ticks_on (on_sack a k.cumulative_tsn_ack k.advertised_receiver_window_credit trigger now)
+    (sack_ticks (is_established a.state) a k.cumulative_tsn_ack k.advertised_receiver_window_credit trigger now refl h)
+kind_ticks header (chunks.Init x) a trigger now h = ticks_on (on_init a header x trigger)
+    (init_ticks (is_beginning a.state) a header x trigger refl h)
+kind_ticks header (chunks.InitAck x) a trigger now h = init_ack_ticks (is_cookie_wait a.state)
+    (comes_back a.handshake header) a header x trigger now refl refl h
+kind_ticks header (chunks.Heartbeat x) a trigger now h = heartbeat_ticks a x trigger h
+kind_ticks header (chunks.HeartbeatAck x) a trigger now h = faulty a h
+kind_ticks header (chunks.Abort x) a trigger now h = faulty a h
+kind_ticks header (chunks.Shutdown x) a trigger now h = faulty a h
+kind_ticks header chunks.ShutdownAck a trigger now h = faulty a h
+kind_ticks header (chunks.Error x) a trigger now h = faulty a h
+kind_ticks header (chunks.CookieEcho x) a trigger now h =
+    ticks_on (on_cookie_echo a x trigger) (cookie_echo_ticks (has_issued a.handshake x) (is_beginning a.state)
+    (is_established a.state) a x trigger refl refl refl h)
+kind_ticks header chunks.CookieAck a trigger now h = ticks_on (on_cookie_ack a trigger)
+    (cookie_ack_ticks (is_cookie_echoed a.state) a trigger refl h)
+kind_ticks header chunks.ShutdownComplete a trigger now h = faulty a h
+kind_ticks header (chunks.Reconfig x) a trigger now h = faulty a h
+kind_ticks header (chunks.ForwardTsn x) a trigger now h = faulty a h
+kind_ticks header (chunks.IForwardTsn x) a trigger now h = faulty a h
+kind_ticks header (chunks.Other kind flags value) a trigger now h = faulty a h
+
+checked_ticks : (r : Result (Unit {0}) Error) (header : CommonHeader) (c : Chunk) (a : Shown) (trigger : AckTrigger)
+    (now : ℕ) → Ticks a → TicksOn (checked_first r a header c trigger now)
+checked_ticks (Err fault) header c a trigger now h = faulty a h
+checked_ticks (Ok done) header c a trigger now h = kind_ticks header c a trigger now h
+
+chunk_ticks : (header : CommonHeader) (c : Chunk) (a : Shown) (trigger : AckTrigger) (now : ℕ) → Ticks a
+    → TicksOn (on_chunk a header c trigger now)
+unfolding on_chunk
+chunk_ticks header c a trigger now h = checked_ticks (checked_chunk c) header c a trigger now h
+
+-- A packet
+
+-- it works on, or was lost
+abbrev pub IsSound : Shown → Type 0
+IsSound a = Ticks a ⊎ AtRest a
+
+pub closed_rests : (a : Shown) (reason : AssociationError) → AtRest (closed_open a reason)
+closed_rests a reason = record { over = inr refl; closed = λ _. refl; stopped = none_armed a.timers }
+
+fault_rests : (closed : Bool) (b : Shown) (reason : AssociationError) → is_closed_state b.state ≡ closed → IsFaulty b
+    → IsSound (if closed then b else closed_open b reason)
+fault_rests true b reason e h = inl (h.if_closed e)
+fault_rests false b reason e h = inr (closed_rests b reason)
+
+goes_on_soundly : (x : Shown × Flow) (more : Shown → AckTrigger → Shown) → TicksOn x
+    → ((b : Shown) (trigger : AckTrigger) → Ticks b → IsSound (more b trigger)) → IsSound (goes_on x more)
+goes_on_soundly (b, flows.Next trigger) more h k = k b trigger h
+goes_on_soundly (b, flows.Fault fault) more h k = fault_rests (is_closed_state b.state) b reasons.AssociationClosed
+    refl h
+
+ended_ticks : (trigger : AckTrigger) (a : Shown) (now : ℕ) → Ticks a → Ticks (ended a trigger now)
+ended_ticks triggers.None a now h = record { working = h.working; not_lost = h.not_lost; fits = h.fits; acks = h.acks }
+ended_ticks triggers.Delayed a now h = record {
+  working = h.working;
+  not_lost = h.not_lost;
+  fits = record {
+    flies = h.fits.flies;
+    inits = h.fits.inits;
+    cookies = h.fits.cookies;
+    unsent = h.fits.unsent;
+  };
+  acks = refl;
+}
+ended_ticks triggers.Immediate a now h = record {
+  working = h.working;
+  not_lost = h.not_lost;
+  fits = record {
+    flies = h.fits.flies;
+    inits = h.fits.inits;
+    cookies = h.fits.cookies;
+    unsent = h.fits.unsent;
+  };
+  acks = refl;
+}
+
+chunks_sound : (header : CommonHeader) (cs : List Chunk) (a : Shown) (trigger : AckTrigger) (now : ℕ) → Ticks a
+    → IsSound (after_chunks header cs a trigger now)
+chunks_sound header [] a trigger now h = inl (ended_ticks trigger a now h)
+chunks_sound header (c ∷ cs) a trigger now h =
+    goes_on_soundly (on_chunk a header c trigger now) (λ b next. after_chunks header cs b next now)
+    (chunk_ticks header c a trigger now h)
+    (λ b next k. chunks_sound header cs b next now k)
+
+packet_of_sound : (packet : Option Packet) (a : Shown) (now : ℕ) → Ticks a → IsSound (after_packet_of a packet now)
+packet_of_sound None a now h = inl h
+packet_of_sound (Some packet) a now h = chunks_sound packet.common_header packet.chunks a triggers.None now h
+
+sound_if : (c : Bool) (x y : Shown) → IsSound x → IsSound y → IsSound (if c then x else y)
+sound_if true x y h k = h
+sound_if false x y h k = k
+
+pub packets_sound : (packet : Option Packet) (a : Shown) (now : ℕ) → Ticks a → IsSound (after_packet a packet now)
+packets_sound packet a now h = sound_if a.lost a (after_packet_of a packet now) (inl h) (packet_of_sound packet a now h)

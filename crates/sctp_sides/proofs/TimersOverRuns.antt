@@ -1,0 +1,293 @@
+-- Over every list of calls a side works with its timers where they should run, or is at rest.
+use Rattle.std.proofs.Common.{◌≡◌, refl, sym, ap, ◌∙◌, subst, ⊎_elim, inl, inr, ℕ, ◌<◌, Bool, true, false}
+use Rattle.std.proofs.Common.{if◌then◌else◌, List, [], ◌∷◌, length, Option, Some, None, is_some}
+use Rattle.std.proofs.lemmas.Bool.{false≢true, true≢false}
+use Rattle.sctp_wire_types.specs.declared.error.Error.{Error}
+use Rattle.sctp_parts.specs.declared.timer.Timer.TheVariants as names
+use Rattle.sctp_parts.specs.Timers.{IsNoneArmed, Timers, earlier, least_moment, moment_of}
+use Rattle.sctp_streams.specs.declared.event.Event.{Event}
+use Rattle.sctp_streams.specs.Stream.{StreamView}
+use Rattle.sctp_streams.specs.Streams.{stream_at}
+use Rattle.sctp_assoc.specs.Calls.{event_from, is_closed_state, is_cookie_echoed, is_cookie_wait, is_established}
+use Rattle.sctp_assoc.specs.Calls.{written_at}
+use Rattle.sctp_assoc.specs.Handshake.{sends_init}
+use Rattle.sctp_sides.specs.OneSide.{Call, Calls, FailsFrom, IsFresh, IsRun, call_refusal, carried_out, is_armed}
+use Rattle.sctp_sides.specs.OneSide.{is_delayed, with_told}
+use Rattle.sctp_assoc.specs.Gather.{without_control}
+use Rattle.sctp_assoc.specs.Shown.{Shown, all_stopped}
+use Rattle.sctp_sides.specs.Witnesses.{CookiesAreTimedInCookieEchoedAlone, CreatedSidesAreFresh, DelayedSacksAreTimed}
+use Rattle.sctp_sides.specs.Witnesses.{EchoedCookiesAreTimed, FailedSidesWaitForNothing, FailuresStopTheTimers}
+use Rattle.sctp_sides.specs.Witnesses.{InitsAreTimedInCookieWaitAlone, IsHandshakeUntimed, IsTimed, JoinedSidesAreFresh}
+use Rattle.sctp_sides.specs.Witnesses.{LossesStopTheTimers, LostSidesWaitForNothing}
+use Rattle.sctp_sides.specs.Witnesses.{NoHandshakeTimerRunsOnceEstablished, NothingInFlightIsNotTimed}
+use Rattle.sctp_sides.specs.Witnesses.{OutstandingDataIsTimed, SentInitsAreTimed, WaitsForNothing}
+use Rattle.sctp_sides.proofs.PacketLaws.{lost_associations_take_nothing}
+use Rattle.sctp_sides.proofs.PolledPackets.{polls_outside_established_give_what_waits}
+use Rattle.sctp_sides.proofs.TimersRun.{AtRest, Ticks, closed_waits_for_nothing, established_shakes_no_hands}
+use Rattle.sctp_sides.proofs.TimersRun.{none_armed, nothing_is_not_something, rest_by, ticks_by, time_by, unarmed}
+use Rattle.sctp_sides.proofs.TimersOverChunks.{IsSound, packets_sound}
+use Rattle.sctp_sides.proofs.TimersOverPolls.{polls_tick}
+use Rattle.sctp_sides.proofs.TimersOverTimeouts.{timeouts_tick, unarmed_timeouts_do_nothing}
+
+-- What is used of a failure.
+pub record Fell (a b : Shown) : Type 0 where
+  pub failed : b.failed ≡ true
+  pub lost : b.lost ≡ a.lost
+  pub state : b.state ≡ a.state
+  pub timers : b.timers ≡ all_stopped b.timers
+
+pub fell : (a b : Shown) → FailsFrom a b → Fell a b
+fell a b h = record { failed = h.marked; lost = h.loss_stays; state = h.state_stays; timers = h.disarmed }
+
+fell_stopped : (a b : Shown) → Fell a b → IsNoneArmed b.timers
+fell_stopped a b h timer = ap (λ (t : Timers). moment_of timer t) h.timers ∙ none_armed b.timers timer
+
+-- One call
+
+unrefused : (failed : Bool) (fault : Error) (more : Option Error) → (if failed then Some fault else more) ≡ None
+    → failed ≡ false
+unrefused true fault more e = absurd (true≢false (ap (λ (o : Option Error). is_some o) e))
+unrefused false fault more e = refl
+
+pub accepted_works : (call : Call) (a : Shown) → call_refusal call a ≡ None → a.failed ≡ false
+accepted_works (Call.OpenStream id kind) a e = unrefused a.failed _ _ e
+accepted_works (Call.Write id bytes) a e = unrefused a.failed _ _ e
+accepted_works (Call.Read id) a e = unrefused a.failed _ _ e
+accepted_works Call.Poll a e = unrefused a.failed _ _ e
+accepted_works (Call.PollTransmit now) a e = unrefused a.failed _ _ e
+accepted_works (Call.HandleTimeout now) a e = unrefused a.failed _ _ e
+accepted_works (Call.HandleEvent packet now) a e = unrefused a.failed _ _ e
+
+write_ticks : (o : Option StreamView) (a : Shown) (id : ℕ) (bytes : List ℕ) → Ticks a → Ticks (written_at o a id bytes)
+write_ticks None a id bytes h = h
+write_ticks (Some s) a id bytes h = ticks_by a _ (time_by a _ refl refl refl refl refl refl) h
+
+write_rests : (o : Option StreamView) (a : Shown) (id : ℕ) (bytes : List ℕ) → AtRest a
+    → AtRest (written_at o a id bytes)
+write_rests None a id bytes h = h
+write_rests (Some s) a id bytes h = rest_by a _ refl refl refl refl h
+
+poll_ticks : (queued : List Event) (a : Shown) → Ticks a → Ticks (with_told (event_from queued a)).0
+poll_ticks [] a h = ticks_by a _ (time_by a _ refl refl refl refl refl refl) h
+poll_ticks (e ∷ es) a h = ticks_by a _ (time_by a _ refl refl refl refl refl refl) h
+
+poll_rests : (queued : List Event) (a : Shown) → AtRest a → AtRest (with_told (event_from queued a)).0
+poll_rests [] a h = rest_by a _ refl refl refl refl h
+poll_rests (e ∷ es) a h = rest_by a _ refl refl refl refl h
+
+ticks_carried : (call : Call) (a : Shown) → Ticks a → IsSound (carried_out call a).0
+ticks_carried (Call.OpenStream id kind) a h = inl (ticks_by a _ (time_by a _ refl refl refl refl refl refl) h)
+ticks_carried (Call.Write id bytes) a h = inl (write_ticks (stream_at a.streams id) a id bytes h)
+ticks_carried (Call.Read id) a h = inl (ticks_by a _ (time_by a _ refl refl refl refl refl refl) h)
+ticks_carried Call.Poll a h = inl (poll_ticks a.events a h)
+ticks_carried (Call.PollTransmit now) a h = inl (polls_tick a now h)
+ticks_carried (Call.HandleTimeout now) a h = inl (timeouts_tick a now h)
+ticks_carried (Call.HandleEvent packet now) a h = packets_sound packet a now h
+
+rest_carried : (call : Call) (a : Shown) → a.lost ≡ true → AtRest a → AtRest (carried_out call a).0
+rest_carried (Call.OpenStream id kind) a lost h = rest_by a _ refl refl refl refl h
+rest_carried (Call.Write id bytes) a lost h = write_rests (stream_at a.streams id) a id bytes h
+rest_carried (Call.Read id) a lost h = rest_by a _ refl refl refl refl h
+rest_carried Call.Poll a lost h = poll_rests a.events a h
+rest_carried (Call.PollTransmit now) a lost h =
+    let quiet = polls_outside_established_give_what_waits a now (closed_waits_for_nothing a.state (h.closed lost)).0 in
+    subst (λ (x : Shown × List (List ℕ)). AtRest x.0) (sym quiet) (rest_by a (without_control a) refl refl refl refl h)
+rest_carried (Call.HandleTimeout now) a lost h = subst AtRest (sym (unarmed_timeouts_do_nothing a now h.stopped)) h
+rest_carried (Call.HandleEvent packet now) a lost h = subst AtRest
+    (sym (lost_associations_take_nothing a packet now lost)) h
+
+is_lost : (a : Shown) → a.failed ≡ false → AtRest a → a.lost ≡ true
+is_lost a e h = ⊎_elim (λ (f : a.failed ≡ true). absurd (false≢true (sym e ∙ f))) (λ (l : a.lost ≡ true). l) h.over
+
+sound_closed : (a : Shown) → IsSound a → a.lost ≡ true → is_closed_state a.state ≡ true
+sound_closed a (inl h) e = absurd (false≢true (sym h.not_lost ∙ e))
+sound_closed a (inr h) e = h.closed e
+
+carried_sound : (call : Call) (a : Shown) → a.failed ≡ false → IsSound a → IsSound (carried_out call a).0
+carried_sound call a works (inl h) = ticks_carried call a h
+carried_sound call a works (inr h) = inr (rest_carried call a (is_lost a works h) h)
+
+fell_sound : (a b : Shown) → IsSound a → Fell a b → IsSound b
+fell_sound a b h f = inr (record {
+  over = inl f.failed;
+  closed = λ e. ap is_closed_state f.state ∙ sound_closed a h (sym f.lost ∙ e);
+  stopped = fell_stopped a b f;
+})
+
+call_sound : (call : Call) (told : List Event) (a b : Shown) → IsSound a → Calls call told a b → IsSound b
+call_sound call told a b h (inl c) =
+    subst (λ (x : Shown × List Event). IsSound x.0) c.there (carried_sound call a (accepted_works call a c.accepted) h)
+call_sound call told a b h (inr (inl c)) = subst IsSound (sym c.same) h
+call_sound call told a b h (inr (inr c)) = fell_sound a b h (fell a b c.failed)
+
+-- All calls
+
+run_sound : (calls : List Call) (told : List Event) (a b : Shown) → IsSound a → IsRun calls told a b → IsSound b
+run_sound [] told a b h r = subst IsSound (sym r.same) h
+run_sound (c ∷ cs) told a b h r = run_sound cs r.later r.middle b (call_sound c r.first a r.middle h r.called) r.others
+
+fresh_ticks : (a : Shown) → IsFresh a → Ticks a
+fresh_ticks a h = record {
+  working = h.working;
+  not_lost = h.not_lost;
+  fits = record {
+    flies = record {
+      timed = λ _ p. absurd (nothing_is_not_something a.sender.queue.in_flight p
+          h.unsent);
+      none = λ _. h.retransmission;
+    };
+    inits = record { alone = λ e. h.init ∙ e; timed = λ e. inl (h.init ∙ e) };
+    cookies = record { alone = λ e. h.cookie ∙ e; timed = λ e. inl (h.cookie ∙ e) };
+    unsent = λ _. h.unsent;
+  };
+  acks = h.acknowledgement;
+}
+
+after_run : (calls : List Call) (told : List Event) (a b : Shown) → IsFresh a → IsRun calls told a b → IsSound b
+after_run calls told a b h r = run_sound calls told a b (inl (fresh_ticks a h)) r
+
+-- Beginning
+
+pub created_sides_are_fresh : CreatedSidesAreFresh
+unfolding sends_init
+created_sides_are_fresh None config size tag initial_tsn cookie remote_addr local_ip now =
+    record {
+      working = refl;
+      not_lost = refl;
+      untold = refl;
+      unsent = refl;
+      retransmission = refl;
+      init = refl;
+      cookie = refl;
+      acknowledgement = refl;
+    }
+created_sides_are_fresh (Some of_server) config size tag initial_tsn cookie remote_addr local_ip now =
+    record {
+      working = refl;
+      not_lost = refl;
+      untold = refl;
+      unsent = refl;
+      retransmission = refl;
+      init = refl;
+      cookie = refl;
+      acknowledgement = refl;
+    }
+
+pub joined_sides_are_fresh : JoinedSidesAreFresh
+joined_sides_are_fresh config size remote_addr local_ip own peer =
+    record {
+      working = refl;
+      not_lost = refl;
+      untold = refl;
+      unsent = refl;
+      retransmission = refl;
+      init = refl;
+      cookie = refl;
+      acknowledgement = refl;
+    }
+
+-- Timers
+
+data_timed : (b : Shown) → IsSound b → b.failed ≡ false → is_established b.state ≡ true
+    → 0 < length b.sender.queue.in_flight → IsTimed names.T3RTX b.timers
+data_timed b (inl h) works e p = h.fits.flies.timed e p
+data_timed b (inr h) works e p = absurd (false≢true
+    (sym (closed_waits_for_nothing b.state (h.closed (is_lost b works h))).0 ∙ e))
+
+pub outstanding_data_is_timed : OutstandingDataIsTimed
+outstanding_data_is_timed calls told a b h r = data_timed b (after_run calls told a b h r)
+
+nothing_timed : (b : Shown) → IsSound b → b.sender.queue.in_flight ≡ [] → is_armed names.T3RTX b.timers ≡ false
+nothing_timed b (inl h) e = h.fits.flies.none e
+nothing_timed b (inr h) e = unarmed names.T3RTX b.timers h.stopped
+
+pub nothing_in_flight_is_not_timed : NothingInFlightIsNotTimed
+nothing_in_flight_is_not_timed calls told a b h r = nothing_timed b (after_run calls told a b h r)
+
+inits_timed : (b : Shown) → IsSound b → b.failed ≡ false → is_cookie_wait b.state ≡ true → IsTimed names.T1Init b.timers
+inits_timed b (inl h) works e = h.fits.inits.timed e
+inits_timed b (inr h) works e =
+    absurd (false≢true (sym (closed_waits_for_nothing b.state (h.closed (is_lost b works h))).1 ∙ e))
+
+pub sent_inits_are_timed : SentInitsAreTimed
+sent_inits_are_timed calls told a b h r = inits_timed b (after_run calls told a b h r)
+
+cookies_timed : (b : Shown) → IsSound b → b.failed ≡ false → is_cookie_echoed b.state ≡ true
+    → IsTimed names.T1Cookie b.timers
+cookies_timed b (inl h) works e = h.fits.cookies.timed e
+cookies_timed b (inr h) works e =
+    absurd (false≢true
+    (sym (closed_waits_for_nothing b.state (h.closed (is_lost b works h))).2 ∙ e))
+
+pub echoed_cookies_are_timed : EchoedCookiesAreTimed
+echoed_cookies_are_timed calls told a b h r = cookies_timed b (after_run calls told a b h r)
+
+-- what is not armed elsewhere is armed there alone
+there_alone : (there armed : Bool) → (there ≡ false → armed ≡ false) → armed ≡ true → there ≡ true
+there_alone true armed alone e = refl
+there_alone false armed alone e = absurd (false≢true (sym (alone refl) ∙ e))
+
+init_alone : (b : Shown) → IsSound b → is_armed names.T1Init b.timers ≡ true → is_cookie_wait b.state ≡ true
+init_alone b (inl h) e = there_alone (is_cookie_wait b.state) (is_armed names.T1Init b.timers) h.fits.inits.alone e
+init_alone b (inr h) e = absurd (false≢true (sym (unarmed names.T1Init b.timers h.stopped) ∙ e))
+
+pub inits_are_timed_in_cookie_wait_alone : InitsAreTimedInCookieWaitAlone
+inits_are_timed_in_cookie_wait_alone calls told a b h r = init_alone b (after_run calls told a b h r)
+
+cookie_alone : (b : Shown) → IsSound b → is_armed names.T1Cookie b.timers ≡ true → is_cookie_echoed b.state ≡ true
+cookie_alone b (inl h) e = there_alone (is_cookie_echoed b.state) (is_armed names.T1Cookie b.timers)
+    h.fits.cookies.alone e
+cookie_alone b (inr h) e = absurd (false≢true (sym (unarmed names.T1Cookie b.timers h.stopped) ∙ e))
+
+pub cookies_are_timed_in_cookie_echoed_alone : CookiesAreTimedInCookieEchoedAlone
+cookies_are_timed_in_cookie_echoed_alone calls told a b h r = cookie_alone b (after_run calls told a b h r)
+
+handshake_untimed : (b : Shown) → IsSound b → is_established b.state ≡ true → IsHandshakeUntimed b.timers
+handshake_untimed b (inl h) e =
+    let none = established_shakes_no_hands b.state e in
+    (h.fits.inits.alone none.0, h.fits.cookies.alone none.1)
+handshake_untimed b (inr h) e = (unarmed names.T1Init b.timers h.stopped, unarmed names.T1Cookie b.timers h.stopped)
+
+pub no_handshake_timer_runs_once_established : NoHandshakeTimerRunsOnceEstablished
+no_handshake_timer_runs_once_established calls told a b h r = handshake_untimed b (after_run calls told a b h r)
+
+acks_timed : (b : Shown) → IsSound b → b.failed ≡ false → b.lost ≡ false
+    → is_armed names.Ack b.timers ≡ is_delayed b.receiver.ack_state
+acks_timed b (inl h) works stays = h.acks
+acks_timed b (inr h) works stays = absurd (false≢true (sym stays ∙ is_lost b works h))
+
+pub delayed_sacks_are_timed : DelayedSacksAreTimed
+delayed_sacks_are_timed calls told a b h r = acks_timed b (after_run calls told a b h r)
+
+-- Ending
+
+earlier_none : (x y : Option ℕ) → x ≡ None → y ≡ None → earlier x y ≡ None
+earlier_none None y e f = f
+earlier_none (Some moment) y e f = absurd (true≢false (ap (λ (o : Option ℕ). is_some o) e))
+
+least_none : (t : Timers) → IsNoneArmed t → least_moment t ≡ None
+least_none t h =
+    earlier_none _ t.ack.moment (earlier_none _ t.reconfig.moment
+    (earlier_none _ t.t3_rtx.moment (earlier_none _ t.t2_shutdown.moment
+    (earlier_none t.t1_init.moment t.t1_cookie.moment (h names.T1Init) (h names.T1Cookie)) (h names.T2Shutdown))
+    (h names.T3RTX)) (h names.Reconfig)) (h names.Ack)
+
+pub failures_stop_the_timers : FailuresStopTheTimers
+failures_stop_the_timers a b h = least_none b.timers (fell_stopped a b (fell a b h))
+
+pub losses_stop_the_timers : LossesStopTheTimers
+losses_stop_the_timers a reason e = rw e (least_none (all_stopped a.timers) (none_armed a.timers))
+
+failed_waits : (b : Shown) → IsSound b → b.failed ≡ true → WaitsForNothing b
+failed_waits b (inl h) e = absurd (false≢true (sym h.working ∙ e))
+failed_waits b (inr h) e = least_none b.timers h.stopped
+
+pub failed_sides_wait_for_nothing : FailedSidesWaitForNothing
+failed_sides_wait_for_nothing calls told a b h r = failed_waits b (after_run calls told a b h r)
+
+lost_waits : (b : Shown) → IsSound b → b.lost ≡ true → (is_closed_state b.state ≡ true) × WaitsForNothing b
+lost_waits b (inl h) e = absurd (false≢true (sym h.not_lost ∙ e))
+lost_waits b (inr h) e = (h.closed e, least_none b.timers h.stopped)
+
+pub lost_sides_wait_for_nothing : LostSidesWaitForNothing
+lost_sides_wait_for_nothing calls told a b h r = lost_waits b (after_run calls told a b h r)

@@ -1,0 +1,177 @@
+-- What waits goes out with the next poll where nothing is in flight.
+use Rattle.std.proofs.Common.{◌≡◌, refl, sym, ap, ◌∙◌, subst, ⊎_elim, ℕ, zero, suc, ◌<◌, ◌≤◌, ◌+◌, ◌%◌, ◌^◌, arith}
+use Rattle.std.proofs.Common.{Bool, true, false, not, ◌&&◌, if◌then◌else◌, List, [], ◌∷◌, ◌++◌, length, nat_lt}
+use Rattle.std.proofs.Common.{slice_get, Some, Ok}
+use Rattle.std.proofs.lemmas.Bool.{cases_Bool, lt-ltb}
+use Rattle.std.proofs.lemmas.List.Sums.{sum_by-cons}
+use Rattle.sctp_wire_types.specs.declared.chunk.Chunk.TheVariants as chunks
+use Rattle.sctp_wire_types.specs.declared.chunk.ChunkPayloadData.{ChunkPayloadData}
+use Rattle.sctp_wire_types.specs.declared.packet.CommonHeader.{CommonHeader}
+use Rattle.sctp_wire.specs.declared.packet.Packet.{Packet}
+use Rattle.sctp_wire.specs.Packets.{packet_fits, spelling, written}
+use Rattle.sctp_model.specs.Serial.{tsn}
+use Rattle.sctp_outbound_queue.specs.Message.{piece_count}
+use Rattle.sctp_outbound_queue.specs.Waiting.{Waiting}
+use Rattle.sctp_outbound_queue.specs.declared.message.InFlight.{InFlight}
+use Rattle.sctp_outbound_queue.specs.Outbound.{Outbound, next_tsn_of, pieces_waiting}
+use Rattle.sctp_inbound.specs.Handshake.{header_of}
+use Rattle.sctp_outbound.specs.declared.sender.Sender.{Sender}
+use Rattle.sctp_outbound.specs.Sender.{after_resending, can_send_next, next_chunk_of, resent_by, sent_new, sent_one}
+use Rattle.sctp_outbound.specs.Sender.{sent_within}
+use Rattle.sctp_assoc.specs.Acts.{all_data_given, parts}
+use Rattle.sctp_assoc.specs.Happened.{acts_of_ack, acts_of_data_poll}
+use Rattle.sctp_assoc.specs.Calls.{is_established}
+use Rattle.sctp_sides.specs.Laws.{IsNextWithNothingInFlight, PollsBeginWithWhatWaits, WhatWaitsIsGiven, WhatWaitsIsPolled}
+use Rattle.sctp_assoc.specs.Gather.{ack_after, ack_polled, control_packets, data_packets, data_polled, exchange_polled}
+use Rattle.sctp_assoc.specs.Gather.{packet_bytes, packet_with, spelled, without_control}
+use Rattle.sctp_assoc.specs.Shown.{Shown}
+use Rattle.sctp_assoc.proofs.ActsKeepOffsets.{given_append}
+use Rattle.sctp_assoc.proofs.PolledData.{IsSentBeside, data_poll_adds, data_poll_stays, sent_data_said}
+use Rattle.sctp_assoc.proofs.PollsLeadOn.{both_second}
+
+-- lists that begin with something go on beginning with it
+first_before : {X : Type 0} (xs ys : List X) (x : X) → slice_get xs 0 ≡ Some x → slice_get (xs ++ ys) 0 ≡ Some x
+first_before [] ys x e = absurd (cc)
+first_before (z ∷ zs) ys x e = e
+
+-- Of a sender.
+
+-- nothing is in flight, and these messages wait
+abbrev standing : Sender → Waiting → List Waiting → Sender
+standing s m ms = record s { queue = (let q = s.queue in record q { pending = m ∷ ms; in_flight = [] }) }
+
+stands : (s : Sender) (m : Waiting) (ms : List Waiting) → s.queue.pending ≡ m ∷ ms → s.queue.in_flight ≡ []
+    → s ≡ standing s m ms
+stands s m ms e f =
+    ap (λ (z : List _). record s { queue = (let q = s.queue in record q { pending = z }) }) e
+    ∙ ap (λ (z : List _). record s { queue = (let q = s.queue in record q { pending = m ∷ ms; in_flight = z }) }) f
+
+one_begins : (ms : List Waiting) (s : Sender) (out : List ChunkPayloadData) (now : ℕ) (c : ChunkPayloadData)
+    → slice_get out 0 ≡ Some c → slice_get (sent_one ms s out now).1 0 ≡ Some c
+unfolding sent_one
+one_begins [] s out now c e = e
+one_begins (m ∷ ms) s out now c e = first_before out _ c e
+
+within_begins : (n : ℕ) (s : Sender) (out : List ChunkPayloadData) (now : ℕ) (c : ChunkPayloadData)
+    → slice_get out 0 ≡ Some c → slice_get (sent_within n s out now).1 0 ≡ Some c
+within_begins zero s out now c e = e
+within_begins (suc n) s out now c e = ⊎_elim
+    (λ (fits : can_send_next s ≡ true).
+    rw fits (within_begins n (sent_one s.queue.pending s out now).0 (sent_one s.queue.pending s out now).1 now c
+    (one_begins s.queue.pending s out now c e)))
+    (λ (full : can_send_next s ≡ false). rw full e)
+    (cases_Bool (can_send_next s))
+
+one_first : (m : Waiting) (ms : List Waiting) (s : Sender) (now : ℕ)
+    → slice_get (sent_one (m ∷ ms) s [] now).1 0 ≡ Some (next_chunk_of m (next_tsn_of s.queue))
+unfolding sent_one
+one_first m ms s now = refl
+
+some_wait : (m : Waiting) (ms : List Waiting) → pieces_waiting (m ∷ ms) ≡ suc (length m.rest + pieces_waiting ms)
+some_wait m ms = let all = sum_by-cons piece_count m ms in omega (arith, all)
+
+within_first : (n : ℕ) (m : Waiting) (ms : List Waiting) (s : Sender) (now : ℕ) → s.queue.pending ≡ m ∷ ms
+    → can_send_next s ≡ true
+    → slice_get (sent_within (suc n) s [] now).1 0 ≡ Some (next_chunk_of m (next_tsn_of s.queue))
+within_first n m ms s now e fits =
+    rw fits (within_begins n (sent_one s.queue.pending s [] now).0 (sent_one s.queue.pending s [] now).1 now _
+    (ap (λ (z : List Waiting). slice_get (sent_one z s [] now).1 0) e ∙ one_first m ms s now))
+
+new_first_if : (c : Bool) (s : Sender) (m : Waiting) (ms : List Waiting) (now : ℕ) → can_send_next (standing s m ms) ≡ c
+    → slice_get (if not c then sent_one (m ∷ ms) (standing s m ms) [] now else
+    sent_within (pieces_waiting (m ∷ ms)) (standing s m ms) [] now).1 0
+    ≡ Some (next_chunk_of m (next_tsn_of (standing s m ms).queue))
+new_first_if false s m ms now e = one_first m ms (standing s m ms) now
+new_first_if true s m ms now e = rw (some_wait m ms) (within_first _ m ms (standing s m ms) now refl e)
+
+new_first : (s : Sender) (m : Waiting) (ms : List Waiting) (now : ℕ)
+    → slice_get (sent_new (after_resending (standing s m ms)) (resent_by (standing s m ms)) now).1 0
+    ≡ Some (next_chunk_of m (next_tsn_of (standing s m ms).queue))
+new_first s m ms now = new_first_if (can_send_next (standing s m ms)) s m ms now refl
+
+sender_first : (s t : Sender) (m : Waiting) (now : ℕ) → s ≡ t
+    → slice_get (sent_new (after_resending t) (resent_by t) now).1 0 ≡ Some (next_chunk_of m (next_tsn_of t.queue))
+    → slice_get (sent_new (after_resending s) (resent_by s) now).1 0 ≡ Some (next_chunk_of m (next_tsn_of s.queue))
+sender_first s t m now e first =
+    subst (λ (z : Sender). slice_get (sent_new (after_resending z) (resent_by z) now).1 0
+    ≡ Some (next_chunk_of m (next_tsn_of z.queue))) (sym e) first
+
+-- Of an association.
+
+pub what_waits_is_polled : WhatWaitsIsPolled
+unfolding data_polled
+what_waits_is_polled a now m next =
+    ap (λ (z : List ChunkPayloadData). slice_get z 0)
+    (sent_data_said a (length (resent_by a.sender)) now (sent_new (after_resending a.sender) (resent_by a.sender) now))
+    ∙ sender_first a.sender (standing a.sender m next.others) m now
+    (stands a.sender m next.others next.waits next.flown) (new_first a.sender m next.others now)
+
+first_due : (q : Outbound) (own base : ℕ) → q.first_tsn ≡ tsn own base → q.in_flight ≡ [] → next_tsn_of q ≡ tsn own base
+first_due q own base e f =
+    ap (λ (z : ℕ). (z + length q.in_flight) % 2 ^ 32) e
+    ∙ ap (λ (z : List InFlight). (tsn own base + length z) % 2 ^ 32) f ∙ omega arith
+
+pub what_waits_is_given : WhatWaitsIsGiven
+what_waits_is_given a h now m established binds next =
+    let adds = data_poll_adds a now h binds.first in
+    let first : slice_get (all_data_given (acts_of_data_poll a now) (parts a h)) 0
+    ≡ Some (next_chunk_of m (next_tsn_of a.sender.queue)) =
+    ap (λ (z : List ChunkPayloadData). slice_get z 0) (adds.gives.said ∙ sym adds.all)
+    ∙ what_waits_is_polled a now m next in
+    let due : next_tsn_of a.sender.queue ≡ tsn h.own h.base =
+    first_due a.sender.queue h.own h.base binds.first next.flown in
+    rw established (rw (given_append (acts_of_data_poll a now) (acts_of_ack a) (parts a h))
+    (first_before _ _ _ (first ∙ ap (λ (t : ℕ). Some (next_chunk_of m t)) due)))
+
+short_enough : (n : ℕ) → n < 65532 → (nat_lt n 65532 && true) ≡ true
+short_enough n e = rw (lt-ltb n 65532 e) refl
+
+data_fits : (header : CommonHeader) (c : ChunkPayloadData) → length c.user_data ≤ 65519
+    → packet_fits (packet_with header (chunks.Data c)) ≡ true
+data_fits header c short = short_enough _ (omega (arith, short))
+
+pub fits_written : (p : Packet) → packet_fits p ≡ true → written p ≡ Ok (spelling p)
+unfolding written
+fits_written p fits = rw fits refl
+
+data_spelled : (header : CommonHeader) (c : ChunkPayloadData) → length c.user_data ≤ 65519
+    → packet_bytes header (chunks.Data c) ≡ spelling (packet_with header (chunks.Data c)) ∷ []
+unfolding packet_bytes
+data_spelled header c short = ap spelled (fits_written (packet_with header (chunks.Data c)) (data_fits header c short))
+
+packets_begin : (header : CommonHeader) (cs : List ChunkPayloadData) (c : ChunkPayloadData) → length c.user_data ≤ 65519
+    → slice_get cs 0 ≡ Some c
+    → slice_get (data_packets header cs) 0 ≡ Some (spelling (packet_with header (chunks.Data c)))
+packets_begin header [] c short e = absurd (cc)
+packets_begin header (d ∷ ds) c short e =
+    let same : d ≡ c = cc in
+    rw same (first_before (packet_bytes header (chunks.Data c)) (data_packets header ds) _
+    (ap (λ (z : List (List ℕ)). slice_get z 0) (data_spelled header c short)))
+
+pub ack_behind : (x : Shown × List ChunkPayloadData)
+    → (ack_after x).1 ≡ data_packets (header_of x.0.handshake) x.1 ++ (ack_polled x.0).1
+ack_behind (b, pieces) = both_second (data_packets (header_of b.handshake) pieces) (ack_polled b)
+
+exchange_begins : (a : Shown) (now : ℕ) (m : Waiting) → is_established a.state ≡ true → IsNextWithNothingInFlight a m
+    → length m.user_data ≤ 65519
+    → slice_get (exchange_polled a now).1 0 ≡ Some
+    (spelling (packet_with (header_of a.handshake) (chunks.Data (next_chunk_of m (next_tsn_of a.sender.queue)))))
+unfolding exchange_polled
+exchange_begins a now m established next short =
+    let stays : IsSentBeside a (data_polled a now).0 = data_poll_stays a now in
+    let begins =
+    packets_begin (header_of a.handshake) (data_polled a now).1 _ short (what_waits_is_polled a now m next) in
+    rw (established, ack_behind (data_polled a now), stays.handshake) (first_before _ _ _ begins)
+
+behind : {X : Type 0} (xs ys : List X) → slice_get (xs ++ ys) (length xs) ≡ slice_get ys 0
+behind [] ys = refl
+behind (x ∷ xs) ys = behind xs ys
+
+pub polls_begin_with_what_waits : PollsBeginWithWhatWaits
+polls_begin_with_what_waits a now m established next short =
+    let b : Shown = without_control a in
+    let waits : IsNextWithNothingInFlight b
+    m = record { others = next.others; waits = next.waits; flown = next.flown } in
+    ap (λ (z : List (List ℕ)). slice_get z (length (control_packets a.control)))
+    (both_second (control_packets a.control) (exchange_polled b now))
+    ∙ behind (control_packets a.control) (exchange_polled b now).1 ∙ exchange_begins b now m established waits short

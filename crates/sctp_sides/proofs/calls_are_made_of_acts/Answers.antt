@@ -1,0 +1,38 @@
+use Rattle.sctp_sides.proofs.Proved.{data_is_taken, greetings_meet, other_chunks_do_nothing, other_sacks_do_nothing}
+use Rattle.sctp_sides.proofs.Proved.{polls_give_and_report, polls_outside_established_give_what_waits}
+use Rattle.sctp_sides.proofs.Proved.{polls_say_their_acts, sacks_acknowledge, taken_sacks_acknowledge}
+use Rattle.sctp_sides.proofs.Proved.{timeouts_mark_at_most, what_waits_goes_out_as_it_is}
+use Rattle.sctp_sides.proofs.calls_are_made_of_acts.Goals as goal
+
+pub returns-clause-data : goal.returns-clause-data
+returns-clause-data c = data_is_taken
+
+pub returns-clause-sack : goal.returns-clause-sack
+returns-clause-sack c = sacks_acknowledge
+
+pub returns-clause-taken : goal.returns-clause-taken
+returns-clause-taken c = taken_sacks_acknowledge
+
+pub returns-clause-older : goal.returns-clause-older
+returns-clause-older c = other_sacks_do_nothing
+
+pub returns-clause-other : goal.returns-clause-other
+returns-clause-other c = other_chunks_do_nothing
+
+pub returns-clause-poll : goal.returns-clause-poll
+returns-clause-poll c = polls_give_and_report
+
+pub returns-clause-silent : goal.returns-clause-silent
+returns-clause-silent c = polls_outside_established_give_what_waits
+
+pub returns-clause-packets : goal.returns-clause-packets
+returns-clause-packets c = polls_say_their_acts
+
+pub returns-clause-timeouts : goal.returns-clause-timeouts
+returns-clause-timeouts c = timeouts_mark_at_most
+
+pub returns-clause-greeting : goal.returns-clause-greeting
+returns-clause-greeting c = greetings_meet
+
+pub returns-clause-waiting : goal.returns-clause-waiting
+returns-clause-waiting c = what_waits_goes_out_as_it_is

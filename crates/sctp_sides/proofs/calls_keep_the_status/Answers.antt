@@ -1,0 +1,21 @@
+use Rattle.sctp_sides.proofs.Proved.{opened_streams_keep_the_status, polls_keep_the_status, reads_keep_the_status}
+use Rattle.sctp_sides.proofs.Proved.{timers_keep_the_status, told_events_keep_the_status, writes_keep_the_status}
+use Rattle.sctp_sides.proofs.calls_keep_the_status.Goals as goal
+
+pub returns-clause-opened : goal.returns-clause-opened
+returns-clause-opened c = opened_streams_keep_the_status
+
+pub returns-clause-written : goal.returns-clause-written
+returns-clause-written c = writes_keep_the_status
+
+pub returns-clause-read : goal.returns-clause-read
+returns-clause-read c = reads_keep_the_status
+
+pub returns-clause-told : goal.returns-clause-told
+returns-clause-told c = told_events_keep_the_status
+
+pub returns-clause-timers : goal.returns-clause-timers
+returns-clause-timers c = timers_keep_the_status
+
+pub returns-clause-polled : goal.returns-clause-polled
+returns-clause-polled c = polls_keep_the_status

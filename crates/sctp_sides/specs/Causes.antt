@@ -1,0 +1,126 @@
+-- What closes an association: the chunks that are faults, by what stands in them and in the state (RFC 4960
+-- sections 3.3, 5 and 6.2.1).
+use Rattle.std.specs.Prelude.{◌≡◌, ◌≢◌, ◌⊎◌, ◌↔◌, ◌≤◌, ℕ, zero, suc, ◌+◌, ◌%◌, ◌^◌, true, false, List, [], ◌∷◌, length}
+use Rattle.std.specs.Prelude.{slice_get, Some, None, Err, ⊤}
+use Rattle.sctp_wire_types.specs.Checks.{checked_chunk}
+use Rattle.sctp_wire_types.specs.Serial.{tsn_gt}
+use Rattle.sctp_wire_types.specs.declared.chunk.Chunk.{Chunk}
+use Rattle.sctp_wire_types.specs.declared.chunk.Chunk.TheVariants as chunks
+use Rattle.sctp_wire_types.specs.declared.chunk.ChunkInit.{ChunkInit}
+use Rattle.sctp_wire_types.specs.declared.chunk.ChunkPayloadData.{ChunkPayloadData}
+use Rattle.sctp_wire_types.specs.declared.error.Error.{Error}
+use Rattle.sctp_wire_types.specs.declared.packet.CommonHeader.{CommonHeader}
+use Rattle.sctp_wire.specs.declared.packet.Packet.{Packet}
+use Rattle.sctp_parts.specs.declared.state.AssociationState.{AssociationState}
+use Rattle.sctp_parts.specs.declared.state.AssociationState.TheVariants as states
+use Rattle.sctp_inbound.specs.Greeting.{first_cookie}
+use Rattle.sctp_inbound.specs.declared.receiver.AckTrigger.{AckTrigger}
+use Rattle.sctp_inbound.specs.declared.receiver.AckTrigger.TheVariants as triggers
+use Rattle.sctp_model.specs.Serial.{tsn}
+use Rattle.sctp_assoc.specs.declared.inbound.Flow.{Flow}
+use Rattle.sctp_assoc.specs.declared.inbound.Flow.TheVariants as flows
+use Rattle.sctp_assoc.specs.Acts.{Binds, History, tsn_before}
+use Rattle.sctp_assoc.specs.Chunks.{on_chunk}
+use Rattle.sctp_sides.specs.Intake.{MayTakeIn, refusal_of}
+use Rattle.sctp_sides.specs.Laws.{closes}
+use Rattle.sctp_assoc.specs.Shown.{Shown}
+
+-- The causes
+
+-- the check of the chunk itself refuses it
+abbrev pub IsMalformed : Chunk → Type 0
+IsMalformed chunk = (error : Error) × (checked_chunk chunk ≡ Err error)
+
+-- DATA may be taken in, and does not fit to what its stream holds.
+pub record FitsNoMessage (a : Shown) (h : History) (piece : ChunkPayloadData) : Type 0 where
+  pub may : MayTakeIn a h piece
+  pub error : Error
+  pub refused : refusal_of a piece ≡ Some error
+
+-- A SACK in Established acknowledges what was never sent: its point is not behind the acknowledged one, and is
+-- neither that one nor the TSN of a piece in flight. The number that the SACK names counts modulo 2^32, as TSNs do.
+pub record AcknowledgesTheUnsent (a : Shown) (h : History) (cumulative_tsn_ack : ℕ) : Type 0 where
+  pub established : a.state ≡ states.Established
+  pub not_behind : tsn_gt (tsn_before (tsn h.own h.base)) cumulative_tsn_ack ≡ false
+  pub unsent : (n : ℕ) → n ≤ length a.sender.queue.in_flight
+      → cumulative_tsn_ack % 2 ^ 32 ≢ tsn_before (tsn h.own (h.base + n))
+
+-- The state is none in which a handshake is open or can begin.
+pub record IsPastTheHandshake (state : AssociationState) : Type 0 where
+  pub not_closed : state ≢ states.Closed
+  pub not_waiting : state ≢ states.CookieWait
+  pub not_echoed : state ≢ states.CookieEchoed
+
+-- The INIT ACK to this side's INIT, from the port to which that went, has no State Cookie.
+pub record BringsNoCookie (a : Shown) (header : CommonHeader) (init : ChunkInit) : Type 0 where
+  pub waits : a.state ≡ states.CookieWait
+  pub source : header.source_port ≡ a.handshake.destination_port
+  pub destination : header.destination_port ≡ a.handshake.source_port
+  pub no_cookie : first_cookie init.params ≡ None
+
+-- what a chunk of each kind is a fault by; an ABORT or an ERROR always is one, and so is a chunk of a kind that is
+-- not processed
+abbrev pub IsCauseOfItsKind : Shown → History → CommonHeader → Chunk → Type 0
+IsCauseOfItsKind a h header (chunks.Data piece) = FitsNoMessage a h piece
+IsCauseOfItsKind a h header (chunks.SelectiveAck sack) = AcknowledgesTheUnsent a h sack.cumulative_tsn_ack
+IsCauseOfItsKind a h header (chunks.Init init) = IsPastTheHandshake a.state
+IsCauseOfItsKind a h header (chunks.InitAck init) = BringsNoCookie a header init
+IsCauseOfItsKind a h header (chunks.CookieEcho cookie) = ⊥
+IsCauseOfItsKind a h header chunks.CookieAck = ⊥
+IsCauseOfItsKind a h header (chunks.Heartbeat heartbeat) = ⊥
+IsCauseOfItsKind a h header (chunks.Abort abort) = ⊤
+IsCauseOfItsKind a h header (chunks.Error error) = ⊤
+IsCauseOfItsKind a h header chunk = ⊤
+
+-- a cause for an association to close
+abbrev pub IsCause : Shown → History → CommonHeader → Chunk → Type 0
+IsCause a h header chunk = IsMalformed chunk ⊎ IsCauseOfItsKind a h header chunk
+
+-- Chunks
+
+-- a chunk is a fault
+abbrev pub IsFault : Shown × Flow → Type 0
+IsFault outcome = (error : Error) × (outcome.1 ≡ flows.Fault error)
+
+-- The faults are the causes, neither more nor fewer.
+abbrev pub FaultsAreCauses : Type 0
+FaultsAreCauses = (a : Shown) (h : History) (header : CommonHeader) (chunk : Chunk) (trigger : AckTrigger) (now : ℕ)
+    → Binds a h → IsFault (on_chunk a header chunk trigger now) ↔ IsCause a h header chunk
+
+-- Packets
+
+-- the chunk at this place of a packet is reached, with the association so: none of those before it is a fault
+abbrev pub Reaches : CommonHeader → List Chunk → Shown → AckTrigger → ℕ → ℕ → Shown → Type 0
+Reaches header [] a trigger now index reached = ⊥
+Reaches header (c ∷ cs) a trigger now zero reached = reached ≡ a
+Reaches header (c ∷ cs) a trigger now (suc index) reached =
+    (b : Shown) × (next : AckTrigger) × (on_chunk a header c trigger now ≡ (b, flows.Next next))
+    × Reaches header cs b next now index reached
+
+-- A chunk of a packet is reached while the association is open.
+pub record IsReachedOpen (a : Shown) (packet : Packet) (now index : ℕ) (chunk : Chunk) (reached : Shown) : Type 0 where
+  pub there : slice_get packet.chunks index ≡ Some chunk
+  pub reaches : Reaches packet.common_header packet.chunks a triggers.None now index reached
+  pub still_open : reached.state ≢ states.Closed
+
+-- One chunk of a packet is reached while the association is open, and is a cause whatever the history is on which
+-- that stands; it does stand on one.
+pub record HasCause (a : Shown) (packet : Packet) (now : ℕ) : Type 0 where
+  pub index : ℕ
+  pub chunk : Chunk
+  pub reached : Shown
+  pub is_reached : IsReachedOpen a packet now index chunk reached
+  pub stands : History
+  pub binds : Binds reached stands
+  pub is_cause : (h : History) → Binds reached h → IsCause reached h packet.common_header chunk
+
+-- A packet that closes an association has a cause.
+abbrev pub ClosingPacketsHaveCauses : Type 0
+ClosingPacketsHaveCauses = (a : Shown) (h : History) (packet : Packet) (now : ℕ) → Binds a h
+    → closes a (Some packet) now ≡ true → HasCause a packet now
+
+-- A cause that a packet has closes, unless the association was lost before.
+abbrev pub CausesClose : Type 0
+CausesClose = (a : Shown) (packet : Packet) (now index : ℕ) (chunk : Chunk) (reached : Shown) (h : History)
+    → a.lost ≡ false → IsReachedOpen a packet now index chunk reached → Binds reached h
+    → IsCause reached h packet.common_header chunk → closes a (Some packet) now ≡ true

@@ -1,0 +1,73 @@
+-- Which DATA a side takes in, by what came before and by the room that it has (RFC 4960 section 6.2).
+use Rattle.std.specs.Prelude.{◌≡◌, ◌⊎◌, ◌<◌, ℕ, true, false, is_some, List, slice_get, Option, Some, None}
+use Rattle.sctp_wire_types.specs.declared.chunk.Chunk.{Chunk}
+use Rattle.sctp_wire_types.specs.declared.chunk.Chunk.TheVariants as chunks
+use Rattle.sctp_wire_types.specs.declared.chunk.ChunkPayloadData.{ChunkPayloadData}
+use Rattle.sctp_wire_types.specs.declared.error.Error.{Error}
+use Rattle.sctp_wire_types.specs.declared.packet.CommonHeader.{CommonHeader}
+use Rattle.sctp_receive_queues.specs.Reassembly.{Reassembly, empty_reassembly, refusal}
+use Rattle.sctp_streams.specs.Stream.{StreamView}
+use Rattle.sctp_streams.specs.Streams.{bytes_waiting, generation_left, stream_at}
+use Rattle.sctp_inbound.specs.declared.receiver.AckTrigger.{AckTrigger}
+use Rattle.sctp_model.specs.Serial.{tsn}
+use Rattle.sctp_assoc.specs.declared.inbound.Flow.TheVariants as flows
+use Rattle.sctp_assoc.specs.Acts.{Act, Binds, History}
+use Rattle.sctp_assoc.specs.Chunks.{on_chunk}
+use Rattle.sctp_assoc.specs.Happened.{acts_of_chunk}
+use Rattle.sctp_sides.specs.Shapes.{OpensAndTakes, TakesOnly}
+use Rattle.sctp_assoc.specs.Shown.{Shown}
+
+-- the most bytes that a message may have, once it is put together
+abbrev pub receive_limit : Shown → ℕ
+receive_limit a = a.receiver.max_receive_message_size
+
+-- a stream is live, or a generation is left for it
+abbrev pub HasStreamFor : Shown → ℕ → Type 0
+HasStreamFor a id = (is_some (stream_at a.streams id) ≡ true) ⊎ (generation_left a.streams ≡ true)
+
+-- DATA may be taken in: it has the next TSN, it is an ordered message in one piece, its stream is live or can be made,
+-- and fewer bytes wait to be read than the receive buffer has.
+pub record MayTakeIn (a : Shown) (h : History) (piece : ChunkPayloadData) : Type 0 where
+  pub next : piece.tsn ≡ tsn h.peer h.reach
+  pub ordered : piece.unordered ≡ false
+  pub begins : piece.beginning_fragment ≡ true
+  pub ends : piece.ending_fragment ≡ true
+  pub stream : HasStreamFor a piece.stream_identifier
+  pub room : bytes_waiting a.streams < a.receiver.buffer_size
+
+-- what a stream holds; nothing where it is yet to be made
+abbrev pub held_by : Option StreamView → Reassembly
+held_by None = empty_reassembly
+held_by (Some stream) = stream.reassembly
+
+-- why DATA does not fit to what its stream holds, if so (RFC 4960 section 6.9)
+abbrev pub refusal_of : Shown → ChunkPayloadData → Option Error
+refusal_of a piece = refusal (held_by (stream_at a.streams piece.stream_identifier)) piece (receive_limit a)
+
+-- it was taken in, by its live stream or by one that it made
+abbrev pub IsTakenIn : Shown → ChunkPayloadData → List Act → Type 0
+IsTakenIn a piece acts = OpensAndTakes a piece acts ⊎ TakesOnly a piece acts
+
+-- DATA that its stream does not refuse is taken in; DATA that it refuses is a fault.
+pub record IsTakenUnlessRefused (a : Shown) (header : CommonHeader) (piece : ChunkPayloadData) : Type 0 where
+  pub taken : refusal_of a piece ≡ None → IsTakenIn a piece (acts_of_chunk a header (chunks.Data piece))
+  pub refused : (trigger : AckTrigger) (now : ℕ) (error : Error) → refusal_of a piece ≡ Some error
+      → (on_chunk a header (chunks.Data piece) trigger now).1 ≡ flows.Fault error
+
+-- Of a chunk that is reached: what may be taken in is taken in unless its stream refuses it, whatever state the
+-- association is in and whatever came before.
+abbrev pub DataIsTakenIn : Type 0
+DataIsTakenIn = (a : Shown) (h : History) (header : CommonHeader) (piece : ChunkPayloadData) → Binds a h
+    → MayTakeIn a h piece → IsTakenUnlessRefused a header piece
+
+-- A chunk of which this DATA was taken in is that DATA; it could be taken in, and its stream did not refuse it.
+pub record WasToBeTakenIn (a : Shown) (h : History) (chunk : Chunk) (piece : ChunkPayloadData) : Type 0 where
+  pub data_itself : chunk ≡ chunks.Data piece
+  pub may : MayTakeIn a h piece
+  pub unrefused : refusal_of a piece ≡ None
+
+-- Nothing else is taken in, of DATA or of any other chunk.
+abbrev pub NothingElseIsTakenIn : Type 0
+NothingElseIsTakenIn = (a : Shown) (h : History) (header : CommonHeader) (chunk : Chunk) (index : ℕ)
+    → (piece : ChunkPayloadData) → Binds a h
+    → slice_get (acts_of_chunk a header chunk) index ≡ Some (Act.Took piece) → WasToBeTakenIn a h chunk piece

@@ -1,0 +1,188 @@
+-- Laws of one side: what follows from the equations of its calls, for whoever builds on it.
+use Rattle.std.specs.Prelude.{◌≡◌, ◌⊎◌, ◌<◌, ◌≤◌, ℕ, ◌+◌, ◌-◌, ◌&&◌, ◌||◌, ◌==◌, is_some, not, Bool, true, false, List}
+use Rattle.std.specs.Prelude.{[], ◌∷◌, ◌++◌, length, slice_get, if◌then◌else◌, Option, Some, None}
+use Rattle.std.specs.List.{list_any, sum_by}
+use Rattle.sctp_wire_types.specs.declared.chunk.Chunk.{Chunk}
+use Rattle.sctp_wire_types.specs.declared.chunk.Chunk.TheVariants as chunks
+use Rattle.sctp_wire_types.specs.declared.chunk.ChunkSelectiveAck.{ChunkSelectiveAck}
+use Rattle.sctp_wire_types.specs.declared.ids.PayloadProtocolIdentifier.{PayloadProtocolIdentifier}
+use Rattle.sctp_wire_types.specs.declared.packet.CommonHeader.{CommonHeader}
+use Rattle.sctp_wire.specs.declared.packet.Packet.{Packet}
+use Rattle.sctp_wire.specs.Packets.{spelling}
+use Rattle.sctp_parts.specs.declared.state.AssociationState.TheVariants as states
+use Rattle.sctp_streams.specs.declared.event.Event.{Event}
+use Rattle.sctp_streams.specs.declared.event.Event.TheVariants as events
+use Rattle.sctp_streams.specs.Streams.{bytes_waiting, stream_at}
+use Rattle.sctp_outbound_queue.specs.Waiting.{Waiting}
+use Rattle.sctp_outbound_queue.specs.Message.{is_of}
+use Rattle.sctp_outbound_queue.specs.Outbound.{Outbound, next_tsn_of}
+use Rattle.sctp_inbound.specs.declared.receiver.AckTrigger.{AckTrigger}
+use Rattle.sctp_inbound.specs.declared.receiver.AckTrigger.TheVariants as triggers
+use Rattle.sctp_inbound.specs.Handshake.{header_of}
+use Rattle.sctp_inbound.specs.Receiver.{sack_of}
+use Rattle.sctp_outbound.specs.Sender.{next_chunk_of}
+use Rattle.sctp_model.specs.Packets.{mem}
+use Rattle.sctp_model.specs.Serial.{tsn}
+use Rattle.sctp_assoc.specs.declared.inbound.Flow.{Flow}
+use Rattle.sctp_assoc.specs.declared.inbound.Flow.TheVariants as flows
+use Rattle.sctp_assoc.specs.Acts.{Binds, History, all_data_given, parts, tsn_before}
+use Rattle.sctp_assoc.specs.Calls.{is_closed_state, is_established, opened, read_from_stream, written}
+use Rattle.sctp_assoc.specs.Chunks.{after_packet, on_chunk}
+use Rattle.sctp_assoc.specs.Happened.{acts_of_poll}
+use Rattle.sctp_assoc.specs.Gather.{control_packets, data_polled, is_due, packet_bytes, packet_with, polled, sack_chunk}
+use Rattle.sctp_assoc.specs.Gather.{sack_packet}
+use Rattle.sctp_sides.specs.Reports.{SaysWhatWasTaken}
+use Rattle.sctp_assoc.specs.Shown.{Shown}
+use Rattle.sctp_assoc.specs.Timeouts.{after_timeouts}
+
+-- Sending
+
+-- This message is the first of those that wait to be sent, and nothing is in flight.
+pub record IsNextWithNothingInFlight (a : Shown) (m : Waiting) : Type 0 where
+  pub others : List Waiting
+  pub waits : a.sender.queue.pending ≡ m ∷ others
+  pub flown : a.sender.queue.in_flight ≡ []
+
+-- The DATA of a poll then begins with that message's next piece, whatever the windows are (RFC 4960 section 6.1, rules
+-- A and B).
+abbrev pub WhatWaitsIsPolled : Type 0
+WhatWaitsIsPolled = (a : Shown) (now : ℕ) (m : Waiting) → IsNextWithNothingInFlight a m
+    → slice_get (data_polled a now).1 0 ≡ Some (next_chunk_of m (next_tsn_of a.sender.queue))
+
+-- In Established its acts give that DATA, under the TSN of the first offset that is not acknowledged.
+abbrev pub WhatWaitsIsGiven : Type 0
+WhatWaitsIsGiven = (a : Shown) (h : History) (now : ℕ) (m : Waiting) → is_established a.state ≡ true → Binds a h
+    → IsNextWithNothingInFlight a m
+    → slice_get (all_data_given (acts_of_poll a now) (parts a h)) 0 ≡ Some (next_chunk_of m (tsn h.own h.base))
+
+-- A piece that one DATA chunk has room for is the first packet that goes out behind those that wait already.
+abbrev pub PollsBeginWithWhatWaits : Type 0
+PollsBeginWithWhatWaits = (a : Shown) (now : ℕ) (m : Waiting) → is_established a.state ≡ true → IsNextWithNothingInFlight a m
+    → length m.user_data ≤ 65519
+    → slice_get (polled a now).1 (length (control_packets a.control))
+    ≡ Some (spelling (packet_with (header_of a.handshake) (chunks.Data (next_chunk_of m (next_tsn_of a.sender.queue)))))
+
+-- Keeping
+
+-- a piece of this message waits to be sent or is in flight
+abbrev pub is_held : Outbound → ℕ → Bool
+is_held q number =
+    list_any (λ (m : Waiting). m.message.message_id == number) q.pending || list_any (is_of number) q.in_flight
+
+-- A message that a live stream accepted is held, under the number that was next.
+abbrev pub WritesAreHeld : Type 0
+WritesAreHeld = (a : Shown) (id : ℕ) (bytes : List ℕ) → is_some (stream_at a.streams id) ≡ true
+    → is_held (written a id bytes).sender.queue a.sender.queue.next_message_id ≡ true
+
+-- A poll loses no message: what waited or was in flight does so after it.
+abbrev pub PollsKeepWhatIsHeld : Type 0
+PollsKeepWhatIsHeld =
+    (a : Shown) (now number : ℕ) → is_held a.sender.queue number ≡ true
+    → is_held (polled a now).0.sender.queue number ≡ true
+
+-- Closing
+
+-- The state, the mark of a loss and the events are as they were.
+pub record StaysOpen (a b : Shown) : Type 0 where
+  pub state : b.state ≡ a.state
+  pub lost : b.lost ≡ a.lost
+  pub events : b.events ≡ a.events
+
+-- No write, opened stream, read, poll for packets or timer closes an association.
+abbrev pub WritesDoNotClose : Type 0
+WritesDoNotClose = (a : Shown) (id : ℕ) (bytes : List ℕ) → StaysOpen a (written a id bytes)
+
+abbrev pub OpenedStreamsDoNotClose : Type 0
+OpenedStreamsDoNotClose = (a : Shown) (id : ℕ) (kind : PayloadProtocolIdentifier) → StaysOpen a (opened a id kind)
+
+abbrev pub ReadsDoNotClose : Type 0
+ReadsDoNotClose = (a : Shown) (id : ℕ) → StaysOpen a (read_from_stream a id).0
+
+abbrev pub PollsDoNotClose : Type 0
+PollsDoNotClose = (a : Shown) (now : ℕ) → StaysOpen a (polled a now).0
+
+abbrev pub TimersDoNotClose : Type 0
+TimersDoNotClose = (a : Shown) (now : ℕ) → StaysOpen a (after_timeouts a now)
+
+abbrev pub faults_or : Shown × Flow → (Shown → AckTrigger → Bool) → Bool
+faults_or (a, flows.Next trigger) more = more a trigger
+faults_or (a, flows.Fault fault) more = not (is_closed_state a.state)
+
+-- one of these chunks, taken in order, is a fault, and the association is open then
+abbrev pub is_faulted : CommonHeader → List Chunk → Shown → AckTrigger → ℕ → Bool
+is_faulted header [] a trigger now = false
+is_faulted header (c ∷ cs) a trigger now =
+    faults_or (on_chunk a header c trigger now) (λ b next. is_faulted header cs b next now)
+
+abbrev pub is_faulted_packet : Shown → Option Packet → ℕ → Bool
+is_faulted_packet a None now = false
+is_faulted_packet a (Some packet) now = is_faulted packet.common_header packet.chunks a triggers.None now
+
+-- what came closes an open association: one of its chunks is a fault
+abbrev pub closes : Shown → Option Packet → ℕ → Bool
+closes a packet now = not a.lost && is_faulted_packet a packet now
+
+abbrev pub loss_of : Event → ℕ
+loss_of (events.AssociationLost reason) = 1
+loss_of events.Connected = 0
+loss_of (events.HandshakeFailed reason) = 0
+loss_of (events.Stream event) = 0
+loss_of (events.DataChannelStatsFinal stats) = 0
+loss_of events.DatagramReceived = 0
+
+-- how many of the events tell of a loss
+abbrev pub losses : List Event → ℕ
+losses queued = sum_by loss_of queued
+
+-- An association closed, or it did not: if so it is lost, and one event more tells of it; if not, it isn't closed
+-- unless it was.
+pub record IsClosedIf (closing : Bool) (a b : Shown) : Type 0 where
+  pub closed : closing ≡ true → b.state ≡ states.Closed
+  pub still_open : closing ≡ false → is_closed_state b.state ≡ true → is_closed_state a.state ≡ true
+  pub lost : b.lost ≡ (closing || a.lost)
+  pub told : losses b.events ≡ losses a.events + (if closing then 1 else 0)
+
+-- A packet closes an association exactly where a chunk of the packet is a fault while it is open, and the loss is told
+-- once.
+abbrev pub FaultsAloneClose : Type 0
+FaultsAloneClose =
+    (a : Shown) (packet : Option Packet) (now : ℕ) → IsClosedIf (closes a packet now) a (after_packet a packet now)
+
+-- Reporting
+
+-- This offset is the first that was neither taken in nor passed over, and nothing that was taken in lies above it.
+pub record IsFirstMissing (o : ℕ) (h : History) : Type 0 where
+  pub before : (n : ℕ) → n < o → (mem n h.taken ≡ true) ⊎ (n < h.passed)
+  pub missing : mem o h.taken ≡ false
+  pub passed : h.passed ≤ o
+  pub above : (n : ℕ) → mem n h.taken ≡ true → n < o
+
+-- A SACK names the TSN before that of the first offset that was neither taken in nor passed over (RFC 4960 section
+-- 3.3.4): it neither claims what was not taken in nor keeps back what was.
+abbrev pub SacksNameThePoint : Type 0
+SacksNameThePoint = (a : Shown) (h : History) → Binds a h
+    → IsFirstMissing h.reach h
+    × ((sack_of a.receiver (bytes_waiting a.streams)).cumulative_tsn_ack ≡ tsn_before (tsn h.peer h.reach))
+
+-- It says what was taken in: the point, and of the 65,535 TSNs past it, which are all that gap ack blocks can name,
+-- exactly those that were.
+abbrev pub SacksSayWhatWasTaken : Type 0
+SacksSayWhatWasTaken =
+    (a : Shown) (h : History) → Binds a h
+    → SaysWhatWasTaken h.peer h.reach h.taken (sack_of a.receiver (bytes_waiting a.streams))
+
+-- The packet of an acknowledgement is that of a SACK which offers the room that is left in the receive buffer (RFC 4960
+-- section 6.2).
+abbrev pub SacksOfferTheBuffer : Type 0
+SacksOfferTheBuffer = (a : Shown)
+    → (sack : ChunkSelectiveAck) × (sack_packet a ≡ packet_bytes (header_of a.handshake) (chunks.SelectiveAck sack))
+    × (sack.advertised_receiver_window_credit ≡ a.receiver.buffer_size - bytes_waiting a.streams)
+
+-- It is one datagram, as each SACK that is made is short enough to be spelled.
+abbrev pub SacksAreSpelled : Type 0
+SacksAreSpelled = (a : Shown) → sack_packet a ≡ spelling (packet_with (header_of a.handshake) (sack_chunk a)) ∷ []
+
+-- A SACK that is due goes out with the next poll in Established, as its last packet.
+abbrev pub DueSacksGoOut : Type 0
+DueSacksGoOut = (a : Shown) (now : ℕ) → is_established a.state ≡ true → is_due a.receiver.ack_state ≡ true
+    → (packets : List (List ℕ)) × ((polled a now).1 ≡ packets ++ sack_packet a)

@@ -1,0 +1,8 @@
+pub mod Causes
+pub mod Intake
+pub mod Laws
+pub mod Meeting
+pub mod OneSide
+pub mod Reports
+pub mod Shapes
+pub mod Witnesses

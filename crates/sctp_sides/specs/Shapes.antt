@@ -1,0 +1,353 @@
+-- What calls leave of an association beside its directions, and of which acts they are made: for whoever builds on it.
+use Rattle.std.specs.Prelude.{◌≡◌, ◌⊎◌, ◌<◌, ◌≤◌, ℕ, ◌+◌, ◌%◌, ◌^◌, Bool, true, false, List, [], ◌∷◌, ◌++◌, length}
+use Rattle.std.specs.Prelude.{slice_get, if◌then◌else◌, Option, Some, None, ⊤}
+use Rattle.std.specs.List.{AllByRecursion}
+use Rattle.sctp_wire_types.specs.Serial.{tsn_gt}
+use Rattle.sctp_wire_types.specs.declared.chunk.Chunk.{Chunk}
+use Rattle.sctp_wire_types.specs.declared.chunk.Chunk.TheVariants as chunks
+use Rattle.sctp_wire_types.specs.declared.chunk.ChunkInit.{ChunkInit}
+use Rattle.sctp_wire_types.specs.declared.chunk.ChunkPayloadData.{ChunkPayloadData}
+use Rattle.sctp_wire_types.specs.declared.chunk.ChunkSelectiveAck.{ChunkSelectiveAck}
+use Rattle.sctp_wire_types.specs.declared.ids.PayloadProtocolIdentifier.{PayloadProtocolIdentifier}
+use Rattle.sctp_wire_types.specs.declared.packet.CommonHeader.{CommonHeader}
+use Rattle.sctp_wire.specs.declared.packet.Packet.{Packet}
+use Rattle.sctp_wire.specs.Packets.{packet_at}
+use Rattle.sctp_receive_queues.specs.Reassembly.{empty_reassembly}
+use Rattle.sctp_streams.specs.declared.event.AssociationError.{AssociationError}
+use Rattle.sctp_streams.specs.declared.event.Event.{Event}
+use Rattle.sctp_streams.specs.Stream.{StreamView}
+use Rattle.sctp_streams.specs.Streams.{made, stream_at}
+use Rattle.sctp_inbound.specs.declared.receiver.AckTrigger.{AckTrigger}
+use Rattle.sctp_model.specs.Serial.{tsn}
+use Rattle.sctp_assoc.specs.Acts.{Act, Binds, History, LeadsOn, all_data_given, parts, tsn_before}
+use Rattle.sctp_assoc.specs.Calls.{closed_by, event_polled, is_closed_state, is_established, open_refusal, opened}
+use Rattle.sctp_assoc.specs.Calls.{read_from_stream, stream_refusal, write_refusal, written}
+use Rattle.sctp_assoc.specs.Chunks.{after_packet, ended, on_chunk}
+use Rattle.sctp_assoc.specs.Happened.{Polls, acts_of_chunk, acts_of_poll, acts_of_timeouts}
+use Rattle.sctp_assoc.specs.Inbound.{taken_packet}
+use Rattle.sctp_sides.specs.Meeting.{Greets, GreetsOn, HasCome, IsEstablished, IsNoEarlier, IsTruthful, Stage, stage_of}
+use Rattle.sctp_assoc.specs.Gather.{AreControlReadAgain, WaitPlainly, control_packets, is_due, polled, without_control}
+use Rattle.sctp_sides.specs.Reports.{SaysWhatWasTaken}
+use Rattle.sctp_assoc.specs.Shown.{Shown}
+use Rattle.sctp_assoc.specs.Timeouts.{after_timeouts}
+use Rattle.sctp_assoc.specs.declared.control.ControlPacket.{ControlPacket}
+
+-- Status
+
+-- Whether it failed, its state, whether it was lost, its payload size, its side and its handshake are as they were, and
+-- what waits to go out is truthful where it was.
+pub record IsSameStatus (a b : Shown) : Type 0 where
+  pub failed : b.failed ≡ a.failed
+  pub state : b.state ≡ a.state
+  pub lost : b.lost ≡ a.lost
+  pub size : b.sender.max_payload_size ≡ a.sender.max_payload_size
+  pub side : b.side ≡ a.side
+  pub handshake : b.handshake ≡ a.handshake
+  pub truthful : (own : ℕ) → IsTruthful own a → IsTruthful own b
+
+-- A side with the same handshake is in the same stage; where its state is the same, too, the handshake has come as far.
+abbrev pub TheSameHandshakeIsTheSameStage : Type 0
+TheSameHandshakeIsTheSameStage = (a b : Shown) → b.side ≡ a.side → b.handshake ≡ a.handshake
+    → (stage_of b ≡ stage_of a) × (b.state ≡ a.state → HasCome a → HasCome b)
+
+-- In Established the handshake is complete, and the peer's initial TSN is known.
+abbrev pub EstablishedSidesTalk : Type 0
+EstablishedSidesTalk = (a : Shown) → is_established a.state ≡ true → HasCome a → IsEstablished a
+
+-- What a side said of itself stays so in its later stages.
+abbrev pub GreetingsStayTrue : Type 0
+GreetingsStayTrue = (own : ℕ) (s t : Stage) (chunk : Chunk) → IsNoEarlier s t → Greets own s chunk → Greets own t chunk
+
+-- The application's calls, timers and polls that are carried out leave the status. Events that are told and timers
+-- leave the streams, too.
+abbrev pub OpenedStreamsKeepTheStatus : Type 0
+OpenedStreamsKeepTheStatus = (a : Shown) (id : ℕ) (kind : PayloadProtocolIdentifier) → IsSameStatus a (opened a id kind)
+
+abbrev pub WritesKeepTheStatus : Type 0
+WritesKeepTheStatus = (a : Shown) (id : ℕ) (bytes : List ℕ) → IsSameStatus a (written a id bytes)
+
+abbrev pub ReadsKeepTheStatus : Type 0
+ReadsKeepTheStatus = (a : Shown) (id : ℕ) → IsSameStatus a (read_from_stream a id).0
+
+abbrev pub ToldEventsKeepTheStatus : Type 0
+ToldEventsKeepTheStatus =
+    (a b : Shown) (event : Option Event) → event_polled a ≡ (b, event) → IsSameStatus a b × (b.streams ≡ a.streams)
+
+abbrev pub TimersKeepTheStatus : Type 0
+TimersKeepTheStatus =
+    (a : Shown) (now : ℕ) → IsSameStatus a (after_timeouts a now) × ((after_timeouts a now).streams ≡ a.streams)
+
+abbrev pub PollsKeepTheStatus : Type 0
+PollsKeepTheStatus = (a : Shown) (now : ℕ) → IsSameStatus a (polled a now).0
+
+-- What was not refused
+
+-- A stream is live, of an association that works.
+pub record IsLive (a : Shown) (id : ℕ) : Type 0 where
+  pub working : a.failed ≡ false
+  pub stream : StreamView
+  pub there : stream_at a.streams id ≡ Some stream
+
+-- A stream that is found is live.
+abbrev pub FoundStreamsAreLive : Type 0
+FoundStreamsAreLive = (a : Shown) (id : ℕ) → stream_refusal a id ≡ None → IsLive a id
+
+-- no stream of this identifier is live
+abbrev pub IsNotLive : Shown → ℕ → Type 0
+IsNotLive a id = stream_at a.streams id ≡ None
+
+-- A stream that is opened was not.
+abbrev pub OpenedStreamsWereNotLive : Type 0
+OpenedStreamsWereNotLive = (a : Shown) (id : ℕ) → open_refusal a id ≡ None → (a.failed ≡ false) × IsNotLive a id
+
+-- What an accepted write of this size had: a live stream, an association in Established, a byte at least, and room in
+-- one DATA chunk.
+pub record WasWritable (a : Shown) (id size : ℕ) : Type 0 where
+  pub live : IsLive a id
+  pub established : is_established a.state ≡ true
+  pub some : 0 < size
+  pub one : size ≤ a.sender.max_payload_size
+
+-- A write that nothing refuses has these. (That it is accepted needs more: `write_refusal`, and memory.)
+abbrev pub AcceptedWritesFit : Type 0
+AcceptedWritesFit = (a : Shown) (id size : ℕ) → write_refusal a id size ≡ None → WasWritable a id size
+
+-- Streams that hold nothing
+
+-- no live stream holds anything that came
+abbrev pub HoldsNothing : Shown → Type 0
+HoldsNothing a = (id : ℕ) (t : StreamView) → stream_at a.streams id ≡ Some t → t.reassembly ≡ empty_reassembly
+
+-- A stream that is opened holds nothing, and the others are as they were.
+abbrev pub OpenedStreamsHoldNothing : Type 0
+OpenedStreamsHoldNothing =
+    (a : Shown) (id : ℕ) (kind : PayloadProtocolIdentifier) → IsNotLive a id → HoldsNothing a
+    → HoldsNothing (opened a id kind)
+
+-- A read where no stream holds anything gives nothing, and leaves it so.
+abbrev pub WhatHoldsNothingGivesNothing : Type 0
+WhatHoldsNothingGivesNothing = (a : Shown) (id : ℕ) → IsLive a id → HoldsNothing a
+    → ((read_from_stream a id).1 ≡ None) × HoldsNothing (read_from_stream a id).0
+
+-- The chunks of a packet
+
+-- What any chunk leaves: whether it failed, whether it was lost, and its payload size.
+pub record KeepsWorking (a b : Shown) : Type 0 where
+  pub failed : b.failed ≡ a.failed
+  pub lost : b.lost ≡ a.lost
+  pub size : b.sender.max_payload_size ≡ a.sender.max_payload_size
+
+-- What a chunk leaves: DATA and SACKs leave the status.
+abbrev pub Leaves : Chunk → Shown → Shown → Type 0
+Leaves (chunks.Data piece) a b = IsSameStatus a b
+Leaves (chunks.SelectiveAck sack) a b = IsSameStatus a b
+Leaves chunk a b = KeepsWorking a b
+
+-- A chunk of a packet with this header made b of the association a: by its acts, and where it is one of a handshake,
+-- that goes on.
+pub record TakesChunk (header : CommonHeader) (chunk : Chunk) (a b : Shown) : Type 0 where
+  pub leads : LeadsOn (acts_of_chunk a header chunk) a b
+  pub leaves : Leaves chunk a b
+  pub greets : GreetsOn header chunk a b
+
+-- Each chunk leads on by its acts.
+abbrev pub ChunksLeadOn : Type 0
+ChunksLeadOn =
+    (header : CommonHeader) (chunk : Chunk) (a : Shown) (trigger : AckTrigger) (now : ℕ)
+    → TakesChunk header chunk a (on_chunk a header chunk trigger now).0
+
+-- A packet without a fault came to its end: the directions see nothing of it.
+pub record EndsPacket (a b : Shown) : Type 0 where
+  pub leads : LeadsOn [] a b
+  pub same : IsSameStatus a b
+
+-- The acknowledgement that a packet asks for at its end is no act (RFC 4960 section 6.2).
+abbrev pub PacketsEnd : Type 0
+PacketsEnd = (a : Shown) (trigger : AckTrigger) (now : ℕ) → EndsPacket a (ended a trigger now)
+
+-- It is closed and lost, no stream is live, and nothing waits to go out.
+pub record IsEnded (b : Shown) : Type 0 where
+  pub closed : is_closed_state b.state ≡ true
+  pub unestablished : is_established b.state ≡ false
+  pub lost : b.lost ≡ true
+  pub none_live : (id : ℕ) → IsNotLive b id
+  pub holds_nothing : HoldsNothing b
+  pub silent : b.control ≡ []
+
+-- A fault closed an open association; a closed one stayed as it was.
+pub record Closes (a b : Shown) : Type 0 where
+  pub failed : b.failed ≡ a.failed
+  pub side : b.side ≡ a.side
+  pub handshake : b.handshake ≡ a.handshake
+  pub truthful : (own : ℕ) → IsTruthful own a → IsTruthful own b
+  pub ends : is_closed_state a.state ≡ false → IsEnded b
+  pub stays : is_closed_state a.state ≡ true → b ≡ a
+
+-- What a close leaves of an association.
+abbrev pub FaultsClose : Type 0
+FaultsClose = (a : Shown) (reason : AssociationError) → Closes a (closed_by a reason)
+
+-- Established is a state of its own (RFC 4960 section 4).
+abbrev pub EstablishedIsNotClosed : Type 0
+EstablishedIsNotClosed = (a : Shown) → is_established a.state ≡ true → is_closed_state a.state ≡ false
+
+-- An association that was lost takes nothing, and where nothing came nothing changes.
+abbrev pub LostAssociationsTakeNothing : Type 0
+LostAssociationsTakeNothing =
+    (a : Shown) (packet : Option Packet) (now : ℕ) → a.lost ≡ true → after_packet a packet now ≡ a
+
+abbrev pub NoPacketChangesNothing : Type 0
+NoPacketChangesNothing = (a : Shown) (now : ℕ) → after_packet a None now ≡ a
+
+-- The acts of chunks
+
+-- DATA made its stream, and no more.
+pub record OpensOnly (a : Shown) (piece : ChunkPayloadData) (acts : List Act) : Type 0 where
+  pub first : ℕ
+  pub kind : PayloadProtocolIdentifier
+  pub none : IsNotLive a piece.stream_identifier
+  pub are : acts ≡ Act.Opened piece.stream_identifier first kind ∷ []
+
+-- It made its stream and was taken in.
+pub record OpensAndTakes (a : Shown) (piece : ChunkPayloadData) (acts : List Act) : Type 0 where
+  pub first : ℕ
+  pub kind : PayloadProtocolIdentifier
+  pub stream : StreamView
+  pub none : IsNotLive a piece.stream_identifier
+  pub live : stream_at (made a.streams piece.stream_identifier first kind) piece.stream_identifier ≡ Some stream
+  pub are : acts ≡ Act.Opened piece.stream_identifier first kind ∷ Act.Took piece ∷ []
+
+-- It was taken in by a live stream.
+pub record TakesOnly (a : Shown) (piece : ChunkPayloadData) (acts : List Act) : Type 0 where
+  pub stream : StreamView
+  pub live : stream_at a.streams piece.stream_identifier ≡ Some stream
+  pub are : acts ≡ Act.Took piece ∷ []
+
+-- it did one of these, or nothing
+abbrev pub IsTaking : Shown → ChunkPayloadData → List Act → Type 0
+IsTaking a piece acts = (acts ≡ []) ⊎ (OpensOnly a piece acts ⊎ (OpensAndTakes a piece acts ⊎ TakesOnly a piece acts))
+
+-- DATA may make its stream first, and may be taken in; nothing else (RFC 4960 section 6.2).
+abbrev pub DataIsTaken : Type 0
+DataIsTaken =
+    (a : Shown) (header : CommonHeader) (piece : ChunkPayloadData)
+    → IsTaking a piece (acts_of_chunk a header (chunks.Data piece))
+
+-- The first pieces in flight are acknowledged, so many that the point is the TSN before that of the next one.
+pub record Acknowledges (a : Shown) (h : History) (cumulative_tsn_ack : ℕ) (acts : List Act) : Type 0 where
+  pub count : ℕ
+  pub are : acts ≡ Act.Acknowledged count ∷ []
+  pub within : count ≤ length a.sender.queue.in_flight
+  pub at : cumulative_tsn_ack % 2 ^ 32 ≡ tsn_before (tsn h.own (h.base + count))
+
+-- A SACK acknowledges what its point says, or nothing (RFC 4960 section 6.2.1).
+abbrev pub SacksAcknowledge : Type 0
+SacksAcknowledge = (a : Shown) (h : History) (header : CommonHeader) (sack : ChunkSelectiveAck) → Binds a h
+    → (acts_of_chunk a header (chunks.SelectiveAck sack) ≡ [])
+    ⊎ Acknowledges a h sack.cumulative_tsn_ack (acts_of_chunk a header (chunks.SelectiveAck sack))
+
+-- A SACK names the TSN of the last of the first so many pieces in flight, or with none of them the acknowledged point.
+-- They are fewer than half of all TSNs.
+pub record NamesTheSent (a : Shown) (h : History) (cumulative_tsn_ack count : ℕ) : Type 0 where
+  pub within : count ≤ length a.sender.queue.in_flight
+  pub near : count < 2 ^ 31
+  pub at : cumulative_tsn_ack ≡ tsn_before (tsn h.own (h.base + count))
+
+-- In Established such a SACK acknowledges exactly these pieces (RFC 4960 section 6.2.1).
+abbrev pub TakenSacksAcknowledge : Type 0
+TakenSacksAcknowledge = (a : Shown) (h : History) (header : CommonHeader) (sack : ChunkSelectiveAck) (count : ℕ)
+    → is_established a.state ≡ true → Binds a h → NamesTheSent a h sack.cumulative_tsn_ack count
+    → acts_of_chunk a header (chunks.SelectiveAck sack) ≡ Act.Acknowledged count ∷ []
+
+-- Outside of Established a SACK acknowledges nothing, and neither does one whose point lies behind the acknowledged
+-- one.
+abbrev pub OtherSacksDoNothing : Type 0
+OtherSacksDoNothing = (a : Shown) (h : History) (header : CommonHeader) (sack : ChunkSelectiveAck) → Binds a h
+    → (is_established a.state ≡ false) ⊎ (tsn_gt (tsn_before (tsn h.own h.base)) sack.cumulative_tsn_ack ≡ true)
+    → acts_of_chunk a header (chunks.SelectiveAck sack) ≡ []
+
+-- The peer's initial TSN became known, or nothing did.
+abbrev pub IsMeeting : ChunkInit → List Act → Type 0
+IsMeeting init acts = (acts ≡ []) ⊎ (acts ≡ Act.PeerKnown init.initial_tsn ∷ [])
+
+-- INIT and INIT ACK tell the peer's initial TSN, or do nothing to the directions (RFC 4960 section 5.1).
+abbrev pub GreetingsMeet : Type 0
+GreetingsMeet = (a : Shown) (header : CommonHeader) (init : ChunkInit)
+    → IsMeeting init (acts_of_chunk a header (chunks.Init init))
+    × IsMeeting init (acts_of_chunk a header (chunks.InitAck init))
+
+-- neither DATA nor a SACK, nor one that tells an initial TSN
+abbrev pub IsOther : Chunk → Type 0
+IsOther (chunks.Data piece) = ⊥
+IsOther (chunks.SelectiveAck sack) = ⊥
+IsOther (chunks.Init init) = ⊥
+IsOther (chunks.InitAck init) = ⊥
+IsOther chunk = ⊤
+
+-- Any other chunk does nothing to the directions, unless it is a fault and closes.
+abbrev pub OtherChunksDoNothing : Type 0
+OtherChunksDoNothing =
+    (a : Shown) (header : CommonHeader) (chunk : Chunk) → IsOther chunk → acts_of_chunk a header chunk ≡ []
+
+-- The acts of a poll and of timeouts
+
+-- acts that give out DATA
+abbrev pub GivesData : Act → Type 0
+GivesData (Act.Sent now) = ⊤
+GivesData (Act.SentAgain index) = ⊤
+GivesData act = ⊥
+
+-- an acknowledgement is due
+abbrev pub reports : Shown → Bool
+reports a = is_due a.receiver.ack_state
+
+-- Acts that give out DATA, and then a report where one is due.
+pub record IsPolling (a : Shown) (acts : List Act) : Type 0 where
+  pub given : List Act
+  pub give : AllByRecursion GivesData given
+  pub are : acts ≡ given ++ (if reports a then Act.Reported ∷ [] else [])
+
+-- A poll in Established gives DATA, and reports where that is due (RFC 4960 sections 6.1 and 6.2).
+abbrev pub PollsGiveAndReport : Type 0
+PollsGiveAndReport = (a : Shown) (now : ℕ) → is_established a.state ≡ true → IsPolling a (acts_of_poll a now)
+
+-- In any other state a poll gives what waits to go out, and nothing else.
+abbrev pub PollsOutsideEstablishedGiveWhatWaits : Type 0
+PollsOutsideEstablishedGiveWhatWaits =
+    (a : Shown) (now : ℕ) → is_established a.state ≡ false
+    → polled a now ≡ (without_control a, control_packets a.control)
+
+-- of what a datagram spells, if it spells a packet, each chunk is so
+abbrev pub OfEachChunk : (Chunk → Type 0) → Option Packet → Type 0
+OfEachChunk Is None = ⊤
+OfEachChunk Is (Some packet) = AllByRecursion Is packet.chunks
+
+-- a chunk that waited to go out in a packet of its own
+abbrev pub IsWaitingToGo : Shown → Chunk → Type 0
+IsWaitingToGo a chunk = (k : ℕ) × (c : ControlPacket) × (slice_get a.control k ≡ Some c) × (c.chunk ≡ chunk)
+
+-- a chunk that these acts of a poll give out: their DATA, or where a report is due a SACK that says what came
+abbrev pub IsExchanged : List Act → Shown → History → Chunk → Type 0
+IsExchanged acts a h (chunks.Data piece) = (k : ℕ) × (slice_get (all_data_given acts (parts a h)) k ≡ Some piece)
+IsExchanged acts a h (chunks.SelectiveAck sack) = (reports a ≡ true) × SaysWhatWasTaken h.peer h.reach h.taken sack
+IsExchanged acts a h chunk = ⊥
+
+abbrev pub IsGivenBy : List Act → Shown → History → Chunk → Type 0
+IsGivenBy acts a h chunk = IsWaitingToGo a chunk ⊎ IsExchanged acts a h chunk
+
+-- The packets of a poll are of such chunks alone.
+abbrev pub PollsSayTheirActs : Type 0
+PollsSayTheirActs = (acts : List Act) (a b : Shown) (h : History) (packets : List (List ℕ)) → WaitPlainly a
+    → AreControlReadAgain a.control → is_established a.state ≡ true → Binds a h
+    → Polls acts a h b packets
+    → AllByRecursion (λ (bytes : List ℕ). OfEachChunk (IsGivenBy acts a h) (taken_packet (packet_at bytes))) packets
+
+-- What waits goes out in packets of those chunks alone.
+abbrev pub WhatWaitsGoesOutAsItIs : Type 0
+WhatWaitsGoesOutAsItIs = (a : Shown) → WaitPlainly a → AreControlReadAgain a.control
+    → AllByRecursion (λ (bytes : List ℕ). OfEachChunk (IsWaitingToGo a) (taken_packet (packet_at bytes)))
+    (control_packets a.control)
+
+-- Timeouts at most mark all that is outstanding (RFC 4960 section 6.3.3).
+abbrev pub TimeoutsMarkAtMost : Type 0
+TimeoutsMarkAtMost = (a : Shown) (now : ℕ) → (acts_of_timeouts a now ≡ []) ⊎ (acts_of_timeouts a now ≡ Act.Marked ∷ [])

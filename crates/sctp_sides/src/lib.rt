@@ -1,0 +1,161 @@
+//! Laws of one side of SCTP: what every [`Association`](sctp_assoc::Association) keeps to, whatever its peer sends. They
+//! are said over the equations that its calls have for contracts, and no call needs them. No code runs here; each empty
+//! function carries laws that are proved.
+#![tactic(auto)]
+
+ghost use Rattle.sctp_sides.specs.Shapes.{AcceptedWritesFit, ChunksLeadOn, DataIsTaken, EstablishedIsNotClosed};
+ghost use Rattle.sctp_sides.specs.Shapes.{EstablishedSidesTalk, FaultsClose, FoundStreamsAreLive, GreetingsMeet};
+ghost use Rattle.sctp_sides.specs.Shapes.{GreetingsStayTrue, LostAssociationsTakeNothing, NoPacketChangesNothing};
+ghost use Rattle.sctp_sides.specs.Shapes.{OpenedStreamsHoldNothing, OpenedStreamsKeepTheStatus};
+ghost use Rattle.sctp_sides.specs.Shapes.{OpenedStreamsWereNotLive, OtherChunksDoNothing, OtherSacksDoNothing};
+ghost use Rattle.sctp_sides.specs.Shapes.{PacketsEnd, PollsGiveAndReport, PollsKeepTheStatus};
+ghost use Rattle.sctp_sides.specs.Shapes.{PollsOutsideEstablishedGiveWhatWaits, PollsSayTheirActs, ReadsKeepTheStatus};
+ghost use Rattle.sctp_sides.specs.Shapes.{SacksAcknowledge, TakenSacksAcknowledge, TheSameHandshakeIsTheSameStage};
+ghost use Rattle.sctp_sides.specs.Shapes.{TimeoutsMarkAtMost, TimersKeepTheStatus, ToldEventsKeepTheStatus};
+ghost use Rattle.sctp_sides.specs.Shapes.{WhatHoldsNothingGivesNothing, WhatWaitsGoesOutAsItIs, WritesKeepTheStatus};
+ghost use Rattle.sctp_sides.specs.Causes.{CausesClose, ClosingPacketsHaveCauses, FaultsAreCauses};
+ghost use Rattle.sctp_sides.specs.Intake.{DataIsTakenIn, NothingElseIsTakenIn};
+ghost use Rattle.sctp_sides.specs.Laws.{DueSacksGoOut, FaultsAloneClose, OpenedStreamsDoNotClose, PollsDoNotClose};
+ghost use Rattle.sctp_sides.specs.Laws.{PollsKeepWhatIsHeld, ReadsDoNotClose, SacksAreSpelled, SacksNameThePoint};
+ghost use Rattle.sctp_sides.specs.Laws.{SacksOfferTheBuffer, SacksSayWhatWasTaken, TimersDoNotClose, PollsBeginWithWhatWaits};
+ghost use Rattle.sctp_sides.specs.Laws.{WhatWaitsIsGiven, WhatWaitsIsPolled, WritesAreHeld, WritesDoNotClose};
+ghost use Rattle.sctp_sides.specs.Witnesses.{CookiesAreTimedInCookieEchoedAlone, CreatedSidesAreFresh};
+ghost use Rattle.sctp_sides.specs.Witnesses.{DelayedSacksAreTimed, EchoedCookiesAreTimed, FailedSidesWaitForNothing};
+ghost use Rattle.sctp_sides.specs.Witnesses.{FailuresStopTheTimers, InitsAreTimedInCookieWaitAlone};
+ghost use Rattle.sctp_sides.specs.Witnesses.{JoinedSidesAreFresh, LossesAreToldOnce, LossesStopTheTimers};
+ghost use Rattle.sctp_sides.specs.Witnesses.{LostSidesWaitForNothing, NoHandshakeTimerRunsOnceEstablished};
+ghost use Rattle.sctp_sides.specs.Witnesses.{NothingInFlightIsNotTimed, OutstandingDataIsTimed, SentInitsAreTimed};
+
+/// Sending: the next piece that waits goes out with the next poll where nothing is in flight (RFC 4960 section 6.1).
+pub fn polls_begin_with_what_waits()
+    ensures polled { WhatWaitsIsPolled }
+    ensures given { WhatWaitsIsGiven }
+    ensures packet { PollsBeginWithWhatWaits }
+{}
+
+/// Keeping: what was just written waits or is in flight, and a poll that does not fail loses none of what does.
+pub fn writes_and_polls_lose_nothing()
+    ensures written { WritesAreHeld }
+    ensures polled { PollsKeepWhatIsHeld }
+{}
+
+/// Closing: a packet with a fault closes an open association, once, and no other packet does, and no write, opened
+/// stream, read, poll for packets or timer.
+pub fn faults_alone_close()
+    ensures packets { FaultsAloneClose }
+    ensures writes { WritesDoNotClose }
+    ensures streams { OpenedStreamsDoNotClose }
+    ensures reads { ReadsDoNotClose }
+    ensures polls { PollsDoNotClose }
+    ensures timers { TimersDoNotClose }
+{}
+
+/// Causes: a chunk is a fault exactly where it has one of the causes that are named, and so a packet closes only by
+/// such a cause.
+pub fn only_named_causes_close()
+    ensures chunk { FaultsAreCauses }
+    ensures packet { ClosingPacketsHaveCauses }
+    ensures causes { CausesClose }
+{}
+
+/// Reporting: a SACK says what was taken in, is one datagram, and in Established goes out with the next poll where it
+/// is due (RFC 4960 sections 3.3.4 and 6.2).
+pub fn sacks_name_the_point()
+    ensures point { SacksNameThePoint }
+    ensures said { SacksSayWhatWasTaken }
+    ensures window { SacksOfferTheBuffer }
+    ensures spelled { SacksAreSpelled }
+    ensures due { DueSacksGoOut }
+{}
+
+/// Intake: DATA that may be taken in is taken in, and nothing else is (RFC 4960 section 6.2).
+pub fn data_is_taken_in()
+    ensures taken { DataIsTakenIn }
+    ensures no_other { NothingElseIsTakenIn }
+{}
+
+/// Status: whether it failed, its state, whether it was lost, its payload size, its side and its handshake change by no
+/// call of the application, no timer and no poll that is carried out, and what waits to go out stays truthful. (One
+/// that finds no memory in its middle fails the association.)
+pub fn calls_keep_the_status()
+    ensures opened { OpenedStreamsKeepTheStatus }
+    ensures written { WritesKeepTheStatus }
+    ensures read { ReadsKeepTheStatus }
+    ensures told { ToldEventsKeepTheStatus }
+    ensures timers { TimersKeepTheStatus }
+    ensures polled { PollsKeepTheStatus }
+{}
+
+/// Stages: what a side's packets said of its handshake stays so in each later stage (RFC 4960 section 5.1). Where the
+/// handshake is the same, so is the stage.
+pub fn greetings_stay_true()
+    ensures same { TheSameHandshakeIsTheSameStage }
+    ensures established { EstablishedSidesTalk }
+    ensures greetings { GreetingsStayTrue }
+{}
+
+/// Refusing: what a call that was not refused could rely on.
+pub fn accepted_calls_could_be_done()
+    ensures found { FoundStreamsAreLive }
+    ensures opened { OpenedStreamsWereNotLive }
+    ensures written { AcceptedWritesFit }
+{}
+
+/// Reading: where no stream holds anything, none does after a stream is opened or read, and nothing is read.
+pub fn nothing_comes_of_nothing()
+    ensures opened { OpenedStreamsHoldNothing }
+    ensures read { WhatHoldsNothingGivesNothing }
+{}
+
+/// Packets: each chunk leads on by its acts, and so does the end; where a chunk is one of a truthful peer's handshake,
+/// that goes on. A fault closes, and an association that was lost takes nothing.
+pub fn packets_lead_on()
+    ensures chunks { ChunksLeadOn }
+    ensures ends { PacketsEnd }
+    ensures faults { FaultsClose }
+    ensures closed { EstablishedIsNotClosed }
+    ensures lost { LostAssociationsTakeNothing }
+    ensures none { NoPacketChangesNothing }
+{}
+
+/// Acts: of which acts each chunk, a poll and timeouts are made, and that the packets of a poll say what its acts give
+/// out.
+pub fn calls_are_made_of_acts()
+    ensures data { DataIsTaken }
+    ensures sack { SacksAcknowledge }
+    ensures taken { TakenSacksAcknowledge }
+    ensures older { OtherSacksDoNothing }
+    ensures greeting { GreetingsMeet }
+    ensures other { OtherChunksDoNothing }
+    ensures poll { PollsGiveAndReport }
+    ensures silent { PollsOutsideEstablishedGiveWhatWaits }
+    ensures packets { PollsSayTheirActs }
+    ensures waiting { WhatWaitsGoesOutAsItIs }
+    ensures timeouts { TimeoutsMarkAtMost }
+{}
+
+/// Losing: over every list of calls that a side gets, the losses that were told and those that wait to be told are one
+/// if it was lost, otherwise none; one that failed told of at most one.
+pub fn at_most_one_loss()
+    ensures created { CreatedSidesAreFresh }
+    ensures joined { JoinedSidesAreFresh }
+    ensures told { LossesAreToldOnce }
+{}
+
+/// Timing: over every list of calls each timer of DATA, of the handshake and of acknowledgements runs where it should,
+/// unless its retries passed their limit, and there alone (RFC 4960 sections 5.1, 6.2 and 6.3.2). A side that failed or
+/// was lost waits for no moment.
+pub fn timers_run_where_they_should()
+    ensures data { OutstandingDataIsTimed }
+    ensures no_data { NothingInFlightIsNotTimed }
+    ensures inits { SentInitsAreTimed }
+    ensures cookies { EchoedCookiesAreTimed }
+    ensures inits_alone { InitsAreTimedInCookieWaitAlone }
+    ensures cookies_alone { CookiesAreTimedInCookieEchoedAlone }
+    ensures established { NoHandshakeTimerRunsOnceEstablished }
+    ensures acknowledgements { DelayedSacksAreTimed }
+    ensures failures { FailuresStopTheTimers }
+    ensures losses { LossesStopTheTimers }
+    ensures failed { FailedSidesWaitForNothing }
+    ensures lost { LostSidesWaitForNothing }
+{}
