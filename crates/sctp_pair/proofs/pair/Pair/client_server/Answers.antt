@@ -1,6 +1,6 @@
 use Rattle.std.proofs.Common.{refl}
 use Rattle.sctp_pair.proofs.Counted.{fits_with_none}
-use Rattle.sctp_pair.proofs.NewPairs.{fits_hello}
+use Rattle.sctp_pair.proofs.NewPairs.{IsClient, IsServer, fits_hello}
 use Rattle.sctp_pair.proofs.pair.Pair.client_server.Goals as goal
 
 -- both associations stand where nothing happened, and no packet was given out
@@ -8,11 +8,26 @@ pub returns-clause-fits : goal.returns-clause-fits
 returns-clause-fits c =
     let a = c.in_ok-a.ensures in
     let b = c.in_ok-b.ensures in
-    fits_hello c.args.config_a.now c.args.config_b.now c.args.max_payload_size_a c.args.max_payload_size_b c.args.tag_a
-    c.args.tag_b c.args.tsn_a c.args.tsn_b
-    c.args.cookie_a c.args.cookie_b c.args.remote_of_a c.args.remote_of_b c.args.now
-    c.in_ok-a.a c.in_ok-b.b a.refused b.refused a.created b.created a.begins b.begins _
-    (rw (c.new-3.ensures.items, c.new-4.ensures.items) refl)
+    let of_a : IsClient c.args.max_payload_size_a c.args.tsn_a c.in_ok-a.a = record {
+      config = c.args.config_a.now;
+      tag = c.args.tag_a;
+      cookie = c.args.cookie_a;
+      remote = c.args.remote_of_a;
+      now = c.args.now;
+      unrefused = a.refused;
+      is = a.created;
+      binds = a.begins;
+    } in
+    let of_b : IsServer c.args.max_payload_size_b c.args.tsn_b c.in_ok-b.b = record {
+      config = c.args.config_b.now;
+      tag = c.args.tag_b;
+      cookie = c.args.cookie_b;
+      remote = c.args.remote_of_b;
+      unrefused = b.refused;
+      is = b.created;
+      binds = b.begins;
+    } in
+    fits_hello of_a of_b _ (rw (c.new-3.ensures.items, c.new-4.ensures.items) refl)
 
 pub returns-clause-counted : goal.returns-clause-counted
 returns-clause-counted c =

@@ -1,6 +1,6 @@
 use Rattle.std.proofs.Common.{refl}
 use Rattle.sctp_pair.proofs.Counted.{fits_with_none}
-use Rattle.sctp_pair.proofs.NewPairs.{fits_start}
+use Rattle.sctp_pair.proofs.NewPairs.{IsJoined, fits_start}
 use Rattle.sctp_pair.proofs.pair.Pair.snap.Goals as goal
 
 -- both associations stand where nothing happened, and no packet was given out
@@ -8,10 +8,21 @@ pub returns-clause-fits : goal.returns-clause-fits
 returns-clause-fits c =
     let a = c.in_ok-a.ensures in
     let b = c.in_ok-b.ensures in
-    fits_start c.args.config_a.now c.args.config_b.now c.args.max_payload_size_a c.args.max_payload_size_b
-    c.args.remote_of_a c.args.remote_of_b c.args.token_a.now c.args.token_b.now
-    c.in_ok-a.a c.in_ok-b.b a.refused b.refused a.joined b.joined a.begins b.begins _
-    (rw (c.new.ensures.items, c.new-2.ensures.items) refl)
+    let of_a : IsJoined c.args.max_payload_size_a c.args.token_a.now c.args.token_b.now c.in_ok-a.a = record {
+      config = c.args.config_a.now;
+      remote = c.args.remote_of_a;
+      unrefused = a.refused;
+      is = a.joined;
+      binds = a.begins;
+    } in
+    let of_b : IsJoined c.args.max_payload_size_b c.args.token_b.now c.args.token_a.now c.in_ok-b.b = record {
+      config = c.args.config_b.now;
+      remote = c.args.remote_of_b;
+      unrefused = b.refused;
+      is = b.joined;
+      binds = b.begins;
+    } in
+    fits_start of_a of_b _ (rw (c.new.ensures.items, c.new-2.ensures.items) refl)
 
 pub returns-clause-counted : goal.returns-clause-counted
 returns-clause-counted c =
