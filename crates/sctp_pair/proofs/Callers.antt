@@ -48,10 +48,10 @@ abbrev initial_of : Side2 → World → ℕ
 initial_of sides.A w = w.initial_a
 initial_of sides.B w = w.initial_b
 
-step_from : (x : Side2) (a : Step) (r : Reply) (w v : World) → IsWorldStep a w r v
+step_from : {a : Step} {r : Reply} {w v : World} (x : Side2) → IsWorldStep a w r v
     → IsDirectionStep a r x (other_side x) w v.ends (initial_of x w) (from x w) (from x v)
-step_from sides.A a r w v h = h.ab_step
-step_from sides.B a r w v h = h.ba_step
+step_from sides.A h = h.ab_step
+step_from sides.B h = h.ba_step
 
 told_read_if : (c : Bool) (m : Option letters.ReceivedMessage)
     → bytes_of (if c then m else None) ≡ (if c then bytes_of m else [])
@@ -124,47 +124,61 @@ grew_nothing x d = record {
   span = λ s o. o;
 }
 
-wrote_one : (a : Step) (r : Reply) (x : Side2) (w v : World) → IsWorldStep a w r v → (s : ℕ)
-    → bytes_accepted ((from x v).sender.plan.accepted s) ≡ bytes_accepted ((from x w).sender.plan.accepted s)
-    ++ bytes_written a r x s
-wrote_one a r x w v h s =
-    ap bytes_accepted ((step_from x a r w v h).accepted s)
-    ∙ map-append (λ (m : Message). m.bytes) ((from x w).sender.plan.accepted s) (accepted_at a r x s w)
-    ∙ ap (λ z. bytes_accepted ((from x w).sender.plan.accepted s) ++ z) (told_written a r x s w v.ends h.ends_step)
+not_brought : (a : Step) (r : Reply) (y : Side2) (w : World) → delivers_to y a r ≡ false → packet_brought a r y w ≡ None
+not_brought (steps.Deliver side number now) replies.Done y w e = rw e refl
+not_brought a r y w e = refl
 
-read_one : (a : Step) (r : Reply) (x : Side2) (w v : World) → IsWorldStep a w r v → (s : ℕ)
-    → bytes_got ((from x v).reads s) ≡ bytes_got ((from x w).reads s) ++ bytes_read a r (other_side x) s
-read_one a r x w v h s =
-    read_grows (message_read a r (other_side x) s) ((from x w).reads s) ((from x v).reads s)
-    ((step_from x a r w v h).read s)
-    ∙ ap (λ z. bytes_got ((from x w).reads s) ++ z) (told_read a r (other_side x) s)
+-- One step of the world, seen in the direction of which side x is the sender.
+module _ (x : Side2) {a : Step} {r : Reply} {w v : World} (h : IsWorldStep a w r v) where
+  wrote_one : (s : ℕ)
+      → bytes_accepted ((from x v).sender.plan.accepted s) ≡ bytes_accepted ((from x w).sender.plan.accepted s)
+      ++ bytes_written a r x s
+  wrote_one s =
+      ap bytes_accepted ((step_from x h).accepted s)
+      ∙ map-append (λ (m : Message). m.bytes) ((from x w).sender.plan.accepted s) (accepted_at a r x s w)
+      ∙ ap (λ z. bytes_accepted ((from x w).sender.plan.accepted s) ++ z) (told_written a r x s w v.ends h.ends_step)
 
--- no step ends a stream's span so far
-span_one : (a : Step) (r : Reply) (x : Side2) (w v : World) → IsWorldStep a w r v → (s : ℕ) → (from x w).over s ≡ false
-    → (from x v).over s ≡ false
-span_one a r x w v h s still =
-    ⊎_elim
-    (λ (over : (from x v).over s ≡ true). ⊎_elim
-    (λ (before : (from x w).over s ≡ true). absurd (true≢false (sym before ∙ still)))
-    (λ (ends : EndsSpan a r s). absurd ends)
-    ((step_from x a r w v h).span s over))
-    (λ (within : (from x v).over s ≡ false). within)
-    (cases_Bool ((from x v).over s))
+  read_one : (s : ℕ)
+      → bytes_got ((from x v).reads s) ≡ bytes_got ((from x w).reads s) ++ bytes_read a r (other_side x) s
+  read_one s =
+      read_grows (message_read a r (other_side x) s) ((from x w).reads s) ((from x v).reads s)
+      ((step_from x h).read s)
+      ∙ ap (λ z. bytes_got ((from x w).reads s) ++ z) (told_read a r (other_side x) s)
 
-grew_on : (a : Step) (r : Reply) (ss : List Step) (rs : List Reply) (x : Side2) (w v : World) (after : Direction)
-    → IsWorldStep a w r v
-    → Grew ss rs x (from x v) after → Grew (a ∷ ss) (r ∷ rs) x (from x w) after
-grew_on a r ss rs x w v after h more = record {
-  written = λ s. more.written s ∙ ap (λ z. z ++ written_in ss rs x s) (wrote_one a r x w v h s)
-      ∙ append_assoc (bytes_accepted ((from x w).sender.plan.accepted s)) (bytes_written a r x s)
-      (written_in ss rs x s);
-  read = λ s. more.read s ∙ ap (λ z. z ++ read_in ss rs (other_side x) s) (read_one a r x w v h s)
-      ∙ append_assoc (bytes_got ((from x w).reads s)) (bytes_read a r (other_side x) s)
-      (read_in ss rs (other_side x) s);
-  kept = λ s k. more.kept s (subst (AllByRecursion IsKept) (sym ((step_from x a r w v h).accepted s))
-      (all_join IsKept ((from x w).sender.plan.accepted s) (accepted_at a r x s w) k (accepted_kept a r x s w)));
-  span = λ s o. more.span s (span_one a r x w v h s o);
-}
+  -- no step ends a stream's span so far
+  span_one : (s : ℕ) → (from x w).over s ≡ false → (from x v).over s ≡ false
+  span_one s still =
+      ⊎_elim
+      (λ (over : (from x v).over s ≡ true). ⊎_elim
+      (λ (before : (from x w).over s ≡ true). absurd (true≢false (sym before ∙ still)))
+      (λ (ends : EndsSpan a r s). absurd ends)
+      ((step_from x h).span s over))
+      (λ (within : (from x v).over s ≡ false). within)
+      (cases_Bool ((from x v).over s))
+
+  grew_on : {ss : List Step} {rs : List Reply} {after : Direction} → Grew ss rs x (from x v) after
+      → Grew (a ∷ ss) (r ∷ rs) x (from x w) after
+  grew_on {ss} {rs} more = record {
+    written = λ s. more.written s ∙ ap (λ z. z ++ written_in ss rs x s) (wrote_one s)
+        ∙ append_assoc (bytes_accepted ((from x w).sender.plan.accepted s)) (bytes_written a r x s)
+        (written_in ss rs x s);
+    read = λ s. more.read s ∙ ap (λ z. z ++ read_in ss rs (other_side x) s) (read_one s)
+        ∙ append_assoc (bytes_got ((from x w).reads s)) (bytes_read a r (other_side x) s)
+        (read_in ss rs (other_side x) s);
+    kept = λ s k. more.kept s (subst (AllByRecursion IsKept) (sym ((step_from x h).accepted s))
+        (all_join IsKept ((from x w).sender.plan.accepted s) (accepted_at a r x s w) k (accepted_kept a r x s w)));
+    span = λ s o. more.span s (span_one s o);
+  }
+
+  -- where nothing is delivered to the receiver, it takes nothing in
+  untaken_on : delivers_to (other_side x) a r ≡ false
+      → ((o : ℕ) → mem o (from x w).receiver.taken ≡ true → ⊥) → (o : ℕ) → mem o (from x v).receiver.taken ≡ true → ⊥
+  untaken_on none before o m =
+      ⊎_elim
+      (λ (old : mem o (from x w).receiver.taken ≡ true). before o old)
+      (λ (b : HasData (packet_brought a r (other_side x) w) (tsn (initial_of x w) o)).
+      subst (λ (z : Option Packet). HasData z (tsn (initial_of x w) o)) (not_brought a r (other_side x) w none) b)
+      ((step_from x h).taken o m)
 
 -- Rows of steps
 
@@ -181,29 +195,24 @@ abbrev FewFrom : ℕ → ℕ → World → List Step → List Reply → Type 0
 FewFrom n m w ss rs =
     AreFew (n + accepted_in w.ab.sender.plan.size sides.A ss rs) (m + accepted_in w.ba.sender.plan.size sides.B ss rs)
 
-few_first : (a : Step) (r : Reply) (ss : List Step) (rs : List Reply) (w : World) (n m : ℕ)
+-- Where few pieces are accepted from here on, few are by the first step, and few from where it leads; payload sizes
+-- stay.
+few_on : (a : Step) (r : Reply) (ss : List Step) (rs : List Reply) (w : World) (n m : ℕ)
     → FewFrom n m w (a ∷ ss) (r ∷ rs)
     → AreFew (n + pieces_a w a r) (m + pieces_b w a r)
-few_first a r ss rs w n m few =
-    let k : ℕ = pieces_a w a r in
-    let l : ℕ = pieces_b w a r in
-    let f : n + (k + accepted_in w.ab.sender.plan.size sides.A ss rs) < 16384 = few.0 in
-    let g : m + (l + accepted_in w.ba.sender.plan.size sides.B ss rs) < 16384 = few.1 in
-    (omega arith, omega arith)
-
--- payload sizes stay
-few_rest : (a : Step) (r : Reply) (ss : List Step) (rs : List Reply) (w v : World) (n m : ℕ) → IsWorldStep a w r v
-    → FewFrom n m w (a ∷ ss) (r ∷ rs)
-    → FewFrom (n + pieces_a w a r) (m + pieces_b w a r) v ss rs
-few_rest a r ss rs w v n m h few =
+    × ((v : World) → IsWorldStep a w r v → FewFrom (n + pieces_a w a r) (m + pieces_b w a r) v ss rs)
+few_on a r ss rs w n m few =
     let k : ℕ = pieces_a w a r in
     let l : ℕ = pieces_b w a r in
     let f : n + (k + accepted_in w.ab.sender.plan.size sides.A ss rs) < 16384 = few.0 in
     let g : m + (l + accepted_in w.ba.sender.plan.size sides.B ss rs) < 16384 = few.1 in
     let x : (n + k) + accepted_in w.ab.sender.plan.size sides.A ss rs < 16384 = omega arith in
     let y : (m + l) + accepted_in w.ba.sender.plan.size sides.B ss rs < 16384 = omega arith in (
-      subst (λ (z : ℕ). (n + k) + accepted_in z sides.A ss rs < 16384) (sym h.ab_step.size) x,
-      subst (λ (z : ℕ). (m + l) + accepted_in z sides.B ss rs < 16384) (sym h.ba_step.size) y,
+      (omega arith, omega arith),
+      λ v h. (
+        subst (λ (z : ℕ). (n + k) + accepted_in z sides.A ss rs < 16384) (sym h.ab_step.size) x,
+        subst (λ (z : ℕ). (m + l) + accepted_in z sides.B ss rs < 16384) (sym h.ba_step.size) y,
+      ),
     )
 
 reached : (ss : List Step) (rs : List Reply) (w : World) (n m : ℕ) (q : Ends) → RunsCounted ss rs w n m q
@@ -212,29 +221,29 @@ reached [] [] w n m q h few = record { last = w; of_a = n; of_b = m; fits = h; g
 reached (a ∷ ss) (r ∷ rs) w n m q (v, step, next) few =
     let k : ℕ = pieces_a w a r in
     let l : ℕ = pieces_b w a r in
-    let rest =
-    reached ss rs v (n + k) (m + l) q (next (few_first a r ss rs w n m few)).2 (few_rest a r ss rs w v n m step few) in
+    let on = few_on a r ss rs w n m few in
+    let rest = reached ss rs v (n + k) (m + l) q (next on.0).2 (on.1 v step) in
     record {
       last = rest.last;
       of_a = rest.of_a;
       of_b = rest.of_b;
       fits = rest.fits;
-      grew = λ x. grew_on a r ss rs x w v (from x rest.last) step (rest.grew x);
+      grew = λ x. grew_on x step (rest.grew x);
     }
 reached [] (r ∷ rs) w n m q h few = absurd h
 reached (a ∷ ss) [] w n m q h few = absurd h
 
 -- in a world that a pair fits each stream within its span is safe, and no message is empty
-safe_from : (x : Side2) (s n m : ℕ) (p : Ends) (w : World) → FitsCounted n m p w → (from x w).over s ≡ false
+safe_from : {n m : ℕ} {p : Ends} {w : World} (x : Side2) (s : ℕ) → FitsCounted n m p w → (from x w).over s ≡ false
     → IsSafe (from x w) s
-safe_from sides.A s n m p w f span = (safe_world p w f.fits).ab_safe.safe s span
-safe_from sides.B s n m p w f span = (safe_world p w f.fits).ba_safe.safe s span
+safe_from {n} {m} {p} {w} sides.A s f span = (safe_world p w f.fits).ab_safe.safe s span
+safe_from {n} {m} {p} {w} sides.B s f span = (safe_world p w f.fits).ba_safe.safe s span
 
-filled_from : (x : Side2) (s n m : ℕ) (p : Ends) (w : World) → FitsCounted n m p w
+filled_from : {n m : ℕ} {p : Ends} {w : World} (x : Side2) (s : ℕ) → FitsCounted n m p w
     → (i : ℕ) → i < length ((from x w).sender.plan.accepted s)
     → 0 < length (message_at (from x w).sender.plan s i).bytes
-filled_from sides.A s n m p w f i b = f.fits.stand.sound_ab.invariant.planned.filled s i b
-filled_from sides.B s n m p w f i b = f.fits.stand.sound_ba.invariant.planned.filled s i b
+filled_from sides.A s f i b = f.fits.stand.sound_ab.invariant.planned.filled s i b
+filled_from sides.B s f i b = f.fits.stand.sound_ba.invariant.planned.filled s i b
 
 -- At first nothing was accepted, read or taken in, and no stream's span is over.
 record IsFresh (d : Direction) : Type 0 where
@@ -262,90 +271,83 @@ front_along ss rs x s before after first grew safe =
     grew.read s ∙ ap (λ gs. bytes_got gs ++ read_in ss rs (other_side x) s) (first.unread s) in
     (front.0, sym wrote ∙ front.1 ∙ ap (λ z. z ++ front.0) read)
 
--- What was read is a front of what was written.
-fronts : (size_a size_b : ℕ) (ss : List Step) (rs : List Reply) (p : Ends) → CameBy size_a size_b ss rs p
-    → AcceptFew size_a size_b ss rs → ReadsAreFronts ss rs
-fronts size_a size_b ss rs p c few x s =
-    let w : World = empty_world c.begin c.new.initial_a c.new.initial_b size_a size_b in
-    let h = runs_lead_counted ss rs c.begin p c.led 0 0 w c.new.fits in
-    let r = reached ss rs w 0 0 p h (let f = few.0 in omega arith, let f = few.1 in omega arith) in
-    front_along ss rs x s (from x w) (from x r.last)
-    (fresh_from x c.begin c.new.initial_a c.new.initial_b size_a size_b) (r.grew x)
-    (safe_from x s r.of_a r.of_b p r.last r.fits)
-
 -- Before the first delivery
-
-not_brought : (a : Step) (r : Reply) (y : Side2) (w : World) → delivers_to y a r ≡ false → packet_brought a r y w ≡ None
-not_brought (steps.Deliver side number now) replies.Done y w e = rw e refl
-not_brought a r y w e = refl
 
 nothing_behind : (xs ys : List (List ℕ)) → [] ≡ xs ++ ys → ys ≡ []
 nothing_behind [] ys e = sym e
 nothing_behind (x ∷ xs) ys e = absurd (cc)
 
-untaken_on : (a : Step) (r : Reply) (x : Side2) (w v : World) → IsWorldStep a w r v
-    → delivers_to (other_side x) a r ≡ false
-    → ((o : ℕ) → mem o (from x w).receiver.taken ≡ true → ⊥) → (o : ℕ) → mem o (from x v).receiver.taken ≡ true → ⊥
-untaken_on a r x w v h none before o m =
-    ⊎_elim
-    (λ (old : mem o (from x w).receiver.taken ≡ true). before o old)
-    (λ (b : HasData (packet_brought a r (other_side x) w) (tsn (initial_of x w) o)).
-    subst (λ (z : Option Packet). HasData z (tsn (initial_of x w) o)) (not_brought a r (other_side x) w none) b)
-    ((step_from x a r w v h).taken o m)
-
-bare : (ss : List Step) (rs : List Reply) (x : Side2) (s : ℕ) (w : World) (n m : ℕ) (q : Ends)
-    → RunsCounted ss rs w n m q
-    → FewFrom n m w ss rs → ((o : ℕ) → mem o (from x w).receiver.taken ≡ true → ⊥) → (from x w).over s ≡ false
-    → read_undelivered ss rs (other_side x) s ≡ []
-bare [] [] x s w n m q h few none span = refl
-bare (a ∷ ss) (r ∷ rs) x s w n m q (v, step, next) few none span =
-    let k : ℕ = pieces_a w a r in
-    let l : ℕ = pieces_b w a r in
-    let after = next (few_first a r ss rs w n m few) in
-    ⊎_elim
-    (λ (b : delivers_to (other_side x) a r ≡ true). rw b refl)
-    (λ (b : delivers_to (other_side x) a r ≡ false).
-    let still = untaken_on a r x w v step b none in
-    let within = span_one a r x w v step s span in
-    let unread =
-    nothing_read_of_none (from x v) s (safe_from x s (n + k) (m + l) v.ends v after.1 within) still
-    (filled_from x s (n + k) (m + l) v.ends v after.1) in
-    let this : bytes_read a r (other_side x) s ≡ [] =
-    nothing_behind (bytes_got ((from x w).reads s)) (bytes_read a r (other_side x) s)
-    (sym (ap bytes_got unread) ∙ read_one a r x w v step s) in
-    rw (b, this) (bare ss rs x s v (n + k) (m + l) q after.2 (few_rest a r ss rs w v n m step few) still within))
-    (cases_Bool (delivers_to (other_side x) a r))
-bare [] (r ∷ rs) x s w n m q h few none span = absurd h
-bare (a ∷ ss) [] x s w n m q h few none span = absurd h
+module _ (x : Side2) (s : ℕ) (q : Ends) where
+  -- where nothing was taken in, nothing is read until a packet was handed over
+  bare : (ss : List Step) (rs : List Reply) (w : World) (n m : ℕ) → RunsCounted ss rs w n m q → FewFrom n m w ss rs
+      → ((o : ℕ) → mem o (from x w).receiver.taken ≡ true → ⊥) → (from x w).over s ≡ false
+      → read_undelivered ss rs (other_side x) s ≡ []
+  bare [] [] w n m h few none span = refl
+  bare (a ∷ ss) (r ∷ rs) w n m (v, step, next) few none span =
+      let k : ℕ = pieces_a w a r in
+      let l : ℕ = pieces_b w a r in
+      let on = few_on a r ss rs w n m few in
+      let after = next on.0 in
+      ⊎_elim
+      (λ (b : delivers_to (other_side x) a r ≡ true). rw b refl)
+      (λ (b : delivers_to (other_side x) a r ≡ false).
+      let still = untaken_on x step b none in
+      let within = span_one x step s span in
+      let unread =
+      nothing_read_of_none (from x v) s (safe_from x s after.1 within) still (filled_from x s after.1) in
+      let this : bytes_read a r (other_side x) s ≡ [] =
+      nothing_behind (bytes_got ((from x w).reads s)) (bytes_read a r (other_side x) s)
+      (sym (ap bytes_got unread) ∙ read_one x step s) in
+      rw (b, this) (bare ss rs v (n + k) (m + l) after.2 (on.1 v step) still within))
+      (cases_Bool (delivers_to (other_side x) a r))
+  bare [] (r ∷ rs) w n m h few none span = absurd h
+  bare (a ∷ ss) [] w n m h few none span = absurd h
 
 turned_back : (x : Side2) → other_side (other_side x) ≡ x
 turned_back sides.A = refl
 turned_back sides.B = refl
 
--- Until a packet was handed to a side nothing is read there.
-unbrought : (size_a size_b : ℕ) (ss : List Step) (rs : List Reply) (p : Ends) → CameBy size_a size_b ss rs p
-    → AcceptFew size_a size_b ss rs → NothingIsReadBeforeADelivery ss rs
-unbrought size_a size_b ss rs p c few x s =
-    let w : World = empty_world c.begin c.new.initial_a c.new.initial_b size_a size_b in
-    let h = runs_lead_counted ss rs c.begin p c.led 0 0 w c.new.fits in
-    let first = fresh_from (other_side x) c.begin c.new.initial_a c.new.initial_b size_a size_b in
-    subst (λ y. read_undelivered ss rs y s ≡ []) (turned_back x)
-    (bare ss rs (other_side x) s w 0 0 p h (let f = few.0 in omega arith, let f = few.1 in omega arith) first.untaken
-    (first.within s))
-
 -- All steps so far
 
--- steps that lead on from a pair follow those that led to it
-pub comes_on : (more : List Step) (answers : List Reply) (p q : Ends) → Runs more answers p q → ComesOn more answers p q
-comes_on more answers p q led size_a size_b ss rs c =
-    record { begin = c.begin; new = c.new; led = runs_join ss rs c.begin p q more answers c.led led }
+-- the world of a new pair from which these steps led
+abbrev begun : {size_a size_b : ℕ} {ss : List Step} {rs : List Reply} {p : Ends} → CameBy size_a size_b ss rs p → World
+begun {size_a} {size_b} c = empty_world c.begin c.new.initial_a c.new.initial_b size_a size_b
 
-pub fronts_on : (more : List Step) (answers : List Reply) (p q : Ends) → Runs more answers p q
-    → HoldsOn ReadsAreFronts more answers p
-fronts_on more answers p q led size_a size_b ss rs c few =
-    fronts size_a size_b (ss ++ more) (rs ++ answers) q (comes_on more answers p q led size_a size_b ss rs c) few
+begun_fresh : {size_a size_b : ℕ} {ss : List Step} {rs : List Reply} {p : Ends} (c : CameBy size_a size_b ss rs p)
+    (x : Side2) → IsFresh (from x (begun c))
+begun_fresh {size_a} {size_b} c x = fresh_from x c.begin c.new.initial_a c.new.initial_b size_a size_b
 
-pub unbrought_on : (more : List Step) (answers : List Reply) (p q : Ends) → Runs more answers p q
-    → HoldsOn NothingIsReadBeforeADelivery more answers p
-unbrought_on more answers p q led size_a size_b ss rs c few =
-    unbrought size_a size_b (ss ++ more) (rs ++ answers) q (comes_on more answers p q led size_a size_b ss rs c) few
+-- These steps led from a new pair, and few pieces were accepted in them.
+module _ {size_a size_b : ℕ} {ss : List Step} {rs : List Reply} {p : Ends} (c : CameBy size_a size_b ss rs p)
+    (few : AcceptFew size_a size_b ss rs) where
+  counted : RunsCounted ss rs (begun c) 0 0 p × FewFrom 0 0 (begun c) ss rs
+  counted = (
+    runs_lead_counted ss rs c.begin p c.led 0 0 (begun c) c.new.fits,
+    (let f = few.0 in omega arith, let f = few.1 in omega arith),
+  )
+
+  -- What was read is a front of what was written.
+  fronts : ReadsAreFronts ss rs
+  fronts x s =
+      let r = reached ss rs (begun c) 0 0 p counted.0 counted.1 in
+      front_along ss rs x s (from x (begun c)) (from x r.last) (begun_fresh c x) (r.grew x) (safe_from x s r.fits)
+
+  -- Until a packet was handed to a side nothing is read there.
+  unbrought : NothingIsReadBeforeADelivery ss rs
+  unbrought x s =
+      let first = begun_fresh c (other_side x) in
+      subst (λ y. read_undelivered ss rs y s ≡ []) (turned_back x)
+      (bare (other_side x) s p ss rs (begun c) 0 0 counted.0 counted.1 first.untaken (first.within s))
+
+-- These steps lead on from p to q.
+module _ (more : List Step) (answers : List Reply) (p q : Ends) (led : Runs more answers p q) where
+  -- they follow those that led to p
+  pub comes_on : ComesOn more answers p q
+  comes_on size_a size_b ss rs c =
+      record { begin = c.begin; new = c.new; led = runs_join ss rs c.begin p q more answers c.led led }
+
+  pub fronts_on : HoldsOn ReadsAreFronts more answers p
+  fronts_on size_a size_b ss rs c few = fronts (comes_on size_a size_b ss rs c) few
+
+  pub unbrought_on : HoldsOn NothingIsReadBeforeADelivery more answers p
+  unbrought_on size_a size_b ss rs c few = unbrought (comes_on size_a size_b ss rs c) few

@@ -27,13 +27,17 @@ use Rattle.sctp_pair.proofs.StepsLead.{step_leads}
 
 -- What a step accepts is counted
 
+-- On each stream these messages were accepted behind those before, and the payload size stays.
+record Accepts (more : ℕ → List Message) (before after : Direction) : Type 0 where
+  size : after.sender.plan.size ≡ before.sender.plan.size
+  accepted : (s : ℕ) → after.sender.plan.accepted s ≡ before.sender.plan.accepted s ++ more s
+
 -- nothing more was accepted
-none_counted : (n : ℕ) (before after : Direction) → after.sender.plan.size ≡ before.sender.plan.size
-    → ((s : ℕ) → after.sender.plan.accepted s ≡ before.sender.plan.accepted s ++ []) → HasAccepted n before
+none_counted : {n : ℕ} {before after : Direction} → Accepts (λ s. []) before after → HasAccepted n before
     → HasAccepted (n + 0) after
-none_counted n before after size same a =
-    let stays = λ (s : ℕ). same s ∙ append-nil (before.sender.plan.accepted s) in
-    accepted_messages_are_counted n 0 0 before after size (λ s ne. stays s)
+none_counted {n} {before} {after} c a =
+    let stays = λ (s : ℕ). c.accepted s ∙ append-nil (before.sender.plan.accepted s) in
+    accepted_messages_are_counted n 0 0 before after c.size (λ s ne. stays s)
     (let e = ap (λ (ms : List Message). all_pieces before.sender.plan.size ms) (stays 0) in omega (arith, e)) a
 
 one_message : (size : ℕ) (o : Option StreamView) (bytes : List ℕ)
@@ -43,83 +47,39 @@ one_message size (Some t) bytes =
     let e = sum_by-cons (λ (m : Message). pieces_in size (length m.bytes)) (message_on t bytes) [] in omega (arith, e)
 
 -- on one stream these messages were accepted, which have at most so many pieces
-some_counted : (here : Bool) (n id more : ℕ) (ms : List Message) (before after : Direction)
-    → after.sender.plan.size ≡ before.sender.plan.size
-    → ((s : ℕ) → after.sender.plan.accepted s ≡ before.sender.plan.accepted s ++ (if here && eqb id s then ms else []))
+some_counted : (here : Bool) (id more : ℕ) (ms : List Message) {n : ℕ} {before after : Direction}
+    → Accepts (λ s. if here && eqb id s then ms else []) before after
     → all_pieces before.sender.plan.size ms ≤ more → HasAccepted n before
     → HasAccepted (n + (if here then more else 0)) after
-some_counted false n id more ms before after size same most a = none_counted n before after size same a
-some_counted true n id more ms before after size same most a =
-    accepted_messages_are_counted n more id before after size
-    (λ s ne. same s ∙ ap (λ (c : Bool). before.sender.plan.accepted s ++ (if c then ms else []))
+some_counted false id more ms c most a = none_counted c a
+some_counted true id more ms {n} {before} {after} c most a =
+    accepted_messages_are_counted n more id before after c.size
+    (λ s ne. c.accepted s ∙ ap (λ (z : Bool). before.sender.plan.accepted s ++ (if z then ms else []))
     (ne_eqb id s (λ (q : id ≡ s). ne (sym q))) ∙ append-nil (before.sender.plan.accepted s))
     grown a
   where
     grown : all_pieces before.sender.plan.size (after.sender.plan.accepted id)
         ≤ all_pieces before.sender.plan.size (before.sender.plan.accepted id) + more
     grown =
-        let e = ap (λ (xs : List Message). all_pieces before.sender.plan.size xs) (same id) in
+        let e = ap (λ (xs : List Message). all_pieces before.sender.plan.size xs) (c.accepted id) in
         let f =
         sum_by-append (λ (m : Message). pieces_in before.sender.plan.size (length m.bytes))
         (before.sender.plan.accepted id) (if eqb id id then ms else []) in
         let g = at_most (eqb id id) in
         omega (arith, e, f, g)
       where
-        at_most : (c : Bool) → all_pieces before.sender.plan.size (if c then ms else []) ≤ more
+        at_most : (z : Bool) → all_pieces before.sender.plan.size (if z then ms else []) ≤ more
         at_most true = most
         at_most false = omega arith
 
-write_counted : (x side : Side2) (id n : ℕ) (bytes : List ℕ) (r : Reply) (w : World) (before after : Direction)
-    → after.sender.plan.size ≡ before.sender.plan.size
-    → ((s : ℕ)
-    → after.sender.plan.accepted s ≡ before.sender.plan.accepted s ++ accepted_at (steps.Write side id bytes) r x s w)
-    → HasAccepted n before
-    → HasAccepted (n + pieces_of before.sender.plan.size x (steps.Write side id bytes) r) after
-write_counted x side id n bytes (replies.Wrote count) w before after size same a =
-    let ms : List Message = messages_on (stream_at (end_of x w.ends).streams id) bytes in
-    some_counted (is_side side x) n id (pieces_in before.sender.plan.size (length bytes)) ms before after size same
-    (one_message before.sender.plan.size (stream_at (end_of x w.ends).streams id) bytes) a
-write_counted x side id n bytes replies.Done w before after size same a = none_counted n before after size same a
-write_counted x side id n bytes (replies.Read m) w before after size same a = none_counted n before after size same a
-write_counted x side id n bytes (replies.BufferedAmount k) w before after size same a =
-    none_counted n before after size same a
-write_counted x side id n bytes (replies.Event event) w before after size same a =
-    none_counted n before after size same a
-write_counted x side id n bytes (replies.Timeout moment) w before after size same a =
-    none_counted n before after size same a
-write_counted x side id n bytes (replies.Sent first count) w before after size same a =
-    none_counted n before after size same a
-write_counted x side id n bytes replies.NothingSent w before after size same a = none_counted n before after size same a
-write_counted x side id n bytes (replies.State answer) w before after size same a =
-    none_counted n before after size same a
-write_counted x side id n bytes (replies.Rtt duration) w before after size same a =
-    none_counted n before after size same a
-write_counted x side id n bytes (replies.Refused k) w before after size same a = none_counted n before after size same a
-write_counted x side id n bytes replies.NoSuchPacket w before after size same a =
-    none_counted n before after size same a
-
-step_counted : (x : Side2) (step : Step) (n : ℕ) (r : Reply) (w : World) (before after : Direction)
-    → after.sender.plan.size ≡ before.sender.plan.size
-    → ((s : ℕ) → after.sender.plan.accepted s ≡ before.sender.plan.accepted s ++ accepted_at step r x s w)
-    → HasAccepted n before
+step_counted : (x : Side2) (step : Step) (r : Reply) (w : World) {n : ℕ} {before after : Direction}
+    → Accepts (λ s. accepted_at step r x s w) before after → HasAccepted n before
     → HasAccepted (n + pieces_of before.sender.plan.size x step r) after
-step_counted x (steps.Write side id bytes) n r w before after size same a =
-    write_counted x side id n bytes r w before after size same a
-step_counted x (steps.OpenStream side id kind) n r w before after size same a = none_counted n before after size same a
-step_counted x (steps.Stream side id) n r w before after size same a = none_counted n before after size same a
-step_counted x (steps.Read side id) n r w before after size same a = none_counted n before after size same a
-step_counted x (steps.BufferedAmount side id) n r w before after size same a = none_counted n before after size same a
-step_counted x (steps.Poll side) n r w before after size same a = none_counted n before after size same a
-step_counted x (steps.PollTimeout side) n r w before after size same a = none_counted n before after size same a
-step_counted x (steps.PollTransmit side now) n r w before after size same a = none_counted n before after size same a
-step_counted x (steps.HandleTimeout side now) n r w before after size same a = none_counted n before after size same a
-step_counted x (steps.Deliver side number now) n r w before after size same a = none_counted n before after size same a
-step_counted x (steps.IsHandshaking side) n r w before after size same a = none_counted n before after size same a
-step_counted x (steps.IsClosed side) n r w before after size same a = none_counted n before after size same a
-step_counted x (steps.IsClosing side) n r w before after size same a = none_counted n before after size same a
-step_counted x (steps.IsDrained side) n r w before after size same a = none_counted n before after size same a
-step_counted x (steps.IsFailed side) n r w before after size same a = none_counted n before after size same a
-step_counted x (steps.Rtt side) n r w before after size same a = none_counted n before after size same a
+step_counted x (steps.Write side id bytes) (replies.Wrote count) w {n} {before} c a =
+    let o : Option StreamView = stream_at (end_of x w.ends).streams id in
+    some_counted (is_side side x) id (pieces_in before.sender.plan.size (length bytes)) (messages_on o bytes) c
+    (one_message before.sender.plan.size o bytes) a
+step_counted x step r w c a = none_counted c a
 
 -- A step leads to a world that is safe where few pieces were accepted.
 pub step_leads_counted : (step : Step) (p q : Ends) (r : Reply) → Steps step p r q → (n m : ℕ) (w : World)
@@ -127,8 +87,12 @@ pub step_leads_counted : (step : Step) (p q : Ends) (r : Reply) → Steps step p
 step_leads_counted step p q r h n m w f =
     let x = step_leads step p q r h w f.fits in
     let v : World = x.0 in
-    let a = step_counted sides.A step n r w w.ab v.ab x.1.ab_step.size x.1.ab_step.accepted f.of_a in
-    let b = step_counted sides.B step m r w w.ba v.ba x.1.ba_step.size x.1.ba_step.accepted f.of_b in (
+    let of_a : Accepts (λ s. accepted_at step r sides.A s w) w.ab v.ab =
+    record { size = x.1.ab_step.size; accepted = x.1.ab_step.accepted } in
+    let of_b : Accepts (λ s. accepted_at step r sides.B s w) w.ba v.ba =
+    record { size = x.1.ba_step.size; accepted = x.1.ba_step.accepted } in
+    let a = step_counted sides.A step r w of_a f.of_a in
+    let b = step_counted sides.B step r w of_b f.of_b in (
       v,
       x.1,
       λ few.

@@ -36,27 +36,23 @@ receives_or_stopped own peer a out coming h =
     h
 
 -- Where the sender and the receiver of a direction stand in it, and it is within the limits, the promise of it holds.
-pub promised : (own peer : ℕ) (sender receiver : Shown) (w back : Direction) → Stands own peer sender w back
-    → Stands peer own receiver back w
-    → IsWithin w → IsSound w → IsPromised sender receiver w
-promised own peer sender receiver w back giving taking within sound = record {
-  safe = λ s span. the_invariant_is_enough w within sound.invariant s span;
-  opens = λ o. (stands_open peer own receiver back w o taking).between.incoming.is_open;
-  ready_is = λ o s span.
-      let h = stands_open peer own receiver back w o taking in
-      ready_messages_are_alike receiver h.past s w within sound.invariant sound.plain h.between.incoming;
-  released_is = λ o s n span e.
-      let h = stands_open own peer sender w back o giving in
-      what_is_released_is_not_buffered sender h.past s n w e h.between.outgoing;
-}
+module _ {own peer : ℕ} {sender receiver : Shown} {w back : Direction} (giving : Stands own peer sender w back)
+    (taking : Stands peer own receiver back w) (within : IsWithin w) (sound : IsSound w) where
+  promised : IsPromised sender receiver w
+  promised = record {
+    safe = λ s span. the_invariant_is_enough w within sound.invariant s span;
+    opens = λ o. (stands_open peer own receiver back w o taking).between.incoming.is_open;
+    ready_is = λ o s span.
+        let h = stands_open peer own receiver back w o taking in
+        ready_messages_are_alike receiver h.past s w within sound.invariant sound.plain h.between.incoming;
+    released_is = λ o s n span e.
+        let h = stands_open own peer sender w back o giving in
+        what_is_released_is_not_buffered sender h.past s n w e h.between.outgoing;
+  }
 
 -- A world in which a pair stands is safe.
 pub safe_world : (p : Ends) (w : World) → Fits p w → IsSafeWorld w
 safe_world p w f = record {
-  ab_safe =
-      promised w.initial_a w.initial_b w.ends.a w.ends.b w.ab w.ba f.stand.side_a f.stand.side_b f.within.0
-      f.stand.sound_ab;
-  ba_safe =
-      promised w.initial_b w.initial_a w.ends.b w.ends.a w.ba w.ab f.stand.side_b f.stand.side_a f.within.1
-      f.stand.sound_ba;
+  ab_safe = promised f.stand.side_a f.stand.side_b f.within.0 f.stand.sound_ab;
+  ba_safe = promised f.stand.side_b f.stand.side_a f.within.1 f.stand.sound_ba;
 }

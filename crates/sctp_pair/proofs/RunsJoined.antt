@@ -23,8 +23,8 @@ runs_join [] (y ∷ ys) p u q more answers h i = absurd h
 runs_join (x ∷ xs) [] p u q more answers h i = absurd h
 
 -- a run goes on by the step at place i of a list
-pub run_next : (ss : List Step) (i : ℕ) (s : Step) (rs more : List Reply) (p u q : Ends) (r : Reply)
-    → i < length ss → s ≡ get_or ss i s → more ≡ rs ++ r ∷ [] → Runs (take i ss) rs p u → Steps s u r q
-    → Runs (take (i + 1) ss) more p q
-run_next ss i s rs more p u q r within is grown h step =
-    rw (grown, take_more ss i s within, ← is) (run_more (take i ss) rs p u q s r h step)
+module _ (ss : List Step) (i : ℕ) (s : Step) (rs more : List Reply) (p u q : Ends) (r : Reply) where
+  pub run_next : i < length ss → s ≡ get_or ss i s → more ≡ rs ++ r ∷ [] → Runs (take i ss) rs p u → Steps s u r q
+      → Runs (take (i + 1) ss) more p q
+  run_next within is grown h step =
+      rw (grown, take_more ss i s within, ← is) (run_more (take i ss) rs p u q s r h step)
