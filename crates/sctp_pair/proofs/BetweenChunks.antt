@@ -7,33 +7,31 @@ use Rattle.sctp_sides.specs.Meeting.{IsNoEarlier, Stage, stage_of}
 use Rattle.sctp_sides.specs.Shapes.{IsSameStatus}
 use Rattle.sctp_assoc.specs.Shown.{Shown}
 use Rattle.sctp_pair.specs.Fits.{IsSilent, StagesAgree, StandsOpen}
-use Rattle.sctp_pair.proofs.BetweenDirections.{Goes, Holds, None_brought}
+use Rattle.sctp_pair.proofs.BetweenDirections.{Goes, Holds, None_brought, OpenAt, Surroundings, moved}
 use Rattle.sctp_pair.proofs.HandshakeStages.{come_on, known_before, same_stage}
 
 -- Between two chunks of a packet: the association is open, stands between directions to which the packet led so far,
 -- and is in a stage to which it led.
-pub record Underway (own peer : ℕ) (here there : Stage) (y : Shown) (out coming : Direction) (B : ℕ → Type 0)
-    (a : Shown) : Type 0 where
+pub record Underway (x : Surroundings) (B : ℕ → Type 0) (a : Shown) : Type 0 where
   pub out2 : Direction
   pub coming2 : Direction
-  pub goes_out : Goes None_brought out out2
-  pub goes_coming : Goes B coming coming2
+  pub goes_out : Goes None_brought x.out out2
+  pub goes_coming : Goes B x.coming coming2
   pub within_out : IsWithin out2
   pub within_coming : IsWithin coming2
-  pub places_same : out2.sender.plan.places ≡ out.sender.plan.places
-  pub coming_still : coming2.sender ≡ coming.sender
-  pub silent : IsSilent there coming2
-  pub goes : IsNoEarlier here (stage_of a)
-  pub meets : StagesAgree (stage_of a) there
-  pub stands : StandsOpen own peer a out2 coming2
-  pub holds : Holds own peer (parts a stands.past) y out2 coming2
+  pub places_same : out2.sender.plan.places ≡ x.out.sender.plan.places
+  pub coming_still : coming2.sender ≡ x.coming.sender
+  pub silent : IsSilent x.there coming2
+  pub goes : IsNoEarlier x.here (stage_of a)
+  pub meets : StagesAgree (stage_of a) x.there
+  pub stands : OpenAt (moved x out2 coming2) a
+  pub holds : Holds (moved x out2 coming2) (parts a stands.past)
 
 -- the same association, or one that differs beside its directions, stands open where its parts hold
-unfoldable pub stands_by : (own peer : ℕ) (a b y : Shown) (k : History) (out coming out2 coming2 : Direction)
-    → (s : StandsOpen own peer a out coming) → IsSameStatus a b → Binds b k
-    → (k.peer ≡ s.past.peer) → out2.sender.plan.size ≡ out.sender.plan.size → Holds own peer (parts b k) y out2 coming2
-    → StandsOpen own peer b out2 coming2
-stands_by own peer a b y k out coming out2 coming2 s same binds met size h = record {
+unfoldable pub stands_by : (x : Surroundings) {a b : Shown} (k : History) {out coming : Direction}
+    → (s : StandsOpen x.own x.peer a out coming) → IsSameStatus a b → Binds b k → (k.peer ≡ s.past.peer)
+    → x.out.sender.plan.size ≡ out.sender.plan.size → Holds x (parts b k) → OpenAt x b
+stands_by x {a} {b} k s same binds met size h = record {
   past = k;
   own_is = h.own_is;
   peer_is = λ known. met ∙ s.peer_is (known_before a b same known);
@@ -41,7 +39,7 @@ stands_by own peer a b y k out coming out2 coming2 s same binds met size h = rec
   working = same.failed ∙ s.working;
   come = come_on a b same s.come;
   present = same.lost ∙ s.present;
-  truthful = same.truthful own s.truthful;
+  truthful = same.truthful x.own s.truthful;
   size = size ∙ s.size ∙ sym same.size;
   between = h.between;
 }

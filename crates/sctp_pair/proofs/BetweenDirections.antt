@@ -99,13 +99,44 @@ goes_by_receiver B w e at none brings =
       reach_on = (let f = ap (λ (x : Sender). x.reach) received.sender in omega arith);
     }
 
--- p is what the association's directions see of it, y is the other association
-pub record Holds (own peer : ℕ) (p : Parts) (y : Shown) (out coming : Direction) : Type 0 where
-  pub own_is : p.history.own ≡ own
-  pub sound_out : IsSound out
-  pub sound_coming : IsSound coming
-  pub between : FitsBetween p out coming
-  pub other : Stands peer own y coming out
+-- What an association has around it: its own initial TSN and its peer's, the association that it faces, its own
+-- direction and the one that comes to it, its own stage and the other one's.
+pub record Surroundings : Type 0 where
+  pub own : ℕ
+  pub peer : ℕ
+  pub other : Shown
+  pub out : Direction
+  pub coming : Direction
+  pub here : Stage
+  pub there : Stage
+
+-- the same where the directions moved on
+abbrev pub moved : Surroundings → Direction → Direction → Surroundings
+moved x out coming = record x { out = out; coming = coming }
+
+-- an association stands there
+abbrev pub StandsAt : Surroundings → Shown → Type 0
+StandsAt x a = Stands x.own x.peer a x.out x.coming
+
+-- it stands open there
+abbrev pub OpenAt : Surroundings → Shown → Type 0
+OpenAt x a = StandsOpen x.own x.peer a x.out x.coming
+
+-- it stands closed there
+abbrev pub ClosedAt : Surroundings → Shown → Type 0
+ClosedAt x a = StandsClosed x.own a x.coming
+
+-- the association that it faces stands between the same directions
+abbrev pub OtherStands : Surroundings → Type 0
+OtherStands x = Stands x.peer x.own x.other x.coming x.out
+
+-- p is what the association's directions see of it
+pub record Holds (x : Surroundings) (p : Parts) : Type 0 where
+  pub own_is : p.history.own ≡ x.own
+  pub sound_out : IsSound x.out
+  pub sound_coming : IsSound x.coming
+  pub between : FitsBetween p x.out x.coming
+  pub other : OtherStands x
 
 -- Nothing is brought.
 abbrev pub None_brought : ℕ → Type 0
@@ -119,12 +150,11 @@ outgoing_same p w v e f =
     record { base = g.base; flight = g.flight; waiting = g.waiting; own_streams = g.own_streams }
 
 -- how the other association stands, where something happened at this one's sender
-pub other_by_out : (peer own : ℕ) (y : Shown) (coming out out2 : Direction)
-    → ((a : Parts) → FitsIncoming a out → FitsIncoming a out2)
-    → out2.receiver.is_open ≡ out.receiver.is_open → Stands peer own y coming out → Stands peer own y coming out2
-other_by_out peer own y coming out out2 fits same h =
+pub other_by_out : (x : Surroundings) (out2 : Direction) → ((a : Parts) → FitsIncoming a x.out → FitsIncoming a out2)
+    → out2.receiver.is_open ≡ x.out.receiver.is_open → OtherStands x → OtherStands (record x { out = out2 })
+other_by_out x out2 fits same h =
     ⊎_elim
-    (λ (s : StandsOpen peer own y coming out). inl record {
+    (λ (s : StandsOpen x.peer x.own x.other x.coming x.out). inl record {
       past = s.past;
       own_is = s.own_is;
       peer_is = s.peer_is;
@@ -134,11 +164,11 @@ other_by_out peer own y coming out out2 fits same h =
       present = s.present;
       truthful = s.truthful;
       size = s.size;
-      between = record { outgoing = s.between.outgoing; incoming = fits (parts y s.past) s.between.incoming };
+      between = record { outgoing = s.between.outgoing; incoming = fits (parts x.other s.past) s.between.incoming };
     })
-    (λ (r : StandsClosed peer y out ⊎ StandsFailed y out).
+    (λ (r : StandsClosed x.peer x.other x.out ⊎ StandsFailed x.other x.out).
     ⊎_elim
-    (λ (s : StandsClosed peer y out). inr (inl record {
+    (λ (s : StandsClosed x.peer x.other x.out). inr (inl record {
       closed = s.closed;
       unestablished = s.unestablished;
       lost = s.lost;
@@ -146,16 +176,16 @@ other_by_out peer own y coming out out2 fits same h =
       nothing_left = s.nothing_left;
       truthful = s.truthful;
     }))
-    (λ (s : StandsFailed y out). inr (inr record { failed = s.failed; stopped = same ∙ s.stopped }))
+    (λ (s : StandsFailed x.other x.out). inr (inr record { failed = s.failed; stopped = same ∙ s.stopped }))
     r)
     h
 
 -- and where something happened at this one's receiver
-pub other_by_coming : (peer own : ℕ) (y : Shown) (coming coming2 out : Direction) → coming2.sender ≡ coming.sender
-    → Stands peer own y coming out → Stands peer own y coming2 out
-other_by_coming peer own y coming coming2 out same h =
+pub other_by_coming : (x : Surroundings) (coming2 : Direction) → coming2.sender ≡ x.coming.sender → OtherStands x
+    → OtherStands (record x { coming = coming2 })
+other_by_coming x coming2 same h =
     ⊎_elim
-    (λ (s : StandsOpen peer own y coming out). inl record {
+    (λ (s : StandsOpen x.peer x.own x.other x.coming x.out). inl record {
       past = s.past;
       own_is = s.own_is;
       peer_is = s.peer_is;
@@ -164,13 +194,13 @@ other_by_coming peer own y coming coming2 out same h =
       come = s.come;
       present = s.present;
       truthful = s.truthful;
-      size = ap (λ (x : Sender). x.plan.size) same ∙ s.size;
+      size = ap (λ (z : Sender). z.plan.size) same ∙ s.size;
       between = record {
-        outgoing = outgoing_same (parts y s.past) coming coming2 same s.between.outgoing;
+        outgoing = outgoing_same (parts x.other s.past) x.coming coming2 same s.between.outgoing;
         incoming = s.between.incoming;
       };
     })
-    (λ (r : StandsClosed peer y out ⊎ StandsFailed y out). inr r)
+    (λ (r : StandsClosed x.peer x.other x.out ⊎ StandsFailed x.other x.out). inr r)
     h
 
 -- What a call does to a direction: what it accepts there, what it reads, and what may be taken in.
@@ -205,35 +235,39 @@ does_by_goes B w v g = record {
   reach_on = g.reach_on;
 }
 
--- One association's call leads from its directions `out` and `coming`, and its stage `here`, to others, between which
--- it stands then; the other association, whose stage is `there`, stands there too.
-pub record Settles (own peer : ℕ) (here there : Stage) (b y : Shown) (out coming : Direction) (Added : ℕ → List Message)
+-- One association's call leads from its surroundings to other directions and another stage, between which it stands
+-- then; the other association stands there too.
+pub record Settles (x : Surroundings) (b : Shown) (Added : ℕ → List Message)
     (Read : ℕ → Option letters.ReceivedMessage) (Brought : ℕ → Type 0) : Type 0 where
   pub out2 : Direction
   pub coming2 : Direction
   pub here2 : Stage
-  pub does_out : Does Added nothing_read None_brought out out2
-  pub does_coming : Does nothing_added Read Brought coming coming2
+  pub does_out : Does Added nothing_read None_brought x.out out2
+  pub does_coming : Does nothing_added Read Brought x.coming coming2
   pub sound_out : IsSound out2
   pub sound_coming : IsSound coming2
-  pub stands : Stands own peer b out2 coming2
-  pub other : Stands peer own y coming2 out2
-  pub goes : IsNoEarlier here here2
+  pub stands : StandsAt (moved x out2 coming2) b
+  pub other : OtherStands (moved x out2 coming2)
+  pub goes : IsNoEarlier x.here here2
   pub at : IsAt b here2
-  pub meets : StagesAgree here2 there
+  pub meets : StagesAgree here2 x.there
   -- no offset is assigned where the association isn't established afterwards, and none of the other side's ever
-  pub no_more : ((is_established b.state ≡ true) × StandsOpen own peer b out2 coming2)
-      ⊎ (out2.sender.plan.places ≡ out.sender.plan.places)
-  pub coming_still : coming2.sender ≡ coming.sender
+  pub no_more : ((is_established b.state ≡ true) × OpenAt (moved x out2 coming2) b)
+      ⊎ (out2.sender.plan.places ≡ x.out.sender.plan.places)
+  pub coming_still : coming2.sender ≡ x.coming.sender
+
+-- the same of a call that accepts nothing, reads nothing and brings nothing
+abbrev pub SettlesQuietly : Surroundings → Shown → Type 0
+SettlesQuietly x b = Settles x b nothing_added nothing_read None_brought
 
 -- Two associations between the same two directions, before a call of the first one.
-pub record Faces (own peer : ℕ) (here there : Stage) (a y : Shown) (out coming : Direction) : Type 0 where
-  pub within_out : IsWithin out
-  pub within_coming : IsWithin coming
-  pub sound_out : IsSound out
-  pub sound_coming : IsSound coming
-  pub stands : Stands own peer a out coming
-  pub other : Stands peer own y coming out
-  pub at : IsAt a here
-  pub meets : StagesAgree here there
-  pub silent : IsSilent there coming
+pub record Faces (x : Surroundings) (a : Shown) : Type 0 where
+  pub within_out : IsWithin x.out
+  pub within_coming : IsWithin x.coming
+  pub sound_out : IsSound x.out
+  pub sound_coming : IsSound x.coming
+  pub stands : StandsAt x a
+  pub other : OtherStands x
+  pub at : IsAt a x.here
+  pub meets : StagesAgree x.here x.there
+  pub silent : IsSilent x.there x.coming

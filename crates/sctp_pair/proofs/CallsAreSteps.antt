@@ -9,7 +9,7 @@ use Rattle.sctp_model.specs.Serial.{tsn}
 use Rattle.sctp_model.specs.Machine.{Direction, Sender}
 use Rattle.sctp_model.proofs.Lists.{all_join}
 use Rattle.sctp_assoc.specs.Calls.{is_established}
-use Rattle.sctp_sides.specs.Meeting.{IsNoEarlier, Stage}
+use Rattle.sctp_sides.specs.Meeting.{Stage}
 use Rattle.sctp_sides.specs.Shapes.{OfEachChunk}
 use Rattle.sctp_assoc.specs.Shown.{Shown}
 use Rattle.sctp_sides.proofs.Proved.{established_is_not_closed, established_sides_talk}
@@ -23,16 +23,39 @@ use Rattle.sctp_pair.specs.Ends.{Ends, end_of}
 use Rattle.sctp_pair.specs.Steps.{Steps, packet_in}
 use Rattle.sctp_pair.specs.World.{HasData, IsDirectionStep, IsOpen, World, accepted_at, message_read, other_side}
 use Rattle.sctp_pair.specs.World.{packet_brought}
-use Rattle.sctp_pair.specs.Fits.{AreSaid, Fits, IsAt, IsSaidBy, IsSilent, LeadsSafely, Stands, StandsIn, StandsOpen}
-use Rattle.sctp_pair.proofs.BetweenDirections.{Does, Faces, None_brought, Settles, nothing_added, nothing_read}
+use Rattle.sctp_pair.specs.Fits.{AreSaid, Fits, IsAt, IsSaidBy, IsSilent, LeadsSafely, Stands, StandsIn}
+use Rattle.sctp_pair.proofs.BetweenDirections.{Does, Faces, OpenAt, Settles, Surroundings, moved}
 use Rattle.sctp_pair.proofs.NeverTakenBack.{runs_are_onward}
 use Rattle.sctp_pair.proofs.Promised.{receives_or_stopped, safe_world}
-use Rattle.sctp_pair.proofs.SaidStaysSaid.{said_grows}
+use Rattle.sctp_pair.proofs.SaidStaysSaid.{GoesOn, said_grows}
 use Rattle.sctp_pair.proofs.HandshakeStages.{stays_put, turned}
 
+-- what A has around it in the world
+abbrev pub around_a : (w : World) → Fits w.ends w → Surroundings
+around_a w f = record {
+  own = w.initial_a;
+  peer = w.initial_b;
+  other = w.ends.b;
+  out = w.ab;
+  coming = w.ba;
+  here = f.stand.stage_a;
+  there = f.stand.stage_b;
+}
+
+-- and what B has
+abbrev pub around_b : (w : World) → Fits w.ends w → Surroundings
+around_b w f = record {
+  own = w.initial_b;
+  peer = w.initial_a;
+  other = w.ends.a;
+  out = w.ba;
+  coming = w.ab;
+  here = f.stand.stage_b;
+  there = f.stand.stage_a;
+}
+
 -- the associations face each other between the directions of the world, seen from A
-pub faces_a : (w : World) (f : Fits w.ends w)
-    → Faces w.initial_a w.initial_b f.stand.stage_a f.stand.stage_b w.ends.a w.ends.b w.ab w.ba
+pub faces_a : (w : World) (f : Fits w.ends w) → Faces (around_a w f) w.ends.a
 faces_a w f = record {
   within_out = f.within.0;
   within_coming = f.within.1;
@@ -46,8 +69,7 @@ faces_a w f = record {
 }
 
 -- and seen from B
-pub faces_b : (w : World) (f : Fits w.ends w)
-    → Faces w.initial_b w.initial_a f.stand.stage_b f.stand.stage_a w.ends.b w.ends.a w.ba w.ab
+pub faces_b : (w : World) (f : Fits w.ends w) → Faces (around_b w f) w.ends.b
 faces_b w f = record {
   within_out = f.within.1;
   within_coming = f.within.0;
@@ -70,18 +92,52 @@ pub record IsCallAt (step : Step) (reply : Reply) (side : Side2) (w : World) (in
   pub adds_alone : (s : ℕ) → [] ≡ accepted_at step reply (other_side side) s w
   pub reads_alone : (s : ℕ) → None ≡ message_read step reply (other_side side) s
 
--- what a call does to a direction is what a step does there, where it adds, reads and brings the same
-direction_step : (step : Step) (reply : Reply) (sender receiver : Side2) (w : World) (q : Ends) (initial : ℕ)
-    (before after : Direction)
-    (Added : ℕ → List Message) (Read : ℕ → Option letters.ReceivedMessage) (Brought : ℕ → Type 0)
-    → Does Added Read Brought before after
-    → ((s : ℕ) → Added s ≡ accepted_at step reply sender s w) → ((s : ℕ) → Read s ≡ message_read step reply receiver s)
-    → ((o : ℕ) → Brought o → HasData (packet_brought step reply receiver w) (tsn initial o))
-    → IsOpen (end_of sender q) ⊎ (after.sender.plan.places ≡ before.sender.plan.places) → IsSound before → IsSound after
-    → (after.receiver.is_open ≡ true) ⊎ (IsOpen (end_of receiver q) → ⊥)
-    → IsDirectionStep step reply sender receiver w q initial before after
-direction_step step reply sender receiver w q initial before after Added Read Brought d adds reads brings no_more was is
-    receives = record {
+-- What a call that settles leaves behind.
+module _ {x : Surroundings} {b : Shown} {Added : ℕ → List Message} {Read : ℕ → Option letters.ReceivedMessage}
+    {Brought : ℕ → Type 0} (s : Settles x b Added Read Brought) where
+  -- an association that is established is open
+  is_open : IsOpen b ⊎ (s.out2.sender.plan.places ≡ x.out.sender.plan.places)
+  is_open =
+      ⊎_elim
+      (λ (e : (is_established b.state ≡ true) × OpenAt (moved x s.out2 s.coming2) b).
+      inl (e.1.working, established_is_not_closed b e.0))
+      (λ (same : s.out2.sender.plan.places ≡ x.out.sender.plan.places). inr same)
+      s.no_more
+
+  -- Who was never established goes on to be silent.
+  silent_on : IsSilent x.here x.out → IsSilent s.here2 s.out2
+  silent_on silent never =
+      ⊎_elim
+      (λ (e : (is_established b.state ≡ true) × OpenAt (moved x s.out2 s.coming2) b). absurd
+      (true≢false (sym (established_sides_talk b e.0 e.1.come).completed
+      ∙ ap (λ (z : Stage). z.completed) (s.at e.1.working) ∙ never)))
+      (λ (same : s.out2.sender.plan.places ≡ x.out.sender.plan.places). same ∙ silent (⊎_elim
+      (λ (done : x.here.completed ≡ true). absurd (true≢false (sym (s.goes.completed done) ∙ never)))
+      (λ (begun : x.here.completed ≡ false). begun)
+      (cases_Bool x.here.completed)))
+      s.no_more
+
+  -- its side goes on, and so does the other one
+  own_goes_on : GoesOn x.here s.here2 x.out x.coming s.out2 s.coming2
+  own_goes_on = record { goes = s.goes; datas = s.does_out.datas; sacks = s.does_coming.sacks }
+
+  other_goes_on : GoesOn x.there x.there x.coming x.out s.coming2 s.out2
+  other_goes_on = record { goes = stays_put x.there; datas = s.does_coming.datas; sacks = s.does_out.sacks }
+
+-- This step of the world's pair has this reply and leads to q.
+module _ (step : Step) (reply : Reply) (w : World) (q : Ends) where
+  -- what a call does to a direction is what a step does there, where it adds, reads and brings the same
+  module _ (sender receiver : Side2) (initial : ℕ) where
+    direction_step : {before after : Direction} {Added : ℕ → List Message}
+        {Read : ℕ → Option letters.ReceivedMessage} {Brought : ℕ → Type 0} → Does Added Read Brought before after
+        → ((s : ℕ) → Added s ≡ accepted_at step reply sender s w)
+        → ((s : ℕ) → Read s ≡ message_read step reply receiver s)
+        → ((o : ℕ) → Brought o → HasData (packet_brought step reply receiver w) (tsn initial o))
+        → IsOpen (end_of sender q) ⊎ (after.sender.plan.places ≡ before.sender.plan.places)
+        → IsSound before → IsSound after
+        → (after.receiver.is_open ≡ true) ⊎ (IsOpen (end_of receiver q) → ⊥)
+        → IsDirectionStep step reply sender receiver w q initial before after
+    direction_step {before} {after} {Added} {Read} {Brought} d adds reads brings no_more was is receives = record {
       events = d.events;
       happened = d.is;
       accepted = λ s. d.accepted s ∙ ap (λ (z : List Message). before.sender.plan.accepted s ++ z) (adds s);
@@ -105,152 +161,109 @@ direction_step step reply sender receiver w q initial before after Added Read Br
       stays_closed = λ c. ap (λ (z : Direction). z.receiver.is_open) d.is ∙ (runs_are_onward d.events before).closed c;
     }
 
--- an association that is established is open
-is_open : (own peer : ℕ) (b : Shown) (out coming before : Direction)
-    → ((is_established b.state ≡ true) × StandsOpen own peer b out coming)
-    ⊎ (out.sender.plan.places ≡ before.sender.plan.places)
-    → IsOpen b ⊎ (out.sender.plan.places ≡ before.sender.plan.places)
-is_open own peer b out coming before (inl (established, s)) = inl (s.working, established_is_not_closed b established)
-is_open own peer b out coming before (inr e) = inr e
+  -- A call of A that settles leads from the world to one in which the pair stands: the packets that it gave out are A's
+  -- next ones.
+  pub settled_a : {Added : ℕ → List Message} {Read : ℕ → Option letters.ReceivedMessage} {Brought : ℕ → Type 0}
+      (given : List (List ℕ)) (fits : Fits w.ends w) → q.b ≡ w.ends.b → q.packets_a ≡ w.ends.packets_a ++ given
+      → q.packets_b ≡ w.ends.packets_b → Steps step w.ends reply q
+      → (s : Settles (around_a w fits) q.a Added Read Brought)
+      → AreSaid w.initial_a w.initial_b s.here2 s.out2 s.coming2 given
+      → IsCallAt step reply sides.A w w.initial_b Added Read Brought → LeadsSafely step reply w q
+  settled_a given fits same_b more same_packets ends s said call = (
+    v,
+    record {
+      ends_step = ends;
+      same_a = refl;
+      same_b = refl;
+      ab_step =
+          direction_step sides.A sides.B w.initial_a s.does_out call.adds call.reads_alone (λ o n. absurd n)
+          (is_open s) fits.stand.sound_ab s.sound_out
+          (receives_or_stopped w.initial_b w.initial_a q.b s.coming2 s.out2 stands.side_b);
+      ba_step =
+          direction_step sides.B sides.A w.initial_b s.does_coming call.adds_alone call.reads call.brings
+          (inr (ap (λ (z : Sender). z.plan.places) s.coming_still)) fits.stand.sound_ba s.sound_coming
+          (receives_or_stopped w.initial_a w.initial_b q.a s.out2 s.coming2 stands.side_a);
+    },
+    stands,
+    λ within. safe_world q v (record { within = within; stand = stands }),
+  )
+    where
+      v : World
+      v = record { ends = q; initial_a = w.initial_a; initial_b = w.initial_b; ab = s.out2; ba = s.coming2 }
 
--- Who was never established goes on to be silent.
-silent_on : (own peer : ℕ) (s t : Stage) (b : Shown) (out coming before : Direction) → IsNoEarlier s t → IsAt b t
-    → ((is_established b.state ≡ true) × StandsOpen own peer b out coming)
-    ⊎ (out.sender.plan.places ≡ before.sender.plan.places) → IsSilent s before → IsSilent t out
-silent_on own peer s t b out coming before goes at (inl (established, h)) silent never =
-    absurd
-    (true≢false (sym (established_sides_talk b established h.come).completed
-    ∙ ap (λ (z : Stage). z.completed) (at h.working) ∙ never))
-silent_on own peer s t b out coming before goes at (inr same) silent never = same ∙ silent (⊎_elim
-    (λ (done : s.completed ≡ true). absurd (true≢false (sym (goes.completed done) ∙ never)))
-    (λ (begun : s.completed ≡ false). begun)
-    (cases_Bool s.completed))
+      stands : StandsIn q v
+      stands = record {
+        is = refl;
+        sound_ab = s.sound_out;
+        sound_ba = s.sound_coming;
+        side_a = s.stands;
+        side_b = subst (λ (z : Shown). Stands w.initial_b w.initial_a z s.coming2 s.out2) (sym same_b) s.other;
+        stage_a = s.here2;
+        stage_b = fits.stand.stage_b;
+        at_a = s.at;
+        at_b = subst (λ (z : Shown). IsAt z fits.stand.stage_b) (sym same_b) fits.stand.at_b;
+        meets = s.meets;
+        silent_a = silent_on s fits.stand.silent_a;
+        silent_b = λ never. ap (λ (z : Sender). z.plan.places) s.coming_still ∙ fits.stand.silent_b never;
+        said_a = subst (λ (z : List (List ℕ)). AreSaid w.initial_a w.initial_b s.here2 s.out2 s.coming2 z) (sym more)
+            (all_join (λ (bytes : List ℕ). OfEachChunk (IsSaidBy w.initial_a w.initial_b s.here2 s.out2 s.coming2)
+            (packet_in bytes)) w.ends.packets_a given
+            (said_grows w.initial_a w.initial_b (own_goes_on s) w.ends.packets_a fits.stand.said_a) said);
+        said_b =
+            subst (λ (z : List (List ℕ)). AreSaid w.initial_b w.initial_a fits.stand.stage_b s.coming2 s.out2 z)
+            (sym same_packets)
+            (said_grows w.initial_b w.initial_a (other_goes_on s) w.ends.packets_b fits.stand.said_b);
+      }
 
--- A call of A that settles leads from the world to one in which the pair stands: the packets that it gave out are A's
--- next ones.
-pub settled_a : (step : Step) (r : Reply) (q : Ends) (w : World) (Added : ℕ → List Message)
-    (Read : ℕ → Option letters.ReceivedMessage) (Brought : ℕ → Type 0)
-    (given : List (List ℕ)) (fits : Fits w.ends w) → q.b ≡ w.ends.b → q.packets_a ≡ w.ends.packets_a ++ given
-    → q.packets_b ≡ w.ends.packets_b
-    → Steps step w.ends r q
-    → (s : Settles w.initial_a w.initial_b fits.stand.stage_a fits.stand.stage_b q.a w.ends.b w.ab w.ba Added
-    Read Brought)
-    → AreSaid w.initial_a w.initial_b s.here2 s.out2 s.coming2 given
-    → IsCallAt step r sides.A w w.initial_b Added Read Brought → LeadsSafely step r w q
-settled_a step r q w Added Read Brought given fits same_b more same_packets ends s said call = (
-  v,
-  record {
-    ends_step = ends;
-    same_a = refl;
-    same_b = refl;
-    ab_step =
-        direction_step step r sides.A sides.B w q w.initial_a w.ab s.out2 Added nothing_read None_brought s.does_out
-        call.adds call.reads_alone (λ o n. absurd n)
-        (is_open w.initial_a w.initial_b q.a s.out2 s.coming2 w.ab s.no_more)
-        fits.stand.sound_ab s.sound_out
-        (receives_or_stopped w.initial_b w.initial_a q.b s.coming2 s.out2 stands.side_b);
-    ba_step =
-        direction_step step r sides.B sides.A w q w.initial_b w.ba s.coming2 nothing_added Read Brought s.does_coming
-        call.adds_alone call.reads call.brings (inr (ap (λ (x : Sender). x.plan.places) s.coming_still))
-        fits.stand.sound_ba s.sound_coming
-        (receives_or_stopped w.initial_a w.initial_b q.a s.out2 s.coming2 stands.side_a);
-  },
-  stands,
-  λ within. safe_world q v (record { within = within; stand = stands }),
-)
-  where
-    v : World
-    v = record { ends = q; initial_a = w.initial_a; initial_b = w.initial_b; ab = s.out2; ba = s.coming2 }
+  -- The same of a call of B.
+  pub settled_b : {Added : ℕ → List Message} {Read : ℕ → Option letters.ReceivedMessage} {Brought : ℕ → Type 0}
+      (given : List (List ℕ)) (fits : Fits w.ends w) → q.a ≡ w.ends.a → q.packets_b ≡ w.ends.packets_b ++ given
+      → q.packets_a ≡ w.ends.packets_a → Steps step w.ends reply q
+      → (s : Settles (around_b w fits) q.b Added Read Brought)
+      → AreSaid w.initial_b w.initial_a s.here2 s.out2 s.coming2 given
+      → IsCallAt step reply sides.B w w.initial_a Added Read Brought → LeadsSafely step reply w q
+  settled_b given fits same_a more same_packets ends s said call = (
+    v,
+    record {
+      ends_step = ends;
+      same_a = refl;
+      same_b = refl;
+      ab_step =
+          direction_step sides.A sides.B w.initial_a s.does_coming call.adds_alone call.reads call.brings
+          (inr (ap (λ (z : Sender). z.plan.places) s.coming_still)) fits.stand.sound_ab s.sound_coming
+          (receives_or_stopped w.initial_b w.initial_a q.b s.out2 s.coming2 stands.side_b);
+      ba_step =
+          direction_step sides.B sides.A w.initial_b s.does_out call.adds call.reads_alone (λ o n. absurd n)
+          (is_open s) fits.stand.sound_ba s.sound_out
+          (receives_or_stopped w.initial_a w.initial_b q.a s.coming2 s.out2 stands.side_a);
+    },
+    stands,
+    λ within. safe_world q v (record { within = within; stand = stands }),
+  )
+    where
+      v : World
+      v = record { ends = q; initial_a = w.initial_a; initial_b = w.initial_b; ab = s.coming2; ba = s.out2 }
 
-    stands : StandsIn q v
-    stands = record {
-      is = refl;
-      sound_ab = s.sound_out;
-      sound_ba = s.sound_coming;
-      side_a = s.stands;
-      side_b = subst (λ (z : Shown). Stands w.initial_b w.initial_a z s.coming2 s.out2) (sym same_b) s.other;
-      stage_a = s.here2;
-      stage_b = fits.stand.stage_b;
-      at_a = s.at;
-      at_b = subst (λ (z : Shown). IsAt z fits.stand.stage_b) (sym same_b) fits.stand.at_b;
-      meets = s.meets;
-      silent_a =
-          silent_on w.initial_a w.initial_b fits.stand.stage_a s.here2 q.a s.out2 s.coming2 w.ab s.goes s.at s.no_more
-          fits.stand.silent_a;
-      silent_b = λ never. ap (λ (x : Sender). x.plan.places) s.coming_still ∙ fits.stand.silent_b never;
-      said_a = subst (λ (z : List (List ℕ)). AreSaid w.initial_a w.initial_b s.here2 s.out2 s.coming2 z) (sym more)
-          (all_join (λ (bytes : List ℕ). OfEachChunk (IsSaidBy w.initial_a w.initial_b s.here2 s.out2 s.coming2)
-          (packet_in bytes)) w.ends.packets_a given
-          (said_grows w.initial_a w.initial_b fits.stand.stage_a s.here2 w.ab w.ba s.out2 s.coming2 w.ends.packets_a
-          s.goes (s.does_out).datas (s.does_coming).sacks fits.stand.said_a) said);
-      said_b =
-          subst (λ (z : List (List ℕ)). AreSaid w.initial_b w.initial_a fits.stand.stage_b s.coming2 s.out2 z)
-          (sym same_packets)
-          (said_grows w.initial_b w.initial_a fits.stand.stage_b fits.stand.stage_b w.ba w.ab s.coming2 s.out2
-          w.ends.packets_b (stays_put fits.stand.stage_b) (s.does_coming).datas (s.does_out).sacks
-          fits.stand.said_b);
-    }
-
--- The same of a call of B.
-pub settled_b : (step : Step) (r : Reply) (q : Ends) (w : World) (Added : ℕ → List Message)
-    (Read : ℕ → Option letters.ReceivedMessage) (Brought : ℕ → Type 0)
-    (given : List (List ℕ)) (fits : Fits w.ends w) → q.a ≡ w.ends.a → q.packets_b ≡ w.ends.packets_b ++ given
-    → q.packets_a ≡ w.ends.packets_a
-    → Steps step w.ends r q
-    → (s : Settles w.initial_b w.initial_a fits.stand.stage_b fits.stand.stage_a q.b w.ends.a w.ba w.ab Added
-    Read Brought)
-    → AreSaid w.initial_b w.initial_a s.here2 s.out2 s.coming2 given
-    → IsCallAt step r sides.B w w.initial_a Added Read Brought → LeadsSafely step r w q
-settled_b step r q w Added Read Brought given fits same_a more same_packets ends s said call = (
-  v,
-  record {
-    ends_step = ends;
-    same_a = refl;
-    same_b = refl;
-    ab_step =
-        direction_step step r sides.A sides.B w q w.initial_a w.ab s.coming2 nothing_added Read Brought s.does_coming
-        call.adds_alone call.reads call.brings (inr (ap (λ (x : Sender). x.plan.places) s.coming_still))
-        fits.stand.sound_ab s.sound_coming
-        (receives_or_stopped w.initial_b w.initial_a q.b s.out2 s.coming2 stands.side_b);
-    ba_step =
-        direction_step step r sides.B sides.A w q w.initial_b w.ba s.out2 Added nothing_read None_brought s.does_out
-        call.adds call.reads_alone (λ o n. absurd n)
-        (is_open w.initial_b w.initial_a q.b s.out2 s.coming2 w.ba s.no_more)
-        fits.stand.sound_ba s.sound_out
-        (receives_or_stopped w.initial_a w.initial_b q.a s.coming2 s.out2 stands.side_a);
-  },
-  stands,
-  λ within. safe_world q v (record { within = within; stand = stands }),
-)
-  where
-    v : World
-    v = record { ends = q; initial_a = w.initial_a; initial_b = w.initial_b; ab = s.coming2; ba = s.out2 }
-
-    stands : StandsIn q v
-    stands = record {
-      is = refl;
-      sound_ab = s.sound_coming;
-      sound_ba = s.sound_out;
-      side_a = subst (λ (z : Shown). Stands w.initial_a w.initial_b z s.coming2 s.out2) (sym same_a) s.other;
-      side_b = s.stands;
-      stage_a = fits.stand.stage_a;
-      stage_b = s.here2;
-      at_a = subst (λ (z : Shown). IsAt z fits.stand.stage_a) (sym same_a) fits.stand.at_a;
-      at_b = s.at;
-      meets = turned s.here2 fits.stand.stage_a s.meets;
-      silent_a = λ never. ap (λ (x : Sender). x.plan.places) s.coming_still ∙ fits.stand.silent_a never;
-      silent_b =
-          silent_on w.initial_b w.initial_a fits.stand.stage_b s.here2 q.b s.out2 s.coming2 w.ba s.goes s.at s.no_more
-          fits.stand.silent_b;
-      said_a =
-          subst (λ (z : List (List ℕ)). AreSaid w.initial_a w.initial_b fits.stand.stage_a s.coming2 s.out2 z)
-          (sym same_packets)
-          (said_grows w.initial_a w.initial_b fits.stand.stage_a fits.stand.stage_a w.ab w.ba s.coming2 s.out2
-          w.ends.packets_a (stays_put fits.stand.stage_a) (s.does_coming).datas (s.does_out).sacks
-          fits.stand.said_a);
-      said_b = subst (λ (z : List (List ℕ)). AreSaid w.initial_b w.initial_a s.here2 s.out2 s.coming2 z) (sym more)
-          (all_join (λ (bytes : List ℕ). OfEachChunk (IsSaidBy w.initial_b w.initial_a s.here2 s.out2 s.coming2)
-          (packet_in bytes)) w.ends.packets_b given
-          (said_grows w.initial_b w.initial_a fits.stand.stage_b s.here2 w.ba w.ab s.out2 s.coming2 w.ends.packets_b
-          s.goes (s.does_out).datas (s.does_coming).sacks fits.stand.said_b) said);
-    }
+      stands : StandsIn q v
+      stands = record {
+        is = refl;
+        sound_ab = s.sound_coming;
+        sound_ba = s.sound_out;
+        side_a = subst (λ (z : Shown). Stands w.initial_a w.initial_b z s.coming2 s.out2) (sym same_a) s.other;
+        side_b = s.stands;
+        stage_a = fits.stand.stage_a;
+        stage_b = s.here2;
+        at_a = subst (λ (z : Shown). IsAt z fits.stand.stage_a) (sym same_a) fits.stand.at_a;
+        at_b = s.at;
+        meets = turned s.here2 fits.stand.stage_a s.meets;
+        silent_a = λ never. ap (λ (z : Sender). z.plan.places) s.coming_still ∙ fits.stand.silent_a never;
+        silent_b = silent_on s fits.stand.silent_b;
+        said_a =
+            subst (λ (z : List (List ℕ)). AreSaid w.initial_a w.initial_b fits.stand.stage_a s.coming2 s.out2 z)
+            (sym same_packets)
+            (said_grows w.initial_a w.initial_b (other_goes_on s) w.ends.packets_a fits.stand.said_a);
+        said_b = subst (λ (z : List (List ℕ)). AreSaid w.initial_b w.initial_a s.here2 s.out2 s.coming2 z) (sym more)
+            (all_join (λ (bytes : List ℕ). OfEachChunk (IsSaidBy w.initial_b w.initial_a s.here2 s.out2 s.coming2)
+            (packet_in bytes)) w.ends.packets_b given
+            (said_grows w.initial_b w.initial_a (own_goes_on s) w.ends.packets_b fits.stand.said_b) said);
+      }

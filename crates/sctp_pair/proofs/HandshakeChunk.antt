@@ -3,48 +3,45 @@ use Rattle.std.proofs.Common.{◌≡◌, sym, ap, ◌∙◌, subst, ⊎_elim, in
 use Rattle.std.proofs.lemmas.Bool.{cases_Bool}
 use Rattle.sctp_wire_types.specs.declared.chunk.Chunk.{Chunk}
 use Rattle.sctp_wire_types.specs.declared.packet.CommonHeader.{CommonHeader}
-use Rattle.sctp_model.specs.Machine.{Direction}
 use Rattle.sctp_assoc.specs.Acts.{Act, History, Parts, done_all, parts}
 use Rattle.sctp_assoc.specs.Happened.{acts_of_chunk}
-use Rattle.sctp_sides.specs.Meeting.{Greets, IsLearning, MayHear, Stage, stage_of}
+use Rattle.sctp_sides.specs.Meeting.{Greets, IsLearning, MayHear, stage_of}
 use Rattle.sctp_sides.specs.Shapes.{TakesChunk}
 use Rattle.sctp_assoc.specs.Shown.{Shown}
 use Rattle.sctp_directions.proofs.Proved.{meetings_are_no_events}
-use Rattle.sctp_pair.proofs.BetweenDirections.{Holds}
+use Rattle.sctp_pair.proofs.BetweenDirections.{Holds, Surroundings, moved}
 use Rattle.sctp_pair.proofs.HandshakeStages.{goes_through, meets_on, works_on}
 use Rattle.sctp_pair.proofs.BetweenChunks.{Underway}
 
 -- What a greeting leaves of the directions: they hold the association as before, and what is known of the peer is true.
-record KeepsHolding (own peer : ℕ) (b : Shown) (k : History) (y : Shown) (out coming : Direction) : Type 0 where
-  pub holds : Holds own peer (parts b k) y out coming
-  pub peer_is : is_some b.handshake.peer_initial_tsn ≡ true → k.peer ≡ peer
+record KeepsHolding (x : Surroundings) (b : Shown) (k : History) : Type 0 where
+  pub holds : Holds x (parts b k)
+  pub peer_is : is_some b.handshake.peer_initial_tsn ≡ true → k.peer ≡ x.peer
 
 -- the peer's initial TSN becomes known before anything came
-learnt : {here there : Stage} (own peer : ℕ) (y : Shown) (out coming : Direction) (B : ℕ → Type 0) (acts : List Act)
-    (a b : Shown) (k : History)
-    → (u : Underway own peer here there y out coming B a) → parts b k ≡ done_all acts (parts a u.stands.past)
-    → IsLearning peer acts a b
-    → KeepsHolding own peer b k y u.out2 u.coming2
-learnt own peer y out coming B acts a b k u is (inl (none, same)) =
+learnt : (x : Surroundings) {B : ℕ → Type 0} (acts : List Act) {a b : Shown} (k : History) (u : Underway x B a)
+    → parts b k ≡ done_all acts (parts a u.stands.past) → IsLearning x.peer acts a b
+    → KeepsHolding (moved x u.out2 u.coming2) b k
+learnt x acts {a} {b} k u is (inl (none, same)) =
     let left : parts b k ≡ parts a u.stands.past =
     is ∙ ap (λ (xs : List Act). done_all xs (parts a u.stands.past)) none in
     record {
-      holds = subst (λ p. Holds own peer p y u.out2 u.coming2) (sym left) u.holds;
+      holds = subst (Holds (moved x u.out2 u.coming2)) (sym left) u.holds;
       peer_is = λ known. ap (λ (p : Parts). p.history.peer) left ∙ u.stands.peer_is (ap is_some (sym same) ∙ known);
     }
-learnt {here} {there} own peer y out coming B acts a b k u is (inr (met, deaf)) =
+learnt x acts {a} {b} k u is (inr (met, deaf)) =
     let p : Parts = parts a u.stands.past in
-    let left : parts b k ≡ done_all (Act.PeerKnown peer ∷ []) (parts a u.stands.past) =
+    let left : parts b k ≡ done_all (Act.PeerKnown x.peer ∷ []) (parts a u.stands.past) =
     is ∙ ap (λ (xs : List Act). done_all xs (parts a u.stands.past)) met in
-    let never : there.completed ≡ false = ⊎_elim
-    (λ (t : there.completed ≡ true). absurd (deaf (u.meets.hears t)))
-    (λ (f : there.completed ≡ false). f)
-    (cases_Bool there.completed) in
+    let never : x.there.completed ≡ false = ⊎_elim
+    (λ (t : x.there.completed ≡ true). absurd (deaf (u.meets.hears t)))
+    (λ (f : x.there.completed ≡ false). f)
+    (cases_Bool x.there.completed) in
     let fits =
-    meetings_are_no_events p peer u.out2 u.coming2 (u.silent never) u.holds.sound_coming.invariant
+    meetings_are_no_events p x.peer u.out2 u.coming2 (u.silent never) u.holds.sound_coming.invariant
     u.holds.sound_coming.plain u.holds.between.outgoing u.holds.between.incoming in
     record {
-      holds = subst (λ p. Holds own peer p y u.out2 u.coming2) (sym left) record {
+      holds = subst (Holds (moved x u.out2 u.coming2)) (sym left) record {
         own_is = u.holds.own_is;
         sound_out = u.holds.sound_out;
         sound_coming = u.holds.sound_coming;
@@ -55,15 +52,14 @@ learnt {here} {there} own peer y out coming B acts a b k u is (inr (met, deaf)) 
     }
 
 -- The handshake goes on, and the directions stay.
-pub greet_step : {here there : Stage} (own peer : ℕ) (y : Shown) (out coming : Direction) (B : ℕ → Type 0)
-    (header : CommonHeader) (c : Chunk) (a b : Shown) → TakesChunk header c a b
-    → Greets peer there c → Underway own peer here there y out coming B a
-    → Underway own peer here there y out coming B b
-greet_step {here} {there} own peer y out coming B header c a b takes greeting u =
-    let g = takes.greets own peer there greeting u.meets.one u.stands.truthful u.stands.come in
+pub greet_step : {x : Surroundings} {B : ℕ → Type 0} (header : CommonHeader) (c : Chunk) {a b : Shown}
+    → TakesChunk header c a b → Greets x.peer x.there c → Underway x B a → Underway x B b
+greet_step {x} header c {a} {b} takes greeting u =
+    let g = takes.greets x.own x.peer x.there greeting u.meets.one u.stands.truthful u.stands.come in
     let works = works_on c a b takes.leaves in
     let leads = takes.leads u.stands.past u.stands.binds in
-    let kept = learnt own peer y out coming B (acts_of_chunk a header c) a b leads.0 u leads.1.there g.learns in
+    let kept : KeepsHolding (moved x u.out2 u.coming2) b leads.0 =
+    learnt x (acts_of_chunk a header c) leads.0 u leads.1.there g.learns in
     record {
       out2 = u.out2;
       coming2 = u.coming2;
@@ -74,10 +70,10 @@ greet_step {here} {there} own peer y out coming B header c a b takes greeting u 
       places_same = u.places_same;
       coming_still = u.coming_still;
       silent = u.silent;
-      goes = goes_through here (stage_of a) (stage_of b) u.goes g.goes;
-      meets = meets_on (stage_of a) there (stage_of b) g.goes
-          (λ done. ⊎_elim (λ (before : a.handshake.completed ≡ true). u.meets.heard before) (λ (m : MayHear there). m)
-          (g.completes done)) u.meets;
+      goes = goes_through x.here (stage_of a) (stage_of b) u.goes g.goes;
+      meets = meets_on (stage_of a) x.there (stage_of b) g.goes
+          (λ done. ⊎_elim (λ (before : a.handshake.completed ≡ true). u.meets.heard before)
+          (λ (m : MayHear x.there). m) (g.completes done)) u.meets;
       stands = record {
         past = leads.0;
         own_is = kept.holds.own_is;

@@ -22,56 +22,39 @@ KeepsDatas w v = (k : ℕ) (d : Data) → slice_get w.datas k ≡ Some d → sli
 abbrev pub KeepsSacks : Direction → Direction → Type 0
 KeepsSacks w v = (k : ℕ) (x : Sack) → slice_get w.sacks k ≡ Some x → slice_get v.sacks k ≡ Some x
 
--- one chunk
-chunk_grows : (own peer : ℕ) (out coming out2 coming2 : Direction) → KeepsDatas out out2 → KeepsSacks coming coming2
-    → (c : Chunk)
-    → Says own peer out coming c → Says own peer out2 coming2 c
-chunk_grows own peer out coming out2 coming2 datas sacks (chunks.Data c) (k, d, there, said) =
-    (k, d, datas k d there, said)
-chunk_grows own peer out coming out2 coming2 datas sacks (chunks.SelectiveAck c) (k, x, there, made) =
-    (k, x, sacks k x there, made)
-chunk_grows own peer out coming out2 coming2 datas sacks (chunks.Init c) h = absurd h
-chunk_grows own peer out coming out2 coming2 datas sacks (chunks.InitAck c) h = absurd h
-chunk_grows own peer out coming out2 coming2 datas sacks (chunks.Heartbeat c) h = absurd h
-chunk_grows own peer out coming out2 coming2 datas sacks (chunks.HeartbeatAck c) h = absurd h
-chunk_grows own peer out coming out2 coming2 datas sacks (chunks.Abort c) h = absurd h
-chunk_grows own peer out coming out2 coming2 datas sacks (chunks.Shutdown c) h = absurd h
-chunk_grows own peer out coming out2 coming2 datas sacks chunks.ShutdownAck h = absurd h
-chunk_grows own peer out coming out2 coming2 datas sacks (chunks.Error c) h = absurd h
-chunk_grows own peer out coming out2 coming2 datas sacks (chunks.CookieEcho c) h = absurd h
-chunk_grows own peer out coming out2 coming2 datas sacks chunks.CookieAck h = absurd h
-chunk_grows own peer out coming out2 coming2 datas sacks chunks.ShutdownComplete h = absurd h
-chunk_grows own peer out coming out2 coming2 datas sacks (chunks.Reconfig c) h = absurd h
-chunk_grows own peer out coming out2 coming2 datas sacks (chunks.ForwardTsn c) h = absurd h
-chunk_grows own peer out coming out2 coming2 datas sacks (chunks.IForwardTsn c) h = absurd h
-chunk_grows own peer out coming out2 coming2 datas sacks (chunks.Other kind flags value) h = absurd h
+-- A side's stage goes on, and so do its own direction and the one that comes to it.
+pub record GoesOn (s t : Stage) (out coming out2 coming2 : Direction) : Type 0 where
+  pub goes : IsNoEarlier s t
+  pub datas : KeepsDatas out out2
+  pub sacks : KeepsSacks coming coming2
 
--- a chunk of the handshake says it of a later stage, too
-said_by_grows : (own peer : ℕ) (s t : Stage) (out coming out2 coming2 : Direction) → IsNoEarlier s t
-    → KeepsDatas out out2 → KeepsSacks coming coming2 → (c : Chunk)
-    → IsSaidBy own peer s out coming c → IsSaidBy own peer t out2 coming2 c
-said_by_grows own peer s t out coming out2 coming2 goes datas sacks c (inl said) =
-    inl (chunk_grows own peer out coming out2 coming2 datas sacks c said)
-said_by_grows own peer s t out coming out2 coming2 goes datas sacks c (inr greets) =
-    inr (greetings_stay_true own s t c goes greets)
+module _ (own peer : ℕ) {s t : Stage} {out coming out2 coming2 : Direction}
+    (g : GoesOn s t out coming out2 coming2) where
+  -- one chunk
+  chunk_grows : (c : Chunk) → Says own peer out coming c → Says own peer out2 coming2 c
+  chunk_grows (chunks.Data c) (k, d, there, said) = (k, d, g.datas k d there, said)
+  chunk_grows (chunks.SelectiveAck c) (k, x, there, made) = (k, x, g.sacks k x there, made)
+  chunk_grows c h = absurd h
 
--- one packet
-packet_grows : (own peer : ℕ) (s t : Stage) (out coming out2 coming2 : Direction) → IsNoEarlier s t
-    → KeepsDatas out out2 → KeepsSacks coming coming2 → (packet : Option Packet)
-    → OfEachChunk (IsSaidBy own peer s out coming) packet → OfEachChunk (IsSaidBy own peer t out2 coming2) packet
-packet_grows own peer s t out coming out2 coming2 goes datas sacks None h = h
-packet_grows own peer s t out coming out2 coming2 goes datas sacks (Some packet) h =
-    all_weaker (IsSaidBy own peer s out coming) (IsSaidBy own peer t out2 coming2) packet.chunks
-    (said_by_grows own peer s t out coming out2 coming2 goes datas sacks) h
+  -- a chunk of the handshake says it of a later stage, too
+  said_by_grows : (c : Chunk) → IsSaidBy own peer s out coming c → IsSaidBy own peer t out2 coming2 c
+  said_by_grows c (inl said) = inl (chunk_grows c said)
+  said_by_grows c (inr greets) = inr (greetings_stay_true own s t c g.goes greets)
 
--- Packets that say what their directions have, and what is so of their side's handshake, say it of what these became.
-pub said_grows : (own peer : ℕ) (s t : Stage) (out coming out2 coming2 : Direction) (packets : List (List ℕ))
-    → IsNoEarlier s t → KeepsDatas out out2 → KeepsSacks coming coming2
-    → AreSaid own peer s out coming packets → AreSaid own peer t out2 coming2 packets
-said_grows own peer s t out coming out2 coming2 packets goes datas sacks h =
-    all_weaker
-    (λ (bytes : List ℕ). OfEachChunk (IsSaidBy own peer s out coming) (packet_in bytes))
-    (λ (bytes : List ℕ). OfEachChunk (IsSaidBy own peer t out2 coming2) (packet_in bytes))
-    packets
-    (λ bytes said. packet_grows own peer s t out coming out2 coming2 goes datas sacks (packet_in bytes) said)
-    h
+  -- one packet
+  packet_grows : (packet : Option Packet) → OfEachChunk (IsSaidBy own peer s out coming) packet
+      → OfEachChunk (IsSaidBy own peer t out2 coming2) packet
+  packet_grows None h = h
+  packet_grows (Some packet) h =
+      all_weaker (IsSaidBy own peer s out coming) (IsSaidBy own peer t out2 coming2) packet.chunks said_by_grows h
+
+  -- Packets that say what their directions have, and what is so of their side's handshake, say it of what these became.
+  pub said_grows : (packets : List (List ℕ)) → AreSaid own peer s out coming packets
+      → AreSaid own peer t out2 coming2 packets
+  said_grows packets h =
+      all_weaker
+      (λ (bytes : List ℕ). OfEachChunk (IsSaidBy own peer s out coming) (packet_in bytes))
+      (λ (bytes : List ℕ). OfEachChunk (IsSaidBy own peer t out2 coming2) (packet_in bytes))
+      packets
+      (λ bytes said. packet_grows (packet_in bytes) said)
+      h

@@ -8,7 +8,6 @@ use Rattle.sctp_model.specs.Machine.{Direction, Event, happens}
 use Rattle.sctp_model.proofs.Proved.{each_event_keeps_the_invariant}
 use Rattle.sctp_assoc.specs.Acts.{Act, History, Leads, Parts, done_all, parts}
 use Rattle.sctp_assoc.specs.Calls.{is_closed_state, is_established, open_refusal, opened}
-use Rattle.sctp_sides.specs.Meeting.{Stage}
 use Rattle.sctp_sides.specs.Shapes.{HoldsNothing, IsNotLive, IsSameStatus}
 use Rattle.sctp_assoc.specs.Shown.{Shown}
 use Rattle.sctp_sides.proofs.Proved.{open_leads_on, opened_streams_hold_nothing, opened_streams_keep_the_status}
@@ -22,27 +21,26 @@ use Rattle.sctp_directions.proofs.Proved.{opened_streams_are_alike, plain_events
 use Rattle.sctp_directions.proofs.Proved.{receivers_events_are_received}
 use Rattle.sctp_pair.specs.declared.step.Reply.{Reply}
 use Rattle.sctp_pair.specs.declared.step.Reply.TheVariants as replies
-use Rattle.sctp_pair.specs.Fits.{IsAt, Stands, StandsClosed, StandsFailed, StandsOpen}
+use Rattle.sctp_pair.specs.Fits.{IsAt, StandsClosed, StandsFailed}
 use Rattle.sctp_pair.specs.Steps.{Buffers, Finds, Measures, Opens}
-use Rattle.sctp_pair.proofs.BetweenDirections.{Faces, None_brought, Settles, does_by_goes, goes_by_receiver}
-use Rattle.sctp_pair.proofs.BetweenDirections.{goes_nowhere, nothing_added, nothing_read, other_by_coming}
+use Rattle.sctp_pair.proofs.BetweenDirections.{ClosedAt, Faces, None_brought, OpenAt, SettlesQuietly, StandsAt}
+use Rattle.sctp_pair.proofs.BetweenDirections.{Surroundings, does_by_goes, goes_by_receiver, goes_nowhere, moved}
+use Rattle.sctp_pair.proofs.BetweenDirections.{other_by_coming}
 use Rattle.sctp_pair.proofs.HandshakeStages.{at_same, come_on, known_before, stays_put}
 
 -- Nothing happened to the directions, and the association stands between them still.
-unfoldable pub still : {here there : Stage} (own peer : ℕ) (a b y : Shown) (out coming : Direction)
-    → Faces own peer here there a y out coming → IsAt b here → Stands own peer b out coming
-    → Settles own peer here there b y out coming nothing_added nothing_read None_brought
-still {here} own peer a b y out coming f at s = record {
-  out2 = out;
-  coming2 = coming;
-  here2 = here;
-  does_out = does_by_goes None_brought out out (goes_nowhere None_brought out);
-  does_coming = does_by_goes None_brought coming coming (goes_nowhere None_brought coming);
+unfoldable pub still : {x : Surroundings} {a b : Shown} → Faces x a → IsAt b x.here → StandsAt x b → SettlesQuietly x b
+still {x} f at s = record {
+  out2 = x.out;
+  coming2 = x.coming;
+  here2 = x.here;
+  does_out = does_by_goes None_brought x.out x.out (goes_nowhere None_brought x.out);
+  does_coming = does_by_goes None_brought x.coming x.coming (goes_nowhere None_brought x.coming);
   sound_out = f.sound_out;
   sound_coming = f.sound_coming;
   stands = s;
   other = f.other;
-  goes = stays_put here;
+  goes = stays_put x.here;
   at = at;
   meets = f.meets;
   no_more = inr refl;
@@ -50,91 +48,56 @@ still {here} own peer a b y out coming f at s = record {
 }
 
 -- a call that does nothing
-pub nothing_settles : {here there : Stage} (own peer : ℕ) (a y : Shown) (out coming : Direction)
-    → Faces own peer here there a y out coming
-    → Settles own peer here there a y out coming nothing_added nothing_read None_brought
-nothing_settles own peer a y out coming f = still own peer a a y out coming f f.at f.stands
+pub nothing_settles : {x : Surroundings} {a : Shown} → Faces x a → SettlesQuietly x a
+nothing_settles f = still f f.at f.stands
 
 -- a call that leaves the association as it is
-pub same_settles : {here there : Stage} (own peer : ℕ) (a b y : Shown) (out coming : Direction) → b ≡ a
-    → Faces own peer here there a y out coming
-    → Settles own peer here there b y out coming nothing_added nothing_read None_brought
-same_settles {here} {there} own peer a b y out coming e f =
-    subst (λ z. Settles own peer here there z y out coming nothing_added nothing_read None_brought) (sym e)
-    (nothing_settles own peer a y out coming f)
+pub same_settles : {x : Surroundings} {a b : Shown} → b ≡ a → Faces x a → SettlesQuietly x b
+same_settles {x} e f = subst (SettlesQuietly x) (sym e) (nothing_settles f)
 
 -- Questions change nothing
 
 -- whether a stream is live
 pub finds_same : (a : Shown) (id : ℕ) (r : Reply) (b : Shown) → Finds a id r b → b ≡ a
 finds_same a id replies.Done b h = h.1
-finds_same a id (replies.Wrote n) b h = absurd h
-finds_same a id (replies.Read message) b h = absurd h
-finds_same a id (replies.BufferedAmount n) b h = absurd h
-finds_same a id (replies.Event event) b h = absurd h
-finds_same a id (replies.Timeout moment) b h = absurd h
-finds_same a id (replies.Sent first count) b h = absurd h
-finds_same a id replies.NothingSent b h = absurd h
-finds_same a id (replies.State answer) b h = absurd h
-finds_same a id (replies.Rtt duration) b h = absurd h
 finds_same a id (replies.Refused n) b h = h.1
-finds_same a id replies.NoSuchPacket b h = absurd h
+finds_same a id r b h = absurd h
 
 -- how much of it is buffered
 pub buffers_same : (a : Shown) (id : ℕ) (r : Reply) (b : Shown) → Buffers a id r b → b ≡ a
-buffers_same a id replies.Done b h = absurd h
-buffers_same a id (replies.Wrote n) b h = absurd h
-buffers_same a id (replies.Read message) b h = absurd h
 buffers_same a id (replies.BufferedAmount n) b h = h.1
-buffers_same a id (replies.Event event) b h = absurd h
-buffers_same a id (replies.Timeout moment) b h = absurd h
-buffers_same a id (replies.Sent first count) b h = absurd h
-buffers_same a id replies.NothingSent b h = absurd h
-buffers_same a id (replies.State answer) b h = absurd h
-buffers_same a id (replies.Rtt duration) b h = absurd h
 buffers_same a id (replies.Refused n) b h = h.1
-buffers_same a id replies.NoSuchPacket b h = absurd h
+buffers_same a id r b h = absurd h
 
 -- how long a round trip may last
 pub measures_same : (a : Shown) (r : Reply) (b : Shown) → Measures a r b → b ≡ a
-measures_same a replies.Done b h = absurd h
-measures_same a (replies.Wrote n) b h = absurd h
-measures_same a (replies.Read message) b h = absurd h
-measures_same a (replies.BufferedAmount n) b h = absurd h
-measures_same a (replies.Event event) b h = absurd h
-measures_same a (replies.Timeout moment) b h = absurd h
-measures_same a (replies.Sent first count) b h = absurd h
-measures_same a replies.NothingSent b h = absurd h
-measures_same a (replies.State answer) b h = absurd h
 measures_same a (replies.Rtt duration) b h = h.1
-measures_same a (replies.Refused n) b h = absurd h
-measures_same a replies.NoSuchPacket b h = absurd h
+measures_same a r b h = absurd h
 
 -- One event of the receiver
 
 -- an event of the receiver that is no read and brings nothing happened to the direction that comes, and the association
 -- stands between its directions then
-pub settles_by_receiver : {here there : Stage} (own peer : ℕ) (a b y : Shown) (out coming : Direction) (e : Event)
-    → Faces own peer here there a y out coming → IsAtReceiver e → (GivesAMessage e → ⊥)
-    → ((o : ℕ) → Brings coming e o → ⊥) → IsPlainEvent coming e → IsAt b here → Stands own peer b out (happens coming e)
-    → Settles own peer here there b y out coming nothing_added nothing_read None_brought
-settles_by_receiver {here} own peer a b y out coming e f at none brings plain now s =
-    let received = receivers_events_are_received coming e at in
+pub settles_by_receiver : {x : Surroundings} {a b : Shown} (e : Event) → Faces x a → IsAtReceiver e
+    → (GivesAMessage e → ⊥) → ((o : ℕ) → Brings x.coming e o → ⊥) → IsPlainEvent x.coming e → IsAt b x.here
+    → StandsAt (record x { coming = happens x.coming e }) b → SettlesQuietly x b
+settles_by_receiver {x} e f at none brings plain now s =
+    let received = receivers_events_are_received x.coming e at in
+    let goes = goes_by_receiver None_brought x.coming e at none brings in
     record {
-      out2 = out;
-      coming2 = happens coming e;
-      here2 = here;
-      does_out = does_by_goes None_brought out out (goes_nowhere None_brought out);
-      does_coming =
-          does_by_goes None_brought coming (happens coming e) (goes_by_receiver None_brought coming e at none brings);
+      out2 = x.out;
+      coming2 = happens x.coming e;
+      here2 = x.here;
+      does_out = does_by_goes None_brought x.out x.out (goes_nowhere None_brought x.out);
+      does_coming = does_by_goes None_brought x.coming (happens x.coming e) goes;
       sound_out = f.sound_out;
       sound_coming = record {
-        invariant = each_event_keeps_the_invariant coming e f.within_coming f.sound_coming.invariant;
-        plain = plain_events_keep_it_plain coming e plain f.sound_coming.plain;
+        invariant = each_event_keeps_the_invariant x.coming e f.within_coming f.sound_coming.invariant;
+        plain = plain_events_keep_it_plain x.coming e plain f.sound_coming.plain;
       };
       stands = s;
-      other = other_by_coming peer own y coming (happens coming e) out received.sender f.other;
-      goes = stays_put here;
+      other = other_by_coming x (happens x.coming e) received.sender f.other;
+      goes = stays_put x.here;
       at = now;
       meets = f.meets;
       no_more = inr refl;
@@ -145,47 +108,55 @@ settles_by_receiver {here} own peer a b y out coming e f at none brings plain no
 
 -- An association that failed, or fails in this call, stops receiving: that is an event of the direction that comes to
 -- it.
-pub fails_settle : {here there : Stage} (own peer : ℕ) (a b y : Shown) (out coming : Direction) → b.failed ≡ true
-    → Faces own peer here there a y out coming
-    → Settles own peer here there b y out coming nothing_added nothing_read None_brought
-fails_settle own peer a b y out coming failed f =
-    settles_by_receiver own peer a b y out coming Event.Close f tt (λ n. n) (λ o n. n) tt
-    (λ working. absurd (true≢false (sym failed ∙ working)))
-    (inr (inr record { failed = failed; stopped = closed_receivers_are_not_open coming }))
+pub fails_settle : {x : Surroundings} {a b : Shown} → b.failed ≡ true → Faces x a → SettlesQuietly x b
+fails_settle {x} failed f =
+    settles_by_receiver Event.Close f tt (λ n. n) (λ o n. n) tt (λ working. absurd (true≢false (sym failed ∙ working)))
+    (inr (inr record { failed = failed; stopped = closed_receivers_are_not_open x.coming }))
 
 -- An open association goes on
 
+-- Acts that meet nobody lead from a with this past to b, whose status is the same, and to directions that fit what the
+-- acts did.
+pub record LeadsOn (x : Surroundings) (a : Shown) (past : History) (acts : List Act) (b : Shown)
+    (out2 coming2 : Direction) : Type 0 where
+  pub past2 : History
+  pub leads : Leads acts a past b past2
+  pub nobody : AllByRecursion MeetsNobody acts
+  pub same : IsSameStatus a b
+  pub size : out2.sender.plan.size ≡ x.out.sender.plan.size
+  pub outgoing : FitsOutgoing (done_all acts (parts a past)) out2
+  pub incoming : FitsIncoming (done_all acts (parts a past)) coming2
+
 -- An open association whose status stays stands open where acts lead, between directions that fit what they did.
-pub open_on : (own peer : ℕ) (a b : Shown) (out coming out2 coming2 : Direction) (xs : List Act) (k : History)
-    (s : StandsOpen own peer a out coming)
-    → AllByRecursion MeetsNobody xs → Leads xs a s.past b k → IsSameStatus a b
-    → out2.sender.plan.size ≡ out.sender.plan.size → FitsOutgoing (done_all xs (parts a s.past)) out2
-    → FitsIncoming (done_all xs (parts a s.past)) coming2 → StandsOpen own peer b out2 coming2
-open_on own peer a b out coming out2 coming2 xs k s nobody m status size outgoing incoming = record {
-  past = k;
-  own_is =
-      ap (λ (p : Parts). p.history.own) m.there ∙ (acts_keep_the_initial_tsns xs (parts a s.past) nobody).0 ∙ s.own_is;
-  peer_is =
-      λ known. ap (λ (p : Parts). p.history.peer) m.there ∙ (acts_keep_the_initial_tsns xs (parts a s.past) nobody).1
-      ∙ s.peer_is (known_before a b status known);
-  binds = m.binds;
-  working = status.failed ∙ s.working;
-  come = come_on a b status s.come;
-  present = status.lost ∙ s.present;
-  truthful = status.truthful own s.truthful;
-  size = size ∙ s.size ∙ sym status.size;
-  between = record {
-    outgoing = subst (λ (p : Parts). FitsOutgoing p out2) (sym m.there) outgoing;
-    incoming = subst (λ (p : Parts). FitsIncoming p coming2) (sym m.there) incoming;
-  };
-}
+pub open_on : (x : Surroundings) (acts : List Act) {a b : Shown} {out2 coming2 : Direction} (s : OpenAt x a)
+    → LeadsOn x a s.past acts b out2 coming2 → OpenAt (moved x out2 coming2) b
+open_on x acts {a} {b} {out2} {coming2} s m =
+    let status : IsSameStatus a b = m.same in
+    let there : parts b m.past2 ≡ done_all acts (parts a s.past) = m.leads.there in
+    let kept = acts_keep_the_initial_tsns acts (parts a s.past) m.nobody in
+    record {
+      past = m.past2;
+      own_is = ap (λ (p : Parts). p.history.own) there ∙ kept.0 ∙ s.own_is;
+      peer_is =
+          λ known. ap (λ (p : Parts). p.history.peer) there ∙ kept.1 ∙ s.peer_is (known_before a b status known);
+      binds = m.leads.binds;
+      working = status.failed ∙ s.working;
+      come = come_on a b status s.come;
+      present = status.lost ∙ s.present;
+      truthful = status.truthful x.own s.truthful;
+      size = m.size ∙ s.size ∙ sym status.size;
+      between = record {
+        outgoing = subst (λ (p : Parts). FitsOutgoing p out2) (sym there) m.outgoing;
+        incoming = subst (λ (p : Parts). FitsIncoming p coming2) (sym there) m.incoming;
+      };
+    }
 
 -- A closed association stays closed
 
 -- A closed association whose status stays, and whose streams hold nothing, stands closed.
-pub closed_on : (own : ℕ) (a b : Shown) (coming : Direction) → IsSameStatus a b → HoldsNothing b
+pub closed_on : {own : ℕ} {a b : Shown} {coming : Direction} → IsSameStatus a b → HoldsNothing b
     → StandsClosed own a coming → StandsClosed own b coming
-closed_on own a b coming status empty s = record {
+closed_on {own} status empty s = record {
   closed = ap is_closed_state status.state ∙ s.closed;
   unestablished = ap is_established status.state ∙ s.unestablished;
   lost = status.lost ∙ s.lost;
@@ -195,65 +166,53 @@ closed_on own a b coming status empty s = record {
 }
 
 -- a failed association does nothing that one that works does
-pub by_working : (own peer : ℕ) (a : Shown) (out coming : Direction) (T : Type 0) → a.failed ≡ false
-    → (StandsOpen own peer a out coming → T) → (StandsClosed own a coming → T)
-    → Stands own peer a out coming → T
-by_working own peer a out coming T working opens closes h = ⊎_elim
+pub by_working : {x : Surroundings} {a : Shown} (T : Type 0) → a.failed ≡ false → Faces x a → (OpenAt x a → T)
+    → (ClosedAt x a → T) → T
+by_working {x} {a} T working f opens closes = ⊎_elim
     opens
-    (λ (r : StandsClosed own a coming ⊎ StandsFailed a coming). ⊎_elim
+    (λ (r : ClosedAt x a ⊎ StandsFailed a x.coming). ⊎_elim
     closes
-    (λ (s : StandsFailed a coming). absurd (true≢false (sym s.failed ∙ working)))
+    (λ (s : StandsFailed a x.coming). absurd (true≢false (sym s.failed ∙ working)))
     r)
-    h
+    f.stands
 
 -- A stream is opened
 
-opened_open : {here there : Stage} (own peer : ℕ) (a y : Shown) (out coming : Direction) (id : ℕ)
-    (kind : PayloadProtocolIdentifier) → IsNotLive a id
-    → Faces own peer here there a y out coming → StandsOpen own peer a out coming
-    → Settles own peer here there (opened a id kind) y out coming nothing_added nothing_read None_brought
-opened_open {here} own peer a y out coming id kind none f s =
-    let first : ℕ = a.sender.queue.next_message_id in
-    let m = open_leads_on a (opened a id kind) id kind refl s.past s.binds in
-    let fits =
-    opened_streams_are_alike (parts a s.past) id first kind out coming none s.between.outgoing s.between.incoming in
-    settles_by_receiver own peer a (opened a id kind) y out coming (Event.Open id) f tt (λ n. n) (λ o n. n) tt
-    (at_same a (opened a id kind) here (opened_streams_keep_the_status a id kind) f.at)
-    (inl (open_on own peer a (opened a id kind) out coming out (happens coming (Event.Open id))
-    (Act.Opened id first kind ∷ []) m.0 s (tt, tt) m.1
-    (opened_streams_keep_the_status a id kind) refl fits.0 fits.1))
+module _ (x : Surroundings) (a : Shown) (id : ℕ) (kind : PayloadProtocolIdentifier) (f : Faces x a) where
+  opened_open : IsNotLive a id → OpenAt x a → SettlesQuietly x (opened a id kind)
+  opened_open none s =
+      let first : ℕ = a.sender.queue.next_message_id in
+      let m = open_leads_on a (opened a id kind) id kind refl s.past s.binds in
+      let same = opened_streams_keep_the_status a id kind in
+      let fits =
+      opened_streams_are_alike (parts a s.past) id first kind x.out x.coming none s.between.outgoing
+      s.between.incoming in
+      let stands : OpenAt (record x { coming = happens x.coming (Event.Open id) }) (opened a id kind) =
+      open_on x (Act.Opened id first kind ∷ []) s record {
+        past2 = m.0;
+        leads = m.1;
+        nobody = (tt, tt);
+        same = same;
+        size = refl;
+        outgoing = fits.0;
+        incoming = fits.1;
+      } in
+      settles_by_receiver (Event.Open id) f tt (λ n. n) (λ o n. n) tt (at_same a (opened a id kind) x.here same f.at)
+      (inl stands)
 
-opened_settles : {here there : Stage} (own peer : ℕ) (a y : Shown) (out coming : Direction) (id : ℕ)
-    (kind : PayloadProtocolIdentifier) → open_refusal a id ≡ None
-    → Faces own peer here there a y out coming
-    → Settles own peer here there (opened a id kind) y out coming nothing_added nothing_read None_brought
-opened_settles {here} {there} own peer a y out coming id kind e f =
-    let free = opened_streams_were_not_live a id e in
-    by_working own peer a out coming
-    (Settles own peer here there (opened a id kind) y out coming nothing_added nothing_read None_brought) free.0
-    (λ s. opened_open own peer a y out coming id kind free.1 f s)
-    (λ s. still own peer a (opened a id kind) y out coming f
-    (at_same a (opened a id kind) here (opened_streams_keep_the_status a id kind) f.at)
-    (inr (inl (closed_on own a (opened a id kind) coming (opened_streams_keep_the_status a id kind)
-    (opened_streams_hold_nothing a id kind free.1 s.nothing_left) s))))
-    f.stands
+  opened_settles : open_refusal a id ≡ None → SettlesQuietly x (opened a id kind)
+  opened_settles e =
+      let free = opened_streams_were_not_live a id e in
+      let same = opened_streams_keep_the_status a id kind in
+      by_working (SettlesQuietly x (opened a id kind)) free.0 f
+      (λ s. opened_open free.1 s)
+      (λ s. still f (at_same a (opened a id kind) x.here same f.at)
+      (inr (inl (closed_on same (opened_streams_hold_nothing a id kind free.1 s.nothing_left) s))))
 
 -- A stream is opened at the application's trigger: where the association is closed, it stays empty.
-pub opens_settle : {here there : Stage} (own peer : ℕ) (a b y : Shown) (out coming : Direction) (id : ℕ)
-    (kind : PayloadProtocolIdentifier) (r : Reply) → Opens a id kind r b
-    → Faces own peer here there a y out coming
-    → Settles own peer here there b y out coming nothing_added nothing_read None_brought
-opens_settle {here} {there} own peer a b y out coming id kind replies.Done h f =
-    subst (λ z. Settles own peer here there z y out coming nothing_added nothing_read None_brought) (sym h.1)
-    (opened_settles own peer a y out coming id kind h.0 f)
-opens_settle own peer a b y out coming id kind (replies.Refused n) h f = same_settles own peer a b y out coming h.1 f
-opens_settle own peer a b y out coming id kind (replies.Wrote n) h f = absurd h
-opens_settle own peer a b y out coming id kind (replies.Read message) h f = absurd h
-opens_settle own peer a b y out coming id kind (replies.BufferedAmount n) h f = absurd h
-opens_settle own peer a b y out coming id kind (replies.Event event) h f = absurd h
-opens_settle own peer a b y out coming id kind (replies.Timeout moment) h f = absurd h
-opens_settle own peer a b y out coming id kind (replies.Sent first count) h f = absurd h
-opens_settle own peer a b y out coming id kind replies.NothingSent h f = absurd h
-opens_settle own peer a b y out coming id kind (replies.State answer) h f = absurd h
-opens_settle own peer a b y out coming id kind (replies.Rtt duration) h f = absurd h
-opens_settle own peer a b y out coming id kind replies.NoSuchPacket h f = absurd h
+pub opens_settle : {x : Surroundings} {a b : Shown} (id : ℕ) (kind : PayloadProtocolIdentifier) (r : Reply)
+    → Opens a id kind r b → Faces x a → SettlesQuietly x b
+opens_settle {x} {a} id kind replies.Done h f =
+    subst (SettlesQuietly x) (sym h.1) (opened_settles x a id kind f h.0)
+opens_settle id kind (replies.Refused n) h f = same_settles h.1 f
+opens_settle id kind r h f = absurd h

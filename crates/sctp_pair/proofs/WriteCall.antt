@@ -11,7 +11,6 @@ use Rattle.sctp_model.specs.Packets.{Sack, mem}
 use Rattle.sctp_model.specs.Machine.{Direction, Event, Receiver, happens}
 use Rattle.sctp_assoc.specs.Acts.{Act, parts}
 use Rattle.sctp_assoc.specs.Calls.{written}
-use Rattle.sctp_sides.specs.Meeting.{Stage}
 use Rattle.sctp_sides.specs.Shapes.{WasWritable}
 use Rattle.sctp_assoc.specs.Shown.{Shown}
 use Rattle.sctp_sides.proofs.Proved.{accepted_writes_fit, write_leads_on, writes_keep_the_status}
@@ -23,11 +22,10 @@ use Rattle.sctp_directions.proofs.Proved.{senders_events_leave_what_comes, write
 use Rattle.sctp_directions.proofs.Proved.{writes_are_accepted_last}
 use Rattle.sctp_pair.specs.declared.step.Reply.{Reply}
 use Rattle.sctp_pair.specs.declared.step.Reply.TheVariants as replies
-use Rattle.sctp_pair.specs.Fits.{StandsOpen}
 use Rattle.sctp_pair.specs.Steps.{Writes, first_refusal}
 use Rattle.sctp_pair.specs.World.{messages_on}
-use Rattle.sctp_pair.proofs.BetweenDirections.{Does, Faces, None_brought, Settles, does_by_goes, goes_nowhere}
-use Rattle.sctp_pair.proofs.BetweenDirections.{nothing_read, other_by_out}
+use Rattle.sctp_pair.proofs.BetweenDirections.{Does, Faces, None_brought, OpenAt, Settles, Surroundings}
+use Rattle.sctp_pair.proofs.BetweenDirections.{does_by_goes, goes_nowhere, nothing_read, other_by_out}
 use Rattle.sctp_pair.proofs.SimpleCalls.{by_working, open_on, same_settles}
 use Rattle.sctp_pair.proofs.HandshakeStages.{at_same, stays_put}
 
@@ -60,71 +58,62 @@ write_does a id n bytes t w there simple =
       reach_on = sent.1;
     }
 
-written_settles : {here there : Stage} (own peer : ℕ) (a y : Shown) (out coming : Direction) (id n : ℕ) (bytes : List ℕ)
-    → WasWritable a id (length bytes)
-    → Faces own peer here there a y out coming → StandsOpen own peer a out coming
-    → Settles own peer here there (written a id bytes) y out coming (written_by (replies.Wrote n) a id bytes)
-    nothing_read None_brought
-written_settles {here} own peer a y out coming id n bytes can f s =
+written_settles : {x : Surroundings} {a : Shown} (id n : ℕ) (bytes : List ℕ) → WasWritable a id (length bytes)
+    → Faces x a → OpenAt x a
+    → Settles x (written a id bytes) (written_by (replies.Wrote n) a id bytes) nothing_read None_brought
+written_settles {x} {a} id n bytes can f s =
     let t : StreamView = can.live.stream in
     let there = can.live.there in
     let e : Event = Event.Write id (message_on t bytes) in
-    let out2 : Direction = happens out e in
-    let sent = senders_events_are_sent out e tt in
-    let one : length bytes ≤ out.sender.plan.size = subst (λ z. length bytes ≤ z) (sym s.size) can.one in
-    let simple : IsSimple out.sender.plan.size
+    let out2 : Direction = happens x.out e in
+    let sent = senders_events_are_sent x.out e tt in
+    let one : length bytes ≤ x.out.sender.plan.size = subst (λ z. length bytes ≤ z) (sym s.size) can.one in
+    let simple : IsSimple x.out.sender.plan.size
     (message_on t bytes) = record { some = can.some; one = one; ordered = refl; policy = refl } in
     let m = write_leads_on a (written a id bytes) id bytes refl s.past s.binds in
+    let stands : OpenAt (record x { out = out2 }) (written a id bytes) =
+    open_on x (Act.Wrote id bytes ∷ []) s record {
+      past2 = m.0;
+      leads = m.1;
+      nobody = (tt, tt);
+      same = writes_keep_the_status a id bytes;
+      size = sent.0.size;
+      outgoing =
+          writes_are_accepted (parts a s.past) id bytes t x.out there can.some one f.sound_out.plain s.between.outgoing;
+      incoming = own_acts_leave_what_comes (Act.Wrote id bytes) (parts a s.past) x.coming tt s.between.incoming;
+    } in
     record {
       out2 = out2;
-      coming2 = coming;
-      here2 = here;
-      does_out = write_does a id n bytes t out there simple;
-      does_coming = does_by_goes None_brought coming coming (goes_nowhere None_brought coming);
+      coming2 = x.coming;
+      here2 = x.here;
+      does_out = write_does a id n bytes t x.out there simple;
+      does_coming = does_by_goes None_brought x.coming x.coming (goes_nowhere None_brought x.coming);
       sound_out = record {
-        invariant = senders_events_keep_the_invariant out e tt f.sound_out.invariant;
-        plain = plain_events_keep_it_plain out e simple f.sound_out.plain;
+        invariant = senders_events_keep_the_invariant x.out e tt f.sound_out.invariant;
+        plain = plain_events_keep_it_plain x.out e simple f.sound_out.plain;
       };
       sound_coming = f.sound_coming;
-      stands =
-          inl (open_on own peer a (written a id bytes) out coming out2 coming (Act.Wrote id bytes ∷ []) m.0
-          s (tt, tt) m.1
-          (writes_keep_the_status a id bytes) sent.0.size
-          (writes_are_accepted (parts a s.past) id bytes t out there can.some one f.sound_out.plain s.between.outgoing)
-          (own_acts_leave_what_comes (Act.Wrote id bytes) (parts a s.past) coming tt s.between.incoming));
+      stands = inl stands;
       other =
-          other_by_out peer own y coming out out2
-          (λ p g. senders_events_leave_what_comes p out e tt f.sound_out.invariant f.sound_out.plain g)
+          other_by_out x out2
+          (λ p g. senders_events_leave_what_comes p x.out e tt f.sound_out.invariant f.sound_out.plain g)
           (ap (λ (r : Receiver). r.is_open) sent.0.receiver) f.other;
-      goes = stays_put here;
-      at = at_same a (written a id bytes) here (writes_keep_the_status a id bytes) f.at;
+      goes = stays_put x.here;
+      at = at_same a (written a id bytes) x.here (writes_keep_the_status a id bytes) f.at;
       meets = f.meets;
-      no_more = inr (only_beginnings_assign out e tt (λ n. n));
+      no_more = inr (only_beginnings_assign x.out e tt (λ n. n));
       coming_still = refl;
     }
 
 -- A write: the message that an accepted one brings is the next of its stream. A closed association refuses it.
-pub writes_settle : {here there : Stage} (own peer : ℕ) (a b y : Shown) (out coming : Direction) (id : ℕ)
-    (bytes : List ℕ) (r : Reply) → Writes a id bytes r b
-    → Faces own peer here there a y out coming
-    → Settles own peer here there b y out coming (written_by r a id bytes) nothing_read None_brought
-writes_settle {here} {there} own peer a b y out coming id bytes (replies.Wrote n) h f =
+pub writes_settle : {x : Surroundings} {a b : Shown} (id : ℕ) (bytes : List ℕ) (r : Reply) → Writes a id bytes r b
+    → Faces x a → Settles x b (written_by r a id bytes) nothing_read None_brought
+writes_settle {x} {a} id bytes (replies.Wrote n) h f =
     let can = accepted_writes_fit a id (length bytes) (first_none _ _ h.0) in
-    subst (λ z. Settles own peer here there z y out coming (written_by (replies.Wrote n) a id bytes) nothing_read
-    None_brought) (sym h.2)
-    (by_working own peer a out coming (Settles own peer here there (written a id bytes) y out coming
-    (written_by (replies.Wrote n) a id bytes) nothing_read None_brought) can.live.working
-    (λ s. written_settles own peer a y out coming id n bytes can f s)
-    (λ s. absurd (true≢false (sym can.established ∙ s.unestablished)))
-    f.stands)
-writes_settle own peer a b y out coming id bytes (replies.Refused n) h f = same_settles own peer a b y out coming h.1 f
-writes_settle own peer a b y out coming id bytes replies.Done h f = absurd h
-writes_settle own peer a b y out coming id bytes (replies.Read message) h f = absurd h
-writes_settle own peer a b y out coming id bytes (replies.BufferedAmount n) h f = absurd h
-writes_settle own peer a b y out coming id bytes (replies.Event event) h f = absurd h
-writes_settle own peer a b y out coming id bytes (replies.Timeout moment) h f = absurd h
-writes_settle own peer a b y out coming id bytes (replies.Sent first count) h f = absurd h
-writes_settle own peer a b y out coming id bytes replies.NothingSent h f = absurd h
-writes_settle own peer a b y out coming id bytes (replies.State answer) h f = absurd h
-writes_settle own peer a b y out coming id bytes (replies.Rtt duration) h f = absurd h
-writes_settle own peer a b y out coming id bytes replies.NoSuchPacket h f = absurd h
+    subst (λ z. Settles x z (written_by (replies.Wrote n) a id bytes) nothing_read None_brought) (sym h.2)
+    (by_working (Settles x (written a id bytes) (written_by (replies.Wrote n) a id bytes) nothing_read None_brought)
+    can.live.working f
+    (λ s. written_settles id n bytes can f s)
+    (λ s. absurd (true≢false (sym can.established ∙ s.unestablished))))
+writes_settle id bytes (replies.Refused n) h f = same_settles h.1 f
+writes_settle id bytes r h f = absurd h
