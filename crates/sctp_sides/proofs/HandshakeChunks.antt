@@ -32,17 +32,7 @@ use Rattle.sctp_sides.proofs.HandshakeTruth.{KeepsSaying, truthful_still, truthf
 not_both : sides.Client ≡ sides.Server → ⊥
 not_both e = cc
 
--- an association that no chunk changes
-nothing_greeted : (own peer : ℕ) (t : Stage) (a : Shown) → IsTruthful own a → HasCome a → IsGreeted own peer t [] a a
-nothing_greeted own peer t a truthful come = record {
-  truthful = truthful;
-  come = come;
-  goes = record { side = refl; knows = λ k. k; completed = λ d. d };
-  completes = λ d. inl d;
-  learns = inl (refl, refl);
-}
-
--- INIT: a server takes it, and an association that is established doesn't
+-- INIT
 
 -- who takes an INIT listens: of two clients neither waits
 listens : (a : Shown) (t : Stage) → is_beginning a.state ≡ true → t.side ≡ sides.Client
@@ -56,28 +46,7 @@ listener_is_deaf : (a : Shown) → Listens a → MayHear (stage_of a) → ⊥
 listener_is_deaf a l (inl completed) = true≢false (sym completed ∙ l.incomplete)
 listener_is_deaf a l (inr (client, known)) = not_both (sym client ∙ l.server)
 
-init_greets : (c : Bool) (own peer : ℕ) (t : Stage) (a : Shown) (header : CommonHeader) (init : ChunkInit)
-    (trigger : AckTrigger) → is_beginning a.state ≡ c
-    → Greets peer t (chunks.Init init) → IsDoneAmongClients (stage_of a) t → IsTruthful own a → HasCome a
-    → IsGreeted own peer t (if c then Act.PeerKnown init.initial_tsn ∷ [] else []) a (on_init a header init trigger).0
-unfolding on_init
-init_greets true own peer t a header init trigger e (is, client) one truthful come =
-    let b : Shown = answered (learned a header init) in
-    let l = listens a t e client one come in
-    let goes : IsNoEarlier (stage_of a) (stage_of b) = record { side = refl; knows = λ k. refl; completed = λ d. d } in
-    let keeps : KeepsSaying a b = record { tsn = refl; goes = goes; offers = λ o. o; echoes = λ x. inl x } in
-    rw e (record {
-      truthful = truthful_with own a b _ truthful keeps refl (truthful.tsn, refl) refl;
-      come =
-          inr (inr (inl record { server = l.server; state = l.state; incomplete = l.incomplete; issued = λ i. refl }));
-      goes = goes;
-      completes = λ d. inl d;
-      learns = inr (ap (λ (n : ℕ). Act.PeerKnown n ∷ []) is, listener_is_deaf a l);
-    })
-init_greets false own peer t a header init trigger e said one truthful come =
-    rw e (nothing_greeted own peer t a truthful come)
-
--- COOKIE ACK completes what a client began
+-- COOKIE ACK
 
 connected_keeps : (a : Shown) → KeepsSaying a (connected a)
 connected_keeps a = record {
@@ -93,22 +62,7 @@ ack_come a e (inr (inl w)) = inr (inr (inr record { state = refl; completed = re
 ack_come a e (inr (inr (inl l))) = absurd (true≢false (sym e ∙ ap is_cookie_echoed l.state))
 ack_come a e (inr (inr (inr s))) = absurd (true≢false (sym e ∙ ap is_cookie_echoed s.state))
 
-cookie_ack_greets : (c : Bool) (own peer : ℕ) (t : Stage) (a : Shown) (trigger : AckTrigger)
-    → is_cookie_echoed a.state ≡ c → t.completed ≡ true → IsTruthful own a → HasCome a
-    → IsGreeted own peer t [] a (on_cookie_ack a trigger).0
-unfolding on_cookie_ack
-cookie_ack_greets true own peer t a trigger e said truthful come =
-    let k = connected_keeps a in
-    rw e (record {
-      truthful = truthful_still own a (connected a) truthful k refl;
-      come = ack_come a e come;
-      goes = k.goes;
-      completes = λ d. inr (inl said);
-      learns = inl (refl, refl);
-    })
-cookie_ack_greets false own peer t a trigger e said truthful come = rw e (nothing_greeted own peer t a truthful come)
-
--- COOKIE ECHO completes what a server began
+-- COOKIE ECHO
 
 echo_come : (a : Shown) → a.handshake.cookie_issued ≡ true → is_beginning a.state ≡ true → HasCome a
     → HasCome (acknowledged_cookie (connected a))
@@ -128,51 +82,7 @@ established_sides_talk a e (inr (inl w)) = absurd (true≢false (sym e ∙ ap is
 established_sides_talk a e (inr (inr (inl l))) = absurd (true≢false (sym e ∙ ap is_established l.state))
 established_sides_talk a e (inr (inr (inr s))) = s
 
-cookie_echo_greets : (issued begins established : Bool) (own peer : ℕ) (t : Stage) (a : Shown) (cookie : List ℕ)
-    (trigger : AckTrigger) → has_issued a.handshake cookie ≡ issued
-    → is_beginning a.state ≡ begins → is_established a.state ≡ established → (t.side ≡ sides.Client) × (t.knows ≡ true)
-    → IsTruthful own a → HasCome a
-    → IsGreeted own peer t [] a (on_cookie_echo a cookie trigger).0
-unfolding on_cookie_echo
-cookie_echo_greets false begins established own peer t a cookie trigger e f g said truthful come =
-    rw e (nothing_greeted own peer t a truthful come)
-cookie_echo_greets true true established own peer t a cookie trigger e f g said truthful come =
-    let issued = issued_of a.handshake.cookie_issued (bytes_eq a.handshake.cookie cookie) e in
-    let b : Shown = acknowledged_cookie (connected a) in
-    let k = connected_keeps a in
-    let keeps : KeepsSaying a b = record {
-      tsn = k.tsn;
-      goes = record { side = refl; knows = λ k. k; completed = λ d. refl };
-      offers = k.offers;
-      echoes = k.echoes;
-    } in
-    rw (e, f) (record {
-      truthful = truthful_with own a b _ truthful keeps refl refl refl;
-      come = echo_come a issued f come;
-      goes = keeps.goes;
-      completes = λ d. inr (inr said);
-      learns = inl (refl, refl);
-    })
-cookie_echo_greets true false true own peer t a cookie trigger e f g said truthful come =
-    let b : Shown = acknowledged_cookie a in
-    let keeps : KeepsSaying a b = record {
-      tsn = refl;
-      goes = record { side = refl; knows = λ k. k; completed = λ d. d };
-      offers = λ o. o;
-      echoes = λ x. inl x;
-    } in
-    let s = established_sides_talk a g come in
-    rw (e, f, g) (record {
-      truthful = truthful_with own a b _ truthful keeps refl s.completed refl;
-      come = inr (inr (inr record { state = s.state; completed = s.completed; known = s.known }));
-      goes = keeps.goes;
-      completes = λ d. inl d;
-      learns = inl (refl, refl);
-    })
-cookie_echo_greets true false false own peer t a cookie trigger e f g said truthful come =
-    rw (e, f, g) (nothing_greeted own peer t a truthful come)
-
--- INIT ACK: a client that waits for it takes it
+-- INIT ACK
 
 -- What an INIT ACK with the ports of the INIT leaves, its cookie aside.
 record IsMetBack (initial_tsn : ℕ) (a m : Shown) : Type 0 where
@@ -199,132 +109,240 @@ waiting_is_deaf a w (inr (client, known)) = true≢false (sym known ∙ w.unknow
 none_is : (o : Option Offer) → o ≡ None → is_some o ≡ true → ⊥
 none_is o e s = false≢true (ap is_some (sym e) ∙ s)
 
-echoed_greets : (o : Option (List ℕ)) (own peer : ℕ) (t : Stage) (a m : Shown) (n : ℕ) (trigger : AckTrigger) (now : ℕ)
-    → is_some o ≡ true → IsTruthful own a → AwaitsInitAck a → n ≡ peer
-    → IsMetBack n a m → IsGreeted own peer t (Act.PeerKnown n ∷ []) a (echoed o m trigger now).0
-unfolding sends_cookie
-echoed_greets None own peer t a m n trigger now some truthful w is met = absurd (false≢true some)
-echoed_greets (Some cookie) own peer t a m n trigger now some truthful w is met =
-    let b : Shown = with_echo m cookie now in
-    let c : ControlPacket = record { header = header_of m.handshake; chunk = chunks.CookieEcho cookie } in
-    let known : is_some m.handshake.peer_initial_tsn ≡ true = ap is_some met.known in
-    let goes : IsNoEarlier (stage_of a)
-    (stage_of b) = record { side = met.side; knows = λ k. known; completed = λ d. met.completed ∙ d } in
-    let keeps : KeepsSaying a b = record {
-      tsn = met.tsn;
-      goes = goes;
-      offers = λ s. absurd (none_is m.handshake.offer met.offer s);
-      echoes = λ x. inr (met.side ∙ w.client, known);
-    } in
-    record {
-      truthful =
-          truthful_with own a b c truthful keeps (ap (λ (z : List ControlPacket). z ++ c ∷ []) met.control)
-          (met.side ∙ w.client, known) refl;
-      come = inr (inl record {
-        client = met.side ∙ w.client;
-        state = refl;
-        incomplete = met.completed ∙ w.incomplete;
-        unissued = met.issued ∙ w.unissued;
-        known = known;
-      });
-      goes = goes;
-      completes = λ d. inl (sym met.completed ∙ d);
-      learns = inr (ap (λ (x : ℕ). Act.PeerKnown x ∷ []) is, waiting_is_deaf a w);
-    }
+-- What an INIT ACK with other ports leaves: all but a tag and numbers of streams.
+record IsLeftWaiting (a b : Shown) : Type 0 where
+  pub side : b.side ≡ a.side
+  pub state : b.state ≡ a.state
+  pub control : b.control ≡ a.control
+  pub tsn : b.handshake.my_initial_tsn ≡ a.handshake.my_initial_tsn
+  pub known : b.handshake.peer_initial_tsn ≡ a.handshake.peer_initial_tsn
+  pub completed : b.handshake.completed ≡ a.handshake.completed
+  pub issued : b.handshake.cookie_issued ≡ a.handshake.cookie_issued
+  pub offer : b.handshake.offer ≡ a.handshake.offer
+  pub echo : b.handshake.echo ≡ a.handshake.echo
 
--- with other ports it leaves all but a tag and numbers of streams
-other_ports_greet : (own peer : ℕ) (t : Stage) (a b : Shown) → IsTruthful own a → AwaitsInitAck a → b.side ≡ a.side
-    → b.state ≡ a.state → b.control ≡ a.control
-    → b.handshake.my_initial_tsn ≡ a.handshake.my_initial_tsn
-    → b.handshake.peer_initial_tsn ≡ a.handshake.peer_initial_tsn → b.handshake.completed ≡ a.handshake.completed
-    → b.handshake.cookie_issued ≡ a.handshake.cookie_issued → b.handshake.offer ≡ a.handshake.offer
-    → b.handshake.echo ≡ a.handshake.echo → IsGreeted own peer t [] a b
-other_ports_greet own peer t a b truthful w side state control tsn known completed issued offer echo =
-    let goes : IsNoEarlier (stage_of a)
-    (stage_of b) = record { side = side; knows = λ k. ap is_some known ∙ k; completed = λ d. completed ∙ d } in
-    record {
-      truthful = truthful_still own a b truthful record {
-        tsn = tsn;
+-- What each chunk makes of an association that stands by its handshake, whose peer is in this stage.
+module _ (own peer : ℕ) (t : Stage) (a : Shown) (truthful : IsTruthful own a) (come : HasCome a) where
+  -- an association that no chunk changes
+  nothing_greeted : IsGreeted own peer t [] a a
+  nothing_greeted = record {
+    truthful = truthful;
+    come = come;
+    goes = record { side = refl; knows = λ k. k; completed = λ d. d };
+    completes = λ d. inl d;
+    learns = inl (refl, refl);
+  }
+
+  -- INIT: a server takes it, and an association that is established doesn't
+  init_greets : (c : Bool) (header : CommonHeader) (init : ChunkInit) (trigger : AckTrigger) → is_beginning a.state ≡ c
+      → Greets peer t (chunks.Init init) → IsDoneAmongClients (stage_of a) t
+      → IsGreeted own peer t (if c then Act.PeerKnown init.initial_tsn ∷ [] else []) a (on_init a header init trigger).0
+  unfolding on_init
+  init_greets true header init trigger e (is, client) one =
+      let b : Shown = answered (learned a header init) in
+      let l = listens a t e client one come in
+      let goes : IsNoEarlier (stage_of a)
+      (stage_of b) = record { side = refl; knows = λ k. refl; completed = λ d. d } in
+      let keeps : KeepsSaying a b = record { tsn = refl; goes = goes; offers = λ o. o; echoes = λ x. inl x } in
+      rw e (record {
+        truthful = truthful_with own a b _ truthful keeps refl (truthful.tsn, refl) refl;
+        come =
+            inr (inr (inl record {
+              server = l.server;
+              state = l.state;
+              incomplete = l.incomplete;
+              issued = λ i. refl;
+            }));
         goes = goes;
-        offers = λ o. ap is_some (sym offer) ∙ o;
-        echoes = λ x. inl (ap is_some (sym echo) ∙ x);
-      } control;
-      come = inl record {
-        client = side ∙ w.client;
-        state = state ∙ w.state;
-        incomplete = completed ∙ w.incomplete;
-        unissued = issued ∙ w.unissued;
-        unknown = ap is_some known ∙ w.unknown;
-      };
-      goes = goes;
-      completes = λ d. inl (sym completed ∙ d);
-      learns = inl (refl, known);
-    }
+        completes = λ d. inl d;
+        learns = inr (ap (λ (n : ℕ). Act.PeerKnown n ∷ []) is, listener_is_deaf a l);
+      })
+  init_greets false header init trigger e said one = rw e nothing_greeted
 
-init_ack_greets : (waits back : Bool) (own peer : ℕ) (t : Stage) (a : Shown) (header : CommonHeader) (init : ChunkInit)
-    (trigger : AckTrigger) (now : ℕ) → is_cookie_wait a.state ≡ waits
-    → comes_back a.handshake header ≡ back → Greets peer t (chunks.InitAck init) → IsTruthful own a → HasCome a
-    → IsGreeted own peer t (if waits then (if back then Act.PeerKnown init.initial_tsn ∷ [] else []) else []) a
-    (on_init_ack a header init trigger now).0
-unfolding on_init_ack
-init_ack_greets true true own peer t a header init trigger now e f (is, some) truthful come =
-    rw (e, f) (echoed_greets (first_cookie init.params) own peer t a _ init.initial_tsn trigger now some truthful
-    (waits_for_it a e come) is
-    record {
-      side = refl;
-      state = refl;
-      control = refl;
-      tsn = refl;
-      known = refl;
-      completed = refl;
-      issued = refl;
-      offer = refl;
-      echo = refl;
-    })
-init_ack_greets true false own peer t a header init trigger now e f said truthful come =
-    rw (e, f) (other_ports_greet own peer t a _ truthful (waits_for_it a e come) refl refl refl refl refl refl
-    refl refl refl)
-init_ack_greets false back own peer t a header init trigger now e f said truthful come =
-    rw e (nothing_greeted own peer t a truthful come)
+  -- COOKIE ACK completes what a client began
+  cookie_ack_greets : (c : Bool) (trigger : AckTrigger) → is_cookie_echoed a.state ≡ c → t.completed ≡ true
+      → IsGreeted own peer t [] a (on_cookie_ack a trigger).0
+  unfolding on_cookie_ack
+  cookie_ack_greets true trigger e said =
+      let k = connected_keeps a in
+      rw e (record {
+        truthful = truthful_still own a (connected a) truthful k refl;
+        come = ack_come a e come;
+        goes = k.goes;
+        completes = λ d. inr (inl said);
+        learns = inl (refl, refl);
+      })
+  cookie_ack_greets false trigger e said = rw e nothing_greeted
 
--- Any chunk that its own check accepts, or refuses
+  -- COOKIE ECHO completes what a server began
+  cookie_echo_greets : (issued begins established : Bool) (cookie : List ℕ) (trigger : AckTrigger)
+      → has_issued a.handshake cookie ≡ issued
+      → is_beginning a.state ≡ begins → is_established a.state ≡ established
+      → (t.side ≡ sides.Client) × (t.knows ≡ true)
+      → IsGreeted own peer t [] a (on_cookie_echo a cookie trigger).0
+  unfolding on_cookie_echo
+  cookie_echo_greets false begins established cookie trigger e f g said = rw e nothing_greeted
+  cookie_echo_greets true true established cookie trigger e f g said =
+      let issued = issued_of a.handshake.cookie_issued (bytes_eq a.handshake.cookie cookie) e in
+      let b : Shown = acknowledged_cookie (connected a) in
+      let k = connected_keeps a in
+      let keeps : KeepsSaying a b = record {
+        tsn = k.tsn;
+        goes = record { side = refl; knows = λ k. k; completed = λ d. refl };
+        offers = k.offers;
+        echoes = k.echoes;
+      } in
+      rw (e, f) (record {
+        truthful = truthful_with own a b _ truthful keeps refl refl refl;
+        come = echo_come a issued f come;
+        goes = keeps.goes;
+        completes = λ d. inr (inr said);
+        learns = inl (refl, refl);
+      })
+  cookie_echo_greets true false true cookie trigger e f g said =
+      let b : Shown = acknowledged_cookie a in
+      let keeps : KeepsSaying a b = record {
+        tsn = refl;
+        goes = record { side = refl; knows = λ k. k; completed = λ d. d };
+        offers = λ o. o;
+        echoes = λ x. inl x;
+      } in
+      let s = established_sides_talk a g come in
+      rw (e, f, g) (record {
+        truthful = truthful_with own a b _ truthful keeps refl s.completed refl;
+        come = inr (inr (inr record { state = s.state; completed = s.completed; known = s.known }));
+        goes = keeps.goes;
+        completes = λ d. inl d;
+        learns = inl (refl, refl);
+      })
+  cookie_echo_greets true false false cookie trigger e f g said = rw (e, f, g) nothing_greeted
 
-kind_greets : (own peer : ℕ) (t : Stage) (r : Result (Unit {0}) Error) (header : CommonHeader) (c : Chunk) (a : Shown)
-    (trigger : AckTrigger) (now : ℕ) → Greets peer t c → IsDoneAmongClients (stage_of a) t
-    → IsTruthful own a → HasCome a
-    → IsGreeted own peer t (acts_of_checked r a header c) a (checked_first r a header c trigger now).0
-kind_greets own peer t (Err fault) header c a trigger now said one truthful come =
-    nothing_greeted own peer t a truthful come
-kind_greets own peer t (Ok done) header (chunks.Init x) a trigger now said one truthful come =
-    init_greets (is_beginning a.state) own peer t a header x trigger refl said one truthful come
-kind_greets own peer t (Ok done) header (chunks.InitAck x) a trigger now said one truthful come =
-    init_ack_greets (is_cookie_wait a.state) (comes_back a.handshake header) own peer t a header x trigger now refl refl
-    said truthful come
-kind_greets own peer t (Ok done) header (chunks.CookieEcho x) a trigger now said one truthful come =
-    cookie_echo_greets (has_issued a.handshake x) (is_beginning a.state) (is_established a.state) own peer t a x trigger
-    refl refl refl said truthful come
-kind_greets own peer t (Ok done) header chunks.CookieAck a trigger now said one truthful come =
-    cookie_ack_greets (is_cookie_echoed a.state) own peer t a trigger refl said truthful come
-kind_greets own peer t (Ok done) header (chunks.Data x) a trigger now said one truthful come = absurd said
-kind_greets own peer t (Ok done) header (chunks.SelectiveAck x) a trigger now said one truthful come = absurd said
-kind_greets own peer t (Ok done) header (chunks.Heartbeat x) a trigger now said one truthful come = absurd said
-kind_greets own peer t (Ok done) header (chunks.HeartbeatAck x) a trigger now said one truthful come = absurd said
-kind_greets own peer t (Ok done) header (chunks.Abort x) a trigger now said one truthful come = absurd said
-kind_greets own peer t (Ok done) header (chunks.Shutdown x) a trigger now said one truthful come = absurd said
-kind_greets own peer t (Ok done) header chunks.ShutdownAck a trigger now said one truthful come = absurd said
-kind_greets own peer t (Ok done) header (chunks.Error x) a trigger now said one truthful come = absurd said
-kind_greets own peer t (Ok done) header chunks.ShutdownComplete a trigger now said one truthful come = absurd said
-kind_greets own peer t (Ok done) header (chunks.Reconfig x) a trigger now said one truthful come = absurd said
-kind_greets own peer t (Ok done) header (chunks.ForwardTsn x) a trigger now said one truthful come = absurd said
-kind_greets own peer t (Ok done) header (chunks.IForwardTsn x) a trigger now said one truthful come = absurd said
-kind_greets own peer t (Ok done) header (chunks.Other kind flags value) a trigger now said one truthful come =
-    absurd said
+  -- INIT ACK: a client that waits for it takes it
+  echoed_greets : (o : Option (List ℕ)) (m : Shown) (n : ℕ) (trigger : AckTrigger) (now : ℕ)
+      → is_cookie_wait a.state ≡ true → is_some o ≡ true → n ≡ peer → IsMetBack n a m
+      → IsGreeted own peer t (Act.PeerKnown n ∷ []) a (echoed o m trigger now).0
+  unfolding sends_cookie
+  echoed_greets None m n trigger now e some is met = absurd (false≢true some)
+  echoed_greets (Some cookie) m n trigger now e some is met =
+      let w = waits_for_it a e come in
+      let b : Shown = with_echo m cookie now in
+      let c : ControlPacket = record { header = header_of m.handshake; chunk = chunks.CookieEcho cookie } in
+      let known : is_some m.handshake.peer_initial_tsn ≡ true = ap is_some met.known in
+      let goes : IsNoEarlier (stage_of a)
+      (stage_of b) = record { side = met.side; knows = λ k. known; completed = λ d. met.completed ∙ d } in
+      let keeps : KeepsSaying a b = record {
+        tsn = met.tsn;
+        goes = goes;
+        offers = λ s. absurd (none_is m.handshake.offer met.offer s);
+        echoes = λ x. inr (met.side ∙ w.client, known);
+      } in
+      record {
+        truthful =
+            truthful_with own a b c truthful keeps (ap (λ (z : List ControlPacket). z ++ c ∷ []) met.control)
+            (met.side ∙ w.client, known) refl;
+        come = inr (inl record {
+          client = met.side ∙ w.client;
+          state = refl;
+          incomplete = met.completed ∙ w.incomplete;
+          unissued = met.issued ∙ w.unissued;
+          known = known;
+        });
+        goes = goes;
+        completes = λ d. inl (sym met.completed ∙ d);
+        learns = inr (ap (λ (x : ℕ). Act.PeerKnown x ∷ []) is, waiting_is_deaf a w);
+      }
+
+  other_ports_greet : (b : Shown) → is_cookie_wait a.state ≡ true → IsLeftWaiting a b → IsGreeted own peer t [] a b
+  other_ports_greet b e l =
+      let w = waits_for_it a e come in
+      let goes : IsNoEarlier (stage_of a)
+      (stage_of b) = record { side = l.side; knows = λ k. ap is_some l.known ∙ k; completed = λ d. l.completed ∙ d } in
+      record {
+        truthful = truthful_still own a b truthful record {
+          tsn = l.tsn;
+          goes = goes;
+          offers = λ o. ap is_some (sym l.offer) ∙ o;
+          echoes = λ x. inl (ap is_some (sym l.echo) ∙ x);
+        } l.control;
+        come = inl record {
+          client = l.side ∙ w.client;
+          state = l.state ∙ w.state;
+          incomplete = l.completed ∙ w.incomplete;
+          unissued = l.issued ∙ w.unissued;
+          unknown = ap is_some l.known ∙ w.unknown;
+        };
+        goes = goes;
+        completes = λ d. inl (sym l.completed ∙ d);
+        learns = inl (refl, l.known);
+      }
+
+  init_ack_greets : (waits back : Bool) (header : CommonHeader) (init : ChunkInit) (trigger : AckTrigger) (now : ℕ)
+      → is_cookie_wait a.state ≡ waits
+      → comes_back a.handshake header ≡ back → Greets peer t (chunks.InitAck init)
+      → IsGreeted own peer t (if waits then (if back then Act.PeerKnown init.initial_tsn ∷ [] else []) else []) a
+      (on_init_ack a header init trigger now).0
+  unfolding on_init_ack
+  init_ack_greets true true header init trigger now e f (is, some) =
+      rw (e, f) (echoed_greets (first_cookie init.params) _ init.initial_tsn trigger now e some is record {
+        side = refl;
+        state = refl;
+        control = refl;
+        tsn = refl;
+        known = refl;
+        completed = refl;
+        issued = refl;
+        offer = refl;
+        echo = refl;
+      })
+  init_ack_greets true false header init trigger now e f said =
+      rw (e, f) (other_ports_greet _ e record {
+        side = refl;
+        state = refl;
+        control = refl;
+        tsn = refl;
+        known = refl;
+        completed = refl;
+        issued = refl;
+        offer = refl;
+        echo = refl;
+      })
+  init_ack_greets false back header init trigger now e f said = rw e nothing_greeted
+
+  -- Any chunk that its own check accepts, or refuses
+
+  kind_greets : (r : Result (Unit {0}) Error) (header : CommonHeader) (c : Chunk) (trigger : AckTrigger) (now : ℕ)
+      → Greets peer t c → IsDoneAmongClients (stage_of a) t
+      → IsGreeted own peer t (acts_of_checked r a header c) a (checked_first r a header c trigger now).0
+  kind_greets (Err fault) header c trigger now said one = nothing_greeted
+  kind_greets (Ok done) header (chunks.Init x) trigger now said one =
+      init_greets (is_beginning a.state) header x trigger refl said one
+  kind_greets (Ok done) header (chunks.InitAck x) trigger now said one =
+      init_ack_greets (is_cookie_wait a.state) (comes_back a.handshake header) header x trigger now refl refl said
+  kind_greets (Ok done) header (chunks.CookieEcho x) trigger now said one =
+      cookie_echo_greets (has_issued a.handshake x) (is_beginning a.state) (is_established a.state) x trigger refl refl
+      refl said
+  kind_greets (Ok done) header chunks.CookieAck trigger now said one =
+      cookie_ack_greets (is_cookie_echoed a.state) trigger refl said
+  kind_greets (Ok done) header (chunks.Data x) trigger now said one = absurd said
+  kind_greets (Ok done) header (chunks.SelectiveAck x) trigger now said one = absurd said
+  kind_greets (Ok done) header (chunks.Heartbeat x) trigger now said one = absurd said
+  kind_greets (Ok done) header (chunks.HeartbeatAck x) trigger now said one = absurd said
+  kind_greets (Ok done) header (chunks.Abort x) trigger now said one = absurd said
+  kind_greets (Ok done) header (chunks.Shutdown x) trigger now said one = absurd said
+  kind_greets (Ok done) header chunks.ShutdownAck trigger now said one = absurd said
+  kind_greets (Ok done) header (chunks.Error x) trigger now said one = absurd said
+  kind_greets (Ok done) header chunks.ShutdownComplete trigger now said one = absurd said
+  kind_greets (Ok done) header (chunks.Reconfig x) trigger now said one = absurd said
+  kind_greets (Ok done) header (chunks.ForwardTsn x) trigger now said one = absurd said
+  kind_greets (Ok done) header (chunks.IForwardTsn x) trigger now said one = absurd said
+  kind_greets (Ok done) header (chunks.Other kind flags value) trigger now said one = absurd said
 
 pub chunk_greets : (header : CommonHeader) (c : Chunk) (a : Shown) (trigger : AckTrigger) (now : ℕ)
     → GreetsOn header c a (on_chunk a header c trigger now).0
 unfolding on_chunk
-chunk_greets header c a trigger now own peer t said one truthful come =
-    kind_greets own peer t (checked_chunk c) header c a trigger now said one truthful come
+chunk_greets header c a trigger now =
+    λ own peer t said one truthful come.
+    kind_greets own peer t a truthful come (checked_chunk c) header c trigger now said one
 
 -- The same handshake in the same state has come as far.
 come_on : (a b : Shown) → b.side ≡ a.side → b.state ≡ a.state → b.handshake ≡ a.handshake → HasCome a → HasCome b
