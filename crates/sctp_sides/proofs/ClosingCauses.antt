@@ -51,16 +51,16 @@ fault_leaves_echo : (o : Option (List ℕ)) (b : Shown) (trigger : AckTrigger) (
 fault_leaves_echo None b trigger now error f = refl
 fault_leaves_echo (Some cookie) b trigger now error f = absurd (never None error refl f)
 
-fault_leaves_init_ack : (waits back : Bool) (a : Shown) (header : CommonHeader) (init : ChunkInit)
-    (trigger : AckTrigger) (now : ℕ) (error : Error) → is_cookie_wait a.state ≡ waits
-    → comes_back a.handshake header ≡ back → fault_of (on_init_ack a header init trigger now).1 ≡ Some error
-    → (on_init_ack a header init trigger now).0.state ≡ a.state
-unfolding on_init_ack
-fault_leaves_init_ack true true a header init trigger now error e g f =
-    let fault = rw (e, g) at f in
-    rw (e, g) (fault_leaves_echo (first_cookie init.params) _ trigger now error fault)
-fault_leaves_init_ack true false a header init trigger now error e g f = rw (e, g) refl
-fault_leaves_init_ack false back a header init trigger now error e g f = rw e refl
+module _ (a : Shown) (header : CommonHeader) (init : ChunkInit) (trigger : AckTrigger) (now : ℕ) (error : Error) where
+  fault_leaves_init_ack : (waits back : Bool) → is_cookie_wait a.state ≡ waits
+      → comes_back a.handshake header ≡ back → fault_of (on_init_ack a header init trigger now).1 ≡ Some error
+      → (on_init_ack a header init trigger now).0.state ≡ a.state
+  unfolding on_init_ack
+  fault_leaves_init_ack true true e g f =
+      let fault = rw (e, g) at f in
+      rw (e, g) (fault_leaves_echo (first_cookie init.params) _ trigger now error fault)
+  fault_leaves_init_ack true false e g f = rw (e, g) refl
+  fault_leaves_init_ack false back e g f = rw e refl
 
 fault_leaves_kind : (header : CommonHeader) (c : Chunk) (a : Shown) (trigger : AckTrigger) (now : ℕ) (error : Error)
     → fault_of (dispatched a header c trigger now).1 ≡ Some error
@@ -73,8 +73,8 @@ fault_leaves_kind header (chunks.SelectiveAck sack) a trigger now error f =
 fault_leaves_kind header (chunks.Init x) a trigger now error f =
     fault_leaves_init (is_beginning a.state) a header x trigger error refl f
 fault_leaves_kind header (chunks.InitAck x) a trigger now error f =
-    fault_leaves_init_ack (is_cookie_wait a.state) (comes_back a.handshake header) a header x trigger now
-    error refl refl f
+    fault_leaves_init_ack a header x trigger now error (is_cookie_wait a.state) (comes_back a.handshake header)
+    refl refl f
 fault_leaves_kind header (chunks.CookieEcho x) a trigger now error f =
     absurd (never _ error (echo_flow _ _ _ a x trigger refl refl refl) f)
 fault_leaves_kind header chunks.CookieAck a trigger now error f =
@@ -109,61 +109,60 @@ record CauseAmong (header : CommonHeader) (cs : List Chunk) (a : Shown) (trigger
   binds : Binds reached stands
   is_cause : (h : History) → Binds reached h → IsCause reached h header chunk
 
-cause_here : (header : CommonHeader) (c : Chunk) (cs : List Chunk) (a b : Shown) (h : History) (trigger : AckTrigger)
-    (now : ℕ) (error : Error) → Binds a h
-    → on_chunk a header c trigger now ≡ (b, flows.Fault error) → not (is_closed_state b.state) ≡ true
-    → CauseAmong header (c ∷ cs) a trigger now
-cause_here header c cs a b h trigger now error binds e n =
-    let fault : (on_chunk a header c trigger now).1 ≡ flows.Fault error = ap (λ (x : Shown × Flow). x.1) e in
-    let same : b.state ≡ a.state =
-    sym (ap (λ (x : Shown × Flow). x.0.state) e)
-    ∙ fault_leaves_state header c a trigger now error (ap fault_of fault) in
-    record {
-      index = 0;
-      chunk = c;
-      reached = a;
-      there = refl;
-      reaches = refl;
-      still_open =
-          λ closed. false≢true (sym (ap (λ (s : AssociationState). not (is_closed_state s)) (same ∙ closed)) ∙ n);
-      stands = h;
-      binds = binds;
-      is_cause = λ k stands. (faults_are_causes a k header c trigger now stands).0 (error, fault);
-    }
+-- The first of these chunks is a cause, or leads to the others.
+module _ (header : CommonHeader) (c : Chunk) (cs : List Chunk) (a : Shown) (trigger : AckTrigger) (now : ℕ) where
+  cause_here : (b : Shown) (h : History) (error : Error) → Binds a h
+      → on_chunk a header c trigger now ≡ (b, flows.Fault error) → not (is_closed_state b.state) ≡ true
+      → CauseAmong header (c ∷ cs) a trigger now
+  cause_here b h error binds e n =
+      let fault : (on_chunk a header c trigger now).1 ≡ flows.Fault error = ap (λ (x : Shown × Flow). x.1) e in
+      let same : b.state ≡ a.state =
+      sym (ap (λ (x : Shown × Flow). x.0.state) e)
+      ∙ fault_leaves_state header c a trigger now error (ap fault_of fault) in
+      record {
+        index = 0;
+        chunk = c;
+        reached = a;
+        there = refl;
+        reaches = refl;
+        still_open =
+            λ closed. false≢true (sym (ap (λ (s : AssociationState). not (is_closed_state s)) (same ∙ closed)) ∙ n);
+        stands = h;
+        binds = binds;
+        is_cause = λ k stands. (faults_are_causes a k header c trigger now stands).0 (error, fault);
+      }
 
-cause_on : (header : CommonHeader) (c : Chunk) (cs : List Chunk) (a b : Shown) (trigger next : AckTrigger) (now : ℕ)
-    → on_chunk a header c trigger now ≡ (b, flows.Next next)
-    → CauseAmong header cs b next now → CauseAmong header (c ∷ cs) a trigger now
-cause_on header c cs a b trigger next now e m = record {
-  index = suc m.index;
-  chunk = m.chunk;
-  reached = m.reached;
-  there = m.there;
-  reaches = (b, next, e, m.reaches);
-  still_open = m.still_open;
-  stands = m.stands;
-  binds = m.binds;
-  is_cause = m.is_cause;
-}
+  cause_on : (b : Shown) (next : AckTrigger) → on_chunk a header c trigger now ≡ (b, flows.Next next)
+      → CauseAmong header cs b next now → CauseAmong header (c ∷ cs) a trigger now
+  cause_on b next e m = record {
+    index = suc m.index;
+    chunk = m.chunk;
+    reached = m.reached;
+    there = m.there;
+    reaches = (b, next, e, m.reaches);
+    still_open = m.still_open;
+    stands = m.stands;
+    binds = m.binds;
+    is_cause = m.is_cause;
+  }
 
-cause_step : (x : Shown × Flow) (header : CommonHeader) (c : Chunk) (cs : List Chunk) (a : Shown) (h k : History)
-    (trigger : AckTrigger) (now : ℕ) → Binds a h
-    → on_chunk a header c trigger now ≡ x → Binds x.0 k → faults_or x (λ b next. is_faulted header cs b next now) ≡ true
-    → ((b : Shown) (next : AckTrigger) → Binds b k → is_faulted header cs b next now ≡ true
-    → CauseAmong header cs b next now) → CauseAmong header (c ∷ cs) a trigger now
-cause_step (b, flows.Next next) header c cs a h k trigger now binds e stands f more =
-    cause_on header c cs a b trigger next now e (more b next stands f)
-cause_step (b, flows.Fault error) header c cs a h k trigger now binds e stands f more =
-    cause_here header c cs a b h trigger now error binds e f
+  cause_step : (x : Shown × Flow) (h k : History) → Binds a h → on_chunk a header c trigger now ≡ x → Binds x.0 k
+      → faults_or x (λ b next. is_faulted header cs b next now) ≡ true
+      → ((b : Shown) (next : AckTrigger) → Binds b k → is_faulted header cs b next now ≡ true
+      → CauseAmong header cs b next now) → CauseAmong header (c ∷ cs) a trigger now
+  cause_step (b, flows.Next next) h k binds e stands f more = cause_on b next e (more b next stands f)
+  cause_step (b, flows.Fault error) h k binds e stands f more = cause_here b h error binds e f
 
-cause_among : (header : CommonHeader) (cs : List Chunk) (a : Shown) (h : History) (trigger : AckTrigger) (now : ℕ)
-    → Binds a h → is_faulted header cs a trigger now ≡ true
-    → CauseAmong header cs a trigger now
-cause_among header [] a h trigger now binds f = absurd (false≢true f)
-cause_among header (c ∷ cs) a h trigger now binds f =
-    let next = (chunks_lead_on header c a trigger now).leads h binds in
-    cause_step (on_chunk a header c trigger now) header c cs a h next.0 trigger now binds refl next.1.binds f
-    (λ b wished stands g. cause_among header cs b next.0 wished now stands g)
+module _ (header : CommonHeader) (now : ℕ) where
+  cause_among : (cs : List Chunk) (a : Shown) (h : History) (trigger : AckTrigger)
+      → Binds a h → is_faulted header cs a trigger now ≡ true
+      → CauseAmong header cs a trigger now
+  cause_among [] a h trigger binds f = absurd (false≢true f)
+  cause_among (c ∷ cs) a h trigger binds f =
+      let next = (chunks_lead_on header c a trigger now).leads h binds in
+      cause_step header c cs a trigger now (on_chunk a header c trigger now) h next.0 binds refl next.1.binds f
+      (λ b wished stands g.
+      cause_among cs b next.0 wished stands g)
 
 closes_by : (lost faulted : Bool) → (not lost && faulted) ≡ true → faulted ≡ true
 closes_by true faulted e = absurd (false≢true e)
@@ -172,7 +171,7 @@ closes_by false faulted e = e
 pub closing_packets_have_causes : ClosingPacketsHaveCauses
 closing_packets_have_causes a h packet now binds e =
     let f = closes_by a.lost (is_faulted_packet a (Some packet) now) e in
-    let m = cause_among packet.common_header packet.chunks a h triggers.None now binds f in
+    let m = cause_among packet.common_header now packet.chunks a h triggers.None binds f in
     record {
       index = m.index;
       chunk = m.chunk;
@@ -192,33 +191,33 @@ abbrev chunk_or : Chunk → Option Chunk → Chunk
 chunk_or other None = other
 chunk_or other (Some chunk) = chunk
 
-caused : (header : CommonHeader) (cs : List Chunk) (index : ℕ) (chunk : Chunk) (a reached : Shown) (h : History)
-    (trigger : AckTrigger) (now : ℕ)
-    → slice_get cs index ≡ Some chunk → Reaches header cs a trigger now index reached → reached.state ≢ states.Closed
-    → Binds reached h → IsCause reached h header chunk
-    → is_faulted header cs a trigger now ≡ true
-caused header [] index chunk a reached h trigger now there reaches opened binds cause = absurd reaches
-caused header (c ∷ cs) zero chunk a reached h trigger now there reaches opened binds cause =
-    let here : chunk ≡ c = sym (ap (chunk_or c) there) in
-    let stands : Binds a h = subst (λ (z : Shown). Binds z h) reaches binds in
-    let is_cause : IsCause a h header c =
-    subst (λ (z : Shown). IsCause z h header c) reaches
-    (subst (λ (z : Chunk). IsCause reached h header z) here cause) in
-    let fault = (faults_are_causes a h header c trigger now stands).1 is_cause in
-    let left : (on_chunk a header c trigger now).0.state ≡ a.state =
-    fault_leaves_state header c a trigger now fault.0 (ap fault_of fault.1) in
-    fault_counts (on_chunk a header c trigger now) (λ b next. is_faulted header cs b next now) fault.0
-    (ap fault_of fault.1)
-    (ap is_closed_state (left ∙ sym (ap (λ (z : Shown). z.state) reaches)) ∙ open_state reached.state opened)
-caused header (c ∷ cs) (suc index) chunk a reached h trigger now there (b, next, e, reaches) opened binds cause =
-    ap (λ (x : Shown × Flow). faults_or x (λ d wished. is_faulted header cs d wished now)) e
-    ∙ caused header cs index chunk b reached h next now there reaches opened binds cause
+module _ (header : CommonHeader) (chunk : Chunk) (reached : Shown) (h : History) (now : ℕ)
+    (opened : reached.state ≢ states.Closed) (binds : Binds reached h) (cause : IsCause reached h header chunk) where
+  caused : (cs : List Chunk) (index : ℕ) (a : Shown) (trigger : AckTrigger) → slice_get cs index ≡ Some chunk
+      → Reaches header cs a trigger now index reached → is_faulted header cs a trigger now ≡ true
+  caused [] index a trigger there reaches = absurd reaches
+  caused (c ∷ cs) zero a trigger there reaches =
+      let here : chunk ≡ c = sym (ap (chunk_or c) there) in
+      let stands : Binds a h = subst (λ (z : Shown). Binds z h) reaches binds in
+      let is_cause : IsCause a h header c =
+      subst (λ (z : Shown). IsCause z h header c) reaches
+      (subst (λ (z : Chunk). IsCause reached h header z) here cause) in
+      let fault = (faults_are_causes a h header c trigger now stands).1 is_cause in
+      let left : (on_chunk a header c trigger now).0.state ≡ a.state =
+      fault_leaves_state header c a trigger now fault.0 (ap fault_of fault.1) in
+      fault_counts (on_chunk a header c trigger now) (λ b next. is_faulted header cs b next now) fault.0
+      (ap fault_of fault.1)
+      (ap is_closed_state (left ∙ sym (ap (λ (z : Shown). z.state) reaches)) ∙ open_state reached.state opened)
+  caused (c ∷ cs) (suc index) a trigger there (b, next, e, reaches) =
+      ap (λ (x : Shown × Flow). faults_or x (λ d wished. is_faulted header cs d wished now)) e
+      ∙ caused cs index b next there reaches
 
 closes_unless : (lost faulted : Bool) → lost ≡ false → faulted ≡ true → (not lost && faulted) ≡ true
 closes_unless lost faulted e f = rw (e, f) refl
 
 pub causes_close : CausesClose
-causes_close a packet now index chunk reached h present r binds cause =
+causes_close a packet now index chunk reached h =
+    λ present r binds cause.
+    let faulted = caused packet.common_header chunk reached h now r.still_open binds cause in
     closes_unless a.lost (is_faulted_packet a (Some packet) now) present
-    (caused packet.common_header packet.chunks index chunk a reached h triggers.None now r.there r.reaches
-    r.still_open binds cause)
+    (faulted packet.chunks index a triggers.None r.there r.reaches)
