@@ -109,52 +109,50 @@ acknowledged_nothing : (n now : ℕ) (s : Sender) (e : Estimate) (m : StreamMap)
 acknowledged_nothing zero now s e m h = refl
 acknowledged_nothing (suc n) now s e m h = absurd (omega (arith, ltb-false 0 (suc n) h))
 
-cleared : (moved : Bool) (s : AssociationState) (f g : List InFlight) (t : Timers) (now rto : ℕ)
-    → is_beginning s ≡ false → 0 < length g → FitsTimers s f t
-    → FitsTimers s g (restarted_if_stale names.T3RTX now rto (t3_cleared moved t))
-cleared moved s f g t now rto b p h =
-    let r = restarted now rto (t3_cleared moved t) in
-    fits_restarted s f g t (restarted_if_stale names.T3RTX now rto (t3_cleared moved t)) b
-    (record {
-      armed = r.armed;
-      init = r.init ∙ kept moved;
-      cookie = r.cookie
-          ∙ kept_cookie moved;
-      data_limit = r.data_limit ∙ kept_data moved;
-      handshake_limit = r.handshake_limit
-          ∙ kept_limit moved;
-    }) p h
-  where
-    kept : (c : Bool) → (t3_cleared c t).t1_init ≡ t.t1_init
-    kept true = refl
-    kept false = refl
+-- The timers fit these pieces in flight, and those that a SACK left are these.
+module _ (s : AssociationState) (f g : List InFlight) (t : Timers) (now rto : ℕ) (b : is_beginning s ≡ false)
+    (h : FitsTimers s f t) where
+  cleared : (moved : Bool) → 0 < length g
+      → FitsTimers s g (restarted_if_stale names.T3RTX now rto (t3_cleared moved t))
+  cleared moved p =
+      let r = restarted now rto (t3_cleared moved t) in
+      fits_restarted s f g t (restarted_if_stale names.T3RTX now rto (t3_cleared moved t)) b
+      (record {
+        armed = r.armed;
+        init = r.init ∙ kept moved;
+        cookie = r.cookie ∙ kept_cookie moved;
+        data_limit = r.data_limit ∙ kept_data moved;
+        handshake_limit = r.handshake_limit ∙ kept_limit moved;
+      }) p h
+    where
+      kept : (c : Bool) → (t3_cleared c t).t1_init ≡ t.t1_init
+      kept true = refl
+      kept false = refl
 
-    kept_cookie : (c : Bool) → (t3_cleared c t).t1_cookie ≡ t.t1_cookie
-    kept_cookie true = refl
-    kept_cookie false = refl
+      kept_cookie : (c : Bool) → (t3_cleared c t).t1_cookie ≡ t.t1_cookie
+      kept_cookie true = refl
+      kept_cookie false = refl
 
-    kept_data : (c : Bool) → (t3_cleared c t).data_limit ≡ t.data_limit
-    kept_data true = refl
-    kept_data false = refl
+      kept_data : (c : Bool) → (t3_cleared c t).data_limit ≡ t.data_limit
+      kept_data true = refl
+      kept_data false = refl
 
-    kept_limit : (c : Bool) → (t3_cleared c t).handshake_limit ≡ t.handshake_limit
-    kept_limit true = refl
-    kept_limit false = refl
+      kept_limit : (c : Bool) → (t3_cleared c t).handshake_limit ≡ t.handshake_limit
+      kept_limit true = refl
+      kept_limit false = refl
 
--- T3-rtx after a SACK that left these pieces in flight: where nothing was acknowledged the pieces are the same
-sack_fits : (left moved : Bool) (s : AssociationState) (f g : List InFlight) (t : Timers) (now rto : ℕ)
-    → is_beginning s ≡ false → ltb 0 (length g) ≡ left
-    → (moved ≡ false → g ≡ f) → FitsTimers s f t
-    → FitsTimers s g (if left then restarted_if_stale names.T3RTX now rto (t3_cleared moved t) else if moved
-    then with_stopped names.T3RTX t else t)
-sack_fits true moved s f g t now rto b e k h = cleared moved s f g t now rto b (ltb-true 0 (length g) e) h
-sack_fits false true s f g t now rto b e k h = record {
-  flies = record { timed = λ _ p. absurd (omega (arith, p, ltb-false 0 (length g) e)); none = λ _. refl };
-  inits = h.inits;
-  cookies = h.cookies;
-  unsent = λ z. absurd (false≢true (sym b ∙ z));
-}
-sack_fits false false s f g t now rto b e k h = fits_as_many s f g t (ap (λ (z : List InFlight). length z) (k refl)) h
+  -- T3-rtx after a SACK that left these pieces in flight: where nothing was acknowledged the pieces are the same
+  sack_fits : (left moved : Bool) → ltb 0 (length g) ≡ left → (moved ≡ false → g ≡ f)
+      → FitsTimers s g (if left then restarted_if_stale names.T3RTX now rto (t3_cleared moved t) else if moved
+      then with_stopped names.T3RTX t else t)
+  sack_fits true moved e k = cleared moved (ltb-true 0 (length g) e)
+  sack_fits false true e k = record {
+    flies = record { timed = λ _ p. absurd (omega (arith, p, ltb-false 0 (length g) e)); none = λ _. refl };
+    inits = h.inits;
+    cookies = h.cookies;
+    unsent = λ z. absurd (false≢true (sym b ∙ z));
+  }
+  sack_fits false false e k = fits_as_many s f g t (ap (λ (z : List InFlight). length z) (k refl)) h
 
 sack_keeps_ack : (left moved : Bool) (t : Timers) (now rto : ℕ)
     → (if left then restarted_if_stale names.T3RTX now rto (t3_cleared moved t)
@@ -170,8 +168,8 @@ taken_ticks : (a : Shown) (moved : Bool) (now : ℕ) (x : Sender × Estimate × 
 taken_ticks a moved now (s, e, m) b k h = record {
   working = h.working;
   not_lost = h.not_lost;
-  fits = sack_fits (ltb 0 (length s.queue.in_flight)) moved a.state a.sender.queue.in_flight s.queue.in_flight a.timers
-      now e.rto b refl k h.fits;
+  fits = sack_fits a.state a.sender.queue.in_flight s.queue.in_flight a.timers now e.rto b h.fits
+      (ltb 0 (length s.queue.in_flight)) moved refl k;
   acks = ack_kept (t3_after_sack moved (length s.queue.in_flight) now e.rto a.timers) a.timers a.receiver.ack_state
       (sack_keeps_ack (ltb 0 (length s.queue.in_flight)) moved a.timers now e.rto) h.acks;
 }
@@ -185,16 +183,6 @@ outcome_ticks outcomes.Taken a point window trigger now b h =
     taken_ticks a (ltb 0 (tsns_up_to a.sender point)) now
     (acknowledged (tsns_up_to a.sender point) now (with_window a.sender window, a.estimate, a.streams)) b
     (λ e. acknowledged_nothing (tsns_up_to a.sender point) now (with_window a.sender window) a.estimate a.streams e) h
-
-sack_ticks : (established : Bool) (a : Shown) (point window : ℕ) (trigger : AckTrigger) (now : ℕ)
-    → is_established a.state ≡ established → Ticks a
-    → Ticks (on_sack a point window trigger now).0
-unfolding on_sack
-sack_ticks true a point window trigger now e h =
-    rw e (outcome_ticks (sack_outcome a.sender point) (counted_sack a) point window trigger now
-    (established_begins_no_more a.state e)
-    (ticks_by a (counted_sack a) (time_by a (counted_sack a) refl refl refl refl refl refl) h))
-sack_ticks false a point window trigger now e h = rw e h
 
 -- The handshake
 
@@ -214,13 +202,6 @@ faulty b h = record { working = h.working; not_lost = h.not_lost; if_closed = λ
 ticks_on : (x : Shown × Flow) → Ticks x.0 → TicksOn x
 ticks_on (b, flows.Next trigger) h = h
 ticks_on (b, flows.Fault fault) h = faulty b h
-
-init_ticks : (c : Bool) (a : Shown) (header : CommonHeader) (init : ChunkInit) (trigger : AckTrigger)
-    → is_beginning a.state ≡ c → Ticks a → Ticks (on_init a header init trigger).0
-unfolding on_init
-init_ticks true a header init trigger e h = rw e (ticks_by a (answered (learned a header init))
-    (time_by a (answered (learned a header init)) refl refl refl refl refl refl) h)
-init_ticks false a header init trigger e h = rw e h
 
 waiting_is_open : (s : AssociationState) → is_cookie_wait s ≡ true
     → (is_closed_state s ≡ false) × (is_beginning s ≡ true)
@@ -271,19 +252,6 @@ echoed_ticks (Some cookie) b trigger now works lost e h k = record {
   acks = k;
 }
 
-init_ack_ticks : (waits back : Bool) (a : Shown) (header : CommonHeader) (init : ChunkInit)
-    (trigger : AckTrigger) (now : ℕ)
-    → is_cookie_wait a.state ≡ waits
-    → comes_back a.handshake header ≡ back → Ticks a → TicksOn (on_init_ack a header init trigger now)
-unfolding on_init_ack
-init_ack_ticks true true a header init trigger now e f h =
-    rw (e, f) (echoed_ticks (first_cookie init.params) _ trigger now h.working h.not_lost e
-    (echo_fits a.state a.sender.queue.in_flight a.timers now a.estimate.rto (waiting_is_open a.state e).1 h.fits)
-    h.acks)
-init_ack_ticks true false a header init trigger now e f h = rw (e, f)
-    (ticks_by a _ (time_by a _ refl refl refl refl refl refl) h)
-init_ack_ticks false back a header init trigger now e f h = rw e h
-
 -- it is established: neither timer of the handshake runs, and nothing was sent yet
 connected_fits : (s : AssociationState) (f : List InFlight) (t : Timers) → is_beginning s ≡ true → FitsTimers s f t
     → FitsTimers states.Established f (with_stopped names.T1Cookie (with_stopped names.T1Init t))
@@ -309,71 +277,95 @@ acknowledges_cookie : (a : Shown) → Ticks a → Ticks (acknowledged_cookie a)
 acknowledges_cookie a h = ticks_by a (acknowledged_cookie a)
     (time_by a (acknowledged_cookie a) refl refl refl refl refl refl) h
 
-cookie_echo_ticks : (issued begins established : Bool) (a : Shown) (cookie : List ℕ) (trigger : AckTrigger)
-    → has_issued a.handshake cookie ≡ issued
-    → is_beginning a.state ≡ begins → is_established a.state ≡ established → Ticks a
-    → Ticks (on_cookie_echo a cookie trigger).0
-unfolding on_cookie_echo
-cookie_echo_ticks false begins established a cookie trigger e f g h = rw e h
-cookie_echo_ticks true true established a cookie trigger e f g h = rw (e, f)
-    (acknowledges_cookie (connected a) (connected_ticks a f h))
-cookie_echo_ticks true false true a cookie trigger e f g h = rw (e, f, g) (acknowledges_cookie a h)
-cookie_echo_ticks true false false a cookie trigger e f g h = rw (e, f, g) h
-
-cookie_ack_ticks : (c : Bool) (a : Shown) (trigger : AckTrigger) → is_cookie_echoed a.state ≡ c → Ticks a
-    → Ticks (on_cookie_ack a trigger).0
-unfolding on_cookie_ack
-cookie_ack_ticks true a trigger e h = rw e (connected_ticks a (echoed_begins a.state e) h)
-cookie_ack_ticks false a trigger e h = rw e h
-
 information_ticks : (o : Option (List ℕ)) (a : Shown) → Ticks a → Ticks (information_returned o a)
 information_ticks None a h = h
 information_ticks (Some information) a h = ticks_by a _ (time_by a _ refl refl refl refl refl refl) h
 
-heartbeat_ticks : (a : Shown) (heartbeat : ChunkHeartbeat) (trigger : AckTrigger) → Ticks a
-    → TicksOn (on_heartbeat a heartbeat trigger)
-unfolding on_heartbeat
-heartbeat_ticks a heartbeat trigger h = information_ticks (information_of heartbeat.params) a h
+-- Each chunk keeps the timers where they should run, or is a fault.
+module _ (a : Shown) (trigger : AckTrigger) (h : Ticks a) where
+  sack_ticks : (established : Bool) (point window now : ℕ) → is_established a.state ≡ established
+      → Ticks (on_sack a point window trigger now).0
+  unfolding on_sack
+  sack_ticks true point window now e =
+      rw e (outcome_ticks (sack_outcome a.sender point) (counted_sack a) point window trigger now
+      (established_begins_no_more a.state e)
+      (ticks_by a (counted_sack a) (time_by a (counted_sack a) refl refl refl refl refl refl) h))
+  sack_ticks false point window now e = rw e h
 
--- Any chunk
+  init_ticks : (c : Bool) (header : CommonHeader) (init : ChunkInit) → is_beginning a.state ≡ c
+      → Ticks (on_init a header init trigger).0
+  unfolding on_init
+  init_ticks true header init e = rw e (ticks_by a (answered (learned a header init))
+      (time_by a (answered (learned a header init)) refl refl refl refl refl refl) h)
+  init_ticks false header init e = rw e h
 
-kind_ticks : (header : CommonHeader) (c : Chunk) (a : Shown) (trigger : AckTrigger) (now : ℕ) → Ticks a
-    → TicksOn (dispatched a header c trigger now)
-kind_ticks header (chunks.Data piece) a trigger now h = ticks_on (on_data a piece trigger)
-    (ticks_by a (on_data a piece trigger).0 (data_time a piece trigger) h)
-kind_ticks header (chunks.SelectiveAck k) a trigger now h =
-    ticks_on (on_sack a k.cumulative_tsn_ack k.advertised_receiver_window_credit trigger now)
-    (sack_ticks (is_established a.state) a k.cumulative_tsn_ack k.advertised_receiver_window_credit trigger now refl h)
-kind_ticks header (chunks.Init x) a trigger now h = ticks_on (on_init a header x trigger)
-    (init_ticks (is_beginning a.state) a header x trigger refl h)
-kind_ticks header (chunks.InitAck x) a trigger now h = init_ack_ticks (is_cookie_wait a.state)
-    (comes_back a.handshake header) a header x trigger now refl refl h
-kind_ticks header (chunks.Heartbeat x) a trigger now h = heartbeat_ticks a x trigger h
-kind_ticks header (chunks.HeartbeatAck x) a trigger now h = faulty a h
-kind_ticks header (chunks.Abort x) a trigger now h = faulty a h
-kind_ticks header (chunks.Shutdown x) a trigger now h = faulty a h
-kind_ticks header chunks.ShutdownAck a trigger now h = faulty a h
-kind_ticks header (chunks.Error x) a trigger now h = faulty a h
-kind_ticks header (chunks.CookieEcho x) a trigger now h =
-    ticks_on (on_cookie_echo a x trigger) (cookie_echo_ticks (has_issued a.handshake x) (is_beginning a.state)
-    (is_established a.state) a x trigger refl refl refl h)
-kind_ticks header chunks.CookieAck a trigger now h = ticks_on (on_cookie_ack a trigger)
-    (cookie_ack_ticks (is_cookie_echoed a.state) a trigger refl h)
-kind_ticks header chunks.ShutdownComplete a trigger now h = faulty a h
-kind_ticks header (chunks.Reconfig x) a trigger now h = faulty a h
-kind_ticks header (chunks.ForwardTsn x) a trigger now h = faulty a h
-kind_ticks header (chunks.IForwardTsn x) a trigger now h = faulty a h
-kind_ticks header (chunks.Other kind flags value) a trigger now h = faulty a h
+  init_ack_ticks : (waits back : Bool) (header : CommonHeader) (init : ChunkInit) (now : ℕ)
+      → is_cookie_wait a.state ≡ waits → comes_back a.handshake header ≡ back
+      → TicksOn (on_init_ack a header init trigger now)
+  unfolding on_init_ack
+  init_ack_ticks true true header init now e f =
+      rw (e, f) (echoed_ticks (first_cookie init.params) _ trigger now h.working h.not_lost e
+      (echo_fits a.state a.sender.queue.in_flight a.timers now a.estimate.rto (waiting_is_open a.state e).1 h.fits)
+      h.acks)
+  init_ack_ticks true false header init now e f = rw (e, f)
+      (ticks_by a _ (time_by a _ refl refl refl refl refl refl) h)
+  init_ack_ticks false back header init now e f = rw e h
 
-checked_ticks : (r : Result (Unit {0}) Error) (header : CommonHeader) (c : Chunk) (a : Shown) (trigger : AckTrigger)
-    (now : ℕ) → Ticks a → TicksOn (checked_first r a header c trigger now)
-checked_ticks (Err fault) header c a trigger now h = faulty a h
-checked_ticks (Ok done) header c a trigger now h = kind_ticks header c a trigger now h
+  cookie_echo_ticks : (issued begins established : Bool) (cookie : List ℕ) → has_issued a.handshake cookie ≡ issued
+      → is_beginning a.state ≡ begins → is_established a.state ≡ established
+      → Ticks (on_cookie_echo a cookie trigger).0
+  unfolding on_cookie_echo
+  cookie_echo_ticks false begins established cookie e f g = rw e h
+  cookie_echo_ticks true true established cookie e f g = rw (e, f)
+      (acknowledges_cookie (connected a) (connected_ticks a f h))
+  cookie_echo_ticks true false true cookie e f g = rw (e, f, g) (acknowledges_cookie a h)
+  cookie_echo_ticks true false false cookie e f g = rw (e, f, g) h
 
-chunk_ticks : (header : CommonHeader) (c : Chunk) (a : Shown) (trigger : AckTrigger) (now : ℕ) → Ticks a
-    → TicksOn (on_chunk a header c trigger now)
-unfolding on_chunk
-chunk_ticks header c a trigger now h = checked_ticks (checked_chunk c) header c a trigger now h
+  cookie_ack_ticks : (c : Bool) → is_cookie_echoed a.state ≡ c → Ticks (on_cookie_ack a trigger).0
+  unfolding on_cookie_ack
+  cookie_ack_ticks true e = rw e (connected_ticks a (echoed_begins a.state e) h)
+  cookie_ack_ticks false e = rw e h
+
+  heartbeat_ticks : (heartbeat : ChunkHeartbeat) → TicksOn (on_heartbeat a heartbeat trigger)
+  unfolding on_heartbeat
+  heartbeat_ticks heartbeat = information_ticks (information_of heartbeat.params) a h
+
+  -- any chunk
+  kind_ticks : (header : CommonHeader) (c : Chunk) (now : ℕ) → TicksOn (dispatched a header c trigger now)
+  kind_ticks header (chunks.Data piece) now = ticks_on (on_data a piece trigger)
+      (ticks_by a (on_data a piece trigger).0 (data_time a piece trigger) h)
+  kind_ticks header (chunks.SelectiveAck k) now =
+      ticks_on (on_sack a k.cumulative_tsn_ack k.advertised_receiver_window_credit trigger now)
+      (sack_ticks (is_established a.state) k.cumulative_tsn_ack k.advertised_receiver_window_credit now refl)
+  kind_ticks header (chunks.Init x) now = ticks_on (on_init a header x trigger)
+      (init_ticks (is_beginning a.state) header x refl)
+  kind_ticks header (chunks.InitAck x) now =
+      init_ack_ticks (is_cookie_wait a.state) (comes_back a.handshake header) header x now refl refl
+  kind_ticks header (chunks.Heartbeat x) now = heartbeat_ticks x
+  kind_ticks header (chunks.HeartbeatAck x) now = faulty a h
+  kind_ticks header (chunks.Abort x) now = faulty a h
+  kind_ticks header (chunks.Shutdown x) now = faulty a h
+  kind_ticks header chunks.ShutdownAck now = faulty a h
+  kind_ticks header (chunks.Error x) now = faulty a h
+  kind_ticks header (chunks.CookieEcho x) now =
+      ticks_on (on_cookie_echo a x trigger) (cookie_echo_ticks (has_issued a.handshake x) (is_beginning a.state)
+      (is_established a.state) x refl refl refl)
+  kind_ticks header chunks.CookieAck now = ticks_on (on_cookie_ack a trigger)
+      (cookie_ack_ticks (is_cookie_echoed a.state) refl)
+  kind_ticks header chunks.ShutdownComplete now = faulty a h
+  kind_ticks header (chunks.Reconfig x) now = faulty a h
+  kind_ticks header (chunks.ForwardTsn x) now = faulty a h
+  kind_ticks header (chunks.IForwardTsn x) now = faulty a h
+  kind_ticks header (chunks.Other kind flags value) now = faulty a h
+
+  checked_ticks : (r : Result (Unit {0}) Error) (header : CommonHeader) (c : Chunk) (now : ℕ)
+      → TicksOn (checked_first r a header c trigger now)
+  checked_ticks (Err fault) header c now = faulty a h
+  checked_ticks (Ok done) header c now = kind_ticks header c now
+
+  chunk_ticks : (header : CommonHeader) (c : Chunk) (now : ℕ) → TicksOn (on_chunk a header c trigger now)
+  unfolding on_chunk
+  chunk_ticks header c now = checked_ticks (checked_chunk c) header c now
 
 -- A packet
 
@@ -425,7 +417,7 @@ chunks_sound : (header : CommonHeader) (cs : List Chunk) (a : Shown) (trigger : 
 chunks_sound header [] a trigger now h = inl (ended_ticks trigger a now h)
 chunks_sound header (c ∷ cs) a trigger now h =
     goes_on_soundly (on_chunk a header c trigger now) (λ b next. after_chunks header cs b next now)
-    (chunk_ticks header c a trigger now h)
+    (chunk_ticks a trigger h header c now)
     (λ b next k. chunks_sound header cs b next now k)
 
 packet_of_sound : (packet : Option Packet) (a : Shown) (now : ℕ) → Ticks a → IsSound (after_packet_of a packet now)

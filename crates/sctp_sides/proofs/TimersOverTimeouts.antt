@@ -25,15 +25,25 @@ kept_if : {A : Type 0} (c : Bool) (x y : Timers) (part : Timers → A) → part 
 kept_if true x y part e = e
 kept_if false x y part e = refl
 
-pub fits_of : (s : AssociationState) (g : List InFlight) (u : Timers) (d l : Option ℕ) → u.data_limit ≡ d
-    → u.handshake_limit ≡ l
-    → Flies (is_established s) g u.t3_rtx d → Waits (is_cookie_wait s) u.t1_init l
-    → Waits (is_cookie_echoed s) u.t1_cookie l → (is_beginning s ≡ true → g ≡ [])
+-- The retries of these timers are limited as before.
+record HasLimits (t u : Timers) : Type 0 where
+  pub data_limit : u.data_limit ≡ t.data_limit
+  pub handshake_limit : u.handshake_limit ≡ t.handshake_limit
+
+limits_kept : (due : Bool) (x t u : Timers) → HasLimits t x → HasLimits (if due then x else t) u → HasLimits t u
+limits_kept due x t u same l = record {
+  data_limit = l.data_limit ∙ kept_if due x t (λ (z : Timers). z.data_limit) same.data_limit;
+  handshake_limit = l.handshake_limit ∙ kept_if due x t (λ (z : Timers). z.handshake_limit) same.handshake_limit;
+}
+
+fits_of : (s : AssociationState) (g : List InFlight) (t u : Timers) → HasLimits t u
+    → Flies (is_established s) g u.t3_rtx t.data_limit → Waits (is_cookie_wait s) u.t1_init t.handshake_limit
+    → Waits (is_cookie_echoed s) u.t1_cookie t.handshake_limit → (is_beginning s ≡ true → g ≡ [])
     → FitsTimers s g u
-fits_of s g u d l e k flies inits cookies unsent = record {
-  flies = subst (λ (z : Option ℕ). Flies (is_established s) g u.t3_rtx z) (sym e) flies;
-  inits = subst (λ (z : Option ℕ). Waits (is_cookie_wait s) u.t1_init z) (sym k) inits;
-  cookies = subst (λ (z : Option ℕ). Waits (is_cookie_echoed s) u.t1_cookie z) (sym k) cookies;
+fits_of s g t u l flies inits cookies unsent = record {
+  flies = subst (λ (z : Option ℕ). Flies (is_established s) g u.t3_rtx z) (sym l.data_limit) flies;
+  inits = subst (λ (z : Option ℕ). Waits (is_cookie_wait s) u.t1_init z) (sym l.handshake_limit) inits;
+  cookies = subst (λ (z : Option ℕ). Waits (is_cookie_echoed s) u.t1_cookie z) (sym l.handshake_limit) cookies;
   unsent = unsent;
 }
 
@@ -46,37 +56,47 @@ waits_still there x y l e h = subst (λ (z : TimerState). Waits there z l) (sym 
 
 -- The timers of INIT and of COOKIE ECHO
 
-init_fits : (s : AssociationState) (f : List InFlight) (t : Timers) (now : ℕ) (u : Timers)
-    → u.t3_rtx ≡ (after_expiry names.T1Init now t).t3_rtx
-    → u.t1_cookie ≡ (after_expiry names.T1Init now t).t1_cookie
-    → u.data_limit ≡ (after_expiry names.T1Init now t).data_limit
-    → u.handshake_limit ≡ (after_expiry names.T1Init now t).handshake_limit
-    → Waits (is_cookie_wait s) u.t1_init t.handshake_limit → FitsTimers s f t → FitsTimers s f u
-init_fits s f t now u a b c d w h =
-    let due = is_due t.t1_init.moment now in
-    let x : Timers = with_timer names.T1Init (expired_state t.t1_init) t in
-    fits_of s f u t.data_limit t.handshake_limit (c ∙ kept_if due x t (λ (z : Timers). z.data_limit) refl)
-    (d ∙ kept_if due x t (λ (z : Timers). z.handshake_limit) refl)
-    (flies_still (is_established s) f t.t3_rtx u.t3_rtx t.data_limit
-    (a ∙ kept_if due x t (λ (z : Timers). z.t3_rtx) refl) h.flies) w
-    (waits_still (is_cookie_echoed s) t.t1_cookie u.t1_cookie t.handshake_limit
-    (b ∙ kept_if due x t (λ (z : Timers). z.t1_cookie) refl) h.cookies) h.unsent
+-- These timers are those after one expired, but for what became of that one.
+module _ (s : AssociationState) (f : List InFlight) (t : Timers) (now : ℕ) (u : Timers) (h : FitsTimers s f t) where
+  init_fits : u.t3_rtx ≡ (after_expiry names.T1Init now t).t3_rtx
+      → u.t1_cookie ≡ (after_expiry names.T1Init now t).t1_cookie
+      → HasLimits (after_expiry names.T1Init now t) u
+      → Waits (is_cookie_wait s) u.t1_init t.handshake_limit → FitsTimers s f u
+  init_fits a b l w =
+      let due = is_due t.t1_init.moment now in
+      let x : Timers = with_timer names.T1Init (expired_state t.t1_init) t in
+      fits_of s f t u (limits_kept due x t u record { data_limit = refl; handshake_limit = refl } l)
+      (flies_still (is_established s) f t.t3_rtx u.t3_rtx t.data_limit
+      (a ∙ kept_if due x t (λ (z : Timers). z.t3_rtx) refl) h.flies) w
+      (waits_still (is_cookie_echoed s) t.t1_cookie u.t1_cookie t.handshake_limit
+      (b ∙ kept_if due x t (λ (z : Timers). z.t1_cookie) refl) h.cookies) h.unsent
 
-cookie_fits : (s : AssociationState) (f : List InFlight) (t : Timers) (now : ℕ) (u : Timers)
-    → u.t3_rtx ≡ (after_expiry names.T1Cookie now t).t3_rtx
-    → u.t1_init ≡ (after_expiry names.T1Cookie now t).t1_init
-    → u.data_limit ≡ (after_expiry names.T1Cookie now t).data_limit
-    → u.handshake_limit ≡ (after_expiry names.T1Cookie now t).handshake_limit
-    → Waits (is_cookie_echoed s) u.t1_cookie t.handshake_limit → FitsTimers s f t → FitsTimers s f u
-cookie_fits s f t now u a b c d w h =
-    let due = is_due t.t1_cookie.moment now in
-    let x : Timers = with_timer names.T1Cookie (expired_state t.t1_cookie) t in
-    fits_of s f u t.data_limit t.handshake_limit (c ∙ kept_if due x t (λ (z : Timers). z.data_limit) refl)
-    (d ∙ kept_if due x t (λ (z : Timers). z.handshake_limit) refl)
-    (flies_still (is_established s) f t.t3_rtx u.t3_rtx t.data_limit
-    (a ∙ kept_if due x t (λ (z : Timers). z.t3_rtx) refl) h.flies)
-    (waits_still (is_cookie_wait s) t.t1_init u.t1_init t.handshake_limit
-    (b ∙ kept_if due x t (λ (z : Timers). z.t1_init) refl) h.inits) w h.unsent
+  cookie_fits : u.t3_rtx ≡ (after_expiry names.T1Cookie now t).t3_rtx
+      → u.t1_init ≡ (after_expiry names.T1Cookie now t).t1_init
+      → HasLimits (after_expiry names.T1Cookie now t) u
+      → Waits (is_cookie_echoed s) u.t1_cookie t.handshake_limit → FitsTimers s f u
+  cookie_fits a b l w =
+      let due = is_due t.t1_cookie.moment now in
+      let x : Timers = with_timer names.T1Cookie (expired_state t.t1_cookie) t in
+      fits_of s f t u (limits_kept due x t u record { data_limit = refl; handshake_limit = refl } l)
+      (flies_still (is_established s) f t.t3_rtx u.t3_rtx t.data_limit
+      (a ∙ kept_if due x t (λ (z : Timers). z.t3_rtx) refl) h.flies)
+      (waits_still (is_cookie_wait s) t.t1_init u.t1_init t.handshake_limit
+      (b ∙ kept_if due x t (λ (z : Timers). z.t1_init) refl) h.inits) w h.unsent
+
+  t3_fits : (g : List InFlight) → u.t1_init ≡ (after_expiry names.T3RTX now t).t1_init
+      → u.t1_cookie ≡ (after_expiry names.T3RTX now t).t1_cookie
+      → HasLimits (after_expiry names.T3RTX now t) u
+      → Flies (is_established s) g u.t3_rtx t.data_limit → (is_beginning s ≡ true → g ≡ [])
+      → FitsTimers s g u
+  t3_fits g a b l flies unsent =
+      let due = is_due t.t3_rtx.moment now in
+      let x : Timers = with_timer names.T3RTX (expired_state t.t3_rtx) t in
+      fits_of s g t u (limits_kept due x t u record { data_limit = refl; handshake_limit = refl } l) flies
+      (waits_still (is_cookie_wait s) t.t1_init u.t1_init t.handshake_limit
+      (a ∙ kept_if due x t (λ (z : Timers). z.t1_init) refl) h.inits)
+      (waits_still (is_cookie_echoed s) t.t1_cookie u.t1_cookie t.handshake_limit
+      (b ∙ kept_if due x t (λ (z : Timers). z.t1_cookie) refl) h.cookies) unsent
 
 expiry_keeps_ack : (due : Bool) (x t : Timers) → x.ack ≡ t.ack → (if due then x else t).ack ≡ t.ack
 expiry_keeps_ack due x t e = kept_if due x t (λ (z : Timers). z.ack) e
@@ -122,10 +142,11 @@ t1_init_ticks false failure a now d e h = h
 t1_init_ticks true true a now d e h = record {
   working = h.working;
   not_lost = h.not_lost;
-  fits = init_fits a.state a.sender.queue.in_flight a.timers now (t1_init_expired a now).timers refl refl refl refl
+  fits = init_fits a.state a.sender.queue.in_flight a.timers now (t1_init_expired a now).timers h.fits refl refl
+      record { data_limit = refl; handshake_limit = refl }
       (given_up (is_cookie_wait a.state) (t1_init_expired a now).timers.t1_init a.timers.handshake_limit refl
       (third (is_due a.timers.t1_init.moment now) (not a.timers.t1_init.exempt)
-      (passes (after_expiry names.T1Init now a.timers).t1_init.retries a.timers.handshake_limit) e)) h.fits;
+      (passes (after_expiry names.T1Init now a.timers).t1_init.retries a.timers.handshake_limit) e));
   acks = ack_kept (t1_init_expired a now).timers a.timers a.receiver.ack_state
       (expiry_keeps_ack (is_due a.timers.t1_init.moment now)
       (with_timer names.T1Init (expired_state a.timers.t1_init) a.timers) a.timers refl)
@@ -137,9 +158,10 @@ t1_init_ticks true false a now d e h =
     ticks_by c (sends_init b now) (init_time b.handshake.offer b now refl) (record {
       working = h.working;
       not_lost = h.not_lost;
-      fits = init_fits a.state a.sender.queue.in_flight a.timers now c.timers refl refl refl refl
+      fits = init_fits a.state a.sender.queue.in_flight a.timers now c.timers h.fits refl refl
+          record { data_limit = refl; handshake_limit = refl }
           (running (is_cookie_wait a.state) a.timers.t1_init c.timers.t1_init a.timers.handshake_limit now d
-          h.fits.inits refl) h.fits;
+          h.fits.inits refl);
       acks = ack_kept c.timers a.timers a.receiver.ack_state
           (expiry_keeps_ack (is_due a.timers.t1_init.moment now)
           (with_timer names.T1Init (expired_state a.timers.t1_init) a.timers) a.timers
@@ -155,10 +177,11 @@ t1_cookie_ticks false failure a now d e h = h
 t1_cookie_ticks true true a now d e h = record {
   working = h.working;
   not_lost = h.not_lost;
-  fits = cookie_fits a.state a.sender.queue.in_flight a.timers now (t1_cookie_expired a now).timers refl refl refl refl
+  fits = cookie_fits a.state a.sender.queue.in_flight a.timers now (t1_cookie_expired a now).timers h.fits refl refl
+      record { data_limit = refl; handshake_limit = refl }
       (given_up (is_cookie_echoed a.state) (t1_cookie_expired a now).timers.t1_cookie a.timers.handshake_limit refl
       (third (is_due a.timers.t1_cookie.moment now) (not a.timers.t1_cookie.exempt)
-      (passes (after_expiry names.T1Cookie now a.timers).t1_cookie.retries a.timers.handshake_limit) e)) h.fits;
+      (passes (after_expiry names.T1Cookie now a.timers).t1_cookie.retries a.timers.handshake_limit) e));
   acks = ack_kept (t1_cookie_expired a now).timers a.timers a.receiver.ack_state
       (expiry_keeps_ack (is_due a.timers.t1_cookie.moment now)
       (with_timer names.T1Cookie (expired_state a.timers.t1_cookie) a.timers) a.timers refl)
@@ -170,9 +193,10 @@ t1_cookie_ticks true false a now d e h =
     ticks_by c (sends_cookie b now) (cookie_time b.handshake.echo b now refl) (record {
       working = h.working;
       not_lost = h.not_lost;
-      fits = cookie_fits a.state a.sender.queue.in_flight a.timers now c.timers refl refl refl refl
+      fits = cookie_fits a.state a.sender.queue.in_flight a.timers now c.timers h.fits refl refl
+          record { data_limit = refl; handshake_limit = refl }
           (running (is_cookie_echoed a.state) a.timers.t1_cookie c.timers.t1_cookie a.timers.handshake_limit now d
-          h.fits.cookies refl) h.fits;
+          h.fits.cookies refl);
       acks = ack_kept c.timers a.timers a.receiver.ack_state
           (expiry_keeps_ack (is_due a.timers.t1_cookie.moment now)
           (with_timer names.T1Cookie (expired_state a.timers.t1_cookie) a.timers) a.timers
@@ -180,23 +204,6 @@ t1_cookie_ticks true false a now d e h =
     })
 
 -- The retransmission timer
-
-t3_fits : (s : AssociationState) (f g : List InFlight) (t : Timers) (now : ℕ) (u : Timers)
-    → u.t1_init ≡ (after_expiry names.T3RTX now t).t1_init
-    → u.t1_cookie ≡ (after_expiry names.T3RTX now t).t1_cookie
-    → u.data_limit ≡ (after_expiry names.T3RTX now t).data_limit
-    → u.handshake_limit ≡ (after_expiry names.T3RTX now t).handshake_limit
-    → Flies (is_established s) g u.t3_rtx t.data_limit → (is_beginning s ≡ true → g ≡ []) → FitsTimers s f t
-    → FitsTimers s g u
-t3_fits s f g t now u a b c d flies unsent h =
-    let due = is_due t.t3_rtx.moment now in
-    let x : Timers = with_timer names.T3RTX (expired_state t.t3_rtx) t in
-    fits_of s g u t.data_limit t.handshake_limit (c ∙ kept_if due x t (λ (z : Timers). z.data_limit) refl)
-    (d ∙ kept_if due x t (λ (z : Timers). z.handshake_limit) refl) flies
-    (waits_still (is_cookie_wait s) t.t1_init u.t1_init t.handshake_limit
-    (a ∙ kept_if due x t (λ (z : Timers). z.t1_init) refl) h.inits)
-    (waits_still (is_cookie_echoed s) t.t1_cookie u.t1_cookie t.handshake_limit
-    (b ∙ kept_if due x t (λ (z : Timers). z.t1_cookie) refl) h.cookies) unsent
 
 map_nil : (f : List InFlight) → map marked_again f ≡ [] → f ≡ []
 map_nil f e = nil_from_length f (sym (length-map f marked_again) ∙ ap (λ (xs : List InFlight). length xs) e)
@@ -208,14 +215,14 @@ t3_ticks false failure a now d e h = h
 t3_ticks true true a now d e h = record {
   working = h.working;
   not_lost = h.not_lost;
-  fits = t3_fits a.state a.sender.queue.in_flight a.sender.queue.in_flight a.timers now (t3_expired a now).timers refl
-      refl refl refl
+  fits = t3_fits a.state a.sender.queue.in_flight a.timers now (t3_expired a now).timers h.fits
+      a.sender.queue.in_flight refl refl record { data_limit = refl; handshake_limit = refl }
       (record {
         timed = λ _ _. inr (third (is_due a.timers.t3_rtx.moment now) (not a.timers.t3_rtx.exempt)
             (passes (after_expiry names.T3RTX now a.timers).t3_rtx.retries a.timers.data_limit) e);
         none = λ _. refl;
       })
-      h.fits.unsent h.fits;
+      h.fits.unsent;
   acks = ack_kept (t3_expired a now).timers a.timers a.receiver.ack_state
       (expiry_keeps_ack (is_due a.timers.t3_rtx.moment now)
       (with_timer names.T3RTX (expired_state a.timers.t3_rtx) a.timers)
@@ -224,12 +231,13 @@ t3_ticks true true a now d e h = record {
 t3_ticks true false a now d e h = record {
   working = h.working;
   not_lost = h.not_lost;
-  fits = t3_fits a.state a.sender.queue.in_flight _ a.timers now (retransmits (t3_expired a now) now).timers refl refl
-      refl refl (record {
+  fits = t3_fits a.state a.sender.queue.in_flight a.timers now (retransmits (t3_expired a now) now).timers h.fits _
+      refl refl record { data_limit = refl; handshake_limit = refl }
+      (record {
         timed = λ _ _. inl refl;
         none = λ z. absurd (true≢false (sym d ∙ unarmed_is_not_due a.timers.t3_rtx.moment now
             (h.fits.flies.none (map_nil a.sender.queue.in_flight z))));
-      }) (λ b. ap (λ (f : List InFlight). map marked_again f) (h.fits.unsent b)) h.fits;
+      }) (λ b. ap (λ (f : List InFlight). map marked_again f) (h.fits.unsent b));
   acks = ack_kept (retransmits (t3_expired a now) now).timers a.timers a.receiver.ack_state
       (expiry_keeps_ack (is_due a.timers.t3_rtx.moment now)
       (with_timer names.T3RTX (expired_state a.timers.t3_rtx) a.timers)
@@ -244,8 +252,11 @@ ack_fits s f t now h =
     let due = is_due t.ack.moment now in
     let x : Timers = with_timer names.Ack (expired_state t.ack) t in
     let u : Timers = with_moment names.Ack None (after_expiry names.Ack now t) in
-    fits_of s f u t.data_limit t.handshake_limit (kept_if due x t (λ (z : Timers). z.data_limit) refl)
-    (kept_if due x t (λ (z : Timers). z.handshake_limit) refl)
+    fits_of s f t u
+    (limits_kept due x t u record { data_limit = refl; handshake_limit = refl } record {
+      data_limit = refl;
+      handshake_limit = refl;
+    })
     (flies_still (is_established s) f t.t3_rtx u.t3_rtx t.data_limit (kept_if due x t (λ (z : Timers). z.t3_rtx) refl)
     h.flies)
     (waits_still (is_cookie_wait s) t.t1_init u.t1_init t.handshake_limit

@@ -59,9 +59,9 @@ pub record IsSameTime (a b : Shown) : Type 0 where
   pub timers : b.timers ≡ a.timers
   pub acks : b.receiver.ack_state ≡ a.receiver.ack_state
 
-fits_by : (s s' : AssociationState) (f f' : List InFlight) (t t' : Timers) → s' ≡ s → f' ≡ f → t' ≡ t
+fits_by : {s s' : AssociationState} {f f' : List InFlight} {t t' : Timers} → s' ≡ s → f' ≡ f → t' ≡ t
     → FitsTimers s f t → FitsTimers s' f' t'
-fits_by s s' f f' t t' d e g h =
+fits_by {s} {s'} {f} {f'} {t} {t'} d e g h =
     subst (λ (z : AssociationState). FitsTimers z f' t') (sym d)
     (subst (λ (z : List InFlight). FitsTimers s z t') (sym e) (subst (λ (z : Timers). FitsTimers s f z) (sym g) h))
 
@@ -69,8 +69,7 @@ pub ticks_by : (a b : Shown) → IsSameTime a b → Ticks a → Ticks b
 ticks_by a b e h = record {
   working = e.failed ∙ h.working;
   not_lost = e.lost ∙ h.not_lost;
-  fits = fits_by a.state b.state a.sender.queue.in_flight b.sender.queue.in_flight a.timers b.timers e.state e.flown
-      e.timers h.fits;
+  fits = fits_by e.state e.flown e.timers h.fits;
   acks = ap (λ (t : Timers). is_some t.ack.moment) e.timers ∙ h.acks ∙ sym (ap is_delayed e.acks);
 }
 
