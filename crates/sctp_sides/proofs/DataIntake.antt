@@ -53,14 +53,14 @@ least_of sum more none within = omega (arith, none, within)
 within_limit : (n : ℕ) → min n (2 ^ 64 - 1) ≤ 2 ^ 64 - 1
 within_limit n = omega arith
 
-beside_step : (o : Ordering) (e : ℕ × StreamView) (es rest : List (ℕ × StreamView)) (id sum : ℕ) (s : StreamView)
-    → is_eq o ≡ false → reassembly.bytes_waiting s.reassembly ≡ 0
-    → sum ≤ 2 ^ 64 - 1 → waiting_from (added sum e.1) rest ≡ waiting_from (added sum e.1) es
-    → waiting_from sum (match_ordering o ((id, s) ∷ e ∷ es) ((e.0, s) ∷ es) (e ∷ rest)) ≡ waiting_from sum (e ∷ es)
-beside_step Less e es rest id sum s apart none within hyp =
-    ap (λ (n : ℕ). waiting_from n (e ∷ es)) (least_of sum (reassembly.bytes_waiting s.reassembly) none within)
-beside_step Equal e es rest id sum s apart none within hyp = absurd (true≢false apart)
-beside_step Greater e es rest id sum s apart none within hyp = hyp
+module _ (e : ℕ × StreamView) (es rest : List (ℕ × StreamView)) (id sum : ℕ) (s : StreamView) where
+  beside_step : (o : Ordering) → is_eq o ≡ false → reassembly.bytes_waiting s.reassembly ≡ 0
+      → sum ≤ 2 ^ 64 - 1 → waiting_from (added sum e.1) rest ≡ waiting_from (added sum e.1) es
+      → waiting_from sum (match_ordering o ((id, s) ∷ e ∷ es) ((e.0, s) ∷ es) (e ∷ rest)) ≡ waiting_from sum (e ∷ es)
+  beside_step Less apart none within hyp =
+      ap (λ (n : ℕ). waiting_from n (e ∷ es)) (least_of sum (reassembly.bytes_waiting s.reassembly) none within)
+  beside_step Equal apart none within hyp = absurd (true≢false apart)
+  beside_step Greater apart none within hyp = hyp
 
 not_first : (b : Bool) (x : StreamView) (o : Option StreamView) → (if b then Some x else o) ≡ None
     → (b ≡ false) × (o ≡ None)
@@ -73,7 +73,7 @@ waiting_beside : (es : List (ℕ × StreamView)) (id sum : ℕ) (s : StreamView)
 waiting_beside [] id sum s free none within = least_of sum (reassembly.bytes_waiting s.reassembly) none within
 waiting_beside (e ∷ es) id sum s free none within =
     let first = not_first (is_eq (nat_cmp id e.0)) e.1 (lookup (is_at (nat_cmp id)) es) free in
-    beside_step (nat_cmp id e.0) e es (insert_entry nat_cmp es id s) id sum s first.0 none within
+    beside_step e es (insert_entry nat_cmp es id s) id sum s (nat_cmp id e.0) first.0 none within
     (waiting_beside es id (added sum e.1) s first.1 none (within_limit (sum + reassembly.bytes_waiting e.1.reassembly)))
 
 made_waits : (m : StreamMap) (id first : ℕ) → stream_at m id ≡ None

@@ -8,8 +8,8 @@ use Rattle.sctp_receive_queues.specs.Reassembly.{empty_reassembly, taken}
 use Rattle.sctp_streams.specs.Stream.{StreamView, fresh_stream, read_with, stream_read}
 use Rattle.sctp_streams.specs.Streams.{StreamMap, generation_left, read_at, read_in, stream_at, with_stream}
 use Rattle.sctp_assoc.specs.Calls.{is_established, opened, write_refusal_at}
-use Rattle.sctp_sides.specs.Shapes.{AcceptedWritesFit, WasWritable, FoundStreamsAreLive, IsLive, OpenedStreamsHoldNothing}
-use Rattle.sctp_sides.specs.Shapes.{OpenedStreamsWereNotLive, WhatHoldsNothingGivesNothing}
+use Rattle.sctp_sides.specs.Shapes.{AcceptedWritesFit, WasWritable, FoundStreamsAreLive, IsLive}
+use Rattle.sctp_sides.specs.Shapes.{OpenedStreamsHoldNothing, OpenedStreamsWereNotLive, WhatHoldsNothingGivesNothing}
 use Rattle.sctp_assoc.specs.Shown.{Shown}
 use Rattle.sctp_sides.proofs.StreamsChanged.{at_made, at_with}
 
@@ -73,15 +73,16 @@ abbrev AreEmpty : StreamMap → Type 0
 AreEmpty m = (s : ℕ) (t : StreamView) → stream_at m s ≡ Some t → t.reassembly ≡ empty_reassembly
 
 -- nor where one of them became another one that is empty
-empty_beside : (m n : StreamMap) (id : ℕ) (u : StreamView) → u.reassembly ≡ empty_reassembly
-    → ((s : ℕ) → stream_at n s ≡ (if eqb s id then Some u else stream_at m s)) → AreEmpty m → AreEmpty n
-empty_beside m n id u empty at all s t e = ⊎_elim
-    (λ (b : eqb s id ≡ true).
-    let f : Some u ≡ Some t = sym (cond-true (eqb s id) (Some u) (stream_at m s) b) ∙ sym (at s) ∙ e in
-    let g : u ≡ t = cc in
-    ap (λ (z : StreamView). z.reassembly) (sym g) ∙ empty)
-    (λ (b : eqb s id ≡ false). all s t (sym (cond-false (eqb s id) (Some u) (stream_at m s) b) ∙ sym (at s) ∙ e))
-    (cases_Bool (eqb s id))
+module _ (m n : StreamMap) (id : ℕ) (u : StreamView) (empty : u.reassembly ≡ empty_reassembly)
+    (at : (s : ℕ) → stream_at n s ≡ (if eqb s id then Some u else stream_at m s)) (all : AreEmpty m) where
+  empty_beside : AreEmpty n
+  empty_beside s t e = ⊎_elim
+      (λ (b : eqb s id ≡ true).
+      let f : Some u ≡ Some t = sym (cond-true (eqb s id) (Some u) (stream_at m s) b) ∙ sym (at s) ∙ e in
+      let g : u ≡ t = cc in
+      ap (λ (z : StreamView). z.reassembly) (sym g) ∙ empty)
+      (λ (b : eqb s id ≡ false). all s t (sym (cond-false (eqb s id) (Some u) (stream_at m s) b) ∙ sym (at s) ∙ e))
+      (cases_Bool (eqb s id))
 
 pub opened_streams_hold_nothing : OpenedStreamsHoldNothing
 opened_streams_hold_nothing a id kind none all =
