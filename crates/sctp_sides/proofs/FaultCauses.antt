@@ -139,16 +139,17 @@ point_back own base t = omega arith
 acked_at : (a : Shown) (h : History) → Binds a h → cumulative_tsn_ack_point_of a.sender ≡ tsn_before (tsn h.own h.base)
 acked_at a h binds = ap (λ (t : ℕ). (t + 2 ^ 32 - 1) % 2 ^ 32) binds.first
 
-never_sent : (acked own base flown t : ℕ) → acked ≡ tsn_before (tsn own base) → leb (tsn_past acked t) flown ≡ false
-    → (n : ℕ) → n ≤ flown → t % 2 ^ 32 ≢ tsn_before (tsn own (base + n))
-never_sent acked own base flown t at beyond n within e =
-    let far : flown < tsn_past acked t = leb-false (tsn_past acked t) flown beyond in
-    let near : tsn_past (tsn_before (tsn own base)) t ≤ n = past_is own base n t e in
-    let same : tsn_past acked t ≡ tsn_past (tsn_before (tsn own base)) t = ap (λ (z : ℕ). tsn_past z t) at in
-    absurd (beyond_both (tsn_past acked t) (tsn_past (tsn_before (tsn own base)) t) n flown far near same within)
-  where
-    beyond_both : (p q n f : ℕ) → f < p → q ≤ n → p ≡ q → n ≤ f → ⊥
-    beyond_both p q n f far near same within = omega (arith, far, near, same, within)
+module _ (acked own base flown t : ℕ) (at : acked ≡ tsn_before (tsn own base))
+    (beyond : leb (tsn_past acked t) flown ≡ false) where
+  never_sent : (n : ℕ) → n ≤ flown → t % 2 ^ 32 ≢ tsn_before (tsn own (base + n))
+  never_sent n within e =
+      let far : flown < tsn_past acked t = leb-false (tsn_past acked t) flown beyond in
+      let near : tsn_past (tsn_before (tsn own base)) t ≤ n = past_is own base n t e in
+      let same : tsn_past acked t ≡ tsn_past (tsn_before (tsn own base)) t = ap (λ (z : ℕ). tsn_past z t) at in
+      absurd (beyond_both (tsn_past acked t) (tsn_past (tsn_before (tsn own base)) t) n flown far near same within)
+    where
+      beyond_both : (p q n f : ℕ) → f < p → q ≤ n → p ≡ q → n ≤ f → ⊥
+      beyond_both p q n f far near same within = omega (arith, far, near, same, within)
 
 sent_if : (within : Bool) (acked own base flown t : ℕ) → leb (tsn_past acked t) flown ≡ within
     → acked ≡ tsn_before (tsn own base)

@@ -99,17 +99,16 @@ no_packet_changes_nothing a now = nothing_if a.lost a
 
 -- What each chunk of a packet carries on, the packet does: P holds before each chunk, and Q once the packet is over, at
 -- its end or where a fault closes.
-pub packets_carry : (P Q : Shown → Type 0) (Said : Chunk → Type 0)
-    → ((header : CommonHeader) (c : Chunk) (a b : Shown) → Said c → TakesChunk header c a b → P a → P b)
-    → ((a b : Shown) → EndsPacket a b → P a → Q b)
-    → ((a b : Shown) → Closes a b → P a → Q b)
-    → (packet : Packet) (a : Shown) (now : ℕ) → a.lost ≡ false → AllByRecursion Said packet.chunks → P a
-    → Q (after_packet a (Some packet) now)
-packets_carry P Q Said takes ends closes packet a now present said h =
-    subst Q (sym (cond-false a.lost a (after_packet_of a (Some packet) now) present))
-    (chunks_carry P Q Said
-    (λ header c b trigger at s p.
-    takes header c b (on_chunk b header c trigger at).0 s (chunks_lead_on header c b trigger at) p)
-    (λ b trigger at p. ends b (ended b trigger at) (packets_end b trigger at) p)
-    (λ b p. closes b (closed_by b reasons.AssociationClosed) (faults_close b reasons.AssociationClosed) p)
-    packet.common_header packet.chunks a triggers.None now said h)
+module _ (P Q : Shown → Type 0) (Said : Chunk → Type 0)
+    (takes : (header : CommonHeader) (c : Chunk) (a b : Shown) → Said c → TakesChunk header c a b → P a → P b)
+    (ends : (a b : Shown) → EndsPacket a b → P a → Q b) (closes : (a b : Shown) → Closes a b → P a → Q b) where
+  pub packets_carry : (packet : Packet) (a : Shown) (now : ℕ) → a.lost ≡ false → AllByRecursion Said packet.chunks → P a
+      → Q (after_packet a (Some packet) now)
+  packets_carry packet a now present said h =
+      subst Q (sym (cond-false a.lost a (after_packet_of a (Some packet) now) present))
+      (chunks_carry P Q Said
+      (λ header c b trigger at s p.
+      takes header c b (on_chunk b header c trigger at).0 s (chunks_lead_on header c b trigger at) p)
+      (λ b trigger at p. ends b (ended b trigger at) (packets_end b trigger at) p)
+      (λ b p. closes b (closed_by b reasons.AssociationClosed) (faults_close b reasons.AssociationClosed) p)
+      packet.common_header packet.chunks a triggers.None now said h)

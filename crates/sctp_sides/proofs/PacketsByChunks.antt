@@ -11,22 +11,23 @@ use Rattle.sctp_assoc.specs.Calls.{closed_by}
 use Rattle.sctp_assoc.specs.Chunks.{after_chunks, ended, goes_on, on_chunk}
 use Rattle.sctp_assoc.specs.Shown.{Shown}
 
-goes_carry : (P Q : Shown → Type 0) (x : Shown × Flow) (more : Shown → AckTrigger → Shown)
-    → ((a : Shown) → P a → Q (closed_by a reasons.AssociationClosed)) → P x.0
-    → ((b : Shown) (next : AckTrigger) → P b → Q (more b next)) → Q (goes_on x more)
-goes_carry P Q (b, flows.Next trigger) more closes h on = on b trigger h
-goes_carry P Q (b, flows.Fault fault) more closes h on = closes b h
-
 -- P holds before each chunk, and Q once the packet is over: at its end, or where a fault closes the association
-pub chunks_carry : (P Q : Shown → Type 0) (Said : Chunk → Type 0)
-    → ((header : CommonHeader) (c : Chunk) (a : Shown) (trigger : AckTrigger) (now : ℕ) → Said c → P a
+module _ (P Q : Shown → Type 0) (Said : Chunk → Type 0)
+    (step : (header : CommonHeader) (c : Chunk) (a : Shown) (trigger : AckTrigger) (now : ℕ) → Said c → P a
     → P (on_chunk a header c trigger now).0)
-    → ((a : Shown) (trigger : AckTrigger) (now : ℕ) → P a → Q (ended a trigger now))
-    → ((a : Shown) → P a → Q (closed_by a reasons.AssociationClosed))
-    → (header : CommonHeader) (cs : List Chunk) (a : Shown) (trigger : AckTrigger) (now : ℕ) → AllByRecursion Said cs
-    → P a → Q (after_chunks header cs a trigger now)
-chunks_carry P Q Said step ends closes header [] a trigger now all h = ends a trigger now h
-chunks_carry P Q Said step ends closes header (c ∷ cs) a trigger now (said, all) h =
-    goes_carry P Q (on_chunk a header c trigger now) (λ b next. after_chunks header cs b next now) closes
-    (step header c a trigger now said h)
-    (λ b next k. chunks_carry P Q Said step ends closes header cs b next now all k)
+    (ends : (a : Shown) (trigger : AckTrigger) (now : ℕ) → P a → Q (ended a trigger now))
+    (closes : (a : Shown) → P a → Q (closed_by a reasons.AssociationClosed)) where
+  goes_carry : (x : Shown × Flow) (more : Shown → AckTrigger → Shown) → P x.0
+      → ((b : Shown) (next : AckTrigger) → P b → Q (more b next)) → Q (goes_on x more)
+  goes_carry (b, flows.Next trigger) more h on = on b trigger h
+  goes_carry (b, flows.Fault fault) more h on = closes b h
+
+  pub chunks_carry : (header : CommonHeader) (cs : List Chunk) (a : Shown) (trigger : AckTrigger) (now : ℕ)
+      → AllByRecursion Said cs
+      → P a → Q (after_chunks header cs a trigger now)
+  chunks_carry header [] a trigger now all h = ends a trigger now h
+  chunks_carry header (c ∷ cs) a trigger now (said, all) h =
+      goes_carry (on_chunk a header c trigger now) (λ b next. after_chunks header cs b next now)
+      (step header c a trigger now said h)
+      (λ b next k.
+      chunks_carry header cs b next now all k)

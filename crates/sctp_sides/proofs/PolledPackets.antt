@@ -84,7 +84,8 @@ waiting_say Is (c ∷ cs) (again, more) (plain, others) (one, rest) =
     (one_says Is c.header c.chunk (again plain) one) (waiting_say Is cs more others rest)
 
 pub polls_say_their_acts : PollsSayTheirActs
-polls_say_their_acts acts a b h packets plain again established binds polls =
+polls_say_their_acts acts a b h packets =
+    λ plain again established binds polls.
     let Is : Chunk → Type 0 = IsGivenBy acts a h in
     let header = header_of a.handshake in
     let given = all_data_given acts (parts a h) in
