@@ -65,9 +65,9 @@ use Rattle.sctp_assoc.specs.Shown.{Shown}
 use Rattle.sctp_assoc.proofs.ActsKeepOffsets.{acknowledged_tied, acts_tied, can_append, done_append}
 use Rattle.sctp_assoc.proofs.ActsKeepOffsets.{pieces_acknowledged}
 
-pub leads_on : (xs ys : List Act) (a b c : Shown) (h k l : History) → Leads xs a h b k → Leads ys b k c l
+pub leads_on : (xs ys : List Act) {a b c : Shown} {h k l : History} → Leads xs a h b k → Leads ys b k c l
     → Leads (xs ++ ys) a h c l
-leads_on xs ys a b c h k l m n = record {
+leads_on xs ys {a} {b} {c} {h} {k} {l} m n = record {
   can = can_append xs ys (parts a h) m.can (rw (← m.there) n.can);
   there = rw (done_append xs ys (parts a h), ← m.there) n.there;
   binds = n.binds;
@@ -244,8 +244,7 @@ next_leads true a piece trigger h e binds =
     let rest = found_leads (stream_found b id) piece trigger h made.binds (rw same both.0) both.1 in
     rw e (
       rest.0,
-      leads_on (acts_of_stream a id) (acts_of_found (stream_found b id) piece) a (stream_found b id).0
-          (on_next_data (stream_found b id) piece trigger).0 h h rest.0
+      leads_on (acts_of_stream a id) (acts_of_found (stream_found b id) piece) {b = (stream_found b id).0} {k = h}
           (record { can = made.can; there = made.there; binds = made.binds }) rest.1,
     )
 
@@ -344,106 +343,101 @@ met_leads a b t h binds queue streams point = (
   },
 )
 
-init_leads : (c : Bool) (a : Shown) (header : CommonHeader) (init : ChunkInit) (trigger : AckTrigger) (h : History)
-    → is_beginning a.state ≡ c → Binds a h
-    → (k : History) × Leads (acts_of_init a init) a h (on_init a header init trigger).0 k
-unfolding on_init
-init_leads true a header init trigger h e binds =
-    rw e (met_leads a (answered (learned a header init)) init.initial_tsn h binds refl refl refl)
-init_leads false a header init trigger h e binds = rw e (h, leads_nowhere a a h binds refl refl)
-
-echoed_leads : (o : Option (List ℕ)) (a b : Shown) (t : ℕ) (trigger : AckTrigger) (now : ℕ) (h : History) → Binds a h
-    → b.sender.queue ≡ a.sender.queue → b.streams ≡ a.streams
-    → b.receiver.peer_last_tsn ≡ (t + 2 ^ 32 - 1) % 2 ^ 32
-    → (k : History) × Leads (Act.PeerKnown t ∷ []) a h (echoed o b trigger now).0 k
-unfolding sends_cookie
-echoed_leads None a b t trigger now h binds queue streams point = met_leads a b t h binds queue streams point
-echoed_leads (Some cookie) a b t trigger now h binds queue streams point =
-    met_leads a (with_echo b cookie now) t h binds queue streams point
-
-init_ack_leads : (waits back : Bool) (a : Shown) (header : CommonHeader) (init : ChunkInit) (trigger : AckTrigger)
-    (now : ℕ) (h : History) → is_cookie_wait a.state ≡ waits
-    → comes_back a.handshake header ≡ back → Binds a h
-    → (k : History) × Leads (acts_of_init_ack a header init) a h (on_init_ack a header init trigger now).0 k
-unfolding on_init_ack
-init_ack_leads true true a header init trigger now h e f binds =
-    rw (e, f) (echoed_leads (first_cookie init.params) a _ init.initial_tsn trigger now h binds refl refl refl)
-init_ack_leads true false a header init trigger now h e f binds =
-    rw (e, f) (h, leads_nowhere a _ h binds refl refl)
-init_ack_leads false back a header init trigger now h e f binds = rw e (h, leads_nowhere a a h binds refl refl)
-
-cookie_echo_leads : (issued beginning established : Bool) (a : Shown) (cookie : List ℕ) (trigger : AckTrigger)
-    (h : History) → has_issued a.handshake cookie ≡ issued
-    → is_beginning a.state ≡ beginning → is_established a.state ≡ established → Binds a h
-    → (k : History) × Leads [] a h (on_cookie_echo a cookie trigger).0 k
-unfolding on_cookie_echo
-cookie_echo_leads false beginning established a cookie trigger h e f g binds =
-    rw e (h, leads_nowhere a a h binds refl refl)
-cookie_echo_leads true true established a cookie trigger h e f g binds =
-    rw (e, f) (h, leads_nowhere a (acknowledged_cookie (connected a)) h binds refl refl)
-cookie_echo_leads true false true a cookie trigger h e f g binds =
-    rw (e, f, g) (h, leads_nowhere a (acknowledged_cookie a) h binds refl refl)
-cookie_echo_leads true false false a cookie trigger h e f g binds =
-    rw (e, f, g) (h, leads_nowhere a a h binds refl refl)
-
-cookie_ack_leads : (c : Bool) (a : Shown) (trigger : AckTrigger) (h : History) → is_cookie_echoed a.state ≡ c
-    → Binds a h → (k : History) × Leads [] a h (on_cookie_ack a trigger).0 k
-unfolding on_cookie_ack
-cookie_ack_leads true a trigger h e binds = rw e (h, leads_nowhere a (connected a) h binds refl refl)
-cookie_ack_leads false a trigger h e binds = rw e (h, leads_nowhere a a h binds refl refl)
-
 returned_leads : (o : Option (List ℕ)) (a : Shown) (h : History) → Binds a h
     → (k : History) × Leads [] a h (information_returned o a) k
 returned_leads None a h binds = (h, leads_nowhere a a h binds refl refl)
 returned_leads (Some information) a h binds =
     (h, leads_nowhere a (information_returned (Some information) a) h binds refl refl)
 
-heartbeat_leads : (a : Shown) (heartbeat : ChunkHeartbeat) (trigger : AckTrigger) (h : History) → Binds a h
-    → (k : History) × Leads [] a h (on_heartbeat a heartbeat trigger).0 k
-unfolding on_heartbeat
-heartbeat_leads a heartbeat trigger h binds = returned_leads (information_of heartbeat.params) a h binds
+-- Where each chunk leads an association that stands on this history.
+module _ (a : Shown) (trigger : AckTrigger) (h : History) (binds : Binds a h) where
+  init_leads : (c : Bool) (header : CommonHeader) (init : ChunkInit) → is_beginning a.state ≡ c
+      → (k : History) × Leads (acts_of_init a init) a h (on_init a header init trigger).0 k
+  unfolding on_init
+  init_leads true header init e =
+      rw e (met_leads a (answered (learned a header init)) init.initial_tsn h binds refl refl refl)
+  init_leads false header init e = rw e (h, leads_nowhere a a h binds refl refl)
 
--- any chunk, and a packet
+  echoed_leads : (o : Option (List ℕ)) (b : Shown) (t now : ℕ)
+      → b.sender.queue ≡ a.sender.queue → b.streams ≡ a.streams
+      → b.receiver.peer_last_tsn ≡ (t + 2 ^ 32 - 1) % 2 ^ 32
+      → (k : History) × Leads (Act.PeerKnown t ∷ []) a h (echoed o b trigger now).0 k
+  unfolding sends_cookie
+  echoed_leads None b t now queue streams point = met_leads a b t h binds queue streams point
+  echoed_leads (Some cookie) b t now queue streams point =
+      met_leads a (with_echo b cookie now) t h binds queue streams point
 
-kind_leads : (header : CommonHeader) (c : Chunk) (a : Shown) (trigger : AckTrigger) (now : ℕ) (h : History) → Binds a h
-    → (k : History) × Leads (acts_of_kind a header c) a h (dispatched a header c trigger now).0 k
-kind_leads header (chunks.Data piece) a trigger now h binds =
-    next_leads (is_next_after a.receiver piece.tsn && is_whole piece) a piece trigger h refl binds
-kind_leads header (chunks.SelectiveAck sack) a trigger now h binds =
-    sack_leads (is_established a.state) a sack.cumulative_tsn_ack sack.advertised_receiver_window_credit trigger
-    now h refl binds
-kind_leads header (chunks.Init init) a trigger now h binds =
-    init_leads (is_beginning a.state) a header init trigger h refl binds
-kind_leads header (chunks.InitAck init) a trigger now h binds =
-    init_ack_leads (is_cookie_wait a.state) (comes_back a.handshake header) a header init trigger now h refl refl binds
-kind_leads header (chunks.Heartbeat x) a trigger now h binds = heartbeat_leads a x trigger h binds
-kind_leads header (chunks.HeartbeatAck x) a trigger now h binds = (h, leads_nowhere a a h binds refl refl)
-kind_leads header (chunks.Abort x) a trigger now h binds = (h, leads_nowhere a a h binds refl refl)
-kind_leads header (chunks.Shutdown x) a trigger now h binds = (h, leads_nowhere a a h binds refl refl)
-kind_leads header chunks.ShutdownAck a trigger now h binds = (h, leads_nowhere a a h binds refl refl)
-kind_leads header (chunks.Error x) a trigger now h binds = (h, leads_nowhere a a h binds refl refl)
-kind_leads header (chunks.CookieEcho x) a trigger now h binds =
-    cookie_echo_leads (has_issued a.handshake x) (is_beginning a.state) (is_established a.state) a x trigger h refl
-    refl refl binds
-kind_leads header chunks.CookieAck a trigger now h binds =
-    cookie_ack_leads (is_cookie_echoed a.state) a trigger h refl binds
-kind_leads header chunks.ShutdownComplete a trigger now h binds = (h, leads_nowhere a a h binds refl refl)
-kind_leads header (chunks.Reconfig x) a trigger now h binds = (h, leads_nowhere a a h binds refl refl)
-kind_leads header (chunks.ForwardTsn x) a trigger now h binds = (h, leads_nowhere a a h binds refl refl)
-kind_leads header (chunks.IForwardTsn x) a trigger now h binds = (h, leads_nowhere a a h binds refl refl)
-kind_leads header (chunks.Other kind flags value) a trigger now h binds = (h, leads_nowhere a a h binds refl refl)
+  init_ack_leads : (waits back : Bool) (header : CommonHeader) (init : ChunkInit) (now : ℕ)
+      → is_cookie_wait a.state ≡ waits
+      → comes_back a.handshake header ≡ back
+      → (k : History) × Leads (acts_of_init_ack a header init) a h (on_init_ack a header init trigger now).0 k
+  unfolding on_init_ack
+  init_ack_leads true true header init now e f =
+      rw (e, f) (echoed_leads (first_cookie init.params) _ init.initial_tsn now refl refl refl)
+  init_ack_leads true false header init now e f = rw (e, f) (h, leads_nowhere a _ h binds refl refl)
+  init_ack_leads false back header init now e f = rw e (h, leads_nowhere a a h binds refl refl)
 
-checked_leads : (r : Result (Unit {0}) Error) (header : CommonHeader) (c : Chunk) (a : Shown) (trigger : AckTrigger)
-    (now : ℕ) (h : History) → Binds a h
-    → (k : History) × Leads (acts_of_checked r a header c) a h (checked_first r a header c trigger now).0 k
-checked_leads (Err fault) header c a trigger now h binds = (h, leads_nowhere a a h binds refl refl)
-checked_leads (Ok done) header c a trigger now h binds = kind_leads header c a trigger now h binds
+  cookie_echo_leads : (issued beginning established : Bool) (cookie : List ℕ)
+      → has_issued a.handshake cookie ≡ issued
+      → is_beginning a.state ≡ beginning → is_established a.state ≡ established
+      → (k : History) × Leads [] a h (on_cookie_echo a cookie trigger).0 k
+  unfolding on_cookie_echo
+  cookie_echo_leads false beginning established cookie e f g = rw e (h, leads_nowhere a a h binds refl refl)
+  cookie_echo_leads true true established cookie e f g =
+      rw (e, f) (h, leads_nowhere a (acknowledged_cookie (connected a)) h binds refl refl)
+  cookie_echo_leads true false true cookie e f g =
+      rw (e, f, g) (h, leads_nowhere a (acknowledged_cookie a) h binds refl refl)
+  cookie_echo_leads true false false cookie e f g = rw (e, f, g) (h, leads_nowhere a a h binds refl refl)
+
+  cookie_ack_leads : (c : Bool) → is_cookie_echoed a.state ≡ c
+      → (k : History) × Leads [] a h (on_cookie_ack a trigger).0 k
+  unfolding on_cookie_ack
+  cookie_ack_leads true e = rw e (h, leads_nowhere a (connected a) h binds refl refl)
+  cookie_ack_leads false e = rw e (h, leads_nowhere a a h binds refl refl)
+
+  heartbeat_leads : (heartbeat : ChunkHeartbeat)
+      → (k : History) × Leads [] a h (on_heartbeat a heartbeat trigger).0 k
+  unfolding on_heartbeat
+  heartbeat_leads heartbeat = returned_leads (information_of heartbeat.params) a h binds
+
+  -- any chunk
+  kind_leads : (header : CommonHeader) (c : Chunk) (now : ℕ)
+      → (k : History) × Leads (acts_of_kind a header c) a h (dispatched a header c trigger now).0 k
+  kind_leads header (chunks.Data piece) now =
+      next_leads (is_next_after a.receiver piece.tsn && is_whole piece) a piece trigger h refl binds
+  kind_leads header (chunks.SelectiveAck sack) now =
+      sack_leads (is_established a.state) a sack.cumulative_tsn_ack sack.advertised_receiver_window_credit trigger
+      now h refl binds
+  kind_leads header (chunks.Init init) now = init_leads (is_beginning a.state) header init refl
+  kind_leads header (chunks.InitAck init) now =
+      init_ack_leads (is_cookie_wait a.state) (comes_back a.handshake header) header init now refl refl
+  kind_leads header (chunks.Heartbeat x) now = heartbeat_leads x
+  kind_leads header (chunks.HeartbeatAck x) now = (h, leads_nowhere a a h binds refl refl)
+  kind_leads header (chunks.Abort x) now = (h, leads_nowhere a a h binds refl refl)
+  kind_leads header (chunks.Shutdown x) now = (h, leads_nowhere a a h binds refl refl)
+  kind_leads header chunks.ShutdownAck now = (h, leads_nowhere a a h binds refl refl)
+  kind_leads header (chunks.Error x) now = (h, leads_nowhere a a h binds refl refl)
+  kind_leads header (chunks.CookieEcho x) now =
+      cookie_echo_leads (has_issued a.handshake x) (is_beginning a.state) (is_established a.state) x refl refl refl
+  kind_leads header chunks.CookieAck now = cookie_ack_leads (is_cookie_echoed a.state) refl
+  kind_leads header chunks.ShutdownComplete now = (h, leads_nowhere a a h binds refl refl)
+  kind_leads header (chunks.Reconfig x) now = (h, leads_nowhere a a h binds refl refl)
+  kind_leads header (chunks.ForwardTsn x) now = (h, leads_nowhere a a h binds refl refl)
+  kind_leads header (chunks.IForwardTsn x) now = (h, leads_nowhere a a h binds refl refl)
+  kind_leads header (chunks.Other kind flags value) now = (h, leads_nowhere a a h binds refl refl)
+
+  checked_leads : (r : Result (Unit {0}) Error) (header : CommonHeader) (c : Chunk) (now : ℕ)
+      → (k : History) × Leads (acts_of_checked r a header c) a h (checked_first r a header c trigger now).0 k
+  checked_leads (Err fault) header c now = (h, leads_nowhere a a h binds refl refl)
+  checked_leads (Ok done) header c now = kind_leads header c now
+
+-- a packet
 
 pub chunk_leads : (header : CommonHeader) (c : Chunk) (a : Shown) (trigger : AckTrigger) (now : ℕ) (h : History)
     → Binds a h
     → (k : History) × Leads (acts_of_chunk a header c) a h (on_chunk a header c trigger now).0 k
 unfolding on_chunk
-chunk_leads header c a trigger now h binds = checked_leads (checked_chunk c) header c a trigger now h binds
+chunk_leads header c a trigger now h binds = checked_leads a trigger h binds (checked_chunk c) header c now
 
 ended_point : (a : Shown) (trigger : AckTrigger) (now : ℕ)
     → (ended a trigger now).receiver.peer_last_tsn ≡ a.receiver.peer_last_tsn
@@ -469,10 +463,10 @@ chunks_lead header (c ∷ cs) a trigger now h binds =
     let rest =
     goes_leads (on_chunk a header c trigger now) one.0 (λ b next. after_chunks header cs b next now)
     (λ b next. acts_of_chunks header cs b next now)
-    (λ b next bound. chunks_lead header cs b next now one.0 bound) one.1.binds in (
+    (λ b next bound.
+    chunks_lead header cs b next now one.0 bound) one.1.binds in (
       rest.0,
-      leads_on (acts_of_chunk a header c) _ a (on_chunk a header c trigger now).0
-          (after_chunks header (c ∷ cs) a trigger now) h one.0 rest.0 one.1 rest.1,
+      leads_on (acts_of_chunk a header c) _ one.1 rest.1,
     )
 
 packet_of_leads : (packet : Option Packet) (a : Shown) (now : ℕ) (h : History) → Binds a h
@@ -622,8 +616,7 @@ t1_init_leads : (expired failure : Bool) (a : Shown) (now : ℕ) (h : History) �
 t1_init_leads false failure a now h binds = leads_nowhere a a h binds refl refl
 t1_init_leads true true a now h binds = leads_nowhere a _ h binds refl refl
 t1_init_leads true false a now h binds =
-    leads_on [] [] a (t1_init_expired a now) (sends_init (t1_init_expired a now) now) h h h
-    (leads_nowhere a (t1_init_expired a now) h binds refl refl)
+    leads_on [] [] (leads_nowhere a (t1_init_expired a now) h binds refl refl)
     (sends_init_leads (t1_init_expired a now) now h (record {
       first = binds.first;
       reach = binds.reach;
@@ -641,8 +634,7 @@ t1_cookie_leads : (expired failure : Bool) (a : Shown) (now : ℕ) (h : History)
 t1_cookie_leads false failure a now h binds = leads_nowhere a a h binds refl refl
 t1_cookie_leads true true a now h binds = leads_nowhere a _ h binds refl refl
 t1_cookie_leads true false a now h binds =
-    leads_on [] [] a (t1_cookie_expired a now) (sends_cookie (t1_cookie_expired a now) now) h h h
-    (leads_nowhere a (t1_cookie_expired a now) h binds refl refl)
+    leads_on [] [] (leads_nowhere a (t1_cookie_expired a now) h binds refl refl)
     (sends_cookie_leads (t1_cookie_expired a now) now h (record {
       first = binds.first;
       reach = binds.reach;
@@ -658,7 +650,7 @@ handshake_timers_lead a now h binds =
     t1_init_leads (expiry_of names.T1Init now a.timers).expired (expiry_of names.T1Init now a.timers).failed a
     now h binds in
     let b : Shown = after_t1_init a now in
-    leads_on [] [] a b (after_t1_cookie b now) h h h one
+    leads_on [] [] one
     (t1_cookie_leads (expiry_of names.T1Cookie now b.timers).expired (expiry_of names.T1Cookie now b.timers).failed b
     now h one.binds)
 
@@ -670,7 +662,7 @@ timeouts_lead_on a b now e h binds =
     t3_leads (expiry_of names.T3RTX now c.timers).expired (expiry_of names.T3RTX now c.timers).failed c now h
     first.binds in (
       h,
-      rw e (leads_on [] (acts_of_t3 c now) a c (after_ack_delay (after_t3 c now) now) h h h first
+      rw e (leads_on [] (acts_of_t3 c now) first
           (ack_delay_leads (expiry_of names.Ack now (after_t3 c now).timers).expired (acts_of_t3 c now) c
           (after_t3 c now) now h refl t3)),
     )

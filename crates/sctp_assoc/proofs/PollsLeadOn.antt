@@ -85,7 +85,7 @@ poll_of (b, pieces) xs a h same binds adds =
     let ack : Leads (acts_of_ack a) b h (ack_polled b).0 h = rw (← same.acts) (ack_leads b h mid.binds) in
     let said = pieces_said pieces xs a b h adds in (
       rw (both_first (data_packets (header_of b.handshake) pieces) (ack_polled b))
-          (leads_on xs (acts_of_ack a) a b (ack_polled b).0 h h h mid ack),
+          (leads_on xs (acts_of_ack a) mid ack),
       both_second (data_packets (header_of b.handshake) pieces) (ack_polled b)
           ∙ ap (λ (z : List (List ℕ)). data_packets (header_of b.handshake) pieces ++ z) (ack_said b ∙ same.acks)
           ∙ rw (same.handshake, said) refl,
