@@ -21,11 +21,12 @@ fresh_binds a tsn small first point = record {
 }
 
 -- an association that a handshake is to establish
-pub created_binds : (of_server : Option ServerConfig) (config : Settings) (size tag tsn : ℕ) (cookie : List ℕ)
-    (remote : SocketAddr) (local : Option IpAddr) (now : ℕ) → tsn < 2 ^ 32
-    → Binds (created of_server config size tag tsn cookie remote local now) (begun tsn 1)
-created_binds None config size tag tsn cookie remote local now small =
-    let a : Shown = silent_client config size tag tsn cookie remote local in
-    (sends_init_leads a now (begun tsn 1) (fresh_binds a tsn small refl refl)).binds
-created_binds (Some of_server) config size tag tsn cookie remote local now small =
-    fresh_binds (server config size tag tsn cookie remote local) tsn small refl refl
+module _ (config : Settings) (size tag tsn : ℕ) (cookie : List ℕ) (remote : SocketAddr) (local : Option IpAddr)
+    (now : ℕ) where
+  pub created_binds : (of_server : Option ServerConfig) → tsn < 2 ^ 32
+      → Binds (created of_server config size tag tsn cookie remote local now) (begun tsn 1)
+  created_binds None small =
+      let a : Shown = silent_client config size tag tsn cookie remote local in
+      (sends_init_leads a now (begun tsn 1) (fresh_binds a tsn small refl refl)).binds
+  created_binds (Some of_server) small =
+      fresh_binds (server config size tag tsn cookie remote local) tsn small refl refl

@@ -84,22 +84,22 @@ refuses a piece = is_some (refusal_in a.streams piece.stream_identifier piece a.
 credit_and_room : (credit refused : Bool) → credit ≡ true → refused ≡ false → (credit && not refused) ≡ true
 credit_and_room credit refused e f = rw (e, f) refl
 
-found_takes : (there left : Bool) (a b : Shown) (piece : ChunkPayloadData)
-    → is_some (stream_at a.streams piece.stream_identifier) ≡ there
-    → generation_left a.streams ≡ left → stream_found a piece.stream_identifier ≡ (b, true)
-    → nat_lt 0 (credit_of b.receiver (bytes_waiting b.streams)) ≡ true → refuses b piece ≡ false
-    → (makes_stream a piece.stream_identifier || keeps_message a piece) ≡ true
-unfolding stream_found
-found_takes true left a b piece e f found credit free =
-    let step : stream_found a piece.stream_identifier ≡ (a, true) = rw e refl in
-    let same : a ≡ b = ap (λ (z : Shown × Bool). z.0) (sym step ∙ found) in
-    rw e (credit_and_room (nat_lt 0 (credit_of a.receiver (bytes_waiting a.streams))) (refuses a piece)
-    (subst (λ (z : Shown). nat_lt 0 (credit_of z.receiver (bytes_waiting z.streams)) ≡ true) (sym same) credit)
-    (subst (λ (z : Shown). refuses z piece ≡ false) (sym same) free))
-found_takes false true a b piece e f found credit free = rw (e, f) refl
-found_takes false false a b piece e f found credit free =
-    let step : stream_found a piece.stream_identifier ≡ (a, false) = rw (e, f) refl in
-    absurd (false≢true (ap (λ (z : Shown × Bool). z.1) (sym step ∙ found)))
+module _ (a b : Shown) (piece : ChunkPayloadData) (found : stream_found a piece.stream_identifier ≡ (b, true))
+    (credit : nat_lt 0 (credit_of b.receiver (bytes_waiting b.streams)) ≡ true) (free : refuses b piece ≡ false) where
+  found_takes : (there left : Bool) → is_some (stream_at a.streams piece.stream_identifier) ≡ there
+      → generation_left a.streams ≡ left
+      → (makes_stream a piece.stream_identifier || keeps_message a piece) ≡ true
+  unfolding stream_found
+  found_takes true left e f =
+      let step : stream_found a piece.stream_identifier ≡ (a, true) = rw e refl in
+      let same : a ≡ b = ap (λ (z : Shown × Bool). z.0) (sym step ∙ found) in
+      rw e (credit_and_room (nat_lt 0 (credit_of a.receiver (bytes_waiting a.streams))) (refuses a piece)
+      (subst (λ (z : Shown). nat_lt 0 (credit_of z.receiver (bytes_waiting z.streams)) ≡ true) (sym same) credit)
+      (subst (λ (z : Shown). refuses z piece ≡ false) (sym same) free))
+  found_takes false true e f = rw (e, f) refl
+  found_takes false false e f =
+      let step : stream_found a piece.stream_identifier ≡ (a, false) = rw (e, f) refl in
+      absurd (false≢true (ap (λ (z : Shown × Bool). z.1) (sym step ∙ found)))
 
 -- DATA that comes to a stream that was found and does not refuse it, with credit left
 pub taking_takes : (a b : Shown) (piece : ChunkPayloadData)
@@ -110,36 +110,34 @@ pub taking_takes : (a b : Shown) (piece : ChunkPayloadData)
     → data_takes_memory a piece ≡ true
 taking_takes a b piece next found credit free =
     let takes =
-    found_takes (is_some (stream_at a.streams piece.stream_identifier)) (generation_left a.streams) (counted_data a) b
-    piece refl refl found credit (ap is_some free) in
+    found_takes (counted_data a) b piece found credit (ap is_some free)
+    (is_some (stream_at a.streams piece.stream_identifier)) (generation_left a.streams) refl refl in
     rw next takes
 
 -- the chunks of a packet
 
-pub first_takes : (header : CommonHeader) (c : Chunk) (cs : List Chunk) (a : Shown) (trigger : AckTrigger) (now : ℕ)
-    → chunk_takes_memory a header c ≡ true
-    → chunks_take_memory header (c ∷ cs) a trigger now ≡ true
-first_takes header c cs a trigger now takes =
-    or_left (chunk_takes_memory a header c) (takes_memory_after (on_chunk a header c trigger now)
-    (λ b next. chunks_take_memory header cs b next now)) takes
+module _ (header : CommonHeader) (c : Chunk) (cs : List Chunk) (a : Shown) (trigger : AckTrigger) (now : ℕ) where
+  pub first_takes : chunk_takes_memory a header c ≡ true
+      → chunks_take_memory header (c ∷ cs) a trigger now ≡ true
+  first_takes takes =
+      or_left (chunk_takes_memory a header c) (takes_memory_after (on_chunk a header c trigger now)
+      (λ b next. chunks_take_memory header cs b next now)) takes
 
-pub later_takes : (header : CommonHeader) (c : Chunk) (cs : List Chunk) (a b : Shown)
-    (trigger next : AckTrigger) (now : ℕ)
-    → on_chunk a header c trigger now ≡ (b, flows.Next next) → chunks_take_memory header cs b next now ≡ true
-    → chunks_take_memory header (c ∷ cs) a trigger now ≡ true
-later_takes header c cs a b trigger next now e takes =
-    or_right (chunk_takes_memory a header c)
-    (takes_memory_after (on_chunk a header c trigger now) (λ b next. chunks_take_memory header cs b next now))
-    (rw e takes)
+  pub later_takes : (b : Shown) (next : AckTrigger)
+      → on_chunk a header c trigger now ≡ (b, flows.Next next) → chunks_take_memory header cs b next now ≡ true
+      → chunks_take_memory header (c ∷ cs) a trigger now ≡ true
+  later_takes b next e takes =
+      or_right (chunk_takes_memory a header c)
+      (takes_memory_after (on_chunk a header c trigger now) (λ b next. chunks_take_memory header cs b next now))
+      (rw e takes)
 
-pub fault_takes : (header : CommonHeader) (c : Chunk) (cs : List Chunk) (a b : Shown) (trigger : AckTrigger)
-    (fault : Error) (now : ℕ)
-    → on_chunk a header c trigger now ≡ (b, flows.Fault fault) → is_closed_state b.state ≡ false
-    → chunks_take_memory header (c ∷ cs) a trigger now ≡ true
-fault_takes header c cs a b trigger fault now e still =
-    or_right (chunk_takes_memory a header c)
-    (takes_memory_after (on_chunk a header c trigger now) (λ b next. chunks_take_memory header cs b next now))
-    (rw (e, still) refl)
+  pub fault_takes : (b : Shown) (fault : Error)
+      → on_chunk a header c trigger now ≡ (b, flows.Fault fault) → is_closed_state b.state ≡ false
+      → chunks_take_memory header (c ∷ cs) a trigger now ≡ true
+  fault_takes b fault e still =
+      or_right (chunk_takes_memory a header c)
+      (takes_memory_after (on_chunk a header c trigger now) (λ b next. chunks_take_memory header cs b next now))
+      (rw (e, still) refl)
 
 -- polling
 

@@ -12,5 +12,5 @@ returns-clause-begins c =
     c.args.max_payload_size c.args.local_aid c.args.initial_tsn c.args.cookie c.args.remote_addr c.args.local_ip
     c.args.now = search rules in
     subst (λ (z : Shown). Binds z (begun c.args.initial_tsn 1)) (sym e)
-    (created_binds (option_copied c.args.server_config) c.args.config.now c.args.max_payload_size c.args.local_aid
-    c.args.initial_tsn c.args.cookie c.args.remote_addr c.args.local_ip c.args.now c.ranges.initial_tsn.fits)
+    (created_binds c.args.config.now c.args.max_payload_size c.args.local_aid c.args.initial_tsn c.args.cookie
+    c.args.remote_addr c.args.local_ip c.args.now (option_copied c.args.server_config) c.ranges.initial_tsn.fits)

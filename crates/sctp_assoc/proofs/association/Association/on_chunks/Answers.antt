@@ -16,8 +16,8 @@ loop-chunk-preserved c =
       same = search rules;
       grows =
           λ takes. c.loop-chunk.invariant.grows
-          (rw items (later_takes c.args.header c.in-Some.chunk (into_iter_items c.next.new.self)
-          c.loop-chunk.self c.on_chunk.new.self c.loop-chunk.trigger c.in-Next.next c.args.now said takes));
+          (rw items (later_takes c.args.header c.in-Some.chunk (into_iter_items c.next.new.self) c.loop-chunk.self
+          c.loop-chunk.trigger c.args.now c.on_chunk.new.self c.in-Next.next said takes));
     }
 
 pub returns-in_err-next-clause-grows : goal.returns-in_err-next-clause-grows
@@ -36,5 +36,5 @@ returns-in-Fault-clause-grows c =
     on_err_weaker c.close_with.result
     (λ (still : is_closed_state c.on_chunk.new.self.state ≡ false).
     c.loop-chunk.invariant.grows (rw items (fault_takes c.args.header c.in-Some.chunk (into_iter_items c.next.new.self)
-    c.loop-chunk.self c.on_chunk.new.self c.loop-chunk.trigger c.in-Fault.field-0 c.args.now said still)))
+    c.loop-chunk.self c.loop-chunk.trigger c.args.now c.on_chunk.new.self c.in-Fault.field-0 said still)))
     c.close_with.ensures.grows
