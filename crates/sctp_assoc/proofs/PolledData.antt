@@ -77,9 +77,9 @@ again_one x ps xs p e tied =
       said = rw (held, place_tsn p.history.own p.history.base p.queue.first_tsn (length xs) tied) refl;
     }
 
-gives_same : (xs ys : List Act) (p q r : Parts) (c d : List ChunkPayloadData) → xs ≡ ys → q ≡ r → c ≡ d → Gives ys p r d
+gives_same : {xs ys : List Act} {p q r : Parts} {c d : List ChunkPayloadData} → xs ≡ ys → q ≡ r → c ≡ d → Gives ys p r d
     → Gives xs p q c
-gives_same xs ys p q r c d e f g m = rw (e, f, g) m
+gives_same e f g m = rw (e, f, g) m
 
 acts_skip : (p : InFlight) (ps : List InFlight) (index room : ℕ) → p.retransmit ≡ false
     → acts_of_resending index room (p ∷ ps) ≡ acts_of_resending (index + 1) room ps
@@ -101,7 +101,7 @@ shifted : (c : InFlight) (xs rest : List InFlight) (acts : ℕ → List Act)
     → Gives (acts (length (xs ++ c ∷ []))) p (with_pieces p ((xs ++ c ∷ []) ++ rest)) (chunks (length (xs ++ c ∷ [])))
     → Gives (acts (length xs + 1)) p (with_pieces p (xs ++ c ∷ rest)) (chunks (length xs + 1))
 shifted c xs rest acts chunks p m =
-    gives_same _ _ p _ _ _ _ (ap acts (sym (one_longer xs c)))
+    gives_same (ap acts (sym (one_longer xs c)))
     (ap (λ (z : List InFlight). with_pieces p z) (sym (append_assoc xs (c ∷ []) rest)))
     (ap chunks (sym (one_longer xs c))) m
 
@@ -112,7 +112,7 @@ resending [] xs room p e tied = record { can = tt; there = rw (← e) refl; said
 resending (x ∷ ps) xs room p e tied = ⊎_elim
     (λ (marked : x.retransmit ≡ true). ⊎_elim
     (λ (full : nat_lt room (length x.user_data) ≡ true).
-    gives_same _ _ p _ _ _ _ (acts_full x ps (length xs) room marked full)
+    gives_same (acts_full x ps (length xs) room marked full)
     (ap (λ (z : List InFlight). with_pieces p (xs ++ z)) (pieces_full x ps room marked full))
     (chunks_full x ps p.queue.first_tsn (length xs) room marked full)
     (record { can = tt; there = rw (← e) refl; said = refl }))
@@ -124,7 +124,7 @@ resending (x ∷ ps) xs room p e tied = ⊎_elim
     let moved =
     shifted c xs (resent_pieces left ps) (λ (n : ℕ). acts_of_resending n left ps)
     (λ (n : ℕ). resent_chunks p.queue.first_tsn n left ps) q rest in
-    gives_same _ _ p _ _ _ _ (acts_sent x ps (length xs) room marked fits)
+    gives_same (acts_sent x ps (length xs) room marked fits)
     (ap (λ (z : List InFlight). with_pieces p (xs ++ z)) (pieces_sent x ps room marked fits))
     (chunks_sent x ps p.queue.first_tsn (length xs) room marked fits)
     (gives_on (Act.SentAgain (length xs) ∷ []) (acts_of_resending (length xs + 1) left ps) p q _ _ _
@@ -135,7 +135,7 @@ resending (x ∷ ps) xs room p e tied = ⊎_elim
     let moved =
     shifted x xs (resent_pieces room ps) (λ (n : ℕ). acts_of_resending n room ps)
     (λ (n : ℕ). resent_chunks p.queue.first_tsn n room ps) p rest in
-    gives_same _ _ p _ _ _ _ (acts_skip x ps (length xs) room unmarked)
+    gives_same (acts_skip x ps (length xs) room unmarked)
     (ap (λ (z : List InFlight). with_pieces p (xs ++ z)) (pieces_skip x ps room unmarked))
     (chunks_skip x ps p.queue.first_tsn (length xs) room unmarked) moved)
     (cases_Bool x.retransmit)
@@ -210,9 +210,9 @@ pub record Adds (xs : List Act) (p q : Parts) (before after : List ChunkPayloadD
 adds_none : (p : Parts) (out : List ChunkPayloadData) → Adds [] p p out out
 adds_none p out = record { given = []; gives = gives_none p; all = sym (append-nil out) }
 
-adds_on : (xs ys : List Act) (p q r : Parts) (a b c : List ChunkPayloadData) → Adds xs p q a b → Adds ys q r b c
+adds_on : (xs ys : List Act) {p q r : Parts} {a b c : List ChunkPayloadData} → Adds xs p q a b → Adds ys q r b c
     → Adds (xs ++ ys) p r a c
-adds_on xs ys p q r a b c m n = record {
+adds_on xs ys {p} {q} {r} {a} m n = record {
   given = m.given ++ n.given;
   gives = gives_on xs ys p q r m.given n.given m.gives n.gives;
   all = n.all ∙ ap (λ (z : List ChunkPayloadData). z ++ n.given) m.all ∙ append_assoc a m.given n.given;
@@ -221,54 +221,51 @@ adds_on xs ys p q r a b c m n = record {
 adds_same : (xs ys : List Act) (p q : Parts) (a b : List ChunkPayloadData) → xs ≡ ys → Adds xs p q a b → Adds ys p q a b
 adds_same xs ys p q a b e m = rw (← e) m
 
-one_adds : (s : Sender) (out : List ChunkPayloadData) (now : ℕ) (m : StreamMap) (h : History)
-    → s.queue.first_tsn ≡ tsn h.own h.base
-    → Adds (first_sent s.queue.pending now) (sending s m h) (sending (sent_one s.queue.pending s out now).0 m h) out
-    (sent_one s.queue.pending s out now).1
-one_adds s out now m h tied = record {
-  given = first_chunk_said s.queue.pending (next_tsn_of s.queue);
-  gives = one_gives s.queue.pending s out now m h refl tied;
-  all = one_said s.queue.pending s out now;
-}
+-- beside these streams, on this history
+module _ (now : ℕ) (m : StreamMap) (h : History) where
+  one_adds : (s : Sender) (out : List ChunkPayloadData) → s.queue.first_tsn ≡ tsn h.own h.base
+      → Adds (first_sent s.queue.pending now) (sending s m h) (sending (sent_one s.queue.pending s out now).0 m h) out
+      (sent_one s.queue.pending s out now).1
+  one_adds s out tied = record {
+    given = first_chunk_said s.queue.pending (next_tsn_of s.queue);
+    gives = one_gives s.queue.pending s out now m h refl tied;
+    all = one_said s.queue.pending s out now;
+  }
 
-sending_adds_if : (c : Bool) (n : ℕ) (s : Sender) (out : List ChunkPayloadData) (now : ℕ) (m : StreamMap) (h : History)
-    → can_send_next s ≡ c
-    → s.queue.first_tsn ≡ tsn h.own h.base
-    → ((t : Sender) (more : List ChunkPayloadData) → t.queue.first_tsn ≡ tsn h.own h.base
-    → Adds (acts_of_sending n t more now) (sending t m h) (sending (sent_within n t more now).0 m h) more
-    (sent_within n t more now).1)
-    → Adds (if c then (let sent =
-    sent_one s.queue.pending s out now in Act.Sent now ∷ acts_of_sending n sent.0 sent.1 now) else []) (sending s m h)
-    (sending (if c then (let sent = sent_one s.queue.pending s out now in sent_within n sent.0 sent.1 now) else
-    (s, out)).0 m h) out
-    (if c then (let sent = sent_one s.queue.pending s out now in sent_within n sent.0 sent.1 now) else (s, out)).1
-sending_adds_if false n s out now m h e tied rest = adds_none (sending s m h) out
-sending_adds_if true n s out now m h e tied rest =
-    let sent = sent_one s.queue.pending s out now in
-    let one =
-    adds_same (first_sent s.queue.pending now) (Act.Sent now ∷ []) _ _ _ _ (is_pending s.queue.pending s now e)
-    (one_adds s out now m h tied) in
-    adds_on (Act.Sent now ∷ []) (acts_of_sending n sent.0 sent.1 now) (sending s m h) (sending sent.0 m h) _
-    out sent.1 _ one
-    (rest sent.0 sent.1 (one_tied s out now h tied))
+  sending_adds_if : (c : Bool) (n : ℕ) (s : Sender) (out : List ChunkPayloadData) → can_send_next s ≡ c
+      → s.queue.first_tsn ≡ tsn h.own h.base
+      → ((t : Sender) (more : List ChunkPayloadData) → t.queue.first_tsn ≡ tsn h.own h.base
+      → Adds (acts_of_sending n t more now) (sending t m h) (sending (sent_within n t more now).0 m h) more
+      (sent_within n t more now).1)
+      → Adds (if c then (let sent =
+      sent_one s.queue.pending s out now in Act.Sent now ∷ acts_of_sending n sent.0 sent.1 now) else []) (sending s m h)
+      (sending (if c then (let sent = sent_one s.queue.pending s out now in sent_within n sent.0 sent.1 now) else
+      (s, out)).0 m h) out
+      (if c then (let sent = sent_one s.queue.pending s out now in sent_within n sent.0 sent.1 now) else (s, out)).1
+  sending_adds_if false n s out e tied rest = adds_none (sending s m h) out
+  sending_adds_if true n s out e tied rest =
+      let sent = sent_one s.queue.pending s out now in
+      let one =
+      adds_same (first_sent s.queue.pending now) (Act.Sent now ∷ []) _ _ _ _ (is_pending s.queue.pending s now e)
+      (one_adds s out tied) in
+      adds_on (Act.Sent now ∷ []) (acts_of_sending n sent.0 sent.1 now) one
+      (rest sent.0 sent.1 (one_tied s out now h tied))
 
-pub sending_adds : (n : ℕ) (s : Sender) (out : List ChunkPayloadData) (now : ℕ) (m : StreamMap) (h : History)
-    → s.queue.first_tsn ≡ tsn h.own h.base
-    → Adds (acts_of_sending n s out now) (sending s m h) (sending (sent_within n s out now).0 m h) out
-    (sent_within n s out now).1
-sending_adds zero s out now m h tied = adds_none (sending s m h) out
-sending_adds (suc n) s out now m h tied =
-    sending_adds_if (can_send_next s) n s out now m h refl tied (λ t more bound. sending_adds n t more now m h bound)
+  pub sending_adds : (n : ℕ) (s : Sender) (out : List ChunkPayloadData) → s.queue.first_tsn ≡ tsn h.own h.base
+      → Adds (acts_of_sending n s out now) (sending s m h) (sending (sent_within n s out now).0 m h) out
+      (sent_within n s out now).1
+  sending_adds zero s out tied = adds_none (sending s m h) out
+  sending_adds (suc n) s out tied =
+      sending_adds_if (can_send_next s) n s out refl tied (λ t more bound. sending_adds n t more bound)
 
-new_adds_if : (c : Bool) (s : Sender) (out : List ChunkPayloadData) (now : ℕ) (m : StreamMap) (h : History)
-    → s.queue.first_tsn ≡ tsn h.own h.base
-    → Adds (if c then first_sent s.queue.pending now else acts_of_sending (pieces_waiting s.queue.pending) s out now)
-    (sending s m h)
-    (sending (if c then sent_one s.queue.pending s out now else
-    sent_within (pieces_waiting s.queue.pending) s out now).0 m h) out
-    (if c then sent_one s.queue.pending s out now else sent_within (pieces_waiting s.queue.pending) s out now).1
-new_adds_if true s out now m h tied = one_adds s out now m h tied
-new_adds_if false s out now m h tied = sending_adds (pieces_waiting s.queue.pending) s out now m h tied
+  new_adds_if : (c : Bool) (s : Sender) (out : List ChunkPayloadData) → s.queue.first_tsn ≡ tsn h.own h.base
+      → Adds (if c then first_sent s.queue.pending now else acts_of_sending (pieces_waiting s.queue.pending) s out now)
+      (sending s m h)
+      (sending (if c then sent_one s.queue.pending s out now else
+      sent_within (pieces_waiting s.queue.pending) s out now).0 m h) out
+      (if c then sent_one s.queue.pending s out now else sent_within (pieces_waiting s.queue.pending) s out now).1
+  new_adds_if true s out tied = one_adds s out tied
+  new_adds_if false s out tied = sending_adds (pieces_waiting s.queue.pending) s out tied
 
 -- All DATA of a poll.
 
@@ -306,9 +303,8 @@ data_poll_adds a now h tied =
     let x = sent_new s (resent_by a.sender) now in
     let again : Adds (acts_of_marks a.sender) (parts a h) (sending s a.streams h) [] (resent_by a.sender) =
     record { given = resent_by a.sender; gives = marks_give a.sender a.streams h tied; all = refl } in
-    let fresh = new_adds_if _ s (resent_by a.sender) now a.streams h tied in
+    let fresh = new_adds_if now a.streams h _ s (resent_by a.sender) tied in
     let both =
-    adds_on (acts_of_marks a.sender) (acts_of_new s (resent_by a.sender) now) (parts a h) (sending s a.streams h)
-    (sending x.0 a.streams h) [] _ x.1 again fresh in
+    adds_on (acts_of_marks a.sender) (acts_of_new s (resent_by a.sender) now) again fresh in
     rw (sent_data_parts a (length (resent_by a.sender)) now x h, sent_data_said a (length (resent_by a.sender)) now x)
     both
