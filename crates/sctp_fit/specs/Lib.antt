@@ -6,3 +6,6 @@ pub mod Acknowledgements
 pub mod Arrivals
 pub mod HeldSet
 pub mod Growth
+pub mod Drops
+pub mod Forwards
+pub mod Abandonments

@@ -3,15 +3,21 @@
 //! receiver of the other, with DATA in any order. No code runs here; each empty function carries laws that are proved.
 #![tactic(auto)]
 
+mod abandonments;
 mod acknowledgements;
 mod arrivals;
+mod drops;
+mod forwards;
 mod growth;
 mod held_set;
 mod sendings;
 mod writes;
 
+pub use abandonments::abandonments_are_alike;
 pub use acknowledgements::acknowledgements_are_alike;
 pub use arrivals::what_comes_is_alike;
+pub use drops::drops_are_alike;
+pub use forwards::forwards_are_alike;
 pub use growth::events_leave_the_other_end;
 pub use held_set::the_set_holds_what_lies_past_the_reach;
 pub use sendings::sent_pieces_are_events;

@@ -1,0 +1,56 @@
+-- The laws of FORWARD TSN (RFC 3758 sections 3.2, 3.5 and 3.6): the one that an association makes says what its
+-- direction's does, and one that comes skips the same on both sides.
+use Rattle.std.specs.Prelude.{◌≡◌, ℕ, suc, ◌+◌, ◌<◌, true, not, ◌&&◌, ◌==◌, List, [], ◌∷◌, ◌++◌, take, slice_get, nat_lt}
+use Rattle.std.specs.Prelude.{if◌then◌else◌, Option, Some, None}
+use Rattle.std.specs.Option.{option_map}
+use Rattle.sctp_receive_queues.specs.Reassembly.{unordered_skipped}
+use Rattle.sctp_outbound_queue.specs.declared.message.InFlight.{InFlight}
+use Rattle.sctp_outbound_queue.specs.Outbound.{abandoned_in_front_of}
+use Rattle.sctp_streams.specs.Stream.{StreamView}
+use Rattle.sctp_streams.specs.Streams.{StreamMap, stream_at}
+use Rattle.sctp_model.specs.Packets.{Forward, skips}
+use Rattle.sctp_model.specs.Serial.{tsn}
+use Rattle.sctp_model.specs.Machine.{Direction, Event, happens, reach}
+use Rattle.sctp_model.specs.Invariants.{Invariant}
+use Rattle.sctp_model.specs.Safe.{IsWithin}
+use Rattle.sctp_reassembly.specs.Stands.{skipped_if}
+use Rattle.sctp_fit.specs.Outgoing.{FitsOutgoing, Sending}
+use Rattle.sctp_fit.specs.Incoming.{FitsIncoming, Receiving}
+
+-- the stream sequence number of the last ordered piece of stream s among these
+abbrev pub last_ordered : ℕ → List InFlight → Option ℕ → Option ℕ
+last_ordered s [] found = found
+last_ordered s (x ∷ xs) found =
+    last_ordered s xs (
+    if (x.message.stream_identifier == s) && not x.message.unordered then Some x.message.stream_sequence_number
+    else found)
+
+-- the abandoned pieces in front of all others in flight
+abbrev pub abandoned_front : Sending → List InFlight
+abandoned_front a = take (abandoned_in_front_of a.queue.in_flight) a.queue.in_flight
+
+-- A FORWARD TSN of the direction says this much of an association: it passes over the abandoned pieces in front of all
+-- others in flight, and for each stream with an ordered one among them it skips up to the last one's number.
+pub record IsForwardOf (a : Sending) (w : Direction) (f : Forward) : Type 0 where
+  pub made : (happens w Event.ForwardMade).forwards ≡ w.forwards ++ f ∷ []
+  pub reach : f.reach ≡ a.base + abandoned_in_front_of a.queue.in_flight
+  pub streams : (s : ℕ) → skips f s ≡ last_ordered s (abandoned_front a) None
+
+-- Where abandoned pieces stand in front of all others in flight, the direction makes the FORWARD TSN that says so.
+abbrev pub ForwardsSayTheSame : Type 0
+ForwardsSayTheSame = (a : Sending) (w : Direction) → 0 < abandoned_in_front_of a.queue.in_flight → FitsOutgoing a w
+    → FitsOutgoing a (happens w Event.ForwardMade) × ((f : Forward) × IsForwardOf a w f)
+
+-- a stream once a FORWARD TSN passed over everything up to the offset o: ordered messages up to the number that is told
+-- are skipped, and unordered pieces up to o are dropped
+abbrev pub passed_stream : ℕ → ℕ → Option ℕ → StreamView → StreamView
+passed_stream peer o number t =
+    record t { reassembly = unordered_skipped (skipped_if t.reassembly number) (tsn peer o) }
+
+-- A FORWARD TSN that lies ahead is taken on both sides, with its skips in every live stream.
+abbrev pub ForwardsThatComeAreTaken : Type 0
+ForwardsThatComeAreTaken = (a : Receiving) (k o : ℕ) (f : Forward) (m : StreamMap) (w : Direction)
+    → slice_get w.forwards k ≡ Some f → nat_lt (reach w.receiver) f.reach ≡ true → f.reach ≡ suc o
+    → ((s : ℕ) → stream_at m s ≡ option_map (passed_stream a.peer o (skips f s)) (stream_at a.streams s))
+    → IsWithin w → Invariant w → FitsIncoming a w
+    → FitsIncoming (record a { streams = m; passed = f.reach }) (happens w (Event.ForwardComes k))
