@@ -3,6 +3,7 @@ mod BytesReleased
 pub mod DataTaken
 mod FirstPiece
 mod FlightAcknowledged
+mod ForwardTaken
 pub mod HeldTsns
 mod Marks
 mod MessagesAccepted
