@@ -4,6 +4,7 @@ pub mod DataTaken
 mod FirstPiece
 mod FlightAcknowledged
 mod ForwardTaken
+mod FrontAlike
 pub mod HeldTsns
 mod Marks
 mod MessagesAccepted
