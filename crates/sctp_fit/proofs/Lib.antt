@@ -14,6 +14,7 @@ mod NothingToSend
 pub mod OtherEnd
 mod Pinned
 pub mod PlansExtended
+pub mod PointsTaken
 pub mod QueuesPinned
 pub mod ReachClimbs
 pub mod ReadsAnswered

@@ -10,6 +10,7 @@ mod drops;
 mod forwards;
 mod growth;
 mod held_set;
+mod points;
 mod sendings;
 mod writes;
 
@@ -20,5 +21,6 @@ pub use drops::drops_are_alike;
 pub use forwards::forwards_are_alike;
 pub use growth::events_leave_the_other_end;
 pub use held_set::the_set_holds_what_lies_past_the_reach;
+pub use points::points_acknowledge_the_first_pieces;
 pub use sendings::sent_pieces_are_events;
 pub use writes::writes_are_accepted;
