@@ -1,6 +1,6 @@
 -- What is answered as written was accepted, and a write that is refused accepts nothing.
-use Rattle.std.proofs.Common.{◌≡◌, refl, sym, ap, ◌∙◌, subst, ℕ, Bool, true, false, eqb, ◌&&◌, if◌then◌else◌, List, []}
-use Rattle.std.proofs.Common.{◌∷◌, ◌++◌, length, Option, Some, None, is_some}
+use Rattle.std.proofs.Common.{◌≡◌, refl, sym, ap, ◌∙◌, ℕ, Bool, true, false, eqb, ◌&&◌, if◌then◌else◌, List, []}
+use Rattle.std.proofs.Common.{◌++◌, length, Option, Some, None, is_some}
 use Rattle.std.specs.Prelude.{IfSome}
 use Rattle.std.proofs.lemmas.Bool.{eq-eqb, ne_eqb, true≢false}
 use Rattle.std.proofs.lemmas.List.{append-nil}
@@ -16,7 +16,6 @@ use Rattle.sctp_directions.specs.Outgoing.{message_on}
 use Rattle.sctp_pair.specs.declared.step.Reply.{Reply}
 use Rattle.sctp_pair.specs.declared.step.Reply.TheVariants as replies
 use Rattle.sctp_pair.specs.declared.step.Side2.{Side2}
-use Rattle.sctp_pair.specs.declared.step.Step.{Step}
 use Rattle.sctp_pair.specs.declared.step.Step.TheVariants as steps
 use Rattle.sctp_pair.specs.Ends.{Ends, end_of}
 use Rattle.sctp_pair.specs.Steps.{Steps, Writes, first_refusal}
@@ -39,10 +38,10 @@ written_is_live side id n bytes w v h =
     (first_is_none (stream_refusal (end_of side w.ends) id) (write_refusal (end_of side w.ends) id (length bytes))
     done.0)
 
-accepts_one : (side : Side2) (id n : ℕ) (bytes : List ℕ) (w v : World)
+accepts_one : {w v : World} (side : Side2) (id n : ℕ) (bytes : List ℕ)
     → IsWorldStep (steps.Write side id bytes) w (replies.Wrote n) v
     → AcceptsOne id bytes (from_side side w) (from_side side v)
-accepts_one side id n bytes w v h =
+accepts_one {w} {v} side id n bytes h =
     let d = step_from side (steps.Write side id bytes) (replies.Wrote n) w v h in
     let a : Shown = end_of side w.ends in
     let live = written_is_live side id n bytes w v h in
@@ -73,7 +72,7 @@ pub accepts_on : (side : Side2) (id : ℕ) (bytes : List ℕ) (r : Reply) (p q :
 accepts_on side id bytes (replies.Wrote n) p q leads =
     goes_on (steps.Write side id bytes) (replies.Wrote n) p q (λ w v. AcceptsOne id bytes (from_side side w)
     (from_side side v))
-    (λ w v before after h. accepts_one side id n bytes w v h) leads
+    (λ w v before after. accepts_one side id n bytes) leads
 accepts_on side id bytes _ p q leads = tt
 
 adds_none : (x side : Side2) (id s : ℕ) (bytes : List ℕ) (r : Reply) (w : World) → count_in r ≡ None

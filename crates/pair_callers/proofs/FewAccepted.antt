@@ -1,6 +1,6 @@
 -- Runs and steps at which few messages are accepted, and new pairs.
-use Rattle.std.proofs.Common.{◌≡◌, refl, ℕ, ◌+◌, List, [], ◌∷◌}
-use Rattle.sctp_model.specs.Machine.{Direction, fresh}
+use Rattle.std.proofs.Common.{refl, ℕ, List, [], ◌∷◌}
+use Rattle.sctp_model.specs.Machine.{fresh}
 use Rattle.sctp_pair.specs.declared.step.Reply.{Reply}
 use Rattle.sctp_pair.specs.declared.step.Step.{Step}
 use Rattle.sctp_pair.specs.Ends.{Ends}
@@ -31,12 +31,13 @@ runs_count (s ∷ ss) (r ∷ rs) w n m q h =
 runs_count [] (r ∷ rs) w n m q h = absurd h
 runs_count (s ∷ ss) [] w n m q h = absurd h
 
-pub steps_tell : (step : Step) (r : Reply) (p q : Ends)
-    → ((n m : ℕ) (w : World) → FitsCounted n m p w → LeadsCounted step r w n m q) → StepsTelling step r p q
-steps_tell step r p q leads n m w fits few =
-    let x = leads n m w fits in
-    let y = x.2 few in
-    (x.0, tells_accepted x.0 y.0, y.1)
+module _ (step : Step) (r : Reply) (p q : Ends)
+    (leads : (n m : ℕ) (w : World) → FitsCounted n m p w → LeadsCounted step r w n m q) where
+  pub steps_tell : StepsTelling step r p q
+  steps_tell n m w fits few =
+      let x = leads n m w fits in
+      let y = x.2 few in
+      (x.0, tells_accepted x.0 y.0, y.1)
 
 has_nothing : (size : ℕ) → HasNothing (fresh size)
 has_nothing size = record { accepted = λ s. refl; read = λ s. refl; span = λ s. refl }

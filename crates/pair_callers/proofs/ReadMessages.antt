@@ -9,7 +9,7 @@ use Rattle.sctp_receive_queues.specs.Messages.{ReceivedMessage}
 use Rattle.sctp_model.specs.Messages.{Plan, message_at}
 use Rattle.sctp_model.specs.Machine.{Direction}
 use Rattle.sctp_model.specs.Reassembly.{Got}
-use Rattle.sctp_model.specs.Safe.{IsSafe, Letter, Names, Tells, letter_read, letter_written}
+use Rattle.sctp_model.specs.Safe.{IsSafe, Letter, Names, Tells, letter_read}
 use Rattle.sctp_directions.specs.Incoming.{IsReadAs}
 use Rattle.sctp_reassembly.specs.Stands.{letter_received}
 use Rattle.sctp_pair.specs.declared.step.Reply.{Reply}
@@ -18,7 +18,7 @@ use Rattle.sctp_pair.specs.declared.step.Side2.{Side2}
 use Rattle.sctp_pair.specs.declared.step.Step.{Step}
 use Rattle.sctp_pair.specs.declared.step.Step.TheVariants as steps
 use Rattle.sctp_pair.specs.Ends.{Ends}
-use Rattle.sctp_pair.specs.World.{IsSafeWorld, IsWorldStep, World, is_side, message_read}
+use Rattle.sctp_pair.specs.World.{IsWorldStep, World, is_side, message_read}
 use Rattle.pair_callers.specs.Going.{GoesOn, GoesOnWithin, to_side}
 use Rattle.pair_callers.specs.Reading.{AreNumbered, IsOfAccepted, ReadsNext, letter_at, letters_of, message_in}
 use Rattle.pair_callers.proofs.StepsByDirection.{Leads, goes_on, goes_on_within, is_own, promised_to, step_to}
@@ -71,7 +71,7 @@ pub reads_on : (side : Side2) (id : ℕ) (r : Reply) (p q : Ends) → Leads (ste
     → GoesOn p q (λ w v. ReadsNext id (message_in r) (to_side side w) (to_side side v))
 reads_on side id r p q leads =
     goes_on (steps.Read side id) r p q (λ w v. ReadsNext id (message_in r) (to_side side w) (to_side side v))
-    (λ w v before after h. reads_next side id r w v h) leads
+    (λ w v before after. reads_next side id r w v) leads
 
 -- Accepted messages
 
