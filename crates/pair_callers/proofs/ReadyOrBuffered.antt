@@ -1,6 +1,6 @@
 -- What waits to be read is what came, and what did not come is still buffered.
-use Rattle.std.proofs.Common.{◌≡◌, refl, sym, ap, ◌∙◌, subst, ℕ, zero, suc, ◌<◌, ◌≤◌, ◌+◌, arith, true, false, List, []}
-use Rattle.std.proofs.Common.{◌∷◌, ◌++◌, length, map, take, Some}
+use Rattle.std.proofs.Common.{◌≡◌, refl, sym, ap, ◌∙◌, subst, ℕ, zero, suc, ◌≤◌, arith, true, false, List, []}
+use Rattle.std.proofs.Common.{◌∷◌, ◌++◌, length, map, take}
 use Rattle.std.specs.Prelude.{IfSome, Ok}
 use Rattle.std.proofs.Common.{⊎_elim}
 use Rattle.std.proofs.lemmas.Bool.{cases_Bool}
@@ -8,7 +8,7 @@ use Rattle.std.proofs.lemmas.List.{map-append}
 use Rattle.sctp_model.specs.Messages.{Message}
 use Rattle.sctp_model.specs.Machine.{Direction, live}
 use Rattle.sctp_model.specs.Reassembly.{Got, ready}
-use Rattle.sctp_model.specs.Safe.{IsPrefix, IsSafe, IsWhole, Letter, letter_read, letter_written, letters_written}
+use Rattle.sctp_model.specs.Safe.{IsPrefix, IsSafe, Letter, letter_read, letter_written, letters_written}
 use Rattle.sctp_model.specs.Safe.{read_or_ready}
 use Rattle.sctp_assoc.specs.Calls.{buffered_of}
 use Rattle.sctp_assoc.specs.Shown.{Shown}
@@ -18,14 +18,14 @@ use Rattle.sctp_pair.specs.declared.step.Side2.{Side2}
 use Rattle.sctp_pair.specs.declared.step.Side2.TheVariants as sides
 use Rattle.sctp_pair.specs.declared.step.Step.{Step}
 use Rattle.sctp_pair.specs.declared.step.Step.TheVariants as steps
-use Rattle.sctp_pair.specs.Ends.{Ends, end_of, packets_of}
-use Rattle.sctp_pair.specs.Steps.{AtSide, Buffers, Steps}
-use Rattle.sctp_pair.specs.World.{IsOpen, IsPromised, World}
+use Rattle.sctp_pair.specs.Ends.{Ends, end_of}
+use Rattle.sctp_pair.specs.Steps.{Buffers, Steps}
+use Rattle.sctp_pair.specs.World.{IsOpen, IsPromised}
 use Rattle.sctp_pair.proofs.SimpleCalls.{buffers_same}
 use Rattle.pair_callers.specs.Going.{GoesOnWithin, from_side, to_side}
 use Rattle.pair_callers.specs.Reading.{letters_read}
 use Rattle.pair_callers.specs.Buffering.{IsAllThatCame, IsAllToBeHad, IsFrontOfWhatCame, IsKept, IsReliable}
-use Rattle.pair_callers.specs.Buffering.{KeepsWhatDidNotCome, amount_in, letters_accepted, letters_ready}
+use Rattle.pair_callers.specs.Buffering.{KeepsWhatDidNotCome, amount_in, letters_ready}
 use Rattle.pair_callers.proofs.StepsByDirection.{Leads, at_its_side, goes_on_within, promised_from, promised_to}
 use Rattle.pair_callers.proofs.ReadMessages.{tell_all}
 

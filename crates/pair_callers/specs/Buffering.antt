@@ -1,6 +1,6 @@
 -- What waits to be read, and what stays buffered.
 use Rattle.std.specs.Prelude.{◌≡◌, ◌<◌, ◌≤◌, ◌+◌, ℕ, true, false, List, ◌++◌, length, map, take, Option, Some, None}
-use Rattle.sctp_model.specs.Messages.{Plan, accepted_bytes, bytes_below}
+use Rattle.sctp_model.specs.Messages.{accepted_bytes, bytes_below}
 use Rattle.sctp_model.specs.Packets.{mem}
 use Rattle.sctp_model.specs.Machine.{Direction}
 use Rattle.sctp_model.specs.Safe.{IsKeptOrdered, IsKeptReliable, IsToBeHad, IsWhole, Letter, letter_written}
