@@ -8,9 +8,11 @@ mod FrontAlike
 pub mod HeldTsns
 mod Marks
 mod MessagesAccepted
+mod MessageDropped
 mod NamesKept
 mod NextPiece
 mod NothingToSend
+mod NumbersMoveDown
 pub mod OtherEnd
 mod Pinned
 pub mod PlansExtended
