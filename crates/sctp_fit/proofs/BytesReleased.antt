@@ -68,7 +68,7 @@ abbrev pub AreOf : (ℕ → ℕ) → StreamMap → Type 0
 AreOf generations m = (s : ℕ) (t : StreamView) → stream_at m s ≡ Some t → t.stats.generation ≡ generations s
 
 -- bytes of a live stream are released in its generation
-released_at : (m : StreamMap) (id generation bytes s : ℕ) (o : Option StreamView) → stream_at m id ≡ o
+pub released_at : (m : StreamMap) (id generation bytes s : ℕ) (o : Option StreamView) → stream_at m id ≡ o
     → ((t : StreamView) → o ≡ Some t → t.stats.generation ≡ generation)
     → stream_at (cond (is_generation o generation) (change_at (λ t. released_from t bytes) o m id) m) s
     ≡ less (cond (eqb id s) bytes 0) (stream_at m s)

@@ -1,4 +1,5 @@
 pub mod BegunCounts
+mod BytesPartitioned
 mod BytesReleased
 pub mod DataTaken
 mod FirstPiece
@@ -24,5 +25,7 @@ mod SentAgain
 pub mod StandsOn
 mod StreamsChanged
 pub mod StreamsThere
+mod TailMarked
 mod Unsent
 mod UnsentKept
+mod WholeAbandoned
