@@ -10,7 +10,7 @@ use Rattle.sctp_model.specs.Packets.{mem}
 use Rattle.sctp_model.specs.Machine.{Direction}
 use Rattle.sctp_model.specs.Invariants.{Invariant}
 use Rattle.sctp_model.specs.Safe.{AreDistinct, read_end}
-use Rattle.sctp_directions.specs.Counted.{HasAccepted, all_pieces}
+use Rattle.sctp_fit.specs.Counted.{HasAccepted, all_pieces}
 use Rattle.sctp_directions.specs.Laws.{AcceptedMessagesAreCounted, FewMessagesStayWithin, NothingIsAcceptedAtFirst}
 use Rattle.sctp_directions.specs.Plain.{IsPlain, count_below}
 use Rattle.sctp_directions.proofs.Pieces.{messages_have_pieces}

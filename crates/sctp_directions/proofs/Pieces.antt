@@ -5,7 +5,7 @@ use Rattle.std.proofs.Math.Nat.{mul-le-mul_left}
 use Rattle.std.proofs.lemmas.Bool.{cases_lt}
 use Rattle.std.proofs.lemmas.List.Sums.{sum_by-cons}
 use Rattle.sctp_model.specs.Messages.{Message, no_message}
-use Rattle.sctp_directions.specs.Counted.{all_pieces, pieces_in}
+use Rattle.sctp_fit.specs.Counted.{all_pieces, pieces_in}
 use Rattle.sctp_directions.specs.Laws.{PiecesAreCounted, ShortMessagesAreOnePiece}
 
 below_all : (size bytes k : ℕ) → 0 < size → k < pieces_in size bytes → size * k < bytes

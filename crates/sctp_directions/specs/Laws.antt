@@ -20,7 +20,7 @@ use Rattle.sctp_assoc.specs.Acts.{Act, Can, History, Parts, data_given, done, do
 use Rattle.sctp_assoc.specs.Calls.{buffered_of, ready_messages}
 use Rattle.sctp_sides.specs.Reports.{SaysWhatWasTaken}
 use Rattle.sctp_assoc.specs.Shown.{Shown}
-use Rattle.sctp_directions.specs.Counted.{HasAccepted, all_pieces, pieces_in}
+use Rattle.sctp_fit.specs.Counted.{HasAccepted, all_pieces, pieces_in}
 use Rattle.sctp_directions.specs.Events.{Accepts, Assigns, Brings, GivesAMessage, IsAtReceiver, IsAtSender}
 use Rattle.sctp_directions.specs.Events.{IsPlainEvent, IsReceived, IsSentOn, KeepsWithin}
 use Rattle.sctp_directions.specs.Plain.{IsPlain, IsSimple}

@@ -3,6 +3,5 @@ pub mod Said
 pub mod Outgoing
 pub mod Incoming
 pub mod Between
-pub mod Counted
 pub mod Events
 pub mod Laws

@@ -1,6 +1,7 @@
 pub mod BegunCounts
 mod BytesPartitioned
 mod BytesReleased
+mod CountsBelow
 pub mod DataTaken
 mod FirstPiece
 mod FlightAcknowledged
@@ -16,6 +17,7 @@ mod NothingToSend
 mod NumbersMoveDown
 pub mod OtherEnd
 mod Pinned
+pub mod PlacesCounted
 pub mod PlansExtended
 pub mod PointsTaken
 pub mod QueuesPinned

@@ -6,6 +6,7 @@
 mod abandonments;
 mod acknowledgements;
 mod arrivals;
+mod counted;
 mod drops;
 mod forwards;
 mod growth;
@@ -17,6 +18,7 @@ mod writes;
 pub use abandonments::abandonments_are_alike;
 pub use acknowledgements::acknowledgements_are_alike;
 pub use arrivals::what_comes_is_alike;
+pub use counted::few_pieces_stay_within;
 pub use drops::drops_are_alike;
 pub use forwards::forwards_are_alike;
 pub use growth::events_leave_the_other_end;

@@ -8,7 +8,7 @@ use Rattle.sctp_streams.specs.Stream.{StreamView}
 use Rattle.sctp_streams.specs.Streams.{stream_at}
 use Rattle.sctp_model.specs.Messages.{Message}
 use Rattle.sctp_model.specs.Machine.{Direction}
-use Rattle.sctp_directions.specs.Counted.{HasAccepted, all_pieces, pieces_in}
+use Rattle.sctp_fit.specs.Counted.{HasAccepted, all_pieces, pieces_in}
 use Rattle.sctp_directions.specs.Outgoing.{message_on}
 use Rattle.sctp_directions.proofs.Proved.{accepted_messages_are_counted, few_messages_stay_within}
 use Rattle.sctp_directions.proofs.Proved.{nothing_is_accepted_at_first}

@@ -1,7 +1,7 @@
 -- Steps of a pair at which few pieces are accepted: who makes them counts the pieces of its own writes, and needs no
 -- other premise.
 use Rattle.std.specs.Prelude.{ℕ, ◌<◌, ◌+◌, if◌then◌else◌, List, [], ◌∷◌, length}
-use Rattle.sctp_directions.specs.Counted.{HasAccepted, pieces_in}
+use Rattle.sctp_fit.specs.Counted.{HasAccepted, pieces_in}
 use Rattle.sctp_pair.specs.declared.step.Reply.{Reply}
 use Rattle.sctp_pair.specs.declared.step.Reply.TheVariants as replies
 use Rattle.sctp_pair.specs.declared.step.Side2.{Side2}
