@@ -1,3 +1,4 @@
 pub mod ByteSums
 pub mod BytesLeft
 pub mod ExpiredUnsent
+pub mod PiecesCut

@@ -3,3 +3,4 @@ pub mod Laws
 pub mod Message
 pub mod Outbound
 pub mod Waiting
+pub mod Cut

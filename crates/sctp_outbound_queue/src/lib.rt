@@ -8,5 +8,5 @@ mod queue;
 mod walks;
 
 pub use laws::{abandonment_is_whole, released_bytes_are_exact};
-pub use message::{Attributes, InFlight, PendingMessage};
+pub use message::{Attributes, InFlight, PendingMessage, cut};
 pub use queue::{OutboundQueue, Released};

@@ -1,5 +1,7 @@
 // Messages, cut into pieces, and pieces in flight.
-ghost use Rattle.std.specs.Prelude.{◌≡◌, ◌==◌, ◌+◌, ◌-◌, ◌^◌, length, min, fold};
+ghost use Rattle.std.specs.Prelude.{◌≡◌, ◌==◌, ◌+◌, ◌-◌, ◌^◌, ◌<◌, ◌≤◌, [], length, min, fold, IfOk, IsOk};
+ghost use Rattle.std.specs.List.{concat};
+ghost use Rattle.sctp_outbound_queue.specs.Cut.{IsCut, MayFollow};
 ghost use Rattle.sctp_outbound_queue.specs.Message.{message_bytes, piece_count, accepted, sent_once, without_piece};
 ghost use Rattle.sctp_outbound_queue.specs.Message.{marker_of, is_of, is_of_stream, is_waiting_of_stream};
 ghost use Rattle.sctp_outbound_queue.specs.Message.{is_outstanding, outstanding_bytes, outstanding_bytes_of, acked};
@@ -9,6 +11,7 @@ ghost use Rattle.sctp_outbound_queue.specs.Message.{is_expired_piece, is_expired
 
 use bytes::Bytes;
 use sctp_wire_types::{Instant, PayloadProtocolIdentifier, Policy, StreamId};
+use std::alloc::{AllocError, Global};
 use std::collections::VecDeque;
 use std::marker::Model;
 use std::mem;
@@ -305,6 +308,39 @@ impl InFlight {
     {
         self.message.deadline = self.message.deadline_from(now);
     }
+}
+
+/// Cuts the bytes of a message into pieces of `size` bytes, the last one of what is left (RFC 4960 section 6.9): the
+/// first piece, and those behind it. For size 0 the whole is one piece. All are cuts of the one buffer, and a message that
+/// fits one piece takes no memory.
+pub fn cut(alloc: Global, bytes: Bytes, size: usize) -> Result<(Bytes, VecDeque<Bytes>), AllocError>
+    ensures cut { 0 < size → IfOk result (λ p. IsCut size bytes p.0 p.1.items) }
+    ensures uncut { size ≡ 0 → IfOk result (λ p. (p.0 ≡ bytes) × (p.1.items ≡ [])) }
+    ensures fits { length bytes ≤ size → IsOk result }
+{
+    if size == 0 {
+        return Ok((bytes, VecDeque::new(alloc)));
+    }
+    let mut left = bytes;
+    let first = left.split_to(size.min(left.len()))?;
+    let rest = cut_behind(alloc, left, size)?;
+    Ok((first, rest))
+}
+
+// Cuts what is behind a piece of `size` bytes.
+fn cut_behind(alloc: Global, bytes: Bytes, size: usize) -> Result<VecDeque<Bytes>, AllocError>
+    requires { 0 < size }
+    ensures whole { IfOk result (λ p. concat p.items ≡ bytes) }
+    ensures follow { IfOk result (λ p. MayFollow size p.items) }
+    ensures none { length bytes ≡ 0 → IsOk result }
+{
+    let mut left = bytes;
+    let mut rest = VecDeque::new(alloc);
+    'pieces: while !left.is_empty() {
+        let piece = left.split_to(size.min(left.len()))?;
+        rest.push_back(piece)?;
+    }
+    Ok(rest)
 }
 
 // The bytes of the pieces beside so many others, at most the greatest u64.
