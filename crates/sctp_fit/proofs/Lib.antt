@@ -2,6 +2,7 @@ pub mod BegunCounts
 mod BytesPartitioned
 mod BytesReleased
 mod CountsBelow
+pub mod CutsGiven
 pub mod DataTaken
 mod FirstPiece
 mod FlightAcknowledged
@@ -9,8 +10,8 @@ mod ForwardTaken
 mod FrontAlike
 pub mod HeldTsns
 mod Marks
-mod MessagesAccepted
 mod MessageDropped
+mod MessagesAccepted
 mod NamesKept
 mod NextPiece
 mod NothingToSend

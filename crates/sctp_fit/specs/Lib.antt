@@ -2,6 +2,7 @@ pub mod Abandonments
 pub mod Acknowledgements
 pub mod Arrivals
 pub mod Counted
+pub mod Cuts
 pub mod Drops
 pub mod Forwards
 pub mod Growth
