@@ -1,9 +1,7 @@
 // The setting in which every session runs.
 use crate::line::Beginning;
 use bytes::Bytes;
-use sctp_assoc::{
-    ChunkInit, Error, Instant, SUPPORTED_EXTENSIONS, ServerConfig, TransportConfig,
-};
+use sctp_assoc::{ChunkInit, Error, Instant, SUPPORTED_EXTENSIONS, ServerConfig, TransportConfig};
 use sctp_pair::Pair;
 use sctp_wire_queues::{List, Param};
 use std::alloc::{AllocError, Global};

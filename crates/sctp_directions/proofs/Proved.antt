@@ -8,7 +8,8 @@ pub use Rattle.sctp_directions.proofs.OutgoingSent.{sent_pieces_begin}
 pub use Rattle.sctp_directions.proofs.OutgoingWrote.{writes_are_accepted}
 pub use Rattle.sctp_directions.proofs.LawsByAct.{acts_keep_the_initial_tsns, opened_streams_are_alike}
 pub use Rattle.sctp_directions.proofs.LawsByAct.{own_acts_leave_what_comes, pieces_are_given, ready_messages_are_alike}
-pub use Rattle.sctp_directions.proofs.LawsByAct.{reports_say_what_was_taken, sacks_mean_the_same, what_comes_leaves_its_own}
+pub use Rattle.sctp_directions.proofs.LawsByAct.{reports_say_what_was_taken, sacks_mean_the_same}
+pub use Rattle.sctp_directions.proofs.LawsByAct.{what_comes_leaves_its_own}
 pub use Rattle.sctp_directions.proofs.LawsByAct.{what_is_released_is_not_buffered}
 pub use Rattle.sctp_directions.proofs.LawsByEvent.{closed_receivers_are_not_open, events_keep_the_limits}
 pub use Rattle.sctp_directions.proofs.LawsByEvent.{fresh_directions_are_plain, only_beginnings_assign}

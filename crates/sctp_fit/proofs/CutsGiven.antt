@@ -1,13 +1,12 @@
 -- Pieces that are full but for the last, and in their order are the bytes, are the pieces of these bytes.
-use Rattle.std.proofs.Common.{ℕ, suc, ◌+◌, ◌*◌, ◌<◌, ◌≤◌, ◌≡◌, List, [], ◌∷◌, ◌++◌, length, take, drop}
-use Rattle.std.proofs.Common.{sym, ap, ◌∙◌, subst, arith}
+use Rattle.std.proofs.Common.{ℕ, suc, ◌*◌, ◌<◌, ◌≡◌, List, [], ◌∷◌, ◌++◌, length, take, drop}
+use Rattle.std.proofs.Common.{sym, ap, ◌∙◌, arith}
 use Rattle.std.specs.List.{concat}
 use Rattle.std.proofs.Math.Nat.{mul-suc}
 use Rattle.std.proofs.Math.Seq.{drop-append_seam, take-append_seam}
 use Rattle.std.proofs.lemmas.Bool.{le-leb, lt-leb}
 use Rattle.std.proofs.lemmas.List.{append-nil, drop-drop, length-append, length-drop, take_all}
 use Rattle.sctp_outbound_queue.specs.Cut.{AreFull}
-use Rattle.sctp_model.specs.Messages.{piece_of}
 use Rattle.sctp_fit.specs.Cuts.{CutsArePieces}
 use Rattle.sctp_fit.specs.Outgoing.{ArePieces}
 

@@ -1,5 +1,6 @@
 -- The ordered messages of a stream that wait behind one that is dropped unsent move down by one stream sequence number.
-use Rattle.std.proofs.Common.{ℕ, zero, suc, ◌+◌, ◌-◌, ◌≡◌, ◌%◌, ◌^◌, Bool, true, false, not, cond, eqb, ◌&&◌, List, [], ◌∷◌}
+use Rattle.std.proofs.Common.{ℕ, zero, suc, ◌+◌, ◌-◌, ◌≡◌, ◌%◌, ◌^◌, Bool, true, false, not, cond, eqb, ◌&&◌, List}
+use Rattle.std.proofs.Common.{[], ◌∷◌}
 use Rattle.std.proofs.Common.{map, Some, refl, sym, ap, ◌∙◌, subst, ⊎_elim, arith}
 use Rattle.std.specs.Prelude.{slice_get}
 use Rattle.std.proofs.lemmas.Bool.{cases_eq, cond_both, cond-false, eq-eqb, eqb-true, true≢false}
@@ -16,8 +17,8 @@ use Rattle.sctp_fit.specs.Outgoing.{AreUnsent, IsMessage, IsUnsent, Names, numbe
 abbrev pub one_if : Bool → ℕ
 one_if b = cond b 1 0
 
--- by how much the numbers of a stream move down behind a message that is dropped: an ordered one of that stream gives its
--- own back
+-- by how much the numbers of a stream move down behind a message that is dropped: an ordered one of that stream gives
+-- its own back
 abbrev pub steps : Attributes → ℕ → ℕ
 steps d t = one_if (not d.unordered && eqb d.stream_identifier t)
 

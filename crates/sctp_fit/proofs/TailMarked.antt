@@ -1,6 +1,7 @@
 -- A message of which something was sent is abandoned whole by an association and its direction: what is in flight of
 -- it, and its tail that waits, for which a marker takes the next offset (RFC 3758 section 3.5).
-use Rattle.std.proofs.Common.{ℕ, suc, ◌+◌, ◌-◌, ◌*◌, ◌<◌, ◌≤◌, ◌≡◌, Bool, true, false, not, cond, eqb, ◌&&◌, List, [], ◌∷◌}
+use Rattle.std.proofs.Common.{ℕ, suc, ◌+◌, ◌-◌, ◌*◌, ◌<◌, ◌≤◌, ◌≡◌, Bool, true, false, not, cond, eqb, ◌&&◌, List}
+use Rattle.std.proofs.Common.{[], ◌∷◌}
 use Rattle.std.proofs.Common.{◌++◌, length, map, Option, Some, None, refl, sym, ap, ◌∙◌, subst, ⊎_elim, arith}
 use Rattle.std.specs.List.{list_any}
 use Rattle.std.proofs.lemmas.Bool.{and_from, and_parts, cases_eq, cond_both, cond-false, cond-true, eq-eqb, eqb-true}
@@ -328,7 +329,8 @@ module _ (a : Sending) (w : Direction) (inv : Invariant w) (f : FitsOutgoing a w
         apart y e (sym h.stream ∙ r.0, r.1)))
 
     waiting_kept : (c : Option Place) (ps : List Waiting) → AreWaiting f.named p (is_unsent w.sender) w.sender.ssn c ps
-        → AreWaiting f.named p (λ x j. has_message p x j && (not (w.sender.begun x j) && not (gone x j))) w.sender.ssn c ps
+        → AreWaiting f.named p (λ x j. has_message p x j && (not (w.sender.begun x j) && not (gone x j))) w.sender.ssn c
+        ps
     waiting_kept None ps h = unsent_kept f.named p p (same_plan p inv.planned.known) w.sender.ssn ps alike h
     waiting_kept (Some y) [] h = absurd h
     waiting_kept (Some y) (x ∷ xs) (h, hs) =
@@ -345,7 +347,8 @@ module _ (a : Sending) (w : Direction) (inv : Invariant w) (f : FitsOutgoing a w
         (sym (not_dropped w.sender.current a.queue.pending refl f.waiting))
         (fits_left p.places w.sender.current (outstanding + 0) amount_left
         (given_keeps w s i (w.sender.released s + unacknowledged w.sender s i) is.known kind apart
-        (released_given p w.over w.sender.acknowledged w.sender.gone s i (w.sender.released s) inv.planned stays is.known
+        (released_given p w.over w.sender.acknowledged w.sender.gone s i (w.sender.released s) inv.planned stays
+        is.known
         (inv.released s)) inv)
         a.queue.pending (map (flagged t.message_id) a.queue.in_flight)
         (flight_flagged f.named p a.queue.next_message_id f.names s i t.message_id is.known is.id

@@ -1,5 +1,5 @@
--- The law of messages that are dropped before any of them was sent (RFC 3758 section 3.5): the direction drops the same,
--- and its number goes to the stream's next ordered message.
+-- The law of messages that are dropped before any of them was sent (RFC 3758 section 3.5): the direction drops the
+-- same, and its number goes to the stream's next ordered message.
 use Rattle.std.specs.Prelude.{◌≡◌, ℕ, zero, suc, false, List, [], ◌∷◌, map, slice_get, if◌then◌else◌, Some}
 use Rattle.sctp_outbound_queue.specs.declared.message.Attributes.{Attributes}
 use Rattle.sctp_outbound_queue.specs.Waiting.{Waiting}

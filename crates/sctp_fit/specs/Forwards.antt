@@ -1,6 +1,7 @@
 -- The laws of FORWARD TSN (RFC 3758 sections 3.2, 3.5 and 3.6): the one that an association makes says what its
 -- direction's does, and one that comes skips the same on both sides.
-use Rattle.std.specs.Prelude.{◌≡◌, ℕ, suc, ◌+◌, ◌<◌, true, not, ◌&&◌, ◌==◌, List, [], ◌∷◌, ◌++◌, take, slice_get, nat_lt}
+use Rattle.std.specs.Prelude.{◌≡◌, ℕ, suc, ◌+◌, ◌<◌, true, not, ◌&&◌, ◌==◌, List, [], ◌∷◌, ◌++◌, take, slice_get}
+use Rattle.std.specs.Prelude.{nat_lt}
 use Rattle.std.specs.Prelude.{if◌then◌else◌, Option, Some, None}
 use Rattle.std.specs.Option.{option_map}
 use Rattle.sctp_receive_queues.specs.Reassembly.{unordered_skipped}

@@ -45,8 +45,8 @@ ReceiversEventsLeaveWhatIsSent = (a : Sending) (w : Direction) (e : Event) → I
 abbrev pub EventsKeepTheCount : Type 0
 EventsKeepTheCount = (w : Direction) (e : Event) → Invariant w → CountsBegun w.sender → CountsBegun (happens w e).sender
 
--- Where no offset was assigned in the direction that comes, the peer's initial TSN may become known: the direction knows
--- nothing of it.
+-- Where no offset was assigned in the direction that comes, the peer's initial TSN may become known: the direction
+-- knows nothing of it.
 abbrev pub MeetingsAreNoEvents : Type 0
 MeetingsAreNoEvents = (a : Receiving) (t : ℕ) (w : Direction) → w.sender.plan.places ≡ [] → Invariant w
     → FitsIncoming a w → FitsIncoming (record a { peer = t }) w

@@ -39,7 +39,7 @@ NewTsnsDidNotCome = (a : Receiving) (held : List ℕ) (t : ℕ) → t < 2 ^ 32 �
 abbrev pub with_offset : Receiving → ℕ → Receiving
 with_offset a o = record a { taken = o ∷ a.taken }
 
--- A new TSN is held, and then the point moves over all that follows it: to the new reach, and what is held after that is
+-- A new TSN is held, and then the point moves over all that follows it, to the new reach; what is held after that is
 -- what lies past that.
 abbrev pub TheSetFollows : Type 0
 TheSetFollows = (a : Receiving) (held : List ℕ) (t n : ℕ) → t < 2 ^ 32 → HoldsPast a held

@@ -1,6 +1,6 @@
--- How what an association has to send, has in flight and counts as buffered stands to the sender of a direction: messages
--- of several pieces, ordered or not, reliable or not, acknowledged in any order (RFC 4960 sections 6.1, 6.2.1, 6.6 and
--- 6.9; RFC 3758 section 3.5).
+-- How what an association has to send, has in flight and counts as buffered stands to the sender of a direction:
+-- messages of several pieces, ordered or not, reliable or not, acknowledged in any order (RFC 4960 sections 6.1, 6.2.1,
+-- 6.6 and 6.9; RFC 3758 section 3.5).
 use Rattle.std.specs.Prelude.{◌≡◌, ℕ, suc, ◌+◌, ◌%◌, ◌<◌, ◌≤◌, Bool, true, false, not, ◌==◌, List, [], ◌∷◌}
 use Rattle.std.specs.Prelude.{length, if◌then◌else◌, Option, Some, None}
 use Rattle.sctp_wire_types.specs.Ids.{number_of}
@@ -12,7 +12,8 @@ use Rattle.sctp_outbound_queue.specs.Waiting.{Waiting}
 use Rattle.sctp_outbound_queue.specs.Outbound.{Outbound}
 use Rattle.sctp_streams.specs.Stream.{StreamView}
 use Rattle.sctp_streams.specs.Streams.{StreamMap, stream_at}
-use Rattle.sctp_model.specs.Messages.{Place, Plan, accepted_bytes, is_last, is_last_piece, message_at, piece_of, place_at}
+use Rattle.sctp_model.specs.Messages.{Place, Plan, accepted_bytes, is_last, is_last_piece, message_at, piece_of}
+use Rattle.sctp_model.specs.Messages.{place_at}
 use Rattle.sctp_model.specs.Messages as model
 use Rattle.sctp_model.specs.Invariants.{gone_at}
 use Rattle.sctp_model.specs.Machine.{Direction, Sender, is_unsent, put}
@@ -99,7 +100,8 @@ abbrev pub numbers_past : (ℕ → ℕ) → Attributes → ℕ → ℕ
 numbers_past numbers a =
     if a.unordered then numbers else put numbers a.stream_identifier (suc (numbers a.stream_identifier))
 
--- The message x that waits is message i of its stream, of which nothing was sent, and the first such one from `from` on.
+-- The message x that waits is message i of its stream, of which nothing was sent, and the first such one from `from`
+-- on.
 pub record IsUnsent (n : Names) (p : Plan) (unsent : ℕ → ℕ → Bool) (from number i : ℕ) (x : Waiting) : Type 0 where
   pub waits : IsWaiting n p i number 0 x
   pub begun : x.begun ≡ false

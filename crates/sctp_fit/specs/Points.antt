@@ -1,5 +1,5 @@
--- The law of cumulative TSN ack points: to acknowledge the first pieces in flight one at a time is to acknowledge them at
--- once (RFC 4960 section 6.2.1).
+-- The law of cumulative TSN ack points: to acknowledge the first pieces in flight one at a time is to acknowledge them
+-- at once (RFC 4960 section 6.2.1).
 use Rattle.std.specs.Prelude.{◌≡◌, ℕ, zero, suc, ◌+◌, ◌^◌, ◌<◌, ◌≤◌, length, nat_lt, slice_get}
 use Rattle.sctp_outbound_queue.specs.Outbound.{without_first}
 use Rattle.sctp_outbound.specs.Sender.{streams_after}

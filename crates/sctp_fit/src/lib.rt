@@ -1,5 +1,5 @@
-//! How an association's queues and streams stand to the two directions of the model between which it is: as the sender of
-//! one, with messages of several pieces, ordered or not, reliable or not, and acknowledged in any order, and as the
+//! How an association's queues and streams stand to the two directions of the model between which it is: as the sender
+//! of one, with messages of several pieces, ordered or not, reliable or not, and acknowledged in any order, and as the
 //! receiver of the other, with DATA in any order. No code runs here; each empty function carries laws that are proved.
 #![tactic(auto)]
 

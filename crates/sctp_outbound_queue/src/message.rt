@@ -311,8 +311,8 @@ impl InFlight {
 }
 
 /// Cuts the bytes of a message into pieces of `size` bytes, the last one of what is left (RFC 4960 section 6.9): the
-/// first piece, and those behind it. For size 0 the whole is one piece. All are cuts of the one buffer, and a message that
-/// fits one piece takes no memory.
+/// first piece, and those behind it. For size 0 the whole is one piece. All are cuts of the one buffer, and a message
+/// that fits one piece takes no memory.
 pub fn cut(alloc: Global, bytes: Bytes, size: usize) -> Result<(Bytes, VecDeque<Bytes>), AllocError>
     ensures cut { 0 < size → IfOk result (λ p. IsCut size bytes p.0 p.1.items) }
     ensures uncut { size ≡ 0 → IfOk result (λ p. (p.0 ≡ bytes) × (p.1.items ≡ [])) }

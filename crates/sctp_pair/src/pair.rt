@@ -231,7 +231,8 @@ impl Pair {
             → RunsCounted steps.now replies.items w n m self.new) }
         ensures came { IfOk result (λ replies. ComesOn steps.now replies.items self.old self.new) }
         ensures front { IfOk result (λ replies. HoldsOn ReadsAreFronts steps.now replies.items self.old) }
-        ensures undelivered { IfOk result (λ replies. HoldsOn NothingIsReadBeforeADelivery steps.now replies.items self.old) }
+        ensures undelivered { IfOk result
+            (λ replies. HoldsOn NothingIsReadBeforeADelivery steps.now replies.items self.old) }
     {
         self.carry_out_all(steps)
     }

@@ -86,8 +86,8 @@ impl ReassemblyQueue {
         Ok(true)
     }
 
-    /// Why the pieces held, or their bytes, refuse a piece (`ErrContradictoryPieces`, `ErrInboundMessageTooLarge`); None
-    /// where neither does.
+    /// Why the pieces held, or their bytes, refuse a piece (`ErrContradictoryPieces`, `ErrInboundMessageTooLarge`);
+    /// None where neither does.
     pub fn refusal(&self, piece: &ChunkPayloadData, limit: u32) -> Option<Error>
         ensures { result ≡ refusal self.now piece.now limit }
     {

@@ -21,7 +21,8 @@ use Rattle.sctp_outbound.specs.Sender.{sent_within}
 use Rattle.sctp_assoc.specs.Acts.{all_data_given, parts}
 use Rattle.sctp_assoc.specs.Happened.{acts_of_ack, acts_of_data_poll}
 use Rattle.sctp_assoc.specs.Calls.{is_established}
-use Rattle.sctp_sides.specs.Laws.{IsNextWithNothingInFlight, PollsBeginWithWhatWaits, WhatWaitsIsGiven, WhatWaitsIsPolled}
+use Rattle.sctp_sides.specs.Laws.{IsNextWithNothingInFlight, PollsBeginWithWhatWaits, WhatWaitsIsGiven}
+use Rattle.sctp_sides.specs.Laws.{WhatWaitsIsPolled}
 use Rattle.sctp_assoc.specs.Gather.{ack_after, ack_polled, control_packets, data_packets, data_polled, exchange_polled}
 use Rattle.sctp_assoc.specs.Gather.{packet_bytes, packet_with, spelled, without_control}
 use Rattle.sctp_assoc.specs.Shown.{Shown}

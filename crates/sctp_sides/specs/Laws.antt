@@ -57,7 +57,8 @@ WhatWaitsIsGiven = (a : Shown) (h : History) (now : ℕ) (m : Waiting) → is_es
 
 -- A piece that one DATA chunk has room for is the first packet that goes out behind those that wait already.
 abbrev pub PollsBeginWithWhatWaits : Type 0
-PollsBeginWithWhatWaits = (a : Shown) (now : ℕ) (m : Waiting) → is_established a.state ≡ true → IsNextWithNothingInFlight a m
+PollsBeginWithWhatWaits = (a : Shown) (now : ℕ) (m : Waiting) → is_established a.state ≡ true
+    → IsNextWithNothingInFlight a m
     → length m.user_data ≤ 65519
     → slice_get (polled a now).1 (length (control_packets a.control))
     ≡ Some (spelling (packet_with (header_of a.handshake) (chunks.Data (next_chunk_of m (next_tsn_of a.sender.queue)))))

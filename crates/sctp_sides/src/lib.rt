@@ -1,6 +1,6 @@
-//! Laws of one side of SCTP: what every [`Association`](sctp_assoc::Association) keeps to, whatever its peer sends. They
-//! are said over the equations that its calls have for contracts, and no call needs them. No code runs here; each empty
-//! function carries laws that are proved.
+//! Laws of one side of SCTP: what every [`Association`](sctp_assoc::Association) keeps to, whatever its peer sends.
+//! They are said over the equations that its calls have for contracts, and no call needs them. No code runs here; each
+//! empty function carries laws that are proved.
 #![tactic(auto)]
 
 ghost use Rattle.sctp_sides.specs.Shapes.{AcceptedWritesFit, ChunksLeadOn, DataIsTaken, EstablishedIsNotClosed};
@@ -17,7 +17,8 @@ ghost use Rattle.sctp_sides.specs.Causes.{CausesClose, ClosingPacketsHaveCauses,
 ghost use Rattle.sctp_sides.specs.Intake.{DataIsTakenIn, NothingElseIsTakenIn};
 ghost use Rattle.sctp_sides.specs.Laws.{DueSacksGoOut, FaultsAloneClose, OpenedStreamsDoNotClose, PollsDoNotClose};
 ghost use Rattle.sctp_sides.specs.Laws.{PollsKeepWhatIsHeld, ReadsDoNotClose, SacksAreSpelled, SacksNameThePoint};
-ghost use Rattle.sctp_sides.specs.Laws.{SacksOfferTheBuffer, SacksSayWhatWasTaken, TimersDoNotClose, PollsBeginWithWhatWaits};
+ghost use Rattle.sctp_sides.specs.Laws.{PollsBeginWithWhatWaits, SacksOfferTheBuffer, SacksSayWhatWasTaken};
+ghost use Rattle.sctp_sides.specs.Laws.{TimersDoNotClose};
 ghost use Rattle.sctp_sides.specs.Laws.{WhatWaitsIsGiven, WhatWaitsIsPolled, WritesAreHeld, WritesDoNotClose};
 ghost use Rattle.sctp_sides.specs.Witnesses.{CookiesAreTimedInCookieEchoedAlone, CreatedSidesAreFresh};
 ghost use Rattle.sctp_sides.specs.Witnesses.{DelayedSacksAreTimed, EchoedCookiesAreTimed, FailedSidesWaitForNothing};

@@ -13,8 +13,9 @@ use Rattle.std.proofs.lemmas.Cmp.{nat_cmp_total}
 use Rattle.std.proofs.lemmas.List.Sums.{sum_by-cons}
 use Rattle.sctp_wire_types.specs.declared.chunk.ChunkPayloadData.{ChunkPayloadData}
 use Rattle.sctp_wire_types.specs.Serial.{ssn_lt}
-use Rattle.sctp_receive_queues.specs.Reassembly.{Group, Reassembly, bytes_in_groups, bytes_in_messages, bytes_waiting, empty_reassembly, is_due}
-use Rattle.sctp_receive_queues.specs.Reassembly.{pushed, read_from, read_ordered, taken, unordered_put, with_ordered, with_put}
+use Rattle.sctp_receive_queues.specs.Reassembly.{Group, Reassembly, bytes_in_groups, bytes_in_messages, bytes_waiting}
+use Rattle.sctp_receive_queues.specs.Reassembly.{empty_reassembly, is_due, pushed, read_from, read_ordered, taken}
+use Rattle.sctp_receive_queues.specs.Reassembly.{unordered_put, with_ordered, with_put}
 use Rattle.sctp_receive_queues.specs.Messages.{ReceivedMessage, bytes_left, message_of}
 use Rattle.sctp_receive_queues.specs.Pieces.{bytes_of}
 use Rattle.sctp_receive_queues.proofs.BytesWaiting.{message_length, ordered_bytes, unordered_bytes}
@@ -25,7 +26,8 @@ use Rattle.sctp_streams.specs.Streams.{StreamMap, pushed_in, stream_at, waiting_
 pub exchanged : (id : ℕ) (m n : List (ℕ × StreamView)) (s t : StreamView) → lookup (is_at (nat_cmp id)) m ≡ Some s
     → n ≡ set_value (is_at (nat_cmp id)) m t
     → waiting_in n + bytes_waiting s.reassembly ≡ waiting_in m + bytes_waiting t.reassembly
-exchanged id m n s t there is = rw is (sum_by-set_value (λ (s : StreamView). bytes_waiting s.reassembly) (is_at (nat_cmp id)) m s t there)
+exchanged id m n s t there is =
+    rw is (sum_by-set_value (λ (s : StreamView). bytes_waiting s.reassembly) (is_at (nat_cmp id)) m s t there)
 
 pub unchanged : (id : ℕ) (m n : List (ℕ × StreamView)) (s t : StreamView) → lookup (is_at (nat_cmp id)) m ≡ Some s
     → n ≡ set_value (is_at (nat_cmp id)) m t → t.reassembly ≡ s.reassembly → waiting_in n ≡ waiting_in m

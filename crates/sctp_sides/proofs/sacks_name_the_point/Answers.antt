@@ -1,4 +1,5 @@
-use Rattle.sctp_sides.proofs.DueSacks.{due_sacks_go_out, sacks_are_spelled, sacks_offer_the_buffer, sacks_say_what_was_taken}
+use Rattle.sctp_sides.proofs.DueSacks.{due_sacks_go_out, sacks_are_spelled, sacks_offer_the_buffer}
+use Rattle.sctp_sides.proofs.DueSacks.{sacks_say_what_was_taken}
 use Rattle.sctp_sides.proofs.sacks_name_the_point.Goals as goal
 
 pub returns-clause-due : goal.returns-clause-due

@@ -7,11 +7,12 @@ use Rattle.sctp_streams.proofs.streams.Streams.accept.Goals.{in-Some+in_ok-accep
 
 pub invariant_of-self-2 : goal.invariant_of-self-2
 invariant_of-self-2 c = elim c.match-get_mut.branch [
-  in-Some+in_ok-accept w ↦ (
-    let there = sym c.get_mut.ensures.value ∙ ap option_copied_mut w.in-Some.is in
-    let last = w.accept.new.self in
-    rw w.self-inside-is (c.self.invariant
-    ∙ sym (unchanged c.args.id c.self.inside.by_id.entries (c.get_mut.follows.lender last).entries w.in-Some.stream.now
-    last there (c.get_mut.follows.holds last).0 (ap (λ (t : StreamView). t.reassembly) w.in_ok-accept.ensures.accepted))))
+  | in-Some+in_ok-accept w ↦ (
+      let there = sym c.get_mut.ensures.value ∙ ap option_copied_mut w.in-Some.is in
+      let last = w.accept.new.self in
+      let same = ap (λ (t : StreamView). t.reassembly) w.in_ok-accept.ensures.accepted in
+      rw w.self-inside-is (c.self.invariant
+      ∙ sym (unchanged c.args.id c.self.inside.by_id.entries (c.get_mut.follows.lender last).entries w.in-Some.stream.now
+      last there (c.get_mut.follows.holds last).0 same)))
   | in_default w ↦ search rules
 ]
