@@ -347,7 +347,7 @@ module _ (a : Sending) (w : Direction) (inv : Invariant w) (f : FitsOutgoing a w
         (sym (not_dropped w.sender.current a.queue.pending refl f.waiting))
         (fits_left p.places w.sender.current (outstanding + 0) amount_left
         (given_keeps w s i (w.sender.released s + unacknowledged w.sender s i) is.known kind apart
-        (released_given p w.over w.sender.acknowledged w.sender.gone s i (w.sender.released s) inv.planned stays
+        (released_given w.sender.acknowledged w.sender.gone s i (w.sender.released s) inv.planned stays
         is.known
         (inv.released s)) inv)
         a.queue.pending (map (flagged t.message_id) a.queue.in_flight)
