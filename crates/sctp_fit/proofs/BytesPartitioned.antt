@@ -1,16 +1,16 @@
 -- The bytes of a message of which something was sent, on its offsets and in its rest that waits, are all its bytes
 -- (RFC 4960 section 6.9).
 use Rattle.std.proofs.Common.{ℕ, zero, suc, ◌+◌, ◌-◌, ◌*◌, ◌<◌, ◌≤◌, ◌≡◌, ◌⊎◌, min, Bool, true, false, not, cond, eqb}
-use Rattle.std.proofs.Common.{◌&&◌, List, [], ◌∷◌, length, drop, Option, Some, None, refl, sym, ap, ◌∙◌, subst, arith}
+use Rattle.std.proofs.Common.{◌&&◌, List, [], ◌∷◌, length, drop, Option, Some, None, refl, sym, ap, ◌∙◌, arith}
 use Rattle.std.proofs.Common.{inl, inr, ⊎_elim, sum_by}
 use Rattle.std.proofs.lemmas.List.{length-take, length-drop}
 use Rattle.std.proofs.lemmas.List.Sums.{sum_by-cons}
-use Rattle.std.proofs.lemmas.Bool.{cases_Bool, cases_lt, eq-eqb, eqb-true, false_from_ne_true, leb-false, leb-true}
+use Rattle.std.proofs.lemmas.Bool.{cases_Bool, eq-eqb, eqb-true, false_from_ne_true, leb-false, leb-true}
 use Rattle.std.proofs.lemmas.Bool.{true≢false}
 use Rattle.sctp_model.specs.Messages.{Place, Plan, bytes_at, bytes_below, is_last, message_at, message_of, piece_of}
 use Rattle.sctp_model.specs.Messages.{place_at}
 use Rattle.sctp_model.specs.Machine.{Direction}
-use Rattle.sctp_model.specs.Invariants.{Follows, Invariant, IsGoing, IsPlanned}
+use Rattle.sctp_model.specs.Invariants.{Invariant, IsPlanned}
 use Rattle.sctp_model.proofs.ForwardTsns.{back}
 use Rattle.sctp_model.proofs.ReleasedBytes.{bytes_none, message_fits}
 use Rattle.sctp_fit.specs.Outgoing.{ArePieces}

@@ -39,9 +39,9 @@ record IsOneLess (unsent fewer : ℕ → ℕ → Bool) (s i : ℕ) : Type 0 wher
   others : (t j : ℕ) → (t ≡ s → j ≡ i → ⊥) → fewer t j ≡ unsent t j
 
 -- where it was the first unsent one of its stream, those past it are the same, and none before it is unsent
-alike_less : (unsent fewer : ℕ → ℕ → Bool) (from : ℕ → ℕ) (s i : ℕ) → IsOneLess unsent fewer s i → from s ≤ i
+alike_less : {unsent fewer : ℕ → ℕ → Bool} (from : ℕ → ℕ) {s i : ℕ} → IsOneLess unsent fewer s i → from s ≤ i
     → ((j : ℕ) → from s ≤ j → j < i → unsent s j ≡ false) → AreAlike unsent fewer (put from s (suc i)) from
-alike_less unsent fewer from s i less past none = record { lower = lower; below = below; same = same }
+alike_less {unsent} {fewer} from {s} {i} less past none = record { lower = lower; below = below; same = same }
   where
     lower : (t : ℕ) → from t ≤ put from s (suc i) t
     lower t = ⊎_elim
@@ -76,14 +76,14 @@ past_before from s t i index past l = ⊎_elim
     (cases_eq t s)
 
 -- and what lies up to that message is as it was
-same_before : (unsent fewer : ℕ → ℕ → Bool) (from : ℕ → ℕ) (s t i index j : ℕ) → IsOneLess unsent fewer t index
+same_before : {unsent fewer : ℕ → ℕ → Bool} (from : ℕ → ℕ) {t index : ℕ} (s i j : ℕ) → IsOneLess unsent fewer t index
     → put from s (suc i) t ≤ index → j ≤ i → fewer s j ≡ unsent s j
-same_before unsent fewer from s t i index j less past l =
+same_before from {t} {index} s i j less past l =
     less.others s j
     (λ (e : s ≡ t). λ (k : j ≡ index). let a = at_put from s t (suc i) (sym e) in omega arith)
 
--- The message x, that waits unsent as number k, is message `index` of its stream, and once it is unsent no longer, the
--- others are all that is.
+-- The message x, which is number k of what waits unsent, is message `index` of its stream, and without it the others
+-- are all that stays unsent.
 record IsFoundAt (n : Names) (p : Plan) (unsent : ℕ → ℕ → Bool) (from numbers : ℕ → ℕ) (k : ℕ) (xs : List Waiting)
     (x : Waiting) : Type 0 where
   index : ℕ
@@ -94,7 +94,7 @@ record IsFoundAt (n : Names) (p : Plan) (unsent : ℕ → ℕ → Bool) (from nu
   kept : (fewer : ℕ → ℕ → Bool) → IsOneLess unsent fewer x.message.stream_identifier index
       → AreUnsent n p fewer from numbers (without_at k xs)
 
--- So it is among all that waits.
+-- The same of what waits behind a message that goes on, if there is one.
 record IsFound (n : Names) (p : Plan) (unsent : ℕ → ℕ → Bool) (numbers : ℕ → ℕ) (current : Option Place) (k : ℕ)
     (xs : List Waiting) (x : Waiting) : Type 0 where
   index : ℕ
@@ -106,6 +106,7 @@ record IsFound (n : Names) (p : Plan) (unsent : ℕ → ℕ → Bool) (numbers :
 
 module _ (n : Names) (p : Plan) (unsent : ℕ → ℕ → Bool)
     (known : (o : ℕ) → o < length p.places → (place_at p o).message < length (p.accepted (place_at p o).stream)) where
+  -- each message that waits unsent is one that the model has unsent
   found_at : (k : ℕ) (x : Waiting) (from numbers : ℕ → ℕ) (xs : List Waiting) → slice_get xs k ≡ Some x
       → AreUnsent n p unsent from numbers xs → IsFoundAt n p unsent from numbers k xs x
   found_at k x from numbers [] e h = absurd (cc)
@@ -118,10 +119,10 @@ module _ (n : Names) (p : Plan) (unsent : ℕ → ℕ → Bool)
         is = h.is;
         waits = h.waits;
         kept = λ fewer less.
-            unsent_down n p y.message h.waits.message.generation fewer from (numbers_past numbers y.message) numbers ys
+            unsent_down n p y.message h.waits.message.generation fewer from ys
             (above_itself y.message numbers)
             (unsent_kept n p p (same_plan p known) (numbers_past numbers y.message) ys
-            (alike_less unsent fewer from y.message.stream_identifier i less h.past h.next) hs);
+            (alike_less from less h.past h.next) hs);
       })
   found_at (suc k) x from numbers (y ∷ ys) e (i, h, hs) =
       let r =
@@ -138,17 +139,16 @@ module _ (n : Names) (p : Plan) (unsent : ℕ → ℕ → Bool)
             waits = h.waits;
             begun = h.begun;
             is =
-                same_before unsent fewer from y.message.stream_identifier x.message.stream_identifier i r.index i less
-                r.past (omega arith) ∙ h.is;
+                same_before from y.message.stream_identifier i i less r.past (omega arith) ∙ h.is;
             past = h.past;
             next = λ j l b.
-                same_before unsent fewer from y.message.stream_identifier x.message.stream_identifier i r.index j less
-                r.past (omega arith) ∙ h.next j l b;
+                same_before from y.message.stream_identifier i j less r.past (omega arith) ∙ h.next j l b;
           },
           r.kept fewer less,
         );
       }
 
+  -- so is each that waits and was not begun
   found : (k : ℕ) (x : Waiting) (numbers : ℕ → ℕ) (current : Option Place) (xs : List Waiting)
       → slice_get xs k ≡ Some x → x.begun ≡ false → AreWaiting n p unsent numbers current xs
       → IsFound n p unsent numbers current k xs x
@@ -168,7 +168,7 @@ module _ (n : Names) (p : Plan) (unsent : ℕ → ℕ → Bool)
         kept = λ fewer less. (g, r.kept fewer less);
       }
 
--- no message that is given up is unsent
+-- what is given up is not unsent
 no_more : (a b : Bool) → (a && (not b && false)) ≡ false
 no_more true true = refl
 no_more true false = refl
@@ -217,23 +217,24 @@ bytes_whole n p i number x h =
 -- What is in flight
 
 -- what is given up without an offset leaves all that has one
-flight_left : (n : Names) (p : Plan) (acknowledged : ℕ → Bool) (gone : ℕ → ℕ → Bool) (s i o : ℕ) (xs : List InFlight)
-    → ((q : ℕ) → q < length p.places → (place_at p q).stream ≡ s → (place_at p q).message ≡ i → ⊥)
-    → AreInFlight n p acknowledged gone o xs → AreInFlight n p acknowledged (put_2 gone s i) o xs
-flight_left n p acknowledged gone s i o [] apart h = h
-flight_left n p acknowledged gone s i o (x ∷ xs) apart (h, hs) = (
-  record {
-    known = h.known;
-    stream = h.stream;
-    message = h.message;
-    piece = h.piece;
-    acked = h.acked;
-    abandoned =
-        h.abandoned
-        ∙ sym (off_put_2 gone s i (place_at p o).stream (place_at p o).message (apart o h.known));
-  },
-  flight_left n p acknowledged gone s i (suc o) xs apart hs,
-)
+module _ (n : Names) (p : Plan) (acknowledged : ℕ → Bool) (gone : ℕ → ℕ → Bool) (s i : ℕ)
+    (apart : (o : ℕ) → o < length p.places → (place_at p o).stream ≡ s → (place_at p o).message ≡ i → ⊥) where
+  flight_left : (o : ℕ) (xs : List InFlight) → AreInFlight n p acknowledged gone o xs
+      → AreInFlight n p acknowledged (put_2 gone s i) o xs
+  flight_left o [] h = h
+  flight_left o (x ∷ xs) (h, hs) = (
+    record {
+      known = h.known;
+      stream = h.stream;
+      message = h.message;
+      piece = h.piece;
+      acked = h.acked;
+      abandoned =
+          h.abandoned
+          ∙ sym (off_put_2 gone s i (place_at p o).stream (place_at p o).message (apart o h.known));
+    },
+    flight_left (suc o) xs hs,
+  )
 
 -- Streams
 
@@ -287,14 +288,14 @@ steps_here d =
     by_order false false f = absurd (true≢false (sym f))
 
 -- the stream of the message gives its next ordered one the number that this one had
-numbered_down : (n : Names) (high low by s bytes : ℕ) (unordered : Bool) (t : StreamView) → high ≡ low + by
+numbered_down : {n : Names} {high s : ℕ} (low by bytes : ℕ) (unordered : Bool) {t : StreamView} → high ≡ low + by
     → by ≡ one_if (not unordered) → IsNumbered n high s t
     → IsNumbered n low s (released_from (cond unordered t (with_ssn_given_back t)) bytes)
-numbered_down n high low by s bytes true t above e h = record {
+numbered_down {n} {high} {s} low by bytes true {t} above e h = record {
   generation = h.generation;
   ssn = h.ssn ∙ ap (λ z. z % 65536) (let r : high ≡ low = omega (arith, above, e) in r);
 }
-numbered_down n high low by s bytes false t above e h = record {
+numbered_down {n} {high} {s} low by bytes false {t} above e h = record {
   generation = h.generation;
   ssn = wrapped_down t.next_ssn high low by h.ssn above e;
 }
@@ -308,6 +309,7 @@ own_down p freed s bytes false t l h = own_less p freed s bytes (Some t) l h
 
 -- The drop
 
+-- an unsent message that isn't reliable is dropped
 happens_drop : (w : Direction) (s i : ℕ) → can_drop w.sender s i ≡ true
     → happens w (Event.Drop s i) ≡ record w { sender = machine.dropped w.sender s i }
 unfolding happens
@@ -363,7 +365,7 @@ module _ (a : Sending) (k : ℕ) (x : Waiting) (w : Direction) (at : slice_get a
       → IsNumbered f.named (numbers_after w.sender.ssn (without_at k a.queue.pending) s) s u)
       generation_same
       (λ s ne u e.
-      let above = after_without k x w.sender.ssn a.queue.pending at fresh s in
+      let above = (after_without k x w.sender.ssn a.queue.pending at fresh).at s in
       let none = steps_aside x.message s ne in
       record {
         generation = (f.live s u e).generation;
@@ -381,10 +383,9 @@ module _ (a : Sending) (k : ℕ) (x : Waiting) (w : Direction) (at : slice_get a
       (numbers_after w.sender.ssn (without_at k a.queue.pending) x.message.stream_identifier)
       x.message.stream_identifier)
       (let same : released_from (cond x.message.unordered t (with_ssn_given_back t)) (message_bytes x) ≡ u = cc in same)
-      (numbered_down f.named (numbers_after w.sender.ssn a.queue.pending x.message.stream_identifier)
-      (numbers_after w.sender.ssn (without_at k a.queue.pending) x.message.stream_identifier)
-      (steps x.message x.message.stream_identifier) x.message.stream_identifier (message_bytes x) x.message.unordered t
-      (after_without k x w.sender.ssn a.queue.pending at fresh x.message.stream_identifier) (steps_here x.message)
+      (numbered_down (numbers_after w.sender.ssn (without_at k a.queue.pending) x.message.stream_identifier)
+      (steps x.message x.message.stream_identifier) (message_bytes x) x.message.unordered
+      ((after_without k x w.sender.ssn a.queue.pending at fresh).at x.message.stream_identifier) (steps_here x.message)
       (f.live x.message.stream_identifier t e)))
 
   -- and counts its bytes
@@ -432,7 +433,7 @@ module _ (a : Sending) (k : ℕ) (x : Waiting) (w : Direction) (at : slice_get a
     base = f.base;
     flight =
         flight_left f.named w.sender.plan w.sender.acknowledged w.sender.gone x.message.stream_identifier r.index
-        w.sender.reach a.queue.in_flight apart f.flight;
+        apart w.sender.reach a.queue.in_flight f.flight;
     waiting =
         r.kept (is_unsent (machine.dropped w.sender x.message.stream_identifier r.index))
         (unsent_less w.sender x.message.stream_identifier r.index);

@@ -1,7 +1,6 @@
 -- The ordered messages of a stream that wait behind one that is dropped unsent move down by one stream sequence number.
-use Rattle.std.proofs.Common.{ℕ, zero, suc, ◌+◌, ◌-◌, ◌≡◌, ◌%◌, ◌^◌, Bool, true, false, not, cond, eqb, ◌&&◌, List}
-use Rattle.std.proofs.Common.{[], ◌∷◌}
-use Rattle.std.proofs.Common.{map, Some, refl, sym, ap, ◌∙◌, subst, ⊎_elim, arith}
+use Rattle.std.proofs.Common.{ℕ, zero, suc, ◌+◌, ◌-◌, ◌≡◌, ◌%◌, ◌^◌, Bool, true, false, not, cond, eqb, ◌&&◌}
+use Rattle.std.proofs.Common.{List, [], ◌∷◌, map, Some, refl, sym, ap, ◌∙◌, subst, ⊎_elim, arith}
 use Rattle.std.specs.Prelude.{slice_get}
 use Rattle.std.proofs.lemmas.Bool.{cases_eq, cond_both, cond-false, eq-eqb, eqb-true, true≢false}
 use Rattle.sctp_outbound_queue.specs.declared.message.Attributes.{Attributes}
@@ -23,47 +22,52 @@ abbrev pub steps : Attributes → ℕ → ℕ
 steps d t = one_if (not d.unordered && eqb d.stream_identifier t)
 
 -- the next numbers `high` of all streams lie above `low` by as much
-abbrev pub AreAbove : Attributes → (ℕ → ℕ) → (ℕ → ℕ) → Type 0
-AreAbove d high low = (t : ℕ) → high t ≡ low t + steps d t
+pub record AreAbove (d : Attributes) (high low : ℕ → ℕ) : Type 0 where
+  pub at : (t : ℕ) → high t ≡ low t + steps d t
 
 -- they do so behind a message more
-above_put : (d : Attributes) (high low : ℕ → ℕ) (s : ℕ) → AreAbove d high low
+above_put : {d : Attributes} {high low : ℕ → ℕ} (s : ℕ) → AreAbove d high low
     → AreAbove d (put high s (suc (high s))) (put low s (suc (low s)))
-above_put d high low s h t = ⊎_elim
-    (λ (e : t ≡ s).
-    let a = at_put high s t (suc (high s)) e in
-    let b = at_put low s t (suc (low s)) e in
-    let c = h s in
-    let k = ap (steps d) e in
-    omega arith)
-    (λ (ne : t ≡ s → ⊥).
-    let a = off_put high s t (suc (high s)) ne in
-    let b = off_put low s t (suc (low s)) ne in
-    let c = h t in
-    omega arith)
-    (cases_eq t s)
+above_put {d} {high} {low} s h = record {
+  at = λ t. ⊎_elim
+      (λ (e : t ≡ s).
+      let a = at_put high s t (suc (high s)) e in
+      let b = at_put low s t (suc (low s)) e in
+      let c = h.at s in
+      let k = ap (steps d) e in
+      omega arith)
+      (λ (ne : t ≡ s → ⊥).
+      let a = off_put high s t (suc (high s)) ne in
+      let b = off_put low s t (suc (low s)) ne in
+      let c = h.at t in
+      omega arith)
+      (cases_eq t s);
+}
 
-above_past : (d : Attributes) (high low : ℕ → ℕ) (s : ℕ) (begun unordered : Bool) → AreAbove d high low
+above_past : {d : Attributes} {high low : ℕ → ℕ} (s : ℕ) (begun unordered : Bool) → AreAbove d high low
     → AreAbove d (cond begun high (cond unordered high (put high s (suc (high s)))))
     (cond begun low (cond unordered low (put low s (suc (low s)))))
-above_past d high low s true unordered h = h
-above_past d high low s false true h = h
-above_past d high low s false false h = above_put d high low s h
+above_past s true unordered h = h
+above_past s false true h = h
+above_past s false false h = above_put s h
 
 -- and behind the message itself
 pub above_itself : (d : Attributes) (numbers : ℕ → ℕ) → AreAbove d (numbers_past numbers d) numbers
-above_itself d numbers t =
-    by_order d.unordered (eqb d.stream_identifier t) (eqb-true d.stream_identifier t) (eq-eqb d.stream_identifier t)
+above_itself d numbers = record {
+  at = λ t.
+      by_order t d.unordered (eqb d.stream_identifier t) (eqb-true d.stream_identifier t)
+      (eq-eqb d.stream_identifier t);
+}
   where
-    by_order : (u e : Bool) → (e ≡ true → d.stream_identifier ≡ t) → (d.stream_identifier ≡ t → e ≡ true)
+    by_order : (t : ℕ) (u e : Bool) → (e ≡ true → d.stream_identifier ≡ t) → (d.stream_identifier ≡ t → e ≡ true)
         → cond u numbers (put numbers d.stream_identifier (suc (numbers d.stream_identifier))) t
         ≡ numbers t + one_if (not u && e)
-    by_order true e f g = omega arith
-    by_order false true f g =
+    by_order t true e f g = omega arith
+    by_order t false true f g =
         let a = at_put numbers d.stream_identifier t (suc (numbers d.stream_identifier)) (sym (f refl)) in
         let b = ap numbers (f refl) in
         omega arith
-    by_order false false f g =
+    by_order t false false f g =
         let a = off_put numbers d.stream_identifier t (suc (numbers d.stream_identifier))
         (λ (e : t ≡ d.stream_identifier). true≢false (sym (g (sym e)))) in
         omega arith
@@ -99,11 +103,11 @@ down m = record m {
 
 module _ (n : Names) (p : Plan) (d : Attributes) (live : d.generation ≡ n.generations d.stream_identifier) where
   -- where the two share their numbers, one that waits moves down with its stream's
-  ssn_down : (high low : ℕ → ℕ) (i : ℕ) (a : Attributes) → AreAbove d high low → share_ssns d a ≡ true
+  ssn_down : {high low : ℕ → ℕ} (i : ℕ) (a : Attributes) → AreAbove d high low → share_ssns d a ≡ true
       → IsMessage n p i (number_at high a) a
       → (a.stream_sequence_number + 2 ^ 16 - 1) % 2 ^ 16
       ≡ cond a.unordered ((a.stream_sequence_number + 2 ^ 16 - 1) % 2 ^ 16) (low a.stream_identifier) % 65536
-  ssn_down high low i a above e h =
+  ssn_down {high} {low} i a above e h =
       let t =
       share_tells d.unordered a.unordered (eqb d.stream_identifier a.stream_identifier)
       (eqb d.generation a.generation) e in
@@ -111,21 +115,21 @@ module _ (n : Names) (p : Plan) (d : Attributes) (live : d.generation ≡ n.gene
       (steps d a.stream_identifier)
       (h.ssn ∙ ap (λ z. z % 65536)
       (cond-false a.unordered a.stream_sequence_number (high a.stream_identifier) t.0))
-      (above a.stream_identifier) t.1
+      (above.at a.stream_identifier) t.1
       ∙ ap (λ z. z % 65536) (sym (cond-false a.unordered ((a.stream_sequence_number + 2 ^ 16 - 1) % 2 ^ 16)
       (low a.stream_identifier) t.0))
 
   -- and where they don't, it stays
-  number_stays : (high low : ℕ → ℕ) (a : Attributes) → AreAbove d high low → share_ssns d a ≡ false
+  number_stays : {high low : ℕ → ℕ} (a : Attributes) → AreAbove d high low → share_ssns d a ≡ false
       → a.generation ≡ n.generations a.stream_identifier → number_at high a ≡ number_at low a
-  number_stays high low a above e g = by_order a.unordered refl
+  number_stays {high} {low} a above e g = by_order a.unordered refl
     where
       by_order : (u : Bool) → a.unordered ≡ u
           → cond u a.stream_sequence_number (high a.stream_identifier)
           ≡ cond u a.stream_sequence_number (low a.stream_identifier)
       by_order true f = refl
       by_order false f =
-          let b = above a.stream_identifier in
+          let b = above.at a.stream_identifier in
           let c =
           apart_tells d.unordered a.unordered (eqb d.stream_identifier a.stream_identifier)
           (eqb d.generation a.generation) e f
@@ -134,16 +138,16 @@ module _ (n : Names) (p : Plan) (d : Attributes) (live : d.generation ≡ n.gene
           omega arith
 
   -- What waits unsent behind the message moves down with the next numbers.
-  pub unsent_down : (unsent : ℕ → ℕ → Bool) (from high low : ℕ → ℕ) (xs : List Waiting) → AreAbove d high low
+  pub unsent_down : (unsent : ℕ → ℕ → Bool) (from : ℕ → ℕ) {high low : ℕ → ℕ} (xs : List Waiting)
+      → AreAbove d high low
       → AreUnsent n p unsent from high xs → AreUnsent n p unsent from low (map (moved_down d) xs)
-  unsent_down unsent from high low [] above h = h
-  unsent_down unsent from high low (x ∷ xs) above (i, h, hs) =
+  unsent_down unsent from [] above h = h
+  unsent_down unsent from {high} {low} (x ∷ xs) above (i, h, hs) =
       let behind : AreUnsent n p unsent (put from x.message.stream_identifier (suc i)) (numbers_past low x.message)
       (map (moved_down d) xs)
       =
-      unsent_down unsent (put from x.message.stream_identifier (suc i)) (numbers_past high x.message)
-      (numbers_past low x.message) xs
-      (above_past d high low x.message.stream_identifier false x.message.unordered above) hs in
+      unsent_down unsent (put from x.message.stream_identifier (suc i)) xs
+      (above_past x.message.stream_identifier false x.message.unordered above) hs in
       cond_both (share_ssns d x.message) (down x) x
       (λ (z : Waiting). AreUnsent n p unsent from low (z ∷ map (moved_down d) xs))
       (λ e. (
@@ -155,7 +159,7 @@ module _ (n : Names) (p : Plan) (d : Attributes) (live : d.generation ≡ n.gene
               id = h.waits.message.id;
               generation = h.waits.message.generation;
               ordered = h.waits.message.ordered;
-              ssn = ssn_down high low i x.message above e h.waits.message;
+              ssn = ssn_down i x.message above e h.waits.message;
               payload_type = h.waits.message.payload_type;
               policy = h.waits.message.policy;
             };
@@ -171,20 +175,20 @@ module _ (n : Names) (p : Plan) (d : Attributes) (live : d.generation ≡ n.gene
       (λ e. (
         i,
         subst (λ z. IsUnsent n p unsent (from x.message.stream_identifier) z i x)
-            (number_stays high low x.message above e h.waits.message.generation) h,
+            (number_stays x.message above e h.waits.message.generation) h,
         behind,
       ))
 
 -- The next numbers behind all that waits move down too,
-after_down : (d : Attributes) (high low : ℕ → ℕ) (xs : List Waiting) → AreAbove d high low
+after_down : {d : Attributes} (high low : ℕ → ℕ) (xs : List Waiting) → AreAbove d high low
     → AreAbove d (numbers_after high xs) (numbers_after low (map (moved_down d) xs))
-after_down d high low [] above = above
-after_down d high low (x ∷ xs) above =
+after_down high low [] above = above
+after_down {d} high low (x ∷ xs) above =
     let behind : AreAbove d (numbers_after high (x ∷ xs))
     (numbers_after (cond x.begun low (numbers_past low x.message)) (map (moved_down d) xs))
     =
-    after_down d (cond x.begun high (numbers_past high x.message)) (cond x.begun low (numbers_past low x.message)) xs
-    (above_past d high low x.message.stream_identifier x.begun x.message.unordered above) in
+    after_down (cond x.begun high (numbers_past high x.message)) (cond x.begun low (numbers_past low x.message)) xs
+    (above_past x.message.stream_identifier x.begun x.message.unordered above) in
     cond_both (share_ssns d x.message) (down x) x
     (λ (z : Waiting). AreAbove d (numbers_after high (x ∷ xs)) (numbers_after low (z ∷ map (moved_down d) xs)))
     (λ e. behind) (λ e. behind)
@@ -202,6 +206,6 @@ after_without zero x numbers (y ∷ ys) e b =
     (subst (λ (b : Bool).
     AreAbove y.message (numbers_after (cond b numbers (numbers_past numbers y.message)) ys)
     (numbers_after numbers (map (moved_down y.message) ys))) (sym (ap (λ (z : Waiting). z.begun) (sym same) ∙ b))
-    (after_down y.message (numbers_past numbers y.message) numbers ys (above_itself y.message numbers)))
+    (after_down (numbers_past numbers y.message) numbers ys (above_itself y.message numbers)))
 after_without (suc k) x numbers (y ∷ ys) e b =
     after_without k x (cond y.begun numbers (numbers_past numbers y.message)) ys e b

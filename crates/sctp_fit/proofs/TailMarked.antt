@@ -1,7 +1,6 @@
 -- A message of which something was sent is abandoned whole by an association and its direction: what is in flight of
 -- it, and its tail that waits, for which a marker takes the next offset (RFC 3758 section 3.5).
-use Rattle.std.proofs.Common.{ℕ, suc, ◌+◌, ◌-◌, ◌*◌, ◌<◌, ◌≤◌, ◌≡◌, Bool, true, false, not, cond, eqb, ◌&&◌, List}
-use Rattle.std.proofs.Common.{[], ◌∷◌}
+use Rattle.std.proofs.Common.{ℕ, suc, ◌+◌, ◌-◌, ◌<◌, ◌≤◌, ◌≡◌, Bool, true, false, not, cond, eqb, ◌&&◌, List, [], ◌∷◌}
 use Rattle.std.proofs.Common.{◌++◌, length, map, Option, Some, None, refl, sym, ap, ◌∙◌, subst, ⊎_elim, arith}
 use Rattle.std.specs.List.{list_any}
 use Rattle.std.proofs.lemmas.Bool.{and_from, and_parts, cases_eq, cond_both, cond-false, cond-true, eq-eqb, eqb-true}
@@ -26,7 +25,7 @@ use Rattle.sctp_model.proofs.OffsetsAssigned.{keeps_marked, marked_frees}
 use Rattle.sctp_model.proofs.SenderEvents.{given_keeps, same_plan}
 use Rattle.sctp_model.proofs.ReleasedBytes.{bytes_none, bytes_same, bytes_tail, released_given, released_within}
 use Rattle.sctp_fit.specs.Outgoing.{AreInFlight, AreUnsent, AreWaiting, FitsOutgoing, IsGoingOn, IsInFlight, IsMessage}
-use Rattle.sctp_fit.specs.Outgoing.{IsNumbered, IsOwnAt, Sending, numbers_after, numbers_past, policy_of}
+use Rattle.sctp_fit.specs.Outgoing.{IsNumbered, IsOwnAt, Names, Sending, numbers_after, numbers_past, policy_of}
 use Rattle.sctp_fit.specs.Abandonments.{AbandonmentsAreAlike, TailsAreAbandonedAlike}
 use Rattle.sctp_fit.proofs.BytesPartitioned.{GoesOn, IsOn, bytes_before, bytes_sent, bytes_split, goes_on_or_ends}
 use Rattle.sctp_fit.proofs.BytesPartitioned.{pieces_bytes}
@@ -57,10 +56,17 @@ none_past w inv o l = false_from_ne_true _ (λ (a : w.sender.acknowledged o ≡ 
     (λ (b : o < w.receiver.passed). let t = inv.passed in omega arith)
     (inv.acknowledged o a))
 
--- Message i of its stream has the attributes t, isn't reliable, and has a piece on the offset o.
-module _ (a : Sending) (w : Direction) (inv : Invariant w) (f : FitsOutgoing a w) (t : Attributes) (i number o : ℕ)
-    (is : IsMessage f.named w.sender.plan i number t) (stays : w.sender.gone t.stream_identifier i ≡ false)
-    (unreliable : is_reliable (policy_of t.policy) ≡ false) (on : IsOn w.sender.plan t.stream_identifier i o) where
+-- Message i of its stream has the attributes t, isn't reliable, stays so far, and has a piece on an offset.
+pub record CanBeAbandoned (n : Names) (x : Sender) (t : Attributes) (i : ℕ) : Type 0 where
+  pub number : ℕ
+  pub offset : ℕ
+  pub is : IsMessage n x.plan i number t
+  pub stays : x.gone t.stream_identifier i ≡ false
+  pub unreliable : is_reliable (policy_of t.policy) ≡ false
+  pub on : IsOn x.plan t.stream_identifier i offset
+
+module _ (a : Sending) (w : Direction) (inv : Invariant w) (f : FitsOutgoing a w) (t : Attributes) (i : ℕ)
+    (can : CanBeAbandoned f.named w.sender t i) where
   abbrev pub s : ℕ
   s = t.stream_identifier
 
@@ -71,13 +77,18 @@ module _ (a : Sending) (w : Direction) (inv : Invariant w) (f : FitsOutgoing a w
   abbrev pub gone : ℕ → ℕ → Bool
   gone = put_2 w.sender.gone s i
 
+  -- which messages are unsent then
+  abbrev pub unsent : ℕ → ℕ → Bool
+  unsent x j = has_message p x j && (not (w.sender.begun x j) && not (gone x j))
+
   begun : w.sender.begun s i ≡ true
   begun =
-      ap (λ z. w.sender.begun z i) (sym on.stream) ∙ ap (w.sender.begun (place_at p o).stream) (sym on.message)
-      ∙ inv.sending.counted o on.known
+      ap (λ z. w.sender.begun z i) (sym can.on.stream)
+      ∙ ap (w.sender.begun (place_at p can.offset).stream) (sym can.on.message)
+      ∙ inv.sending.counted can.offset can.on.known
 
   kind : is_reliable (message_at p s i).policy ≡ false
-  kind = ap is_reliable (sym is.policy) ∙ unreliable
+  kind = ap is_reliable (sym can.is.policy) ∙ can.unreliable
 
   abbrev pub outstanding : ℕ
   outstanding = outstanding_of_message t.message_id a.queue.in_flight
@@ -91,14 +102,21 @@ module _ (a : Sending) (w : Direction) (inv : Invariant w) (f : FitsOutgoing a w
   abbrev pub acked_of : Plan → ℕ → Bool
   acked_of q z = w.sender.acknowledged z && eqb (place_at q z).message i
 
+  -- the message's pieces in flight are abandoned, and no others
+  pieces_flagged : AreInFlight f.named p w.sender.acknowledged gone w.sender.reach
+      (map (flagged t.message_id) a.queue.in_flight)
+  pieces_flagged =
+      flight_flagged f.named p a.queue.next_message_id f.names s i t.message_id can.is.known can.is.id
+      w.sender.acknowledged w.sender.gone w.sender.reach a.queue.in_flight f.flight
+
   -- what was acknowledged of it and what is outstanding lie on offsets
-  parted : bytes_sent w inv s i stays ≡ bytes_below p (acked_of p) s (length p.places) + outstanding
+  parted : bytes_sent w inv s i can.stays ≡ bytes_below p (acked_of p) s (length p.places) + outstanding
   parted =
       let e =
       bytes_split p w.sender.acknowledged (λ z. eqb (place_at p z).message i) s (length p.places) in
       let r =
-      flight_bytes f.named p a.queue.next_message_id f.names s i t.message_id is.known is.id w.sender.acknowledged
-      w.sender.gone stays inv.tails w.sender.reach a.queue.in_flight f.flight in
+      flight_bytes f.named p a.queue.next_message_id f.names s i t.message_id can.is.known can.is.id
+      w.sender.acknowledged w.sender.gone can.stays inv.tails w.sender.reach a.queue.in_flight f.flight in
       let n =
       bytes_none p (λ z. not (w.sender.acknowledged z) && eqb (place_at p z).message i) s w.sender.reach (λ z l st.
       ap (λ b. not b && eqb (place_at p z).message i) (inv.cumulative z l)) in
@@ -106,7 +124,7 @@ module _ (a : Sending) (w : Direction) (inv : Invariant w) (f : FitsOutgoing a w
 
   -- the same messages are unsent
   alike : AreAlike (is_unsent w.sender)
-      (λ x j. has_message p x j && (not (w.sender.begun x j) && not (gone x j))) (λ x. 0) (λ x. 0)
+      unsent (λ x. 0) (λ x. 0)
   alike = record {
     lower = λ x. omega arith;
     below = λ x j b l. absurd (omega arith);
@@ -140,7 +158,7 @@ module _ (a : Sending) (w : Direction) (inv : Invariant w) (f : FitsOutgoing a w
         ≡ less (cond (eqb s z) bytes 0) (stream_at a.streams z)
     streams_now z =
         released_at a.streams s t.generation bytes z (stream_at a.streams s) refl
-        (λ r k. (f.live s r k).generation ∙ sym is.generation)
+        (λ r k. (f.live s r k).generation ∙ sym can.is.generation)
 
     -- no more are released than were accepted
     most : (z : ℕ) → w.sender.released z + cond (eqb s z) bytes 0 ≤ accepted_bytes p z
@@ -155,7 +173,7 @@ module _ (a : Sending) (w : Direction) (inv : Invariant w) (f : FitsOutgoing a w
     fits_left : (pending : List Waiting) (flight : List InFlight)
         → AreInFlight f.named (record p { places = places }) w.sender.acknowledged gone w.sender.reach flight
         → AreWaiting f.named (record p { places = places })
-        (λ x j. has_message p x j && (not (w.sender.begun x j) && not (gone x j))) w.sender.ssn current pending
+        unsent w.sender.ssn current pending
         → ((z : ℕ) → numbers_after w.sender.ssn pending z ≡ numbers_after w.sender.ssn a.queue.pending z)
         → FitsOutgoing
         (record a {
@@ -236,7 +254,7 @@ module _ (a : Sending) (w : Direction) (inv : Invariant w) (f : FitsOutgoing a w
 
     amount_marked : unacknowledged (marked w.sender y) s i ≡ outstanding + message_bytes x
     amount_marked =
-        let before = bytes_before w inv s i stays y g in
+        let before = bytes_before w inv s i can.stays y g in
         let on_offsets = before.0 in
         let more = before.1 in
         let text : length (message_at p x.message.stream_identifier y.message).bytes ≡ length (message_at p s i).bytes =
@@ -263,7 +281,7 @@ module _ (a : Sending) (w : Direction) (inv : Invariant w) (f : FitsOutgoing a w
         (a.queue, 0)
         (eq-eqb _ _
         (h.waits.message.id ∙ ap (λ z. f.named.ids z y.message) (h.stream ∙ g.stream) ∙ ap (f.named.ids s) g.message
-        ∙ sym is.id))
+        ∙ sym can.is.id))
 
     pub marked_fits : FitsOutgoing
         (abandoned_with (tail_dropped a.queue t.message_id).0 (tail_dropped a.queue t.message_id).1)
@@ -273,24 +291,23 @@ module _ (a : Sending) (w : Direction) (inv : Invariant w) (f : FitsOutgoing a w
         (record w { sender = left (marked w.sender y) s i })) (sym dropped_now)
         (fits_left (p.places ++ marker ∷ []) None (outstanding + message_bytes x) amount_marked
         (keeps_marked w s i (w.sender.released s + unacknowledged (marked w.sender y) s i) y g.is g.stream g.message
-        is.known kind (marked_frees w s i y g.is g.stream g.message is.known inv) inv)
+        can.is.known kind (marked_frees w s i y g.is g.stream g.message can.is.known inv) inv)
         xs (map (flagged t.message_id) (a.queue.in_flight ++ marker_of x.message ∷ []))
         (subst (AreInFlight f.named (with_place p marker) w.sender.acknowledged gone w.sender.reach)
         (sym (flagged_before t.message_id a.queue.in_flight x.message))
         (flight_placed f.named p (with_place p marker) extended w.sender.reach
         (map (flagged t.message_id) a.queue.in_flight) (marker_of x.message) (length_placed p marker) marker_flies
-        (flight_flagged f.named p a.queue.next_message_id f.names s i t.message_id is.known is.id
-        w.sender.acknowledged w.sender.gone w.sender.reach a.queue.in_flight f.flight)))
+        pieces_flagged))
         (unsent_kept f.named p (with_place p marker) extended w.sender.ssn xs alike hs)
         (λ z. sym (ap (λ ps. numbers_after w.sender.ssn ps z) pending
         ∙ ap (λ (b : Bool). numbers_after (cond b w.sender.ssn (numbers_past w.sender.ssn x.message)) xs z) h.begun)))
 
   -- No piece of the message waits: all of it is in flight or acknowledged.
 
-  module _ (whole : bytes_sent w inv s i stays ≡ length (message_at p s i).bytes) where
+  module _ (whole : bytes_sent w inv s i can.stays ≡ length (message_at p s i).bytes) where
     apart : (y : Place) → w.sender.current ≡ Some y → (y.stream ≡ s) × (y.message ≡ i) → ⊥
     apart y c e =
-        let b = bytes_before w inv s i stays y (record { is = c; stream = e.0; message = e.1 }) in
+        let b = bytes_before w inv s i can.stays y (record { is = c; stream = e.0; message = e.1 }) in
         let on_offsets = b.0 in
         let more = b.1 in
         omega arith
@@ -312,8 +329,8 @@ module _ (a : Sending) (w : Direction) (inv : Invariant w) (f : FitsOutgoing a w
         cond-false (eqb x.message.message_id t.message_id) _ (a.queue, 0)
         (false_from_ne_true _ (λ (b : eqb x.message.message_id t.message_id ≡ true).
         let same : f.named.ids x.message.stream_identifier j ≡ f.named.ids s i =
-        sym u.waits.message.id ∙ eqb-true _ _ b ∙ is.id in
-        let r = f.names.one x.message.stream_identifier j s i u.waits.message.known is.known same in
+        sym u.waits.message.id ∙ eqb-true _ _ b ∙ can.is.id in
+        let r = f.names.one x.message.stream_identifier j s i u.waits.message.known can.is.known same in
         let c =
         (and_parts (has_message p x.message.stream_identifier j)
         (not (w.sender.begun x.message.stream_identifier j) && not (w.sender.gone x.message.stream_identifier j))
@@ -324,13 +341,12 @@ module _ (a : Sending) (w : Direction) (inv : Invariant w) (f : FitsOutgoing a w
         cond-false (eqb x.message.message_id t.message_id) _ (a.queue, 0)
         (false_from_ne_true _ (λ (b : eqb x.message.message_id t.message_id ≡ true).
         let same : f.named.ids x.message.stream_identifier y.message ≡ f.named.ids s i =
-        sym h.waits.message.id ∙ eqb-true _ _ b ∙ is.id in
-        let r = f.names.one x.message.stream_identifier y.message s i h.waits.message.known is.known same in
+        sym h.waits.message.id ∙ eqb-true _ _ b ∙ can.is.id in
+        let r = f.names.one x.message.stream_identifier y.message s i h.waits.message.known can.is.known same in
         apart y e (sym h.stream ∙ r.0, r.1)))
 
     waiting_kept : (c : Option Place) (ps : List Waiting) → AreWaiting f.named p (is_unsent w.sender) w.sender.ssn c ps
-        → AreWaiting f.named p (λ x j. has_message p x j && (not (w.sender.begun x j) && not (gone x j))) w.sender.ssn c
-        ps
+        → AreWaiting f.named p unsent w.sender.ssn c ps
     waiting_kept None ps h = unsent_kept f.named p p (same_plan p inv.planned.known) w.sender.ssn ps alike h
     waiting_kept (Some y) [] h = absurd h
     waiting_kept (Some y) (x ∷ xs) (h, hs) =
@@ -346,20 +362,18 @@ module _ (a : Sending) (w : Direction) (inv : Invariant w) (f : FitsOutgoing a w
         subst (λ (r : Outbound × ℕ). FitsOutgoing (abandoned_with r.0 r.1) (record w { sender = left w.sender s i }))
         (sym (not_dropped w.sender.current a.queue.pending refl f.waiting))
         (fits_left p.places w.sender.current (outstanding + 0) amount_left
-        (given_keeps w s i (w.sender.released s + unacknowledged w.sender s i) is.known kind apart
-        (released_given w.sender.acknowledged w.sender.gone s i (w.sender.released s) inv.planned stays
-        is.known
-        (inv.released s)) inv)
+        (given_keeps w s i (w.sender.released s + unacknowledged w.sender s i) can.is.known kind apart
+        (released_given w.sender.acknowledged w.sender.gone s i (w.sender.released s) inv.planned
+        can.stays can.is.known (inv.released s)) inv)
         a.queue.pending (map (flagged t.message_id) a.queue.in_flight)
-        (flight_flagged f.named p a.queue.next_message_id f.names s i t.message_id is.known is.id
-        w.sender.acknowledged w.sender.gone w.sender.reach a.queue.in_flight f.flight)
+        pieces_flagged
         (waiting_kept w.sender.current a.queue.pending f.waiting) (λ z. refl))
 
   can_be : can_abandon w.sender s i ≡ true
   can_be =
-      and_from _ _ (lt-ltb _ _ is.known)
+      and_from _ _ (lt-ltb _ _ can.is.known)
       (and_from (w.sender.begun s i && not (w.sender.gone s i)) (not (is_reliable (message_at p s i).policy))
-      (and_from (w.sender.begun s i) (not (w.sender.gone s i)) begun (ap not stays)) (ap not kind))
+      (and_from (w.sender.begun s i) (not (w.sender.gone s i)) begun (ap not can.stays)) (ap not kind))
 
   happens_abandon : happens w (Event.Abandon s i) ≡ record w { sender = abandoned w.sender s i }
   unfolding happens
@@ -396,19 +410,27 @@ module _ (a : Sending) (w : Direction) (inv : Invariant w) (f : FitsOutgoing a w
       (λ (r : (y : Place) × GoesOn w.sender.current s i y).
       goes_on r.0 r.1 a.queue.pending refl
       (subst (λ c. AreWaiting f.named p (is_unsent w.sender) w.sender.ssn c a.queue.pending) (r.1).is f.waiting))
-      (λ (e : bytes_sent w inv s i stays ≡ length (message_at p s i).bytes).
+      (λ (e : bytes_sent w inv s i can.stays ≡ length (message_at p s i).bytes).
       leads_to w.sender (unmarked e w.sender.current refl) (whole_fits e))
-      (goes_on_or_ends w inv s i stays (length p.places - suc o) o
-      (let k = on.known in let n : o + suc (length p.places - suc o) ≡ length p.places = omega arith in n) on)
+      (goes_on_or_ends w inv s i can.stays (length p.places - suc can.offset) can.offset
+      (let k = can.on.known in
+      let n : can.offset + suc (length p.places - suc can.offset) ≡ length p.places = omega arith in
+      n) can.on)
 
 -- A message of which a piece is in flight is abandoned in the direction too.
 pub abandonments_are_alike : AbandonmentsAreAlike
 abandonments_are_alike a index x w e stays unreliable inv counts f = (
   (place_at w.sender.plan (w.sender.reach + index)).message,
-  abandoned_fits a w inv f x.message _ _ (w.sender.reach + index) here.message
-      (ap (λ z. w.sender.gone z (place_at w.sender.plan (w.sender.reach + index)).message) here.stream
-      ∙ sym here.abandoned ∙ stays)
-      unreliable (record { known = here.known; stream = sym here.stream; message = refl }),
+  abandoned_fits a w inv f x.message _ (record {
+    number = (place_at w.sender.plan (w.sender.reach + index)).ssn;
+    offset = w.sender.reach + index;
+    is = here.message;
+    stays =
+        ap (λ z. w.sender.gone z (place_at w.sender.plan (w.sender.reach + index)).message) here.stream
+        ∙ sym here.abandoned ∙ stays;
+    unreliable = unreliable;
+    on = record { known = here.known; stream = sym here.stream; message = refl };
+  }),
 )
   where
     here : IsInFlight f.named w.sender.plan w.sender.acknowledged w.sender.gone (w.sender.reach + index) x
@@ -447,12 +469,17 @@ tails_are_abandoned_alike a x xs w e begun unreliable none inv counts f =
         let g = inv.sending.going y c in
         let k = g.is in
         let r =
-        abandoned_fits a w inv f x.message y.message y.ssn g.last h.waits.message
-        (ap (λ z. w.sender.gone z y.message) h.stream ∙ g.stays) unreliable
-        (record {
-          known = omega arith;
-          stream = sym g.follows.stream ∙ sym h.stream;
-          message = sym g.follows.message;
+        abandoned_fits a w inv f x.message y.message (record {
+          number = y.ssn;
+          offset = g.last;
+          is = h.waits.message;
+          stays = ap (λ z. w.sender.gone z y.message) h.stream ∙ g.stays;
+          unreliable = unreliable;
+          on = record {
+            known = omega arith;
+            stream = sym g.follows.stream ∙ sym h.stream;
+            message = sym g.follows.message;
+          };
         }) in
         let bytes : outstanding_of_message x.message.message_id a.queue.in_flight
         + (tail_dropped a.queue x.message.message_id).1

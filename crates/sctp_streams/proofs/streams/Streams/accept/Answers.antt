@@ -12,7 +12,7 @@ invariant_of-self-2 c = elim c.match-get_mut.branch [
       let last = w.accept.new.self in
       let same = ap (λ (t : StreamView). t.reassembly) w.in_ok-accept.ensures.accepted in
       rw w.self-inside-is (c.self.invariant
-      ∙ sym (unchanged c.args.id c.self.inside.by_id.entries (c.get_mut.follows.lender last).entries w.in-Some.stream.now
-      last there (c.get_mut.follows.holds last).0 same)))
+      ∙ sym (unchanged c.args.id c.self.inside.by_id.entries (c.get_mut.follows.lender last).entries
+      w.in-Some.stream.now last there (c.get_mut.follows.holds last).0 same)))
   | in_default w ↦ search rules
 ]
