@@ -38,7 +38,8 @@ tail_abandoned x a = record a {
       (tail_dropped a.queue x.message.message_id).1;
 }
 
--- So is one of which something was sent, all of that is acknowledged, and the rest waits.
+-- So is one of which something was sent, of which no piece is in flight any more (all that was sent is acknowledged
+-- cumulatively), and the rest of which waits.
 abbrev pub TailsAreAbandonedAlike : Type 0
 TailsAreAbandonedAlike = (a : Sending) (x : Waiting) (xs : List Waiting) (w : Direction) → a.queue.pending ≡ x ∷ xs
     → x.begun ≡ true → is_reliable (policy_of x.message.policy) ≡ false

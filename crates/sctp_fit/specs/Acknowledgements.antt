@@ -14,12 +14,12 @@ use Rattle.sctp_model.specs.Machine.{Direction, Event, happens}
 use Rattle.sctp_model.specs.Invariants.{Invariant}
 use Rattle.sctp_fit.specs.Outgoing.{FitsOutgoing, Sending}
 
--- some pieces from the number j on, those acknowledged whose numbers a SACK names
+-- these pieces, numbered from j on, once those whose numbers a SACK names are acknowledged
 abbrev pub acked_among : (ℕ → Bool) → ℕ → List InFlight → List InFlight
 acked_among named j [] = []
 acked_among named j (x ∷ xs) = (if named j then acked x else x) ∷ acked_among named (suc j) xs
 
--- the streams once the outstanding bytes of these were released
+-- the streams once the outstanding bytes of those that it names were released
 abbrev pub released_among : (ℕ → Bool) → ℕ → List InFlight → StreamMap → StreamMap
 released_among named j [] m = m
 released_among named j (x ∷ xs) m = released_among named (suc j) xs (if named j then streams_after (Some x) m else m)

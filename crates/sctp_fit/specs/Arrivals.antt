@@ -23,7 +23,8 @@ took a piece o = record a {
   taken = o ∷ a.taken;
 }
 
--- DATA of the direction that its receiver didn't have has the offset that its TSN spells past the association's reach,
+-- DATA of the direction that its receiver didn't have has the offset that its TSN spells at or past the association's
+-- reach,
 abbrev pub NewTsnsSpellTheirOffsets : Type 0
 NewTsnsSpellTheirOffsets = (a : Receiving) (piece : ChunkPayloadData) (k : ℕ) (d : Data) (w : Direction)
     → slice_get w.datas k ≡ Some d → IsSaid a.peer piece d → is_new w.receiver d.offset ≡ true
@@ -64,15 +65,15 @@ TheSameIsReady = (a : Receiving) (id : ℕ) (t : StreamView) (w : Direction) →
 abbrev pub ReportsChangeNothing : Type 0
 ReportsChangeNothing = (a : Receiving) (w : Direction) → FitsIncoming a w → FitsIncoming a (happens w Event.SackMade)
 
--- Two queues of the model for which one reassembly stands have the same sequence number next, and hold the same DATA at
--- each offset.
+-- Two queues of the model are alike: the same stream sequence number is next, they hold the same DATA at each offset,
+-- and the same unordered messages are complete, as readers see them.
 pub record AreAlike (q r : Queue) : Type 0 where
   pub cursor : q.cursor ≡ r.cursor
   pub ordered : (o : ℕ) → at o q.ordered ≡ at o r.ordered
   pub unordered : (o : ℕ) → at o q.unordered ≡ at o r.unordered
   pub complete : map letter_read q.complete ≡ map letter_read r.complete
 
--- A reassembly stands for no two queues that answer differently.
+-- All queues of the model for which one reassembly stands are alike.
 abbrev pub ReadersArePinned : Type 0
 ReadersArePinned = (initial : ℕ) (p : Plan) (s : ℕ) (r : Reassembly) (q u : Queue) → length p.places < 2 ^ 31
     → StandsFor initial p s r q → StandsFor initial p s r u → AreAlike q u

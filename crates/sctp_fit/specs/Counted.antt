@@ -7,7 +7,7 @@ use Rattle.sctp_model.specs.Machine.{Direction}
 use Rattle.sctp_model.specs.Invariants.{Invariant}
 use Rattle.sctp_model.specs.Safe.{AreDistinct, IsWithin}
 
--- the pieces of a message of so many bytes: these over the payload size, rounded up (RFC 4960 section 6.9)
+-- the pieces of a message: its bytes over the payload size, rounded up (RFC 4960 section 6.9)
 abbrev pub pieces_in : ℕ → ℕ → ℕ
 pieces_in size bytes = (bytes + size - 1) / size
 
@@ -15,7 +15,8 @@ pieces_in size bytes = (bytes + size - 1) / size
 abbrev pub all_pieces : ℕ → List Message → ℕ
 all_pieces size ms = sum_by (λ (m : Message). pieces_in size (length m.bytes)) ms
 
--- At most n pieces were accepted: the messages of these streams have so many in all, and there is none on any other.
+-- At most n pieces were accepted: the messages of these streams have at most so many in all, and there is none on any
+-- other.
 pub record HasAccepted (n : ℕ) (w : Direction) : Type 0 where
   pub streams : List ℕ
   pub once : AreDistinct streams

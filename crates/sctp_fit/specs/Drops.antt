@@ -11,7 +11,8 @@ use Rattle.sctp_model.specs.Machine.{Direction, Event, happens}
 use Rattle.sctp_model.specs.Invariants.{Invariant}
 use Rattle.sctp_fit.specs.Outgoing.{CountsBegun, FitsOutgoing, Sending, policy_of}
 
--- what waits without the message at an index: those behind it in its stream move down by one sequence number
+-- what waits without the message at an index: where that is ordered, the ordered ones behind it in its stream move down
+-- by one sequence number
 abbrev pub without_at : ℕ → List Waiting → List Waiting
 without_at k [] = []
 without_at zero (m ∷ ms) = map (moved_down m.message) ms

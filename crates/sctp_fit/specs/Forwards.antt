@@ -30,8 +30,8 @@ last_ordered s (x ∷ xs) found =
 abbrev pub abandoned_front : Sending → List InFlight
 abandoned_front a = take (abandoned_in_front_of a.queue.in_flight) a.queue.in_flight
 
--- A FORWARD TSN of the direction says this much of an association: it passes over the abandoned pieces in front of all
--- others in flight, and for each stream with an ordered one among them it skips up to the last one's number.
+-- The direction makes this FORWARD TSN, and of an association it says: the abandoned pieces in front of all others in
+-- flight are passed over, and each stream with an ordered one among them is skipped up to the last one's number.
 pub record IsForwardOf (a : Sending) (w : Direction) (f : Forward) : Type 0 where
   pub made : (happens w Event.ForwardMade).forwards ≡ w.forwards ++ f ∷ []
   pub reach : f.reach ≡ a.base + abandoned_in_front_of a.queue.in_flight

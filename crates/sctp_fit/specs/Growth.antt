@@ -1,5 +1,5 @@
--- The laws of what leaves an association as it fits: events at the sender leave the receiver's side, and no event takes
--- back how begun messages are counted.
+-- The laws of what events leave as it was: one at either end leaves what the association has at the other, and begun
+-- messages stay counted as they are.
 use Rattle.std.specs.Prelude.{◌≡◌, ℕ, [], ⊤}
 use Rattle.sctp_streams.specs.Streams.{StreamMap}
 use Rattle.sctp_model.specs.Machine.{Direction, Event, fresh, happens}
@@ -7,7 +7,7 @@ use Rattle.sctp_model.specs.Invariants.{Invariant}
 use Rattle.sctp_fit.specs.Outgoing.{CountsBegun, FitsOutgoing, Sending}
 use Rattle.sctp_fit.specs.Incoming.{FitsIncoming, Receiving}
 
--- events at the sender of a direction
+-- all events at the sender of a direction, but for the end of a stream's span and what may follow that
 abbrev pub IsAtSender : Event → Type 0
 IsAtSender (Event.Write s m) = ⊤
 IsAtSender (Event.PassOver s) = ⊤
@@ -41,7 +41,7 @@ abbrev pub ReceiversEventsLeaveWhatIsSent : Type 0
 ReceiversEventsLeaveWhatIsSent = (a : Sending) (w : Direction) (e : Event) → IsAtReceiver e
     → FitsOutgoing a w → FitsOutgoing a (happens w e)
 
--- No event takes back how begun messages are counted.
+-- Begun messages stay counted as they are, whatever event happens.
 abbrev pub EventsKeepTheCount : Type 0
 EventsKeepTheCount = (w : Direction) (e : Event) → Invariant w → CountsBegun w.sender → CountsBegun (happens w e).sender
 
@@ -51,7 +51,8 @@ abbrev pub MeetingsAreNoEvents : Type 0
 MeetingsAreNoEvents = (a : Receiving) (t : ℕ) (w : Direction) → w.sender.plan.places ≡ [] → Invariant w
     → FitsIncoming a w → FitsIncoming (record a { peer = t }) w
 
--- An association whose streams hold nothing fits, as a receiver, a direction in which nothing happened.
+-- An association without a live stream, to which nothing came, fits a direction in which nothing happened, as its
+-- receiver.
 abbrev pub FreshOnesReceiveNothing : Type 0
 FreshOnesReceiveNothing = (peer size : ℕ) (m : StreamMap) → m.by_id ≡ []
     → FitsIncoming (record { streams = m; peer = peer; taken = []; passed = 0 }) (fresh size)

@@ -27,14 +27,15 @@ reach_of a = climb a.taken (past_all a.taken) a.passed
 abbrev pub offset_of : Receiving → ℕ → ℕ
 offset_of a t = reach_of a + past_32 (tsn a.peer (reach_of a)) t
 
--- a stream is live on both sides or on neither, and then its reassembly stands for the queue
+-- a stream is live on both sides or on neither, and the reassembly of a live one stands for the queue
 abbrev pub IsQueueAt : ℕ → Plan → ℕ → Option StreamView → Option Queue → Type 0
 IsQueueAt peer p s None None = ⊤
 IsQueueAt peer p s None (Some q) = ⊥
 IsQueueAt peer p s (Some t) None = ⊥
 IsQueueAt peer p s (Some t) (Some q) = StandsFor peer p s t.reassembly q
 
--- The association took in what the direction's receiver has, and holds it for its readers in the same queues.
+-- The association took in what the direction's receiver has, and holds it for its readers in the same queues. What is
+-- said of a stream's queue is of streams within their span.
 pub record FitsIncoming (a : Receiving) (w : Direction) : Type 0 where
   pub is_open : w.receiver.is_open ≡ true
   pub taken : a.taken ≡ w.receiver.taken

@@ -142,12 +142,14 @@ pub record IsNumbered (n : Names) (next s : ℕ) (t : StreamView) : Type 0 where
   pub generation : t.stats.generation ≡ n.generations s
   pub ssn : t.next_ssn ≡ next % 65536
 
--- a live stream counts as buffered what was accepted and not released; on one that is not live nothing was accepted
+-- a live stream counts as buffered what was accepted and not released; on one that is not live nothing was accepted (of
+-- streams within their span)
 abbrev pub IsOwnAt : Plan → ℕ → ℕ → Option StreamView → Type 0
 IsOwnAt p freed s None = p.accepted s ≡ []
 IsOwnAt p freed s (Some t) = t.buffered + freed ≡ accepted_bytes p s
 
--- The association has queued, in flight and buffered what the direction's sender has.
+-- The association has queued, in flight and buffered what the direction's sender has. What is said of a stream's
+-- buffered bytes is of streams within their span. That the queue's first TSN is that of `base` is not said here.
 pub record FitsOutgoing (a : Sending) (w : Direction) : Type 0 where
   pub named : Names
   pub names : AreNames named w.sender.plan a.queue.next_message_id
@@ -160,7 +162,7 @@ pub record FitsOutgoing (a : Sending) (w : Direction) : Type 0 where
   pub own_streams : (s : ℕ) → w.over s ≡ false
       → IsOwnAt w.sender.plan (w.sender.released s) s (stream_at a.streams s)
 
--- The sender's counters of begun messages, as they are in every direction, whatever happens.
+-- The sender's counters of begun messages: so it is at first, and every event keeps it where the invariant holds.
 pub record CountsBegun (x : Sender) : Type 0 where
   pub accepted : (s i : ℕ) → x.begun s i ≡ true → i < length (x.plan.accepted s)
   pub below : (s i : ℕ) → x.begun s i ≡ true → (message_at x.plan s i).ordered ≡ true → i < x.next s

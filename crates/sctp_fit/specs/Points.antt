@@ -14,7 +14,7 @@ first_acknowledged a = record a {
   base = a.base + 1;
 }
 
--- so many are acknowledged in this way, in the order of their TSNs
+-- the first n are acknowledged in this way, one after another
 abbrev pub so_many : ℕ → Sending → Sending
 so_many zero a = a
 so_many (suc n) a = so_many n (first_acknowledged a)

@@ -83,7 +83,7 @@ AreSamePieces [] (y ∷ ys) = ⊥
 AreSamePieces (x ∷ xs) [] = ⊥
 AreSamePieces (x ∷ xs) (y ∷ ys) = IsSamePiece x y × AreSamePieces xs ys
 
--- Of marks, counts of sendings and misses, and deadlines the direction knows nothing.
+-- Of marks, counts of sendings and misses, and deadlines of what is in flight the direction knows nothing.
 abbrev pub MarksAreNoEvents : Type 0
 MarksAreNoEvents = (a : Sending) (pieces : List InFlight) (w : Direction) → AreSamePieces a.queue.in_flight pieces
     → FitsOutgoing a w

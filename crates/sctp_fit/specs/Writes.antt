@@ -55,7 +55,8 @@ OpenedStreamsSendNothing = (a : Sending) (id first : ℕ) (kind : PayloadProtoco
     → Invariant w → CountsBegun w.sender → FitsOutgoing a w
     → FitsOutgoing (record a { streams = made a.streams id first kind }) w
 
--- An association that did nothing yet fits a direction in which nothing happened.
+-- An association that did nothing yet fits, as the sender, a direction in which nothing happened, and that one counts
+-- begun messages as it should.
 abbrev pub FreshOnesFit : Type 0
 FreshOnesFit = (size tsn : ℕ)
     → FitsOutgoing (record { queue = empty_outbound tsn; streams = no_stream; base = 0; size = size }) (fresh size)

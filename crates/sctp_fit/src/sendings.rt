@@ -1,8 +1,8 @@
 // DATA that goes out.
 ghost use Rattle.sctp_fit.specs.Sendings.{MarksAreNoEvents, PiecesAreGiven, SentPiecesAreEvents};
 
-/// DATA that an association sends, for the first time or again, is DATA of its direction, and what it notes of its
-/// sendings is nothing to that (RFC 4960 sections 6.1 and 6.9).
+/// DATA that an association sends, for the first time or again, is DATA of its direction, and what it notes of the
+/// sendings changes nothing there (RFC 4960 sections 6.1 and 6.9).
 pub fn sent_pieces_are_events()
     ensures sent { SentPiecesAreEvents }
     ensures again { PiecesAreGiven }

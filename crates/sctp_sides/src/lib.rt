@@ -1,6 +1,6 @@
-//! Laws of one side of SCTP: what every [`Association`](sctp_assoc::Association) keeps to, whatever its peer sends.
-//! They are said over the equations that its calls have for contracts, and no call needs them. No code runs here; each
-//! empty function carries laws that are proved.
+//! Laws of one side of SCTP: what every [`Association`](sctp_assoc::Association) keeps to, whatever its peer sends (but
+//! for what is said of a handshake, where the peer says what is so). They are said over the equations that its calls
+//! have for contracts, and no call needs them. No code runs here; each empty function carries laws that are proved.
 #![tactic(auto)]
 
 ghost use Rattle.sctp_sides.specs.Shapes.{AcceptedWritesFit, ChunksLeadOn, DataIsTaken, EstablishedIsNotClosed};

@@ -153,7 +153,8 @@ impl Streams {
         self.next_generation < u64::MAX
     }
 
-    /// Makes a stream, in the next generation. `first_message_id` is the identifier that the next message gets.
+    /// Makes a stream, in the next generation; a live one of this identifier is replaced. `first_message_id` is the
+    /// identifier that the next message gets.
     /// Refused, with nothing changed, where no generation is left (`ErrStreamCreateFailed`), and where memory is
     /// (`ErrNoMemory`).
     pub fn make(
