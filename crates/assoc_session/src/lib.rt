@@ -2,11 +2,11 @@
 #![tactic(auto)]
 
 mod line;
-mod session;
+mod replay;
+mod reply;
 mod setting;
-mod show;
 
 pub use line::{Beginning, Line, parse};
-pub use session::session;
+pub use replay::session;
+pub use reply::show;
 pub use setting::{snapped, snapped_under};
-pub use show::show;

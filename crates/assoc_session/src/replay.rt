@@ -2,8 +2,8 @@
 ghost use Rattle.std.specs.Prelude.{◌≡◌, ◌⊎◌};
 
 use crate::line::{Line, parse};
+use crate::reply::show;
 use crate::setting::begun;
-use crate::show::show;
 use sctp_pair::{Pair, Reply, Side2, Step};
 use std::alloc::{AllocError, Global};
 use std::io;
