@@ -4,7 +4,7 @@ use Rattle.std.proofs.Common.{Bool, true, false, eqb, ◌&&◌, List, [], ◌∷
 use Rattle.std.proofs.Common.{Option, Some, None, Result, Ok, Err, is_some}
 use Rattle.std.proofs.lemmas.Bool.{and_parts, cases_eq, eq-eqb, eqb-true, false≢true, leb-true, or_cases, or_left}
 use Rattle.std.proofs.lemmas.Bool.{or_right}
-use Rattle.sctp_wire_types.specs.Serial.{tsn_gt}
+use Rattle.sctp_serial.specs.Serial.{tsn_gt, tsn}
 use Rattle.sctp_wire_types.specs.declared.chunk.ChunkPayloadData.{ChunkPayloadData}
 use Rattle.sctp_wire_types.specs.declared.chunk.Chunk.{Chunk}
 use Rattle.sctp_wire_types.specs.declared.chunk.Chunk.TheVariants as chunks
@@ -17,7 +17,6 @@ use Rattle.sctp_wire_types.specs.Checks.{checked_chunk}
 use Rattle.sctp_wire.specs.declared.packet.Packet.{Packet}
 use Rattle.sctp_wire_types.specs.declared.ids.PayloadProtocolIdentifier.TheVariants as kinds
 use Rattle.sctp_model.specs.Packets.{mem}
-use Rattle.sctp_model.specs.Serial.{tsn}
 use Rattle.sctp_parts.specs.declared.timer.Timer.TheVariants as names
 use Rattle.sctp_parts.specs.Estimate.{Estimate}
 use Rattle.sctp_parts.specs.Timers.{expiry_of}

@@ -8,7 +8,7 @@ use Rattle.sctp_wire_types.specs.declared.chunk.ChunkPayloadData.{ChunkPayloadDa
 use Rattle.sctp_wire_types.specs.declared.error.Error.{Error}
 use Rattle.sctp_wire_types.specs.declared.error.Error.TheVariants as errors
 use Rattle.sctp_wire_types.specs.declared.packet.CommonHeader.{CommonHeader}
-use Rattle.sctp_wire_types.specs.Serial.{ssn_lt}
+use Rattle.sctp_serial.specs.Serial.{ssn_lt}
 use Rattle.sctp_receive_queues.specs.Pieces.{bytes_of, contradicts, covers, refusal_of}
 use Rattle.sctp_receive_queues.specs.Reassembly.{is_torn_after, is_torn_before, joins_after, joins_before, part}
 use Rattle.sctp_receive_queues.specs.Reassembly.{pieces_at, index_for_tsn, index_of_ssn, refusal_between}

@@ -3,7 +3,7 @@ use Rattle.std.proofs.Common.{◌≡◌, refl, sym, ap, ◌∙◌, subst, ℕ, B
 use Rattle.std.proofs.lemmas.Bool.{false≢true}
 use Rattle.std.proofs.lemmas.List.{append-nil}
 use Rattle.sctp_wire_types.specs.declared.chunk.ChunkPayloadData.{ChunkPayloadData}
-use Rattle.sctp_model.specs.Serial.{tsn}
+use Rattle.sctp_serial.specs.Serial.{tsn}
 use Rattle.sctp_inbound.specs.Handshake.{header_of}
 use Rattle.sctp_inbound.specs.Receiver.{acknowledged}
 use Rattle.sctp_assoc.specs.Acts.{Act, Binds, History, Leads, Parts, all_data_given, done_all, parts}

@@ -12,7 +12,7 @@ use Rattle.sctp_streams.specs.Stream.{StreamView, accepted_by}
 use Rattle.sctp_streams.specs.Streams.{StreamMap, changed_stream, stream_at, made, pushed_in, read_in, without_streams}
 use Rattle.sctp_outbound.specs.Sender.{chunk_of, next_chunk_of, streams_after}
 use Rattle.sctp_model.specs.Packets.{mem}
-use Rattle.sctp_model.specs.Serial.{tsn}
+use Rattle.sctp_serial.specs.Serial.{tsn}
 use Rattle.sctp_assoc.specs.Calls.{message_of}
 use Rattle.sctp_assoc.specs.Chunks.{is_whole}
 use Rattle.sctp_assoc.specs.Shown.{Shown}

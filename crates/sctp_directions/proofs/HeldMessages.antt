@@ -10,7 +10,7 @@ use Rattle.std.proofs.lemmas.Bool.{and_from, and_left, and_parts, cond-true, con
 use Rattle.std.proofs.lemmas.Bool.{or_left}
 use Rattle.sctp_wire_types.specs.declared.chunk.ChunkPayloadData.{ChunkPayloadData}
 use Rattle.sctp_wire_types.specs.Ids.{number_of}
-use Rattle.sctp_wire_types.specs.Serial.{ssn_lt}
+use Rattle.sctp_serial.specs.Serial.{ssn_lt}
 use Rattle.sctp_receive_queues.proofs.Cuts.{bytes_of_pieces}
 use Rattle.sctp_receive_queues.specs.Messages.{ReceivedMessage, message_of}
 use Rattle.sctp_receive_queues.specs.Pieces.{is_complete}
@@ -19,7 +19,6 @@ use Rattle.sctp_receive_queues.specs.Reassembly.{read_from, read_ordered, ready,
 use Rattle.sctp_receive_queues.specs.Reassembly.{with_ordered}
 use Rattle.sctp_model.specs.Messages.{Plan, place_at}
 use Rattle.sctp_model.specs.Packets.{Data}
-use Rattle.sctp_model.specs.Serial.{before_16}
 use Rattle.sctp_model.specs.Reassembly.{Queue, Run, Taken, at, begins, drain, drain_on, earlier, got_of, least}
 use Rattle.sctp_model.specs.Reassembly.{message_in, next, next_from, next_of, push, run_begun, run_from, run_on}
 use Rattle.sctp_model.specs.Reassembly.{run_with, taken_out, top, waiting, without}
@@ -122,8 +121,8 @@ queue_pushed p end count r q c d h near ordered i =
     here : push q d ≡ record q { ordered = d ∷ q.ordered }
     here =
         cond-true d.ordered _ _ i.ordered
-        ∙ cond-false (before_16 d.ssn q.cursor) _ _
-        (ap (λ z. before_16 z q.cursor) i.ssn ∙ ap (before_16 (count % 65536)) h.cursor
+        ∙ cond-false (ssn_lt d.ssn q.cursor) _ _
+        (ap (λ z. ssn_lt z q.cursor) i.ssn ∙ ap (ssn_lt (count % 65536)) h.cursor
         ∙ before_is count end near (omega arith) ∙ le-ltb count end (omega arith))
 
     grown : IsQueue p end (suc count) (record r { ordered = r.ordered ++ group_of c ∷ [] })
@@ -145,12 +144,12 @@ queue_pushed p end count r q c d h near ordered i =
 
 -- x stands for a later number than n, and on another offset than o
 record IsLater (n o : ℕ) (x : Data) : Type 0 where
-  after : before_16 (n % 65536) x.ssn ≡ true
+  after : ssn_lt (n % 65536) x.ssn ≡ true
   other : eqb x.ssn (n % 65536) ≡ false
   apart : eqb x.offset o ≡ false
 
 number_later : (n m s : ℕ) → s ≡ m % 65536 → n < m → m < n + 32768
-    → (before_16 (n % 65536) s ≡ true) × (eqb s (n % 65536) ≡ false)
+    → (ssn_lt (n % 65536) s ≡ true) × (eqb s (n % 65536) ≡ false)
 number_later n m s e l u =
     rw e (
       before_is n m (omega arith) (omega arith) ∙ lt-ltb n m l,
@@ -181,7 +180,7 @@ least_last : (n o : ℕ) (xs : List Data) (d : Data) → AllByRecursion (IsLater
 least_last n o [] d a e = ap Some e
 least_last n o (x ∷ xs) d a e =
     ap (λ z. Some (earlier x.ssn z)) (least_last n o xs d a.1 e)
-    ∙ ap Some (cond-true (before_16 (n % 65536) x.ssn) (n % 65536) x.ssn (a.0).after)
+    ∙ ap Some (cond-true (ssn_lt (n % 65536) x.ssn) (n % 65536) x.ssn (a.0).after)
 
 begins_last : (n o : ℕ) (xs : List Data) (d : Data) → AllByRecursion (IsLater n o) xs → d.ssn ≡ n % 65536
     → d.first ≡ true
@@ -222,8 +221,8 @@ next_last : (n : ℕ) (q : Queue) (xs : List Data) (d : Data) → q.complete ≡
 next_last n q xs d none held cursor ssn first last later =
     ap (next_from q) none
     ∙ ap (next_of q) (ap least held ∙ least_last n d.offset xs d later ssn)
-    ∙ cond-false (before_16 q.cursor (n % 65536)) _ _
-    (ap (λ z. before_16 z (n % 65536)) cursor ∙ before_is n n (omega arith) (omega arith) ∙ le-ltb n n (omega arith))
+    ∙ cond-false (ssn_lt q.cursor (n % 65536)) _ _
+    (ap (λ z. ssn_lt z (n % 65536)) cursor ∙ before_is n n (omega arith) (omega arith) ∙ le-ltb n n (omega arith))
     ∙ ap (taken_out q (n % 65536)) found
     ∙ ap (λ (z : Queue). Some (record { got = got_of (sole_run d); rest = z })) left
   where

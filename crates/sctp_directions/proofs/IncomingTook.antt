@@ -8,7 +8,7 @@ use Rattle.sctp_streams.specs.Stream.{stream_pushed}
 use Rattle.sctp_streams.specs.Streams.{pushed_at, pushed_in, stream_at}
 use Rattle.sctp_model.specs.Messages.{Plan, message_of, place_at}
 use Rattle.sctp_model.specs.Packets.{Data}
-use Rattle.sctp_model.specs.Serial.{tsn}
+use Rattle.sctp_serial.specs.Serial.{tsn}
 use Rattle.sctp_model.specs.Reassembly.{Queue, push}
 use Rattle.sctp_model.specs.Machine.{Direction, live, reach, took}
 use Rattle.sctp_model.specs.Safe.{IsWithin, read_end}

@@ -11,7 +11,7 @@ use Rattle.sctp_streams.specs.Streams.{stream_at}
 use Rattle.sctp_model.specs.Messages.{accepted_bytes}
 use Rattle.sctp_model.specs.Packets.{mem}
 use Rattle.sctp_model.specs.Reassembly as queue
-use Rattle.sctp_model.specs.Serial.{tsn}
+use Rattle.sctp_serial.specs.Serial.{tsn}
 use Rattle.sctp_model.specs.Machine.{Direction, Event, Receiver, happens, live, reach, sack_of}
 use Rattle.sctp_model.specs.Invariants.{Invariant, IsHonest}
 use Rattle.sctp_model.specs.Safe.{IsWithin, letter_read, read_end}

@@ -11,7 +11,7 @@ use Rattle.sctp_model.specs.Messages.{Message, Plan, message_at, no_message, pla
 use Rattle.sctp_model.specs.Packets.{data_at}
 use Rattle.sctp_model.specs.Machine.{Direction, put}
 use Rattle.sctp_model.proofs.PlansGrow.{IsExtended, at_put, off_put, data_kept}
-use Rattle.sctp_model.specs.Serial.{tsn}
+use Rattle.sctp_serial.specs.Serial.{tsn}
 use Rattle.sctp_outbound.specs.Sender.{chunk_of}
 use Rattle.sctp_assoc.specs.Acts.{History, Parts}
 use Rattle.sctp_directions.specs.Plain.{IsPlain, count_below}

@@ -12,7 +12,7 @@ use Rattle.sctp_outbound_queue.specs.Message.{sent_once}
 use Rattle.sctp_outbound_queue.specs.Outbound.{sent_from}
 use Rattle.sctp_outbound.specs.Sender.{chunk_of, next_chunk_of}
 use Rattle.sctp_streams.specs.Streams.{StreamMap, stream_at}
-use Rattle.sctp_model.specs.Serial.{tsn}
+use Rattle.sctp_serial.specs.Serial.{tsn}
 use Rattle.sctp_model.specs.Messages.{Place, Plan, message_at, place_at}
 use Rattle.sctp_model.specs.Packets.{data_of}
 use Rattle.sctp_model.specs.Machine.{Direction, Event, first_place, happens, next_data}

@@ -10,7 +10,7 @@ use Rattle.sctp_outbound_queue.specs.Message.{counted_again, is_outstanding, mar
 use Rattle.sctp_outbound_queue.specs.Outbound.{changed_from}
 use Rattle.sctp_outbound.specs.Sender.{chunk_of}
 use Rattle.sctp_streams.specs.Streams.{StreamMap}
-use Rattle.sctp_model.specs.Serial.{tsn}
+use Rattle.sctp_serial.specs.Serial.{tsn}
 use Rattle.sctp_model.specs.Messages.{Plan}
 use Rattle.sctp_model.specs.Packets.{Data, data_at}
 use Rattle.sctp_model.specs.Machine.{Direction, Event, happens}

@@ -12,7 +12,7 @@ use Rattle.sctp_model.specs.Messages.{Message, accepted_bytes}
 use Rattle.sctp_model.specs.Packets.{Data, Sack, mem}
 use Rattle.sctp_model.specs.Reassembly as queue
 use Rattle.sctp_model.specs.Reassembly.{Queue}
-use Rattle.sctp_model.specs.Serial.{tsn}
+use Rattle.sctp_serial.specs.Serial.{tsn}
 use Rattle.sctp_model.specs.Machine.{Direction, Event, fresh, happens, live, reach}
 use Rattle.sctp_model.specs.Invariants.{Invariant}
 use Rattle.sctp_model.specs.Safe.{IsWithin, letter_read}

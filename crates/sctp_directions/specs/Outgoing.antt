@@ -8,7 +8,7 @@ use Rattle.sctp_streams.specs.Streams.{StreamMap, is_generation, stream_at}
 use Rattle.sctp_outbound.specs.Sender.{chunk_of}
 use Rattle.sctp_model.specs.Messages.{Message, Plan, Policy, accepted_bytes, message_at}
 use Rattle.sctp_model.specs.Packets.{data_at}
-use Rattle.sctp_model.specs.Serial.{tsn}
+use Rattle.sctp_serial.specs.Serial.{tsn}
 use Rattle.sctp_model.specs.Machine.{Direction, put}
 use Rattle.sctp_assoc.specs.Acts.{Parts}
 use Rattle.sctp_directions.specs.Said.{IsSaid}

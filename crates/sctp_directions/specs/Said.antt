@@ -6,7 +6,7 @@ use Rattle.sctp_wire_types.specs.declared.chunk.ChunkPayloadData.{ChunkPayloadDa
 use Rattle.sctp_wire_types.specs.declared.chunk.ChunkSelectiveAck.{ChunkSelectiveAck}
 use Rattle.sctp_wire_types.specs.Ids.{number_of}
 use Rattle.sctp_model.specs.Packets.{Data, Sack}
-use Rattle.sctp_model.specs.Serial.{tsn}
+use Rattle.sctp_serial.specs.Serial.{tsn}
 use Rattle.sctp_model.specs.Machine.{Direction}
 use Rattle.sctp_sides.specs.Reports.{SaysWhatWasTaken}
 

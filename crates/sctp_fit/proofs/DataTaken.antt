@@ -8,7 +8,7 @@ use Rattle.sctp_streams.specs.Stream.{StreamView, fresh_stream, stream_pushed}
 use Rattle.sctp_streams.specs.Streams.{made, pushed_at, pushed_in, stream_at}
 use Rattle.sctp_model.specs.Messages.{Plan}
 use Rattle.sctp_model.specs.Packets.{Data, mem}
-use Rattle.sctp_model.specs.Serial.{past_32, tsn}
+use Rattle.sctp_serial.specs.Serial.{tsn_past, tsn}
 use Rattle.sctp_model.specs.Reassembly.{Queue, empty_queue, push}
 use Rattle.sctp_model.specs.Machine.{Direction, Event, climb, data_comes, happens, is_new, live, opened, past_all, put}
 use Rattle.sctp_model.specs.Machine.{reach, took as model_took}
@@ -32,14 +32,14 @@ same_reach a w fits =
     ∙ ap (climb w.receiver.taken (past_all w.receiver.taken)) fits.passed
 
 -- a TSN spells its offset, where that is not before the reach
-spelt : (initial reach o : ℕ) → reach ≤ o → o < 2 ^ 31 → reach + past_32 (tsn initial reach) (tsn initial o) ≡ o
+spelt : (initial reach o : ℕ) → reach ≤ o → o < 2 ^ 31 → reach + tsn_past (tsn initial reach) (tsn initial o) ≡ o
 spelt initial reach o l m = omega arith
 
 -- DATA that is new has the offset that its TSN spells past the reach
 pub new_tsns_spell_their_offsets : NewTsnsSpellTheirOffsets
 new_tsns_spell_their_offsets a piece k d w e said new within inv fits =
-    ap (λ z. z + past_32 (tsn a.peer z) piece.tsn) (same_reach a w fits)
-    ∙ ap (λ z. reach w.receiver + past_32 (tsn a.peer (reach w.receiver)) z) said.carries.tsn
+    ap (λ z. z + tsn_past (tsn a.peer z) piece.tsn) (same_reach a w fits)
+    ∙ ap (λ z. reach w.receiver + tsn_past (tsn a.peer (reach w.receiver)) z) said.carries.tsn
     ∙ spelt a.peer (reach w.receiver) d.offset (leb-true _ _ past) small
   where
     given : IsPiece w.sender.plan d

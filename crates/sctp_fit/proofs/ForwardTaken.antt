@@ -8,7 +8,7 @@ use Rattle.sctp_streams.specs.Stream.{StreamView}
 use Rattle.sctp_streams.specs.Streams.{stream_at}
 use Rattle.sctp_model.specs.Messages.{Plan}
 use Rattle.sctp_model.specs.Packets.{Forward, skips}
-use Rattle.sctp_model.specs.Serial.{tsn}
+use Rattle.sctp_serial.specs.Serial.{tsn}
 use Rattle.sctp_model.specs.Reassembly.{Queue, drop_unordered, skip_if}
 use Rattle.sctp_model.specs.Machine.{Direction, Event, forward_comes, forwarded, happens, live, passes, reach}
 use Rattle.sctp_reassembly.specs.Stands.{StandsFor, skipped_if}

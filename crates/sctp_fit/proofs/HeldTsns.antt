@@ -13,10 +13,9 @@ use Rattle.std.proofs.lemmas.Bool.{and_from, and_left, and_right, cases_Bool, ca
 use Rattle.std.proofs.lemmas.Bool.{eqb-true, eqb-false, false≢true, le-leb, le-ltb, lt-leb, lt-ltb, ltb-false, ltb-true}
 use Rattle.std.proofs.lemmas.Bool.{ne_eqb, or_cases, or_left, or_right}
 use Rattle.std.proofs.lemmas.Cmp.{ranked}
-use Rattle.sctp_wire_types.specs.Serial.{tsn_past}
+use Rattle.sctp_serial.specs.Serial.{tsn_past, tsn}
 use Rattle.sctp_receive_queues.specs.Received.{has_offset, is_held, is_held_at}
 use Rattle.sctp_model.specs.Packets.{mem}
-use Rattle.sctp_model.specs.Serial.{past_32, tsn}
 use Rattle.sctp_model.proofs.Lists.{all_mem, all_weaker}
 use Rattle.sctp_fit.specs.HeldSet.{BlocksNameWhatCame, HoldsPast, IsPast, NewTsnsDidNotCome, NothingIsHeldAtFirst}
 use Rattle.sctp_fit.specs.HeldSet.{point_of}
@@ -174,7 +173,7 @@ abbrev pub before : ℕ → ℕ → ℕ
 before i r = (tsn i r + 2 ^ 32 - 1) % 2 ^ 32
 
 -- the TSN that spells an offset at or past r is that offset's
-pub spells : (i r t : ℕ) → t < 2 ^ 32 → tsn i (r + past_32 (tsn i r) t) ≡ t
+pub spells : (i r t : ℕ) → t < 2 ^ 32 → tsn i (r + tsn_past (tsn i r) t) ≡ t
 spells i r t l = omega arith
 
 -- offsets less than 65,535 past r have TSNs of their own
@@ -185,13 +184,13 @@ same_offset i r x y a b c d e = omega arith
 past_before : (i r x : ℕ) → r ≤ x → x < r + 65535 → tsn_past (before i r) (tsn i x) + r ≡ suc x
 past_before i r x a b = omega arith
 
-past_point : (i r t : ℕ) → t < 2 ^ 32 → tsn_past (before i r) t ≡ (past_32 (tsn i r) t + 1) % 2 ^ 32
+past_point : (i r t : ℕ) → t < 2 ^ 32 → tsn_past (before i r) t ≡ (tsn_past (tsn i r) t + 1) % 2 ^ 32
 past_point i r t l = omega arith
 
 -- a TSN is 1 to 65,535 past the point where its offset is less than 65,535 past the reach
 near_point : (i r t : ℕ) → t < 2 ^ 32
-    → has_offset (tsn_past (before i r) t) ≡ ltb (r + past_32 (tsn i r) t) (r + 65535)
-near_point i r t l = ap has_offset (past_point i r t l) ∙ near (past_32 (tsn i r) t) (omega arith)
+    → has_offset (tsn_past (before i r) t) ≡ ltb (r + tsn_past (tsn i r) t) (r + 65535)
+near_point i r t l = ap has_offset (past_point i r t l) ∙ near (tsn_past (tsn i r) t) (omega arith)
   where
     near : (d : ℕ) → d < 2 ^ 32 → has_offset ((d + 1) % 2 ^ 32) ≡ ltb (r + d) (r + 65535)
     near d b = ⊎_elim

@@ -15,7 +15,7 @@ use Rattle.sctp_outbound_queue.specs.Outbound.{left_behind, sent_from}
 use Rattle.sctp_outbound.specs.Sender.{next_chunk_of}
 use Rattle.sctp_streams.specs.Stream.{StreamView}
 use Rattle.sctp_streams.specs.Streams.{stream_at}
-use Rattle.sctp_model.specs.Serial.{tsn}
+use Rattle.sctp_serial.specs.Serial.{tsn}
 use Rattle.sctp_model.specs.Messages.{Place, Plan, is_last, is_last_piece, message_at, piece_of, place_at}
 use Rattle.sctp_model.specs.Packets.{data_of, mem}
 use Rattle.sctp_model.specs.Machine.{Direction, Event, Sender, first_place, following, is_unsent, left_after, next_data}

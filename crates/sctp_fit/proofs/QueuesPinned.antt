@@ -6,7 +6,7 @@ use Rattle.sctp_wire_types.specs.declared.chunk.ChunkPayloadData.{ChunkPayloadDa
 use Rattle.sctp_receive_queues.specs.Reassembly.{Group}
 use Rattle.sctp_model.specs.Messages.{Plan}
 use Rattle.sctp_model.specs.Packets.{Data, data_at, mem}
-use Rattle.sctp_model.specs.Serial.{tsn}
+use Rattle.sctp_serial.specs.Serial.{tsn}
 use Rattle.sctp_model.proofs.Lists.{all_weaker}
 use Rattle.sctp_reassembly.specs.Stands.{AreGroups, AreRuns, AreWaiting, CarryDataOf, Held, IsLoose, IsOf}
 use Rattle.sctp_reassembly.specs.Stands.{offsets_in, runs_of}

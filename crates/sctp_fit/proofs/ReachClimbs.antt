@@ -11,7 +11,7 @@ use Rattle.std.proofs.lemmas.List.{nil_from_length}
 use Rattle.sctp_receive_queues.specs.Pieces.{tsn_after}
 use Rattle.sctp_receive_queues.specs.Received.{advanced, is_held, is_new, with_tsn}
 use Rattle.sctp_model.specs.Packets.{mem}
-use Rattle.sctp_model.specs.Serial.{tsn}
+use Rattle.sctp_serial.specs.Serial.{tsn}
 use Rattle.sctp_model.specs.Machine.{climb, past_all}
 use Rattle.sctp_model.proofs.Lists.{all_both, all_mem, all_weaker}
 use Rattle.sctp_model.proofs.OffsetSets.{climb_from, climb_in, reach_stops}

@@ -8,7 +8,7 @@ use Rattle.sctp_outbound_queue.specs.declared.message.InFlight.{InFlight}
 use Rattle.sctp_outbound_queue.specs.Message.{counted_again}
 use Rattle.sctp_outbound_queue.specs.Outbound.{changed_at, changed_from}
 use Rattle.sctp_outbound.specs.Sender.{chunk_of}
-use Rattle.sctp_model.specs.Serial.{tsn}
+use Rattle.sctp_serial.specs.Serial.{tsn}
 use Rattle.sctp_model.specs.Messages.{Place, Plan, message_at, place_at}
 use Rattle.sctp_model.specs.Packets.{data_at, data_of}
 use Rattle.sctp_model.specs.Machine.{Direction, Event, happens}

@@ -7,7 +7,7 @@ use Rattle.sctp_streams.specs.Streams.{StreamMap, stream_at}
 use Rattle.sctp_model.specs.Messages.{Plan}
 use Rattle.sctp_model.specs.Packets.{Data}
 use Rattle.sctp_model.specs.Reassembly.{Queue}
-use Rattle.sctp_model.specs.Serial.{past_32, tsn}
+use Rattle.sctp_serial.specs.Serial.{tsn_past, tsn}
 use Rattle.sctp_model.specs.Machine.{Direction, climb, past_all}
 use Rattle.sctp_reassembly.specs.Stands.{CarriesData, StandsFor}
 
@@ -25,7 +25,7 @@ reach_of a = climb a.taken (past_all a.taken) a.passed
 
 -- the offset that a TSN of DATA at or past the reach spells
 abbrev pub offset_of : Receiving → ℕ → ℕ
-offset_of a t = reach_of a + past_32 (tsn a.peer (reach_of a)) t
+offset_of a t = reach_of a + tsn_past (tsn a.peer (reach_of a)) t
 
 -- a stream is live on both sides or on neither, and the reassembly of a live one stands for the queue
 abbrev pub IsQueueAt : ℕ → Plan → ℕ → Option StreamView → Option Queue → Type 0

@@ -9,7 +9,7 @@ use Rattle.sctp_outbound_queue.specs.Message.{counted_again, is_outstanding}
 use Rattle.sctp_outbound_queue.specs.Outbound.{changed_at, sent_next}
 use Rattle.sctp_outbound.specs.Sender.{chunk_of, next_chunk_of}
 use Rattle.sctp_model.specs.Packets.{Data}
-use Rattle.sctp_model.specs.Serial.{tsn}
+use Rattle.sctp_serial.specs.Serial.{tsn}
 use Rattle.sctp_model.specs.Machine.{Direction, Event, happens, run}
 use Rattle.sctp_model.specs.Invariants.{Invariant}
 use Rattle.sctp_fit.specs.Outgoing.{CountsBegun, FitsOutgoing, Sending}

@@ -7,7 +7,7 @@ use Rattle.std.proofs.lemmas.List.{nil_from_length}
 use Rattle.std.proofs.lemmas.Bool.{cases_Bool, cases_lt, eq-eqb, le-ltb, cond-true, cond-false, not_from_true}
 use Rattle.sctp_model.specs.Messages.{Message, Place, Plan, IsAt, count_ordered, place_at, message_at, rank}
 use Rattle.sctp_model.specs.Packets.{Data, mem, data_at}
-use Rattle.sctp_model.specs.Serial.{before_16}
+use Rattle.sctp_serial.specs.Serial.{ssn_lt}
 use Rattle.sctp_model.specs.Reassembly.{Queue, Run, Taken, Got, Drained, at, top, run_with, run_of, got_of, least}
 use Rattle.sctp_model.specs.Reassembly.{begins, run_begun, message_in, without, taken_out, next_of, next_ordered, next}
 use Rattle.sctp_model.specs.Reassembly.{next_from, drain, drain_on, waiting}
@@ -73,11 +73,11 @@ due_shrinks q t e = go (least q.ordered) e
         → (length t.rest.ordered < length q.ordered) × (t.rest.complete ≡ q.complete)
     go None f = absurd (cc)
     go (Some c) f = ⊎_elim
-        (λ (b : before_16 q.cursor c ≡ true). absurd (let n : None ≡ Some t =
-        sym (cond-true (before_16 q.cursor c) None (taken_out q c (message_in q.ordered c)) b) ∙ f in cc))
-        (λ (b : before_16 q.cursor c ≡ false). last c (begins c q.ordered) refl
-        (sym (cond-false (before_16 q.cursor c) None (taken_out q c (message_in q.ordered c)) b) ∙ f))
-        (cases_Bool (before_16 q.cursor c))
+        (λ (b : ssn_lt q.cursor c ≡ true). absurd (let n : None ≡ Some t =
+        sym (cond-true (ssn_lt q.cursor c) None (taken_out q c (message_in q.ordered c)) b) ∙ f in cc))
+        (λ (b : ssn_lt q.cursor c ≡ false). last c (begins c q.ordered) refl
+        (sym (cond-false (ssn_lt q.cursor c) None (taken_out q c (message_in q.ordered c)) b) ∙ f))
+        (cases_Bool (ssn_lt q.cursor c))
 
 pub read_shrinks : (q : Queue) (t : Taken) → next q ≡ Some t → waiting t.rest < waiting q
 read_shrinks q t e = go q.complete refl e
@@ -219,9 +219,9 @@ module _ {p : Plan} {over : ℕ → Bool} {gone : ℕ → ℕ → Bool} {current
           l.below).0 in
           let number : l.number ≡ low = omega arith in
           let u = (h.full none).unskipped in
-          let order : before_16 q.cursor c ≡ false
+          let order : ssn_lt q.cursor c ≡ false
           =
-          ap (λ z. before_16 z c) h.is ∙ ap (before_16 (h.cursor % 65536)) l.is
+          ap (λ z. ssn_lt z c) h.is ∙ ap (ssn_lt (h.cursor % 65536)) l.is
           ∙ before_is h.cursor l.number (omega arith) (omega arith) ∙ le-ltb _ _ (omega arith) in
           let b =
           begins_finds c o q.ordered (data_at p o) (piece_held 0 first)
@@ -249,7 +249,7 @@ module _ {p : Plan} {over : ℕ → Bool} {gone : ℕ → ℕ → Bool} {current
           let n : next_ordered q ≡ Some
           (record { got = got_of (record { head = x; pieces = r.0 }); rest = without q c })
           =
-          ap (next_of q) e ∙ cond-false (before_16 q.cursor c) None (taken_out q c (message_in q.ordered c)) order
+          ap (next_of q) e ∙ cond-false (ssn_lt q.cursor c) None (taken_out q c (message_in q.ordered c)) order
           ∙ ap (taken_out q c) m in
           some_not_none _ (sym n ∙ empty)
         where

@@ -6,7 +6,7 @@ use Rattle.std.proofs.lemmas.Bool.{cases_Bool, cases_lt, and_parts, and_from, eq
 use Rattle.std.proofs.lemmas.Bool.{le-ltb, true≢false, cond-true, cond-false}
 use Rattle.sctp_model.specs.Messages.{Plan, IsAt, count_ordered, place_at, message_at, rank}
 use Rattle.sctp_model.specs.Packets.{Data}
-use Rattle.sctp_model.specs.Serial.{before_16}
+use Rattle.sctp_serial.specs.Serial.{ssn_lt}
 use Rattle.sctp_model.specs.Reassembly.{Queue, Run, Taken, at, top, run_from, run_with, run_of, got_of, earlier, least}
 use Rattle.sctp_model.specs.Reassembly.{begins, run_begun, message_in, without, taken_out, next_of, next_ordered}
 use Rattle.sctp_model.specs.Invariants.{IsPlanned, IsHeld}
@@ -100,20 +100,20 @@ module _ (p : Plan) (taken : List ℕ) (s low : ℕ) where
           let ha = h.above in
           let ra = r.above in
           let rn = r.near in
-          let test : before_16 e' d.ssn ≡ ltb r.number (place_at p d.offset).ssn
-          = ap (λ z. before_16 z d.ssn) r.is ∙ ap (before_16 (r.number % 65536)) (ssn_is p taken s low true d h)
+          let test : ssn_lt e' d.ssn ≡ ltb r.number (place_at p d.offset).ssn
+          = ap (λ z. ssn_lt z d.ssn) r.is ∙ ap (ssn_lt (r.number % 65536)) (ssn_is p taken s low true d h)
           ∙ before_is r.number (place_at p d.offset).ssn (omega arith) (omega arith) in
           ⊎_elim
           (λ (l : r.number < (place_at p d.offset).ssn). record {
             number = r.number;
-            is = sym f ∙ cond-true (before_16 e' d.ssn) e' d.ssn (test ∙ lt-ltb _ _ l) ∙ r.is;
+            is = sym f ∙ cond-true (ssn_lt e' d.ssn) e' d.ssn (test ∙ lt-ltb _ _ l) ∙ r.is;
             above = r.above;
             near = r.near;
             below = (omega arith, r.below);
           })
           (λ (g : (place_at p d.offset).ssn ≤ r.number). record {
             number = (place_at p d.offset).ssn;
-            is = sym f ∙ cond-false (before_16 e' d.ssn) e' d.ssn (test ∙ le-ltb _ _ g) ∙ ssn_is p taken s low true d h;
+            is = sym f ∙ cond-false (ssn_lt e' d.ssn) e' d.ssn (test ∙ le-ltb _ _ g) ∙ ssn_is p taken s low true d h;
             above = h.above;
             near = near;
             below = (omega arith, all_below p (place_at p d.offset).ssn r.number ds g r.below);
@@ -217,7 +217,7 @@ module _ {p : Plan} {over : ℕ → Bool} (taken : List ℕ) (s low cursor : ℕ
       → IsDue p taken s low cursor q t
   due_is narrow is above until e = go (least q.ordered) refl e
     where
-      take_it : (c : ℕ) → IsLeast p low q.ordered c → before_16 q.cursor c ≡ false → (x : Option Run)
+      take_it : (c : ℕ) → IsLeast p low q.ordered c → ssn_lt q.cursor c ≡ false → (x : Option Run)
           → message_in q.ordered c ≡ x → taken_out q c x ≡ Some t
           → IsDue p taken s low cursor q t
       take_it c l b None m f = absurd (cc)
@@ -225,9 +225,9 @@ module _ {p : Plan} {over : ℕ → Bool} (taken : List ℕ) (s low cursor : ℕ
           let la = l.above in
           let ln = l.near in
           let i : record { got = got_of r; rest = without q c } ≡ t = cc in
-          let order : before_16 q.cursor c ≡ ltb cursor l.number
+          let order : ssn_lt q.cursor c ≡ ltb cursor l.number
           =
-          ap (λ z. before_16 z c) is ∙ ap (before_16 (cursor % 65536)) l.is
+          ap (λ z. ssn_lt z c) is ∙ ap (ssn_lt (cursor % 65536)) l.is
           ∙ before_is cursor l.number (omega arith) (omega arith) in
           let u = message_in_is low q.ordered h held c r m in
           let hd = u.head in
@@ -250,9 +250,9 @@ module _ {p : Plan} {over : ℕ → Bool} (taken : List ℕ) (s low cursor : ℕ
       go None l f = absurd (cc)
       go (Some c) l f =
           ⊎_elim
-          (λ (b : before_16 q.cursor c ≡ true). absurd (let n : None ≡ Some t =
-          sym (cond-true (before_16 q.cursor c) None (taken_out q c (message_in q.ordered c)) b) ∙ f in cc))
-          (λ (b : before_16 q.cursor c ≡ false).
+          (λ (b : ssn_lt q.cursor c ≡ true). absurd (let n : None ≡ Some t =
+          sym (cond-true (ssn_lt q.cursor c) None (taken_out q c (message_in q.ordered c)) b) ∙ f in cc))
+          (λ (b : ssn_lt q.cursor c ≡ false).
           take_it c (least_is p taken s low q.ordered c near l) b (message_in q.ordered c) refl
-          (sym (cond-false (before_16 q.cursor c) None (taken_out q c (message_in q.ordered c)) b) ∙ f))
-          (cases_Bool (before_16 q.cursor c))
+          (sym (cond-false (ssn_lt q.cursor c) None (taken_out q c (message_in q.ordered c)) b) ∙ f))
+          (cases_Bool (ssn_lt q.cursor c))

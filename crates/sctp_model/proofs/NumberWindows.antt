@@ -4,22 +4,22 @@ use Rattle.std.proofs.Common.{ℕ, suc, ◌+◌, ◌-◌, ◌%◌, ◌<◌, ◌�
 use Rattle.std.proofs.Common.{⊎_elim, arith}
 use Rattle.std.proofs.lemmas.Bool.{cases_lt, cases_eq, and_from, and_left, and_right, or_left, or_from, eq-eqb, ne_eqb}
 use Rattle.std.proofs.lemmas.Bool.{lt-ltb, le-ltb, le-leb, lt-leb}
-use Rattle.sctp_model.specs.Serial.{past_16, before_16, up_to_16}
+use Rattle.sctp_serial.specs.Serial.{ssn_past, ssn_lt, ssn_lte}
 
-pub before_is : (a b : ℕ) → a < b + 32768 → b < a + 32768 → before_16 (a % 65536) (b % 65536) ≡ ltb a b
+pub before_is : (a b : ℕ) → a < b + 32768 → b < a + 32768 → ssn_lt (a % 65536) (b % 65536) ≡ ltb a b
 before_is a b la lb =
     ⊎_elim
     (λ (l : a < b).
-    let e : past_16 (a % 65536) (b % 65536) ≡ b - a = omega arith in
-    and_from (ltb 0 (past_16 (a % 65536) (b % 65536))) (ltb (past_16 (a % 65536) (b % 65536)) 32768)
-    (lt-ltb 0 (past_16 (a % 65536) (b % 65536)) (omega arith))
-    (lt-ltb (past_16 (a % 65536) (b % 65536)) 32768 (omega arith)) ∙ sym (lt-ltb a b l))
+    let e : ssn_past (a % 65536) (b % 65536) ≡ b - a = omega arith in
+    and_from (ltb 0 (ssn_past (a % 65536) (b % 65536))) (ltb (ssn_past (a % 65536) (b % 65536)) 32768)
+    (lt-ltb 0 (ssn_past (a % 65536) (b % 65536)) (omega arith))
+    (lt-ltb (ssn_past (a % 65536) (b % 65536)) 32768 (omega arith)) ∙ sym (lt-ltb a b l))
     (λ (g : b ≤ a).
     ⊎_elim
-    (λ (e : a ≡ b). and_left _ _ (le-ltb 0 (past_16 (a % 65536) (b % 65536)) (omega arith)) ∙ sym (le-ltb a b g))
+    (λ (e : a ≡ b). and_left _ _ (le-ltb 0 (ssn_past (a % 65536) (b % 65536)) (omega arith)) ∙ sym (le-ltb a b g))
     (λ (ne : a ≡ b → ⊥).
-    let e : past_16 (a % 65536) (b % 65536) ≡ b + 65536 - a = (let n : b < a = omega (arith, ne) in omega arith) in
-    and_right _ _ (le-ltb (past_16 (a % 65536) (b % 65536)) 32768 (omega arith)) ∙ sym (le-ltb a b g))
+    let e : ssn_past (a % 65536) (b % 65536) ≡ b + 65536 - a = (let n : b < a = omega (arith, ne) in omega arith) in
+    and_right _ _ (le-ltb (ssn_past (a % 65536) (b % 65536)) 32768 (omega arith)) ∙ sym (le-ltb a b g))
     (cases_eq a b))
     (cases_lt a b)
 
@@ -33,9 +33,9 @@ same_is a b la lb =
 pub same_from : (a b : ℕ) → a < b + 32768 → b < a + 32768 → a % 65536 ≡ b % 65536 → a ≡ b
 same_from a b la lb e = omega arith
 
-pub up_to_is : (a b : ℕ) → a < b + 32768 → b < a + 32768 → up_to_16 (a % 65536) (b % 65536) ≡ leb a b
+pub up_to_is : (a b : ℕ) → a < b + 32768 → b < a + 32768 → ssn_lte (a % 65536) (b % 65536) ≡ leb a b
 up_to_is a b la lb =
-    ap (λ z. z || before_16 (a % 65536) (b % 65536)) (same_is a b la lb)
+    ap (λ z. z || ssn_lt (a % 65536) (b % 65536)) (same_is a b la lb)
     ∙ ap (λ z. eqb a b || z) (before_is a b la lb)
     ∙ ⊎_elim
     (λ (l : a ≤ b). ⊎_elim

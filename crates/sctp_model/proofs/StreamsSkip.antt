@@ -9,7 +9,7 @@ use Rattle.std.proofs.Math.Nat.{mul-le-mul_left}
 use Rattle.std.proofs.lemmas.Bool.{cases_lt, le-leb, lt-leb, true≢false, false_from_ne_true, cond-true, cond-false}
 use Rattle.sctp_model.specs.Messages.{Place, Plan, IsAt, count_ordered, place_at, message_at, message_of, is_last}
 use Rattle.sctp_model.specs.Packets.{Data, Forward, mem, wrapped, skips, data_at}
-use Rattle.sctp_model.specs.Serial.{up_to_16}
+use Rattle.sctp_serial.specs.Serial.{ssn_lte}
 use Rattle.sctp_model.specs.Reassembly.{Queue, Got, at, skip, skip_if, drop_unordered}
 use Rattle.sctp_model.specs.Machine.{live, forwarded, skipped_by}
 use Rattle.sctp_model.specs.Safe.{AreDistinct, IsTaken, IsWhole, is_ordered, read_end, read_ssn, unread}
@@ -222,11 +222,11 @@ module _ {p : Plan} {over : ℕ → Bool} {current : Option Place} {next ssn : �
           (λ (l : h.cursor ≤ top). subst P (sym (cond-true (leb h.cursor top) (suc top) h.cursor (le-leb _ _ l))) (a l))
           (cases_lt top h.cursor)
 
-      cursor_is : cond (up_to_16 q.cursor (m % 65536)) ((m % 65536 + 1) % 65536) q.cursor
+      cursor_is : cond (ssn_lte q.cursor (m % 65536)) ((m % 65536 + 1) % 65536) q.cursor
           ≡ cond (leb h.cursor top) (suc top) h.cursor % 65536
       cursor_is =
-          ap (λ z. cond (up_to_16 q.cursor (z % 65536)) ((z % 65536 + 1) % 65536) q.cursor) rep.is
-          ∙ ap (λ z. cond (up_to_16 z (top % 65536)) ((top % 65536 + 1) % 65536) z) h.is
+          ap (λ z. cond (ssn_lte q.cursor (z % 65536)) ((z % 65536 + 1) % 65536) q.cursor) rep.is
+          ∙ ap (λ z. cond (ssn_lte z (top % 65536)) ((top % 65536 + 1) % 65536) z) h.is
           ∙ ap (λ z. cond z ((top % 65536 + 1) % 65536) (h.cursor % 65536)) (up_to_is h.cursor top behind ahead)
           ∙ ap (λ z. cond (leb h.cursor top) z (h.cursor % 65536)) (next_is top)
           ∙ split (leb h.cursor top)

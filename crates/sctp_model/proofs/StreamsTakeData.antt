@@ -6,7 +6,7 @@ use Rattle.std.proofs.lemmas.Bool.{cases_Bool, cases_lt, or_cases, or_left, or_r
 use Rattle.std.proofs.lemmas.Bool.{true≢false, cond-true, cond-false}
 use Rattle.sctp_model.specs.Messages.{Place, Plan, IsAt, count_ordered, place_at, message_at, message_of}
 use Rattle.sctp_model.specs.Packets.{Data, mem, data_at}
-use Rattle.sctp_model.specs.Serial.{before_16}
+use Rattle.sctp_serial.specs.Serial.{ssn_lt}
 use Rattle.sctp_model.specs.Reassembly.{Queue, Got, at, push_ordered}
 use Rattle.sctp_model.specs.Safe.{IsTaken, IsWhole, is_ordered, number_of, read_end, read_ssn, unread}
 use Rattle.sctp_model.specs.Invariants.{IsPlanned, IsPiece, IsHeld, IsOrdered, IsGot, IsStream}
@@ -167,7 +167,7 @@ module _ (p : Plan) (gone : ℕ → ℕ → Bool) (current : Option Place) (next
       × IsOrderedWith (d.offset ∷ taken) low end
       (record q { ordered = d ∷ q.ordered }) reads
   ordered_pushed low end q reads near h = (
-    cond-false (before_16 d.ssn q.cursor) q (record q { ordered = d ∷ q.ordered }) test,
+    cond-false (ssn_lt d.ssn q.cursor) q (record q { ordered = d ∷ q.ordered }) test,
     record {
       cursor = h.cursor;
       is = h.is;
@@ -221,13 +221,13 @@ module _ (p : Plan) (gone : ℕ → ℕ → Bool) (current : Option Place) (next
           (λ (g : h.cursor ≤ (place_at p d.offset).ssn). g)
           (cases_lt (place_at p d.offset).ssn h.cursor)
 
-      test : before_16 d.ssn q.cursor ≡ false
+      test : ssn_lt d.ssn q.cursor ≡ false
       test =
           let b = ahead in
           let c = h.above in
           let n = window low end hp d.offset a (h.link d.offset a (omega arith)) near in
-          ap (λ z. before_16 z q.cursor) (ap (λ z. z.ssn) piece.is)
-          ∙ ap (before_16 ((place_at p d.offset).ssn % 65536)) h.is
+          ap (λ z. ssn_lt z q.cursor) (ap (λ z. z.ssn) piece.is)
+          ∙ ap (ssn_lt ((place_at p d.offset).ssn % 65536)) h.is
           ∙ before_is (place_at p d.offset).ssn h.cursor (omega arith) (omega arith) ∙ le-ltb _ _ b
 
   pub stream_pushed : (q : Queue) (reads : List Got) → unread p s reads < 32768

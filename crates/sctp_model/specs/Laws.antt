@@ -3,7 +3,8 @@ use Rattle.std.specs.Prelude.{ℕ, suc, ◌+◌, ◌-◌, ◌*◌, ◌%◌, ◌^
 use Rattle.std.specs.Prelude.{take, Some, None, nat_lt}
 use Rattle.sctp_model.specs.Messages.{piece_of, accepted_bytes}
 use Rattle.sctp_model.specs.Packets.{mem, names}
-use Rattle.sctp_model.specs.Serial.{tsn, before_16, before_32, offset_near, offset_spelt, offset_ahead}
+use Rattle.sctp_serial.specs.Serial.{tsn, tsn_lt}
+use Rattle.sctp_model.specs.Offsets.{offset_near, offset_spelt, offset_ahead}
 use Rattle.sctp_model.specs.Machine.{Direction, Event, Receiver, fresh, happens, run, live, reach, sack_of}
 use Rattle.sctp_model.specs.Safe.{IsSafe, IsWithin, StaysWithin, read_ssn}
 use Rattle.sctp_model.specs.Invariants.{Invariant}
@@ -13,7 +14,7 @@ use Rattle.sctp_model.specs.Invariants.{Invariant}
 abbrev pub TsnsSpellOffsets : Type 0
 TsnsSpellOffsets = (initial reach offset : ℕ) → offset < reach + 2 ^ 31 → reach < offset + 2 ^ 31
     → (offset_near initial reach (tsn initial offset) ≡ offset)
-    × (before_32 (tsn initial reach) (tsn initial offset) ≡ nat_lt reach offset)
+    × (tsn_lt (tsn initial reach) (tsn initial offset) ≡ nat_lt reach offset)
 
 abbrev pub TsnsAheadSpellOffsets : Type 0
 TsnsAheadSpellOffsets = (initial reach offset : ℕ) → reach ≤ offset → offset < reach + 2 ^ 31
@@ -28,11 +29,6 @@ TsnsBeforeTheInitialSpellNone =
 abbrev pub TsnsPastTheInitialSpellSome : Type 0
 TsnsPastTheInitialSpellSome = (initial reach offset : ℕ) → offset < reach + 2 ^ 31 → reach < offset + 2 ^ 31
     → offset_spelt initial reach (tsn initial offset) ≡ Some offset
-
--- Stream sequence numbers compare as the numbers that they were before they wrapped, where those are less than 32,768
--- apart.
-abbrev pub SequenceNumbersCompare : Type 0
-SequenceNumbersCompare = (a b : ℕ) → a < b + 32768 → b < a + 32768 → before_16 (a % 65536) (b % 65536) ≡ nat_lt a b
 
 -- Pieces, one after another, are the bytes.
 abbrev pub PiecesJoin : Type 0

@@ -1,4 +1,4 @@
-pub mod Serial
+pub mod Offsets
 pub mod Messages
 pub mod Packets
 pub mod Reassembly

@@ -2,7 +2,7 @@
 use Rattle.std.specs.Prelude.{ℕ, zero, suc, ◌+◌, ◌%◌, max, Bool, not, ◌&&◌, ◌||◌, List, [], ◌∷◌, ◌++◌, length, flat_map}
 use Rattle.std.specs.Prelude.{filter, Option, Some, None, is_some, ◌==◌, nat_le, if◌then◌else◌}
 use Rattle.sctp_model.specs.Packets.{Data}
-use Rattle.sctp_model.specs.Serial.{before_16, up_to_16}
+use Rattle.sctp_serial.specs.Serial.{ssn_lt, ssn_lte}
 
 -- A message that a read gives: the offset of its first piece, and what the reader sees of it.
 pub record Got : Type 0 where
@@ -72,7 +72,7 @@ got_of r = record {
 
 abbrev pub earlier : ℕ → Option ℕ → ℕ
 earlier c None = c
-earlier c (Some e) = if before_16 e c then e else c
+earlier c (Some e) = if ssn_lt e c then e else c
 
 -- the first stream sequence number held, in their order
 abbrev pub least : List Data → Option ℕ
@@ -110,7 +110,7 @@ taken_out q c (Some r) = Some (record { got = got_of r; rest = without q c })
 
 abbrev pub next_of : Queue → Option ℕ → Option Taken
 next_of q None = None
-next_of q (Some c) = if before_16 q.cursor c then None else taken_out q c (message_in q.ordered c)
+next_of q (Some c) = if ssn_lt q.cursor c then None else taken_out q c (message_in q.ordered c)
 
 -- the first ordered message held, if it is complete and not past the cursor
 abbrev pub next_ordered : Queue → Option Taken
@@ -168,7 +168,7 @@ settle q (Some r) = record q {
 
 -- an ordered piece is kept unless its message lies before the cursor
 abbrev pub push_ordered : Queue → Data → Queue
-push_ordered q d = if before_16 d.ssn q.cursor then q else record q { ordered = d ∷ q.ordered }
+push_ordered q d = if ssn_lt d.ssn q.cursor then q else record q { ordered = d ∷ q.ordered }
 
 -- an unordered piece is kept, and where it completes its message, that is ready
 abbrev pub with_unordered : Queue → Data → Queue
@@ -184,8 +184,8 @@ push q d = if d.ordered then push_ordered q d else push_unordered q d
 -- and the cursor moves past m where it was not past it.
 abbrev pub skip : Queue → ℕ → Queue
 skip q m = record q {
-  cursor = if up_to_16 q.cursor m then (m + 1) % 65536 else q.cursor;
-  ordered = filter (λ (d : Data). not (up_to_16 d.ssn m) || is_some (message_in q.ordered d.ssn)) q.ordered;
+  cursor = if ssn_lte q.cursor m then (m + 1) % 65536 else q.cursor;
+  ordered = filter (λ (d : Data). not (ssn_lte d.ssn m) || is_some (message_in q.ordered d.ssn)) q.ordered;
 }
 
 abbrev pub skip_if : Queue → Option ℕ → Queue

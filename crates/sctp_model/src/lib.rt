@@ -3,7 +3,7 @@
 
 ghost use Rattle.sctp_model.specs.Laws.{EachEventKeepsTheInvariant, OneDirectionIsSafe, TheInvariantHolds};
 ghost use Rattle.sctp_model.specs.Laws.{TheInvariantIsEnough, NoMoreIsReleased, PiecesJoin, ReachIsGreatest};
-ghost use Rattle.sctp_model.specs.Laws.{SacksAreExact, SequenceNumbersCompare, TheCursorIsPastTheLater};
+ghost use Rattle.sctp_model.specs.Laws.{SacksAreExact, TheCursorIsPastTheLater};
 ghost use Rattle.sctp_model.specs.Laws.{TsnsAheadSpellOffsets, TsnsBeforeTheInitialSpellNone};
 ghost use Rattle.sctp_model.specs.Laws.{TsnsPastTheInitialSpellSome, TsnsSpellOffsets};
 ghost use Rattle.sctp_model.specs.Runs.{ClosedReadsNothing, DroppedUnsent, FirstAbandonedAndSkipped};
@@ -18,12 +18,6 @@ pub fn tsns_spell_offsets()
     ensures ahead { TsnsAheadSpellOffsets }
     ensures before { TsnsBeforeTheInitialSpellNone }
     ensures past { TsnsPastTheInitialSpellSome }
-{}
-
-/// Stream sequence numbers of 16 bits, as long as they are less than half the range apart (RFC 4960 sections 1.6 and
-/// 6.5).
-pub fn sequence_numbers_compare()
-    ensures { SequenceNumbersCompare }
 {}
 
 /// The cut of a message into pieces (RFC 4960 section 6.9).

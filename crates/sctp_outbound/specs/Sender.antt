@@ -2,7 +2,7 @@
 use Rattle.std.specs.Prelude.{ℕ, is_some, zero, suc, not, nat_lt, ◌++◌, slice_set, Bool, false, List, [], ◌∷◌, ◌+◌, ◌-◌}
 use Rattle.std.specs.Prelude.{◌*◌, ◌/◌, ◌%◌, ◌^◌, ◌==◌, ◌&&◌, if◌then◌else◌, length, min, max, nat_le, slice_get}
 use Rattle.std.specs.Prelude.{Option, Some, None}
-use Rattle.sctp_wire_types.specs.Serial.{tsn_past, tsn_gt, tsn_gte}
+use Rattle.sctp_serial.specs.Serial.{tsn_past, tsn_gt, tsn_gte}
 use Rattle.sctp_wire_types.specs.declared.chunk.ChunkPayloadData.{ChunkPayloadData}
 use Rattle.sctp_parts.specs.declared.timer.Timer.TheVariants as names
 use Rattle.sctp_parts.specs.Timers.{Timers, with_moment, without_retries, restarted_if_stale, with_stopped}

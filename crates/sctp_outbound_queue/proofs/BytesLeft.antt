@@ -5,7 +5,7 @@ use Rattle.std.specs.Prelude.{sum_by, find}
 use Rattle.std.specs.List.{list_all}
 use Rattle.std.proofs.lemmas.List.Sums.{sum_by-cons, sum_by_push}
 use Rattle.std.proofs.lemmas.Bool.{cases_Bool}
-use Rattle.sctp_wire_types.specs.Serial.{tsn_past}
+use Rattle.sctp_serial.specs.Serial.{tsn_past}
 use Rattle.sctp_outbound_queue.specs.declared.message.Attributes.{Attributes}
 use Rattle.sctp_outbound_queue.specs.declared.message.InFlight.{InFlight}
 use Rattle.sctp_outbound_queue.specs.declared.queue.Released.{Released}

@@ -2,7 +2,7 @@
 ghost use Rattle.std.specs.Prelude.{◌≡◌, ◌==◌, ◌&&◌, ◌+◌, ◌-◌, ◌^◌, length, map, min, nat_lt, position, slice_get};
 ghost use Rattle.std.specs.Prelude.{IfOk, OnOk, OnErr};
 ghost use Rattle.std.specs.Option.{option_copied, option_map};
-ghost use Rattle.sctp_wire_types.specs.Serial.{tsn_past};
+ghost use Rattle.sctp_serial.specs.Serial.{tsn_past};
 ghost use Rattle.sctp_outbound_queue.specs.Message.{is_outstanding, is_expired_piece, is_expired_unsent, counted_again};
 ghost use Rattle.sctp_outbound_queue.specs.Message.{counted_fast, missed, marked_again, flagged, waiting_started};
 ghost use Rattle.sctp_outbound_queue.specs.Message.{sent_started, moved_down, sent_once};

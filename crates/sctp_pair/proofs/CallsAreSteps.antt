@@ -5,7 +5,7 @@ use Rattle.std.proofs.lemmas.Bool.{cases_Bool, true≢false}
 use Rattle.sctp_receive_queues.specs.Messages as letters
 use Rattle.sctp_model.specs.Messages.{Message}
 use Rattle.sctp_model.specs.Packets.{mem}
-use Rattle.sctp_model.specs.Serial.{tsn}
+use Rattle.sctp_serial.specs.Serial.{tsn}
 use Rattle.sctp_model.specs.Machine.{Direction, Sender}
 use Rattle.sctp_model.proofs.Lists.{all_join}
 use Rattle.sctp_assoc.specs.Calls.{is_established}

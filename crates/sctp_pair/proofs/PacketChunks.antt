@@ -14,7 +14,7 @@ use Rattle.sctp_wire.specs.declared.packet.Packet.{Packet}
 use Rattle.sctp_model.specs.Invariants.{IsPiece}
 use Rattle.sctp_model.specs.Messages.{Place}
 use Rattle.sctp_model.specs.Packets.{Data}
-use Rattle.sctp_model.specs.Serial.{tsn}
+use Rattle.sctp_serial.specs.Serial.{tsn}
 use Rattle.sctp_model.specs.Machine.{Sender}
 use Rattle.sctp_model.specs.Safe.{IsWithin}
 use Rattle.sctp_model.proofs.Lists.{all_get}

@@ -12,7 +12,7 @@ use Rattle.sctp_streams.specs.Streams.{stream_at}
 use Rattle.sctp_model.specs.Messages as model
 use Rattle.sctp_model.specs.Messages.{accepted_bytes, is_reliable, message_at}
 use Rattle.sctp_model.specs.Packets.{mem}
-use Rattle.sctp_model.specs.Serial.{tsn}
+use Rattle.sctp_serial.specs.Serial.{tsn}
 use Rattle.sctp_model.specs.Reassembly as queue
 use Rattle.sctp_model.specs.Machine.{Direction, Event, fresh, live, run}
 use Rattle.sctp_model.specs.Safe.{IsSafe, IsWithin, letter_read}

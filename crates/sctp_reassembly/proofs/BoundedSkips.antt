@@ -6,13 +6,12 @@ use Rattle.std.specs.List.{AllByRecursion}
 use Rattle.std.proofs.lemmas.Bool.{cases_Bool, and_from, and_parts, eqb-true, eq-eqb, ne_eqb, leb-true, leb-false}
 use Rattle.std.proofs.lemmas.Bool.{ltb-true, lt-ltb, le-ltb, or_cases, or_left, or_right, true≢false}
 use Rattle.std.proofs.lemmas.Bool.{false_from_ne_true}
-use Rattle.sctp_wire_types.specs.Serial.{ssn_lte, tsn_lt}
+use Rattle.sctp_serial.specs.Serial.{ssn_lte, tsn_lt, ssn_lt, ssn_past, tsn}
 use Rattle.sctp_wire_types.specs.declared.chunk.ChunkPayloadData.{ChunkPayloadData}
 use Rattle.sctp_receive_queues.specs.Pieces.{is_later, last_of}
 use Rattle.sctp_receive_queues.specs.Reassembly.{Group, Reassembly, bounded, skipped}
 use Rattle.sctp_model.specs.Messages.{Plan, place_at}
 use Rattle.sctp_model.specs.Packets.{Data, mem, data_at}
-use Rattle.sctp_model.specs.Serial.{before_16, past_16, tsn, up_to_16}
 use Rattle.sctp_model.specs.Reassembly.{Queue, at, least, message_in, skip}
 use Rattle.sctp_model.specs.Safe.{AreRising}
 use Rattle.sctp_model.specs.Invariants.{IsHeld, IsPlanned}
@@ -84,7 +83,7 @@ module _ {initial : ℕ} {p : Plan} {s : ℕ} {g : Group} {h : Held} (o : ℕ) (
 -- The first message up to m that has a piece past the offset.
 
 abbrev up_to : Plan → ℕ → ℕ → Bool
-up_to p m x = up_to_16 ((place_at p x).ssn % 65536) m
+up_to p m x = ssn_lte ((place_at p x).ssn % 65536) m
 
 record IsFirst (p : Plan) (m o : ℕ) (hs : List Held) (bound : ℕ) : Type 0 where
   pub offset : ℕ
@@ -102,7 +101,7 @@ record IsNowhere (p : Plan) (m o : ℕ) (hs : List Held) (bound : ℕ) : Type 0 
 -- The same of what the model holds.
 
 abbrev is_past : ℕ → ℕ → Data → Bool
-is_past m o d = up_to_16 d.ssn m && ltb o d.offset
+is_past m o d = ssn_lte d.ssn m && ltb o d.offset
 
 filter_none : (f : Data → Bool) (held : List Data) → AllByRecursion (λ (d : Data). f d ≡ false) held
     → filter f held ≡ []
@@ -122,8 +121,8 @@ none_past p m o q exact none =
     out d i e f =
         ⊎_elim
         (λ (b : ltb o d.offset ≡ true).
-        ap (λ z. z && ltb o d.offset) (ap (λ z. up_to_16 z.ssn m) i ∙ none d.offset e f (ltb-true o d.offset b)))
-        (λ (b : ltb o d.offset ≡ false). ap (λ z. up_to_16 d.ssn m && z) b ∙ and_none (up_to_16 d.ssn m))
+        ap (λ z. z && ltb o d.offset) (ap (λ z. ssn_lte z.ssn m) i ∙ none d.offset e f (ltb-true o d.offset b)))
+        (λ (b : ltb o d.offset ≡ false). ap (λ z. ssn_lte d.ssn m && z) b ∙ and_none (ssn_lte d.ssn m))
         (cases_Bool (ltb o d.offset))
 
 -- the least number of those past the offset, without wrap
@@ -156,7 +155,7 @@ module _ {p : Plan} {came : List ℕ} {s low cursor : ℕ} {q : Queue} (w : IsIn
       let d = t.0 in
       let hd = t.1.0.0.0 in
       let nd = t.1.0.0.1 in
-      let passed = and_parts (up_to_16 d.ssn m) (ltb o d.offset) t.1.0.1 in
+      let passed = and_parts (ssn_lte d.ssn m) (ltb o d.offset) t.1.0.1 in
       let there = t.1.1 in
       let ha = hd.above in
       let la = l.above in
@@ -168,7 +167,7 @@ module _ {p : Plan} {came : List ℕ} {s low cursor : ℕ} {q : Queue} (w : IsIn
         piece = there.1 ∙ ap Some ((at_found (IsHeld p came s true low) d.offset q.ordered there.0 there.1 w.held).0.is
             ∙ ap (data_at p) (at_found (IsHeld p came s true low) d.offset q.ordered there.0 there.1 w.held).1);
         past = ltb-true o d.offset passed.1;
-        until = sym (ap (λ z. up_to_16 z.ssn m) hd.is) ∙ passed.0;
+        until = sym (ap (λ z. ssn_lte z.ssn m) hd.is) ∙ passed.0;
         is = sym t.2 ∙ ssn_is p came s low true d hd;
         above = hd.above;
         near = nd;
@@ -203,18 +202,18 @@ module _ (initial : ℕ) (p : Plan) (over : ℕ → Bool) (came : List ℕ) (s l
       let i = a.0 in
       let z = has_end o small l i in
       let test : (ssn_lte g.ssn m && is_later (tsn initial o) (last_of g.pieces))
-      ≡ (up_to_16 (h.number % 65536) m && ltb o z.offset)
+      ≡ (ssn_lte (h.number % 65536) m && ltb o z.offset)
       =
       ap (λ y. ssn_lte y m && is_later (tsn initial o) (last_of g.pieces)) i.ssn
-      ∙ ap (λ y. up_to_16 (h.number % 65536) m && y) z.test in
+      ∙ ap (λ y. ssn_lte (h.number % 65536) m && y) z.test in
       let number : (x : ℕ) → mem x h.offsets ≡ true → (place_at p x).ssn ≡ h.number =
       (λ x k. (all_mem (IsOf p s h.number) h.offsets x i.mine k).is) in
       let later : (x : ℕ) → mem x (offsets_in hs) ≡ true → h.number < (place_at p x).ssn =
       (λ x k. later_number p h hs x r (number_in initial p s gs hs x a.1 k)) in
       let chosen : ℕ = (g.ssn + 2 ^ 16 - 1) % 2 ^ 16 in
       ⊎_elim
-      (λ (b : (up_to_16 (h.number % 65536) m && ltb o z.offset) ≡ true).
-      let parts = and_parts (up_to_16 (h.number % 65536) m) (ltb o z.offset) b in
+      (λ (b : (ssn_lte (h.number % 65536) m && ltb o z.offset) ≡ true).
+      let parts = and_parts (ssn_lte (h.number % 65536) m) (ltb o z.offset) b in
       let n = number z.offset z.among in
       inr (record {
         offset = z.offset;
@@ -223,13 +222,13 @@ module _ (initial : ℕ) (p : Plan) (over : ℕ → Bool) (came : List ℕ) (s l
         is = ap (λ y. cond y ((g.ssn + 2 ^ 16 - 1) % 2 ^ 16) (bounded gs m (tsn initial o))) (test ∙ b)
             ∙ ap (λ y. (y + 2 ^ 16 - 1) % 2 ^ 16) (i.ssn ∙ ap (λ y. y % 65536) (sym n))
             ∙ one_before ((place_at p z.offset).ssn % 65536);
-        until = ap (λ y. up_to_16 (y % 65536) m) n ∙ parts.0;
+        until = ap (λ y. ssn_lte (y % 65536) m) n ∙ parts.0;
         first = λ x k f u. ⊎_elim
             (λ (here : mem x h.offsets ≡ true). let e = number x here in omega (arith, n))
             (λ (there : mem x (offsets_in hs) ≡ true). let e = later x there in omega (arith, n))
             (mem_cases x h.offsets (offsets_in hs) k);
       }))
-      (λ (b : (up_to_16 (h.number % 65536) m && ltb o z.offset) ≡ false).
+      (λ (b : (ssn_lte (h.number % 65536) m && ltb o z.offset) ≡ false).
       let same : bounded (g ∷ gs) m (tsn initial o) ≡ bounded gs m (tsn initial o)
       = ap (λ y. cond y ((g.ssn + 2 ^ 16 - 1) % 2 ^ 16) (bounded gs m (tsn initial o))) (test ∙ b) in
       let out : (x : ℕ) → mem x h.offsets ≡ true → o < x → up_to p m x ≡ false
@@ -237,7 +236,7 @@ module _ (initial : ℕ) (p : Plan) (over : ℕ → Bool) (came : List ℕ) (s l
       let e = number x k in
       let top = z.greatest x k in
       true≢false
-      (sym (and_from (up_to_16 (h.number % 65536) m) (ltb o z.offset) (ap (λ y. up_to_16 (y % 65536) m) (sym e) ∙ u)
+      (sym (and_from (ssn_lte (h.number % 65536) m) (ltb o z.offset) (ap (λ y. ssn_lte (y % 65536) m) (sym e) ∙ u)
       (lt-ltb o z.offset (omega (arith, f, top)))) ∙ b))) in
       ⊎_elim
       (λ (t : IsNowhere p m o hs (bounded gs m (tsn initial o))). inl (record {
@@ -259,7 +258,7 @@ module _ (initial : ℕ) (p : Plan) (over : ℕ → Bool) (came : List ℕ) (s l
             (mem_cases x h.offsets (offsets_in hs) k);
       }))
       (bounded_first gs hs a.1 r.1))
-      (cases_Bool (up_to_16 (h.number % 65536) m && ltb o z.offset))
+      (cases_Bool (ssn_lte (h.number % 65536) m && ltb o z.offset))
     where
       one_before : (c : ℕ) → (c + 2 ^ 16 - 1) % 2 ^ 16 ≡ (c + 65535) % 65536
       one_before c = omega arith
@@ -312,14 +311,14 @@ record IsBound (p : Plan) (o b : ℕ) (q : Queue) : Type 0 where
       → (next ≤ (place_at p y).ssn) × ((place_at p y).ssn < next + 32767)
 
 -- a number from the next one on isn't up to the bound
-not_up_to : (k next : ℕ) → next ≤ k → k < next + 32767 → up_to_16 (k % 65536) ((next + 65535) % 65536) ≡ false
+not_up_to : (k next : ℕ) → next ≤ k → k < next + 32767 → ssn_lte (k % 65536) ((next + 65535) % 65536) ≡ false
 not_up_to k next l u =
-    let e : past_16 (k % 65536) ((next + 65535) % 65536) ≡ 65535 + next - k = omega arith in
-    let b : before_16 (k % 65536) ((next + 65535) % 65536) ≡ false
+    let e : ssn_past (k % 65536) ((next + 65535) % 65536) ≡ 65535 + next - k = omega arith in
+    let b : ssn_lt (k % 65536) ((next + 65535) % 65536) ≡ false
     =
     ap (λ z. ltb 0 z && ltb z 32768) e ∙ ap (λ z. ltb 0 (65535 + next - k) && z)
     (le-ltb (65535 + next - k) 32768 (omega arith)) ∙ and_none (ltb 0 (65535 + next - k)) in
-    ap (λ z. z || before_16 (k % 65536) ((next + 65535) % 65536))
+    ap (λ z. z || ssn_lt (k % 65536) ((next + 65535) % 65536))
     (ne_eqb (k % 65536) ((next + 65535) % 65536) (λ (i : k % 65536 ≡ (next + 65535) % 65536). omega arith)) ∙ b
 
 module _ (p : Plan) (came : List ℕ) (s low cursor n o : ℕ) (q : Queue) (w : IsInWindow p came s low cursor q)
@@ -391,11 +390,11 @@ module _ (p : Plan) (came : List ℕ) (s low cursor n o : ℕ) (q : Queue) (w : 
         let u = t.until y e g k in
         let u0 = u.0 in
         let u1 = u.1 in
-        let out : up_to_16 ((place_at p x).ssn % 65536) b ≡ false
+        let out : ssn_lte ((place_at p x).ssn % 65536) b ≡ false
         =
-        ap (up_to_16 ((place_at p x).ssn % 65536)) t.is
+        ap (ssn_lte ((place_at p x).ssn % 65536)) t.is
         ∙ not_up_to (place_at p x).ssn t.next (omega (arith, n, u0)) (omega (arith, n, u1)) in
-        at_filtered p (λ (z : Data). not (up_to_16 z.ssn b) || is_some (message_in q.ordered z.ssn)) x q.ordered
+        at_filtered p (λ (z : Data). not (ssn_lte z.ssn b) || is_some (message_in q.ordered z.ssn)) x q.ordered
         (all_weaker _ _ q.ordered (λ z i. i.is) w.held)
         ∙ ap (λ z. cond (not z || is_some (message_in q.ordered ((place_at p x).ssn % 65536))) (at x q.ordered) None)
         out
@@ -408,15 +407,15 @@ module _ (p : Plan) (came : List ℕ) (s low cursor n o : ℕ) (q : Queue) (w : 
         let number : e.ssn ≡ (place_at p y).ssn % 65536 =
         ssn_is p came s low true e i.0 ∙ ap (λ z. (place_at p z).ssn % 65536) i.1 in
         ⊎_elim
-        (λ (z : up_to_16 q.cursor b ≡ true).
-        ap (λ v. before_16 e.ssn (cond v ((b + 1) % 65536) q.cursor)) z
-        ∙ ap (λ v. before_16 e.ssn ((v + 1) % 65536)) t.is
-        ∙ ap (before_16 e.ssn) (one_on t.next)
-        ∙ ap (λ v. before_16 v (t.next % 65536)) number
+        (λ (z : ssn_lte q.cursor b ≡ true).
+        ap (λ v. ssn_lt e.ssn (cond v ((b + 1) % 65536) q.cursor)) z
+        ∙ ap (λ v. ssn_lt e.ssn ((v + 1) % 65536)) t.is
+        ∙ ap (ssn_lt e.ssn) (one_on t.next)
+        ∙ ap (λ v. ssn_lt v (t.next % 65536)) number
         ∙ before_is (place_at p y).ssn t.next (omega arith) (omega arith)
         ∙ le-ltb (place_at p y).ssn t.next u0)
-        (λ (z : up_to_16 q.cursor b ≡ false). ap (λ v. before_16 e.ssn (cond v ((b + 1) % 65536) q.cursor)) z ∙ f)
-        (cases_Bool (up_to_16 q.cursor b));
+        (λ (z : ssn_lte q.cursor b ≡ false). ap (λ v. ssn_lt e.ssn (cond v ((b + 1) % 65536) q.cursor)) z ∙ f)
+        (cases_Bool (ssn_lte q.cursor b));
   }
     where
       one_on : (x : ℕ) → ((x + 65535) % 65536 + 1) % 65536 ≡ x % 65536
@@ -424,13 +423,13 @@ module _ (p : Plan) (came : List ℕ) (s low cursor n o : ℕ) (q : Queue) (w : 
 
   bounded_spares : AllByRecursion (λ (d : Data). (place_at p d.offset).ssn < n + 32768) q.ordered
       → IsSpared p o (bounded_at q (n % 65536) o) q
-      × (((x : ℕ) (d : Data) → at x q.ordered ≡ Some d → o < x → up_to_16 d.ssn (n % 65536) ≡ false) → bounded_at q (n %
+      × (((x : ℕ) (d : Data) → at x q.ordered ≡ Some d → o < x → ssn_lte d.ssn (n % 65536) ≡ false) → bounded_at q (n %
       65536) o ≡ n % 65536)
   bounded_spares a = (
     spared (bounded_at q (n % 65536) o) (bound_is a),
     λ none. none_past p (n % 65536) o q (all_weaker _ _ q.ordered (λ d i. i.is) w.held) (λ x d e k.
         let t = at_found (IsHeld p came s true low) x q.ordered d e w.held in
-        sym (ap (λ z. up_to_16 z.ssn (n % 65536)) (t.0.is ∙ ap (data_at p) t.1)) ∙ none x d e k),
+        sym (ap (λ z. ssn_lte z.ssn (n % 65536)) (t.0.is ∙ ap (data_at p) t.1)) ∙ none x d e k),
   )
 
 pub bounded_skips_spare : BoundedSkipsSpare

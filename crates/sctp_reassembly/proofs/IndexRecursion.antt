@@ -4,7 +4,7 @@ use Rattle.std.proofs.Common.{insert, slice_get, unwrap_or, Option, Some, None, 
 use Rattle.std.specs.Prelude.{⊤}
 use Rattle.std.specs.List.{position_or_len}
 use Rattle.std.proofs.lemmas.Bool.{cases_Bool, cases_lt, lt-ltb, le-ltb}
-use Rattle.sctp_wire_types.specs.Serial.{tsn_lt, ssn_lt}
+use Rattle.sctp_serial.specs.Serial.{tsn_lt, ssn_lt}
 use Rattle.sctp_wire_types.specs.declared.chunk.ChunkPayloadData.{ChunkPayloadData}
 use Rattle.sctp_receive_queues.specs.Reassembly.{Group, group_of, grown, grown_at, put_at, with_ordered, index_of_ssn}
 use Rattle.sctp_receive_queues.specs.Reassembly.{index_for_ssn}

@@ -7,7 +7,7 @@ use Rattle.sctp_receive_queues.specs.Messages.{ReceivedMessage}
 use Rattle.sctp_receive_queues.specs.Reassembly.{Reassembly, pushed, taken, unordered_skipped, refusal}
 use Rattle.sctp_model.specs.Messages.{Plan}
 use Rattle.sctp_model.specs.Packets.{Data, Forward, mem, skips}
-use Rattle.sctp_model.specs.Serial.{tsn}
+use Rattle.sctp_serial.specs.Serial.{tsn}
 use Rattle.sctp_model.specs.Reassembly.{Queue, Taken, at, drop_unordered, next, push, skip_if}
 use Rattle.sctp_model.specs.Machine.{Direction, Event, data_comes, forward_comes, forwarded, happens, is_new, live}
 use Rattle.sctp_model.specs.Machine.{passes, reach, read, took, was_read}

@@ -3,7 +3,7 @@ use Rattle.std.proofs.Common.{ℕ, ◌+◌, ◌^◌, ◌<◌, ◌≤◌, ◌≡�
 use Rattle.std.proofs.Common.{Option, Some, None, refl, sym, ap, ◌∙◌, subst, inl, inr, ⊎_elim, arith}
 use Rattle.std.specs.List.{AllByRecursion}
 use Rattle.std.proofs.lemmas.Bool.{cases_Bool, eqb-true, cond-true, cond-false, false_from_ne_true}
-use Rattle.sctp_wire_types.specs.Serial.{ssn_lt}
+use Rattle.sctp_serial.specs.Serial.{ssn_lt}
 use Rattle.sctp_wire_types.specs.declared.chunk.ChunkPayloadData.{ChunkPayloadData}
 use Rattle.sctp_wire_types.specs.declared.error.Error.{Error}
 use Rattle.sctp_wire_types.specs.declared.error.Error.TheVariants as errors
@@ -13,7 +13,6 @@ use Rattle.sctp_receive_queues.specs.Reassembly.{refusal_of_ordered, refusal_of_
 use Rattle.sctp_receive_queues.specs.Reassembly.{with_put}
 use Rattle.sctp_model.specs.Messages.{Plan, place_at}
 use Rattle.sctp_model.specs.Packets.{Data, mem, data_at}
-use Rattle.sctp_model.specs.Serial.{before_16}
 use Rattle.sctp_model.specs.Reassembly.{Queue, at, push, push_ordered, push_unordered}
 use Rattle.sctp_model.specs.Invariants.{IsPlanned}
 use Rattle.sctp_model.proofs.Lists.{all_weaker}
@@ -143,7 +142,7 @@ module _ (initial : ℕ) (p : Plan) (over : ℕ → Bool) (came : List ℕ) (s l
       let d = data_at p o in
       let after : Reassembly = record r { ordered = with_ordered r.ordered c } in
       let plain : c.unordered ≡ false = i.ordered ∙ ap not kind in
-      let b = before_16 d.ssn q.cursor in
+      let b = ssn_lt d.ssn q.cursor in
       let test : ssn_lt c.stream_sequence_number r.next_ssn ≡ b =
       ap (λ z. ssn_lt z r.next_ssn) i.ssn ∙ ap (ssn_lt d.ssn) st.next in
       let model : push q d ≡ cond b q (with_piece q d) =

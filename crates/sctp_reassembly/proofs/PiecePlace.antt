@@ -5,13 +5,12 @@ use Rattle.std.specs.List.{AllByRecursion}
 use Rattle.std.proofs.lemmas.Bool.{cases_Bool, cases_eq, eqb-false, eq-eqb, ne_eqb, ltb-true, ltb-false, or_parts}
 use Rattle.std.proofs.lemmas.Bool.{cond-false}
 use Rattle.sctp_wire_types.specs.Ids.{number_of}
-use Rattle.sctp_wire_types.specs.Serial.{tsn_lt}
+use Rattle.sctp_serial.specs.Serial.{tsn_lt, tsn}
 use Rattle.sctp_wire_types.specs.declared.chunk.ChunkPayloadData.{ChunkPayloadData}
 use Rattle.sctp_receive_queues.specs.Pieces.{begins, breaks_ends, contradicts, ends, has_other_type, has_tsn}
 use Rattle.sctp_receive_queues.specs.Pieces.{is_last as is_last_piece, index_of}
 use Rattle.sctp_model.specs.Messages.{Plan, place_at, is_last}
 use Rattle.sctp_model.specs.Packets.{mem, data_at}
-use Rattle.sctp_model.specs.Serial.{tsn}
 use Rattle.sctp_model.specs.Safe.{AreRising}
 use Rattle.sctp_model.specs.Invariants.{IsPlanned}
 use Rattle.sctp_model.proofs.Lists.{all_weaker}

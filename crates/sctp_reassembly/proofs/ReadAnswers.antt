@@ -2,13 +2,12 @@
 use Rattle.std.proofs.Common.{ℕ, ◌%◌, ◌^◌, ◌<◌, ◌≤◌, ◌≡◌, Bool, true, false, cond, not, eqb, ltb, leb, ◌&&◌, List, []}
 use Rattle.std.proofs.Common.{◌∷◌, length, map, Option, Some, None, refl, sym, ap, ◌∙◌, subst, ⊎_elim, arith}
 use Rattle.std.proofs.lemmas.Bool.{cases_lt, lt-ltb, le-ltb, lt-leb, le-leb}
-use Rattle.sctp_wire_types.specs.Serial.{ssn_lte}
+use Rattle.sctp_serial.specs.Serial.{ssn_lte, ssn_lt}
 use Rattle.sctp_receive_queues.specs.Messages.{ReceivedMessage, message_of as the_message}
 use Rattle.sctp_receive_queues.specs.Pieces.{is_complete}
 use Rattle.sctp_receive_queues.specs.Reassembly.{Group, Reassembly, after_read, is_due, read_from, read_ordered, taken}
 use Rattle.sctp_model.specs.Messages.{Plan, place_at}
 use Rattle.sctp_model.specs.Packets.{Data, mem, data_at}
-use Rattle.sctp_model.specs.Serial.{before_16}
 use Rattle.sctp_model.specs.Reassembly.{Got, Queue, Run, at, got_of, least, message_in, without, taken_out, next_of}
 use Rattle.sctp_model.specs.Reassembly.{next_from, next_ordered, next}
 use Rattle.sctp_model.specs.Safe.{AreRising, letter_read}
@@ -42,7 +41,7 @@ module _ {initial : ℕ} {p : Plan} {over : ℕ → Bool} {came : List ℕ} {s l
   -- it is due where its number isn't past the cursor
   first_due : (g : Group) (h : Held) → IsGroup initial p s g h → IsAlone p s q.ordered h
       → (ssn_lte g.ssn r.next_ssn ≡ leb h.number cursor)
-      × (before_16 q.cursor (h.number % 65536) ≡ not (leb h.number cursor))
+      × (ssn_lt q.cursor (h.number % 65536) ≡ not (leb h.number cursor))
   first_due g h i a =
       let b = in_window w a.first a.all.from.there.0 in
       let b0 = b.0 in
@@ -52,7 +51,7 @@ module _ {initial : ℕ} {p : Plan} {over : ℕ → Bool} {came : List ℕ} {s l
       let until = w.until in (
         ap (λ z. ssn_lte z r.next_ssn) i.ssn ∙ ap (ssn_lte (h.number % 65536)) (st.next ∙ w.is)
             ∙ up_to_is h.number cursor (omega arith) (omega arith),
-        ap (λ z. before_16 z (h.number % 65536)) w.is ∙ before_is cursor h.number (omega arith) (omega arith)
+        ap (λ z. ssn_lt z (h.number % 65536)) w.is ∙ before_is cursor h.number (omega arith) (omega arith)
             ∙ turned cursor h.number,
       )
     where

@@ -6,7 +6,7 @@ use Rattle.std.proofs.lemmas.Bool.{cases_Bool, eqb-true, eq-eqb, ne_eqb, cond-tr
 use Rattle.sctp_receive_queues.specs.Reassembly.{Group, Reassembly, after_read}
 use Rattle.sctp_model.specs.Messages.{Plan, place_at}
 use Rattle.sctp_model.specs.Packets.{Data, mem, data_at}
-use Rattle.sctp_model.specs.Serial.{before_16}
+use Rattle.sctp_serial.specs.Serial.{ssn_lt}
 use Rattle.sctp_model.specs.Reassembly.{Queue, at, earlier, least, without}
 use Rattle.sctp_model.specs.Safe.{AreRising}
 use Rattle.sctp_model.specs.Invariants.{IsHeld}
@@ -30,10 +30,10 @@ least_among P (d ∷ ds) c a e =
     go None i f g = (d, a.0, g)
     go (Some x) i f g =
         ⊎_elim
-        (λ (b : before_16 x d.ssn ≡ true). let r = i x f in
-        (r.0, r.1, r.2 ∙ sym (cond-true (before_16 x d.ssn) x d.ssn b) ∙ g))
-        (λ (b : before_16 x d.ssn ≡ false). (d, a.0, sym (cond-false (before_16 x d.ssn) x d.ssn b) ∙ g))
-        (cases_Bool (before_16 x d.ssn))
+        (λ (b : ssn_lt x d.ssn ≡ true). let r = i x f in
+        (r.0, r.1, r.2 ∙ sym (cond-true (ssn_lt x d.ssn) x d.ssn b) ∙ g))
+        (λ (b : ssn_lt x d.ssn ≡ false). (d, a.0, sym (cond-false (ssn_lt x d.ssn) x d.ssn b) ∙ g))
+        (cases_Bool (ssn_lt x d.ssn))
 
 pub near_too : (p : Plan) (low : ℕ) (d : Data) → IsNearBy p low d → IsNear p low d
 unfolding IsNear

@@ -8,7 +8,7 @@ use Rattle.sctp_receive_queues.specs.Reassembly.{ready as view_ready}
 use Rattle.sctp_receive_queues.proofs.ReadyMessages.{TakesOne, takes_one}
 use Rattle.sctp_model.specs.Messages.{Plan}
 use Rattle.sctp_model.specs.Packets.{Data}
-use Rattle.sctp_model.specs.Serial.{before_16}
+use Rattle.sctp_serial.specs.Serial.{ssn_lt}
 use Rattle.sctp_model.specs.Reassembly.{Got, Queue, Run, Taken, drain, drain_on, got_of, least, message_in, next}
 use Rattle.sctp_model.specs.Reassembly.{next_from, next_of, taken_out, waiting, without, ready}
 use Rattle.sctp_model.specs.Safe.{letter_read}
@@ -77,11 +77,11 @@ module _ {p : Plan} {came : List ℕ} {s low cursor : ℕ} {q : Queue} (w : IsIn
       due : (c : Option ℕ) → least q.ordered ≡ c → next_of q c ≡ Some t → HasWindow p came s low t.rest
       due None l f = absurd (cc)
       due (Some c) l f = ⊎_elim
-          (λ (b : before_16 q.cursor c ≡ true). absurd (let n : None ≡ Some t =
-          sym (cond-true (before_16 q.cursor c) None (taken_out q c (message_in q.ordered c)) b) ∙ f in cc))
-          (λ (b : before_16 q.cursor c ≡ false). taken_so c (message_in q.ordered c) l
-          (sym (cond-false (before_16 q.cursor c) None (taken_out q c (message_in q.ordered c)) b) ∙ f))
-          (cases_Bool (before_16 q.cursor c))
+          (λ (b : ssn_lt q.cursor c ≡ true). absurd (let n : None ≡ Some t =
+          sym (cond-true (ssn_lt q.cursor c) None (taken_out q c (message_in q.ordered c)) b) ∙ f in cc))
+          (λ (b : ssn_lt q.cursor c ≡ false). taken_so c (message_in q.ordered c) l
+          (sym (cond-false (ssn_lt q.cursor c) None (taken_out q c (message_in q.ordered c)) b) ∙ f))
+          (cases_Bool (ssn_lt q.cursor c))
 
       go : (c : List Got) → next_from q c ≡ Some t → HasWindow p came s low t.rest
       go [] f = due (least q.ordered) refl f

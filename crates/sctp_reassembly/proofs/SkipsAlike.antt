@@ -5,10 +5,9 @@ use Rattle.std.specs.List.{AllByRecursion}
 use Rattle.std.proofs.lemmas.Bool.{cases_Bool}
 use Rattle.sctp_receive_queues.specs.Pieces.{is_complete}
 use Rattle.sctp_receive_queues.specs.Reassembly.{Group, next_after_skip, stays, Reassembly, skipped}
-use Rattle.sctp_wire_types.specs.Serial.{ssn_lte}
+use Rattle.sctp_serial.specs.Serial.{ssn_lte}
 use Rattle.sctp_model.specs.Messages.{Plan, place_at}
 use Rattle.sctp_model.specs.Packets.{Data, mem, data_at}
-use Rattle.sctp_model.specs.Serial.{up_to_16}
 use Rattle.sctp_model.specs.Reassembly.{Queue, Run, message_in, skip}
 use Rattle.sctp_model.specs.Safe.{AreRising, read_end, read_ssn}
 use Rattle.sctp_model.specs.Machine.{live}
@@ -70,7 +69,7 @@ offsets_of_those initial p s keeps (g ∷ gs) (h ∷ hs) x a =
 
 -- a message stays past a skip where it lies past it, or all of it is there
 abbrev pub keeps_past : List Data → ℕ → ℕ → Bool
-keeps_past held m n = not (up_to_16 (n % 65536) m) || is_some (message_in held (n % 65536))
+keeps_past held m n = not (ssn_lte (n % 65536) m) || is_some (message_in held (n % 65536))
 
 module _ (initial : ℕ) (p : Plan) (over : ℕ → Bool) (came : List ℕ) (s low cursor m : ℕ) (r : Reassembly)
     (q : Queue) (hp : IsPlanned p over) (v : over s ≡ false) (small : length p.places < 2 ^ 31)
@@ -94,7 +93,7 @@ module _ (initial : ℕ) (p : Plan) (over : ℕ → Bool) (came : List ℕ) (s l
   same_stays g h i a =
       let done = is_all p a.first a.rest in
       ap (λ z. not (ssn_lte z m) || is_complete g.pieces) i.ssn
-      ∙ ap (λ z. not (up_to_16 (h.number % 65536) m) || z) (group_is small i a ∙ sym (
+      ∙ ap (λ z. not (ssn_lte (h.number % 65536) m) || z) (group_is small i a ∙ sym (
       ap (λ z. found z) (message_is came low hp v w.held w.near a.all)
       ∙ there done (run_at p a.first a.rest)))
     where
@@ -117,7 +116,7 @@ module _ (initial : ℕ) (p : Plan) (over : ℕ → Bool) (came : List ℕ) (s l
             (λ g h i a. same_stays g h i a);
         ascends = rising_those keeps st.held st.ascends;
         same = λ o.
-            at_filtered p (λ (d : Data). not (up_to_16 d.ssn m) || is_some (message_in q.ordered d.ssn)) o q.ordered
+            at_filtered p (λ (d : Data). not (ssn_lte d.ssn m) || is_some (message_in q.ordered d.ssn)) o q.ordered
             (all_weaker _ _ q.ordered (λ d x. x.is) w.held)
             ∙ ap (λ z. cond (keeps (place_at p o).ssn) z None) (st.same o)
             ∙ nested (keeps (place_at p o).ssn) (mem o (offsets_in st.held)) (data_at p o)

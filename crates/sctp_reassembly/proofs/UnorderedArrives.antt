@@ -5,7 +5,7 @@ use Rattle.std.proofs.Common.{append_assoc}
 use Rattle.std.specs.List.{AllByRecursion}
 use Rattle.std.proofs.lemmas.Bool.{cases_Bool, eqb-true, eqb-false, ne_eqb, ltb-true, ltb-false, or_parts, cond-true}
 use Rattle.std.proofs.lemmas.Bool.{cond-false, false_from_ne_true}
-use Rattle.sctp_wire_types.specs.Serial.{ssn_lt}
+use Rattle.sctp_serial.specs.Serial.{ssn_lt}
 use Rattle.sctp_wire_types.specs.declared.chunk.ChunkPayloadData.{ChunkPayloadData}
 use Rattle.sctp_receive_queues.specs.Messages.{message_of}
 use Rattle.sctp_receive_queues.specs.Pieces.{is_complete}

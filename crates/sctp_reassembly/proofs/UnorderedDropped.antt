@@ -4,12 +4,11 @@ use Rattle.std.proofs.Common.{[], ◌∷◌, length, map, filter, Some, None, re
 use Rattle.std.specs.List.{AllByRecursion}
 use Rattle.std.proofs.lemmas.Bool.{cases_Bool, cases_lt, eqb-true, eq-eqb, ne_eqb, leb-true, le-leb, lt-leb, lt-ltb}
 use Rattle.std.proofs.lemmas.Bool.{le-ltb}
-use Rattle.sctp_wire_types.specs.Serial.{tsn_lt, tsn_lte}
+use Rattle.sctp_serial.specs.Serial.{tsn_lt, tsn_lte, tsn}
 use Rattle.sctp_wire_types.specs.declared.chunk.ChunkPayloadData.{ChunkPayloadData}
 use Rattle.sctp_receive_queues.specs.Reassembly.{above, trimmed, Reassembly, unordered_skipped}
 use Rattle.sctp_model.specs.Messages.{Plan, place_at}
 use Rattle.sctp_model.specs.Packets.{Data, mem, data_at}
-use Rattle.sctp_model.specs.Serial.{tsn}
 use Rattle.sctp_model.specs.Safe.{AreRising}
 use Rattle.sctp_model.specs.Invariants.{IsPlanned}
 use Rattle.sctp_model.specs.Reassembly.{drop_unordered, Queue}

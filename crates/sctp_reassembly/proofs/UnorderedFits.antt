@@ -5,7 +5,7 @@ use Rattle.std.proofs.Common.{arith}
 use Rattle.std.specs.List.{AllByRecursion}
 use Rattle.std.proofs.lemmas.Bool.{cases_Bool, eq-eqb, eqb-true, ne_eqb, le-ltb, true≢false}
 use Rattle.sctp_wire_types.specs.Ids.{number_of}
-use Rattle.sctp_wire_types.specs.Serial.{tsn_past}
+use Rattle.sctp_serial.specs.Serial.{tsn_past, tsn}
 use Rattle.sctp_wire_types.specs.declared.chunk.ChunkPayloadData.{ChunkPayloadData}
 use Rattle.sctp_wire_types.specs.declared.error.Error.TheVariants as errors
 use Rattle.sctp_receive_queues.specs.Pieces.{bytes_of, covers, has_other_type, is_last as is_last_piece}
@@ -14,7 +14,6 @@ use Rattle.sctp_receive_queues.specs.Reassembly.{is_torn_after, is_torn_before, 
 use Rattle.sctp_receive_queues.specs.Reassembly.{refusal_between, run_at, run_before, tears}
 use Rattle.sctp_model.specs.Messages.{Plan, place_at, is_last}
 use Rattle.sctp_model.specs.Packets.{data_at}
-use Rattle.sctp_model.specs.Serial.{tsn}
 use Rattle.sctp_model.specs.Invariants.{IsPlanned}
 use Rattle.sctp_model.proofs.Lists.{all_back}
 use Rattle.sctp_reassembly.specs.Stands.{AreRuns, CarryDataOf, IsForBytesAlone, IsLoose, CarriesData}

@@ -7,7 +7,7 @@ use Rattle.sctp_receive_queues.specs.Reassembly.{Reassembly, bounded, empty_reas
 use Rattle.sctp_receive_queues.specs.Reassembly.{refusal, skipped, taken, unordered_skipped}
 use Rattle.sctp_model.specs.Messages.{Plan, place_at}
 use Rattle.sctp_model.specs.Packets.{Data, Forward, data_at, skips}
-use Rattle.sctp_model.specs.Serial.{tsn, up_to_16}
+use Rattle.sctp_serial.specs.Serial.{tsn, ssn_lte}
 use Rattle.sctp_model.specs.Reassembly.{Queue, at, drop_unordered, empty_queue, next, push, ready, skip}
 use Rattle.sctp_model.specs.Machine.{Direction, Event, happens, is_new, live, reach}
 use Rattle.sctp_model.specs.Safe.{IsWithin, letter_read, read_ssn}
@@ -58,7 +58,7 @@ BoundedSkipsSpare = (p : Plan) (came : List ℕ) (s low cursor n o : ℕ) (q : Q
     → IsInWindow p came s low cursor q → n < low + 32768
     → AllByRecursion (λ (d : Data). (place_at p d.offset).ssn < n + 32768) q.ordered
     → IsSpared p o (bounded_at q (n % 65536) o) q
-    × (((x : ℕ) (d : Data) → at x q.ordered ≡ Some d → o < x → up_to_16 d.ssn (n % 65536) ≡ false)
+    × (((x : ℕ) (d : Data) → at x q.ordered ≡ Some d → o < x → ssn_lte d.ssn (n % 65536) ≡ false)
     → bounded_at q (n % 65536) o ≡ n % 65536)
 
 -- An empty reassembly stands for an empty queue.

@@ -12,7 +12,7 @@ use Rattle.sctp_receive_queues.specs.Pieces.{is_complete}
 use Rattle.sctp_receive_queues.specs.Reassembly.{Group, Reassembly, skipped}
 use Rattle.sctp_model.specs.Messages.{Plan, IsAt, place_at, is_last}
 use Rattle.sctp_model.specs.Packets.{Data, mem, data_at}
-use Rattle.sctp_model.specs.Serial.{before_16, tsn, up_to_16}
+use Rattle.sctp_serial.specs.Serial.{ssn_lt, tsn, ssn_lte}
 use Rattle.sctp_model.specs.Reassembly.{Got, Queue, Taken, at, least, skip}
 use Rattle.sctp_model.specs.Safe.{AreRising, Letter, letter_read}
 use Rattle.sctp_model.specs.Invariants.{IsHeld}
@@ -160,7 +160,7 @@ skipped_if r (Some m) = skipped r m
 
 -- the ordered pieces held past the offset o, of messages up to the sequence number m
 abbrev pub held_past : Queue → ℕ → ℕ → List Data
-held_past q m o = filter (λ (d : Data). up_to_16 d.ssn m && nat_lt o d.offset) q.ordered
+held_past q m o = filter (λ (d : Data). ssn_lte d.ssn m && nat_lt o d.offset) q.ordered
 
 -- the sequence number in front of another one, else m
 abbrev pub just_before : ℕ → Option ℕ → ℕ
@@ -178,5 +178,5 @@ pub record IsSpared (p : Plan) (o b : ℕ) (q : Queue) : Type 0 where
   pub pieces : (x y : ℕ) (d e : Data) → at x q.ordered ≡ Some d → at y q.ordered ≡ Some e → o < y
       → (place_at p x).ssn ≡ (place_at p y).ssn
       → at x (skip q b).ordered ≡ Some d
-  pub cursor : (y : ℕ) (e : Data) → at y q.ordered ≡ Some e → o < y → before_16 e.ssn q.cursor ≡ false
-      → before_16 e.ssn (skip q b).cursor ≡ false
+  pub cursor : (y : ℕ) (e : Data) → at y q.ordered ≡ Some e → o < y → ssn_lt e.ssn q.cursor ≡ false
+      → ssn_lt e.ssn (skip q b).cursor ≡ false

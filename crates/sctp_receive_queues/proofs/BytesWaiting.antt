@@ -3,7 +3,7 @@ use Rattle.std.proofs.Common.{◌≡◌, ℕ, ◌+◌, ◌-◌, ◌<◌, ◌≤�
 use Rattle.std.proofs.Common.{get_or, set, Option, Some, None, slice_get, map, min, ◌^◌, refl, ap, sym, ◌∙◌, ⊎_elim}
 use Rattle.std.proofs.Common.{arith}
 use Rattle.std.specs.List.{filter}
-use Rattle.sctp_wire_types.specs.Serial.{tsn_lte}
+use Rattle.sctp_serial.specs.Serial.{tsn_lte}
 use Rattle.std.proofs.lemmas.Bool.{cases_Bool, cases_lt, eqb-false}
 use Rattle.std.proofs.lemmas.List.{get_or-set_other, length-set}
 use Rattle.std.proofs.lemmas.List.Concat.{length-flat_map}

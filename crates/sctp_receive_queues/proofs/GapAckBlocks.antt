@@ -17,7 +17,7 @@ use Rattle.std.proofs.lemmas.List.Elements.{All-head, All-tail}
 use Rattle.std.proofs.lemmas.List.Folds.{list_any-append}
 use Rattle.std.proofs.lemmas.Map.Keys.{sorted_tail}
 use Rattle.std.proofs.lemmas.Map.Views.{All-after_first}
-use Rattle.sctp_wire_types.specs.Serial.{tsn_past}
+use Rattle.sctp_serial.specs.Serial.{tsn_past}
 use Rattle.sctp_wire_types.specs.declared.chunk.GapAckBlock.{GapAckBlock}
 use Rattle.sctp_receive_queues.specs.Pieces.{tsn_after}
 use Rattle.sctp_receive_queues.specs.Received.{is_held, has_offset, advanced, is_greater, offsets_in, offsets_of, block}

@@ -3,7 +3,7 @@ use Rattle.std.proofs.Common.{◌≡◌, ℕ, ◌≤◌, ◌<◌, true, false, l
 use Rattle.std.proofs.Common.{arith}
 use Rattle.std.specs.List.{AllByRecursion}
 use Rattle.std.proofs.lemmas.Bool.{cases_Bool, ltb-true, ltb-false}
-use Rattle.sctp_wire_types.specs.Serial.{tsn_past}
+use Rattle.sctp_serial.specs.Serial.{tsn_past}
 use Rattle.sctp_receive_queues.specs.Received.{later_of, last_received, IsFarthest}
 
 later_new : (cumulative_tsn t : ℕ) (last : Option ℕ)

@@ -3,7 +3,7 @@ use Rattle.std.specs.Prelude.{ℕ, ◌+◌, ◌-◌, ◌%◌, ◌^◌, ◌==◌,
 use Rattle.std.specs.Prelude.{List, [], ◌∷◌, length, position, slice_get, unwrap_or, Option, Some, None}
 use Rattle.std.specs.List.{list_any, sum_by}
 use Rattle.sctp_wire_types.specs.Ids.{number_of}
-use Rattle.sctp_wire_types.specs.Serial.{tsn_lt, tsn_past}
+use Rattle.sctp_serial.specs.Serial.{tsn_lt, tsn_past}
 use Rattle.sctp_wire_types.specs.declared.chunk.ChunkPayloadData.{ChunkPayloadData}
 use Rattle.sctp_wire_types.specs.declared.error.Error.{Error}
 use Rattle.sctp_wire_types.specs.declared.error.Error.TheVariants as errors

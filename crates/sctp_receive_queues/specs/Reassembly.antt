@@ -3,7 +3,7 @@ use Rattle.std.specs.Prelude.{◌≡◌, ℕ, zero, suc, ◌+◌, ◌-◌, ◌%�
 use Rattle.std.specs.Prelude.{true, false, List, [], ◌∷◌, ◌++◌, length, drop, position, insert, remove, filter, map}
 use Rattle.std.specs.Prelude.{fold, min, slice_get, slice_set, unwrap_or, Option, Some, None}
 use Rattle.std.specs.List.{sum_by}
-use Rattle.sctp_wire_types.specs.Serial.{ssn_lt, ssn_lte, tsn_lte}
+use Rattle.sctp_serial.specs.Serial.{ssn_lt, ssn_lte, tsn_lte}
 use Rattle.sctp_wire_types.specs.declared.chunk.ChunkPayloadData.{ChunkPayloadData}
 use Rattle.sctp_wire_types.specs.declared.error.Error.{Error}
 use Rattle.sctp_wire_types.specs.declared.error.Error.TheVariants as errors

@@ -1,7 +1,7 @@
 // Ordered messages that are put together, in the order of their SSNs.
 ghost use Rattle.std.specs.Prelude.{◌≡◌, ◌<◌, ◌≤◌, ◌⊎◌, length, [], position, slice_get, None, Some, IsOk, IfOk, IfErr};
 ghost use Rattle.std.specs.Prelude.{OnOk, OnErr, IfSome, filter};
-ghost use Rattle.sctp_wire_types.specs.Serial.{ssn_lt};
+ghost use Rattle.sctp_serial.specs.Serial.{ssn_lt};
 ghost use Rattle.sctp_receive_queues.specs.Messages.{message_of};
 ghost use Rattle.sctp_receive_queues.specs.Pieces.{bytes_of, is_complete, refusal_of, is_later, last_of};
 ghost use Rattle.sctp_receive_queues.specs.Reassembly.{group_of, grown, put_at, pieces_at, index_of_ssn, index_for_ssn};

@@ -1,7 +1,7 @@
 // The pieces held of one message.
 ghost use Rattle.std.specs.Prelude.{◌≡◌, ◌+◌, ◌<◌, ◌^◌, ◌∷◌, [], ◌++◌, length, insert, IfOk, OnOk, OnErr, IfSome, ◌≤◌};
 ghost use Rattle.std.specs.Prelude.{◌==◌, position, None, nat_lt, not, fold, min, ◌-◌};
-ghost use Rattle.sctp_wire_types.specs.Serial.{tsn_lt, tsn_past};
+ghost use Rattle.sctp_serial.specs.Serial.{tsn_lt, tsn_past};
 ghost use Rattle.sctp_receive_queues.specs.Pieces.{bytes_of, begins, ends, is_complete, follows, first_is_after};
 ghost use Rattle.sctp_receive_queues.specs.Pieces.{last_is_before, covers, is_past, is_later, last_of, is_after};
 ghost use Rattle.sctp_receive_queues.specs.Pieces.{has_tsn, has_other_type, index_of, breaks_ends, contradicts};

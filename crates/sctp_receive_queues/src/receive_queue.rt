@@ -5,7 +5,7 @@ ghost use Rattle.std.specs.Ordering.{nat_cmp};
 ghost use Rattle.std.specs.BTreeMap.{is_at};
 ghost use Rattle.std.specs.Set.{remove_key};
 ghost use Rattle.std.specs.List.Sorted.{IsStrictlySortedBy};
-ghost use Rattle.sctp_wire_types.specs.Serial.{tsn_lte};
+ghost use Rattle.sctp_serial.specs.Serial.{tsn_lte};
 ghost use Rattle.sctp_receive_queues.specs.Received.{is_held, is_new, with_tsn, last_received, later_of, block};
 ghost use Rattle.sctp_receive_queues.specs.Received.{runs_from, advanced, offsets_of, offsets_in, runs_of};
 ghost use Rattle.sctp_receive_queues.specs.Received.{gap_ack_blocks, is_named, is_held_at, AreRuns, AreTsns};

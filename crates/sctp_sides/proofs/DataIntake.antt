@@ -22,7 +22,7 @@ use Rattle.sctp_streams.specs.Streams.{stream_at}
 use Rattle.sctp_inbound.specs.declared.receiver.AckTrigger.{AckTrigger}
 use Rattle.sctp_inbound.specs.declared.receiver.Receiver.{Receiver}
 use Rattle.sctp_inbound.specs.Receiver.{credit_of, is_next_after}
-use Rattle.sctp_model.specs.Serial.{tsn}
+use Rattle.sctp_serial.specs.Serial.{tsn}
 use Rattle.sctp_assoc.specs.declared.inbound.Flow.{Flow}
 use Rattle.sctp_assoc.specs.declared.inbound.Flow.TheVariants as flows
 use Rattle.sctp_assoc.specs.Acts.{Act, Binds, History, tsn_before}

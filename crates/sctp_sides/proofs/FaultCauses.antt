@@ -5,7 +5,7 @@ use Rattle.std.proofs.Common.{true, false, eqb, leb, ◌&&◌, if◌then◌else�
 use Rattle.std.proofs.Common.{Result, Ok, Err, is_ok}
 use Rattle.std.proofs.lemmas.Bool.{and_from, and_parts, eq-eqb, eqb-true, false≢true, leb-false, leb-true}
 use Rattle.sctp_wire_types.specs.Checks.{checked_chunk}
-use Rattle.sctp_wire_types.specs.Serial.{tsn_gt, tsn_past}
+use Rattle.sctp_serial.specs.Serial.{tsn_gt, tsn_past, tsn}
 use Rattle.sctp_wire_types.specs.declared.chunk.Chunk.{Chunk}
 use Rattle.sctp_wire_types.specs.declared.chunk.Chunk.TheVariants as chunks
 use Rattle.sctp_wire_types.specs.declared.chunk.ChunkHeartbeat.{ChunkHeartbeat}
@@ -22,7 +22,6 @@ use Rattle.sctp_inbound.specs.Handshake.{comes_back, has_issued}
 use Rattle.sctp_outbound.specs.declared.sender.SackOutcome.{SackOutcome}
 use Rattle.sctp_outbound.specs.declared.sender.SackOutcome.TheVariants as outcomes
 use Rattle.sctp_outbound.specs.Sender.{cumulative_tsn_ack_point_of, tsns_up_to, sack_outcome}
-use Rattle.sctp_model.specs.Serial.{tsn}
 use Rattle.sctp_assoc.specs.Acts.{Binds, History, tsn_before}
 use Rattle.sctp_assoc.specs.Calls.{is_beginning, is_cookie_echoed, is_cookie_wait, is_established}
 use Rattle.sctp_sides.specs.Causes.{AcknowledgesTheUnsent, BringsNoCookie, FaultsAreCauses, FitsNoMessage, IsCause}

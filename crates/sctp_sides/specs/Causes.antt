@@ -3,7 +3,7 @@
 use Rattle.std.specs.Prelude.{◌≡◌, ◌≢◌, ◌⊎◌, ◌↔◌, ◌≤◌, ℕ, zero, suc, ◌+◌, ◌%◌, ◌^◌, true, false, List, [], ◌∷◌, length}
 use Rattle.std.specs.Prelude.{slice_get, Some, None, Err, ⊤}
 use Rattle.sctp_wire_types.specs.Checks.{checked_chunk}
-use Rattle.sctp_wire_types.specs.Serial.{tsn_gt}
+use Rattle.sctp_serial.specs.Serial.{tsn_gt, tsn}
 use Rattle.sctp_wire_types.specs.declared.chunk.Chunk.{Chunk}
 use Rattle.sctp_wire_types.specs.declared.chunk.Chunk.TheVariants as chunks
 use Rattle.sctp_wire_types.specs.declared.chunk.ChunkInit.{ChunkInit}
@@ -16,7 +16,6 @@ use Rattle.sctp_parts.specs.declared.state.AssociationState.TheVariants as state
 use Rattle.sctp_inbound.specs.Greeting.{first_cookie}
 use Rattle.sctp_inbound.specs.declared.receiver.AckTrigger.{AckTrigger}
 use Rattle.sctp_inbound.specs.declared.receiver.AckTrigger.TheVariants as triggers
-use Rattle.sctp_model.specs.Serial.{tsn}
 use Rattle.sctp_assoc.specs.declared.inbound.Flow.{Flow}
 use Rattle.sctp_assoc.specs.declared.inbound.Flow.TheVariants as flows
 use Rattle.sctp_assoc.specs.Acts.{Binds, History, tsn_before}

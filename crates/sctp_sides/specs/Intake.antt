@@ -9,7 +9,7 @@ use Rattle.sctp_receive_queues.specs.Reassembly.{Reassembly, empty_reassembly, r
 use Rattle.sctp_streams.specs.Stream.{StreamView}
 use Rattle.sctp_streams.specs.Streams.{bytes_waiting, generation_left, stream_at}
 use Rattle.sctp_inbound.specs.declared.receiver.AckTrigger.{AckTrigger}
-use Rattle.sctp_model.specs.Serial.{tsn}
+use Rattle.sctp_serial.specs.Serial.{tsn}
 use Rattle.sctp_assoc.specs.declared.inbound.Flow.TheVariants as flows
 use Rattle.sctp_assoc.specs.Acts.{Act, Binds, History}
 use Rattle.sctp_assoc.specs.Chunks.{on_chunk}

@@ -3,7 +3,7 @@ use Rattle.std.specs.Prelude.{◌≡◌, ◌<◌, ℕ, ◌+◌, ◌-◌, ◌^◌
 use Rattle.sctp_wire_types.specs.declared.chunk.ChunkSelectiveAck.{ChunkSelectiveAck}
 use Rattle.sctp_receive_queues.specs.Received.{is_named}
 use Rattle.sctp_model.specs.Packets.{mem}
-use Rattle.sctp_model.specs.Serial.{tsn}
+use Rattle.sctp_serial.specs.Serial.{tsn}
 use Rattle.sctp_assoc.specs.Acts.{tsn_before}
 
 -- A SACK says what came, as far as it was taken in: its point is the TSN before that of this reach, and of the 65,535

@@ -2,7 +2,7 @@
 use Rattle.std.specs.Prelude.{◌≡◌, ◌⊎◌, ◌<◌, ◌≤◌, ℕ, ◌+◌, ◌%◌, ◌^◌, Bool, true, false, List, [], ◌∷◌, ◌++◌, length}
 use Rattle.std.specs.Prelude.{slice_get, if◌then◌else◌, Option, Some, None, ⊤}
 use Rattle.std.specs.List.{AllByRecursion}
-use Rattle.sctp_wire_types.specs.Serial.{tsn_gt}
+use Rattle.sctp_serial.specs.Serial.{tsn_gt, tsn}
 use Rattle.sctp_wire_types.specs.declared.chunk.Chunk.{Chunk}
 use Rattle.sctp_wire_types.specs.declared.chunk.Chunk.TheVariants as chunks
 use Rattle.sctp_wire_types.specs.declared.chunk.ChunkInit.{ChunkInit}
@@ -18,7 +18,6 @@ use Rattle.sctp_streams.specs.declared.event.Event.{Event}
 use Rattle.sctp_streams.specs.Stream.{StreamView}
 use Rattle.sctp_streams.specs.Streams.{made, stream_at}
 use Rattle.sctp_inbound.specs.declared.receiver.AckTrigger.{AckTrigger}
-use Rattle.sctp_model.specs.Serial.{tsn}
 use Rattle.sctp_assoc.specs.Acts.{Act, Binds, History, LeadsOn, all_data_given, parts, tsn_before}
 use Rattle.sctp_assoc.specs.Calls.{closed_by, event_polled, is_closed_state, is_established, open_refusal, opened}
 use Rattle.sctp_assoc.specs.Calls.{read_from_stream, stream_refusal, write_refusal, written}

@@ -12,7 +12,7 @@ use Rattle.std.proofs.lemmas.Map.Entries.{sum_by-insert_entry, sum_by-set_value}
 use Rattle.std.proofs.lemmas.Cmp.{nat_cmp_total}
 use Rattle.std.proofs.lemmas.List.Sums.{sum_by-cons}
 use Rattle.sctp_wire_types.specs.declared.chunk.ChunkPayloadData.{ChunkPayloadData}
-use Rattle.sctp_wire_types.specs.Serial.{ssn_lt}
+use Rattle.sctp_serial.specs.Serial.{ssn_lt}
 use Rattle.sctp_receive_queues.specs.Reassembly.{Group, Reassembly, bytes_in_groups, bytes_in_messages, bytes_waiting}
 use Rattle.sctp_receive_queues.specs.Reassembly.{empty_reassembly, is_due, pushed, read_from, read_ordered, taken}
 use Rattle.sctp_receive_queues.specs.Reassembly.{unordered_put, with_ordered, with_put}

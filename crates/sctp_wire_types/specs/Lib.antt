@@ -2,5 +2,4 @@ pub mod Ecn
 pub mod Ids
 pub mod Errors
 pub mod Config
-pub mod Serial
 pub mod Checks

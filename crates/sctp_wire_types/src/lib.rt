@@ -13,7 +13,6 @@ mod list;
 mod packet;
 mod param;
 mod reliability;
-mod serial;
 
 pub use chunk::{
     Chunk, ChunkAbort, ChunkError, ChunkForwardTsn, ChunkHeartbeat, ChunkIForwardTsn, ChunkInit,
@@ -29,7 +28,4 @@ pub use list::List;
 pub use packet::CommonHeader;
 pub use param::{Param, ParamOutgoingResetRequest, ParamReconfigResponse, ReconfigResult};
 pub use reliability::{Policy, ReliabilityType};
-pub use serial::{
-    sna16gt, sna16gte, sna16lt, sna16lte, sna32gt, sna32gte, sna32lt, sna32lte,
-    ssn_order_is_of_offsets, tsn_order_is_of_offsets,
-};
+pub use sctp_serial::{sna16gt, sna16gte, sna16lt, sna16lte, sna32gt, sna32gte, sna32lt, sna32lte};

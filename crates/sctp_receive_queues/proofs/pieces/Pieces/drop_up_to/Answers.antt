@@ -1,7 +1,7 @@
 use Rattle.std.proofs.Common.{◌≡◌, ◌∙◌, ◌<◌, ◌^◌, ap, length, not, arith, rules}
 use Rattle.std.proofs.lemmas.Fn.{filter_same}
 use Rattle.sctp_wire_types.specs.declared.chunk.ChunkPayloadData.{ChunkPayloadData}
-use Rattle.sctp_wire_types.specs.Serial.{tsn_lte}
+use Rattle.sctp_serial.specs.Serial.{tsn_lte}
 use Rattle.sctp_receive_queues.specs.Pieces.{bytes_of}
 use Rattle.sctp_receive_queues.specs.Reassembly.{above}
 use Rattle.sctp_receive_queues.proofs.ByteSums.{saturated_sum, filter_sum}

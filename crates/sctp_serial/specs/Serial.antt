@@ -37,8 +37,9 @@ tsn_gte a b = a == b || tsn_gt a b
 abbrev pub ssn_from : ℕ → ℕ → ℕ
 ssn_from first offset = (first + offset) % 2 ^ 16
 
-abbrev pub tsn_from : ℕ → ℕ → ℕ
-tsn_from first offset = (first + offset) % 2 ^ 32
+-- the TSN of an offset: offset 0 is the initial TSN of its direction (RFC 4960 section 3.3.1)
+abbrev pub tsn : ℕ → ℕ → ℕ
+tsn initial offset = (initial + offset) % 2 ^ 32
 
 -- two offsets are less than half the range apart
 abbrev pub AreNear16 : ℕ → ℕ → Type 0

@@ -1,7 +1,6 @@
 // Serial number arithmetic on SSNs (16 bits) and TSNs (32 bits), RFC 4960 section 1.6 after RFC 1982.
 ghost use Rattle.std.specs.Prelude.{◌≡◌, ℕ, nat_lt, nat_le};
-ghost use Rattle.sctp_wire_types.specs.Serial.{ssn_lt, ssn_lte, ssn_gt, ssn_gte, tsn_lt, tsn_lte, tsn_gt, tsn_gte};
-ghost use Rattle.sctp_wire_types.specs.Serial.{ssn_from, tsn_from, AreNear16, AreNear32};
+ghost use Rattle.sctp_serial.specs.Serial.{ssn_lt, ssn_lte, ssn_gt, ssn_gte, tsn_lt, tsn_lte, tsn_gt, tsn_gte, ssn_from, tsn, AreNear16, AreNear32};
 
 /// Whether `b` is 1 to 32,767 past `a`.
 pub fn sna16lt(a: u16, b: u16) -> bool
@@ -71,8 +70,8 @@ pub fn ssn_order_is_of_offsets()
 
 /// TSNs at offsets less than half the range apart compare as their offsets do, over any number of turns of the range.
 pub fn tsn_order_is_of_offsets()
-    ensures lt { (first a b : ℕ) → AreNear32 a b → tsn_lt (tsn_from first a) (tsn_from first b) ≡ nat_lt a b }
-    ensures lte { (first a b : ℕ) → AreNear32 a b → tsn_lte (tsn_from first a) (tsn_from first b) ≡ nat_le a b }
-    ensures gt { (first a b : ℕ) → AreNear32 a b → tsn_gt (tsn_from first a) (tsn_from first b) ≡ nat_lt b a }
-    ensures gte { (first a b : ℕ) → AreNear32 a b → tsn_gte (tsn_from first a) (tsn_from first b) ≡ nat_le b a }
+    ensures lt { (first a b : ℕ) → AreNear32 a b → tsn_lt (tsn first a) (tsn first b) ≡ nat_lt a b }
+    ensures lte { (first a b : ℕ) → AreNear32 a b → tsn_lte (tsn first a) (tsn first b) ≡ nat_le a b }
+    ensures gt { (first a b : ℕ) → AreNear32 a b → tsn_gt (tsn first a) (tsn first b) ≡ nat_lt b a }
+    ensures gte { (first a b : ℕ) → AreNear32 a b → tsn_gte (tsn first a) (tsn first b) ≡ nat_le b a }
 {}
