@@ -12,7 +12,7 @@ use Rattle.sctp_assoc.specs.Calls.{stream_refusal, write_refusal}
 use Rattle.sctp_sides.specs.Shapes.{IsLive}
 use Rattle.sctp_assoc.specs.Shown.{Shown}
 use Rattle.sctp_sides.proofs.Proved.{found_streams_are_live}
-use Rattle.sctp_directions.specs.Outgoing.{message_on}
+use Rattle.sctp_directions.specs.Plain.{message_on}
 use Rattle.sctp_pair.specs.declared.step.Reply.{Reply}
 use Rattle.sctp_pair.specs.declared.step.Reply.TheVariants as replies
 use Rattle.sctp_pair.specs.declared.step.Side2.{Side2}

@@ -10,8 +10,7 @@ use Rattle.sctp_model.specs.Messages.{Plan, message_at}
 use Rattle.sctp_model.specs.Machine.{Direction}
 use Rattle.sctp_model.specs.Reassembly.{Got}
 use Rattle.sctp_model.specs.Safe.{IsSafe, Letter, Names, Tells, letter_read}
-use Rattle.sctp_directions.specs.Incoming.{IsReadAs}
-use Rattle.sctp_reassembly.specs.Stands.{letter_received}
+use Rattle.sctp_reassembly.specs.Stands.{IsReadAs, letter_received}
 use Rattle.sctp_pair.specs.declared.step.Reply.{Reply}
 use Rattle.sctp_pair.specs.declared.step.Reply.TheVariants as replies
 use Rattle.sctp_pair.specs.declared.step.Side2.{Side2}
@@ -52,7 +51,7 @@ pub grows_by : (m : Option ReceivedMessage) (before after : List Got) → IsRead
 grows_by None before after e = ap (λ (gs : List Got). map letter_read gs) e ∙ sym (append-nil (map letter_read before))
 grows_by (Some m) before after (g, e, l) =
     ap (λ (gs : List Got). map letter_read gs) e ∙ map-append letter_read before (g ∷ []) ∙ ap
-    (λ (x : Letter). map letter_read before ++ x ∷ []) l
+    (λ (x : Letter). map letter_read before ++ x ∷ []) (sym l)
 
 reads_next : (side : Side2) (id : ℕ) (r : Reply) (w v : World) → IsWorldStep (steps.Read side id) w r v
     → ReadsNext id (message_in r) (to_side side w) (to_side side v)
@@ -101,7 +100,7 @@ of_accepted w s m before (g, e, l) safe =
     record {
       number = t.0;
       accepted = t.1.whole.accepted;
-      tells = sym l ∙ told w.sender.plan w.receiver.taken s g t.0 t.1;
+      tells = l ∙ told w.sender.plan w.receiver.taken s g t.0 t.1;
       whole = t.1.whole;
     }
 

@@ -4,7 +4,7 @@ use Rattle.sctp_wire.specs.declared.packet.Packet.{Packet}
 use Rattle.sctp_model.specs.Packets.{mem}
 use Rattle.sctp_serial.specs.Serial.{tsn}
 use Rattle.sctp_model.specs.Machine.{Direction}
-use Rattle.sctp_assoc.specs.Acts.{tsn_before}
+use Rattle.sctp_fit.specs.Incoming.{tsn_before}
 use Rattle.sctp_pair.specs.declared.step.Reply.{Reply}
 use Rattle.sctp_pair.specs.declared.step.Reply.TheVariants as replies
 use Rattle.sctp_pair.specs.declared.step.Side2.{Side2}

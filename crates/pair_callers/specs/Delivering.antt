@@ -4,7 +4,7 @@ use Rattle.sctp_wire.specs.declared.packet.Packet.{Packet}
 use Rattle.sctp_model.specs.Packets.{mem}
 use Rattle.sctp_serial.specs.Serial.{tsn}
 use Rattle.sctp_model.specs.Machine.{Direction}
-use Rattle.sctp_assoc.specs.Acts.{tsn_before}
+use Rattle.sctp_fit.specs.Incoming.{tsn_before}
 use Rattle.sctp_pair.specs.declared.step.Side2.{Side2}
 use Rattle.sctp_pair.specs.Ends.{Ends, packets_of}
 use Rattle.sctp_pair.specs.World.{HasData, HasForward, World, other_side, packet_of_bytes}

@@ -1,7 +1,7 @@
 -- What acts leave as it is, and that the first TSN in flight keeps standing on the first offset that is not
 -- acknowledged.
-use Rattle.std.proofs.Common.{◌≡◌, refl, sym, ◌∙◌, ℕ, zero, suc, ◌<◌, ◌≤◌, ◌+◌, ◌%◌, ◌^◌, arith, List, [], ◌∷◌, ◌++◌}
-use Rattle.std.proofs.Common.{length, slice_get, Option, Some, None}
+use Rattle.std.proofs.Common.{◌≡◌, refl, sym, ap, ◌∙◌, ℕ, zero, suc, ◌<◌, ◌≤◌, ◌+◌, ◌%◌, ◌^◌, arith, List, [], ◌∷◌}
+use Rattle.std.proofs.Common.{◌++◌, length, slice_get, Option, Some, None}
 use Rattle.std.proofs.lemmas.List.{append_assoc}
 use Rattle.sctp_serial.specs.Serial.{tsn}
 use Rattle.sctp_outbound_queue.specs.declared.message.InFlight.{InFlight}
@@ -13,8 +13,10 @@ use Rattle.sctp_streams.specs.Streams.{StreamMap, stream_at}
 use Rattle.sctp_parts.specs.Estimate.{Estimate}
 use Rattle.sctp_outbound.specs.declared.sender.Sender.{Sender}
 use Rattle.sctp_outbound.specs.Sender.{acknowledged, after_first, sender_after, sender_after_first, streams_after}
-use Rattle.sctp_assoc.specs.Acts.{Act, Can, CanAll, History, Parts, done, done_all, data_given, all_data_given}
-use Rattle.sctp_assoc.specs.Acts.{with_written, without_first_piece, without_first_pieces}
+use Rattle.sctp_directions.specs.Acts.{Act, Can, CanAll, History, Parts, done, done_all, data_given, all_data_given}
+use Rattle.sctp_directions.specs.Acts.{sending, with_written, with_acknowledged}
+use Rattle.sctp_fit.specs.Outgoing.{Sending}
+use Rattle.sctp_fit.specs.Points.{first_acknowledged, so_many}
 
 -- Acts, one after another.
 
@@ -51,11 +53,16 @@ one_fewer : (ps : List InFlight) (q : Outbound) (n : ℕ) → suc n ≤ length p
 one_fewer [] q n some = absurd (omega arith)
 one_fewer (p ∷ ps) q n some = omega arith
 
-pub acknowledged_tied : (n : ℕ) (p : Parts) → n ≤ length p.queue.in_flight → Tied p → Tied (without_first_pieces n p)
-acknowledged_tied zero p within e = e
-acknowledged_tied (suc n) p within e =
-    acknowledged_tied n (without_first_piece p) (one_fewer p.queue.in_flight p.queue n within)
-    (without_first_tied p.queue.in_flight p.queue p.history.own p.history.base (omega arith) e)
+-- the first TSN keeps standing on the base while pieces are acknowledged
+so_many_tied : (n own : ℕ) (a : Sending) → n ≤ length a.queue.in_flight → a.queue.first_tsn ≡ tsn own a.base
+    → (so_many n a).queue.first_tsn ≡ tsn own (so_many n a).base
+so_many_tied zero own a within e = e
+so_many_tied (suc n) own a within e =
+    so_many_tied n own (first_acknowledged a) (one_fewer a.queue.in_flight a.queue n within)
+    (without_first_tied a.queue.in_flight a.queue own a.base (omega arith) e)
+
+pub acknowledged_tied : (n : ℕ) (p : Parts) → n ≤ length p.queue.in_flight → Tied p → Tied (with_acknowledged n p)
+acknowledged_tied n p within e = so_many_tied n p.history.own (sending p) within e
 
 written_tied : (o : Option StreamView) (p : Parts) (id : ℕ) (bytes : List ℕ) → Tied p → Tied (with_written o p id bytes)
 written_tied None p id bytes e = e
@@ -94,17 +101,49 @@ first_queue : (ps : List InFlight) (s : Sender) → s.queue.in_flight ≡ ps
 first_queue [] s e = rw e refl
 first_queue (p ∷ ps) s e = refl
 
-pub pieces_acknowledged : (n now : ℕ) (s : Sender) (e : Estimate) (m : StreamMap) (h : History)
-    → without_first_pieces n (record { queue = s.queue; streams = m; history = h })
+-- the sender's queue and streams are those that its direction has, and the base moves by as many
+so_many_acknowledged : (n now base size : ℕ) (s : Sender) (e : Estimate) (m : StreamMap)
+    → so_many n (record { queue = s.queue; streams = m; base = base; size = size })
     ≡ record {
       queue = (acknowledged n now (s, e, m)).0.queue;
       streams = (acknowledged n now (s, e, m)).2;
-      history = record h { base = h.base + n };
+      base = base + n;
+      size = size;
     }
 unfolding after_first
-pieces_acknowledged zero now s e m h = let none : h.base + 0 ≡ h.base = omega arith in rw none refl
-pieces_acknowledged (suc n) now s e m h =
-    let next : h.base + suc n ≡ h.base + 1 + n = omega arith in
+so_many_acknowledged zero now base size s e m = let none : base + 0 ≡ base = omega arith in rw none refl
+so_many_acknowledged (suc n) now base size s e m =
+    let next : base + suc n ≡ base + 1 + n = omega arith in
     rw (next, ← first_queue s.queue.in_flight s refl)
-    (pieces_acknowledged n now (sender_after_first s) _ (streams_after (slice_get s.queue.in_flight 0) m)
-    (record h { base = h.base + 1 }))
+    (so_many_acknowledged n now (base + 1) size (sender_after_first s) _
+    (streams_after (slice_get s.queue.in_flight 0) m))
+
+-- acknowledgements leave the size of a payload as it is
+first_size : (o : Option InFlight) (s : Sender) → (sender_after o s).max_payload_size ≡ s.max_payload_size
+first_size None s = refl
+first_size (Some p) s = refl
+
+size_stays : (n now : ℕ) (s : Sender) (e : Estimate) (m : StreamMap)
+    → (acknowledged n now (s, e, m)).0.max_payload_size ≡ s.max_payload_size
+unfolding after_first
+size_stays zero now s e m = refl
+size_stays (suc n) now s e m =
+    size_stays n now (sender_after_first s) _ (streams_after (slice_get s.queue.in_flight 0) m)
+    ∙ first_size (slice_get s.queue.in_flight 0) s
+
+-- what the directions see after acknowledgements is what the sender and the streams have then
+pub pieces_acknowledged : (n now : ℕ) (s : Sender) (e : Estimate) (m : StreamMap) (h : History)
+    → with_acknowledged n (record { queue = s.queue; streams = m; size = s.max_payload_size; history = h })
+    ≡ record {
+      queue = (acknowledged n now (s, e, m)).0.queue;
+      streams = (acknowledged n now (s, e, m)).2;
+      size = (acknowledged n now (s, e, m)).0.max_payload_size;
+      history = record h { base = h.base + n };
+    }
+pieces_acknowledged n now s e m h =
+    rw (size_stays n now s e m)
+    (ap parts_with (so_many_acknowledged n now h.base s.max_payload_size s e m))
+  where
+    parts_with : Sending → Parts
+    parts_with a =
+        record { queue = a.queue; streams = a.streams; size = s.max_payload_size; history = record h { base = a.base } }

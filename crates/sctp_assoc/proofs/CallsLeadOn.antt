@@ -1,9 +1,8 @@
 -- What each call does to the two directions is what its acts say.
-use Rattle.std.proofs.Common.{◌≡◌, refl, sym, ap, ◌∙◌, ◌⊎◌, ⊎_elim, inl, inr, ℕ, ◌<◌, ◌≤◌, ◌+◌, ◌-◌, ◌%◌, ◌^◌, arith}
-use Rattle.std.proofs.Common.{Bool, true, false, eqb, ◌&&◌, List, [], ◌∷◌, ◌++◌, length, if◌then◌else◌, nat_lt, nat_le}
+use Rattle.std.proofs.Common.{◌≡◌, refl, sym, ap, ◌∙◌, ℕ, ◌≤◌, ◌+◌, ◌-◌, ◌%◌, ◌^◌, arith}
+use Rattle.std.proofs.Common.{Bool, true, false, ◌&&◌, List, [], ◌∷◌, ◌++◌, length, if◌then◌else◌, nat_lt, nat_le}
 use Rattle.std.proofs.Common.{Option, Some, None, Result, Ok, Err, is_some}
-use Rattle.std.proofs.lemmas.Bool.{and_parts, cases_eq, eq-eqb, eqb-true, false≢true, leb-true, or_cases, or_left}
-use Rattle.std.proofs.lemmas.Bool.{or_right}
+use Rattle.std.proofs.lemmas.Bool.{and_parts, eqb-true, false≢true, leb-true}
 use Rattle.sctp_serial.specs.Serial.{tsn_gt, tsn}
 use Rattle.sctp_wire_types.specs.declared.chunk.ChunkPayloadData.{ChunkPayloadData}
 use Rattle.sctp_wire_types.specs.declared.chunk.Chunk.{Chunk}
@@ -16,7 +15,6 @@ use Rattle.sctp_wire_types.specs.declared.error.Error.TheVariants as errors
 use Rattle.sctp_wire_types.specs.Checks.{checked_chunk}
 use Rattle.sctp_wire.specs.declared.packet.Packet.{Packet}
 use Rattle.sctp_wire_types.specs.declared.ids.PayloadProtocolIdentifier.TheVariants as kinds
-use Rattle.sctp_model.specs.Packets.{mem}
 use Rattle.sctp_parts.specs.declared.timer.Timer.TheVariants as names
 use Rattle.sctp_parts.specs.Estimate.{Estimate}
 use Rattle.sctp_parts.specs.Timers.{expiry_of}
@@ -42,8 +40,10 @@ use Rattle.sctp_outbound.specs.declared.sender.SackOutcome.TheVariants as outcom
 use Rattle.sctp_outbound.specs.Sender.{cumulative_tsn_ack_point_of, acknowledged, tsns_up_to, sack_outcome, with_window}
 use Rattle.sctp_assoc.specs.declared.inbound.Flow.{Flow}
 use Rattle.sctp_assoc.specs.declared.inbound.Flow.TheVariants as flows
-use Rattle.sctp_assoc.specs.Acts.{Act, Binds, CanAll, History, Leads, Parts, IsSamePast, LeadsOn, done, done_all, parts}
-use Rattle.sctp_assoc.specs.Acts.{tsn_before, with_peer, with_taken, with_written}
+use Rattle.sctp_directions.specs.Acts.{Act, CanAll, History, Parts, done, done_all}
+use Rattle.sctp_assoc.specs.Leads.{Binds, Leads, IsSamePast, LeadsOn, parts}
+use Rattle.sctp_fit.specs.Incoming.{tsn_before}
+use Rattle.sctp_directions.specs.Acts.{offset_in, reach_in, with_peer, with_taken, with_written}
 use Rattle.sctp_assoc.specs.Calls.{after_ack_delay, after_t3, closed_by, closed_open, event_from, event_polled, opened}
 use Rattle.sctp_assoc.specs.Calls.{read_from_stream, retransmits, t3_expired, written, written_at, is_beginning}
 use Rattle.sctp_assoc.specs.Calls.{is_closed_state, is_cookie_echoed, is_cookie_wait, is_established}
@@ -55,7 +55,7 @@ use Rattle.sctp_assoc.specs.Happened.{acts_after, acts_of_checked, acts_of_chunk
 use Rattle.sctp_assoc.specs.Happened.{acts_of_kind, acts_of_packet, acts_of_packet_of, acts_of_data, acts_of_found}
 use Rattle.sctp_assoc.specs.Happened.{acts_of_outcome, acts_of_sack, acts_of_stream, acts_of_init, acts_of_init_ack}
 use Rattle.sctp_assoc.specs.Happened.{acts_of_t3, acts_of_taking, acts_of_timeouts, acts_unless_refused}
-use Rattle.sctp_assoc.specs.Handshake.{acknowledged_cookie, after_t1_cookie, after_t1_init, answered, connected}
+use Rattle.sctp_assoc.specs.Handshake.{acknowledged_cookie, after_t1_init, answered, connected}
 use Rattle.sctp_assoc.specs.Handshake.{cookie_queued, echoed, information_returned, init_queued, learned, on_cookie_ack}
 use Rattle.sctp_assoc.specs.Handshake.{on_cookie_echo, on_heartbeat, on_init, on_init_ack, sends_cookie, sends_init}
 use Rattle.sctp_assoc.specs.Handshake.{t1_cookie_expired, t1_init_expired, with_echo}
@@ -63,6 +63,8 @@ use Rattle.sctp_assoc.specs.Timeouts.{after_handshake_timers, after_timeouts}
 use Rattle.sctp_assoc.specs.Shown.{Shown}
 use Rattle.sctp_assoc.proofs.ActsKeepOffsets.{acknowledged_tied, acts_tied, can_append, done_append}
 use Rattle.sctp_assoc.proofs.ActsKeepOffsets.{pieces_acknowledged}
+use Rattle.sctp_fit.proofs.HeldTsns.{nothing_is_held_at_first}
+use Rattle.sctp_assoc.proofs.WhatCame.{held_moves, point_moves, same_held, same_point}
 
 pub leads_on : (xs ys : List Act) {a b c : Shown} {h k l : History} → Leads xs a h b k → Leads ys b k c l
     → Leads (xs ++ ys) a h c l
@@ -83,17 +85,15 @@ leads_by xs a b h binds can there point same = record {
   there = there;
   binds = record {
     first = ap (λ (p : Parts). p.queue.first_tsn) there ∙ acts_tied xs (parts a h) can binds.first;
-    reach = point ∙ binds.reach ∙ rw (same.peer, same.reach) refl;
-    below = rw (same.taken, same.passed, same.reach) binds.below;
-    above = rw (same.taken, same.reach) binds.above;
-    passed = rw (same.passed, same.reach) binds.passed;
+    point = point ∙ binds.point ∙ same_point h (done_all xs (parts a h)).history a.streams b.streams same;
+    held = same_held h (done_all xs (parts a h)).history a.streams b.streams same binds.held;
   };
 }
 
 -- the chunks of a packet
 
 pub past_itself : (h : History) → IsSamePast h h
-past_itself h = record { peer = refl; taken = refl; passed = refl; reach = refl }
+past_itself h = record { peer = refl; taken = refl; passed = refl }
 
 -- nothing that the directions see changed
 pub leads_nowhere : (a b : Shown) (h : History) → Binds a h → parts b h ≡ parts a h
@@ -140,66 +140,46 @@ told_receiver false b id kept e = rw e refl
 pub next_tsn : (peer at point t : ℕ) → point ≡ tsn_before (tsn peer at) → t ≡ (point + 1) % 2 ^ 32 → t ≡ tsn peer at
 next_tsn peer at point t e f = rw (f, e) (omega arith)
 
-before_next : (peer at : ℕ) → tsn peer at ≡ tsn_before (tsn peer (at + 1))
-before_next peer at = omega arith
-
-taken_below : (h : History) → ((o : ℕ) → o < h.reach → (mem o h.taken ≡ true) ⊎ (o < h.passed))
-    → (o : ℕ) → o < h.reach + 1 → (mem o (h.reach ∷ h.taken) ≡ true) ⊎ (o < h.passed)
-taken_below h below o l = ⊎_elim
-    (λ (e : h.reach ≡ o). inl (or_left (eqb h.reach o) (mem o h.taken) (eq-eqb h.reach o e)))
-    (λ (ne : h.reach ≡ o → ⊥). ⊎_elim
-    (λ (m : mem o h.taken ≡ true). inl (or_right (eqb h.reach o) (mem o h.taken) m))
-    (λ (q : o < h.passed). inr q)
-    (below o (omega (arith, ne))))
-    (cases_eq h.reach o)
-
-taken_above : (h : History) → ((o : ℕ) → mem o h.taken ≡ true → o < h.reach) → (o : ℕ)
-    → mem o (h.reach ∷ h.taken) ≡ true → o < h.reach + 1
-taken_above h above o m = ⊎_elim
-    (λ (e : eqb h.reach o ≡ true). omega (arith, eqb-true h.reach o e))
-    (λ (r : mem o h.taken ≡ true). omega (arith, above o r))
-    (or_cases (eqb h.reach o) (mem o h.taken) m)
-
 took_leads : (a : Shown) (piece : ChunkPayloadData) (h : History) → Binds a h
-    → is_next_after a.receiver piece.tsn ≡ true → is_whole piece ≡ true
+    → is_next_after a.receiver piece.tsn ≡ true
     → (x : StreamMap × Bool) → x ≡ pushed_in a.streams piece.stream_identifier piece
-    → Leads (Act.Took piece ∷ []) a h (with_message a piece x) (with_taken h)
-took_leads a piece h binds next whole (streams, kept) e =
+    → Leads (Act.Took piece ∷ []) a h (with_message a piece x) (with_taken h (offset_in h piece.tsn))
+took_leads a piece h binds next (streams, kept) e =
     let b : Shown = record a { streams = streams; receiver = taken_to a.receiver piece.tsn } in
-    let here : piece.tsn ≡ tsn h.peer h.reach =
-    next_tsn h.peer h.reach a.receiver.peer_last_tsn piece.tsn binds.reach
+    let k : History = with_taken h (offset_in h piece.tsn) in
+    let here : piece.tsn ≡ tsn h.peer (reach_in h) =
+    next_tsn h.peer (reach_in h) a.receiver.peer_last_tsn piece.tsn binds.point
     (eqb-true piece.tsn ((a.receiver.peer_last_tsn + 1) % 2 ^ 32) next) in
     let same =
-    told_parts (kept && is_readable_in streams piece.stream_identifier) b piece.stream_identifier kept
-    (with_taken h) refl in
+    told_parts (kept && is_readable_in streams piece.stream_identifier) b piece.stream_identifier kept k refl in
+    let n : StreamMap = (with_message a piece (streams, kept)).streams in
     let point =
     ap (λ (r : Receiver). r.peer_last_tsn)
     (told_receiver (kept && is_readable_in streams piece.stream_identifier) b piece.stream_identifier kept refl) in
     record {
-      can = ((here, whole), tt);
+      can = (here, tt);
       there = same ∙ rw (← e) refl;
       binds = record {
         first = ap (λ (p : Parts). p.queue.first_tsn) same ∙ binds.first;
-        reach = point ∙ here ∙ before_next h.peer h.reach;
-        below = taken_below h binds.below;
-        above = taken_above h binds.above;
-        passed = omega (arith, binds.passed);
+        point = point ∙ point_moves h a.streams binds.held n piece.tsn here;
+        held = held_moves h a.streams binds.held n piece.tsn here;
       };
     }
 
 taking_leads_unless : (o : Option Error) (a : Shown) (piece : ChunkPayloadData) (h : History)
-    → Binds a h → is_next_after a.receiver piece.tsn ≡ true → is_whole piece ≡ true
+    → Binds a h → is_next_after a.receiver piece.tsn ≡ true
     → (k : History) × Leads (acts_unless_refused o piece) a h (taken_unless o a piece).0 k
-taking_leads_unless (Some fault) a piece h binds next whole = (h, leads_nowhere a a h binds refl refl)
-taking_leads_unless None a piece h binds next whole = (with_taken h, took_leads a piece h binds next whole _ refl)
+taking_leads_unless (Some fault) a piece h binds next = (h, leads_nowhere a a h binds refl refl)
+taking_leads_unless None a piece h binds next =
+    (with_taken h (offset_in h piece.tsn), took_leads a piece h binds next _ refl)
 
 taking_leads : (a : Shown) (piece : ChunkPayloadData) (h : History) → Binds a h
-    → is_next_after a.receiver piece.tsn ≡ true → is_whole piece ≡ true
+    → is_next_after a.receiver piece.tsn ≡ true
     → (k : History) × Leads (acts_of_taking a piece) a h (taken_in a piece).0 k
 unfolding taken_in
-taking_leads a piece h binds next whole =
+taking_leads a piece h binds next =
     taking_leads_unless (refusal_in a.streams piece.stream_identifier piece a.receiver.max_receive_message_size) a piece
-    h binds next whole
+    h binds next
 
 pub asks_same : (x : Shown × Option Error) (piece : ChunkPayloadData) (trigger : AckTrigger)
     → (asks_or_faults x piece trigger).0 ≡ x.0
@@ -208,19 +188,19 @@ asks_same (a, Some fault) piece trigger = refl
 
 credit_leads : (c : Bool) (b : Shown) (piece : ChunkPayloadData) (trigger : AckTrigger) (h : History)
     → nat_lt 0 (credit_of b.receiver (bytes_waiting b.streams)) ≡ c
-    → Binds b h → is_next_after b.receiver piece.tsn ≡ true → is_whole piece ≡ true
+    → Binds b h → is_next_after b.receiver piece.tsn ≡ true
     → (k : History) × Leads (acts_of_found (b, true) piece) b h (on_next_data (b, true) piece trigger).0 k
-credit_leads true b piece trigger h e binds next whole =
-    let t = taking_leads b piece h binds next whole in
+credit_leads true b piece trigger h e binds next =
+    let t = taking_leads b piece h binds next in
     rw (e, asks_same (taken_in b piece) piece trigger) t
-credit_leads false b piece trigger h e binds next whole = rw e (h, leads_nowhere b b h binds refl refl)
+credit_leads false b piece trigger h e binds next = rw e (h, leads_nowhere b b h binds refl refl)
 
 found_leads : (x : Shown × Bool) (piece : ChunkPayloadData) (trigger : AckTrigger) (h : History) → Binds x.0 h
     → is_next_after x.0.receiver piece.tsn ≡ true
-    → is_whole piece ≡ true → (k : History) × Leads (acts_of_found x piece) x.0 h (on_next_data x piece trigger).0 k
-found_leads (b, false) piece trigger h binds next whole = (h, leads_nowhere b b h binds refl refl)
-found_leads (b, true) piece trigger h binds next whole =
-    credit_leads (nat_lt 0 (credit_of b.receiver (bytes_waiting b.streams))) b piece trigger h refl binds next whole
+    → (k : History) × Leads (acts_of_found x piece) x.0 h (on_next_data x piece trigger).0 k
+found_leads (b, false) piece trigger h binds next = (h, leads_nowhere b b h binds refl refl)
+found_leads (b, true) piece trigger h binds next =
+    credit_leads (nat_lt 0 (credit_of b.receiver (bytes_waiting b.streams))) b piece trigger h refl binds next
 
 next_leads : (c : Bool) (a : Shown) (piece : ChunkPayloadData) (trigger : AckTrigger) (h : History)
     → (is_next_after a.receiver piece.tsn && is_whole piece) ≡ c
@@ -228,19 +208,13 @@ next_leads : (c : Bool) (a : Shown) (piece : ChunkPayloadData) (trigger : AckTri
 unfolding on_data
 next_leads false a piece trigger h e binds = rw e (h, leads_nowhere a (counted_data a) h binds refl refl)
 next_leads true a piece trigger h e binds =
-    let both = and_parts (is_next_after a.receiver piece.tsn) (is_whole piece) e in
+    let next = (and_parts (is_next_after a.receiver piece.tsn) (is_whole piece) e).0 in
     let b : Shown = counted_data a in
-    let counted : Binds b h = record {
-      first = binds.first;
-      reach = binds.reach;
-      below = binds.below;
-      above = binds.above;
-      passed = binds.passed;
-    } in
+    let counted : Binds b h = record { first = binds.first; point = binds.point; held = binds.held } in
     let id = piece.stream_identifier in
     let made = stream_leads (is_some (stream_at a.streams id)) (generation_left a.streams) b id h refl refl counted in
     let same = stream_receiver (is_some (stream_at a.streams id)) (generation_left a.streams) b id refl refl in
-    let rest = found_leads (stream_found b id) piece trigger h made.binds (rw same both.0) both.1 in
+    let rest = found_leads (stream_found b id) piece trigger h made.binds (rw same next) in
     rw e (
       rest.0,
       leads_on (acts_of_stream a id) (acts_of_found (stream_found b id) piece) {b = (stream_found b id).0} {k = h}
@@ -264,7 +238,8 @@ taken_within false false s point e f t =
     let u : is_taken (sack_outcome s point) ≡ true = ap is_taken t in let v = rw (e, f) at u in absurd (false≢true v)
 
 acknowledged_parts : (a : Shown) (moved : Bool) (now : ℕ) (x : Sender × Estimate × StreamMap) (k : History)
-    → parts (with_acknowledged a moved now x) k ≡ record { queue = x.0.queue; streams = x.2; history = k }
+    → parts (with_acknowledged a moved now x) k
+    ≡ record { queue = x.0.queue; streams = x.2; size = x.0.max_payload_size; history = k }
 acknowledged_parts a moved now (s, e, m) k = refl
 
 acknowledged_receiver : (a : Shown) (moved : Bool) (now : ℕ) (x : Sender × Estimate × StreamMap)
@@ -289,12 +264,10 @@ sack_taken_leads a point window now h binds within =
         first =
             ap (λ (p : Parts). p.queue.first_tsn) (same ∙ sym all) ∙ tied
             ∙ ap (λ (p : Parts). tsn p.history.own p.history.base) all;
-        reach =
+        point =
             ap (λ (r : Receiver). r.peer_last_tsn) (acknowledged_receiver (counted_sack a) (nat_lt 0 n) now x)
-            ∙ binds.reach;
-        below = binds.below;
-        above = binds.above;
-        passed = binds.passed;
+            ∙ binds.point;
+        held = same_held h k a.streams _ (record { peer = refl; taken = refl; passed = refl }) binds.held;
       };
     }
 
@@ -325,19 +298,18 @@ sack_leads true a point window trigger now h e binds =
 
 -- the peer's initial TSN became known
 met_leads : (a b : Shown) (t : ℕ) (h : History) → Binds a h → b.sender.queue ≡ a.sender.queue → b.streams ≡ a.streams
+    → b.sender.max_payload_size ≡ a.sender.max_payload_size
     → b.receiver.peer_last_tsn ≡ (t + 2 ^ 32 - 1) % 2 ^ 32
     → (k : History) × Leads (Act.PeerKnown t ∷ []) a h b k
-met_leads a b t h binds queue streams point = (
+met_leads a b t h binds queue streams size point = (
   with_peer h t,
   record {
     can = (tt, tt);
-    there = rw (queue, streams) refl;
+    there = rw (queue, streams, size) refl;
     binds = record {
       first = ap (λ (q : Outbound). q.first_tsn) queue ∙ binds.first;
-      reach = point ∙ omega arith;
-      below = λ o l. absurd (omega (arith, l));
-      above = λ o m. absurd (false≢true m);
-      passed = omega arith;
+      point = point ∙ omega arith;
+      held = nothing_is_held_at_first _ refl;
     };
   },
 )
@@ -354,17 +326,18 @@ module _ (a : Shown) (trigger : AckTrigger) (h : History) (binds : Binds a h) wh
       → (k : History) × Leads (acts_of_init a init) a h (on_init a header init trigger).0 k
   unfolding on_init
   init_leads true header init e =
-      rw e (met_leads a (answered (learned a header init)) init.initial_tsn h binds refl refl refl)
+      rw e (met_leads a (answered (learned a header init)) init.initial_tsn h binds refl refl refl refl)
   init_leads false header init e = rw e (h, leads_nowhere a a h binds refl refl)
 
   echoed_leads : (o : Option (List ℕ)) (b : Shown) (t now : ℕ)
       → b.sender.queue ≡ a.sender.queue → b.streams ≡ a.streams
+      → b.sender.max_payload_size ≡ a.sender.max_payload_size
       → b.receiver.peer_last_tsn ≡ (t + 2 ^ 32 - 1) % 2 ^ 32
       → (k : History) × Leads (Act.PeerKnown t ∷ []) a h (echoed o b trigger now).0 k
   unfolding sends_cookie
-  echoed_leads None b t now queue streams point = met_leads a b t h binds queue streams point
-  echoed_leads (Some cookie) b t now queue streams point =
-      met_leads a (with_echo b cookie now) t h binds queue streams point
+  echoed_leads None b t now queue streams size point = met_leads a b t h binds queue streams size point
+  echoed_leads (Some cookie) b t now queue streams size point =
+      met_leads a (with_echo b cookie now) t h binds queue streams size point
 
   init_ack_leads : (waits back : Bool) (header : CommonHeader) (init : ChunkInit) (now : ℕ)
       → is_cookie_wait a.state ≡ waits
@@ -372,7 +345,7 @@ module _ (a : Shown) (trigger : AckTrigger) (h : History) (binds : Binds a h) wh
       → (k : History) × Leads (acts_of_init_ack a header init) a h (on_init_ack a header init trigger now).0 k
   unfolding on_init_ack
   init_ack_leads true true header init now e f =
-      rw (e, f) (echoed_leads (first_cookie init.params) _ init.initial_tsn now refl refl refl)
+      rw (e, f) (echoed_leads (first_cookie init.params) _ init.initial_tsn now refl refl refl refl)
   init_ack_leads true false header init now e f = rw (e, f) (h, leads_nowhere a _ h binds refl refl)
   init_ack_leads false back header init now e f = rw e (h, leads_nowhere a a h binds refl refl)
 
@@ -498,10 +471,8 @@ leads_beside xs a b c h k same point m = record {
   there = same ∙ m.there;
   binds = record {
     first = ap (λ (p : Parts). p.queue.first_tsn) same ∙ m.binds.first;
-    reach = point ∙ m.binds.reach;
-    below = m.binds.below;
-    above = m.binds.above;
-    passed = m.binds.passed;
+    point = point ∙ m.binds.point;
+    held = same_held k k b.streams c.streams (past_itself k) m.binds.held;
   };
 }
 
@@ -533,10 +504,8 @@ written_leads a id bytes h binds =
             ap (λ (p : Parts). p.queue.first_tsn) there
             ∙ acts_tied (Act.Wrote id bytes ∷ []) (parts a h) (tt, tt) binds.first
             ∙ ap (λ (k : History). tsn k.own k.base) (written_history o a id bytes h);
-        reach = ap (λ (r : Receiver). r.peer_last_tsn) (written_receiver o a id bytes) ∙ binds.reach;
-        below = binds.below;
-        above = binds.above;
-        passed = binds.passed;
+        point = ap (λ (r : Receiver). r.peer_last_tsn) (written_receiver o a id bytes) ∙ binds.point;
+        held = same_held h h a.streams (written a id bytes).streams (past_itself h) binds.held;
       };
     }
 
@@ -615,14 +584,8 @@ t1_init_leads : (expired failure : Bool) (a : Shown) (now : ℕ) (h : History) �
 t1_init_leads false failure a now h binds = leads_nowhere a a h binds refl refl
 t1_init_leads true true a now h binds = leads_nowhere a _ h binds refl refl
 t1_init_leads true false a now h binds =
-    leads_on [] [] (leads_nowhere a (t1_init_expired a now) h binds refl refl)
-    (sends_init_leads (t1_init_expired a now) now h (record {
-      first = binds.first;
-      reach = binds.reach;
-      below = binds.below;
-      above = binds.above;
-      passed = binds.passed;
-    }))
+    let one = leads_nowhere a (t1_init_expired a now) h binds refl refl in
+    leads_on [] [] one (sends_init_leads (t1_init_expired a now) now h one.binds)
 
 t1_cookie_leads : (expired failure : Bool) (a : Shown) (now : ℕ) (h : History) → Binds a h
     → Leads [] a h
@@ -633,14 +596,8 @@ t1_cookie_leads : (expired failure : Bool) (a : Shown) (now : ℕ) (h : History)
 t1_cookie_leads false failure a now h binds = leads_nowhere a a h binds refl refl
 t1_cookie_leads true true a now h binds = leads_nowhere a _ h binds refl refl
 t1_cookie_leads true false a now h binds =
-    leads_on [] [] (leads_nowhere a (t1_cookie_expired a now) h binds refl refl)
-    (sends_cookie_leads (t1_cookie_expired a now) now h (record {
-      first = binds.first;
-      reach = binds.reach;
-      below = binds.below;
-      above = binds.above;
-      passed = binds.passed;
-    }))
+    let one = leads_nowhere a (t1_cookie_expired a now) h binds refl refl in
+    leads_on [] [] one (sends_cookie_leads (t1_cookie_expired a now) now h one.binds)
 
 pub handshake_timers_lead : (a : Shown) (now : ℕ) (h : History) → Binds a h
     → Leads [] a h (after_handshake_timers a now) h

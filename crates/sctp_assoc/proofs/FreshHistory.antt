@@ -1,23 +1,22 @@
 -- An association begins on the history in which nothing happened.
 use Rattle.std.proofs.Common.{◌≡◌, refl, ◌∙◌, ℕ, ◌^◌, ◌<◌, List, Option, Some, None, arith}
-use Rattle.std.proofs.lemmas.Bool.{false≢true}
 use Rattle.std.specs.declared.net.ip_addr.IpAddr.{IpAddr}
 use Rattle.std.specs.declared.net.socket_addr.SocketAddr.{SocketAddr}
 use Rattle.sctp_wire_types.specs.Config.{Settings}
 use Rattle.sctp_wire_types.specs.declared.config.ServerConfig.{ServerConfig}
-use Rattle.sctp_assoc.specs.Acts.{Binds, begun}
+use Rattle.sctp_assoc.specs.Leads.{Binds}
+use Rattle.sctp_directions.specs.Acts.{begun}
 use Rattle.sctp_assoc.specs.Created.{created, server, silent_client}
 use Rattle.sctp_assoc.specs.Shown.{Shown}
+use Rattle.sctp_fit.proofs.HeldTsns.{nothing_is_held_at_first}
 use Rattle.sctp_assoc.proofs.CallsLeadOn.{sends_init_leads}
 
 fresh_binds : (a : Shown) (tsn : ℕ) → tsn < 2 ^ 32 → a.sender.queue.first_tsn ≡ tsn → a.receiver.peer_last_tsn ≡ 0
     → Binds a (begun tsn 1)
 fresh_binds a tsn small first point = record {
   first = first ∙ omega (arith, small);
-  reach = point ∙ omega arith;
-  below = λ o l. absurd (omega (arith, l));
-  above = λ o m. absurd (false≢true m);
-  passed = omega arith;
+  point = point ∙ omega arith;
+  held = nothing_is_held_at_first _ refl;
 }
 
 -- an association that a handshake is to establish

@@ -6,3 +6,4 @@ mod PacketsReadAgain
 pub mod PolledData
 pub mod PollsLeadOn
 mod StreamReads
+pub mod WhatCame

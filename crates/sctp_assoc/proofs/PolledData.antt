@@ -14,7 +14,9 @@ use Rattle.sctp_outbound.specs.declared.sender.Sender.{Sender}
 use Rattle.sctp_outbound.specs.Sender.{after_resending, both_windows, can_send_next, chunk_of, first_chunk}
 use Rattle.sctp_outbound.specs.Sender.{first_counted, fits_windows, resends_alone, resent_by, resent_chunks}
 use Rattle.sctp_outbound.specs.Sender.{resent_pieces, sent_new, sent_one, sent_within, with_in_flight}
-use Rattle.sctp_assoc.specs.Acts.{Act, CanAll, History, Parts, done_all, all_data_given, first_chunk_said, parts}
+use Rattle.sctp_directions.specs.Acts.{Act, CanAll, History, Parts, done_all, all_data_given}
+use Rattle.sctp_fit.specs.Sendings.{next_chunks}
+use Rattle.sctp_assoc.specs.Leads.{parts}
 use Rattle.sctp_assoc.specs.Gather.{AckIsReadAgain, data_polled, with_sent_data}
 use Rattle.sctp_assoc.specs.Shown.{Shown}
 use Rattle.sctp_assoc.specs.Happened.{acks_given, acts_of_ack, acts_of_data_poll, acts_of_marks, acts_of_new}
@@ -147,7 +149,7 @@ first_again_gives (x ∷ ps) p e tied = again_one x ps [] p e tied
 
 -- the parts of a sender beside some streams
 abbrev pub sending : Sender → StreamMap → History → Parts
-sending s m h = record { queue = s.queue; streams = m; history = h }
+sending s m h = record { queue = s.queue; streams = m; size = s.max_payload_size; history = h }
 
 marks_give_if : (alone : Bool) (s : Sender) (m : StreamMap) (h : History) → s.queue.first_tsn ≡ tsn h.own h.base
     → Gives (if alone then first_again s.queue.in_flight else acts_of_resending 0 (both_windows s) s.queue.in_flight)
@@ -172,7 +174,7 @@ one_queue [] s out now e = rw e refl
 one_queue (m ∷ ms) s out now e = refl
 
 one_said : (ms : List Waiting) (s : Sender) (out : List ChunkPayloadData) (now : ℕ)
-    → (sent_one ms s out now).1 ≡ out ++ first_chunk_said ms (next_tsn_of s.queue)
+    → (sent_one ms s out now).1 ≡ out ++ next_chunks ms (next_tsn_of s.queue)
 unfolding sent_one
 one_said [] s out now = sym (append-nil out)
 one_said (m ∷ ms) s out now = refl
@@ -187,7 +189,7 @@ one_gives : (ms : List Waiting) (s : Sender) (out : List ChunkPayloadData) (now 
     → s.queue.pending ≡ ms
     → s.queue.first_tsn ≡ tsn h.own h.base
     → Gives (first_sent ms now) (sending s m h) (sending (sent_one ms s out now).0 m h)
-    (first_chunk_said ms (next_tsn_of s.queue))
+    (next_chunks ms (next_tsn_of s.queue))
 unfolding sent_one
 one_gives [] s out now m h e tied = gives_none (sending s m h)
 one_gives (w ∷ ws) s out now m h e tied = record {
@@ -227,7 +229,7 @@ module _ (now : ℕ) (m : StreamMap) (h : History) where
       → Adds (first_sent s.queue.pending now) (sending s m h) (sending (sent_one s.queue.pending s out now).0 m h) out
       (sent_one s.queue.pending s out now).1
   one_adds s out tied = record {
-    given = first_chunk_said s.queue.pending (next_tsn_of s.queue);
+    given = next_chunks s.queue.pending (next_tsn_of s.queue);
     gives = one_gives s.queue.pending s out now m h refl tied;
     all = one_said s.queue.pending s out now;
   }

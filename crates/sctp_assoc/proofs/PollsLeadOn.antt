@@ -6,7 +6,8 @@ use Rattle.sctp_wire_types.specs.declared.chunk.ChunkPayloadData.{ChunkPayloadDa
 use Rattle.sctp_serial.specs.Serial.{tsn}
 use Rattle.sctp_inbound.specs.Handshake.{header_of}
 use Rattle.sctp_inbound.specs.Receiver.{acknowledged}
-use Rattle.sctp_assoc.specs.Acts.{Act, Binds, History, Leads, Parts, all_data_given, done_all, parts}
+use Rattle.sctp_directions.specs.Acts.{Act, History, Parts, all_data_given, done_all}
+use Rattle.sctp_assoc.specs.Leads.{Binds, Leads, parts}
 use Rattle.sctp_assoc.specs.Calls.{is_established}
 use Rattle.sctp_assoc.specs.Happened.{Polls, PollsOn, acks_given, acts_of_ack, acts_of_data_poll, acts_of_poll}
 use Rattle.sctp_assoc.specs.Happened.{exchange_given}
@@ -17,6 +18,7 @@ use Rattle.sctp_assoc.specs.Shown.{Shown}
 use Rattle.sctp_assoc.proofs.ActsKeepOffsets.{acts_tied, given_append}
 use Rattle.sctp_assoc.proofs.PolledData.{Adds, data_poll_adds, data_poll_stays, IsSentBeside}
 use Rattle.sctp_assoc.proofs.CallsLeadOn.{leads_by, leads_nowhere, leads_on, past_itself}
+use Rattle.sctp_assoc.proofs.WhatCame.{same_held}
 
 pub both_first : (packets : List (List ℕ)) (x : Shown × List (List ℕ)) → (after_both packets x).0 ≡ x.0
 both_first packets (a, more) = refl
@@ -76,10 +78,8 @@ poll_of (b, pieces) xs a h same binds adds =
         first =
             ap (λ (p : Parts). p.queue.first_tsn) adds.gives.there ∙ acts_tied xs (parts a h) adds.gives.can binds.first
             ∙ ap (λ (p : Parts). tsn p.history.own p.history.base) (sym adds.gives.there);
-        reach = rw same.receiver binds.reach;
-        below = binds.below;
-        above = binds.above;
-        passed = binds.passed;
+        point = rw same.receiver binds.point;
+        held = same_held h h a.streams b.streams (past_itself h) binds.held;
       };
     } in
     let ack : Leads (acts_of_ack a) b h (ack_polled b).0 h = rw (← same.acts) (ack_leads b h mid.binds) in
@@ -127,13 +127,7 @@ polls : (a : Shown) (now : ℕ) (h : History) → PollIsReadAgain (without_contr
     → Polls (acts_of_poll a now) a h (polled a now).0 (polled a now).1
 polls a now h again binds =
     let b : Shown = without_control a in
-    let bound : Binds b h = record {
-      first = binds.first;
-      reach = binds.reach;
-      below = binds.below;
-      above = binds.above;
-      passed = binds.passed;
-    } in
+    let bound : Binds b h = record { first = binds.first; point = binds.point; held = binds.held } in
     let all = exchange_leads b now h bound in
     record {
       leads =

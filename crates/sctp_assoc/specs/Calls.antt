@@ -14,14 +14,14 @@ use Rattle.sctp_streams.specs.declared.event.AssociationError.{AssociationError}
 use Rattle.sctp_streams.specs.declared.event.AssociationError.TheVariants as reasons
 use Rattle.sctp_streams.specs.declared.event.Event.{Event}
 use Rattle.sctp_streams.specs.declared.event.Event.TheVariants.{AssociationLost, DataChannelStatsFinal, HandshakeFailed}
-use Rattle.sctp_outbound_queue.specs.Waiting.{Waiting}
 use Rattle.sctp_outbound_queue.specs.Outbound.{all_marked, with_message}
 use Rattle.sctp_receive_queues.specs.Messages.{ReceivedMessage}
 use Rattle.sctp_receive_queues.specs.Reassembly.{ready}
-use Rattle.sctp_streams.specs.Stream.{StreamView, accepted_by, params_for}
+use Rattle.sctp_streams.specs.Stream.{StreamView, accepted_by}
 use Rattle.sctp_streams.specs.Streams.{stream_at, generation_left, changed_stream, made, read_in, last_stats}
 use Rattle.sctp_streams.specs.Streams.{without_streams}
 use Rattle.sctp_inbound.specs.Receiver.{acknowledged_at_once}
+use Rattle.sctp_directions.specs.Acts.{message_of}
 use Rattle.sctp_assoc.specs.Shown.{Shown, all_stopped}
 
 -- a call with a Result is refused on a failed association before anything else
@@ -188,24 +188,6 @@ write_refusal_at a (Some s) size =
 abbrev pub write_refusal : Shown → ℕ → ℕ → Option Error
 write_refusal a id size =
     if a.failed then Some errors.ErrAssociationFailed else write_refusal_at a (stream_at a.streams id) size
-
--- a message as it is written on a stream: under the stream's parameters, and of one piece
-abbrev pub message_of : StreamView → ℕ → List ℕ → Waiting
-message_of s id bytes = record {
-  message = record {
-    message_id = 0;
-    stream_identifier = id;
-    generation = s.stats.generation;
-    unordered = (params_for s s.default_payload_type).unordered;
-    stream_sequence_number = s.next_ssn;
-    payload_type = s.default_payload_type;
-    policy = (params_for s s.default_payload_type).policy;
-    deadline = None;
-  };
-  begun = false;
-  user_data = bytes;
-  rest = [];
-}
 
 abbrev pub written_at : Option StreamView → Shown → ℕ → List ℕ → Shown
 written_at None a id bytes = a

@@ -27,7 +27,8 @@ use Rattle.sctp_outbound.specs.Sender.{after_resending, both_windows, can_send_n
 use Rattle.sctp_outbound.specs.Sender.{resent_by, sack_outcome, sent_one}
 use Rattle.sctp_assoc.specs.declared.inbound.Flow.{Flow}
 use Rattle.sctp_assoc.specs.declared.inbound.Flow.TheVariants as flows
-use Rattle.sctp_assoc.specs.Acts.{Act, Binds, History, Leads, all_data_given, parts}
+use Rattle.sctp_directions.specs.Acts.{Act, History, all_data_given}
+use Rattle.sctp_assoc.specs.Leads.{Binds, Leads, parts}
 use Rattle.sctp_assoc.specs.Calls.{is_beginning, is_closed_state, is_cookie_wait, is_established}
 use Rattle.sctp_assoc.specs.Chunks.{counted_data, is_whole, on_chunk, stream_found}
 use Rattle.sctp_assoc.specs.Gather.{AckIsReadAgain, AreControlReadAgain, AreReadAgain, control_packets, data_packets}

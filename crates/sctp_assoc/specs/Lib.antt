@@ -1,4 +1,4 @@
-pub mod Acts
+pub mod Leads
 pub mod Calls
 pub mod Chunks
 pub mod Control

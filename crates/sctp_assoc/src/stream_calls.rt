@@ -1,6 +1,7 @@
 // What an association does for the calls of its streams.
 ghost use Rattle.std.specs.Prelude.{◌≡◌, ◌↔◌, ◌∷◌, [], drop, length, slice_get, IsNone, OnOk, OnErr, IfOk};
-ghost use Rattle.sctp_assoc.specs.Acts.{Act, LeadsOn};
+ghost use Rattle.sctp_directions.specs.Acts.{Act};
+ghost use Rattle.sctp_assoc.specs.Leads.{LeadsOn};
 ghost use Rattle.sctp_assoc.specs.Calls.{Refuses, RefusesOrLacksMemory, write_refusal, written, read_refusal};
 ghost use Rattle.sctp_assoc.specs.Calls.{read_from_stream, ready_messages, buffered_of};
 

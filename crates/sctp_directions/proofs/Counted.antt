@@ -1,4 +1,4 @@
--- Accepted messages are counted as more of them are accepted, and few of them keep a plain direction within its limits.
+-- Accepted messages are counted as more of them are accepted.
 use Rattle.std.proofs.Common.{◌≡◌, refl, sym, ap, ◌∙◌, subst, ⊎_elim, ℕ, ◌+◌, ◌≤◌, arith, true, false, eqb, ◌||◌}
 use Rattle.std.proofs.Common.{List, [], ◌∷◌}
 use Rattle.std.specs.List.{sum_by}
@@ -9,11 +9,7 @@ use Rattle.sctp_model.specs.Packets.{mem}
 use Rattle.sctp_model.specs.Machine.{Direction}
 use Rattle.sctp_model.specs.Safe.{AreDistinct}
 use Rattle.sctp_fit.specs.Counted.{all_pieces}
-use Rattle.sctp_fit.proofs.PlacesCounted.{few_pieces_stay_within}
-use Rattle.sctp_directions.specs.Laws.{AcceptedMessagesAreCounted, FewMessagesStayWithin, NothingIsAcceptedAtFirst}
-
-pub few_messages_stay_within : FewMessagesStayWithin
-few_messages_stay_within n w few a inv plain = few_pieces_stay_within n w few a inv
+use Rattle.sctp_directions.specs.Laws.{AcceptedMessagesAreCounted, NothingIsAcceptedAtFirst}
 
 -- More pieces of one stream
 

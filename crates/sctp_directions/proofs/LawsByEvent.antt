@@ -1,64 +1,61 @@
 -- What each event of a direction between associations leaves, and what it keeps.
-use Rattle.std.proofs.Common.{◌≡◌, ◌⊎◌, refl, sym, ap, ◌∙◌, subst, ⊎_elim, inl, inr, ℕ, ◌≤◌, arith, Bool, true, false}
-use Rattle.std.proofs.Common.{eqb, ltb, if◌then◌else◌, List, [], ◌∷◌, ◌++◌, Option, Some, None}
+use Rattle.std.proofs.Common.{◌≡◌, ◌⊎◌, refl, sym, ap, ap₂, ◌∙◌, subst, ⊎_elim, inl, inr, ℕ, zero, suc, ◌<◌, ◌≤◌}
+use Rattle.std.proofs.Common.{arith, Bool, true, eqb, if◌then◌else◌, length, List, [], ◌∷◌, ◌++◌, Option, Some, None}
 use Rattle.std.specs.Prelude.{◌==◌, slice_get}
-use Rattle.std.proofs.lemmas.Bool.{cases_eq, cond-false, cond-true, cond_both, eq-eqb, false≢true, le-ltb, ltb-false}
-use Rattle.std.proofs.lemmas.Bool.{ne_eqb}
+use Rattle.std.proofs.lemmas.Bool.{cases_eq, cond-false, cond-true, cond_both, eq-eqb, false≢true, le-ltb, ne_eqb}
 use Rattle.std.proofs.lemmas.List.{append-nil}
-use Rattle.sctp_model.specs.Messages.{Message, Place, as_kept, message_at}
-use Rattle.sctp_model.specs.Packets.{Data, Sack, data_at, mem}
-use Rattle.sctp_model.specs.Machine as machine
-use Rattle.sctp_model.specs.Machine.{Direction, Event, Sender, acknowledged_by, begin, begin_if, can_begin, can_resend}
-use Rattle.sctp_model.specs.Machine.{counted, first_place, fresh, happens, is_empty, number_for, put, sack_comes}
-use Rattle.sctp_model.specs.Machine.{written}
+use Rattle.sctp_model.specs.Messages.{Message, Policy, as_kept}
+use Rattle.sctp_model.specs.Packets.{Data, mem}
+use Rattle.sctp_model.specs.Machine.{Direction, Event, Sender, acknowledged_by, happens, put, written}
 use Rattle.sctp_model.specs.Invariants.{Invariant}
 use Rattle.sctp_model.proofs.PlansGrow.{at_put, off_put}
+use Rattle.sctp_model.proofs.SenderEvents.{keeps_pass_over}
+use Rattle.sctp_model.proofs.OffsetsAssigned.{keeps_go_on}
 use Rattle.sctp_model.proofs.EventsKeepInvariant.{begin_event_keeps, resend_event_keeps, sack_event_keeps}
 use Rattle.sctp_model.proofs.EventsKeepInvariant.{write_event_keeps}
-use Rattle.sctp_directions.specs.Events.{Accepts, Assigns, Brings, GivesAMessage, IsAtReceiver, IsAtSender, IsReceived}
-use Rattle.sctp_directions.specs.Events.{IsSentOn}
+use Rattle.sctp_directions.specs.Events.{Accepts, Assigns, Brings, GivesAMessage, IsOfReceiving, IsOfSending}
+use Rattle.sctp_directions.specs.Events.{IsReceived, IsSentOn}
 use Rattle.sctp_directions.specs.Laws.{ClosedReceiversAreNotOpen, EventsKeepTheLimits, FreshDirectionsArePlain}
 use Rattle.sctp_directions.specs.Laws.{OnlyBeginningsAssign, OnlyReadsGiveMessages, OnlyWhatIsBroughtIsTakenIn}
 use Rattle.sctp_directions.specs.Laws.{OnlyWritesAccept, PlainEventsKeepItPlain, ReceiversEventsAreReceived}
-use Rattle.sctp_directions.specs.Laws.{SendersEventsAreSent, SendersEventsKeepTheInvariant, SendersEventsLeaveWhatComes}
-use Rattle.sctp_directions.specs.Laws.{WritesAreAcceptedLast}
-use Rattle.sctp_directions.specs.Incoming.{FitsIncoming}
-use Rattle.sctp_directions.proofs.IncomingKept.{begin_fits, resend_fits, sack_comes_fits, write_fits}
+use Rattle.sctp_directions.specs.Laws.{SendersEventsAreSent, SendersEventsKeepTheInvariant, WritesAreAcceptedLast}
 use Rattle.sctp_directions.proofs.PlainReceiver.{close_received, close_takes, closed, data_cases, data_received}
 use Rattle.sctp_directions.proofs.PlainReceiver.{data_takes, open_received, open_takes, plain_close, plain_data}
 use Rattle.sctp_directions.proofs.PlainReceiver.{plain_open, plain_read, plain_sack, read_received, read_takes}
 use Rattle.sctp_directions.proofs.PlainReceiver.{sack_received, sack_takes, within_close, within_data, within_open}
 use Rattle.sctp_directions.proofs.PlainReceiver.{within_sack, within_sack_comes}
-use Rattle.sctp_directions.proofs.PlainSender.{happens_write, plain_begin, plain_resend, plain_sack_comes, plain_write}
-use Rattle.sctp_directions.proofs.SenderEvents.{sent_begin, sent_resend, sent_sack_comes, sent_write}
+use Rattle.sctp_directions.proofs.PlainSender.{plain_begin, plain_go_on, plain_pass_over, plain_resend}
+use Rattle.sctp_directions.proofs.PlainSender.{plain_sack_comes, plain_write}
+use Rattle.sctp_directions.proofs.SenderEvents.{begin_cases, go_on_cases, pass_over_cases, resend_cases, sack_cases}
+use Rattle.sctp_directions.proofs.SenderEvents.{write_cases}
 
 -- Which events there are
 
-by_sender : (P : Event → Type 0) → ((s : ℕ) (m : Message) → P (Event.Write s m))
-    → ((s i any : ℕ) → P (Event.Begin s i any)) → ((o : ℕ) → P (Event.Resend o))
-    → ((k : ℕ) → P (Event.SackComes k)) → (e : Event) → IsAtSender e → P e
-by_sender P writes begins resends sacks (Event.Write s m) h = writes s m
-by_sender P writes begins resends sacks (Event.PassOver s) h = absurd h
-by_sender P writes begins resends sacks (Event.Drop s i) h = absurd h
-by_sender P writes begins resends sacks (Event.Begin s i any) h = begins s i any
-by_sender P writes begins resends sacks Event.GoOn h = absurd h
-by_sender P writes begins resends sacks (Event.Resend o) h = resends o
-by_sender P writes begins resends sacks (Event.Abandon s i) h = absurd h
-by_sender P writes begins resends sacks (Event.SackComes k) h = sacks k
-by_sender P writes begins resends sacks Event.ForwardMade h = absurd h
-by_sender P writes begins resends sacks (Event.DataComes k) h = absurd h
-by_sender P writes begins resends sacks Event.SackMade h = absurd h
-by_sender P writes begins resends sacks (Event.ForwardComes k) h = absurd h
-by_sender P writes begins resends sacks (Event.Open s) h = absurd h
-by_sender P writes begins resends sacks (Event.Read s) h = absurd h
-by_sender P writes begins resends sacks Event.Close h = absurd h
-by_sender P writes begins resends sacks (Event.End s) h = absurd h
-by_sender P writes begins resends sacks (Event.Restart s) h = absurd h
-by_sender P writes begins resends sacks (Event.Replace s q) h = absurd h
+by_sender : (P : Event → Type 0) → ((s : ℕ) (m : Message) → P (Event.Write s m)) → ((s : ℕ) → P (Event.PassOver s))
+    → ((s i any : ℕ) → P (Event.Begin s i any)) → P Event.GoOn → ((o : ℕ) → P (Event.Resend o))
+    → ((k : ℕ) → P (Event.SackComes k)) → (e : Event) → IsOfSending e → P e
+by_sender P writes passes begins goes_on resends sacks (Event.Write s m) h = writes s m
+by_sender P writes passes begins goes_on resends sacks (Event.PassOver s) h = passes s
+by_sender P writes passes begins goes_on resends sacks (Event.Drop s i) h = absurd h
+by_sender P writes passes begins goes_on resends sacks (Event.Begin s i any) h = begins s i any
+by_sender P writes passes begins goes_on resends sacks Event.GoOn h = goes_on
+by_sender P writes passes begins goes_on resends sacks (Event.Resend o) h = resends o
+by_sender P writes passes begins goes_on resends sacks (Event.Abandon s i) h = absurd h
+by_sender P writes passes begins goes_on resends sacks (Event.SackComes k) h = sacks k
+by_sender P writes passes begins goes_on resends sacks Event.ForwardMade h = absurd h
+by_sender P writes passes begins goes_on resends sacks (Event.DataComes k) h = absurd h
+by_sender P writes passes begins goes_on resends sacks Event.SackMade h = absurd h
+by_sender P writes passes begins goes_on resends sacks (Event.ForwardComes k) h = absurd h
+by_sender P writes passes begins goes_on resends sacks (Event.Open s) h = absurd h
+by_sender P writes passes begins goes_on resends sacks (Event.Read s) h = absurd h
+by_sender P writes passes begins goes_on resends sacks Event.Close h = absurd h
+by_sender P writes passes begins goes_on resends sacks (Event.End s) h = absurd h
+by_sender P writes passes begins goes_on resends sacks (Event.Restart s) h = absurd h
+by_sender P writes passes begins goes_on resends sacks (Event.Replace s q) h = absurd h
 
 by_receiver : (P : Event → Type 0) → ((k : ℕ) → P (Event.DataComes k)) → P Event.SackMade → ((s : ℕ) → P (Event.Open s))
     → ((s : ℕ) → P (Event.Read s))
-    → P Event.Close → (e : Event) → IsAtReceiver e → P e
+    → P Event.Close → (e : Event) → IsOfReceiving e → P e
 by_receiver P comes made opens reads closes (Event.Write s m) h = absurd h
 by_receiver P comes made opens reads closes (Event.PassOver s) h = absurd h
 by_receiver P comes made opens reads closes (Event.Drop s i) h = absurd h
@@ -78,69 +75,104 @@ by_receiver P comes made opens reads closes (Event.End s) h = absurd h
 by_receiver P comes made opens reads closes (Event.Restart s) h = absurd h
 by_receiver P comes made opens reads closes (Event.Replace s q) h = absurd h
 
--- The acknowledged reach moves on alone.
+-- The sender's events
 
-counted_reach : (b : Bool) (x : Sender) (s i : ℕ) → (counted x s i b).reach ≡ x.reach
-counted_reach true x s i = refl
-counted_reach false x s i = refl
+-- what an event of the sender leaves, and that the acknowledged reach never moves back
+abbrev IsSentFrom : Direction → Direction → Type 0
+IsSentFrom w v = IsSentOn w v × (w.sender.reach ≤ v.sender.reach)
 
-begun_on : (w : Direction) (s i number : ℕ) → w.sender.reach ≤ (begin w s i number).sender.reach
-begun_on w s i number =
-    let e = counted_reach (message_at w.sender.plan s i).ordered (machine.sent w.sender (first_place s i number)) s i in
-    omega arith
+-- an event that changes the sender, and after which the DATA given out before stands where it stood
+sent_on : (w : Direction) (x : Sender) (datas : List Data) → x.plan.size ≡ w.sender.plan.size
+    → w.sender.reach ≤ x.reach
+    → ((k : ℕ) (d : Data) → slice_get w.datas k ≡ Some d → slice_get datas k ≡ Some d)
+    → IsSentFrom w (record w { sender = x; datas = datas })
+sent_on w x datas size on kept =
+    (record { datas = kept; sacks = refl; receiver = refl; reads = refl; over = refl; size = size }, on)
 
-written_reach : (w : Direction) (s : ℕ) (m : Message) → w.sender.reach ≤ (happens w (Event.Write s m)).sender.reach
-unfolding happens
-written_reach w s m =
-    cond_both (is_empty m) w (record w { sender = written w.sender s (as_kept m) })
-    (λ v. w.sender.reach ≤ v.sender.reach)
-    (λ b. omega arith) (λ b. omega arith)
+-- an event that gives out no DATA
+sent_same : (w : Direction) (x : Sender) → x.plan.size ≡ w.sender.plan.size → w.sender.reach ≤ x.reach
+    → IsSentFrom w (record w { sender = x })
+sent_same w x size on = sent_on w x w.datas size on (λ k d e. e)
 
-begun_reach : (w : Direction) (s i any : ℕ) → w.sender.reach ≤ (happens w (Event.Begin s i any)).sender.reach
-unfolding happens
-begun_reach w s i any = go w.sender.current
+-- an event that gives out DATA, behind all that was given out
+sent_more : (w : Direction) (x : Sender) (d : Data) → x.plan.size ≡ w.sender.plan.size → w.sender.reach ≤ x.reach
+    → IsSentFrom w (record w { sender = x; datas = w.datas ++ d ∷ [] })
+sent_more w x d size on = sent_on w x (w.datas ++ d ∷ []) size on (λ k c e. got_before w.datas k c e)
   where
-    go : (c : Option Place) → w.sender.reach ≤ (begin_if w s i any c).sender.reach
-    go None =
-        cond_both (can_begin w.sender s i) (begin w s i (number_for w.sender s i any)) w
-        (λ v. w.sender.reach ≤ v.sender.reach)
-        (λ b. begun_on w s i (number_for w.sender s i any)) (λ b. omega arith)
-    go (Some x) = omega arith
+    got_before : (xs : List Data) (k : ℕ) (c : Data) → slice_get xs k ≡ Some c → slice_get (xs ++ d ∷ []) k ≡ Some c
+    got_before [] k c e = absurd (cc)
+    got_before (y ∷ xs) zero c e = e
+    got_before (y ∷ xs) (suc k) c e = got_before xs k c e
 
-resent_reach : (w : Direction) (o : ℕ) → w.sender.reach ≤ (happens w (Event.Resend o)).sender.reach
-unfolding happens
-resent_reach w o =
-    cond_both (can_resend w.sender.plan o) (record w { datas = w.datas ++ data_at w.sender.plan o ∷ [] }) w
-    (λ v. w.sender.reach ≤ v.sender.reach) (λ b. omega arith) (λ b. omega arith)
-
-sack_reach : (w : Direction) (k : ℕ) → w.sender.reach ≤ (happens w (Event.SackComes k)).sender.reach
-unfolding happens
-sack_reach w k = go (slice_get w.sacks k)
-  where
-    go : (x : Option Sack) → w.sender.reach ≤ (sack_comes w x).sender.reach
-    go None = omega arith
-    go (Some x) =
-        cond_both (ltb x.reach w.sender.reach) w (record w { sender = acknowledged_by w.sender x })
-        (λ v. w.sender.reach ≤ v.sender.reach)
-        (λ b. omega arith) (λ b. ltb-false _ _ b)
+-- an event that can't happen where it stands
+sent_nothing : (w : Direction) → IsSentFrom w w
+sent_nothing w = sent_same w w.sender refl (omega arith)
 
 pub senders_events_are_sent : SendersEventsAreSent
 senders_events_are_sent w e at =
-    by_sender (λ (x : Event). IsSentOn w (happens w x) × (w.sender.reach ≤ (happens w x).sender.reach))
-    (λ s m. (sent_write w s m, written_reach w s m))
-    (λ s i any. ((sent_begin w s i any).on, begun_reach w s i any))
-    (λ o. ((sent_resend w o).on, resent_reach w o))
-    (λ k. ((sent_sack_comes w k).on, sack_reach w k))
+    by_sender (λ (x : Event). IsSentFrom w (happens w x))
+    (λ s m. write_cases (IsSentFrom w) w s m (sent_nothing w) (sent_same w _ refl (omega arith)))
+    (λ s. pass_over_cases (IsSentFrom w) w s (sent_nothing w) (λ b. sent_same w _ refl (omega arith)))
+    (λ s i any. begin_cases (IsSentFrom w) w s i any (sent_nothing w) (λ n f g. sent_more w _ _ refl (omega arith)))
+    (go_on_cases (IsSentFrom w) w (sent_nothing w) (λ y b. sent_more w _ _ refl (omega arith)))
+    (λ o. resend_cases (IsSentFrom w) w o (sent_nothing w) (sent_more w w.sender _ refl (omega arith)))
+    (λ k. sack_cases (IsSentFrom w) w k (sent_nothing w) (λ x b l. sent_same w (acknowledged_by w.sender x) refl l))
     e at
 
 pub only_writes_accept : OnlyWritesAccept
 only_writes_accept w e at none =
-    by_sender (λ (x : Event). (Accepts x → ⊥) → (happens w x).sender.plan.accepted ≡ w.sender.plan.accepted)
+    by_sender (λ (x : Event). (Accepts x → ⊥) → P (happens w x))
     (λ s m n. absurd (n tt))
-    (λ s i any n. (sent_begin w s i any).accepted)
-    (λ o n. (sent_resend w o).accepted)
-    (λ k n. (sent_sack_comes w k).accepted)
+    (λ s n. pass_over_cases P w s refl (λ b. refl))
+    (λ s i any n. begin_cases P w s i any refl (λ m f g. refl))
+    (λ n. go_on_cases P w refl (λ y b. refl))
+    (λ o n. resend_cases P w o refl refl)
+    (λ k n. sack_cases P w k refl (λ x b l. refl))
     e at none
+  where
+    P : Direction → Type 0
+    P v = v.sender.plan.accepted ≡ w.sender.plan.accepted
+
+pub only_beginnings_assign : OnlyBeginningsAssign
+only_beginnings_assign w e at none =
+    by_sender (λ (x : Event). (Assigns x → ⊥) → P (happens w x))
+    (λ s m n. write_cases P w s m refl refl)
+    (λ s n. pass_over_cases P w s refl (λ b. refl))
+    (λ s i any n. absurd (n tt))
+    (λ n. absurd (n tt))
+    (λ o n. resend_cases P w o refl refl)
+    (λ k n. sack_cases P w k refl (λ x b l. refl))
+    e at none
+  where
+    P : Direction → Type 0
+    P v = v.sender.plan.places ≡ w.sender.plan.places
+
+pub senders_events_keep_the_invariant : SendersEventsKeepTheInvariant
+senders_events_keep_the_invariant w e at h =
+    by_sender (λ (x : Event). Invariant (happens w x)) (λ s m. write_event_keeps w s m h)
+    (λ s. pass_over_cases Invariant w s h (λ b. keeps_pass_over w s b h))
+    (λ s i any. begin_event_keeps w s i any h)
+    (go_on_cases Invariant w h (λ y b. keeps_go_on w y b h))
+    (λ o. resend_event_keeps w o h) (λ k. sack_event_keeps w k h) e at
+
+-- Writes
+
+-- an ordered, reliable message is kept as it was written
+kept_as_written : (m : Message) → m.ordered ≡ true → m.policy ≡ Policy.Reliable → as_kept m ≡ m
+kept_as_written m o p =
+    cond_both (eqb m.payload_type 50) (record m { ordered = true; policy = Policy.Reliable }) m (λ z. z ≡ m)
+    (λ b. ap₂ (λ (x : Bool) (y : Policy). record m { ordered = x; policy = y }) (sym o) (sym p))
+    (λ b. refl)
+
+-- a direction after the write of such a message, of one byte at least
+happens_write : (w : Direction) (s : ℕ) (m : Message) → 0 < length m.bytes → m.ordered ≡ true
+    → m.policy ≡ Policy.Reliable
+    → happens w (Event.Write s m) ≡ record w { sender = written w.sender s m }
+unfolding happens
+happens_write w s m some o p =
+    cond-false (eqb (length m.bytes) 0) w (record w { sender = written w.sender s (as_kept m) })
+    (ne_eqb _ _ (λ (e : length m.bytes ≡ 0). omega arith))
+    ∙ ap (λ z. record w { sender = written w.sender s z }) (kept_as_written m o p)
 
 -- one message more on stream s, seen from stream t
 accepted_more : (f : ℕ → List Message) (s t : ℕ) (m : Message)
@@ -153,46 +185,9 @@ accepted_more f s t m = ⊎_elim
     (cases_eq s t)
 
 pub writes_are_accepted_last : WritesAreAcceptedLast
-writes_are_accepted_last w s t m simple =
-    ap (λ (v : Direction). v.sender.plan.accepted t) (happens_write w s m simple)
+writes_are_accepted_last w s t m some o p =
+    ap (λ (v : Direction). v.sender.plan.accepted t) (happens_write w s m some o p)
     ∙ accepted_more w.sender.plan.accepted s t m
-
--- Offsets
-
-written_places : (w : Direction) (s : ℕ) (m : Message)
-    → (happens w (Event.Write s m)).sender.plan.places ≡ w.sender.plan.places
-unfolding happens
-written_places w s m =
-    cond_both (is_empty m) w (record w { sender = written w.sender s (as_kept m) })
-    (λ v. v.sender.plan.places ≡ w.sender.plan.places)
-    (λ b. refl) (λ b. refl)
-
-resent_places : (w : Direction) (o : ℕ) → (happens w (Event.Resend o)).sender.plan.places ≡ w.sender.plan.places
-unfolding happens
-resent_places w o =
-    cond_both (can_resend w.sender.plan o) (record w { datas = w.datas ++ data_at w.sender.plan o ∷ [] }) w
-    (λ v. v.sender.plan.places ≡ w.sender.plan.places)
-    (λ b. refl) (λ b. refl)
-
-sack_places : (w : Direction) (k : ℕ) → (happens w (Event.SackComes k)).sender.plan.places ≡ w.sender.plan.places
-unfolding happens
-sack_places w k = go (slice_get w.sacks k)
-  where
-    go : (x : Option Sack) → (sack_comes w x).sender.plan.places ≡ w.sender.plan.places
-    go None = refl
-    go (Some x) =
-        cond_both (ltb x.reach w.sender.reach) w (record w { sender = acknowledged_by w.sender x })
-        (λ v. v.sender.plan.places ≡ w.sender.plan.places)
-        (λ b. refl) (λ b. refl)
-
-pub only_beginnings_assign : OnlyBeginningsAssign
-only_beginnings_assign w e at none =
-    by_sender (λ (x : Event). (Assigns x → ⊥) → (happens w x).sender.plan.places ≡ w.sender.plan.places)
-    (λ s m n. written_places w s m)
-    (λ s i any n. absurd (n tt))
-    (λ o n. resent_places w o)
-    (λ k n. sack_places w k)
-    e at none
 
 -- The receiver's events
 
@@ -255,24 +250,12 @@ closed_receivers_are_not_open = closed
 
 -- What is kept
 
-pub senders_events_keep_the_invariant : SendersEventsKeepTheInvariant
-senders_events_keep_the_invariant w e at h =
-    by_sender (λ (x : Event). Invariant (happens w x)) (λ s m. write_event_keeps w s m h)
-    (λ s i any. begin_event_keeps w s i any h) (λ o. resend_event_keeps w o h)
-    (λ k. sack_event_keeps w k h) e at
-
-pub senders_events_leave_what_comes : SendersEventsLeaveWhatComes
-senders_events_leave_what_comes a w e at inv plain fits =
-    by_sender (λ (x : Event). FitsIncoming a (happens w x)) (λ s m. write_fits a w s m inv plain fits)
-    (λ s i any. begin_fits a w s i any inv plain fits)
-    (λ o. resend_fits a w o inv plain fits) (λ k. sack_comes_fits a w k inv plain fits) e at
-
 pub plain_events_keep_it_plain : PlainEventsKeepItPlain
-plain_events_keep_it_plain w (Event.Write s m) e h = plain_write w s m e h
-plain_events_keep_it_plain w (Event.PassOver s) e h = absurd e
+plain_events_keep_it_plain w (Event.Write s m) e h = plain_write w s m h
+plain_events_keep_it_plain w (Event.PassOver s) e h = plain_pass_over w s h
 plain_events_keep_it_plain w (Event.Drop s i) e h = absurd e
-plain_events_keep_it_plain w (Event.Begin s i any) e h = plain_begin w s i any e.0 e.1 h
-plain_events_keep_it_plain w Event.GoOn e h = absurd e
+plain_events_keep_it_plain w (Event.Begin s i any) e h = plain_begin w s i any h
+plain_events_keep_it_plain w Event.GoOn e h = plain_go_on w h
 plain_events_keep_it_plain w (Event.Resend o) e h = plain_resend w o h
 plain_events_keep_it_plain w (Event.Abandon s i) e h = absurd e
 plain_events_keep_it_plain w (Event.SackComes k) e h = plain_sack_comes w k h
@@ -311,12 +294,6 @@ events_keep_the_limits w (Event.Replace s q) e h = absurd e
 pub fresh_directions_are_plain : FreshDirectionsArePlain
 fresh_directions_are_plain size = (
   record {
-    messages = λ s i l. absurd (omega arith);
-    places = λ o l. absurd (omega arith);
-    current = refl;
-    next = λ s. refl;
-    ssn = λ s. refl;
-    begun = λ s i. sym (le-ltb i 0 (omega arith));
     stays = λ s i. refl;
     acknowledged = λ o. sym (le-ltb o 0 (omega arith));
     sacks = tt;

@@ -1,76 +1,37 @@
--- What the receiver of a plain direction does: its reach moves by one with each DATA, and it leaves the sender's side
--- as it is.
+-- What the receiver's events keep of a plain direction, whose reach moves on with each DATA, and of the limits; and
+-- that they leave the sender's side as it is.
 use Rattle.std.proofs.Common.{◌≡◌, ◌⊎◌, refl, sym, ap, ◌∙◌, subst, subst₂, inl, inr, ⊎_elim, ℕ, zero, suc, ◌+◌, ◌^◌}
 use Rattle.std.proofs.Common.{◌<◌, ◌≤◌, arith, true, false, leb, List, [], ◌∷◌, ◌++◌, length, Option, Some, None}
 use Rattle.std.specs.Prelude.{filter, slice_get}
 use Rattle.std.specs.List.{AllByRecursion}
-use Rattle.std.proofs.lemmas.Bool.{and_from, cases_lt, cond-true, cond_both, eq-eqb, false_from_ne_true, le-leb, lt-leb}
-use Rattle.std.proofs.lemmas.Bool.{ltb-false, not_from_false, true≢false}
+use Rattle.std.proofs.lemmas.Bool.{cases_lt, cond_both, eq-eqb, lt-leb, true≢false}
 use Rattle.sctp_model.specs.Packets.{Data, Sack, mem}
 use Rattle.sctp_model.specs.Reassembly.{Got, Queue, Taken, next}
-use Rattle.sctp_model.specs.Machine.{Direction, Event, Receiver, data_comes, happens, opened, reach, put, read}
-use Rattle.sctp_model.specs.Machine.{sack_comes, sack_of, took, was_read}
+use Rattle.sctp_model.specs.Machine.{Direction, Event, Receiver, data_comes, happens, opened, put, reach, read, sack_of}
+use Rattle.sctp_model.specs.Machine.{took, was_read}
 use Rattle.sctp_model.specs.Safe.{IsWithin, unread}
 use Rattle.sctp_model.proofs.StreamsTakeData.{mem_new, mem_old}
-use Rattle.sctp_model.proofs.OffsetSets.{reach_below, reach_from, reach_stops}
+use Rattle.sctp_model.proofs.OffsetSets.{reach_grows, reach_stops}
 use Rattle.sctp_model.proofs.Lists.{all_push}
 use Rattle.sctp_directions.specs.Events.{IsReceived}
 use Rattle.sctp_directions.specs.Plain.{IsPlain}
+use Rattle.sctp_directions.proofs.SenderEvents.{sack_cases}
 
 -- The reach
 
--- the reach is the one number below which all was taken in or passed over, and that itself was not taken in
-pub reach_is : (r : Receiver) (n : ℕ) → r.passed ≤ n → ((o : ℕ) → o < n → (mem o r.taken ≡ true) ⊎ (o < r.passed))
-    → mem n r.taken ≡ false → reach r ≡ n
-reach_is r n from below stops =
-    ⊎_elim
-    (λ (l : reach r < n).
-    ⊎_elim
-    (λ (m : mem (reach r) r.taken ≡ true). absurd (true≢false (sym m ∙ reach_stops r)))
-    (λ (b : reach r < r.passed). absurd (let f = reach_from r in omega arith))
-    (below (reach r) l))
-    (λ (g : n ≤ reach r).
-    ⊎_elim
-    (λ (l : n < reach r).
-    ⊎_elim
-    (λ (m : mem n r.taken ≡ true). absurd (true≢false (sym m ∙ stops)))
-    (λ (b : n < r.passed). absurd (omega arith))
-    (reach_below r n l))
-    (λ (e : reach r ≤ n). omega arith)
-    (cases_lt n (reach r)))
-    (cases_lt (reach r) n)
-
--- DATA at the reach moves it by one, where nothing is held above it
-pub reach_took : (r : Receiver) (d : Data) → ((o : ℕ) → mem o r.taken ≡ true → o < reach r) → d.offset ≡ reach r
-    → reach (took r d) ≡ suc (reach r)
-reach_took r d held e = reach_is (took r d) (suc (reach r)) (let f = reach_from r in omega arith)
-    (λ o l. ⊎_elim
-    (λ (b : o < reach r). ⊎_elim
-    (λ (m : mem o r.taken ≡ true). inl (mem_old d.offset o r.taken m))
-    (λ (f : o < r.passed). inr f)
-    (reach_below r o b))
-    (λ (g : reach r ≤ o). inl (here o (omega arith)))
-    (cases_lt o (reach r)))
-    (false_from_ne_true _ (λ (m : mem (suc (reach r)) (d.offset ∷ r.taken) ≡ true). ⊎_elim
-    (λ (c : d.offset ≡ suc (reach r)). omega arith)
-    (λ (b : mem (suc (reach r)) r.taken ≡ true). let l = held (suc (reach r)) b in omega arith)
-    (mem_new d.offset (suc (reach r)) r.taken m)))
+-- DATA at the reach moves it on
+past_reach : (r : Receiver) (d : Data) → d.offset ≡ reach r → reach r < reach (took r d)
+past_reach r d e = ⊎_elim
+    (λ (b : reach r < reach (took r d)). b)
+    (λ (b : reach (took r d) ≤ reach r).
+    let g = reach_grows r (took r d) (λ o m. mem_old d.offset o r.taken m) (omega arith) in
+    absurd (true≢false (sym (here (reach (took r d)) (omega arith)) ∙ reach_stops (took r d))))
+    (cases_lt (reach r) (reach (took r d)))
   where
     here : (o : ℕ) → d.offset ≡ o → mem o (d.offset ∷ r.taken) ≡ true
     here o c = rw (eq-eqb d.offset o c) refl
 
 -- The events, by their cases
-
--- DATA at the reach is taken in by a receiver that is open
-pub data_taken : (w : Direction) (k : ℕ) (d : Data) → slice_get w.datas k ≡ Some d → w.receiver.is_open ≡ true
-    → d.offset ≡ reach w.receiver
-    → happens w (Event.DataComes k) ≡ record w { receiver = took w.receiver d }
-unfolding happens
-data_taken w k d e o p =
-    ap (data_comes w) e
-    ∙ cond-true _ _ _ (and_from w.receiver.is_open _ o
-    (and_from (leb (reach w.receiver) d.offset) _ (le-leb _ _ (omega arith))
-    (not_from_false _ (ap (λ z. mem z w.receiver.taken) p ∙ reach_stops w.receiver))))
 
 -- what holds before DATA comes and after one that is taken in holds after it
 pub data_cases : (P : Direction → Type 0) (w : Direction) (k : ℕ) → P w
@@ -107,17 +68,11 @@ none_above n (x ∷ xs) h =
     rw (lt-leb n x l) (none_above n xs (λ o m. h o (mem_old x o xs m)))
 
 -- what a plain direction asks of its receiver's side
-pub plain_by : (w : Direction) (r : Receiver) (sacks : List Sack) (reads : ℕ → List Got)
+plain_by : (w : Direction) (r : Receiver) (sacks : List Sack) (reads : ℕ → List Got)
     → AllByRecursion (λ (k : Sack). k.above ≡ []) sacks
     → ((o : ℕ) → mem o r.taken ≡ true → o < reach r) → r.passed ≡ 0 → IsPlain w
     → IsPlain (record w { receiver = r; sacks = sacks; reads = reads })
 plain_by w r sacks reads above taken passed h = record {
-  messages = h.messages;
-  places = h.places;
-  current = h.current;
-  next = h.next;
-  ssn = h.ssn;
-  begun = h.begun;
   stays = h.stays;
   acknowledged = h.acknowledged;
   sacks = above;
@@ -138,7 +93,7 @@ plain_data w k d e p h = data_cases IsPlain w k h
 
     taken : (c : Data) → c.offset ≡ reach w.receiver → IsPlain (record w { receiver = took w.receiver c })
     taken c q = plain_by w (took w.receiver c) w.sacks w.reads h.sacks
-        (λ o m. let g = reach_took w.receiver c h.taken q in ⊎_elim
+        (λ o m. let g = past_reach w.receiver c q in ⊎_elim
         (λ (b : c.offset ≡ o). omega arith)
         (λ (b : mem o w.receiver.taken ≡ true). let l = h.taken o b in omega arith)
         (mem_new c.offset o w.receiver.taken m))
@@ -213,12 +168,6 @@ pub closed : (w : Direction) → (happens w Event.Close).receiver.is_open ≡ fa
 unfolding happens
 closed w = refl
 
--- all else stays when a receiver closes
-pub close_leaves : (w : Direction)
-    → happens w Event.Close ≡ record w { receiver = record w.receiver { is_open = false } }
-unfolding happens
-close_leaves w = refl
-
 -- what is taken in grows by the offset of the DATA that comes alone
 pub data_takes : (w : Direction) (k : ℕ) (d : Data) (o : ℕ) → slice_get w.datas k ≡ Some d
     → mem o (happens w (Event.DataComes k)).receiver.taken ≡ true
@@ -285,13 +234,6 @@ within_close w h = within_by w (record w { receiver = record w.receiver { is_ope
 
 -- the numbers stay within their limits where a SACK comes: it moves the sender's reach onwards or not at all
 pub within_sack_comes : (w : Direction) (k : ℕ) → IsWithin w → IsWithin (happens w (Event.SackComes k))
-unfolding happens
-within_sack_comes w k h = go (slice_get w.sacks k)
-  where
-    go : (x : Option Sack) → IsWithin (sack_comes w x)
-    go None = h
-    go (Some x) = cond_both _ w _ IsWithin (λ b. h) (λ b. record {
-      offsets = h.offsets;
-      flight = (let f = h.flight in let l = ltb-false x.reach w.sender.reach b in omega arith);
-      unread = h.unread;
-    })
+within_sack_comes w k h = sack_cases IsWithin w k h
+    (λ x e l.
+    record { offsets = h.offsets; flight = (let f = h.flight in omega (arith, l)); unread = h.unread })

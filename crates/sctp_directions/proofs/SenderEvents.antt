@@ -1,104 +1,89 @@
--- What the sender's events leave as it was: the receiver, the SACKs, and all DATA that was given out before.
-use Rattle.std.proofs.Common.{ℕ, zero, suc, ◌≡◌, Bool, true, false, ltb, List, [], ◌∷◌, ◌++◌, Option, Some, None, refl}
+-- The sender's events by their cases: what holds before one of them and after what it does where it can happen, holds
+-- after it.
+use Rattle.std.proofs.Common.{ℕ, ◌≤◌, ◌≡◌, Bool, true, false, ltb, [], ◌∷◌, ◌++◌, Option, Some, None, refl}
 use Rattle.std.specs.Prelude.{slice_get}
-use Rattle.std.proofs.lemmas.Bool.{cond_both}
-use Rattle.sctp_model.specs.Messages.{Message, Place, as_kept}
-use Rattle.sctp_model.specs.Packets.{Data, Sack, data_at}
-use Rattle.sctp_model.specs.Machine.{Direction, Event, acknowledged_by, begin, begin_if, can_begin, can_resend, counted}
-use Rattle.sctp_model.specs.Machine.{first_place, happens, is_empty, number_for, sack_comes, sent, written}
-use Rattle.sctp_directions.specs.Events.{IsSentOn}
+use Rattle.std.proofs.lemmas.Bool.{cond_both, ltb-false}
+use Rattle.sctp_model.specs.Messages.{Message, Place, as_kept, message_at}
+use Rattle.sctp_model.specs.Packets.{Sack, data_at}
+use Rattle.sctp_model.specs.Machine.{Direction, Event, acknowledged_by, begin, begin_if, can_begin, can_pass_over}
+use Rattle.sctp_model.specs.Machine.{can_resend, counted, first_place, go_on, happens, is_empty, next_data, number_for}
+use Rattle.sctp_model.specs.Machine.{passed_over, put_2, sack_comes, sent, written}
 
--- After an event of the sender that isn't a write no more was accepted.
-pub record IsSentOnly (w v : Direction) : Type 0 where
-  pub on : IsSentOn w v
-  pub accepted : v.sender.plan.accepted ≡ w.sender.plan.accepted
-
--- what stands in a list stands there when more is put behind
-pub got_before : {X : Type 0} (xs ys : List X) (k : ℕ) (x : X) → slice_get xs k ≡ Some x
-    → slice_get (xs ++ ys) k ≡ Some x
-got_before [] ys k x e = absurd (cc)
-got_before (y ∷ xs) ys zero x e = e
-got_before (y ∷ xs) ys (suc k) x e = got_before xs ys k x e
-
-sent_same : (w : Direction) → IsSentOnly w w
-sent_same w = record {
-  on = record { datas = λ k d e. e; sacks = refl; receiver = refl; reads = refl; over = refl; size = refl };
-  accepted = refl;
-}
-
--- A write leaves all DATA and the receiver's side as they were.
-pub sent_write : (w : Direction) (s : ℕ) (m : Message) → IsSentOn w (happens w (Event.Write s m))
+-- a message is written; a write of no bytes does nothing
+pub write_cases : (P : Direction → Type 0) (w : Direction) (s : ℕ) (m : Message) → P w
+    → P (record w { sender = written w.sender s (as_kept m) })
+    → P (happens w (Event.Write s m))
 unfolding happens
-sent_write w s m =
-    cond_both (is_empty m) w (record w { sender = written w.sender s (as_kept m) }) (IsSentOn w) (λ b. (sent_same w).on)
-    (λ b. record { datas = λ k d e. e; sacks = refl; receiver = refl; reads = refl; over = refl; size = refl })
+write_cases P w s m h f = cond_both (is_empty m) w (record w { sender = written w.sender s (as_kept m) }) P
+    (λ b. h) (λ b. f)
 
-begun_only : (w : Direction) (s i number : ℕ) (b : Bool) (d : Data)
-    → IsSentOnly w
-    (record w { sender = counted (sent w.sender (first_place s i number)) s i b; datas = w.datas ++ d ∷ [] })
-begun_only w s i number true d = record {
-  on = record {
-    datas = λ k x e. got_before w.datas (d ∷ []) k x e;
-    sacks = refl;
-    receiver = refl;
-    reads = refl;
-    over = refl;
-    size = refl;
-  };
-  accepted = refl;
-}
-begun_only w s i number false d = record {
-  on = record {
-    datas = λ k x e. got_before w.datas (d ∷ []) k x e;
-    sacks = refl;
-    receiver = refl;
-    reads = refl;
-    over = refl;
-    size = refl;
-  };
-  accepted = refl;
-}
-
--- So does a message's beginning, and it accepts nothing.
-pub sent_begin : (w : Direction) (s i any : ℕ) → IsSentOnly w (happens w (Event.Begin s i any))
+-- a stream's next ordered message is looked for one number further
+pub pass_over_cases : (P : Direction → Type 0) (w : Direction) (s : ℕ) → P w
+    → (can_pass_over w.sender s ≡ true → P (record w { sender = passed_over w.sender s }))
+    → P (happens w (Event.PassOver s))
 unfolding happens
-sent_begin w s i any = by_current w.sender.current
+pass_over_cases P w s h f =
+    cond_both (can_pass_over w.sender s) (record w { sender = passed_over w.sender s }) w P f (λ b. h)
+
+-- after a message's first piece: what is counted of its stream rests on whether it is ordered
+abbrev pub with_begun : Direction → ℕ → ℕ → ℕ → (ℕ → ℕ) → (ℕ → ℕ) → Direction
+with_begun w s i number next ssn = record w {
+  sender = (let x = sent w.sender (first_place s i number) in
+      record x { begun = put_2 w.sender.begun s i; next = next; ssn = ssn });
+  datas = w.datas ++ next_data w.sender (first_place s i number) ∷ [];
+}
+
+-- a message's first piece gets the next offset
+pub begin_cases : (P : Direction → Type 0) (w : Direction) (s i any : ℕ) → P w
+    → ((number : ℕ) (next ssn : ℕ → ℕ) → P (with_begun w s i number next ssn))
+    → P (happens w (Event.Begin s i any))
+unfolding happens
+begin_cases P w s i any h f = by_current w.sender.current
   where
-    by_current : (c : Option Place) → IsSentOnly w (begin_if w s i any c)
-    by_current None = cond_both (can_begin w.sender s i) (begin w s i (number_for w.sender s i any)) w (IsSentOnly w)
-        (λ b. begun_only w s i (number_for w.sender s i any) _ _) (λ b. sent_same w)
-    by_current (Some y) = sent_same w
-
--- So does a piece's going out again.
-pub sent_resend : (w : Direction) (o : ℕ) → IsSentOnly w (happens w (Event.Resend o))
-unfolding happens
-sent_resend w o =
-    cond_both (can_resend w.sender.plan o) (record w { datas = w.datas ++ data_at w.sender.plan o ∷ [] }) w
-    (IsSentOnly w)
-    (λ b. record {
-      on = record {
-        datas = λ k d e. got_before w.datas (data_at w.sender.plan o ∷ []) k d e;
-        sacks = refl;
-        receiver = refl;
-        reads = refl;
-        over = refl;
-        size = refl;
-      };
-      accepted = refl;
-    })
-    (λ b. sent_same w)
-
--- So does a SACK that comes to the sender.
-pub sent_sack_comes : (w : Direction) (k : ℕ) → IsSentOnly w (happens w (Event.SackComes k))
-unfolding happens
-sent_sack_comes w k = by_sack (slice_get w.sacks k)
-  where
-    by_sack : (x : Option Sack) → IsSentOnly w (sack_comes w x)
-    by_sack None = sent_same w
-    by_sack (Some x) =
-        cond_both (ltb x.reach w.sender.reach) w (record w { sender = acknowledged_by w.sender x }) (IsSentOnly w)
-        (λ b. sent_same w)
-        (λ b. record {
-          on = record { datas = λ k d e. e; sacks = refl; receiver = refl; reads = refl; over = refl; size = refl };
-          accepted = refl;
+    by_order : (number : ℕ) (b : Bool)
+        → P (record w {
+          sender = counted (sent w.sender (first_place s i number)) s i b;
+          datas = w.datas ++ next_data w.sender (first_place s i number) ∷ [];
         })
+    by_order number true = f number _ _
+    by_order number false = f number w.sender.next w.sender.ssn
+
+    by_current : (c : Option Place) → P (begin_if w s i any c)
+    by_current None = cond_both (can_begin w.sender s i) (begin w s i (number_for w.sender s i any)) w P
+        (λ b. by_order (number_for w.sender s i any) (message_at w.sender.plan s i).ordered) (λ b. h)
+    by_current (Some y) = h
+
+-- so does the next piece of the message that was begun
+pub go_on_cases : (P : Direction → Type 0) (w : Direction) → P w
+    → ((y : Place) → w.sender.current ≡ Some y
+    → P (record w { sender = sent w.sender y; datas = w.datas ++ next_data w.sender y ∷ [] }))
+    → P (happens w Event.GoOn)
+unfolding happens
+go_on_cases P w h f = by_current w.sender.current refl
+  where
+    by_current : (c : Option Place) → w.sender.current ≡ c → P (go_on w c)
+    by_current None e = h
+    by_current (Some y) e = f y e
+
+-- a piece goes out again
+pub resend_cases : (P : Direction → Type 0) (w : Direction) (o : ℕ) → P w
+    → P (record w { datas = w.datas ++ data_at w.sender.plan o ∷ [] })
+    → P (happens w (Event.Resend o))
+unfolding happens
+resend_cases P w o h f =
+    cond_both (can_resend w.sender.plan o) (record w { datas = w.datas ++ data_at w.sender.plan o ∷ [] }) w P
+    (λ b. f) (λ b. h)
+
+-- a SACK comes; one whose reach lies below the acknowledged one does nothing
+pub sack_cases : (P : Direction → Type 0) (w : Direction) (k : ℕ) → P w
+    → ((x : Sack) → slice_get w.sacks k ≡ Some x → w.sender.reach ≤ x.reach
+    → P (record w { sender = acknowledged_by w.sender x }))
+    → P (happens w (Event.SackComes k))
+unfolding happens
+sack_cases P w k h f = by_sack (slice_get w.sacks k) refl
+  where
+    by_sack : (x : Option Sack) → slice_get w.sacks k ≡ x → P (sack_comes w x)
+    by_sack None e = h
+    by_sack (Some x) e =
+        cond_both (ltb x.reach w.sender.reach) w (record w { sender = acknowledged_by w.sender x }) P (λ b. h)
+        (λ b. f x e (ltb-false _ _ b))

@@ -2,18 +2,21 @@
 -- is made of.
 use Rattle.sctp_model.specs.Machine.{Direction}
 use Rattle.sctp_model.specs.Invariants.{Invariant}
-use Rattle.sctp_assoc.specs.Acts.{Parts}
-use Rattle.sctp_directions.specs.Incoming.{FitsIncoming}
-use Rattle.sctp_directions.specs.Outgoing.{FitsOutgoing}
-use Rattle.sctp_directions.specs.Plain.{IsPlain}
+use Rattle.sctp_fit.specs.Incoming.{FitsIncoming}
+use Rattle.sctp_fit.specs.Outgoing.{CountsBegun, FitsOutgoing}
+use Rattle.sctp_directions.specs.Acts.{Parts, receiving, sending}
+use Rattle.sctp_directions.specs.Plain.{AreOrderedAndReliable, IsPlain}
 
 -- An association stands between its own direction and the one that comes to it: it is the sender of the one, and the
--- receiver of the other.
-pub record FitsBetween (a : Parts) (out coming : Direction) : Type 0 where
-  pub outgoing : FitsOutgoing a out
-  pub incoming : FitsIncoming a coming
+-- receiver of the other; so far its streams write ordered, reliable messages.
+pub record FitsBetween (p : Parts) (out coming : Direction) : Type 0 where
+  pub outgoing : FitsOutgoing (sending p) out
+  pub incoming : FitsIncoming (receiving p) coming
+  pub writes : AreOrderedAndReliable p.streams
 
--- The machine's invariant holds of a direction, and it is as associations use it so far.
+-- The machine's invariant holds of a direction, the messages that were begun are counted, and it is as associations use
+-- it so far.
 pub record IsSound (w : Direction) : Type 0 where
   pub invariant : Invariant w
+  pub counts : CountsBegun w.sender
   pub plain : IsPlain w

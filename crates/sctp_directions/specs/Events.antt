@@ -1,8 +1,7 @@
 -- What an event leaves as it was of the direction in which it happens.
-use Rattle.std.specs.Prelude.{◌≡◌, ℕ, ◌<◌, length, slice_get, Some, ⊤}
+use Rattle.std.specs.Prelude.{◌≡◌, ℕ, slice_get, Some, ⊤}
 use Rattle.sctp_model.specs.Packets.{Data, Sack}
 use Rattle.sctp_model.specs.Machine.{Direction, Event, reach}
-use Rattle.sctp_directions.specs.Plain.{IsSimple}
 
 -- The direction v is w after an event of the sender: the DATA given out stays, and the receiver's side is the same.
 pub record IsSentOn (w v : Direction) : Type 0 where
@@ -20,22 +19,25 @@ pub record IsReceived (w v : Direction) : Type 0 where
   pub datas : v.datas ≡ w.datas
   pub sacks : (k : ℕ) (x : Sack) → slice_get w.sacks k ≡ Some x → slice_get v.sacks k ≡ Some x
 
--- events that happen at the sender of a direction between associations
-abbrev pub IsAtSender : Event → Type 0
-IsAtSender (Event.Write s m) = ⊤
-IsAtSender (Event.Begin s i any) = ⊤
-IsAtSender (Event.Resend o) = ⊤
-IsAtSender (Event.SackComes k) = ⊤
-IsAtSender e = ⊥
+-- events at the sender by which messages are accepted, sent and acknowledged: all but those of partial reliability, of
+-- a stream's end and of what may follow that
+abbrev pub IsOfSending : Event → Type 0
+IsOfSending (Event.Write s m) = ⊤
+IsOfSending (Event.PassOver s) = ⊤
+IsOfSending (Event.Begin s i any) = ⊤
+IsOfSending Event.GoOn = ⊤
+IsOfSending (Event.Resend o) = ⊤
+IsOfSending (Event.SackComes k) = ⊤
+IsOfSending e = ⊥
 
--- events that happen at its receiver
-abbrev pub IsAtReceiver : Event → Type 0
-IsAtReceiver (Event.DataComes k) = ⊤
-IsAtReceiver Event.SackMade = ⊤
-IsAtReceiver (Event.Open s) = ⊤
-IsAtReceiver (Event.Read s) = ⊤
-IsAtReceiver Event.Close = ⊤
-IsAtReceiver e = ⊥
+-- events at the receiver by which DATA is taken in, acknowledged and read, and the receiver's end
+abbrev pub IsOfReceiving : Event → Type 0
+IsOfReceiving (Event.DataComes k) = ⊤
+IsOfReceiving Event.SackMade = ⊤
+IsOfReceiving (Event.Open s) = ⊤
+IsOfReceiving (Event.Read s) = ⊤
+IsOfReceiving Event.Close = ⊤
+IsOfReceiving e = ⊥
 
 -- an event of the sender accepts a message
 abbrev pub Accepts : Event → Type 0
@@ -45,6 +47,7 @@ Accepts e = ⊥
 -- an event of the sender assigns an offset
 abbrev pub Assigns : Event → Type 0
 Assigns (Event.Begin s i any) = ⊤
+Assigns Event.GoOn = ⊤
 Assigns e = ⊥
 
 -- an event of the receiver may give a message to the reader
@@ -66,10 +69,12 @@ KeepsWithin (Event.Open s) = ⊤
 KeepsWithin Event.Close = ⊤
 KeepsWithin e = ⊥
 
--- events of a plain direction: a message in one piece is accepted, the next one begins, and DATA comes at the reach
+-- events of a plain direction: DATA comes at the reach
 abbrev pub IsPlainEvent : Direction → Event → Type 0
-IsPlainEvent w (Event.Write s m) = IsSimple w.sender.plan.size m
-IsPlainEvent w (Event.Begin s i any) = (i ≡ w.sender.next s) × (i < length (w.sender.plan.accepted s))
+IsPlainEvent w (Event.Write s m) = ⊤
+IsPlainEvent w (Event.PassOver s) = ⊤
+IsPlainEvent w (Event.Begin s i any) = ⊤
+IsPlainEvent w Event.GoOn = ⊤
 IsPlainEvent w (Event.Resend o) = ⊤
 IsPlainEvent w (Event.SackComes k) = ⊤
 IsPlainEvent w (Event.DataComes k) = (d : Data) × (slice_get w.datas k ≡ Some d) × (d.offset ≡ reach w.receiver)

@@ -1,7 +1,7 @@
+pub mod Acts
 pub mod Plain
+pub mod Reports
 pub mod Said
-pub mod Outgoing
-pub mod Incoming
 pub mod Between
 pub mod Events
 pub mod Laws

@@ -1,45 +1,41 @@
-//! What one association is to the two directions between which it stands: its own DATA, and the DATA that comes to it.
-//! No code runs here; each empty function carries a law that is proved.
+//! What an association does to the two directions between which it stands, its own DATA and the DATA that comes to it,
+//! as acts; and what each act is there. No code runs here; each empty function carries laws that are proved.
 #![tactic(auto)]
 
 ghost use Rattle.sctp_directions.specs.Laws.{AcceptedMessagesAreCounted, AcknowledgementsAreAlike};
 ghost use Rattle.sctp_directions.specs.Laws.{ActsKeepTheInitialTsns, ClosedReceiversAreNotOpen, EventsKeepTheLimits};
-ghost use Rattle.sctp_directions.specs.Laws.{FewMessagesStayWithin, FreshDirectionsArePlain, MarksAreNoEvents};
-ghost use Rattle.sctp_directions.specs.Laws.{MeetingsAreNoEvents, NothingIsAcceptedAtFirst, OnlyBeginningsAssign};
-ghost use Rattle.sctp_directions.specs.Laws.{OnlyReadsGiveMessages, OnlyWhatIsBroughtIsTakenIn, OnlyWritesAccept};
-ghost use Rattle.sctp_directions.specs.Laws.{OpenedStreamsAreAlike, OwnActsLeaveWhatComes, PiecesAreCounted};
-ghost use Rattle.sctp_directions.specs.Laws.{PiecesAreGiven, PlainEventsKeepItPlain, ReadsAreAlike};
-ghost use Rattle.sctp_directions.specs.Laws.{ReadyMessagesAreAlike, ReceiversEventsAreReceived, ReportsSayWhatWasTaken};
-ghost use Rattle.sctp_directions.specs.Laws.{SacksMeanTheSame, SendersEventsAreSent, SendersEventsKeepTheInvariant};
-ghost use Rattle.sctp_directions.specs.Laws.{SendersEventsLeaveWhatComes, SentPiecesBegin, ShortMessagesAreOnePiece};
-ghost use Rattle.sctp_directions.specs.Laws.{TheSameIsReady, WhatComesLeavesItsOwn, WhatIsReleasedIsNotBuffered};
-ghost use Rattle.sctp_directions.specs.Laws.{WhatIsTakenInComes, WritesAreAccepted, WritesAreAcceptedLast};
+ghost use Rattle.sctp_directions.specs.Laws.{FreshDirectionsArePlain, MarksAreNoEvents, MeetingsAreNoEvents};
+ghost use Rattle.sctp_directions.specs.Laws.{NothingIsAcceptedAtFirst, OnlyBeginningsAssign, OnlyReadsGiveMessages};
+ghost use Rattle.sctp_directions.specs.Laws.{OnlyWhatIsBroughtIsTakenIn, OnlyWritesAccept, OwnActsLeaveWhatComes};
+ghost use Rattle.sctp_directions.specs.Laws.{PiecesAreCounted, PiecesAreGiven, PlainEventsKeepItPlain};
+ghost use Rattle.sctp_directions.specs.Laws.{ReceiversEventsAreReceived, ReportsSayWhatWasTaken, SacksMeanTheSame};
+ghost use Rattle.sctp_directions.specs.Laws.{SendersEventsAreSent, SendersEventsKeepTheInvariant};
+ghost use Rattle.sctp_directions.specs.Laws.{ShortMessagesAreOnePiece, StreamsStayOrderedAndReliable};
+ghost use Rattle.sctp_directions.specs.Laws.{WhatComesLeavesItsOwn, WhatIsTakenInComes, WritesAreAccepted};
+ghost use Rattle.sctp_directions.specs.Laws.{WritesAreAcceptedLast};
 
-/// What an association writes, sends for the first time or again, marks and finds acknowledged happens at the sender of
-/// its direction, and leaves the one that comes to it.
+/// What an association writes, sends again, marks and finds acknowledged happens at the sender of its direction.
 pub fn its_own_acts_are_events()
     ensures writes { WritesAreAccepted }
-    ensures begins { SentPiecesBegin }
     ensures pieces { PiecesAreGiven }
     ensures marks { MarksAreNoEvents }
     ensures acknowledgements { AcknowledgementsAreAlike }
     ensures sacks { SacksMeanTheSame }
-    ensures released { WhatIsReleasedIsNotBuffered }
-    ensures leave { OwnActsLeaveWhatComes }
 {}
 
-/// What an association opens, takes in, reports and reads happens at the receiver of the direction that comes to it,
-/// and what can be read is the same there.
+/// What an association takes in and reports happens at the receiver of the direction that comes to it.
 pub fn what_comes_to_it_are_events()
-    ensures opened { OpenedStreamsAreAlike }
     ensures taken { WhatIsTakenInComes }
     ensures reports { ReportsSayWhatWasTaken }
-    ensures reads { ReadsAreAlike }
-    ensures ready { TheSameIsReady }
-    ensures messages { ReadyMessagesAreAlike }
-    ensures leaves { WhatComesLeavesItsOwn }
-    ensures initials { ActsKeepTheInitialTsns }
     ensures meetings { MeetingsAreNoEvents }
+{}
+
+/// What an act in one direction leaves of the other, and what no act changes.
+pub fn acts_leave_the_other_direction()
+    ensures own { OwnActsLeaveWhatComes }
+    ensures comes { WhatComesLeavesItsOwn }
+    ensures initials { ActsKeepTheInitialTsns }
+    ensures writes { StreamsStayOrderedAndReliable }
 {}
 
 /// What an event at the sender leaves of a direction, and what it keeps.
@@ -49,7 +45,6 @@ pub fn events_at_the_sender_leave_the_receiver()
     ensures last { WritesAreAcceptedLast }
     ensures assigned { OnlyBeginningsAssign }
     ensures invariant { SendersEventsKeepTheInvariant }
-    ensures incoming { SendersEventsLeaveWhatComes }
 {}
 
 /// What an event at the receiver leaves of a direction.
@@ -60,14 +55,12 @@ pub fn events_at_the_receiver_leave_the_sender()
     ensures closed { ClosedReceiversAreNotOpen }
 {}
 
-/// Accepted messages can be counted by their pieces, and a plain direction that has the invariant and fewer than 16,384
-/// pieces is within the limits.
-pub fn few_messages_stay_within()
+/// Accepted messages can be counted by their pieces.
+pub fn accepted_messages_are_counted()
     ensures pieces { PiecesAreCounted }
     ensures one { ShortMessagesAreOnePiece }
     ensures first { NothingIsAcceptedAtFirst }
     ensures counted { AcceptedMessagesAreCounted }
-    ensures within { FewMessagesStayWithin }
 {}
 
 /// A direction is plain from its beginning on.

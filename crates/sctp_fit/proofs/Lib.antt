@@ -5,28 +5,28 @@ mod CountsBelow
 pub mod CutsGiven
 pub mod DataTaken
 mod FirstPiece
-mod FlightAcknowledged
+pub mod FlightAcknowledged
 mod ForwardTaken
 mod FrontAlike
 pub mod HeldTsns
-mod Marks
+pub mod Marks
 mod MessageDropped
-mod MessagesAccepted
+pub mod MessagesAccepted
 mod NamesKept
-mod NextPiece
-mod NothingToSend
+pub mod NextPiece
+pub mod NothingToSend
 mod NumbersMoveDown
 pub mod OtherEnd
-mod Pinned
+pub mod Pinned
 pub mod PlacesCounted
 pub mod PlansExtended
 pub mod PointsTaken
 pub mod QueuesPinned
 pub mod ReachClimbs
 pub mod ReadsAnswered
-mod SentAgain
+pub mod SentAgain
 pub mod StandsOn
-mod StreamsChanged
+pub mod StreamsChanged
 pub mod StreamsThere
 mod TailMarked
 mod Unsent

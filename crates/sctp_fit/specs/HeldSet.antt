@@ -10,11 +10,11 @@ use Rattle.sctp_wire_types.specs.declared.chunk.GapAckBlock.{GapAckBlock}
 use Rattle.sctp_receive_queues.specs.Received.{advanced, is_held, is_held_at, is_named, is_new, with_tsn}
 use Rattle.sctp_model.specs.Packets.{mem}
 use Rattle.sctp_serial.specs.Serial.{tsn}
-use Rattle.sctp_fit.specs.Incoming.{Receiving, offset_of, reach_of}
+use Rattle.sctp_fit.specs.Incoming.{Receiving, offset_of, reach_of, tsn_before}
 
 -- the receiver's cumulative TSN ack point: the TSN before that of its reach
 abbrev pub point_of : Receiving → ℕ
-point_of a = (tsn a.peer (reach_of a) + 2 ^ 32 - 1) % 2 ^ 32
+point_of a = tsn_before (tsn a.peer (reach_of a))
 
 -- t is the TSN of an offset past the reach that came, and less than 65,536 past the point
 pub record IsPast (a : Receiving) (t : ℕ) : Type 0 where

@@ -1,6 +1,6 @@
 -- How what an association took in and holds for its readers stands to the receiver of a direction: DATA in any order,
 -- ordered or not, of messages of several pieces (RFC 4960 sections 6.2, 6.5, 6.6 and 6.9).
-use Rattle.std.specs.Prelude.{◌≡◌, ℕ, ◌+◌, true, false, List, Option, Some, None, ⊤}
+use Rattle.std.specs.Prelude.{◌≡◌, ℕ, ◌+◌, ◌-◌, ◌%◌, ◌^◌, true, false, List, Option, Some, None, ⊤}
 use Rattle.sctp_wire_types.specs.declared.chunk.ChunkPayloadData.{ChunkPayloadData}
 use Rattle.sctp_streams.specs.Stream.{StreamView}
 use Rattle.sctp_streams.specs.Streams.{StreamMap, stream_at}
@@ -22,6 +22,10 @@ pub record Receiving : Type 0 where
 -- the first offset that neither came nor was passed over
 abbrev pub reach_of : Receiving → ℕ
 reach_of a = climb a.taken (past_all a.taken) a.passed
+
+-- the TSN before this one
+abbrev pub tsn_before : ℕ → ℕ
+tsn_before t = (t + 2 ^ 32 - 1) % 2 ^ 32
 
 -- the offset that a TSN of DATA at or past the reach spells
 abbrev pub offset_of : Receiving → ℕ → ℕ

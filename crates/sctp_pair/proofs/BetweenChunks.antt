@@ -2,7 +2,8 @@
 use Rattle.std.proofs.Common.{◌≡◌, sym, ◌∙◌, subst, ℕ}
 use Rattle.sctp_model.specs.Machine.{Direction}
 use Rattle.sctp_model.specs.Safe.{IsWithin}
-use Rattle.sctp_assoc.specs.Acts.{Binds, History, parts}
+use Rattle.sctp_assoc.specs.Leads.{Binds, parts}
+use Rattle.sctp_directions.specs.Acts.{History}
 use Rattle.sctp_sides.specs.Meeting.{IsNoEarlier, Stage, stage_of}
 use Rattle.sctp_sides.specs.Shapes.{IsSameStatus}
 use Rattle.sctp_assoc.specs.Shown.{Shown}

@@ -7,17 +7,22 @@ use Rattle.sctp_receive_queues.specs.Messages as letters
 use Rattle.sctp_model.specs.Messages.{Message}
 use Rattle.sctp_model.specs.Packets.{Data, Sack, mem}
 use Rattle.sctp_model.specs.Machine.{Direction, Event, Receiver, Sender, happens, run}
+use Rattle.sctp_model.specs.Invariants.{Invariant}
 use Rattle.sctp_model.specs.Safe.{IsWithin}
-use Rattle.sctp_assoc.specs.Acts.{Parts, parts}
+use Rattle.sctp_fit.specs.Growth.{IsAtReceiver, IsAtSender}
+use Rattle.sctp_fit.proofs.BegunCounts.{events_keep_the_count}
+use Rattle.sctp_fit.proofs.OtherEnd.{receivers_events_leave_what_is_sent, senders_events_leave_what_comes}
+use Rattle.sctp_directions.specs.Acts.{Parts, receiving, sending}
+use Rattle.sctp_assoc.specs.Leads.{parts}
 use Rattle.sctp_assoc.specs.Calls.{is_established}
 use Rattle.sctp_sides.specs.Meeting.{IsNoEarlier, Stage}
 use Rattle.sctp_assoc.specs.Shown.{Shown}
-use Rattle.sctp_directions.specs.Events.{Accepts, Brings, GivesAMessage, IsAtReceiver, IsAtSender}
-use Rattle.sctp_directions.specs.Outgoing.{FitsOutgoing}
-use Rattle.sctp_directions.specs.Incoming.{FitsIncoming, IsReadAs}
+use Rattle.sctp_directions.specs.Events.{Accepts, Brings, GivesAMessage, IsOfReceiving, IsOfSending, IsPlainEvent}
+use Rattle.sctp_reassembly.specs.Stands.{IsReadAs}
 use Rattle.sctp_directions.specs.Between.{FitsBetween, IsSound}
 use Rattle.sctp_directions.proofs.Proved.{only_reads_give_messages, only_what_is_brought_is_taken_in}
-use Rattle.sctp_directions.proofs.Proved.{only_writes_accept, receivers_events_are_received, senders_events_are_sent}
+use Rattle.sctp_directions.proofs.Proved.{only_writes_accept, plain_events_keep_it_plain}
+use Rattle.sctp_directions.proofs.Proved.{receivers_events_are_received, senders_events_are_sent}
 use Rattle.sctp_pair.specs.Fits.{IsAt, IsSilent, StagesAgree, Stands, StandsClosed, StandsFailed, StandsOpen}
 
 -- What stays and what grows of a direction by events that neither accept nor read: what they take in was there, or was
@@ -64,7 +69,7 @@ goes_on B w v u g h = record {
 }
 
 -- one event at the sender that is no write
-pub goes_by_sender : (B : ℕ → Type 0) (w : Direction) (e : Event) → IsAtSender e → (Accepts e → ⊥)
+pub goes_by_sender : (B : ℕ → Type 0) (w : Direction) (e : Event) → IsOfSending e → (Accepts e → ⊥)
     → Goes B w (happens w e)
 goes_by_sender B w e at none =
     let sent = senders_events_are_sent w e at in
@@ -81,7 +86,7 @@ goes_by_sender B w e at none =
     }
 
 -- one event at the receiver that is no read
-pub goes_by_receiver : (B : ℕ → Type 0) (w : Direction) (e : Event) → IsAtReceiver e → (GivesAMessage e → ⊥)
+pub goes_by_receiver : (B : ℕ → Type 0) (w : Direction) (e : Event) → IsOfReceiving e → (GivesAMessage e → ⊥)
     → ((o : ℕ) → Brings w e o → B o) → Goes B w (happens w e)
 goes_by_receiver B w e at none brings =
     let received = receivers_events_are_received w e at in
@@ -142,17 +147,37 @@ pub record Holds (x : Surroundings) (p : Parts) : Type 0 where
 abbrev pub None_brought : ℕ → Type 0
 None_brought o = ⊥
 
--- the sender of a direction stayed
-pub outgoing_same : (p : Parts) (w v : Direction) → v.sender ≡ w.sender → FitsOutgoing p w → FitsOutgoing p v
-outgoing_same p w v e f =
-    let g : FitsOutgoing p (record w { sender = v.sender }) =
-    subst (λ (x : Sender). FitsOutgoing p (record w { sender = x })) (sym e) f in
-    record { base = g.base; flight = g.flight; waiting = g.waiting; own_streams = g.own_streams }
+-- events by which associations send and receive so far are events at the sender and at the receiver
+at_sender : (e : Event) → IsOfSending e → IsAtSender e
+at_sender (Event.Write s m) at = tt
+at_sender (Event.PassOver s) at = tt
+at_sender (Event.Begin s i any) at = tt
+at_sender Event.GoOn at = tt
+at_sender (Event.Resend o) at = tt
+at_sender (Event.SackComes k) at = tt
+at_sender e at = absurd at
 
--- how the other association stands, where something happened at this one's sender
-pub other_by_out : (x : Surroundings) (out2 : Direction) → ((a : Parts) → FitsIncoming a x.out → FitsIncoming a out2)
-    → out2.receiver.is_open ≡ x.out.receiver.is_open → OtherStands x → OtherStands (record x { out = out2 })
-other_by_out x out2 fits same h =
+at_receiver : (e : Event) → IsOfReceiving e → IsAtReceiver e
+at_receiver (Event.DataComes k) at = tt
+at_receiver Event.SackMade at = tt
+at_receiver (Event.Open s) at = tt
+at_receiver (Event.Read s) at = tt
+at_receiver Event.Close at = tt
+at_receiver e at = absurd at
+
+-- a direction is sound after a plain event that keeps its invariant
+pub sound_after : {w : Direction} (e : Event) → IsPlainEvent w e → Invariant (happens w e) → IsSound w
+    → IsSound (happens w e)
+sound_after {w} e plain invariant sound = record {
+  invariant = invariant;
+  counts = events_keep_the_count w e sound.invariant sound.counts;
+  plain = plain_events_keep_it_plain w e plain sound.plain;
+}
+
+-- how the other association stands, where an event happened at this one's sender
+pub other_by_sender : (x : Surroundings) (e : Event) → IsOfSending e → Invariant x.out → OtherStands x
+    → OtherStands (record x { out = happens x.out e })
+other_by_sender x e at invariant h =
     ⊎_elim
     (λ (s : StandsOpen x.peer x.own x.other x.coming x.out). inl record {
       past = s.past;
@@ -164,7 +189,13 @@ other_by_out x out2 fits same h =
       present = s.present;
       truthful = s.truthful;
       size = s.size;
-      between = record { outgoing = s.between.outgoing; incoming = fits (parts x.other s.past) s.between.incoming };
+      between = record {
+        outgoing = s.between.outgoing;
+        incoming =
+            senders_events_leave_what_comes (receiving (parts x.other s.past)) x.out e (at_sender e at) invariant
+            s.between.incoming;
+        writes = s.between.writes;
+      };
     })
     (λ (r : StandsClosed x.peer x.other x.out ⊎ StandsFailed x.other x.out).
     ⊎_elim
@@ -179,11 +210,14 @@ other_by_out x out2 fits same h =
     (λ (s : StandsFailed x.other x.out). inr (inr record { failed = s.failed; stopped = same ∙ s.stopped }))
     r)
     h
+  where
+    same : (happens x.out e).receiver.is_open ≡ x.out.receiver.is_open
+    same = ap (λ (r : Receiver). r.is_open) (senders_events_are_sent x.out e at).0.receiver
 
--- and where something happened at this one's receiver
-pub other_by_coming : (x : Surroundings) (coming2 : Direction) → coming2.sender ≡ x.coming.sender → OtherStands x
-    → OtherStands (record x { coming = coming2 })
-other_by_coming x coming2 same h =
+-- and where one happened at this one's receiver
+pub other_by_receiver : (x : Surroundings) (e : Event) → IsOfReceiving e → OtherStands x
+    → OtherStands (record x { coming = happens x.coming e })
+other_by_receiver x e at h =
     ⊎_elim
     (λ (s : StandsOpen x.peer x.own x.other x.coming x.out). inl record {
       past = s.past;
@@ -194,10 +228,13 @@ other_by_coming x coming2 same h =
       come = s.come;
       present = s.present;
       truthful = s.truthful;
-      size = ap (λ (z : Sender). z.plan.size) same ∙ s.size;
+      size = ap (λ (z : Sender). z.plan.size) (receivers_events_are_received x.coming e at).sender ∙ s.size;
       between = record {
-        outgoing = outgoing_same (parts x.other s.past) x.coming coming2 same s.between.outgoing;
+        outgoing =
+            receivers_events_leave_what_is_sent (sending (parts x.other s.past)) x.coming e (at_receiver e at)
+            s.between.outgoing;
         incoming = s.between.incoming;
+        writes = s.between.writes;
       };
     })
     (λ (r : StandsClosed x.peer x.other x.out ⊎ StandsFailed x.other x.out). inr r)

@@ -13,7 +13,7 @@ use Rattle.sctp_sides.specs.Meeting.{Stage}
 use Rattle.sctp_sides.specs.Shapes.{OfEachChunk}
 use Rattle.sctp_assoc.specs.Shown.{Shown}
 use Rattle.sctp_sides.proofs.Proved.{established_is_not_closed, established_sides_talk}
-use Rattle.sctp_directions.specs.Incoming.{IsReadAs}
+use Rattle.sctp_reassembly.specs.Stands.{IsReadAs}
 use Rattle.sctp_directions.specs.Between.{IsSound}
 use Rattle.sctp_pair.specs.declared.step.Reply.{Reply}
 use Rattle.sctp_pair.specs.declared.step.Side2.{Side2}

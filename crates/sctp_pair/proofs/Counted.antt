@@ -9,9 +9,9 @@ use Rattle.sctp_streams.specs.Streams.{stream_at}
 use Rattle.sctp_model.specs.Messages.{Message}
 use Rattle.sctp_model.specs.Machine.{Direction}
 use Rattle.sctp_fit.specs.Counted.{HasAccepted, all_pieces, pieces_in}
-use Rattle.sctp_directions.specs.Outgoing.{message_on}
-use Rattle.sctp_directions.proofs.Proved.{accepted_messages_are_counted, few_messages_stay_within}
-use Rattle.sctp_directions.proofs.Proved.{nothing_is_accepted_at_first}
+use Rattle.sctp_fit.proofs.PlacesCounted.{few_pieces_stay_within}
+use Rattle.sctp_directions.specs.Plain.{message_on}
+use Rattle.sctp_directions.proofs.Proved.{accepted_messages_are_counted, nothing_is_accepted_at_first}
 use Rattle.sctp_pair.specs.declared.step.Reply.{Reply}
 use Rattle.sctp_pair.specs.declared.step.Reply.TheVariants as replies
 use Rattle.sctp_pair.specs.declared.step.Side2.{Side2}
@@ -97,8 +97,8 @@ step_leads_counted step p q r h n m w f =
       x.1,
       λ few.
           let within : IsWithinLimits v = (
-            few_messages_stay_within (n + pieces_a w step r) v.ab few.0 a x.2.sound_ab.invariant x.2.sound_ab.plain,
-            few_messages_stay_within (m + pieces_b w step r) v.ba few.1 b x.2.sound_ba.invariant x.2.sound_ba.plain,
+            few_pieces_stay_within (n + pieces_a w step r) v.ab few.0 a x.2.sound_ab.invariant,
+            few_pieces_stay_within (m + pieces_b w step r) v.ba few.1 b x.2.sound_ba.invariant,
           ) in
           (x.3 within, record { fits = record { within = within; stand = x.2 }; of_a = a; of_b = b }),
     )

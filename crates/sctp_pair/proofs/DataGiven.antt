@@ -1,27 +1,27 @@
 -- What one association gives out: DATA of its direction, sent for the first time or again, while what comes to it
 -- stands still.
-use Rattle.std.proofs.Common.{◌≡◌, ◌∙◌, ap, subst, List, [], ◌∷◌, ℕ, ◌+◌, Some}
+use Rattle.std.proofs.Common.{◌≡◌, ◌∙◌, subst, List, [], ◌∷◌, ℕ, ◌+◌, Some}
 use Rattle.std.specs.Prelude.{slice_get}
 use Rattle.std.specs.List.{AllByRecursion}
 use Rattle.sctp_wire_types.specs.declared.chunk.ChunkPayloadData.{ChunkPayloadData}
 use Rattle.sctp_model.specs.Packets.{Sack}
-use Rattle.sctp_model.specs.Machine.{Direction, Event, Receiver, happens}
+use Rattle.sctp_model.specs.Machine.{Direction, Event, happens, run}
 use Rattle.sctp_model.specs.Safe.{IsWithin}
 use Rattle.sctp_model.proofs.Lists.{all_join, all_weaker}
-use Rattle.sctp_assoc.specs.Acts.{Act, Can, CanAll, Parts, all_data_given, data_given, done, done_all}
-use Rattle.sctp_sides.specs.Shapes.{GivesData}
-use Rattle.sctp_directions.specs.Events.{Accepts, IsAtSender}
-use Rattle.sctp_directions.specs.Laws.{MeetsNobody, IsOfItsOwn}
-use Rattle.sctp_directions.specs.Outgoing.{FitsOutgoing}
-use Rattle.sctp_directions.specs.Plain.{IsPlain}
-use Rattle.sctp_directions.specs.Said.{IsGiven}
+use Rattle.sctp_fit.specs.Outgoing.{FitsOutgoing}
+use Rattle.sctp_fit.specs.Sendings.{IsGiven, SendsNext}
+use Rattle.sctp_fit.proofs.NextPiece.{sent_pieces_are_events}
+use Rattle.sctp_directions.specs.Acts.{Act, Can, CanAll, IsOfItsOwn, MeetsNobody, Parts, all_data_given, data_given}
+use Rattle.sctp_directions.specs.Acts.{done, done_all, sending}
+use Rattle.sctp_directions.specs.Between.{IsSound}
+use Rattle.sctp_directions.specs.Events.{Accepts, IsOfSending, IsPlainEvent}
 use Rattle.sctp_directions.proofs.Proved.{acknowledgements_are_alike, acts_keep_the_initial_tsns}
 use Rattle.sctp_directions.proofs.Proved.{events_keep_the_limits, only_beginnings_assign, own_acts_leave_what_comes}
-use Rattle.sctp_directions.proofs.Proved.{pieces_are_given, plain_events_keep_it_plain, senders_events_are_sent}
-use Rattle.sctp_directions.proofs.Proved.{senders_events_keep_the_invariant, senders_events_leave_what_comes}
-use Rattle.sctp_directions.proofs.Proved.{sent_pieces_begin}
-use Rattle.sctp_pair.proofs.BetweenDirections.{Goes, Holds, None_brought, Surroundings, goes_by_sender, goes_nowhere}
-use Rattle.sctp_pair.proofs.BetweenDirections.{goes_on, other_by_out}
+use Rattle.sctp_directions.proofs.Proved.{pieces_are_given, senders_events_keep_the_invariant}
+use Rattle.sctp_directions.proofs.Proved.{streams_stay_ordered_and_reliable}
+use Rattle.sctp_sides.specs.Shapes.{GivesData}
+use Rattle.sctp_pair.proofs.BetweenDirections.{Goes, Holds, None_brought, OtherStands, Surroundings, goes_by_sender}
+use Rattle.sctp_pair.proofs.BetweenDirections.{goes_nowhere, goes_on, other_by_sender, sound_after}
 
 -- What was done at the sender of the own direction, and the DATA that it gave out.
 pub record AfterOut (x : Surroundings) (p : Parts) (given : List ChunkPayloadData) : Type 0 where
@@ -30,70 +30,82 @@ pub record AfterOut (x : Surroundings) (p : Parts) (given : List ChunkPayloadDat
   pub holds : Holds (record x { out = out2 }) p
   pub said : AllByRecursion (IsGiven x.own out2) given
 
--- Of an association with these parts, the act is this event at the sender of its own direction, and no write.
-record IsSendersEvent (x : Surroundings) (p : Parts) (act : Act) (e : Event) : Type 0 where
-  its_own : IsOfItsOwn act
-  nobody : MeetsNobody act
-  at : IsAtSender e
-  none : Accepts e → ⊥
-  plain : IsPlain (happens x.out e)
-  fits : FitsOutgoing (done act p) (happens x.out e)
+-- To this direction the own one went by events of its sender that are no writes, and the other association still stands
+-- between both.
+record IsAfterEvents (x : Surroundings) (out2 : Direction) : Type 0 where
+  goes : Goes None_brought x.out out2
+  sound : IsSound out2
+  other : OtherStands (record x { out = out2 })
+
+after_event : (x : Surroundings) (e : Event) → IsOfSending e → (Accepts e → ⊥) → IsPlainEvent x.out e → IsSound x.out
+    → OtherStands x → IsAfterEvents x (happens x.out e)
+after_event x e at none plain sound other = record {
+  goes = goes_by_sender None_brought x.out e at none;
+  sound = sound_after e plain (senders_events_keep_the_invariant x.out e at sound.invariant) sound;
+  other = other_by_sender x e at sound.invariant other;
+}
+
+-- an event by which a piece goes out for the first time
+after_sending : (x : Surroundings) (e : Event) → SendsNext e → IsSound x.out → OtherStands x
+    → IsAfterEvents x (happens x.out e)
+after_sending x (Event.PassOver s) t sound other = after_event x (Event.PassOver s) tt (λ n. n) tt sound other
+after_sending x (Event.Begin s i any) t sound other = after_event x (Event.Begin s i any) tt (λ n. n) tt sound other
+after_sending x Event.GoOn t sound other = after_event x Event.GoOn tt (λ n. n) tt sound other
+after_sending x e t sound other = absurd t
+
+-- a row of such events
+after_sendings : (es : List Event) (x : Surroundings) → AllByRecursion SendsNext es → IsSound x.out → OtherStands x
+    → IsAfterEvents x (run es x.out)
+after_sendings [] x t sound other =
+    record { goes = goes_nowhere None_brought x.out; sound = sound; other = other }
+after_sendings (e ∷ es) x (t, ts) sound other =
+    let one = after_sending x e t sound other in
+    let out2 : Direction = happens x.out e in
+    let more = after_sendings es (record x { out = out2 }) ts one.sound one.other in
+    record {
+      goes = goes_on None_brought x.out out2 (run es out2) one.goes more.goes;
+      sound = more.sound;
+      other = more.other;
+    }
 
 -- The directions hold the association.
 module _ (x : Surroundings) (p : Parts) (h : Holds x p) where
-  act_at_sender : (act : Act) (e : Event) (given : List ChunkPayloadData) → IsSendersEvent x p act e
-      → AllByRecursion (IsGiven x.own (happens x.out e)) given → AfterOut x (done act p) given
-  act_at_sender act e given is said = record {
-    out2 = happens x.out e;
-    goes = goes_by_sender None_brought x.out e is.at is.none;
+  -- the act is what these events are at the sender of its own direction
+  act_at_sender : (act : Act) (out2 : Direction) (given : List ChunkPayloadData) → IsOfItsOwn act → MeetsNobody act
+      → IsAfterEvents x out2 → FitsOutgoing (sending (done act p)) out2
+      → AllByRecursion (IsGiven p.history.own out2) given → AfterOut x (done act p) given
+  act_at_sender act out2 given its_own nobody after fits said = record {
+    out2 = out2;
+    goes = after.goes;
     holds = record {
-      own_is = (acts_keep_the_initial_tsns (act ∷ []) p (is.nobody, tt)).0 ∙ h.own_is;
-      sound_out = record {
-        invariant = senders_events_keep_the_invariant x.out e is.at h.sound_out.invariant;
-        plain = is.plain;
-      };
+      own_is = (acts_keep_the_initial_tsns (act ∷ []) p (nobody, tt)).0 ∙ h.own_is;
+      sound_out = after.sound;
       sound_coming = h.sound_coming;
       between = record {
-        outgoing = is.fits;
-        incoming = own_acts_leave_what_comes act p x.coming is.its_own h.between.incoming;
+        outgoing = fits;
+        incoming = own_acts_leave_what_comes act p x.coming its_own h.between.incoming;
+        writes = streams_stay_ordered_and_reliable act p h.between.writes;
       };
-      other =
-          other_by_out x (happens x.out e)
-          (λ a f. senders_events_leave_what_comes a x.out e is.at h.sound_out.invariant h.sound_out.plain f)
-          (ap (λ (r : Receiver). r.is_open) (senders_events_are_sent x.out e is.at).0.receiver) h.other;
+      other = after.other;
     };
-    said = said;
+    said = subst (λ o. AllByRecursion (IsGiven o out2) given) h.own_is said;
   }
 
   act_sent : (now : ℕ) → Can (Act.Sent now) p → AfterOut x (done (Act.Sent now) p) (data_given (Act.Sent now) p)
   act_sent now can =
-      let begun =
-      sent_pieces_begin p now x.out can h.sound_out.invariant h.sound_out.plain h.between.outgoing in
-      let e : Event = Event.Begin begun.0 (x.out.sender.next begun.0) 0 in
-      act_at_sender (Act.Sent now) e (data_given (Act.Sent now) p) record {
-        its_own = tt;
-        nobody = tt;
-        at = tt;
-        none = λ n. n;
-        plain = begun.1.plain;
-        fits = begun.1.fits;
-      }
-      (subst (λ o. AllByRecursion (IsGiven o (happens x.out e)) (data_given (Act.Sent now) p)) h.own_is begun.1.given)
+      let sent =
+      sent_pieces_are_events p.history.own (sending p) now x.out can h.sound_out.invariant h.sound_out.counts
+      h.between.outgoing in
+      act_at_sender (Act.Sent now) (run sent.0 x.out) (data_given (Act.Sent now) p) tt tt
+      (after_sendings sent.0 x sent.1.sends h.sound_out h.other) sent.1.fits sent.1.given
 
   act_sent_again : (index : ℕ) → Can (Act.SentAgain index) p
       → AfterOut x (done (Act.SentAgain index) p) (data_given (Act.SentAgain index) p)
   act_sent_again index can =
-      let resent = pieces_are_given p index x.out can h.sound_out.plain h.between.outgoing in
+      let resent = pieces_are_given p index x.out can h.sound_out.invariant h.sound_out.plain h.between.outgoing in
       let e : Event = Event.Resend (x.out.sender.reach + index) in
-      act_at_sender (Act.SentAgain index) e (data_given (Act.SentAgain index) p) record {
-        its_own = tt;
-        nobody = tt;
-        at = tt;
-        none = λ n. n;
-        plain = plain_events_keep_it_plain x.out e tt h.sound_out.plain;
-        fits = resent.0;
-      }
-      (subst (λ o. AllByRecursion (IsGiven o (happens x.out e)) (data_given (Act.SentAgain index) p)) h.own_is resent.1)
+      act_at_sender (Act.SentAgain index) (happens x.out e) (data_given (Act.SentAgain index) p) tt tt
+      (after_event x e tt (λ n. n) tt h.sound_out h.other) resent.0 resent.1
 
   one_given : (act : Act) → GivesData act → Can act p → AfterOut x (done act p) (data_given act p)
   one_given (Act.Sent now) g can = act_sent now can
@@ -107,16 +119,10 @@ pub act_acknowledged : {x : Surroundings} {p : Parts} (n k : ℕ) (sack : Sack) 
     × (after.out2.sender.plan.places ≡ x.out.sender.plan.places)
 unfolding act_at_sender
 act_acknowledged {x} {p} n k sack h e at can = (
-  act_at_sender x p h (Act.Acknowledged n) (Event.SackComes k) [] record {
-    its_own = tt;
-    nobody = tt;
-    at = tt;
-    none = λ n. n;
-    plain = plain_events_keep_it_plain x.out (Event.SackComes k) tt h.sound_out.plain;
-    fits =
-        acknowledgements_are_alike p n k sack x.out e at can h.sound_out.invariant h.sound_out.plain
-        h.between.outgoing;
-  } tt,
+  act_at_sender x p h (Act.Acknowledged n) (happens x.out (Event.SackComes k)) [] tt tt
+      (after_event x (Event.SackComes k) tt (λ n. n) tt h.sound_out h.other)
+      (acknowledgements_are_alike p n k sack x.out e at can h.sound_out.invariant h.sound_out.plain h.between.outgoing)
+      tt,
   λ within. events_keep_the_limits x.out (Event.SackComes k) tt within,
   only_beginnings_assign x.out (Event.SackComes k) tt (λ n. n),
 )

@@ -11,18 +11,20 @@ use Rattle.sctp_model.specs.Safe.{IsWithin}
 use Rattle.sctp_model.proofs.Proved.{each_event_keeps_the_invariant}
 use Rattle.sctp_streams.specs.Stream.{StreamView}
 use Rattle.sctp_streams.specs.Streams.{stream_at}
-use Rattle.sctp_assoc.specs.Acts.{Act, Can, History, Parts, done}
-use Rattle.sctp_sides.specs.Reports.{SaysWhatWasTaken}
-use Rattle.sctp_directions.specs.Events.{Brings, GivesAMessage, IsAtReceiver, IsPlainEvent, KeepsWithin}
-use Rattle.sctp_directions.specs.Incoming.{FitsIncoming}
-use Rattle.sctp_directions.specs.Outgoing.{FitsOutgoing}
-use Rattle.sctp_directions.specs.Said.{IsMade, IsSaid}
-use Rattle.sctp_directions.specs.Laws.{MeetsNobody}
-use Rattle.sctp_directions.proofs.Proved.{acts_keep_the_initial_tsns, events_keep_the_limits, opened_streams_are_alike}
-use Rattle.sctp_directions.proofs.Proved.{plain_events_keep_it_plain, receivers_events_are_received}
-use Rattle.sctp_directions.proofs.Proved.{reports_say_what_was_taken, what_comes_leaves_its_own, what_is_taken_in_comes}
+use Rattle.sctp_fit.specs.Incoming.{FitsIncoming, IsSaid}
+use Rattle.sctp_fit.specs.Outgoing.{FitsOutgoing}
+use Rattle.sctp_fit.proofs.DataTaken.{opened_streams_are_alike}
+use Rattle.sctp_fit.proofs.NothingToSend.{opened_streams_send_nothing}
+use Rattle.sctp_directions.specs.Acts.{Act, Can, History, MeetsNobody, Parts, done, reach_in, receiving, sending}
+use Rattle.sctp_directions.specs.Events.{Brings, GivesAMessage, IsOfReceiving, IsPlainEvent, KeepsWithin}
+use Rattle.sctp_directions.specs.Reports.{SaysWhatWasTaken}
+use Rattle.sctp_directions.specs.Said.{IsMade}
+use Rattle.sctp_directions.proofs.Proved.{acts_keep_the_initial_tsns, events_keep_the_limits}
+use Rattle.sctp_directions.proofs.Proved.{receivers_events_are_received, reports_say_what_was_taken}
+use Rattle.sctp_directions.proofs.Proved.{streams_stay_ordered_and_reliable, what_comes_leaves_its_own}
+use Rattle.sctp_directions.proofs.Proved.{what_is_taken_in_comes}
 use Rattle.sctp_pair.proofs.BetweenDirections.{Goes, Holds, Surroundings, goes_by_receiver, goes_nowhere}
-use Rattle.sctp_pair.proofs.BetweenDirections.{other_by_coming}
+use Rattle.sctp_pair.proofs.BetweenDirections.{other_by_receiver, sound_after}
 
 -- What was done at the receiver of the direction that comes.
 pub record AfterComing (x : Surroundings) (p : Parts) (B : ℕ → Type 0) : Type 0 where
@@ -40,13 +42,13 @@ coming_nowhere {x} B within h =
 -- Of an association with these parts, the act is this event at the receiver of the direction that comes, and no read.
 record IsReceiversEvent (x : Surroundings) (p : Parts) (B : ℕ → Type 0) (act : Act) (e : Event) : Type 0 where
   nobody : MeetsNobody act
-  at : IsAtReceiver e
+  at : IsOfReceiving e
   none : GivesAMessage e → ⊥
   keeps : KeepsWithin e
   plain : IsPlainEvent x.coming e
   brings : (o : ℕ) → Brings x.coming e o → B o
-  outgoing : FitsOutgoing (done act p) x.out
-  incoming : FitsIncoming (done act p) (happens x.coming e)
+  outgoing : FitsOutgoing (sending (done act p)) x.out
+  incoming : FitsIncoming (receiving (done act p)) (happens x.coming e)
 
 -- The association may take in this piece of DATA, of a stream of its own, and what it brings is B.
 pub record MayTake (x : Surroundings) (p : Parts) (B : ℕ → Type 0) (piece : ChunkPayloadData) : Type 0 where
@@ -63,31 +65,29 @@ pub record MayTake (x : Surroundings) (p : Parts) (B : ℕ → Type 0) (piece : 
 -- The directions hold the association, and the one that comes to it is within the limits.
 module _ (x : Surroundings) (p : Parts) (B : ℕ → Type 0) (h : Holds x p) (within : IsWithin x.coming) where
   act_at_receiver : (act : Act) (e : Event) → IsReceiversEvent x p B act e → AfterComing x (done act p) B
-  act_at_receiver act e is =
-      let received = receivers_events_are_received x.coming e is.at in
-      record {
-        coming2 = happens x.coming e;
-        goes = goes_by_receiver B x.coming e is.at is.none is.brings;
-        still = received.sender;
-        within = events_keep_the_limits x.coming e is.keeps within;
-        holds = record {
-          own_is = (acts_keep_the_initial_tsns (act ∷ []) p (is.nobody, tt)).0 ∙ h.own_is;
-          sound_out = h.sound_out;
-          sound_coming = record {
-            invariant = each_event_keeps_the_invariant x.coming e within h.sound_coming.invariant;
-            plain = plain_events_keep_it_plain x.coming e is.plain h.sound_coming.plain;
-          };
-          between = record { outgoing = is.outgoing; incoming = is.incoming };
-          other = other_by_coming x (happens x.coming e) received.sender h.other;
-        };
-      }
+  act_at_receiver act e is = record {
+    coming2 = happens x.coming e;
+    goes = goes_by_receiver B x.coming e is.at is.none is.brings;
+    still = (receivers_events_are_received x.coming e is.at).sender;
+    within = events_keep_the_limits x.coming e is.keeps within;
+    holds = record {
+      own_is = (acts_keep_the_initial_tsns (act ∷ []) p (is.nobody, tt)).0 ∙ h.own_is;
+      sound_out = h.sound_out;
+      sound_coming =
+          sound_after e is.plain (each_event_keeps_the_invariant x.coming e within h.sound_coming.invariant)
+          h.sound_coming;
+      between = record {
+        outgoing = is.outgoing;
+        incoming = is.incoming;
+        writes = streams_stay_ordered_and_reliable act p h.between.writes;
+      };
+      other = other_by_receiver x e is.at h.other;
+    };
+  }
 
   pub act_opened : (id first : ℕ) (kind : PayloadProtocolIdentifier) → stream_at p.streams id ≡ None
       → AfterComing x (done (Act.Opened id first kind) p) B
   act_opened id first kind none =
-      let fits =
-      opened_streams_are_alike p id first kind x.out x.coming none h.between.outgoing
-      h.between.incoming in
       act_at_receiver (Act.Opened id first kind) (Event.Open id) record {
         nobody = tt;
         at = tt;
@@ -95,16 +95,18 @@ module _ (x : Surroundings) (p : Parts) (B : ℕ → Type 0) (h : Holds x p) (wi
         keeps = tt;
         plain = tt;
         brings = λ o n. absurd n;
-        outgoing = fits.0;
-        incoming = fits.1;
+        outgoing =
+            opened_streams_send_nothing (sending p) id first kind x.out none (h.sound_out.plain.span id)
+            h.sound_out.invariant h.sound_out.counts h.between.outgoing;
+        incoming = opened_streams_are_alike (receiving p) id first kind x.coming none h.between.incoming;
       }
 
   pub act_took : (piece : ChunkPayloadData) → MayTake x p B piece → AfterComing x (done (Act.Took piece) p) B
   act_took piece m =
       let named = subst (λ i. IsSaid i piece m.datum) (sym m.known) m.said in
       let fits =
-      what_is_taken_in_comes p piece m.index m.datum m.stream x.coming m.can m.there named
-      m.live within h.sound_coming.invariant h.sound_coming.plain h.between.incoming in
+      what_is_taken_in_comes p piece m.index m.datum m.stream x.coming m.can m.there named m.live
+      (h.sound_coming.plain.span piece.stream_identifier) within h.sound_coming.invariant h.between.incoming in
       act_at_receiver (Act.Took piece) (Event.DataComes m.index) record {
         nobody = tt;
         at = tt;
@@ -123,7 +125,8 @@ module _ (x : Surroundings) (p : Parts) (B : ℕ → Type 0) (h : Holds x p) (wi
 
 -- what says what came is a SACK that was made
 abbrev pub ReportsSaid : ℕ → History → Direction → Type 0
-ReportsSaid peer h coming = (c : ChunkSelectiveAck) → SaysWhatWasTaken h.peer h.reach h.taken c → IsMade peer coming c
+ReportsSaid peer h coming =
+    (c : ChunkSelectiveAck) → SaysWhatWasTaken h.peer (reach_in h) h.taken c → IsMade peer coming c
 
 -- a SACK is made, which is any that says what came
 pub record AfterReport (x : Surroundings) (p : Parts) (B : ℕ → Type 0) : Type 0 where

@@ -3,7 +3,8 @@ use Rattle.std.proofs.Common.{◌≡◌, sym, ap, ◌∙◌, subst, ⊎_elim, in
 use Rattle.std.proofs.lemmas.Bool.{cases_Bool}
 use Rattle.sctp_wire_types.specs.declared.chunk.Chunk.{Chunk}
 use Rattle.sctp_wire_types.specs.declared.packet.CommonHeader.{CommonHeader}
-use Rattle.sctp_assoc.specs.Acts.{Act, History, Parts, done_all, parts}
+use Rattle.sctp_directions.specs.Acts.{Act, History, Parts, done_all}
+use Rattle.sctp_assoc.specs.Leads.{parts}
 use Rattle.sctp_assoc.specs.Happened.{acts_of_chunk}
 use Rattle.sctp_sides.specs.Meeting.{Greets, IsLearning, MayHear, stage_of}
 use Rattle.sctp_sides.specs.Shapes.{TakesChunk}
@@ -37,15 +38,18 @@ learnt x acts {a} {b} k u is (inr (met, deaf)) =
     (λ (t : x.there.completed ≡ true). absurd (deaf (u.meets.hears t)))
     (λ (f : x.there.completed ≡ false). f)
     (cases_Bool x.there.completed) in
-    let fits =
-    meetings_are_no_events p x.peer u.out2 u.coming2 (u.silent never) u.holds.sound_coming.invariant
-    u.holds.sound_coming.plain u.holds.between.outgoing u.holds.between.incoming in
     record {
       holds = subst (Holds (moved x u.out2 u.coming2)) (sym left) record {
         own_is = u.holds.own_is;
         sound_out = u.holds.sound_out;
         sound_coming = u.holds.sound_coming;
-        between = record { outgoing = fits.0; incoming = fits.1 };
+        between = record {
+          outgoing = u.holds.between.outgoing;
+          incoming =
+              meetings_are_no_events p x.peer u.coming2 (u.silent never) u.holds.sound_coming.invariant
+              u.holds.sound_coming.plain u.holds.between.incoming;
+          writes = u.holds.between.writes;
+        };
         other = u.holds.other;
       };
       peer_is = λ known. ap (λ (p : Parts). p.history.peer) left;

@@ -11,7 +11,7 @@ use Rattle.sctp_model.specs.Reassembly.{Got, ready}
 use Rattle.sctp_model.specs.Machine.{Direction, live}
 use Rattle.sctp_model.specs.Safe.{IsKeptOrdered, IsKeptReliable, IsSafe, IsTaken, Letter, Names, letter_read}
 use Rattle.sctp_model.specs.Safe.{letter_written}
-use Rattle.sctp_directions.specs.Incoming.{IsReadAs}
+use Rattle.sctp_reassembly.specs.Stands.{IsReadAs}
 use Rattle.sctp_pair.specs.Callers.{IsFrontOf, bytes_of}
 
 abbrev pub bytes_accepted : List Message → List (List ℕ)
@@ -39,7 +39,7 @@ pub read_grows : (m : Option letters.ReceivedMessage) (before after : List Got) 
 read_grows None before after e = ap bytes_got e ∙ sym (append-nil (bytes_got before))
 read_grows (Some m) before after (g, e, l) =
     ap bytes_got e ∙ map-append (λ (x : Got). x.bytes) before (g ∷ [])
-    ∙ ap (λ z. bytes_got before ++ z ∷ []) (ap (λ (x : Letter). x.bytes) l)
+    ∙ ap (λ z. bytes_got before ++ z ∷ []) (ap (λ (x : Letter). x.bytes) (sym l))
 
 -- Kept messages
 

@@ -4,20 +4,24 @@ use Rattle.std.proofs.Common.{◌≡◌, refl, sym, ap, ◌∙◌, subst, ⊎_el
 use Rattle.std.proofs.Common.{◌||◌, if◌then◌else◌, List, [], Option, Some, None}
 use Rattle.std.specs.Prelude.{is_some}
 use Rattle.std.specs.declared.net.socket_addr.SocketAddr.{SocketAddr}
-use Rattle.std.proofs.lemmas.Bool.{cases_Bool, eqb-false, false≢true}
+use Rattle.std.proofs.lemmas.Bool.{cases_Bool, eqb-false, false≢true, true≢false}
 use Rattle.sctp_wire_types.specs.declared.chunk.ChunkInit.{ChunkInit}
 use Rattle.sctp_wire_types.specs.declared.error.Error.{Error}
 use Rattle.sctp_wire_types.specs.declared.ids.Side.TheVariants as sides
 use Rattle.sctp_wire_types.specs.Config.{Settings}
+use Rattle.sctp_streams.specs.Streams.{no_stream}
 use Rattle.sctp_model.specs.Machine.{fresh}
 use Rattle.sctp_model.proofs.Proved.{fresh_holds}
-use Rattle.sctp_assoc.specs.Acts.{Binds, begun, parts}
-use Rattle.sctp_assoc.specs.Handshake.{sends_init}
-use Rattle.sctp_assoc.specs.Created.{client, create_refusal, join_refusal, joined, server}
-use Rattle.sctp_sides.specs.Meeting.{stage_of}
-use Rattle.sctp_assoc.specs.Shown.{Shown}
-use Rattle.sctp_directions.specs.Between.{FitsBetween}
+use Rattle.sctp_fit.proofs.NothingToSend.{fresh_ones_fit}
+use Rattle.sctp_fit.proofs.OtherEnd.{fresh_ones_receive_nothing}
+use Rattle.sctp_directions.specs.Acts.{begun}
+use Rattle.sctp_directions.specs.Between.{FitsBetween, IsSound}
 use Rattle.sctp_directions.proofs.Proved.{fresh_directions_are_plain}
+use Rattle.sctp_assoc.specs.Leads.{Binds, parts}
+use Rattle.sctp_assoc.specs.Created.{client, create_refusal, join_refusal, joined, server}
+use Rattle.sctp_assoc.specs.Handshake.{sends_init}
+use Rattle.sctp_assoc.specs.Shown.{Shown}
+use Rattle.sctp_sides.specs.Meeting.{stage_of}
 use Rattle.sctp_pair.specs.Ends.{Ends}
 use Rattle.sctp_pair.specs.World.{empty_world}
 use Rattle.sctp_pair.specs.Fits.{Fits, StagesAgree, StandsOpen}
@@ -27,8 +31,17 @@ use Rattle.sctp_pair.specs.Fits.{Fits, StagesAgree, StandsOpen}
 nothing_between : (config : Settings) (remote : SocketAddr) (own peer size other : ℕ)
     → FitsBetween (parts (server config size 0 own [] remote None) (begun own peer)) (fresh size) (fresh other)
 nothing_between config remote own peer size other = record {
-  outgoing = record { base = refl; flight = refl; waiting = λ s. refl; own_streams = λ s. (refl, refl) };
-  incoming = record { is_open = refl; taken = refl; passed = refl; at = refl; queues = λ s. (refl, refl) };
+  outgoing = (fresh_ones_fit size own).0;
+  incoming = fresh_ones_receive_nothing peer other no_stream refl;
+  writes = λ s t there. absurd (true≢false (sym (ap is_some there)));
+}
+
+-- a direction in which nothing happened is sound
+fresh_is_sound : (size : ℕ) → 0 < size → IsSound (fresh size)
+fresh_is_sound size some = record {
+  invariant = fresh_holds size some;
+  counts = (fresh_ones_fit size 0).1;
+  plain = (fresh_directions_are_plain size).0;
 }
 
 -- An association with this payload size begins: it stands open between directions in which nothing happened.
@@ -46,8 +59,8 @@ fits_begin {own_a} {own_b} {size_a} {size_b} {a} {b} of_a of_b meets p is =
       within = ((fresh_directions_are_plain size_a).1, (fresh_directions_are_plain size_b).1);
       stand = record {
         is = refl;
-        sound_ab = record { invariant = fresh_holds size_a of_a.some; plain = (fresh_directions_are_plain size_a).0 };
-        sound_ba = record { invariant = fresh_holds size_b of_b.some; plain = (fresh_directions_are_plain size_b).0 };
+        sound_ab = fresh_is_sound size_a of_a.some;
+        sound_ba = fresh_is_sound size_b of_b.some;
         side_a = inl of_a.stands;
         side_b = inl of_b.stands;
         stage_a = stage_of a;

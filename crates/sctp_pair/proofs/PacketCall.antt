@@ -7,7 +7,8 @@ use Rattle.sctp_model.specs.Packets.{mem}
 use Rattle.sctp_serial.specs.Serial.{tsn}
 use Rattle.sctp_model.specs.Machine.{Direction, Event, happens}
 use Rattle.sctp_model.proofs.Proved.{each_event_keeps_the_invariant}
-use Rattle.sctp_assoc.specs.Acts.{Parts, parts}
+use Rattle.sctp_directions.specs.Acts.{Parts}
+use Rattle.sctp_assoc.specs.Leads.{parts}
 use Rattle.sctp_assoc.specs.Calls.{is_closed_state}
 use Rattle.sctp_assoc.specs.Chunks.{after_packet}
 use Rattle.sctp_sides.specs.Meeting.{IsNoEarlier, Stage, stage_of}
@@ -15,8 +16,7 @@ use Rattle.sctp_sides.specs.Shapes.{Closes, EndsPacket, IsEnded, OfEachChunk}
 use Rattle.sctp_assoc.specs.Shown.{Shown}
 use Rattle.sctp_sides.proofs.Proved.{lost_associations_take_nothing, no_packet_changes_nothing, packets_carry}
 use Rattle.sctp_sides.proofs.Proved.{the_same_handshake_is_the_same_stage}
-use Rattle.sctp_directions.proofs.Proved.{closed_receivers_are_not_open, plain_events_keep_it_plain}
-use Rattle.sctp_directions.proofs.Proved.{receivers_events_are_received}
+use Rattle.sctp_directions.proofs.Proved.{closed_receivers_are_not_open, receivers_events_are_received}
 use Rattle.sctp_pair.specs.Fits.{StagesAgree, StandsFailed}
 use Rattle.sctp_pair.specs.declared.step.Reply.{Reply}
 use Rattle.sctp_pair.specs.declared.step.Reply.TheVariants as replies
@@ -25,7 +25,7 @@ use Rattle.sctp_pair.specs.World.{HasData}
 use Rattle.sctp_pair.proofs.BetweenDirections.{ClosedAt, Faces, Holds, None_brought, OpenAt, Settles}
 use Rattle.sctp_pair.proofs.BetweenDirections.{SettlesQuietly, Surroundings, does_by_goes, goes_by_receiver}
 use Rattle.sctp_pair.proofs.BetweenDirections.{goes_nowhere, goes_on, moved, nothing_added, nothing_read}
-use Rattle.sctp_pair.proofs.BetweenDirections.{other_by_coming}
+use Rattle.sctp_pair.proofs.BetweenDirections.{other_by_receiver, sound_after}
 use Rattle.sctp_pair.proofs.PacketChunks.{OtherSays, SaidIn, all_said_in, chunk_step}
 use Rattle.sctp_pair.proofs.SimpleCalls.{fails_settle, same_settles}
 use Rattle.sctp_pair.proofs.HandshakeStages.{stays_put, works_on}
@@ -94,10 +94,10 @@ ended_step {x} {B} a b closes ended u =
       does_out = does_by_goes None_brought x.out u.out2 u.goes_out;
       does_coming = does_by_goes B x.coming coming3 (goes_on B x.coming u.coming2 coming3 u.goes_coming goes);
       sound_out = u.holds.sound_out;
-      sound_coming = record {
-        invariant = each_event_keeps_the_invariant u.coming2 Event.Close u.within_coming u.holds.sound_coming.invariant;
-        plain = plain_events_keep_it_plain u.coming2 Event.Close tt u.holds.sound_coming.plain;
-      };
+      sound_coming =
+          sound_after Event.Close tt
+          (each_event_keeps_the_invariant u.coming2 Event.Close u.within_coming u.holds.sound_coming.invariant)
+          u.holds.sound_coming;
       stands = inr (inl record {
         closed = ended.closed;
         unestablished = ended.unestablished;
@@ -106,7 +106,7 @@ ended_step {x} {B} a b closes ended u =
         nothing_left = ended.holds_nothing;
         truthful = closes.truthful x.own u.stands.truthful;
       });
-      other = other_by_coming (moved x u.out2 u.coming2) coming3 received.sender u.holds.other;
+      other = other_by_receiver (moved x u.out2 u.coming2) Event.Close tt u.holds.other;
       goes = u.goes;
       at = λ working. (the_same_handshake_is_the_same_stage a b closes.side closes.handshake).0;
       meets = u.meets;

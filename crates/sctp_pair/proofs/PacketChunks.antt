@@ -18,15 +18,17 @@ use Rattle.sctp_serial.specs.Serial.{tsn}
 use Rattle.sctp_model.specs.Machine.{Sender}
 use Rattle.sctp_model.specs.Safe.{IsWithin}
 use Rattle.sctp_model.proofs.Lists.{all_get}
-use Rattle.sctp_assoc.specs.Acts.{Act, CanAll, History, Parts, done, done_all, parts, tsn_before}
+use Rattle.sctp_fit.specs.Incoming.{IsSaid, tsn_before}
+use Rattle.sctp_fit.specs.Sendings.{IsGiven}
+use Rattle.sctp_directions.specs.Acts.{Act, CanAll, History, MeetsNobody, Parts, done, done_all}
+use Rattle.sctp_directions.specs.Said.{IsMade}
+use Rattle.sctp_directions.proofs.Proved.{acts_keep_the_initial_tsns, sacks_mean_the_same}
+use Rattle.sctp_assoc.specs.Leads.{parts}
 use Rattle.sctp_assoc.specs.Happened.{acts_of_chunk}
+use Rattle.sctp_assoc.specs.Shown.{Shown}
 use Rattle.sctp_sides.specs.Meeting.{Greets}
 use Rattle.sctp_sides.specs.Shapes.{Acknowledges, IsTaking, OpensAndTakes, OpensOnly, TakesChunk, TakesOnly}
-use Rattle.sctp_assoc.specs.Shown.{Shown}
 use Rattle.sctp_sides.proofs.Proved.{data_is_taken, sacks_acknowledge}
-use Rattle.sctp_directions.specs.Laws.{MeetsNobody}
-use Rattle.sctp_directions.specs.Said.{IsGiven, IsMade, IsSaid}
-use Rattle.sctp_directions.proofs.Proved.{acts_keep_the_initial_tsns, sacks_mean_the_same}
 use Rattle.sctp_pair.specs.Fits.{IsSaidBy}
 use Rattle.sctp_pair.specs.World.{HasData}
 use Rattle.sctp_pair.proofs.BetweenDirections.{Holds, None_brought, Surroundings, goes_nowhere, goes_on, moved}
@@ -113,9 +115,9 @@ module _ (x : Surroundings) (B : ℕ → Type 0) (a : Shown) (h : History) (piec
       subst (Comes x B (parts a h)) (sym n) (coming_nowhere B within holds)
   take_shape acts (inr (inl o)) can given brings = data_opens acts o
   take_shape acts (inr (inr (inl t))) can (k, d, e, said) brings =
-      data_opens_and_takes k d e said (brings d.offset said.tsn) acts can t
+      data_opens_and_takes k d e said (brings d.offset said.carries.tsn) acts can t
   take_shape acts (inr (inr (inr t))) can (k, d, e, said) brings =
-      data_takes k d e said (brings d.offset said.tsn) acts can t
+      data_takes k d e said (brings d.offset said.carries.tsn) acts can t
 
 taking_meets_nobody : (a : Shown) (piece : ChunkPayloadData) (acts : List Act) → IsTaking a piece acts
     → AllByRecursion MeetsNobody acts
@@ -177,7 +179,7 @@ sack_shape x a h c acts (inr s) (k, sack, e, says) within holds =
     says.at ∙ ap (λ i. tsn_before (tsn i sack.reach)) (sym holds.own_is) in
     let at : sack.reach ≡ x.out.sender.reach + s.count =
     sacks_mean_the_same (parts a h) s.count c.cumulative_tsn_ack k sack x.out e named s.at s.within within
-    holds.sound_out.invariant holds.sound_out.plain holds.between.outgoing in
+    holds.sound_out.invariant holds.between.outgoing in
     let one = act_acknowledged s.count k sack holds e at s.within in
     subst (Goes_out x (parts a h)) (sym s.are) (one.0, one.1 within, one.2)
 

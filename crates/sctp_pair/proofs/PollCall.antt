@@ -9,7 +9,8 @@ use Rattle.sctp_wire_types.specs.declared.chunk.Chunk.TheVariants as chunks
 use Rattle.sctp_wire.specs.declared.packet.Packet.{Packet}
 use Rattle.sctp_model.specs.Safe.{IsWithin}
 use Rattle.sctp_model.proofs.Lists.{all_front, all_get, all_weaker}
-use Rattle.sctp_assoc.specs.Acts.{Act, CanAll, History, Parts, all_data_given, done_all, parts}
+use Rattle.sctp_directions.specs.Acts.{Act, CanAll, History, Parts, all_data_given, done_all}
+use Rattle.sctp_assoc.specs.Leads.{parts}
 use Rattle.sctp_assoc.specs.Calls.{is_established}
 use Rattle.sctp_assoc.specs.Happened.{Polls, PollsOn, acts_of_poll}
 use Rattle.sctp_assoc.specs.declared.control.ControlPacket.{ControlPacket}
@@ -22,7 +23,8 @@ use Rattle.sctp_assoc.specs.Shown.{Shown}
 use Rattle.sctp_sides.proofs.Proved.{done_append, established_sides_talk, given_append, polls_give_and_report}
 use Rattle.sctp_sides.proofs.Proved.{polls_keep_the_status, polls_outside_established_give_what_waits}
 use Rattle.sctp_sides.proofs.Proved.{polls_say_their_acts, reports_are_silent, what_waits_goes_out_as_it_is}
-use Rattle.sctp_directions.specs.Said.{IsGiven, Says}
+use Rattle.sctp_fit.specs.Sendings.{IsGiven}
+use Rattle.sctp_directions.specs.Said.{Says}
 use Rattle.sctp_pair.specs.declared.step.Reply.{Reply}
 use Rattle.sctp_pair.specs.declared.step.Reply.TheVariants as replies
 use Rattle.sctp_pair.specs.Fits.{AreSaid, IsSaidBy}
@@ -199,13 +201,7 @@ open_without x a same s = record {
   past = s.past;
   own_is = s.own_is;
   peer_is = s.peer_is;
-  binds = record {
-    first = s.binds.first;
-    reach = s.binds.reach;
-    below = s.binds.below;
-    above = s.binds.above;
-    passed = s.binds.passed;
-  };
+  binds = record { first = s.binds.first; point = s.binds.point; held = s.binds.held };
   working = s.working;
   come = come_on a (without_control a) same s.come;
   present = s.present;

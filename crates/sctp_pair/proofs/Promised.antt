@@ -1,12 +1,28 @@
 -- Where both associations stand in a direction, what is promised of it holds.
-use Rattle.std.proofs.Common.{◌≡◌, sym, ◌∙◌, ◌⊎◌, ⊎_elim, inl, inr, ℕ, true}
+use Rattle.std.proofs.Common.{◌≡◌, refl, sym, ap, ◌∙◌, subst, ◌⊎◌, ⊎_elim, inl, inr, ℕ, ◌+◌, Bool, true, false, []}
+use Rattle.std.proofs.Common.{if◌then◌else◌, map, Option, Some, None}
+use Rattle.std.specs.Prelude.{Ok, Err, is_ok}
 use Rattle.std.proofs.lemmas.Bool.{true≢false}
-use Rattle.sctp_model.specs.Machine.{Direction}
-use Rattle.sctp_model.specs.Safe.{IsWithin}
+use Rattle.sctp_wire_types.specs.declared.error.Error.TheVariants as errors
+use Rattle.sctp_streams.specs.Stream.{StreamView}
+use Rattle.sctp_streams.specs.Streams.{stream_at}
+use Rattle.sctp_model.specs.Messages.{Plan, accepted_bytes}
+use Rattle.sctp_model.specs.Reassembly as queue
+use Rattle.sctp_model.specs.Reassembly.{Queue}
+use Rattle.sctp_model.specs.Machine.{Direction, live}
+use Rattle.sctp_model.specs.Invariants.{Invariant}
+use Rattle.sctp_model.specs.Safe.{IsWithin, letter_read}
 use Rattle.sctp_model.proofs.Proved.{the_invariant_is_enough}
-use Rattle.sctp_assoc.specs.Shown.{Shown}
+use Rattle.sctp_reassembly.specs.Stands.{letter_received}
+use Rattle.sctp_fit.specs.Incoming.{FitsIncoming, IsQueueAt, Receiving}
+use Rattle.sctp_fit.specs.Outgoing.{FitsOutgoing, Sending}
+use Rattle.sctp_fit.proofs.Pinned.{what_is_released_is_not_buffered}
+use Rattle.sctp_fit.proofs.ReadsAnswered.{the_same_is_ready}
+use Rattle.sctp_directions.specs.Acts.{receiving, sending}
 use Rattle.sctp_directions.specs.Between.{IsSound}
-use Rattle.sctp_directions.proofs.Proved.{ready_messages_are_alike, what_is_released_is_not_buffered}
+use Rattle.sctp_assoc.specs.Leads.{parts}
+use Rattle.sctp_assoc.specs.Calls.{buffered_at, ready_of}
+use Rattle.sctp_assoc.specs.Shown.{Shown}
 use Rattle.sctp_pair.specs.Ends.{Ends}
 use Rattle.sctp_pair.specs.World.{IsOpen, IsPromised, IsSafeWorld, World}
 use Rattle.sctp_pair.specs.Fits.{Fits, Stands, StandsClosed, StandsFailed, StandsOpen}
@@ -35,6 +51,34 @@ receives_or_stopped own peer a out coming h =
     r)
     h
 
+-- on a stream that is live on neither side nothing is ready
+none_ready : (peer : ℕ) (p : Plan) (s : ℕ) (q : Option Queue) → IsQueueAt peer p s None q
+    → map letter_read (queue.ready (live q)) ≡ []
+none_ready peer p s None h = refl
+none_ready peer p s (Some q) h = absurd h
+
+-- what is ready is the same on both sides
+ready_at : (o : Option StreamView) (a : Receiving) (s : ℕ) (w : Direction) → stream_at a.streams s ≡ o
+    → w.over s ≡ false → IsWithin w → Invariant w → FitsIncoming a w
+    → map letter_read (queue.ready (live (w.receiver.queues s))) ≡ map letter_received (ready_of o)
+ready_at None a s w there span within invariant fits =
+    none_ready a.peer w.sender.plan s (w.receiver.queues s)
+    (subst (λ (o : Option StreamView). IsQueueAt a.peer w.sender.plan s o (w.receiver.queues s)) there
+    (fits.queues s span))
+ready_at (Some t) a s w there span within invariant fits =
+    the_same_is_ready a s t w there span within invariant fits
+
+-- what is released of a stream is what was accepted and isn't buffered, where the association can be asked for that
+released_if : (failed : Bool) (o : Option StreamView) (a : Sending) (s n : ℕ) (w : Direction)
+    → stream_at a.streams s ≡ o → w.over s ≡ false → FitsOutgoing a w
+    → (if failed then Err errors.ErrAssociationFailed else buffered_at o) ≡ Ok n
+    → n + w.sender.released s ≡ accepted_bytes w.sender.plan s
+released_if true o a s n w there span fits e = absurd (true≢false (sym (ap is_ok e)))
+released_if false None a s n w there span fits e = absurd (true≢false (sym (ap is_ok e)))
+released_if false (Some t) a s n w there span fits e =
+    let same : t.buffered ≡ n = cc in
+    ap (λ z. z + w.sender.released s) (sym same) ∙ what_is_released_is_not_buffered a s t w there span fits
+
 -- Where the sender and the receiver of a direction stand in it, and it is within the limits, the promise of it holds.
 module _ {own peer : ℕ} {sender receiver : Shown} {w back : Direction} (giving : Stands own peer sender w back)
     (taking : Stands peer own receiver back w) (within : IsWithin w) (sound : IsSound w) where
@@ -44,10 +88,12 @@ module _ {own peer : ℕ} {sender receiver : Shown} {w back : Direction} (giving
     opens = λ o. (stands_open peer own receiver back w o taking).between.incoming.is_open;
     ready_is = λ o s span.
         let h = stands_open peer own receiver back w o taking in
-        ready_messages_are_alike receiver h.past s w within sound.invariant sound.plain h.between.incoming;
+        ready_at (stream_at receiver.streams s) (receiving (parts receiver h.past)) s w refl span within sound.invariant
+        h.between.incoming;
     released_is = λ o s n span e.
         let h = stands_open own peer sender w back o giving in
-        what_is_released_is_not_buffered sender h.past s n w e h.between.outgoing;
+        released_if sender.failed (stream_at sender.streams s) (sending (parts sender h.past)) s n w refl span
+        h.between.outgoing e;
   }
 
 -- A world in which a pair stands is safe.

@@ -9,22 +9,24 @@ use Rattle.sctp_model.specs.Packets.{Data}
 use Rattle.sctp_model.specs.Reassembly.{Got}
 use Rattle.sctp_model.specs.Machine.{Direction, Event, happens}
 use Rattle.sctp_model.proofs.Proved.{each_event_keeps_the_invariant}
-use Rattle.sctp_assoc.specs.Acts.{Act, parts}
+use Rattle.sctp_reassembly.specs.Stands.{IsReadAs}
+use Rattle.sctp_fit.proofs.ReadsAnswered.{reads_are_alike}
+use Rattle.sctp_directions.specs.Acts.{Act, receiving}
+use Rattle.sctp_directions.proofs.Proved.{only_what_is_brought_is_taken_in, receivers_events_are_received}
+use Rattle.sctp_directions.proofs.Proved.{what_comes_leaves_its_own}
+use Rattle.sctp_assoc.specs.Leads.{parts}
 use Rattle.sctp_assoc.specs.Calls.{read_from_stream}
-use Rattle.sctp_sides.specs.Shapes.{HoldsNothing, IsLive, IsSameStatus}
 use Rattle.sctp_assoc.specs.Shown.{Shown}
+use Rattle.sctp_sides.specs.Shapes.{HoldsNothing, IsLive, IsSameStatus}
 use Rattle.sctp_sides.proofs.Proved.{found_streams_are_live, read_leads_on, reads_keep_the_status}
 use Rattle.sctp_sides.proofs.Proved.{what_holds_nothing_gives_nothing}
-use Rattle.sctp_directions.specs.Incoming.{IsReadAs}
-use Rattle.sctp_directions.proofs.Proved.{only_what_is_brought_is_taken_in, plain_events_keep_it_plain, reads_are_alike}
-use Rattle.sctp_directions.proofs.Proved.{receivers_events_are_received, what_comes_leaves_its_own}
 use Rattle.sctp_pair.specs.declared.step.Reply.{Reply}
 use Rattle.sctp_pair.specs.declared.step.Reply.TheVariants as replies
 use Rattle.sctp_pair.specs.Fits.{StandsClosed}
 use Rattle.sctp_pair.specs.Steps.{Reads}
 use Rattle.sctp_pair.proofs.BetweenDirections.{Does, Faces, None_brought, OpenAt, Settles, SettlesQuietly}
 use Rattle.sctp_pair.proofs.BetweenDirections.{Surroundings, does_by_goes, goes_nowhere, nothing_added}
-use Rattle.sctp_pair.proofs.BetweenDirections.{other_by_coming}
+use Rattle.sctp_pair.proofs.BetweenDirections.{other_by_receiver, sound_after}
 use Rattle.sctp_pair.proofs.SimpleCalls.{by_working, closed_on, open_on, same_settles, still}
 use Rattle.sctp_pair.proofs.HandshakeStages.{at_same, stays_put}
 
@@ -71,8 +73,8 @@ read_open : {x : Surroundings} {a b : Shown} (id : ℕ) (message : Option Receiv
     → Settles x b nothing_added (read_by (replies.Read message) id) None_brought
 read_open {x} {a} {b} id message live e f s =
     let fits =
-    reads_are_alike (parts a s.past) id live.stream x.coming live.there f.within_coming f.sound_coming.invariant
-    f.sound_coming.plain s.between.incoming in
+    reads_are_alike (receiving (parts a s.past)) id live.stream x.coming live.there (f.sound_coming.plain.span id)
+    f.within_coming f.sound_coming.invariant s.between.incoming in
     let coming2 : Direction = happens x.coming (Event.Read id) in
     let m = read_leads_on a b id message e s.past s.binds in
     let same : IsSameStatus a b =
@@ -96,12 +98,12 @@ read_open {x} {a} {b} id message live e f s =
           (subst (λ (z : Option ReceivedMessage). IsReadAs z (x.coming.reads id) (coming2.reads id))
           (ap (λ (z : Shown × Option ReceivedMessage). z.1) e) fits.1) fits.2;
       sound_out = f.sound_out;
-      sound_coming = record {
-        invariant = each_event_keeps_the_invariant x.coming (Event.Read id) f.within_coming f.sound_coming.invariant;
-        plain = plain_events_keep_it_plain x.coming (Event.Read id) tt f.sound_coming.plain;
-      };
+      sound_coming =
+          sound_after (Event.Read id) tt
+          (each_event_keeps_the_invariant x.coming (Event.Read id) f.within_coming f.sound_coming.invariant)
+          f.sound_coming;
       stands = inl stands;
-      other = other_by_coming x coming2 received.sender f.other;
+      other = other_by_receiver x (Event.Read id) tt f.other;
       goes = stays_put x.here;
       at = at_same a b x.here same f.at;
       meets = f.meets;

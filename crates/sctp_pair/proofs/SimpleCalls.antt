@@ -6,26 +6,28 @@ use Rattle.std.specs.List.{AllByRecursion}
 use Rattle.sctp_wire_types.specs.declared.ids.PayloadProtocolIdentifier.{PayloadProtocolIdentifier}
 use Rattle.sctp_model.specs.Machine.{Direction, Event, happens}
 use Rattle.sctp_model.proofs.Proved.{each_event_keeps_the_invariant}
-use Rattle.sctp_assoc.specs.Acts.{Act, History, Leads, Parts, done_all, parts}
+use Rattle.sctp_fit.specs.Incoming.{FitsIncoming}
+use Rattle.sctp_fit.specs.Outgoing.{FitsOutgoing}
+use Rattle.sctp_fit.proofs.DataTaken.{opened_streams_are_alike}
+use Rattle.sctp_fit.proofs.NothingToSend.{opened_streams_send_nothing}
+use Rattle.sctp_directions.specs.Acts.{Act, History, MeetsNobody, Parts, done, done_all, receiving, sending}
+use Rattle.sctp_directions.specs.Events.{Brings, GivesAMessage, IsOfReceiving, IsPlainEvent}
+use Rattle.sctp_directions.specs.Plain.{AreOrderedAndReliable}
+use Rattle.sctp_directions.proofs.Proved.{acts_keep_the_initial_tsns, closed_receivers_are_not_open}
+use Rattle.sctp_directions.proofs.Proved.{receivers_events_are_received, streams_stay_ordered_and_reliable}
+use Rattle.sctp_assoc.specs.Leads.{Leads, parts}
 use Rattle.sctp_assoc.specs.Calls.{is_closed_state, is_established, open_refusal, opened}
-use Rattle.sctp_sides.specs.Shapes.{HoldsNothing, IsNotLive, IsSameStatus}
 use Rattle.sctp_assoc.specs.Shown.{Shown}
+use Rattle.sctp_sides.specs.Shapes.{HoldsNothing, IsNotLive, IsSameStatus}
 use Rattle.sctp_sides.proofs.Proved.{open_leads_on, opened_streams_hold_nothing, opened_streams_keep_the_status}
 use Rattle.sctp_sides.proofs.Proved.{opened_streams_were_not_live}
-use Rattle.sctp_directions.specs.Events.{Brings, GivesAMessage, IsAtReceiver, IsPlainEvent}
-use Rattle.sctp_directions.specs.Outgoing.{FitsOutgoing}
-use Rattle.sctp_directions.specs.Incoming.{FitsIncoming}
-use Rattle.sctp_directions.specs.Laws.{MeetsNobody}
-use Rattle.sctp_directions.proofs.Proved.{acts_keep_the_initial_tsns, closed_receivers_are_not_open}
-use Rattle.sctp_directions.proofs.Proved.{opened_streams_are_alike, plain_events_keep_it_plain}
-use Rattle.sctp_directions.proofs.Proved.{receivers_events_are_received}
 use Rattle.sctp_pair.specs.declared.step.Reply.{Reply}
 use Rattle.sctp_pair.specs.declared.step.Reply.TheVariants as replies
 use Rattle.sctp_pair.specs.Fits.{IsAt, StandsClosed, StandsFailed}
 use Rattle.sctp_pair.specs.Steps.{Buffers, Finds, Measures, Opens}
 use Rattle.sctp_pair.proofs.BetweenDirections.{ClosedAt, Faces, None_brought, OpenAt, SettlesQuietly, StandsAt}
 use Rattle.sctp_pair.proofs.BetweenDirections.{Surroundings, does_by_goes, goes_by_receiver, goes_nowhere, moved}
-use Rattle.sctp_pair.proofs.BetweenDirections.{other_by_coming}
+use Rattle.sctp_pair.proofs.BetweenDirections.{other_by_receiver, sound_after}
 use Rattle.sctp_pair.proofs.HandshakeStages.{at_same, come_on, known_before, stays_put}
 
 -- Nothing happened to the directions, and the association stands between them still.
@@ -78,7 +80,7 @@ measures_same a r b h = absurd h
 
 -- an event of the receiver that is no read and brings nothing happened to the direction that comes, and the association
 -- stands between its directions then
-pub settles_by_receiver : {x : Surroundings} {a b : Shown} (e : Event) → Faces x a → IsAtReceiver e
+pub settles_by_receiver : {x : Surroundings} {a b : Shown} (e : Event) → Faces x a → IsOfReceiving e
     → (GivesAMessage e → ⊥) → ((o : ℕ) → Brings x.coming e o → ⊥) → IsPlainEvent x.coming e → IsAt b x.here
     → StandsAt (record x { coming = happens x.coming e }) b → SettlesQuietly x b
 settles_by_receiver {x} e f at none brings plain now s =
@@ -91,12 +93,11 @@ settles_by_receiver {x} e f at none brings plain now s =
       does_out = does_by_goes None_brought x.out x.out (goes_nowhere None_brought x.out);
       does_coming = does_by_goes None_brought x.coming (happens x.coming e) goes;
       sound_out = f.sound_out;
-      sound_coming = record {
-        invariant = each_event_keeps_the_invariant x.coming e f.within_coming f.sound_coming.invariant;
-        plain = plain_events_keep_it_plain x.coming e plain f.sound_coming.plain;
-      };
+      sound_coming =
+          sound_after e plain (each_event_keeps_the_invariant x.coming e f.within_coming f.sound_coming.invariant)
+          f.sound_coming;
       stands = s;
-      other = other_by_coming x (happens x.coming e) received.sender f.other;
+      other = other_by_receiver x e at f.other;
       goes = stays_put x.here;
       at = now;
       meets = f.meets;
@@ -124,8 +125,14 @@ pub record LeadsOn (x : Surroundings) (a : Shown) (past : History) (acts : List 
   pub nobody : AllByRecursion MeetsNobody acts
   pub same : IsSameStatus a b
   pub size : out2.sender.plan.size ≡ x.out.sender.plan.size
-  pub outgoing : FitsOutgoing (done_all acts (parts a past)) out2
-  pub incoming : FitsIncoming (done_all acts (parts a past)) coming2
+  pub outgoing : FitsOutgoing (sending (done_all acts (parts a past))) out2
+  pub incoming : FitsIncoming (receiving (done_all acts (parts a past))) coming2
+
+-- whatever acts do, the streams write ordered, reliable messages
+writes_stay : (acts : List Act) (p : Parts) → AreOrderedAndReliable p.streams
+    → AreOrderedAndReliable (done_all acts p).streams
+writes_stay [] p h = h
+writes_stay (act ∷ acts) p h = writes_stay acts (done act p) (streams_stay_ordered_and_reliable act p h)
 
 -- An open association whose status stays stands open where acts lead, between directions that fit what they did.
 pub open_on : (x : Surroundings) (acts : List Act) {a b : Shown} {out2 coming2 : Direction} (s : OpenAt x a)
@@ -146,8 +153,11 @@ open_on x acts {a} {b} {out2} {coming2} s m =
       truthful = status.truthful x.own s.truthful;
       size = m.size ∙ s.size ∙ sym status.size;
       between = record {
-        outgoing = subst (λ (p : Parts). FitsOutgoing p out2) (sym there) m.outgoing;
-        incoming = subst (λ (p : Parts). FitsIncoming p coming2) (sym there) m.incoming;
+        outgoing = subst (λ (p : Parts). FitsOutgoing (sending p) out2) (sym there) m.outgoing;
+        incoming = subst (λ (p : Parts). FitsIncoming (receiving p) coming2) (sym there) m.incoming;
+        writes =
+            subst (λ (p : Parts). AreOrderedAndReliable p.streams) (sym there)
+            (writes_stay acts (parts a s.past) s.between.writes);
       };
     }
 
@@ -184,9 +194,7 @@ module _ (x : Surroundings) (a : Shown) (id : ℕ) (kind : PayloadProtocolIdenti
       let first : ℕ = a.sender.queue.next_message_id in
       let m = open_leads_on a (opened a id kind) id kind refl s.past s.binds in
       let same = opened_streams_keep_the_status a id kind in
-      let fits =
-      opened_streams_are_alike (parts a s.past) id first kind x.out x.coming none s.between.outgoing
-      s.between.incoming in
+      let p : Parts = parts a s.past in
       let stands : OpenAt (record x { coming = happens x.coming (Event.Open id) }) (opened a id kind) =
       open_on x (Act.Opened id first kind ∷ []) s record {
         past2 = m.0;
@@ -194,8 +202,10 @@ module _ (x : Surroundings) (a : Shown) (id : ℕ) (kind : PayloadProtocolIdenti
         nobody = (tt, tt);
         same = same;
         size = refl;
-        outgoing = fits.0;
-        incoming = fits.1;
+        outgoing =
+            opened_streams_send_nothing (sending p) id first kind x.out none (f.sound_out.plain.span id)
+            f.sound_out.invariant f.sound_out.counts s.between.outgoing;
+        incoming = opened_streams_are_alike (receiving p) id first kind x.coming none s.between.incoming;
       } in
       settles_by_receiver (Event.Open id) f tt (λ n. n) (λ o n. n) tt (at_same a (opened a id kind) x.here same f.at)
       (inl stands)

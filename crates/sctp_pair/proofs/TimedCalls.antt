@@ -3,18 +3,18 @@ use Rattle.std.proofs.Common.{◌≡◌, refl, sym, subst, ◌⊎◌, inl, inr, 
 use Rattle.std.specs.List.{AllByRecursion}
 use Rattle.sctp_streams.specs.declared.event.Event.{Event}
 use Rattle.sctp_model.specs.Machine.{Direction}
-use Rattle.sctp_assoc.specs.Acts.{Act, Parts, done_all, parts}
+use Rattle.sctp_fit.specs.Incoming.{FitsIncoming}
+use Rattle.sctp_fit.specs.Outgoing.{FitsOutgoing}
+use Rattle.sctp_directions.specs.Acts.{Act, MeetsNobody, Parts, done_all, receiving, sending}
+use Rattle.sctp_directions.proofs.Proved.{marks_are_no_events, own_acts_leave_what_comes}
+use Rattle.sctp_assoc.specs.Leads.{parts}
 use Rattle.sctp_assoc.specs.Calls.{event_polled}
-use Rattle.sctp_assoc.specs.Timeouts.{after_timeouts}
 use Rattle.sctp_assoc.specs.Happened.{acts_of_timeouts}
-use Rattle.sctp_sides.specs.Shapes.{HoldsNothing}
 use Rattle.sctp_assoc.specs.Shown.{Shown}
+use Rattle.sctp_assoc.specs.Timeouts.{after_timeouts}
+use Rattle.sctp_sides.specs.Shapes.{HoldsNothing}
 use Rattle.sctp_sides.proofs.Proved.{poll_leads_on, timeouts_lead_on, timeouts_mark_at_most, timers_keep_the_status}
 use Rattle.sctp_sides.proofs.Proved.{told_events_keep_the_status}
-use Rattle.sctp_directions.specs.Outgoing.{FitsOutgoing}
-use Rattle.sctp_directions.specs.Incoming.{FitsIncoming}
-use Rattle.sctp_directions.specs.Laws.{MeetsNobody}
-use Rattle.sctp_directions.proofs.Proved.{marks_are_no_events, own_acts_leave_what_comes}
 use Rattle.sctp_pair.specs.declared.step.Reply.{Reply}
 use Rattle.sctp_pair.specs.declared.step.Reply.TheVariants as replies
 use Rattle.sctp_pair.specs.Steps.{Expires, Tells}
@@ -54,17 +54,18 @@ tells_settle r h f = absurd h
 
 -- Timeouts
 
-timeouts_out : (acts : List Act) (p : Parts) (w : Direction) → (acts ≡ []) ⊎ (acts ≡ Act.Marked ∷ []) → FitsOutgoing p w
-    → FitsOutgoing (done_all acts p) w
-timeouts_out acts p w (inl none) h = subst (λ zs. FitsOutgoing (done_all zs p) w) (sym none) h
+timeouts_out : (acts : List Act) (p : Parts) (w : Direction) → (acts ≡ []) ⊎ (acts ≡ Act.Marked ∷ [])
+    → FitsOutgoing (sending p) w → FitsOutgoing (sending (done_all acts p)) w
+timeouts_out acts p w (inl none) h = subst (λ zs. FitsOutgoing (sending (done_all zs p)) w) (sym none) h
 timeouts_out acts p w (inr marks) h =
-    subst (λ zs. FitsOutgoing (done_all zs p) w) (sym marks) (marks_are_no_events p w h)
+    subst (λ zs. FitsOutgoing (sending (done_all zs p)) w) (sym marks) (marks_are_no_events p w h)
 
 timeouts_coming : (acts : List Act) (p : Parts) (w : Direction) → (acts ≡ []) ⊎ (acts ≡ Act.Marked ∷ [])
-    → FitsIncoming p w → FitsIncoming (done_all acts p) w
-timeouts_coming acts p w (inl none) h = subst (λ zs. FitsIncoming (done_all zs p) w) (sym none) h
+    → FitsIncoming (receiving p) w → FitsIncoming (receiving (done_all acts p)) w
+timeouts_coming acts p w (inl none) h = subst (λ zs. FitsIncoming (receiving (done_all zs p)) w) (sym none) h
 timeouts_coming acts p w (inr marks) h =
-    subst (λ zs. FitsIncoming (done_all zs p) w) (sym marks) (own_acts_leave_what_comes Act.Marked p w tt h)
+    subst (λ zs. FitsIncoming (receiving (done_all zs p)) w) (sym marks)
+    (own_acts_leave_what_comes Act.Marked p w tt h)
 
 timeouts_meet_nobody : (acts : List Act) → (acts ≡ []) ⊎ (acts ≡ Act.Marked ∷ []) → AllByRecursion MeetsNobody acts
 timeouts_meet_nobody acts (inl none) = subst (AllByRecursion MeetsNobody) (sym none) tt

@@ -1,5 +1,5 @@
 -- A write that an association accepts: the direction accepts that message behind those accepted before.
-use Rattle.std.proofs.Common.{◌≡◌, refl, sym, ap, ◌∙◌, subst, inl, inr, ℕ, ◌≤◌, true, if◌then◌else◌, List, [], ◌∷◌}
+use Rattle.std.proofs.Common.{◌≡◌, refl, sym, ap, ◌∙◌, subst, inl, inr, ℕ, ◌<◌, true, if◌then◌else◌, List, [], ◌∷◌}
 use Rattle.std.proofs.Common.{◌++◌, length, Option, Some, None, is_some}
 use Rattle.std.specs.Prelude.{◌==◌, slice_get}
 use Rattle.std.proofs.lemmas.Bool.{true≢false}
@@ -9,23 +9,23 @@ use Rattle.sctp_streams.specs.Streams.{stream_at}
 use Rattle.sctp_model.specs.Messages.{Message}
 use Rattle.sctp_model.specs.Packets.{Sack, mem}
 use Rattle.sctp_model.specs.Machine.{Direction, Event, Receiver, happens}
-use Rattle.sctp_assoc.specs.Acts.{Act, parts}
-use Rattle.sctp_assoc.specs.Calls.{written}
-use Rattle.sctp_sides.specs.Shapes.{WasWritable}
-use Rattle.sctp_assoc.specs.Shown.{Shown}
-use Rattle.sctp_sides.proofs.Proved.{accepted_writes_fit, write_leads_on, writes_keep_the_status}
-use Rattle.sctp_directions.specs.Plain.{IsSimple}
-use Rattle.sctp_directions.specs.Outgoing.{message_on}
-use Rattle.sctp_directions.proofs.Proved.{only_beginnings_assign, own_acts_leave_what_comes, plain_events_keep_it_plain}
-use Rattle.sctp_directions.proofs.Proved.{senders_events_are_sent, senders_events_keep_the_invariant}
-use Rattle.sctp_directions.proofs.Proved.{senders_events_leave_what_comes, writes_are_accepted}
+use Rattle.sctp_directions.specs.Acts.{Act}
+use Rattle.sctp_directions.specs.Plain.{message_on}
+use Rattle.sctp_directions.proofs.Proved.{only_beginnings_assign, own_acts_leave_what_comes, senders_events_are_sent}
+use Rattle.sctp_directions.proofs.Proved.{senders_events_keep_the_invariant, writes_are_accepted}
 use Rattle.sctp_directions.proofs.Proved.{writes_are_accepted_last}
+use Rattle.sctp_assoc.specs.Leads.{parts}
+use Rattle.sctp_assoc.specs.Calls.{written}
+use Rattle.sctp_assoc.specs.Shown.{Shown}
+use Rattle.sctp_sides.specs.Shapes.{WasWritable}
+use Rattle.sctp_sides.proofs.Proved.{accepted_writes_fit, write_leads_on, writes_keep_the_status}
 use Rattle.sctp_pair.specs.declared.step.Reply.{Reply}
 use Rattle.sctp_pair.specs.declared.step.Reply.TheVariants as replies
 use Rattle.sctp_pair.specs.Steps.{Writes, first_refusal}
 use Rattle.sctp_pair.specs.World.{messages_on}
 use Rattle.sctp_pair.proofs.BetweenDirections.{Does, Faces, None_brought, OpenAt, Settles, Surroundings}
-use Rattle.sctp_pair.proofs.BetweenDirections.{does_by_goes, goes_nowhere, nothing_read, other_by_out}
+use Rattle.sctp_pair.proofs.BetweenDirections.{does_by_goes, goes_nowhere, nothing_read, other_by_sender}
+use Rattle.sctp_pair.proofs.BetweenDirections.{sound_after}
 use Rattle.sctp_pair.proofs.SimpleCalls.{by_working, open_on, same_settles}
 use Rattle.sctp_pair.proofs.HandshakeStages.{at_same, stays_put}
 
@@ -40,15 +40,15 @@ first_none None y e = e
 first_none (Some fault) y e = absurd (true≢false (ap is_some e))
 
 write_does : (a : Shown) (id n : ℕ) (bytes : List ℕ) (t : StreamView) (w : Direction) → stream_at a.streams id ≡ Some t
-    → IsSimple w.sender.plan.size (message_on t bytes)
+    → 0 < length bytes
     → Does (written_by (replies.Wrote n) a id bytes) nothing_read None_brought w
     (happens w (Event.Write id (message_on t bytes)))
-write_does a id n bytes t w there simple =
+write_does a id n bytes t w there some =
     let sent = senders_events_are_sent w (Event.Write id (message_on t bytes)) tt in
     record {
       events = Event.Write id (message_on t bytes) ∷ [];
       is = refl;
-      accepted = λ s. writes_are_accepted_last w id s (message_on t bytes) simple
+      accepted = λ s. writes_are_accepted_last w id s (message_on t bytes) some refl refl
           ∙ ap (λ o. w.sender.plan.accepted s ++ (if id == s then messages_on o bytes else [])) (sym there);
       size = sent.0.size;
       reads = λ s. ap (λ f. f s) sent.0.reads;
@@ -67,9 +67,6 @@ written_settles {x} {a} id n bytes can f s =
     let e : Event = Event.Write id (message_on t bytes) in
     let out2 : Direction = happens x.out e in
     let sent = senders_events_are_sent x.out e tt in
-    let one : length bytes ≤ x.out.sender.plan.size = subst (λ z. length bytes ≤ z) (sym s.size) can.one in
-    let simple : IsSimple x.out.sender.plan.size
-    (message_on t bytes) = record { some = can.some; one = one; ordered = refl; policy = refl } in
     let m = write_leads_on a (written a id bytes) id bytes refl s.past s.binds in
     let stands : OpenAt (record x { out = out2 }) (written a id bytes) =
     open_on x (Act.Wrote id bytes ∷ []) s record {
@@ -79,25 +76,21 @@ written_settles {x} {a} id n bytes can f s =
       same = writes_keep_the_status a id bytes;
       size = sent.0.size;
       outgoing =
-          writes_are_accepted (parts a s.past) id bytes t x.out there can.some one f.sound_out.plain s.between.outgoing;
+          writes_are_accepted (parts a s.past) id bytes t x.out there s.between.writes can.some can.one
+          f.sound_out.invariant f.sound_out.counts s.between.outgoing;
       incoming = own_acts_leave_what_comes (Act.Wrote id bytes) (parts a s.past) x.coming tt s.between.incoming;
     } in
     record {
       out2 = out2;
       coming2 = x.coming;
       here2 = x.here;
-      does_out = write_does a id n bytes t x.out there simple;
+      does_out = write_does a id n bytes t x.out there can.some;
       does_coming = does_by_goes None_brought x.coming x.coming (goes_nowhere None_brought x.coming);
-      sound_out = record {
-        invariant = senders_events_keep_the_invariant x.out e tt f.sound_out.invariant;
-        plain = plain_events_keep_it_plain x.out e simple f.sound_out.plain;
-      };
+      sound_out =
+          sound_after e tt (senders_events_keep_the_invariant x.out e tt f.sound_out.invariant) f.sound_out;
       sound_coming = f.sound_coming;
       stands = inl stands;
-      other =
-          other_by_out x out2
-          (λ p g. senders_events_leave_what_comes p x.out e tt f.sound_out.invariant f.sound_out.plain g)
-          (ap (λ (r : Receiver). r.is_open) sent.0.receiver) f.other;
+      other = other_by_sender x e tt f.sound_out.invariant f.other;
       goes = stays_put x.here;
       at = at_same a (written a id bytes) x.here (writes_keep_the_status a id bytes) f.at;
       meets = f.meets;

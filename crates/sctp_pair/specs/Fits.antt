@@ -3,7 +3,8 @@ use Rattle.std.specs.Prelude.{◌≡◌, ℕ, true, false, ◌⊎◌, List, [], 
 use Rattle.std.specs.List.{AllByRecursion}
 use Rattle.sctp_wire_types.specs.declared.chunk.Chunk.{Chunk}
 use Rattle.sctp_model.specs.Machine.{Direction}
-use Rattle.sctp_assoc.specs.Acts.{Binds, History, parts}
+use Rattle.sctp_assoc.specs.Leads.{Binds, parts}
+use Rattle.sctp_directions.specs.Acts.{History}
 use Rattle.sctp_assoc.specs.Calls.{is_closed_state, is_established}
 use Rattle.sctp_sides.specs.Meeting.{Greets, HasCome, IsDoneAmongClients, IsTruthful, MayHear, Stage, stage_of}
 use Rattle.sctp_sides.specs.Shapes.{HoldsNothing, OfEachChunk}

@@ -16,12 +16,11 @@ use Rattle.sctp_serial.specs.Serial.{tsn}
 use Rattle.sctp_model.specs.Reassembly as queue
 use Rattle.sctp_model.specs.Machine.{Direction, Event, fresh, live, run}
 use Rattle.sctp_model.specs.Safe.{IsSafe, IsWithin, letter_read}
-use Rattle.sctp_assoc.specs.Acts.{tsn_before}
+use Rattle.sctp_fit.specs.Incoming.{tsn_before}
 use Rattle.sctp_assoc.specs.Calls.{buffered_of, is_closed_state, ready_messages}
 use Rattle.sctp_assoc.specs.Shown.{Shown}
-use Rattle.sctp_directions.specs.Incoming.{IsReadAs}
-use Rattle.sctp_reassembly.specs.Stands.{letter_received}
-use Rattle.sctp_directions.specs.Outgoing.{message_on}
+use Rattle.sctp_reassembly.specs.Stands.{IsReadAs, letter_received}
+use Rattle.sctp_directions.specs.Plain.{message_on}
 use Rattle.sctp_pair.specs.declared.step.Reply.{Reply}
 use Rattle.sctp_pair.specs.declared.step.Reply.TheVariants as replies
 use Rattle.sctp_pair.specs.declared.step.Side2.{Side2}

@@ -30,7 +30,9 @@ use Rattle.sctp_outbound.specs.declared.sender.Sender.{Sender}
 use Rattle.sctp_outbound.specs.Sender.{after_resending, both_windows, can_send_next, cumulative_tsn_ack_point_of}
 use Rattle.sctp_outbound.specs.Sender.{tsns_up_to, resends_alone, resent_by, sack_outcome, sent_one}
 use Rattle.sctp_model.proofs.Lists.{all_join}
-use Rattle.sctp_assoc.specs.Acts.{Act, Binds, CanAll, History, parts, tsn_before}
+use Rattle.sctp_directions.specs.Acts.{Act, CanAll, History}
+use Rattle.sctp_assoc.specs.Leads.{Binds, parts}
+use Rattle.sctp_fit.specs.Incoming.{tsn_before}
 use Rattle.sctp_assoc.specs.Calls.{is_beginning, is_cookie_wait, is_established}
 use Rattle.sctp_assoc.specs.Chunks.{counted_data, is_whole, stream_found, with_new_stream}
 use Rattle.sctp_assoc.specs.Happened.{acts_of_ack, acts_of_checked, acts_of_chunk, acts_of_data_poll, acts_of_found}

@@ -25,7 +25,9 @@ use Rattle.sctp_inbound.specs.Receiver.{credit_of, is_next_after}
 use Rattle.sctp_serial.specs.Serial.{tsn}
 use Rattle.sctp_assoc.specs.declared.inbound.Flow.{Flow}
 use Rattle.sctp_assoc.specs.declared.inbound.Flow.TheVariants as flows
-use Rattle.sctp_assoc.specs.Acts.{Act, Binds, History, tsn_before}
+use Rattle.sctp_directions.specs.Acts.{Act, History, reach_in}
+use Rattle.sctp_assoc.specs.Leads.{Binds}
+use Rattle.sctp_fit.specs.Incoming.{tsn_before}
 use Rattle.sctp_assoc.specs.Chunks.{asks_or_faults, counted_data, is_whole, on_chunk, on_data, on_next_data}
 use Rattle.sctp_assoc.specs.Chunks.{stream_found, taken_in, taken_unless}
 use Rattle.sctp_assoc.specs.Happened.{acts_of_chunk, acts_of_data, acts_of_found, acts_of_stream, acts_unless_refused}
@@ -227,7 +229,7 @@ may_passes a h piece binds may =
     let whole : is_whole piece ≡ true = rw (may.ordered, may.begins, may.ends) refl in
     let next : is_next_after a.receiver piece.tsn ≡ true =
     eq-eqb piece.tsn ((a.receiver.peer_last_tsn + 1) % 2 ^ 32)
-    (after_point h.peer h.reach a.receiver.peer_last_tsn piece.tsn binds.reach may.next) in
+    (after_point h.peer (reach_in h) a.receiver.peer_last_tsn piece.tsn binds.point may.next) in
     record {
       next = and_from (is_next_after a.receiver piece.tsn) (is_whole piece) next whole;
       found =
@@ -245,7 +247,7 @@ passes_may a h piece binds p =
     let w = whole_parts piece.unordered piece.beginning_fragment piece.ending_fragment n.1 in
     record {
       next =
-          next_tsn h.peer h.reach a.receiver.peer_last_tsn piece.tsn binds.reach
+          next_tsn h.peer (reach_in h) a.receiver.peer_last_tsn piece.tsn binds.point
           (eqb-true piece.tsn ((a.receiver.peer_last_tsn + 1) % 2 ^ 32) n.0);
       ordered = w.0;
       begins = w.1;

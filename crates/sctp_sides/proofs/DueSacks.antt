@@ -14,18 +14,20 @@ use Rattle.sctp_inbound.specs.Receiver.{sack_of}
 use Rattle.sctp_model.specs.Packets.{mem}
 use Rattle.sctp_outbound.specs.declared.sender.Sender.{Sender}
 use Rattle.sctp_outbound.specs.Sender.{after_resending, resent_by, sent_new}
-use Rattle.sctp_assoc.specs.Acts.{History}
+use Rattle.sctp_directions.specs.Acts.{History, reach_in, receiving}
+use Rattle.sctp_assoc.specs.Leads.{Binds, parts}
 use Rattle.sctp_assoc.specs.Calls.{after_ack_delay, after_t3, is_established, retransmits, t3_expired}
 use Rattle.sctp_assoc.specs.Handshake.{after_t1_init, sends_cookie, sends_init, t1_cookie_expired, t1_init_expired}
 use Rattle.sctp_assoc.specs.Timeouts.{after_handshake_timers}
 use Rattle.sctp_sides.specs.Laws.{DueSacksGoOut, PollsDoNotClose, SacksAreSpelled, SacksOfferTheBuffer}
-use Rattle.sctp_sides.specs.Laws.{SacksSayWhatWasTaken, StaysOpen, TimersDoNotClose}
+use Rattle.sctp_sides.specs.Laws.{SacksNameThePoint, SacksSayWhatWasTaken, StaysOpen, TimersDoNotClose}
 use Rattle.sctp_assoc.specs.Gather.{ack_after, ack_polled, control_packets, data_packets, data_polled, exchange_polled}
 use Rattle.sctp_assoc.specs.Gather.{is_due, packet_bytes, packet_with, sack_chunk, sack_packet, spelled, with_sent_data}
 use Rattle.sctp_assoc.specs.Gather.{without_control}
 use Rattle.sctp_assoc.specs.Shown.{Shown}
 use Rattle.sctp_assoc.proofs.PolledData.{IsSentBeside, data_poll_stays}
 use Rattle.sctp_assoc.proofs.PollsLeadOn.{ack_said, both_first, both_second}
+use Rattle.sctp_assoc.proofs.WhatCame.{below_reach, came_below, passed_reach, reach_missing}
 use Rattle.sctp_sides.proofs.WaitingGoesOut.{ack_behind, fits_written}
 
 open_on : (a b c : Shown) → StaysOpen a b → StaysOpen b c → StaysOpen a c
@@ -88,17 +90,31 @@ due_sacks_go_out a now established due =
 
 -- What a SACK says.
 
-none_above : (h : History) → ((o : ℕ) → mem o h.taken ≡ true → o < h.reach) → (o : ℕ) → h.reach ≤ o
+none_above : (h : History) → ((o : ℕ) → mem o h.taken ≡ true → o < reach_in h) → (o : ℕ) → reach_in h ≤ o
     → mem o h.taken ≡ false
 none_above h above o far = ⊎_elim
     (λ (m : mem o h.taken ≡ true). absurd (omega (arith, above o m, far)))
     (λ (n : mem o h.taken ≡ false). n)
     (cases_Bool (mem o h.taken))
 
+taken_below : (a : Shown) (h : History) → Binds a h → (o : ℕ) → mem o h.taken ≡ true → o < reach_in h
+taken_below a h binds o m = came_below (receiving (parts a h)) binds.held o m
+
+pub sacks_name_the_point : SacksNameThePoint
+sacks_name_the_point a h binds = (
+  record {
+    before = below_reach h;
+    missing = reach_missing h;
+    passed = passed_reach h;
+    above = taken_below a h binds;
+  },
+  binds.point,
+)
+
 pub sacks_say_what_was_taken : SacksSayWhatWasTaken
 sacks_say_what_was_taken a h binds = record {
-  at = binds.reach;
-  set = λ o some within. sym (none_above h binds.above (h.reach + o - 1) (omega (arith, some)));
+  at = binds.point;
+  set = λ o some within. sym (none_above h (taken_below a h binds) (reach_in h + o - 1) (omega (arith, some)));
 }
 
 pub sacks_offer_the_buffer : SacksOfferTheBuffer

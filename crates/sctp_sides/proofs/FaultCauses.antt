@@ -1,7 +1,7 @@
 -- A chunk is a fault exactly where it has one of the causes that are named; a packet closes an association only by
 -- such a cause.
 use Rattle.std.proofs.Common.{◌≡◌, ◌≢◌, refl, sym, ap, ◌∙◌, inl, inr, ℕ, ◌<◌, ◌≤◌, ◌+◌, ◌-◌, ◌%◌, ◌^◌, arith, Bool}
-use Rattle.std.proofs.Common.{true, false, eqb, leb, ◌&&◌, if◌then◌else◌, List, length, Option, Some, None, is_some}
+use Rattle.std.proofs.Common.{true, false, eqb, leb, if◌then◌else◌, List, length, Option, Some, None, is_some}
 use Rattle.std.proofs.Common.{Result, Ok, Err, is_ok}
 use Rattle.std.proofs.lemmas.Bool.{and_from, and_parts, eq-eqb, eqb-true, false≢true, leb-false, leb-true}
 use Rattle.sctp_wire_types.specs.Checks.{checked_chunk}
@@ -22,7 +22,9 @@ use Rattle.sctp_inbound.specs.Handshake.{comes_back, has_issued}
 use Rattle.sctp_outbound.specs.declared.sender.SackOutcome.{SackOutcome}
 use Rattle.sctp_outbound.specs.declared.sender.SackOutcome.TheVariants as outcomes
 use Rattle.sctp_outbound.specs.Sender.{cumulative_tsn_ack_point_of, tsns_up_to, sack_outcome}
-use Rattle.sctp_assoc.specs.Acts.{Binds, History, tsn_before}
+use Rattle.sctp_assoc.specs.Leads.{Binds}
+use Rattle.sctp_directions.specs.Acts.{History}
+use Rattle.sctp_fit.specs.Incoming.{tsn_before}
 use Rattle.sctp_assoc.specs.Calls.{is_beginning, is_cookie_echoed, is_cookie_wait, is_established}
 use Rattle.sctp_sides.specs.Causes.{AcknowledgesTheUnsent, BringsNoCookie, FaultsAreCauses, FitsNoMessage, IsCause}
 use Rattle.sctp_sides.specs.Causes.{IsCauseOfItsKind, IsFault, IsPastTheHandshake}

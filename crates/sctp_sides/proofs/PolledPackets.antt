@@ -13,7 +13,8 @@ use Rattle.sctp_wire_types.specs.declared.packet.CommonHeader.{CommonHeader}
 use Rattle.sctp_wire.specs.Packets.{checked, packet_at, packet_is_plain, written}
 use Rattle.sctp_inbound.specs.Handshake.{header_of}
 use Rattle.sctp_model.proofs.Lists.{all_join, all_weaker}
-use Rattle.sctp_assoc.specs.Acts.{all_data_given, parts}
+use Rattle.sctp_directions.specs.Acts.{all_data_given}
+use Rattle.sctp_assoc.specs.Leads.{parts}
 use Rattle.sctp_assoc.specs.Calls.{is_established}
 use Rattle.sctp_assoc.specs.Happened.{acks_given}
 use Rattle.sctp_assoc.specs.Inbound.{taken_packet}

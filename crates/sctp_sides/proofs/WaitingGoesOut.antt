@@ -18,7 +18,8 @@ use Rattle.sctp_inbound.specs.Handshake.{header_of}
 use Rattle.sctp_outbound.specs.declared.sender.Sender.{Sender}
 use Rattle.sctp_outbound.specs.Sender.{after_resending, can_send_next, next_chunk_of, resent_by, sent_new, sent_one}
 use Rattle.sctp_outbound.specs.Sender.{sent_within}
-use Rattle.sctp_assoc.specs.Acts.{all_data_given, parts}
+use Rattle.sctp_directions.specs.Acts.{all_data_given}
+use Rattle.sctp_assoc.specs.Leads.{parts}
 use Rattle.sctp_assoc.specs.Happened.{acts_of_ack, acts_of_data_poll}
 use Rattle.sctp_assoc.specs.Calls.{is_established}
 use Rattle.sctp_sides.specs.Laws.{IsNextWithNothingInFlight, PollsBeginWithWhatWaits, WhatWaitsIsGiven}

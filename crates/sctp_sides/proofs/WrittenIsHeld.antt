@@ -17,7 +17,8 @@ use Rattle.sctp_outbound.proofs.SenderSteps.{pieces_full, pieces_sent, pieces_sk
 use Rattle.sctp_streams.specs.Stream.{StreamView}
 use Rattle.sctp_streams.specs.Streams.{stream_at}
 use Rattle.sctp_inbound.specs.Handshake.{header_of}
-use Rattle.sctp_assoc.specs.Calls.{is_established, message_of, written_at}
+use Rattle.sctp_directions.specs.Acts.{message_of}
+use Rattle.sctp_assoc.specs.Calls.{is_established, written_at}
 use Rattle.sctp_sides.specs.Laws.{PollsKeepWhatIsHeld, WritesAreHeld, is_held}
 use Rattle.sctp_assoc.specs.Gather.{ack_after, ack_polled, control_packets, data_packets, data_polled, exchange_polled}
 use Rattle.sctp_assoc.specs.Gather.{is_due, with_sent_data, without_control}

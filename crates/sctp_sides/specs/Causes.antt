@@ -18,7 +18,9 @@ use Rattle.sctp_inbound.specs.declared.receiver.AckTrigger.{AckTrigger}
 use Rattle.sctp_inbound.specs.declared.receiver.AckTrigger.TheVariants as triggers
 use Rattle.sctp_assoc.specs.declared.inbound.Flow.{Flow}
 use Rattle.sctp_assoc.specs.declared.inbound.Flow.TheVariants as flows
-use Rattle.sctp_assoc.specs.Acts.{Binds, History, tsn_before}
+use Rattle.sctp_assoc.specs.Leads.{Binds}
+use Rattle.sctp_directions.specs.Acts.{History}
+use Rattle.sctp_fit.specs.Incoming.{tsn_before}
 use Rattle.sctp_assoc.specs.Chunks.{on_chunk}
 use Rattle.sctp_sides.specs.Intake.{MayTakeIn, refusal_of}
 use Rattle.sctp_sides.specs.Laws.{closes}

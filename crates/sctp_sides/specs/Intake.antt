@@ -11,7 +11,8 @@ use Rattle.sctp_streams.specs.Streams.{bytes_waiting, generation_left, stream_at
 use Rattle.sctp_inbound.specs.declared.receiver.AckTrigger.{AckTrigger}
 use Rattle.sctp_serial.specs.Serial.{tsn}
 use Rattle.sctp_assoc.specs.declared.inbound.Flow.TheVariants as flows
-use Rattle.sctp_assoc.specs.Acts.{Act, Binds, History}
+use Rattle.sctp_directions.specs.Acts.{Act, History, reach_in}
+use Rattle.sctp_assoc.specs.Leads.{Binds}
 use Rattle.sctp_assoc.specs.Chunks.{on_chunk}
 use Rattle.sctp_assoc.specs.Happened.{acts_of_chunk}
 use Rattle.sctp_sides.specs.Shapes.{OpensAndTakes, TakesOnly}
@@ -28,7 +29,7 @@ HasStreamFor a id = (is_some (stream_at a.streams id) ≡ true) ⊎ (generation_
 -- DATA may be taken in: it has the next TSN, it is an ordered message in one piece, its stream is live or can be made,
 -- and fewer bytes wait to be read than the receive buffer has.
 pub record MayTakeIn (a : Shown) (h : History) (piece : ChunkPayloadData) : Type 0 where
-  pub next : piece.tsn ≡ tsn h.peer h.reach
+  pub next : piece.tsn ≡ tsn h.peer (reach_in h)
   pub ordered : piece.unordered ≡ false
   pub begins : piece.beginning_fragment ≡ true
   pub ends : piece.ending_fragment ≡ true

@@ -25,13 +25,15 @@ use Rattle.sctp_model.specs.Packets.{mem}
 use Rattle.sctp_serial.specs.Serial.{tsn}
 use Rattle.sctp_assoc.specs.declared.inbound.Flow.{Flow}
 use Rattle.sctp_assoc.specs.declared.inbound.Flow.TheVariants as flows
-use Rattle.sctp_assoc.specs.Acts.{Binds, History, all_data_given, parts, tsn_before}
+use Rattle.sctp_assoc.specs.Leads.{Binds, parts}
+use Rattle.sctp_directions.specs.Acts.{History, all_data_given, reach_in}
+use Rattle.sctp_fit.specs.Incoming.{tsn_before}
 use Rattle.sctp_assoc.specs.Calls.{is_closed_state, is_established, opened, read_from_stream, written}
 use Rattle.sctp_assoc.specs.Chunks.{after_packet, on_chunk}
 use Rattle.sctp_assoc.specs.Happened.{acts_of_poll}
 use Rattle.sctp_assoc.specs.Gather.{control_packets, data_polled, is_due, packet_bytes, packet_with, polled, sack_chunk}
 use Rattle.sctp_assoc.specs.Gather.{sack_packet}
-use Rattle.sctp_sides.specs.Reports.{SaysWhatWasTaken}
+use Rattle.sctp_directions.specs.Reports.{SaysWhatWasTaken}
 use Rattle.sctp_assoc.specs.Shown.{Shown}
 use Rattle.sctp_assoc.specs.Timeouts.{after_timeouts}
 
@@ -162,15 +164,15 @@ pub record IsFirstMissing (o : ℕ) (h : History) : Type 0 where
 -- 3.3.4): it neither claims what was not taken in nor keeps back what was.
 abbrev pub SacksNameThePoint : Type 0
 SacksNameThePoint = (a : Shown) (h : History) → Binds a h
-    → IsFirstMissing h.reach h
-    × ((sack_of a.receiver (bytes_waiting a.streams)).cumulative_tsn_ack ≡ tsn_before (tsn h.peer h.reach))
+    → IsFirstMissing (reach_in h) h
+    × ((sack_of a.receiver (bytes_waiting a.streams)).cumulative_tsn_ack ≡ tsn_before (tsn h.peer (reach_in h)))
 
 -- It says what was taken in: the point, and of the 65,535 TSNs past it, which are all that gap ack blocks can name,
 -- exactly those that were.
 abbrev pub SacksSayWhatWasTaken : Type 0
 SacksSayWhatWasTaken =
     (a : Shown) (h : History) → Binds a h
-    → SaysWhatWasTaken h.peer h.reach h.taken (sack_of a.receiver (bytes_waiting a.streams))
+    → SaysWhatWasTaken h.peer (reach_in h) h.taken (sack_of a.receiver (bytes_waiting a.streams))
 
 -- The packet of an acknowledgement is that of a SACK which offers the room that is left in the receive buffer (RFC 4960
 -- section 6.2).

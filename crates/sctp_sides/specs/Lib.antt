@@ -3,6 +3,5 @@ pub mod Intake
 pub mod Laws
 pub mod Meeting
 pub mod OneSide
-pub mod Reports
 pub mod Shapes
 pub mod Witnesses

@@ -9,7 +9,7 @@ use Rattle.sctp_wire_types.specs.declared.packet.CommonHeader.{CommonHeader}
 use Rattle.sctp_parts.specs.declared.state.AssociationState.TheVariants as states
 use Rattle.sctp_inbound.specs.Greeting.{first_cookie}
 use Rattle.sctp_assoc.specs.declared.control.ControlPacket.{ControlPacket}
-use Rattle.sctp_assoc.specs.Acts.{Act}
+use Rattle.sctp_directions.specs.Acts.{Act}
 use Rattle.sctp_assoc.specs.Happened.{acts_of_chunk}
 use Rattle.sctp_assoc.specs.Gather.{WaitPlainly}
 use Rattle.sctp_assoc.specs.Shown.{Shown}

@@ -18,7 +18,9 @@ use Rattle.sctp_streams.specs.declared.event.Event.{Event}
 use Rattle.sctp_streams.specs.Stream.{StreamView}
 use Rattle.sctp_streams.specs.Streams.{made, stream_at}
 use Rattle.sctp_inbound.specs.declared.receiver.AckTrigger.{AckTrigger}
-use Rattle.sctp_assoc.specs.Acts.{Act, Binds, History, LeadsOn, all_data_given, parts, tsn_before}
+use Rattle.sctp_directions.specs.Acts.{Act, History, all_data_given, reach_in}
+use Rattle.sctp_assoc.specs.Leads.{Binds, LeadsOn, parts}
+use Rattle.sctp_fit.specs.Incoming.{tsn_before}
 use Rattle.sctp_assoc.specs.Calls.{closed_by, event_polled, is_closed_state, is_established, open_refusal, opened}
 use Rattle.sctp_assoc.specs.Calls.{read_from_stream, stream_refusal, write_refusal, written}
 use Rattle.sctp_assoc.specs.Chunks.{after_packet, ended, on_chunk}
@@ -26,7 +28,7 @@ use Rattle.sctp_assoc.specs.Happened.{Polls, acts_of_chunk, acts_of_poll, acts_o
 use Rattle.sctp_assoc.specs.Inbound.{taken_packet}
 use Rattle.sctp_sides.specs.Meeting.{Greets, GreetsOn, HasCome, IsEstablished, IsNoEarlier, IsTruthful, Stage, stage_of}
 use Rattle.sctp_assoc.specs.Gather.{AreControlReadAgain, WaitPlainly, control_packets, is_due, polled, without_control}
-use Rattle.sctp_sides.specs.Reports.{SaysWhatWasTaken}
+use Rattle.sctp_directions.specs.Reports.{SaysWhatWasTaken}
 use Rattle.sctp_assoc.specs.Shown.{Shown}
 use Rattle.sctp_assoc.specs.Timeouts.{after_timeouts}
 use Rattle.sctp_assoc.specs.declared.control.ControlPacket.{ControlPacket}
@@ -328,7 +330,7 @@ IsWaitingToGo a chunk = (k : ℕ) × (c : ControlPacket) × (slice_get a.control
 -- a chunk that these acts of a poll give out: their DATA, or where a report is due a SACK that says what came
 abbrev pub IsExchanged : List Act → Shown → History → Chunk → Type 0
 IsExchanged acts a h (chunks.Data piece) = (k : ℕ) × (slice_get (all_data_given acts (parts a h)) k ≡ Some piece)
-IsExchanged acts a h (chunks.SelectiveAck sack) = (reports a ≡ true) × SaysWhatWasTaken h.peer h.reach h.taken sack
+IsExchanged acts a h (chunks.SelectiveAck sack) = (reports a ≡ true) × SaysWhatWasTaken h.peer (reach_in h) h.taken sack
 IsExchanged acts a h chunk = ⊥
 
 abbrev pub IsGivenBy : List Act → Shown → History → Chunk → Type 0

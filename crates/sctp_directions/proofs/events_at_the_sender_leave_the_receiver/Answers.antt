@@ -1,6 +1,5 @@
 use Rattle.sctp_directions.proofs.Proved.{only_beginnings_assign, only_writes_accept, senders_events_are_sent}
-use Rattle.sctp_directions.proofs.Proved.{senders_events_keep_the_invariant, senders_events_leave_what_comes}
-use Rattle.sctp_directions.proofs.Proved.{writes_are_accepted_last}
+use Rattle.sctp_directions.proofs.Proved.{senders_events_keep_the_invariant, writes_are_accepted_last}
 use Rattle.sctp_directions.proofs.events_at_the_sender_leave_the_receiver.Goals as goal
 
 pub returns-clause-sent : goal.returns-clause-sent
@@ -17,6 +16,3 @@ returns-clause-assigned c = only_beginnings_assign
 
 pub returns-clause-invariant : goal.returns-clause-invariant
 returns-clause-invariant c = senders_events_keep_the_invariant
-
-pub returns-clause-incoming : goal.returns-clause-incoming
-returns-clause-incoming c = senders_events_leave_what_comes

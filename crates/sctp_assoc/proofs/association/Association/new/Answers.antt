@@ -1,6 +1,7 @@
 use Rattle.std.proofs.Common.{rules, ◌≡◌, sym, subst}
 use Rattle.std.specs.Option.{option_copied}
-use Rattle.sctp_assoc.specs.Acts.{Binds, begun}
+use Rattle.sctp_assoc.specs.Leads.{Binds}
+use Rattle.sctp_directions.specs.Acts.{begun}
 use Rattle.sctp_assoc.specs.Created.{created}
 use Rattle.sctp_assoc.specs.Shown.{Shown}
 use Rattle.sctp_assoc.proofs.FreshHistory.{created_binds}

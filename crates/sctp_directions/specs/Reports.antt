@@ -4,7 +4,7 @@ use Rattle.sctp_wire_types.specs.declared.chunk.ChunkSelectiveAck.{ChunkSelectiv
 use Rattle.sctp_receive_queues.specs.Received.{is_named}
 use Rattle.sctp_model.specs.Packets.{mem}
 use Rattle.sctp_serial.specs.Serial.{tsn}
-use Rattle.sctp_assoc.specs.Acts.{tsn_before}
+use Rattle.sctp_fit.specs.Incoming.{tsn_before}
 
 -- A SACK says what came, as far as it was taken in: its point is the TSN before that of this reach, and of the 65,535
 -- offsets from the reach on, which are all that gap ack blocks can name, its blocks name exactly those that came.

@@ -1,0 +1,115 @@
+-- What an association does as a sender leaves it where it stands as a receiver: it changes nothing of what is held of
+-- any stream.
+use Rattle.std.proofs.Common.{◌≡◌, refl, sym, ap, ◌∙◌, subst, subst₂, ⊎_elim, ℕ, zero, suc, true, false, eqb, List}
+use Rattle.std.proofs.Common.{length, Option, Some, None}
+use Rattle.std.specs.Prelude.{⊤, slice_get}
+use Rattle.std.proofs.lemmas.Bool.{cases_Bool, cond-true, cond-false, cond_both, eqb-true}
+use Rattle.sctp_outbound_queue.specs.declared.message.InFlight.{InFlight}
+use Rattle.sctp_outbound_queue.specs.Message.{outstanding_bytes}
+use Rattle.sctp_outbound.specs.Sender.{streams_after}
+use Rattle.sctp_streams.specs.Stream.{StreamView, accepted_by, released_from}
+use Rattle.sctp_streams.specs.Streams.{StreamMap, change_at, changed_stream, is_generation, stream_at}
+use Rattle.sctp_model.specs.Messages.{Plan}
+use Rattle.sctp_model.specs.Reassembly.{Queue}
+use Rattle.sctp_model.specs.Machine.{Direction}
+use Rattle.sctp_fit.specs.Incoming.{FitsIncoming, IsQueueAt, Receiving}
+use Rattle.sctp_fit.specs.Outgoing.{Sending}
+use Rattle.sctp_fit.specs.Points.{first_acknowledged, so_many}
+use Rattle.sctp_fit.proofs.StreamsThere.{at_with}
+use Rattle.sctp_directions.specs.Acts.{Act, Parts, receiving, sending, with_written}
+use Rattle.sctp_directions.specs.Laws.{OwnActsLeaveWhatComes}
+
+-- Streams of which the same is held
+
+-- the same is held of a stream, where it is live
+abbrev IsSameHeld : Option StreamView → Option StreamView → Type 0
+IsSameHeld None None = ⊤
+IsSameHeld None (Some u) = ⊥
+IsSameHeld (Some t) None = ⊥
+IsSameHeld (Some t) (Some u) = u.reassembly ≡ t.reassembly
+
+-- a stream holds the same as itself
+same_held : (x : Option StreamView) → IsSameHeld x x
+same_held None = tt
+same_held (Some t) = refl
+
+-- a queue that is a stream's is that of each stream of which the same is held
+queue_same : (peer : ℕ) (p : Plan) (s : ℕ) (x y : Option StreamView) (o : Option Queue) → IsSameHeld x y
+    → IsQueueAt peer p s x o → IsQueueAt peer p s y o
+queue_same peer p s None None o same h = h
+queue_same peer p s None (Some u) o same h = absurd same
+queue_same peer p s (Some t) None o same h = absurd same
+queue_same peer p s (Some t) (Some u) None same h = h
+queue_same peer p s (Some t) (Some u) (Some q) same h =
+    subst (λ z. IsQueueAt peer p s (Some (record t { reassembly = z })) (Some q)) (sym same) h
+
+-- streams of which the same is held fit as before
+fits_streams : (a : Receiving) (m : StreamMap) (w : Direction)
+    → ((n : ℕ) → IsSameHeld (stream_at a.streams n) (stream_at m n)) → FitsIncoming a w
+    → FitsIncoming (record a { streams = m }) w
+fits_streams a m w same fits = record {
+  is_open = fits.is_open;
+  taken = fits.taken;
+  passed = fits.passed;
+  queues = λ n v.
+      queue_same a.peer w.sender.plan n (stream_at a.streams n) (stream_at m n) (w.receiver.queues n) (same n)
+      (fits.queues n v);
+}
+
+-- a change of a stream that leaves its reassembly leaves what is held
+changed_same : (f : StreamView → StreamView) → ((t : StreamView) → (f t).reassembly ≡ t.reassembly)
+    → (m : StreamMap) (id n : ℕ)
+    → IsSameHeld (stream_at m n) (stream_at (changed_stream f m id) n)
+changed_same f stays m id n = go (stream_at m id) refl
+  where
+    go : (x : Option StreamView) → stream_at m id ≡ x → IsSameHeld (stream_at m n) (stream_at (change_at f x m id) n)
+    go None e = same_held (stream_at m n)
+    go (Some t) e = ⊎_elim
+        (λ (b : eqb n id ≡ true). subst₂ IsSameHeld (sym (ap (stream_at m) (eqb-true n id b) ∙ e))
+        (sym (at_with m id n t (f t) e ∙ cond-true (eqb n id) (Some (f t)) (stream_at m n) b)) (stays t))
+        (λ (b : eqb n id ≡ false). subst (IsSameHeld (stream_at m n))
+        (sym (at_with m id n t (f t) e ∙ cond-false (eqb n id) (Some (f t)) (stream_at m n) b))
+        (same_held (stream_at m n)))
+        (cases_Bool (eqb n id))
+
+-- The acts
+
+-- a write on a stream leaves what came as it is
+wrote_fits : (x : Option StreamView) (p : Parts) (id : ℕ) (bytes : List ℕ) (w : Direction)
+    → FitsIncoming (receiving p) w → FitsIncoming (receiving (with_written x p id bytes)) w
+wrote_fits None p id bytes w fits = fits
+wrote_fits (Some s) p id bytes w fits =
+    fits_streams (receiving p) (receiving (with_written (Some s) p id bytes)).streams w
+    (changed_same (λ t. accepted_by t s.default_payload_type (length bytes)) (λ t. refl) p.streams id) fits
+
+-- releasing the bytes of a piece leaves what is held of each stream
+after_same : (x : Option InFlight) (m : StreamMap) (n : ℕ)
+    → IsSameHeld (stream_at m n) (stream_at (streams_after x m) n)
+after_same None m n = same_held (stream_at m n)
+after_same (Some x) m n = cond_both (is_generation (stream_at m x.message.stream_identifier) x.message.generation) _ m
+    (λ (z : StreamMap). IsSameHeld (stream_at m n) (stream_at z n))
+    (λ b. changed_same (λ t. released_from t (outstanding_bytes x)) (λ t. refl) m x.message.stream_identifier n)
+    (λ b. same_held (stream_at m n))
+
+-- and releasing those of the first pieces in flight leaves what came as it is
+released_fits : (n : ℕ) (b : Sending) (a : Receiving) (w : Direction)
+    → FitsIncoming (record a { streams = b.streams }) w
+    → FitsIncoming (record a { streams = (so_many n b).streams }) w
+released_fits zero b a w fits = fits
+released_fits (suc n) b a w fits = released_fits n (first_acknowledged b) a w
+    (fits_streams (record a { streams = b.streams }) (first_acknowledged b).streams w
+    (after_same (slice_get b.queue.in_flight 0) b.streams) fits)
+
+-- acts of its own DATA leave an association as a receiver
+pub own_acts_leave_what_comes : OwnActsLeaveWhatComes
+own_acts_leave_what_comes (Act.PeerKnown t) p w own fits = absurd own
+own_acts_leave_what_comes (Act.Opened id first kind) p w own fits = absurd own
+own_acts_leave_what_comes (Act.Wrote id bytes) p w own fits = wrote_fits (stream_at p.streams id) p id bytes w fits
+own_acts_leave_what_comes (Act.Sent now) p w own fits = fits
+own_acts_leave_what_comes (Act.SentAgain index) p w own fits = fits
+own_acts_leave_what_comes Act.Marked p w own fits = fits
+own_acts_leave_what_comes (Act.Acknowledged n) p w own fits = released_fits n (sending p) (receiving p) w fits
+own_acts_leave_what_comes (Act.Took piece) p w own fits = absurd own
+own_acts_leave_what_comes Act.Reported p w own fits = absurd own
+own_acts_leave_what_comes (Act.WasRead id) p w own fits = absurd own
+own_acts_leave_what_comes Act.Ended p w own fits = absurd own
