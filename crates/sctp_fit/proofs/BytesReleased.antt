@@ -5,13 +5,13 @@ use Rattle.std.proofs.Common.{◌∷◌, length, Option, Some, None, is_some, re
 use Rattle.std.proofs.lemmas.Bool.{cases_Bool, cond-true, cond-false, eq-eqb, eqb-true, ne_eqb, false≢true, true≢false}
 use Rattle.sctp_outbound_queue.specs.declared.message.InFlight.{InFlight}
 use Rattle.sctp_outbound_queue.specs.Message.{outstanding_bytes}
+use Rattle.sctp_outbound.specs.GapAcks.{released_among}
 use Rattle.sctp_outbound.specs.Sender.{streams_after}
 use Rattle.sctp_streams.specs.Stream.{StreamView, released_from}
 use Rattle.sctp_streams.specs.Streams.{StreamMap, change_at, is_generation, stream_at, with_stream}
 use Rattle.sctp_model.specs.Messages.{Plan, accepted_bytes, bytes_at, bytes_below, piece_of, message_of, place_at}
 use Rattle.sctp_model.specs.Invariants.{gone_at}
 use Rattle.sctp_fit.specs.Outgoing.{AreInFlight, IsInFlight, IsNumbered, IsOwnAt, Names}
-use Rattle.sctp_fit.specs.Acknowledgements.{released_among}
 use Rattle.sctp_fit.proofs.StreamsThere.{at_with}
 
 -- Streams

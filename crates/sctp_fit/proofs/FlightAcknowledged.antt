@@ -7,6 +7,7 @@ use Rattle.std.proofs.lemmas.Bool.{cond-false, false≢true, le-ltb}
 use Rattle.sctp_outbound_queue.specs.declared.message.InFlight.{InFlight}
 use Rattle.sctp_outbound_queue.specs.Message.{acked}
 use Rattle.sctp_streams.specs.Streams.{stream_at}
+use Rattle.sctp_outbound.specs.GapAcks.{acked_among, released_among}
 use Rattle.sctp_model.specs.Messages.{Plan, accepted_bytes, bytes_below}
 use Rattle.sctp_model.specs.Packets.{Sack, names}
 use Rattle.sctp_model.specs.Machine.{Direction, Event, acknowledged_by, happens, newly, reach, sack_comes}
@@ -16,7 +17,7 @@ use Rattle.sctp_model.proofs.Lists.{all_get}
 use Rattle.sctp_model.proofs.ReleasedBytes.{bytes_none, released_within}
 use Rattle.sctp_fit.specs.Outgoing.{AreInFlight, FitsOutgoing, IsInFlight, IsOwnAt, Names}
 use Rattle.sctp_fit.specs.Outgoing.{Sending, numbers_after}
-use Rattle.sctp_fit.specs.Acknowledgements.{AcknowledgementsAreAlike, acked_among, acknowledged, released_among}
+use Rattle.sctp_fit.specs.Acknowledgements.{AcknowledgementsAreAlike, acknowledged}
 use Rattle.sctp_fit.proofs.BytesReleased.{bytes_of_flight, freed, less, numbered_less, own_less, released_all}
 
 -- What is in flight

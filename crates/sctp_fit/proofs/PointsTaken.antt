@@ -1,14 +1,15 @@
 -- The first pieces in flight, acknowledged one at a time, are those that are acknowledged at once.
 use Rattle.std.proofs.Common.{ℕ, zero, suc, ◌+◌, ◌^◌, ◌<◌, ◌≤◌, ◌≡◌, Bool, true, false, List, [], ◌∷◌, length, Some}
-use Rattle.std.proofs.Common.{refl, sym, ap, ◌∙◌, arith, ltb, drop}
+use Rattle.std.proofs.Common.{sym, ap, ◌∙◌, arith, ltb, drop}
 use Rattle.std.proofs.lemmas.Bool.{false_from_ne_true, lt-ltb, ltb-true}
 use Rattle.sctp_outbound_queue.specs.declared.message.InFlight.{InFlight}
 use Rattle.sctp_outbound_queue.specs.Outbound.{Outbound, tsn_at}
 use Rattle.sctp_outbound_queue.specs.Waiting.{Waiting}
+use Rattle.sctp_outbound.specs.GapAcks.{acked_among, released_among}
 use Rattle.sctp_outbound.specs.Sender.{streams_after}
+use Rattle.sctp_outbound.proofs.GapAcks.{none_acked, none_released}
 use Rattle.sctp_streams.specs.Streams.{StreamMap}
 use Rattle.sctp_fit.specs.Outgoing.{Sending}
-use Rattle.sctp_fit.specs.Acknowledgements.{acked_among, released_among}
 use Rattle.sctp_fit.specs.Points.{PointsAcknowledgeTheFirst, so_many}
 
 -- the streams once the outstanding bytes of the first n of these were released
@@ -18,20 +19,10 @@ released_first (suc n) [] m = m
 released_first (suc n) (x ∷ xs) m = released_first n xs (streams_after (Some x) m)
 
 module _ (named : ℕ → Bool) where
-  -- where none from k on is named, nothing changes
-  none_acked : (xs : List InFlight) (k : ℕ) → ((j : ℕ) → k ≤ j → named j ≡ false) → acked_among named k xs ≡ xs
-  none_acked [] k h = refl
-  none_acked (x ∷ xs) k h = rw (h k (omega arith)) (ap (λ z. x ∷ z) (none_acked xs (suc k) (λ j l. h j (omega arith))))
-
-  none_released : (xs : List InFlight) (k : ℕ) (m : StreamMap) → ((j : ℕ) → k ≤ j → named j ≡ false)
-      → released_among named k xs m ≡ m
-  none_released [] k m h = refl
-  none_released (x ∷ xs) k m h = rw (h k (omega arith)) (none_released xs (suc k) m (λ j l. h j (omega arith)))
-
   -- behind the first n, which go, all stay as they are
   acked_behind : (n k : ℕ) (xs : List InFlight) → n ≤ length xs → ((j : ℕ) → k + n ≤ j → named j ≡ false)
       → drop n (acked_among named k xs) ≡ drop n xs
-  acked_behind zero k xs l h = none_acked xs k (λ j u. h j (omega arith))
+  acked_behind zero k xs l h = none_acked named k xs (λ j u v. h j (omega arith))
   acked_behind (suc n) k [] l h = absurd (omega arith)
   acked_behind (suc n) k (x ∷ xs) l h = acked_behind n (suc k) xs (omega arith) (λ j u. h j (omega arith))
 
@@ -39,7 +30,7 @@ module _ (named : ℕ → Bool) where
   released_those : (n k : ℕ) (xs : List InFlight) (m : StreamMap) → n ≤ length xs
       → ((j : ℕ) → k ≤ j → j < k + n → named j ≡ true) → ((j : ℕ) → k + n ≤ j → named j ≡ false)
       → released_among named k xs m ≡ released_first n xs m
-  released_those zero k xs m l t h = none_released xs k m (λ j u. h j (omega arith))
+  released_those zero k xs m l t h = none_released named k xs m (λ j u v. h j (omega arith))
   released_those (suc n) k [] m l t h = absurd (omega arith)
   released_those (suc n) k (x ∷ xs) m l t h =
       rw (t k (omega arith) (omega arith))

@@ -1,28 +1,15 @@
 -- The laws of acknowledgements: what a SACK acknowledges at an association, by its point and by its gap ack blocks, it
 -- acknowledges at the direction's sender, and the same bytes are released (RFC 4960 section 6.2.1).
-use Rattle.std.specs.Prelude.{◌≡◌, ℕ, suc, ◌+◌, ◌<◌, ◌≤◌, Bool, false, List, [], ◌∷◌, length, drop, slice_get}
-use Rattle.std.specs.Prelude.{if◌then◌else◌, Some}
-use Rattle.sctp_outbound_queue.specs.declared.message.InFlight.{InFlight}
-use Rattle.sctp_outbound_queue.specs.Message.{acked}
+use Rattle.std.specs.Prelude.{◌≡◌, ℕ, ◌+◌, ◌<◌, ◌≤◌, Bool, false, length, drop, slice_get, Some}
 use Rattle.sctp_outbound_queue.specs.Outbound.{tsn_at}
 use Rattle.sctp_streams.specs.Stream.{StreamView}
-use Rattle.sctp_streams.specs.Streams.{StreamMap, stream_at}
-use Rattle.sctp_outbound.specs.Sender.{streams_after}
+use Rattle.sctp_streams.specs.Streams.{stream_at}
+use Rattle.sctp_outbound.specs.GapAcks.{acked_among, released_among}
 use Rattle.sctp_model.specs.Messages.{accepted_bytes}
 use Rattle.sctp_model.specs.Packets.{Sack, names}
 use Rattle.sctp_model.specs.Machine.{Direction, Event, happens}
 use Rattle.sctp_model.specs.Invariants.{Invariant}
 use Rattle.sctp_fit.specs.Outgoing.{FitsOutgoing, Sending}
-
--- these pieces, numbered from j on, once those whose numbers a SACK names are acknowledged
-abbrev pub acked_among : (ℕ → Bool) → ℕ → List InFlight → List InFlight
-acked_among named j [] = []
-acked_among named j (x ∷ xs) = (if named j then acked x else x) ∷ acked_among named (suc j) xs
-
--- the streams once the outstanding bytes of those that it names were released
-abbrev pub released_among : (ℕ → Bool) → ℕ → List InFlight → StreamMap → StreamMap
-released_among named j [] m = m
-released_among named j (x ∷ xs) m = released_among named (suc j) xs (if named j then streams_after (Some x) m else m)
 
 -- A SACK acknowledged the first n pieces in flight, and of the pieces in flight, numbered from 0, those that it names.
 abbrev pub acknowledged : ℕ → (ℕ → Bool) → Sending → Sending

@@ -1,1 +1,3 @@
 pub mod SenderSteps
+mod StreamReleases
+pub mod GapAcks

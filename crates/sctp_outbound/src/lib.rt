@@ -1,6 +1,7 @@
 //! What an association sends and how it learns that it came: the sender.
 #![tactic(auto)]
 
+mod gap_acks;
 mod sender;
 
 pub use sender::{SackOutcome, Sender};

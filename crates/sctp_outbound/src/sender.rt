@@ -362,7 +362,7 @@ impl Sender {
 }
 
 // Gives an acknowledged piece's bytes back to its stream, those that were outstanding until then.
-fn release(streams: &mut Streams, piece: &InFlight)
+pub(crate) fn release(streams: &mut Streams, piece: &InFlight)
     ensures { streams.new ≡ released_in streams.old piece.now.message.stream_identifier piece.now.message.generation
         (outstanding_bytes piece.now) }
 {

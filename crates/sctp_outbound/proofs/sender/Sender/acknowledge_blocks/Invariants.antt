@@ -1,0 +1,8 @@
+use Rattle.std.proofs.Common.{◌+◌, take}
+use Rattle.sctp_receive_queues.specs.Received.{is_named}
+use Rattle.sctp_outbound.proofs.GapAcks.{Acknowledges}
+use Rattle.sctp_outbound.proofs.sender.Sender.acknowledge_blocks.Given as goal
+
+abbrev pub invariant-loop-block : goal.invariant-loop-block
+invariant-loop-block l =
+    Acknowledges (λ j. is_named (j + 1) (take l.block-index l.blocks)) l.fn.self l.self l.fn.streams l.streams

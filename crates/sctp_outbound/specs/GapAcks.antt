@@ -1,0 +1,21 @@
+-- What gap ack blocks acknowledge of what is in flight (RFC 4960 sections 3.3.4 and 6.2.1).
+use Rattle.std.specs.Prelude.{ℕ, suc, ◌+◌, ◌&&◌, Bool, List, [], ◌∷◌, if◌then◌else◌, nat_le, Some}
+use Rattle.sctp_wire_types.specs.declared.chunk.GapAckBlock.{GapAckBlock}
+use Rattle.sctp_outbound_queue.specs.declared.message.InFlight.{InFlight}
+use Rattle.sctp_outbound_queue.specs.Message.{acked}
+use Rattle.sctp_streams.specs.Streams.{StreamMap}
+use Rattle.sctp_outbound.specs.Sender.{streams_after}
+
+-- these pieces, numbered from j on, once those whose numbers a SACK names are acknowledged
+abbrev pub acked_among : (ℕ → Bool) → ℕ → List InFlight → List InFlight
+acked_among named j [] = []
+acked_among named j (x ∷ xs) = (if named j then acked x else x) ∷ acked_among named (suc j) xs
+
+-- the streams once the outstanding bytes of those that it names were released
+abbrev pub released_among : (ℕ → Bool) → ℕ → List InFlight → StreamMap → StreamMap
+released_among named j [] m = m
+released_among named j (x ∷ xs) m = released_among named (suc j) xs (if named j then streams_after (Some x) m else m)
+
+-- the block names the piece in flight of this number, counted from 0: its TSN is one more past the point
+abbrev pub is_named_by : GapAckBlock → ℕ → Bool
+is_named_by b j = nat_le b.start (j + 1) && nat_le (j + 1) b.end
