@@ -3,6 +3,8 @@
 #![tactic(auto)]
 
 #[cfg(test)]
+mod gap_acks;
+#[cfg(test)]
 mod inbound;
 #[cfg(test)]
 mod outbound;
