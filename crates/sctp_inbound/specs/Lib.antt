@@ -1,3 +1,4 @@
 pub mod Handshake
 pub mod Greeting
 pub mod Receiver
+pub mod Held

@@ -3,8 +3,10 @@
 
 mod greeting;
 mod handshake;
+mod held;
 mod receiver;
 
 pub use greeting::{SUPPORTED_EXTENSIONS, heartbeat_ack, heartbeat_information, state_cookie};
 pub use handshake::{Handshake, Offer};
+pub use held::Held;
 pub use receiver::{AckTrigger, Receiver};

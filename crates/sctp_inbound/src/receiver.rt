@@ -1,13 +1,16 @@
 // What came and when it is acknowledged.
-ghost use Rattle.std.specs.Prelude.{◌≡◌, IfOk};
+ghost use Rattle.std.specs.Prelude.{◌≡◌, ℕ, ◌<◌, ◌^◌, [], IfOk, OnOk, OnErr, IsOk};
 ghost use Rattle.sctp_inbound.specs.Receiver.{fresh_receiver, is_next_after, receiver_from, taken_to, asked};
 ghost use Rattle.sctp_inbound.specs.Receiver.{ended_packet, ended_packet_timers, credit_of, acknowledged_at_once};
 ghost use Rattle.sctp_inbound.specs.Receiver.{acknowledged, sack_of};
+ghost use Rattle.sctp_inbound.specs.Held.{asked_over, sack_over};
+ghost use Rattle.sctp_receive_queues.specs.Received.{AreRuns, is_held_at, is_named};
 
+use crate::held::Held;
 use sctp_parts::state::AckState;
 use sctp_parts::timer::{ACK_INTERVAL, Timer, TimerTable};
 use sctp_wire_types::{ChunkSelectiveAck, Instant, List};
-use std::alloc::Global;
+use std::alloc::{AllocError, Global};
 
 /// How soon the chunks of one packet ask to be acknowledged.
 #[derive(Clone, Copy, Debug, PartialEq, Eq)]
@@ -75,6 +78,13 @@ impl Receiver {
         }
     }
 
+    /// The same over what is held: at once also while a TSN is held with a gap before it (RFC 4960 section 6.2).
+    pub fn ask_over(&self, held: &Held, trigger: AckTrigger, immediate: bool) -> AckTrigger
+        ensures { result ≡ asked_over self.now held.now trigger immediate }
+    {
+        self.ask(trigger, immediate || held.has_gap())
+    }
+
     /// Carries out a packet's trigger: acknowledge with the next poll, or 200 ms from `now` (RFC 4960 section 6.2).
     pub fn end_of_packet(&mut self, timers: &mut TimerTable, trigger: AckTrigger, now: Instant)
         ensures state { self.new ≡ ended_packet self.old trigger }
@@ -120,5 +130,27 @@ impl Receiver {
             gap_ack_blocks: List::new(alloc),
             duplicate_tsn: List::new(alloc),
         }
+    }
+
+    /// The acknowledgement of what came up to the point, and past it by gap ack blocks (RFC 4960 section 3.3.4); none is
+    /// due after it. Where memory is refused it stays due; with nothing held it takes none.
+    pub fn sack_over(
+        &mut self,
+        alloc: Global,
+        held: &Held,
+        waiting: u64,
+    ) -> Result<ChunkSelectiveAck, AllocError>
+        ensures state { OnOk result (self.new ≡ acknowledged self.old) }
+        ensures unchanged { OnErr result (self.new ≡ self.old) }
+        ensures sack { IfOk result (λ sack. sack ≡ sack_over self.old held.now waiting) }
+        ensures exact { IfOk result (λ sack. (o : ℕ) → 0 < o → o < 2 ^ 16
+            → is_named o sack.gap_ack_blocks ≡ is_held_at self.old.peer_last_tsn o held.now) }
+        ensures maximal { IfOk result (λ sack. AreRuns 1 sack.gap_ack_blocks) }
+        ensures none { held.now ≡ [] → IsOk result }
+    {
+        let gap_ack_blocks = held.gap_ack_blocks(alloc, self.peer_last_tsn)?;
+        let mut sack = self.sack(alloc, waiting);
+        sack.gap_ack_blocks = gap_ack_blocks;
+        Ok(sack)
     }
 }

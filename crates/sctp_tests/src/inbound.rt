@@ -1,7 +1,8 @@
-// The chunks of a handshake are built.
+// The chunks of a handshake are built, and TSNs come in any order.
 use bytes::Bytes;
-use sctp_inbound::{Handshake, Offer, heartbeat_ack, state_cookie};
-use sctp_wire_types::TransportConfig;
+use sctp_inbound::{Handshake, Held, Offer, Receiver, heartbeat_ack, state_cookie};
+use sctp_wire_types::{GapAckBlock, TransportConfig};
+use std::alloc::AllocError;
 use std::test::Fail;
 
 #[test]
@@ -16,5 +17,51 @@ fn chunks_of_the_handshake_are_built(rt: HostRuntime) -> Result<(), Fail> {
     assert_eq!(rt; cookie.len(), 32);
     let heartbeat = heartbeat_ack(rt.alloc(), Bytes::from_static(b"abc"))?;
     assert_eq!(rt; heartbeat.params.len(), 1);
+    Ok(())
+}
+
+/// Takes in what is new of some TSNs, in their order.
+fn arrive(receiver: &mut Receiver, held: &mut Held, tsns: &[u32]) -> Result<(), AllocError> {
+    for tsn in tsns {
+        let point = receiver.peer_last_tsn;
+        if held.is_new(point, *tsn) {
+            receiver.take(held.take(point, *tsn)?);
+        }
+    }
+    Ok(())
+}
+
+#[test]
+fn what_came_past_a_gap_is_acknowledged(rt: HostRuntime) -> Result<(), Fail> {
+    let mut receiver = Receiver::new(4660, 1200, 9);
+    let mut held = Held::new(rt.alloc());
+    arrive(&mut receiver, &mut held, &[17, 15, 14, 12, 11, 10, 14])?;
+    // The example of RFC 4960 section 3.3.4.
+    let sack = receiver.sack_over(rt.alloc(), &held, 0)?;
+    assert_eq!(rt;
+        (
+            sack.cumulative_tsn_ack,
+            sack.advertised_receiver_window_credit
+        ),
+        (12, 4660)
+    );
+    let blocks = [
+        GapAckBlock { start: 2, end: 3 },
+        GapAckBlock { start: 5, end: 5 },
+    ];
+    assert!(rt; sack.gap_ack_blocks.as_slice() == blocks.as_slice());
+    Ok(())
+}
+
+#[test]
+fn a_gap_is_filled_without_credit(rt: HostRuntime) -> Result<(), Fail> {
+    let mut receiver = Receiver::new(0, 1200, u32::MAX - 1);
+    let mut held = Held::new(rt.alloc());
+    arrive(&mut receiver, &mut held, &[1, 0])?;
+    let point = receiver.peer_last_tsn;
+    let admitted = [u32::MAX, 2].map(|tsn| held.admits(point, tsn, 0));
+    assert_eq!(rt; admitted, [true, false]);
+    arrive(&mut receiver, &mut held, &[u32::MAX])?;
+    assert_eq!(rt; (receiver.peer_last_tsn, held.has_gap()), (1, false));
     Ok(())
 }
