@@ -1,7 +1,10 @@
+pub mod Ascending
 pub mod ByteSums
 pub mod BytesWaiting
 pub mod Cuts
 pub mod GapAckBlocks
 pub mod LastReceived
 pub mod ReadyMessages
+pub mod Reach
 pub mod RunPlaces
+pub mod Searches

@@ -1,4 +1,6 @@
+pub mod Ascending
 pub mod Messages
 pub mod Pieces
+pub mod Reach
 pub mod Reassembly
 pub mod Received

@@ -4,6 +4,7 @@
 
 mod chunks;
 mod group;
+mod groups;
 mod pieces;
 mod reassembly;
 mod receive_queue;

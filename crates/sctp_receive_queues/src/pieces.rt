@@ -1,6 +1,6 @@
 // The pieces held of one message.
 ghost use Rattle.std.specs.Prelude.{◌≡◌, ◌+◌, ◌<◌, ◌^◌, ◌∷◌, [], ◌++◌, length, insert, IfOk, OnOk, OnErr, IfSome, ◌≤◌};
-ghost use Rattle.std.specs.Prelude.{◌==◌, position, None, nat_lt, not, fold, min, ◌-◌};
+ghost use Rattle.std.specs.Prelude.{◌==◌, position, None, nat_lt, not, fold, min, ◌-◌, max, option_map, false, IsTrue};
 ghost use Rattle.sctp_serial.specs.Serial.{tsn_lt, tsn_past};
 ghost use Rattle.sctp_receive_queues.specs.Pieces.{bytes_of, begins, ends, is_complete, follows, first_is_after};
 ghost use Rattle.sctp_receive_queues.specs.Pieces.{last_is_before, covers, is_past, is_later, last_of, is_after};
@@ -21,18 +21,23 @@ use std::marker::Model;
 pub(crate) struct Pieces {
     list: VecDeque<ChunkPayloadData>,
     bytes: u64,
+    // No piece is more than `reach` past the TSN `base`; None where pieces were joined or dropped. A TSN past all of
+    // these is of no piece, and its place is the end.
+    base: u32,
+    reach: Option<u32>,
 }
 
 impl Model for Pieces {
-    ghost use Rattle.std.specs.Prelude.{◌≡◌, List};
+    ghost use Rattle.std.specs.Prelude.{◌≡◌, List, IfSome};
     ghost use Rattle.sctp_receive_queues.specs.Pieces.{bytes_of};
+    ghost use Rattle.sctp_receive_queues.specs.Reach.{AreWithin};
     ghost use Rattle.sctp_wire_types.specs.declared.chunk.ChunkPayloadData.{ChunkPayloadData as Data};
 
     ghost Value = { List Data };
 
     ghost view = { λ p. p.list.items };
 
-    ghost invariant = { λ p. p.bytes ≡ bytes_of p.list.items };
+    ghost invariant = { λ p. (p.bytes ≡ bytes_of p.list.items) × IfSome p.reach (AreWithin p.base p.list.items) };
 }
 
 impl Pieces {
@@ -41,9 +46,17 @@ impl Pieces {
         ensures { IfOk result (λ pieces. pieces ≡ piece ∷ []) }
     {
         let bytes = piece.user_data.len() as u64;
+        // Far in front of this piece, so that none with a TSN before it counts as far past it.
+        let base = piece.tsn.wrapping_sub(0x4000_0000);
+        let reach = piece.tsn.wrapping_sub(base);
         let mut list = VecDeque::with_capacity(alloc, 1)?;
         list.push_back_reserved(piece);
-        Ok(Pieces { list, bytes })
+        Ok(Pieces {
+            list,
+            bytes,
+            base,
+            reach: Some(reach),
+        })
     }
 
     // No piece; takes no memory.
@@ -53,6 +66,8 @@ impl Pieces {
         Pieces {
             list: VecDeque::new(alloc),
             bytes: 0,
+            base: 0,
+            reach: None,
         }
     }
 
@@ -207,14 +222,43 @@ impl Pieces {
     fn contradicts(&self, piece: &ChunkPayloadData) -> bool
         ensures { result ≡ contradicts self.now piece.now }
     {
-        has_tsn(&self.list, piece.tsn) || self.has_other_type(piece) || self.breaks_ends(piece)
+        self.has_tsn(piece.tsn) || self.has_other_type(piece) || self.breaks_ends(piece)
+    }
+
+    fn has_tsn(&self, tsn: u32) -> bool
+        ensures { result ≡ has_tsn tsn self.now }
+    {
+        !self.is_past_all(tsn) && has_tsn(&self.list, tsn)
+    }
+
+    // In front of the first piece that is past this TSN, else at the end.
+    fn place_of(&self, tsn: u32) -> usize
+        ensures index { result ≡ index_of tsn self.now }
+        ensures bound { result ≤ length self.now }
+    {
+        if self.is_past_all(tsn) {
+            return self.list.len();
+        }
+        place_in(&self.list, tsn)
+    }
+
+    // Whether a TSN is known to be past those of all pieces.
+    fn is_past_all(&self, tsn: u32) -> bool
+        ensures none { IsTrue result → has_tsn tsn self.now ≡ false }
+        ensures last { IsTrue result → index_of tsn self.now ≡ length self.now }
+    {
+        let distance = tsn.wrapping_sub(self.base);
+        match self.reach {
+            Some(reach) => reach < distance && distance < 0x8000_0000,
+            None => false,
+        }
     }
 
     // Whether a first piece would not be at the lowest TSN, or a last one not at the highest.
     fn breaks_ends(&self, piece: &ChunkPayloadData) -> bool
         ensures { result ≡ breaks_ends (index_of piece.now.tsn self.now) self.now piece.now }
     {
-        let index = place_in(&self.list, piece.tsn);
+        let index = self.place_of(piece.tsn);
         let breaks_start = if index == 0 {
             self.begins()
         } else {
@@ -234,10 +278,12 @@ impl Pieces {
         ensures put { OnOk result (self.new ≡ insert self.old (index_of piece.tsn self.old) piece) }
         ensures unchanged { OnErr result (self.new ≡ self.old) }
     {
-        let index = place_in(&self.list, piece.tsn);
+        let index = self.place_of(piece.tsn);
         let bytes = piece.user_data.len() as u64;
+        let distance = piece.tsn.wrapping_sub(self.base);
         self.list.insert(index, piece)?;
         self.bytes += bytes;
+        self.reach = further(self.reach, distance);
         Ok(())
     }
 
@@ -250,6 +296,7 @@ impl Pieces {
         let bytes = piece.user_data.len() as u64;
         self.list.push_back(piece)?;
         self.bytes += bytes;
+        self.reach = None;
         Ok(())
     }
 
@@ -262,6 +309,7 @@ impl Pieces {
         let bytes = piece.user_data.len() as u64;
         self.list.push_front(piece)?;
         self.bytes += bytes;
+        self.reach = None;
         Ok(())
     }
 
@@ -282,7 +330,9 @@ impl Pieces {
         self.list.push_back_reserved(piece);
         self.list.append(&mut behind.list)?;
         self.bytes += bytes + behind.bytes;
+        self.reach = None;
         behind.bytes = 0;
+        behind.reach = None;
         Ok(())
     }
 
@@ -292,13 +342,14 @@ impl Pieces {
     {
         self.list.retain(|piece| !sna32lte(piece.tsn, tsn));
         self.bytes = bytes_in(&self.list);
+        self.reach = None;
     }
 
     // Hands the message on.
     pub(crate) fn into_chunks(self) -> Chunks
         ensures { result ≡ message_of self }
     {
-        let Pieces { list, bytes } = self;
+        let Pieces { list, bytes, .. } = self;
         Chunks::of_pieces(list, bytes)
     }
 }
@@ -318,6 +369,15 @@ fn bytes_in(list: &VecDeque<ChunkPayloadData>) -> u64
     list.iter().fold(0u64, |sum, piece| {
         sum.saturating_add(piece.user_data.len() as u64)
     })
+}
+
+fn further(reach: Option<u32>, distance: u32) -> Option<u32>
+    ensures { result ≡ option_map (max distance) reach }
+{
+    match reach {
+        Some(reach) => Some(distance.max(reach)),
+        None => None,
+    }
 }
 
 // Whether a TSN is one of so many that follow one another from the first one on.

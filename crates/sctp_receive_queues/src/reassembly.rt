@@ -9,7 +9,7 @@ ghost use Rattle.sctp_receive_queues.specs.Reassembly.{bytes_waiting, bytes_in_g
 ghost use Rattle.sctp_receive_queues.specs.Reassembly.{bytes_in_messages, pushed, refusal, is_ready, is_due, ready};
 ghost use Rattle.sctp_receive_queues.specs.Reassembly.{taken, next_after_skip, skipped, bounded, unordered_skipped};
 
-use crate::group::{self, Group};
+use crate::groups::Groups;
 use crate::pieces::Pieces;
 use crate::{Chunks, runs};
 use sctp_wire_types::{ChunkPayloadData, Error, sna16lt, sna16lte};
@@ -24,7 +24,7 @@ use std::marker::Model;
 pub struct ReassemblyQueue {
     alloc: Global,
     next_ssn: u16,
-    ordered: VecDeque<Group>,
+    ordered: Groups,
     unordered: VecDeque<Pieces>,
     complete: VecDeque<Chunks>,
     // Bytes of all of these.
@@ -40,12 +40,12 @@ impl Model for ReassemblyQueue {
 
     ghost view = { λ q. record {
       next_ssn = q.next_ssn;
-      ordered = q.ordered.items;
+      ordered = q.ordered;
       unordered = q.unordered.items;
       complete = q.complete.items;
     } };
 
-    ghost invariant = { λ q. q.waiting ≡ bytes_in_groups q.ordered.items + bytes_in_runs q.unordered.items
+    ghost invariant = { λ q. q.waiting ≡ bytes_in_groups q.ordered + bytes_in_runs q.unordered.items
         + bytes_in_messages q.complete.items };
 }
 
@@ -57,7 +57,7 @@ impl ReassemblyQueue {
         ReassemblyQueue {
             alloc,
             next_ssn: 0,
-            ordered: VecDeque::new(alloc),
+            ordered: Groups::none(alloc),
             unordered: VecDeque::new(alloc),
             complete: VecDeque::new(alloc),
             waiting: 0,
@@ -97,7 +97,7 @@ impl ReassemblyQueue {
         if sna16lt(piece.stream_sequence_number, self.next_ssn) {
             return None;
         }
-        group::refusal(&self.ordered, piece, limit)
+        self.ordered.refusal(piece, limit)
     }
 
     fn push_ordered(&mut self, piece: ChunkPayloadData, limit: u32) -> Result<(), Error>
@@ -111,12 +111,12 @@ impl ReassemblyQueue {
     {
         let bytes = piece.user_data.len() as u64;
         let Some(waiting) = self.waiting.checked_add(bytes) else {
-            return match group::refusal(&self.ordered, &piece, limit) {
+            return match self.ordered.refusal(&piece, limit) {
                 Some(error) => Err(error),
                 None => Err(Error::ErrNoMemory),
             };
         };
-        group::put(&mut self.ordered, self.alloc, piece, limit)?;
+        self.ordered.put(self.alloc, piece, limit)?;
         self.waiting = waiting;
         Ok(())
     }
@@ -177,7 +177,7 @@ impl ReassemblyQueue {
         if !is_first_due(&self.ordered, self.next_ssn) {
             return None;
         }
-        let group = self.ordered.pop_front()?;
+        let group = self.ordered.pop_first()?;
         if group.ssn() == self.next_ssn {
             self.next_ssn = self.next_ssn.wrapping_add(1);
         }
@@ -190,7 +190,7 @@ impl ReassemblyQueue {
     pub fn forward_tsn_for_ordered(&mut self, ssn: u16)
         ensures { self.new ≡ skipped self.old ssn }
     {
-        group::skip(&mut self.ordered, ssn);
+        self.ordered.skip(ssn);
         self.next_ssn = past_skip(self.next_ssn, ssn);
         self.waiting = bytes_held(&self.ordered, &self.unordered, &self.complete);
     }
@@ -200,7 +200,7 @@ impl ReassemblyQueue {
     pub fn applicable_forward_tsn_for_ordered_bounded(&self, ssn: u16, tsn: u32) -> u16
         ensures { result ≡ bounded self.now.ordered ssn tsn }
     {
-        group::bound(&self.ordered, ssn, tsn)
+        self.ordered.bound(ssn, tsn)
     }
 
     /// As `forward_tsn_for_ordered`, but before every ordered message with a piece above the TSN.
@@ -227,10 +227,10 @@ impl ReassemblyQueue {
     }
 }
 
-fn is_first_due(ordered: &VecDeque<Group>, next_ssn: u16) -> bool
-    ensures { result ≡ is_due next_ssn (slice_get ordered.now.items 0) }
+fn is_first_due(ordered: &Groups, next_ssn: u16) -> bool
+    ensures { result ≡ is_due next_ssn (slice_get ordered.now 0) }
 {
-    match ordered.front() {
+    match ordered.first() {
         Some(first) => sna16lte(first.ssn(), next_ssn) && first.is_complete(),
         None => false,
     }
@@ -248,27 +248,16 @@ fn past_skip(next_ssn: u16, ssn: u16) -> u16
 }
 
 // The bytes of all of these, at most the greatest u64.
-fn bytes_held(
-    ordered: &VecDeque<Group>,
-    unordered: &VecDeque<Pieces>,
-    complete: &VecDeque<Chunks>,
-) -> u64
+fn bytes_held(ordered: &Groups, unordered: &VecDeque<Pieces>, complete: &VecDeque<Chunks>) -> u64
     ensures { result
         ≡ min
-        (min (saturated_bytes (λ g. bytes_of g.pieces) ordered.now.items + saturated_bytes bytes_of unordered.now.items)
+        (min (saturated_bytes (λ g. bytes_of g.pieces) ordered.now + saturated_bytes bytes_of unordered.now.items)
         (2 ^ 64 - 1) + saturated_bytes (λ m. length (bytes_left m)) complete.now.items) (2 ^ 64 - 1) }
 {
-    in_groups(ordered)
+    ordered
+        .bytes()
         .saturating_add(in_runs(unordered))
         .saturating_add(in_messages(complete))
-}
-
-fn in_groups(ordered: &VecDeque<Group>) -> u64
-    ensures { result ≡ saturated_bytes (λ g. bytes_of g.pieces) ordered.now.items }
-{
-    ordered
-        .iter()
-        .fold(0u64, |sum, group| sum.saturating_add(group.bytes()))
 }
 
 fn in_runs(unordered: &VecDeque<Pieces>) -> u64

@@ -15,9 +15,11 @@ invariant_of-self c =
     let less =
     filter_sum (λ (p : ChunkPayloadData). length p.user_data) (λ (p : ChunkPayloadData). not (tsn_lte p.tsn c.args.tsn))
     c.self.inside.list.items in
-    let small : bytes_of c.retain.new.self.items < 2 ^ 64 = rw e (omega (arith, less, c.self.invariant)) in
-    c.bytes_in-self-inside.ensures
-    ∙ saturated_sum (λ (p : ChunkPayloadData). length p.user_data) c.retain.new.self.items small
+    let small : bytes_of c.retain.new.self.items < 2 ^ 64 = rw e (omega (arith, less, c.self.invariant.0)) in (
+      c.bytes_in-self-inside.ensures ∙
+          saturated_sum (λ (p : ChunkPayloadData). length p.user_data) c.retain.new.self.items small,
+      tt,
+    )
 
 pub returns : goal.returns
 returns c =

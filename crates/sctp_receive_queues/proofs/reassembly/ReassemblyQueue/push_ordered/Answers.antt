@@ -5,6 +5,6 @@ use Rattle.sctp_receive_queues.proofs.reassembly.ReassemblyQueue.push_ordered.Go
 
 pub invariant_of-self-2 : goal.invariant_of-self-2
 invariant_of-self-2 c =
-    let e : c.put.new.groups.items ≡ with_ordered c.self.inside.ordered.items c.args.piece = search rules in
+    let e : c.put.new.self ≡ with_ordered c.self.inside.ordered c.args.piece = search rules in
     let w : c.in-Some.waiting ≡ c.self.inside.waiting + length c.args.piece.user_data = search rules in
-    rw e (omega (arith, w, ordered_bytes c.self.inside.ordered.items c.args.piece, c.self.invariant))
+    rw e (omega (arith, w, ordered_bytes c.self.inside.ordered c.args.piece, c.self.invariant))

@@ -1,0 +1,221 @@
+-- Ordered messages whose SSNs ascend.
+use Rattle.std.proofs.Common.{◌≡◌, ◌≢◌, ℕ, ◌+◌, ◌-◌, ◌<◌, ◌≤◌, ◌^◌, true, false, eqb, List, length, refl, sym}
+use Rattle.std.proofs.Common.{◌∙◌, ap, ⊎_elim, arith, get_or, set, Option, Some, None, insert, Result, Ok, Err}
+use Rattle.std.proofs.Common.{slice_get, unwrap_or, OnOk, OnErr, option_to_list, ◌++◌, ◌∷◌, suc}
+use Rattle.std.proofs.lemmas.Bool.{cases_Bool, cases_lt, cases_eq, ne_eqb, eq-eqb}
+use Rattle.std.proofs.lemmas.Bool.Decides.{nat_tests}
+use Rattle.std.proofs.lemmas.List.{get_or-set_same, get_or-set_other, get_or_default, length-set}
+use Rattle.std.proofs.lemmas.List.Edits.{length-insert, get_or-insert_at, get_or-insert_below, get_or-insert_above}
+use Rattle.std.proofs.lemmas.Option.{slice_get-get_or}
+use Rattle.sctp_serial.specs.Serial.{ssn_lt, ssn_past}
+use Rattle.sctp_receive_queues.proofs.Searches.{absent, found}
+use Rattle.sctp_wire_types.specs.declared.chunk.ChunkPayloadData.{ChunkPayloadData}
+use Rattle.sctp_wire_types.specs.declared.error.Error.{Error}
+use Rattle.sctp_receive_queues.specs.Ascending.{Ascend, AreEndsBefore, AreEndsBehind, IsBefore, IsBehind}
+use Rattle.sctp_receive_queues.specs.Reassembly.{Group, grown, grown_at, put_at, index_of_ssn, index_for_ssn}
+
+-- the test of serial numbers as two bounds
+abbrev IsLess : ℕ → ℕ → Type 0
+IsLess a b = (0 < ssn_past a b) × (ssn_past a b < 2 ^ 15)
+
+is_less : (a b : ℕ) → ssn_lt a b ≡ true → IsLess a b
+is_less a b e = grind (arith, nat_tests, e)
+
+less_is : (a b : ℕ) → IsLess a b → ssn_lt a b ≡ true
+less_is a b e = grind (arith, nat_tests, e.0, e.1)
+
+-- an SSN between two that are before this one is before it too
+between_before : (f g l s : ℕ) → f < 2 ^ 16 → g < 2 ^ 16 → l < 2 ^ 16 → s < 2 ^ 16 → IsLess f g → IsLess g l
+    → IsLess f l → IsLess f s → IsLess l s → IsLess g s
+between_before f g l s bf bg bl bs fg gl fl fs ls = (
+  omega (arith, bf, bg, bl, fg.0, fg.1, gl.0, gl.1, fl.0, fl.1, fs.0, fs.1, ls.0, ls.1, bs),
+  omega (arith, bf, bg, bl, fg.0, fg.1, gl.0, gl.1, fl.0, fl.1, fs.0, fs.1, ls.0, ls.1, bs),
+)
+
+-- an SSN between two that are past this one is past it too
+between_behind : (f g l s : ℕ) → f < 2 ^ 16 → g < 2 ^ 16 → l < 2 ^ 16 → s < 2 ^ 16 → IsLess f g → IsLess g l
+    → IsLess f l → IsLess s f → IsLess s l → IsLess s g
+between_behind f g l s bf bg bl bs fg gl fl sf sl = (
+  omega (arith, bf, bg, bl, fg.0, fg.1, gl.0, gl.1, fl.0, fl.1, sf.0, sf.1, sl.0, sl.1, bs),
+  omega (arith, bf, bg, bl, fg.0, fg.1, gl.0, gl.1, fl.0, fl.1, sf.0, sf.1, sl.0, sl.1, bs),
+)
+
+-- an SSN before another is not the same
+less_apart : (a b : ℕ) → a < 2 ^ 16 → b < 2 ^ 16 → ssn_lt a b ≡ true → eqb a b ≡ false
+less_apart a b ba bb e = let l = is_less a b e in ne_eqb a b (λ same. omega (arith, same, l.0, ba, bb))
+
+-- and that one is not before it
+less_one_way : (a b : ℕ) → a < 2 ^ 16 → b < 2 ^ 16 → ssn_lt a b ≡ true → ssn_lt b a ≡ false
+less_one_way a b ba bb e =
+    let l = is_less a b e in
+    ⊎_elim
+    (λ (r : ssn_lt b a ≡ true). let m = is_less b a r in absurd (omega (arith, l.0, l.1, m.0, m.1, ba, bb)))
+    (λ (r : ssn_lt b a ≡ false). r)
+    (cases_Bool (ssn_lt b a))
+
+-- Ends speak for what is between them.
+
+-- where the ends in front of a place are before an SSN, all in front of it are
+pub all_before : (gs : List Group) (index s : ℕ) → Ascend gs → index ≤ length gs → s < 2 ^ 16
+    → AreEndsBefore gs index s → (k : ℕ) (d : Group) → k < index → IsBefore s (get_or gs k d)
+all_before gs index s a le b e k d h =
+    let ends = e (omega (arith, h)) in
+    let first = ends.0 d in
+    let last = ends.1 d in
+    ⊎_elim
+    (λ (z : 0 < k).
+    ⊎_elim
+    (λ (w : k < index - 1).
+    let fg = a 0 k d z (omega (arith, h, le)) in
+    let gl = a k (index - 1) d w (omega (arith, h, le)) in
+    let fl = a 0 (index - 1) d (omega (arith, z, w)) (omega (arith, h, le)) in (
+      gl.0,
+      less_is (get_or gs k d).ssn s
+          (between_before (get_or gs 0 d).ssn (get_or gs k d).ssn (get_or gs (index - 1) d).ssn s first.0 gl.0 last.0 b
+          (is_less _ _ fg.1) (is_less _ _ gl.1) (is_less _ _ fl.1) (is_less _ _ first.1) (is_less _ _ last.1)),
+    ))
+    (λ (w : index - 1 ≤ k). let same : k ≡ index - 1 = omega (arith, h, w) in rw same last)
+    (cases_lt k (index - 1)))
+    (λ (z : k ≤ 0). let same : k ≡ 0 = omega (arith, z) in rw same first)
+    (cases_lt 0 k)
+
+-- where the ends from a place on are past an SSN, all from it on are
+pub all_behind : (gs : List Group) (index s : ℕ) → Ascend gs → s < 2 ^ 16
+    → AreEndsBehind gs index s → (k : ℕ) (d : Group) → index ≤ k → k < length gs → IsBehind s (get_or gs k d)
+all_behind gs index s a b e k d le h =
+    let ends = e (omega (arith, le, h)) in
+    let first = ends.0 d in
+    let last = ends.1 d in
+    ⊎_elim
+    (λ (z : index < k).
+    ⊎_elim
+    (λ (w : k < length gs - 1).
+    let fg = a index k d z h in
+    let gl = a k (length gs - 1) d w (omega (arith, h)) in
+    let fl = a index (length gs - 1) d (omega (arith, z, w)) (omega (arith, h)) in (
+      gl.0,
+      less_is s (get_or gs k d).ssn
+          (between_behind (get_or gs index d).ssn (get_or gs k d).ssn (get_or gs (length gs - 1) d).ssn s first.0 gl.0
+          last.0 b
+          (is_less _ _ fg.1) (is_less _ _ gl.1) (is_less _ _ fl.1) (is_less _ _ first.1) (is_less _ _ last.1)),
+    ))
+    (λ (w : length gs - 1 ≤ k). let same : k ≡ length gs - 1 = omega (arith, h, w) in rw same last)
+    (cases_lt k (length gs - 1)))
+    (λ (z : k ≤ index). let same : k ≡ index = omega (arith, z, le) in rw same first)
+    (cases_lt index k)
+
+-- Searches from the end.
+
+-- where its SSN is past the ends no message has it
+pub none_has : (gs : List Group) (s : ℕ) → Ascend gs → s < 2 ^ 16 → AreEndsBefore gs (length gs) s
+    → index_of_ssn s gs ≡ None
+none_has gs s a b e =
+    absent (λ (g : Group). eqb g.ssn s) gs
+    (λ k d h. let f = all_before gs (length gs) s a (omega arith) b e k d h in
+    less_apart (get_or gs k d).ssn s f.0 b f.1)
+
+-- and its place is the end
+pub end_is_place : (gs : List Group) (s : ℕ) → Ascend gs → s < 2 ^ 16 → AreEndsBefore gs (length gs) s
+    → index_for_ssn s gs ≡ length gs
+end_is_place gs s a b e =
+    let none =
+    absent (λ (g : Group). ssn_lt s g.ssn) gs
+    (λ k d h. let f = all_before gs (length gs) s a (omega arith) b e k d h in
+    less_one_way (get_or gs k d).ssn s f.0 b f.1) in
+    rw none refl
+
+-- the last message's SSN is of no other
+pub newest_has : (gs : List Group) (last : Group) → Ascend gs → 0 < length gs → last.ssn < 2 ^ 16
+    → last ≡ get_or gs (length gs - 1) last → index_of_ssn last.ssn gs ≡ Some (length gs - 1)
+newest_has gs last a some b is =
+    found (λ (g : Group). eqb g.ssn last.ssn) gs (length gs - 1) last (omega (arith, some))
+    (λ k h. let f = a k (length gs - 1) last h (omega (arith, some)) in
+    less_apart (get_or gs k last).ssn last.ssn f.0 b (rw (← is) at f.1))
+    (rw (← is) (eq-eqb last.ssn last.ssn refl))
+
+-- Changes that keep the order.
+
+-- behind the place of a new message each stands one place later
+above_place : (gs : List Group) (index : ℕ) (x d : Group) (k : ℕ) → index ≤ length gs → index < k
+    → get_or (insert gs index x) k d ≡ get_or gs (k - 1) d
+above_place gs index x d k le h =
+    let same : k - 1 + 1 ≡ k = omega (arith, h) in
+    ap (λ (n : ℕ). get_or (insert gs index x) n d) (sym same) ∙
+    get_or-insert_above gs index x d (k - 1) (omega (arith, h)) le
+
+-- a message between those before it and those past it
+pub insert_ascends : (gs : List Group) (index : ℕ) (x : Group) → Ascend gs → index ≤ length gs → x.ssn < 2 ^ 16
+    → AreEndsBefore gs index x.ssn → AreEndsBehind gs index x.ssn → Ascend (insert gs index x)
+insert_ascends gs index x a le b before behind i j d lt h =
+    let long : length (insert gs index x) ≡ length gs + 1 = length-insert gs index x le in
+    ⊎_elim
+    (λ (u : j < index).
+    rw (get_or-insert_below gs index x d i (omega (arith, u, lt)) le, get_or-insert_below gs index x d j u le)
+    (a i j d lt (omega (arith, u, le))))
+    (λ (u : index ≤ j).
+    ⊎_elim
+    (λ (v : index < j).
+    rw (above_place gs index x d j le v)
+    (⊎_elim
+    (λ (w : i < index).
+    rw (get_or-insert_below gs index x d i w le) (a i (j - 1) d (omega (arith, v, w)) (omega (arith, h, long, v))))
+    (λ (w : index ≤ i).
+    ⊎_elim
+    (λ (t : index < i).
+    rw (above_place gs index x d i le t)
+    (a (i - 1) (j - 1) d (omega (arith, t, lt)) (omega (arith, h, long, v))))
+    (λ (t : i ≤ index).
+    let same : i ≡ index = omega (arith, w, t) in
+    rw (same, get_or-insert_at gs index x d le)
+    (b, (all_behind gs index x.ssn a b behind (j - 1) d (omega (arith, v)) (omega (arith, h, long, v))).1))
+    (cases_lt index i))
+    (cases_lt i index)))
+    (λ (v : j ≤ index).
+    let same : j ≡ index = omega (arith, u, v) in
+    let below : i < index = omega (arith, lt, same) in
+    rw (get_or-insert_below gs index x d i below le, same, get_or-insert_at gs index x d le)
+    (all_before gs index x.ssn a le b before i d below))
+    (cases_lt index j))
+    (cases_lt j index)
+
+-- a message in place of one with its SSN changes the SSN of no place
+same_ssn : (gs : List Group) (k i : ℕ) (y d : Group) → y.ssn ≡ (get_or gs k y).ssn → k < length gs
+    → (get_or (set gs k y) i d).ssn ≡ (get_or gs i d).ssn
+same_ssn gs k i y d e h =
+    ⊎_elim
+    (λ (same : i ≡ k).
+    rw (same, get_or-set_same gs k y d h) (e ∙ ap (λ (g : Group). g.ssn) (get_or_default gs k y d h)))
+    (λ (other : i ≢ k). rw (get_or-set_other gs k i y d other) refl)
+    (cases_eq i k)
+
+set_ascends : (gs : List Group) (k : ℕ) (y : Group) → y.ssn ≡ (get_or gs k y).ssn → k < length gs → Ascend gs
+    → Ascend (set gs k y)
+set_ascends gs k y e h a i j d lt hj =
+    rw (same_ssn gs k i y d e h, same_ssn gs k j y d e h) (a i j d lt (rw (length-set gs k y) at hj))
+
+grown_ascends : (o : Option Group) (gs : List Group) (k : ℕ) (p : ChunkPayloadData) → slice_get gs k ≡ o
+    → k < length gs → Ascend gs → Ascend (grown_at o k gs p)
+grown_ascends None gs k p e h a = a
+grown_ascends (Some g) gs k p e h a = set_ascends gs k (grown g p) (ssn_stays gs k g p e h) h a
+  where
+    ssn_stays : (gs : List Group) (k : ℕ) (g : Group) (p : ChunkPayloadData) → slice_get gs k ≡ Some g → k < length gs
+        → g.ssn ≡ (get_or gs k (grown g p)).ssn
+    ssn_stays gs k g p e h =
+        ap (λ (o : Option Group). (unwrap_or o g).ssn) (sym e ∙ slice_get-get_or gs k (grown g p) h)
+
+-- a piece that comes to a message, or is refused
+pub put_ascends : (r : Result (Unit {0}) Error) (gs hs : List Group) (k : ℕ) (p : ChunkPayloadData)
+    → OnOk r (hs ≡ put_at (Some k) gs p) → OnErr r (hs ≡ gs) → k < length gs → Ascend gs → Ascend hs
+put_ascends (Ok u) gs hs k p put same h a = rw put (grown_ascends (slice_get gs k) gs k p refl h a)
+put_ascends (Err e) gs hs k p put same h a = rw same a
+
+same_ascend : (gs hs : List Group) → gs ≡ hs → Ascend hs → Ascend gs
+same_ascend gs hs e a = rw e a
+
+tail_ascends : (g : Group) (gs : List Group) → Ascend (g ∷ gs) → Ascend gs
+tail_ascends g gs a i j d lt h = a (suc i) (suc j) d (omega (arith, lt)) (omega (arith, h))
+
+-- the first message is taken out, where there is one
+pub rest_ascends : (r : Option Group) (gs hs : List Group) → gs ≡ option_to_list r ++ hs → Ascend gs → Ascend hs
+rest_ascends None gs hs e a = same_ascend hs gs (sym e) a
+rest_ascends (Some g) gs hs e a = tail_ascends g hs (same_ascend (g ∷ hs) gs (sym e) a)
