@@ -62,7 +62,7 @@ receiving p =
 
 -- One thing that an association does to its directions.
 pub data Act : Type 0 where
-  -- the peer's initial TSN became known: no DATA from it on came yet
+  -- the peer's initial TSN became known; what came before is forgotten
   PeerKnown : ℕ → Act
   -- the application or the peer's DATA made a stream; its own messages have an identifier from this one on and this
   -- payload type
@@ -90,7 +90,7 @@ pub data Act : Type 0 where
 abbrev pub with_taken : History → ℕ → History
 with_taken h o = record h { taken = o ∷ h.taken }
 
--- the peer's DATA begins with this TSN
+-- the peer's DATA begins with this TSN, and nothing of it came
 abbrev pub with_peer : History → ℕ → History
 with_peer h t = record h { peer = t; taken = []; passed = 0 }
 
@@ -112,6 +112,7 @@ message_of s id bytes = record {
   rest = [];
 }
 
+-- the bytes are queued on the stream, where it is live
 abbrev pub with_written : Option StreamView → Parts → ℕ → List ℕ → Parts
 with_written None p id bytes = p
 with_written (Some s) p id bytes =
@@ -159,6 +160,7 @@ abbrev pub CanAll : List Act → Parts → Type 0
 CanAll [] p = Unit {0}
 CanAll (x ∷ xs) p = Can x p × CanAll xs (done x p)
 
+-- this piece, if there is one, as DATA
 abbrev pub chunk_said : Option InFlight → ℕ → List ChunkPayloadData
 chunk_said None t = []
 chunk_said (Some p) t = chunk_of p t ∷ []

@@ -1,4 +1,4 @@
--- What an event leaves as it was of the direction in which it happens.
+-- Which events are whose, and what they leave as it was of the direction in which they happen.
 use Rattle.std.specs.Prelude.{◌≡◌, ℕ, slice_get, Some, ⊤}
 use Rattle.sctp_model.specs.Packets.{Data, Sack}
 use Rattle.sctp_model.specs.Machine.{Direction, Event, reach}
@@ -12,7 +12,7 @@ pub record IsSentOn (w v : Direction) : Type 0 where
   pub over : v.over ≡ w.over
   pub size : v.sender.plan.size ≡ w.sender.plan.size
 
--- v is w but for its receiver, what was read and SACKs that were made since.
+-- Of w there stay in v the sender, the spans, the DATA that was given out and the SACKs that were made.
 pub record IsReceived (w v : Direction) : Type 0 where
   pub sender : v.sender ≡ w.sender
   pub over : v.over ≡ w.over
@@ -60,7 +60,7 @@ abbrev pub Brings : Direction → Event → ℕ → Type 0
 Brings w (Event.DataComes k) o = (d : Data) × (slice_get w.datas k ≡ Some d) × (o ≡ d.offset)
 Brings w e o = ⊥
 
--- events after which the limits hold, where they held before
+-- some events after which the limits hold, where they held before
 abbrev pub KeepsWithin : Event → Type 0
 KeepsWithin (Event.SackComes k) = ⊤
 KeepsWithin (Event.DataComes k) = ⊤

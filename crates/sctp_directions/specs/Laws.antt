@@ -1,4 +1,5 @@
--- The laws of an association between its directions: each thing that it does to them is an event of the model.
+-- The laws of an association between its directions: what writes, pieces that go again, acknowledgements, DATA and
+-- reports are as events of the model, and what acts and events leave as it was.
 use Rattle.std.specs.Prelude.{◌≡◌, ◌⊎◌, ℕ, ◌+◌, ◌*◌, ◌<◌, ◌≤◌, ◌%◌, ◌^◌, true, false, List, [], ◌∷◌, ◌++◌}
 use Rattle.std.specs.Prelude.{if◌then◌else◌, length, slice_get, ◌==◌, Some}
 use Rattle.std.specs.List.{AllByRecursion}
@@ -153,7 +154,8 @@ OnlyReadsGiveMessages =
 abbrev pub ClosedReceiversAreNotOpen : Type 0
 ClosedReceiversAreNotOpen = (w : Direction) → (happens w Event.Close).receiver.is_open ≡ false
 
--- A direction stays plain, and within the limits where the event is no write, no beginning and no read.
+-- A direction stays plain. It stays within the limits where a SACK or DATA comes, a SACK is made, a stream is opened or
+-- the receiver closes.
 abbrev pub PlainEventsKeepItPlain : Type 0
 PlainEventsKeepItPlain = (w : Direction) (e : Event) → IsPlainEvent w e → IsPlain w → IsPlain (happens w e)
 

@@ -1,5 +1,5 @@
--- A direction as associations use it so far: each message is ordered and reliable, none is given up, DATA is taken in
--- where it is next in order alone, and no span ends.
+-- A direction as associations use it so far: no message is given up, nothing is skipped, DATA is taken in where it is
+-- next in order alone, and no span ends; and streams as they are used so far.
 use Rattle.std.specs.Prelude.{◌≡◌, ℕ, ◌<◌, true, false, List, [], nat_lt, Some}
 use Rattle.std.specs.List.{AllByRecursion}
 use Rattle.sctp_wire_types.specs.Ids.{number_of}
@@ -9,7 +9,7 @@ use Rattle.sctp_model.specs.Messages.{Message, Policy}
 use Rattle.sctp_model.specs.Packets.{Sack, mem}
 use Rattle.sctp_model.specs.Machine.{Direction, reach}
 
--- a message as it is accepted on a stream
+-- a message as a stream of ordered, reliable messages accepts it
 abbrev pub message_on : StreamView → List ℕ → Message
 message_on t bytes = record {
   payload_type = number_of t.default_payload_type;
@@ -22,6 +22,7 @@ message_on t bytes = record {
 abbrev pub AreOrderedAndReliable : StreamMap → Type 0
 AreOrderedAndReliable m = (s : ℕ) (t : StreamView) → stream_at m s ≡ Some t → t.params ≡ ordered_and_reliable
 
+-- The direction is as associations use it so far.
 pub record IsPlain (w : Direction) : Type 0 where
   pub stays : (s i : ℕ) → w.sender.gone s i ≡ false
   pub acknowledged : (o : ℕ) → w.sender.acknowledged o ≡ nat_lt o w.sender.reach

@@ -14,7 +14,8 @@ ghost use Rattle.sctp_directions.specs.Laws.{ShortMessagesAreOnePiece, StreamsSt
 ghost use Rattle.sctp_directions.specs.Laws.{WhatComesLeavesItsOwn, WhatIsTakenInComes, WritesAreAccepted};
 ghost use Rattle.sctp_directions.specs.Laws.{WritesAreAcceptedLast};
 
-/// What an association writes, sends again, marks and finds acknowledged happens at the sender of its direction.
+/// What an association writes, sends again and finds acknowledged happens at the sender of its direction; of marks that
+/// one knows nothing.
 pub fn its_own_acts_are_events()
     ensures writes { WritesAreAccepted }
     ensures pieces { PiecesAreGiven }
@@ -23,7 +24,8 @@ pub fn its_own_acts_are_events()
     ensures sacks { SacksMeanTheSame }
 {}
 
-/// What an association takes in and reports happens at the receiver of the direction that comes to it.
+/// What an association takes in and reports happens at the receiver of the direction that comes to it; that the peer's
+/// initial TSN becomes known is nothing to it.
 pub fn what_comes_to_it_are_events()
     ensures taken { WhatIsTakenInComes }
     ensures reports { ReportsSayWhatWasTaken }
@@ -63,7 +65,7 @@ pub fn accepted_messages_are_counted()
     ensures counted { AcceptedMessagesAreCounted }
 {}
 
-/// A direction is plain from its beginning on.
+/// A direction in which nothing happened is plain, and events of a plain direction keep it so.
 pub fn directions_stay_plain()
     ensures fresh { FreshDirectionsArePlain }
     ensures plain { PlainEventsKeepItPlain }

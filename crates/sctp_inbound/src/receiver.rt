@@ -132,8 +132,8 @@ impl Receiver {
         }
     }
 
-    /// The acknowledgement of what came up to the point, and past it by gap ack blocks (RFC 4960 section 3.3.4); none is
-    /// due after it. Where memory is refused it stays due; with nothing held it takes none.
+    /// The acknowledgement of what came up to the point, and past it by gap ack blocks (RFC 4960 section 3.3.4); none
+    /// is due after it. Where memory is refused it stays due; with nothing held it takes none.
     pub fn sack_over(
         &mut self,
         alloc: Global,

@@ -33,11 +33,11 @@ tsn_gt a b = not (a == b) && not (tsn_lt a b)
 abbrev pub tsn_gte : ℕ → ℕ → Bool
 tsn_gte a b = a == b || tsn_gt a b
 
--- the number that stands this far from the first one
+-- the SSN that stands this far from the first one
 abbrev pub ssn_from : ℕ → ℕ → ℕ
 ssn_from first offset = (first + offset) % 2 ^ 16
 
--- the TSN of an offset: offset 0 is the initial TSN of its direction (RFC 4960 section 3.3.1)
+-- the TSN of an offset: offset 0 is the initial TSN of its direction (RFC 4960 section 3.3.2)
 abbrev pub tsn : ℕ → ℕ → ℕ
 tsn initial offset = (initial + offset) % 2 ^ 32
 

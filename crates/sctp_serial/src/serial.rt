@@ -1,6 +1,7 @@
 // Serial number arithmetic on SSNs (16 bits) and TSNs (32 bits), RFC 4960 section 1.6 after RFC 1982.
 ghost use Rattle.std.specs.Prelude.{◌≡◌, ℕ, nat_lt, nat_le};
-ghost use Rattle.sctp_serial.specs.Serial.{ssn_lt, ssn_lte, ssn_gt, ssn_gte, tsn_lt, tsn_lte, tsn_gt, tsn_gte, ssn_from, tsn, AreNear16, AreNear32};
+ghost use Rattle.sctp_serial.specs.Serial.{ssn_lt, ssn_lte, ssn_gt, ssn_gte, tsn_lt, tsn_lte, tsn_gt, tsn_gte};
+ghost use Rattle.sctp_serial.specs.Serial.{ssn_from, tsn, AreNear16, AreNear32};
 
 /// Whether `b` is 1 to 32,767 past `a`.
 pub fn sna16lt(a: u16, b: u16) -> bool
