@@ -1,4 +1,5 @@
 pub mod BegunCounts
+pub mod BlocksTaken
 mod BytesPartitioned
 mod BytesReleased
 mod CountsBelow

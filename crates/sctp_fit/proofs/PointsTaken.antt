@@ -13,7 +13,7 @@ use Rattle.sctp_fit.specs.Outgoing.{Sending}
 use Rattle.sctp_fit.specs.Points.{PointsAcknowledgeTheFirst, so_many}
 
 -- the streams once the outstanding bytes of the first n of these were released
-abbrev released_first : ℕ → List InFlight → StreamMap → StreamMap
+abbrev pub released_first : ℕ → List InFlight → StreamMap → StreamMap
 released_first zero xs m = m
 released_first (suc n) [] m = m
 released_first (suc n) (x ∷ xs) m = released_first n xs (streams_after (Some x) m)
@@ -39,7 +39,7 @@ module _ (named : ℕ → Bool) where
 
 module _ (pending : List Waiting) (next size : ℕ) where
   -- what the sender has, with these pieces in flight
-  abbrev with_flight : List InFlight → ℕ → StreamMap → ℕ → Sending
+  abbrev pub with_flight : List InFlight → ℕ → StreamMap → ℕ → Sending
   with_flight xs first m base = record {
     queue = record { pending = pending; in_flight = xs; first_tsn = first; next_message_id = next };
     streams = m;
@@ -48,7 +48,7 @@ module _ (pending : List Waiting) (next size : ℕ) where
   }
 
   -- one at a time the first n go, and their bytes are released
-  one_at_a_time : (n : ℕ) (xs : List InFlight) (first : ℕ) (m : StreamMap) (base : ℕ) → n ≤ length xs
+  pub one_at_a_time : (n : ℕ) (xs : List InFlight) (first : ℕ) (m : StreamMap) (base : ℕ) → n ≤ length xs
       → first < 2 ^ 32
       → so_many n (with_flight xs first m base)
       ≡ with_flight (drop n xs) (tsn_at first n) (released_first n xs m) (base + n)
