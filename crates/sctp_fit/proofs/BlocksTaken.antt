@@ -10,7 +10,7 @@ use Rattle.sctp_outbound_queue.specs.Message.{acked}
 use Rattle.sctp_outbound_queue.specs.Outbound.{Outbound, tsn_at}
 use Rattle.sctp_outbound.specs.Sender.{streams_after}
 use Rattle.sctp_streams.specs.Streams.{StreamMap}
-use Rattle.sctp_fit.specs.Acknowledgements.{acked_among, released_among}
+use Rattle.sctp_outbound.specs.GapAcks.{acked_among, released_among}
 use Rattle.sctp_fit.specs.Points.{PointsAndBlocksAcknowledge, with_named}
 use Rattle.sctp_fit.proofs.PointsTaken.{one_at_a_time, released_first, with_flight}
 

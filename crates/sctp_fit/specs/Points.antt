@@ -6,7 +6,7 @@ use Rattle.sctp_receive_queues.specs.Received.{is_named}
 use Rattle.sctp_outbound_queue.specs.Outbound.{without_first}
 use Rattle.sctp_outbound.specs.Sender.{streams_after}
 use Rattle.sctp_fit.specs.Outgoing.{Sending}
-use Rattle.sctp_fit.specs.Acknowledgements.{acked_among, released_among}
+use Rattle.sctp_outbound.specs.GapAcks.{acked_among, released_among}
 use Rattle.sctp_fit.specs.Acknowledgements.{acknowledged}
 
 -- the first piece in flight is acknowledged cumulatively, and its outstanding bytes are released
