@@ -1,20 +1,23 @@
 -- What an association does to the two directions between which it stands: to its own DATA, and to the DATA that comes.
 use Rattle.std.specs.Prelude.{◌≡◌, ◌<◌, ◌≤◌, ℕ, true, List, [], ◌∷◌, ◌++◌, ◌+◌, is_some, length, slice_get, Option}
-use Rattle.std.specs.Prelude.{Some, None, false}
+use Rattle.std.specs.Prelude.{Some, None, false, Bool, ◌||◌, ◌-◌, ◌^◌, nat_lt}
 use Rattle.sctp_serial.specs.Serial.{tsn, tsn_past}
 use Rattle.sctp_wire_types.specs.declared.chunk.ChunkPayloadData.{ChunkPayloadData}
+use Rattle.sctp_wire_types.specs.declared.chunk.GapAckBlock.{GapAckBlock}
 use Rattle.sctp_wire_types.specs.declared.ids.PayloadProtocolIdentifier.{PayloadProtocolIdentifier}
 use Rattle.sctp_outbound_queue.specs.declared.message.InFlight.{InFlight}
 use Rattle.sctp_outbound_queue.specs.Waiting.{Waiting}
-use Rattle.sctp_outbound_queue.specs.Message.{counted_again}
+use Rattle.sctp_outbound_queue.specs.Message.{counted_again, is_outstanding}
+use Rattle.sctp_receive_queues.specs.Received.{is_named}
 use Rattle.sctp_outbound_queue.specs.Outbound.{Outbound, all_marked, changed_at, sent_next}
 use Rattle.sctp_streams.specs.Stream.{StreamView, params_for}
 use Rattle.sctp_streams.specs.Streams.{StreamMap, stream_at, made, pushed_in, read_in, without_streams}
 use Rattle.sctp_outbound.specs.Sender.{chunk_of}
+use Rattle.sctp_model.specs.Packets.{mem}
 use Rattle.sctp_model.specs.Machine.{climb, past_all}
 use Rattle.sctp_fit.specs.Incoming.{Receiving}
 use Rattle.sctp_fit.specs.Outgoing.{Sending}
-use Rattle.sctp_fit.specs.Points.{so_many}
+use Rattle.sctp_fit.specs.Acknowledgements.{acknowledged}
 use Rattle.sctp_fit.specs.Sendings.{next_chunks}
 use Rattle.sctp_fit.specs.Writes as fit
 
@@ -75,8 +78,9 @@ pub data Act : Type 0 where
   SentAgain : ℕ → Act
   -- all that is outstanding is to go out again
   Marked : Act
-  -- so many of the first pieces in flight were acknowledged
-  Acknowledged : ℕ → Act
+  -- a SACK acknowledged so many of the first pieces in flight, and of those behind them the ones that its gap ack blocks
+  -- name
+  Acknowledged : ℕ → List GapAckBlock → Act
   -- this DATA was taken in
   Took : ChunkPayloadData → Act
   -- a SACK went out
@@ -119,12 +123,18 @@ with_written (Some s) p id bytes =
     (let a = fit.written (sending p) id s.default_payload_type (length bytes) (message_of s id bytes) in
     record p { queue = a.queue; streams = a.streams })
 
--- the first n pieces in flight were acknowledged, one after another, and their bytes were released
-abbrev pub with_acknowledged : ℕ → Parts → Parts
-with_acknowledged n p = record p {
-  queue = (so_many n (sending p)).queue;
-  streams = (so_many n (sending p)).streams;
-  history = (let h = p.history in record h { base = (so_many n (sending p)).base });
+-- A SACK that acknowledges the first n pieces in flight cumulatively acknowledges the piece at an index: it is one of
+-- those, or one of the gap ack blocks names it. Blocks count from the point, so the piece at n is their 1 (RFC 4960
+-- section 3.3.4).
+abbrev pub is_acknowledged_by : ℕ → List GapAckBlock → ℕ → Bool
+is_acknowledged_by n blocks index = nat_lt index n || is_named (index + 1 - n) blocks
+
+-- what such a SACK acknowledges is acknowledged, and the bytes are released that were outstanding of it
+abbrev pub with_acknowledged : ℕ → List GapAckBlock → Parts → Parts
+with_acknowledged n blocks p = record p {
+  queue = (acknowledged n (is_acknowledged_by n blocks) (sending p)).queue;
+  streams = (acknowledged n (is_acknowledged_by n blocks) (sending p)).streams;
+  history = (let h = p.history in record h { base = h.base + n });
 }
 
 -- what an act makes of the parts
@@ -135,7 +145,7 @@ done (Wrote id bytes) p = with_written (stream_at p.streams id) p id bytes
 done (Sent now) p = record p { queue = sent_next p.queue now }
 done (SentAgain index) p = record p { queue = changed_at counted_again p.queue index }
 done Marked p = record p { queue = all_marked p.queue }
-done (Acknowledged n) p = with_acknowledged n p
+done (Acknowledged n blocks) p = with_acknowledged n blocks p
 done (Took piece) p = record p {
   streams = (pushed_in p.streams piece.stream_identifier piece).0;
   history = with_taken p.history (offset_in p.history piece.tsn);
@@ -148,12 +158,23 @@ abbrev pub done_all : List Act → Parts → Parts
 done_all [] p = p
 done_all (x ∷ xs) p = done_all xs (done x p)
 
+-- a piece is there, and is neither acknowledged nor abandoned
+abbrev pub can_go_again : Option InFlight → Bool
+can_go_again None = false
+can_go_again (Some x) = is_outstanding x
+
+-- DATA with this TSN is new: it is 1 to 65,535 past the cumulative TSN ack point, and did not come
+pub record IsNewTsn (h : History) (t : ℕ) : Type 0 where
+  pub small : t < 2 ^ 32
+  pub near : offset_in h t < reach_in h + 65535
+  pub missing : mem (offset_in h t) h.taken ≡ false
+
 -- an act can be done where the parts stand so
 abbrev pub Can : Act → Parts → Type 0
 Can (Sent now) p = is_some (slice_get p.queue.pending 0) ≡ true
-Can (SentAgain index) p = index < length p.queue.in_flight
-Can (Acknowledged n) p = n ≤ length p.queue.in_flight
-Can (Took piece) p = piece.tsn ≡ tsn p.history.peer (reach_in p.history)
+Can (SentAgain index) p = can_go_again (slice_get p.queue.in_flight index) ≡ true
+Can (Acknowledged n blocks) p = n ≤ length p.queue.in_flight
+Can (Took piece) p = IsNewTsn p.history piece.tsn
 Can act p = Unit {0}
 
 abbrev pub CanAll : List Act → Parts → Type 0
@@ -189,7 +210,7 @@ IsOfItsOwn (Wrote id bytes) = Unit {0}
 IsOfItsOwn (Sent now) = Unit {0}
 IsOfItsOwn (SentAgain index) = Unit {0}
 IsOfItsOwn Marked = Unit {0}
-IsOfItsOwn (Acknowledged n) = Unit {0}
+IsOfItsOwn (Acknowledged n blocks) = Unit {0}
 IsOfItsOwn act = ⊥
 
 -- acts of the DATA that comes

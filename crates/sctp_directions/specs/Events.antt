@@ -69,17 +69,17 @@ KeepsWithin (Event.Open s) = ⊤
 KeepsWithin Event.Close = ⊤
 KeepsWithin e = ⊥
 
--- events of a plain direction: DATA comes at the reach
-abbrev pub IsPlainEvent : Direction → Event → Type 0
-IsPlainEvent w (Event.Write s m) = ⊤
-IsPlainEvent w (Event.PassOver s) = ⊤
-IsPlainEvent w (Event.Begin s i any) = ⊤
-IsPlainEvent w Event.GoOn = ⊤
-IsPlainEvent w (Event.Resend o) = ⊤
-IsPlainEvent w (Event.SackComes k) = ⊤
-IsPlainEvent w (Event.DataComes k) = (d : Data) × (slice_get w.datas k ≡ Some d) × (d.offset ≡ reach w.receiver)
-IsPlainEvent w Event.SackMade = ⊤
-IsPlainEvent w (Event.Open s) = ⊤
-IsPlainEvent w (Event.Read s) = ⊤
-IsPlainEvent w Event.Close = ⊤
-IsPlainEvent w e = ⊥
+-- events of a plain direction: all but those of partial reliability and of a stream's end
+abbrev pub IsPlainEvent : Event → Type 0
+IsPlainEvent (Event.Write s m) = ⊤
+IsPlainEvent (Event.PassOver s) = ⊤
+IsPlainEvent (Event.Begin s i any) = ⊤
+IsPlainEvent Event.GoOn = ⊤
+IsPlainEvent (Event.Resend o) = ⊤
+IsPlainEvent (Event.SackComes k) = ⊤
+IsPlainEvent (Event.DataComes k) = ⊤
+IsPlainEvent Event.SackMade = ⊤
+IsPlainEvent (Event.Open s) = ⊤
+IsPlainEvent (Event.Read s) = ⊤
+IsPlainEvent Event.Close = ⊤
+IsPlainEvent e = ⊥

@@ -17,7 +17,7 @@ use Rattle.sctp_fit.specs.Counted.{HasAccepted, all_pieces, pieces_in}
 use Rattle.sctp_fit.specs.Incoming.{FitsIncoming, IsSaid, tsn_before}
 use Rattle.sctp_fit.specs.Outgoing.{CountsBegun, FitsOutgoing}
 use Rattle.sctp_fit.specs.Sendings.{IsGiven}
-use Rattle.sctp_directions.specs.Acts.{Act, Can, IsOfItsOwn, IsOfWhatComes, MeetsNobody, Parts, data_given, done}
+use Rattle.sctp_directions.specs.Acts.{Act, Can, IsOfItsOwn, IsOfWhatComes, MeetsNobody, Parts, data_given, done, offset_in}
 use Rattle.sctp_directions.specs.Acts.{done_all, reach_in, receiving, sending}
 use Rattle.sctp_directions.specs.Events.{Accepts, Assigns, Brings, GivesAMessage, IsOfReceiving, IsOfSending}
 use Rattle.sctp_directions.specs.Events.{IsPlainEvent, IsReceived, IsSentOn, KeepsWithin}
@@ -37,7 +37,7 @@ WritesAreAccepted = (p : Parts) (id : ℕ) (bytes : List ℕ) (t : StreamView) (
 -- A piece that goes out again is that of its offset, and is DATA of the direction.
 abbrev pub PiecesAreGiven : Type 0
 PiecesAreGiven = (p : Parts) (index : ℕ) (w : Direction) → Can (Act.SentAgain index) p
-    → Invariant w → IsPlain w → FitsOutgoing (sending p) w
+    → Invariant w → FitsOutgoing (sending p) w
     → FitsOutgoing (sending (done (Act.SentAgain index) p)) (happens w (Event.Resend (w.sender.reach + index)))
     × AllByRecursion (IsGiven p.history.own (happens w (Event.Resend (w.sender.reach + index))))
     (data_given (Act.SentAgain index) p)
@@ -47,12 +47,13 @@ abbrev pub MarksAreNoEvents : Type 0
 MarksAreNoEvents = (p : Parts) (w : Direction) → FitsOutgoing (sending p) w
     → FitsOutgoing (sending (done Act.Marked p)) w
 
--- What a SACK acknowledges at the association, it acknowledges at the direction's sender.
+-- What a SACK acknowledges at the association, by its point and by its gap ack blocks, it acknowledges at the
+-- direction's sender.
 abbrev pub AcknowledgementsAreAlike : Type 0
-AcknowledgementsAreAlike = (p : Parts) (n k : ℕ) (x : Sack) (w : Direction) → slice_get w.sacks k ≡ Some x
-    → x.reach ≡ w.sender.reach + n
-    → n ≤ length p.queue.in_flight → Invariant w → IsPlain w → FitsOutgoing (sending p) w
-    → FitsOutgoing (sending (done (Act.Acknowledged n) p)) (happens w (Event.SackComes k))
+AcknowledgementsAreAlike = (p : Parts) (n k : ℕ) (c : ChunkSelectiveAck) (x : Sack) (w : Direction)
+    → slice_get w.sacks k ≡ Some x → SaysWhatWasTaken p.history.own x.reach x.above c → x.reach ≡ w.sender.reach + n
+    → n ≤ length p.queue.in_flight → Invariant w → FitsOutgoing (sending p) w
+    → FitsOutgoing (sending (done (Act.Acknowledged n c.gap_ack_blocks) p)) (happens w (Event.SackComes k))
 
 -- A SACK that was made, and that acknowledges so many pieces at the association, acknowledges so many offsets.
 abbrev pub SacksMeanTheSame : Type 0
@@ -63,14 +64,15 @@ SacksMeanTheSame = (p : Parts) (n t k : ℕ) (x : Sack) (w : Direction) → slic
 
 -- What comes to it
 
--- DATA that is taken in stands at the receiver's reach, and comes to that receiver.
+-- New DATA that is taken in, in whatever order, stands on the offset that its TSN spells, and comes to the direction's
+-- receiver.
 abbrev pub WhatIsTakenInComes : Type 0
 WhatIsTakenInComes = (p : Parts) (piece : ChunkPayloadData) (k : ℕ) (d : Data) (t : StreamView) (w : Direction)
     → Can (Act.Took piece) p
     → slice_get w.datas k ≡ Some d → IsSaid p.history.peer piece d
     → stream_at p.streams piece.stream_identifier ≡ Some t → w.over piece.stream_identifier ≡ false
     → IsWithin w → Invariant w → FitsIncoming (receiving p) w
-    → (d.offset ≡ reach w.receiver)
+    → (d.offset ≡ offset_in p.history piece.tsn)
     × FitsIncoming (receiving (done (Act.Took piece) p)) (happens w (Event.DataComes k))
 
 -- A report makes a SACK, and any chunk that says what came to the association is that one: its point and its set are
@@ -157,7 +159,7 @@ ClosedReceiversAreNotOpen = (w : Direction) → (happens w Event.Close).receiver
 -- A direction stays plain. It stays within the limits where a SACK or DATA comes, a SACK is made, a stream is opened or
 -- the receiver closes.
 abbrev pub PlainEventsKeepItPlain : Type 0
-PlainEventsKeepItPlain = (w : Direction) (e : Event) → IsPlainEvent w e → IsPlain w → IsPlain (happens w e)
+PlainEventsKeepItPlain = (w : Direction) (e : Event) → IsPlainEvent e → IsPlain w → IsPlain (happens w e)
 
 abbrev pub EventsKeepTheLimits : Type 0
 EventsKeepTheLimits = (w : Direction) (e : Event) → KeepsWithin e → IsWithin w → IsWithin (happens w e)

@@ -1,5 +1,4 @@
--- A direction as associations use it so far: no message is given up, nothing is skipped, DATA is taken in where it is
--- next in order alone, and no span ends; and streams as they are used so far.
+-- A direction as associations use it so far: no message is given up, nothing is skipped, and no span ends.
 use Rattle.std.specs.Prelude.{◌≡◌, ℕ, ◌<◌, true, false, List, [], nat_lt, Some}
 use Rattle.std.specs.List.{AllByRecursion}
 use Rattle.sctp_wire_types.specs.Ids.{number_of}
@@ -9,7 +8,7 @@ use Rattle.sctp_model.specs.Messages.{Message, Policy}
 use Rattle.sctp_model.specs.Packets.{Sack, mem}
 use Rattle.sctp_model.specs.Machine.{Direction, reach}
 
--- a message as a stream of ordered, reliable messages accepts it
+-- a message as it is accepted on a stream
 abbrev pub message_on : StreamView → List ℕ → Message
 message_on t bytes = record {
   payload_type = number_of t.default_payload_type;
@@ -22,11 +21,7 @@ message_on t bytes = record {
 abbrev pub AreOrderedAndReliable : StreamMap → Type 0
 AreOrderedAndReliable m = (s : ℕ) (t : StreamView) → stream_at m s ≡ Some t → t.params ≡ ordered_and_reliable
 
--- The direction is as associations use it so far.
 pub record IsPlain (w : Direction) : Type 0 where
   pub stays : (s i : ℕ) → w.sender.gone s i ≡ false
-  pub acknowledged : (o : ℕ) → w.sender.acknowledged o ≡ nat_lt o w.sender.reach
-  pub sacks : AllByRecursion (λ (k : Sack). k.above ≡ []) w.sacks
-  pub taken : (o : ℕ) → mem o w.receiver.taken ≡ true → o < reach w.receiver
   pub unskipped : w.receiver.passed ≡ 0
   pub span : (s : ℕ) → w.over s ≡ false
