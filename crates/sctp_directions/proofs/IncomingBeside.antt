@@ -1,8 +1,8 @@
 -- What an association does as a sender leaves it where it stands as a receiver: it changes nothing of what is held of
 -- any stream.
-use Rattle.std.proofs.Common.{◌≡◌, refl, sym, ap, ◌∙◌, subst, subst₂, ⊎_elim, ℕ, zero, suc, true, false, eqb, List}
-use Rattle.std.proofs.Common.{length, Option, Some, None}
-use Rattle.std.specs.Prelude.{⊤, slice_get}
+use Rattle.std.proofs.Common.{◌≡◌, refl, sym, ap, ◌∙◌, subst, subst₂, ⊎_elim, ℕ, suc, Bool, true, false, cond, eqb}
+use Rattle.std.proofs.Common.{List, [], ◌∷◌, length, Option, Some, None}
+use Rattle.std.specs.Prelude.{⊤}
 use Rattle.std.proofs.lemmas.Bool.{cases_Bool, cond-true, cond-false, cond_both, eqb-true}
 use Rattle.sctp_outbound_queue.specs.declared.message.InFlight.{InFlight}
 use Rattle.sctp_outbound_queue.specs.Message.{outstanding_bytes}
@@ -13,10 +13,9 @@ use Rattle.sctp_model.specs.Messages.{Plan}
 use Rattle.sctp_model.specs.Reassembly.{Queue}
 use Rattle.sctp_model.specs.Machine.{Direction}
 use Rattle.sctp_fit.specs.Incoming.{FitsIncoming, IsQueueAt, Receiving}
-use Rattle.sctp_fit.specs.Outgoing.{Sending}
-use Rattle.sctp_fit.specs.Points.{first_acknowledged, so_many}
+use Rattle.sctp_fit.specs.Acknowledgements.{released_among}
 use Rattle.sctp_fit.proofs.StreamsThere.{at_with}
-use Rattle.sctp_directions.specs.Acts.{Act, Parts, receiving, sending, with_written}
+use Rattle.sctp_directions.specs.Acts.{Act, Parts, is_acknowledged_by, receiving, with_written}
 use Rattle.sctp_directions.specs.Laws.{OwnActsLeaveWhatComes}
 
 -- Streams of which the same is held
@@ -91,14 +90,15 @@ after_same (Some x) m n = cond_both (is_generation (stream_at m x.message.stream
     (λ b. changed_same (λ t. released_from t (outstanding_bytes x)) (λ t. refl) m x.message.stream_identifier n)
     (λ b. same_held (stream_at m n))
 
--- and releasing those of the first pieces in flight leaves what came as it is
-released_fits : (n : ℕ) (b : Sending) (a : Receiving) (w : Direction)
-    → FitsIncoming (record a { streams = b.streams }) w
-    → FitsIncoming (record a { streams = (so_many n b).streams }) w
-released_fits zero b a w fits = fits
-released_fits (suc n) b a w fits = released_fits n (first_acknowledged b) a w
-    (fits_streams (record a { streams = b.streams }) (first_acknowledged b).streams w
-    (after_same (slice_get b.queue.in_flight 0) b.streams) fits)
+-- and releasing those of the named pieces leaves what came as it is
+released_fits : (named : ℕ → Bool) (j : ℕ) (xs : List InFlight) (m : StreamMap) (a : Receiving) (w : Direction)
+    → FitsIncoming (record a { streams = m }) w → FitsIncoming (record a { streams = released_among named j xs m }) w
+released_fits named j [] m a w fits = fits
+released_fits named j (x ∷ xs) m a w fits =
+    released_fits named (suc j) xs (cond (named j) (streams_after (Some x) m) m) a w
+    (fits_streams (record a { streams = m }) (cond (named j) (streams_after (Some x) m) m) w
+    (λ n. cond_both (named j) (streams_after (Some x) m) m (λ z. IsSameHeld (stream_at m n) (stream_at z n))
+    (λ b. after_same (Some x) m n) (λ b. same_held (stream_at m n))) fits)
 
 -- acts of its own DATA leave an association as a receiver
 pub own_acts_leave_what_comes : OwnActsLeaveWhatComes
@@ -108,7 +108,8 @@ own_acts_leave_what_comes (Act.Wrote id bytes) p w own fits = wrote_fits (stream
 own_acts_leave_what_comes (Act.Sent now) p w own fits = fits
 own_acts_leave_what_comes (Act.SentAgain index) p w own fits = fits
 own_acts_leave_what_comes Act.Marked p w own fits = fits
-own_acts_leave_what_comes (Act.Acknowledged n) p w own fits = released_fits n (sending p) (receiving p) w fits
+own_acts_leave_what_comes (Act.Acknowledged n blocks) p w own fits =
+    released_fits (is_acknowledged_by n blocks) 0 p.queue.in_flight p.streams (receiving p) w fits
 own_acts_leave_what_comes (Act.Took piece) p w own fits = absurd own
 own_acts_leave_what_comes Act.Reported p w own fits = absurd own
 own_acts_leave_what_comes (Act.WasRead id) p w own fits = absurd own

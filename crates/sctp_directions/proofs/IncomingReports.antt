@@ -41,8 +41,7 @@ made_says : (initial : ℕ) (r : Receiver) (c : ChunkSelectiveAck) → SaysWhatW
     → SaysWhatWasTaken initial (reach r) (sack_of r).above c
 made_says initial r c says = record {
   at = says.at;
-  set = λ o some small. says.set o some small
-      ∙ sym (above_from r (reach r + o - 1) (on_from (reach r) o some));
+  set = λ o some. says.set o some ∙ sym (above_from r (reach r + o - 1) (on_from (reach r) o some));
 }
 
 -- an association that reports makes a SACK, and what says what came to the association is that one

@@ -1,21 +1,23 @@
--- The DATA that an association takes in is the DATA at the receiver's reach, and one event of its direction.
-use Rattle.std.proofs.Common.{◌≡◌, sym, ap, ◌∙◌, subst, ⊎_elim, ℕ, ◌^◌, ◌<◌, ◌≤◌, arith, true, not, length}
+-- The new DATA that an association takes in stands on the offset that its TSN spells, and is one event of its
+-- direction.
+use Rattle.std.proofs.Common.{◌≡◌, sym, ap, ◌∙◌, subst, ⊎_elim, ℕ, ◌+◌, ◌^◌, ◌<◌, ◌≤◌, arith, true, false, not, leb}
+use Rattle.std.proofs.Common.{List, length}
 use Rattle.std.proofs.lemmas.Bool.{and_from, cases_lt, le-leb}
-use Rattle.sctp_serial.specs.Serial.{tsn}
+use Rattle.sctp_serial.specs.Serial.{tsn, tsn_past}
 use Rattle.sctp_model.specs.Packets.{mem}
 use Rattle.sctp_model.specs.Machine.{Direction, Event, Receiver, happens, is_new, reach}
 use Rattle.sctp_model.specs.Invariants.{Invariant, IsPiece}
 use Rattle.sctp_model.proofs.Lists.{all_get}
-use Rattle.sctp_model.proofs.OffsetSets.{reach_below, reach_stops}
+use Rattle.sctp_model.proofs.OffsetSets.{reach_below}
 use Rattle.sctp_fit.specs.Arrivals.{took}
 use Rattle.sctp_fit.specs.Incoming.{FitsIncoming}
-use Rattle.sctp_fit.proofs.DataTaken.{new_tsns_spell_their_offsets, same_reach}
+use Rattle.sctp_fit.proofs.DataTaken.{same_reach}
 use Rattle.sctp_fit.proofs.DataTaken as fit
-use Rattle.sctp_directions.specs.Acts.{offset_in, receiving}
+use Rattle.sctp_directions.specs.Acts.{offset_in, reach_in, receiving}
 use Rattle.sctp_directions.specs.Laws.{WhatIsTakenInComes}
 
 -- each offset below the receiver's reach was assigned
-reach_known : (w : Direction) → Invariant w → reach w.receiver ≤ length w.sender.plan.places
+pub reach_known : (w : Direction) → Invariant w → reach w.receiver ≤ length w.sender.plan.places
 reach_known w inv =
     ⊎_elim
     (λ (b : length w.sender.plan.places < reach w.receiver). absurd (⊎_elim
@@ -25,36 +27,51 @@ reach_known w inv =
     (λ (g : reach w.receiver ≤ length w.sender.plan.places). g)
     (cases_lt (length w.sender.plan.places) (reach w.receiver))
 
--- the first offset that neither came nor was passed over is new
-reach_is_new : (r : Receiver) → is_new r (reach r) ≡ true
-reach_is_new r =
-    and_from _ (not (mem (reach r) r.taken)) (le-leb (reach r) (reach r) (omega arith)) (ap not (reach_stops r))
+-- a TSN spells its offset, where that and the reach lie below half the range and it is not far past the reach
+spelt_near : (initial reach o : ℕ) → reach < 2 ^ 31 → o < 2 ^ 31
+    → reach + tsn_past (tsn initial reach) (tsn initial o) < reach + 65535
+    → o ≡ reach + tsn_past (tsn initial reach) (tsn initial o)
+spelt_near initial reach o r s near = omega arith
 
--- a TSN spells one offset below half the range
-same_offset : (initial o q l : ℕ) → tsn initial o ≡ tsn initial q → o < l → q ≤ l → l < 2 ^ 31 → o ≡ q
-same_offset initial o q l e a b c = omega arith
+-- the offset of a new TSN is new at the receiver
+new_at : (r : Receiver) (at o : ℕ) (taken : List ℕ) → at ≡ reach r → taken ≡ r.taken → at ≤ o → mem o taken ≡ false
+    → is_new r o ≡ true
+new_at r at o taken reached same past missing =
+    and_from (leb (reach r) o) (not (mem o r.taken)) (le-leb (reach r) o (omega arith))
+    (ap (λ z. not (mem o z)) (sym same) ∙ ap not missing)
 
--- an association that takes in the DATA at its reach does what the model's receiver does
+-- an association that takes in new DATA does what the model's receiver does
 pub what_is_taken_in_comes : WhatIsTakenInComes
 what_is_taken_in_comes p piece k d t w can e said there span within inv fits = (
   here,
-  subst (λ o. FitsIncoming (took (receiving p) piece o) (happens w (Event.DataComes k))) (sym spelt)
+  subst (λ o. FitsIncoming (took (receiving p) piece o) (happens w (Event.DataComes k))) here
       (fit.what_is_taken_in_comes (receiving p) piece k d t 0 w e said new there span within inv fits).0,
 )
   where
     given : IsPiece w.sender.plan d
     given = all_get (IsPiece w.sender.plan) w.datas k d e inv.datas
 
-    at : tsn p.history.peer d.offset ≡ tsn p.history.peer (reach w.receiver)
-    at = sym said.carries.tsn ∙ can ∙ ap (tsn p.history.peer) (same_reach (receiving p) w fits)
+    reached : reach_in p.history ≡ reach w.receiver
+    reached = same_reach (receiving p) w fits
 
-    here : d.offset ≡ reach w.receiver
+    small : d.offset < 2 ^ 31
+    small = let l = given.known in let m = within.offsets in omega arith
+
+    reach_small : reach_in p.history < 2 ^ 31
+    reach_small = let e = reached in let l = reach_known w inv in let m = within.offsets in omega arith
+
+    -- the offset that a TSN spells past the reach
+    spelt : ℕ → ℕ
+    spelt t = reach_in p.history + tsn_past (tsn p.history.peer (reach_in p.history)) t
+
+    here : d.offset ≡ offset_in p.history piece.tsn
     here =
-        same_offset p.history.peer d.offset (reach w.receiver) (length w.sender.plan.places) at given.known
-        (reach_known w inv) within.offsets
+        spelt_near p.history.peer (reach_in p.history) d.offset reach_small small
+        (subst (λ t. spelt t < reach_in p.history + 65535) said.carries.tsn can.near)
+        ∙ ap spelt (sym said.carries.tsn)
 
     new : is_new w.receiver d.offset ≡ true
-    new = ap (is_new w.receiver) here ∙ reach_is_new w.receiver
-
-    spelt : offset_in p.history piece.tsn ≡ d.offset
-    spelt = new_tsns_spell_their_offsets (receiving p) piece k d w e said new within inv fits
+    new =
+        new_at w.receiver (reach_in p.history) d.offset p.history.taken reached fits.taken
+        (let e = here in omega arith)
+        (ap (λ o. mem o p.history.taken) here ∙ can.missing)

@@ -2,7 +2,7 @@
 use Rattle.std.proofs.Common.{◌≡◌, ◌⊎◌, refl, sym, ap, ap₂, ◌∙◌, subst, ⊎_elim, inl, inr, ℕ, zero, suc, ◌<◌, ◌≤◌}
 use Rattle.std.proofs.Common.{arith, Bool, true, eqb, if◌then◌else◌, length, List, [], ◌∷◌, ◌++◌, Option, Some, None}
 use Rattle.std.specs.Prelude.{◌==◌, slice_get}
-use Rattle.std.proofs.lemmas.Bool.{cases_eq, cond-false, cond-true, cond_both, eq-eqb, false≢true, le-ltb, ne_eqb}
+use Rattle.std.proofs.lemmas.Bool.{cases_eq, cond-false, cond-true, cond_both, eq-eqb, ne_eqb}
 use Rattle.std.proofs.lemmas.List.{append-nil}
 use Rattle.sctp_model.specs.Messages.{Message, Policy, as_kept}
 use Rattle.sctp_model.specs.Packets.{Data, mem}
@@ -260,7 +260,7 @@ plain_events_keep_it_plain w (Event.Resend o) e h = plain_resend w o h
 plain_events_keep_it_plain w (Event.Abandon s i) e h = absurd e
 plain_events_keep_it_plain w (Event.SackComes k) e h = plain_sack_comes w k h
 plain_events_keep_it_plain w Event.ForwardMade e h = absurd e
-plain_events_keep_it_plain w (Event.DataComes k) (d, there, at) h = plain_data w k d there at h
+plain_events_keep_it_plain w (Event.DataComes k) e h = plain_data w k h
 plain_events_keep_it_plain w Event.SackMade e h = plain_sack w h
 plain_events_keep_it_plain w (Event.ForwardComes k) e h = absurd e
 plain_events_keep_it_plain w (Event.Open s) e h = plain_open w s h
@@ -293,13 +293,6 @@ events_keep_the_limits w (Event.Replace s q) e h = absurd e
 -- Nothing happened yet.
 pub fresh_directions_are_plain : FreshDirectionsArePlain
 fresh_directions_are_plain size = (
-  record {
-    stays = λ s i. refl;
-    acknowledged = λ o. sym (le-ltb o 0 (omega arith));
-    sacks = tt;
-    taken = λ o m. absurd (false≢true m);
-    unskipped = refl;
-    span = λ s. refl;
-  },
+  record { stays = λ s i. refl; unskipped = refl; span = λ s. refl },
   record { offsets = omega arith; flight = omega arith; unread = λ s. omega arith },
 )

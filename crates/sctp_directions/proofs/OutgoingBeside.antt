@@ -1,9 +1,8 @@
 -- What an association does for the direction that comes to it leaves how it stands as the sender of its own; and
 -- nothing that it does makes a stream write other messages than ordered, reliable ones.
-use Rattle.std.proofs.Common.{◌≡◌, refl, sym, ap, ◌∙◌, subst, ⊎_elim, ℕ, zero, suc, ◌+◌, true, false}
+use Rattle.std.proofs.Common.{◌≡◌, refl, sym, ap, ◌∙◌, subst, ⊎_elim, ℕ, suc, ◌+◌, Bool, true, false, cond}
 use Rattle.std.proofs.Common.{List, [], ◌∷◌, length, Option, Some, None, is_some, Ordering, Less, Equal, Greater}
 use Rattle.std.proofs.Common.{is_eq, nat_cmp}
-use Rattle.std.specs.Prelude.{slice_get}
 use Rattle.std.specs.Ordering.{match_ordering}
 use Rattle.std.specs.BTreeMap.{is_at, insert_entry}
 use Rattle.std.specs.Map.{lookup}
@@ -20,9 +19,9 @@ use Rattle.sctp_streams.specs.Streams.{StreamMap, change_at, is_generation, made
 use Rattle.sctp_streams.specs.Streams.{stream_at, with_stream}
 use Rattle.sctp_model.specs.Machine.{Direction}
 use Rattle.sctp_fit.specs.Outgoing.{FitsOutgoing, IsNumbered, IsOwnAt, Sending, numbers_after}
-use Rattle.sctp_fit.specs.Points.{first_acknowledged, so_many}
+use Rattle.sctp_fit.specs.Acknowledgements.{released_among}
 use Rattle.sctp_fit.proofs.StreamsChanged.{each_with}
-use Rattle.sctp_directions.specs.Acts.{Act, Parts, sending, with_written}
+use Rattle.sctp_directions.specs.Acts.{Act, Parts, is_acknowledged_by, sending, with_written}
 use Rattle.sctp_directions.specs.Plain.{AreOrderedAndReliable}
 use Rattle.sctp_directions.specs.Laws.{StreamsStayOrderedAndReliable, WhatComesLeavesItsOwn}
 
@@ -91,7 +90,7 @@ what_comes_leaves_its_own (Act.Wrote id bytes) p w coming f = absurd coming
 what_comes_leaves_its_own (Act.Sent now) p w coming f = absurd coming
 what_comes_leaves_its_own (Act.SentAgain index) p w coming f = absurd coming
 what_comes_leaves_its_own Act.Marked p w coming f = absurd coming
-what_comes_leaves_its_own (Act.Acknowledged n) p w coming f = absurd coming
+what_comes_leaves_its_own (Act.Acknowledged n blocks) p w coming f = absurd coming
 what_comes_leaves_its_own (Act.Took piece) p w coming f =
     took_at (stream_at p.streams piece.stream_identifier) (sending p) piece w refl f
 what_comes_leaves_its_own Act.Reported p w coming f = f
@@ -141,12 +140,14 @@ plain_released (Some x) m plain =
     plain)
     (λ b. plain)
 
--- the first pieces in flight were acknowledged
-plain_acknowledged : (n : ℕ) (a : Sending) → AreOrderedAndReliable a.streams
-    → AreOrderedAndReliable (so_many n a).streams
-plain_acknowledged zero a plain = plain
-plain_acknowledged (suc n) a plain =
-    plain_acknowledged n (first_acknowledged a) (plain_released (slice_get a.queue.in_flight 0) a.streams plain)
+-- what the named pieces had outstanding was released
+plain_acknowledged : (named : ℕ → Bool) (j : ℕ) (xs : List InFlight) (m : StreamMap) → AreOrderedAndReliable m
+    → AreOrderedAndReliable (released_among named j xs m)
+plain_acknowledged named j [] m plain = plain
+plain_acknowledged named j (x ∷ xs) m plain =
+    plain_acknowledged named (suc j) xs (cond (named j) (streams_after (Some x) m) m)
+    (cond_both (named j) (streams_after (Some x) m) m AreOrderedAndReliable (λ b. plain_released (Some x) m plain)
+    (λ b. plain))
 
 -- a write was accepted
 plain_written : (o : Option StreamView) (p : Parts) (id : ℕ) (bytes : List ℕ) → AreOrderedAndReliable p.streams
@@ -215,7 +216,8 @@ streams_stay_ordered_and_reliable (Act.Wrote id bytes) p plain =
 streams_stay_ordered_and_reliable (Act.Sent now) p plain = plain
 streams_stay_ordered_and_reliable (Act.SentAgain index) p plain = plain
 streams_stay_ordered_and_reliable Act.Marked p plain = plain
-streams_stay_ordered_and_reliable (Act.Acknowledged n) p plain = plain_acknowledged n (sending p) plain
+streams_stay_ordered_and_reliable (Act.Acknowledged n blocks) p plain =
+    plain_acknowledged (is_acknowledged_by n blocks) 0 p.queue.in_flight p.streams plain
 streams_stay_ordered_and_reliable (Act.Took piece) p plain =
     plain_pushed (stream_at p.streams piece.stream_identifier) p.streams piece.stream_identifier piece refl plain
 streams_stay_ordered_and_reliable Act.Reported p plain = plain

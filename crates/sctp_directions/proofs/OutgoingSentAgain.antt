@@ -1,64 +1,36 @@
 -- A piece that an association sends again is DATA that the direction gives out again; marks for that say nothing to the
 -- direction.
-use Rattle.std.proofs.Common.{◌≡◌, refl, ap, ◌∙◌, ℕ, zero, suc, ◌+◌, ◌<◌, Bool, true, false, not, ◌&&◌}
-use Rattle.std.proofs.Common.{List, [], ◌∷◌, length, map, Option, Some, None, arith}
+use Rattle.std.proofs.Common.{◌≡◌, refl, ℕ, ◌+◌, Bool, true}
+use Rattle.std.proofs.Common.{List, [], ◌∷◌, map, Option, Some, None}
 use Rattle.std.specs.Prelude.{slice_get}
 use Rattle.std.specs.List.{AllByRecursion}
-use Rattle.std.proofs.lemmas.Bool.{cond_both, le-ltb}
+use Rattle.std.proofs.lemmas.Bool.{cond_both, false≢true}
 use Rattle.sctp_serial.specs.Serial.{tsn}
 use Rattle.sctp_outbound_queue.specs.declared.message.InFlight.{InFlight}
 use Rattle.sctp_outbound_queue.specs.Message.{is_outstanding, marked_again}
 use Rattle.sctp_model.specs.Invariants.{Invariant}
 use Rattle.sctp_model.specs.Machine.{Direction, Event, happens}
-use Rattle.sctp_fit.specs.Outgoing.{FitsOutgoing, IsInFlight}
+use Rattle.sctp_fit.specs.Outgoing.{FitsOutgoing}
 use Rattle.sctp_fit.specs.Sendings.{AreSamePieces, IsGiven, IsSamePiece}
 use Rattle.sctp_fit.proofs.Marks as marks
 use Rattle.sctp_fit.proofs.SentAgain as again
-use Rattle.sctp_directions.specs.Acts.{Act, Can, Parts, chunk_said, done, sending}
-use Rattle.sctp_directions.specs.Plain.{IsPlain}
+use Rattle.sctp_directions.specs.Acts.{Act, Parts, can_go_again, chunk_said, done, sending}
 use Rattle.sctp_directions.specs.Laws.{MarksAreNoEvents, PiecesAreGiven}
 
--- each index below the length has a member
-found : {X : Type 0} (xs : List X) (k : ℕ) → k < length xs → slice_get xs k ≡ None → ⊥
-found [] k l e = omega arith
-found (x ∷ xs) zero l e = cc
-found (x ∷ xs) (suc k) l e = found xs k (omega arith) e
-
--- a piece in flight of a plain direction is outstanding
-plain_outstanding : (p : Parts) (index : ℕ) (x : InFlight) (w : Direction)
-    → slice_get p.queue.in_flight index ≡ Some x → IsPlain w → FitsOutgoing (sending p) w
-    → is_outstanding x ≡ true
-plain_outstanding p index x w e h f = ap (λ b. not b && not x.abandoned) unacked ∙ ap not stays
-  where
-    here : IsInFlight f.named w.sender.plan w.sender.acknowledged w.sender.gone (w.sender.reach + index) x
-    here =
-        again.flight_at f.named w.sender.plan w.sender.acknowledged w.sender.gone w.sender.reach p.queue.in_flight index
-        x e f.flight
-
-    unacked : x.acked ≡ false
-    unacked =
-        here.acked ∙ h.acknowledged (w.sender.reach + index)
-        ∙ le-ltb (w.sender.reach + index) w.sender.reach (omega arith)
-
-    stays : x.abandoned ≡ false
-    stays = here.abandoned ∙ h.stays _ _
-
--- what goes out again is the piece, if there is one
-pieces_given : (p : Parts) (index : ℕ) (o : Option InFlight) (w : Direction) → Can (Act.SentAgain index) p
-    → slice_get p.queue.in_flight index ≡ o → Invariant w → IsPlain w → FitsOutgoing (sending p) w
+-- what goes out again is the piece, which is there and outstanding
+pieces_given : (p : Parts) (index : ℕ) (o : Option InFlight) (w : Direction) → can_go_again o ≡ true
+    → slice_get p.queue.in_flight index ≡ o → Invariant w → FitsOutgoing (sending p) w
     → FitsOutgoing (sending (done (Act.SentAgain index) p)) (happens w (Event.Resend (w.sender.reach + index)))
     × AllByRecursion (IsGiven p.history.own (happens w (Event.Resend (w.sender.reach + index))))
     (chunk_said o (tsn p.history.own (p.history.base + index)))
-pieces_given p index None w can e inv h f = absurd (found p.queue.in_flight index can e)
-pieces_given p index (Some x) w can e inv h f =
-    let given =
-    again.pieces_are_given p.history.own (sending p) index x w e (plain_outstanding p index x w e h f) inv f in
-    (given.0, (given.1, tt))
+pieces_given p index None w can e inv f = absurd (false≢true can)
+pieces_given p index (Some x) w can e inv f =
+    let given = again.pieces_are_given p.history.own (sending p) index x w e can inv f in (given.0, (given.1, tt))
 
 -- An association sends a piece again: the direction gives out the DATA of its offset again.
 pub pieces_are_given : PiecesAreGiven
-pieces_are_given p index w can inv h f =
-    pieces_given p index (slice_get p.queue.in_flight index) w can refl inv h f
+pieces_are_given p index w can inv f =
+    pieces_given p index (slice_get p.queue.in_flight index) w can refl inv f
 
 -- a piece is the same one, marked or not
 same_piece : (x : InFlight) (retransmit : Bool) → IsSamePiece x (record x { retransmit = retransmit })

@@ -1,35 +1,18 @@
--- What the receiver's events keep of a plain direction, whose reach moves on with each DATA, and of the limits; and
--- that they leave the sender's side as it is.
+-- What the receiver's events keep of a plain direction and of the limits; and that they leave the sender's side as it
+-- is.
 use Rattle.std.proofs.Common.{◌≡◌, ◌⊎◌, refl, sym, ap, ◌∙◌, subst, subst₂, inl, inr, ⊎_elim, ℕ, zero, suc, ◌+◌, ◌^◌}
-use Rattle.std.proofs.Common.{◌<◌, ◌≤◌, arith, true, false, leb, List, [], ◌∷◌, ◌++◌, length, Option, Some, None}
-use Rattle.std.specs.Prelude.{filter, slice_get}
-use Rattle.std.specs.List.{AllByRecursion}
-use Rattle.std.proofs.lemmas.Bool.{cases_lt, cond_both, eq-eqb, lt-leb, true≢false}
+use Rattle.std.proofs.Common.{◌<◌, arith, true, false, List, [], ◌∷◌, ◌++◌, length, Option, Some, None}
+use Rattle.std.specs.Prelude.{slice_get}
+use Rattle.std.proofs.lemmas.Bool.{cond_both}
 use Rattle.sctp_model.specs.Packets.{Data, Sack, mem}
 use Rattle.sctp_model.specs.Reassembly.{Got, Queue, Taken, next}
-use Rattle.sctp_model.specs.Machine.{Direction, Event, Receiver, data_comes, happens, opened, put, reach, read, sack_of}
+use Rattle.sctp_model.specs.Machine.{Direction, Event, Receiver, data_comes, happens, opened, put, read, sack_of}
 use Rattle.sctp_model.specs.Machine.{took, was_read}
 use Rattle.sctp_model.specs.Safe.{IsWithin, unread}
-use Rattle.sctp_model.proofs.StreamsTakeData.{mem_new, mem_old}
-use Rattle.sctp_model.proofs.OffsetSets.{reach_grows, reach_stops}
-use Rattle.sctp_model.proofs.Lists.{all_push}
+use Rattle.sctp_model.proofs.StreamsTakeData.{mem_new}
 use Rattle.sctp_directions.specs.Events.{IsReceived}
 use Rattle.sctp_directions.specs.Plain.{IsPlain}
 use Rattle.sctp_directions.proofs.SenderEvents.{sack_cases}
-
--- The reach
-
--- DATA at the reach moves it on
-past_reach : (r : Receiver) (d : Data) → d.offset ≡ reach r → reach r < reach (took r d)
-past_reach r d e = ⊎_elim
-    (λ (b : reach r < reach (took r d)). b)
-    (λ (b : reach (took r d) ≤ reach r).
-    let g = reach_grows r (took r d) (λ o m. mem_old d.offset o r.taken m) (omega arith) in
-    absurd (true≢false (sym (here (reach (took r d)) (omega arith)) ∙ reach_stops (took r d))))
-    (cases_lt (reach r) (reach (took r d)))
-  where
-    here : (o : ℕ) → d.offset ≡ o → mem o (d.offset ∷ r.taken) ≡ true
-    here o c = rw (eq-eqb d.offset o c) refl
 
 -- The events, by their cases
 
@@ -61,68 +44,38 @@ read_cases P w s h f = queued (w.receiver.queues s) refl
 
 -- A plain direction stays plain
 
-none_above : (n : ℕ) (xs : List ℕ) → ((o : ℕ) → mem o xs ≡ true → o < n) → filter (λ (o : ℕ). leb n o) xs ≡ []
-none_above n [] h = refl
-none_above n (x ∷ xs) h =
-    let l : x < n = h x (rw (eq-eqb x x refl) refl) in
-    rw (lt-leb n x l) (none_above n xs (λ o m. h o (mem_old x o xs m)))
-
 -- what a plain direction asks of its receiver's side
-plain_by : (w : Direction) (r : Receiver) (sacks : List Sack) (reads : ℕ → List Got)
-    → AllByRecursion (λ (k : Sack). k.above ≡ []) sacks
-    → ((o : ℕ) → mem o r.taken ≡ true → o < reach r) → r.passed ≡ 0 → IsPlain w
+plain_by : (w : Direction) (r : Receiver) (sacks : List Sack) (reads : ℕ → List Got) → r.passed ≡ 0 → IsPlain w
     → IsPlain (record w { receiver = r; sacks = sacks; reads = reads })
-plain_by w r sacks reads above taken passed h = record {
-  stays = h.stays;
-  acknowledged = h.acknowledged;
-  sacks = above;
-  taken = taken;
-  unskipped = passed;
-  span = h.span;
-}
+plain_by w r sacks reads passed h = record { stays = h.stays; unskipped = passed; span = h.span }
 
--- a direction stays plain when the DATA at its reach comes
-pub plain_data : (w : Direction) (k : ℕ) (d : Data) → slice_get w.datas k ≡ Some d → d.offset ≡ reach w.receiver
-    → IsPlain w → IsPlain (happens w (Event.DataComes k))
-plain_data w k d e p h = data_cases IsPlain w k h
-    (λ c f. taken c (ap (λ (z : Option Data). offset_of z) (sym f ∙ e) ∙ p))
-  where
-    offset_of : Option Data → ℕ
-    offset_of None = 0
-    offset_of (Some x) = x.offset
+-- a direction stays plain when DATA comes, in whatever order
+pub plain_data : (w : Direction) (k : ℕ) → IsPlain w → IsPlain (happens w (Event.DataComes k))
+plain_data w k h =
+    data_cases IsPlain w k h (λ d e. plain_by w (took w.receiver d) w.sacks w.reads h.unskipped h)
 
-    taken : (c : Data) → c.offset ≡ reach w.receiver → IsPlain (record w { receiver = took w.receiver c })
-    taken c q = plain_by w (took w.receiver c) w.sacks w.reads h.sacks
-        (λ o m. let g = past_reach w.receiver c q in ⊎_elim
-        (λ (b : c.offset ≡ o). omega arith)
-        (λ (b : mem o w.receiver.taken ≡ true). let l = h.taken o b in omega arith)
-        (mem_new c.offset o w.receiver.taken m))
-        h.unskipped h
-
--- it stays plain when its receiver reports: nothing is held above the reach
+-- it stays plain when its receiver reports
 pub plain_sack : (w : Direction) → IsPlain w → IsPlain (happens w Event.SackMade)
 unfolding happens
-plain_sack w h = plain_by w w.receiver (w.sacks ++ sack_of w.receiver ∷ []) w.reads
-    (all_push (λ (k : Sack). k.above ≡ []) w.sacks (sack_of w.receiver) h.sacks
-    (none_above (reach w.receiver) w.receiver.taken h.taken)) h.taken h.unskipped h
+plain_sack w h = plain_by w w.receiver (w.sacks ++ sack_of w.receiver ∷ []) w.reads h.unskipped h
 
 -- it stays plain when a stream is opened
 pub plain_open : (w : Direction) (s : ℕ) → IsPlain w → IsPlain (happens w (Event.Open s))
 unfolding happens
 plain_open w s h =
     plain_by w (record w.receiver { queues = put w.receiver.queues s (opened (w.receiver.queues s)) }) w.sacks w.reads
-    h.sacks h.taken h.unskipped h
+    h.unskipped h
 
 -- it stays plain when a stream is read
 pub plain_read : (w : Direction) (s : ℕ) → IsPlain w → IsPlain (happens w (Event.Read s))
 plain_read w s h = read_cases IsPlain w s h
     (λ q t e f. plain_by w (record w.receiver { queues = put w.receiver.queues s (Some t.rest) }) w.sacks
-    (put w.reads s (w.reads s ++ t.got ∷ [])) h.sacks h.taken h.unskipped h)
+    (put w.reads s (w.reads s ++ t.got ∷ [])) h.unskipped h)
 
 -- it stays plain when the receiver closes
 pub plain_close : (w : Direction) → IsPlain w → IsPlain (happens w Event.Close)
 unfolding happens
-plain_close w h = plain_by w (record w.receiver { is_open = false }) w.sacks w.reads h.sacks h.taken h.unskipped h
+plain_close w h = plain_by w (record w.receiver { is_open = false }) w.sacks w.reads h.unskipped h
 
 -- What the receiver's events leave
 

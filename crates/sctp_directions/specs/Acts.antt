@@ -78,8 +78,8 @@ pub data Act : Type 0 where
   SentAgain : ℕ → Act
   -- all that is outstanding is to go out again
   Marked : Act
-  -- a SACK acknowledged so many of the first pieces in flight, and of those behind them the ones that its gap ack blocks
-  -- name
+  -- a SACK acknowledged so many of the first pieces in flight, and of those behind them the ones that its gap ack
+  -- blocks name
   Acknowledged : ℕ → List GapAckBlock → Act
   -- this DATA was taken in
   Took : ChunkPayloadData → Act

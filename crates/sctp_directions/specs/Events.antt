@@ -1,7 +1,7 @@
 -- Which events are whose, and what they leave as it was of the direction in which they happen.
 use Rattle.std.specs.Prelude.{◌≡◌, ℕ, slice_get, Some, ⊤}
 use Rattle.sctp_model.specs.Packets.{Data, Sack}
-use Rattle.sctp_model.specs.Machine.{Direction, Event, reach}
+use Rattle.sctp_model.specs.Machine.{Direction, Event}
 
 -- The direction v is w after an event of the sender: the DATA given out stays, and the receiver's side is the same.
 pub record IsSentOn (w v : Direction) : Type 0 where

@@ -10,15 +10,15 @@ use Rattle.sctp_streams.specs.Stream.{StreamView}
 use Rattle.sctp_streams.specs.Streams.{stream_at}
 use Rattle.sctp_model.specs.Messages.{Message, Policy}
 use Rattle.sctp_model.specs.Packets.{Data, Sack, mem}
-use Rattle.sctp_model.specs.Machine.{Direction, Event, fresh, happens, reach}
+use Rattle.sctp_model.specs.Machine.{Direction, Event, fresh, happens}
 use Rattle.sctp_model.specs.Invariants.{Invariant}
 use Rattle.sctp_model.specs.Safe.{IsWithin}
 use Rattle.sctp_fit.specs.Counted.{HasAccepted, all_pieces, pieces_in}
 use Rattle.sctp_fit.specs.Incoming.{FitsIncoming, IsSaid, tsn_before}
 use Rattle.sctp_fit.specs.Outgoing.{CountsBegun, FitsOutgoing}
 use Rattle.sctp_fit.specs.Sendings.{IsGiven}
-use Rattle.sctp_directions.specs.Acts.{Act, Can, IsOfItsOwn, IsOfWhatComes, MeetsNobody, Parts, data_given, done, offset_in}
-use Rattle.sctp_directions.specs.Acts.{done_all, reach_in, receiving, sending}
+use Rattle.sctp_directions.specs.Acts.{Act, Can, IsOfItsOwn, IsOfWhatComes, MeetsNobody, Parts, data_given, done}
+use Rattle.sctp_directions.specs.Acts.{done_all, offset_in, reach_in, receiving, sending}
 use Rattle.sctp_directions.specs.Events.{Accepts, Assigns, Brings, GivesAMessage, IsOfReceiving, IsOfSending}
 use Rattle.sctp_directions.specs.Events.{IsPlainEvent, IsReceived, IsSentOn, KeepsWithin}
 use Rattle.sctp_directions.specs.Plain.{AreOrderedAndReliable, IsPlain, message_on}

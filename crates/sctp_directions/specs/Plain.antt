@@ -1,12 +1,10 @@
 -- A direction as associations use it so far: no message is given up, nothing is skipped, and no span ends.
-use Rattle.std.specs.Prelude.{◌≡◌, ℕ, ◌<◌, true, false, List, [], nat_lt, Some}
-use Rattle.std.specs.List.{AllByRecursion}
+use Rattle.std.specs.Prelude.{◌≡◌, ℕ, true, false, List, Some}
 use Rattle.sctp_wire_types.specs.Ids.{number_of}
 use Rattle.sctp_streams.specs.Stream.{StreamView, ordered_and_reliable}
 use Rattle.sctp_streams.specs.Streams.{StreamMap, stream_at}
 use Rattle.sctp_model.specs.Messages.{Message, Policy}
-use Rattle.sctp_model.specs.Packets.{Sack, mem}
-use Rattle.sctp_model.specs.Machine.{Direction, reach}
+use Rattle.sctp_model.specs.Machine.{Direction}
 
 -- a message as it is accepted on a stream
 abbrev pub message_on : StreamView → List ℕ → Message
