@@ -1,3 +1,4 @@
 pub mod SenderSteps
 mod StreamReleases
 pub mod GapAcks
+pub mod Offsets

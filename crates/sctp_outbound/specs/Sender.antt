@@ -4,6 +4,7 @@ use Rattle.std.specs.Prelude.{◌*◌, ◌/◌, ◌%◌, ◌^◌, ◌==◌, ◌&
 use Rattle.std.specs.Prelude.{Option, Some, None}
 use Rattle.sctp_serial.specs.Serial.{tsn_past, tsn_gt, tsn_gte}
 use Rattle.sctp_wire_types.specs.declared.chunk.ChunkPayloadData.{ChunkPayloadData}
+use Rattle.sctp_wire_types.specs.declared.chunk.GapAckBlock.{GapAckBlock}
 use Rattle.sctp_parts.specs.declared.timer.Timer.TheVariants as names
 use Rattle.sctp_parts.specs.Timers.{Timers, with_moment, without_retries, restarted_if_stale, with_stopped}
 use Rattle.sctp_parts.specs.Estimate.{Estimate, measured}
@@ -14,6 +15,7 @@ use Rattle.sctp_outbound_queue.specs.Message.{is_outstanding, outstanding_bytes,
 use Rattle.sctp_outbound_queue.specs.Outbound.{empty_outbound, tsn_at, next_tsn_of, outstanding_of, without_first}
 use Rattle.sctp_outbound_queue.specs.Outbound.{pieces_waiting, sent_next}
 use Rattle.sctp_streams.specs.Streams.{StreamMap, released_in}
+use Rattle.sctp_outbound.specs.Offsets.{name_unsent}
 use Rattle.sctp_outbound.specs.declared.sender.Sender.{Sender}
 use Rattle.sctp_outbound.specs.declared.sender.SackOutcome.{SackOutcome}
 use Rattle.sctp_outbound.specs.declared.sender.SackOutcome.TheVariants as outcomes
@@ -96,12 +98,19 @@ abbrev pub acknowledged : ℕ → ℕ → Sender × Estimate × StreamMap → Se
 acknowledged zero now all = all
 acknowledged (suc n) now all = acknowledged n now (after_first now all)
 
--- what a cumulative TSN ack point is to the sender (RFC 4960 section 6.2.1): behind the one before it, beyond what is
--- in flight, or taken
-abbrev pub sack_outcome : Sender → ℕ → SackOutcome
-sack_outcome s cumulative_tsn_ack =
+-- the gap ack blocks behind this point name a TSN that is not in flight
+abbrev pub names_unsent : Sender → ℕ → List GapAckBlock → Bool
+names_unsent s cumulative_tsn_ack blocks =
+    name_unsent (tsns_up_to s cumulative_tsn_ack) (length s.queue.in_flight) blocks
+
+-- what a SACK with this cumulative TSN ack and these gap ack blocks is to the sender (RFC 4960 section 6.2.1): its
+-- point is behind the one before it or beyond what is in flight, or its blocks name what is not in flight, or it is
+-- taken
+abbrev pub sack_outcome : Sender → ℕ → List GapAckBlock → SackOutcome
+sack_outcome s cumulative_tsn_ack blocks =
     if tsn_gt (cumulative_tsn_ack_point_of s) cumulative_tsn_ack then outcomes.Older else
-    if nat_le (tsns_up_to s cumulative_tsn_ack) (length s.queue.in_flight) then outcomes.Taken else outcomes.NotInFlight
+    if nat_lt (length s.queue.in_flight) (tsns_up_to s cumulative_tsn_ack) then outcomes.NotInFlight else
+    if names_unsent s cumulative_tsn_ack blocks then outcomes.NamesTheUnsent else outcomes.Taken
 
 -- the window that a peer offers first is also where slow start ends
 abbrev pub with_first_window : Sender → ℕ → Sender

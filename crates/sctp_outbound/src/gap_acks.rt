@@ -1,7 +1,8 @@
 // What the gap ack blocks of a SACK acknowledge.
-ghost use Rattle.std.specs.Prelude.{◌≡◌, ◌==◌, ◌+◌, ◌<◌};
+ghost use Rattle.std.specs.Prelude.{◌↔◌, true, length, ◌≡◌, ◌==◌, ◌+◌, ◌<◌};
 ghost use Rattle.sctp_receive_queues.specs.Received.{is_named};
 ghost use Rattle.sctp_outbound.specs.Sender.{with_in_flight};
+ghost use Rattle.sctp_outbound.specs.Offsets.{NameUnsent, is_unsent_in, name_unsent};
 ghost use Rattle.sctp_outbound.specs.GapAcks.{acked_among, released_among, is_named_by};
 
 use crate::sender::{Sender, release};
@@ -9,6 +10,15 @@ use sctp_streams::Streams;
 use sctp_wire_types::{GapAckBlock, List};
 
 impl Sender {
+    // Whether a block names a TSN that is not in flight, where so many of those in flight are up to the SACK's point.
+    pub(crate) fn names_unsent(&self, count: u32, blocks: &List<GapAckBlock>) -> bool
+        ensures test { result ≡ name_unsent count (length self.now.queue.in_flight) blocks.now }
+        ensures sets { (result ≡ true) ↔ NameUnsent count (length self.now.queue.in_flight) blocks.now }
+    {
+        let in_flight = self.queue.inflight_len();
+        name_unsent(blocks, count, in_flight)
+    }
+
     /// Takes in the gap ack blocks of a SACK whose cumulative TSN ack was taken in before (RFC 4960 sections 3.3.4 and
     /// 6.2.1). The pieces in flight that a block names are acknowledged, and those bytes of them that were outstanding
     /// until then are released at their streams. Blocks may overlap, stand in any order and be empty; offsets past what
@@ -54,4 +64,23 @@ impl Sender {
             self.queue.mark_as_acked(tsn);
         }
     }
+}
+
+fn name_unsent(blocks: &List<GapAckBlock>, count: u32, in_flight: usize) -> bool
+    ensures { result ≡ name_unsent count in_flight blocks.now }
+{
+    blocks
+        .as_slice()
+        .iter()
+        .any(|block| is_unsent(block, count, in_flight))
+}
+
+// Offsets count from the SACK's point, up to which so many TSNs are in flight, of `in_flight` in all.
+fn is_unsent(block: &GapAckBlock, count: u32, in_flight: usize) -> bool
+    ensures { result ≡ is_unsent_in count in_flight block.now }
+{
+    let past = u64::from(count);
+    let first = past + u64::from(block.start);
+    let last = past + u64::from(block.end);
+    block.start <= block.end && (last > in_flight as u64 || first == 0)
 }

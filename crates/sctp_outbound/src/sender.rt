@@ -7,6 +7,7 @@ ghost use Rattle.std.specs.Prelude.{true, is_some, ◌≡◌, ◌+◌, ◌-◌, 
 ghost use Rattle.std.specs.Prelude.{OnErr, OnOk, IfOk, IfSome, length, slice_get, nat_lt};
 ghost use Rattle.sctp_outbound.specs.Sender.{goes_again, resends, sends_new, fresh_sender, window_left, marks};
 ghost use Rattle.sctp_outbound.specs.Sender.{cumulative_tsn_ack_point_of, tsns_up_to, after_first, acknowledged};
+ghost use Rattle.sctp_outbound.specs.GapAcks.{with_blocks};
 ghost use Rattle.sctp_outbound.specs.Sender.{sack_outcome, with_first_window, with_window, t3_after_sack, chunk_of};
 ghost use Rattle.sctp_outbound.specs.Sender.{next_chunk_of, data_of, can_send_next, is_measured, after_resending};
 ghost use Rattle.sctp_outbound.specs.Sender.{resent_by, alone_length, with_in_flight, resent_pieces, resent_chunks};
@@ -17,7 +18,7 @@ use sctp_outbound_queue::{Attributes, InFlight, OutboundQueue, PendingMessage};
 use sctp_parts::estimate::RtoManager;
 use sctp_parts::timer::{Timer, TimerTable};
 use sctp_streams::Streams;
-use sctp_wire_types::{ChunkPayloadData, Instant, sna32gt, sna32gte};
+use sctp_wire_types::{ChunkPayloadData, GapAckBlock, Instant, List, sna32gt, sna32gte};
 use std::alloc::{AllocError, Global};
 
 /// Bytes that a packet may have beside the payload of one DATA chunk: common header and DATA header.
@@ -28,8 +29,10 @@ const PACKET_OVERHEAD: u32 = 28;
 pub enum SackOutcome {
     /// Its cumulative TSN ack is behind what is acknowledged already; nothing changed.
     Older,
-    /// It acknowledges a TSN that is not in flight; nothing changed.
+    /// Its point acknowledges a TSN that is not in flight; nothing changed.
     NotInFlight,
+    /// One of its gap ack blocks names a TSN that is not in flight; nothing changed.
+    NamesTheUnsent,
     /// It was taken.
     Taken,
 }
@@ -96,13 +99,15 @@ impl Sender {
         }
     }
 
-    /// Takes in the cumulative TSN ack and the window of a SACK (RFC 4960 section 6.2.1).
+    /// Takes in the cumulative TSN ack, the gap ack blocks and the window of a SACK (RFC 4960 section 6.2.1). Round
+    /// trips are measured, and the retransmission timer runs, by the cumulative TSN ack alone.
     pub fn on_sack(
         &mut self,
         timers: &mut TimerTable,
         rto: &mut RtoManager,
         streams: &mut Streams,
         cumulative_tsn_ack: u32,
+        blocks: &List<GapAckBlock>,
         window: u32,
         now: Instant,
     ) -> SackOutcome
@@ -110,10 +115,12 @@ impl Sender {
             → (self.new ≡ self.old) × (timers.new ≡ timers.old) × (rto.new ≡ rto.old) × (streams.new ≡ streams.old) }
         ensures unknown { (result ≡ SackOutcome.NotInFlight)
             → (self.new ≡ self.old) × (timers.new ≡ timers.old) × (rto.new ≡ rto.old) × (streams.new ≡ streams.old) }
-        ensures outcome { result ≡ sack_outcome self.old cumulative_tsn_ack }
+        ensures unsent { (result ≡ SackOutcome.NamesTheUnsent)
+            → (self.new ≡ self.old) × (timers.new ≡ timers.old) × (rto.new ≡ rto.old) × (streams.new ≡ streams.old) }
+        ensures outcome { result ≡ sack_outcome self.old cumulative_tsn_ack blocks.now }
         ensures taken { (result ≡ SackOutcome.Taken)
-            → acknowledged (tsns_up_to self.old cumulative_tsn_ack) now
-            (with_window self.old window, rto.old, streams.old) ≡ (self.new, rto.new, streams.new) }
+            → with_blocks blocks.now (acknowledged (tsns_up_to self.old cumulative_tsn_ack) now
+            (with_window self.old window, rto.old, streams.old)) ≡ (self.new, rto.new, streams.new) }
         ensures timer { (result ≡ SackOutcome.Taken)
             → timers.new ≡ t3_after_sack (nat_lt 0 (tsns_up_to self.old cumulative_tsn_ack))
             (length self.new.queue.in_flight) now rto.new.rto timers.old }
@@ -125,8 +132,12 @@ impl Sender {
         if count as usize > self.queue.inflight_len() {
             return SackOutcome::NotInFlight;
         }
+        if self.names_unsent(count, blocks) {
+            return SackOutcome::NamesTheUnsent;
+        }
         self.advertised_window = window;
         self.acknowledge(rto, streams, count, now);
+        self.acknowledge_blocks(streams, blocks);
         self.run_t3(timers, rto, count > 0, now);
         SackOutcome::Taken
     }
