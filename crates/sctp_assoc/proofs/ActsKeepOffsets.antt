@@ -1,22 +1,26 @@
 -- What acts leave as it is, and that the first TSN in flight keeps standing on the first offset that is not
 -- acknowledged.
-use Rattle.std.proofs.Common.{◌≡◌, refl, sym, ap, ◌∙◌, ℕ, zero, suc, ◌<◌, ◌≤◌, ◌+◌, ◌%◌, ◌^◌, arith, List, [], ◌∷◌}
+use Rattle.std.proofs.Common.{◌≡◌, refl, sym, ap, ◌∙◌, ℕ, zero, suc, ◌<◌, ◌≤◌, ◌+◌, ◌^◌, arith, List, [], ◌∷◌}
 use Rattle.std.proofs.Common.{◌++◌, length, slice_get, Option, Some, None}
 use Rattle.std.proofs.lemmas.List.{append_assoc}
 use Rattle.sctp_serial.specs.Serial.{tsn}
 use Rattle.sctp_outbound_queue.specs.declared.message.InFlight.{InFlight}
 use Rattle.sctp_outbound_queue.specs.Waiting.{Waiting}
 use Rattle.sctp_outbound_queue.specs.Message.{counted_again}
-use Rattle.sctp_outbound_queue.specs.Outbound.{Outbound, changed_from, sent_from, without_first, without_first_of}
+use Rattle.sctp_outbound_queue.specs.Outbound.{Outbound, changed_from, sent_from, tsn_at, without_first}
 use Rattle.sctp_streams.specs.Stream.{StreamView}
 use Rattle.sctp_streams.specs.Streams.{StreamMap, stream_at}
 use Rattle.sctp_parts.specs.Estimate.{Estimate}
 use Rattle.sctp_outbound.specs.declared.sender.Sender.{Sender}
 use Rattle.sctp_outbound.specs.Sender.{acknowledged, after_first, sender_after, sender_after_first, streams_after}
 use Rattle.sctp_directions.specs.Acts.{Act, Can, CanAll, History, Parts, done, done_all, data_given, all_data_given}
-use Rattle.sctp_directions.specs.Acts.{sending, with_written, with_acknowledged}
+use Rattle.sctp_directions.specs.Acts.{with_written, with_acknowledged}
 use Rattle.sctp_fit.specs.Outgoing.{Sending}
-use Rattle.sctp_fit.specs.Points.{first_acknowledged, so_many}
+use Rattle.sctp_fit.specs.Points.{so_many, with_named}
+use Rattle.sctp_fit.proofs.BlocksTaken.{points_and_blocks_acknowledge}
+use Rattle.sctp_wire_types.specs.declared.chunk.GapAckBlock.{GapAckBlock}
+use Rattle.sctp_receive_queues.specs.Received.{is_named}
+use Rattle.sctp_outbound.specs.GapAcks.{with_blocks}
 
 -- Acts, one after another.
 
@@ -40,29 +44,11 @@ given_append (x ∷ xs) ys p =
 abbrev pub Tied : Parts → Type 0
 Tied p = p.queue.first_tsn ≡ tsn p.history.own p.history.base
 
-next_tied : (own base first : ℕ) → first ≡ tsn own base → (first + 1) % 2 ^ 32 ≡ tsn own (base + 1)
-next_tied own base first e = rw e (omega arith)
-
-without_first_tied : (ps : List InFlight) (q : Outbound) (own base : ℕ) → 0 < length ps → q.first_tsn ≡ tsn own base
-    → (without_first_of ps q).first_tsn ≡ tsn own (base + 1)
-without_first_tied [] q own base some e = absurd (omega arith)
-without_first_tied (p ∷ ps) q own base some e = next_tied own base q.first_tsn e
-
-one_fewer : (ps : List InFlight) (q : Outbound) (n : ℕ) → suc n ≤ length ps
-    → n ≤ length (without_first_of ps q).in_flight
-one_fewer [] q n some = absurd (omega arith)
-one_fewer (p ∷ ps) q n some = omega arith
-
--- the first TSN keeps standing on the base while pieces are acknowledged
-so_many_tied : (n own : ℕ) (a : Sending) → n ≤ length a.queue.in_flight → a.queue.first_tsn ≡ tsn own a.base
-    → (so_many n a).queue.first_tsn ≡ tsn own (so_many n a).base
-so_many_tied zero own a within e = e
-so_many_tied (suc n) own a within e =
-    so_many_tied n own (first_acknowledged a) (one_fewer a.queue.in_flight a.queue n within)
-    (without_first_tied a.queue.in_flight a.queue own a.base (omega arith) e)
-
-pub acknowledged_tied : (n : ℕ) (p : Parts) → n ≤ length p.queue.in_flight → Tied p → Tied (with_acknowledged n p)
-acknowledged_tied n p within e = so_many_tied n p.history.own (sending p) within e
+pub acknowledged_tied : (n : ℕ) (blocks : List GapAckBlock) (p : Parts) → Tied p → Tied (with_acknowledged n blocks p)
+acknowledged_tied n blocks p e = rw e (past_tied p.history.own p.history.base n)
+  where
+    past_tied : (own base n : ℕ) → tsn_at (tsn own base) n ≡ tsn own (base + n)
+    past_tied own base n = omega arith
 
 written_tied : (o : Option StreamView) (p : Parts) (id : ℕ) (bytes : List ℕ) → Tied p → Tied (with_written o p id bytes)
 written_tied None p id bytes e = e
@@ -84,7 +70,7 @@ act_tied (Act.Wrote id bytes) p c e = written_tied (stream_at p.streams id) p id
 act_tied (Act.Sent now) p c e = sent_first p.queue.pending p.queue now ∙ e
 act_tied (Act.SentAgain index) p c e = resent_first (slice_get p.queue.in_flight index) p.queue index ∙ e
 act_tied Act.Marked p c e = e
-act_tied (Act.Acknowledged n) p c e = acknowledged_tied n p c e
+act_tied (Act.Acknowledged n blocks) p c e = acknowledged_tied n blocks p e
 act_tied (Act.Took piece) p c e = e
 act_tied Act.Reported p c e = e
 act_tied (Act.WasRead id) p c e = e
@@ -101,7 +87,6 @@ first_queue : (ps : List InFlight) (s : Sender) → s.queue.in_flight ≡ ps
 first_queue [] s e = rw e refl
 first_queue (p ∷ ps) s e = refl
 
--- the sender's queue and streams are those that its direction has, and the base moves by as many
 so_many_acknowledged : (n now base size : ℕ) (s : Sender) (e : Estimate) (m : StreamMap)
     → so_many n (record { queue = s.queue; streams = m; base = base; size = size })
     ≡ record {
@@ -118,7 +103,6 @@ so_many_acknowledged (suc n) now base size s e m =
     (so_many_acknowledged n now (base + 1) size (sender_after_first s) _
     (streams_after (slice_get s.queue.in_flight 0) m))
 
--- acknowledgements leave the size of a payload as it is
 first_size : (o : Option InFlight) (s : Sender) → (sender_after o s).max_payload_size ≡ s.max_payload_size
 first_size None s = refl
 first_size (Some p) s = refl
@@ -131,19 +115,38 @@ size_stays (suc n) now s e m =
     size_stays n now (sender_after_first s) _ (streams_after (slice_get s.queue.in_flight 0) m)
     ∙ first_size (slice_get s.queue.in_flight 0) s
 
--- what the directions see after acknowledgements is what the sender and the streams have then
-pub pieces_acknowledged : (n now : ℕ) (s : Sender) (e : Estimate) (m : StreamMap) (h : History)
-    → with_acknowledged n (record { queue = s.queue; streams = m; size = s.max_payload_size; history = h })
+blocks_named : (blocks : List GapAckBlock) (base size : ℕ) (x : Sender × Estimate × StreamMap)
+    → with_named (λ j. is_named (j + 1) blocks) (record { queue = x.0.queue; streams = x.2; base = base; size = size })
+    ≡ record { queue = (with_blocks blocks x).0.queue; streams = (with_blocks blocks x).2; base = base; size = size }
+blocks_named blocks base size (s, e, m) = refl
+
+pub blocks_size : (blocks : List GapAckBlock) (x : Sender × Estimate × StreamMap)
+    → (with_blocks blocks x).0.max_payload_size ≡ x.0.max_payload_size
+blocks_size blocks (s, e, m) = refl
+
+-- and then those that gap ack blocks name of the pieces behind them
+pub pieces_acknowledged : (n now : ℕ) (blocks : List GapAckBlock) (s : Sender) (e : Estimate) (m : StreamMap)
+    (h : History)
+    → n ≤ length s.queue.in_flight → s.queue.first_tsn < 2 ^ 32
+    → with_acknowledged n blocks (record { queue = s.queue; streams = m; size = s.max_payload_size; history = h })
     ≡ record {
-      queue = (acknowledged n now (s, e, m)).0.queue;
-      streams = (acknowledged n now (s, e, m)).2;
-      size = (acknowledged n now (s, e, m)).0.max_payload_size;
+      queue = (with_blocks blocks (acknowledged n now (s, e, m))).0.queue;
+      streams = (with_blocks blocks (acknowledged n now (s, e, m))).2;
+      size = (with_blocks blocks (acknowledged n now (s, e, m))).0.max_payload_size;
       history = record h { base = h.base + n };
     }
-pieces_acknowledged n now s e m h =
-    rw (size_stays n now s e m)
-    (ap parts_with (so_many_acknowledged n now h.base s.max_payload_size s e m))
+pieces_acknowledged n now blocks s e m h within small =
+    rw (blocks_size blocks (acknowledged n now (s, e, m)), size_stays n now s e m)
+    (ap (λ (a : Sending). parts_with a)
+    (points_and_blocks_acknowledge
+    (record { queue = s.queue; streams = m; base = h.base; size = s.max_payload_size }) n blocks within small
+    ∙ ap (with_named (λ j. is_named (j + 1) blocks)) (so_many_acknowledged n now h.base s.max_payload_size s e m)
+    ∙ blocks_named blocks (h.base + n) s.max_payload_size (acknowledged n now (s, e, m))))
   where
     parts_with : Sending → Parts
-    parts_with a =
-        record { queue = a.queue; streams = a.streams; size = s.max_payload_size; history = record h { base = a.base } }
+    parts_with a = record {
+      queue = a.queue;
+      streams = a.streams;
+      size = s.max_payload_size;
+      history = record h { base = h.base + n };
+    }

@@ -1,8 +1,8 @@
 -- What each call does to the two directions is what its acts say.
-use Rattle.std.proofs.Common.{◌≡◌, refl, sym, ap, ◌∙◌, ℕ, ◌≤◌, ◌+◌, ◌-◌, ◌%◌, ◌^◌, arith}
-use Rattle.std.proofs.Common.{Bool, true, false, ◌&&◌, List, [], ◌∷◌, ◌++◌, length, if◌then◌else◌, nat_lt, nat_le}
+use Rattle.std.proofs.Common.{◌≡◌, refl, sym, ap, ◌∙◌, subst, ℕ, ◌<◌, ◌≤◌, ◌+◌, ◌-◌, ◌%◌, ◌^◌, arith}
+use Rattle.std.proofs.Common.{Bool, true, false, ◌&&◌, List, [], ◌∷◌, ◌++◌, length, if◌then◌else◌, nat_lt}
 use Rattle.std.proofs.Common.{Option, Some, None, Result, Ok, Err, is_some}
-use Rattle.std.proofs.lemmas.Bool.{and_parts, eqb-true, false≢true, leb-true}
+use Rattle.std.proofs.lemmas.Bool.{and_parts, eqb-true, false≢true, ltb-false}
 use Rattle.sctp_serial.specs.Serial.{tsn_gt, tsn}
 use Rattle.sctp_wire_types.specs.declared.chunk.ChunkPayloadData.{ChunkPayloadData}
 use Rattle.sctp_wire_types.specs.declared.chunk.Chunk.{Chunk}
@@ -34,6 +34,8 @@ use Rattle.sctp_inbound.specs.Greeting.{first_cookie, information_of}
 use Rattle.sctp_inbound.specs.Handshake.{comes_back, has_issued}
 use Rattle.sctp_inbound.specs.Receiver.{credit_of, is_next_after, taken_to}
 use Rattle.sctp_outbound_queue.specs.Outbound.{Outbound}
+use Rattle.sctp_wire_types.specs.declared.chunk.GapAckBlock.{GapAckBlock}
+use Rattle.sctp_outbound.specs.GapAcks.{with_blocks}
 use Rattle.sctp_outbound.specs.declared.sender.Sender.{Sender}
 use Rattle.sctp_outbound.specs.declared.sender.SackOutcome.{SackOutcome}
 use Rattle.sctp_outbound.specs.declared.sender.SackOutcome.TheVariants as outcomes
@@ -61,10 +63,11 @@ use Rattle.sctp_assoc.specs.Handshake.{on_cookie_echo, on_heartbeat, on_init, on
 use Rattle.sctp_assoc.specs.Handshake.{t1_cookie_expired, t1_init_expired, with_echo}
 use Rattle.sctp_assoc.specs.Timeouts.{after_handshake_timers, after_timeouts}
 use Rattle.sctp_assoc.specs.Shown.{Shown}
-use Rattle.sctp_assoc.proofs.ActsKeepOffsets.{acknowledged_tied, acts_tied, can_append, done_append}
+use Rattle.sctp_assoc.proofs.MarksOutstanding.{AreMarkedRight, act_marked, acts_marked}
+use Rattle.sctp_assoc.proofs.ActsKeepOffsets.{acts_tied, can_append, done_append}
 use Rattle.sctp_assoc.proofs.ActsKeepOffsets.{pieces_acknowledged}
 use Rattle.sctp_fit.proofs.HeldTsns.{nothing_is_held_at_first}
-use Rattle.sctp_assoc.proofs.WhatCame.{held_moves, point_moves, same_held, same_point}
+use Rattle.sctp_assoc.proofs.WhatCame.{held_moves, next_is_new, point_moves, same_held, same_point}
 
 pub leads_on : (xs ys : List Act) {a b c : Shown} {h k l : History} → Leads xs a h b k → Leads ys b k c l
     → Leads (xs ++ ys) a h c l
@@ -87,6 +90,8 @@ leads_by xs a b h binds can there point same = record {
     first = ap (λ (p : Parts). p.queue.first_tsn) there ∙ acts_tied xs (parts a h) can binds.first;
     point = point ∙ binds.point ∙ same_point h (done_all xs (parts a h)).history a.streams b.streams same;
     held = same_held h (done_all xs (parts a h)).history a.streams b.streams same binds.held;
+    marked =
+        subst (λ (p : Parts). AreMarkedRight p.queue.in_flight) (sym there) (acts_marked xs (parts a h) binds.marked);
   };
 }
 
@@ -157,12 +162,13 @@ took_leads a piece h binds next (streams, kept) e =
     ap (λ (r : Receiver). r.peer_last_tsn)
     (told_receiver (kept && is_readable_in streams piece.stream_identifier) b piece.stream_identifier kept refl) in
     record {
-      can = (here, tt);
+      can = (next_is_new h piece.tsn here, tt);
       there = same ∙ rw (← e) refl;
       binds = record {
         first = ap (λ (p : Parts). p.queue.first_tsn) same ∙ binds.first;
         point = point ∙ point_moves h a.streams binds.held n piece.tsn here;
         held = held_moves h a.streams binds.held n piece.tsn here;
+        marked = subst (λ (p : Parts). AreMarkedRight p.queue.in_flight) (sym same) binds.marked;
       };
     }
 
@@ -210,7 +216,8 @@ next_leads false a piece trigger h e binds = rw e (h, leads_nowhere a (counted_d
 next_leads true a piece trigger h e binds =
     let next = (and_parts (is_next_after a.receiver piece.tsn) (is_whole piece) e).0 in
     let b : Shown = counted_data a in
-    let counted : Binds b h = record { first = binds.first; point = binds.point; held = binds.held } in
+    let counted : Binds b h =
+    record { first = binds.first; point = binds.point; held = binds.held; marked = binds.marked } in
     let id = piece.stream_identifier in
     let made = stream_leads (is_some (stream_at a.streams id)) (generation_left a.streams) b id h refl refl counted in
     let same = stream_receiver (is_some (stream_at a.streams id)) (generation_left a.streams) b id refl refl in
@@ -226,16 +233,22 @@ next_leads true a piece trigger h e binds =
 abbrev is_taken : SackOutcome → Bool
 is_taken outcomes.Older = false
 is_taken outcomes.NotInFlight = false
+is_taken outcomes.NamesTheUnsent = false
 is_taken outcomes.Taken = true
 
-taken_within : (older within : Bool) (s : Sender) (point : ℕ) → tsn_gt (cumulative_tsn_ack_point_of s) point ≡ older
-    → nat_le (tsns_up_to s point) (length s.queue.in_flight) ≡ within → sack_outcome s point ≡ outcomes.Taken
+-- a SACK that is taken is not behind, and its point is within what is in flight
+taken_within : (older beyond : Bool) (s : Sender) (point : ℕ) (blocks : List GapAckBlock)
+    → tsn_gt (cumulative_tsn_ack_point_of s) point ≡ older
+    → nat_lt (length s.queue.in_flight) (tsns_up_to s point) ≡ beyond
+    → sack_outcome s point blocks ≡ outcomes.Taken
     → tsns_up_to s point ≤ length s.queue.in_flight
-taken_within true within s point e f t =
-    let u : is_taken (sack_outcome s point) ≡ true = ap is_taken t in let v = rw e at u in absurd (false≢true v)
-taken_within false true s point e f t = leb-true (tsns_up_to s point) (length s.queue.in_flight) f
-taken_within false false s point e f t =
-    let u : is_taken (sack_outcome s point) ≡ true = ap is_taken t in let v = rw (e, f) at u in absurd (false≢true v)
+taken_within true beyond s point blocks e f t =
+    let u : is_taken (sack_outcome s point blocks) ≡ true = ap is_taken t in
+    let v = rw e at u in absurd (false≢true v)
+taken_within false false s point blocks e f t = ltb-false (length s.queue.in_flight) (tsns_up_to s point) f
+taken_within false true s point blocks e f t =
+    let u : is_taken (sack_outcome s point blocks) ≡ true = ap is_taken t in
+    let v = rw (e, f) at u in absurd (false≢true v)
 
 acknowledged_parts : (a : Shown) (moved : Bool) (now : ℕ) (x : Sender × Estimate × StreamMap) (k : History)
     → parts (with_acknowledged a moved now x) k
@@ -246,53 +259,53 @@ acknowledged_receiver : (a : Shown) (moved : Bool) (now : ℕ) (x : Sender × Es
     → (with_acknowledged a moved now x).receiver ≡ a.receiver
 acknowledged_receiver a moved now (s, e, m) = refl
 
-sack_taken_leads : (a : Shown) (point window now : ℕ) (h : History) → Binds a h
+sack_taken_leads : (a : Shown) (point : ℕ) (blocks : List GapAckBlock) (window now : ℕ) (h : History) → Binds a h
     → tsns_up_to a.sender point ≤ length a.sender.queue.in_flight
-    → Leads (Act.Acknowledged (tsns_up_to a.sender point) ∷ []) a h (after_sack (counted_sack a) point window now)
-    (record h { base = h.base + tsns_up_to a.sender point })
-sack_taken_leads a point window now h binds within =
+    → Leads (Act.Acknowledged (tsns_up_to a.sender point) blocks ∷ []) a h
+    (after_sack (counted_sack a) point blocks window now) (record h { base = h.base + tsns_up_to a.sender point })
+sack_taken_leads a point blocks window now h binds within =
     let n = tsns_up_to a.sender point in
-    let x = acknowledged n now (with_window a.sender window, a.estimate, a.streams) in
+    let x =
+    with_blocks blocks (acknowledged n now (with_window a.sender window, a.estimate, a.streams)) in
     let k : History = record h { base = h.base + n } in
+    let small : a.sender.queue.first_tsn < 2 ^ 32 = rw binds.first (tsn_small h.own h.base) in
     let same = acknowledged_parts (counted_sack a) (nat_lt 0 n) now x k in
-    let all = pieces_acknowledged n now (with_window a.sender window) a.estimate a.streams h in
-    let tied = acknowledged_tied n (parts a h) within binds.first in
-    record {
-      can = (within, tt);
-      there = same ∙ sym all;
-      binds = record {
-        first =
-            ap (λ (p : Parts). p.queue.first_tsn) (same ∙ sym all) ∙ tied
-            ∙ ap (λ (p : Parts). tsn p.history.own p.history.base) all;
-        point =
-            ap (λ (r : Receiver). r.peer_last_tsn) (acknowledged_receiver (counted_sack a) (nat_lt 0 n) now x)
-            ∙ binds.point;
-        held = same_held h k a.streams _ (record { peer = refl; taken = refl; passed = refl }) binds.held;
-      };
-    }
+    let all =
+    pieces_acknowledged n now blocks (with_window a.sender window) a.estimate a.streams h within small in
+    leads_by (Act.Acknowledged n blocks ∷ []) a (after_sack (counted_sack a) point blocks window now) h binds
+    (within, tt) (same ∙ sym all)
+    (ap (λ (r : Receiver). r.peer_last_tsn) (acknowledged_receiver (counted_sack a) (nat_lt 0 n) now x))
+    (record { peer = refl; taken = refl; passed = refl })
+  where
+    tsn_small : (own base : ℕ) → tsn own base < 2 ^ 32
+    tsn_small own base = omega arith
 
-outcome_leads : (o : SackOutcome) (a : Shown) (point window : ℕ) (trigger : AckTrigger) (now : ℕ) (h : History)
-    → sack_outcome a.sender point ≡ o → Binds a h
-    → (k : History) × Leads (acts_of_outcome o (tsns_up_to a.sender point)) a h
-    (on_counted_sack o (counted_sack a) point window trigger now).0 k
-outcome_leads outcomes.Older a point window trigger now h e binds =
+outcome_leads : (o : SackOutcome) (a : Shown) (point : ℕ) (blocks : List GapAckBlock) (window : ℕ)
+    (trigger : AckTrigger) (now : ℕ) (h : History)
+    → sack_outcome a.sender point blocks ≡ o → Binds a h
+    → (k : History) × Leads (acts_of_outcome o (tsns_up_to a.sender point) blocks) a h
+    (on_counted_sack o (counted_sack a) point blocks window trigger now).0 k
+outcome_leads outcomes.Older a point blocks window trigger now h e binds =
     (h, leads_nowhere a (counted_sack a) h binds refl refl)
-outcome_leads outcomes.NotInFlight a point window trigger now h e binds =
+outcome_leads outcomes.NotInFlight a point blocks window trigger now h e binds =
     (h, leads_nowhere a (counted_sack a) h binds refl refl)
-outcome_leads outcomes.Taken a point window trigger now h e binds = (
+outcome_leads outcomes.NamesTheUnsent a point blocks window trigger now h e binds =
+    (h, leads_nowhere a (counted_sack a) h binds refl refl)
+outcome_leads outcomes.Taken a point blocks window trigger now h e binds = (
   _,
-  sack_taken_leads a point window now h binds
+  sack_taken_leads a point blocks window now h binds
       (taken_within (tsn_gt (cumulative_tsn_ack_point_of a.sender) point)
-      (nat_le (tsns_up_to a.sender point) (length a.sender.queue.in_flight)) a.sender point refl refl e),
+      (nat_lt (length a.sender.queue.in_flight) (tsns_up_to a.sender point)) a.sender point blocks refl refl e),
 )
 
-sack_leads : (c : Bool) (a : Shown) (point window : ℕ) (trigger : AckTrigger) (now : ℕ) (h : History)
+sack_leads : (c : Bool) (a : Shown) (point : ℕ) (blocks : List GapAckBlock) (window : ℕ) (trigger : AckTrigger)
+    (now : ℕ) (h : History)
     → is_established a.state ≡ c → Binds a h
-    → (k : History) × Leads (acts_of_sack a point) a h (on_sack a point window trigger now).0 k
+    → (k : History) × Leads (acts_of_sack a point blocks) a h (on_sack a point blocks window trigger now).0 k
 unfolding on_sack
-sack_leads false a point window trigger now h e binds = rw e (h, leads_nowhere a a h binds refl refl)
-sack_leads true a point window trigger now h e binds =
-    rw e (outcome_leads (sack_outcome a.sender point) a point window trigger now h refl binds)
+sack_leads false a point blocks window trigger now h e binds = rw e (h, leads_nowhere a a h binds refl refl)
+sack_leads true a point blocks window trigger now h e binds =
+    rw e (outcome_leads (sack_outcome a.sender point blocks) a point blocks window trigger now h refl binds)
 
 -- the handshake
 
@@ -310,6 +323,7 @@ met_leads a b t h binds queue streams size point = (
       first = ap (λ (q : Outbound). q.first_tsn) queue ∙ binds.first;
       point = point ∙ omega arith;
       held = nothing_is_held_at_first _ refl;
+      marked = subst (λ (q : Outbound). AreMarkedRight q.in_flight) (sym queue) binds.marked;
     };
   },
 )
@@ -378,8 +392,8 @@ module _ (a : Shown) (trigger : AckTrigger) (h : History) (binds : Binds a h) wh
   kind_leads header (chunks.Data piece) now =
       next_leads (is_next_after a.receiver piece.tsn && is_whole piece) a piece trigger h refl binds
   kind_leads header (chunks.SelectiveAck sack) now =
-      sack_leads (is_established a.state) a sack.cumulative_tsn_ack sack.advertised_receiver_window_credit trigger
-      now h refl binds
+      sack_leads (is_established a.state) a sack.cumulative_tsn_ack sack.gap_ack_blocks
+      sack.advertised_receiver_window_credit trigger now h refl binds
   kind_leads header (chunks.Init init) now = init_leads (is_beginning a.state) header init refl
   kind_leads header (chunks.InitAck init) now =
       init_ack_leads (is_cookie_wait a.state) (comes_back a.handshake header) header init now refl refl
@@ -473,6 +487,7 @@ leads_beside xs a b c h k same point m = record {
     first = ap (λ (p : Parts). p.queue.first_tsn) same ∙ m.binds.first;
     point = point ∙ m.binds.point;
     held = same_held k k b.streams c.streams (past_itself k) m.binds.held;
+    marked = subst (λ (p : Parts). AreMarkedRight p.queue.in_flight) (sym same) m.binds.marked;
   };
 }
 
@@ -506,6 +521,9 @@ written_leads a id bytes h binds =
             ∙ ap (λ (k : History). tsn k.own k.base) (written_history o a id bytes h);
         point = ap (λ (r : Receiver). r.peer_last_tsn) (written_receiver o a id bytes) ∙ binds.point;
         held = same_held h h a.streams (written a id bytes).streams (past_itself h) binds.held;
+        marked =
+            subst (λ (p : Parts). AreMarkedRight p.queue.in_flight) (sym there)
+            (act_marked (Act.Wrote id bytes) (parts a h) binds.marked);
       };
     }
 
@@ -584,8 +602,9 @@ t1_init_leads : (expired failure : Bool) (a : Shown) (now : ℕ) (h : History) �
 t1_init_leads false failure a now h binds = leads_nowhere a a h binds refl refl
 t1_init_leads true true a now h binds = leads_nowhere a _ h binds refl refl
 t1_init_leads true false a now h binds =
-    let one = leads_nowhere a (t1_init_expired a now) h binds refl refl in
-    leads_on [] [] one (sends_init_leads (t1_init_expired a now) now h one.binds)
+    leads_on [] [] (leads_nowhere a (t1_init_expired a now) h binds refl refl)
+    (sends_init_leads (t1_init_expired a now) now h
+    (record { first = binds.first; point = binds.point; held = binds.held; marked = binds.marked }))
 
 t1_cookie_leads : (expired failure : Bool) (a : Shown) (now : ℕ) (h : History) → Binds a h
     → Leads [] a h
@@ -596,8 +615,9 @@ t1_cookie_leads : (expired failure : Bool) (a : Shown) (now : ℕ) (h : History)
 t1_cookie_leads false failure a now h binds = leads_nowhere a a h binds refl refl
 t1_cookie_leads true true a now h binds = leads_nowhere a _ h binds refl refl
 t1_cookie_leads true false a now h binds =
-    let one = leads_nowhere a (t1_cookie_expired a now) h binds refl refl in
-    leads_on [] [] one (sends_cookie_leads (t1_cookie_expired a now) now h one.binds)
+    leads_on [] [] (leads_nowhere a (t1_cookie_expired a now) h binds refl refl)
+    (sends_cookie_leads (t1_cookie_expired a now) now h
+    (record { first = binds.first; point = binds.point; held = binds.held; marked = binds.marked }))
 
 pub handshake_timers_lead : (a : Shown) (now : ℕ) (h : History) → Binds a h
     → Leads [] a h (after_handshake_timers a now) h

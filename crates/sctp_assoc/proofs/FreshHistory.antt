@@ -1,5 +1,5 @@
 -- An association begins on the history in which nothing happened.
-use Rattle.std.proofs.Common.{◌≡◌, refl, ◌∙◌, ℕ, ◌^◌, ◌<◌, List, Option, Some, None, arith}
+use Rattle.std.proofs.Common.{◌≡◌, refl, ◌∙◌, ℕ, ◌^◌, ◌<◌, List, [], Option, Some, None, arith}
 use Rattle.std.specs.declared.net.ip_addr.IpAddr.{IpAddr}
 use Rattle.std.specs.declared.net.socket_addr.SocketAddr.{SocketAddr}
 use Rattle.sctp_wire_types.specs.Config.{Settings}
@@ -12,11 +12,13 @@ use Rattle.sctp_fit.proofs.HeldTsns.{nothing_is_held_at_first}
 use Rattle.sctp_assoc.proofs.CallsLeadOn.{sends_init_leads}
 
 fresh_binds : (a : Shown) (tsn : ℕ) → tsn < 2 ^ 32 → a.sender.queue.first_tsn ≡ tsn → a.receiver.peer_last_tsn ≡ 0
+    → a.sender.queue.in_flight ≡ []
     → Binds a (begun tsn 1)
-fresh_binds a tsn small first point = record {
+fresh_binds a tsn small first point none = record {
   first = first ∙ omega (arith, small);
   point = point ∙ omega arith;
   held = nothing_is_held_at_first _ refl;
+  marked = rw none tt;
 }
 
 -- an association that a handshake is to establish
@@ -26,6 +28,6 @@ module _ (config : Settings) (size tag tsn : ℕ) (cookie : List ℕ) (remote : 
       → Binds (created of_server config size tag tsn cookie remote local now) (begun tsn 1)
   created_binds None small =
       let a : Shown = silent_client config size tag tsn cookie remote local in
-      (sends_init_leads a now (begun tsn 1) (fresh_binds a tsn small refl refl)).binds
+      (sends_init_leads a now (begun tsn 1) (fresh_binds a tsn small refl refl refl)).binds
   created_binds (Some of_server) small =
-      fresh_binds (server config size tag tsn cookie remote local) tsn small refl refl
+      fresh_binds (server config size tag tsn cookie remote local) tsn small refl refl refl

@@ -1,6 +1,7 @@
 pub mod ActsKeepOffsets
 pub mod CallsLeadOn
 mod FreshHistory
+pub mod MarksOutstanding
 mod MemoryTaken
 mod PacketsReadAgain
 pub mod PolledData

@@ -1,17 +1,17 @@
 -- What a poll gives out is what its acts say.
-use Rattle.std.proofs.Common.{◌≡◌, refl, sym, ap, ◌∙◌, ⊎_elim, ℕ, zero, suc, ◌<◌, ◌+◌, ◌-◌, arith, Bool, true, false}
-use Rattle.std.proofs.Common.{if◌then◌else◌, List, [], ◌∷◌, ◌++◌, length, nat_lt, slice_get, slice_set, Some}
+use Rattle.std.proofs.Common.{◌≡◌, refl, sym, ap, ◌∙◌, ⊎_elim, ℕ, zero, suc, ◌+◌, ◌-◌, arith, Bool, true, false}
+use Rattle.std.proofs.Common.{if◌then◌else◌, List, [], ◌∷◌, ◌++◌, length, nat_lt, slice_get, slice_set, Some, is_some}
 use Rattle.std.proofs.lemmas.Bool.{cases_Bool, false≢true}
 use Rattle.std.proofs.lemmas.List.{append_assoc, append-nil}
 use Rattle.sctp_wire_types.specs.declared.chunk.ChunkPayloadData.{ChunkPayloadData}
 use Rattle.sctp_serial.specs.Serial.{tsn}
 use Rattle.sctp_outbound_queue.specs.declared.message.InFlight.{InFlight}
 use Rattle.sctp_outbound_queue.specs.Waiting.{Waiting}
-use Rattle.sctp_outbound_queue.specs.Message.{counted_again}
+use Rattle.sctp_outbound_queue.specs.Message.{counted_again, is_outstanding}
 use Rattle.sctp_outbound_queue.specs.Outbound.{Outbound, next_tsn_of, pieces_waiting, sent_next, tsn_at}
 use Rattle.sctp_streams.specs.Streams.{StreamMap}
 use Rattle.sctp_outbound.specs.declared.sender.Sender.{Sender}
-use Rattle.sctp_outbound.specs.Sender.{after_resending, both_windows, can_send_next, chunk_of, first_chunk}
+use Rattle.sctp_outbound.specs.Sender.{after_resending, alone_length_of, both_windows, window_left, can_send_next, chunk_of, first_chunk}
 use Rattle.sctp_outbound.specs.Sender.{first_counted, fits_windows, resends_alone, resent_by, resent_chunks}
 use Rattle.sctp_outbound.specs.Sender.{resent_pieces, sent_new, sent_one, sent_within, with_in_flight}
 use Rattle.sctp_directions.specs.Acts.{Act, CanAll, History, Parts, done_all, all_data_given}
@@ -21,6 +21,7 @@ use Rattle.sctp_assoc.specs.Gather.{AckIsReadAgain, data_polled, with_sent_data}
 use Rattle.sctp_assoc.specs.Shown.{Shown}
 use Rattle.sctp_assoc.specs.Happened.{acks_given, acts_of_ack, acts_of_data_poll, acts_of_marks, acts_of_new}
 use Rattle.sctp_assoc.specs.Happened.{acts_of_resending, acts_of_sending, first_again, first_sent}
+use Rattle.sctp_assoc.proofs.MarksOutstanding.{AreMarkedRight}
 use Rattle.sctp_assoc.proofs.ActsKeepOffsets.{Tied, can_append, done_append, given_append, sent_first}
 use Rattle.sctp_outbound.proofs.SenderSteps.{chunks_full, chunks_sent, chunks_skip, pieces_full, pieces_sent}
 use Rattle.sctp_outbound.proofs.SenderSteps.{pieces_skip}
@@ -62,19 +63,16 @@ one_longer : {X : Type 0} (xs : List X) (x : X) → length (xs ++ x ∷ []) ≡ 
 one_longer [] x = refl
 one_longer (z ∷ zs) x = let e = one_longer zs x in omega (arith, e)
 
-behind_more : {X : Type 0} (xs ys : List X) (x : X) → length xs < length (xs ++ x ∷ ys)
-behind_more [] ys x = omega arith
-behind_more (z ∷ zs) ys x = let e = behind_more zs ys x in omega (arith, e)
-
 again_one : (x : InFlight) (ps xs : List InFlight) (p : Parts) → p.queue.in_flight ≡ xs ++ x ∷ ps → Tied p
+    → is_outstanding x ≡ true
     → Gives (Act.SentAgain (length xs) ∷ []) p (with_pieces p (xs ++ counted_again x ∷ ps))
     (chunk_of x (tsn_at p.queue.first_tsn (length xs)) ∷ [])
-again_one x ps xs p e tied =
+again_one x ps xs p e tied outstanding =
     let held : slice_get p.queue.in_flight (length xs) ≡ Some x = rw e (get_behind xs ps x) in
     let put : slice_set p.queue.in_flight (length xs) (counted_again x) ≡ xs ++ counted_again x ∷ ps =
     rw e (set_behind xs ps x (counted_again x)) in
     record {
-      can = (rw e (behind_more xs ps x), tt);
+      can = (rw held outstanding, tt);
       there = rw (held, put) refl;
       said = rw (held, place_tsn p.history.own p.history.base p.queue.first_tsn (length xs) tied) refl;
     }
@@ -108,10 +106,11 @@ shifted c xs rest acts chunks p m =
     (ap chunks (sym (one_longer xs c))) m
 
 pub resending : (ps xs : List InFlight) (room : ℕ) (p : Parts) → p.queue.in_flight ≡ xs ++ ps → Tied p
+    → AreMarkedRight ps
     → Gives (acts_of_resending (length xs) room ps) p (with_pieces p (xs ++ resent_pieces room ps))
     (resent_chunks p.queue.first_tsn (length xs) room ps)
-resending [] xs room p e tied = record { can = tt; there = rw (← e) refl; said = refl }
-resending (x ∷ ps) xs room p e tied = ⊎_elim
+resending [] xs room p e tied right = record { can = tt; there = rw (← e) refl; said = refl }
+resending (x ∷ ps) xs room p e tied right = ⊎_elim
     (λ (marked : x.retransmit ≡ true). ⊎_elim
     (λ (full : nat_lt room (length x.user_data) ≡ true).
     gives_same (acts_full x ps (length xs) room marked full)
@@ -122,7 +121,7 @@ resending (x ∷ ps) xs room p e tied = ⊎_elim
     let c : InFlight = counted_again x in
     let left : ℕ = room - length x.user_data in
     let q : Parts = with_pieces p (xs ++ c ∷ ps) in
-    let rest = resending ps (xs ++ c ∷ []) left q (sym (append_assoc xs (c ∷ []) ps)) tied in
+    let rest = resending ps (xs ++ c ∷ []) left q (sym (append_assoc xs (c ∷ []) ps)) tied right.1 in
     let moved =
     shifted c xs (resent_pieces left ps) (λ (n : ℕ). acts_of_resending n left ps)
     (λ (n : ℕ). resent_chunks p.queue.first_tsn n left ps) q rest in
@@ -130,10 +129,10 @@ resending (x ∷ ps) xs room p e tied = ⊎_elim
     (ap (λ (z : List InFlight). with_pieces p (xs ++ z)) (pieces_sent x ps room marked fits))
     (chunks_sent x ps p.queue.first_tsn (length xs) room marked fits)
     (gives_on (Act.SentAgain (length xs) ∷ []) (acts_of_resending (length xs + 1) left ps) p q _ _ _
-    (again_one x ps xs p e tied) moved))
+    (again_one x ps xs p e tied (right.0 marked)) moved))
     (cases_Bool (nat_lt room (length x.user_data))))
     (λ (unmarked : x.retransmit ≡ false).
-    let rest = resending ps (xs ++ x ∷ []) room p (e ∙ sym (append_assoc xs (x ∷ []) ps)) tied in
+    let rest = resending ps (xs ++ x ∷ []) room p (e ∙ sym (append_assoc xs (x ∷ []) ps)) tied right.1 in
     let moved =
     shifted x xs (resent_pieces room ps) (λ (n : ℕ). acts_of_resending n room ps)
     (λ (n : ℕ). resent_chunks p.queue.first_tsn n room ps) p rest in
@@ -142,28 +141,40 @@ resending (x ∷ ps) xs room p e tied = ⊎_elim
     (chunks_skip x ps p.queue.first_tsn (length xs) room unmarked) moved)
     (cases_Bool x.retransmit)
 
-first_again_gives : (ps : List InFlight) (p : Parts) → p.queue.in_flight ≡ ps → Tied p
+-- a piece that goes alone is marked
+alone_marked : (c : Bool) (window : ℕ) (x : InFlight) → x.retransmit ≡ c
+    → is_some (alone_length_of window (Some x)) ≡ true → c ≡ true
+alone_marked true window x e alone = refl
+alone_marked false window x e alone = absurd (false≢true (rw e at alone))
+
+first_again_gives : (ps : List InFlight) (window : ℕ) (p : Parts) → p.queue.in_flight ≡ ps → Tied p
+    → AreMarkedRight ps → is_some (alone_length_of window (slice_get ps 0)) ≡ true
     → Gives (first_again ps) p (with_pieces p (first_counted ps)) (first_chunk p.queue.first_tsn ps)
-first_again_gives [] p e tied = record { can = tt; there = rw (← e) refl; said = refl }
-first_again_gives (x ∷ ps) p e tied = again_one x ps [] p e tied
+first_again_gives [] window p e tied right alone = record { can = tt; there = rw (← e) refl; said = refl }
+first_again_gives (x ∷ ps) window p e tied right alone =
+    again_one x ps [] p e tied (right.0 (alone_marked x.retransmit window x refl alone))
 
 -- the parts of a sender beside some streams
 abbrev pub sending : Sender → StreamMap → History → Parts
 sending s m h = record { queue = s.queue; streams = m; size = s.max_payload_size; history = h }
 
 marks_give_if : (alone : Bool) (s : Sender) (m : StreamMap) (h : History) → s.queue.first_tsn ≡ tsn h.own h.base
+    → AreMarkedRight s.queue.in_flight → resends_alone s ≡ alone
     → Gives (if alone then first_again s.queue.in_flight else acts_of_resending 0 (both_windows s) s.queue.in_flight)
     (sending s m h)
     (sending (with_in_flight s
     (if alone then first_counted s.queue.in_flight else resent_pieces (both_windows s) s.queue.in_flight)) m h)
     (if alone then first_chunk s.queue.first_tsn s.queue.in_flight else
     resent_chunks s.queue.first_tsn 0 (both_windows s) s.queue.in_flight)
-marks_give_if true s m h tied = first_again_gives s.queue.in_flight (sending s m h) refl tied
-marks_give_if false s m h tied = resending s.queue.in_flight [] (both_windows s) (sending s m h) refl tied
+marks_give_if true s m h tied right alone =
+    first_again_gives s.queue.in_flight (window_left s) (sending s m h) refl tied right alone
+marks_give_if false s m h tied right alone =
+    resending s.queue.in_flight [] (both_windows s) (sending s m h) refl tied right
 
 pub marks_give : (s : Sender) (m : StreamMap) (h : History) → s.queue.first_tsn ≡ tsn h.own h.base
+    → AreMarkedRight s.queue.in_flight
     → Gives (acts_of_marks s) (sending s m h) (sending (after_resending s) m h) (resent_by s)
-marks_give s m h tied = marks_give_if (resends_alone s) s m h tied
+marks_give s m h tied right = marks_give_if (resends_alone s) s m h tied right refl
 
 -- Pieces that go out for the first time.
 
@@ -298,13 +309,14 @@ data_poll_stays a now =
     sent_data_stays a (length (resent_by a.sender)) now (sent_new (after_resending a.sender) (resent_by a.sender) now)
 
 pub data_poll_adds : (a : Shown) (now : ℕ) (h : History) → a.sender.queue.first_tsn ≡ tsn h.own h.base
+    → AreMarkedRight a.sender.queue.in_flight
     → Adds (acts_of_data_poll a now) (parts a h) (parts (data_polled a now).0 h) [] (data_polled a now).1
 unfolding data_polled
-data_poll_adds a now h tied =
+data_poll_adds a now h tied right =
     let s : Sender = after_resending a.sender in
     let x = sent_new s (resent_by a.sender) now in
     let again : Adds (acts_of_marks a.sender) (parts a h) (sending s a.streams h) [] (resent_by a.sender) =
-    record { given = resent_by a.sender; gives = marks_give a.sender a.streams h tied; all = refl } in
+    record { given = resent_by a.sender; gives = marks_give a.sender a.streams h tied right; all = refl } in
     let fresh = new_adds_if now a.streams h _ s (resent_by a.sender) tied in
     let both =
     adds_on (acts_of_marks a.sender) (acts_of_new s (resent_by a.sender) now) again fresh in

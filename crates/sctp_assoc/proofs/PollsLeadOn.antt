@@ -15,6 +15,7 @@ use Rattle.sctp_assoc.specs.Gather.{AreControlReadAgain, AreReadAgain, PollIsRea
 use Rattle.sctp_assoc.specs.Gather.{after_both, control_packets, data_packets, data_polled, exchange_polled, is_due}
 use Rattle.sctp_assoc.specs.Gather.{polled, sack_packet, without_control}
 use Rattle.sctp_assoc.specs.Shown.{Shown}
+use Rattle.sctp_assoc.proofs.MarksOutstanding.{AreMarkedRight, acts_marked}
 use Rattle.sctp_assoc.proofs.ActsKeepOffsets.{acts_tied, given_append}
 use Rattle.sctp_assoc.proofs.PolledData.{Adds, data_poll_adds, data_poll_stays, IsSentBeside}
 use Rattle.sctp_assoc.proofs.CallsLeadOn.{leads_by, leads_nowhere, leads_on, past_itself}
@@ -80,6 +81,9 @@ poll_of (b, pieces) xs a h same binds adds =
             ∙ ap (λ (p : Parts). tsn p.history.own p.history.base) (sym adds.gives.there);
         point = rw same.receiver binds.point;
         held = same_held h h a.streams b.streams (past_itself h) binds.held;
+        marked =
+            subst (λ (p : Parts). AreMarkedRight p.queue.in_flight) (sym adds.gives.there)
+            (acts_marked xs (parts a h) binds.marked);
       };
     } in
     let ack : Leads (acts_of_ack a) b h (ack_polled b).0 h = rw (← same.acts) (ack_leads b h mid.binds) in
@@ -98,7 +102,7 @@ polls_if : (c : Bool) (a : Shown) (now : ℕ) (h : History) → Binds a h
     (all_data_given (if c then acts_of_data_poll a now ++ acts_of_ack a else []) (parts a h)) ++ acks_given a else []))
 polls_if true a now h binds =
     poll_of (data_polled a now) (acts_of_data_poll a now) a h (data_poll_stays a now) binds
-    (data_poll_adds a now h binds.first)
+    (data_poll_adds a now h binds.first binds.marked)
 polls_if false a now h binds = (leads_nowhere a a h binds refl refl, refl)
 
 -- what is read again of the DATA of a poll
@@ -109,7 +113,7 @@ data_again_if : (c : Bool) (a : Shown) (now : ℕ) (h : History) → Binds a h �
 data_again_if true a now h binds e again =
     subst (λ (z : List ChunkPayloadData). AreReadAgain (header_of a.handshake) z)
     (pieces_said (data_polled a now).1 (acts_of_data_poll a now) a (data_polled a now).0 h
-    (data_poll_adds a now h binds.first)) again
+    (data_poll_adds a now h binds.first binds.marked)) again
 data_again_if false a now h binds e again = absurd (false≢true e)
 
 exchange_leads : (a : Shown) (now : ℕ) (h : History) → Binds a h
@@ -127,7 +131,8 @@ polls : (a : Shown) (now : ℕ) (h : History) → PollIsReadAgain (without_contr
     → Polls (acts_of_poll a now) a h (polled a now).0 (polled a now).1
 polls a now h again binds =
     let b : Shown = without_control a in
-    let bound : Binds b h = record { first = binds.first; point = binds.point; held = binds.held } in
+    let bound : Binds b h =
+    record { first = binds.first; point = binds.point; held = binds.held; marked = binds.marked } in
     let all = exchange_leads b now h bound in
     record {
       leads =

@@ -1,5 +1,5 @@
 -- How far what came of the peer's DATA reaches, where nothing past that is held.
-use Rattle.std.proofs.Common.{◌≡◌, ◌⊎◌, refl, sym, ap, ◌∙◌, subst, ⊎_elim, ℕ, ◌<◌, ◌≤◌, ◌+◌, arith, true, false}
+use Rattle.std.proofs.Common.{◌≡◌, ◌⊎◌, refl, sym, ap, ◌∙◌, subst, ⊎_elim, ℕ, ◌<◌, ◌≤◌, ◌+◌, ◌^◌, arith, true, false}
 use Rattle.std.proofs.Common.{[], ◌∷◌, None}
 use Rattle.std.specs.List.Sorted.{IsStrictlySortedBy}
 use Rattle.std.proofs.lemmas.Bool.{cases_eq, cases_lt, eq-eqb, false≢true, or_left, true≢false}
@@ -11,7 +11,7 @@ use Rattle.sctp_model.proofs.OffsetSets.{reach_below, reach_from, reach_grows, r
 use Rattle.sctp_model.proofs.StreamsTakeData.{mem_new, mem_old}
 use Rattle.sctp_fit.specs.HeldSet.{HoldsPast, point_of}
 use Rattle.sctp_fit.specs.Incoming.{Receiving, reach_of, tsn_before}
-use Rattle.sctp_directions.specs.Acts.{History, offset_in, reach_in, with_taken}
+use Rattle.sctp_directions.specs.Acts.{History, IsNewTsn, offset_in, reach_in, with_taken}
 use Rattle.sctp_assoc.specs.Leads.{IsSamePast}
 
 -- a receiver that has what came on this history
@@ -65,6 +65,19 @@ reach_climbs h below =
 -- the TSN of the reach spells the reach
 none_past : (peer r t : ℕ) → t ≡ tsn peer r → r + tsn_past (tsn peer r) t ≡ r
 none_past peer r t e = rw e (omega arith)
+
+-- DATA with it is new
+pub next_is_new : (h : History) (t : ℕ) → t ≡ tsn h.peer (reach_in h) → IsNewTsn h t
+next_is_new h t e =
+    let at : offset_in h t ≡ reach_in h = none_past h.peer (reach_in h) t e in
+    record {
+      small = rw e (tsn_small h.peer (reach_in h));
+      near = subst (λ (o : ℕ). o < reach_in h + 65535) (sym at) (omega arith);
+      missing = subst (λ (o : ℕ). mem o h.taken ≡ false) (sym at) (reach_missing h);
+    }
+  where
+    tsn_small : (peer r : ℕ) → tsn peer r < 2 ^ 32
+    tsn_small peer r = omega arith
 
 before_next : (peer at : ℕ) → tsn peer at ≡ tsn_before (tsn peer (at + 1))
 before_next peer at = omega arith

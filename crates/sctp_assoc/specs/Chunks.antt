@@ -21,6 +21,8 @@ use Rattle.sctp_streams.specs.Streams.{pushed_in, is_readable_in}
 use Rattle.sctp_inbound.specs.declared.receiver.AckTrigger.{AckTrigger}
 use Rattle.sctp_inbound.specs.declared.receiver.AckTrigger.TheVariants as triggers
 use Rattle.sctp_inbound.specs.Receiver.{is_next_after, taken_to, asked, credit_of, ended_packet, ended_packet_timers}
+use Rattle.sctp_wire_types.specs.declared.chunk.GapAckBlock.{GapAckBlock}
+use Rattle.sctp_outbound.specs.GapAcks.{with_blocks}
 use Rattle.sctp_outbound.specs.declared.sender.Sender.{Sender}
 use Rattle.sctp_outbound.specs.declared.sender.SackOutcome.{SackOutcome}
 use Rattle.sctp_outbound.specs.declared.sender.SackOutcome.TheVariants as outcomes
@@ -112,24 +114,30 @@ with_acknowledged a moved now (sender, estimate, streams) = record a {
   timers = t3_after_sack moved (length sender.queue.in_flight) now estimate.rto a.timers;
 }
 
--- a SACK is taken: the pieces up to its point are acknowledged, and its window is the peer's
-abbrev pub after_sack : Shown → ℕ → ℕ → ℕ → Shown
-after_sack a cumulative_tsn_ack window now =
+-- a SACK is taken: the pieces up to its point and those that its gap ack blocks name are acknowledged, and its window
+-- is the peer's
+abbrev pub after_sack : Shown → ℕ → List GapAckBlock → ℕ → ℕ → Shown
+after_sack a cumulative_tsn_ack blocks window now =
     with_acknowledged a (nat_lt 0 (tsns_up_to a.sender cumulative_tsn_ack)) now
-    (acknowledged (tsns_up_to a.sender cumulative_tsn_ack) now (with_window a.sender window, a.estimate, a.streams))
+    (with_blocks blocks
+    (acknowledged (tsns_up_to a.sender cumulative_tsn_ack) now (with_window a.sender window, a.estimate, a.streams)))
 
-abbrev pub on_counted_sack : SackOutcome → Shown → ℕ → ℕ → AckTrigger → ℕ → Shown × Flow
-on_counted_sack outcomes.Older a cumulative_tsn_ack window trigger now = (a, flows.Next trigger)
-on_counted_sack outcomes.NotInFlight a cumulative_tsn_ack window trigger now =
+abbrev pub on_counted_sack : SackOutcome → Shown → ℕ → List GapAckBlock → ℕ → AckTrigger → ℕ → Shown × Flow
+on_counted_sack outcomes.Older a cumulative_tsn_ack blocks window trigger now = (a, flows.Next trigger)
+on_counted_sack outcomes.NotInFlight a cumulative_tsn_ack blocks window trigger now =
     (a, flows.Fault errors.ErrInflightQueueTsnPop)
-on_counted_sack outcomes.Taken a cumulative_tsn_ack window trigger now =
-    (after_sack a cumulative_tsn_ack window now, flows.Next trigger)
+on_counted_sack outcomes.NamesTheUnsent a cumulative_tsn_ack blocks window trigger now =
+    (a, flows.Fault errors.ErrTsnRequestNotExist)
+on_counted_sack outcomes.Taken a cumulative_tsn_ack blocks window trigger now =
+    (after_sack a cumulative_tsn_ack blocks window now, flows.Next trigger)
 
--- a SACK counts in Established alone; one whose point is not in flight is a fault
-unfoldable pub on_sack : Shown → ℕ → ℕ → AckTrigger → ℕ → Shown × Flow
-on_sack a cumulative_tsn_ack window trigger now =
+-- a SACK counts in Established alone; one whose point is not in flight, or whose gap ack blocks name a TSN that is not,
+-- is a fault
+unfoldable pub on_sack : Shown → ℕ → List GapAckBlock → ℕ → AckTrigger → ℕ → Shown × Flow
+on_sack a cumulative_tsn_ack blocks window trigger now =
     if is_established a.state then
-    on_counted_sack (sack_outcome a.sender cumulative_tsn_ack) (counted_sack a) cumulative_tsn_ack window trigger now
+    on_counted_sack (sack_outcome a.sender cumulative_tsn_ack blocks) (counted_sack a) cumulative_tsn_ack blocks window
+    trigger now
     else (a, flows.Next trigger)
 
 -- Any chunk
@@ -137,7 +145,7 @@ on_sack a cumulative_tsn_ack window trigger now =
 abbrev pub dispatched : Shown → CommonHeader → Chunk → AckTrigger → ℕ → Shown × Flow
 dispatched a header (chunks.Data piece) trigger now = on_data a piece trigger
 dispatched a header (chunks.SelectiveAck sack) trigger now =
-    on_sack a sack.cumulative_tsn_ack sack.advertised_receiver_window_credit trigger now
+    on_sack a sack.cumulative_tsn_ack sack.gap_ack_blocks sack.advertised_receiver_window_credit trigger now
 dispatched a header (chunks.Init init) trigger now = on_init a header init trigger
 dispatched a header (chunks.InitAck init) trigger now = on_init_ack a header init trigger now
 dispatched a header (chunks.CookieEcho cookie) trigger now = on_cookie_echo a cookie trigger

@@ -7,6 +7,7 @@ use Rattle.sctp_wire_types.specs.declared.chunk.Chunk.TheVariants as chunks
 use Rattle.sctp_wire_types.specs.declared.chunk.ChunkPayloadData.{ChunkPayloadData}
 use Rattle.sctp_wire_types.specs.declared.ids.PayloadProtocolIdentifier.TheVariants as kinds
 use Rattle.sctp_wire_types.specs.declared.chunk.ChunkInit.{ChunkInit}
+use Rattle.sctp_wire_types.specs.declared.chunk.GapAckBlock.{GapAckBlock}
 use Rattle.sctp_wire_types.specs.declared.packet.CommonHeader.{CommonHeader}
 use Rattle.sctp_wire_types.specs.Checks.{checked_chunk}
 use Rattle.sctp_wire.specs.declared.packet.Packet.{Packet}
@@ -65,15 +66,17 @@ acts_of_data a piece =
     ++ acts_of_found (stream_found (counted_data a) piece.stream_identifier) piece
     else []
 
-abbrev pub acts_of_outcome : SackOutcome → ℕ → List Act
-acts_of_outcome outcomes.Older n = []
-acts_of_outcome outcomes.NotInFlight n = []
-acts_of_outcome outcomes.Taken n = Act.Acknowledged n ∷ []
+abbrev pub acts_of_outcome : SackOutcome → ℕ → List GapAckBlock → List Act
+acts_of_outcome outcomes.Older n blocks = []
+acts_of_outcome outcomes.NotInFlight n blocks = []
+acts_of_outcome outcomes.NamesTheUnsent n blocks = []
+acts_of_outcome outcomes.Taken n blocks = Act.Acknowledged n blocks ∷ []
 
-abbrev pub acts_of_sack : Shown → ℕ → List Act
-acts_of_sack a cumulative_tsn_ack =
+abbrev pub acts_of_sack : Shown → ℕ → List GapAckBlock → List Act
+acts_of_sack a cumulative_tsn_ack blocks =
     if is_established a.state then
-    acts_of_outcome (sack_outcome a.sender cumulative_tsn_ack) (tsns_up_to a.sender cumulative_tsn_ack) else []
+    acts_of_outcome (sack_outcome a.sender cumulative_tsn_ack blocks) (tsns_up_to a.sender cumulative_tsn_ack) blocks
+    else []
 
 -- an INIT that is answered tells the peer's initial TSN
 abbrev pub acts_of_init : Shown → ChunkInit → List Act
@@ -87,7 +90,7 @@ acts_of_init_ack a header init =
 
 abbrev pub acts_of_kind : Shown → CommonHeader → Chunk → List Act
 acts_of_kind a header (chunks.Data piece) = acts_of_data a piece
-acts_of_kind a header (chunks.SelectiveAck sack) = acts_of_sack a sack.cumulative_tsn_ack
+acts_of_kind a header (chunks.SelectiveAck sack) = acts_of_sack a sack.cumulative_tsn_ack sack.gap_ack_blocks
 acts_of_kind a header (chunks.Init init) = acts_of_init a init
 acts_of_kind a header (chunks.InitAck init) = acts_of_init_ack a header init
 acts_of_kind a header chunk = []

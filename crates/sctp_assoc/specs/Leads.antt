@@ -1,6 +1,9 @@
 -- Where an association stands in the past of its two directions, and where acts lead it.
-use Rattle.std.specs.Prelude.{◌≡◌, List, []}
+use Rattle.std.specs.Prelude.{◌≡◌, true, List, []}
+use Rattle.std.specs.List.{AllByRecursion}
 use Rattle.sctp_serial.specs.Serial.{tsn}
+use Rattle.sctp_outbound_queue.specs.declared.message.InFlight.{InFlight}
+use Rattle.sctp_outbound_queue.specs.Message.{is_outstanding}
 use Rattle.sctp_fit.specs.HeldSet.{HoldsPast, point_of}
 use Rattle.sctp_directions.specs.Acts.{Act, CanAll, History, Parts, done_all, receiving}
 use Rattle.sctp_assoc.specs.Shown.{Shown}
@@ -16,6 +19,9 @@ pub record Binds (a : Shown) (h : History) : Type 0 where
   pub point : a.receiver.peer_last_tsn ≡ point_of (receiving (parts a h))
   -- so far nothing past the point is held
   pub held : HoldsPast (receiving (parts a h)) []
+  -- what is to go out again is neither acknowledged nor abandoned
+  pub marked : AllByRecursion (λ (x : InFlight). x.retransmit ≡ true → is_outstanding x ≡ true)
+      a.sender.queue.in_flight
 
 -- From one state of an association to another by these acts: they can be done, and they lead there.
 pub record Leads (xs : List Act) (a : Shown) (h : History) (b : Shown) (k : History) : Type 0 where

@@ -14,8 +14,8 @@ use sctp_inbound::AckTrigger;
 use sctp_outbound::SackOutcome;
 use sctp_parts::state::AssociationState;
 use sctp_wire_queues::{
-    AssociationError, Chunk, ChunkPayloadData, CommonHeader, Error, Event, Instant, Packet,
-    PartialDecode, PayloadProtocolIdentifier, StreamEvent, check_packet,
+    AssociationError, Chunk, ChunkPayloadData, CommonHeader, Error, Event, GapAckBlock, Instant,
+    List, Packet, PartialDecode, PayloadProtocolIdentifier, StreamEvent, check_packet,
 };
 use std::alloc::AllocError;
 
@@ -122,6 +122,7 @@ impl Association {
             Chunk::Data(piece) => self.on_data(piece, trigger),
             Chunk::SelectiveAck(sack) => Ok(self.on_sack(
                 sack.cumulative_tsn_ack,
+                &sack.gap_ack_blocks,
                 sack.advertised_receiver_window_credit,
                 trigger,
                 now,
@@ -211,16 +212,17 @@ impl Association {
         self.receiver.credit(self.streams.waiting_bytes())
     }
 
-    // SACK (RFC 4960 section 6.2.1), read by its point and its window.
+    // SACK (RFC 4960 section 6.2.1), read by its point, its gap ack blocks and its window.
     #[tactic(auto, unfolding(crate::specs::Chunks::on_sack))]
     fn on_sack(
         &mut self,
         cumulative_tsn_ack: u32,
+        blocks: &List<GapAckBlock>,
         window: u32,
         trigger: AckTrigger,
         now: Instant,
     ) -> Flow
-        ensures { on_sack self.old cumulative_tsn_ack window trigger now ≡ (self.new, result) }
+        ensures { on_sack self.old cumulative_tsn_ack blocks.now window trigger now ≡ (self.new, result) }
     {
         if self.state != AssociationState::Established {
             return Flow::Next(trigger);
@@ -231,11 +233,13 @@ impl Association {
             &mut self.rto,
             &mut self.streams,
             cumulative_tsn_ack,
+            blocks,
             window,
             now,
         );
         match outcome {
             SackOutcome::NotInFlight => Flow::Fault(Error::ErrInflightQueueTsnPop),
+            SackOutcome::NamesTheUnsent => Flow::Fault(Error::ErrTsnRequestNotExist),
             _ => Flow::Next(trigger),
         }
     }
