@@ -47,8 +47,8 @@ pub enum Fault {
 /// | `ErrHandshakeInitAck`, `ErrHandshakeCookieEcho` | no call; the event `HandshakeFailed` has them |
 ///
 /// `ErrHandleInitState`, `ErrInitAckNoCookie`, `ErrAbortChunk`, `ErrChunkTypeUnhandled`, `ErrInflightQueueTsnPop`,
-/// `ErrContradictoryPieces` and `ErrInboundMessageTooLarge` are faults of chunks: they close an association and are
-/// answered by no call of it. The others are those of calls that do not exist so far.
+/// `ErrTsnRequestNotExist`, `ErrContradictoryPieces` and `ErrInboundMessageTooLarge` are faults of chunks: they close
+/// an association and are answered by no call of it. The others are those of calls that do not exist so far.
 #[derive(Clone, Copy, Debug, PartialEq, Eq, ThisError)]
 pub enum Error {
     #[error("payload size is not in 1 to 65519")]
