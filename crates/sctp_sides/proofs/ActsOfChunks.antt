@@ -1,15 +1,17 @@
 -- Of which acts chunks, polls and timeouts are made.
 use Rattle.std.proofs.Common.{◌≡◌, refl, sym, ap, ◌∙◌, subst, ◌⊎◌, ⊎_elim, inl, inr, ℕ, zero, suc, ◌<◌, ◌≤◌, ◌+◌, ◌-◌}
-use Rattle.std.proofs.Common.{◌%◌, ◌^◌, arith, Bool, true, false, eqb, leb, ltb, ◌&&◌, not, if◌then◌else◌, List, []}
+use Rattle.std.proofs.Common.{◌%◌, ◌^◌, arith, Bool, true, false, eqb, ltb, ◌&&◌, not, if◌then◌else◌, List, []}
 use Rattle.std.proofs.Common.{◌∷◌, ◌++◌, length, Option, Some, None, is_some, Result, Ok, Err}
 use Rattle.std.specs.List.{AllByRecursion}
-use Rattle.std.proofs.lemmas.Bool.{cond-true, eq-eqb, false≢true, le-leb, lt-ltb}
+use Rattle.std.proofs.lemmas.Bool.{cond-true, eq-eqb, false≢true, le-leb, le-ltb, lt-ltb}
 use Rattle.sctp_wire_types.specs.declared.chunk.Chunk.{Chunk}
 use Rattle.sctp_wire_types.specs.declared.chunk.Chunk.TheVariants as chunks
 use Rattle.sctp_wire_types.specs.declared.chunk.ChunkPayloadData.{ChunkPayloadData}
 use Rattle.sctp_wire_types.specs.declared.chunk.ChunkInit.{ChunkInit}
 use Rattle.sctp_wire_types.specs.declared.packet.CommonHeader.{CommonHeader}
 use Rattle.sctp_wire_types.specs.declared.chunk.ChunkSelectiveAck.{ChunkSelectiveAck}
+use Rattle.sctp_wire_types.specs.declared.chunk.GapAckBlock.{GapAckBlock}
+use Rattle.sctp_receive_queues.specs.Received.{is_named}
 use Rattle.sctp_wire_types.specs.declared.error.Error.{Error}
 use Rattle.sctp_wire_types.specs.declared.ids.PayloadProtocolIdentifier.TheVariants as kinds
 use Rattle.sctp_wire_types.specs.Checks.{checked_chunk}
@@ -28,7 +30,9 @@ use Rattle.sctp_outbound.specs.declared.sender.SackOutcome.{SackOutcome}
 use Rattle.sctp_outbound.specs.declared.sender.SackOutcome.TheVariants as outcomes
 use Rattle.sctp_outbound.specs.declared.sender.Sender.{Sender}
 use Rattle.sctp_outbound.specs.Sender.{after_resending, both_windows, can_send_next, cumulative_tsn_ack_point_of}
-use Rattle.sctp_outbound.specs.Sender.{tsns_up_to, resends_alone, resent_by, sack_outcome, sent_one}
+use Rattle.sctp_outbound.specs.Offsets.{is_in_flight_at, name_unsent}
+use Rattle.sctp_outbound.proofs.Offsets.{names_sets}
+use Rattle.sctp_outbound.specs.Sender.{names_unsent, tsns_up_to, resends_alone, resent_by, sack_outcome, sent_one}
 use Rattle.sctp_model.proofs.Lists.{all_join}
 use Rattle.sctp_directions.specs.Acts.{Act, CanAll, History}
 use Rattle.sctp_assoc.specs.Leads.{Binds, parts}
@@ -111,25 +115,27 @@ data_is_taken a header piece = checked_acts (checked_chunk (chunks.Data piece)) 
 
 -- SACK
 
-outcome_acts : (o : SackOutcome) (n : ℕ) → (acts_of_outcome o n ≡ []) ⊎ (acts_of_outcome o n ≡ Act.Acknowledged n ∷ [])
-outcome_acts outcomes.Older n = inl refl
-outcome_acts outcomes.NotInFlight n = inl refl
-outcome_acts outcomes.Taken n = inr refl
+outcome_acts : (o : SackOutcome) (n : ℕ) (blocks : List GapAckBlock)
+    → (acts_of_outcome o n blocks ≡ []) ⊎ (acts_of_outcome o n blocks ≡ Act.Acknowledged n blocks ∷ [])
+outcome_acts outcomes.Older n blocks = inl refl
+outcome_acts outcomes.NotInFlight n blocks = inl refl
+outcome_acts outcomes.NamesTheUnsent n blocks = inl refl
+outcome_acts outcomes.Taken n blocks = inr refl
 
-sack_if : (established : Bool) (o : SackOutcome) (n : ℕ)
-    → ((if established then acts_of_outcome o n else []) ≡ [])
-    ⊎ ((if established then acts_of_outcome o n else []) ≡ Act.Acknowledged n ∷ [])
-sack_if true o n = outcome_acts o n
-sack_if false o n = inl refl
+sack_if : (established : Bool) (o : SackOutcome) (n : ℕ) (blocks : List GapAckBlock)
+    → ((if established then acts_of_outcome o n blocks else []) ≡ [])
+    ⊎ ((if established then acts_of_outcome o n blocks else []) ≡ Act.Acknowledged n blocks ∷ [])
+sack_if true o n blocks = outcome_acts o n blocks
+sack_if false o n blocks = inl refl
 
 checked_sack : (r : Result (Unit {0}) Error) (a : Shown) (header : CommonHeader) (k : ChunkSelectiveAck)
     → (acts_of_checked r a header (chunks.SelectiveAck k) ≡ [])
     ⊎ (acts_of_checked r a header (chunks.SelectiveAck k)
-    ≡ Act.Acknowledged (tsns_up_to a.sender k.cumulative_tsn_ack) ∷ [])
+    ≡ Act.Acknowledged (tsns_up_to a.sender k.cumulative_tsn_ack) k.gap_ack_blocks ∷ [])
 checked_sack (Err fault) a header k = inl refl
 checked_sack (Ok done) a header k =
-    sack_if (is_established a.state) (sack_outcome a.sender k.cumulative_tsn_ack)
-    (tsns_up_to a.sender k.cumulative_tsn_ack)
+    sack_if (is_established a.state) (sack_outcome a.sender k.cumulative_tsn_ack k.gap_ack_blocks)
+    (tsns_up_to a.sender k.cumulative_tsn_ack) k.gap_ack_blocks
 
 -- a point that is n past the TSN before the first one in flight
 point_back : (own base t : ℕ)
@@ -144,7 +150,7 @@ sacks_acknowledge a h header sack binds =
     ⊎_elim
     (λ (e : acts_of_chunk a header (chunks.SelectiveAck sack) ≡ []). inl e)
     (λ (e : acts_of_chunk a header (chunks.SelectiveAck sack)
-    ≡ Act.Acknowledged (tsns_up_to a.sender sack.cumulative_tsn_ack) ∷ []).
+    ≡ Act.Acknowledged (tsns_up_to a.sender sack.cumulative_tsn_ack) sack.gap_ack_blocks ∷ []).
     let leads = chunk_leads header (chunks.SelectiveAck sack) a triggers.None 0 h binds in
     let can = subst (λ zs. CanAll zs (parts a h)) e leads.1.can in
     inr (record {
@@ -183,13 +189,34 @@ not_behind acked t (suc n) e near same =
     (lt-ltb 0 (tsn_past acked t) (subst (λ (p : ℕ). 0 < p) (sym e) (omega arith)))
     (lt-ltb (tsn_past acked t) (2 ^ 31) (subst (λ (p : ℕ). p < 2 ^ 31) (sym e) near))
 
-outcome_taken : (older within : Bool) → older ≡ false → within ≡ true
-    → (if older then outcomes.Older else if within then outcomes.Taken else outcomes.NotInFlight) ≡ outcomes.Taken
-outcome_taken older within e f = rw (e, f) refl
+abbrev outcome_of : Bool → Bool → Bool → SackOutcome
+outcome_of older beyond unsent =
+    if older then outcomes.Older else
+    if beyond then outcomes.NotInFlight else
+    if unsent then outcomes.NamesTheUnsent else outcomes.Taken
 
-taken_acts : (established : Bool) (o : SackOutcome) (n count : ℕ) → established ≡ true → o ≡ outcomes.Taken → n ≡ count
-    → (if established then acts_of_outcome o n else []) ≡ Act.Acknowledged count ∷ []
-taken_acts established o n count e f g = rw (e, f, g) refl
+outcome_taken : (older beyond unsent : Bool) → older ≡ false → beyond ≡ false → unsent ≡ false
+    → outcome_of older beyond unsent ≡ outcomes.Taken
+outcome_taken older beyond unsent e f g = rw (e, f, g) refl
+
+taken_acts : (established : Bool) (o : SackOutcome) (n count : ℕ) (blocks : List GapAckBlock) → established ≡ true
+    → o ≡ outcomes.Taken → n ≡ count
+    → (if established then acts_of_outcome o n blocks else []) ≡ Act.Acknowledged count blocks ∷ []
+taken_acts established o n count blocks e f g = rw (e, f, g) refl
+
+-- where each offset that is named is in flight, none is not
+none_unsent : (found : Bool) (n count flown : ℕ) (blocks : List GapAckBlock) → n ≡ count
+    → name_unsent n flown blocks ≡ found
+    → ((offset : ℕ) → is_named offset blocks ≡ true → (0 < count + offset) × (count + offset ≤ flown)) → found ≡ false
+none_unsent false n count flown blocks e f all = refl
+none_unsent true n count flown blocks e f all =
+    let some = (names_sets n flown blocks).0 f in
+    let sent = all some.offset some.named in
+    absurd (false≢true (sym some.unsent ∙ in_flight n count some.offset flown e sent.0 sent.1))
+  where
+    in_flight : (n count o flown : ℕ) → n ≡ count → 0 < count + o → count + o ≤ flown
+        → is_in_flight_at n flown o ≡ true
+    in_flight n count o flown e l m = rw (e, lt-ltb 0 (count + o) l, le-leb (count + o) flown m) refl
 
 pub taken_sacks_acknowledge : TakenSacksAcknowledge
 taken_sacks_acknowledge a h header sack count established binds names =
@@ -203,27 +230,32 @@ taken_sacks_acknowledge a h header sack count established binds names =
     let first : count ≡ 0 → cumulative_tsn_ack_point_of a.sender ≡ sack.cumulative_tsn_ack =
     λ (none : count ≡ 0). at ∙ named_first h.own h.base ∙ ap (λ (n : ℕ). tsn_before (tsn h.own (h.base + n))) (sym none)
     ∙ sym names.at in
-    taken_acts (is_established a.state) (sack_outcome a.sender t) (tsns_up_to a.sender t) count established
-    (outcome_taken (tsn_gt acked t) (leb (tsns_up_to a.sender t) (length a.sender.queue.in_flight))
+    taken_acts (is_established a.state) (sack_outcome a.sender t sack.gap_ack_blocks) (tsns_up_to a.sender t) count
+    sack.gap_ack_blocks established
+    (outcome_taken (tsn_gt acked t) (ltb (length a.sender.queue.in_flight) (tsns_up_to a.sender t))
+    (names_unsent a.sender t sack.gap_ack_blocks)
     (not_behind acked t count past names.near first)
-    (le-leb (tsns_up_to a.sender t) (length a.sender.queue.in_flight)
-    (subst (λ (p : ℕ). p ≤ length a.sender.queue.in_flight) (sym past) names.within)))
+    (le-ltb (length a.sender.queue.in_flight) (tsns_up_to a.sender t)
+    (subst (λ (p : ℕ). p ≤ length a.sender.queue.in_flight) (sym past) names.within))
+    (none_unsent (names_unsent a.sender t sack.gap_ack_blocks) (tsns_up_to a.sender t) count
+    (length a.sender.queue.in_flight) sack.gap_ack_blocks past refl names.named))
     past
 
-other_acts_of_sack : (established older within : Bool) (n : ℕ) → (established ≡ false) ⊎ (older ≡ true)
-    → (if established then acts_of_outcome
-    (if older then outcomes.Older else if within then outcomes.Taken else outcomes.NotInFlight) n else []) ≡ []
-other_acts_of_sack false older within n other = refl
-other_acts_of_sack true true within n other = refl
-other_acts_of_sack true false within n (inl e) = absurd (false≢true (sym e))
-other_acts_of_sack true false within n (inr e) = absurd (false≢true e)
+other_acts_of_sack : (established older beyond unsent : Bool) (n : ℕ) (blocks : List GapAckBlock)
+    → (established ≡ false) ⊎ (older ≡ true)
+    → (if established then acts_of_outcome (outcome_of older beyond unsent) n blocks else []) ≡ []
+other_acts_of_sack false older beyond unsent n blocks other = refl
+other_acts_of_sack true true beyond unsent n blocks other = refl
+other_acts_of_sack true false beyond unsent n blocks (inl e) = absurd (false≢true (sym e))
+other_acts_of_sack true false beyond unsent n blocks (inr e) = absurd (false≢true e)
 
 pub other_sacks_do_nothing : OtherSacksDoNothing
 other_sacks_do_nothing a h header sack binds other =
     let acked = cumulative_tsn_ack_point_of a.sender in
     let t = sack.cumulative_tsn_ack in
     other_acts_of_sack (is_established a.state) (tsn_gt acked t)
-    (leb (tsns_up_to a.sender t) (length a.sender.queue.in_flight)) (tsns_up_to a.sender t)
+    (ltb (length a.sender.queue.in_flight) (tsns_up_to a.sender t)) (names_unsent a.sender t sack.gap_ack_blocks)
+    (tsns_up_to a.sender t) sack.gap_ack_blocks
     (⊎_elim
     (λ (e : is_established a.state ≡ false). inl e)
     (λ (e : tsn_gt (tsn_before (tsn h.own h.base)) sack.cumulative_tsn_ack ≡ true).

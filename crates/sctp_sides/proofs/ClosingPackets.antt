@@ -32,6 +32,8 @@ use Rattle.sctp_inbound.specs.Receiver.{credit_of, is_next_after}
 use Rattle.sctp_outbound.specs.declared.sender.Sender.{Sender}
 use Rattle.sctp_outbound.specs.declared.sender.SackOutcome.{SackOutcome}
 use Rattle.sctp_outbound.specs.declared.sender.SackOutcome.TheVariants as outcomes
+use Rattle.sctp_wire_types.specs.declared.chunk.GapAckBlock.{GapAckBlock}
+use Rattle.sctp_outbound.specs.GapAcks.{with_blocks}
 use Rattle.sctp_outbound.specs.Sender.{acknowledged, tsns_up_to, sack_outcome, with_window}
 use Rattle.sctp_assoc.specs.declared.inbound.Flow.{Flow}
 use Rattle.sctp_assoc.specs.declared.inbound.Flow.TheVariants as flows
@@ -142,21 +144,25 @@ acknowledged_goes_on : (a : Shown) (moved : Bool) (now : ℕ) (x : Sender × Est
     → GoesOn a (with_acknowledged a moved now x)
 acknowledged_goes_on a moved now (s, e, m) = stays a _ refl refl refl
 
-outcome_goes_on : (o : SackOutcome) (b : Shown) (point window : ℕ) (trigger : AckTrigger) (now : ℕ)
-    → GoesOn b (on_counted_sack o b point window trigger now).0
-outcome_goes_on outcomes.Older b point window trigger now = stays b b refl refl refl
-outcome_goes_on outcomes.NotInFlight b point window trigger now = stays b b refl refl refl
-outcome_goes_on outcomes.Taken b point window trigger now =
+outcome_goes_on : (o : SackOutcome) (b : Shown) (point : ℕ) (blocks : List GapAckBlock) (window : ℕ)
+    (trigger : AckTrigger) (now : ℕ)
+    → GoesOn b (on_counted_sack o b point blocks window trigger now).0
+outcome_goes_on outcomes.Older b point blocks window trigger now = stays b b refl refl refl
+outcome_goes_on outcomes.NotInFlight b point blocks window trigger now = stays b b refl refl refl
+outcome_goes_on outcomes.NamesTheUnsent b point blocks window trigger now = stays b b refl refl refl
+outcome_goes_on outcomes.Taken b point blocks window trigger now =
     acknowledged_goes_on b (nat_lt 0 (tsns_up_to b.sender point)) now
-    (acknowledged (tsns_up_to b.sender point) now (with_window b.sender window, b.estimate, b.streams))
+    (with_blocks blocks
+    (acknowledged (tsns_up_to b.sender point) now (with_window b.sender window, b.estimate, b.streams)))
 
-sack_goes_on : (c : Bool) (a : Shown) (point window : ℕ) (trigger : AckTrigger) (now : ℕ) → is_established a.state ≡ c
-    → GoesOn a (on_sack a point window trigger now).0
+sack_goes_on : (c : Bool) (a : Shown) (point : ℕ) (blocks : List GapAckBlock) (window : ℕ) (trigger : AckTrigger)
+    (now : ℕ) → is_established a.state ≡ c
+    → GoesOn a (on_sack a point blocks window trigger now).0
 unfolding on_sack
-sack_goes_on true a point window trigger now e =
-    let m = outcome_goes_on (sack_outcome a.sender point) _ point window trigger now in
+sack_goes_on true a point blocks window trigger now e =
+    let m = outcome_goes_on (sack_outcome a.sender point blocks) _ point blocks window trigger now in
     rw e (record { still_open = m.still_open; lost = m.lost; told = m.told })
-sack_goes_on false a point window trigger now e = rw e (stays a a refl refl refl)
+sack_goes_on false a point blocks window trigger now e = rw e (stays a a refl refl refl)
 
 -- the handshake
 
@@ -223,7 +229,7 @@ kind_goes_on : (header : CommonHeader) (c : Chunk) (a : Shown) (trigger : AckTri
     → GoesOn a (dispatched a header c trigger now).0
 kind_goes_on header (chunks.Data piece) a trigger now = on_data_goes_on a piece trigger
 kind_goes_on header (chunks.SelectiveAck sack) a trigger now =
-    sack_goes_on _ a sack.cumulative_tsn_ack sack.advertised_receiver_window_credit trigger now refl
+    sack_goes_on _ a sack.cumulative_tsn_ack sack.gap_ack_blocks sack.advertised_receiver_window_credit trigger now refl
 kind_goes_on header (chunks.Init x) a trigger now = init_goes_on _ a header x trigger refl
 kind_goes_on header (chunks.InitAck x) a trigger now = init_ack_goes_on _ _ a header x trigger now refl refl
 kind_goes_on header (chunks.Heartbeat x) a trigger now = heartbeat_goes_on a x trigger

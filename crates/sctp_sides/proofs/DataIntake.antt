@@ -33,6 +33,7 @@ use Rattle.sctp_assoc.specs.Chunks.{stream_found, taken_in, taken_unless}
 use Rattle.sctp_assoc.specs.Happened.{acts_of_chunk, acts_of_data, acts_of_found, acts_of_stream, acts_unless_refused}
 use Rattle.sctp_sides.specs.Intake.{DataIsTakenIn, IsTakenIn, MayTakeIn, NothingElseIsTakenIn, WasToBeTakenIn, held_by}
 use Rattle.sctp_sides.specs.Intake.{receive_limit, refusal_of}
+use Rattle.sctp_wire_types.specs.declared.chunk.ChunkSelectiveAck.{ChunkSelectiveAck}
 use Rattle.sctp_sides.specs.Shapes.{Acknowledges, IsMeeting}
 use Rattle.sctp_assoc.specs.Shown.{Shown}
 use Rattle.sctp_assoc.proofs.CallsLeadOn.{next_tsn}
@@ -409,19 +410,21 @@ met_no_data acts init index piece m e =
     ⊎_elim (λ (n : acts ≡ []). no_acts acts index piece n e) (λ (n : acts ≡ Act.PeerKnown init.initial_tsn ∷ []).
     one_act acts (Act.PeerKnown init.initial_tsn) index piece refl n e) m
 
-sack_no_data : (acts : List Act) (a : Shown) (h : History) (point index : ℕ) (piece : ChunkPayloadData)
-    → (acts ≡ []) ⊎ Acknowledges a h point acts
+sack_no_data : (acts : List Act) (a : Shown) (h : History) (sack : ChunkSelectiveAck) (index : ℕ)
+    (piece : ChunkPayloadData)
+    → (acts ≡ []) ⊎ Acknowledges a h sack acts
     → slice_get acts index ≡ Some (Act.Took piece) → ⊥
-sack_no_data acts a h point index piece m e =
+sack_no_data acts a h sack index piece m e =
     ⊎_elim (λ (n : acts ≡ []). no_acts acts index piece n e)
-    (λ (n : Acknowledges a h point acts). one_act acts (Act.Acknowledged n.count) index piece refl n.are e) m
+    (λ (n : Acknowledges a h sack acts).
+    one_act acts (Act.Acknowledged n.count sack.gap_ack_blocks) index piece refl n.are e) m
 
 pub nothing_else_is_taken_in : NothingElseIsTakenIn
 nothing_else_is_taken_in a h header (chunks.Data piece) index came binds e =
     let p = passed_data (is_next a piece) a piece came index refl e in
     data_was a h piece came binds p.0 p.1
 nothing_else_is_taken_in a h header (chunks.SelectiveAck sack) index came binds e =
-    absurd (sack_no_data (acts_of_chunk a header (chunks.SelectiveAck sack)) a h sack.cumulative_tsn_ack index came
+    absurd (sack_no_data (acts_of_chunk a header (chunks.SelectiveAck sack)) a h sack index came
     (sacks_acknowledge a h header sack binds) e)
 nothing_else_is_taken_in a h header (chunks.Init init) index came binds e =
     absurd (met_no_data (acts_of_chunk a header (chunks.Init init)) init index came (greetings_meet a header init).0 e)

@@ -114,7 +114,7 @@ sacks_name_the_point a h binds = (
 pub sacks_say_what_was_taken : SacksSayWhatWasTaken
 sacks_say_what_was_taken a h binds = record {
   at = binds.point;
-  set = λ o some within. sym (none_above h (taken_below a h binds) (reach_in h + o - 1) (omega (arith, some)));
+  set = λ o some. sym (none_above h (taken_below a h binds) (reach_in h + o - 1) (omega (arith, some)));
 }
 
 pub sacks_offer_the_buffer : SacksOfferTheBuffer

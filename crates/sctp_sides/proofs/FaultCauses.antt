@@ -1,9 +1,10 @@
 -- A chunk is a fault exactly where it has one of the causes that are named; a packet closes an association only by
 -- such a cause.
-use Rattle.std.proofs.Common.{◌≡◌, ◌≢◌, refl, sym, ap, ◌∙◌, inl, inr, ℕ, ◌<◌, ◌≤◌, ◌+◌, ◌-◌, ◌%◌, ◌^◌, arith, Bool}
-use Rattle.std.proofs.Common.{true, false, eqb, leb, if◌then◌else◌, List, length, Option, Some, None, is_some}
+use Rattle.std.proofs.Common.{◌≡◌, ◌≢◌, ◌⊎◌, ⊎_elim, refl, sym, ap, ◌∙◌, inl, inr, ℕ, ◌<◌, ◌≤◌, ◌+◌, ◌-◌, ◌%◌, ◌^◌, arith, Bool}
+use Rattle.std.proofs.Common.{true, false, eqb, leb, ltb, if◌then◌else◌, List, length, Option, Some, None, is_some}
 use Rattle.std.proofs.Common.{Result, Ok, Err, is_ok}
-use Rattle.std.proofs.lemmas.Bool.{and_from, and_parts, eq-eqb, eqb-true, false≢true, leb-false, leb-true}
+use Rattle.std.proofs.lemmas.Bool.{and_from, and_parts, eq-eqb, eqb-true, false≢true, le-leb, le-ltb, leb-true, lt-ltb}
+use Rattle.std.proofs.lemmas.Bool.{ltb-false, ltb-true}
 use Rattle.sctp_wire_types.specs.Checks.{checked_chunk}
 use Rattle.sctp_serial.specs.Serial.{tsn_gt, tsn_past, tsn}
 use Rattle.sctp_wire_types.specs.declared.chunk.Chunk.{Chunk}
@@ -21,13 +22,17 @@ use Rattle.sctp_inbound.specs.Greeting.{first_cookie}
 use Rattle.sctp_inbound.specs.Handshake.{comes_back, has_issued}
 use Rattle.sctp_outbound.specs.declared.sender.SackOutcome.{SackOutcome}
 use Rattle.sctp_outbound.specs.declared.sender.SackOutcome.TheVariants as outcomes
-use Rattle.sctp_outbound.specs.Sender.{cumulative_tsn_ack_point_of, tsns_up_to, sack_outcome}
+use Rattle.sctp_outbound.specs.Offsets.{is_in_flight_at}
+use Rattle.sctp_outbound.specs.Sender.{cumulative_tsn_ack_point_of, names_unsent, tsns_up_to, sack_outcome}
+use Rattle.sctp_outbound.proofs.Offsets.{names_sets}
+use Rattle.sctp_wire_types.specs.declared.chunk.GapAckBlock.{GapAckBlock}
+use Rattle.sctp_wire_types.specs.declared.chunk.ChunkSelectiveAck.{ChunkSelectiveAck}
 use Rattle.sctp_assoc.specs.Leads.{Binds}
 use Rattle.sctp_directions.specs.Acts.{History}
 use Rattle.sctp_fit.specs.Incoming.{tsn_before}
 use Rattle.sctp_assoc.specs.Calls.{is_beginning, is_cookie_echoed, is_cookie_wait, is_established}
 use Rattle.sctp_sides.specs.Causes.{AcknowledgesTheUnsent, BringsNoCookie, FaultsAreCauses, FitsNoMessage, IsCause}
-use Rattle.sctp_sides.specs.Causes.{IsCauseOfItsKind, IsFault, IsPastTheHandshake}
+use Rattle.sctp_sides.specs.Causes.{IsBeyondTheSent, IsCauseOfItsKind, IsFault, IsPastTheHandshake, NamesNoPiece}
 use Rattle.sctp_assoc.specs.Chunks.{checked_first, dispatched, on_chunk, on_counted_sack, on_data, on_sack}
 use Rattle.sctp_assoc.specs.Handshake.{echoed, on_cookie_ack, on_cookie_echo, on_heartbeat, on_init, on_init_ack}
 use Rattle.sctp_assoc.specs.Shown.{Shown}
@@ -97,42 +102,57 @@ cause_data a h piece trigger binds c = (
 abbrev outcome_fault : SackOutcome → Option Error
 outcome_fault outcomes.Older = None
 outcome_fault outcomes.NotInFlight = Some errors.ErrInflightQueueTsnPop
+outcome_fault outcomes.NamesTheUnsent = Some errors.ErrTsnRequestNotExist
 outcome_fault outcomes.Taken = None
 
-outcome_flow : (o : SackOutcome) (b : Shown) (point window : ℕ) (trigger : AckTrigger) (now : ℕ)
-    → fault_of (on_counted_sack o b point window trigger now).1 ≡ outcome_fault o
-outcome_flow outcomes.Older b point window trigger now = refl
-outcome_flow outcomes.NotInFlight b point window trigger now = refl
-outcome_flow outcomes.Taken b point window trigger now = refl
+outcome_flow : (o : SackOutcome) (b : Shown) (point : ℕ) (blocks : List GapAckBlock) (window : ℕ)
+    (trigger : AckTrigger) (now : ℕ)
+    → fault_of (on_counted_sack o b point blocks window trigger now).1 ≡ outcome_fault o
+outcome_flow outcomes.Older b point blocks window trigger now = refl
+outcome_flow outcomes.NotInFlight b point blocks window trigger now = refl
+outcome_flow outcomes.NamesTheUnsent b point blocks window trigger now = refl
+outcome_flow outcomes.Taken b point blocks window trigger now = refl
 
-sack_flow : (established : Bool) (a : Shown) (point window : ℕ) (trigger : AckTrigger) (now : ℕ)
+sack_flow : (established : Bool) (a : Shown) (point : ℕ) (blocks : List GapAckBlock) (window : ℕ)
+    (trigger : AckTrigger) (now : ℕ)
     → is_established a.state ≡ established
-    → fault_of (on_sack a point window trigger now).1
-    ≡ (if established then outcome_fault (sack_outcome a.sender point) else None)
+    → fault_of (on_sack a point blocks window trigger now).1
+    ≡ (if established then outcome_fault (sack_outcome a.sender point blocks) else None)
 unfolding on_sack
-sack_flow true a point window trigger now e =
-    rw e (outcome_flow (sack_outcome a.sender point) _ point window trigger now)
-sack_flow false a point window trigger now e = rw e refl
+sack_flow true a point blocks window trigger now e =
+    rw e (outcome_flow (sack_outcome a.sender point blocks) _ point blocks window trigger now)
+sack_flow false a point blocks window trigger now e = rw e refl
 
--- the SACK's point is beyond what is in flight
-pub record IsBeyond (established older within : Bool) : Type 0 where
+abbrev sack_fault : Bool → Bool → Bool → Bool → Option Error
+sack_fault established older beyond unsent =
+    if established then outcome_fault (if older then outcomes.Older else if beyond then outcomes.NotInFlight else
+    if unsent then outcomes.NamesTheUnsent else outcomes.Taken) else None
+
+-- the SACK's point is beyond what is in flight, or its blocks name what is not in flight
+pub record IsBeyond (established older beyond unsent : Bool) : Type 0 where
   pub counts : established ≡ true
   pub ahead : older ≡ false
-  pub beyond : within ≡ false
+  pub which : (beyond ≡ true) ⊎ ((beyond ≡ false) × (unsent ≡ true))
 
-beyond_if : (established older within : Bool) (error : Error)
-    → (if established then outcome_fault (if older then outcomes.Older else if within then outcomes.Taken else
-    outcomes.NotInFlight) else None) ≡ Some error
-    → IsBeyond established older within
-beyond_if false older within error e = absurd (never None error refl e)
-beyond_if true true within error e = absurd (never None error refl e)
-beyond_if true false true error e = absurd (never None error refl e)
-beyond_if true false false error e = record { counts = refl; ahead = refl; beyond = refl }
+beyond_if : (established older beyond unsent : Bool) (error : Error)
+    → sack_fault established older beyond unsent ≡ Some error → IsBeyond established older beyond unsent
+beyond_if false older beyond unsent error e = absurd (never None error refl e)
+beyond_if true true beyond unsent error e = absurd (never None error refl e)
+beyond_if true false true unsent error e = record { counts = refl; ahead = refl; which = inl refl }
+beyond_if true false false true error e = record { counts = refl; ahead = refl; which = inr (refl, refl) }
+beyond_if true false false false error e = absurd (never None error refl e)
 
 -- how far a point is past the one acknowledged, where it stands before this offset
 past_is : (own base n t : ℕ) → t % 2 ^ 32 ≡ tsn_before (tsn own (base + n))
     → tsn_past (tsn_before (tsn own base)) t ≤ n
 past_is own base n t e = omega (arith, e)
+
+past_exactly : (own base n t : ℕ) → n < 2 ^ 32 → t % 2 ^ 32 ≡ tsn_before (tsn own (base + n))
+    → tsn_past (tsn_before (tsn own base)) t ≡ n
+past_exactly own base n t near e = omega (arith, e)
+
+past_small : (acked t : ℕ) → tsn_past acked t < 2 ^ 32
+past_small acked t = omega arith
 
 point_back : (own base t : ℕ) → t % 2 ^ 32 ≡ tsn_before (tsn own (base + tsn_past (tsn_before (tsn own base)) t))
 point_back own base t = omega arith
@@ -140,11 +160,10 @@ point_back own base t = omega arith
 acked_at : (a : Shown) (h : History) → Binds a h → cumulative_tsn_ack_point_of a.sender ≡ tsn_before (tsn h.own h.base)
 acked_at a h binds = ap (λ (t : ℕ). (t + 2 ^ 32 - 1) % 2 ^ 32) binds.first
 
-module _ (acked own base flown t : ℕ) (at : acked ≡ tsn_before (tsn own base))
-    (beyond : leb (tsn_past acked t) flown ≡ false) where
-  never_sent : (n : ℕ) → n ≤ flown → t % 2 ^ 32 ≢ tsn_before (tsn own (base + n))
-  never_sent n within e =
-      let far : flown < tsn_past acked t = leb-false (tsn_past acked t) flown beyond in
+module _ (acked own base flown t : ℕ) (at : acked ≡ tsn_before (tsn own base)) where
+  never_sent : ltb flown (tsn_past acked t) ≡ true → (n : ℕ) → n ≤ flown → t % 2 ^ 32 ≢ tsn_before (tsn own (base + n))
+  never_sent beyond n within e =
+      let far : flown < tsn_past acked t = ltb-true flown (tsn_past acked t) beyond in
       let near : tsn_past (tsn_before (tsn own base)) t ≤ n = past_is own base n t e in
       let same : tsn_past acked t ≡ tsn_past (tsn_before (tsn own base)) t = ap (λ (z : ℕ). tsn_past z t) at in
       absurd (beyond_both (tsn_past acked t) (tsn_past (tsn_before (tsn own base)) t) n flown far near same within)
@@ -152,48 +171,125 @@ module _ (acked own base flown t : ℕ) (at : acked ≡ tsn_before (tsn own base
       beyond_both : (p q n f : ℕ) → f < p → q ≤ n → p ≡ q → n ≤ f → ⊥
       beyond_both p q n f far near same within = omega (arith, far, near, same, within)
 
-sent_if : (within : Bool) (acked own base flown t : ℕ) → leb (tsn_past acked t) flown ≡ within
-    → acked ≡ tsn_before (tsn own base)
-    → ((n : ℕ) → n ≤ flown → t % 2 ^ 32 ≢ tsn_before (tsn own (base + n))) → within ≡ false
-sent_if false acked own base flown t e at unsent = refl
-sent_if true acked own base flown t e at unsent =
-    absurd (unsent (tsn_past acked t) (leb-true (tsn_past acked t) flown e)
-    (point_back own base t ∙ ap (λ (z : ℕ). tsn_before (tsn own (base + tsn_past z t))) (sym at)))
+  -- a point that is not past all that is in flight stands behind so many
+  point_at : t % 2 ^ 32 ≡ tsn_before (tsn own (base + tsn_past acked t))
+  point_at = point_back own base t ∙ ap (λ (z : ℕ). tsn_before (tsn own (base + tsn_past z t))) (sym at)
 
-sack_cause : (a : Shown) (h : History) (point window : ℕ) (trigger : AckTrigger) (now : ℕ) (error : Error) → Binds a h
-    → fault_of (on_sack a point window trigger now).1 ≡ Some error
-    → AcknowledgesTheUnsent a h point
-sack_cause a h point window trigger now error binds e =
+  -- and a point behind so many is that far past the acknowledged one
+  past_at : (n : ℕ) → n < 2 ^ 32 → t % 2 ^ 32 ≡ tsn_before (tsn own (base + n)) → tsn_past acked t ≡ n
+  past_at n near e = ap (λ (z : ℕ). tsn_past z t) at ∙ past_exactly own base n t near e
+
+sent_if : (beyond : Bool) (acked own base flown t : ℕ) → ltb flown (tsn_past acked t) ≡ beyond
+    → acked ≡ tsn_before (tsn own base)
+    → ((n : ℕ) → n ≤ flown → t % 2 ^ 32 ≢ tsn_before (tsn own (base + n))) → beyond ≡ true
+sent_if true acked own base flown t e at unsent = refl
+sent_if false acked own base flown t e at unsent =
+    absurd (unsent (tsn_past acked t) (ltb-false flown (tsn_past acked t) e) (point_at acked own base flown t at))
+
+-- an offset at which nothing in flight stands
+no_piece : (n flown o : ℕ) → is_in_flight_at n flown o ≡ false → (index : ℕ) → index < flown → n + o ≢ index + 1
+no_piece n flown o e index l f =
+    false≢true (sym e ∙ rw (lt-ltb 0 (n + o) (omega (arith, f)), le-leb (n + o) flown (omega (arith, f, l))) refl)
+
+no_piece_if : (found : Bool) (n flown o : ℕ) → is_in_flight_at n flown o ≡ found
+    → ((index : ℕ) → index < flown → n + o ≢ index + 1) → found ≡ false
+no_piece_if false n flown o e none = refl
+no_piece_if true n flown o e none =
+    let both = and_parts (ltb 0 (n + o)) (leb (n + o) flown) e in
+    let some : 0 < n + o = ltb-true 0 (n + o) both.0 in
+    let within : n + o ≤ flown = leb-true (n + o) flown both.1 in
+    absurd (none (n + o - 1) (omega (arith, some, within)) (omega (arith, some)))
+
+sack_cause : (a : Shown) (h : History) (sack : ChunkSelectiveAck) (window : ℕ) (trigger : AckTrigger) (now : ℕ)
+    (error : Error) → Binds a h
+    → fault_of (on_sack a sack.cumulative_tsn_ack sack.gap_ack_blocks window trigger now).1 ≡ Some error
+    → AcknowledgesTheUnsent a h sack
+sack_cause a h sack window trigger now error binds e =
+    let point = sack.cumulative_tsn_ack in
+    let blocks = sack.gap_ack_blocks in
+    let flown = length a.sender.queue.in_flight in
+    let n = tsns_up_to a.sender point in
+    let at = acked_at a h binds in
     let b =
-    beyond_if (is_established a.state) (tsn_gt (cumulative_tsn_ack_point_of a.sender) point)
-    (leb (tsns_up_to a.sender point) (length a.sender.queue.in_flight)) error
-    (sym (sack_flow (is_established a.state) a point window trigger now refl) ∙ e) in
+    beyond_if (is_established a.state) (tsn_gt (cumulative_tsn_ack_point_of a.sender) point) (ltb flown n)
+    (names_unsent a.sender point blocks) error
+    (sym (sack_flow (is_established a.state) a point blocks window trigger now refl) ∙ e) in
     record {
       established = established_state a.state b.counts;
-      not_behind = sym (ap (λ (z : ℕ). tsn_gt z point) (acked_at a h binds)) ∙ b.ahead;
-      unsent =
-          never_sent (cumulative_tsn_ack_point_of a.sender) h.own h.base (length a.sender.queue.in_flight) point
-          (acked_at a h binds) b.beyond;
+      not_behind = sym (ap (λ (z : ℕ). tsn_gt z sack.cumulative_tsn_ack) (acked_at a h binds)) ∙ b.ahead;
+      unsent = ⊎_elim
+          (λ (beyond : ltb (length a.sender.queue.in_flight) (tsns_up_to a.sender sack.cumulative_tsn_ack) ≡ true).
+          inl (never_sent (cumulative_tsn_ack_point_of a.sender) h.own h.base flown point at beyond))
+          (λ (other : (ltb (length a.sender.queue.in_flight) (tsns_up_to a.sender sack.cumulative_tsn_ack) ≡ false)
+          × (names_unsent a.sender sack.cumulative_tsn_ack sack.gap_ack_blocks ≡ true)).
+          let some = (names_sets n flown blocks).0 other.1 in
+          inr (record {
+            count = n;
+            within = ltb-false flown n other.0;
+            near = past_small (cumulative_tsn_ack_point_of a.sender) point;
+            at = point_at (cumulative_tsn_ack_point_of a.sender) h.own h.base flown point at;
+            offset = some.offset;
+            named = some.named;
+            unsent = no_piece n flown some.offset some.unsent;
+          }))
+          b.which;
     }
 
-beyond_faults : (established older within : Bool) → established ≡ true → older ≡ false → within ≡ false
-    → (if established then outcome_fault
-    (if older then outcomes.Older else if within then outcomes.Taken else outcomes.NotInFlight) else None)
-    ≡ Some errors.ErrInflightQueueTsnPop
-beyond_faults established older within e f g = rw (e, f, g) refl
+beyond_faults : (established older beyond unsent : Bool) → established ≡ true → older ≡ false → beyond ≡ true
+    → sack_fault established older beyond unsent ≡ Some errors.ErrInflightQueueTsnPop
+beyond_faults established older beyond unsent e f g = rw (e, f, g) refl
 
-cause_sack : (a : Shown) (h : History) (point window : ℕ) (trigger : AckTrigger) (now : ℕ) → Binds a h
-    → AcknowledgesTheUnsent a h point → IsFault (on_sack a point window trigger now)
-cause_sack a h point window trigger now binds c = (
-  errors.ErrInflightQueueTsnPop,
-  fault_from (on_sack a point window trigger now).1 errors.ErrInflightQueueTsnPop
-      (sack_flow (is_established a.state) a point window trigger now refl
-      ∙ beyond_faults (is_established a.state) (tsn_gt (cumulative_tsn_ack_point_of a.sender) point)
-      (leb (tsns_up_to a.sender point) (length a.sender.queue.in_flight))
-      (ap is_established c.established) (ap (λ (z : ℕ). tsn_gt z point) (acked_at a h binds) ∙ c.not_behind)
-      (sent_if _ (cumulative_tsn_ack_point_of a.sender) h.own h.base (length a.sender.queue.in_flight) point refl
-      (acked_at a h binds) c.unsent)),
-)
+unsent_faults : (established older beyond unsent : Bool) → established ≡ true → older ≡ false → beyond ≡ false
+    → unsent ≡ true
+    → sack_fault established older beyond unsent ≡ Some errors.ErrTsnRequestNotExist
+unsent_faults established older beyond unsent e f g u = rw (e, f, g, u) refl
+
+-- blocks that name an offset at which no piece in flight stands name what is not in flight
+names_faults : (a : Shown) (h : History) (sack : ChunkSelectiveAck) → Binds a h → NamesNoPiece a h sack
+    → (ltb (length a.sender.queue.in_flight) (tsns_up_to a.sender sack.cumulative_tsn_ack) ≡ false)
+    × (names_unsent a.sender sack.cumulative_tsn_ack sack.gap_ack_blocks ≡ true)
+names_faults a h sack binds c =
+    let flown = length a.sender.queue.in_flight in
+    let past : tsns_up_to a.sender sack.cumulative_tsn_ack ≡ c.count =
+    past_at (cumulative_tsn_ack_point_of a.sender) h.own h.base (length a.sender.queue.in_flight)
+    sack.cumulative_tsn_ack (acked_at a h binds) c.count c.near c.at in
+    rw past (
+      le-ltb flown c.count c.within,
+      (names_sets c.count flown sack.gap_ack_blocks).1 (record {
+        offset = c.offset;
+        named = c.named;
+        unsent = no_piece_if (is_in_flight_at c.count flown c.offset) c.count flown c.offset refl c.unsent;
+      }),
+    )
+
+cause_sack : (a : Shown) (h : History) (sack : ChunkSelectiveAck) (window : ℕ) (trigger : AckTrigger) (now : ℕ)
+    → Binds a h → AcknowledgesTheUnsent a h sack
+    → IsFault (on_sack a sack.cumulative_tsn_ack sack.gap_ack_blocks window trigger now)
+cause_sack a h sack window trigger now binds c =
+    let point = sack.cumulative_tsn_ack in
+    let blocks = sack.gap_ack_blocks in
+    let flown = length a.sender.queue.in_flight in
+    let flow = sack_flow (is_established a.state) a point blocks window trigger now refl in
+    let counts = ap is_established c.established in
+    let ahead = ap (λ (z : ℕ). tsn_gt z sack.cumulative_tsn_ack) (acked_at a h binds) ∙ c.not_behind in
+    ⊎_elim
+    (λ (beyond : IsBeyondTheSent a h sack.cumulative_tsn_ack). (
+      errors.ErrInflightQueueTsnPop,
+      fault_from (on_sack a sack.cumulative_tsn_ack sack.gap_ack_blocks window trigger now).1
+          errors.ErrInflightQueueTsnPop
+          (flow ∙ beyond_faults (is_established a.state) (tsn_gt (cumulative_tsn_ack_point_of a.sender) point)
+          (ltb flown (tsns_up_to a.sender point)) (names_unsent a.sender point blocks) counts ahead
+          (sent_if _ (cumulative_tsn_ack_point_of a.sender) h.own h.base flown point refl (acked_at a h binds) beyond)),
+    ))
+    (λ (names : NamesNoPiece a h sack). (
+      errors.ErrTsnRequestNotExist,
+      fault_from (on_sack a sack.cumulative_tsn_ack sack.gap_ack_blocks window trigger now).1
+          errors.ErrTsnRequestNotExist
+          (flow ∙ unsent_faults (is_established a.state) (tsn_gt (cumulative_tsn_ack_point_of a.sender) point)
+          (ltb flown (tsns_up_to a.sender point)) (names_unsent a.sender point blocks) counts ahead
+          (names_faults a h sack binds names).0 (names_faults a h sack binds names).1),
+    ))
+    c.unsent
 
 -- INIT and INIT ACK
 
@@ -308,7 +404,7 @@ kind_cause : (header : CommonHeader) (c : Chunk) (a : Shown) (h : History) (trig
     → fault_of (dispatched a header c trigger now).1 ≡ Some error → IsCauseOfItsKind a h header c
 kind_cause header (chunks.Data piece) a h trigger now error binds e = data_cause a h piece trigger error binds e
 kind_cause header (chunks.SelectiveAck sack) a h trigger now error binds e =
-    sack_cause a h sack.cumulative_tsn_ack sack.advertised_receiver_window_credit trigger now error binds e
+    sack_cause a h sack sack.advertised_receiver_window_credit trigger now error binds e
 kind_cause header (chunks.Init x) a h trigger now error binds e =
     past_handshake a.state
     (init_if (is_beginning a.state) error (sym (init_flow (is_beginning a.state) a header x trigger refl) ∙ e))
@@ -326,7 +422,7 @@ cause_kind : (header : CommonHeader) (c : Chunk) (a : Shown) (h : History) (trig
     → IsFault (dispatched a header c trigger now)
 cause_kind header (chunks.Data piece) a h trigger now binds cause = cause_data a h piece trigger binds cause
 cause_kind header (chunks.SelectiveAck sack) a h trigger now binds cause =
-    cause_sack a h sack.cumulative_tsn_ack sack.advertised_receiver_window_credit trigger now binds cause
+    cause_sack a h sack sack.advertised_receiver_window_credit trigger now binds cause
 cause_kind header (chunks.Init x) a h trigger now binds cause = (
   errors.ErrHandleInitState,
   fault_from (on_init a header x trigger).1 errors.ErrHandleInitState

@@ -28,6 +28,8 @@ use Rattle.sctp_inbound.specs.Receiver.{credit_of, is_next_after, taken_to}
 use Rattle.sctp_outbound.specs.declared.sender.SackOutcome.{SackOutcome}
 use Rattle.sctp_outbound.specs.declared.sender.SackOutcome.TheVariants as outcomes
 use Rattle.sctp_outbound.specs.declared.sender.Sender.{Sender}
+use Rattle.sctp_wire_types.specs.declared.chunk.GapAckBlock.{GapAckBlock}
+use Rattle.sctp_assoc.proofs.ActsKeepOffsets.{blocks_size}
 use Rattle.sctp_outbound.specs.Sender.{acknowledged, after_first, after_resending, can_send_next, tsns_up_to, resent_by}
 use Rattle.sctp_outbound.specs.Sender.{sack_outcome, sender_after, sent_new, sent_one, sent_within, with_window}
 use Rattle.sctp_assoc.specs.Calls.{after_ack_delay, after_t3, event_from, is_beginning, is_cookie_echoed}
@@ -161,22 +163,28 @@ acknowledged_size (suc n) now s e m =
     acknowledged_size n now (sender_after (slice_get s.queue.in_flight 0) s) _ _
     ∙ sender_after_size (slice_get s.queue.in_flight 0) s
 
-outcome_status : (o : SackOutcome) (a : Shown) (point window : ℕ) (trigger : AckTrigger) (now : ℕ)
-    → IsSameStatus a (on_counted_sack o a point window trigger now).0
-outcome_status outcomes.Older a point window trigger now = status_same a
-outcome_status outcomes.NotInFlight a point window trigger now = status_same a
-outcome_status outcomes.Taken a point window trigger now =
-    status_by a _ refl refl refl (acknowledged_size (tsns_up_to a.sender point) now (with_window a.sender window)
-    a.estimate a.streams) refl refl refl
+outcome_status : (o : SackOutcome) (a : Shown) (point : ℕ) (blocks : List GapAckBlock) (window : ℕ)
+    (trigger : AckTrigger) (now : ℕ)
+    → IsSameStatus a (on_counted_sack o a point blocks window trigger now).0
+outcome_status outcomes.Older a point blocks window trigger now = status_same a
+outcome_status outcomes.NotInFlight a point blocks window trigger now = status_same a
+outcome_status outcomes.NamesTheUnsent a point blocks window trigger now = status_same a
+outcome_status outcomes.Taken a point blocks window trigger now =
+    status_by a _ refl refl refl
+    (blocks_size blocks
+    (acknowledged (tsns_up_to a.sender point) now (with_window a.sender window, a.estimate, a.streams))
+    ∙ acknowledged_size (tsns_up_to a.sender point) now (with_window a.sender window) a.estimate a.streams)
+    refl refl refl
 
-sack_status : (established : Bool) (a : Shown) (point window : ℕ) (trigger : AckTrigger) (now : ℕ)
+sack_status : (established : Bool) (a : Shown) (point : ℕ) (blocks : List GapAckBlock) (window : ℕ)
+    (trigger : AckTrigger) (now : ℕ)
     → is_established a.state ≡ established
-    → IsSameStatus a (on_sack a point window trigger now).0
+    → IsSameStatus a (on_sack a point blocks window trigger now).0
 unfolding on_sack
-sack_status true a point window trigger now e =
+sack_status true a point blocks window trigger now e =
     rw e (status_on a (counted_sack a) _ (status_by a (counted_sack a) refl refl refl refl refl refl refl)
-    (outcome_status (sack_outcome a.sender point) (counted_sack a) point window trigger now))
-sack_status false a point window trigger now e = rw e (status_same a)
+    (outcome_status (sack_outcome a.sender point blocks) (counted_sack a) point blocks window trigger now))
+sack_status false a point blocks window trigger now e = rw e (status_same a)
 
 -- Any chunk: whether it failed, whether it was lost, and its payload size stay
 
@@ -250,7 +258,8 @@ kind_leaves : (header : CommonHeader) (c : Chunk) (a : Shown) (trigger : AckTrig
     → Leaves c a (dispatched a header c trigger now).0
 kind_leaves header (chunks.Data piece) a trigger now = data_status a piece trigger
 kind_leaves header (chunks.SelectiveAck k) a trigger now =
-    sack_status (is_established a.state) a k.cumulative_tsn_ack k.advertised_receiver_window_credit trigger now refl
+    sack_status (is_established a.state) a k.cumulative_tsn_ack k.gap_ack_blocks k.advertised_receiver_window_credit
+    trigger now refl
 kind_leaves header (chunks.Init x) a trigger now = init_works (is_beginning a.state) a header x trigger refl
 kind_leaves header (chunks.InitAck x) a trigger now =
     init_ack_works (is_cookie_wait a.state) (comes_back a.handshake header) a header x trigger now refl refl

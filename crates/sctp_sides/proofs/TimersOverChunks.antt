@@ -1,6 +1,6 @@
 -- The chunks of a packet keep the timers where they should run, and a fault stops them all.
-use Rattle.std.proofs.Common.{◌≡◌, refl, sym, ap, ◌∙◌, ◌⊎◌, inl, inr, ℕ, zero, suc, ◌<◌, arith, Bool, true, false, ltb}
-use Rattle.std.proofs.Common.{◌&&◌, if◌then◌else◌, List, [], ◌∷◌, length, Option, Some, None, is_some, Result, Ok, Err}
+use Rattle.std.proofs.Common.{◌≡◌, refl, sym, ap, ◌∙◌, ◌⊎◌, inl, inr, ℕ, zero, suc, ◌<◌, ◌+◌, arith, Bool, true, false}
+use Rattle.std.proofs.Common.{ltb, ◌&&◌, if◌then◌else◌, List, [], ◌∷◌, length, Option, Some, None, is_some, Result, Ok, Err}
 use Rattle.std.proofs.lemmas.Bool.{false≢true, ltb-false, ltb-true, true≢false}
 use Rattle.sctp_wire_types.specs.declared.chunk.Chunk.{Chunk}
 use Rattle.sctp_wire_types.specs.declared.chunk.Chunk.TheVariants as chunks
@@ -29,6 +29,9 @@ use Rattle.sctp_inbound.specs.Receiver.{credit_of, is_next_after, taken_to}
 use Rattle.sctp_outbound.specs.declared.sender.Sender.{Sender}
 use Rattle.sctp_outbound.specs.declared.sender.SackOutcome.{SackOutcome}
 use Rattle.sctp_outbound.specs.declared.sender.SackOutcome.TheVariants as outcomes
+use Rattle.sctp_wire_types.specs.declared.chunk.GapAckBlock.{GapAckBlock}
+use Rattle.sctp_receive_queues.specs.Received.{is_named}
+use Rattle.sctp_outbound.specs.GapAcks.{acked_among, with_blocks}
 use Rattle.sctp_outbound.specs.Sender.{acknowledged, tsns_up_to, sack_outcome, t3_after_sack, t3_cleared, with_window}
 use Rattle.sctp_assoc.specs.declared.inbound.Flow.{Flow}
 use Rattle.sctp_assoc.specs.declared.inbound.Flow.TheVariants as flows
@@ -109,6 +112,15 @@ acknowledged_nothing : (n now : ℕ) (s : Sender) (e : Estimate) (m : StreamMap)
 acknowledged_nothing zero now s e m h = refl
 acknowledged_nothing (suc n) now s e m h = absurd (omega (arith, ltb-false 0 (suc n) h))
 
+-- those that gap ack blocks name stay in flight
+flown_acked : (named : ℕ → Bool) (j : ℕ) (xs : List InFlight) → length (acked_among named j xs) ≡ length xs
+flown_acked named j [] = refl
+flown_acked named j (x ∷ xs) = ap suc (flown_acked named (suc j) xs)
+
+blocks_leave : (blocks : List GapAckBlock) (x : Sender × Estimate × StreamMap)
+    → length (with_blocks blocks x).0.queue.in_flight ≡ length x.0.queue.in_flight
+blocks_leave blocks (s, e, m) = flown_acked (λ j. is_named (j + 1) blocks) 0 s.queue.in_flight
+
 -- The timers fit these pieces in flight, and those that a SACK left are these.
 module _ (s : AssociationState) (f g : List InFlight) (t : Timers) (now rto : ℕ) (b : is_beginning s ≡ false)
     (h : FitsTimers s f t) where
@@ -141,8 +153,8 @@ module _ (s : AssociationState) (f g : List InFlight) (t : Timers) (now rto : �
       kept_limit true = refl
       kept_limit false = refl
 
-  -- T3-rtx after a SACK that left these pieces in flight: where nothing was acknowledged the pieces are the same
-  sack_fits : (left moved : Bool) → ltb 0 (length g) ≡ left → (moved ≡ false → g ≡ f)
+  -- T3-rtx after a SACK that left these pieces in flight: where its point acknowledged nothing there are as many
+  sack_fits : (left moved : Bool) → ltb 0 (length g) ≡ left → (moved ≡ false → length g ≡ length f)
       → FitsTimers s g (if left then restarted_if_stale names.T3RTX now rto (t3_cleared moved t) else if moved
       then with_stopped names.T3RTX t else t)
   sack_fits true moved e k = cleared moved (ltb-true 0 (length g) e)
@@ -152,7 +164,7 @@ module _ (s : AssociationState) (f g : List InFlight) (t : Timers) (now rto : �
     cookies = h.cookies;
     unsent = λ z. absurd (false≢true (sym b ∙ z));
   }
-  sack_fits false false e k = fits_as_many s f g t (ap (λ (z : List InFlight). length z) (k refl)) h
+  sack_fits false false e k = fits_as_many s f g t (k refl) h
 
 sack_keeps_ack : (left moved : Bool) (t : Timers) (now rto : ℕ)
     → (if left then restarted_if_stale names.T3RTX now rto (t3_cleared moved t)
@@ -163,7 +175,7 @@ sack_keeps_ack false true t now rto = refl
 sack_keeps_ack false false t now rto = refl
 
 taken_ticks : (a : Shown) (moved : Bool) (now : ℕ) (x : Sender × Estimate × StreamMap) → is_beginning a.state ≡ false
-    → (moved ≡ false → x.0.queue.in_flight ≡ a.sender.queue.in_flight) → Ticks a
+    → (moved ≡ false → length x.0.queue.in_flight ≡ length a.sender.queue.in_flight) → Ticks a
     → Ticks (with_acknowledged a moved now x)
 taken_ticks a moved now (s, e, m) b k h = record {
   working = h.working;
@@ -174,15 +186,19 @@ taken_ticks a moved now (s, e, m) b k h = record {
       (sack_keeps_ack (ltb 0 (length s.queue.in_flight)) moved a.timers now e.rto) h.acks;
 }
 
-outcome_ticks : (o : SackOutcome) (a : Shown) (point window : ℕ) (trigger : AckTrigger) (now : ℕ)
+outcome_ticks : (o : SackOutcome) (a : Shown) (point : ℕ) (blocks : List GapAckBlock) (window : ℕ)
+    (trigger : AckTrigger) (now : ℕ)
     → is_beginning a.state ≡ false → Ticks a
-    → Ticks (on_counted_sack o a point window trigger now).0
-outcome_ticks outcomes.Older a point window trigger now b h = h
-outcome_ticks outcomes.NotInFlight a point window trigger now b h = h
-outcome_ticks outcomes.Taken a point window trigger now b h =
-    taken_ticks a (ltb 0 (tsns_up_to a.sender point)) now
-    (acknowledged (tsns_up_to a.sender point) now (with_window a.sender window, a.estimate, a.streams)) b
-    (λ e. acknowledged_nothing (tsns_up_to a.sender point) now (with_window a.sender window) a.estimate a.streams e) h
+    → Ticks (on_counted_sack o a point blocks window trigger now).0
+outcome_ticks outcomes.Older a point blocks window trigger now b h = h
+outcome_ticks outcomes.NotInFlight a point blocks window trigger now b h = h
+outcome_ticks outcomes.NamesTheUnsent a point blocks window trigger now b h = h
+outcome_ticks outcomes.Taken a point blocks window trigger now b h =
+    let x = acknowledged (tsns_up_to a.sender point) now (with_window a.sender window, a.estimate, a.streams) in
+    taken_ticks a (ltb 0 (tsns_up_to a.sender point)) now (with_blocks blocks x) b
+    (λ e. blocks_leave blocks x
+    ∙ ap (λ (z : List InFlight). length z)
+    (acknowledged_nothing (tsns_up_to a.sender point) now (with_window a.sender window) a.estimate a.streams e)) h
 
 -- The handshake
 
@@ -283,14 +299,15 @@ information_ticks (Some information) a h = ticks_by a _ (time_by a _ refl refl r
 
 -- Each chunk keeps the timers where they should run, or is a fault.
 module _ (a : Shown) (trigger : AckTrigger) (h : Ticks a) where
-  sack_ticks : (established : Bool) (point window now : ℕ) → is_established a.state ≡ established
-      → Ticks (on_sack a point window trigger now).0
+  sack_ticks : (established : Bool) (point : ℕ) (blocks : List GapAckBlock) (window now : ℕ)
+      → is_established a.state ≡ established
+      → Ticks (on_sack a point blocks window trigger now).0
   unfolding on_sack
-  sack_ticks true point window now e =
-      rw e (outcome_ticks (sack_outcome a.sender point) (counted_sack a) point window trigger now
+  sack_ticks true point blocks window now e =
+      rw e (outcome_ticks (sack_outcome a.sender point blocks) (counted_sack a) point blocks window trigger now
       (established_begins_no_more a.state e)
       (ticks_by a (counted_sack a) (time_by a (counted_sack a) refl refl refl refl refl refl) h))
-  sack_ticks false point window now e = rw e h
+  sack_ticks false point blocks window now e = rw e h
 
   init_ticks : (c : Bool) (header : CommonHeader) (init : ChunkInit) → is_beginning a.state ≡ c
       → Ticks (on_init a header init trigger).0
@@ -335,8 +352,9 @@ module _ (a : Shown) (trigger : AckTrigger) (h : Ticks a) where
   kind_ticks header (chunks.Data piece) now = ticks_on (on_data a piece trigger)
       (ticks_by a (on_data a piece trigger).0 (data_time a piece trigger) h)
   kind_ticks header (chunks.SelectiveAck k) now =
-      ticks_on (on_sack a k.cumulative_tsn_ack k.advertised_receiver_window_credit trigger now)
-      (sack_ticks (is_established a.state) k.cumulative_tsn_ack k.advertised_receiver_window_credit now refl)
+      ticks_on (on_sack a k.cumulative_tsn_ack k.gap_ack_blocks k.advertised_receiver_window_credit trigger now)
+      (sack_ticks (is_established a.state) k.cumulative_tsn_ack k.gap_ack_blocks k.advertised_receiver_window_credit
+      now refl)
   kind_ticks header (chunks.Init x) now = ticks_on (on_init a header x trigger)
       (init_ticks (is_beginning a.state) header x refl)
   kind_ticks header (chunks.InitAck x) now =

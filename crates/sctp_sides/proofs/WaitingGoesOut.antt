@@ -115,7 +115,7 @@ first_due q own base e f =
 
 pub what_waits_is_given : WhatWaitsIsGiven
 what_waits_is_given a h now m established binds next =
-    let adds = data_poll_adds a now h binds.first in
+    let adds = data_poll_adds a now h binds.first binds.marked in
     let first : slice_get (all_data_given (acts_of_data_poll a now) (parts a h)) 0
     ≡ Some (next_chunk_of m (next_tsn_of a.sender.queue)) =
     ap (λ (z : List ChunkPayloadData). slice_get z 0) (adds.gives.said ∙ sym adds.all)

@@ -1,6 +1,6 @@
 -- What closes an association: the chunks that are faults, by what stands in them and in the state (RFC 4960
 -- sections 3.3, 5 and 6.2.1).
-use Rattle.std.specs.Prelude.{◌≡◌, ◌≢◌, ◌⊎◌, ◌↔◌, ◌≤◌, ℕ, zero, suc, ◌+◌, ◌%◌, ◌^◌, true, false, List, [], ◌∷◌, length}
+use Rattle.std.specs.Prelude.{◌≡◌, ◌≢◌, ◌⊎◌, ◌↔◌, ◌≤◌, ◌<◌, ℕ, zero, suc, ◌+◌, ◌%◌, ◌^◌, true, false, List, [], ◌∷◌, length}
 use Rattle.std.specs.Prelude.{slice_get, Some, None, Err, ⊤}
 use Rattle.sctp_wire_types.specs.Checks.{checked_chunk}
 use Rattle.sctp_serial.specs.Serial.{tsn_gt, tsn}
@@ -8,11 +8,13 @@ use Rattle.sctp_wire_types.specs.declared.chunk.Chunk.{Chunk}
 use Rattle.sctp_wire_types.specs.declared.chunk.Chunk.TheVariants as chunks
 use Rattle.sctp_wire_types.specs.declared.chunk.ChunkInit.{ChunkInit}
 use Rattle.sctp_wire_types.specs.declared.chunk.ChunkPayloadData.{ChunkPayloadData}
+use Rattle.sctp_wire_types.specs.declared.chunk.ChunkSelectiveAck.{ChunkSelectiveAck}
 use Rattle.sctp_wire_types.specs.declared.error.Error.{Error}
 use Rattle.sctp_wire_types.specs.declared.packet.CommonHeader.{CommonHeader}
 use Rattle.sctp_wire.specs.declared.packet.Packet.{Packet}
 use Rattle.sctp_parts.specs.declared.state.AssociationState.{AssociationState}
 use Rattle.sctp_parts.specs.declared.state.AssociationState.TheVariants as states
+use Rattle.sctp_receive_queues.specs.Received.{is_named}
 use Rattle.sctp_inbound.specs.Greeting.{first_cookie}
 use Rattle.sctp_inbound.specs.declared.receiver.AckTrigger.{AckTrigger}
 use Rattle.sctp_inbound.specs.declared.receiver.AckTrigger.TheVariants as triggers
@@ -38,13 +40,29 @@ pub record FitsNoMessage (a : Shown) (h : History) (piece : ChunkPayloadData) : 
   pub error : Error
   pub refused : refusal_of a piece ≡ Some error
 
--- A SACK in Established acknowledges what was never sent: its point is not behind the acknowledged one, and is
--- neither that one nor the TSN of a piece in flight. The number that the SACK names counts modulo 2^32, as TSNs do.
-pub record AcknowledgesTheUnsent (a : Shown) (h : History) (cumulative_tsn_ack : ℕ) : Type 0 where
+-- A point that is neither the acknowledged one nor the TSN of a piece in flight. The number that the SACK names counts
+-- modulo 2^32, as TSNs do.
+abbrev pub IsBeyondTheSent : Shown → History → ℕ → Type 0
+IsBeyondTheSent a h cumulative_tsn_ack = (n : ℕ) → n ≤ length a.sender.queue.in_flight
+    → cumulative_tsn_ack % 2 ^ 32 ≢ tsn_before (tsn h.own (h.base + n))
+
+-- A point behind so many of the pieces in flight, and an offset past it that the gap ack blocks name and at which no
+-- piece in flight stands: offsets count from the point, so the piece behind it is at 1 (RFC 4960 section 3.3.4).
+pub record NamesNoPiece (a : Shown) (h : History) (sack : ChunkSelectiveAck) : Type 0 where
+  pub count : ℕ
+  pub within : count ≤ length a.sender.queue.in_flight
+  pub near : count < 2 ^ 32
+  pub at : sack.cumulative_tsn_ack % 2 ^ 32 ≡ tsn_before (tsn h.own (h.base + count))
+  pub offset : ℕ
+  pub named : is_named offset sack.gap_ack_blocks ≡ true
+  pub unsent : (index : ℕ) → index < length a.sender.queue.in_flight → count + offset ≢ index + 1
+
+-- A SACK in Established acknowledges what is not in flight: its point is not behind the acknowledged one, and it lies
+-- beyond what was sent, or the gap ack blocks name a TSN that no piece in flight has.
+pub record AcknowledgesTheUnsent (a : Shown) (h : History) (sack : ChunkSelectiveAck) : Type 0 where
   pub established : a.state ≡ states.Established
-  pub not_behind : tsn_gt (tsn_before (tsn h.own h.base)) cumulative_tsn_ack ≡ false
-  pub unsent : (n : ℕ) → n ≤ length a.sender.queue.in_flight
-      → cumulative_tsn_ack % 2 ^ 32 ≢ tsn_before (tsn h.own (h.base + n))
+  pub not_behind : tsn_gt (tsn_before (tsn h.own h.base)) sack.cumulative_tsn_ack ≡ false
+  pub unsent : IsBeyondTheSent a h sack.cumulative_tsn_ack ⊎ NamesNoPiece a h sack
 
 -- The state is none in which a handshake is open or can begin.
 pub record IsPastTheHandshake (state : AssociationState) : Type 0 where
@@ -63,7 +81,7 @@ pub record BringsNoCookie (a : Shown) (header : CommonHeader) (init : ChunkInit)
 -- not processed
 abbrev pub IsCauseOfItsKind : Shown → History → CommonHeader → Chunk → Type 0
 IsCauseOfItsKind a h header (chunks.Data piece) = FitsNoMessage a h piece
-IsCauseOfItsKind a h header (chunks.SelectiveAck sack) = AcknowledgesTheUnsent a h sack.cumulative_tsn_ack
+IsCauseOfItsKind a h header (chunks.SelectiveAck sack) = AcknowledgesTheUnsent a h sack
 IsCauseOfItsKind a h header (chunks.Init init) = IsPastTheHandshake a.state
 IsCauseOfItsKind a h header (chunks.InitAck init) = BringsNoCookie a header init
 IsCauseOfItsKind a h header (chunks.CookieEcho cookie) = ⊥

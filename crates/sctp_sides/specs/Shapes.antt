@@ -13,6 +13,7 @@ use Rattle.sctp_wire_types.specs.declared.packet.CommonHeader.{CommonHeader}
 use Rattle.sctp_wire.specs.declared.packet.Packet.{Packet}
 use Rattle.sctp_wire.specs.Packets.{packet_at}
 use Rattle.sctp_receive_queues.specs.Reassembly.{empty_reassembly}
+use Rattle.sctp_receive_queues.specs.Received.{is_named}
 use Rattle.sctp_streams.specs.declared.event.AssociationError.{AssociationError}
 use Rattle.sctp_streams.specs.declared.event.Event.{Event}
 use Rattle.sctp_streams.specs.Stream.{StreamView}
@@ -234,31 +235,36 @@ DataIsTaken =
     (a : Shown) (header : CommonHeader) (piece : ChunkPayloadData)
     → IsTaking a piece (acts_of_chunk a header (chunks.Data piece))
 
--- The first pieces in flight are acknowledged, so many that the point is the TSN before that of the next one.
-pub record Acknowledges (a : Shown) (h : History) (cumulative_tsn_ack : ℕ) (acts : List Act) : Type 0 where
+-- The first pieces in flight are acknowledged, so many that the point is the TSN before that of the next one, and of
+-- those behind them the ones that the gap ack blocks name.
+pub record Acknowledges (a : Shown) (h : History) (sack : ChunkSelectiveAck) (acts : List Act) : Type 0 where
   pub count : ℕ
-  pub are : acts ≡ Act.Acknowledged count ∷ []
+  pub are : acts ≡ Act.Acknowledged count sack.gap_ack_blocks ∷ []
   pub within : count ≤ length a.sender.queue.in_flight
-  pub at : cumulative_tsn_ack % 2 ^ 32 ≡ tsn_before (tsn h.own (h.base + count))
+  pub at : sack.cumulative_tsn_ack % 2 ^ 32 ≡ tsn_before (tsn h.own (h.base + count))
 
--- A SACK acknowledges what its point says, or nothing (RFC 4960 section 6.2.1).
+-- A SACK acknowledges what its point and its gap ack blocks say, or nothing (RFC 4960 section 6.2.1).
 abbrev pub SacksAcknowledge : Type 0
 SacksAcknowledge = (a : Shown) (h : History) (header : CommonHeader) (sack : ChunkSelectiveAck) → Binds a h
     → (acts_of_chunk a header (chunks.SelectiveAck sack) ≡ [])
-    ⊎ Acknowledges a h sack.cumulative_tsn_ack (acts_of_chunk a header (chunks.SelectiveAck sack))
+    ⊎ Acknowledges a h sack (acts_of_chunk a header (chunks.SelectiveAck sack))
 
 -- A SACK names the TSN of the last of the first so many pieces in flight, or with none of them the acknowledged point.
--- They are fewer than half of all TSNs.
-pub record NamesTheSent (a : Shown) (h : History) (cumulative_tsn_ack count : ℕ) : Type 0 where
+-- They are fewer than half of all TSNs. Each offset that its gap ack blocks name is that of a piece in flight: offsets
+-- count from the point, so the piece behind it is at 1.
+pub record NamesTheSent (a : Shown) (h : History) (sack : ChunkSelectiveAck) (count : ℕ) : Type 0 where
   pub within : count ≤ length a.sender.queue.in_flight
   pub near : count < 2 ^ 31
-  pub at : cumulative_tsn_ack ≡ tsn_before (tsn h.own (h.base + count))
+  pub at : sack.cumulative_tsn_ack ≡ tsn_before (tsn h.own (h.base + count))
+  pub named : (offset : ℕ) → is_named offset sack.gap_ack_blocks ≡ true
+      → (0 < count + offset) × (count + offset ≤ length a.sender.queue.in_flight)
 
--- In Established such a SACK acknowledges exactly these pieces (RFC 4960 section 6.2.1).
+-- In Established such a SACK acknowledges exactly these pieces, and those that its gap ack blocks name (RFC 4960
+-- section 6.2.1).
 abbrev pub TakenSacksAcknowledge : Type 0
 TakenSacksAcknowledge = (a : Shown) (h : History) (header : CommonHeader) (sack : ChunkSelectiveAck) (count : ℕ)
-    → is_established a.state ≡ true → Binds a h → NamesTheSent a h sack.cumulative_tsn_ack count
-    → acts_of_chunk a header (chunks.SelectiveAck sack) ≡ Act.Acknowledged count ∷ []
+    → is_established a.state ≡ true → Binds a h → NamesTheSent a h sack count
+    → acts_of_chunk a header (chunks.SelectiveAck sack) ≡ Act.Acknowledged count sack.gap_ack_blocks ∷ []
 
 -- Outside of Established a SACK acknowledges nothing, and neither does one whose point lies behind the acknowledged
 -- one.
