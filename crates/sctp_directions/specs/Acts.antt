@@ -117,6 +117,7 @@ message_of s id bytes = record {
 }
 
 -- the bytes are queued on the stream, where it is live
+-- the bytes are queued on the stream, where it is live
 abbrev pub with_written : Option StreamView → Parts → ℕ → List ℕ → Parts
 with_written None p id bytes = p
 with_written (Some s) p id bytes =
@@ -181,6 +182,7 @@ abbrev pub CanAll : List Act → Parts → Type 0
 CanAll [] p = Unit {0}
 CanAll (x ∷ xs) p = Can x p × CanAll xs (done x p)
 
+-- this piece, if there is one, as DATA
 -- this piece, if there is one, as DATA
 abbrev pub chunk_said : Option InFlight → ℕ → List ChunkPayloadData
 chunk_said None t = []

@@ -166,7 +166,7 @@ at_receiver Event.Close at = tt
 at_receiver e at = absurd at
 
 -- a direction is sound after a plain event that keeps its invariant
-pub sound_after : {w : Direction} (e : Event) → IsPlainEvent w e → Invariant (happens w e) → IsSound w
+pub sound_after : {w : Direction} (e : Event) → IsPlainEvent e → Invariant (happens w e) → IsSound w
     → IsSound (happens w e)
 sound_after {w} e plain invariant sound = record {
   invariant = invariant;

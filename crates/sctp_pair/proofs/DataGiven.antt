@@ -4,6 +4,7 @@ use Rattle.std.proofs.Common.{◌≡◌, ◌∙◌, subst, List, [], ◌∷◌, 
 use Rattle.std.specs.Prelude.{slice_get}
 use Rattle.std.specs.List.{AllByRecursion}
 use Rattle.sctp_wire_types.specs.declared.chunk.ChunkPayloadData.{ChunkPayloadData}
+use Rattle.sctp_wire_types.specs.declared.chunk.ChunkSelectiveAck.{ChunkSelectiveAck}
 use Rattle.sctp_model.specs.Packets.{Sack}
 use Rattle.sctp_model.specs.Machine.{Direction, Event, happens, run}
 use Rattle.sctp_model.specs.Safe.{IsWithin}
@@ -15,6 +16,7 @@ use Rattle.sctp_directions.specs.Acts.{Act, Can, CanAll, IsOfItsOwn, MeetsNobody
 use Rattle.sctp_directions.specs.Acts.{done, done_all, sending}
 use Rattle.sctp_directions.specs.Between.{IsSound}
 use Rattle.sctp_directions.specs.Events.{Accepts, IsOfSending, IsPlainEvent}
+use Rattle.sctp_directions.specs.Reports.{SaysWhatWasTaken}
 use Rattle.sctp_directions.proofs.Proved.{acknowledgements_are_alike, acts_keep_the_initial_tsns}
 use Rattle.sctp_directions.proofs.Proved.{events_keep_the_limits, only_beginnings_assign, own_acts_leave_what_comes}
 use Rattle.sctp_directions.proofs.Proved.{pieces_are_given, senders_events_keep_the_invariant}
@@ -37,7 +39,7 @@ record IsAfterEvents (x : Surroundings) (out2 : Direction) : Type 0 where
   sound : IsSound out2
   other : OtherStands (record x { out = out2 })
 
-after_event : (x : Surroundings) (e : Event) → IsOfSending e → (Accepts e → ⊥) → IsPlainEvent x.out e → IsSound x.out
+after_event : (x : Surroundings) (e : Event) → IsOfSending e → (Accepts e → ⊥) → IsPlainEvent e → IsSound x.out
     → OtherStands x → IsAfterEvents x (happens x.out e)
 after_event x e at none plain sound other = record {
   goes = goes_by_sender None_brought x.out e at none;
@@ -102,7 +104,7 @@ module _ (x : Surroundings) (p : Parts) (h : Holds x p) where
   act_sent_again : (index : ℕ) → Can (Act.SentAgain index) p
       → AfterOut x (done (Act.SentAgain index) p) (data_given (Act.SentAgain index) p)
   act_sent_again index can =
-      let resent = pieces_are_given p index x.out can h.sound_out.invariant h.sound_out.plain h.between.outgoing in
+      let resent = pieces_are_given p index x.out can h.sound_out.invariant h.between.outgoing in
       let e : Event = Event.Resend (x.out.sender.reach + index) in
       act_at_sender (Act.SentAgain index) (happens x.out e) (data_given (Act.SentAgain index) p) tt tt
       (after_event x e tt (λ n. n) tt h.sound_out h.other) resent.0 resent.1
@@ -112,17 +114,17 @@ module _ (x : Surroundings) (p : Parts) (h : Holds x p) where
   one_given (Act.SentAgain index) g can = act_sent_again index can
   one_given act g can = absurd g
 
--- a SACK that acknowledges the first n pieces in flight
-pub act_acknowledged : {x : Surroundings} {p : Parts} (n k : ℕ) (sack : Sack) → Holds x p
-    → slice_get x.out.sacks k ≡ Some sack → sack.reach ≡ x.out.sender.reach + n → Can (Act.Acknowledged n) p
-    → (after : AfterOut x (done (Act.Acknowledged n) p) []) × (IsWithin x.out → IsWithin after.out2)
+-- a SACK that acknowledges the first n pieces in flight, and those that its gap ack blocks name
+pub act_acknowledged : {x : Surroundings} {p : Parts} (n k : ℕ) (c : ChunkSelectiveAck) (sack : Sack) → Holds x p
+    → slice_get x.out.sacks k ≡ Some sack → SaysWhatWasTaken p.history.own sack.reach sack.above c
+    → sack.reach ≡ x.out.sender.reach + n → Can (Act.Acknowledged n c.gap_ack_blocks) p
+    → (after : AfterOut x (done (Act.Acknowledged n c.gap_ack_blocks) p) []) × (IsWithin x.out → IsWithin after.out2)
     × (after.out2.sender.plan.places ≡ x.out.sender.plan.places)
 unfolding act_at_sender
-act_acknowledged {x} {p} n k sack h e at can = (
-  act_at_sender x p h (Act.Acknowledged n) (happens x.out (Event.SackComes k)) [] tt tt
+act_acknowledged {x} {p} n k c sack h e says at can = (
+  act_at_sender x p h (Act.Acknowledged n c.gap_ack_blocks) (happens x.out (Event.SackComes k)) [] tt tt
       (after_event x (Event.SackComes k) tt (λ n. n) tt h.sound_out h.other)
-      (acknowledgements_are_alike p n k sack x.out e at can h.sound_out.invariant h.sound_out.plain h.between.outgoing)
-      tt,
+      (acknowledgements_are_alike p n k c sack x.out e says at can h.sound_out.invariant h.between.outgoing) tt,
   λ within. events_keep_the_limits x.out (Event.SackComes k) tt within,
   only_beginnings_assign x.out (Event.SackComes k) tt (λ n. n),
 )

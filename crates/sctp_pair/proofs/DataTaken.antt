@@ -45,7 +45,7 @@ record IsReceiversEvent (x : Surroundings) (p : Parts) (B : ℕ → Type 0) (act
   at : IsOfReceiving e
   none : GivesAMessage e → ⊥
   keeps : KeepsWithin e
-  plain : IsPlainEvent x.coming e
+  plain : IsPlainEvent e
   brings : (o : ℕ) → Brings x.coming e o → B o
   outgoing : FitsOutgoing (sending (done act p)) x.out
   incoming : FitsIncoming (receiving (done act p)) (happens x.coming e)
@@ -112,7 +112,7 @@ module _ (x : Surroundings) (p : Parts) (B : ℕ → Type 0) (h : Holds x p) (wi
         at = tt;
         none = λ n. n;
         keeps = tt;
-        plain = (m.datum, m.there, fits.0);
+        plain = tt;
         brings = brings;
         outgoing = what_comes_leaves_its_own (Act.Took piece) p x.out tt h.between.outgoing;
         incoming = fits.1;

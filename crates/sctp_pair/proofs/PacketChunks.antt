@@ -18,9 +18,10 @@ use Rattle.sctp_serial.specs.Serial.{tsn}
 use Rattle.sctp_model.specs.Machine.{Sender}
 use Rattle.sctp_model.specs.Safe.{IsWithin}
 use Rattle.sctp_model.proofs.Lists.{all_get}
-use Rattle.sctp_fit.specs.Incoming.{IsSaid, tsn_before}
+use Rattle.sctp_fit.specs.Incoming.{IsSaid}
 use Rattle.sctp_fit.specs.Sendings.{IsGiven}
 use Rattle.sctp_directions.specs.Acts.{Act, CanAll, History, MeetsNobody, Parts, done, done_all}
+use Rattle.sctp_directions.specs.Reports.{SaysWhatWasTaken}
 use Rattle.sctp_directions.specs.Said.{IsMade}
 use Rattle.sctp_directions.proofs.Proved.{acts_keep_the_initial_tsns, sacks_mean_the_same}
 use Rattle.sctp_assoc.specs.Leads.{parts}
@@ -169,24 +170,24 @@ Goes_out x p acts =
     × (after.out2.sender.plan.places ≡ x.out.sender.plan.places)
 
 sack_shape : (x : Surroundings) (a : Shown) (h : History) (c : ChunkSelectiveAck) (acts : List Act)
-    → (acts ≡ []) ⊎ Acknowledges a h c.cumulative_tsn_ack acts → IsMade x.own x.out c → IsWithin x.out
+    → (acts ≡ []) ⊎ Acknowledges a h c acts → IsMade x.own x.out c → IsWithin x.out
     → Holds x (parts a h) → Goes_out x (parts a h) acts
 sack_shape x a h c acts (inl n) made within holds =
     subst (Goes_out x (parts a h)) (sym n)
     (record { out2 = x.out; goes = goes_nowhere None_brought x.out; holds = holds; said = tt }, within, refl)
 sack_shape x a h c acts (inr s) (k, sack, e, says) within holds =
-    let named : c.cumulative_tsn_ack ≡ tsn_before (tsn h.own sack.reach) =
-    says.at ∙ ap (λ i. tsn_before (tsn i sack.reach)) (sym holds.own_is) in
+    let named : SaysWhatWasTaken h.own sack.reach sack.above c =
+    subst (λ (i : ℕ). SaysWhatWasTaken i sack.reach sack.above c) (sym holds.own_is) says in
     let at : sack.reach ≡ x.out.sender.reach + s.count =
-    sacks_mean_the_same (parts a h) s.count c.cumulative_tsn_ack k sack x.out e named s.at s.within within
+    sacks_mean_the_same (parts a h) s.count c.cumulative_tsn_ack k sack x.out e named.at s.at s.within within
     holds.sound_out.invariant holds.between.outgoing in
-    let one = act_acknowledged s.count k sack holds e at s.within in
+    let one = act_acknowledged s.count k c sack holds e named at s.within in
     subst (Goes_out x (parts a h)) (sym s.are) (one.0, one.1 within, one.2)
 
-sack_meets_nobody : (a : Shown) (h : History) (t : ℕ) (acts : List Act) → (acts ≡ []) ⊎ Acknowledges a h t acts
-    → AllByRecursion MeetsNobody acts
-sack_meets_nobody a h t acts (inl n) = subst (AllByRecursion MeetsNobody) (sym n) tt
-sack_meets_nobody a h t acts (inr s) = subst (AllByRecursion MeetsNobody) (sym s.are) (tt, tt)
+sack_meets_nobody : (a : Shown) (h : History) (c : ChunkSelectiveAck) (acts : List Act)
+    → (acts ≡ []) ⊎ Acknowledges a h c acts → AllByRecursion MeetsNobody acts
+sack_meets_nobody a h c acts (inl n) = subst (AllByRecursion MeetsNobody) (sym n) tt
+sack_meets_nobody a h c acts (inr s) = subst (AllByRecursion MeetsNobody) (sym s.are) (tt, tt)
 
 sack_step : {x : Surroundings} {B : ℕ → Type 0} (header : CommonHeader) (s : ChunkSelectiveAck) {a b : Shown}
     → TakesChunk header (chunks.SelectiveAck s) a b → IsMade x.own x.out s → Underway x B a → Underway x B b
@@ -202,7 +203,7 @@ sack_step {x} {B} header s {a} {b} takes (k, sack, e, says) u =
     let next : Surroundings = moved x after.out2 u.coming2 in
     let holds : Holds next (parts b leads.0) = subst (Holds next) (sym leads.1.there) after.holds in
     let met = ap (λ (p : Parts). p.history.peer) leads.1.there
-    ∙ (acts_keep_the_initial_tsns acts (parts a h) (sack_meets_nobody a h s.cumulative_tsn_ack acts shape)).1 in
+    ∙ (acts_keep_the_initial_tsns acts (parts a h) (sack_meets_nobody a h s acts shape)).1 in
     record {
       out2 = after.out2;
       coming2 = u.coming2;

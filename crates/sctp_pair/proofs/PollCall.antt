@@ -201,7 +201,12 @@ open_without x a same s = record {
   past = s.past;
   own_is = s.own_is;
   peer_is = s.peer_is;
-  binds = record { first = s.binds.first; point = s.binds.point; held = s.binds.held };
+  binds = record {
+    first = s.binds.first;
+    point = s.binds.point;
+    held = s.binds.held;
+    marked = s.binds.marked;
+  };
   working = s.working;
   come = come_on a (without_control a) same s.come;
   present = s.present;

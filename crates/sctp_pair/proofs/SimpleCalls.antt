@@ -81,7 +81,7 @@ measures_same a r b h = absurd h
 -- an event of the receiver that is no read and brings nothing happened to the direction that comes, and the association
 -- stands between its directions then
 pub settles_by_receiver : {x : Surroundings} {a b : Shown} (e : Event) → Faces x a → IsOfReceiving e
-    → (GivesAMessage e → ⊥) → ((o : ℕ) → Brings x.coming e o → ⊥) → IsPlainEvent x.coming e → IsAt b x.here
+    → (GivesAMessage e → ⊥) → ((o : ℕ) → Brings x.coming e o → ⊥) → IsPlainEvent e → IsAt b x.here
     → StandsAt (record x { coming = happens x.coming e }) b → SettlesQuietly x b
 settles_by_receiver {x} e f at none brings plain now s =
     let received = receivers_events_are_received x.coming e at in
