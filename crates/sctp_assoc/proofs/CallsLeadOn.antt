@@ -2,7 +2,7 @@
 use Rattle.std.proofs.Common.{◌≡◌, refl, sym, ap, ◌∙◌, subst, ℕ, ◌<◌, ◌≤◌, ◌+◌, ◌-◌, ◌%◌, ◌^◌, arith}
 use Rattle.std.proofs.Common.{Bool, true, false, ◌&&◌, List, [], ◌∷◌, ◌++◌, length, if◌then◌else◌, nat_lt}
 use Rattle.std.proofs.Common.{Option, Some, None, Result, Ok, Err, is_some}
-use Rattle.std.proofs.lemmas.Bool.{and_parts, eqb-true, false≢true, ltb-false}
+use Rattle.std.proofs.lemmas.Bool.{false≢true, ltb-false}
 use Rattle.sctp_serial.specs.Serial.{tsn_gt, tsn}
 use Rattle.sctp_wire_types.specs.declared.chunk.ChunkPayloadData.{ChunkPayloadData}
 use Rattle.sctp_wire_types.specs.declared.chunk.Chunk.{Chunk}
@@ -32,7 +32,7 @@ use Rattle.sctp_inbound.specs.declared.receiver.Receiver.{Receiver}
 use Rattle.sctp_inbound.specs.declared.handshake.Offer.{Offer}
 use Rattle.sctp_inbound.specs.Greeting.{first_cookie, information_of}
 use Rattle.sctp_inbound.specs.Handshake.{comes_back, has_issued}
-use Rattle.sctp_inbound.specs.Receiver.{credit_of, is_next_after, taken_to}
+use Rattle.sctp_inbound.specs.Receiver.{admits, is_new_to, past_of, taken_to}
 use Rattle.sctp_outbound_queue.specs.Outbound.{Outbound}
 use Rattle.sctp_wire_types.specs.declared.chunk.GapAckBlock.{GapAckBlock}
 use Rattle.sctp_outbound.specs.GapAcks.{with_blocks}
@@ -44,14 +44,13 @@ use Rattle.sctp_assoc.specs.declared.inbound.Flow.{Flow}
 use Rattle.sctp_assoc.specs.declared.inbound.Flow.TheVariants as flows
 use Rattle.sctp_directions.specs.Acts.{Act, CanAll, History, Parts, done, done_all}
 use Rattle.sctp_assoc.specs.Leads.{Binds, Leads, IsSamePast, LeadsOn, parts}
-use Rattle.sctp_fit.specs.Incoming.{tsn_before}
-use Rattle.sctp_directions.specs.Acts.{offset_in, reach_in, with_peer, with_taken, with_written}
+use Rattle.sctp_directions.specs.Acts.{offset_in, with_peer, with_taken, with_written}
 use Rattle.sctp_assoc.specs.Calls.{after_ack_delay, after_t3, closed_by, closed_open, event_from, event_polled, opened}
 use Rattle.sctp_assoc.specs.Calls.{read_from_stream, retransmits, t3_expired, written, written_at, is_beginning}
 use Rattle.sctp_assoc.specs.Calls.{is_closed_state, is_cookie_echoed, is_cookie_wait, is_established}
 use Rattle.sctp_assoc.specs.Chunks.{after_chunks, after_packet, after_packet_of, after_sack, asks_or_faults}
-use Rattle.sctp_assoc.specs.Chunks.{checked_first, counted_data, counted_sack, dispatched, ended, goes_on, is_whole}
-use Rattle.sctp_assoc.specs.Chunks.{on_chunk, on_counted_sack, on_data, on_next_data, on_sack, stream_found, taken_in}
+use Rattle.sctp_assoc.specs.Chunks.{checked_first, counted_data, counted_sack, dispatched, ended, goes_on}
+use Rattle.sctp_assoc.specs.Chunks.{on_chunk, on_counted_sack, on_data, on_new_data, on_sack, stream_found, taken_in}
 use Rattle.sctp_assoc.specs.Chunks.{taken_unless, told, with_acknowledged, with_message, with_new_stream}
 use Rattle.sctp_assoc.specs.Happened.{acts_after, acts_of_checked, acts_of_chunk, acts_of_chunks, acts_of_close}
 use Rattle.sctp_assoc.specs.Happened.{acts_of_kind, acts_of_packet, acts_of_packet_of, acts_of_data, acts_of_found}
@@ -66,8 +65,10 @@ use Rattle.sctp_assoc.specs.Shown.{Shown}
 use Rattle.sctp_assoc.proofs.MarksOutstanding.{AreMarkedRight, act_marked, acts_marked}
 use Rattle.sctp_assoc.proofs.ActsKeepOffsets.{acts_tied, can_append, done_append}
 use Rattle.sctp_assoc.proofs.ActsKeepOffsets.{pieces_acknowledged}
+use Rattle.sctp_fit.specs.HeldSet.{HoldsPast}
 use Rattle.sctp_fit.proofs.HeldTsns.{nothing_is_held_at_first}
-use Rattle.sctp_assoc.proofs.WhatCame.{held_moves, next_is_new, point_moves, same_held, same_point}
+use Rattle.sctp_assoc.proofs.DataCame.{held_follows, new_tsn, point_follows}
+use Rattle.sctp_assoc.proofs.WhatCame.{came_on, same_held, same_point}
 
 pub leads_on : (xs ys : List Act) {a b c : Shown} {h k l : History} → Leads xs a h b k → Leads ys b k c l
     → Leads (xs ++ ys) a h c l
@@ -80,7 +81,7 @@ leads_on xs ys {a} {b} {c} {h} {k} {l} m n = record {
 -- Where the directions see another queue or other streams, but the same receiver.
 pub leads_by : (xs : List Act) (a b : Shown) (h : History) → Binds a h → CanAll xs (parts a h)
     → (b' : parts b (done_all xs (parts a h)).history ≡ done_all xs (parts a h))
-    → b.receiver.peer_last_tsn ≡ a.receiver.peer_last_tsn
+    → past_of b.receiver ≡ past_of a.receiver
     → IsSamePast h (done_all xs (parts a h)).history
     → Leads xs a h b (done_all xs (parts a h)).history
 leads_by xs a b h binds can there point same = record {
@@ -88,8 +89,13 @@ leads_by xs a b h binds can there point same = record {
   there = there;
   binds = record {
     first = ap (λ (p : Parts). p.queue.first_tsn) there ∙ acts_tied xs (parts a h) can binds.first;
-    point = point ∙ binds.point ∙ same_point h (done_all xs (parts a h)).history a.streams b.streams same;
-    held = same_held h (done_all xs (parts a h)).history a.streams b.streams same binds.held;
+    point =
+        ap (λ (z : ℕ × List ℕ). z.0) point ∙ binds.point
+        ∙ same_point h (done_all xs (parts a h)).history a.streams b.streams same;
+    held =
+        subst (HoldsPast (came_on (done_all xs (parts a h)).history b.streams))
+        (sym (ap (λ (z : ℕ × List ℕ). z.1) point))
+        (same_held h (done_all xs (parts a h)).history a.streams b.streams same binds.held);
     marked =
         subst (λ (p : Parts). AreMarkedRight p.queue.in_flight) (sym there) (acts_marked xs (parts a h) binds.marked);
   };
@@ -102,7 +108,7 @@ past_itself h = record { peer = refl; taken = refl; passed = refl }
 
 -- nothing that the directions see changed
 pub leads_nowhere : (a b : Shown) (h : History) → Binds a h → parts b h ≡ parts a h
-    → b.receiver.peer_last_tsn ≡ a.receiver.peer_last_tsn → Leads [] a h b h
+    → past_of b.receiver ≡ past_of a.receiver → Leads [] a h b h
 leads_nowhere a b h binds same point = leads_by [] a b h binds tt same point (past_itself h)
 
 close_leads : (closed : Bool) (a : Shown) (reason : AssociationError) (h : History) → is_closed_state a.state ≡ closed
@@ -142,45 +148,42 @@ told_receiver : (c : Bool) (b : Shown) (id : ℕ) (kept : Bool) → (kept && is_
 told_receiver true b id kept e = rw e refl
 told_receiver false b id kept e = rw e refl
 
-pub next_tsn : (peer at point t : ℕ) → point ≡ tsn_before (tsn peer at) → t ≡ (point + 1) % 2 ^ 32 → t ≡ tsn peer at
-next_tsn peer at point t e f = rw (f, e) (omega arith)
-
 took_leads : (a : Shown) (piece : ChunkPayloadData) (h : History) → Binds a h
-    → is_next_after a.receiver piece.tsn ≡ true
+    → is_new_to a.receiver piece.tsn ≡ true
     → (x : StreamMap × Bool) → x ≡ pushed_in a.streams piece.stream_identifier piece
     → Leads (Act.Took piece ∷ []) a h (with_message a piece x) (with_taken h (offset_in h piece.tsn))
-took_leads a piece h binds next (streams, kept) e =
+took_leads a piece h binds new (streams, kept) e =
     let b : Shown = record a { streams = streams; receiver = taken_to a.receiver piece.tsn } in
     let k : History = with_taken h (offset_in h piece.tsn) in
-    let here : piece.tsn ≡ tsn h.peer (reach_in h) =
-    next_tsn h.peer (reach_in h) a.receiver.peer_last_tsn piece.tsn binds.point
-    (eqb-true piece.tsn ((a.receiver.peer_last_tsn + 1) % 2 ^ 32) next) in
     let same =
     told_parts (kept && is_readable_in streams piece.stream_identifier) b piece.stream_identifier kept k refl in
     let n : StreamMap = (with_message a piece (streams, kept)).streams in
-    let point =
-    ap (λ (r : Receiver). r.peer_last_tsn)
-    (told_receiver (kept && is_readable_in streams piece.stream_identifier) b piece.stream_identifier kept refl) in
+    let told =
+    told_receiver (kept && is_readable_in streams piece.stream_identifier) b piece.stream_identifier kept refl in
     record {
-      can = (next_is_new h piece.tsn here, tt);
+      can = (new_tsn h a.streams a.receiver piece.tsn binds.point binds.held new, tt);
       there = same ∙ rw (← e) refl;
       binds = record {
         first = ap (λ (p : Parts). p.queue.first_tsn) same ∙ binds.first;
-        point = point ∙ point_moves h a.streams binds.held n piece.tsn here;
-        held = held_moves h a.streams binds.held n piece.tsn here;
+        point =
+            ap (λ (r : Receiver). r.peer_last_tsn) told
+            ∙ point_follows h a.streams a.receiver piece.tsn binds.point binds.held new n;
+        held =
+            subst (λ (r : Receiver). HoldsPast (came_on k n) r.held) (sym told)
+            (held_follows h a.streams a.receiver piece.tsn binds.point binds.held new n);
         marked = subst (λ (p : Parts). AreMarkedRight p.queue.in_flight) (sym same) binds.marked;
       };
     }
 
 taking_leads_unless : (o : Option Error) (a : Shown) (piece : ChunkPayloadData) (h : History)
-    → Binds a h → is_next_after a.receiver piece.tsn ≡ true
+    → Binds a h → is_new_to a.receiver piece.tsn ≡ true
     → (k : History) × Leads (acts_unless_refused o piece) a h (taken_unless o a piece).0 k
 taking_leads_unless (Some fault) a piece h binds next = (h, leads_nowhere a a h binds refl refl)
 taking_leads_unless None a piece h binds next =
     (with_taken h (offset_in h piece.tsn), took_leads a piece h binds next _ refl)
 
 taking_leads : (a : Shown) (piece : ChunkPayloadData) (h : History) → Binds a h
-    → is_next_after a.receiver piece.tsn ≡ true
+    → is_new_to a.receiver piece.tsn ≡ true
     → (k : History) × Leads (acts_of_taking a piece) a h (taken_in a piece).0 k
 unfolding taken_in
 taking_leads a piece h binds next =
@@ -193,35 +196,34 @@ asks_same (a, None) piece trigger = refl
 asks_same (a, Some fault) piece trigger = refl
 
 credit_leads : (c : Bool) (b : Shown) (piece : ChunkPayloadData) (trigger : AckTrigger) (h : History)
-    → nat_lt 0 (credit_of b.receiver (bytes_waiting b.streams)) ≡ c
-    → Binds b h → is_next_after b.receiver piece.tsn ≡ true
-    → (k : History) × Leads (acts_of_found (b, true) piece) b h (on_next_data (b, true) piece trigger).0 k
+    → admits b.receiver piece.tsn (bytes_waiting b.streams) ≡ c
+    → Binds b h → is_new_to b.receiver piece.tsn ≡ true
+    → (k : History) × Leads (acts_of_found (b, true) piece) b h (on_new_data (b, true) piece trigger).0 k
 credit_leads true b piece trigger h e binds next =
     let t = taking_leads b piece h binds next in
     rw (e, asks_same (taken_in b piece) piece trigger) t
 credit_leads false b piece trigger h e binds next = rw e (h, leads_nowhere b b h binds refl refl)
 
 found_leads : (x : Shown × Bool) (piece : ChunkPayloadData) (trigger : AckTrigger) (h : History) → Binds x.0 h
-    → is_next_after x.0.receiver piece.tsn ≡ true
-    → (k : History) × Leads (acts_of_found x piece) x.0 h (on_next_data x piece trigger).0 k
+    → is_new_to x.0.receiver piece.tsn ≡ true
+    → (k : History) × Leads (acts_of_found x piece) x.0 h (on_new_data x piece trigger).0 k
 found_leads (b, false) piece trigger h binds next = (h, leads_nowhere b b h binds refl refl)
 found_leads (b, true) piece trigger h binds next =
-    credit_leads (nat_lt 0 (credit_of b.receiver (bytes_waiting b.streams))) b piece trigger h refl binds next
+    credit_leads (admits b.receiver piece.tsn (bytes_waiting b.streams)) b piece trigger h refl binds next
 
 next_leads : (c : Bool) (a : Shown) (piece : ChunkPayloadData) (trigger : AckTrigger) (h : History)
-    → (is_next_after a.receiver piece.tsn && is_whole piece) ≡ c
+    → is_new_to a.receiver piece.tsn ≡ c
     → Binds a h → (k : History) × Leads (acts_of_data a piece) a h (on_data a piece trigger).0 k
 unfolding on_data
 next_leads false a piece trigger h e binds = rw e (h, leads_nowhere a (counted_data a) h binds refl refl)
 next_leads true a piece trigger h e binds =
-    let next = (and_parts (is_next_after a.receiver piece.tsn) (is_whole piece) e).0 in
     let b : Shown = counted_data a in
     let counted : Binds b h =
     record { first = binds.first; point = binds.point; held = binds.held; marked = binds.marked } in
     let id = piece.stream_identifier in
     let made = stream_leads (is_some (stream_at a.streams id)) (generation_left a.streams) b id h refl refl counted in
     let same = stream_receiver (is_some (stream_at a.streams id)) (generation_left a.streams) b id refl refl in
-    let rest = found_leads (stream_found b id) piece trigger h made.binds (rw same next) in
+    let rest = found_leads (stream_found b id) piece trigger h made.binds (rw same e) in
     rw e (
       rest.0,
       leads_on (acts_of_stream a id) (acts_of_found (stream_found b id) piece) {b = (stream_found b id).0} {k = h}
@@ -274,7 +276,7 @@ sack_taken_leads a point blocks window now h binds within =
     pieces_acknowledged n now blocks (with_window a.sender window) a.estimate a.streams h within small in
     leads_by (Act.Acknowledged n blocks ∷ []) a (after_sack (counted_sack a) point blocks window now) h binds
     (within, tt) (same ∙ sym all)
-    (ap (λ (r : Receiver). r.peer_last_tsn) (acknowledged_receiver (counted_sack a) (nat_lt 0 n) now x))
+    (ap past_of (acknowledged_receiver (counted_sack a) (nat_lt 0 n) now x))
     (record { peer = refl; taken = refl; passed = refl })
   where
     tsn_small : (own base : ℕ) → tsn own base < 2 ^ 32
@@ -312,7 +314,7 @@ sack_leads true a point blocks window trigger now h e binds =
 -- the peer's initial TSN became known
 met_leads : (a b : Shown) (t : ℕ) (h : History) → Binds a h → b.sender.queue ≡ a.sender.queue → b.streams ≡ a.streams
     → b.sender.max_payload_size ≡ a.sender.max_payload_size
-    → b.receiver.peer_last_tsn ≡ (t + 2 ^ 32 - 1) % 2 ^ 32
+    → past_of b.receiver ≡ ((t + 2 ^ 32 - 1) % 2 ^ 32, [])
     → (k : History) × Leads (Act.PeerKnown t ∷ []) a h b k
 met_leads a b t h binds queue streams size point = (
   with_peer h t,
@@ -321,8 +323,10 @@ met_leads a b t h binds queue streams size point = (
     there = rw (queue, streams, size) refl;
     binds = record {
       first = ap (λ (q : Outbound). q.first_tsn) queue ∙ binds.first;
-      point = point ∙ omega arith;
-      held = nothing_is_held_at_first _ refl;
+      point = ap (λ (z : ℕ × List ℕ). z.0) point ∙ omega arith;
+      held =
+          subst (HoldsPast (came_on (with_peer h t) b.streams)) (sym (ap (λ (z : ℕ × List ℕ). z.1) point))
+          (nothing_is_held_at_first _ refl);
       marked = subst (λ (q : Outbound). AreMarkedRight q.in_flight) (sym queue) binds.marked;
     };
   },
@@ -346,7 +350,7 @@ module _ (a : Shown) (trigger : AckTrigger) (h : History) (binds : Binds a h) wh
   echoed_leads : (o : Option (List ℕ)) (b : Shown) (t now : ℕ)
       → b.sender.queue ≡ a.sender.queue → b.streams ≡ a.streams
       → b.sender.max_payload_size ≡ a.sender.max_payload_size
-      → b.receiver.peer_last_tsn ≡ (t + 2 ^ 32 - 1) % 2 ^ 32
+      → past_of b.receiver ≡ ((t + 2 ^ 32 - 1) % 2 ^ 32, [])
       → (k : History) × Leads (Act.PeerKnown t ∷ []) a h (echoed o b trigger now).0 k
   unfolding sends_cookie
   echoed_leads None b t now queue streams size point = met_leads a b t h binds queue streams size point
@@ -390,7 +394,7 @@ module _ (a : Shown) (trigger : AckTrigger) (h : History) (binds : Binds a h) wh
   kind_leads : (header : CommonHeader) (c : Chunk) (now : ℕ)
       → (k : History) × Leads (acts_of_kind a header c) a h (dispatched a header c trigger now).0 k
   kind_leads header (chunks.Data piece) now =
-      next_leads (is_next_after a.receiver piece.tsn && is_whole piece) a piece trigger h refl binds
+      next_leads (is_new_to a.receiver piece.tsn) a piece trigger h refl binds
   kind_leads header (chunks.SelectiveAck sack) now =
       sack_leads (is_established a.state) a sack.cumulative_tsn_ack sack.gap_ack_blocks
       sack.advertised_receiver_window_credit trigger now h refl binds
@@ -426,7 +430,7 @@ unfolding on_chunk
 chunk_leads header c a trigger now h binds = checked_leads a trigger h binds (checked_chunk c) header c now
 
 ended_point : (a : Shown) (trigger : AckTrigger) (now : ℕ)
-    → (ended a trigger now).receiver.peer_last_tsn ≡ a.receiver.peer_last_tsn
+    → past_of (ended a trigger now).receiver ≡ past_of a.receiver
 ended_point a triggers.None now = refl
 ended_point a triggers.Delayed now = refl
 ended_point a triggers.Immediate now = refl
@@ -479,14 +483,16 @@ packet_leads_on a b packet now e h binds = rw e (packet_leads packet a now h bin
 
 -- what changes beside the directions does no harm
 leads_beside : (xs : List Act) (a b c : Shown) (h k : History) → parts c k ≡ parts b k
-    → c.receiver.peer_last_tsn ≡ b.receiver.peer_last_tsn → Leads xs a h b k → Leads xs a h c k
+    → past_of c.receiver ≡ past_of b.receiver → Leads xs a h b k → Leads xs a h c k
 leads_beside xs a b c h k same point m = record {
   can = m.can;
   there = same ∙ m.there;
   binds = record {
     first = ap (λ (p : Parts). p.queue.first_tsn) same ∙ m.binds.first;
-    point = point ∙ m.binds.point;
-    held = same_held k k b.streams c.streams (past_itself k) m.binds.held;
+    point = ap (λ (z : ℕ × List ℕ). z.0) point ∙ m.binds.point;
+    held =
+        subst (HoldsPast (came_on k c.streams)) (sym (ap (λ (z : ℕ × List ℕ). z.1) point))
+        (same_held k k b.streams c.streams (past_itself k) m.binds.held);
     marked = subst (λ (p : Parts). AreMarkedRight p.queue.in_flight) (sym same) m.binds.marked;
   };
 }
@@ -520,7 +526,10 @@ written_leads a id bytes h binds =
             ∙ acts_tied (Act.Wrote id bytes ∷ []) (parts a h) (tt, tt) binds.first
             ∙ ap (λ (k : History). tsn k.own k.base) (written_history o a id bytes h);
         point = ap (λ (r : Receiver). r.peer_last_tsn) (written_receiver o a id bytes) ∙ binds.point;
-        held = same_held h h a.streams (written a id bytes).streams (past_itself h) binds.held;
+        held =
+            subst (λ (r : Receiver). HoldsPast (came_on h (written a id bytes).streams) r.held)
+            (sym (written_receiver o a id bytes))
+            (same_held h h a.streams (written a id bytes).streams (past_itself h) binds.held);
         marked =
             subst (λ (p : Parts). AreMarkedRight p.queue.in_flight) (sym there)
             (act_marked (Act.Wrote id bytes) (parts a h) binds.marked);

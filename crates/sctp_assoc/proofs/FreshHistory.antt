@@ -1,5 +1,5 @@
 -- An association begins on the history in which nothing happened.
-use Rattle.std.proofs.Common.{◌≡◌, refl, ◌∙◌, ℕ, ◌^◌, ◌<◌, List, [], Option, Some, None, arith}
+use Rattle.std.proofs.Common.{◌≡◌, refl, sym, ap, subst, ◌∙◌, ℕ, ◌^◌, ◌<◌, List, [], Option, Some, None, arith}
 use Rattle.std.specs.declared.net.ip_addr.IpAddr.{IpAddr}
 use Rattle.std.specs.declared.net.socket_addr.SocketAddr.{SocketAddr}
 use Rattle.sctp_wire_types.specs.Config.{Settings}
@@ -8,16 +8,19 @@ use Rattle.sctp_assoc.specs.Leads.{Binds}
 use Rattle.sctp_directions.specs.Acts.{begun}
 use Rattle.sctp_assoc.specs.Created.{created, server, silent_client}
 use Rattle.sctp_assoc.specs.Shown.{Shown}
+use Rattle.sctp_inbound.specs.Receiver.{past_of}
+use Rattle.sctp_fit.specs.HeldSet.{HoldsPast}
 use Rattle.sctp_fit.proofs.HeldTsns.{nothing_is_held_at_first}
 use Rattle.sctp_assoc.proofs.CallsLeadOn.{sends_init_leads}
 
-fresh_binds : (a : Shown) (tsn : ℕ) → tsn < 2 ^ 32 → a.sender.queue.first_tsn ≡ tsn → a.receiver.peer_last_tsn ≡ 0
+fresh_binds : (a : Shown) (tsn : ℕ) → tsn < 2 ^ 32 → a.sender.queue.first_tsn ≡ tsn → past_of a.receiver ≡ (0, [])
     → a.sender.queue.in_flight ≡ []
     → Binds a (begun tsn 1)
 fresh_binds a tsn small first point none = record {
   first = first ∙ omega (arith, small);
-  point = point ∙ omega arith;
-  held = nothing_is_held_at_first _ refl;
+  point = ap (λ (z : ℕ × List ℕ). z.0) point ∙ omega arith;
+  held =
+      subst (HoldsPast _) (sym (ap (λ (z : ℕ × List ℕ). z.1) point)) (nothing_is_held_at_first _ refl);
   marked = rw none tt;
 }
 

@@ -1,5 +1,6 @@
 pub mod ActsKeepOffsets
 pub mod CallsLeadOn
+pub mod DataCame
 mod FreshHistory
 pub mod MarksOutstanding
 mod MemoryTaken

@@ -16,12 +16,12 @@ use Rattle.sctp_streams.specs.Stream.{StreamView}
 use Rattle.sctp_streams.specs.Streams.{StreamMap, bytes_waiting, generation_left, refusal_at, refusal_in, stream_at}
 use Rattle.sctp_inbound.specs.declared.receiver.AckTrigger.{AckTrigger}
 use Rattle.sctp_inbound.specs.declared.receiver.Receiver.{Receiver}
-use Rattle.sctp_inbound.specs.Receiver.{credit_of, is_next_after}
+use Rattle.sctp_inbound.specs.Receiver.{admits, is_new_to}
 use Rattle.sctp_outbound.specs.declared.sender.Sender.{Sender}
 use Rattle.sctp_outbound.specs.Sender.{after_resending, resent_by, sent_new}
 use Rattle.sctp_assoc.specs.declared.inbound.Flow.TheVariants as flows
 use Rattle.sctp_assoc.specs.Calls.{is_closed_state}
-use Rattle.sctp_assoc.specs.Chunks.{counted_data, is_whole, on_chunk, stream_found}
+use Rattle.sctp_assoc.specs.Chunks.{counted_data, on_chunk, stream_found}
 use Rattle.sctp_assoc.specs.Memory.{chunk_takes_memory, chunks_take_memory, data_takes_memory, keeps_message}
 use Rattle.sctp_assoc.specs.Memory.{makes_stream, takes_memory_after}
 use Rattle.sctp_assoc.specs.Gather.{data_polled, exchange_gives, is_due, with_sent_data}
@@ -80,11 +80,25 @@ not_for_memory m id piece limit e =
 abbrev refuses : Shown → ChunkPayloadData → Bool
 refuses a piece = is_some (refusal_in a.streams piece.stream_identifier piece a.receiver.max_receive_message_size)
 
+-- a stream that is found or made leaves the receiver as it was
+receiver_kept : (there left : Bool) (a : Shown) (id : ℕ) → is_some (stream_at a.streams id) ≡ there
+    → generation_left a.streams ≡ left
+    → (stream_found a id).0.receiver ≡ a.receiver
+unfolding stream_found
+receiver_kept true left a id e f = rw e refl
+receiver_kept false true a id e f = rw (e, f) refl
+receiver_kept false false a id e f = rw (e, f) refl
+
+pub found_receiver : (a b : Shown) (id : ℕ) → stream_found a id ≡ (b, true) → b.receiver ≡ a.receiver
+found_receiver a b id e =
+    sym (ap (λ (z : Shown × Bool). z.0.receiver) e)
+    ∙ receiver_kept (is_some (stream_at a.streams id)) (generation_left a.streams) a id refl refl
+
 credit_and_room : (credit refused : Bool) → credit ≡ true → refused ≡ false → (credit && not refused) ≡ true
 credit_and_room credit refused e f = rw (e, f) refl
 
 module _ (a b : Shown) (piece : ChunkPayloadData) (found : stream_found a piece.stream_identifier ≡ (b, true))
-    (credit : nat_lt 0 (credit_of b.receiver (bytes_waiting b.streams)) ≡ true) (free : refuses b piece ≡ false) where
+    (credit : admits b.receiver piece.tsn (bytes_waiting b.streams) ≡ true) (free : refuses b piece ≡ false) where
   found_takes : (there left : Bool) → is_some (stream_at a.streams piece.stream_identifier) ≡ there
       → generation_left a.streams ≡ left
       → (makes_stream a piece.stream_identifier || keeps_message a piece) ≡ true
@@ -92,19 +106,19 @@ module _ (a b : Shown) (piece : ChunkPayloadData) (found : stream_found a piece.
   found_takes true left e f =
       let step : stream_found a piece.stream_identifier ≡ (a, true) = rw e refl in
       let same : a ≡ b = ap (λ (z : Shown × Bool). z.0) (sym step ∙ found) in
-      rw e (credit_and_room (nat_lt 0 (credit_of a.receiver (bytes_waiting a.streams))) (refuses a piece)
-      (subst (λ (z : Shown). nat_lt 0 (credit_of z.receiver (bytes_waiting z.streams)) ≡ true) (sym same) credit)
+      rw e (credit_and_room (admits a.receiver piece.tsn (bytes_waiting a.streams)) (refuses a piece)
+      (subst (λ (z : Shown). admits z.receiver piece.tsn (bytes_waiting z.streams) ≡ true) (sym same) credit)
       (subst (λ (z : Shown). refuses z piece ≡ false) (sym same) free))
   found_takes false true e f = rw (e, f) refl
   found_takes false false e f =
       let step : stream_found a piece.stream_identifier ≡ (a, false) = rw (e, f) refl in
       absurd (false≢true (ap (λ (z : Shown × Bool). z.1) (sym step ∙ found)))
 
--- DATA that comes to a stream that was found and does not refuse it, with credit left
+-- new DATA that comes to a stream that was found and does not refuse it, with credit left or filling a gap
 pub taking_takes : (a b : Shown) (piece : ChunkPayloadData)
-    → (is_next_after a.receiver piece.tsn && is_whole piece) ≡ true
+    → is_new_to a.receiver piece.tsn ≡ true
     → stream_found (counted_data a) piece.stream_identifier ≡ (b, true)
-    → nat_lt 0 (credit_of b.receiver (bytes_waiting b.streams)) ≡ true
+    → admits b.receiver piece.tsn (bytes_waiting b.streams) ≡ true
     → refusal_in b.streams piece.stream_identifier piece b.receiver.max_receive_message_size ≡ None
     → data_takes_memory a piece ≡ true
 taking_takes a b piece next found credit free =

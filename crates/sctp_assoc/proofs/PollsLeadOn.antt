@@ -80,7 +80,7 @@ poll_of (b, pieces) xs a h same binds adds =
             ap (λ (p : Parts). p.queue.first_tsn) adds.gives.there ∙ acts_tied xs (parts a h) adds.gives.can binds.first
             ∙ ap (λ (p : Parts). tsn p.history.own p.history.base) (sym adds.gives.there);
         point = rw same.receiver binds.point;
-        held = same_held h h a.streams b.streams (past_itself h) binds.held;
+        held = rw same.receiver (same_held h h a.streams b.streams (past_itself h) binds.held);
         marked =
             subst (λ (p : Parts). AreMarkedRight p.queue.in_flight) (sym adds.gives.there)
             (acts_marked xs (parts a h) binds.marked);

@@ -20,7 +20,7 @@ use Rattle.sctp_streams.specs.Streams.{StreamMap, stream_at, made, generation_le
 use Rattle.sctp_streams.specs.Streams.{pushed_in, is_readable_in}
 use Rattle.sctp_inbound.specs.declared.receiver.AckTrigger.{AckTrigger}
 use Rattle.sctp_inbound.specs.declared.receiver.AckTrigger.TheVariants as triggers
-use Rattle.sctp_inbound.specs.Receiver.{is_next_after, taken_to, asked, credit_of, ended_packet, ended_packet_timers}
+use Rattle.sctp_inbound.specs.Receiver.{admits, asked, ended_packet, ended_packet_timers, is_new_to, taken_to}
 use Rattle.sctp_wire_types.specs.declared.chunk.GapAckBlock.{GapAckBlock}
 use Rattle.sctp_outbound.specs.GapAcks.{with_blocks}
 use Rattle.sctp_outbound.specs.declared.sender.Sender.{Sender}
@@ -50,11 +50,7 @@ stream_found a id =
     if is_some (stream_at a.streams id) then (a, true) else
     if not (generation_left a.streams) then (a, false) else (with_new_stream a id, true)
 
--- an ordered message in one piece (RFC 4960 section 3.3.1)
-abbrev pub is_whole : ChunkPayloadData → Bool
-is_whole piece = not piece.unordered && piece.beginning_fragment && piece.ending_fragment
-
--- what is queued where a message came: DatagramReceived, and Readable where it was kept and its stream can be read
+-- what is queued where DATA came: DatagramReceived, and Readable where it was kept and its stream can be read
 abbrev pub told : Shown → ℕ → Bool → Shown
 told a id kept =
     if kept && is_readable_in a.streams id then record a {
@@ -70,7 +66,8 @@ abbrev pub taken_unless : Option Error → Shown → ChunkPayloadData → Shown 
 taken_unless (Some fault) a piece = (a, Some fault)
 taken_unless None a piece = (with_message a piece (pushed_in a.streams piece.stream_identifier piece), None)
 
--- a message goes to its stream and the point moves to its TSN, or the stream refuses it, as one longer than the limit
+-- a piece goes to its stream, and its TSN is held and the point moves over all that follow it; or the stream refuses
+-- it, as one of a message that is longer than the limit
 unfoldable pub taken_in : Shown → ChunkPayloadData → Shown × Option Error
 taken_in a piece =
     taken_unless (refusal_in a.streams piece.stream_identifier piece a.receiver.max_receive_message_size) a piece
@@ -82,22 +79,22 @@ abbrev pub asks_or_faults : Shown × Option Error → ChunkPayloadData → AckTr
 asks_or_faults (a, None) piece trigger = asks a piece trigger
 asks_or_faults (a, Some fault) piece trigger = (a, flows.Fault fault)
 
--- DATA that is next in order comes to a stream that was found; without credit it is left
-abbrev pub on_next_data : Shown × Bool → ChunkPayloadData → AckTrigger → Shown × Flow
-on_next_data (a, false) piece trigger = (a, flows.Next trigger)
-on_next_data (a, true) piece trigger =
-    if nat_lt 0 (credit_of a.receiver (bytes_waiting a.streams)) then
+-- new DATA comes to a stream that was found; without credit it is left unless it fills a gap
+abbrev pub on_new_data : Shown × Bool → ChunkPayloadData → AckTrigger → Shown × Flow
+on_new_data (a, false) piece trigger = (a, flows.Next trigger)
+on_new_data (a, true) piece trigger =
+    if admits a.receiver piece.tsn (bytes_waiting a.streams) then
     asks_or_faults (taken_in a piece) piece trigger else
     asks a piece trigger
 
 abbrev pub on_counted_data : Shown → ChunkPayloadData → AckTrigger → Shown × Flow
 on_counted_data a piece trigger =
-    if is_next_after a.receiver piece.tsn && is_whole piece then
-    on_next_data (stream_found a piece.stream_identifier) piece trigger else
+    if is_new_to a.receiver piece.tsn then
+    on_new_data (stream_found a piece.stream_identifier) piece trigger else
     asks a piece trigger
 
--- DATA is counted; an ordered message in one piece that is next in order is taken in where credit is left and its
--- stream does not refuse it; DATA asks to be acknowledged unless it is a fault or no generation is left for its stream
+-- DATA is counted; new DATA is taken in where credit is left or it fills a gap, and its stream does not refuse it; DATA
+-- asks to be acknowledged unless it is a fault or no generation is left for its stream
 unfoldable pub on_data : Shown → ChunkPayloadData → AckTrigger → Shown × Flow
 on_data a piece trigger = on_counted_data (counted_data a) piece trigger
 

@@ -65,7 +65,7 @@ is_due acks.Idle = false
 is_due acks.Immediate = true
 is_due acks.Delay = false
 
--- the acknowledgement of what came
+-- the acknowledgement of what came, with its gap ack blocks
 abbrev pub sack_chunk : Shown → Chunk
 sack_chunk a = chunks.SelectiveAck (sack_of a.receiver (bytes_waiting a.streams))
 

@@ -20,7 +20,7 @@ use Rattle.sctp_streams.specs.Streams.{stream_at, generation_left, bytes_waiting
 use Rattle.sctp_inbound.specs.declared.receiver.AckTrigger.{AckTrigger}
 use Rattle.sctp_inbound.specs.declared.receiver.AckTrigger.TheVariants as triggers
 use Rattle.sctp_inbound.specs.Handshake.{comes_back, header_of}
-use Rattle.sctp_inbound.specs.Receiver.{is_next_after, credit_of}
+use Rattle.sctp_inbound.specs.Receiver.{admits, is_new_to}
 use Rattle.sctp_outbound.specs.declared.sender.SackOutcome.{SackOutcome}
 use Rattle.sctp_outbound.specs.declared.sender.SackOutcome.TheVariants as outcomes
 use Rattle.sctp_outbound.specs.declared.sender.Sender.{Sender}
@@ -31,7 +31,7 @@ use Rattle.sctp_assoc.specs.declared.inbound.Flow.TheVariants as flows
 use Rattle.sctp_directions.specs.Acts.{Act, History, all_data_given}
 use Rattle.sctp_assoc.specs.Leads.{Binds, Leads, parts}
 use Rattle.sctp_assoc.specs.Calls.{is_beginning, is_closed_state, is_cookie_wait, is_established}
-use Rattle.sctp_assoc.specs.Chunks.{counted_data, is_whole, on_chunk, stream_found}
+use Rattle.sctp_assoc.specs.Chunks.{counted_data, on_chunk, stream_found}
 use Rattle.sctp_assoc.specs.Gather.{AckIsReadAgain, AreControlReadAgain, AreReadAgain, control_packets, data_packets}
 use Rattle.sctp_assoc.specs.Gather.{is_due, sack_packet}
 use Rattle.sctp_assoc.specs.Timeouts.{after_handshake_timers}
@@ -39,7 +39,7 @@ use Rattle.sctp_assoc.specs.Shown.{Shown}
 
 -- What each call does to the directions.
 
--- DATA that is next in order makes its stream where that is missing and a generation is left
+-- new DATA makes its stream where that is missing and a generation is left
 abbrev pub acts_of_stream : Shown → ℕ → List Act
 acts_of_stream a id =
     if is_some (stream_at a.streams id) then [] else
@@ -49,7 +49,7 @@ abbrev pub acts_unless_refused : Option Error → ChunkPayloadData → List Act
 acts_unless_refused (Some fault) piece = []
 acts_unless_refused None piece = Act.Took piece ∷ []
 
--- DATA that is next in order, with its stream there and credit left, is taken in unless its stream refuses it
+-- new DATA, with its stream there and credit left or filling a gap, is taken in unless its stream refuses it
 abbrev pub acts_of_taking : Shown → ChunkPayloadData → List Act
 acts_of_taking a piece =
     acts_unless_refused (refusal_in a.streams piece.stream_identifier piece a.receiver.max_receive_message_size) piece
@@ -57,11 +57,11 @@ acts_of_taking a piece =
 abbrev pub acts_of_found : Shown × Bool → ChunkPayloadData → List Act
 acts_of_found (a, false) piece = []
 acts_of_found (a, true) piece =
-    if nat_lt 0 (credit_of a.receiver (bytes_waiting a.streams)) then acts_of_taking a piece else []
+    if admits a.receiver piece.tsn (bytes_waiting a.streams) then acts_of_taking a piece else []
 
 abbrev pub acts_of_data : Shown → ChunkPayloadData → List Act
 acts_of_data a piece =
-    if is_next_after a.receiver piece.tsn && is_whole piece then
+    if is_new_to a.receiver piece.tsn then
     acts_of_stream a piece.stream_identifier
     ++ acts_of_found (stream_found (counted_data a) piece.stream_identifier) piece
     else []

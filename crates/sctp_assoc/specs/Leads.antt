@@ -1,5 +1,5 @@
 -- Where an association stands in the past of its two directions, and where acts lead it.
-use Rattle.std.specs.Prelude.{◌≡◌, true, List, []}
+use Rattle.std.specs.Prelude.{◌≡◌, true, List}
 use Rattle.std.specs.List.{AllByRecursion}
 use Rattle.sctp_serial.specs.Serial.{tsn}
 use Rattle.sctp_outbound_queue.specs.declared.message.InFlight.{InFlight}
@@ -17,8 +17,7 @@ parts a h =
 pub record Binds (a : Shown) (h : History) : Type 0 where
   pub first : a.sender.queue.first_tsn ≡ tsn h.own h.base
   pub point : a.receiver.peer_last_tsn ≡ point_of (receiving (parts a h))
-  -- so far nothing past the point is held
-  pub held : HoldsPast (receiving (parts a h)) []
+  pub held : HoldsPast (receiving (parts a h)) a.receiver.held
   -- what is to go out again is neither acknowledged nor abandoned
   pub marked : AllByRecursion (λ (x : InFlight). x.retransmit ≡ true → is_outstanding x ≡ true)
       a.sender.queue.in_flight

@@ -1,5 +1,5 @@
 -- Where what comes takes memory: a call may fail for want of memory only there.
-use Rattle.std.specs.Prelude.{ℕ, Bool, false, List, [], ◌∷◌, ◌&&◌, ◌||◌, not, is_ok, is_some, nat_lt, Option, Some}
+use Rattle.std.specs.Prelude.{ℕ, Bool, false, List, [], ◌∷◌, ◌&&◌, ◌||◌, not, is_ok, is_some, Option, Some}
 use Rattle.std.specs.Prelude.{None}
 use Rattle.sctp_wire_types.specs.declared.chunk.Chunk.{Chunk}
 use Rattle.sctp_wire_types.specs.declared.chunk.Chunk.TheVariants as chunks
@@ -14,30 +14,29 @@ use Rattle.sctp_inbound.specs.declared.receiver.AckTrigger.{AckTrigger}
 use Rattle.sctp_inbound.specs.declared.receiver.AckTrigger.TheVariants as triggers
 use Rattle.sctp_inbound.specs.Greeting.{first_cookie, information_of}
 use Rattle.sctp_inbound.specs.Handshake.{comes_back, has_issued}
-use Rattle.sctp_inbound.specs.Receiver.{credit_of, is_next_after}
+use Rattle.sctp_inbound.specs.Receiver.{admits, is_new_to}
 use Rattle.sctp_assoc.specs.declared.inbound.Flow.{Flow}
 use Rattle.sctp_assoc.specs.declared.inbound.Flow.TheVariants as flows
 use Rattle.sctp_assoc.specs.Calls.{is_beginning, is_closed_state, is_cookie_echoed, is_cookie_wait, is_established}
-use Rattle.sctp_assoc.specs.Chunks.{is_whole, on_chunk}
+use Rattle.sctp_assoc.specs.Chunks.{on_chunk}
 use Rattle.sctp_assoc.specs.Shown.{Shown}
 
 -- a stream is made: it is not live, and a generation is left for it
 abbrev pub makes_stream : Shown → ℕ → Bool
 makes_stream a id = not (is_some (stream_at a.streams id)) && generation_left a.streams
 
--- a message on a live stream is taken in where credit is left and its stream does not refuse it
+-- a piece on a live stream is taken in where credit is left or it fills a gap, and its stream does not refuse it
 abbrev pub keeps_message : Shown → ChunkPayloadData → Bool
 keeps_message a piece =
     is_some (stream_at a.streams piece.stream_identifier)
-    && (nat_lt 0 (credit_of a.receiver (bytes_waiting a.streams))
+    && (admits a.receiver piece.tsn (bytes_waiting a.streams)
     && not (is_some (refusal_in a.streams piece.stream_identifier piece a.receiver.max_receive_message_size)))
 
--- DATA itself takes memory only where it is an ordered message in one piece and next in order, and its stream is made
--- or it is taken in (RFC 4960 section 6.2). Where a live stream refuses it, memory is taken for the close alone
--- (`takes_memory_after`)
+-- DATA itself takes memory only where it is new, and its stream is made or it is taken in (RFC 4960 section 6.2). Where
+-- a live stream refuses it, memory is taken for the close alone (`takes_memory_after`)
 abbrev pub data_takes_memory : Shown → ChunkPayloadData → Bool
 data_takes_memory a piece =
-    (is_next_after a.receiver piece.tsn && is_whole piece)
+    is_new_to a.receiver piece.tsn
     && (makes_stream a piece.stream_identifier || keeps_message a piece)
 
 -- an INIT is answered only before the association is established (RFC 4960 section 5.1)

@@ -236,6 +236,7 @@ impl Association {
             max_send_message_size: config.max_send_message_size(),
             handshake,
             receiver: Receiver::new(
+                alloc,
                 config.max_receive_buffer_size(),
                 config.max_receive_message_size(),
                 peer_last_tsn,

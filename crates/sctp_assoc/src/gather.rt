@@ -87,7 +87,7 @@ impl Association {
     {
         if self.receiver.ack_state == AckState::Immediate {
             let waiting = self.streams.waiting_bytes();
-            let sack = self.receiver.sack(self.alloc, waiting);
+            let sack = self.receiver.sack(self.alloc, waiting)?;
             let header = self.handshake.header();
             put_packet(packets, self.alloc, header, Chunk::SelectiveAck(sack))?;
         }

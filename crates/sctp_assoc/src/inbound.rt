@@ -1,12 +1,12 @@
 // One datagram, chunk by chunk.
 ghost use Rattle.std.specs.Prelude.{◌≡◌, ◌≢◌, ◌⊎◌, true, false, is_ok, OnErr, OnOk, IfOk, Ok, None, if◌then◌else◌};
 ghost use Rattle.sctp_wire.specs.Packets.{checked, finished};
-ghost use Rattle.sctp_inbound.specs.Receiver.{credit_of};
+ghost use Rattle.sctp_inbound.specs.Receiver.{admits, is_new_to};
 ghost use Rattle.sctp_streams.specs.Streams.{bytes_waiting, refusal_in};
 ghost use Rattle.sctp_assoc.specs.Inbound.{packet_read, taken_packet};
 ghost use Rattle.sctp_assoc.specs.Memory.{chunk_takes_memory, chunks_take_memory, data_takes_memory, makes_stream};
 ghost use Rattle.sctp_assoc.specs.Memory.{packet_takes_memory, takes_memory};
-ghost use Rattle.sctp_assoc.specs.Chunks.{after_chunks, after_packet, dispatched, is_whole, on_chunk, on_data, on_sack};
+ghost use Rattle.sctp_assoc.specs.Chunks.{after_chunks, after_packet, dispatched, on_chunk, on_data, on_sack};
 ghost use Rattle.sctp_assoc.specs.Chunks.{stream_found, taken_in};
 
 use crate::Association;
@@ -137,7 +137,8 @@ impl Association {
         }
     }
 
-    // DATA (RFC 4960 section 6.2). Only a whole ordered message at the TSN after the point is taken in.
+    // DATA (RFC 4960 section 6.2). What is new is taken in, in whatever order it comes; without credit only what fills a
+    // gap.
     #[tactic(auto, unfolding(crate::specs::Chunks::on_data))]
     fn on_data(&mut self, piece: ChunkPayloadData, trigger: AckTrigger) -> Result<Flow, AllocError>
         ensures exact { IfOk result (λ flow. on_data self.old piece trigger ≡ (self.new, flow)) }
@@ -145,11 +146,11 @@ impl Association {
     {
         self.stats.inc_datas();
         let immediate = piece.immediate_sack;
-        if self.receiver.is_next(piece.tsn) && is_whole(&piece) {
+        if self.receiver.is_new(piece.tsn) {
             if !self.has_stream(piece.stream_identifier)? {
                 return Ok(Flow::Next(trigger));
             }
-            if self.credit() > 0 {
+            if self.admits(piece.tsn) {
                 if let Some(fault) = self.take_in(piece)? {
                     return Ok(Flow::Fault(fault));
                 }
@@ -181,10 +182,11 @@ impl Association {
         Ok(true)
     }
 
-    // Hands a message to its stream and then moves the point; answers why the stream refuses it, if it does: one that
-    // is longer than the limit is a refusal. What the stream refuses lacks no memory.
+    // Hands a new piece to its stream and then moves the point; answers why the stream refuses it, if it does: a
+    // message that is longer than the limit is a refusal. What the stream refuses isn't held, and lacks no memory.
     #[tactic(auto, using(crate::proofs::MemoryTaken::not_for_memory), unfolding(crate::specs::Chunks::taken_in))]
     fn take_in(&mut self, piece: ChunkPayloadData) -> Result<Option<Error>, AllocError>
+        requires { is_new_to self.old.receiver piece.tsn ≡ true }
         ensures exact { IfOk result (λ fault. taken_in self.old piece ≡ (self.new, fault)) }
         ensures grows { OnErr result (refusal_in self.old.streams piece.stream_identifier piece
             self.old.receiver.max_receive_message_size ≡ None) }
@@ -197,7 +199,7 @@ impl Association {
             Err(Error::ErrNoMemory) => return Err(AllocError),
             Err(fault) => return Ok(Some(fault)),
         };
-        self.receiver.take(tsn);
+        self.receiver.take(tsn)?;
         self.events.push(Event::DatagramReceived)?;
         if kept && self.streams.is_readable(id) {
             self.events
@@ -206,10 +208,10 @@ impl Association {
         Ok(None)
     }
 
-    fn credit(&self) -> u32
-        ensures { result ≡ credit_of self.now.receiver (bytes_waiting self.now.streams) }
+    fn admits(&self, tsn: u32) -> bool
+        ensures { result ≡ admits self.now.receiver tsn (bytes_waiting self.now.streams) }
     {
-        self.receiver.credit(self.streams.waiting_bytes())
+        self.receiver.admits(tsn, self.streams.waiting_bytes())
     }
 
     // SACK (RFC 4960 section 6.2.1), read by its point, its gap ack blocks and its window.
@@ -243,10 +245,4 @@ impl Association {
             _ => Flow::Next(trigger),
         }
     }
-}
-
-fn is_whole(piece: &ChunkPayloadData) -> bool
-    ensures { result ≡ is_whole piece.now }
-{
-    !piece.unordered && piece.beginning_fragment && piece.ending_fragment
 }

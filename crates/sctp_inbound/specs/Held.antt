@@ -2,11 +2,7 @@
 use Rattle.std.specs.Prelude.{ℕ, Bool, List, ◌==◌, ◌||◌, not, length, nat_lt}
 use Rattle.std.specs.List.{list_any}
 use Rattle.sctp_serial.specs.Serial.{tsn_past}
-use Rattle.sctp_wire_types.specs.declared.chunk.ChunkSelectiveAck.{ChunkSelectiveAck}
-use Rattle.sctp_receive_queues.specs.Received.{advanced, gap_ack_blocks, with_tsn}
-use Rattle.sctp_inbound.specs.declared.receiver.AckTrigger.{AckTrigger}
-use Rattle.sctp_inbound.specs.declared.receiver.Receiver.{Receiver}
-use Rattle.sctp_inbound.specs.Receiver.{asked, sack_of}
+use Rattle.sctp_receive_queues.specs.Received.{advanced, with_tsn}
 
 -- a new TSN is held, and then the point moves over all that follow it one after another: the new point, and what is
 -- held past that
@@ -24,11 +20,3 @@ is_admitted held point tsn credit = nat_lt 0 credit || is_passed held point tsn
 -- a TSN before one that is held did not come
 abbrev pub has_gap : List ℕ → Bool
 has_gap held = not (length held == 0)
-
--- a packet is acknowledged at once also while there is a gap
-abbrev pub asked_over : Receiver → List ℕ → AckTrigger → Bool → AckTrigger
-asked_over r held trigger immediate = asked r trigger (immediate || has_gap held)
-
--- the acknowledgement that says what came up to the point and past it
-abbrev pub sack_over : Receiver → List ℕ → ℕ → ChunkSelectiveAck
-sack_over r held waiting = record (sack_of r waiting) { gap_ack_blocks = gap_ack_blocks r.peer_last_tsn held }

@@ -1,4 +1,4 @@
 pub mod Handshake
 pub mod Greeting
-pub mod Receiver
 pub mod Held
+pub mod Receiver

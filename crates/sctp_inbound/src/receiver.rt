@@ -1,10 +1,10 @@
 // What came and when it is acknowledged.
-ghost use Rattle.std.specs.Prelude.{◌≡◌, ℕ, ◌<◌, ◌^◌, [], IfOk, OnOk, OnErr, IsOk};
-ghost use Rattle.sctp_inbound.specs.Receiver.{fresh_receiver, is_next_after, receiver_from, taken_to, asked};
+ghost use Rattle.std.specs.Prelude.{◌≡◌, ℕ, ◌<◌, ◌^◌, [], true, IfOk, OnOk, OnErr, IsOk};
+ghost use Rattle.sctp_receive_queues.specs.Pieces.{tsn_after};
+ghost use Rattle.sctp_receive_queues.specs.Received.{AreRuns, is_held_at, is_named};
+ghost use Rattle.sctp_inbound.specs.Receiver.{admits, fresh_receiver, is_new_to, receiver_from, taken_to, asked};
 ghost use Rattle.sctp_inbound.specs.Receiver.{ended_packet, ended_packet_timers, credit_of, acknowledged_at_once};
 ghost use Rattle.sctp_inbound.specs.Receiver.{acknowledged, sack_of};
-ghost use Rattle.sctp_inbound.specs.Held.{asked_over, sack_over};
-ghost use Rattle.sctp_receive_queues.specs.Received.{AreRuns, is_held_at, is_named};
 
 use crate::held::Held;
 use sctp_parts::state::AckState;
@@ -20,11 +20,13 @@ pub enum AckTrigger {
     Immediate,
 }
 
-/// The cumulative TSN ack point and the state of the acknowledgement (RFC 4960 section 6.2).
-#[derive(Clone, Copy, Debug)]
+/// The cumulative TSN ack point, what came past it, and the state of the acknowledgement (RFC 4960 section 6.2).
+#[derive(Debug, Drop)]
 pub struct Receiver {
     /// Every TSN up to this one came or was skipped.
     pub peer_last_tsn: u32,
+    /// What came past that, with a gap before it.
+    pub held: Held,
     pub ack_state: AckState,
     /// Bytes that may wait for their reader.
     pub buffer_size: u32,
@@ -33,12 +35,18 @@ pub struct Receiver {
 }
 
 impl Receiver {
-    /// Nothing came; the first TSN to come is the one after `peer_last_tsn`. Sizes are in bytes.
-    pub fn new(buffer_size: u32, max_receive_message_size: u32, peer_last_tsn: u32) -> Self
+    /// Nothing came; the first TSN to come is the one after `peer_last_tsn`. Sizes are in bytes. Takes no memory.
+    pub fn new(
+        alloc: Global,
+        buffer_size: u32,
+        max_receive_message_size: u32,
+        peer_last_tsn: u32,
+    ) -> Self
         ensures { result ≡ fresh_receiver buffer_size max_receive_message_size peer_last_tsn }
     {
         Receiver {
             peer_last_tsn,
+            held: Held::new(alloc),
             ack_state: AckState::Idle,
             buffer_size,
             max_receive_message_size,
@@ -50,39 +58,51 @@ impl Receiver {
         ensures { self.new ≡ receiver_from self.old initial_tsn }
     {
         self.peer_last_tsn = initial_tsn.wrapping_sub(1);
+        self.held.clear();
     }
 
-    /// Whether this is the TSN after `peer_last_tsn`.
-    pub fn is_next(&self, tsn: u32) -> bool
-        ensures { result ≡ is_next_after self.now tsn }
+    /// Whether DATA with this TSN did not come yet: it is 1 to 65,535 past the point and not held.
+    pub fn is_new(&self, tsn: u32) -> bool
+        ensures { result ≡ is_new_to self.now tsn }
     {
-        tsn == self.peer_last_tsn.wrapping_add(1)
+        self.held.is_new(self.peer_last_tsn, tsn)
     }
 
-    /// Moves `peer_last_tsn` to a TSN that came.
-    pub fn take(&mut self, tsn: u32)
-        ensures { self.new ≡ taken_to self.old tsn }
+    /// Whether DATA may be taken in while `waiting` bytes wait for their reader: without credit only where it fills a
+    /// gap.
+    pub fn admits(&self, tsn: u32, waiting: u64) -> bool
+        ensures { result ≡ admits self.now tsn waiting }
     {
-        self.peer_last_tsn = tsn;
+        self.held
+            .admits(self.peer_last_tsn, tsn, self.credit(waiting))
+    }
+
+    /// Holds a new TSN that came, and moves `peer_last_tsn` over all that follow it one after another. Where memory is
+    /// refused all stays as it was; the TSN after `peer_last_tsn` takes none.
+    pub fn take(&mut self, tsn: u32) -> Result<(), AllocError>
+        requires { is_new_to self.old tsn ≡ true }
+        ensures moved { OnOk result (self.new ≡ taken_to self.old tsn) }
+        ensures unchanged { OnErr result (self.new ≡ self.old) }
+        ensures next { tsn ≡ tsn_after self.old.peer_last_tsn → IsOk result }
+    {
+        self.peer_last_tsn = self.held.take(self.peer_last_tsn, tsn)?;
+        Ok(())
     }
 
     /// The trigger of a packet after one more chunk of it asked for an acknowledgement: at once where `immediate` is
-    /// set or the last packet waits already, else delayed.
+    /// set, a TSN is held with a gap before it, or the last packet waits already, else delayed.
     pub fn ask(&self, trigger: AckTrigger, immediate: bool) -> AckTrigger
         ensures { result ≡ asked self.now trigger immediate }
     {
-        if immediate || trigger == AckTrigger::Immediate || self.ack_state != AckState::Idle {
+        if immediate
+            || self.held.has_gap()
+            || trigger == AckTrigger::Immediate
+            || self.ack_state != AckState::Idle
+        {
             AckTrigger::Immediate
         } else {
             AckTrigger::Delayed
         }
-    }
-
-    /// The same over what is held: at once also while a TSN is held with a gap before it (RFC 4960 section 6.2).
-    pub fn ask_over(&self, held: &Held, trigger: AckTrigger, immediate: bool) -> AckTrigger
-        ensures { result ≡ asked_over self.now held.now trigger immediate }
-    {
-        self.ask(trigger, immediate || held.has_gap())
     }
 
     /// Carries out a packet's trigger: acknowledge with the next poll, or 200 ms from `now` (RFC 4960 section 6.2).
@@ -118,39 +138,24 @@ impl Receiver {
         buffer.saturating_sub(waiting) as u32
     }
 
-    /// The acknowledgement of what came (RFC 4960 section 3.3.4); none is due after it.
-    pub fn sack(&mut self, alloc: Global, waiting: u64) -> ChunkSelectiveAck
-        ensures state { self.new ≡ acknowledged self.old }
-        ensures sack { result ≡ sack_of self.old waiting }
-    {
-        self.ack_state = AckState::Idle;
-        ChunkSelectiveAck {
-            cumulative_tsn_ack: self.peer_last_tsn,
-            advertised_receiver_window_credit: self.credit(waiting),
-            gap_ack_blocks: List::new(alloc),
-            duplicate_tsn: List::new(alloc),
-        }
-    }
-
-    /// The acknowledgement of what came up to the point, and past it by gap ack blocks (RFC 4960 section 3.3.4); none
-    /// is due after it. Where memory is refused it stays due; with nothing held it takes none.
-    pub fn sack_over(
-        &mut self,
-        alloc: Global,
-        held: &Held,
-        waiting: u64,
-    ) -> Result<ChunkSelectiveAck, AllocError>
+    /// The acknowledgement of what came up to the point and of what is held past it, by gap ack blocks (RFC 4960
+    /// section 3.3.4); none is due after it. Where memory is refused it stays due; with nothing held it takes none.
+    pub fn sack(&mut self, alloc: Global, waiting: u64) -> Result<ChunkSelectiveAck, AllocError>
         ensures state { OnOk result (self.new ≡ acknowledged self.old) }
         ensures unchanged { OnErr result (self.new ≡ self.old) }
-        ensures sack { IfOk result (λ sack. sack ≡ sack_over self.old held.now waiting) }
+        ensures sack { IfOk result (λ sack. sack ≡ sack_of self.old waiting) }
         ensures exact { IfOk result (λ sack. (o : ℕ) → 0 < o → o < 2 ^ 16
-            → is_named o sack.gap_ack_blocks ≡ is_held_at self.old.peer_last_tsn o held.now) }
+            → is_named o sack.gap_ack_blocks ≡ is_held_at self.old.peer_last_tsn o self.old.held) }
         ensures maximal { IfOk result (λ sack. AreRuns 1 sack.gap_ack_blocks) }
-        ensures none { held.now ≡ [] → IsOk result }
+        ensures none { self.old.held ≡ [] → IsOk result }
     {
-        let gap_ack_blocks = held.gap_ack_blocks(alloc, self.peer_last_tsn)?;
-        let mut sack = self.sack(alloc, waiting);
-        sack.gap_ack_blocks = gap_ack_blocks;
-        Ok(sack)
+        let gap_ack_blocks = self.held.gap_ack_blocks(alloc, self.peer_last_tsn)?;
+        self.ack_state = AckState::Idle;
+        Ok(ChunkSelectiveAck {
+            cumulative_tsn_ack: self.peer_last_tsn,
+            advertised_receiver_window_credit: self.credit(waiting),
+            gap_ack_blocks,
+            duplicate_tsn: List::new(alloc),
+        })
     }
 }

@@ -25,7 +25,7 @@ use Rattle.sctp_streams.specs.Stream.{StreamView, fresh_stream}
 use Rattle.sctp_streams.specs.Streams.{bytes_waiting, generation_left, refusal_in, stream_at}
 use Rattle.sctp_inbound.specs.declared.receiver.AckTrigger.TheVariants as triggers
 use Rattle.sctp_inbound.specs.Handshake.{comes_back}
-use Rattle.sctp_inbound.specs.Receiver.{credit_of, is_next_after}
+use Rattle.sctp_inbound.specs.Receiver.{admits, is_new_to}
 use Rattle.sctp_outbound.specs.declared.sender.SackOutcome.{SackOutcome}
 use Rattle.sctp_outbound.specs.declared.sender.SackOutcome.TheVariants as outcomes
 use Rattle.sctp_outbound.specs.declared.sender.Sender.{Sender}
@@ -38,7 +38,7 @@ use Rattle.sctp_directions.specs.Acts.{Act, CanAll, History}
 use Rattle.sctp_assoc.specs.Leads.{Binds, parts}
 use Rattle.sctp_fit.specs.Incoming.{tsn_before}
 use Rattle.sctp_assoc.specs.Calls.{is_beginning, is_cookie_wait, is_established}
-use Rattle.sctp_assoc.specs.Chunks.{counted_data, is_whole, stream_found, with_new_stream}
+use Rattle.sctp_assoc.specs.Chunks.{counted_data, stream_found, with_new_stream}
 use Rattle.sctp_assoc.specs.Happened.{acts_of_ack, acts_of_checked, acts_of_chunk, acts_of_data_poll, acts_of_found}
 use Rattle.sctp_assoc.specs.Happened.{acts_of_marks, acts_of_new, acts_of_outcome, acts_of_resending, acts_of_sending}
 use Rattle.sctp_assoc.specs.Happened.{acts_of_stream, acts_unless_refused, first_again, first_sent}
@@ -62,7 +62,7 @@ taking_if false refusal piece = inl refl
 found_acts : (x : Shown) (piece : ChunkPayloadData)
     → (acts_of_found (x, true) piece ≡ []) ⊎ (acts_of_found (x, true) piece ≡ Act.Took piece ∷ [])
 found_acts x piece =
-    taking_if (ltb 0 (credit_of x.receiver (bytes_waiting x.streams)))
+    taking_if (admits x.receiver piece.tsn (bytes_waiting x.streams))
     (refusal_in x.streams piece.stream_identifier piece x.receiver.max_receive_message_size) piece
 
 stream_acts : (o : Option StreamView) (left : Bool) (a : Shown) (piece : ChunkPayloadData)
@@ -108,7 +108,7 @@ next_acts false a piece = inl refl
 checked_acts : (r : Result (Unit {0}) Error) (a : Shown) (header : CommonHeader) (piece : ChunkPayloadData)
     → IsTaking a piece (acts_of_checked r a header (chunks.Data piece))
 checked_acts (Err fault) a header piece = inl refl
-checked_acts (Ok done) a header piece = next_acts (is_next_after a.receiver piece.tsn && is_whole piece) a piece
+checked_acts (Ok done) a header piece = next_acts (is_new_to a.receiver piece.tsn) a piece
 
 pub data_is_taken : DataIsTaken
 data_is_taken a header piece = checked_acts (checked_chunk (chunks.Data piece)) a header piece

@@ -28,7 +28,7 @@ use Rattle.sctp_inbound.specs.declared.receiver.AckTrigger.{AckTrigger}
 use Rattle.sctp_inbound.specs.declared.receiver.AckTrigger.TheVariants as triggers
 use Rattle.sctp_inbound.specs.Greeting.{first_cookie, information_of}
 use Rattle.sctp_inbound.specs.Handshake.{comes_back, has_issued}
-use Rattle.sctp_inbound.specs.Receiver.{credit_of, is_next_after}
+use Rattle.sctp_inbound.specs.Receiver.{admits, is_new_to}
 use Rattle.sctp_outbound.specs.declared.sender.Sender.{Sender}
 use Rattle.sctp_outbound.specs.declared.sender.SackOutcome.{SackOutcome}
 use Rattle.sctp_outbound.specs.declared.sender.SackOutcome.TheVariants as outcomes
@@ -42,7 +42,7 @@ use Rattle.sctp_assoc.specs.Calls.{is_established}
 use Rattle.sctp_assoc.specs.Handshake.{acknowledged_cookie, answered, connected, echoed, information_returned, learned}
 use Rattle.sctp_assoc.specs.Handshake.{on_cookie_ack, on_cookie_echo, on_heartbeat, on_init, on_init_ack, sends_cookie}
 use Rattle.sctp_assoc.specs.Chunks.{after_chunks, after_packet_of, asks_or_faults, checked_first, dispatched, goes_on}
-use Rattle.sctp_assoc.specs.Chunks.{is_whole, on_chunk, on_counted_data, on_counted_sack, on_data, on_next_data}
+use Rattle.sctp_assoc.specs.Chunks.{on_chunk, on_counted_data, on_counted_sack, on_data, on_new_data}
 use Rattle.sctp_assoc.specs.Chunks.{on_sack, stream_found, taken_in, taken_unless, told, with_acknowledged}
 use Rattle.sctp_assoc.specs.Chunks.{with_message}
 use Rattle.sctp_sides.specs.Laws.{FaultsAloneClose, IsClosedIf, faults_or, is_faulted, is_faulted_packet, loss_of}
@@ -101,8 +101,8 @@ asked_goes_on a (b, None) piece trigger m = m
 asked_goes_on a (b, Some fault) piece trigger m = m
 
 credit_goes_on : (c : Bool) (b : Shown) (piece : ChunkPayloadData) (trigger : AckTrigger)
-    → nat_lt 0 (credit_of b.receiver (bytes_waiting b.streams)) ≡ c
-    → GoesOn b (on_next_data (b, true) piece trigger).0
+    → admits b.receiver piece.tsn (bytes_waiting b.streams) ≡ c
+    → GoesOn b (on_new_data (b, true) piece trigger).0
 unfolding taken_in
 credit_goes_on true b piece trigger e =
     rw e (asked_goes_on b (taken_in b piece) piece trigger
@@ -110,7 +110,7 @@ credit_goes_on true b piece trigger e =
 credit_goes_on false b piece trigger e = rw e (stays b b refl refl refl)
 
 next_goes_on : (x : Shown × Bool) (piece : ChunkPayloadData) (trigger : AckTrigger)
-    → GoesOn x.0 (on_next_data x piece trigger).0
+    → GoesOn x.0 (on_new_data x piece trigger).0
 next_goes_on (b, false) piece trigger = stays b b refl refl refl
 next_goes_on (b, true) piece trigger = credit_goes_on _ b piece trigger refl
 
@@ -124,7 +124,7 @@ found_goes_on false true a id e f =
 found_goes_on false false a id e f = rw (e, f) (stays a a refl refl refl)
 
 data_goes_on : (c : Bool) (b : Shown) (piece : ChunkPayloadData) (trigger : AckTrigger)
-    → (is_next_after b.receiver piece.tsn && is_whole piece) ≡ c
+    → is_new_to b.receiver piece.tsn ≡ c
     → GoesOn b (on_counted_data b piece trigger).0
 data_goes_on false b piece trigger e = rw e (stays b b refl refl refl)
 data_goes_on true b piece trigger e =

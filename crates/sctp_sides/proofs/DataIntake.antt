@@ -21,23 +21,23 @@ use Rattle.sctp_streams.specs.Streams.{StreamMap, bytes_waiting, generation_left
 use Rattle.sctp_streams.specs.Streams.{stream_at}
 use Rattle.sctp_inbound.specs.declared.receiver.AckTrigger.{AckTrigger}
 use Rattle.sctp_inbound.specs.declared.receiver.Receiver.{Receiver}
-use Rattle.sctp_inbound.specs.Receiver.{credit_of, is_next_after}
-use Rattle.sctp_serial.specs.Serial.{tsn}
+use Rattle.sctp_inbound.specs.Held.{is_passed}
+use Rattle.sctp_inbound.specs.Receiver.{admits, credit_of, is_new_to}
 use Rattle.sctp_assoc.specs.declared.inbound.Flow.{Flow}
 use Rattle.sctp_assoc.specs.declared.inbound.Flow.TheVariants as flows
-use Rattle.sctp_directions.specs.Acts.{Act, History, reach_in}
+use Rattle.sctp_directions.specs.Acts.{Act, History}
 use Rattle.sctp_assoc.specs.Leads.{Binds}
-use Rattle.sctp_fit.specs.Incoming.{tsn_before}
-use Rattle.sctp_assoc.specs.Chunks.{asks_or_faults, counted_data, is_whole, on_chunk, on_data, on_next_data}
+use Rattle.sctp_assoc.specs.Chunks.{asks_or_faults, counted_data, on_chunk, on_data, on_new_data}
 use Rattle.sctp_assoc.specs.Chunks.{stream_found, taken_in, taken_unless}
 use Rattle.sctp_assoc.specs.Happened.{acts_of_chunk, acts_of_data, acts_of_found, acts_of_stream, acts_unless_refused}
 use Rattle.sctp_sides.specs.Intake.{DataIsTakenIn, IsTakenIn, MayTakeIn, NothingElseIsTakenIn, WasToBeTakenIn, held_by}
-use Rattle.sctp_sides.specs.Intake.{receive_limit, refusal_of}
+use Rattle.sctp_sides.specs.Intake.{FillsAGap, receive_limit, refusal_of}
 use Rattle.sctp_wire_types.specs.declared.chunk.ChunkSelectiveAck.{ChunkSelectiveAck}
 use Rattle.sctp_sides.specs.Shapes.{Acknowledges, IsMeeting}
 use Rattle.sctp_assoc.specs.Shown.{Shown}
-use Rattle.sctp_assoc.proofs.CallsLeadOn.{next_tsn}
+use Rattle.sctp_assoc.proofs.DataCame.{from_new_tsn, new_tsn}
 use Rattle.sctp_sides.proofs.ActsOfChunks.{greetings_meet, other_chunks_do_nothing, sacks_acknowledge}
+use Rattle.sctp_sides.proofs.GapsFilled.{came_passed, passed_came}
 use Rattle.sctp_sides.proofs.StreamsChanged.{at_made}
 
 -- A stream that is made holds nothing: as many bytes wait as before.
@@ -84,19 +84,16 @@ made_waits : (m : StreamMap) (id first : ℕ) → stream_at m id ≡ None
 made_waits m id first free =
     waiting_beside m.by_id id 0 (fresh_stream id m.next_generation first kinds.Unknown) free refl (omega arith)
 
--- The stream of DATA that is next.
+-- The stream of new DATA.
 
--- the receive buffer has room beside so many bytes that wait
-abbrev has_room_beside : Receiver → ℕ → Bool
-has_room_beside r waiting = ltb 0 (credit_of r waiting)
-
-abbrev has_room : Shown → Bool
-has_room a = has_room_beside a.receiver (bytes_waiting a.streams)
+-- there is room for a TSN
+abbrev has_room : Shown → ChunkPayloadData → Bool
+has_room a piece = admits a.receiver piece.tsn (bytes_waiting a.streams)
 
 -- its stream was found or made: then it has room and holds what it did
 record Found (a : Shown) (piece : ChunkPayloadData) (x : Shown × Bool) : Type 0 where
   found : x.1 ≡ (is_some (stream_at a.streams piece.stream_identifier) || generation_left a.streams)
-  room : has_room x.0 ≡ has_room a
+  room : has_room x.0 piece ≡ has_room a piece
   refused : x.1 ≡ true → refusal_in x.0.streams piece.stream_identifier piece (receive_limit x.0) ≡ refusal_of a piece
 
 found_if : (o : Option StreamView) (left : Bool) (a : Shown) (piece : ChunkPayloadData)
@@ -121,7 +118,7 @@ found_if None true a piece e f =
     rw (there, f) (record {
       found = rw (there, f) refl;
       room =
-          ap (λ (n : ℕ). has_room_beside a.receiver n)
+          ap (λ (n : ℕ). admits a.receiver piece.tsn n)
           (made_waits a.streams piece.stream_identifier a.sender.queue.next_message_id e);
       refused =
           λ b. ap (λ (o : Option StreamView). refusal_at o piece (receive_limit a)) made_at
@@ -137,8 +134,8 @@ stream_is_found a piece = found_if _ _ a piece refl refl
 abbrev is_found : Shown → ChunkPayloadData → Bool
 is_found a piece = is_some (stream_at a.streams piece.stream_identifier) || generation_left a.streams
 
-abbrev is_next : Shown → ChunkPayloadData → Bool
-is_next a piece = is_next_after a.receiver piece.tsn && is_whole piece
+abbrev is_new : Shown → ChunkPayloadData → Bool
+is_new a piece = is_new_to a.receiver piece.tsn
 
 -- the fault of a flow
 abbrev pub fault_of : Flow → Option Error
@@ -156,8 +153,8 @@ taking_flow : (o : Option Error) (x : Shown) (piece : ChunkPayloadData) (trigger
 taking_flow None x piece trigger = refl
 taking_flow (Some error) x piece trigger = refl
 
-room_flow : (room : Bool) (x : Shown) (piece : ChunkPayloadData) (trigger : AckTrigger) → has_room x ≡ room
-    → fault_of (on_next_data (x, true) piece trigger).1
+room_flow : (room : Bool) (x : Shown) (piece : ChunkPayloadData) (trigger : AckTrigger) → has_room x piece ≡ room
+    → fault_of (on_new_data (x, true) piece trigger).1
     ≡ (if room then refusal_in x.streams piece.stream_identifier piece (receive_limit x) else None)
 unfolding taken_in
 room_flow true x piece trigger e =
@@ -165,34 +162,34 @@ room_flow true x piece trigger e =
 room_flow false x piece trigger e = rw e refl
 
 found_flow : (a : Shown) (x : Shown × Bool) (piece : ChunkPayloadData) (trigger : AckTrigger) → Found a piece x
-    → fault_of (on_next_data x piece trigger).1 ≡ decided (is_found a piece) (has_room a) (refusal_of a piece)
-found_flow a (x, false) piece trigger f = ap (λ (b : Bool). decided b (has_room a) (refusal_of a piece)) f.found
+    → fault_of (on_new_data x piece trigger).1 ≡ decided (is_found a piece) (has_room a piece) (refusal_of a piece)
+found_flow a (x, false) piece trigger f = ap (λ (b : Bool). decided b (has_room a piece) (refusal_of a piece)) f.found
 found_flow a (x, true) piece trigger f =
-    room_flow (has_room x) x piece trigger refl
+    room_flow (has_room x piece) x piece trigger refl
     ∙ ap (λ (b : Bool). decided true b (refusal_in x.streams piece.stream_identifier piece (receive_limit x))) f.room
-    ∙ ap (λ (o : Option Error). decided true (has_room a) o) (f.refused refl)
-    ∙ ap (λ (b : Bool). decided b (has_room a) (refusal_of a piece)) f.found
+    ∙ ap (λ (o : Option Error). decided true (has_room a piece) o) (f.refused refl)
+    ∙ ap (λ (b : Bool). decided b (has_room a piece) (refusal_of a piece)) f.found
 
-data_flow : (next : Bool) (a : Shown) (piece : ChunkPayloadData) (trigger : AckTrigger) → is_next a piece ≡ next
+data_flow : (next : Bool) (a : Shown) (piece : ChunkPayloadData) (trigger : AckTrigger) → is_new a piece ≡ next
     → fault_of (on_data a piece trigger).1
-    ≡ (if next then decided (is_found a piece) (has_room a) (refusal_of a piece) else None)
+    ≡ (if next then decided (is_found a piece) (has_room a piece) (refusal_of a piece) else None)
 unfolding on_data
 data_flow true a piece trigger e =
     rw e (found_flow a (stream_found (counted_data a) piece.stream_identifier) piece trigger (stream_is_found a piece))
 data_flow false a piece trigger e = rw e refl
 
 found_acts : (a : Shown) (x : Shown × Bool) (piece : ChunkPayloadData) → Found a piece x
-    → acts_of_found x piece ≡ decided_acts (is_found a piece) (has_room a) (refusal_of a piece) piece
-found_acts a (x, false) piece f = ap (λ (b : Bool). decided_acts b (has_room a) (refusal_of a piece) piece) f.found
+    → acts_of_found x piece ≡ decided_acts (is_found a piece) (has_room a piece) (refusal_of a piece) piece
+found_acts a (x, false) piece f = ap (λ (b : Bool). decided_acts b (has_room a piece) (refusal_of a piece) piece) f.found
 found_acts a (x, true) piece f =
     ap (λ (b : Bool). decided_acts true b (refusal_in x.streams piece.stream_identifier piece (receive_limit x)) piece)
     f.room
-    ∙ ap (λ (o : Option Error). decided_acts true (has_room a) o piece) (f.refused refl)
-    ∙ ap (λ (b : Bool). decided_acts b (has_room a) (refusal_of a piece) piece) f.found
+    ∙ ap (λ (o : Option Error). decided_acts true (has_room a piece) o piece) (f.refused refl)
+    ∙ ap (λ (b : Bool). decided_acts b (has_room a piece) (refusal_of a piece) piece) f.found
 
-data_acts : (next : Bool) (a : Shown) (piece : ChunkPayloadData) → is_next a piece ≡ next
+data_acts : (next : Bool) (a : Shown) (piece : ChunkPayloadData) → is_new a piece ≡ next
     → acts_of_data a piece ≡ (if next then acts_of_stream a piece.stream_identifier
-    ++ decided_acts (is_found a piece) (has_room a) (refusal_of a piece) piece else [])
+    ++ decided_acts (is_found a piece) (has_room a piece) (refusal_of a piece) piece else [])
 data_acts true a piece e =
     rw e (ap (λ (z : List Act). acts_of_stream a piece.stream_identifier ++ z)
     (found_acts a _ piece (stream_is_found a piece)))
@@ -201,18 +198,9 @@ data_acts false a piece e = rw e refl
 -- What may be taken in, as the tests that a side makes.
 
 pub record Passes (a : Shown) (piece : ChunkPayloadData) : Type 0 where
-  pub next : is_next a piece ≡ true
+  pub new : is_new a piece ≡ true
   pub found : is_found a piece ≡ true
-  pub room : has_room a ≡ true
-
-whole_parts : (u b e : Bool) → (not u && b && e) ≡ true → (u ≡ false) × (b ≡ true) × (e ≡ true)
-whole_parts true b e w = absurd (false≢true w)
-whole_parts false false e w = absurd (false≢true w)
-whole_parts false true false w = absurd (false≢true w)
-whole_parts false true true w = (refl, refl, refl)
-
-after_point : (peer at point t : ℕ) → point ≡ tsn_before (tsn peer at) → t ≡ tsn peer at → t ≡ (point + 1) % 2 ^ 32
-after_point peer at point t e f = rw (f, e) (omega arith)
+  pub room : has_room a piece ≡ true
 
 room_left : (size waiting : ℕ) → waiting < size → 0 < size - waiting
 room_left size waiting l = omega (arith, l)
@@ -227,43 +215,47 @@ stream_found_as there left h =
 pub may_passes : (a : Shown) (h : History) (piece : ChunkPayloadData) → Binds a h → MayTakeIn a h piece
     → Passes a piece
 may_passes a h piece binds may =
-    let whole : is_whole piece ≡ true = rw (may.ordered, may.begins, may.ends) refl in
-    let next : is_next_after a.receiver piece.tsn ≡ true =
-    eq-eqb piece.tsn ((a.receiver.peer_last_tsn + 1) % 2 ^ 32)
-    (after_point h.peer (reach_in h) a.receiver.peer_last_tsn piece.tsn binds.point may.next) in
+    let waiting = bytes_waiting a.streams in
+    let r = a.receiver in
     record {
-      next = and_from (is_next_after a.receiver piece.tsn) (is_whole piece) next whole;
+      new = from_new_tsn h a.streams r piece.tsn binds.point binds.held may.new;
       found =
           stream_found_as (is_some (stream_at a.streams piece.stream_identifier))
           (generation_left a.streams) may.stream;
-      room =
-          lt-ltb 0 (a.receiver.buffer_size - bytes_waiting a.streams)
-          (room_left a.receiver.buffer_size (bytes_waiting a.streams) may.room);
+      room = ⊎_elim
+          (λ (l : waiting < r.buffer_size).
+          or_left (ltb 0 (credit_of r waiting)) (is_passed r.held r.peer_last_tsn piece.tsn)
+          (lt-ltb 0 (r.buffer_size - waiting) (room_left r.buffer_size waiting l)))
+          (λ (g : FillsAGap h piece.tsn).
+          or_right (ltb 0 (credit_of r waiting)) (is_passed r.held r.peer_last_tsn piece.tsn)
+          (ap (λ p. is_passed r.held p piece.tsn) binds.point
+          ∙ came_passed h a.streams r.held piece.tsn binds.held may.new g))
+          may.room;
     }
 
 pub passes_may : (a : Shown) (h : History) (piece : ChunkPayloadData) → Binds a h → Passes a piece
     → MayTakeIn a h piece
 passes_may a h piece binds p =
-    let n = and_parts (is_next_after a.receiver piece.tsn) (is_whole piece) p.next in
-    let w = whole_parts piece.unordered piece.beginning_fragment piece.ending_fragment n.1 in
+    let waiting = bytes_waiting a.streams in
+    let r = a.receiver in
+    let new = new_tsn h a.streams r piece.tsn binds.point binds.held p.new in
     record {
-      next =
-          next_tsn h.peer (reach_in h) a.receiver.peer_last_tsn piece.tsn binds.point
-          (eqb-true piece.tsn ((a.receiver.peer_last_tsn + 1) % 2 ^ 32) n.0);
-      ordered = w.0;
-      begins = w.1;
-      ends = w.2;
+      new = new;
       stream = or_cases (is_some (stream_at a.streams piece.stream_identifier)) (generation_left a.streams) p.found;
-      room =
-          left_room a.receiver.buffer_size (bytes_waiting a.streams)
-          (ltb-true 0 (a.receiver.buffer_size - bytes_waiting a.streams) p.room);
+      room = ⊎_elim
+          (λ (l : ltb 0 (credit_of r waiting) ≡ true).
+          inl (left_room r.buffer_size waiting (ltb-true 0 (r.buffer_size - waiting) l)))
+          (λ (g : is_passed r.held r.peer_last_tsn piece.tsn ≡ true).
+          inr (passed_came h a.streams r.held piece.tsn binds.held new
+          (ap (λ q. is_passed r.held q piece.tsn) (sym binds.point) ∙ g)))
+          (or_cases (ltb 0 (credit_of r waiting)) (is_passed r.held r.peer_last_tsn piece.tsn) p.room);
     }
 
 -- Taken in
 
 pub refused_data : (a : Shown) (piece : ChunkPayloadData) (trigger : AckTrigger) → Passes a piece
     → fault_of (on_data a piece trigger).1 ≡ refusal_of a piece
-refused_data a piece trigger p = data_flow true a piece trigger p.next ∙ rw (p.found, p.room) refl
+refused_data a piece trigger p = data_flow true a piece trigger p.new ∙ rw (p.found, p.room) refl
 
 refused_if : (next found room : Bool) (o : Option Error) (error : Error)
     → (if next then decided found room o else None) ≡ Some error
@@ -278,9 +270,9 @@ pub data_passed : (a : Shown) (piece : ChunkPayloadData) (trigger : AckTrigger) 
     → Passes a piece × (refusal_of a piece ≡ Some error)
 data_passed a piece trigger error e =
     let r =
-    refused_if (is_next a piece) (is_found a piece) (has_room a) (refusal_of a piece) error
-    (sym (data_flow (is_next a piece) a piece trigger refl) ∙ e) in
-    (record { next = r.0; found = r.1; room = r.2 }, r.3)
+    refused_if (is_new a piece) (is_found a piece) (has_room a piece) (refusal_of a piece) error
+    (sym (data_flow (is_new a piece) a piece trigger refl) ∙ e) in
+    (record { new = r.0; found = r.1; room = r.2 }, r.3)
 
 abbrev error_or : Error → Option Error → Error
 error_or other None = other
@@ -321,7 +313,7 @@ data_is_taken_in a h header piece binds may =
     record {
       taken = λ none.
           let acts : acts_of_data a piece ≡ acts_of_stream a piece.stream_identifier ++ Act.Took piece ∷ [] =
-          data_acts true a piece p.next ∙ rw (p.found, p.room, none) refl in
+          data_acts true a piece p.new ∙ rw (p.found, p.room, none) refl in
           subst (IsTakenIn a piece) (sym acts) (taken_if _ _ a piece refl refl p.found);
       refused =
           λ trigger now error e. fault_from (on_data a piece trigger).1 error (refused_data a piece trigger p ∙ e);
@@ -372,26 +364,26 @@ passed_all true true None piece came zero e =
     record { found = refl; room = refl; unrefused = refl; same = sym (ap (taken_by piece) e) }
 passed_all true true None piece came (suc index) e = absurd (none_there index came e)
 
-passed_data : (next : Bool) (a : Shown) (piece came : ChunkPayloadData) (index : ℕ) → is_next a piece ≡ next
+passed_data : (next : Bool) (a : Shown) (piece came : ChunkPayloadData) (index : ℕ) → is_new a piece ≡ next
     → slice_get (acts_of_data a piece) index ≡ Some (Act.Took came)
-    → (is_next a piece ≡ true) × PassedAll (is_found a piece) (has_room a) (refusal_of a piece) piece came
+    → (is_new a piece ≡ true) × PassedAll (is_found a piece) (has_room a piece) (refusal_of a piece) piece came
 passed_data false a piece came index n e =
     absurd
     (none_there index came (sym (ap (λ (acts : List Act). slice_get acts index) (data_acts false a piece n)) ∙ e))
 passed_data true a piece came index n e =
     let behind = behind_opened (is_some (stream_at a.streams piece.stream_identifier)) (generation_left a.streams)
     (Act.Opened piece.stream_identifier a.sender.queue.next_message_id kinds.Unknown)
-    (decided_acts (is_found a piece) (has_room a) (refusal_of a piece) piece) index came refl
+    (decided_acts (is_found a piece) (has_room a piece) (refusal_of a piece) piece) index came refl
     (sym (ap (λ (acts : List Act). slice_get acts index) (data_acts true a piece n)) ∙ e) in
-    (n, passed_all (is_found a piece) (has_room a) (refusal_of a piece) piece came behind.0 behind.1)
+    (n, passed_all (is_found a piece) (has_room a piece) (refusal_of a piece) piece came behind.0 behind.1)
 
-data_was : (a : Shown) (h : History) (piece came : ChunkPayloadData) → Binds a h → is_next a piece ≡ true
-    → PassedAll (is_found a piece) (has_room a) (refusal_of a piece) piece came
+data_was : (a : Shown) (h : History) (piece came : ChunkPayloadData) → Binds a h → is_new a piece ≡ true
+    → PassedAll (is_found a piece) (has_room a piece) (refusal_of a piece) piece came
     → WasToBeTakenIn a h (chunks.Data piece) came
-data_was a h piece came binds next p =
+data_was a h piece came binds new p =
     subst (λ (z : ChunkPayloadData). WasToBeTakenIn a h (chunks.Data piece) z) (sym p.same) (record {
       data_itself = refl;
-      may = passes_may a h piece binds (record { next = next; found = p.found; room = p.room });
+      may = passes_may a h piece binds (record { new = new; found = p.found; room = p.room });
       unrefused = p.unrefused;
     })
 
@@ -421,7 +413,7 @@ sack_no_data acts a h sack index piece m e =
 
 pub nothing_else_is_taken_in : NothingElseIsTakenIn
 nothing_else_is_taken_in a h header (chunks.Data piece) index came binds e =
-    let p = passed_data (is_next a piece) a piece came index refl e in
+    let p = passed_data (is_new a piece) a piece came index refl e in
     data_was a h piece came binds p.0 p.1
 nothing_else_is_taken_in a h header (chunks.SelectiveAck sack) index came binds e =
     absurd (sack_no_data (acts_of_chunk a header (chunks.SelectiveAck sack)) a h sack index came

@@ -1,10 +1,16 @@
 -- Polls leave an association open, and give a SACK that is due, which says what came.
 use Rattle.std.proofs.Common.{◌≡◌, refl, sym, ap, ◌∙◌, ⊎_elim, ℕ, ◌<◌, ◌≤◌, ◌+◌, ◌-◌, arith, Bool, true, false}
-use Rattle.std.proofs.Common.{if◌then◌else◌, List, [], ◌++◌, length, Option, Some, None}
-use Rattle.std.proofs.lemmas.Bool.{cases_Bool}
+use Rattle.std.proofs.Common.{if◌then◌else◌, List, [], ◌∷◌, ◌++◌, ◌*◌, flat_map, length, ◌^◌, Option, Some, None}
+use Rattle.std.proofs.lemmas.Bool.{cases_Bool, cases_lt}
 use Rattle.std.proofs.lemmas.List.{append_assoc}
 use Rattle.sctp_wire_types.specs.declared.chunk.ChunkPayloadData.{ChunkPayloadData}
+use Rattle.sctp_wire_types.specs.declared.chunk.Chunk.TheVariants as chunks
+use Rattle.sctp_wire_types.specs.declared.chunk.ChunkSelectiveAck.{ChunkSelectiveAck}
+use Rattle.sctp_wire_types.specs.declared.chunk.GapAckBlock.{GapAckBlock}
 use Rattle.sctp_wire_types.specs.declared.error.Error.TheVariants as errors
+use Rattle.sctp_wire_types.specs.declared.packet.CommonHeader.{CommonHeader}
+use Rattle.sctp_wire.specs.Packets.{packet_fits}
+use Rattle.sctp_wire.specs.SelectiveAck.{block_bytes}
 use Rattle.sctp_parts.specs.declared.timer.Timer.TheVariants as names
 use Rattle.sctp_parts.specs.Timers.{expiry_of}
 use Rattle.sctp_inbound.specs.declared.handshake.Offer.{Offer}
@@ -27,8 +33,12 @@ use Rattle.sctp_assoc.specs.Gather.{without_control}
 use Rattle.sctp_assoc.specs.Shown.{Shown}
 use Rattle.sctp_assoc.proofs.PolledData.{IsSentBeside, data_poll_stays}
 use Rattle.sctp_assoc.proofs.PollsLeadOn.{ack_said, both_first, both_second}
-use Rattle.sctp_assoc.proofs.WhatCame.{below_reach, came_below, passed_reach, reach_missing}
-use Rattle.sctp_sides.proofs.WaitingGoesOut.{ack_behind, fits_written}
+use Rattle.sctp_assoc.proofs.WhatCame.{below_reach, passed_reach, reach_missing}
+use Rattle.sctp_receive_queues.specs.Received.{gap_ack_blocks, is_held_at}
+use Rattle.sctp_receive_queues.proofs.GapAckBlocks.{named_exactly}
+use Rattle.sctp_fit.proofs.HeldTsns.{blocks_name_what_came}
+use Rattle.sctp_sides.proofs.BlocksWithin.{nothing_named}
+use Rattle.sctp_sides.proofs.WaitingGoesOut.{ack_behind, fits_written, short_enough}
 
 open_on : (a b c : Shown) → StaysOpen a b → StaysOpen b c → StaysOpen a c
 open_on a b c m n = record { state = n.state ∙ m.state; lost = n.lost ∙ m.lost; events = n.events ∙ m.events }
@@ -90,15 +100,13 @@ due_sacks_go_out a now established due =
 
 -- What a SACK says.
 
-none_above : (h : History) → ((o : ℕ) → mem o h.taken ≡ true → o < reach_in h) → (o : ℕ) → reach_in h ≤ o
-    → mem o h.taken ≡ false
-none_above h above o far = ⊎_elim
-    (λ (m : mem o h.taken ≡ true). absurd (omega (arith, above o m, far)))
+-- what came lies less than 65,535 past the reach
+none_above : (h : History) → ((o : ℕ) → mem o h.taken ≡ true → o < reach_in h + 65535) → (o : ℕ)
+    → reach_in h + 65535 ≤ o → mem o h.taken ≡ false
+none_above h below o far = ⊎_elim
+    (λ (m : mem o h.taken ≡ true). absurd (omega (arith, below o m, far)))
     (λ (n : mem o h.taken ≡ false). n)
     (cases_Bool (mem o h.taken))
-
-taken_below : (a : Shown) (h : History) → Binds a h → (o : ℕ) → mem o h.taken ≡ true → o < reach_in h
-taken_below a h binds o m = came_below (receiving (parts a h)) binds.held o m
 
 pub sacks_name_the_point : SacksNameThePoint
 sacks_name_the_point a h binds = (
@@ -106,7 +114,6 @@ sacks_name_the_point a h binds = (
     before = below_reach h;
     missing = reach_missing h;
     passed = passed_reach h;
-    above = taken_below a h binds;
   },
   binds.point,
 )
@@ -114,15 +121,36 @@ sacks_name_the_point a h binds = (
 pub sacks_say_what_was_taken : SacksSayWhatWasTaken
 sacks_say_what_was_taken a h binds = record {
   at = binds.point;
-  set = λ o some. sym (none_above h (taken_below a h binds) (reach_in h + o - 1) (omega (arith, some)));
+  set = λ o some. ⊎_elim
+      (λ (l : o < 2 ^ 16).
+      blocks_name_what_came (receiving (parts a h)) a.receiver.held
+      (gap_ack_blocks a.receiver.peer_last_tsn a.receiver.held) binds.held
+      (λ x from below. named_exactly a.receiver.peer_last_tsn x a.receiver.held from below
+      ∙ ap (λ p. is_held_at p x a.receiver.held) binds.point) o some l)
+      (λ (g : 2 ^ 16 ≤ o).
+      nothing_named a.receiver.peer_last_tsn a.receiver.held o (omega (arith, g))
+      ∙ sym (none_above h binds.held.below (reach_in h + o - 1) (omega (arith, g))))
+      (cases_lt o (2 ^ 16));
 }
 
 pub sacks_offer_the_buffer : SacksOfferTheBuffer
 sacks_offer_the_buffer a = (sack_of a.receiver (bytes_waiting a.streams), refl, refl)
 
+blocks_length : (bs : List GapAckBlock) → length (flat_map block_bytes bs ++ []) ≡ 4 * length bs
+blocks_length [] = refl
+blocks_length (b ∷ bs) = let rest = blocks_length bs in omega (arith, rest)
+
+sack_fits : (header : CommonHeader) (sack : ChunkSelectiveAck) → sack.duplicate_tsn ≡ []
+    → length sack.gap_ack_blocks ≤ 16379
+    → packet_fits (packet_with header (chunks.SelectiveAck sack)) ≡ true
+sack_fits header sack once few =
+    rw once (let e = blocks_length sack.gap_ack_blocks in short_enough _ (omega (arith, e, few)))
+
 pub sacks_are_spelled : SacksAreSpelled
 unfolding packet_bytes
-sacks_are_spelled a = ap spelled (fits_written (packet_with (header_of a.handshake) (sack_chunk a)) refl)
+sacks_are_spelled a few =
+    ap spelled (fits_written (packet_with (header_of a.handshake) (sack_chunk a))
+    (sack_fits (header_of a.handshake) (sack_of a.receiver (bytes_waiting a.streams)) refl few))
 
 -- Timers leave an association open.
 

@@ -1,9 +1,11 @@
 mod ActsOfChunks
+mod BlocksWithin
 mod ClosingCauses
 mod ClosingPackets
 mod DataIntake
 mod DueSacks
 mod FaultCauses
+mod GapsFilled
 mod HandshakeChunks
 mod HandshakeTruth
 mod LiveStreams

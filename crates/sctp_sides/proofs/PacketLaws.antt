@@ -18,6 +18,7 @@ use Rattle.sctp_sides.specs.Shapes.{ChunksLeadOn, Closes, EndsPacket, Establishe
 use Rattle.sctp_sides.specs.Shapes.{LostAssociationsTakeNothing, NoPacketChangesNothing, PacketsEnd, TakesChunk}
 use Rattle.sctp_assoc.specs.Shown.{Shown}
 use Rattle.sctp_sides.proofs.PacketsByChunks.{chunks_carry}
+use Rattle.sctp_inbound.specs.Receiver.{past_of}
 use Rattle.sctp_assoc.proofs.CallsLeadOn.{chunk_leads, leads_nowhere}
 use Rattle.sctp_sides.proofs.HandshakeChunks.{chunk_greets}
 use Rattle.sctp_sides.proofs.Status.{chunk_leaves, status_by}
@@ -36,7 +37,7 @@ packets_end a trigger now = record {
   same = status_by a (ended a trigger now) refl refl refl refl refl refl refl;
 }
   where
-    point_stays : (w : AckTrigger) → (ended a w now).receiver.peer_last_tsn ≡ a.receiver.peer_last_tsn
+    point_stays : (w : AckTrigger) → past_of (ended a w now).receiver ≡ past_of a.receiver
     point_stays triggers.None = refl
     point_stays triggers.Delayed = refl
     point_stays triggers.Immediate = refl

@@ -24,7 +24,7 @@ use Rattle.sctp_streams.specs.Streams.{stream_at}
 use Rattle.sctp_inbound.specs.declared.receiver.AckTrigger.{AckTrigger}
 use Rattle.sctp_inbound.specs.declared.handshake.Offer.{Offer}
 use Rattle.sctp_inbound.specs.Handshake.{comes_back, has_issued, header_of}
-use Rattle.sctp_inbound.specs.Receiver.{credit_of, is_next_after, taken_to}
+use Rattle.sctp_inbound.specs.Receiver.{admits, is_new_to, taken_to}
 use Rattle.sctp_outbound.specs.declared.sender.SackOutcome.{SackOutcome}
 use Rattle.sctp_outbound.specs.declared.sender.SackOutcome.TheVariants as outcomes
 use Rattle.sctp_outbound.specs.declared.sender.Sender.{Sender}
@@ -34,8 +34,8 @@ use Rattle.sctp_outbound.specs.Sender.{acknowledged, after_first, after_resendin
 use Rattle.sctp_outbound.specs.Sender.{sack_outcome, sender_after, sent_new, sent_one, sent_within, with_window}
 use Rattle.sctp_assoc.specs.Calls.{after_ack_delay, after_t3, event_from, is_beginning, is_cookie_echoed}
 use Rattle.sctp_assoc.specs.Calls.{is_cookie_wait, is_established, retransmits, t3_expired, written_at}
-use Rattle.sctp_assoc.specs.Chunks.{checked_first, counted_data, dispatched, on_counted_data, counted_sack, is_whole}
-use Rattle.sctp_assoc.specs.Chunks.{on_chunk, on_counted_sack, on_data, on_next_data, on_sack, stream_found, taken_in}
+use Rattle.sctp_assoc.specs.Chunks.{checked_first, counted_data, dispatched, on_counted_data, counted_sack}
+use Rattle.sctp_assoc.specs.Chunks.{on_chunk, on_counted_sack, on_data, on_new_data, on_sack, stream_found, taken_in}
 use Rattle.sctp_assoc.specs.Chunks.{told}
 use Rattle.sctp_assoc.specs.Handshake.{after_t1_init, cookie_queued, echoed, information_returned, init_queued}
 use Rattle.sctp_assoc.specs.Handshake.{on_cookie_ack, on_cookie_echo, on_heartbeat, on_init, on_init_ack, sends_cookie}
@@ -120,8 +120,8 @@ taken_status None a piece e =
     (told_if (is_readable_in b.streams piece.stream_identifier) put.1 b piece.stream_identifier refl))
 
 next_data_status : (there credit : Bool) (a : Shown) (piece : ChunkPayloadData) (trigger : AckTrigger)
-    → ltb 0 (credit_of a.receiver (bytes_waiting a.streams)) ≡ credit
-    → IsSameStatus a (on_next_data (a, there) piece trigger).0
+    → admits a.receiver piece.tsn (bytes_waiting a.streams) ≡ credit
+    → IsSameStatus a (on_new_data (a, there) piece trigger).0
 next_data_status false credit a piece trigger e = status_same a
 next_data_status true true a piece trigger e =
     rw (e, asks_same (taken_in a piece) piece trigger)
@@ -129,13 +129,13 @@ next_data_status true true a piece trigger e =
 next_data_status true false a piece trigger e = rw e (status_same a)
 
 found_next_status : (x : Shown × Bool) (a : Shown) (piece : ChunkPayloadData) (trigger : AckTrigger)
-    → IsSameStatus a x.0 → IsSameStatus a (on_next_data x piece trigger).0
+    → IsSameStatus a x.0 → IsSameStatus a (on_new_data x piece trigger).0
 found_next_status (b, there) a piece trigger h =
-    status_on a b _ h (next_data_status there (ltb 0 (credit_of b.receiver (bytes_waiting b.streams))) b piece
+    status_on a b _ h (next_data_status there (admits b.receiver piece.tsn (bytes_waiting b.streams)) b piece
     trigger refl)
 
 counted_data_status : (next : Bool) (a : Shown) (piece : ChunkPayloadData) (trigger : AckTrigger)
-    → (is_next_after a.receiver piece.tsn && is_whole piece) ≡ next
+    → is_new_to a.receiver piece.tsn ≡ next
     → IsSameStatus a (on_counted_data a piece trigger).0
 counted_data_status true a piece trigger e =
     rw e (found_next_status (stream_found a piece.stream_identifier) a piece trigger
@@ -147,7 +147,7 @@ data_status : (a : Shown) (piece : ChunkPayloadData) (trigger : AckTrigger) → 
 unfolding on_data
 data_status a piece trigger =
     status_on a (counted_data a) _ (status_by a (counted_data a) refl refl refl refl refl refl refl)
-    (counted_data_status (is_next_after a.receiver piece.tsn && is_whole piece) (counted_data a) piece trigger refl)
+    (counted_data_status (is_new_to a.receiver piece.tsn) (counted_data a) piece trigger refl)
 
 -- SACK
 

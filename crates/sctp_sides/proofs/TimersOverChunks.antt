@@ -25,7 +25,7 @@ use Rattle.sctp_inbound.specs.declared.receiver.AckTrigger.{AckTrigger}
 use Rattle.sctp_inbound.specs.declared.receiver.AckTrigger.TheVariants as triggers
 use Rattle.sctp_inbound.specs.Greeting.{first_cookie, information_of}
 use Rattle.sctp_inbound.specs.Handshake.{comes_back, has_issued}
-use Rattle.sctp_inbound.specs.Receiver.{credit_of, is_next_after, taken_to}
+use Rattle.sctp_inbound.specs.Receiver.{admits, is_new_to, taken_to}
 use Rattle.sctp_outbound.specs.declared.sender.Sender.{Sender}
 use Rattle.sctp_outbound.specs.declared.sender.SackOutcome.{SackOutcome}
 use Rattle.sctp_outbound.specs.declared.sender.SackOutcome.TheVariants as outcomes
@@ -40,8 +40,8 @@ use Rattle.sctp_assoc.specs.Calls.{is_established}
 use Rattle.sctp_assoc.specs.Handshake.{acknowledged_cookie, answered, connected, echoed, information_returned, learned}
 use Rattle.sctp_assoc.specs.Handshake.{on_cookie_ack, on_cookie_echo, on_heartbeat, on_init, on_init_ack, sends_cookie}
 use Rattle.sctp_assoc.specs.Chunks.{after_chunks, after_packet, after_packet_of, checked_first, counted_data}
-use Rattle.sctp_assoc.specs.Chunks.{counted_sack, dispatched, ended, goes_on, is_whole, on_chunk, on_counted_data}
-use Rattle.sctp_assoc.specs.Chunks.{on_counted_sack, on_data, on_next_data, on_sack, stream_found, taken_in, told}
+use Rattle.sctp_assoc.specs.Chunks.{counted_sack, dispatched, ended, goes_on, on_chunk, on_counted_data}
+use Rattle.sctp_assoc.specs.Chunks.{on_counted_sack, on_data, on_new_data, on_sack, stream_found, taken_in, told}
 use Rattle.sctp_assoc.specs.Chunks.{with_acknowledged}
 use Rattle.sctp_sides.specs.OneSide.{is_delayed}
 use Rattle.sctp_assoc.specs.Shown.{Shown}
@@ -77,8 +77,8 @@ taken_time None a piece e =
     (told_time (is_readable_in b.streams piece.stream_identifier) put.1 b piece.stream_identifier refl))
 
 next_data_time : (there credit : Bool) (a : Shown) (piece : ChunkPayloadData) (trigger : AckTrigger)
-    → ltb 0 (credit_of a.receiver (bytes_waiting a.streams)) ≡ credit
-    → IsSameTime a (on_next_data (a, there) piece trigger).0
+    → admits a.receiver piece.tsn (bytes_waiting a.streams) ≡ credit
+    → IsSameTime a (on_new_data (a, there) piece trigger).0
 next_data_time false credit a piece trigger e = same_time a
 next_data_time true true a piece trigger e =
     rw (e, asks_same (taken_in a piece) piece trigger)
@@ -86,12 +86,12 @@ next_data_time true true a piece trigger e =
 next_data_time true false a piece trigger e = rw e (same_time a)
 
 found_next_time : (x : Shown × Bool) (a : Shown) (piece : ChunkPayloadData) (trigger : AckTrigger) → IsSameTime a x.0
-    → IsSameTime a (on_next_data x piece trigger).0
+    → IsSameTime a (on_new_data x piece trigger).0
 found_next_time (b, there) a piece trigger h = time_on a b _ h
-    (next_data_time there (ltb 0 (credit_of b.receiver (bytes_waiting b.streams))) b piece trigger refl)
+    (next_data_time there (admits b.receiver piece.tsn (bytes_waiting b.streams)) b piece trigger refl)
 
 counted_data_time : (next : Bool) (a : Shown) (piece : ChunkPayloadData) (trigger : AckTrigger)
-    → (is_next_after a.receiver piece.tsn && is_whole piece) ≡ next
+    → is_new_to a.receiver piece.tsn ≡ next
     → IsSameTime a (on_counted_data a piece trigger).0
 counted_data_time true a piece trigger e =
     rw e (found_next_time (stream_found a piece.stream_identifier) a piece trigger
@@ -103,7 +103,7 @@ data_time : (a : Shown) (piece : ChunkPayloadData) (trigger : AckTrigger) → Is
 unfolding on_data
 data_time a piece trigger =
     time_on a (counted_data a) _ (time_by a (counted_data a) refl refl refl refl refl refl)
-    (counted_data_time (is_next_after a.receiver piece.tsn && is_whole piece) (counted_data a) piece trigger refl)
+    (counted_data_time (is_new_to a.receiver piece.tsn) (counted_data a) piece trigger refl)
 
 -- SACK
 

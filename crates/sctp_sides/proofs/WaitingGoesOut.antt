@@ -125,7 +125,7 @@ what_waits_is_given a h now m established binds next =
     rw established (rw (given_append (acts_of_data_poll a now) (acts_of_ack a) (parts a h))
     (first_before _ _ _ (first ∙ ap (λ (t : ℕ). Some (next_chunk_of m t)) due)))
 
-short_enough : (n : ℕ) → n < 65532 → (nat_lt n 65532 && true) ≡ true
+pub short_enough : (n : ℕ) → n < 65532 → (nat_lt n 65532 && true) ≡ true
 short_enough n e = rw (lt-ltb n 65532 e) refl
 
 data_fits : (header : CommonHeader) (c : ChunkPayloadData) → length c.user_data ≤ 65519

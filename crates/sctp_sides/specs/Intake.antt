@@ -1,5 +1,5 @@
 -- Which DATA a side takes in, by what came before and by the room that it has (RFC 4960 section 6.2).
-use Rattle.std.specs.Prelude.{◌≡◌, ◌⊎◌, ◌<◌, ℕ, true, false, is_some, List, slice_get, Option, Some, None}
+use Rattle.std.specs.Prelude.{◌≡◌, ◌⊎◌, ◌<◌, ℕ, true, is_some, List, slice_get, Option, Some, None}
 use Rattle.sctp_wire_types.specs.declared.chunk.Chunk.{Chunk}
 use Rattle.sctp_wire_types.specs.declared.chunk.Chunk.TheVariants as chunks
 use Rattle.sctp_wire_types.specs.declared.chunk.ChunkPayloadData.{ChunkPayloadData}
@@ -9,9 +9,9 @@ use Rattle.sctp_receive_queues.specs.Reassembly.{Reassembly, empty_reassembly, r
 use Rattle.sctp_streams.specs.Stream.{StreamView}
 use Rattle.sctp_streams.specs.Streams.{bytes_waiting, generation_left, stream_at}
 use Rattle.sctp_inbound.specs.declared.receiver.AckTrigger.{AckTrigger}
-use Rattle.sctp_serial.specs.Serial.{tsn}
+use Rattle.sctp_model.specs.Packets.{mem}
 use Rattle.sctp_assoc.specs.declared.inbound.Flow.TheVariants as flows
-use Rattle.sctp_directions.specs.Acts.{Act, History, reach_in}
+use Rattle.sctp_directions.specs.Acts.{Act, History, IsNewTsn, offset_in}
 use Rattle.sctp_assoc.specs.Leads.{Binds}
 use Rattle.sctp_assoc.specs.Chunks.{on_chunk}
 use Rattle.sctp_assoc.specs.Happened.{acts_of_chunk}
@@ -26,15 +26,21 @@ receive_limit a = a.receiver.max_receive_message_size
 abbrev pub HasStreamFor : Shown → ℕ → Type 0
 HasStreamFor a id = (is_some (stream_at a.streams id) ≡ true) ⊎ (generation_left a.streams ≡ true)
 
--- DATA may be taken in: it has the next TSN, it is an ordered message in one piece, its stream is live or can be made,
--- and fewer bytes wait to be read than the receive buffer has.
+-- An offset past that of this TSN came: DATA with the TSN fills a gap.
+pub record FillsAGap (h : History) (t : ℕ) : Type 0 where
+  pub offset : ℕ
+  pub came : mem offset h.taken ≡ true
+  pub past : offset_in h t < offset
+
+-- fewer bytes wait to be read than the receive buffer has, or DATA with this TSN fills a gap
+abbrev pub HasRoomFor : Shown → History → ℕ → Type 0
+HasRoomFor a h t = (bytes_waiting a.streams < a.receiver.buffer_size) ⊎ FillsAGap h t
+
+-- DATA may be taken in: it is new, its stream is live or can be made, and there is room for it.
 pub record MayTakeIn (a : Shown) (h : History) (piece : ChunkPayloadData) : Type 0 where
-  pub next : piece.tsn ≡ tsn h.peer (reach_in h)
-  pub ordered : piece.unordered ≡ false
-  pub begins : piece.beginning_fragment ≡ true
-  pub ends : piece.ending_fragment ≡ true
+  pub new : IsNewTsn h piece.tsn
   pub stream : HasStreamFor a piece.stream_identifier
-  pub room : bytes_waiting a.streams < a.receiver.buffer_size
+  pub room : HasRoomFor a h piece.tsn
 
 -- what a stream holds; nothing where it is yet to be made
 abbrev pub held_by : Option StreamView → Reassembly

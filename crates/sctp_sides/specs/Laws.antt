@@ -153,12 +153,11 @@ FaultsAloneClose =
 
 -- Reporting
 
--- This offset is the first that was neither taken in nor passed over, and nothing that was taken in lies above it.
+-- This offset is the first that was neither taken in nor passed over.
 pub record IsFirstMissing (o : ℕ) (h : History) : Type 0 where
   pub before : (n : ℕ) → n < o → (mem n h.taken ≡ true) ⊎ (n < h.passed)
   pub missing : mem o h.taken ≡ false
   pub passed : h.passed ≤ o
-  pub above : (n : ℕ) → mem n h.taken ≡ true → n < o
 
 -- A SACK names the TSN before that of the first offset that was neither taken in nor passed over (RFC 4960 section
 -- 3.3.4): it neither claims what was not taken in nor keeps back what was.
@@ -167,8 +166,7 @@ SacksNameThePoint = (a : Shown) (h : History) → Binds a h
     → IsFirstMissing (reach_in h) h
     × ((sack_of a.receiver (bytes_waiting a.streams)).cumulative_tsn_ack ≡ tsn_before (tsn h.peer (reach_in h)))
 
--- It says what was taken in: the point, and of the 65,535 TSNs past it, which are all that gap ack blocks can name,
--- exactly those that were.
+-- It says what was taken in: the point, and past it exactly the offsets that were.
 abbrev pub SacksSayWhatWasTaken : Type 0
 SacksSayWhatWasTaken =
     (a : Shown) (h : History) → Binds a h
@@ -181,9 +179,11 @@ SacksOfferTheBuffer = (a : Shown)
     → (sack : ChunkSelectiveAck) × (sack_packet a ≡ packet_bytes (header_of a.handshake) (chunks.SelectiveAck sack))
     × (sack.advertised_receiver_window_credit ≡ a.receiver.buffer_size - bytes_waiting a.streams)
 
--- It is one datagram, as each SACK that is made is short enough to be spelled.
+-- It is one datagram where its gap ack blocks are at most 16,379, which is what the length of a chunk has room for; with
+-- more of them it isn't sent.
 abbrev pub SacksAreSpelled : Type 0
-SacksAreSpelled = (a : Shown) → sack_packet a ≡ spelling (packet_with (header_of a.handshake) (sack_chunk a)) ∷ []
+SacksAreSpelled = (a : Shown) → length (sack_of a.receiver (bytes_waiting a.streams)).gap_ack_blocks ≤ 16379
+    → sack_packet a ≡ spelling (packet_with (header_of a.handshake) (sack_chunk a)) ∷ []
 
 -- A SACK that is due goes out with the next poll in Established, as its last packet.
 abbrev pub DueSacksGoOut : Type 0

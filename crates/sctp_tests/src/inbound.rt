@@ -1,6 +1,6 @@
 // The chunks of a handshake are built, and TSNs come in any order.
 use bytes::Bytes;
-use sctp_inbound::{Handshake, Held, Offer, Receiver, heartbeat_ack, state_cookie};
+use sctp_inbound::{Handshake, Offer, Receiver, heartbeat_ack, state_cookie};
 use sctp_wire_types::{GapAckBlock, TransportConfig};
 use std::alloc::AllocError;
 use std::test::Fail;
@@ -21,11 +21,10 @@ fn chunks_of_the_handshake_are_built(rt: HostRuntime) -> Result<(), Fail> {
 }
 
 /// Takes in what is new of some TSNs, in their order.
-fn arrive(receiver: &mut Receiver, held: &mut Held, tsns: &[u32]) -> Result<(), AllocError> {
+fn arrive(receiver: &mut Receiver, tsns: &[u32]) -> Result<(), AllocError> {
     for tsn in tsns {
-        let point = receiver.peer_last_tsn;
-        if held.is_new(point, *tsn) {
-            receiver.take(held.take(point, *tsn)?);
+        if receiver.is_new(*tsn) {
+            receiver.take(*tsn)?;
         }
     }
     Ok(())
@@ -33,11 +32,10 @@ fn arrive(receiver: &mut Receiver, held: &mut Held, tsns: &[u32]) -> Result<(), 
 
 #[test]
 fn what_came_past_a_gap_is_acknowledged(rt: HostRuntime) -> Result<(), Fail> {
-    let mut receiver = Receiver::new(4660, 1200, 9);
-    let mut held = Held::new(rt.alloc());
-    arrive(&mut receiver, &mut held, &[17, 15, 14, 12, 11, 10, 14])?;
+    let mut receiver = Receiver::new(rt.alloc(), 4660, 1200, 9);
+    arrive(&mut receiver, &[17, 15, 14, 12, 11, 10, 14])?;
     // The example of RFC 4960 section 3.3.4.
-    let sack = receiver.sack_over(rt.alloc(), &held, 0)?;
+    let sack = receiver.sack(rt.alloc(), 0)?;
     assert_eq!(rt;
         (
             sack.cumulative_tsn_ack,
@@ -55,13 +53,11 @@ fn what_came_past_a_gap_is_acknowledged(rt: HostRuntime) -> Result<(), Fail> {
 
 #[test]
 fn a_gap_is_filled_without_credit(rt: HostRuntime) -> Result<(), Fail> {
-    let mut receiver = Receiver::new(0, 1200, u32::MAX - 1);
-    let mut held = Held::new(rt.alloc());
-    arrive(&mut receiver, &mut held, &[1, 0])?;
-    let point = receiver.peer_last_tsn;
-    let admitted = [u32::MAX, 2].map(|tsn| held.admits(point, tsn, 0));
+    let mut receiver = Receiver::new(rt.alloc(), 0, 1200, u32::MAX - 1);
+    arrive(&mut receiver, &[1, 0])?;
+    let admitted = [receiver.admits(u32::MAX, 0), receiver.admits(2, 0)];
     assert_eq!(rt; admitted, [true, false]);
-    arrive(&mut receiver, &mut held, &[u32::MAX])?;
-    assert_eq!(rt; (receiver.peer_last_tsn, held.has_gap()), (1, false));
+    arrive(&mut receiver, &[u32::MAX])?;
+    assert_eq!(rt; (receiver.peer_last_tsn, receiver.held.has_gap()), (1, false));
     Ok(())
 }
