@@ -11,7 +11,8 @@ use Rattle.sctp_outbound_queue.specs.Message.{counted_again, is_outstanding}
 use Rattle.sctp_outbound_queue.specs.Outbound.{Outbound, next_tsn_of, pieces_waiting, sent_next, tsn_at}
 use Rattle.sctp_streams.specs.Streams.{StreamMap}
 use Rattle.sctp_outbound.specs.declared.sender.Sender.{Sender}
-use Rattle.sctp_outbound.specs.Sender.{after_resending, alone_length_of, both_windows, window_left, can_send_next, chunk_of, first_chunk}
+use Rattle.sctp_outbound.specs.Sender.{after_resending, alone_length_of, both_windows, window_left, can_send_next}
+use Rattle.sctp_outbound.specs.Sender.{chunk_of, first_chunk}
 use Rattle.sctp_outbound.specs.Sender.{first_counted, fits_windows, resends_alone, resent_by, resent_chunks}
 use Rattle.sctp_outbound.specs.Sender.{resent_pieces, sent_new, sent_one, sent_within, with_in_flight}
 use Rattle.sctp_directions.specs.Acts.{Act, CanAll, History, Parts, done_all, all_data_given}

@@ -137,8 +137,8 @@ impl Association {
         }
     }
 
-    // DATA (RFC 4960 section 6.2). What is new is taken in, in whatever order it comes; without credit only what fills a
-    // gap.
+    // DATA (RFC 4960 section 6.2). What is new is taken in, in whatever order it comes; without credit only what fills
+    // a gap.
     #[tactic(auto, unfolding(crate::specs::Chunks::on_data))]
     fn on_data(&mut self, piece: ChunkPayloadData, trigger: AckTrigger) -> Result<Flow, AllocError>
         ensures exact { IfOk result (λ flow. on_data self.old piece trigger ≡ (self.new, flow)) }

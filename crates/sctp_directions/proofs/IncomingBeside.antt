@@ -13,7 +13,7 @@ use Rattle.sctp_model.specs.Messages.{Plan}
 use Rattle.sctp_model.specs.Reassembly.{Queue}
 use Rattle.sctp_model.specs.Machine.{Direction}
 use Rattle.sctp_fit.specs.Incoming.{FitsIncoming, IsQueueAt, Receiving}
-use Rattle.sctp_fit.specs.Acknowledgements.{released_among}
+use Rattle.sctp_outbound.specs.GapAcks.{released_among}
 use Rattle.sctp_fit.proofs.StreamsThere.{at_with}
 use Rattle.sctp_directions.specs.Acts.{Act, Parts, is_acknowledged_by, receiving, with_written}
 use Rattle.sctp_directions.specs.Laws.{OwnActsLeaveWhatComes}

@@ -19,7 +19,7 @@ use Rattle.sctp_streams.specs.Streams.{StreamMap, change_at, is_generation, made
 use Rattle.sctp_streams.specs.Streams.{stream_at, with_stream}
 use Rattle.sctp_model.specs.Machine.{Direction}
 use Rattle.sctp_fit.specs.Outgoing.{FitsOutgoing, IsNumbered, IsOwnAt, Sending, numbers_after}
-use Rattle.sctp_fit.specs.Acknowledgements.{released_among}
+use Rattle.sctp_outbound.specs.GapAcks.{released_among}
 use Rattle.sctp_fit.proofs.StreamsChanged.{each_with}
 use Rattle.sctp_directions.specs.Acts.{Act, Parts, is_acknowledged_by, sending, with_written}
 use Rattle.sctp_directions.specs.Plain.{AreOrderedAndReliable}

@@ -55,7 +55,8 @@ is_waiting states.Delay = true
 -- acknowledgement
 abbrev pub asked : Receiver → AckTrigger → Bool → AckTrigger
 asked r trigger immediate =
-    if (immediate || has_gap r.held) || is_immediate trigger || is_waiting r.ack_state then triggers.Immediate else triggers.Delayed
+    if (immediate || has_gap r.held) || is_immediate trigger || is_waiting r.ack_state then triggers.Immediate else
+    triggers.Delayed
 
 abbrev pub ended_packet : Receiver → AckTrigger → Receiver
 ended_packet r triggers.None = r

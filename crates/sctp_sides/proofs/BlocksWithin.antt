@@ -1,11 +1,13 @@
 -- The gap ack blocks of a SACK name no offset past 65,535.
-use Rattle.std.proofs.Common.{◌≡◌, refl, ⊎_elim, ℕ, ◌<◌, ◌+◌, arith, Bool, true, false, eqb, leb, ◌&&◌, List, [], ◌∷◌, ◌++◌}
+use Rattle.std.proofs.Common.{◌≡◌, refl, ⊎_elim, ℕ, ◌<◌, ◌+◌, arith, Bool, true, false, eqb, leb, ◌&&◌, List, [], ◌∷◌}
+use Rattle.std.proofs.Common.{◌++◌}
 use Rattle.std.specs.List.{AllByRecursion}
 use Rattle.std.proofs.lemmas.Bool.{and_parts, cases_Bool}
 use Rattle.std.proofs.lemmas.Bool.Decides.{nat_tests}
 use Rattle.sctp_wire_types.specs.declared.chunk.GapAckBlock.{GapAckBlock}
 use Rattle.sctp_serial.specs.Serial.{tsn_past}
-use Rattle.sctp_receive_queues.specs.Received.{block, gap_ack_blocks, has_offset, is_greater, is_named, offsets_in, runs_from}
+use Rattle.sctp_receive_queues.specs.Received.{block, gap_ack_blocks, has_offset, is_greater, is_named, offsets_in}
+use Rattle.sctp_receive_queues.specs.Received.{runs_from}
 use Rattle.sctp_receive_queues.specs.Received.{runs_of}
 
 AreBelow : ℕ → List ℕ → Type 0
@@ -37,8 +39,10 @@ unfolding AreBelow
 offsets_below g point x [] l = tt
 offsets_below g point x (t ∷ ts) l = ⊎_elim
     (λ (e : (is_greater g point t && has_offset (tsn_past point t)) ≡ true).
-    rw e (offset_below (tsn_past point t) x l (and_parts (is_greater g point t) (has_offset (tsn_past point t)) e).1,
-    offsets_below g point x ts l))
+    rw e (
+      offset_below (tsn_past point t) x l (and_parts (is_greater g point t) (has_offset (tsn_past point t)) e).1,
+      offsets_below g point x ts l,
+    ))
     (λ (e : (is_greater g point t && has_offset (tsn_past point t)) ≡ false).
     rw e (offsets_below g point x ts l))
     (cases_Bool (is_greater g point t && has_offset (tsn_past point t)))

@@ -180,7 +180,8 @@ data_flow false a piece trigger e = rw e refl
 
 found_acts : (a : Shown) (x : Shown × Bool) (piece : ChunkPayloadData) → Found a piece x
     → acts_of_found x piece ≡ decided_acts (is_found a piece) (has_room a piece) (refusal_of a piece) piece
-found_acts a (x, false) piece f = ap (λ (b : Bool). decided_acts b (has_room a piece) (refusal_of a piece) piece) f.found
+found_acts a (x, false) piece f =
+    ap (λ (b : Bool). decided_acts b (has_room a piece) (refusal_of a piece) piece) f.found
 found_acts a (x, true) piece f =
     ap (λ (b : Bool). decided_acts true b (refusal_in x.streams piece.stream_identifier piece (receive_limit x)) piece)
     f.room

@@ -1,6 +1,7 @@
 -- What closes an association: the chunks that are faults, by what stands in them and in the state (RFC 4960
 -- sections 3.3, 5 and 6.2.1).
-use Rattle.std.specs.Prelude.{◌≡◌, ◌≢◌, ◌⊎◌, ◌↔◌, ◌≤◌, ◌<◌, ℕ, zero, suc, ◌+◌, ◌%◌, ◌^◌, true, false, List, [], ◌∷◌, length}
+use Rattle.std.specs.Prelude.{◌≡◌, ◌≢◌, ◌⊎◌, ◌↔◌, ◌≤◌, ◌<◌, ℕ, zero, suc, ◌+◌, ◌%◌, ◌^◌, true, false, List, [], ◌∷◌}
+use Rattle.std.specs.Prelude.{length}
 use Rattle.std.specs.Prelude.{slice_get, Some, None, Err, ⊤}
 use Rattle.sctp_wire_types.specs.Checks.{checked_chunk}
 use Rattle.sctp_serial.specs.Serial.{tsn_gt, tsn}

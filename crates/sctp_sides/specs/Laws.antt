@@ -179,8 +179,8 @@ SacksOfferTheBuffer = (a : Shown)
     → (sack : ChunkSelectiveAck) × (sack_packet a ≡ packet_bytes (header_of a.handshake) (chunks.SelectiveAck sack))
     × (sack.advertised_receiver_window_credit ≡ a.receiver.buffer_size - bytes_waiting a.streams)
 
--- It is one datagram where its gap ack blocks are at most 16,379, which is what the length of a chunk has room for; with
--- more of them it isn't sent.
+-- It is one datagram where its gap ack blocks are at most 16,379, which is what the length of a chunk has room for;
+-- with more of them it isn't sent.
 abbrev pub SacksAreSpelled : Type 0
 SacksAreSpelled = (a : Shown) → length (sack_of a.receiver (bytes_waiting a.streams)).gap_ack_blocks ≤ 16379
     → sack_packet a ≡ spelling (packet_with (header_of a.handshake) (sack_chunk a)) ∷ []

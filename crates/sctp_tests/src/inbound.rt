@@ -58,6 +58,9 @@ fn a_gap_is_filled_without_credit(rt: HostRuntime) -> Result<(), Fail> {
     let admitted = [receiver.admits(u32::MAX, 0), receiver.admits(2, 0)];
     assert_eq!(rt; admitted, [true, false]);
     arrive(&mut receiver, &[u32::MAX])?;
-    assert_eq!(rt; (receiver.peer_last_tsn, receiver.held.has_gap()), (1, false));
+    assert_eq!(rt;
+        (receiver.peer_last_tsn, receiver.held.has_gap()),
+        (1, false)
+    );
     Ok(())
 }
