@@ -175,8 +175,12 @@ fn cross(alloc: Global, a: &mut Association, b: &mut Association) -> Result<(), 
     deliver(alloc, a, packets_b.as_str(), 0)
 }
 
-// What goes out once these datagrams came.
-fn answer(alloc: Global, association: &mut Association, text: &str) -> Result<String, Fail> {
+/// What goes out once these datagrams came.
+pub(crate) fn answer(
+    alloc: Global,
+    association: &mut Association,
+    text: &str,
+) -> Result<String, Fail> {
     deliver(alloc, association, text, 0)?;
     sent(alloc, association, 0)
 }

@@ -151,9 +151,35 @@ fn check_replies(rt: &(impl Abort + AllocGlobal), text: &str) -> Result<(), Fail
     check(rt, input.as_bytes(), output.as_str(), "", 0)
 }
 
+/// Three messages of which the last comes first: a gap ack block releases its bytes, and all are read in order.
+static REORDERED: &str = "\
+snap 1200 100 500=ok
+open A 1 53=ok
+write A 1 61=wrote 1
+write A 1 6262=wrote 2
+write A 1 636363=wrote 3
+send A 0=packets 0 3
+deliver B 2 0=ok
+read B 1=none
+send B 0=packets 0 1
+deliver A 0 0=ok
+buffered A 1=3
+deliver B 0 0=ok
+read B 1=message 53 61
+read B 1=none
+deliver B 1 0=ok
+read B 1=message 53 6262
+read B 1=message 53 636363
+read B 1=none
+send B 0=packets 1 1
+deliver A 1 0=ok
+buffered A 1=0
+deadline A=none
+";
+
 #[test]
 fn sessions_give_their_replies(rt: HostRuntime) -> Result<(), Fail> {
-    for text in [LOST, TWICE, OTHERS, HANDSHAKE, COOKIE_ACK_LOST] {
+    for text in [LOST, TWICE, OTHERS, HANDSHAKE, COOKIE_ACK_LOST, REORDERED] {
         check_replies(&rt, text)?;
     }
     for text in REFUSED {
