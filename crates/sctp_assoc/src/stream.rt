@@ -70,8 +70,7 @@ impl<'a> Stream<'a> {
     }
 
     /// Bytes that were accepted on this generation of the stream and are not released. A SACK releases those of the
-    /// DATA that it acknowledges, by its cumulative TSN ack or by a gap ack block. Refused, with nothing changed:
-    /// `ErrAssociationFailed`, `ErrStreamClosed`.
+    /// DATA up to its cumulative TSN ack. Refused, with nothing changed: `ErrAssociationFailed`, `ErrStreamClosed`.
     pub fn buffered_amount(&self) -> Result<usize, Error>
         ensures { result ≡ buffered_of (lent self.now) (id_of self.now) }
     {
