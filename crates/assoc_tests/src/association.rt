@@ -149,7 +149,7 @@ fn a_joined_association_is_connected(rt: HostRuntime) -> Result<(), Fail> {
 fn written(alloc: Global) -> Result<Association, Error> {
     let mut association = joined(alloc, 1200, (1, 2))?;
     let mut stream = association.open_stream(7, PayloadProtocolIdentifier::String)?;
-    let long = vec![in alloc; 7u8; 1201]?;
+    let long = vec![in alloc; 7u8; 65_537]?;
     if stream.write(long.as_slice()).err() == Some(Error::ErrOutboundPacketTooLarge) {
         let _ = stream.write(b"abc")?;
     }

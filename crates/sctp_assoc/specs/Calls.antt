@@ -1,5 +1,5 @@
 -- What the calls of an application do to an association.
-use Rattle.std.specs.Prelude.{◌≡◌, ℕ, Bool, true, false, List, [], ◌∷◌, ◌++◌, ◌==◌, ◌||◌, if◌then◌else◌, length, map}
+use Rattle.std.specs.Prelude.{◌≡◌, ℕ, Bool, true, false, List, [], ◌∷◌, ◌++◌, ◌==◌, if◌then◌else◌, length, map}
 use Rattle.std.specs.Prelude.{nat_lt, is_some, Option, Some, None, Result, Ok, Err}
 use Rattle.sctp_wire_types.specs.declared.error.Error.{Error}
 use Rattle.sctp_wire_types.specs.declared.error.Error.TheVariants as errors
@@ -175,9 +175,7 @@ ready_messages a id = ready_of (stream_at a.streams id)
 abbrev pub size_refusal : Shown → StreamView → ℕ → Option Error
 size_refusal a s size =
     if size == 0 then Some errors.ErrEmptyMessage else
-    if nat_lt a.max_send_message_size size || nat_lt a.sender.max_payload_size size then
-    Some errors.ErrOutboundPacketTooLarge
-    else None
+    if nat_lt a.max_send_message_size size then Some errors.ErrOutboundPacketTooLarge else None
 
 abbrev pub write_refusal_at : Shown → Option StreamView → ℕ → Option Error
 write_refusal_at a None size = Some errors.ErrStreamClosed
@@ -193,7 +191,7 @@ abbrev pub written_at : Option StreamView → Shown → ℕ → List ℕ → Sho
 written_at None a id bytes = a
 written_at (Some s) a id bytes = record a {
   streams = changed_stream (λ t. accepted_by t s.default_payload_type (length bytes)) a.streams id;
-  sender = (let t = a.sender in record t { queue = with_message t.queue (message_of s id bytes) });
+  sender = (let t = a.sender in record t { queue = with_message t.queue (message_of s t.max_payload_size id bytes) });
 }
 
 -- a message was accepted on a live stream

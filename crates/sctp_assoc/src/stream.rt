@@ -49,12 +49,11 @@ impl<'a> Stream<'a> {
     }
 
     /// Accepts one message under the stream's payload type and answers its length, in bytes. The bytes are copied;
-    /// they go out with `poll_transmit`, as the windows allow.
+    /// they go out with `poll_transmit`, as the windows allow, in pieces of the payload size.
     ///
     /// Refused, in this order with nothing changed: `ErrAssociationFailed`; `ErrStreamClosed`;
     /// `ErrPayloadDataStateNotExist` outside Established; `ErrEmptyMessage`; `ErrOutboundPacketTooLarge` for a
-    /// message that is longer than `max_send_message_size` or than one DATA chunk takes (messages of several pieces
-    /// are not sent so far); `ErrNoMemory`.
+    /// message that is longer than `max_send_message_size`; `ErrNoMemory`.
     pub fn write(&mut self, bytes: &[u8]) -> Result<usize, Error>
         ensures same { lender self.new ≡ lender self.old }
         ensures id { id_of self.new ≡ id_of self.old }
@@ -70,7 +69,8 @@ impl<'a> Stream<'a> {
     }
 
     /// Bytes that were accepted on this generation of the stream and are not released. A SACK releases those of the
-    /// DATA up to its cumulative TSN ack. Refused, with nothing changed: `ErrAssociationFailed`, `ErrStreamClosed`.
+    /// DATA that it acknowledges, by its cumulative TSN ack or by a gap ack block. Refused, with nothing changed:
+    /// `ErrAssociationFailed`, `ErrStreamClosed`.
     pub fn buffered_amount(&self) -> Result<usize, Error>
         ensures { result ≡ buffered_of (lent self.now) (id_of self.now) }
     {

@@ -8,9 +8,8 @@ ghost use Rattle.sctp_assoc.specs.Calls.{read_from_stream, ready_messages, buffe
 use crate::Association;
 use bytes::Bytes;
 use sctp_parts::state::AssociationState;
-use sctp_wire_queues::{Attributes, Chunks, Error, PendingMessage, StreamId};
+use sctp_wire_queues::{Attributes, Chunks, Error, PendingMessage, StreamId, cut};
 use std::alloc::AllocError;
-use std::collections::VecDeque;
 
 impl Association {
     #[tactic(auto, using(crate::proofs::CallsLeadOn::read_leads_on))]
@@ -57,16 +56,14 @@ impl Association {
         if size == 0 {
             return Err(Error::ErrEmptyMessage);
         }
-        if size > self.max_send_message_size as usize
-            || size > self.sender.max_payload_size as usize
-        {
+        if size > self.max_send_message_size as usize {
             return Err(Error::ErrOutboundPacketTooLarge);
         }
         Ok(())
     }
 
-    // Queues a message of a live stream and counts it. A buffered amount past the greatest u64 counts as want of
-    // memory.
+    // Queues a message of a live stream, in pieces, and counts it. Its bytes are copied once, and the pieces are cuts
+    // of that copy. A buffered amount past the greatest u64 counts as want of memory.
     fn accept(&mut self, id: StreamId, bytes: &[u8]) -> Result<(), AllocError>
         ensures ok { OnOk result (self.new ≡ written self.old id bytes.now) }
         ensures err { OnErr result (self.new ≡ self.old) }
@@ -80,6 +77,8 @@ impl Association {
         if stream.buffered_amount() > u64::MAX - size {
             return Err(AllocError);
         }
+        let copy = Bytes::copy_from_slice(self.alloc, bytes)?;
+        let (user_data, rest) = cut(self.alloc, copy, self.sender.max_payload_size as usize)?;
         let message = PendingMessage {
             message: Attributes {
                 message_id: 0,
@@ -92,8 +91,8 @@ impl Association {
                 deadline: None,
             },
             begun: false,
-            user_data: Bytes::copy_from_slice(self.alloc, bytes)?,
-            rest: VecDeque::new(self.alloc),
+            user_data,
+            rest,
         };
         self.sender.queue.push(message)?;
         self.streams.accept(id, payload_type, size)

@@ -6,6 +6,7 @@ use Rattle.sctp_wire_types.specs.declared.chunk.ChunkPayloadData.{ChunkPayloadDa
 use Rattle.sctp_wire_types.specs.declared.chunk.GapAckBlock.{GapAckBlock}
 use Rattle.sctp_wire_types.specs.declared.ids.PayloadProtocolIdentifier.{PayloadProtocolIdentifier}
 use Rattle.sctp_outbound_queue.specs.declared.message.InFlight.{InFlight}
+use Rattle.sctp_outbound_queue.specs.Cut.{first_piece, other_pieces}
 use Rattle.sctp_outbound_queue.specs.Waiting.{Waiting}
 use Rattle.sctp_outbound_queue.specs.Message.{counted_again, is_outstanding}
 use Rattle.sctp_receive_queues.specs.Received.{is_named}
@@ -98,9 +99,9 @@ with_taken h o = record h { taken = o ∷ h.taken }
 abbrev pub with_peer : History → ℕ → History
 with_peer h t = record h { peer = t; taken = []; passed = 0 }
 
--- what is queued of bytes that a stream accepts under its own payload type
-abbrev pub message_of : StreamView → ℕ → List ℕ → Waiting
-message_of s id bytes = record {
+-- what is queued of bytes that a stream accepts under its own payload type: pieces of `size` bytes
+abbrev pub message_of : StreamView → ℕ → ℕ → List ℕ → Waiting
+message_of s size id bytes = record {
   message = record {
     message_id = 0;
     stream_identifier = id;
@@ -112,16 +113,15 @@ message_of s id bytes = record {
     deadline = None;
   };
   begun = false;
-  user_data = bytes;
-  rest = [];
+  user_data = first_piece size bytes;
+  rest = other_pieces size bytes;
 }
 
--- the bytes are queued on the stream, where it is live
 -- the bytes are queued on the stream, where it is live
 abbrev pub with_written : Option StreamView → Parts → ℕ → List ℕ → Parts
 with_written None p id bytes = p
 with_written (Some s) p id bytes =
-    (let a = fit.written (sending p) id s.default_payload_type (length bytes) (message_of s id bytes) in
+    (let a = fit.written (sending p) id s.default_payload_type (length bytes) (message_of s p.size id bytes) in
     record p { queue = a.queue; streams = a.streams })
 
 -- A SACK that acknowledges the first n pieces in flight cumulatively acknowledges the piece at an index: it is one of
@@ -182,7 +182,6 @@ abbrev pub CanAll : List Act → Parts → Type 0
 CanAll [] p = Unit {0}
 CanAll (x ∷ xs) p = Can x p × CanAll xs (done x p)
 
--- this piece, if there is one, as DATA
 -- this piece, if there is one, as DATA
 abbrev pub chunk_said : Option InFlight → ℕ → List ChunkPayloadData
 chunk_said None t = []

@@ -27,11 +27,12 @@ use Rattle.sctp_directions.specs.Said.{IsMade}
 
 -- Its own DATA
 
--- A write of one piece on a live stream of ordered, reliable messages is accepted by the direction as that message.
+-- A write, of any number of pieces, on a live stream of ordered, reliable messages is accepted by the direction as that
+-- message.
 abbrev pub WritesAreAccepted : Type 0
 WritesAreAccepted = (p : Parts) (id : ℕ) (bytes : List ℕ) (t : StreamView) (w : Direction)
     → stream_at p.streams id ≡ Some t → AreOrderedAndReliable p.streams
-    → 0 < length bytes → length bytes ≤ p.size → Invariant w → CountsBegun w.sender → FitsOutgoing (sending p) w
+    → 0 < length bytes → Invariant w → CountsBegun w.sender → FitsOutgoing (sending p) w
     → FitsOutgoing (sending (done (Act.Wrote id bytes) p)) (happens w (Event.Write id (message_on t bytes)))
 
 -- A piece that goes out again is that of its offset, and is DATA of the direction.

@@ -1,10 +1,11 @@
 -- What holds of the queue's calls together.
-use Rattle.std.specs.Prelude.{◌≡◌, ℕ, ◌+◌, Bool, true, not, ◌||◌, slice_get, Option, Some, None}
+use Rattle.std.specs.Prelude.{◌≡◌, ℕ, ◌+◌, ◌<◌, List, Bool, true, not, ◌||◌, slice_get, Option, Some, None}
 use Rattle.std.specs.List.{list_all}
 use Rattle.sctp_outbound_queue.specs.declared.queue.Released.{Released}
 use Rattle.sctp_outbound_queue.specs.Message.{is_of}
 use Rattle.sctp_outbound_queue.specs.Outbound.{Outbound, waiting_of, outstanding_of, sent_next, without_first}
 use Rattle.sctp_outbound_queue.specs.Outbound.{bytes_of_piece, acked_at, abandoned_at}
+use Rattle.sctp_outbound_queue.specs.Cut.{IsCut, first_piece, other_pieces}
 use Rattle.sctp_outbound_queue.specs.Expiry.{after_expiry, after_tail_expiry}
 
 -- the bytes that wait or are outstanding
@@ -48,3 +49,8 @@ abbrev pub AbandonsWhole : Type 0
 AbandonsWhole =
     (q r : Outbound) (tsn : ℕ) (a : Released) → abandoned_at q tsn ≡ (r, Some a)
     → is_whole a.message.message_id r ≡ true
+
+-- the pieces of a message are its bytes, in their order (RFC 4960 section 6.9)
+abbrev pub PiecesAreCut : Type 0
+PiecesAreCut =
+    (size : ℕ) (bytes : List ℕ) → 0 < size → IsCut size bytes (first_piece size bytes) (other_pieces size bytes)

@@ -7,6 +7,6 @@ mod message;
 mod queue;
 mod walks;
 
-pub use laws::{abandonment_is_whole, released_bytes_are_exact};
+pub use laws::{abandonment_is_whole, pieces_are_the_bytes, released_bytes_are_exact};
 pub use message::{Attributes, InFlight, PendingMessage, cut};
 pub use queue::{OutboundQueue, Released};

@@ -1,7 +1,7 @@
 // Messages, cut into pieces, and pieces in flight.
 ghost use Rattle.std.specs.Prelude.{◌≡◌, ◌==◌, ◌+◌, ◌-◌, ◌^◌, ◌<◌, ◌≤◌, [], length, min, fold, IfOk, IsOk};
 ghost use Rattle.std.specs.List.{concat};
-ghost use Rattle.sctp_outbound_queue.specs.Cut.{IsCut, MayFollow};
+ghost use Rattle.sctp_outbound_queue.specs.Cut.{MayFollow, first_piece, other_pieces};
 ghost use Rattle.sctp_outbound_queue.specs.Message.{message_bytes, piece_count, accepted, sent_once, without_piece};
 ghost use Rattle.sctp_outbound_queue.specs.Message.{marker_of, is_of, is_of_stream, is_waiting_of_stream};
 ghost use Rattle.sctp_outbound_queue.specs.Message.{is_outstanding, outstanding_bytes, outstanding_bytes_of, acked};
@@ -314,8 +314,8 @@ impl InFlight {
 /// first piece, and those behind it. For size 0 the whole is one piece. All are cuts of the one buffer, and a message
 /// that fits one piece takes no memory.
 pub fn cut(alloc: Global, bytes: Bytes, size: usize) -> Result<(Bytes, VecDeque<Bytes>), AllocError>
-    ensures cut { 0 < size → IfOk result (λ p. IsCut size bytes p.0 p.1.items) }
-    ensures uncut { size ≡ 0 → IfOk result (λ p. (p.0 ≡ bytes) × (p.1.items ≡ [])) }
+    ensures first { IfOk result (λ p. p.0 ≡ first_piece size bytes) }
+    ensures rest { IfOk result (λ p. p.1.items ≡ other_pieces size bytes) }
     ensures fits { length bytes ≤ size → IsOk result }
 {
     if size == 0 {

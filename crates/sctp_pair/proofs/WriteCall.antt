@@ -76,8 +76,8 @@ written_settles {x} {a} id n bytes can f s =
       same = writes_keep_the_status a id bytes;
       size = sent.0.size;
       outgoing =
-          writes_are_accepted (parts a s.past) id bytes t x.out there s.between.writes can.some can.one
-          f.sound_out.invariant f.sound_out.counts s.between.outgoing;
+          writes_are_accepted (parts a s.past) id bytes t x.out there s.between.writes can.some f.sound_out.invariant
+          f.sound_out.counts s.between.outgoing;
       incoming = own_acts_leave_what_comes (Act.Wrote id bytes) (parts a s.past) x.coming tt s.between.incoming;
     } in
     record {

@@ -1,13 +1,13 @@
 -- DATA is taken in exactly where it may be, and its stream does not refuse it.
 use Rattle.std.proofs.Common.{◌≡◌, refl, sym, ap, ◌∙◌, subst, ◌⊎◌, ⊎_elim, inl, inr, ℕ, zero, suc, ◌<◌, ◌≤◌, ◌+◌, ◌-◌}
-use Rattle.std.proofs.Common.{◌%◌, ◌^◌, min, arith, Bool, true, false, eqb, ltb, ◌&&◌, ◌||◌, not, if◌then◌else◌, List}
+use Rattle.std.proofs.Common.{◌^◌, min, arith, Bool, true, false, eqb, ltb, ◌||◌, if◌then◌else◌, List}
 use Rattle.std.proofs.Common.{[], ◌∷◌, ◌++◌, map, fold, Option, Some, None, is_some, Ordering, Less, Equal, Greater}
 use Rattle.std.proofs.Common.{nat_cmp, is_eq}
 use Rattle.std.specs.Prelude.{slice_get}
 use Rattle.std.specs.BTreeMap.{is_at, insert_entry}
 use Rattle.std.specs.Map.{lookup}
 use Rattle.std.specs.Ordering.{match_ordering}
-use Rattle.std.proofs.lemmas.Bool.{and_from, and_parts, cond-true, eq-eqb, eqb-true, false≢true, lt-ltb, ltb-true}
+use Rattle.std.proofs.lemmas.Bool.{cond-true, eq-eqb, false≢true, lt-ltb, ltb-true}
 use Rattle.std.proofs.lemmas.Bool.{or_cases, or_left, or_right, true≢false}
 use Rattle.sctp_wire_types.specs.declared.chunk.Chunk.TheVariants as chunks
 use Rattle.sctp_wire_types.specs.declared.chunk.ChunkPayloadData.{ChunkPayloadData}
@@ -20,7 +20,6 @@ use Rattle.sctp_streams.specs.Stream.{StreamView, fresh_stream}
 use Rattle.sctp_streams.specs.Streams.{StreamMap, bytes_waiting, generation_left, made, refusal_at, refusal_in}
 use Rattle.sctp_streams.specs.Streams.{stream_at}
 use Rattle.sctp_inbound.specs.declared.receiver.AckTrigger.{AckTrigger}
-use Rattle.sctp_inbound.specs.declared.receiver.Receiver.{Receiver}
 use Rattle.sctp_inbound.specs.Held.{is_passed}
 use Rattle.sctp_inbound.specs.Receiver.{admits, credit_of, is_new_to}
 use Rattle.sctp_assoc.specs.declared.inbound.Flow.{Flow}

@@ -21,7 +21,7 @@ use Rattle.sctp_model.specs.Packets.{mem}
 use Rattle.sctp_outbound.specs.declared.sender.Sender.{Sender}
 use Rattle.sctp_outbound.specs.Sender.{after_resending, resent_by, sent_new}
 use Rattle.sctp_directions.specs.Acts.{History, reach_in, receiving}
-use Rattle.sctp_assoc.specs.Leads.{Binds, parts}
+use Rattle.sctp_assoc.specs.Leads.{parts}
 use Rattle.sctp_assoc.specs.Calls.{after_ack_delay, after_t3, is_established, retransmits, t3_expired}
 use Rattle.sctp_assoc.specs.Handshake.{after_t1_init, sends_cookie, sends_init, t1_cookie_expired, t1_init_expired}
 use Rattle.sctp_assoc.specs.Timeouts.{after_handshake_timers}

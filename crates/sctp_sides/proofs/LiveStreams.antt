@@ -1,7 +1,7 @@
 -- Live streams: what calls that were not refused can rely on, and streams that hold nothing.
-use Rattle.std.proofs.Common.{◌≡◌, refl, sym, ap, ◌∙◌, ⊎_elim, ℕ, arith, Bool, true, false, eqb, ltb, ◌||◌}
+use Rattle.std.proofs.Common.{◌≡◌, refl, sym, ap, ◌∙◌, ⊎_elim, ℕ, arith, Bool, true, false, eqb, ltb}
 use Rattle.std.proofs.Common.{if◌then◌else◌, Option, Some, None, is_some}
-use Rattle.std.proofs.lemmas.Bool.{cases_Bool, cond-false, cond-true, eqb-false, ltb-false, or_parts, true≢false}
+use Rattle.std.proofs.lemmas.Bool.{cases_Bool, cond-false, cond-true, eqb-false, true≢false}
 use Rattle.sctp_wire_types.specs.declared.error.Error.TheVariants as errors
 use Rattle.sctp_receive_queues.specs.Messages.{ReceivedMessage}
 use Rattle.sctp_receive_queues.specs.Reassembly.{empty_reassembly, taken}
@@ -52,15 +52,11 @@ write_free true x a id size working there e = absurd (true≢false (ap is_some e
 write_free false None a id size working there e = absurd (true≢false (ap is_some e))
 write_free false (Some t) a id size working there e =
     let free =
-    size_free (is_established a.state) (eqb size 0)
-    (ltb a.max_send_message_size size || ltb a.sender.max_payload_size size) e in
+    size_free (is_established a.state) (eqb size 0) (ltb a.max_send_message_size size) e in
     record {
       live = record { working = working; stream = t; there = there };
       established = free.0;
       some = (let ne = eqb-false size 0 free.1 in omega (arith, ne));
-      one =
-          ltb-false a.sender.max_payload_size size
-          (or_parts (ltb a.max_send_message_size size) (ltb a.sender.max_payload_size size) free.2).1;
     }
 
 pub accepted_writes_fit : AcceptedWritesFit

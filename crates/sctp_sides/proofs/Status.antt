@@ -1,7 +1,7 @@
 -- Calls leave an association's status as it is: whether it failed, its state, whether it was lost, and its payload
 -- size.
 use Rattle.std.proofs.Common.{◌≡◌, refl, sym, ap, ◌∙◌, ℕ, zero, suc, Bool, true, false, ◌&&◌, if◌then◌else◌, not, eqb}
-use Rattle.std.proofs.Common.{ltb, List, [], ◌∷◌, length, Option, Some, None, is_some, Result, Ok, Err}
+use Rattle.std.proofs.Common.{List, [], ◌∷◌, length, Option, Some, None, is_some, Result, Ok, Err}
 use Rattle.std.specs.Prelude.{slice_get}
 use Rattle.sctp_wire_types.specs.declared.chunk.Chunk.{Chunk}
 use Rattle.sctp_wire_types.specs.declared.chunk.Chunk.TheVariants as chunks

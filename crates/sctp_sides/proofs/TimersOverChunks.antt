@@ -1,6 +1,6 @@
 -- The chunks of a packet keep the timers where they should run, and a fault stops them all.
 use Rattle.std.proofs.Common.{◌≡◌, refl, sym, ap, ◌∙◌, ◌⊎◌, inl, inr, ℕ, zero, suc, ◌<◌, ◌+◌, arith, Bool, true, false}
-use Rattle.std.proofs.Common.{ltb, ◌&&◌, if◌then◌else◌, List, [], ◌∷◌, length, Option, Some, None, is_some, Result, Ok}
+use Rattle.std.proofs.Common.{ltb, if◌then◌else◌, List, [], ◌∷◌, length, Option, Some, None, is_some, Result, Ok}
 use Rattle.std.proofs.Common.{Err}
 use Rattle.std.proofs.lemmas.Bool.{false≢true, ltb-false, ltb-true, true≢false}
 use Rattle.sctp_wire_types.specs.declared.chunk.Chunk.{Chunk}

@@ -36,10 +36,11 @@ written_held : (o : Option StreamView) (a : Shown) (id : ℕ) (bytes : List ℕ)
 written_held None a id bytes some = absurd (false≢true some)
 written_held (Some s) a id bytes some =
     let number = a.sender.queue.next_message_id in
+    let size = a.sender.max_payload_size in
     let this : (number == number) ≡ true = eq-eqb number number refl in
-    let last : waits number (a.sender.queue.pending ++ accepted number (message_of s id bytes) ∷ []) ≡ true =
+    let last : waits number (a.sender.queue.pending ++ accepted number (message_of s size id bytes) ∷ []) ≡ true =
     list_any-append (λ (m : Waiting). m.message.message_id == number) a.sender.queue.pending
-    (accepted number (message_of s id bytes) ∷ [])
+    (accepted number (message_of s size id bytes) ∷ [])
     ∙ or_right (waits number a.sender.queue.pending) _ (or_left (number == number) false this) in
     or_left _ _ last
 

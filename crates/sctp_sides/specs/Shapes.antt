@@ -102,13 +102,11 @@ IsNotLive a id = stream_at a.streams id ≡ None
 abbrev pub OpenedStreamsWereNotLive : Type 0
 OpenedStreamsWereNotLive = (a : Shown) (id : ℕ) → open_refusal a id ≡ None → (a.failed ≡ false) × IsNotLive a id
 
--- What an accepted write of this size had: a live stream, an association in Established, a byte at least, and room in
--- one DATA chunk.
+-- What an accepted write of this size had: a live stream, an association in Established, and a byte at least.
 pub record WasWritable (a : Shown) (id size : ℕ) : Type 0 where
   pub live : IsLive a id
   pub established : is_established a.state ≡ true
   pub some : 0 < size
-  pub one : size ≤ a.sender.max_payload_size
 
 -- A write that nothing refuses has these. (That it is accepted needs more: `write_refusal`, and memory.)
 abbrev pub AcceptedWritesFit : Type 0

@@ -2,7 +2,7 @@
 //! streams and events, and the queues of what is to be sent and of what came.
 #![tactic(auto)]
 
-pub use sctp_outbound_queue::{Attributes, InFlight, OutboundQueue, PendingMessage, Released};
+pub use sctp_outbound_queue::{Attributes, InFlight, OutboundQueue, PendingMessage, Released, cut};
 pub use sctp_receive_queues::{Chunks, ReassemblyQueue, ReceiveQueue};
 pub use sctp_streams::{
     AssociationError, DataChannelStats, Event, Events, RecvSendState, ReliabilityParams,

@@ -75,8 +75,8 @@ impl TransportConfig {
         config
     }
 
-    /// Greatest message that may be written, in bytes; 65,536 by default. A message also has to fit into one DATA
-    /// chunk so far.
+    /// Greatest message that may be written, in bytes; 65,536 by default. One that is longer than the payload size goes
+    /// out in pieces.
     pub fn max_send_message_size(&self) -> u32
         ensures { result ≡ self.now.max_send_message_size }
     {

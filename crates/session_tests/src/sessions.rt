@@ -177,9 +177,36 @@ buffered A 1=0
 deadline A=none
 ";
 
+/// A message of ten bytes that goes out in pieces of four, comes in another order and is read whole.
+static PIECES: &str = "\
+snap 4 100 500=ok
+open A 1 53=ok
+write A 1 30313233343536373839=wrote 10
+send A 0=packets 0 3
+deliver B 2 0=ok
+deliver B 0 0=ok
+read B 1=none
+deliver B 1 0=ok
+read B 1=message 53 30313233343536373839
+read B 1=none
+send B 0=packets 0 1
+buffered A 1=10
+deliver A 0 0=ok
+buffered A 1=0
+deadline A=none
+";
+
 #[test]
 fn sessions_give_their_replies(rt: HostRuntime) -> Result<(), Fail> {
-    for text in [LOST, TWICE, OTHERS, HANDSHAKE, COOKIE_ACK_LOST, REORDERED] {
+    for text in [
+        LOST,
+        TWICE,
+        OTHERS,
+        HANDSHAKE,
+        COOKIE_ACK_LOST,
+        REORDERED,
+        PIECES,
+    ] {
         check_replies(&rt, text)?;
     }
     for text in REFUSED {
