@@ -19,7 +19,7 @@ use Rattle.sctp_fit.specs.Outgoing.{Sending}
 use Rattle.sctp_fit.specs.Points.{so_many, with_named}
 use Rattle.sctp_fit.proofs.BlocksTaken.{points_and_blocks_acknowledge}
 use Rattle.sctp_wire_types.specs.declared.chunk.GapAckBlock.{GapAckBlock}
-use Rattle.sctp_receive_queues.specs.Received.{is_named}
+use Rattle.sctp_received.specs.Received.{is_named}
 use Rattle.sctp_outbound.specs.GapAcks.{with_blocks}
 
 -- Acts, one after another.

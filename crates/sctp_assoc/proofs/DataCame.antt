@@ -1,7 +1,7 @@
 -- New DATA came: its TSN is new on the history, and the receiver's point and what it holds follow it.
 use Rattle.std.proofs.Common.{◌≡◌, refl, sym, ap, ◌∙◌, subst, ℕ, ◌+◌, ◌^◌, arith, true, nat_lt, not}
 use Rattle.std.proofs.lemmas.Bool.{and_from, and_parts, lt-ltb, ltb-true, not-true}
-use Rattle.sctp_receive_queues.specs.Received.{is_new}
+use Rattle.sctp_received.specs.Received.{is_new}
 use Rattle.sctp_streams.specs.Streams.{StreamMap}
 use Rattle.sctp_inbound.specs.declared.receiver.Receiver.{Receiver}
 use Rattle.sctp_inbound.specs.Held.{held_after}

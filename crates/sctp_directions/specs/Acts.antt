@@ -9,7 +9,7 @@ use Rattle.sctp_outbound_queue.specs.declared.message.InFlight.{InFlight}
 use Rattle.sctp_outbound_queue.specs.Cut.{first_piece, other_pieces}
 use Rattle.sctp_outbound_queue.specs.Waiting.{Waiting}
 use Rattle.sctp_outbound_queue.specs.Message.{counted_again, is_outstanding}
-use Rattle.sctp_receive_queues.specs.Received.{is_named}
+use Rattle.sctp_received.specs.Received.{is_named}
 use Rattle.sctp_outbound_queue.specs.Outbound.{Outbound, all_marked, changed_at, sent_next}
 use Rattle.sctp_streams.specs.Stream.{StreamView, params_for}
 use Rattle.sctp_streams.specs.Streams.{StreamMap, stream_at, made, pushed_in, read_in, without_streams}

@@ -1,7 +1,7 @@
 -- What an acknowledgement says of what came and was taken in (RFC 4960 section 3.3.4).
 use Rattle.std.specs.Prelude.{◌≡◌, ◌<◌, ℕ, ◌+◌, ◌-◌, List}
 use Rattle.sctp_wire_types.specs.declared.chunk.ChunkSelectiveAck.{ChunkSelectiveAck}
-use Rattle.sctp_receive_queues.specs.Received.{is_named}
+use Rattle.sctp_received.specs.Received.{is_named}
 use Rattle.sctp_model.specs.Packets.{mem}
 use Rattle.sctp_serial.specs.Serial.{tsn}
 use Rattle.sctp_fit.specs.Incoming.{tsn_before}

@@ -14,7 +14,7 @@ use Rattle.std.proofs.lemmas.Bool.{eqb-true, eqb-false, false≢true, le-leb, le
 use Rattle.std.proofs.lemmas.Bool.{ne_eqb, or_cases, or_left, or_right}
 use Rattle.std.proofs.lemmas.Cmp.{ranked}
 use Rattle.sctp_serial.specs.Serial.{tsn_past, tsn}
-use Rattle.sctp_receive_queues.specs.Received.{has_offset, is_held, is_held_at}
+use Rattle.sctp_received.specs.Received.{has_offset, is_held, is_held_at}
 use Rattle.sctp_model.specs.Packets.{mem}
 use Rattle.sctp_model.proofs.Lists.{all_mem, all_weaker}
 use Rattle.sctp_fit.specs.HeldSet.{BlocksNameWhatCame, HoldsPast, IsPast, NewTsnsDidNotCome, NothingIsHeldAtFirst}

@@ -8,10 +8,9 @@ use Rattle.std.specs.BTreeSet.{insert_key}
 use Rattle.std.proofs.lemmas.Bool.{and_parts, cases_lt, cond_both, cond-true, eq-eqb, eqb-true, false_from_ne_true}
 use Rattle.std.proofs.lemmas.Bool.{ltb-true, not-true, or_cases, or_left, or_right, true≢false}
 use Rattle.std.proofs.lemmas.List.{nil_from_length}
-use Rattle.sctp_receive_queues.specs.Pieces.{tsn_after}
-use Rattle.sctp_receive_queues.specs.Received.{advanced, is_held, is_new, with_tsn}
+use Rattle.sctp_received.specs.Received.{advanced, is_held, is_new, with_tsn}
 use Rattle.sctp_model.specs.Packets.{mem}
-use Rattle.sctp_serial.specs.Serial.{tsn}
+use Rattle.sctp_serial.specs.Serial.{tsn, tsn_after}
 use Rattle.sctp_model.specs.Machine.{climb, past_all}
 use Rattle.sctp_model.proofs.Lists.{all_both, all_mem, all_weaker}
 use Rattle.sctp_model.proofs.OffsetSets.{climb_from, climb_in, reach_stops}

@@ -7,7 +7,7 @@ use Rattle.std.specs.List.{AllByRecursion}
 use Rattle.std.specs.List.Sorted.{IsStrictlySortedBy}
 use Rattle.std.specs.Ordering.{nat_cmp}
 use Rattle.sctp_wire_types.specs.declared.chunk.GapAckBlock.{GapAckBlock}
-use Rattle.sctp_receive_queues.specs.Received.{advanced, is_held, is_held_at, is_named, is_new, with_tsn}
+use Rattle.sctp_received.specs.Received.{advanced, is_held, is_held_at, is_named, is_new, with_tsn}
 use Rattle.sctp_model.specs.Packets.{mem}
 use Rattle.sctp_serial.specs.Serial.{tsn}
 use Rattle.sctp_fit.specs.Incoming.{Receiving, offset_of, reach_of, tsn_before}

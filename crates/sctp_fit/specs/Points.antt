@@ -2,7 +2,7 @@
 -- blocks name of those behind them, is to acknowledge all of them at once (RFC 4960 section 6.2.1).
 use Rattle.std.specs.Prelude.{◌≡◌, ℕ, zero, suc, ◌+◌, ◌-◌, ◌^◌, ◌<◌, ◌≤◌, Bool, ◌||◌, List, length, nat_lt, slice_get}
 use Rattle.sctp_wire_types.specs.declared.chunk.GapAckBlock.{GapAckBlock}
-use Rattle.sctp_receive_queues.specs.Received.{is_named}
+use Rattle.sctp_received.specs.Received.{is_named}
 use Rattle.sctp_outbound_queue.specs.Outbound.{without_first}
 use Rattle.sctp_outbound.specs.Sender.{streams_after}
 use Rattle.sctp_fit.specs.Outgoing.{Sending}

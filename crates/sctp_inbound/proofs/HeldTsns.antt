@@ -11,9 +11,8 @@ use Rattle.std.specs.Set.{remove_key}
 use Rattle.std.proofs.lemmas.Bool.{and_parts, eq-eqb, false≢true, le-ltb, not-true, or_parts}
 use Rattle.std.proofs.lemmas.Bool.Decides.{nat_tests}
 use Rattle.std.proofs.Math.Bool.{or-false, or_assoc}
-use Rattle.sctp_serial.specs.Serial.{tsn_past}
-use Rattle.sctp_receive_queues.specs.Pieces.{tsn_after}
-use Rattle.sctp_receive_queues.specs.Received.{advanced, is_held, is_new, last_received, later_of}
+use Rattle.sctp_serial.specs.Serial.{tsn_past, tsn_after}
+use Rattle.sctp_received.specs.Received.{advanced, is_held, is_new, last_received, later_of}
 use Rattle.sctp_inbound.specs.Held.{held_after, is_passed}
 
 -- a key is at its own place

@@ -2,7 +2,7 @@
 use Rattle.std.specs.Prelude.{ℕ, Bool, List, ◌==◌, ◌||◌, not, length, nat_lt}
 use Rattle.std.specs.List.{list_any}
 use Rattle.sctp_serial.specs.Serial.{tsn_past}
-use Rattle.sctp_receive_queues.specs.Received.{advanced, with_tsn}
+use Rattle.sctp_received.specs.Received.{advanced, with_tsn}
 
 -- a new TSN is held, and then the point moves over all that follow it one after another: the new point, and what is
 -- held past that

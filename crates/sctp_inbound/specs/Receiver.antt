@@ -5,7 +5,7 @@ use Rattle.sctp_parts.specs.declared.state.AckState.{AckState}
 use Rattle.sctp_parts.specs.declared.state.AckState.TheVariants as states
 use Rattle.sctp_parts.specs.declared.timer.Timer.TheVariants as names
 use Rattle.sctp_parts.specs.Timers.{Timers, started, with_stopped}
-use Rattle.sctp_receive_queues.specs.Received.{gap_ack_blocks, is_new}
+use Rattle.sctp_received.specs.Received.{gap_ack_blocks, is_new}
 use Rattle.sctp_inbound.specs.Held.{has_gap, held_after, is_admitted}
 use Rattle.sctp_inbound.specs.declared.receiver.Receiver.{Receiver}
 use Rattle.sctp_inbound.specs.declared.receiver.AckTrigger.{AckTrigger}

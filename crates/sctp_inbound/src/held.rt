@@ -1,10 +1,10 @@
 // What came past the receiver's point, with a gap before it.
 ghost use Rattle.std.specs.Prelude.{◌≡◌, ℕ, ◌<◌, ◌^◌, [], true, false, IfOk, OnErr, IsOk};
-ghost use Rattle.sctp_receive_queues.specs.Pieces.{tsn_after};
-ghost use Rattle.sctp_receive_queues.specs.Received.{AreRuns, gap_ack_blocks, is_held, is_held_at, is_named, is_new};
+ghost use Rattle.sctp_serial.specs.Serial.{tsn_after};
+ghost use Rattle.sctp_received.specs.Received.{AreRuns, gap_ack_blocks, is_held, is_held_at, is_named, is_new};
 ghost use Rattle.sctp_inbound.specs.Held.{has_gap, held_after, is_admitted, is_passed};
 
-use sctp_receive_queues::ReceiveQueue;
+use sctp_received::ReceiveQueue;
 use sctp_wire_types::{GapAckBlock, List};
 use std::alloc::{AllocError, Global};
 use std::marker::Model;

@@ -1,7 +1,7 @@
 // What came and when it is acknowledged.
 ghost use Rattle.std.specs.Prelude.{◌≡◌, ℕ, ◌<◌, ◌^◌, [], true, IfOk, OnOk, OnErr, IsOk};
-ghost use Rattle.sctp_receive_queues.specs.Pieces.{tsn_after};
-ghost use Rattle.sctp_receive_queues.specs.Received.{AreRuns, is_held_at, is_named};
+ghost use Rattle.sctp_serial.specs.Serial.{tsn_after};
+ghost use Rattle.sctp_received.specs.Received.{AreRuns, is_held_at, is_named};
 ghost use Rattle.sctp_inbound.specs.Receiver.{admits, fresh_receiver, is_new_to, receiver_from, taken_to, asked};
 ghost use Rattle.sctp_inbound.specs.Receiver.{ended_packet, ended_packet_timers, credit_of, acknowledged_at_once};
 ghost use Rattle.sctp_inbound.specs.Receiver.{acknowledged, sack_of};

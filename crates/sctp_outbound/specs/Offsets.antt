@@ -2,7 +2,7 @@
 use Rattle.std.specs.Prelude.{◌≡◌, ℕ, ◌+◌, ◌&&◌, ◌||◌, not, Bool, true, false, List, nat_le, nat_lt}
 use Rattle.std.specs.List.{list_any}
 use Rattle.sctp_wire_types.specs.declared.chunk.GapAckBlock.{GapAckBlock}
-use Rattle.sctp_receive_queues.specs.Received.{is_named}
+use Rattle.sctp_received.specs.Received.{is_named}
 
 -- With n TSNs up to the point of a SACK that are in flight, of so many in all, the TSN at an offset past that point is
 -- in flight, too: it is at or past the first one of them, and not past the last one.

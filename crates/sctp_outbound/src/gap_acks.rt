@@ -1,6 +1,6 @@
 // What the gap ack blocks of a SACK acknowledge.
 ghost use Rattle.std.specs.Prelude.{◌↔◌, true, length, ◌≡◌, ◌==◌, ◌+◌, ◌<◌};
-ghost use Rattle.sctp_receive_queues.specs.Received.{is_named};
+ghost use Rattle.sctp_received.specs.Received.{is_named};
 ghost use Rattle.sctp_outbound.specs.Sender.{with_in_flight};
 ghost use Rattle.sctp_outbound.specs.Offsets.{NameUnsent, is_unsent_in, name_unsent};
 ghost use Rattle.sctp_outbound.specs.GapAcks.{acked_among, released_among, is_named_by};

@@ -1,8 +1,7 @@
 -- TSNs compare as the offsets that they spell, as long as those are less than half the range apart.
 use Rattle.std.proofs.Common.{ℕ, suc, ◌+◌, ◌-◌, ◌^◌, ◌<◌, ◌≤◌, ◌≡◌, eqb, ltb, sym, ap, ◌∙◌, ⊎_elim, arith}
 use Rattle.std.proofs.lemmas.Bool.{cases_lt, cases_eq, and_from, and_left, and_right, eq-eqb, ne_eqb, lt-ltb, le-ltb}
-use Rattle.sctp_serial.specs.Serial.{tsn, tsn_lt, tsn_past}
-use Rattle.sctp_receive_queues.specs.Pieces.{tsn_after}
+use Rattle.sctp_serial.specs.Serial.{tsn, tsn_lt, tsn_past, tsn_after}
 
 pub tsn_before : (initial a b : ℕ) → a < 2 ^ 31 → b < 2 ^ 31 → tsn_lt (tsn initial a) (tsn initial b) ≡ ltb a b
 tsn_before initial a b la lb =

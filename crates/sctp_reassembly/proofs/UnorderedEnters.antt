@@ -5,9 +5,9 @@ use Rattle.std.proofs.Common.{sym, ap, ◌∙◌, subst, inl, inr, ⊎_elim, ari
 use Rattle.std.specs.List.{AllByRecursion, remove}
 use Rattle.std.proofs.lemmas.Bool.{cases_Bool, ne_eqb, cond-false, lt-ltb, le-ltb, false≢true}
 use Rattle.sctp_wire_types.specs.declared.chunk.ChunkPayloadData.{ChunkPayloadData}
-use Rattle.sctp_serial.specs.Serial.{tsn_lt, tsn}
+use Rattle.sctp_serial.specs.Serial.{tsn_lt, tsn, tsn_after}
 use Rattle.sctp_receive_queues.specs.Messages.{ReceivedMessage, message_of}
-use Rattle.sctp_receive_queues.specs.Pieces.{is_complete, is_past, is_last as is_last_piece, tsn_after}
+use Rattle.sctp_receive_queues.specs.Pieces.{is_complete, is_past, is_last as is_last_piece}
 use Rattle.sctp_receive_queues.specs.Reassembly.{finished, joins_after, joins_before, part, index_for_tsn, put_between}
 use Rattle.sctp_receive_queues.specs.Reassembly.{run_at, run_before, run_place, with_unordered}
 use Rattle.sctp_model.specs.Messages.{Plan}

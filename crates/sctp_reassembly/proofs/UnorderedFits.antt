@@ -5,11 +5,11 @@ use Rattle.std.proofs.Common.{arith}
 use Rattle.std.specs.List.{AllByRecursion}
 use Rattle.std.proofs.lemmas.Bool.{cases_Bool, eq-eqb, eqb-true, ne_eqb, le-ltb, true≢false}
 use Rattle.sctp_wire_types.specs.Ids.{number_of}
-use Rattle.sctp_serial.specs.Serial.{tsn_past, tsn}
+use Rattle.sctp_serial.specs.Serial.{tsn_past, tsn, tsn_after}
 use Rattle.sctp_wire_types.specs.declared.chunk.ChunkPayloadData.{ChunkPayloadData}
 use Rattle.sctp_wire_types.specs.declared.error.Error.TheVariants as errors
 use Rattle.sctp_receive_queues.specs.Pieces.{bytes_of, covers, has_other_type, is_last as is_last_piece}
-use Rattle.sctp_receive_queues.specs.Pieces.{is_right_before, last_of, tsn_after}
+use Rattle.sctp_receive_queues.specs.Pieces.{is_right_before, last_of}
 use Rattle.sctp_receive_queues.specs.Reassembly.{is_torn_after, is_torn_before, joins_after, joins_before, part}
 use Rattle.sctp_receive_queues.specs.Reassembly.{refusal_between, run_at, run_before, tears}
 use Rattle.sctp_model.specs.Messages.{Plan, place_at, is_last}

@@ -8,10 +8,10 @@ use Rattle.sctp_wire_types.specs.declared.chunk.ChunkPayloadData.{ChunkPayloadDa
 use Rattle.sctp_wire_types.specs.Ids.{number_of}
 use Rattle.sctp_receive_queues.proofs.Cuts.{bytes_of_pieces}
 use Rattle.sctp_receive_queues.specs.Messages.{joined, message_of}
-use Rattle.sctp_receive_queues.specs.Pieces.{ends, follows, is_complete, is_last as is_last_piece, last_of, tsn_after}
+use Rattle.sctp_receive_queues.specs.Pieces.{ends, follows, is_complete, is_last as is_last_piece, last_of}
 use Rattle.sctp_model.specs.Messages.{Plan, place_at}
 use Rattle.sctp_model.specs.Packets.{Data, mem, data_at}
-use Rattle.sctp_serial.specs.Serial.{tsn}
+use Rattle.sctp_serial.specs.Serial.{tsn, tsn_after}
 use Rattle.sctp_model.specs.Reassembly.{at, top, run_from, run_with, run_of, run_begun, begins, got_of, message_in}
 use Rattle.sctp_model.specs.Safe.{AreRising, Letter, letter_read}
 use Rattle.sctp_model.specs.Invariants.{IsPlanned, IsHeld}

@@ -2,8 +2,6 @@ pub mod Ascending
 pub mod ByteSums
 pub mod BytesWaiting
 pub mod Cuts
-pub mod GapAckBlocks
-pub mod LastReceived
 pub mod ReadyMessages
 pub mod Reach
 pub mod RunPlaces

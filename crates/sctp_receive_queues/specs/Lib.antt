@@ -3,4 +3,3 @@ pub mod Messages
 pub mod Pieces
 pub mod Reach
 pub mod Reassembly
-pub mod Received

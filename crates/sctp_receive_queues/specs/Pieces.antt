@@ -3,7 +3,7 @@ use Rattle.std.specs.Prelude.{ℕ, ◌+◌, ◌-◌, ◌%◌, ◌^◌, ◌==◌,
 use Rattle.std.specs.Prelude.{List, [], ◌∷◌, length, position, slice_get, unwrap_or, Option, Some, None}
 use Rattle.std.specs.List.{list_any, sum_by}
 use Rattle.sctp_wire_types.specs.Ids.{number_of}
-use Rattle.sctp_serial.specs.Serial.{tsn_lt, tsn_past}
+use Rattle.sctp_serial.specs.Serial.{tsn_after, tsn_lt, tsn_past}
 use Rattle.sctp_wire_types.specs.declared.chunk.ChunkPayloadData.{ChunkPayloadData}
 use Rattle.sctp_wire_types.specs.declared.error.Error.{Error}
 use Rattle.sctp_wire_types.specs.declared.error.Error.TheVariants as errors
@@ -33,10 +33,6 @@ begins pieces = is_first (first_of pieces)
 -- the message's last piece is held, if these are consistent
 abbrev pub ends : List ChunkPayloadData → Bool
 ends pieces = is_last (last_of pieces)
-
--- the TSN that follows
-abbrev pub tsn_after : ℕ → ℕ
-tsn_after tsn = (tsn + 1) % 2 ^ 32
 
 abbrev pub is_after : Option ℕ → ℕ → Bool
 is_after None tsn = true

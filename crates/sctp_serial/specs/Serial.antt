@@ -8,6 +8,10 @@ ssn_past a b = (b + 2 ^ 16 - a) % 2 ^ 16
 abbrev pub tsn_past : ℕ → ℕ → ℕ
 tsn_past a b = (b + 2 ^ 32 - a) % 2 ^ 32
 
+-- the TSN that follows
+abbrev pub tsn_after : ℕ → ℕ
+tsn_after tsn = (tsn + 1) % 2 ^ 32
+
 -- a comes before b: b is 1 to half the range less 1 past a
 abbrev pub ssn_lt : ℕ → ℕ → Bool
 ssn_lt a b = nat_lt 0 (ssn_past a b) && nat_lt (ssn_past a b) (2 ^ 15)

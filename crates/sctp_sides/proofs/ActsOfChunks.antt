@@ -11,7 +11,7 @@ use Rattle.sctp_wire_types.specs.declared.chunk.ChunkInit.{ChunkInit}
 use Rattle.sctp_wire_types.specs.declared.packet.CommonHeader.{CommonHeader}
 use Rattle.sctp_wire_types.specs.declared.chunk.ChunkSelectiveAck.{ChunkSelectiveAck}
 use Rattle.sctp_wire_types.specs.declared.chunk.GapAckBlock.{GapAckBlock}
-use Rattle.sctp_receive_queues.specs.Received.{is_named}
+use Rattle.sctp_received.specs.Received.{is_named}
 use Rattle.sctp_wire_types.specs.declared.error.Error.{Error}
 use Rattle.sctp_wire_types.specs.declared.ids.PayloadProtocolIdentifier.TheVariants as kinds
 use Rattle.sctp_wire_types.specs.Checks.{checked_chunk}

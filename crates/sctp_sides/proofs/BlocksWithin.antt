@@ -6,9 +6,9 @@ use Rattle.std.proofs.lemmas.Bool.{and_parts, cases_Bool}
 use Rattle.std.proofs.lemmas.Bool.Decides.{nat_tests}
 use Rattle.sctp_wire_types.specs.declared.chunk.GapAckBlock.{GapAckBlock}
 use Rattle.sctp_serial.specs.Serial.{tsn_past}
-use Rattle.sctp_receive_queues.specs.Received.{block, gap_ack_blocks, has_offset, is_greater, is_named, offsets_in}
-use Rattle.sctp_receive_queues.specs.Received.{runs_from}
-use Rattle.sctp_receive_queues.specs.Received.{runs_of}
+use Rattle.sctp_received.specs.Received.{block, gap_ack_blocks, has_offset, is_greater, is_named, offsets_in}
+use Rattle.sctp_received.specs.Received.{runs_from}
+use Rattle.sctp_received.specs.Received.{runs_of}
 
 AreBelow : ℕ → List ℕ → Type 0
 AreBelow x os = AllByRecursion (λ o. o < x) os

@@ -34,8 +34,8 @@ use Rattle.sctp_assoc.specs.Shown.{Shown}
 use Rattle.sctp_assoc.proofs.PolledData.{IsSentBeside, data_poll_stays}
 use Rattle.sctp_assoc.proofs.PollsLeadOn.{ack_said, both_first, both_second}
 use Rattle.sctp_assoc.proofs.WhatCame.{below_reach, passed_reach, reach_missing}
-use Rattle.sctp_receive_queues.specs.Received.{gap_ack_blocks, is_held_at}
-use Rattle.sctp_receive_queues.proofs.GapAckBlocks.{named_exactly}
+use Rattle.sctp_received.specs.Received.{gap_ack_blocks, is_held_at}
+use Rattle.sctp_received.proofs.GapAckBlocks.{named_exactly}
 use Rattle.sctp_fit.proofs.HeldTsns.{blocks_name_what_came}
 use Rattle.sctp_sides.proofs.BlocksWithin.{nothing_named}
 use Rattle.sctp_sides.proofs.WaitingGoesOut.{ack_behind, fits_written, short_enough}

@@ -31,7 +31,7 @@ use Rattle.sctp_outbound.specs.declared.sender.Sender.{Sender}
 use Rattle.sctp_outbound.specs.declared.sender.SackOutcome.{SackOutcome}
 use Rattle.sctp_outbound.specs.declared.sender.SackOutcome.TheVariants as outcomes
 use Rattle.sctp_wire_types.specs.declared.chunk.GapAckBlock.{GapAckBlock}
-use Rattle.sctp_receive_queues.specs.Received.{is_named}
+use Rattle.sctp_received.specs.Received.{is_named}
 use Rattle.sctp_outbound.specs.GapAcks.{acked_among, with_blocks}
 use Rattle.sctp_outbound.specs.Sender.{acknowledged, tsns_up_to, sack_outcome, t3_after_sack, t3_cleared, with_window}
 use Rattle.sctp_assoc.specs.declared.inbound.Flow.{Flow}

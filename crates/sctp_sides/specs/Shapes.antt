@@ -13,7 +13,7 @@ use Rattle.sctp_wire_types.specs.declared.packet.CommonHeader.{CommonHeader}
 use Rattle.sctp_wire.specs.declared.packet.Packet.{Packet}
 use Rattle.sctp_wire.specs.Packets.{packet_at}
 use Rattle.sctp_receive_queues.specs.Reassembly.{empty_reassembly}
-use Rattle.sctp_receive_queues.specs.Received.{is_named}
+use Rattle.sctp_received.specs.Received.{is_named}
 use Rattle.sctp_streams.specs.declared.event.AssociationError.{AssociationError}
 use Rattle.sctp_streams.specs.declared.event.Event.{Event}
 use Rattle.sctp_streams.specs.Stream.{StreamView}

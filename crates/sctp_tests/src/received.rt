@@ -1,6 +1,7 @@
 // TSNs are held, and a message is put together.
 use bytes::Bytes;
-use sctp_receive_queues::{ReassemblyQueue, ReceiveQueue};
+use sctp_receive_queues::ReassemblyQueue;
+use sctp_received::ReceiveQueue;
 use sctp_wire_types::{ChunkPayloadData, PayloadProtocolIdentifier};
 use std::test::Fail;
 

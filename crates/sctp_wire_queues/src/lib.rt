@@ -3,7 +3,8 @@
 #![tactic(auto)]
 
 pub use sctp_outbound_queue::{Attributes, InFlight, OutboundQueue, PendingMessage, Released, cut};
-pub use sctp_receive_queues::{Chunks, ReassemblyQueue, ReceiveQueue};
+pub use sctp_receive_queues::{Chunks, ReassemblyQueue};
+pub use sctp_received::ReceiveQueue;
 pub use sctp_streams::{
     AssociationError, DataChannelStats, Event, Events, RecvSendState, ReliabilityParams,
     StreamState, Streams,

@@ -1,5 +1,5 @@
 use Rattle.std.proofs.Common.{◌≡◌, Some, rules}
-use Rattle.sctp_receive_queues.specs.Received.{last_received}
+use Rattle.sctp_received.specs.Received.{last_received}
 use Rattle.sctp_inbound.proofs.HeldTsns.{passed_by_last, wrapped_past}
 use Rattle.sctp_inbound.proofs.held.Held.passes.Goals as goal
 

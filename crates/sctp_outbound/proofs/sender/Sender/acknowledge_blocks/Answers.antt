@@ -1,5 +1,5 @@
 use Rattle.std.proofs.Common.{◌+◌, take, refl}
-use Rattle.sctp_receive_queues.specs.Received.{is_named}
+use Rattle.sctp_received.specs.Received.{is_named}
 use Rattle.sctp_outbound.proofs.GapAcks.{acknowledges_none, acknowledges_both, acknowledges_same, named_more, named_all}
 use Rattle.sctp_outbound.proofs.sender.Sender.acknowledge_blocks.Goals as goal
 

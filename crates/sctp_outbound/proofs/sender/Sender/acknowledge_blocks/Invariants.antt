@@ -1,5 +1,5 @@
 use Rattle.std.proofs.Common.{◌+◌, take}
-use Rattle.sctp_receive_queues.specs.Received.{is_named}
+use Rattle.sctp_received.specs.Received.{is_named}
 use Rattle.sctp_outbound.proofs.GapAcks.{Acknowledges}
 use Rattle.sctp_outbound.proofs.sender.Sender.acknowledge_blocks.Given as goal
 

@@ -6,9 +6,8 @@ use Rattle.std.specs.Ordering.{nat_cmp}
 use Rattle.std.specs.BTreeMap.{is_at}
 use Rattle.std.specs.BTreeSet.{insert_key}
 use Rattle.std.specs.Set.{remove_key}
-use Rattle.sctp_serial.specs.Serial.{tsn_past}
+use Rattle.sctp_serial.specs.Serial.{tsn_past, tsn_after}
 use Rattle.sctp_wire_types.specs.declared.chunk.GapAckBlock.{GapAckBlock}
-use Rattle.sctp_receive_queues.specs.Pieces.{tsn_after}
 
 -- TSNs are numbers of 32 bits
 abbrev pub AreTsns : List ℕ → Type 0

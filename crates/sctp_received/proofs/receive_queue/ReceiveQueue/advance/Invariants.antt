@@ -1,6 +1,6 @@
 use Rattle.std.proofs.Common.{◌≡◌, length}
-use Rattle.sctp_receive_queues.specs.Received.{advanced}
-use Rattle.sctp_receive_queues.proofs.receive_queue.ReceiveQueue.advance.Given as goal
+use Rattle.sctp_received.specs.Received.{advanced}
+use Rattle.sctp_received.proofs.receive_queue.ReceiveQueue.advance.Given as goal
 
 abbrev pub invariant-loop-cumulative_tsn : goal.invariant-loop-cumulative_tsn
 invariant-loop-cumulative_tsn l =

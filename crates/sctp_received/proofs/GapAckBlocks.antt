@@ -17,11 +17,10 @@ use Rattle.std.proofs.lemmas.List.Elements.{All-head, All-tail}
 use Rattle.std.proofs.lemmas.List.Folds.{list_any-append}
 use Rattle.std.proofs.lemmas.Map.Keys.{sorted_tail}
 use Rattle.std.proofs.lemmas.Map.Views.{All-after_first}
-use Rattle.sctp_serial.specs.Serial.{tsn_past}
+use Rattle.sctp_serial.specs.Serial.{tsn_past, tsn_after}
 use Rattle.sctp_wire_types.specs.declared.chunk.GapAckBlock.{GapAckBlock}
-use Rattle.sctp_receive_queues.specs.Pieces.{tsn_after}
-use Rattle.sctp_receive_queues.specs.Received.{is_held, has_offset, advanced, is_greater, offsets_in, offsets_of, block}
-use Rattle.sctp_receive_queues.specs.Received.{runs_from, runs_of, gap_ack_blocks, is_named, is_held_at, AreRuns}
+use Rattle.sctp_received.specs.Received.{is_held, has_offset, advanced, is_greater, offsets_in, offsets_of, block}
+use Rattle.sctp_received.specs.Received.{runs_from, runs_of, gap_ack_blocks, is_named, is_held_at, AreRuns}
 
 -- The point moves on.
 

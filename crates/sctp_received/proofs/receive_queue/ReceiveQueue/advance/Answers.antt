@@ -1,6 +1,6 @@
 use Rattle.std.proofs.Common.{◌∙◌, sym}
-use Rattle.sctp_receive_queues.proofs.GapAckBlocks.{advance_over}
-use Rattle.sctp_receive_queues.proofs.receive_queue.ReceiveQueue.advance.Goals as goal
+use Rattle.sctp_received.proofs.GapAckBlocks.{advance_over}
+use Rattle.sctp_received.proofs.receive_queue.ReceiveQueue.advance.Goals as goal
 
 pub loop-cumulative_tsn-preserved : goal.loop-cumulative_tsn-preserved
 loop-cumulative_tsn-preserved c =

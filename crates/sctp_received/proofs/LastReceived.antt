@@ -4,7 +4,7 @@ use Rattle.std.proofs.Common.{arith}
 use Rattle.std.specs.List.{AllByRecursion}
 use Rattle.std.proofs.lemmas.Bool.{cases_Bool, ltb-true, ltb-false}
 use Rattle.sctp_serial.specs.Serial.{tsn_past}
-use Rattle.sctp_receive_queues.specs.Received.{later_of, last_received, IsFarthest}
+use Rattle.sctp_received.specs.Received.{later_of, last_received, IsFarthest}
 
 later_new : (cumulative_tsn t : ℕ) (last : Option ℕ)
     → tsn_past cumulative_tsn t ≤ tsn_past cumulative_tsn (later_of cumulative_tsn last t)

@@ -1,6 +1,6 @@
 use Rattle.std.proofs.Common.{◌<◌, ◌^◌}
 use Rattle.std.proofs.lemmas.Map.Views.{All-remove_key}
-use Rattle.sctp_receive_queues.proofs.receive_queue.ReceiveQueue.pop.Goals as goal
+use Rattle.sctp_received.proofs.receive_queue.ReceiveQueue.pop.Goals as goal
 
 pub invariant_of-self : goal.invariant_of-self
 invariant_of-self c =

@@ -1,6 +1,6 @@
 use Rattle.std.proofs.Common.{◌≡◌, ◌++◌}
-use Rattle.sctp_receive_queues.specs.Received.{offsets_in}
-use Rattle.sctp_receive_queues.proofs.receive_queue.add_offsets.Given as goal
+use Rattle.sctp_received.specs.Received.{offsets_in}
+use Rattle.sctp_received.proofs.receive_queue.add_offsets.Given as goal
 
 abbrev pub invariant-loop-tsn : goal.invariant-loop-tsn
 invariant-loop-tsn l =

@@ -1,6 +1,6 @@
 use Rattle.std.proofs.Common.{◌≡◌, ◌++◌, drop}
-use Rattle.sctp_receive_queues.specs.Received.{block, runs_from}
-use Rattle.sctp_receive_queues.proofs.receive_queue.add_runs.Given as goal
+use Rattle.sctp_received.specs.Received.{block, runs_from}
+use Rattle.sctp_received.proofs.receive_queue.add_runs.Given as goal
 
 abbrev pub invariant-loop-offset : goal.invariant-loop-offset
 invariant-loop-offset l =

@@ -2,7 +2,7 @@ use Rattle.std.proofs.Common.{rules, ◌∙◌, ap, not, filter, ◌<◌, ◌^�
 use Rattle.std.proofs.lemmas.Fn.{filter_same}
 use Rattle.std.proofs.lemmas.List.Elements.{All-filter}
 use Rattle.sctp_serial.specs.Serial.{tsn_lte}
-use Rattle.sctp_receive_queues.proofs.receive_queue.ReceiveQueue.pop_up_to.Goals as goal
+use Rattle.sctp_received.proofs.receive_queue.ReceiveQueue.pop_up_to.Goals as goal
 
 pub returns : goal.returns
 returns c =

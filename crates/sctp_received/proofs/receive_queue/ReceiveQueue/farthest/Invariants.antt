@@ -1,6 +1,6 @@
 use Rattle.std.proofs.Common.{◌≡◌, fold, Some}
-use Rattle.sctp_receive_queues.specs.Received.{last_received, later_of}
-use Rattle.sctp_receive_queues.proofs.receive_queue.ReceiveQueue.farthest.Given as goal
+use Rattle.sctp_received.specs.Received.{last_received, later_of}
+use Rattle.sctp_received.proofs.receive_queue.ReceiveQueue.farthest.Given as goal
 
 abbrev pub invariant-loop-tsn : goal.invariant-loop-tsn
 invariant-loop-tsn l =

@@ -2,7 +2,7 @@ use Rattle.std.proofs.Common.{◌<◌, ◌^◌, ◌≡◌, rules}
 use Rattle.std.specs.Ordering.{nat_cmp}
 use Rattle.std.specs.BTreeSet.{insert_key}
 use Rattle.std.proofs.lemmas.Map.Views.{All-insert_key}
-use Rattle.sctp_receive_queues.proofs.receive_queue.ReceiveQueue.push.Goals as goal
+use Rattle.sctp_received.proofs.receive_queue.ReceiveQueue.push.Goals as goal
 
 pub invariant_of-self-2 : goal.invariant_of-self-2
 invariant_of-self-2 c =

@@ -1,9 +1,9 @@
 use Rattle.std.proofs.Common.{rules, ◌≡◌}
 use Rattle.std.specs.Ordering.{nat_cmp}
 use Rattle.std.specs.List.Sorted.{IsStrictlySortedBy}
-use Rattle.sctp_receive_queues.specs.Received.{gap_ack_blocks, AreTsns}
-use Rattle.sctp_receive_queues.proofs.GapAckBlocks.{named_exactly, maximal_runs}
-use Rattle.sctp_receive_queues.proofs.receive_queue.ReceiveQueue.get_gap_ack_blocks.Goals as goal
+use Rattle.sctp_received.specs.Received.{gap_ack_blocks, AreTsns}
+use Rattle.sctp_received.proofs.GapAckBlocks.{named_exactly, maximal_runs}
+use Rattle.sctp_received.proofs.receive_queue.ReceiveQueue.get_gap_ack_blocks.Goals as goal
 
 pub returns-clause-exact : goal.returns-clause-exact
 returns-clause-exact c =

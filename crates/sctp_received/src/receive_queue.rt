@@ -6,10 +6,10 @@ ghost use Rattle.std.specs.BTreeMap.{is_at};
 ghost use Rattle.std.specs.Set.{remove_key};
 ghost use Rattle.std.specs.List.Sorted.{IsStrictlySortedBy};
 ghost use Rattle.sctp_serial.specs.Serial.{tsn_lte};
-ghost use Rattle.sctp_receive_queues.specs.Received.{is_held, is_new, with_tsn, last_received, later_of, block};
-ghost use Rattle.sctp_receive_queues.specs.Received.{runs_from, advanced, offsets_of, offsets_in, runs_of};
-ghost use Rattle.sctp_receive_queues.specs.Received.{gap_ack_blocks, is_named, is_held_at, AreRuns, AreTsns};
-ghost use Rattle.sctp_receive_queues.specs.Received.{IsFarthest};
+ghost use Rattle.sctp_received.specs.Received.{is_held, is_new, with_tsn, last_received, later_of, block};
+ghost use Rattle.sctp_received.specs.Received.{runs_from, advanced, offsets_of, offsets_in, runs_of};
+ghost use Rattle.sctp_received.specs.Received.{gap_ack_blocks, is_named, is_held_at, AreRuns, AreTsns};
+ghost use Rattle.sctp_received.specs.Received.{IsFarthest};
 
 use sctp_wire_types::{GapAckBlock, List, sna32lte};
 use std::alloc::{AllocError, Global};
@@ -25,7 +25,7 @@ pub struct ReceiveQueue {
 
 impl Model for ReceiveQueue {
     ghost use Rattle.std.specs.Prelude.{ℕ, List as Numbers};
-    ghost use Rattle.sctp_receive_queues.specs.Received.{AreTsns};
+    ghost use Rattle.sctp_received.specs.Received.{AreTsns};
 
     ghost Value = { Numbers ℕ };
 

@@ -1,0 +1,2 @@
+pub mod GapAckBlocks
+pub mod LastReceived
