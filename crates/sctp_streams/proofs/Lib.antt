@@ -1,1 +1,2 @@
+pub mod ReadableStreams
 pub mod WaitingBytes

@@ -1,5 +1,5 @@
 -- The bytes that wait, summed over the live streams.
-use Rattle.std.proofs.Common.{◌≡◌, ℕ, ◌+◌, ◌<◌, ◌^◌, Bool, true, false, List, [], ◌∷◌, length, map, Option, Some, None}
+use Rattle.std.proofs.Common.{◌≡◌, ℕ, ◌+◌, Bool, true, false, List, [], ◌∷◌, length, Option, Some, None}
 use Rattle.std.proofs.Common.{refl, ap, sym, ◌∙◌, arith, if◌then◌else◌}
 use Rattle.std.specs.Map.{lookup, set_value}
 use Rattle.std.specs.BTreeMap.{is_at}
@@ -16,10 +16,12 @@ use Rattle.sctp_serial.specs.Serial.{ssn_lt}
 use Rattle.sctp_receive_queues.specs.Reassembly.{Group, Reassembly, bytes_in_groups, bytes_in_messages, bytes_waiting}
 use Rattle.sctp_receive_queues.specs.Reassembly.{empty_reassembly, is_due, pushed, read_from, read_ordered, taken}
 use Rattle.sctp_receive_queues.specs.Reassembly.{unordered_put, with_ordered, with_put}
-use Rattle.sctp_receive_queues.specs.Messages.{ReceivedMessage, bytes_left, message_of}
+use Rattle.sctp_receive_queues.specs.Messages.{ReceivedMessage, bytes_left}
 use Rattle.sctp_receive_queues.specs.Pieces.{bytes_of}
 use Rattle.sctp_receive_queues.proofs.BytesWaiting.{message_length, ordered_bytes, unordered_bytes}
-use Rattle.sctp_streams.specs.Stream.{StreamView, read_with, stream_pushed, stream_read}
+use Rattle.sctp_streams.specs.declared.setting.Setting.{Setting}
+use Rattle.sctp_streams.specs.declared.setting.Setting.TheVariants as settings
+use Rattle.sctp_streams.specs.Stream.{StreamView, read_with, stream_pushed, stream_read, with_setting}
 use Rattle.sctp_streams.specs.Streams.{StreamMap, pushed_in, stream_at, waiting_in, with_stream}
 
 -- one stream's bytes are exchanged for those that it has after a change
@@ -35,6 +37,14 @@ unchanged id m n s t there is same =
     let e = exchanged id m n s t there is in
     let bytes : bytes_waiting t.reassembly ≡ bytes_waiting s.reassembly = ap bytes_waiting same in
     omega (arith, e, bytes)
+
+-- no setting touches what came on a stream
+pub set_reassembly : (s : StreamView) (x : Setting) → (with_setting s x).reassembly ≡ s.reassembly
+set_reassembly s (settings.DefaultPayloadType kind) = refl
+set_reassembly s (settings.Reliability params) = refl
+set_reassembly s (settings.LowMark bytes) = refl
+set_reassembly s (settings.HighMark bytes) = refl
+set_reassembly s settings.WriteHalfClosed = refl
 
 -- what is left of a reassembly after a piece that is unordered or not, and whose number is an old one or not
 abbrev put : Reassembly → ChunkPayloadData → Bool → Bool → Reassembly × Bool
@@ -56,6 +66,7 @@ pushed_bytes r p = by p.unordered (ssn_lt p.stream_sequence_number r.next_ssn)
 
 -- a message that is read takes its bytes along
 
+-- the bytes of the message that a read gives
 abbrev pub given : Option ReceivedMessage → ℕ
 given None = 0
 given (Some m) = length (bytes_left m)
@@ -104,6 +115,16 @@ kept_bytes s t p is =
     ap (λ (z : StreamView × Bool). bytes_waiting z.0.reassembly) (sym is) in
     same ∙ pushed_bytes s.reassembly p
     ∙ ap (λ (k : Bool). bytes_waiting s.reassembly + (if k then length p.user_data else 0)) kept
+
+pub dropped_bytes : (s t : StreamView) (p : ChunkPayloadData) → stream_pushed s p ≡ (t, false)
+    → bytes_waiting t.reassembly ≡ bytes_waiting s.reassembly
+dropped_bytes s t p is =
+    let kept : (pushed s.reassembly p).1 ≡ false = ap (λ (z : StreamView × Bool). z.1) is in
+    let same : bytes_waiting t.reassembly ≡ bytes_waiting (pushed s.reassembly p).0 =
+    ap (λ (z : StreamView × Bool). bytes_waiting z.0.reassembly) (sym is) in
+    let none = pushed_bytes s.reassembly p
+    ∙ ap (λ (k : Bool). bytes_waiting s.reassembly + (if k then length p.user_data else 0)) kept in
+    omega (arith, same, none)
 
 -- what a map has after a piece came on one of its streams
 pub pushed_is : (m : StreamMap) (id : ℕ) (p : ChunkPayloadData) (s t : StreamView) (kept : Bool)

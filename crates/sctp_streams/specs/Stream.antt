@@ -2,15 +2,20 @@
 use Rattle.std.specs.Prelude.{ℕ, Bool, true, false, ◌&&◌, ◌==◌, ◌+◌, ◌-◌, ◌%◌, ◌^◌, if◌then◌else◌, nat_lt, nat_le}
 use Rattle.std.specs.Prelude.{length, Option, Some, None}
 use Rattle.sctp_wire_types.specs.declared.ids.PayloadProtocolIdentifier.TheVariants as kinds
-use Rattle.sctp_wire_types.specs.declared.reliability.Policy.TheVariants.{Reliable}
+use Rattle.sctp_wire_types.specs.declared.reliability.Policy.{Policy}
+use Rattle.sctp_wire_types.specs.declared.reliability.Policy.TheVariants.{Reliable, Rexmit, Timed}
+use Rattle.sctp_wire_types.specs.declared.reliability.ReliabilityType.{ReliabilityType}
+use Rattle.sctp_wire_types.specs.declared.reliability.ReliabilityType.TheVariants as types
 use Rattle.sctp_streams.specs.declared.halves.RecvSendState.{RecvSendState}
 use Rattle.sctp_streams.specs.declared.halves.RecvSendState.TheVariants as open_halves
 use Rattle.sctp_streams.specs.declared.halves.ReliabilityParams.{ReliabilityParams}
 use Rattle.sctp_wire_types.specs.declared.ids.PayloadProtocolIdentifier.{PayloadProtocolIdentifier}
+use Rattle.sctp_streams.specs.declared.setting.Setting.{Setting}
+use Rattle.sctp_streams.specs.declared.setting.Setting.TheVariants as settings
 use Rattle.sctp_streams.specs.declared.stats.DataChannelStats.{DataChannelStats}
 use Rattle.sctp_wire_types.specs.declared.chunk.ChunkPayloadData.{ChunkPayloadData}
 use Rattle.sctp_receive_queues.specs.Messages.{ReceivedMessage, bytes_left}
-use Rattle.sctp_receive_queues.specs.Reassembly.{Reassembly, empty_reassembly, pushed, taken}
+use Rattle.sctp_receive_queues.specs.Reassembly.{Reassembly, empty_reassembly, is_ready, pushed, taken}
 use Rattle.sctp_streams.specs.Stats.{fresh_stats, with_sent, with_received}
 
 -- The halves of a stream.
@@ -44,6 +49,15 @@ without_write_half open_halves.Closed = open_halves.Closed
 without_write_half open_halves.Readable = open_halves.Readable
 without_write_half open_halves.Writable = open_halves.Closed
 without_write_half open_halves.ReadWritable = open_halves.Readable
+
+-- the policy of a kind: a number of retransmissions, or a time in ms (RFC 3758 sections 3.5 and 4.1)
+abbrev pub policy_for : ReliabilityType → ℕ → Policy
+policy_for types.Reliable value = Reliable
+policy_for types.Rexmit value = Rexmit value
+policy_for types.Timed value = Timed value
+
+abbrev pub params_of : Bool → ReliabilityType → ℕ → ReliabilityParams
+params_of unordered kind value = record { unordered = unordered; policy = policy_for kind value }
 
 abbrev pub ordered_and_reliable : ReliabilityParams
 ordered_and_reliable = record { unordered = false; policy = Reliable }
@@ -83,6 +97,14 @@ with_halves s h = record s { halves = h }
 
 abbrev pub with_params : StreamView → ReliabilityParams → StreamView
 with_params s params = record s { params = params }
+
+-- an application sets one thing of a stream, and all else stays as it is
+abbrev pub with_setting : StreamView → Setting → StreamView
+with_setting s (settings.DefaultPayloadType kind) = record s { default_payload_type = kind }
+with_setting s (settings.Reliability params) = with_params s params
+with_setting s (settings.LowMark bytes) = record s { low_mark = bytes }
+with_setting s (settings.HighMark bytes) = record s { high_mark = bytes }
+with_setting s settings.WriteHalfClosed = with_halves s (without_write_half s.halves)
 
 -- order and reliability of a message that is written now; one of the data channel establishment protocol is ordered and
 -- reliable (RFC 8832 section 6)
@@ -132,3 +154,7 @@ read_with s (r, Some m) =
 -- what is left of a stream after a read, and what the read gives
 abbrev pub stream_read : StreamView → StreamView × Option ReceivedMessage
 stream_read s = read_with s (taken s.reassembly)
+
+-- a read gives a message: the read half is open and a message is ready
+abbrev pub gives_messages : StreamView → Bool
+gives_messages s = is_read_half_open s.halves && is_ready s.reassembly

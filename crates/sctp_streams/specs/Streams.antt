@@ -1,6 +1,7 @@
 -- The live streams of an association and their generations.
-use Rattle.std.specs.Prelude.{ℕ, Bool, true, false, ◌==◌, if◌then◌else◌, List, [], ◌∷◌, ◌+◌, ◌-◌, ◌^◌, fold, map, min}
-use Rattle.std.specs.Prelude.{nat_lt, sum_by, Option, Some, None}
+use Rattle.std.specs.Prelude.{ℕ, Bool, true, false, ◌==◌, ◌&&◌, if◌then◌else◌, List, [], ◌∷◌, ◌+◌, ◌-◌, ◌^◌, fold, map}
+use Rattle.std.specs.Prelude.{min, nat_lt, sum_by, Option, Some, None}
+use Rattle.std.specs.List.{list_any}
 use Rattle.std.specs.Ordering.{nat_cmp}
 use Rattle.std.specs.BTreeMap.{is_at, insert_entry}
 use Rattle.std.specs.Map.{lookup, set_value}
@@ -11,7 +12,8 @@ use Rattle.sctp_streams.specs.declared.stats.DataChannelStats.{DataChannelStats}
 use Rattle.sctp_receive_queues.specs.Messages.{ReceivedMessage}
 use Rattle.sctp_receive_queues.specs.Reassembly.{is_ready, refusal}
 use Rattle.sctp_receive_queues.specs.Reassembly as reassembly
-use Rattle.sctp_streams.specs.Stream.{StreamView, fresh_stream, released_from, stream_pushed, stream_read}
+use Rattle.sctp_streams.specs.Stream.{StreamView, falls_to_low_mark, fresh_stream, gives_messages, reaches_high_mark}
+use Rattle.sctp_streams.specs.Stream.{released_from, stream_pushed, stream_read}
 
 pub record StreamMap : Type 0 where
   -- the live streams by their identifiers, which ascend
@@ -47,6 +49,19 @@ has_room (Some s) bytes = nat_lt (s.buffered + bytes) (2 ^ 64)
 abbrev pub is_generation : Option StreamView → ℕ → Bool
 is_generation None generation = false
 is_generation (Some s) generation = s.stats.generation == generation
+
+-- so many bytes more on the live stream take its buffered amount to the high mark
+abbrev pub reaches_high_mark_at : Option StreamView → ℕ → Bool
+reaches_high_mark_at None bytes = false
+reaches_high_mark_at (Some s) bytes = reaches_high_mark s bytes
+
+abbrev pub falls_to_low_mark_at : Option StreamView → ℕ → ℕ → Bool
+falls_to_low_mark_at None generation bytes = false
+falls_to_low_mark_at (Some s) generation bytes = s.stats.generation == generation && falls_to_low_mark s bytes
+
+-- a release of so many bytes of a generation, which is still live, takes its buffered amount to the low mark
+abbrev pub falls_to_low_mark_in : StreamMap → ℕ → ℕ → ℕ → Bool
+falls_to_low_mark_in m id generation bytes = falls_to_low_mark_at (stream_at m id) generation bytes
 
 -- bytes of a generation are released, where it is still live
 abbrev pub released_in : StreamMap → ℕ → ℕ → ℕ → StreamMap
@@ -97,6 +112,22 @@ made m id first kind = record {
 -- the live streams, identifiers ascending
 abbrev pub live_streams : StreamMap → List StreamView
 live_streams m = map (λ e. e.1) m.by_id
+
+-- the identifiers of the live streams, which ascend
+abbrev pub live_ids : StreamMap → List ℕ
+live_ids m = map (λ e. e.0) m.by_id
+
+-- a read on some live stream gives a message
+abbrev pub some_gives_messages : StreamMap → Bool
+some_gives_messages m = list_any gives_messages (live_streams m)
+
+-- a stream counts where a read on it gives a message: 1 or 0
+abbrev pub readable_count : StreamView → ℕ
+readable_count s = if gives_messages s then 1 else 0
+
+-- the number of streams whose reads give messages, of some streams by their identifiers
+abbrev pub readable_in : List (ℕ × StreamView) → ℕ
+readable_in es = sum_by readable_count (map (λ e. e.1) es)
 
 -- the bytes that came and were not read, of some streams by their identifiers
 abbrev pub waiting_in : List (ℕ × StreamView) → ℕ

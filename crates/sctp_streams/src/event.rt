@@ -1,5 +1,6 @@
 // Events that an application asks for.
-ghost use Rattle.std.specs.Prelude.{◌≡◌, [], ◌∷◌, ◌++◌, ◌≤◌, OnOk, OnErr, option_to_list, slice_get};
+ghost use Rattle.std.specs.Prelude.{◌≡◌, [], ◌∷◌, ◌++◌, ◌<◌, ◌≤◌, OnOk, OnErr, option_to_list, slice_get};
+ghost use Rattle.std.specs.Prelude.{IsSome, length, ◌↔◌};
 ghost use Rattle.sctp_streams.specs.declared.event.AssociationError.TheVariants.{HandshakeFailed};
 
 use crate::DataChannelStats;
@@ -97,5 +98,13 @@ impl Events {
         ensures rest { self.old ≡ option_to_list result ++ self.new }
     {
         self.queue.pop_front()
+    }
+
+    /// Takes out the newest event, so that a push is undone by it.
+    pub fn take_back(&mut self) -> Option<Event>
+        ensures newest { self.old ≡ self.new ++ option_to_list result }
+        ensures some { IsSome result ↔ (0 < length self.old) }
+    {
+        self.queue.pop_back()
     }
 }

@@ -1,12 +1,12 @@
 // The two halves of a stream, and how its messages are sent.
 ghost use Rattle.std.specs.Prelude.{◌≡◌};
 ghost use Rattle.sctp_streams.specs.Stream.{halves_of, ordered_and_reliable, is_read_half_open, is_write_half_open};
-ghost use Rattle.sctp_streams.specs.Stream.{without_read_half, without_write_half};
+ghost use Rattle.sctp_streams.specs.Stream.{params_of, without_read_half, without_write_half};
 
-use sctp_wire_types::Policy;
+use sctp_wire_types::{Policy, ReliabilityType};
 
 /// Which halves of a stream are open. The numbers are those of the ported crate: 1 for the read half, 2 for the write
-/// half. No call of an association closes a half so far.
+/// half. `Stream::finish` closes the write half; no call closes the read half so far.
 #[derive(Clone, Copy, Debug, PartialEq, Eq)]
 pub enum RecvSendState {
     Closed = 0,
@@ -77,6 +77,19 @@ pub struct ReliabilityParams {
 }
 
 impl ReliabilityParams {
+    /// Order, and how long each message is tried: `value` is the number of retransmissions for `Rexmit`, the time in ms
+    /// for `Timed`, and says nothing for `Reliable`.
+    pub fn of(unordered: bool, kind: ReliabilityType, value: u32) -> ReliabilityParams
+        ensures { result ≡ params_of unordered kind value }
+    {
+        let policy = match kind {
+            ReliabilityType::Reliable => Policy::Reliable,
+            ReliabilityType::Rexmit => Policy::Rexmit(value),
+            ReliabilityType::Timed => Policy::Timed(value),
+        };
+        ReliabilityParams { unordered, policy }
+    }
+
     /// What a stream begins with: messages in order, each kept until it is acknowledged.
     pub fn ordered_and_reliable() -> ReliabilityParams
         ensures { result ≡ ordered_and_reliable }

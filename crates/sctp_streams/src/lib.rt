@@ -4,12 +4,14 @@
 
 mod event;
 mod halves;
+mod setting;
 mod stats;
 mod stream_state;
 mod streams;
 
 pub use event::{AssociationError, Event, Events};
 pub use halves::{RecvSendState, ReliabilityParams};
+pub use setting::Setting;
 pub use stats::DataChannelStats;
 pub use stream_state::StreamState;
 pub use streams::Streams;

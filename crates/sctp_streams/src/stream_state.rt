@@ -1,12 +1,12 @@
 // One live stream.
 ghost use Rattle.std.specs.Prelude.{◌≡◌, ◌+◌, ◌<◌, ◌≤◌, ◌^◌, IfOk, IfErr, OnOk, OnErr, IsOk, ◌⊎◌, Some, None};
 ghost use Rattle.sctp_streams.specs.Stream.{fresh_stream, params_for, accepted_by, reaches_high_mark, released_from};
-ghost use Rattle.sctp_streams.specs.Stream.{falls_to_low_mark, with_ssn_given_back, with_restarted_ssn, with_params};
-ghost use Rattle.sctp_streams.specs.Stream.{with_halves, without_read_half, without_write_half, is_read_half_open};
+ghost use Rattle.sctp_streams.specs.Stream.{falls_to_low_mark, with_ssn_given_back, with_restarted_ssn, with_setting};
+ghost use Rattle.sctp_streams.specs.Stream.{with_halves, without_read_half, is_read_half_open, gives_messages};
 ghost use Rattle.sctp_streams.specs.Stream.{is_write_half_open, stream_pushed, stream_read};
 ghost use Rattle.sctp_receive_queues.specs.Reassembly.{is_ready, bytes_waiting, refusal};
 
-use crate::{DataChannelStats, RecvSendState, ReliabilityParams};
+use crate::{DataChannelStats, RecvSendState, ReliabilityParams, Setting};
 use sctp_receive_queues::{Chunks, ReassemblyQueue};
 use sctp_wire_types::{ChunkPayloadData, Error, PayloadProtocolIdentifier, StreamId};
 use std::alloc::{AllocError, Global};
@@ -110,13 +110,6 @@ impl StreamState {
         self.buffered
     }
 
-    /// Sets the payload type of messages that are written without one.
-    pub fn set_default_payload_type(&mut self, default_payload_type: PayloadProtocolIdentifier)
-        ensures { self.new ≡ record self.old { default_payload_type = default_payload_type } }
-    {
-        self.default_payload_type = default_payload_type;
-    }
-
     /// Which halves are open.
     pub fn halves(&self) -> RecvSendState
         ensures { result ≡ self.now.halves }
@@ -145,18 +138,17 @@ impl StreamState {
         self.halves = self.halves.without_read_half();
     }
 
-    /// Closes the write half; the read half stays as it is.
-    pub fn close_write_half(&mut self)
-        ensures { self.new ≡ with_halves self.old (without_write_half self.old.halves) }
+    /// Sets one thing of this stream; all else stays as it is.
+    pub fn set(&mut self, setting: Setting)
+        ensures { self.new ≡ with_setting self.old setting }
     {
-        self.halves = self.halves.without_write_half();
-    }
-
-    /// Sets order and reliability of messages that are written from now on.
-    pub fn set_reliability_params(&mut self, params: ReliabilityParams)
-        ensures { self.new ≡ with_params self.old params }
-    {
-        self.params = params;
+        match setting {
+            Setting::DefaultPayloadType(kind) => self.default_payload_type = kind,
+            Setting::Reliability(params) => self.params = params,
+            Setting::LowMark(bytes) => self.low_mark = bytes,
+            Setting::HighMark(bytes) => self.high_mark = bytes,
+            Setting::WriteHalfClosed => self.halves = self.halves.without_write_half(),
+        }
     }
 
     /// Order and reliability of a message that is written now: one of the data channel establishment protocol is
@@ -177,23 +169,11 @@ impl StreamState {
         self.low_mark
     }
 
-    pub fn set_low_mark(&mut self, bytes: u64)
-        ensures { self.new ≡ record self.old { low_mark = bytes } }
-    {
-        self.low_mark = bytes;
-    }
-
     /// A write that takes the buffered amount from below this many bytes to it or above is told.
     pub fn high_mark(&self) -> u64
         ensures { result ≡ self.now.high_mark }
     {
         self.high_mark
-    }
-
-    pub fn set_high_mark(&mut self, bytes: u64)
-        ensures { self.new ≡ record self.old { high_mark = bytes } }
-    {
-        self.high_mark = bytes;
     }
 
     /// Counts a message of `bytes` bytes as accepted; an ordered one has the SSN that was next. Answers whether the
@@ -220,6 +200,14 @@ impl StreamState {
         self.buffered = buffered;
         self.stats.count_sent(payload_type, bytes);
         Ok(before < self.high_mark && self.high_mark <= self.buffered)
+    }
+
+    /// Whether so many bytes more take the buffered amount from below the high mark to it or above.
+    pub fn reaches_high_mark(&self, bytes: u64) -> bool
+        requires { self.now.buffered + bytes < 2 ^ 64 }
+        ensures { result ≡ reaches_high_mark self.now bytes }
+    {
+        self.buffered < self.high_mark && self.high_mark <= self.buffered + bytes
     }
 
     /// Counts bytes as released, and answers whether the low mark was crossed.
@@ -270,6 +258,13 @@ impl StreamState {
         ensures { result ≡ is_ready self.now.reassembly }
     {
         self.reassembly.is_readable()
+    }
+
+    /// Whether a read gives a message: the read half is open and one is ready.
+    pub fn gives_messages(&self) -> bool
+        ensures { result ≡ gives_messages self.now }
+    {
+        self.is_read_half_open() && self.is_readable()
     }
 
     /// Takes out the message that is to be read next, and counts it.

@@ -1,13 +1,15 @@
 // The live streams of an association.
 ghost use Rattle.std.specs.Prelude.{◌≡◌, ◌==◌, true, false, if◌then◌else◌, length, IfOk, OnOk, OnErr, is_some, IsOk};
-ghost use Rattle.std.specs.Prelude.{IfErr, ◌⊎◌, Some, None};
+ghost use Rattle.std.specs.Prelude.{IfErr, ◌⊎◌, Some, None, min, ◌+◌, ◌-◌, ◌^◌};
 ghost use Rattle.std.specs.Option.{option_copied};
 ghost use Rattle.sctp_streams.specs.Streams.{no_stream, stream_at, has_room, made, generation_left, bytes_waiting};
 ghost use Rattle.sctp_streams.specs.Streams.{first_ended, changed_stream, released_in, is_generation, pushed_in};
 ghost use Rattle.sctp_streams.specs.Streams.{refusal_in, read_in, is_readable_in};
-ghost use Rattle.sctp_streams.specs.Stream.{accepted_by};
+ghost use Rattle.sctp_streams.specs.Streams.{reaches_high_mark_at, falls_to_low_mark_in, live_ids};
+ghost use Rattle.sctp_streams.specs.Streams.{some_gives_messages};
+ghost use Rattle.sctp_streams.specs.Stream.{accepted_by, with_setting};
 
-use crate::{DataChannelStats, StreamState};
+use crate::{DataChannelStats, Setting, StreamState};
 use sctp_receive_queues::Chunks;
 use sctp_wire_types::{ChunkPayloadData, Error, PayloadProtocolIdentifier, StreamId};
 use std::alloc::{AllocError, Global};
@@ -21,17 +23,19 @@ pub struct Streams {
     next_generation: u64,
     // Bytes that came and were not read, of all of these streams.
     waiting: u64,
+    // Of these streams, how many give messages when they are read.
+    readable: u64,
 }
 
 impl Model for Streams {
     ghost use Rattle.std.specs.Prelude.{◌≡◌};
-    ghost use Rattle.sctp_streams.specs.Streams.{StreamMap, waiting_in};
+    ghost use Rattle.sctp_streams.specs.Streams.{StreamMap, readable_in, waiting_in};
 
     ghost Value = { StreamMap };
 
     ghost view = { λ s. record { by_id = s.by_id.entries; next_generation = s.next_generation } };
 
-    ghost invariant = { λ s. s.waiting ≡ waiting_in s.by_id.entries };
+    ghost invariant = { λ s. (s.waiting ≡ waiting_in s.by_id.entries) × (s.readable ≡ readable_in s.by_id.entries) };
 }
 
 impl Streams {
@@ -43,6 +47,7 @@ impl Streams {
             by_id: BTreeMap::new(alloc),
             next_generation: 0,
             waiting: 0,
+            readable: 0,
         }
     }
 
@@ -62,33 +67,49 @@ impl Streams {
 
     /// Counts a message as accepted on a live stream. Refused, with nothing changed, where more bytes would be buffered
     /// there than a u64 can say: that counts as want of memory.
+    /// Answers whether the stream's high mark was reached.
     #[tactic(auto, using(std::proofs::lemmas::Map::Steps::set_value_same))]
     pub fn accept(
         &mut self,
         id: StreamId,
         payload_type: PayloadProtocolIdentifier,
         bytes: u64,
-    ) -> Result<(), AllocError>
+    ) -> Result<bool, AllocError>
         ensures accepted { OnOk result (self.new ≡ changed_stream (λ s. accepted_by s payload_type bytes) self.old id) }
+        ensures high { IfOk result (λ high. high ≡ reaches_high_mark_at (stream_at self.old id) bytes) }
         ensures refused { OnErr result (has_room (stream_at self.old id) bytes ≡ false) }
         ensures fits { IsOk result → has_room (stream_at self.old id) bytes ≡ true }
         ensures unchanged { OnErr result (self.new ≡ self.old) }
     {
-        if let Some(stream) = self.by_id.get_mut(&id) {
-            stream.accept(payload_type, bytes)?;
-        }
-        Ok(())
+        let Some(stream) = self.by_id.get_mut(&id) else {
+            return Ok(false);
+        };
+        let high = stream.accept(payload_type, bytes)?;
+        Ok(high)
     }
 
-    /// Counts bytes of a generation as released, where it is still live.
-    pub fn release(&mut self, id: StreamId, generation: u64, bytes: u64)
-        ensures { self.new ≡ released_in self.old id generation bytes }
+    /// Sets one thing of a live stream; where none of this identifier is live nothing changes.
+    pub fn set(&mut self, id: StreamId, setting: Setting)
+        ensures { self.new ≡ changed_stream (λ s. with_setting s setting) self.old id }
     {
-        if self.is_live(id, generation) {
-            if let Some(stream) = self.by_id.get_mut(&id) {
-                stream.on_buffer_released(bytes);
-            }
+        let Some(stream) = self.by_id.get_mut(&id) else {
+            return;
+        };
+        stream.set(setting);
+    }
+
+    /// Counts bytes of a generation as released, where it is still live. Answers whether its low mark was crossed.
+    pub fn release(&mut self, id: StreamId, generation: u64, bytes: u64) -> bool
+        ensures released { self.new ≡ released_in self.old id generation bytes }
+        ensures low { result ≡ falls_to_low_mark_in self.old id generation bytes }
+    {
+        if !self.is_live(id, generation) {
+            return false;
         }
+        let Some(stream) = self.by_id.get_mut(&id) else {
+            return false;
+        };
+        stream.on_buffer_released(bytes)
     }
 
     fn is_live(&self, id: StreamId, generation: u64) -> bool
@@ -120,7 +141,10 @@ impl Streams {
                 None => Err(Error::ErrNoMemory),
             };
         };
+        let gave = stream.gives_messages();
         let kept = stream.push(piece, limit)?;
+        let gives = stream.gives_messages();
+        self.readable = recounted(self.readable, gave, gives, self.by_id.len() as u64);
         if kept {
             self.waiting = waiting;
         }
@@ -131,7 +155,12 @@ impl Streams {
     pub fn read(&mut self, id: StreamId) -> Option<Chunks>
         ensures { read_in self.old id ≡ (self.new, result) }
     {
-        let message = self.by_id.get_mut(&id)?.read()?;
+        let stream = self.by_id.get_mut(&id)?;
+        let gave = stream.gives_messages();
+        let read = stream.read();
+        let still_gives = stream.gives_messages();
+        self.readable = recounted(self.readable, gave, still_gives, self.by_id.len() as u64);
+        let message = read?;
         self.waiting = self.waiting.saturating_sub(message.len() as u64);
         Some(message)
     }
@@ -144,6 +173,13 @@ impl Streams {
             Some(stream) => stream.is_readable(),
             None => false,
         }
+    }
+
+    /// Whether a read on some live stream gives a message; no stream is looked at.
+    pub fn gives_messages(&self) -> bool
+        ensures { result ≡ some_gives_messages self.now }
+    {
+        self.readable > 0
     }
 
     /// Whether a generation is left that a new stream can have.
@@ -182,6 +218,8 @@ impl Streams {
         );
         if let Some(replaced) = self.by_id.insert(id, stream)? {
             self.waiting = self.waiting.saturating_sub(replaced.waiting_bytes());
+            let gave = one_if(replaced.gives_messages());
+            self.readable = self.readable.saturating_sub(gave);
         }
         self.next_generation += 1;
         Ok(())
@@ -192,6 +230,13 @@ impl Streams {
         ensures { result ≡ bytes_waiting self.now }
     {
         self.waiting
+    }
+
+    /// The identifiers of the live streams, which ascend. Refused only for want of memory.
+    pub fn ids(&self, alloc: Global) -> Result<Vec<StreamId>, AllocError>
+        ensures { IfOk result (λ ids. ids.items ≡ live_ids self.now) }
+    {
+        self.by_id.keys().copied().collect(alloc)
     }
 
     /// Number of live streams.
@@ -213,6 +258,24 @@ impl Streams {
     {
         let (_, stream) = self.by_id.pop_first()?;
         self.waiting = self.waiting.saturating_sub(stream.waiting_bytes());
+        let gave = one_if(stream.gives_messages());
+        self.readable = self.readable.saturating_sub(gave);
         Some(stream.stats())
     }
+}
+
+// How many of so many streams give messages, once a single one of them changed: it gave some before or did not, and
+// gives some now or does not.
+fn recounted(readable: u64, gave: bool, gives: bool, streams: u64) -> u64
+    ensures { result ≡ min (min (readable + (if gives then 1 else 0)) (2 ^ 64 - 1) - (if gave then 1 else 0)) streams }
+{
+    let more = readable.saturating_add(one_if(gives));
+    more.saturating_sub(one_if(gave)).min(streams)
+}
+
+// What a single stream adds to such a count.
+fn one_if(gives: bool) -> u64
+    ensures { result ≡ (if gives then 1 else 0) }
+{
+    if gives { 1 } else { 0 }
 }

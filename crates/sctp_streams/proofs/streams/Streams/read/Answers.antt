@@ -1,25 +1,43 @@
-use Rattle.std.proofs.Common.{◌≡◌, ◌+◌, ◌-◌, length, refl, ap, ◌∙◌, sym, arith, rules}
+use Rattle.std.proofs.Common.{◌≡◌, ◌-◌, length, ap, ◌∙◌, sym, arith, rules}
 use Rattle.std.specs.Option.{option_copied_mut}
 use Rattle.sctp_receive_queues.specs.Messages.{bytes_left}
-use Rattle.sctp_streams.proofs.WaitingBytes.{exchanged, read_bytes}
+use Rattle.sctp_streams.proofs.ReadableStreams.{count_is}
+use Rattle.sctp_streams.proofs.WaitingBytes.{exchanged, given, read_bytes}
 use Rattle.sctp_streams.proofs.streams.Streams.read.Goals as goal
 
 pub invariant_of-self-in_err-message : goal.invariant_of-self-in_err-message
 invariant_of-self-in_err-message c =
-    let there = sym c.get_mut.ensures.value ∙ ap option_copied_mut c.in_ok-get_mut.was in
-    let last = c.read.new.self in
-    let e = exchanged c.args.id c.self.inside.by_id.entries (c.get_mut.follows.lender last).entries
-    c.in_ok-get_mut.field-0.now last there (c.get_mut.follows.holds last).0 in
-    let bytes = read_bytes c.in_ok-get_mut.field-0.now last _ c.in_err-message.ensures in
-    omega (arith, e, bytes, c.self.invariant)
+    let there = sym c.get_mut.ensures.value ∙ ap option_copied_mut c.in_ok-stream.was in
+    let last = c.read-read.new.self in
+    let s = c.in_ok-stream.stream.now in
+    let old = c.self.inside.by_id.entries in
+    let new = (c.get_mut.follows.lender last).entries in
+    let holds = (c.get_mut.follows.holds last).0 in
+    let e = exchanged c.args.id old new s last there holds in
+    let bytes = read_bytes s last c.read-read.result c.read-read.ensures in
+    let none : given c.read-read.result ≡ 0 = ap given c.in_err-message.was in (
+      omega (arith, e, bytes, none, c.self.invariant.0),
+      c.recounted-self-inside.ensures ∙ count_is c.args.id old new s last c.self.inside.readable c.len.result
+          c.gives_messages-gave.result c.gives_messages-still_gives.result there holds c.self.invariant.1
+          c.gives_messages-gave.ensures c.gives_messages-still_gives.ensures c.len.ensures.len c.len.ensures.small,
+    )
 
 pub invariant_of-self-2 : goal.invariant_of-self-2
 invariant_of-self-2 c =
-    let there = sym c.get_mut.ensures.value ∙ ap option_copied_mut c.in_ok-get_mut.was in
-    let last = c.read.new.self in
-    let e = exchanged c.args.id c.self.inside.by_id.entries (c.get_mut.follows.lender last).entries
-    c.in_ok-get_mut.field-0.now last there (c.get_mut.follows.holds last).0 in
-    let bytes = read_bytes c.in_ok-get_mut.field-0.now last _ c.in_ok-message.ensures in
+    let there = sym c.get_mut.ensures.value ∙ ap option_copied_mut c.in_ok-stream.was in
+    let last = c.read-read.new.self in
+    let s = c.in_ok-stream.stream.now in
+    let old = c.self.inside.by_id.entries in
+    let new = (c.get_mut.follows.lender last).entries in
+    let holds = (c.get_mut.follows.holds last).0 in
+    let e = exchanged c.args.id old new s last there holds in
+    let bytes = read_bytes s last c.read-read.result c.read-read.ensures in
+    let some : given c.read-read.result ≡ length (bytes_left c.in_ok-message.message) =
+    ap given c.in_ok-message.was in
     let less : c.saturating_sub-self-inside.result
-    ≡ c.self.inside.waiting - length (bytes_left c.in_ok-message.message) = search rules in
-    omega (arith, e, bytes, less, c.self.invariant)
+    ≡ c.self.inside.waiting - length (bytes_left c.in_ok-message.message) = search rules in (
+      omega (arith, e, bytes, some, less, c.self.invariant.0),
+      c.recounted-self-inside.ensures ∙ count_is c.args.id old new s last c.self.inside.readable c.len.result
+          c.gives_messages-gave.result c.gives_messages-still_gives.result there holds c.self.invariant.1
+          c.gives_messages-gave.ensures c.gives_messages-still_gives.ensures c.len.ensures.len c.len.ensures.small,
+    )

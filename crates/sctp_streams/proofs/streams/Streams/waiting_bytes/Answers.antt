@@ -1,4 +1,4 @@
-use Rattle.std.proofs.Common.{◌≡◌, ◌<◌, ◌^◌, ℕ, map, ◌∙◌, sym, arith}
+use Rattle.std.proofs.Common.{◌<◌, ◌^◌, map, ◌∙◌, sym, arith}
 use Rattle.sctp_receive_queues.proofs.ByteSums.{saturated_sum}
 use Rattle.sctp_receive_queues.specs.Reassembly.{bytes_waiting}
 use Rattle.sctp_streams.specs.Stream.{StreamView}
@@ -8,6 +8,6 @@ use Rattle.sctp_streams.proofs.streams.Streams.waiting_bytes.Goals as goal
 pub returns : goal.returns
 returns c =
     let es = c.self.inside.by_id.entries in
-    let small : waiting_in es < 2 ^ 64 = omega (arith, c.self.invariant) in
-    rw (← c.self.view_is) (c.self.invariant
+    let small : waiting_in es < 2 ^ 64 = omega (arith, c.self.invariant.0) in
+    rw (← c.self.view_is) (c.self.invariant.0
     ∙ sym (saturated_sum (λ (s : StreamView). bytes_waiting s.reassembly) (map (λ e. e.1) es) small))
