@@ -7,7 +7,10 @@ use Rattle.std.proofs.lemmas.Bool.{cases_Bool, cond-true, cond-false, cond_both,
 use Rattle.sctp_outbound_queue.specs.declared.message.InFlight.{InFlight}
 use Rattle.sctp_outbound_queue.specs.Message.{outstanding_bytes}
 use Rattle.sctp_outbound.specs.Sender.{streams_after}
-use Rattle.sctp_streams.specs.Stream.{StreamView, accepted_by, released_from}
+use Rattle.sctp_wire_types.specs.declared.ids.PayloadProtocolIdentifier.{PayloadProtocolIdentifier}
+use Rattle.sctp_streams.specs.declared.setting.Setting.{Setting}
+use Rattle.sctp_streams.specs.declared.setting.Setting.TheVariants as settings
+use Rattle.sctp_streams.specs.Stream.{StreamView, accepted_by, released_from, with_setting}
 use Rattle.sctp_streams.specs.Streams.{StreamMap, change_at, changed_stream, is_generation, stream_at}
 use Rattle.sctp_model.specs.Messages.{Plan}
 use Rattle.sctp_model.specs.Reassembly.{Queue}
@@ -15,7 +18,7 @@ use Rattle.sctp_model.specs.Machine.{Direction}
 use Rattle.sctp_fit.specs.Incoming.{FitsIncoming, IsQueueAt, Receiving}
 use Rattle.sctp_outbound.specs.GapAcks.{released_among}
 use Rattle.sctp_fit.proofs.StreamsThere.{at_with}
-use Rattle.sctp_directions.specs.Acts.{Act, Parts, is_acknowledged_by, receiving, with_written}
+use Rattle.sctp_directions.specs.Acts.{Act, Parts, is_acknowledged_by, receiving, type_on, with_written}
 use Rattle.sctp_directions.specs.Laws.{OwnActsLeaveWhatComes}
 
 -- Streams of which the same is held
@@ -74,12 +77,21 @@ changed_same f stays m id n = go (stream_at m id) refl
 -- The acts
 
 -- a write on a stream leaves what came as it is
-wrote_fits : (x : Option StreamView) (p : Parts) (id : ℕ) (bytes : List ℕ) (w : Direction)
-    → FitsIncoming (receiving p) w → FitsIncoming (receiving (with_written x p id bytes)) w
-wrote_fits None p id bytes w fits = fits
-wrote_fits (Some s) p id bytes w fits =
-    fits_streams (receiving p) (receiving (with_written (Some s) p id bytes)).streams w
-    (changed_same (λ t. accepted_by t s.default_payload_type (length bytes)) (λ t. refl) p.streams id) fits
+wrote_fits : (x : Option StreamView) (p : Parts) (id : ℕ) (named : Option PayloadProtocolIdentifier) (bytes : List ℕ)
+    (w : Direction)
+    → FitsIncoming (receiving p) w → FitsIncoming (receiving (with_written x p id named bytes)) w
+wrote_fits None p id named bytes w fits = fits
+wrote_fits (Some s) p id named bytes w fits =
+    fits_streams (receiving p) (receiving (with_written (Some s) p id named bytes)).streams w
+    (changed_same (λ t. accepted_by t (type_on s named) (length bytes)) (λ t. refl) p.streams id) fits
+
+-- so does what an application sets on it
+setting_holds : (setting : Setting) (t : StreamView) → (with_setting t setting).reassembly ≡ t.reassembly
+setting_holds (settings.DefaultPayloadType kind) t = refl
+setting_holds (settings.Reliability params) t = refl
+setting_holds (settings.LowMark bytes) t = refl
+setting_holds (settings.HighMark bytes) t = refl
+setting_holds settings.WriteHalfClosed t = refl
 
 -- releasing the bytes of a piece leaves what is held of each stream
 after_same : (x : Option InFlight) (m : StreamMap) (n : ℕ)
@@ -104,7 +116,11 @@ released_fits named j (x ∷ xs) m a w fits =
 pub own_acts_leave_what_comes : OwnActsLeaveWhatComes
 own_acts_leave_what_comes (Act.PeerKnown t) p w own fits = absurd own
 own_acts_leave_what_comes (Act.Opened id first kind) p w own fits = absurd own
-own_acts_leave_what_comes (Act.Wrote id bytes) p w own fits = wrote_fits (stream_at p.streams id) p id bytes w fits
+own_acts_leave_what_comes (Act.Wrote id named bytes) p w own fits =
+    wrote_fits (stream_at p.streams id) p id named bytes w fits
+own_acts_leave_what_comes (Act.Adjusted id setting) p w own fits =
+    fits_streams (receiving p) (changed_stream (λ t. with_setting t setting) p.streams id) w
+    (changed_same (λ t. with_setting t setting) (setting_holds setting) p.streams id) fits
 own_acts_leave_what_comes (Act.Sent now) p w own fits = fits
 own_acts_leave_what_comes (Act.SentAgain index) p w own fits = fits
 own_acts_leave_what_comes Act.Marked p w own fits = fits

@@ -1,10 +1,13 @@
 -- What each event of a direction between associations leaves, and what it keeps.
-use Rattle.std.proofs.Common.{◌≡◌, ◌⊎◌, refl, sym, ap, ap₂, ◌∙◌, subst, ⊎_elim, inl, inr, ℕ, zero, suc, ◌<◌, ◌≤◌}
-use Rattle.std.proofs.Common.{arith, Bool, true, eqb, if◌then◌else◌, length, List, [], ◌∷◌, ◌++◌, Option, Some, None}
+use Rattle.std.proofs.Common.{◌≡◌, ◌⊎◌, refl, sym, ap, ◌∙◌, subst, ⊎_elim, inl, inr, ℕ, zero, suc, ◌<◌, ◌≤◌}
+use Rattle.std.proofs.Common.{arith, true, eqb, if◌then◌else◌, length, List, [], ◌∷◌, ◌++◌, Option, Some, None}
 use Rattle.std.specs.Prelude.{◌==◌, slice_get}
-use Rattle.std.proofs.lemmas.Bool.{cases_eq, cond-false, cond-true, cond_both, eq-eqb, ne_eqb}
+use Rattle.std.proofs.lemmas.Bool.{cases_eq, cond-false, cond-true, eq-eqb, ne_eqb}
 use Rattle.std.proofs.lemmas.List.{append-nil}
-use Rattle.sctp_model.specs.Messages.{Message, Policy, as_kept}
+use Rattle.sctp_wire_types.specs.declared.ids.PayloadProtocolIdentifier.{PayloadProtocolIdentifier}
+use Rattle.sctp_wire_types.specs.declared.ids.PayloadProtocolIdentifier.TheVariants as kinds
+use Rattle.sctp_streams.specs.Stream.{StreamView}
+use Rattle.sctp_model.specs.Messages.{Message, as_kept}
 use Rattle.sctp_model.specs.Packets.{Data, mem}
 use Rattle.sctp_model.specs.Machine.{Direction, Event, Sender, acknowledged_by, happens, put, written}
 use Rattle.sctp_model.specs.Invariants.{Invariant}
@@ -13,6 +16,7 @@ use Rattle.sctp_model.proofs.SenderEvents.{keeps_pass_over}
 use Rattle.sctp_model.proofs.OffsetsAssigned.{keeps_go_on}
 use Rattle.sctp_model.proofs.EventsKeepInvariant.{begin_event_keeps, resend_event_keeps, sack_event_keeps}
 use Rattle.sctp_model.proofs.EventsKeepInvariant.{write_event_keeps}
+use Rattle.sctp_fit.specs.Writes.{message_on}
 use Rattle.sctp_directions.specs.Events.{Accepts, Assigns, Brings, GivesAMessage, IsOfReceiving, IsOfSending}
 use Rattle.sctp_directions.specs.Events.{IsReceived, IsSentOn}
 use Rattle.sctp_directions.specs.Laws.{ClosedReceiversAreNotOpen, EventsKeepTheLimits, FreshDirectionsArePlain}
@@ -157,22 +161,25 @@ senders_events_keep_the_invariant w e at h =
 
 -- Writes
 
--- an ordered, reliable message is kept as it was written
-kept_as_written : (m : Message) → m.ordered ≡ true → m.policy ≡ Policy.Reliable → as_kept m ≡ m
-kept_as_written m o p =
-    cond_both (eqb m.payload_type 50) (record m { ordered = true; policy = Policy.Reliable }) m (λ z. z ≡ m)
-    (λ b. ap₂ (λ (x : Bool) (y : Policy). record m { ordered = x; policy = y }) (sym o) (sym p))
-    (λ b. refl)
+-- A message that is written on a stream is kept as the stream accepts it: that of the data channel establishment
+-- protocol, which alone has the number 50, is ordered and reliable on any stream.
+kept_as_accepted : (t : StreamView) (kind : PayloadProtocolIdentifier) (bytes : List ℕ)
+    → as_kept (message_on t kind bytes) ≡ message_on t kind bytes
+kept_as_accepted t kinds.Dcep bytes = refl
+kept_as_accepted t kinds.String bytes = refl
+kept_as_accepted t kinds.Binary bytes = refl
+kept_as_accepted t kinds.StringEmpty bytes = refl
+kept_as_accepted t kinds.BinaryEmpty bytes = refl
+kept_as_accepted t kinds.Unknown bytes = refl
 
 -- a direction after the write of such a message, of one byte at least
-happens_write : (w : Direction) (s : ℕ) (m : Message) → 0 < length m.bytes → m.ordered ≡ true
-    → m.policy ≡ Policy.Reliable
+happens_write : (w : Direction) (s : ℕ) (m : Message) → 0 < length m.bytes → as_kept m ≡ m
     → happens w (Event.Write s m) ≡ record w { sender = written w.sender s m }
 unfolding happens
-happens_write w s m some o p =
+happens_write w s m some same =
     cond-false (eqb (length m.bytes) 0) w (record w { sender = written w.sender s (as_kept m) })
     (ne_eqb _ _ (λ (e : length m.bytes ≡ 0). omega arith))
-    ∙ ap (λ z. record w { sender = written w.sender s z }) (kept_as_written m o p)
+    ∙ ap (λ z. record w { sender = written w.sender s z }) same
 
 -- one message more on stream s, seen from stream t
 accepted_more : (f : ℕ → List Message) (s t : ℕ) (m : Message)
@@ -185,9 +192,10 @@ accepted_more f s t m = ⊎_elim
     (cases_eq s t)
 
 pub writes_are_accepted_last : WritesAreAcceptedLast
-writes_are_accepted_last w s t m some o p =
-    ap (λ (v : Direction). v.sender.plan.accepted t) (happens_write w s m some o p)
-    ∙ accepted_more w.sender.plan.accepted s t m
+writes_are_accepted_last w s u t kind bytes some =
+    ap (λ (v : Direction). v.sender.plan.accepted u)
+    (happens_write w s (message_on t kind bytes) some (kept_as_accepted t kind bytes))
+    ∙ accepted_more w.sender.plan.accepted s u (message_on t kind bytes)
 
 -- The receiver's events
 

@@ -3,7 +3,8 @@
 pub use Rattle.sctp_directions.proofs.OutgoingWrote.{writes_are_accepted}
 pub use Rattle.sctp_directions.proofs.OutgoingSentAgain.{marks_are_no_events, pieces_are_given}
 pub use Rattle.sctp_directions.proofs.OutgoingAcknowledged.{acknowledgements_are_alike, sacks_mean_the_same}
-pub use Rattle.sctp_directions.proofs.OutgoingBeside.{streams_stay_ordered_and_reliable, what_comes_leaves_its_own}
+pub use Rattle.sctp_directions.proofs.OutgoingBeside.{settings_are_no_events, what_comes_leaves_its_own}
+pub use Rattle.sctp_directions.proofs.OrderKept.{only_settings_loosen}
 pub use Rattle.sctp_directions.proofs.IncomingTook.{what_is_taken_in_comes}
 pub use Rattle.sctp_directions.proofs.IncomingReports.{reports_say_what_was_taken}
 pub use Rattle.sctp_directions.proofs.IncomingBeside.{own_acts_leave_what_comes}

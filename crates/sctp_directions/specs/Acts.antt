@@ -11,8 +11,11 @@ use Rattle.sctp_outbound_queue.specs.Waiting.{Waiting}
 use Rattle.sctp_outbound_queue.specs.Message.{counted_again, is_outstanding}
 use Rattle.sctp_received.specs.Received.{is_named}
 use Rattle.sctp_outbound_queue.specs.Outbound.{Outbound, all_marked, changed_at, sent_next}
-use Rattle.sctp_streams.specs.Stream.{StreamView, params_for}
-use Rattle.sctp_streams.specs.Streams.{StreamMap, stream_at, made, pushed_in, read_in, without_streams}
+use Rattle.sctp_streams.specs.declared.setting.Setting.{Setting}
+use Rattle.sctp_streams.specs.declared.setting.Setting.TheVariants as settings
+use Rattle.sctp_streams.specs.Stream.{StreamView, ordered_and_reliable, params_for, with_setting}
+use Rattle.sctp_streams.specs.Streams.{StreamMap, changed_stream, made, pushed_in, read_in, stream_at}
+use Rattle.sctp_streams.specs.Streams.{without_streams}
 use Rattle.sctp_outbound.specs.Sender.{chunk_of}
 use Rattle.sctp_model.specs.Packets.{mem}
 use Rattle.sctp_model.specs.Machine.{climb, past_all}
@@ -71,8 +74,10 @@ pub data Act : Type 0 where
   -- the application or the peer's DATA made a stream; its own messages have an identifier from this one on and this
   -- payload type
   Opened : ℕ → ℕ → PayloadProtocolIdentifier → Act
-  -- a write of these bytes was accepted on a stream
-  Wrote : ℕ → List ℕ → Act
+  -- a write of these bytes was accepted on a stream, under the payload type that it names, or else the stream's
+  Wrote : ℕ → Option PayloadProtocolIdentifier → List ℕ → Act
+  -- the application set this on a stream
+  Adjusted : ℕ → Setting → Act
   -- the next piece that waits got the next offset and went out, at this moment
   Sent : ℕ → Act
   -- the piece in flight that is so many offsets past the first one went out again
@@ -99,17 +104,22 @@ with_taken h o = record h { taken = o ∷ h.taken }
 abbrev pub with_peer : History → ℕ → History
 with_peer h t = record h { peer = t; taken = []; passed = 0 }
 
--- what is queued of bytes that a stream accepts under its own payload type: pieces of `size` bytes
-abbrev pub message_of : StreamView → ℕ → ℕ → List ℕ → Waiting
-message_of s size id bytes = record {
+-- the payload type of a message that is written on a stream: the one that is named, or else the stream's
+abbrev pub type_on : StreamView → Option PayloadProtocolIdentifier → PayloadProtocolIdentifier
+type_on s None = s.default_payload_type
+type_on s (Some kind) = kind
+
+-- what is queued of bytes that a stream accepts under a payload type: pieces of `size` bytes
+abbrev pub message_of : StreamView → PayloadProtocolIdentifier → ℕ → ℕ → List ℕ → Waiting
+message_of s kind size id bytes = record {
   message = record {
     message_id = 0;
     stream_identifier = id;
     generation = s.stats.generation;
-    unordered = (params_for s s.default_payload_type).unordered;
+    unordered = (params_for s kind).unordered;
     stream_sequence_number = s.next_ssn;
-    payload_type = s.default_payload_type;
-    policy = (params_for s s.default_payload_type).policy;
+    payload_type = kind;
+    policy = (params_for s kind).policy;
     deadline = None;
   };
   begun = false;
@@ -118,10 +128,11 @@ message_of s size id bytes = record {
 }
 
 -- the bytes are queued on the stream, where it is live
-abbrev pub with_written : Option StreamView → Parts → ℕ → List ℕ → Parts
-with_written None p id bytes = p
-with_written (Some s) p id bytes =
-    (let a = fit.written (sending p) id s.default_payload_type (length bytes) (message_of s p.size id bytes) in
+abbrev pub with_written : Option StreamView → Parts → ℕ → Option PayloadProtocolIdentifier → List ℕ → Parts
+with_written None p id named bytes = p
+with_written (Some s) p id named bytes =
+    (let kind = type_on s named in
+    let a = fit.written (sending p) id kind (length bytes) (message_of s kind p.size id bytes) in
     record p { queue = a.queue; streams = a.streams })
 
 -- A SACK that acknowledges the first n pieces in flight cumulatively acknowledges the piece at an index: it is one of
@@ -142,7 +153,8 @@ with_acknowledged n blocks p = record p {
 abbrev pub done : Act → Parts → Parts
 done (PeerKnown t) p = record p { history = with_peer p.history t }
 done (Opened id first kind) p = record p { streams = made p.streams id first kind }
-done (Wrote id bytes) p = with_written (stream_at p.streams id) p id bytes
+done (Wrote id named bytes) p = with_written (stream_at p.streams id) p id named bytes
+done (Adjusted id setting) p = record p { streams = changed_stream (λ s. with_setting s setting) p.streams id }
 done (Sent now) p = record p { queue = sent_next p.queue now }
 done (SentAgain index) p = record p { queue = changed_at counted_again p.queue index }
 done Marked p = record p { queue = all_marked p.queue }
@@ -207,7 +219,8 @@ MeetsNobody act = Unit {0}
 
 -- acts of the association's own DATA
 abbrev pub IsOfItsOwn : Act → Type 0
-IsOfItsOwn (Wrote id bytes) = Unit {0}
+IsOfItsOwn (Wrote id named bytes) = Unit {0}
+IsOfItsOwn (Adjusted id setting) = Unit {0}
 IsOfItsOwn (Sent now) = Unit {0}
 IsOfItsOwn (SentAgain index) = Unit {0}
 IsOfItsOwn Marked = Unit {0}
@@ -220,3 +233,12 @@ IsOfWhatComes (Took piece) = Unit {0}
 IsOfWhatComes Reported = Unit {0}
 IsOfWhatComes (WasRead id) = Unit {0}
 IsOfWhatComes act = ⊥
+
+-- the stream of this identifier, if it is live, sends ordered, reliable messages
+abbrev pub IsKeptInOrder : StreamMap → ℕ → Type 0
+IsKeptInOrder m s = (t : StreamView) → stream_at m s ≡ Some t → t.params ≡ ordered_and_reliable
+
+-- this act sets order or reliability of the stream s
+abbrev pub SetsReliability : Act → ℕ → Type 0
+SetsReliability (Adjusted id (settings.Reliability params)) s = id ≡ s
+SetsReliability act s = ⊥

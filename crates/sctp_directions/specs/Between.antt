@@ -5,14 +5,13 @@ use Rattle.sctp_model.specs.Invariants.{Invariant}
 use Rattle.sctp_fit.specs.Incoming.{FitsIncoming}
 use Rattle.sctp_fit.specs.Outgoing.{CountsBegun, FitsOutgoing}
 use Rattle.sctp_directions.specs.Acts.{Parts, receiving, sending}
-use Rattle.sctp_directions.specs.Plain.{AreOrderedAndReliable, IsPlain}
+use Rattle.sctp_directions.specs.Plain.{IsPlain}
 
 -- An association stands between its own direction and the one that comes to it: it is the sender of the one, and the
--- receiver of the other; so far its streams write ordered, reliable messages.
+-- receiver of the other.
 pub record FitsBetween (p : Parts) (out coming : Direction) : Type 0 where
   pub outgoing : FitsOutgoing (sending p) out
   pub incoming : FitsIncoming (receiving p) coming
-  pub writes : AreOrderedAndReliable p.streams
 
 -- The machine's invariant holds of a direction, the messages that were begun are counted, and it is as associations use
 -- it so far.

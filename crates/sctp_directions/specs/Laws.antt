@@ -1,14 +1,15 @@
 -- The laws of an association between its directions: what writes, pieces that go again, acknowledgements, DATA and
 -- reports are as events of the model, and what acts and events leave as it was.
 use Rattle.std.specs.Prelude.{◌≡◌, ◌⊎◌, ℕ, ◌+◌, ◌*◌, ◌<◌, ◌≤◌, ◌%◌, ◌^◌, true, false, List, [], ◌∷◌, ◌++◌}
-use Rattle.std.specs.Prelude.{if◌then◌else◌, length, slice_get, ◌==◌, Some}
+use Rattle.std.specs.Prelude.{if◌then◌else◌, length, slice_get, ◌==◌, Option, Some}
 use Rattle.std.specs.List.{AllByRecursion}
 use Rattle.sctp_serial.specs.Serial.{tsn}
 use Rattle.sctp_wire_types.specs.declared.chunk.ChunkPayloadData.{ChunkPayloadData}
 use Rattle.sctp_wire_types.specs.declared.chunk.ChunkSelectiveAck.{ChunkSelectiveAck}
+use Rattle.sctp_wire_types.specs.declared.ids.PayloadProtocolIdentifier.{PayloadProtocolIdentifier}
+use Rattle.sctp_streams.specs.declared.setting.Setting.{Setting}
 use Rattle.sctp_streams.specs.Stream.{StreamView}
 use Rattle.sctp_streams.specs.Streams.{stream_at}
-use Rattle.sctp_model.specs.Messages.{Message, Policy}
 use Rattle.sctp_model.specs.Packets.{Data, Sack, mem}
 use Rattle.sctp_model.specs.Machine.{Direction, Event, fresh, happens}
 use Rattle.sctp_model.specs.Invariants.{Invariant}
@@ -17,23 +18,32 @@ use Rattle.sctp_fit.specs.Counted.{HasAccepted, all_pieces, pieces_in}
 use Rattle.sctp_fit.specs.Incoming.{FitsIncoming, IsSaid, tsn_before}
 use Rattle.sctp_fit.specs.Outgoing.{CountsBegun, FitsOutgoing}
 use Rattle.sctp_fit.specs.Sendings.{IsGiven}
-use Rattle.sctp_directions.specs.Acts.{Act, Can, IsOfItsOwn, IsOfWhatComes, MeetsNobody, Parts, data_given, done}
-use Rattle.sctp_directions.specs.Acts.{done_all, offset_in, reach_in, receiving, sending}
+use Rattle.sctp_fit.specs.Writes.{message_on}
+use Rattle.sctp_directions.specs.Acts.{Act, Can, IsKeptInOrder, IsOfItsOwn, IsOfWhatComes, MeetsNobody, Parts}
+use Rattle.sctp_directions.specs.Acts.{SetsReliability, data_given, done, done_all, offset_in, reach_in, receiving}
+use Rattle.sctp_directions.specs.Acts.{sending, type_on}
 use Rattle.sctp_directions.specs.Events.{Accepts, Assigns, Brings, GivesAMessage, IsOfReceiving, IsOfSending}
 use Rattle.sctp_directions.specs.Events.{IsPlainEvent, IsReceived, IsSentOn, KeepsWithin}
-use Rattle.sctp_directions.specs.Plain.{AreOrderedAndReliable, IsPlain, message_on}
+use Rattle.sctp_directions.specs.Plain.{IsPlain}
 use Rattle.sctp_directions.specs.Reports.{SaysWhatWasTaken}
 use Rattle.sctp_directions.specs.Said.{IsMade}
 
 -- Its own DATA
 
--- A write, of any number of pieces, on a live stream of ordered, reliable messages is accepted by the direction as that
--- message.
+-- A write, of any number of pieces, on a live stream is accepted by the direction as that message: under the payload
+-- type that it names or else the stream's, with the stream's order and reliability of that moment.
 abbrev pub WritesAreAccepted : Type 0
-WritesAreAccepted = (p : Parts) (id : ℕ) (bytes : List ℕ) (t : StreamView) (w : Direction)
-    → stream_at p.streams id ≡ Some t → AreOrderedAndReliable p.streams
-    → 0 < length bytes → Invariant w → CountsBegun w.sender → FitsOutgoing (sending p) w
-    → FitsOutgoing (sending (done (Act.Wrote id bytes) p)) (happens w (Event.Write id (message_on t bytes)))
+WritesAreAccepted = (p : Parts) (id : ℕ) (named : Option PayloadProtocolIdentifier) (bytes : List ℕ) (t : StreamView)
+    (w : Direction)
+    → stream_at p.streams id ≡ Some t → 0 < length bytes → Invariant w → CountsBegun w.sender
+    → FitsOutgoing (sending p) w
+    → FitsOutgoing (sending (done (Act.Wrote id named bytes) p))
+    (happens w (Event.Write id (message_on t (type_on t named) bytes)))
+
+-- Of what an application sets on a stream the direction knows nothing.
+abbrev pub SettingsAreNoEvents : Type 0
+SettingsAreNoEvents = (p : Parts) (id : ℕ) (setting : Setting) (w : Direction) → FitsOutgoing (sending p) w
+    → FitsOutgoing (sending (done (Act.Adjusted id setting) p)) w
 
 -- A piece that goes out again is that of its offset, and is DATA of the direction.
 abbrev pub PiecesAreGiven : Type 0
@@ -106,10 +116,10 @@ abbrev pub ActsKeepTheInitialTsns : Type 0
 ActsKeepTheInitialTsns = (acts : List Act) (p : Parts) → AllByRecursion MeetsNobody acts
     → ((done_all acts p).history.own ≡ p.history.own) × ((done_all acts p).history.peer ≡ p.history.peer)
 
--- no act makes a stream write other messages than ordered, reliable ones
-abbrev pub StreamsStayOrderedAndReliable : Type 0
-StreamsStayOrderedAndReliable =
-    (act : Act) (p : Parts) → AreOrderedAndReliable p.streams → AreOrderedAndReliable (done act p).streams
+-- Only an act that sets a stream's order or reliability has the stream send other messages than ordered, reliable ones.
+abbrev pub OnlySettingsLoosen : Type 0
+OnlySettingsLoosen = (act : Act) (p : Parts) (s : ℕ) → (SetsReliability act s → ⊥) → IsKeptInOrder p.streams s
+    → IsKeptInOrder (done act p).streams s
 
 -- The events
 
@@ -128,9 +138,10 @@ OnlyWritesAccept =
     → (happens w e).sender.plan.accepted ≡ w.sender.plan.accepted
 
 abbrev pub WritesAreAcceptedLast : Type 0
-WritesAreAcceptedLast = (w : Direction) (s t : ℕ) (m : Message) → 0 < length m.bytes → m.ordered ≡ true
-    → m.policy ≡ Policy.Reliable
-    → (happens w (Event.Write s m)).sender.plan.accepted t ≡ w.sender.plan.accepted t ++ (if s == t then m ∷ [] else [])
+WritesAreAcceptedLast = (w : Direction) (s u : ℕ) (t : StreamView) (kind : PayloadProtocolIdentifier) (bytes : List ℕ)
+    → 0 < length bytes
+    → (happens w (Event.Write s (message_on t kind bytes))).sender.plan.accepted u
+    ≡ w.sender.plan.accepted u ++ (if s == u then message_on t kind bytes ∷ [] else [])
 
 abbrev pub OnlyBeginningsAssign : Type 0
 OnlyBeginningsAssign =

@@ -6,20 +6,22 @@ ghost use Rattle.sctp_directions.specs.Laws.{AcceptedMessagesAreCounted, Acknowl
 ghost use Rattle.sctp_directions.specs.Laws.{ActsKeepTheInitialTsns, ClosedReceiversAreNotOpen, EventsKeepTheLimits};
 ghost use Rattle.sctp_directions.specs.Laws.{FreshDirectionsArePlain, MarksAreNoEvents, MeetingsAreNoEvents};
 ghost use Rattle.sctp_directions.specs.Laws.{NothingIsAcceptedAtFirst, OnlyBeginningsAssign, OnlyReadsGiveMessages};
-ghost use Rattle.sctp_directions.specs.Laws.{OnlyWhatIsBroughtIsTakenIn, OnlyWritesAccept, OwnActsLeaveWhatComes};
+ghost use Rattle.sctp_directions.specs.Laws.{OnlySettingsLoosen, OnlyWhatIsBroughtIsTakenIn, OnlyWritesAccept};
+ghost use Rattle.sctp_directions.specs.Laws.{OwnActsLeaveWhatComes};
 ghost use Rattle.sctp_directions.specs.Laws.{PiecesAreCounted, PiecesAreGiven, PlainEventsKeepItPlain};
 ghost use Rattle.sctp_directions.specs.Laws.{ReceiversEventsAreReceived, ReportsSayWhatWasTaken, SacksMeanTheSame};
 ghost use Rattle.sctp_directions.specs.Laws.{SendersEventsAreSent, SendersEventsKeepTheInvariant};
-ghost use Rattle.sctp_directions.specs.Laws.{ShortMessagesAreOnePiece, StreamsStayOrderedAndReliable};
+ghost use Rattle.sctp_directions.specs.Laws.{SettingsAreNoEvents, ShortMessagesAreOnePiece};
 ghost use Rattle.sctp_directions.specs.Laws.{WhatComesLeavesItsOwn, WhatIsTakenInComes, WritesAreAccepted};
 ghost use Rattle.sctp_directions.specs.Laws.{WritesAreAcceptedLast};
 
-/// What an association writes, sends again and finds acknowledged happens at the sender of its direction; of marks that
-/// one knows nothing.
+/// What an association writes, sends again and finds acknowledged happens at the sender of its direction; of marks and
+/// of what an application sets on a stream that one knows nothing.
 pub fn its_own_acts_are_events()
     ensures writes { WritesAreAccepted }
     ensures pieces { PiecesAreGiven }
     ensures marks { MarksAreNoEvents }
+    ensures settings { SettingsAreNoEvents }
     ensures acknowledgements { AcknowledgementsAreAlike }
     ensures sacks { SacksMeanTheSame }
 {}
@@ -32,12 +34,12 @@ pub fn what_comes_to_it_are_events()
     ensures meetings { MeetingsAreNoEvents }
 {}
 
-/// What an act in one direction leaves of the other, and what no act changes.
+/// What an act in one direction leaves of the other, what no act changes, and what a setting alone changes.
 pub fn acts_leave_the_other_direction()
     ensures own { OwnActsLeaveWhatComes }
     ensures comes { WhatComesLeavesItsOwn }
     ensures initials { ActsKeepTheInitialTsns }
-    ensures writes { StreamsStayOrderedAndReliable }
+    ensures loose { OnlySettingsLoosen }
 {}
 
 /// What an event at the sender leaves of a direction, and what it keeps.

@@ -1,5 +1,5 @@
-use Rattle.sctp_directions.proofs.Proved.{acts_keep_the_initial_tsns, own_acts_leave_what_comes}
-use Rattle.sctp_directions.proofs.Proved.{streams_stay_ordered_and_reliable, what_comes_leaves_its_own}
+use Rattle.sctp_directions.proofs.Proved.{acts_keep_the_initial_tsns, only_settings_loosen, own_acts_leave_what_comes}
+use Rattle.sctp_directions.proofs.Proved.{what_comes_leaves_its_own}
 use Rattle.sctp_directions.proofs.acts_leave_the_other_direction.Goals as goal
 
 pub returns-clause-own : goal.returns-clause-own
@@ -11,5 +11,5 @@ returns-clause-comes c = what_comes_leaves_its_own
 pub returns-clause-initials : goal.returns-clause-initials
 returns-clause-initials c = acts_keep_the_initial_tsns
 
-pub returns-clause-writes : goal.returns-clause-writes
-returns-clause-writes c = streams_stay_ordered_and_reliable
+pub returns-clause-loose : goal.returns-clause-loose
+returns-clause-loose c = only_settings_loosen
