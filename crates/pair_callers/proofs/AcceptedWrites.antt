@@ -12,14 +12,15 @@ use Rattle.sctp_assoc.specs.Calls.{stream_refusal, write_refusal}
 use Rattle.sctp_sides.specs.Shapes.{IsLive}
 use Rattle.sctp_assoc.specs.Shown.{Shown}
 use Rattle.sctp_sides.proofs.Proved.{found_streams_are_live}
-use Rattle.sctp_directions.specs.Plain.{message_on}
+use Rattle.sctp_directions.specs.Acts.{type_on}
 use Rattle.sctp_pair.specs.declared.step.Reply.{Reply}
 use Rattle.sctp_pair.specs.declared.step.Reply.TheVariants as replies
 use Rattle.sctp_pair.specs.declared.step.Side2.{Side2}
 use Rattle.sctp_pair.specs.declared.step.Step.TheVariants as steps
 use Rattle.sctp_pair.specs.Ends.{Ends, end_of}
 use Rattle.sctp_pair.specs.Steps.{Steps, Writes, first_refusal}
-use Rattle.sctp_pair.specs.World.{IsWorldStep, World, accepted_at, is_side, messages_on}
+use Rattle.sctp_pair.specs.World.{IsWorldStep, World, accepted_at, is_side, message_under}
+use Rattle.sctp_pair.specs.World.{messages_on}
 use Rattle.pair_callers.specs.Going.{GoesOn, from_side}
 use Rattle.pair_callers.specs.Writing.{AcceptsNone, AcceptsOne, count_in}
 use Rattle.pair_callers.proofs.StepsByDirection.{Leads, at_its_side, goes_on, is_own, step_from}
@@ -33,7 +34,8 @@ pub written_is_live : (side : Side2) (id n : ℕ) (bytes : List ℕ) (w v : Worl
     → IsWorldStep (steps.Write side id bytes) w (replies.Wrote n) v
     → IsLive (end_of side w.ends) id
 written_is_live side id n bytes w v h =
-    let done = at_its_side side w.ends (λ (x y : Shown). Writes x id bytes (replies.Wrote n) y) v.ends h.ends_step in
+    let done =
+    at_its_side side w.ends (λ (x y : Shown). Writes x id None bytes (replies.Wrote n) y) v.ends h.ends_step in
     found_streams_are_live (end_of side w.ends) id
     (first_is_none (stream_refusal (end_of side w.ends) id) (write_refusal (end_of side w.ends) id (length bytes))
     done.0)
@@ -47,12 +49,12 @@ accepts_one {w} {v} side id n bytes h =
     let live = written_is_live side id n bytes w v h in
     let here : (is_side side side && eqb id id) ≡ true = rw (is_own side, eq-eqb id id refl) refl in
     record {
-      message = message_on live.stream bytes;
+      message = message_under (type_on live.stream None) bytes;
       same_bytes = refl;
       last = d.accepted id
           ∙ ap (λ (c : Bool). (from_side side w).sender.plan.accepted id ++
-          (if c then messages_on (stream_at a.streams id) bytes else [])) here
-          ∙ ap (λ (o : Option StreamView). (from_side side w).sender.plan.accepted id ++ messages_on o bytes)
+          (if c then messages_on (stream_at a.streams id) None bytes else [])) here
+          ∙ ap (λ (o : Option StreamView). (from_side side w).sender.plan.accepted id ++ messages_on o None bytes)
           live.there;
       others = λ s ne.
           let there : (is_side side side && eqb id s) ≡ false = rw (
@@ -62,7 +64,7 @@ accepts_one {w} {v} side id n bytes h =
           ) refl in
           d.accepted s
           ∙ ap (λ (c : Bool). (from_side side w).sender.plan.accepted s ++
-          (if c then messages_on (stream_at a.streams id) bytes else [])) there
+          (if c then messages_on (stream_at a.streams id) None bytes else [])) there
           ∙ append-nil ((from_side side w).sender.plan.accepted s);
     }
 
@@ -94,5 +96,5 @@ pub wrote_all : (side : Side2) (id : ℕ) (bytes : List ℕ) (r : Reply) (p q : 
     → Steps (steps.Write side id bytes) p r q
     → IfSome (count_in r) (λ n. n ≡ length bytes)
 wrote_all side id bytes (replies.Wrote n) p q h =
-    (at_its_side side p (λ (x y : Shown). Writes x id bytes (replies.Wrote n) y) q h).1
+    (at_its_side side p (λ (x y : Shown). Writes x id None bytes (replies.Wrote n) y) q h).1
 wrote_all side id bytes _ p q h = tt

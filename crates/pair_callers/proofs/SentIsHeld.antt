@@ -11,12 +11,12 @@ use Rattle.sctp_sides.proofs.Proved.{found_streams_are_live}
 -- the association a was m after the write
 pub sent_is_held : WritesAreHeld → PollsKeepWhatIsHeld
     → (a m b : Shown) (id now : ℕ) (bytes : List ℕ) (r : Result (Option Transmit) Error)
-    → stream_refusal a id ≡ None → m ≡ written a id bytes → IfOk r (λ given. polled m now ≡ (b, packets_of given))
+    → stream_refusal a id ≡ None → m ≡ written a id None bytes → IfOk r (λ given. polled m now ≡ (b, packets_of given))
     → OnOk r (is_held b.sender.queue a.sender.queue.next_message_id ≡ true)
 sent_is_held writes polls a m b id now bytes (Ok given) live accepts e =
     let number = a.sender.queue.next_message_id in
     let held : is_held m.sender.queue number ≡ true =
     ap (λ (x : Shown). is_held x.sender.queue number) accepts
-    ∙ writes a id bytes (ap is_some (found_streams_are_live a id live).there) in
+    ∙ writes a id None bytes (ap is_some (found_streams_are_live a id live).there) in
     sym (ap (λ (x : Shown × List (List ℕ)). is_held x.0.sender.queue number) e) ∙ polls m now number held
 sent_is_held writes polls a m b id now bytes (Err error) live accepts e = tt

@@ -28,9 +28,10 @@ pub fn exchange(
 ) -> Result<Option<Transmit>, Error>
     ensures failed { association.old.failed ≡ true
         → (result ≡ Err Error.ErrAssociationFailed) × (association.new ≡ association.old) }
-    ensures given { IfOk result (λ given. (polled (written association.old id message.now) now).1 ≡ packets_of given) }
+    ensures given { IfOk result (λ given. (polled (written association.old id None message.now) now).1
+        ≡ packets_of given) }
     ensures ok { OnOk result (association.new
-        ≡ after_packet (polled (written association.old id message.now) now).0 (packet_in datagram.now) now) }
+        ≡ after_packet (polled (written association.old id None message.now) now).0 (packet_in datagram.now) now) }
     ensures held { OnOk result (packet_in datagram.now ≡ None
         → is_held association.new.sender.queue association.old.sender.queue.next_message_id ≡ true) }
 {
@@ -48,7 +49,7 @@ fn send(
     ensures failed { association.old.failed ≡ true
         → (result ≡ Err Error.ErrAssociationFailed) × (association.new ≡ association.old) }
     ensures ok { IfOk result
-        (λ given. polled (written association.old id message.now) now ≡ (association.new, packets_of given)) }
+        (λ given. polled (written association.old id None message.now) now ≡ (association.new, packets_of given)) }
     ensures held { OnOk result
         (is_held association.new.sender.queue association.old.sender.queue.next_message_id ≡ true) }
 {
@@ -61,7 +62,7 @@ fn write(association: &mut Association, id: StreamId, message: &Bytes) -> Result
     ensures failed { association.old.failed ≡ true → result ≡ Err Error.ErrAssociationFailed }
     ensures refused { OnErr result (association.new ≡ association.old) }
     ensures live { OnOk result (stream_refusal association.old id ≡ None) }
-    ensures accepted { OnOk result (association.new ≡ written association.old id message.now) }
+    ensures accepted { OnOk result (association.new ≡ written association.old id None message.now) }
 {
     let mut stream = association.stream(id)?;
     stream.write(message.as_slice())

@@ -8,6 +8,7 @@ use Rattle.sctp_outbound_queue.specs.declared.message.InFlight.{InFlight}
 use Rattle.sctp_outbound_queue.specs.Waiting.{Waiting}
 use Rattle.sctp_outbound_queue.specs.Message.{counted_again}
 use Rattle.sctp_outbound_queue.specs.Outbound.{Outbound, changed_from, sent_from, tsn_at, without_first}
+use Rattle.sctp_wire_types.specs.declared.ids.PayloadProtocolIdentifier.{PayloadProtocolIdentifier}
 use Rattle.sctp_streams.specs.Stream.{StreamView}
 use Rattle.sctp_streams.specs.Streams.{StreamMap, stream_at}
 use Rattle.sctp_parts.specs.Estimate.{Estimate}
@@ -50,9 +51,10 @@ acknowledged_tied n blocks p e = rw e (past_tied p.history.own p.history.base n)
     past_tied : (own base n : ℕ) → tsn_at (tsn own base) n ≡ tsn own (base + n)
     past_tied own base n = omega arith
 
-written_tied : (o : Option StreamView) (p : Parts) (id : ℕ) (bytes : List ℕ) → Tied p → Tied (with_written o p id bytes)
-written_tied None p id bytes e = e
-written_tied (Some s) p id bytes e = e
+written_tied : (o : Option StreamView) (p : Parts) (id : ℕ) (named : Option PayloadProtocolIdentifier) (bytes : List ℕ)
+    → Tied p → Tied (with_written o p id named bytes)
+written_tied None p id named bytes e = e
+written_tied (Some s) p id named bytes e = e
 
 pub sent_first : (fs : List Waiting) (q : Outbound) (now : ℕ) → (sent_from fs q now).first_tsn ≡ q.first_tsn
 sent_first [] q now = refl
@@ -66,7 +68,8 @@ resent_first (Some p) q index = refl
 pub act_tied : (x : Act) (p : Parts) → Can x p → Tied p → Tied (done x p)
 act_tied (Act.PeerKnown t) p c e = e
 act_tied (Act.Opened id first kind) p c e = e
-act_tied (Act.Wrote id bytes) p c e = written_tied (stream_at p.streams id) p id bytes e
+act_tied (Act.Wrote id named bytes) p c e = written_tied (stream_at p.streams id) p id named bytes e
+act_tied (Act.Adjusted id setting) p c e = e
 act_tied (Act.Sent now) p c e = sent_first p.queue.pending p.queue now ∙ e
 act_tied (Act.SentAgain index) p c e = resent_first (slice_get p.queue.in_flight index) p.queue index ∙ e
 act_tied Act.Marked p c e = e

@@ -21,6 +21,7 @@ use Rattle.sctp_parts.specs.Timers.{expiry_of}
 use Rattle.sctp_wire_types.specs.declared.ids.PayloadProtocolIdentifier.{PayloadProtocolIdentifier}
 use Rattle.sctp_receive_queues.specs.Messages.{ReceivedMessage}
 use Rattle.sctp_streams.specs.declared.event.Event.{Event}
+use Rattle.sctp_streams.specs.declared.setting.Setting.{Setting}
 use Rattle.sctp_streams.specs.Stream.{StreamView}
 use Rattle.sctp_streams.specs.declared.event.AssociationError.{AssociationError}
 use Rattle.sctp_streams.specs.declared.event.AssociationError.TheVariants as reasons
@@ -45,9 +46,11 @@ use Rattle.sctp_assoc.specs.declared.inbound.Flow.TheVariants as flows
 use Rattle.sctp_directions.specs.Acts.{Act, CanAll, History, Parts, done, done_all}
 use Rattle.sctp_assoc.specs.Leads.{Binds, Leads, IsSamePast, LeadsOn, parts}
 use Rattle.sctp_directions.specs.Acts.{offset_in, with_peer, with_taken, with_written}
-use Rattle.sctp_assoc.specs.Calls.{after_ack_delay, after_t3, closed_by, closed_open, event_from, event_polled, opened}
+use Rattle.sctp_assoc.specs.Calls.{accepted_from, adjusted, after_ack_delay, after_t3, event_from, event_polled, opened}
+use Rattle.sctp_assoc.specs.Closing.{closed_by, closed_open}
 use Rattle.sctp_assoc.specs.Calls.{read_from_stream, retransmits, t3_expired, written, written_at, is_beginning}
-use Rattle.sctp_assoc.specs.Calls.{is_closed_state, is_cookie_echoed, is_cookie_wait, is_established}
+use Rattle.sctp_assoc.specs.Calls.{is_cookie_echoed, is_cookie_wait, is_established}
+use Rattle.sctp_assoc.specs.Closing.{is_closed_state}
 use Rattle.sctp_assoc.specs.Chunks.{after_chunks, after_packet, after_packet_of, after_sack, asks_or_faults}
 use Rattle.sctp_assoc.specs.Chunks.{checked_first, counted_data, counted_sack, dispatched, ended, goes_on}
 use Rattle.sctp_assoc.specs.Chunks.{on_chunk, on_counted_sack, on_data, on_new_data, on_sack, stream_found, taken_in}
@@ -497,48 +500,69 @@ leads_beside xs a b c h k same point m = record {
   };
 }
 
-written_parts : (o : Option StreamView) (a : Shown) (id : ℕ) (bytes : List ℕ) (h : History)
-    → parts (written_at o a id bytes) h ≡ with_written o (parts a h) id bytes
-written_parts None a id bytes h = refl
-written_parts (Some s) a id bytes h = refl
+written_parts : (o : Option StreamView) (a : Shown) (id : ℕ)
+    (named : Option PayloadProtocolIdentifier) (bytes : List ℕ) (h : History)
+    → parts (written_at o a id named bytes) h ≡ with_written o (parts a h) id named bytes
+written_parts None a id named bytes h = refl
+written_parts (Some s) a id named bytes h = refl
 
-written_receiver : (o : Option StreamView) (a : Shown) (id : ℕ) (bytes : List ℕ)
-    → (written_at o a id bytes).receiver ≡ a.receiver
-written_receiver None a id bytes = refl
-written_receiver (Some s) a id bytes = refl
+written_receiver : (o : Option StreamView) (a : Shown) (id : ℕ)
+    (named : Option PayloadProtocolIdentifier) (bytes : List ℕ)
+    → (written_at o a id named bytes).receiver ≡ a.receiver
+written_receiver None a id named bytes = refl
+written_receiver (Some s) a id named bytes = refl
 
-written_history : (o : Option StreamView) (a : Shown) (id : ℕ) (bytes : List ℕ) (h : History)
-    → (with_written o (parts a h) id bytes).history ≡ h
-written_history None a id bytes h = refl
-written_history (Some s) a id bytes h = refl
+written_history : (o : Option StreamView) (a : Shown) (id : ℕ)
+    (named : Option PayloadProtocolIdentifier) (bytes : List ℕ) (h : History)
+    → (with_written o (parts a h) id named bytes).history ≡ h
+written_history None a id named bytes h = refl
+written_history (Some s) a id named bytes h = refl
 
-written_leads : (a : Shown) (id : ℕ) (bytes : List ℕ) (h : History) → Binds a h
-    → Leads (Act.Wrote id bytes ∷ []) a h (written a id bytes) h
-written_leads a id bytes h binds =
+written_leads : (a : Shown) (id : ℕ)
+    (named : Option PayloadProtocolIdentifier) (bytes : List ℕ) (h : History) → Binds a h
+    → Leads (Act.Wrote id named bytes ∷ []) a h (written a id named bytes) h
+written_leads a id named bytes h binds =
     let o = stream_at a.streams id in
-    let there = written_parts o a id bytes h in
+    let there = written_parts o a id named bytes h in
     record {
       can = (tt, tt);
       there = there;
       binds = record {
         first =
             ap (λ (p : Parts). p.queue.first_tsn) there
-            ∙ acts_tied (Act.Wrote id bytes ∷ []) (parts a h) (tt, tt) binds.first
-            ∙ ap (λ (k : History). tsn k.own k.base) (written_history o a id bytes h);
-        point = ap (λ (r : Receiver). r.peer_last_tsn) (written_receiver o a id bytes) ∙ binds.point;
+            ∙ acts_tied (Act.Wrote id named bytes ∷ []) (parts a h) (tt, tt) binds.first
+            ∙ ap (λ (k : History). tsn k.own k.base) (written_history o a id named bytes h);
+        point = ap (λ (r : Receiver). r.peer_last_tsn) (written_receiver o a id named bytes) ∙ binds.point;
         held =
-            subst (λ (r : Receiver). HoldsPast (came_on h (written a id bytes).streams) r.held)
-            (sym (written_receiver o a id bytes))
-            (same_held h h a.streams (written a id bytes).streams (past_itself h) binds.held);
+            subst (λ (r : Receiver). HoldsPast (came_on h (written a id named bytes).streams) r.held)
+            (sym (written_receiver o a id named bytes))
+            (same_held h h a.streams (written a id named bytes).streams (past_itself h) binds.held);
         marked =
             subst (λ (p : Parts). AreMarkedRight p.queue.in_flight) (sym there)
-            (act_marked (Act.Wrote id bytes) (parts a h) binds.marked);
+            (act_marked (Act.Wrote id named bytes) (parts a h) binds.marked);
       };
     }
 
-pub write_leads_on : (a b : Shown) (id : ℕ) (bytes : List ℕ) → b ≡ written a id bytes
-    → LeadsOn (Act.Wrote id bytes ∷ []) a b
-write_leads_on a b id bytes e h binds = rw e (h, written_leads a id bytes h binds)
+pub write_leads_on : (a b : Shown) (id : ℕ)
+    (named : Option PayloadProtocolIdentifier) (bytes : List ℕ) → b ≡ written a id named bytes
+    → LeadsOn (Act.Wrote id named bytes ∷ []) a b
+write_leads_on a b id named bytes e h binds = rw e (h, written_leads a id named bytes h binds)
+
+pub setting_leads_on : (a b : Shown) (id : ℕ) (setting : Setting) → b ≡ adjusted a id setting
+    → LeadsOn (Act.Adjusted id setting ∷ []) a b
+setting_leads_on a b id setting e h binds = (
+  h,
+  rw e (leads_by (Act.Adjusted id setting ∷ []) a (adjusted a id setting) h binds (tt, tt) refl refl (past_itself h)),
+)
+
+pub close_leads_on : (a b : Shown) → b ≡ closed_by a reasons.AssociationClosed → LeadsOn (acts_of_close a) a b
+close_leads_on a b e h binds =
+    (h, rw e (close_leads (is_closed_state a.state) a reasons.AssociationClosed h refl binds))
+
+-- a stream that is accepted changes nothing that the directions see
+accepted_leads : (ids : List ℕ) (a : Shown) (h : History) → Binds a h → Leads [] a h (accepted_from ids a).0 h
+accepted_leads [] a h binds = leads_nowhere a a h binds refl refl
+accepted_leads (id ∷ ids) a h binds = leads_nowhere a (accepted_from (id ∷ ids) a).0 h binds refl refl
 
 pub read_leads_on : (a b : Shown) (id : ℕ) (message : Option ReceivedMessage) → read_from_stream a id ≡ (b, message)
     → LeadsOn (Act.WasRead id ∷ []) a b

@@ -1,6 +1,7 @@
 pub mod ActsKeepOffsets
 pub mod CallsLeadOn
 pub mod DataCame
+mod FilledBuffers
 mod FreshHistory
 pub mod MarksOutstanding
 mod MemoryTaken

@@ -7,6 +7,7 @@ use Rattle.sctp_outbound_queue.specs.declared.message.InFlight.{InFlight}
 use Rattle.sctp_outbound_queue.specs.Waiting.{Waiting}
 use Rattle.sctp_outbound_queue.specs.Message.{acked, counted_again, is_outstanding, marked_again, sent_once}
 use Rattle.sctp_outbound_queue.specs.Outbound.{Outbound, changed_from, sent_from}
+use Rattle.sctp_wire_types.specs.declared.ids.PayloadProtocolIdentifier.{PayloadProtocolIdentifier}
 use Rattle.sctp_streams.specs.Stream.{StreamView}
 use Rattle.sctp_streams.specs.Streams.{stream_at}
 use Rattle.sctp_outbound.specs.GapAcks.{acked_among}
@@ -64,15 +65,16 @@ again_right None q index m = m
 again_right (Some p) q index m =
     set_right q.in_flight index (counted_again p) (λ e. absurd (false≢true e)) m
 
-written_right : (o : Option StreamView) (p : Parts) (id : ℕ) (bytes : List ℕ) → AreMarkedRight p.queue.in_flight
-    → AreMarkedRight (with_written o p id bytes).queue.in_flight
-written_right None p id bytes m = m
-written_right (Some s) p id bytes m = m
+written_right : (o : Option StreamView) (p : Parts) (id : ℕ) (named : Option PayloadProtocolIdentifier) (bytes : List ℕ)
+    → AreMarkedRight p.queue.in_flight → AreMarkedRight (with_written o p id named bytes).queue.in_flight
+written_right None p id named bytes m = m
+written_right (Some s) p id named bytes m = m
 
 pub act_marked : (x : Act) (p : Parts) → AreMarkedRight p.queue.in_flight → AreMarkedRight (done x p).queue.in_flight
 act_marked (Act.PeerKnown t) p m = m
 act_marked (Act.Opened id first kind) p m = m
-act_marked (Act.Wrote id bytes) p m = written_right (stream_at p.streams id) p id bytes m
+act_marked (Act.Wrote id named bytes) p m = written_right (stream_at p.streams id) p id named bytes m
+act_marked (Act.Adjusted id setting) p m = m
 act_marked (Act.Sent now) p m = sent_right p.queue.pending p.queue now m
 act_marked (Act.SentAgain index) p m = again_right (slice_get p.queue.in_flight index) p.queue index m
 act_marked Act.Marked p m = all_right p.queue.in_flight m

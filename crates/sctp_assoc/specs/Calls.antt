@@ -1,8 +1,9 @@
 -- What the calls of an application do to an association.
-use Rattle.std.specs.Prelude.{◌≡◌, ℕ, Bool, true, false, List, [], ◌∷◌, ◌++◌, ◌==◌, if◌then◌else◌, length, map}
+use Rattle.std.specs.Prelude.{◌≡◌, ℕ, Bool, true, false, List, [], ◌∷◌, ◌++◌, ◌&&◌, ◌==◌, if◌then◌else◌, length, not}
 use Rattle.std.specs.Prelude.{nat_lt, is_some, Option, Some, None, Result, Ok, Err}
 use Rattle.sctp_wire_types.specs.declared.error.Error.{Error}
 use Rattle.sctp_wire_types.specs.declared.error.Error.TheVariants as errors
+use Rattle.sctp_wire_types.specs.declared.event.StreamEvent.TheVariants.{BufferedAmountHigh}
 use Rattle.sctp_wire_types.specs.declared.ids.PayloadProtocolIdentifier.{PayloadProtocolIdentifier}
 use Rattle.sctp_parts.specs.declared.state.AssociationState.{AssociationState}
 use Rattle.sctp_parts.specs.declared.state.AssociationState.TheVariants as states
@@ -10,33 +11,25 @@ use Rattle.sctp_parts.specs.declared.timer.Timer.TheVariants as names
 use Rattle.sctp_parts.specs.State.{is_closing}
 use Rattle.sctp_parts.specs.Timers.{least_moment, after_expiry, expiry_of, with_moment, started}
 use Rattle.sctp_parts.specs.Stats.{one_more}
-use Rattle.sctp_streams.specs.declared.event.AssociationError.{AssociationError}
 use Rattle.sctp_streams.specs.declared.event.AssociationError.TheVariants as reasons
 use Rattle.sctp_streams.specs.declared.event.Event.{Event}
-use Rattle.sctp_streams.specs.declared.event.Event.TheVariants.{AssociationLost, DataChannelStatsFinal, HandshakeFailed}
+use Rattle.sctp_streams.specs.declared.event.Event.TheVariants.{HandshakeFailed}
+use Rattle.sctp_streams.specs.declared.event.Event.TheVariants as events
+use Rattle.sctp_streams.specs.declared.setting.Setting.{Setting}
 use Rattle.sctp_outbound_queue.specs.Outbound.{all_marked, with_message}
+use Rattle.sctp_outbound_queue.specs.Waiting.{Waiting}
 use Rattle.sctp_receive_queues.specs.Messages.{ReceivedMessage}
 use Rattle.sctp_receive_queues.specs.Reassembly.{ready}
-use Rattle.sctp_streams.specs.Stream.{StreamView, accepted_by}
-use Rattle.sctp_streams.specs.Streams.{stream_at, generation_left, changed_stream, made, read_in, last_stats}
-use Rattle.sctp_streams.specs.Streams.{without_streams}
+use Rattle.sctp_streams.specs.Stream.{StreamView, accepted_by, is_read_half_open, is_write_half_open, reaches_high_mark}
+use Rattle.sctp_streams.specs.Stream.{with_setting}
+use Rattle.sctp_streams.specs.Streams.{changed_stream, generation_left, made, read_in, stream_at}
 use Rattle.sctp_inbound.specs.Receiver.{acknowledged_at_once}
-use Rattle.sctp_directions.specs.Acts.{message_of}
-use Rattle.sctp_assoc.specs.Shown.{Shown, all_stopped}
+use Rattle.sctp_directions.specs.Acts.{message_of, type_on}
+use Rattle.sctp_assoc.specs.Shown.{Shown}
 
 -- a call with a Result is refused on a failed association before anything else
 abbrev pub usable : Shown → Result (Unit {0}) Error
 usable a = if a.failed then Err errors.ErrAssociationFailed else Ok tt
-
-abbrev pub is_closed_state : AssociationState → Bool
-is_closed_state states.Closed = true
-is_closed_state states.CookieWait = false
-is_closed_state states.CookieEchoed = false
-is_closed_state states.Established = false
-is_closed_state states.ShutdownAckSent = false
-is_closed_state states.ShutdownPending = false
-is_closed_state states.ShutdownReceived = false
-is_closed_state states.ShutdownSent = false
 
 abbrev pub is_established : AssociationState → Bool
 is_established states.Closed = false
@@ -78,22 +71,6 @@ is_cookie_echoed states.ShutdownAckSent = false
 is_cookie_echoed states.ShutdownPending = false
 is_cookie_echoed states.ShutdownReceived = false
 is_cookie_echoed states.ShutdownSent = false
-
-abbrev pub closed_open : Shown → AssociationError → Shown
-closed_open a reason = record a {
-  state = states.Closed;
-  lost = true;
-  timers = all_stopped a.timers;
-  streams = without_streams a.streams;
-  control = [];
-  events = a.events ++ map DataChannelStatsFinal (last_stats a.streams) ++ AssociationLost reason ∷ [];
-}
-
--- an open association was closed: no timer runs on, no packet waits to go out, each live stream gives its last
--- counters, and the loss is the last of the queued events (a fault of the handshake that nobody was told yet is told
--- behind them); a closed one stays as it is
-abbrev pub closed_by : Shown → AssociationError → Shown
-closed_by a reason = if is_closed_state a.state then a else closed_open a reason
 
 -- the retransmission timer expired: all that is in flight is to be sent again (RFC 4960 section 6.3.3)
 abbrev pub retransmits : Shown → ℕ → Shown
@@ -154,7 +131,7 @@ stream_refusal a id =
 -- why a read is refused
 abbrev pub read_refusal_at : Option StreamView → Option Error
 read_refusal_at None = Some errors.ErrStreamClosed
-read_refusal_at (Some s) = None
+read_refusal_at (Some s) = if is_read_half_open s.halves then None else Some errors.ErrStreamClosed
 
 abbrev pub read_refusal : Shown → ℕ → Option Error
 read_refusal a id =
@@ -172,39 +149,98 @@ ready_of (Some s) = ready s.reassembly
 abbrev pub ready_messages : Shown → ℕ → List ReceivedMessage
 ready_messages a id = ready_of (stream_at a.streams id)
 
-abbrev pub size_refusal : Shown → StreamView → ℕ → Option Error
-size_refusal a s size =
+abbrev pub size_refusal : Shown → ℕ → Option Error
+size_refusal a size =
     if size == 0 then Some errors.ErrEmptyMessage else
     if nat_lt a.max_send_message_size size then Some errors.ErrOutboundPacketTooLarge else None
 
 abbrev pub write_refusal_at : Shown → Option StreamView → ℕ → Option Error
 write_refusal_at a None size = Some errors.ErrStreamClosed
 write_refusal_at a (Some s) size =
-    if is_established a.state then size_refusal a s size else Some errors.ErrPayloadDataStateNotExist
+    if not (is_write_half_open s.halves) then Some errors.ErrStreamClosed else
+    if is_established a.state then size_refusal a size else Some errors.ErrPayloadDataStateNotExist
 
 -- why a write of this size is refused, want of memory aside
 abbrev pub write_refusal : Shown → ℕ → ℕ → Option Error
 write_refusal a id size =
     if a.failed then Some errors.ErrAssociationFailed else write_refusal_at a (stream_at a.streams id) size
 
-abbrev pub written_at : Option StreamView → Shown → ℕ → List ℕ → Shown
-written_at None a id bytes = a
-written_at (Some s) a id bytes = record a {
-  streams = changed_stream (λ t. accepted_by t s.default_payload_type (length bytes)) a.streams id;
-  sender = (let t = a.sender in record t { queue = with_message t.queue (message_of s t.max_payload_size id bytes) });
+-- a write that takes a stream's buffered amount from below its high mark to it or above is told
+abbrev pub high_told : StreamView → ℕ → ℕ → List Event
+high_told s id size = if reaches_high_mark s size then events.Stream (BufferedAmountHigh id) ∷ [] else []
+
+-- a message is queued, and it is told where a stream's buffered amount reaches its high mark
+abbrev pub with_queued : Shown → ℕ → Waiting → Bool → Shown
+with_queued a id message high = record a {
+  sender = (let t = a.sender in record t { queue = with_message t.queue message });
+  events = a.events ++ (if high then events.Stream (BufferedAmountHigh id) ∷ [] else []);
 }
 
--- a message was accepted on a live stream
-abbrev pub written : Shown → ℕ → List ℕ → Shown
-written a id bytes = written_at (stream_at a.streams id) a id bytes
+abbrev pub written_under : PayloadProtocolIdentifier → StreamView → Shown → ℕ → List ℕ → Shown
+written_under kind s a id bytes = record a {
+  streams = changed_stream (λ t. accepted_by t kind (length bytes)) a.streams id;
+  sender =
+      (let t = a.sender in record t { queue = with_message t.queue (message_of s kind t.max_payload_size id bytes) });
+  events = a.events ++ high_told s id (length bytes);
+}
 
-abbrev pub buffered_at : Option StreamView → Result ℕ Error
-buffered_at None = Err errors.ErrStreamClosed
-buffered_at (Some s) = Ok s.buffered
+abbrev pub written_at : Option StreamView → Shown → ℕ → Option PayloadProtocolIdentifier → List ℕ → Shown
+written_at None a id named bytes = a
+written_at (Some s) a id named bytes = written_under (type_on s named) s a id bytes
+
+-- a message was accepted on a live stream, under the payload type that is named, or else the stream's
+abbrev pub written : Shown → ℕ → Option PayloadProtocolIdentifier → List ℕ → Shown
+written a id named bytes = written_at (stream_at a.streams id) a id named bytes
+
+-- the first of some buffers that has bytes; no byte where none has
+abbrev pub first_filled : List (List ℕ) → List ℕ
+first_filled [] = []
+first_filled ([] ∷ buffers) = first_filled buffers
+first_filled ((b ∷ bytes) ∷ buffers) = b ∷ bytes
+
+-- the buffers with the first one that has bytes left empty
+abbrev pub without_first_filled : List (List ℕ) → List (List ℕ)
+without_first_filled [] = []
+without_first_filled ([] ∷ buffers) = [] ∷ without_first_filled buffers
+without_first_filled ((b ∷ bytes) ∷ buffers) = [] ∷ buffers
+
+-- why a stream is not set and not asked: it is gone
+abbrev pub gone_refusal : Shown → ℕ → Option Error
+gone_refusal a id =
+    if a.failed then Some errors.ErrAssociationFailed else
+    if is_some (stream_at a.streams id) then None else Some errors.ErrStreamClosed
+
+-- the application set this on a live stream
+abbrev pub adjusted : Shown → ℕ → Setting → Shown
+adjusted a id setting = record a { streams = changed_stream (λ s. with_setting s setting) a.streams id }
+
+abbrev pub value_at : {T : Type 0} → (StreamView → T) → Option StreamView → Result T Error
+value_at of None = Err errors.ErrStreamClosed
+value_at of (Some s) = Ok (of s)
+
+-- what a question about a live stream answers
+abbrev pub value_of : {T : Type 0} → (StreamView → T) → Shown → ℕ → Result T Error
+value_of of a id = if a.failed then Err errors.ErrAssociationFailed else value_at of (stream_at a.streams id)
 
 -- the bytes that a stream accepted and did not release
 abbrev pub buffered_of : Shown → ℕ → Result ℕ Error
-buffered_of a id = if a.failed then Err errors.ErrAssociationFailed else buffered_at (stream_at a.streams id)
+buffered_of a id = value_of (λ s. s.buffered) a id
+
+abbrev pub holds_at : (StreamView → Bool) → Option StreamView → Bool
+holds_at of None = false
+holds_at of (Some s) = of s
+
+-- this is so of a live stream; not where it is gone
+abbrev pub holds_of : (StreamView → Bool) → Shown → ℕ → Bool
+holds_of of a id = holds_at of (stream_at a.streams id)
+
+abbrev pub accepted_from : List ℕ → Shown → Shown × Option ℕ
+accepted_from [] a = (a, None)
+accepted_from (id ∷ ids) a = (record a { to_accept = ids }, Some id)
+
+-- the oldest stream that the peer opened and that was not accepted yet is accepted; a failed association has none
+abbrev pub accepted_stream : Shown → Shown × Option ℕ
+accepted_stream a = if a.failed then (a, None) else accepted_from a.to_accept a
 
 -- the moment at which the next timer expires
 abbrev pub deadline_of : Shown → Option ℕ
@@ -227,3 +263,7 @@ event_from (e ∷ es) a = (record a { events = es }, Some e)
 -- failed, once
 abbrev pub event_polled : Shown → Shown × Option Event
 event_polled a = event_from a.events a
+
+-- why a call that a failed association alone refuses is refused
+abbrev pub failed_refusal : Shown → Option Error
+failed_refusal a = if a.failed then Some errors.ErrAssociationFailed else None

@@ -29,7 +29,8 @@ use Rattle.sctp_outbound.specs.declared.sender.SackOutcome.TheVariants as outcom
 use Rattle.sctp_outbound.specs.Sender.{sack_outcome, tsns_up_to, with_window, acknowledged, t3_after_sack}
 use Rattle.sctp_assoc.specs.declared.inbound.Flow.{Flow}
 use Rattle.sctp_assoc.specs.declared.inbound.Flow.TheVariants as flows
-use Rattle.sctp_assoc.specs.Calls.{is_established, closed_by}
+use Rattle.sctp_assoc.specs.Calls.{is_established}
+use Rattle.sctp_assoc.specs.Closing.{closed_by}
 use Rattle.sctp_assoc.specs.Handshake.{on_cookie_ack, on_cookie_echo, on_heartbeat, on_init, on_init_ack}
 use Rattle.sctp_assoc.specs.Shown.{Shown}
 
@@ -41,6 +42,7 @@ counted_data a = record a { counts = (let c = a.counts in record c { datas = one
 abbrev pub with_new_stream : Shown → ℕ → Shown
 with_new_stream a id = record a {
   streams = made a.streams id a.sender.queue.next_message_id kinds.Unknown;
+  to_accept = a.to_accept ++ id ∷ [];
   events = a.events ++ events.Stream (Opened id) ∷ [];
 }
 

@@ -48,6 +48,7 @@ fresh_association config size remote_addr local_ip side state handshake peer_las
   receiver = fresh_receiver config.max_receive_buffer_size config.max_receive_message_size peer_last_tsn;
   sender = fresh_sender size handshake.my_initial_tsn window;
   streams = no_stream;
+  to_accept = [];
   events = [];
   handshake_fault = None;
   control = [];

@@ -30,7 +30,8 @@ use Rattle.sctp_assoc.specs.declared.inbound.Flow.{Flow}
 use Rattle.sctp_assoc.specs.declared.inbound.Flow.TheVariants as flows
 use Rattle.sctp_directions.specs.Acts.{Act, History, all_data_given}
 use Rattle.sctp_assoc.specs.Leads.{Binds, Leads, parts}
-use Rattle.sctp_assoc.specs.Calls.{is_beginning, is_closed_state, is_cookie_wait, is_established}
+use Rattle.sctp_assoc.specs.Calls.{is_beginning, is_cookie_wait, is_established}
+use Rattle.sctp_assoc.specs.Closing.{is_closed_state}
 use Rattle.sctp_assoc.specs.Chunks.{counted_data, on_chunk, stream_found}
 use Rattle.sctp_assoc.specs.Gather.{AckIsReadAgain, AreControlReadAgain, AreReadAgain, control_packets, data_packets}
 use Rattle.sctp_assoc.specs.Gather.{is_due, sack_packet}

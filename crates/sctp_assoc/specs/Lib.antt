@@ -1,6 +1,7 @@
 pub mod Leads
 pub mod Calls
 pub mod Chunks
+pub mod Closing
 pub mod Control
 pub mod Created
 pub mod Gather

@@ -1,20 +1,23 @@
 // The surface of an association.
 ghost use Rattle.std.specs.Prelude.{◌≡◌, ◌↔◌, ◌*◌, ◌∷◌, ◌⊎◌, ◌≤◌, [], true, false, not, IsNone, IfSome, OnOk, OnErr};
-ghost use Rattle.std.specs.Prelude.{IfOk, IsErrOf};
+ghost use Rattle.std.specs.Prelude.{Err, IfOk, IsErrOf, None, Some, false};
 ghost use Rattle.std.specs.Borrow.{sem};
 ghost use Rattle.std.specs.Duration.{as_nanos};
 ghost use Rattle.std.specs.Option.{option_copied};
 ghost use Rattle.sctp_parts.specs.State.{is_closing};
 ghost use Rattle.sctp_parts.specs.Timers.{least_moment};
-ghost use Rattle.sctp_assoc.specs.Calls.{Refuses, RefusesOrLacksMemory, open_refusal, stream_refusal, usable, opened};
-ghost use Rattle.sctp_assoc.specs.Calls.{is_closed_state, after_t3, after_ack_delay, event_from, event_polled};
+ghost use Rattle.sctp_assoc.specs.Calls.{Refuses, RefusesOrLacksMemory, accepted_stream};
+ghost use Rattle.sctp_assoc.specs.Calls.{failed_refusal, open_refusal, opened, stream_refusal, usable};
+ghost use Rattle.sctp_streams.specs.Streams.{live_ids};
+ghost use Rattle.sctp_assoc.specs.Calls.{after_t3, after_ack_delay, event_from, event_polled};
+ghost use Rattle.sctp_assoc.specs.Closing.{closed_by, is_closed_state};
 ghost use Rattle.sctp_assoc.specs.Chunks.{after_packet};
 ghost use Rattle.sctp_directions.specs.Acts.{Act, begun};
 ghost use Rattle.sctp_assoc.specs.Leads.{LeadsOn, Binds};
-ghost use Rattle.sctp_assoc.specs.Happened.{PollsOn, acts_of_packet, acts_of_poll, acts_of_timeouts};
+ghost use Rattle.sctp_assoc.specs.Happened.{PollsOn, acts_of_close, acts_of_packet, acts_of_poll, acts_of_timeouts};
 ghost use Rattle.sctp_assoc.specs.Inbound.{is_datagram, packet_of, transmit_of};
 ghost use Rattle.sctp_assoc.specs.Created.{create_refusal, created, fresh_association, join_refusal, joined};
-ghost use Rattle.sctp_assoc.specs.Stream.{rests_if_refused, lent, lender, id_of};
+ghost use Rattle.sctp_assoc.specs.Stream.{id_of, lender, lent, rests_if_none, rests_if_refused};
 ghost use Rattle.sctp_assoc.specs.Gather.{IsAddressed, has_something_to_give, packets_of, polled};
 ghost use Rattle.sctp_assoc.specs.Shown.{HasFailed, answers_of};
 ghost use Rattle.sctp_assoc.specs.Timeouts.{after_timeouts, handshake_goes_out_again};
@@ -30,10 +33,11 @@ use sctp_parts::state::AssociationState;
 use sctp_parts::stats::AssociationStats;
 use sctp_parts::timer::{Timer, TimerTable};
 use sctp_wire_queues::{
-    ChunkInit, Error, Event, Events, Instant, Payload, PayloadProtocolIdentifier, ServerConfig,
-    Side, StreamId, Streams, Transmit, TransportConfig,
+    AssociationError, ChunkInit, Error, Event, Events, Instant, Payload, PayloadProtocolIdentifier,
+    ServerConfig, Side, StreamId, Streams, Transmit, TransportConfig,
 };
 use std::alloc::{AllocError, Global};
+use std::collections::VecDeque;
 use std::marker::Model;
 use std::net::{IpAddr, SocketAddr};
 use std::time::Duration;
@@ -54,7 +58,7 @@ pub struct Association {
     pub(crate) remote_addr: SocketAddr,
     pub(crate) local_ip: Option<IpAddr>,
     pub(crate) state: AssociationState,
-    /// A fault closed the association while its state was any but Closed.
+    /// A fault or its application closed the association while its state was any but Closed.
     pub(crate) lost: bool,
     /// An earlier call found no memory in its middle.
     pub(crate) failed: bool,
@@ -63,6 +67,8 @@ pub struct Association {
     pub(crate) receiver: Receiver,
     pub(crate) sender: Sender,
     pub(crate) streams: Streams,
+    /// The streams that the peer opened and that were not accepted yet, oldest first.
+    pub(crate) to_accept: VecDeque<StreamId>,
     pub(crate) events: Events,
     /// Why the handshake failed, until that is told.
     pub(crate) handshake_fault: Option<Error>,
@@ -90,6 +96,7 @@ impl Model for Association {
       receiver = a.receiver;
       sender = a.sender;
       streams = a.streams;
+      to_accept = a.to_accept.items;
       events = a.events;
       handshake_fault = a.handshake_fault;
       control = a.control.items;
@@ -243,6 +250,7 @@ impl Association {
             ),
             sender: Sender::new(alloc, max_payload_size, initial_tsn, window),
             streams: Streams::new(alloc),
+            to_accept: VecDeque::new(alloc),
             events: Events::new(alloc),
             handshake_fault: None,
             control: Vec::new(alloc),
@@ -496,6 +504,52 @@ impl Association {
         Ok(Stream::new(self, id))
     }
 
+    /// Lends the oldest stream that the peer opened and that was not accepted yet, each once; None where there is none,
+    /// or the association failed. Such a stream may have ended since: where no stream of its identifier is live, its
+    /// calls answer `ErrStreamClosed`.
+    pub fn accept_stream(&mut self) -> Option<Stream<'_>>
+        ensures* lends { sem 𝓛 (rests_if_none self.entry result) }
+        ensures none { IsNone result → (accepted_stream self.old).1 ≡ None }
+        ensures some { IfSome result (λ s. accepted_stream self.old ≡ (lent s, Some (id_of s))) }
+        ensures acts { IfSome result (λ s. LeadsOn [] self.old (lent s)) }
+        ensures same { IfSome result (λ s. lender s ≡ self.entry.ghost_name) }
+    {
+        if self.failed {
+            return None;
+        }
+        let id = self.to_accept.pop_front()?;
+        Some(Stream::new(self, id))
+    }
+
+    /// The identifiers of the live streams, ascending.
+    ///
+    /// Refused, in this order with nothing changed: `ErrAssociationFailed`, `ErrNoMemory`.
+    pub fn stream_ids(&self) -> Result<Vec<StreamId>, Error>
+        ensures refused { RefusesOrLacksMemory result (failed_refusal self.now) }
+        ensures ids { IfOk result (λ ids. ids.items ≡ live_ids self.now.streams) }
+    {
+        self.check_usable()?;
+        Ok(self.streams.ids(self.alloc)?)
+    }
+
+    /// Closes the association at once, in any state but Closed; nothing is told to the peer. All timers stop, no packet
+    /// waits any more, each live stream ends with its last counters, and `Event::AssociationLost` tells it. In Closed
+    /// nothing changes.
+    ///
+    /// Refused: `ErrAssociationFailed`, with nothing changed; `ErrNoMemory`, which leaves the association failed.
+    #[tactic(auto, using(crate::proofs::CallsLeadOn::close_leads_on))]
+    pub fn close(&mut self) -> Result<(), Error>
+        ensures refused { RefusesOrLacksMemory result (failed_refusal self.old) }
+        ensures unchanged { (result ≡ Err Error.ErrAssociationFailed) → self.new ≡ self.old }
+        ensures memory { (result ≡ Err Error.ErrNoMemory) → HasFailed (answers_of self.old) self.new }
+        ensures ok { OnOk result (self.new ≡ closed_by self.old AssociationError.AssociationClosed) }
+        ensures grows { (result ≡ Err Error.ErrNoMemory) → is_closed_state self.old.state ≡ false }
+        ensures acts { OnOk result (LeadsOn (acts_of_close self.old) self.old self.new) }
+    {
+        self.check_usable()?;
+        self.close_or_fail(AssociationError::AssociationClosed)
+    }
+
     /// Whether the association was not established yet. Once it was, this stays false, also after a loss.
     pub fn is_handshaking(&self) -> bool
         ensures { result ≡ not self.now.handshake.completed }
@@ -518,8 +572,8 @@ impl Association {
         self.state.is_closing()
     }
 
-    /// Whether the association was lost: a fault closed it. Nothing is left to do for it then but to ask for its
-    /// events.
+    /// Whether the association was lost: a fault closed it, or `close`. Nothing is left to do for it then but to ask for
+    /// its events.
     pub fn is_drained(&self) -> bool
         ensures { result ≡ self.now.lost }
     {

@@ -1,14 +1,14 @@
 // What an association does to itself: it closes, or it fails for want of memory.
-ghost use Rattle.std.specs.Prelude.{◌≡◌, ◌++◌, false, map, OnErr, OnOk};
+ghost use Rattle.std.specs.Prelude.{◌≡◌, ◌++◌, false, map, IfErr, OnErr, OnOk};
 ghost use Rattle.sctp_streams.specs.Streams.{without_streams, last_stats};
 ghost use Rattle.sctp_streams.specs.declared.event.Event.TheVariants.{DataChannelStatsFinal};
-ghost use Rattle.sctp_assoc.specs.Calls.{closed_by, is_closed_state};
+ghost use Rattle.sctp_assoc.specs.Closing.{closed_by, is_closed_state};
 ghost use Rattle.sctp_assoc.specs.Shown.{HasFailed, all_stopped, answers_of};
 
 use crate::Association;
 use sctp_parts::state::AssociationState;
 use sctp_parts::timer::{Timer, TimerTable};
-use sctp_wire_queues::{AssociationError, Event, Events, Streams};
+use sctp_wire_queues::{AssociationError, Error, Event, Events, Streams};
 use std::alloc::AllocError;
 
 /// What the questions about the state answered before a call.
@@ -36,6 +36,21 @@ impl Association {
         self.control.clear();
         end_streams(&mut self.streams, &mut self.events)?;
         self.events.push(Event::AssociationLost { reason })
+    }
+
+    // Closes it by this reason. Where memory is refused it fails, and the questions about its state answer what they
+    // answered before.
+    pub(crate) fn close_or_fail(&mut self, reason: AssociationError) -> Result<(), Error>
+        ensures ok { OnOk result (self.new ≡ closed_by self.old reason) }
+        ensures err { IfErr result (λ e. (e ≡ Error.ErrNoMemory) × (is_closed_state self.old.state ≡ false)
+            × HasFailed (answers_of self.old) self.new) }
+    {
+        let before = self.answers();
+        if self.close_with(reason).is_err() {
+            self.fail(before);
+            return Err(Error::ErrNoMemory);
+        }
+        Ok(())
     }
 
     // Marks the association failed: no timer runs on, and the questions about its state go on to answer as before.

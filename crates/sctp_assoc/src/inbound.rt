@@ -159,7 +159,7 @@ impl Association {
         Ok(Flow::Next(self.receiver.ask(trigger, immediate)))
     }
 
-    // Makes the stream where it is missing; false where no generation is left for it.
+    // Makes the stream where it is missing, for the application to accept; false where no generation is left for it.
     #[tactic(auto, unfolding(crate::specs::Chunks::stream_found))]
     fn has_stream(&mut self, id: u16) -> Result<bool, AllocError>
         ensures exact { IfOk result (λ found. stream_found self.old id ≡ (self.new, found)) }
@@ -178,6 +178,7 @@ impl Association {
             Err(Error::ErrStreamCreateFailed) => return Ok(false),
             Err(_) => return Err(AllocError),
         }
+        self.to_accept.push_back(id)?;
         self.events.push(Event::Stream(StreamEvent::Opened { id }))?;
         Ok(true)
     }

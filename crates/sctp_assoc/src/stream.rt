@@ -1,16 +1,25 @@
 // The calls of one stream.
-ghost use Rattle.std.specs.Prelude.{◌≡◌, ◌↔◌, ◌∷◌, [], drop, length, slice_get, IsNone, OnOk, OnErr, IfOk};
+ghost use Rattle.std.specs.Prelude.{◌≡◌, ◌↔◌, ◌∷◌, [], drop, length, slice_get, IsNone, IfOk, IfSome, OnErr, OnOk};
+ghost use Rattle.std.specs.Prelude.{◌==◌, None, Some, not, position, set, true};
+ghost use Rattle.sctp_streams.specs.declared.setting.Setting.TheVariants as settings;
+ghost use Rattle.sctp_streams.specs.Stream.{is_read_half_open, is_write_half_open, params_of};
 ghost use Rattle.sctp_directions.specs.Acts.{Act};
 ghost use Rattle.sctp_assoc.specs.Leads.{LeadsOn};
 ghost use Rattle.sctp_assoc.specs.Stream.{lent, lender, id_of};
-ghost use Rattle.sctp_assoc.specs.Calls.{Refuses, RefusesOrLacksMemory, write_refusal, written, read_refusal};
-ghost use Rattle.sctp_assoc.specs.Calls.{read_from_stream, ready_messages, buffered_of};
+ghost use Rattle.sctp_assoc.specs.Calls.{Refuses, RefusesOrLacksMemory, adjusted, buffered_of, first_filled};
+ghost use Rattle.sctp_assoc.specs.Calls.{gone_refusal, holds_of, read_from_stream, read_refusal, ready_messages};
+ghost use Rattle.sctp_assoc.specs.Calls.{value_of, without_first_filled};
+ghost use Rattle.sctp_assoc.specs.Calls.{write_refusal, written};
 
 use crate::Association;
-use sctp_wire_queues::{Chunks, Error, StreamId};
+use bytes::Bytes;
+use sctp_wire_queues::{
+    Chunks, DataChannelStats, Error, PayloadProtocolIdentifier, ReliabilityParams, ReliabilityType,
+    Setting, StreamId,
+};
 
-/// A live stream, lent by its association for the calls of one stream. The association can be called again once the
-/// loan is over.
+/// A stream, lent by its association for the calls of one stream. The association can be called again once the loan is
+/// over. Where the stream is gone, as after a loss, its calls are refused as `ErrStreamClosed`.
 #[derive(Drop)]
 pub struct Stream<'a> {
     association: &'a mut Association,
@@ -28,9 +37,30 @@ impl<'a> Stream<'a> {
 
     /// Takes out the next message, whole; None where none is ready. After `StreamEvent::Readable` read until it
     /// answers None; a later Readable may then find nothing. What was read no longer takes room in the receive
-    /// buffer, which the next SACK says to the peer. Refused, with nothing changed: `ErrAssociationFailed`,
-    /// `ErrStreamClosed`.
+    /// buffer, which the next SACK says to the peer.
+    ///
+    /// Refused, in this order with nothing changed: `ErrAssociationFailed`, `ErrStreamClosed` where the stream is gone
+    /// or its read half is closed (no call closes that so far).
     pub fn read(&mut self) -> Result<Option<Chunks>, Error>
+        ensures same { lender self.new ≡ lender self.old }
+        ensures id { id_of self.new ≡ id_of self.old }
+        ensures refused { Refuses result (read_refusal (lent self.old) (id_of self.old)) }
+        ensures err { OnErr result (lent self.new ≡ lent self.old) }
+        ensures ok { IfOk result
+            (λ message. read_from_stream (lent self.old) (id_of self.old) ≡ (lent self.new, message)) }
+        ensures first { IfOk result
+            (λ message. message ≡ slice_get (ready_messages (lent self.old) (id_of self.old)) 0) }
+        ensures others { OnOk result (ready_messages (lent self.new) (id_of self.old)
+            ≡ drop 1 (ready_messages (lent self.old) (id_of self.old))) }
+        ensures none { IfOk result
+            (λ message. IsNone message ↔ (ready_messages (lent self.old) (id_of self.old) ≡ [])) }
+        ensures acts { OnOk result (LeadsOn (Act.WasRead (id_of self.old) ∷ []) (lent self.old) (lent self.new)) }
+    {
+        self.association.read_stream(self.id)
+    }
+
+    /// The same as `read`, under the name of the ported crate.
+    pub fn read_sctp(&mut self) -> Result<Option<Chunks>, Error>
         ensures same { lender self.new ≡ lender self.old }
         ensures id { id_of self.new ≡ id_of self.old }
         ensures refused { Refuses result (read_refusal (lent self.old) (id_of self.old)) }
@@ -51,9 +81,9 @@ impl<'a> Stream<'a> {
     /// Accepts one message under the stream's payload type and answers its length, in bytes. The bytes are copied;
     /// they go out with `poll_transmit`, as the windows allow, in pieces of the payload size.
     ///
-    /// Refused, in this order with nothing changed: `ErrAssociationFailed`; `ErrStreamClosed`;
-    /// `ErrPayloadDataStateNotExist` outside Established; `ErrEmptyMessage`; `ErrOutboundPacketTooLarge` for a
-    /// message that is longer than `max_send_message_size`; `ErrNoMemory`.
+    /// Refused, in this order with nothing changed: `ErrAssociationFailed`; `ErrStreamClosed` where the stream is gone
+    /// or its write half is closed; `ErrPayloadDataStateNotExist` outside Established; `ErrEmptyMessage`;
+    /// `ErrOutboundPacketTooLarge` for a message that is longer than `max_send_message_size`; `ErrNoMemory`.
     pub fn write(&mut self, bytes: &[u8]) -> Result<usize, Error>
         ensures same { lender self.new ≡ lender self.old }
         ensures id { id_of self.new ≡ id_of self.old }
@@ -61,11 +91,142 @@ impl<'a> Stream<'a> {
             (write_refusal (lent self.old) (id_of self.old) (length bytes.now)) }
         ensures err { OnErr result (lent self.new ≡ lent self.old) }
         ensures ok { IfOk result (λ n. n ≡ length bytes.now) }
-        ensures accepted { OnOk result (lent self.new ≡ written (lent self.old) (id_of self.old) bytes.now) }
-        ensures acts { OnOk result
-            (LeadsOn (Act.Wrote (id_of self.old) bytes.now ∷ []) (lent self.old) (lent self.new)) }
+        ensures accepted { OnOk result
+            (lent self.new ≡ written (lent self.old) (id_of self.old) None bytes.now) }
+        ensures acts { OnOk result (LeadsOn
+            (Act.Wrote (id_of self.old) None bytes.now ∷ []) (lent self.old) (lent self.new)) }
     {
-        self.association.write_stream(self.id, bytes)
+        self.association.write_stream(self.id, None, bytes)
+    }
+
+    /// The same under this payload type. A message of the type `Dcep` is ordered and reliable whatever the stream says
+    /// (RFC 8832 section 6).
+    pub fn write_with_ppi(
+        &mut self,
+        bytes: &[u8],
+        ppi: PayloadProtocolIdentifier,
+    ) -> Result<usize, Error>
+        ensures same { lender self.new ≡ lender self.old }
+        ensures id { id_of self.new ≡ id_of self.old }
+        ensures refused { RefusesOrLacksMemory result
+            (write_refusal (lent self.old) (id_of self.old) (length bytes.now)) }
+        ensures err { OnErr result (lent self.new ≡ lent self.old) }
+        ensures ok { IfOk result (λ n. n ≡ length bytes.now) }
+        ensures accepted { OnOk result
+            (lent self.new ≡ written (lent self.old) (id_of self.old) (Some ppi) bytes.now) }
+        ensures acts { OnOk result (LeadsOn
+            (Act.Wrote (id_of self.old) (Some ppi) bytes.now ∷ []) (lent self.old) (lent self.new)) }
+    {
+        self.association.write_stream(self.id, Some(ppi), bytes)
+    }
+
+    /// The same as `write_with_ppi`, but the bytes are shared and not copied.
+    pub fn write_sctp(
+        &mut self,
+        bytes: &Bytes,
+        ppi: PayloadProtocolIdentifier,
+    ) -> Result<usize, Error>
+        ensures same { lender self.new ≡ lender self.old }
+        ensures id { id_of self.new ≡ id_of self.old }
+        ensures refused { RefusesOrLacksMemory result
+            (write_refusal (lent self.old) (id_of self.old) (length bytes.now)) }
+        ensures err { OnErr result (lent self.new ≡ lent self.old) }
+        ensures ok { IfOk result (λ n. n ≡ length bytes.now) }
+        ensures accepted { OnOk result
+            (lent self.new ≡ written (lent self.old) (id_of self.old) (Some ppi) bytes.now) }
+        ensures acts { OnOk result (LeadsOn
+            (Act.Wrote (id_of self.old) (Some ppi) bytes.now ∷ []) (lent self.old) (lent self.new)) }
+    {
+        self.association.write_shared(self.id, Some(ppi), bytes)
+    }
+
+    /// The same as `write`, but the bytes are shared and not copied.
+    pub fn write_chunk(&mut self, bytes: &Bytes) -> Result<usize, Error>
+        ensures same { lender self.new ≡ lender self.old }
+        ensures id { id_of self.new ≡ id_of self.old }
+        ensures refused { RefusesOrLacksMemory result
+            (write_refusal (lent self.old) (id_of self.old) (length bytes.now)) }
+        ensures err { OnErr result (lent self.new ≡ lent self.old) }
+        ensures ok { IfOk result (λ n. n ≡ length bytes.now) }
+        ensures accepted { OnOk result
+            (lent self.new ≡ written (lent self.old) (id_of self.old) None bytes.now) }
+        ensures acts { OnOk result (LeadsOn
+            (Act.Wrote (id_of self.old) None bytes.now ∷ []) (lent self.old) (lent self.new)) }
+    {
+        self.association.write_shared(self.id, None, bytes)
+    }
+
+    /// Accepts the first of the buffers that has bytes as one message, as `write_chunk` does, and leaves it empty; the
+    /// others are for the calls that follow. Refused as `write` is, with the buffers as they were; where none has
+    /// bytes, as `ErrEmptyMessage` is.
+    pub fn write_chunks(&mut self, buffers: &mut [Bytes]) -> Result<usize, Error>
+        ensures same { lender self.new ≡ lender self.old }
+        ensures id { id_of self.new ≡ id_of self.old }
+        ensures refused { RefusesOrLacksMemory result
+            (write_refusal (lent self.old) (id_of self.old) (length (first_filled buffers.old))) }
+        ensures err { OnErr result (lent self.new ≡ lent self.old) }
+        ensures ok { IfOk result (λ n. n ≡ length (first_filled buffers.old)) }
+        ensures accepted { OnOk result
+            (lent self.new ≡ written (lent self.old) (id_of self.old) None (first_filled buffers.old)) }
+        ensures acts { OnOk result (LeadsOn
+            (Act.Wrote (id_of self.old) None (first_filled buffers.old) ∷ []) (lent self.old) (lent self.new)) }
+        ensures left { OnOk result (buffers.new ≡ without_first_filled buffers.old) }
+        ensures kept { OnErr result (buffers.new ≡ buffers.old) }
+    {
+        let Some(index) = first_filled(buffers) else {
+            return self.association.write_shared(self.id, None, &Bytes::new());
+        };
+        let count = self
+            .association
+            .write_shared(self.id, None, &buffers[index])?;
+        buffers[index] = Bytes::new();
+        Ok(count)
+    }
+
+    /// Closes the write half: from then on a write is refused as `ErrStreamClosed`. What was accepted goes out all the
+    /// same, and the peer isn't told. Nothing changes where it is closed already.
+    ///
+    /// Refused, in this order with nothing changed: `ErrAssociationFailed`, `ErrStreamClosed`.
+    pub fn finish(&mut self) -> Result<(), Error>
+        ensures same { lender self.new ≡ lender self.old }
+        ensures id { id_of self.new ≡ id_of self.old }
+        ensures refused { Refuses result (gone_refusal (lent self.old) (id_of self.old)) }
+        ensures err { OnErr result (lent self.new ≡ lent self.old) }
+        ensures ok { OnOk result
+            (lent self.new ≡ adjusted (lent self.old) (id_of self.old) settings.WriteHalfClosed) }
+        ensures acts { OnOk result (LeadsOn
+            (Act.Adjusted (id_of self.old) settings.WriteHalfClosed ∷ []) (lent self.old) (lent self.new)) }
+    {
+        self.association
+            .set_stream(self.id, Setting::WriteHalfClosed)
+    }
+
+    /// Sets how messages are sent that are written from now on: in order or not, and how long each is tried (RFC 3758
+    /// sections 3.5 and 4.1). `value` is the greatest number of retransmissions for `Rexmit` and the lifetime in ms for
+    /// `Timed`; for `Reliable` it says nothing. So far the kind and its value are kept with each message, and no
+    /// message is given up. Messages of the payload type `Dcep` are ordered and reliable whatever is set.
+    ///
+    /// Refused, in this order with nothing changed: `ErrAssociationFailed`, `ErrStreamClosed`.
+    pub fn set_reliability_params(
+        &mut self,
+        unordered: bool,
+        reliability_type: ReliabilityType,
+        value: u32,
+    ) -> Result<(), Error>
+        ensures same { lender self.new ≡ lender self.old }
+        ensures id { id_of self.new ≡ id_of self.old }
+        ensures refused { Refuses result (gone_refusal (lent self.old) (id_of self.old)) }
+        ensures err { OnErr result (lent self.new ≡ lent self.old) }
+        ensures ok { OnOk result
+            (lent self.new ≡ adjusted (lent self.old) (id_of self.old)
+            (settings.Reliability (params_of unordered reliability_type value))) }
+        ensures acts { OnOk result (LeadsOn
+            (Act.Adjusted (id_of self.old) (settings.Reliability (params_of unordered reliability_type value)) ∷ [])
+            (lent self.old) (lent self.new)) }
+    {
+        let params = ReliabilityParams::of(unordered, reliability_type, value);
+        self.association
+            .set_stream(self.id, Setting::Reliability(params))
     }
 
     /// Bytes that were accepted on this generation of the stream and are not released. A SACK releases those of the
@@ -74,7 +235,29 @@ impl<'a> Stream<'a> {
     pub fn buffered_amount(&self) -> Result<usize, Error>
         ensures { result ≡ buffered_of (lent self.now) (id_of self.now) }
     {
-        self.association.buffered_of_stream(self.id)
+        let stream = self.association.live_stream(self.id)?;
+        Ok(stream.buffered_amount() as usize)
+    }
+
+    /// What this generation of the stream counted so far. Refused: `ErrAssociationFailed`, `ErrStreamClosed`.
+    pub fn stats(&self) -> Result<DataChannelStats, Error>
+        ensures { result ≡ value_of (λ s. s.stats) (lent self.now) (id_of self.now) }
+    {
+        Ok(self.association.live_stream(self.id)?.stats())
+    }
+
+    /// Whether the read half is open; false where the stream is gone.
+    pub fn is_readable(&self) -> bool
+        ensures { result ≡ holds_of (λ s. is_read_half_open s.halves) (lent self.now) (id_of self.now) }
+    {
+        self.association.is_stream_readable(self.id)
+    }
+
+    /// Whether the write half is open; false where the stream is gone. The state of the association is not asked.
+    pub fn is_writable(&self) -> bool
+        ensures { result ≡ holds_of (λ s. is_write_half_open s.halves) (lent self.now) (id_of self.now) }
+    {
+        self.association.is_stream_writable(self.id)
     }
 
     /// The stream's identifier.
@@ -83,4 +266,95 @@ impl<'a> Stream<'a> {
     {
         self.id
     }
+
+    /// The payload type of `write`, `write_chunk` and `write_chunks`: at first that of `open_stream`, and `Unknown`,
+    /// which is sent as 0, on a stream that the peer opened. Refused: `ErrAssociationFailed`, `ErrStreamClosed`.
+    pub fn get_default_payload_type(&self) -> Result<PayloadProtocolIdentifier, Error>
+        ensures { result ≡ value_of (λ s. s.default_payload_type) (lent self.now) (id_of self.now) }
+    {
+        let stream = self.association.live_stream(self.id)?;
+        Ok(stream.default_payload_type())
+    }
+
+    /// Sets it. Refused, in this order with nothing changed: `ErrAssociationFailed`, `ErrStreamClosed`.
+    pub fn set_default_payload_type(
+        &mut self,
+        default_payload_type: PayloadProtocolIdentifier,
+    ) -> Result<(), Error>
+        ensures same { lender self.new ≡ lender self.old }
+        ensures id { id_of self.new ≡ id_of self.old }
+        ensures refused { Refuses result (gone_refusal (lent self.old) (id_of self.old)) }
+        ensures err { OnErr result (lent self.new ≡ lent self.old) }
+        ensures ok { OnOk result
+            (lent self.new ≡ adjusted (lent self.old) (id_of self.old)
+            (settings.DefaultPayloadType default_payload_type)) }
+        ensures acts { OnOk result (LeadsOn
+            (Act.Adjusted (id_of self.old) (settings.DefaultPayloadType default_payload_type) ∷ [])
+            (lent self.old) (lent self.new)) }
+    {
+        self.association
+            .set_stream(self.id, Setting::DefaultPayloadType(default_payload_type))
+    }
+
+    /// In bytes, at first 0: a release that takes the buffered amount from above it to it or below is to be told as
+    /// `StreamEvent::BufferedAmountLow`; so far none is. Refused: `ErrAssociationFailed`, `ErrStreamClosed`.
+    pub fn buffered_amount_low_threshold(&self) -> Result<usize, Error>
+        ensures { result ≡ value_of (λ s. s.low_mark) (lent self.now) (id_of self.now) }
+    {
+        Ok(self.association.live_stream(self.id)?.low_mark() as usize)
+    }
+
+    /// Sets it, in bytes. Refused, in this order with nothing changed: `ErrAssociationFailed`, `ErrStreamClosed`.
+    pub fn set_buffered_amount_low_threshold(&mut self, th: usize) -> Result<(), Error>
+        ensures same { lender self.new ≡ lender self.old }
+        ensures id { id_of self.new ≡ id_of self.old }
+        ensures refused { Refuses result (gone_refusal (lent self.old) (id_of self.old)) }
+        ensures err { OnErr result (lent self.new ≡ lent self.old) }
+        ensures ok { OnOk result
+            (lent self.new ≡ adjusted (lent self.old) (id_of self.old) (settings.LowMark th)) }
+        ensures acts { OnOk result (LeadsOn
+            (Act.Adjusted (id_of self.old) (settings.LowMark th) ∷ []) (lent self.old) (lent self.new)) }
+    {
+        self.association
+            .set_stream(self.id, Setting::LowMark(th as u64))
+    }
+
+    /// In bytes, at first the greatest usize: a write that takes the buffered amount from below it to it or above is
+    /// told as `StreamEvent::BufferedAmountHigh`. Refused: `ErrAssociationFailed`, `ErrStreamClosed`.
+    pub fn buffered_amount_high_threshold(&self) -> Result<usize, Error>
+        ensures { result ≡ value_of (λ s. s.high_mark) (lent self.now) (id_of self.now) }
+    {
+        Ok(self.association.live_stream(self.id)?.high_mark() as usize)
+    }
+
+    /// Sets it, in bytes. Refused, in this order with nothing changed: `ErrAssociationFailed`, `ErrStreamClosed`.
+    pub fn set_buffered_amount_high_threshold(&mut self, th: usize) -> Result<(), Error>
+        ensures same { lender self.new ≡ lender self.old }
+        ensures id { id_of self.new ≡ id_of self.old }
+        ensures refused { Refuses result (gone_refusal (lent self.old) (id_of self.old)) }
+        ensures err { OnErr result (lent self.new ≡ lent self.old) }
+        ensures ok { OnOk result
+            (lent self.new ≡ adjusted (lent self.old) (id_of self.old) (settings.HighMark th)) }
+        ensures acts { OnOk result (LeadsOn
+            (Act.Adjusted (id_of self.old) (settings.HighMark th) ∷ []) (lent self.old) (lent self.new)) }
+    {
+        self.association
+            .set_stream(self.id, Setting::HighMark(th as u64))
+    }
+}
+
+// Where the first of the buffers is that has bytes: these are what `first_filled` of the contracts gives.
+fn first_filled(buffers: &[Bytes]) -> Option<usize>
+    ensures some { IfSome result (λ k. slice_get buffers.now k ≡ Some (first_filled buffers.now)) }
+    ensures emptied { IfSome result (λ k. set buffers.now k [] ≡ without_first_filled buffers.now) }
+    ensures none { IsNone result → first_filled buffers.now ≡ [] }
+{
+    first_with_bytes(buffers)
+}
+
+// The same place, as `position` has it.
+fn first_with_bytes(buffers: &[Bytes]) -> Option<usize>
+    ensures { result ≡ position (λ bytes. not (length bytes == 0)) buffers.now }
+{
+    buffers.iter().position(|buffer| !buffer.is_empty())
 }

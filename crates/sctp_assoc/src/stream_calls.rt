@@ -1,14 +1,22 @@
 // What an association does for the calls of its streams.
-ghost use Rattle.std.specs.Prelude.{◌≡◌, ◌↔◌, ◌∷◌, [], drop, length, slice_get, IsNone, OnOk, OnErr, IfOk};
+ghost use Rattle.std.specs.Prelude.{◌≡◌, ◌↔◌, ◌∷◌, [], drop, length, slice_get, IsNone, IfOk, OnErr, OnOk, true};
+ghost use Rattle.std.specs.Prelude.{Some};
+ghost use Rattle.sctp_streams.specs.Stream.{is_read_half_open, is_write_half_open};
+ghost use Rattle.sctp_streams.specs.Streams.{stream_at};
 ghost use Rattle.sctp_directions.specs.Acts.{Act};
 ghost use Rattle.sctp_assoc.specs.Leads.{LeadsOn};
-ghost use Rattle.sctp_assoc.specs.Calls.{Refuses, RefusesOrLacksMemory, write_refusal, written, read_refusal};
-ghost use Rattle.sctp_assoc.specs.Calls.{read_from_stream, ready_messages, buffered_of};
+ghost use Rattle.sctp_assoc.specs.Calls.{Refuses, RefusesOrLacksMemory, adjusted, gone_refusal, holds_of};
+ghost use Rattle.sctp_assoc.specs.Calls.{read_from_stream};
+ghost use Rattle.sctp_assoc.specs.Calls.{read_refusal, ready_messages};
+ghost use Rattle.sctp_assoc.specs.Calls.{with_queued, write_refusal, written};
 
 use crate::Association;
 use bytes::Bytes;
 use sctp_parts::state::AssociationState;
-use sctp_wire_queues::{Attributes, Chunks, Error, PendingMessage, StreamId, cut};
+use sctp_wire_queues::{
+    Attributes, Chunks, Error, Event, PayloadProtocolIdentifier, PendingMessage, Setting,
+    StreamEvent, StreamId, StreamState, cut,
+};
 use std::alloc::AllocError;
 
 impl Association {
@@ -22,23 +30,57 @@ impl Association {
         ensures none { IfOk result (λ message. IsNone message ↔ (ready_messages self.old id ≡ [])) }
         ensures acts { OnOk result (LeadsOn (Act.WasRead id ∷ []) self.old self.new) }
     {
-        self.check_usable()?;
-        if !self.streams.contains(id) {
-            return Err(Error::ErrStreamClosed);
-        }
+        self.check_read(id)?;
         Ok(self.streams.read(id))
     }
 
+    // Refuses a read for any reason but memory.
+    fn check_read(&self, id: StreamId) -> Result<(), Error>
+        ensures { Refuses result (read_refusal self.now id) }
+    {
+        self.check_usable()?;
+        match self.streams.get(id) {
+            Some(stream) if stream.is_read_half_open() => Ok(()),
+            _ => Err(Error::ErrStreamClosed),
+        }
+    }
+
+    // Writes a copy of the bytes, under this payload type or else the stream's.
     #[tactic(auto, using(crate::proofs::CallsLeadOn::write_leads_on))]
-    pub(crate) fn write_stream(&mut self, id: StreamId, bytes: &[u8]) -> Result<usize, Error>
+    pub(crate) fn write_stream(
+        &mut self,
+        id: StreamId,
+        payload_type: Option<PayloadProtocolIdentifier>,
+        bytes: &[u8],
+    ) -> Result<usize, Error>
         ensures refused { RefusesOrLacksMemory result (write_refusal self.old id (length bytes.now)) }
         ensures err { OnErr result (self.new ≡ self.old) }
         ensures ok { IfOk result (λ n. n ≡ length bytes.now) }
-        ensures accepted { OnOk result (self.new ≡ written self.old id bytes.now) }
-        ensures acts { OnOk result (LeadsOn (Act.Wrote id bytes.now ∷ []) self.old self.new) }
+        ensures accepted { OnOk result (self.new ≡ written self.old id payload_type bytes.now) }
+        ensures acts { OnOk result (LeadsOn (Act.Wrote id payload_type bytes.now ∷ []) self.old self.new) }
     {
         self.check_write(id, bytes.len())?;
-        self.accept(id, bytes)?;
+        let copy = Bytes::copy_from_slice(self.alloc, bytes)?;
+        self.accept(id, payload_type, copy)?;
+        Ok(bytes.len())
+    }
+
+    // Writes bytes that are shared and not copied, under this payload type or else the stream's.
+    #[tactic(auto, using(crate::proofs::CallsLeadOn::write_leads_on))]
+    pub(crate) fn write_shared(
+        &mut self,
+        id: StreamId,
+        payload_type: Option<PayloadProtocolIdentifier>,
+        bytes: &Bytes,
+    ) -> Result<usize, Error>
+        ensures refused { RefusesOrLacksMemory result (write_refusal self.old id (length bytes.now)) }
+        ensures err { OnErr result (self.new ≡ self.old) }
+        ensures ok { IfOk result (λ n. n ≡ length bytes.now) }
+        ensures accepted { OnOk result (self.new ≡ written self.old id payload_type bytes.now) }
+        ensures acts { OnOk result (LeadsOn (Act.Wrote id payload_type bytes.now ∷ []) self.old self.new) }
+    {
+        self.check_write(id, bytes.len())?;
+        self.accept(id, payload_type, bytes.clone()?)?;
         Ok(bytes.len())
     }
 
@@ -47,8 +89,9 @@ impl Association {
         ensures { Refuses result (write_refusal self.now id size) }
     {
         self.check_usable()?;
-        if !self.streams.contains(id) {
-            return Err(Error::ErrStreamClosed);
+        match self.streams.get(id) {
+            Some(stream) if stream.is_write_half_open() => {}
+            _ => return Err(Error::ErrStreamClosed),
         }
         if !matches!(self.state, AssociationState::Established) {
             return Err(Error::ErrPayloadDataStateNotExist);
@@ -62,23 +105,27 @@ impl Association {
         Ok(())
     }
 
-    // Queues a message of a live stream, in pieces, and counts it. Its bytes are copied once, and the pieces are cuts
-    // of that copy. A buffered amount past the greatest u64 counts as want of memory.
-    fn accept(&mut self, id: StreamId, bytes: &[u8]) -> Result<(), AllocError>
-        ensures ok { OnOk result (self.new ≡ written self.old id bytes.now) }
+    // Queues a message of a live stream, in pieces that are cuts of its bytes, and counts it. A buffered amount past
+    // the greatest u64 counts as want of memory.
+    fn accept(
+        &mut self,
+        id: StreamId,
+        named: Option<PayloadProtocolIdentifier>,
+        bytes: Bytes,
+    ) -> Result<(), AllocError>
+        ensures ok { OnOk result (self.new ≡ written self.old id named bytes) }
         ensures err { OnErr result (self.new ≡ self.old) }
     {
         let Some(stream) = self.streams.get(id) else {
             return Ok(());
         };
-        let payload_type = stream.default_payload_type();
+        let payload_type = named.unwrap_or(stream.default_payload_type());
         let params = stream.params_for(payload_type);
         let size = bytes.len() as u64;
         if stream.buffered_amount() > u64::MAX - size {
             return Err(AllocError);
         }
-        let copy = Bytes::copy_from_slice(self.alloc, bytes)?;
-        let (user_data, rest) = cut(self.alloc, copy, self.sender.max_payload_size as usize)?;
+        let (user_data, rest) = cut(self.alloc, bytes, self.sender.max_payload_size as usize)?;
         let message = PendingMessage {
             message: Attributes {
                 message_id: 0,
@@ -94,17 +141,84 @@ impl Association {
             user_data,
             rest,
         };
-        self.sender.queue.push(message)?;
-        self.streams.accept(id, payload_type, size)
+        let high = stream.reaches_high_mark(size);
+        self.queue_message(id, message, high)?;
+        self.streams.accept(id, payload_type, size)?;
+        Ok(())
     }
 
-    pub(crate) fn buffered_of_stream(&self, id: StreamId) -> Result<usize, Error>
-        ensures { result ≡ buffered_of self.now id }
+    // Queues a message, and where it takes its stream to the high mark the event of that. Where memory is refused
+    // neither is queued.
+    fn queue_message(
+        &mut self,
+        id: StreamId,
+        message: PendingMessage,
+        high: bool,
+    ) -> Result<(), AllocError>
+        ensures ok { OnOk result (self.new ≡ with_queued self.old id message high) }
+        ensures err { OnErr result (self.new ≡ self.old) }
+    {
+        if !high {
+            return self.sender.queue.push(message);
+        }
+        self.events
+            .push(Event::Stream(StreamEvent::BufferedAmountHigh { id }))?;
+        let queued = self.sender.queue.push(message);
+        if queued.is_err() {
+            self.events.take_back();
+        }
+        queued
+    }
+
+    // Refuses to set or to ask a stream that is gone.
+    pub(crate) fn check_live(&self, id: StreamId) -> Result<(), Error>
+        ensures { Refuses result (gone_refusal self.now id) }
     {
         self.check_usable()?;
-        match self.streams.get(id) {
-            Some(stream) => Ok(stream.buffered_amount() as usize),
-            None => Err(Error::ErrStreamClosed),
+        if !self.streams.contains(id) {
+            return Err(Error::ErrStreamClosed);
         }
+        Ok(())
+    }
+
+    #[tactic(auto, using(crate::proofs::CallsLeadOn::setting_leads_on))]
+    pub(crate) fn set_stream(&mut self, id: StreamId, setting: Setting) -> Result<(), Error>
+        ensures refused { Refuses result (gone_refusal self.old id) }
+        ensures err { OnErr result (self.new ≡ self.old) }
+        ensures ok { OnOk result (self.new ≡ adjusted self.old id setting) }
+        ensures acts { OnOk result (LeadsOn (Act.Adjusted id setting ∷ []) self.old self.new) }
+    {
+        self.check_live(id)?;
+        self.streams.set(id, setting);
+        Ok(())
+    }
+
+    // Whether it is live and its read half is open.
+    pub(crate) fn is_stream_readable(&self, id: StreamId) -> bool
+        ensures { result ≡ holds_of (λ s. is_read_half_open s.halves) self.now id }
+    {
+        match self.streams.get(id) {
+            Some(stream) => stream.is_read_half_open(),
+            None => false,
+        }
+    }
+
+    // Whether it is live and its write half is open.
+    pub(crate) fn is_stream_writable(&self, id: StreamId) -> bool
+        ensures { result ≡ holds_of (λ s. is_write_half_open s.halves) self.now id }
+    {
+        match self.streams.get(id) {
+            Some(stream) => stream.is_write_half_open(),
+            None => false,
+        }
+    }
+
+    // The live stream; refused where it is gone.
+    pub(crate) fn live_stream(&self, id: StreamId) -> Result<&StreamState, Error>
+        ensures refused { Refuses result (gone_refusal self.now id) }
+        ensures ok { IfOk result (λ s. stream_at self.now.streams id ≡ Some s.now) }
+    {
+        self.check_usable()?;
+        self.streams.get(id).ok_or(Error::ErrStreamClosed)
     }
 }

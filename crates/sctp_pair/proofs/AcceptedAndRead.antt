@@ -31,7 +31,7 @@ quiet_call step r side w initial quiet = record {
 -- A write adds at its side what its reply says, and nothing at the other side.
 
 wrote_here : (side : Side2) (id n : ℕ) (bytes : List ℕ) (w : World) (s : ℕ)
-    → written_by (replies.Wrote n) (end_of side w.ends) id bytes s
+    → written_by (replies.Wrote n) (end_of side w.ends) id None bytes s
     ≡ accepted_at (steps.Write side id bytes) (replies.Wrote n) side s w
 wrote_here sides.A id n bytes w s = refl
 wrote_here sides.B id n bytes w s = refl
@@ -42,7 +42,7 @@ wrote_there sides.A id n bytes w s = refl
 wrote_there sides.B id n bytes w s = refl
 
 pub write_call : (side : Side2) (id : ℕ) (bytes : List ℕ) (r : Reply) (w : World) (initial : ℕ)
-    → IsCallAt (steps.Write side id bytes) r side w initial (written_by r (end_of side w.ends) id bytes)
+    → IsCallAt (steps.Write side id bytes) r side w initial (written_by r (end_of side w.ends) id None bytes)
     nothing_read None_brought
 write_call side id bytes (replies.Wrote n) w initial = record {
   adds = wrote_here side id n bytes w;

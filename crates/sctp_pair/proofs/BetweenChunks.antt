@@ -43,6 +43,7 @@ stands_by x {a} {b} k s same binds met size h = record {
   truthful = same.truthful x.own s.truthful;
   size = size ∙ s.size ∙ sym same.size;
   between = h.between;
+  in_order = h.in_order;
 }
 
 -- where the status stays, so does what the stage says

@@ -12,7 +12,7 @@ use Rattle.sctp_model.specs.Safe.{IsWithin}
 use Rattle.sctp_fit.specs.Growth.{IsAtReceiver, IsAtSender}
 use Rattle.sctp_fit.proofs.BegunCounts.{events_keep_the_count}
 use Rattle.sctp_fit.proofs.OtherEnd.{receivers_events_leave_what_is_sent, senders_events_leave_what_comes}
-use Rattle.sctp_directions.specs.Acts.{Parts, receiving, sending}
+use Rattle.sctp_directions.specs.Acts.{Act, IsKeptInOrder, Parts, SetsReliability, receiving, sending}
 use Rattle.sctp_assoc.specs.Leads.{parts}
 use Rattle.sctp_assoc.specs.Calls.{is_established}
 use Rattle.sctp_sides.specs.Meeting.{IsNoEarlier, Stage}
@@ -141,7 +141,12 @@ pub record Holds (x : Surroundings) (p : Parts) : Type 0 where
   pub sound_out : IsSound x.out
   pub sound_coming : IsSound x.coming
   pub between : FitsBetween p x.out x.coming
+  pub in_order : (s : ℕ) → IsKeptInOrder p.streams s
   pub other : OtherStands x
+
+-- an act sets the order or the reliability of no stream
+abbrev pub IsOrderly : Act → Type 0
+IsOrderly act = (s : ℕ) → SetsReliability act s → ⊥
 
 -- Nothing is brought.
 abbrev pub None_brought : ℕ → Type 0
@@ -194,8 +199,8 @@ other_by_sender x e at invariant h =
         incoming =
             senders_events_leave_what_comes (receiving (parts x.other s.past)) x.out e (at_sender e at) invariant
             s.between.incoming;
-        writes = s.between.writes;
       };
+      in_order = s.in_order;
     })
     (λ (r : StandsClosed x.peer x.other x.out ⊎ StandsFailed x.other x.out).
     ⊎_elim
@@ -234,8 +239,8 @@ other_by_receiver x e at h =
             receivers_events_leave_what_is_sent (sending (parts x.other s.past)) x.coming e (at_receiver e at)
             s.between.outgoing;
         incoming = s.between.incoming;
-        writes = s.between.writes;
       };
+      in_order = s.in_order;
     })
     (λ (r : StandsClosed x.peer x.other x.out ⊎ StandsFailed x.other x.out). inr r)
     h

@@ -5,6 +5,7 @@ use Rattle.std.proofs.lemmas.Bool.{cases_Bool, true≢false}
 use Rattle.std.proofs.lemmas.List.{append-nil, append_assoc, map-append}
 use Rattle.std.specs.List.{AllByRecursion}
 use Rattle.sctp_wire.specs.declared.packet.Packet.{Packet}
+use Rattle.sctp_wire_types.specs.declared.ids.PayloadProtocolIdentifier.{PayloadProtocolIdentifier}
 use Rattle.sctp_receive_queues.specs.Messages as letters
 use Rattle.sctp_streams.specs.Stream.{StreamView}
 use Rattle.sctp_streams.specs.Streams.{stream_at}
@@ -64,11 +65,12 @@ told_read (steps.Read side id) (replies.Read message) x s = told_read_if (is_sid
 told_read a r x s = refl
 
 -- an accepted write was made on a live stream
-wrote_live : (a b : Shown) (id count : ℕ) (bytes : List ℕ) → Writes a id bytes (replies.Wrote count) b
-    → bytes_accepted (messages_on (stream_at a.streams id) bytes) ≡ bytes ∷ []
-wrote_live a b id count bytes h =
+wrote_live : (a b : Shown) (id count : ℕ) (named : Option PayloadProtocolIdentifier) (bytes : List ℕ)
+    → Writes a id named bytes (replies.Wrote count) b
+    → bytes_accepted (messages_on (stream_at a.streams id) named bytes) ≡ bytes ∷ []
+wrote_live a b id count named bytes h =
     let can = accepted_writes_fit a id (length bytes) (first_none _ _ h.0) in
-    ap (λ (o : Option StreamView). bytes_accepted (messages_on o bytes)) can.live.there
+    ap (λ (o : Option StreamView). bytes_accepted (messages_on o named bytes)) can.live.there
 
 wrote_if : (c : Bool) (ms : List Message) (bytes : List ℕ) → bytes_accepted ms ≡ bytes ∷ []
     → bytes_accepted (if c then ms else []) ≡ (if c then bytes ∷ [] else [])
@@ -80,13 +82,13 @@ told_written_at : (side x : Side2) (id count s : ℕ) (bytes : List ℕ) (w : Wo
     → bytes_accepted (accepted_at (steps.Write side id bytes) (replies.Wrote count) x s w)
     ≡ bytes_written (steps.Write side id bytes) (replies.Wrote count) x s
 told_written_at sides.A sides.A id count s bytes w q h =
-    wrote_if (eqb id s) (messages_on (stream_at w.ends.a.streams id) bytes) bytes
-    (wrote_live w.ends.a q.a id count bytes h.0)
+    wrote_if (eqb id s) (messages_on (stream_at w.ends.a.streams id) None bytes) bytes
+    (wrote_live w.ends.a q.a id count None bytes h.0)
 told_written_at sides.A sides.B id count s bytes w q h = refl
 told_written_at sides.B sides.A id count s bytes w q h = refl
 told_written_at sides.B sides.B id count s bytes w q h =
-    wrote_if (eqb id s) (messages_on (stream_at w.ends.b.streams id) bytes) bytes
-    (wrote_live w.ends.b q.b id count bytes h.0)
+    wrote_if (eqb id s) (messages_on (stream_at w.ends.b.streams id) None bytes) bytes
+    (wrote_live w.ends.b q.b id count None bytes h.0)
 
 -- what a reply says of a write is what was accepted
 told_written : (a : Step) (r : Reply) (x : Side2) (s : ℕ) (w : World) (q : Ends) → Steps a w.ends r q
@@ -94,16 +96,16 @@ told_written : (a : Step) (r : Reply) (x : Side2) (s : ℕ) (w : World) (q : End
 told_written (steps.Write side id bytes) (replies.Wrote count) x s w q h = told_written_at side x id count s bytes w q h
 told_written a r x s w q h = refl
 
-kept_on : (c : Bool) (o : Option StreamView) (bytes : List ℕ)
-    → AllByRecursion IsKept (if c then messages_on o bytes else [])
-kept_on false o bytes = tt
-kept_on true None bytes = tt
-kept_on true (Some t) bytes = (record { ordered = refl; reliable = refl }, tt)
+kept_on : (c : Bool) (o : Option StreamView) (named : Option PayloadProtocolIdentifier) (bytes : List ℕ)
+    → AllByRecursion IsKept (if c then messages_on o named bytes else [])
+kept_on false o named bytes = tt
+kept_on true None named bytes = tt
+kept_on true (Some t) named bytes = (record { ordered = refl; reliable = refl }, tt)
 
 -- each message that a step accepts is ordered and reliable
 accepted_kept : (a : Step) (r : Reply) (x : Side2) (s : ℕ) (w : World) → AllByRecursion IsKept (accepted_at a r x s w)
 accepted_kept (steps.Write side id bytes) (replies.Wrote count) x s w =
-    kept_on (is_side side x && eqb id s) (stream_at (end_of x w.ends).streams id) bytes
+    kept_on (is_side side x && eqb id s) (stream_at (end_of x w.ends).streams id) None bytes
 accepted_kept a r x s w = tt
 
 -- What rows of steps made of the direction of which side x is the sender, as they tell it.

@@ -4,13 +4,14 @@ use Rattle.std.proofs.Common.{List, [], ◌∷◌, ◌++◌, length, Option, Som
 use Rattle.std.proofs.lemmas.Bool.{ne_eqb}
 use Rattle.std.proofs.lemmas.List.{append-nil}
 use Rattle.std.proofs.lemmas.List.Sums.{sum_by-append, sum_by-cons}
+use Rattle.sctp_wire_types.specs.declared.ids.PayloadProtocolIdentifier.{PayloadProtocolIdentifier}
 use Rattle.sctp_streams.specs.Stream.{StreamView}
 use Rattle.sctp_streams.specs.Streams.{stream_at}
 use Rattle.sctp_model.specs.Messages.{Message}
 use Rattle.sctp_model.specs.Machine.{Direction}
 use Rattle.sctp_fit.specs.Counted.{HasAccepted, all_pieces, pieces_in}
 use Rattle.sctp_fit.proofs.PlacesCounted.{few_pieces_stay_within}
-use Rattle.sctp_directions.specs.Plain.{message_on}
+use Rattle.sctp_directions.specs.Acts.{type_on}
 use Rattle.sctp_directions.proofs.Proved.{accepted_messages_are_counted, nothing_is_accepted_at_first}
 use Rattle.sctp_pair.specs.declared.step.Reply.{Reply}
 use Rattle.sctp_pair.specs.declared.step.Reply.TheVariants as replies
@@ -20,7 +21,8 @@ use Rattle.sctp_pair.specs.declared.step.Step.{Step}
 use Rattle.sctp_pair.specs.declared.step.Step.TheVariants as steps
 use Rattle.sctp_pair.specs.Ends.{Ends, end_of}
 use Rattle.sctp_pair.specs.Steps.{Runs, Steps}
-use Rattle.sctp_pair.specs.World.{IsWithinLimits, World, accepted_at, empty_world, is_side, messages_on}
+use Rattle.sctp_pair.specs.World.{IsWithinLimits, World, accepted_at, empty_world, is_side, message_under}
+use Rattle.sctp_pair.specs.World.{messages_on}
 use Rattle.sctp_pair.specs.Counted.{FitsCounted, LeadsCounted, RunsCounted, pieces_a, pieces_b, pieces_of}
 use Rattle.sctp_pair.specs.Fits.{Fits}
 use Rattle.sctp_pair.proofs.StepsLead.{step_leads}
@@ -40,11 +42,13 @@ none_counted {n} {before} {after} c a =
     accepted_messages_are_counted n 0 0 before after c.size (λ s ne. stays s)
     (let e = ap (λ (ms : List Message). all_pieces before.sender.plan.size ms) (stays 0) in omega (arith, e)) a
 
-one_message : (size : ℕ) (o : Option StreamView) (bytes : List ℕ)
-    → all_pieces size (messages_on o bytes) ≤ pieces_in size (length bytes)
-one_message size None bytes = omega arith
-one_message size (Some t) bytes =
-    let e = sum_by-cons (λ (m : Message). pieces_in size (length m.bytes)) (message_on t bytes) [] in omega (arith, e)
+one_message : (size : ℕ) (o : Option StreamView) (named : Option PayloadProtocolIdentifier) (bytes : List ℕ)
+    → all_pieces size (messages_on o named bytes) ≤ pieces_in size (length bytes)
+one_message size None named bytes = omega arith
+one_message size (Some t) named bytes =
+    let e =
+    sum_by-cons (λ (m : Message). pieces_in size (length m.bytes)) (message_under (type_on t named) bytes) [] in
+    omega (arith, e)
 
 -- on one stream these messages were accepted, which have at most so many pieces
 some_counted : (here : Bool) (id more : ℕ) (ms : List Message) {n : ℕ} {before after : Direction}
@@ -77,8 +81,8 @@ step_counted : (x : Side2) (step : Step) (r : Reply) (w : World) {n : ℕ} {befo
     → HasAccepted (n + pieces_of before.sender.plan.size x step r) after
 step_counted x (steps.Write side id bytes) (replies.Wrote count) w {n} {before} c a =
     let o : Option StreamView = stream_at (end_of x w.ends).streams id in
-    some_counted (is_side side x) id (pieces_in before.sender.plan.size (length bytes)) (messages_on o bytes) c
-    (one_message before.sender.plan.size o bytes) a
+    some_counted (is_side side x) id (pieces_in before.sender.plan.size (length bytes)) (messages_on o None bytes) c
+    (one_message before.sender.plan.size o None bytes) a
 step_counted x step r w c a = none_counted c a
 
 -- A step leads to a world that is safe where few pieces were accepted.

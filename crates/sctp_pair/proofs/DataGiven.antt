@@ -19,11 +19,10 @@ use Rattle.sctp_directions.specs.Events.{Accepts, IsOfSending, IsPlainEvent}
 use Rattle.sctp_directions.specs.Reports.{SaysWhatWasTaken}
 use Rattle.sctp_directions.proofs.Proved.{acknowledgements_are_alike, acts_keep_the_initial_tsns}
 use Rattle.sctp_directions.proofs.Proved.{events_keep_the_limits, only_beginnings_assign, own_acts_leave_what_comes}
-use Rattle.sctp_directions.proofs.Proved.{pieces_are_given, senders_events_keep_the_invariant}
-use Rattle.sctp_directions.proofs.Proved.{streams_stay_ordered_and_reliable}
+use Rattle.sctp_directions.proofs.Proved.{only_settings_loosen, pieces_are_given, senders_events_keep_the_invariant}
 use Rattle.sctp_sides.specs.Shapes.{GivesData}
-use Rattle.sctp_pair.proofs.BetweenDirections.{Goes, Holds, None_brought, OtherStands, Surroundings, goes_by_sender}
-use Rattle.sctp_pair.proofs.BetweenDirections.{goes_nowhere, goes_on, other_by_sender, sound_after}
+use Rattle.sctp_pair.proofs.BetweenDirections.{Goes, Holds, IsOrderly, None_brought, OtherStands, Surroundings}
+use Rattle.sctp_pair.proofs.BetweenDirections.{goes_by_sender, goes_nowhere, goes_on, other_by_sender, sound_after}
 
 -- What was done at the sender of the own direction, and the DATA that it gave out.
 pub record AfterOut (x : Surroundings) (p : Parts) (given : List ChunkPayloadData) : Type 0 where
@@ -74,9 +73,9 @@ after_sendings (e ∷ es) x (t, ts) sound other =
 module _ (x : Surroundings) (p : Parts) (h : Holds x p) where
   -- the act is what these events are at the sender of its own direction
   act_at_sender : (act : Act) (out2 : Direction) (given : List ChunkPayloadData) → IsOfItsOwn act → MeetsNobody act
-      → IsAfterEvents x out2 → FitsOutgoing (sending (done act p)) out2
+      → IsOrderly act → IsAfterEvents x out2 → FitsOutgoing (sending (done act p)) out2
       → AllByRecursion (IsGiven p.history.own out2) given → AfterOut x (done act p) given
-  act_at_sender act out2 given its_own nobody after fits said = record {
+  act_at_sender act out2 given its_own nobody orderly after fits said = record {
     out2 = out2;
     goes = after.goes;
     holds = record {
@@ -86,8 +85,8 @@ module _ (x : Surroundings) (p : Parts) (h : Holds x p) where
       between = record {
         outgoing = fits;
         incoming = own_acts_leave_what_comes act p x.coming its_own h.between.incoming;
-        writes = streams_stay_ordered_and_reliable act p h.between.writes;
       };
+      in_order = λ s. only_settings_loosen act p s (orderly s) (h.in_order s);
       other = after.other;
     };
     said = subst (λ o. AllByRecursion (IsGiven o out2) given) h.own_is said;
@@ -99,6 +98,7 @@ module _ (x : Surroundings) (p : Parts) (h : Holds x p) where
       sent_pieces_are_events p.history.own (sending p) now x.out can h.sound_out.invariant h.sound_out.counts
       h.between.outgoing in
       act_at_sender (Act.Sent now) (run sent.0 x.out) (data_given (Act.Sent now) p) tt tt
+      (λ s n. n)
       (after_sendings sent.0 x sent.1.sends h.sound_out h.other) sent.1.fits sent.1.given
 
   act_sent_again : (index : ℕ) → Can (Act.SentAgain index) p
@@ -107,6 +107,7 @@ module _ (x : Surroundings) (p : Parts) (h : Holds x p) where
       let resent = pieces_are_given p index x.out can h.sound_out.invariant h.between.outgoing in
       let e : Event = Event.Resend (x.out.sender.reach + index) in
       act_at_sender (Act.SentAgain index) (happens x.out e) (data_given (Act.SentAgain index) p) tt tt
+      (λ s n. n)
       (after_event x e tt (λ n. n) tt h.sound_out h.other) resent.0 resent.1
 
   one_given : (act : Act) → GivesData act → Can act p → AfterOut x (done act p) (data_given act p)
@@ -123,6 +124,7 @@ pub act_acknowledged : {x : Surroundings} {p : Parts} (n k : ℕ) (c : ChunkSele
 unfolding act_at_sender
 act_acknowledged {x} {p} n k c sack h e says at can = (
   act_at_sender x p h (Act.Acknowledged n c.gap_ack_blocks) (happens x.out (Event.SackComes k)) [] tt tt
+      (λ s n. n)
       (after_event x (Event.SackComes k) tt (λ n. n) tt h.sound_out h.other)
       (acknowledgements_are_alike p n k c sack x.out e says at can h.sound_out.invariant h.between.outgoing) tt,
   λ within. events_keep_the_limits x.out (Event.SackComes k) tt within,

@@ -20,10 +20,10 @@ use Rattle.sctp_directions.specs.Events.{Brings, GivesAMessage, IsOfReceiving, I
 use Rattle.sctp_directions.specs.Reports.{SaysWhatWasTaken}
 use Rattle.sctp_directions.specs.Said.{IsMade}
 use Rattle.sctp_directions.proofs.Proved.{acts_keep_the_initial_tsns, events_keep_the_limits}
-use Rattle.sctp_directions.proofs.Proved.{receivers_events_are_received, reports_say_what_was_taken}
-use Rattle.sctp_directions.proofs.Proved.{streams_stay_ordered_and_reliable, what_comes_leaves_its_own}
+use Rattle.sctp_directions.proofs.Proved.{only_settings_loosen, receivers_events_are_received}
+use Rattle.sctp_directions.proofs.Proved.{reports_say_what_was_taken, what_comes_leaves_its_own}
 use Rattle.sctp_directions.proofs.Proved.{what_is_taken_in_comes}
-use Rattle.sctp_pair.proofs.BetweenDirections.{Goes, Holds, Surroundings, goes_by_receiver, goes_nowhere}
+use Rattle.sctp_pair.proofs.BetweenDirections.{Goes, Holds, IsOrderly, Surroundings, goes_by_receiver, goes_nowhere}
 use Rattle.sctp_pair.proofs.BetweenDirections.{other_by_receiver, sound_after}
 
 -- What was done at the receiver of the direction that comes.
@@ -42,6 +42,7 @@ coming_nowhere {x} B within h =
 -- Of an association with these parts, the act is this event at the receiver of the direction that comes, and no read.
 record IsReceiversEvent (x : Surroundings) (p : Parts) (B : ℕ → Type 0) (act : Act) (e : Event) : Type 0 where
   nobody : MeetsNobody act
+  orderly : IsOrderly act
   at : IsOfReceiving e
   none : GivesAMessage e → ⊥
   keeps : KeepsWithin e
@@ -79,8 +80,8 @@ module _ (x : Surroundings) (p : Parts) (B : ℕ → Type 0) (h : Holds x p) (wi
       between = record {
         outgoing = is.outgoing;
         incoming = is.incoming;
-        writes = streams_stay_ordered_and_reliable act p h.between.writes;
       };
+      in_order = λ s. only_settings_loosen act p s (is.orderly s) (h.in_order s);
       other = other_by_receiver x e is.at h.other;
     };
   }
@@ -90,6 +91,7 @@ module _ (x : Surroundings) (p : Parts) (B : ℕ → Type 0) (h : Holds x p) (wi
   act_opened id first kind none =
       act_at_receiver (Act.Opened id first kind) (Event.Open id) record {
         nobody = tt;
+        orderly = λ s n. n;
         at = tt;
         none = λ n. n;
         keeps = tt;
@@ -109,6 +111,7 @@ module _ (x : Surroundings) (p : Parts) (B : ℕ → Type 0) (h : Holds x p) (wi
       (h.sound_coming.plain.span piece.stream_identifier) within h.sound_coming.invariant h.between.incoming in
       act_at_receiver (Act.Took piece) (Event.DataComes m.index) record {
         nobody = tt;
+        orderly = λ s n. n;
         at = tt;
         none = λ n. n;
         keeps = tt;
@@ -142,6 +145,7 @@ act_reported {x} {p} B h known within =
       after =
           act_at_receiver x p B h within Act.Reported Event.SackMade record {
             nobody = tt;
+            orderly = λ s n. n;
             at = tt;
             none = λ n. n;
             keeps = tt;

@@ -48,8 +48,8 @@ learnt x acts {a} {b} k u is (inr (met, deaf)) =
           incoming =
               meetings_are_no_events p x.peer u.coming2 (u.silent never) u.holds.sound_coming.invariant
               u.holds.sound_coming.plain u.holds.between.incoming;
-          writes = u.holds.between.writes;
         };
+        in_order = u.holds.in_order;
         other = u.holds.other;
       };
       peer_is = λ known. ap (λ (p : Parts). p.history.peer) left;
@@ -89,6 +89,7 @@ greet_step {x} header c {a} {b} takes greeting u =
         truthful = g.truthful;
         size = u.stands.size ∙ sym works.size;
         between = kept.holds.between;
+        in_order = kept.holds.in_order;
       };
       holds = kept.holds;
     }

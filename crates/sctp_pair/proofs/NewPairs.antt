@@ -14,7 +14,7 @@ use Rattle.sctp_model.specs.Machine.{fresh}
 use Rattle.sctp_model.proofs.Proved.{fresh_holds}
 use Rattle.sctp_fit.proofs.NothingToSend.{fresh_ones_fit}
 use Rattle.sctp_fit.proofs.OtherEnd.{fresh_ones_receive_nothing}
-use Rattle.sctp_directions.specs.Acts.{begun}
+use Rattle.sctp_directions.specs.Acts.{IsKeptInOrder, begun}
 use Rattle.sctp_directions.specs.Between.{FitsBetween, IsSound}
 use Rattle.sctp_directions.proofs.Proved.{fresh_directions_are_plain}
 use Rattle.sctp_assoc.specs.Leads.{Binds, parts}
@@ -33,8 +33,11 @@ nothing_between : (config : Settings) (remote : SocketAddr) (own peer size other
 nothing_between config remote own peer size other = record {
   outgoing = (fresh_ones_fit size own).0;
   incoming = fresh_ones_receive_nothing peer other no_stream refl;
-  writes = λ s t there. absurd (true≢false (sym (ap is_some there)));
 }
+
+-- no stream is live yet
+no_stream_yet : (s : ℕ) → IsKeptInOrder no_stream s
+no_stream_yet s t there = absurd (true≢false (sym (ap is_some there)))
 
 -- a direction in which nothing happened is sound
 fresh_is_sound : (size : ℕ) → 0 < size → IsSound (fresh size)
@@ -121,6 +124,7 @@ joined_begins {size} {own} {peer} other j = record {
       };
       size = refl;
       between = nothing_between j.config j.remote own.initial_tsn peer.initial_tsn size other;
+      in_order = no_stream_yet;
     }
 
 -- A pair that two tokens joined stands in the empty world.
@@ -177,6 +181,7 @@ client_begins {size} {own} other peer c = record {
       };
       size = refl;
       between = nothing_between c.config c.remote own 1 size other;
+      in_order = no_stream_yet;
     }
 
 -- The association is a server that listens, with this payload size and this initial TSN.
@@ -218,6 +223,7 @@ server_begins {size} {own} other peer c = record {
       };
       size = refl;
       between = nothing_between c.config c.remote own 1 size other;
+      in_order = no_stream_yet;
     }
 
 not_both : sides.Server ≡ sides.Client → ⊥

@@ -9,7 +9,7 @@ use Rattle.sctp_model.specs.Machine.{Direction, Event, happens}
 use Rattle.sctp_model.proofs.Proved.{each_event_keeps_the_invariant}
 use Rattle.sctp_directions.specs.Acts.{Parts}
 use Rattle.sctp_assoc.specs.Leads.{parts}
-use Rattle.sctp_assoc.specs.Calls.{is_closed_state}
+use Rattle.sctp_assoc.specs.Closing.{is_closed_state}
 use Rattle.sctp_assoc.specs.Chunks.{after_packet}
 use Rattle.sctp_sides.specs.Meeting.{IsNoEarlier, Stage, stage_of}
 use Rattle.sctp_sides.specs.Shapes.{Closes, EndsPacket, IsEnded, OfEachChunk}
@@ -144,6 +144,7 @@ start_step {x} B f s = record {
     sound_out = f.sound_out;
     sound_coming = f.sound_coming;
     between = s.between;
+    in_order = s.in_order;
     other = f.other;
   };
 }

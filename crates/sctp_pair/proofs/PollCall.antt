@@ -116,6 +116,7 @@ module _ {x : Surroundings} {a b : Shown} {packets : List (List ℕ)} (f : Faces
         sound_out = f.sound_out;
         sound_coming = f.sound_coming;
         between = s.between;
+        in_order = s.in_order;
         other = f.other;
       } in
       let can : CanAll (ds ++ ks) p = subst (λ zs. CanAll zs p) polling.are poll.leads.can in
@@ -144,6 +145,7 @@ module _ {x : Surroundings} {a b : Shown} {packets : List (List ℕ)} (f : Faces
         truthful = same.truthful x.own s.truthful;
         size = given.goes.size ∙ s.size ∙ sym same.size;
         between = holds.between;
+        in_order = holds.in_order;
       } in
       let exchanged = exchanged_said now a h acts
       (subst (λ z. AllByRecursion (IsGiven x.own given.out2) z) (sym data_is) given.said)
@@ -213,6 +215,7 @@ open_without x a same s = record {
   truthful = same.truthful x.own s.truthful;
   size = s.size;
   between = s.between;
+  in_order = s.in_order;
 }
 
 -- and so does a closed one

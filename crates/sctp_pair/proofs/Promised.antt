@@ -21,7 +21,7 @@ use Rattle.sctp_fit.proofs.ReadsAnswered.{the_same_is_ready}
 use Rattle.sctp_directions.specs.Acts.{receiving, sending}
 use Rattle.sctp_directions.specs.Between.{IsSound}
 use Rattle.sctp_assoc.specs.Leads.{parts}
-use Rattle.sctp_assoc.specs.Calls.{buffered_at, ready_of}
+use Rattle.sctp_assoc.specs.Calls.{ready_of, value_at}
 use Rattle.sctp_assoc.specs.Shown.{Shown}
 use Rattle.sctp_pair.specs.Ends.{Ends}
 use Rattle.sctp_pair.specs.World.{IsOpen, IsPromised, IsSafeWorld, World}
@@ -71,7 +71,7 @@ ready_at (Some t) a s w there span within invariant fits =
 -- what is released of a stream is what was accepted and isn't buffered, where the association can be asked for that
 released_if : (failed : Bool) (o : Option StreamView) (a : Sending) (s n : ℕ) (w : Direction)
     → stream_at a.streams s ≡ o → w.over s ≡ false → FitsOutgoing a w
-    → (if failed then Err errors.ErrAssociationFailed else buffered_at o) ≡ Ok n
+    → (if failed then Err errors.ErrAssociationFailed else value_at (λ t. t.buffered) o) ≡ Ok n
     → n + w.sender.released s ≡ accepted_bytes w.sender.plan s
 released_if true o a s n w there span fits e = absurd (true≢false (sym (ap is_ok e)))
 released_if false None a s n w there span fits e = absurd (true≢false (sym (ap is_ok e)))

@@ -4,6 +4,7 @@ use Rattle.std.proofs.Common.{◌∷◌, Option, Some, None, arith}
 use Rattle.std.specs.Prelude.{◌==◌, slice_get}
 use Rattle.std.proofs.lemmas.Bool.{cases_eq, cond-false, cond-true, eq-eqb, ne_eqb}
 use Rattle.std.proofs.lemmas.List.{append-nil}
+use Rattle.sctp_wire_types.specs.declared.error.Error.{Error}
 use Rattle.sctp_receive_queues.specs.Messages.{ReceivedMessage}
 use Rattle.sctp_model.specs.Packets.{Data}
 use Rattle.sctp_model.specs.Reassembly.{Got}
@@ -23,7 +24,7 @@ use Rattle.sctp_sides.proofs.Proved.{what_holds_nothing_gives_nothing}
 use Rattle.sctp_pair.specs.declared.step.Reply.{Reply}
 use Rattle.sctp_pair.specs.declared.step.Reply.TheVariants as replies
 use Rattle.sctp_pair.specs.Fits.{StandsClosed}
-use Rattle.sctp_pair.specs.Steps.{Reads}
+use Rattle.sctp_pair.specs.Steps.{Reads, first_refusal}
 use Rattle.sctp_pair.proofs.BetweenDirections.{Does, Faces, None_brought, OpenAt, Settles, SettlesQuietly}
 use Rattle.sctp_pair.proofs.BetweenDirections.{Surroundings, does_by_goes, goes_nowhere, nothing_added}
 use Rattle.sctp_pair.proofs.BetweenDirections.{other_by_receiver, sound_after}
@@ -34,6 +35,11 @@ use Rattle.sctp_pair.proofs.HandshakeStages.{at_same, stays_put}
 abbrev pub read_by : Reply → ℕ → ℕ → Option ReceivedMessage
 read_by (replies.Read message) id s = if id == s then message else None
 read_by r id s = None
+
+-- where a call of a stream isn't refused, the stream is found
+found_none : (x y : Option Error) → first_refusal x y ≡ None → x ≡ None
+found_none None y e = refl
+found_none (Some fault) y e = e
 
 -- An open association reads
 
@@ -84,6 +90,7 @@ read_open {x} {a} {b} id message live e f s =
       past2 = m.0;
       leads = m.1;
       nobody = (tt, tt);
+      orderly = (λ z n. n, tt);
       same = same;
       size = refl;
       outgoing = what_comes_leaves_its_own (Act.WasRead id) (parts a s.past) x.out tt s.between.outgoing;
@@ -164,7 +171,7 @@ none_read {x} id message e h =
 pub reads_settle : {x : Surroundings} {a b : Shown} (id : ℕ) (r : Reply) → Reads a id r b → Faces x a
     → Settles x b nothing_added (read_by r id) None_brought
 reads_settle {x} {a} {b} id (replies.Read message) h f =
-    let live = found_streams_are_live a id h.0 in
+    let live = found_streams_are_live a id (found_none _ _ h.0) in
     by_working (Settles x b nothing_added (read_by (replies.Read message) id) None_brought) live.working f
     (λ s. read_open id message live h.1 f s)
     (λ s.

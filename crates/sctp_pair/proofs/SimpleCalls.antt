@@ -10,13 +10,14 @@ use Rattle.sctp_fit.specs.Incoming.{FitsIncoming}
 use Rattle.sctp_fit.specs.Outgoing.{FitsOutgoing}
 use Rattle.sctp_fit.proofs.DataTaken.{opened_streams_are_alike}
 use Rattle.sctp_fit.proofs.NothingToSend.{opened_streams_send_nothing}
-use Rattle.sctp_directions.specs.Acts.{Act, History, MeetsNobody, Parts, done, done_all, receiving, sending}
+use Rattle.sctp_directions.specs.Acts.{Act, History, IsKeptInOrder, MeetsNobody, Parts, done, done_all, receiving}
+use Rattle.sctp_directions.specs.Acts.{sending}
 use Rattle.sctp_directions.specs.Events.{Brings, GivesAMessage, IsOfReceiving, IsPlainEvent}
-use Rattle.sctp_directions.specs.Plain.{AreOrderedAndReliable}
 use Rattle.sctp_directions.proofs.Proved.{acts_keep_the_initial_tsns, closed_receivers_are_not_open}
-use Rattle.sctp_directions.proofs.Proved.{receivers_events_are_received, streams_stay_ordered_and_reliable}
+use Rattle.sctp_directions.proofs.Proved.{only_settings_loosen, receivers_events_are_received}
 use Rattle.sctp_assoc.specs.Leads.{Leads, parts}
-use Rattle.sctp_assoc.specs.Calls.{is_closed_state, is_established, open_refusal, opened}
+use Rattle.sctp_assoc.specs.Calls.{is_established, open_refusal, opened}
+use Rattle.sctp_assoc.specs.Closing.{is_closed_state}
 use Rattle.sctp_assoc.specs.Shown.{Shown}
 use Rattle.sctp_sides.specs.Shapes.{HoldsNothing, IsNotLive, IsSameStatus}
 use Rattle.sctp_sides.proofs.Proved.{open_leads_on, opened_streams_hold_nothing, opened_streams_keep_the_status}
@@ -25,7 +26,8 @@ use Rattle.sctp_pair.specs.declared.step.Reply.{Reply}
 use Rattle.sctp_pair.specs.declared.step.Reply.TheVariants as replies
 use Rattle.sctp_pair.specs.Fits.{IsAt, StandsClosed, StandsFailed}
 use Rattle.sctp_pair.specs.Steps.{Buffers, Finds, Measures, Opens}
-use Rattle.sctp_pair.proofs.BetweenDirections.{ClosedAt, Faces, None_brought, OpenAt, SettlesQuietly, StandsAt}
+use Rattle.sctp_pair.proofs.BetweenDirections.{ClosedAt, Faces, IsOrderly, None_brought, OpenAt, SettlesQuietly}
+use Rattle.sctp_pair.proofs.BetweenDirections.{StandsAt}
 use Rattle.sctp_pair.proofs.BetweenDirections.{Surroundings, does_by_goes, goes_by_receiver, goes_nowhere, moved}
 use Rattle.sctp_pair.proofs.BetweenDirections.{other_by_receiver, sound_after}
 use Rattle.sctp_pair.proofs.HandshakeStages.{at_same, come_on, known_before, stays_put}
@@ -116,23 +118,25 @@ fails_settle {x} failed f =
 
 -- An open association goes on
 
--- Acts that meet nobody lead from a with this past to b, whose status is the same, and to directions that fit what the
--- acts did.
+-- Acts that meet nobody and leave each stream's order and reliability lead from a with this past to b, whose status is
+-- the same, and to directions that fit what the acts did.
 pub record LeadsOn (x : Surroundings) (a : Shown) (past : History) (acts : List Act) (b : Shown)
     (out2 coming2 : Direction) : Type 0 where
   pub past2 : History
   pub leads : Leads acts a past b past2
   pub nobody : AllByRecursion MeetsNobody acts
+  pub orderly : AllByRecursion IsOrderly acts
   pub same : IsSameStatus a b
   pub size : out2.sender.plan.size ≡ x.out.sender.plan.size
   pub outgoing : FitsOutgoing (sending (done_all acts (parts a past))) out2
   pub incoming : FitsIncoming (receiving (done_all acts (parts a past))) coming2
 
--- whatever acts do, the streams write ordered, reliable messages
-writes_stay : (acts : List Act) (p : Parts) → AreOrderedAndReliable p.streams
-    → AreOrderedAndReliable (done_all acts p).streams
-writes_stay [] p h = h
-writes_stay (act ∷ acts) p h = writes_stay acts (done act p) (streams_stay_ordered_and_reliable act p h)
+-- a stream stays in order whatever such acts do
+order_stays : (acts : List Act) (p : Parts) (s : ℕ) → AllByRecursion IsOrderly acts → IsKeptInOrder p.streams s
+    → IsKeptInOrder (done_all acts p).streams s
+order_stays [] p s orderly h = h
+order_stays (act ∷ acts) p s (this, others) h =
+    order_stays acts (done act p) s others (only_settings_loosen act p s (this s) h)
 
 -- An open association whose status stays stands open where acts lead, between directions that fit what they did.
 pub open_on : (x : Surroundings) (acts : List Act) {a b : Shown} {out2 coming2 : Direction} (s : OpenAt x a)
@@ -155,10 +159,10 @@ open_on x acts {a} {b} {out2} {coming2} s m =
       between = record {
         outgoing = subst (λ (p : Parts). FitsOutgoing (sending p) out2) (sym there) m.outgoing;
         incoming = subst (λ (p : Parts). FitsIncoming (receiving p) coming2) (sym there) m.incoming;
-        writes =
-            subst (λ (p : Parts). AreOrderedAndReliable p.streams) (sym there)
-            (writes_stay acts (parts a s.past) s.between.writes);
       };
+      in_order =
+          λ t. subst (λ (p : Parts). IsKeptInOrder p.streams t) (sym there)
+          (order_stays acts (parts a s.past) t m.orderly (s.in_order t));
     }
 
 -- A closed association stays closed
@@ -200,6 +204,7 @@ module _ (x : Surroundings) (a : Shown) (id : ℕ) (kind : PayloadProtocolIdenti
         past2 = m.0;
         leads = m.1;
         nobody = (tt, tt);
+        orderly = (λ t n. n, tt);
         same = same;
         size = refl;
         outgoing =

@@ -142,8 +142,9 @@ module _ (q : Ends) (r : Reply) (w : World) (fits : Fits w.ends w) where
       same_leads side (steps.Stream side id) (λ a b. Finds a id r b) (λ a b c. finds_same a id r b c)
       (λ y s. (refl, refl)) h h
   step_at (steps.Write side id bytes) h =
-      change_leads side (steps.Write side id bytes) (λ a b. Writes a id bytes r b) (λ a. written_by r a id bytes)
-      nothing_read (λ x a b c. writes_settle id bytes r c) (write_call side id bytes r w (initial_to side w)) h h
+      change_leads side (steps.Write side id bytes) (λ a b. Writes a id None bytes r b)
+      (λ a. written_by r a id None bytes) nothing_read (λ x a b c. writes_settle id None bytes r c)
+      (write_call side id bytes r w (initial_to side w)) h h
   step_at (steps.Read side id) h =
       change_leads side (steps.Read side id) (λ a b. Reads a id r b) (λ a. nothing_added) (read_by r id)
       (λ x a b c. reads_settle id r c) (read_call side id r w (initial_to side w)) h h

@@ -18,7 +18,7 @@ use Rattle.sctp_sides.proofs.Proved.{told_events_keep_the_status}
 use Rattle.sctp_pair.specs.declared.step.Reply.{Reply}
 use Rattle.sctp_pair.specs.declared.step.Reply.TheVariants as replies
 use Rattle.sctp_pair.specs.Steps.{Expires, Tells}
-use Rattle.sctp_pair.proofs.BetweenDirections.{Faces, SettlesQuietly, Surroundings}
+use Rattle.sctp_pair.proofs.BetweenDirections.{Faces, IsOrderly, SettlesQuietly, Surroundings}
 use Rattle.sctp_pair.proofs.SimpleCalls.{by_working, closed_on, fails_settle, open_on, same_settles, still}
 use Rattle.sctp_pair.proofs.HandshakeStages.{at_same}
 
@@ -38,6 +38,7 @@ told_settles {x} {a} {b} event working e f =
       past2 = m.0;
       leads = m.1;
       nobody = tt;
+      orderly = tt;
       same = stays.0;
       size = refl;
       outgoing = s.between.outgoing;
@@ -71,6 +72,10 @@ timeouts_meet_nobody : (acts : List Act) → (acts ≡ []) ⊎ (acts ≡ Act.Mar
 timeouts_meet_nobody acts (inl none) = subst (AllByRecursion MeetsNobody) (sym none) tt
 timeouts_meet_nobody acts (inr marks) = subst (AllByRecursion MeetsNobody) (sym marks) (tt, tt)
 
+timeouts_are_orderly : (acts : List Act) → (acts ≡ []) ⊎ (acts ≡ Act.Marked ∷ []) → AllByRecursion IsOrderly acts
+timeouts_are_orderly acts (inl none) = subst (AllByRecursion IsOrderly) (sym none) tt
+timeouts_are_orderly acts (inr marks) = subst (AllByRecursion IsOrderly) (sym marks) (λ s n. n, tt)
+
 expired_settles : {x : Surroundings} {a : Shown} (now : ℕ) → a.failed ≡ false → Faces x a
     → SettlesQuietly x (after_timeouts a now)
 expired_settles {x} {a} now working f =
@@ -84,6 +89,7 @@ expired_settles {x} {a} now working f =
       past2 = m.0;
       leads = m.1;
       nobody = timeouts_meet_nobody acts shape;
+      orderly = timeouts_are_orderly acts shape;
       same = stays.0;
       size = refl;
       outgoing = timeouts_out acts (parts a s.past) x.out shape s.between.outgoing;

@@ -10,27 +10,33 @@ use Rattle.sctp_pair.specs.declared.step.Step.{Step}
 use Rattle.sctp_pair.specs.declared.step.Step.TheVariants as steps
 use Rattle.sctp_pair.specs.Counted.{AreFew, FitsCounted, pieces_of}
 use Rattle.sctp_pair.specs.Ends.{Ends}
-use Rattle.sctp_pair.specs.Steps.{Runs}
+use Rattle.sctp_pair.specs.Steps.{Runs, Writing, reading_of, writing_of}
 use Rattle.sctp_pair.specs.World.{empty_world, is_side, other_side}
 
 -- One step and its reply
 
+abbrev pub bytes_accepted : Option Writing → Reply → Side2 → ℕ → List (List ℕ)
+bytes_accepted (Some writing) (replies.Wrote count) x s =
+    if is_side writing.side x && (writing.id == s) then writing.bytes ∷ [] else []
+bytes_accepted writing reply x s = []
+
 -- the message that this step wrote at side x on stream s, as its bytes, where the write was accepted
 abbrev pub bytes_written : Step → Reply → Side2 → ℕ → List (List ℕ)
-bytes_written (steps.Write side id bytes) (replies.Wrote count) x s =
-    if is_side side x && (id == s) then bytes ∷ [] else []
-bytes_written step reply x s = []
+bytes_written step reply x s = bytes_accepted (writing_of step) reply x s
 
 -- the bytes of a message, if there is one
 abbrev pub bytes_of : Option ReceivedMessage → List (List ℕ)
 bytes_of None = []
 bytes_of (Some message) = bytes_left message ∷ []
 
+abbrev pub bytes_answered : Option (Side2 × ℕ) → Reply → Side2 → ℕ → List (List ℕ)
+bytes_answered (Some reading) (replies.Read message) x s =
+    if is_side reading.0 x && (reading.1 == s) then bytes_of message else []
+bytes_answered reading reply x s = []
+
 -- the message that a read of side x on stream s was answered, as its bytes
 abbrev pub bytes_read : Step → Reply → Side2 → ℕ → List (List ℕ)
-bytes_read (steps.Read side id) (replies.Read message) x s =
-    if is_side side x && (id == s) then bytes_of message else []
-bytes_read step reply x s = []
+bytes_read step reply x s = bytes_answered (reading_of step) reply x s
 
 -- this step handed side x a packet of the other side; one that is refused, or is not there, does not count
 abbrev pub delivers_to : Side2 → Step → Reply → Bool

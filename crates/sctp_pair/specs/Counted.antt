@@ -1,22 +1,25 @@
 -- Steps of a pair at which few pieces are accepted: who makes them counts the pieces of its own writes, and needs no
 -- other premise.
-use Rattle.std.specs.Prelude.{ℕ, ◌<◌, ◌+◌, if◌then◌else◌, List, [], ◌∷◌, length}
+use Rattle.std.specs.Prelude.{ℕ, ◌<◌, ◌+◌, if◌then◌else◌, List, [], ◌∷◌, length, Option, Some}
 use Rattle.sctp_fit.specs.Counted.{HasAccepted, pieces_in}
 use Rattle.sctp_pair.specs.declared.step.Reply.{Reply}
 use Rattle.sctp_pair.specs.declared.step.Reply.TheVariants as replies
 use Rattle.sctp_pair.specs.declared.step.Side2.{Side2}
 use Rattle.sctp_pair.specs.declared.step.Side2.TheVariants as sides
 use Rattle.sctp_pair.specs.declared.step.Step.{Step}
-use Rattle.sctp_pair.specs.declared.step.Step.TheVariants as steps
 use Rattle.sctp_pair.specs.Ends.{Ends}
+use Rattle.sctp_pair.specs.Steps.{Writing, writing_of}
 use Rattle.sctp_pair.specs.World.{IsSafeWorld, IsWorldStep, World, is_side}
 use Rattle.sctp_pair.specs.Fits.{Fits}
 
+abbrev pub pieces_accepted : ℕ → Side2 → Option Writing → Reply → ℕ
+pieces_accepted size x (Some writing) (replies.Wrote count) =
+    if is_side writing.side x then pieces_in size (length writing.bytes) else 0
+pieces_accepted size x writing reply = 0
+
 -- the pieces, of at most `size` bytes each, of the message that this side accepted by the step, if that is such a write
 abbrev pub pieces_of : ℕ → Side2 → Step → Reply → ℕ
-pieces_of size x (steps.Write side id bytes) (replies.Wrote count) =
-    if is_side side x then pieces_in size (length bytes) else 0
-pieces_of size x step reply = 0
+pieces_of size x step reply = pieces_accepted size x (writing_of step) reply
 
 -- the pieces that A and B accepted by a step of the world; the payload sizes are those that the pair was made with, and
 -- stay (`IsDirectionStep.size`)

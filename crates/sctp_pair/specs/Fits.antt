@@ -4,8 +4,9 @@ use Rattle.std.specs.List.{AllByRecursion}
 use Rattle.sctp_wire_types.specs.declared.chunk.Chunk.{Chunk}
 use Rattle.sctp_model.specs.Machine.{Direction}
 use Rattle.sctp_assoc.specs.Leads.{Binds, parts}
-use Rattle.sctp_directions.specs.Acts.{History}
-use Rattle.sctp_assoc.specs.Calls.{is_closed_state, is_established}
+use Rattle.sctp_directions.specs.Acts.{History, IsKeptInOrder}
+use Rattle.sctp_assoc.specs.Calls.{is_established}
+use Rattle.sctp_assoc.specs.Closing.{is_closed_state}
 use Rattle.sctp_sides.specs.Meeting.{Greets, HasCome, IsDoneAmongClients, IsTruthful, MayHear, Stage, stage_of}
 use Rattle.sctp_sides.specs.Shapes.{HoldsNothing, OfEachChunk}
 use Rattle.sctp_assoc.specs.Shown.{Shown}
@@ -31,6 +32,8 @@ pub record StandsOpen (own peer : ℕ) (a : Shown) (out coming : Direction) : Ty
   pub truthful : IsTruthful own a
   pub size : out.sender.plan.size ≡ a.sender.max_payload_size
   pub between : FitsBetween (parts a past) out coming
+  -- no step sets the order or the reliability of its streams so far
+  pub in_order : (s : ℕ) → IsKeptInOrder a.streams s
 
 -- A closed one is lost and receives nothing more, the streams that were opened since then are empty, and what waits to
 -- go out is truthful.

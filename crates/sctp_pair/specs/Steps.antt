@@ -8,7 +8,9 @@ use Rattle.sctp_wire_types.specs.declared.ids.PayloadProtocolIdentifier.{Payload
 use Rattle.sctp_wire_types.specs.Errors.{refusal_number}
 use Rattle.sctp_wire.specs.declared.packet.Packet.{Packet}
 use Rattle.sctp_wire.specs.Packets.{packet_at}
-use Rattle.sctp_assoc.specs.Calls.{buffered_of, deadline_of, event_polled, has_begun_closing, is_closed_state}
+use Rattle.sctp_assoc.specs.Calls.{buffered_of, deadline_of, event_polled}
+use Rattle.sctp_assoc.specs.Calls.{has_begun_closing, read_refusal}
+use Rattle.sctp_assoc.specs.Closing.{is_closed_state}
 use Rattle.sctp_assoc.specs.Calls.{open_refusal, opened, read_from_stream, stream_refusal, write_refusal, written}
 use Rattle.sctp_assoc.specs.Chunks.{after_packet}
 use Rattle.sctp_assoc.specs.Happened.{PollsOn, acts_of_poll}
@@ -41,6 +43,14 @@ abbrev pub first_refusal : Option Error → Option Error → Option Error
 first_refusal None own = own
 first_refusal (Some e) own = Some e
 
+-- memory was refused in the middle of a call, and the association, which had not failed before, failed
+abbrev pub Fails : Shown → ℕ → Shown → Type 0
+Fails a n b = (a.failed ≡ false) × (n ≡ refusal_number errors.ErrNoMemory) × HasFailed (answers_of a) b
+
+-- memory was refused before the call did anything
+abbrev pub LacksMemory : Shown → ℕ → Shown → Type 0
+LacksMemory a n b = (a.failed ≡ false) × (n ≡ refusal_number errors.ErrNoMemory) × (b ≡ a)
+
 abbrev pub Opens : Shown → ℕ → PayloadProtocolIdentifier → Reply → Shown → Type 0
 Opens a id kind replies.Done b = (open_refusal a id ≡ None) × (b ≡ opened a id kind)
 Opens a id kind (replies.Refused n) b = IsNumberOrMemory (open_refusal a id) n × (b ≡ a)
@@ -54,15 +64,19 @@ Finds a id _ b = ⊥
 abbrev pub refusal_to_write : Shown → ℕ → ℕ → Option Error
 refusal_to_write a id size = first_refusal (stream_refusal a id) (write_refusal a id size)
 
-abbrev pub Writes : Shown → ℕ → List ℕ → Reply → Shown → Type 0
-Writes a id bytes (replies.Wrote n) b =
-    (refusal_to_write a id (length bytes) ≡ None) × (n ≡ length bytes) × (b ≡ written a id bytes)
-Writes a id bytes (replies.Refused n) b = IsNumberOrMemory (refusal_to_write a id (length bytes)) n × (b ≡ a)
-Writes a id bytes _ b = ⊥
+-- the bytes are written under the payload type that is named, or else the stream's
+abbrev pub Writes : Shown → ℕ → Option PayloadProtocolIdentifier → List ℕ → Reply → Shown → Type 0
+Writes a id named bytes (replies.Wrote n) b =
+    (refusal_to_write a id (length bytes) ≡ None) × (n ≡ length bytes) × (b ≡ written a id named bytes)
+Writes a id named bytes (replies.Refused n) b = IsNumberOrMemory (refusal_to_write a id (length bytes)) n × (b ≡ a)
+Writes a id named bytes _ b = ⊥
+
+abbrev pub refusal_to_read : Shown → ℕ → Option Error
+refusal_to_read a id = first_refusal (stream_refusal a id) (read_refusal a id)
 
 abbrev pub Reads : Shown → ℕ → Reply → Shown → Type 0
-Reads a id (replies.Read message) b = (stream_refusal a id ≡ None) × (read_from_stream a id ≡ (b, message))
-Reads a id (replies.Refused n) b = IsNumberOf (stream_refusal a id) n × (b ≡ a)
+Reads a id (replies.Read message) b = (refusal_to_read a id ≡ None) × (read_from_stream a id ≡ (b, message))
+Reads a id (replies.Refused n) b = IsNumberOf (refusal_to_read a id) n × (b ≡ a)
 Reads a id _ b = ⊥
 
 abbrev pub Buffers : Shown → ℕ → Reply → Shown → Type 0
@@ -80,10 +94,6 @@ Tells a (replies.Event event) b =
     (a.failed ≡ false) × (event_polled a ≡ (b, event))
 Tells a (replies.Refused n) b = HadFailed a n b
 Tells a _ b = ⊥
-
--- memory was refused in the middle of a call, and the association, which had not failed before, failed
-abbrev pub Fails : Shown → ℕ → Shown → Type 0
-Fails a n b = (a.failed ≡ false) × (n ≡ refusal_number errors.ErrNoMemory) × HasFailed (answers_of a) b
 
 -- the timers are met; memory is wanted only where INIT or COOKIE ECHO is to go out again (RFC 4960 section 5.1)
 abbrev pub Expires : Shown → ℕ → Reply → Shown → Type 0
@@ -125,10 +135,6 @@ GivesOut a packets now _ b more = ⊥
 -- the packet that a datagram spells; none where it does not decode or is refused as a packet
 abbrev pub packet_in : List ℕ → Option Packet
 packet_in bytes = taken_packet (packet_at bytes)
-
--- memory was refused before the call did anything
-abbrev pub LacksMemory : Shown → ℕ → Shown → Type 0
-LacksMemory a n b = (a.failed ≡ false) × (n ≡ refusal_number errors.ErrNoMemory) × (b ≡ a)
 
 -- a packet comes, or a datagram that spells none; one that finds no memory to be read is dropped, and an association
 -- that was lost does not fail by any
@@ -179,7 +185,7 @@ Measures a _ b = ⊥
 abbrev pub Steps : Step → Ends → Reply → Ends → Type 0
 Steps (steps.OpenStream side id kind) p r q = AtSide side p (λ a b. Opens a id kind r b) q
 Steps (steps.Stream side id) p r q = AtSide side p (λ a b. Finds a id r b) q
-Steps (steps.Write side id bytes) p r q = AtSide side p (λ a b. Writes a id bytes r b) q
+Steps (steps.Write side id bytes) p r q = AtSide side p (λ a b. Writes a id None bytes r b) q
 Steps (steps.Read side id) p r q = AtSide side p (λ a b. Reads a id r b) q
 Steps (steps.BufferedAmount side id) p r q = AtSide side p (λ a b. Buffers a id r b) q
 Steps (steps.Poll side) p r q = AtSide side p (λ a b. Tells a r b) q
@@ -194,6 +200,24 @@ Steps (steps.IsClosing side) p r q = AtSide side p (λ a b. OnlyAnswers a (repli
 Steps (steps.IsDrained side) p r q = AtSide side p (λ a b. OnlyAnswers a (replies.State a.lost) r b) q
 Steps (steps.IsFailed side) p r q = AtSide side p (λ a b. OnlyAnswers a (replies.State a.failed) r b) q
 Steps (steps.Rtt side) p r q = AtSide side p (λ a b. Measures a r b) q
+
+-- What steps write and read.
+
+-- A message that a step asks a side to write on a stream, under the payload type that is named, or else the stream's.
+pub record Writing : Type 0 where
+  pub side : Side2
+  pub id : ℕ
+  pub named : Option PayloadProtocolIdentifier
+  pub bytes : List ℕ
+
+abbrev pub writing_of : Step → Option Writing
+writing_of (steps.Write side id bytes) = Some (record { side = side; id = id; named = None; bytes = bytes })
+writing_of step = None
+
+-- the side and the stream on which a step asks for the next message
+abbrev pub reading_of : Step → Option (Side2 × ℕ)
+reading_of (steps.Read side id) = Some (side, id)
+reading_of step = None
 
 -- the steps, with these replies, lead from p to q
 abbrev pub Runs : List Step → List Reply → Ends → Ends → Type 0

@@ -5,6 +5,7 @@ use Rattle.sctp_wire_types.specs.declared.chunk.Chunk.TheVariants as chunks
 use Rattle.sctp_wire_types.specs.declared.chunk.ChunkForwardTsn.{ChunkForwardTsn}
 use Rattle.sctp_wire_types.specs.declared.chunk.ChunkIForwardTsn.{ChunkIForwardTsn}
 use Rattle.sctp_wire_types.specs.declared.chunk.ChunkPayloadData.{ChunkPayloadData}
+use Rattle.sctp_wire_types.specs.declared.ids.PayloadProtocolIdentifier.{PayloadProtocolIdentifier}
 use Rattle.sctp_wire.specs.declared.packet.Packet.{Packet}
 use Rattle.sctp_receive_queues.specs.Messages.{ReceivedMessage}
 use Rattle.sctp_streams.specs.Stream.{StreamView}
@@ -17,10 +18,12 @@ use Rattle.sctp_model.specs.Reassembly as queue
 use Rattle.sctp_model.specs.Machine.{Direction, Event, fresh, live, run}
 use Rattle.sctp_model.specs.Safe.{IsSafe, IsWithin, letter_read}
 use Rattle.sctp_fit.specs.Incoming.{tsn_before}
-use Rattle.sctp_assoc.specs.Calls.{buffered_of, is_closed_state, ready_messages}
+use Rattle.sctp_assoc.specs.Calls.{buffered_of, ready_messages}
+use Rattle.sctp_assoc.specs.Closing.{is_closed_state}
 use Rattle.sctp_assoc.specs.Shown.{Shown}
 use Rattle.sctp_reassembly.specs.Stands.{IsReadAs, letter_received}
-use Rattle.sctp_directions.specs.Plain.{message_on}
+use Rattle.sctp_wire_types.specs.Ids.{number_of}
+use Rattle.sctp_directions.specs.Acts.{type_on}
 use Rattle.sctp_pair.specs.declared.step.Reply.{Reply}
 use Rattle.sctp_pair.specs.declared.step.Reply.TheVariants as replies
 use Rattle.sctp_pair.specs.declared.step.Side2.{Side2}
@@ -28,7 +31,7 @@ use Rattle.sctp_pair.specs.declared.step.Side2.TheVariants as sides
 use Rattle.sctp_pair.specs.declared.step.Step.{Step}
 use Rattle.sctp_pair.specs.declared.step.Step.TheVariants as steps
 use Rattle.sctp_pair.specs.Ends.{Ends, end_of, packets_of}
-use Rattle.sctp_pair.specs.Steps.{Steps, packet_in}
+use Rattle.sctp_pair.specs.Steps.{Steps, Writing, packet_in, reading_of, writing_of}
 
 -- Both associations with every packet that they gave out, their initial TSNs, and the two directions: what was accepted
 -- on each stream and on which offsets it stands, what was given out, what was taken in, and what was read.
@@ -54,21 +57,35 @@ is_side sides.A sides.B = false
 is_side sides.B sides.A = false
 is_side sides.B sides.B = true
 
--- a message as it is accepted on a live stream
-abbrev pub messages_on : Option StreamView → List ℕ → List model.Message
-messages_on None bytes = []
-messages_on (Some t) bytes = message_on t bytes ∷ []
+-- a message as a stream of ordered, reliable messages accepts it under a payload type; so far a pair's streams have no
+-- others
+abbrev pub message_under : PayloadProtocolIdentifier → List ℕ → model.Message
+message_under kind bytes =
+    record { payload_type = number_of kind; bytes = bytes; ordered = true; policy = model.Policy.Reliable }
+
+-- the same on a live stream, under the payload type that is named, or else the stream's
+abbrev pub messages_on : Option StreamView → Option PayloadProtocolIdentifier → List ℕ → List model.Message
+messages_on None named bytes = []
+messages_on (Some t) named bytes = message_under (type_on t named) bytes ∷ []
+
+abbrev pub accepted_of : Option Writing → Reply → Side2 → ℕ → World → List model.Message
+accepted_of (Some x) (replies.Wrote count) side s w =
+    if is_side x.side side && (x.id == s) then messages_on (stream_at (end_of side w.ends).streams x.id) x.named x.bytes
+    else []
+accepted_of writing reply side s w = []
 
 -- what a step's write adds to what was accepted at side x on stream s
 abbrev pub accepted_at : Step → Reply → Side2 → ℕ → World → List model.Message
-accepted_at (steps.Write side id bytes) (replies.Wrote count) x s w =
-    if is_side side x && (id == s) then messages_on (stream_at (end_of x w.ends).streams id) bytes else []
-accepted_at step reply x s w = []
+accepted_at step reply x s w = accepted_of (writing_of step) reply x s w
+
+abbrev pub message_answered : Option (Side2 × ℕ) → Reply → Side2 → ℕ → Option ReceivedMessage
+message_answered (Some reading) (replies.Read message) x s =
+    if is_side reading.0 x && (reading.1 == s) then message else None
+message_answered reading reply x s = None
 
 -- the message that a step's read answers at side x on stream s
 abbrev pub message_read : Step → Reply → Side2 → ℕ → Option ReceivedMessage
-message_read (steps.Read side id) (replies.Read message) x s = if is_side side x && (id == s) then message else None
-message_read step reply x s = None
+message_read step reply x s = message_answered (reading_of step) reply x s
 
 abbrev pub packet_of_bytes : Option (List ℕ) → Option Packet
 packet_of_bytes None = None

@@ -1,5 +1,5 @@
 // One call of one association, and its answer as a reply.
-ghost use Rattle.std.specs.Prelude.{◌≡◌, ◌<◌, ◌++◌, ◌⊎◌, ℕ, length, take, slice_get, IfOk, OnOk, OnErr};
+ghost use Rattle.std.specs.Prelude.{◌≡◌, ◌<◌, ◌++◌, ◌⊎◌, ℕ, length, take, slice_get, IfOk, None, OnOk, OnErr};
 ghost use Rattle.sctp_wire.specs.Packets.{finished};
 ghost use Rattle.sctp_assoc.specs.Calls.{RefusesOrLacksMemory, written};
 ghost use Rattle.sctp_assoc.specs.Chunks.{after_packet};
@@ -41,7 +41,7 @@ pub(crate) fn find_stream(association: &mut Association, id: StreamId) -> Reply
 }
 
 pub(crate) fn write(association: &mut Association, id: StreamId, bytes: &Bytes) -> Reply
-    ensures { Writes association.old id bytes.now result association.new }
+    ensures { Writes association.old id None bytes.now result association.new }
 {
     match write_on(association, id, bytes) {
         Ok(count) => Reply::Wrote(count),
@@ -52,7 +52,7 @@ pub(crate) fn write(association: &mut Association, id: StreamId, bytes: &Bytes) 
 fn write_on(association: &mut Association, id: StreamId, bytes: &Bytes) -> Result<usize, Error>
     ensures refused { RefusesOrLacksMemory result (refusal_to_write association.old id (length bytes.now)) }
     ensures ok { IfOk result (λ n. n ≡ length bytes.now) }
-    ensures accepted { OnOk result (association.new ≡ written association.old id bytes.now) }
+    ensures accepted { OnOk result (association.new ≡ written association.old id None bytes.now) }
     ensures err { OnErr result (association.new ≡ association.old) }
 {
     let mut stream = association.stream(id)?;

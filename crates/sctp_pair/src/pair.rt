@@ -321,7 +321,7 @@ impl Pair {
     }
 
     fn write(&mut self, side: Side2, id: StreamId, bytes: &Bytes) -> Reply
-        ensures { AtSide side self.old (λ a b. Writes a id bytes.now result b) self.new }
+        ensures { AtSide side self.old (λ a b. Writes a id None bytes.now result b) self.new }
     {
         match side {
             Side2::A => calls::write(&mut self.a, id, bytes),

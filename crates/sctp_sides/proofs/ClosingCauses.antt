@@ -19,7 +19,8 @@ use Rattle.sctp_assoc.specs.declared.inbound.Flow.{Flow}
 use Rattle.sctp_assoc.specs.declared.inbound.Flow.TheVariants as flows
 use Rattle.sctp_assoc.specs.Leads.{Binds}
 use Rattle.sctp_directions.specs.Acts.{History}
-use Rattle.sctp_assoc.specs.Calls.{is_beginning, is_closed_state, is_cookie_wait}
+use Rattle.sctp_assoc.specs.Calls.{is_beginning, is_cookie_wait}
+use Rattle.sctp_assoc.specs.Closing.{is_closed_state}
 use Rattle.sctp_sides.specs.Causes.{CausesClose, ClosingPacketsHaveCauses, IsCause, Reaches}
 use Rattle.sctp_assoc.specs.Chunks.{checked_first, dispatched, on_chunk}
 use Rattle.sctp_assoc.specs.Handshake.{echoed, on_init, on_init_ack}

@@ -37,7 +37,8 @@ use Rattle.sctp_outbound.specs.GapAcks.{with_blocks}
 use Rattle.sctp_outbound.specs.Sender.{acknowledged, tsns_up_to, sack_outcome, with_window}
 use Rattle.sctp_assoc.specs.declared.inbound.Flow.{Flow}
 use Rattle.sctp_assoc.specs.declared.inbound.Flow.TheVariants as flows
-use Rattle.sctp_assoc.specs.Calls.{closed_by, is_beginning, is_closed_state, is_cookie_echoed, is_cookie_wait}
+use Rattle.sctp_assoc.specs.Calls.{is_beginning, is_cookie_echoed, is_cookie_wait}
+use Rattle.sctp_assoc.specs.Closing.{closed_by, is_closed_state}
 use Rattle.sctp_assoc.specs.Calls.{is_established}
 use Rattle.sctp_assoc.specs.Handshake.{acknowledged_cookie, answered, connected, echoed, information_returned, learned}
 use Rattle.sctp_assoc.specs.Handshake.{on_cookie_ack, on_cookie_echo, on_heartbeat, on_init, on_init_ack, sends_cookie}
@@ -61,7 +62,7 @@ goes_on_there a b c m n =
     record { still_open = λ e. m.still_open (n.still_open e); lost = n.lost ∙ m.lost; told = n.told ∙ m.told }
 
 -- nothing of the end changed, or one event came that is no loss
-stays : (a b : Shown) → b.state ≡ a.state → b.lost ≡ a.lost → b.events ≡ a.events → GoesOn a b
+pub stays : (a b : Shown) → b.state ≡ a.state → b.lost ≡ a.lost → b.events ≡ a.events → GoesOn a b
 stays a b s l e = record { still_open = λ c. ap is_closed_state (sym s) ∙ c; lost = l; told = ap losses e }
 
 one_more_told : (queued : List Event) (event : Event) → losses (queued ++ event ∷ []) ≡ losses queued + loss_of event
@@ -273,8 +274,8 @@ loss_told queued stats reason =
     ∙ omega arith)
 
 -- an association that is open is closed by a fault that came after chunks that leave its end as it was
-fault_closes : (closed : Bool) (a b : Shown) (reason : AssociationError) → is_closed_state b.state ≡ closed → GoesOn a b
-    → IsClosedIf (not closed) a (closed_by b reason)
+pub fault_closes : (closed : Bool) (a b : Shown) (reason : AssociationError) → is_closed_state b.state ≡ closed
+    → GoesOn a b → IsClosedIf (not closed) a (closed_by b reason)
 fault_closes true a b reason e m = rw e (record {
   closed = λ c. absurd (false≢true c);
   still_open = λ _ c. m.still_open c;

@@ -1,5 +1,6 @@
 mod ActsOfChunks
 mod BlocksWithin
+mod ClosingCalls
 mod ClosingCauses
 mod ClosingPackets
 mod DataIntake

@@ -1,15 +1,19 @@
 -- Live streams: what calls that were not refused can rely on, and streams that hold nothing.
-use Rattle.std.proofs.Common.{◌≡◌, refl, sym, ap, ◌∙◌, ⊎_elim, ℕ, arith, Bool, true, false, eqb, ltb}
+use Rattle.std.proofs.Common.{◌≡◌, refl, sym, ap, ◌∙◌, ⊎_elim, ℕ, arith, Bool, true, false, eqb, ltb, not}
 use Rattle.std.proofs.Common.{if◌then◌else◌, Option, Some, None, is_some}
 use Rattle.std.proofs.lemmas.Bool.{cases_Bool, cond-false, cond-true, eqb-false, true≢false}
 use Rattle.sctp_wire_types.specs.declared.error.Error.TheVariants as errors
 use Rattle.sctp_receive_queues.specs.Messages.{ReceivedMessage}
 use Rattle.sctp_receive_queues.specs.Reassembly.{empty_reassembly, taken}
-use Rattle.sctp_streams.specs.Stream.{StreamView, fresh_stream, read_with, stream_read}
-use Rattle.sctp_streams.specs.Streams.{StreamMap, generation_left, read_at, read_in, stream_at, with_stream}
+use Rattle.sctp_streams.specs.declared.setting.Setting.{Setting}
+use Rattle.sctp_streams.specs.declared.setting.Setting.TheVariants as settings
+use Rattle.sctp_streams.specs.Stream.{StreamView, fresh_stream, is_write_half_open, read_with, stream_read}
+use Rattle.sctp_streams.specs.Stream.{with_setting}
+use Rattle.sctp_streams.specs.Streams.{StreamMap, change_at, generation_left, read_at, read_in, stream_at, with_stream}
 use Rattle.sctp_assoc.specs.Calls.{is_established, opened, write_refusal_at}
 use Rattle.sctp_sides.specs.Shapes.{AcceptedWritesFit, WasWritable, FoundStreamsAreLive, IsLive}
-use Rattle.sctp_sides.specs.Shapes.{OpenedStreamsHoldNothing, OpenedStreamsWereNotLive, WhatHoldsNothingGivesNothing}
+use Rattle.sctp_sides.specs.Shapes.{OpenedStreamsHoldNothing, OpenedStreamsWereNotLive, SettingsHoldNothing}
+use Rattle.sctp_sides.specs.Shapes.{WhatHoldsNothingGivesNothing}
 use Rattle.sctp_assoc.specs.Shown.{Shown}
 use Rattle.sctp_sides.proofs.StreamsChanged.{at_made, at_with}
 
@@ -36,14 +40,15 @@ free_if false None left e = (refl, refl)
 pub opened_streams_were_not_live : OpenedStreamsWereNotLive
 opened_streams_were_not_live a id e = free_if a.failed (stream_at a.streams id) (generation_left a.streams) e
 
-size_free : (established empty large : Bool)
-    → (if established then (if empty then Some errors.ErrEmptyMessage else
+size_free : (shut established empty large : Bool)
+    → (if shut then Some errors.ErrStreamClosed else if established then (if empty then Some errors.ErrEmptyMessage else
     if large then Some errors.ErrOutboundPacketTooLarge else None) else Some errors.ErrPayloadDataStateNotExist) ≡ None
     → (established ≡ true) × (empty ≡ false) × (large ≡ false)
-size_free false empty large e = absurd (true≢false (ap is_some e))
-size_free true true large e = absurd (true≢false (ap is_some e))
-size_free true false true e = absurd (true≢false (ap is_some e))
-size_free true false false e = (refl, refl, refl)
+size_free true established empty large e = absurd (true≢false (ap is_some e))
+size_free false false empty large e = absurd (true≢false (ap is_some e))
+size_free false true true large e = absurd (true≢false (ap is_some e))
+size_free false true false true e = absurd (true≢false (ap is_some e))
+size_free false true false false e = (refl, refl, refl)
 
 write_free : (failed : Bool) (x : Option StreamView) (a : Shown) (id size : ℕ) → a.failed ≡ failed
     → stream_at a.streams id ≡ x
@@ -52,7 +57,8 @@ write_free true x a id size working there e = absurd (true≢false (ap is_some e
 write_free false None a id size working there e = absurd (true≢false (ap is_some e))
 write_free false (Some t) a id size working there e =
     let free =
-    size_free (is_established a.state) (eqb size 0) (ltb a.max_send_message_size size) e in
+    size_free (not (is_write_half_open t.halves)) (is_established a.state) (eqb size 0)
+    (ltb a.max_send_message_size size) e in
     record {
       live = record { working = working; stream = t; there = there };
       established = free.0;
@@ -85,6 +91,24 @@ opened_streams_hold_nothing a id kind none all =
     let first : ℕ = a.sender.queue.next_message_id in
     empty_beside a.streams (opened a id kind).streams id (fresh_stream id a.streams.next_generation first kind) refl
     (λ s. at_made a.streams id first s kind none) all
+
+setting_leaves : (s : StreamView) (setting : Setting) → (with_setting s setting).reassembly ≡ s.reassembly
+setting_leaves s (settings.DefaultPayloadType kind) = refl
+setting_leaves s (settings.Reliability params) = refl
+setting_leaves s (settings.LowMark bytes) = refl
+setting_leaves s (settings.HighMark bytes) = refl
+setting_leaves s settings.WriteHalfClosed = refl
+
+set_empty : (o : Option StreamView) (m : StreamMap) (id : ℕ) (setting : Setting) → stream_at m id ≡ o → AreEmpty m
+    → AreEmpty (change_at (λ s. with_setting s setting) o m id)
+set_empty None m id setting there all = all
+set_empty (Some t) m id setting there all =
+    let u : StreamView = with_setting t setting in
+    empty_beside m (with_stream m id u) id u (setting_leaves t setting ∙ all id t there)
+    (λ n. at_with m id n t u there) all
+
+pub settings_hold_nothing : SettingsHoldNothing
+settings_hold_nothing a id setting all = set_empty (stream_at a.streams id) a.streams id setting refl all
 
 empty_read : (t : StreamView) → t.reassembly ≡ empty_reassembly
     → stream_read t ≡ (record t { reassembly = empty_reassembly }, None)

@@ -4,12 +4,12 @@ use Rattle.std.proofs.Common.{◌||◌, not, if◌then◌else◌, List, [], ◌�
 use Rattle.std.proofs.lemmas.Bool.{and_parts, false≢true, not-true, true≢false}
 use Rattle.std.proofs.lemmas.List.Sums.{sum_by-append, sum_by-cons}
 use Rattle.sctp_wire_types.specs.declared.error.Error.{Error}
+use Rattle.sctp_streams.specs.declared.event.AssociationError.TheVariants as reasons
 use Rattle.sctp_streams.specs.declared.event.Event.{Event}
-use Rattle.sctp_streams.specs.Stream.{StreamView}
-use Rattle.sctp_streams.specs.Streams.{stream_at}
-use Rattle.sctp_assoc.specs.Calls.{event_from, fault_told, written_at}
+use Rattle.sctp_assoc.specs.Calls.{accepted_stream, event_from, fault_told, written}
+use Rattle.sctp_assoc.specs.Closing.{closed_by, is_closed_state}
 use Rattle.sctp_assoc.specs.Chunks.{after_packet}
-use Rattle.sctp_sides.specs.Laws.{IsClosedIf, StaysOpen, closes, is_faulted_packet, loss_of, losses}
+use Rattle.sctp_sides.specs.Laws.{IsClosedIf, StaysOpen, StaysUnclosed, closes, is_faulted_packet, loss_of, losses}
 use Rattle.sctp_sides.specs.OneSide.{Call, Calls, IsFresh, IsUnchanged, IsRun, carried_out, told_by, with_told}
 use Rattle.sctp_assoc.specs.Gather.{polled}
 use Rattle.sctp_assoc.specs.Shown.{Shown}
@@ -17,7 +17,9 @@ use Rattle.sctp_assoc.specs.Timeouts.{after_timeouts}
 use Rattle.sctp_sides.specs.Witnesses.{LossesAreToldOnce, loss_count}
 use Rattle.sctp_sides.proofs.ClosingPackets.{faults_alone_close}
 use Rattle.sctp_sides.proofs.DueSacks.{polls_do_not_close, timers_do_not_close}
-use Rattle.sctp_sides.proofs.TimersOverRuns.{Fell, accepted_works, fell}
+use Rattle.sctp_sides.proofs.ClosingCalls.{accepted_streams_do_not_close, closes_close, writes_do_not_close}
+use Rattle.sctp_sides.proofs.TimersOverChunks.{IsSound}
+use Rattle.sctp_sides.proofs.TimersOverRuns.{Fell, Works, accepted_works, call_sound, fell, fresh_ticks, sound_closed}
 
 -- Of these losses that were told, and those that wait, there is one where it was lost.
 record Counts (n : ℕ) (a : Shown) : Type 0 where
@@ -35,10 +37,9 @@ tells_nothing a b lost events =
     let n : losses b.events ≡ losses a.events = ap losses events in
     record { lost = lost; count = omega (arith, n); once = λ e. absurd (false≢true e) }
 
-write_tells : (o : Option StreamView) (a : Shown) (id : ℕ) (bytes : List ℕ)
-    → Tells false a (written_at o a id bytes, [])
-write_tells None a id bytes = tells_nothing a a refl refl
-write_tells (Some s) a id bytes = tells_nothing a _ refl refl
+unclosed_tells : (a b : Shown) → StaysUnclosed a b → Tells false a (b, [])
+unclosed_tells a b h =
+    record { lost = h.lost; count = omega (arith, h.told); once = λ e. absurd (false≢true e) }
 
 fault_counts : (o : Option Error) → losses (told_by (fault_told o)) ≡ 0
 fault_counts None = refl
@@ -56,14 +57,17 @@ poll_tells (event ∷ later) a e =
 closes_once : (lost faulted : Bool) → (not lost && faulted) ≡ true → lost ≡ false
 closes_once lost faulted e = not-true lost (and_parts (not lost) faulted e).0
 
-packet_tells : (closing : Bool) (a b : Shown) → IsClosedIf closing a b → (closing ≡ true → a.lost ≡ false)
+closing_tells : (closing : Bool) (a b : Shown) → IsClosedIf closing a b → (closing ≡ true → a.lost ≡ false)
     → Tells closing a (b, [])
-packet_tells closing a b h once = record { lost = h.lost; count = omega (arith, h.told); once = once }
+closing_tells closing a b h once = record { lost = h.lost; count = omega (arith, h.told); once = once }
 
 -- how a call that is carried out closes the association
 abbrev closes_by : Call → Shown → Bool
 closes_by (Call.OpenStream id kind) a = false
-closes_by (Call.Write id bytes) a = false
+closes_by (Call.Write id named bytes) a = false
+closes_by (Call.Set id setting) a = false
+closes_by Call.AcceptStream a = false
+closes_by Call.Close a = not (is_closed_state a.state)
 closes_by (Call.Read id) a = false
 closes_by Call.Poll a = false
 closes_by (Call.PollTransmit now) a = false
@@ -73,15 +77,31 @@ closes_by (Call.HandleEvent packet now) a = closes a packet now
 open_tells : (a b : Shown) → StaysOpen a b → Tells false a (b, [])
 open_tells a b h = tells_nothing a b h.lost h.events
 
-carried_tells : (call : Call) (a : Shown) → Tells (closes_by call a) a (carried_out call a)
-carried_tells (Call.OpenStream id kind) a = tells_nothing a _ refl refl
-carried_tells (Call.Write id bytes) a = write_tells (stream_at a.streams id) a id bytes
-carried_tells (Call.Read id) a = tells_nothing a _ refl refl
-carried_tells Call.Poll a = poll_tells a.events a refl
-carried_tells (Call.PollTransmit now) a = open_tells a (polled a now).0 (polls_do_not_close a now)
-carried_tells (Call.HandleTimeout now) a = open_tells a (after_timeouts a now) (timers_do_not_close a now)
-carried_tells (Call.HandleEvent packet now) a =
-    packet_tells (closes a packet now) a (after_packet a packet now) (faults_alone_close a packet now)
+-- what is not closed was not lost, where each association that was lost is closed
+open_is_kept : (closed lost : Bool) → (lost ≡ true → closed ≡ true) → not closed ≡ true → lost ≡ false
+open_is_kept closed false ends e = refl
+open_is_kept true true ends e = absurd (false≢true e)
+open_is_kept false true ends e = absurd (false≢true (ends refl))
+
+-- an association that was lost is closed
+abbrev EndsClosed : Shown → Type 0
+EndsClosed a = a.lost ≡ true → is_closed_state a.state ≡ true
+
+carried_tells : (call : Call) (a : Shown) → EndsClosed a → Tells (closes_by call a) a (carried_out call a)
+carried_tells (Call.OpenStream id kind) a ends = tells_nothing a _ refl refl
+carried_tells (Call.Write id named bytes) a ends =
+    unclosed_tells a (written a id named bytes) (writes_do_not_close a id named bytes)
+carried_tells (Call.Set id setting) a ends = tells_nothing a _ refl refl
+carried_tells Call.AcceptStream a ends = open_tells a (accepted_stream a).0 (accepted_streams_do_not_close a)
+carried_tells Call.Close a ends =
+    closing_tells (not (is_closed_state a.state)) a (closed_by a reasons.AssociationClosed)
+    (closes_close a reasons.AssociationClosed) (open_is_kept (is_closed_state a.state) a.lost ends)
+carried_tells (Call.Read id) a ends = tells_nothing a _ refl refl
+carried_tells Call.Poll a ends = poll_tells a.events a refl
+carried_tells (Call.PollTransmit now) a ends = open_tells a (polled a now).0 (polls_do_not_close a now)
+carried_tells (Call.HandleTimeout now) a ends = open_tells a (after_timeouts a now) (timers_do_not_close a now)
+carried_tells (Call.HandleEvent packet now) a ends =
+    closing_tells (closes a packet now) a (after_packet a packet now) (faults_alone_close a packet now)
     (closes_once a.lost (is_faulted_packet a packet now))
 
 counts_all : (n : ℕ) (x : Shown × List Event) → n + losses x.1 + losses x.0.events ≡ loss_count x.0.lost
@@ -114,24 +134,32 @@ counts_fell n a b h f =
     let same : loss_count b.lost ≡ loss_count a.lost = ap loss_count f.lost in
     record { at_most = omega (arith, h.at_most, same); in_all = λ e. absurd (true≢false (sym f.failed ∙ e)) }
 
-call_counts : (call : Call) (n : ℕ) (told : List Event) (a b : Shown) → Counts n a → Calls call told a b
-    → Counts (n + losses told) b
-call_counts call n told a b h (inl c) =
+carried_counts : (call : Call) (n : ℕ) (a : Shown) → EndsClosed a → Counts n a → Works call a
+    → Counts (n + losses (carried_out call a).1) (carried_out call a).0
+carried_counts call n a ends h (inl works) =
+    counts_on (closes_by call a) n a (carried_out call a) works h (carried_tells call a ends)
+carried_counts call n a ends h (inr same) =
+    subst (λ (x : Shown × List Event). Counts (n + losses x.1) x.0) (sym same) (counts_still n a h)
+
+call_counts : (call : Call) (n : ℕ) (told : List Event) (a b : Shown) → EndsClosed a → Counts n a
+    → Calls call told a b → Counts (n + losses told) b
+call_counts call n told a b ends h (inl c) =
     subst (λ (x : Shown × List Event). Counts (n + losses x.1) x.0) c.there
-    (counts_on (closes_by call a) n a (carried_out call a) (accepted_works call a c.accepted) h (carried_tells call a))
-call_counts call n told a b h (inr (inl c)) = counts_unchanged n told a b h c
-call_counts call n told a b h (inr (inr c)) =
+    (carried_counts call n a ends h (accepted_works call a c.accepted))
+call_counts call n told a b ends h (inr (inl c)) = counts_unchanged n told a b h c
+call_counts call n told a b ends h (inr (inr c)) =
     subst (λ (z : List Event). Counts (n + losses z) b) (sym c.silent) (counts_fell n a b h (fell a b c.failed))
 
-run_counts : (calls : List Call) (n : ℕ) (told : List Event) (a b : Shown) → Counts n a → IsRun calls told a b
-    → Counts (n + losses told) b
-run_counts [] n told a b h r = counts_unchanged n told a b h r
-run_counts (c ∷ cs) n told a b h r =
+run_counts : (calls : List Call) (n : ℕ) (told : List Event) (a b : Shown) → IsSound a → Counts n a
+    → IsRun calls told a b → Counts (n + losses told) b
+run_counts [] n told a b sound h r = counts_unchanged n told a b h r
+run_counts (c ∷ cs) n told a b sound h r =
     let all : losses told ≡ losses r.first + losses r.later = ap losses r.in_order
     ∙ sum_by-append loss_of r.first r.later in
     let sums : n + losses r.first + losses r.later ≡ n + losses told = omega (arith, all) in
     subst (λ (z : ℕ). Counts z b) sums (run_counts cs (n + losses r.first) r.later r.middle b
-    (call_counts c n r.first a r.middle h r.called) r.others)
+    (call_sound c r.first a r.middle sound r.called)
+    (call_counts c n r.first a r.middle (sound_closed a sound) h r.called) r.others)
 
 fresh_counts : (a : Shown) → IsFresh a → Counts 0 a
 fresh_counts a h =
@@ -140,5 +168,5 @@ fresh_counts a h =
 
 pub losses_are_told_once : LossesAreToldOnce
 losses_are_told_once calls told a b h r =
-    let all = run_counts calls 0 told a b (fresh_counts a h) r in
+    let all = run_counts calls 0 told a b (inl (fresh_ticks a h)) (fresh_counts a h) r in
     record { told_at_most = omega (arith, all.at_most); in_all = λ e. omega (arith, all.in_all e) }

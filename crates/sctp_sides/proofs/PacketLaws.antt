@@ -12,7 +12,8 @@ use Rattle.sctp_streams.specs.declared.event.AssociationError.TheVariants as rea
 use Rattle.sctp_streams.specs.Stream.{StreamView}
 use Rattle.sctp_inbound.specs.declared.receiver.AckTrigger.{AckTrigger}
 use Rattle.sctp_inbound.specs.declared.receiver.AckTrigger.TheVariants as triggers
-use Rattle.sctp_assoc.specs.Calls.{closed_by, closed_open, is_closed_state, is_established}
+use Rattle.sctp_assoc.specs.Calls.{is_established}
+use Rattle.sctp_assoc.specs.Closing.{closed_by, closed_open, is_closed_state}
 use Rattle.sctp_assoc.specs.Chunks.{after_packet, after_packet_of, ended, on_chunk}
 use Rattle.sctp_sides.specs.Shapes.{ChunksLeadOn, Closes, EndsPacket, EstablishedIsNotClosed, FaultsClose}
 use Rattle.sctp_sides.specs.Shapes.{LostAssociationsTakeNothing, NoPacketChangesNothing, PacketsEnd, TakesChunk}

@@ -7,7 +7,7 @@ use Rattle.sctp_streams.specs.declared.event.AssociationError.TheVariants as rea
 use Rattle.sctp_inbound.specs.declared.receiver.AckTrigger.{AckTrigger}
 use Rattle.sctp_assoc.specs.declared.inbound.Flow.{Flow}
 use Rattle.sctp_assoc.specs.declared.inbound.Flow.TheVariants as flows
-use Rattle.sctp_assoc.specs.Calls.{closed_by}
+use Rattle.sctp_assoc.specs.Closing.{closed_by}
 use Rattle.sctp_assoc.specs.Chunks.{after_chunks, ended, goes_on, on_chunk}
 use Rattle.sctp_assoc.specs.Shown.{Shown}
 

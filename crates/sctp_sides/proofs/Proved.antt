@@ -4,9 +4,10 @@ pub use Rattle.sctp_sides.proofs.PacketLaws.{chunks_lead_on, established_is_not_
 pub use Rattle.sctp_sides.proofs.PacketLaws.{lost_associations_take_nothing, no_packet_changes_nothing, packets_carry}
 pub use Rattle.sctp_sides.proofs.PacketLaws.{packets_end}
 pub use Rattle.sctp_assoc.proofs.CallsLeadOn.{open_leads_on, poll_leads_on, read_leads_on, timeouts_lead_on}
-pub use Rattle.sctp_assoc.proofs.CallsLeadOn.{write_leads_on}
+pub use Rattle.sctp_assoc.proofs.CallsLeadOn.{close_leads_on, setting_leads_on, write_leads_on}
 pub use Rattle.sctp_sides.proofs.LiveStreams.{accepted_writes_fit, found_streams_are_live, opened_streams_hold_nothing}
-pub use Rattle.sctp_sides.proofs.LiveStreams.{opened_streams_were_not_live, what_holds_nothing_gives_nothing}
+pub use Rattle.sctp_sides.proofs.LiveStreams.{opened_streams_were_not_live, settings_hold_nothing}
+pub use Rattle.sctp_sides.proofs.LiveStreams.{what_holds_nothing_gives_nothing}
 pub use Rattle.sctp_sides.proofs.HandshakeChunks.{established_sides_talk, the_same_handshake_is_the_same_stage}
 pub use Rattle.sctp_assoc.proofs.PollsLeadOn.{reports_are_silent}
 pub use Rattle.sctp_sides.proofs.PolledPackets.{polls_outside_established_give_what_waits, polls_say_their_acts}
@@ -15,6 +16,8 @@ pub use Rattle.sctp_sides.proofs.ActsOfChunks.{data_is_taken, greetings_meet, ot
 pub use Rattle.sctp_sides.proofs.ActsOfChunks.{other_sacks_do_nothing, polls_give_and_report, sacks_acknowledge}
 pub use Rattle.sctp_sides.proofs.ActsOfChunks.{taken_sacks_acknowledge, timeouts_mark_at_most}
 pub use Rattle.sctp_sides.proofs.Status.{opened_streams_keep_the_status, polls_keep_the_status, reads_keep_the_status}
+pub use Rattle.sctp_sides.proofs.Status.{accepted_streams_keep_the_status, settings_keep_the_status}
 pub use Rattle.sctp_sides.proofs.Status.{timers_keep_the_status, told_events_keep_the_status, writes_keep_the_status}
+pub use Rattle.sctp_sides.proofs.ClosingCalls.{accepted_streams_do_not_close, closes_close, settings_do_not_close}
 pub use Rattle.sctp_sides.proofs.StreamsChanged.{at_made, at_with}
 pub use Rattle.sctp_sides.proofs.HandshakeTruth.{greetings_stay_true}

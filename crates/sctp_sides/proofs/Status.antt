@@ -32,7 +32,8 @@ use Rattle.sctp_wire_types.specs.declared.chunk.GapAckBlock.{GapAckBlock}
 use Rattle.sctp_assoc.proofs.ActsKeepOffsets.{blocks_size}
 use Rattle.sctp_outbound.specs.Sender.{acknowledged, after_first, after_resending, can_send_next, tsns_up_to, resent_by}
 use Rattle.sctp_outbound.specs.Sender.{sack_outcome, sender_after, sent_new, sent_one, sent_within, with_window}
-use Rattle.sctp_assoc.specs.Calls.{after_ack_delay, after_t3, event_from, is_beginning, is_cookie_echoed}
+use Rattle.sctp_wire_types.specs.declared.ids.PayloadProtocolIdentifier.{PayloadProtocolIdentifier}
+use Rattle.sctp_assoc.specs.Calls.{accepted_from, after_ack_delay, after_t3, event_from, is_beginning, is_cookie_echoed}
 use Rattle.sctp_assoc.specs.Calls.{is_cookie_wait, is_established, retransmits, t3_expired, written_at}
 use Rattle.sctp_assoc.specs.Chunks.{checked_first, counted_data, dispatched, on_counted_data, counted_sack}
 use Rattle.sctp_assoc.specs.Chunks.{on_chunk, on_counted_sack, on_data, on_new_data, on_sack, stream_found, taken_in}
@@ -45,7 +46,7 @@ use Rattle.sctp_assoc.specs.Gather.{is_due, packet_with, with_sent_data, without
 use Rattle.sctp_assoc.specs.Timeouts.{after_handshake_timers}
 use Rattle.sctp_sides.specs.Shapes.{IsSameStatus, KeepsWorking, Leaves, OpenedStreamsKeepTheStatus, PollsKeepTheStatus}
 use Rattle.sctp_sides.specs.Shapes.{ReadsKeepTheStatus, TimersKeepTheStatus, ToldEventsKeepTheStatus}
-use Rattle.sctp_sides.specs.Shapes.{WritesKeepTheStatus}
+use Rattle.sctp_sides.specs.Shapes.{AcceptedStreamsKeepTheStatus, SettingsKeepTheStatus, WritesKeepTheStatus}
 use Rattle.sctp_sides.specs.Meeting.{Greets, IsTruthful, stage_of}
 use Rattle.sctp_assoc.specs.Control.{queued}
 use Rattle.sctp_inbound.specs.Greeting.{first_cookie, information_of, init_of}
@@ -386,13 +387,30 @@ polls_keep_the_status a now =
 pub opened_streams_keep_the_status : OpenedStreamsKeepTheStatus
 opened_streams_keep_the_status a id kind = status_by a _ refl refl refl refl refl refl refl
 
-written_status : (o : Option StreamView) (a : Shown) (id : ℕ) (bytes : List ℕ)
-    → IsSameStatus a (written_at o a id bytes)
-written_status None a id bytes = status_same a
-written_status (Some t) a id bytes = status_by a _ refl refl refl refl refl refl refl
+written_status : (o : Option StreamView) (a : Shown) (id : ℕ) (named : Option PayloadProtocolIdentifier)
+    (bytes : List ℕ) → IsSameStatus a (written_at o a id named bytes)
+written_status None a id named bytes = status_same a
+written_status (Some t) a id named bytes = status_by a _ refl refl refl refl refl refl refl
 
 pub writes_keep_the_status : WritesKeepTheStatus
-writes_keep_the_status a id bytes = written_status (stream_at a.streams id) a id bytes
+writes_keep_the_status a id named bytes = written_status (stream_at a.streams id) a id named bytes
+
+pub settings_keep_the_status : SettingsKeepTheStatus
+settings_keep_the_status a id setting = status_by a _ refl refl refl refl refl refl refl
+
+accepted_status : (ids : List ℕ) (a : Shown)
+    → IsSameStatus a (accepted_from ids a).0 × ((accepted_from ids a).0.streams ≡ a.streams)
+accepted_status [] a = (status_same a, refl)
+accepted_status (id ∷ ids) a = (status_by a _ refl refl refl refl refl refl refl, refl)
+
+accepted_status_if : (failed : Bool) (a : Shown)
+    → IsSameStatus a (if failed then (a, None) else accepted_from a.to_accept a).0
+    × ((if failed then (a, None) else accepted_from a.to_accept a).0.streams ≡ a.streams)
+accepted_status_if true a = (status_same a, refl)
+accepted_status_if false a = accepted_status a.to_accept a
+
+pub accepted_streams_keep_the_status : AcceptedStreamsKeepTheStatus
+accepted_streams_keep_the_status a = accepted_status_if a.failed a
 
 pub reads_keep_the_status : ReadsKeepTheStatus
 reads_keep_the_status a id = status_by a _ refl refl refl refl refl refl refl

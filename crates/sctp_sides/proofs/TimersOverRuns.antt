@@ -1,15 +1,19 @@
 -- Over every list of calls a side works with its timers where they should run, or is at rest.
-use Rattle.std.proofs.Common.{◌≡◌, refl, sym, ap, ◌∙◌, subst, ⊎_elim, inl, inr, ℕ, ◌<◌, Bool, true, false}
+use Rattle.std.proofs.Common.{◌≡◌, refl, sym, ap, ◌∙◌, subst, ◌⊎◌, ⊎_elim, inl, inr, ℕ, ◌<◌, Bool, true, false}
 use Rattle.std.proofs.Common.{if◌then◌else◌, List, [], ◌∷◌, length, Option, Some, None, is_some}
 use Rattle.std.proofs.lemmas.Bool.{false≢true, true≢false}
 use Rattle.sctp_wire_types.specs.declared.error.Error.{Error}
+use Rattle.sctp_wire_types.specs.declared.ids.PayloadProtocolIdentifier.{PayloadProtocolIdentifier}
 use Rattle.sctp_parts.specs.declared.timer.Timer.TheVariants as names
 use Rattle.sctp_parts.specs.Timers.{IsNoneArmed, Timers, earlier, least_moment, moment_of}
+use Rattle.sctp_streams.specs.declared.event.AssociationError.{AssociationError}
+use Rattle.sctp_streams.specs.declared.event.AssociationError.TheVariants as reasons
 use Rattle.sctp_streams.specs.declared.event.Event.{Event}
 use Rattle.sctp_streams.specs.Stream.{StreamView}
 use Rattle.sctp_streams.specs.Streams.{stream_at}
-use Rattle.sctp_assoc.specs.Calls.{event_from, is_closed_state, is_cookie_echoed, is_cookie_wait, is_established}
-use Rattle.sctp_assoc.specs.Calls.{written_at}
+use Rattle.sctp_assoc.specs.Calls.{event_from, is_cookie_echoed, is_cookie_wait, is_established}
+use Rattle.sctp_assoc.specs.Closing.{closed_open, is_closed_state}
+use Rattle.sctp_assoc.specs.Calls.{accepted_from, written_at}
 use Rattle.sctp_assoc.specs.Handshake.{sends_init}
 use Rattle.sctp_sides.specs.OneSide.{Call, Calls, FailsFrom, IsFresh, IsRun, call_refusal, carried_out, is_armed}
 use Rattle.sctp_sides.specs.OneSide.{is_delayed, with_told}
@@ -23,9 +27,11 @@ use Rattle.sctp_sides.specs.Witnesses.{NoHandshakeTimerRunsOnceEstablished, Noth
 use Rattle.sctp_sides.specs.Witnesses.{OutstandingDataIsTimed, SentInitsAreTimed, WaitsForNothing}
 use Rattle.sctp_sides.proofs.PacketLaws.{lost_associations_take_nothing}
 use Rattle.sctp_sides.proofs.PolledPackets.{polls_outside_established_give_what_waits}
-use Rattle.sctp_sides.proofs.TimersRun.{AtRest, Ticks, closed_waits_for_nothing, established_shakes_no_hands}
-use Rattle.sctp_sides.proofs.TimersRun.{none_armed, nothing_is_not_something, rest_by, ticks_by, time_by, unarmed}
-use Rattle.sctp_sides.proofs.TimersOverChunks.{IsSound, packets_sound}
+use Rattle.sctp_sides.proofs.TimersRun.{AtRest, IsSameTime, Ticks, closed_waits_for_nothing}
+use Rattle.sctp_sides.proofs.TimersRun.{established_shakes_no_hands}
+use Rattle.sctp_sides.proofs.TimersRun.{none_armed, nothing_is_not_something, rest_by, same_time, ticks_by}
+use Rattle.sctp_sides.proofs.TimersRun.{time_by, unarmed}
+use Rattle.sctp_sides.proofs.TimersOverChunks.{IsSound, closed_rests, packets_sound}
 use Rattle.sctp_sides.proofs.TimersOverPolls.{polls_tick}
 use Rattle.sctp_sides.proofs.TimersOverTimeouts.{timeouts_tick, unarmed_timeouts_do_nothing}
 
@@ -49,23 +55,68 @@ unrefused : (failed : Bool) (fault : Error) (more : Option Error) → (if failed
 unrefused true fault more e = absurd (true≢false (ap (λ (o : Option Error). is_some o) e))
 unrefused false fault more e = refl
 
-pub accepted_works : (call : Call) (a : Shown) → call_refusal call a ≡ None → a.failed ≡ false
-accepted_works (Call.OpenStream id kind) a e = unrefused a.failed _ _ e
-accepted_works (Call.Write id bytes) a e = unrefused a.failed _ _ e
-accepted_works (Call.Read id) a e = unrefused a.failed _ _ e
-accepted_works Call.Poll a e = unrefused a.failed _ _ e
-accepted_works (Call.PollTransmit now) a e = unrefused a.failed _ _ e
-accepted_works (Call.HandleTimeout now) a e = unrefused a.failed _ _ e
-accepted_works (Call.HandleEvent packet now) a e = unrefused a.failed _ _ e
+-- It works, or the call did nothing.
+abbrev pub Works : Call → Shown → Type 0
+Works call a = (a.failed ≡ false) ⊎ (carried_out call a ≡ (a, []))
 
-write_ticks : (o : Option StreamView) (a : Shown) (id : ℕ) (bytes : List ℕ) → Ticks a → Ticks (written_at o a id bytes)
-write_ticks None a id bytes h = h
-write_ticks (Some s) a id bytes h = ticks_by a _ (time_by a _ refl refl refl refl refl refl) h
+accept_works : (failed : Bool) (a : Shown) → a.failed ≡ failed
+    → (a.failed ≡ false)
+    ⊎ (◌≡◌ {A = Shown × List Event} ((if failed then (a, None) else accepted_from a.to_accept a).0, []) (a, []))
+accept_works true a e = inr refl
+accept_works false a e = inl e
 
-write_rests : (o : Option StreamView) (a : Shown) (id : ℕ) (bytes : List ℕ) → AtRest a
-    → AtRest (written_at o a id bytes)
-write_rests None a id bytes h = h
-write_rests (Some s) a id bytes h = rest_by a _ refl refl refl refl h
+pub accepted_works : (call : Call) (a : Shown) → call_refusal call a ≡ None → Works call a
+accepted_works (Call.OpenStream id kind) a e = inl (unrefused a.failed _ _ e)
+accepted_works (Call.Write id named bytes) a e = inl (unrefused a.failed _ _ e)
+accepted_works (Call.Set id setting) a e = inl (unrefused a.failed _ _ e)
+accepted_works Call.AcceptStream a e = accept_works a.failed a refl
+accepted_works Call.Close a e = inl (unrefused a.failed _ _ e)
+accepted_works (Call.Read id) a e = inl (unrefused a.failed _ _ e)
+accepted_works Call.Poll a e = inl (unrefused a.failed _ _ e)
+accepted_works (Call.PollTransmit now) a e = inl (unrefused a.failed _ _ e)
+accepted_works (Call.HandleTimeout now) a e = inl (unrefused a.failed _ _ e)
+accepted_works (Call.HandleEvent packet now) a e = inl (unrefused a.failed _ _ e)
+
+write_ticks : (o : Option StreamView) (a : Shown) (id : ℕ) (named : Option PayloadProtocolIdentifier) (bytes : List ℕ)
+    → Ticks a → Ticks (written_at o a id named bytes)
+write_ticks None a id named bytes h = h
+write_ticks (Some s) a id named bytes h = ticks_by a _ (time_by a _ refl refl refl refl refl refl) h
+
+write_rests : (o : Option StreamView) (a : Shown) (id : ℕ) (named : Option PayloadProtocolIdentifier) (bytes : List ℕ)
+    → AtRest a → AtRest (written_at o a id named bytes)
+write_rests None a id named bytes h = h
+write_rests (Some s) a id named bytes h = rest_by a _ refl refl refl refl h
+
+-- a stream is accepted
+accepted_time : (ids : List ℕ) (a : Shown) → IsSameTime a (accepted_from ids a).0
+accepted_time [] a = same_time a
+accepted_time (id ∷ ids) a = time_by a _ refl refl refl refl refl refl
+
+accept_time : (failed : Bool) (a : Shown)
+    → IsSameTime a (if failed then (a, None) else accepted_from a.to_accept a).0
+accept_time true a = same_time a
+accept_time false a = accepted_time a.to_accept a
+
+accept_ticks : (failed : Bool) (a : Shown) → Ticks a
+    → Ticks (if failed then (a, None) else accepted_from a.to_accept a).0
+accept_ticks failed a h = ticks_by a _ (accept_time failed a) h
+
+accept_rests : (failed : Bool) (a : Shown) → AtRest a
+    → AtRest (if failed then (a, None) else accepted_from a.to_accept a).0
+accept_rests failed a h =
+    let same = accept_time failed a in
+    rest_by a _ same.failed same.lost same.state same.timers h
+
+-- the association is closed
+close_sound : (closed : Bool) (a : Shown) (reason : AssociationError) → Ticks a
+    → IsSound (if closed then a else closed_open a reason)
+close_sound true a reason h = inl h
+close_sound false a reason h = inr (closed_rests a reason)
+
+close_rests : (closed : Bool) (a : Shown) (reason : AssociationError) → AtRest a
+    → AtRest (if closed then a else closed_open a reason)
+close_rests true a reason h = h
+close_rests false a reason h = closed_rests a reason
 
 poll_ticks : (queued : List Event) (a : Shown) → Ticks a → Ticks (with_told (event_from queued a)).0
 poll_ticks [] a h = ticks_by a _ (time_by a _ refl refl refl refl refl refl) h
@@ -77,7 +128,10 @@ poll_rests (e ∷ es) a h = rest_by a _ refl refl refl refl h
 
 ticks_carried : (call : Call) (a : Shown) → Ticks a → IsSound (carried_out call a).0
 ticks_carried (Call.OpenStream id kind) a h = inl (ticks_by a _ (time_by a _ refl refl refl refl refl refl) h)
-ticks_carried (Call.Write id bytes) a h = inl (write_ticks (stream_at a.streams id) a id bytes h)
+ticks_carried (Call.Write id named bytes) a h = inl (write_ticks (stream_at a.streams id) a id named bytes h)
+ticks_carried (Call.Set id setting) a h = inl (ticks_by a _ (time_by a _ refl refl refl refl refl refl) h)
+ticks_carried Call.AcceptStream a h = inl (accept_ticks a.failed a h)
+ticks_carried Call.Close a h = close_sound (is_closed_state a.state) a reasons.AssociationClosed h
 ticks_carried (Call.Read id) a h = inl (ticks_by a _ (time_by a _ refl refl refl refl refl refl) h)
 ticks_carried Call.Poll a h = inl (poll_ticks a.events a h)
 ticks_carried (Call.PollTransmit now) a h = inl (polls_tick a now h)
@@ -86,7 +140,10 @@ ticks_carried (Call.HandleEvent packet now) a h = packets_sound packet a now h
 
 rest_carried : (call : Call) (a : Shown) → a.lost ≡ true → AtRest a → AtRest (carried_out call a).0
 rest_carried (Call.OpenStream id kind) a lost h = rest_by a _ refl refl refl refl h
-rest_carried (Call.Write id bytes) a lost h = write_rests (stream_at a.streams id) a id bytes h
+rest_carried (Call.Write id named bytes) a lost h = write_rests (stream_at a.streams id) a id named bytes h
+rest_carried (Call.Set id setting) a lost h = rest_by a _ refl refl refl refl h
+rest_carried Call.AcceptStream a lost h = accept_rests a.failed a h
+rest_carried Call.Close a lost h = close_rests (is_closed_state a.state) a reasons.AssociationClosed h
 rest_carried (Call.Read id) a lost h = rest_by a _ refl refl refl refl h
 rest_carried Call.Poll a lost h = poll_rests a.events a h
 rest_carried (Call.PollTransmit now) a lost h =
@@ -99,13 +156,17 @@ rest_carried (Call.HandleEvent packet now) a lost h = subst AtRest
 is_lost : (a : Shown) → a.failed ≡ false → AtRest a → a.lost ≡ true
 is_lost a e h = ⊎_elim (λ (f : a.failed ≡ true). absurd (false≢true (sym e ∙ f))) (λ (l : a.lost ≡ true). l) h.over
 
-sound_closed : (a : Shown) → IsSound a → a.lost ≡ true → is_closed_state a.state ≡ true
+pub sound_closed : (a : Shown) → IsSound a → a.lost ≡ true → is_closed_state a.state ≡ true
 sound_closed a (inl h) e = absurd (false≢true (sym h.not_lost ∙ e))
 sound_closed a (inr h) e = h.closed e
 
-carried_sound : (call : Call) (a : Shown) → a.failed ≡ false → IsSound a → IsSound (carried_out call a).0
-carried_sound call a works (inl h) = ticks_carried call a h
-carried_sound call a works (inr h) = inr (rest_carried call a (is_lost a works h) h)
+works_sound : (call : Call) (a : Shown) → a.failed ≡ false → IsSound a → IsSound (carried_out call a).0
+works_sound call a works (inl h) = ticks_carried call a h
+works_sound call a works (inr h) = inr (rest_carried call a (is_lost a works h) h)
+
+carried_sound : (call : Call) (a : Shown) → Works call a → IsSound a → IsSound (carried_out call a).0
+carried_sound call a (inl works) h = works_sound call a works h
+carried_sound call a (inr same) h = subst (λ (x : Shown × List Event). IsSound x.0) (sym same) h
 
 fell_sound : (a b : Shown) → IsSound a → Fell a b → IsSound b
 fell_sound a b h f = inr (record {
@@ -114,7 +175,7 @@ fell_sound a b h f = inr (record {
   stopped = fell_stopped a b f;
 })
 
-call_sound : (call : Call) (told : List Event) (a b : Shown) → IsSound a → Calls call told a b → IsSound b
+pub call_sound : (call : Call) (told : List Event) (a b : Shown) → IsSound a → Calls call told a b → IsSound b
 call_sound call told a b h (inl c) =
     subst (λ (x : Shown × List Event). IsSound x.0) c.there (carried_sound call a (accepted_works call a c.accepted) h)
 call_sound call told a b h (inr (inl c)) = subst IsSound (sym c.same) h
@@ -126,7 +187,7 @@ run_sound : (calls : List Call) (told : List Event) (a b : Shown) → IsSound a 
 run_sound [] told a b h r = subst IsSound (sym r.same) h
 run_sound (c ∷ cs) told a b h r = run_sound cs r.later r.middle b (call_sound c r.first a r.middle h r.called) r.others
 
-fresh_ticks : (a : Shown) → IsFresh a → Ticks a
+pub fresh_ticks : (a : Shown) → IsFresh a → Ticks a
 fresh_ticks a h = record {
   working = h.working;
   not_lost = h.not_lost;

@@ -11,7 +11,8 @@ use Rattle.sctp_parts.specs.declared.timer.Timer.TheVariants as names
 use Rattle.sctp_parts.specs.Timers.{IsNoneArmed, TimerState, Timers, is_ahead, is_due, moment_of, passes}
 use Rattle.sctp_parts.specs.Timers.{restarted_if_stale, started}
 use Rattle.sctp_outbound_queue.specs.declared.message.InFlight.{InFlight}
-use Rattle.sctp_assoc.specs.Calls.{is_beginning, is_closed_state, is_cookie_echoed, is_cookie_wait, is_established}
+use Rattle.sctp_assoc.specs.Calls.{is_beginning, is_cookie_echoed, is_cookie_wait, is_established}
+use Rattle.sctp_assoc.specs.Closing.{is_closed_state}
 use Rattle.sctp_sides.specs.OneSide.{is_armed, is_delayed}
 use Rattle.sctp_assoc.specs.Shown.{Shown, all_stopped}
 

@@ -6,6 +6,7 @@ use Rattle.std.specs.Prelude.{◌==◌}
 use Rattle.std.proofs.lemmas.Bool.{cases_Bool, eq-eqb, false≢true, or_left, or_right}
 use Rattle.std.proofs.lemmas.List.Folds.{list_any-append}
 use Rattle.sctp_wire_types.specs.declared.chunk.ChunkPayloadData.{ChunkPayloadData}
+use Rattle.sctp_wire_types.specs.declared.ids.PayloadProtocolIdentifier.{PayloadProtocolIdentifier}
 use Rattle.sctp_outbound_queue.specs.declared.message.InFlight.{InFlight}
 use Rattle.sctp_outbound_queue.specs.Message.{accepted, is_of, sent_once}
 use Rattle.sctp_outbound_queue.specs.Waiting.{Waiting}
@@ -17,7 +18,7 @@ use Rattle.sctp_outbound.proofs.SenderSteps.{pieces_full, pieces_sent, pieces_sk
 use Rattle.sctp_streams.specs.Stream.{StreamView}
 use Rattle.sctp_streams.specs.Streams.{stream_at}
 use Rattle.sctp_inbound.specs.Handshake.{header_of}
-use Rattle.sctp_directions.specs.Acts.{message_of}
+use Rattle.sctp_directions.specs.Acts.{message_of, type_on}
 use Rattle.sctp_assoc.specs.Calls.{is_established, written_at}
 use Rattle.sctp_sides.specs.Laws.{PollsKeepWhatIsHeld, WritesAreHeld, is_held}
 use Rattle.sctp_assoc.specs.Gather.{ack_after, ack_polled, control_packets, data_packets, data_polled, exchange_polled}
@@ -31,21 +32,23 @@ waits number ms = list_any (λ (m : Waiting). m.message.message_id == number) ms
 
 -- Writes.
 
-written_held : (o : Option StreamView) (a : Shown) (id : ℕ) (bytes : List ℕ) → is_some o ≡ true
-    → is_held (written_at o a id bytes).sender.queue a.sender.queue.next_message_id ≡ true
-written_held None a id bytes some = absurd (false≢true some)
-written_held (Some s) a id bytes some =
+written_held : (o : Option StreamView) (a : Shown) (id : ℕ) (named : Option PayloadProtocolIdentifier) (bytes : List ℕ)
+    → is_some o ≡ true
+    → is_held (written_at o a id named bytes).sender.queue a.sender.queue.next_message_id ≡ true
+written_held None a id named bytes some = absurd (false≢true some)
+written_held (Some s) a id named bytes some =
+    let kind = type_on s named in
     let number = a.sender.queue.next_message_id in
     let size = a.sender.max_payload_size in
     let this : (number == number) ≡ true = eq-eqb number number refl in
-    let last : waits number (a.sender.queue.pending ++ accepted number (message_of s size id bytes) ∷ []) ≡ true =
+    let last : waits number (a.sender.queue.pending ++ accepted number (message_of s kind size id bytes) ∷ []) ≡ true =
     list_any-append (λ (m : Waiting). m.message.message_id == number) a.sender.queue.pending
-    (accepted number (message_of s size id bytes) ∷ [])
+    (accepted number (message_of s kind size id bytes) ∷ [])
     ∙ or_right (waits number a.sender.queue.pending) _ (or_left (number == number) false this) in
     or_left _ _ last
 
 pub writes_are_held : WritesAreHeld
-writes_are_held a id bytes live = written_held (stream_at a.streams id) a id bytes live
+writes_are_held a id named bytes live = written_held (stream_at a.streams id) a id named bytes live
 
 -- A piece goes out for the first time.
 

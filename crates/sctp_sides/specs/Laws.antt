@@ -10,7 +10,9 @@ use Rattle.sctp_wire_types.specs.declared.packet.CommonHeader.{CommonHeader}
 use Rattle.sctp_wire.specs.declared.packet.Packet.{Packet}
 use Rattle.sctp_wire.specs.Packets.{spelling}
 use Rattle.sctp_parts.specs.declared.state.AssociationState.TheVariants as states
+use Rattle.sctp_streams.specs.declared.event.AssociationError.{AssociationError}
 use Rattle.sctp_streams.specs.declared.event.Event.{Event}
+use Rattle.sctp_streams.specs.declared.setting.Setting.{Setting}
 use Rattle.sctp_streams.specs.declared.event.Event.TheVariants as events
 use Rattle.sctp_streams.specs.Streams.{bytes_waiting, stream_at}
 use Rattle.sctp_outbound_queue.specs.Waiting.{Waiting}
@@ -28,7 +30,9 @@ use Rattle.sctp_assoc.specs.declared.inbound.Flow.TheVariants as flows
 use Rattle.sctp_assoc.specs.Leads.{Binds, parts}
 use Rattle.sctp_directions.specs.Acts.{History, all_data_given, reach_in}
 use Rattle.sctp_fit.specs.Incoming.{tsn_before}
-use Rattle.sctp_assoc.specs.Calls.{is_closed_state, is_established, opened, read_from_stream, written}
+use Rattle.sctp_assoc.specs.Calls.{accepted_stream, adjusted, is_established, opened, read_from_stream}
+use Rattle.sctp_assoc.specs.Calls.{written}
+use Rattle.sctp_assoc.specs.Closing.{closed_by, is_closed_state}
 use Rattle.sctp_assoc.specs.Chunks.{after_packet, on_chunk}
 use Rattle.sctp_assoc.specs.Happened.{acts_of_poll}
 use Rattle.sctp_assoc.specs.Gather.{control_packets, data_polled, is_due, packet_bytes, packet_with, polled, sack_chunk}
@@ -74,8 +78,9 @@ is_held q number =
 
 -- A message that a live stream accepted is held, under the number that was next.
 abbrev pub WritesAreHeld : Type 0
-WritesAreHeld = (a : Shown) (id : ℕ) (bytes : List ℕ) → is_some (stream_at a.streams id) ≡ true
-    → is_held (written a id bytes).sender.queue a.sender.queue.next_message_id ≡ true
+WritesAreHeld = (a : Shown) (id : ℕ) (named : Option PayloadProtocolIdentifier) (bytes : List ℕ)
+    → is_some (stream_at a.streams id) ≡ true
+    → is_held (written a id named bytes).sender.queue a.sender.queue.next_message_id ≡ true
 
 -- A poll loses no message: what waited or was in flight does so after it.
 abbrev pub PollsKeepWhatIsHeld : Type 0
@@ -85,15 +90,41 @@ PollsKeepWhatIsHeld =
 
 -- Closing
 
+abbrev pub loss_of : Event → ℕ
+loss_of (events.AssociationLost reason) = 1
+loss_of events.Connected = 0
+loss_of (events.HandshakeFailed reason) = 0
+loss_of (events.Stream event) = 0
+loss_of (events.DataChannelStatsFinal stats) = 0
+loss_of events.DatagramReceived = 0
+
+-- how many of the events tell of a loss
+abbrev pub losses : List Event → ℕ
+losses queued = sum_by loss_of queued
+
+-- The state and the mark of a loss are as they were, and no loss more is told.
+pub record StaysUnclosed (a b : Shown) : Type 0 where
+  pub state : b.state ≡ a.state
+  pub lost : b.lost ≡ a.lost
+  pub told : losses b.events ≡ losses a.events
+
 -- The state, the mark of a loss and the events are as they were.
 pub record StaysOpen (a b : Shown) : Type 0 where
   pub state : b.state ≡ a.state
   pub lost : b.lost ≡ a.lost
   pub events : b.events ≡ a.events
 
--- No write, opened stream, read, poll for packets or timer closes an association.
+-- No write, setting, opened or accepted stream, read, poll for packets or timer closes an association. A write may be
+-- told as an event, but as no loss.
 abbrev pub WritesDoNotClose : Type 0
-WritesDoNotClose = (a : Shown) (id : ℕ) (bytes : List ℕ) → StaysOpen a (written a id bytes)
+WritesDoNotClose = (a : Shown) (id : ℕ) (named : Option PayloadProtocolIdentifier) (bytes : List ℕ)
+    → StaysUnclosed a (written a id named bytes)
+
+abbrev pub SettingsDoNotClose : Type 0
+SettingsDoNotClose = (a : Shown) (id : ℕ) (setting : Setting) → StaysOpen a (adjusted a id setting)
+
+abbrev pub AcceptedStreamsDoNotClose : Type 0
+AcceptedStreamsDoNotClose = (a : Shown) → StaysOpen a (accepted_stream a).0
 
 abbrev pub OpenedStreamsDoNotClose : Type 0
 OpenedStreamsDoNotClose = (a : Shown) (id : ℕ) (kind : PayloadProtocolIdentifier) → StaysOpen a (opened a id kind)
@@ -125,18 +156,6 @@ is_faulted_packet a (Some packet) now = is_faulted packet.common_header packet.c
 abbrev pub closes : Shown → Option Packet → ℕ → Bool
 closes a packet now = not a.lost && is_faulted_packet a packet now
 
-abbrev pub loss_of : Event → ℕ
-loss_of (events.AssociationLost reason) = 1
-loss_of events.Connected = 0
-loss_of (events.HandshakeFailed reason) = 0
-loss_of (events.Stream event) = 0
-loss_of (events.DataChannelStatsFinal stats) = 0
-loss_of events.DatagramReceived = 0
-
--- how many of the events tell of a loss
-abbrev pub losses : List Event → ℕ
-losses queued = sum_by loss_of queued
-
 -- An association closed, or it did not: if so it is lost, and one event more tells of it; if not, it isn't closed
 -- unless it was.
 pub record IsClosedIf (closing : Bool) (a b : Shown) : Type 0 where
@@ -150,6 +169,11 @@ pub record IsClosedIf (closing : Bool) (a b : Shown) : Type 0 where
 abbrev pub FaultsAloneClose : Type 0
 FaultsAloneClose =
     (a : Shown) (packet : Option Packet) (now : ℕ) → IsClosedIf (closes a packet now) a (after_packet a packet now)
+
+-- An application's close closes an open association once, by whatever reason.
+abbrev pub ClosesClose : Type 0
+ClosesClose =
+    (a : Shown) (reason : AssociationError) → IsClosedIf (not (is_closed_state a.state)) a (closed_by a reason)
 
 -- Reporting
 

@@ -1,8 +1,7 @@
 -- One side over every list of calls: what each public call may do, and the runs that are made of them.
-use Rattle.std.specs.Prelude.{◌≡◌, ◌⊎◌, ℕ, Bool, true, false, List, [], ◌∷◌, ◌++◌, if◌then◌else◌, length, is_some}
+use Rattle.std.specs.Prelude.{◌≡◌, ◌⊎◌, ℕ, Bool, true, false, List, [], ◌∷◌, ◌++◌, length, is_some}
 use Rattle.std.specs.Prelude.{Option, Some, None}
 use Rattle.sctp_wire_types.specs.declared.error.Error.{Error}
-use Rattle.sctp_wire_types.specs.declared.error.Error.TheVariants as errors
 use Rattle.sctp_wire_types.specs.declared.ids.PayloadProtocolIdentifier.{PayloadProtocolIdentifier}
 use Rattle.sctp_wire.specs.declared.packet.Packet.{Packet}
 use Rattle.sctp_parts.specs.declared.state.AckState.{AckState}
@@ -10,9 +9,13 @@ use Rattle.sctp_parts.specs.declared.state.AckState.TheVariants as acks
 use Rattle.sctp_parts.specs.declared.timer.Timer.TheVariants as names
 use Rattle.sctp_parts.specs.declared.timer.Timer.{Timer}
 use Rattle.sctp_parts.specs.Timers.{Timers, moment_of}
+use Rattle.sctp_streams.specs.declared.event.AssociationError.TheVariants as reasons
 use Rattle.sctp_streams.specs.declared.event.Event.{Event}
-use Rattle.sctp_assoc.specs.Calls.{event_polled, is_cookie_echoed, is_cookie_wait, open_refusal, opened}
-use Rattle.sctp_assoc.specs.Calls.{read_from_stream, read_refusal, write_refusal, written}
+use Rattle.sctp_streams.specs.declared.setting.Setting.{Setting}
+use Rattle.sctp_assoc.specs.Calls.{accepted_stream, adjusted, event_polled, failed_refusal, gone_refusal}
+use Rattle.sctp_assoc.specs.Calls.{is_cookie_echoed, is_cookie_wait, open_refusal, opened, read_from_stream}
+use Rattle.sctp_assoc.specs.Calls.{read_refusal, write_refusal, written}
+use Rattle.sctp_assoc.specs.Closing.{closed_by}
 use Rattle.sctp_assoc.specs.Chunks.{after_packet}
 use Rattle.sctp_sides.specs.Laws.{losses}
 use Rattle.sctp_assoc.specs.Gather.{polled}
@@ -33,8 +36,14 @@ is_delayed acks.Delay = true
 pub data Call : Type 0 where
   -- a stream of this identifier is to be opened, whose messages have this payload type
   OpenStream : ℕ → PayloadProtocolIdentifier → Call
-  -- these bytes are to be sent on a stream
-  Write : ℕ → List ℕ → Call
+  -- these bytes are to be sent on a stream, under the payload type that is named, or else the stream's
+  Write : ℕ → Option PayloadProtocolIdentifier → List ℕ → Call
+  -- this is to be set on a stream
+  Set : ℕ → Setting → Call
+  -- the oldest stream that the peer opened is asked for
+  AcceptStream : Call
+  -- the association is to be closed
+  Close : Call
   -- the next message of a stream is asked for
   Read : ℕ → Call
   -- the oldest event is asked for
@@ -56,22 +65,29 @@ with_told (a, event) = (a, told_by event)
 -- what a call that is carried out leaves, and the events that it tells
 abbrev pub carried_out : Call → Shown → Shown × List Event
 carried_out (Call.OpenStream id kind) a = (opened a id kind, [])
-carried_out (Call.Write id bytes) a = (written a id bytes, [])
+carried_out (Call.Write id named bytes) a = (written a id named bytes, [])
+carried_out (Call.Set id setting) a = (adjusted a id setting, [])
+carried_out Call.AcceptStream a = ((accepted_stream a).0, [])
+carried_out Call.Close a = (closed_by a reasons.AssociationClosed, [])
 carried_out (Call.Read id) a = ((read_from_stream a id).0, [])
 carried_out Call.Poll a = with_told (event_polled a)
 carried_out (Call.PollTransmit now) a = ((polled a now).0, [])
 carried_out (Call.HandleTimeout now) a = (after_timeouts a now, [])
 carried_out (Call.HandleEvent packet now) a = (after_packet a packet now, [])
 
--- why a call is refused, want of memory aside: a failed association refuses each
+-- why a call is refused, want of memory aside: a failed association refuses each, but for the question for a stream
+-- that the peer opened, of which it has none
 abbrev pub call_refusal : Call → Shown → Option Error
 call_refusal (Call.OpenStream id kind) a = open_refusal a id
-call_refusal (Call.Write id bytes) a = write_refusal a id (length bytes)
+call_refusal (Call.Write id named bytes) a = write_refusal a id (length bytes)
+call_refusal (Call.Set id setting) a = gone_refusal a id
+call_refusal Call.AcceptStream a = None
 call_refusal (Call.Read id) a = read_refusal a id
-call_refusal call a = if a.failed then Some errors.ErrAssociationFailed else None
+call_refusal call a = failed_refusal a
 
 -- a call that may find no memory in its middle
 abbrev pub has_a_middle : Call → Bool
+has_a_middle Call.Close = true
 has_a_middle (Call.PollTransmit now) = true
 has_a_middle (Call.HandleTimeout now) = true
 has_a_middle (Call.HandleEvent packet now) = true

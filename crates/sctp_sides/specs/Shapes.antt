@@ -17,13 +17,16 @@ use Rattle.sctp_received.specs.Received.{is_named}
 use Rattle.sctp_streams.specs.declared.event.AssociationError.{AssociationError}
 use Rattle.sctp_streams.specs.declared.event.Event.{Event}
 use Rattle.sctp_streams.specs.Stream.{StreamView}
+use Rattle.sctp_streams.specs.declared.setting.Setting.{Setting}
 use Rattle.sctp_streams.specs.Streams.{made, stream_at}
 use Rattle.sctp_inbound.specs.declared.receiver.AckTrigger.{AckTrigger}
 use Rattle.sctp_directions.specs.Acts.{Act, History, all_data_given, reach_in}
 use Rattle.sctp_assoc.specs.Leads.{Binds, LeadsOn, parts}
 use Rattle.sctp_fit.specs.Incoming.{tsn_before}
-use Rattle.sctp_assoc.specs.Calls.{closed_by, event_polled, is_closed_state, is_established, open_refusal, opened}
-use Rattle.sctp_assoc.specs.Calls.{read_from_stream, stream_refusal, write_refusal, written}
+use Rattle.sctp_assoc.specs.Calls.{event_polled, is_established, open_refusal, opened}
+use Rattle.sctp_assoc.specs.Closing.{closed_by, is_closed_state}
+use Rattle.sctp_assoc.specs.Calls.{accepted_stream, adjusted, read_from_stream, stream_refusal}
+use Rattle.sctp_assoc.specs.Calls.{write_refusal, written}
 use Rattle.sctp_assoc.specs.Chunks.{after_packet, ended, on_chunk}
 use Rattle.sctp_assoc.specs.Happened.{Polls, acts_of_chunk, acts_of_poll, acts_of_timeouts}
 use Rattle.sctp_assoc.specs.Inbound.{taken_packet}
@@ -66,7 +69,16 @@ abbrev pub OpenedStreamsKeepTheStatus : Type 0
 OpenedStreamsKeepTheStatus = (a : Shown) (id : ℕ) (kind : PayloadProtocolIdentifier) → IsSameStatus a (opened a id kind)
 
 abbrev pub WritesKeepTheStatus : Type 0
-WritesKeepTheStatus = (a : Shown) (id : ℕ) (bytes : List ℕ) → IsSameStatus a (written a id bytes)
+WritesKeepTheStatus = (a : Shown) (id : ℕ) (named : Option PayloadProtocolIdentifier) (bytes : List ℕ)
+    → IsSameStatus a (written a id named bytes)
+
+abbrev pub SettingsKeepTheStatus : Type 0
+SettingsKeepTheStatus = (a : Shown) (id : ℕ) (setting : Setting) → IsSameStatus a (adjusted a id setting)
+
+-- a stream that is accepted changes nothing else, no stream neither
+abbrev pub AcceptedStreamsKeepTheStatus : Type 0
+AcceptedStreamsKeepTheStatus =
+    (a : Shown) → IsSameStatus a (accepted_stream a).0 × ((accepted_stream a).0.streams ≡ a.streams)
 
 abbrev pub ReadsKeepTheStatus : Type 0
 ReadsKeepTheStatus = (a : Shown) (id : ℕ) → IsSameStatus a (read_from_stream a id).0
@@ -123,6 +135,10 @@ abbrev pub OpenedStreamsHoldNothing : Type 0
 OpenedStreamsHoldNothing =
     (a : Shown) (id : ℕ) (kind : PayloadProtocolIdentifier) → IsNotLive a id → HoldsNothing a
     → HoldsNothing (opened a id kind)
+
+-- So where something is set on a stream.
+abbrev pub SettingsHoldNothing : Type 0
+SettingsHoldNothing = (a : Shown) (id : ℕ) (setting : Setting) → HoldsNothing a → HoldsNothing (adjusted a id setting)
 
 -- A read where no stream holds anything gives nothing, and leaves it so.
 abbrev pub WhatHoldsNothingGivesNothing : Type 0

@@ -11,7 +11,8 @@ use Rattle.sctp_parts.specs.Timers.{Timers, least_moment, limit_of, passes, time
 use Rattle.sctp_streams.specs.declared.event.AssociationError.{AssociationError}
 use Rattle.sctp_streams.specs.declared.event.Event.{Event}
 use Rattle.sctp_wire_types.specs.declared.config.ServerConfig.{ServerConfig}
-use Rattle.sctp_assoc.specs.Calls.{closed_by, is_closed_state, is_cookie_echoed, is_cookie_wait, is_established}
+use Rattle.sctp_assoc.specs.Calls.{is_cookie_echoed, is_cookie_wait, is_established}
+use Rattle.sctp_assoc.specs.Closing.{closed_by, is_closed_state}
 use Rattle.sctp_assoc.specs.Created.{created, joined}
 use Rattle.sctp_sides.specs.Laws.{losses}
 use Rattle.sctp_sides.specs.OneSide.{Call, FailsFrom, IsFresh, IsRun, is_armed, is_delayed}

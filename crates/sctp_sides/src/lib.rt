@@ -5,7 +5,9 @@
 
 ghost use Rattle.sctp_sides.specs.Shapes.{AcceptedWritesFit, ChunksLeadOn, DataIsTaken, EstablishedIsNotClosed};
 ghost use Rattle.sctp_sides.specs.Shapes.{EstablishedSidesTalk, FaultsClose, FoundStreamsAreLive, GreetingsMeet};
-ghost use Rattle.sctp_sides.specs.Shapes.{GreetingsStayTrue, LostAssociationsTakeNothing, NoPacketChangesNothing};
+ghost use Rattle.sctp_sides.specs.Shapes.{AcceptedStreamsKeepTheStatus, GreetingsStayTrue};
+ghost use Rattle.sctp_sides.specs.Shapes.{LostAssociationsTakeNothing, NoPacketChangesNothing, SettingsHoldNothing};
+ghost use Rattle.sctp_sides.specs.Shapes.{SettingsKeepTheStatus};
 ghost use Rattle.sctp_sides.specs.Shapes.{OpenedStreamsHoldNothing, OpenedStreamsKeepTheStatus};
 ghost use Rattle.sctp_sides.specs.Shapes.{OpenedStreamsWereNotLive, OtherChunksDoNothing, OtherSacksDoNothing};
 ghost use Rattle.sctp_sides.specs.Shapes.{PacketsEnd, PollsGiveAndReport, PollsKeepTheStatus};
@@ -16,7 +18,8 @@ ghost use Rattle.sctp_sides.specs.Shapes.{WhatHoldsNothingGivesNothing, WhatWait
 ghost use Rattle.sctp_sides.specs.Causes.{CausesClose, ClosingPacketsHaveCauses, FaultsAreCauses};
 ghost use Rattle.sctp_sides.specs.Intake.{DataIsTakenIn, NothingElseIsTakenIn};
 ghost use Rattle.sctp_sides.specs.Laws.{DueSacksGoOut, FaultsAloneClose, OpenedStreamsDoNotClose, PollsDoNotClose};
-ghost use Rattle.sctp_sides.specs.Laws.{PollsKeepWhatIsHeld, ReadsDoNotClose, SacksAreSpelled, SacksNameThePoint};
+ghost use Rattle.sctp_sides.specs.Laws.{AcceptedStreamsDoNotClose, ClosesClose, ReadsDoNotClose};
+ghost use Rattle.sctp_sides.specs.Laws.{PollsKeepWhatIsHeld, SacksAreSpelled, SacksNameThePoint, SettingsDoNotClose};
 ghost use Rattle.sctp_sides.specs.Laws.{PollsBeginWithWhatWaits, SacksOfferTheBuffer, SacksSayWhatWasTaken};
 ghost use Rattle.sctp_sides.specs.Laws.{TimersDoNotClose};
 ghost use Rattle.sctp_sides.specs.Laws.{WhatWaitsIsGiven, WhatWaitsIsPolled, WritesAreHeld, WritesDoNotClose};
@@ -40,13 +43,16 @@ pub fn writes_and_polls_lose_nothing()
     ensures polled { PollsKeepWhatIsHeld }
 {}
 
-/// Closing: a packet with a fault closes an open association, once, and no other packet does, and no write, opened
-/// stream, read, poll for packets or timer.
+/// Closing: a packet with a fault closes an open association, once, and no other packet does; so does the application's
+/// close. No write, setting, opened or accepted stream, read, poll for packets or timer closes.
 pub fn faults_alone_close()
     ensures packets { FaultsAloneClose }
     ensures writes { WritesDoNotClose }
     ensures streams { OpenedStreamsDoNotClose }
+    ensures settings { SettingsDoNotClose }
+    ensures accepted { AcceptedStreamsDoNotClose }
     ensures reads { ReadsDoNotClose }
+    ensures closes { ClosesClose }
     ensures polls { PollsDoNotClose }
     ensures timers { TimersDoNotClose }
 {}
@@ -81,6 +87,8 @@ pub fn data_is_taken_in()
 pub fn calls_keep_the_status()
     ensures opened { OpenedStreamsKeepTheStatus }
     ensures written { WritesKeepTheStatus }
+    ensures set { SettingsKeepTheStatus }
+    ensures accepted { AcceptedStreamsKeepTheStatus }
     ensures read { ReadsKeepTheStatus }
     ensures told { ToldEventsKeepTheStatus }
     ensures timers { TimersKeepTheStatus }
@@ -105,6 +113,7 @@ pub fn accepted_calls_could_be_done()
 /// Reading: where no stream holds anything, none does after a stream is opened or read, and nothing is read.
 pub fn nothing_comes_of_nothing()
     ensures opened { OpenedStreamsHoldNothing }
+    ensures set { SettingsHoldNothing }
     ensures read { WhatHoldsNothingGivesNothing }
 {}
 

@@ -7,7 +7,7 @@ pub use sctp_receive_queues::{Chunks, ReassemblyQueue};
 pub use sctp_received::ReceiveQueue;
 pub use sctp_streams::{
     AssociationError, DataChannelStats, Event, Events, RecvSendState, ReliabilityParams,
-    StreamState, Streams,
+    Setting, StreamState, Streams,
 };
 pub use sctp_wire::{
     Chunk, ChunkAbort, ChunkError, ChunkForwardTsn, ChunkHeartbeat, ChunkIForwardTsn, ChunkInit,

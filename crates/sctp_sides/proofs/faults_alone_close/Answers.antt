@@ -1,9 +1,23 @@
+use Rattle.sctp_sides.proofs.ClosingCalls.{closes_close, writes_do_not_close}
+use Rattle.sctp_sides.proofs.ClosingCalls.{accepted_streams_do_not_close, settings_do_not_close}
 use Rattle.sctp_sides.proofs.ClosingPackets.{faults_alone_close}
 use Rattle.sctp_sides.proofs.DueSacks.{polls_do_not_close, timers_do_not_close}
 use Rattle.sctp_sides.proofs.faults_alone_close.Goals as goal
 
 pub returns-clause-packets : goal.returns-clause-packets
 returns-clause-packets c = faults_alone_close
+
+pub returns-clause-writes : goal.returns-clause-writes
+returns-clause-writes c = writes_do_not_close
+
+pub returns-clause-settings : goal.returns-clause-settings
+returns-clause-settings c = settings_do_not_close
+
+pub returns-clause-accepted : goal.returns-clause-accepted
+returns-clause-accepted c = accepted_streams_do_not_close
+
+pub returns-clause-closes : goal.returns-clause-closes
+returns-clause-closes c = closes_close
 
 pub returns-clause-polls : goal.returns-clause-polls
 returns-clause-polls c = polls_do_not_close

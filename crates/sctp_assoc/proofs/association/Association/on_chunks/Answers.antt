@@ -2,7 +2,7 @@ use Rattle.std.proofs.Common.{rules, ◌≡◌, ◌∙◌, ap, ◌∷◌, false}
 use Rattle.std.proofs.lemmas.Result.{on_err_weaker}
 use Rattle.std.specs.Vec.Iter.{into_iter_items}
 use Rattle.sctp_assoc.specs.declared.inbound.Flow.{Flow}
-use Rattle.sctp_assoc.specs.Calls.{is_closed_state}
+use Rattle.sctp_assoc.specs.Closing.{is_closed_state}
 use Rattle.sctp_assoc.proofs.MemoryTaken.{fault_takes, first_takes, later_takes}
 use Rattle.sctp_outbound.proofs.SenderSteps.{on_err}
 use Rattle.sctp_assoc.proofs.association.Association.on_chunks.Goals as goal

@@ -1,4 +1,8 @@
 use Rattle.std.proofs.Common.{refl}
+use Rattle.std.proofs.lemmas.Result.{err_from_is_err_and}
+use Rattle.sctp_assoc.specs.Created.{create_refusal}
+use Rattle.sctp_assoc.specs.Shown.{Shown}
+use Rattle.sctp_pair.proofs.AnsweredValues.{second_refuses}
 use Rattle.sctp_pair.proofs.Counted.{fits_with_none}
 use Rattle.sctp_pair.proofs.NewPairs.{IsClient, IsServer, fits_hello}
 use Rattle.sctp_pair.proofs.pair.Pair.client_server.Goals as goal
@@ -41,3 +45,12 @@ returns-clause-new c = record {
   new = record { initial_a = c.args.tsn_a; initial_b = c.args.tsn_b; fits = returns-clause-counted c };
   led = refl;
 }
+
+-- B is refused
+pub returns-in_err-b-clause-refused : goal.returns-in_err-b-clause-refused
+returns-in_err-b-clause-refused c =
+    let p = err_from_is_err_and c.from_residual-in_err-b.result c.from_residual-in_err-b.ensures.1 in
+    second_refuses Shown c.from_residual-in_err-b.result p.0 _
+    (create_refusal c.args.max_payload_size_a c.args.tsn_a)
+    (create_refusal c.args.max_payload_size_b c.args.tsn_b) p.1 p.2
+    c.in_ok-a.ensures.refused c.in_err-b.ensures.refused

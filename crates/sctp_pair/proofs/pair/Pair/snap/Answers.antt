@@ -1,4 +1,8 @@
 use Rattle.std.proofs.Common.{refl}
+use Rattle.std.proofs.lemmas.Result.{err_from_is_err_and}
+use Rattle.sctp_assoc.specs.Created.{join_refusal}
+use Rattle.sctp_assoc.specs.Shown.{Shown}
+use Rattle.sctp_pair.proofs.AnsweredValues.{second_refuses}
 use Rattle.sctp_pair.proofs.Counted.{fits_with_none}
 use Rattle.sctp_pair.proofs.NewPairs.{IsJoined, fits_start}
 use Rattle.sctp_pair.proofs.pair.Pair.snap.Goals as goal
@@ -40,3 +44,12 @@ returns-clause-new c = record {
   };
   led = refl;
 }
+
+-- B is refused
+pub returns-in_err-b-clause-refused : goal.returns-in_err-b-clause-refused
+returns-in_err-b-clause-refused c =
+    let p = err_from_is_err_and c.from_residual-in_err-b.result c.from_residual-in_err-b.ensures.1 in
+    second_refuses Shown c.from_residual-in_err-b.result p.0 _
+    (join_refusal c.args.max_payload_size_a c.args.token_a.now c.args.token_b.now)
+    (join_refusal c.args.max_payload_size_b c.args.token_b.now c.args.token_a.now) p.1 p.2
+    c.in_ok-a.ensures.refused c.in_err-b.ensures.refused
