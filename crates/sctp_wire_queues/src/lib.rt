@@ -6,8 +6,8 @@ pub use sctp_outbound_queue::{Attributes, InFlight, OutboundQueue, PendingMessag
 pub use sctp_receive_queues::{Chunks, ReassemblyQueue};
 pub use sctp_received::ReceiveQueue;
 pub use sctp_streams::{
-    AssociationError, DataChannelStats, Event, Events, RecvSendState, ReliabilityParams,
-    Setting, StreamState, Streams,
+    AssociationError, DataChannelStats, Event, Events, RecvSendState, ReliabilityParams, Setting,
+    StreamState, Streams,
 };
 pub use sctp_wire::{
     Chunk, ChunkAbort, ChunkError, ChunkForwardTsn, ChunkHeartbeat, ChunkIForwardTsn, ChunkInit,
