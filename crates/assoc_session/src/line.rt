@@ -39,6 +39,9 @@ pub fn parse(alloc: Global, line: &[u8]) -> Result<Option<Line>, AllocError> {
         ["snap", size, tsn_a, tsn_b] => Ok(begin(Beginning::Tokens, size, tsn_a, tsn_b)),
         ["client", size, tsn_a, tsn_b] => Ok(begin(Beginning::Handshake, size, tsn_a, tsn_b)),
         ["write", side, id, bytes] => write(alloc, side, id, bytes),
+        ["writeas", side, id, payload_type, bytes] => {
+            write_as(alloc, side, id, payload_type, bytes)
+        }
         ["state", side] => Ok(side_of(side).map(|side| Line::State(side))),
         fields => Ok(other_step(fields).map(|step| Line::Step(step))),
     }
@@ -63,6 +66,31 @@ fn write(alloc: Global, side: &str, id: &str, bytes: &str) -> Result<Option<Line
     }
 }
 
+fn write_as(
+    alloc: Global,
+    side: &str,
+    id: &str,
+    payload_type: &str,
+    bytes: &str,
+) -> Result<Option<Line>, AllocError> {
+    let (Some(side), Some(id), Some(ppi)) = (
+        side_of(side),
+        number_u16(id),
+        payload_type_of(payload_type),
+    ) else {
+        return Ok(None);
+    };
+    match bytes_of(alloc, bytes)? {
+        Some(bytes) => Ok(Some(Line::Step(Step::WriteWithPpi {
+            side,
+            id,
+            bytes,
+            ppi,
+        }))),
+        None => Ok(None),
+    }
+}
+
 // The steps that take no memory to read.
 fn other_step(fields: &[&str]) -> Option<Step> {
     match fields {
@@ -72,6 +100,10 @@ fn other_step(fields: &[&str]) -> Option<Step> {
             payload_type: payload_type_of(payload_type)?,
         }),
         ["read", side, id] => Some(Step::Read {
+            side: side_of(side)?,
+            id: number_u16(id)?,
+        }),
+        ["finish", side, id] => Some(Step::Finish {
             side: side_of(side)?,
             id: number_u16(id)?,
         }),
@@ -103,6 +135,9 @@ fn plain_step(name: &str, side: Side2) -> Option<Step> {
         "deadline" => Some(Step::PollTimeout { side }),
         "event" => Some(Step::Poll { side }),
         "rtt" => Some(Step::Rtt { side }),
+        "accept" => Some(Step::AcceptStream { side }),
+        "ids" => Some(Step::StreamIds { side }),
+        "close" => Some(Step::Close { side }),
         _ => None,
     }
 }

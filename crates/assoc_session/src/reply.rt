@@ -11,6 +11,8 @@ pub fn show(alloc: Global, reply: Reply) -> Result<String, AllocError> {
         Reply::Read(Some(message)) => show_message(alloc, message),
         Reply::Read(None) => "none".to_string(alloc),
         Reply::BufferedAmount(amount) => format!(in alloc; "{amount}"),
+        Reply::Accepted(Some(id)) => format!(in alloc; "stream {id}"),
+        Reply::StreamIds(ids) => show_ids(alloc, ids.as_slice()),
         Reply::Event(Some(event)) => show_event(alloc, event),
         Reply::Event(None) => "none".to_string(alloc),
         other => show_number(alloc, other),
@@ -29,10 +31,20 @@ fn show_number(alloc: Global, reply: Reply) -> Result<String, AllocError> {
             let millis = timeout.as_millis();
             format!(in alloc; "{millis}")
         }
+        Reply::StreamIdentifier(id) => format!(in alloc; "{id}"),
+        Reply::Threshold(bytes) => format!(in alloc; "{bytes}"),
         Reply::Refused(number) => format!(in alloc; "refused {number}"),
         Reply::NoSuchPacket => "no such packet".to_string(alloc),
         _ => "none".to_string(alloc),
     }
+}
+
+fn show_ids(alloc: Global, ids: &[u16]) -> Result<String, AllocError> {
+    let mut text = "ids".to_string(alloc)?;
+    for id in ids {
+        text.push_str(format!(in alloc; " {id}")?.as_str())?;
+    }
+    Ok(text)
 }
 
 fn flag(answer: bool) -> &'static str {

@@ -46,7 +46,7 @@ use Rattle.sctp_assoc.specs.declared.inbound.Flow.TheVariants as flows
 use Rattle.sctp_directions.specs.Acts.{Act, CanAll, History, Parts, done, done_all}
 use Rattle.sctp_assoc.specs.Leads.{Binds, Leads, IsSamePast, LeadsOn, parts}
 use Rattle.sctp_directions.specs.Acts.{offset_in, with_peer, with_taken, with_written}
-use Rattle.sctp_assoc.specs.Calls.{accepted_from, adjusted, after_ack_delay, after_t3, event_from, event_polled, opened}
+use Rattle.sctp_assoc.specs.Calls.{accepted_from, accepted_stream, adjusted, after_ack_delay, after_t3, event_from, event_polled, opened}
 use Rattle.sctp_assoc.specs.Closing.{closed_by, closed_open}
 use Rattle.sctp_assoc.specs.Calls.{read_from_stream, retransmits, t3_expired, written, written_at, is_beginning}
 use Rattle.sctp_assoc.specs.Calls.{is_cookie_echoed, is_cookie_wait, is_established}
@@ -563,6 +563,14 @@ close_leads_on a b e h binds =
 accepted_leads : (ids : List ℕ) (a : Shown) (h : History) → Binds a h → Leads [] a h (accepted_from ids a).0 h
 accepted_leads [] a h binds = leads_nowhere a a h binds refl refl
 accepted_leads (id ∷ ids) a h binds = leads_nowhere a (accepted_from (id ∷ ids) a).0 h binds refl refl
+
+pub accept_leads_on : (a b : Shown) (id : Option ℕ) → accepted_stream a ≡ (b, id) → LeadsOn [] a b
+accept_leads_on a b id e h binds =
+    (h, subst (λ z. Leads [] a h z h) (ap (λ (z : Shown × Option ℕ). z.0) e) (accept_if a.failed))
+  where
+    accept_if : (failed : Bool) → Leads [] a h (if failed then (a, None) else accepted_from a.to_accept a).0 h
+    accept_if true = leads_nowhere a a h binds refl refl
+    accept_if false = accepted_leads a.to_accept a h binds
 
 pub read_leads_on : (a b : Shown) (id : ℕ) (message : Option ReceivedMessage) → read_from_stream a id ≡ (b, message)
     → LeadsOn (Act.WasRead id ∷ []) a b

@@ -24,13 +24,17 @@ use Rattle.sctp_pair.specs.declared.step.Side2.TheVariants as sides
 use Rattle.sctp_pair.specs.declared.step.Step.{Step}
 use Rattle.sctp_pair.specs.declared.step.Step.TheVariants as steps
 use Rattle.sctp_pair.specs.Callers.{AcceptFew, CameBy, ComesOn, HoldsOn, IsFrontOf, NothingIsReadBeforeADelivery}
-use Rattle.sctp_pair.specs.Callers.{ReadsAreFronts, accepted_in, bytes_of, bytes_read, bytes_written, delivers_to}
+use Rattle.sctp_pair.specs.Callers.{ReadsAreFronts, accepted_in, bytes_answered, bytes_of, bytes_read, bytes_written}
+use Rattle.sctp_pair.specs.Callers.{delivers_to}
+use Rattle.sctp_pair.specs.Callers as callers
 use Rattle.sctp_pair.specs.Callers.{read_in, read_undelivered, written_in}
 use Rattle.sctp_pair.specs.Counted.{AreFew, FitsCounted, RunsCounted, pieces_a, pieces_b}
 use Rattle.sctp_pair.specs.Ends.{Ends, end_of}
-use Rattle.sctp_pair.specs.Steps.{Runs, Steps, Writes}
+use Rattle.sctp_pair.specs.Steps.{AtSide, Runs, Steps, Writes, Writing, reading_of, writing_of}
 use Rattle.sctp_pair.specs.World.{EndsSpan, HasData, IsDirectionStep, IsWorldStep, World, accepted_at, empty_world}
-use Rattle.sctp_pair.specs.World.{is_side, message_read, messages_on, other_side, packet_brought}
+use Rattle.sctp_pair.specs.World.{accepted_of, is_side, message_answered, message_read, messages_on, other_side}
+use Rattle.sctp_pair.specs.World.{packet_brought}
+use Rattle.sctp_pair.proofs.AcceptedAndRead.{writes}
 use Rattle.sctp_pair.proofs.Counted.{runs_lead_counted}
 use Rattle.sctp_pair.proofs.MessageBytes.{IsKept, bytes_accepted, bytes_got, nothing_read_of_none, read_grows}
 use Rattle.sctp_pair.proofs.MessageBytes.{reads_are_a_front}
@@ -59,10 +63,14 @@ told_read_if : (c : Bool) (m : Option letters.ReceivedMessage)
 told_read_if true m = refl
 told_read_if false m = refl
 
+told_answered : (reading : Option (Side2 × ℕ)) (r : Reply) (x : Side2) (s : ℕ)
+    → bytes_of (message_answered reading r x s) ≡ bytes_answered reading r x s
+told_answered (Some y) (replies.Read message) x s = told_read_if (is_side y.0 x && eqb y.1 s) message
+told_answered reading r x s = refl
+
 -- what a reply says of a read is what the reader of the model got
 told_read : (a : Step) (r : Reply) (x : Side2) (s : ℕ) → bytes_of (message_read a r x s) ≡ bytes_read a r x s
-told_read (steps.Read side id) (replies.Read message) x s = told_read_if (is_side side x && eqb id s) message
-told_read a r x s = refl
+told_read a r x s = told_answered (reading_of a) r x s
 
 -- an accepted write was made on a live stream
 wrote_live : (a b : Shown) (id count : ℕ) (named : Option PayloadProtocolIdentifier) (bytes : List ℕ)
@@ -77,23 +85,30 @@ wrote_if : (c : Bool) (ms : List Message) (bytes : List ℕ) → bytes_accepted 
 wrote_if true ms bytes e = e
 wrote_if false ms bytes e = refl
 
-told_written_at : (side x : Side2) (id count s : ℕ) (bytes : List ℕ) (w : World) (q : Ends)
-    → Steps (steps.Write side id bytes) w.ends (replies.Wrote count) q
-    → bytes_accepted (accepted_at (steps.Write side id bytes) (replies.Wrote count) x s w)
-    ≡ bytes_written (steps.Write side id bytes) (replies.Wrote count) x s
-told_written_at sides.A sides.A id count s bytes w q h =
-    wrote_if (eqb id s) (messages_on (stream_at w.ends.a.streams id) None bytes) bytes
-    (wrote_live w.ends.a q.a id count None bytes h.0)
-told_written_at sides.A sides.B id count s bytes w q h = refl
-told_written_at sides.B sides.A id count s bytes w q h = refl
-told_written_at sides.B sides.B id count s bytes w q h =
-    wrote_if (eqb id s) (messages_on (stream_at w.ends.b.streams id) None bytes) bytes
-    (wrote_live w.ends.b q.b id count None bytes h.0)
+told_written_at : (side x : Side2) (id count s : ℕ) (named : Option PayloadProtocolIdentifier) (bytes : List ℕ)
+    (w : World) (q : Ends) → AtSide side w.ends (λ a b. Writes a id named bytes (replies.Wrote count) b) q
+    → bytes_accepted (accepted_of (writes side id named bytes) (replies.Wrote count) x s w)
+    ≡ callers.bytes_accepted (writes side id named bytes) (replies.Wrote count) x s
+told_written_at sides.A sides.A id count s named bytes w q h =
+    wrote_if (eqb id s) (messages_on (stream_at w.ends.a.streams id) named bytes) bytes
+    (wrote_live w.ends.a q.a id count named bytes h.0)
+told_written_at sides.A sides.B id count s named bytes w q h = refl
+told_written_at sides.B sides.A id count s named bytes w q h = refl
+told_written_at sides.B sides.B id count s named bytes w q h =
+    wrote_if (eqb id s) (messages_on (stream_at w.ends.b.streams id) named bytes) bytes
+    (wrote_live w.ends.b q.b id count named bytes h.0)
 
 -- what a reply says of a write is what was accepted
 told_written : (a : Step) (r : Reply) (x : Side2) (s : ℕ) (w : World) (q : Ends) → Steps a w.ends r q
     → bytes_accepted (accepted_at a r x s w) ≡ bytes_written a r x s
-told_written (steps.Write side id bytes) (replies.Wrote count) x s w q h = told_written_at side x id count s bytes w q h
+told_written (steps.Write side id bytes) (replies.Wrote count) x s w q h =
+    told_written_at side x id count s None bytes w q h
+told_written (steps.WriteWithPpi side id bytes kind) (replies.Wrote count) x s w q h =
+    told_written_at side x id count s (Some kind) bytes w q h
+told_written (steps.WriteSctp side id bytes kind) (replies.Wrote count) x s w q h =
+    told_written_at side x id count s (Some kind) bytes w q h
+told_written (steps.WriteChunk side id bytes) (replies.Wrote count) x s w q h =
+    told_written_at side x id count s None bytes w q h
 told_written a r x s w q h = refl
 
 kept_on : (c : Bool) (o : Option StreamView) (named : Option PayloadProtocolIdentifier) (bytes : List ℕ)
@@ -102,11 +117,15 @@ kept_on false o named bytes = tt
 kept_on true None named bytes = tt
 kept_on true (Some t) named bytes = (record { ordered = refl; reliable = refl }, tt)
 
+writing_kept : (writing : Option Writing) (r : Reply) (x : Side2) (s : ℕ) (w : World)
+    → AllByRecursion IsKept (accepted_of writing r x s w)
+writing_kept (Some y) (replies.Wrote count) x s w =
+    kept_on (is_side y.side x && eqb y.id s) (stream_at (end_of x w.ends).streams y.id) y.named y.bytes
+writing_kept writing r x s w = tt
+
 -- each message that a step accepts is ordered and reliable
 accepted_kept : (a : Step) (r : Reply) (x : Side2) (s : ℕ) (w : World) → AllByRecursion IsKept (accepted_at a r x s w)
-accepted_kept (steps.Write side id bytes) (replies.Wrote count) x s w =
-    kept_on (is_side side x && eqb id s) (stream_at (end_of x w.ends).streams id) None bytes
-accepted_kept a r x s w = tt
+accepted_kept a r x s w = writing_kept (writing_of a) r x s w
 
 -- What rows of steps made of the direction of which side x is the sender, as they tell it.
 record Grew (ss : List Step) (rs : List Reply) (x : Side2) (before after : Direction) : Type 0 where

@@ -20,10 +20,11 @@ use Rattle.sctp_pair.specs.declared.step.Side2.TheVariants as sides
 use Rattle.sctp_pair.specs.declared.step.Step.{Step}
 use Rattle.sctp_pair.specs.declared.step.Step.TheVariants as steps
 use Rattle.sctp_pair.specs.Ends.{Ends, end_of}
-use Rattle.sctp_pair.specs.Steps.{Runs, Steps}
+use Rattle.sctp_pair.specs.Steps.{Runs, Steps, Writing, writing_of}
 use Rattle.sctp_pair.specs.World.{IsWithinLimits, World, accepted_at, empty_world, is_side, message_under}
-use Rattle.sctp_pair.specs.World.{messages_on}
-use Rattle.sctp_pair.specs.Counted.{FitsCounted, LeadsCounted, RunsCounted, pieces_a, pieces_b, pieces_of}
+use Rattle.sctp_pair.specs.World.{accepted_of, messages_on}
+use Rattle.sctp_pair.specs.Counted.{FitsCounted, LeadsCounted, RunsCounted, pieces_a, pieces_accepted, pieces_b}
+use Rattle.sctp_pair.specs.Counted.{pieces_of}
 use Rattle.sctp_pair.specs.Fits.{Fits}
 use Rattle.sctp_pair.proofs.StepsLead.{step_leads}
 
@@ -76,14 +77,19 @@ some_counted true id more ms {n} {before} {after} c most a =
         at_most true = most
         at_most false = omega arith
 
+writing_counted : (x : Side2) (writing : Option Writing) (r : Reply) (w : World) {n : ℕ} {before after : Direction}
+    → Accepts (λ s. accepted_of writing r x s w) before after → HasAccepted n before
+    → HasAccepted (n + pieces_accepted before.sender.plan.size x writing r) after
+writing_counted x (Some y) (replies.Wrote count) w {n} {before} c a =
+    let o : Option StreamView = stream_at (end_of x w.ends).streams y.id in
+    some_counted (is_side y.side x) y.id (pieces_in before.sender.plan.size (length y.bytes))
+    (messages_on o y.named y.bytes) c (one_message before.sender.plan.size o y.named y.bytes) a
+writing_counted x writing r w c a = none_counted c a
+
 step_counted : (x : Side2) (step : Step) (r : Reply) (w : World) {n : ℕ} {before after : Direction}
     → Accepts (λ s. accepted_at step r x s w) before after → HasAccepted n before
     → HasAccepted (n + pieces_of before.sender.plan.size x step r) after
-step_counted x (steps.Write side id bytes) (replies.Wrote count) w {n} {before} c a =
-    let o : Option StreamView = stream_at (end_of x w.ends).streams id in
-    some_counted (is_side side x) id (pieces_in before.sender.plan.size (length bytes)) (messages_on o None bytes) c
-    (one_message before.sender.plan.size o None bytes) a
-step_counted x step r w c a = none_counted c a
+step_counted x step r w c a = writing_counted x (writing_of step) r w c a
 
 -- A step leads to a world that is safe where few pieces were accepted.
 pub step_leads_counted : (step : Step) (p q : Ends) (r : Reply) → Steps step p r q → (n m : ℕ) (w : World)

@@ -22,5 +22,6 @@ pub mod RunsOfWorlds
 pub mod SaidStaysSaid
 pub mod SimpleCalls
 pub mod StepsLead
+pub mod StreamCalls
 pub mod TimedCalls
 pub mod WriteCall

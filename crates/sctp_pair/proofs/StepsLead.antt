@@ -16,7 +16,9 @@ use Rattle.sctp_pair.specs.declared.step.Step.{Step}
 use Rattle.sctp_pair.specs.declared.step.Step.TheVariants as steps
 use Rattle.sctp_pair.specs.Ends.{Ends, end_of, packets_of}
 use Rattle.sctp_pair.specs.Steps.{AtSide, Buffers, ComesTo, Delivers, Expires, Finds, Measures, Opens, Reads, SendsAt}
-use Rattle.sctp_pair.specs.Steps.{Steps, Tells, Writes, packet_in}
+use Rattle.sctp_pair.specs.Steps.{Accepts, ClosesOne, Lists, Sets, ShowsOrRefuses, Steps, Tells, Writes, packet_in}
+use Rattle.sctp_streams.specs.declared.setting.Setting.TheVariants as settings
+use Rattle.sctp_streams.specs.Stream.{is_read_half_open, is_write_half_open}
 use Rattle.sctp_pair.specs.World.{HasData, World, other_side, packet_brought, packet_of_bytes}
 use Rattle.sctp_pair.specs.Fits.{AreSaid, Fits, LeadsSafely}
 use Rattle.sctp_pair.proofs.BetweenDirections.{Faces, None_brought, Settles, SettlesQuietly, Surroundings}
@@ -28,6 +30,7 @@ use Rattle.sctp_pair.proofs.PacketChunks.{OtherSays}
 use Rattle.sctp_pair.proofs.PollCall.{poll_settles}
 use Rattle.sctp_pair.proofs.ReadCall.{read_by, reads_settle}
 use Rattle.sctp_pair.proofs.SimpleCalls.{buffers_same, finds_same, measures_same, opens_settle, same_settles}
+use Rattle.sctp_pair.proofs.StreamCalls.{accepts_settle, closes_settle, lists_same, sets_settle, shows_same}
 use Rattle.sctp_pair.proofs.TimedCalls.{expires_settle, tells_settle}
 use Rattle.sctp_pair.proofs.WriteCall.{writes_settle, written_by}
 
@@ -144,10 +147,66 @@ module _ (q : Ends) (r : Reply) (w : World) (fits : Fits w.ends w) where
   step_at (steps.Write side id bytes) h =
       change_leads side (steps.Write side id bytes) (λ a b. Writes a id None bytes r b)
       (λ a. written_by r a id None bytes) nothing_read (λ x a b c. writes_settle id None bytes r c)
-      (write_call side id bytes r w (initial_to side w)) h h
+      (write_call (steps.Write side id bytes) side id None bytes r w (initial_to side w) refl refl) h h
+  step_at (steps.WriteWithPpi side id bytes kind) h =
+      change_leads side (steps.WriteWithPpi side id bytes kind) (λ a b. Writes a id (Some kind) bytes r b)
+      (λ a. written_by r a id (Some kind) bytes) nothing_read (λ x a b c. writes_settle id (Some kind) bytes r c)
+      (write_call (steps.WriteWithPpi side id bytes kind) side id (Some kind) bytes r w (initial_to side w) refl refl) h h
+  step_at (steps.WriteSctp side id bytes kind) h =
+      change_leads side (steps.WriteSctp side id bytes kind) (λ a b. Writes a id (Some kind) bytes r b)
+      (λ a. written_by r a id (Some kind) bytes) nothing_read (λ x a b c. writes_settle id (Some kind) bytes r c)
+      (write_call (steps.WriteSctp side id bytes kind) side id (Some kind) bytes r w (initial_to side w) refl refl) h h
+  step_at (steps.WriteChunk side id bytes) h =
+      change_leads side (steps.WriteChunk side id bytes) (λ a b. Writes a id None bytes r b)
+      (λ a. written_by r a id None bytes) nothing_read (λ x a b c. writes_settle id None bytes r c)
+      (write_call (steps.WriteChunk side id bytes) side id None bytes r w (initial_to side w) refl refl) h h
   step_at (steps.Read side id) h =
       change_leads side (steps.Read side id) (λ a b. Reads a id r b) (λ a. nothing_added) (read_by r id)
-      (λ x a b c. reads_settle id r c) (read_call side id r w (initial_to side w)) h h
+      (λ x a b c. reads_settle id r c) (read_call (steps.Read side id) side id r w (initial_to side w) refl refl) h h
+  step_at (steps.ReadSctp side id) h =
+      change_leads side (steps.ReadSctp side id) (λ a b. Reads a id r b) (λ a. nothing_added) (read_by r id)
+      (λ x a b c. reads_settle id r c) (read_call (steps.ReadSctp side id) side id r w (initial_to side w) refl refl) h h
+  step_at (steps.Finish side id) h =
+      quiet_leads side (steps.Finish side id) (λ a b. Sets a id settings.WriteHalfClosed r b)
+      (λ x a b c. sets_settle id settings.WriteHalfClosed r (λ s n. n) c) (λ y s. (refl, refl)) h h
+  step_at (steps.SetDefaultPayloadType side id kind) h =
+      quiet_leads side (steps.SetDefaultPayloadType side id kind) (λ a b. Sets a id (settings.DefaultPayloadType kind) r b)
+      (λ x a b c. sets_settle id (settings.DefaultPayloadType kind) r (λ s n. n) c) (λ y s. (refl, refl)) h h
+  step_at (steps.SetBufferedAmountLowThreshold side id bytes) h =
+      quiet_leads side (steps.SetBufferedAmountLowThreshold side id bytes) (λ a b. Sets a id (settings.LowMark bytes) r b)
+      (λ x a b c. sets_settle id (settings.LowMark bytes) r (λ s n. n) c) (λ y s. (refl, refl)) h h
+  step_at (steps.SetBufferedAmountHighThreshold side id bytes) h =
+      quiet_leads side (steps.SetBufferedAmountHighThreshold side id bytes) (λ a b. Sets a id (settings.HighMark bytes) r b)
+      (λ x a b c. sets_settle id (settings.HighMark bytes) r (λ s n. n) c) (λ y s. (refl, refl)) h h
+  step_at (steps.StreamStats side id) h =
+      same_leads side (steps.StreamStats side id) (λ a b. ShowsOrRefuses a id (λ s. replies.StreamStats s.stats) r b)
+      (λ a b c. shows_same a id (λ s. replies.StreamStats s.stats) r b c) (λ y s. (refl, refl)) h h
+  step_at (steps.IsReadable side id) h =
+      same_leads side (steps.IsReadable side id) (λ a b. ShowsOrRefuses a id (λ s. replies.State (is_read_half_open s.halves)) r b)
+      (λ a b c. shows_same a id (λ s. replies.State (is_read_half_open s.halves)) r b c) (λ y s. (refl, refl)) h h
+  step_at (steps.IsWritable side id) h =
+      same_leads side (steps.IsWritable side id) (λ a b. ShowsOrRefuses a id (λ s. replies.State (is_write_half_open s.halves)) r b)
+      (λ a b c. shows_same a id (λ s. replies.State (is_write_half_open s.halves)) r b c) (λ y s. (refl, refl)) h h
+  step_at (steps.StreamIdentifier side id) h =
+      same_leads side (steps.StreamIdentifier side id) (λ a b. ShowsOrRefuses a id (λ s. replies.StreamIdentifier id) r b)
+      (λ a b c. shows_same a id (λ s. replies.StreamIdentifier id) r b c) (λ y s. (refl, refl)) h h
+  step_at (steps.GetDefaultPayloadType side id) h =
+      same_leads side (steps.GetDefaultPayloadType side id) (λ a b. ShowsOrRefuses a id (λ s. replies.PayloadType s.default_payload_type) r b)
+      (λ a b c. shows_same a id (λ s. replies.PayloadType s.default_payload_type) r b c) (λ y s. (refl, refl)) h h
+  step_at (steps.BufferedAmountLowThreshold side id) h =
+      same_leads side (steps.BufferedAmountLowThreshold side id) (λ a b. ShowsOrRefuses a id (λ s. replies.Threshold s.low_mark) r b)
+      (λ a b c. shows_same a id (λ s. replies.Threshold s.low_mark) r b c) (λ y s. (refl, refl)) h h
+  step_at (steps.BufferedAmountHighThreshold side id) h =
+      same_leads side (steps.BufferedAmountHighThreshold side id) (λ a b. ShowsOrRefuses a id (λ s. replies.Threshold s.high_mark) r b)
+      (λ a b c. shows_same a id (λ s. replies.Threshold s.high_mark) r b c) (λ y s. (refl, refl)) h h
+  step_at (steps.AcceptStream side) h =
+      quiet_leads side (steps.AcceptStream side) (λ a b. Accepts a r b) (λ x a b c. accepts_settle r c)
+      (λ y s. (refl, refl)) h h
+  step_at (steps.StreamIds side) h =
+      same_leads side (steps.StreamIds side) (λ a b. Lists a r b) (λ a b c. lists_same a r b c) (λ y s. (refl, refl)) h h
+  step_at (steps.Close side) h =
+      quiet_leads side (steps.Close side) (λ a b. ClosesOne a r b) (λ x a b c. closes_settle r c)
+      (λ y s. (refl, refl)) h h
   step_at (steps.BufferedAmount side id) h =
       same_leads side (steps.BufferedAmount side id) (λ a b. Buffers a id r b) (λ a b c. buffers_same a id r b c)
       (λ y s. (refl, refl)) h h

@@ -25,7 +25,7 @@ use Rattle.sctp_pair.proofs.HandshakeStages.{at_same}
 -- Events
 
 -- where the streams are the same they hold nothing still
-empty_still : (a b : Shown) → b.streams ≡ a.streams → HoldsNothing a → HoldsNothing b
+pub empty_still : (a b : Shown) → b.streams ≡ a.streams → HoldsNothing a → HoldsNothing b
 empty_still a b e empty = subst (λ z. HoldsNothing (record b { streams = z })) (sym e) empty
 
 told_settles : {x : Surroundings} {a b : Shown} (event : Option Event) → a.failed ≡ false → event_polled a ≡ (b, event)

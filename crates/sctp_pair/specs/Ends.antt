@@ -17,6 +17,11 @@ abbrev pub end_of : Side2 → Ends → Shown
 end_of sides.A p = p.a
 end_of sides.B p = p.b
 
+-- this is the side's association now
+abbrev pub with_end : Side2 → Ends → Shown → Ends
+with_end sides.A p x = record p { a = x }
+with_end sides.B p x = record p { b = x }
+
 abbrev pub packets_of : Side2 → Ends → List (List ℕ)
 packets_of sides.A p = p.packets_a
 packets_of sides.B p = p.packets_b

@@ -8,9 +8,14 @@ use Rattle.sctp_wire_types.specs.declared.ids.PayloadProtocolIdentifier.{Payload
 use Rattle.sctp_wire_types.specs.Errors.{refusal_number}
 use Rattle.sctp_wire.specs.declared.packet.Packet.{Packet}
 use Rattle.sctp_wire.specs.Packets.{packet_at}
-use Rattle.sctp_assoc.specs.Calls.{buffered_of, deadline_of, event_polled}
+use Rattle.sctp_assoc.specs.Calls.{accepted_stream, adjusted, buffered_of, deadline_of, event_polled}
 use Rattle.sctp_assoc.specs.Calls.{has_begun_closing, read_refusal}
-use Rattle.sctp_assoc.specs.Closing.{is_closed_state}
+use Rattle.sctp_assoc.specs.Closing.{closed_by, is_closed_state}
+use Rattle.sctp_streams.specs.declared.event.AssociationError.TheVariants as reasons
+use Rattle.sctp_streams.specs.declared.setting.Setting.{Setting}
+use Rattle.sctp_streams.specs.declared.setting.Setting.TheVariants as settings
+use Rattle.sctp_streams.specs.Stream.{StreamView, is_read_half_open, is_write_half_open}
+use Rattle.sctp_streams.specs.Streams.{live_ids, stream_at}
 use Rattle.sctp_assoc.specs.Calls.{open_refusal, opened, read_from_stream, stream_refusal, write_refusal, written}
 use Rattle.sctp_assoc.specs.Chunks.{after_packet}
 use Rattle.sctp_assoc.specs.Happened.{PollsOn, acts_of_poll}
@@ -79,6 +84,31 @@ Reads a id (replies.Read message) b = (refusal_to_read a id ≡ None) × (read_f
 Reads a id (replies.Refused n) b = IsNumberOf (refusal_to_read a id) n × (b ≡ a)
 Reads a id _ b = ⊥
 
+-- something is set on a live stream
+abbrev pub Sets : Shown → ℕ → Setting → Reply → Shown → Type 0
+Sets a id setting replies.Done b = (stream_refusal a id ≡ None) × (b ≡ adjusted a id setting)
+Sets a id setting (replies.Refused n) b = IsNumberOf (stream_refusal a id) n × (b ≡ a)
+Sets a id setting _ b = ⊥
+
+-- A question about a live stream is answered by what that is.
+pub record Shows (a : Shown) (id : ℕ) (answer : StreamView → Reply) (reply : Reply) (b : Shown) : Type 0 where
+  pub stream : StreamView
+  pub there : stream_at a.streams id ≡ Some stream
+  pub found : stream_refusal a id ≡ None
+  pub answered : reply ≡ answer stream
+  pub same : b ≡ a
+
+-- or the stream is not found
+abbrev pub ShowsOrRefuses : Shown → ℕ → (StreamView → Reply) → Reply → Shown → Type 0
+ShowsOrRefuses a id answer reply b =
+    Shows a id answer reply b
+    ⊎ ((n : ℕ) × (reply ≡ replies.Refused n) × IsNumberOf (stream_refusal a id) n × (b ≡ a))
+
+-- the oldest stream that the peer opened is accepted
+abbrev pub Accepts : Shown → Reply → Shown → Type 0
+Accepts a (replies.Accepted id) b = accepted_stream a ≡ (b, id)
+Accepts a _ b = ⊥
+
 abbrev pub Buffers : Shown → ℕ → Reply → Shown → Type 0
 Buffers a id (replies.BufferedAmount n) b = (buffered_of a id ≡ Ok n) × (b ≡ a)
 Buffers a id (replies.Refused n) b = IsNumberOf (stream_refusal a id) n × (b ≡ a)
@@ -87,6 +117,18 @@ Buffers a id _ b = ⊥
 -- the call is refused because the association failed before, and changes nothing
 abbrev pub HadFailed : Shown → ℕ → Shown → Type 0
 HadFailed a n b = (a.failed ≡ true) × (n ≡ refusal_number errors.ErrAssociationFailed) × (b ≡ a)
+
+-- the identifiers of the live streams
+abbrev pub Lists : Shown → Reply → Shown → Type 0
+Lists a (replies.StreamIds ids) b = (a.failed ≡ false) × (ids.items ≡ live_ids a.streams) × (b ≡ a)
+Lists a (replies.Refused n) b = HadFailed a n b ⊎ LacksMemory a n b
+Lists a _ b = ⊥
+
+-- the association is closed; memory is wanted only where it is open, for its events
+abbrev pub ClosesOne : Shown → Reply → Shown → Type 0
+ClosesOne a replies.Done b = (a.failed ≡ false) × (b ≡ closed_by a reasons.AssociationClosed)
+ClosesOne a (replies.Refused n) b = HadFailed a n b ⊎ ((is_closed_state a.state ≡ false) × Fails a n b)
+ClosesOne a _ b = ⊥
 
 -- the oldest event is taken out, or with none left it is told that the handshake failed
 abbrev pub Tells : Shown → Reply → Shown → Type 0
@@ -185,8 +227,36 @@ Measures a _ b = ⊥
 abbrev pub Steps : Step → Ends → Reply → Ends → Type 0
 Steps (steps.OpenStream side id kind) p r q = AtSide side p (λ a b. Opens a id kind r b) q
 Steps (steps.Stream side id) p r q = AtSide side p (λ a b. Finds a id r b) q
+Steps (steps.AcceptStream side) p r q = AtSide side p (λ a b. Accepts a r b) q
+Steps (steps.StreamIds side) p r q = AtSide side p (λ a b. Lists a r b) q
+Steps (steps.Close side) p r q = AtSide side p (λ a b. ClosesOne a r b) q
 Steps (steps.Write side id bytes) p r q = AtSide side p (λ a b. Writes a id None bytes r b) q
+Steps (steps.WriteWithPpi side id bytes kind) p r q = AtSide side p (λ a b. Writes a id (Some kind) bytes r b) q
+Steps (steps.WriteSctp side id bytes kind) p r q = AtSide side p (λ a b. Writes a id (Some kind) bytes r b) q
+Steps (steps.WriteChunk side id bytes) p r q = AtSide side p (λ a b. Writes a id None bytes r b) q
 Steps (steps.Read side id) p r q = AtSide side p (λ a b. Reads a id r b) q
+Steps (steps.ReadSctp side id) p r q = AtSide side p (λ a b. Reads a id r b) q
+Steps (steps.Finish side id) p r q = AtSide side p (λ a b. Sets a id settings.WriteHalfClosed r b) q
+Steps (steps.SetDefaultPayloadType side id kind) p r q =
+    AtSide side p (λ a b. Sets a id (settings.DefaultPayloadType kind) r b) q
+Steps (steps.SetBufferedAmountLowThreshold side id bytes) p r q =
+    AtSide side p (λ a b. Sets a id (settings.LowMark bytes) r b) q
+Steps (steps.SetBufferedAmountHighThreshold side id bytes) p r q =
+    AtSide side p (λ a b. Sets a id (settings.HighMark bytes) r b) q
+Steps (steps.StreamStats side id) p r q =
+    AtSide side p (λ a b. ShowsOrRefuses a id (λ s. replies.StreamStats s.stats) r b) q
+Steps (steps.IsReadable side id) p r q =
+    AtSide side p (λ a b. ShowsOrRefuses a id (λ s. replies.State (is_read_half_open s.halves)) r b) q
+Steps (steps.IsWritable side id) p r q =
+    AtSide side p (λ a b. ShowsOrRefuses a id (λ s. replies.State (is_write_half_open s.halves)) r b) q
+Steps (steps.StreamIdentifier side id) p r q =
+    AtSide side p (λ a b. ShowsOrRefuses a id (λ s. replies.StreamIdentifier id) r b) q
+Steps (steps.GetDefaultPayloadType side id) p r q =
+    AtSide side p (λ a b. ShowsOrRefuses a id (λ s. replies.PayloadType s.default_payload_type) r b) q
+Steps (steps.BufferedAmountLowThreshold side id) p r q =
+    AtSide side p (λ a b. ShowsOrRefuses a id (λ s. replies.Threshold s.low_mark) r b) q
+Steps (steps.BufferedAmountHighThreshold side id) p r q =
+    AtSide side p (λ a b. ShowsOrRefuses a id (λ s. replies.Threshold s.high_mark) r b) q
 Steps (steps.BufferedAmount side id) p r q = AtSide side p (λ a b. Buffers a id r b) q
 Steps (steps.Poll side) p r q = AtSide side p (λ a b. Tells a r b) q
 Steps (steps.PollTimeout side) p r q = AtSide side p (λ a b. OnlyAnswers a (replies.Timeout (deadline_of a)) r b) q
@@ -212,11 +282,17 @@ pub record Writing : Type 0 where
 
 abbrev pub writing_of : Step → Option Writing
 writing_of (steps.Write side id bytes) = Some (record { side = side; id = id; named = None; bytes = bytes })
+writing_of (steps.WriteWithPpi side id bytes kind) =
+    Some (record { side = side; id = id; named = Some kind; bytes = bytes })
+writing_of (steps.WriteSctp side id bytes kind) =
+    Some (record { side = side; id = id; named = Some kind; bytes = bytes })
+writing_of (steps.WriteChunk side id bytes) = Some (record { side = side; id = id; named = None; bytes = bytes })
 writing_of step = None
 
 -- the side and the stream on which a step asks for the next message
 abbrev pub reading_of : Step → Option (Side2 × ℕ)
 reading_of (steps.Read side id) = Some (side, id)
+reading_of (steps.ReadSctp side id) = Some (side, id)
 reading_of step = None
 
 -- the steps, with these replies, lead from p to q

@@ -1,12 +1,16 @@
 // One call of one association, and its answer as a reply.
-ghost use Rattle.std.specs.Prelude.{◌≡◌, ◌<◌, ◌++◌, ◌⊎◌, ℕ, length, take, slice_get, IfOk, None, OnOk, OnErr};
+ghost use Rattle.std.specs.Prelude.{◌≡◌, ◌<◌, ◌++◌, ◌⊎◌, ℕ, length, take, slice_get, IfOk, None, OnErr, OnOk, Some};
 ghost use Rattle.sctp_wire.specs.Packets.{finished};
-ghost use Rattle.sctp_assoc.specs.Calls.{RefusesOrLacksMemory, written};
 ghost use Rattle.sctp_assoc.specs.Chunks.{after_packet};
 ghost use Rattle.sctp_assoc.specs.Inbound.{taken_packet};
 ghost use Rattle.sctp_assoc.specs.Gather.{bytes_within};
 ghost use Rattle.sctp_pair.specs.Steps.{Buffers, Delivers, Expires, Fails, Finds, GivesOut, HadFailed, Opens, Reads};
-ghost use Rattle.sctp_pair.specs.Steps.{Keeps, TakesIn, TakesPacket, Tells, Writes, refusal_to_write};
+ghost use Rattle.sctp_pair.specs.Steps.{Accepts, ClosesOne, Keeps, Lists, Sets, ShowsOrRefuses, TakesIn, TakesPacket};
+ghost use Rattle.sctp_pair.specs.Steps.{Tells, Writes, refusal_to_write};
+ghost use Rattle.sctp_assoc.specs.Calls.{RefusesOrLacksMemory, written};
+ghost use Rattle.sctp_pair.specs.declared.step.Reply.TheVariants as replies;
+ghost use Rattle.sctp_streams.specs.declared.setting.Setting.TheVariants as settings;
+ghost use Rattle.sctp_streams.specs.Stream.{is_read_half_open, is_write_half_open};
 
 use crate::Reply;
 use bytes::Bytes;
@@ -40,23 +44,228 @@ pub(crate) fn find_stream(association: &mut Association, id: StreamId) -> Reply
     }
 }
 
+pub(crate) fn accept_stream(association: &mut Association) -> Reply
+    ensures { Accepts association.old result association.new }
+{
+    match association.accept_stream() {
+        Some(stream) => Reply::Accepted(Some(stream.stream_identifier())),
+        None => Reply::Accepted(None),
+    }
+}
+
+pub(crate) fn stream_ids(association: &mut Association) -> Reply
+    ensures { Lists association.old result association.new }
+{
+    match association.stream_ids() {
+        Ok(ids) => Reply::StreamIds(ids),
+        Err(error) => Reply::Refused(error.number()),
+    }
+}
+
+pub(crate) fn close(association: &mut Association) -> Reply
+    ensures { ClosesOne association.old result association.new }
+{
+    match association.close() {
+        Ok(()) => Reply::Done,
+        Err(error) => Reply::Refused(error.number()),
+    }
+}
+
 pub(crate) fn write(association: &mut Association, id: StreamId, bytes: &Bytes) -> Reply
     ensures { Writes association.old id None bytes.now result association.new }
 {
-    match write_on(association, id, bytes) {
+    match write_copied(association, id, None, bytes) {
         Ok(count) => Reply::Wrote(count),
         Err(error) => Reply::Refused(error.number()),
     }
 }
 
-fn write_on(association: &mut Association, id: StreamId, bytes: &Bytes) -> Result<usize, Error>
+pub(crate) fn write_with_ppi(
+    association: &mut Association,
+    id: StreamId,
+    bytes: &Bytes,
+    ppi: PayloadProtocolIdentifier,
+) -> Reply
+    ensures { Writes association.old id (Some ppi) bytes.now result association.new }
+{
+    match write_copied(association, id, Some(ppi), bytes) {
+        Ok(count) => Reply::Wrote(count),
+        Err(error) => Reply::Refused(error.number()),
+    }
+}
+
+fn write_copied(
+    association: &mut Association,
+    id: StreamId,
+    ppi: Option<PayloadProtocolIdentifier>,
+    bytes: &Bytes,
+) -> Result<usize, Error>
     ensures refused { RefusesOrLacksMemory result (refusal_to_write association.old id (length bytes.now)) }
     ensures ok { IfOk result (λ n. n ≡ length bytes.now) }
-    ensures accepted { OnOk result (association.new ≡ written association.old id None bytes.now) }
+    ensures accepted { OnOk result (association.new ≡ written association.old id ppi bytes.now) }
     ensures err { OnErr result (association.new ≡ association.old) }
 {
     let mut stream = association.stream(id)?;
-    stream.write(bytes.as_slice())
+    match ppi {
+        None => stream.write(bytes.as_slice()),
+        Some(ppi) => stream.write_with_ppi(bytes.as_slice(), ppi),
+    }
+}
+
+pub(crate) fn write_sctp(
+    association: &mut Association,
+    id: StreamId,
+    bytes: &Bytes,
+    ppi: PayloadProtocolIdentifier,
+) -> Reply
+    ensures { Writes association.old id (Some ppi) bytes.now result association.new }
+{
+    match association.stream(id) {
+        Ok(mut stream) => match stream.write_sctp(bytes, ppi) {
+            Ok(count) => Reply::Wrote(count),
+            Err(error) => Reply::Refused(error.number()),
+        },
+        Err(error) => Reply::Refused(error.number()),
+    }
+}
+
+pub(crate) fn write_chunk(association: &mut Association, id: StreamId, bytes: &Bytes) -> Reply
+    ensures { Writes association.old id None bytes.now result association.new }
+{
+    match association.stream(id) {
+        Ok(mut stream) => match stream.write_chunk(bytes) {
+            Ok(count) => Reply::Wrote(count),
+            Err(error) => Reply::Refused(error.number()),
+        },
+        Err(error) => Reply::Refused(error.number()),
+    }
+}
+
+pub(crate) fn finish(association: &mut Association, id: StreamId) -> Reply
+    ensures { Sets association.old id settings.WriteHalfClosed result association.new }
+{
+    match association.stream(id) {
+        Ok(mut stream) => match stream.finish() {
+            Ok(()) => Reply::Done,
+            Err(error) => Reply::Refused(error.number()),
+        },
+        Err(error) => Reply::Refused(error.number()),
+    }
+}
+
+pub(crate) fn set_default_payload_type(
+    association: &mut Association,
+    id: StreamId,
+    kind: PayloadProtocolIdentifier,
+) -> Reply
+    ensures { Sets association.old id (settings.DefaultPayloadType kind) result association.new }
+{
+    match association.stream(id) {
+        Ok(mut stream) => match stream.set_default_payload_type(kind) {
+            Ok(()) => Reply::Done,
+            Err(error) => Reply::Refused(error.number()),
+        },
+        Err(error) => Reply::Refused(error.number()),
+    }
+}
+
+pub(crate) fn set_low_threshold(association: &mut Association, id: StreamId, th: usize) -> Reply
+    ensures { Sets association.old id (settings.LowMark th) result association.new }
+{
+    match association.stream(id) {
+        Ok(mut stream) => match stream.set_buffered_amount_low_threshold(th) {
+            Ok(()) => Reply::Done,
+            Err(error) => Reply::Refused(error.number()),
+        },
+        Err(error) => Reply::Refused(error.number()),
+    }
+}
+
+pub(crate) fn set_high_threshold(association: &mut Association, id: StreamId, th: usize) -> Reply
+    ensures { Sets association.old id (settings.HighMark th) result association.new }
+{
+    match association.stream(id) {
+        Ok(mut stream) => match stream.set_buffered_amount_high_threshold(th) {
+            Ok(()) => Reply::Done,
+            Err(error) => Reply::Refused(error.number()),
+        },
+        Err(error) => Reply::Refused(error.number()),
+    }
+}
+
+pub(crate) fn stream_stats(association: &mut Association, id: StreamId) -> Reply
+    ensures { ShowsOrRefuses association.old id (λ s. replies.StreamStats s.stats) result association.new }
+{
+    match association.stream(id) {
+        Ok(stream) => match stream.stats() {
+            Ok(stats) => Reply::StreamStats(stats),
+            Err(error) => Reply::Refused(error.number()),
+        },
+        Err(error) => Reply::Refused(error.number()),
+    }
+}
+
+pub(crate) fn default_payload_type(association: &mut Association, id: StreamId) -> Reply
+    ensures { ShowsOrRefuses association.old id (λ s. replies.PayloadType s.default_payload_type) result association.new }
+{
+    match association.stream(id) {
+        Ok(stream) => match stream.get_default_payload_type() {
+            Ok(kind) => Reply::PayloadType(kind),
+            Err(error) => Reply::Refused(error.number()),
+        },
+        Err(error) => Reply::Refused(error.number()),
+    }
+}
+
+pub(crate) fn low_threshold(association: &mut Association, id: StreamId) -> Reply
+    ensures { ShowsOrRefuses association.old id (λ s. replies.Threshold s.low_mark) result association.new }
+{
+    match association.stream(id) {
+        Ok(stream) => match stream.buffered_amount_low_threshold() {
+            Ok(bytes) => Reply::Threshold(bytes),
+            Err(error) => Reply::Refused(error.number()),
+        },
+        Err(error) => Reply::Refused(error.number()),
+    }
+}
+
+pub(crate) fn high_threshold(association: &mut Association, id: StreamId) -> Reply
+    ensures { ShowsOrRefuses association.old id (λ s. replies.Threshold s.high_mark) result association.new }
+{
+    match association.stream(id) {
+        Ok(stream) => match stream.buffered_amount_high_threshold() {
+            Ok(bytes) => Reply::Threshold(bytes),
+            Err(error) => Reply::Refused(error.number()),
+        },
+        Err(error) => Reply::Refused(error.number()),
+    }
+}
+
+pub(crate) fn is_readable(association: &mut Association, id: StreamId) -> Reply
+    ensures { ShowsOrRefuses association.old id (λ s. replies.State (is_read_half_open s.halves)) result association.new }
+{
+    match association.stream(id) {
+        Ok(stream) => Reply::State(stream.is_readable()),
+        Err(error) => Reply::Refused(error.number()),
+    }
+}
+
+pub(crate) fn is_writable(association: &mut Association, id: StreamId) -> Reply
+    ensures { ShowsOrRefuses association.old id (λ s. replies.State (is_write_half_open s.halves)) result association.new }
+{
+    match association.stream(id) {
+        Ok(stream) => Reply::State(stream.is_writable()),
+        Err(error) => Reply::Refused(error.number()),
+    }
+}
+
+pub(crate) fn stream_identifier(association: &mut Association, id: StreamId) -> Reply
+    ensures { ShowsOrRefuses association.old id (λ s. replies.StreamIdentifier id) result association.new }
+{
+    match association.stream(id) {
+        Ok(stream) => Reply::StreamIdentifier(stream.stream_identifier()),
+        Err(error) => Reply::Refused(error.number()),
+    }
 }
 
 pub(crate) fn read(association: &mut Association, id: StreamId) -> Reply
@@ -64,6 +273,18 @@ pub(crate) fn read(association: &mut Association, id: StreamId) -> Reply
 {
     match association.stream(id) {
         Ok(mut stream) => match stream.read() {
+            Ok(message) => Reply::Read(message),
+            Err(error) => Reply::Refused(error.number()),
+        },
+        Err(error) => Reply::Refused(error.number()),
+    }
+}
+
+pub(crate) fn read_sctp(association: &mut Association, id: StreamId) -> Reply
+    ensures { Reads association.old id result association.new }
+{
+    match association.stream(id) {
+        Ok(mut stream) => match stream.read_sctp() {
             Ok(message) => Reply::Read(message),
             Err(error) => Reply::Refused(error.number()),
         },

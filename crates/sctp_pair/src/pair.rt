@@ -3,18 +3,19 @@ ghost use Rattle.std.specs.Prelude.{◌≡◌, ℕ, length, slice_get, [], ◌�
 ghost use Rattle.std.specs.Option.{option_copied};
 ghost use Rattle.sctp_assoc.specs.Created.{client, create_refusal, join_refusal, joined, server};
 ghost use Rattle.sctp_pair.specs.Callers.{CameBy, ComesOn, HoldsOn, NothingIsReadBeforeADelivery, ReadsAreFronts};
-ghost use Rattle.sctp_pair.specs.Ends.{JoinRefuses, packets_of, end_of};
+ghost use Rattle.std.specs.Borrow.{Lends, sem};
+ghost use Rattle.sctp_assoc.specs.contracts.association.Association as association;
+ghost use Rattle.sctp_pair.specs.contracts.pair.Pair.{the_row};
+ghost use Rattle.sctp_pair.specs.Ends.{JoinRefuses, packets_of, end_of, with_end};
 ghost use Rattle.sctp_pair.specs.World.{World, empty_world};
 ghost use Rattle.sctp_pair.specs.Counted.{FitsCounted, LeadsCounted, RunsCounted};
 ghost use Rattle.sctp_pair.specs.Fits.{Fits, LeadsSafely, RunsSafely};
-ghost use Rattle.sctp_pair.specs.Steps.{AtSide, Buffers, ComesTo, Expires, Finds, Opens, Reads, Runs, SendsAt, Steps};
-ghost use Rattle.sctp_pair.specs.Steps.{Tells, Writes};
+ghost use Rattle.sctp_pair.specs.Steps.{ComesTo, Runs, SendsAt, Steps};
 
 use crate::{Reply, Side2, Step, calls};
 use bytes::Bytes;
 use sctp_assoc::{
-    Association, AssociationId, ChunkInit, Error, Instant, PayloadProtocolIdentifier, ServerConfig,
-    StreamId, TransportConfig,
+    Association, AssociationId, ChunkInit, Error, Instant, ServerConfig, TransportConfig,
 };
 use std::alloc::Global;
 use std::marker::Model;
@@ -270,6 +271,7 @@ impl Pair {
         Ok(replies)
     }
 
+    // A table of the steps: each is one call, at one side.
     fn carry_out(&mut self, step: &Step) -> Reply
         ensures { Steps step.now self.old result self.new }
     {
@@ -278,15 +280,57 @@ impl Pair {
                 side,
                 id,
                 payload_type,
-            } => self.open_stream(*side, *id, *payload_type),
-            Step::Stream { side, id } => self.stream(*side, *id),
-            Step::Write { side, id, bytes } => self.write(*side, *id, bytes),
-            Step::Read { side, id } => self.read(*side, *id),
-            Step::BufferedAmount { side, id } => self.buffered_amount(*side, *id),
+            } => calls::open_stream(self.end(*side), *id, *payload_type),
+            Step::Stream { side, id } => calls::find_stream(self.end(*side), *id),
+            Step::AcceptStream { side } => calls::accept_stream(self.end(*side)),
+            Step::StreamIds { side } => calls::stream_ids(self.end(*side)),
+            Step::Close { side } => calls::close(self.end(*side)),
+            Step::Write { side, id, bytes } => calls::write(self.end(*side), *id, bytes),
+            Step::WriteWithPpi {
+                side,
+                id,
+                bytes,
+                ppi,
+            } => calls::write_with_ppi(self.end(*side), *id, bytes, *ppi),
+            Step::WriteSctp {
+                side,
+                id,
+                bytes,
+                ppi,
+            } => calls::write_sctp(self.end(*side), *id, bytes, *ppi),
+            Step::WriteChunk { side, id, bytes } => calls::write_chunk(self.end(*side), *id, bytes),
+            Step::Read { side, id } => calls::read(self.end(*side), *id),
+            Step::ReadSctp { side, id } => calls::read_sctp(self.end(*side), *id),
+            Step::Finish { side, id } => calls::finish(self.end(*side), *id),
+            Step::SetDefaultPayloadType {
+                side,
+                id,
+                default_payload_type,
+            } => calls::set_default_payload_type(self.end(*side), *id, *default_payload_type),
+            Step::SetBufferedAmountLowThreshold { side, id, th } => {
+                calls::set_low_threshold(self.end(*side), *id, *th)
+            }
+            Step::SetBufferedAmountHighThreshold { side, id, th } => {
+                calls::set_high_threshold(self.end(*side), *id, *th)
+            }
+            Step::StreamStats { side, id } => calls::stream_stats(self.end(*side), *id),
+            Step::IsReadable { side, id } => calls::is_readable(self.end(*side), *id),
+            Step::IsWritable { side, id } => calls::is_writable(self.end(*side), *id),
+            Step::StreamIdentifier { side, id } => calls::stream_identifier(self.end(*side), *id),
+            Step::GetDefaultPayloadType { side, id } => {
+                calls::default_payload_type(self.end(*side), *id)
+            }
+            Step::BufferedAmountLowThreshold { side, id } => {
+                calls::low_threshold(self.end(*side), *id)
+            }
+            Step::BufferedAmountHighThreshold { side, id } => {
+                calls::high_threshold(self.end(*side), *id)
+            }
+            Step::BufferedAmount { side, id } => calls::buffered_amount(self.end(*side), *id),
             Step::PollTransmit { side, now } => self.poll_transmit(*side, *now),
-            Step::HandleTimeout { side, now } => self.handle_timeout(*side, *now),
+            Step::HandleTimeout { side, now } => calls::handle_timeout(self.end(*side), *now),
             Step::Deliver { side, number, now } => self.deliver(*side, *number, *now),
-            Step::Poll { side } => self.poll(*side),
+            Step::Poll { side } => calls::poll(self.end(*side)),
             Step::PollTimeout { side } => Reply::Timeout(self.association(*side).poll_timeout()),
             Step::Rtt { side } => Reply::Rtt(self.association(*side).rtt()),
             Step::IsHandshaking { side } => Reply::State(self.association(*side).is_handshaking()),
@@ -297,62 +341,14 @@ impl Pair {
         }
     }
 
-    fn open_stream(
-        &mut self,
-        side: Side2,
-        id: StreamId,
-        payload_type: PayloadProtocolIdentifier,
-    ) -> Reply
-        ensures { AtSide side self.old (λ a b. Opens a id payload_type result b) self.new }
+    // One side, for a call of it.
+    fn end(&mut self, side: Side2) -> &mut Association
+        ensures* lends { sem 𝓛 (Lends the_row association.the_row self.entry result (with_end side self.entry.now)) }
+        ensures now { result.now ≡ end_of side self.old }
     {
         match side {
-            Side2::A => calls::open_stream(&mut self.a, id, payload_type),
-            Side2::B => calls::open_stream(&mut self.b, id, payload_type),
-        }
-    }
-
-    fn stream(&mut self, side: Side2, id: StreamId) -> Reply
-        ensures { AtSide side self.old (λ a b. Finds a id result b) self.new }
-    {
-        match side {
-            Side2::A => calls::find_stream(&mut self.a, id),
-            Side2::B => calls::find_stream(&mut self.b, id),
-        }
-    }
-
-    fn write(&mut self, side: Side2, id: StreamId, bytes: &Bytes) -> Reply
-        ensures { AtSide side self.old (λ a b. Writes a id None bytes.now result b) self.new }
-    {
-        match side {
-            Side2::A => calls::write(&mut self.a, id, bytes),
-            Side2::B => calls::write(&mut self.b, id, bytes),
-        }
-    }
-
-    fn read(&mut self, side: Side2, id: StreamId) -> Reply
-        ensures { AtSide side self.old (λ a b. Reads a id result b) self.new }
-    {
-        match side {
-            Side2::A => calls::read(&mut self.a, id),
-            Side2::B => calls::read(&mut self.b, id),
-        }
-    }
-
-    fn buffered_amount(&mut self, side: Side2, id: StreamId) -> Reply
-        ensures { AtSide side self.old (λ a b. Buffers a id result b) self.new }
-    {
-        match side {
-            Side2::A => calls::buffered_amount(&mut self.a, id),
-            Side2::B => calls::buffered_amount(&mut self.b, id),
-        }
-    }
-
-    fn poll(&mut self, side: Side2) -> Reply
-        ensures { AtSide side self.old (λ a b. Tells a result b) self.new }
-    {
-        match side {
-            Side2::A => calls::poll(&mut self.a),
-            Side2::B => calls::poll(&mut self.b),
+            Side2::A => &mut self.a,
+            Side2::B => &mut self.b,
         }
     }
 
@@ -362,15 +358,6 @@ impl Pair {
         match side {
             Side2::A => calls::poll_transmit(&mut self.a, &mut self.packets_a, now),
             Side2::B => calls::poll_transmit(&mut self.b, &mut self.packets_b, now),
-        }
-    }
-
-    fn handle_timeout(&mut self, side: Side2, now: Instant) -> Reply
-        ensures { AtSide side self.old (λ a b. Expires a now result b) self.new }
-    {
-        match side {
-            Side2::A => calls::handle_timeout(&mut self.a, now),
-            Side2::B => calls::handle_timeout(&mut self.b, now),
         }
     }
 

@@ -1,6 +1,6 @@
 // What may happen to a pair, and what it replies.
 use bytes::Bytes;
-use sctp_assoc::{Chunks, Event, Instant, PayloadProtocolIdentifier, StreamId};
+use sctp_assoc::{Chunks, DataChannelStats, Event, Instant, PayloadProtocolIdentifier, StreamId};
 use std::time::Duration;
 
 /// One of the two sides of a pair. `A` and `B` say nothing of client and server; that is `Side`, of an association.
@@ -11,7 +11,8 @@ pub enum Side2 {
 }
 
 /// One call of one side, or the delivery of one packet to it. The calls are those of `Association`; a step of a
-/// stream first asks for the live stream.
+/// stream first asks for the live stream. No step sets the order or the reliability of a stream so far, so the streams of
+/// a pair send ordered, reliable messages.
 #[derive(Debug, Drop)]
 pub enum Step {
     /// `Association::open_stream`. Its reply is `Done`.
@@ -25,8 +26,36 @@ pub enum Step {
         side: Side2,
         id: StreamId,
     },
+    /// `Association::accept_stream`. Its reply is `Accepted`.
+    AcceptStream {
+        side: Side2,
+    },
+    /// `Association::stream_ids`. Its reply is `StreamIds`.
+    StreamIds {
+        side: Side2,
+    },
     /// `Stream::write` of one message. Its reply is `Wrote`.
     Write {
+        side: Side2,
+        id: StreamId,
+        bytes: Bytes,
+    },
+    /// `Stream::write_with_ppi` of one message. Its reply is `Wrote`.
+    WriteWithPpi {
+        side: Side2,
+        id: StreamId,
+        bytes: Bytes,
+        ppi: PayloadProtocolIdentifier,
+    },
+    /// `Stream::write_sctp` of one message. Its reply is `Wrote`.
+    WriteSctp {
+        side: Side2,
+        id: StreamId,
+        bytes: Bytes,
+        ppi: PayloadProtocolIdentifier,
+    },
+    /// `Stream::write_chunk` of one message. Its reply is `Wrote`.
+    WriteChunk {
         side: Side2,
         id: StreamId,
         bytes: Bytes,
@@ -35,6 +64,73 @@ pub enum Step {
     Read {
         side: Side2,
         id: StreamId,
+    },
+    /// `Stream::read_sctp` of the next message. Its reply is `Read`.
+    ReadSctp {
+        side: Side2,
+        id: StreamId,
+    },
+    /// `Stream::finish`. Its reply is `Done`.
+    Finish {
+        side: Side2,
+        id: StreamId,
+    },
+    /// `Stream::set_default_payload_type`. Its reply is `Done`.
+    SetDefaultPayloadType {
+        side: Side2,
+        id: StreamId,
+        default_payload_type: PayloadProtocolIdentifier,
+    },
+    /// `Stream::set_buffered_amount_low_threshold`, in bytes. Its reply is `Done`.
+    SetBufferedAmountLowThreshold {
+        side: Side2,
+        id: StreamId,
+        th: usize,
+    },
+    /// `Stream::set_buffered_amount_high_threshold`, in bytes. Its reply is `Done`.
+    SetBufferedAmountHighThreshold {
+        side: Side2,
+        id: StreamId,
+        th: usize,
+    },
+    /// `Stream::stats`. Its reply is `StreamStats`.
+    StreamStats {
+        side: Side2,
+        id: StreamId,
+    },
+    /// `Stream::is_readable`. Its reply is `State`.
+    IsReadable {
+        side: Side2,
+        id: StreamId,
+    },
+    /// `Stream::is_writable`. Its reply is `State`.
+    IsWritable {
+        side: Side2,
+        id: StreamId,
+    },
+    /// `Stream::stream_identifier`. Its reply is `StreamIdentifier`.
+    StreamIdentifier {
+        side: Side2,
+        id: StreamId,
+    },
+    /// `Stream::get_default_payload_type`. Its reply is `PayloadType`.
+    GetDefaultPayloadType {
+        side: Side2,
+        id: StreamId,
+    },
+    /// `Stream::buffered_amount_low_threshold`. Its reply is `Threshold`.
+    BufferedAmountLowThreshold {
+        side: Side2,
+        id: StreamId,
+    },
+    /// `Stream::buffered_amount_high_threshold`. Its reply is `Threshold`.
+    BufferedAmountHighThreshold {
+        side: Side2,
+        id: StreamId,
+    },
+    /// `Association::close`. Its reply is `Done`.
+    Close {
+        side: Side2,
     },
     /// `Stream::buffered_amount`. Its reply is `BufferedAmount`.
     BufferedAmount {
@@ -93,8 +189,8 @@ pub enum Step {
     },
 }
 
-/// What a step was answered. Each step may be answered `Refused`, but for `PollTimeout`, `Rtt` and the questions
-/// about the state.
+/// What a step was answered. Each step may be answered `Refused`, but for `AcceptStream`, `PollTimeout`, `Rtt` and the
+/// questions about the state.
 #[derive(Debug, Drop)]
 pub enum Reply {
     /// The call was carried out and answers nothing else.
@@ -105,6 +201,19 @@ pub enum Reply {
     Read(Option<Chunks>),
     /// Bytes that were accepted on the stream and are not released.
     BufferedAmount(usize),
+    /// The oldest stream that the peer opened and that was not accepted yet; None where there is none, or the side
+    /// failed.
+    Accepted(Option<StreamId>),
+    /// The identifiers of the live streams, ascending.
+    StreamIds(Vec<StreamId>),
+    /// What a generation of the stream counted.
+    StreamStats(DataChannelStats),
+    /// The identifier of a live stream.
+    StreamIdentifier(StreamId),
+    /// The payload type of messages that are written without one.
+    PayloadType(PayloadProtocolIdentifier),
+    /// A threshold of the buffered amount, in bytes.
+    Threshold(usize),
     /// The oldest event; None where none waited.
     Event(Option<Event>),
     /// The moment at which the next timer expires; None where no timer runs.

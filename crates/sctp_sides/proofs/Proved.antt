@@ -4,7 +4,7 @@ pub use Rattle.sctp_sides.proofs.PacketLaws.{chunks_lead_on, established_is_not_
 pub use Rattle.sctp_sides.proofs.PacketLaws.{lost_associations_take_nothing, no_packet_changes_nothing, packets_carry}
 pub use Rattle.sctp_sides.proofs.PacketLaws.{packets_end}
 pub use Rattle.sctp_assoc.proofs.CallsLeadOn.{open_leads_on, poll_leads_on, read_leads_on, timeouts_lead_on}
-pub use Rattle.sctp_assoc.proofs.CallsLeadOn.{close_leads_on, setting_leads_on, write_leads_on}
+pub use Rattle.sctp_assoc.proofs.CallsLeadOn.{close_leads_on, accept_leads_on, setting_leads_on, write_leads_on}
 pub use Rattle.sctp_sides.proofs.LiveStreams.{accepted_writes_fit, found_streams_are_live, opened_streams_hold_nothing}
 pub use Rattle.sctp_sides.proofs.LiveStreams.{opened_streams_were_not_live, settings_hold_nothing}
 pub use Rattle.sctp_sides.proofs.LiveStreams.{what_holds_nothing_gives_nothing}

@@ -1,0 +1,144 @@
+-- Calls of streams that neither write nor read, and the application's close: each leads to directions between which both
+-- associations stand.
+use Rattle.std.proofs.Common.{◌≡◌, refl, sym, ap, ◌∙◌, subst, ⊎_elim, inl, inr, ℕ, Bool, true, false, [], ◌∷◌, Option, None}
+use Rattle.std.proofs.Common.{if◌then◌else◌}
+use Rattle.std.proofs.lemmas.Bool.{cases_Bool, true≢false}
+use Rattle.sctp_streams.specs.declared.event.AssociationError.TheVariants as reasons
+use Rattle.sctp_streams.specs.declared.setting.Setting.{Setting}
+use Rattle.sctp_streams.specs.Stream.{StreamView}
+use Rattle.sctp_model.specs.Machine.{Event}
+use Rattle.sctp_directions.specs.Acts.{Act, SetsReliability}
+use Rattle.sctp_directions.proofs.Proved.{closed_receivers_are_not_open, own_acts_leave_what_comes}
+use Rattle.sctp_directions.proofs.Proved.{settings_are_no_events}
+use Rattle.sctp_assoc.specs.Leads.{parts}
+use Rattle.sctp_assoc.specs.Calls.{accepted_from, accepted_stream, adjusted, stream_refusal}
+use Rattle.sctp_assoc.specs.Closing.{closed_by, is_closed_state}
+use Rattle.sctp_assoc.specs.Shown.{Shown}
+use Rattle.sctp_sides.specs.Shapes.{IsSameStatus}
+use Rattle.sctp_sides.proofs.Proved.{accept_leads_on, accepted_streams_keep_the_status, faults_close}
+use Rattle.sctp_sides.proofs.Proved.{found_streams_are_live, setting_leads_on, settings_hold_nothing}
+use Rattle.sctp_sides.proofs.Proved.{settings_keep_the_status, the_same_handshake_is_the_same_stage}
+use Rattle.sctp_pair.specs.declared.step.Reply.{Reply}
+use Rattle.sctp_pair.specs.declared.step.Reply.TheVariants as replies
+use Rattle.sctp_pair.specs.Steps.{Accepts, ClosesOne, Lists, Sets, ShowsOrRefuses}
+use Rattle.sctp_pair.proofs.BetweenDirections.{ClosedAt, Faces, OpenAt, SettlesQuietly, Surroundings}
+use Rattle.sctp_pair.proofs.SimpleCalls.{by_working, closed_on, fails_settle, open_on, same_settles, settles_by_receiver}
+use Rattle.sctp_pair.proofs.SimpleCalls.{still}
+use Rattle.sctp_pair.proofs.TimedCalls.{empty_still}
+use Rattle.sctp_pair.proofs.HandshakeStages.{at_same}
+
+-- Questions change nothing
+
+pub lists_same : (a : Shown) (r : Reply) (b : Shown) → Lists a r b → b ≡ a
+lists_same a (replies.StreamIds ids) b h = h.2
+lists_same a (replies.Refused n) b (inl had) = had.2
+lists_same a (replies.Refused n) b (inr lacks) = lacks.2
+lists_same a r b h = absurd h
+
+pub shows_same : (a : Shown) (id : ℕ) (answer : StreamView → Reply) (r : Reply) (b : Shown)
+    → ShowsOrRefuses a id answer r b → b ≡ a
+shows_same a id answer r b (inl shown) = shown.same
+shows_same a id answer r b (inr refused) = refused.3
+
+-- Something is set on a stream
+
+module _ (x : Surroundings) (a : Shown) (id : ℕ) (setting : Setting) (f : Faces x a) where
+  adjusted_settles : ((s : ℕ) → SetsReliability (Act.Adjusted id setting) s → ⊥) → stream_refusal a id ≡ None
+      → SettlesQuietly x (adjusted a id setting)
+  adjusted_settles orderly e =
+      let live = found_streams_are_live a id e in
+      let b : Shown = adjusted a id setting in
+      let same = settings_keep_the_status a id setting in
+      by_working (SettlesQuietly x b) live.working f
+      (λ s. let m = setting_leads_on a b id setting refl s.past s.binds in
+      still f (at_same a b x.here same f.at) (inl (open_on x (Act.Adjusted id setting ∷ []) s record {
+        past2 = m.0;
+        leads = m.1;
+        nobody = (tt, tt);
+        orderly = (orderly, tt);
+        same = same;
+        size = refl;
+        outgoing = settings_are_no_events (parts a s.past) id setting x.out s.between.outgoing;
+        incoming =
+            own_acts_leave_what_comes (Act.Adjusted id setting) (parts a s.past) x.coming tt s.between.incoming;
+      })))
+      (λ s. still f (at_same a b x.here same f.at)
+      (inr (inl (closed_on same (settings_hold_nothing a id setting s.nothing_left) s))))
+
+-- What is set on a live stream, but for its order and reliability, is nothing to the directions.
+pub sets_settle : {x : Surroundings} {a b : Shown} (id : ℕ) (setting : Setting) (r : Reply)
+    → ((s : ℕ) → SetsReliability (Act.Adjusted id setting) s → ⊥) → Sets a id setting r b → Faces x a
+    → SettlesQuietly x b
+sets_settle {x} {a} id setting replies.Done orderly h f =
+    subst (SettlesQuietly x) (sym h.1) (adjusted_settles x a id setting f orderly h.0)
+sets_settle id setting (replies.Refused n) orderly h f = same_settles h.1 f
+sets_settle id setting r orderly h f = absurd h
+
+-- A stream is accepted
+
+accepted_settles : {x : Surroundings} {a b : Shown} (id : Option ℕ) → a.failed ≡ false → accepted_stream a ≡ (b, id)
+    → Faces x a → SettlesQuietly x b
+accepted_settles {x} {a} {b} id working e f =
+    let is : (accepted_stream a).0 ≡ b = ap (λ (z : Shown × Option ℕ). z.0) e in
+    let stays = subst (λ z. IsSameStatus a z × (z.streams ≡ a.streams)) is (accepted_streams_keep_the_status a) in
+    by_working (SettlesQuietly x b) working f
+    (λ s. let m = accept_leads_on a b id e s.past s.binds in
+    still f (at_same a b x.here stays.0 f.at) (inl (open_on x [] s record {
+      past2 = m.0;
+      leads = m.1;
+      nobody = tt;
+      orderly = tt;
+      same = stays.0;
+      size = refl;
+      outgoing = s.between.outgoing;
+      incoming = s.between.incoming;
+    })))
+    (λ s. still f (at_same a b x.here stays.0 f.at)
+    (inr (inl (closed_on stays.0 (empty_still a b stays.1 s.nothing_left) s))))
+
+accepted_if_failed : (a b : Shown) (id : Option ℕ) → a.failed ≡ true → accepted_stream a ≡ (b, id) → b ≡ a
+accepted_if_failed a b id failed e =
+    sym (ap (λ (z : Shown × Option ℕ). z.0) (subst (λ (c : Bool). (if c then (a, None) else accepted_from a.to_accept a)
+    ≡ (b, id)) failed e))
+
+-- The oldest stream that the peer opened is accepted, or there is none.
+pub accepts_settle : {x : Surroundings} {a b : Shown} (r : Reply) → Accepts a r b → Faces x a → SettlesQuietly x b
+accepts_settle {x} {a} {b} (replies.Accepted id) h f =
+    ⊎_elim
+    (λ (failed : a.failed ≡ true). same_settles (accepted_if_failed a b id failed h) f)
+    (λ (working : a.failed ≡ false). accepted_settles id working h f)
+    (cases_Bool a.failed)
+accepts_settle r h f = absurd h
+
+-- The application closes
+
+module _ (x : Surroundings) (a : Shown) (f : Faces x a) where
+  closed_settles : a.failed ≡ false → SettlesQuietly x (closed_by a reasons.AssociationClosed)
+  closed_settles working =
+      let b : Shown = closed_by a reasons.AssociationClosed in
+      let closes = faults_close a reasons.AssociationClosed in
+      ⊎_elim
+      (λ (closed : is_closed_state a.state ≡ true). same_settles (closes.stays closed) f)
+      (λ (opened : is_closed_state a.state ≡ false).
+      let ended = closes.ends opened in
+      by_working (SettlesQuietly x b) working f
+      (λ s. settles_by_receiver Event.Close f tt (λ n. n) (λ o n. n) tt
+      (λ works. (the_same_handshake_is_the_same_stage a b closes.side closes.handshake).0
+      ∙ f.at (sym closes.failed ∙ works))
+      (inr (inl record {
+        closed = ended.closed;
+        unestablished = ended.unestablished;
+        lost = ended.lost;
+        stopped = closed_receivers_are_not_open x.coming;
+        nothing_left = ended.holds_nothing;
+        truthful = closes.truthful x.own s.truthful;
+      })))
+      (λ s. absurd (true≢false (sym s.closed ∙ opened))))
+      (cases_Bool (is_closed_state a.state))
+
+-- The application's close stops what comes where the association is open; where memory is refused it failed.
+pub closes_settle : {x : Surroundings} {a b : Shown} (r : Reply) → ClosesOne a r b → Faces x a → SettlesQuietly x b
+closes_settle {x} {a} replies.Done h f = subst (SettlesQuietly x) (sym h.1) (closed_settles x a f h.0)
+closes_settle (replies.Refused n) (inl had) f = same_settles had.2 f
+closes_settle (replies.Refused n) (inr (opened, fails)) f = fails_settle fails.2.marked f
+closes_settle r h f = absurd h
