@@ -35,15 +35,26 @@ pub fn parse(alloc: Global, line: &[u8]) -> Result<Option<Line>, AllocError> {
         return Ok(None);
     };
     let fields: Vec<&str> = text.split(' ').collect(alloc)?;
-    match fields.as_slice() {
-        ["snap", size, tsn_a, tsn_b] => Ok(begin(Beginning::Tokens, size, tsn_a, tsn_b)),
-        ["client", size, tsn_a, tsn_b] => Ok(begin(Beginning::Handshake, size, tsn_a, tsn_b)),
+    parse_fields(alloc, fields.as_slice())
+}
+
+fn parse_fields(alloc: Global, fields: &[&str]) -> Result<Option<Line>, AllocError> {
+    match fields {
         ["write", side, id, bytes] => write(alloc, side, id, bytes),
         ["writeas", side, id, payload_type, bytes] => {
             write_as(alloc, side, id, payload_type, bytes)
         }
-        ["state", side] => Ok(side_of(side).map(|side| Line::State(side))),
-        fields => Ok(other_step(fields).map(|step| Line::Step(step))),
+        fields => Ok(plain_line(fields)),
+    }
+}
+
+// The lines that take no memory to read.
+fn plain_line(fields: &[&str]) -> Option<Line> {
+    match fields {
+        ["snap", size, tsn_a, tsn_b] => begin(Beginning::Tokens, size, tsn_a, tsn_b),
+        ["client", size, tsn_a, tsn_b] => begin(Beginning::Handshake, size, tsn_a, tsn_b),
+        ["state", side] => Some(Line::State(side_of(side)?)),
+        fields => Some(Line::Step(other_step(fields)?)),
     }
 }
 
@@ -91,33 +102,47 @@ fn write_as(
     }
 }
 
-// The steps that take no memory to read.
 fn other_step(fields: &[&str]) -> Option<Step> {
     match fields {
-        ["open", side, id, payload_type] => Some(Step::OpenStream {
-            side: side_of(side)?,
-            id: number_u16(id)?,
-            payload_type: payload_type_of(payload_type)?,
-        }),
-        ["read", side, id] => Some(Step::Read {
-            side: side_of(side)?,
-            id: number_u16(id)?,
-        }),
-        ["finish", side, id] => Some(Step::Finish {
-            side: side_of(side)?,
-            id: number_u16(id)?,
-        }),
-        ["buffered", side, id] => Some(Step::BufferedAmount {
-            side: side_of(side)?,
-            id: number_u16(id)?,
-        }),
-        ["deliver", side, number, now] => Some(Step::Deliver {
-            side: side_of(side)?,
-            number: number_u64(number)?,
-            now: moment(now)?,
-        }),
-        [name, side, now] => timed_step(name, side_of(side)?, moment(now)?),
+        ["open", side, id, payload_type] => {
+            open_step(side_of(side)?, number_u16(id)?, payload_type)
+        }
+        ["deliver", side, number, now] => deliver_step(side_of(side)?, number, now),
+        [name, side, number] => numbered_step(name, side_of(side)?, number),
         [name, side] => plain_step(name, side_of(side)?),
+        _ => None,
+    }
+}
+
+fn open_step(side: Side2, id: u16, payload_type: &str) -> Option<Step> {
+    Some(Step::OpenStream {
+        side,
+        id,
+        payload_type: payload_type_of(payload_type)?,
+    })
+}
+
+fn deliver_step(side: Side2, number: &str, now: &str) -> Option<Step> {
+    Some(Step::Deliver {
+        side,
+        number: number_u64(number)?,
+        now: moment(now)?,
+    })
+}
+
+// The number is a moment, in ms, or the identifier of a stream.
+fn numbered_step(name: &str, side: Side2, number: &str) -> Option<Step> {
+    match name {
+        "send" | "time" => timed_step(name, side, moment(number)?),
+        _ => stream_step(name, side, number_u16(number)?),
+    }
+}
+
+fn stream_step(name: &str, side: Side2, id: u16) -> Option<Step> {
+    match name {
+        "read" => Some(Step::Read { side, id }),
+        "finish" => Some(Step::Finish { side, id }),
+        "buffered" => Some(Step::BufferedAmount { side, id }),
         _ => None,
     }
 }

@@ -79,36 +79,52 @@ fn replay_lines<R: BufRead, W: Write>(
         if !next_line(reader, &mut line)? {
             break;
         }
-        match parse(alloc, line.as_slice())? {
-            Some(Line::Step(step)) => write_line(alloc, writer, pair.step(&step))?,
-            Some(Line::State(side)) => write_state(writer, &mut pair, side)?,
-            _ => return Err(Stop::BadStep(number)),
-        }
+        let Some(line) = parse(alloc, line.as_slice())? else {
+            return Err(Stop::BadStep(number));
+        };
+        carry_out(alloc, writer, &mut pair, &line, number)?;
     }
     Ok(())
 }
 
+// Carries out a line behind the first one.
+fn carry_out<W: Write>(
+    alloc: Global,
+    writer: &mut W,
+    pair: &mut Pair,
+    line: &Line,
+    number: u64,
+) -> Result<(), Stop> {
+    match line {
+        Line::Step(step) => write_line(alloc, writer, pair.step(step)),
+        Line::State(side) => write_state(writer, pair, *side),
+        Line::Begin { .. } => Err(Stop::BadStep(number)),
+    }
+}
+
 // Makes the pair; None where it is refused, which ends the session.
 fn first_step<W: Write>(alloc: Global, writer: &mut W, line: &[u8]) -> Result<Option<Pair>, Stop> {
-    match parse(alloc, line)? {
-        Some(
-            Line::Begin {
-                by,
-                max_payload_size,
-                tsn_a,
-                tsn_b,
-            },
-        ) => match begun(alloc, by, max_payload_size, tsn_a, tsn_b) {
-            Ok(pair) => {
-                write_line(alloc, writer, Reply::Done)?;
-                Ok(Some(pair))
-            }
-            Err(error) => {
-                write_line(alloc, writer, Reply::Refused(error.number()))?;
-                Ok(None)
-            }
+    let line = parse(alloc, line)?;
+    let Some(
+        Line::Begin {
+            by,
+            max_payload_size,
+            tsn_a,
+            tsn_b,
         },
-        _ => Err(Stop::BadStep(1)),
+    ) = &line
+    else {
+        return Err(Stop::BadStep(1));
+    };
+    match begun(alloc, *by, *max_payload_size, *tsn_a, *tsn_b) {
+        Ok(pair) => {
+            write_line(alloc, writer, Reply::Done)?;
+            Ok(Some(pair))
+        }
+        Err(error) => {
+            write_line(alloc, writer, Reply::Refused(error.number()))?;
+            Ok(None)
+        }
     }
 }
 

@@ -6,35 +6,43 @@ use std::alloc::{AllocError, Global};
 /// A reply without its newline.
 pub fn show(alloc: Global, reply: Reply) -> Result<String, AllocError> {
     match reply {
-        Reply::Done => "ok".to_string(alloc),
-        Reply::Wrote(count) => format!(in alloc; "wrote {count}"),
         Reply::Read(Some(message)) => show_message(alloc, message),
-        Reply::Read(None) => "none".to_string(alloc),
-        Reply::BufferedAmount(amount) => format!(in alloc; "{amount}"),
-        Reply::Accepted(Some(id)) => format!(in alloc; "stream {id}"),
         Reply::StreamIds(ids) => show_ids(alloc, ids.as_slice()),
         Reply::Event(Some(event)) => show_event(alloc, event),
-        Reply::Event(None) => "none".to_string(alloc),
+        other => show_word(alloc, &other),
+    }
+}
+
+fn show_word(alloc: Global, reply: &Reply) -> Result<String, AllocError> {
+    match reply {
+        Reply::Done => "ok".to_string(alloc),
+        Reply::State(answer) => flag(*answer).to_string(alloc),
+        Reply::NoSuchPacket => "no such packet".to_string(alloc),
         other => show_number(alloc, other),
     }
 }
 
-fn show_number(alloc: Global, reply: Reply) -> Result<String, AllocError> {
+fn show_number(alloc: Global, reply: &Reply) -> Result<String, AllocError> {
+    match reply {
+        Reply::Wrote(count) => format!(in alloc; "wrote {count}"),
+        Reply::BufferedAmount(amount) => format!(in alloc; "{amount}"),
+        Reply::Accepted(Some(id)) => format!(in alloc; "stream {id}"),
+        Reply::Sent { first, count } => format!(in alloc; "packets {first} {count}"),
+        Reply::Refused(number) => format!(in alloc; "refused {number}"),
+        other => show_time(alloc, other),
+    }
+}
+
+fn show_time(alloc: Global, reply: &Reply) -> Result<String, AllocError> {
     match reply {
         Reply::Timeout(Some(moment)) => {
             let millis = moment.as_nanos() / 1_000_000;
             format!(in alloc; "at {millis}")
         }
-        Reply::Sent { first, count } => format!(in alloc; "packets {first} {count}"),
-        Reply::State(answer) => flag(answer).to_string(alloc),
         Reply::Rtt(timeout) => {
             let millis = timeout.as_millis();
             format!(in alloc; "{millis}")
         }
-        Reply::StreamIdentifier(id) => format!(in alloc; "{id}"),
-        Reply::Threshold(bytes) => format!(in alloc; "{bytes}"),
-        Reply::Refused(number) => format!(in alloc; "refused {number}"),
-        Reply::NoSuchPacket => "no such packet".to_string(alloc),
         _ => "none".to_string(alloc),
     }
 }

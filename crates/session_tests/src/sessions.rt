@@ -196,6 +196,40 @@ buffered A 1=0
 deadline A=none
 ";
 
+/// Streams are listed, accepted once each and finished, a message has a payload type of its own, and a close is told once.
+static CALLS: &str = "\
+snap 1200 100 500=ok
+open A 1 53=ok
+open A 3 51=ok
+writeas A 1 51 6869=wrote 2
+ids A=ids 1 3
+ids B=ids
+accept B=none
+send A 0=packets 0 1
+deliver B 0 0=ok
+accept B=stream 1
+accept B=none
+ids B=ids 1
+read B 1=message 51 6869
+finish A 1=ok
+write A 1 61=refused 21
+writeas A 1 53 61=refused 21
+finish A 9=refused 9
+close B=ok
+ids B=ids
+event B=connected
+event B=opened 1
+event B=datagram
+event B=readable 1
+event B=final 0
+event B=lost closed
+event B=none
+close B=ok
+state B=0 1 0 1 0
+accept B=none
+write B 1 61=refused 9
+";
+
 #[test]
 fn sessions_give_their_replies(rt: HostRuntime) -> Result<(), Fail> {
     for text in [
@@ -206,6 +240,7 @@ fn sessions_give_their_replies(rt: HostRuntime) -> Result<(), Fail> {
         COOKIE_ACK_LOST,
         REORDERED,
         PIECES,
+        CALLS,
     ] {
         check_replies(&rt, text)?;
     }
@@ -260,6 +295,10 @@ write A 1 616
 policy A 1 o often 0
 policy A 1 x reliable 0
 policy A 1 o rexmit 4294967296
+finish A
+accept A 1
+ids C
+writeas A 1 53 6
 open A 1 52
 open C 1 53
 open A +1 53
