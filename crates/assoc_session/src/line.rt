@@ -1,7 +1,7 @@
 // Lines of a session.
 use bytes::Bytes;
 use hex::FromHexError;
-use sctp_assoc::{Instant, PayloadProtocolIdentifier};
+use sctp_assoc::{Instant, PayloadProtocolIdentifier, ReliabilityType};
 use sctp_pair::{Side2, Step};
 use std::alloc::{AllocError, Global};
 
@@ -107,6 +107,7 @@ fn other_step(fields: &[&str]) -> Option<Step> {
         ["open", side, id, payload_type] => {
             open_step(side_of(side)?, number_u16(id)?, payload_type)
         }
+        ["policy", side, id, order, kind, value] => policy(side, id, order, kind, value),
         ["deliver", side, number, now] => deliver_step(side_of(side)?, number, now),
         [name, side, number] => numbered_step(name, side_of(side)?, number),
         [name, side] => plain_step(name, side_of(side)?),
@@ -143,6 +144,34 @@ fn stream_step(name: &str, side: Side2, id: u16) -> Option<Step> {
         "read" => Some(Step::Read { side, id }),
         "finish" => Some(Step::Finish { side, id }),
         "buffered" => Some(Step::BufferedAmount { side, id }),
+        _ => None,
+    }
+}
+
+// Order and reliability of the messages that are written from then on.
+fn policy(side: &str, id: &str, order: &str, kind: &str, value: &str) -> Option<Step> {
+    Some(Step::SetReliabilityParams {
+        side: side_of(side)?,
+        id: number_u16(id)?,
+        unordered: is_unordered(order)?,
+        rel_type: reliability_of(kind)?,
+        rel_val: number_u32(value)?,
+    })
+}
+
+fn is_unordered(text: &str) -> Option<bool> {
+    match text {
+        "o" => Some(false),
+        "u" => Some(true),
+        _ => None,
+    }
+}
+
+fn reliability_of(text: &str) -> Option<ReliabilityType> {
+    match text {
+        "reliable" => Some(ReliabilityType::Reliable),
+        "rexmit" => Some(ReliabilityType::Rexmit),
+        "timed" => Some(ReliabilityType::Timed),
         _ => None,
     }
 }

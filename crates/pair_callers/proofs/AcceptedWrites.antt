@@ -13,13 +13,14 @@ use Rattle.sctp_sides.specs.Shapes.{IsLive}
 use Rattle.sctp_assoc.specs.Shown.{Shown}
 use Rattle.sctp_sides.proofs.Proved.{found_streams_are_live}
 use Rattle.sctp_directions.specs.Acts.{type_on}
+use Rattle.sctp_fit.specs.Writes.{message_on}
 use Rattle.sctp_pair.specs.declared.step.Reply.{Reply}
 use Rattle.sctp_pair.specs.declared.step.Reply.TheVariants as replies
 use Rattle.sctp_pair.specs.declared.step.Side2.{Side2}
 use Rattle.sctp_pair.specs.declared.step.Step.TheVariants as steps
 use Rattle.sctp_pair.specs.Ends.{Ends, end_of}
 use Rattle.sctp_pair.specs.Steps.{Steps, Writes, first_refusal}
-use Rattle.sctp_pair.specs.World.{IsWorldStep, World, accepted_at, is_side, message_under}
+use Rattle.sctp_pair.specs.World.{IsWorldStep, World, accepted_at, is_side}
 use Rattle.sctp_pair.specs.World.{messages_on}
 use Rattle.pair_callers.specs.Going.{GoesOn, from_side}
 use Rattle.pair_callers.specs.Writing.{AcceptsNone, AcceptsOne, count_in}
@@ -49,7 +50,7 @@ accepts_one {w} {v} side id n bytes h =
     let live = written_is_live side id n bytes w v h in
     let here : (is_side side side && eqb id id) ≡ true = rw (is_own side, eq-eqb id id refl) refl in
     record {
-      message = message_under (type_on live.stream None) bytes;
+      message = message_on live.stream (type_on live.stream None) bytes;
       same_bytes = refl;
       last = d.accepted id
           ∙ ap (λ (c : Bool). (from_side side w).sender.plan.accepted id ++

@@ -1,7 +1,7 @@
 // Telling: what the replies of all steps tell of a pair that was just made, with no world and no premise but few
 // writes.
 ghost use Rattle.std.specs.Prelude.{◌≡◌, ◌∷◌, ◌++◌, [], IfOk, length};
-ghost use Rattle.sctp_pair.specs.Callers.{AcceptFew, NothingIsReadBeforeADelivery, ReadsAreFronts};
+ghost use Rattle.sctp_pair.specs.Callers.{AcceptFew, NothingIsReadBeforeADelivery, ReadsAreFronts, ReadsWereWritten};
 
 use crate::running::join;
 use sctp_assoc::{AssociationId, ChunkInit, Error, Instant, ServerConfig, TransportConfig};
@@ -24,6 +24,9 @@ pub fn run_joined(
     ensures each { IfOk result (λ replies. length replies.items ≡ length steps.now) }
     ensures front { IfOk result (λ replies.
         AcceptFew max_payload_size max_payload_size steps.now replies.items → ReadsAreFronts steps.now replies.items) }
+    ensures written { IfOk result (λ replies.
+        AcceptFew max_payload_size max_payload_size steps.now replies.items
+        → ReadsWereWritten steps.now replies.items) }
     ensures undelivered { IfOk result (λ replies.
         AcceptFew max_payload_size max_payload_size steps.now replies.items
         → NothingIsReadBeforeADelivery steps.now replies.items) }
@@ -56,6 +59,9 @@ pub fn run_client_server(
     ensures each { IfOk result (λ replies. length replies.items ≡ length steps.now) }
     ensures front { IfOk result (λ replies.
         AcceptFew max_payload_size max_payload_size steps.now replies.items → ReadsAreFronts steps.now replies.items) }
+    ensures written { IfOk result (λ replies.
+        AcceptFew max_payload_size max_payload_size steps.now replies.items
+        → ReadsWereWritten steps.now replies.items) }
     ensures undelivered { IfOk result (λ replies.
         AcceptFew max_payload_size max_payload_size steps.now replies.items
         → NothingIsReadBeforeADelivery steps.now replies.items) }

@@ -45,9 +45,15 @@ use Rattle.sctp_assoc.specs.declared.inbound.Flow.{Flow}
 use Rattle.sctp_assoc.specs.declared.inbound.Flow.TheVariants as flows
 use Rattle.sctp_directions.specs.Acts.{Act, CanAll, History, Parts, done, done_all}
 use Rattle.sctp_assoc.specs.Leads.{Binds, Leads, IsSamePast, LeadsOn, parts}
+use Rattle.sctp_assoc.specs.Memory.{is_taken}
 use Rattle.sctp_directions.specs.Acts.{offset_in, with_peer, with_taken, with_written}
 use Rattle.sctp_assoc.specs.Calls.{accepted_from, accepted_stream, adjusted, after_ack_delay, after_t3, event_from, event_polled, opened}
-use Rattle.sctp_assoc.specs.Closing.{closed_by, closed_open}
+use Rattle.sctp_assoc.specs.Chunks.{asks}
+use Rattle.sctp_inbound.specs.Receiver.{asked}
+use Rattle.sctp_streams.specs.Streams.{StreamMap, read_in}
+use Rattle.sctp_assoc.specs.Happened.{acts_of_read}
+use Rattle.sctp_assoc.specs.Calls.{after_read}
+use Rattle.sctp_assoc.specs.Closing.{closed_by, closed_open, exhausted, is_exhausted}
 use Rattle.sctp_assoc.specs.Calls.{read_from_stream, retransmits, t3_expired, written, written_at, is_beginning}
 use Rattle.sctp_assoc.specs.Calls.{is_cookie_echoed, is_cookie_wait, is_established}
 use Rattle.sctp_assoc.specs.Closing.{is_closed_state}
@@ -113,6 +119,22 @@ past_itself h = record { peer = refl; taken = refl; passed = refl }
 pub leads_nowhere : (a b : Shown) (h : History) → Binds a h → parts b h ≡ parts a h
     → past_of b.receiver ≡ past_of a.receiver → Leads [] a h b h
 leads_nowhere a b h binds same point = leads_by [] a b h binds tt same point (past_itself h)
+
+-- what changes beside the directions does no harm
+leads_beside : (xs : List Act) (a b c : Shown) (h k : History) → parts c k ≡ parts b k
+    → past_of c.receiver ≡ past_of b.receiver → Leads xs a h b k → Leads xs a h c k
+leads_beside xs a b c h k same point m = record {
+  can = m.can;
+  there = same ∙ m.there;
+  binds = record {
+    first = ap (λ (p : Parts). p.queue.first_tsn) same ∙ m.binds.first;
+    point = ap (λ (z : ℕ × List ℕ). z.0) point ∙ m.binds.point;
+    held =
+        subst (HoldsPast (came_on k c.streams)) (sym (ap (λ (z : ℕ × List ℕ). z.1) point))
+        (same_held k k b.streams c.streams (past_itself k) m.binds.held);
+    marked = subst (λ (p : Parts). AreMarkedRight p.queue.in_flight) (sym same) m.binds.marked;
+  };
+}
 
 close_leads : (closed : Bool) (a : Shown) (reason : AssociationError) (h : History) → is_closed_state a.state ≡ closed
     → Binds a h
@@ -193,9 +215,17 @@ taking_leads a piece h binds next =
     taking_leads_unless (refusal_in a.streams piece.stream_identifier piece a.receiver.max_receive_message_size) a piece
     h binds next
 
+flow_keeps : (e : Bool) (a : Shown) (f g : Flow) → (if◌then◌else◌ {A = Shown × Flow} e (a, f) (a, g)).0 ≡ a
+flow_keeps true a f g = refl
+flow_keeps false a f g = refl
+
+pub asks_keeps : (a : Shown) (piece : ChunkPayloadData) (trigger : AckTrigger) → (asks a piece trigger).0 ≡ a
+asks_keeps a piece trigger =
+    flow_keeps (is_exhausted a) a flows.Exhausted (flows.Next (asked a.receiver trigger piece.immediate_sack))
+
 pub asks_same : (x : Shown × Option Error) (piece : ChunkPayloadData) (trigger : AckTrigger)
     → (asks_or_faults x piece trigger).0 ≡ x.0
-asks_same (a, None) piece trigger = refl
+asks_same (a, None) piece trigger = asks_keeps a piece trigger
 asks_same (a, Some fault) piece trigger = refl
 
 credit_leads : (c : Bool) (b : Shown) (piece : ChunkPayloadData) (trigger : AckTrigger) (h : History)
@@ -205,7 +235,10 @@ credit_leads : (c : Bool) (b : Shown) (piece : ChunkPayloadData) (trigger : AckT
 credit_leads true b piece trigger h e binds next =
     let t = taking_leads b piece h binds next in
     rw (e, asks_same (taken_in b piece) piece trigger) t
-credit_leads false b piece trigger h e binds next = rw e (h, leads_nowhere b b h binds refl refl)
+credit_leads false b piece trigger h e binds next =
+    let same : Leads [] b h (asks b piece trigger).0 h =
+    subst (λ (z : Shown). Leads [] b h z h) (sym (asks_keeps b piece trigger)) (leads_nowhere b b h binds refl refl) in
+    rw e (h, same)
 
 found_leads : (x : Shown × Bool) (piece : ChunkPayloadData) (trigger : AckTrigger) (h : History) → Binds x.0 h
     → is_new_to x.0.receiver piece.tsn ≡ true
@@ -214,11 +247,15 @@ found_leads (b, false) piece trigger h binds next = (h, leads_nowhere b b h bind
 found_leads (b, true) piece trigger h binds next =
     credit_leads (admits b.receiver piece.tsn (bytes_waiting b.streams)) b piece trigger h refl binds next
 
-next_leads : (c : Bool) (a : Shown) (piece : ChunkPayloadData) (trigger : AckTrigger) (h : History)
+pub next_leads : (c : Bool) (a : Shown) (piece : ChunkPayloadData) (trigger : AckTrigger) (h : History)
     → is_new_to a.receiver piece.tsn ≡ c
     → Binds a h → (k : History) × Leads (acts_of_data a piece) a h (on_data a piece trigger).0 k
 unfolding on_data
-next_leads false a piece trigger h e binds = rw e (h, leads_nowhere a (counted_data a) h binds refl refl)
+next_leads false a piece trigger h e binds =
+    let same : Leads [] a h (asks (counted_data a) piece trigger).0 h =
+    subst (λ (z : Shown). Leads [] a h z h) (sym (asks_keeps (counted_data a) piece trigger))
+    (leads_nowhere a (counted_data a) h binds refl refl) in
+    rw e (h, same)
 next_leads true a piece trigger h e binds =
     let b : Shown = counted_data a in
     let counted : Binds b h =
@@ -234,12 +271,6 @@ next_leads true a piece trigger h e binds =
     )
 
 -- SACK
-
-abbrev is_taken : SackOutcome → Bool
-is_taken outcomes.Older = false
-is_taken outcomes.NotInFlight = false
-is_taken outcomes.NamesTheUnsent = false
-is_taken outcomes.Taken = true
 
 -- a SACK that is taken is not behind, and its point is within what is in flight
 taken_within : (older beyond : Bool) (s : Sender) (point : ℕ) (blocks : List GapAckBlock)
@@ -438,6 +469,12 @@ ended_point a triggers.None now = refl
 ended_point a triggers.Delayed now = refl
 ended_point a triggers.Immediate now = refl
 
+pub exhausted_leads : (a : Shown) (h : History) → Binds a h → Leads (acts_of_close a) a h (exhausted a) h
+exhausted_leads a h binds =
+    let closes : Leads (acts_of_close a) a h (closed_by a reasons.ReceiveBufferExhausted) h =
+    close_leads (is_closed_state a.state) a reasons.ReceiveBufferExhausted h refl binds in
+    leads_beside (acts_of_close a) a (closed_by a reasons.ReceiveBufferExhausted) (exhausted a) h h refl refl closes
+
 -- what follows a chunk leads on, where the rest of the packet does
 goes_leads : (x : Shown × Flow) (h : History) (more : Shown → AckTrigger → Shown) (acts : Shown → AckTrigger → List Act)
     → ((b : Shown) (trigger : AckTrigger) → Binds b h → (k : History) × Leads (acts b trigger) b h (more b trigger) k)
@@ -445,6 +482,7 @@ goes_leads : (x : Shown × Flow) (h : History) (more : Shown → AckTrigger → 
 goes_leads (b, flows.Next trigger) h more acts on binds = on b trigger binds
 goes_leads (b, flows.Fault fault) h more acts on binds =
     (h, close_leads (is_closed_state b.state) b reasons.AssociationClosed h refl binds)
+goes_leads (b, flows.Exhausted) h more acts on binds = (h, exhausted_leads b h binds)
 
 pub chunks_lead : (header : CommonHeader) (cs : List Chunk) (a : Shown) (trigger : AckTrigger) (now : ℕ) (h : History)
     → Binds a h
@@ -483,22 +521,6 @@ pub packet_leads_on : (a b : Shown) (packet : Option Packet) (now : ℕ) → b �
 packet_leads_on a b packet now e h binds = rw e (packet_leads packet a now h binds)
 
 -- the calls of an application
-
--- what changes beside the directions does no harm
-leads_beside : (xs : List Act) (a b c : Shown) (h k : History) → parts c k ≡ parts b k
-    → past_of c.receiver ≡ past_of b.receiver → Leads xs a h b k → Leads xs a h c k
-leads_beside xs a b c h k same point m = record {
-  can = m.can;
-  there = same ∙ m.there;
-  binds = record {
-    first = ap (λ (p : Parts). p.queue.first_tsn) same ∙ m.binds.first;
-    point = ap (λ (z : ℕ × List ℕ). z.0) point ∙ m.binds.point;
-    held =
-        subst (HoldsPast (came_on k c.streams)) (sym (ap (λ (z : ℕ × List ℕ). z.1) point))
-        (same_held k k b.streams c.streams (past_itself k) m.binds.held);
-    marked = subst (λ (p : Parts). AreMarkedRight p.queue.in_flight) (sym same) m.binds.marked;
-  };
-}
 
 written_parts : (o : Option StreamView) (a : Shown) (id : ℕ)
     (named : Option PayloadProtocolIdentifier) (bytes : List ℕ) (h : History)
@@ -572,15 +594,37 @@ accept_leads_on a b id e h binds =
     accept_if true = leads_nowhere a a h binds refl refl
     accept_if false = accepted_leads a.to_accept a h binds
 
+relieved_leads : (e : Bool) (a : Shown) (h : History) → Binds a h
+    → Leads (if e then acts_of_close a else []) a h (if e then exhausted a else a) h
+relieved_leads true a h binds = exhausted_leads a h binds
+relieved_leads false a h binds = leads_nowhere a a h binds refl refl
+
+after_read_leads : (x : StreamMap × Option ReceivedMessage) (a : Shown) (id : ℕ) (h : History)
+    → Leads (Act.WasRead id ∷ []) a h (record a { streams = x.0 }) h
+    → Leads
+    (Act.WasRead id ∷ (if is_some x.1 && is_exhausted (record a { streams = x.0 }) then acts_of_close a else []))
+    a h (after_read a x).0 h
+after_read_leads (streams, None) a id h one = one
+after_read_leads (streams, Some message) a id h one =
+    let b : Shown = record a { streams = streams } in
+    leads_on (Act.WasRead id ∷ []) (if is_exhausted b then acts_of_close b else []) one
+    (relieved_leads (is_exhausted b) b h one.binds)
+
+-- a read, before it is seen whether it leaves the receive buffer exhausted
+pub plain_read_leads : (a : Shown) (id : ℕ) (h : History) → Binds a h
+    → Leads (Act.WasRead id ∷ []) a h (record a { streams = (read_in a.streams id).0 }) h
+plain_read_leads a id h binds =
+    leads_by (Act.WasRead id ∷ []) a (record a { streams = (read_in a.streams id).0 }) h binds (tt, tt) refl refl
+    (past_itself h)
+
 pub read_leads_on : (a b : Shown) (id : ℕ) (message : Option ReceivedMessage) → read_from_stream a id ≡ (b, message)
-    → LeadsOn (Act.WasRead id ∷ []) a b
-read_leads_on a b id message e h binds =
-    let is : b ≡ record a { streams = (read_in a.streams id).0 } =
-    sym (ap (λ (x : Shown × Option ReceivedMessage). x.0) e) in (
-      h,
-      rw is (leads_by (Act.WasRead id ∷ []) a (record a { streams = (read_in a.streams id).0 }) h binds (tt, tt) refl
-          refl (past_itself h)),
-    )
+    → LeadsOn (acts_of_read a id) a b
+read_leads_on a b id message e h binds = (
+  h,
+  subst (λ (z : Shown). Leads (acts_of_read a id) a h z h)
+      (ap (λ (x : Shown × Option ReceivedMessage). x.0) e)
+      (after_read_leads (read_in a.streams id) a id h (plain_read_leads a id h binds)),
+)
 
 pub open_leads_on : (a b : Shown) (id : ℕ) (kind : PayloadProtocolIdentifier) → b ≡ opened a id kind
     → LeadsOn (Act.Opened id a.sender.queue.next_message_id kind ∷ []) a b

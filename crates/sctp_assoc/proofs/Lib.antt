@@ -8,5 +8,6 @@ mod MemoryTaken
 mod PacketsReadAgain
 pub mod PolledData
 pub mod PollsLeadOn
-mod StreamReads
+mod SacksTell
+pub mod StreamReads
 pub mod WhatCame

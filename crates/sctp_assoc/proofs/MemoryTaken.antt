@@ -130,17 +130,17 @@ taking_takes a b piece next found credit free =
 -- the chunks of a packet
 
 module _ (header : CommonHeader) (c : Chunk) (cs : List Chunk) (a : Shown) (trigger : AckTrigger) (now : ℕ) where
-  pub first_takes : chunk_takes_memory a header c ≡ true
+  pub first_takes : chunk_takes_memory a header c now ≡ true
       → chunks_take_memory header (c ∷ cs) a trigger now ≡ true
   first_takes takes =
-      or_left (chunk_takes_memory a header c) (takes_memory_after (on_chunk a header c trigger now)
+      or_left (chunk_takes_memory a header c now) (takes_memory_after (on_chunk a header c trigger now)
       (λ b next. chunks_take_memory header cs b next now)) takes
 
   pub later_takes : (b : Shown) (next : AckTrigger)
       → on_chunk a header c trigger now ≡ (b, flows.Next next) → chunks_take_memory header cs b next now ≡ true
       → chunks_take_memory header (c ∷ cs) a trigger now ≡ true
   later_takes b next e takes =
-      or_right (chunk_takes_memory a header c)
+      or_right (chunk_takes_memory a header c now)
       (takes_memory_after (on_chunk a header c trigger now) (λ b next. chunks_take_memory header cs b next now))
       (rw e takes)
 
@@ -148,7 +148,7 @@ module _ (header : CommonHeader) (c : Chunk) (cs : List Chunk) (a : Shown) (trig
       → on_chunk a header c trigger now ≡ (b, flows.Fault fault) → is_closed_state b.state ≡ false
       → chunks_take_memory header (c ∷ cs) a trigger now ≡ true
   fault_takes b fault e still =
-      or_right (chunk_takes_memory a header c)
+      or_right (chunk_takes_memory a header c now)
       (takes_memory_after (on_chunk a header c trigger now) (λ b next. chunks_take_memory header cs b next now))
       (rw (e, still) refl)
 

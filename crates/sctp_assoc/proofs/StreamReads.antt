@@ -1,6 +1,6 @@
 -- A read on a stream gives the first of what is ready there, and leaves the others.
 use Rattle.std.proofs.Common.{◌≡◌, ◌↔◌, refl, sym, ap, ◌∙◌, ⊎_elim, ℕ, Bool, true, false, List, [], ◌∷◌, drop}
-use Rattle.std.proofs.Common.{slice_get, Option, Some, None}
+use Rattle.std.proofs.Common.{◌⊎◌, inl, inr, ◌&&◌, if◌then◌else◌, slice_get, is_some, Option, Some, None}
 use Rattle.std.specs.Prelude.{IsNone}
 use Rattle.std.specs.Map.{lookup, set_value}
 use Rattle.std.specs.Ordering.{nat_cmp}
@@ -11,7 +11,9 @@ use Rattle.sctp_receive_queues.specs.Reassembly.{Reassembly, ready, taken}
 use Rattle.sctp_receive_queues.proofs.ReadyMessages.{reads_give_what_is_ready}
 use Rattle.sctp_streams.specs.Stream.{StreamView, read_with, stream_read}
 use Rattle.sctp_streams.specs.Streams.{StreamMap, read_at, read_in, stream_at}
-use Rattle.sctp_assoc.specs.Calls.{ready_of}
+use Rattle.sctp_assoc.specs.Calls.{LeavesTheOthers, after_read, read_exhausts, read_from_stream, ready_messages, ready_of}
+use Rattle.sctp_assoc.specs.Closing.{exhausted, is_exhausted}
+use Rattle.sctp_assoc.specs.Shown.{Shown}
 
 -- what is written at a key that is found is found there
 found_again : (test : ℕ → Bool) (es : List (ℕ × StreamView)) (v w : StreamView) → lookup test es ≡ Some v
@@ -42,17 +44,6 @@ others_at (Some s) m id e =
     ap ready_of (found_again (is_at (nat_cmp id)) m.by_id s (stream_read s).0 e)
     ∙ ap ready (read_rest s (taken s.reassembly)) ∙ (reads_give_what_is_ready s.reassembly).1
 
-pub read_gives_the_first : (m n : StreamMap) (id : ℕ) (message : Option ReceivedMessage) → read_in m id ≡ (n, message)
-    → message ≡ slice_get (ready_of (stream_at m id)) 0
-read_gives_the_first m n id message e =
-    sym (ap (λ (x : StreamMap × Option ReceivedMessage). x.1) e) ∙ first_at (stream_at m id) m id
-
-pub read_leaves_the_others : (m n : StreamMap) (id : ℕ) (message : Option ReceivedMessage) → read_in m id ≡ (n, message)
-    → ready_of (stream_at n id) ≡ drop 1 (ready_of (stream_at m id))
-read_leaves_the_others m n id message e =
-    sym (ap (λ (x : StreamMap × Option ReceivedMessage). ready_of (stream_at x.0 id)) e)
-    ∙ others_at (stream_at m id) m id refl
-
 none_where_none : (message : Option ReceivedMessage) (all : List ReceivedMessage) → message ≡ slice_get all 0
     → IsNone message ↔ (all ≡ [])
 none_where_none None [] e = (λ _. refl, λ _. refl)
@@ -60,7 +51,37 @@ none_where_none None (m ∷ ms) e = absurd (cc)
 none_where_none (Some m) [] e = absurd (cc)
 none_where_none (Some n) (m ∷ ms) e = (λ f. absurd (cc), λ f. absurd (cc))
 
-pub read_gives_none : (m n : StreamMap) (id : ℕ) (message : Option ReceivedMessage) → read_in m id ≡ (n, message)
-    → IsNone message ↔ (ready_of (stream_at m id) ≡ [])
-read_gives_none m n id message e =
-    none_where_none message (ready_of (stream_at m id)) (read_gives_the_first m n id message e)
+pub message_given : (a : Shown) (x : StreamMap × Option ReceivedMessage) → (after_read a x).1 ≡ x.1
+message_given a (streams, None) = refl
+message_given a (streams, Some message) = refl
+
+pub reads_give_the_first : (a b : Shown) (id : ℕ) (message : Option ReceivedMessage)
+    → read_from_stream a id ≡ (b, message) → message ≡ slice_get (ready_messages a id) 0
+reads_give_the_first a b id message e =
+    sym (ap (λ (x : Shown × Option ReceivedMessage). x.1) e)
+    ∙ message_given a (read_in a.streams id) ∙ first_at (stream_at a.streams id) a.streams id
+
+pub reads_give_none : (a b : Shown) (id : ℕ) (message : Option ReceivedMessage)
+    → read_from_stream a id ≡ (b, message) → IsNone message ↔ (ready_messages a id ≡ [])
+reads_give_none a b id message e =
+    none_where_none message (ready_messages a id) (reads_give_the_first a b id message e)
+
+relieved_streams : (e : Bool) (b : Shown) → (e ≡ true) ⊎ ((if e then exhausted b else b).streams ≡ b.streams)
+relieved_streams true b = inl refl
+relieved_streams false b = inr refl
+
+streams_left : (a : Shown) (x : StreamMap × Option ReceivedMessage)
+    → ((is_some x.1 && is_exhausted (record a { streams = x.0 })) ≡ true) ⊎ ((after_read a x).0.streams ≡ x.0)
+streams_left a (streams, None) = inr refl
+streams_left a (streams, Some message) =
+    relieved_streams (is_exhausted (record a { streams = streams })) (record a { streams = streams })
+
+pub reads_leave_the_others : (a b : Shown) (id : ℕ) (message : Option ReceivedMessage)
+    → read_from_stream a id ≡ (b, message) → LeavesTheOthers a id b
+reads_leave_the_others a b id message e = ⊎_elim
+    (λ (exhausts : read_exhausts a id ≡ true). inl exhausts)
+    (λ (same : (read_from_stream a id).0.streams ≡ (read_in a.streams id).0).
+    inr (sym (ap (λ (x : Shown × Option ReceivedMessage). ready_messages x.0 id) e)
+    ∙ ap (λ (m : StreamMap). ready_of (stream_at m id)) same
+    ∙ others_at (stream_at a.streams id) a.streams id refl))
+    (streams_left a (read_in a.streams id))

@@ -1,6 +1,6 @@
 -- What the calls of an application do to an association.
-use Rattle.std.specs.Prelude.{◌≡◌, ℕ, Bool, true, false, List, [], ◌∷◌, ◌++◌, ◌&&◌, ◌==◌, if◌then◌else◌, length, not}
-use Rattle.std.specs.Prelude.{nat_lt, is_some, Option, Some, None, Result, Ok, Err}
+use Rattle.std.specs.Prelude.{◌≡◌, ◌⊎◌, ℕ, Bool, true, false, List, [], ◌∷◌, ◌++◌, ◌&&◌, ◌==◌, if◌then◌else◌, length, not}
+use Rattle.std.specs.Prelude.{drop, nat_lt, is_some, Option, Some, None, Result, Ok, Err}
 use Rattle.sctp_wire_types.specs.declared.error.Error.{Error}
 use Rattle.sctp_wire_types.specs.declared.error.Error.TheVariants as errors
 use Rattle.sctp_wire_types.specs.declared.event.StreamEvent.TheVariants.{BufferedAmountHigh}
@@ -22,10 +22,11 @@ use Rattle.sctp_receive_queues.specs.Messages.{ReceivedMessage}
 use Rattle.sctp_receive_queues.specs.Reassembly.{ready}
 use Rattle.sctp_streams.specs.Stream.{StreamView, accepted_by, is_read_half_open, is_write_half_open, reaches_high_mark}
 use Rattle.sctp_streams.specs.Stream.{with_setting}
-use Rattle.sctp_streams.specs.Streams.{changed_stream, generation_left, made, read_in, stream_at}
+use Rattle.sctp_streams.specs.Streams.{StreamMap, changed_stream, generation_left, made, read_in, stream_at}
 use Rattle.sctp_inbound.specs.Receiver.{acknowledged_at_once}
 use Rattle.sctp_directions.specs.Acts.{message_of, type_on}
-use Rattle.sctp_assoc.specs.Shown.{Shown}
+use Rattle.sctp_assoc.specs.Closing.{is_exhausted, relieved}
+use Rattle.sctp_assoc.specs.Shown.{HasFailed, Shown, answers_of}
 
 -- a call with a Result is refused on a failed association before anything else
 abbrev pub usable : Shown → Result (Unit {0}) Error
@@ -137,9 +138,17 @@ abbrev pub read_refusal : Shown → ℕ → Option Error
 read_refusal a id =
     if a.failed then Some errors.ErrAssociationFailed else read_refusal_at (stream_at a.streams id)
 
--- what a read leaves and gives
+abbrev pub after_read : Shown → StreamMap × Option ReceivedMessage → Shown × Option ReceivedMessage
+after_read a (streams, None) = (record a { streams = streams }, None)
+after_read a (streams, Some message) = (relieved (record a { streams = streams }), Some message)
+
+-- what a read leaves and gives; one that gives a message may leave a buffer that is exhausted, and that closes
 abbrev pub read_from_stream : Shown → ℕ → Shown × Option ReceivedMessage
-read_from_stream a id = (record a { streams = (read_in a.streams id).0 }, (read_in a.streams id).1)
+read_from_stream a id = after_read a (read_in a.streams id)
+
+-- a read that gives a message leaves the receive buffer exhausted
+abbrev pub read_exhausts : Shown → ℕ → Bool
+read_exhausts a id = is_some (read_in a.streams id).1 && is_exhausted (record a { streams = (read_in a.streams id).0 })
 
 abbrev pub ready_of : Option StreamView → List ReceivedMessage
 ready_of None = []
@@ -267,3 +276,15 @@ event_polled a = event_from a.events a
 -- why a call that a failed association alone refuses is refused
 abbrev pub failed_refusal : Shown → Option Error
 failed_refusal a = if a.failed then Some errors.ErrAssociationFailed else None
+
+-- a read was refused by a rule, and nothing changed; or it left the receive buffer exhausted, and memory was refused
+-- for the close: the association failed
+abbrev pub RefusesRead : Shown → ℕ → Error → Shown → Type 0
+RefusesRead a id error b =
+    ((read_refusal a id ≡ Some error) × (b ≡ a))
+    ⊎ ((read_refusal a id ≡ None) × (read_exhausts a id ≡ true) × (error ≡ errors.ErrNoMemory)
+    × HasFailed (answers_of a) b)
+
+-- what is left after a read that was carried out gives the other messages one after another, unless the read closed
+abbrev pub LeavesTheOthers : Shown → ℕ → Shown → Type 0
+LeavesTheOthers a id b = (read_exhausts a id ≡ true) ⊎ (ready_messages b id ≡ drop 1 (ready_messages a id))

@@ -18,6 +18,7 @@ use Rattle.sctp_streams.specs.declared.event.Event.TheVariants.{DatagramReceived
 use Rattle.sctp_streams.specs.declared.event.Event.TheVariants as events
 use Rattle.sctp_streams.specs.Streams.{StreamMap, stream_at, made, generation_left, bytes_waiting, refusal_in}
 use Rattle.sctp_streams.specs.Streams.{pushed_in, is_readable_in}
+use Rattle.sctp_streams.specs.LowMarks.{low_told}
 use Rattle.sctp_inbound.specs.declared.receiver.AckTrigger.{AckTrigger}
 use Rattle.sctp_inbound.specs.declared.receiver.AckTrigger.TheVariants as triggers
 use Rattle.sctp_inbound.specs.Receiver.{admits, asked, ended_packet, ended_packet_timers, is_new_to, taken_to}
@@ -30,7 +31,7 @@ use Rattle.sctp_outbound.specs.Sender.{sack_outcome, tsns_up_to, with_window, ac
 use Rattle.sctp_assoc.specs.declared.inbound.Flow.{Flow}
 use Rattle.sctp_assoc.specs.declared.inbound.Flow.TheVariants as flows
 use Rattle.sctp_assoc.specs.Calls.{is_established}
-use Rattle.sctp_assoc.specs.Closing.{closed_by}
+use Rattle.sctp_assoc.specs.Closing.{closed_by, exhausted, is_exhausted}
 use Rattle.sctp_assoc.specs.Handshake.{on_cookie_ack, on_cookie_echo, on_heartbeat, on_init, on_init_ack}
 use Rattle.sctp_assoc.specs.Shown.{Shown}
 
@@ -74,8 +75,10 @@ unfoldable pub taken_in : Shown → ChunkPayloadData → Shown × Option Error
 taken_in a piece =
     taken_unless (refusal_in a.streams piece.stream_identifier piece a.receiver.max_receive_message_size) a piece
 
+-- DATA asks to be acknowledged, unless the receive buffer is exhausted
 abbrev pub asks : Shown → ChunkPayloadData → AckTrigger → Shown × Flow
-asks a piece trigger = (a, flows.Next (asked a.receiver trigger piece.immediate_sack))
+asks a piece trigger =
+    if is_exhausted a then (a, flows.Exhausted) else (a, flows.Next (asked a.receiver trigger piece.immediate_sack))
 
 abbrev pub asks_or_faults : Shown × Option Error → ChunkPayloadData → AckTrigger → Shown × Flow
 asks_or_faults (a, None) piece trigger = asks a piece trigger
@@ -96,7 +99,8 @@ on_counted_data a piece trigger =
     asks a piece trigger
 
 -- DATA is counted; new DATA is taken in where credit is left or it fills a gap, and its stream does not refuse it; DATA
--- asks to be acknowledged unless it is a fault or no generation is left for its stream
+-- asks to be acknowledged unless it is a fault, no generation is left for its stream, or it finds or leaves the receive
+-- buffer exhausted
 unfoldable pub on_data : Shown → ChunkPayloadData → AckTrigger → Shown × Flow
 on_data a piece trigger = on_counted_data (counted_data a) piece trigger
 
@@ -110,11 +114,12 @@ with_acknowledged a moved now (sender, estimate, streams) = record a {
   sender = sender;
   estimate = estimate;
   streams = streams;
+  events = a.events ++ low_told a.streams streams;
   timers = t3_after_sack moved (length sender.queue.in_flight) now estimate.rto a.timers;
 }
 
 -- a SACK is taken: the pieces up to its point and those that its gap ack blocks name are acknowledged, and its window
--- is the peer's
+-- is the peer's; each stream whose buffered amount fell to its low mark is told of once
 abbrev pub after_sack : Shown → ℕ → List GapAckBlock → ℕ → ℕ → Shown
 after_sack a cumulative_tsn_ack blocks window now =
     with_acknowledged a (nat_lt 0 (tsns_up_to a.sender cumulative_tsn_ack)) now
@@ -168,6 +173,7 @@ on_chunk a header chunk trigger now = checked_first (checked_chunk chunk) a head
 abbrev pub goes_on : Shown × Flow → (Shown → AckTrigger → Shown) → Shown
 goes_on (a, flows.Next trigger) more = more a trigger
 goes_on (a, flows.Fault fault) more = closed_by a reasons.AssociationClosed
+goes_on (a, flows.Exhausted) more = exhausted a
 
 -- the acknowledgement that a packet's chunks asked for is arranged at its end
 abbrev pub ended : Shown → AckTrigger → ℕ → Shown
@@ -176,7 +182,7 @@ ended a trigger now = record a {
   timers = ended_packet_timers a.timers trigger now;
 }
 
--- the chunks in order; a fault ends the packet and closes an open association
+-- the chunks in order; a fault ends the packet and closes an open association, and so does an exhausted receive buffer
 abbrev pub after_chunks : CommonHeader → List Chunk → Shown → AckTrigger → ℕ → Shown
 after_chunks header [] a trigger now = ended a trigger now
 after_chunks header (c ∷ cs) a trigger now =

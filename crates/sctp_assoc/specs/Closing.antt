@@ -1,10 +1,18 @@
--- How an association closes, by a fault or by its application.
-use Rattle.std.specs.Prelude.{Bool, true, false, [], ◌∷◌, ◌++◌, if◌then◌else◌, map}
+-- How an association closes: by a fault, by its application, or since nothing that waits in its receive buffer can ever
+-- be read.
+use Rattle.std.specs.Prelude.{Bool, true, false, List, [], ◌∷◌, ◌++◌, ◌&&◌, ◌==◌, if◌then◌else◌, not, length, map}
+use Rattle.std.specs.Prelude.{nat_lt}
+use Rattle.sctp_wire_types.specs.declared.chunk.Chunk.{Chunk}
+use Rattle.sctp_wire_types.specs.declared.chunk.Chunk.TheVariants as chunks
 use Rattle.sctp_parts.specs.declared.state.AssociationState.{AssociationState}
 use Rattle.sctp_parts.specs.declared.state.AssociationState.TheVariants as states
 use Rattle.sctp_streams.specs.declared.event.AssociationError.{AssociationError}
+use Rattle.sctp_streams.specs.declared.event.AssociationError.TheVariants as reasons
 use Rattle.sctp_streams.specs.declared.event.Event.TheVariants.{AssociationLost, DataChannelStatsFinal}
-use Rattle.sctp_streams.specs.Streams.{last_stats, without_streams}
+use Rattle.sctp_streams.specs.Streams.{bytes_waiting, last_stats, some_gives_messages, without_streams}
+use Rattle.sctp_inbound.specs.Held.{has_gap}
+use Rattle.sctp_inbound.specs.Receiver.{credit_of}
+use Rattle.sctp_assoc.specs.Control.{queued}
 use Rattle.sctp_assoc.specs.Shown.{Shown, all_stopped}
 
 abbrev pub is_closed_state : AssociationState → Bool
@@ -32,3 +40,22 @@ closed_open a reason = record a {
 -- behind them); a closed one stays as it is
 abbrev pub closed_by : Shown → AssociationError → Shown
 closed_by a reason = if is_closed_state a.state then a else closed_open a reason
+
+-- Nothing that waits in the receive buffer can be read, and nothing more can come: bytes wait and leave no credit, no
+-- TSN is held past a gap, and of no stream whose read half is open a message is ready.
+abbrev pub is_exhausted : Shown → Bool
+is_exhausted a =
+    (credit_of a.receiver (bytes_waiting a.streams) == 0) && not (has_gap a.receiver.held)
+    && nat_lt 0 (bytes_waiting a.streams) && not (some_gives_messages a.streams)
+
+-- an ABORT with the cause Out of Resource (RFC 4960 section 3.3.10.4)
+abbrev pub out_of_resource : Chunk
+out_of_resource = chunks.Abort (record { error_causes = record { code = 4; value = [] } ∷ [] })
+
+-- an exhausted receive buffer closes an open association, and the peer is told in any state
+abbrev pub exhausted : Shown → Shown
+exhausted a = queued (closed_by a reasons.ReceiveBufferExhausted) out_of_resource
+
+-- the same where the receive buffer is exhausted
+abbrev pub relieved : Shown → Shown
+relieved a = if is_exhausted a then exhausted a else a

@@ -30,7 +30,7 @@ use Rattle.sctp_assoc.specs.declared.inbound.Flow.{Flow}
 use Rattle.sctp_assoc.specs.declared.inbound.Flow.TheVariants as flows
 use Rattle.sctp_directions.specs.Acts.{Act, History, all_data_given}
 use Rattle.sctp_assoc.specs.Leads.{Binds, Leads, parts}
-use Rattle.sctp_assoc.specs.Calls.{is_beginning, is_cookie_wait, is_established}
+use Rattle.sctp_assoc.specs.Calls.{is_beginning, is_cookie_wait, is_established, read_exhausts}
 use Rattle.sctp_assoc.specs.Closing.{is_closed_state}
 use Rattle.sctp_assoc.specs.Chunks.{counted_data, on_chunk, stream_found}
 use Rattle.sctp_assoc.specs.Gather.{AckIsReadAgain, AreControlReadAgain, AreReadAgain, control_packets, data_packets}
@@ -109,6 +109,11 @@ acts_of_close a = if is_closed_state a.state then [] else Act.Ended ∷ []
 abbrev pub acts_after : Shown × Flow → (Shown → AckTrigger → List Act) → List Act
 acts_after (a, flows.Next trigger) more = more a trigger
 acts_after (a, flows.Fault fault) more = acts_of_close a
+acts_after (a, flows.Exhausted) more = acts_of_close a
+
+-- a read, and the close where it leaves the receive buffer exhausted
+abbrev pub acts_of_read : Shown → ℕ → List Act
+acts_of_read a id = Act.WasRead id ∷ (if read_exhausts a id then acts_of_close a else [])
 
 -- the chunks of a packet, in order, up to a fault
 abbrev pub acts_of_chunks : CommonHeader → List Chunk → Shown → AckTrigger → ℕ → List Act

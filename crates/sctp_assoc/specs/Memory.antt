@@ -1,25 +1,30 @@
 -- Where what comes takes memory: a call may fail for want of memory only there.
-use Rattle.std.specs.Prelude.{ℕ, Bool, false, List, [], ◌∷◌, ◌&&◌, ◌||◌, not, is_ok, is_some, Option, Some}
-use Rattle.std.specs.Prelude.{None}
+use Rattle.std.specs.Prelude.{ℕ, Bool, true, false, List, [], ◌∷◌, ◌&&◌, ◌||◌, not, is_ok, is_some, Option, Some}
+use Rattle.std.specs.Prelude.{None, length, nat_lt}
 use Rattle.sctp_wire_types.specs.declared.chunk.Chunk.{Chunk}
 use Rattle.sctp_wire_types.specs.declared.chunk.Chunk.TheVariants as chunks
 use Rattle.sctp_wire_types.specs.declared.chunk.ChunkHeartbeat.{ChunkHeartbeat}
 use Rattle.sctp_wire_types.specs.declared.chunk.ChunkInit.{ChunkInit}
 use Rattle.sctp_wire_types.specs.declared.chunk.ChunkPayloadData.{ChunkPayloadData}
 use Rattle.sctp_wire_types.specs.declared.packet.CommonHeader.{CommonHeader}
+use Rattle.sctp_wire_types.specs.declared.chunk.GapAckBlock.{GapAckBlock}
 use Rattle.sctp_wire_types.specs.Checks.{checked_chunk}
 use Rattle.sctp_wire.specs.declared.packet.Packet.{Packet}
 use Rattle.sctp_streams.specs.Streams.{bytes_waiting, generation_left, refusal_in, stream_at}
+use Rattle.sctp_streams.specs.LowMarks.{low_told}
 use Rattle.sctp_inbound.specs.declared.receiver.AckTrigger.{AckTrigger}
 use Rattle.sctp_inbound.specs.declared.receiver.AckTrigger.TheVariants as triggers
 use Rattle.sctp_inbound.specs.Greeting.{first_cookie, information_of}
 use Rattle.sctp_inbound.specs.Handshake.{comes_back, has_issued}
 use Rattle.sctp_inbound.specs.Receiver.{admits, is_new_to}
+use Rattle.sctp_outbound.specs.declared.sender.SackOutcome.{SackOutcome}
+use Rattle.sctp_outbound.specs.declared.sender.SackOutcome.TheVariants as outcomes
+use Rattle.sctp_outbound.specs.Sender.{sack_outcome}
 use Rattle.sctp_assoc.specs.declared.inbound.Flow.{Flow}
 use Rattle.sctp_assoc.specs.declared.inbound.Flow.TheVariants as flows
 use Rattle.sctp_assoc.specs.Calls.{is_beginning, is_cookie_echoed, is_cookie_wait, is_established}
 use Rattle.sctp_assoc.specs.Closing.{is_closed_state}
-use Rattle.sctp_assoc.specs.Chunks.{on_chunk}
+use Rattle.sctp_assoc.specs.Chunks.{after_sack, on_chunk}
 use Rattle.sctp_assoc.specs.Shown.{Shown}
 
 -- a stream is made: it is not live, and a generation is left for it
@@ -39,6 +44,19 @@ abbrev pub data_takes_memory : Shown → ChunkPayloadData → Bool
 data_takes_memory a piece =
     is_new_to a.receiver piece.tsn
     && (makes_stream a piece.stream_identifier || keeps_message a piece)
+
+abbrev pub is_taken : SackOutcome → Bool
+is_taken outcomes.Older = false
+is_taken outcomes.NotInFlight = false
+is_taken outcomes.NamesTheUnsent = false
+is_taken outcomes.Taken = true
+
+-- a SACK takes memory only where it tells of a stream whose buffered amount fell to its low mark
+abbrev pub sack_takes_memory : Shown → ℕ → List GapAckBlock → ℕ → ℕ → Bool
+sack_takes_memory a cumulative_tsn_ack blocks window now =
+    is_established a.state
+    && (is_taken (sack_outcome a.sender cumulative_tsn_ack blocks)
+    && nat_lt 0 (length (low_told a.streams (after_sack a cumulative_tsn_ack blocks window now).streams)))
 
 -- an INIT is answered only before the association is established (RFC 4960 section 5.1)
 abbrev pub init_takes_memory : Shown → Bool
@@ -62,33 +80,36 @@ cookie_ack_takes_memory a = is_cookie_echoed a.state
 abbrev pub heartbeat_takes_memory : ChunkHeartbeat → Bool
 heartbeat_takes_memory heartbeat = is_some (information_of heartbeat.params)
 
--- whether a chunk that passes its check takes memory itself. A SACK takes none. Nor do ABORT, ERROR and chunks that are
--- not processed, but they are faults: the close of an open association takes memory for its events
--- (`takes_memory_after`)
-abbrev pub takes_memory : Shown → CommonHeader → Chunk → Bool
-takes_memory a header (chunks.Data piece) = data_takes_memory a piece
-takes_memory a header (chunks.Init init) = init_takes_memory a
-takes_memory a header (chunks.InitAck init) = init_ack_takes_memory a header init
-takes_memory a header (chunks.CookieEcho cookie) = cookie_echo_takes_memory a cookie
-takes_memory a header chunks.CookieAck = cookie_ack_takes_memory a
-takes_memory a header (chunks.Heartbeat heartbeat) = heartbeat_takes_memory heartbeat
-takes_memory a header chunk = false
+-- whether a chunk that passes its check takes memory itself. ABORT, ERROR and chunks that are not processed take none,
+-- but they are faults: the close of an open association takes memory for its events (`takes_memory_after`)
+abbrev pub takes_memory : Shown → CommonHeader → Chunk → ℕ → Bool
+takes_memory a header (chunks.Data piece) now = data_takes_memory a piece
+takes_memory a header (chunks.SelectiveAck sack) now =
+    sack_takes_memory a sack.cumulative_tsn_ack sack.gap_ack_blocks sack.advertised_receiver_window_credit now
+takes_memory a header (chunks.Init init) now = init_takes_memory a
+takes_memory a header (chunks.InitAck init) now = init_ack_takes_memory a header init
+takes_memory a header (chunks.CookieEcho cookie) now = cookie_echo_takes_memory a cookie
+takes_memory a header chunks.CookieAck now = cookie_ack_takes_memory a
+takes_memory a header (chunks.Heartbeat heartbeat) now = heartbeat_takes_memory heartbeat
+takes_memory a header chunk now = false
 
 -- a chunk that its own check refuses takes no memory itself; it is a fault, too
-abbrev pub chunk_takes_memory : Shown → CommonHeader → Chunk → Bool
-chunk_takes_memory a header chunk = is_ok (checked_chunk chunk) && takes_memory a header chunk
+abbrev pub chunk_takes_memory : Shown → CommonHeader → Chunk → ℕ → Bool
+chunk_takes_memory a header chunk now = is_ok (checked_chunk chunk) && takes_memory a header chunk now
 
--- a fault that closes an open association takes memory for the events that tell of it
+-- a fault that closes an open association takes memory for the events that tell of it, and an exhausted receive buffer
+-- for the ABORT, in any state
 abbrev pub takes_memory_after : Shown × Flow → (Shown → AckTrigger → Bool) → Bool
 takes_memory_after (a, flows.Next trigger) more = more a trigger
 takes_memory_after (a, flows.Fault fault) more = not (is_closed_state a.state)
+takes_memory_after (a, flows.Exhausted) more = true
 
 -- one of these chunks, taken in order up to the first fault, takes memory, or is a fault that closes an open
 -- association
 abbrev pub chunks_take_memory : CommonHeader → List Chunk → Shown → AckTrigger → ℕ → Bool
 chunks_take_memory header [] a trigger now = false
 chunks_take_memory header (c ∷ cs) a trigger now =
-    chunk_takes_memory a header c
+    chunk_takes_memory a header c now
     || takes_memory_after (on_chunk a header c trigger now) (λ b next. chunks_take_memory header cs b next now)
 
 abbrev pub packet_takes_memory_of : Shown → Option Packet → ℕ → Bool

@@ -1,15 +1,21 @@
 // What an association does to itself: it closes, or it fails for want of memory.
-ghost use Rattle.std.specs.Prelude.{◌≡◌, ◌++◌, false, map, IfErr, OnErr, OnOk};
+ghost use Rattle.std.specs.Prelude.{◌≡◌, ◌++◌, false, map, IfErr, IfOk, OnErr, OnOk};
 ghost use Rattle.sctp_streams.specs.Streams.{without_streams, last_stats};
 ghost use Rattle.sctp_streams.specs.declared.event.Event.TheVariants.{DataChannelStatsFinal};
-ghost use Rattle.sctp_assoc.specs.Closing.{closed_by, is_closed_state};
+ghost use Rattle.sctp_assoc.specs.Closing.{closed_by, exhausted, is_closed_state, is_exhausted, out_of_resource};
 ghost use Rattle.sctp_assoc.specs.Shown.{HasFailed, all_stopped, answers_of};
 
 use crate::Association;
+use bytes::Bytes;
 use sctp_parts::state::AssociationState;
 use sctp_parts::timer::{Timer, TimerTable};
-use sctp_wire_queues::{AssociationError, Error, Event, Events, Streams};
-use std::alloc::AllocError;
+use sctp_wire_queues::{
+    AssociationError, Chunk, ChunkAbort, Error, ErrorCause, Event, Events, List, Streams,
+};
+use std::alloc::{AllocError, Global};
+
+/// The code of the error cause Out of Resource (RFC 4960 section 3.3.10).
+const OUT_OF_RESOURCE: u16 = 4;
 
 /// What the questions about the state answered before a call.
 #[derive(Clone, Copy, Debug)]
@@ -53,6 +59,26 @@ impl Association {
         Ok(())
     }
 
+    // Nothing that waits in the receive buffer can be read, and nothing more can come.
+    pub(crate) fn is_exhausted(&self) -> bool
+        ensures { result ≡ is_exhausted self.now }
+    {
+        let waiting = self.streams.waiting_bytes();
+        self.receiver.credit(waiting) == 0
+            && !self.receiver.held.has_gap()
+            && waiting > 0
+            && !self.streams.gives_messages()
+    }
+
+    // The receive buffer is exhausted: an open association closes, and the peer is told by an ABORT in any state.
+    pub(crate) fn exhaust(&mut self) -> Result<(), AllocError>
+        ensures { OnOk result (self.new ≡ exhausted self.old) }
+    {
+        self.close_with(AssociationError::ReceiveBufferExhausted)?;
+        let chunk = out_of_resource(self.alloc)?;
+        self.queue_control(chunk)
+    }
+
     // Marks the association failed: no timer runs on, and the questions about its state go on to answer as before.
     pub(crate) fn fail(&mut self, before: StateAnswers)
         ensures { HasFailed before self.new }
@@ -73,6 +99,18 @@ impl Association {
             completed: self.handshake.completed,
         }
     }
+}
+
+// ABORT with the cause Out of Resource (RFC 4960 section 3.3.10.4).
+fn out_of_resource(alloc: Global) -> Result<Chunk, AllocError>
+    ensures { IfOk result (λ chunk. chunk ≡ out_of_resource) }
+{
+    let mut error_causes = List::new(alloc);
+    error_causes.push(ErrorCause {
+        code: OUT_OF_RESOURCE,
+        value: Bytes::new(),
+    })?;
+    Ok(Chunk::Abort(ChunkAbort { error_causes }))
 }
 
 // Queues the last counters of each live stream, identifiers ascending, and leaves no stream.

@@ -1,13 +1,14 @@
 // One datagram, chunk by chunk.
 ghost use Rattle.std.specs.Prelude.{◌≡◌, ◌≢◌, ◌⊎◌, true, false, is_ok, OnErr, OnOk, IfOk, Ok, None, if◌then◌else◌};
 ghost use Rattle.sctp_wire.specs.Packets.{checked, finished};
-ghost use Rattle.sctp_inbound.specs.Receiver.{admits, is_new_to};
+ghost use Rattle.sctp_inbound.specs.Receiver.{admits, asked, is_new_to};
 ghost use Rattle.sctp_streams.specs.Streams.{bytes_waiting, refusal_in};
 ghost use Rattle.sctp_assoc.specs.Inbound.{packet_read, taken_packet};
 ghost use Rattle.sctp_assoc.specs.Memory.{chunk_takes_memory, chunks_take_memory, data_takes_memory, makes_stream};
-ghost use Rattle.sctp_assoc.specs.Memory.{packet_takes_memory, takes_memory};
+ghost use Rattle.sctp_assoc.specs.Memory.{packet_takes_memory, sack_takes_memory, takes_memory};
 ghost use Rattle.sctp_assoc.specs.Chunks.{after_chunks, after_packet, dispatched, on_chunk, on_data, on_sack};
 ghost use Rattle.sctp_assoc.specs.Chunks.{stream_found, taken_in};
+ghost use Rattle.sctp_assoc.specs.Closing.{is_exhausted};
 
 use crate::Association;
 use sctp_inbound::AckTrigger;
@@ -25,6 +26,8 @@ pub enum Flow {
     Next(AckTrigger),
     /// The chunk is a fault: it ends the packet and closes an open association.
     Fault(Error),
+    /// The receive buffer is exhausted: that ends the packet and closes an open association, and the peer is told.
+    Exhausted,
 }
 
 impl Association {
@@ -70,7 +73,8 @@ impl Association {
         self.on_chunks(packet.common_header, packet.chunks.into_vec(), now)
     }
 
-    // The chunks in order; a fault ends the packet and closes an open association.
+    // The chunks in order; a fault ends the packet and closes an open association, and so does an exhausted receive
+    // buffer.
     fn on_chunks(
         &mut self,
         header: CommonHeader,
@@ -85,6 +89,7 @@ impl Association {
             match self.on_chunk(header, chunk, trigger, now)? {
                 Flow::Next(next) => trigger = next,
                 Flow::Fault(_) => return self.close_with(AssociationError::AssociationClosed),
+                Flow::Exhausted => return self.exhaust(),
             }
         }
         self.receiver.end_of_packet(&mut self.timers, trigger, now);
@@ -100,7 +105,7 @@ impl Association {
         now: Instant,
     ) -> Result<Flow, AllocError>
         ensures exact { IfOk result (λ flow. on_chunk self.old header chunk trigger now ≡ (self.new, flow)) }
-        ensures grows { OnErr result (chunk_takes_memory self.old header chunk ≡ true) }
+        ensures grows { OnErr result (chunk_takes_memory self.old header chunk now ≡ true) }
     {
         if let Err(fault) = chunk.check() {
             return Ok(Flow::Fault(fault));
@@ -116,17 +121,17 @@ impl Association {
         now: Instant,
     ) -> Result<Flow, AllocError>
         ensures exact { IfOk result (λ flow. dispatched self.old header chunk trigger now ≡ (self.new, flow)) }
-        ensures grows { OnErr result (takes_memory self.old header chunk ≡ true) }
+        ensures grows { OnErr result (takes_memory self.old header chunk now ≡ true) }
     {
         match chunk {
             Chunk::Data(piece) => self.on_data(piece, trigger),
-            Chunk::SelectiveAck(sack) => Ok(self.on_sack(
+            Chunk::SelectiveAck(sack) => self.on_sack(
                 sack.cumulative_tsn_ack,
                 &sack.gap_ack_blocks,
                 sack.advertised_receiver_window_credit,
                 trigger,
                 now,
-            )),
+            ),
             Chunk::Init(init) => self.on_init(header, init, trigger),
             Chunk::InitAck(init) => self.on_init_ack(header, init, trigger, now),
             Chunk::CookieEcho(cookie) => self.on_cookie_echo(cookie, trigger),
@@ -156,7 +161,18 @@ impl Association {
                 }
             }
         }
-        Ok(Flow::Next(self.receiver.ask(trigger, immediate)))
+        Ok(self.ask(trigger, immediate))
+    }
+
+    // DATA asks to be acknowledged, unless the receive buffer is exhausted.
+    fn ask(&self, trigger: AckTrigger, immediate: bool) -> Flow
+        ensures { result ≡ (if is_exhausted self.now then Flow.Exhausted else
+            Flow.Next (asked self.now.receiver trigger immediate)) }
+    {
+        if self.is_exhausted() {
+            return Flow::Exhausted;
+        }
+        Flow::Next(self.receiver.ask(trigger, immediate))
     }
 
     // Makes the stream where it is missing, for the application to accept; false where no generation is left for it.
@@ -215,7 +231,8 @@ impl Association {
         self.receiver.admits(tsn, self.streams.waiting_bytes())
     }
 
-    // SACK (RFC 4960 section 6.2.1), read by its point, its gap ack blocks and its window.
+    // SACK (RFC 4960 section 6.2.1), read by its point, its gap ack blocks and its window. Streams that it takes to
+    // their low mark are told of.
     #[tactic(auto, unfolding(crate::specs::Chunks::on_sack))]
     fn on_sack(
         &mut self,
@@ -224,26 +241,34 @@ impl Association {
         window: u32,
         trigger: AckTrigger,
         now: Instant,
-    ) -> Flow
-        ensures { on_sack self.old cumulative_tsn_ack blocks.now window trigger now ≡ (self.new, result) }
+    ) -> Result<Flow, AllocError>
+        ensures exact { IfOk result
+            (λ flow. on_sack self.old cumulative_tsn_ack blocks.now window trigger now ≡ (self.new, flow)) }
+        ensures grows { OnErr result (sack_takes_memory self.old cumulative_tsn_ack blocks.now window now ≡ true) }
     {
         if self.state != AssociationState::Established {
-            return Flow::Next(trigger);
+            return Ok(Flow::Next(trigger));
         }
         self.stats.inc_sacks();
+        let mut fallen = self.streams.watch(self.alloc);
         let outcome = self.sender.on_sack(
             &mut self.timers,
             &mut self.rto,
             &mut self.streams,
+            &mut fallen,
             cumulative_tsn_ack,
             blocks,
             window,
             now,
         );
         match outcome {
-            SackOutcome::NotInFlight => Flow::Fault(Error::ErrInflightQueueTsnPop),
-            SackOutcome::NamesTheUnsent => Flow::Fault(Error::ErrTsnRequestNotExist),
-            _ => Flow::Next(trigger),
+            SackOutcome::Older => Ok(Flow::Next(trigger)),
+            SackOutcome::NotInFlight => Ok(Flow::Fault(Error::ErrInflightQueueTsnPop)),
+            SackOutcome::NamesTheUnsent => Ok(Flow::Fault(Error::ErrTsnRequestNotExist)),
+            SackOutcome::Taken => {
+                fallen.tell(&mut self.events)?;
+                Ok(Flow::Next(trigger))
+            }
         }
     }
 }

@@ -1,13 +1,15 @@
 // The calls of one stream.
-ghost use Rattle.std.specs.Prelude.{◌≡◌, ◌↔◌, ◌∷◌, [], drop, length, slice_get, IsNone, IfOk, IfSome, OnErr, OnOk};
-ghost use Rattle.std.specs.Prelude.{◌==◌, None, Some, not, position, set, true};
+ghost use Rattle.std.specs.Prelude.{◌≡◌, ◌↔◌, ◌∷◌, [], length, slice_get, IsNone, IfOk, IfSome, OnErr, OnOk};
+ghost use Rattle.std.specs.Prelude.{◌==◌, IfErr, None, Some, not, position, set, true};
 ghost use Rattle.sctp_streams.specs.declared.setting.Setting.TheVariants as settings;
 ghost use Rattle.sctp_streams.specs.Stream.{is_read_half_open, is_write_half_open, params_of};
 ghost use Rattle.sctp_directions.specs.Acts.{Act};
+ghost use Rattle.sctp_assoc.specs.Happened.{acts_of_read};
 ghost use Rattle.sctp_assoc.specs.Leads.{LeadsOn};
 ghost use Rattle.sctp_assoc.specs.Stream.{lent, lender, id_of};
-ghost use Rattle.sctp_assoc.specs.Calls.{Refuses, RefusesOrLacksMemory, adjusted, buffered_of, first_filled};
-ghost use Rattle.sctp_assoc.specs.Calls.{gone_refusal, holds_of, read_from_stream, read_refusal, ready_messages};
+ghost use Rattle.sctp_assoc.specs.Calls.{LeavesTheOthers, Refuses, RefusesOrLacksMemory, RefusesRead, adjusted};
+ghost use Rattle.sctp_assoc.specs.Calls.{buffered_of, first_filled, gone_refusal, holds_of};
+ghost use Rattle.sctp_assoc.specs.Calls.{read_from_stream, read_refusal, ready_messages};
 ghost use Rattle.sctp_assoc.specs.Calls.{value_of, without_first_filled};
 ghost use Rattle.sctp_assoc.specs.Calls.{write_refusal, written};
 
@@ -39,22 +41,26 @@ impl<'a> Stream<'a> {
     /// answers None; a later Readable may then find nothing. What was read no longer takes room in the receive
     /// buffer, which the next SACK says to the peer.
     ///
-    /// Refused, in this order with nothing changed: `ErrAssociationFailed`, `ErrStreamClosed` where the stream is gone
-    /// or its read half is closed (no call closes that so far).
+    /// A read that gives a message closes the association where nothing that still waits in a full receive buffer can
+    /// ever be read; the peer is told by an ABORT then.
+    ///
+    /// Refused, in this order: `ErrAssociationFailed`, `ErrStreamClosed` where the stream is gone or its read half is
+    /// closed, both with nothing changed; `ErrNoMemory`, which only such a close wants, and which leaves the
+    /// association failed.
     pub fn read(&mut self) -> Result<Option<Chunks>, Error>
         ensures same { lender self.new ≡ lender self.old }
         ensures id { id_of self.new ≡ id_of self.old }
-        ensures refused { Refuses result (read_refusal (lent self.old) (id_of self.old)) }
-        ensures err { OnErr result (lent self.new ≡ lent self.old) }
+        ensures refused { RefusesOrLacksMemory result (read_refusal (lent self.old) (id_of self.old)) }
+        ensures err { IfErr result (λ error. RefusesRead (lent self.old) (id_of self.old) error (lent self.new)) }
         ensures ok { IfOk result
             (λ message. read_from_stream (lent self.old) (id_of self.old) ≡ (lent self.new, message)) }
         ensures first { IfOk result
             (λ message. message ≡ slice_get (ready_messages (lent self.old) (id_of self.old)) 0) }
-        ensures others { OnOk result (ready_messages (lent self.new) (id_of self.old)
-            ≡ drop 1 (ready_messages (lent self.old) (id_of self.old))) }
+        ensures others { OnOk result (LeavesTheOthers (lent self.old) (id_of self.old) (lent self.new)) }
         ensures none { IfOk result
             (λ message. IsNone message ↔ (ready_messages (lent self.old) (id_of self.old) ≡ [])) }
-        ensures acts { OnOk result (LeadsOn (Act.WasRead (id_of self.old) ∷ []) (lent self.old) (lent self.new)) }
+        ensures acts { OnOk result
+            (LeadsOn (acts_of_read (lent self.old) (id_of self.old)) (lent self.old) (lent self.new)) }
     {
         self.association.read_stream(self.id)
     }
@@ -63,17 +69,17 @@ impl<'a> Stream<'a> {
     pub fn read_sctp(&mut self) -> Result<Option<Chunks>, Error>
         ensures same { lender self.new ≡ lender self.old }
         ensures id { id_of self.new ≡ id_of self.old }
-        ensures refused { Refuses result (read_refusal (lent self.old) (id_of self.old)) }
-        ensures err { OnErr result (lent self.new ≡ lent self.old) }
+        ensures refused { RefusesOrLacksMemory result (read_refusal (lent self.old) (id_of self.old)) }
+        ensures err { IfErr result (λ error. RefusesRead (lent self.old) (id_of self.old) error (lent self.new)) }
         ensures ok { IfOk result
             (λ message. read_from_stream (lent self.old) (id_of self.old) ≡ (lent self.new, message)) }
         ensures first { IfOk result
             (λ message. message ≡ slice_get (ready_messages (lent self.old) (id_of self.old)) 0) }
-        ensures others { OnOk result (ready_messages (lent self.new) (id_of self.old)
-            ≡ drop 1 (ready_messages (lent self.old) (id_of self.old))) }
+        ensures others { OnOk result (LeavesTheOthers (lent self.old) (id_of self.old) (lent self.new)) }
         ensures none { IfOk result
             (λ message. IsNone message ↔ (ready_messages (lent self.old) (id_of self.old) ≡ [])) }
-        ensures acts { OnOk result (LeadsOn (Act.WasRead (id_of self.old) ∷ []) (lent self.old) (lent self.new)) }
+        ensures acts { OnOk result
+            (LeadsOn (acts_of_read (lent self.old) (id_of self.old)) (lent self.old) (lent self.new)) }
     {
         self.association.read_stream(self.id)
     }
@@ -296,8 +302,8 @@ impl<'a> Stream<'a> {
             .set_stream(self.id, Setting::DefaultPayloadType(default_payload_type))
     }
 
-    /// In bytes, at first 0: a release that takes the buffered amount from above it to it or below is to be told as
-    /// `StreamEvent::BufferedAmountLow`; so far none is. Refused: `ErrAssociationFailed`, `ErrStreamClosed`.
+    /// In bytes, at first 0: a SACK that takes the buffered amount from above it to it or below is told as
+    /// `StreamEvent::BufferedAmountLow`, once for all that it releases. Refused: `ErrAssociationFailed`, `ErrStreamClosed`.
     pub fn buffered_amount_low_threshold(&self) -> Result<usize, Error>
         ensures { result ≡ value_of (λ s. s.low_mark) (lent self.now) (id_of self.now) }
     {

@@ -1,14 +1,17 @@
 // What an association does for the calls of its streams.
-ghost use Rattle.std.specs.Prelude.{◌≡◌, ◌↔◌, ◌∷◌, [], drop, length, slice_get, IsNone, IfOk, OnErr, OnOk, true};
+ghost use Rattle.std.specs.Prelude.{◌≡◌, ◌↔◌, ◌∷◌, [], length, slice_get, IsNone, IfErr, IfOk, OnErr, OnOk, true};
 ghost use Rattle.std.specs.Prelude.{Some};
 ghost use Rattle.sctp_streams.specs.Stream.{is_read_half_open, is_write_half_open};
 ghost use Rattle.sctp_streams.specs.Streams.{stream_at};
 ghost use Rattle.sctp_directions.specs.Acts.{Act};
+ghost use Rattle.sctp_assoc.specs.Happened.{acts_of_read};
 ghost use Rattle.sctp_assoc.specs.Leads.{LeadsOn};
-ghost use Rattle.sctp_assoc.specs.Calls.{Refuses, RefusesOrLacksMemory, adjusted, gone_refusal, holds_of};
-ghost use Rattle.sctp_assoc.specs.Calls.{read_from_stream};
+ghost use Rattle.sctp_assoc.specs.Calls.{LeavesTheOthers, Refuses, RefusesOrLacksMemory, RefusesRead, adjusted};
+ghost use Rattle.sctp_assoc.specs.Calls.{gone_refusal, holds_of, read_exhausts, read_from_stream};
 ghost use Rattle.sctp_assoc.specs.Calls.{read_refusal, ready_messages};
 ghost use Rattle.sctp_assoc.specs.Calls.{with_queued, write_refusal, written};
+ghost use Rattle.sctp_assoc.specs.Closing.{is_exhausted, relieved};
+ghost use Rattle.sctp_assoc.specs.Shown.{HasFailed, answers_of};
 
 use crate::Association;
 use bytes::Bytes;
@@ -20,18 +23,31 @@ use sctp_wire_queues::{
 use std::alloc::AllocError;
 
 impl Association {
-    #[tactic(auto, using(crate::proofs::CallsLeadOn::read_leads_on))]
     pub(crate) fn read_stream(&mut self, id: StreamId) -> Result<Option<Chunks>, Error>
-        ensures refused { Refuses result (read_refusal self.old id) }
-        ensures err { OnErr result (self.new ≡ self.old) }
+        ensures refused { RefusesOrLacksMemory result (read_refusal self.old id) }
+        ensures err { IfErr result (λ error. RefusesRead self.old id error self.new) }
         ensures ok { IfOk result (λ message. read_from_stream self.old id ≡ (self.new, message)) }
         ensures first { IfOk result (λ message. message ≡ slice_get (ready_messages self.old id) 0) }
-        ensures others { OnOk result (ready_messages self.new id ≡ drop 1 (ready_messages self.old id)) }
+        ensures others { OnOk result (LeavesTheOthers self.old id self.new) }
         ensures none { IfOk result (λ message. IsNone message ↔ (ready_messages self.old id ≡ [])) }
-        ensures acts { OnOk result (LeadsOn (Act.WasRead id ∷ []) self.old self.new) }
+        ensures acts { OnOk result (LeadsOn (acts_of_read self.old id) self.old self.new) }
     {
         self.check_read(id)?;
-        Ok(self.streams.read(id))
+        let message = self.read_next(id)?;
+        Ok(message)
+    }
+
+    // Takes the next message out, and closes where that leaves the receive buffer exhausted.
+    fn read_next(&mut self, id: StreamId) -> Result<Option<Chunks>, Error>
+        ensures ok { IfOk result (λ message. read_from_stream self.old id ≡ (self.new, message)) }
+        ensures err { IfErr result (λ e. (e ≡ Error.ErrNoMemory) × (read_exhausts self.old id ≡ true)
+            × HasFailed (answers_of self.old) self.new) }
+    {
+        let Some(message) = self.streams.read(id) else {
+            return Ok(None);
+        };
+        self.relieve()?;
+        Ok(Some(message))
     }
 
     // Refuses a read for any reason but memory.
@@ -43,6 +59,22 @@ impl Association {
             Some(stream) if stream.is_read_half_open() => Ok(()),
             _ => Err(Error::ErrStreamClosed),
         }
+    }
+
+    // After a read: closes where the receive buffer is exhausted.
+    fn relieve(&mut self) -> Result<(), Error>
+        ensures ok { OnOk result (self.new ≡ relieved self.old) }
+        ensures err { IfErr result (λ e. (e ≡ Error.ErrNoMemory) × (is_exhausted self.old ≡ true)
+            × HasFailed (answers_of self.old) self.new) }
+    {
+        if self.is_exhausted() {
+            let before = self.answers();
+            if self.exhaust().is_err() {
+                self.fail(before);
+                return Err(Error::ErrNoMemory);
+            }
+        }
+        Ok(())
     }
 
     // Writes a copy of the bytes, under this payload type or else the stream's.

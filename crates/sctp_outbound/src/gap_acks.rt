@@ -1,12 +1,13 @@
 // What the gap ack blocks of a SACK acknowledge.
 ghost use Rattle.std.specs.Prelude.{◌↔◌, true, length, ◌≡◌, ◌==◌, ◌+◌, ◌<◌};
 ghost use Rattle.sctp_received.specs.Received.{is_named};
+ghost use Rattle.sctp_streams.specs.LowMarks.{Gathers};
 ghost use Rattle.sctp_outbound.specs.Sender.{with_in_flight};
 ghost use Rattle.sctp_outbound.specs.Offsets.{NameUnsent, is_unsent_in, name_unsent};
 ghost use Rattle.sctp_outbound.specs.GapAcks.{acked_among, released_among, is_named_by};
 
 use crate::sender::{Sender, release};
-use sctp_streams::Streams;
+use sctp_streams::{Fallen, Streams};
 use sctp_wire_types::{GapAckBlock, List};
 
 impl Sender {
@@ -24,43 +25,52 @@ impl Sender {
     /// until then are released at their streams. Blocks may overlap, stand in any order and be empty; offsets past what
     /// is in flight name nothing. Goes over the offsets that the blocks name and that are in flight, block by block in
     /// their order, and over nothing else; an offset that several blocks name is gone over once for each of them.
-    pub fn acknowledge_blocks(&mut self, streams: &mut Streams, blocks: &List<GapAckBlock>)
+    /// Streams that fall to their low mark are gathered.
+    pub fn acknowledge_blocks(
+        &mut self,
+        streams: &mut Streams,
+        fallen: &mut Fallen,
+        blocks: &List<GapAckBlock>,
+    )
         ensures pieces { self.new ≡ with_in_flight self.old
             (acked_among (λ j. is_named (j + 1) blocks.now) 0 self.old.queue.in_flight) }
         ensures released { streams.new ≡
             released_among (λ j. is_named (j + 1) blocks.now) 0 self.old.queue.in_flight streams.old }
+        ensures gathers { Gathers streams.old fallen.old streams.new fallen.new }
     {
         for block in blocks.as_slice() {
-            self.acknowledge_block(streams, block);
+            self.acknowledge_block(streams, fallen, block);
         }
     }
 
     // Takes in one block. The point is the TSN before the first one in flight, so the piece at index j is at the offset
     // j + 1.
-    fn acknowledge_block(&mut self, streams: &mut Streams, block: &GapAckBlock)
+    fn acknowledge_block(&mut self, streams: &mut Streams, fallen: &mut Fallen, block: &GapAckBlock)
         ensures pieces { self.new ≡
             with_in_flight self.old (acked_among (is_named_by block.now) 0 self.old.queue.in_flight) }
         ensures released { streams.new ≡
             released_among (is_named_by block.now) 0 self.old.queue.in_flight streams.old }
+        ensures gathers { Gathers streams.old fallen.old streams.new fallen.new }
     {
         let first = usize::from(block.start).saturating_sub(1);
         let count = usize::from(block.end).min(self.queue.inflight_len());
         for index in first..count {
-            self.acknowledge_at(streams, index);
+            self.acknowledge_at(streams, fallen, index);
         }
     }
 
     // The piece at a place came, if there is one: it is marked, and its outstanding bytes are released.
-    fn acknowledge_at(&mut self, streams: &mut Streams, index: usize)
+    fn acknowledge_at(&mut self, streams: &mut Streams, fallen: &mut Fallen, index: usize)
         requires { index < 65536 }
         ensures pieces { self.new ≡
             with_in_flight self.old (acked_among (λ j. j == index) 0 self.old.queue.in_flight) }
         ensures released { streams.new ≡
             released_among (λ j. j == index) 0 self.old.queue.in_flight streams.old }
+        ensures gathers { Gathers streams.old fallen.old streams.new fallen.new }
     {
         let tsn = self.queue.first_tsn().wrapping_add(index as u32);
         if let Some(piece) = self.queue.get(index) {
-            release(streams, piece);
+            release(streams, fallen, piece);
             self.queue.mark_as_acked(tsn);
         }
     }

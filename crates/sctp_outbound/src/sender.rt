@@ -3,6 +3,7 @@ ghost use Rattle.sctp_parts.specs.Estimate.{measured};
 ghost use Rattle.sctp_outbound_queue.specs.Message.{outstanding_bytes};
 ghost use Rattle.sctp_outbound_queue.specs.Outbound.{all_marked, after_piece, pieces_waiting};
 ghost use Rattle.sctp_streams.specs.Streams.{released_in};
+ghost use Rattle.sctp_streams.specs.LowMarks.{Gathers};
 ghost use Rattle.std.specs.Prelude.{true, is_some, ◌≡◌, ◌+◌, ◌-◌, ◌/◌, if◌then◌else◌, ◌≤◌, ◌<◌, ◌^◌, ◌++◌, ◌∷◌, []};
 ghost use Rattle.std.specs.Prelude.{OnErr, OnOk, IfOk, IfSome, length, slice_get, nat_lt};
 ghost use Rattle.sctp_outbound.specs.Sender.{goes_again, resends, sends_new, fresh_sender, window_left, marks};
@@ -17,7 +18,7 @@ use bytes::Bytes;
 use sctp_outbound_queue::{Attributes, InFlight, OutboundQueue, PendingMessage};
 use sctp_parts::estimate::RtoManager;
 use sctp_parts::timer::{Timer, TimerTable};
-use sctp_streams::Streams;
+use sctp_streams::{Fallen, Streams};
 use sctp_wire_types::{ChunkPayloadData, GapAckBlock, Instant, List, sna32gt, sna32gte};
 use std::alloc::{AllocError, Global};
 
@@ -100,17 +101,20 @@ impl Sender {
     }
 
     /// Takes in the cumulative TSN ack, the gap ack blocks and the window of a SACK (RFC 4960 section 6.2.1). Round
-    /// trips are measured, and the retransmission timer runs, by the cumulative TSN ack alone.
+    /// trips are measured, and the retransmission timer runs, by the cumulative TSN ack alone. The streams that fall to
+    /// their low mark are gathered.
     pub fn on_sack(
         &mut self,
         timers: &mut TimerTable,
         rto: &mut RtoManager,
         streams: &mut Streams,
+        fallen: &mut Fallen,
         cumulative_tsn_ack: u32,
         blocks: &List<GapAckBlock>,
         window: u32,
         now: Instant,
     ) -> SackOutcome
+        ensures gathers { Gathers streams.old fallen.old streams.new fallen.new }
         ensures older { (result ≡ SackOutcome.Older)
             → (self.new ≡ self.old) × (timers.new ≡ timers.old) × (rto.new ≡ rto.old) × (streams.new ≡ streams.old) }
         ensures unknown { (result ≡ SackOutcome.NotInFlight)
@@ -136,8 +140,8 @@ impl Sender {
             return SackOutcome::NamesTheUnsent;
         }
         self.advertised_window = window;
-        self.acknowledge(rto, streams, count, now);
-        self.acknowledge_blocks(streams, blocks);
+        self.acknowledge(rto, streams, fallen, count, now);
+        self.acknowledge_blocks(streams, fallen, blocks);
         self.run_t3(timers, rto, count > 0, now);
         SackOutcome::Taken
     }
@@ -172,24 +176,39 @@ impl Sender {
     }
 
     // The first `count` pieces in flight came, one after another.
-    fn acknowledge(&mut self, rto: &mut RtoManager, streams: &mut Streams, count: u32, now: Instant)
-        ensures { acknowledged count now (self.old, rto.old, streams.old) ≡ (self.new, rto.new, streams.new) }
+    fn acknowledge(
+        &mut self,
+        rto: &mut RtoManager,
+        streams: &mut Streams,
+        fallen: &mut Fallen,
+        count: u32,
+        now: Instant,
+    )
+        ensures exact { acknowledged count now (self.old, rto.old, streams.old) ≡ (self.new, rto.new, streams.new) }
+        ensures gathers { Gathers streams.old fallen.old streams.new fallen.new }
     {
         for done in 0..count {
-            self.acknowledge_first(rto, streams, now);
+            self.acknowledge_first(rto, streams, fallen, now);
         }
     }
 
     // The first piece in flight came: measure the round trip if it was sent once, and release its bytes.
-    #[tactic(auto, unfolding(crate::specs::Sender::after_first))]
-    fn acknowledge_first(&mut self, rto: &mut RtoManager, streams: &mut Streams, now: Instant)
-        ensures { after_first now (self.old, rto.old, streams.old) ≡ (self.new, rto.new, streams.new) }
+    #[tactic(auto, using(sctp_streams::proofs::LowMarks::gathers_nothing), unfolding(crate::specs::Sender::after_first))]
+    fn acknowledge_first(
+        &mut self,
+        rto: &mut RtoManager,
+        streams: &mut Streams,
+        fallen: &mut Fallen,
+        now: Instant,
+    )
+        ensures exact { after_first now (self.old, rto.old, streams.old) ≡ (self.new, rto.new, streams.new) }
+        ensures gathers { Gathers streams.old fallen.old streams.new fallen.new }
     {
         let tsn = self.queue.first_tsn();
         let next_tsn = self.queue.next_tsn();
         if let Some(piece) = self.queue.pop() {
             self.measure(rto, &piece, tsn, next_tsn, now);
-            release(streams, &piece);
+            release(streams, fallen, &piece);
         }
     }
 
@@ -372,16 +391,19 @@ impl Sender {
     }
 }
 
-// Gives an acknowledged piece's bytes back to its stream, those that were outstanding until then.
-pub(crate) fn release(streams: &mut Streams, piece: &InFlight)
-    ensures { streams.new ≡ released_in streams.old piece.now.message.stream_identifier piece.now.message.generation
+// Gives an acknowledged piece's bytes back to its stream, those that were outstanding until then. Where the stream falls
+// to its low mark it is gathered.
+pub(crate) fn release(streams: &mut Streams, fallen: &mut Fallen, piece: &InFlight)
+    ensures released { streams.new ≡
+        released_in streams.old piece.now.message.stream_identifier piece.now.message.generation
         (outstanding_bytes piece.now) }
+    ensures gathers { Gathers streams.old fallen.old streams.new fallen.new }
 {
-    streams.release(
-        piece.message.stream_identifier,
-        piece.message.generation,
-        piece.outstanding_bytes(),
-    );
+    let id = piece.message.stream_identifier;
+    let generation = piece.message.generation;
+    if streams.release(id, generation, piece.outstanding_bytes()) {
+        fallen.add(id);
+    }
 }
 
 // A piece in flight, as DATA.

@@ -30,7 +30,7 @@ pub record Underway (x : Surroundings) (B : ℕ → Type 0) (a : Shown) : Type 0
 
 -- the same association, or one that differs beside its directions, stands open where its parts hold
 unfoldable pub stands_by : (x : Surroundings) {a b : Shown} (k : History) {out coming : Direction}
-    → (s : StandsOpen x.own x.peer a out coming) → IsSameStatus a b → Binds b k → (k.peer ≡ s.past.peer)
+    → (s : StandsOpen x.loose x.own x.peer a out coming) → IsSameStatus a b → Binds b k → (k.peer ≡ s.past.peer)
     → x.out.sender.plan.size ≡ out.sender.plan.size → Holds x (parts b k) → OpenAt x b
 stands_by x {a} {b} k s same binds met size h = record {
   past = k;

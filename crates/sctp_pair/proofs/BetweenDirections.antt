@@ -1,5 +1,6 @@
 -- One association between its two directions, while the other one stands still: what each of its acts makes of them.
-use Rattle.std.proofs.Common.{◌≡◌, refl, sym, ap, ◌∙◌, subst, ◌⊎◌, ⊎_elim, inl, inr, ℕ, true, List, [], ◌∷◌, ◌++◌}
+use Rattle.std.proofs.Common.{◌≡◌, refl, sym, ap, ◌∙◌, subst, ◌⊎◌, ⊎_elim, inl, inr, ℕ, Bool, true, false, List, []}
+use Rattle.std.proofs.Common.{◌∷◌, ◌++◌}
 use Rattle.std.proofs.Common.{Option, Some, None, arith, ◌≤◌}
 use Rattle.std.specs.Prelude.{slice_get}
 use Rattle.std.proofs.lemmas.List.{append-nil}
@@ -12,7 +13,7 @@ use Rattle.sctp_model.specs.Safe.{IsWithin}
 use Rattle.sctp_fit.specs.Growth.{IsAtReceiver, IsAtSender}
 use Rattle.sctp_fit.proofs.BegunCounts.{events_keep_the_count}
 use Rattle.sctp_fit.proofs.OtherEnd.{receivers_events_leave_what_is_sent, senders_events_leave_what_comes}
-use Rattle.sctp_directions.specs.Acts.{Act, IsKeptInOrder, Parts, SetsReliability, receiving, sending}
+use Rattle.sctp_directions.specs.Acts.{Act, IsKeptInOrder, Parts, SetsReliability, done, receiving, sending}
 use Rattle.sctp_assoc.specs.Leads.{parts}
 use Rattle.sctp_assoc.specs.Calls.{is_established}
 use Rattle.sctp_sides.specs.Meeting.{IsNoEarlier, Stage}
@@ -21,7 +22,7 @@ use Rattle.sctp_directions.specs.Events.{Accepts, Brings, GivesAMessage, IsOfRec
 use Rattle.sctp_reassembly.specs.Stands.{IsReadAs}
 use Rattle.sctp_directions.specs.Between.{FitsBetween, IsSound}
 use Rattle.sctp_directions.proofs.Proved.{only_reads_give_messages, only_what_is_brought_is_taken_in}
-use Rattle.sctp_directions.proofs.Proved.{only_writes_accept, plain_events_keep_it_plain}
+use Rattle.sctp_directions.proofs.Proved.{only_settings_loosen, only_writes_accept, plain_events_keep_it_plain}
 use Rattle.sctp_directions.proofs.Proved.{receivers_events_are_received, senders_events_are_sent}
 use Rattle.sctp_pair.specs.Fits.{IsAt, IsSilent, StagesAgree, Stands, StandsClosed, StandsFailed, StandsOpen}
 
@@ -38,7 +39,7 @@ pub record Goes (Brought : ℕ → Type 0) (w v : Direction) : Type 0 where
   pub sacks : (k : ℕ) (x : Sack) → slice_get w.sacks k ≡ Some x → slice_get v.sacks k ≡ Some x
   pub reach_on : w.sender.reach ≤ v.sender.reach
 
-run_append : (es fs : List Event) (w : Direction) → run (es ++ fs) w ≡ run fs (run es w)
+pub run_append : (es fs : List Event) (w : Direction) → run (es ++ fs) w ≡ run fs (run es w)
 run_append [] fs w = refl
 run_append (e ∷ es) fs w = run_append es fs (happens w e)
 
@@ -105,7 +106,7 @@ goes_by_receiver B w e at none brings =
     }
 
 -- What an association has around it: its own initial TSN and its peer's, the association that it faces, its own
--- direction and the one that comes to it, its own stage and the other one's.
+-- direction and the one that comes to it, its own stage and the other one's, and the streams that are loose at either.
 pub record Surroundings : Type 0 where
   pub own : ℕ
   pub peer : ℕ
@@ -114,6 +115,8 @@ pub record Surroundings : Type 0 where
   pub coming : Direction
   pub here : Stage
   pub there : Stage
+  pub loose : ℕ → Bool
+  pub loose_there : ℕ → Bool
 
 -- the same where the directions moved on
 abbrev pub moved : Surroundings → Direction → Direction → Surroundings
@@ -121,11 +124,11 @@ moved x out coming = record x { out = out; coming = coming }
 
 -- an association stands there
 abbrev pub StandsAt : Surroundings → Shown → Type 0
-StandsAt x a = Stands x.own x.peer a x.out x.coming
+StandsAt x a = Stands x.loose x.own x.peer a x.out x.coming
 
 -- it stands open there
 abbrev pub OpenAt : Surroundings → Shown → Type 0
-OpenAt x a = StandsOpen x.own x.peer a x.out x.coming
+OpenAt x a = StandsOpen x.loose x.own x.peer a x.out x.coming
 
 -- it stands closed there
 abbrev pub ClosedAt : Surroundings → Shown → Type 0
@@ -133,7 +136,7 @@ ClosedAt x a = StandsClosed x.own a x.coming
 
 -- the association that it faces stands between the same directions
 abbrev pub OtherStands : Surroundings → Type 0
-OtherStands x = Stands x.peer x.own x.other x.coming x.out
+OtherStands x = Stands x.loose_there x.peer x.own x.other x.coming x.out
 
 -- p is what the association's directions see of it
 pub record Holds (x : Surroundings) (p : Parts) : Type 0 where
@@ -141,12 +144,20 @@ pub record Holds (x : Surroundings) (p : Parts) : Type 0 where
   pub sound_out : IsSound x.out
   pub sound_coming : IsSound x.coming
   pub between : FitsBetween p x.out x.coming
-  pub in_order : (s : ℕ) → IsKeptInOrder p.streams s
+  pub in_order : (s : ℕ) → x.loose s ≡ false → IsKeptInOrder p.streams s
   pub other : OtherStands x
 
 -- an act sets the order or the reliability of no stream
 abbrev pub IsOrderly : Act → Type 0
 IsOrderly act = (s : ℕ) → SetsReliability act s → ⊥
+
+-- an act leaves each stream that is not loose in order
+abbrev pub KeepsOrder : (ℕ → Bool) → Act → Type 0
+KeepsOrder loose act =
+    (p : Parts) (s : ℕ) → loose s ≡ false → IsKeptInOrder p.streams s → IsKeptInOrder (done act p).streams s
+
+pub orderly_acts_keep_order : (loose : ℕ → Bool) (act : Act) → IsOrderly act → KeepsOrder loose act
+orderly_acts_keep_order loose act orderly p s tight h = only_settings_loosen act p s (orderly s) h
 
 -- Nothing is brought.
 abbrev pub None_brought : ℕ → Type 0
@@ -184,7 +195,7 @@ pub other_by_sender : (x : Surroundings) (e : Event) → IsOfSending e → Invar
     → OtherStands (record x { out = happens x.out e })
 other_by_sender x e at invariant h =
     ⊎_elim
-    (λ (s : StandsOpen x.peer x.own x.other x.coming x.out). inl record {
+    (λ (s : StandsOpen x.loose_there x.peer x.own x.other x.coming x.out). inl record {
       past = s.past;
       own_is = s.own_is;
       peer_is = s.peer_is;
@@ -224,7 +235,7 @@ pub other_by_receiver : (x : Surroundings) (e : Event) → IsOfReceiving e → O
     → OtherStands (record x { coming = happens x.coming e })
 other_by_receiver x e at h =
     ⊎_elim
-    (λ (s : StandsOpen x.peer x.own x.other x.coming x.out). inl record {
+    (λ (s : StandsOpen x.loose_there x.peer x.own x.other x.coming x.out). inl record {
       past = s.past;
       own_is = s.own_is;
       peer_is = s.peer_is;

@@ -15,6 +15,7 @@ use Rattle.sctp_model.specs.Machine.{Direction}
 use Rattle.sctp_serial.specs.Serial.{tsn}
 use Rattle.sctp_model.specs.Safe.{IsSafe}
 use Rattle.sctp_model.proofs.Lists.{all_join}
+use Rattle.sctp_assoc.specs.Calls.{first_filled}
 use Rattle.sctp_assoc.specs.Shown.{Shown}
 use Rattle.sctp_sides.proofs.Proved.{accepted_writes_fit}
 use Rattle.sctp_pair.specs.declared.step.Reply.{Reply}
@@ -27,16 +28,24 @@ use Rattle.sctp_pair.specs.Callers.{AcceptFew, CameBy, ComesOn, HoldsOn, IsFront
 use Rattle.sctp_pair.specs.Callers.{ReadsAreFronts, accepted_in, bytes_answered, bytes_of, bytes_read, bytes_written}
 use Rattle.sctp_pair.specs.Callers.{delivers_to}
 use Rattle.sctp_pair.specs.Callers as callers
+use Rattle.sctp_pair.specs.Callers.{AreAt, ReadsWereWritten, WrittenMessage, message_accepted, messages_of}
+use Rattle.sctp_pair.specs.Callers.{messages_read, messages_written, stays_in_order}
+use Rattle.sctp_pair.specs.World.{IsOrderedAndReliable, loose_after, loose_of, loosens}
+use Rattle.sctp_pair.proofs.WrittenPlaces.{AreTold, at_places, letters_grow, told_accepted, told_join}
+use Rattle.sctp_model.specs.Safe.{AreDistinct, letter_read}
+use Rattle.sctp_reassembly.specs.Stands.{letter_received}
+use Rattle.std.proofs.lemmas.Bool.{and_parts}
+use Rattle.std.specs.Prelude.{◌||◌, not, map}
 use Rattle.sctp_pair.specs.Callers.{read_in, read_undelivered, written_in}
 use Rattle.sctp_pair.specs.Counted.{AreFew, FitsCounted, RunsCounted, pieces_a, pieces_b}
-use Rattle.sctp_pair.specs.Ends.{Ends, end_of}
-use Rattle.sctp_pair.specs.Steps.{AtSide, Runs, Steps, Writes, Writing, reading_of, writing_of}
+use Rattle.sctp_pair.specs.Ends.{Ends}
+use Rattle.sctp_pair.specs.Steps.{AtSide, Runs, Steps, Writes, reading_of, writing_of}
 use Rattle.sctp_pair.specs.World.{EndsSpan, HasData, IsDirectionStep, IsWorldStep, World, accepted_at, empty_world}
 use Rattle.sctp_pair.specs.World.{accepted_of, is_side, message_answered, message_read, messages_on, other_side}
 use Rattle.sctp_pair.specs.World.{packet_brought}
 use Rattle.sctp_pair.proofs.AcceptedAndRead.{writes}
 use Rattle.sctp_pair.proofs.Counted.{runs_lead_counted}
-use Rattle.sctp_pair.proofs.MessageBytes.{IsKept, bytes_accepted, bytes_got, nothing_read_of_none, read_grows}
+use Rattle.sctp_pair.proofs.MessageBytes.{bytes_accepted, bytes_got, nothing_read_of_none, read_grows}
 use Rattle.sctp_pair.proofs.MessageBytes.{reads_are_a_front}
 use Rattle.sctp_pair.proofs.Promised.{safe_world}
 use Rattle.sctp_pair.proofs.RunsJoined.{runs_join}
@@ -109,39 +118,43 @@ told_written (steps.WriteSctp side id bytes kind) (replies.Wrote count) x s w q 
     told_written_at side x id count s (Some kind) bytes w q h
 told_written (steps.WriteChunk side id bytes) (replies.Wrote count) x s w q h =
     told_written_at side x id count s None bytes w q h
+told_written (steps.WriteChunks side id chunks) (replies.Wrote count) x s w q h =
+    told_written_at side x id count s None (first_filled chunks.items) w q h
 told_written a r x s w q h = refl
 
-kept_on : (c : Bool) (o : Option StreamView) (named : Option PayloadProtocolIdentifier) (bytes : List ℕ)
-    → AllByRecursion IsKept (if c then messages_on o named bytes else [])
-kept_on false o named bytes = tt
-kept_on true None named bytes = tt
-kept_on true (Some t) named bytes = (record { ordered = refl; reliable = refl }, tt)
+-- what one step told to be loose is so in the next world, and nothing else
+loose_step : {a : Step} {r : Reply} {w v : World} (x : Side2) → IsWorldStep a w r v → (s : ℕ)
+    → loose_of x v s ≡ loose_after a r x w s
+loose_step sides.A h s = h.loose_a_is s
+loose_step sides.B h s = h.loose_b_is s
 
-writing_kept : (writing : Option Writing) (r : Reply) (x : Side2) (s : ℕ) (w : World)
-    → AllByRecursion IsKept (accepted_of writing r x s w)
-writing_kept (Some y) (replies.Wrote count) x s w =
-    kept_on (is_side y.side x && eqb y.id s) (stream_at (end_of x w.ends).streams y.id) y.named y.bytes
-writing_kept writing r x s w = tt
+not_loosened : (l : Bool) → not l ≡ true → l ≡ false
+not_loosened true e = absurd (true≢false (sym e))
+not_loosened false e = refl
 
--- each message that a step accepts is ordered and reliable
-accepted_kept : (a : Step) (r : Reply) (x : Side2) (s : ℕ) (w : World) → AllByRecursion IsKept (accepted_at a r x s w)
-accepted_kept a r x s w = writing_kept (writing_of a) r x s w
-
--- What rows of steps made of the direction of which side x is the sender, as they tell it.
-record Grew (ss : List Step) (rs : List Reply) (x : Side2) (before after : Direction) : Type 0 where
+-- What rows of steps made of the direction of which side x is the sender, as they tell it; these streams were loose
+-- before.
+record Grew (loose : ℕ → Bool) (ss : List Step) (rs : List Reply) (x : Side2) (before after : Direction) : Type 0 where
   written : (s : ℕ)
       → bytes_accepted (after.sender.plan.accepted s) ≡ bytes_accepted (before.sender.plan.accepted s)
       ++ written_in ss rs x s
   read : (s : ℕ) → bytes_got (after.reads s) ≡ bytes_got (before.reads s) ++ read_in ss rs (other_side x) s
-  kept : (s : ℕ) → AllByRecursion IsKept (before.sender.plan.accepted s)
-      → AllByRecursion IsKept (after.sender.plan.accepted s)
+  kept : (s : ℕ) → stays_in_order ss rs x s ≡ true → loose s ≡ false
+      → AllByRecursion IsOrderedAndReliable (before.sender.plan.accepted s)
+      → AllByRecursion IsOrderedAndReliable (after.sender.plan.accepted s)
+  told : (s : ℕ) (ws : List WrittenMessage) → AreTold (before.sender.plan.accepted s) ws
+      → AreTold (after.sender.plan.accepted s) (ws ++ messages_written ss rs x s)
+  letters : (s : ℕ) → map letter_read (after.reads s)
+      ≡ map letter_read (before.reads s) ++ map letter_received (messages_read ss rs (other_side x) s)
   span : (s : ℕ) → before.over s ≡ false → after.over s ≡ false
 
-grew_nothing : (x : Side2) (d : Direction) → Grew [] [] x d d
-grew_nothing x d = record {
+grew_nothing : (loose : ℕ → Bool) (x : Side2) (d : Direction) → Grew loose [] [] x d d
+grew_nothing loose x d = record {
   written = λ s. sym (append-nil (bytes_accepted (d.sender.plan.accepted s)));
   read = λ s. sym (append-nil (bytes_got (d.reads s)));
-  kept = λ s k. k;
+  kept = λ s stays tight k. k;
+  told = λ s ws t. subst (AreTold (d.sender.plan.accepted s)) (sym (append-nil ws)) t;
+  letters = λ s. sym (append-nil (map letter_read (d.reads s)));
   span = λ s o. o;
 }
 
@@ -177,17 +190,50 @@ module _ (x : Side2) {a : Step} {r : Reply} {w v : World} (h : IsWorldStep a w r
       (λ (within : (from x v).over s ≡ false). within)
       (cases_Bool ((from x v).over s))
 
-  grew_on : {ss : List Step} {rs : List Reply} {after : Direction} → Grew ss rs x (from x v) after
-      → Grew (a ∷ ss) (r ∷ rs) x (from x w) after
-  grew_on {ss} {rs} more = record {
+  tight_on : (s : ℕ) → loose_of x w s ≡ false → loosens a r x s ≡ false → loose_of x v s ≡ false
+  tight_on s tight l =
+      loose_step x h s ∙ ap (λ z. z || loosens a r x s) tight ∙ l
+
+  letters_one : (s : ℕ) → map letter_read ((from x v).reads s)
+      ≡ map letter_read ((from x w).reads s) ++ map letter_received (messages_of (message_read a r (other_side x) s))
+  letters_one s =
+      letters_grow (message_read a r (other_side x) s) ((from x w).reads s) ((from x v).reads s)
+      ((step_from x h).read s)
+
+  told_one : (s : ℕ) (ws : List WrittenMessage) → AreTold ((from x w).sender.plan.accepted s) ws
+      → AreTold ((from x v).sender.plan.accepted s) (ws ++ message_accepted (writing_of a) r x s)
+  told_one s ws t =
+      subst (λ z. AreTold z (ws ++ message_accepted (writing_of a) r x s)) (sym ((step_from x h).accepted s))
+      (told_join ((from x w).sender.plan.accepted s) ws (accepted_at a r x s w) (message_accepted (writing_of a) r x s)
+      t (told_accepted a r x s w v.ends h.ends_step))
+
+  grew_on : {ss : List Step} {rs : List Reply} {after : Direction} → Grew (loose_of x v) ss rs x (from x v) after
+      → Grew (loose_of x w) (a ∷ ss) (r ∷ rs) x (from x w) after
+  grew_on {ss} {rs} {after} more = record {
     written = λ s. more.written s ∙ ap (λ z. z ++ written_in ss rs x s) (wrote_one s)
         ∙ append_assoc (bytes_accepted ((from x w).sender.plan.accepted s)) (bytes_written a r x s)
         (written_in ss rs x s);
     read = λ s. more.read s ∙ ap (λ z. z ++ read_in ss rs (other_side x) s) (read_one s)
         ∙ append_assoc (bytes_got ((from x w).reads s)) (bytes_read a r (other_side x) s)
         (read_in ss rs (other_side x) s);
-    kept = λ s k. more.kept s (subst (AllByRecursion IsKept) (sym ((step_from x h).accepted s))
-        (all_join IsKept ((from x w).sender.plan.accepted s) (accepted_at a r x s w) k (accepted_kept a r x s w)));
+    kept = λ s stays tight k.
+        let both = and_parts (not (loosens a r x s)) (stays_in_order ss rs x s) stays in
+        more.kept s both.1 (tight_on s tight (not_loosened (loosens a r x s) both.0))
+        (subst (AllByRecursion IsOrderedAndReliable) (sym ((step_from x h).accepted s))
+        (all_join IsOrderedAndReliable ((from x w).sender.plan.accepted s) (accepted_at a r x s w) k
+        ((step_from x h).in_order s tight)));
+    told = λ s ws t.
+        subst (AreTold (after.sender.plan.accepted s))
+        (append_assoc ws (message_accepted (writing_of a) r x s) (messages_written ss rs x s))
+        (more.told s (ws ++ message_accepted (writing_of a) r x s) (told_one s ws t));
+    letters = λ s. more.letters s
+        ∙ ap (λ z. z ++ map letter_received (messages_read ss rs (other_side x) s)) (letters_one s)
+        ∙ append_assoc (map letter_read ((from x w).reads s))
+        (map letter_received (messages_of (message_read a r (other_side x) s)))
+        (map letter_received (messages_read ss rs (other_side x) s))
+        ∙ ap (λ z. map letter_read ((from x w).reads s) ++ z)
+        (sym (map-append letter_received (messages_of (message_read a r (other_side x) s))
+        (messages_read ss rs (other_side x) s)));
     span = λ s o. more.span s (span_one s o);
   }
 
@@ -209,7 +255,7 @@ record Reached (ss : List Step) (rs : List Reply) (w : World) (q : Ends) : Type 
   of_a : ℕ
   of_b : ℕ
   fits : FitsCounted of_a of_b q last
-  grew : (x : Side2) → Grew ss rs x (from x w) (from x last)
+  grew : (x : Side2) → Grew (loose_of x w) ss rs x (from x w) (from x last)
 
 -- what the steps of a run count, from a world on
 abbrev FewFrom : ℕ → ℕ → World → List Step → List Reply → Type 0
@@ -238,7 +284,13 @@ few_on a r ss rs w n m few =
 
 reached : (ss : List Step) (rs : List Reply) (w : World) (n m : ℕ) (q : Ends) → RunsCounted ss rs w n m q
     → FewFrom n m w ss rs → Reached ss rs w q
-reached [] [] w n m q h few = record { last = w; of_a = n; of_b = m; fits = h; grew = λ x. grew_nothing x (from x w) }
+reached [] [] w n m q h few = record {
+  last = w;
+  of_a = n;
+  of_b = m;
+  fits = h;
+  grew = λ x. grew_nothing (loose_of x w) x (from x w);
+}
 reached (a ∷ ss) (r ∷ rs) w n m q (v, step, next) few =
     let k : ℕ = pieces_a w a r in
     let l : ℕ = pieces_b w a r in
@@ -280,17 +332,35 @@ fresh_from sides.A p initial_a initial_b size_a size_b =
 fresh_from sides.B p initial_a initial_b size_a size_b =
     record { accepted = λ s. refl; unread = λ s. refl; untaken = λ o m. true≢false (sym m); within = λ s. refl }
 
-front_along : (ss : List Step) (rs : List Reply) (x : Side2) (s : ℕ) (before after : Direction) → IsFresh before
-    → Grew ss rs x before after → (after.over s ≡ false → IsSafe after s)
+front_along : (loose : ℕ → Bool) (ss : List Step) (rs : List Reply) (x : Side2) (s : ℕ) (before after : Direction)
+    → IsFresh before → loose s ≡ false → stays_in_order ss rs x s ≡ true
+    → Grew loose ss rs x before after → (after.over s ≡ false → IsSafe after s)
     → IsFrontOf (read_in ss rs (other_side x) s) (written_in ss rs x s)
-front_along ss rs x s before after first grew safe =
-    let kept = grew.kept s (subst (AllByRecursion IsKept) (sym (first.accepted s)) tt) in
+front_along loose ss rs x s before after first tight stays grew safe =
+    let kept = grew.kept s stays tight (subst (AllByRecursion IsOrderedAndReliable) (sym (first.accepted s)) tt) in
     let front = reads_are_a_front after s (safe (grew.span s (first.within s))) kept in
     let wrote : bytes_accepted (after.sender.plan.accepted s) ≡ written_in ss rs x s =
     grew.written s ∙ ap (λ ms. bytes_accepted ms ++ written_in ss rs x s) (first.accepted s) in
     let read : bytes_got (after.reads s) ≡ read_in ss rs (other_side x) s =
     grew.read s ∙ ap (λ gs. bytes_got gs ++ read_in ss rs (other_side x) s) (first.unread s) in
     (front.0, sym wrote ∙ front.1 ∙ ap (λ z. z ++ front.0) read)
+
+-- each message that was read was written at a place of its own
+written_along : (loose : ℕ → Bool) (ss : List Step) (rs : List Reply) (x : Side2) (s : ℕ) (before after : Direction)
+    → IsFresh before → Grew loose ss rs x before after → (after.over s ≡ false → IsSafe after s)
+    → (places : List ℕ) × AreDistinct places
+    × AreAt (messages_read ss rs (other_side x) s) places (messages_written ss rs x s)
+written_along loose ss rs x s before after first grew safe =
+    let named = (safe (grew.span s (first.within s))).read in
+    let told = grew.told s [] (subst (λ ms. AreTold ms []) (sym (first.accepted s)) tt) in
+    let letters : map letter_read (after.reads s) ≡ map letter_received (messages_read ss rs (other_side x) s) =
+    grew.letters s
+    ∙ ap (λ gs. map letter_read gs ++ map letter_received (messages_read ss rs (other_side x) s)) (first.unread s) in (
+      named.0,
+      named.1.once,
+      at_places after.sender.plan after.receiver.taken s (after.reads s) named.0
+          (messages_read ss rs (other_side x) s) (messages_written ss rs x s) named.1.named letters told,
+    )
 
 -- Before the first delivery
 
@@ -338,6 +408,11 @@ begun_fresh : {size_a size_b : ℕ} {ss : List Step} {rs : List Reply} {p : Ends
     (x : Side2) → IsFresh (from x (begun c))
 begun_fresh {size_a} {size_b} c x = fresh_from x c.begin c.new.initial_a c.new.initial_b size_a size_b
 
+begun_tight : {size_a size_b : ℕ} {ss : List Step} {rs : List Reply} {p : Ends} (c : CameBy size_a size_b ss rs p)
+    (x : Side2) (s : ℕ) → loose_of x (begun c) s ≡ false
+begun_tight c sides.A s = refl
+begun_tight c sides.B s = refl
+
 -- These steps led from a new pair, and few pieces were accepted in them.
 module _ {size_a size_b : ℕ} {ss : List Step} {rs : List Reply} {p : Ends} (c : CameBy size_a size_b ss rs p)
     (few : AcceptFew size_a size_b ss rs) where
@@ -349,9 +424,17 @@ module _ {size_a size_b : ℕ} {ss : List Step} {rs : List Reply} {p : Ends} (c 
 
   -- What was read is a front of what was written.
   fronts : ReadsAreFronts ss rs
-  fronts x s =
+  fronts x s stays =
       let r = reached ss rs (begun c) 0 0 p counted.0 counted.1 in
-      front_along ss rs x s (from x (begun c)) (from x r.last) (begun_fresh c x) (r.grew x) (safe_from x s r.fits)
+      front_along (loose_of x (begun c)) ss rs x s (from x (begun c)) (from x r.last) (begun_fresh c x)
+      (begun_tight c x s) stays (r.grew x) (safe_from x s r.fits)
+
+  -- Each message that was read was written.
+  were_written : ReadsWereWritten ss rs
+  were_written x s =
+      let r = reached ss rs (begun c) 0 0 p counted.0 counted.1 in
+      written_along (loose_of x (begun c)) ss rs x s (from x (begun c)) (from x r.last) (begun_fresh c x) (r.grew x)
+      (safe_from x s r.fits)
 
   -- Until a packet was handed to a side nothing is read there.
   unbrought : NothingIsReadBeforeADelivery ss rs
@@ -369,6 +452,9 @@ module _ (more : List Step) (answers : List Reply) (p q : Ends) (led : Runs more
 
   pub fronts_on : HoldsOn ReadsAreFronts more answers p
   fronts_on size_a size_b ss rs c few = fronts (comes_on size_a size_b ss rs c) few
+
+  pub were_written_on : HoldsOn ReadsWereWritten more answers p
+  were_written_on size_a size_b ss rs c few = were_written (comes_on size_a size_b ss rs c) few
 
   pub unbrought_on : HoldsOn NothingIsReadBeforeADelivery more answers p
   unbrought_on size_a size_b ss rs c few = unbrought (comes_on size_a size_b ss rs c) few

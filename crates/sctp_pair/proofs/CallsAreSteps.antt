@@ -1,6 +1,8 @@
 -- A call of one association, between its directions, is a step of the world of both.
 use Rattle.std.proofs.Common.{◌≡◌, refl, sym, ap, ◌∙◌, subst, ◌⊎◌, ⊎_elim, inl, inr, ℕ, true, false, List, [], ◌++◌}
-use Rattle.std.proofs.Common.{Option, None}
+use Rattle.std.proofs.Common.{Option, None, Bool}
+use Rattle.std.specs.Prelude.{◌||◌}
+use Rattle.std.specs.List.{AllByRecursion}
 use Rattle.std.proofs.lemmas.Bool.{cases_Bool, true≢false}
 use Rattle.sctp_receive_queues.specs.Messages as letters
 use Rattle.sctp_model.specs.Messages.{Message}
@@ -22,17 +24,46 @@ use Rattle.sctp_pair.specs.declared.step.Step.{Step}
 use Rattle.sctp_pair.specs.Ends.{Ends, end_of}
 use Rattle.sctp_pair.specs.Steps.{Steps, packet_in}
 use Rattle.sctp_pair.specs.World.{HasData, IsDirectionStep, IsOpen, World, accepted_at, message_read, other_side}
-use Rattle.sctp_pair.specs.World.{packet_brought}
+use Rattle.sctp_pair.specs.World.{IsOrderedAndReliable, loose_after, loose_of, loosens, packet_brought}
 use Rattle.sctp_pair.specs.Fits.{AreSaid, Fits, IsAt, IsSaidBy, IsSilent, LeadsSafely, Stands, StandsIn}
 use Rattle.sctp_pair.proofs.BetweenDirections.{Does, Faces, OpenAt, Settles, Surroundings, moved}
+use Rattle.sctp_pair.proofs.AcceptedInOrder.{accepted_in_order}
 use Rattle.sctp_pair.proofs.NeverTakenBack.{runs_are_onward}
 use Rattle.sctp_pair.proofs.Promised.{receives_or_stopped, safe_world}
 use Rattle.sctp_pair.proofs.SaidStaysSaid.{GoesOn, said_grows}
 use Rattle.sctp_pair.proofs.HandshakeStages.{stays_put, turned}
 
--- what A has around it in the world
-abbrev pub around_a : (w : World) → Fits w.ends w → Surroundings
-around_a w f = record {
+-- an association stands there still where more streams may be loose
+loosened : {loose more : ℕ → Bool} {own peer : ℕ} {a : Shown} {out coming : Direction}
+    → ((s : ℕ) → more s ≡ false → loose s ≡ false) → Stands loose own peer a out coming
+    → Stands more own peer a out coming
+loosened fewer (inl s) = inl record {
+  past = s.past;
+  own_is = s.own_is;
+  peer_is = s.peer_is;
+  binds = s.binds;
+  working = s.working;
+  come = s.come;
+  present = s.present;
+  truthful = s.truthful;
+  size = s.size;
+  between = s.between;
+  in_order = λ t tight. s.in_order t (fewer t tight);
+}
+loosened fewer (inr r) = inr r
+
+-- no step makes a stream send ordered, reliable messages again
+loose_before : (step : Step) (reply : Reply) (x : Side2) (w : World) (s : ℕ) → loose_after step reply x w s ≡ false
+    → loose_of x w s ≡ false
+loose_before step reply x w s tight =
+    ⊎_elim
+    (λ (b : loose_of x w s ≡ true). absurd (true≢false (sym (ap (λ z. z || loosens step reply x s) b) ∙ tight)))
+    (λ (b : loose_of x w s ≡ false). b)
+    (cases_Bool (loose_of x w s))
+
+-- what A has around it in the world, and what is loose after the step
+abbrev pub around_a : (step : Step) (reply : Reply) (w : World) → Fits w.ends w → Surroundings
+around_a step reply w f = record {
   own = w.initial_a;
   peer = w.initial_b;
   other = w.ends.b;
@@ -40,11 +71,13 @@ around_a w f = record {
   coming = w.ba;
   here = f.stand.stage_a;
   there = f.stand.stage_b;
+  loose = loose_after step reply sides.A w;
+  loose_there = loose_after step reply sides.B w;
 }
 
 -- and what B has
-abbrev pub around_b : (w : World) → Fits w.ends w → Surroundings
-around_b w f = record {
+abbrev pub around_b : (step : Step) (reply : Reply) (w : World) → Fits w.ends w → Surroundings
+around_b step reply w f = record {
   own = w.initial_b;
   peer = w.initial_a;
   other = w.ends.a;
@@ -52,31 +85,35 @@ around_b w f = record {
   coming = w.ab;
   here = f.stand.stage_b;
   there = f.stand.stage_a;
+  loose = loose_after step reply sides.B w;
+  loose_there = loose_after step reply sides.A w;
 }
 
 -- the associations face each other between the directions of the world, seen from A
-pub faces_a : (w : World) (f : Fits w.ends w) → Faces (around_a w f) w.ends.a
-faces_a w f = record {
+pub faces_a : (step : Step) (reply : Reply) (w : World) (f : Fits w.ends w)
+    → Faces (around_a step reply w f) w.ends.a
+faces_a step reply w f = record {
   within_out = f.within.0;
   within_coming = f.within.1;
   sound_out = f.stand.sound_ab;
   sound_coming = f.stand.sound_ba;
-  stands = f.stand.side_a;
-  other = f.stand.side_b;
+  stands = loosened (loose_before step reply sides.A w) f.stand.side_a;
+  other = loosened (loose_before step reply sides.B w) f.stand.side_b;
   at = f.stand.at_a;
   meets = f.stand.meets;
   silent = f.stand.silent_b;
 }
 
 -- and seen from B
-pub faces_b : (w : World) (f : Fits w.ends w) → Faces (around_b w f) w.ends.b
-faces_b w f = record {
+pub faces_b : (step : Step) (reply : Reply) (w : World) (f : Fits w.ends w)
+    → Faces (around_b step reply w f) w.ends.b
+faces_b step reply w f = record {
   within_out = f.within.1;
   within_coming = f.within.0;
   sound_out = f.stand.sound_ba;
   sound_coming = f.stand.sound_ab;
-  stands = f.stand.side_b;
-  other = f.stand.side_a;
+  stands = loosened (loose_before step reply sides.B w) f.stand.side_b;
+  other = loosened (loose_before step reply sides.A w) f.stand.side_a;
   at = f.stand.at_b;
   meets = turned f.stand.stage_a f.stand.stage_b f.stand.meets;
   silent = f.stand.silent_a;
@@ -133,14 +170,17 @@ module _ (step : Step) (reply : Reply) (w : World) (q : Ends) where
         → ((s : ℕ) → Added s ≡ accepted_at step reply sender s w)
         → ((s : ℕ) → Read s ≡ message_read step reply receiver s)
         → ((o : ℕ) → Brought o → HasData (packet_brought step reply receiver w) (tsn initial o))
+        → ((s : ℕ) → loose_of sender w s ≡ false
+        → AllByRecursion IsOrderedAndReliable (accepted_at step reply sender s w))
         → IsOpen (end_of sender q) ⊎ (after.sender.plan.places ≡ before.sender.plan.places)
         → IsSound before → IsSound after
         → (after.receiver.is_open ≡ true) ⊎ (IsOpen (end_of receiver q) → ⊥)
         → IsDirectionStep step reply sender receiver w q initial before after
-    direction_step {before} {after} {Added} {Read} {Brought} d adds reads brings no_more was is receives = record {
+    direction_step {before} {after} {Added} {Read} {Brought} d adds reads brings kept no_more was is receives = record {
       events = d.events;
       happened = d.is;
       accepted = λ s. d.accepted s ∙ ap (λ (z : List Message). before.sender.plan.accepted s ++ z) (adds s);
+      in_order = kept;
       read =
           λ s. subst (λ (z : Option letters.ReceivedMessage). IsReadAs z (before.reads s) (after.reads s))
           (reads s) (d.reads s);
@@ -166,7 +206,7 @@ module _ (step : Step) (reply : Reply) (w : World) (q : Ends) where
   pub settled_a : {Added : ℕ → List Message} {Read : ℕ → Option letters.ReceivedMessage} {Brought : ℕ → Type 0}
       (given : List (List ℕ)) (fits : Fits w.ends w) → q.b ≡ w.ends.b → q.packets_a ≡ w.ends.packets_a ++ given
       → q.packets_b ≡ w.ends.packets_b → Steps step w.ends reply q
-      → (s : Settles (around_a w fits) q.a Added Read Brought)
+      → (s : Settles (around_a step reply w fits) q.a Added Read Brought)
       → AreSaid w.initial_a w.initial_b s.here2 s.out2 s.coming2 given
       → IsCallAt step reply sides.A w w.initial_b Added Read Brought → LeadsSafely step reply w q
   settled_a given fits same_b more same_packets ends s said call = (
@@ -175,12 +215,15 @@ module _ (step : Step) (reply : Reply) (w : World) (q : Ends) where
       ends_step = ends;
       same_a = refl;
       same_b = refl;
+      loose_a_is = λ s. refl;
+      loose_b_is = λ s. refl;
       ab_step =
           direction_step sides.A sides.B w.initial_a s.does_out call.adds call.reads_alone (λ o n. absurd n)
-          (is_open s) fits.stand.sound_ab s.sound_out
+          (accepted_in_order step reply w q fits ends sides.A) (is_open s) fits.stand.sound_ab s.sound_out
           (receives_or_stopped w.initial_b w.initial_a q.b s.coming2 s.out2 stands.side_b);
       ba_step =
           direction_step sides.B sides.A w.initial_b s.does_coming call.adds_alone call.reads call.brings
+          (accepted_in_order step reply w q fits ends sides.B)
           (inr (ap (λ (z : Sender). z.plan.places) s.coming_still)) fits.stand.sound_ba s.sound_coming
           (receives_or_stopped w.initial_a w.initial_b q.a s.out2 s.coming2 stands.side_a);
     },
@@ -189,7 +232,15 @@ module _ (step : Step) (reply : Reply) (w : World) (q : Ends) where
   )
     where
       v : World
-      v = record { ends = q; initial_a = w.initial_a; initial_b = w.initial_b; ab = s.out2; ba = s.coming2 }
+      v = record {
+        ends = q;
+        initial_a = w.initial_a;
+        initial_b = w.initial_b;
+        ab = s.out2;
+        ba = s.coming2;
+        loose_a = loose_after step reply sides.A w;
+        loose_b = loose_after step reply sides.B w;
+      }
 
       stands : StandsIn q v
       stands = record {
@@ -197,7 +248,9 @@ module _ (step : Step) (reply : Reply) (w : World) (q : Ends) where
         sound_ab = s.sound_out;
         sound_ba = s.sound_coming;
         side_a = s.stands;
-        side_b = subst (λ (z : Shown). Stands w.initial_b w.initial_a z s.coming2 s.out2) (sym same_b) s.other;
+        side_b =
+            subst (λ (z : Shown). Stands (loose_after step reply sides.B w) w.initial_b w.initial_a z s.coming2 s.out2)
+            (sym same_b) s.other;
         stage_a = s.here2;
         stage_b = fits.stand.stage_b;
         at_a = s.at;
@@ -219,7 +272,7 @@ module _ (step : Step) (reply : Reply) (w : World) (q : Ends) where
   pub settled_b : {Added : ℕ → List Message} {Read : ℕ → Option letters.ReceivedMessage} {Brought : ℕ → Type 0}
       (given : List (List ℕ)) (fits : Fits w.ends w) → q.a ≡ w.ends.a → q.packets_b ≡ w.ends.packets_b ++ given
       → q.packets_a ≡ w.ends.packets_a → Steps step w.ends reply q
-      → (s : Settles (around_b w fits) q.b Added Read Brought)
+      → (s : Settles (around_b step reply w fits) q.b Added Read Brought)
       → AreSaid w.initial_b w.initial_a s.here2 s.out2 s.coming2 given
       → IsCallAt step reply sides.B w w.initial_a Added Read Brought → LeadsSafely step reply w q
   settled_b given fits same_a more same_packets ends s said call = (
@@ -228,13 +281,16 @@ module _ (step : Step) (reply : Reply) (w : World) (q : Ends) where
       ends_step = ends;
       same_a = refl;
       same_b = refl;
+      loose_a_is = λ s. refl;
+      loose_b_is = λ s. refl;
       ab_step =
           direction_step sides.A sides.B w.initial_a s.does_coming call.adds_alone call.reads call.brings
+          (accepted_in_order step reply w q fits ends sides.A)
           (inr (ap (λ (z : Sender). z.plan.places) s.coming_still)) fits.stand.sound_ab s.sound_coming
           (receives_or_stopped w.initial_b w.initial_a q.b s.out2 s.coming2 stands.side_b);
       ba_step =
           direction_step sides.B sides.A w.initial_b s.does_out call.adds call.reads_alone (λ o n. absurd n)
-          (is_open s) fits.stand.sound_ba s.sound_out
+          (accepted_in_order step reply w q fits ends sides.B) (is_open s) fits.stand.sound_ba s.sound_out
           (receives_or_stopped w.initial_a w.initial_b q.a s.coming2 s.out2 stands.side_a);
     },
     stands,
@@ -242,14 +298,24 @@ module _ (step : Step) (reply : Reply) (w : World) (q : Ends) where
   )
     where
       v : World
-      v = record { ends = q; initial_a = w.initial_a; initial_b = w.initial_b; ab = s.coming2; ba = s.out2 }
+      v = record {
+        ends = q;
+        initial_a = w.initial_a;
+        initial_b = w.initial_b;
+        ab = s.coming2;
+        ba = s.out2;
+        loose_a = loose_after step reply sides.A w;
+        loose_b = loose_after step reply sides.B w;
+      }
 
       stands : StandsIn q v
       stands = record {
         is = refl;
         sound_ab = s.sound_coming;
         sound_ba = s.sound_out;
-        side_a = subst (λ (z : Shown). Stands w.initial_a w.initial_b z s.coming2 s.out2) (sym same_a) s.other;
+        side_a =
+            subst (λ (z : Shown). Stands (loose_after step reply sides.A w) w.initial_a w.initial_b z s.coming2 s.out2)
+            (sym same_a) s.other;
         side_b = s.stands;
         stage_a = fits.stand.stage_a;
         stage_b = s.here2;

@@ -9,6 +9,7 @@ use Rattle.sctp_streams.specs.Stream.{StreamView}
 use Rattle.sctp_streams.specs.Streams.{stream_at}
 use Rattle.sctp_model.specs.Messages.{Message}
 use Rattle.sctp_model.specs.Machine.{Direction}
+use Rattle.sctp_fit.specs.Writes.{message_on}
 use Rattle.sctp_fit.specs.Counted.{HasAccepted, all_pieces, pieces_in}
 use Rattle.sctp_fit.proofs.PlacesCounted.{few_pieces_stay_within}
 use Rattle.sctp_directions.specs.Acts.{type_on}
@@ -18,10 +19,9 @@ use Rattle.sctp_pair.specs.declared.step.Reply.TheVariants as replies
 use Rattle.sctp_pair.specs.declared.step.Side2.{Side2}
 use Rattle.sctp_pair.specs.declared.step.Side2.TheVariants as sides
 use Rattle.sctp_pair.specs.declared.step.Step.{Step}
-use Rattle.sctp_pair.specs.declared.step.Step.TheVariants as steps
 use Rattle.sctp_pair.specs.Ends.{Ends, end_of}
 use Rattle.sctp_pair.specs.Steps.{Runs, Steps, Writing, writing_of}
-use Rattle.sctp_pair.specs.World.{IsWithinLimits, World, accepted_at, empty_world, is_side, message_under}
+use Rattle.sctp_pair.specs.World.{IsWithinLimits, World, accepted_at, empty_world, is_side}
 use Rattle.sctp_pair.specs.World.{accepted_of, messages_on}
 use Rattle.sctp_pair.specs.Counted.{FitsCounted, LeadsCounted, RunsCounted, pieces_a, pieces_accepted, pieces_b}
 use Rattle.sctp_pair.specs.Counted.{pieces_of}
@@ -48,7 +48,7 @@ one_message : (size : ℕ) (o : Option StreamView) (named : Option PayloadProtoc
 one_message size None named bytes = omega arith
 one_message size (Some t) named bytes =
     let e =
-    sum_by-cons (λ (m : Message). pieces_in size (length m.bytes)) (message_under (type_on t named) bytes) [] in
+    sum_by-cons (λ (m : Message). pieces_in size (length m.bytes)) (message_on t (type_on t named) bytes) [] in
     omega (arith, e)
 
 -- on one stream these messages were accepted, which have at most so many pieces

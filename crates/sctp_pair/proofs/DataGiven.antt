@@ -86,7 +86,7 @@ module _ (x : Surroundings) (p : Parts) (h : Holds x p) where
         outgoing = fits;
         incoming = own_acts_leave_what_comes act p x.coming its_own h.between.incoming;
       };
-      in_order = λ s. only_settings_loosen act p s (orderly s) (h.in_order s);
+      in_order = λ s tight. only_settings_loosen act p s (orderly s) (h.in_order s tight);
       other = after.other;
     };
     said = subst (λ o. AllByRecursion (IsGiven o out2) given) h.own_is said;

@@ -81,7 +81,7 @@ module _ (x : Surroundings) (p : Parts) (B : ℕ → Type 0) (h : Holds x p) (wi
         outgoing = is.outgoing;
         incoming = is.incoming;
       };
-      in_order = λ s. only_settings_loosen act p s (is.orderly s) (h.in_order s);
+      in_order = λ s tight. only_settings_loosen act p s (is.orderly s) (h.in_order s tight);
       other = other_by_receiver x e is.at h.other;
     };
   }

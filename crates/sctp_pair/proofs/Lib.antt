@@ -1,4 +1,5 @@
 pub mod AcceptedAndRead
+pub mod AcceptedInOrder
 pub mod AnsweredValues
 pub mod BetweenChunks
 pub mod BetweenDirections
@@ -25,3 +26,4 @@ pub mod StepsLead
 pub mod StreamCalls
 pub mod TimedCalls
 pub mod WriteCall
+pub mod WrittenPlaces

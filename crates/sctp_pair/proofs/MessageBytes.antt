@@ -13,6 +13,7 @@ use Rattle.sctp_model.specs.Safe.{IsKeptOrdered, IsKeptReliable, IsSafe, IsTaken
 use Rattle.sctp_model.specs.Safe.{letter_written}
 use Rattle.sctp_reassembly.specs.Stands.{IsReadAs}
 use Rattle.sctp_pair.specs.Callers.{IsFrontOf, bytes_of}
+use Rattle.sctp_pair.specs.World.{IsOrderedAndReliable}
 
 abbrev pub bytes_accepted : List Message → List (List ℕ)
 bytes_accepted ms = map (λ (m : Message). m.bytes) ms
@@ -43,12 +44,8 @@ read_grows (Some m) before after (g, e, l) =
 
 -- Kept messages
 
--- an ordered and reliable message
-pub record IsKept (m : Message) : Type 0 where
-  pub ordered : m.ordered ≡ true
-  pub reliable : is_reliable m.policy ≡ true
-
-each_kept : (ms : List Message) → AllByRecursion IsKept ms → (i : ℕ) → i < length ms → IsKept (get_or ms i no_message)
+each_kept : (ms : List Message) → AllByRecursion IsOrderedAndReliable ms → (i : ℕ) → i < length ms
+    → IsOrderedAndReliable (get_or ms i no_message)
 each_kept [] a i b = absurd (omega arith)
 each_kept (m ∷ ms) a zero b = a.0
 each_kept (m ∷ ms) a (suc i) b = each_kept ms a.1 i (omega arith)
@@ -72,11 +69,13 @@ front_of gs more ms n e = (
         ∙ of_letters_written (take n ms)
 
 -- On a safe stream on which all messages are kept, what was read is a front of what was accepted.
-pub reads_are_a_front : (w : Direction) (s : ℕ) → IsSafe w s → AllByRecursion IsKept (w.sender.plan.accepted s)
+pub reads_are_a_front : (w : Direction) (s : ℕ) → IsSafe w s
+    → AllByRecursion IsOrderedAndReliable (w.sender.plan.accepted s)
     → IsFrontOf (bytes_got (w.reads s)) (bytes_accepted (w.sender.plan.accepted s))
 reads_are_a_front w s safe kept =
     let ordered : IsKeptOrdered w.sender.plan s = λ i b. (each_kept (w.sender.plan.accepted s) kept i b).ordered in
-    let reliable : IsKeptReliable w.sender.plan s = λ i b. (each_kept (w.sender.plan.accepted s) kept i b).reliable in
+    let reliable : IsKeptReliable w.sender.plan s =
+    λ i b. ap is_reliable (each_kept (w.sender.plan.accepted s) kept i b).reliable in
     ⊎_elim
     (λ (o : w.receiver.is_open ≡ true).
     let x = safe.prefix ordered reliable o in

@@ -23,7 +23,7 @@ use Rattle.sctp_assoc.specs.Handshake.{sends_init}
 use Rattle.sctp_assoc.specs.Shown.{Shown}
 use Rattle.sctp_sides.specs.Meeting.{stage_of}
 use Rattle.sctp_pair.specs.Ends.{Ends}
-use Rattle.sctp_pair.specs.World.{empty_world}
+use Rattle.sctp_pair.specs.World.{empty_world, none_loose}
 use Rattle.sctp_pair.specs.Fits.{Fits, StagesAgree, StandsOpen}
 
 -- where nothing was sent and nothing came, as at a server that listens, an association is between directions in which
@@ -50,7 +50,7 @@ fresh_is_sound size some = record {
 -- An association with this payload size begins: it stands open between directions in which nothing happened.
 record Begins (own peer size other : ℕ) (a : Shown) : Type 0 where
   some : 0 < size
-  stands : StandsOpen own peer a (fresh size) (fresh other)
+  stands : StandsOpen none_loose own peer a (fresh size) (fresh other)
 
 -- Two associations that begin, and whose stages fit, fit the empty world.
 fits_begin : {own_a own_b size_a size_b : ℕ} {a b : Shown} → Begins own_a own_b size_a size_b a
@@ -101,12 +101,13 @@ joined_begins : {size : ℕ} {own peer : ChunkInit} {a : Shown} (other : ℕ) �
     → Begins own.initial_tsn peer.initial_tsn size other a
 joined_begins {size} {own} {peer} other j = record {
   some = some_size size _ _ _ j.unrefused;
-  stands = subst (λ (z : Shown). StandsOpen own.initial_tsn peer.initial_tsn z (fresh size) (fresh other)) (sym j.is)
+  stands =
+      subst (λ (z : Shown). StandsOpen none_loose own.initial_tsn peer.initial_tsn z (fresh size) (fresh other)) (sym j.is)
       stands;
 }
   where
-    stands : StandsOpen own.initial_tsn peer.initial_tsn (joined j.config size j.remote None own peer) (fresh size)
-        (fresh other)
+    stands : StandsOpen none_loose own.initial_tsn peer.initial_tsn (joined j.config size j.remote None own peer)
+        (fresh size) (fresh other)
     stands = record {
       past = begun own.initial_tsn peer.initial_tsn;
       own_is = refl;
@@ -124,7 +125,7 @@ joined_begins {size} {own} {peer} other j = record {
       };
       size = refl;
       between = nothing_between j.config j.remote own.initial_tsn peer.initial_tsn size other;
-      in_order = no_stream_yet;
+      in_order = λ s tight. no_stream_yet s;
     }
 
 -- A pair that two tokens joined stands in the empty world.
@@ -159,10 +160,10 @@ client_begins : {size own : ℕ} {a : Shown} (other peer : ℕ) → IsClient siz
 unfolding sends_init
 client_begins {size} {own} other peer c = record {
   some = some_size size _ _ _ c.unrefused;
-  stands = subst (λ (z : Shown). StandsOpen own peer z (fresh size) (fresh other)) (sym c.is) stands;
+  stands = subst (λ (z : Shown). StandsOpen none_loose own peer z (fresh size) (fresh other)) (sym c.is) stands;
 }
   where
-    stands : StandsOpen own peer (client c.config size c.tag own c.cookie c.remote None c.now) (fresh size)
+    stands : StandsOpen none_loose own peer (client c.config size c.tag own c.cookie c.remote None c.now) (fresh size)
         (fresh other)
     stands = record {
       past = begun own 1;
@@ -181,7 +182,7 @@ client_begins {size} {own} other peer c = record {
       };
       size = refl;
       between = nothing_between c.config c.remote own 1 size other;
-      in_order = no_stream_yet;
+      in_order = λ s tight. no_stream_yet s;
     }
 
 -- The association is a server that listens, with this payload size and this initial TSN.
@@ -197,10 +198,11 @@ pub record IsServer (size tsn : ℕ) (a : Shown) : Type 0 where
 server_begins : {size own : ℕ} {a : Shown} (other peer : ℕ) → IsServer size own a → Begins own peer size other a
 server_begins {size} {own} other peer c = record {
   some = some_size size _ _ _ c.unrefused;
-  stands = subst (λ (z : Shown). StandsOpen own peer z (fresh size) (fresh other)) (sym c.is) stands;
+  stands = subst (λ (z : Shown). StandsOpen none_loose own peer z (fresh size) (fresh other)) (sym c.is) stands;
 }
   where
-    stands : StandsOpen own peer (server c.config size c.tag own c.cookie c.remote None) (fresh size) (fresh other)
+    stands : StandsOpen none_loose own peer (server c.config size c.tag own c.cookie c.remote None) (fresh size)
+        (fresh other)
     stands = record {
       past = begun own 1;
       own_is = refl;
@@ -223,7 +225,7 @@ server_begins {size} {own} other peer c = record {
       };
       size = refl;
       between = nothing_between c.config c.remote own 1 size other;
-      in_order = no_stream_yet;
+      in_order = λ s tight. no_stream_yet s;
     }
 
 not_both : sides.Server ≡ sides.Client → ⊥

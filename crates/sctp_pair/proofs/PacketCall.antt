@@ -30,6 +30,8 @@ use Rattle.sctp_pair.proofs.PacketChunks.{OtherSays, SaidIn, all_said_in, chunk_
 use Rattle.sctp_pair.proofs.SimpleCalls.{fails_settle, same_settles}
 use Rattle.sctp_pair.proofs.HandshakeStages.{stays_put, works_on}
 use Rattle.sctp_pair.proofs.BetweenChunks.{Underway, goes_same, meets_same, stands_by}
+use Rattle.sctp_sides.specs.Shapes.{Exhausts, IsOver}
+use Rattle.sctp_sides.specs.Meeting.{IsTruthful}
 
 -- The end of a packet
 
@@ -81,9 +83,10 @@ end_step {x} {B} a b ends u =
 -- Closing
 
 -- a fault closes an open association: its receiver closes
-ended_step : {x : Surroundings} {B : ℕ → Type 0} (a b : Shown) → Closes a b → IsEnded b → Underway x B a
+over_step : {x : Surroundings} {B : ℕ → Type 0} (a b : Shown) → b.side ≡ a.side → b.handshake ≡ a.handshake
+    → ((own : ℕ) → IsTruthful own a → IsTruthful own b) → IsOver b → Underway x B a
     → Settles x b nothing_added nothing_read B
-ended_step {x} {B} a b closes ended u =
+over_step {x} {B} a b side handshake truthful over u =
     let received = receivers_events_are_received u.coming2 Event.Close tt in
     let coming3 : Direction = happens u.coming2 Event.Close in
     let goes = goes_by_receiver B u.coming2 Event.Close tt (λ n. n) (λ o n. absurd n) in
@@ -99,16 +102,16 @@ ended_step {x} {B} a b closes ended u =
           (each_event_keeps_the_invariant u.coming2 Event.Close u.within_coming u.holds.sound_coming.invariant)
           u.holds.sound_coming;
       stands = inr (inl record {
-        closed = ended.closed;
-        unestablished = ended.unestablished;
-        lost = ended.lost;
+        closed = over.closed;
+        unestablished = over.unestablished;
+        lost = over.lost;
         stopped = closed_receivers_are_not_open u.coming2;
-        nothing_left = ended.holds_nothing;
-        truthful = closes.truthful x.own u.stands.truthful;
+        nothing_left = over.holds_nothing;
+        truthful = truthful x.own u.stands.truthful;
       });
       other = other_by_receiver (moved x u.out2 u.coming2) Event.Close tt u.holds.other;
       goes = u.goes;
-      at = λ working. (the_same_handshake_is_the_same_stage a b closes.side closes.handshake).0;
+      at = λ working. (the_same_handshake_is_the_same_stage a b side handshake).0;
       meets = u.meets;
       no_more = inr u.places_same;
       coming_still = received.sender ∙ u.coming_still;
@@ -120,7 +123,25 @@ close_step : {x : Surroundings} {B : ℕ → Type 0} (a b : Shown) → Closes a 
 close_step {x} {B} a b closes u = ⊎_elim
     (λ (closed : is_closed_state a.state ≡ true).
     subst (λ (z : Shown). Settles x z nothing_added nothing_read B) (sym (closes.stays closed)) (settled_open u))
-    (λ (opened : is_closed_state a.state ≡ false). ended_step a b closes (closes.ends opened) u)
+    (λ (opened : is_closed_state a.state ≡ false).
+    let ended = closes.ends opened in
+    over_step a b closes.side closes.handshake closes.truthful (record {
+      closed = ended.closed;
+      unestablished = ended.unestablished;
+      lost = ended.lost;
+      none_live = ended.none_live;
+      holds_nothing = ended.holds_nothing;
+    }) u)
+    (cases_Bool (is_closed_state a.state))
+
+-- an exhausted receive buffer does as a fault does, and an ABORT waits then, in a server that listens too
+exhaust_step : {x : Surroundings} {B : ℕ → Type 0} (a b : Shown) → Exhausts a b → Underway x B a
+    → Settles x b nothing_added nothing_read B
+exhaust_step {x} {B} a b exhausts u = ⊎_elim
+    (λ (closed : is_closed_state a.state ≡ true).
+    let stays = exhausts.stays closed in end_step a b (record { leads = stays.0; same = stays.1 }) u)
+    (λ (opened : is_closed_state a.state ≡ false).
+    over_step a b exhausts.side exhausts.handshake exhausts.truthful (exhausts.ends opened) u)
     (cases_Bool (is_closed_state a.state))
 
 -- A packet
@@ -168,6 +189,7 @@ module _ (x : Surroundings) (a : Shown) (now : ℕ) where
       (λ header c y z s takes v. chunk_step (Some packet) header c s takes v)
       (λ y z ends v. end_step y z ends v)
       (λ y z closes v. close_step y z closes v)
+      (λ y z exhausts v. exhaust_step y z exhausts v)
       packet a now present (all_said_in x packet [] packet.chunks refl said) u
 
   -- An association that failed before stays so, whatever comes.
@@ -180,6 +202,7 @@ module _ (x : Surroundings) (a : Shown) (now : ℕ) where
       (λ header c y z s takes v. (works_on c y z takes.leaves).failed ∙ v)
       (λ y z ends v. ends.same.failed ∙ v)
       (λ y z closes v. closes.failed ∙ v)
+      (λ y z exhausts v. exhausts.failed ∙ v)
       packet a now present (all_said_in x packet [] packet.chunks refl said) f
 
   failed_after : (packet : Option Packet) → OfEachChunk (OtherSays x) packet → a.failed ≡ true

@@ -28,11 +28,12 @@ use Rattle.sctp_pair.specs.World.{IsOpen, IsPromised, IsSafeWorld, World}
 use Rattle.sctp_pair.specs.Fits.{Fits, Stands, StandsClosed, StandsFailed, StandsOpen}
 
 -- an open association stands open
-pub stands_open : (own peer : ℕ) (a : Shown) (out coming : Direction) → IsOpen a → Stands own peer a out coming
-    → StandsOpen own peer a out coming
-stands_open own peer a out coming o h =
+pub stands_open : {loose : ℕ → Bool} (own peer : ℕ) (a : Shown) (out coming : Direction) → IsOpen a
+    → Stands loose own peer a out coming
+    → StandsOpen loose own peer a out coming
+stands_open {loose} own peer a out coming o h =
     ⊎_elim
-    (λ (s : StandsOpen own peer a out coming). s)
+    (λ (s : StandsOpen loose own peer a out coming). s)
     (λ (r : StandsClosed own a coming ⊎ StandsFailed a coming). ⊎_elim
     (λ (s : StandsClosed own a coming). absurd (true≢false (sym s.closed ∙ o.1)))
     (λ (s : StandsFailed a coming). absurd (true≢false (sym s.failed ∙ o.0)))
@@ -40,11 +41,12 @@ stands_open own peer a out coming o h =
     h
 
 -- the receiver of what comes to an association is open, or the association is closed or failed
-pub receives_or_stopped : (own peer : ℕ) (a : Shown) (out coming : Direction) → Stands own peer a out coming
+pub receives_or_stopped : {loose : ℕ → Bool} (own peer : ℕ) (a : Shown) (out coming : Direction)
+    → Stands loose own peer a out coming
     → (coming.receiver.is_open ≡ true) ⊎ (IsOpen a → ⊥)
-receives_or_stopped own peer a out coming h =
+receives_or_stopped {loose} own peer a out coming h =
     ⊎_elim
-    (λ (s : StandsOpen own peer a out coming). inl s.between.incoming.is_open)
+    (λ (s : StandsOpen loose own peer a out coming). inl s.between.incoming.is_open)
     (λ (r : StandsClosed own a coming ⊎ StandsFailed a coming). ⊎_elim
     (λ (s : StandsClosed own a coming). inr (λ (o : IsOpen a). true≢false (sym s.closed ∙ o.1)))
     (λ (s : StandsFailed a coming). inr (λ (o : IsOpen a). true≢false (sym s.failed ∙ o.0)))
@@ -80,8 +82,8 @@ released_if false (Some t) a s n w there span fits e =
     ap (λ z. z + w.sender.released s) (sym same) ∙ what_is_released_is_not_buffered a s t w there span fits
 
 -- Where the sender and the receiver of a direction stand in it, and it is within the limits, the promise of it holds.
-module _ {own peer : ℕ} {sender receiver : Shown} {w back : Direction} (giving : Stands own peer sender w back)
-    (taking : Stands peer own receiver back w) (within : IsWithin w) (sound : IsSound w) where
+module _ {loose loose_there : ℕ → Bool} {own peer : ℕ} {sender receiver : Shown} {w back : Direction}
+    (giving : Stands loose own peer sender w back) (taking : Stands loose_there peer own receiver back w) (within : IsWithin w) (sound : IsSound w) where
   promised : IsPromised sender receiver w
   promised = record {
     safe = λ s span. the_invariant_is_enough w within sound.invariant s span;

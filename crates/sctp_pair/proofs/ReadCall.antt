@@ -1,34 +1,42 @@
 -- A read of an association: what it gives is what the direction's reader gets.
-use Rattle.std.proofs.Common.{◌≡◌, refl, sym, ap, ◌∙◌, subst, ⊎_elim, inl, inr, ℕ, false, eqb, if◌then◌else◌, List, []}
-use Rattle.std.proofs.Common.{◌∷◌, Option, Some, None, arith}
+use Rattle.std.proofs.Common.{◌≡◌, refl, sym, ap, ◌∙◌, subst, ⊎_elim, inl, inr, ℕ, Bool, true, false, eqb, ◌&&◌}
+use Rattle.std.proofs.Common.{if◌then◌else◌, List, [], ◌∷◌, ◌++◌, Option, Some, None, is_some, arith}
 use Rattle.std.specs.Prelude.{◌==◌, slice_get}
-use Rattle.std.proofs.lemmas.Bool.{cases_eq, cond-false, cond-true, eq-eqb, ne_eqb}
+use Rattle.sctp_streams.specs.Streams.{read_in}
+use Rattle.std.proofs.lemmas.Bool.{cases_Bool, cases_eq, cond-false, cond-true, eq-eqb, ne_eqb}
 use Rattle.std.proofs.lemmas.List.{append-nil}
 use Rattle.sctp_wire_types.specs.declared.error.Error.{Error}
 use Rattle.sctp_receive_queues.specs.Messages.{ReceivedMessage}
-use Rattle.sctp_model.specs.Packets.{Data}
+use Rattle.sctp_model.specs.Packets.{Data, mem}
 use Rattle.sctp_model.specs.Reassembly.{Got}
-use Rattle.sctp_model.specs.Machine.{Direction, Event, happens}
+use Rattle.sctp_model.specs.Machine.{Direction, Event, happens, run}
 use Rattle.sctp_model.proofs.Proved.{each_event_keeps_the_invariant}
+use Rattle.sctp_model.proofs.ReceiverEvents.{keeps_close}
 use Rattle.sctp_reassembly.specs.Stands.{IsReadAs}
 use Rattle.sctp_fit.proofs.ReadsAnswered.{reads_are_alike}
 use Rattle.sctp_directions.specs.Acts.{Act, receiving}
+use Rattle.sctp_directions.specs.Between.{IsSound}
+use Rattle.sctp_directions.proofs.Proved.{closed_receivers_are_not_open}
 use Rattle.sctp_directions.proofs.Proved.{only_what_is_brought_is_taken_in, receivers_events_are_received}
 use Rattle.sctp_directions.proofs.Proved.{what_comes_leaves_its_own}
 use Rattle.sctp_assoc.specs.Leads.{parts}
-use Rattle.sctp_assoc.specs.Calls.{read_from_stream}
+use Rattle.sctp_assoc.specs.Calls.{read_exhausts, read_from_stream}
+use Rattle.sctp_assoc.specs.Closing.{exhausted, is_closed_state, is_exhausted}
 use Rattle.sctp_assoc.specs.Shown.{Shown}
-use Rattle.sctp_sides.specs.Shapes.{HoldsNothing, IsLive, IsSameStatus}
-use Rattle.sctp_sides.proofs.Proved.{found_streams_are_live, read_leads_on, reads_keep_the_status}
-use Rattle.sctp_sides.proofs.Proved.{what_holds_nothing_gives_nothing}
+use Rattle.sctp_sides.specs.Meeting.{IsTruthful, Stage}
+use Rattle.sctp_sides.specs.Shapes.{Exhausts, HoldsNothing, IsLive, IsOver, IsSameStatus, with_read}
+use Rattle.sctp_sides.proofs.Proved.{exhaustion_closes, found_streams_are_live, plain_read_leads, reads_keep_the_status}
+use Rattle.sctp_sides.proofs.Proved.{the_same_handshake_is_the_same_stage, what_holds_nothing_gives_nothing}
 use Rattle.sctp_pair.specs.declared.step.Reply.{Reply}
 use Rattle.sctp_pair.specs.declared.step.Reply.TheVariants as replies
-use Rattle.sctp_pair.specs.Fits.{StandsClosed}
+use Rattle.sctp_pair.specs.Fits.{IsAt, StandsClosed}
 use Rattle.sctp_pair.specs.Steps.{Reads, first_refusal}
-use Rattle.sctp_pair.proofs.BetweenDirections.{Does, Faces, None_brought, OpenAt, Settles, SettlesQuietly}
+use Rattle.sctp_pair.proofs.BetweenDirections.{orderly_acts_keep_order}
+use Rattle.sctp_pair.proofs.BetweenDirections.{ClosedAt, Does, Faces, Goes, None_brought, OpenAt, OtherStands}
+use Rattle.sctp_pair.proofs.BetweenDirections.{Settles, SettlesQuietly, StandsAt, goes_by_receiver, run_append}
 use Rattle.sctp_pair.proofs.BetweenDirections.{Surroundings, does_by_goes, goes_nowhere, nothing_added}
 use Rattle.sctp_pair.proofs.BetweenDirections.{other_by_receiver, sound_after}
-use Rattle.sctp_pair.proofs.SimpleCalls.{by_working, closed_on, open_on, same_settles, still}
+use Rattle.sctp_pair.proofs.SimpleCalls.{by_working, closed_on, fails_settle, open_on, same_settles, still}
 use Rattle.sctp_pair.proofs.HandshakeStages.{at_same, stays_put}
 
 -- what a read with this reply gives on stream s
@@ -74,59 +82,186 @@ read_does w id message here others =
       reach_on = (let e = ap (λ x. x.reach) event.sender in omega arith);
     }
 
+-- the direction that comes to an association, after a read of one of its streams
+abbrev after_one : Surroundings → ℕ → Direction
+after_one x id = happens x.coming (Event.Read id)
+
+-- what gives nothing more leaves what was read
+does_on : (R : ℕ → Option ReceivedMessage) (w v u : Direction) → Does nothing_added R None_brought w v
+    → Goes None_brought v u → Does nothing_added R None_brought w u
+does_on R w v u d g = record {
+  events = d.events ++ g.events;
+  is = g.is ∙ ap (run g.events) d.is ∙ sym (run_append d.events g.events w);
+  accepted = λ s. g.accepted s ∙ d.accepted s;
+  size = g.size ∙ d.size;
+  reads = λ s. subst (IsReadAs (R s) (w.reads s)) (sym (g.reads s)) (d.reads s);
+  taken =
+      λ o m. ⊎_elim (λ (n : mem o v.receiver.taken ≡ true). d.taken o n) (λ (n : ⊥). absurd n) (g.taken o m);
+  datas = λ k x e. g.datas k x (d.datas k x e);
+  sacks = λ k x e. g.sacks k x (d.sacks k x e);
+  reach_on = (let a = d.reach_on in let b = g.reach_on in omega arith);
+}
+
+-- what an exhausted receive buffer leaves is at the same stage of the handshake
+at_exhausted : {here : Stage} (a : Shown) → Exhausts a (exhausted a) → IsAt a here → IsAt (exhausted a) here
+at_exhausted a closes at working =
+    (the_same_handshake_is_the_same_stage a (exhausted a) closes.side closes.handshake).0
+    ∙ at (sym closes.failed ∙ working)
+
+-- A read of a stream of an open association, before it is seen whether it leaves the receive buffer exhausted, and the
+-- association stands open then.
+record HasRead (x : Surroundings) (a : Shown) (id : ℕ) (message : Option ReceivedMessage) : Type 0 where
+  pub does : Does nothing_added (read_by (replies.Read message) id) None_brought x.coming (after_one x id)
+  pub stands : OpenAt (record x { coming = after_one x id }) (with_read a id)
+
+plainly_read : {x : Surroundings} {a b : Shown} (id : ℕ) (message : Option ReceivedMessage) → IsLive a id
+    → read_from_stream a id ≡ (b, message) → Faces x a → OpenAt x a → HasRead x a id message
+plainly_read {x} {a} {b} id message live e f s =
+    let fits =
+    reads_are_alike (receiving (parts a s.past)) id live.stream x.coming live.there (f.sound_coming.plain.span id)
+    f.within_coming f.sound_coming.invariant s.between.incoming in
+    let reads = reads_keep_the_status a id in
+    let given : (read_in a.streams id).1 ≡ message =
+    sym reads.given ∙ ap (λ (z : Shown × Option ReceivedMessage). z.1) e in
+    record {
+      does = read_does x.coming id message
+          (subst (λ (z : Option ReceivedMessage). IsReadAs z (x.coming.reads id) ((after_one x id).reads id)) given
+          fits.1) fits.2;
+      stands = open_on x (Act.WasRead id ∷ []) s record {
+        past2 = s.past;
+        leads = plain_read_leads a id s.past s.binds;
+        nobody = (tt, tt);
+        orderly = (orderly_acts_keep_order x.loose (Act.WasRead id) (λ z n. n), tt);
+        same = reads.same;
+        size = refl;
+        outgoing = what_comes_leaves_its_own (Act.WasRead id) (parts a s.past) x.out tt s.between.outgoing;
+        incoming = fits.0;
+      };
+    }
+
+-- Events of the receiver were such a read, and more that gives nothing.
+settled_read : {x : Surroundings} {a : Shown} (b : Shown) (id : ℕ) (message : Option ReceivedMessage)
+    (coming2 : Direction) → Faces x a
+    → Does nothing_added (read_by (replies.Read message) id) None_brought x.coming coming2
+    → IsSound coming2 → StandsAt (record x { coming = coming2 }) b → OtherStands (record x { coming = coming2 })
+    → IsAt b x.here → coming2.sender ≡ x.coming.sender
+    → Settles x b nothing_added (read_by (replies.Read message) id) None_brought
+settled_read {x} b id message coming2 f does sound stands other at same = record {
+  out2 = x.out;
+  coming2 = coming2;
+  here2 = x.here;
+  does_out = does_by_goes None_brought x.out x.out (goes_nowhere None_brought x.out);
+  does_coming = does;
+  sound_out = f.sound_out;
+  sound_coming = sound;
+  stands = stands;
+  other = other;
+  goes = stays_put x.here;
+  at = at;
+  meets = f.meets;
+  no_more = inr refl;
+  coming_still = same;
+}
+
+module _ {x : Surroundings} {a : Shown} (id : ℕ) (message : Option ReceivedMessage) (f : Faces x a)
+    (h : HasRead x a id message) where
+  -- a direction in which a stream was read is sound
+  sound_read : IsSound (after_one x id)
+  sound_read = sound_after (Event.Read id) tt
+      (each_event_keeps_the_invariant x.coming (Event.Read id) f.within_coming f.sound_coming.invariant) f.sound_coming
+
+  -- the read does no more, or an ABORT waits besides
+  read_stays : (b : Shown) → IsAt b x.here → OpenAt (record x { coming = after_one x id }) b
+      → Settles x b nothing_added (read_by (replies.Read message) id) None_brought
+  read_stays b at stands =
+      settled_read b id message (after_one x id) f h.does sound_read (inl stands)
+      (other_by_receiver x (Event.Read id) tt f.other) at
+      (receivers_events_are_received x.coming (Event.Read id) tt).sender
+
+  -- the read leaves the receive buffer exhausted, and that closes
+  read_closes : (b : Shown) → IsAt b x.here → IsOver b → ((own : ℕ) → IsTruthful own (with_read a id)
+      → IsTruthful own b) → Settles x b nothing_added (read_by (replies.Read message) id) None_brought
+  unfolding happens
+  read_closes b at over truthful =
+      let coming2 = after_one x id in
+      let closes = goes_by_receiver None_brought coming2 Event.Close tt (λ n. n) (λ o n. n) in
+      let stands : ClosedAt (record x { coming = happens coming2 Event.Close }) b = record {
+        closed = over.closed;
+        unestablished = over.unestablished;
+        lost = over.lost;
+        stopped = closed_receivers_are_not_open coming2;
+        nothing_left = over.holds_nothing;
+        truthful = truthful x.own h.stands.truthful;
+      } in
+      settled_read b id message (happens coming2 Event.Close) f
+      (does_on (read_by (replies.Read message) id) x.coming coming2 (happens coming2 Event.Close) h.does closes)
+      (sound_after Event.Close tt (keeps_close coming2 sound_read.invariant) sound_read)
+      (inr (inl stands))
+      (other_by_receiver (record x { coming = coming2 }) Event.Close tt
+      (other_by_receiver x (Event.Read id) tt f.other))
+      at
+      ((receivers_events_are_received coming2 Event.Close tt).sender
+      ∙ (receivers_events_are_received x.coming (Event.Read id) tt).sender)
+
+  -- a server that listens stays as it is, but for the ABORT
+  read_exhausted : (closed : Bool) → is_closed_state (with_read a id).state ≡ closed → IsAt (with_read a id) x.here
+      → Settles x (exhausted (with_read a id)) nothing_added (read_by (replies.Read message) id) None_brought
+  read_exhausted false e at =
+      let c = with_read a id in
+      let closes = exhaustion_closes c in
+      read_closes (exhausted c) (at_exhausted c closes at) (closes.ends e) closes.truthful
+  read_exhausted true e at =
+      let c = with_read a id in
+      let closes = exhaustion_closes c in
+      let stays = closes.stays e in
+      let on = stays.0 h.stands.past h.stands.binds in
+      read_stays (exhausted c) (at_exhausted c closes at)
+      (open_on (record x { coming = after_one x id }) [] h.stands record {
+        past2 = on.0;
+        leads = on.1;
+        nobody = tt;
+        orderly = tt;
+        same = stays.1;
+        size = refl;
+        outgoing = h.stands.between.outgoing;
+        incoming = h.stands.between.incoming;
+      })
+
 read_open : {x : Surroundings} {a b : Shown} (id : ℕ) (message : Option ReceivedMessage) → IsLive a id
     → read_from_stream a id ≡ (b, message) → Faces x a → OpenAt x a
     → Settles x b nothing_added (read_by (replies.Read message) id) None_brought
 read_open {x} {a} {b} id message live e f s =
-    let fits =
-    reads_are_alike (receiving (parts a s.past)) id live.stream x.coming live.there (f.sound_coming.plain.span id)
-    f.within_coming f.sound_coming.invariant s.between.incoming in
-    let coming2 : Direction = happens x.coming (Event.Read id) in
-    let m = read_leads_on a b id message e s.past s.binds in
-    let same : IsSameStatus a b =
-    subst (IsSameStatus a) (ap (λ (z : Shown × Option ReceivedMessage). z.0) e) (reads_keep_the_status a id) in
-    let received = receivers_events_are_received x.coming (Event.Read id) tt in
-    let stands : OpenAt (record x { coming = coming2 }) b = open_on x (Act.WasRead id ∷ []) s record {
-      past2 = m.0;
-      leads = m.1;
-      nobody = (tt, tt);
-      orderly = (λ z n. n, tt);
-      same = same;
-      size = refl;
-      outgoing = what_comes_leaves_its_own (Act.WasRead id) (parts a s.past) x.out tt s.between.outgoing;
-      incoming = fits.0;
-    } in
-    record {
-      out2 = x.out;
-      coming2 = coming2;
-      here2 = x.here;
-      does_out = does_by_goes None_brought x.out x.out (goes_nowhere None_brought x.out);
-      does_coming = read_does x.coming id message
-          (subst (λ (z : Option ReceivedMessage). IsReadAs z (x.coming.reads id) (coming2.reads id))
-          (ap (λ (z : Shown × Option ReceivedMessage). z.1) e) fits.1) fits.2;
-      sound_out = f.sound_out;
-      sound_coming =
-          sound_after (Event.Read id) tt
-          (each_event_keeps_the_invariant x.coming (Event.Read id) f.within_coming f.sound_coming.invariant)
-          f.sound_coming;
-      stands = inl stands;
-      other = other_by_receiver x (Event.Read id) tt f.other;
-      goes = stays_put x.here;
-      at = at_same a b x.here same f.at;
-      meets = f.meets;
-      no_more = inr refl;
-      coming_still = received.sender;
-    }
+    let h = plainly_read id message live e f s in
+    let reads = reads_keep_the_status a id in
+    let at : IsAt (with_read a id) x.here = at_same a (with_read a id) x.here reads.same f.at in
+    let left : (read_from_stream a id).0 ≡ b = ap (λ (z : Shown × Option ReceivedMessage). z.0) e in
+    subst (λ (z : Shown). Settles x z nothing_added (read_by (replies.Read message) id) None_brought) left
+    (⊎_elim
+    (λ (exhausts : read_exhausts a id ≡ true).
+    subst (λ (z : Shown). Settles x z nothing_added (read_by (replies.Read message) id) None_brought)
+    (sym (reads.exhausts exhausts))
+    (read_exhausted id message f h (is_closed_state (with_read a id).state) refl at))
+    (λ (plain : read_exhausts a id ≡ false).
+    subst (λ (z : Shown). Settles x z nothing_added (read_by (replies.Read message) id) None_brought)
+    (sym (reads.plainly plain)) (read_stays id message f h (with_read a id) at h.stands))
+    (cases_Bool (read_exhausts a id)))
 
 -- A closed association reads nothing
+
+-- a read that gives nothing exhausts nothing
+none_exhausts : (a : Shown) (id : ℕ) → (read_in a.streams id).1 ≡ None → read_exhausts a id ≡ false
+none_exhausts a id none =
+    ap (λ (o : Option ReceivedMessage). is_some o && is_exhausted (with_read a id)) none
 
 read_closed : {own : ℕ} {coming : Direction} (a b : Shown) (id : ℕ) (message : Option ReceivedMessage) → IsLive a id
     → read_from_stream a id ≡ (b, message) → StandsClosed own a coming
     → (message ≡ None) × IsSameStatus a b × StandsClosed own b coming
 read_closed a b id message live e s =
     let nothing = what_holds_nothing_gives_nothing a id live s.nothing_left in
+    let reads = reads_keep_the_status a id in
     let left : (read_from_stream a id).0 ≡ b = ap (λ (x : Shown × Option ReceivedMessage). x.0) e in
-    let same : IsSameStatus a b = subst (IsSameStatus a) left (reads_keep_the_status a id) in (
+    let plain = reads.plainly (none_exhausts a id (sym reads.given ∙ nothing.0)) in
+    let same : IsSameStatus a b = subst (IsSameStatus a) (sym plain ∙ left) reads.same in (
       sym (ap (λ (x : Shown × Option ReceivedMessage). x.1) e) ∙ nothing.0,
       same,
       closed_on same (subst HoldsNothing left nothing.1) s,
@@ -177,5 +312,6 @@ reads_settle {x} {a} {b} id (replies.Read message) h f =
     (λ s.
     let c = read_closed a b id message live h.1 s in
     none_read id message c.0 (still f (at_same a b x.here c.1 f.at) (inr (inl c.2))))
-reads_settle id (replies.Refused n) h f = same_settles h.1 f
+reads_settle id (replies.Refused n) (inl refused) f = same_settles refused.1 f
+reads_settle id (replies.Refused n) (inr fails) f = fails_settle fails.1.2.marked f
 reads_settle id r h f = absurd h

@@ -1,5 +1,6 @@
 -- Each simple call of an association that faces another one leads to directions between which both of them stand.
-use Rattle.std.proofs.Common.{◌≡◌, refl, sym, ap, ◌∙◌, subst, ◌⊎◌, ⊎_elim, inl, inr, ℕ, true, false, List, [], ◌∷◌}
+use Rattle.std.proofs.Common.{◌≡◌, refl, sym, ap, ◌∙◌, subst, ◌⊎◌, ⊎_elim, inl, inr, ℕ, Bool, true, false, List, []}
+use Rattle.std.proofs.Common.{◌∷◌}
 use Rattle.std.proofs.Common.{None}
 use Rattle.std.proofs.lemmas.Bool.{true≢false}
 use Rattle.std.specs.List.{AllByRecursion}
@@ -14,7 +15,7 @@ use Rattle.sctp_directions.specs.Acts.{Act, History, IsKeptInOrder, MeetsNobody,
 use Rattle.sctp_directions.specs.Acts.{sending}
 use Rattle.sctp_directions.specs.Events.{Brings, GivesAMessage, IsOfReceiving, IsPlainEvent}
 use Rattle.sctp_directions.proofs.Proved.{acts_keep_the_initial_tsns, closed_receivers_are_not_open}
-use Rattle.sctp_directions.proofs.Proved.{only_settings_loosen, receivers_events_are_received}
+use Rattle.sctp_directions.proofs.Proved.{receivers_events_are_received}
 use Rattle.sctp_assoc.specs.Leads.{Leads, parts}
 use Rattle.sctp_assoc.specs.Calls.{is_established, open_refusal, opened}
 use Rattle.sctp_assoc.specs.Closing.{is_closed_state}
@@ -26,8 +27,8 @@ use Rattle.sctp_pair.specs.declared.step.Reply.{Reply}
 use Rattle.sctp_pair.specs.declared.step.Reply.TheVariants as replies
 use Rattle.sctp_pair.specs.Fits.{IsAt, StandsClosed, StandsFailed}
 use Rattle.sctp_pair.specs.Steps.{Buffers, Finds, Measures, Opens}
-use Rattle.sctp_pair.proofs.BetweenDirections.{ClosedAt, Faces, IsOrderly, None_brought, OpenAt, SettlesQuietly}
-use Rattle.sctp_pair.proofs.BetweenDirections.{StandsAt}
+use Rattle.sctp_pair.proofs.BetweenDirections.{ClosedAt, Faces, KeepsOrder, None_brought, OpenAt, SettlesQuietly}
+use Rattle.sctp_pair.proofs.BetweenDirections.{StandsAt, orderly_acts_keep_order}
 use Rattle.sctp_pair.proofs.BetweenDirections.{Surroundings, does_by_goes, goes_by_receiver, goes_nowhere, moved}
 use Rattle.sctp_pair.proofs.BetweenDirections.{other_by_receiver, sound_after}
 use Rattle.sctp_pair.proofs.HandshakeStages.{at_same, come_on, known_before, stays_put}
@@ -118,25 +119,25 @@ fails_settle {x} failed f =
 
 -- An open association goes on
 
--- Acts that meet nobody and leave each stream's order and reliability lead from a with this past to b, whose status is
--- the same, and to directions that fit what the acts did.
+-- Acts that meet nobody and leave the streams in order that are not loose lead from a with this past to b, whose status
+-- is the same, and to directions that fit what the acts did.
 pub record LeadsOn (x : Surroundings) (a : Shown) (past : History) (acts : List Act) (b : Shown)
     (out2 coming2 : Direction) : Type 0 where
   pub past2 : History
   pub leads : Leads acts a past b past2
   pub nobody : AllByRecursion MeetsNobody acts
-  pub orderly : AllByRecursion IsOrderly acts
+  pub orderly : AllByRecursion (KeepsOrder x.loose) acts
   pub same : IsSameStatus a b
   pub size : out2.sender.plan.size ≡ x.out.sender.plan.size
   pub outgoing : FitsOutgoing (sending (done_all acts (parts a past))) out2
   pub incoming : FitsIncoming (receiving (done_all acts (parts a past))) coming2
 
 -- a stream stays in order whatever such acts do
-order_stays : (acts : List Act) (p : Parts) (s : ℕ) → AllByRecursion IsOrderly acts → IsKeptInOrder p.streams s
-    → IsKeptInOrder (done_all acts p).streams s
-order_stays [] p s orderly h = h
-order_stays (act ∷ acts) p s (this, others) h =
-    order_stays acts (done act p) s others (only_settings_loosen act p s (this s) h)
+order_stays : (loose : ℕ → Bool) (acts : List Act) (p : Parts) (s : ℕ) → loose s ≡ false
+    → AllByRecursion (KeepsOrder loose) acts → IsKeptInOrder p.streams s → IsKeptInOrder (done_all acts p).streams s
+order_stays loose [] p s tight orderly h = h
+order_stays loose (act ∷ acts) p s tight (this, others) h =
+    order_stays loose acts (done act p) s tight others (this p s tight h)
 
 -- An open association whose status stays stands open where acts lead, between directions that fit what they did.
 pub open_on : (x : Surroundings) (acts : List Act) {a b : Shown} {out2 coming2 : Direction} (s : OpenAt x a)
@@ -161,8 +162,8 @@ open_on x acts {a} {b} {out2} {coming2} s m =
         incoming = subst (λ (p : Parts). FitsIncoming (receiving p) coming2) (sym there) m.incoming;
       };
       in_order =
-          λ t. subst (λ (p : Parts). IsKeptInOrder p.streams t) (sym there)
-          (order_stays acts (parts a s.past) t m.orderly (s.in_order t));
+          λ t tight. subst (λ (p : Parts). IsKeptInOrder p.streams t) (sym there)
+          (order_stays x.loose acts (parts a s.past) t tight m.orderly (s.in_order t tight));
     }
 
 -- A closed association stays closed
@@ -204,7 +205,7 @@ module _ (x : Surroundings) (a : Shown) (id : ℕ) (kind : PayloadProtocolIdenti
         past2 = m.0;
         leads = m.1;
         nobody = (tt, tt);
-        orderly = (λ t n. n, tt);
+        orderly = (orderly_acts_keep_order x.loose (Act.Opened id first kind) (λ t n. n), tt);
         same = same;
         size = refl;
         outgoing =

@@ -1,12 +1,16 @@
 -- Each step of a pair leads safely.
-use Rattle.std.proofs.Common.{◌≡◌, refl, sym, ap, ◌∙◌, subst, ℕ, List, [], Option, Some, None}
-use Rattle.std.specs.Prelude.{slice_get}
+use Rattle.std.proofs.Common.{◌≡◌, refl, sym, ap, ◌∙◌, subst, ℕ, List, [], Option, Some, None, Bool, true, false, ◌⊎◌}
+use Rattle.std.proofs.Common.{inl, inr, ⊎_elim, eqb, eq-eqb, ◌&&◌}
+use Rattle.std.specs.Prelude.{slice_get, ◌||◌}
+use Rattle.sctp_wire_types.specs.declared.reliability.ReliabilityType.{ReliabilityType}
+use Rattle.sctp_wire_types.specs.declared.reliability.ReliabilityType.TheVariants as types
 use Rattle.std.proofs.lemmas.List.{append-nil}
 use Rattle.sctp_receive_queues.specs.Messages as letters
 use Rattle.sctp_model.specs.Messages.{Message}
 use Rattle.sctp_serial.specs.Serial.{tsn}
 use Rattle.sctp_model.proofs.Lists.{all_get}
 use Rattle.sctp_sides.specs.Shapes.{OfEachChunk}
+use Rattle.sctp_assoc.specs.Calls.{first_filled}
 use Rattle.sctp_assoc.specs.Shown.{Shown}
 use Rattle.sctp_pair.specs.declared.step.Reply.{Reply}
 use Rattle.sctp_pair.specs.declared.step.Reply.TheVariants as replies
@@ -16,9 +20,11 @@ use Rattle.sctp_pair.specs.declared.step.Step.{Step}
 use Rattle.sctp_pair.specs.declared.step.Step.TheVariants as steps
 use Rattle.sctp_pair.specs.Ends.{Ends, end_of, packets_of}
 use Rattle.sctp_pair.specs.Steps.{AtSide, Buffers, ComesTo, Delivers, Expires, Finds, Measures, Opens, Reads, SendsAt}
-use Rattle.sctp_pair.specs.Steps.{Accepts, ClosesOne, Lists, Sets, ShowsOrRefuses, Steps, Tells, Writes, packet_in}
+use Rattle.sctp_pair.specs.Steps.{Accepts, ClosesOne, Lists, Sets, ShowsOrRefuses, Steps, Tells, Writes, WritesFirst}
+use Rattle.sctp_pair.specs.Steps.{packet_in}
 use Rattle.sctp_streams.specs.declared.setting.Setting.TheVariants as settings
-use Rattle.sctp_streams.specs.Stream.{is_read_half_open, is_write_half_open}
+use Rattle.sctp_streams.specs.Stream.{is_read_half_open, is_write_half_open, ordered_and_reliable, params_of}
+use Rattle.sctp_pair.specs.World.{is_loose, is_side, loose_after, loose_of}
 use Rattle.sctp_pair.specs.World.{HasData, World, other_side, packet_brought, packet_of_bytes}
 use Rattle.sctp_pair.specs.Fits.{AreSaid, Fits, LeadsSafely}
 use Rattle.sctp_pair.proofs.BetweenDirections.{Faces, None_brought, Settles, SettlesQuietly, Surroundings}
@@ -31,8 +37,9 @@ use Rattle.sctp_pair.proofs.PollCall.{poll_settles}
 use Rattle.sctp_pair.proofs.ReadCall.{read_by, reads_settle}
 use Rattle.sctp_pair.proofs.SimpleCalls.{buffers_same, finds_same, measures_same, opens_settle, same_settles}
 use Rattle.sctp_pair.proofs.StreamCalls.{accepts_settle, closes_settle, lists_same, sets_settle, shows_same}
+use Rattle.sctp_pair.proofs.StreamCalls.{IsCovered, reliability_settles}
 use Rattle.sctp_pair.proofs.TimedCalls.{expires_settle, tells_settle}
-use Rattle.sctp_pair.proofs.WriteCall.{writes_settle, written_by}
+use Rattle.sctp_pair.proofs.WriteCall.{first_writes_settle, writes_settle, written_by}
 
 -- the initial TSN of the DATA that comes to a side
 abbrev initial_to : Side2 → World → ℕ
@@ -62,6 +69,35 @@ brought_here sides.A number now replies.Done w = refl
 brought_here sides.B number now replies.Done w = refl
 brought_here side number now r w = refl
 
+-- what is set is ordered and reliable, or makes the stream loose
+set_or_loose : (unordered : Bool) (kind : ReliabilityType) (value : ℕ)
+    → (params_of unordered kind value ≡ ordered_and_reliable) ⊎ (is_loose unordered kind ≡ true)
+set_or_loose true types.Reliable value = inr refl
+set_or_loose false types.Reliable value = inl refl
+set_or_loose unordered types.Rexmit value = inr refl
+set_or_loose unordered types.Timed value = inr refl
+
+or_true : (c : Bool) → (c || true) ≡ true
+or_true true = refl
+or_true false = refl
+
+own_side : (side : Side2) → is_side side side ≡ true
+own_side sides.A = refl
+own_side sides.B = refl
+
+covered_at : (side : Side2) (w : World) (id : ℕ) (unordered : Bool) (kind : ReliabilityType) (value : ℕ) (r : Reply)
+    → IsCovered (loose_after (steps.SetReliabilityParams side id unordered kind value) r side w) id
+    (params_of unordered kind value) r
+covered_at side w id unordered kind value replies.Done =
+    ⊎_elim
+    (λ (e : params_of unordered kind value ≡ ordered_and_reliable). inl e)
+    (λ (l : is_loose unordered kind ≡ true). inr
+    (ap (λ z. loose_of side w id || (z && (eqb id id && is_loose unordered kind))) (own_side side)
+    ∙ ap (λ z. loose_of side w id || (z && is_loose unordered kind)) (eq-eqb id id refl)
+    ∙ ap (λ z. loose_of side w id || z) l ∙ or_true (loose_of side w id)))
+    (set_or_loose unordered kind value)
+covered_at side w id unordered kind value r = tt
+
 -- From the pair of the world, which fits it, a step with this reply leads to q.
 module _ (q : Ends) (r : Reply) (w : World) (fits : Fits w.ends w) where
   -- A change of one side's association leads safely where it settles and is what the step does.
@@ -73,11 +109,11 @@ module _ (q : Ends) (r : Reply) (w : World) (fits : Fits w.ends w) where
   change_leads sides.A step Changes Added Read settle call (h, e) ends =
       settled_a step r w q [] fits (ap (λ (z : Ends). z.b) e)
       (ap (λ (z : Ends). z.packets_a) e ∙ sym (append-nil w.ends.packets_a)) (ap (λ (z : Ends). z.packets_b) e) ends
-      (settle (around_a w fits) w.ends.a q.a h (faces_a w fits)) tt call
+      (settle (around_a step r w fits) w.ends.a q.a h (faces_a step r w fits)) tt call
   change_leads sides.B step Changes Added Read settle call (h, e) ends =
       settled_b step r w q [] fits (ap (λ (z : Ends). z.a) e)
       (ap (λ (z : Ends). z.packets_b) e ∙ sym (append-nil w.ends.packets_b)) (ap (λ (z : Ends). z.packets_a) e) ends
-      (settle (around_b w fits) w.ends.b q.b h (faces_b w fits)) tt call
+      (settle (around_b step r w fits) w.ends.b q.b h (faces_b step r w fits)) tt call
 
   -- the same of one that neither writes nor reads
   quiet_leads : (side : Side2) (step : Step) (Changes : Shown → Shown → Type 0)
@@ -98,12 +134,14 @@ module _ (q : Ends) (r : Reply) (w : World) (fits : Fits w.ends w) where
   send_leads : (side : Side2) (now : ℕ) → SendsAt side w.ends now r q
       → LeadsSafely (steps.PollTransmit side now) r w q
   send_leads sides.A now (h, e) =
-      let poll = poll_settles q.a now w.ends.packets_a q.packets_a (faces_a w fits) r h in
+      let step : Step = steps.PollTransmit sides.A now in
+      let poll = poll_settles q.a now w.ends.packets_a q.packets_a (faces_a step r w fits) r h in
       settled_a (steps.PollTransmit sides.A now) r w q poll.1 fits (ap (λ (z : Ends). z.b) e) poll.2
       (ap (λ (z : Ends). z.packets_b) e) (h, e) poll.0 poll.3
       (quiet_call (steps.PollTransmit sides.A now) r sides.A w w.initial_b (λ y s. (refl, refl)))
   send_leads sides.B now (h, e) =
-      let poll = poll_settles q.b now w.ends.packets_b q.packets_b (faces_b w fits) r h in
+      let step : Step = steps.PollTransmit sides.B now in
+      let poll = poll_settles q.b now w.ends.packets_b q.packets_b (faces_b step r w fits) r h in
       settled_b (steps.PollTransmit sides.B now) r w q poll.1 fits (ap (λ (z : Ends). z.a) e) poll.2
       (ap (λ (z : Ends). z.packets_a) e) (h, e) poll.0 poll.3
       (quiet_call (steps.PollTransmit sides.B now) r sides.B w w.initial_a (λ y s. (refl, refl)))
@@ -115,7 +153,7 @@ module _ (q : Ends) (r : Reply) (w : World) (fits : Fits w.ends w) where
       settled_a (steps.Deliver sides.A number now) r w q [] fits (ap (λ (z : Ends). z.b) e)
       (ap (λ (z : Ends). z.packets_a) e ∙ sym (append-nil w.ends.packets_a)) (ap (λ (z : Ends). z.packets_b) e) (h, e)
       (delivered now w.ends.packets_b number (slice_get w.ends.packets_b number) r refl h fits.stand.said_b
-      (faces_a w fits)) tt
+      (faces_a (steps.Deliver sides.A number now) r w fits)) tt
       record {
         adds = λ s. refl;
         reads = λ s. refl;
@@ -127,7 +165,7 @@ module _ (q : Ends) (r : Reply) (w : World) (fits : Fits w.ends w) where
       settled_b (steps.Deliver sides.B number now) r w q [] fits (ap (λ (z : Ends). z.a) e)
       (ap (λ (z : Ends). z.packets_b) e ∙ sym (append-nil w.ends.packets_b)) (ap (λ (z : Ends). z.packets_a) e) (h, e)
       (delivered now w.ends.packets_a number (slice_get w.ends.packets_a number) r refl h fits.stand.said_a
-      (faces_b w fits)) tt
+      (faces_b (steps.Deliver sides.B number now) r w fits)) tt
       record {
         adds = λ s. refl;
         reads = λ s. refl;
@@ -135,6 +173,25 @@ module _ (q : Ends) (r : Reply) (w : World) (fits : Fits w.ends w) where
         adds_alone = λ s. refl;
         reads_alone = λ s. refl;
       }
+
+  -- What sets the order and the reliability of a stream leads safely.
+  set_leads : (side : Side2) (id : ℕ) (unordered : Bool) (kind : ReliabilityType) (value : ℕ)
+      → AtSide side w.ends (λ a b. Sets a id (settings.Reliability (params_of unordered kind value)) r b) q
+      → LeadsSafely (steps.SetReliabilityParams side id unordered kind value) r w q
+  set_leads sides.A id unordered kind value (h, e) =
+      let step : Step = steps.SetReliabilityParams sides.A id unordered kind value in
+      settled_a step r w q [] fits (ap (λ (z : Ends). z.b) e)
+      (ap (λ (z : Ends). z.packets_a) e ∙ sym (append-nil w.ends.packets_a)) (ap (λ (z : Ends). z.packets_b) e) (h, e)
+      (reliability_settles id (params_of unordered kind value) r (covered_at sides.A w id unordered kind value r) h
+      (faces_a step r w fits)) tt
+      (quiet_call step r sides.A w w.initial_b (λ y s. (refl, refl)))
+  set_leads sides.B id unordered kind value (h, e) =
+      let step : Step = steps.SetReliabilityParams sides.B id unordered kind value in
+      settled_b step r w q [] fits (ap (λ (z : Ends). z.a) e)
+      (ap (λ (z : Ends). z.packets_b) e ∙ sym (append-nil w.ends.packets_b)) (ap (λ (z : Ends). z.packets_a) e) (h, e)
+      (reliability_settles id (params_of unordered kind value) r (covered_at sides.B w id unordered kind value r) h
+      (faces_b step r w fits)) tt
+      (quiet_call step r sides.B w w.initial_a (λ y s. (refl, refl)))
 
   -- each step
   step_at : (step : Step) → Steps step w.ends r q → LeadsSafely step r w q
@@ -160,6 +217,12 @@ module _ (q : Ends) (r : Reply) (w : World) (fits : Fits w.ends w) where
       change_leads side (steps.WriteChunk side id bytes) (λ a b. Writes a id None bytes r b)
       (λ a. written_by r a id None bytes) nothing_read (λ x a b c. writes_settle id None bytes r c)
       (write_call (steps.WriteChunk side id bytes) side id None bytes r w (initial_to side w) refl refl) h h
+  step_at (steps.WriteChunks side id chunks) h =
+      change_leads side (steps.WriteChunks side id chunks) (λ a b. WritesFirst a id chunks.items r b)
+      (λ a. written_by r a id None (first_filled chunks.items)) nothing_read
+      (λ x a b c. first_writes_settle id chunks.items r c)
+      (write_call (steps.WriteChunks side id chunks) side id None (first_filled chunks.items) r w (initial_to side w)
+      refl refl) h h
   step_at (steps.Read side id) h =
       change_leads side (steps.Read side id) (λ a b. Reads a id r b) (λ a. nothing_added) (read_by r id)
       (λ x a b c. reads_settle id r c) (read_call (steps.Read side id) side id r w (initial_to side w) refl refl) h h
@@ -169,6 +232,7 @@ module _ (q : Ends) (r : Reply) (w : World) (fits : Fits w.ends w) where
   step_at (steps.Finish side id) h =
       quiet_leads side (steps.Finish side id) (λ a b. Sets a id settings.WriteHalfClosed r b)
       (λ x a b c. sets_settle id settings.WriteHalfClosed r (λ s n. n) c) (λ y s. (refl, refl)) h h
+  step_at (steps.SetReliabilityParams side id unordered kind value) h = set_leads side id unordered kind value h
   step_at (steps.SetDefaultPayloadType side id kind) h =
       quiet_leads side (steps.SetDefaultPayloadType side id kind) (λ a b. Sets a id (settings.DefaultPayloadType kind) r b)
       (λ x a b c. sets_settle id (settings.DefaultPayloadType kind) r (λ s n. n) c) (λ y s. (refl, refl)) h h

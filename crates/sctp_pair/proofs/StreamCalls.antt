@@ -1,13 +1,18 @@
 -- Calls of streams that neither write nor read, and the application's close: each leads to directions between which both
 -- associations stand.
-use Rattle.std.proofs.Common.{◌≡◌, refl, sym, ap, ◌∙◌, subst, ⊎_elim, inl, inr, ℕ, Bool, true, false, [], ◌∷◌, Option, None}
+use Rattle.std.proofs.Common.{◌≡◌, refl, sym, ap, ◌∙◌, subst, ⊎_elim, inl, inr, ℕ, Bool, true, false, [], ◌∷◌, Option}
+use Rattle.std.proofs.Common.{Some, None, ◌⊎◌}
 use Rattle.std.proofs.Common.{if◌then◌else◌}
 use Rattle.std.proofs.lemmas.Bool.{cases_Bool, true≢false}
 use Rattle.sctp_streams.specs.declared.event.AssociationError.TheVariants as reasons
 use Rattle.sctp_streams.specs.declared.setting.Setting.{Setting}
-use Rattle.sctp_streams.specs.Stream.{StreamView}
+use Rattle.sctp_streams.specs.Stream.{StreamView, ordered_and_reliable, with_setting}
 use Rattle.sctp_model.specs.Machine.{Event}
-use Rattle.sctp_directions.specs.Acts.{Act, SetsReliability}
+use Rattle.sctp_directions.specs.Acts.{Act, IsKeptInOrder, SetsReliability}
+use Rattle.sctp_fit.proofs.StreamsChanged.{each_with}
+use Rattle.sctp_streams.specs.declared.halves.ReliabilityParams.{ReliabilityParams}
+use Rattle.sctp_streams.specs.declared.setting.Setting.TheVariants as settings
+use Rattle.sctp_streams.specs.Streams.{StreamMap, change_at, stream_at}
 use Rattle.sctp_directions.proofs.Proved.{closed_receivers_are_not_open, own_acts_leave_what_comes}
 use Rattle.sctp_directions.proofs.Proved.{settings_are_no_events}
 use Rattle.sctp_assoc.specs.Leads.{parts}
@@ -21,7 +26,8 @@ use Rattle.sctp_sides.proofs.Proved.{settings_keep_the_status, the_same_handshak
 use Rattle.sctp_pair.specs.declared.step.Reply.{Reply}
 use Rattle.sctp_pair.specs.declared.step.Reply.TheVariants as replies
 use Rattle.sctp_pair.specs.Steps.{Accepts, ClosesOne, Lists, Sets, ShowsOrRefuses}
-use Rattle.sctp_pair.proofs.BetweenDirections.{ClosedAt, Faces, OpenAt, SettlesQuietly, Surroundings}
+use Rattle.sctp_pair.proofs.BetweenDirections.{KeepsOrder, orderly_acts_keep_order}
+use Rattle.sctp_pair.proofs.BetweenDirections.{Faces, SettlesQuietly, Surroundings}
 use Rattle.sctp_pair.proofs.SimpleCalls.{by_working, closed_on, fails_settle, open_on, same_settles, settles_by_receiver}
 use Rattle.sctp_pair.proofs.SimpleCalls.{still}
 use Rattle.sctp_pair.proofs.TimedCalls.{empty_still}
@@ -43,7 +49,7 @@ shows_same a id answer r b (inr refused) = refused.3
 -- Something is set on a stream
 
 module _ (x : Surroundings) (a : Shown) (id : ℕ) (setting : Setting) (f : Faces x a) where
-  adjusted_settles : ((s : ℕ) → SetsReliability (Act.Adjusted id setting) s → ⊥) → stream_refusal a id ≡ None
+  adjusted_settles : KeepsOrder x.loose (Act.Adjusted id setting) → stream_refusal a id ≡ None
       → SettlesQuietly x (adjusted a id setting)
   adjusted_settles orderly e =
       let live = found_streams_are_live a id e in
@@ -70,9 +76,50 @@ pub sets_settle : {x : Surroundings} {a b : Shown} (id : ℕ) (setting : Setting
     → ((s : ℕ) → SetsReliability (Act.Adjusted id setting) s → ⊥) → Sets a id setting r b → Faces x a
     → SettlesQuietly x b
 sets_settle {x} {a} id setting replies.Done orderly h f =
-    subst (SettlesQuietly x) (sym h.1) (adjusted_settles x a id setting f orderly h.0)
+    subst (SettlesQuietly x) (sym h.1)
+    (adjusted_settles x a id setting f (orderly_acts_keep_order x.loose (Act.Adjusted id setting) orderly) h.0)
 sets_settle id setting (replies.Refused n) orderly h f = same_settles h.1 f
 sets_settle id setting r orderly h f = absurd h
+
+-- Order and reliability are set on a stream
+
+-- where a call with this reply sets a stream so, it sends ordered, reliable messages then, or is loose
+abbrev pub IsCovered : (ℕ → Bool) → ℕ → ReliabilityParams → Reply → Type 0
+IsCovered loose id params replies.Done = (params ≡ ordered_and_reliable) ⊎ (loose id ≡ true)
+IsCovered loose id params r = Unit {0}
+
+-- a stream of this map, if it is the one that is set, sends what is set
+set_in_order : (o : Option StreamView) (m : StreamMap) (id s : ℕ) (params : ReliabilityParams) → stream_at m id ≡ o
+    → (id ≡ s → params ≡ ordered_and_reliable) → IsKeptInOrder m s
+    → IsKeptInOrder (change_at (λ t. with_setting t (settings.Reliability params)) o m id) s
+set_in_order None m id s params e same kept = kept
+set_in_order (Some t) m id s params e same kept =
+    each_with m id t (with_setting t (settings.Reliability params))
+    (λ n o. n ≡ s → (v : StreamView) → o ≡ Some v → v.params ≡ ordered_and_reliable) e
+    (λ n ne is. subst (IsKeptInOrder m) (sym is) kept)
+    (λ is v i. let one : with_setting t (settings.Reliability params) ≡ v = cc in
+    ap (λ z. z.params) (sym one) ∙ same is)
+    s refl
+
+covered_keeps_order : (loose : ℕ → Bool) (id : ℕ) (params : ReliabilityParams)
+    → (params ≡ ordered_and_reliable) ⊎ (loose id ≡ true)
+    → KeepsOrder loose (Act.Adjusted id (settings.Reliability params))
+covered_keeps_order loose id params covered p s tight h =
+    set_in_order (stream_at p.streams id) p.streams id s params refl
+    (λ is. ⊎_elim
+    (λ (e : params ≡ ordered_and_reliable). e)
+    (λ (l : loose id ≡ true). absurd (true≢false (sym l ∙ ap loose is ∙ tight)))
+    covered)
+    h
+
+-- Order and reliability that are set are nothing to the directions.
+pub reliability_settles : {x : Surroundings} {a b : Shown} (id : ℕ) (params : ReliabilityParams) (r : Reply)
+    → IsCovered x.loose id params r → Sets a id (settings.Reliability params) r b → Faces x a → SettlesQuietly x b
+reliability_settles {x} {a} id params replies.Done covered h f =
+    subst (SettlesQuietly x) (sym h.1) (adjusted_settles x a id (settings.Reliability params) f
+    (covered_keeps_order x.loose id params covered) h.0)
+reliability_settles id params (replies.Refused n) covered h f = same_settles h.1 f
+reliability_settles id params r covered h f = absurd h
 
 -- A stream is accepted
 

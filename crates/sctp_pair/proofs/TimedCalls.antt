@@ -1,5 +1,5 @@
 -- An association tells its events and meets its timeouts: either leaves it between the same directions.
-use Rattle.std.proofs.Common.{◌≡◌, refl, sym, subst, ◌⊎◌, inl, inr, ℕ, false, List, [], ◌∷◌, Option}
+use Rattle.std.proofs.Common.{◌≡◌, refl, sym, subst, ◌⊎◌, inl, inr, ℕ, Bool, false, List, [], ◌∷◌, Option}
 use Rattle.std.specs.List.{AllByRecursion}
 use Rattle.sctp_streams.specs.declared.event.Event.{Event}
 use Rattle.sctp_model.specs.Machine.{Direction}
@@ -18,7 +18,8 @@ use Rattle.sctp_sides.proofs.Proved.{told_events_keep_the_status}
 use Rattle.sctp_pair.specs.declared.step.Reply.{Reply}
 use Rattle.sctp_pair.specs.declared.step.Reply.TheVariants as replies
 use Rattle.sctp_pair.specs.Steps.{Expires, Tells}
-use Rattle.sctp_pair.proofs.BetweenDirections.{Faces, IsOrderly, SettlesQuietly, Surroundings}
+use Rattle.sctp_pair.proofs.BetweenDirections.{orderly_acts_keep_order}
+use Rattle.sctp_pair.proofs.BetweenDirections.{Faces, KeepsOrder, SettlesQuietly, Surroundings}
 use Rattle.sctp_pair.proofs.SimpleCalls.{by_working, closed_on, fails_settle, open_on, same_settles, still}
 use Rattle.sctp_pair.proofs.HandshakeStages.{at_same}
 
@@ -72,9 +73,12 @@ timeouts_meet_nobody : (acts : List Act) → (acts ≡ []) ⊎ (acts ≡ Act.Mar
 timeouts_meet_nobody acts (inl none) = subst (AllByRecursion MeetsNobody) (sym none) tt
 timeouts_meet_nobody acts (inr marks) = subst (AllByRecursion MeetsNobody) (sym marks) (tt, tt)
 
-timeouts_are_orderly : (acts : List Act) → (acts ≡ []) ⊎ (acts ≡ Act.Marked ∷ []) → AllByRecursion IsOrderly acts
-timeouts_are_orderly acts (inl none) = subst (AllByRecursion IsOrderly) (sym none) tt
-timeouts_are_orderly acts (inr marks) = subst (AllByRecursion IsOrderly) (sym marks) (λ s n. n, tt)
+timeouts_keep_order : (loose : ℕ → Bool) (acts : List Act) → (acts ≡ []) ⊎ (acts ≡ Act.Marked ∷ [])
+    → AllByRecursion (KeepsOrder loose) acts
+timeouts_keep_order loose acts (inl none) = subst (AllByRecursion (KeepsOrder loose)) (sym none) tt
+timeouts_keep_order loose acts (inr marks) =
+    subst (AllByRecursion (KeepsOrder loose)) (sym marks)
+    (orderly_acts_keep_order loose Act.Marked (λ s n. n), tt)
 
 expired_settles : {x : Surroundings} {a : Shown} (now : ℕ) → a.failed ≡ false → Faces x a
     → SettlesQuietly x (after_timeouts a now)
@@ -89,7 +93,7 @@ expired_settles {x} {a} now working f =
       past2 = m.0;
       leads = m.1;
       nobody = timeouts_meet_nobody acts shape;
-      orderly = timeouts_are_orderly acts shape;
+      orderly = timeouts_keep_order x.loose acts shape;
       same = stays.0;
       size = refl;
       outgoing = timeouts_out acts (parts a s.past) x.out shape s.between.outgoing;

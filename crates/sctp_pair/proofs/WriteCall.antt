@@ -4,7 +4,6 @@ use Rattle.std.proofs.Common.{◌++◌, length, Option, Some, None, is_some}
 use Rattle.std.specs.Prelude.{◌==◌, not, slice_get}
 use Rattle.std.proofs.lemmas.Bool.{true≢false}
 use Rattle.sctp_wire_types.specs.declared.error.Error.{Error}
-use Rattle.sctp_wire_types.specs.Ids.{number_of}
 use Rattle.sctp_wire_types.specs.declared.ids.PayloadProtocolIdentifier.{PayloadProtocolIdentifier}
 use Rattle.sctp_wire_types.specs.declared.ids.PayloadProtocolIdentifier.TheVariants as kinds
 use Rattle.sctp_streams.specs.declared.halves.ReliabilityParams.{ReliabilityParams}
@@ -20,14 +19,15 @@ use Rattle.sctp_directions.proofs.Proved.{only_beginnings_assign, own_acts_leave
 use Rattle.sctp_directions.proofs.Proved.{senders_events_keep_the_invariant, writes_are_accepted}
 use Rattle.sctp_directions.proofs.Proved.{writes_are_accepted_last}
 use Rattle.sctp_assoc.specs.Leads.{parts}
-use Rattle.sctp_assoc.specs.Calls.{written}
+use Rattle.sctp_assoc.specs.Calls.{first_filled, written}
 use Rattle.sctp_assoc.specs.Shown.{Shown}
 use Rattle.sctp_sides.specs.Shapes.{WasWritable}
 use Rattle.sctp_sides.proofs.Proved.{accepted_writes_fit, write_leads_on, writes_keep_the_status}
 use Rattle.sctp_pair.specs.declared.step.Reply.{Reply}
 use Rattle.sctp_pair.specs.declared.step.Reply.TheVariants as replies
-use Rattle.sctp_pair.specs.Steps.{Writes, first_refusal}
-use Rattle.sctp_pair.specs.World.{message_under, messages_on}
+use Rattle.sctp_pair.specs.Steps.{Writes, WritesFirst, first_refusal}
+use Rattle.sctp_pair.specs.World.{IsOrderedAndReliable, messages_on}
+use Rattle.sctp_pair.proofs.BetweenDirections.{orderly_acts_keep_order}
 use Rattle.sctp_pair.proofs.BetweenDirections.{Does, Faces, None_brought, OpenAt, Settles, Surroundings}
 use Rattle.sctp_pair.proofs.BetweenDirections.{does_by_goes, goes_nowhere, nothing_read, other_by_sender}
 use Rattle.sctp_pair.proofs.BetweenDirections.{sound_after}
@@ -50,15 +50,12 @@ params_in_order t kinds.StringEmpty kept = kept
 params_in_order t kinds.BinaryEmpty kept = kept
 params_in_order t kinds.Unknown kept = kept
 
-message_in_order : (t : StreamView) (kind : PayloadProtocolIdentifier) (bytes : List ℕ)
-    → t.params ≡ ordered_and_reliable → message_on t kind bytes ≡ message_under kind bytes
-message_in_order t kind bytes kept =
-    ap (λ (p : ReliabilityParams). record {
-      payload_type = number_of kind;
-      bytes = bytes;
-      ordered = not p.unordered;
-      policy = policy_of p.policy;
-    }) (params_in_order t kind kept)
+pub message_in_order : (t : StreamView) (kind : PayloadProtocolIdentifier) (bytes : List ℕ)
+    → t.params ≡ ordered_and_reliable → IsOrderedAndReliable (message_on t kind bytes)
+message_in_order t kind bytes kept = record {
+  ordered = ap (λ (p : ReliabilityParams). not p.unordered) (params_in_order t kind kept);
+  reliable = ap (λ (p : ReliabilityParams). policy_of p.policy) (params_in_order t kind kept);
+}
 
 -- where a call of a stream isn't refused it isn't for a reason of its own
 pub first_none : (x y : Option Error) → first_refusal x y ≡ None → y ≡ None
@@ -66,18 +63,16 @@ first_none None y e = e
 first_none (Some fault) y e = absurd (true≢false (ap is_some e))
 
 write_does : (a : Shown) (id n : ℕ) (named : Option PayloadProtocolIdentifier) (bytes : List ℕ) (t : StreamView)
-    (w : Direction) → stream_at a.streams id ≡ Some t → t.params ≡ ordered_and_reliable → 0 < length bytes
+    (w : Direction) → stream_at a.streams id ≡ Some t → 0 < length bytes
     → Does (written_by (replies.Wrote n) a id named bytes) nothing_read None_brought w
     (happens w (Event.Write id (message_on t (type_on t named) bytes)))
-write_does a id n named bytes t w there kept some =
+write_does a id n named bytes t w there some =
     let kind : PayloadProtocolIdentifier = type_on t named in
     let sent = senders_events_are_sent w (Event.Write id (message_on t kind bytes)) tt in
     record {
       events = Event.Write id (message_on t kind bytes) ∷ [];
       is = refl;
       accepted = λ s. writes_are_accepted_last w id s t kind bytes some
-          ∙ ap (λ (m : Message). w.sender.plan.accepted s ++ (if id == s then m ∷ [] else []))
-          (message_in_order t kind bytes kept)
           ∙ ap (λ o. w.sender.plan.accepted s ++ (if id == s then messages_on o named bytes else [])) (sym there);
       size = sent.0.size;
       reads = λ s. ap (λ f. f s) sent.0.reads;
@@ -102,7 +97,7 @@ written_settles {x} {a} id n named bytes can f s =
       past2 = m.0;
       leads = m.1;
       nobody = (tt, tt);
-      orderly = (λ z n. n, tt);
+      orderly = (orderly_acts_keep_order x.loose (Act.Wrote id named bytes) (λ z n. n), tt);
       same = writes_keep_the_status a id named bytes;
       size = sent.0.size;
       outgoing =
@@ -115,7 +110,7 @@ written_settles {x} {a} id n named bytes can f s =
       out2 = out2;
       coming2 = x.coming;
       here2 = x.here;
-      does_out = write_does a id n named bytes t x.out there (s.in_order id t there) can.some;
+      does_out = write_does a id n named bytes t x.out there can.some;
       does_coming = does_by_goes None_brought x.coming x.coming (goes_nowhere None_brought x.coming);
       sound_out =
           sound_after e tt (senders_events_keep_the_invariant x.out e tt f.sound_out.invariant) f.sound_out;
@@ -143,3 +138,12 @@ writes_settle {x} {a} id named bytes (replies.Wrote n) h f =
     (λ s. absurd (true≢false (sym can.established ∙ s.unestablished))))
 writes_settle id named bytes (replies.Refused n) h f = same_settles h.1 f
 writes_settle id named bytes r h f = absurd h
+
+-- A write of the first buffer that has bytes.
+pub first_writes_settle : {x : Surroundings} {a b : Shown} (id : ℕ) (buffers : List (List ℕ)) (r : Reply)
+    → WritesFirst a id buffers r b → Faces x a
+    → Settles x b (written_by r a id None (first_filled buffers)) nothing_read None_brought
+first_writes_settle id buffers (replies.Wrote n) h f =
+    writes_settle id None (first_filled buffers) (replies.Wrote n) h f
+first_writes_settle id buffers (replies.Refused n) h f = same_settles h.1 f
+first_writes_settle id buffers r h f = absurd h

@@ -1,6 +1,8 @@
 -- What a caller of a pair can tell of it by its steps and their replies alone: what it wrote and what it read.
 use Rattle.std.specs.Prelude.{◌≡◌, ℕ, ◌+◌, ◌&&◌, ◌==◌, Bool, false, if◌then◌else◌, List, [], ◌∷◌, ◌++◌, Option, Some}
-use Rattle.std.specs.Prelude.{None}
+use Rattle.std.specs.Prelude.{None, ⊤, true, not, slice_get}
+use Rattle.sctp_model.specs.Safe.{AreDistinct}
+use Rattle.sctp_wire_types.specs.declared.ids.PayloadProtocolIdentifier.{PayloadProtocolIdentifier}
 use Rattle.sctp_receive_queues.specs.Messages.{ReceivedMessage, bytes_left}
 use Rattle.sctp_pair.specs.declared.step.Reply.{Reply}
 use Rattle.sctp_pair.specs.declared.step.Reply.TheVariants as replies
@@ -11,7 +13,7 @@ use Rattle.sctp_pair.specs.declared.step.Step.TheVariants as steps
 use Rattle.sctp_pair.specs.Counted.{AreFew, FitsCounted, pieces_of}
 use Rattle.sctp_pair.specs.Ends.{Ends}
 use Rattle.sctp_pair.specs.Steps.{Runs, Writing, reading_of, writing_of}
-use Rattle.sctp_pair.specs.World.{empty_world, is_side, other_side}
+use Rattle.sctp_pair.specs.World.{empty_world, is_side, loosens, message_read, other_side}
 
 -- One step and its reply
 
@@ -70,14 +72,75 @@ accepted_in size x (a ∷ ss) (r ∷ rs) = pieces_of size x a r + accepted_in si
 accepted_in size x [] rs = 0
 accepted_in size x (a ∷ ss) [] = 0
 
+-- A message as the step that wrote it tells it: its payload type where the step names one (or else it is the stream's),
+-- and its bytes.
+pub record WrittenMessage : Type 0 where
+  pub named : Option PayloadProtocolIdentifier
+  pub bytes : List ℕ
+
+abbrev pub message_accepted : Option Writing → Reply → Side2 → ℕ → List WrittenMessage
+message_accepted (Some writing) (replies.Wrote count) x s =
+    if is_side writing.side x && (writing.id == s) then record { named = writing.named; bytes = writing.bytes } ∷ []
+    else []
+message_accepted writing reply x s = []
+
+abbrev pub messages_of : Option ReceivedMessage → List ReceivedMessage
+messages_of None = []
+messages_of (Some message) = message ∷ []
+
+-- what side x wrote on stream s, and what it read there, as whole messages
+abbrev pub messages_written : List Step → List Reply → Side2 → ℕ → List WrittenMessage
+messages_written (a ∷ ss) (r ∷ rs) x s = message_accepted (writing_of a) r x s ++ messages_written ss rs x s
+messages_written [] rs x s = []
+messages_written (a ∷ ss) [] x s = []
+
+abbrev pub messages_read : List Step → List Reply → Side2 → ℕ → List ReceivedMessage
+messages_read (a ∷ ss) (r ∷ rs) x s = messages_of (message_read a r x s) ++ messages_read ss rs x s
+messages_read [] rs x s = []
+messages_read (a ∷ ss) [] x s = []
+
 -- The promise
 
 abbrev pub IsFrontOf : List (List ℕ) → List (List ℕ) → Type 0
 IsFrontOf xs ys = (rest : List (List ℕ)) × (ys ≡ xs ++ rest)
 
--- what either side read on a stream is, message by message and in order, a front of what the other side wrote on it
+-- no step set stream s to send other messages from side x on than ordered, reliable ones
+abbrev pub stays_in_order : List Step → List Reply → Side2 → ℕ → Bool
+stays_in_order (a ∷ ss) (r ∷ rs) x s = not (loosens a r x s) && stays_in_order ss rs x s
+stays_in_order [] rs x s = true
+stays_in_order (a ∷ ss) [] x s = true
+
+-- On a stream that the other side kept in order, what either side read is, message by message and in order, a front of
+-- what the other side wrote on it.
 abbrev pub ReadsAreFronts : List Step → List Reply → Type 0
-ReadsAreFronts ss rs = (x : Side2) (s : ℕ) → IsFrontOf (read_in ss rs (other_side x) s) (written_in ss rs x s)
+ReadsAreFronts ss rs = (x : Side2) (s : ℕ) → stays_in_order ss rs x s ≡ true
+    → IsFrontOf (read_in ss rs (other_side x) s) (written_in ss rs x s)
+
+-- a message is under the payload type that its write names, if that names one
+abbrev pub IsNamed : Option PayloadProtocolIdentifier → PayloadProtocolIdentifier → Type 0
+IsNamed None kind = ⊤
+IsNamed (Some named) kind = kind ≡ named
+
+-- What was read is what was written.
+pub record IsSameMessage (message : ReceivedMessage) (written : WrittenMessage) : Type 0 where
+  pub bytes : bytes_left message ≡ written.bytes
+  pub payload_type : IsNamed written.named message.payload_type
+
+-- each message that was read is the one that was written at its place, one place for each
+abbrev pub AreAt : List ReceivedMessage → List ℕ → List WrittenMessage → Type 0
+AreAt [] [] written = ⊤
+AreAt (message ∷ messages) (place ∷ places) written =
+    ((w : WrittenMessage) × (slice_get written place ≡ Some w) × IsSameMessage message w)
+    × AreAt messages places written
+AreAt [] (place ∷ places) written = ⊥
+AreAt (message ∷ messages) [] written = ⊥
+
+-- On each stream, in order or not, each message that either side read was written by the other side, whole, and is read
+-- at most once.
+abbrev pub ReadsWereWritten : List Step → List Reply → Type 0
+ReadsWereWritten ss rs = (x : Side2) (s : ℕ)
+    → (places : List ℕ) × AreDistinct places
+    × AreAt (messages_read ss rs (other_side x) s) places (messages_written ss rs x s)
 
 -- a side that was handed no packet yet reads nothing
 abbrev pub NothingIsReadBeforeADelivery : List Step → List Reply → Type 0

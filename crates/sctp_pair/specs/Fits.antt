@@ -1,5 +1,5 @@
 -- Which worlds a pair may stand in, and the promise of its steps.
-use Rattle.std.specs.Prelude.{◌≡◌, ℕ, true, false, ◌⊎◌, List, [], ◌∷◌, is_some}
+use Rattle.std.specs.Prelude.{◌≡◌, ℕ, Bool, true, false, ◌⊎◌, List, [], ◌∷◌, is_some}
 use Rattle.std.specs.List.{AllByRecursion}
 use Rattle.sctp_wire_types.specs.declared.chunk.Chunk.{Chunk}
 use Rattle.sctp_model.specs.Machine.{Direction}
@@ -20,8 +20,8 @@ use Rattle.sctp_pair.specs.World.{IsSafeWorld, IsWithinLimits, IsWorldStep, Worl
 
 -- An association that was neither lost nor failed (a server that listens, in state Closed, is one, too) stands between
 -- its own direction and the one that comes to it; own and peer are their initial TSNs. What it knows of the peer's is
--- true.
-pub record StandsOpen (own peer : ℕ) (a : Shown) (out coming : Direction) : Type 0 where
+-- true. The loose streams are those that a step set to send other messages than ordered, reliable ones.
+pub record StandsOpen (loose : ℕ → Bool) (own peer : ℕ) (a : Shown) (out coming : Direction) : Type 0 where
   pub past : History
   pub own_is : past.own ≡ own
   pub peer_is : is_some a.handshake.peer_initial_tsn ≡ true → past.peer ≡ peer
@@ -32,8 +32,8 @@ pub record StandsOpen (own peer : ℕ) (a : Shown) (out coming : Direction) : Ty
   pub truthful : IsTruthful own a
   pub size : out.sender.plan.size ≡ a.sender.max_payload_size
   pub between : FitsBetween (parts a past) out coming
-  -- no step sets the order or the reliability of its streams so far
-  pub in_order : (s : ℕ) → IsKeptInOrder a.streams s
+  -- a stream sends ordered, reliable messages as long as no step sets it otherwise
+  pub in_order : (s : ℕ) → loose s ≡ false → IsKeptInOrder a.streams s
 
 -- A closed one is lost and receives nothing more, the streams that were opened since then are empty, and what waits to
 -- go out is truthful.
@@ -50,8 +50,9 @@ pub record StandsFailed (a : Shown) (coming : Direction) : Type 0 where
   pub failed : a.failed ≡ true
   pub stopped : coming.receiver.is_open ≡ false
 
-abbrev pub Stands : ℕ → ℕ → Shown → Direction → Direction → Type 0
-Stands own peer a out coming = StandsOpen own peer a out coming ⊎ (StandsClosed own a coming ⊎ StandsFailed a coming)
+abbrev pub Stands : (ℕ → Bool) → ℕ → ℕ → Shown → Direction → Direction → Type 0
+Stands loose own peer a out coming =
+    StandsOpen loose own peer a out coming ⊎ (StandsClosed own a coming ⊎ StandsFailed a coming)
 
 -- an association that did not fail is in this stage of its handshake; a failed one may be in any stage
 -- of which its packets say what is so
@@ -85,8 +86,8 @@ pub record StandsIn (p : Ends) (w : World) : Type 0 where
   pub is : p ≡ w.ends
   pub sound_ab : IsSound w.ab
   pub sound_ba : IsSound w.ba
-  pub side_a : Stands w.initial_a w.initial_b w.ends.a w.ab w.ba
-  pub side_b : Stands w.initial_b w.initial_a w.ends.b w.ba w.ab
+  pub side_a : Stands w.loose_a w.initial_a w.initial_b w.ends.a w.ab w.ba
+  pub side_b : Stands w.loose_b w.initial_b w.initial_a w.ends.b w.ba w.ab
   pub stage_a : Stage
   pub stage_b : Stage
   pub at_a : IsAt w.ends.a stage_a

@@ -9,12 +9,12 @@ use Rattle.sctp_wire_types.specs.Errors.{refusal_number}
 use Rattle.sctp_wire.specs.declared.packet.Packet.{Packet}
 use Rattle.sctp_wire.specs.Packets.{packet_at}
 use Rattle.sctp_assoc.specs.Calls.{accepted_stream, adjusted, buffered_of, deadline_of, event_polled}
-use Rattle.sctp_assoc.specs.Calls.{has_begun_closing, read_refusal}
+use Rattle.sctp_assoc.specs.Calls.{first_filled, has_begun_closing, read_exhausts, read_refusal}
 use Rattle.sctp_assoc.specs.Closing.{closed_by, is_closed_state}
 use Rattle.sctp_streams.specs.declared.event.AssociationError.TheVariants as reasons
 use Rattle.sctp_streams.specs.declared.setting.Setting.{Setting}
 use Rattle.sctp_streams.specs.declared.setting.Setting.TheVariants as settings
-use Rattle.sctp_streams.specs.Stream.{StreamView, is_read_half_open, is_write_half_open}
+use Rattle.sctp_streams.specs.Stream.{StreamView, is_read_half_open, is_write_half_open, params_of}
 use Rattle.sctp_streams.specs.Streams.{live_ids, stream_at}
 use Rattle.sctp_assoc.specs.Calls.{open_refusal, opened, read_from_stream, stream_refusal, write_refusal, written}
 use Rattle.sctp_assoc.specs.Chunks.{after_packet}
@@ -76,12 +76,22 @@ Writes a id named bytes (replies.Wrote n) b =
 Writes a id named bytes (replies.Refused n) b = IsNumberOrMemory (refusal_to_write a id (length bytes)) n × (b ≡ a)
 Writes a id named bytes _ b = ⊥
 
+-- The first of these buffers that has bytes is written, under the stream's payload type. Before that, memory for a copy
+-- of the buffers may be refused.
+abbrev pub WritesFirst : Shown → ℕ → List (List ℕ) → Reply → Shown → Type 0
+WritesFirst a id buffers (replies.Wrote n) b = Writes a id None (first_filled buffers) (replies.Wrote n) b
+WritesFirst a id buffers (replies.Refused n) b =
+    (IsNumberOrMemory (refusal_to_write a id (length (first_filled buffers))) n
+    ⊎ (n ≡ refusal_number errors.ErrNoMemory)) × (b ≡ a)
+WritesFirst a id buffers _ b = ⊥
+
 abbrev pub refusal_to_read : Shown → ℕ → Option Error
 refusal_to_read a id = first_refusal (stream_refusal a id) (read_refusal a id)
 
 abbrev pub Reads : Shown → ℕ → Reply → Shown → Type 0
 Reads a id (replies.Read message) b = (refusal_to_read a id ≡ None) × (read_from_stream a id ≡ (b, message))
-Reads a id (replies.Refused n) b = IsNumberOf (refusal_to_read a id) n × (b ≡ a)
+Reads a id (replies.Refused n) b =
+    (IsNumberOf (refusal_to_read a id) n × (b ≡ a)) ⊎ ((read_exhausts a id ≡ true) × Fails a n b)
 Reads a id _ b = ⊥
 
 -- something is set on a live stream
@@ -234,9 +244,12 @@ Steps (steps.Write side id bytes) p r q = AtSide side p (λ a b. Writes a id Non
 Steps (steps.WriteWithPpi side id bytes kind) p r q = AtSide side p (λ a b. Writes a id (Some kind) bytes r b) q
 Steps (steps.WriteSctp side id bytes kind) p r q = AtSide side p (λ a b. Writes a id (Some kind) bytes r b) q
 Steps (steps.WriteChunk side id bytes) p r q = AtSide side p (λ a b. Writes a id None bytes r b) q
+Steps (steps.WriteChunks side id chunks) p r q = AtSide side p (λ a b. WritesFirst a id chunks.items r b) q
 Steps (steps.Read side id) p r q = AtSide side p (λ a b. Reads a id r b) q
 Steps (steps.ReadSctp side id) p r q = AtSide side p (λ a b. Reads a id r b) q
 Steps (steps.Finish side id) p r q = AtSide side p (λ a b. Sets a id settings.WriteHalfClosed r b) q
+Steps (steps.SetReliabilityParams side id unordered kind value) p r q =
+    AtSide side p (λ a b. Sets a id (settings.Reliability (params_of unordered kind value)) r b) q
 Steps (steps.SetDefaultPayloadType side id kind) p r q =
     AtSide side p (λ a b. Sets a id (settings.DefaultPayloadType kind) r b) q
 Steps (steps.SetBufferedAmountLowThreshold side id bytes) p r q =
@@ -287,6 +300,8 @@ writing_of (steps.WriteWithPpi side id bytes kind) =
 writing_of (steps.WriteSctp side id bytes kind) =
     Some (record { side = side; id = id; named = Some kind; bytes = bytes })
 writing_of (steps.WriteChunk side id bytes) = Some (record { side = side; id = id; named = None; bytes = bytes })
+writing_of (steps.WriteChunks side id chunks) =
+    Some (record { side = side; id = id; named = None; bytes = first_filled chunks.items })
 writing_of step = None
 
 -- the side and the stream on which a step asks for the next message

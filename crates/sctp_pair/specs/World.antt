@@ -1,5 +1,6 @@
 -- Both directions between two associations that face each other, and all that ever happened in them.
-use Rattle.std.specs.Prelude.{◌≡◌, ◌≤◌, ℕ, Bool, true, false, ◌&&◌, ◌++◌, ◌+◌, ◌==◌, ◌⊎◌, if◌then◌else◌, List, [], ◌∷◌}
+use Rattle.std.specs.Prelude.{◌≡◌, ◌≤◌, ℕ, Bool, true, false, ◌&&◌, ◌||◌, ◌++◌, ◌+◌, ◌==◌, ◌⊎◌, if◌then◌else◌, List, []}
+use Rattle.std.specs.Prelude.{◌∷◌}
 use Rattle.std.specs.Prelude.{map, slice_get, Option, Some, None, Ok}
 use Rattle.sctp_wire_types.specs.declared.chunk.Chunk.TheVariants as chunks
 use Rattle.sctp_wire_types.specs.declared.chunk.ChunkForwardTsn.{ChunkForwardTsn}
@@ -22,7 +23,10 @@ use Rattle.sctp_assoc.specs.Calls.{buffered_of, ready_messages}
 use Rattle.sctp_assoc.specs.Closing.{is_closed_state}
 use Rattle.sctp_assoc.specs.Shown.{Shown}
 use Rattle.sctp_reassembly.specs.Stands.{IsReadAs, letter_received}
-use Rattle.sctp_wire_types.specs.Ids.{number_of}
+use Rattle.sctp_wire_types.specs.declared.reliability.ReliabilityType.{ReliabilityType}
+use Rattle.sctp_wire_types.specs.declared.reliability.ReliabilityType.TheVariants as types
+use Rattle.sctp_fit.specs.Writes.{message_on}
+use Rattle.std.specs.List.{AllByRecursion}
 use Rattle.sctp_directions.specs.Acts.{type_on}
 use Rattle.sctp_pair.specs.declared.step.Reply.{Reply}
 use Rattle.sctp_pair.specs.declared.step.Reply.TheVariants as replies
@@ -34,18 +38,33 @@ use Rattle.sctp_pair.specs.Ends.{Ends, end_of, packets_of}
 use Rattle.sctp_pair.specs.Steps.{Steps, Writing, packet_in, reading_of, writing_of}
 
 -- Both associations with every packet that they gave out, their initial TSNs, and the two directions: what was accepted
--- on each stream and on which offsets it stands, what was given out, what was taken in, and what was read.
+-- on each stream and on which offsets it stands, what was given out, what was taken in, and what was read. A stream is
+-- loose at a side that set it, at some time, to send other messages than ordered, reliable ones.
 pub record World : Type 0 where
   pub ends : Ends
   pub initial_a : ℕ
   pub initial_b : ℕ
   pub ab : Direction
   pub ba : Direction
+  pub loose_a : ℕ → Bool
+  pub loose_b : ℕ → Bool
+
+-- no stream is
+abbrev pub none_loose : ℕ → Bool
+none_loose s = false
 
 -- nothing happened yet
 abbrev pub empty_world : Ends → ℕ → ℕ → ℕ → ℕ → World
 empty_world ends initial_a initial_b size_a size_b =
-    record { ends = ends; initial_a = initial_a; initial_b = initial_b; ab = fresh size_a; ba = fresh size_b }
+    record {
+      ends = ends;
+      initial_a = initial_a;
+      initial_b = initial_b;
+      ab = fresh size_a;
+      ba = fresh size_b;
+      loose_a = none_loose;
+      loose_b = none_loose;
+    }
 
 abbrev pub other_side : Side2 → Side2
 other_side sides.A = sides.B
@@ -57,16 +76,36 @@ is_side sides.A sides.B = false
 is_side sides.B sides.A = false
 is_side sides.B sides.B = true
 
--- a message as a stream of ordered, reliable messages accepts it under a payload type; so far a pair's streams have no
--- others
-abbrev pub message_under : PayloadProtocolIdentifier → List ℕ → model.Message
-message_under kind bytes =
-    record { payload_type = number_of kind; bytes = bytes; ordered = true; policy = model.Policy.Reliable }
+-- other than ordered and reliable
+abbrev pub is_loose : Bool → ReliabilityType → Bool
+is_loose unordered types.Reliable = unordered
+is_loose unordered types.Rexmit = true
+is_loose unordered types.Timed = true
 
--- the same on a live stream, under the payload type that is named, or else the stream's
+-- this step, with its reply, sets stream s to send other messages from side x on than ordered, reliable ones
+abbrev pub loosens : Step → Reply → Side2 → ℕ → Bool
+loosens (steps.SetReliabilityParams side id unordered kind value) replies.Done x s =
+    is_side side x && ((id == s) && is_loose unordered kind)
+loosens step reply x s = false
+
+abbrev pub loose_of : Side2 → World → ℕ → Bool
+loose_of sides.A w = w.loose_a
+loose_of sides.B w = w.loose_b
+
+-- the streams that are loose at side x after the step
+abbrev pub loose_after : Step → Reply → Side2 → World → ℕ → Bool
+loose_after step reply x w s = loose_of x w s || loosens step reply x s
+
+-- an ordered, reliable message
+pub record IsOrderedAndReliable (m : model.Message) : Type 0 where
+  pub ordered : m.ordered ≡ true
+  pub reliable : m.policy ≡ model.Policy.Reliable
+
+-- a message as a live stream accepts it, under the payload type that is named, or else the stream's, and with the
+-- stream's order and reliability of that moment
 abbrev pub messages_on : Option StreamView → Option PayloadProtocolIdentifier → List ℕ → List model.Message
 messages_on None named bytes = []
-messages_on (Some t) named bytes = message_under (type_on t named) bytes ∷ []
+messages_on (Some t) named bytes = message_on t (type_on t named) bytes ∷ []
 
 abbrev pub accepted_of : Option Writing → Reply → Side2 → ℕ → World → List model.Message
 accepted_of (Some x) (replies.Wrote count) side s w =
@@ -133,6 +172,9 @@ pub record IsDirectionStep (step : Step) (reply : Reply) (sender receiver : Side
   pub happened : after ≡ run events before
   pub accepted : (s : ℕ)
       → after.sender.plan.accepted s ≡ before.sender.plan.accepted s ++ accepted_at step reply sender s w
+  -- on a stream that is not loose it is ordered and reliable
+  pub in_order : (s : ℕ) → loose_of sender w s ≡ false
+      → AllByRecursion IsOrderedAndReliable (accepted_at step reply sender s w)
   pub read : (s : ℕ) → IsReadAs (message_read step reply receiver s) (before.reads s) (after.reads s)
   pub taken : (o : ℕ) → mem o after.receiver.taken ≡ true
       → (mem o before.receiver.taken ≡ true) ⊎ HasData (packet_brought step reply receiver w) (tsn initial o)
@@ -161,6 +203,9 @@ pub record IsWorldStep (step : Step) (w : World) (reply : Reply) (v : World) : T
   pub ends_step : Steps step w.ends reply v.ends
   pub same_a : v.initial_a ≡ w.initial_a
   pub same_b : v.initial_b ≡ w.initial_b
+  -- a stream is loose from the step on that sets it so, and by no other step
+  pub loose_a_is : (s : ℕ) → v.loose_a s ≡ loose_after step reply sides.A w s
+  pub loose_b_is : (s : ℕ) → v.loose_b s ≡ loose_after step reply sides.B w s
   pub ab_step : IsDirectionStep step reply sides.A sides.B w v.ends w.initial_a w.ab v.ab
   pub ba_step : IsDirectionStep step reply sides.B sides.A w v.ends w.initial_b w.ba v.ba
 

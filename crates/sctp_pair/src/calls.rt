@@ -6,17 +6,17 @@ ghost use Rattle.sctp_assoc.specs.Inbound.{taken_packet};
 ghost use Rattle.sctp_assoc.specs.Gather.{bytes_within};
 ghost use Rattle.sctp_pair.specs.Steps.{Buffers, Delivers, Expires, Fails, Finds, GivesOut, HadFailed, Opens, Reads};
 ghost use Rattle.sctp_pair.specs.Steps.{Accepts, ClosesOne, Keeps, Lists, Sets, ShowsOrRefuses, TakesIn, TakesPacket};
-ghost use Rattle.sctp_pair.specs.Steps.{Tells, Writes, refusal_to_write};
-ghost use Rattle.sctp_assoc.specs.Calls.{RefusesOrLacksMemory, written};
+ghost use Rattle.sctp_pair.specs.Steps.{Tells, Writes, WritesFirst, refusal_to_write};
+ghost use Rattle.sctp_assoc.specs.Calls.{RefusesOrLacksMemory, first_filled, written};
 ghost use Rattle.sctp_pair.specs.declared.step.Reply.TheVariants as replies;
 ghost use Rattle.sctp_streams.specs.declared.setting.Setting.TheVariants as settings;
-ghost use Rattle.sctp_streams.specs.Stream.{is_read_half_open, is_write_half_open};
+ghost use Rattle.sctp_streams.specs.Stream.{is_read_half_open, is_write_half_open, params_of};
 
 use crate::Reply;
 use bytes::Bytes;
 use sctp_assoc::{
-    Association, AssociationEvent, Error, Instant, Payload, PayloadProtocolIdentifier, StreamId,
-    Transmit,
+    Association, AssociationEvent, Error, Instant, Payload, PayloadProtocolIdentifier,
+    ReliabilityType, StreamId, Transmit,
 };
 use sctp_wire_queues::PartialDecode;
 use std::alloc::AllocError;
@@ -141,6 +141,37 @@ pub(crate) fn write_chunk(association: &mut Association, id: StreamId, bytes: &B
     }
 }
 
+pub(crate) fn write_chunks(
+    association: &mut Association,
+    id: StreamId,
+    chunks: &Vec<Bytes>,
+) -> Reply
+    ensures { WritesFirst association.old id chunks.now.items result association.new }
+{
+    match copied(chunks) {
+        Ok(mut buffers) => write_first(association, id, buffers.as_mut_slice()),
+        Err(_) => Reply::Refused(Error::ErrNoMemory.number()),
+    }
+}
+
+fn copied(chunks: &Vec<Bytes>) -> Result<Vec<Bytes>, AllocError>
+    ensures { IfOk result (λ copy. copy.items ≡ chunks.now.items) }
+{
+    chunks.clone()
+}
+
+fn write_first(association: &mut Association, id: StreamId, buffers: &mut [Bytes]) -> Reply
+    ensures { Writes association.old id None (first_filled buffers.old) result association.new }
+{
+    match association.stream(id) {
+        Ok(mut stream) => match stream.write_chunks(buffers) {
+            Ok(count) => Reply::Wrote(count),
+            Err(error) => Reply::Refused(error.number()),
+        },
+        Err(error) => Reply::Refused(error.number()),
+    }
+}
+
 pub(crate) fn finish(association: &mut Association, id: StreamId) -> Reply
     ensures { Sets association.old id settings.WriteHalfClosed result association.new }
 {
@@ -162,6 +193,25 @@ pub(crate) fn set_default_payload_type(
 {
     match association.stream(id) {
         Ok(mut stream) => match stream.set_default_payload_type(kind) {
+            Ok(()) => Reply::Done,
+            Err(error) => Reply::Refused(error.number()),
+        },
+        Err(error) => Reply::Refused(error.number()),
+    }
+}
+
+pub(crate) fn set_reliability_params(
+    association: &mut Association,
+    id: StreamId,
+    unordered: bool,
+    rel_type: ReliabilityType,
+    rel_val: u32,
+) -> Reply
+    ensures { Sets association.old id (settings.Reliability (params_of unordered rel_type rel_val)) result
+        association.new }
+{
+    match association.stream(id) {
+        Ok(mut stream) => match stream.set_reliability_params(unordered, rel_type, rel_val) {
             Ok(()) => Reply::Done,
             Err(error) => Reply::Refused(error.number()),
         },

@@ -3,6 +3,7 @@ ghost use Rattle.std.specs.Prelude.{◌≡◌, ℕ, length, slice_get, [], ◌�
 ghost use Rattle.std.specs.Option.{option_copied};
 ghost use Rattle.sctp_assoc.specs.Created.{client, create_refusal, join_refusal, joined, server};
 ghost use Rattle.sctp_pair.specs.Callers.{CameBy, ComesOn, HoldsOn, NothingIsReadBeforeADelivery, ReadsAreFronts};
+ghost use Rattle.sctp_pair.specs.Callers.{ReadsWereWritten};
 ghost use Rattle.std.specs.Borrow.{Lends, sem};
 ghost use Rattle.sctp_assoc.specs.contracts.association.Association as association;
 ghost use Rattle.sctp_pair.specs.contracts.pair.Pair.{the_row};
@@ -214,9 +215,11 @@ impl Pair {
     ///
     /// The promise of delivery is said of all steps since the pair was made, these among them (`came`). It holds as
     /// long as the messages that each side accepted in all of them have fewer than 16,384 pieces; a piece is what one
-    /// DATA chunk has room for. On each stream, the messages that one side's reads answered are, in order, a prefix
-    /// of those that the other side's accepted writes gave (`front`). Nothing is read at a side before the first
-    /// delivery to it that is answered `Done` (`undelivered`).
+    /// DATA chunk has room for. On each stream that no `SetReliabilityParams` of the writer's side had send other
+    /// messages than ordered, reliable ones, the messages that one side's reads answered are, in order, a prefix of
+    /// those that the other side's accepted writes gave (`front`). On every stream, each of them is one of those,
+    /// whole, and none comes twice (`written`). Nothing is read at a side before the first delivery to it that is
+    /// answered `Done` (`undelivered`).
     ///
     /// More is said over worlds, which docs/MODEL.md has in words. From each world that the pair fits, the steps lead
     /// from world to world, in each of which the pair stands. As long as each so far is within the limits, it is safe
@@ -232,6 +235,7 @@ impl Pair {
             → RunsCounted steps.now replies.items w n m self.new) }
         ensures came { IfOk result (λ replies. ComesOn steps.now replies.items self.old self.new) }
         ensures front { IfOk result (λ replies. HoldsOn ReadsAreFronts steps.now replies.items self.old) }
+        ensures written { IfOk result (λ replies. HoldsOn ReadsWereWritten steps.now replies.items self.old) }
         ensures undelivered { IfOk result
             (λ replies. HoldsOn NothingIsReadBeforeADelivery steps.now replies.items self.old) }
     {
@@ -240,7 +244,8 @@ impl Pair {
 
     /// Carries out one step and answers what came of it; a refusal is a reply, too.
     ///
-    /// The promise of delivery is that of `run`, for this one step: the clauses `came`, `front` and `undelivered`.
+    /// The promise of delivery is that of `run`, for this one step: the clauses `came`, `front`, `written` and
+    /// `undelivered`.
     ///
     /// From each world that the pair fits, the step leads to a next one, in which the pair stands. Where that is
     /// within the limits, it is safe (`headline`). Where the messages that each side accepted, this step's included,
@@ -253,6 +258,7 @@ impl Pair {
             → LeadsCounted step.now result w n m self.new }
         ensures came { ComesOn (step.now ∷ []) (result ∷ []) self.old self.new }
         ensures front { HoldsOn ReadsAreFronts (step.now ∷ []) (result ∷ []) self.old }
+        ensures written { HoldsOn ReadsWereWritten (step.now ∷ []) (result ∷ []) self.old }
         ensures undelivered { HoldsOn NothingIsReadBeforeADelivery (step.now ∷ []) (result ∷ []) self.old }
     {
         self.carry_out(step)
@@ -299,9 +305,25 @@ impl Pair {
                 ppi,
             } => calls::write_sctp(self.end(*side), *id, bytes, *ppi),
             Step::WriteChunk { side, id, bytes } => calls::write_chunk(self.end(*side), *id, bytes),
+            Step::WriteChunks { side, id, chunks } => {
+                calls::write_chunks(self.end(*side), *id, chunks)
+            }
             Step::Read { side, id } => calls::read(self.end(*side), *id),
             Step::ReadSctp { side, id } => calls::read_sctp(self.end(*side), *id),
             Step::Finish { side, id } => calls::finish(self.end(*side), *id),
+            Step::SetReliabilityParams {
+                side,
+                id,
+                unordered,
+                rel_type,
+                rel_val,
+            } => calls::set_reliability_params(
+                self.end(*side),
+                *id,
+                *unordered,
+                *rel_type,
+                *rel_val,
+            ),
             Step::SetDefaultPayloadType {
                 side,
                 id,

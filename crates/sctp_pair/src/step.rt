@@ -1,6 +1,8 @@
 // What may happen to a pair, and what it replies.
 use bytes::Bytes;
-use sctp_assoc::{Chunks, DataChannelStats, Event, Instant, PayloadProtocolIdentifier, StreamId};
+use sctp_assoc::{
+    Chunks, DataChannelStats, Event, Instant, PayloadProtocolIdentifier, ReliabilityType, StreamId,
+};
 use std::time::Duration;
 
 /// One of the two sides of a pair. `A` and `B` say nothing of client and server; that is `Side`, of an association.
@@ -11,8 +13,8 @@ pub enum Side2 {
 }
 
 /// One call of one side, or the delivery of one packet to it. The calls are those of `Association`; a step of a
-/// stream first asks for the live stream. No step sets the order or the reliability of a stream so far, so the streams of
-/// a pair send ordered, reliable messages.
+/// stream first asks for the live stream. A stream sends ordered, reliable messages until `SetReliabilityParams` has it
+/// send others.
 #[derive(Debug, Drop)]
 pub enum Step {
     /// `Association::open_stream`. Its reply is `Done`.
@@ -60,6 +62,13 @@ pub enum Step {
         id: StreamId,
         bytes: Bytes,
     },
+    /// `Stream::write_chunks` of one message: the first of the buffers that has bytes. The call gets clones of the
+    /// buffers, and the reply is `Refused` also where these find no memory. Its reply is `Wrote`.
+    WriteChunks {
+        side: Side2,
+        id: StreamId,
+        chunks: Vec<Bytes>,
+    },
     /// `Stream::read` of the next message. Its reply is `Read`.
     Read {
         side: Side2,
@@ -74,6 +83,15 @@ pub enum Step {
     Finish {
         side: Side2,
         id: StreamId,
+    },
+    /// `Stream::set_reliability_params`: whether messages that are written from now on are sent unordered, and how long
+    /// each is tried. Its reply is `Done`.
+    SetReliabilityParams {
+        side: Side2,
+        id: StreamId,
+        unordered: bool,
+        rel_type: ReliabilityType,
+        rel_val: u32,
     },
     /// `Stream::set_default_payload_type`. Its reply is `Done`.
     SetDefaultPayloadType {

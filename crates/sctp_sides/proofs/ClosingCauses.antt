@@ -28,7 +28,9 @@ use Rattle.sctp_sides.specs.Laws.{faults_or, is_faulted, is_faulted_packet}
 use Rattle.sctp_assoc.specs.Shown.{Shown}
 use Rattle.sctp_sides.proofs.PacketLaws.{chunks_lead_on}
 use Rattle.sctp_sides.proofs.FaultCauses.{cookie_ack_flow, echo_flow, faults_are_causes, heartbeat_flow, never}
-use Rattle.sctp_sides.proofs.DataIntake.{fault_of}
+use Rattle.sctp_sides.proofs.DataIntake.{exhausts_of, fault_of}
+use Rattle.sctp_sides.proofs.FaultCauses.{cookie_ack_spares, echo_spares, heartbeat_spares, init_ack_spares, init_spares}
+use Rattle.std.proofs.Common.{⊎_elim, inl, inr}
 
 open_state : (s : AssociationState) → s ≢ states.Closed → is_closed_state s ≡ false
 open_state states.Closed n = absurd (n refl)
@@ -99,6 +101,40 @@ unfolding on_chunk
 fault_leaves_state header c a trigger now error f =
     fault_leaves_checked (checked_chunk c) header c a trigger now error f
 
+-- so does an exhausted receive buffer, of which DATA alone tells
+exhaustion_leaves_kind : (header : CommonHeader) (c : Chunk) (a : Shown) (trigger : AckTrigger) (now : ℕ)
+    → exhausts_of (dispatched a header c trigger now).1 ≡ true
+    → (dispatched a header c trigger now).0.state ≡ a.state
+unfolding on_chunk
+exhaustion_leaves_kind header (chunks.Data piece) a trigger now e =
+    (chunks_lead_on header (chunks.Data piece) a trigger now).leaves.state
+exhaustion_leaves_kind header (chunks.SelectiveAck sack) a trigger now e =
+    (chunks_lead_on header (chunks.SelectiveAck sack) a trigger now).leaves.state
+exhaustion_leaves_kind header (chunks.Init x) a trigger now e =
+    absurd (false≢true (sym (init_spares _ a header x trigger refl) ∙ e))
+exhaustion_leaves_kind header (chunks.InitAck x) a trigger now e =
+    absurd (false≢true (sym (init_ack_spares _ _ a header x trigger now refl refl) ∙ e))
+exhaustion_leaves_kind header (chunks.CookieEcho x) a trigger now e =
+    absurd (false≢true (sym (echo_spares _ _ _ a x trigger refl refl refl) ∙ e))
+exhaustion_leaves_kind header chunks.CookieAck a trigger now e =
+    absurd (false≢true (sym (cookie_ack_spares _ a trigger refl) ∙ e))
+exhaustion_leaves_kind header (chunks.Heartbeat x) a trigger now e =
+    absurd (false≢true (sym (heartbeat_spares a x trigger) ∙ e))
+exhaustion_leaves_kind header c a trigger now e = refl
+
+exhaustion_leaves_checked : (r : Result (Unit {0}) Error) (header : CommonHeader) (c : Chunk) (a : Shown)
+    (trigger : AckTrigger) (now : ℕ) → exhausts_of (checked_first r a header c trigger now).1 ≡ true
+    → (checked_first r a header c trigger now).0.state ≡ a.state
+exhaustion_leaves_checked (Err fault) header c a trigger now e = refl
+exhaustion_leaves_checked (Ok done) header c a trigger now e = exhaustion_leaves_kind header c a trigger now e
+
+exhaustion_leaves_state : (header : CommonHeader) (c : Chunk) (a : Shown) (trigger : AckTrigger) (now : ℕ)
+    → exhausts_of (on_chunk a header c trigger now).1 ≡ true
+    → (on_chunk a header c trigger now).0.state ≡ a.state
+unfolding on_chunk
+exhaustion_leaves_state header c a trigger now e =
+    exhaustion_leaves_checked (checked_chunk c) header c a trigger now e
+
 -- One of these chunks is reached while the association is open, and is a cause.
 record CauseAmong (header : CommonHeader) (cs : List Chunk) (a : Shown) (trigger : AckTrigger) (now : ℕ) : Type 0 where
   index : ℕ
@@ -131,7 +167,28 @@ module _ (header : CommonHeader) (c : Chunk) (cs : List Chunk) (a : Shown) (trig
             λ closed. false≢true (sym (ap (λ (s : AssociationState). not (is_closed_state s)) (same ∙ closed)) ∙ n);
         stands = h;
         binds = binds;
-        is_cause = λ k stands. (faults_are_causes a k header c trigger now stands).0 (error, fault);
+        is_cause = λ k stands. (faults_are_causes a k header c trigger now stands).0 (inl (error, fault));
+      }
+
+  exhaustion_here : (b : Shown) (h : History) → Binds a h
+      → on_chunk a header c trigger now ≡ (b, flows.Exhausted) → not (is_closed_state b.state) ≡ true
+      → CauseAmong header (c ∷ cs) a trigger now
+  exhaustion_here b h binds e n =
+      let exhausted : (on_chunk a header c trigger now).1 ≡ flows.Exhausted = ap (λ (x : Shown × Flow). x.1) e in
+      let same : b.state ≡ a.state =
+      sym (ap (λ (x : Shown × Flow). x.0.state) e)
+      ∙ exhaustion_leaves_state header c a trigger now (ap exhausts_of exhausted) in
+      record {
+        index = 0;
+        chunk = c;
+        reached = a;
+        there = refl;
+        reaches = refl;
+        still_open =
+            λ closed. false≢true (sym (ap (λ (s : AssociationState). not (is_closed_state s)) (same ∙ closed)) ∙ n);
+        stands = h;
+        binds = binds;
+        is_cause = λ k stands. (faults_are_causes a k header c trigger now stands).0 (inr exhausted);
       }
 
   cause_on : (b : Shown) (next : AckTrigger) → on_chunk a header c trigger now ≡ (b, flows.Next next)
@@ -154,6 +211,7 @@ module _ (header : CommonHeader) (c : Chunk) (cs : List Chunk) (a : Shown) (trig
       → CauseAmong header cs b next now) → CauseAmong header (c ∷ cs) a trigger now
   cause_step (b, flows.Next next) h k binds e stands f more = cause_on b next e (more b next stands f)
   cause_step (b, flows.Fault error) h k binds e stands f more = cause_here b h error binds e f
+  cause_step (b, flows.Exhausted) h k binds e stands f more = exhaustion_here b h binds e f
 
 module _ (header : CommonHeader) (now : ℕ) where
   cause_among : (cs : List Chunk) (a : Shown) (h : History) (trigger : AckTrigger)
@@ -188,6 +246,13 @@ fault_counts : (x : Shown × Flow) (more : Shown → AckTrigger → Bool) (error
     → is_closed_state x.0.state ≡ false → faults_or x more ≡ true
 fault_counts (b, flows.Next trigger) more error e f = absurd (never None error refl e)
 fault_counts (b, flows.Fault fault) more error e f = rw f refl
+fault_counts (b, flows.Exhausted) more error e f = absurd (never None error refl e)
+
+exhaustion_counts : (x : Shown × Flow) (more : Shown → AckTrigger → Bool) → exhausts_of x.1 ≡ true
+    → is_closed_state x.0.state ≡ false → faults_or x more ≡ true
+exhaustion_counts (b, flows.Next trigger) more e f = absurd (false≢true e)
+exhaustion_counts (b, flows.Fault fault) more e f = absurd (false≢true e)
+exhaustion_counts (b, flows.Exhausted) more e f = rw f refl
 
 abbrev chunk_or : Chunk → Option Chunk → Chunk
 chunk_or other None = other
@@ -204,12 +269,18 @@ module _ (header : CommonHeader) (chunk : Chunk) (reached : Shown) (h : History)
       let is_cause : IsCause a h header c =
       subst (λ (z : Shown). IsCause z h header c) reaches
       (subst (λ (z : Chunk). IsCause reached h header z) here cause) in
-      let fault = (faults_are_causes a h header c trigger now stands).1 is_cause in
-      let left : (on_chunk a header c trigger now).0.state ≡ a.state =
-      fault_leaves_state header c a trigger now fault.0 (ap fault_of fault.1) in
+      let was_open : is_closed_state a.state ≡ false =
+      ap is_closed_state (sym (ap (λ (z : Shown). z.state) reaches)) ∙ open_state reached.state opened in
+      ⊎_elim
+      (λ (fault : (error : Error) × ((on_chunk a header c trigger now).1 ≡ flows.Fault error)).
       fault_counts (on_chunk a header c trigger now) (λ b next. is_faulted header cs b next now) fault.0
       (ap fault_of fault.1)
-      (ap is_closed_state (left ∙ sym (ap (λ (z : Shown). z.state) reaches)) ∙ open_state reached.state opened)
+      (ap is_closed_state (fault_leaves_state header c a trigger now fault.0 (ap fault_of fault.1)) ∙ was_open))
+      (λ (exhausted : (on_chunk a header c trigger now).1 ≡ flows.Exhausted).
+      exhaustion_counts (on_chunk a header c trigger now) (λ b next. is_faulted header cs b next now)
+      (ap exhausts_of exhausted)
+      (ap is_closed_state (exhaustion_leaves_state header c a trigger now (ap exhausts_of exhausted)) ∙ was_open))
+      ((faults_are_causes a h header c trigger now stands).1 is_cause)
   caused (c ∷ cs) (suc index) a trigger there (b, next, e, reaches) =
       ap (λ (x : Shown × Flow). faults_or x (λ d wished. is_faulted header cs d wished now)) e
       ∙ caused cs index b next there reaches

@@ -34,6 +34,7 @@ use Rattle.sctp_outbound.specs.declared.sender.SackOutcome.{SackOutcome}
 use Rattle.sctp_outbound.specs.declared.sender.SackOutcome.TheVariants as outcomes
 use Rattle.sctp_wire_types.specs.declared.chunk.GapAckBlock.{GapAckBlock}
 use Rattle.sctp_outbound.specs.GapAcks.{with_blocks}
+use Rattle.sctp_streams.specs.LowMarks.{fallen, low_event}
 use Rattle.sctp_outbound.specs.Sender.{acknowledged, tsns_up_to, sack_outcome, with_window}
 use Rattle.sctp_assoc.specs.declared.inbound.Flow.{Flow}
 use Rattle.sctp_assoc.specs.declared.inbound.Flow.TheVariants as flows
@@ -49,6 +50,13 @@ use Rattle.sctp_assoc.specs.Chunks.{with_message}
 use Rattle.sctp_sides.specs.Laws.{FaultsAloneClose, IsClosedIf, faults_or, is_faulted, is_faulted_packet, loss_of}
 use Rattle.sctp_sides.specs.Laws.{losses}
 use Rattle.sctp_assoc.specs.Shown.{Shown}
+use Rattle.sctp_assoc.proofs.CallsLeadOn.{asks_keeps}
+use Rattle.sctp_assoc.specs.Calls.{after_read}
+use Rattle.sctp_assoc.specs.Closing.{exhausted, is_exhausted}
+use Rattle.sctp_receive_queues.specs.Messages.{ReceivedMessage}
+use Rattle.sctp_streams.specs.Streams.{read_in}
+use Rattle.sctp_sides.specs.Laws.{ExhaustingReadsAloneClose}
+use Rattle.std.proofs.Common.{subst}
 
 -- What a chunk leaves of an association's end: it isn't closed unless it was, and the mark of a loss and the losses
 -- among the events are the same.
@@ -98,7 +106,8 @@ taking_goes_on None a piece = message_goes_on a piece (pushed_in a.streams piece
 
 asked_goes_on : (a : Shown) (x : Shown × Option Error) (piece : ChunkPayloadData) (trigger : AckTrigger) → GoesOn a x.0
     → GoesOn a (asks_or_faults x piece trigger).0
-asked_goes_on a (b, None) piece trigger m = m
+asked_goes_on a (b, None) piece trigger m =
+    subst (λ (z : Shown). GoesOn a z) (sym (asks_keeps b piece trigger)) m
 asked_goes_on a (b, Some fault) piece trigger m = m
 
 credit_goes_on : (c : Bool) (b : Shown) (piece : ChunkPayloadData) (trigger : AckTrigger)
@@ -108,7 +117,8 @@ unfolding taken_in
 credit_goes_on true b piece trigger e =
     rw e (asked_goes_on b (taken_in b piece) piece trigger
     (taking_goes_on (refusal_in b.streams piece.stream_identifier piece _) b piece))
-credit_goes_on false b piece trigger e = rw e (stays b b refl refl refl)
+credit_goes_on false b piece trigger e =
+    rw e (subst (λ (z : Shown). GoesOn b z) (sym (asks_keeps b piece trigger)) (stays b b refl refl refl))
 
 next_goes_on : (x : Shown × Bool) (piece : ChunkPayloadData) (trigger : AckTrigger)
     → GoesOn x.0 (on_new_data x piece trigger).0
@@ -127,7 +137,8 @@ found_goes_on false false a id e f = rw (e, f) (stays a a refl refl refl)
 data_goes_on : (c : Bool) (b : Shown) (piece : ChunkPayloadData) (trigger : AckTrigger)
     → is_new_to b.receiver piece.tsn ≡ c
     → GoesOn b (on_counted_data b piece trigger).0
-data_goes_on false b piece trigger e = rw e (stays b b refl refl refl)
+data_goes_on false b piece trigger e =
+    rw e (subst (λ (z : Shown). GoesOn b z) (sym (asks_keeps b piece trigger)) (stays b b refl refl refl))
 data_goes_on true b piece trigger e =
     let id = piece.stream_identifier in
     rw e (goes_on_there b (stream_found b id).0 _ (found_goes_on _ _ b id refl refl)
@@ -141,9 +152,22 @@ on_data_goes_on a piece trigger =
 
 -- SACK
 
+-- no low mark that is reached is a loss
+low_marks_tell : (ids : List ℕ) → losses (map low_event ids) ≡ 0
+low_marks_tell [] = refl
+low_marks_tell (id ∷ ids) =
+    sum_by-cons loss_of (low_event id) (map low_event ids) ∙ ap (λ (n : ℕ). 0 + n) (low_marks_tell ids)
+
 acknowledged_goes_on : (a : Shown) (moved : Bool) (now : ℕ) (x : Sender × Estimate × StreamMap)
     → GoesOn a (with_acknowledged a moved now x)
-acknowledged_goes_on a moved now (s, e, m) = stays a _ refl refl refl
+acknowledged_goes_on a moved now (s, e, m) = record {
+  still_open = λ c. c;
+  lost = refl;
+  told =
+      sum_by-append loss_of a.events (map low_event (fallen a.streams m))
+      ∙ ap (λ (n : ℕ). losses a.events + n) (low_marks_tell (fallen a.streams m))
+      ∙ omega arith;
+}
 
 outcome_goes_on : (o : SackOutcome) (b : Shown) (point : ℕ) (blocks : List GapAckBlock) (window : ℕ)
     (trigger : AckTrigger) (now : ℕ)
@@ -312,6 +336,12 @@ stays_open a b s l e = record {
   told = ap losses e ∙ omega arith;
 }
 
+-- an exhausted receive buffer closes as a fault does; the ABORT that it queues changes nothing of that
+exhausted_closes : (a b : Shown) → GoesOn a b → IsClosedIf (not (is_closed_state b.state)) a (exhausted b)
+exhausted_closes a b m =
+    let n = fault_closes (is_closed_state b.state) a b reasons.ReceiveBufferExhausted refl m in
+    record { closed = n.closed; still_open = n.still_open; lost = n.lost; told = n.told }
+
 after_fault : (x : Shown × Flow) (a : Shown) (more : Shown → AckTrigger → Shown) (faulted : Shown → AckTrigger → Bool)
     → GoesOn a x.0
     → ((b : Shown) (trigger : AckTrigger) → IsClosedIf (faulted b trigger) b (more b trigger))
@@ -320,6 +350,7 @@ after_fault (b, flows.Next trigger) a more faulted m on =
     closed_from (faulted b trigger) a b (more b trigger) m (on b trigger)
 after_fault (b, flows.Fault fault) a more faulted m on =
     fault_closes (is_closed_state b.state) a b reasons.AssociationClosed refl m
+after_fault (b, flows.Exhausted) a more faulted m on = exhausted_closes a b m
 
 chunks_close : (header : CommonHeader) (cs : List Chunk) (a : Shown) (trigger : AckTrigger) (now : ℕ)
     → IsClosedIf (is_faulted header cs a trigger now) a (after_chunks header cs a trigger now)
@@ -341,3 +372,19 @@ packet_closes_unless false packet a now = packet_closes packet a now
 
 pub faults_alone_close : FaultsAloneClose
 faults_alone_close a packet now = packet_closes_unless a.lost packet a now
+
+relieved_closes : (e : Bool) (a b : Shown) → GoesOn a b
+    → IsClosedIf (e && not (is_closed_state b.state)) a (if e then exhausted b else b)
+relieved_closes true a b m = exhausted_closes a b m
+relieved_closes false a b m = closed_from false a b b m (stays_open b b refl refl refl)
+
+read_closes_if : (x : StreamMap × Option ReceivedMessage) (a : Shown)
+    → IsClosedIf ((is_some x.1 && is_exhausted (record a { streams = x.0 })) && not (is_closed_state a.state)) a
+    (after_read a x).0
+read_closes_if (streams, None) a = stays_open a _ refl refl refl
+read_closes_if (streams, Some message) a =
+    let b : Shown = record a { streams = streams } in
+    relieved_closes (is_exhausted b) a b (stays a b refl refl refl)
+
+pub exhausting_reads_alone_close : ExhaustingReadsAloneClose
+exhausting_reads_alone_close a id = read_closes_if (read_in a.streams id) a

@@ -38,6 +38,10 @@ use Rattle.sctp_assoc.proofs.DataCame.{from_new_tsn, new_tsn}
 use Rattle.sctp_sides.proofs.ActsOfChunks.{greetings_meet, other_chunks_do_nothing, sacks_acknowledge}
 use Rattle.sctp_sides.proofs.GapsFilled.{came_passed, passed_came}
 use Rattle.sctp_sides.proofs.StreamsChanged.{at_made}
+use Rattle.sctp_assoc.specs.Chunks.{asks, with_message}
+use Rattle.sctp_assoc.specs.Closing.{is_exhausted}
+use Rattle.sctp_inbound.specs.Receiver.{asked}
+use Rattle.sctp_streams.specs.Streams.{pushed_in}
 
 -- A stream that is made holds nothing: as many bytes wait as before.
 
@@ -86,14 +90,14 @@ made_waits m id first free =
 -- The stream of new DATA.
 
 -- there is room for a TSN
-abbrev has_room : Shown → ChunkPayloadData → Bool
+abbrev pub has_room : Shown → ChunkPayloadData → Bool
 has_room a piece = admits a.receiver piece.tsn (bytes_waiting a.streams)
 
 -- its stream was found or made: then it has room and holds what it did
-record Found (a : Shown) (piece : ChunkPayloadData) (x : Shown × Bool) : Type 0 where
-  found : x.1 ≡ (is_some (stream_at a.streams piece.stream_identifier) || generation_left a.streams)
-  room : has_room x.0 piece ≡ has_room a piece
-  refused : x.1 ≡ true → refusal_in x.0.streams piece.stream_identifier piece (receive_limit x.0) ≡ refusal_of a piece
+pub record Found (a : Shown) (piece : ChunkPayloadData) (x : Shown × Bool) : Type 0 where
+  pub found : x.1 ≡ (is_some (stream_at a.streams piece.stream_identifier) || generation_left a.streams)
+  pub room : has_room x.0 piece ≡ has_room a piece
+  pub refused : x.1 ≡ true → refusal_in x.0.streams piece.stream_identifier piece (receive_limit x.0) ≡ refusal_of a piece
 
 found_if : (o : Option StreamView) (left : Bool) (a : Shown) (piece : ChunkPayloadData)
     → stream_at a.streams piece.stream_identifier ≡ o → generation_left a.streams ≡ left
@@ -124,22 +128,40 @@ found_if None true a piece e f =
           ∙ sym (ap (λ (o : Option StreamView). refusal (held_by o) piece (receive_limit a)) e);
     })
 
-stream_is_found : (a : Shown) (piece : ChunkPayloadData)
+pub stream_is_found : (a : Shown) (piece : ChunkPayloadData)
     → Found a piece (stream_found (counted_data a) piece.stream_identifier)
 stream_is_found a piece = found_if _ _ a piece refl refl
 
 -- What DATA is a fault by, and what it is taken in by.
 
-abbrev is_found : Shown → ChunkPayloadData → Bool
+abbrev pub is_found : Shown → ChunkPayloadData → Bool
 is_found a piece = is_some (stream_at a.streams piece.stream_identifier) || generation_left a.streams
 
-abbrev is_new : Shown → ChunkPayloadData → Bool
+abbrev pub is_new : Shown → ChunkPayloadData → Bool
 is_new a piece = is_new_to a.receiver piece.tsn
 
 -- the fault of a flow
 abbrev pub fault_of : Flow → Option Error
 fault_of (flows.Next trigger) = None
 fault_of (flows.Fault error) = Some error
+fault_of flows.Exhausted = None
+
+-- a flow tells of an exhausted receive buffer
+abbrev pub exhausts_of : Flow → Bool
+exhausts_of (flows.Next trigger) = false
+exhausts_of (flows.Fault error) = false
+exhausts_of flows.Exhausted = true
+
+flow_if : (e : Bool) (a : Shown) (t : AckTrigger)
+    → (fault_of (if◌then◌else◌ {A = Shown × Flow} e (a, flows.Exhausted) (a, flows.Next t)).1 ≡ None)
+    × (exhausts_of (if◌then◌else◌ {A = Shown × Flow} e (a, flows.Exhausted) (a, flows.Next t)).1 ≡ e)
+flow_if true a t = (refl, refl)
+flow_if false a t = (refl, refl)
+
+-- DATA that asks is no fault, and tells whether the receive buffer is exhausted
+pub asks_flow : (a : Shown) (piece : ChunkPayloadData) (trigger : AckTrigger)
+    → (fault_of (asks a piece trigger).1 ≡ None) × (exhausts_of (asks a piece trigger).1 ≡ is_exhausted a)
+asks_flow a piece trigger = flow_if (is_exhausted a) a (asked a.receiver trigger piece.immediate_sack)
 
 abbrev decided : Bool → Bool → Option Error → Option Error
 decided found room o = if found then (if room then o else None) else None
@@ -149,7 +171,8 @@ decided_acts found room o piece = if found then (if room then acts_unless_refuse
 
 taking_flow : (o : Option Error) (x : Shown) (piece : ChunkPayloadData) (trigger : AckTrigger)
     → fault_of (asks_or_faults (taken_unless o x piece) piece trigger).1 ≡ o
-taking_flow None x piece trigger = refl
+taking_flow None x piece trigger =
+    (asks_flow (with_message x piece (pushed_in x.streams piece.stream_identifier piece)) piece trigger).0
 taking_flow (Some error) x piece trigger = refl
 
 room_flow : (room : Bool) (x : Shown) (piece : ChunkPayloadData) (trigger : AckTrigger) → has_room x piece ≡ room
@@ -158,7 +181,7 @@ room_flow : (room : Bool) (x : Shown) (piece : ChunkPayloadData) (trigger : AckT
 unfolding taken_in
 room_flow true x piece trigger e =
     rw e (taking_flow (refusal_in x.streams piece.stream_identifier piece (receive_limit x)) x piece trigger)
-room_flow false x piece trigger e = rw e refl
+room_flow false x piece trigger e = rw e (asks_flow x piece trigger).0
 
 found_flow : (a : Shown) (x : Shown × Bool) (piece : ChunkPayloadData) (trigger : AckTrigger) → Found a piece x
     → fault_of (on_new_data x piece trigger).1 ≡ decided (is_found a piece) (has_room a piece) (refusal_of a piece)
@@ -175,7 +198,7 @@ data_flow : (next : Bool) (a : Shown) (piece : ChunkPayloadData) (trigger : AckT
 unfolding on_data
 data_flow true a piece trigger e =
     rw e (found_flow a (stream_found (counted_data a) piece.stream_identifier) piece trigger (stream_is_found a piece))
-data_flow false a piece trigger e = rw e refl
+data_flow false a piece trigger e = rw e (asks_flow (counted_data a) piece trigger).0
 
 found_acts : (a : Shown) (x : Shown × Bool) (piece : ChunkPayloadData) → Found a piece x
     → acts_of_found x piece ≡ decided_acts (is_found a piece) (has_room a piece) (refusal_of a piece) piece
@@ -281,6 +304,7 @@ error_or other (Some error) = error
 pub fault_from : (f : Flow) (error : Error) → fault_of f ≡ Some error → f ≡ flows.Fault error
 fault_from (flows.Next trigger) error e = absurd (false≢true (ap is_some e))
 fault_from (flows.Fault other) error e = ap (λ (o : Option Error). flows.Fault (error_or other o)) e
+fault_from flows.Exhausted error e = absurd (false≢true (ap is_some e))
 
 taken_if : (o : Option StreamView) (left : Bool) (a : Shown) (piece : ChunkPayloadData)
     → stream_at a.streams piece.stream_identifier ≡ o → generation_left a.streams ≡ left

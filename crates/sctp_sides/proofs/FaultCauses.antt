@@ -38,6 +38,9 @@ use Rattle.sctp_assoc.specs.Chunks.{checked_first, dispatched, on_chunk, on_coun
 use Rattle.sctp_assoc.specs.Handshake.{echoed, on_cookie_ack, on_cookie_echo, on_heartbeat, on_init, on_init_ack}
 use Rattle.sctp_assoc.specs.Shown.{Shown}
 use Rattle.sctp_sides.proofs.DataIntake.{data_passed, fault_from, fault_of, may_passes, passes_may, refused_data}
+use Rattle.sctp_sides.proofs.DataIntake.{exhausts_of}
+use Rattle.sctp_sides.proofs.ExhaustedBuffers.{exhausting_data_leaves_nothing, flow_is, nothing_left_exhausts}
+use Rattle.sctp_sides.specs.Causes.{LeavesNothingToRead}
 
 -- States by their tests
 
@@ -92,7 +95,7 @@ data_cause a h piece trigger error binds e =
 
 cause_data : (a : Shown) (h : History) (piece : ChunkPayloadData) (trigger : AckTrigger) → Binds a h
     → FitsNoMessage a h piece → IsFault (on_data a piece trigger)
-cause_data a h piece trigger binds c = (
+cause_data a h piece trigger binds c = inl (
   c.error,
   fault_from (on_data a piece trigger).1 c.error
       (refused_data a piece trigger (may_passes a h piece binds c.may) ∙ c.refused),
@@ -274,7 +277,7 @@ cause_sack a h sack window trigger now binds c =
     let counts = ap is_established c.established in
     let ahead = ap (λ (z : ℕ). tsn_gt z sack.cumulative_tsn_ack) (acked_at a h binds) ∙ c.not_behind in
     ⊎_elim
-    (λ (beyond : IsBeyondTheSent a h sack.cumulative_tsn_ack). (
+    (λ (beyond : IsBeyondTheSent a h sack.cumulative_tsn_ack). inl (
       errors.ErrInflightQueueTsnPop,
       fault_from (on_sack a sack.cumulative_tsn_ack sack.gap_ack_blocks window trigger now).1
           errors.ErrInflightQueueTsnPop
@@ -282,7 +285,7 @@ cause_sack a h sack window trigger now binds c =
           (ltb flown (tsns_up_to a.sender point)) (names_unsent a.sender point blocks) counts ahead
           (sent_if _ (cumulative_tsn_ack_point_of a.sender) h.own h.base flown point refl (acked_at a h binds) beyond)),
     ))
-    (λ (names : NamesNoPiece a h sack). (
+    (λ (names : NamesNoPiece a h sack). inl (
       errors.ErrTsnRequestNotExist,
       fault_from (on_sack a sack.cumulative_tsn_ack sack.gap_ack_blocks window trigger now).1
           errors.ErrTsnRequestNotExist
@@ -366,7 +369,7 @@ cause_init_ack a header init trigger now c =
     let back : comes_back a.handshake header ≡ true =
     and_from (eqb header.destination_port a.handshake.source_port) (eqb header.source_port a.handshake.destination_port)
     (eq-eqb header.destination_port a.handshake.source_port c.destination)
-    (eq-eqb header.source_port a.handshake.destination_port c.source) in (
+    (eq-eqb header.source_port a.handshake.destination_port c.source) in inl (
       errors.ErrInitAckNoCookie,
       fault_from (on_init_ack a header init trigger now).1 errors.ErrInitAckNoCookie
           (init_ack_flow _ _ a header init trigger now refl refl
@@ -397,13 +400,97 @@ pub heartbeat_flow : (a : Shown) (heartbeat : ChunkHeartbeat) (trigger : AckTrig
 unfolding on_heartbeat
 heartbeat_flow a heartbeat trigger = refl
 
+-- Only DATA tells of an exhausted receive buffer.
+
+outcome_spares : (o : SackOutcome) (b : Shown) (point : ℕ) (blocks : List GapAckBlock) (window : ℕ)
+    (trigger : AckTrigger) (now : ℕ)
+    → exhausts_of (on_counted_sack o b point blocks window trigger now).1 ≡ false
+outcome_spares outcomes.Older b point blocks window trigger now = refl
+outcome_spares outcomes.NotInFlight b point blocks window trigger now = refl
+outcome_spares outcomes.NamesTheUnsent b point blocks window trigger now = refl
+outcome_spares outcomes.Taken b point blocks window trigger now = refl
+
+pub sack_spares : (established : Bool) (a : Shown) (point : ℕ) (blocks : List GapAckBlock) (window : ℕ)
+    (trigger : AckTrigger) (now : ℕ) → is_established a.state ≡ established
+    → exhausts_of (on_sack a point blocks window trigger now).1 ≡ false
+unfolding on_sack
+sack_spares true a point blocks window trigger now e =
+    rw e (outcome_spares (sack_outcome a.sender point blocks) _ point blocks window trigger now)
+sack_spares false a point blocks window trigger now e = rw e refl
+
+pub init_spares : (beginning : Bool) (a : Shown) (header : CommonHeader) (init : ChunkInit) (trigger : AckTrigger)
+    → is_beginning a.state ≡ beginning → exhausts_of (on_init a header init trigger).1 ≡ false
+unfolding on_init
+init_spares true a header init trigger e = rw e refl
+init_spares false a header init trigger e = rw e refl
+
+echoed_spares : (o : Option (List ℕ)) (b : Shown) (trigger : AckTrigger) (now : ℕ)
+    → exhausts_of (echoed o b trigger now).1 ≡ false
+echoed_spares None b trigger now = refl
+echoed_spares (Some cookie) b trigger now = refl
+
+pub init_ack_spares : (waits back : Bool) (a : Shown) (header : CommonHeader) (init : ChunkInit)
+    (trigger : AckTrigger) (now : ℕ) → is_cookie_wait a.state ≡ waits → comes_back a.handshake header ≡ back
+    → exhausts_of (on_init_ack a header init trigger now).1 ≡ false
+unfolding on_init_ack
+init_ack_spares true true a header init trigger now e f =
+    rw (e, f) (echoed_spares (first_cookie init.params) _ trigger now)
+init_ack_spares true false a header init trigger now e f = rw (e, f) refl
+init_ack_spares false back a header init trigger now e f = rw e refl
+
+pub echo_spares : (issued beginning established : Bool) (a : Shown) (cookie : List ℕ) (trigger : AckTrigger)
+    → has_issued a.handshake cookie ≡ issued
+    → is_beginning a.state ≡ beginning → is_established a.state ≡ established
+    → exhausts_of (on_cookie_echo a cookie trigger).1 ≡ false
+unfolding on_cookie_echo
+echo_spares false beginning established a cookie trigger e f g = rw e refl
+echo_spares true true established a cookie trigger e f g = rw (e, f) refl
+echo_spares true false true a cookie trigger e f g = rw (e, f, g) refl
+echo_spares true false false a cookie trigger e f g = rw (e, f, g) refl
+
+pub cookie_ack_spares : (echoes : Bool) (a : Shown) (trigger : AckTrigger) → is_cookie_echoed a.state ≡ echoes
+    → exhausts_of (on_cookie_ack a trigger).1 ≡ false
+unfolding on_cookie_ack
+cookie_ack_spares true a trigger e = rw e refl
+cookie_ack_spares false a trigger e = rw e refl
+
+pub heartbeat_spares : (a : Shown) (heartbeat : ChunkHeartbeat) (trigger : AckTrigger)
+    → exhausts_of (on_heartbeat a heartbeat trigger).1 ≡ false
+unfolding on_heartbeat
+heartbeat_spares a heartbeat trigger = refl
+
+-- DATA that does leaves nothing to read
+pub kind_exhausts : (header : CommonHeader) (c : Chunk) (a : Shown) (h : History) (trigger : AckTrigger) (now : ℕ)
+    → Binds a h → exhausts_of (dispatched a header c trigger now).1 ≡ true → IsCauseOfItsKind a h header c
+kind_exhausts header (chunks.Data piece) a h trigger now binds e =
+    inr (exhausting_data_leaves_nothing a h header piece trigger binds e)
+kind_exhausts header (chunks.SelectiveAck sack) a h trigger now binds e =
+    absurd (false≢true (sym (sack_spares _ a sack.cumulative_tsn_ack sack.gap_ack_blocks
+    sack.advertised_receiver_window_credit trigger now refl) ∙ e))
+kind_exhausts header (chunks.Init x) a h trigger now binds e =
+    absurd (false≢true (sym (init_spares _ a header x trigger refl) ∙ e))
+kind_exhausts header (chunks.InitAck x) a h trigger now binds e =
+    absurd (false≢true (sym (init_ack_spares _ _ a header x trigger now refl refl) ∙ e))
+kind_exhausts header (chunks.CookieEcho x) a h trigger now binds e =
+    absurd (false≢true (sym (echo_spares _ _ _ a x trigger refl refl refl) ∙ e))
+kind_exhausts header chunks.CookieAck a h trigger now binds e =
+    absurd (false≢true (sym (cookie_ack_spares _ a trigger refl) ∙ e))
+kind_exhausts header (chunks.Heartbeat x) a h trigger now binds e =
+    absurd (false≢true (sym (heartbeat_spares a x trigger) ∙ e))
+kind_exhausts header c a h trigger now binds e = tt
+
+nothing_to_read_exhausts : (a : Shown) (h : History) (header : CommonHeader) (piece : ChunkPayloadData)
+    (trigger : AckTrigger) → Binds a h → LeavesNothingToRead a h header piece → IsFault (on_data a piece trigger)
+nothing_to_read_exhausts a h header piece trigger binds c =
+    inr (flow_is (on_data a piece trigger).1 (nothing_left_exhausts a h header piece trigger binds c))
+
 -- Any chunk
 
 kind_cause : (header : CommonHeader) (c : Chunk) (a : Shown) (h : History) (trigger : AckTrigger) (now : ℕ)
     (error : Error)
     → Binds a h
     → fault_of (dispatched a header c trigger now).1 ≡ Some error → IsCauseOfItsKind a h header c
-kind_cause header (chunks.Data piece) a h trigger now error binds e = data_cause a h piece trigger error binds e
+kind_cause header (chunks.Data piece) a h trigger now error binds e = inl (data_cause a h piece trigger error binds e)
 kind_cause header (chunks.SelectiveAck sack) a h trigger now error binds e =
     sack_cause a h sack sack.advertised_receiver_window_credit trigger now error binds e
 kind_cause header (chunks.Init x) a h trigger now error binds e =
@@ -421,10 +508,11 @@ kind_cause header c a h trigger now error binds e = tt
 cause_kind : (header : CommonHeader) (c : Chunk) (a : Shown) (h : History) (trigger : AckTrigger) (now : ℕ) → Binds a h
     → IsCauseOfItsKind a h header c
     → IsFault (dispatched a header c trigger now)
-cause_kind header (chunks.Data piece) a h trigger now binds cause = cause_data a h piece trigger binds cause
+cause_kind header (chunks.Data piece) a h trigger now binds cause =
+    ⊎_elim (cause_data a h piece trigger binds) (nothing_to_read_exhausts a h header piece trigger binds) cause
 cause_kind header (chunks.SelectiveAck sack) a h trigger now binds cause =
     cause_sack a h sack sack.advertised_receiver_window_credit trigger now binds cause
-cause_kind header (chunks.Init x) a h trigger now binds cause = (
+cause_kind header (chunks.Init x) a h trigger now binds cause = inl (
   errors.ErrHandleInitState,
   fault_from (on_init a header x trigger).1 errors.ErrHandleInitState
       (init_flow false a header x trigger (handshake_past a.state cause)),
@@ -433,21 +521,23 @@ cause_kind header (chunks.InitAck x) a h trigger now binds cause = cause_init_ac
 cause_kind header (chunks.CookieEcho x) a h trigger now binds cause = absurd cause
 cause_kind header chunks.CookieAck a h trigger now binds cause = absurd cause
 cause_kind header (chunks.Heartbeat x) a h trigger now binds cause = absurd cause
-cause_kind header (chunks.Abort x) a h trigger now binds cause = (errors.ErrAbortChunk, refl)
-cause_kind header (chunks.Error x) a h trigger now binds cause = (errors.ErrAbortChunk, refl)
-cause_kind header c a h trigger now binds cause = (errors.ErrChunkTypeUnhandled, refl)
+cause_kind header (chunks.Abort x) a h trigger now binds cause = inl (errors.ErrAbortChunk, refl)
+cause_kind header (chunks.Error x) a h trigger now binds cause = inl (errors.ErrAbortChunk, refl)
+cause_kind header c a h trigger now binds cause = inl (errors.ErrChunkTypeUnhandled, refl)
 
 fault_cause : (r : Result (Unit {0}) Error) (header : CommonHeader) (c : Chunk) (a : Shown) (h : History)
     (trigger : AckTrigger) (now : ℕ) → checked_chunk c ≡ r → Binds a h
     → IsFault (checked_first r a header c trigger now) → IsCause a h header c
 fault_cause (Err error) header c a h trigger now e binds f = inl (error, e)
-fault_cause (Ok done) header c a h trigger now e binds (error, f) =
+fault_cause (Ok done) header c a h trigger now e binds (inl (error, f)) =
     inr (kind_cause header c a h trigger now error binds (ap fault_of f))
+fault_cause (Ok done) header c a h trigger now e binds (inr f) =
+    inr (kind_exhausts header c a h trigger now binds (ap exhausts_of f))
 
 cause_fault : (r : Result (Unit {0}) Error) (header : CommonHeader) (c : Chunk) (a : Shown) (h : History)
     (trigger : AckTrigger) (now : ℕ) → checked_chunk c ≡ r → Binds a h
     → IsCause a h header c → IsFault (checked_first r a header c trigger now)
-cause_fault (Err error) header c a h trigger now e binds cause = (error, refl)
+cause_fault (Err error) header c a h trigger now e binds cause = inl (error, refl)
 cause_fault (Ok done) header c a h trigger now e binds (inl (error, f)) = absurd (false≢true (ap is_ok (sym f ∙ e)))
 cause_fault (Ok done) header c a h trigger now e binds (inr kind) = cause_kind header c a h trigger now binds kind
 

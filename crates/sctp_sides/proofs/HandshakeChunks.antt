@@ -327,7 +327,7 @@ module _ (own peer : ℕ) (t : Stage) (a : Shown) (truthful : IsTruthful own a) 
   kind_greets (Ok done) header (chunks.SelectiveAck x) trigger now said one = absurd said
   kind_greets (Ok done) header (chunks.Heartbeat x) trigger now said one = absurd said
   kind_greets (Ok done) header (chunks.HeartbeatAck x) trigger now said one = absurd said
-  kind_greets (Ok done) header (chunks.Abort x) trigger now said one = absurd said
+  kind_greets (Ok done) header (chunks.Abort x) trigger now said one = nothing_greeted
   kind_greets (Ok done) header (chunks.Shutdown x) trigger now said one = absurd said
   kind_greets (Ok done) header chunks.ShutdownAck trigger now said one = absurd said
   kind_greets (Ok done) header (chunks.Error x) trigger now said one = absurd said

@@ -5,6 +5,7 @@ mod ClosingCauses
 mod ClosingPackets
 mod DataIntake
 mod DueSacks
+mod ExhaustedBuffers
 mod FaultCauses
 mod GapsFilled
 mod HandshakeChunks

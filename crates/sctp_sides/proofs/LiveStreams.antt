@@ -16,6 +16,7 @@ use Rattle.sctp_sides.specs.Shapes.{OpenedStreamsHoldNothing, OpenedStreamsWereN
 use Rattle.sctp_sides.specs.Shapes.{WhatHoldsNothingGivesNothing}
 use Rattle.sctp_assoc.specs.Shown.{Shown}
 use Rattle.sctp_sides.proofs.StreamsChanged.{at_made, at_with}
+use Rattle.sctp_assoc.specs.Calls.{after_read, read_from_stream}
 
 -- Refusals
 
@@ -121,9 +122,11 @@ what_holds_nothing_gives_nothing a id live all =
     let left : read_in a.streams id ≡ (with_stream a.streams id u, None) =
     ap (λ o. read_at o a.streams id) live.there
     ∙ ap (λ (z : StreamView × Option ReceivedMessage). (with_stream a.streams id z.0, z.1))
-    (empty_read t (all id t live.there)) in (
-      ap (λ (z : StreamMap × Option ReceivedMessage). z.1) left,
-      empty_beside a.streams (read_in a.streams id).0 id u refl
-          (λ n. ap (λ (z : StreamMap × Option ReceivedMessage). stream_at z.0 n) left
+    (empty_read t (all id t live.there)) in
+    let whole : read_from_stream a id ≡ (record a { streams = with_stream a.streams id u }, None) =
+    ap (after_read a) left in (
+      ap (λ (z : Shown × Option ReceivedMessage). z.1) whole,
+      empty_beside a.streams (read_from_stream a id).0.streams id u refl
+          (λ n. ap (λ (z : Shown × Option ReceivedMessage). stream_at z.0.streams n) whole
           ∙ at_with a.streams id n t u live.there) all,
     )

@@ -20,6 +20,9 @@ use Rattle.sctp_sides.proofs.DueSacks.{polls_do_not_close, timers_do_not_close}
 use Rattle.sctp_sides.proofs.ClosingCalls.{accepted_streams_do_not_close, closes_close, writes_do_not_close}
 use Rattle.sctp_sides.proofs.TimersOverChunks.{IsSound}
 use Rattle.sctp_sides.proofs.TimersOverRuns.{Fell, Works, accepted_works, call_sound, fell, fresh_ticks, sound_closed}
+use Rattle.sctp_assoc.specs.Calls.{read_exhausts, read_from_stream}
+use Rattle.sctp_sides.specs.Laws.{read_closes}
+use Rattle.sctp_sides.proofs.ClosingPackets.{exhausting_reads_alone_close}
 
 -- Of these losses that were told, and those that wait, there is one where it was lost.
 record Counts (n : ℕ) (a : Shown) : Type 0 where
@@ -68,7 +71,7 @@ closes_by (Call.Write id named bytes) a = false
 closes_by (Call.Set id setting) a = false
 closes_by Call.AcceptStream a = false
 closes_by Call.Close a = not (is_closed_state a.state)
-closes_by (Call.Read id) a = false
+closes_by (Call.Read id) a = read_closes a id
 closes_by Call.Poll a = false
 closes_by (Call.PollTransmit now) a = false
 closes_by (Call.HandleTimeout now) a = false
@@ -83,6 +86,11 @@ open_is_kept closed false ends e = refl
 open_is_kept true true ends e = absurd (false≢true e)
 open_is_kept false true ends e = absurd (false≢true (ends refl))
 
+read_is_kept : (exhausts closed lost : Bool) → (lost ≡ true → closed ≡ true) → (exhausts && not closed) ≡ true
+    → lost ≡ false
+read_is_kept true closed lost ends e = open_is_kept closed lost ends e
+read_is_kept false closed lost ends e = absurd (false≢true e)
+
 -- an association that was lost is closed
 abbrev EndsClosed : Shown → Type 0
 EndsClosed a = a.lost ≡ true → is_closed_state a.state ≡ true
@@ -96,7 +104,9 @@ carried_tells Call.AcceptStream a ends = open_tells a (accepted_stream a).0 (acc
 carried_tells Call.Close a ends =
     closing_tells (not (is_closed_state a.state)) a (closed_by a reasons.AssociationClosed)
     (closes_close a reasons.AssociationClosed) (open_is_kept (is_closed_state a.state) a.lost ends)
-carried_tells (Call.Read id) a ends = tells_nothing a _ refl refl
+carried_tells (Call.Read id) a ends =
+    closing_tells (read_closes a id) a (read_from_stream a id).0 (exhausting_reads_alone_close a id)
+    (read_is_kept (read_exhausts a id) (is_closed_state a.state) a.lost ends)
 carried_tells Call.Poll a ends = poll_tells a.events a refl
 carried_tells (Call.PollTransmit now) a ends = open_tells a (polled a now).0 (polls_do_not_close a now)
 carried_tells (Call.HandleTimeout now) a ends = open_tells a (after_timeouts a now) (timers_do_not_close a now)

@@ -24,6 +24,12 @@ use Rattle.sctp_assoc.proofs.CallsLeadOn.{chunk_leads, leads_nowhere}
 use Rattle.sctp_sides.proofs.HandshakeChunks.{chunk_greets}
 use Rattle.sctp_sides.proofs.Status.{chunk_leaves, status_by}
 use Rattle.sctp_sides.proofs.HandshakeTruth.{keeps_saying, truthful_silent}
+use Rattle.sctp_assoc.specs.Closing.{exhausted, out_of_resource}
+use Rattle.sctp_assoc.specs.Control.{queued}
+use Rattle.sctp_sides.specs.Meeting.{IsTruthful}
+use Rattle.sctp_sides.specs.Shapes.{Exhausts, ExhaustionCloses}
+use Rattle.sctp_sides.proofs.HandshakeTruth.{truthful_with}
+use Rattle.sctp_inbound.specs.Handshake.{header_of}
 
 pub chunks_lead_on : ChunksLeadOn
 chunks_lead_on header c a trigger now = record {
@@ -45,6 +51,13 @@ packets_end a trigger now = record {
 
 none_some : (t : StreamView) → None ≡ Some t → ⊥
 none_some t e = cc
+
+-- an ABORT that waits says nothing of a handshake
+aborts_truthfully : (own : ℕ) (a : Shown) → IsTruthful own a → IsTruthful own (queued a out_of_resource)
+aborts_truthfully own a t =
+    truthful_with own a (queued a out_of_resource)
+    (record { header = header_of a.handshake; chunk = out_of_resource }) t
+    (keeps_saying a (queued a out_of_resource) refl refl) refl tt refl
 
 closes_if : (c : Bool) (a : Shown) (reason : AssociationError) → is_closed_state a.state ≡ c
     → Closes a (if c then a else closed_open a reason)
@@ -76,6 +89,48 @@ closes_if false a reason e = record {
 pub faults_close : FaultsClose
 faults_close a reason = closes_if (is_closed_state a.state) a reason refl
 
+exhausts_if : (c : Bool) (a : Shown) → is_closed_state a.state ≡ c
+    → Exhausts a (queued (if c then a else closed_open a reasons.ReceiveBufferExhausted) out_of_resource)
+exhausts_if true a e = record {
+  failed = refl;
+  side = refl;
+  handshake = refl;
+  truthful = λ own t. aborts_truthfully own a t;
+  ends = λ f. absurd (true≢false (sym e ∙ f));
+  stays = λ f. (
+    λ h binds. (h, leads_nowhere a (queued a out_of_resource) h binds refl refl),
+    record {
+      failed = refl;
+      state = refl;
+      lost = refl;
+      size = refl;
+      side = refl;
+      handshake = refl;
+      truthful = λ own t. aborts_truthfully own a t;
+    },
+    refl,
+  );
+}
+exhausts_if false a e =
+    let b : Shown = closed_open a reasons.ReceiveBufferExhausted in
+    record {
+      failed = refl;
+      side = refl;
+      handshake = refl;
+      truthful = λ own t. aborts_truthfully own b (truthful_silent own a b t (keeps_saying a b refl refl) refl);
+      ends = λ f. record {
+        closed = refl;
+        unestablished = refl;
+        lost = refl;
+        none_live = λ id. refl;
+        holds_nothing = λ id t there. absurd (none_some t there);
+      };
+      stays = λ f. absurd (true≢false (sym f ∙ e));
+    }
+
+pub exhaustion_closes : ExhaustionCloses
+exhaustion_closes a = exhausts_if (is_closed_state a.state) a refl
+
 not_closed : (s : AssociationState) → is_established s ≡ true → is_closed_state s ≡ false
 not_closed states.Closed e = absurd (false≢true e)
 not_closed states.CookieWait e = refl
@@ -100,10 +155,11 @@ pub no_packet_changes_nothing : NoPacketChangesNothing
 no_packet_changes_nothing a now = nothing_if a.lost a
 
 -- What each chunk of a packet carries on, the packet does: P holds before each chunk, and Q once the packet is over, at
--- its end or where a fault closes.
+-- its end or where a fault or an exhausted receive buffer closes.
 module _ (P Q : Shown → Type 0) (Said : Chunk → Type 0)
     (takes : (header : CommonHeader) (c : Chunk) (a b : Shown) → Said c → TakesChunk header c a b → P a → P b)
-    (ends : (a b : Shown) → EndsPacket a b → P a → Q b) (closes : (a b : Shown) → Closes a b → P a → Q b) where
+    (ends : (a b : Shown) → EndsPacket a b → P a → Q b) (closes : (a b : Shown) → Closes a b → P a → Q b)
+    (exhausts : (a b : Shown) → Exhausts a b → P a → Q b) where
   pub packets_carry : (packet : Packet) (a : Shown) (now : ℕ) → a.lost ≡ false → AllByRecursion Said packet.chunks → P a
       → Q (after_packet a (Some packet) now)
   packets_carry packet a now present said h =
@@ -113,4 +169,5 @@ module _ (P Q : Shown → Type 0) (Said : Chunk → Type 0)
       takes header c b (on_chunk b header c trigger at).0 s (chunks_lead_on header c b trigger at) p)
       (λ b trigger at p. ends b (ended b trigger at) (packets_end b trigger at) p)
       (λ b p. closes b (closed_by b reasons.AssociationClosed) (faults_close b reasons.AssociationClosed) p)
+      (λ b p. exhausts b (exhausted b) (exhaustion_closes b) p)
       packet.common_header packet.chunks a triggers.None now said h)

@@ -1,9 +1,10 @@
 -- The laws of one side, each by its name: what crates that build on this one cite of its proofs.
 pub use Rattle.sctp_assoc.proofs.ActsKeepOffsets.{done_append, given_append}
-pub use Rattle.sctp_sides.proofs.PacketLaws.{chunks_lead_on, established_is_not_closed, faults_close}
+pub use Rattle.sctp_sides.proofs.PacketLaws.{chunks_lead_on, established_is_not_closed, exhaustion_closes, faults_close}
 pub use Rattle.sctp_sides.proofs.PacketLaws.{lost_associations_take_nothing, no_packet_changes_nothing, packets_carry}
 pub use Rattle.sctp_sides.proofs.PacketLaws.{packets_end}
-pub use Rattle.sctp_assoc.proofs.CallsLeadOn.{open_leads_on, poll_leads_on, read_leads_on, timeouts_lead_on}
+pub use Rattle.sctp_assoc.proofs.CallsLeadOn.{open_leads_on, plain_read_leads, poll_leads_on, read_leads_on}
+pub use Rattle.sctp_assoc.proofs.CallsLeadOn.{timeouts_lead_on}
 pub use Rattle.sctp_assoc.proofs.CallsLeadOn.{close_leads_on, accept_leads_on, setting_leads_on, write_leads_on}
 pub use Rattle.sctp_sides.proofs.LiveStreams.{accepted_writes_fit, found_streams_are_live, opened_streams_hold_nothing}
 pub use Rattle.sctp_sides.proofs.LiveStreams.{opened_streams_were_not_live, settings_hold_nothing}

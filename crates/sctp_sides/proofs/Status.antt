@@ -57,6 +57,14 @@ use Rattle.sctp_assoc.specs.Shown.{Shown}
 use Rattle.sctp_assoc.proofs.CallsLeadOn.{asks_same}
 use Rattle.sctp_assoc.proofs.PollsLeadOn.{both_first}
 use Rattle.sctp_sides.proofs.HandshakeTruth.{keeps_saying, truthful_silent, truthful_still, truthful_with}
+use Rattle.sctp_assoc.proofs.CallsLeadOn.{asks_keeps}
+use Rattle.sctp_assoc.proofs.StreamReads.{message_given}
+use Rattle.sctp_assoc.specs.Calls.{after_read}
+use Rattle.sctp_assoc.specs.Closing.{exhausted, is_exhausted}
+use Rattle.sctp_receive_queues.specs.Messages.{ReceivedMessage}
+use Rattle.sctp_streams.specs.Streams.{read_in}
+use Rattle.std.proofs.Common.{subst}
+use Rattle.std.proofs.lemmas.Bool.{true≢false, false≢true}
 
 status_same : (a : Shown) → IsSameStatus a a
 status_same a = record {
@@ -127,7 +135,8 @@ next_data_status false credit a piece trigger e = status_same a
 next_data_status true true a piece trigger e =
     rw (e, asks_same (taken_in a piece) piece trigger)
     (taken_status (refusal_in a.streams piece.stream_identifier piece a.receiver.max_receive_message_size) a piece refl)
-next_data_status true false a piece trigger e = rw e (status_same a)
+next_data_status true false a piece trigger e =
+    rw e (subst (λ (z : Shown). IsSameStatus a z) (sym (asks_keeps a piece trigger)) (status_same a))
 
 found_next_status : (x : Shown × Bool) (a : Shown) (piece : ChunkPayloadData) (trigger : AckTrigger)
     → IsSameStatus a x.0 → IsSameStatus a (on_new_data x piece trigger).0
@@ -142,7 +151,8 @@ counted_data_status true a piece trigger e =
     rw e (found_next_status (stream_found a piece.stream_identifier) a piece trigger
     (found_status (is_some (stream_at a.streams piece.stream_identifier)) (generation_left a.streams) a
     piece.stream_identifier refl refl))
-counted_data_status false a piece trigger e = rw e (status_same a)
+counted_data_status false a piece trigger e =
+    rw e (subst (λ (z : Shown). IsSameStatus a z) (sym (asks_keeps a piece trigger)) (status_same a))
 
 data_status : (a : Shown) (piece : ChunkPayloadData) (trigger : AckTrigger) → IsSameStatus a (on_data a piece trigger).0
 unfolding on_data
@@ -412,8 +422,35 @@ accepted_status_if false a = accepted_status a.to_accept a
 pub accepted_streams_keep_the_status : AcceptedStreamsKeepTheStatus
 accepted_streams_keep_the_status a = accepted_status_if a.failed a
 
+relieved_plainly : (e : Bool) (b : Shown) → e ≡ false → (if e then exhausted b else b) ≡ b
+relieved_plainly true b f = absurd (true≢false f)
+relieved_plainly false b f = refl
+
+relieved_exhausted : (e : Bool) (b : Shown) → e ≡ true → (if e then exhausted b else b) ≡ exhausted b
+relieved_exhausted true b f = refl
+relieved_exhausted false b f = absurd (false≢true f)
+
+read_plainly : (x : StreamMap × Option ReceivedMessage) (a : Shown)
+    → (is_some x.1 && is_exhausted (record a { streams = x.0 })) ≡ false
+    → (after_read a x).0 ≡ record a { streams = x.0 }
+read_plainly (streams, None) a e = refl
+read_plainly (streams, Some message) a e =
+    relieved_plainly (is_exhausted (record a { streams = streams })) (record a { streams = streams }) e
+
+read_exhausting : (x : StreamMap × Option ReceivedMessage) (a : Shown)
+    → (is_some x.1 && is_exhausted (record a { streams = x.0 })) ≡ true
+    → (after_read a x).0 ≡ exhausted (record a { streams = x.0 })
+read_exhausting (streams, None) a e = absurd (false≢true e)
+read_exhausting (streams, Some message) a e =
+    relieved_exhausted (is_exhausted (record a { streams = streams })) (record a { streams = streams }) e
+
 pub reads_keep_the_status : ReadsKeepTheStatus
-reads_keep_the_status a id = status_by a _ refl refl refl refl refl refl refl
+reads_keep_the_status a id = record {
+  same = status_by a (record a { streams = (read_in a.streams id).0 }) refl refl refl refl refl refl refl;
+  plainly = read_plainly (read_in a.streams id) a;
+  exhausts = read_exhausting (read_in a.streams id) a;
+  given = message_given a (read_in a.streams id);
+}
 
 told_beside : (events : List Event) (a : Shown)
     → IsSameStatus a (event_from events a).0 × ((event_from events a).0.streams ≡ a.streams)

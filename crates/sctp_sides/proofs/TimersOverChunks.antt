@@ -51,6 +51,11 @@ use Rattle.sctp_assoc.proofs.CallsLeadOn.{asks_same}
 use Rattle.sctp_sides.proofs.TimersRun.{AtRest, FitsTimers, IsSameTime, Ticks, ack_kept, established_begins_no_more}
 use Rattle.sctp_sides.proofs.TimersRun.{fits_as_many, fits_restarted, none_armed, restarted, restarted_keeps_ack}
 use Rattle.sctp_sides.proofs.TimersRun.{same_time, ticks_by, time_by, time_on}
+use Rattle.sctp_assoc.proofs.CallsLeadOn.{asks_keeps}
+use Rattle.sctp_assoc.specs.Closing.{out_of_resource}
+use Rattle.sctp_assoc.specs.Control.{queued}
+use Rattle.sctp_sides.proofs.TimersRun.{rest_by}
+use Rattle.std.proofs.Common.{subst}
 
 -- DATA leaves all of it
 
@@ -85,7 +90,8 @@ next_data_time false credit a piece trigger e = same_time a
 next_data_time true true a piece trigger e =
     rw (e, asks_same (taken_in a piece) piece trigger)
     (taken_time (refusal_in a.streams piece.stream_identifier piece a.receiver.max_receive_message_size) a piece refl)
-next_data_time true false a piece trigger e = rw e (same_time a)
+next_data_time true false a piece trigger e =
+    rw e (subst (λ (z : Shown). IsSameTime a z) (sym (asks_keeps a piece trigger)) (same_time a))
 
 found_next_time : (x : Shown × Bool) (a : Shown) (piece : ChunkPayloadData) (trigger : AckTrigger) → IsSameTime a x.0
     → IsSameTime a (on_new_data x piece trigger).0
@@ -99,7 +105,8 @@ counted_data_time true a piece trigger e =
     rw e (found_next_time (stream_found a piece.stream_identifier) a piece trigger
     (found_time (is_some (stream_at a.streams piece.stream_identifier)) (generation_left a.streams) a
     piece.stream_identifier refl refl))
-counted_data_time false a piece trigger e = rw e (same_time a)
+counted_data_time false a piece trigger e =
+    rw e (subst (λ (z : Shown). IsSameTime a z) (sym (asks_keeps a piece trigger)) (same_time a))
 
 data_time : (a : Shown) (piece : ChunkPayloadData) (trigger : AckTrigger) → IsSameTime a (on_data a piece trigger).0
 unfolding on_data
@@ -213,6 +220,7 @@ pub record IsFaulty (b : Shown) : Type 0 where
 abbrev pub TicksOn : Shown × Flow → Type 0
 TicksOn (b, flows.Next trigger) = Ticks b
 TicksOn (b, flows.Fault fault) = IsFaulty b
+TicksOn (b, flows.Exhausted) = Ticks b
 
 faulty : (b : Shown) → Ticks b → IsFaulty b
 faulty b h = record { working = h.working; not_lost = h.not_lost; if_closed = λ _. h }
@@ -220,6 +228,7 @@ faulty b h = record { working = h.working; not_lost = h.not_lost; if_closed = λ
 ticks_on : (x : Shown × Flow) → Ticks x.0 → TicksOn x
 ticks_on (b, flows.Next trigger) h = h
 ticks_on (b, flows.Fault fault) h = faulty b h
+ticks_on (b, flows.Exhausted) h = h
 
 waiting_is_open : (s : AssociationState) → is_cookie_wait s ≡ true
     → (is_closed_state s ≡ false) × (is_beginning s ≡ true)
@@ -401,11 +410,19 @@ fault_rests : (closed : Bool) (b : Shown) (reason : AssociationError) → is_clo
 fault_rests true b reason e h = inl (h.if_closed e)
 fault_rests false b reason e h = inr (closed_rests b reason)
 
+pub exhausted_sound : (closed : Bool) (b : Shown) → Ticks b
+    → IsSound (queued (if closed then b else closed_open b reasons.ReceiveBufferExhausted) out_of_resource)
+exhausted_sound true b h = inl (ticks_by b _ (time_by b _ refl refl refl refl refl refl) h)
+exhausted_sound false b h =
+    let c : Shown = closed_open b reasons.ReceiveBufferExhausted in
+    inr (rest_by c _ refl refl refl refl (closed_rests b reasons.ReceiveBufferExhausted))
+
 goes_on_soundly : (x : Shown × Flow) (more : Shown → AckTrigger → Shown) → TicksOn x
     → ((b : Shown) (trigger : AckTrigger) → Ticks b → IsSound (more b trigger)) → IsSound (goes_on x more)
 goes_on_soundly (b, flows.Next trigger) more h k = k b trigger h
 goes_on_soundly (b, flows.Fault fault) more h k = fault_rests (is_closed_state b.state) b reasons.AssociationClosed
     refl h
+goes_on_soundly (b, flows.Exhausted) more h k = exhausted_sound (is_closed_state b.state) b h
 
 ended_ticks : (trigger : AckTrigger) (a : Shown) (now : ℕ) → Ticks a → Ticks (ended a trigger now)
 ended_ticks triggers.None a now h = record { working = h.working; not_lost = h.not_lost; fits = h.fits; acks = h.acks }

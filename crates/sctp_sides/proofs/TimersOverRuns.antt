@@ -34,6 +34,12 @@ use Rattle.sctp_sides.proofs.TimersRun.{time_by, unarmed}
 use Rattle.sctp_sides.proofs.TimersOverChunks.{IsSound, closed_rests, packets_sound}
 use Rattle.sctp_sides.proofs.TimersOverPolls.{polls_tick}
 use Rattle.sctp_sides.proofs.TimersOverTimeouts.{timeouts_tick, unarmed_timeouts_do_nothing}
+use Rattle.sctp_sides.proofs.TimersOverChunks.{exhausted_sound}
+use Rattle.sctp_assoc.specs.Calls.{after_read}
+use Rattle.sctp_assoc.specs.Closing.{exhausted, is_exhausted, out_of_resource}
+use Rattle.sctp_assoc.specs.Control.{queued}
+use Rattle.sctp_receive_queues.specs.Messages.{ReceivedMessage}
+use Rattle.sctp_streams.specs.Streams.{StreamMap, read_in}
 
 -- What is used of a failure.
 pub record Fell (a b : Shown) : Type 0 where
@@ -126,13 +132,41 @@ poll_rests : (queued : List Event) (a : Shown) → AtRest a → AtRest (with_tol
 poll_rests [] a h = rest_by a _ refl refl refl refl h
 poll_rests (e ∷ es) a h = rest_by a _ refl refl refl refl h
 
+-- a read, which may leave the receive buffer exhausted
+relieved_sound : (e : Bool) (b : Shown) → Ticks b → IsSound (if e then exhausted b else b)
+relieved_sound true b h = exhausted_sound (is_closed_state b.state) b h
+relieved_sound false b h = inl h
+
+read_sound : (x : StreamMap × Option ReceivedMessage) (a : Shown) → Ticks a → IsSound (after_read a x).0
+read_sound (streams, None) a h = inl (ticks_by a _ (time_by a _ refl refl refl refl refl refl) h)
+read_sound (streams, Some message) a h =
+    let b : Shown = record a { streams = streams } in
+    relieved_sound (is_exhausted b) b (ticks_by a b (time_by a b refl refl refl refl refl refl) h)
+
+exhausted_rests : (closed : Bool) (b : Shown) → AtRest b
+    → AtRest (queued (if closed then b else closed_open b reasons.ReceiveBufferExhausted) out_of_resource)
+exhausted_rests true b h = rest_by b _ refl refl refl refl h
+exhausted_rests false b h =
+    rest_by (closed_open b reasons.ReceiveBufferExhausted) _ refl refl refl refl
+    (closed_rests b reasons.ReceiveBufferExhausted)
+
+relieved_rests : (e : Bool) (b : Shown) → AtRest b → AtRest (if e then exhausted b else b)
+relieved_rests true b h = exhausted_rests (is_closed_state b.state) b h
+relieved_rests false b h = h
+
+read_rests : (x : StreamMap × Option ReceivedMessage) (a : Shown) → AtRest a → AtRest (after_read a x).0
+read_rests (streams, None) a h = rest_by a _ refl refl refl refl h
+read_rests (streams, Some message) a h =
+    let b : Shown = record a { streams = streams } in
+    relieved_rests (is_exhausted b) b (rest_by a b refl refl refl refl h)
+
 ticks_carried : (call : Call) (a : Shown) → Ticks a → IsSound (carried_out call a).0
 ticks_carried (Call.OpenStream id kind) a h = inl (ticks_by a _ (time_by a _ refl refl refl refl refl refl) h)
 ticks_carried (Call.Write id named bytes) a h = inl (write_ticks (stream_at a.streams id) a id named bytes h)
 ticks_carried (Call.Set id setting) a h = inl (ticks_by a _ (time_by a _ refl refl refl refl refl refl) h)
 ticks_carried Call.AcceptStream a h = inl (accept_ticks a.failed a h)
 ticks_carried Call.Close a h = close_sound (is_closed_state a.state) a reasons.AssociationClosed h
-ticks_carried (Call.Read id) a h = inl (ticks_by a _ (time_by a _ refl refl refl refl refl refl) h)
+ticks_carried (Call.Read id) a h = read_sound (read_in a.streams id) a h
 ticks_carried Call.Poll a h = inl (poll_ticks a.events a h)
 ticks_carried (Call.PollTransmit now) a h = inl (polls_tick a now h)
 ticks_carried (Call.HandleTimeout now) a h = inl (timeouts_tick a now h)
@@ -144,7 +178,7 @@ rest_carried (Call.Write id named bytes) a lost h = write_rests (stream_at a.str
 rest_carried (Call.Set id setting) a lost h = rest_by a _ refl refl refl refl h
 rest_carried Call.AcceptStream a lost h = accept_rests a.failed a h
 rest_carried Call.Close a lost h = close_rests (is_closed_state a.state) a reasons.AssociationClosed h
-rest_carried (Call.Read id) a lost h = rest_by a _ refl refl refl refl h
+rest_carried (Call.Read id) a lost h = read_rests (read_in a.streams id) a h
 rest_carried Call.Poll a lost h = poll_rests a.events a h
 rest_carried (Call.PollTransmit now) a lost h =
     let quiet = polls_outside_established_give_what_waits a now (closed_waits_for_nothing a.state (h.closed lost)).0 in

@@ -21,11 +21,17 @@ use Rattle.sctp_inbound.specs.declared.receiver.AckTrigger.{AckTrigger}
 use Rattle.sctp_inbound.specs.declared.receiver.AckTrigger.TheVariants as triggers
 use Rattle.sctp_assoc.specs.declared.inbound.Flow.{Flow}
 use Rattle.sctp_assoc.specs.declared.inbound.Flow.TheVariants as flows
-use Rattle.sctp_assoc.specs.Leads.{Binds}
-use Rattle.sctp_directions.specs.Acts.{History}
+use Rattle.sctp_streams.specs.Stream.{StreamView, is_read_half_open}
+use Rattle.std.specs.List.{AllByRecursion}
+use Rattle.sctp_streams.specs.Streams.{bytes_waiting, live_streams}
+use Rattle.sctp_receive_queues.specs.Reassembly.{ready}
+use Rattle.sctp_model.specs.Packets.{mem}
+use Rattle.sctp_assoc.specs.Happened.{acts_of_chunk}
+use Rattle.sctp_assoc.specs.Leads.{Binds, parts}
+use Rattle.sctp_directions.specs.Acts.{History, IsNewTsn, Parts, done_all, reach_in}
 use Rattle.sctp_fit.specs.Incoming.{tsn_before}
 use Rattle.sctp_assoc.specs.Chunks.{on_chunk}
-use Rattle.sctp_sides.specs.Intake.{MayTakeIn, refusal_of}
+use Rattle.sctp_sides.specs.Intake.{HasStreamFor, MayTakeIn, refusal_of}
 use Rattle.sctp_sides.specs.Laws.{closes}
 use Rattle.sctp_assoc.specs.Shown.{Shown}
 
@@ -40,6 +46,26 @@ pub record FitsNoMessage (a : Shown) (h : History) (piece : ChunkPayloadData) : 
   pub may : MayTakeIn a h piece
   pub error : Error
   pub refused : refusal_of a piece ≡ Some error
+
+-- its read half is closed, or no message is ready on it
+abbrev pub IsUnreadable : StreamView → Type 0
+IsUnreadable t = is_read_half_open t.halves ≡ true → ready t.reassembly ≡ []
+
+-- Of a receive buffer of this size: as many bytes wait, none of them is past a gap, and no stream whose read half is open
+-- has a message that is ready. Nothing more can come in order, and nothing can be read.
+pub record IsFullForGood (size : ℕ) (p : Parts) : Type 0 where
+  pub full : size ≤ bytes_waiting p.streams
+  pub some : 0 < bytes_waiting p.streams
+  pub no_gap : (offset : ℕ) → mem offset p.history.taken ≡ true → offset < reach_in p.history
+  pub unreadable : AllByRecursion IsUnreadable (live_streams p.streams)
+
+-- DATA, whether or not it is taken in, leaves the receive buffer so. (DATA that its stream refuses is a fault by that,
+-- and DATA for whose stream no generation is left is dropped.)
+pub record LeavesNothingToRead (a : Shown) (h : History) (header : CommonHeader) (piece : ChunkPayloadData)
+    : Type 0 where
+  pub stream : IsNewTsn h piece.tsn → HasStreamFor a piece.stream_identifier
+  pub fits : MayTakeIn a h piece → refusal_of a piece ≡ None
+  pub full : IsFullForGood a.receiver.buffer_size (done_all (acts_of_chunk a header (chunks.Data piece)) (parts a h))
 
 -- A point that is neither the acknowledged one nor the TSN of a piece in flight. The number that the SACK names counts
 -- modulo 2^32, as TSNs do.
@@ -81,7 +107,7 @@ pub record BringsNoCookie (a : Shown) (header : CommonHeader) (init : ChunkInit)
 -- what a chunk of each kind is a fault by; an ABORT or an ERROR always is one, and so is a chunk of a kind that is
 -- not processed
 abbrev pub IsCauseOfItsKind : Shown → History → CommonHeader → Chunk → Type 0
-IsCauseOfItsKind a h header (chunks.Data piece) = FitsNoMessage a h piece
+IsCauseOfItsKind a h header (chunks.Data piece) = FitsNoMessage a h piece ⊎ LeavesNothingToRead a h header piece
 IsCauseOfItsKind a h header (chunks.SelectiveAck sack) = AcknowledgesTheUnsent a h sack
 IsCauseOfItsKind a h header (chunks.Init init) = IsPastTheHandshake a.state
 IsCauseOfItsKind a h header (chunks.InitAck init) = BringsNoCookie a header init
@@ -98,9 +124,9 @@ IsCause a h header chunk = IsMalformed chunk ⊎ IsCauseOfItsKind a h header chu
 
 -- Chunks
 
--- a chunk is a fault
+-- a chunk is a fault, or finds or leaves the receive buffer exhausted
 abbrev pub IsFault : Shown × Flow → Type 0
-IsFault outcome = (error : Error) × (outcome.1 ≡ flows.Fault error)
+IsFault outcome = ((error : Error) × (outcome.1 ≡ flows.Fault error)) ⊎ (outcome.1 ≡ flows.Exhausted)
 
 -- The faults are the causes, neither more nor fewer.
 abbrev pub FaultsAreCauses : Type 0

@@ -30,7 +30,7 @@ use Rattle.sctp_assoc.specs.declared.inbound.Flow.TheVariants as flows
 use Rattle.sctp_assoc.specs.Leads.{Binds, parts}
 use Rattle.sctp_directions.specs.Acts.{History, all_data_given, reach_in}
 use Rattle.sctp_fit.specs.Incoming.{tsn_before}
-use Rattle.sctp_assoc.specs.Calls.{accepted_stream, adjusted, is_established, opened, read_from_stream}
+use Rattle.sctp_assoc.specs.Calls.{accepted_stream, adjusted, is_established, opened, read_exhausts, read_from_stream}
 use Rattle.sctp_assoc.specs.Calls.{written}
 use Rattle.sctp_assoc.specs.Closing.{closed_by, is_closed_state}
 use Rattle.sctp_assoc.specs.Chunks.{after_packet, on_chunk}
@@ -114,8 +114,8 @@ pub record StaysOpen (a b : Shown) : Type 0 where
   pub lost : b.lost ≡ a.lost
   pub events : b.events ≡ a.events
 
--- No write, setting, opened or accepted stream, read, poll for packets or timer closes an association. A write may be
--- told as an event, but as no loss.
+-- No write, setting, opened or accepted stream, poll for packets or timer closes an association. A write may be told
+-- as an event, but as no loss.
 abbrev pub WritesDoNotClose : Type 0
 WritesDoNotClose = (a : Shown) (id : ℕ) (named : Option PayloadProtocolIdentifier) (bytes : List ℕ)
     → StaysUnclosed a (written a id named bytes)
@@ -129,9 +129,6 @@ AcceptedStreamsDoNotClose = (a : Shown) → StaysOpen a (accepted_stream a).0
 abbrev pub OpenedStreamsDoNotClose : Type 0
 OpenedStreamsDoNotClose = (a : Shown) (id : ℕ) (kind : PayloadProtocolIdentifier) → StaysOpen a (opened a id kind)
 
-abbrev pub ReadsDoNotClose : Type 0
-ReadsDoNotClose = (a : Shown) (id : ℕ) → StaysOpen a (read_from_stream a id).0
-
 abbrev pub PollsDoNotClose : Type 0
 PollsDoNotClose = (a : Shown) (now : ℕ) → StaysOpen a (polled a now).0
 
@@ -141,8 +138,10 @@ TimersDoNotClose = (a : Shown) (now : ℕ) → StaysOpen a (after_timeouts a now
 abbrev pub faults_or : Shown × Flow → (Shown → AckTrigger → Bool) → Bool
 faults_or (a, flows.Next trigger) more = more a trigger
 faults_or (a, flows.Fault fault) more = not (is_closed_state a.state)
+faults_or (a, flows.Exhausted) more = not (is_closed_state a.state)
 
--- one of these chunks, taken in order, is a fault, and the association is open then
+-- one of these chunks, taken in order, is a fault, or finds or leaves the receive buffer exhausted, and the association
+-- is open then
 abbrev pub is_faulted : CommonHeader → List Chunk → Shown → AckTrigger → ℕ → Bool
 is_faulted header [] a trigger now = false
 is_faulted header (c ∷ cs) a trigger now =
@@ -152,7 +151,7 @@ abbrev pub is_faulted_packet : Shown → Option Packet → ℕ → Bool
 is_faulted_packet a None now = false
 is_faulted_packet a (Some packet) now = is_faulted packet.common_header packet.chunks a triggers.None now
 
--- what came closes an open association: one of its chunks is a fault
+-- what came closes an open association: one of its chunks is a fault, or leaves the receive buffer exhausted
 abbrev pub closes : Shown → Option Packet → ℕ → Bool
 closes a packet now = not a.lost && is_faulted_packet a packet now
 
@@ -169,6 +168,14 @@ pub record IsClosedIf (closing : Bool) (a b : Shown) : Type 0 where
 abbrev pub FaultsAloneClose : Type 0
 FaultsAloneClose =
     (a : Shown) (packet : Option Packet) (now : ℕ) → IsClosedIf (closes a packet now) a (after_packet a packet now)
+
+-- a read closes an open association: it gives a message and leaves the receive buffer exhausted
+abbrev pub read_closes : Shown → ℕ → Bool
+read_closes a id = read_exhausts a id && not (is_closed_state a.state)
+
+-- A read closes exactly there, and the loss is told once.
+abbrev pub ExhaustingReadsAloneClose : Type 0
+ExhaustingReadsAloneClose = (a : Shown) (id : ℕ) → IsClosedIf (read_closes a id) a (read_from_stream a id).0
 
 -- An application's close closes an open association once, by whatever reason.
 abbrev pub ClosesClose : Type 0

@@ -87,6 +87,7 @@ call_refusal call a = failed_refusal a
 
 -- a call that may find no memory in its middle
 abbrev pub has_a_middle : Call → Bool
+has_a_middle (Call.Read id) = true
 has_a_middle Call.Close = true
 has_a_middle (Call.PollTransmit now) = true
 has_a_middle (Call.HandleTimeout now) = true

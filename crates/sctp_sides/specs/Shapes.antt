@@ -18,14 +18,14 @@ use Rattle.sctp_streams.specs.declared.event.AssociationError.{AssociationError}
 use Rattle.sctp_streams.specs.declared.event.Event.{Event}
 use Rattle.sctp_streams.specs.Stream.{StreamView}
 use Rattle.sctp_streams.specs.declared.setting.Setting.{Setting}
-use Rattle.sctp_streams.specs.Streams.{made, stream_at}
+use Rattle.sctp_streams.specs.Streams.{made, read_in, stream_at}
 use Rattle.sctp_inbound.specs.declared.receiver.AckTrigger.{AckTrigger}
 use Rattle.sctp_directions.specs.Acts.{Act, History, all_data_given, reach_in}
 use Rattle.sctp_assoc.specs.Leads.{Binds, LeadsOn, parts}
 use Rattle.sctp_fit.specs.Incoming.{tsn_before}
 use Rattle.sctp_assoc.specs.Calls.{event_polled, is_established, open_refusal, opened}
-use Rattle.sctp_assoc.specs.Closing.{closed_by, is_closed_state}
-use Rattle.sctp_assoc.specs.Calls.{accepted_stream, adjusted, read_from_stream, stream_refusal}
+use Rattle.sctp_assoc.specs.Closing.{closed_by, exhausted, is_closed_state}
+use Rattle.sctp_assoc.specs.Calls.{accepted_stream, adjusted, read_exhausts, read_from_stream, stream_refusal}
 use Rattle.sctp_assoc.specs.Calls.{write_refusal, written}
 use Rattle.sctp_assoc.specs.Chunks.{after_packet, ended, on_chunk}
 use Rattle.sctp_assoc.specs.Happened.{Polls, acts_of_chunk, acts_of_poll, acts_of_timeouts}
@@ -80,8 +80,20 @@ abbrev pub AcceptedStreamsKeepTheStatus : Type 0
 AcceptedStreamsKeepTheStatus =
     (a : Shown) → IsSameStatus a (accepted_stream a).0 × ((accepted_stream a).0.streams ≡ a.streams)
 
+-- the association as a read leaves it, before it is seen whether the receive buffer is exhausted
+abbrev pub with_read : Shown → ℕ → Shown
+with_read a id = record a { streams = (read_in a.streams id).0 }
+
+-- A read leaves the status and whatever else but streams, unless it leaves the receive buffer exhausted, and then that is
+-- what closes.
+pub record ReadsOn (a : Shown) (id : ℕ) : Type 0 where
+  pub same : IsSameStatus a (with_read a id)
+  pub plainly : read_exhausts a id ≡ false → (read_from_stream a id).0 ≡ with_read a id
+  pub exhausts : read_exhausts a id ≡ true → (read_from_stream a id).0 ≡ exhausted (with_read a id)
+  pub given : (read_from_stream a id).1 ≡ (read_in a.streams id).1
+
 abbrev pub ReadsKeepTheStatus : Type 0
-ReadsKeepTheStatus = (a : Shown) (id : ℕ) → IsSameStatus a (read_from_stream a id).0
+ReadsKeepTheStatus = (a : Shown) (id : ℕ) → ReadsOn a id
 
 abbrev pub ToldEventsKeepTheStatus : Type 0
 ToldEventsKeepTheStatus =
@@ -198,6 +210,28 @@ pub record Closes (a b : Shown) : Type 0 where
   pub truthful : (own : ℕ) → IsTruthful own a → IsTruthful own b
   pub ends : is_closed_state a.state ≡ false → IsEnded b
   pub stays : is_closed_state a.state ≡ true → b ≡ a
+
+-- It is closed and lost, and no stream is live; what waits to go out is truthful where it was before the close.
+pub record IsOver (b : Shown) : Type 0 where
+  pub closed : is_closed_state b.state ≡ true
+  pub unestablished : is_established b.state ≡ false
+  pub lost : b.lost ≡ true
+  pub none_live : (id : ℕ) → IsNotLive b id
+  pub holds_nothing : HoldsNothing b
+
+-- An exhausted receive buffer closed an open association; a closed one has an ABORT more to send, and stayed as it was
+-- but for that.
+pub record Exhausts (a b : Shown) : Type 0 where
+  pub failed : b.failed ≡ a.failed
+  pub side : b.side ≡ a.side
+  pub handshake : b.handshake ≡ a.handshake
+  pub truthful : (own : ℕ) → IsTruthful own a → IsTruthful own b
+  pub ends : is_closed_state a.state ≡ false → IsOver b
+  pub stays : is_closed_state a.state ≡ true → LeadsOn [] a b × IsSameStatus a b × (b.streams ≡ a.streams)
+
+-- What an exhausted receive buffer leaves of an association.
+abbrev pub ExhaustionCloses : Type 0
+ExhaustionCloses = (a : Shown) → Exhausts a (exhausted a)
 
 -- What a close leaves of an association.
 abbrev pub FaultsClose : Type 0

@@ -5,7 +5,7 @@
 
 ghost use Rattle.sctp_sides.specs.Shapes.{AcceptedWritesFit, ChunksLeadOn, DataIsTaken, EstablishedIsNotClosed};
 ghost use Rattle.sctp_sides.specs.Shapes.{EstablishedSidesTalk, FaultsClose, FoundStreamsAreLive, GreetingsMeet};
-ghost use Rattle.sctp_sides.specs.Shapes.{AcceptedStreamsKeepTheStatus, GreetingsStayTrue};
+ghost use Rattle.sctp_sides.specs.Shapes.{AcceptedStreamsKeepTheStatus, ExhaustionCloses, GreetingsStayTrue};
 ghost use Rattle.sctp_sides.specs.Shapes.{LostAssociationsTakeNothing, NoPacketChangesNothing, SettingsHoldNothing};
 ghost use Rattle.sctp_sides.specs.Shapes.{SettingsKeepTheStatus};
 ghost use Rattle.sctp_sides.specs.Shapes.{OpenedStreamsHoldNothing, OpenedStreamsKeepTheStatus};
@@ -18,7 +18,7 @@ ghost use Rattle.sctp_sides.specs.Shapes.{WhatHoldsNothingGivesNothing, WhatWait
 ghost use Rattle.sctp_sides.specs.Causes.{CausesClose, ClosingPacketsHaveCauses, FaultsAreCauses};
 ghost use Rattle.sctp_sides.specs.Intake.{DataIsTakenIn, NothingElseIsTakenIn};
 ghost use Rattle.sctp_sides.specs.Laws.{DueSacksGoOut, FaultsAloneClose, OpenedStreamsDoNotClose, PollsDoNotClose};
-ghost use Rattle.sctp_sides.specs.Laws.{AcceptedStreamsDoNotClose, ClosesClose, ReadsDoNotClose};
+ghost use Rattle.sctp_sides.specs.Laws.{AcceptedStreamsDoNotClose, ClosesClose, ExhaustingReadsAloneClose};
 ghost use Rattle.sctp_sides.specs.Laws.{PollsKeepWhatIsHeld, SacksAreSpelled, SacksNameThePoint, SettingsDoNotClose};
 ghost use Rattle.sctp_sides.specs.Laws.{PollsBeginWithWhatWaits, SacksOfferTheBuffer, SacksSayWhatWasTaken};
 ghost use Rattle.sctp_sides.specs.Laws.{TimersDoNotClose};
@@ -43,15 +43,16 @@ pub fn writes_and_polls_lose_nothing()
     ensures polled { PollsKeepWhatIsHeld }
 {}
 
-/// Closing: a packet with a fault closes an open association, once, and no other packet does; so does the application's
-/// close. No write, setting, opened or accepted stream, read, poll for packets or timer closes.
+/// Closing: a packet with a fault, or one that leaves the receive buffer exhausted, closes an open association, once,
+/// and no other packet does; so does a read that gives a message and leaves the buffer exhausted, and no other read; so
+/// does the application's close. No write, setting, opened or accepted stream, poll for packets or timer closes.
 pub fn faults_alone_close()
     ensures packets { FaultsAloneClose }
     ensures writes { WritesDoNotClose }
     ensures streams { OpenedStreamsDoNotClose }
     ensures settings { SettingsDoNotClose }
     ensures accepted { AcceptedStreamsDoNotClose }
-    ensures reads { ReadsDoNotClose }
+    ensures reads { ExhaustingReadsAloneClose }
     ensures closes { ClosesClose }
     ensures polls { PollsDoNotClose }
     ensures timers { TimersDoNotClose }
@@ -123,6 +124,7 @@ pub fn packets_lead_on()
     ensures chunks { ChunksLeadOn }
     ensures ends { PacketsEnd }
     ensures faults { FaultsClose }
+    ensures exhausted { ExhaustionCloses }
     ensures closed { EstablishedIsNotClosed }
     ensures lost { LostAssociationsTakeNothing }
     ensures none { NoPacketChangesNothing }

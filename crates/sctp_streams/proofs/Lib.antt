@@ -1,2 +1,3 @@
 pub mod ReadableStreams
 pub mod WaitingBytes
+pub mod LowMarks

@@ -1,3 +1,4 @@
 pub mod Stats
 pub mod Stream
 pub mod Streams
+pub mod LowMarks

@@ -4,6 +4,7 @@
 
 mod event;
 mod halves;
+mod low_marks;
 mod setting;
 mod stats;
 mod stream_state;
@@ -11,6 +12,7 @@ mod streams;
 
 pub use event::{AssociationError, Event, Events};
 pub use halves::{RecvSendState, ReliabilityParams};
+pub use low_marks::Fallen;
 pub use setting::Setting;
 pub use stats::DataChannelStats;
 pub use stream_state::StreamState;

@@ -8,8 +8,9 @@ ghost use Rattle.sctp_streams.specs.Streams.{refusal_in, read_in, is_readable_in
 ghost use Rattle.sctp_streams.specs.Streams.{reaches_high_mark_at, falls_to_low_mark_in, live_ids};
 ghost use Rattle.sctp_streams.specs.Streams.{some_gives_messages};
 ghost use Rattle.sctp_streams.specs.Stream.{accepted_by, with_setting};
+ghost use Rattle.sctp_streams.specs.LowMarks.{IsGathered};
 
-use crate::{DataChannelStats, Setting, StreamState};
+use crate::{DataChannelStats, Fallen, Setting, StreamState};
 use sctp_receive_queues::Chunks;
 use sctp_wire_types::{ChunkPayloadData, Error, PayloadProtocolIdentifier, StreamId};
 use std::alloc::{AllocError, Global};
@@ -96,6 +97,14 @@ impl Streams {
             return;
         };
         stream.set(setting);
+    }
+
+    /// Begins to gather the streams that fall to their low mark while bytes are released; takes no memory.
+    pub fn watch(&self, alloc: Global) -> Fallen
+        ensures { IsGathered self.now self.now result }
+    {
+        let _count = self.by_id.len();
+        Fallen::new(alloc)
     }
 
     /// Counts bytes of a generation as released, where it is still live. Answers whether its low mark was crossed.

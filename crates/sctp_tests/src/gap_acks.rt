@@ -24,7 +24,8 @@ fn acknowledged_of_four(
     for &(start, end) in blocks {
         named.push(GapAckBlock { start, end })?;
     }
-    sender.acknowledge_blocks(&mut streams, &named);
+    let mut fallen = streams.watch(alloc);
+    sender.acknowledge_blocks(&mut streams, &mut fallen, &named);
     let mut acked = Vec::new(alloc);
     for index in 0..sender.queue.inflight_len() {
         acked.push(sender.queue.get(index).is_some_and(|piece| piece.acked))?;

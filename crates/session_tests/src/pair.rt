@@ -99,3 +99,45 @@ fn a_message_past_the_limit_closes_its_receiver(rt: HostRuntime) -> Result<(), F
     }
     Ok(())
 }
+
+/// What A's 3,601 bytes do to B, whose buffer has 2,000: two packets go out, and then nothing of it can be read or come.
+static EXHAUSTING_STEPS: &str =
+    "send A 0\ndeliver B 0 0\ntime B 200\nsend B 200\ndeliver A 0 200\nsend A 200\ndeliver B 1 200\nsend B 200\ndeliver A 1 200\nevent A\nevent A\nevent A\nevent A\nevent B\nevent B\nevent B\nevent B\nevent B\nevent B\nevent B\n";
+
+static EXHAUSTING_REPLIES: &str =
+    "ok\nwrote 3601\npackets 0 1\nok\nok\npackets 0 1\nok\npackets 1 1\nok\npackets 1 1\nok\nconnected\nfinal 0\nlost closed\nnone\nconnected\nopened 1\ndatagram\ndatagram\nfinal 0\nlost exhausted\nnone\nrefused 9\n";
+
+/// B's ABORT with the cause Out of Resource, under the tag 1; the datagram was spelled apart from this code.
+static ABORT: &str = "1388138800000001a08b88b40600000800040004";
+
+fn exhausting(alloc: Global) -> Result<String, AllocError> {
+    let mut text = String::new(alloc);
+    text.push_str("open A 1 53\nwrite A 1 ")?;
+    for _ in 0..3601_u16 {
+        text.push_str("ab")?;
+    }
+    text.push_str("\n")?;
+    text.push_str(EXHAUSTING_STEPS)?;
+    Ok(text)
+}
+
+// The replies to these steps, and the second packet that B gave out, in hex.
+fn exhausted(alloc: Global) -> Result<(String, String), Error> {
+    let config = TransportConfig::default().with_max_receive_buffer_size(2000);
+    let mut pair = snapped_under(alloc, &config, 1200, 100, 500)?;
+    let steps = exhausting(alloc)?;
+    let text = replies_to(alloc, &mut pair, steps.as_str())?;
+    let chunks = match pair.packet(Side2::B, 1) {
+        Some(packet) => hex::encode(alloc, packet.as_slice())?,
+        None => String::new(alloc),
+    };
+    Ok((text, chunks))
+}
+
+#[test]
+fn an_exhausted_buffer_closes_and_tells_the_peer(rt: HostRuntime) -> Result<(), Fail> {
+    let (text, chunks) = exhausted(rt.alloc())?;
+    assert_eq!(rt; text.as_str(), EXHAUSTING_REPLIES);
+    assert_eq!(rt; chunks.as_str(), ABORT);
+    Ok(())
+}

@@ -230,6 +230,36 @@ accept B=none
 write B 1 61=refused 9
 ";
 
+/// Messages out of order and in order, with a retry limit and a lifetime that give up none so far; what is acknowledged
+/// takes the stream to its low mark.
+static POLICIES: &str = "\
+snap 1200 100 500=ok
+open A 1 53=ok
+policy A 1 u reliable 0=ok
+write A 1 61=wrote 1
+write A 1 62=wrote 1
+policy A 1 o rexmit 3=ok
+write A 1 63=wrote 1
+policy A 1 o timed 4294967295=ok
+policy A 9 u reliable 0=refused 9
+send A 0=packets 0 3
+deliver B 1 0=ok
+read B 1=message 53 62
+deliver B 0 0=ok
+read B 1=message 53 61
+read B 1=none
+deliver B 2 0=ok
+read B 1=message 53 63
+buffered A 1=3
+time B 200=ok
+send B 200=packets 0 1
+deliver A 0 200=ok
+event A=connected
+event A=low 1
+event A=none
+buffered A 1=0
+";
+
 #[test]
 fn sessions_give_their_replies(rt: HostRuntime) -> Result<(), Fail> {
     for text in [
@@ -241,6 +271,7 @@ fn sessions_give_their_replies(rt: HostRuntime) -> Result<(), Fail> {
         REORDERED,
         PIECES,
         CALLS,
+        POLICIES,
     ] {
         check_replies(&rt, text)?;
     }

@@ -1,4 +1,4 @@
-use Rattle.sctp_sides.proofs.Proved.{chunks_lead_on, established_is_not_closed, faults_close}
+use Rattle.sctp_sides.proofs.Proved.{chunks_lead_on, established_is_not_closed, exhaustion_closes, faults_close}
 use Rattle.sctp_sides.proofs.Proved.{lost_associations_take_nothing, no_packet_changes_nothing, packets_end}
 use Rattle.sctp_sides.proofs.packets_lead_on.Goals as goal
 
@@ -10,6 +10,9 @@ returns-clause-ends c = packets_end
 
 pub returns-clause-faults : goal.returns-clause-faults
 returns-clause-faults c = faults_close
+
+pub returns-clause-exhausted : goal.returns-clause-exhausted
+returns-clause-exhausted c = exhaustion_closes
 
 pub returns-clause-closed : goal.returns-clause-closed
 returns-clause-closed c = established_is_not_closed

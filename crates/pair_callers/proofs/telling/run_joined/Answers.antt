@@ -12,6 +12,10 @@ pub returns-clause-front : goal.returns-clause-front
 returns-clause-front c = if_ok c.run.result _ _ c.run.ensures.front (λ replies h.
     h c.args.max_payload_size c.args.max_payload_size [] [] c.in_ok-pair.ensures.new)
 
+pub returns-clause-written : goal.returns-clause-written
+returns-clause-written c = if_ok c.run.result _ _ c.run.ensures.written (λ replies h.
+    h c.args.max_payload_size c.args.max_payload_size [] [] c.in_ok-pair.ensures.new)
+
 pub returns-clause-undelivered : goal.returns-clause-undelivered
 returns-clause-undelivered c = if_ok c.run.result _ _ c.run.ensures.undelivered (λ replies h.
     h c.args.max_payload_size c.args.max_payload_size [] [] c.in_ok-pair.ensures.new)

@@ -1,4 +1,5 @@
 use Rattle.std.proofs.Common.{rules, ◌≡◌, ◌∙◌, Some, None, slice_get, arith}
+use Rattle.sctp_streams.proofs.LowMarks.{gathers_nothing}
 use Rattle.sctp_outbound.proofs.GapAcks.{acknowledges_one, acknowledges_past}
 use Rattle.sctp_outbound.proofs.sender.Sender.acknowledge_at.Goals as goal
 
@@ -11,7 +12,7 @@ returns-in-Some-clause-pieces c =
 pub returns-in-Some-clause-released : goal.returns-in-Some-clause-released
 returns-in-Some-clause-released c =
     let here : slice_get c.args.self.now.queue.in_flight c.args.index ≡ Some c.in-Some.piece.now = search rules in
-    c.release.ensures
+    c.release.ensures.released
     ∙ (acknowledges_one c.args.self.now c.mark_as_acked.new.self c.args.streams.now c.mark_as_acked.result
     c.args.index _ c.in-Some.piece.now here (omega arith) c.requires (omega arith) c.mark_as_acked.ensures).released
 
@@ -24,3 +25,6 @@ pub returns-in_default-clause-released : goal.returns-in_default-clause-released
 returns-in_default-clause-released c =
     let none : slice_get c.args.self.now.queue.in_flight c.args.index ≡ None = search rules in
     (acknowledges_past c.args.self.now c.args.streams.now c.args.index none).released
+
+pub returns-in_default-clause-gathers : goal.returns-in_default-clause-gathers
+returns-in_default-clause-gathers c = gathers_nothing c.args.streams.now c.args.fallen.now

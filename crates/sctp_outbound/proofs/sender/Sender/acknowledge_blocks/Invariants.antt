@@ -1,8 +1,10 @@
 use Rattle.std.proofs.Common.{◌+◌, take}
 use Rattle.sctp_received.specs.Received.{is_named}
+use Rattle.sctp_streams.specs.LowMarks.{Gathers}
 use Rattle.sctp_outbound.proofs.GapAcks.{Acknowledges}
 use Rattle.sctp_outbound.proofs.sender.Sender.acknowledge_blocks.Given as goal
 
 abbrev pub invariant-loop-block : goal.invariant-loop-block
 invariant-loop-block l =
     Acknowledges (λ j. is_named (j + 1) (take l.block-index l.blocks)) l.fn.self l.self l.fn.streams l.streams
+    × Gathers l.fn.streams l.fn.fallen l.streams l.fallen

@@ -1,6 +1,6 @@
-use Rattle.sctp_pair.specs.Callers.{ComesOn, HoldsOn, NothingIsReadBeforeADelivery, ReadsAreFronts}
+use Rattle.sctp_pair.specs.Callers.{ComesOn, HoldsOn, NothingIsReadBeforeADelivery, ReadsAreFronts, ReadsWereWritten}
 use Rattle.sctp_pair.specs.Steps.{Runs}
-use Rattle.sctp_pair.proofs.Callers.{comes_on, fronts_on, unbrought_on}
+use Rattle.sctp_pair.proofs.Callers.{comes_on, fronts_on, unbrought_on, were_written_on}
 use Rattle.sctp_pair.proofs.AnsweredValues.{if_ok}
 use Rattle.sctp_pair.proofs.pair.Pair.run.Goals as goal
 
@@ -26,3 +26,10 @@ returns-clause-undelivered c =
     (λ replies. HoldsOn NothingIsReadBeforeADelivery c.args.steps.now replies.items c.args.self.now)
     c.carry_out_all.ensures.ok
     (λ replies led. unbrought_on c.args.steps.now replies.items c.args.self.now c.carry_out_all.new.self led)
+
+pub returns-clause-written : goal.returns-clause-written
+returns-clause-written c =
+    if_ok c.carry_out_all.result
+    (λ replies. Runs c.args.steps.now replies.items c.args.self.now c.carry_out_all.new.self)
+    (λ replies. HoldsOn ReadsWereWritten c.args.steps.now replies.items c.args.self.now) c.carry_out_all.ensures.ok
+    (λ replies led. were_written_on c.args.steps.now replies.items c.args.self.now c.carry_out_all.new.self led)

@@ -1,5 +1,5 @@
 use Rattle.std.proofs.Common.{refl, [], ◌∷◌}
-use Rattle.sctp_pair.proofs.Callers.{comes_on, fronts_on, unbrought_on}
+use Rattle.sctp_pair.proofs.Callers.{comes_on, fronts_on, unbrought_on, were_written_on}
 use Rattle.sctp_pair.proofs.Counted.{step_leads_counted}
 use Rattle.sctp_pair.proofs.pair.Pair.step.Goals as goal
 
@@ -22,4 +22,9 @@ returns-clause-front c =
 pub returns-clause-undelivered : goal.returns-clause-undelivered
 returns-clause-undelivered c =
     unbrought_on (c.args.step.now ∷ []) (c.carry_out.result ∷ []) c.args.self.now c.carry_out.new.self
+    (c.carry_out.new.self, c.carry_out.ensures, refl)
+
+pub returns-clause-written : goal.returns-clause-written
+returns-clause-written c =
+    were_written_on (c.args.step.now ∷ []) (c.carry_out.result ∷ []) c.args.self.now c.carry_out.new.self
     (c.carry_out.new.self, c.carry_out.ensures, refl)

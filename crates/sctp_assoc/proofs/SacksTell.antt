@@ -1,0 +1,66 @@
+-- What a SACK that is taken leaves, and that it takes memory only where it tells of a stream.
+use Rattle.std.proofs.Common.{◌≡◌, ap, subst, ⊎_elim, ◌⊎◌, ℕ, ◌<◌, ◌++◌, true, false, arith, List, [], ◌∷◌, length, map}
+use Rattle.std.proofs.Common.{nat_lt}
+use Rattle.std.proofs.lemmas.Bool.{cases_Bool}
+use Rattle.std.proofs.lemmas.Bool.Decides.{nat_tests}
+use Rattle.sctp_wire_types.specs.declared.chunk.GapAckBlock.{GapAckBlock}
+use Rattle.sctp_parts.specs.Estimate.{Estimate}
+use Rattle.sctp_parts.specs.Timers.{Timers}
+use Rattle.sctp_streams.specs.declared.event.Event.{Event}
+use Rattle.sctp_streams.specs.LowMarks.{FallenView, IsGathered, fallen, low_event}
+use Rattle.sctp_streams.specs.Streams.{StreamMap}
+use Rattle.sctp_inbound.specs.declared.receiver.AckTrigger.{AckTrigger}
+use Rattle.sctp_outbound.specs.declared.sender.Sender.{Sender}
+use Rattle.sctp_outbound.specs.declared.sender.SackOutcome.TheVariants as outcomes
+use Rattle.sctp_outbound.specs.GapAcks.{with_blocks}
+use Rattle.sctp_outbound.specs.Sender.{acknowledged, sack_outcome, t3_after_sack, tsns_up_to, with_window}
+use Rattle.sctp_assoc.specs.declared.inbound.Flow.TheVariants as flows
+use Rattle.sctp_assoc.specs.Calls.{is_established}
+use Rattle.sctp_assoc.specs.Chunks.{after_sack, counted_sack, on_sack, with_acknowledged}
+use Rattle.sctp_assoc.specs.Memory.{sack_takes_memory}
+use Rattle.sctp_assoc.specs.Shown.{Shown}
+
+some_mapped : (ids : List ℕ) → 0 < length ids → 0 < length (map low_event ids)
+some_mapped [] l = l
+some_mapped (id ∷ ids) l = omega arith
+
+positive : (n : ℕ) → 0 < n → nat_lt 0 n ≡ true
+positive n l = grind (arith, nat_tests, l)
+
+-- where telling lacks memory some stream fell to its low mark
+pub some_fell : (m n : StreamMap) (f : FallenView) → IsGathered m n f → (f.refused ≡ true) ⊎ (0 < length f.ids)
+    → 0 < length (fallen m n)
+some_fell m n f g lacks =
+    ⊎_elim
+    (λ (r : f.refused ≡ true). g.some r)
+    (λ (r : f.refused ≡ false).
+    ⊎_elim
+    (λ (t : f.refused ≡ true). g.some t)
+    (λ (l : 0 < length f.ids). subst (λ z. 0 < length z) (g.whole r) l)
+    lacks)
+    (cases_Bool f.refused)
+
+module _ (a : Shown) (point : ℕ) (blocks : List GapAckBlock) (window now : ℕ) (s : Sender) (e : Estimate) (m : StreamMap)
+    (established : is_established a.state ≡ true) (taken : sack_outcome a.sender point blocks ≡ outcomes.Taken)
+    (is : with_blocks blocks
+    (acknowledged (tsns_up_to a.sender point) now (with_window a.sender window, a.estimate, a.streams)) ≡ (s, e, m))
+  where
+    pub taken_leaves : (trigger : AckTrigger) (timers : Timers) (queued : List Event) (ids : List ℕ)
+        → timers ≡ t3_after_sack (nat_lt 0 (tsns_up_to a.sender point)) (length s.queue.in_flight) now e.rto a.timers
+        → queued ≡ a.events ++ map low_event ids → ids ≡ fallen a.streams m
+        → on_sack a point blocks window trigger now
+        ≡ (
+          record (counted_sack a) { sender = s; estimate = e; streams = m; events = queued; timers = timers },
+          flows.Next trigger,
+        )
+    unfolding on_sack
+    taken_leaves trigger timers queued ids timed told those =
+        rw (established, taken, timed, told, those)
+        (ap (λ x. (with_acknowledged (counted_sack a) (nat_lt 0 (tsns_up_to a.sender point)) now x, flows.Next trigger))
+        is)
+
+    pub taken_takes : 0 < length (fallen a.streams m) → sack_takes_memory a point blocks window now ≡ true
+    taken_takes some =
+        let there : (after_sack a point blocks window now).streams ≡ m =
+        ap (λ x. (with_acknowledged a (nat_lt 0 (tsns_up_to a.sender point)) now x).streams) is in
+        rw (established, taken, there) (positive _ (some_mapped (fallen a.streams m) some))

@@ -1,0 +1,64 @@
+use Rattle.std.proofs.Common.{rules, ◌≡◌, ◌∙◌, ap, sym, true}
+use Rattle.sctp_streams.specs.LowMarks.{IsGathered}
+use Rattle.sctp_streams.proofs.LowMarks.{gathered_since}
+use Rattle.sctp_outbound.specs.declared.sender.SackOutcome.TheVariants as outcomes
+use Rattle.sctp_outbound.specs.GapAcks.{with_blocks}
+use Rattle.sctp_outbound.specs.Sender.{acknowledged, sack_outcome, t3_after_sack, tsns_up_to, with_window}
+use Rattle.sctp_outbound.proofs.SenderSteps.{on_err}
+use Rattle.sctp_assoc.specs.declared.inbound.Flow.TheVariants as flows
+use Rattle.sctp_assoc.specs.Calls.{is_established}
+use Rattle.sctp_assoc.specs.Chunks.{counted_sack}
+use Rattle.sctp_assoc.proofs.SacksTell.{some_fell, taken_leaves, taken_takes}
+use Rattle.sctp_assoc.proofs.association.Association.on_sack.Goals as goal
+
+pub returns-in_err-tell-in-Taken-clause-grows : goal.returns-in_err-tell-in-Taken-clause-grows
+returns-in_err-tell-in-Taken-clause-grows c =
+    let established : is_established c.args.self.now.state ≡ true = search rules in
+    let sacked = c.on_sack-outcome.new in
+    let taken : sack_outcome c.args.self.now.sender c.args.cumulative_tsn_ack c.args.blocks.now ≡ outcomes.Taken =
+    rw (← c.self.view_is) (sym c.on_sack-outcome.ensures.outcome ∙ c.in-Taken.is) in
+    let is : with_blocks c.args.blocks.now
+    (acknowledged (tsns_up_to c.args.self.now.sender c.args.cumulative_tsn_ack) c.args.now
+    (with_window c.args.self.now.sender c.args.window, c.args.self.now.estimate, c.args.self.now.streams))
+    ≡ (sacked.self, sacked.rto, sacked.streams) =
+    rw (← c.self.view_is) (c.on_sack-outcome.ensures.taken c.in-Taken.is) in
+    let gathered : IsGathered c.args.self.now.streams sacked.streams sacked.fallen =
+    rw (← c.self.view_is)
+    (gathered_since c.self.inside.streams sacked.streams c.watch-fallen.result sacked.fallen c.watch-fallen.ensures
+    c.on_sack-outcome.ensures.gathers) in
+    on_err c.from_residual.result
+    (taken_takes c.args.self.now c.args.cumulative_tsn_ack c.args.blocks.now c.args.window c.args.now sacked.self
+    sacked.rto sacked.streams established taken is
+    (some_fell c.args.self.now.streams sacked.streams sacked.fallen gathered c.in_err-tell-in-Taken.ensures.grows))
+
+pub returns-in_ok-tell-in-Taken-clause-exact : goal.returns-in_ok-tell-in-Taken-clause-exact
+returns-in_ok-tell-in-Taken-clause-exact c =
+    let established : is_established c.args.self.now.state ≡ true = search rules in
+    let sacked = c.on_sack-outcome.new in
+    let taken : sack_outcome c.args.self.now.sender c.args.cumulative_tsn_ack c.args.blocks.now ≡ outcomes.Taken =
+    rw (← c.self.view_is) (sym c.on_sack-outcome.ensures.outcome ∙ c.in-Taken.is) in
+    let is : with_blocks c.args.blocks.now
+    (acknowledged (tsns_up_to c.args.self.now.sender c.args.cumulative_tsn_ack) c.args.now
+    (with_window c.args.self.now.sender c.args.window, c.args.self.now.estimate, c.args.self.now.streams))
+    ≡ (sacked.self, sacked.rto, sacked.streams) =
+    rw (← c.self.view_is) (c.on_sack-outcome.ensures.taken c.in-Taken.is) in
+    let gathered : IsGathered c.args.self.now.streams sacked.streams sacked.fallen =
+    rw (← c.self.view_is)
+    (gathered_since c.self.inside.streams sacked.streams c.watch-fallen.result sacked.fallen c.watch-fallen.ensures
+    c.on_sack-outcome.ensures.gathers) in
+    rw c.inc_sacks.ensures
+    (taken_leaves c.args.self.now c.args.cumulative_tsn_ack c.args.blocks.now c.args.window c.args.now sacked.self
+    sacked.rto sacked.streams established taken is c.args.trigger sacked.timers c.tell.new.events sacked.fallen.ids
+    (rw (← c.self.view_is) (c.on_sack-outcome.ensures.timer c.in-Taken.is))
+    (rw (← c.self.view_is) c.in_ok-tell-in-Taken.ensures.told)
+    (gathered.whole c.in_ok-tell-in-Taken.ensures.whole)
+    ∙ ap (λ z. (
+      record (counted_sack z) {
+        sender = sacked.self;
+        estimate = sacked.rto;
+        streams = sacked.streams;
+        events = c.tell.new.events;
+        timers = sacked.timers;
+      },
+      flows.Next c.args.trigger,
+    )) (sym c.self.view_is))
