@@ -4,4 +4,8 @@
 #[cfg(test)]
 mod pair;
 #[cfg(test)]
+mod payloads;
+#[cfg(test)]
 mod sessions;
+#[cfg(test)]
+mod stream_counts;

@@ -13,7 +13,8 @@ static STEPS: &str =
 static REPLIES: &str =
     "ok\nwrote 2\npackets 0 1\nok\nmessage 53 6869\nat 200\nok\npackets 0 1\nok\n0\nnone\n1000\nrefused 9\n";
 
-fn steps_of(alloc: Global, text: &str) -> Result<Vec<Step>, AllocError> {
+/// The steps of these lines, and a question for a stream that is not live.
+pub(crate) fn steps_of(alloc: Global, text: &str) -> Result<Vec<Step>, AllocError> {
     let mut steps = Vec::new(alloc);
     for line in text.lines() {
         if let Some(Line::Step(step)) = parse(alloc, line.as_bytes())? {
