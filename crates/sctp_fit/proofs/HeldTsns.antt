@@ -152,14 +152,14 @@ module _ (t : ℕ) where
       (or_cases (eqb x t) (mem t xs) m))
 
 -- a test that a member passes, and one that none passes but those of which something holds
-any_in : (f : ℕ → Bool) (x : ℕ) (xs : List ℕ) → mem x xs ≡ true → f x ≡ true → list_any f xs ≡ true
+pub any_in : (f : ℕ → Bool) (x : ℕ) (xs : List ℕ) → mem x xs ≡ true → f x ≡ true → list_any f xs ≡ true
 any_in f x [] m h = absurd (false≢true m)
 any_in f x (y ∷ ys) m h = ⊎_elim
     (λ (e : eqb y x ≡ true). or_left (f y) (list_any f ys) (ap f (eqb-true y x e) ∙ h))
     (λ (r : mem x ys ≡ true). or_right (f y) (list_any f ys) (any_in f x ys r h))
     (or_cases (eqb y x) (mem x ys) m)
 
-any_from : (f : ℕ → Bool) (P : ℕ → Type 0) (C : Type 0) (xs : List ℕ) → AllByRecursion P xs
+pub any_from : (f : ℕ → Bool) (P : ℕ → Type 0) (C : Type 0) (xs : List ℕ) → AllByRecursion P xs
     → ((x : ℕ) → P x → f x ≡ true → C) → list_any f xs ≡ true → C
 any_from f P C [] a c h = absurd (false≢true h)
 any_from f P C (x ∷ xs) a c h = ⊎_elim

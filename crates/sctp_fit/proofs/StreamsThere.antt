@@ -35,7 +35,7 @@ at_with m id n t s h =
     ∙ ap (λ b. cond b (Some s) (stream_at m n)) (found_of n id)
 
 -- two keys that differ are not both found
-cond_swap : {X : Type 0} (n k l : ℕ) (x y z : X) → eqb l k ≡ false
+pub cond_swap : {X : Type 0} (n k l : ℕ) (x y z : X) → eqb l k ≡ false
     → cond (eqb n k) y (cond (eqb n l) x z) ≡ cond (eqb n l) x (cond (eqb n k) y z)
 cond_swap n k l x y z apart =
     ⊎_elim

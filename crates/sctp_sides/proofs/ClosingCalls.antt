@@ -11,7 +11,7 @@ use Rattle.sctp_streams.specs.Streams.{stream_at}
 use Rattle.sctp_assoc.specs.Calls.{accepted_from, high_told, written_at}
 use Rattle.sctp_assoc.specs.Closing.{is_closed_state}
 use Rattle.sctp_assoc.specs.Shown.{Shown}
-use Rattle.sctp_sides.specs.Laws.{AcceptedStreamsDoNotClose, ClosesClose, SettingsDoNotClose, StaysOpen, StaysUnclosed}
+use Rattle.sctp_sides.specs.Laws.{AcceptedStreamsDoNotClose, ClosesClose, SettingsDoNotClose, TellsNothing, DoesNotClose}
 use Rattle.sctp_sides.specs.Laws.{WritesDoNotClose, loss_of, losses}
 use Rattle.sctp_sides.proofs.ClosingPackets.{fault_closes, stays}
 
@@ -27,7 +27,7 @@ none_more queued more none =
     omega (arith, all, none)
 
 written_unclosed : (o : Option StreamView) (a : Shown) (id : ℕ) (named : Option PayloadProtocolIdentifier)
-    (bytes : List ℕ) → StaysUnclosed a (written_at o a id named bytes)
+    (bytes : List ℕ) → DoesNotClose a (written_at o a id named bytes)
 written_unclosed None a id named bytes = record { state = refl; lost = refl; told = refl }
 written_unclosed (Some s) a id named bytes = record {
   state = refl;
@@ -42,12 +42,12 @@ writes_do_not_close a id named bytes = written_unclosed (stream_at a.streams id)
 pub settings_do_not_close : SettingsDoNotClose
 settings_do_not_close a id setting = record { state = refl; lost = refl; events = refl }
 
-accepted_open : (ids : List ℕ) (a : Shown) → StaysOpen a (accepted_from ids a).0
+accepted_open : (ids : List ℕ) (a : Shown) → TellsNothing a (accepted_from ids a).0
 accepted_open [] a = record { state = refl; lost = refl; events = refl }
 accepted_open (id ∷ ids) a = record { state = refl; lost = refl; events = refl }
 
 accepted_open_if : (failed : Bool) (a : Shown)
-    → StaysOpen a (if failed then (a, None) else accepted_from a.to_accept a).0
+    → TellsNothing a (if failed then (a, None) else accepted_from a.to_accept a).0
 accepted_open_if true a = record { state = refl; lost = refl; events = refl }
 accepted_open_if false a = accepted_open a.to_accept a
 

@@ -26,7 +26,7 @@ use Rattle.sctp_assoc.specs.Calls.{after_ack_delay, after_t3, is_established, re
 use Rattle.sctp_assoc.specs.Handshake.{after_t1_init, sends_cookie, sends_init, t1_cookie_expired, t1_init_expired}
 use Rattle.sctp_assoc.specs.Timeouts.{after_handshake_timers}
 use Rattle.sctp_sides.specs.Laws.{DueSacksGoOut, PollsDoNotClose, SacksAreSpelled, SacksOfferTheBuffer}
-use Rattle.sctp_sides.specs.Laws.{SacksNameThePoint, SacksSayWhatWasTaken, StaysOpen, TimersDoNotClose}
+use Rattle.sctp_sides.specs.Laws.{SacksNameThePoint, SacksSayWhatWasTaken, TellsNothing, TimersDoNotClose}
 use Rattle.sctp_assoc.specs.Gather.{ack_after, ack_polled, control_packets, data_packets, data_polled, exchange_polled}
 use Rattle.sctp_assoc.specs.Gather.{is_due, packet_bytes, packet_with, sack_chunk, sack_packet, spelled, with_sent_data}
 use Rattle.sctp_assoc.specs.Gather.{without_control}
@@ -40,33 +40,33 @@ use Rattle.sctp_fit.proofs.HeldTsns.{blocks_name_what_came}
 use Rattle.sctp_sides.proofs.BlocksWithin.{nothing_named}
 use Rattle.sctp_sides.proofs.WaitingGoesOut.{ack_behind, fits_written, short_enough}
 
-open_on : (a b c : Shown) → StaysOpen a b → StaysOpen b c → StaysOpen a c
+open_on : (a b c : Shown) → TellsNothing a b → TellsNothing b c → TellsNothing a c
 open_on a b c m n = record { state = n.state ∙ m.state; lost = n.lost ∙ m.lost; events = n.events ∙ m.events }
 
 sent_data_open : (a : Shown) (count now : ℕ) (x : Sender × List ChunkPayloadData)
-    → StaysOpen a (with_sent_data a count now x).0
+    → TellsNothing a (with_sent_data a count now x).0
 sent_data_open a count now (s, pieces) = record { state = refl; lost = refl; events = refl }
 
-data_open : (a : Shown) (now : ℕ) → StaysOpen a (data_polled a now).0
+data_open : (a : Shown) (now : ℕ) → TellsNothing a (data_polled a now).0
 unfolding data_polled
 data_open a now =
     sent_data_open a (length (resent_by a.sender)) now (sent_new (after_resending a.sender) (resent_by a.sender) now)
 
-ack_open : (due : Bool) (b : Shown) → is_due b.receiver.ack_state ≡ due → StaysOpen b (ack_polled b).0
+ack_open : (due : Bool) (b : Shown) → is_due b.receiver.ack_state ≡ due → TellsNothing b (ack_polled b).0
 unfolding ack_polled
 ack_open true b e = rw e (record { state = refl; lost = refl; events = refl })
 ack_open false b e = rw e (record { state = refl; lost = refl; events = refl })
 
-both_open : (a : Shown) (x : Shown × List ChunkPayloadData) → StaysOpen a x.0 → StaysOpen a (ack_after x).0
+both_open : (a : Shown) (x : Shown × List ChunkPayloadData) → TellsNothing a x.0 → TellsNothing a (ack_after x).0
 both_open a (b, pieces) m =
     rw (both_first (data_packets (header_of b.handshake) pieces) (ack_polled b))
     (open_on a b (ack_polled b).0 m (ack_open _ b refl))
 
-polls_open_if : (c : Bool) (a : Shown) (now : ℕ) → StaysOpen a (if c then ack_after (data_polled a now) else (a, [])).0
+polls_open_if : (c : Bool) (a : Shown) (now : ℕ) → TellsNothing a (if c then ack_after (data_polled a now) else (a, [])).0
 polls_open_if true a now = both_open a (data_polled a now) (data_open a now)
 polls_open_if false a now = record { state = refl; lost = refl; events = refl }
 
-exchange_open : (a : Shown) (now : ℕ) → StaysOpen a (exchange_polled a now).0
+exchange_open : (a : Shown) (now : ℕ) → TellsNothing a (exchange_polled a now).0
 unfolding exchange_polled
 exchange_open a now = polls_open_if (is_established a.state) a now
 
@@ -155,19 +155,19 @@ sacks_are_spelled a few =
 -- Timers leave an association open.
 
 init_open : (o : Option Offer) (a b : Shown) (now : ℕ) → b.handshake.offer ≡ o → b.state ≡ a.state → b.lost ≡ a.lost
-    → b.events ≡ a.events → StaysOpen a (sends_init b now)
+    → b.events ≡ a.events → TellsNothing a (sends_init b now)
 unfolding sends_init
 init_open None a b now o s l e = rw o (record { state = s; lost = l; events = e })
 init_open (Some offer) a b now o s l e = rw o (record { state = s; lost = l; events = e })
 
 cookie_open : (o : Option (List ℕ)) (a b : Shown) (now : ℕ) → b.handshake.echo ≡ o → b.state ≡ a.state → b.lost ≡ a.lost
-    → b.events ≡ a.events → StaysOpen a (sends_cookie b now)
+    → b.events ≡ a.events → TellsNothing a (sends_cookie b now)
 unfolding sends_cookie
 cookie_open None a b now o s l e = rw o (record { state = s; lost = l; events = e })
 cookie_open (Some cookie) a b now o s l e = rw o (record { state = s; lost = l; events = e })
 
 t1_init_open : (expired failure : Bool) (a : Shown) (now : ℕ)
-    → StaysOpen a
+    → TellsNothing a
     (if expired then
     (if failure then (let b = t1_init_expired a now in record b { handshake_fault = Some errors.ErrHandshakeInitAck })
     else sends_init (t1_init_expired a now) now) else a)
@@ -176,7 +176,7 @@ t1_init_open true true a now = record { state = refl; lost = refl; events = refl
 t1_init_open true false a now = init_open a.handshake.offer a (t1_init_expired a now) now refl refl refl refl
 
 t1_cookie_open : (expired failure : Bool) (a : Shown) (now : ℕ)
-    → StaysOpen a
+    → TellsNothing a
     (if expired then
     (if failure then (let b =
     t1_cookie_expired a now in record b { handshake_fault = Some errors.ErrHandshakeCookieEcho }) else
@@ -186,13 +186,13 @@ t1_cookie_open true true a now = record { state = refl; lost = refl; events = re
 t1_cookie_open true false a now = cookie_open a.handshake.echo a (t1_cookie_expired a now) now refl refl refl refl
 
 t3_open : (expired failure : Bool) (a : Shown) (now : ℕ)
-    → StaysOpen a (if expired then (if failure then t3_expired a now else retransmits (t3_expired a now) now) else a)
+    → TellsNothing a (if expired then (if failure then t3_expired a now else retransmits (t3_expired a now) now) else a)
 t3_open false failure a now = record { state = refl; lost = refl; events = refl }
 t3_open true true a now = record { state = refl; lost = refl; events = refl }
 t3_open true false a now = record { state = refl; lost = refl; events = refl }
 
 delay_open : (expired : Bool) (a : Shown) (now : ℕ) → (expiry_of names.Ack now a.timers).expired ≡ expired
-    → StaysOpen a (after_ack_delay a now)
+    → TellsNothing a (after_ack_delay a now)
 delay_open false a now e = rw e (record { state = refl; lost = refl; events = refl })
 delay_open true a now e = rw e (record { state = refl; lost = refl; events = refl })
 

@@ -8,7 +8,7 @@ use Rattle.sctp_streams.specs.Streams.{StreamMap}
 use Rattle.sctp_inbound.specs.Held.{is_passed}
 use Rattle.sctp_model.specs.Packets.{mem}
 use Rattle.sctp_fit.specs.HeldSet.{HoldsPast, IsPast, point_of}
-use Rattle.sctp_fit.proofs.HeldTsns.{before, held_is, spells}
+use Rattle.sctp_fit.proofs.HeldTsns.{any_from, any_in, before, held_is, spells}
 use Rattle.sctp_directions.specs.Acts.{History, IsNewTsn, offset_in, reach_in}
 use Rattle.sctp_assoc.proofs.WhatCame.{came_on}
 use Rattle.sctp_sides.specs.Intake.{FillsAGap}
@@ -16,21 +16,6 @@ use Rattle.sctp_sides.specs.Intake.{FillsAGap}
 -- how far the TSN of an offset lies past the point
 past_before : (i r x : ℕ) → r ≤ x → x < r + 65535 → tsn_past (before i r) (tsn i x) + r ≡ suc x
 past_before i r x a b = omega arith
-
--- a test that a member passes, and one that none passes but those of which something holds
-any_in : (f : ℕ → Bool) (x : ℕ) (xs : List ℕ) → mem x xs ≡ true → f x ≡ true → list_any f xs ≡ true
-any_in f x [] m h = absurd (false≢true m)
-any_in f x (y ∷ ys) m h = ⊎_elim
-    (λ (e : eqb y x ≡ true). or_left (f y) (list_any f ys) (ap f (eqb-true y x e) ∙ h))
-    (λ (r : mem x ys ≡ true). or_right (f y) (list_any f ys) (any_in f x ys r h))
-    (or_cases (eqb y x) (mem x ys) m)
-
-any_from : (f : ℕ → Bool) (P : ℕ → Type 0) (C : Type 0) (xs : List ℕ) → AllByRecursion P xs
-    → ((x : ℕ) → P x → f x ≡ true → C) → list_any f xs ≡ true → C
-any_from f P C [] a c h = absurd (false≢true h)
-any_from f P C (x ∷ xs) a c h = ⊎_elim
-    (λ (e : f x ≡ true). c x a.0 e) (λ (r : list_any f xs ≡ true). any_from f P C xs a.1 c r)
-    (or_cases (f x) (list_any f xs) h)
 
 -- distances past the point go as offsets do
 farther : (x y r o q : ℕ) → x + r ≡ suc o → y + r ≡ suc q → x < y → o < q

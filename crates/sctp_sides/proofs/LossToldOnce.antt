@@ -9,7 +9,7 @@ use Rattle.sctp_streams.specs.declared.event.Event.{Event}
 use Rattle.sctp_assoc.specs.Calls.{accepted_stream, event_from, fault_told, written}
 use Rattle.sctp_assoc.specs.Closing.{closed_by, is_closed_state}
 use Rattle.sctp_assoc.specs.Chunks.{after_packet}
-use Rattle.sctp_sides.specs.Laws.{IsClosedIf, StaysOpen, StaysUnclosed, closes, is_faulted_packet, loss_of, losses}
+use Rattle.sctp_sides.specs.Laws.{IsClosedIf, TellsNothing, DoesNotClose, closes, is_faulted_packet, loss_of, losses}
 use Rattle.sctp_sides.specs.OneSide.{Call, Calls, IsFresh, IsUnchanged, IsRun, carried_out, told_by, with_told}
 use Rattle.sctp_assoc.specs.Gather.{polled}
 use Rattle.sctp_assoc.specs.Shown.{Shown}
@@ -40,7 +40,7 @@ tells_nothing a b lost events =
     let n : losses b.events ≡ losses a.events = ap losses events in
     record { lost = lost; count = omega (arith, n); once = λ e. absurd (false≢true e) }
 
-unclosed_tells : (a b : Shown) → StaysUnclosed a b → Tells false a (b, [])
+unclosed_tells : (a b : Shown) → DoesNotClose a b → Tells false a (b, [])
 unclosed_tells a b h =
     record { lost = h.lost; count = omega (arith, h.told); once = λ e. absurd (false≢true e) }
 
@@ -77,7 +77,7 @@ closes_by (Call.PollTransmit now) a = false
 closes_by (Call.HandleTimeout now) a = false
 closes_by (Call.HandleEvent packet now) a = closes a packet now
 
-open_tells : (a b : Shown) → StaysOpen a b → Tells false a (b, [])
+open_tells : (a b : Shown) → TellsNothing a b → Tells false a (b, [])
 open_tells a b h = tells_nothing a b h.lost h.events
 
 -- what is not closed was not lost, where each association that was lost is closed

@@ -10,23 +10,11 @@ use Rattle.std.specs.Map.{lookup, set_value}
 use Rattle.sctp_wire_types.specs.declared.ids.PayloadProtocolIdentifier.{PayloadProtocolIdentifier}
 use Rattle.sctp_streams.specs.Stream.{StreamView, fresh_stream}
 use Rattle.sctp_streams.specs.Streams.{StreamMap, made, stream_at, with_stream}
+use Rattle.sctp_fit.proofs.StreamsThere.{cond_swap}
 
 -- a key is found exactly where it is the one that is looked for
 found_as : (n k : ℕ) → is_eq (nat_cmp n k) ≡ eqb n k
 found_as n k = grind (arith, nat_tests)
-
--- two keys that differ are not both found
-cond_swap : {X : Type 0} (n k l : ℕ) (x y z : X) → eqb l k ≡ false
-    → cond (eqb n k) y (cond (eqb n l) x z) ≡ cond (eqb n l) x (cond (eqb n k) y z)
-cond_swap n k l x y z apart =
-    ⊎_elim
-    (λ (a : eqb n k ≡ true).
-    ⊎_elim
-    (λ (b : eqb n l ≡ true). absurd (true≢false (sym (rw (← eqb-true n l b) a) ∙ apart)))
-    (λ (b : eqb n l ≡ false). rw (a, b) refl)
-    (cases_Bool (eqb n l)))
-    (λ (a : eqb n k ≡ false). rw a refl)
-    (cases_Bool (eqb n k))
 
 -- One entry more, in front of these: one is set behind it, or put.
 module _ (e : ℕ × StreamView) (es rest : List (ℕ × StreamView)) (id n : ℕ) (s : StreamView) where

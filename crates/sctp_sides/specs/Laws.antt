@@ -103,13 +103,13 @@ abbrev pub losses : List Event → ℕ
 losses queued = sum_by loss_of queued
 
 -- The state and the mark of a loss are as they were, and no loss more is told.
-pub record StaysUnclosed (a b : Shown) : Type 0 where
+pub record DoesNotClose (a b : Shown) : Type 0 where
   pub state : b.state ≡ a.state
   pub lost : b.lost ≡ a.lost
   pub told : losses b.events ≡ losses a.events
 
 -- The state, the mark of a loss and the events are as they were.
-pub record StaysOpen (a b : Shown) : Type 0 where
+pub record TellsNothing (a b : Shown) : Type 0 where
   pub state : b.state ≡ a.state
   pub lost : b.lost ≡ a.lost
   pub events : b.events ≡ a.events
@@ -118,22 +118,22 @@ pub record StaysOpen (a b : Shown) : Type 0 where
 -- as an event, but as no loss.
 abbrev pub WritesDoNotClose : Type 0
 WritesDoNotClose = (a : Shown) (id : ℕ) (named : Option PayloadProtocolIdentifier) (bytes : List ℕ)
-    → StaysUnclosed a (written a id named bytes)
+    → DoesNotClose a (written a id named bytes)
 
 abbrev pub SettingsDoNotClose : Type 0
-SettingsDoNotClose = (a : Shown) (id : ℕ) (setting : Setting) → StaysOpen a (adjusted a id setting)
+SettingsDoNotClose = (a : Shown) (id : ℕ) (setting : Setting) → TellsNothing a (adjusted a id setting)
 
 abbrev pub AcceptedStreamsDoNotClose : Type 0
-AcceptedStreamsDoNotClose = (a : Shown) → StaysOpen a (accepted_stream a).0
+AcceptedStreamsDoNotClose = (a : Shown) → TellsNothing a (accepted_stream a).0
 
 abbrev pub OpenedStreamsDoNotClose : Type 0
-OpenedStreamsDoNotClose = (a : Shown) (id : ℕ) (kind : PayloadProtocolIdentifier) → StaysOpen a (opened a id kind)
+OpenedStreamsDoNotClose = (a : Shown) (id : ℕ) (kind : PayloadProtocolIdentifier) → TellsNothing a (opened a id kind)
 
 abbrev pub PollsDoNotClose : Type 0
-PollsDoNotClose = (a : Shown) (now : ℕ) → StaysOpen a (polled a now).0
+PollsDoNotClose = (a : Shown) (now : ℕ) → TellsNothing a (polled a now).0
 
 abbrev pub TimersDoNotClose : Type 0
-TimersDoNotClose = (a : Shown) (now : ℕ) → StaysOpen a (after_timeouts a now)
+TimersDoNotClose = (a : Shown) (now : ℕ) → TellsNothing a (after_timeouts a now)
 
 abbrev pub faults_or : Shown × Flow → (Shown → AckTrigger → Bool) → Bool
 faults_or (a, flows.Next trigger) more = more a trigger
@@ -177,7 +177,7 @@ read_closes a id = read_exhausts a id && not (is_closed_state a.state)
 abbrev pub ExhaustingReadsAloneClose : Type 0
 ExhaustingReadsAloneClose = (a : Shown) (id : ℕ) → IsClosedIf (read_closes a id) a (read_from_stream a id).0
 
--- An application's close closes an open association once, by whatever reason.
+-- A close closes an open association once, by whatever reason.
 abbrev pub ClosesClose : Type 0
 ClosesClose =
     (a : Shown) (reason : AssociationError) → IsClosedIf (not (is_closed_state a.state)) a (closed_by a reason)

@@ -10,9 +10,10 @@ use std::collections::VecDeque;
 use std::marker::Model;
 use thiserror::Error as ThisError;
 
-/// Why an association was lost or never came about. So far two are told: `HandshakeFailed`, whose error is
-/// `ErrHandshakeInitAck` or `ErrHandshakeCookieEcho`, and `AssociationClosed`, for every fault that closes an
-/// association, whatever its text says. The others are those of the ported crate.
+/// Why an association was lost or never came about. So far three are told: `HandshakeFailed`, whose error is
+/// `ErrHandshakeInitAck` or `ErrHandshakeCookieEcho`; `ReceiveBufferExhausted`, where nothing that waits in a full
+/// receive buffer can ever be read; and `AssociationClosed`, for every other fault that closes an association and for
+/// `Association::close`, whatever its text says. The others are those of the ported crate.
 #[derive(Clone, Copy, Debug, PartialEq, ThisError)]
 pub enum AssociationError {
     #[error("{0}")]

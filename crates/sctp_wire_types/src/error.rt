@@ -42,7 +42,7 @@ pub enum Fault {
 /// | `ErrStreamAlreadyExist`, `ErrStreamCreateFailed` | `Association::open_stream` |
 /// | `ErrStreamNotExisted` | `Association::stream` |
 /// | `ErrStreamClosed` | the calls of a stream |
-/// | `ErrPayloadDataStateNotExist`, `ErrEmptyMessage`, `ErrOutboundPacketTooLarge` | `Stream::write` |
+/// | `ErrPayloadDataStateNotExist`, `ErrEmptyMessage`, `ErrOutboundPacketTooLarge` | the writes of a stream |
 /// | `Malformed` | reading and writing of packets, and the checks of packets and chunks |
 /// | `ErrHandshakeInitAck`, `ErrHandshakeCookieEcho` | no call; the event `HandshakeFailed` has them |
 ///

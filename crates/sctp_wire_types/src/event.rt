@@ -8,7 +8,8 @@ pub enum StreamResetError {
     Failed,
 }
 
-/// Something that happened on a stream. So far an association tells `Opened` and `Readable` alone.
+/// Something that happened on a stream. So far an association tells `Opened`, `Readable`,
+/// `BufferedAmountLow` and `BufferedAmountHigh`.
 #[derive(Clone, Copy, Debug, PartialEq, Eq)]
 pub enum StreamEvent {
     /// DATA came for a stream that was not there, and made it.
