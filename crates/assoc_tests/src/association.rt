@@ -51,7 +51,15 @@ pub(crate) fn joined(
     )
 }
 
-// Calls without their contracts: a test needs none, and is proved sooner without them.
+// Calls without their contracts: a test needs none, and is proved sooner without them. Each way out of a function that
+// owns an association proves how it is dropped; so one function owns it, and those that ask it borrow it.
+
+/// The state's name and the next deadline, in ms, 0 where there is none.
+pub(crate) type Standing = (AssociationState, u64);
+
+/// The peer's window, the cumulative TSN ack point and the peer's tag, streams that may be sent on and received on, and
+/// whether FORWARD TSN is in use.
+pub(crate) type Numbers = (u32, u32, u32, (u16, u16), bool);
 
 /// What the timers that expired ask for is done.
 pub(crate) fn expire(association: &mut Association, millis: u64) -> Result<(), Error> {
@@ -63,9 +71,8 @@ pub(crate) fn told(association: &mut Association) -> Result<Option<Event>, Error
     association.poll()
 }
 
-/// The peer's window, the cumulative TSN ack point and the peer's tag, streams that may be sent on and received on, and
-/// whether FORWARD TSN is in use.
-pub(crate) fn numbers(association: &Association) -> (u32, u32, u32, (u16, u16), bool) {
+/// Its numbers.
+pub(crate) fn numbers(association: &Association) -> Numbers {
     (
         association.rwnd(),
         association.peer_last_tsn(),
@@ -75,8 +82,8 @@ pub(crate) fn numbers(association: &Association) -> (u32, u32, u32, (u16, u16), 
     )
 }
 
-/// The state's name and the next deadline, in ms, 0 where there is none.
-pub(crate) fn standing(association: &Association) -> (AssociationState, u64) {
+/// How it stands.
+pub(crate) fn standing(association: &Association) -> Standing {
     let nanos = match association.poll_timeout() {
         Some(moment) => moment.as_nanos(),
         None => 0,
@@ -128,40 +135,66 @@ fn a_token_with_tag_0_is_refused(rt: HostRuntime) -> Result<(), Fail> {
     Ok(())
 }
 
+// What a joined association is.
+fn seen(alloc: Global) -> Result<(Standing, Numbers, (u32, Duration, bool)), Error> {
+    let association = joined(alloc, 1200, (1, 2))?;
+    Ok((
+        standing(&association),
+        numbers(&association),
+        measures(&association),
+    ))
+}
+
+// Whether it is told of its establishment, and of nothing more.
+fn hears_of_it(association: &mut Association) -> Result<bool, Error> {
+    let first = told(association)?;
+    let second = told(association)?;
+    Ok(first == Some(Event::Connected) && second.is_none())
+}
+
+fn is_told(alloc: Global) -> Result<bool, Error> {
+    let mut association = joined(alloc, 1200, (1, 2))?;
+    hears_of_it(&mut association)
+}
+
 #[test]
 fn a_joined_association_is_connected(rt: HostRuntime) -> Result<(), Fail> {
-    let mut association = joined(rt.alloc(), 1200, (1, 2))?;
-    assert_eq!(rt; standing(&association), (AssociationState::Established, 0));
-    assert_eq!(rt;
-        numbers(&association),
-        (1_048_576, 499, 2, (65_535, 65_535), true)
-    );
-    assert_eq!(rt;
-        measures(&association),
-        (1_048_576, Duration::from_millis(3000), false)
-    );
-    assert!(rt; told(&mut association)? == Some(Event::Connected));
-    assert!(rt; told(&mut association)?.is_none());
+    let (standing, numbers, measures) = seen(rt.alloc())?;
+    assert_eq!(rt; standing, (AssociationState::Established, 0));
+    assert_eq!(rt; numbers, (1_048_576, 499, 2, (65_535, 65_535), true));
+    assert_eq!(rt; measures, (1_048_576, Duration::from_millis(3000), false));
+    assert!(rt; is_told(rt.alloc())?);
     Ok(())
 }
 
-// A stream with three bytes accepted; a message that is too long was refused before.
-fn written(alloc: Global) -> Result<Association, Error> {
-    let mut association = joined(alloc, 1200, (1, 2))?;
+/// Messages are accepted on stream 7.
+pub(crate) fn write_all(association: &mut Association, messages: &[&[u8]]) -> Result<(), Error> {
     let mut stream = association.open_stream(7, PayloadProtocolIdentifier::String)?;
-    let long = vec![in alloc; 7u8; 65_537]?;
-    if stream.write(long.as_slice()).err() == Some(Error::ErrOutboundPacketTooLarge) {
-        let _ = stream.write(b"abc")?;
+    for message in messages {
+        let _ = stream.write(message)?;
     }
-    Ok(association)
+    Ok(())
+}
+
+fn refuses_a_long_message(alloc: Global, association: &mut Association) -> Result<bool, Error> {
+    let long = vec![in alloc; 7u8; 65_537]?;
+    let mut stream = association.stream(7)?;
+    Ok(stream.write(long.as_slice()).err() == Some(Error::ErrOutboundPacketTooLarge))
+}
+
+// Three bytes are accepted, a message that is too long is refused, and what goes out is marked once its timer expires.
+fn marks(alloc: Global, association: &mut Association) -> Result<bool, Error> {
+    write_all(association, &[b"abc"])?;
+    let refused = refuses_a_long_message(alloc, association)?;
+    let sent = is_sent(association)? && !association.is_marked(100);
+    let window = association.rwnd();
+    expire(association, 3000)?;
+    Ok(refused && sent && window == 1_048_573 && association.is_marked(100))
 }
 
 fn is_marked_after_timeout(alloc: Global) -> Result<bool, Error> {
-    let mut association = written(alloc)?;
-    let sent = is_sent(&mut association)? && !association.is_marked(100);
-    let window = association.rwnd();
-    expire(&mut association, 3000)?;
-    Ok(sent && window == 1_048_573 && association.is_marked(100))
+    let mut association = joined(alloc, 1200, (1, 2))?;
+    marks(alloc, &mut association)
 }
 
 #[test]

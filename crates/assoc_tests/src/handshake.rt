@@ -1,5 +1,5 @@
 // The handshake, packet by packet. The datagrams were spelled apart from this code.
-use crate::association::{address, expire, joined, numbers, standing, told};
+use crate::association::{Numbers, Standing, address, expire, joined, numbers, standing, told};
 use bytes::Bytes;
 use sctp_assoc::{
     Association, AssociationError, AssociationEvent, AssociationState, Error, Event, Instant,
@@ -185,16 +185,27 @@ pub(crate) fn answer(
     sent(alloc, association, 0)
 }
 
+// What goes out once these datagrams came, and what the association is then.
+fn after(
+    alloc: Global,
+    association: &mut Association,
+    text: &str,
+) -> Result<(String, Numbers, Standing), Fail> {
+    let answer = answer(alloc, association, text)?;
+    Ok((answer, numbers(association), standing(association)))
+}
+
+fn server_after(alloc: Global, text: &str) -> Result<(String, Numbers, Standing), Fail> {
+    let mut server = server(alloc)?;
+    after(alloc, &mut server, text)
+}
+
 #[test]
 fn an_init_is_answered_by_an_init_ack(rt: HostRuntime) -> Result<(), Fail> {
-    let mut server = server(rt.alloc())?;
-    let answer = answer(rt.alloc(), &mut server, INIT)?;
+    let (answer, numbers, standing) = server_after(rt.alloc(), INIT)?;
     assert_eq!(rt; answer.as_str(), INIT_ACK);
-    assert_eq!(rt;
-        numbers(&server),
-        (131_072, 0, 0x1234_5678, (1024, 1024), true)
-    );
-    assert_eq!(rt; standing(&server), (AssociationState::Closed, 0));
+    assert_eq!(rt; numbers, (131_072, 0, 0x1234_5678, (1024, 1024), true));
+    assert_eq!(rt; standing, (AssociationState::Closed, 0));
     Ok(())
 }
 
@@ -212,11 +223,10 @@ fn a_datagram_that_does_not_decode_is_refused(rt: HostRuntime) -> Result<(), Fai
 
 #[test]
 fn an_init_under_a_tag_changes_nothing(rt: HostRuntime) -> Result<(), Fail> {
-    let mut server = server(rt.alloc())?;
-    let answer = answer(rt.alloc(), &mut server, INIT_UNDER_TAG)?;
+    let (answer, numbers, standing) = server_after(rt.alloc(), INIT_UNDER_TAG)?;
     assert_eq!(rt; answer.as_str(), "");
-    assert_eq!(rt; numbers(&server), (0, 0, 0, (65_535, 65_535), false));
-    assert_eq!(rt; standing(&server), (AssociationState::Closed, 0));
+    assert_eq!(rt; numbers, (0, 0, 0, (65_535, 65_535), false));
+    assert_eq!(rt; standing, (AssociationState::Closed, 0));
     Ok(())
 }
 
@@ -235,50 +245,71 @@ fn gives_up(client: &mut Association) -> Result<bool, Error> {
     Ok(first == Some(Event::HandshakeFailed { reason }) && second.is_none())
 }
 
-#[test]
-fn a_client_gives_up_after_its_last_init(rt: HostRuntime) -> Result<(), Fail> {
-    let config = TransportConfig::default().with_max_init_retransmits(Some(2));
-    let mut client = client(rt.alloc(), &config, 1, 100)?;
+// The first moment at which the client does something else, and whether it gives up then.
+fn rounds(alloc: Global, client: &mut Association) -> Result<(Option<u64>, bool), Fail> {
+    let mut wrong = None;
     for (millis, init, deadline) in [
         (0, CLIENT_INIT, 3000),
         (3000, CLIENT_INIT, 9000),
         (9000, CLIENT_INIT, 21_000),
         (21_000, "", 0),
     ] {
-        let (text, next) = round(rt.alloc(), &mut client, millis)?;
-        assert!(rt; text.as_str() == init && next == deadline, "at {millis}");
+        let (text, next) = round(alloc, client, millis)?;
+        if wrong.is_none() && (text.as_str() != init || next != deadline) {
+            wrong = Some(millis);
+        }
     }
-    assert!(rt; gives_up(&mut client)?);
+    Ok((wrong, gives_up(client)?))
+}
+
+fn client_alone(alloc: Global) -> Result<(Option<u64>, bool), Fail> {
+    let config = TransportConfig::default().with_max_init_retransmits(Some(2));
+    let mut client = client(alloc, &config, 1, 100)?;
+    rounds(alloc, &mut client)
+}
+
+#[test]
+fn a_client_gives_up_after_its_last_init(rt: HostRuntime) -> Result<(), Fail> {
+    assert_eq!(rt; client_alone(rt.alloc())?, (None, true));
     Ok(())
+}
+
+fn joined_after(alloc: Global, text: &str) -> Result<String, Fail> {
+    let mut association = joined(alloc, 1200, (1, 2))?;
+    answer(alloc, &mut association, text)
 }
 
 #[test]
 fn a_heartbeat_is_answered_with_its_information(rt: HostRuntime) -> Result<(), Fail> {
-    let mut association = joined(rt.alloc(), 1200, (1, 2))?;
-    let answer = answer(rt.alloc(), &mut association, HEARTBEAT)?;
+    let answer = joined_after(rt.alloc(), HEARTBEAT)?;
     assert_eq!(rt; answer.as_str(), HEARTBEAT_ACK);
     Ok(())
 }
 
+fn client_after(alloc: Global, text: &str) -> Result<(String, Numbers, Standing), Fail> {
+    let mut client = client(alloc, &TransportConfig::default(), 1, 100)?;
+    after(alloc, &mut client, text)
+}
+
 #[test]
 fn of_an_init_ack_between_other_ports_tag_and_streams_count(rt: HostRuntime) -> Result<(), Fail> {
-    let mut client = client(rt.alloc(), &TransportConfig::default(), 1, 100)?;
-    let init = answer(rt.alloc(), &mut client, INIT_ACK_OF_OTHER_PORTS)?;
+    let (init, numbers, standing) = client_after(rt.alloc(), INIT_ACK_OF_OTHER_PORTS)?;
     assert_eq!(rt; init.as_str(), CLIENT_INIT);
-    assert_eq!(rt; numbers(&client), (0, 0, 2, (20, 10), false));
-    assert_eq!(rt; standing(&client), (AssociationState::CookieWait, 3000));
+    assert_eq!(rt; numbers, (0, 0, 2, (20, 10), false));
+    assert_eq!(rt; standing, (AssociationState::CookieWait, 3000));
     Ok(())
 }
 
-// Two clients, after the packets of both have crossed four times.
-fn met(alloc: Global) -> Result<(Association, Association), Fail> {
-    let config = TransportConfig::default();
-    let mut a = client(alloc, &config, 1, 100)?;
-    let mut b = client(alloc, &config, 2, 500)?;
+// The packets of both cross four times; how both stand then.
+fn meet(
+    alloc: Global,
+    a: &mut Association,
+    b: &mut Association,
+) -> Result<(Standing, Standing), Fail> {
     for _ in 0..4_u8 {
-        cross(alloc, &mut a, &mut b)?;
+        cross(alloc, a, b)?;
     }
-    Ok((a, b))
+    Ok((standing(a), standing(b)))
 }
 
 fn write(association: &mut Association, id: u16, bytes: &[u8]) -> Result<usize, Error> {
@@ -314,17 +345,35 @@ fn read_text(alloc: Global, association: &mut Association) -> Result<String, Fai
     Ok(format!(in alloc; "{number} {bytes}")?)
 }
 
+// A writes a message and B gets it: whether B is told, what it reads, and its cumulative TSN ack point.
+fn say(
+    alloc: Global,
+    a: &mut Association,
+    b: &mut Association,
+) -> Result<(bool, String, u32), Fail> {
+    let _ = write(a, 1, b"hi")?;
+    cross(alloc, a, b)?;
+    let heard = hears(b)?;
+    let message = read_text(alloc, b)?;
+    Ok((heard, message, numbers(b).1))
+}
+
+fn met_and_said(alloc: Global) -> Result<((Standing, Standing), (bool, String, u32)), Fail> {
+    let config = TransportConfig::default();
+    let mut a = client(alloc, &config, 1, 100)?;
+    let mut b = client(alloc, &config, 2, 500)?;
+    let standing = meet(alloc, &mut a, &mut b)?;
+    let said = say(alloc, &mut a, &mut b)?;
+    Ok((standing, said))
+}
+
 #[test]
 fn two_clients_that_meet_are_established(rt: HostRuntime) -> Result<(), Fail> {
-    let (mut a, mut b) = met(rt.alloc())?;
-    for side in [&a, &b] {
-        assert_eq!(rt; standing(side), (AssociationState::Established, 0));
-    }
-    assert_eq!(rt; write(&mut a, 1, b"hi")?, 2);
-    cross(rt.alloc(), &mut a, &mut b)?;
-    assert!(rt; hears(&mut b)?);
-    let message = read_text(rt.alloc(), &mut b)?;
+    let (standing, (heard, message, point)) = met_and_said(rt.alloc())?;
+    let established = (AssociationState::Established, 0);
+    assert_eq!(rt; standing, (established, established));
+    assert!(rt; heard);
     assert_eq!(rt; message.as_str(), "53 6869");
-    assert_eq!(rt; numbers(&b).1, 100);
+    assert_eq!(rt; point, 100);
     Ok(())
 }

@@ -1,7 +1,7 @@
 // SACKs with gap ack blocks. The datagrams were spelled apart from this code.
-use crate::association::{joined, standing};
+use crate::association::{Standing, joined, standing, write_all};
 use crate::handshake::answer;
-use sctp_assoc::{Association, AssociationState, Error, Instant, PayloadProtocolIdentifier};
+use sctp_assoc::{Association, AssociationState, Error, Instant};
 use std::alloc::Global;
 use std::test::Fail;
 
@@ -18,33 +18,59 @@ static FOURTH_CAME: &str = "\
 ";
 
 // Messages of three bytes, of two and of one are in flight, from TSN 100 on.
-fn sending(alloc: Global) -> Result<Association, Error> {
-    let mut association = joined(alloc, 1200, (1, 2))?;
-    let mut stream = association.open_stream(7, PayloadProtocolIdentifier::String)?;
-    let _ = stream.write(b"abc")?;
-    let _ = stream.write(b"de")?;
-    let _ = stream.write(b"f")?;
+fn send(association: &mut Association) -> Result<(), Error> {
+    write_all(association, &[b"abc", b"de", b"f"])?;
     let _ = association.poll_transmit(Instant::from_millis(0))?;
-    Ok(association)
+    Ok(())
 }
 
 fn buffered(association: &mut Association) -> Result<u64, Error> {
     Ok(association.stream(7)?.buffered_amount()? as u64)
 }
 
+// What is buffered before a SACK and behind it.
+fn buffered_around(
+    alloc: Global,
+    association: &mut Association,
+    sack: &str,
+) -> Result<(u64, u64), Fail> {
+    send(association)?;
+    let before = buffered(association)?;
+    let _ = answer(alloc, association, sack)?;
+    Ok((before, buffered(association)?))
+}
+
+fn released(alloc: Global, sack: &str) -> Result<(u64, u64), Fail> {
+    let mut association = joined(alloc, 1200, (1, 2))?;
+    buffered_around(alloc, &mut association, sack)
+}
+
 #[test]
 fn a_block_releases_the_bytes_that_it_names(rt: HostRuntime) -> Result<(), Fail> {
-    let mut association = sending(rt.alloc())?;
-    assert_eq!(rt; buffered(&mut association)?, 6);
-    let _ = answer(rt.alloc(), &mut association, SECOND_CAME)?;
-    assert_eq!(rt; buffered(&mut association)?, 4);
+    assert_eq!(rt; released(rt.alloc(), SECOND_CAME)?, (6, 4));
     Ok(())
+}
+
+fn standing_after(
+    alloc: Global,
+    association: &mut Association,
+    sack: &str,
+) -> Result<Standing, Fail> {
+    send(association)?;
+    let _ = answer(alloc, association, sack)?;
+    Ok(standing(association))
+}
+
+fn left_by(alloc: Global, sack: &str) -> Result<Standing, Fail> {
+    let mut association = joined(alloc, 1200, (1, 2))?;
+    standing_after(alloc, &mut association, sack)
 }
 
 #[test]
 fn a_block_that_names_the_unsent_closes(rt: HostRuntime) -> Result<(), Fail> {
-    let mut association = sending(rt.alloc())?;
-    let _ = answer(rt.alloc(), &mut association, FOURTH_CAME)?;
-    assert_eq!(rt; standing(&association), (AssociationState::Closed, 0));
+    assert_eq!(rt;
+        left_by(rt.alloc(), FOURTH_CAME)?,
+        (AssociationState::Closed, 0)
+    );
     Ok(())
 }
