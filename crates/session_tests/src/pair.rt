@@ -56,18 +56,34 @@ fn counts(association: &Association) -> [u64; 5] {
     ]
 }
 
+// The length of A's first packet, whether A gave out a second one, both sides' counts, and B's cumulative TSN ack point.
+fn shown(pair: &Pair) -> (usize, bool, [u64; 5], [u64; 5], u32) {
+    (
+        pair.packet(Side2::A, 0).map_or(0, |packet| packet.len()),
+        pair.packet(Side2::A, 1).is_some(),
+        counts(pair.association(Side2::A)),
+        counts(pair.association(Side2::B)),
+        pair.association(Side2::B).peer_last_tsn(),
+    )
+}
+
+// The replies to the steps above, and what the pair shows then. A pair is owned by functions with few ways out, as each
+// proves how it is dropped.
+fn replies_and_shown(
+    alloc: Global,
+) -> Result<(String, (usize, bool, [u64; 5], [u64; 5], u32)), Error> {
+    let mut pair = snapped(alloc, 1200, 100, 500)?;
+    let text = replies_to(alloc, &mut pair, STEPS)?;
+    let shown = shown(&pair);
+    Ok((text, shown))
+}
+
 #[test]
 fn a_run_gives_replies_packets_and_counts(rt: HostRuntime) -> Result<(), Fail> {
-    let mut pair = snapped(rt.alloc(), 1200, 100, 500)?;
-    let text = replies_to(rt.alloc(), &mut pair, STEPS)?;
+    let (text, shown) = replies_and_shown(rt.alloc())?;
     assert_eq!(rt; text.as_str(), REPLIES);
     // common header 12, DATA header 16, two bytes and their padding
-    let length = pair.packet(Side2::A, 0).map_or(0, |packet| packet.len());
-    assert_eq!(rt; length, 32);
-    assert!(rt; pair.packet(Side2::A, 1).is_none());
-    assert_eq!(rt; counts(pair.association(Side2::A)), [0, 1, 0, 0, 0]);
-    assert_eq!(rt; counts(pair.association(Side2::B)), [1, 0, 0, 1, 0]);
-    assert_eq!(rt; pair.association(Side2::B).peer_last_tsn(), 100);
+    assert_eq!(rt; shown, (32, false, [0, 1, 0, 0, 0], [1, 0, 0, 1, 0], 100));
     Ok(())
 }
 
@@ -122,23 +138,32 @@ fn exhausting(alloc: Global) -> Result<String, AllocError> {
     Ok(text)
 }
 
-// The replies to these steps, and the second packet that B gave out, in hex.
+// The second packet that B gave out, in hex.
+fn second_of_b(alloc: Global, pair: &Pair) -> Result<String, Error> {
+    match pair.packet(Side2::B, 1) {
+        Some(packet) => Ok(hex::encode(alloc, packet.as_slice())?),
+        None => Ok(String::new(alloc)),
+    }
+}
+
+// The replies to these steps, and that packet.
+fn exhaust(alloc: Global, pair: &mut Pair) -> Result<(String, String), Error> {
+    let steps = exhausting(alloc)?;
+    let text = replies_to(alloc, pair, steps.as_str())?;
+    let packet = second_of_b(alloc, pair)?;
+    Ok((text, packet))
+}
+
 fn exhausted(alloc: Global) -> Result<(String, String), Error> {
     let config = TransportConfig::default().with_max_receive_buffer_size(2000);
     let mut pair = snapped_under(alloc, &config, 1200, 100, 500)?;
-    let steps = exhausting(alloc)?;
-    let text = replies_to(alloc, &mut pair, steps.as_str())?;
-    let chunks = match pair.packet(Side2::B, 1) {
-        Some(packet) => hex::encode(alloc, packet.as_slice())?,
-        None => String::new(alloc),
-    };
-    Ok((text, chunks))
+    exhaust(alloc, &mut pair)
 }
 
 #[test]
 fn an_exhausted_buffer_closes_and_tells_the_peer(rt: HostRuntime) -> Result<(), Fail> {
-    let (text, chunks) = exhausted(rt.alloc())?;
+    let (text, packet) = exhausted(rt.alloc())?;
     assert_eq!(rt; text.as_str(), EXHAUSTING_REPLIES);
-    assert_eq!(rt; chunks.as_str(), ABORT);
+    assert_eq!(rt; packet.as_str(), ABORT);
     Ok(())
 }

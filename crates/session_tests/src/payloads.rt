@@ -37,16 +37,24 @@ fn begin_together(a: Option<&u8>, b: Option<&u8>) -> bool {
     }
 }
 
+// Whether the bytes are those of A's first packet, in their place.
+fn lie_in_packet(pair: &Pair, bytes: &Bytes) -> bool {
+    match pair.packet(Side2::A, 0) {
+        Some(packet) => { begin_together(packet.as_slice().get(PAYLOAD), bytes.as_slice().get(0)) }
+        None => false,
+    }
+}
+
+fn reads_a_cut(alloc: Global, pair: &mut Pair) -> Result<bool, Error> {
+    match read_through(alloc, pair)? {
+        Some(bytes) => Ok(lie_in_packet(pair, &bytes) && bytes.len() == 3),
+        None => Ok(false),
+    }
+}
+
 fn is_cut(alloc: Global) -> Result<bool, Error> {
     let mut pair = snapped(alloc, 1200, 100, 500)?;
-    let Some(bytes) = read_through(alloc, &mut pair)? else {
-        return Ok(false);
-    };
-    let Some(packet) = pair.packet(Side2::A, 0) else {
-        return Ok(false);
-    };
-    let there = begin_together(packet.as_slice().get(PAYLOAD), bytes.as_slice().get(0));
-    Ok(there && bytes.len() == 3)
+    reads_a_cut(alloc, &mut pair)
 }
 
 #[test]
