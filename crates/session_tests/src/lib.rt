@@ -4,8 +4,6 @@
 #[cfg(test)]
 mod pair;
 #[cfg(test)]
-mod payloads;
-#[cfg(test)]
 mod sessions;
 #[cfg(test)]
 mod stream_counts;
