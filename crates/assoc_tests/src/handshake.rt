@@ -138,7 +138,8 @@ fn lines_of(alloc: Global, payload: Payload) -> Result<String, Fail> {
     Ok(text)
 }
 
-fn datagram(alloc: Global, line: &str) -> Result<Bytes, Fail> {
+/// A datagram from hex.
+pub(crate) fn datagram(alloc: Global, line: &str) -> Result<Bytes, Fail> {
     Ok(Bytes::from_vec(hex::decode(alloc, line)?)?)
 }
 
@@ -150,21 +151,29 @@ fn deliver(
     millis: u64,
 ) -> Result<(), Fail> {
     for line in text.lines() {
-        association.handle_event(event(alloc, line, millis)?)?;
+        hand_over(association, &datagram(alloc, line)?, millis)?;
     }
     Ok(())
 }
 
-fn event(alloc: Global, line: &str, millis: u64) -> Result<AssociationEvent, Fail> {
-    let datagram = datagram(alloc, line)?;
+fn event(datagram: &Bytes, millis: u64) -> Result<AssociationEvent, Error> {
     let transmit = Transmit {
         now: Instant::from_millis(millis),
         remote: address(2),
-        payload: Payload::PartialDecode(PartialDecode::unmarshal(&datagram)?),
+        payload: Payload::PartialDecode(PartialDecode::unmarshal(datagram)?),
         ecn: None,
         local_ip: None,
     };
     Ok(AssociationEvent::datagram(transmit))
+}
+
+/// Hands over one datagram.
+pub(crate) fn hand_over(
+    association: &mut Association,
+    datagram: &Bytes,
+    millis: u64,
+) -> Result<(), Error> {
+    association.handle_event(event(datagram, millis)?)
 }
 
 // Both sides are polled, and then each gets all packets of the other.

@@ -6,4 +6,6 @@ mod association;
 #[cfg(test)]
 mod handshake;
 #[cfg(test)]
+mod payloads;
+#[cfg(test)]
 mod sacks;
