@@ -1,3 +1,4 @@
 pub mod Sender
 pub mod GapAcks
 pub mod Offsets
+pub mod Congestion

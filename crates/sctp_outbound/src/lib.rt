@@ -1,7 +1,9 @@
 //! What an association sends and how it learns that it came: the sender.
 #![tactic(auto)]
 
+mod congestion;
 mod gap_acks;
 mod sender;
 
+pub use congestion::CongestionWindow;
 pub use sender::{SackOutcome, Sender};
