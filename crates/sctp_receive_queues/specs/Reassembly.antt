@@ -231,6 +231,10 @@ unordered_put runs messages p =
 abbrev pub above : ℕ → List ChunkPayloadData → List ChunkPayloadData
 above tsn run = filter (λ (p : ChunkPayloadData). not (tsn_lte p.tsn tsn)) run
 
+abbrev pub is_up_to : ℕ → Option ChunkPayloadData → Bool
+is_up_to tsn None = false
+is_up_to tsn (Some p) = tsn_lte p.tsn tsn
+
 -- pieces at or below a TSN are dropped
 abbrev pub trimmed : ℕ → List (List ChunkPayloadData) → List (List ChunkPayloadData)
 trimmed tsn runs = filter (λ (r : List ChunkPayloadData). not (length r == 0)) (map (above tsn) runs)

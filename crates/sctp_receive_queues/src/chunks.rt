@@ -5,9 +5,9 @@ ghost use Rattle.sctp_receive_queues.specs.Messages.{bytes_left, filled, first_c
 ghost use Rattle.sctp_receive_queues.specs.Messages.{is_blank, message_of, IsCut};
 ghost use Rattle.sctp_receive_queues.specs.Pieces.{bytes_of};
 
+use crate::row::Row;
 use bytes::Bytes;
 use sctp_wire_types::{ChunkPayloadData, Error, PayloadProtocolIdentifier};
-use std::collections::VecDeque;
 use std::marker::Model;
 
 /// A complete message, as `Stream::read` gives it: its payload type and its bytes, in the pieces that brought them.
@@ -16,7 +16,7 @@ use std::marker::Model;
 pub struct Chunks {
     /// The message's payload type.
     pub ppi: PayloadProtocolIdentifier,
-    pieces: VecDeque<ChunkPayloadData>,
+    pieces: Row,
     bytes: u64,
 }
 
@@ -27,16 +27,16 @@ impl Model for Chunks {
 
     ghost Value = { ReceivedMessage };
 
-    ghost view = { λ c. record { payload_type = c.ppi; pieces = filled c.pieces.items } };
+    ghost view = { λ c. record { payload_type = c.ppi; pieces = filled c.pieces } };
 
-    ghost invariant = { λ c. c.bytes ≡ length (concat (filled c.pieces.items)) };
+    ghost invariant = { λ c. c.bytes ≡ length (concat (filled c.pieces)) };
 }
 
 impl Chunks {
     // The message that these pieces make up.
-    pub(crate) fn of_pieces(pieces: VecDeque<ChunkPayloadData>, bytes: u64) -> Chunks
-        requires { bytes ≡ bytes_of pieces.items }
-        ensures { result ≡ message_of pieces.items }
+    pub(crate) fn of_pieces(pieces: Row, bytes: u64) -> Chunks
+        requires { bytes ≡ bytes_of pieces }
+        ensures { result ≡ message_of pieces }
     {
         let ppi = match pieces.front() {
             Some(first) => first.payload_type,
@@ -87,52 +87,34 @@ impl Chunks {
 }
 
 // Takes the first `max` bytes of the first piece that has any, or all of its bytes where it has fewer.
-fn cut_next(pieces: &mut VecDeque<ChunkPayloadData>, max: usize) -> Result<Bytes, Error>
+fn cut_next(pieces: &mut Row, max: usize) -> Result<Bytes, Error>
     requires max { 0 < max }
-    requires some { 0 < length (concat (filled pieces.old.items)) }
-    ensures cut { IfOk result (λ cut. first_cut max (filled pieces.old.items) ≡ Some cut) }
-    ensures left { OnOk result (filled pieces.new.items ≡ behind_cut max (filled pieces.old.items)) }
+    requires some { 0 < length (concat (filled pieces.old)) }
+    ensures cut { IfOk result (λ cut. first_cut max (filled pieces.old) ≡ Some cut) }
+    ensures left { OnOk result (filled pieces.new ≡ behind_cut max (filled pieces.old)) }
     ensures some { IfOk result (λ cut. 0 < length cut) }
     ensures refused { OnErr result (result ≡ Err Error.ErrNoMemory) }
-    ensures unchanged { OnErr result (filled pieces.new.items ≡ filled pieces.old.items) }
+    ensures unchanged { OnErr result (filled pieces.new ≡ filled pieces.old) }
 {
     drop_empty(pieces);
-    cut_first(pieces, max)
+    pieces.cut_front(max)
 }
 
 // Drops pieces without bytes in front.
-fn drop_empty(pieces: &mut VecDeque<ChunkPayloadData>)
-    ensures same { filled pieces.new.items ≡ filled pieces.old.items }
-    ensures first { 0 < length (concat (filled pieces.old.items)) → 0 < length (front_bytes pieces.new.items) }
+fn drop_empty(pieces: &mut Row)
+    ensures same { filled pieces.new ≡ filled pieces.old }
+    ensures first { 0 < length (concat (filled pieces.old)) → 0 < length (front_bytes pieces.new) }
 {
     while is_front_empty(pieces) {
         pieces.pop_front();
     }
 }
 
-fn is_front_empty(pieces: &VecDeque<ChunkPayloadData>) -> bool
-    ensures { result ≡ is_blank (slice_get pieces.now.items 0) }
+fn is_front_empty(pieces: &Row) -> bool
+    ensures { result ≡ is_blank (slice_get pieces.now 0) }
 {
     match pieces.front() {
         Some(first) => first.user_data.is_empty(),
         None => false,
     }
-}
-
-// The first `max` bytes of the first piece, or all of its bytes where it has fewer.
-fn cut_first(pieces: &mut VecDeque<ChunkPayloadData>, max: usize) -> Result<Bytes, Error>
-    requires max { 0 < max }
-    requires first { 0 < length (front_bytes pieces.old.items) }
-    ensures cut { IfOk result (λ cut. first_cut max (filled pieces.old.items) ≡ Some cut) }
-    ensures left { OnOk result (filled pieces.new.items ≡ behind_cut max (filled pieces.old.items)) }
-    ensures some { IfOk result (λ cut. 0 < length cut) }
-    ensures refused { OnErr result (result ≡ Err Error.ErrNoMemory) }
-    ensures unchanged { OnErr result (filled pieces.new.items ≡ filled pieces.old.items) }
-{
-    let Some(first) = pieces.get_mut(0) else {
-        return Ok(Bytes::new());
-    };
-    let count = max.min(first.user_data.len());
-    let cut = first.user_data.split_to(count)?;
-    Ok(cut)
 }

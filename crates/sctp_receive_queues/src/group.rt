@@ -1,5 +1,5 @@
 // An ordered message that is put together.
-ghost use Rattle.std.specs.Prelude.{◌≡◌, ◌⊎◌, None, Some, IsOk, IfOk, IfErr, OnOk, OnErr};
+ghost use Rattle.std.specs.Prelude.{◌≡◌, ◌⊎◌, None, Some, IsOk, IfErr, OnOk, OnErr};
 ghost use Rattle.sctp_receive_queues.specs.Messages.{message_of};
 ghost use Rattle.sctp_receive_queues.specs.Pieces.{bytes_of, is_complete, refusal_of, is_later, last_of};
 ghost use Rattle.sctp_receive_queues.specs.Reassembly.{group_of, grown};
@@ -7,7 +7,7 @@ ghost use Rattle.sctp_receive_queues.specs.Reassembly.{group_of, grown};
 use crate::Chunks;
 use crate::pieces::Pieces;
 use sctp_wire_types::{ChunkPayloadData, Error};
-use std::alloc::{AllocError, Global};
+use std::alloc::Global;
 use std::marker::Model;
 
 /// An ordered message: its SSN, the pieces held of it, and whether these are all.
@@ -32,17 +32,17 @@ impl Model for Group {
 
 impl Group {
     // The message of which this piece came first.
-    pub(crate) fn of(alloc: Global, piece: ChunkPayloadData) -> Result<Group, AllocError>
-        ensures { IfOk result (λ group. group ≡ group_of piece) }
+    pub(crate) fn of(alloc: Global, piece: ChunkPayloadData) -> Group
+        ensures { result ≡ group_of piece }
     {
         let ssn = piece.stream_sequence_number;
-        let pieces = Pieces::of(alloc, piece)?;
+        let pieces = Pieces::of(alloc, piece);
         let complete = pieces.is_complete();
-        Ok(Group {
+        Group {
             ssn,
             pieces,
             complete,
-        })
+        }
     }
 
     pub(crate) fn ssn(&self) -> u16

@@ -145,7 +145,7 @@ impl Groups {
             return Err(error);
         }
         let index = self.index_for(piece.stream_sequence_number);
-        let group = Group::of(alloc, piece)?;
+        let group = Group::of(alloc, piece);
         self.insert(index, group)?;
         Ok(())
     }

@@ -6,6 +6,7 @@ mod group;
 mod groups;
 mod pieces;
 mod reassembly;
+mod row;
 mod runs;
 
 pub use chunks::Chunks;

@@ -1,9 +1,9 @@
 // The pieces held of one message.
-ghost use Rattle.std.specs.Prelude.{◌≡◌, ◌+◌, ◌<◌, ◌^◌, ◌∷◌, [], ◌++◌, length, insert, IfOk, OnOk, OnErr, IfSome, ◌≤◌};
-ghost use Rattle.std.specs.Prelude.{◌==◌, position, None, nat_lt, not, fold, min, ◌-◌, max, option_map, false, IsTrue};
-ghost use Rattle.sctp_serial.specs.Serial.{tsn_lt, tsn_past};
-ghost use Rattle.sctp_receive_queues.specs.Pieces.{bytes_of, begins, ends, is_complete, follows, first_is_after};
-ghost use Rattle.sctp_receive_queues.specs.Pieces.{last_is_before, covers, is_past, is_later, last_of, is_after};
+ghost use Rattle.std.specs.Prelude.{◌≡◌, ◌+◌, ◌<◌, ◌^◌, ◌∷◌, [], ◌++◌, length, insert, OnOk, OnErr, IfSome, ◌≤◌};
+ghost use Rattle.std.specs.Prelude.{◌==◌, None, nat_lt, not, ◌-◌, max, option_map, false, IsTrue};
+ghost use Rattle.sctp_serial.specs.Serial.{tsn_past};
+ghost use Rattle.sctp_receive_queues.specs.Pieces.{bytes_of, begins, ends, is_complete, first_is_after};
+ghost use Rattle.sctp_receive_queues.specs.Pieces.{last_is_before, covers, is_past, is_later, last_of};
 ghost use Rattle.sctp_receive_queues.specs.Pieces.{has_tsn, has_other_type, index_of, breaks_ends, contradicts};
 ghost use Rattle.sctp_receive_queues.specs.Pieces.{refusal_of};
 ghost use Rattle.sctp_receive_queues.specs.Messages.{message_of};
@@ -11,15 +11,15 @@ ghost use Rattle.sctp_receive_queues.specs.Reassembly.{tears, is_torn_before, is
 ghost use Rattle.sctp_receive_queues.specs.Reassembly.{above};
 
 use crate::Chunks;
-use sctp_wire_types::{ChunkPayloadData, Error, sna32lt, sna32lte};
+use crate::row::Row;
+use sctp_wire_types::{ChunkPayloadData, Error, sna32lt};
 use std::alloc::{AllocError, Global};
-use std::collections::VecDeque;
 use std::marker::Model;
 
 /// Pieces in the order of their TSNs, as they came, and the sum of their bytes.
 #[derive(Debug, Drop)]
 pub(crate) struct Pieces {
-    list: VecDeque<ChunkPayloadData>,
+    list: Row,
     bytes: u64,
     // No piece is more than `reach` past the TSN `base`; None where pieces were joined or dropped. A TSN past all of
     // these is of no piece, and its place is the end.
@@ -35,28 +35,26 @@ impl Model for Pieces {
 
     ghost Value = { List Data };
 
-    ghost view = { λ p. p.list.items };
+    ghost view = { λ p. p.list };
 
-    ghost invariant = { λ p. (p.bytes ≡ bytes_of p.list.items) × IfSome p.reach (AreWithin p.base p.list.items) };
+    ghost invariant = { λ p. (p.bytes ≡ bytes_of p.list) × IfSome p.reach (AreWithin p.base p.list) };
 }
 
 impl Pieces {
-    // One piece alone.
-    pub(crate) fn of(alloc: Global, piece: ChunkPayloadData) -> Result<Pieces, AllocError>
-        ensures { IfOk result (λ pieces. pieces ≡ piece ∷ []) }
+    // One piece alone; takes no memory.
+    pub(crate) fn of(alloc: Global, piece: ChunkPayloadData) -> Pieces
+        ensures { result ≡ piece ∷ [] }
     {
         let bytes = piece.user_data.len() as u64;
         // Far in front of this piece, so that none with a TSN before it counts as far past it.
         let base = piece.tsn.wrapping_sub(0x4000_0000);
         let reach = piece.tsn.wrapping_sub(base);
-        let mut list = VecDeque::with_capacity(alloc, 1)?;
-        list.push_back_reserved(piece);
-        Ok(Pieces {
-            list,
+        Pieces {
+            list: Row::of(alloc, piece),
             bytes,
             base,
             reach: Some(reach),
-        })
+        }
     }
 
     // No piece; takes no memory.
@@ -64,7 +62,7 @@ impl Pieces {
         ensures { result ≡ [] }
     {
         Pieces {
-            list: VecDeque::new(alloc),
+            list: Row::none(alloc),
             bytes: 0,
             base: 0,
             reach: None,
@@ -105,7 +103,7 @@ impl Pieces {
     pub(crate) fn is_complete(&self) -> bool
         ensures { result ≡ is_complete self.now }
     {
-        self.begins() && self.ends() && follow_one_another(&self.list)
+        self.begins() && self.ends() && self.list.follow_one_another()
     }
 
     // Whether the first piece has the TSN after this one.
@@ -228,7 +226,7 @@ impl Pieces {
     fn has_tsn(&self, tsn: u32) -> bool
         ensures { result ≡ has_tsn tsn self.now }
     {
-        !self.is_past_all(tsn) && has_tsn(&self.list, tsn)
+        !self.is_past_all(tsn) && self.list.has_tsn(tsn)
     }
 
     // In front of the first piece that is past this TSN, else at the end.
@@ -239,7 +237,10 @@ impl Pieces {
         if self.is_past_all(tsn) {
             return self.list.len();
         }
-        place_in(&self.list, tsn)
+        match self.list.first_past(tsn) {
+            Some(index) => index,
+            None => self.list.len(),
+        }
     }
 
     // Whether a TSN is known to be past those of all pieces.
@@ -325,10 +326,7 @@ impl Pieces {
         ensures behind { OnErr result (behind.new ≡ behind.old) }
     {
         let bytes = piece.user_data.len() as u64;
-        let extra = behind.list.len().saturating_add(1);
-        self.list.reserve(extra)?;
-        self.list.push_back_reserved(piece);
-        self.list.append(&mut behind.list)?;
+        self.list.join(piece, &mut behind.list)?;
         self.bytes += bytes + behind.bytes;
         self.reach = None;
         behind.bytes = 0;
@@ -340,8 +338,8 @@ impl Pieces {
     pub(crate) fn drop_up_to(&mut self, tsn: u32)
         ensures { self.new ≡ above tsn self.old }
     {
-        self.list.retain(|piece| !sna32lte(piece.tsn, tsn));
-        self.bytes = bytes_in(&self.list);
+        self.list.drop_up_to(tsn);
+        self.bytes = self.list.bytes();
         self.reach = None;
     }
 
@@ -362,15 +360,6 @@ fn tears(ended: bool, begun: bool, other_type: bool) -> bool
     if ended { !begun } else { begun || other_type }
 }
 
-// The bytes of these pieces, at most the greatest u64.
-fn bytes_in(list: &VecDeque<ChunkPayloadData>) -> u64
-    ensures { result ≡ fold (λ sum p. min (sum + length p.user_data) (2 ^ 64 - 1)) 0 list.now.items }
-{
-    list.iter().fold(0u64, |sum, piece| {
-        sum.saturating_add(piece.user_data.len() as u64)
-    })
-}
-
 fn further(reach: Option<u32>, distance: u32) -> Option<u32>
     ensures { result ≡ option_map (max distance) reach }
 {
@@ -385,51 +374,4 @@ fn is_within(first: u32, count: usize, tsn: u32) -> bool
     ensures { result ≡ nat_lt (tsn_past first tsn) count }
 {
     (tsn.wrapping_sub(first) as usize) < count
-}
-
-fn has_tsn(list: &VecDeque<ChunkPayloadData>, tsn: u32) -> bool
-    ensures { result ≡ has_tsn tsn list.now.items }
-{
-    list.iter().any(|piece| piece.tsn == tsn)
-}
-
-// In front of the first piece that is past this TSN, else at the end.
-fn place_in(list: &VecDeque<ChunkPayloadData>, tsn: u32) -> usize
-    ensures index { result ≡ index_of tsn list.now.items }
-    ensures bound { result ≤ length list.now.items }
-{
-    match first_past(list, tsn) {
-        Some(index) => index,
-        None => list.len(),
-    }
-}
-
-fn first_past(list: &VecDeque<ChunkPayloadData>, tsn: u32) -> Option<usize>
-    ensures first { result ≡ position (λ p. tsn_lt tsn p.tsn) list.now.items }
-    ensures bound { IfSome result (λ index. index < length list.now.items) }
-{
-    list.iter().position(|piece| sna32lt(tsn, piece.tsn))
-}
-
-// Whether each piece has the TSN after the one in front of it.
-fn follow_one_another(list: &VecDeque<ChunkPayloadData>) -> bool
-    ensures { result ≡ follows None list.now.items }
-{
-    let mut last = None;
-    for piece in list {
-        if !is_after(last, piece.tsn) {
-            return false;
-        }
-        last = Some(piece.tsn);
-    }
-    true
-}
-
-fn is_after(last: Option<u32>, tsn: u32) -> bool
-    ensures { result ≡ is_after last tsn }
-{
-    match last {
-        Some(last) => tsn == last.wrapping_add(1),
-        None => true,
-    }
 }

@@ -193,7 +193,7 @@ fn join(
     let joins_after = is_joined_after(runs, index, &piece);
     match (joins_before, joins_after) {
         (false, false) => {
-            let run = Pieces::of(alloc, piece)?;
+            let run = Pieces::of(alloc, piece);
             runs.insert(index, run)?;
             Ok(index)
         }

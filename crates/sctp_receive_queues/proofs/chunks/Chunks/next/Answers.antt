@@ -13,7 +13,7 @@ returns-then-max-eq0-clause-cut c =
       | then-max-eq0-via-else-max-eq0+then-self-eq0 w ↦
           no_cut c.args.max c.args.self.now (inr (
           sym (ap (λ (m : ReceivedMessage). m.pieces) c.self.view_is)
-          ∙ none_filled c.self.inside.pieces.items (sym c.self.invariant ∙ w.if-self-eq0.true)
+          ∙ none_filled c.self.inside.pieces (sym c.self.invariant ∙ w.if-self-eq0.true)
           ))
     ]
 
@@ -21,5 +21,5 @@ pub returns-clause-in_order : goal.returns-clause-in_order
 returns-clause-in_order c =
     let said = c.in_ok-cut.ensures in
     ap (λ (m : ReceivedMessage). bytes_left m) (sym c.self.view_is)
-    ∙ cut_and_rest _ (filled c.self.inside.pieces.items) c.in_ok-cut.cut said.cut
+    ∙ cut_and_rest _ (filled c.self.inside.pieces) c.in_ok-cut.cut said.cut
     ∙ ap (λ z. c.in_ok-cut.cut ++ concat z) (sym said.left)
