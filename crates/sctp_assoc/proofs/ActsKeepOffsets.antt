@@ -118,14 +118,14 @@ size_stays (suc n) now s e m =
     size_stays n now (sender_after_first s) _ (streams_after (slice_get s.queue.in_flight 0) m)
     ∙ first_size (slice_get s.queue.in_flight 0) s
 
-blocks_named : (blocks : List GapAckBlock) (base size : ℕ) (x : Sender × Estimate × StreamMap)
+blocks_named : (now : ℕ) (blocks : List GapAckBlock) (base size : ℕ) (x : Sender × Estimate × StreamMap)
     → with_named (λ j. is_named (j + 1) blocks) (record { queue = x.0.queue; streams = x.2; base = base; size = size })
-    ≡ record { queue = (with_blocks blocks x).0.queue; streams = (with_blocks blocks x).2; base = base; size = size }
-blocks_named blocks base size (s, e, m) = refl
+    ≡ record { queue = (with_blocks now blocks x).0.queue; streams = (with_blocks now blocks x).2; base = base; size = size }
+blocks_named now blocks base size (s, e, m) = refl
 
-pub blocks_size : (blocks : List GapAckBlock) (x : Sender × Estimate × StreamMap)
-    → (with_blocks blocks x).0.max_payload_size ≡ x.0.max_payload_size
-blocks_size blocks (s, e, m) = refl
+pub blocks_size : (now : ℕ) (blocks : List GapAckBlock) (x : Sender × Estimate × StreamMap)
+    → (with_blocks now blocks x).0.max_payload_size ≡ x.0.max_payload_size
+blocks_size now blocks (s, e, m) = refl
 
 -- and then those that gap ack blocks name of the pieces behind them
 pub pieces_acknowledged : (n now : ℕ) (blocks : List GapAckBlock) (s : Sender) (e : Estimate) (m : StreamMap)
@@ -133,18 +133,18 @@ pub pieces_acknowledged : (n now : ℕ) (blocks : List GapAckBlock) (s : Sender)
     → n ≤ length s.queue.in_flight → s.queue.first_tsn < 2 ^ 32
     → with_acknowledged n blocks (record { queue = s.queue; streams = m; size = s.max_payload_size; history = h })
     ≡ record {
-      queue = (with_blocks blocks (acknowledged n now (s, e, m))).0.queue;
-      streams = (with_blocks blocks (acknowledged n now (s, e, m))).2;
-      size = (with_blocks blocks (acknowledged n now (s, e, m))).0.max_payload_size;
+      queue = (with_blocks now blocks (acknowledged n now (s, e, m))).0.queue;
+      streams = (with_blocks now blocks (acknowledged n now (s, e, m))).2;
+      size = (with_blocks now blocks (acknowledged n now (s, e, m))).0.max_payload_size;
       history = record h { base = h.base + n };
     }
 pieces_acknowledged n now blocks s e m h within small =
-    rw (blocks_size blocks (acknowledged n now (s, e, m)), size_stays n now s e m)
+    rw (blocks_size now blocks (acknowledged n now (s, e, m)), size_stays n now s e m)
     (ap (λ (a : Sending). parts_with a)
     (points_and_blocks_acknowledge
     (record { queue = s.queue; streams = m; base = h.base; size = s.max_payload_size }) n blocks within small
     ∙ ap (with_named (λ j. is_named (j + 1) blocks)) (so_many_acknowledged n now h.base s.max_payload_size s e m)
-    ∙ blocks_named blocks (h.base + n) s.max_payload_size (acknowledged n now (s, e, m))))
+    ∙ blocks_named now blocks (h.base + n) s.max_payload_size (acknowledged n now (s, e, m))))
   where
     parts_with : Sending → Parts
     parts_with a = record {

@@ -36,8 +36,9 @@ use Rattle.sctp_inbound.specs.Handshake.{comes_back, has_issued}
 use Rattle.sctp_inbound.specs.Receiver.{admits, is_new_to, past_of, taken_to}
 use Rattle.sctp_outbound_queue.specs.Outbound.{Outbound}
 use Rattle.sctp_wire_types.specs.declared.chunk.GapAckBlock.{GapAckBlock}
-use Rattle.sctp_outbound.specs.GapAcks.{with_blocks}
+use Rattle.sctp_outbound.specs.Sacks.{progress_of, sack_taken}
 use Rattle.sctp_outbound.specs.declared.sender.Sender.{Sender}
+use Rattle.sctp_outbound.specs.declared.progress.Progress.{Progress}
 use Rattle.sctp_outbound.specs.declared.sender.SackOutcome.{SackOutcome}
 use Rattle.sctp_outbound.specs.declared.sender.SackOutcome.TheVariants as outcomes
 use Rattle.sctp_outbound.specs.Sender.{cumulative_tsn_ack_point_of, acknowledged, tsns_up_to, sack_outcome, with_window}
@@ -286,14 +287,14 @@ taken_within false true s point blocks e f t =
     let u : is_taken (sack_outcome s point blocks) ≡ true = ap is_taken t in
     let v = rw (e, f) at u in absurd (false≢true v)
 
-acknowledged_parts : (a : Shown) (moved : Bool) (now : ℕ) (x : Sender × Estimate × StreamMap) (k : History)
-    → parts (with_acknowledged a moved now x) k
+acknowledged_parts : (a : Shown) (progress : Progress) (now : ℕ) (x : Sender × Estimate × StreamMap) (k : History)
+    → parts (with_acknowledged a progress now x) k
     ≡ record { queue = x.0.queue; streams = x.2; size = x.0.max_payload_size; history = k }
-acknowledged_parts a moved now (s, e, m) k = refl
+acknowledged_parts a progress now (s, e, m) k = refl
 
-acknowledged_receiver : (a : Shown) (moved : Bool) (now : ℕ) (x : Sender × Estimate × StreamMap)
-    → (with_acknowledged a moved now x).receiver ≡ a.receiver
-acknowledged_receiver a moved now (s, e, m) = refl
+acknowledged_receiver : (a : Shown) (progress : Progress) (now : ℕ) (x : Sender × Estimate × StreamMap)
+    → (with_acknowledged a progress now x).receiver ≡ a.receiver
+acknowledged_receiver a progress now (s, e, m) = refl
 
 sack_taken_leads : (a : Shown) (point : ℕ) (blocks : List GapAckBlock) (window now : ℕ) (h : History) → Binds a h
     → tsns_up_to a.sender point ≤ length a.sender.queue.in_flight
@@ -301,16 +302,15 @@ sack_taken_leads : (a : Shown) (point : ℕ) (blocks : List GapAckBlock) (window
     (after_sack (counted_sack a) point blocks window now) (record h { base = h.base + tsns_up_to a.sender point })
 sack_taken_leads a point blocks window now h binds within =
     let n = tsns_up_to a.sender point in
-    let x =
-    with_blocks blocks (acknowledged n now (with_window a.sender window, a.estimate, a.streams)) in
+    let x = sack_taken point blocks window now a.sender a.estimate a.streams in
     let k : History = record h { base = h.base + n } in
     let small : a.sender.queue.first_tsn < 2 ^ 32 = rw binds.first (tsn_small h.own h.base) in
-    let same = acknowledged_parts (counted_sack a) (nat_lt 0 n) now x k in
+    let same = acknowledged_parts (counted_sack a) (progress_of a.sender point blocks) now x k in
     let all =
     pieces_acknowledged n now blocks (with_window a.sender window) a.estimate a.streams h within small in
     leads_by (Act.Acknowledged n blocks ∷ []) a (after_sack (counted_sack a) point blocks window now) h binds
     (within, tt) (same ∙ sym all)
-    (ap past_of (acknowledged_receiver (counted_sack a) (nat_lt 0 n) now x))
+    (ap past_of (acknowledged_receiver (counted_sack a) (progress_of a.sender point blocks) now x))
     (record { peer = refl; taken = refl; passed = refl })
   where
     tsn_small : (own base : ℕ) → tsn own base < 2 ^ 32

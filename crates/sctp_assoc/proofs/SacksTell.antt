@@ -12,8 +12,8 @@ use Rattle.sctp_streams.specs.Streams.{StreamMap}
 use Rattle.sctp_inbound.specs.declared.receiver.AckTrigger.{AckTrigger}
 use Rattle.sctp_outbound.specs.declared.sender.Sender.{Sender}
 use Rattle.sctp_outbound.specs.declared.sender.SackOutcome.TheVariants as outcomes
-use Rattle.sctp_outbound.specs.GapAcks.{with_blocks}
-use Rattle.sctp_outbound.specs.Sender.{acknowledged, sack_outcome, t3_after_sack, tsns_up_to, with_window}
+use Rattle.sctp_outbound.specs.Sacks.{progress_of, sack_taken}
+use Rattle.sctp_outbound.specs.Sender.{sack_outcome, t3_after_sack}
 use Rattle.sctp_assoc.specs.declared.inbound.Flow.TheVariants as flows
 use Rattle.sctp_assoc.specs.Calls.{is_established}
 use Rattle.sctp_assoc.specs.Chunks.{after_sack, counted_sack, on_sack, with_acknowledged}
@@ -42,11 +42,10 @@ some_fell m n f g lacks =
 
 module _ (a : Shown) (point : ℕ) (blocks : List GapAckBlock) (window now : ℕ) (s : Sender) (e : Estimate) (m : StreamMap)
     (established : is_established a.state ≡ true) (taken : sack_outcome a.sender point blocks ≡ outcomes.Taken)
-    (is : with_blocks blocks
-    (acknowledged (tsns_up_to a.sender point) now (with_window a.sender window, a.estimate, a.streams)) ≡ (s, e, m))
+    (is : sack_taken point blocks window now a.sender a.estimate a.streams ≡ (s, e, m))
   where
     pub taken_leaves : (trigger : AckTrigger) (timers : Timers) (queued : List Event) (ids : List ℕ)
-        → timers ≡ t3_after_sack (nat_lt 0 (tsns_up_to a.sender point)) (length s.queue.in_flight) now e.rto a.timers
+        → timers ≡ t3_after_sack (progress_of a.sender point blocks) (length s.queue.in_flight) now e.rto a.timers
         → queued ≡ a.events ++ map low_event ids → ids ≡ fallen a.streams m
         → on_sack a point blocks window trigger now
         ≡ (
@@ -56,11 +55,11 @@ module _ (a : Shown) (point : ℕ) (blocks : List GapAckBlock) (window now : ℕ
     unfolding on_sack
     taken_leaves trigger timers queued ids timed told those =
         rw (established, taken, timed, told, those)
-        (ap (λ x. (with_acknowledged (counted_sack a) (nat_lt 0 (tsns_up_to a.sender point)) now x, flows.Next trigger))
+        (ap (λ x. (with_acknowledged (counted_sack a) (progress_of a.sender point blocks) now x, flows.Next trigger))
         is)
 
     pub taken_takes : 0 < length (fallen a.streams m) → sack_takes_memory a point blocks window now ≡ true
     taken_takes some =
         let there : (after_sack a point blocks window now).streams ≡ m =
-        ap (λ x. (with_acknowledged a (nat_lt 0 (tsns_up_to a.sender point)) now x).streams) is in
+        ap (λ x. (with_acknowledged a (progress_of a.sender point blocks) now x).streams) is in
         rw (established, taken, there) (positive _ (some_mapped (fallen a.streams m) some))

@@ -16,7 +16,8 @@ use Rattle.sctp_streams.specs.declared.event.Event.{Event}
 use Rattle.sctp_streams.specs.declared.event.Event.TheVariants.{HandshakeFailed}
 use Rattle.sctp_streams.specs.declared.event.Event.TheVariants as events
 use Rattle.sctp_streams.specs.declared.setting.Setting.{Setting}
-use Rattle.sctp_outbound_queue.specs.Outbound.{all_marked, with_message}
+use Rattle.sctp_outbound_queue.specs.Outbound.{with_message}
+use Rattle.sctp_outbound.specs.Sender.{after_t3_timeout}
 use Rattle.sctp_outbound_queue.specs.Waiting.{Waiting}
 use Rattle.sctp_receive_queues.specs.Messages.{ReceivedMessage}
 use Rattle.sctp_receive_queues.specs.Reassembly.{ready}
@@ -77,7 +78,7 @@ is_cookie_echoed states.ShutdownSent = false
 abbrev pub retransmits : Shown → ℕ → Shown
 retransmits a now = record a {
   counts = (let c = a.counts in record c { t3timeouts = one_more c.t3timeouts });
-  sender = (let s = a.sender in record s { queue = all_marked s.queue });
+  sender = after_t3_timeout a.sender;
   timers = started names.T3RTX now a.estimate.rto a.timers;
 }
 

@@ -23,11 +23,12 @@ use Rattle.sctp_inbound.specs.declared.receiver.AckTrigger.{AckTrigger}
 use Rattle.sctp_inbound.specs.declared.receiver.AckTrigger.TheVariants as triggers
 use Rattle.sctp_inbound.specs.Receiver.{admits, asked, ended_packet, ended_packet_timers, is_new_to, taken_to}
 use Rattle.sctp_wire_types.specs.declared.chunk.GapAckBlock.{GapAckBlock}
-use Rattle.sctp_outbound.specs.GapAcks.{with_blocks}
+use Rattle.sctp_outbound.specs.Sacks.{progress_of, sack_taken}
 use Rattle.sctp_outbound.specs.declared.sender.Sender.{Sender}
+use Rattle.sctp_outbound.specs.declared.progress.Progress.{Progress}
 use Rattle.sctp_outbound.specs.declared.sender.SackOutcome.{SackOutcome}
 use Rattle.sctp_outbound.specs.declared.sender.SackOutcome.TheVariants as outcomes
-use Rattle.sctp_outbound.specs.Sender.{sack_outcome, tsns_up_to, with_window, acknowledged, t3_after_sack}
+use Rattle.sctp_outbound.specs.Sender.{sack_outcome, t3_after_sack}
 use Rattle.sctp_assoc.specs.declared.inbound.Flow.{Flow}
 use Rattle.sctp_assoc.specs.declared.inbound.Flow.TheVariants as flows
 use Rattle.sctp_assoc.specs.Calls.{is_established}
@@ -109,22 +110,21 @@ on_data a piece trigger = on_counted_data (counted_data a) piece trigger
 abbrev pub counted_sack : Shown → Shown
 counted_sack a = record a { counts = (let c = a.counts in record c { sacks = one_more c.sacks }) }
 
-abbrev pub with_acknowledged : Shown → Bool → ℕ → Sender × Estimate × StreamMap → Shown
-with_acknowledged a moved now (sender, estimate, streams) = record a {
+abbrev pub with_acknowledged : Shown → Progress → ℕ → Sender × Estimate × StreamMap → Shown
+with_acknowledged a progress now (sender, estimate, streams) = record a {
   sender = sender;
   estimate = estimate;
   streams = streams;
   events = a.events ++ low_told a.streams streams;
-  timers = t3_after_sack moved (length sender.queue.in_flight) now estimate.rto a.timers;
+  timers = t3_after_sack progress (length sender.queue.in_flight) now estimate.rto a.timers;
 }
 
 -- a SACK is taken: the pieces up to its point and those that its gap ack blocks name are acknowledged, and its window
 -- is the peer's; each stream whose buffered amount fell to its low mark is told of once
 abbrev pub after_sack : Shown → ℕ → List GapAckBlock → ℕ → ℕ → Shown
 after_sack a cumulative_tsn_ack blocks window now =
-    with_acknowledged a (nat_lt 0 (tsns_up_to a.sender cumulative_tsn_ack)) now
-    (with_blocks blocks
-    (acknowledged (tsns_up_to a.sender cumulative_tsn_ack) now (with_window a.sender window, a.estimate, a.streams)))
+    with_acknowledged a (progress_of a.sender cumulative_tsn_ack blocks) now
+    (sack_taken cumulative_tsn_ack blocks window now a.sender a.estimate a.streams)
 
 abbrev pub on_counted_sack : SackOutcome → Shown → ℕ → List GapAckBlock → ℕ → AckTrigger → ℕ → Shown × Flow
 on_counted_sack outcomes.Older a cumulative_tsn_ack blocks window trigger now = (a, flows.Next trigger)

@@ -57,17 +57,17 @@ impl Association {
 
     /// Congestion window, in bytes (RFC 4960 section 7.2.1). It keeps its first value so far.
     pub fn cwnd(&self) -> u32
-        ensures { result ≡ self.now.sender.cwnd }
+        ensures { result ≡ self.now.sender.congestion.cwnd }
     {
-        self.sender.cwnd
+        self.sender.congestion.cwnd
     }
 
     /// Slow start threshold, in bytes: the receive window that the peer's token, INIT or INIT ACK said (RFC 4960
     /// section 7.2.1). Nothing else changes it so far.
     pub fn ssthresh(&self) -> u32
-        ensures { result ≡ self.now.sender.ssthresh }
+        ensures { result ≡ self.now.sender.congestion.ssthresh }
     {
-        self.sender.ssthresh
+        self.sender.congestion.ssthresh
     }
 
     /// The peer's receive window, as it last said it, less the bytes in flight; 0 where these are more.

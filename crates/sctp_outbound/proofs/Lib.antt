@@ -1,4 +1,5 @@
 pub mod SenderSteps
 mod StreamReleases
 pub mod GapAcks
+pub mod NewPieces
 pub mod Offsets

@@ -13,24 +13,21 @@ use Rattle.sctp_outbound_queue.specs.declared.message.InFlight.{InFlight}
 use Rattle.sctp_outbound_queue.specs.Waiting.{Waiting}
 use Rattle.sctp_outbound_queue.specs.Message.{is_outstanding, outstanding_bytes, counted_again}
 use Rattle.sctp_outbound_queue.specs.Outbound.{empty_outbound, tsn_at, next_tsn_of, outstanding_of, without_first}
-use Rattle.sctp_outbound_queue.specs.Outbound.{pieces_waiting, sent_next}
+use Rattle.sctp_outbound_queue.specs.Outbound.{all_marked, pieces_waiting, sent_next}
 use Rattle.sctp_streams.specs.Streams.{StreamMap, released_in}
+use Rattle.sctp_outbound.specs.Congestion.{first_congestion, timed_out}
 use Rattle.sctp_outbound.specs.Offsets.{name_unsent}
 use Rattle.sctp_outbound.specs.declared.sender.Sender.{Sender}
+use Rattle.sctp_outbound.specs.declared.progress.Progress.{Progress}
 use Rattle.sctp_outbound.specs.declared.sender.SackOutcome.{SackOutcome}
 use Rattle.sctp_outbound.specs.declared.sender.SackOutcome.TheVariants as outcomes
-
--- the first congestion window of a packet size (RFC 4960 section 7.2.1)
-abbrev pub first_window : ℕ → ℕ
-first_window mtu = min (4 * mtu) (max (2 * mtu) 4380)
 
 abbrev pub fresh_sender : ℕ → ℕ → ℕ → Sender
 fresh_sender size tsn window = record {
   queue = empty_outbound tsn;
   mtu = size + 28;
   max_payload_size = size;
-  cwnd = first_window (size + 28);
-  ssthresh = window;
+  congestion = first_congestion (size + 28) window;
   advertised_window = window;
   min_tsn2measure_rtt = tsn;
 }
@@ -114,21 +111,35 @@ sack_outcome s cumulative_tsn_ack blocks =
 
 -- the window that a peer offers first is also where slow start ends
 abbrev pub with_first_window : Sender → ℕ → Sender
-with_first_window s window = record s { advertised_window = window; ssthresh = window }
+with_first_window s window = record s {
+  advertised_window = window;
+  congestion = (let c = s.congestion in record c { ssthresh = window });
+}
 
 abbrev pub with_window : Sender → ℕ → Sender
 with_window s window = record s { advertised_window = window }
 
--- T3-rtx, without retries and disarmed where a SACK acknowledged something
-abbrev pub t3_cleared : Bool → Timers → Timers
-t3_cleared moved t = if moved then with_moment names.T3RTX None (without_retries names.T3RTX t) else t
+-- T3-rtx expired: all that is in flight is to be sent again, and one packet may be in flight (RFC 4960 sections 6.3.3 and
+-- 7.2.3)
+abbrev pub after_t3_timeout : Sender → Sender
+after_t3_timeout s = record s { queue = all_marked s.queue; congestion = timed_out s.mtu s.congestion }
 
--- T3-rtx after a SACK (RFC 4960 section 6.3.2): with pieces left in flight it runs, from now on where something was
--- acknowledged; with none left it is stopped
-abbrev pub t3_after_sack : Bool → ℕ → ℕ → ℕ → Timers → Timers
-t3_after_sack moved left now rto t =
-    if nat_lt 0 left then restarted_if_stale names.T3RTX now rto (t3_cleared moved t) else
-    if moved then with_stopped names.T3RTX t else t
+-- T3-rtx, without retries where a TSN was acknowledged for the first time
+abbrev pub t3_forgiven : Bool → Timers → Timers
+t3_forgiven any_new t = if any_new then without_retries names.T3RTX t else t
+
+-- T3-rtx, disarmed where the first outstanding TSN was acknowledged
+abbrev pub t3_disarmed : Bool → Timers → Timers
+t3_disarmed earliest t = if earliest then with_moment names.T3RTX None t else t
+
+abbrev pub t3_cleared : Progress → Timers → Timers
+t3_cleared p t = t3_disarmed p.earliest (t3_forgiven p.any_new t)
+
+-- T3-rtx after a SACK (RFC 4960 section 6.3.2): with pieces left in flight it runs, from now on where the first
+-- outstanding one was acknowledged; with none left it is stopped
+abbrev pub t3_after_sack : Progress → ℕ → ℕ → ℕ → Timers → Timers
+t3_after_sack p left now rto t =
+    if nat_lt 0 left then restarted_if_stale names.T3RTX now rto (t3_cleared p t) else with_stopped names.T3RTX t
 
 -- a piece of a message, as DATA (RFC 4960 section 3.3.1)
 abbrev pub data_of : Attributes → Bool → Bool → List ℕ → ℕ → ChunkPayloadData
@@ -213,7 +224,7 @@ first_counted (p ∷ ps) = counted_again p ∷ ps
 
 -- the lesser of the congestion window and what is left of the peer's window
 abbrev pub both_windows : Sender → ℕ
-both_windows s = min s.cwnd (window_left s)
+both_windows s = min s.congestion.cwnd (window_left s)
 
 -- the DATA that a poll sends again: within both windows, or the first piece alone where the peer's window is too small
 -- for it (RFC 4960 section 6.1, rule A)
@@ -235,7 +246,7 @@ resends s = nat_lt 0 (length (resent_by s))
 abbrev pub fits_windows : Sender → Option Waiting → Bool
 fits_windows s None = false
 fits_windows s (Some m) =
-    nat_le (min (outstanding_of s.queue.in_flight + length m.user_data) (2 ^ 64 - 1)) s.cwnd
+    nat_le (min (outstanding_of s.queue.in_flight + length m.user_data) (2 ^ 64 - 1)) s.congestion.cwnd
     && nat_le (length m.user_data) (window_left s)
 
 -- the next piece that waits is within the congestion window and the peer's window (RFC 4960 section 6.1)

@@ -1,14 +1,18 @@
 // What the gap ack blocks of a SACK acknowledge.
-ghost use Rattle.std.specs.Prelude.{◌↔◌, true, length, ◌≡◌, ◌==◌, ◌+◌, ◌<◌};
+ghost use Rattle.std.specs.Prelude.{◌↔◌, true, length, slice_get, Some, ◌≡◌, ◌==◌, ◌+◌, ◌<◌};
 ghost use Rattle.sctp_received.specs.Received.{is_named};
+ghost use Rattle.sctp_outbound.specs.Progress.{last_new};
 ghost use Rattle.sctp_streams.specs.LowMarks.{Gathers};
-ghost use Rattle.sctp_outbound.specs.Sender.{with_in_flight};
 ghost use Rattle.sctp_outbound.specs.Offsets.{NameUnsent, is_unsent_in, name_unsent};
-ghost use Rattle.sctp_outbound.specs.GapAcks.{acked_among, released_among, is_named_by};
+ghost use Rattle.sctp_outbound.specs.GapAcks.{acked_among, block_trips, is_named_by, released_among, timed};
+ghost use Rattle.sctp_outbound.specs.GapAcks.{trip_of, with_blocks, with_measure};
 
+use crate::progress::{greatest_of, place_if_new};
 use crate::sender::{Sender, release};
+use sctp_outbound_queue::InFlight;
+use sctp_parts::estimate::RtoManager;
 use sctp_streams::{Fallen, Streams};
-use sctp_wire_types::{GapAckBlock, List};
+use sctp_wire_types::{GapAckBlock, Instant, List};
 
 impl Sender {
     // Whether a block names a TSN that is not in flight, where so many of those in flight are up to the SACK's point.
@@ -25,54 +29,99 @@ impl Sender {
     /// until then are released at their streams. Blocks may overlap, stand in any order and be empty; offsets past what
     /// is in flight name nothing. Goes over the offsets that the blocks name and that are in flight, block by block in
     /// their order, and over nothing else; an offset that several blocks name is gone over once for each of them.
-    /// Streams that fall to their low mark are gathered.
+    /// Streams that fall to their low mark are gathered. Answers the last place that is acknowledged for the first time.
     pub fn acknowledge_blocks(
         &mut self,
+        rto: &mut RtoManager,
         streams: &mut Streams,
         fallen: &mut Fallen,
         blocks: &List<GapAckBlock>,
-    )
-        ensures pieces { self.new ≡ with_in_flight self.old
-            (acked_among (λ j. is_named (j + 1) blocks.now) 0 self.old.queue.in_flight) }
-        ensures released { streams.new ≡
-            released_among (λ j. is_named (j + 1) blocks.now) 0 self.old.queue.in_flight streams.old }
+        now: Instant,
+    ) -> Option<usize>
+        ensures newest { result ≡ last_new (λ j. is_named (j + 1) blocks.now) 0 self.old.queue.in_flight }
+        ensures exact { with_blocks now blocks.now (self.old, rto.old, streams.old) ≡ (self.new, rto.new, streams.new) }
         ensures gathers { Gathers streams.old fallen.old streams.new fallen.new }
     {
+        let next_tsn = self.queue.next_tsn();
+        let mut newest = None;
         for block in blocks.as_slice() {
-            self.acknowledge_block(streams, fallen, block);
+            let other = self.acknowledge_block(rto, streams, fallen, block, next_tsn, now);
+            newest = greatest_of(newest, other);
         }
+        newest
     }
 
     // Takes in one block. The point is the TSN before the first one in flight, so the piece at index j is at the offset
     // j + 1.
-    fn acknowledge_block(&mut self, streams: &mut Streams, fallen: &mut Fallen, block: &GapAckBlock)
-        ensures pieces { self.new ≡
-            with_in_flight self.old (acked_among (is_named_by block.now) 0 self.old.queue.in_flight) }
+    fn acknowledge_block(
+        &mut self,
+        rto: &mut RtoManager,
+        streams: &mut Streams,
+        fallen: &mut Fallen,
+        block: &GapAckBlock,
+        next_tsn: u32,
+        now: Instant,
+    ) -> Option<usize>
+        ensures newest { result ≡ last_new (is_named_by block.now) 0 self.old.queue.in_flight }
+        ensures pieces { self.new ≡ with_measure self.old
+            (acked_among (is_named_by block.now) 0 self.old.queue.in_flight) self.new.min_tsn2measure_rtt }
         ensures released { streams.new ≡
             released_among (is_named_by block.now) 0 self.old.queue.in_flight streams.old }
+        ensures measures { (self.new.min_tsn2measure_rtt, rto.new) ≡ timed next_tsn
+            (block_trips now block.now self.old.queue.in_flight) (self.old.min_tsn2measure_rtt, rto.old) }
         ensures gathers { Gathers streams.old fallen.old streams.new fallen.new }
     {
         let first = usize::from(block.start).saturating_sub(1);
         let count = usize::from(block.end).min(self.queue.inflight_len());
+        let mut newest = None;
         for index in first..count {
-            self.acknowledge_at(streams, fallen, index);
+            let other = self.acknowledge_at(rto, streams, fallen, index, next_tsn, now);
+            newest = greatest_of(newest, other);
         }
+        newest
     }
 
-    // The piece at a place came, if there is one: it is marked, and its outstanding bytes are released.
-    fn acknowledge_at(&mut self, streams: &mut Streams, fallen: &mut Fallen, index: usize)
+    // The piece at a place came, if there is one: it is marked, its outstanding bytes are released, and where it was
+    // sent once its round trip is measured.
+    fn acknowledge_at(
+        &mut self,
+        rto: &mut RtoManager,
+        streams: &mut Streams,
+        fallen: &mut Fallen,
+        index: usize,
+        next_tsn: u32,
+        now: Instant,
+    ) -> Option<usize>
         requires { index < 65536 }
-        ensures pieces { self.new ≡
-            with_in_flight self.old (acked_among (λ j. j == index) 0 self.old.queue.in_flight) }
+        ensures newest { result ≡ last_new (λ j. j == index) 0 self.old.queue.in_flight }
+        ensures pieces { self.new ≡ with_measure self.old
+            (acked_among (λ j. j == index) 0 self.old.queue.in_flight) self.new.min_tsn2measure_rtt }
+        ensures measures { (self.new.min_tsn2measure_rtt, rto.new) ≡ timed next_tsn
+            (trip_of now (slice_get self.old.queue.in_flight index)) (self.old.min_tsn2measure_rtt, rto.old) }
         ensures released { streams.new ≡
             released_among (λ j. j == index) 0 self.old.queue.in_flight streams.old }
         ensures gathers { Gathers streams.old fallen.old streams.new fallen.new }
     {
         let tsn = self.queue.first_tsn().wrapping_add(index as u32);
         if let Some(piece) = self.queue.get(index) {
+            let newest = place_if_new(piece, index);
+            measure(&mut self.min_tsn2measure_rtt, rto, piece, next_tsn, now);
             release(streams, fallen, piece);
             self.queue.mark_as_acked(tsn);
+            return newest;
         }
+        None
+    }
+}
+
+// Takes the round trip of a piece that is outstanding and was sent once; the next measurement begins with what is sent
+// from now on.
+fn measure(first: &mut u32, rto: &mut RtoManager, piece: &InFlight, next_tsn: u32, now: Instant)
+    ensures { (first.new, rto.new) ≡ timed next_tsn (trip_of now (Some piece.now)) (first.old, rto.old) }
+{
+    if piece.is_outstanding() && piece.sent_count == 1 {
+        rto.set_new_rtt(now.millis_since(piece.since));
+        *first = next_tsn;
     }
 }
 

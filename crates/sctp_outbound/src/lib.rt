@@ -3,7 +3,9 @@
 
 mod congestion;
 mod gap_acks;
+mod progress;
 mod sender;
 
 pub use congestion::CongestionWindow;
+pub use progress::Progress;
 pub use sender::{SackOutcome, Sender};

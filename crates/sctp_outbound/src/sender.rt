@@ -1,19 +1,23 @@
 // The sender of DATA: windows, acknowledgements, retransmission.
 ghost use Rattle.sctp_parts.specs.Estimate.{measured};
 ghost use Rattle.sctp_outbound_queue.specs.Message.{outstanding_bytes};
-ghost use Rattle.sctp_outbound_queue.specs.Outbound.{all_marked, after_piece, pieces_waiting};
+ghost use Rattle.sctp_outbound_queue.specs.Outbound.{after_piece, pieces_waiting};
 ghost use Rattle.sctp_streams.specs.Streams.{released_in};
 ghost use Rattle.sctp_streams.specs.LowMarks.{Gathers};
 ghost use Rattle.std.specs.Prelude.{true, is_some, ◌≡◌, ◌+◌, ◌-◌, ◌/◌, if◌then◌else◌, ◌≤◌, ◌<◌, ◌^◌, ◌++◌, ◌∷◌, []};
 ghost use Rattle.std.specs.Prelude.{OnErr, OnOk, IfOk, IfSome, length, slice_get, nat_lt};
 ghost use Rattle.sctp_outbound.specs.Sender.{goes_again, resends, sends_new, fresh_sender, window_left, marks};
 ghost use Rattle.sctp_outbound.specs.Sender.{cumulative_tsn_ack_point_of, tsns_up_to, after_first, acknowledged};
-ghost use Rattle.sctp_outbound.specs.GapAcks.{with_blocks};
+ghost use Rattle.sctp_outbound.specs.Sacks.{progress_of, sack_taken, with_growth};
+ghost use Rattle.sctp_outbound.specs.Progress.{any_new_up_to, is_new_piece};
+ghost use Rattle.sctp_outbound.specs.Sender.{after_t3_timeout};
 ghost use Rattle.sctp_outbound.specs.Sender.{sack_outcome, with_first_window, with_window, t3_after_sack, chunk_of};
 ghost use Rattle.sctp_outbound.specs.Sender.{next_chunk_of, data_of, can_send_next, is_measured, after_resending};
 ghost use Rattle.sctp_outbound.specs.Sender.{resent_by, alone_length, with_in_flight, resent_pieces, resent_chunks};
 ghost use Rattle.sctp_outbound.specs.Sender.{tried_again, sent_new, sent_within, sent_one};
 
+use crate::congestion::CongestionWindow;
+use crate::progress::{Progress, is_new};
 use bytes::Bytes;
 use sctp_outbound_queue::{Attributes, InFlight, OutboundQueue, PendingMessage};
 use sctp_parts::estimate::RtoManager;
@@ -46,10 +50,7 @@ pub struct Sender {
     pub mtu: u32,
     /// Greatest payload of a DATA chunk, in bytes.
     pub max_payload_size: u32,
-    /// Congestion window, in bytes.
-    pub cwnd: u32,
-    /// Slow start threshold, in bytes.
-    pub ssthresh: u32,
+    pub congestion: CongestionWindow,
     /// The receive window that the peer last reported, in bytes.
     pub advertised_window: u32,
     /// Round-trip times are measured from this TSN on.
@@ -67,8 +68,7 @@ impl Sender {
             queue: OutboundQueue::new(alloc, initial_tsn),
             mtu,
             max_payload_size,
-            cwnd: (4 * mtu).min((2 * mtu).max(4380)),
-            ssthresh: window,
+            congestion: CongestionWindow::new(mtu, window),
             advertised_window: window,
             min_tsn2measure_rtt: initial_tsn,
         }
@@ -79,7 +79,7 @@ impl Sender {
         ensures { self.new ≡ with_first_window self.old first_window }
     {
         self.advertised_window = first_window;
-        self.ssthresh = first_window;
+        self.congestion.ssthresh = first_window;
     }
 
     /// The peer's window less what is in flight, in bytes.
@@ -100,9 +100,8 @@ impl Sender {
         }
     }
 
-    /// Takes in the cumulative TSN ack, the gap ack blocks and the window of a SACK (RFC 4960 section 6.2.1). Round
-    /// trips are measured, and the retransmission timer runs, by the cumulative TSN ack alone. The streams that fall to
-    /// their low mark are gathered.
+    /// Takes in the cumulative TSN ack, the gap ack blocks and the window of a SACK (RFC 4960 section 6.2.1). The
+    /// streams that fall to their low mark are gathered.
     pub fn on_sack(
         &mut self,
         timers: &mut TimerTable,
@@ -123,10 +122,10 @@ impl Sender {
             → (self.new ≡ self.old) × (timers.new ≡ timers.old) × (rto.new ≡ rto.old) × (streams.new ≡ streams.old) }
         ensures outcome { result ≡ sack_outcome self.old cumulative_tsn_ack blocks.now }
         ensures taken { (result ≡ SackOutcome.Taken)
-            → with_blocks blocks.now (acknowledged (tsns_up_to self.old cumulative_tsn_ack) now
-            (with_window self.old window, rto.old, streams.old)) ≡ (self.new, rto.new, streams.new) }
+            → sack_taken cumulative_tsn_ack blocks.now window now self.old rto.old streams.old
+            ≡ (self.new, rto.new, streams.new) }
         ensures timer { (result ≡ SackOutcome.Taken)
-            → timers.new ≡ t3_after_sack (nat_lt 0 (tsns_up_to self.old cumulative_tsn_ack))
+            → timers.new ≡ t3_after_sack (progress_of self.old cumulative_tsn_ack blocks.now)
             (length self.new.queue.in_flight) now rto.new.rto timers.old }
     {
         if sna32gt(self.cumulative_tsn_ack_point(), cumulative_tsn_ack) {
@@ -139,25 +138,46 @@ impl Sender {
         if self.names_unsent(count, blocks) {
             return SackOutcome::NamesTheUnsent;
         }
+        let before = self.queue.inflight_bytes();
+        let earliest = self.names_earliest(count, blocks);
         self.advertised_window = window;
-        self.acknowledge(rto, streams, fallen, count, now);
-        self.acknowledge_blocks(streams, fallen, blocks);
-        self.run_t3(timers, rto, count > 0, now);
+        let any_new = self.acknowledge(rto, streams, fallen, count, now);
+        let newest = self.acknowledge_blocks(rto, streams, fallen, blocks, now);
+        let progress = Progress {
+            any_new: any_new | newest.is_some(),
+            earliest,
+        };
+        self.grow_window(count > 0, before);
+        self.run_t3(timers, rto, progress, now);
         SackOutcome::Taken
     }
 
-    // The retransmission timer after a SACK: begun anew where something was acknowledged, stopped where nothing is left
-    // in flight then, and running where something is (RFC 4960 section 6.3.2).
-    fn run_t3(&self, timers: &mut TimerTable, rto: &RtoManager, moved: bool, now: Instant)
-        ensures { timers.new ≡ t3_after_sack moved (length self.now.queue.in_flight) now rto.now.rto timers.old }
+    // The congestion window after a SACK, where so many bytes were outstanding before it.
+    fn grow_window(&mut self, moved: bool, before: u64)
+        ensures { self.new ≡ with_growth moved before self.old }
     {
         if moved {
+            let acked = before.saturating_sub(self.queue.inflight_bytes());
+            self.congestion
+                .grow(acked, self.queue.has_pending(), false, self.mtu);
+        }
+    }
+
+    // The retransmission timer after a SACK: its retries are forgotten where a TSN is acknowledged for the first time, it
+    // begins anew where the first outstanding one is, stops where nothing is left in flight, and runs where something is
+    // (RFC 4960 section 6.3.2).
+    fn run_t3(&self, timers: &mut TimerTable, rto: &RtoManager, progress: Progress, now: Instant)
+        ensures { timers.new ≡ t3_after_sack progress (length self.now.queue.in_flight) now rto.now.rto timers.old }
+    {
+        if progress.any_new {
             timers.reset_retrans(Timer::T3RTX);
+        }
+        if progress.earliest {
             timers.set(Timer::T3RTX, None);
         }
         if self.queue.inflight_len() > 0 {
             timers.restart_if_stale(Timer::T3RTX, now, rto.get_rto());
-        } else if moved {
+        } else {
             timers.stop(Timer::T3RTX);
         }
     }
@@ -175,7 +195,8 @@ impl Sender {
         cumulative_tsn_ack.wrapping_sub(self.cumulative_tsn_ack_point())
     }
 
-    // The first `count` pieces in flight came, one after another.
+    // The first `count` pieces in flight came, one after another. Answers whether one of them is acknowledged for the
+    // first time.
     fn acknowledge(
         &mut self,
         rto: &mut RtoManager,
@@ -183,13 +204,17 @@ impl Sender {
         fallen: &mut Fallen,
         count: u32,
         now: Instant,
-    )
+    ) -> bool
+        ensures any { result ≡ any_new_up_to count self.old.queue.in_flight }
         ensures exact { acknowledged count now (self.old, rto.old, streams.old) ≡ (self.new, rto.new, streams.new) }
         ensures gathers { Gathers streams.old fallen.old streams.new fallen.new }
     {
+        let mut any_new = false;
         for done in 0..count {
-            self.acknowledge_first(rto, streams, fallen, now);
+            let is_new = self.acknowledge_first(rto, streams, fallen, now);
+            any_new |= is_new;
         }
+        any_new
     }
 
     // The first piece in flight came: measure the round trip if it was sent once, and release its bytes.
@@ -200,7 +225,8 @@ impl Sender {
         streams: &mut Streams,
         fallen: &mut Fallen,
         now: Instant,
-    )
+    ) -> bool
+        ensures new { result ≡ is_new_piece (slice_get self.old.queue.in_flight 0) }
         ensures exact { after_first now (self.old, rto.old, streams.old) ≡ (self.new, rto.new, streams.new) }
         ensures gathers { Gathers streams.old fallen.old streams.new fallen.new }
     {
@@ -209,7 +235,9 @@ impl Sender {
         if let Some(piece) = self.queue.pop() {
             self.measure(rto, &piece, tsn, next_tsn, now);
             release(streams, fallen, &piece);
+            return is_new(&piece);
         }
+        false
     }
 
     // Takes the round trip of a piece that was sent once; the next measurement begins with what is sent from now on.
@@ -235,11 +263,13 @@ impl Sender {
         }
     }
 
-    /// Marks all that is in flight to be sent again (RFC 4960 section 6.3.3).
+    /// Marks all that is in flight to be sent again, and lets one packet be in flight (RFC 4960 sections 6.3.3 and
+    /// 7.2.3).
     pub fn on_t3_timeout(&mut self)
-        ensures { self.new ≡ record self.old { queue = all_marked self.old.queue } }
+        ensures { self.new ≡ after_t3_timeout self.old }
     {
         self.queue.mark_all_to_retransmit();
+        self.congestion.on_t3_timeout(self.mtu);
     }
 
     /// Sends marked DATA again, in TSN order, while the windows allow it. Where the peer's window is too small for the
@@ -253,7 +283,7 @@ impl Sender {
             self.resend(0, length, out)?;
             return Ok(());
         }
-        let window = self.cwnd.min(self.rwnd());
+        let window = self.congestion.cwnd.min(self.rwnd());
         self.resend_within(u64::from(window), out)
     }
 
@@ -383,7 +413,7 @@ impl Sender {
             Some(message) => {
                 let length = message.user_data.len() as u64;
                 let outstanding = self.queue.inflight_bytes();
-                outstanding.saturating_add(length) <= u64::from(self.cwnd)
+                outstanding.saturating_add(length) <= u64::from(self.congestion.cwnd)
                     && length <= u64::from(self.rwnd())
             }
             None => false,

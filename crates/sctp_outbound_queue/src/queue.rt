@@ -1,5 +1,5 @@
 // Messages that wait to be sent, and pieces in flight.
-ghost use Rattle.std.specs.Prelude.{◌≡◌, ◌==◌, ◌&&◌, ◌+◌, ◌-◌, ◌^◌, length, map, min, nat_lt, position, slice_get};
+ghost use Rattle.std.specs.Prelude.{position, ◌≡◌, ◌==◌, ◌&&◌, ◌+◌, ◌-◌, ◌^◌, length, map, min, nat_lt, position, slice_get};
 ghost use Rattle.std.specs.Prelude.{IfOk, OnOk, OnErr};
 ghost use Rattle.std.specs.Option.{option_copied, option_map};
 ghost use Rattle.sctp_serial.specs.Serial.{tsn_past};
@@ -262,6 +262,13 @@ impl OutboundQueue {
         if let Some(piece) = self.in_flight.get_mut(index) {
             piece.miss();
         }
+    }
+
+    /// How many TSNs past the first one in flight the first outstanding piece is.
+    pub fn first_outstanding(&self) -> Option<usize>
+        ensures { result ≡ position is_outstanding self.now.in_flight }
+    {
+        first_outstanding(&self.in_flight)
     }
 
     /// The TSN of the first outstanding piece.

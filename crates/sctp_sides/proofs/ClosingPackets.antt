@@ -30,10 +30,11 @@ use Rattle.sctp_inbound.specs.Greeting.{first_cookie, information_of}
 use Rattle.sctp_inbound.specs.Handshake.{comes_back, has_issued}
 use Rattle.sctp_inbound.specs.Receiver.{admits, is_new_to}
 use Rattle.sctp_outbound.specs.declared.sender.Sender.{Sender}
+use Rattle.sctp_outbound.specs.declared.progress.Progress.{Progress}
 use Rattle.sctp_outbound.specs.declared.sender.SackOutcome.{SackOutcome}
 use Rattle.sctp_outbound.specs.declared.sender.SackOutcome.TheVariants as outcomes
 use Rattle.sctp_wire_types.specs.declared.chunk.GapAckBlock.{GapAckBlock}
-use Rattle.sctp_outbound.specs.GapAcks.{with_blocks}
+use Rattle.sctp_outbound.specs.Sacks.{progress_of, sack_taken}
 use Rattle.sctp_streams.specs.LowMarks.{fallen, low_event}
 use Rattle.sctp_outbound.specs.Sender.{acknowledged, tsns_up_to, sack_outcome, with_window}
 use Rattle.sctp_assoc.specs.declared.inbound.Flow.{Flow}
@@ -158,9 +159,9 @@ low_marks_tell [] = refl
 low_marks_tell (id ∷ ids) =
     sum_by-cons loss_of (low_event id) (map low_event ids) ∙ ap (λ (n : ℕ). 0 + n) (low_marks_tell ids)
 
-acknowledged_goes_on : (a : Shown) (moved : Bool) (now : ℕ) (x : Sender × Estimate × StreamMap)
-    → GoesOn a (with_acknowledged a moved now x)
-acknowledged_goes_on a moved now (s, e, m) = record {
+acknowledged_goes_on : (a : Shown) (progress : Progress) (now : ℕ) (x : Sender × Estimate × StreamMap)
+    → GoesOn a (with_acknowledged a progress now x)
+acknowledged_goes_on a progress now (s, e, m) = record {
   still_open = λ c. c;
   lost = refl;
   told =
@@ -176,9 +177,8 @@ outcome_goes_on outcomes.Older b point blocks window trigger now = stays b b ref
 outcome_goes_on outcomes.NotInFlight b point blocks window trigger now = stays b b refl refl refl
 outcome_goes_on outcomes.NamesTheUnsent b point blocks window trigger now = stays b b refl refl refl
 outcome_goes_on outcomes.Taken b point blocks window trigger now =
-    acknowledged_goes_on b (nat_lt 0 (tsns_up_to b.sender point)) now
-    (with_blocks blocks
-    (acknowledged (tsns_up_to b.sender point) now (with_window b.sender window, b.estimate, b.streams)))
+    acknowledged_goes_on b (progress_of b.sender point blocks) now
+    (sack_taken point blocks window now b.sender b.estimate b.streams)
 
 sack_goes_on : (c : Bool) (a : Shown) (point : ℕ) (blocks : List GapAckBlock) (window : ℕ) (trigger : AckTrigger)
     (now : ℕ) → is_established a.state ≡ c

@@ -182,7 +182,7 @@ outcome_status outcomes.NotInFlight a point blocks window trigger now = status_s
 outcome_status outcomes.NamesTheUnsent a point blocks window trigger now = status_same a
 outcome_status outcomes.Taken a point blocks window trigger now =
     status_by a _ refl refl refl
-    (blocks_size blocks
+    (blocks_size now blocks
     (acknowledged (tsns_up_to a.sender point) now (with_window a.sender window, a.estimate, a.streams))
     ∙ acknowledged_size (tsns_up_to a.sender point) now (with_window a.sender window) a.estimate a.streams)
     refl refl refl

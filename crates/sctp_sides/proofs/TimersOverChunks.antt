@@ -32,8 +32,9 @@ use Rattle.sctp_outbound.specs.declared.sender.SackOutcome.{SackOutcome}
 use Rattle.sctp_outbound.specs.declared.sender.SackOutcome.TheVariants as outcomes
 use Rattle.sctp_wire_types.specs.declared.chunk.GapAckBlock.{GapAckBlock}
 use Rattle.sctp_received.specs.Received.{is_named}
-use Rattle.sctp_outbound.specs.GapAcks.{acked_among, with_blocks}
-use Rattle.sctp_outbound.specs.Sender.{acknowledged, tsns_up_to, sack_outcome, t3_after_sack, t3_cleared, with_window}
+use Rattle.sctp_outbound.specs.Sacks.{progress_of, sack_taken}
+use Rattle.sctp_outbound.specs.Sender.{sack_outcome, t3_after_sack, t3_cleared, t3_disarmed, t3_forgiven}
+use Rattle.sctp_outbound.specs.declared.progress.Progress.{Progress}
 use Rattle.sctp_assoc.specs.declared.inbound.Flow.{Flow}
 use Rattle.sctp_assoc.specs.declared.inbound.Flow.TheVariants as flows
 use Rattle.sctp_assoc.specs.Calls.{is_beginning, is_cookie_echoed, is_cookie_wait}
@@ -116,83 +117,79 @@ data_time a piece trigger =
 
 -- SACK
 
-acknowledged_nothing : (n now : ℕ) (s : Sender) (e : Estimate) (m : StreamMap) → ltb 0 n ≡ false
-    → (acknowledged n now (s, e, m)).0.queue.in_flight ≡ s.queue.in_flight
-acknowledged_nothing zero now s e m h = refl
-acknowledged_nothing (suc n) now s e m h = absurd (omega (arith, ltb-false 0 (suc n) h))
-
--- those that gap ack blocks name stay in flight
-flown_acked : (named : ℕ → Bool) (j : ℕ) (xs : List InFlight) → length (acked_among named j xs) ≡ length xs
-flown_acked named j [] = refl
-flown_acked named j (x ∷ xs) = ap suc (flown_acked named (suc j) xs)
-
-blocks_leave : (blocks : List GapAckBlock) (x : Sender × Estimate × StreamMap)
-    → length (with_blocks blocks x).0.queue.in_flight ≡ length x.0.queue.in_flight
-blocks_leave blocks (s, e, m) = flown_acked (λ j. is_named (j + 1) blocks) 0 s.queue.in_flight
-
 -- The timers fit these pieces in flight, and those that a SACK left are these.
 module _ (s : AssociationState) (f g : List InFlight) (t : Timers) (now rto : ℕ) (b : is_beginning s ≡ false)
     (h : FitsTimers s f t) where
-  cleared : (moved : Bool) → 0 < length g
-      → FitsTimers s g (restarted_if_stale names.T3RTX now rto (t3_cleared moved t))
-  cleared moved p =
-      let r = restarted now rto (t3_cleared moved t) in
-      fits_restarted s f g t (restarted_if_stale names.T3RTX now rto (t3_cleared moved t)) b
+  cleared : (p : Progress) → 0 < length g
+      → FitsTimers s g (restarted_if_stale names.T3RTX now rto (t3_cleared p t))
+  cleared p l =
+      let r = restarted now rto (t3_cleared p t) in
+      fits_restarted s f g t (restarted_if_stale names.T3RTX now rto (t3_cleared p t)) b
       (record {
         armed = r.armed;
-        init = r.init ∙ kept moved;
-        cookie = r.cookie ∙ kept_cookie moved;
-        data_limit = r.data_limit ∙ kept_data moved;
-        handshake_limit = r.handshake_limit ∙ kept_limit moved;
-      }) p h
+        init = r.init ∙ kept p.earliest p.any_new;
+        cookie = r.cookie ∙ kept_cookie p.earliest p.any_new;
+        data_limit = r.data_limit ∙ kept_data p.earliest p.any_new;
+        handshake_limit = r.handshake_limit ∙ kept_limit p.earliest p.any_new;
+      }) l h
     where
-      kept : (c : Bool) → (t3_cleared c t).t1_init ≡ t.t1_init
-      kept true = refl
-      kept false = refl
+      kept : (c d : Bool) → (t3_disarmed c (t3_forgiven d t)).t1_init ≡ t.t1_init
+      kept true true = refl
+      kept true false = refl
+      kept false true = refl
+      kept false false = refl
 
-      kept_cookie : (c : Bool) → (t3_cleared c t).t1_cookie ≡ t.t1_cookie
-      kept_cookie true = refl
-      kept_cookie false = refl
+      kept_cookie : (c d : Bool) → (t3_disarmed c (t3_forgiven d t)).t1_cookie ≡ t.t1_cookie
+      kept_cookie true true = refl
+      kept_cookie true false = refl
+      kept_cookie false true = refl
+      kept_cookie false false = refl
 
-      kept_data : (c : Bool) → (t3_cleared c t).data_limit ≡ t.data_limit
-      kept_data true = refl
-      kept_data false = refl
+      kept_data : (c d : Bool) → (t3_disarmed c (t3_forgiven d t)).data_limit ≡ t.data_limit
+      kept_data true true = refl
+      kept_data true false = refl
+      kept_data false true = refl
+      kept_data false false = refl
 
-      kept_limit : (c : Bool) → (t3_cleared c t).handshake_limit ≡ t.handshake_limit
-      kept_limit true = refl
-      kept_limit false = refl
+      kept_limit : (c d : Bool) → (t3_disarmed c (t3_forgiven d t)).handshake_limit ≡ t.handshake_limit
+      kept_limit true true = refl
+      kept_limit true false = refl
+      kept_limit false true = refl
+      kept_limit false false = refl
 
-  -- T3-rtx after a SACK that left these pieces in flight: where its point acknowledged nothing there are as many
-  sack_fits : (left moved : Bool) → ltb 0 (length g) ≡ left → (moved ≡ false → length g ≡ length f)
-      → FitsTimers s g (if left then restarted_if_stale names.T3RTX now rto (t3_cleared moved t) else if moved
-      then with_stopped names.T3RTX t else t)
-  sack_fits true moved e k = cleared moved (ltb-true 0 (length g) e)
-  sack_fits false true e k = record {
-    flies = record { timed = λ _ p. absurd (omega (arith, p, ltb-false 0 (length g) e)); none = λ _. refl };
+  -- T3-rtx after a SACK that left these pieces in flight
+  sack_fits : (left : Bool) (p : Progress) → ltb 0 (length g) ≡ left
+      → FitsTimers s g (if left then restarted_if_stale names.T3RTX now rto (t3_cleared p t)
+      else with_stopped names.T3RTX t)
+  sack_fits true p e = cleared p (ltb-true 0 (length g) e)
+  sack_fits false p e = record {
+    flies = record { timed = λ _ l. absurd (omega (arith, l, ltb-false 0 (length g) e)); none = λ _. refl };
     inits = h.inits;
     cookies = h.cookies;
     unsent = λ z. absurd (false≢true (sym b ∙ z));
   }
-  sack_fits false false e k = fits_as_many s f g t (k refl) h
 
-sack_keeps_ack : (left moved : Bool) (t : Timers) (now rto : ℕ)
-    → (if left then restarted_if_stale names.T3RTX now rto (t3_cleared moved t)
-    else if moved then with_stopped names.T3RTX t else t).ack ≡ t.ack
-sack_keeps_ack true true t now rto = restarted_keeps_ack now rto (t3_cleared true t)
-sack_keeps_ack true false t now rto = restarted_keeps_ack now rto (t3_cleared false t)
-sack_keeps_ack false true t now rto = refl
-sack_keeps_ack false false t now rto = refl
+cleared_keeps_ack : (c d : Bool) (t : Timers) → (t3_disarmed c (t3_forgiven d t)).ack ≡ t.ack
+cleared_keeps_ack true true t = refl
+cleared_keeps_ack true false t = refl
+cleared_keeps_ack false true t = refl
+cleared_keeps_ack false false t = refl
 
-taken_ticks : (a : Shown) (moved : Bool) (now : ℕ) (x : Sender × Estimate × StreamMap) → is_beginning a.state ≡ false
-    → (moved ≡ false → length x.0.queue.in_flight ≡ length a.sender.queue.in_flight) → Ticks a
-    → Ticks (with_acknowledged a moved now x)
-taken_ticks a moved now (s, e, m) b k h = record {
+sack_keeps_ack : (left : Bool) (p : Progress) (t : Timers) (now rto : ℕ)
+    → (if left then restarted_if_stale names.T3RTX now rto (t3_cleared p t) else with_stopped names.T3RTX t).ack ≡ t.ack
+sack_keeps_ack true p t now rto =
+    restarted_keeps_ack now rto (t3_cleared p t) ∙ cleared_keeps_ack p.earliest p.any_new t
+sack_keeps_ack false p t now rto = refl
+
+taken_ticks : (a : Shown) (p : Progress) (now : ℕ) (x : Sender × Estimate × StreamMap) → is_beginning a.state ≡ false
+    → Ticks a → Ticks (with_acknowledged a p now x)
+taken_ticks a p now (s, e, m) b h = record {
   working = h.working;
   not_lost = h.not_lost;
   fits = sack_fits a.state a.sender.queue.in_flight s.queue.in_flight a.timers now e.rto b h.fits
-      (ltb 0 (length s.queue.in_flight)) moved refl k;
-  acks = ack_kept (t3_after_sack moved (length s.queue.in_flight) now e.rto a.timers) a.timers a.receiver.ack_state
-      (sack_keeps_ack (ltb 0 (length s.queue.in_flight)) moved a.timers now e.rto) h.acks;
+      (ltb 0 (length s.queue.in_flight)) p refl;
+  acks = ack_kept (t3_after_sack p (length s.queue.in_flight) now e.rto a.timers) a.timers a.receiver.ack_state
+      (sack_keeps_ack (ltb 0 (length s.queue.in_flight)) p a.timers now e.rto) h.acks;
 }
 
 outcome_ticks : (o : SackOutcome) (a : Shown) (point : ℕ) (blocks : List GapAckBlock) (window : ℕ)
@@ -203,11 +200,8 @@ outcome_ticks outcomes.Older a point blocks window trigger now b h = h
 outcome_ticks outcomes.NotInFlight a point blocks window trigger now b h = h
 outcome_ticks outcomes.NamesTheUnsent a point blocks window trigger now b h = h
 outcome_ticks outcomes.Taken a point blocks window trigger now b h =
-    let x = acknowledged (tsns_up_to a.sender point) now (with_window a.sender window, a.estimate, a.streams) in
-    taken_ticks a (ltb 0 (tsns_up_to a.sender point)) now (with_blocks blocks x) b
-    (λ e. blocks_leave blocks x
-    ∙ ap (λ (z : List InFlight). length z)
-    (acknowledged_nothing (tsns_up_to a.sender point) now (with_window a.sender window) a.estimate a.streams e)) h
+    taken_ticks a (progress_of a.sender point blocks) now
+    (sack_taken point blocks window now a.sender a.estimate a.streams) b h
 
 -- The handshake
 

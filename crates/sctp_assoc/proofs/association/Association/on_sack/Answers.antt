@@ -2,8 +2,8 @@ use Rattle.std.proofs.Common.{rules, ◌≡◌, ◌∙◌, ap, sym, true}
 use Rattle.sctp_streams.specs.LowMarks.{IsGathered}
 use Rattle.sctp_streams.proofs.LowMarks.{gathered_since}
 use Rattle.sctp_outbound.specs.declared.sender.SackOutcome.TheVariants as outcomes
-use Rattle.sctp_outbound.specs.GapAcks.{with_blocks}
-use Rattle.sctp_outbound.specs.Sender.{acknowledged, sack_outcome, t3_after_sack, tsns_up_to, with_window}
+use Rattle.sctp_outbound.specs.Sacks.{sack_taken}
+use Rattle.sctp_outbound.specs.Sender.{sack_outcome, t3_after_sack, tsns_up_to}
 use Rattle.sctp_outbound.proofs.SenderSteps.{on_err}
 use Rattle.sctp_assoc.specs.declared.inbound.Flow.TheVariants as flows
 use Rattle.sctp_assoc.specs.Calls.{is_established}
@@ -17,9 +17,8 @@ returns-in_err-tell-in-Taken-clause-grows c =
     let sacked = c.on_sack-outcome.new in
     let taken : sack_outcome c.args.self.now.sender c.args.cumulative_tsn_ack c.args.blocks.now ≡ outcomes.Taken =
     rw (← c.self.view_is) (sym c.on_sack-outcome.ensures.outcome ∙ c.in-Taken.is) in
-    let is : with_blocks c.args.blocks.now
-    (acknowledged (tsns_up_to c.args.self.now.sender c.args.cumulative_tsn_ack) c.args.now
-    (with_window c.args.self.now.sender c.args.window, c.args.self.now.estimate, c.args.self.now.streams))
+    let is : sack_taken c.args.cumulative_tsn_ack c.args.blocks.now c.args.window c.args.now c.args.self.now.sender
+    c.args.self.now.estimate c.args.self.now.streams
     ≡ (sacked.self, sacked.rto, sacked.streams) =
     rw (← c.self.view_is) (c.on_sack-outcome.ensures.taken c.in-Taken.is) in
     let gathered : IsGathered c.args.self.now.streams sacked.streams sacked.fallen =
@@ -37,9 +36,8 @@ returns-in_ok-tell-in-Taken-clause-exact c =
     let sacked = c.on_sack-outcome.new in
     let taken : sack_outcome c.args.self.now.sender c.args.cumulative_tsn_ack c.args.blocks.now ≡ outcomes.Taken =
     rw (← c.self.view_is) (sym c.on_sack-outcome.ensures.outcome ∙ c.in-Taken.is) in
-    let is : with_blocks c.args.blocks.now
-    (acknowledged (tsns_up_to c.args.self.now.sender c.args.cumulative_tsn_ack) c.args.now
-    (with_window c.args.self.now.sender c.args.window, c.args.self.now.estimate, c.args.self.now.streams))
+    let is : sack_taken c.args.cumulative_tsn_ack c.args.blocks.now c.args.window c.args.now c.args.self.now.sender
+    c.args.self.now.estimate c.args.self.now.streams
     ≡ (sacked.self, sacked.rto, sacked.streams) =
     rw (← c.self.view_is) (c.on_sack-outcome.ensures.taken c.in-Taken.is) in
     let gathered : IsGathered c.args.self.now.streams sacked.streams sacked.fallen =

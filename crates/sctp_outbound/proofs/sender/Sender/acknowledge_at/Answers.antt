@@ -7,24 +7,37 @@ pub returns-in-Some-clause-pieces : goal.returns-in-Some-clause-pieces
 returns-in-Some-clause-pieces c =
     let here : slice_get c.args.self.now.queue.in_flight c.args.index ≡ Some c.in-Some.piece.now = search rules in
     (acknowledges_one c.args.self.now c.mark_as_acked.new.self c.args.streams.now c.mark_as_acked.result
-    c.args.index _ c.in-Some.piece.now here (omega arith) c.requires (omega arith) c.mark_as_acked.ensures).pieces
+    c.args.index _ c.measure.new.first c.in-Some.piece.now here (omega arith) c.requires (omega arith) c.mark_as_acked.ensures).pieces
 
 pub returns-in-Some-clause-released : goal.returns-in-Some-clause-released
 returns-in-Some-clause-released c =
     let here : slice_get c.args.self.now.queue.in_flight c.args.index ≡ Some c.in-Some.piece.now = search rules in
     c.release.ensures.released
     ∙ (acknowledges_one c.args.self.now c.mark_as_acked.new.self c.args.streams.now c.mark_as_acked.result
-    c.args.index _ c.in-Some.piece.now here (omega arith) c.requires (omega arith) c.mark_as_acked.ensures).released
+    c.args.index _ c.measure.new.first c.in-Some.piece.now here (omega arith) c.requires (omega arith) c.mark_as_acked.ensures).released
 
-pub returns-in_default-clause-pieces : goal.returns-in_default-clause-pieces
-returns-in_default-clause-pieces c =
+pub returns-clause-pieces : goal.returns-clause-pieces
+returns-clause-pieces c =
     let none : slice_get c.args.self.now.queue.in_flight c.args.index ≡ None = search rules in
     (acknowledges_past c.args.self.now c.args.streams.now c.args.index none).pieces
 
-pub returns-in_default-clause-released : goal.returns-in_default-clause-released
-returns-in_default-clause-released c =
+pub returns-clause-released : goal.returns-clause-released
+returns-clause-released c =
     let none : slice_get c.args.self.now.queue.in_flight c.args.index ≡ None = search rules in
     (acknowledges_past c.args.self.now c.args.streams.now c.args.index none).released
 
-pub returns-in_default-clause-gathers : goal.returns-in_default-clause-gathers
-returns-in_default-clause-gathers c = gathers_nothing c.args.streams.now c.args.fallen.now
+pub returns-clause-gathers : goal.returns-clause-gathers
+returns-clause-gathers c = gathers_nothing c.args.streams.now c.args.fallen.now
+
+pub returns-in-Some-clause-newest : goal.returns-in-Some-clause-newest
+returns-in-Some-clause-newest c =
+    let here : slice_get c.args.self.now.queue.in_flight c.args.index ≡ Some c.in-Some.piece.now = search rules in
+    c.place_if_new-newest.ensures
+    ∙ (acknowledges_one c.args.self.now c.mark_as_acked.new.self c.args.streams.now c.mark_as_acked.result
+    c.args.index _ c.measure.new.first c.in-Some.piece.now here (omega arith) c.requires (omega arith)
+    c.mark_as_acked.ensures).newest
+
+pub returns-clause-newest : goal.returns-clause-newest
+returns-clause-newest c =
+    let none : slice_get c.args.self.now.queue.in_flight c.args.index ≡ None = search rules in
+    (acknowledges_past c.args.self.now c.args.streams.now c.args.index none).newest

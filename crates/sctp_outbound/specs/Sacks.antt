@@ -1,0 +1,45 @@
+-- What a SACK does that is taken (RFC 4960 sections 6.2.1 and 7.2).
+use Rattle.std.specs.Prelude.{ℕ, ◌+◌, ◌-◌, ◌||◌, Bool, false, List, drop, length, if◌then◌else◌, is_some, nat_lt, position}
+use Rattle.sctp_wire_types.specs.declared.chunk.GapAckBlock.{GapAckBlock}
+use Rattle.sctp_parts.specs.Estimate.{Estimate}
+use Rattle.sctp_streams.specs.Streams.{StreamMap}
+use Rattle.sctp_received.specs.Received.{is_named}
+use Rattle.sctp_outbound_queue.specs.Message.{is_outstanding}
+use Rattle.sctp_outbound_queue.specs.Outbound.{outstanding_of}
+use Rattle.sctp_outbound.specs.declared.progress.Progress.{Progress}
+use Rattle.sctp_outbound.specs.declared.sender.Sender.{Sender}
+use Rattle.sctp_outbound.specs.Congestion.{grown}
+use Rattle.sctp_outbound.specs.GapAcks.{with_blocks}
+use Rattle.sctp_outbound.specs.Progress.{acknowledges_at, any_new_up_to, last_new}
+use Rattle.sctp_outbound.specs.Sender.{acknowledged, tsns_up_to, with_window}
+
+-- what a SACK acknowledges that was not acknowledged before
+abbrev pub progress_of : Sender → ℕ → List GapAckBlock → Progress
+progress_of s point blocks =
+    let count = tsns_up_to s point in
+    let pieces = s.queue.in_flight in record {
+      any_new = any_new_up_to count pieces || is_some (last_new (λ j. is_named (j + 1) blocks) 0 (drop count pieces));
+      earliest = acknowledges_at count blocks (position is_outstanding pieces);
+    }
+
+-- DATA waits to be sent
+abbrev pub has_more : Sender → Bool
+has_more s = nat_lt 0 (length s.queue.pending)
+
+-- the congestion window grows where the cumulative TSN ack point moved, by the bytes that are outstanding no more
+abbrev pub with_growth : Bool → ℕ → Sender → Sender
+with_growth moved before s = record s {
+  congestion = (if moved then
+      grown (before - outstanding_of s.queue.in_flight) (has_more s) false s.mtu s.congestion
+      else s.congestion);
+}
+
+abbrev pub grown_by : Bool → ℕ → Sender × Estimate × StreamMap → Sender × Estimate × StreamMap
+grown_by moved before x = (with_growth moved before x.0, x.1, x.2)
+
+-- sender, estimate and streams once a SACK was taken: the pieces up to its point and those that its gap ack blocks name
+-- are acknowledged, its window is the peer's, and the congestion window grows
+abbrev pub sack_taken : ℕ → List GapAckBlock → ℕ → ℕ → Sender → Estimate → StreamMap → Sender × Estimate × StreamMap
+sack_taken point blocks window now s e m =
+    grown_by (nat_lt 0 (tsns_up_to s point)) (outstanding_of s.queue.in_flight)
+    (with_blocks now blocks (acknowledged (tsns_up_to s point) now (with_window s window, e, m)))
