@@ -5,6 +5,7 @@ use Rattle.std.proofs.Common.{◌++◌, length, slice_get, Option, Some, None}
 use Rattle.std.proofs.lemmas.List.{append_assoc}
 use Rattle.sctp_serial.specs.Serial.{tsn}
 use Rattle.sctp_outbound_queue.specs.declared.message.InFlight.{InFlight}
+use Rattle.sctp_outbound_queue.specs.declared.message.Retransmission.{Retransmission}
 use Rattle.sctp_outbound_queue.specs.Waiting.{Waiting}
 use Rattle.sctp_outbound_queue.specs.Message.{counted_again}
 use Rattle.sctp_outbound_queue.specs.Outbound.{Outbound, changed_from, sent_from, tsn_at, without_first}
@@ -60,10 +61,10 @@ pub sent_first : (fs : List Waiting) (q : Outbound) (now : ℕ) → (sent_from f
 sent_first [] q now = refl
 sent_first (f ∷ fs) q now = refl
 
-resent_first : (o : Option InFlight) (q : Outbound) (index : ℕ)
-    → (changed_from counted_again o q index).first_tsn ≡ q.first_tsn
-resent_first None q index = refl
-resent_first (Some p) q index = refl
+resent_first : (by : Retransmission) (o : Option InFlight) (q : Outbound) (index : ℕ)
+    → (changed_from (counted_again by) o q index).first_tsn ≡ q.first_tsn
+resent_first by None q index = refl
+resent_first by (Some p) q index = refl
 
 pub act_tied : (x : Act) (p : Parts) → Can x p → Tied p → Tied (done x p)
 act_tied (Act.PeerKnown t) p c e = e
@@ -71,9 +72,9 @@ act_tied (Act.Opened id first kind) p c e = e
 act_tied (Act.Wrote id named bytes) p c e = written_tied (stream_at p.streams id) p id named bytes e
 act_tied (Act.Adjusted id setting) p c e = e
 act_tied (Act.Sent now) p c e = sent_first p.queue.pending p.queue now ∙ e
-act_tied (Act.SentAgain index) p c e = resent_first (slice_get p.queue.in_flight index) p.queue index ∙ e
+act_tied (Act.SentAgain by index) p c e = resent_first by (slice_get p.queue.in_flight index) p.queue index ∙ e
 act_tied Act.Marked p c e = e
-act_tied (Act.Acknowledged n blocks) p c e = acknowledged_tied n blocks p e
+act_tied (Act.Acknowledged n blocks missing) p c e = acknowledged_tied n blocks p e
 act_tied (Act.Took piece) p c e = e
 act_tied Act.Reported p c e = e
 act_tied (Act.WasRead id) p c e = e

@@ -34,20 +34,22 @@ use Rattle.sctp_inbound.specs.declared.handshake.Offer.{Offer}
 use Rattle.sctp_inbound.specs.Greeting.{first_cookie, information_of}
 use Rattle.sctp_inbound.specs.Handshake.{comes_back, has_issued}
 use Rattle.sctp_inbound.specs.Receiver.{admits, is_new_to, past_of, taken_to}
-use Rattle.sctp_outbound_queue.specs.Outbound.{Outbound}
+use Rattle.sctp_outbound_queue.specs.Outbound.{Outbound, outstanding_of}
 use Rattle.sctp_wire_types.specs.declared.chunk.GapAckBlock.{GapAckBlock}
-use Rattle.sctp_outbound.specs.Sacks.{progress_of, sack_taken}
+use Rattle.sctp_outbound.specs.Sacks.{all_acknowledged, before_point, progress_of, reports_of, sack_taken}
+use Rattle.sctp_outbound.proofs.MissingPieces.{reports_are}
 use Rattle.sctp_outbound.specs.declared.sender.Sender.{Sender}
 use Rattle.sctp_outbound.specs.declared.progress.Progress.{Progress}
 use Rattle.sctp_outbound.specs.declared.sender.SackOutcome.{SackOutcome}
 use Rattle.sctp_outbound.specs.declared.sender.SackOutcome.TheVariants as outcomes
-use Rattle.sctp_outbound.specs.Sender.{cumulative_tsn_ack_point_of, acknowledged, tsns_up_to, sack_outcome, with_window}
+use Rattle.sctp_outbound.specs.Sender.{cumulative_tsn_ack_point_of, tsns_up_to, sack_outcome}
 use Rattle.sctp_assoc.specs.declared.inbound.Flow.{Flow}
 use Rattle.sctp_assoc.specs.declared.inbound.Flow.TheVariants as flows
 use Rattle.sctp_directions.specs.Acts.{Act, CanAll, History, Parts, done, done_all}
 use Rattle.sctp_assoc.specs.Leads.{Binds, Leads, IsSamePast, LeadsOn, parts}
 use Rattle.sctp_assoc.specs.Memory.{is_taken}
-use Rattle.sctp_directions.specs.Acts.{offset_in, with_peer, with_taken, with_written}
+use Rattle.sctp_directions.specs.Acts.{with_acknowledged as with_all}
+use Rattle.sctp_directions.specs.Acts.{with_reports, offset_in, with_peer, with_taken, with_written}
 use Rattle.sctp_assoc.specs.Calls.{accepted_from, accepted_stream, adjusted, after_ack_delay, after_t3, event_from, event_polled, opened}
 use Rattle.sctp_assoc.specs.Chunks.{asks}
 use Rattle.sctp_inbound.specs.Receiver.{asked}
@@ -296,9 +298,34 @@ acknowledged_receiver : (a : Shown) (progress : Progress) (now : ℕ) (x : Sende
     → (with_acknowledged a progress now x).receiver ≡ a.receiver
 acknowledged_receiver a progress now (s, e, m) = refl
 
+-- what a SACK acknowledges and reports missing of the pieces in flight
+reported_parts : (a : Shown) (point : ℕ) (blocks : List GapAckBlock) (window now : ℕ) (h : History)
+    → tsns_up_to a.sender point ≤ length a.sender.queue.in_flight → a.sender.queue.first_tsn < 2 ^ 32
+    → let n = tsns_up_to a.sender point in
+    let x = sack_taken point blocks window now a.sender a.estimate a.streams in
+    with_reports (reports_of a.sender point blocks) (with_all n blocks (parts a h))
+    ≡ record {
+      queue = x.0.queue;
+      streams = x.2;
+      size = x.0.max_payload_size;
+      history = record h { base = h.base + n };
+    }
+reported_parts a point blocks window now h within small =
+    let n = tsns_up_to a.sender point in
+    ap (with_reports (reports_of a.sender point blocks))
+    (pieces_acknowledged n now blocks (before_point n window a.sender) a.estimate a.streams h within small)
+    ∙ ap (λ k. with_reports k (record {
+      queue = (all_acknowledged n blocks window now a.sender a.estimate a.streams).0.queue;
+      streams = (all_acknowledged n blocks window now a.sender a.estimate a.streams).2;
+      size = (all_acknowledged n blocks window now a.sender a.estimate a.streams).0.max_payload_size;
+      history = record h { base = h.base + n };
+    }))
+    (sym (reports_are a.sender point blocks window now a.estimate a.streams n (outstanding_of a.sender.queue.in_flight)
+    refl))
+
 sack_taken_leads : (a : Shown) (point : ℕ) (blocks : List GapAckBlock) (window now : ℕ) (h : History) → Binds a h
     → tsns_up_to a.sender point ≤ length a.sender.queue.in_flight
-    → Leads (Act.Acknowledged (tsns_up_to a.sender point) blocks ∷ []) a h
+    → Leads (Act.Acknowledged (tsns_up_to a.sender point) blocks (reports_of a.sender point blocks) ∷ []) a h
     (after_sack (counted_sack a) point blocks window now) (record h { base = h.base + tsns_up_to a.sender point })
 sack_taken_leads a point blocks window now h binds within =
     let n = tsns_up_to a.sender point in
@@ -306,9 +333,8 @@ sack_taken_leads a point blocks window now h binds within =
     let k : History = record h { base = h.base + n } in
     let small : a.sender.queue.first_tsn < 2 ^ 32 = rw binds.first (tsn_small h.own h.base) in
     let same = acknowledged_parts (counted_sack a) (progress_of a.sender point blocks) now x k in
-    let all =
-    pieces_acknowledged n now blocks (with_window a.sender window) a.estimate a.streams h within small in
-    leads_by (Act.Acknowledged n blocks ∷ []) a (after_sack (counted_sack a) point blocks window now) h binds
+    let all = reported_parts a point blocks window now h within small in
+    leads_by (Act.Acknowledged n blocks (reports_of a.sender point blocks) ∷ []) a (after_sack (counted_sack a) point blocks window now) h binds
     (within, tt) (same ∙ sym all)
     (ap past_of (acknowledged_receiver (counted_sack a) (progress_of a.sender point blocks) now x))
     (record { peer = refl; taken = refl; passed = refl })
@@ -319,7 +345,7 @@ sack_taken_leads a point blocks window now h binds within =
 outcome_leads : (o : SackOutcome) (a : Shown) (point : ℕ) (blocks : List GapAckBlock) (window : ℕ)
     (trigger : AckTrigger) (now : ℕ) (h : History)
     → sack_outcome a.sender point blocks ≡ o → Binds a h
-    → (k : History) × Leads (acts_of_outcome o (tsns_up_to a.sender point) blocks) a h
+    → (k : History) × Leads (acts_of_outcome o (tsns_up_to a.sender point) blocks (reports_of a.sender point blocks)) a h
     (on_counted_sack o (counted_sack a) point blocks window trigger now).0 k
 outcome_leads outcomes.Older a point blocks window trigger now h e binds =
     (h, leads_nowhere a (counted_sack a) h binds refl refl)

@@ -1,11 +1,13 @@
 -- What is to go out again is neither acknowledged nor abandoned, whatever an association does.
 use Rattle.std.proofs.Common.{◌≡◌, refl, ℕ, zero, suc, Bool, true, false, if◌then◌else◌, List, [], ◌∷◌, ◌++◌}
-use Rattle.std.proofs.Common.{drop, map, slice_get, slice_set, Option, Some, None}
+use Rattle.std.proofs.Common.{◌&&◌, ◌+◌, drop, map, nat_lt, slice_get, slice_set, subst, take, Option, Some, None}
 use Rattle.std.specs.List.{AllByRecursion}
 use Rattle.std.proofs.lemmas.Bool.{false≢true}
 use Rattle.sctp_outbound_queue.specs.declared.message.InFlight.{InFlight}
 use Rattle.sctp_outbound_queue.specs.Waiting.{Waiting}
-use Rattle.sctp_outbound_queue.specs.Message.{acked, counted_again, is_outstanding, marked_again, sent_once}
+use Rattle.sctp_outbound_queue.specs.Message.{acked, counted_again, is_outstanding, marked_again, reported_missing, sent_once}
+use Rattle.sctp_outbound_queue.specs.declared.message.Retransmission.{Retransmission}
+use Rattle.sctp_outbound_queue.specs.declared.message.Retransmission.TheVariants as causes
 use Rattle.sctp_outbound_queue.specs.Outbound.{Outbound, changed_from, sent_from}
 use Rattle.sctp_wire_types.specs.declared.ids.PayloadProtocolIdentifier.{PayloadProtocolIdentifier}
 use Rattle.sctp_streams.specs.Stream.{StreamView}
@@ -59,11 +61,33 @@ sent_right : (fs : List Waiting) (q : Outbound) (now : ℕ) → AreMarkedRight q
 sent_right [] q now m = m
 sent_right (f ∷ fs) q now m = append_right q.in_flight (sent_once now f) (λ e. absurd (false≢true e)) m
 
-again_right : (o : Option InFlight) (q : Outbound) (index : ℕ) → AreMarkedRight q.in_flight
-    → AreMarkedRight (changed_from counted_again o q index).in_flight
-again_right None q index m = m
-again_right (Some p) q index m =
-    set_right q.in_flight index (counted_again p) (λ e. absurd (false≢true e)) m
+get_right : (xs : List InFlight) (index : ℕ) (x : InFlight) → slice_get xs index ≡ Some x → AreMarkedRight xs
+    → IsMarkedRight x
+get_right [] index x e m = absurd (cc)
+get_right (y ∷ ys) zero x e (m, ms) = subst IsMarkedRight (let s : y ≡ x = cc in s) m
+get_right (y ∷ ys) (suc index) x e (m, ms) = get_right ys index x e ms
+
+counted_right : (by : Retransmission) (x : InFlight) → IsMarkedRight x → IsMarkedRight (counted_again by x)
+counted_right causes.Timer x m e = absurd (false≢true e)
+counted_right causes.Fast x m e = m e
+
+again_right : (by : Retransmission) (o : Option InFlight) (q : Outbound) (index : ℕ) → slice_get q.in_flight index ≡ o
+    → AreMarkedRight q.in_flight
+    → AreMarkedRight (changed_from (counted_again by) o q index).in_flight
+again_right by None q index e m = m
+again_right by (Some p) q index e m =
+    set_right q.in_flight index (counted_again by p) (counted_right by p (get_right q.in_flight index p e m)) m
+
+reported_if : (c : Bool) (x : InFlight) → IsMarkedRight x → IsMarkedRight (if c then record x { misses = x.misses + 1 } else x)
+reported_if true x m e = m e
+reported_if false x m e = m e
+
+missing_right : (n : ℕ) (xs : List InFlight) → AreMarkedRight xs
+    → AreMarkedRight (map reported_missing (take n xs) ++ drop n xs)
+missing_right zero xs m = m
+missing_right (suc n) [] m = tt
+missing_right (suc n) (x ∷ xs) (m, ms) =
+    (reported_if (is_outstanding x && nat_lt x.misses 3) x m, missing_right n xs ms)
 
 written_right : (o : Option StreamView) (p : Parts) (id : ℕ) (named : Option PayloadProtocolIdentifier) (bytes : List ℕ)
     → AreMarkedRight p.queue.in_flight → AreMarkedRight (with_written o p id named bytes).queue.in_flight
@@ -76,10 +100,11 @@ act_marked (Act.Opened id first kind) p m = m
 act_marked (Act.Wrote id named bytes) p m = written_right (stream_at p.streams id) p id named bytes m
 act_marked (Act.Adjusted id setting) p m = m
 act_marked (Act.Sent now) p m = sent_right p.queue.pending p.queue now m
-act_marked (Act.SentAgain index) p m = again_right (slice_get p.queue.in_flight index) p.queue index m
+act_marked (Act.SentAgain by index) p m =
+    again_right by (slice_get p.queue.in_flight index) p.queue index refl m
 act_marked Act.Marked p m = all_right p.queue.in_flight m
-act_marked (Act.Acknowledged n blocks) p m =
-    drop_right n _ (among_right (is_acknowledged_by n blocks) 0 p.queue.in_flight m)
+act_marked (Act.Acknowledged n blocks missing) p m =
+    missing_right missing _ (drop_right n _ (among_right (is_acknowledged_by n blocks) 0 p.queue.in_flight m))
 act_marked (Act.Took piece) p m = m
 act_marked Act.Reported p m = m
 act_marked (Act.WasRead id) p m = m

@@ -24,7 +24,7 @@ use Rattle.sctp_assoc.specs.Closing.{is_closed_state}
 use Rattle.sctp_assoc.specs.Chunks.{counted_data, on_chunk, stream_found}
 use Rattle.sctp_assoc.specs.Memory.{chunk_takes_memory, chunks_take_memory, data_takes_memory, keeps_message}
 use Rattle.sctp_assoc.specs.Memory.{makes_stream, takes_memory_after}
-use Rattle.sctp_assoc.specs.Gather.{data_polled, exchange_gives, is_due, with_sent_data}
+use Rattle.sctp_assoc.specs.Gather.{fast_counted, data_polled, exchange_gives, is_due, with_sent_data}
 use Rattle.sctp_assoc.specs.Shown.{Shown}
 
 -- DATA
@@ -168,7 +168,7 @@ pub pieces_are_given : (a b : Shown) (now : ℕ) (pieces : List ChunkPayloadData
 unfolding data_polled
 pieces_are_given a b now pieces e some =
     let same : (sent_new (after_resending a.sender) (resent_by a.sender) now).1 ≡ pieces =
-    sym (sent_pieces a (length (resent_by a.sender)) now (sent_new (after_resending a.sender) (resent_by a.sender) now))
+    sym (sent_pieces (fast_counted a) (length (resent_by a.sender)) now (sent_new (after_resending a.sender) (resent_by a.sender) now))
     ∙ ap (λ (z : Shown × List ChunkPayloadData). z.1) e in
     or_left _ _ (subst (λ (z : List ChunkPayloadData). nat_lt 0 (length z) ≡ true) (sym same) some)
 
@@ -180,6 +180,6 @@ unfolding data_polled
 ack_is_given a b now pieces e due =
     let same : a.receiver ≡ b.receiver =
     sym
-    (sent_receiver a (length (resent_by a.sender)) now (sent_new (after_resending a.sender) (resent_by a.sender) now))
+    (sent_receiver (fast_counted a) (length (resent_by a.sender)) now (sent_new (after_resending a.sender) (resent_by a.sender) now))
     ∙ ap (λ (z : Shown × List ChunkPayloadData). z.0.receiver) e in
     or_right _ _ (subst (λ (z : Receiver). is_due z.ack_state ≡ true) (sym same) due)

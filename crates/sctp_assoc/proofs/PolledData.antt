@@ -1,28 +1,32 @@
 -- What a poll gives out is what its acts say.
 use Rattle.std.proofs.Common.{◌≡◌, refl, sym, ap, ◌∙◌, ⊎_elim, ℕ, zero, suc, ◌+◌, ◌-◌, arith, Bool, true, false}
-use Rattle.std.proofs.Common.{if◌then◌else◌, List, [], ◌∷◌, ◌++◌, length, nat_lt, slice_get, slice_set, Some, is_some}
-use Rattle.std.proofs.lemmas.Bool.{cases_Bool, false≢true}
+use Rattle.std.proofs.Common.{if◌then◌else◌, List, [], ◌∷◌, ◌++◌, length, nat_lt, slice_get, slice_set, Some, is_some, nat_le, ◌==◌, ◌&&◌, subst}
+use Rattle.std.proofs.lemmas.Bool.{and_parts, cases_Bool, false≢true}
 use Rattle.std.proofs.lemmas.List.{append_assoc, append-nil}
 use Rattle.sctp_wire_types.specs.declared.chunk.ChunkPayloadData.{ChunkPayloadData}
 use Rattle.sctp_serial.specs.Serial.{tsn}
 use Rattle.sctp_outbound_queue.specs.declared.message.InFlight.{InFlight}
 use Rattle.sctp_outbound_queue.specs.Waiting.{Waiting}
-use Rattle.sctp_outbound_queue.specs.Message.{counted_again, is_outstanding}
+use Rattle.sctp_outbound_queue.specs.declared.message.Retransmission.{Retransmission}
+use Rattle.sctp_outbound_queue.specs.declared.message.Retransmission.TheVariants as causes
+use Rattle.sctp_outbound_queue.specs.Message.{counted_again, is_outstanding, picks, room_taken}
 use Rattle.sctp_outbound_queue.specs.Outbound.{Outbound, next_tsn_of, pieces_waiting, sent_next, tsn_at}
 use Rattle.sctp_streams.specs.Streams.{StreamMap}
 use Rattle.sctp_outbound.specs.declared.sender.Sender.{Sender}
 use Rattle.sctp_outbound.specs.Sender.{after_resending, alone_length_of, both_windows, window_left, can_send_next}
 use Rattle.sctp_outbound.specs.Sender.{chunk_of, first_chunk}
+use Rattle.sctp_outbound.specs.Sender.{after_marked, after_missing, fast_room, marked_by, missing_by}
 use Rattle.sctp_outbound.specs.Sender.{first_counted, fits_windows, resends_alone, resent_by, resent_chunks}
 use Rattle.sctp_outbound.specs.Sender.{resent_pieces, sent_new, sent_one, sent_within, with_in_flight}
 use Rattle.sctp_directions.specs.Acts.{Act, CanAll, History, Parts, done_all, all_data_given}
 use Rattle.sctp_fit.specs.Sendings.{next_chunks}
 use Rattle.sctp_assoc.specs.Leads.{parts}
-use Rattle.sctp_assoc.specs.Gather.{AckIsReadAgain, data_polled, with_sent_data}
+use Rattle.sctp_assoc.specs.Gather.{AckIsReadAgain, data_polled, fast_counted, with_sent_data}
 use Rattle.sctp_assoc.specs.Shown.{Shown}
+use Rattle.sctp_assoc.specs.Happened.{acts_of_missing}
 use Rattle.sctp_assoc.specs.Happened.{acks_given, acts_of_ack, acts_of_data_poll, acts_of_marks, acts_of_new}
 use Rattle.sctp_assoc.specs.Happened.{acts_of_resending, acts_of_sending, first_again, first_sent}
-use Rattle.sctp_assoc.proofs.MarksOutstanding.{AreMarkedRight}
+use Rattle.sctp_assoc.proofs.MarksOutstanding.{AreMarkedRight, acts_marked}
 use Rattle.sctp_assoc.proofs.ActsKeepOffsets.{Tied, can_append, done_append, given_append, sent_first}
 use Rattle.sctp_outbound.proofs.SenderSteps.{chunks_full, chunks_sent, chunks_skip, pieces_full, pieces_sent}
 use Rattle.sctp_outbound.proofs.SenderSteps.{pieces_skip}
@@ -64,14 +68,22 @@ one_longer : {X : Type 0} (xs : List X) (x : X) → length (xs ++ x ∷ []) ≡ 
 one_longer [] x = refl
 one_longer (z ∷ zs) x = let e = one_longer zs x in omega (arith, e)
 
-again_one : (x : InFlight) (ps xs : List InFlight) (p : Parts) → p.queue.in_flight ≡ xs ++ x ∷ ps → Tied p
+-- a piece that is picked is outstanding
+picked_right : (by : Retransmission) (x : InFlight) → picks by x ≡ true
+    → (x.retransmit ≡ true → is_outstanding x ≡ true) → is_outstanding x ≡ true
+picked_right causes.Timer x picked marked = marked picked
+picked_right causes.Fast x picked marked =
+    (and_parts (is_outstanding x) (x.sent_count == 1)
+    (and_parts (is_outstanding x && x.sent_count == 1) (nat_le 3 x.misses) picked).0).0
+
+again_one : (by : Retransmission) (x : InFlight) (ps xs : List InFlight) (p : Parts) → p.queue.in_flight ≡ xs ++ x ∷ ps → Tied p
     → is_outstanding x ≡ true
-    → Gives (Act.SentAgain (length xs) ∷ []) p (with_pieces p (xs ++ counted_again x ∷ ps))
+    → Gives (Act.SentAgain by (length xs) ∷ []) p (with_pieces p (xs ++ counted_again by x ∷ ps))
     (chunk_of x (tsn_at p.queue.first_tsn (length xs)) ∷ [])
-again_one x ps xs p e tied outstanding =
+again_one by x ps xs p e tied outstanding =
     let held : slice_get p.queue.in_flight (length xs) ≡ Some x = rw e (get_behind xs ps x) in
-    let put : slice_set p.queue.in_flight (length xs) (counted_again x) ≡ xs ++ counted_again x ∷ ps =
-    rw e (set_behind xs ps x (counted_again x)) in
+    let put : slice_set p.queue.in_flight (length xs) (counted_again by x) ≡ xs ++ counted_again by x ∷ ps =
+    rw e (set_behind xs ps x (counted_again by x)) in
     record {
       can = (rw held outstanding, tt);
       there = rw (held, put) refl;
@@ -82,19 +94,19 @@ gives_same : {xs ys : List Act} {p q r : Parts} {c d : List ChunkPayloadData} �
     → Gives xs p q c
 gives_same e f g m = rw (e, f, g) m
 
-acts_skip : (p : InFlight) (ps : List InFlight) (index room : ℕ) → p.retransmit ≡ false
-    → acts_of_resending index room (p ∷ ps) ≡ acts_of_resending (index + 1) room ps
-acts_skip p ps index room unmarked = rw unmarked
+acts_skip : (by : Retransmission) (p : InFlight) (ps : List InFlight) (index room : ℕ) → picks by p ≡ false
+    → acts_of_resending by index room (p ∷ ps) ≡ acts_of_resending by (index + 1) room ps
+acts_skip by p ps index room unmarked = rw unmarked
 
-acts_full : (p : InFlight) (ps : List InFlight) (index room : ℕ) → p.retransmit ≡ true
-    → nat_lt room (length p.user_data) ≡ true → acts_of_resending index room (p ∷ ps) ≡ []
-acts_full p ps index room marked full = rw (marked, full)
+acts_full : (by : Retransmission) (p : InFlight) (ps : List InFlight) (index room : ℕ) → picks by p ≡ true
+    → nat_lt room (room_taken by p) ≡ true → acts_of_resending by index room (p ∷ ps) ≡ []
+acts_full by p ps index room marked full = rw (marked, full)
 
-acts_sent : (p : InFlight) (ps : List InFlight) (index room : ℕ) → p.retransmit ≡ true
-    → nat_lt room (length p.user_data) ≡ false
-    → acts_of_resending index room (p ∷ ps) ≡ Act.SentAgain index
-    ∷ acts_of_resending (index + 1) (room - length p.user_data) ps
-acts_sent p ps index room marked fits = rw (marked, fits)
+acts_sent : (by : Retransmission) (p : InFlight) (ps : List InFlight) (index room : ℕ) → picks by p ≡ true
+    → nat_lt room (room_taken by p) ≡ false
+    → acts_of_resending by index room (p ∷ ps) ≡ Act.SentAgain by index
+    ∷ acts_of_resending by (index + 1) (room - room_taken by p) ps
+acts_sent by p ps index room marked fits = rw (marked, fits)
 
 -- the pieces behind one more
 shifted : (c : InFlight) (xs rest : List InFlight) (acts : ℕ → List Act)
@@ -106,41 +118,41 @@ shifted c xs rest acts chunks p m =
     (ap (λ (z : List InFlight). with_pieces p z) (sym (append_assoc xs (c ∷ []) rest)))
     (ap chunks (sym (one_longer xs c))) m
 
-pub resending : (ps xs : List InFlight) (room : ℕ) (p : Parts) → p.queue.in_flight ≡ xs ++ ps → Tied p
+pub resending : (by : Retransmission) (ps xs : List InFlight) (room : ℕ) (p : Parts) → p.queue.in_flight ≡ xs ++ ps → Tied p
     → AreMarkedRight ps
-    → Gives (acts_of_resending (length xs) room ps) p (with_pieces p (xs ++ resent_pieces room ps))
-    (resent_chunks p.queue.first_tsn (length xs) room ps)
-resending [] xs room p e tied right = record { can = tt; there = rw (← e) refl; said = refl }
-resending (x ∷ ps) xs room p e tied right = ⊎_elim
-    (λ (marked : x.retransmit ≡ true). ⊎_elim
-    (λ (full : nat_lt room (length x.user_data) ≡ true).
-    gives_same (acts_full x ps (length xs) room marked full)
-    (ap (λ (z : List InFlight). with_pieces p (xs ++ z)) (pieces_full x ps room marked full))
-    (chunks_full x ps p.queue.first_tsn (length xs) room marked full)
+    → Gives (acts_of_resending by (length xs) room ps) p (with_pieces p (xs ++ resent_pieces by room ps))
+    (resent_chunks by p.queue.first_tsn (length xs) room ps)
+resending by [] xs room p e tied right = record { can = tt; there = rw (← e) refl; said = refl }
+resending by (x ∷ ps) xs room p e tied right = ⊎_elim
+    (λ (marked : picks by x ≡ true). ⊎_elim
+    (λ (full : nat_lt room (room_taken by x) ≡ true).
+    gives_same (acts_full by x ps (length xs) room marked full)
+    (ap (λ (z : List InFlight). with_pieces p (xs ++ z)) (pieces_full by x ps room marked full))
+    (chunks_full by x ps p.queue.first_tsn (length xs) room marked full)
     (record { can = tt; there = rw (← e) refl; said = refl }))
-    (λ (fits : nat_lt room (length x.user_data) ≡ false).
-    let c : InFlight = counted_again x in
-    let left : ℕ = room - length x.user_data in
+    (λ (fits : nat_lt room (room_taken by x) ≡ false).
+    let c : InFlight = counted_again by x in
+    let left : ℕ = room - room_taken by x in
     let q : Parts = with_pieces p (xs ++ c ∷ ps) in
-    let rest = resending ps (xs ++ c ∷ []) left q (sym (append_assoc xs (c ∷ []) ps)) tied right.1 in
+    let rest = resending by ps (xs ++ c ∷ []) left q (sym (append_assoc xs (c ∷ []) ps)) tied right.1 in
     let moved =
-    shifted c xs (resent_pieces left ps) (λ (n : ℕ). acts_of_resending n left ps)
-    (λ (n : ℕ). resent_chunks p.queue.first_tsn n left ps) q rest in
-    gives_same (acts_sent x ps (length xs) room marked fits)
-    (ap (λ (z : List InFlight). with_pieces p (xs ++ z)) (pieces_sent x ps room marked fits))
-    (chunks_sent x ps p.queue.first_tsn (length xs) room marked fits)
-    (gives_on (Act.SentAgain (length xs) ∷ []) (acts_of_resending (length xs + 1) left ps) p q _ _ _
-    (again_one x ps xs p e tied (right.0 marked)) moved))
-    (cases_Bool (nat_lt room (length x.user_data))))
-    (λ (unmarked : x.retransmit ≡ false).
-    let rest = resending ps (xs ++ x ∷ []) room p (e ∙ sym (append_assoc xs (x ∷ []) ps)) tied right.1 in
+    shifted c xs (resent_pieces by left ps) (λ (n : ℕ). acts_of_resending by n left ps)
+    (λ (n : ℕ). resent_chunks by p.queue.first_tsn n left ps) q rest in
+    gives_same (acts_sent by x ps (length xs) room marked fits)
+    (ap (λ (z : List InFlight). with_pieces p (xs ++ z)) (pieces_sent by x ps room marked fits))
+    (chunks_sent by x ps p.queue.first_tsn (length xs) room marked fits)
+    (gives_on (Act.SentAgain by (length xs) ∷ []) (acts_of_resending by (length xs + 1) left ps) p q _ _ _
+    (again_one by x ps xs p e tied (picked_right by x marked right.0)) moved))
+    (cases_Bool (nat_lt room (room_taken by x))))
+    (λ (unmarked : picks by x ≡ false).
+    let rest = resending by ps (xs ++ x ∷ []) room p (e ∙ sym (append_assoc xs (x ∷ []) ps)) tied right.1 in
     let moved =
-    shifted x xs (resent_pieces room ps) (λ (n : ℕ). acts_of_resending n room ps)
-    (λ (n : ℕ). resent_chunks p.queue.first_tsn n room ps) p rest in
-    gives_same (acts_skip x ps (length xs) room unmarked)
-    (ap (λ (z : List InFlight). with_pieces p (xs ++ z)) (pieces_skip x ps room unmarked))
-    (chunks_skip x ps p.queue.first_tsn (length xs) room unmarked) moved)
-    (cases_Bool x.retransmit)
+    shifted x xs (resent_pieces by room ps) (λ (n : ℕ). acts_of_resending by n room ps)
+    (λ (n : ℕ). resent_chunks by p.queue.first_tsn n room ps) p rest in
+    gives_same (acts_skip by x ps (length xs) room unmarked)
+    (ap (λ (z : List InFlight). with_pieces p (xs ++ z)) (pieces_skip by x ps room unmarked))
+    (chunks_skip by x ps p.queue.first_tsn (length xs) room unmarked) moved)
+    (cases_Bool (picks by x))
 
 -- a piece that goes alone is marked
 alone_marked : (c : Bool) (window : ℕ) (x : InFlight) → x.retransmit ≡ c
@@ -153,7 +165,7 @@ first_again_gives : (ps : List InFlight) (window : ℕ) (p : Parts) → p.queue.
     → Gives (first_again ps) p (with_pieces p (first_counted ps)) (first_chunk p.queue.first_tsn ps)
 first_again_gives [] window p e tied right alone = record { can = tt; there = rw (← e) refl; said = refl }
 first_again_gives (x ∷ ps) window p e tied right alone =
-    again_one x ps [] p e tied (right.0 (alone_marked x.retransmit window x refl alone))
+    again_one causes.Timer x ps [] p e tied (right.0 (alone_marked x.retransmit window x refl alone))
 
 -- the parts of a sender beside some streams
 abbrev pub sending : Sender → StreamMap → History → Parts
@@ -161,21 +173,52 @@ sending s m h = record { queue = s.queue; streams = m; size = s.max_payload_size
 
 marks_give_if : (alone : Bool) (s : Sender) (m : StreamMap) (h : History) → s.queue.first_tsn ≡ tsn h.own h.base
     → AreMarkedRight s.queue.in_flight → resends_alone s ≡ alone
-    → Gives (if alone then first_again s.queue.in_flight else acts_of_resending 0 (both_windows s) s.queue.in_flight)
+    → Gives (if alone then first_again s.queue.in_flight else
+    acts_of_resending causes.Timer 0 (both_windows s) s.queue.in_flight)
     (sending s m h)
     (sending (with_in_flight s
-    (if alone then first_counted s.queue.in_flight else resent_pieces (both_windows s) s.queue.in_flight)) m h)
+    (if alone then first_counted s.queue.in_flight else
+    resent_pieces causes.Timer (both_windows s) s.queue.in_flight)) m h)
     (if alone then first_chunk s.queue.first_tsn s.queue.in_flight else
-    resent_chunks s.queue.first_tsn 0 (both_windows s) s.queue.in_flight)
+    resent_chunks causes.Timer s.queue.first_tsn 0 (both_windows s) s.queue.in_flight)
 marks_give_if true s m h tied right alone =
     first_again_gives s.queue.in_flight (window_left s) (sending s m h) refl tied right alone
 marks_give_if false s m h tied right alone =
-    resending s.queue.in_flight [] (both_windows s) (sending s m h) refl tied right
+    resending causes.Timer s.queue.in_flight [] (both_windows s) (sending s m h) refl tied right
 
 pub marks_give : (s : Sender) (m : StreamMap) (h : History) → s.queue.first_tsn ≡ tsn h.own h.base
     → AreMarkedRight s.queue.in_flight
-    → Gives (acts_of_marks s) (sending s m h) (sending (after_resending s) m h) (resent_by s)
+    → Gives (acts_of_marks s) (sending s m h) (sending (after_marked s) m h) (marked_by s)
 marks_give s m h tied right = marks_give_if (resends_alone s) s m h tied right refl
+
+missing_give_if : (due : Bool) (s : Sender) (m : StreamMap) (h : History) → s.queue.first_tsn ≡ tsn h.own h.base
+    → AreMarkedRight s.queue.in_flight
+    → Gives (if due then acts_of_resending causes.Fast 0 (fast_room s) s.queue.in_flight else []) (sending s m h)
+    (sending (with_in_flight s (if due then
+    resent_pieces causes.Fast (fast_room s) s.queue.in_flight else s.queue.in_flight)) m h)
+    (if due then resent_chunks causes.Fast s.queue.first_tsn 0 (fast_room s) s.queue.in_flight else [])
+missing_give_if true s m h tied right =
+    resending causes.Fast s.queue.in_flight [] (fast_room s) (sending s m h) refl tied right
+missing_give_if false s m h tied right = gives_none (sending s m h)
+
+pub missing_give : (s : Sender) (m : StreamMap) (h : History) → s.queue.first_tsn ≡ tsn h.own h.base
+    → AreMarkedRight s.queue.in_flight
+    → Gives (acts_of_missing s) (sending s m h) (sending (after_missing s) m h) (missing_by s)
+missing_give s m h tied right = missing_give_if s.is_fast_due s m h tied right
+
+-- all that goes out again
+pub again_gives : (s : Sender) (m : StreamMap) (h : History) → s.queue.first_tsn ≡ tsn h.own h.base
+    → AreMarkedRight s.queue.in_flight
+    → Gives (acts_of_marks s ++ acts_of_missing (after_marked s)) (sending s m h) (sending (after_resending s) m h)
+    (resent_by s)
+again_gives s m h tied right =
+    let marked = marks_give s m h tied right in
+    let still : AreMarkedRight (after_marked s).queue.in_flight =
+    subst (λ (p : Parts). AreMarkedRight p.queue.in_flight) (sym marked.there)
+    (acts_marked (acts_of_marks s) (sending s m h) right) in
+    gives_on (acts_of_marks s) (acts_of_missing (after_marked s)) (sending s m h) (sending (after_marked s) m h)
+    (sending (after_resending s) m h) (marked_by s) (missing_by (after_marked s)) marked
+    (missing_give (after_marked s) m h tied still)
 
 -- Pieces that go out for the first time.
 
@@ -307,7 +350,10 @@ sent_data_stays a count now (s, pieces) =
 pub data_poll_stays : (a : Shown) (now : ℕ) → IsSentBeside a (data_polled a now).0
 unfolding data_polled
 data_poll_stays a now =
-    sent_data_stays a (length (resent_by a.sender)) now (sent_new (after_resending a.sender) (resent_by a.sender) now)
+    let b =
+    sent_data_stays (fast_counted a) (length (resent_by a.sender)) now
+    (sent_new (after_resending a.sender) (resent_by a.sender) now) in
+    record { receiver = b.receiver; handshake = b.handshake; acts = b.acts; acks = b.acks; again = b.again }
 
 pub data_poll_adds : (a : Shown) (now : ℕ) (h : History) → a.sender.queue.first_tsn ≡ tsn h.own h.base
     → AreMarkedRight a.sender.queue.in_flight
@@ -316,10 +362,12 @@ unfolding data_polled
 data_poll_adds a now h tied right =
     let s : Sender = after_resending a.sender in
     let x = sent_new s (resent_by a.sender) now in
-    let again : Adds (acts_of_marks a.sender) (parts a h) (sending s a.streams h) [] (resent_by a.sender) =
-    record { given = resent_by a.sender; gives = marks_give a.sender a.streams h tied right; all = refl } in
+    let resent = acts_of_marks a.sender ++ acts_of_missing (after_marked a.sender) in
+    let again : Adds resent (parts a h) (sending s a.streams h) [] (resent_by a.sender) =
+    record { given = resent_by a.sender; gives = again_gives a.sender a.streams h tied right; all = refl } in
     let fresh = new_adds_if now a.streams h _ s (resent_by a.sender) tied in
     let both =
-    adds_on (acts_of_marks a.sender) (acts_of_new s (resent_by a.sender) now) again fresh in
-    rw (sent_data_parts a (length (resent_by a.sender)) now x h, sent_data_said a (length (resent_by a.sender)) now x)
+    adds_on resent (acts_of_new s (resent_by a.sender) now) again fresh in
+    let b = fast_counted a in
+    rw (sent_data_parts b (length (resent_by a.sender)) now x h, sent_data_said b (length (resent_by a.sender)) now x)
     both

@@ -1,6 +1,6 @@
 -- What the chunks of a packet do to an association (RFC 4960 sections 3.3 and 6.2).
 use Rattle.std.specs.Prelude.{ℕ, Bool, true, false, List, [], ◌∷◌, ◌++◌, ◌&&◌, if◌then◌else◌, not, is_some, length}
-use Rattle.std.specs.Prelude.{nat_lt, Option, Some, None, Result, Ok, Err}
+use Rattle.std.specs.Prelude.{Option, Some, None, Result, Ok, Err}
 use Rattle.sctp_wire_types.specs.declared.error.Error.{Error}
 use Rattle.sctp_wire_types.specs.declared.error.Error.TheVariants as errors
 use Rattle.sctp_wire_types.specs.declared.chunk.Chunk.{Chunk}

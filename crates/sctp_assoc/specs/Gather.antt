@@ -15,12 +15,13 @@ use Rattle.sctp_wire.specs.Packets.{packet_at, packet_is_plain, written}
 use Rattle.sctp_parts.specs.declared.state.AckState.{AckState}
 use Rattle.sctp_parts.specs.declared.state.AckState.TheVariants as acks
 use Rattle.sctp_parts.specs.declared.timer.Timer.TheVariants as names
+use Rattle.sctp_parts.specs.Stats.{more_by}
 use Rattle.sctp_parts.specs.Timers.{Timers, restarted_if_stale}
 use Rattle.sctp_streams.specs.Streams.{bytes_waiting}
 use Rattle.sctp_inbound.specs.Handshake.{header_of}
 use Rattle.sctp_inbound.specs.Receiver.{acknowledged, sack_of}
 use Rattle.sctp_outbound.specs.declared.sender.Sender.{Sender}
-use Rattle.sctp_outbound.specs.Sender.{after_resending, gives_data, resent_by, sent_new}
+use Rattle.sctp_outbound.specs.Sender.{after_marked, after_resending, gives_data, missing_by, resent_by, sent_new}
 use Rattle.sctp_assoc.specs.declared.control.ControlPacket.{ControlPacket}
 use Rattle.sctp_assoc.specs.Calls.{is_established}
 use Rattle.sctp_assoc.specs.Shown.{Shown}
@@ -55,10 +56,22 @@ with_sent_data a count now (sender, pieces) = (
   pieces,
 )
 
--- the DATA of a poll, in order: that which the retransmission timer marked, and then new DATA
+-- the chunks that fast retransmission gives are counted
+abbrev pub fast_counted : Shown → Shown
+fast_counted a = record a {
+  counts = (let c = a.counts in
+      record c { fast_retrans = more_by (length (missing_by (after_marked a.sender))) c.fast_retrans });
+}
+
+-- DATA is sent again
+abbrev pub with_resent : Shown → Shown
+with_resent a = (let b = fast_counted a in record b { sender = after_resending a.sender })
+
+-- the DATA of a poll, in order: that which the retransmission timer marked, that which is missing, and then new DATA
 unfoldable pub data_polled : Shown → ℕ → Shown × List ChunkPayloadData
 data_polled a now =
-    with_sent_data a (length (resent_by a.sender)) now (sent_new (after_resending a.sender) (resent_by a.sender) now)
+    with_sent_data (fast_counted a) (length (resent_by a.sender)) now
+    (sent_new (after_resending a.sender) (resent_by a.sender) now)
 
 abbrev pub is_due : AckState → Bool
 is_due acks.Idle = false

@@ -14,6 +14,9 @@ use Rattle.sctp_wire.specs.declared.packet.Packet.{Packet}
 use Rattle.sctp_parts.specs.declared.timer.Timer.TheVariants as names
 use Rattle.sctp_parts.specs.Timers.{expiry_of}
 use Rattle.sctp_outbound_queue.specs.declared.message.InFlight.{InFlight}
+use Rattle.sctp_outbound_queue.specs.declared.message.Retransmission.{Retransmission}
+use Rattle.sctp_outbound_queue.specs.declared.message.Retransmission.TheVariants as causes
+use Rattle.sctp_outbound_queue.specs.Message.{picks, room_taken}
 use Rattle.sctp_outbound_queue.specs.Waiting.{Waiting}
 use Rattle.sctp_outbound_queue.specs.Outbound.{pieces_waiting}
 use Rattle.sctp_streams.specs.Streams.{stream_at, generation_left, bytes_waiting, refusal_in}
@@ -24,7 +27,9 @@ use Rattle.sctp_inbound.specs.Receiver.{admits, is_new_to}
 use Rattle.sctp_outbound.specs.declared.sender.SackOutcome.{SackOutcome}
 use Rattle.sctp_outbound.specs.declared.sender.SackOutcome.TheVariants as outcomes
 use Rattle.sctp_outbound.specs.declared.sender.Sender.{Sender}
-use Rattle.sctp_outbound.specs.Sender.{after_resending, both_windows, can_send_next, tsns_up_to, resends_alone}
+use Rattle.sctp_outbound.specs.Sacks.{reports_of}
+use Rattle.sctp_outbound.specs.Sender.{after_marked, after_resending, both_windows, can_send_next, fast_room, tsns_up_to}
+use Rattle.sctp_outbound.specs.Sender.{resends_alone}
 use Rattle.sctp_outbound.specs.Sender.{resent_by, sack_outcome, sent_one}
 use Rattle.sctp_assoc.specs.declared.inbound.Flow.{Flow}
 use Rattle.sctp_assoc.specs.declared.inbound.Flow.TheVariants as flows
@@ -67,16 +72,17 @@ acts_of_data a piece =
     ++ acts_of_found (stream_found (counted_data a) piece.stream_identifier) piece
     else []
 
-abbrev pub acts_of_outcome : SackOutcome → ℕ → List GapAckBlock → List Act
-acts_of_outcome outcomes.Older n blocks = []
-acts_of_outcome outcomes.NotInFlight n blocks = []
-acts_of_outcome outcomes.NamesTheUnsent n blocks = []
-acts_of_outcome outcomes.Taken n blocks = Act.Acknowledged n blocks ∷ []
+abbrev pub acts_of_outcome : SackOutcome → ℕ → List GapAckBlock → ℕ → List Act
+acts_of_outcome outcomes.Older n blocks missing = []
+acts_of_outcome outcomes.NotInFlight n blocks missing = []
+acts_of_outcome outcomes.NamesTheUnsent n blocks missing = []
+acts_of_outcome outcomes.Taken n blocks missing = Act.Acknowledged n blocks missing ∷ []
 
 abbrev pub acts_of_sack : Shown → ℕ → List GapAckBlock → List Act
 acts_of_sack a cumulative_tsn_ack blocks =
     if is_established a.state then
     acts_of_outcome (sack_outcome a.sender cumulative_tsn_ack blocks) (tsns_up_to a.sender cumulative_tsn_ack) blocks
+    (reports_of a.sender cumulative_tsn_ack blocks)
     else []
 
 -- an INIT that is answered tells the peer's initial TSN
@@ -130,21 +136,27 @@ acts_of_packet_of a (Some packet) now = acts_of_chunks packet.common_header pack
 abbrev pub acts_of_packet : Shown → Option Packet → ℕ → List Act
 acts_of_packet a packet now = if a.lost then [] else acts_of_packet_of a packet now
 
--- the marked pieces that fit together into so many bytes go out again
-abbrev pub acts_of_resending : ℕ → ℕ → List InFlight → List Act
-acts_of_resending index room [] = []
-acts_of_resending index room (p ∷ ps) =
-    if not p.retransmit then acts_of_resending (index + 1) room ps else
-    if nat_lt room (length p.user_data) then [] else
-    Act.SentAgain index ∷ acts_of_resending (index + 1) (room - length p.user_data) ps
+-- the pieces that a reason picks and that fit together into so many bytes go out again
+abbrev pub acts_of_resending : Retransmission → ℕ → ℕ → List InFlight → List Act
+acts_of_resending by index room [] = []
+acts_of_resending by index room (p ∷ ps) =
+    if not (picks by p) then acts_of_resending by (index + 1) room ps else
+    if nat_lt room (room_taken by p) then [] else
+    Act.SentAgain by index ∷ acts_of_resending by (index + 1) (room - room_taken by p) ps
 
 abbrev pub first_again : List InFlight → List Act
 first_again [] = []
-first_again (p ∷ ps) = Act.SentAgain 0 ∷ []
+first_again (p ∷ ps) = Act.SentAgain causes.Timer 0 ∷ []
 
 abbrev pub acts_of_marks : Sender → List Act
 acts_of_marks s =
-    if resends_alone s then first_again s.queue.in_flight else acts_of_resending 0 (both_windows s) s.queue.in_flight
+    if resends_alone s then first_again s.queue.in_flight else
+    acts_of_resending causes.Timer 0 (both_windows s) s.queue.in_flight
+
+-- where it is due, what is missing goes out again in one packet
+abbrev pub acts_of_missing : Sender → List Act
+acts_of_missing s =
+    if s.is_fast_due then acts_of_resending causes.Fast 0 (fast_room s) s.queue.in_flight else []
 
 -- the next pieces that wait go out while the windows have room
 abbrev pub acts_of_sending : ℕ → Sender → List ChunkPayloadData → ℕ → List Act
@@ -165,7 +177,9 @@ acts_of_new s out now =
 
 -- the DATA of a poll
 abbrev pub acts_of_data_poll : Shown → ℕ → List Act
-acts_of_data_poll a now = acts_of_marks a.sender ++ acts_of_new (after_resending a.sender) (resent_by a.sender) now
+acts_of_data_poll a now =
+    acts_of_marks a.sender ++ acts_of_missing (after_marked a.sender)
+    ++ acts_of_new (after_resending a.sender) (resent_by a.sender) now
 
 abbrev pub acts_of_ack : Shown → List Act
 acts_of_ack a = if is_due a.receiver.ack_state then Act.Reported ∷ [] else []

@@ -1,13 +1,13 @@
 // The packets of one poll, in the order in which they go out.
 ghost use Rattle.std.specs.Prelude.{◌≡◌, ◌++◌, ◌&&◌, true, length, nat_lt, OnErr, OnOk, IfOk};
 ghost use Rattle.sctp_wire.specs.Packets.{packet_is_plain};
-ghost use Rattle.sctp_outbound.specs.Sender.{gives_data};
+ghost use Rattle.sctp_outbound.specs.Sender.{gives_data, resends, resent_by};
 ghost use Rattle.sctp_assoc.specs.Calls.{is_established};
 ghost use Rattle.sctp_assoc.specs.Gather.{AckIsReadAgain, AreControlReadAgain, AreReadAgain, ExchangeIsReadAgain};
 ghost use Rattle.sctp_assoc.specs.Gather.{IsReadAgain, PollIsReadAgain, ack_after, ack_polled, after_both};
 ghost use Rattle.sctp_assoc.specs.Gather.{control_packets, data_packets, data_polled, exchange_gives, exchange_polled};
 ghost use Rattle.sctp_assoc.specs.Gather.{has_something_to_give, is_due, packet_bytes, packet_with, polled};
-ghost use Rattle.sctp_assoc.specs.Gather.{without_control};
+ghost use Rattle.sctp_assoc.specs.Gather.{with_resent, without_control};
 
 use crate::Association;
 use crate::control::ControlPacket;
@@ -69,13 +69,23 @@ impl Association {
         ensures grows { OnErr result (gives_data self.old.sender now ≡ true) }
     {
         let mut chunks = Vec::new(self.alloc);
-        self.sender.resend_marked(&mut chunks)?;
+        self.resend_data(&mut chunks)?;
         let sent = self.sender.send_new(&mut chunks, now)?;
         if sent {
             let rto = self.rto.get_rto();
             self.timers.restart_if_stale(Timer::T3RTX, now, rto);
         }
         Ok(chunks)
+    }
+
+    fn resend_data(&mut self, chunks: &mut Vec<ChunkPayloadData>) -> Result<(), AllocError>
+        ensures exact { OnOk result (self.new ≡ with_resent self.old) }
+        ensures chunks { OnOk result (chunks.new.items ≡ chunks.old.items ++ resent_by self.old.sender) }
+        ensures grows { OnErr result (resends self.old.sender ≡ true) }
+    {
+        let fast = self.sender.resend(chunks)?;
+        self.stats.add_fast_retrans(fast as u64);
+        Ok(())
     }
 
     #[tactic(auto, unfolding(crate::specs::Gather::ack_polled))]

@@ -159,9 +159,9 @@ only_settings_loosen (Act.Adjusted id setting) p s others kept =
     kept_changed (λ t. with_setting t setting) (stream_at p.streams id) p.streams id s refl
     (setting_leaves setting id s others) kept
 only_settings_loosen (Act.Sent now) p s others kept = kept
-only_settings_loosen (Act.SentAgain index) p s others kept = kept
+only_settings_loosen (Act.SentAgain by index) p s others kept = kept
 only_settings_loosen Act.Marked p s others kept = kept
-only_settings_loosen (Act.Acknowledged n blocks) p s others kept =
+only_settings_loosen (Act.Acknowledged n blocks missing) p s others kept =
     kept_acknowledged (is_acknowledged_by n blocks) 0 p.queue.in_flight p.streams s kept
 only_settings_loosen (Act.Took piece) p s others kept =
     kept_pushed (stream_at p.streams piece.stream_identifier) p.streams piece.stream_identifier s piece refl kept

@@ -1,18 +1,25 @@
 -- What an association finds acknowledged is acknowledged at the direction's sender, and a SACK acknowledges as many
 -- offsets there as pieces here (RFC 4960 section 6.2.1).
+use Rattle.std.proofs.Common.{zero, suc, List, [], ◌∷◌, ◌++◌, ◌&&◌, map, take, drop, nat_lt}
 use Rattle.std.proofs.Common.{◌≡◌, sym, ap, ◌∙◌, ⊎_elim, ℕ, ◌+◌, ◌-◌, ◌<◌, ◌≤◌, ◌%◌, ◌^◌, ◌||◌, length, arith}
 use Rattle.std.proofs.lemmas.Bool.{cases_lt, le-ltb, lt-ltb}
 use Rattle.sctp_wire_types.specs.declared.chunk.ChunkSelectiveAck.{ChunkSelectiveAck}
 use Rattle.sctp_received.specs.Received.{is_named}
 use Rattle.sctp_model.specs.Packets.{Sack, mem, names}
-use Rattle.sctp_model.specs.Machine.{reach}
+use Rattle.sctp_model.specs.Machine.{Event, happens, reach}
 use Rattle.sctp_model.specs.Invariants.{IsHonest}
 use Rattle.sctp_model.proofs.Lists.{all_get}
 use Rattle.sctp_serial.specs.Serial.{tsn}
 use Rattle.sctp_fit.specs.Incoming.{tsn_before}
 use Rattle.sctp_fit.proofs.FlightAcknowledged as flight
 use Rattle.sctp_fit.proofs.SentAgain.{flight_length}
-use Rattle.sctp_directions.specs.Acts.{is_acknowledged_by, sending}
+use Rattle.sctp_directions.specs.Acts.{is_acknowledged_by, sending, with_acknowledged, with_reports}
+use Rattle.sctp_directions.proofs.OutgoingSentAgain.{same_piece}
+use Rattle.sctp_fit.proofs.Marks as marks
+use Rattle.sctp_fit.specs.Sendings.{AreSamePieces, IsSamePiece}
+use Rattle.sctp_outbound_queue.specs.declared.message.InFlight.{InFlight}
+use Rattle.sctp_outbound_queue.specs.Message.{is_outstanding, reported_missing}
+use Rattle.std.proofs.lemmas.Bool.{cond_both}
 use Rattle.sctp_directions.specs.Laws.{AcknowledgementsAreAlike, SacksMeanTheSame}
 use Rattle.sctp_directions.specs.Reports.{SaysWhatWasTaken}
 use Rattle.sctp_directions.proofs.IncomingTook.{reach_known}
@@ -34,11 +41,32 @@ names_alike own base n j x c says far = ⊎_elim
     ∙ says.set (j + 1 - n) (omega arith)))
     (cases_lt j n)
 
+-- What it reports missing
+
+-- a report that a piece is missing says nothing of it to the direction
+same_reported : (x : InFlight) → IsSamePiece x (reported_missing x)
+same_reported x =
+    cond_both (is_outstanding x && nat_lt x.misses 3) (record x { misses = x.misses + 1 }) x (IsSamePiece x)
+    (λ b. same_piece x x.retransmit (x.misses + 1)) (λ b. same_piece x x.retransmit x.misses)
+
+all_same : (xs : List InFlight) → AreSamePieces xs xs
+all_same [] = tt
+all_same (x ∷ xs) = (same_piece x x.retransmit x.misses, all_same xs)
+
+-- nor of the first ones in flight
+first_reported : (n : ℕ) (xs : List InFlight) → AreSamePieces xs (map reported_missing (take n xs) ++ drop n xs)
+first_reported zero xs = all_same xs
+first_reported (suc n) [] = tt
+first_reported (suc n) (x ∷ xs) = (same_reported x, first_reported n xs)
+
 -- What a SACK acknowledges of the pieces in flight, it acknowledges at the direction's sender.
 pub acknowledgements_are_alike : AcknowledgementsAreAlike
-acknowledgements_are_alike p n k c x w there says far within inv f =
-    flight.acknowledgements_are_alike (sending p) n k (is_acknowledged_by n c.gap_ack_blocks) x w there far within
-    (λ j l. names_alike p.history.own w.sender.reach n j x c says far) inv f
+acknowledgements_are_alike p n k missing c x w there says far within inv f =
+    let left = with_acknowledged n c.gap_ack_blocks p in
+    marks.marks_are_no_events (sending left) (with_reports missing left).queue.in_flight (happens w (Event.SackComes k))
+    (first_reported missing left.queue.in_flight)
+    (flight.acknowledgements_are_alike (sending p) n k (is_acknowledged_by n c.gap_ack_blocks) x w there far within
+    (λ j l. names_alike p.history.own w.sender.reach n j x c says far) inv f)
 
 -- What its point means
 

@@ -78,9 +78,9 @@ what_comes_leaves_its_own (Act.Opened id first kind) p w coming f = absurd comin
 what_comes_leaves_its_own (Act.Wrote id named bytes) p w coming f = absurd coming
 what_comes_leaves_its_own (Act.Adjusted id setting) p w coming f = absurd coming
 what_comes_leaves_its_own (Act.Sent now) p w coming f = absurd coming
-what_comes_leaves_its_own (Act.SentAgain index) p w coming f = absurd coming
+what_comes_leaves_its_own (Act.SentAgain by index) p w coming f = absurd coming
 what_comes_leaves_its_own Act.Marked p w coming f = absurd coming
-what_comes_leaves_its_own (Act.Acknowledged n blocks) p w coming f = absurd coming
+what_comes_leaves_its_own (Act.Acknowledged n blocks missing) p w coming f = absurd coming
 what_comes_leaves_its_own (Act.Took piece) p w coming f =
     took_at (stream_at p.streams piece.stream_identifier) (sending p) piece w refl f
 what_comes_leaves_its_own Act.Reported p w coming f = f

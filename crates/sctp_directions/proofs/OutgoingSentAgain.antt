@@ -7,6 +7,7 @@ use Rattle.std.specs.List.{AllByRecursion}
 use Rattle.std.proofs.lemmas.Bool.{cond_both, false≢true}
 use Rattle.sctp_serial.specs.Serial.{tsn}
 use Rattle.sctp_outbound_queue.specs.declared.message.InFlight.{InFlight}
+use Rattle.sctp_outbound_queue.specs.declared.message.Retransmission.{Retransmission}
 use Rattle.sctp_outbound_queue.specs.Message.{is_outstanding, marked_again}
 use Rattle.sctp_model.specs.Invariants.{Invariant}
 use Rattle.sctp_model.specs.Machine.{Direction, Event, happens}
@@ -18,23 +19,24 @@ use Rattle.sctp_directions.specs.Acts.{Act, Parts, can_go_again, chunk_said, don
 use Rattle.sctp_directions.specs.Laws.{MarksAreNoEvents, PiecesAreGiven}
 
 -- what goes out again is the piece, which is there and outstanding
-pieces_given : (p : Parts) (index : ℕ) (o : Option InFlight) (w : Direction) → can_go_again o ≡ true
+pieces_given : (p : Parts) (by : Retransmission) (index : ℕ) (o : Option InFlight) (w : Direction) → can_go_again o ≡ true
     → slice_get p.queue.in_flight index ≡ o → Invariant w → FitsOutgoing (sending p) w
-    → FitsOutgoing (sending (done (Act.SentAgain index) p)) (happens w (Event.Resend (w.sender.reach + index)))
+    → FitsOutgoing (sending (done (Act.SentAgain by index) p)) (happens w (Event.Resend (w.sender.reach + index)))
     × AllByRecursion (IsGiven p.history.own (happens w (Event.Resend (w.sender.reach + index))))
     (chunk_said o (tsn p.history.own (p.history.base + index)))
-pieces_given p index None w can e inv f = absurd (false≢true can)
-pieces_given p index (Some x) w can e inv f =
-    let given = again.pieces_are_given p.history.own (sending p) index x w e can inv f in (given.0, (given.1, tt))
+pieces_given p by index None w can e inv f = absurd (false≢true can)
+pieces_given p by index (Some x) w can e inv f =
+    let given = again.pieces_are_given p.history.own (sending p) by index x w e can inv f in (given.0, (given.1, tt))
 
 -- An association sends a piece again: the direction gives out the DATA of its offset again.
 pub pieces_are_given : PiecesAreGiven
-pieces_are_given p index w can inv f =
-    pieces_given p index (slice_get p.queue.in_flight index) w can refl inv f
+pieces_are_given p by index w can inv f =
+    pieces_given p by index (slice_get p.queue.in_flight index) w can refl inv f
 
--- a piece is the same one, marked or not
-same_piece : (x : InFlight) (retransmit : Bool) → IsSamePiece x (record x { retransmit = retransmit })
-same_piece x retransmit = record {
+-- a piece is the same one, marked or not and however often it was reported missing
+pub same_piece : (x : InFlight) (retransmit : Bool) (misses : ℕ)
+    → IsSamePiece x (record x { retransmit = retransmit; misses = misses })
+same_piece x retransmit misses = record {
   message = record {
     id = refl;
     stream = refl;
@@ -54,8 +56,8 @@ same_piece x retransmit = record {
 -- a mark for sending again says nothing of a piece
 same_marked : (x : InFlight) → IsSamePiece x (marked_again x)
 same_marked x =
-    cond_both (is_outstanding x) (record x { retransmit = true }) x (IsSamePiece x) (λ b. same_piece x true)
-    (λ b. same_piece x x.retransmit)
+    cond_both (is_outstanding x) (record x { retransmit = true }) x (IsSamePiece x) (λ b. same_piece x true x.misses)
+    (λ b. same_piece x x.retransmit x.misses)
 
 -- nor of all pieces
 all_same_marked : (xs : List InFlight) → AreSamePieces xs (map marked_again xs)

@@ -6,11 +6,12 @@ use Rattle.sctp_wire_types.specs.declared.chunk.ChunkPayloadData.{ChunkPayloadDa
 use Rattle.sctp_wire_types.specs.declared.chunk.GapAckBlock.{GapAckBlock}
 use Rattle.sctp_wire_types.specs.declared.ids.PayloadProtocolIdentifier.{PayloadProtocolIdentifier}
 use Rattle.sctp_outbound_queue.specs.declared.message.InFlight.{InFlight}
+use Rattle.sctp_outbound_queue.specs.declared.message.Retransmission.{Retransmission}
 use Rattle.sctp_outbound_queue.specs.Cut.{first_piece, other_pieces}
 use Rattle.sctp_outbound_queue.specs.Waiting.{Waiting}
 use Rattle.sctp_outbound_queue.specs.Message.{counted_again, is_outstanding}
 use Rattle.sctp_received.specs.Received.{is_named}
-use Rattle.sctp_outbound_queue.specs.Outbound.{Outbound, all_marked, changed_at, sent_next}
+use Rattle.sctp_outbound_queue.specs.Outbound.{Outbound, all_marked, changed_at, sent_next, with_missing}
 use Rattle.sctp_streams.specs.declared.setting.Setting.{Setting}
 use Rattle.sctp_streams.specs.declared.setting.Setting.TheVariants as settings
 use Rattle.sctp_streams.specs.Stream.{StreamView, ordered_and_reliable, params_for, with_setting}
@@ -80,13 +81,13 @@ pub data Act : Type 0 where
   Adjusted : ℕ → Setting → Act
   -- the next piece that waits got the next offset and went out, at this moment
   Sent : ℕ → Act
-  -- the piece in flight that is so many offsets past the first one went out again
-  SentAgain : ℕ → Act
+  -- the piece in flight that is so many offsets past the first one went out again, for a reason
+  SentAgain : Retransmission → ℕ → Act
   -- all that is outstanding is to go out again
   Marked : Act
   -- a SACK acknowledged so many of the first pieces in flight, and of those behind them the ones that its gap ack
-  -- blocks name
-  Acknowledged : ℕ → List GapAckBlock → Act
+  -- blocks name; then it reported so many of the first ones left in flight missing
+  Acknowledged : ℕ → List GapAckBlock → ℕ → Act
   -- this DATA was taken in
   Took : ChunkPayloadData → Act
   -- a SACK went out
@@ -149,6 +150,10 @@ with_acknowledged n blocks p = record p {
   history = (let h = p.history in record h { base = h.base + n });
 }
 
+-- so many of the first pieces in flight are reported missing
+abbrev pub with_reports : ℕ → Parts → Parts
+with_reports missing p = record p { queue = with_missing missing p.queue }
+
 -- what an act makes of the parts
 abbrev pub done : Act → Parts → Parts
 done (PeerKnown t) p = record p { history = with_peer p.history t }
@@ -156,9 +161,9 @@ done (Opened id first kind) p = record p { streams = made p.streams id first kin
 done (Wrote id named bytes) p = with_written (stream_at p.streams id) p id named bytes
 done (Adjusted id setting) p = record p { streams = changed_stream (λ s. with_setting s setting) p.streams id }
 done (Sent now) p = record p { queue = sent_next p.queue now }
-done (SentAgain index) p = record p { queue = changed_at counted_again p.queue index }
+done (SentAgain by index) p = record p { queue = changed_at (counted_again by) p.queue index }
 done Marked p = record p { queue = all_marked p.queue }
-done (Acknowledged n blocks) p = with_acknowledged n blocks p
+done (Acknowledged n blocks missing) p = with_reports missing (with_acknowledged n blocks p)
 done (Took piece) p = record p {
   streams = (pushed_in p.streams piece.stream_identifier piece).0;
   history = with_taken p.history (offset_in p.history piece.tsn);
@@ -185,8 +190,8 @@ pub record IsNewTsn (h : History) (t : ℕ) : Type 0 where
 -- an act can be done where the parts stand so
 abbrev pub Can : Act → Parts → Type 0
 Can (Sent now) p = is_some (slice_get p.queue.pending 0) ≡ true
-Can (SentAgain index) p = can_go_again (slice_get p.queue.in_flight index) ≡ true
-Can (Acknowledged n blocks) p = n ≤ length p.queue.in_flight
+Can (SentAgain by index) p = can_go_again (slice_get p.queue.in_flight index) ≡ true
+Can (Acknowledged n blocks missing) p = n ≤ length p.queue.in_flight
 Can (Took piece) p = IsNewTsn p.history piece.tsn
 Can act p = Unit {0}
 
@@ -203,7 +208,7 @@ chunk_said (Some p) t = chunk_of p t ∷ []
 abbrev pub data_given : Act → Parts → List ChunkPayloadData
 data_given (Sent now) p =
     next_chunks p.queue.pending (tsn p.history.own (p.history.base + length p.queue.in_flight))
-data_given (SentAgain index) p =
+data_given (SentAgain by index) p =
     chunk_said (slice_get p.queue.in_flight index) (tsn p.history.own (p.history.base + index))
 data_given act p = []
 
@@ -222,9 +227,9 @@ abbrev pub IsOfItsOwn : Act → Type 0
 IsOfItsOwn (Wrote id named bytes) = Unit {0}
 IsOfItsOwn (Adjusted id setting) = Unit {0}
 IsOfItsOwn (Sent now) = Unit {0}
-IsOfItsOwn (SentAgain index) = Unit {0}
+IsOfItsOwn (SentAgain by index) = Unit {0}
 IsOfItsOwn Marked = Unit {0}
-IsOfItsOwn (Acknowledged n blocks) = Unit {0}
+IsOfItsOwn (Acknowledged n blocks missing) = Unit {0}
 IsOfItsOwn act = ⊥
 
 -- acts of the DATA that comes

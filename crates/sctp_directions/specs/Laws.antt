@@ -10,6 +10,7 @@ use Rattle.sctp_wire_types.specs.declared.ids.PayloadProtocolIdentifier.{Payload
 use Rattle.sctp_streams.specs.declared.setting.Setting.{Setting}
 use Rattle.sctp_streams.specs.Stream.{StreamView}
 use Rattle.sctp_streams.specs.Streams.{stream_at}
+use Rattle.sctp_outbound_queue.specs.declared.message.Retransmission.{Retransmission}
 use Rattle.sctp_model.specs.Packets.{Data, Sack, mem}
 use Rattle.sctp_model.specs.Machine.{Direction, Event, fresh, happens}
 use Rattle.sctp_model.specs.Invariants.{Invariant}
@@ -47,11 +48,11 @@ SettingsAreNoEvents = (p : Parts) (id : ℕ) (setting : Setting) (w : Direction)
 
 -- A piece that goes out again is that of its offset, and is DATA of the direction.
 abbrev pub PiecesAreGiven : Type 0
-PiecesAreGiven = (p : Parts) (index : ℕ) (w : Direction) → Can (Act.SentAgain index) p
+PiecesAreGiven = (p : Parts) (by : Retransmission) (index : ℕ) (w : Direction) → Can (Act.SentAgain by index) p
     → Invariant w → FitsOutgoing (sending p) w
-    → FitsOutgoing (sending (done (Act.SentAgain index) p)) (happens w (Event.Resend (w.sender.reach + index)))
+    → FitsOutgoing (sending (done (Act.SentAgain by index) p)) (happens w (Event.Resend (w.sender.reach + index)))
     × AllByRecursion (IsGiven p.history.own (happens w (Event.Resend (w.sender.reach + index))))
-    (data_given (Act.SentAgain index) p)
+    (data_given (Act.SentAgain by index) p)
 
 -- Of a mark for sending again the direction knows nothing.
 abbrev pub MarksAreNoEvents : Type 0
@@ -59,12 +60,12 @@ MarksAreNoEvents = (p : Parts) (w : Direction) → FitsOutgoing (sending p) w
     → FitsOutgoing (sending (done Act.Marked p)) w
 
 -- What a SACK acknowledges at the association, by its point and by its gap ack blocks, it acknowledges at the
--- direction's sender.
+-- direction's sender, whatever it reports missing.
 abbrev pub AcknowledgementsAreAlike : Type 0
-AcknowledgementsAreAlike = (p : Parts) (n k : ℕ) (c : ChunkSelectiveAck) (x : Sack) (w : Direction)
+AcknowledgementsAreAlike = (p : Parts) (n k missing : ℕ) (c : ChunkSelectiveAck) (x : Sack) (w : Direction)
     → slice_get w.sacks k ≡ Some x → SaysWhatWasTaken p.history.own x.reach x.above c → x.reach ≡ w.sender.reach + n
     → n ≤ length p.queue.in_flight → Invariant w → FitsOutgoing (sending p) w
-    → FitsOutgoing (sending (done (Act.Acknowledged n c.gap_ack_blocks) p)) (happens w (Event.SackComes k))
+    → FitsOutgoing (sending (done (Act.Acknowledged n c.gap_ack_blocks missing) p)) (happens w (Event.SackComes k))
 
 -- A SACK that was made, and that acknowledges so many pieces at the association, acknowledges so many offsets.
 abbrev pub SacksMeanTheSame : Type 0

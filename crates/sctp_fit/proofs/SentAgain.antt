@@ -5,7 +5,9 @@ use Rattle.std.proofs.Common.{refl, sym, ap, ◌∙◌, subst, arith}
 use Rattle.std.specs.Prelude.{slice_get, slice_set}
 use Rattle.std.proofs.lemmas.Bool.{and_parts, cond-true, false_from_ne_true, lt-ltb, not-true, true≢false}
 use Rattle.sctp_outbound_queue.specs.declared.message.InFlight.{InFlight}
-use Rattle.sctp_outbound_queue.specs.Message.{counted_again}
+use Rattle.sctp_outbound_queue.specs.declared.message.Retransmission.{Retransmission}
+use Rattle.sctp_outbound_queue.specs.declared.message.Retransmission.TheVariants as causes
+use Rattle.sctp_outbound_queue.specs.Message.{counted_again, one_sending_more}
 use Rattle.sctp_outbound_queue.specs.Outbound.{changed_at, changed_from}
 use Rattle.sctp_outbound.specs.Sender.{chunk_of}
 use Rattle.sctp_serial.specs.Serial.{tsn}
@@ -14,7 +16,7 @@ use Rattle.sctp_model.specs.Packets.{data_at, data_of}
 use Rattle.sctp_model.specs.Machine.{Direction, Event, happens}
 use Rattle.sctp_fit.specs.Incoming.{IsSaid}
 use Rattle.sctp_fit.specs.Outgoing.{AreInFlight, FitsOutgoing, IsInFlight, IsMessage, IsPieceOf, Names}
-use Rattle.sctp_fit.specs.Sendings.{IsGiven, PiecesAreGiven}
+use Rattle.sctp_fit.specs.Sendings.{IsGiven, IsSamePiece, PiecesAreGiven}
 use Rattle.sctp_fit.proofs.Marks.{in_flight_same}
 
 -- the last of a list
@@ -39,6 +41,31 @@ said_at initial n p o y x m e k = record {
   };
 }
 
+-- one more sending, for whatever reason, says nothing new of a piece
+
+same_but_sendings : (x : InFlight) (retransmit : Bool) (sent_count : ℕ)
+    → IsSamePiece x (record x { retransmit = retransmit; sent_count = sent_count })
+same_but_sendings x retransmit sent_count = record {
+  message = record {
+    id = refl;
+    stream = refl;
+    generation = refl;
+    unordered = refl;
+    ssn = refl;
+    payload_type = refl;
+    policy = refl;
+  };
+  first = refl;
+  last = refl;
+  bytes = refl;
+  acked = refl;
+  abandoned = refl;
+}
+
+again_same : (by : Retransmission) (x : InFlight) → IsSamePiece x (counted_again by x)
+again_same causes.Timer x = same_but_sendings x false (one_sending_more x.sent_count)
+again_same causes.Fast x = same_but_sendings x x.retransmit (one_sending_more x.sent_count)
+
 module _ (n : Names) (p : Plan) (acknowledged : ℕ → Bool) (gone : ℕ → ℕ → Bool) where
   -- the piece at a place of the flight stands on its offset
   pub flight_at : (o : ℕ) (xs : List InFlight) (k : ℕ) (x : InFlight) → slice_get xs k ≡ Some x
@@ -57,30 +84,17 @@ module _ (n : Names) (p : Plan) (acknowledged : ℕ → Bool) (gone : ℕ → �
   flight_length o [] h = omega (arith, h)
   flight_length o (x ∷ xs) (h, hs) = let r = flight_length (suc o) xs hs in omega arith
 
-  -- one more sending says nothing new of a piece
-  flight_again : (o : ℕ) (xs : List InFlight) (k : ℕ) (x : InFlight) → slice_get xs k ≡ Some x
-      → AreInFlight n p acknowledged gone o xs → AreInFlight n p acknowledged gone o (slice_set xs k (counted_again x))
-  flight_again o [] k x e h = absurd (cc)
-  flight_again o (y ∷ ys) zero x e (h, hs) = (
-    in_flight_same n p acknowledged gone o x (counted_again x) (record {
-      message = record {
-        id = refl;
-        stream = refl;
-        generation = refl;
-        unordered = refl;
-        ssn = refl;
-        payload_type = refl;
-        policy = refl;
-      };
-      first = refl;
-      last = refl;
-      bytes = refl;
-      acked = refl;
-      abandoned = refl;
-    }) (subst (IsInFlight n p acknowledged gone o) (let s : y ≡ x = cc in s) h),
+  -- nor of its flight
+  pub flight_again : (by : Retransmission) (o : ℕ) (xs : List InFlight) (k : ℕ) (x : InFlight) → slice_get xs k ≡ Some x
+      → AreInFlight n p acknowledged gone o xs
+      → AreInFlight n p acknowledged gone o (slice_set xs k (counted_again by x))
+  flight_again by o [] k x e h = absurd (cc)
+  flight_again by o (y ∷ ys) zero x e (h, hs) = (
+    in_flight_same n p acknowledged gone o x (counted_again by x) (again_same by x)
+        (subst (IsInFlight n p acknowledged gone o) (let s : y ≡ x = cc in s) h),
     hs,
   )
-  flight_again o (y ∷ ys) (suc k) x e (h, hs) = (h, flight_again (suc o) ys k x e hs)
+  flight_again by o (y ∷ ys) (suc k) x e (h, hs) = (h, flight_again by (suc o) ys k x e hs)
 
 -- the direction, with the DATA of the offset o given out again
 abbrev resent : Direction → ℕ → Direction
@@ -93,9 +107,9 @@ happens_resend w o l m = cond-true _ (resent w o) w (rw (lt-ltb _ _ l, m) refl)
 
 -- An outstanding piece that goes out again is that of its offset, and is DATA of the direction.
 pub pieces_are_given : PiecesAreGiven
-pieces_are_given own a index x w e out inv f = (
-  subst (FitsOutgoing (record a { queue = changed_at counted_again a.queue index })) (sym event)
-      (subst (λ found. FitsOutgoing (record a { queue = changed_from counted_again found a.queue index })
+pieces_are_given own a by index x w e out inv f = (
+  subst (FitsOutgoing (record a { queue = changed_at (counted_again by) a.queue index })) (sym event)
+      (subst (λ found. FitsOutgoing (record a { queue = changed_from (counted_again by) found a.queue index })
       (resent w (w.sender.reach + index))) (sym e)
       (record {
         named = f.named;
@@ -103,8 +117,8 @@ pieces_are_given own a index x w e out inv f = (
         size = f.size;
         base = f.base;
         flight =
-            flight_again f.named w.sender.plan w.sender.acknowledged w.sender.gone w.sender.reach
-            a.queue.in_flight index x e f.flight;
+            flight_again f.named w.sender.plan w.sender.acknowledged w.sender.gone by
+            w.sender.reach a.queue.in_flight index x e f.flight;
         waiting = f.waiting;
         live = f.live;
         own_streams = f.own_streams;

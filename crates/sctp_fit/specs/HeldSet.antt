@@ -1,7 +1,7 @@
 -- The laws of the TSNs that are held past the receiver's point: they are those of the offsets past the reach that came,
 -- and a new one moves the point with the reach (RFC 4960 sections 3.3.4 and 6.2). Of a point that a FORWARD TSN moves
 -- they say nothing yet.
-use Rattle.std.specs.Prelude.{◌≡◌, ℕ, ◌+◌, ◌-◌, ◌%◌, ◌^◌, ◌<◌, ◌≤◌, ◌&&◌, not, true, List, [], ◌∷◌, length}
+use Rattle.std.specs.Prelude.{◌≡◌, ℕ, ◌+◌, ◌-◌, ◌^◌, ◌<◌, ◌≤◌, ◌&&◌, not, true, List, [], ◌∷◌, length}
 use Rattle.std.specs.Prelude.{nat_lt}
 use Rattle.std.specs.List.{AllByRecursion}
 use Rattle.std.specs.List.Sorted.{IsStrictlySortedBy}

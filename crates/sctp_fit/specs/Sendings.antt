@@ -4,6 +4,7 @@ use Rattle.std.specs.List.{AllByRecursion}
 use Rattle.sctp_wire_types.specs.declared.chunk.ChunkPayloadData.{ChunkPayloadData}
 use Rattle.sctp_outbound_queue.specs.declared.message.Attributes.{Attributes}
 use Rattle.sctp_outbound_queue.specs.declared.message.InFlight.{InFlight}
+use Rattle.sctp_outbound_queue.specs.declared.message.Retransmission.{Retransmission}
 use Rattle.sctp_outbound_queue.specs.Waiting.{Waiting}
 use Rattle.sctp_outbound_queue.specs.Message.{counted_again, is_outstanding}
 use Rattle.sctp_outbound_queue.specs.Outbound.{changed_at, sent_next}
@@ -49,12 +50,12 @@ SentPiecesAreEvents = (own : ℕ) (a : Sending) (now : ℕ) (w : Direction)
     → Invariant w → CountsBegun w.sender → FitsOutgoing a w
     → (events : List Event) × IsSentBy own a now w events
 
--- An outstanding piece that goes out again is that of its offset, and is DATA of the direction.
+-- An outstanding piece that goes out again, for whatever reason, is that of its offset, and is DATA of the direction.
 abbrev pub PiecesAreGiven : Type 0
-PiecesAreGiven = (own : ℕ) (a : Sending) (index : ℕ) (x : InFlight) (w : Direction)
+PiecesAreGiven = (own : ℕ) (a : Sending) (by : Retransmission) (index : ℕ) (x : InFlight) (w : Direction)
     → slice_get a.queue.in_flight index ≡ Some x → is_outstanding x ≡ true
     → Invariant w → FitsOutgoing a w
-    → FitsOutgoing (record a { queue = changed_at counted_again a.queue index })
+    → FitsOutgoing (record a { queue = changed_at (counted_again by) a.queue index })
     (happens w (Event.Resend (w.sender.reach + index)))
     × IsGiven own (happens w (Event.Resend (w.sender.reach + index))) (chunk_of x (tsn own (a.base + index)))
 

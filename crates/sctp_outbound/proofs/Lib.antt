@@ -1,5 +1,6 @@
 pub mod SenderSteps
 mod StreamReleases
 pub mod GapAcks
+pub mod MissingPieces
 pub mod NewPieces
 pub mod Offsets

@@ -1,5 +1,5 @@
 -- Which of the first pieces in flight are acknowledged for the first time.
-use Rattle.std.proofs.Common.{◌≡◌, ℕ, zero, suc, ◌+◌, ◌-◌, ◌<◌, ◌≤◌, Bool, true, false, ◌||◌, List, [], ◌∷◌, drop, length}
+use Rattle.std.proofs.Common.{◌≡◌, ℕ, zero, suc, ◌+◌, ◌-◌, ◌<◌, ◌≤◌, Bool, true, false, ◌||◌, List, [], ◌∷◌, drop}
 use Rattle.std.proofs.Common.{position, is_some, Option, slice_get, refl, ap, sym, ◌∙◌, arith}
 use Rattle.std.proofs.lemmas.List.{drop-drop}
 use Rattle.sctp_outbound_queue.specs.declared.message.InFlight.{InFlight}
@@ -10,9 +10,8 @@ use Rattle.sctp_parts.specs.Estimate.{Estimate}
 use Rattle.sctp_streams.specs.Streams.{StreamMap}
 use Rattle.sctp_outbound.specs.declared.sender.Sender.{Sender}
 use Rattle.sctp_outbound.specs.Sender.{acknowledged, after_first, sender_after_first, tsns_up_to}
-use Rattle.sctp_outbound.specs.declared.progress.Progress.{Progress}
 use Rattle.sctp_outbound.specs.Sacks.{progress_of}
-use Rattle.sctp_outbound.specs.Progress.{acknowledges_at, any_new_up_to, is_new, is_new_piece, last_new}
+use Rattle.sctp_outbound.specs.Progress.{acknowledges_at, any_new_up_to, is_new_piece, last_new}
 
 or_again : (a b c : Bool) → ((a || b) || c) ≡ (a || (b || c))
 or_again true b c = refl

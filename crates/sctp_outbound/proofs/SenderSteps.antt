@@ -12,7 +12,8 @@ use Rattle.std.specs.Prelude.{◌==◌, OnErr}
 use Rattle.std.proofs.lemmas.List.Sums.{sum_by-cons}
 use Rattle.sctp_outbound_queue.specs.declared.message.InFlight.{InFlight}
 use Rattle.sctp_outbound_queue.specs.Waiting.{Waiting}
-use Rattle.sctp_outbound_queue.specs.Message.{counted_again, piece_count, without_piece}
+use Rattle.sctp_outbound_queue.specs.Message.{counted_again, picks, piece_count, room_taken, without_piece}
+use Rattle.sctp_outbound_queue.specs.declared.message.Retransmission.{Retransmission}
 use Rattle.sctp_outbound_queue.specs.Outbound.{tsn_at, pieces_waiting, left_behind, after_piece}
 use Rattle.sctp_streams.specs.Streams.{StreamMap}
 use Rattle.sctp_outbound.specs.declared.sender.Sender.{Sender}
@@ -158,66 +159,66 @@ take_get xs i p e =
 -- what is resent where the first piece in flight is not marked, does not fit, or is sent again: of the pieces that
 -- stay, and of the DATA
 
-pub pieces_skip : (p : InFlight) (ps : List InFlight) (room : ℕ) → p.retransmit ≡ false
-    → resent_pieces room (p ∷ ps) ≡ p ∷ resent_pieces room ps
-pieces_skip p ps room unmarked = rw unmarked
+pub pieces_skip : (k : Retransmission) (p : InFlight) (ps : List InFlight) (room : ℕ) → picks k p ≡ false
+    → resent_pieces k room (p ∷ ps) ≡ p ∷ resent_pieces k room ps
+pieces_skip k p ps room unmarked = rw unmarked
 
-pub pieces_full : (p : InFlight) (ps : List InFlight) (room : ℕ) → p.retransmit ≡ true
-    → nat_lt room (length p.user_data) ≡ true → resent_pieces room (p ∷ ps) ≡ p ∷ ps
-pieces_full p ps room marked full = rw (marked, full)
+pub pieces_full : (k : Retransmission) (p : InFlight) (ps : List InFlight) (room : ℕ) → picks k p ≡ true
+    → nat_lt room (room_taken k p) ≡ true → resent_pieces k room (p ∷ ps) ≡ p ∷ ps
+pieces_full k p ps room marked full = rw (marked, full)
 
-pub pieces_sent : (p : InFlight) (ps : List InFlight) (room : ℕ) → p.retransmit ≡ true
-    → nat_lt room (length p.user_data) ≡ false
-    → resent_pieces room (p ∷ ps) ≡ counted_again p ∷ resent_pieces (room - length p.user_data) ps
-pieces_sent p ps room marked fits = rw (marked, fits)
+pub pieces_sent : (k : Retransmission) (p : InFlight) (ps : List InFlight) (room : ℕ) → picks k p ≡ true
+    → nat_lt room (room_taken k p) ≡ false
+    → resent_pieces k room (p ∷ ps) ≡ counted_again k p ∷ resent_pieces k (room - room_taken k p) ps
+pieces_sent k p ps room marked fits = rw (marked, fits)
 
-pub chunks_skip : (p : InFlight) (ps : List InFlight) (first index room : ℕ) → p.retransmit ≡ false
-    → resent_chunks first index room (p ∷ ps) ≡ resent_chunks first (index + 1) room ps
-chunks_skip p ps first index room unmarked = rw unmarked
+pub chunks_skip : (k : Retransmission) (p : InFlight) (ps : List InFlight) (first index room : ℕ) → picks k p ≡ false
+    → resent_chunks k first index room (p ∷ ps) ≡ resent_chunks k first (index + 1) room ps
+chunks_skip k p ps first index room unmarked = rw unmarked
 
-pub chunks_full : (p : InFlight) (ps : List InFlight) (first index room : ℕ) → p.retransmit ≡ true
-    → nat_lt room (length p.user_data) ≡ true → resent_chunks first index room (p ∷ ps) ≡ []
-chunks_full p ps first index room marked full = rw (marked, full)
+pub chunks_full : (k : Retransmission) (p : InFlight) (ps : List InFlight) (first index room : ℕ) → picks k p ≡ true
+    → nat_lt room (room_taken k p) ≡ true → resent_chunks k first index room (p ∷ ps) ≡ []
+chunks_full k p ps first index room marked full = rw (marked, full)
 
-pub chunks_sent : (p : InFlight) (ps : List InFlight) (first index room : ℕ) → p.retransmit ≡ true
-    → nat_lt room (length p.user_data) ≡ false
-    → resent_chunks first index room (p ∷ ps) ≡ chunk_of p (tsn_at first index)
-    ∷ resent_chunks first (index + 1) (room - length p.user_data) ps
-chunks_sent p ps first index room marked fits = rw (marked, fits)
+pub chunks_sent : (k : Retransmission) (p : InFlight) (ps : List InFlight) (first index room : ℕ) → picks k p ≡ true
+    → nat_lt room (room_taken k p) ≡ false
+    → resent_chunks k first index room (p ∷ ps) ≡ chunk_of p (tsn_at first index)
+    ∷ resent_chunks k first (index + 1) (room - room_taken k p) ps
+chunks_sent k p ps first index room marked fits = rw (marked, fits)
 
 one_more : {A : Type 0} → (a b w r : List A) (q : A) → b ≡ a ++ q ∷ [] → w ≡ q ∷ r → b ++ r ≡ a ++ w
 one_more a b w r q e f = rw (e, f, append_assoc)
 
-tried_skip : (p : InFlight) (s : Sender) (index left : ℕ) (out : List ChunkPayloadData) → p.retransmit ≡ false
-    → tried_again (Some p) s index left out ≡ (s, out, Some left)
-tried_skip p s index left out unmarked = rw unmarked
+tried_skip : (k : Retransmission) (p : InFlight) (s : Sender) (index left : ℕ) (out : List ChunkPayloadData) → picks k p ≡ false
+    → tried_again k (Some p) s index left out ≡ (s, out, Some left)
+tried_skip k p s index left out unmarked = rw unmarked
 
-tried_full : (p : InFlight) (s : Sender) (index left : ℕ) (out : List ChunkPayloadData) → p.retransmit ≡ true
-    → nat_lt left (length p.user_data) ≡ true → tried_again (Some p) s index left out ≡ (s, out, None)
-tried_full p s index left out marked full = rw (marked, full)
+tried_full : (k : Retransmission) (p : InFlight) (s : Sender) (index left : ℕ) (out : List ChunkPayloadData) → picks k p ≡ true
+    → nat_lt left (room_taken k p) ≡ true → tried_again k (Some p) s index left out ≡ (s, out, None)
+tried_full k p s index left out marked full = rw (marked, full)
 
-tried_sent : (p : InFlight) (s : Sender) (index left : ℕ) (out : List ChunkPayloadData) → p.retransmit ≡ true
-    → nat_lt left (length p.user_data) ≡ false
-    → tried_again (Some p) s index left out ≡ (
-      with_in_flight s (set s.queue.in_flight index (counted_again p)),
+tried_sent : (k : Retransmission) (p : InFlight) (s : Sender) (index left : ℕ) (out : List ChunkPayloadData) → picks k p ≡ true
+    → nat_lt left (room_taken k p) ≡ false
+    → tried_again k (Some p) s index left out ≡ (
+      with_in_flight s (set s.queue.in_flight index (counted_again k p)),
       out ++ chunk_of p (tsn_at s.queue.first_tsn index) ∷ [],
-      Some (left - length p.user_data),
+      Some (left - room_taken k p),
     )
-tried_sent p s index left out marked fits = rw (marked, fits)
+tried_sent k p s index left out marked fits = rw (marked, fits)
 
 -- once the piece at a place is dealt with, the rest is resent as it was to be before
-pub record Stepped (s s2 : Sender) (index left left2 : ℕ) (out out2 : List ChunkPayloadData) : Type 0 where
+pub record Stepped (k : Retransmission) (s s2 : Sender) (index left left2 : ℕ) (out out2 : List ChunkPayloadData) : Type 0 where
   pub count : length s2.queue.in_flight ≡ length s.queue.in_flight
   pub grown : length out ≤ length out2
   pub rest : s2 ≡ with_in_flight s s2.queue.in_flight
-  pub pieces : take (index + 1) s2.queue.in_flight ++ resent_pieces left2 (drop (index + 1) s2.queue.in_flight)
-      ≡ take index s.queue.in_flight ++ resent_pieces left (drop index s.queue.in_flight)
-  pub chunks : out2 ++ resent_chunks s2.queue.first_tsn (index + 1) left2 (drop (index + 1) s2.queue.in_flight)
-      ≡ out ++ resent_chunks s.queue.first_tsn index left (drop index s.queue.in_flight)
+  pub pieces : take (index + 1) s2.queue.in_flight ++ resent_pieces k left2 (drop (index + 1) s2.queue.in_flight)
+      ≡ take index s.queue.in_flight ++ resent_pieces k left (drop index s.queue.in_flight)
+  pub chunks : out2 ++ resent_chunks k s2.queue.first_tsn (index + 1) left2 (drop (index + 1) s2.queue.in_flight)
+      ≡ out ++ resent_chunks k s.queue.first_tsn index left (drop index s.queue.in_flight)
 
-skipped : (p : InFlight) (s : Sender) (index left : ℕ) (out : List ChunkPayloadData)
-    → slice_get s.queue.in_flight index ≡ Some p → p.retransmit ≡ false → Stepped s s index left left out out
-skipped p s index left out here unmarked =
+skipped : (k : Retransmission) (p : InFlight) (s : Sender) (index left : ℕ) (out : List ChunkPayloadData)
+    → slice_get s.queue.in_flight index ≡ Some p → picks k p ≡ false → Stepped k s s index left left out out
+skipped k p s index left out here unmarked =
     let xs = s.queue.in_flight in
     let ds = drop (index + 1) s.queue.in_flight in
     record {
@@ -225,23 +226,23 @@ skipped p s index left out here unmarked =
       grown = omega arith;
       rest = refl;
       pieces =
-          one_more (take index xs) (take (index + 1) xs) (resent_pieces left (drop index xs)) (resent_pieces left ds) p
+          one_more (take index xs) (take (index + 1) xs) (resent_pieces k left (drop index xs)) (resent_pieces k left ds) p
           (take_get xs index p here)
-          (ap (resent_pieces left) (drop_get xs index p here) ∙ pieces_skip p ds left unmarked);
+          (ap (resent_pieces k left) (drop_get xs index p here) ∙ pieces_skip k p ds left unmarked);
       chunks =
-          ap (λ z. out ++ z) (sym (ap (resent_chunks s.queue.first_tsn index left) (drop_get xs index p here) ∙
-          chunks_skip p ds s.queue.first_tsn index left unmarked));
+          ap (λ z. out ++ z) (sym (ap (resent_chunks k s.queue.first_tsn index left) (drop_get xs index p here) ∙
+          chunks_skip k p ds s.queue.first_tsn index left unmarked));
     }
 
-sent_again_at : (p : InFlight) (s : Sender) (index left : ℕ) (out : List ChunkPayloadData)
-    → slice_get s.queue.in_flight index ≡ Some p → p.retransmit ≡ true → nat_lt left (length p.user_data) ≡ false
-    → Stepped s (with_in_flight s (set s.queue.in_flight index (counted_again p))) index left
-    (left - length p.user_data) out (out ++ chunk_of p (tsn_at s.queue.first_tsn index) ∷ [])
-sent_again_at p s index left out here marked fits =
+sent_again_at : (k : Retransmission) (p : InFlight) (s : Sender) (index left : ℕ) (out : List ChunkPayloadData)
+    → slice_get s.queue.in_flight index ≡ Some p → picks k p ≡ true → nat_lt left (room_taken k p) ≡ false
+    → Stepped k s (with_in_flight s (set s.queue.in_flight index (counted_again k p))) index left
+    (left - room_taken k p) out (out ++ chunk_of p (tsn_at s.queue.first_tsn index) ∷ [])
+sent_again_at k p s index left out here marked fits =
     let xs = s.queue.in_flight in
     let first = s.queue.first_tsn in
-    let q = counted_again p in
-    let left2 = left - length p.user_data in
+    let q = counted_again k p in
+    let left2 = left - room_taken k p in
     let chunk = chunk_of p (tsn_at first index) in
     let ys = set s.queue.in_flight index q in
     let below = slice_get_within s.queue.in_flight index p here in
@@ -252,17 +253,17 @@ sent_again_at p s index left out here marked fits =
       grown = omega (arith, more);
       rest = refl;
       pieces =
-          one_more (take index xs) (take (index + 1) ys) (resent_pieces left (drop index xs))
-          (resent_pieces left2 (drop (index + 1) ys)) q (take_more_set xs index q below) (
-          ap (resent_pieces left) (drop_get xs index p here) ∙ pieces_sent p (drop (index + 1) xs) left marked fits ∙
-          ap (λ z. q ∷ resent_pieces left2 z) (sym same)
+          one_more (take index xs) (take (index + 1) ys) (resent_pieces k left (drop index xs))
+          (resent_pieces k left2 (drop (index + 1) ys)) q (take_more_set xs index q below) (
+          ap (resent_pieces k left) (drop_get xs index p here) ∙ pieces_sent k p (drop (index + 1) xs) left marked fits ∙
+          ap (λ z. q ∷ resent_pieces k left2 z) (sym same)
           );
       chunks =
-          one_more out (out ++ chunk ∷ []) (resent_chunks first index left (drop index xs))
-          (resent_chunks first (index + 1) left2 (drop (index + 1) ys)) chunk refl (
-          ap (resent_chunks first index left) (drop_get xs index p here) ∙
-          chunks_sent p (drop (index + 1) xs) first index left marked fits ∙
-          ap (λ z. chunk ∷ resent_chunks first (index + 1) left2 z) (sym same)
+          one_more out (out ++ chunk ∷ []) (resent_chunks k first index left (drop index xs))
+          (resent_chunks k first (index + 1) left2 (drop (index + 1) ys)) chunk refl (
+          ap (resent_chunks k first index left) (drop_get xs index p here) ∙
+          chunks_sent k p (drop (index + 1) xs) first index left marked fits ∙
+          ap (λ z. chunk ∷ resent_chunks k first (index + 1) left2 z) (sym same)
           );
     }
 
@@ -272,9 +273,9 @@ none_or_some {left = left} e =
     let m : None ≡ Some left = ap (λ (z : Sender × List ChunkPayloadData × Option ℕ). z.2) e in
     cc
 
-module _ {s s2 s3 : Sender} {index left left2 left3 : ℕ} {out out2 out3 : List ChunkPayloadData} where
+module _ {k : Retransmission} {s s2 s3 : Sender} {index left left2 left3 : ℕ} {out out2 out3 : List ChunkPayloadData} where
   moved_to : ◌≡◌ {A = Sender × List ChunkPayloadData × Option ℕ} (s3, out3, Some left3) (s2, out2, Some left2)
-      → Stepped s s3 index left left3 out out3 → Stepped s s2 index left left2 out out2
+      → Stepped k s s3 index left left3 out out3 → Stepped k s s2 index left left2 out out2
   moved_to e step =
       let a : s3 ≡ s2 = ap (λ (z : Sender × List ChunkPayloadData × Option ℕ). z.0) e in
       let b : out3 ≡ out2 = ap (λ (z : Sender × List ChunkPayloadData × Option ℕ). z.1) e in
@@ -282,26 +283,26 @@ module _ {s s2 s3 : Sender} {index left left2 left3 : ℕ} {out out2 out3 : List
       let d : left3 ≡ left2 = cc in
       rw (← a, ← b, ← d) step
 
-step_of : {s2 : Sender} {left2 : ℕ} {out2 : List ChunkPayloadData} (o : Option InFlight) (s : Sender) (index left : ℕ)
+step_of : (k : Retransmission) {s2 : Sender} {left2 : ℕ} {out2 : List ChunkPayloadData} (o : Option InFlight) (s : Sender) (index left : ℕ)
     (out : List ChunkPayloadData)
-    → slice_get s.queue.in_flight index ≡ o → tried_again o s index left out ≡ (s2, out2, Some left2)
-    → Stepped s s2 index left left2 out out2
-step_of None s index left out here e = absurd (none_or_some e)
-step_of (Some p) s index left out here e =
+    → slice_get s.queue.in_flight index ≡ o → tried_again k o s index left out ≡ (s2, out2, Some left2)
+    → Stepped k s s2 index left left2 out out2
+step_of k None s index left out here e = absurd (none_or_some e)
+step_of k (Some p) s index left out here e =
     ⊎_elim (
-    λ (marked : p.retransmit ≡ true). ⊎_elim (
-    λ (full : nat_lt left (length p.user_data) ≡ true).
-    absurd (none_or_some (sym (tried_full p s index left out marked full) ∙ e))
+    λ (marked : picks k p ≡ true). ⊎_elim (
+    λ (full : nat_lt left (room_taken k p) ≡ true).
+    absurd (none_or_some (sym (tried_full k p s index left out marked full) ∙ e))
     ) (
-    λ (fits : nat_lt left (length p.user_data) ≡ false).
-    moved_to (sym (tried_sent p s index left out marked fits) ∙ e)
-    (sent_again_at p s index left out here marked fits)
-    ) (cases_Bool (nat_lt left (length p.user_data)))
+    λ (fits : nat_lt left (room_taken k p) ≡ false).
+    moved_to (sym (tried_sent k p s index left out marked fits) ∙ e)
+    (sent_again_at k p s index left out here marked fits)
+    ) (cases_Bool (nat_lt left (room_taken k p)))
     ) (
-    λ (unmarked : p.retransmit ≡ false).
-    moved_to (sym (tried_skip p s index left out unmarked) ∙ e)
-    (skipped p s index left out here unmarked)
-    ) (cases_Bool p.retransmit)
+    λ (unmarked : picks k p ≡ false).
+    moved_to (sym (tried_skip k p s index left out unmarked) ∙ e)
+    (skipped k p s index left out here unmarked)
+    ) (cases_Bool (picks k p))
 
 pub none_past : (xs : List InFlight) (i : ℕ) → slice_get xs i ≡ None → length xs ≤ i
 none_past [] i e = omega arith
@@ -309,15 +310,15 @@ none_past (x ∷ xs) zero e = absurd (cc)
 none_past (x ∷ xs) (suc i) e = let below = none_past xs i e in omega arith
 
 -- nothing more is resent from a place on
-pub record Stopped (s s2 : Sender) (index left : ℕ) (out out2 : List ChunkPayloadData) : Type 0 where
+pub record Stopped (k : Retransmission) (s s2 : Sender) (index left : ℕ) (out out2 : List ChunkPayloadData) : Type 0 where
   pub sender : s2 ≡ s
   pub sent : out2 ≡ out
-  pub pieces : resent_pieces left (drop index s.queue.in_flight) ≡ drop index s.queue.in_flight
-  pub chunks : resent_chunks s.queue.first_tsn index left (drop index s.queue.in_flight) ≡ []
+  pub pieces : resent_pieces k left (drop index s.queue.in_flight) ≡ drop index s.queue.in_flight
+  pub chunks : resent_chunks k s.queue.first_tsn index left (drop index s.queue.in_flight) ≡ []
 
-past_end : (s : Sender) (index left : ℕ) (out : List ChunkPayloadData) → length s.queue.in_flight ≤ index
-    → Stopped s s index left out out
-past_end s index left out past =
+past_end : (k : Retransmission) (s : Sender) (index left : ℕ) (out : List ChunkPayloadData) → length s.queue.in_flight ≤ index
+    → Stopped k s s index left out out
+past_end k s index left out past =
     let none : drop index s.queue.in_flight ≡ [] = drop_all index s.queue.in_flight past in
     record {
       sender = refl;
@@ -326,83 +327,83 @@ past_end s index left out past =
       chunks = rw none;
     }
 
-does_not_fit : (p : InFlight) (s : Sender) (index left : ℕ) (out : List ChunkPayloadData)
-    → slice_get s.queue.in_flight index ≡ Some p → p.retransmit ≡ true → nat_lt left (length p.user_data) ≡ true
-    → Stopped s s index left out out
-does_not_fit p s index left out here marked full =
+does_not_fit : (k : Retransmission) (p : InFlight) (s : Sender) (index left : ℕ) (out : List ChunkPayloadData)
+    → slice_get s.queue.in_flight index ≡ Some p → picks k p ≡ true → nat_lt left (room_taken k p) ≡ true
+    → Stopped k s s index left out out
+does_not_fit k p s index left out here marked full =
     let xs = s.queue.in_flight in
     let ds = drop (index + 1) s.queue.in_flight in
     record {
       sender = refl;
       sent = refl;
       pieces =
-          ap (resent_pieces left) (drop_get xs index p here) ∙ pieces_full p ds left marked full ∙
+          ap (resent_pieces k left) (drop_get xs index p here) ∙ pieces_full k p ds left marked full ∙
           sym (drop_get xs index p here);
       chunks =
-          ap (resent_chunks s.queue.first_tsn index left) (drop_get xs index p here) ∙
-          chunks_full p ds s.queue.first_tsn index left marked full;
+          ap (resent_chunks k s.queue.first_tsn index left) (drop_get xs index p here) ∙
+          chunks_full k p ds s.queue.first_tsn index left marked full;
     }
 
-module _ {s s2 s3 : Sender} {index left : ℕ} {out out2 out3 : List ChunkPayloadData} {o : Option ℕ} where
+module _ {k : Retransmission} {s s2 s3 : Sender} {index left : ℕ} {out out2 out3 : List ChunkPayloadData} {o : Option ℕ} where
   stopped_to : ◌≡◌ {A = Sender × List ChunkPayloadData × Option ℕ} (s3, out3, o) (s2, out2, None)
-      → Stopped s s3 index left out out3 → Stopped s s2 index left out out2
+      → Stopped k s s3 index left out out3 → Stopped k s s2 index left out out2
   stopped_to e stop =
       let a : s3 ≡ s2 = ap (λ (z : Sender × List ChunkPayloadData × Option ℕ). z.0) e in
       let b : out3 ≡ out2 = ap (λ (z : Sender × List ChunkPayloadData × Option ℕ). z.1) e in
       rw (← a, ← b) stop
 
-stop_of : {s2 : Sender} {out2 : List ChunkPayloadData} (o : Option InFlight) (s : Sender) (index left : ℕ)
+stop_of : (k : Retransmission) {s2 : Sender} {out2 : List ChunkPayloadData} (o : Option InFlight) (s : Sender) (index left : ℕ)
     (out : List ChunkPayloadData)
-    → slice_get s.queue.in_flight index ≡ o → tried_again o s index left out ≡ (s2, out2, None)
-    → Stopped s s2 index left out out2
-stop_of None s index left out here e =
+    → slice_get s.queue.in_flight index ≡ o → tried_again k o s index left out ≡ (s2, out2, None)
+    → Stopped k s s2 index left out out2
+stop_of k None s index left out here e =
     stopped_to e
-    (past_end s index left out (none_past s.queue.in_flight index here))
-stop_of (Some p) s index left out here e =
+    (past_end k s index left out (none_past s.queue.in_flight index here))
+stop_of k (Some p) s index left out here e =
     ⊎_elim (
-    λ (marked : p.retransmit ≡ true). ⊎_elim (
-    λ (full : nat_lt left (length p.user_data) ≡ true).
-    stopped_to (sym (tried_full p s index left out marked full) ∙ e)
-    (does_not_fit p s index left out here marked full)
+    λ (marked : picks k p ≡ true). ⊎_elim (
+    λ (full : nat_lt left (room_taken k p) ≡ true).
+    stopped_to (sym (tried_full k p s index left out marked full) ∙ e)
+    (does_not_fit k p s index left out here marked full)
     ) (
-    λ (fits : nat_lt left (length p.user_data) ≡ false).
-    absurd (none_or_some (sym e ∙ tried_sent p s index left out marked fits))
-    ) (cases_Bool (nat_lt left (length p.user_data)))
+    λ (fits : nat_lt left (room_taken k p) ≡ false).
+    absurd (none_or_some (sym e ∙ tried_sent k p s index left out marked fits))
+    ) (cases_Bool (nat_lt left (room_taken k p)))
     ) (
-    λ (unmarked : p.retransmit ≡ false).
-    absurd (none_or_some (sym e ∙ tried_skip p s index left out unmarked))
-    ) (cases_Bool p.retransmit)
+    λ (unmarked : picks k p ≡ false).
+    absurd (none_or_some (sym e ∙ tried_skip k p s index left out unmarked))
+    ) (cases_Bool (picks k p))
 
 -- before a place the pieces are as they will stay; with what is resent of the rest they are what the whole was to
 -- become
-pub record ResendsOn (s0 s : Sender) (i end room left : ℕ) (out0 out : List ChunkPayloadData) : Type 0 where
+pub record ResendsOn (k : Retransmission) (s0 s : Sender) (i end room left : ℕ) (out0 out : List ChunkPayloadData) : Type 0 where
   pub count : end ≡ length s.queue.in_flight
   pub grown : length out0 ≤ length out
   pub rest : s ≡ with_in_flight s0 s.queue.in_flight
-  pub pieces : take i s.queue.in_flight ++ resent_pieces left (drop i s.queue.in_flight)
-      ≡ resent_pieces room s0.queue.in_flight
-  pub chunks : out ++ resent_chunks s.queue.first_tsn i left (drop i s.queue.in_flight)
-      ≡ out0 ++ resent_chunks s0.queue.first_tsn 0 room s0.queue.in_flight
+  pub pieces : take i s.queue.in_flight ++ resent_pieces k left (drop i s.queue.in_flight)
+      ≡ resent_pieces k room s0.queue.in_flight
+  pub chunks : out ++ resent_chunks k s.queue.first_tsn i left (drop i s.queue.in_flight)
+      ≡ out0 ++ resent_chunks k s0.queue.first_tsn 0 room s0.queue.in_flight
 
 -- a piece that is to be sent again is the first of what is resent from its place on
-goes_first : (o : Option InFlight) (s : Sender) (index left : ℕ) → slice_get s.queue.in_flight index ≡ o
-    → goes_again o left ≡ true
-    → 0 < length (resent_chunks s.queue.first_tsn index left (drop index s.queue.in_flight))
-goes_first None s index left here again = absurd (false_from_true again)
-goes_first (Some p) s index left here again =
-    let parts = and_parts p.retransmit (not (nat_lt left (length p.user_data))) again in
+goes_first : (k : Retransmission) (o : Option InFlight) (s : Sender) (index left : ℕ) → slice_get s.queue.in_flight index ≡ o
+    → goes_again k o left ≡ true
+    → 0 < length (resent_chunks k s.queue.first_tsn index left (drop index s.queue.in_flight))
+goes_first k None s index left here again = absurd (false_from_true again)
+goes_first k (Some p) s index left here again =
+    let parts = and_parts (picks k p) (not (nat_lt left (room_taken k p))) again in
     let first =
-    ap (resent_chunks s.queue.first_tsn index left) (drop_get s.queue.in_flight index p here) ∙
-    chunks_sent p (drop (index + 1) s.queue.in_flight) s.queue.first_tsn index left parts.0 (not-true _ parts.1) in
+    ap (resent_chunks k s.queue.first_tsn index left) (drop_get s.queue.in_flight index p here) ∙
+    chunks_sent k p (drop (index + 1) s.queue.in_flight) s.queue.first_tsn index left parts.0 (not-true _ parts.1) in
     rw first (omega arith)
 
-module _ {s0 s : Sender} {i end room left : ℕ} {out0 out : List ChunkPayloadData}
-    (inv : ResendsOn s0 s i end room left out0 out) where
+module _ {k : Retransmission} {s0 s : Sender} {i end room left : ℕ} {out0 out : List ChunkPayloadData}
+    (inv : ResendsOn k s0 s i end room left out0 out) where
   pub resends_on : {s2 : Sender} {left2 : ℕ} {out2 : List ChunkPayloadData}
-      → tried_again (slice_get s.queue.in_flight i) s i left out ≡ (s2, out2, Some left2)
-      → ResendsOn s0 s2 (i + 1) end room left2 out0 out2
+      → tried_again k (slice_get s.queue.in_flight i) s i left out ≡ (s2, out2, Some left2)
+      → ResendsOn k s0 s2 (i + 1) end room left2 out0 out2
   resends_on {s2 = s2} e =
-      let step = step_of (slice_get s.queue.in_flight i) s i left out refl e in
+      let step = step_of k (slice_get s.queue.in_flight i) s i left out refl e in
       record {
         count = inv.count ∙ sym step.count;
         grown = omega (arith, inv.grown, step.grown);
@@ -412,28 +413,28 @@ module _ {s0 s : Sender} {i end room left : ℕ} {out0 out : List ChunkPayloadDa
       }
 
   pub resent_sender : {s2 : Sender} {out2 : List ChunkPayloadData}
-      → tried_again (slice_get s.queue.in_flight i) s i left out ≡ (s2, out2, None)
-      → s2 ≡ with_in_flight s0 (resent_pieces room s0.queue.in_flight)
+      → tried_again k (slice_get s.queue.in_flight i) s i left out ≡ (s2, out2, None)
+      → s2 ≡ with_in_flight s0 (resent_pieces k room s0.queue.in_flight)
   resent_sender e =
-      let stop = stop_of (slice_get s.queue.in_flight i) s i left out refl e in
+      let stop = stop_of k (slice_get s.queue.in_flight i) s i left out refl e in
       let xs = s.queue.in_flight in
-      let all : xs ≡ resent_pieces room s0.queue.in_flight =
+      let all : xs ≡ resent_pieces k room s0.queue.in_flight =
       sym (take-append-drop i xs) ∙ ap (λ z. take i xs ++ z) (sym stop.pieces) ∙ inv.pieces in
       stop.sender ∙ inv.rest ∙ ap (with_in_flight s0) all
 
   pub resent_out : {s2 : Sender} {out2 : List ChunkPayloadData}
-      → tried_again (slice_get s.queue.in_flight i) s i left out ≡ (s2, out2, None)
-      → out2 ≡ out0 ++ resent_chunks s0.queue.first_tsn 0 room s0.queue.in_flight
+      → tried_again k (slice_get s.queue.in_flight i) s i left out ≡ (s2, out2, None)
+      → out2 ≡ out0 ++ resent_chunks k s0.queue.first_tsn 0 room s0.queue.in_flight
   resent_out e =
-      let stop = stop_of (slice_get s.queue.in_flight i) s i left out refl e in
+      let stop = stop_of k (slice_get s.queue.in_flight i) s i left out refl e in
       stop.sent ∙ sym (append-nil out) ∙ ap (λ z. out ++ z) (sym stop.chunks) ∙ inv.chunks
 
-  pub resends_some : goes_again (slice_get s.queue.in_flight i) left ≡ true
-      → nat_lt 0 (length (resent_chunks s0.queue.first_tsn 0 room s0.queue.in_flight)) ≡ true
+  pub resends_some : goes_again k (slice_get s.queue.in_flight i) left ≡ true
+      → nat_lt 0 (length (resent_chunks k s0.queue.first_tsn 0 room s0.queue.in_flight)) ≡ true
   resends_some again =
-      let rest = resent_chunks s.queue.first_tsn i left (drop i s.queue.in_flight) in
-      let all = resent_chunks s0.queue.first_tsn 0 room s0.queue.in_flight in
-      let some = goes_first (slice_get s.queue.in_flight i) s i left refl again in
+      let rest = resent_chunks k s.queue.first_tsn i left (drop i s.queue.in_flight) in
+      let all = resent_chunks k s0.queue.first_tsn 0 room s0.queue.in_flight in
+      let some = goes_first k (slice_get s.queue.in_flight i) s i left refl again in
       let lengths : length out + length rest ≡ length out0 + length all =
       sym (length-append out rest) ∙ ap length inv.chunks ∙ length-append out0 all in
       lt-ltb _ _ (omega (arith, lengths, some, inv.grown))

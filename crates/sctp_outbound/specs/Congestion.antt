@@ -52,3 +52,11 @@ timed_out mtu c = record c {
   cwnd = mtu;
   ssthresh = max (c.cwnd / 2) (least_threshold mtu);
 }
+
+-- a loss was found: half of the window is the threshold, and the window falls to it (section 7.2.3)
+abbrev pub halved : ℕ → CongestionWindow → CongestionWindow
+halved mtu c = record c {
+  cwnd = max (c.cwnd / 2) (least_threshold mtu);
+  ssthresh = max (c.cwnd / 2) (least_threshold mtu);
+  partial_bytes_acked = 0;
+}

@@ -4,3 +4,4 @@ pub mod Offsets
 pub mod Congestion
 pub mod Progress
 pub mod Sacks
+pub mod Recovery

@@ -1,10 +1,9 @@
 -- What a SACK acknowledges that was not acknowledged before (RFC 4960 sections 6.2.1, 6.3.2 and 7.2.4).
 use Rattle.std.specs.Prelude.{ℕ, zero, suc, ◌+◌, ◌-◌, ◌&&◌, ◌||◌, not, Bool, false, List, [], ◌∷◌, max}
-use Rattle.std.specs.Prelude.{if◌then◌else◌, nat_lt, position, is_some, Option, Some, None}
+use Rattle.std.specs.Prelude.{if◌then◌else◌, nat_lt, Option, Some, None}
 use Rattle.sctp_wire_types.specs.declared.chunk.GapAckBlock.{GapAckBlock}
 use Rattle.sctp_received.specs.Received.{is_named}
 use Rattle.sctp_outbound_queue.specs.declared.message.InFlight.{InFlight}
-use Rattle.sctp_outbound_queue.specs.Message.{is_outstanding}
 
 -- a piece that was sent, and that no SACK acknowledged
 abbrev pub is_new : InFlight → Bool

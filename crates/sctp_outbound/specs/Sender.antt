@@ -1,6 +1,6 @@
 -- The sender of DATA (RFC 4960 sections 6 and 7).
 use Rattle.std.specs.Prelude.{ℕ, is_some, zero, suc, not, nat_lt, ◌++◌, slice_set, Bool, false, List, [], ◌∷◌, ◌+◌, ◌-◌}
-use Rattle.std.specs.Prelude.{◌*◌, ◌/◌, ◌%◌, ◌^◌, ◌==◌, ◌&&◌, if◌then◌else◌, length, min, max, nat_le, slice_get}
+use Rattle.std.specs.Prelude.{◌/◌, ◌%◌, ◌^◌, ◌==◌, ◌&&◌, if◌then◌else◌, find, length, max, min, nat_le, slice_get}
 use Rattle.std.specs.Prelude.{Option, Some, None}
 use Rattle.sctp_serial.specs.Serial.{tsn_past, tsn_gt, tsn_gte}
 use Rattle.sctp_wire_types.specs.declared.chunk.ChunkPayloadData.{ChunkPayloadData}
@@ -11,7 +11,9 @@ use Rattle.sctp_parts.specs.Estimate.{Estimate, measured}
 use Rattle.sctp_outbound_queue.specs.declared.message.Attributes.{Attributes}
 use Rattle.sctp_outbound_queue.specs.declared.message.InFlight.{InFlight}
 use Rattle.sctp_outbound_queue.specs.Waiting.{Waiting}
-use Rattle.sctp_outbound_queue.specs.Message.{is_outstanding, outstanding_bytes, counted_again}
+use Rattle.sctp_outbound_queue.specs.Message.{is_outstanding, outstanding_bytes, counted_again, picks, room_taken}
+use Rattle.sctp_outbound_queue.specs.declared.message.Retransmission.{Retransmission}
+use Rattle.sctp_outbound_queue.specs.declared.message.Retransmission.TheVariants as causes
 use Rattle.sctp_outbound_queue.specs.Outbound.{empty_outbound, tsn_at, next_tsn_of, outstanding_of, without_first}
 use Rattle.sctp_outbound_queue.specs.Outbound.{all_marked, pieces_waiting, sent_next}
 use Rattle.sctp_streams.specs.Streams.{StreamMap, released_in}
@@ -30,6 +32,8 @@ fresh_sender size tsn window = record {
   congestion = first_congestion (size + 28) window;
   advertised_window = window;
   min_tsn2measure_rtt = tsn;
+  recovery_exit = None;
+  is_fast_due = false;
 }
 
 -- the peer's receive window less the bytes in flight
@@ -166,40 +170,40 @@ next_chunk_of m tsn = data_of m.message (not m.begun) (length m.rest == 0) m.use
 abbrev pub with_in_flight : Sender → List InFlight → Sender
 with_in_flight s pieces = record s { queue = (let q = s.queue in record q { in_flight = pieces }) }
 
--- the DATA that is sent again: the marked pieces in the order of their TSNs, as long as they fit together into so many
--- bytes (RFC 4960 section 6.3.3, rule E3)
-abbrev pub resent_chunks : ℕ → ℕ → ℕ → List InFlight → List ChunkPayloadData
-resent_chunks first index room [] = []
-resent_chunks first index room (p ∷ ps) =
-    if not p.retransmit then resent_chunks first (index + 1) room ps else
-    if nat_lt room (length p.user_data) then [] else
+-- the DATA that is sent again for a reason: the pieces that it picks, in the order of their TSNs, as long as they fit
+-- together into so many bytes (RFC 4960 sections 6.3.3, rule E3, and 7.2.4)
+abbrev pub resent_chunks : Retransmission → ℕ → ℕ → ℕ → List InFlight → List ChunkPayloadData
+resent_chunks k first index room [] = []
+resent_chunks k first index room (p ∷ ps) =
+    if not (picks k p) then resent_chunks k first (index + 1) room ps else
+    if nat_lt room (room_taken k p) then [] else
     chunk_of p (tsn_at first index) ∷
-    resent_chunks first (index + 1) (room - length p.user_data) ps
+    resent_chunks k first (index + 1) (room - room_taken k p) ps
 
--- the pieces in flight after that: those that were sent again lost their mark and count one sending more
-abbrev pub resent_pieces : ℕ → List InFlight → List InFlight
-resent_pieces room [] = []
-resent_pieces room (p ∷ ps) =
-    if not p.retransmit then p ∷ resent_pieces room ps else
-    if nat_lt room (length p.user_data) then p ∷ ps else
-    counted_again p ∷ resent_pieces (room - length p.user_data) ps
+-- the pieces in flight after that: those that were sent again count one sending more
+abbrev pub resent_pieces : Retransmission → ℕ → List InFlight → List InFlight
+resent_pieces k room [] = []
+resent_pieces k room (p ∷ ps) =
+    if not (picks k p) then p ∷ resent_pieces k room ps else
+    if nat_lt room (room_taken k p) then p ∷ ps else
+    counted_again k p ∷ resent_pieces k (room - room_taken k p) ps
 
--- what is left of so many bytes for the pieces behind one: None where it is marked and does not fit
-abbrev pub tried_again : Option InFlight → Sender → ℕ → ℕ → List ChunkPayloadData
+-- what is left of so many bytes for the pieces behind one: None where it is picked and does not fit
+abbrev pub tried_again : Retransmission → Option InFlight → Sender → ℕ → ℕ → List ChunkPayloadData
     → Sender × List ChunkPayloadData × Option ℕ
-tried_again None s index room out = (s, out, None)
-tried_again (Some p) s index room out =
-    if not p.retransmit then (s, out, Some room) else
-    if nat_lt room (length p.user_data) then (s, out, None) else (
-      with_in_flight s (slice_set s.queue.in_flight index (counted_again p)),
+tried_again k None s index room out = (s, out, None)
+tried_again k (Some p) s index room out =
+    if not (picks k p) then (s, out, Some room) else
+    if nat_lt room (room_taken k p) then (s, out, None) else (
+      with_in_flight s (slice_set s.queue.in_flight index (counted_again k p)),
       out ++ chunk_of p (tsn_at s.queue.first_tsn index) ∷ [],
-      Some (room - length p.user_data),
+      Some (room - room_taken k p),
     )
 
--- this piece is marked and fits into so many bytes
-abbrev pub goes_again : Option InFlight → ℕ → Bool
-goes_again None room = false
-goes_again (Some p) room = p.retransmit && not (nat_lt room (length p.user_data))
+-- this piece is picked and fits into so many bytes
+abbrev pub goes_again : Retransmission → Option InFlight → ℕ → Bool
+goes_again k None room = false
+goes_again k (Some p) room = picks k p && not (nat_lt room (room_taken k p))
 
 abbrev pub alone_length_of : ℕ → Option InFlight → Option ℕ
 alone_length_of window None = None
@@ -220,24 +224,53 @@ first_chunk first (p ∷ ps) = chunk_of p (tsn_at first 0) ∷ []
 
 abbrev pub first_counted : List InFlight → List InFlight
 first_counted [] = []
-first_counted (p ∷ ps) = counted_again p ∷ ps
+first_counted (p ∷ ps) = counted_again causes.Timer p ∷ ps
 
 -- the lesser of the congestion window and what is left of the peer's window
 abbrev pub both_windows : Sender → ℕ
 both_windows s = min s.congestion.cwnd (window_left s)
 
--- the DATA that a poll sends again: within both windows, or the first piece alone where the peer's window is too small
--- for it (RFC 4960 section 6.1, rule A)
-abbrev pub resent_by : Sender → List ChunkPayloadData
-resent_by s =
+-- the DATA that the timer marked and that goes again: within both windows, or the first piece alone where the peer's
+-- window is too small for it (RFC 4960 section 6.1, rule A)
+abbrev pub marked_by : Sender → List ChunkPayloadData
+marked_by s =
     if resends_alone s then first_chunk s.queue.first_tsn s.queue.in_flight else
-    resent_chunks s.queue.first_tsn 0 (both_windows s) s.queue.in_flight
+    resent_chunks causes.Timer s.queue.first_tsn 0 (both_windows s) s.queue.in_flight
+
+abbrev pub after_marked : Sender → Sender
+after_marked s =
+    with_in_flight s (
+    if resends_alone s then first_counted s.queue.in_flight else
+    resent_pieces causes.Timer (both_windows s) s.queue.in_flight
+    )
+
+abbrev pub room_of : Option InFlight → ℕ
+room_of None = 0
+room_of (Some p) = room_taken causes.Fast p
+
+-- the room of the one packet of a fast retransmission behind its common header; a piece that is longer goes alone
+abbrev pub fast_room : Sender → ℕ
+fast_room s = max (s.mtu - 12) (room_of (find (picks causes.Fast) s.queue.in_flight))
+
+-- the DATA of one packet that was sent once and reported missing three times, where that is due; it goes whatever the
+-- windows are (RFC 4960 section 7.2.4)
+abbrev pub missing_by : Sender → List ChunkPayloadData
+missing_by s =
+    if s.is_fast_due then resent_chunks causes.Fast s.queue.first_tsn 0 (fast_room s) s.queue.in_flight else []
+
+abbrev pub missing_counted : Sender → List InFlight
+missing_counted s =
+    if s.is_fast_due then resent_pieces causes.Fast (fast_room s) s.queue.in_flight else s.queue.in_flight
+
+abbrev pub after_missing : Sender → Sender
+after_missing s = (let t = with_in_flight s (missing_counted s) in record t { is_fast_due = false })
+
+-- the DATA that a poll sends again: what the timer marked, and then what is missing
+abbrev pub resent_by : Sender → List ChunkPayloadData
+resent_by s = marked_by s ++ missing_by (after_marked s)
 
 abbrev pub after_resending : Sender → Sender
-after_resending s =
-    with_in_flight s (
-    if resends_alone s then first_counted s.queue.in_flight else resent_pieces (both_windows s) s.queue.in_flight
-    )
+after_resending s = after_missing (after_marked s)
 
 -- DATA is sent again
 abbrev pub resends : Sender → Bool

@@ -1,6 +1,6 @@
 // The congestion window.
 ghost use Rattle.std.specs.Prelude.{◌≡◌, ◌<◌, ◌*◌, ◌^◌, min};
-ghost use Rattle.sctp_outbound.specs.Congestion.{first_congestion, grown, slowly_started, avoided, timed_out, least_threshold};
+ghost use Rattle.sctp_outbound.specs.Congestion.{first_congestion, grown, slowly_started, avoided, timed_out, least_threshold, halved};
 
 /// How many bytes may be in flight (RFC 4960 section 7.2). Each sum stays at the greatest u32.
 #[derive(Clone, Copy, Debug, PartialEq, Eq)]
@@ -65,6 +65,16 @@ impl CongestionWindow {
     {
         self.ssthresh = (self.cwnd / 2).max(least_threshold(mtu));
         self.cwnd = mtu;
+    }
+
+    /// A TSN was reported missing for the third time, and no loss is recovered from: the window is half of what it was
+    /// (section 7.2.3).
+    pub(crate) fn on_third_report(&mut self, mtu: u32)
+        ensures { self.new ≡ halved mtu self.old }
+    {
+        self.ssthresh = (self.cwnd / 2).max(least_threshold(mtu));
+        self.cwnd = self.ssthresh;
+        self.partial_bytes_acked = 0;
     }
 }
 

@@ -4,6 +4,7 @@
 mod congestion;
 mod gap_acks;
 mod progress;
+mod recovery;
 mod sender;
 
 pub use congestion::CongestionWindow;

@@ -14,12 +14,13 @@ ghost use Rattle.sctp_outbound.specs.Sender.{after_t3_timeout};
 ghost use Rattle.sctp_outbound.specs.Sender.{sack_outcome, with_first_window, with_window, t3_after_sack, chunk_of};
 ghost use Rattle.sctp_outbound.specs.Sender.{next_chunk_of, data_of, can_send_next, is_measured, after_resending};
 ghost use Rattle.sctp_outbound.specs.Sender.{resent_by, alone_length, with_in_flight, resent_pieces, resent_chunks};
+ghost use Rattle.sctp_outbound.specs.Sender.{after_marked, after_missing, fast_room, marked_by, missing_by};
 ghost use Rattle.sctp_outbound.specs.Sender.{tried_again, sent_new, sent_within, sent_one};
 
 use crate::congestion::CongestionWindow;
 use crate::progress::{Progress, is_new};
 use bytes::Bytes;
-use sctp_outbound_queue::{Attributes, InFlight, OutboundQueue, PendingMessage};
+use sctp_outbound_queue::{Attributes, InFlight, OutboundQueue, PendingMessage, Retransmission};
 use sctp_parts::estimate::RtoManager;
 use sctp_parts::timer::{Timer, TimerTable};
 use sctp_streams::{Fallen, Streams};
@@ -28,6 +29,9 @@ use std::alloc::{AllocError, Global};
 
 /// Bytes that a packet may have beside the payload of one DATA chunk: common header and DATA header.
 const PACKET_OVERHEAD: u32 = 28;
+
+/// Bytes of the common header of a packet (RFC 4960 section 3.1).
+const COMMON_HEADER: u32 = 12;
 
 /// What a SACK was to the sender.
 #[derive(Clone, Copy, Debug, PartialEq, Eq)]
@@ -55,6 +59,10 @@ pub struct Sender {
     pub advertised_window: u32,
     /// Round-trip times are measured from this TSN on.
     pub min_tsn2measure_rtt: u32,
+    /// While a loss is recovered from, the TSN whose cumulative acknowledgement ends that.
+    pub recovery_exit: Option<u32>,
+    /// Fast retransmission is due.
+    pub is_fast_due: bool,
 }
 
 impl Sender {
@@ -71,6 +79,8 @@ impl Sender {
             congestion: CongestionWindow::new(mtu, window),
             advertised_window: window,
             min_tsn2measure_rtt: initial_tsn,
+            recovery_exit: None,
+            is_fast_due: false,
         }
     }
 
@@ -141,6 +151,7 @@ impl Sender {
         let before = self.queue.inflight_bytes();
         let earliest = self.names_earliest(count, blocks);
         self.advertised_window = window;
+        self.leave_recovery(count);
         let any_new = self.acknowledge(rto, streams, fallen, count, now);
         let newest = self.acknowledge_blocks(rto, streams, fallen, blocks, now);
         let progress = Progress {
@@ -148,6 +159,7 @@ impl Sender {
             earliest,
         };
         self.grow_window(count > 0, before);
+        self.count_misses(count > 0, newest);
         self.run_t3(timers, rto, progress, now);
         SackOutcome::Taken
     }
@@ -158,8 +170,9 @@ impl Sender {
     {
         if moved {
             let acked = before.saturating_sub(self.queue.inflight_bytes());
+            let recovers = self.recovers();
             self.congestion
-                .grow(acked, self.queue.has_pending(), false, self.mtu);
+                .grow(acked, self.queue.has_pending(), recovers, self.mtu);
         }
     }
 
@@ -272,19 +285,58 @@ impl Sender {
         self.congestion.on_t3_timeout(self.mtu);
     }
 
-    /// Sends marked DATA again, in TSN order, while the windows allow it. Where the peer's window is too small for the
-    /// first TSN in flight, that one goes alone. It lacks memory only where a chunk is sent again.
-    pub fn resend_marked(&mut self, out: &mut Vec<ChunkPayloadData>) -> Result<(), AllocError>
+    /// Sends DATA again: what the retransmission timer marked, and then what is missing. Answers how many chunks fast
+    /// retransmission gave. It lacks memory only where a chunk is sent again. Goes over what is in flight.
+    pub fn resend(&mut self, out: &mut Vec<ChunkPayloadData>) -> Result<usize, AllocError>
+        ensures count { IfOk result (λ count. count ≡ length (missing_by (after_marked self.old))) }
         ensures sender { OnOk result (self.new ≡ after_resending self.old) }
         ensures chunks { OnOk result (out.new.items ≡ out.old.items ++ resent_by self.old) }
         ensures grows { OnErr result (resends self.old ≡ true) }
     {
+        self.resend_marked(out)?;
+        let marked = out.len();
+        self.resend_missing(out)?;
+        Ok(out.len() - marked)
+    }
+
+    // Sends marked DATA again, in TSN order, while the windows allow it. Where the peer's window is too small for the
+    // first TSN in flight, that one goes alone.
+    fn resend_marked(&mut self, out: &mut Vec<ChunkPayloadData>) -> Result<(), AllocError>
+        ensures sender { OnOk result (self.new ≡ after_marked self.old) }
+        ensures chunks { OnOk result (out.new.items ≡ out.old.items ++ marked_by self.old) }
+        ensures grows { OnErr result (nat_lt 0 (length (marked_by self.old)) ≡ true) }
+    {
         if let Some(length) = self.alone_length() {
-            self.resend(0, length, out)?;
+            self.resend_at(Retransmission::Timer, 0, length, out)?;
             return Ok(());
         }
         let window = self.congestion.cwnd.min(self.rwnd());
-        self.resend_within(u64::from(window), out)
+        self.resend_within(Retransmission::Timer, u64::from(window), out)
+    }
+
+    // Sends again, where fast retransmission is due, one packet of the DATA that was sent once and is missing.
+    fn resend_missing(&mut self, out: &mut Vec<ChunkPayloadData>) -> Result<(), AllocError>
+        ensures sender { OnOk result (self.new ≡ after_missing self.old) }
+        ensures chunks { OnOk result (out.new.items ≡ out.old.items ++ missing_by self.old) }
+        ensures grows { OnErr result (nat_lt 0 (length (missing_by self.old)) ≡ true) }
+    {
+        if !self.is_fast_due {
+            return Ok(());
+        }
+        let room = self.fast_room();
+        self.is_fast_due = false;
+        self.resend_within(Retransmission::Fast, room, out)
+    }
+
+    // The room of one packet behind its common header, in bytes; a piece that is longer goes alone.
+    fn fast_room(&self) -> u64
+        ensures { result ≡ fast_room self.now }
+    {
+        let room = u64::from(self.mtu.saturating_sub(COMMON_HEADER));
+        match self.queue.first_missing() {
+            Some(piece) => room.max(piece.room_taken(Retransmission::Fast)),
+            None => room,
+        }
     }
 
     // The length of the first piece in flight, where it is marked and the peer's window is too small for it.
@@ -300,22 +352,23 @@ impl Sender {
         }
     }
 
-    // Sends marked pieces again, in TSN order, until one does not fit into what is left of `room` bytes.
+    // Sends pieces again for a reason, in TSN order, until one does not fit into what is left of `room` bytes.
     fn resend_within(
         &mut self,
+        by: Retransmission,
         room: u64,
         out: &mut Vec<ChunkPayloadData>,
     ) -> Result<(), AllocError>
         ensures sender { OnOk result
-            (self.new ≡ with_in_flight self.old (resent_pieces room self.old.queue.in_flight)) }
-        ensures chunks { OnOk result
-            (out.new.items ≡ out.old.items ++ resent_chunks self.old.queue.first_tsn 0 room self.old.queue.in_flight) }
+            (self.new ≡ with_in_flight self.old (resent_pieces by room self.old.queue.in_flight)) }
+        ensures chunks { OnOk result (out.new.items ≡
+            out.old.items ++ resent_chunks by self.old.queue.first_tsn 0 room self.old.queue.in_flight) }
         ensures grows { OnErr result
-            (nat_lt 0 (length (resent_chunks self.old.queue.first_tsn 0 room self.old.queue.in_flight)) ≡ true) }
+            (nat_lt 0 (length (resent_chunks by self.old.queue.first_tsn 0 room self.old.queue.in_flight)) ≡ true) }
     {
         let mut left = room;
         for index in 0..self.queue.inflight_len() {
-            match self.resend(index, left, out)? {
+            match self.resend_at(by, index, left, out)? {
                 Some(rest) => left = rest,
                 None => return Ok(()),
             }
@@ -323,32 +376,33 @@ impl Sender {
         Ok(())
     }
 
-    // Sends the piece at a place again, where it is marked, and answers what is left of `room` bytes; None where it
-    // does not fit.
-    fn resend(
+    // Sends the piece at a place again, where the reason picks it, and answers what is left of `room` bytes; None where
+    // it does not fit.
+    fn resend_at(
         &mut self,
+        by: Retransmission,
         index: usize,
         room: u64,
         out: &mut Vec<ChunkPayloadData>,
     ) -> Result<Option<u64>, AllocError>
-        ensures exact { IfOk result (λ rest. tried_again (slice_get self.old.queue.in_flight index) self.old index room
-            out.old.items ≡ (self.new, out.new.items, rest)) }
-        ensures grows { OnErr result (goes_again (slice_get self.old.queue.in_flight index) room ≡ true) }
+        ensures exact { IfOk result (λ rest. tried_again by (slice_get self.old.queue.in_flight index) self.old index
+            room out.old.items ≡ (self.new, out.new.items, rest)) }
+        ensures grows { OnErr result (goes_again by (slice_get self.old.queue.in_flight index) room ≡ true) }
     {
         let Some(piece) = self.queue.get(index) else {
             return Ok(None);
         };
-        if !piece.retransmit {
+        if !piece.goes_again(by) {
             return Ok(Some(room));
         }
-        let length = piece.user_data.len() as u64;
-        if length > room {
+        let taken = piece.room_taken(by);
+        if taken > room {
             return Ok(None);
         }
         let chunk = sent_chunk(piece, self.queue.tsn_at(index))?;
         out.push(chunk)?;
-        self.queue.resend(index);
-        Ok(Some(room - length))
+        self.queue.resend(index, by);
+        Ok(Some(room - taken))
     }
 
     /// Sends DATA that waits while the windows allow it, and answers whether any was sent. With nothing in flight one

@@ -2,3 +2,4 @@ pub mod ByteSums
 pub mod BytesLeft
 pub mod ExpiredUnsent
 pub mod PiecesCut
+pub mod ReportedMissing

@@ -1,8 +1,10 @@
 -- Messages, cut into pieces, and pieces in flight (RFC 4960 section 6.9).
-use Rattle.std.specs.Prelude.{ℕ, Bool, true, false, not, [], ◌+◌, ◌-◌, ◌*◌, ◌%◌, ◌^◌, ◌==◌, ◌&&◌, if◌then◌else◌, length}
+use Rattle.std.specs.Prelude.{ℕ, Bool, true, false, not, [], ◌+◌, ◌-◌, ◌*◌, ◌/◌, ◌%◌, ◌^◌, ◌==◌, ◌&&◌, if◌then◌else◌, length}
 use Rattle.std.specs.Prelude.{drop, min, sum_by, nat_le, nat_lt, slice_index_or, Option, Some, None}
 use Rattle.sctp_outbound_queue.specs.declared.message.Attributes.{Attributes}
 use Rattle.sctp_outbound_queue.specs.declared.message.InFlight.{InFlight}
+use Rattle.sctp_outbound_queue.specs.declared.message.Retransmission.{Retransmission}
+use Rattle.sctp_outbound_queue.specs.declared.message.Retransmission.TheVariants as causes
 use Rattle.sctp_wire_types.specs.declared.reliability.Policy.{Policy}
 use Rattle.sctp_wire_types.specs.declared.reliability.Policy.TheVariants.{Reliable, Rexmit, Timed}
 use Rattle.sctp_outbound_queue.specs.Waiting.{Waiting}
@@ -91,17 +93,34 @@ marked_again p = if is_outstanding p then record p { retransmit = true } else p
 abbrev pub one_sending_more : ℕ → ℕ
 one_sending_more count = min (count + 1) (2 ^ 32 - 1)
 
--- a piece was sent again
-abbrev pub counted_again : InFlight → InFlight
-counted_again p = record p { retransmit = false; sent_count = one_sending_more p.sent_count }
+-- a piece is sent again for this reason: it is marked by the timer, or it was sent once and reported missing three times
+-- (RFC 4960 sections 6.3.3 and 7.2.4)
+abbrev pub picks : Retransmission → InFlight → Bool
+picks causes.Timer p = p.retransmit
+picks causes.Fast p = is_outstanding p && p.sent_count == 1 && nat_le 3 p.misses
 
--- a piece was sent again by fast retransmission, which leaves the mark of the timer (RFC 4960 section 7.2.4)
-abbrev pub counted_fast : InFlight → InFlight
-counted_fast p = record p { sent_count = one_sending_more p.sent_count }
+-- the length of a DATA chunk with so many bytes, header and padding included, at most the greatest multiple of 4 of 64
+-- bits (RFC 4960 section 3.3.1)
+abbrev pub data_length : ℕ → ℕ
+data_length length = min (length + 19) (2 ^ 64 - 1) / 4 * 4
 
--- a SACK reported the piece missing; three reports are enough (RFC 4960 section 7.2.4)
-abbrev pub missed : InFlight → InFlight
-missed p = if nat_lt p.misses 3 then record p { misses = p.misses + 1 } else p
+-- the room that a piece takes up of the windows, or of the one packet of a fast retransmission
+abbrev pub room_taken : Retransmission → InFlight → ℕ
+room_taken causes.Timer p = length p.user_data
+room_taken causes.Fast p = data_length (length p.user_data)
+
+-- a piece was sent again; fast retransmission leaves the mark of the timer
+abbrev pub counted_again : Retransmission → InFlight → InFlight
+counted_again causes.Timer p = record p { retransmit = false; sent_count = one_sending_more p.sent_count }
+counted_again causes.Fast p = record p { sent_count = one_sending_more p.sent_count }
+
+-- a SACK reported a piece missing: it counts where the piece is outstanding, up to 3 (RFC 4960 section 7.2.4)
+abbrev pub reported_missing : InFlight → InFlight
+reported_missing p = if is_outstanding p && nat_lt p.misses 3 then record p { misses = p.misses + 1 } else p
+
+-- that was the third report
+abbrev pub is_third_report : InFlight → Bool
+is_third_report p = is_outstanding p && p.misses == 2
 
 -- a piece of an abandoned message (RFC 3758 section 3.5)
 abbrev pub flagged : ℕ → InFlight → InFlight

@@ -1,6 +1,6 @@
 -- What waits to be sent and what is in flight (RFC 4960 section 6.1).
 use Rattle.std.specs.Prelude.{◌≡◌, ℕ, Bool, List, [], ◌∷◌, ◌++◌, ◌+◌, ◌-◌, ◌<◌, ◌%◌, ◌^◌, ◌==◌, ◌||◌, if◌then◌else◌}
-use Rattle.std.specs.Prelude.{length, map, sum_by, slice_get, slice_set, Option, Some, None, not, false}
+use Rattle.std.specs.Prelude.{drop, length, map, sum_by, slice_get, slice_set, take, Option, Some, None, not, false}
 use Rattle.std.specs.List.{list_any, position_or_len}
 use Rattle.sctp_serial.specs.Serial.{tsn_past}
 use Rattle.sctp_outbound_queue.specs.declared.message.InFlight.{InFlight}
@@ -9,7 +9,7 @@ use Rattle.sctp_outbound_queue.specs.declared.queue.Released.{Released}
 use Rattle.sctp_outbound_queue.specs.Waiting.{Waiting}
 use Rattle.sctp_outbound_queue.specs.Message.{message_bytes, piece_count, accepted, sent_once, without_piece, marker_of}
 use Rattle.sctp_outbound_queue.specs.Message.{is_of_stream, is_waiting_of_stream, outstanding_bytes}
-use Rattle.sctp_outbound_queue.specs.Message.{outstanding_bytes_of, acked, marked_again, flagged}
+use Rattle.sctp_outbound_queue.specs.Message.{outstanding_bytes_of, acked, marked_again, flagged, reported_missing}
 
 pub record Outbound : Type 0 where
   -- the messages that wait to be sent, in the order in which they were accepted; of the first one a part may be sent
@@ -109,6 +109,10 @@ acked_at q tsn = (changed_at acked q (tsn_past q.first_tsn tsn), bytes_of_piece 
 -- all that is outstanding is to be sent again
 abbrev pub all_marked : Outbound → Outbound
 all_marked q = record q { in_flight = map marked_again q.in_flight }
+
+-- a SACK reported the first n in flight missing, those of them that are outstanding (RFC 4960 section 7.2.4)
+abbrev pub with_missing : ℕ → Outbound → Outbound
+with_missing n q = record q { in_flight = map reported_missing (take n q.in_flight) ++ drop n q.in_flight }
 
 -- a piece of this stream waits or is not acknowledged cumulatively
 abbrev pub has_stream : Outbound → ℕ → Bool

@@ -5,7 +5,7 @@ ghost use Rattle.sctp_outbound_queue.specs.Cut.{MayFollow, first_piece, other_pi
 ghost use Rattle.sctp_outbound_queue.specs.Message.{message_bytes, piece_count, accepted, sent_once, without_piece};
 ghost use Rattle.sctp_outbound_queue.specs.Message.{marker_of, is_of, is_of_stream, is_waiting_of_stream};
 ghost use Rattle.sctp_outbound_queue.specs.Message.{is_outstanding, outstanding_bytes, outstanding_bytes_of, acked};
-ghost use Rattle.sctp_outbound_queue.specs.Message.{marked_again, counted_again, counted_fast, missed, flagged};
+ghost use Rattle.sctp_outbound_queue.specs.Message.{marked_again, counted_again, data_length, flagged, is_third_report, picks, room_taken, reported_missing};
 ghost use Rattle.sctp_outbound_queue.specs.Message.{deadline_under, started, waiting_started, sent_started, is_expired};
 ghost use Rattle.sctp_outbound_queue.specs.Message.{is_expired_piece, is_expired_unsent, share_ssns, moved_down};
 
@@ -55,6 +55,15 @@ impl Model for PendingMessage {
       user_data = m.user_data;
       rest = m.rest.items;
     } };
+}
+
+/// Why a piece is sent again.
+#[derive(Clone, Copy, Debug, PartialEq, Eq)]
+pub enum Retransmission {
+    /// The retransmission timer expired (RFC 4960 section 6.3.3).
+    Timer,
+    /// SACKs reported it missing three times (RFC 4960 section 7.2.4).
+    Fast,
 }
 
 /// A piece that was sent and is not acknowledged cumulatively, or a marker: what stands for the unsent pieces of an
@@ -273,25 +282,51 @@ impl InFlight {
         }
     }
 
-    pub(crate) fn resend(&mut self)
-        ensures { self.new ≡ counted_again self.old }
+    /// Whether it is sent again for this reason.
+    pub fn goes_again(&self, by: Retransmission) -> bool
+        ensures { result ≡ picks by self.now }
     {
-        self.retransmit = false;
-        self.sent_count = self.sent_count.saturating_add(1);
+        match by {
+            Retransmission::Timer => self.retransmit,
+            Retransmission::Fast => {
+                self.is_outstanding() && self.sent_count == 1 && self.misses >= 3
+            }
+        }
     }
 
-    pub(crate) fn resend_fast(&mut self)
-        ensures { self.new ≡ counted_fast self.old }
+    /// The room that it takes up of what may be sent again, in bytes.
+    pub fn room_taken(&self, by: Retransmission) -> u64
+        ensures { result ≡ room_taken by self.now }
     {
-        self.sent_count = self.sent_count.saturating_add(1);
+        let length = self.user_data.len() as u64;
+        match by {
+            Retransmission::Timer => length,
+            Retransmission::Fast => data_length(length),
+        }
     }
 
-    pub(crate) fn miss(&mut self)
-        ensures { self.new ≡ missed self.old }
+    pub(crate) fn resend(&mut self, by: Retransmission)
+        ensures { self.new ≡ counted_again by self.old }
     {
-        if self.misses < 3 {
+        self.sent_count = self.sent_count.saturating_add(1);
+        match by {
+            Retransmission::Timer => self.retransmit = false,
+            Retransmission::Fast => {}
+        }
+    }
+
+    pub(crate) fn report_missing(&mut self)
+        ensures { self.new ≡ reported_missing self.old }
+    {
+        if self.is_outstanding() && self.misses < 3 {
             self.misses += 1;
         }
+    }
+
+    pub(crate) fn is_third_report(&self) -> bool
+        ensures { result ≡ is_third_report self.now }
+    {
+        self.is_outstanding() && self.misses == 2
     }
 
     pub(crate) fn abandon(&mut self, message_id: u64)
@@ -308,6 +343,13 @@ impl InFlight {
     {
         self.message.deadline = self.message.deadline_from(now);
     }
+}
+
+/// The length of a DATA chunk with so many bytes, header and padding included.
+pub fn data_length(length: u64) -> u64
+    ensures { result ≡ data_length length }
+{
+    length.saturating_add(19) / 4 * 4
 }
 
 /// Cuts the bytes of a message into pieces of `size` bytes, the last one of what is left (RFC 4960 section 6.9): the

@@ -1,25 +1,26 @@
 // Messages that wait to be sent, and pieces in flight.
-ghost use Rattle.std.specs.Prelude.{position, ◌≡◌, ◌==◌, ◌&&◌, ◌+◌, ◌-◌, ◌^◌, length, map, min, nat_lt, position, slice_get};
+ghost use Rattle.std.specs.Prelude.{◌≡◌, ◌==◌, ◌&&◌, ◌+◌, ◌-◌, ◌^◌, find, length, map, min, nat_lt, position, slice_get, take};
 ghost use Rattle.std.specs.Prelude.{IfOk, OnOk, OnErr};
 ghost use Rattle.std.specs.Option.{option_copied, option_map};
 ghost use Rattle.sctp_serial.specs.Serial.{tsn_past};
 ghost use Rattle.sctp_outbound_queue.specs.Message.{is_outstanding, is_expired_piece, is_expired_unsent, counted_again};
-ghost use Rattle.sctp_outbound_queue.specs.Message.{counted_fast, missed, marked_again, flagged, waiting_started};
+ghost use Rattle.sctp_outbound_queue.specs.Message.{is_third_report, marked_again, picks, flagged, waiting_started};
 ghost use Rattle.sctp_outbound_queue.specs.Message.{sent_started, moved_down, sent_once};
 ghost use Rattle.sctp_outbound_queue.specs.Outbound.{empty_outbound, tsn_at, next_tsn_of, waiting_of, outstanding_of};
 ghost use Rattle.sctp_outbound_queue.specs.Outbound.{outstanding_of_message, pieces_waiting, with_message, sent_next};
 ghost use Rattle.sctp_outbound_queue.specs.Outbound.{after_piece, without_first, changed_at, acked_at, piece_at};
 ghost use Rattle.sctp_outbound_queue.specs.Outbound.{all_marked, has_stream, abandoned_in_front_of, tail_dropped};
-ghost use Rattle.sctp_outbound_queue.specs.Outbound.{all_flagged, abandoned_at, is_abandoned_piece};
+ghost use Rattle.sctp_outbound_queue.specs.Outbound.{all_flagged, abandoned_at, is_abandoned_piece, with_missing};
+ghost use Rattle.std.specs.List.{list_any};
 ghost use Rattle.sctp_outbound_queue.specs.Expiry.{all_started, first_tsn_that, without_expired, after_expiry};
 ghost use Rattle.sctp_outbound_queue.specs.Expiry.{after_tail_expiry, is_expired_tail};
 
 use crate::walks::{
     any_of_message, any_of_stream, any_waiting_of_stream, bytes_of_message, drop_expired,
-    first_expired_piece, first_not_abandoned, first_outstanding, flag_all, mark_each, pieces_of,
-    start_each_sent, start_each_waiting, take_piece,
+    first_expired_piece, first_missing, first_not_abandoned, first_outstanding, flag_all,
+    mark_each, pieces_of, report_missing, start_each_sent, start_each_waiting, take_piece,
 };
-use crate::{Attributes, InFlight, PendingMessage};
+use crate::{Attributes, InFlight, PendingMessage, Retransmission};
 use sctp_wire_types::{Instant, StreamId};
 use std::alloc::{AllocError, Global};
 use std::collections::VecDeque;
@@ -237,31 +238,29 @@ impl OutboundQueue {
         mark_each(self.in_flight.make_contiguous());
     }
 
-    /// Takes the mark off a piece and counts a sending.
-    pub fn resend(&mut self, index: usize)
-        ensures { self.new ≡ changed_at counted_again self.old index }
+    /// Counts that a piece is sent again, which takes the timer's mark off it.
+    pub fn resend(&mut self, index: usize, by: Retransmission)
+        ensures { self.new ≡ changed_at (counted_again by) self.old index }
     {
         if let Some(piece) = self.in_flight.get_mut(index) {
-            piece.resend();
+            piece.resend(by);
         }
     }
 
-    /// Counts a sending by fast retransmission, which leaves the mark (RFC 4960 section 7.2.4).
-    pub fn resend_fast(&mut self, index: usize)
-        ensures { self.new ≡ changed_at counted_fast self.old index }
+    /// The first piece in flight that fast retransmission sends again. Goes over the pieces before it.
+    pub fn first_missing(&self) -> Option<&InFlight>
+        ensures { option_copied result ≡ find (picks Retransmission.Fast) self.now.in_flight }
     {
-        if let Some(piece) = self.in_flight.get_mut(index) {
-            piece.resend_fast();
-        }
+        first_missing(&self.in_flight)
     }
 
-    /// Counts that a SACK reported a piece missing, up to 3 (RFC 4960 section 7.2.4).
-    pub fn count_miss(&mut self, index: usize)
-        ensures { self.new ≡ changed_at missed self.old index }
+    /// A SACK reported the first `count` pieces in flight missing: each outstanding one counts it, up to 3 (RFC 4960
+    /// section 7.2.4). Answers whether it was the third report of one of them. Goes over those pieces.
+    pub fn report_missing(&mut self, count: usize) -> bool
+        ensures third { result ≡ list_any is_third_report (take count self.old.in_flight) }
+        ensures counted { self.new ≡ with_missing count self.old }
     {
-        if let Some(piece) = self.in_flight.get_mut(index) {
-            piece.miss();
-        }
+        report_missing(&mut self.in_flight, count)
     }
 
     /// How many TSNs past the first one in flight the first outstanding piece is.

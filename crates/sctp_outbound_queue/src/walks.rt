@@ -2,15 +2,15 @@
 ghost use Rattle.std.specs.Prelude.{◌≡◌, ◌+◌, ◌-◌, ◌^◌, ◌<◌, ◌≤◌, ◌++◌, not, length, map, min, fold, find, take, drop};
 ghost use Rattle.std.specs.Prelude.{position, slice_get, IfSome};
 ghost use Rattle.std.specs.List.{list_any};
-ghost use Rattle.std.specs.Option.{option_map};
+ghost use Rattle.std.specs.Option.{option_copied, option_map};
 ghost use Rattle.sctp_outbound_queue.specs.Message.{piece_count, is_of, is_of_stream, is_waiting_of_stream};
 ghost use Rattle.sctp_outbound_queue.specs.Message.{is_outstanding, outstanding_bytes_of, is_expired_piece};
 ghost use Rattle.sctp_outbound_queue.specs.Message.{is_expired_unsent, marked_again, flagged, waiting_started};
-ghost use Rattle.sctp_outbound_queue.specs.Message.{sent_started, moved_down, sent_once};
+ghost use Rattle.sctp_outbound_queue.specs.Message.{sent_started, moved_down, sent_once, is_third_report, picks, reported_missing};
 ghost use Rattle.sctp_outbound_queue.specs.Outbound.{outstanding_of_message, pieces_waiting, after_piece};
 ghost use Rattle.sctp_outbound_queue.specs.Expiry.{without_expired};
 
-use crate::{Attributes, InFlight, PendingMessage};
+use crate::{Attributes, InFlight, PendingMessage, Retransmission};
 use sctp_wire_types::{Instant, StreamId};
 use std::collections::VecDeque;
 
@@ -61,6 +61,14 @@ pub(crate) fn first_outstanding(pieces: &VecDeque<InFlight>) -> Option<usize>
     ensures { result ≡ position is_outstanding pieces.now.items }
 {
     pieces.iter().position(|piece| piece.is_outstanding())
+}
+
+pub(crate) fn first_missing(pieces: &VecDeque<InFlight>) -> Option<&InFlight>
+    ensures { option_copied result ≡ find (picks Retransmission.Fast) pieces.now.items }
+{
+    pieces
+        .iter()
+        .find(|piece| piece.goes_again(Retransmission::Fast))
 }
 
 pub(crate) fn first_not_abandoned(pieces: &VecDeque<InFlight>) -> Option<usize>
@@ -141,6 +149,38 @@ pub(crate) fn mark_each(pieces: &mut [InFlight])
     for piece in pieces.iter_mut() {
         piece.mark();
     }
+}
+
+// The first `count` pieces are reported missing. Answers whether it was the third report of one of them.
+pub(crate) fn report_missing(pieces: &mut VecDeque<InFlight>, count: usize) -> bool
+    ensures third { result ≡ list_any is_third_report (take count pieces.old.items) }
+    ensures counted { pieces.new.items ≡
+        map reported_missing (take count pieces.old.items) ++ drop count pieces.old.items }
+{
+    report_first(pieces.make_contiguous(), count)
+}
+
+fn report_first(pieces: &mut [InFlight], count: usize) -> bool
+    ensures third { result ≡ list_any is_third_report (take count pieces.old) }
+    ensures counted { pieces.new ≡ map reported_missing (take count pieces.old) ++ drop count pieces.old }
+{
+    if count < pieces.len() {
+        report_each(&mut pieces[..count])
+    } else {
+        report_each(pieces)
+    }
+}
+
+fn report_each(pieces: &mut [InFlight]) -> bool
+    ensures third { result ≡ list_any is_third_report pieces.old }
+    ensures counted { pieces.new ≡ map reported_missing pieces.old }
+{
+    let mut any_third = false;
+    for piece in pieces.iter_mut() {
+        any_third |= piece.is_third_report();
+        piece.report_missing();
+    }
+    any_third
 }
 
 fn flag_each(pieces: &mut [InFlight], message_id: u64)

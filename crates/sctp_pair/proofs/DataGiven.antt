@@ -101,32 +101,28 @@ module _ (x : Surroundings) (p : Parts) (h : Holds x p) where
       (λ s n. n)
       (after_sendings sent.0 x sent.1.sends h.sound_out h.other) sent.1.fits sent.1.given
 
-  act_sent_again : (index : ℕ) → Can (Act.SentAgain index) p
-      → AfterOut x (done (Act.SentAgain index) p) (data_given (Act.SentAgain index) p)
-  act_sent_again index can =
-      let resent = pieces_are_given p index x.out can h.sound_out.invariant h.between.outgoing in
-      let e : Event = Event.Resend (x.out.sender.reach + index) in
-      act_at_sender (Act.SentAgain index) (happens x.out e) (data_given (Act.SentAgain index) p) tt tt
-      (λ s n. n)
-      (after_event x e tt (λ n. n) tt h.sound_out h.other) resent.0 resent.1
-
   one_given : (act : Act) → GivesData act → Can act p → AfterOut x (done act p) (data_given act p)
   one_given (Act.Sent now) g can = act_sent now can
-  one_given (Act.SentAgain index) g can = act_sent_again index can
+  one_given (Act.SentAgain by index) g can =
+      let resent = pieces_are_given p by index x.out can h.sound_out.invariant h.between.outgoing in
+      let e : Event = Event.Resend (x.out.sender.reach + index) in
+      act_at_sender (Act.SentAgain by index) (happens x.out e) (data_given (Act.SentAgain by index) p) tt tt
+      (λ s n. n)
+      (after_event x e tt (λ n. n) tt h.sound_out h.other) resent.0 resent.1
   one_given act g can = absurd g
 
--- a SACK that acknowledges the first n pieces in flight, and those that its gap ack blocks name
-pub act_acknowledged : {x : Surroundings} {p : Parts} (n k : ℕ) (c : ChunkSelectiveAck) (sack : Sack) → Holds x p
+-- a SACK that acknowledges the first n pieces in flight and those that its gap ack blocks name, and reports some missing
+pub act_acknowledged : {x : Surroundings} {p : Parts} (n k missing : ℕ) (c : ChunkSelectiveAck) (sack : Sack) → Holds x p
     → slice_get x.out.sacks k ≡ Some sack → SaysWhatWasTaken p.history.own sack.reach sack.above c
-    → sack.reach ≡ x.out.sender.reach + n → Can (Act.Acknowledged n c.gap_ack_blocks) p
-    → (after : AfterOut x (done (Act.Acknowledged n c.gap_ack_blocks) p) []) × (IsWithin x.out → IsWithin after.out2)
+    → sack.reach ≡ x.out.sender.reach + n → Can (Act.Acknowledged n c.gap_ack_blocks missing) p
+    → (after : AfterOut x (done (Act.Acknowledged n c.gap_ack_blocks missing) p) []) × (IsWithin x.out → IsWithin after.out2)
     × (after.out2.sender.plan.places ≡ x.out.sender.plan.places)
 unfolding act_at_sender
-act_acknowledged {x} {p} n k c sack h e says at can = (
-  act_at_sender x p h (Act.Acknowledged n c.gap_ack_blocks) (happens x.out (Event.SackComes k)) [] tt tt
+act_acknowledged {x} {p} n k missing c sack h e says at can = (
+  act_at_sender x p h (Act.Acknowledged n c.gap_ack_blocks missing) (happens x.out (Event.SackComes k)) [] tt tt
       (λ s n. n)
       (after_event x (Event.SackComes k) tt (λ n. n) tt h.sound_out h.other)
-      (acknowledgements_are_alike p n k c sack x.out e says at can h.sound_out.invariant h.between.outgoing) tt,
+      (acknowledgements_are_alike p n k missing c sack x.out e says at can h.sound_out.invariant h.between.outgoing) tt,
   λ within. events_keep_the_limits x.out (Event.SackComes k) tt within,
   only_beginnings_assign x.out (Event.SackComes k) tt (λ n. n),
 )

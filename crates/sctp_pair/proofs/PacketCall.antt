@@ -12,7 +12,7 @@ use Rattle.sctp_assoc.specs.Leads.{parts}
 use Rattle.sctp_assoc.specs.Closing.{is_closed_state}
 use Rattle.sctp_assoc.specs.Chunks.{after_packet}
 use Rattle.sctp_sides.specs.Meeting.{IsNoEarlier, Stage, stage_of}
-use Rattle.sctp_sides.specs.Shapes.{Closes, EndsPacket, IsEnded, OfEachChunk}
+use Rattle.sctp_sides.specs.Shapes.{Closes, EndsPacket, OfEachChunk}
 use Rattle.sctp_assoc.specs.Shown.{Shown}
 use Rattle.sctp_sides.proofs.Proved.{lost_associations_take_nothing, no_packet_changes_nothing, packets_carry}
 use Rattle.sctp_sides.proofs.Proved.{the_same_handshake_is_the_same_stage}

@@ -181,7 +181,7 @@ sack_shape x a h c acts (inr s) (k, sack, e, says) within holds =
     let at : sack.reach ≡ x.out.sender.reach + s.count =
     sacks_mean_the_same (parts a h) s.count c.cumulative_tsn_ack k sack x.out e named.at s.at s.within within
     holds.sound_out.invariant holds.between.outgoing in
-    let one = act_acknowledged s.count k c sack holds e named at s.within in
+    let one = act_acknowledged s.count k s.missing c sack holds e named at s.within in
     subst (Goes_out x (parts a h)) (sym s.are) (one.0, one.1 within, one.2)
 
 sack_meets_nobody : (a : Shown) (h : History) (c : ChunkSelectiveAck) (acts : List Act)

@@ -1,6 +1,6 @@
 // Counts of an association.
 ghost use Rattle.std.specs.Prelude.{◌≡◌};
-ghost use Rattle.sctp_parts.specs.Stats.{one_more, no_counts};
+ghost use Rattle.sctp_parts.specs.Stats.{more_by, one_more, no_counts};
 
 use std::marker::Model;
 
@@ -103,11 +103,11 @@ impl AssociationStats {
         self.ack_timeouts
     }
 
-    /// Fast retransmission selected a DATA chunk (RFC 4960 section 7.2.4).
-    pub fn inc_fast_retrans(&mut self)
-        ensures { self.new ≡ record self.old { fast_retrans = one_more self.old.fast_retrans } }
+    /// Fast retransmission selected so many DATA chunks (RFC 4960 section 7.2.4).
+    pub fn add_fast_retrans(&mut self, count: u64)
+        ensures { self.new ≡ record self.old { fast_retrans = more_by count self.old.fast_retrans } }
     {
-        self.fast_retrans = self.fast_retrans.saturating_add(1);
+        self.fast_retrans = self.fast_retrans.saturating_add(count);
     }
 
     pub fn get_num_fast_retrans(&self) -> u64

@@ -40,6 +40,12 @@ use Rattle.sctp_fit.specs.Incoming.{tsn_before}
 use Rattle.sctp_assoc.specs.Calls.{is_beginning, is_cookie_wait, is_established}
 use Rattle.sctp_assoc.specs.Chunks.{counted_data, stream_found, with_new_stream}
 use Rattle.sctp_assoc.specs.Happened.{acts_of_ack, acts_of_checked, acts_of_chunk, acts_of_data_poll, acts_of_found}
+use Rattle.sctp_assoc.specs.Happened.{acts_of_missing}
+use Rattle.sctp_outbound.specs.Sacks.{reports_of}
+use Rattle.sctp_outbound.specs.Sender.{after_marked, fast_room}
+use Rattle.sctp_outbound_queue.specs.Message.{picks, room_taken}
+use Rattle.sctp_outbound_queue.specs.declared.message.Retransmission.{Retransmission}
+use Rattle.sctp_outbound_queue.specs.declared.message.Retransmission.TheVariants as causes
 use Rattle.sctp_assoc.specs.Happened.{acts_of_marks, acts_of_new, acts_of_outcome, acts_of_resending, acts_of_sending}
 use Rattle.sctp_assoc.specs.Happened.{acts_of_stream, acts_unless_refused, first_again, first_sent}
 use Rattle.sctp_assoc.specs.Timeouts.{after_handshake_timers}
@@ -115,27 +121,30 @@ data_is_taken a header piece = checked_acts (checked_chunk (chunks.Data piece)) 
 
 -- SACK
 
-outcome_acts : (o : SackOutcome) (n : ℕ) (blocks : List GapAckBlock)
-    → (acts_of_outcome o n blocks ≡ []) ⊎ (acts_of_outcome o n blocks ≡ Act.Acknowledged n blocks ∷ [])
-outcome_acts outcomes.Older n blocks = inl refl
-outcome_acts outcomes.NotInFlight n blocks = inl refl
-outcome_acts outcomes.NamesTheUnsent n blocks = inl refl
-outcome_acts outcomes.Taken n blocks = inr refl
+outcome_acts : (o : SackOutcome) (n : ℕ) (blocks : List GapAckBlock) (missing : ℕ)
+    → (acts_of_outcome o n blocks missing ≡ [])
+    ⊎ (acts_of_outcome o n blocks missing ≡ Act.Acknowledged n blocks missing ∷ [])
+outcome_acts outcomes.Older n blocks missing = inl refl
+outcome_acts outcomes.NotInFlight n blocks missing = inl refl
+outcome_acts outcomes.NamesTheUnsent n blocks missing = inl refl
+outcome_acts outcomes.Taken n blocks missing = inr refl
 
-sack_if : (established : Bool) (o : SackOutcome) (n : ℕ) (blocks : List GapAckBlock)
-    → ((if established then acts_of_outcome o n blocks else []) ≡ [])
-    ⊎ ((if established then acts_of_outcome o n blocks else []) ≡ Act.Acknowledged n blocks ∷ [])
-sack_if true o n blocks = outcome_acts o n blocks
-sack_if false o n blocks = inl refl
+sack_if : (established : Bool) (o : SackOutcome) (n : ℕ) (blocks : List GapAckBlock) (missing : ℕ)
+    → ((if established then acts_of_outcome o n blocks missing else []) ≡ [])
+    ⊎ ((if established then acts_of_outcome o n blocks missing else []) ≡ Act.Acknowledged n blocks missing ∷ [])
+sack_if true o n blocks missing = outcome_acts o n blocks missing
+sack_if false o n blocks missing = inl refl
 
 checked_sack : (r : Result (Unit {0}) Error) (a : Shown) (header : CommonHeader) (k : ChunkSelectiveAck)
     → (acts_of_checked r a header (chunks.SelectiveAck k) ≡ [])
     ⊎ (acts_of_checked r a header (chunks.SelectiveAck k)
-    ≡ Act.Acknowledged (tsns_up_to a.sender k.cumulative_tsn_ack) k.gap_ack_blocks ∷ [])
+    ≡ Act.Acknowledged (tsns_up_to a.sender k.cumulative_tsn_ack) k.gap_ack_blocks
+    (reports_of a.sender k.cumulative_tsn_ack k.gap_ack_blocks) ∷ [])
 checked_sack (Err fault) a header k = inl refl
 checked_sack (Ok done) a header k =
     sack_if (is_established a.state) (sack_outcome a.sender k.cumulative_tsn_ack k.gap_ack_blocks)
     (tsns_up_to a.sender k.cumulative_tsn_ack) k.gap_ack_blocks
+    (reports_of a.sender k.cumulative_tsn_ack k.gap_ack_blocks)
 
 -- a point that is n past the TSN before the first one in flight
 point_back : (own base t : ℕ)
@@ -150,11 +159,13 @@ sacks_acknowledge a h header sack binds =
     ⊎_elim
     (λ (e : acts_of_chunk a header (chunks.SelectiveAck sack) ≡ []). inl e)
     (λ (e : acts_of_chunk a header (chunks.SelectiveAck sack)
-    ≡ Act.Acknowledged (tsns_up_to a.sender sack.cumulative_tsn_ack) sack.gap_ack_blocks ∷ []).
+    ≡ Act.Acknowledged (tsns_up_to a.sender sack.cumulative_tsn_ack) sack.gap_ack_blocks
+    (reports_of a.sender sack.cumulative_tsn_ack sack.gap_ack_blocks) ∷ []).
     let leads = chunk_leads header (chunks.SelectiveAck sack) a triggers.None 0 h binds in
     let can = subst (λ zs. CanAll zs (parts a h)) e leads.1.can in
     inr (record {
       count = tsns_up_to a.sender sack.cumulative_tsn_ack;
+      missing = reports_of a.sender sack.cumulative_tsn_ack sack.gap_ack_blocks;
       are = e;
       within = can.0;
       at =
@@ -199,10 +210,10 @@ outcome_taken : (older beyond unsent : Bool) → older ≡ false → beyond ≡ 
     → outcome_of older beyond unsent ≡ outcomes.Taken
 outcome_taken older beyond unsent e f g = rw (e, f, g) refl
 
-taken_acts : (established : Bool) (o : SackOutcome) (n count : ℕ) (blocks : List GapAckBlock) → established ≡ true
-    → o ≡ outcomes.Taken → n ≡ count
-    → (if established then acts_of_outcome o n blocks else []) ≡ Act.Acknowledged count blocks ∷ []
-taken_acts established o n count blocks e f g = rw (e, f, g) refl
+taken_acts : (established : Bool) (o : SackOutcome) (n count : ℕ) (blocks : List GapAckBlock) (missing : ℕ)
+    → established ≡ true → o ≡ outcomes.Taken → n ≡ count
+    → (if established then acts_of_outcome o n blocks missing else []) ≡ Act.Acknowledged count blocks missing ∷ []
+taken_acts established o n count blocks missing e f g = rw (e, f, g) refl
 
 -- where each offset that is named is in flight, none is not
 none_unsent : (found : Bool) (n count flown : ℕ) (blocks : List GapAckBlock) → n ≡ count
@@ -231,7 +242,7 @@ taken_sacks_acknowledge a h header sack count established binds names =
     λ (none : count ≡ 0). at ∙ named_first h.own h.base ∙ ap (λ (n : ℕ). tsn_before (tsn h.own (h.base + n))) (sym none)
     ∙ sym names.at in
     taken_acts (is_established a.state) (sack_outcome a.sender t sack.gap_ack_blocks) (tsns_up_to a.sender t) count
-    sack.gap_ack_blocks established
+    sack.gap_ack_blocks (reports_of a.sender t sack.gap_ack_blocks) established
     (outcome_taken (tsn_gt acked t) (ltb (length a.sender.queue.in_flight) (tsns_up_to a.sender t))
     (names_unsent a.sender t sack.gap_ack_blocks)
     (not_behind acked t count past names.near first)
@@ -242,12 +253,13 @@ taken_sacks_acknowledge a h header sack count established binds names =
     past
 
 other_acts_of_sack : (established older beyond unsent : Bool) (n : ℕ) (blocks : List GapAckBlock)
+    (missing : ℕ)
     → (established ≡ false) ⊎ (older ≡ true)
-    → (if established then acts_of_outcome (outcome_of older beyond unsent) n blocks else []) ≡ []
-other_acts_of_sack false older beyond unsent n blocks other = refl
-other_acts_of_sack true true beyond unsent n blocks other = refl
-other_acts_of_sack true false beyond unsent n blocks (inl e) = absurd (false≢true (sym e))
-other_acts_of_sack true false beyond unsent n blocks (inr e) = absurd (false≢true e)
+    → (if established then acts_of_outcome (outcome_of older beyond unsent) n blocks missing else []) ≡ []
+other_acts_of_sack false older beyond unsent n blocks missing other = refl
+other_acts_of_sack true true beyond unsent n blocks missing other = refl
+other_acts_of_sack true false beyond unsent n blocks missing (inl e) = absurd (false≢true (sym e))
+other_acts_of_sack true false beyond unsent n blocks missing (inr e) = absurd (false≢true e)
 
 pub other_sacks_do_nothing : OtherSacksDoNothing
 other_sacks_do_nothing a h header sack binds other =
@@ -255,7 +267,7 @@ other_sacks_do_nothing a h header sack binds other =
     let t = sack.cumulative_tsn_ack in
     other_acts_of_sack (is_established a.state) (tsn_gt acked t)
     (ltb (length a.sender.queue.in_flight) (tsns_up_to a.sender t)) (names_unsent a.sender t sack.gap_ack_blocks)
-    (tsns_up_to a.sender t) sack.gap_ack_blocks
+    (tsns_up_to a.sender t) sack.gap_ack_blocks (reports_of a.sender t sack.gap_ack_blocks)
     (⊎_elim
     (λ (e : is_established a.state ≡ false). inl e)
     (λ (e : tsn_gt (tsn_before (tsn h.own h.base)) sack.cumulative_tsn_ack ≡ true).
@@ -322,13 +334,13 @@ give_if : (c : Bool) (xs ys : List Act) → AllByRecursion GivesData xs → AllB
 give_if true xs ys g h = g
 give_if false xs ys g h = h
 
-resending_gives : (index room : ℕ) (ps : List InFlight) → AllByRecursion GivesData (acts_of_resending index room ps)
-resending_gives index room [] = tt
-resending_gives index room (p ∷ ps) =
-    give_if (not p.retransmit) (acts_of_resending (index + 1) room ps) _ (resending_gives (index + 1) room ps)
-    (give_if (ltb room (length p.user_data)) []
-    (Act.SentAgain index ∷ acts_of_resending (index + 1) (room - length p.user_data) ps) tt
-    (tt, resending_gives (index + 1) (room - length p.user_data) ps))
+resending_gives : (by : Retransmission) (index room : ℕ) (ps : List InFlight) → AllByRecursion GivesData (acts_of_resending by index room ps)
+resending_gives by index room [] = tt
+resending_gives by index room (p ∷ ps) =
+    give_if (not (picks by p)) (acts_of_resending by (index + 1) room ps) _ (resending_gives by (index + 1) room ps)
+    (give_if (ltb room (room_taken by p)) []
+    (Act.SentAgain by index ∷ acts_of_resending by (index + 1) (room - room_taken by p) ps) tt
+    (tt, resending_gives by (index + 1) (room - room_taken by p) ps))
 
 first_again_gives : (ps : List InFlight) → AllByRecursion GivesData (first_again ps)
 first_again_gives [] = tt
@@ -354,10 +366,16 @@ new_gives s out now =
 
 data_poll_gives : (a : Shown) (now : ℕ) → AllByRecursion GivesData (acts_of_data_poll a now)
 data_poll_gives a now =
-    all_join GivesData (acts_of_marks a.sender) (acts_of_new (after_resending a.sender) (resent_by a.sender) now)
+    let s = after_marked a.sender in
+    all_join GivesData (acts_of_marks a.sender ++ acts_of_missing s)
+    (acts_of_new (after_resending a.sender) (resent_by a.sender) now)
+    (all_join GivesData (acts_of_marks a.sender) (acts_of_missing s)
     (give_if (resends_alone a.sender) (first_again a.sender.queue.in_flight)
-    (acts_of_resending 0 (both_windows a.sender) a.sender.queue.in_flight)
-    (first_again_gives a.sender.queue.in_flight) (resending_gives 0 (both_windows a.sender) a.sender.queue.in_flight))
+    (acts_of_resending causes.Timer 0 (both_windows a.sender) a.sender.queue.in_flight)
+    (first_again_gives a.sender.queue.in_flight)
+    (resending_gives causes.Timer 0 (both_windows a.sender) a.sender.queue.in_flight))
+    (give_if s.is_fast_due (acts_of_resending causes.Fast 0 (fast_room s) s.queue.in_flight) []
+    (resending_gives causes.Fast 0 (fast_room s) s.queue.in_flight) tt))
     (new_gives (after_resending a.sender) (resent_by a.sender) now)
 
 pub polls_give_and_report : PollsGiveAndReport

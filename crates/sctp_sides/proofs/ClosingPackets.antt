@@ -1,6 +1,6 @@
 -- A packet closes an association exactly where it is open and a chunk of the packet is a fault.
 use Rattle.std.proofs.Common.{◌≡◌, refl, sym, ap, ◌∙◌, ℕ, ◌+◌, arith, Bool, true, false, not, ◌&&◌, if◌then◌else◌, List}
-use Rattle.std.proofs.Common.{[], ◌∷◌, ◌++◌, map, nat_lt, Option, Some, None, Result, Ok, Err, is_some}
+use Rattle.std.proofs.Common.{[], ◌∷◌, ◌++◌, map, Option, Some, None, Result, Ok, Err, is_some}
 use Rattle.std.proofs.lemmas.Bool.{false≢true}
 use Rattle.std.proofs.lemmas.List.Sums.{sum_by-append, sum_by-cons}
 use Rattle.sctp_wire_types.specs.declared.chunk.Chunk.{Chunk}
@@ -36,7 +36,7 @@ use Rattle.sctp_outbound.specs.declared.sender.SackOutcome.TheVariants as outcom
 use Rattle.sctp_wire_types.specs.declared.chunk.GapAckBlock.{GapAckBlock}
 use Rattle.sctp_outbound.specs.Sacks.{progress_of, sack_taken}
 use Rattle.sctp_streams.specs.LowMarks.{fallen, low_event}
-use Rattle.sctp_outbound.specs.Sender.{acknowledged, tsns_up_to, sack_outcome, with_window}
+use Rattle.sctp_outbound.specs.Sender.{sack_outcome}
 use Rattle.sctp_assoc.specs.declared.inbound.Flow.{Flow}
 use Rattle.sctp_assoc.specs.declared.inbound.Flow.TheVariants as flows
 use Rattle.sctp_assoc.specs.Calls.{is_beginning, is_cookie_echoed, is_cookie_wait}

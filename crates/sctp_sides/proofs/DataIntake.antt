@@ -433,7 +433,7 @@ sack_no_data : (acts : List Act) (a : Shown) (h : History) (sack : ChunkSelectiv
 sack_no_data acts a h sack index piece m e =
     ⊎_elim (λ (n : acts ≡ []). no_acts acts index piece n e)
     (λ (n : Acknowledges a h sack acts).
-    one_act acts (Act.Acknowledged n.count sack.gap_ack_blocks) index piece refl n.are e) m
+    one_act acts (Act.Acknowledged n.count sack.gap_ack_blocks n.missing) index piece refl n.are e) m
 
 pub nothing_else_is_taken_in : NothingElseIsTakenIn
 nothing_else_is_taken_in a h header (chunks.Data piece) index came binds e =

@@ -27,6 +27,7 @@ use Rattle.sctp_assoc.specs.Handshake.{after_t1_init, sends_cookie, sends_init, 
 use Rattle.sctp_assoc.specs.Timeouts.{after_handshake_timers}
 use Rattle.sctp_sides.specs.Laws.{DueSacksGoOut, PollsDoNotClose, SacksAreSpelled, SacksOfferTheBuffer}
 use Rattle.sctp_sides.specs.Laws.{SacksNameThePoint, SacksSayWhatWasTaken, TellsNothing, TimersDoNotClose}
+use Rattle.sctp_assoc.specs.Gather.{fast_counted}
 use Rattle.sctp_assoc.specs.Gather.{ack_after, ack_polled, control_packets, data_packets, data_polled, exchange_polled}
 use Rattle.sctp_assoc.specs.Gather.{is_due, packet_bytes, packet_with, sack_chunk, sack_packet, spelled, with_sent_data}
 use Rattle.sctp_assoc.specs.Gather.{without_control}
@@ -44,7 +45,7 @@ open_on : (a b c : Shown) → TellsNothing a b → TellsNothing b c → TellsNot
 open_on a b c m n = record { state = n.state ∙ m.state; lost = n.lost ∙ m.lost; events = n.events ∙ m.events }
 
 sent_data_open : (a : Shown) (count now : ℕ) (x : Sender × List ChunkPayloadData)
-    → TellsNothing a (with_sent_data a count now x).0
+    → TellsNothing a (with_sent_data (fast_counted a) count now x).0
 sent_data_open a count now (s, pieces) = record { state = refl; lost = refl; events = refl }
 
 data_open : (a : Shown) (now : ℕ) → TellsNothing a (data_polled a now).0

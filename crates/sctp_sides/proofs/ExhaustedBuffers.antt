@@ -1,12 +1,11 @@
 -- When a receive buffer is exhausted, by what came and what can be read, and which DATA tells of it.
-use Rattle.std.proofs.Common.{◌≡◌, ◌⊎◌, ⊎_elim, inl, inr, refl, sym, ap, ◌∙◌, subst, ℕ, ◌<◌, ◌≤◌, ◌-◌, arith}
+use Rattle.std.proofs.Common.{◌≡◌, ⊎_elim, refl, sym, ap, ◌∙◌, subst, ℕ, ◌<◌, ◌≤◌, ◌-◌, arith}
 use Rattle.std.proofs.Common.{Bool, true, false, eqb, ltb, not, ◌&&◌, ◌||◌, if◌then◌else◌, List, [], ◌∷◌, length}
 use Rattle.std.proofs.Common.{slice_get, is_some, Option, Some, None}
 use Rattle.std.specs.List.{AllByRecursion, list_any}
 use Rattle.std.proofs.lemmas.Bool.{and_from, and_parts, cases_Bool, eq-eqb, eqb-true, false≢true, lt-ltb, ltb-false}
 use Rattle.std.proofs.lemmas.Bool.{ltb-true, or_cases, or_left, or_right, true≢false}
 use Rattle.sctp_serial.specs.Serial.{tsn}
-use Rattle.sctp_wire_types.specs.declared.chunk.Chunk.TheVariants as chunks
 use Rattle.sctp_wire_types.specs.declared.chunk.ChunkPayloadData.{ChunkPayloadData}
 use Rattle.sctp_wire_types.specs.declared.error.Error.{Error}
 use Rattle.sctp_wire_types.specs.declared.packet.CommonHeader.{CommonHeader}
@@ -17,28 +16,27 @@ use Rattle.sctp_receive_queues.specs.Reassembly.{Group, Reassembly, after_read, 
 use Rattle.sctp_receive_queues.specs.Reassembly.{read_ordered, ready, taken}
 use Rattle.sctp_receive_queues.proofs.ReadyMessages.{reads_give_what_is_ready}
 use Rattle.sctp_streams.specs.Stream.{StreamView, gives_messages, is_read_half_open}
-use Rattle.sctp_streams.specs.Streams.{StreamMap, bytes_waiting, generation_left, live_streams, pushed_in, refusal_in}
+use Rattle.sctp_streams.specs.Streams.{bytes_waiting, generation_left, live_streams, pushed_in, refusal_in}
 use Rattle.sctp_streams.specs.Streams.{some_gives_messages, stream_at}
 use Rattle.sctp_inbound.specs.declared.receiver.AckTrigger.{AckTrigger}
 use Rattle.sctp_inbound.specs.Held.{has_gap}
 use Rattle.sctp_inbound.specs.declared.receiver.Receiver.{Receiver}
 use Rattle.sctp_inbound.specs.Receiver.{credit_of, taken_to}
-use Rattle.sctp_fit.specs.HeldSet.{HoldsPast, IsPast}
+use Rattle.sctp_fit.specs.HeldSet.{IsPast}
 use Rattle.sctp_fit.specs.Incoming.{Receiving, reach_of}
-use Rattle.sctp_directions.specs.Acts.{Act, History, IsNewTsn, Parts, done_all, reach_in}
-use Rattle.sctp_assoc.specs.Leads.{Binds, Leads, parts}
+use Rattle.sctp_directions.specs.Acts.{History, reach_in}
+use Rattle.sctp_assoc.specs.Leads.{Binds, parts}
 use Rattle.sctp_assoc.specs.declared.inbound.Flow.{Flow}
 use Rattle.sctp_assoc.specs.declared.inbound.Flow.TheVariants as flows
 use Rattle.sctp_assoc.specs.Chunks.{asks, asks_or_faults, counted_data, on_data, on_new_data, stream_found, taken_in}
 use Rattle.sctp_assoc.specs.Chunks.{taken_unless, told, with_message}
 use Rattle.sctp_assoc.specs.Closing.{is_exhausted}
-use Rattle.sctp_assoc.specs.Happened.{acts_of_data}
 use Rattle.sctp_assoc.specs.Shown.{Shown}
 use Rattle.sctp_sides.specs.Causes.{IsFullForGood, IsUnreadable, LeavesNothingToRead}
-use Rattle.sctp_sides.specs.Intake.{HasStreamFor, MayTakeIn, receive_limit, refusal_of}
+use Rattle.sctp_sides.specs.Intake.{receive_limit, refusal_of}
 use Rattle.sctp_assoc.proofs.CallsLeadOn.{asks_keeps, asks_same, next_leads}
 use Rattle.sctp_assoc.proofs.DataCame.{from_new_tsn, new_tsn}
-use Rattle.sctp_sides.proofs.DataIntake.{Found, Passes, asks_flow, exhausts_of, has_room, is_found, is_new, may_passes}
+use Rattle.sctp_sides.proofs.DataIntake.{Found, asks_flow, exhausts_of, has_room, is_found, is_new, may_passes}
 use Rattle.sctp_sides.proofs.DataIntake.{passes_may, stream_is_found}
 
 -- A stream gives a message exactly where one is ready.

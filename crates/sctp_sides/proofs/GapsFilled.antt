@@ -1,12 +1,10 @@
 -- A TSN that is held is farther past the point than a new one exactly where an offset past the new one's came.
-use Rattle.std.proofs.Common.{◌≡◌, sym, ap, ◌∙◌, subst, ⊎_elim, ℕ, suc, ◌<◌, ◌≤◌, ◌+◌, arith, Bool, true, eqb, ltb}
-use Rattle.std.proofs.Common.{List, [], ◌∷◌}
-use Rattle.std.specs.List.{AllByRecursion, list_any}
-use Rattle.std.proofs.lemmas.Bool.{eqb-true, false≢true, lt-ltb, ltb-true, or_cases, or_left, or_right}
+use Rattle.std.proofs.Common.{◌≡◌, sym, ◌∙◌, subst, ℕ, suc, ◌<◌, ◌≤◌, ◌+◌, arith, true, ltb}
+use Rattle.std.proofs.Common.{List}
+use Rattle.std.proofs.lemmas.Bool.{lt-ltb, ltb-true}
 use Rattle.sctp_serial.specs.Serial.{tsn, tsn_past}
 use Rattle.sctp_streams.specs.Streams.{StreamMap}
 use Rattle.sctp_inbound.specs.Held.{is_passed}
-use Rattle.sctp_model.specs.Packets.{mem}
 use Rattle.sctp_fit.specs.HeldSet.{HoldsPast, IsPast, point_of}
 use Rattle.sctp_fit.proofs.HeldTsns.{any_from, any_in, before, held_is, spells}
 use Rattle.sctp_directions.specs.Acts.{History, IsNewTsn, offset_in, reach_in}

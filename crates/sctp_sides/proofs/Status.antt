@@ -31,7 +31,8 @@ use Rattle.sctp_outbound.specs.declared.sender.Sender.{Sender}
 use Rattle.sctp_wire_types.specs.declared.chunk.GapAckBlock.{GapAckBlock}
 use Rattle.sctp_assoc.proofs.ActsKeepOffsets.{blocks_size}
 use Rattle.sctp_outbound.specs.Sender.{acknowledged, after_first, after_resending, can_send_next, tsns_up_to, resent_by}
-use Rattle.sctp_outbound.specs.Sender.{sack_outcome, sender_after, sent_new, sent_one, sent_within, with_window}
+use Rattle.sctp_outbound.specs.Sacks.{before_point}
+use Rattle.sctp_outbound.specs.Sender.{sack_outcome, sender_after, sent_new, sent_one, sent_within}
 use Rattle.sctp_wire_types.specs.declared.ids.PayloadProtocolIdentifier.{PayloadProtocolIdentifier}
 use Rattle.sctp_assoc.specs.Calls.{accepted_from, after_ack_delay, after_t3, event_from, is_beginning, is_cookie_echoed}
 use Rattle.sctp_assoc.specs.Calls.{is_cookie_wait, is_established, retransmits, t3_expired, written_at}
@@ -42,7 +43,7 @@ use Rattle.sctp_assoc.specs.Handshake.{after_t1_init, cookie_queued, echoed, inf
 use Rattle.sctp_assoc.specs.Handshake.{on_cookie_ack, on_cookie_echo, on_heartbeat, on_init, on_init_ack, sends_cookie}
 use Rattle.sctp_assoc.specs.Handshake.{sends_init, t1_cookie_expired, t1_init_expired}
 use Rattle.sctp_assoc.specs.Gather.{ack_after, ack_polled, control_packets, data_packets, data_polled, exchange_polled}
-use Rattle.sctp_assoc.specs.Gather.{is_due, packet_with, with_sent_data, without_control}
+use Rattle.sctp_assoc.specs.Gather.{fast_counted, is_due, packet_with, with_sent_data, without_control}
 use Rattle.sctp_assoc.specs.Timeouts.{after_handshake_timers}
 use Rattle.sctp_sides.specs.Shapes.{IsSameStatus, KeepsWorking, Leaves, OpenedStreamsKeepTheStatus, PollsKeepTheStatus}
 use Rattle.sctp_sides.specs.Shapes.{ReadsKeepTheStatus, TimersKeepTheStatus, ToldEventsKeepTheStatus}
@@ -183,8 +184,10 @@ outcome_status outcomes.NamesTheUnsent a point blocks window trigger now = statu
 outcome_status outcomes.Taken a point blocks window trigger now =
     status_by a _ refl refl refl
     (blocks_size now blocks
-    (acknowledged (tsns_up_to a.sender point) now (with_window a.sender window, a.estimate, a.streams))
-    ∙ acknowledged_size (tsns_up_to a.sender point) now (with_window a.sender window) a.estimate a.streams)
+    (acknowledged (tsns_up_to a.sender point) now
+    (before_point (tsns_up_to a.sender point) window a.sender, a.estimate, a.streams))
+    ∙ acknowledged_size (tsns_up_to a.sender point) now (before_point (tsns_up_to a.sender point) window a.sender)
+    a.estimate a.streams)
     refl refl refl
 
 sack_status : (established : Bool) (a : Shown) (point : ℕ) (blocks : List GapAckBlock) (window : ℕ)
@@ -350,7 +353,7 @@ sent_new_size s out now =
 
 sent_data_status : (a : Shown) (count now : ℕ) (x : Sender × List ChunkPayloadData)
     → x.0.max_payload_size ≡ a.sender.max_payload_size
-    → IsSameStatus a (with_sent_data a count now x).0
+    → IsSameStatus a (with_sent_data (fast_counted a) count now x).0
 sent_data_status a count now (s, pieces) e = status_by a _ refl refl refl e refl refl refl
 
 data_polled_status : (a : Shown) (now : ℕ) → IsSameStatus a (data_polled a now).0

@@ -1,9 +1,9 @@
 -- The live streams of an association, by their identifiers, once one of them was changed or made.
 use Rattle.std.proofs.Common.{◌≡◌, refl, sym, ap, ◌∙◌, ℕ, Bool, true, false, cond, eqb, if◌then◌else◌, List, [], ◌∷◌}
-use Rattle.std.proofs.Common.{Option, Some, None, is_some, ⊎_elim, arith, Ordering, Less, Equal, Greater, nat_cmp}
+use Rattle.std.proofs.Common.{Option, Some, None, is_some, arith, Ordering, Less, Equal, Greater, nat_cmp}
 use Rattle.std.proofs.Common.{is_eq}
 use Rattle.std.specs.Ordering.{match_ordering}
-use Rattle.std.proofs.lemmas.Bool.{cases_Bool, eqb-true, true≢false, cond-false}
+use Rattle.std.proofs.lemmas.Bool.{eqb-true, true≢false, cond-false}
 use Rattle.std.proofs.lemmas.Bool.Decides.{nat_tests}
 use Rattle.std.specs.BTreeMap.{is_at, insert_entry}
 use Rattle.std.specs.Map.{lookup, set_value}

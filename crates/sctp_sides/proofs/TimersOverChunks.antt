@@ -1,5 +1,5 @@
 -- The chunks of a packet keep the timers where they should run, and a fault stops them all.
-use Rattle.std.proofs.Common.{◌≡◌, refl, sym, ap, ◌∙◌, ◌⊎◌, inl, inr, ℕ, zero, suc, ◌<◌, ◌+◌, arith, Bool, true, false}
+use Rattle.std.proofs.Common.{◌≡◌, refl, sym, ap, ◌∙◌, ◌⊎◌, inl, inr, ℕ, ◌<◌, arith, Bool, true, false}
 use Rattle.std.proofs.Common.{ltb, if◌then◌else◌, List, [], ◌∷◌, length, Option, Some, None, is_some, Result, Ok}
 use Rattle.std.proofs.Common.{Err}
 use Rattle.std.proofs.lemmas.Bool.{false≢true, ltb-false, ltb-true, true≢false}
@@ -31,7 +31,6 @@ use Rattle.sctp_outbound.specs.declared.sender.Sender.{Sender}
 use Rattle.sctp_outbound.specs.declared.sender.SackOutcome.{SackOutcome}
 use Rattle.sctp_outbound.specs.declared.sender.SackOutcome.TheVariants as outcomes
 use Rattle.sctp_wire_types.specs.declared.chunk.GapAckBlock.{GapAckBlock}
-use Rattle.sctp_received.specs.Received.{is_named}
 use Rattle.sctp_outbound.specs.Sacks.{progress_of, sack_taken}
 use Rattle.sctp_outbound.specs.Sender.{sack_outcome, t3_after_sack, t3_cleared, t3_disarmed, t3_forgiven}
 use Rattle.sctp_outbound.specs.declared.progress.Progress.{Progress}
@@ -50,7 +49,7 @@ use Rattle.sctp_sides.specs.OneSide.{is_delayed}
 use Rattle.sctp_assoc.specs.Shown.{Shown}
 use Rattle.sctp_assoc.proofs.CallsLeadOn.{asks_same}
 use Rattle.sctp_sides.proofs.TimersRun.{AtRest, FitsTimers, IsSameTime, Ticks, ack_kept, established_begins_no_more}
-use Rattle.sctp_sides.proofs.TimersRun.{fits_as_many, fits_restarted, none_armed, restarted, restarted_keeps_ack}
+use Rattle.sctp_sides.proofs.TimersRun.{fits_restarted, none_armed, restarted, restarted_keeps_ack}
 use Rattle.sctp_sides.proofs.TimersRun.{same_time, ticks_by, time_by, time_on}
 use Rattle.sctp_assoc.proofs.CallsLeadOn.{asks_keeps}
 use Rattle.sctp_assoc.specs.Closing.{out_of_resource}

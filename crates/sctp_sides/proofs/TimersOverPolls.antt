@@ -11,7 +11,11 @@ use Rattle.sctp_parts.specs.Timers.{restarted_if_stale}
 use Rattle.sctp_inbound.specs.Handshake.{header_of}
 use Rattle.sctp_sides.specs.OneSide.{is_delayed}
 use Rattle.sctp_outbound_queue.specs.declared.message.InFlight.{InFlight}
-use Rattle.sctp_outbound_queue.specs.Message.{counted_again, sent_once}
+use Rattle.sctp_outbound_queue.specs.declared.message.Retransmission.{Retransmission}
+use Rattle.sctp_outbound_queue.specs.declared.message.Retransmission.TheVariants as causes
+use Rattle.sctp_outbound.specs.Sender.{after_marked, fast_room}
+use Rattle.sctp_assoc.specs.Gather.{fast_counted}
+use Rattle.sctp_outbound_queue.specs.Message.{counted_again, picks, room_taken, sent_once}
 use Rattle.sctp_outbound_queue.specs.Waiting.{Waiting}
 use Rattle.sctp_outbound_queue.specs.Outbound.{Outbound, next_tsn_of, pieces_waiting, sent_from}
 use Rattle.sctp_outbound.specs.declared.sender.Sender.{Sender}
@@ -79,13 +83,13 @@ length_if : (c : Bool) (x y : List InFlight) (n : ℕ) → length x ≡ n → le
 length_if true x y n e f = e
 length_if false x y n e f = f
 
-resent_length : (ps : List InFlight) (room : ℕ) → length (resent_pieces room ps) ≡ length ps
-resent_length [] room = refl
-resent_length (p ∷ ps) room =
-    length_if (not p.retransmit) (p ∷ resent_pieces room ps) _ (length (p ∷ ps)) (ap suc (resent_length ps room))
-    (length_if (ltb room (length p.user_data)) (p ∷ ps)
-    (counted_again p ∷ resent_pieces (room - length p.user_data) ps) (length (p ∷ ps)) refl
-    (ap suc (resent_length ps (room - length p.user_data))))
+resent_length : (by : Retransmission) (ps : List InFlight) (room : ℕ) → length (resent_pieces by room ps) ≡ length ps
+resent_length by [] room = refl
+resent_length by (p ∷ ps) room =
+    length_if (not (picks by p)) (p ∷ resent_pieces by room ps) _ (length (p ∷ ps)) (ap suc (resent_length by ps room))
+    (length_if (ltb room (room_taken by p)) (p ∷ ps)
+    (counted_again by p ∷ resent_pieces by (room - room_taken by p) ps) (length (p ∷ ps)) refl
+    (ap suc (resent_length by ps (room - room_taken by p))))
 
 first_length : (ps : List InFlight) → length (first_counted ps) ≡ length ps
 first_length [] = refl
@@ -93,9 +97,14 @@ first_length (p ∷ ps) = refl
 
 resending_keeps_as_many : (s : Sender) → length (after_resending s).queue.in_flight ≡ length s.queue.in_flight
 resending_keeps_as_many s =
-    length_if (resends_alone s) (first_counted s.queue.in_flight) (resent_pieces (both_windows s) s.queue.in_flight)
+    let t = after_marked s in
+    let marked : length (after_marked s).queue.in_flight ≡ length s.queue.in_flight =
+    length_if (resends_alone s) (first_counted s.queue.in_flight)
+    (resent_pieces causes.Timer (both_windows s) s.queue.in_flight)
     (length s.queue.in_flight)
-    (first_length s.queue.in_flight) (resent_length s.queue.in_flight (both_windows s))
+    (first_length s.queue.in_flight) (resent_length causes.Timer s.queue.in_flight (both_windows s)) in
+    length_if t.is_fast_due (resent_pieces causes.Fast (fast_room t) t.queue.in_flight) t.queue.in_flight
+    (length s.queue.in_flight) (resent_length causes.Fast t.queue.in_flight (fast_room t) ∙ marked) marked
 
 -- A poll
 
@@ -118,7 +127,7 @@ polls_bring s now = ⊎_elim
 sent_if : (sent : Bool) (a : Shown) (now : ℕ) (s : Sender) → is_beginning a.state ≡ false
     → ((length s.queue.in_flight ≡ length a.sender.queue.in_flight) × (sent ≡ false))
     ⊎ ((0 < length s.queue.in_flight) × (sent ≡ true)) → Ticks a
-    → Ticks (record a { sender = s; timers = t3_after_sending sent now a.estimate.rto a.timers })
+    → Ticks (let b = fast_counted a in record b { sender = s; timers = t3_after_sending sent now a.estimate.rto a.timers })
 sent_if false a now s b (inl (e, n)) h = record {
   working = h.working;
   not_lost = h.not_lost;
@@ -138,7 +147,7 @@ sent_if true a now s b (inr (p, n)) h = record {
 
 sent_data_ticks : (a : Shown) (count now : ℕ) (x : Sender × List ChunkPayloadData) → is_beginning a.state ≡ false
     → Brings (length a.sender.queue.in_flight) count x → Ticks a
-    → Ticks (with_sent_data a count now x).0
+    → Ticks (with_sent_data (fast_counted a) count now x).0
 sent_data_ticks a count now (s, pieces) b g h = sent_if (ltb count (length pieces)) a now s b g h
 
 data_ticks : (a : Shown) (now : ℕ) → is_established a.state ≡ true → Ticks a → Ticks (data_polled a now).0

@@ -16,6 +16,8 @@ use Rattle.sctp_outbound_queue.specs.declared.message.InFlight.{InFlight}
 use Rattle.sctp_outbound_queue.specs.Outbound.{Outbound, next_tsn_of, pieces_waiting}
 use Rattle.sctp_inbound.specs.Handshake.{header_of}
 use Rattle.sctp_outbound.specs.declared.sender.Sender.{Sender}
+use Rattle.sctp_assoc.specs.Gather.{fast_counted}
+use Rattle.sctp_outbound.specs.Sender.{missing_by, with_in_flight}
 use Rattle.sctp_outbound.specs.Sender.{after_resending, can_send_next, next_chunk_of, resent_by, sent_new, sent_one}
 use Rattle.sctp_outbound.specs.Sender.{sent_within}
 use Rattle.sctp_directions.specs.Acts.{all_data_given}
@@ -86,10 +88,21 @@ new_first_if : (c : Bool) (s : Sender) (m : Waiting) (ms : List Waiting) (now : 
 new_first_if false s m ms now e = one_first m ms (standing s m ms) now
 new_first_if true s m ms now e = rw (some_wait m ms) (within_first _ m ms (standing s m ms) now refl e)
 
+none_anyway : {A : Type 0} (c : Bool) → ◌≡◌ {A = List A} (if c then [] else []) []
+none_anyway true = refl
+none_anyway false = refl
+
 new_first : (s : Sender) (m : Waiting) (ms : List Waiting) (now : ℕ)
     → slice_get (sent_new (after_resending (standing s m ms)) (resent_by (standing s m ms)) now).1 0
     ≡ Some (next_chunk_of m (next_tsn_of (standing s m ms).queue))
-new_first s m ms now = new_first_if (can_send_next (standing s m ms)) s m ms now refl
+new_first s m ms now =
+    let t : Sender = record s { is_fast_due = false } in
+    subst (λ (flown : List InFlight).
+    slice_get (sent_new (with_in_flight (standing t m ms) flown) (missing_by (standing s m ms)) now).1 0
+    ≡ Some (next_chunk_of m (next_tsn_of (standing s m ms).queue))) (sym (none_anyway s.is_fast_due))
+    (subst (λ (out : List ChunkPayloadData). slice_get (sent_new (standing t m ms) out now).1 0
+    ≡ Some (next_chunk_of m (next_tsn_of (standing s m ms).queue))) (sym (none_anyway s.is_fast_due))
+    (new_first_if (can_send_next (standing t m ms)) t m ms now refl))
 
 sender_first : (s t : Sender) (m : Waiting) (now : ℕ) → s ≡ t
     → slice_get (sent_new (after_resending t) (resent_by t) now).1 0 ≡ Some (next_chunk_of m (next_tsn_of t.queue))
@@ -104,7 +117,7 @@ pub what_waits_is_polled : WhatWaitsIsPolled
 unfolding data_polled
 what_waits_is_polled a now m next =
     ap (λ (z : List ChunkPayloadData). slice_get z 0)
-    (sent_data_said a (length (resent_by a.sender)) now (sent_new (after_resending a.sender) (resent_by a.sender) now))
+    (sent_data_said (fast_counted a) (length (resent_by a.sender)) now (sent_new (after_resending a.sender) (resent_by a.sender) now))
     ∙ sender_first a.sender (standing a.sender m next.others) m now
     (stands a.sender m next.others next.waits next.flown) (new_first a.sender m next.others now)
 

@@ -12,6 +12,11 @@ use Rattle.sctp_outbound_queue.specs.Message.{accepted, is_of, sent_once}
 use Rattle.sctp_outbound_queue.specs.Waiting.{Waiting}
 use Rattle.sctp_outbound_queue.specs.Outbound.{Outbound, left_behind, pieces_waiting, sent_from}
 use Rattle.sctp_outbound.specs.declared.sender.Sender.{Sender}
+use Rattle.sctp_outbound_queue.specs.declared.message.Retransmission.{Retransmission}
+use Rattle.sctp_outbound_queue.specs.declared.message.Retransmission.TheVariants as causes
+use Rattle.sctp_outbound_queue.specs.Message.{counted_again, picks, room_taken}
+use Rattle.sctp_assoc.specs.Gather.{fast_counted}
+use Rattle.sctp_outbound.specs.Sender.{after_marked, fast_room}
 use Rattle.sctp_outbound.specs.Sender.{after_resending, both_windows, can_send_next, first_counted, resends_alone}
 use Rattle.sctp_outbound.specs.Sender.{resent_by, resent_pieces, sent_new, sent_one, sent_within, with_in_flight}
 use Rattle.sctp_outbound.proofs.SenderSteps.{pieces_full, pieces_sent, pieces_skip}
@@ -104,21 +109,26 @@ new_held_if false s out now number held = within_held (pieces_waiting s.queue.pe
 
 -- Pieces go out again.
 
-pieces_same : (ps : List InFlight) (room number : ℕ)
-    → list_any (is_of number) (resent_pieces room ps) ≡ list_any (is_of number) ps
-pieces_same [] room number = refl
-pieces_same (p ∷ ps) room number = ⊎_elim
-    (λ (marked : p.retransmit ≡ true). ⊎_elim
-    (λ (full : nat_lt room (length p.user_data) ≡ true).
-    ap (list_any (is_of number)) (pieces_full p ps room marked full))
-    (λ (fits : nat_lt room (length p.user_data) ≡ false).
-    ap (list_any (is_of number)) (pieces_sent p ps room marked fits)
-    ∙ ap (λ (b : Bool). is_of number p || b) (pieces_same ps (room - length p.user_data) number))
-    (cases_Bool (nat_lt room (length p.user_data))))
-    (λ (unmarked : p.retransmit ≡ false).
-    ap (list_any (is_of number)) (pieces_skip p ps room unmarked)
-    ∙ ap (λ (b : Bool). is_of number p || b) (pieces_same ps room number))
-    (cases_Bool p.retransmit)
+of_again : (by : Retransmission) (p : InFlight) (number : ℕ) → is_of number (counted_again by p) ≡ is_of number p
+of_again causes.Timer p number = refl
+of_again causes.Fast p number = refl
+
+pieces_same : (by : Retransmission) (ps : List InFlight) (room number : ℕ)
+    → list_any (is_of number) (resent_pieces by room ps) ≡ list_any (is_of number) ps
+pieces_same by [] room number = refl
+pieces_same by (p ∷ ps) room number = ⊎_elim
+    (λ (marked : picks by p ≡ true). ⊎_elim
+    (λ (full : nat_lt room (room_taken by p) ≡ true).
+    ap (list_any (is_of number)) (pieces_full by p ps room marked full))
+    (λ (fits : nat_lt room (room_taken by p) ≡ false).
+    ap (list_any (is_of number)) (pieces_sent by p ps room marked fits)
+    ∙ ap (λ (b : Bool). b || list_any (is_of number) (resent_pieces by (room - room_taken by p) ps)) (of_again by p number)
+    ∙ ap (λ (b : Bool). is_of number p || b) (pieces_same by ps (room - room_taken by p) number))
+    (cases_Bool (nat_lt room (room_taken by p))))
+    (λ (unmarked : picks by p ≡ false).
+    ap (list_any (is_of number)) (pieces_skip by p ps room unmarked)
+    ∙ ap (λ (b : Bool). is_of number p || b) (pieces_same by ps room number))
+    (cases_Bool (picks by p))
 
 first_same : (ps : List InFlight) (number : ℕ) → list_any (is_of number) (first_counted ps) ≡ list_any (is_of number) ps
 first_same [] number = refl
@@ -127,10 +137,18 @@ first_same (p ∷ ps) number = refl
 resent_same : (c : Bool) (s : Sender) (number : ℕ)
     → is_held
     (with_in_flight s (if c then first_counted s.queue.in_flight else
-    resent_pieces (both_windows s) s.queue.in_flight)).queue number ≡ is_held s.queue number
+    resent_pieces causes.Timer (both_windows s) s.queue.in_flight)).queue number ≡ is_held s.queue number
 resent_same true s number = ap (λ (b : Bool). waits number s.queue.pending || b) (first_same s.queue.in_flight number)
 resent_same false s number =
-    ap (λ (b : Bool). waits number s.queue.pending || b) (pieces_same s.queue.in_flight (both_windows s) number)
+    ap (λ (b : Bool). waits number s.queue.pending || b) (pieces_same causes.Timer s.queue.in_flight (both_windows s) number)
+
+missing_same : (c : Bool) (s : Sender) (number : ℕ)
+    → is_held
+    (with_in_flight s (if c then resent_pieces causes.Fast (fast_room s) s.queue.in_flight else
+    s.queue.in_flight)).queue number ≡ is_held s.queue number
+missing_same true s number =
+    ap (λ (b : Bool). waits number s.queue.pending || b) (pieces_same causes.Fast s.queue.in_flight (fast_room s) number)
+missing_same false s number = refl
 
 -- A poll.
 
@@ -144,8 +162,9 @@ unfolding data_polled
 data_held a now number held =
     let s = after_resending a.sender in
     let x = sent_new s (resent_by a.sender) now in
-    ap (λ (t : Sender). is_held t.queue number) (sent_data_sender a (length (resent_by a.sender)) now x)
-    ∙ new_held_if _ s (resent_by a.sender) now number (resent_same (resends_alone a.sender) a.sender number ∙ held)
+    ap (λ (t : Sender). is_held t.queue number) (sent_data_sender (fast_counted a) (length (resent_by a.sender)) now x)
+    ∙ new_held_if _ s (resent_by a.sender) now number (missing_same a.sender.is_fast_due (after_marked a.sender) number
+    ∙ resent_same (resends_alone a.sender) a.sender number ∙ held)
 
 ack_sender : (due : Bool) (b : Shown) → is_due b.receiver.ack_state ≡ due → (ack_polled b).0.sender ≡ b.sender
 unfolding ack_polled

@@ -28,6 +28,7 @@ use Rattle.sctp_assoc.specs.Closing.{closed_by, exhausted, is_closed_state}
 use Rattle.sctp_assoc.specs.Calls.{accepted_stream, adjusted, read_exhausts, read_from_stream, stream_refusal}
 use Rattle.sctp_assoc.specs.Calls.{write_refusal, written}
 use Rattle.sctp_assoc.specs.Chunks.{after_packet, ended, on_chunk}
+use Rattle.sctp_outbound.specs.Sacks.{reports_of}
 use Rattle.sctp_assoc.specs.Happened.{Polls, acts_of_chunk, acts_of_poll, acts_of_timeouts}
 use Rattle.sctp_assoc.specs.Inbound.{taken_packet}
 use Rattle.sctp_sides.specs.Meeting.{Greets, GreetsOn, HasCome, IsEstablished, IsNoEarlier, IsTruthful, Stage, stage_of}
@@ -284,10 +285,11 @@ DataIsTaken =
     → IsTaking a piece (acts_of_chunk a header (chunks.Data piece))
 
 -- The first pieces in flight are acknowledged, so many that the point is the TSN before that of the next one, and of
--- those behind them the ones that the gap ack blocks name.
+-- those behind them the ones that the gap ack blocks name; some may be reported missing.
 pub record Acknowledges (a : Shown) (h : History) (sack : ChunkSelectiveAck) (acts : List Act) : Type 0 where
   pub count : ℕ
-  pub are : acts ≡ Act.Acknowledged count sack.gap_ack_blocks ∷ []
+  pub missing : ℕ
+  pub are : acts ≡ Act.Acknowledged count sack.gap_ack_blocks missing ∷ []
   pub within : count ≤ length a.sender.queue.in_flight
   pub at : sack.cumulative_tsn_ack % 2 ^ 32 ≡ tsn_before (tsn h.own (h.base + count))
 
@@ -312,7 +314,9 @@ pub record NamesTheSent (a : Shown) (h : History) (sack : ChunkSelectiveAck) (co
 abbrev pub TakenSacksAcknowledge : Type 0
 TakenSacksAcknowledge = (a : Shown) (h : History) (header : CommonHeader) (sack : ChunkSelectiveAck) (count : ℕ)
     → is_established a.state ≡ true → Binds a h → NamesTheSent a h sack count
-    → acts_of_chunk a header (chunks.SelectiveAck sack) ≡ Act.Acknowledged count sack.gap_ack_blocks ∷ []
+    → acts_of_chunk a header (chunks.SelectiveAck sack)
+    ≡ Act.Acknowledged count sack.gap_ack_blocks
+    (reports_of a.sender sack.cumulative_tsn_ack sack.gap_ack_blocks) ∷ []
 
 -- Outside of Established a SACK acknowledges nothing, and neither does one whose point lies behind the acknowledged
 -- one.
@@ -349,7 +353,7 @@ OtherChunksDoNothing =
 -- acts that give out DATA
 abbrev pub GivesData : Act → Type 0
 GivesData (Act.Sent now) = ⊤
-GivesData (Act.SentAgain index) = ⊤
+GivesData (Act.SentAgain by index) = ⊤
 GivesData act = ⊥
 
 -- an acknowledgement is due

@@ -1,6 +1,7 @@
 // Gap ack blocks acknowledge the pieces in flight that they name.
 use crate::outbound_queue::message;
 use sctp_outbound::Sender;
+use sctp_parts::estimate::RtoManager;
 use sctp_streams::Streams;
 use sctp_wire_types::{GapAckBlock, Instant, List, PayloadProtocolIdentifier};
 use std::alloc::Global;
@@ -25,7 +26,9 @@ fn acknowledged_of_four(
         named.push(GapAckBlock { start, end })?;
     }
     let mut fallen = streams.watch(alloc);
-    sender.acknowledge_blocks(&mut streams, &mut fallen, &named);
+    let mut rto = RtoManager::new(3000, 1000, 60000);
+    let later = Instant::from_millis(40);
+    sender.acknowledge_blocks(&mut rto, &mut streams, &mut fallen, &named, later);
     let mut acked = Vec::new(alloc);
     for index in 0..sender.queue.inflight_len() {
         acked.push(sender.queue.get(index).is_some_and(|piece| piece.acked))?;

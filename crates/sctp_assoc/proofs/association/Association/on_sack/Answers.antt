@@ -3,7 +3,7 @@ use Rattle.sctp_streams.specs.LowMarks.{IsGathered}
 use Rattle.sctp_streams.proofs.LowMarks.{gathered_since}
 use Rattle.sctp_outbound.specs.declared.sender.SackOutcome.TheVariants as outcomes
 use Rattle.sctp_outbound.specs.Sacks.{sack_taken}
-use Rattle.sctp_outbound.specs.Sender.{sack_outcome, t3_after_sack, tsns_up_to}
+use Rattle.sctp_outbound.specs.Sender.{sack_outcome}
 use Rattle.sctp_outbound.proofs.SenderSteps.{on_err}
 use Rattle.sctp_assoc.specs.declared.inbound.Flow.TheVariants as flows
 use Rattle.sctp_assoc.specs.Calls.{is_established}

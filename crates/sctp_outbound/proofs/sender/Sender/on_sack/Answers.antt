@@ -1,12 +1,14 @@
-use Rattle.std.proofs.Common.{◌∙◌, ◌||◌, ap, length, sym, nat_lt}
-use Rattle.sctp_outbound.specs.GapAcks.{with_blocks}
-use Rattle.sctp_outbound.specs.Sender.{acknowledged, t3_after_sack, tsns_up_to, with_window}
+use Rattle.std.proofs.Common.{◌∙◌, ◌||◌, ◌≡◌, ap, drop, length, sym, nat_lt, List}
 use Rattle.sctp_parts.specs.Estimate.{Estimate}
 use Rattle.sctp_streams.specs.Streams.{StreamMap}
+use Rattle.sctp_outbound_queue.specs.declared.message.InFlight.{InFlight}
 use Rattle.sctp_outbound.specs.declared.sender.Sender.{Sender}
-use Rattle.sctp_outbound.specs.declared.progress.Progress.{Progress}
+use Rattle.sctp_outbound.specs.GapAcks.{with_blocks}
+use Rattle.sctp_outbound.specs.Progress.{any_new_up_to}
+use Rattle.sctp_outbound.specs.Sacks.{grown_by, reported_by}
+use Rattle.sctp_outbound.specs.Sender.{acknowledged, t3_after_sack}
+use Rattle.sctp_outbound.proofs.MissingPieces.{counts_with}
 use Rattle.sctp_outbound.proofs.NewPieces.{left_behind, progress_is}
-use Rattle.sctp_outbound.specs.Sacks.{grown_by}
 use Rattle.sctp_streams.proofs.LowMarks.{gathers_both, gathers_nothing}
 use Rattle.sctp_outbound.proofs.sender.Sender.on_sack.Goals as goal
 
@@ -25,33 +27,42 @@ returns-clause-gathers c =
 
 pub returns-clause-taken : goal.returns-clause-taken
 returns-clause-taken c =
-    λ _. rw c.grow_window.ensures
-    (ap (λ b. grown_by (nat_lt 0 (tsns_up_to c.args.self.now c.args.cumulative_tsn_ack)) b (with_blocks c.args.now
-    c.args.blocks.now (acknowledged (tsns_up_to c.args.self.now c.args.cumulative_tsn_ack) c.args.now
-    (with_window c.args.self.now c.args.window, c.args.rto.now, c.args.streams.now))))
-    (sym c.inflight_bytes-before.ensures)
-    ∙ ap (λ n. grown_by (nat_lt 0 n) c.inflight_bytes-before.result (with_blocks c.args.now c.args.blocks.now
-    (acknowledged n c.args.now
-    (with_window c.args.self.now c.args.window, c.args.rto.now, c.args.streams.now)))) (sym c.count_to-count.ensures)
-    ∙ ap (λ x. grown_by (nat_lt 0 c.count_to-count.result) c.inflight_bytes-before.result
-    (with_blocks c.args.now c.args.blocks.now x)) c.acknowledge-any_new.ensures.exact
-    ∙ ap (λ x. grown_by (nat_lt 0 c.count_to-count.result) c.inflight_bytes-before.result x)
-    c.acknowledge_blocks-newest.ensures.exact)
+    let s : Sender = c.args.self.now in
+    let n = c.count_to-count.result in
+    let left : c.acknowledge-any_new.new.self.queue.in_flight ≡ drop n s.queue.in_flight =
+    sym (ap (λ (z : Sender × Estimate × StreamMap). z.0.queue.in_flight) c.acknowledge-any_new.ensures.exact)
+    ∙ left_behind n c.args.now c.leave_recovery.new.self c.args.rto.now c.args.streams.now
+    ∙ ap (λ (z : Sender). drop n z.queue.in_flight) c.leave_recovery.ensures in
+    λ _. rw (c.count_misses.ensures, c.grow_window.ensures)
+    (counts_with s c.args.cumulative_tsn_ack c.args.blocks.now c.args.window c.args.now c.args.rto.now
+    c.args.streams.now n c.inflight_bytes-before.result c.acknowledge_blocks-newest.result
+    c.acknowledge-any_new.new.self.queue.in_flight c.count_to-count.ensures c.inflight_bytes-before.ensures
+    c.acknowledge_blocks-newest.ensures.newest left
+    ∙ ap (λ z. reported_by (nat_lt 0 n) c.acknowledge_blocks-newest.result
+    (grown_by (nat_lt 0 n) c.inflight_bytes-before.result z))
+    (ap (λ z. with_blocks c.args.now c.args.blocks.now
+    (acknowledged n c.args.now (z, c.args.rto.now, c.args.streams.now))) (sym c.leave_recovery.ensures)
+    ∙ ap (with_blocks c.args.now c.args.blocks.now) c.acknowledge-any_new.ensures.exact
+    ∙ c.acknowledge_blocks-newest.ensures.exact))
 
 pub returns-clause-timer : goal.returns-clause-timer
 returns-clause-timer c =
+    let n = c.count_to-count.result in
+    let pieces : c.leave_recovery.new.self.queue.in_flight ≡ c.args.self.now.queue.in_flight =
+    ap (λ (z : Sender). z.queue.in_flight) c.leave_recovery.ensures in
     let left =
     sym (ap (λ (z : Sender × Estimate × StreamMap). z.0.queue.in_flight) c.acknowledge-any_new.ensures.exact)
-    ∙ left_behind c.count_to-count.result c.args.now (with_window c.args.self.now c.args.window) c.args.rto.now
-    c.args.streams.now in
+    ∙ left_behind n c.args.now c.leave_recovery.new.self c.args.rto.now c.args.streams.now
+    ∙ ap (λ (z : List InFlight). drop n z) pieces in
     λ _. c.run_t3.ensures
-    ∙ ap (λ p. t3_after_sack p (length c.grow_window.new.self.queue.in_flight) c.args.now
+    ∙ ap (λ p. t3_after_sack p (length c.count_misses.new.self.queue.in_flight) c.args.now
     c.acknowledge_blocks-newest.new.rto.rto c.args.timers.now)
     (ap (λ z. record {
       any_new = c.acknowledge-any_new.result || z;
       earliest = c.names_earliest-earliest.result;
     }) c.is_some.ensures
-    ∙ progress_is c.args.self.now c.args.cumulative_tsn_ack c.count_to-count.result c.args.blocks.now
+    ∙ progress_is c.args.self.now c.args.cumulative_tsn_ack n c.args.blocks.now
     c.acknowledge-any_new.result c.names_earliest-earliest.result c.acknowledge_blocks-newest.result
-    c.acknowledge-any_new.new.self.queue.in_flight c.count_to-count.ensures c.acknowledge-any_new.ensures.any
+    c.acknowledge-any_new.new.self.queue.in_flight c.count_to-count.ensures
+    (c.acknowledge-any_new.ensures.any ∙ ap (any_new_up_to n) pieces)
     c.acknowledge_blocks-newest.ensures.newest left c.names_earliest-earliest.ensures)

@@ -1,0 +1,13 @@
+use Rattle.std.proofs.Common.{◌∙◌, ap, sym}
+use Rattle.sctp_outbound_queue.specs.Outbound.{outstanding_of}
+use Rattle.sctp_outbound_queue.proofs.ReportedMissing.{as_many_outstanding}
+use Rattle.sctp_outbound_queue.proofs.queue.OutboundQueue.report_missing.Goals as goal
+
+pub invariant_of-self : goal.invariant_of-self
+invariant_of-self c = (
+  c.self.invariant.0,
+  c.self.invariant.1
+      ∙ sym (ap outstanding_of c.report_missing.ensures.counted
+      ∙ as_many_outstanding c.args.count c.self.inside.in_flight.items),
+  c.self.invariant.2,
+)
