@@ -51,6 +51,7 @@ use Rattle.sctp_assoc.specs.Memory.{is_taken}
 use Rattle.sctp_directions.specs.Acts.{with_acknowledged as with_all}
 use Rattle.sctp_directions.specs.Acts.{with_reports, offset_in, with_peer, with_taken, with_written}
 use Rattle.sctp_assoc.specs.Calls.{accepted_from, accepted_stream, adjusted, after_ack_delay, after_t3, event_from, event_polled, opened}
+use Rattle.sctp_assoc.specs.Calls.{with_max_send_message_size}
 use Rattle.sctp_assoc.specs.Chunks.{asks}
 use Rattle.sctp_inbound.specs.Receiver.{asked}
 use Rattle.sctp_streams.specs.Streams.{StreamMap, read_in}
@@ -619,6 +620,13 @@ accept_leads_on a b id e h binds =
     accept_if : (failed : Bool) → Leads [] a h (if failed then (a, None) else accepted_from a.to_accept a).0 h
     accept_if true = leads_nowhere a a h binds refl refl
     accept_if false = accepted_leads a.to_accept a h binds
+
+pub limit_leads_on : (a b : Shown) (size : ℕ) → b ≡ with_max_send_message_size a size → LeadsOn [] a b
+limit_leads_on a b size e h binds = (h, rw e (limit_if a.failed))
+  where
+    limit_if : (failed : Bool) → Leads [] a h (if failed then a else record a { max_send_message_size = size }) h
+    limit_if true = leads_nowhere a a h binds refl refl
+    limit_if false = leads_nowhere a (record a { max_send_message_size = size }) h binds refl refl
 
 relieved_leads : (e : Bool) (a : Shown) (h : History) → Binds a h
     → Leads (if e then acts_of_close a else []) a h (if e then exhausted a else a) h

@@ -1,7 +1,7 @@
 -- Where memory may lack: what takes some takes it by what stands in chunk and state.
 use Rattle.std.proofs.Common.{◌≡◌, ◌≢◌, refl, sym, ap, ◌∙◌, subst, ℕ, ◌+◌, Bool, true, false, not, ◌&&◌, ◌||◌}
-use Rattle.std.proofs.Common.{if◌then◌else◌, is_some, nat_lt, length, List, ◌∷◌, Option, Some, None}
-use Rattle.std.proofs.lemmas.Bool.{false≢true, or_left, or_right}
+use Rattle.std.proofs.Common.{if◌then◌else◌, is_some, nat_lt, length, List, [], ◌∷◌, ◌++◌, suc, Option, Some, None, arith}
+use Rattle.std.proofs.lemmas.Bool.{false≢true, lt-ltb, or_left, or_right, true≢false}
 use Rattle.sctp_wire_types.specs.declared.chunk.Chunk.{Chunk}
 use Rattle.sctp_wire_types.specs.declared.chunk.ChunkPayloadData.{ChunkPayloadData}
 use Rattle.sctp_wire_types.specs.declared.error.Error.{Error}
@@ -18,13 +18,16 @@ use Rattle.sctp_inbound.specs.declared.receiver.AckTrigger.{AckTrigger}
 use Rattle.sctp_inbound.specs.declared.receiver.Receiver.{Receiver}
 use Rattle.sctp_inbound.specs.Receiver.{admits, is_new_to}
 use Rattle.sctp_outbound.specs.declared.sender.Sender.{Sender}
-use Rattle.sctp_outbound.specs.Sender.{after_resending, resent_by, sent_new}
+use Rattle.sctp_inbound.specs.Handshake.{header_of}
+use Rattle.sctp_wire.specs.DataPackets.{datagrams_of}
+use Rattle.sctp_outbound.specs.Sender.{after_marked, after_resending, gives_data, marked_by, missing_by, resends}
+use Rattle.sctp_outbound.specs.Sender.{sends_new, sent_new}
 use Rattle.sctp_assoc.specs.declared.inbound.Flow.TheVariants as flows
 use Rattle.sctp_assoc.specs.Closing.{is_closed_state}
 use Rattle.sctp_assoc.specs.Chunks.{counted_data, on_chunk, stream_found}
 use Rattle.sctp_assoc.specs.Memory.{chunk_takes_memory, chunks_take_memory, data_takes_memory, keeps_message}
 use Rattle.sctp_assoc.specs.Memory.{makes_stream, takes_memory_after}
-use Rattle.sctp_assoc.specs.Gather.{fast_counted, data_polled, exchange_gives, is_due, with_sent_data}
+use Rattle.sctp_assoc.specs.Gather.{data_bundled, fast_counted, data_polled, exchange_gives, is_due, with_sent_data}
 use Rattle.sctp_assoc.specs.Shown.{Shown}
 
 -- DATA
@@ -154,32 +157,46 @@ module _ (header : CommonHeader) (c : Chunk) (cs : List Chunk) (a : Shown) (trig
 
 -- polling
 
-sent_pieces : (a : Shown) (count now : ℕ) (x : Sender × List ChunkPayloadData) → (with_sent_data a count now x).1 ≡ x.1
-sent_pieces a count now (sender, pieces) = refl
+sent_receiver : (a : Shown) (now : ℕ) (x : Sender × List ChunkPayloadData)
+    → (with_sent_data (fast_counted a) now x).receiver ≡ a.receiver
+sent_receiver a now (sender, pieces) = refl
 
-sent_receiver : (a : Shown) (count now : ℕ) (x : Sender × List ChunkPayloadData)
-    → (with_sent_data a count now x).0.receiver ≡ a.receiver
-sent_receiver a count now (sender, pieces) = refl
+none_longer : {X : Type 0} (xs : List X) → nat_lt 0 (length xs) ≡ false → xs ≡ []
+none_longer [] e = refl
+none_longer (x ∷ xs) e = absurd (true≢false (sym (lt-ltb 0 (suc (length xs)) (omega arith)) ∙ e))
+
+both_none : {X : Type 0} (xs ys : List X) → xs ++ ys ≡ [] → (xs ≡ []) × (ys ≡ [])
+both_none [] ys e = (refl, e)
+both_none (x ∷ xs) ys e = absurd (cc)
+
+neither : (c d : Bool) → (c || d) ≡ false → (c ≡ false) × (d ≡ false)
+neither false d e = (refl, e)
+neither true d e = absurd (true≢false e)
+
+-- with no DATA given there is no packet of it
+no_packets : (a : Shown) (now : ℕ) → gives_data a.sender now ≡ false → (data_bundled a now).done ≡ []
+no_packets a now e =
+    let split = neither (resends a.sender) (sends_new (after_resending a.sender) now) e in
+    let again = both_none (marked_by a.sender) (missing_by (after_marked a.sender)) (none_longer _ split.0) in
+    let new : (sent_new (after_resending a.sender) now).1 ≡ [] = none_longer _ split.1 in
+    rw (again.0, again.1, new) refl
+
+gives_if : (c : Bool) (a : Shown) (now : ℕ) → gives_data a.sender now ≡ c
+    → nat_lt 0 (length (datagrams_of (header_of a.handshake) (data_bundled a now).done)) ≡ true → c ≡ true
+gives_if true a now e some = refl
+gives_if false a now e some =
+    absurd (false≢true (rw (no_packets a now e) at some))
 
 -- DATA that a poll gives is given
-pub pieces_are_given : (a b : Shown) (now : ℕ) (pieces : List ChunkPayloadData) → data_polled a now ≡ (b, pieces)
-    → nat_lt 0 (length pieces) ≡ true
-    → exchange_gives a now ≡ true
+pub packets_are_given : (a : Shown) (now : ℕ)
+    → nat_lt 0 (length (datagrams_of (header_of a.handshake) (data_polled a now).1)) ≡ true → exchange_gives a now ≡ true
 unfolding data_polled
-pieces_are_given a b now pieces e some =
-    let same : (sent_new (after_resending a.sender) (resent_by a.sender) now).1 ≡ pieces =
-    sym (sent_pieces (fast_counted a) (length (resent_by a.sender)) now (sent_new (after_resending a.sender) (resent_by a.sender) now))
-    ∙ ap (λ (z : Shown × List ChunkPayloadData). z.1) e in
-    or_left _ _ (subst (λ (z : List ChunkPayloadData). nat_lt 0 (length z) ≡ true) (sym same) some)
+packets_are_given a now some = or_left _ _ (gives_if (gives_data a.sender now) a now refl some)
 
 -- an acknowledgement that is due behind the DATA was due before it
-pub ack_is_given : (a b : Shown) (now : ℕ) (pieces : List ChunkPayloadData) → data_polled a now ≡ (b, pieces)
-    → is_due b.receiver.ack_state ≡ true
+pub ack_is_given : (a : Shown) (now : ℕ) → is_due (data_polled a now).0.receiver.ack_state ≡ true
     → exchange_gives a now ≡ true
 unfolding data_polled
-ack_is_given a b now pieces e due =
-    let same : a.receiver ≡ b.receiver =
-    sym
-    (sent_receiver (fast_counted a) (length (resent_by a.sender)) now (sent_new (after_resending a.sender) (resent_by a.sender) now))
-    ∙ ap (λ (z : Shown × List ChunkPayloadData). z.0.receiver) e in
-    or_right _ _ (subst (λ (z : Receiver). is_due z.ack_state ≡ true) (sym same) due)
+ack_is_given a now due =
+    or_right _ _ (subst (λ (z : Receiver). is_due z.ack_state ≡ true)
+    (sent_receiver a now (sent_new (after_resending a.sender) now)) due)

@@ -20,6 +20,10 @@ use Rattle.sctp_outbound.specs.Sender.{first_counted, fits_windows, resends_alon
 use Rattle.sctp_outbound.specs.Sender.{resent_pieces, sent_new, sent_one, sent_within, with_in_flight}
 use Rattle.sctp_directions.specs.Acts.{Act, CanAll, History, Parts, done_all, all_data_given}
 use Rattle.sctp_fit.specs.Sendings.{next_chunks}
+use Rattle.std.specs.List.{filter}
+use Rattle.sctp_inbound.specs.Handshake.{header_of}
+use Rattle.sctp_wire.specs.DataPackets.{all_of, data_fits}
+use Rattle.sctp_wire.proofs.DataCarried.{three_carried}
 use Rattle.sctp_assoc.specs.Leads.{parts}
 use Rattle.sctp_assoc.specs.Gather.{AckIsReadAgain, data_polled, fast_counted, with_sent_data}
 use Rattle.sctp_assoc.specs.Shown.{Shown}
@@ -222,32 +226,24 @@ again_gives s m h tied right =
 
 -- Pieces that go out for the first time.
 
-pub one_queue : (ms : List Waiting) (s : Sender) (out : List ChunkPayloadData) (now : ℕ) → s.queue.pending ≡ ms
-    → (sent_one ms s out now).0.queue ≡ sent_next s.queue now
+pub one_queue : (ms : List Waiting) (s : Sender) (now : ℕ) → s.queue.pending ≡ ms
+    → (sent_one ms s now).0.queue ≡ sent_next s.queue now
 unfolding sent_one
-one_queue [] s out now e = rw e refl
-one_queue (m ∷ ms) s out now e = refl
+one_queue [] s now e = rw e refl
+one_queue (m ∷ ms) s now e = refl
 
-one_said : (ms : List Waiting) (s : Sender) (out : List ChunkPayloadData) (now : ℕ)
-    → (sent_one ms s out now).1 ≡ out ++ next_chunks ms (next_tsn_of s.queue)
-unfolding sent_one
-one_said [] s out now = sym (append-nil out)
-one_said (m ∷ ms) s out now = refl
-
-one_tied : (s : Sender) (out : List ChunkPayloadData) (now : ℕ) (h : History) → s.queue.first_tsn ≡ tsn h.own h.base
-    → (sent_one s.queue.pending s out now).0.queue.first_tsn ≡ tsn h.own h.base
-one_tied s out now h tied =
-    ap (λ (q : Outbound). q.first_tsn) (one_queue s.queue.pending s out now refl)
+one_tied : (s : Sender) (now : ℕ) (h : History) → s.queue.first_tsn ≡ tsn h.own h.base
+    → (sent_one s.queue.pending s now).0.queue.first_tsn ≡ tsn h.own h.base
+one_tied s now h tied =
+    ap (λ (q : Outbound). q.first_tsn) (one_queue s.queue.pending s now refl)
     ∙ sent_first s.queue.pending s.queue now ∙ tied
 
-one_gives : (ms : List Waiting) (s : Sender) (out : List ChunkPayloadData) (now : ℕ) (m : StreamMap) (h : History)
-    → s.queue.pending ≡ ms
+one_gives : (ms : List Waiting) (s : Sender) (now : ℕ) (m : StreamMap) (h : History) → s.queue.pending ≡ ms
     → s.queue.first_tsn ≡ tsn h.own h.base
-    → Gives (first_sent ms now) (sending s m h) (sending (sent_one ms s out now).0 m h)
-    (next_chunks ms (next_tsn_of s.queue))
+    → Gives (first_sent ms now) (sending s m h) (sending (sent_one ms s now).0 m h) (sent_one ms s now).1
 unfolding sent_one
-one_gives [] s out now m h e tied = gives_none (sending s m h)
-one_gives (w ∷ ws) s out now m h e tied = record {
+one_gives [] s now m h e tied = gives_none (sending s m h)
+one_gives (w ∷ ws) s now m h e tied = record {
   can = (rw e refl, tt);
   there = refl;
   said = rw (e, place_tsn h.own h.base s.queue.first_tsn (length s.queue.in_flight) tied) refl;
@@ -258,81 +254,50 @@ is_pending : (ms : List Waiting) (s : Sender) (now : ℕ) → fits_windows s (sl
 is_pending [] s now fits = absurd (false≢true fits)
 is_pending (m ∷ ms) s now fits = refl
 
--- DATA behind other DATA that a poll gives out
-pub record Adds (xs : List Act) (p q : Parts) (before after : List ChunkPayloadData) : Type 0 where
-  pub given : List ChunkPayloadData
-  pub gives : Gives xs p q given
-  pub all : after ≡ before ++ given
-
-adds_none : (p : Parts) (out : List ChunkPayloadData) → Adds [] p p out out
-adds_none p out = record { given = []; gives = gives_none p; all = sym (append-nil out) }
-
-adds_on : (xs ys : List Act) {p q r : Parts} {a b c : List ChunkPayloadData} → Adds xs p q a b → Adds ys q r b c
-    → Adds (xs ++ ys) p r a c
-adds_on xs ys {p} {q} {r} {a} m n = record {
-  given = m.given ++ n.given;
-  gives = gives_on xs ys p q r m.given n.given m.gives n.gives;
-  all = n.all ∙ ap (λ (z : List ChunkPayloadData). z ++ n.given) m.all ∙ append_assoc a m.given n.given;
-}
-
-adds_same : (xs ys : List Act) (p q : Parts) (a b : List ChunkPayloadData) → xs ≡ ys → Adds xs p q a b → Adds ys p q a b
-adds_same xs ys p q a b e m = rw (← e) m
+-- the next piece, and then others of those that wait, where it may go out
+abbrev within_if : Bool → ℕ → Sender → ℕ → Sender × List ChunkPayloadData
+within_if c n s now =
+    if c then
+    (let one = sent_one s.queue.pending s now in
+    let rest = sent_within n one.0 now in (rest.0, one.1 ++ rest.1))
+    else (s, [])
 
 -- beside these streams, on this history
 module _ (now : ℕ) (m : StreamMap) (h : History) where
-  one_adds : (s : Sender) (out : List ChunkPayloadData) → s.queue.first_tsn ≡ tsn h.own h.base
-      → Adds (first_sent s.queue.pending now) (sending s m h) (sending (sent_one s.queue.pending s out now).0 m h) out
-      (sent_one s.queue.pending s out now).1
-  one_adds s out tied = record {
-    given = next_chunks s.queue.pending (next_tsn_of s.queue);
-    gives = one_gives s.queue.pending s out now m h refl tied;
-    all = one_said s.queue.pending s out now;
-  }
+  sending_gives_if : (c : Bool) (n : ℕ) (s : Sender) → can_send_next s ≡ c → s.queue.first_tsn ≡ tsn h.own h.base
+      → ((t : Sender) → t.queue.first_tsn ≡ tsn h.own h.base
+      → Gives (acts_of_sending n t now) (sending t m h) (sending (sent_within n t now).0 m h) (sent_within n t now).1)
+      → Gives (if c then Act.Sent now ∷ acts_of_sending n (sent_one s.queue.pending s now).0 now else [])
+      (sending s m h) (sending (within_if c n s now).0 m h) (within_if c n s now).1
+  sending_gives_if false n s e tied rest = gives_none (sending s m h)
+  sending_gives_if true n s e tied rest =
+      let one = sent_one s.queue.pending s now in
+      let first =
+      gives_same (sym (is_pending s.queue.pending s now e)) refl refl (one_gives s.queue.pending s now m h refl tied) in
+      gives_on (Act.Sent now ∷ []) (acts_of_sending n one.0 now) (sending s m h) (sending one.0 m h)
+      (sending (sent_within n one.0 now).0 m h) one.1 (sent_within n one.0 now).1 first
+      (rest one.0 (one_tied s now h tied))
 
-  sending_adds_if : (c : Bool) (n : ℕ) (s : Sender) (out : List ChunkPayloadData) → can_send_next s ≡ c
-      → s.queue.first_tsn ≡ tsn h.own h.base
-      → ((t : Sender) (more : List ChunkPayloadData) → t.queue.first_tsn ≡ tsn h.own h.base
-      → Adds (acts_of_sending n t more now) (sending t m h) (sending (sent_within n t more now).0 m h) more
-      (sent_within n t more now).1)
-      → Adds (if c then (let sent =
-      sent_one s.queue.pending s out now in Act.Sent now ∷ acts_of_sending n sent.0 sent.1 now) else []) (sending s m h)
-      (sending (if c then (let sent = sent_one s.queue.pending s out now in sent_within n sent.0 sent.1 now) else
-      (s, out)).0 m h) out
-      (if c then (let sent = sent_one s.queue.pending s out now in sent_within n sent.0 sent.1 now) else (s, out)).1
-  sending_adds_if false n s out e tied rest = adds_none (sending s m h) out
-  sending_adds_if true n s out e tied rest =
-      let sent = sent_one s.queue.pending s out now in
-      let one =
-      adds_same (first_sent s.queue.pending now) (Act.Sent now ∷ []) _ _ _ _ (is_pending s.queue.pending s now e)
-      (one_adds s out tied) in
-      adds_on (Act.Sent now ∷ []) (acts_of_sending n sent.0 sent.1 now) one
-      (rest sent.0 sent.1 (one_tied s out now h tied))
+  pub sending_gives : (n : ℕ) (s : Sender) → s.queue.first_tsn ≡ tsn h.own h.base
+      → Gives (acts_of_sending n s now) (sending s m h) (sending (sent_within n s now).0 m h) (sent_within n s now).1
+  sending_gives zero s tied = gives_none (sending s m h)
+  sending_gives (suc n) s tied =
+      sending_gives_if (can_send_next s) n s refl tied (λ t bound. sending_gives n t bound)
 
-  pub sending_adds : (n : ℕ) (s : Sender) (out : List ChunkPayloadData) → s.queue.first_tsn ≡ tsn h.own h.base
-      → Adds (acts_of_sending n s out now) (sending s m h) (sending (sent_within n s out now).0 m h) out
-      (sent_within n s out now).1
-  sending_adds zero s out tied = adds_none (sending s m h) out
-  sending_adds (suc n) s out tied =
-      sending_adds_if (can_send_next s) n s out refl tied (λ t more bound. sending_adds n t more bound)
-
-  new_adds_if : (c : Bool) (s : Sender) (out : List ChunkPayloadData) → s.queue.first_tsn ≡ tsn h.own h.base
-      → Adds (if c then first_sent s.queue.pending now else acts_of_sending (pieces_waiting s.queue.pending) s out now)
+  new_gives_if : (c : Bool) (s : Sender) → s.queue.first_tsn ≡ tsn h.own h.base
+      → Gives (if c then first_sent s.queue.pending now else acts_of_sending (pieces_waiting s.queue.pending) s now)
       (sending s m h)
-      (sending (if c then sent_one s.queue.pending s out now else
-      sent_within (pieces_waiting s.queue.pending) s out now).0 m h) out
-      (if c then sent_one s.queue.pending s out now else sent_within (pieces_waiting s.queue.pending) s out now).1
-  new_adds_if true s out tied = one_adds s out tied
-  new_adds_if false s out tied = sending_adds (pieces_waiting s.queue.pending) s out tied
+      (sending (if c then sent_one s.queue.pending s now else
+      sent_within (pieces_waiting s.queue.pending) s now).0 m h)
+      (if c then sent_one s.queue.pending s now else sent_within (pieces_waiting s.queue.pending) s now).1
+  new_gives_if true s tied = one_gives s.queue.pending s now m h refl tied
+  new_gives_if false s tied = sending_gives (pieces_waiting s.queue.pending) s tied
 
 -- All DATA of a poll.
 
-sent_data_parts : (a : Shown) (count now : ℕ) (x : Sender × List ChunkPayloadData) (h : History)
-    → parts (with_sent_data a count now x).0 h ≡ sending x.0 a.streams h
-sent_data_parts a count now (s, pieces) h = refl
-
-pub sent_data_said : (a : Shown) (count now : ℕ) (x : Sender × List ChunkPayloadData)
-    → (with_sent_data a count now x).1 ≡ x.1
-sent_data_said a count now (s, pieces) = refl
+sent_data_parts : (a : Shown) (now : ℕ) (x : Sender × List ChunkPayloadData) (h : History)
+    → parts (with_sent_data a now x) h ≡ sending x.0 a.streams h
+sent_data_parts a now (s, pieces) h = refl
 
 -- what a poll's DATA leaves as it is
 pub record IsSentBeside (a b : Shown) : Type 0 where
@@ -342,32 +307,36 @@ pub record IsSentBeside (a b : Shown) : Type 0 where
   pub acks : acks_given b ≡ acks_given a
   pub again : AckIsReadAgain b → AckIsReadAgain a
 
-sent_data_stays : (a : Shown) (count now : ℕ) (x : Sender × List ChunkPayloadData)
-    → IsSentBeside a (with_sent_data a count now x).0
-sent_data_stays a count now (s, pieces) =
+sent_data_stays : (a : Shown) (now : ℕ) (x : Sender × List ChunkPayloadData)
+    → IsSentBeside a (with_sent_data (fast_counted a) now x)
+sent_data_stays a now (s, pieces) =
     record { receiver = refl; handshake = refl; acts = refl; acks = refl; again = λ x. x }
 
 pub data_poll_stays : (a : Shown) (now : ℕ) → IsSentBeside a (data_polled a now).0
 unfolding data_polled
-data_poll_stays a now =
-    let b =
-    sent_data_stays (fast_counted a) (length (resent_by a.sender)) now
-    (sent_new (after_resending a.sender) (resent_by a.sender) now) in
-    record { receiver = b.receiver; handshake = b.handshake; acts = b.acts; acks = b.acks; again = b.again }
+data_poll_stays a now = sent_data_stays a now (sent_new (after_resending a.sender) now)
 
-pub data_poll_adds : (a : Shown) (now : ℕ) (h : History) → a.sender.queue.first_tsn ≡ tsn h.own h.base
+-- the DATA of a poll, in order
+abbrev pub data_of_poll : Shown → ℕ → List ChunkPayloadData
+data_of_poll a now = resent_by a.sender ++ (sent_new (after_resending a.sender) now).1
+
+pub data_poll_gives : (a : Shown) (now : ℕ) (h : History) → a.sender.queue.first_tsn ≡ tsn h.own h.base
     → AreMarkedRight a.sender.queue.in_flight
-    → Adds (acts_of_data_poll a now) (parts a h) (parts (data_polled a now).0 h) [] (data_polled a now).1
+    → Gives (acts_of_data_poll a now) (parts a h) (parts (data_polled a now).0 h) (data_of_poll a now)
 unfolding data_polled
-data_poll_adds a now h tied right =
+data_poll_gives a now h tied right =
     let s : Sender = after_resending a.sender in
-    let x = sent_new s (resent_by a.sender) now in
+    let x = sent_new s now in
     let resent = acts_of_marks a.sender ++ acts_of_missing (after_marked a.sender) in
-    let again : Adds resent (parts a h) (sending s a.streams h) [] (resent_by a.sender) =
-    record { given = resent_by a.sender; gives = again_gives a.sender a.streams h tied right; all = refl } in
-    let fresh = new_adds_if now a.streams h _ s (resent_by a.sender) tied in
     let both =
-    adds_on resent (acts_of_new s (resent_by a.sender) now) again fresh in
-    let b = fast_counted a in
-    rw (sent_data_parts b (length (resent_by a.sender)) now x h, sent_data_said b (length (resent_by a.sender)) now x)
-    both
+    gives_on resent (acts_of_new s now) (parts a h) (sending s a.streams h) (sending x.0 a.streams h)
+    (resent_by a.sender) x.1 (again_gives a.sender a.streams h tied right)
+    (new_gives_if now a.streams h _ s tied) in
+    rw (sent_data_parts (fast_counted a) now x h) both
+
+-- and it is what the packets of DATA carry
+pub data_poll_carries : (a : Shown) (now : ℕ) → all_of (data_polled a now).1 ≡ filter data_fits (data_of_poll a now)
+unfolding data_polled
+data_poll_carries a now =
+    three_carried (header_of a.handshake) a.sender.mtu (marked_by a.sender) (missing_by (after_marked a.sender))
+    (sent_new (after_resending a.sender) now).1

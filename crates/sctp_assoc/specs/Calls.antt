@@ -252,6 +252,10 @@ accepted_from (id ∷ ids) a = (record a { to_accept = ids }, Some id)
 abbrev pub accepted_stream : Shown → Shown × Option ℕ
 accepted_stream a = if a.failed then (a, None) else accepted_from a.to_accept a
 
+-- writes take messages of up to so many bytes from now on; to a failed association that is nothing
+abbrev pub with_max_send_message_size : Shown → ℕ → Shown
+with_max_send_message_size a size = if a.failed then a else record a { max_send_message_size = size }
+
 -- the moment at which the next timer expires
 abbrev pub deadline_of : Shown → Option ℕ
 deadline_of a = least_moment a.timers

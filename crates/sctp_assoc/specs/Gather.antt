@@ -11,6 +11,7 @@ use Rattle.sctp_wire.specs.declared.packet.Packet.{Packet}
 use Rattle.sctp_wire.specs.declared.transmit.Payload.{Payload}
 use Rattle.sctp_wire.specs.declared.transmit.Payload.TheVariants as payloads
 use Rattle.sctp_wire.specs.declared.transmit.Transmit.{Transmit}
+use Rattle.sctp_wire.specs.DataPackets.{DataWritten, IsReadBack, closed, datagrams_of, nothing_written, with_all}
 use Rattle.sctp_wire.specs.Packets.{packet_at, packet_is_plain, written}
 use Rattle.sctp_parts.specs.declared.state.AckState.{AckState}
 use Rattle.sctp_parts.specs.declared.state.AckState.TheVariants as acks
@@ -21,7 +22,7 @@ use Rattle.sctp_streams.specs.Streams.{bytes_waiting}
 use Rattle.sctp_inbound.specs.Handshake.{header_of}
 use Rattle.sctp_inbound.specs.Receiver.{acknowledged, sack_of}
 use Rattle.sctp_outbound.specs.declared.sender.Sender.{Sender}
-use Rattle.sctp_outbound.specs.Sender.{after_marked, after_resending, gives_data, missing_by, resent_by, sent_new}
+use Rattle.sctp_outbound.specs.Sender.{after_marked, after_resending, gives_data, marked_by, missing_by, sent_new}
 use Rattle.sctp_assoc.specs.declared.control.ControlPacket.{ControlPacket}
 use Rattle.sctp_assoc.specs.Calls.{is_established}
 use Rattle.sctp_assoc.specs.Shown.{Shown}
@@ -38,23 +39,15 @@ spelled (Err fault) = []
 unfoldable pub packet_bytes : CommonHeader → Chunk → List (List ℕ)
 packet_bytes header chunk = spelled (written (packet_with header chunk))
 
--- each DATA chunk in a packet of its own
-abbrev pub data_packets : CommonHeader → List ChunkPayloadData → List (List ℕ)
-data_packets header [] = []
-data_packets header (c ∷ cs) = packet_bytes header (chunks.Data c) ++ data_packets header cs
-
 -- the retransmission timer runs where DATA was sent for the first time (RFC 4960 section 6.3.2)
 abbrev pub t3_after_sending : Bool → ℕ → ℕ → Timers → Timers
 t3_after_sending sent now rto t = if sent then restarted_if_stale names.T3RTX now rto t else t
 
-abbrev pub with_sent_data : Shown → ℕ → ℕ → Sender × List ChunkPayloadData → Shown × List ChunkPayloadData
-with_sent_data a count now (sender, pieces) = (
-  record a {
-    sender = sender;
-    timers = t3_after_sending (nat_lt count (length pieces)) now a.estimate.rto a.timers;
-  },
-  pieces,
-)
+abbrev pub with_sent_data : Shown → ℕ → Sender × List ChunkPayloadData → Shown
+with_sent_data a now (sender, pieces) = record a {
+  sender = sender;
+  timers = t3_after_sending (nat_lt 0 (length pieces)) now a.estimate.rto a.timers;
+}
 
 -- the chunks that fast retransmission gives are counted
 abbrev pub fast_counted : Shown → Shown
@@ -63,15 +56,24 @@ fast_counted a = record a {
       record c { fast_retrans = more_by (length (missing_by (after_marked a.sender))) c.fast_retrans });
 }
 
+-- the packets of a poll that carry DATA: what the retransmission timer marked, what is missing, and new DATA, each
+-- bundled apart
+abbrev pub resent_into : Sender → DataWritten → DataWritten
+resent_into s w = closed (with_all (closed (with_all w (marked_by s))) (missing_by (after_marked s)))
+
+abbrev pub data_bundled : Shown → ℕ → DataWritten
+data_bundled a now =
+    closed (with_all (resent_into a.sender (nothing_written (header_of a.handshake) a.sender.mtu))
+    (sent_new (after_resending a.sender) now).1)
+
 -- DATA is sent again
 abbrev pub with_resent : Shown → Shown
 with_resent a = (let b = fast_counted a in record b { sender = after_resending a.sender })
 
 -- the DATA of a poll, in order: that which the retransmission timer marked, that which is missing, and then new DATA
-unfoldable pub data_polled : Shown → ℕ → Shown × List ChunkPayloadData
+unfoldable pub data_polled : Shown → ℕ → Shown × List (List ChunkPayloadData)
 data_polled a now =
-    with_sent_data (fast_counted a) (length (resent_by a.sender)) now
-    (sent_new (after_resending a.sender) (resent_by a.sender) now)
+    (with_sent_data (fast_counted a) now (sent_new (after_resending a.sender) now), (data_bundled a now).done)
 
 abbrev pub is_due : AckState → Bool
 is_due acks.Idle = false
@@ -93,8 +95,8 @@ ack_polled a =
 abbrev pub after_both : List (List ℕ) → Shown × List (List ℕ) → Shown × List (List ℕ)
 after_both packets (a, more) = (a, packets ++ more)
 
-abbrev pub ack_after : Shown × List ChunkPayloadData → Shown × List (List ℕ)
-ack_after (a, pieces) = after_both (data_packets (header_of a.handshake) pieces) (ack_polled a)
+abbrev pub ack_after : Shown × List (List ChunkPayloadData) → Shown × List (List ℕ)
+ack_after (a, bundles) = after_both (datagrams_of (header_of a.handshake) bundles) (ack_polled a)
 
 -- the packets that wait to go out before any DATA
 abbrev pub control_packets : List ControlPacket → List (List ℕ)
@@ -143,8 +145,8 @@ abbrev pub IsReadAgain : CommonHeader → Chunk → Type 0
 IsReadAgain header chunk =
     (bytes : List ℕ) → packet_bytes header chunk ≡ bytes ∷ [] → packet_at bytes ≡ Ok (packet_with header chunk)
 
-abbrev pub AreReadAgain : CommonHeader → List ChunkPayloadData → Type 0
-AreReadAgain header pieces = AllByRecursion (λ (c : ChunkPayloadData). IsReadAgain header (chunks.Data c)) pieces
+abbrev pub AreReadAgain : CommonHeader → List (List ChunkPayloadData) → Type 0
+AreReadAgain header bundles = AllByRecursion (IsReadBack header) bundles
 
 abbrev pub AckIsReadAgain : Shown → Type 0
 AckIsReadAgain a = is_due a.receiver.ack_state ≡ true → IsReadAgain (header_of a.handshake) (sack_chunk a)

@@ -38,7 +38,9 @@ use Rattle.sctp_assoc.specs.Leads.{Binds, Leads, parts}
 use Rattle.sctp_assoc.specs.Calls.{is_beginning, is_cookie_wait, is_established, read_exhausts}
 use Rattle.sctp_assoc.specs.Closing.{is_closed_state}
 use Rattle.sctp_assoc.specs.Chunks.{counted_data, on_chunk, stream_found}
-use Rattle.sctp_assoc.specs.Gather.{AckIsReadAgain, AreControlReadAgain, AreReadAgain, control_packets, data_packets}
+use Rattle.std.specs.List.{filter}
+use Rattle.sctp_wire.specs.DataPackets.{all_of, data_fits, datagrams_of}
+use Rattle.sctp_assoc.specs.Gather.{AckIsReadAgain, AreControlReadAgain, AreReadAgain, control_packets}
 use Rattle.sctp_assoc.specs.Gather.{is_due, sack_packet}
 use Rattle.sctp_assoc.specs.Timeouts.{after_handshake_timers}
 use Rattle.sctp_assoc.specs.Shown.{Shown}
@@ -159,27 +161,24 @@ acts_of_missing s =
     if s.is_fast_due then acts_of_resending causes.Fast 0 (fast_room s) s.queue.in_flight else []
 
 -- the next pieces that wait go out while the windows have room
-abbrev pub acts_of_sending : ℕ → Sender → List ChunkPayloadData → ℕ → List Act
-acts_of_sending zero s out now = []
-acts_of_sending (suc n) s out now =
-    if can_send_next s then
-    (let sent = sent_one s.queue.pending s out now in Act.Sent now ∷ acts_of_sending n sent.0 sent.1 now)
-    else []
+abbrev pub acts_of_sending : ℕ → Sender → ℕ → List Act
+acts_of_sending zero s now = []
+acts_of_sending (suc n) s now =
+    if can_send_next s then Act.Sent now ∷ acts_of_sending n (sent_one s.queue.pending s now).0 now else []
 
 abbrev pub first_sent : List Waiting → ℕ → List Act
 first_sent [] now = []
 first_sent (m ∷ ms) now = Act.Sent now ∷ []
 
-abbrev pub acts_of_new : Sender → List ChunkPayloadData → ℕ → List Act
-acts_of_new s out now =
+abbrev pub acts_of_new : Sender → ℕ → List Act
+acts_of_new s now =
     if length s.queue.in_flight == 0 && not (can_send_next s) then first_sent s.queue.pending now else
-    acts_of_sending (pieces_waiting s.queue.pending) s out now
+    acts_of_sending (pieces_waiting s.queue.pending) s now
 
 -- the DATA of a poll
 abbrev pub acts_of_data_poll : Shown → ℕ → List Act
 acts_of_data_poll a now =
-    acts_of_marks a.sender ++ acts_of_missing (after_marked a.sender)
-    ++ acts_of_new (after_resending a.sender) (resent_by a.sender) now
+    acts_of_marks a.sender ++ acts_of_missing (after_marked a.sender) ++ acts_of_new (after_resending a.sender) now
 
 abbrev pub acts_of_ack : Shown → List Act
 acts_of_ack a = if is_due a.receiver.ack_state then Act.Reported ∷ [] else []
@@ -192,22 +191,23 @@ acts_of_poll a now = if is_established a.state then acts_of_data_poll a now ++ a
 abbrev pub acks_given : Shown → List (List ℕ)
 acks_given a = if is_due a.receiver.ack_state then sack_packet a else []
 
--- the packets of these acts: those that wait, and in Established their DATA, under the TSNs of its offsets, and then
--- the acknowledgement
-abbrev pub exchange_given : List Act → Shown → History → List (List ℕ)
-exchange_given xs a h =
-    if is_established a.state then
-    data_packets (header_of a.handshake) (all_data_given xs (parts a h)) ++ acks_given a else []
+-- packets that wait, and in Established these packets of DATA, and then the acknowledgement
+abbrev pub exchange_given : Shown → List (List ChunkPayloadData) → List (List ℕ)
+exchange_given a bundles =
+    if is_established a.state then datagrams_of (header_of a.handshake) bundles ++ acks_given a else []
 
-abbrev pub packets_given : List Act → Shown → History → List (List ℕ)
-packets_given xs a h = control_packets a.control ++ exchange_given xs a h
+abbrev pub packets_given : Shown → List (List ChunkPayloadData) → List (List ℕ)
+packets_given a bundles = control_packets a.control ++ exchange_given a bundles
 
--- A poll for packets leads on by its acts, and gives what they say: each packet is read as the chunk that it was made
--- of.
+-- A poll for packets leads on by its acts, and gives what they say: its packets of DATA carry, in order, the DATA of
+-- the acts under the TSNs of its offsets, and each packet is read as what it was made of.
 pub record Polls (xs : List Act) (a : Shown) (h : History) (b : Shown) (packets : List (List ℕ)) : Type 0 where
   pub leads : Leads xs a h b h
-  pub said : packets ≡ packets_given xs a h
-  pub data_again : is_established a.state ≡ true → AreReadAgain (header_of a.handshake) (all_data_given xs (parts a h))
+  -- what the packets of DATA carry
+  pub bundles : List (List ChunkPayloadData)
+  pub joined : all_of bundles ≡ filter data_fits (all_data_given xs (parts a h))
+  pub said : packets ≡ packets_given a bundles
+  pub data_again : is_established a.state ≡ true → AreReadAgain (header_of a.handshake) bundles
   pub ack_again : is_established a.state ≡ true → AckIsReadAgain a
 
 -- A poll for packets does and gives so from each history on which the association stands; what waited is read again as

@@ -8,6 +8,7 @@ ghost use Rattle.sctp_parts.specs.State.{is_closing};
 ghost use Rattle.sctp_parts.specs.Timers.{least_moment};
 ghost use Rattle.sctp_assoc.specs.Calls.{Refuses, RefusesOrLacksMemory, accepted_stream};
 ghost use Rattle.sctp_assoc.specs.Calls.{failed_refusal, open_refusal, opened, stream_refusal, usable};
+ghost use Rattle.sctp_assoc.specs.Calls.{with_max_send_message_size};
 ghost use Rattle.sctp_streams.specs.Streams.{live_ids};
 ghost use Rattle.sctp_assoc.specs.Calls.{after_t3, after_ack_delay, event_from, event_polled};
 ghost use Rattle.sctp_assoc.specs.Closing.{closed_by, is_closed_state};
@@ -308,9 +309,10 @@ impl Association {
 
     /// All packets that are due at `now`, in the order in which they are to go out; None where none is due. Each
     /// entry of the `Payload::RawEncode` is one datagram. Packets of the handshake and answers go first, in every
-    /// state. In Established there follow DATA that the retransmission timer marked, new DATA within both windows (or
-    /// one piece that probes them, where nothing is in flight), and a SACK that is due. Call it last in each turn of
-    /// the loop, and after writes.
+    /// state. In Established there follow DATA that the retransmission timer marked, DATA that is to be retransmitted
+    /// fast, new DATA within both windows (or one piece that probes them, where nothing is in flight), and a SACK that
+    /// is due. DATA chunks are bundled in packets of at most `mtu` bytes (RFC 4960 section 6.10). Call it last in each
+    /// turn of the loop, and after writes.
     ///
     /// Errors: `ErrAssociationFailed`, and `ErrNoMemory` only where there is something to give. After the latter the
     /// association is failed, and the packets of this call are lost.
@@ -530,6 +532,19 @@ impl Association {
     {
         self.check_usable()?;
         Ok(self.streams.ids(self.alloc)?)
+    }
+
+    /// From now on writes take messages of up to so many bytes (at first those of
+    /// `TransportConfig::max_send_message_size`); what was accepted stays. Never refused, and takes no memory. In a
+    /// failed association nothing changes.
+    #[tactic(auto, using(crate::proofs::CallsLeadOn::limit_leads_on))]
+    pub fn set_max_send_message_size(&mut self, max_send_message_size: u32)
+        ensures ok { self.new ≡ with_max_send_message_size self.old max_send_message_size }
+        ensures acts { LeadsOn [] self.old self.new }
+    {
+        if !self.failed {
+            self.max_send_message_size = max_send_message_size;
+        }
     }
 
     /// Closes the association at once, in any state but Closed; nothing is told to the peer. All timers stop, no packet

@@ -1,11 +1,13 @@
 // The packets of one poll, in the order in which they go out.
-ghost use Rattle.std.specs.Prelude.{◌≡◌, ◌++◌, ◌&&◌, true, length, nat_lt, OnErr, OnOk, IfOk};
+ghost use Rattle.std.specs.Prelude.{[], ◌≡◌, ◌++◌, ◌&&◌, true, length, nat_lt, OnErr, OnOk, IfOk};
 ghost use Rattle.sctp_wire.specs.Packets.{packet_is_plain};
-ghost use Rattle.sctp_outbound.specs.Sender.{gives_data, resends, resent_by};
+ghost use Rattle.sctp_outbound.specs.Sender.{gives_data, resends};
+ghost use Rattle.sctp_inbound.specs.Handshake.{header_of};
+ghost use Rattle.sctp_wire.specs.DataPackets.{datagrams_of};
 ghost use Rattle.sctp_assoc.specs.Calls.{is_established};
 ghost use Rattle.sctp_assoc.specs.Gather.{AckIsReadAgain, AreControlReadAgain, AreReadAgain, ExchangeIsReadAgain};
 ghost use Rattle.sctp_assoc.specs.Gather.{IsReadAgain, PollIsReadAgain, ack_after, ack_polled, after_both};
-ghost use Rattle.sctp_assoc.specs.Gather.{control_packets, data_packets, data_polled, exchange_gives, exchange_polled};
+ghost use Rattle.sctp_assoc.specs.Gather.{control_packets, data_polled, resent_into, exchange_gives, exchange_polled};
 ghost use Rattle.sctp_assoc.specs.Gather.{has_something_to_give, is_due, packet_bytes, packet_with, polled};
 ghost use Rattle.sctp_assoc.specs.Gather.{with_resent, without_control};
 
@@ -14,7 +16,8 @@ use crate::control::ControlPacket;
 use bytes::Bytes;
 use sctp_parts::state::{AckState, AssociationState};
 use sctp_parts::timer::Timer;
-use sctp_wire_queues::{Chunk, ChunkPayloadData, CommonHeader, Error, Instant, List, Packet};
+use sctp_wire::DataPackets;
+use sctp_wire_queues::{Chunk, CommonHeader, Error, Instant, List, Packet};
 use std::alloc::{AllocError, Global};
 use std::mem;
 
@@ -57,34 +60,42 @@ impl Association {
         ensures again { OnOk result (ExchangeIsReadAgain self.old now) }
         ensures grows { OnErr result (exchange_gives self.old now ≡ true) }
     {
-        let pieces = self.gather_data(now)?;
-        put_data(packets, self.alloc, self.handshake.header(), pieces)?;
+        let data = self.gather_data(now)?;
+        put_all(packets, data)?;
         self.gather_ack(packets)?;
         Ok(())
     }
 
-    #[tactic(auto, unfolding(crate::specs::Gather::data_polled), using(sctp_outbound::proofs::SenderSteps::resending_gives, sctp_outbound::proofs::SenderSteps::sending_gives))]
-    fn gather_data(&mut self, now: Instant) -> Result<Vec<ChunkPayloadData>, AllocError>
-        ensures exact { IfOk result (λ pieces. data_polled self.old now ≡ (self.new, pieces.items)) }
+    // The packets of DATA: what the retransmission timer marked, what is missing, and new DATA, each bundled apart.
+    #[tactic(auto, unfolding(crate::specs::Gather::data_polled), using(sctp_outbound::proofs::SenderSteps::sending_gives))]
+    fn gather_data(&mut self, now: Instant) -> Result<Vec<Bytes>, AllocError>
+        ensures exact { OnOk result ((data_polled self.old now).0 ≡ self.new) }
+        ensures packets { IfOk result
+            (λ packets. packets.items ≡ datagrams_of (header_of self.old.handshake) (data_polled self.old now).1) }
+        ensures again { OnOk result (AreReadAgain (header_of self.old.handshake) (data_polled self.old now).1) }
         ensures grows { OnErr result (gives_data self.old.sender now ≡ true) }
     {
-        let mut chunks = Vec::new(self.alloc);
-        self.resend_data(&mut chunks)?;
-        let sent = self.sender.send_new(&mut chunks, now)?;
+        let mut packets = DataPackets::new(self.alloc, self.handshake.header(), self.sender.mtu);
+        self.resend_data(&mut packets)?;
+        let sent = self.sender.send_new(&mut packets, now)?;
         if sent {
             let rto = self.rto.get_rto();
             self.timers.restart_if_stale(Timer::T3RTX, now, rto);
         }
-        Ok(chunks)
+        packets.finish()
     }
 
-    fn resend_data(&mut self, chunks: &mut Vec<ChunkPayloadData>) -> Result<(), AllocError>
+    fn resend_data(&mut self, packets: &mut DataPackets) -> Result<(), AllocError>
+        requires { packets.old.current ≡ [] }
         ensures exact { OnOk result (self.new ≡ with_resent self.old) }
-        ensures chunks { OnOk result (chunks.new.items ≡ chunks.old.items ++ resent_by self.old.sender) }
+        ensures packets { OnOk result (packets.new ≡ resent_into self.old.sender packets.old) }
         ensures grows { OnErr result (resends self.old.sender ≡ true) }
     {
-        let fast = self.sender.resend(chunks)?;
-        self.stats.add_fast_retrans(fast as u64);
+        self.sender.resend_marked(packets)?;
+        packets.close()?;
+        let fast = self.sender.resend_missing(packets)?;
+        packets.close()?;
+        self.stats.add_fast_retrans(fast);
         Ok(())
     }
 
@@ -122,20 +133,13 @@ fn put_control(
     Ok(())
 }
 
-// Each DATA chunk in a packet of its own.
-#[tactic(auto, using(crate::proofs::PacketsReadAgain::one_more_again))]
-fn put_data(
-    packets: &mut Vec<Bytes>,
-    alloc: Global,
-    header: CommonHeader,
-    chunks: Vec<ChunkPayloadData>,
-) -> Result<(), AllocError>
-    ensures exact { OnOk result (packets.new.items ≡ packets.old.items ++ data_packets header chunks.items) }
-    ensures again { OnOk result (AreReadAgain header chunks.items) }
-    ensures grows { OnErr result (nat_lt 0 (length chunks.items) ≡ true) }
+// Some packets behind others.
+fn put_all(packets: &mut Vec<Bytes>, more: Vec<Bytes>) -> Result<(), AllocError>
+    ensures exact { OnOk result (packets.new.items ≡ packets.old.items ++ more.items) }
+    ensures grows { OnErr result (nat_lt 0 (length more.items) ≡ true) }
 {
-    for chunk in chunks {
-        put_packet(packets, alloc, header, Chunk::Data(chunk))?;
+    for packet in more {
+        packets.push(packet)?;
     }
     Ok(())
 }

@@ -1,6 +1,6 @@
 // Values of an association that may be read at any time.
 ghost use Rattle.std.specs.Prelude.{◌≡◌};
-ghost use Rattle.sctp_outbound.specs.Sender.{window_left, marks};
+ghost use Rattle.sctp_outbound.specs.Sender.{cumulative_tsn_ack_point_of, window_left, marks};
 
 use crate::Association;
 use sctp_parts::state::AssociationState;
@@ -17,7 +17,7 @@ impl Association {
     }
 
     /// What was counted since the association was made: DATA and SACK chunks that came, and expired timers (RFC 4960
-    /// sections 6.2 and 6.3). Nothing is retransmitted fast so far (section 7.2.4), so that count is 0.
+    /// sections 6.2 and 6.3), and DATA chunks that were retransmitted fast (section 7.2.4).
     pub fn stats(&self) -> AssociationStats
         ensures { result ≡ self.now.counts }
     {
@@ -55,15 +55,15 @@ impl Association {
         self.sender.mtu
     }
 
-    /// Congestion window, in bytes (RFC 4960 section 7.2.1). It keeps its first value so far.
+    /// Congestion window, in bytes (RFC 4960 section 7.2).
     pub fn cwnd(&self) -> u32
         ensures { result ≡ self.now.sender.congestion.cwnd }
     {
         self.sender.congestion.cwnd
     }
 
-    /// Slow start threshold, in bytes: the receive window that the peer's token, INIT or INIT ACK said (RFC 4960
-    /// section 7.2.1). Nothing else changes it so far.
+    /// Slow start threshold, in bytes: at first the receive window that the peer's token, INIT or INIT ACK said (RFC
+    /// 4960 section 7.2.1); a loss changes it.
     pub fn ssthresh(&self) -> u32
         ensures { result ≡ self.now.sender.congestion.ssthresh }
     {
@@ -83,6 +83,14 @@ impl Association {
         ensures { result ≡ self.now.receiver.peer_last_tsn }
     {
         self.receiver.peer_last_tsn
+    }
+
+    /// The cumulative TSN ack point of the sender: the last TSN of this side that the peer acknowledged cumulatively (RFC
+    /// 4960 section 6.2.1). Before any was it is the one before this side's initial TSN.
+    pub fn cumulative_tsn_ack_point(&self) -> u32
+        ensures { result ≡ cumulative_tsn_ack_point_of self.now.sender }
+    {
+        self.sender.cumulative_tsn_ack_point()
     }
 
     /// The peer's verification tag, which stands in the packets that are given out; 0 until a token, an INIT or an

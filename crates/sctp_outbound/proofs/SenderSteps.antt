@@ -1,10 +1,10 @@
-use Rattle.std.proofs.Common.{◌≡◌, ℕ, zero, suc, ◌+◌, ◌-◌, ◌<◌, ◌≤◌, true, false, ◌&&◌, not, is_some, nat_lt}
+use Rattle.std.proofs.Common.{◌≡◌, ℕ, zero, suc, ◌+◌, ◌-◌, ◌<◌, ◌≤◌, Bool, true, false, not, is_some, nat_lt}
 use Rattle.std.proofs.Common.{List, [], ◌∷◌, ◌++◌, Option, Some, None, Result, Ok, Err, length, take, drop, set}
 use Rattle.std.proofs.Common.{slice_get, refl, ap, sym, subst, ◌∙◌, ⊎_elim, append_assoc, arith}
 use Rattle.std.proofs.lemmas.List.{length-append, take_more, take_more_set, drop_more, drop_all}
 use Rattle.std.proofs.lemmas.List.{drop-set-lt, length-drop, take-append-drop, append-nil, length-set}
 use Rattle.std.proofs.lemmas.Option.{get_or_from_slice_get, slice_get_within}
-use Rattle.std.proofs.lemmas.Bool.{and_parts, cases_Bool, lt-ltb, ltb-true, not-true}
+use Rattle.std.proofs.lemmas.Bool.{and_parts, cases_Bool, or_left, or_right, lt-ltb, ltb-true, not-true}
 use Rattle.std.proofs.lemmas.Bool.Decides.{nat_tests}
 use Rattle.sctp_wire_types.specs.declared.chunk.ChunkPayloadData.{ChunkPayloadData}
 use Rattle.sctp_parts.specs.Estimate.{Estimate}
@@ -16,10 +16,13 @@ use Rattle.sctp_outbound_queue.specs.Message.{counted_again, picks, piece_count,
 use Rattle.sctp_outbound_queue.specs.declared.message.Retransmission.{Retransmission}
 use Rattle.sctp_outbound_queue.specs.Outbound.{tsn_at, pieces_waiting, left_behind, after_piece}
 use Rattle.sctp_streams.specs.Streams.{StreamMap}
+use Rattle.sctp_wire.specs.DataPackets.{DataWritten, with_all, with_data}
+use Rattle.sctp_outbound.specs.declared.sender.Attempt.{Attempt}
+use Rattle.sctp_outbound.specs.declared.sender.Attempt.TheVariants as attempts
 use Rattle.sctp_outbound.specs.declared.sender.Sender.{Sender}
 use Rattle.sctp_outbound.specs.Sender.{after_first, after_resending, acknowledged, with_in_flight, resent_pieces}
-use Rattle.sctp_outbound.specs.Sender.{resent_chunks, tried_again, chunk_of, fits_windows, can_send_next, gives_data}
-use Rattle.sctp_outbound.specs.Sender.{goes_again, resends, resent_by, sends_new, sent_new, sent_one, sent_within}
+use Rattle.sctp_outbound.specs.Sender.{after_marked, chunks_tried, marked_by, missing_by, resent_chunks, tried_again, chunk_of, fits_windows, can_send_next, gives_data}
+use Rattle.sctp_outbound.specs.Sender.{goes_again, resends, sends_new, sent_one, sent_within}
 
 pub acknowledge_more : (n i now : ℕ) (all : Sender × Estimate × StreamMap) → i < n
     → acknowledged (n - (i + 1)) now (after_first now all) ≡ acknowledged (n - i) now all
@@ -55,94 +58,77 @@ pub one_piece_less : (s : Sender) (ms : List Waiting) → fits_windows s (slice_
 one_piece_less s [] fits = absurd (false_from_true fits)
 one_piece_less s (m ∷ ms) fits = left_pieces m ms
 
-within_one : {s2 : Sender} {out2 : List ChunkPayloadData} (n k : ℕ) (s : Sender) (out : List ChunkPayloadData) (now : ℕ)
-    → n ≡ suc k → can_send_next s ≡ true → sent_one s.queue.pending s out now ≡ (s2, out2)
-    → sent_within k s2 out2 now ≡ sent_within n s out now
-within_one n k s out now less fits sent =
-    rw (less, fits) (ap (λ (z : Sender × List ChunkPayloadData). sent_within k z.0 z.1 now) (sym sent))
+pub sent_more : (n k : ℕ) (s : Sender) (now : ℕ) → n ≡ suc k → can_send_next s ≡ true
+    → sent_within n s now
+    ≡ (
+      (sent_within k (sent_one s.queue.pending s now).0 now).0,
+      (sent_one s.queue.pending s now).1 ++ (sent_within k (sent_one s.queue.pending s now).0 now).1,
+    )
+sent_more n k s now less fits = rw (less, fits) refl
 
-pub within_step : (s s2 : Sender) (out out2 : List ChunkPayloadData) (now : ℕ) → can_send_next s ≡ true
-    → sent_one s.queue.pending s out now ≡ (s2, out2) → s2.queue.pending ≡ after_piece s.queue.pending
-    → sent_within (pieces_waiting s2.queue.pending) s2 out2 now ≡ sent_within (pieces_waiting s.queue.pending) s out now
-within_step s s2 out out2 now fits sent left =
-    within_one (pieces_waiting s.queue.pending) (pieces_waiting s2.queue.pending) s out now
-    (one_piece_less s s.queue.pending fits ∙ ap (λ ms. suc (pieces_waiting ms)) (sym left)) fits sent
+pub within_end : (n : ℕ) (s : Sender) (now : ℕ) → can_send_next s ≡ false → sent_within n s now ≡ (s, [])
+within_end zero s now full = refl
+within_end (suc n) s now full = rw full
 
-pub within_end : (n : ℕ) (s : Sender) (out : List ChunkPayloadData) (now : ℕ) → can_send_next s ≡ false
-    → sent_within n s out now ≡ (s, out)
-within_end zero s out now full = refl
-within_end (suc n) s out now full = rw full
+-- so many went out, and with those behind them they are all that is sent
+pub record SendsOn (s0 s : Sender) (now : ℕ) (any : Bool) (out0 out : DataWritten) : Type 0 where
+  pub given : List ChunkPayloadData
+  pub some : any ≡ nat_lt 0 (length given)
+  pub sender : (sent_within (pieces_waiting s.queue.pending) s now).0
+      ≡ (sent_within (pieces_waiting s0.queue.pending) s0 now).0
+  pub all : given ++ (sent_within (pieces_waiting s.queue.pending) s now).1
+      ≡ (sent_within (pieces_waiting s0.queue.pending) s0 now).1
+  pub written : out ≡ with_all out0 given
+
+pub sends_from : (s : Sender) (now : ℕ) (out : DataWritten) → SendsOn s s now false out out
+sends_from s now out = record { given = []; some = refl; sender = refl; all = refl; written = refl }
+
+pub all_after : (w : DataWritten) (cs ds : List ChunkPayloadData) → with_all w (cs ++ ds) ≡ with_all (with_all w cs) ds
+all_after w [] ds = refl
+all_after w (c ∷ cs) ds = all_after (with_data w c) cs ds
 
 -- what holds anyway holds where a call fails
 pub on_err : {T E P : Type 0} → (r : Result T E) → P → OnErr r P
 on_err (Ok value) h = tt
 on_err (Err error) h = h
 
+pub err_then : {T E P Q : Type 0} → (r : Result T E) → OnErr r P → (P → Q) → OnErr r Q
+err_then (Ok value) h f = tt
+err_then (Err error) h f = f h
+
 -- how much is sent
 
 more_by_one : (out : List ChunkPayloadData) (chunk : ChunkPayloadData) → length (out ++ chunk ∷ []) ≡ length out + 1
 more_by_one out chunk = length-append out (chunk ∷ [])
 
-one_more_sent : (ms : List Waiting) (s : Sender) (out : List ChunkPayloadData) (now : ℕ)
-    → is_some (slice_get ms 0) ≡ true
-    → length (sent_one ms s out now).1 ≡ length out + 1
+one_of : (ms : List Waiting) (s : Sender) (now : ℕ) → is_some (slice_get ms 0) ≡ true
+    → length (sent_one ms s now).1 ≡ 1
 unfolding sent_one
-one_more_sent [] s out now waits = absurd (false_from_true waits)
-one_more_sent (m ∷ ms) s out now waits = more_by_one out _
-
-one_grows : (ms : List Waiting) (s : Sender) (out : List ChunkPayloadData) (now : ℕ)
-    → length out ≤ length (sent_one ms s out now).1
-unfolding sent_one
-one_grows [] s out now = omega arith
-one_grows (m ∷ ms) s out now = let more = one_more_sent (m ∷ ms) s out now refl in omega (arith, more)
-
-within_grows : (n : ℕ) (s : Sender) (out : List ChunkPayloadData) (now : ℕ)
-    → length out ≤ length (sent_within n s out now).1
-within_grows zero s out now = omega arith
-within_grows (suc n) s out now =
-    let sent = sent_one s.queue.pending s out now in
-    let one = one_grows s.queue.pending s out now in
-    let rest = within_grows n sent.0 sent.1 now in
-    ⊎_elim
-    (λ (fits : can_send_next s ≡ true). rw fits (omega (arith, one, rest)))
-    (λ (full : can_send_next s ≡ false). rw full (omega arith))
-    (cases_Bool (can_send_next s))
+one_of [] s now waits = absurd (false_from_true waits)
+one_of (m ∷ ms) s now waits = refl
 
 fits_some : (s : Sender) (o : Option Waiting) → fits_windows s o ≡ true → is_some o ≡ true
 fits_some s None fits = absurd (false_from_true fits)
 fits_some s (Some m) fits = refl
 
-within_sends_of : (n k : ℕ) (s : Sender) (out : List ChunkPayloadData) (now : ℕ) → n ≡ suc k → can_send_next s ≡ true
-    → length out < length (sent_within n s out now).1
-within_sends_of n k s out now less fits =
-    let sent = sent_one s.queue.pending s out now in
-    let one = one_more_sent s.queue.pending s out now (fits_some s (slice_get s.queue.pending 0) fits) in
-    let rest = within_grows k sent.0 sent.1 now in
-    rw (less, fits) (omega (arith, one, rest))
-
 -- where the next piece fits, some is sent
-pub within_sends : (s : Sender) (out : List ChunkPayloadData) (now : ℕ) → can_send_next s ≡ true
-    → length out < length (sent_within (pieces_waiting s.queue.pending) s out now).1
-within_sends s out now fits =
-    within_sends_of (pieces_waiting s.queue.pending) (pieces_waiting (after_piece s.queue.pending)) s out now
-    (one_piece_less s s.queue.pending fits) fits
+pub within_sends : (s : Sender) (now : ℕ) → can_send_next s ≡ true
+    → 0 < length (sent_within (pieces_waiting s.queue.pending) s now).1
+within_sends s now fits =
+    let one = one_of s.queue.pending s now (fits_some s (slice_get s.queue.pending 0) fits) in
+    let k = pieces_waiting (after_piece s.queue.pending) in
+    let more =
+    sent_more (pieces_waiting s.queue.pending) k s now (one_piece_less s s.queue.pending fits) fits in
+    let both =
+    length-append (sent_one s.queue.pending s now).1 (sent_within k (sent_one s.queue.pending s now).0 now).1 in
+    rw more (omega (arith, one, both))
 
 -- with nothing in flight the piece that probes the windows is sent
-pub probe_sends : (s : Sender) (out : List ChunkPayloadData) (now : ℕ) → (length s.queue.in_flight == 0) ≡ true
-    → can_send_next s ≡ false
-    → is_some (slice_get s.queue.pending 0) ≡ true → sends_new s out now ≡ true
-probe_sends s out now none full waits =
-    let one = one_more_sent s.queue.pending s out now waits in
+pub probe_sends : (s : Sender) (now : ℕ) → (length s.queue.in_flight == 0) ≡ true → can_send_next s ≡ false
+    → is_some (slice_get s.queue.pending 0) ≡ true → sends_new s now ≡ true
+probe_sends s now none full waits =
+    let one = one_of s.queue.pending s now waits in
     rw (none, full) (lt-ltb _ _ (omega (arith, one)))
-
-pub new_grows : (s : Sender) (out : List ChunkPayloadData) (now : ℕ) → length out ≤ length (sent_new s out now).1
-new_grows s out now =
-    ⊎_elim
-    (λ (probes : (length s.queue.in_flight == 0 && not (can_send_next s)) ≡ true).
-    rw probes (one_grows s.queue.pending s out now))
-    (λ (runs : (length s.queue.in_flight == 0 && not (can_send_next s)) ≡ false).
-    rw runs (within_grows (pieces_waiting s.queue.pending) s out now))
-    (cases_Bool (length s.queue.in_flight == 0 && not (can_send_next s)))
 
 -- pieces in flight
 
@@ -189,22 +175,21 @@ chunks_sent k p ps first index room marked fits = rw (marked, fits)
 one_more : {A : Type 0} → (a b w r : List A) (q : A) → b ≡ a ++ q ∷ [] → w ≡ q ∷ r → b ++ r ≡ a ++ w
 one_more a b w r q e f = rw (e, f, append_assoc)
 
-tried_skip : (k : Retransmission) (p : InFlight) (s : Sender) (index left : ℕ) (out : List ChunkPayloadData) → picks k p ≡ false
-    → tried_again k (Some p) s index left out ≡ (s, out, Some left)
-tried_skip k p s index left out unmarked = rw unmarked
+tried_skip : (k : Retransmission) (p : InFlight) (s : Sender) (index left : ℕ) → picks k p ≡ false
+    → (tried_again k (Some p) s index left ≡ (s, attempts.Passed)) × (chunks_tried k (Some p) s index left ≡ [])
+tried_skip k p s index left unmarked = (rw unmarked refl, rw unmarked refl)
 
-tried_full : (k : Retransmission) (p : InFlight) (s : Sender) (index left : ℕ) (out : List ChunkPayloadData) → picks k p ≡ true
-    → nat_lt left (room_taken k p) ≡ true → tried_again k (Some p) s index left out ≡ (s, out, None)
-tried_full k p s index left out marked full = rw (marked, full)
+tried_full : (k : Retransmission) (p : InFlight) (s : Sender) (index left : ℕ) → picks k p ≡ true
+    → nat_lt left (room_taken k p) ≡ true
+    → (tried_again k (Some p) s index left ≡ (s, attempts.Full)) × (chunks_tried k (Some p) s index left ≡ [])
+tried_full k p s index left marked full = (rw (marked, full) refl, rw (marked, full) refl)
 
-tried_sent : (k : Retransmission) (p : InFlight) (s : Sender) (index left : ℕ) (out : List ChunkPayloadData) → picks k p ≡ true
+tried_sent : (k : Retransmission) (p : InFlight) (s : Sender) (index left : ℕ) → picks k p ≡ true
     → nat_lt left (room_taken k p) ≡ false
-    → tried_again k (Some p) s index left out ≡ (
-      with_in_flight s (set s.queue.in_flight index (counted_again k p)),
-      out ++ chunk_of p (tsn_at s.queue.first_tsn index) ∷ [],
-      Some (left - room_taken k p),
-    )
-tried_sent k p s index left out marked fits = rw (marked, fits)
+    → (tried_again k (Some p) s index left
+    ≡ (with_in_flight s (set s.queue.in_flight index (counted_again k p)), attempts.Sent (left - room_taken k p)))
+    × (chunks_tried k (Some p) s index left ≡ chunk_of p (tsn_at s.queue.first_tsn index) ∷ [])
+tried_sent k p s index left marked fits = (rw (marked, fits) refl, rw (marked, fits) refl)
 
 -- once the piece at a place is dealt with, the rest is resent as it was to be before
 pub record Stepped (k : Retransmission) (s s2 : Sender) (index left left2 : ℕ) (out out2 : List ChunkPayloadData) : Type 0 where
@@ -267,43 +252,6 @@ sent_again_at k p s index left out here marked fits =
           );
     }
 
-none_or_some : {s s2 : Sender} {out out2 : List ChunkPayloadData} {left : ℕ}
-    → ◌≡◌ {A = Sender × List ChunkPayloadData × Option ℕ} (s, out, None) (s2, out2, Some left) → ⊥
-none_or_some {left = left} e =
-    let m : None ≡ Some left = ap (λ (z : Sender × List ChunkPayloadData × Option ℕ). z.2) e in
-    cc
-
-module _ {k : Retransmission} {s s2 s3 : Sender} {index left left2 left3 : ℕ} {out out2 out3 : List ChunkPayloadData} where
-  moved_to : ◌≡◌ {A = Sender × List ChunkPayloadData × Option ℕ} (s3, out3, Some left3) (s2, out2, Some left2)
-      → Stepped k s s3 index left left3 out out3 → Stepped k s s2 index left left2 out out2
-  moved_to e step =
-      let a : s3 ≡ s2 = ap (λ (z : Sender × List ChunkPayloadData × Option ℕ). z.0) e in
-      let b : out3 ≡ out2 = ap (λ (z : Sender × List ChunkPayloadData × Option ℕ). z.1) e in
-      let some : Some left3 ≡ Some left2 = ap (λ (z : Sender × List ChunkPayloadData × Option ℕ). z.2) e in
-      let d : left3 ≡ left2 = cc in
-      rw (← a, ← b, ← d) step
-
-step_of : (k : Retransmission) {s2 : Sender} {left2 : ℕ} {out2 : List ChunkPayloadData} (o : Option InFlight) (s : Sender) (index left : ℕ)
-    (out : List ChunkPayloadData)
-    → slice_get s.queue.in_flight index ≡ o → tried_again k o s index left out ≡ (s2, out2, Some left2)
-    → Stepped k s s2 index left left2 out out2
-step_of k None s index left out here e = absurd (none_or_some e)
-step_of k (Some p) s index left out here e =
-    ⊎_elim (
-    λ (marked : picks k p ≡ true). ⊎_elim (
-    λ (full : nat_lt left (room_taken k p) ≡ true).
-    absurd (none_or_some (sym (tried_full k p s index left out marked full) ∙ e))
-    ) (
-    λ (fits : nat_lt left (room_taken k p) ≡ false).
-    moved_to (sym (tried_sent k p s index left out marked fits) ∙ e)
-    (sent_again_at k p s index left out here marked fits)
-    ) (cases_Bool (nat_lt left (room_taken k p)))
-    ) (
-    λ (unmarked : picks k p ≡ false).
-    moved_to (sym (tried_skip k p s index left out unmarked) ∙ e)
-    (skipped k p s index left out here unmarked)
-    ) (cases_Bool (picks k p))
-
 pub none_past : (xs : List InFlight) (i : ℕ) → slice_get xs i ≡ None → length xs ≤ i
 none_past [] i e = omega arith
 none_past (x ∷ xs) zero e = absurd (cc)
@@ -344,46 +292,52 @@ does_not_fit k p s index left out here marked full =
           chunks_full k p ds s.queue.first_tsn index left marked full;
     }
 
-module _ {k : Retransmission} {s s2 s3 : Sender} {index left : ℕ} {out out2 out3 : List ChunkPayloadData} {o : Option ℕ} where
-  stopped_to : ◌≡◌ {A = Sender × List ChunkPayloadData × Option ℕ} (s3, out3, o) (s2, out2, None)
-      → Stopped k s s3 index left out out3 → Stopped k s s2 index left out out2
-  stopped_to e stop =
-      let a : s3 ≡ s2 = ap (λ (z : Sender × List ChunkPayloadData × Option ℕ). z.0) e in
-      let b : out3 ≡ out2 = ap (λ (z : Sender × List ChunkPayloadData × Option ℕ). z.1) e in
-      rw (← a, ← b) stop
+-- what became of a piece at a place, with the chunks given before it and with it
+abbrev Became : Retransmission → Sender → Sender → ℕ → ℕ → List ChunkPayloadData → List ChunkPayloadData → Attempt
+    → Type 0
+Became k s s2 index left out more attempts.Passed = Stepped k s s2 index left left out more × (more ≡ out)
+Became k s s2 index left out more (attempts.Sent left2) =
+    Stepped k s s2 index left left2 out more × (length more ≡ length out + 1)
+Became k s s2 index left out more attempts.Full = Stopped k s s2 index left out more
 
-stop_of : (k : Retransmission) {s2 : Sender} {out2 : List ChunkPayloadData} (o : Option InFlight) (s : Sender) (index left : ℕ)
-    (out : List ChunkPayloadData)
-    → slice_get s.queue.in_flight index ≡ o → tried_again k o s index left out ≡ (s2, out2, None)
-    → Stopped k s s2 index left out out2
-stop_of k None s index left out here e =
-    stopped_to e
-    (past_end k s index left out (none_past s.queue.in_flight index here))
-stop_of k (Some p) s index left out here e =
+became : (k : Retransmission) (o : Option InFlight) (s : Sender) (index left : ℕ) (out : List ChunkPayloadData)
+    → slice_get s.queue.in_flight index ≡ o
+    → Became k s (tried_again k o s index left).0 index left out (out ++ chunks_tried k o s index left)
+    (tried_again k o s index left).1
+became k None s index left out here =
+    rw (append-nil out) (past_end k s index left out (none_past s.queue.in_flight index here))
+became k (Some p) s index left out here =
     ⊎_elim (
     λ (marked : picks k p ≡ true). ⊎_elim (
     λ (full : nat_lt left (room_taken k p) ≡ true).
-    stopped_to (sym (tried_full k p s index left out marked full) ∙ e)
-    (does_not_fit k p s index left out here marked full)
+    let e = tried_full k p s index left marked full in
+    rw (e.0, e.1, append-nil out) (does_not_fit k p s index left out here marked full)
     ) (
     λ (fits : nat_lt left (room_taken k p) ≡ false).
-    absurd (none_or_some (sym e ∙ tried_sent k p s index left out marked fits))
+    let e = tried_sent k p s index left marked fits in
+    rw (e.0, e.1)
+    (sent_again_at k p s index left out here marked fits, more_by_one out (chunk_of p (tsn_at s.queue.first_tsn index)))
     ) (cases_Bool (nat_lt left (room_taken k p)))
     ) (
     λ (unmarked : picks k p ≡ false).
-    absurd (none_or_some (sym e ∙ tried_skip k p s index left out unmarked))
+    let e = tried_skip k p s index left unmarked in
+    rw (e.0, e.1, append-nil out) (skipped k p s index left out here unmarked, refl)
     ) (cases_Bool (picks k p))
 
 -- before a place the pieces are as they will stay; with what is resent of the rest they are what the whole was to
--- become
-pub record ResendsOn (k : Retransmission) (s0 s : Sender) (i end room left : ℕ) (out0 out : List ChunkPayloadData) : Type 0 where
-  pub count : end ≡ length s.queue.in_flight
-  pub grown : length out0 ≤ length out
-  pub rest : s ≡ with_in_flight s0 s.queue.in_flight
-  pub pieces : take i s.queue.in_flight ++ resent_pieces k left (drop i s.queue.in_flight)
-      ≡ resent_pieces k room s0.queue.in_flight
-  pub chunks : out ++ resent_chunks k s.queue.first_tsn i left (drop i s.queue.in_flight)
-      ≡ out0 ++ resent_chunks k s0.queue.first_tsn 0 room s0.queue.in_flight
+-- become; so many chunks were given, and are written
+pub record ResendsOn (k : Retransmission) (s0 s : Sender) (i end room left sent : ℕ) (out0 out : DataWritten) : Type 0
+  where
+    pub count : end ≡ length s.queue.in_flight
+    pub rest : s ≡ with_in_flight s0 s.queue.in_flight
+    pub pieces : take i s.queue.in_flight ++ resent_pieces k left (drop i s.queue.in_flight)
+        ≡ resent_pieces k room s0.queue.in_flight
+    pub given : List ChunkPayloadData
+    pub many : sent ≡ length given
+    pub few : length given ≤ i
+    pub chunks : given ++ resent_chunks k s.queue.first_tsn i left (drop i s.queue.in_flight)
+        ≡ resent_chunks k s0.queue.first_tsn 0 room s0.queue.in_flight
+    pub written : out ≡ with_all out0 given
 
 -- a piece that is to be sent again is the first of what is resent from its place on
 goes_first : (k : Retransmission) (o : Option InFlight) (s : Sender) (index left : ℕ) → slice_get s.queue.in_flight index ≡ o
@@ -397,37 +351,85 @@ goes_first k (Some p) s index left here again =
     chunks_sent k p (drop (index + 1) s.queue.in_flight) s.queue.first_tsn index left parts.0 (not-true _ parts.1) in
     rw first (omega arith)
 
-module _ {k : Retransmission} {s0 s : Sender} {i end room left : ℕ} {out0 out : List ChunkPayloadData}
-    (inv : ResendsOn k s0 s i end room left out0 out) where
-  pub resends_on : {s2 : Sender} {left2 : ℕ} {out2 : List ChunkPayloadData}
-      → tried_again k (slice_get s.queue.in_flight i) s i left out ≡ (s2, out2, Some left2)
-      → ResendsOn k s0 s2 (i + 1) end room left2 out0 out2
-  resends_on {s2 = s2} e =
-      let step = step_of k (slice_get s.queue.in_flight i) s i left out refl e in
-      record {
-        count = inv.count ∙ sym step.count;
-        grown = omega (arith, inv.grown, step.grown);
-        rest = step.rest ∙ ap (λ (z : Sender). with_in_flight z s2.queue.in_flight) inv.rest;
-        pieces = step.pieces ∙ inv.pieces;
-        chunks = step.chunks ∙ inv.chunks;
-      }
+module _ {k : Retransmission} {s0 s : Sender} {i end room left sent : ℕ} {out0 out : DataWritten}
+    (inv : ResendsOn k s0 s i end room left sent out0 out) where
+  -- with the piece at the place dealt with
+  stepped_on : {s2 : Sender} {left2 : ℕ} {more : List ChunkPayloadData} (sent2 : ℕ) (out2 : DataWritten)
+      → Stepped k s s2 i left left2 inv.given more → sent2 ≡ length more → length more ≤ i + 1
+      → out2 ≡ with_all out0 more → ResendsOn k s0 s2 (i + 1) end room left2 sent2 out0 out2
+  stepped_on {s2 = s2} {more = more} sent2 out2 step many few written = record {
+    count = inv.count ∙ sym step.count;
+    rest = step.rest ∙ ap (λ (z : Sender). with_in_flight z s2.queue.in_flight) inv.rest;
+    pieces = step.pieces ∙ inv.pieces;
+    given = more;
+    many = many;
+    few = few;
+    chunks = step.chunks ∙ inv.chunks;
+    written = written;
+  }
 
-  pub resent_sender : {s2 : Sender} {out2 : List ChunkPayloadData}
-      → tried_again k (slice_get s.queue.in_flight i) s i left out ≡ (s2, out2, None)
+  now_written : (out2 : DataWritten)
+      → out2 ≡ with_all out (chunks_tried k (slice_get s.queue.in_flight i) s i left)
+      → out2 ≡ with_all out0 (inv.given ++ chunks_tried k (slice_get s.queue.in_flight i) s i left)
+  now_written out2 e =
+      e ∙ ap (λ (w : DataWritten). with_all w (chunks_tried k (slice_get s.queue.in_flight i) s i left)) inv.written
+      ∙ sym (all_after out0 inv.given (chunks_tried k (slice_get s.queue.in_flight i) s i left))
+
+  of_attempt : {s2 : Sender} {attempt : Attempt} → tried_again k (slice_get s.queue.in_flight i) s i left ≡ (s2, attempt)
+      → Became k s s2 i left inv.given (inv.given ++ chunks_tried k (slice_get s.queue.in_flight i) s i left) attempt
+  of_attempt e =
+      subst (λ (z : Sender × Attempt). Became k s z.0 i left inv.given
+      (inv.given ++ chunks_tried k (slice_get s.queue.in_flight i) s i left) z.1) e
+      (became k (slice_get s.queue.in_flight i) s i left inv.given refl)
+
+  pub passes_on : {s2 : Sender} (out2 : DataWritten)
+      → tried_again k (slice_get s.queue.in_flight i) s i left ≡ (s2, attempts.Passed)
+      → out2 ≡ with_all out (chunks_tried k (slice_get s.queue.in_flight i) s i left)
+      → ResendsOn k s0 s2 (i + 1) end room left sent out0 out2
+  passes_on out2 e written =
+      let done = of_attempt e in
+      let same = ap length done.1 in
+      stepped_on sent out2 done.0 (inv.many ∙ sym same) (omega (arith, same, inv.few)) (now_written out2 written)
+
+  pub resends_on : {s2 : Sender} {left2 : ℕ} (out2 : DataWritten)
+      → tried_again k (slice_get s.queue.in_flight i) s i left ≡ (s2, attempts.Sent left2)
+      → out2 ≡ with_all out (chunks_tried k (slice_get s.queue.in_flight i) s i left)
+      → ResendsOn k s0 s2 (i + 1) end room left2 (sent + 1) out0 out2
+  resends_on out2 e written =
+      let done = of_attempt e in
+      stepped_on (sent + 1) out2 done.0 (omega (arith, done.1, inv.many)) (omega (arith, done.1, inv.few))
+      (now_written out2 written)
+
+  stopped : {s2 : Sender} → tried_again k (slice_get s.queue.in_flight i) s i left ≡ (s2, attempts.Full)
+      → Stopped k s s2 i left inv.given (inv.given ++ chunks_tried k (slice_get s.queue.in_flight i) s i left)
+  stopped e = of_attempt e
+
+  pub resent_sender : {s2 : Sender} → tried_again k (slice_get s.queue.in_flight i) s i left ≡ (s2, attempts.Full)
       → s2 ≡ with_in_flight s0 (resent_pieces k room s0.queue.in_flight)
   resent_sender e =
-      let stop = stop_of k (slice_get s.queue.in_flight i) s i left out refl e in
+      let stop = stopped e in
       let xs = s.queue.in_flight in
       let all : xs ≡ resent_pieces k room s0.queue.in_flight =
       sym (take-append-drop i xs) ∙ ap (λ z. take i xs ++ z) (sym stop.pieces) ∙ inv.pieces in
       stop.sender ∙ inv.rest ∙ ap (with_in_flight s0) all
 
-  pub resent_out : {s2 : Sender} {out2 : List ChunkPayloadData}
-      → tried_again k (slice_get s.queue.in_flight i) s i left out ≡ (s2, out2, None)
-      → out2 ≡ out0 ++ resent_chunks k s0.queue.first_tsn 0 room s0.queue.in_flight
-  resent_out e =
-      let stop = stop_of k (slice_get s.queue.in_flight i) s i left out refl e in
-      stop.sent ∙ sym (append-nil out) ∙ ap (λ z. out ++ z) (sym stop.chunks) ∙ inv.chunks
+  all_given : {s2 : Sender} → tried_again k (slice_get s.queue.in_flight i) s i left ≡ (s2, attempts.Full)
+      → inv.given ≡ resent_chunks k s0.queue.first_tsn 0 room s0.queue.in_flight
+  all_given e =
+      let stop = stopped e in
+      sym (append-nil inv.given) ∙ ap (λ z. inv.given ++ z) (sym stop.chunks) ∙ inv.chunks
+
+  pub resent_out : {s2 : Sender} (out2 : DataWritten)
+      → tried_again k (slice_get s.queue.in_flight i) s i left ≡ (s2, attempts.Full)
+      → out2 ≡ with_all out (chunks_tried k (slice_get s.queue.in_flight i) s i left)
+      → out2 ≡ with_all out0 (resent_chunks k s0.queue.first_tsn 0 room s0.queue.in_flight)
+  resent_out out2 e written =
+      let stop = stopped e in
+      now_written out2 written ∙ ap (with_all out0) (stop.sent ∙ all_given e)
+
+  pub resent_count : {s2 : Sender} → tried_again k (slice_get s.queue.in_flight i) s i left ≡ (s2, attempts.Full)
+      → sent ≡ length (resent_chunks k s0.queue.first_tsn 0 room s0.queue.in_flight)
+  resent_count e = inv.many ∙ ap length (all_given e)
 
   pub resends_some : goes_again k (slice_get s.queue.in_flight i) left ≡ true
       → nat_lt 0 (length (resent_chunks k s0.queue.first_tsn 0 room s0.queue.in_flight)) ≡ true
@@ -435,32 +437,85 @@ module _ {k : Retransmission} {s0 s : Sender} {i end room left : ℕ} {out0 out 
       let rest = resent_chunks k s.queue.first_tsn i left (drop i s.queue.in_flight) in
       let all = resent_chunks k s0.queue.first_tsn 0 room s0.queue.in_flight in
       let some = goes_first k (slice_get s.queue.in_flight i) s i left refl again in
-      let lengths : length out + length rest ≡ length out0 + length all =
-      sym (length-append out rest) ∙ ap length inv.chunks ∙ length-append out0 all in
-      lt-ltb _ _ (omega (arith, lengths, some, inv.grown))
+      let lengths : length inv.given + length rest ≡ length all =
+      sym (length-append inv.given rest) ∙ ap length inv.chunks in
+      lt-ltb _ _ (omega (arith, lengths, some))
 
--- where a piece behind fits after some were sent, more is sent than before
-pub within_sends_on : (s0 s : Sender) (out0 out : List ChunkPayloadData) (now : ℕ) → can_send_next s ≡ true
-    → length out0 ≤ length out
-    → sent_within (pieces_waiting s.queue.pending) s out now ≡ sent_within (pieces_waiting s0.queue.pending) s0 out0 now
-    → nat_lt (length out0) (length (sent_within (pieces_waiting s0.queue.pending) s0 out0 now).1) ≡ true
-within_sends_on s0 s out0 out now fits grown same =
-    let some = within_sends s out now fits in
-    rw (← same) (lt-ltb _ _ (omega (arith, some, grown)))
+-- DATA that waits
 
-pub sent_one_grows : (s s2 : Sender) (out out2 : List ChunkPayloadData) (now : ℕ)
-    → sent_one s.queue.pending s out now ≡ (s2, out2) → length out ≤ length out2
-sent_one_grows s s2 out out2 now e =
-    subst (λ (z : Sender × List ChunkPayloadData). length out ≤ length z.1) e (one_grows s.queue.pending s out now)
+module _ {s0 s : Sender} {now : ℕ} {any : Bool} {out0 out : DataWritten} (inv : SendsOn s0 s now any out0 out) where
+  pub sends_more : {s2 : Sender} (out2 : DataWritten) → can_send_next s ≡ true
+      → (sent_one s.queue.pending s now).0 ≡ s2 → s2.queue.pending ≡ after_piece s.queue.pending
+      → out2 ≡ with_all out (sent_one s.queue.pending s now).1 → SendsOn s0 s2 now true out0 out2
+  sends_more {s2 = s2} out2 fits sent left written =
+      let one = sent_one s.queue.pending s now in
+      let less : pieces_waiting s.queue.pending ≡ suc (pieces_waiting s2.queue.pending) =
+      one_piece_less s s.queue.pending fits ∙ ap (λ ms. suc (pieces_waiting ms)) (sym left) in
+      let more =
+      sent_more (pieces_waiting s.queue.pending) (pieces_waiting s2.queue.pending) s now less fits in
+      let rest : (sent_within (pieces_waiting s2.queue.pending) (sent_one s.queue.pending s now).0 now)
+      ≡ sent_within (pieces_waiting s2.queue.pending) s2 now =
+      ap (λ (z : Sender). sent_within (pieces_waiting s2.queue.pending) z now) sent in
+      let many = length-append inv.given (sent_one s.queue.pending s now).1 in
+      let first = one_of s.queue.pending s now (fits_some s (slice_get s.queue.pending 0) fits) in
+      record {
+        given = inv.given ++ (sent_one s.queue.pending s now).1;
+        some = sym (lt-ltb _ _ (omega (arith, many, first)));
+        sender =
+            sym (ap (λ (z : Sender × List ChunkPayloadData). z.0) rest)
+            ∙ sym (ap (λ (z : Sender × List ChunkPayloadData). z.0) more) ∙ inv.sender;
+        all =
+            append_assoc inv.given one.1 (sent_within (pieces_waiting s2.queue.pending) s2 now).1
+            ∙ ap (λ (z : Sender × List ChunkPayloadData). inv.given ++ (one.1 ++ z.1)) (sym rest)
+            ∙ ap (λ (z : Sender × List ChunkPayloadData). inv.given ++ z.1) (sym more) ∙ inv.all;
+        written =
+            written ∙ ap (λ (w : DataWritten). with_all w (sent_one s.queue.pending s now).1) inv.written
+            ∙ sym (all_after out0 inv.given (sent_one s.queue.pending s now).1);
+      }
 
--- DATA of a poll that is sent again is given
-pub resending_gives : (s : Sender) (now : ℕ) → resends s ≡ true → gives_data s now ≡ true
-resending_gives s now again =
-    let grown = new_grows (after_resending s) (resent_by s) now in
-    let some = ltb-true _ _ again in
-    lt-ltb _ _ (omega (arith, grown, some))
+  pub sent_sender : can_send_next s ≡ false → (sent_within (pieces_waiting s0.queue.pending) s0 now).0 ≡ s
+  sent_sender full =
+      sym inv.sender
+      ∙ ap (λ (z : Sender × List ChunkPayloadData). z.0) (within_end (pieces_waiting s.queue.pending) s now full)
+
+  sent_given : can_send_next s ≡ false → inv.given ≡ (sent_within (pieces_waiting s0.queue.pending) s0 now).1
+  sent_given full =
+      sym (append-nil inv.given)
+      ∙ ap (λ (z : Sender × List ChunkPayloadData). inv.given ++ z.1)
+      (sym (within_end (pieces_waiting s.queue.pending) s now full))
+      ∙ inv.all
+
+  pub sent_out : can_send_next s ≡ false
+      → out ≡ with_all out0 (sent_within (pieces_waiting s0.queue.pending) s0 now).1
+  sent_out full = inv.written ∙ ap (with_all out0) (sent_given full)
+
+  pub sent_any : can_send_next s ≡ false
+      → any ≡ nat_lt 0 (length (sent_within (pieces_waiting s0.queue.pending) s0 now).1)
+  sent_any full = inv.some ∙ ap (λ (z : List ChunkPayloadData). nat_lt 0 (length z)) (sent_given full)
+
+  -- where a piece fits, some is sent
+  pub sends_some : can_send_next s ≡ true
+      → nat_lt 0 (length (sent_within (pieces_waiting s0.queue.pending) s0 now).1) ≡ true
+  sends_some fits =
+      let some = within_sends s now fits in
+      let lengths =
+      sym (length-append inv.given (sent_within (pieces_waiting s.queue.pending) s now).1) ∙ ap length inv.all in
+      lt-ltb _ _ (omega (arith, lengths, some))
+
+-- DATA of a poll that is sent again is given: what was marked, and what is missing
+pub marked_gives : (s : Sender) (now : ℕ) → nat_lt 0 (length (marked_by s)) ≡ true → gives_data s now ≡ true
+marked_gives s now some =
+    let some_marked = ltb-true _ _ some in
+    let both = length-append (marked_by s) (missing_by (after_marked s)) in
+    or_left (resends s) (sends_new (after_resending s) now) (lt-ltb _ _ (omega (arith, some_marked, both)))
+
+pub missing_gives : (s : Sender) (now : ℕ) → nat_lt 0 (length (missing_by (after_marked s))) ≡ true
+    → gives_data s now ≡ true
+missing_gives s now some =
+    let some_missing = ltb-true _ _ some in
+    let both = length-append (marked_by s) (missing_by (after_marked s)) in
+    or_left (resends s) (sends_new (after_resending s) now) (lt-ltb _ _ (omega (arith, some_missing, both)))
 
 -- and so is DATA that is sent behind it for the first time
-pub sending_gives : (s : Sender) (now : ℕ) → sends_new (after_resending s) (resent_by s) now ≡ true
-    → gives_data s now ≡ true
-sending_gives s now new = let some = ltb-true _ _ new in lt-ltb _ _ (omega (arith, some))
+pub sending_gives : (s : Sender) (now : ℕ) → sends_new (after_resending s) now ≡ true → gives_data s now ≡ true
+sending_gives s now new = or_right (resends s) (sends_new (after_resending s) now) new

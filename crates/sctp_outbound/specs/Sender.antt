@@ -1,6 +1,6 @@
 -- The sender of DATA (RFC 4960 sections 6 and 7).
 use Rattle.std.specs.Prelude.{ℕ, is_some, zero, suc, not, nat_lt, ◌++◌, slice_set, Bool, false, List, [], ◌∷◌, ◌+◌, ◌-◌}
-use Rattle.std.specs.Prelude.{◌/◌, ◌%◌, ◌^◌, ◌==◌, ◌&&◌, if◌then◌else◌, find, length, max, min, nat_le, slice_get}
+use Rattle.std.specs.Prelude.{◌/◌, ◌%◌, ◌^◌, ◌==◌, ◌&&◌, ◌||◌, if◌then◌else◌, find, length, max, min, nat_le, slice_get}
 use Rattle.std.specs.Prelude.{Option, Some, None}
 use Rattle.sctp_serial.specs.Serial.{tsn_past, tsn_gt, tsn_gte}
 use Rattle.sctp_wire_types.specs.declared.chunk.ChunkPayloadData.{ChunkPayloadData}
@@ -21,6 +21,8 @@ use Rattle.sctp_outbound.specs.Congestion.{first_congestion, timed_out}
 use Rattle.sctp_outbound.specs.Offsets.{name_unsent}
 use Rattle.sctp_outbound.specs.declared.sender.Sender.{Sender}
 use Rattle.sctp_outbound.specs.declared.progress.Progress.{Progress}
+use Rattle.sctp_outbound.specs.declared.sender.Attempt.{Attempt}
+use Rattle.sctp_outbound.specs.declared.sender.Attempt.TheVariants as attempts
 use Rattle.sctp_outbound.specs.declared.sender.SackOutcome.{SackOutcome}
 use Rattle.sctp_outbound.specs.declared.sender.SackOutcome.TheVariants as outcomes
 
@@ -188,17 +190,20 @@ resent_pieces k room (p ∷ ps) =
     if nat_lt room (room_taken k p) then p ∷ ps else
     counted_again k p ∷ resent_pieces k (room - room_taken k p) ps
 
--- what is left of so many bytes for the pieces behind one: None where it is picked and does not fit
-abbrev pub tried_again : Retransmission → Option InFlight → Sender → ℕ → ℕ → List ChunkPayloadData
-    → Sender × List ChunkPayloadData × Option ℕ
-tried_again k None s index room out = (s, out, None)
-tried_again k (Some p) s index room out =
-    if not (picks k p) then (s, out, Some room) else
-    if nat_lt room (room_taken k p) then (s, out, None) else (
+-- the sender once the piece at a place may have gone again, and what became of it
+abbrev pub tried_again : Retransmission → Option InFlight → Sender → ℕ → ℕ → Sender × Attempt
+tried_again k None s index room = (s, attempts.Full)
+tried_again k (Some p) s index room =
+    if not (picks k p) then (s, attempts.Passed) else
+    if nat_lt room (room_taken k p) then (s, attempts.Full) else (
       with_in_flight s (slice_set s.queue.in_flight index (counted_again k p)),
-      out ++ chunk_of p (tsn_at s.queue.first_tsn index) ∷ [],
-      Some (room - room_taken k p),
+      attempts.Sent (room - room_taken k p),
     )
+
+abbrev pub chunks_tried : Retransmission → Option InFlight → Sender → ℕ → ℕ → List ChunkPayloadData
+chunks_tried k None s index room = []
+chunks_tried k (Some p) s index room =
+    if picks k p && not (nat_lt room (room_taken k p)) then chunk_of p (tsn_at s.queue.first_tsn index) ∷ [] else []
 
 -- this piece is picked and fits into so many bytes
 abbrev pub goes_again : Retransmission → Option InFlight → ℕ → Bool
@@ -287,31 +292,32 @@ abbrev pub can_send_next : Sender → Bool
 can_send_next s = fits_windows s (slice_get s.queue.pending 0)
 
 -- the first of the pieces that wait goes out, under the next TSN
-unfoldable pub sent_one : List Waiting → Sender → List ChunkPayloadData → ℕ → Sender × List ChunkPayloadData
-sent_one [] s out now = (s, out)
-sent_one (m ∷ ms) s out now =
-    (record s { queue = sent_next s.queue now }, out ++ next_chunk_of m (next_tsn_of s.queue) ∷ [])
+unfoldable pub sent_one : List Waiting → Sender → ℕ → Sender × List ChunkPayloadData
+sent_one [] s now = (s, [])
+sent_one (m ∷ ms) s now =
+    (record s { queue = sent_next s.queue now }, next_chunk_of m (next_tsn_of s.queue) ∷ [])
 
 -- of the first n pieces that wait those go out, in the order in which they were accepted, that both windows have room
 -- for
-abbrev pub sent_within : ℕ → Sender → List ChunkPayloadData → ℕ → Sender × List ChunkPayloadData
-sent_within zero s out now = (s, out)
-sent_within (suc n) s out now =
+abbrev pub sent_within : ℕ → Sender → ℕ → Sender × List ChunkPayloadData
+sent_within zero s now = (s, [])
+sent_within (suc n) s now =
     if can_send_next s then
-    (let sent = sent_one s.queue.pending s out now in sent_within n sent.0 sent.1 now)
-    else (s, out)
+    (let one = sent_one s.queue.pending s now in
+    let rest = sent_within n one.0 now in (rest.0, one.1 ++ rest.1))
+    else (s, [])
 
 -- the DATA that a poll sends for the first time: within both windows, or, with nothing in flight, one piece that probes
 -- them (RFC 4960 section 6.1, rules A and B)
-abbrev pub sent_new : Sender → List ChunkPayloadData → ℕ → Sender × List ChunkPayloadData
-sent_new s out now =
-    if length s.queue.in_flight == 0 && not (can_send_next s) then sent_one s.queue.pending s out now else
-    sent_within (pieces_waiting s.queue.pending) s out now
+abbrev pub sent_new : Sender → ℕ → Sender × List ChunkPayloadData
+sent_new s now =
+    if length s.queue.in_flight == 0 && not (can_send_next s) then sent_one s.queue.pending s now else
+    sent_within (pieces_waiting s.queue.pending) s now
 
--- behind these chunks DATA is sent for the first time
-abbrev pub sends_new : Sender → List ChunkPayloadData → ℕ → Bool
-sends_new s out now = nat_lt (length out) (length (sent_new s out now).1)
+-- DATA is sent for the first time
+abbrev pub sends_new : Sender → ℕ → Bool
+sends_new s now = nat_lt 0 (length (sent_new s now).1)
 
 -- a poll gives DATA: some is sent again, or for the first time
 abbrev pub gives_data : Sender → ℕ → Bool
-gives_data s now = nat_lt 0 (length (sent_new (after_resending s) (resent_by s) now).1)
+gives_data s now = resends s || sends_new (after_resending s) now

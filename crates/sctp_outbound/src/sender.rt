@@ -15,7 +15,8 @@ ghost use Rattle.sctp_outbound.specs.Sender.{sack_outcome, with_first_window, wi
 ghost use Rattle.sctp_outbound.specs.Sender.{next_chunk_of, data_of, can_send_next, is_measured, after_resending};
 ghost use Rattle.sctp_outbound.specs.Sender.{resent_by, alone_length, with_in_flight, resent_pieces, resent_chunks};
 ghost use Rattle.sctp_outbound.specs.Sender.{after_marked, after_missing, fast_room, marked_by, missing_by};
-ghost use Rattle.sctp_outbound.specs.Sender.{tried_again, sent_new, sent_within, sent_one};
+ghost use Rattle.sctp_wire.specs.DataPackets.{with_all};
+ghost use Rattle.sctp_outbound.specs.Sender.{chunks_tried, tried_again, sent_new, sent_within, sent_one};
 
 use crate::congestion::CongestionWindow;
 use crate::progress::{Progress, is_new};
@@ -24,6 +25,7 @@ use sctp_outbound_queue::{Attributes, InFlight, OutboundQueue, PendingMessage, R
 use sctp_parts::estimate::RtoManager;
 use sctp_parts::timer::{Timer, TimerTable};
 use sctp_streams::{Fallen, Streams};
+use sctp_wire::DataPackets;
 use sctp_wire_types::{ChunkPayloadData, GapAckBlock, Instant, List, sna32gt, sna32gte};
 use std::alloc::{AllocError, Global};
 
@@ -44,6 +46,17 @@ pub enum SackOutcome {
     NamesTheUnsent,
     /// It was taken.
     Taken,
+}
+
+/// What became of a piece that may be sent again.
+#[derive(Clone, Copy, Debug, PartialEq, Eq)]
+pub enum Attempt {
+    /// It isn't to be sent again.
+    Passed,
+    /// It went out; so many bytes are left for those behind it.
+    Sent { room: u64 },
+    /// It isn't there, or too long for what is left.
+    Full,
 }
 
 /// What is to be sent, what is in flight, and how much may be (RFC 4960 sections 6 and 7).
@@ -195,7 +208,8 @@ impl Sender {
         }
     }
 
-    fn cumulative_tsn_ack_point(&self) -> u32
+    /// The last TSN that was acknowledged cumulatively (RFC 4960 section 6.2.1).
+    pub fn cumulative_tsn_ack_point(&self) -> u32
         ensures { result ≡ cumulative_tsn_ack_point_of self.now }
     {
         self.queue.first_tsn().wrapping_sub(1)
@@ -285,25 +299,12 @@ impl Sender {
         self.congestion.on_t3_timeout(self.mtu);
     }
 
-    /// Sends DATA again: what the retransmission timer marked, and then what is missing. Answers how many chunks fast
-    /// retransmission gave. It lacks memory only where a chunk is sent again. Goes over what is in flight.
-    pub fn resend(&mut self, out: &mut Vec<ChunkPayloadData>) -> Result<usize, AllocError>
-        ensures count { IfOk result (λ count. count ≡ length (missing_by (after_marked self.old))) }
-        ensures sender { OnOk result (self.new ≡ after_resending self.old) }
-        ensures chunks { OnOk result (out.new.items ≡ out.old.items ++ resent_by self.old) }
-        ensures grows { OnErr result (resends self.old ≡ true) }
-    {
-        self.resend_marked(out)?;
-        let marked = out.len();
-        self.resend_missing(out)?;
-        Ok(out.len() - marked)
-    }
-
-    // Sends marked DATA again, in TSN order, while the windows allow it. Where the peer's window is too small for the
-    // first TSN in flight, that one goes alone.
-    fn resend_marked(&mut self, out: &mut Vec<ChunkPayloadData>) -> Result<(), AllocError>
+    /// Sends marked DATA again, in TSN order, while the windows allow it (RFC 4960 section 6.3.3). Where the peer's window
+    /// is too small for the first TSN in flight, that one goes alone. It lacks memory only where a chunk is sent again.
+    /// Goes over what is in flight.
+    pub fn resend_marked(&mut self, out: &mut DataPackets) -> Result<(), AllocError>
         ensures sender { OnOk result (self.new ≡ after_marked self.old) }
-        ensures chunks { OnOk result (out.new.items ≡ out.old.items ++ marked_by self.old) }
+        ensures chunks { OnOk result (out.new ≡ with_all out.old (marked_by self.old)) }
         ensures grows { OnErr result (nat_lt 0 (length (marked_by self.old)) ≡ true) }
     {
         if let Some(length) = self.alone_length() {
@@ -311,17 +312,21 @@ impl Sender {
             return Ok(());
         }
         let window = self.congestion.cwnd.min(self.rwnd());
-        self.resend_within(Retransmission::Timer, u64::from(window), out)
+        self.resend_within(Retransmission::Timer, u64::from(window), out)?;
+        Ok(())
     }
 
-    // Sends again, where fast retransmission is due, one packet of the DATA that was sent once and is missing.
-    fn resend_missing(&mut self, out: &mut Vec<ChunkPayloadData>) -> Result<(), AllocError>
+    /// Sends again, where fast retransmission is due, one packet of the DATA that was sent once and is missing (RFC 4960
+    /// section 7.2.4), and answers how many chunks. It lacks memory only where a chunk is sent again. Goes over what is
+    /// in flight.
+    pub fn resend_missing(&mut self, out: &mut DataPackets) -> Result<u64, AllocError>
+        ensures count { IfOk result (λ count. count ≡ length (missing_by self.old)) }
         ensures sender { OnOk result (self.new ≡ after_missing self.old) }
-        ensures chunks { OnOk result (out.new.items ≡ out.old.items ++ missing_by self.old) }
+        ensures chunks { OnOk result (out.new ≡ with_all out.old (missing_by self.old)) }
         ensures grows { OnErr result (nat_lt 0 (length (missing_by self.old)) ≡ true) }
     {
         if !self.is_fast_due {
-            return Ok(());
+            return Ok(0);
         }
         let room = self.fast_room();
         self.is_fast_due = false;
@@ -352,111 +357,121 @@ impl Sender {
         }
     }
 
-    // Sends pieces again for a reason, in TSN order, until one does not fit into what is left of `room` bytes.
+    // Sends pieces again for a reason, in TSN order, until one does not fit into what is left of `room` bytes, and answers
+    // how many.
     fn resend_within(
         &mut self,
         by: Retransmission,
         room: u64,
-        out: &mut Vec<ChunkPayloadData>,
-    ) -> Result<(), AllocError>
+        out: &mut DataPackets,
+    ) -> Result<u64, AllocError>
+        ensures count { IfOk result
+            (λ count. count ≡ length (resent_chunks by self.old.queue.first_tsn 0 room self.old.queue.in_flight)) }
         ensures sender { OnOk result
             (self.new ≡ with_in_flight self.old (resent_pieces by room self.old.queue.in_flight)) }
-        ensures chunks { OnOk result (out.new.items ≡
-            out.old.items ++ resent_chunks by self.old.queue.first_tsn 0 room self.old.queue.in_flight) }
+        ensures chunks { OnOk result (out.new ≡
+            with_all out.old (resent_chunks by self.old.queue.first_tsn 0 room self.old.queue.in_flight)) }
         ensures grows { OnErr result
             (nat_lt 0 (length (resent_chunks by self.old.queue.first_tsn 0 room self.old.queue.in_flight)) ≡ true) }
     {
         let mut left = room;
+        let mut sent = 0;
         for index in 0..self.queue.inflight_len() {
             match self.resend_at(by, index, left, out)? {
-                Some(rest) => left = rest,
-                None => return Ok(()),
+                Attempt::Passed => {}
+                Attempt::Sent { room } => {
+                    left = room;
+                    sent += 1;
+                }
+                Attempt::Full => return Ok(sent),
             }
         }
-        Ok(())
+        Ok(sent)
     }
 
-    // Sends the piece at a place again, where the reason picks it, and answers what is left of `room` bytes; None where
-    // it does not fit.
+    // Sends the piece at a place again, where the reason picks it and `room` bytes are enough for it.
     fn resend_at(
         &mut self,
         by: Retransmission,
         index: usize,
         room: u64,
-        out: &mut Vec<ChunkPayloadData>,
-    ) -> Result<Option<u64>, AllocError>
-        ensures exact { IfOk result (λ rest. tried_again by (slice_get self.old.queue.in_flight index) self.old index
-            room out.old.items ≡ (self.new, out.new.items, rest)) }
+        out: &mut DataPackets,
+    ) -> Result<Attempt, AllocError>
+        ensures exact { IfOk result (λ attempt. tried_again by (slice_get self.old.queue.in_flight index) self.old index
+            room ≡ (self.new, attempt)) }
+        ensures chunks { IfOk result (λ attempt. out.new ≡ with_all out.old
+            (chunks_tried by (slice_get self.old.queue.in_flight index) self.old index room)) }
         ensures grows { OnErr result (goes_again by (slice_get self.old.queue.in_flight index) room ≡ true) }
     {
         let Some(piece) = self.queue.get(index) else {
-            return Ok(None);
+            return Ok(Attempt::Full);
         };
         if !piece.goes_again(by) {
-            return Ok(Some(room));
+            return Ok(Attempt::Passed);
         }
         let taken = piece.room_taken(by);
         if taken > room {
-            return Ok(None);
+            return Ok(Attempt::Full);
         }
         let chunk = sent_chunk(piece, self.queue.tsn_at(index))?;
-        out.push(chunk)?;
+        out.add(&chunk)?;
         self.queue.resend(index, by);
-        Ok(Some(room - taken))
+        Ok(Attempt::Sent { room: room - taken })
     }
 
     /// Sends DATA that waits while the windows allow it, and answers whether any was sent. With nothing in flight one
     /// piece goes whatever the windows are, to probe them (RFC 4960 section 6.1). It lacks memory only where a chunk is
     /// sent.
-    pub fn send_new(
-        &mut self,
-        out: &mut Vec<ChunkPayloadData>,
-        now: Instant,
-    ) -> Result<bool, AllocError>
-        ensures sent { OnOk result (sent_new self.old out.old.items now ≡ (self.new, out.new.items)) }
-        ensures any { IfOk result (λ any. any ≡ nat_lt (length out.old.items) (length out.new.items)) }
-        ensures grows { OnErr result (sends_new self.old out.old.items now ≡ true) }
+    pub fn send_new(&mut self, out: &mut DataPackets, now: Instant) -> Result<bool, AllocError>
+        ensures sender { OnOk result ((sent_new self.old now).0 ≡ self.new) }
+        ensures chunks { OnOk result (out.new ≡ with_all out.old (sent_new self.old now).1) }
+        ensures any { IfOk result (λ any. any ≡ sends_new self.old now) }
+        ensures grows { OnErr result (sends_new self.old now ≡ true) }
     {
-        let before = out.len();
         if self.queue.inflight_len() == 0 && !self.next_fits() {
-            self.send_one(out, now)?;
+            self.send_one(out, now)
         } else {
-            self.send_within(out, now)?;
+            self.send_within(out, now)
         }
-        Ok(before < out.len())
     }
 
-    // Sends pieces that wait, in the order in which they were accepted, while both windows allow it.
-    fn send_within(
-        &mut self,
-        out: &mut Vec<ChunkPayloadData>,
-        now: Instant,
-    ) -> Result<(), AllocError>
-        ensures exact { OnOk result (sent_within (pieces_waiting self.old.queue.pending) self.old out.old.items now
-            ≡ (self.new, out.new.items)) }
-        ensures grows { OnErr result (nat_lt (length out.old.items)
-            (length (sent_within (pieces_waiting self.old.queue.pending) self.old out.old.items now).1) ≡ true) }
+    // Sends pieces that wait, in the order in which they were accepted, while both windows allow it. Answers whether any
+    // was sent.
+    fn send_within(&mut self, out: &mut DataPackets, now: Instant) -> Result<bool, AllocError>
+        ensures sender { OnOk result
+            ((sent_within (pieces_waiting self.old.queue.pending) self.old now).0 ≡ self.new) }
+        ensures chunks { OnOk result
+            (out.new ≡ with_all out.old (sent_within (pieces_waiting self.old.queue.pending) self.old now).1) }
+        ensures any { IfOk result
+            (λ any. any ≡ nat_lt 0 (length (sent_within (pieces_waiting self.old.queue.pending) self.old now).1)) }
+        ensures grows { OnErr result
+            (nat_lt 0 (length (sent_within (pieces_waiting self.old.queue.pending) self.old now).1) ≡ true) }
     {
+        let mut any = false;
         while self.next_fits() {
             self.send_one(out, now)?;
+            any = true;
         }
-        Ok(())
+        Ok(any)
     }
 
-    // Puts the next piece that waits in flight.
+    // Puts the next piece that waits in flight, and answers whether there was one.
     #[tactic(auto, unfolding(crate::specs::Sender::sent_one))]
-    fn send_one(&mut self, out: &mut Vec<ChunkPayloadData>, now: Instant) -> Result<(), AllocError>
-        ensures sent { OnOk result
-            (sent_one self.old.queue.pending self.old out.old.items now ≡ (self.new, out.new.items)) }
+    fn send_one(&mut self, out: &mut DataPackets, now: Instant) -> Result<bool, AllocError>
+        ensures sender { OnOk result ((sent_one self.old.queue.pending self.old now).0 ≡ self.new) }
+        ensures chunks { OnOk result (out.new ≡ with_all out.old (sent_one self.old.queue.pending self.old now).1) }
+        ensures any { IfOk result
+            (λ any. any ≡ nat_lt 0 (length (sent_one self.old.queue.pending self.old now).1)) }
         ensures pending { OnOk result (self.new.queue.pending ≡ after_piece self.old.queue.pending) }
         ensures grows { OnErr result (is_some (slice_get self.old.queue.pending 0) ≡ true) }
     {
         let Some(message) = self.queue.peek_pending() else {
-            return Ok(());
+            return Ok(false);
         };
         let chunk = waiting_chunk(message, self.queue.next_tsn())?;
-        out.push(chunk)?;
-        self.queue.send_next(now)
+        out.add(&chunk)?;
+        self.queue.send_next(now)?;
+        Ok(true)
     }
 
     // Whether the next piece that waits is within both windows.

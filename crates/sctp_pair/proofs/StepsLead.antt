@@ -20,7 +20,8 @@ use Rattle.sctp_pair.specs.declared.step.Step.{Step}
 use Rattle.sctp_pair.specs.declared.step.Step.TheVariants as steps
 use Rattle.sctp_pair.specs.Ends.{Ends, end_of, packets_of}
 use Rattle.sctp_pair.specs.Steps.{AtSide, Buffers, ComesTo, Delivers, Expires, Finds, Measures, Opens, Reads, SendsAt}
-use Rattle.sctp_pair.specs.Steps.{Accepts, ClosesOne, Lists, Sets, ShowsOrRefuses, Steps, Tells, Writes, WritesFirst}
+use Rattle.sctp_pair.specs.Steps.{Accepts, ClosesOne, Limits, Lists, Sets, ShowsOrRefuses, Steps, Tells, Writes}
+use Rattle.sctp_pair.specs.Steps.{WritesFirst}
 use Rattle.sctp_pair.specs.Steps.{packet_in}
 use Rattle.sctp_streams.specs.declared.setting.Setting.TheVariants as settings
 use Rattle.sctp_streams.specs.Stream.{is_read_half_open, is_write_half_open, ordered_and_reliable, params_of}
@@ -36,7 +37,8 @@ use Rattle.sctp_pair.proofs.PacketChunks.{OtherSays}
 use Rattle.sctp_pair.proofs.PollCall.{poll_settles}
 use Rattle.sctp_pair.proofs.ReadCall.{read_by, reads_settle}
 use Rattle.sctp_pair.proofs.SimpleCalls.{buffers_same, finds_same, measures_same, opens_settle, same_settles}
-use Rattle.sctp_pair.proofs.StreamCalls.{accepts_settle, closes_settle, lists_same, sets_settle, shows_same}
+use Rattle.sctp_pair.proofs.StreamCalls.{accepts_settle, closes_settle, limits_settle, lists_same, sets_settle}
+use Rattle.sctp_pair.proofs.StreamCalls.{shows_same}
 use Rattle.sctp_pair.proofs.StreamCalls.{IsCovered, reliability_settles}
 use Rattle.sctp_pair.proofs.TimedCalls.{expires_settle, tells_settle}
 use Rattle.sctp_pair.proofs.WriteCall.{first_writes_settle, writes_settle, written_by}
@@ -266,6 +268,9 @@ module _ (q : Ends) (r : Reply) (w : World) (fits : Fits w.ends w) where
   step_at (steps.AcceptStream side) h =
       quiet_leads side (steps.AcceptStream side) (λ a b. Accepts a r b) (λ x a b c. accepts_settle r c)
       (λ y s. (refl, refl)) h h
+  step_at (steps.SetMaxSendMessageSize side size) h =
+      quiet_leads side (steps.SetMaxSendMessageSize side size) (λ a b. Limits a size r b)
+      (λ x a b c. limits_settle size r c) (λ y s. (refl, refl)) h h
   step_at (steps.StreamIds side) h =
       same_leads side (steps.StreamIds side) (λ a b. Lists a r b) (λ a b c. lists_same a r b c) (λ y s. (refl, refl)) h h
   step_at (steps.Close side) h =

@@ -17,15 +17,17 @@ use Rattle.sctp_directions.proofs.Proved.{closed_receivers_are_not_open, own_act
 use Rattle.sctp_directions.proofs.Proved.{settings_are_no_events}
 use Rattle.sctp_assoc.specs.Leads.{parts}
 use Rattle.sctp_assoc.specs.Calls.{accepted_from, accepted_stream, adjusted, stream_refusal}
+use Rattle.sctp_assoc.specs.Calls.{with_max_send_message_size}
 use Rattle.sctp_assoc.specs.Closing.{closed_by, is_closed_state}
 use Rattle.sctp_assoc.specs.Shown.{Shown}
 use Rattle.sctp_sides.specs.Shapes.{IsSameStatus}
 use Rattle.sctp_sides.proofs.Proved.{accept_leads_on, accepted_streams_keep_the_status, faults_close}
+use Rattle.sctp_sides.proofs.Proved.{limit_leads_on, limits_keep_the_status}
 use Rattle.sctp_sides.proofs.Proved.{found_streams_are_live, setting_leads_on, settings_hold_nothing}
 use Rattle.sctp_sides.proofs.Proved.{settings_keep_the_status, the_same_handshake_is_the_same_stage}
 use Rattle.sctp_pair.specs.declared.step.Reply.{Reply}
 use Rattle.sctp_pair.specs.declared.step.Reply.TheVariants as replies
-use Rattle.sctp_pair.specs.Steps.{Accepts, ClosesOne, Lists, Sets, ShowsOrRefuses}
+use Rattle.sctp_pair.specs.Steps.{Accepts, ClosesOne, Limits, Lists, Sets, ShowsOrRefuses}
 use Rattle.sctp_pair.proofs.BetweenDirections.{KeepsOrder, orderly_acts_keep_order}
 use Rattle.sctp_pair.proofs.BetweenDirections.{Faces, SettlesQuietly, Surroundings}
 use Rattle.sctp_pair.proofs.SimpleCalls.{by_working, closed_on, fails_settle, open_on, same_settles, settles_by_receiver}
@@ -156,6 +158,41 @@ accepts_settle {x} {a} {b} (replies.Accepted id) h f =
     (λ (working : a.failed ≡ false). accepted_settles id working h f)
     (cases_Bool a.failed)
 accepts_settle r h f = absurd h
+
+-- A limit is set
+
+limit_if_failed : (a b : Shown) (size : ℕ) → a.failed ≡ true → b ≡ with_max_send_message_size a size → b ≡ a
+limit_if_failed a b size failed e =
+    subst (λ (c : Bool). b ≡ (if c then a else record a { max_send_message_size = size })) failed e
+
+limit_settles : {x : Surroundings} {a b : Shown} (size : ℕ) → a.failed ≡ false
+    → b ≡ with_max_send_message_size a size → Faces x a → SettlesQuietly x b
+limit_settles {x} {a} {b} size working e f =
+    let stays = subst (λ z. IsSameStatus a z × (z.streams ≡ a.streams)) (sym e) (limits_keep_the_status a size) in
+    by_working (SettlesQuietly x b) working f
+    (λ s. let m = limit_leads_on a b size e s.past s.binds in
+    still f (at_same a b x.here stays.0 f.at) (inl (open_on x [] s record {
+      past2 = m.0;
+      leads = m.1;
+      nobody = tt;
+      orderly = tt;
+      same = stays.0;
+      size = refl;
+      outgoing = s.between.outgoing;
+      incoming = s.between.incoming;
+    })))
+    (λ s. still f (at_same a b x.here stays.0 f.at)
+    (inr (inl (closed_on stays.0 (empty_still a b stays.1 s.nothing_left) s))))
+
+-- Writes take messages of up to so many bytes from now on.
+pub limits_settle : {x : Surroundings} {a b : Shown} (size : ℕ) (r : Reply) → Limits a size r b → Faces x a
+    → SettlesQuietly x b
+limits_settle {x} {a} {b} size replies.Done h f =
+    ⊎_elim
+    (λ (failed : a.failed ≡ true). same_settles (limit_if_failed a b size failed h) f)
+    (λ (working : a.failed ≡ false). limit_settles size working h f)
+    (cases_Bool a.failed)
+limits_settle size r h f = absurd h
 
 -- The application closes
 

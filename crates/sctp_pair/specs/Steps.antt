@@ -16,7 +16,8 @@ use Rattle.sctp_streams.specs.declared.setting.Setting.{Setting}
 use Rattle.sctp_streams.specs.declared.setting.Setting.TheVariants as settings
 use Rattle.sctp_streams.specs.Stream.{StreamView, is_read_half_open, is_write_half_open, params_of}
 use Rattle.sctp_streams.specs.Streams.{live_ids, stream_at}
-use Rattle.sctp_assoc.specs.Calls.{open_refusal, opened, read_from_stream, stream_refusal, write_refusal, written}
+use Rattle.sctp_assoc.specs.Calls.{open_refusal, opened, read_from_stream, stream_refusal, write_refusal}
+use Rattle.sctp_assoc.specs.Calls.{with_max_send_message_size, written}
 use Rattle.sctp_assoc.specs.Chunks.{after_packet}
 use Rattle.sctp_assoc.specs.Happened.{PollsOn, acts_of_poll}
 use Rattle.sctp_assoc.specs.Inbound.{taken_packet}
@@ -118,6 +119,11 @@ ShowsOrRefuses a id answer reply b =
 abbrev pub Accepts : Shown → Reply → Shown → Type 0
 Accepts a (replies.Accepted id) b = accepted_stream a ≡ (b, id)
 Accepts a _ b = ⊥
+
+-- writes take messages of up to so many bytes
+abbrev pub Limits : Shown → ℕ → Reply → Shown → Type 0
+Limits a size replies.Done b = b ≡ with_max_send_message_size a size
+Limits a size _ b = ⊥
 
 abbrev pub Buffers : Shown → ℕ → Reply → Shown → Type 0
 Buffers a id (replies.BufferedAmount n) b = (buffered_of a id ≡ Ok n) × (b ≡ a)
@@ -238,6 +244,7 @@ abbrev pub Steps : Step → Ends → Reply → Ends → Type 0
 Steps (steps.OpenStream side id kind) p r q = AtSide side p (λ a b. Opens a id kind r b) q
 Steps (steps.Stream side id) p r q = AtSide side p (λ a b. Finds a id r b) q
 Steps (steps.AcceptStream side) p r q = AtSide side p (λ a b. Accepts a r b) q
+Steps (steps.SetMaxSendMessageSize side size) p r q = AtSide side p (λ a b. Limits a size r b) q
 Steps (steps.StreamIds side) p r q = AtSide side p (λ a b. Lists a r b) q
 Steps (steps.Close side) p r q = AtSide side p (λ a b. ClosesOne a r b) q
 Steps (steps.Write side id bytes) p r q = AtSide side p (λ a b. Writes a id None bytes r b) q

@@ -5,7 +5,8 @@ ghost use Rattle.sctp_assoc.specs.Chunks.{after_packet};
 ghost use Rattle.sctp_assoc.specs.Inbound.{taken_packet};
 ghost use Rattle.sctp_assoc.specs.Gather.{bytes_within};
 ghost use Rattle.sctp_pair.specs.Steps.{Buffers, Delivers, Expires, Fails, Finds, GivesOut, HadFailed, Opens, Reads};
-ghost use Rattle.sctp_pair.specs.Steps.{Accepts, ClosesOne, Keeps, Lists, Sets, ShowsOrRefuses, TakesIn, TakesPacket};
+ghost use Rattle.sctp_pair.specs.Steps.{Accepts, ClosesOne, Keeps, Limits, Lists, Sets, ShowsOrRefuses, TakesIn};
+ghost use Rattle.sctp_pair.specs.Steps.{TakesPacket};
 ghost use Rattle.sctp_pair.specs.Steps.{Tells, Writes, WritesFirst, refusal_to_write};
 ghost use Rattle.sctp_assoc.specs.Calls.{RefusesOrLacksMemory, first_filled, written};
 ghost use Rattle.sctp_pair.specs.declared.step.Reply.TheVariants as replies;
@@ -51,6 +52,13 @@ pub(crate) fn accept_stream(association: &mut Association) -> Reply
         Some(stream) => Reply::Accepted(Some(stream.stream_identifier())),
         None => Reply::Accepted(None),
     }
+}
+
+pub(crate) fn set_max_send_message_size(association: &mut Association, size: u32) -> Reply
+    ensures { Limits association.old size result association.new }
+{
+    association.set_max_send_message_size(size);
+    Reply::Done
 }
 
 pub(crate) fn stream_ids(association: &mut Association) -> Reply

@@ -289,6 +289,10 @@ impl Pair {
             } => calls::open_stream(self.end(*side), *id, *payload_type),
             Step::Stream { side, id } => calls::find_stream(self.end(*side), *id),
             Step::AcceptStream { side } => calls::accept_stream(self.end(*side)),
+            Step::SetMaxSendMessageSize {
+                side,
+                max_send_message_size,
+            } => calls::set_max_send_message_size(self.end(*side), *max_send_message_size),
             Step::StreamIds { side } => calls::stream_ids(self.end(*side)),
             Step::Close { side } => calls::close(self.end(*side)),
             Step::Write { side, id, bytes } => calls::write(self.end(*side), *id, bytes),

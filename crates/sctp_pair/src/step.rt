@@ -36,6 +36,11 @@ pub enum Step {
     StreamIds {
         side: Side2,
     },
+    /// `Association::set_max_send_message_size`, in bytes. Its reply is `Done`, and it is never refused.
+    SetMaxSendMessageSize {
+        side: Side2,
+        max_send_message_size: u32,
+    },
     /// `Stream::write` of one message. Its reply is `Wrote`.
     Write {
         side: Side2,
@@ -207,8 +212,8 @@ pub enum Step {
     },
 }
 
-/// What a step was answered. Each step may be answered `Refused`, but for `AcceptStream`, `PollTimeout`, `Rtt` and the
-/// questions about the state.
+/// What a step was answered. Each step may be answered `Refused`, but for `AcceptStream`, `SetMaxSendMessageSize`,
+/// `PollTimeout`, `Rtt` and the questions about the state.
 #[derive(Debug, Drop)]
 pub enum Reply {
     /// The call was carried out and answers nothing else.

@@ -350,25 +350,23 @@ first_sent_gives : (ms : List Waiting) (now : ℕ) → AllByRecursion GivesData 
 first_sent_gives [] now = tt
 first_sent_gives (m ∷ ms) now = (tt, tt)
 
-sending_gives : (n : ℕ) (s : Sender) (out : List ChunkPayloadData) (now : ℕ)
-    → AllByRecursion GivesData (acts_of_sending n s out now)
-sending_gives zero s out now = tt
-sending_gives (suc n) s out now =
-    let one = sent_one s.queue.pending s out now in
-    give_if (can_send_next s) (Act.Sent now ∷ acts_of_sending n one.0 one.1 now) []
-    (tt, sending_gives n one.0 one.1 now) tt
+sending_gives : (n : ℕ) (s : Sender) (now : ℕ) → AllByRecursion GivesData (acts_of_sending n s now)
+sending_gives zero s now = tt
+sending_gives (suc n) s now =
+    give_if (can_send_next s) (Act.Sent now ∷ acts_of_sending n (sent_one s.queue.pending s now).0 now) []
+    (tt, sending_gives n (sent_one s.queue.pending s now).0 now) tt
 
-new_gives : (s : Sender) (out : List ChunkPayloadData) (now : ℕ) → AllByRecursion GivesData (acts_of_new s out now)
-new_gives s out now =
+new_gives : (s : Sender) (now : ℕ) → AllByRecursion GivesData (acts_of_new s now)
+new_gives s now =
     give_if (eqb (length s.queue.in_flight) 0 && not (can_send_next s)) (first_sent s.queue.pending now)
-    (acts_of_sending (pieces_waiting s.queue.pending) s out now)
-    (first_sent_gives s.queue.pending now) (sending_gives (pieces_waiting s.queue.pending) s out now)
+    (acts_of_sending (pieces_waiting s.queue.pending) s now)
+    (first_sent_gives s.queue.pending now) (sending_gives (pieces_waiting s.queue.pending) s now)
 
 data_poll_gives : (a : Shown) (now : ℕ) → AllByRecursion GivesData (acts_of_data_poll a now)
 data_poll_gives a now =
     let s = after_marked a.sender in
     all_join GivesData (acts_of_marks a.sender ++ acts_of_missing s)
-    (acts_of_new (after_resending a.sender) (resent_by a.sender) now)
+    (acts_of_new (after_resending a.sender) now)
     (all_join GivesData (acts_of_marks a.sender) (acts_of_missing s)
     (give_if (resends_alone a.sender) (first_again a.sender.queue.in_flight)
     (acts_of_resending causes.Timer 0 (both_windows a.sender) a.sender.queue.in_flight)
@@ -376,7 +374,7 @@ data_poll_gives a now =
     (resending_gives causes.Timer 0 (both_windows a.sender) a.sender.queue.in_flight))
     (give_if s.is_fast_due (acts_of_resending causes.Fast 0 (fast_room s) s.queue.in_flight) []
     (resending_gives causes.Fast 0 (fast_room s) s.queue.in_flight) tt))
-    (new_gives (after_resending a.sender) (resent_by a.sender) now)
+    (new_gives (after_resending a.sender) now)
 
 pub polls_give_and_report : PollsGiveAndReport
 polls_give_and_report a now established = record {

@@ -12,7 +12,7 @@ use Rattle.sctp_assoc.specs.Calls.{accepted_from, high_told, written_at}
 use Rattle.sctp_assoc.specs.Closing.{is_closed_state}
 use Rattle.sctp_assoc.specs.Shown.{Shown}
 use Rattle.sctp_sides.specs.Laws.{AcceptedStreamsDoNotClose, ClosesClose, SettingsDoNotClose, TellsNothing, DoesNotClose}
-use Rattle.sctp_sides.specs.Laws.{WritesDoNotClose, loss_of, losses}
+use Rattle.sctp_sides.specs.Laws.{LimitsDoNotClose, WritesDoNotClose, loss_of, losses}
 use Rattle.sctp_sides.proofs.ClosingPackets.{fault_closes, stays}
 
 -- The event of a high mark is no loss.
@@ -41,6 +41,14 @@ writes_do_not_close a id named bytes = written_unclosed (stream_at a.streams id)
 
 pub settings_do_not_close : SettingsDoNotClose
 settings_do_not_close a id setting = record { state = refl; lost = refl; events = refl }
+
+limit_open_if : (failed : Bool) (a : Shown) (size : ℕ)
+    → TellsNothing a (if failed then a else record a { max_send_message_size = size })
+limit_open_if true a size = record { state = refl; lost = refl; events = refl }
+limit_open_if false a size = record { state = refl; lost = refl; events = refl }
+
+pub limits_do_not_close : LimitsDoNotClose
+limits_do_not_close a size = limit_open_if a.failed a size
 
 accepted_open : (ids : List ℕ) (a : Shown) → TellsNothing a (accepted_from ids a).0
 accepted_open [] a = record { state = refl; lost = refl; events = refl }

@@ -21,6 +21,7 @@ use Rattle.sctp_model.specs.Packets.{mem}
 use Rattle.sctp_outbound.specs.declared.sender.Sender.{Sender}
 use Rattle.sctp_outbound.specs.Sender.{after_resending, resent_by, sent_new}
 use Rattle.sctp_directions.specs.Acts.{History, reach_in, receiving}
+use Rattle.sctp_wire.specs.DataPackets.{datagrams_of}
 use Rattle.sctp_assoc.specs.Leads.{parts}
 use Rattle.sctp_assoc.specs.Calls.{after_ack_delay, after_t3, is_established, retransmits, t3_expired}
 use Rattle.sctp_assoc.specs.Handshake.{after_t1_init, sends_cookie, sends_init, t1_cookie_expired, t1_init_expired}
@@ -28,7 +29,7 @@ use Rattle.sctp_assoc.specs.Timeouts.{after_handshake_timers}
 use Rattle.sctp_sides.specs.Laws.{DueSacksGoOut, PollsDoNotClose, SacksAreSpelled, SacksOfferTheBuffer}
 use Rattle.sctp_sides.specs.Laws.{SacksNameThePoint, SacksSayWhatWasTaken, TellsNothing, TimersDoNotClose}
 use Rattle.sctp_assoc.specs.Gather.{fast_counted}
-use Rattle.sctp_assoc.specs.Gather.{ack_after, ack_polled, control_packets, data_packets, data_polled, exchange_polled}
+use Rattle.sctp_assoc.specs.Gather.{ack_after, ack_polled, control_packets, data_polled, exchange_polled}
 use Rattle.sctp_assoc.specs.Gather.{is_due, packet_bytes, packet_with, sack_chunk, sack_packet, spelled, with_sent_data}
 use Rattle.sctp_assoc.specs.Gather.{without_control}
 use Rattle.sctp_assoc.specs.Shown.{Shown}
@@ -44,23 +45,23 @@ use Rattle.sctp_sides.proofs.WaitingGoesOut.{ack_behind, fits_written, short_eno
 open_on : (a b c : Shown) → TellsNothing a b → TellsNothing b c → TellsNothing a c
 open_on a b c m n = record { state = n.state ∙ m.state; lost = n.lost ∙ m.lost; events = n.events ∙ m.events }
 
-sent_data_open : (a : Shown) (count now : ℕ) (x : Sender × List ChunkPayloadData)
-    → TellsNothing a (with_sent_data (fast_counted a) count now x).0
-sent_data_open a count now (s, pieces) = record { state = refl; lost = refl; events = refl }
+sent_data_open : (a : Shown) (now : ℕ) (x : Sender × List ChunkPayloadData)
+    → TellsNothing a (with_sent_data (fast_counted a) now x)
+sent_data_open a now (s, pieces) = record { state = refl; lost = refl; events = refl }
 
 data_open : (a : Shown) (now : ℕ) → TellsNothing a (data_polled a now).0
 unfolding data_polled
 data_open a now =
-    sent_data_open a (length (resent_by a.sender)) now (sent_new (after_resending a.sender) (resent_by a.sender) now)
+    sent_data_open a now (sent_new (after_resending a.sender) now)
 
 ack_open : (due : Bool) (b : Shown) → is_due b.receiver.ack_state ≡ due → TellsNothing b (ack_polled b).0
 unfolding ack_polled
 ack_open true b e = rw e (record { state = refl; lost = refl; events = refl })
 ack_open false b e = rw e (record { state = refl; lost = refl; events = refl })
 
-both_open : (a : Shown) (x : Shown × List ChunkPayloadData) → TellsNothing a x.0 → TellsNothing a (ack_after x).0
+both_open : (a : Shown) (x : Shown × List (List ChunkPayloadData)) → TellsNothing a x.0 → TellsNothing a (ack_after x).0
 both_open a (b, pieces) m =
-    rw (both_first (data_packets (header_of b.handshake) pieces) (ack_polled b))
+    rw (both_first (datagrams_of (header_of b.handshake) pieces) (ack_polled b))
     (open_on a b (ack_polled b).0 m (ack_open _ b refl))
 
 polls_open_if : (c : Bool) (a : Shown) (now : ℕ) → TellsNothing a (if c then ack_after (data_polled a now) else (a, [])).0
@@ -78,7 +79,7 @@ polls_do_not_close a now =
     (record { state = m.state; lost = m.lost; events = m.events })
 
 exchange_reports : (a : Shown) (now : ℕ) → is_established a.state ≡ true → is_due a.receiver.ack_state ≡ true
-    → (exchange_polled a now).1 ≡ data_packets (header_of (data_polled a now).0.handshake) (data_polled a now).1
+    → (exchange_polled a now).1 ≡ datagrams_of (header_of (data_polled a now).0.handshake) (data_polled a now).1
     ++ sack_packet a
 unfolding exchange_polled
 exchange_reports a now established due =
@@ -86,13 +87,13 @@ exchange_reports a now established due =
     let given : (ack_polled (data_polled a now).0).1 ≡ sack_packet a =
     ack_said (data_polled a now).0 ∙ stays.acks ∙ rw due refl in
     rw established (ack_behind (data_polled a now)
-    ∙ ap (λ (z : List (List ℕ)). data_packets (header_of (data_polled a now).0.handshake) (data_polled a now).1 ++ z)
+    ∙ ap (λ (z : List (List ℕ)). datagrams_of (header_of (data_polled a now).0.handshake) (data_polled a now).1 ++ z)
     given)
 
 pub due_sacks_go_out : DueSacksGoOut
 due_sacks_go_out a now established due =
     let b : Shown = without_control a in
-    let pieces = data_packets (header_of (data_polled b now).0.handshake) (data_polled b now).1 in (
+    let pieces = datagrams_of (header_of (data_polled b now).0.handshake) (data_polled b now).1 in (
       control_packets a.control ++ pieces,
       both_second (control_packets a.control) (exchange_polled b now)
           ∙ ap (λ (z : List (List ℕ)). control_packets a.control ++ z) (exchange_reports b now established due)

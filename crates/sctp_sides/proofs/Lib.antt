@@ -1,5 +1,7 @@
 mod ActsOfChunks
 mod BlocksWithin
+mod BundleLengths
+mod BundlesFilled
 mod ClosingCalls
 mod ClosingCauses
 mod ClosingPackets
@@ -24,4 +26,5 @@ mod TimersOverRuns
 mod TimersOverTimeouts
 mod TimersRun
 mod WaitingGoesOut
+mod WindowsHold
 mod WrittenIsHeld

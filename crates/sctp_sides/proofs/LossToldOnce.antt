@@ -6,7 +6,8 @@ use Rattle.std.proofs.lemmas.List.Sums.{sum_by-append, sum_by-cons}
 use Rattle.sctp_wire_types.specs.declared.error.Error.{Error}
 use Rattle.sctp_streams.specs.declared.event.AssociationError.TheVariants as reasons
 use Rattle.sctp_streams.specs.declared.event.Event.{Event}
-use Rattle.sctp_assoc.specs.Calls.{accepted_stream, event_from, fault_told, written}
+use Rattle.sctp_assoc.specs.Calls.{accepted_stream, event_from, fault_told, with_max_send_message_size}
+use Rattle.sctp_assoc.specs.Calls.{written}
 use Rattle.sctp_assoc.specs.Closing.{closed_by, is_closed_state}
 use Rattle.sctp_assoc.specs.Chunks.{after_packet}
 use Rattle.sctp_sides.specs.Laws.{IsClosedIf, TellsNothing, DoesNotClose, closes, is_faulted_packet, loss_of, losses}
@@ -17,7 +18,8 @@ use Rattle.sctp_assoc.specs.Timeouts.{after_timeouts}
 use Rattle.sctp_sides.specs.Witnesses.{LossesAreToldOnce, loss_count}
 use Rattle.sctp_sides.proofs.ClosingPackets.{faults_alone_close}
 use Rattle.sctp_sides.proofs.DueSacks.{polls_do_not_close, timers_do_not_close}
-use Rattle.sctp_sides.proofs.ClosingCalls.{accepted_streams_do_not_close, closes_close, writes_do_not_close}
+use Rattle.sctp_sides.proofs.ClosingCalls.{accepted_streams_do_not_close, closes_close, limits_do_not_close}
+use Rattle.sctp_sides.proofs.ClosingCalls.{writes_do_not_close}
 use Rattle.sctp_sides.proofs.TimersOverChunks.{IsSound}
 use Rattle.sctp_sides.proofs.TimersOverRuns.{Fell, Works, accepted_works, call_sound, fell, fresh_ticks, sound_closed}
 use Rattle.sctp_assoc.specs.Calls.{read_exhausts, read_from_stream}
@@ -70,6 +72,7 @@ closes_by (Call.OpenStream id kind) a = false
 closes_by (Call.Write id named bytes) a = false
 closes_by (Call.Set id setting) a = false
 closes_by Call.AcceptStream a = false
+closes_by (Call.SetMaxSendMessageSize size) a = false
 closes_by Call.Close a = not (is_closed_state a.state)
 closes_by (Call.Read id) a = read_closes a id
 closes_by Call.Poll a = false
@@ -101,6 +104,8 @@ carried_tells (Call.Write id named bytes) a ends =
     unclosed_tells a (written a id named bytes) (writes_do_not_close a id named bytes)
 carried_tells (Call.Set id setting) a ends = tells_nothing a _ refl refl
 carried_tells Call.AcceptStream a ends = open_tells a (accepted_stream a).0 (accepted_streams_do_not_close a)
+carried_tells (Call.SetMaxSendMessageSize size) a ends =
+    open_tells a (with_max_send_message_size a size) (limits_do_not_close a size)
 carried_tells Call.Close a ends =
     closing_tells (not (is_closed_state a.state)) a (closed_by a reasons.AssociationClosed)
     (closes_close a reasons.AssociationClosed) (open_is_kept (is_closed_state a.state) a.lost ends)

@@ -10,9 +10,11 @@ use Rattle.sctp_wire_types.specs.declared.chunk.Chunk.TheVariants as chunks
 use Rattle.sctp_wire_types.specs.declared.chunk.ChunkPayloadData.{ChunkPayloadData}
 use Rattle.sctp_wire_types.specs.declared.error.Fault.{Fault}
 use Rattle.sctp_wire_types.specs.declared.packet.CommonHeader.{CommonHeader}
-use Rattle.sctp_wire.specs.Packets.{checked, packet_at, packet_is_plain, written}
+use Rattle.sctp_wire.specs.DataPackets.{IsReadBack, all_of, data_fits, datagrams_of, packet_of}
+use Rattle.sctp_wire.specs.Packets.{checked, packet_at, packet_is_plain, spelling, written}
 use Rattle.sctp_inbound.specs.Handshake.{header_of}
-use Rattle.sctp_model.proofs.Lists.{all_join, all_weaker}
+use Rattle.sctp_model.proofs.Lists.{all_back, all_filter, all_front, all_join, all_map}
+use Rattle.sctp_model.proofs.Lists.{all_weaker}
 use Rattle.sctp_directions.specs.Acts.{all_data_given}
 use Rattle.sctp_assoc.specs.Leads.{parts}
 use Rattle.sctp_assoc.specs.Calls.{is_established}
@@ -20,7 +22,7 @@ use Rattle.sctp_assoc.specs.Happened.{acks_given}
 use Rattle.sctp_assoc.specs.Inbound.{taken_packet}
 use Rattle.sctp_assoc.specs.declared.control.ControlPacket.{ControlPacket}
 use Rattle.sctp_assoc.specs.Gather.{AckIsReadAgain, AreControlReadAgain, AreReadAgain, IsReadAgain, ack_after}
-use Rattle.sctp_assoc.specs.Gather.{after_both, control_packets, data_packets, data_polled, exchange_polled, is_due}
+use Rattle.sctp_assoc.specs.Gather.{after_both, control_packets, data_polled, exchange_polled, is_due}
 use Rattle.sctp_assoc.specs.Gather.{packet_bytes, packet_with, sack_chunk, sack_packet, spelled, without_control}
 use Rattle.sctp_sides.specs.Shapes.{IsGivenBy, IsWaitingToGo, OfEachChunk, PollsOutsideEstablishedGiveWhatWaits}
 use Rattle.sctp_sides.specs.Shapes.{PollsSayTheirActs, WhatWaitsGoesOutAsItIs}
@@ -53,13 +55,31 @@ one_says : (Is : Chunk → Type 0) (header : CommonHeader) (chunk : Chunk) → I
 unfolding packet_bytes
 one_says Is header chunk again s = spelled_says (written (packet_with header chunk)) Is header chunk again s
 
-data_says : (Is : Chunk → Type 0) (header : CommonHeader) (cs : List ChunkPayloadData) → AreReadAgain header cs
-    → AllByRecursion (λ (c : ChunkPayloadData). Is (chunks.Data c)) cs → AreOf Is (data_packets header cs)
+-- A packet of DATA says what its chunks say.
+
+bundle_checked : (c : Bool) (Is : Chunk → Type 0) (header : CommonHeader) (cs : List ChunkPayloadData)
+    → AllByRecursion (λ (c : ChunkPayloadData). Is (chunks.Data c)) cs
+    → OfEachChunk Is (if c then Some (packet_of header cs) else None)
+bundle_checked true Is header cs all = all_map Is (λ c. chunks.Data c) cs all
+bundle_checked false Is header cs all = tt
+
+bundle_says : (Is : Chunk → Type 0) (header : CommonHeader) (cs : List ChunkPayloadData) → IsReadBack header cs
+    → AllByRecursion (λ (c : ChunkPayloadData). Is (chunks.Data c)) cs
+    → OfEachChunk Is (taken_packet (packet_at (spelling (packet_of header cs))))
+bundle_says Is header cs again all =
+    subst (λ z. OfEachChunk Is (taken_packet z)) (sym again)
+    (bundle_checked (is_ok (checked (packet_of header cs))) Is header cs all)
+
+data_says : (Is : Chunk → Type 0) (header : CommonHeader) (bundles : List (List ChunkPayloadData))
+    → AreReadAgain header bundles
+    → AllByRecursion (λ (c : ChunkPayloadData). Is (chunks.Data c)) (all_of bundles)
+    → AreOf Is (datagrams_of header bundles)
 data_says Is header [] again all = tt
-data_says Is header (c ∷ cs) (again, more) (one, rest) =
-    all_join (λ (bytes : List ℕ). OfEachChunk Is (taken_packet (packet_at bytes))) (packet_bytes header (chunks.Data c))
-    (data_packets header cs)
-    (one_says Is header (chunks.Data c) again one) (data_says Is header cs more rest)
+data_says Is header (cs ∷ bs) (again, more) all =
+    let IsData : ChunkPayloadData → Type 0 = λ (c : ChunkPayloadData). Is (chunks.Data c) in (
+      bundle_says Is header cs again (all_front IsData cs (all_of bs) all),
+      data_says Is header bs more (all_back IsData cs (all_of bs) all),
+    )
 
 ack_says : (due : Bool) (Is : Chunk → Type 0) (a : Shown) → is_due a.receiver.ack_state ≡ due → AckIsReadAgain a
     → (is_due a.receiver.ack_state ≡ true → Is (sack_chunk a)) → AreOf Is (if due then sack_packet a else [])
@@ -87,28 +107,29 @@ waiting_say Is (c ∷ cs) (again, more) (plain, others) (one, rest) =
 pub polls_say_their_acts : PollsSayTheirActs
 polls_say_their_acts acts a b h packets =
     λ plain again established binds polls.
-    let Is : Chunk → Type 0 = IsGivenBy acts a h in
     let header = header_of a.handshake in
-    let given = all_data_given acts (parts a h) in
     let exchanged =
-    cond-true (is_established a.state)
-    (data_packets (header_of a.handshake) (all_data_given acts (parts a h)) ++ acks_given a) [] established in
+    cond-true (is_established a.state) (datagrams_of (header_of a.handshake) polls.bundles ++ acks_given a) []
+    established in
     let said = polls.said ∙ ap (λ (z : List (List ℕ)). control_packets a.control ++ z) exchanged in
+    let IsData : ChunkPayloadData → Type 0 = λ (c : ChunkPayloadData). IsGivenBy acts a h (chunks.Data c) in
+    let given =
+    all_weaker (λ (c : ChunkPayloadData). (k : ℕ) × (slice_get (all_data_given acts (parts a h)) k ≡ Some c)) IsData
+    (all_data_given acts (parts a h)) (λ c there. inr there) (each_there (all_data_given acts (parts a h))) in
+    let carried : AllByRecursion IsData (all_of polls.bundles) =
+    subst (AllByRecursion IsData) (sym polls.joined)
+    (all_filter IsData data_fits (all_data_given acts (parts a h)) given) in
     subst (AreOf (IsGivenBy acts a h)) (sym said)
     (all_join (λ (bytes : List ℕ). OfEachChunk (IsGivenBy acts a h) (taken_packet (packet_at bytes)))
     (control_packets a.control)
-    (data_packets (header_of a.handshake) (all_data_given acts (parts a h)) ++ acks_given a)
+    (datagrams_of (header_of a.handshake) polls.bundles ++ acks_given a)
     (waiting_say (IsGivenBy acts a h) a.control again plain
     (all_weaker (λ (c : ControlPacket). (k : ℕ) × (slice_get a.control k ≡ Some c))
     (λ (c : ControlPacket). IsGivenBy acts a h c.chunk) a.control
     (λ c there. inl (there.0, c, there.1, refl)) (each_there a.control)))
     (all_join (λ (bytes : List ℕ). OfEachChunk (IsGivenBy acts a h) (taken_packet (packet_at bytes)))
-    (data_packets (header_of a.handshake) (all_data_given acts (parts a h))) (acks_given a)
-    (data_says (IsGivenBy acts a h) (header_of a.handshake) (all_data_given acts (parts a h))
-    (polls.data_again established)
-    (all_weaker (λ (c : ChunkPayloadData). (k : ℕ) × (slice_get (all_data_given acts (parts a h)) k ≡ Some c))
-    (λ (c : ChunkPayloadData). IsGivenBy acts a h (chunks.Data c))
-    (all_data_given acts (parts a h)) (λ c there. inr there) (each_there (all_data_given acts (parts a h)))))
+    (datagrams_of (header_of a.handshake) polls.bundles) (acks_given a)
+    (data_says (IsGivenBy acts a h) (header_of a.handshake) polls.bundles (polls.data_again established) carried)
     (ack_says (is_due a.receiver.ack_state) (IsGivenBy acts a h) a refl (polls.ack_again established)
     (λ due. inr (due, sacks_say_what_was_taken a h binds)))))
 

@@ -5,7 +5,8 @@ pub use Rattle.sctp_sides.proofs.PacketLaws.{lost_associations_take_nothing, no_
 pub use Rattle.sctp_sides.proofs.PacketLaws.{packets_end}
 pub use Rattle.sctp_assoc.proofs.CallsLeadOn.{open_leads_on, plain_read_leads, poll_leads_on, read_leads_on}
 pub use Rattle.sctp_assoc.proofs.CallsLeadOn.{timeouts_lead_on}
-pub use Rattle.sctp_assoc.proofs.CallsLeadOn.{close_leads_on, accept_leads_on, setting_leads_on, write_leads_on}
+pub use Rattle.sctp_assoc.proofs.CallsLeadOn.{close_leads_on, accept_leads_on, limit_leads_on, setting_leads_on}
+pub use Rattle.sctp_assoc.proofs.CallsLeadOn.{write_leads_on}
 pub use Rattle.sctp_sides.proofs.LiveStreams.{accepted_writes_fit, found_streams_are_live, opened_streams_hold_nothing}
 pub use Rattle.sctp_sides.proofs.LiveStreams.{opened_streams_were_not_live, settings_hold_nothing}
 pub use Rattle.sctp_sides.proofs.LiveStreams.{what_holds_nothing_gives_nothing}
@@ -17,7 +18,7 @@ pub use Rattle.sctp_sides.proofs.ActsOfChunks.{data_is_taken, greetings_meet, ot
 pub use Rattle.sctp_sides.proofs.ActsOfChunks.{other_sacks_do_nothing, polls_give_and_report, sacks_acknowledge}
 pub use Rattle.sctp_sides.proofs.ActsOfChunks.{taken_sacks_acknowledge, timeouts_mark_at_most}
 pub use Rattle.sctp_sides.proofs.Status.{opened_streams_keep_the_status, polls_keep_the_status, reads_keep_the_status}
-pub use Rattle.sctp_sides.proofs.Status.{accepted_streams_keep_the_status, settings_keep_the_status}
+pub use Rattle.sctp_sides.proofs.Status.{accepted_streams_keep_the_status, limits_keep_the_status, settings_keep_the_status}
 pub use Rattle.sctp_sides.proofs.Status.{timers_keep_the_status, told_events_keep_the_status, writes_keep_the_status}
 pub use Rattle.sctp_sides.proofs.ClosingCalls.{accepted_streams_do_not_close, closes_close, settings_do_not_close}
 pub use Rattle.sctp_sides.proofs.StreamsChanged.{at_made, at_with}

@@ -1,6 +1,6 @@
 -- Calls leave an association's status as it is: whether it failed, its state, whether it was lost, and its payload
 -- size.
-use Rattle.std.proofs.Common.{◌≡◌, refl, sym, ap, ◌∙◌, ℕ, zero, suc, Bool, true, false, ◌&&◌, if◌then◌else◌, not, eqb}
+use Rattle.std.proofs.Common.{◌++◌, ◌≡◌, refl, sym, ap, ◌∙◌, ℕ, zero, suc, Bool, true, false, ◌&&◌, if◌then◌else◌, not, eqb}
 use Rattle.std.proofs.Common.{List, [], ◌∷◌, length, Option, Some, None, is_some, Result, Ok, Err}
 use Rattle.std.specs.Prelude.{slice_get}
 use Rattle.sctp_wire_types.specs.declared.chunk.Chunk.{Chunk}
@@ -29,6 +29,7 @@ use Rattle.sctp_outbound.specs.declared.sender.SackOutcome.{SackOutcome}
 use Rattle.sctp_outbound.specs.declared.sender.SackOutcome.TheVariants as outcomes
 use Rattle.sctp_outbound.specs.declared.sender.Sender.{Sender}
 use Rattle.sctp_wire_types.specs.declared.chunk.GapAckBlock.{GapAckBlock}
+use Rattle.sctp_wire.specs.DataPackets.{datagrams_of}
 use Rattle.sctp_assoc.proofs.ActsKeepOffsets.{blocks_size}
 use Rattle.sctp_outbound.specs.Sender.{acknowledged, after_first, after_resending, can_send_next, tsns_up_to, resent_by}
 use Rattle.sctp_outbound.specs.Sacks.{before_point}
@@ -42,10 +43,10 @@ use Rattle.sctp_assoc.specs.Chunks.{told}
 use Rattle.sctp_assoc.specs.Handshake.{after_t1_init, cookie_queued, echoed, information_returned, init_queued}
 use Rattle.sctp_assoc.specs.Handshake.{on_cookie_ack, on_cookie_echo, on_heartbeat, on_init, on_init_ack, sends_cookie}
 use Rattle.sctp_assoc.specs.Handshake.{sends_init, t1_cookie_expired, t1_init_expired}
-use Rattle.sctp_assoc.specs.Gather.{ack_after, ack_polled, control_packets, data_packets, data_polled, exchange_polled}
+use Rattle.sctp_assoc.specs.Gather.{ack_after, ack_polled, control_packets, data_polled, exchange_polled}
 use Rattle.sctp_assoc.specs.Gather.{fast_counted, is_due, packet_with, with_sent_data, without_control}
 use Rattle.sctp_assoc.specs.Timeouts.{after_handshake_timers}
-use Rattle.sctp_sides.specs.Shapes.{IsSameStatus, KeepsWorking, Leaves, OpenedStreamsKeepTheStatus, PollsKeepTheStatus}
+use Rattle.sctp_sides.specs.Shapes.{IsSameStatus, KeepsWorking, Leaves, LimitsKeepTheStatus, OpenedStreamsKeepTheStatus, PollsKeepTheStatus}
 use Rattle.sctp_sides.specs.Shapes.{ReadsKeepTheStatus, TimersKeepTheStatus, ToldEventsKeepTheStatus}
 use Rattle.sctp_sides.specs.Shapes.{AcceptedStreamsKeepTheStatus, SettingsKeepTheStatus, WritesKeepTheStatus}
 use Rattle.sctp_sides.specs.Meeting.{Greets, IsTruthful, stage_of}
@@ -324,11 +325,11 @@ chunk_leaves header c a trigger now = checked_leaves (checked_chunk c) header c 
 
 -- A poll for packets
 
-sent_one_size : (ms : List Waiting) (s : Sender) (out : List ChunkPayloadData) (now : ℕ)
-    → (sent_one ms s out now).0.max_payload_size ≡ s.max_payload_size
+sent_one_size : (ms : List Waiting) (s : Sender) (now : ℕ)
+    → (sent_one ms s now).0.max_payload_size ≡ s.max_payload_size
 unfolding sent_one
-sent_one_size [] s out now = refl
-sent_one_size (m ∷ ms) s out now = refl
+sent_one_size [] s now = refl
+sent_one_size (m ∷ ms) s now = refl
 
 sent_within_if : (c : Bool) (x y : Sender × List ChunkPayloadData) (size : ℕ) → x.0.max_payload_size ≡ size
     → y.0.max_payload_size ≡ size
@@ -336,40 +337,39 @@ sent_within_if : (c : Bool) (x y : Sender × List ChunkPayloadData) (size : ℕ)
 sent_within_if true x y size e f = e
 sent_within_if false x y size e f = f
 
-sent_within_size : (n : ℕ) (s : Sender) (out : List ChunkPayloadData) (now : ℕ)
-    → (sent_within n s out now).0.max_payload_size ≡ s.max_payload_size
-sent_within_size zero s out now = refl
-sent_within_size (suc n) s out now =
-    let one = sent_one s.queue.pending s out now in
-    sent_within_if (can_send_next s) (sent_within n one.0 one.1 now) (s, out) s.max_payload_size
-    (sent_within_size n one.0 one.1 now ∙ sent_one_size s.queue.pending s out now) refl
+sent_within_size : (n : ℕ) (s : Sender) (now : ℕ) → (sent_within n s now).0.max_payload_size ≡ s.max_payload_size
+sent_within_size zero s now = refl
+sent_within_size (suc n) s now =
+    let one = sent_one s.queue.pending s now in
+    let rest = sent_within n one.0 now in
+    sent_within_if (can_send_next s) (rest.0, one.1 ++ rest.1) (s, []) s.max_payload_size
+    (sent_within_size n one.0 now ∙ sent_one_size s.queue.pending s now) refl
 
-sent_new_size : (s : Sender) (out : List ChunkPayloadData) (now : ℕ)
-    → (sent_new s out now).0.max_payload_size ≡ s.max_payload_size
-sent_new_size s out now =
-    sent_within_if (eqb (length s.queue.in_flight) 0 && not (can_send_next s)) (sent_one s.queue.pending s out now)
-    (sent_within (pieces_waiting s.queue.pending) s out now) s.max_payload_size
-    (sent_one_size s.queue.pending s out now) (sent_within_size (pieces_waiting s.queue.pending) s out now)
+sent_new_size : (s : Sender) (now : ℕ) → (sent_new s now).0.max_payload_size ≡ s.max_payload_size
+sent_new_size s now =
+    sent_within_if (eqb (length s.queue.in_flight) 0 && not (can_send_next s)) (sent_one s.queue.pending s now)
+    (sent_within (pieces_waiting s.queue.pending) s now) s.max_payload_size
+    (sent_one_size s.queue.pending s now) (sent_within_size (pieces_waiting s.queue.pending) s now)
 
-sent_data_status : (a : Shown) (count now : ℕ) (x : Sender × List ChunkPayloadData)
+sent_data_status : (a : Shown) (now : ℕ) (x : Sender × List ChunkPayloadData)
     → x.0.max_payload_size ≡ a.sender.max_payload_size
-    → IsSameStatus a (with_sent_data (fast_counted a) count now x).0
-sent_data_status a count now (s, pieces) e = status_by a _ refl refl refl e refl refl refl
+    → IsSameStatus a (with_sent_data (fast_counted a) now x)
+sent_data_status a now (s, pieces) e = status_by a _ refl refl refl e refl refl refl
 
 data_polled_status : (a : Shown) (now : ℕ) → IsSameStatus a (data_polled a now).0
 unfolding data_polled
 data_polled_status a now =
-    sent_data_status a (length (resent_by a.sender)) now (sent_new (after_resending a.sender) (resent_by a.sender) now)
-    (sent_new_size (after_resending a.sender) (resent_by a.sender) now)
+    sent_data_status a now (sent_new (after_resending a.sender) now)
+    (sent_new_size (after_resending a.sender) now)
 
 ack_polled_status : (due : Bool) (a : Shown) → is_due a.receiver.ack_state ≡ due → IsSameStatus a (ack_polled a).0
 unfolding ack_polled
 ack_polled_status true a e = rw e (status_by a _ refl refl refl refl refl refl refl)
 ack_polled_status false a e = rw e (status_same a)
 
-ack_after_status : (x : Shown × List ChunkPayloadData) (a : Shown) → IsSameStatus a x.0 → IsSameStatus a (ack_after x).0
+ack_after_status : (x : Shown × List (List ChunkPayloadData)) (a : Shown) → IsSameStatus a x.0 → IsSameStatus a (ack_after x).0
 ack_after_status (b, pieces) a h =
-    rw (both_first (data_packets (header_of b.handshake) pieces) (ack_polled b))
+    rw (both_first (datagrams_of (header_of b.handshake) pieces) (ack_polled b))
     (status_on a b _ h (ack_polled_status (is_due b.receiver.ack_state) b refl))
 
 exchanged_if : (established : Bool) (a : Shown) (now : ℕ) → is_established a.state ≡ established
@@ -410,6 +410,15 @@ writes_keep_the_status a id named bytes = written_status (stream_at a.streams id
 
 pub settings_keep_the_status : SettingsKeepTheStatus
 settings_keep_the_status a id setting = status_by a _ refl refl refl refl refl refl refl
+
+limit_status_if : (failed : Bool) (a : Shown) (size : ℕ)
+    → IsSameStatus a (if failed then a else record a { max_send_message_size = size })
+    × ((if failed then a else record a { max_send_message_size = size }).streams ≡ a.streams)
+limit_status_if true a size = (status_same a, refl)
+limit_status_if false a size = (status_by a _ refl refl refl refl refl refl refl, refl)
+
+pub limits_keep_the_status : LimitsKeepTheStatus
+limits_keep_the_status a size = limit_status_if a.failed a size
 
 accepted_status : (ids : List ℕ) (a : Shown)
     → IsSameStatus a (accepted_from ids a).0 × ((accepted_from ids a).0.streams ≡ a.streams)

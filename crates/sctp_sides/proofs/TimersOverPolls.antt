@@ -1,5 +1,5 @@
 -- Polls for packets keep the timers where they should run: T3-rtx is restarted where DATA is sent for the first time.
-use Rattle.std.proofs.Common.{◌≡◌, refl, sym, ap, ◌∙◌, subst, ◌⊎◌, ⊎_elim, inl, inr, ℕ, zero, suc, ◌<◌, ◌-◌, arith}
+use Rattle.std.proofs.Common.{◌++◌, ◌≡◌, refl, sym, ap, ◌∙◌, subst, ◌⊎◌, ⊎_elim, inl, inr, ℕ, zero, suc, ◌<◌, ◌-◌, arith}
 use Rattle.std.proofs.Common.{Bool, true, false, eqb, ltb, ◌&&◌, not, if◌then◌else◌, List, [], ◌∷◌, length}
 use Rattle.std.proofs.lemmas.Bool.{false≢true, le-ltb, lt-ltb}
 use Rattle.std.proofs.lemmas.List.{length-append}
@@ -14,6 +14,7 @@ use Rattle.sctp_outbound_queue.specs.declared.message.InFlight.{InFlight}
 use Rattle.sctp_outbound_queue.specs.declared.message.Retransmission.{Retransmission}
 use Rattle.sctp_outbound_queue.specs.declared.message.Retransmission.TheVariants as causes
 use Rattle.sctp_outbound.specs.Sender.{after_marked, fast_room}
+use Rattle.sctp_wire.specs.DataPackets.{datagrams_of}
 use Rattle.sctp_assoc.specs.Gather.{fast_counted}
 use Rattle.sctp_outbound_queue.specs.Message.{counted_again, picks, room_taken, sent_once}
 use Rattle.sctp_outbound_queue.specs.Waiting.{Waiting}
@@ -22,7 +23,7 @@ use Rattle.sctp_outbound.specs.declared.sender.Sender.{Sender}
 use Rattle.sctp_outbound.specs.Sender.{after_resending, both_windows, can_send_next, first_counted, next_chunk_of}
 use Rattle.sctp_outbound.specs.Sender.{resends_alone, resent_by, resent_pieces, sent_new, sent_one, sent_within}
 use Rattle.sctp_assoc.specs.Calls.{is_beginning, is_established}
-use Rattle.sctp_assoc.specs.Gather.{ack_after, ack_polled, control_packets, data_packets, data_polled, exchange_polled}
+use Rattle.sctp_assoc.specs.Gather.{ack_after, ack_polled, control_packets, data_polled, exchange_polled}
 use Rattle.sctp_assoc.specs.Gather.{is_due, polled, t3_after_sending, with_sent_data, without_control}
 use Rattle.sctp_assoc.specs.Shown.{Shown}
 use Rattle.sctp_assoc.proofs.PollsLeadOn.{both_first}
@@ -32,50 +33,53 @@ use Rattle.sctp_sides.proofs.TimersRun.{restarted, restarted_keeps_ack, ticks_by
 -- Sending DATA for the first time
 
 -- Nothing was sent, or there is something in flight and DATA to give.
-abbrev Grows : Sender → List ChunkPayloadData → Sender × List ChunkPayloadData → Type 0
-Grows s out x =
-    ((x.0.queue.in_flight ≡ s.queue.in_flight) × (length x.1 ≡ length out))
-    ⊎ ((0 < length x.0.queue.in_flight) × (length out < length x.1))
+abbrev Grows : Sender → Sender × List ChunkPayloadData → Type 0
+Grows s x =
+    ((x.0.queue.in_flight ≡ s.queue.in_flight) × (length x.1 ≡ 0))
+    ⊎ ((0 < length x.0.queue.in_flight) × (0 < length x.1))
 
 flown_from : (m : Waiting) (ms : List Waiting) (q : Outbound) (now : ℕ)
     → 0 < length (sent_from (m ∷ ms) q now).in_flight
 flown_from m ms q now = omega (arith, length-append q.in_flight (sent_once now m ∷ []))
 
-one_grows : (ms : List Waiting) (s : Sender) (out : List ChunkPayloadData) (now : ℕ) → s.queue.pending ≡ ms
-    → Grows s out (sent_one ms s out now)
+one_grows : (ms : List Waiting) (s : Sender) (now : ℕ) → s.queue.pending ≡ ms → Grows s (sent_one ms s now)
 unfolding sent_one
-one_grows [] s out now e = inl (refl, refl)
-one_grows (m ∷ ms) s out now e = inr (
+one_grows [] s now e = inl (refl, refl)
+one_grows (m ∷ ms) s now e = inr (
   subst (λ (z : List Waiting). 0 < length (sent_from z s.queue now).in_flight) (sym e) (flown_from m ms s.queue now),
-  omega (arith, length-append out (next_chunk_of m (next_tsn_of s.queue) ∷ [])),
+  omega arith,
 )
 
-grows_on : (s : Sender) (out : List ChunkPayloadData) (one x : Sender × List ChunkPayloadData) → Grows s out one
-    → Grows one.0 one.1 x → Grows s out x
-grows_on s out one x (inl (e, n)) (inl (f, k)) = inl (f ∙ e, k ∙ n)
-grows_on s out one x (inl (e, n)) (inr (f, k)) = inr (f, omega (arith, n, k))
-grows_on s out one x (inr (e, n)) (inl (f, k)) = inr
-    (subst (λ (z : List InFlight). 0 < length z) (sym f) e, omega (arith, n, k))
-grows_on s out one x (inr (e, n)) (inr (f, k)) = inr (f, omega (arith, n, k))
+grows_on : (s : Sender) (one rest : Sender × List ChunkPayloadData) → Grows s one → Grows one.0 rest
+    → Grows s (rest.0, one.1 ++ rest.1)
+grows_on s one rest (inl (e, n)) (inl (f, k)) =
+    let both = length-append one.1 rest.1 in inl (f ∙ e, omega (arith, n, k, both))
+grows_on s one rest (inl (e, n)) (inr (f, k)) =
+    let both = length-append one.1 rest.1 in inr (f, omega (arith, n, k, both))
+grows_on s one rest (inr (e, n)) (inl (f, k)) =
+    let both = length-append one.1 rest.1 in
+    inr (subst (λ (z : List InFlight). 0 < length z) (sym f) e, omega (arith, n, k, both))
+grows_on s one rest (inr (e, n)) (inr (f, k)) =
+    let both = length-append one.1 rest.1 in inr (f, omega (arith, n, k, both))
 
-grows_if : (c : Bool) (s : Sender) (out : List ChunkPayloadData) (x y : Sender × List ChunkPayloadData) → Grows s out x
-    → Grows s out y → Grows s out (if c then x else y)
-grows_if true s out x y h k = h
-grows_if false s out x y h k = k
+grows_if : (c : Bool) (s : Sender) (x y : Sender × List ChunkPayloadData) → Grows s x → Grows s y
+    → Grows s (if c then x else y)
+grows_if true s x y h k = h
+grows_if false s x y h k = k
 
-within_grows : (n : ℕ) (s : Sender) (out : List ChunkPayloadData) (now : ℕ) → Grows s out (sent_within n s out now)
-within_grows zero s out now = inl (refl, refl)
-within_grows (suc n) s out now =
-    let one = sent_one s.queue.pending s out now in
-    grows_if (can_send_next s) s out (sent_within n one.0 one.1 now) (s, out)
-    (grows_on s out one (sent_within n one.0 one.1 now) (one_grows s.queue.pending s out now refl)
-    (within_grows n one.0 one.1 now)) (inl (refl, refl))
+within_grows : (n : ℕ) (s : Sender) (now : ℕ) → Grows s (sent_within n s now)
+within_grows zero s now = inl (refl, refl)
+within_grows (suc n) s now =
+    let one = sent_one s.queue.pending s now in
+    let rest = sent_within n one.0 now in
+    grows_if (can_send_next s) s (rest.0, one.1 ++ rest.1) (s, [])
+    (grows_on s one rest (one_grows s.queue.pending s now refl) (within_grows n one.0 now)) (inl (refl, refl))
 
-new_grows : (s : Sender) (out : List ChunkPayloadData) (now : ℕ) → Grows s out (sent_new s out now)
-new_grows s out now =
-    grows_if (eqb (length s.queue.in_flight) 0 && not (can_send_next s)) s out (sent_one s.queue.pending s out now)
-    (sent_within (pieces_waiting s.queue.pending) s out now) (one_grows s.queue.pending s out now refl)
-    (within_grows (pieces_waiting s.queue.pending) s out now)
+new_grows : (s : Sender) (now : ℕ) → Grows s (sent_new s now)
+new_grows s now =
+    grows_if (eqb (length s.queue.in_flight) 0 && not (can_send_next s)) s (sent_one s.queue.pending s now)
+    (sent_within (pieces_waiting s.queue.pending) s now) (one_grows s.queue.pending s now refl)
+    (within_grows (pieces_waiting s.queue.pending) s now)
 
 -- Sending DATA again
 
@@ -95,7 +99,7 @@ first_length : (ps : List InFlight) → length (first_counted ps) ≡ length ps
 first_length [] = refl
 first_length (p ∷ ps) = refl
 
-resending_keeps_as_many : (s : Sender) → length (after_resending s).queue.in_flight ≡ length s.queue.in_flight
+pub resending_keeps_as_many : (s : Sender) → length (after_resending s).queue.in_flight ≡ length s.queue.in_flight
 resending_keeps_as_many s =
     let t = after_marked s in
     let marked : length (after_marked s).queue.in_flight ≡ length s.queue.in_flight =
@@ -117,12 +121,11 @@ Brings flown count x =
 not_below : (m n : ℕ) → m ≡ n → ltb n m ≡ false
 not_below m n e = le-ltb n m (omega (arith, e))
 
-polls_bring : (s : Sender) (now : ℕ) → Brings (length s.queue.in_flight) (length (resent_by s))
-    (sent_new (after_resending s) (resent_by s) now)
+polls_bring : (s : Sender) (now : ℕ) → Brings (length s.queue.in_flight) 0 (sent_new (after_resending s) now)
 polls_bring s now = ⊎_elim
     (λ h. inl (ap (λ (z : List InFlight). length z) h.0 ∙ resending_keeps_as_many s, not_below _ _ h.1))
     (λ h. inr (h.0, lt-ltb _ _ h.1))
-    (new_grows (after_resending s) (resent_by s) now)
+    (new_grows (after_resending s) now)
 
 sent_if : (sent : Bool) (a : Shown) (now : ℕ) (s : Sender) → is_beginning a.state ≡ false
     → ((length s.queue.in_flight ≡ length a.sender.queue.in_flight) × (sent ≡ false))
@@ -145,15 +148,15 @@ sent_if true a now s b (inr (p, n)) h = record {
       (restarted_keeps_ack now a.estimate.rto a.timers) h.acks;
 }
 
-sent_data_ticks : (a : Shown) (count now : ℕ) (x : Sender × List ChunkPayloadData) → is_beginning a.state ≡ false
-    → Brings (length a.sender.queue.in_flight) count x → Ticks a
-    → Ticks (with_sent_data (fast_counted a) count now x).0
-sent_data_ticks a count now (s, pieces) b g h = sent_if (ltb count (length pieces)) a now s b g h
+sent_data_ticks : (a : Shown) (now : ℕ) (x : Sender × List ChunkPayloadData) → is_beginning a.state ≡ false
+    → Brings (length a.sender.queue.in_flight) 0 x → Ticks a
+    → Ticks (with_sent_data (fast_counted a) now x)
+sent_data_ticks a now (s, pieces) b g h = sent_if (ltb 0 (length pieces)) a now s b g h
 
 data_ticks : (a : Shown) (now : ℕ) → is_established a.state ≡ true → Ticks a → Ticks (data_polled a now).0
 unfolding data_polled
 data_ticks a now e h =
-    sent_data_ticks a (length (resent_by a.sender)) now (sent_new (after_resending a.sender) (resent_by a.sender) now)
+    sent_data_ticks a now (sent_new (after_resending a.sender) now)
     (established_begins_no_more a.state e) (polls_bring a.sender now) h
 
 due_is_not_delayed : (s : AckState) → is_due s ≡ true → is_delayed s ≡ false
@@ -171,8 +174,8 @@ ack_ticks true a e h = rw e (record {
 })
 ack_ticks false a e h = rw e h
 
-ack_after_ticks : (x : Shown × List ChunkPayloadData) → Ticks x.0 → Ticks (ack_after x).0
-ack_after_ticks (b, pieces) h = rw (both_first (data_packets (header_of b.handshake) pieces) (ack_polled b))
+ack_after_ticks : (x : Shown × List (List ChunkPayloadData)) → Ticks x.0 → Ticks (ack_after x).0
+ack_after_ticks (b, pieces) h = rw (both_first (datagrams_of (header_of b.handshake) pieces) (ack_polled b))
     (ack_ticks (is_due b.receiver.ack_state) b refl h)
 
 exchange_ticks : (established : Bool) (a : Shown) (now : ℕ) → is_established a.state ≡ established → Ticks a

@@ -71,11 +71,18 @@ accept_works : (failed : Bool) (a : Shown) → a.failed ≡ failed
 accept_works true a e = inr refl
 accept_works false a e = inl e
 
+limit_works : (failed : Bool) (a : Shown) (size : ℕ) → a.failed ≡ failed
+    → (a.failed ≡ false)
+    ⊎ (◌≡◌ {A = Shown × List Event} (if failed then a else record a { max_send_message_size = size }, []) (a, []))
+limit_works true a size e = inr refl
+limit_works false a size e = inl e
+
 pub accepted_works : (call : Call) (a : Shown) → call_refusal call a ≡ None → Works call a
 accepted_works (Call.OpenStream id kind) a e = inl (unrefused a.failed _ _ e)
 accepted_works (Call.Write id named bytes) a e = inl (unrefused a.failed _ _ e)
 accepted_works (Call.Set id setting) a e = inl (unrefused a.failed _ _ e)
 accepted_works Call.AcceptStream a e = accept_works a.failed a refl
+accepted_works (Call.SetMaxSendMessageSize size) a e = limit_works a.failed a size refl
 accepted_works Call.Close a e = inl (unrefused a.failed _ _ e)
 accepted_works (Call.Read id) a e = inl (unrefused a.failed _ _ e)
 accepted_works Call.Poll a e = inl (unrefused a.failed _ _ e)
@@ -92,6 +99,17 @@ write_rests : (o : Option StreamView) (a : Shown) (id : ℕ) (named : Option Pay
     → AtRest a → AtRest (written_at o a id named bytes)
 write_rests None a id named bytes h = h
 write_rests (Some s) a id named bytes h = rest_by a _ refl refl refl refl h
+
+-- a limit is set
+limit_ticks : (failed : Bool) (a : Shown) (size : ℕ) → Ticks a
+    → Ticks (if failed then a else record a { max_send_message_size = size })
+limit_ticks true a size h = h
+limit_ticks false a size h = ticks_by a _ (time_by a _ refl refl refl refl refl refl) h
+
+limit_rests : (failed : Bool) (a : Shown) (size : ℕ) → AtRest a
+    → AtRest (if failed then a else record a { max_send_message_size = size })
+limit_rests true a size h = h
+limit_rests false a size h = rest_by a _ refl refl refl refl h
 
 -- a stream is accepted
 accepted_time : (ids : List ℕ) (a : Shown) → IsSameTime a (accepted_from ids a).0
@@ -165,6 +183,7 @@ ticks_carried (Call.OpenStream id kind) a h = inl (ticks_by a _ (time_by a _ ref
 ticks_carried (Call.Write id named bytes) a h = inl (write_ticks (stream_at a.streams id) a id named bytes h)
 ticks_carried (Call.Set id setting) a h = inl (ticks_by a _ (time_by a _ refl refl refl refl refl refl) h)
 ticks_carried Call.AcceptStream a h = inl (accept_ticks a.failed a h)
+ticks_carried (Call.SetMaxSendMessageSize size) a h = inl (limit_ticks a.failed a size h)
 ticks_carried Call.Close a h = close_sound (is_closed_state a.state) a reasons.AssociationClosed h
 ticks_carried (Call.Read id) a h = read_sound (read_in a.streams id) a h
 ticks_carried Call.Poll a h = inl (poll_ticks a.events a h)
@@ -177,6 +196,7 @@ rest_carried (Call.OpenStream id kind) a lost h = rest_by a _ refl refl refl ref
 rest_carried (Call.Write id named bytes) a lost h = write_rests (stream_at a.streams id) a id named bytes h
 rest_carried (Call.Set id setting) a lost h = rest_by a _ refl refl refl refl h
 rest_carried Call.AcceptStream a lost h = accept_rests a.failed a h
+rest_carried (Call.SetMaxSendMessageSize size) a lost h = limit_rests a.failed a size h
 rest_carried Call.Close a lost h = close_rests (is_closed_state a.state) a reasons.AssociationClosed h
 rest_carried (Call.Read id) a lost h = read_rests (read_in a.streams id) a h
 rest_carried Call.Poll a lost h = poll_rests a.events a h

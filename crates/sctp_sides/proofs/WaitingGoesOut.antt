@@ -2,7 +2,8 @@
 use Rattle.std.proofs.Common.{◌≡◌, refl, sym, ap, ◌∙◌, subst, ⊎_elim, ℕ, zero, suc, ◌<◌, ◌≤◌, ◌+◌, ◌%◌, ◌^◌, arith}
 use Rattle.std.proofs.Common.{Bool, true, false, not, ◌&&◌, if◌then◌else◌, List, [], ◌∷◌, ◌++◌, length, nat_lt}
 use Rattle.std.proofs.Common.{slice_get, Some, Ok}
-use Rattle.std.proofs.lemmas.Bool.{cases_Bool, lt-ltb}
+use Rattle.std.specs.List.{AllByRecursion, filter}
+use Rattle.std.proofs.lemmas.Bool.{lt-ltb}
 use Rattle.std.proofs.lemmas.List.Sums.{sum_by-cons}
 use Rattle.sctp_wire_types.specs.declared.chunk.Chunk.TheVariants as chunks
 use Rattle.sctp_wire_types.specs.declared.chunk.ChunkPayloadData.{ChunkPayloadData}
@@ -16,8 +17,8 @@ use Rattle.sctp_outbound_queue.specs.declared.message.InFlight.{InFlight}
 use Rattle.sctp_outbound_queue.specs.Outbound.{Outbound, next_tsn_of, pieces_waiting}
 use Rattle.sctp_inbound.specs.Handshake.{header_of}
 use Rattle.sctp_outbound.specs.declared.sender.Sender.{Sender}
-use Rattle.sctp_assoc.specs.Gather.{fast_counted}
-use Rattle.sctp_outbound.specs.Sender.{missing_by, with_in_flight}
+use Rattle.sctp_wire.specs.DataPackets.{all_of, data_fits, datagrams_of, packet_of}
+use Rattle.sctp_outbound.specs.Sender.{with_in_flight}
 use Rattle.sctp_outbound.specs.Sender.{after_resending, can_send_next, next_chunk_of, resent_by, sent_new, sent_one}
 use Rattle.sctp_outbound.specs.Sender.{sent_within}
 use Rattle.sctp_directions.specs.Acts.{all_data_given}
@@ -26,11 +27,13 @@ use Rattle.sctp_assoc.specs.Happened.{acts_of_ack, acts_of_data_poll}
 use Rattle.sctp_assoc.specs.Calls.{is_established}
 use Rattle.sctp_sides.specs.Laws.{IsNextWithNothingInFlight, PollsBeginWithWhatWaits, WhatWaitsIsGiven}
 use Rattle.sctp_sides.specs.Laws.{WhatWaitsIsPolled}
-use Rattle.sctp_assoc.specs.Gather.{ack_after, ack_polled, control_packets, data_packets, data_polled, exchange_polled}
+use Rattle.sctp_assoc.specs.Gather.{ack_after, ack_polled, control_packets, data_polled, exchange_polled}
 use Rattle.sctp_assoc.specs.Gather.{packet_bytes, packet_with, spelled, without_control}
 use Rattle.sctp_assoc.specs.Shown.{Shown}
 use Rattle.sctp_assoc.proofs.ActsKeepOffsets.{given_append}
-use Rattle.sctp_assoc.proofs.PolledData.{IsSentBeside, data_poll_adds, data_poll_stays, sent_data_said}
+use Rattle.sctp_assoc.proofs.PolledData.{IsSentBeside, data_of_poll, data_poll_carries, data_poll_gives}
+use Rattle.sctp_assoc.proofs.PolledData.{data_poll_stays}
+use Rattle.sctp_sides.proofs.BundlesFilled.{IsFilled, polled_bundles_are_filled}
 use Rattle.sctp_assoc.proofs.PollsLeadOn.{both_second}
 
 -- lists that begin with something go on beginning with it
@@ -50,24 +53,8 @@ stands s m ms e f =
     ap (λ (z : List _). record s { queue = (let q = s.queue in record q { pending = z }) }) e
     ∙ ap (λ (z : List _). record s { queue = (let q = s.queue in record q { pending = m ∷ ms; in_flight = z }) }) f
 
-one_begins : (ms : List Waiting) (s : Sender) (out : List ChunkPayloadData) (now : ℕ) (c : ChunkPayloadData)
-    → slice_get out 0 ≡ Some c → slice_get (sent_one ms s out now).1 0 ≡ Some c
-unfolding sent_one
-one_begins [] s out now c e = e
-one_begins (m ∷ ms) s out now c e = first_before out _ c e
-
-within_begins : (n : ℕ) (s : Sender) (out : List ChunkPayloadData) (now : ℕ) (c : ChunkPayloadData)
-    → slice_get out 0 ≡ Some c → slice_get (sent_within n s out now).1 0 ≡ Some c
-within_begins zero s out now c e = e
-within_begins (suc n) s out now c e = ⊎_elim
-    (λ (fits : can_send_next s ≡ true).
-    rw fits (within_begins n (sent_one s.queue.pending s out now).0 (sent_one s.queue.pending s out now).1 now c
-    (one_begins s.queue.pending s out now c e)))
-    (λ (full : can_send_next s ≡ false). rw full e)
-    (cases_Bool (can_send_next s))
-
 one_first : (m : Waiting) (ms : List Waiting) (s : Sender) (now : ℕ)
-    → slice_get (sent_one (m ∷ ms) s [] now).1 0 ≡ Some (next_chunk_of m (next_tsn_of s.queue))
+    → slice_get (sent_one (m ∷ ms) s now).1 0 ≡ Some (next_chunk_of m (next_tsn_of s.queue))
 unfolding sent_one
 one_first m ms s now = refl
 
@@ -76,14 +63,15 @@ some_wait m ms = let all = sum_by-cons piece_count m ms in omega (arith, all)
 
 within_first : (n : ℕ) (m : Waiting) (ms : List Waiting) (s : Sender) (now : ℕ) → s.queue.pending ≡ m ∷ ms
     → can_send_next s ≡ true
-    → slice_get (sent_within (suc n) s [] now).1 0 ≡ Some (next_chunk_of m (next_tsn_of s.queue))
+    → slice_get (sent_within (suc n) s now).1 0 ≡ Some (next_chunk_of m (next_tsn_of s.queue))
 within_first n m ms s now e fits =
-    rw fits (within_begins n (sent_one s.queue.pending s [] now).0 (sent_one s.queue.pending s [] now).1 now _
-    (ap (λ (z : List Waiting). slice_get (sent_one z s [] now).1 0) e ∙ one_first m ms s now))
+    let one = sent_one s.queue.pending s now in
+    rw fits (first_before one.1 (sent_within n one.0 now).1 _
+    (ap (λ (z : List Waiting). slice_get (sent_one z s now).1 0) e ∙ one_first m ms s now))
 
 new_first_if : (c : Bool) (s : Sender) (m : Waiting) (ms : List Waiting) (now : ℕ) → can_send_next (standing s m ms) ≡ c
-    → slice_get (if not c then sent_one (m ∷ ms) (standing s m ms) [] now else
-    sent_within (pieces_waiting (m ∷ ms)) (standing s m ms) [] now).1 0
+    → slice_get (if not c then sent_one (m ∷ ms) (standing s m ms) now else
+    sent_within (pieces_waiting (m ∷ ms)) (standing s m ms) now).1 0
     ≡ Some (next_chunk_of m (next_tsn_of (standing s m ms).queue))
 new_first_if false s m ms now e = one_first m ms (standing s m ms) now
 new_first_if true s m ms now e = rw (some_wait m ms) (within_first _ m ms (standing s m ms) now refl e)
@@ -93,33 +81,58 @@ none_anyway true = refl
 none_anyway false = refl
 
 new_first : (s : Sender) (m : Waiting) (ms : List Waiting) (now : ℕ)
-    → slice_get (sent_new (after_resending (standing s m ms)) (resent_by (standing s m ms)) now).1 0
+    → slice_get (sent_new (after_resending (standing s m ms)) now).1 0
     ≡ Some (next_chunk_of m (next_tsn_of (standing s m ms).queue))
 new_first s m ms now =
     let t : Sender = record s { is_fast_due = false } in
     subst (λ (flown : List InFlight).
-    slice_get (sent_new (with_in_flight (standing t m ms) flown) (missing_by (standing s m ms)) now).1 0
+    slice_get (sent_new (with_in_flight (standing t m ms) flown) now).1 0
     ≡ Some (next_chunk_of m (next_tsn_of (standing s m ms).queue))) (sym (none_anyway s.is_fast_due))
-    (subst (λ (out : List ChunkPayloadData). slice_get (sent_new (standing t m ms) out now).1 0
+    (new_first_if (can_send_next (standing t m ms)) t m ms now refl)
+
+all_first : (s : Sender) (m : Waiting) (ms : List Waiting) (now : ℕ)
+    → slice_get (resent_by (standing s m ms) ++ (sent_new (after_resending (standing s m ms)) now).1) 0
+    ≡ Some (next_chunk_of m (next_tsn_of (standing s m ms).queue))
+all_first s m ms now =
+    subst (λ (again : List ChunkPayloadData).
+    slice_get (again ++ (sent_new (after_resending (standing s m ms)) now).1) 0
     ≡ Some (next_chunk_of m (next_tsn_of (standing s m ms).queue))) (sym (none_anyway s.is_fast_due))
-    (new_first_if (can_send_next (standing t m ms)) t m ms now refl))
+    (new_first s m ms now)
 
 sender_first : (s t : Sender) (m : Waiting) (now : ℕ) → s ≡ t
-    → slice_get (sent_new (after_resending t) (resent_by t) now).1 0 ≡ Some (next_chunk_of m (next_tsn_of t.queue))
-    → slice_get (sent_new (after_resending s) (resent_by s) now).1 0 ≡ Some (next_chunk_of m (next_tsn_of s.queue))
+    → slice_get (resent_by t ++ (sent_new (after_resending t) now).1) 0 ≡ Some (next_chunk_of m (next_tsn_of t.queue))
+    → slice_get (resent_by s ++ (sent_new (after_resending s) now).1) 0 ≡ Some (next_chunk_of m (next_tsn_of s.queue))
 sender_first s t m now e first =
-    subst (λ (z : Sender). slice_get (sent_new (after_resending z) (resent_by z) now).1 0
+    subst (λ (z : Sender). slice_get (resent_by z ++ (sent_new (after_resending z) now).1) 0
     ≡ Some (next_chunk_of m (next_tsn_of z.queue))) (sym e) first
 
 -- Of an association.
 
+data_begins : (a : Shown) (now : ℕ) (m : Waiting) → IsNextWithNothingInFlight a m
+    → slice_get (data_of_poll a now) 0 ≡ Some (next_chunk_of m (next_tsn_of a.sender.queue))
+data_begins a now m next =
+    sender_first a.sender (standing a.sender m next.others) m now
+    (stands a.sender m next.others next.waits next.flown) (all_first a.sender m next.others now)
+
+pub short_enough : (n : ℕ) → n < 65532 → (nat_lt n 65532 && true) ≡ true
+short_enough n e = rw (lt-ltb n 65532 e) refl
+
+fits_alone : (c : ChunkPayloadData) → length c.user_data ≤ 65519 → data_fits c ≡ true
+fits_alone c short = lt-ltb _ 65532 (omega (arith, short))
+
+-- what stands first in a list and is kept stands first in what is kept
+kept_first : (xs : List ChunkPayloadData) (c : ChunkPayloadData) → data_fits c ≡ true → slice_get xs 0 ≡ Some c
+    → slice_get (filter data_fits xs) 0 ≡ Some c
+kept_first [] c fits e = absurd (cc)
+kept_first (d ∷ ds) c fits e =
+    let same : d ≡ c = cc in
+    rw (same, fits) refl
+
 pub what_waits_is_polled : WhatWaitsIsPolled
-unfolding data_polled
-what_waits_is_polled a now m next =
-    ap (λ (z : List ChunkPayloadData). slice_get z 0)
-    (sent_data_said (fast_counted a) (length (resent_by a.sender)) now (sent_new (after_resending a.sender) (resent_by a.sender) now))
-    ∙ sender_first a.sender (standing a.sender m next.others) m now
-    (stands a.sender m next.others next.waits next.flown) (new_first a.sender m next.others now)
+what_waits_is_polled a now m next short =
+    ap (λ (z : List ChunkPayloadData). slice_get z 0) (data_poll_carries a now)
+    ∙ kept_first (data_of_poll a now) (next_chunk_of m (next_tsn_of a.sender.queue))
+    (fits_alone (next_chunk_of m (next_tsn_of a.sender.queue)) short) (data_begins a now m next)
 
 first_due : (q : Outbound) (own base : ℕ) → q.first_tsn ≡ tsn own base → q.in_flight ≡ [] → next_tsn_of q ≡ tsn own base
 first_due q own base e f =
@@ -128,55 +141,48 @@ first_due q own base e f =
 
 pub what_waits_is_given : WhatWaitsIsGiven
 what_waits_is_given a h now m established binds next =
-    let adds = data_poll_adds a now h binds.first binds.marked in
+    let gives = data_poll_gives a now h binds.first binds.marked in
     let first : slice_get (all_data_given (acts_of_data_poll a now) (parts a h)) 0
     ≡ Some (next_chunk_of m (next_tsn_of a.sender.queue)) =
-    ap (λ (z : List ChunkPayloadData). slice_get z 0) (adds.gives.said ∙ sym adds.all)
-    ∙ what_waits_is_polled a now m next in
+    ap (λ (z : List ChunkPayloadData). slice_get z 0) gives.said ∙ data_begins a now m next in
     let due : next_tsn_of a.sender.queue ≡ tsn h.own h.base =
     first_due a.sender.queue h.own h.base binds.first next.flown in
     rw established (rw (given_append (acts_of_data_poll a now) (acts_of_ack a) (parts a h))
     (first_before _ _ _ (first ∙ ap (λ (t : ℕ). Some (next_chunk_of m t)) due)))
 
-pub short_enough : (n : ℕ) → n < 65532 → (nat_lt n 65532 && true) ≡ true
-short_enough n e = rw (lt-ltb n 65532 e) refl
-
-data_fits : (header : CommonHeader) (c : ChunkPayloadData) → length c.user_data ≤ 65519
-    → packet_fits (packet_with header (chunks.Data c)) ≡ true
-data_fits header c short = short_enough _ (omega (arith, short))
-
 pub fits_written : (p : Packet) → packet_fits p ≡ true → written p ≡ Ok (spelling p)
 unfolding written
 fits_written p fits = rw fits refl
 
-data_spelled : (header : CommonHeader) (c : ChunkPayloadData) → length c.user_data ≤ 65519
-    → packet_bytes header (chunks.Data c) ≡ spelling (packet_with header (chunks.Data c)) ∷ []
-unfolding packet_bytes
-data_spelled header c short = ap spelled (fits_written (packet_with header (chunks.Data c)) (data_fits header c short))
+-- No packet of DATA is empty, so the first one begins with the first DATA.
 
-packets_begin : (header : CommonHeader) (cs : List ChunkPayloadData) (c : ChunkPayloadData) → length c.user_data ≤ 65519
-    → slice_get cs 0 ≡ Some c
-    → slice_get (data_packets header cs) 0 ≡ Some (spelling (packet_with header (chunks.Data c)))
-packets_begin header [] c short e = absurd (cc)
-packets_begin header (d ∷ ds) c short e =
-    let same : d ≡ c = cc in
-    rw same (first_before (packet_bytes header (chunks.Data c)) (data_packets header ds) _
-    (ap (λ (z : List (List ℕ)). slice_get z 0) (data_spelled header c short)))
+first_bundle : (header : CommonHeader) (bundles : List (List ChunkPayloadData)) (c : ChunkPayloadData)
+    → AllByRecursion IsFilled bundles → slice_get (all_of bundles) 0 ≡ Some c
+    → (rest : List ChunkPayloadData)
+    × (slice_get (datagrams_of header bundles) 0 ≡ Some (spelling (packet_of header (c ∷ rest))))
+first_bundle header [] c filled e = absurd (cc)
+first_bundle header ([] ∷ bs) c (filled, more) e = absurd (omega (arith, filled))
+first_bundle header ((d ∷ ds) ∷ bs) c filled e =
+    let same : d ≡ c = cc in (ds, ap (λ (z : ChunkPayloadData). Some (spelling (packet_of header (z ∷ ds)))) same)
 
-pub ack_behind : (x : Shown × List ChunkPayloadData)
-    → (ack_after x).1 ≡ data_packets (header_of x.0.handshake) x.1 ++ (ack_polled x.0).1
-ack_behind (b, pieces) = both_second (data_packets (header_of b.handshake) pieces) (ack_polled b)
+pub ack_behind : (x : Shown × List (List ChunkPayloadData))
+    → (ack_after x).1 ≡ datagrams_of (header_of x.0.handshake) x.1 ++ (ack_polled x.0).1
+ack_behind (b, pieces) = both_second (datagrams_of (header_of b.handshake) pieces) (ack_polled b)
 
 exchange_begins : (a : Shown) (now : ℕ) (m : Waiting) → is_established a.state ≡ true → IsNextWithNothingInFlight a m
     → length m.user_data ≤ 65519
-    → slice_get (exchange_polled a now).1 0 ≡ Some
-    (spelling (packet_with (header_of a.handshake) (chunks.Data (next_chunk_of m (next_tsn_of a.sender.queue)))))
+    → (rest : List ChunkPayloadData)
+    × (slice_get (exchange_polled a now).1 0 ≡ Some
+    (spelling (packet_of (header_of a.handshake) (next_chunk_of m (next_tsn_of a.sender.queue) ∷ rest))))
 unfolding exchange_polled
 exchange_begins a now m established next short =
     let stays : IsSentBeside a (data_polled a now).0 = data_poll_stays a now in
-    let begins =
-    packets_begin (header_of a.handshake) (data_polled a now).1 _ short (what_waits_is_polled a now m next) in
-    rw (established, ack_behind (data_polled a now), stays.handshake) (first_before _ _ _ begins)
+    let first =
+    first_bundle (header_of a.handshake) (data_polled a now).1 (next_chunk_of m (next_tsn_of a.sender.queue))
+    (polled_bundles_are_filled a now) (what_waits_is_polled a now m next short) in (
+      first.0,
+      rw (established, ack_behind (data_polled a now), stays.handshake) (first_before _ _ _ first.1),
+    )
 
 behind : {X : Type 0} (xs ys : List X) → slice_get (xs ++ ys) (length xs) ≡ slice_get ys 0
 behind [] ys = refl
@@ -187,6 +193,9 @@ polls_begin_with_what_waits a now m established next short =
     let b : Shown = without_control a in
     let waits : IsNextWithNothingInFlight b
     m = record { others = next.others; waits = next.waits; flown = next.flown } in
-    ap (λ (z : List (List ℕ)). slice_get z (length (control_packets a.control)))
-    (both_second (control_packets a.control) (exchange_polled b now))
-    ∙ behind (control_packets a.control) (exchange_polled b now).1 ∙ exchange_begins b now m established waits short
+    let first = exchange_begins b now m established waits short in (
+      first.0,
+      ap (λ (z : List (List ℕ)). slice_get z (length (control_packets a.control)))
+          (both_second (control_packets a.control) (exchange_polled b now))
+          ∙ behind (control_packets a.control) (exchange_polled b now).1 ∙ first.1,
+    )

@@ -15,6 +15,7 @@ use Rattle.sctp_outbound.specs.declared.sender.Sender.{Sender}
 use Rattle.sctp_outbound_queue.specs.declared.message.Retransmission.{Retransmission}
 use Rattle.sctp_outbound_queue.specs.declared.message.Retransmission.TheVariants as causes
 use Rattle.sctp_outbound_queue.specs.Message.{counted_again, picks, room_taken}
+use Rattle.sctp_wire.specs.DataPackets.{datagrams_of}
 use Rattle.sctp_assoc.specs.Gather.{fast_counted}
 use Rattle.sctp_outbound.specs.Sender.{after_marked, fast_room}
 use Rattle.sctp_outbound.specs.Sender.{after_resending, both_windows, can_send_next, first_counted, resends_alone}
@@ -26,7 +27,7 @@ use Rattle.sctp_inbound.specs.Handshake.{header_of}
 use Rattle.sctp_directions.specs.Acts.{message_of, type_on}
 use Rattle.sctp_assoc.specs.Calls.{is_established, written_at}
 use Rattle.sctp_sides.specs.Laws.{PollsKeepWhatIsHeld, WritesAreHeld, is_held}
-use Rattle.sctp_assoc.specs.Gather.{ack_after, ack_polled, control_packets, data_packets, data_polled, exchange_polled}
+use Rattle.sctp_assoc.specs.Gather.{ack_after, ack_polled, control_packets, data_polled, exchange_polled}
 use Rattle.sctp_assoc.specs.Gather.{is_due, with_sent_data, without_control}
 use Rattle.sctp_assoc.specs.Shown.{Shown}
 use Rattle.sctp_assoc.proofs.PolledData.{one_queue}
@@ -85,27 +86,27 @@ next_held (m ∷ ms) q now number e held =
     (list_any (is_of number) q.in_flight)
     (left_waits m ms number) held)
 
-one_held : (s : Sender) (out : List ChunkPayloadData) (now number : ℕ) → is_held s.queue number ≡ true
-    → is_held (sent_one s.queue.pending s out now).0.queue number ≡ true
-one_held s out now number held =
-    ap (λ (q : Outbound). is_held q number) (one_queue s.queue.pending s out now refl)
+one_held : (s : Sender) (now number : ℕ) → is_held s.queue number ≡ true
+    → is_held (sent_one s.queue.pending s now).0.queue number ≡ true
+one_held s now number held =
+    ap (λ (q : Outbound). is_held q number) (one_queue s.queue.pending s now refl)
     ∙ next_held s.queue.pending s.queue now number refl held
 
-within_held : (n : ℕ) (s : Sender) (out : List ChunkPayloadData) (now number : ℕ) → is_held s.queue number ≡ true
-    → is_held (sent_within n s out now).0.queue number ≡ true
-within_held zero s out now number held = held
-within_held (suc n) s out now number held = ⊎_elim
+within_held : (n : ℕ) (s : Sender) (now number : ℕ) → is_held s.queue number ≡ true
+    → is_held (sent_within n s now).0.queue number ≡ true
+within_held zero s now number held = held
+within_held (suc n) s now number held = ⊎_elim
     (λ (fits : can_send_next s ≡ true).
-    rw fits (within_held n (sent_one s.queue.pending s out now).0 (sent_one s.queue.pending s out now).1 now number
-    (one_held s out now number held)))
+    rw fits (within_held n (sent_one s.queue.pending s now).0 now number
+    (one_held s now number held)))
     (λ (full : can_send_next s ≡ false). rw full held)
     (cases_Bool (can_send_next s))
 
-new_held_if : (c : Bool) (s : Sender) (out : List ChunkPayloadData) (now number : ℕ) → is_held s.queue number ≡ true
-    → is_held (if c then sent_one s.queue.pending s out now else
-    sent_within (pieces_waiting s.queue.pending) s out now).0.queue number ≡ true
-new_held_if true s out now number held = one_held s out now number held
-new_held_if false s out now number held = within_held (pieces_waiting s.queue.pending) s out now number held
+new_held_if : (c : Bool) (s : Sender) (now number : ℕ) → is_held s.queue number ≡ true
+    → is_held (if c then sent_one s.queue.pending s now else
+    sent_within (pieces_waiting s.queue.pending) s now).0.queue number ≡ true
+new_held_if true s now number held = one_held s now number held
+new_held_if false s now number held = within_held (pieces_waiting s.queue.pending) s now number held
 
 -- Pieces go out again.
 
@@ -152,18 +153,18 @@ missing_same false s number = refl
 
 -- A poll.
 
-sent_data_sender : (a : Shown) (count now : ℕ) (x : Sender × List ChunkPayloadData)
-    → (with_sent_data a count now x).0.sender ≡ x.0
-sent_data_sender a count now (s, pieces) = refl
+pub sent_data_sender : (a : Shown) (now : ℕ) (x : Sender × List ChunkPayloadData)
+    → (with_sent_data a now x).sender ≡ x.0
+sent_data_sender a now (s, pieces) = refl
 
 data_held : (a : Shown) (now number : ℕ) → is_held a.sender.queue number ≡ true
     → is_held (data_polled a now).0.sender.queue number ≡ true
 unfolding data_polled
 data_held a now number held =
     let s = after_resending a.sender in
-    let x = sent_new s (resent_by a.sender) now in
-    ap (λ (t : Sender). is_held t.queue number) (sent_data_sender (fast_counted a) (length (resent_by a.sender)) now x)
-    ∙ new_held_if _ s (resent_by a.sender) now number (missing_same a.sender.is_fast_due (after_marked a.sender) number
+    let x = sent_new s now in
+    ap (λ (t : Sender). is_held t.queue number) (sent_data_sender (fast_counted a) now x)
+    ∙ new_held_if _ s now number (missing_same a.sender.is_fast_due (after_marked a.sender) number
     ∙ resent_same (resends_alone a.sender) a.sender number ∙ held)
 
 ack_sender : (due : Bool) (b : Shown) → is_due b.receiver.ack_state ≡ due → (ack_polled b).0.sender ≡ b.sender
@@ -171,9 +172,9 @@ unfolding ack_polled
 ack_sender true b e = rw e refl
 ack_sender false b e = rw e refl
 
-both_sender : (x : Shown × List ChunkPayloadData) → (ack_after x).0.sender ≡ x.0.sender
+pub both_sender : (x : Shown × List (List ChunkPayloadData)) → (ack_after x).0.sender ≡ x.0.sender
 both_sender (b, pieces) =
-    ap (λ (z : Shown). z.sender) (both_first (data_packets (header_of b.handshake) pieces) (ack_polled b))
+    ap (λ (z : Shown). z.sender) (both_first (datagrams_of (header_of b.handshake) pieces) (ack_polled b))
     ∙ ack_sender _ b refl
 
 polls_held_if : (c : Bool) (a : Shown) (now number : ℕ) → is_held a.sender.queue number ≡ true

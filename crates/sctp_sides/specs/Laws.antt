@@ -1,13 +1,15 @@
 -- Laws of one side: what follows from the equations of its calls, for whoever builds on it.
-use Rattle.std.specs.Prelude.{◌≡◌, ◌⊎◌, ◌<◌, ◌≤◌, ℕ, ◌+◌, ◌-◌, ◌&&◌, ◌||◌, ◌==◌, is_some, not, Bool, true, false, List}
+use Rattle.std.specs.Prelude.{◌≡◌, ◌⊎◌, ◌<◌, ◌≤◌, ℕ, ◌+◌, ◌-◌, ◌^◌, ◌&&◌, ◌||◌, ◌==◌, is_some, not, Bool, true, false, List}
 use Rattle.std.specs.Prelude.{[], ◌∷◌, ◌++◌, length, slice_get, if◌then◌else◌, Option, Some, None}
-use Rattle.std.specs.List.{list_any, sum_by}
+use Rattle.std.specs.List.{AllByRecursion, list_any, sum_by}
 use Rattle.sctp_wire_types.specs.declared.chunk.Chunk.{Chunk}
 use Rattle.sctp_wire_types.specs.declared.chunk.Chunk.TheVariants as chunks
+use Rattle.sctp_wire_types.specs.declared.chunk.ChunkPayloadData.{ChunkPayloadData}
 use Rattle.sctp_wire_types.specs.declared.chunk.ChunkSelectiveAck.{ChunkSelectiveAck}
 use Rattle.sctp_wire_types.specs.declared.ids.PayloadProtocolIdentifier.{PayloadProtocolIdentifier}
 use Rattle.sctp_wire_types.specs.declared.packet.CommonHeader.{CommonHeader}
 use Rattle.sctp_wire.specs.declared.packet.Packet.{Packet}
+use Rattle.sctp_wire.specs.DataPackets.{all_of, packet_of}
 use Rattle.sctp_wire.specs.Packets.{spelling}
 use Rattle.sctp_parts.specs.declared.state.AssociationState.TheVariants as states
 use Rattle.sctp_streams.specs.declared.event.AssociationError.{AssociationError}
@@ -17,7 +19,7 @@ use Rattle.sctp_streams.specs.declared.event.Event.TheVariants as events
 use Rattle.sctp_streams.specs.Streams.{bytes_waiting, stream_at}
 use Rattle.sctp_outbound_queue.specs.Waiting.{Waiting}
 use Rattle.sctp_outbound_queue.specs.Message.{is_of}
-use Rattle.sctp_outbound_queue.specs.Outbound.{Outbound, next_tsn_of}
+use Rattle.sctp_outbound_queue.specs.Outbound.{Outbound, next_tsn_of, outstanding_of}
 use Rattle.sctp_inbound.specs.declared.receiver.AckTrigger.{AckTrigger}
 use Rattle.sctp_inbound.specs.declared.receiver.AckTrigger.TheVariants as triggers
 use Rattle.sctp_inbound.specs.Handshake.{header_of}
@@ -31,7 +33,7 @@ use Rattle.sctp_assoc.specs.Leads.{Binds, parts}
 use Rattle.sctp_directions.specs.Acts.{History, all_data_given, reach_in}
 use Rattle.sctp_fit.specs.Incoming.{tsn_before}
 use Rattle.sctp_assoc.specs.Calls.{accepted_stream, adjusted, is_established, opened, read_exhausts, read_from_stream}
-use Rattle.sctp_assoc.specs.Calls.{written}
+use Rattle.sctp_assoc.specs.Calls.{with_max_send_message_size, written}
 use Rattle.sctp_assoc.specs.Closing.{closed_by, is_closed_state}
 use Rattle.sctp_assoc.specs.Chunks.{after_packet, on_chunk}
 use Rattle.sctp_assoc.specs.Happened.{acts_of_poll}
@@ -50,10 +52,11 @@ pub record IsNextWithNothingInFlight (a : Shown) (m : Waiting) : Type 0 where
   pub flown : a.sender.queue.in_flight ≡ []
 
 -- The DATA of a poll then begins with that message's next piece, whatever the windows are (RFC 4960 section 6.1, rules
--- A and B).
+-- A and B), if one DATA chunk has room for it.
 abbrev pub WhatWaitsIsPolled : Type 0
 WhatWaitsIsPolled = (a : Shown) (now : ℕ) (m : Waiting) → IsNextWithNothingInFlight a m
-    → slice_get (data_polled a now).1 0 ≡ Some (next_chunk_of m (next_tsn_of a.sender.queue))
+    → length m.user_data ≤ 65519
+    → slice_get (all_of (data_polled a now).1) 0 ≡ Some (next_chunk_of m (next_tsn_of a.sender.queue))
 
 -- In Established its acts give that DATA, under the TSN of the first offset that is not acknowledged.
 abbrev pub WhatWaitsIsGiven : Type 0
@@ -61,13 +64,33 @@ WhatWaitsIsGiven = (a : Shown) (h : History) (now : ℕ) (m : Waiting) → is_es
     → IsNextWithNothingInFlight a m
     → slice_get (all_data_given (acts_of_poll a now) (parts a h)) 0 ≡ Some (next_chunk_of m (tsn h.own h.base))
 
--- A piece that one DATA chunk has room for is the first packet that goes out behind those that wait already.
+-- A piece that one DATA chunk has room for is the first chunk of the first packet that goes out behind those that wait
+-- already; other DATA may be bundled with it (RFC 4960 section 6.10).
 abbrev pub PollsBeginWithWhatWaits : Type 0
 PollsBeginWithWhatWaits = (a : Shown) (now : ℕ) (m : Waiting) → is_established a.state ≡ true
     → IsNextWithNothingInFlight a m
     → length m.user_data ≤ 65519
-    → slice_get (polled a now).1 (length (control_packets a.control))
-    ≡ Some (spelling (packet_with (header_of a.handshake) (chunks.Data (next_chunk_of m (next_tsn_of a.sender.queue)))))
+    → (bundled : List ChunkPayloadData)
+    × (slice_get (polled a now).1 (length (control_packets a.control)) ≡ Some
+    (spelling (packet_of (header_of a.handshake) (next_chunk_of m (next_tsn_of a.sender.queue) ∷ bundled))))
+
+-- A packet of DATA has one chunk, or is at most this long, in bytes.
+abbrev pub IsShortOrAlone : CommonHeader → ℕ → List ChunkPayloadData → Type 0
+IsShortOrAlone header mtu cs = (length cs ≤ 1) ⊎ (length (spelling (packet_of header cs)) ≤ mtu)
+
+-- So is each that a poll gives (RFC 4960 section 6.10).
+abbrev pub BundlesFitThePacket : Type 0
+BundlesFitThePacket = (a : Shown) (now : ℕ)
+    → AllByRecursion (IsShortOrAlone (header_of a.handshake) a.sender.mtu) (data_polled a now).1
+
+-- A poll that gives a TSN to new DATA leaves no more bytes outstanding than the congestion window allows, or this DATA
+-- is all that is in flight: it probes the windows (RFC 4960 sections 6.1, rules A and B, and 7.2). The window is a
+-- number of 32 bits, as `Association::cwnd` is.
+abbrev pub NewDataStaysInTheWindow : Type 0
+NewDataStaysInTheWindow = (a : Shown) (now : ℕ) → a.sender.congestion.cwnd < 2 ^ 32
+    → length a.sender.queue.in_flight < length (polled a now).0.sender.queue.in_flight
+    → (outstanding_of (polled a now).0.sender.queue.in_flight ≤ (polled a now).0.sender.congestion.cwnd)
+    ⊎ (length (polled a now).0.sender.queue.in_flight ≡ 1)
 
 -- Keeping
 
@@ -114,7 +137,7 @@ pub record TellsNothing (a b : Shown) : Type 0 where
   pub lost : b.lost ≡ a.lost
   pub events : b.events ≡ a.events
 
--- No write, setting, opened or accepted stream, poll for packets or timer closes an association. A write may be told
+-- No write, setting, limit, opened or accepted stream, poll for packets or timer closes an association. A write may be told
 -- as an event, but as no loss.
 abbrev pub WritesDoNotClose : Type 0
 WritesDoNotClose = (a : Shown) (id : ℕ) (named : Option PayloadProtocolIdentifier) (bytes : List ℕ)
@@ -122,6 +145,9 @@ WritesDoNotClose = (a : Shown) (id : ℕ) (named : Option PayloadProtocolIdentif
 
 abbrev pub SettingsDoNotClose : Type 0
 SettingsDoNotClose = (a : Shown) (id : ℕ) (setting : Setting) → TellsNothing a (adjusted a id setting)
+
+abbrev pub LimitsDoNotClose : Type 0
+LimitsDoNotClose = (a : Shown) (size : ℕ) → TellsNothing a (with_max_send_message_size a size)
 
 abbrev pub AcceptedStreamsDoNotClose : Type 0
 AcceptedStreamsDoNotClose = (a : Shown) → TellsNothing a (accepted_stream a).0

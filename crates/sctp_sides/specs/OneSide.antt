@@ -14,7 +14,7 @@ use Rattle.sctp_streams.specs.declared.event.Event.{Event}
 use Rattle.sctp_streams.specs.declared.setting.Setting.{Setting}
 use Rattle.sctp_assoc.specs.Calls.{accepted_stream, adjusted, event_polled, failed_refusal, gone_refusal}
 use Rattle.sctp_assoc.specs.Calls.{is_cookie_echoed, is_cookie_wait, open_refusal, opened, read_from_stream}
-use Rattle.sctp_assoc.specs.Calls.{read_refusal, write_refusal, written}
+use Rattle.sctp_assoc.specs.Calls.{read_refusal, with_max_send_message_size, write_refusal, written}
 use Rattle.sctp_assoc.specs.Closing.{closed_by}
 use Rattle.sctp_assoc.specs.Chunks.{after_packet}
 use Rattle.sctp_sides.specs.Laws.{losses}
@@ -42,6 +42,8 @@ pub data Call : Type 0 where
   Set : ℕ → Setting → Call
   -- the oldest stream that the peer opened is asked for
   AcceptStream : Call
+  -- writes are to take messages of up to so many bytes
+  SetMaxSendMessageSize : ℕ → Call
   -- the association is to be closed
   Close : Call
   -- the next message of a stream is asked for
@@ -68,6 +70,7 @@ carried_out (Call.OpenStream id kind) a = (opened a id kind, [])
 carried_out (Call.Write id named bytes) a = (written a id named bytes, [])
 carried_out (Call.Set id setting) a = (adjusted a id setting, [])
 carried_out Call.AcceptStream a = ((accepted_stream a).0, [])
+carried_out (Call.SetMaxSendMessageSize size) a = (with_max_send_message_size a size, [])
 carried_out Call.Close a = (closed_by a reasons.AssociationClosed, [])
 carried_out (Call.Read id) a = ((read_from_stream a id).0, [])
 carried_out Call.Poll a = with_told (event_polled a)
@@ -76,12 +79,13 @@ carried_out (Call.HandleTimeout now) a = (after_timeouts a now, [])
 carried_out (Call.HandleEvent packet now) a = (after_packet a packet now, [])
 
 -- why a call is refused, want of memory aside: a failed association refuses each, but for the question for a stream
--- that the peer opened, of which it has none
+-- that the peer opened, of which it has none, and a limit that is set, which it leaves
 abbrev pub call_refusal : Call → Shown → Option Error
 call_refusal (Call.OpenStream id kind) a = open_refusal a id
 call_refusal (Call.Write id named bytes) a = write_refusal a id (length bytes)
 call_refusal (Call.Set id setting) a = gone_refusal a id
 call_refusal Call.AcceptStream a = None
+call_refusal (Call.SetMaxSendMessageSize size) a = None
 call_refusal (Call.Read id) a = read_refusal a id
 call_refusal call a = failed_refusal a
 

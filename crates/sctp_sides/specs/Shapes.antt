@@ -26,6 +26,7 @@ use Rattle.sctp_fit.specs.Incoming.{tsn_before}
 use Rattle.sctp_assoc.specs.Calls.{event_polled, is_established, open_refusal, opened}
 use Rattle.sctp_assoc.specs.Closing.{closed_by, exhausted, is_closed_state}
 use Rattle.sctp_assoc.specs.Calls.{accepted_stream, adjusted, read_exhausts, read_from_stream, stream_refusal}
+use Rattle.sctp_assoc.specs.Calls.{with_max_send_message_size}
 use Rattle.sctp_assoc.specs.Calls.{write_refusal, written}
 use Rattle.sctp_assoc.specs.Chunks.{after_packet, ended, on_chunk}
 use Rattle.sctp_outbound.specs.Sacks.{reports_of}
@@ -75,6 +76,10 @@ WritesKeepTheStatus = (a : Shown) (id : ℕ) (named : Option PayloadProtocolIden
 
 abbrev pub SettingsKeepTheStatus : Type 0
 SettingsKeepTheStatus = (a : Shown) (id : ℕ) (setting : Setting) → IsSameStatus a (adjusted a id setting)
+
+abbrev pub LimitsKeepTheStatus : Type 0
+LimitsKeepTheStatus = (a : Shown) (size : ℕ)
+    → IsSameStatus a (with_max_send_message_size a size) × ((with_max_send_message_size a size).streams ≡ a.streams)
 
 -- a stream that is accepted changes nothing else, no stream neither
 abbrev pub AcceptedStreamsKeepTheStatus : Type 0

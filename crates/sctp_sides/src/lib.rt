@@ -7,7 +7,7 @@ ghost use Rattle.sctp_sides.specs.Shapes.{AcceptedWritesFit, ChunksLeadOn, DataI
 ghost use Rattle.sctp_sides.specs.Shapes.{EstablishedSidesTalk, FaultsClose, FoundStreamsAreLive, GreetingsMeet};
 ghost use Rattle.sctp_sides.specs.Shapes.{AcceptedStreamsKeepTheStatus, ExhaustionCloses, GreetingsStayTrue};
 ghost use Rattle.sctp_sides.specs.Shapes.{LostAssociationsTakeNothing, NoPacketChangesNothing, SettingsHoldNothing};
-ghost use Rattle.sctp_sides.specs.Shapes.{SettingsKeepTheStatus};
+ghost use Rattle.sctp_sides.specs.Shapes.{LimitsKeepTheStatus, SettingsKeepTheStatus};
 ghost use Rattle.sctp_sides.specs.Shapes.{OpenedStreamsHoldNothing, OpenedStreamsKeepTheStatus};
 ghost use Rattle.sctp_sides.specs.Shapes.{OpenedStreamsWereNotLive, OtherChunksDoNothing, OtherSacksDoNothing};
 ghost use Rattle.sctp_sides.specs.Shapes.{PacketsEnd, PollsGiveAndReport, PollsKeepTheStatus};
@@ -18,10 +18,10 @@ ghost use Rattle.sctp_sides.specs.Shapes.{WhatHoldsNothingGivesNothing, WhatWait
 ghost use Rattle.sctp_sides.specs.Causes.{CausesClose, ClosingPacketsHaveCauses, FaultsAreCauses};
 ghost use Rattle.sctp_sides.specs.Intake.{DataIsTakenIn, NothingElseIsTakenIn};
 ghost use Rattle.sctp_sides.specs.Laws.{DueSacksGoOut, FaultsAloneClose, OpenedStreamsDoNotClose, PollsDoNotClose};
-ghost use Rattle.sctp_sides.specs.Laws.{AcceptedStreamsDoNotClose, ClosesClose, ExhaustingReadsAloneClose};
+ghost use Rattle.sctp_sides.specs.Laws.{AcceptedStreamsDoNotClose, ClosesClose, ExhaustingReadsAloneClose, LimitsDoNotClose};
 ghost use Rattle.sctp_sides.specs.Laws.{PollsKeepWhatIsHeld, SacksAreSpelled, SacksNameThePoint, SettingsDoNotClose};
 ghost use Rattle.sctp_sides.specs.Laws.{PollsBeginWithWhatWaits, SacksOfferTheBuffer, SacksSayWhatWasTaken};
-ghost use Rattle.sctp_sides.specs.Laws.{TimersDoNotClose};
+ghost use Rattle.sctp_sides.specs.Laws.{BundlesFitThePacket, NewDataStaysInTheWindow, TimersDoNotClose};
 ghost use Rattle.sctp_sides.specs.Laws.{WhatWaitsIsGiven, WhatWaitsIsPolled, WritesAreHeld, WritesDoNotClose};
 ghost use Rattle.sctp_sides.specs.Witnesses.{CookiesAreTimedInCookieEchoedAlone, CreatedSidesAreFresh};
 ghost use Rattle.sctp_sides.specs.Witnesses.{DelayedSacksAreTimed, EchoedCookiesAreTimed, FailedSidesWaitForNothing};
@@ -37,6 +37,17 @@ pub fn polls_begin_with_what_waits()
     ensures packet { PollsBeginWithWhatWaits }
 {}
 
+/// Bundling: a packet with two DATA chunks or more is at most as long as the greatest packet (RFC 4960 section 6.10).
+pub fn bundles_fit_the_packet()
+    ensures bundles { BundlesFitThePacket }
+{}
+
+/// Windows: new DATA goes out as far as the congestion window allows it, or one piece alone as a probe (RFC 4960 sections
+/// 6.1 and 7.2).
+pub fn new_data_stays_in_the_window()
+    ensures window { NewDataStaysInTheWindow }
+{}
+
 /// Keeping: what was just written waits or is in flight, and a poll that does not fail loses none of what does.
 pub fn writes_and_polls_lose_nothing()
     ensures written { WritesAreHeld }
@@ -45,13 +56,14 @@ pub fn writes_and_polls_lose_nothing()
 
 /// Closing: a packet with a fault, or one that leaves the receive buffer exhausted, closes an open association, once,
 /// and no other packet does; so does a read that gives a message and leaves the buffer exhausted, and no other read; so
-/// does the application's close. No write, setting, opened or accepted stream, poll for packets or timer closes.
+/// does the application's close. No write, setting, limit, opened or accepted stream, poll for packets or timer closes.
 pub fn faults_alone_close()
     ensures packets { FaultsAloneClose }
     ensures writes { WritesDoNotClose }
     ensures streams { OpenedStreamsDoNotClose }
     ensures settings { SettingsDoNotClose }
     ensures accepted { AcceptedStreamsDoNotClose }
+    ensures limits { LimitsDoNotClose }
     ensures reads { ExhaustingReadsAloneClose }
     ensures closes { ClosesClose }
     ensures polls { PollsDoNotClose }
@@ -90,6 +102,7 @@ pub fn calls_keep_the_status()
     ensures written { WritesKeepTheStatus }
     ensures set { SettingsKeepTheStatus }
     ensures accepted { AcceptedStreamsKeepTheStatus }
+    ensures limits { LimitsKeepTheStatus }
     ensures read { ReadsKeepTheStatus }
     ensures told { ToldEventsKeepTheStatus }
     ensures timers { TimersKeepTheStatus }

@@ -1,4 +1,5 @@
 // Gap ack blocks acknowledge the pieces in flight that they name.
+use crate::outbound::no_packets;
 use crate::outbound_queue::message;
 use sctp_outbound::Sender;
 use sctp_parts::estimate::RtoManager;
@@ -20,7 +21,7 @@ fn acknowledged_of_four(
         streams.accept(1, PayloadProtocolIdentifier::Binary, 4)?;
         sender.queue.push(message(alloc)?)?;
     }
-    sender.send_new(&mut Vec::new(alloc), Instant::from_millis(0))?;
+    sender.send_new(&mut no_packets(alloc), Instant::from_millis(0))?;
     let mut named = List::new(alloc);
     for &(start, end) in blocks {
         named.push(GapAckBlock { start, end })?;

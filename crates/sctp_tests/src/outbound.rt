@@ -1,22 +1,63 @@
 // The sender gives DATA out, and again after a timeout or once it is reported missing.
 use crate::outbound_queue::message;
+use bytes::Bytes;
 use sctp_outbound::{SackOutcome, Sender};
 use sctp_parts::estimate::RtoManager;
 use sctp_parts::timer::TimerTable;
 use sctp_streams::Streams;
-use sctp_wire_types::{GapAckBlock, Instant, List};
+use sctp_wire::{DataPackets, PartialDecode};
+use sctp_wire_types::{Chunk, CommonHeader, GapAckBlock, Instant, List};
 use std::alloc::Global;
 use std::test::Fail;
 
-#[test]
-fn data_goes_out_again_after_a_timeout(rt: HostRuntime) -> Result<(), Fail> {
-    let mut sender = Sender::new(rt.alloc(), 1200, 100, 1_048_576);
-    sender.queue.push(message(rt.alloc())?)?;
-    let mut out = Vec::new(rt.alloc());
-    assert!(rt; sender.send_new(&mut out, Instant::from_millis(0))?);
+/// No packet yet; none may be longer than 1228 bytes.
+pub fn no_packets(alloc: Global) -> DataPackets {
+    let header = CommonHeader {
+        source_port: 5000,
+        destination_port: 5000,
+        verification_tag: 2,
+    };
+    DataPackets::new(alloc, header, 1228)
+}
+
+// The TSNs of the DATA in these packets, and how many packets there are.
+fn tsns_in(alloc: Global, packets: DataPackets) -> Result<(Vec<u32>, usize), Fail> {
+    let datagrams = packets.finish()?;
+    let mut tsns = Vec::new(alloc);
+    for datagram in &datagrams {
+        push_tsns(alloc, &mut tsns, datagram)?;
+    }
+    Ok((tsns, datagrams.len()))
+}
+
+fn push_tsns(alloc: Global, tsns: &mut Vec<u32>, datagram: &Bytes) -> Result<(), Fail> {
+    let packet = PartialDecode::unmarshal(datagram)?.finish(alloc)?;
+    for chunk in packet.chunks.as_slice() {
+        if let Chunk::Data(piece) = chunk {
+            tsns.push(piece.tsn)?;
+        }
+    }
+    Ok(())
+}
+
+// The TSNs that go out at first, and again after a timeout, each with the number of packets.
+fn sent_twice(alloc: Global) -> Result<[(Vec<u32>, usize); 2], Fail> {
+    let mut sender = Sender::new(alloc, 1200, 100, 1_048_576);
+    sender.queue.push(message(alloc)?)?;
+    let mut first = no_packets(alloc);
+    sender.send_new(&mut first, Instant::from_millis(0))?;
     sender.on_t3_timeout();
-    sender.resend(&mut out)?;
-    assert_eq!(rt; out.len(), 4);
+    let mut again = no_packets(alloc);
+    sender.resend_marked(&mut again)?;
+    Ok([tsns_in(alloc, first)?, tsns_in(alloc, again)?])
+}
+
+#[test]
+fn data_goes_out_bundled_and_again_after_a_timeout(rt: HostRuntime) -> Result<(), Fail> {
+    let [(first, packets), (again, more)] = sent_twice(rt.alloc())?;
+    assert_eq!(rt; first.as_slice(), [100, 101].as_slice());
+    assert_eq!(rt; again.as_slice(), [100, 101].as_slice());
+    assert_eq!(rt; (packets, more), (1, 1));
     Ok(())
 }
 
@@ -26,7 +67,7 @@ fn four_in_flight(alloc: Global) -> Result<Sender, Fail> {
     for _ in 0..2 {
         sender.queue.push(message(alloc)?)?;
     }
-    sender.send_new(&mut Vec::new(alloc), Instant::from_millis(0))?;
+    sender.send_new(&mut no_packets(alloc), Instant::from_millis(0))?;
     Ok(sender)
 }
 
@@ -59,12 +100,9 @@ fn again_after(alloc: Global, reports: u16) -> Result<(Vec<u32>, u32), Fail> {
     for last in 2..reports.saturating_add(2) {
         report(alloc, &mut sender, last)?;
     }
-    let mut out = Vec::new(alloc);
-    sender.resend(&mut out)?;
-    let mut tsns = Vec::new(alloc);
-    for chunk in out {
-        tsns.push(chunk.tsn)?;
-    }
+    let mut out = no_packets(alloc);
+    sender.resend_missing(&mut out)?;
+    let (tsns, _) = tsns_in(alloc, out)?;
     Ok((tsns, sender.congestion.ssthresh))
 }
 

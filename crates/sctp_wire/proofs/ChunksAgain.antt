@@ -1,11 +1,11 @@
 -- Chunks that are spelled are read again.
-use Rattle.std.proofs.Common.{◌≡◌, ℕ, zero, suc, ◌+◌, ◌-◌, ◌*◌, ◌/◌, ◌%◌, ◌^◌, ◌<◌, ◌≤◌, Bool, true, false, not, ◌||◌}
-use Rattle.std.proofs.Common.{◌&&◌, eqb, cond, ltb, List, [], ◌∷◌, ◌++◌, length, take, drop, Option, Some, None, Result}
-use Rattle.std.proofs.Common.{Ok, Err, refl, sym, ap, ◌∙◌, append_assoc, arith}
-use Rattle.std.specs.Int.{w16, w32, from_be_bytes, to_be_bytes}
+use Rattle.std.proofs.Common.{◌≡◌, ℕ, ◌+◌, ◌-◌, ◌*◌, ◌/◌, ◌%◌, ◌^◌, ◌<◌, ◌≤◌, Bool, true, false, not, ◌||◌}
+use Rattle.std.proofs.Common.{eqb, ltb, List, [], ◌∷◌, ◌++◌, length, drop, Option, Some, None}
+use Rattle.std.proofs.Common.{Ok, refl, sym, ap, ◌∙◌, arith}
+use Rattle.std.specs.Int.{w32, to_be_bytes}
 use Rattle.std.specs.List.{flat_map, list_all, AllByRecursion}
-use Rattle.std.proofs.lemmas.Bool.{le-ltb, lt-ltb, ltb-true, not-true, or_parts, and_parts}
-use Rattle.std.proofs.lemmas.List.{append-nil, length-append, drop-drop, drop_at}
+use Rattle.std.proofs.lemmas.Bool.{le-ltb, ltb-true, not-true, or_parts, and_parts}
+use Rattle.std.proofs.lemmas.List.{append-nil, drop-drop, drop_at}
 use Rattle.std.proofs.lemmas.Nat.{from_be_bytes-to_be_bytes_2, from_be_bytes-to_be_bytes_4}
 use Rattle.sctp_wire_types.specs.declared.chunk.Chunk.{Chunk}
 use Rattle.sctp_wire_types.specs.declared.chunk.Chunk.TheVariants as chunks
@@ -13,7 +13,6 @@ use Rattle.sctp_wire_types.specs.declared.chunk.ChunkPayloadData.{ChunkPayloadDa
 use Rattle.sctp_wire_types.specs.declared.chunk.ChunkInit.{ChunkInit}
 use Rattle.sctp_wire_types.specs.declared.chunk.ChunkSelectiveAck.{ChunkSelectiveAck}
 use Rattle.sctp_wire_types.specs.declared.chunk.GapAckBlock.{GapAckBlock}
-use Rattle.sctp_wire_types.specs.declared.chunk.ChunkReconfig.{ChunkReconfig}
 use Rattle.sctp_wire_types.specs.declared.chunk.ChunkForwardTsn.{ChunkForwardTsn}
 use Rattle.sctp_wire_types.specs.declared.chunk.SkippedStream.{SkippedStream}
 use Rattle.sctp_wire_types.specs.declared.chunk.ChunkIForwardTsn.{ChunkIForwardTsn}
@@ -24,9 +23,9 @@ use Rattle.sctp_wire_types.specs.declared.ids.PayloadProtocolIdentifier.TheVaria
 use Rattle.sctp_wire_types.specs.Ids.{identifier_of, number_of}
 use Rattle.sctp_wire.specs.declared.frame.Frame.{Frame}
 use Rattle.sctp_wire.specs.Results.{◌>>=◌}
-use Rattle.sctp_wire.specs.Numbers.{u16_at, u32_at, IsU16, IsU32, bit}
+use Rattle.sctp_wire.specs.Numbers.{u16_at, u32_at, IsU32, bit}
 use Rattle.sctp_wire.specs.Frames.{frame_at, entries_at, framed, bare, padded, frame_fits, joined}
-use Rattle.sctp_wire.specs.Params.{param_of, param_frame, param_fits, IsParam, param_is_plain, params_at, causes_at}
+use Rattle.sctp_wire.specs.Params.{param_of, param_frame, param_fits, param_is_plain, params_at}
 use Rattle.sctp_wire.specs.PayloadData.{payload_data_of, payload_data_flags, payload_data_value, IsPayloadData}
 use Rattle.sctp_wire.specs.Init.{init_of, init_value, IsInit}
 use Rattle.sctp_wire.specs.SelectiveAck.{block_at, block_bytes, IsBlock, tsn_at, tsn_bytes, selective_ack_of}
@@ -34,8 +33,8 @@ use Rattle.sctp_wire.specs.SelectiveAck.{selective_ack_value, IsSack}
 use Rattle.sctp_wire.specs.ForwardTsn.{skipped_at, skipped_bytes, IsSkipped, forward_tsn_of, forward_tsn_value}
 use Rattle.sctp_wire.specs.ForwardTsn.{IsForwardTsn, message_skip_at, message_skip_bytes, IsMessageSkip}
 use Rattle.sctp_wire.specs.ForwardTsn.{i_forward_tsn_of, i_forward_tsn_value, IsIForwardTsn}
-use Rattle.sctp_wire.specs.Reconfig.{reconfig_of, reconfig_list, reconfig_params}
-use Rattle.sctp_wire.specs.Chunks.{point_of, chunk_of, chunks_at, chunk_frame, parts_fit, chunk_fits, chunk_bytes}
+use Rattle.sctp_wire.specs.Reconfig.{reconfig_of, reconfig_list}
+use Rattle.sctp_wire.specs.Chunks.{point_of, chunk_of, chunks_at, chunk_frame, chunk_fits, chunk_bytes}
 use Rattle.sctp_wire.specs.Chunks.{IsChunk, chunk_is_plain}
 use Rattle.sctp_wire.proofs.ListsWritten.{flat_length, sack_length}
 use Rattle.sctp_wire.proofs.FramesAgain.{IsAgain, frame_last, frame_padded, entries_again, items_again}

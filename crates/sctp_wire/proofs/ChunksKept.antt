@@ -1,7 +1,7 @@
 -- Chunks that are read are in range, stand for themselves and fit.
-use Rattle.std.proofs.Common.{◌≡◌, ℕ, zero, suc, ◌+◌, ◌-◌, ◌*◌, ◌/◌, ◌%◌, ◌^◌, ◌<◌, ◌≤◌, Bool, true, false, not, ◌||◌}
-use Rattle.std.proofs.Common.{◌&&◌, eqb, cond, ltb, List, [], ◌∷◌, ◌++◌, length, take, drop, Option, Some, None, Result}
-use Rattle.std.proofs.Common.{Ok, Err, refl, sym, ap, subst, ◌∙◌, arith}
+use Rattle.std.proofs.Common.{◌≡◌, ℕ, ◌+◌, ◌-◌, ◌*◌, ◌/◌, ◌%◌, ◌^◌, ◌<◌, ◌≤◌, Bool, true, false, not, ◌||◌}
+use Rattle.std.proofs.Common.{eqb, cond, ltb, List, [], ◌∷◌, length, drop, Some, None, Result}
+use Rattle.std.proofs.Common.{Ok, refl, ap, subst, ◌∙◌, arith}
 use Rattle.std.specs.List.{flat_map, list_all, AllByRecursion}
 use Rattle.std.proofs.lemmas.Bool.{ltb-false, lt-ltb, and_from}
 use Rattle.std.proofs.lemmas.List.{length-drop}
@@ -16,10 +16,10 @@ use Rattle.sctp_wire_types.specs.declared.chunk.ChunkForwardTsn.{ChunkForwardTsn
 use Rattle.sctp_wire_types.specs.declared.chunk.ChunkIForwardTsn.{ChunkIForwardTsn}
 use Rattle.sctp_wire.specs.declared.frame.Frame.{Frame}
 use Rattle.sctp_wire.specs.Results.{◌>>=◌}
-use Rattle.sctp_wire.specs.Numbers.{u16_at, u32_at, IsU16, IsU32}
-use Rattle.sctp_wire.specs.Frames.{frame_at, entries_at, frame_fits, joined}
-use Rattle.sctp_wire.specs.Params.{param_of, param_frame, param_fits, param_is_plain, params_at, cause_frame}
-use Rattle.sctp_wire.specs.Params.{cause_fits, causes_at}
+use Rattle.sctp_wire.specs.Numbers.{u16_at, u32_at, IsU32}
+use Rattle.sctp_wire.specs.Frames.{frame_at, entries_at, joined}
+use Rattle.sctp_wire.specs.Params.{param_of, param_frame, param_fits, param_is_plain, params_at}
+use Rattle.sctp_wire.specs.Params.{causes_at}
 use Rattle.sctp_wire.specs.PayloadData.{payload_data_of, payload_data_value, IsPayloadData}
 use Rattle.sctp_wire.specs.Init.{init_of, init_value, IsInit}
 use Rattle.sctp_wire.specs.SelectiveAck.{block_at, IsBlock, tsn_at, selective_ack_of, selective_ack_value, IsSack}
@@ -32,7 +32,7 @@ use Rattle.sctp_wire.proofs.FrameLoop.{ok_is}
 use Rattle.sctp_wire.proofs.ListsWritten.{flat_length, sack_length}
 use Rattle.sctp_wire.proofs.FramesKept.{AreBytes, AreBytes-drop, u16_below, u32_below, bind_ok, choose, frame_kept}
 use Rattle.sctp_wire.proofs.FramesKept.{entries_kept, entries_count, joined_length, items_kept}
-use Rattle.sctp_wire.proofs.ParamsKept.{IsWhole, AreWhole, all_whole_params, param_kept, params_kept, AreCauses}
+use Rattle.sctp_wire.proofs.ParamsKept.{AreWhole, all_whole_params, param_kept, params_kept}
 use Rattle.sctp_wire.proofs.ParamsKept.{causes_kept}
 
 abbrev PayloadKept : ℕ → ChunkPayloadData → Type 0

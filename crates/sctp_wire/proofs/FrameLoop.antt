@@ -1,10 +1,9 @@
 -- Lists of frames, one frame at a time.
-use Rattle.std.proofs.Common.{◌≡◌, ℕ, zero, suc, ◌+◌, ◌-◌, ◌*◌, ◌/◌, ◌%◌, ◌<◌, ◌≤◌, Bool, true, false, cond, ltb, List}
+use Rattle.std.proofs.Common.{◌≡◌, ℕ, zero, suc, ◌+◌, ◌-◌, ◌*◌, ◌<◌, ◌≤◌, Bool, true, false, cond, ltb, List}
 use Rattle.std.proofs.Common.{[], ◌∷◌, ◌++◌, length, get_or, take, drop, Result, Ok, Err, refl, sym, ap, ◌∙◌}
-use Rattle.std.proofs.Common.{append_assoc, arith, inl, inr, suc-mul}
-use Rattle.std.specs.Int.{w16, w32, from_be_bytes}
-use Rattle.std.proofs.lemmas.Bool.{ltb-true, ltb-false, lt-ltb, le-ltb}
-use Rattle.std.proofs.lemmas.List.{append-nil, length-drop, drop_more, get_or-drop}
+use Rattle.std.proofs.Common.{append_assoc, arith, suc-mul}
+use Rattle.std.proofs.lemmas.Bool.{ltb-false, lt-ltb, le-ltb}
+use Rattle.std.proofs.lemmas.List.{append-nil, length-drop, drop_more}
 use Rattle.sctp_wire_types.specs.declared.error.Fault.{Fault}
 use Rattle.sctp_wire_types.specs.declared.error.Fault.TheVariants.{Short, Length}
 use Rattle.sctp_wire.specs.declared.error.WireError.{WireError}
@@ -12,7 +11,7 @@ use Rattle.sctp_wire.specs.declared.error.WireError.TheVariants as wire
 use Rattle.sctp_wire.specs.declared.frame.Frame.{Frame}
 use Rattle.sctp_wire.specs.Results.{◌>>=◌, Fails}
 use Rattle.sctp_wire.specs.Numbers.{u16_at}
-use Rattle.sctp_wire.specs.Frames.{pad_len, padded_len, frame_at, items_within, items_at, entries_at}
+use Rattle.sctp_wire.specs.Frames.{padded_len, frame_at, items_within, items_at, entries_at}
 
 -- a test that did not fail
 pub guard_ok : {A : Type 0} (b : Bool) (d : Fault) (read : Result A Fault) (y : A) → cond b (Err d) read ≡ Ok y

@@ -1,17 +1,14 @@
 -- What is spelled is read again: frames, lists of frames and entries.
-use Rattle.std.proofs.Common.{◌≡◌, ℕ, zero, suc, ◌+◌, ◌-◌, ◌*◌, ◌/◌, ◌%◌, ◌^◌, ◌<◌, ◌≤◌, Bool, true, false, cond, ltb}
-use Rattle.std.proofs.Common.{List, [], ◌∷◌, ◌++◌, length, take, drop, Result, Ok, Err, refl, sym, ap, ◌∙◌}
+use Rattle.std.proofs.Common.{◌≡◌, ℕ, zero, suc, ◌+◌, ◌-◌, ◌^◌, ◌<◌, ◌≤◌, true, false, ltb}
+use Rattle.std.proofs.Common.{List, [], ◌∷◌, ◌++◌, length, take, drop, Result, Ok, refl, sym, ap, ◌∙◌}
 use Rattle.std.proofs.Common.{append_assoc, arith}
-use Rattle.std.specs.Int.{w16, w32, from_be_bytes, to_be_bytes}
 use Rattle.std.specs.List.{flat_map, AllByRecursion}
-use Rattle.std.proofs.lemmas.Bool.{ltb-true, ltb-false, lt-ltb, le-ltb}
-use Rattle.std.proofs.lemmas.List.{append-nil, length-append, length-drop, drop-drop, drop_at, drop_all, take_at}
+use Rattle.std.proofs.lemmas.Bool.{ltb-true, le-ltb}
+use Rattle.std.proofs.lemmas.List.{append-nil, length-append, drop-drop, drop_at, drop_all, take_at}
 use Rattle.std.proofs.lemmas.List.Concat.{flat_map-cons}
-use Rattle.std.proofs.lemmas.Nat.{from_be_bytes-to_be_bytes_2, from_be_bytes-to_be_bytes_4}
+use Rattle.std.proofs.lemmas.Nat.{from_be_bytes-to_be_bytes_2}
 use Rattle.sctp_wire_types.specs.declared.error.Fault.{Fault}
-use Rattle.sctp_wire_types.specs.declared.error.Fault.TheVariants.{Short, Length}
 use Rattle.sctp_wire.specs.declared.frame.Frame.{Frame}
-use Rattle.sctp_wire.specs.Results.{◌>>=◌}
 use Rattle.sctp_wire.specs.Numbers.{u16_at}
 use Rattle.sctp_wire.specs.Frames.{pad_len, padded_len, frame_at, items_at, entries_at, zeros, bare, padded, frame_fits}
 use Rattle.sctp_wire.specs.Frames.{joined}

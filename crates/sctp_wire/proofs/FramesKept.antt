@@ -1,18 +1,17 @@
 -- What is read is in range, and no longer when it is spelled than it was: frames, entries and lists of frames.
-use Rattle.std.proofs.Common.{◌≡◌, ℕ, zero, suc, ◌+◌, ◌-◌, ◌*◌, ◌/◌, ◌%◌, ◌^◌, ◌<◌, ◌≤◌, Bool, true, false, cond, ltb}
-use Rattle.std.proofs.Common.{List, [], ◌∷◌, ◌++◌, length, get_or, take, drop, Result, Ok, Err, refl, sym, ap, subst}
+use Rattle.std.proofs.Common.{◌≡◌, ℕ, zero, suc, ◌+◌, ◌-◌, ◌^◌, ◌<◌, ◌≤◌, Bool, true, false, cond, ltb}
+use Rattle.std.proofs.Common.{List, [], ◌∷◌, ◌++◌, length, get_or, take, drop, Result, Ok, Err, refl, ap, subst}
 use Rattle.std.proofs.Common.{◌∙◌, arith, inl, inr}
-use Rattle.std.specs.Int.{w16, w32, from_be_bytes}
 use Rattle.std.specs.List.{AllByRecursion}
-use Rattle.std.proofs.lemmas.Bool.{cases_lt, ltb-false, ltb-true}
+use Rattle.std.proofs.lemmas.Bool.{cases_lt, ltb-false}
 use Rattle.std.proofs.lemmas.List.{length-append, length-take, length-drop, get_or-drop, get_or-take, get_or_past}
 use Rattle.sctp_wire_types.specs.declared.error.Fault.{Fault}
 use Rattle.sctp_wire_types.specs.declared.error.Fault.TheVariants.{Short, Length}
 use Rattle.sctp_wire.specs.declared.frame.Frame.{Frame}
 use Rattle.sctp_wire.specs.Results.{◌>>=◌}
 use Rattle.sctp_wire.specs.Numbers.{u16_at, u32_at}
-use Rattle.sctp_wire.specs.Frames.{pad_len, padded_len, frame_at, items_within, items_at, entries_at, zeros, bare}
-use Rattle.sctp_wire.specs.Frames.{padded, joined}
+use Rattle.sctp_wire.specs.Frames.{pad_len, padded_len, frame_at, items_within, items_at, entries_at, zeros}
+use Rattle.sctp_wire.specs.Frames.{joined}
 use Rattle.sctp_wire.proofs.FrameLoop.{guard_ok, ok_is}
 use Rattle.sctp_wire.proofs.FramesAgain.{length-zeros}
 

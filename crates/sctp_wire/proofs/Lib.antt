@@ -1,5 +1,7 @@
 pub mod ChunksAgain
 pub mod ChunksKept
+pub mod DataCarried
+pub mod DataWritten
 pub mod FrameLoop
 pub mod FramesAgain
 pub mod FramesKept

@@ -6,7 +6,7 @@ use Rattle.sctp_wire.specs.Chunks.{chunks_at}
 use Rattle.sctp_wire.proofs.FramesKept.{AreBytes}
 use Rattle.sctp_wire.proofs.ChunksKept.{chunks_kept}
 use Rattle.sctp_wire.specs.declared.packet.Packet.{Packet}
-use Rattle.sctp_wire.specs.Packets.{packet_at, packet_fits, packet_is_plain, IsHeader, spelling, written}
+use Rattle.sctp_wire.specs.Packets.{packet_at, packet_fits, IsHeader, spelling, written}
 use Rattle.sctp_wire.proofs.PacketsAgain.{packet_again}
 
 fits_written : (p : Packet) → packet_fits p ≡ true → written p ≡ Ok (spelling p)

@@ -1,8 +1,7 @@
 -- Parameters and causes that are spelled are read again.
-use Rattle.std.proofs.Common.{◌≡◌, ℕ, zero, suc, ◌+◌, ◌-◌, ◌*◌, ◌/◌, ◌%◌, ◌^◌, ◌<◌, ◌≤◌, Bool, true, false, not, ◌||◌}
-use Rattle.std.proofs.Common.{◌&&◌, eqb, cond, ltb, List, [], ◌∷◌, ◌++◌, length, take, drop, Result, Ok, Err, refl, sym}
-use Rattle.std.proofs.Common.{ap, ◌∙◌, append_assoc, arith}
-use Rattle.std.specs.Int.{w16, w32, from_be_bytes, to_be_bytes}
+use Rattle.std.proofs.Common.{◌≡◌, ℕ, ◌-◌, ◌/◌, ◌^◌, ◌<◌, ◌≤◌, Bool, true, false, not, ◌||◌}
+use Rattle.std.proofs.Common.{eqb, ltb, List, [], ◌∷◌, length, drop, Ok, refl, sym}
+use Rattle.std.proofs.Common.{ap, ◌∙◌, arith}
 use Rattle.std.specs.List.{flat_map, list_all, AllByRecursion}
 use Rattle.std.proofs.lemmas.Bool.{le-ltb, not-true, or_parts, and_parts}
 use Rattle.std.proofs.lemmas.List.{append-nil}
@@ -14,10 +13,9 @@ use Rattle.sctp_wire_types.specs.declared.param.ParamOutgoingResetRequest.{Param
 use Rattle.sctp_wire_types.specs.declared.param.ParamReconfigResponse.{ParamReconfigResponse}
 use Rattle.sctp_wire_types.specs.declared.param.ReconfigResult.{ReconfigResult}
 use Rattle.sctp_wire_types.specs.declared.param.ReconfigResult.TheVariants as results
-use Rattle.sctp_wire.specs.declared.frame.Frame.{Frame}
 use Rattle.sctp_wire.specs.Results.{◌>>=◌}
-use Rattle.sctp_wire.specs.Numbers.{u16_at, u32_at, IsU16, IsU32}
-use Rattle.sctp_wire.specs.Frames.{entries_at, frame_fits, joined}
+use Rattle.sctp_wire.specs.Numbers.{u16_at, u32_at, IsU16}
+use Rattle.sctp_wire.specs.Frames.{entries_at, joined}
 use Rattle.sctp_wire.specs.Params.{result_of, number_of_result, reset_request_of, identifier_bytes, reset_request_value}
 use Rattle.sctp_wire.specs.Params.{IsResetRequest, reset_response_of, reset_response_value, IsResetResponse, param_of}
 use Rattle.sctp_wire.specs.Params.{param_frame, param_fits, IsParam, param_is_plain, params_at, cause_of, cause_frame}

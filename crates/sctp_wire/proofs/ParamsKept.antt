@@ -1,19 +1,17 @@
 -- Parameters and causes that are read are in range, stand for themselves and fit.
-use Rattle.std.proofs.Common.{◌≡◌, ℕ, zero, suc, ◌+◌, ◌-◌, ◌*◌, ◌/◌, ◌%◌, ◌^◌, ◌<◌, ◌≤◌, Bool, true, false, not, ◌||◌}
-use Rattle.std.proofs.Common.{◌&&◌, eqb, cond, ltb, List, [], ◌∷◌, ◌++◌, length, take, drop, Result, Ok, Err, refl, sym}
-use Rattle.std.proofs.Common.{ap, subst, ◌∙◌, arith}
+use Rattle.std.proofs.Common.{◌≡◌, ℕ, ◌-◌, ◌*◌, ◌/◌, ◌^◌, ◌<◌, ◌≤◌, Bool, true, false, not, ◌||◌}
+use Rattle.std.proofs.Common.{eqb, ltb, List, [], ◌∷◌, length, drop, Ok, refl}
+use Rattle.std.proofs.Common.{subst, arith}
 use Rattle.std.specs.List.{flat_map, list_all, AllByRecursion}
 use Rattle.std.proofs.lemmas.Bool.{ltb-false, lt-ltb, and_from}
-use Rattle.sctp_wire_types.specs.declared.error.Fault.{Fault}
 use Rattle.sctp_wire_types.specs.declared.chunk.ErrorCause.{ErrorCause}
 use Rattle.sctp_wire_types.specs.declared.param.Param.{Param}
 use Rattle.sctp_wire_types.specs.declared.param.Param.TheVariants as params
 use Rattle.sctp_wire_types.specs.declared.param.ParamOutgoingResetRequest.{ParamOutgoingResetRequest}
 use Rattle.sctp_wire_types.specs.declared.param.ParamReconfigResponse.{ParamReconfigResponse}
 use Rattle.sctp_wire.specs.declared.frame.Frame.{Frame}
-use Rattle.sctp_wire.specs.Results.{◌>>=◌}
-use Rattle.sctp_wire.specs.Numbers.{u16_at, u32_at, IsU16, IsU32}
-use Rattle.sctp_wire.specs.Frames.{entries_at, frame_fits, joined}
+use Rattle.sctp_wire.specs.Numbers.{u16_at, u32_at, IsU16}
+use Rattle.sctp_wire.specs.Frames.{entries_at, joined}
 use Rattle.sctp_wire.specs.Params.{result_of, reset_request_of, identifier_bytes, reset_request_value, IsResetRequest}
 use Rattle.sctp_wire.specs.Params.{reset_response_of, reset_response_value, IsResetResponse, param_of, param_frame}
 use Rattle.sctp_wire.specs.Params.{param_fits, IsParam, param_is_plain, params_at, cause_of, cause_frame, cause_fits}

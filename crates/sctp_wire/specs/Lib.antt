@@ -9,3 +9,4 @@ pub mod ForwardTsn
 pub mod Reconfig
 pub mod Chunks
 pub mod Packets
+pub mod DataPackets

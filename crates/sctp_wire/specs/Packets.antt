@@ -1,6 +1,6 @@
 -- Packets (RFC 4960 section 3).
-use Rattle.std.specs.Prelude.{◌≡◌, ℕ, ◌+◌, ◌==◌, if◌then◌else◌, nat_lt, not, Bool, true, false, ◌&&◌, ◌||◌, List, []}
-use Rattle.std.specs.Prelude.{◌∷◌, ◌++◌, length, take, drop, Result, Ok, Err}
+use Rattle.std.specs.Prelude.{ℕ, ◌==◌, if◌then◌else◌, nat_lt, not, Bool, true, false, ◌&&◌, ◌||◌, List}
+use Rattle.std.specs.Prelude.{◌++◌, length, take, drop, Result, Ok, Err}
 use Rattle.std.specs.List.{flat_map, list_all, list_any, AllByRecursion}
 use Rattle.std.specs.Int.{w16, w32, from_le_bytes, to_le_bytes, to_be_bytes}
 use Rattle.sctp_crc.specs.Crc.{sum_of_packet}

@@ -3,6 +3,7 @@
 #![tactic(auto)]
 
 mod chunk;
+mod data_packets;
 mod entries;
 mod error;
 mod frame;
@@ -14,6 +15,7 @@ mod partial;
 mod refuse;
 mod transmit;
 
+pub use data_packets::DataPackets;
 pub use packet::Packet;
 pub use partial::PartialDecode;
 pub use refuse::check_packet;

@@ -25,7 +25,7 @@ fn room_for(chunks: &[Chunk]) -> usize {
     }
 }
 
-fn set_sum(bytes: &mut [u8], sum: u32)
+pub(crate) fn set_sum(bytes: &mut [u8], sum: u32)
     requires { 12 ≤ length bytes.old }
     ensures { bytes.new ≡ take 8 bytes.old ++ to_le_bytes w32 sum ++ drop 12 bytes.old }
 {

@@ -4,6 +4,10 @@
 #[cfg(test)]
 mod pair;
 #[cfg(test)]
+mod run;
+#[cfg(test)]
 mod sessions;
 #[cfg(test)]
 mod stream_counts;
+#[cfg(test)]
+mod windows;

@@ -156,9 +156,11 @@ static REORDERED: &str = "\
 snap 1200 100 500=ok
 open A 1 53=ok
 write A 1 61=wrote 1
+send A 0=packets 0 1
 write A 1 6262=wrote 2
+send A 0=packets 1 1
 write A 1 636363=wrote 3
-send A 0=packets 0 3
+send A 0=packets 2 1
 deliver B 2 0=ok
 read B 1=none
 send B 0=packets 0 1
@@ -237,12 +239,14 @@ snap 1200 100 500=ok
 open A 1 53=ok
 policy A 1 u reliable 0=ok
 write A 1 61=wrote 1
+send A 0=packets 0 1
 write A 1 62=wrote 1
+send A 0=packets 1 1
 policy A 1 o rexmit 3=ok
 write A 1 63=wrote 1
 policy A 1 o timed 4294967295=ok
 policy A 9 u reliable 0=refused 9
-send A 0=packets 0 3
+send A 0=packets 2 1
 deliver B 1 0=ok
 read B 1=message 53 62
 deliver B 0 0=ok
@@ -282,8 +286,11 @@ fn sessions_give_their_replies(rt: HostRuntime) -> Result<(), Fail> {
     check(&rt, b"snap 1200 100 500\nrtt A", "ok\n3000\n", "", 0)
 }
 
-/// How many messages wait at once, and how many packets and events then do.
+/// How many messages wait at once, and how many events then do.
 const MANY: u64 = 1_000;
+
+/// How many packets they make: 60 chunks of 20 bytes and a common header in each, but for the last one.
+const PACKETS: u64 = 17;
 
 // A side writes many messages and gives them all out at once; the other side gets all their packets before it asks for
 // the first event, or reads.
@@ -293,8 +300,8 @@ fn many_waiting(alloc: Global) -> Result<String, AllocError> {
     for _ in 0..MANY {
         text.push_str("write A 1 61=wrote 1\n")?;
     }
-    text.push_str("buffered A 1=1000\nsend A 0=packets 0 1000\n")?;
-    for number in 0..MANY {
+    text.push_str("buffered A 1=1000\nsend A 0=packets 0 17\n")?;
+    for number in 0..PACKETS {
         text.push_str(format!(in alloc; "deliver B {number} 0=ok\n")?.as_str())?;
     }
     text.push_str("event B=connected\nevent B=opened 1\n")?;

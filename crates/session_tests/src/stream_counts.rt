@@ -1,8 +1,7 @@
 // What is told of a stream with marks, and what is counted of it at both ends.
-use crate::pair::steps_of;
-use assoc_session::{show, snapped};
-use sctp_assoc::Error;
-use sctp_pair::{Reply, Side2, Step};
+use crate::run::{Shown, ran, steps_of};
+use sctp_assoc::{Error, TransportConfig};
+use sctp_pair::{Side2, Step};
 use std::alloc::{AllocError, Global};
 use std::test::Fail;
 
@@ -10,10 +9,11 @@ use std::test::Fail;
 static STEPS: &str =
     "write A 1 6869\nsend A 0\ndeliver B 0 0\nread B 1\ntime B 200\nsend B 200\ndeliver A 0 200\nevent A\nevent A\nevent A\nevent A\n";
 
-/// The replies, from the stream's opening and its low and high mark on, but for that of the read. The last two are for
-/// its counters, which a line doesn't show.
-static REPLIES: &str =
-    "ok\nrefused 9\nok\nok\nwrote 2\npackets 0 1\nok\nok\npackets 0 1\nok\nconnected\nhigh 1\nlow 1\nnone\nrefused 9\nnone\nnone\n";
+/// The replies, from the stream's opening and its low and high mark on up to the read, and those behind it. The last
+/// two are for its counters, which a line doesn't show.
+static BEFORE: &str = "ok\nok\nok\nwrote 2\npackets 0 1\nok\n";
+
+static BEHIND: &str = "ok\npackets 0 1\nok\nconnected\nhigh 1\nlow 1\nnone\nnone\nnone\n";
 
 // A stream of this payload type with the low mark 1 and the high mark 2.
 fn steps(alloc: Global, kind: &str) -> Result<Vec<Step>, AllocError> {
@@ -31,35 +31,12 @@ fn steps(alloc: Global, kind: &str) -> Result<Vec<Step>, AllocError> {
     Ok(steps)
 }
 
-// Messages and bytes that were sent and received.
-fn counts_of(reply: &Reply) -> Option<[u64; 4]> {
-    match reply {
-        Reply::StreamStats(stats) => Some([
-            stats.messages_sent,
-            stats.bytes_sent,
-            stats.messages_received,
-            stats.bytes_received,
-        ]),
-        _ => None,
-    }
-}
-
-// The replies but for a message's, and A's and B's counts of the stream one behind the other.
-fn counted(alloc: Global, kind: &str) -> Result<(String, Vec<u64>), Error> {
-    let mut pair = snapped(alloc, 1200, 100, 500)?;
+// What these steps show, and the replies that are wanted.
+fn counted(alloc: Global, kind: &str) -> Result<(Shown, String), Error> {
     let steps = steps(alloc, kind)?;
-    let mut text = String::new(alloc);
-    let mut counts = Vec::new(alloc);
-    for reply in pair.run(steps.as_slice())? {
-        if let Some(found) = counts_of(&reply) {
-            counts.extend_from_slice(&found)?;
-        }
-        if !matches!(reply, Reply::Read(_)) {
-            text.push_str(show(alloc, reply)?.as_str())?;
-            text.push_str("\n")?;
-        }
-    }
-    Ok((text, counts))
+    let shown = ran(alloc, &TransportConfig::default(), steps.as_slice())?;
+    let wanted = format!(in alloc; "{BEFORE}message {kind} 6869\n{BEHIND}")?;
+    Ok((shown, wanted))
 }
 
 #[test]
@@ -68,9 +45,9 @@ fn marks_are_told_and_messages_are_counted(rt: HostRuntime) -> Result<(), Fail> 
         ("53", [1, 2, 0, 0, 0, 0, 1, 2]),
         ("50", [0, 0, 0, 0, 0, 0, 0, 0]),
     ] {
-        let (text, counts) = counted(rt.alloc(), kind)?;
-        assert_eq!(rt; text.as_str(), REPLIES);
-        assert_eq!(rt; counts.as_slice(), expected.as_slice());
+        let (shown, wanted) = counted(rt.alloc(), kind)?;
+        assert_eq!(rt; shown.replies.as_str(), wanted.as_str());
+        assert_eq!(rt; shown.counted.as_slice(), expected.as_slice());
     }
     Ok(())
 }

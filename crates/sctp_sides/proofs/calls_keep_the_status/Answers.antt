@@ -1,5 +1,5 @@
 use Rattle.sctp_sides.proofs.Proved.{opened_streams_keep_the_status, polls_keep_the_status, reads_keep_the_status}
-use Rattle.sctp_sides.proofs.Proved.{accepted_streams_keep_the_status, settings_keep_the_status}
+use Rattle.sctp_sides.proofs.Proved.{accepted_streams_keep_the_status, limits_keep_the_status, settings_keep_the_status}
 use Rattle.sctp_sides.proofs.Proved.{timers_keep_the_status, told_events_keep_the_status, writes_keep_the_status}
 use Rattle.sctp_sides.proofs.calls_keep_the_status.Goals as goal
 
@@ -14,6 +14,9 @@ returns-clause-set c = settings_keep_the_status
 
 pub returns-clause-accepted : goal.returns-clause-accepted
 returns-clause-accepted c = accepted_streams_keep_the_status
+
+pub returns-clause-limits : goal.returns-clause-limits
+returns-clause-limits c = limits_keep_the_status
 
 pub returns-clause-read : goal.returns-clause-read
 returns-clause-read c = reads_keep_the_status

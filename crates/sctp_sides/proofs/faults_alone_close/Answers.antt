@@ -1,5 +1,5 @@
 use Rattle.sctp_sides.proofs.ClosingCalls.{closes_close, writes_do_not_close}
-use Rattle.sctp_sides.proofs.ClosingCalls.{accepted_streams_do_not_close, settings_do_not_close}
+use Rattle.sctp_sides.proofs.ClosingCalls.{accepted_streams_do_not_close, limits_do_not_close, settings_do_not_close}
 use Rattle.sctp_sides.proofs.ClosingPackets.{exhausting_reads_alone_close, faults_alone_close}
 use Rattle.sctp_sides.proofs.DueSacks.{polls_do_not_close, timers_do_not_close}
 use Rattle.sctp_sides.proofs.faults_alone_close.Goals as goal
@@ -15,6 +15,9 @@ returns-clause-settings c = settings_do_not_close
 
 pub returns-clause-accepted : goal.returns-clause-accepted
 returns-clause-accepted c = accepted_streams_do_not_close
+
+pub returns-clause-limits : goal.returns-clause-limits
+returns-clause-limits c = limits_do_not_close
 
 pub returns-clause-reads : goal.returns-clause-reads
 returns-clause-reads c = exhausting_reads_alone_close

@@ -1,4 +1,4 @@
-use Rattle.std.proofs.Common.{◌≡◌, Bool, ◌++◌, take, drop}
+use Rattle.std.proofs.Common.{◌≡◌, ◌++◌, take, drop}
 use Rattle.std.specs.List.{list_all, AllByRecursion}
 use Rattle.sctp_wire.specs.Frames.{frame_fits, joined}
 use Rattle.sctp_wire.proofs.ListsWritten.{owed}

@@ -1,22 +1,36 @@
-use Rattle.std.proofs.Common.{rules}
-use Rattle.sctp_assoc.proofs.MemoryTaken.{ack_is_given, pieces_are_given}
+use Rattle.std.proofs.Common.{◌≡◌, ◌∙◌, ap, length, nat_lt, subst, sym, true}
+use Rattle.sctp_inbound.specs.Handshake.{header_of}
 use Rattle.sctp_outbound.proofs.SenderSteps.{on_err}
-use Rattle.sctp_assoc.proofs.PacketsReadAgain.{poll_again}
+use Rattle.sctp_assoc.specs.Gather.{ack_polled, after_both, data_polled, is_due}
+use Rattle.sctp_assoc.specs.Shown.{Shown}
+use Rattle.sctp_assoc.proofs.MemoryTaken.{ack_is_given, packets_are_given}
+use Rattle.sctp_assoc.proofs.PacketsReadAgain.{exact_of, poll_again}
+use Rattle.sctp_assoc.proofs.PolledData.{data_poll_stays}
 use Rattle.sctp_assoc.proofs.association.Association.gather_established.Goals as goal
+
+pub returns-clause-exact : goal.returns-clause-exact
+returns-clause-exact c =
+    exact_of (data_polled c.args.self.now c.args.now) (header_of c.args.self.now.handshake) c.args.packets.now.items
+    c.put_all.new.packets.items c.in_ok-data.data.items c.gather_ack.new.self c.gather_ack.new.packets.items
+    (ap header_of (data_poll_stays c.args.self.now c.args.now).handshake) c.in_ok-data.ensures.packets
+    c.in_ok-put_all.ensures.exact
+    (ap (λ (b : Shown). after_both c.put_all.new.packets.items (ack_polled b)) c.in_ok-data.ensures.exact
+    ∙ c.in_ok-gather_ack.ensures.exact)
 
 pub returns-clause-again : goal.returns-clause-again
 returns-clause-again c =
-    poll_again c.args.self.now c.gather_data.new.self c.args.now c.in_ok-pieces.pieces.items c.header.result
-    c.in_ok-pieces.ensures.exact (search rules) c.in_ok-put_data.ensures.again c.in_ok-gather_ack.ensures.again
+    poll_again c.args.self.now c.gather_data.new.self c.args.now c.in_ok-data.ensures.exact c.in_ok-data.ensures.again
+    c.in_ok-gather_ack.ensures.again
 
-pub returns-in_err-put_data-clause-grows : goal.returns-in_err-put_data-clause-grows
-returns-in_err-put_data-clause-grows c =
-    on_err c.from_residual-in_err-put_data.result
-    (pieces_are_given c.args.self.now c.gather_data.new.self c.args.now c.in_ok-pieces.pieces.items
-    c.in_ok-pieces.ensures.exact c.in_err-put_data.ensures.grows)
+pub returns-in_err-put_all-clause-grows : goal.returns-in_err-put_all-clause-grows
+returns-in_err-put_all-clause-grows c =
+    on_err c.from_residual-in_err-put_all.result
+    (packets_are_given c.args.self.now c.args.now
+    (subst (λ d. nat_lt 0 (length d) ≡ true) c.in_ok-data.ensures.packets c.in_err-put_all.ensures.grows))
 
 pub returns-in_err-gather_ack-clause-grows : goal.returns-in_err-gather_ack-clause-grows
 returns-in_err-gather_ack-clause-grows c =
     on_err c.from_residual-in_err-gather_ack.result
-    (ack_is_given c.args.self.now c.gather_data.new.self c.args.now c.in_ok-pieces.pieces.items
-    c.in_ok-pieces.ensures.exact c.in_err-gather_ack.ensures.grows)
+    (ack_is_given c.args.self.now c.args.now
+    (subst (λ (b : Shown). is_due b.receiver.ack_state ≡ true) (sym c.in_ok-data.ensures.exact)
+    c.in_err-gather_ack.ensures.grows))

@@ -1,18 +1,32 @@
-use Rattle.sctp_outbound.proofs.SenderSteps.{on_err, resends_on, resends_some, resent_sender, resent_out}
+use Rattle.sctp_outbound.proofs.SenderSteps.{on_err, passes_on, resends_on, resends_some, resent_count, resent_out}
+use Rattle.sctp_outbound.proofs.SenderSteps.{resent_sender}
 use Rattle.sctp_outbound.proofs.sender.Sender.resend_within.Goals as goal
+use Rattle.sctp_outbound.proofs.sender.Sender.resend_within.Goals.{in-Passed, in-Sent}
 
-pub returns-in-None-clause-sender : goal.returns-in-None-clause-sender
-returns-in-None-clause-sender c =
-    resent_sender c.loop-index.invariant (rw c.in-None.is at c.in_ok-rest.ensures.exact)
+pub returns-in_err-resend_at-clause-grows : goal.returns-in_err-resend_at-clause-grows
+returns-in_err-resend_at-clause-grows c =
+    on_err c.from_residual.result (resends_some c.loop-index.invariant c.in_err-resend_at.ensures.grows)
 
-pub returns-in-None-clause-chunks : goal.returns-in-None-clause-chunks
-returns-in-None-clause-chunks c =
-    resent_out c.loop-index.invariant (rw c.in-None.is at c.in_ok-rest.ensures.exact)
+pub returns-in-Full-clause-count : goal.returns-in-Full-clause-count
+returns-in-Full-clause-count c =
+    resent_count c.loop-index.invariant (rw c.in-Full.is at c.in_ok-resend_at.ensures.exact)
+
+pub returns-in-Full-clause-sender : goal.returns-in-Full-clause-sender
+returns-in-Full-clause-sender c =
+    resent_sender c.loop-index.invariant (rw c.in-Full.is at c.in_ok-resend_at.ensures.exact)
+
+pub returns-in-Full-clause-chunks : goal.returns-in-Full-clause-chunks
+returns-in-Full-clause-chunks c =
+    resent_out c.loop-index.invariant c.resend_at.new.out (rw c.in-Full.is at c.in_ok-resend_at.ensures.exact)
+    c.in_ok-resend_at.ensures.chunks
 
 pub loop-index-preserved : goal.loop-index-preserved
 loop-index-preserved c =
-    resends_on c.loop-index.invariant (rw c.in-Some.is at c.in_ok-rest.ensures.exact)
-
-pub returns-in_err-rest-clause-grows : goal.returns-in_err-rest-clause-grows
-returns-in_err-rest-clause-grows c =
-    on_err c.from_residual.result (resends_some c.loop-index.invariant c.in_err-rest.ensures.grows)
+    elim c.match-branch-2.branch [
+      | in-Passed w ↦ rw (w.left-is, w.sent-is)
+          (passes_on c.loop-index.invariant c.resend_at.new.out
+          (rw w.in-Passed.is at c.in_ok-resend_at.ensures.exact) c.in_ok-resend_at.ensures.chunks)
+      | in-Sent w ↦ rw (w.left-is, w.sent-is)
+          (resends_on c.loop-index.invariant c.resend_at.new.out
+          (rw w.in-Sent.is at c.in_ok-resend_at.ensures.exact) c.in_ok-resend_at.ensures.chunks)
+    ]

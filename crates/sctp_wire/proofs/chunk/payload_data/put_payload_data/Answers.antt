@@ -1,4 +1,4 @@
-use Rattle.std.proofs.Common.{◌+◌, length, arith}
+use Rattle.std.proofs.Common.{arith}
 use Rattle.sctp_wire.specs.PayloadData.{payload_data_flags, payload_data_value}
 use Rattle.sctp_wire.proofs.ListsWritten.{frame_written}
 use Rattle.sctp_wire.proofs.chunk.payload_data.put_payload_data.Goals as goal

@@ -1,4 +1,4 @@
-use Rattle.std.proofs.Common.{◌≡◌, arith}
+use Rattle.std.proofs.Common.{arith}
 use Rattle.sctp_wire.proofs.Marshalled.{marshalled}
 use Rattle.sctp_wire.proofs.packet.Packet.bytes.Goals as goal
 

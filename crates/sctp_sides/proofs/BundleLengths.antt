@@ -1,0 +1,103 @@
+-- A packet of DATA that a poll gives has one chunk, or is no longer than the greatest packet.
+use Rattle.std.proofs.Common.{◌≡◌, refl, sym, ap, ◌∙◌, subst, ◌⊎◌, ⊎_elim, inl, inr, ℕ, ◌≤◌, arith, true, false, List, []}
+use Rattle.std.proofs.Common.{◌∷◌, ◌++◌, length}
+use Rattle.std.specs.List.{AllByRecursion}
+use Rattle.std.proofs.lemmas.Bool.{cases_Bool, leb-true}
+use Rattle.sctp_wire_types.specs.declared.chunk.ChunkPayloadData.{ChunkPayloadData}
+use Rattle.sctp_wire_types.specs.declared.packet.CommonHeader.{CommonHeader}
+use Rattle.sctp_wire.specs.declared.packet.Packet.{Packet}
+use Rattle.sctp_wire.specs.Packets.{spelling, unsummed}
+use Rattle.sctp_wire.specs.DataPackets.{DataWritten, closed, data_fits, has_room, joined_by, nothing_written, packet_of}
+use Rattle.sctp_wire.specs.DataPackets.{unless_empty, with_all, with_data}
+use Rattle.sctp_inbound.specs.Handshake.{header_of}
+use Rattle.sctp_outbound.specs.Sender.{after_marked, after_resending, marked_by, missing_by, sent_new}
+use Rattle.sctp_model.proofs.Lists.{all_join}
+use Rattle.sctp_assoc.specs.Gather.{data_polled}
+use Rattle.sctp_assoc.specs.Shown.{Shown}
+use Rattle.sctp_sides.specs.Laws.{BundlesFitThePacket, IsShortOrAlone}
+
+-- the checksum takes the place of zeros
+spelled_length : (p : Packet) → length (spelling p) ≡ length (unsummed p)
+unfolding spelling
+spelled_length p = refl
+
+-- each packet is so, with this header and this greatest length
+record AreShort (header : CommonHeader) (mtu : ℕ) (w : DataWritten) : Type 0 where
+  header_is : w.header ≡ header
+  mtu_is : w.mtu ≡ mtu
+  done : AllByRecursion (IsShortOrAlone header mtu) w.done
+  current : IsShortOrAlone header mtu w.current
+
+module _ (header : CommonHeader) (mtu : ℕ) where
+  unless_short : (cs : List ChunkPayloadData) → IsShortOrAlone header mtu cs
+      → AllByRecursion (IsShortOrAlone header mtu) (unless_empty cs)
+  unless_short [] h = tt
+  unless_short (c ∷ cs) h = (h, tt)
+
+  closed_short : (w : DataWritten) → AreShort header mtu w → AreShort header mtu (closed w)
+  closed_short w h = record {
+    header_is = h.header_is;
+    mtu_is = h.mtu_is;
+    done = all_join (IsShortOrAlone header mtu) w.done (unless_empty w.current) h.done (unless_short w.current h.current);
+    current = inl (omega arith);
+  }
+
+  -- DATA that has room
+  joined_short : (w : DataWritten) (c : ChunkPayloadData) → AreShort header mtu w → has_room w c ≡ true
+      → AreShort header mtu (joined_by w c)
+  joined_short w c h room =
+      let within = leb-true _ _ room in
+      let length_is = spelled_length (packet_of w.header (w.current ++ c ∷ [])) in
+      let least = h.mtu_is in
+      let short : length (spelling (packet_of w.header (w.current ++ c ∷ []))) ≤ mtu =
+      omega (arith, within, length_is, least) in
+      record {
+        header_is = h.header_is;
+        mtu_is = h.mtu_is;
+        done = h.done;
+        current = inr (subst (λ z. length (spelling (packet_of z (w.current ++ c ∷ []))) ≤ mtu) h.header_is short);
+      }
+
+  -- DATA that begins a packet
+  alone_short : (w : DataWritten) (c : ChunkPayloadData) → AreShort header mtu w
+      → AreShort header mtu (joined_by (closed w) c)
+  alone_short w c h =
+      let shut = closed_short w h in
+      record {
+        header_is = shut.header_is;
+        mtu_is = shut.mtu_is;
+        done = shut.done;
+        current = inl (omega arith);
+      }
+
+  data_short : (w : DataWritten) (c : ChunkPayloadData) → AreShort header mtu w → AreShort header mtu (with_data w c)
+  data_short w c h = ⊎_elim
+      (λ (fits : data_fits c ≡ true). ⊎_elim
+      (λ (room : has_room w c ≡ true). rw (fits, room) (joined_short w c h room))
+      (λ (full : has_room w c ≡ false). rw (fits, full) (alone_short w c h))
+      (cases_Bool (has_room w c)))
+      (λ (long : data_fits c ≡ false). rw long h)
+      (cases_Bool (data_fits c))
+
+  all_short : (w : DataWritten) (cs : List ChunkPayloadData) → AreShort header mtu w → AreShort header mtu (with_all w cs)
+  all_short w [] h = h
+  all_short w (c ∷ cs) h = all_short (with_data w c) cs (data_short w c h)
+
+  closed_after : (w : DataWritten) (cs : List ChunkPayloadData) → AreShort header mtu w
+      → AreShort header mtu (closed (with_all w cs))
+  closed_after w cs h = closed_short (with_all w cs) (all_short w cs h)
+
+  nothing_short : AreShort header mtu (nothing_written header mtu)
+  nothing_short = record { header_is = refl; mtu_is = refl; done = tt; current = inl (omega arith) }
+
+pub bundles_fit_the_packet : BundlesFitThePacket
+unfolding data_polled
+bundles_fit_the_packet a now =
+    let header = header_of a.handshake in
+    let mtu = a.sender.mtu in
+    let none = nothing_written header mtu in
+    let marked = closed (with_all none (marked_by a.sender)) in
+    let missing = closed (with_all marked (missing_by (after_marked a.sender))) in
+    (closed_after header mtu missing (sent_new (after_resending a.sender) now).1
+    (closed_after header mtu marked (missing_by (after_marked a.sender))
+    (closed_after header mtu none (marked_by a.sender) (nothing_short header mtu)))).done

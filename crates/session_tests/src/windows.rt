@@ -1,0 +1,79 @@
+// How far the windows let DATA go out, how a loss closes them, and how DATA is bundled. The numbers were reckoned apart
+// from this code, after RFC 4960 sections 6.10 and 7.2.
+use crate::pair::written;
+use crate::run::{Shown, ran, steps_of};
+use sctp_assoc::{Error, TransportConfig};
+use std::alloc::Global;
+use std::test::Fail;
+
+// What these lines show.
+fn outcome(alloc: Global, text: &str) -> Result<Shown, Error> {
+    let steps = steps_of(alloc, text)?;
+    ran(alloc, &TransportConfig::default(), steps.as_slice())
+}
+
+/// Three pieces of 12,000 bytes fill the first window; their acknowledgement opens it by what came.
+static SLOW_START: &str =
+    "send A 0\ndeliver B 0 0\ndeliver B 1 0\ndeliver B 2 0\nsend B 0\ndeliver A 0 0\nsend A 0\n";
+
+static SLOW_START_REPLIES: &str =
+    "ok\nwrote 12000\npackets 0 3\nok\nok\nok\npackets 0 1\nok\npackets 3 6\n";
+
+#[test]
+fn an_acknowledgement_opens_the_window(rt: HostRuntime) -> Result<(), Fail> {
+    let text = written(rt.alloc(), 12_000, SLOW_START)?;
+    let shown = outcome(rt.alloc(), text.as_str())?;
+    assert_eq!(rt; shown.replies.as_str(), SLOW_START_REPLIES);
+    assert_eq!(rt; shown.a.windows.0, 7980);
+    Ok(())
+}
+
+#[test]
+fn a_timeout_closes_the_window(rt: HostRuntime) -> Result<(), Fail> {
+    let text = written(rt.alloc(), 6000, "send A 0\ntime A 3000\nsend A 3000\n")?;
+    let shown = outcome(rt.alloc(), text.as_str())?;
+    assert_eq!(rt;
+        shown.replies.as_str(),
+        "ok\nwrote 6000\npackets 0 3\nok\npackets 3 1\n"
+    );
+    assert_eq!(rt; shown.a.windows, (1228, 4912));
+    Ok(())
+}
+
+/// Four messages in packets of their own, of which the first one is lost. Three SACKs report it missing.
+static MISSING: &str =
+    "open A 1 53\nwrite A 1 61\nsend A 0\nwrite A 1 62\nsend A 0\nwrite A 1 63\nsend A 0\nwrite A 1 64\nsend A 0\ndeliver B 1 0\nsend B 0\ndeliver A 0 0\ndeliver B 2 0\nsend B 0\ndeliver A 1 0\ndeliver B 3 0\nsend B 0\ndeliver A 2 0\nsend A 0\ndeliver B 4 0\nread B 1\nread B 1\nread B 1\nread B 1\n";
+
+static MISSING_REPLIES: &str =
+    "ok\nwrote 1\npackets 0 1\nwrote 1\npackets 1 1\nwrote 1\npackets 2 1\nwrote 1\npackets 3 1\nok\npackets 0 1\nok\nok\npackets 1 1\nok\nok\npackets 2 1\nok\npackets 4 1\nok\nmessage 53 61\nmessage 53 62\nmessage 53 63\nmessage 53 64\n";
+
+#[test]
+fn what_is_missing_three_times_goes_out_again(rt: HostRuntime) -> Result<(), Fail> {
+    let shown = outcome(rt.alloc(), MISSING)?;
+    assert_eq!(rt; shown.replies.as_str(), MISSING_REPLIES);
+    assert_eq!(rt; shown.a.counts, [0, 3, 0, 0, 1]);
+    assert_eq!(rt; shown.a.windows, (4912, 4912));
+    Ok(())
+}
+
+// A second message of 592 bytes behind the first.
+fn second_message(alloc: Global, first: u16) -> Result<String, Error> {
+    let mut lines = String::new(alloc);
+    lines.push_str("write A 1 ")?;
+    for _ in 0..592_u16 {
+        lines.push_str("cd")?;
+    }
+    lines.push_str("\nsend A 0\n")?;
+    Ok(written(alloc, first, lines.as_str())?)
+}
+
+#[test]
+fn a_bundle_is_no_longer_than_the_greatest_packet(rt: HostRuntime) -> Result<(), Fail> {
+    let apart = second_message(rt.alloc(), 604)?;
+    let shown = outcome(rt.alloc(), apart.as_str())?;
+    assert_eq!(rt; shown.lengths.as_slice(), [632, 620].as_slice());
+    let together = second_message(rt.alloc(), 592)?;
+    let shown = outcome(rt.alloc(), together.as_str())?;
+    assert_eq!(rt; shown.lengths.as_slice(), [1228].as_slice());
+    Ok(())
+}
