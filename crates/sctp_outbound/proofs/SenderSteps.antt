@@ -404,32 +404,42 @@ module _ {k : Retransmission} {s0 s : Sender} {i end room left sent : ℕ} {out0
       → Stopped k s s2 i left inv.given (inv.given ++ chunks_tried k (slice_get s.queue.in_flight i) s i left)
   stopped e = of_attempt e
 
-  pub resent_sender : {s2 : Sender} → tried_again k (slice_get s.queue.in_flight i) s i left ≡ (s2, attempts.Full)
+  -- with nothing more resent from the place on
+
+  pub ends_sender : {s2 : Sender} {more : List ChunkPayloadData} → Stopped k s s2 i left inv.given more
       → s2 ≡ with_in_flight s0 (resent_pieces k room s0.queue.in_flight)
-  resent_sender e =
-      let stop = stopped e in
+  ends_sender stop =
       let xs = s.queue.in_flight in
       let all : xs ≡ resent_pieces k room s0.queue.in_flight =
       sym (take-append-drop i xs) ∙ ap (λ z. take i xs ++ z) (sym stop.pieces) ∙ inv.pieces in
       stop.sender ∙ inv.rest ∙ ap (with_in_flight s0) all
 
-  all_given : {s2 : Sender} → tried_again k (slice_get s.queue.in_flight i) s i left ≡ (s2, attempts.Full)
+  all_given : {s2 : Sender} {more : List ChunkPayloadData} → Stopped k s s2 i left inv.given more
       → inv.given ≡ resent_chunks k s0.queue.first_tsn 0 room s0.queue.in_flight
-  all_given e =
-      let stop = stopped e in
-      sym (append-nil inv.given) ∙ ap (λ z. inv.given ++ z) (sym stop.chunks) ∙ inv.chunks
+  all_given stop = sym (append-nil inv.given) ∙ ap (λ z. inv.given ++ z) (sym stop.chunks) ∙ inv.chunks
+
+  pub ends_out : {s2 : Sender} {more : List ChunkPayloadData} (out2 : DataWritten)
+      → Stopped k s s2 i left inv.given more → out2 ≡ with_all out0 more
+      → out2 ≡ with_all out0 (resent_chunks k s0.queue.first_tsn 0 room s0.queue.in_flight)
+  ends_out out2 stop written = written ∙ ap (with_all out0) (stop.sent ∙ all_given stop)
+
+  pub ends_count : {s2 : Sender} {more : List ChunkPayloadData} → Stopped k s s2 i left inv.given more
+      → sent ≡ length (resent_chunks k s0.queue.first_tsn 0 room s0.queue.in_flight)
+  ends_count stop = inv.many ∙ ap length (all_given stop)
+
+  pub resent_sender : {s2 : Sender} → tried_again k (slice_get s.queue.in_flight i) s i left ≡ (s2, attempts.Full)
+      → s2 ≡ with_in_flight s0 (resent_pieces k room s0.queue.in_flight)
+  resent_sender e = ends_sender (stopped e)
 
   pub resent_out : {s2 : Sender} (out2 : DataWritten)
       → tried_again k (slice_get s.queue.in_flight i) s i left ≡ (s2, attempts.Full)
       → out2 ≡ with_all out (chunks_tried k (slice_get s.queue.in_flight i) s i left)
       → out2 ≡ with_all out0 (resent_chunks k s0.queue.first_tsn 0 room s0.queue.in_flight)
-  resent_out out2 e written =
-      let stop = stopped e in
-      now_written out2 written ∙ ap (with_all out0) (stop.sent ∙ all_given e)
+  resent_out out2 e written = ends_out out2 (stopped e) (now_written out2 written)
 
   pub resent_count : {s2 : Sender} → tried_again k (slice_get s.queue.in_flight i) s i left ≡ (s2, attempts.Full)
       → sent ≡ length (resent_chunks k s0.queue.first_tsn 0 room s0.queue.in_flight)
-  resent_count e = inv.many ∙ ap length (all_given e)
+  resent_count e = ends_count (stopped e)
 
   pub resends_some : goes_again k (slice_get s.queue.in_flight i) left ≡ true
       → nat_lt 0 (length (resent_chunks k s0.queue.first_tsn 0 room s0.queue.in_flight)) ≡ true

@@ -14,7 +14,8 @@ first_congestion mtu window = record {
   partial_bytes_acked = 0;
 }
 
--- slow start: the window grows by the bytes that came, at most to the double (section 7.2.1)
+-- slow start: the window grows by the bytes that came, at most to the double; section 7.2.1 lets it grow by one packet
+-- at most (docs/DECISIONS.md)
 abbrev pub slowly_started : ℕ → CongestionWindow → CongestionWindow
 slowly_started acked c = record c { cwnd = sum_of c.cwnd (min acked c.cwnd) }
 
@@ -46,7 +47,8 @@ grown acked waits recovers mtu c =
 abbrev pub least_threshold : ℕ → ℕ
 least_threshold mtu = min (mtu * 4) (2 ^ 32 - 1)
 
--- the retransmission timer expired: half of the window is the threshold, and one packet may be in flight (section 7.2.3)
+-- the retransmission timer expired: half of the window is the threshold, and the window falls to one packet (section
+-- 7.2.3)
 abbrev pub timed_out : ℕ → CongestionWindow → CongestionWindow
 timed_out mtu c = record c {
   cwnd = mtu;

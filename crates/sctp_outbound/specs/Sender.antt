@@ -15,7 +15,7 @@ use Rattle.sctp_outbound_queue.specs.Message.{is_outstanding, outstanding_bytes,
 use Rattle.sctp_outbound_queue.specs.declared.message.Retransmission.{Retransmission}
 use Rattle.sctp_outbound_queue.specs.declared.message.Retransmission.TheVariants as causes
 use Rattle.sctp_outbound_queue.specs.Outbound.{empty_outbound, tsn_at, next_tsn_of, outstanding_of, without_first}
-use Rattle.sctp_outbound_queue.specs.Outbound.{all_marked, pieces_waiting, sent_next}
+use Rattle.sctp_outbound_queue.specs.Outbound.{all_marked, marked_of, pieces_waiting, sent_next}
 use Rattle.sctp_streams.specs.Streams.{StreamMap, released_in}
 use Rattle.sctp_outbound.specs.Congestion.{first_congestion, timed_out}
 use Rattle.sctp_outbound.specs.Offsets.{name_unsent}
@@ -125,8 +125,8 @@ with_first_window s window = record s {
 abbrev pub with_window : Sender → ℕ → Sender
 with_window s window = record s { advertised_window = window }
 
--- T3-rtx expired: all that is in flight is to be sent again, and one packet may be in flight (RFC 4960 sections 6.3.3 and
--- 7.2.3)
+-- T3-rtx expired: all that is outstanding is to be sent again, and the congestion window falls to one packet (RFC 4960
+-- sections 6.3.3 and 7.2.3)
 abbrev pub after_t3_timeout : Sender → Sender
 after_t3_timeout s = record s { queue = all_marked s.queue; congestion = timed_out s.mtu s.congestion }
 
@@ -190,6 +190,12 @@ resent_pieces k room (p ∷ ps) =
     if nat_lt room (room_taken k p) then p ∷ ps else
     counted_again k p ∷ resent_pieces k (room - room_taken k p) ps
 
+-- the number of marked pieces tells that no piece is left to be sent again for this reason; for fast retransmission
+-- no number is kept
+abbrev pub none_left : Retransmission → Sender → Bool
+none_left causes.Timer s = marked_of s.queue.in_flight == 0
+none_left causes.Fast s = false
+
 -- the sender once the piece at a place may have gone again, and what became of it
 abbrev pub tried_again : Retransmission → Option InFlight → Sender → ℕ → ℕ → Sender × Attempt
 tried_again k None s index room = (s, attempts.Full)
@@ -235,8 +241,9 @@ first_counted (p ∷ ps) = counted_again causes.Timer p ∷ ps
 abbrev pub both_windows : Sender → ℕ
 both_windows s = min s.congestion.cwnd (window_left s)
 
--- the DATA that the timer marked and that goes again: within both windows, or the first piece alone where the peer's
--- window is too small for it (RFC 4960 section 6.1, rule A)
+-- the DATA that the timer marked and that goes again: as many bytes of payload as the lesser of both windows, whatever
+-- earlier polls sent again, or the first piece alone where the peer's window is too small for it (RFC 4960 section 6.1,
+-- rule A)
 abbrev pub marked_by : Sender → List ChunkPayloadData
 marked_by s =
     if resends_alone s then first_chunk s.queue.first_tsn s.queue.in_flight else

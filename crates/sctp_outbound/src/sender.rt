@@ -6,7 +6,7 @@ ghost use Rattle.sctp_streams.specs.Streams.{released_in};
 ghost use Rattle.sctp_streams.specs.LowMarks.{Gathers};
 ghost use Rattle.std.specs.Prelude.{true, is_some, ◌≡◌, ◌+◌, ◌-◌, ◌/◌, if◌then◌else◌, ◌≤◌, ◌<◌, ◌^◌, ◌++◌, ◌∷◌, []};
 ghost use Rattle.std.specs.Prelude.{OnErr, OnOk, IfOk, IfSome, length, slice_get, nat_lt};
-ghost use Rattle.sctp_outbound.specs.Sender.{goes_again, resends, sends_new, fresh_sender, window_left, marks};
+ghost use Rattle.sctp_outbound.specs.Sender.{goes_again, none_left, resends, sends_new, fresh_sender, window_left, marks};
 ghost use Rattle.sctp_outbound.specs.Sender.{cumulative_tsn_ack_point_of, tsns_up_to, after_first, acknowledged};
 ghost use Rattle.sctp_outbound.specs.Sacks.{progress_of, sack_taken, with_growth};
 ghost use Rattle.sctp_outbound.specs.Progress.{any_new_up_to, is_new_piece};
@@ -29,7 +29,7 @@ use sctp_wire::DataPackets;
 use sctp_wire_types::{ChunkPayloadData, GapAckBlock, Instant, List, sna32gt, sna32gte};
 use std::alloc::{AllocError, Global};
 
-/// Bytes that a packet may have beside the payload of one DATA chunk: common header and DATA header.
+/// Bytes that a packet may have beside the payload of one DATA chunk, without padding: common header and DATA header.
 const PACKET_OVERHEAD: u32 = 28;
 
 /// Bytes of the common header of a packet (RFC 4960 section 3.1).
@@ -63,7 +63,7 @@ pub enum Attempt {
 #[derive(Debug, Drop)]
 pub struct Sender {
     pub queue: OutboundQueue,
-    /// Greatest packet, in bytes.
+    /// The greatest packet of two DATA chunks or more, in bytes: the payload size and 28.
     pub mtu: u32,
     /// Greatest payload of a DATA chunk, in bytes.
     pub max_payload_size: u32,
@@ -290,8 +290,8 @@ impl Sender {
         }
     }
 
-    /// Marks all that is in flight to be sent again, and lets one packet be in flight (RFC 4960 sections 6.3.3 and
-    /// 7.2.3).
+    /// Marks all that is outstanding to be sent again, and takes the congestion window down to one packet (RFC 4960
+    /// sections 6.3.3 and 7.2.3).
     pub fn on_t3_timeout(&mut self)
         ensures { self.new ≡ after_t3_timeout self.old }
     {
@@ -299,9 +299,11 @@ impl Sender {
         self.congestion.on_t3_timeout(self.mtu);
     }
 
-    /// Sends marked DATA again, in TSN order, while the windows allow it (RFC 4960 section 6.3.3). Where the peer's window
-    /// is too small for the first TSN in flight, that one goes alone. It lacks memory only where a chunk is sent again.
-    /// Goes over what is in flight.
+    /// Sends marked DATA again, in TSN order (RFC 4960 section 6.3.3): at each call as many bytes of payload as the lesser
+    /// of the congestion window and what is left of the peer's window. What earlier calls sent again is not taken off,
+    /// and it may be several packets. Where the peer's window is too small for the first TSN in flight, that one goes
+    /// alone. It lacks memory only where a chunk is sent again. Goes over what is in flight until no more of it is
+    /// marked, so over nothing where nothing is.
     pub fn resend_marked(&mut self, out: &mut DataPackets) -> Result<(), AllocError>
         ensures sender { OnOk result (self.new ≡ after_marked self.old) }
         ensures chunks { OnOk result (out.new ≡ with_all out.old (marked_by self.old)) }
@@ -357,8 +359,18 @@ impl Sender {
         }
     }
 
-    // Sends pieces again for a reason, in TSN order, until one does not fit into what is left of `room` bytes, and answers
-    // how many.
+    // Whether it is known that a reason picks no piece in flight: the marks of the timer are counted.
+    fn none_left(&self, by: Retransmission) -> bool
+        ensures { result ≡ none_left by self.now }
+    {
+        match by {
+            Retransmission::Timer => self.queue.marked_len() == 0,
+            Retransmission::Fast => false,
+        }
+    }
+
+    // Sends pieces again for a reason, in TSN order, until none is left or one does not fit into what is left of `room`
+    // bytes, and answers how many.
     fn resend_within(
         &mut self,
         by: Retransmission,
@@ -377,6 +389,9 @@ impl Sender {
         let mut left = room;
         let mut sent = 0;
         for index in 0..self.queue.inflight_len() {
+            if self.none_left(by) {
+                return Ok(sent);
+            }
             match self.resend_at(by, index, left, out)? {
                 Attempt::Passed => {}
                 Attempt::Sent { room } => {

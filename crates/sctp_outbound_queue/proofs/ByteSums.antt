@@ -2,6 +2,7 @@
 use Rattle.std.proofs.Common.{◌≡◌, ℕ, suc, ◌+◌, ◌-◌, ◌^◌, ◌<◌, ◌≤◌, ◌==◌, true, false, List, [], ◌∷◌, ◌++◌, Some, None}
 use Rattle.std.proofs.Common.{length, map, min, fold, drop, slice_get, slice_index_or, refl, ap, sym, ◌∙◌, ⊎_elim}
 use Rattle.std.proofs.Common.{arith}
+use Rattle.std.proofs.Math.Bool.{cond}
 use Rattle.std.specs.Prelude.{sum_by, find}
 use Rattle.sctp_serial.specs.Serial.{tsn_past}
 use Rattle.sctp_outbound_queue.proofs.ExpiredUnsent.{without_none, without_bytes}
@@ -12,11 +13,11 @@ use Rattle.std.proofs.lemmas.Bool.Decides.{nat_tests}
 use Rattle.sctp_outbound_queue.specs.declared.message.InFlight.{InFlight}
 use Rattle.sctp_outbound_queue.specs.Waiting.{Waiting}
 use Rattle.sctp_outbound_queue.specs.Message.{message_bytes, is_expired_unsent, without_piece, sent_once, is_of}
-use Rattle.sctp_outbound_queue.specs.Message.{outstanding_bytes, outstanding_bytes_of, flagged}
+use Rattle.sctp_outbound_queue.specs.Message.{is_outstanding, marked_again, outstanding_bytes, outstanding_bytes_of, flagged}
 use Rattle.sctp_outbound_queue.specs.Expiry.{without_expired, after_expiry}
 use Rattle.sctp_outbound_queue.specs.Outbound.{abandoned_at, all_flagged, released, Outbound, AreKept, waiting_of}
 use Rattle.sctp_outbound_queue.specs.Outbound.{outstanding_of, outstanding_of_message, left_behind, after_piece}
-use Rattle.sctp_outbound_queue.specs.Outbound.{tail_dropped, tail_dropped_from}
+use Rattle.sctp_outbound_queue.specs.Outbound.{marked_of, tail_dropped, tail_dropped_from}
 
 -- a sum that stops at a greatest number
 pub fold_saturates : {X : Type 0} (f : X → ℕ) (most a : ℕ) (xs : List X) → a ≤ most
@@ -75,6 +76,35 @@ after_piece_bytes now (m ∷ ms) p e =
     let same : sent_once now m ≡ p = cc in
     rw (← same) (left_behind_bytes m ms)
 
+-- a piece that is sent for the first time isn't marked to be sent again
+sent_unmarked : (now : ℕ) (ms : List Waiting) (p : InFlight) → option_map (sent_once now) (slice_get ms 0) ≡ Some p
+    → p.retransmit ≡ false
+sent_unmarked now [] p e = absurd (cc)
+sent_unmarked now (m ∷ ms) p e =
+    let same : sent_once now m ≡ p = cc in
+    rw (← same)
+
+unmarked_more : (ps : List InFlight) (p : InFlight) → p.retransmit ≡ false → marked_of (ps ++ p ∷ []) ≡ marked_of ps
+unmarked_more ps p unmarked =
+    sum_by_push (λ (q : InFlight). cond q.retransmit 1 0) ps p
+    ∙ ap (λ b. marked_of ps + cond b 1 0) unmarked ∙ omega arith
+
+-- pieces that are marked to be sent again
+
+marked_one : (p : InFlight) → outstanding_bytes (marked_again p) ≡ outstanding_bytes p
+marked_one p =
+    ⊎_elim (λ (a : is_outstanding p ≡ true). rw (a, a)) (λ (a : is_outstanding p ≡ false). rw (a, a))
+    (cases_Bool (is_outstanding p))
+
+pub marked_sum : (ps : List InFlight) → outstanding_of (map marked_again ps) ≡ outstanding_of ps
+marked_sum [] = refl
+marked_sum (p ∷ ps) =
+    let one = marked_one p in
+    let more = marked_sum ps in
+    let a = sum_by-cons outstanding_bytes (marked_again p) (map marked_again ps) in
+    let b = sum_by-cons outstanding_bytes p ps in
+    omega (arith, one, more, a, b)
+
 -- an abandoned message
 
 flagged_yes : (id : ℕ) (p : InFlight) → is_of id p ≡ true
@@ -112,54 +142,59 @@ tail_from (m ∷ ms) q id =
     λ (a : (m.message.message_id == id) ≡ false). rw a (omega arith)
     ) (cases_Bool (m.message.message_id == id))
 
-pub released_bound : (q : Outbound) (id waiting outstanding : ℕ) → AreKept q.pending q.in_flight waiting outstanding
+pub released_bound : (q : Outbound) (id waiting outstanding marked : ℕ)
+    → AreKept q.pending q.in_flight waiting outstanding marked
     → outstanding_of_message id q.in_flight + (tail_dropped q id).1 < 2 ^ 64
-released_bound q id waiting outstanding kept =
+released_bound q id waiting outstanding marked kept =
     let tail = tail_from q.pending q id in
     let sent = flagged_sum id q.in_flight in
     omega (arith, tail, sent, kept.0, kept.1, kept.2)
 
 -- the kept sums after a change
 
-pub kept_sent : {ms2 : List Waiting} {ps1 ps2 : List InFlight} {w o b : ℕ} {p : InFlight} (now : ℕ) (ms : List Waiting)
-    (ps : List InFlight) → AreKept ms ps w o
+pub kept_sent : {ms2 : List Waiting} {ps1 ps2 : List InFlight} {w o k b : ℕ} {p : InFlight} (now : ℕ) (ms : List Waiting)
+    (ps : List InFlight) → AreKept ms ps w o k
     → Some p ≡ option_map (sent_once now) (slice_get ms 0) → ms2 ≡ after_piece ms → ps1 ≡ ps → ps2 ≡ ps1 ++ p ∷ []
-    → b ≡ outstanding_bytes p → AreKept ms2 ps2 (w - b) (o + b)
+    → b ≡ outstanding_bytes p → AreKept ms2 ps2 (w - b) (o + b) k
 kept_sent {p} now ms ps kept first left same more bytes =
     let a = after_piece_bytes now ms p (sym first) in
     let push = sum_by_push outstanding_bytes ps p in
+    let unmarked = unmarked_more ps p (sent_unmarked now ms p (sym first)) in
     let c = kept.0 in
     let d = kept.1 in
     let e = kept.2 in
-    rw (left, more, same, bytes) (omega (arith, a, c), omega (arith, push, d), omega (arith, a, c, e))
+    let f = kept.3 in
+    rw (left, more, same, bytes)
+    (omega (arith, a, c), omega (arith, push, d), omega (arith, a, c, e), f ∙ sym unmarked)
 
-pub kept_flagged : {ps2 : List InFlight} {w o b : ℕ} (id : ℕ) (ms : List Waiting) (ps : List InFlight)
-    → AreKept ms ps w o → b ≡ min (outstanding_of_message id ps) (2 ^ 64 - 1)
-    → ps2 ≡ map (flagged id) ps → AreKept ms ps2 w (o - b)
-kept_flagged id ms ps kept bytes flags =
+pub kept_flagged : {ps2 : List InFlight} {w o k b left : ℕ} (id : ℕ) (ms : List Waiting) (ps : List InFlight)
+    → AreKept ms ps w o k → b ≡ min (outstanding_of_message id ps) (2 ^ 64 - 1)
+    → ps2 ≡ map (flagged id) ps → left ≡ marked_of ps2 → AreKept ms ps2 w (o - b) left
+kept_flagged id ms ps kept bytes flags counted =
     let a = flagged_sum id ps in
     let c = kept.0 in
     let d = kept.1 in
     let e = kept.2 in
-    rw flags (c, omega (arith, a, bytes, d, e), omega (arith, e))
+    (c, rw flags (omega (arith, a, bytes, d, e)), omega (arith, e), counted)
 
-pub kept_same : {ms2 : List Waiting} {w o : ℕ} (now : ℕ) (ms : List Waiting) (ps : List InFlight) → AreKept ms ps w o
-    → None ≡ find (is_expired_unsent now) ms
-    → ms2 ≡ without_expired now ms → AreKept ms2 ps w o
+pub kept_same : {ms2 : List Waiting} {w o k : ℕ} (now : ℕ) (ms : List Waiting) (ps : List InFlight)
+    → AreKept ms ps w o k → None ≡ find (is_expired_unsent now) ms
+    → ms2 ≡ without_expired now ms → AreKept ms2 ps w o k
 kept_same now ms ps kept none left =
     rw (left, without_none now ms (sym none)) kept
 
-pub kept_dropped : {ms2 : List Waiting} {w o b : ℕ} {d : Waiting} (now : ℕ) (ms : List Waiting) (ps : List InFlight)
-    → AreKept ms ps w o
+pub kept_dropped : {ms2 : List Waiting} {w o k b : ℕ} {d : Waiting} (now : ℕ) (ms : List Waiting) (ps : List InFlight)
+    → AreKept ms ps w o k
     → Some d ≡ find (is_expired_unsent now) ms → ms2 ≡ without_expired now ms → b ≡ min (message_bytes d) (2 ^ 64 - 1)
-    → AreKept ms2 ps (w - b) o
+    → AreKept ms2 ps (w - b) o k
 kept_dropped now ms ps kept found left bytes =
     let a = without_bytes now ms _ (sym found) in
     let c = kept.0 in
     let e = kept.2 in
-    rw left (omega (arith, a, bytes, c, e), kept.1, omega (arith, e))
+    rw left (omega (arith, a, bytes, c, e), kept.1, omega (arith, e), kept.3)
 
-pub dropped_bytes : {w o b : ℕ} {d : Waiting} (now : ℕ) (ms : List Waiting) (ps : List InFlight) → AreKept ms ps w o
+pub dropped_bytes : {w o k b : ℕ} {d : Waiting} (now : ℕ) (ms : List Waiting) (ps : List InFlight)
+    → AreKept ms ps w o k
     → Some d ≡ find (is_expired_unsent now) ms
     → b ≡ min (message_bytes d) (2 ^ 64 - 1) → (b ≡ message_bytes d) × (b ≤ w)
 dropped_bytes now ms ps kept found bytes =
@@ -168,8 +203,8 @@ dropped_bytes now ms ps kept found bytes =
     let e = kept.2 in
     (omega (arith, a, bytes, c, e), omega (arith, a, bytes, c, e))
 
-pub expiry_is : {ms : List Waiting} {d : Waiting} {b w o : ℕ} (now : ℕ) (q : Outbound)
-    → AreKept q.pending q.in_flight w o → Some d ≡ find (is_expired_unsent now) q.pending
+pub expiry_is : {ms : List Waiting} {d : Waiting} {b w o k : ℕ} (now : ℕ) (q : Outbound)
+    → AreKept q.pending q.in_flight w o k → Some d ≡ find (is_expired_unsent now) q.pending
     → ms ≡ without_expired now q.pending → b ≡ min (message_bytes d) (2 ^ 64 - 1)
     → after_expiry now q ≡ (record q { pending = ms }, Some (released d.message b))
 expiry_is now q kept found left bytes =

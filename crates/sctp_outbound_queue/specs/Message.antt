@@ -104,7 +104,8 @@ picks causes.Fast p = is_outstanding p && p.sent_count == 1 && nat_le 3 p.misses
 abbrev pub data_length : ℕ → ℕ
 data_length length = min (length + 19) (2 ^ 64 - 1) / 4 * 4
 
--- the room that a piece takes up of the windows, or of the one packet of a fast retransmission
+-- the room that a piece takes up: its payload of the windows, or its whole chunk of the one packet of a fast
+-- retransmission
 abbrev pub room_taken : Retransmission → InFlight → ℕ
 room_taken causes.Timer p = length p.user_data
 room_taken causes.Fast p = data_length (length p.user_data)

@@ -1,7 +1,7 @@
 -- What waits to be sent and what is in flight (RFC 4960 section 6.1).
 use Rattle.std.specs.Prelude.{◌≡◌, ℕ, Bool, List, [], ◌∷◌, ◌++◌, ◌+◌, ◌-◌, ◌<◌, ◌%◌, ◌^◌, ◌==◌, ◌||◌, if◌then◌else◌}
 use Rattle.std.specs.Prelude.{drop, length, map, sum_by, slice_get, slice_set, take, Option, Some, None, not, false}
-use Rattle.std.specs.List.{list_any, position_or_len}
+use Rattle.std.specs.List.{count_by, list_any, position_or_len}
 use Rattle.sctp_serial.specs.Serial.{tsn_past}
 use Rattle.sctp_outbound_queue.specs.declared.message.InFlight.{InFlight}
 use Rattle.sctp_outbound_queue.specs.declared.message.Attributes.{Attributes}
@@ -32,11 +32,17 @@ outstanding_of pieces = sum_by outstanding_bytes pieces
 abbrev pub outstanding_of_message : ℕ → List InFlight → ℕ
 outstanding_of_message id pieces = sum_by (outstanding_bytes_of id) pieces
 
--- two numbers that are kept as the queue changes are the bytes that wait and the outstanding bytes, and both together
--- are below the greatest number of 64 bits
-abbrev pub AreKept : List Waiting → List InFlight → ℕ → ℕ → Type 0
-AreKept pending in_flight waiting outstanding =
+-- how many pieces in flight are marked to be sent again since the retransmission timer expired (RFC 4960 section 6.3.3,
+-- rule E3)
+abbrev pub marked_of : List InFlight → ℕ
+marked_of pieces = count_by (λ p. p.retransmit) pieces
+
+-- three numbers that are kept as the queue changes are the bytes that wait and the outstanding bytes, which together
+-- are below the greatest number of 64 bits, and how many pieces in flight are marked to be sent again
+abbrev pub AreKept : List Waiting → List InFlight → ℕ → ℕ → ℕ → Type 0
+AreKept pending in_flight waiting outstanding marked =
     (waiting ≡ waiting_of pending) × (outstanding ≡ outstanding_of in_flight) × (waiting + outstanding < 2 ^ 64 - 1)
+    × (marked ≡ marked_of in_flight)
 
 abbrev pub empty_outbound : ℕ → Outbound
 empty_outbound tsn = record { pending = []; in_flight = []; first_tsn = tsn; next_message_id = 0 }

@@ -10,15 +10,15 @@ ghost use Rattle.sctp_outbound_queue.specs.Outbound.{empty_outbound, tsn_at, nex
 ghost use Rattle.sctp_outbound_queue.specs.Outbound.{outstanding_of_message, pieces_waiting, with_message, sent_next};
 ghost use Rattle.sctp_outbound_queue.specs.Outbound.{after_piece, without_first, changed_at, acked_at, piece_at};
 ghost use Rattle.sctp_outbound_queue.specs.Outbound.{all_marked, has_stream, abandoned_in_front_of, tail_dropped};
-ghost use Rattle.sctp_outbound_queue.specs.Outbound.{all_flagged, abandoned_at, is_abandoned_piece, with_missing};
+ghost use Rattle.sctp_outbound_queue.specs.Outbound.{all_flagged, abandoned_at, is_abandoned_piece, with_missing, marked_of};
 ghost use Rattle.std.specs.List.{list_any};
 ghost use Rattle.sctp_outbound_queue.specs.Expiry.{all_started, first_tsn_that, without_expired, after_expiry};
 ghost use Rattle.sctp_outbound_queue.specs.Expiry.{after_tail_expiry, is_expired_tail};
 
 use crate::walks::{
-    any_of_message, any_of_stream, any_waiting_of_stream, bytes_of_message, drop_expired,
-    first_expired_piece, first_missing, first_not_abandoned, first_outstanding, flag_all,
-    mark_each, pieces_of, report_missing, start_each_sent, start_each_waiting, take_piece,
+    any_of_message, any_of_stream, any_waiting_of_stream, bytes_of_message, count_marked,
+    drop_expired, first_expired_piece, first_missing, first_not_abandoned, first_outstanding,
+    flag_all, mark_all, pieces_of, report_missing, start_each_sent, start_each_waiting, take_piece,
 };
 use crate::{Attributes, InFlight, PendingMessage, Retransmission};
 use sctp_wire_types::{Instant, StreamId};
@@ -45,6 +45,8 @@ pub struct OutboundQueue {
     pending_bytes: u64,
     // The bytes in flight that are neither acknowledged nor abandoned.
     outstanding_bytes: u64,
+    // How many pieces in flight are marked to be sent again.
+    marked: usize,
 }
 
 impl Model for OutboundQueue {
@@ -59,7 +61,8 @@ impl Model for OutboundQueue {
       next_message_id = q.next_message_id;
     } };
 
-    ghost invariant = { λ q. AreKept q.pending.items q.in_flight.items q.pending_bytes q.outstanding_bytes };
+    ghost invariant = { λ q. AreKept q.pending.items q.in_flight.items q.pending_bytes q.outstanding_bytes
+        q.marked };
 }
 
 impl OutboundQueue {
@@ -74,6 +77,7 @@ impl OutboundQueue {
             next_message_id: 0,
             pending_bytes: 0,
             outstanding_bytes: 0,
+            marked: 0,
         }
     }
 
@@ -146,6 +150,14 @@ impl OutboundQueue {
         self.outstanding_bytes
     }
 
+    /// Number of pieces in flight that are marked to be sent again (RFC 4960 section 6.3.3). It is kept, so no piece is
+    /// gone over.
+    pub fn marked_len(&self) -> usize
+        ensures { result ≡ marked_of self.now.in_flight }
+    {
+        self.marked
+    }
+
     /// The identifier that the next message gets.
     pub fn next_message_id(&self) -> u64
         ensures { result ≡ self.now.next_message_id }
@@ -204,7 +216,7 @@ impl OutboundQueue {
         self.in_flight.get(index)
     }
 
-    /// Takes out the first piece in flight: it is acknowledged cumulatively.
+    /// Takes out the first piece in flight: it is acknowledged cumulatively. Goes over no other piece.
     pub fn pop(&mut self) -> Option<InFlight>
         ensures piece { result ≡ slice_get self.old.in_flight 0 }
         ensures rest { self.new ≡ without_first self.old }
@@ -212,10 +224,12 @@ impl OutboundQueue {
         let piece = self.in_flight.pop_front()?;
         self.first_tsn = self.first_tsn.wrapping_add(1);
         self.outstanding_bytes -= piece.outstanding_bytes();
+        self.marked -= usize::from(piece.retransmit);
         Some(piece)
     }
 
-    /// A gap ack block named a TSN (RFC 4960 section 6.2.1). Answers the bytes that are outstanding no more.
+    /// A gap ack block named a TSN (RFC 4960 section 6.2.1). Answers the bytes that are outstanding no more. Goes over
+    /// no other piece.
     pub fn mark_as_acked(&mut self, tsn: u32) -> u64
         ensures { acked_at self.old tsn ≡ (self.new, result) }
     {
@@ -223,6 +237,7 @@ impl OutboundQueue {
         match self.in_flight.get_mut(index) {
             Some(piece) => {
                 let bytes = piece.outstanding_bytes();
+                self.marked -= usize::from(piece.retransmit);
                 piece.acknowledge();
                 self.outstanding_bytes -= bytes;
                 bytes
@@ -231,19 +246,22 @@ impl OutboundQueue {
         }
     }
 
-    /// Marks every outstanding piece to be sent again (RFC 4960 section 6.3.3).
+    /// Marks every outstanding piece to be sent again (RFC 4960 section 6.3.3). Goes over what is in flight.
     pub fn mark_all_to_retransmit(&mut self)
         ensures { self.new ≡ all_marked self.old }
     {
-        mark_each(self.in_flight.make_contiguous());
+        self.marked = mark_all(&mut self.in_flight);
     }
 
-    /// Counts that a piece is sent again, which takes the timer's mark off it.
+    /// Counts that a piece is sent again. One that goes because the timer marked it loses the mark. Goes over no other
+    /// piece.
     pub fn resend(&mut self, index: usize, by: Retransmission)
         ensures { self.new ≡ changed_at (counted_again by) self.old index }
     {
         if let Some(piece) = self.in_flight.get_mut(index) {
+            self.marked -= usize::from(piece.retransmit);
             piece.resend(by);
+            self.marked += usize::from(piece.retransmit);
         }
     }
 
@@ -255,7 +273,8 @@ impl OutboundQueue {
     }
 
     /// A SACK reported the first `count` pieces in flight missing: each outstanding one counts it, up to 3 (RFC 4960
-    /// section 7.2.4). Answers whether it was the third report of one of them. Goes over those pieces.
+    /// section 7.2.4). Answers whether it was the third report of one of them. Goes over those pieces; where there are
+    /// some and the ring that holds what is in flight wraps round, all of it is put in a row first.
     pub fn report_missing(&mut self, count: usize) -> bool
         ensures third { result ≡ list_any is_third_report (take count self.old.in_flight) }
         ensures counted { self.new ≡ with_missing count self.old }
@@ -263,14 +282,14 @@ impl OutboundQueue {
         report_missing(&mut self.in_flight, count)
     }
 
-    /// How many TSNs past the first one in flight the first outstanding piece is.
+    /// How many TSNs past the first one in flight the first outstanding piece is. Goes over the pieces before it.
     pub fn first_outstanding(&self) -> Option<usize>
         ensures { result ≡ position is_outstanding self.now.in_flight }
     {
         first_outstanding(&self.in_flight)
     }
 
-    /// The TSN of the first outstanding piece.
+    /// The TSN of the first outstanding piece. Goes over the pieces before it.
     pub fn earliest_outstanding_tsn(&self) -> Option<u32>
         ensures { result ≡ first_tsn_that is_outstanding self.now }
     {
@@ -310,7 +329,7 @@ impl OutboundQueue {
 
     /// Abandons the message of a TSN in flight whole (RFC 3758 section 3.5): every piece of it that is in flight, an
     /// acknowledged one too, and its unsent pieces, for which a marker takes the next TSN. Answers what is released;
-    /// None where the TSN is not in flight.
+    /// None where the TSN is not in flight. Goes over what is in flight.
     pub fn abandon(&mut self, tsn: u32) -> Result<Option<Released>, AllocError>
         ensures ok { IfOk result (λ released. abandoned_at self.old tsn ≡ (self.new, released)) }
         ensures err { OnErr result (self.new ≡ self.old) }
@@ -362,6 +381,7 @@ impl OutboundQueue {
     {
         self.outstanding_bytes -= bytes_of_message(&self.in_flight, message_id);
         flag_all(&mut self.in_flight, message_id);
+        self.marked = count_marked(&self.in_flight);
     }
 
     /// Lets the time of each message that has one run from `now` on, where it does not run yet.

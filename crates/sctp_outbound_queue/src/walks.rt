@@ -7,7 +7,7 @@ ghost use Rattle.sctp_outbound_queue.specs.Message.{piece_count, is_of, is_of_st
 ghost use Rattle.sctp_outbound_queue.specs.Message.{is_outstanding, outstanding_bytes_of, is_expired_piece};
 ghost use Rattle.sctp_outbound_queue.specs.Message.{is_expired_unsent, marked_again, flagged, waiting_started};
 ghost use Rattle.sctp_outbound_queue.specs.Message.{sent_started, moved_down, sent_once, is_third_report, picks, reported_missing};
-ghost use Rattle.sctp_outbound_queue.specs.Outbound.{outstanding_of_message, pieces_waiting, after_piece};
+ghost use Rattle.sctp_outbound_queue.specs.Outbound.{outstanding_of_message, pieces_waiting, after_piece, marked_of};
 ghost use Rattle.sctp_outbound_queue.specs.Expiry.{without_expired};
 
 use crate::{Attributes, InFlight, PendingMessage, Retransmission};
@@ -55,6 +55,13 @@ fn add_pieces(messages: &VecDeque<PendingMessage>) -> usize
     messages.iter().fold(0usize, |sum, message| {
         sum.saturating_add(message.piece_count())
     })
+}
+
+// How many pieces are marked to be sent again.
+pub(crate) fn count_marked(pieces: &VecDeque<InFlight>) -> usize
+    ensures { result ≡ marked_of pieces.now.items }
+{
+    pieces.iter().filter(|piece| piece.retransmit).count()
 }
 
 pub(crate) fn first_outstanding(pieces: &VecDeque<InFlight>) -> Option<usize>
@@ -143,7 +150,16 @@ pub(crate) fn flag_all(pieces: &mut VecDeque<InFlight>, message_id: u64)
     flag_each(pieces.make_contiguous(), message_id);
 }
 
-pub(crate) fn mark_each(pieces: &mut [InFlight])
+// Marks every outstanding piece, and answers how many pieces are marked then.
+pub(crate) fn mark_all(pieces: &mut VecDeque<InFlight>) -> usize
+    ensures marked { pieces.new.items ≡ map marked_again pieces.old.items }
+    ensures count { result ≡ marked_of pieces.new.items }
+{
+    mark_each(pieces.make_contiguous());
+    count_marked(pieces)
+}
+
+fn mark_each(pieces: &mut [InFlight])
     ensures { pieces.new ≡ map marked_again pieces.old }
 {
     for piece in pieces.iter_mut() {
@@ -151,12 +167,16 @@ pub(crate) fn mark_each(pieces: &mut [InFlight])
     }
 }
 
-// The first `count` pieces are reported missing. Answers whether it was the third report of one of them.
+// The first `count` pieces are reported missing. Answers whether it was the third report of one of them. Where there are
+// none nothing is gone over or moved.
 pub(crate) fn report_missing(pieces: &mut VecDeque<InFlight>, count: usize) -> bool
     ensures third { result ≡ list_any is_third_report (take count pieces.old.items) }
     ensures counted { pieces.new.items ≡
         map reported_missing (take count pieces.old.items) ++ drop count pieces.old.items }
 {
+    if count == 0 {
+        return false;
+    }
     report_first(pieces.make_contiguous(), count)
 }
 

@@ -1,7 +1,27 @@
-use Rattle.sctp_outbound.proofs.SenderSteps.{on_err, passes_on, resends_on, resends_some, resent_count, resent_out}
-use Rattle.sctp_outbound.proofs.SenderSteps.{resent_sender}
+use Rattle.std.proofs.Common.{sym, ◌∙◌}
+use Rattle.sctp_outbound.proofs.MarkedPieces.{stops}
+use Rattle.sctp_outbound.proofs.SenderSteps.{ends_count, ends_out, ends_sender, on_err, passes_on, resends_on}
+use Rattle.sctp_outbound.proofs.SenderSteps.{resends_some, resent_count, resent_out, resent_sender}
 use Rattle.sctp_outbound.proofs.sender.Sender.resend_within.Goals as goal
 use Rattle.sctp_outbound.proofs.sender.Sender.resend_within.Goals.{in-Passed, in-Sent}
+
+pub returns-then-none_left-clause-count : goal.returns-then-none_left-clause-count
+returns-then-none_left-clause-count c =
+    ends_count c.loop-index.invariant
+    (stops c.args.by c.loop-index.self c.loop-index.index c.loop-index.left c.loop-index.invariant.given
+    (sym c.none_left.ensures ∙ c.if-none_left.true))
+
+pub returns-then-none_left-clause-sender : goal.returns-then-none_left-clause-sender
+returns-then-none_left-clause-sender c =
+    ends_sender c.loop-index.invariant
+    (stops c.args.by c.loop-index.self c.loop-index.index c.loop-index.left c.loop-index.invariant.given
+    (sym c.none_left.ensures ∙ c.if-none_left.true))
+
+pub returns-then-none_left-clause-chunks : goal.returns-then-none_left-clause-chunks
+returns-then-none_left-clause-chunks c =
+    ends_out c.loop-index.invariant c.loop-index.out
+    (stops c.args.by c.loop-index.self c.loop-index.index c.loop-index.left c.loop-index.invariant.given
+    (sym c.none_left.ensures ∙ c.if-none_left.true)) c.loop-index.invariant.written
 
 pub returns-in_err-resend_at-clause-grows : goal.returns-in_err-resend_at-clause-grows
 returns-in_err-resend_at-clause-grows c =

@@ -1,6 +1,6 @@
 use Rattle.std.proofs.Common.{◌∙◌, ap, sym}
-use Rattle.sctp_outbound_queue.specs.Outbound.{outstanding_of}
-use Rattle.sctp_outbound_queue.proofs.ReportedMissing.{as_many_outstanding}
+use Rattle.sctp_outbound_queue.specs.Outbound.{marked_of, outstanding_of}
+use Rattle.sctp_outbound_queue.proofs.ReportedMissing.{as_many_marked, as_many_outstanding}
 use Rattle.sctp_outbound_queue.proofs.queue.OutboundQueue.report_missing.Goals as goal
 
 pub invariant_of-self : goal.invariant_of-self
@@ -10,4 +10,7 @@ invariant_of-self c = (
       ∙ sym (ap outstanding_of c.report_missing.ensures.counted
       ∙ as_many_outstanding c.args.count c.self.inside.in_flight.items),
   c.self.invariant.2,
+  c.self.invariant.3
+      ∙ sym (ap marked_of c.report_missing.ensures.counted
+      ∙ as_many_marked c.args.count c.self.inside.in_flight.items),
 )

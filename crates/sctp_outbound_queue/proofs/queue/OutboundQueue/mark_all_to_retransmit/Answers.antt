@@ -1,0 +1,13 @@
+use Rattle.std.proofs.Common.{ap, sym, ◌∙◌}
+use Rattle.sctp_outbound_queue.specs.Outbound.{outstanding_of}
+use Rattle.sctp_outbound_queue.proofs.ByteSums.{marked_sum}
+use Rattle.sctp_outbound_queue.proofs.queue.OutboundQueue.mark_all_to_retransmit.Goals as goal
+
+pub invariant_of-self : goal.invariant_of-self
+invariant_of-self c = (
+  c.self.invariant.0,
+  c.self.invariant.1
+      ∙ sym (ap outstanding_of c.mark_all-self-inside.ensures.marked ∙ marked_sum c.self.inside.in_flight.items),
+  c.self.invariant.2,
+  c.mark_all-self-inside.ensures.count,
+)
