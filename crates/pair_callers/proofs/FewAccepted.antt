@@ -1,12 +1,16 @@
--- Runs and steps at which few messages are accepted, and new pairs.
-use Rattle.std.proofs.Common.{refl, ℕ, List, [], ◌∷◌}
+-- Runs and steps that a caller counts, and new pairs.
+use Rattle.std.proofs.Common.{refl, ℕ, List, [], ◌∷◌, ◌++◌}
+use Rattle.std.specs.Prelude.{IfOk, Result, Ok, Err}
 use Rattle.sctp_model.specs.Machine.{fresh}
 use Rattle.sctp_pair.specs.declared.step.Reply.{Reply}
 use Rattle.sctp_pair.specs.declared.step.Step.{Step}
 use Rattle.sctp_pair.specs.Ends.{Ends}
 use Rattle.sctp_pair.specs.World.{IsSafeWorld, World, empty_world}
 use Rattle.sctp_pair.specs.Fits.{Fits, RunsSafely}
-use Rattle.sctp_pair.specs.Counted.{FitsCounted, LeadsCounted, RunsCounted}
+use Rattle.sctp_pair.specs.Callers.{AcceptFew, CameBy, ComesOn, HoldsOn, Made}
+use Rattle.sctp_pair.specs.Counted.{FitsCounted, LeadsCounted, RunsCounted, Tally}
+use Rattle.sctp_pair.specs.Steps.{Runs, Steps}
+use Rattle.sctp_pair.proofs.FewInAll.{few_in_front, few_stay_few}
 use Rattle.pair_callers.specs.Going.{to_side}
 use Rattle.pair_callers.specs.Running.{BeginsWithNothing, HasNothing, RunsCounting, RunsTelling, StepsTelling}
 use Rattle.pair_callers.specs.Running.{TellsAccepted}
@@ -23,21 +27,42 @@ runs_tell (s ∷ ss) (r ∷ rs) w q h =
 runs_tell [] (r ∷ rs) w q h = absurd h
 runs_tell (s ∷ ss) [] w q h = absurd h
 
-pub runs_count : (ss : List Step) (rs : List Reply) (w : World) (n m : ℕ) (q : Ends) → RunsCounted ss rs w n m q
-    → RunsCounting ss rs w n m
-runs_count [] [] w n m q h = tt
-runs_count (s ∷ ss) (r ∷ rs) w n m q h =
-    (h.0, λ few. let x = h.2 few in (tells_accepted h.0 x.0, runs_count ss rs h.0 _ _ q x.2))
-runs_count [] (r ∷ rs) w n m q h = absurd h
-runs_count (s ∷ ss) [] w n m q h = absurd h
+pub runs_count : (ss : List Step) (rs : List Reply) (w : World) (t : Tally) (begin q : Ends)
+    → RunsCounted ss rs w t begin q → RunsCounting ss rs w t begin
+runs_count [] [] w t begin q h = tt
+runs_count (s ∷ ss) (r ∷ rs) w t begin q h =
+    (h.0, λ few. let x = h.2 few in (tells_accepted h.0 x.0, runs_count ss rs h.0 _ begin q x.2))
+runs_count [] (r ∷ rs) w t begin q h = absurd h
+runs_count (s ∷ ss) [] w t begin q h = absurd h
 
 module _ (step : Step) (r : Reply) (p q : Ends)
-    (leads : (n m : ℕ) (w : World) → FitsCounted n m p w → LeadsCounted step r w n m q) where
+    (leads : (t : Tally) (w : World) → FitsCounted t p w → LeadsCounted step r w t q) where
   pub steps_tell : StepsTelling step r p q
-  steps_tell n m w fits few =
-      let x = leads n m w fits in
+  steps_tell t w fits few =
+      let x = leads t w fits in
       let y = x.2 few in
       (x.0, tells_accepted x.0 y.0, y.1)
+
+-- What holds of all steps of a new pair holds where each side accepts few pieces in all.
+pub law_of_all : (Law : List Step → List Reply → Type 0) (m : Made) (ss : List Step) (rs : List Reply) (p q : Ends)
+    → CameBy m [] [] p → Runs ss rs p q → HoldsOn Law ss rs p → AcceptFew m.size_a m.size_b ss rs → Law ss rs
+law_of_all Law m ss rs p q new led holds few = holds m [] [] new (few_stay_few ss rs p q led m [] [] new few)
+
+-- the same where one step more follows a run
+pub law_of_one_more : (Law : List Step → List Reply → Type 0) (m : Made) (ss : List Step) (rs : List Reply) (s : Step)
+    (r : Reply) (p u q : Ends) → CameBy m [] [] p → Runs ss rs p u → Steps s u r q → ComesOn ss rs p u
+    → HoldsOn Law (s ∷ []) (r ∷ []) u → AcceptFew m.size_a m.size_b (ss ++ s ∷ []) (rs ++ r ∷ [])
+    → Law (ss ++ s ∷ []) (rs ++ r ∷ [])
+law_of_one_more Law m ss rs s r p u q new led one on holds few =
+    let first = few_in_front m.size_a m.size_b ss rs p u led (s ∷ []) (r ∷ []) few in
+    let came = on m [] [] new (few_stay_few ss rs p u led m [] [] new first) in
+    holds m ss rs came (few_stay_few (s ∷ []) (r ∷ []) u q (q, one, refl) m ss rs came few)
+
+-- what holds of a value that was answered by two things that do
+pub if_ok_both : {A E : Type 0} (r : Result A E) (P Q R : A → Type 0) → IfOk r P → IfOk r Q
+    → ((a : A) → P a → Q a → R a) → IfOk r R
+if_ok_both (Ok a) P Q R h g f = f a h g
+if_ok_both (Err e) P Q R h g f = h
 
 has_nothing : (size : ℕ) → HasNothing (fresh size)
 has_nothing size = record { accepted = λ s. refl; read = λ s. refl; span = λ s. refl }

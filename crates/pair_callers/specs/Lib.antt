@@ -5,3 +5,4 @@ pub mod Delivering
 pub mod Buffering
 pub mod Running
 pub mod Lasting
+pub mod Telling

@@ -1,5 +1,5 @@
 -- What a run of a pair leads to.
-use Rattle.std.specs.Prelude.{◌≡◌, ◌+◌, ℕ, Bool, false, List, [], ◌∷◌, ⊤}
+use Rattle.std.specs.Prelude.{◌≡◌, ℕ, Bool, false, List, [], ◌∷◌, ⊤}
 use Rattle.sctp_model.specs.Machine.{Direction}
 use Rattle.sctp_pair.specs.declared.step.Reply.{Reply}
 use Rattle.sctp_pair.specs.declared.step.Reply.TheVariants as replies
@@ -8,7 +8,7 @@ use Rattle.sctp_pair.specs.declared.step.Step.{Step}
 use Rattle.sctp_pair.specs.Ends.{Ends}
 use Rattle.sctp_pair.specs.World.{IsWithinLimits, World}
 use Rattle.sctp_pair.specs.Fits.{Fits}
-use Rattle.sctp_pair.specs.Counted.{AreFew, FitsCounted, pieces_a, pieces_b}
+use Rattle.sctp_pair.specs.Counted.{AreFew, FitsCounted, Tally, tallied_in}
 use Rattle.pair_callers.specs.Going.{to_side}
 use Rattle.pair_callers.specs.Reading.{AreNumbered}
 
@@ -29,22 +29,22 @@ RunsTelling (s ∷ ss) (r ∷ rs) w q = (v : World) × (IsWithinLimits v → Tel
 RunsTelling [] (r ∷ rs) w q = ⊥
 RunsTelling (s ∷ ss) [] w q = ⊥
 
--- The steps with these replies lead from world to world. As long as each side accepted few pieces, what was read in
--- each are accepted messages.
-abbrev pub RunsCounting : List Step → List Reply → World → ℕ → ℕ → Type 0
-RunsCounting [] [] w n m = ⊤
-RunsCounting (s ∷ ss) (r ∷ rs) w n m = (v : World) × (AreFew (n + pieces_a w s r) (m + pieces_b w s r)
-    → TellsAccepted v × RunsCounting ss rs v (n + pieces_a w s r) (m + pieces_b w s r))
-RunsCounting [] (r ∷ rs) w n m = ⊥
-RunsCounting (s ∷ ss) [] w n m = ⊥
+-- The steps with these replies lead from world to world. As long as few pieces stay unacknowledged, counted from how the
+-- pair was when the run began, and few messages unread, what was read in each are accepted messages.
+abbrev pub RunsCounting : List Step → List Reply → World → Tally → Ends → Type 0
+RunsCounting [] [] w t begin = ⊤
+RunsCounting (s ∷ ss) (r ∷ rs) w t begin =
+    (v : World) × (AreFew (tallied_in w s r t) w.initial_a w.initial_b begin
+    → TellsAccepted v × RunsCounting ss rs v (tallied_in w s r t) begin)
+RunsCounting [] (r ∷ rs) w t begin = ⊥
+RunsCounting (s ∷ ss) [] w t begin = ⊥
 
--- One step leads to a next world. Where each side accepted few pieces, what was read in it are accepted messages, and
--- the pair fits it with its pieces counted on.
+-- One step leads to a next world. Where few pieces are unacknowledged and few messages unread, what was read in it are
+-- accepted messages, and the pair fits it with its tally carried on.
 abbrev pub StepsTelling : Step → Reply → Ends → Ends → Type 0
-StepsTelling step reply p q = (n m : ℕ) (w : World) → FitsCounted n m p w
-    → AreFew (n + pieces_a w step reply) (m + pieces_b w step reply)
-    → (v : World) × TellsAccepted v
-    × FitsCounted (n + pieces_a w step reply) (m + pieces_b w step reply) q v
+StepsTelling step reply p q = (t : Tally) (w : World) → FitsCounted t p w
+    → AreFew (tallied_in w step reply t) w.initial_a w.initial_b w.ends
+    → (v : World) × TellsAccepted v × FitsCounted (tallied_in w step reply t) q v
 
 -- nothing was accepted and nothing read
 pub record HasNothing (w : Direction) : Type 0 where

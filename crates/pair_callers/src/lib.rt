@@ -20,5 +20,5 @@ pub use reading::{read_message, step_and_tell};
 pub use running::{
     give_first_packet, is_lost, join, run_and_count, run_and_tell, step_and_count, try_to_run,
 };
-pub use telling::{run_and_step, run_client_server, run_joined};
+pub use telling::{run_and_step, run_client_server, run_joined, run_twice};
 pub use writing::write_message;

@@ -1,10 +1,10 @@
 // Running: what a run and a question leave, and what a pair is that was just made.
-ghost use Rattle.std.specs.Prelude.{◌≡◌, ℕ, [], IfOk, OnErr, length, slice_get};
+ghost use Rattle.std.specs.Prelude.{◌≡◌, [], IfOk, OnErr, length, slice_get};
 ghost use Rattle.std.specs.Option.{option_copied};
 ghost use Rattle.sctp_pair.specs.Callers.{CameBy};
 ghost use Rattle.sctp_pair.specs.Ends.{end_of, packets_of};
 ghost use Rattle.sctp_pair.specs.World.{World};
-ghost use Rattle.sctp_pair.specs.Counted.{FitsCounted};
+ghost use Rattle.sctp_pair.specs.Counted.{FitsCounted, Tally};
 ghost use Rattle.sctp_pair.specs.Fits.{Fits};
 ghost use Rattle.pair_callers.specs.Running.{BeginsWithNothing, RunsCounting, RunsTelling, StepsTelling, answer_in};
 
@@ -46,15 +46,15 @@ pub fn run_and_tell(pair: &mut Pair, steps: &[Step]) -> Result<Vec<Reply>, Error
     pair.run(steps)
 }
 
-/// Runs the steps of a caller that counts its writes: what was read are accepted messages.
+/// Runs the steps of a caller that counts its writes and reads: what was read are accepted messages.
 pub fn run_and_count(pair: &mut Pair, steps: &[Step]) -> Result<Vec<Reply>, Error>
-    ensures { IfOk result (λ replies. (n m : ℕ) (w : World) → FitsCounted n m pair.old w
-        → RunsCounting steps.now replies.items w n m) }
+    ensures { IfOk result (λ replies. (t : Tally) (w : World) → FitsCounted t pair.old w
+        → RunsCounting steps.now replies.items w t pair.old) }
 {
     pair.run(steps)
 }
 
-/// Carries out one step of a caller that counts its writes: what was read are accepted messages.
+/// Carries out one step of a caller that counts its writes and reads: what was read are accepted messages.
 pub fn step_and_count(pair: &mut Pair, step: &Step) -> Reply
     ensures { StepsTelling step.now result pair.old pair.new }
 {
@@ -72,7 +72,12 @@ pub fn join(
     remote_of_b: SocketAddr,
 ) -> Result<Pair, Error>
     ensures empty { IfOk result (λ p. BeginsWithNothing p) }
-    ensures new { IfOk result (λ p. CameBy max_payload_size max_payload_size [] [] p) }
+    ensures new { IfOk result (λ p. CameBy (record {
+      size_a = max_payload_size;
+      size_b = max_payload_size;
+      initial_a = token_a.now.initial_tsn;
+      initial_b = token_b.now.initial_tsn;
+    }) [] [] p) }
 {
     Pair::snap(
         alloc,

@@ -1,7 +1,8 @@
-// Telling: what the replies of all steps tell of a pair that was just made, with no world and no premise but few
-// writes.
+// Telling: what the replies of all steps tell of a pair, with no world and no premise but that few pieces stay
+// unacknowledged and few messages unread; it is enough that little is written at all.
 ghost use Rattle.std.specs.Prelude.{◌≡◌, ◌∷◌, ◌++◌, [], IfOk, length};
 ghost use Rattle.sctp_pair.specs.Callers.{AcceptFew, NothingIsReadBeforeADelivery, ReadsAreFronts, ReadsWereWritten};
+ghost use Rattle.pair_callers.specs.Telling.{HoldOverTwo};
 
 use crate::running::join;
 use sctp_assoc::{AssociationId, ChunkInit, Error, Instant, ServerConfig, TransportConfig};
@@ -114,4 +115,19 @@ pub fn run_and_step(
     let replies = pair.run(steps)?;
     let reply = pair.step(last);
     Ok((replies, reply))
+}
+
+/// Runs steps of a pair, and then others: what one side read since the pair was made is a front of what the other one
+/// wrote, and each message of it was written. The second run counts from what was acknowledged when it began.
+pub fn run_twice(
+    pair: &mut Pair,
+    first: &[Step],
+    second: &[Step],
+) -> Result<(Vec<Reply>, Vec<Reply>), Error>
+    ensures { IfOk result (λ (answers, replies).
+        HoldOverTwo first.now answers.items second.now replies.items pair.old pair.new) }
+{
+    let answers = pair.run(first)?;
+    let replies = pair.run(second)?;
+    Ok((answers, replies))
 }

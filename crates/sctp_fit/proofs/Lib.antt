@@ -2,7 +2,7 @@ pub mod BegunCounts
 pub mod BlocksTaken
 mod BytesPartitioned
 mod BytesReleased
-mod CountsBelow
+pub mod CountsBelow
 pub mod CutsGiven
 pub mod DataTaken
 mod FirstPiece

@@ -145,6 +145,16 @@ some_is_there f xs s n others l = ⊎_elim
     absurd (let z : n < 0 = subst (λ k. n < k) e l in omega arith))
     (cases_Bool (mem s xs))
 
+-- No more offsets are assigned than pieces were accepted.
+pub offsets_counted : (n : ℕ) (w : Direction) → HasAccepted n w → Invariant w → length w.sender.plan.places ≤ n
+offsets_counted n w a inv =
+    let known = λ (o : ℕ) (l : o < length w.sender.plan.places).
+    some_is_there w.sender.plan.accepted a.streams (place_at w.sender.plan o).stream (place_at w.sender.plan o).message
+    a.others (inv.planned.known o l) in
+    let places = places_counted w.sender.plan w.over inv.planned a.streams known in
+    let total = a.total in
+    omega arith
+
 -- Messages that wait to be read
 
 ordered_below : (ms : List Message) → count_ordered ms ≤ length ms
@@ -172,11 +182,7 @@ messages_counted n w s a inv = ⊎_elim
 
 pub few_pieces_stay_within : FewPiecesStayWithin
 few_pieces_stay_within n w few a inv =
-    let known = λ (o : ℕ) (l : o < length w.sender.plan.places).
-    some_is_there w.sender.plan.accepted a.streams (place_at w.sender.plan o).stream (place_at w.sender.plan o).message
-    a.others (inv.planned.known o l) in
-    let places = places_counted w.sender.plan w.over inv.planned a.streams known in
-    let total = a.total in
+    let places = offsets_counted n w a inv in
     record {
       offsets = omega arith;
       flight = omega arith;

@@ -24,9 +24,9 @@ use Rattle.sctp_pair.specs.declared.step.Side2.{Side2}
 use Rattle.sctp_pair.specs.declared.step.Side2.TheVariants as sides
 use Rattle.sctp_pair.specs.declared.step.Step.{Step}
 use Rattle.sctp_pair.specs.declared.step.Step.TheVariants as steps
-use Rattle.sctp_pair.specs.Callers.{AcceptFew, CameBy, ComesOn, HoldsOn, IsFrontOf, NothingIsReadBeforeADelivery}
-use Rattle.sctp_pair.specs.Callers.{ReadsAreFronts, accepted_in, bytes_answered, bytes_of, bytes_read, bytes_written}
-use Rattle.sctp_pair.specs.Callers.{delivers_to}
+use Rattle.sctp_pair.specs.Callers.{CameBy, ComesOn, HoldsOn, IsFrontOf, LedSafely, Made, NothingIsReadBeforeADelivery}
+use Rattle.sctp_pair.specs.Callers.{ReadsAreFronts, bytes_answered, bytes_of, bytes_read, bytes_written, delivers_to}
+use Rattle.sctp_pair.specs.Callers.{tallied_by, tally_of, world_of}
 use Rattle.sctp_pair.specs.Callers as callers
 use Rattle.sctp_pair.specs.Callers.{AreAt, ReadsWereWritten, WrittenMessage, message_accepted, messages_of}
 use Rattle.sctp_pair.specs.Callers.{messages_read, messages_written, stays_in_order}
@@ -37,7 +37,7 @@ use Rattle.sctp_reassembly.specs.Stands.{letter_received}
 use Rattle.std.proofs.lemmas.Bool.{and_parts}
 use Rattle.std.specs.Prelude.{◌||◌, not, map}
 use Rattle.sctp_pair.specs.Callers.{read_in, read_undelivered, written_in}
-use Rattle.sctp_pair.specs.Counted.{AreFew, FitsCounted, RunsCounted, pieces_a, pieces_b}
+use Rattle.sctp_pair.specs.Counted.{FitsCounted, Tally, nothing_tallied}
 use Rattle.sctp_pair.specs.Ends.{Ends}
 use Rattle.sctp_pair.specs.Steps.{AtSide, Runs, Steps, Writes, reading_of, writing_of}
 use Rattle.sctp_pair.specs.World.{EndsSpan, HasData, IsDirectionStep, IsWorldStep, World, accepted_at, empty_world}
@@ -45,6 +45,7 @@ use Rattle.sctp_pair.specs.World.{accepted_of, is_side, message_answered, messag
 use Rattle.sctp_pair.specs.World.{packet_brought}
 use Rattle.sctp_pair.proofs.AcceptedAndRead.{writes}
 use Rattle.sctp_pair.proofs.Counted.{runs_lead_counted}
+use Rattle.sctp_pair.proofs.LedOn.{begun_made, led_from, led_join}
 use Rattle.sctp_pair.proofs.MessageBytes.{bytes_accepted, bytes_got, nothing_read_of_none, read_grows}
 use Rattle.sctp_pair.proofs.MessageBytes.{reads_are_a_front}
 use Rattle.sctp_pair.proofs.Promised.{safe_world}
@@ -252,67 +253,36 @@ module _ (x : Side2) {a : Step} {r : Reply} {w v : World} (h : IsWorldStep a w r
 -- the last world of a run
 record Reached (ss : List Step) (rs : List Reply) (w : World) (q : Ends) : Type 0 where
   last : World
-  of_a : ℕ
-  of_b : ℕ
-  fits : FitsCounted of_a of_b q last
+  tally : Tally
+  fits : FitsCounted tally q last
   grew : (x : Side2) → Grew (loose_of x w) ss rs x (from x w) (from x last)
 
--- what the steps of a run count, from a world on
-abbrev FewFrom : ℕ → ℕ → World → List Step → List Reply → Type 0
-FewFrom n m w ss rs =
-    AreFew (n + accepted_in w.ab.sender.plan.size sides.A ss rs) (m + accepted_in w.ba.sender.plan.size sides.B ss rs)
-
--- Where few pieces are accepted from here on, few are by the first step, and few from where it leads; payload sizes
--- stay.
-few_on : (a : Step) (r : Reply) (ss : List Step) (rs : List Reply) (w : World) (n m : ℕ)
-    → FewFrom n m w (a ∷ ss) (r ∷ rs)
-    → AreFew (n + pieces_a w a r) (m + pieces_b w a r)
-    × ((v : World) → IsWorldStep a w r v → FewFrom (n + pieces_a w a r) (m + pieces_b w a r) v ss rs)
-few_on a r ss rs w n m few =
-    let k : ℕ = pieces_a w a r in
-    let l : ℕ = pieces_b w a r in
-    let f : n + (k + accepted_in w.ab.sender.plan.size sides.A ss rs) < 16384 = few.0 in
-    let g : m + (l + accepted_in w.ba.sender.plan.size sides.B ss rs) < 16384 = few.1 in
-    let x : (n + k) + accepted_in w.ab.sender.plan.size sides.A ss rs < 16384 = omega arith in
-    let y : (m + l) + accepted_in w.ba.sender.plan.size sides.B ss rs < 16384 = omega arith in (
-      (omega arith, omega arith),
-      λ v h. (
-        subst (λ (z : ℕ). (n + k) + accepted_in z sides.A ss rs < 16384) (sym h.ab_step.size) x,
-        subst (λ (z : ℕ). (m + l) + accepted_in z sides.B ss rs < 16384) (sym h.ba_step.size) y,
-      ),
-    )
-
-reached : (ss : List Step) (rs : List Reply) (w : World) (n m : ℕ) (q : Ends) → RunsCounted ss rs w n m q
-    → FewFrom n m w ss rs → Reached ss rs w q
-reached [] [] w n m q h few = record {
+reached : (m : Made) (ss : List Step) (rs : List Reply) (w : World) (t : Tally) (q : Ends) → LedSafely m ss rs w t q
+    → Reached ss rs w q
+reached m [] [] w t q h = record {
   last = w;
-  of_a = n;
-  of_b = m;
+  tally = t;
   fits = h;
   grew = λ x. grew_nothing (loose_of x w) x (from x w);
 }
-reached (a ∷ ss) (r ∷ rs) w n m q (v, step, next) few =
-    let k : ℕ = pieces_a w a r in
-    let l : ℕ = pieces_b w a r in
-    let on = few_on a r ss rs w n m few in
-    let rest = reached ss rs v (n + k) (m + l) q (next on.0).2 (on.1 v step) in
+reached m (a ∷ ss) (r ∷ rs) w t q (v, step, safe, fits, next) =
+    let rest = reached m ss rs v (tallied_by m a r t) q next in
     record {
       last = rest.last;
-      of_a = rest.of_a;
-      of_b = rest.of_b;
+      tally = rest.tally;
       fits = rest.fits;
       grew = λ x. grew_on x step (rest.grew x);
     }
-reached [] (r ∷ rs) w n m q h few = absurd h
-reached (a ∷ ss) [] w n m q h few = absurd h
+reached m [] (r ∷ rs) w t q h = absurd h
+reached m (a ∷ ss) [] w t q h = absurd h
 
 -- in a world that a pair fits each stream within its span is safe, and no message is empty
-safe_from : {n m : ℕ} {p : Ends} {w : World} (x : Side2) (s : ℕ) → FitsCounted n m p w → (from x w).over s ≡ false
+safe_from : {t : Tally} {p : Ends} {w : World} (x : Side2) (s : ℕ) → FitsCounted t p w → (from x w).over s ≡ false
     → IsSafe (from x w) s
-safe_from {n} {m} {p} {w} sides.A s f span = (safe_world p w f.fits).ab_safe.safe s span
-safe_from {n} {m} {p} {w} sides.B s f span = (safe_world p w f.fits).ba_safe.safe s span
+safe_from {t} {p} {w} sides.A s f span = (safe_world p w f.fits).ab_safe.safe s span
+safe_from {t} {p} {w} sides.B s f span = (safe_world p w f.fits).ba_safe.safe s span
 
-filled_from : {n m : ℕ} {p : Ends} {w : World} (x : Side2) (s : ℕ) → FitsCounted n m p w
+filled_from : {t : Tally} {p : Ends} {w : World} (x : Side2) (s : ℕ) → FitsCounted t p w
     → (i : ℕ) → i < length ((from x w).sender.plan.accepted s)
     → 0 < length (message_at (from x w).sender.plan s i).bytes
 filled_from sides.A s f i b = f.fits.stand.sound_ab.invariant.planned.filled s i b
@@ -368,31 +338,26 @@ nothing_behind : (xs ys : List (List ℕ)) → [] ≡ xs ++ ys → ys ≡ []
 nothing_behind [] ys e = sym e
 nothing_behind (x ∷ xs) ys e = absurd (cc)
 
-module _ (x : Side2) (s : ℕ) (q : Ends) where
+module _ (m : Made) (x : Side2) (s : ℕ) (q : Ends) where
   -- where nothing was taken in, nothing is read until a packet was handed over
-  bare : (ss : List Step) (rs : List Reply) (w : World) (n m : ℕ) → RunsCounted ss rs w n m q → FewFrom n m w ss rs
+  bare : (ss : List Step) (rs : List Reply) (w : World) (t : Tally) → LedSafely m ss rs w t q
       → ((o : ℕ) → mem o (from x w).receiver.taken ≡ true → ⊥) → (from x w).over s ≡ false
       → read_undelivered ss rs (other_side x) s ≡ []
-  bare [] [] w n m h few none span = refl
-  bare (a ∷ ss) (r ∷ rs) w n m (v, step, next) few none span =
-      let k : ℕ = pieces_a w a r in
-      let l : ℕ = pieces_b w a r in
-      let on = few_on a r ss rs w n m few in
-      let after = next on.0 in
+  bare [] [] w t h none span = refl
+  bare (a ∷ ss) (r ∷ rs) w t (v, step, safe, fits, next) none span =
       ⊎_elim
       (λ (b : delivers_to (other_side x) a r ≡ true). rw b refl)
       (λ (b : delivers_to (other_side x) a r ≡ false).
       let still = untaken_on x step b none in
       let within = span_one x step s span in
-      let unread =
-      nothing_read_of_none (from x v) s (safe_from x s after.1 within) still (filled_from x s after.1) in
+      let unread = nothing_read_of_none (from x v) s (safe_from x s fits within) still (filled_from x s fits) in
       let this : bytes_read a r (other_side x) s ≡ [] =
       nothing_behind (bytes_got ((from x w).reads s)) (bytes_read a r (other_side x) s)
       (sym (ap bytes_got unread) ∙ read_one x step s) in
-      rw (b, this) (bare ss rs v (n + k) (m + l) after.2 (on.1 v step) still within))
+      rw (b, this) (bare ss rs v (tallied_by m a r t) next still within))
       (cases_Bool (delivers_to (other_side x) a r))
-  bare [] (r ∷ rs) w n m h few none span = absurd h
-  bare (a ∷ ss) [] w n m h few none span = absurd h
+  bare [] (r ∷ rs) w t h none span = absurd h
+  bare (a ∷ ss) [] w t h none span = absurd h
 
 turned_back : (x : Side2) → other_side (other_side x) ≡ x
 turned_back sides.A = refl
@@ -401,38 +366,31 @@ turned_back sides.B = refl
 -- All steps so far
 
 -- the world of a new pair from which these steps led
-abbrev begun : {size_a size_b : ℕ} {ss : List Step} {rs : List Reply} {p : Ends} → CameBy size_a size_b ss rs p → World
-begun {size_a} {size_b} c = empty_world c.begin c.new.initial_a c.new.initial_b size_a size_b
+abbrev begun : {m : Made} {ss : List Step} {rs : List Reply} {p : Ends} → CameBy m ss rs p → World
+begun {m} c = world_of m c.begin
 
-begun_fresh : {size_a size_b : ℕ} {ss : List Step} {rs : List Reply} {p : Ends} (c : CameBy size_a size_b ss rs p)
-    (x : Side2) → IsFresh (from x (begun c))
-begun_fresh {size_a} {size_b} c x = fresh_from x c.begin c.new.initial_a c.new.initial_b size_a size_b
+begun_fresh : {m : Made} {ss : List Step} {rs : List Reply} {p : Ends} (c : CameBy m ss rs p) (x : Side2)
+    → IsFresh (from x (begun c))
+begun_fresh {m} c x = fresh_from x c.begin m.initial_a m.initial_b m.size_a m.size_b
 
-begun_tight : {size_a size_b : ℕ} {ss : List Step} {rs : List Reply} {p : Ends} (c : CameBy size_a size_b ss rs p)
-    (x : Side2) (s : ℕ) → loose_of x (begun c) s ≡ false
+begun_tight : {m : Made} {ss : List Step} {rs : List Reply} {p : Ends} (c : CameBy m ss rs p) (x : Side2) (s : ℕ)
+    → loose_of x (begun c) s ≡ false
 begun_tight c sides.A s = refl
 begun_tight c sides.B s = refl
 
--- These steps led from a new pair, and few pieces were accepted in them.
-module _ {size_a size_b : ℕ} {ss : List Step} {rs : List Reply} {p : Ends} (c : CameBy size_a size_b ss rs p)
-    (few : AcceptFew size_a size_b ss rs) where
-  counted : RunsCounted ss rs (begun c) 0 0 p × FewFrom 0 0 (begun c) ss rs
-  counted = (
-    runs_lead_counted ss rs c.begin p c.led 0 0 (begun c) c.new.fits,
-    (let f = few.0 in omega arith, let f = few.1 in omega arith),
-  )
-
+-- These steps led from a new pair.
+module _ {m : Made} {ss : List Step} {rs : List Reply} {p : Ends} (c : CameBy m ss rs p) where
   -- What was read is a front of what was written.
   fronts : ReadsAreFronts ss rs
   fronts x s stays =
-      let r = reached ss rs (begun c) 0 0 p counted.0 counted.1 in
+      let r = reached m ss rs (begun c) nothing_tallied p c.safely in
       front_along (loose_of x (begun c)) ss rs x s (from x (begun c)) (from x r.last) (begun_fresh c x)
       (begun_tight c x s) stays (r.grew x) (safe_from x s r.fits)
 
   -- Each message that was read was written.
   were_written : ReadsWereWritten ss rs
   were_written x s =
-      let r = reached ss rs (begun c) 0 0 p counted.0 counted.1 in
+      let r = reached m ss rs (begun c) nothing_tallied p c.safely in
       written_along (loose_of x (begun c)) ss rs x s (from x (begun c)) (from x r.last) (begun_fresh c x) (r.grew x)
       (safe_from x s r.fits)
 
@@ -441,20 +399,27 @@ module _ {size_a size_b : ℕ} {ss : List Step} {rs : List Reply} {p : Ends} (c 
   unbrought x s =
       let first = begun_fresh c (other_side x) in
       subst (λ y. read_undelivered ss rs y s ≡ []) (turned_back x)
-      (bare (other_side x) s p ss rs (begun c) 0 0 counted.0 counted.1 first.untaken (first.within s))
+      (bare m (other_side x) s p ss rs (begun c) nothing_tallied c.safely first.untaken (first.within s))
 
 -- These steps lead on from p to q.
 module _ (more : List Step) (answers : List Reply) (p q : Ends) (led : Runs more answers p q) where
   -- they follow those that led to p
   pub comes_on : ComesOn more answers p q
-  comes_on size_a size_b ss rs c =
-      record { begin = c.begin; new = c.new; led = runs_join ss rs c.begin p q more answers c.led led }
+  comes_on m ss rs c few = record {
+    begin = c.begin;
+    new = c.new;
+    led = runs_join ss rs c.begin p q more answers c.led led;
+    safely =
+        led_join m ss rs more answers p q (begun c) nothing_tallied (begun_made m c.begin) c.safely
+        (λ w made fits. led_from m p more answers w (tally_of m ss rs) q made
+        (runs_lead_counted more answers p q led (tally_of m ss rs) w fits) few);
+  }
 
   pub fronts_on : HoldsOn ReadsAreFronts more answers p
-  fronts_on size_a size_b ss rs c few = fronts (comes_on size_a size_b ss rs c) few
+  fronts_on m ss rs c few = fronts (comes_on m ss rs c few)
 
   pub were_written_on : HoldsOn ReadsWereWritten more answers p
-  were_written_on size_a size_b ss rs c few = were_written (comes_on size_a size_b ss rs c) few
+  were_written_on m ss rs c few = were_written (comes_on m ss rs c few)
 
   pub unbrought_on : HoldsOn NothingIsReadBeforeADelivery more answers p
-  unbrought_on size_a size_b ss rs c few = unbrought (comes_on size_a size_b ss rs c) few
+  unbrought_on m ss rs c few = unbrought (comes_on m ss rs c few)

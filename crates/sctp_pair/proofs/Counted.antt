@@ -1,19 +1,24 @@
--- Where few pieces are accepted, each world is within the limits, and so it is safe.
-use Rattle.std.proofs.Common.{◌≡◌, sym, ap, ◌∙◌, subst, ℕ, ◌+◌, ◌≤◌, arith, Bool, true, false, eqb, ◌&&◌, if◌then◌else◌}
-use Rattle.std.proofs.Common.{List, [], ◌∷◌, ◌++◌, length, Option, Some, None}
+-- Where few pieces are not acknowledged and few messages not read, each world is within the limits, and so it is safe.
+use Rattle.std.proofs.Common.{◌≡◌, sym, ap, ◌∙◌, subst, ℕ, ◌+◌, ◌-◌, ◌≤◌, arith, Bool, true, false, eqb, ◌&&◌}
+use Rattle.std.proofs.Common.{if◌then◌else◌, is_some, List, [], ◌∷◌, ◌++◌, length, Option, Some, None}
 use Rattle.std.proofs.lemmas.Bool.{ne_eqb}
-use Rattle.std.proofs.lemmas.List.{append-nil}
+use Rattle.std.proofs.lemmas.List.{append-nil, length-append}
 use Rattle.std.proofs.lemmas.List.Sums.{sum_by-append, sum_by-cons}
 use Rattle.sctp_wire_types.specs.declared.ids.PayloadProtocolIdentifier.{PayloadProtocolIdentifier}
+use Rattle.sctp_receive_queues.specs.Messages as letters
 use Rattle.sctp_streams.specs.Stream.{StreamView}
 use Rattle.sctp_streams.specs.Streams.{stream_at}
 use Rattle.sctp_model.specs.Messages.{Message}
 use Rattle.sctp_model.specs.Machine.{Direction}
+use Rattle.sctp_model.specs.Reassembly.{Got}
+use Rattle.sctp_model.specs.Safe.{IsWithin}
+use Rattle.sctp_reassembly.specs.Stands.{IsReadAs}
 use Rattle.sctp_fit.specs.Writes.{message_on}
 use Rattle.sctp_fit.specs.Counted.{HasAccepted, all_pieces, pieces_in}
-use Rattle.sctp_fit.proofs.PlacesCounted.{few_pieces_stay_within}
 use Rattle.sctp_directions.specs.Acts.{type_on}
+use Rattle.sctp_directions.specs.Between.{IsSound}
 use Rattle.sctp_directions.proofs.Proved.{accepted_messages_are_counted, nothing_is_accepted_at_first}
+use Rattle.sctp_assoc.specs.Shown.{Shown}
 use Rattle.sctp_pair.specs.declared.step.Reply.{Reply}
 use Rattle.sctp_pair.specs.declared.step.Reply.TheVariants as replies
 use Rattle.sctp_pair.specs.declared.step.Side2.{Side2}
@@ -21,14 +26,17 @@ use Rattle.sctp_pair.specs.declared.step.Side2.TheVariants as sides
 use Rattle.sctp_pair.specs.declared.step.Step.{Step}
 use Rattle.sctp_pair.specs.Ends.{Ends, end_of}
 use Rattle.sctp_pair.specs.Steps.{Runs, Steps, Writing, writing_of}
-use Rattle.sctp_pair.specs.World.{IsWithinLimits, World, accepted_at, empty_world, is_side}
-use Rattle.sctp_pair.specs.World.{accepted_of, messages_on}
-use Rattle.sctp_pair.specs.Counted.{FitsCounted, LeadsCounted, RunsCounted, pieces_a, pieces_accepted, pieces_b}
-use Rattle.sctp_pair.specs.Counted.{pieces_of}
-use Rattle.sctp_pair.specs.Fits.{Fits}
+use Rattle.sctp_pair.specs.World.{IsDirectionStep, IsSafeWorld, IsWithinLimits, IsWorldStep, World, accepted_at}
+use Rattle.sctp_pair.specs.World.{accepted_of, empty_world, is_side, message_read, messages_on, other_side}
+use Rattle.sctp_pair.specs.Counted.{AreFew, FitsCounted, IsFew, LeadsCounted, RunsCounted, Tally, nothing_tallied}
+use Rattle.sctp_pair.specs.Counted.{one_accepted, one_read, one_written, pieces_accepted, pieces_of, tallied_in}
+use Rattle.sctp_pair.specs.Fits.{Fits, Stands}
+use Rattle.sctp_fit.proofs.PlacesCounted.{offsets_counted}
+use Rattle.sctp_pair.proofs.SinceBegun.{Since, begins, few_in_flight, goes_on}
 use Rattle.sctp_pair.proofs.StepsLead.{step_leads}
+use Rattle.sctp_pair.proofs.WaitingCounted.{waiting_counted}
 
--- What a step accepts is counted
+-- The pieces of what a step accepts are counted
 
 -- On each stream these messages were accepted behind those before, and the payload size stays.
 record Accepts (more : ℕ → List Message) (before after : Direction) : Type 0 where
@@ -86,56 +94,174 @@ writing_counted x (Some y) (replies.Wrote count) w {n} {before} c a =
     (messages_on o y.named y.bytes) c (one_message before.sender.plan.size o y.named y.bytes) a
 writing_counted x writing r w c a = none_counted c a
 
-step_counted : (x : Side2) (step : Step) (r : Reply) (w : World) {n : ℕ} {before after : Direction}
-    → Accepts (λ s. accepted_at step r x s w) before after → HasAccepted n before
-    → HasAccepted (n + pieces_of before.sender.plan.size x step r) after
-step_counted x step r w c a = writing_counted x (writing_of step) r w c a
+-- The messages that a step accepts or reads are counted
 
--- A step leads to a world that is safe where few pieces were accepted.
-pub step_leads_counted : (step : Step) (p q : Ends) (r : Reply) → Steps step p r q → (n m : ℕ) (w : World)
-    → FitsCounted n m p w → LeadsCounted step r w n m q
-step_leads_counted step p q r h n m w f =
+one_on : (o : Option StreamView) (named : Option PayloadProtocolIdentifier) (bytes : List ℕ)
+    → length (messages_on o named bytes) ≤ 1
+one_on None named bytes = omega arith
+one_on (Some t) named bytes = omega arith
+
+one_if : (here : Bool) (ms : List Message) → length ms ≤ 1
+    → length (if here then ms else []) ≤ (if here then 1 else 0)
+one_if true ms l = l
+one_if false ms l = omega arith
+
+accepted_one : (writing : Option Writing) (r : Reply) (x : Side2) (s : ℕ) (w : World)
+    → length (accepted_of writing r x s w) ≤ one_accepted writing r x s
+accepted_one (Some y) (replies.Wrote count) x s w =
+    let o : Option StreamView = stream_at (end_of x w.ends).streams y.id in
+    one_if (is_side y.side x && eqb y.id s) (messages_on o y.named y.bytes) (one_on o y.named y.bytes)
+accepted_one writing r x s w = omega arith
+
+reads_grow : (m : Option letters.ReceivedMessage) (before after : List Got) → IsReadAs m before after
+    → length after ≡ length before + (if is_some m then 1 else 0)
+reads_grow None before after e = let f = ap (λ (gs : List Got). length gs) e in omega (arith, f)
+reads_grow (Some m) before after (g, e, l) =
+    let f = ap (λ (gs : List Got). length gs) e in
+    let more = length-append before (g ∷ []) in
+    omega (arith, f, more)
+
+-- On each stream, at most so many of the messages that were accepted were not read.
+abbrev IsRead : (ℕ → ℕ) → Direction → Type 0
+IsRead waiting w = (s : ℕ) → length (w.sender.plan.accepted s) ≤ length (w.reads s) + waiting s
+
+-- A step of the direction from side x.
+module _ (x : Side2) (step : Step) (r : Reply) (w : World) (q : Ends) (initial : ℕ) (before after : Direction)
+    (h : IsDirectionStep step r x (other_side x) w q initial before after) where
+  pieces_counted : {n : ℕ} → HasAccepted n before → HasAccepted (n + pieces_of before.sender.plan.size x step r) after
+  pieces_counted a =
+      let more : Accepts (λ s. accepted_at step r x s w) before after =
+      record { size = h.size; accepted = h.accepted } in
+      writing_counted x (writing_of step) r w more a
+
+  reads_counted : (waiting : ℕ → ℕ) → IsRead waiting before
+      → IsRead (λ s. waiting s + one_written step r x s - one_read step r (other_side x) s) after
+  reads_counted waiting a s =
+      let grown = ap (λ (ms : List Message). length ms) (h.accepted s) in
+      let both = length-append (before.sender.plan.accepted s) (accepted_at step r x s w) in
+      let one = accepted_one (writing_of step) r x s w in
+      let read =
+      reads_grow (message_read step r (other_side x) s) (before.reads s) (after.reads s) (h.read s) in
+      let old = a s in
+      omega (arith, grown, both, one, read, old)
+
+  -- Where few are left, the next direction is within the limits.
+  stays_within : {loose : ℕ → Bool} (own peer : ℕ) (coming : Direction)
+      → Stands loose own peer (end_of x q) after coming → IsWithin before → IsSound after
+      → (begin : Shown) (pieces : ℕ) (waiting : ℕ → ℕ) → Since initial begin after coming
+      → IsFew pieces waiting initial begin → HasAccepted pieces after → IsRead waiting after → IsWithin after
+  stays_within own peer coming stands within sound begin pieces waiting since few accepted read =
+      let places = offsets_counted pieces after accepted sound.invariant in
+      record {
+        offsets = (let all = few.all in omega (arith, all, places));
+        flight = few_in_flight h own peer stands begin pieces since few.flight places within.flight;
+        unread = λ s.
+            let left = waiting_counted after s sound.invariant (sound.plain.span s) in
+            let some = read s in
+            let most = few.waiting s in
+            omega (arith, left, some, most);
+      }
+
+-- Steps of a pair
+
+-- So it is of both sides since a call began.
+record SinceBoth (begin : Ends) (w : World) : Type 0 where
+  of_a : Since w.initial_a begin.a w.ab w.ba
+  of_b : Since w.initial_b begin.b w.ba w.ab
+
+both_begin : (t : Tally) (p : Ends) (w : World) → FitsCounted t p w → SinceBoth w.ends w
+both_begin t p w f = record {
+  of_a = begins w.initial_a w.initial_b w.ends.a w.ab w.ba f.fits.stand.side_a;
+  of_b = begins w.initial_b w.initial_a w.ends.b w.ba w.ab f.fits.stand.side_b;
+}
+
+-- A step leads to a next world in which that is still so; where few are left, the world is safe.
+LeadsSince : Ends → Step → Reply → World → Tally → Ends → Type 0
+LeadsSince begin step r w t q =
+    (v : World) × IsWorldStep step w r v × SinceBoth begin v
+    × (AreFew (tallied_in w step r t) w.initial_a w.initial_b begin
+    → IsSafeWorld v × FitsCounted (tallied_in w step r t) q v)
+
+leads_since : (begin : Ends) (step : Step) (p q : Ends) (r : Reply) → Steps step p r q → (t : Tally) (w : World)
+    → FitsCounted t p w → SinceBoth begin w → LeadsSince begin step r w t q
+unfolding LeadsSince
+leads_since begin step p q r h t w f since =
     let x = step_leads step p q r h w f.fits in
     let v : World = x.0 in
-    let of_a : Accepts (λ s. accepted_at step r sides.A s w) w.ab v.ab =
-    record { size = x.1.ab_step.size; accepted = x.1.ab_step.accepted } in
-    let of_b : Accepts (λ s. accepted_at step r sides.B s w) w.ba v.ba =
-    record { size = x.1.ba_step.size; accepted = x.1.ba_step.accepted } in
-    let a = step_counted sides.A step r w of_a f.of_a in
-    let b = step_counted sides.B step r w of_b f.of_b in (
+    let ab = x.1.ab_step in
+    let ba = x.1.ba_step in
+    let since_a = goes_on since.of_a ab.reach_on ba.stays_closed in
+    let since_b = goes_on since.of_b ba.reach_on ab.stays_closed in
+    let of_a = pieces_counted sides.A step r w v.ends w.initial_a w.ab v.ab ab f.of_a in
+    let of_b = pieces_counted sides.B step r w v.ends w.initial_b w.ba v.ba ba f.of_b in
+    let read_a = reads_counted sides.A step r w v.ends w.initial_a w.ab v.ab ab t.unread_a f.unread_a in
+    let read_b = reads_counted sides.B step r w v.ends w.initial_b w.ba v.ba ba t.unread_b f.unread_b in
+    let u : Tally = tallied_in w step r t in (
       v,
       x.1,
+      record {
+        of_a = subst (λ (z : ℕ). Since z begin.a v.ab v.ba) (sym x.1.same_a) since_a;
+        of_b = subst (λ (z : ℕ). Since z begin.b v.ba v.ab) (sym x.1.same_b) since_b;
+      },
       λ few.
           let within : IsWithinLimits v = (
-            few_pieces_stay_within (n + pieces_a w step r) v.ab few.0 a x.2.sound_ab.invariant,
-            few_pieces_stay_within (m + pieces_b w step r) v.ba few.1 b x.2.sound_ba.invariant,
-          ) in
-          (x.3 within, record { fits = record { within = within; stand = x.2 }; of_a = a; of_b = b }),
+            stays_within sides.A step r w v.ends w.initial_a w.ab v.ab ab v.initial_a v.initial_b v.ba x.2.side_a
+                f.fits.within.0 x.2.sound_ab begin.a u.pieces_a u.unread_a since_a few.of_a of_a read_a,
+            stays_within sides.B step r w v.ends w.initial_b w.ba v.ba ba v.initial_b v.initial_a v.ab x.2.side_b
+                f.fits.within.1 x.2.sound_ba begin.b u.pieces_b u.unread_b since_b few.of_b of_b read_b,
+          ) in (
+            x.3 within,
+            record {
+              fits = record { within = within; stand = x.2 };
+              of_a = of_a;
+              of_b = of_b;
+              unread_a = read_a;
+              unread_b = read_b;
+            },
+          ),
     )
 
+-- A step leads to a world that is safe where few are left.
+pub step_leads_counted : (step : Step) (p q : Ends) (r : Reply) → Steps step p r q → (t : Tally) (w : World)
+    → FitsCounted t p w → LeadsCounted step r w t q
+unfolding LeadsSince
+step_leads_counted step p q r h t w f =
+    let x = leads_since w.ends step p q r h t w f (both_begin t p w f) in (x.0, x.1, x.3)
+
 -- So does a row of steps.
-pub runs_lead_counted : (ss : List Step) (rs : List Reply) (p q : Ends) → Runs ss rs p q → (n m : ℕ) (w : World)
-    → FitsCounted n m p w → RunsCounted ss rs w n m q
-runs_lead_counted [] [] p q e n m w fits = subst (λ (z : Ends). FitsCounted n m z w) (sym e) fits
-runs_lead_counted (s ∷ ss) (r ∷ rs) p q (u, first, rest) n m w fits =
-    let x = step_leads_counted s p u r first n m w fits in
-    let a : ℕ = n + pieces_a w s r in
-    let b : ℕ = m + pieces_b w s r in (
+rows_lead : (begin : Ends) (ss : List Step) (rs : List Reply) (p q : Ends) → Runs ss rs p q → (t : Tally) (w : World)
+    → FitsCounted t p w → SinceBoth begin w → RunsCounted ss rs w t begin q
+unfolding LeadsSince
+rows_lead begin [] [] p q e t w fits since = subst (λ (z : Ends). FitsCounted t z w) (sym e) fits
+rows_lead begin (s ∷ ss) (r ∷ rs) p q (u, first, rest) t w fits since =
+    let x = leads_since begin s p u r first t w fits since in
+    let next : Tally = tallied_in w s r t in (
       x.0,
       x.1,
       λ few.
-          let next = x.2 few in (
-            next.0,
-            subst (λ (z : Ends). FitsCounted a b z x.0) next.1.fits.stand.is next.1,
-            runs_lead_counted ss rs u q rest a b x.0 next.1,
+          let y = x.3 few in (
+            y.0,
+            subst (λ (z : Ends). FitsCounted next z x.0) y.1.fits.stand.is y.1,
+            rows_lead begin ss rs u q rest next x.0 y.1 x.2,
           ),
     )
-runs_lead_counted [] (r ∷ rs) p q h n m w fits = absurd h
-runs_lead_counted (s ∷ ss) [] p q h n m w fits = absurd h
+rows_lead begin [] (r ∷ rs) p q h t w fits since = absurd h
+rows_lead begin (s ∷ ss) [] p q h t w fits since = absurd h
 
--- A pair that fits the empty world fits it with no piece.
+pub runs_lead_counted : (ss : List Step) (rs : List Reply) (p q : Ends) → Runs ss rs p q → (t : Tally) (w : World)
+    → FitsCounted t p w → RunsCounted ss rs w t p q
+runs_lead_counted ss rs p q h t w f =
+    rows_lead p ss rs p q h t w f
+    (subst (λ (z : Ends). SinceBoth z w) (sym f.fits.stand.is) (both_begin t p w f))
+
+-- A pair that fits the empty world fits it with nothing tallied.
 pub fits_with_none : (p : Ends) (initial_a initial_b size_a size_b : ℕ)
     → Fits p (empty_world p initial_a initial_b size_a size_b)
-    → FitsCounted 0 0 p (empty_world p initial_a initial_b size_a size_b)
-fits_with_none p initial_a initial_b size_a size_b f =
-    record { fits = f; of_a = nothing_is_accepted_at_first size_a; of_b = nothing_is_accepted_at_first size_b }
+    → FitsCounted nothing_tallied p (empty_world p initial_a initial_b size_a size_b)
+fits_with_none p initial_a initial_b size_a size_b f = record {
+  fits = f;
+  of_a = nothing_is_accepted_at_first size_a;
+  of_b = nothing_is_accepted_at_first size_b;
+  unread_a = λ s. omega arith;
+  unread_b = λ s. omega arith;
+}

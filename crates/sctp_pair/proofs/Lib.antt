@@ -8,11 +8,14 @@ pub mod CallsAreSteps
 pub mod Counted
 pub mod DataGiven
 pub mod DataTaken
+pub mod FewInAll
 pub mod HandshakeChunk
 pub mod HandshakeStages
+pub mod LedOn
 pub mod MessageBytes
 pub mod NeverTakenBack
 pub mod NewPairs
+pub mod NumbersCounted
 pub mod PacketCall
 pub mod PacketChunks
 pub mod PollCall
@@ -22,8 +25,10 @@ pub mod RunsJoined
 pub mod RunsOfWorlds
 pub mod SaidStaysSaid
 pub mod SimpleCalls
+pub mod SinceBegun
 pub mod StepsLead
 pub mod StreamCalls
 pub mod TimedCalls
+pub mod WaitingCounted
 pub mod WriteCall
 pub mod WrittenPlaces

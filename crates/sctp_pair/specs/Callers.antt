@@ -1,5 +1,5 @@
 -- What a caller of a pair can tell of it by its steps and their replies alone: what it wrote and what it read.
-use Rattle.std.specs.Prelude.{◌≡◌, ℕ, ◌+◌, ◌&&◌, ◌==◌, Bool, false, if◌then◌else◌, List, [], ◌∷◌, ◌++◌, Option, Some}
+use Rattle.std.specs.Prelude.{◌≡◌, ◌<◌, ℕ, ◌+◌, ◌&&◌, ◌==◌, Bool, false, if◌then◌else◌, List, [], ◌∷◌, ◌++◌, Option, Some}
 use Rattle.std.specs.Prelude.{None, ⊤, true, not, slice_get}
 use Rattle.sctp_model.specs.Safe.{AreDistinct}
 use Rattle.sctp_wire_types.specs.declared.ids.PayloadProtocolIdentifier.{PayloadProtocolIdentifier}
@@ -10,10 +10,11 @@ use Rattle.sctp_pair.specs.declared.step.Side2.{Side2}
 use Rattle.sctp_pair.specs.declared.step.Side2.TheVariants as sides
 use Rattle.sctp_pair.specs.declared.step.Step.{Step}
 use Rattle.sctp_pair.specs.declared.step.Step.TheVariants as steps
-use Rattle.sctp_pair.specs.Counted.{AreFew, FitsCounted, pieces_of}
+use Rattle.sctp_pair.specs.Counted.{AreFew, FitsCounted, Tally, nothing_tallied, pieces_of, tallied}
 use Rattle.sctp_pair.specs.Ends.{Ends}
 use Rattle.sctp_pair.specs.Steps.{Runs, Writing, reading_of, writing_of}
-use Rattle.sctp_pair.specs.World.{empty_world, is_side, loosens, message_read, other_side}
+use Rattle.sctp_pair.specs.World.{IsSafeWorld, IsWorldStep, World, empty_world, is_side, loosens, message_read}
+use Rattle.sctp_pair.specs.World.{other_side}
 
 -- One step and its reply
 
@@ -146,34 +147,89 @@ ReadsWereWritten ss rs = (x : Side2) (s : ℕ)
 abbrev pub NothingIsReadBeforeADelivery : List Step → List Reply → Type 0
 NothingIsReadBeforeADelivery ss rs = (x : Side2) (s : ℕ) → read_undelivered ss rs x s ≡ []
 
--- Each side accepted few pieces in all of these steps, where A puts at most size_a bytes of a message into a piece, B
--- at most size_b.
-abbrev pub AcceptFew : ℕ → ℕ → List Step → List Reply → Type 0
-AcceptFew size_a size_b ss rs = AreFew (accepted_in size_a sides.A ss rs) (accepted_in size_b sides.B ss rs)
-
 -- All steps of a pair
 
--- To a new pair nothing happened yet; its payload sizes are these.
-pub record IsNew (size_a size_b : ℕ) (p : Ends) : Type 0 where
+-- What a pair was made with: the payload sizes of A and of B, and their initial TSNs.
+pub record Made : Type 0 where
+  pub size_a : ℕ
+  pub size_b : ℕ
   pub initial_a : ℕ
   pub initial_b : ℕ
-  pub fits : FitsCounted 0 0 p (empty_world p initial_a initial_b size_a size_b)
 
--- These are all steps of a pair since it was new, with their replies, and it is p now.
-pub record CameBy (size_a size_b : ℕ) (ss : List Step) (rs : List Reply) (p : Ends) : Type 0 where
+-- the world in which nothing happened yet to the pair p that was made so
+abbrev pub world_of : Made → Ends → World
+world_of m p = empty_world p m.initial_a m.initial_b m.size_a m.size_b
+
+-- the tally after one step more of a pair that was made so
+abbrev pub tallied_by : Made → Step → Reply → Tally → Tally
+tallied_by m step reply t = tallied m.size_a m.size_b step reply t
+
+-- the tally after these steps, from t on
+abbrev pub tally_from : Made → Tally → List Step → List Reply → Tally
+tally_from m t (a ∷ ss) (r ∷ rs) = tally_from m (tallied_by m a r t) ss rs
+tally_from m t [] rs = t
+tally_from m t (a ∷ ss) [] = t
+
+-- the tally of all of these steps
+abbrev pub tally_of : Made → List Step → List Reply → Tally
+tally_of m ss rs = tally_from m nothing_tallied ss rs
+
+-- To a new pair nothing happened yet.
+abbrev pub IsNew : Made → Ends → Type 0
+IsNew m p = FitsCounted nothing_tallied p (world_of m p)
+
+-- After each of these steps so far, tallied from t on, few pieces are not acknowledged and few messages not read.
+-- `begin` is the pair as it was before the first of them.
+abbrev pub StaysFew : Made → Tally → List Step → List Reply → Ends → Type 0
+StaysFew m t (a ∷ ss) (r ∷ rs) begin =
+    AreFew (tallied_by m a r t) m.initial_a m.initial_b begin × StaysFew m (tallied_by m a r t) ss rs begin
+StaysFew m t [] rs begin = ⊤
+StaysFew m t (a ∷ ss) [] begin = ⊤
+
+-- The steps with these replies led from world to world, from w on: each of these worlds was safe, and the pair fitted
+-- it with the tally after the steps so far. (`RunsCounted` promises this where few are not acknowledged and not read;
+-- here it is what was so.)
+abbrev pub LedSafely : Made → List Step → List Reply → World → Tally → Ends → Type 0
+LedSafely m [] [] w t q = FitsCounted t q w
+LedSafely m (a ∷ ss) (r ∷ rs) w t q =
+    (v : World) × IsWorldStep a w r v × IsSafeWorld v × FitsCounted (tallied_by m a r t) v.ends v
+    × LedSafely m ss rs v (tallied_by m a r t) q
+LedSafely m [] (r ∷ rs) w t q = ⊥
+LedSafely m (a ∷ ss) [] w t q = ⊥
+
+-- These are all steps of a pair since it was new, with their replies, and it is p now. They led safely from world to
+-- world, from the one in which nothing happened.
+pub record CameBy (m : Made) (ss : List Step) (rs : List Reply) (p : Ends) : Type 0 where
   pub begin : Ends
-  pub new : IsNew size_a size_b begin
+  pub new : IsNew m begin
   pub led : Runs ss rs begin p
+  pub safely : LedSafely m ss rs (world_of m begin) nothing_tallied p
 
--- Whatever steps led to p, these follow them as its next ones and lead to q.
+-- Whatever steps led to p, these follow them as its next ones and lead to q, where few pieces stay unacknowledged in
+-- them and few messages unread.
 abbrev pub ComesOn : List Step → List Reply → Ends → Ends → Type 0
 ComesOn more answers p q =
-    (size_a size_b : ℕ) (ss : List Step) (rs : List Reply) → CameBy size_a size_b ss rs p
-    → CameBy size_a size_b (ss ++ more) (rs ++ answers) q
+    (m : Made) (ss : List Step) (rs : List Reply) → CameBy m ss rs p
+    → StaysFew m (tally_of m ss rs) more answers p → CameBy m (ss ++ more) (rs ++ answers) q
 
--- Whatever steps led to p, this holds of them with these behind them, where each side accepted few pieces in all of
--- them.
+-- Whatever steps led to p, this holds of them with these behind them, where few pieces stay unacknowledged in these and
+-- few messages unread.
 abbrev pub HoldsOn : (List Step → List Reply → Type 0) → List Step → List Reply → Ends → Type 0
 HoldsOn Law more answers p =
-    (size_a size_b : ℕ) (ss : List Step) (rs : List Reply) → CameBy size_a size_b ss rs p
-    → AcceptFew size_a size_b (ss ++ more) (rs ++ answers) → Law (ss ++ more) (rs ++ answers)
+    (m : Made) (ss : List Step) (rs : List Reply) → CameBy m ss rs p
+    → StaysFew m (tally_of m ss rs) more answers p → Law (ss ++ more) (rs ++ answers)
+
+-- Where little is accepted at all
+
+-- Each side accepted fewer than 16,384 pieces in all of these steps, where A puts at most size_a bytes of a message into
+-- a piece, B at most size_b.
+pub record AcceptFew (size_a size_b : ℕ) (ss : List Step) (rs : List Reply) : Type 0 where
+  pub of_a : accepted_in size_a sides.A ss rs < 16384
+  pub of_b : accepted_in size_b sides.B ss rs < 16384
+
+-- Whatever steps led to p: where each side accepted few pieces in all of them and these behind them, few stay
+-- unacknowledged in these and few messages unread, whatever is acknowledged and read.
+abbrev pub FewStayFew : List Step → List Reply → Ends → Type 0
+FewStayFew more answers p =
+    (m : Made) (ss : List Step) (rs : List Reply) → CameBy m ss rs p
+    → AcceptFew m.size_a m.size_b (ss ++ more) (rs ++ answers) → StaysFew m (tally_of m ss rs) more answers p

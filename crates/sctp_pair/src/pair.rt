@@ -9,7 +9,7 @@ ghost use Rattle.sctp_assoc.specs.contracts.association.Association as associati
 ghost use Rattle.sctp_pair.specs.contracts.pair.Pair.{the_row};
 ghost use Rattle.sctp_pair.specs.Ends.{JoinRefuses, packets_of, end_of, with_end};
 ghost use Rattle.sctp_pair.specs.World.{World, empty_world};
-ghost use Rattle.sctp_pair.specs.Counted.{FitsCounted, LeadsCounted, RunsCounted};
+ghost use Rattle.sctp_pair.specs.Counted.{FitsCounted, LeadsCounted, RunsCounted, Tally, nothing_tallied};
 ghost use Rattle.sctp_pair.specs.Fits.{Fits, LeadsSafely, RunsSafely};
 ghost use Rattle.sctp_pair.specs.Steps.{ComesTo, Runs, SendsAt, Steps};
 
@@ -83,9 +83,14 @@ impl Pair {
             (join_refusal max_payload_size_b token_b.now token_a.now) }
         ensures fits { IfOk result (λ p. Fits p
             (empty_world p token_a.now.initial_tsn token_b.now.initial_tsn max_payload_size_a max_payload_size_b)) }
-        ensures counted { IfOk result (λ p. FitsCounted 0 0 p
+        ensures counted { IfOk result (λ p. FitsCounted nothing_tallied p
             (empty_world p token_a.now.initial_tsn token_b.now.initial_tsn max_payload_size_a max_payload_size_b)) }
-        ensures new { IfOk result (λ p. CameBy max_payload_size_a max_payload_size_b [] [] p) }
+        ensures new { IfOk result (λ p. CameBy (record {
+          size_a = max_payload_size_a;
+          size_b = max_payload_size_b;
+          initial_a = token_a.now.initial_tsn;
+          initial_b = token_b.now.initial_tsn;
+        }) [] [] p) }
     {
         let a = Association::new_with_out_of_band_init(
             alloc,
@@ -150,9 +155,14 @@ impl Pair {
         ensures refused { JoinRefuses result (create_refusal max_payload_size_a tsn_a)
             (create_refusal max_payload_size_b tsn_b) }
         ensures fits { IfOk result (λ p. Fits p (empty_world p tsn_a tsn_b max_payload_size_a max_payload_size_b)) }
-        ensures counted { IfOk result
-            (λ p. FitsCounted 0 0 p (empty_world p tsn_a tsn_b max_payload_size_a max_payload_size_b)) }
-        ensures new { IfOk result (λ p. CameBy max_payload_size_a max_payload_size_b [] [] p) }
+        ensures counted { IfOk result (λ p. FitsCounted nothing_tallied p
+            (empty_world p tsn_a tsn_b max_payload_size_a max_payload_size_b)) }
+        ensures new { IfOk result (λ p. CameBy (record {
+          size_a = max_payload_size_a;
+          size_b = max_payload_size_b;
+          initial_a = tsn_a;
+          initial_b = tsn_b;
+        }) [] [] p) }
     {
         let a = Association::new(
             alloc,
@@ -214,25 +224,32 @@ impl Pair {
     /// room for the replies: it comes before the first step, with nothing changed.
     ///
     /// The promise of delivery is said of all steps since the pair was made, these among them (`came`). It holds as
-    /// long as the messages that each side accepted in all of them have fewer than 16,384 pieces; a piece is what one
-    /// DATA chunk has room for. On each stream that no `SetReliabilityParams` of the writer's side had send other
-    /// messages than ordered, reliable ones, the messages that one side's reads answered are, in order, a prefix of
-    /// those that the other side's accepted writes gave (`front`). On every stream, each of them is one of those,
-    /// whole, and none comes twice (`written`). Nothing is read at a side before the first delivery to it that is
-    /// answered `Done` (`undelivered`).
+    /// long as few pieces stay unacknowledged and few messages unread, which a caller counts by its writes and reads
+    /// and by a look at the pair before the call; a piece is what one DATA chunk has room for. After each of these
+    /// steps, each side has accepted fewer than 2^31 pieces since the pair was made; these are fewer than 16,384 more
+    /// than its peer had acknowledged cumulatively when this call began, as the side itself showed then (of a side that
+    /// had failed or lost its association this is not asked); and on each stream fewer than 32,768 of its messages are
+    /// not read. The calls before this one have kept to that, each from its own beginning. So a run may go on as long
+    /// as its streams are read and its packets acknowledged. It is enough, too, that each side accepts fewer than
+    /// 16,384 pieces in all.
+    ///
+    /// On each stream that no `SetReliabilityParams` of the writer's side had send other messages than ordered,
+    /// reliable ones, the messages that one side's reads answered are, in order, a prefix of those that the other side's
+    /// accepted writes gave (`front`). On every stream, each of them is one of those, whole, and none comes twice
+    /// (`written`). Nothing is read at a side before the first delivery to it that is answered `Done` (`undelivered`).
     ///
     /// More is said over worlds, which docs/MODEL.md has in words. From each world that the pair fits, the steps lead
     /// from world to world, in each of which the pair stands. As long as each so far is within the limits, it is safe
-    /// (`headline`). As long as the messages that each side accepted since the pair was made have fewer than 16,384
-    /// pieces, each of these worlds is safe (`counted`).
+    /// (`headline`). As long as few pieces stay unacknowledged and few messages unread, each of these worlds is safe
+    /// (`counted`).
     #[tactic(auto, using(crate::proofs::RunsOfWorlds::runs_lead, crate::proofs::Counted::runs_lead_counted))]
     pub fn run(&mut self, steps: &[Step]) -> Result<Vec<Reply>, Error>
         ensures ok { IfOk result (λ replies. Runs steps.now replies.items self.old self.new) }
         ensures refused { OnErr result ((result ≡ Err Error.ErrNoMemory) × (self.new ≡ self.old)) }
         ensures headline { IfOk result (λ replies. (w : World) → Fits self.old w
             → RunsSafely steps.now replies.items w self.new) }
-        ensures counted { IfOk result (λ replies. (n m : ℕ) (w : World) → FitsCounted n m self.old w
-            → RunsCounted steps.now replies.items w n m self.new) }
+        ensures counted { IfOk result (λ replies. (t : Tally) (w : World) → FitsCounted t self.old w
+            → RunsCounted steps.now replies.items w t self.old self.new) }
         ensures came { IfOk result (λ replies. ComesOn steps.now replies.items self.old self.new) }
         ensures front { IfOk result (λ replies. HoldsOn ReadsAreFronts steps.now replies.items self.old) }
         ensures written { IfOk result (λ replies. HoldsOn ReadsWereWritten steps.now replies.items self.old) }
@@ -245,17 +262,18 @@ impl Pair {
     /// Carries out one step and answers what came of it; a refusal is a reply, too.
     ///
     /// The promise of delivery is that of `run`, for this one step: the clauses `came`, `front`, `written` and
-    /// `undelivered`.
+    /// `undelivered`. What was acknowledged is looked at before each step, so that a caller that goes step by step may
+    /// write on as acknowledgements come.
     ///
     /// From each world that the pair fits, the step leads to a next one, in which the pair stands. Where that is
-    /// within the limits, it is safe (`headline`). Where the messages that each side accepted, this step's included,
-    /// have fewer than 16,384 pieces, the next world is safe (`counted`).
+    /// within the limits, it is safe (`headline`). Where few pieces are unacknowledged and few messages unread, this
+    /// step's included, the next world is safe (`counted`).
     #[tactic(auto, using(crate::proofs::StepsLead::step_leads, crate::proofs::Counted::step_leads_counted))]
     pub fn step(&mut self, step: &Step) -> Reply
         ensures exact { Steps step.now self.old result self.new }
         ensures headline { (w : World) → Fits self.old w → LeadsSafely step.now result w self.new }
-        ensures counted { (n m : ℕ) (w : World) → FitsCounted n m self.old w
-            → LeadsCounted step.now result w n m self.new }
+        ensures counted { (t : Tally) (w : World) → FitsCounted t self.old w
+            → LeadsCounted step.now result w t self.new }
         ensures came { ComesOn (step.now ∷ []) (result ∷ []) self.old self.new }
         ensures front { HoldsOn ReadsAreFronts (step.now ∷ []) (result ∷ []) self.old }
         ensures written { HoldsOn ReadsWereWritten (step.now ∷ []) (result ∷ []) self.old }

@@ -4,5 +4,5 @@ use Rattle.pair_callers.proofs.running.run_and_count.Goals as goal
 
 pub returns : goal.returns
 returns c =
-    if_ok c.run.result _ _ c.run.ensures.counted (λ replies h n m w fits.
-    runs_count c.args.steps.now replies.items w n m c.run.new.self (h n m w fits))
+    if_ok c.run.result _ _ c.run.ensures.counted (λ replies h t w fits.
+    runs_count c.args.steps.now replies.items w t c.args.pair.now c.run.new.self (h t w fits))

@@ -1,8 +1,17 @@
-use Rattle.std.proofs.Common.{ℕ, []}
+use Rattle.sctp_pair.specs.Callers.{Made, ReadsAreFronts}
+use Rattle.pair_callers.proofs.FewAccepted.{law_of_one_more}
 use Rattle.pair_callers.proofs.telling.run_and_step.Goals as goal
 
 pub returns : goal.returns
 returns c =
-    let size : ℕ = c.args.max_payload_size in
-    let came = c.in_ok-replies.ensures.came size size [] [] c.in_ok-pair.ensures.new in
-    record { front = c.step-reply.ensures.front size size c.args.steps.now c.in_ok-replies.replies.items came }
+    let m : Made = record {
+      size_a = c.args.max_payload_size;
+      size_b = c.args.max_payload_size;
+      initial_a = c.args.token_a.now.initial_tsn;
+      initial_b = c.args.token_b.now.initial_tsn;
+    } in
+    record {
+      front = λ few. law_of_one_more ReadsAreFronts m c.args.steps.now c.in_ok-replies.replies.items c.args.last.now
+          c.step-reply.result c.in_ok-pair.pair c.in_ok-replies.new.self c.step-reply.new.self c.in_ok-pair.ensures.new
+          c.in_ok-replies.ensures.ok c.step-reply.ensures.exact c.in_ok-replies.ensures.came c.step-reply.ensures.front few;
+    }

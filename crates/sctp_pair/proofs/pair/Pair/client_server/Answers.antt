@@ -42,8 +42,9 @@ returns-clause-counted c =
 pub returns-clause-new : goal.returns-clause-new
 returns-clause-new c = record {
   begin = _;
-  new = record { initial_a = c.args.tsn_a; initial_b = c.args.tsn_b; fits = returns-clause-counted c };
+  new = returns-clause-counted c;
   led = refl;
+  safely = returns-clause-counted c;
 }
 
 -- B is refused

@@ -37,12 +37,9 @@ returns-clause-counted c =
 pub returns-clause-new : goal.returns-clause-new
 returns-clause-new c = record {
   begin = _;
-  new = record {
-    initial_a = c.args.token_a.now.initial_tsn;
-    initial_b = c.args.token_b.now.initial_tsn;
-    fits = returns-clause-counted c;
-  };
+  new = returns-clause-counted c;
   led = refl;
+  safely = returns-clause-counted c;
 }
 
 -- B is refused

@@ -1,0 +1,28 @@
+-- What the replies of all steps of a pair tell, run by run.
+use Rattle.std.specs.Prelude.{List, ◌++◌}
+use Rattle.sctp_pair.specs.declared.step.Reply.{Reply}
+use Rattle.sctp_pair.specs.declared.step.Step.{Step}
+use Rattle.sctp_pair.specs.Callers.{CameBy, Made, NothingIsReadBeforeADelivery, ReadsAreFronts, ReadsWereWritten}
+use Rattle.sctp_pair.specs.Callers.{StaysFew, tally_of}
+use Rattle.sctp_pair.specs.Ends.{Ends}
+use Rattle.sctp_pair.specs.Steps.{Runs}
+
+-- The laws of all steps of a pair.
+pub record AllHold (ss : List Step) (rs : List Reply) : Type 0 where
+  pub front : ReadsAreFronts ss rs
+  pub written : ReadsWereWritten ss rs
+  pub undelivered : NothingIsReadBeforeADelivery ss rs
+
+-- Two runs, of which the first one led from p to `between`, and the second one from there to q. Whatever steps led to p
+-- before: where few pieces stay unacknowledged in the first run, counted from p, and in the second one, counted from
+-- `between`, and few messages unread, the laws hold of all of these steps. However many pieces were accepted in all (but
+-- 2^31), is not asked.
+pub record HoldOverTwo (first : List Step) (answers : List Reply) (second : List Step) (replies : List Reply)
+    (p q : Ends) : Type 0 where
+  pub between : Ends
+  pub first_led : Runs first answers p between
+  pub second_led : Runs second replies between q
+  pub hold : (m : Made) (ss : List Step) (rs : List Reply) → CameBy m ss rs p
+      → StaysFew m (tally_of m ss rs) first answers p
+      → StaysFew m (tally_of m (ss ++ first) (rs ++ answers)) second replies between
+      → AllHold ((ss ++ first) ++ second) ((rs ++ answers) ++ replies)
