@@ -56,21 +56,22 @@ fast_counted a = record a {
       record c { fast_retrans = more_by (length (missing_by (after_marked a.sender))) c.fast_retrans });
 }
 
--- the packets of a poll that carry DATA: what the retransmission timer marked, what is missing, and new DATA, each
--- bundled apart
+-- behind these packets what the retransmission timer marked, and then what is missing, each bundled apart
 abbrev pub resent_into : Sender → DataWritten → DataWritten
 resent_into s w = closed (with_all (closed (with_all w (marked_by s))) (missing_by (after_marked s)))
 
+-- the packets of a poll that carry DATA: what goes again, and then new DATA, bundled apart
 abbrev pub data_bundled : Shown → ℕ → DataWritten
 data_bundled a now =
     closed (with_all (resent_into a.sender (nothing_written (header_of a.handshake) a.sender.mtu))
     (sent_new (after_resending a.sender) now).1)
 
--- DATA is sent again
+-- the association once DATA was sent again
 abbrev pub with_resent : Shown → Shown
 with_resent a = (let b = fast_counted a in record b { sender = after_resending a.sender })
 
--- the DATA of a poll, in order: that which the retransmission timer marked, that which is missing, and then new DATA
+-- what a poll of DATA leaves, and what its packets carry: what the retransmission timer marked, what is missing, and
+-- then new DATA
 unfoldable pub data_polled : Shown → ℕ → Shown × List (List ChunkPayloadData)
 data_polled a now =
     (with_sent_data (fast_counted a) now (sent_new (after_resending a.sender) now), (data_bundled a now).done)

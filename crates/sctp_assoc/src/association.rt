@@ -311,8 +311,8 @@ impl Association {
     /// entry of the `Payload::RawEncode` is one datagram. Packets of the handshake and answers go first, in every
     /// state. In Established there follow DATA that the retransmission timer marked, DATA that is to be retransmitted
     /// fast, new DATA within both windows (or one piece that probes them, where nothing is in flight), and a SACK that
-    /// is due. DATA chunks are bundled in packets of at most `mtu` bytes (RFC 4960 section 6.10). Call it last in each
-    /// turn of the loop, and after writes.
+    /// is due. DATA chunks are bundled in packets of at most `mtu` bytes (RFC 4960 section 6.10); a packet of one alone
+    /// may be up to 3 bytes longer. Call it last in each turn of the loop, and after writes.
     ///
     /// Errors: `ErrAssociationFailed`, and `ErrNoMemory` only where there is something to give. After the latter the
     /// association is failed, and the packets of this call are lost.

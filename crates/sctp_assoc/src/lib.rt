@@ -15,6 +15,7 @@
 //! | [`Association::poll`] | the driver or the application: what happened |
 //! | [`Association::open_stream`], [`Association::stream`] | the application: a [`Stream`], to write and to read |
 //! | [`Association::accept_stream`], [`Association::stream_ids`] | the application: what the peer opened, and all |
+//! | [`Association::set_max_send_message_size`] | the application: how long a message may be |
 //! | [`Association::close`] | the application: an end at once |
 //! | [`Association::poll_transmit`], [`Association::poll_timeout`] | the driver: what to send, and when to wake |
 //! | `state`, `is_closed`, `rtt`, `cwnd` and the other questions | anybody, at any time; they change nothing |
@@ -45,8 +46,8 @@
 //! What may take memory answers a `Result`, and says [`Error::ErrNoMemory`] where it gets none. What that leaves
 //! depends on the call:
 //!
-//! - `handle_event`, `handle_timeout`, `poll_transmit` and `close` leave the association failed
-//!   ([`Association::is_failed`]).
+//! - `handle_event`, `handle_timeout`, `poll_transmit` and `close`, and a `read` or `read_sctp` of a stream that leaves
+//!   the receive buffer exhausted, leave the association failed ([`Association::is_failed`]).
 //!   No timer runs, and each later call that answers a `Result` answers [`Error::ErrAssociationFailed`]. The
 //!   questions about the state answer what they answered before the call.
 //! - Any other call changed nothing, and may be made again.

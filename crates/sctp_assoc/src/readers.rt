@@ -47,8 +47,9 @@ impl Association {
         self.local_ip
     }
 
-    /// The payload size and 28, in bytes: a packet of one DATA chunk with the greatest payload, without padding. A
-    /// packet of the handshake, or an answer to a HEARTBEAT, may be longer.
+    /// The payload size and 28, in bytes: a packet of one DATA chunk with the greatest payload, without padding. No packet
+    /// of two DATA chunks or more is longer; a packet of the handshake, or an answer to a HEARTBEAT, may be. Headers of
+    /// IP, UDP or DTLS are not counted.
     pub fn mtu(&self) -> u32
         ensures { result ≡ self.now.sender.mtu }
     {

@@ -11,26 +11,36 @@ use Rattle.sctp_wire.specs.DataPackets.{DataWritten, closed, data_fits, has_room
 use Rattle.sctp_wire.specs.DataPackets.{unless_empty, with_all, with_data}
 use Rattle.sctp_inbound.specs.Handshake.{header_of}
 use Rattle.sctp_outbound.specs.Sender.{after_marked, after_resending, marked_by, missing_by, sent_new}
-use Rattle.sctp_model.proofs.Lists.{all_join}
+use Rattle.sctp_model.proofs.Lists.{all_both, all_join, all_weaker}
 use Rattle.sctp_assoc.specs.Gather.{data_polled}
 use Rattle.sctp_assoc.specs.Shown.{Shown}
 use Rattle.sctp_sides.specs.Laws.{BundlesFitThePacket, IsShortOrAlone}
+use Rattle.sctp_sides.proofs.BundlesFilled.{IsFilled, polled_bundles_are_filled}
 
 -- the checksum takes the place of zeros
 spelled_length : (p : Packet) → length (spelling p) ≡ length (unsummed p)
 unfolding spelling
 spelled_length p = refl
 
+-- as long as it is being written a packet may be empty
+abbrev IsShort : CommonHeader → ℕ → List ChunkPayloadData → Type 0
+IsShort header mtu cs = (length cs ≤ 1) ⊎ (length (spelling (packet_of header cs)) ≤ mtu)
+
+filled_short : (header : CommonHeader) (mtu : ℕ) (cs : List ChunkPayloadData) → IsShort header mtu cs × IsFilled cs
+    → IsShortOrAlone header mtu cs
+filled_short header mtu cs (inl few, some) = inl (omega (arith, few, some))
+filled_short header mtu cs (inr short, some) = inr short
+
 -- each packet is so, with this header and this greatest length
 record AreShort (header : CommonHeader) (mtu : ℕ) (w : DataWritten) : Type 0 where
   header_is : w.header ≡ header
   mtu_is : w.mtu ≡ mtu
-  done : AllByRecursion (IsShortOrAlone header mtu) w.done
-  current : IsShortOrAlone header mtu w.current
+  done : AllByRecursion (IsShort header mtu) w.done
+  current : IsShort header mtu w.current
 
 module _ (header : CommonHeader) (mtu : ℕ) where
-  unless_short : (cs : List ChunkPayloadData) → IsShortOrAlone header mtu cs
-      → AllByRecursion (IsShortOrAlone header mtu) (unless_empty cs)
+  unless_short : (cs : List ChunkPayloadData) → IsShort header mtu cs
+      → AllByRecursion (IsShort header mtu) (unless_empty cs)
   unless_short [] h = tt
   unless_short (c ∷ cs) h = (h, tt)
 
@@ -38,7 +48,7 @@ module _ (header : CommonHeader) (mtu : ℕ) where
   closed_short w h = record {
     header_is = h.header_is;
     mtu_is = h.mtu_is;
-    done = all_join (IsShortOrAlone header mtu) w.done (unless_empty w.current) h.done (unless_short w.current h.current);
+    done = all_join (IsShort header mtu) w.done (unless_empty w.current) h.done (unless_short w.current h.current);
     current = inl (omega arith);
   }
 
@@ -98,6 +108,11 @@ bundles_fit_the_packet a now =
     let none = nothing_written header mtu in
     let marked = closed (with_all none (marked_by a.sender)) in
     let missing = closed (with_all marked (missing_by (after_marked a.sender))) in
-    (closed_after header mtu missing (sent_new (after_resending a.sender) now).1
+    let short =
+    closed_after header mtu missing (sent_new (after_resending a.sender) now).1
     (closed_after header mtu marked (missing_by (after_marked a.sender))
-    (closed_after header mtu none (marked_by a.sender) (nothing_short header mtu)))).done
+    (closed_after header mtu none (marked_by a.sender) (nothing_short header mtu))) in
+    let bundles = (closed (with_all missing (sent_new (after_resending a.sender) now).1)).done in
+    all_weaker (λ (cs : List ChunkPayloadData). IsShort header mtu cs × IsFilled cs) (IsShortOrAlone header mtu) bundles
+    (λ cs h. filled_short header mtu cs h)
+    (all_both (IsShort header mtu) IsFilled bundles short.done (polled_bundles_are_filled a now))

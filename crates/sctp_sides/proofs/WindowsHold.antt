@@ -17,7 +17,7 @@ use Rattle.sctp_assoc.specs.Gather.{ack_after, control_packets, data_polled, exc
 use Rattle.sctp_assoc.specs.Gather.{polled, without_control}
 use Rattle.sctp_assoc.specs.Shown.{Shown}
 use Rattle.sctp_assoc.proofs.PollsLeadOn.{both_first}
-use Rattle.sctp_sides.specs.Laws.{NewDataStaysInTheWindow}
+use Rattle.sctp_sides.specs.Laws.{NewDataStaysInTheCongestionWindow}
 use Rattle.sctp_sides.proofs.TimersOverPolls.{resending_keeps_as_many}
 use Rattle.sctp_sides.proofs.WrittenIsHeld.{both_sender, sent_data_sender}
 
@@ -152,6 +152,6 @@ polled_sender a now =
     (both_first (control_packets a.control) (exchange_polled (without_control a) now))
     ∙ exchange_sender (without_control a) now
 
-pub new_data_stays_in_the_window : NewDataStaysInTheWindow
-new_data_stays_in_the_window a now bound more =
+pub new_data_stays_in_the_congestion_window : NewDataStaysInTheCongestionWindow
+new_data_stays_in_the_congestion_window a now bound more =
     law_if (is_established a.state) a.sender _ now bound (polled_sender a now) more

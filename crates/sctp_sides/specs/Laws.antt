@@ -65,7 +65,7 @@ WhatWaitsIsGiven = (a : Shown) (h : History) (now : ℕ) (m : Waiting) → is_es
     → slice_get (all_data_given (acts_of_poll a now) (parts a h)) 0 ≡ Some (next_chunk_of m (tsn h.own h.base))
 
 -- A piece that one DATA chunk has room for is the first chunk of the first packet that goes out behind those that wait
--- already; other DATA may be bundled with it (RFC 4960 section 6.10).
+-- already; other DATA may be bundled with it (RFC 4960 section 6.10), of which the acts of the poll say what it is.
 abbrev pub PollsBeginWithWhatWaits : Type 0
 PollsBeginWithWhatWaits = (a : Shown) (now : ℕ) (m : Waiting) → is_established a.state ≡ true
     → IsNextWithNothingInFlight a m
@@ -74,20 +74,21 @@ PollsBeginWithWhatWaits = (a : Shown) (now : ℕ) (m : Waiting) → is_establish
     × (slice_get (polled a now).1 (length (control_packets a.control)) ≡ Some
     (spelling (packet_of (header_of a.handshake) (next_chunk_of m (next_tsn_of a.sender.queue) ∷ bundled))))
 
--- A packet of DATA has one chunk, or is at most this long, in bytes.
+-- A packet of this DATA has one chunk, or at most so many bytes.
 abbrev pub IsShortOrAlone : CommonHeader → ℕ → List ChunkPayloadData → Type 0
-IsShortOrAlone header mtu cs = (length cs ≤ 1) ⊎ (length (spelling (packet_of header cs)) ≤ mtu)
+IsShortOrAlone header mtu cs = (length cs ≡ 1) ⊎ (length (spelling (packet_of header cs)) ≤ mtu)
 
--- So is each that a poll gives (RFC 4960 section 6.10).
+-- Each packet of DATA that a poll gives in Established has one chunk, or is at most `mtu` bytes long (RFC 4960 section
+-- 6.10).
 abbrev pub BundlesFitThePacket : Type 0
 BundlesFitThePacket = (a : Shown) (now : ℕ)
     → AllByRecursion (IsShortOrAlone (header_of a.handshake) a.sender.mtu) (data_polled a now).1
 
--- A poll that gives a TSN to new DATA leaves no more bytes outstanding than the congestion window allows, or this DATA
--- is all that is in flight: it probes the windows (RFC 4960 sections 6.1, rules A and B, and 7.2). The window is a
--- number of 32 bits, as `Association::cwnd` is.
-abbrev pub NewDataStaysInTheWindow : Type 0
-NewDataStaysInTheWindow = (a : Shown) (now : ℕ) → a.sender.congestion.cwnd < 2 ^ 32
+-- A poll that gives a TSN to new DATA leaves no more bytes outstanding than the congestion window has, or exactly one piece
+-- in flight, as a probe is (RFC 4960 section 6.1, rules A and B). The window is a number of 32 bits, as
+-- `Association::cwnd` is. Of the peer's window and of DATA that goes again this says nothing.
+abbrev pub NewDataStaysInTheCongestionWindow : Type 0
+NewDataStaysInTheCongestionWindow = (a : Shown) (now : ℕ) → a.sender.congestion.cwnd < 2 ^ 32
     → length a.sender.queue.in_flight < length (polled a now).0.sender.queue.in_flight
     → (outstanding_of (polled a now).0.sender.queue.in_flight ≤ (polled a now).0.sender.congestion.cwnd)
     ⊎ (length (polled a now).0.sender.queue.in_flight ≡ 1)

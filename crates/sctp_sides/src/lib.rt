@@ -21,7 +21,7 @@ ghost use Rattle.sctp_sides.specs.Laws.{DueSacksGoOut, FaultsAloneClose, OpenedS
 ghost use Rattle.sctp_sides.specs.Laws.{AcceptedStreamsDoNotClose, ClosesClose, ExhaustingReadsAloneClose, LimitsDoNotClose};
 ghost use Rattle.sctp_sides.specs.Laws.{PollsKeepWhatIsHeld, SacksAreSpelled, SacksNameThePoint, SettingsDoNotClose};
 ghost use Rattle.sctp_sides.specs.Laws.{PollsBeginWithWhatWaits, SacksOfferTheBuffer, SacksSayWhatWasTaken};
-ghost use Rattle.sctp_sides.specs.Laws.{BundlesFitThePacket, NewDataStaysInTheWindow, TimersDoNotClose};
+ghost use Rattle.sctp_sides.specs.Laws.{BundlesFitThePacket, NewDataStaysInTheCongestionWindow, TimersDoNotClose};
 ghost use Rattle.sctp_sides.specs.Laws.{WhatWaitsIsGiven, WhatWaitsIsPolled, WritesAreHeld, WritesDoNotClose};
 ghost use Rattle.sctp_sides.specs.Witnesses.{CookiesAreTimedInCookieEchoedAlone, CreatedSidesAreFresh};
 ghost use Rattle.sctp_sides.specs.Witnesses.{DelayedSacksAreTimed, EchoedCookiesAreTimed, FailedSidesWaitForNothing};
@@ -37,15 +37,15 @@ pub fn polls_begin_with_what_waits()
     ensures packet { PollsBeginWithWhatWaits }
 {}
 
-/// Bundling: a packet with two DATA chunks or more is at most as long as the greatest packet (RFC 4960 section 6.10).
+/// Bundling: a packet of DATA has one chunk, or is at most `mtu` bytes long (RFC 4960 section 6.10).
 pub fn bundles_fit_the_packet()
     ensures bundles { BundlesFitThePacket }
 {}
 
-/// Windows: new DATA goes out as far as the congestion window allows it, or one piece alone as a probe (RFC 4960 sections
-/// 6.1 and 7.2).
-pub fn new_data_stays_in_the_window()
-    ensures window { NewDataStaysInTheWindow }
+/// Windows: new DATA leaves no more bytes outstanding than the congestion window has, or exactly one piece in flight (RFC
+/// 4960 section 6.1, rule B).
+pub fn new_data_stays_in_the_congestion_window()
+    ensures window { NewDataStaysInTheCongestionWindow }
 {}
 
 /// Keeping: what was just written waits or is in flight, and a poll that does not fail loses none of what does.

@@ -107,7 +107,7 @@ has_room w c = nat_le (length (unsummed (packet_of w.header (w.current ++ c ∷ 
 abbrev pub joined_by : DataWritten → ChunkPayloadData → DataWritten
 joined_by w c = record w { current = w.current ++ c ∷ [] }
 
--- DATA goes behind the last, into the same packet where that has room, and else into one of its own; DATA that is
+-- DATA goes behind the last, into the same packet where that has room, and else begins the next packet; DATA that is
 -- longer than its length field can say is left out
 abbrev pub with_data : DataWritten → ChunkPayloadData → DataWritten
 with_data w c =

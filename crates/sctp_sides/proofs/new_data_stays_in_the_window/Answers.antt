@@ -1,5 +1,0 @@
-use Rattle.sctp_sides.proofs.WindowsHold.{new_data_stays_in_the_window}
-use Rattle.sctp_sides.proofs.new_data_stays_in_the_window.Goals as goal
-
-pub returns : goal.returns
-returns c = record { window = new_data_stays_in_the_window }
