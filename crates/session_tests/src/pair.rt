@@ -1,6 +1,7 @@
 // A run of a pair, and what its readers show.
 use crate::run::{Shown, ran, steps_of};
 use sctp_assoc::{AssociationState, Error, TransportConfig};
+use sctp_pair::{Side2, Step};
 use std::alloc::{AllocError, Global};
 use std::test::Fail;
 
@@ -51,6 +52,27 @@ fn a_message_past_the_limit_closes_its_receiver(rt: HostRuntime) -> Result<(), F
         assert_eq!(rt; shown.replies.as_str(), replies);
         assert_eq!(rt; shown.b.state, state);
     }
+    Ok(())
+}
+
+// A stream, a greatest message of one byte, and then a message of two and one of one.
+fn limited(alloc: Global) -> Result<Vec<Step>, AllocError> {
+    let mut steps = steps_of(alloc, "open A 1 53\n")?;
+    steps.push(Step::SetMaxSendMessageSize {
+        side: Side2::A,
+        max_send_message_size: 1,
+    })?;
+    for step in steps_of(alloc, "write A 1 6869\nwrite A 1 61\n")? {
+        steps.push(step)?;
+    }
+    Ok(steps)
+}
+
+#[test]
+fn the_greatest_message_is_set(rt: HostRuntime) -> Result<(), Fail> {
+    let steps = limited(rt.alloc())?;
+    let shown = ran(rt.alloc(), &TransportConfig::default(), steps.as_slice())?;
+    assert_eq!(rt; shown.replies.as_str(), "ok\nok\nrefused 22\nwrote 1\n");
     Ok(())
 }
 
