@@ -28,8 +28,8 @@ struct Ends {
     bytes_read: u64,
 }
 
-/// Has two new associations exchange `count` bursts of `burst` messages, others in each burst by their first byte. Answers
-/// how many bytes were read.
+/// Has two new associations exchange `count` bursts of `burst` messages, others in each burst by their first byte.
+/// Answers how many bytes were read.
 pub fn exchange(alloc: Global, message: &mut [u8], count: u64, burst: u64) -> Result<u64> {
     let mut ends = Ends::joined(alloc)?;
     ends.send_each(message, count, burst)?;

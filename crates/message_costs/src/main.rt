@@ -1,8 +1,8 @@
 //! What a message costs: two associations exchange messages in memory, so that callgrind can count the instructions.
-//! Each line `SIZE COUNT BURST` of standard input asks for COUNT bursts of BURST messages of SIZE bytes from A to B, over
-//! two associations of their own, and is answered by one line. The messages of a burst are written before A is polled,
-//! and each packet is handed over at once. The difference of the instructions of two counts, divided by that of the
-//! counts and by BURST, is what a message takes at both ends together.
+//! Each line `SIZE COUNT BURST` of standard input asks for COUNT bursts of BURST messages of SIZE bytes from A to B,
+//! over two associations of their own, and is answered by one line. The messages of a burst are written before A is
+//! polled, and each packet is handed over at once. The difference of the instructions of two counts, divided by that of
+//! the counts and by BURST, is what a message takes at both ends together.
 //!
 //!     echo 1100 3000 1 | valgrind --tool=callgrind --callgrind-out-file=/tmp/message_costs.callgrind out/message_costs
 #![tactic(auto)]

@@ -29,8 +29,8 @@ RunsTelling (s ∷ ss) (r ∷ rs) w q = (v : World) × (IsWithinLimits v → Tel
 RunsTelling [] (r ∷ rs) w q = ⊥
 RunsTelling (s ∷ ss) [] w q = ⊥
 
--- The steps with these replies lead from world to world. As long as few pieces stay unacknowledged, counted from how the
--- pair was when the run began, and few messages unread, what was read in each are accepted messages.
+-- The steps with these replies lead from world to world. As long as few pieces stay unacknowledged, counted from how
+-- the pair was when the run began, and few messages unread, what was read in each are accepted messages.
 abbrev pub RunsCounting : List Step → List Reply → World → Tally → Ends → Type 0
 RunsCounting [] [] w t begin = ⊤
 RunsCounting (s ∷ ss) (r ∷ rs) w t begin =

@@ -15,8 +15,7 @@ pub record AllHold (ss : List Step) (rs : List Reply) : Type 0 where
 
 -- Two runs, of which the first one led from p to `between`, and the second one from there to q. Whatever steps led to p
 -- before: where few pieces stay unacknowledged in the first run, counted from p, and in the second one, counted from
--- `between`, and few messages unread, the laws hold of all of these steps. However many pieces were accepted in all (but
--- 2^31), is not asked.
+-- `between`, and few messages unread, the laws hold of all of these steps.
 pub record HoldOverTwo (first : List Step) (answers : List Reply) (second : List Step) (replies : List Reply)
     (p q : Ends) : Type 0 where
   pub between : Ends

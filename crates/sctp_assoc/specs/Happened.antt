@@ -199,8 +199,8 @@ exchange_given a bundles =
 abbrev pub packets_given : Shown → List (List ChunkPayloadData) → List (List ℕ)
 packets_given a bundles = control_packets a.control ++ exchange_given a bundles
 
--- A poll for packets leads on by its acts, and gives what they say: its packets of DATA carry, in order, the DATA of the
--- acts for which one chunk has room, under the TSNs of its offsets, and each packet is read as what it was made of.
+-- A poll for packets leads on by its acts, and gives what they say: its packets of DATA carry, in order, the DATA of
+-- the acts for which one chunk has room, under the TSNs of its offsets, and each packet is read as what it was made of.
 pub record Polls (xs : List Act) (a : Shown) (h : History) (b : Shown) (packets : List (List ℕ)) : Type 0 where
   pub leads : Leads xs a h b h
   -- what the packets of DATA carry

@@ -587,8 +587,8 @@ impl Association {
         self.state.is_closing()
     }
 
-    /// Whether the association was lost: a fault closed it, or `close`. Nothing is left to do for it then but to ask for
-    /// its events.
+    /// Whether the association was lost: a fault closed it, or `close`. Nothing is left to do for it then but to ask
+    /// for its events.
     pub fn is_drained(&self) -> bool
         ensures { result ≡ self.now.lost }
     {

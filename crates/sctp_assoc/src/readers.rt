@@ -47,9 +47,9 @@ impl Association {
         self.local_ip
     }
 
-    /// The payload size and 28, in bytes: a packet of one DATA chunk with the greatest payload, without padding. No packet
-    /// of two DATA chunks or more is longer; a packet of the handshake, or an answer to a HEARTBEAT, may be. Headers of
-    /// IP, UDP or DTLS are not counted.
+    /// The payload size and 28, in bytes: a packet of one DATA chunk with the greatest payload, without padding. No
+    /// packet of two DATA chunks or more is longer; a packet of the handshake, or an answer to a HEARTBEAT, may be.
+    /// Headers of IP, UDP or DTLS are not counted.
     pub fn mtu(&self) -> u32
         ensures { result ≡ self.now.sender.mtu }
     {
@@ -86,8 +86,8 @@ impl Association {
         self.receiver.peer_last_tsn
     }
 
-    /// The cumulative TSN ack point of the sender: the last TSN of this side that the peer acknowledged cumulatively (RFC
-    /// 4960 section 6.2.1). Before any was it is the one before this side's initial TSN.
+    /// The cumulative TSN ack point of the sender: the last TSN of this side that the peer acknowledged cumulatively
+    /// (RFC 4960 section 6.2.1). Before any was it is the one before this side's initial TSN.
     pub fn cumulative_tsn_ack_point(&self) -> u32
         ensures { result ≡ cumulative_tsn_ack_point_of self.now.sender }
     {

@@ -303,7 +303,8 @@ impl<'a> Stream<'a> {
     }
 
     /// In bytes, at first 0: a SACK that takes the buffered amount from above it to it or below is told as
-    /// `StreamEvent::BufferedAmountLow`, once for all that it releases. Refused: `ErrAssociationFailed`, `ErrStreamClosed`.
+    /// `StreamEvent::BufferedAmountLow`, once for all that it releases. Refused: `ErrAssociationFailed`,
+    /// `ErrStreamClosed`.
     pub fn buffered_amount_low_threshold(&self) -> Result<usize, Error>
         ensures { result ≡ value_of (λ s. s.low_mark) (lent self.now) (id_of self.now) }
     {

@@ -16,8 +16,8 @@ abbrev pub is_left : Option ℕ → ℕ → ℕ → Bool
 is_left None first count = false
 is_left (Some exit) first count = nat_lt (tsn_past first exit) count
 
--- Before the first n in flight are acknowledged cumulatively: a loss is recovered from once the TSN is one of those that
--- was the highest that a SACK newly acknowledged when the loss was found.
+-- Before the first n in flight are acknowledged cumulatively: a loss is recovered from once the TSN is one of those
+-- that was the highest that a SACK newly acknowledged when the loss was found.
 abbrev pub past_recovery : ℕ → Sender → Sender
 past_recovery n s =
     record s { recovery_exit = (if is_left s.recovery_exit s.queue.first_tsn n then None else s.recovery_exit) }
@@ -38,8 +38,8 @@ missing_of moved last s =
 abbrev pub finds_loss : ℕ → Sender → Bool
 finds_loss n s = list_any is_third_report (take n s.queue.in_flight) && not (recovers s)
 
--- the first n in flight are reported missing, and where that finds a loss the congestion window falls and the TSN behind
--- them ends the recovery
+-- the first n in flight are reported missing, and where that finds a loss the congestion window falls and the TSN
+-- behind them ends the recovery
 abbrev pub with_reports : ℕ → Sender → Sender
 with_reports n s = record s {
   queue = with_missing n s.queue;

@@ -29,7 +29,8 @@ impl Sender {
     /// until then are released at their streams. Blocks may overlap, stand in any order and be empty; offsets past what
     /// is in flight name nothing. Goes over the offsets that the blocks name and that are in flight, block by block in
     /// their order, and over nothing else; an offset that several blocks name is gone over once for each of them.
-    /// Streams that fall to their low mark are gathered. Answers the last place that is acknowledged for the first time.
+    /// Streams that fall to their low mark are gathered. Answers the last place that is acknowledged for the first
+    /// time.
     pub fn acknowledge_blocks(
         &mut self,
         rto: &mut RtoManager,

@@ -189,9 +189,9 @@ impl Sender {
         }
     }
 
-    // The retransmission timer after a SACK: its retries are forgotten where a TSN is acknowledged for the first time, it
-    // begins anew where the first outstanding one is, stops where nothing is left in flight, and runs where something is
-    // (RFC 4960 section 6.3.2).
+    // The retransmission timer after a SACK: its retries are forgotten where a TSN is acknowledged for the first time,
+    // it begins anew where the first outstanding one is, stops where nothing is left in flight, and runs where
+    // something is (RFC 4960 section 6.3.2).
     fn run_t3(&self, timers: &mut TimerTable, rto: &RtoManager, progress: Progress, now: Instant)
         ensures { timers.new ≡ t3_after_sack progress (length self.now.queue.in_flight) now rto.now.rto timers.old }
     {
@@ -299,11 +299,11 @@ impl Sender {
         self.congestion.on_t3_timeout(self.mtu);
     }
 
-    /// Sends marked DATA again, in TSN order (RFC 4960 section 6.3.3): at each call as many bytes of payload as the lesser
-    /// of the congestion window and what is left of the peer's window. What earlier calls sent again is not taken off,
-    /// and it may be several packets. Where the peer's window is too small for the first TSN in flight, that one goes
-    /// alone. It lacks memory only where a chunk is sent again. Goes over what is in flight until no more of it is
-    /// marked, so over nothing where nothing is.
+    /// Sends marked DATA again, in TSN order (RFC 4960 section 6.3.3): at each call as many bytes of payload as the
+    /// lesser of the congestion window and what is left of the peer's window. What earlier calls sent again is not
+    /// taken off, and it may be several packets. Where the peer's window is too small for the first TSN in flight, that
+    /// one goes alone. It lacks memory only where a chunk is sent again. Goes over what is in flight until no more of
+    /// it is marked, so over nothing where nothing is.
     pub fn resend_marked(&mut self, out: &mut DataPackets) -> Result<(), AllocError>
         ensures sender { OnOk result (self.new ≡ after_marked self.old) }
         ensures chunks { OnOk result (out.new ≡ with_all out.old (marked_by self.old)) }
@@ -318,9 +318,9 @@ impl Sender {
         Ok(())
     }
 
-    /// Sends again, where fast retransmission is due, one packet of the DATA that was sent once and is missing (RFC 4960
-    /// section 7.2.4), and answers how many chunks. It lacks memory only where a chunk is sent again. Goes over what is
-    /// in flight.
+    /// Sends again, where fast retransmission is due, one packet of the DATA that was sent once and is missing (RFC
+    /// 4960 section 7.2.4), and answers how many chunks. It lacks memory only where a chunk is sent again. Goes over
+    /// what is in flight.
     pub fn resend_missing(&mut self, out: &mut DataPackets) -> Result<u64, AllocError>
         ensures count { IfOk result (λ count. count ≡ length (missing_by self.old)) }
         ensures sender { OnOk result (self.new ≡ after_missing self.old) }
@@ -450,8 +450,8 @@ impl Sender {
         }
     }
 
-    // Sends pieces that wait, in the order in which they were accepted, while both windows allow it. Answers whether any
-    // was sent.
+    // Sends pieces that wait, in the order in which they were accepted, while both windows allow it. Answers whether
+    // any was sent.
     fn send_within(&mut self, out: &mut DataPackets, now: Instant) -> Result<bool, AllocError>
         ensures sender { OnOk result
             ((sent_within (pieces_waiting self.old.queue.pending) self.old now).0 ≡ self.new) }
@@ -505,8 +505,8 @@ impl Sender {
     }
 }
 
-// Gives an acknowledged piece's bytes back to its stream, those that were outstanding until then. Where the stream falls
-// to its low mark it is gathered.
+// Gives an acknowledged piece's bytes back to its stream, those that were outstanding until then. Where the stream
+// falls to its low mark it is gathered.
 pub(crate) fn release(streams: &mut Streams, fallen: &mut Fallen, piece: &InFlight)
     ensures released { streams.new ≡
         released_in streams.old piece.now.message.stream_identifier piece.now.message.generation

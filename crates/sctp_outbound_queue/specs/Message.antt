@@ -93,8 +93,8 @@ marked_again p = if is_outstanding p then record p { retransmit = true } else p
 abbrev pub one_sending_more : ℕ → ℕ
 one_sending_more count = min (count + 1) (2 ^ 32 - 1)
 
--- a piece is sent again for this reason: it is marked by the timer, or it was sent once and reported missing three times
--- (RFC 4960 sections 6.3.3 and 7.2.4)
+-- a piece is sent again for this reason: it is marked by the timer, or it was sent once and reported missing three
+-- times (RFC 4960 sections 6.3.3 and 7.2.4)
 abbrev pub picks : Retransmission → InFlight → Bool
 picks causes.Timer p = p.retransmit
 picks causes.Fast p = is_outstanding p && p.sent_count == 1 && nat_le 3 p.misses

@@ -167,8 +167,8 @@ fn mark_each(pieces: &mut [InFlight])
     }
 }
 
-// The first `count` pieces are reported missing. Answers whether it was the third report of one of them. Where there are
-// none nothing is gone over or moved.
+// The first `count` pieces are reported missing. Answers whether it was the third report of one of them. Where there
+// are none nothing is gone over or moved.
 pub(crate) fn report_missing(pieces: &mut VecDeque<InFlight>, count: usize) -> bool
     ensures third { result ≡ list_any is_third_report (take count pieces.old.items) }
     ensures counted { pieces.new.items ≡

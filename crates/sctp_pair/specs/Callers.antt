@@ -221,8 +221,8 @@ HoldsOn Law more answers p =
 
 -- Where little is accepted at all
 
--- Each side accepted fewer than 16,384 pieces in all of these steps, where A puts at most size_a bytes of a message into
--- a piece, B at most size_b.
+-- Each side accepted fewer than 16,384 pieces in all of these steps, where A puts at most size_a bytes of a message
+-- into a piece, B at most size_b.
 pub record AcceptFew (size_a size_b : ℕ) (ss : List Step) (rs : List Reply) : Type 0 where
   pub of_a : accepted_in size_a sides.A ss rs < 16384
   pub of_b : accepted_in size_b sides.B ss rs < 16384

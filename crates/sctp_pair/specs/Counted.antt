@@ -87,8 +87,8 @@ pub record AreFew (t : Tally) (initial_a initial_b : ℕ) (begin : Ends) : Type 
   pub of_a : IsFew t.pieces_a t.unread_a initial_a begin.a
   pub of_b : IsFew t.pieces_b t.unread_b initial_b begin.b
 
--- A pair fits a world that the tally counts: the messages that were accepted have at most so many pieces, and at most so
--- many of them were not read.
+-- A pair fits a world that the tally counts: the messages that were accepted have at most so many pieces, and at most
+-- so many of them were not read.
 pub record FitsCounted (t : Tally) (p : Ends) (w : World) : Type 0 where
   pub fits : Fits p w
   pub of_a : HasAccepted t.pieces_a w.ab

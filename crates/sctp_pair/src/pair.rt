@@ -234,9 +234,10 @@ impl Pair {
     /// 16,384 pieces in all.
     ///
     /// On each stream that no `SetReliabilityParams` of the writer's side had send other messages than ordered,
-    /// reliable ones, the messages that one side's reads answered are, in order, a prefix of those that the other side's
-    /// accepted writes gave (`front`). On every stream, each of them is one of those, whole, and none comes twice
-    /// (`written`). Nothing is read at a side before the first delivery to it that is answered `Done` (`undelivered`).
+    /// reliable ones, the messages that one side's reads answered are, in order, a prefix of those that the other
+    /// side's accepted writes gave (`front`). On every stream, each of them is one of those, whole, and none comes
+    /// twice (`written`). Nothing is read at a side before the first delivery to it that is answered `Done`
+    /// (`undelivered`).
     ///
     /// More is said over worlds, which docs/MODEL.md has in words. From each world that the pair fits, the steps lead
     /// from world to world, in each of which the pair stands. As long as each so far is within the limits, it is safe

@@ -51,8 +51,8 @@ pub record FitsNoMessage (a : Shown) (h : History) (piece : ChunkPayloadData) : 
 abbrev pub IsUnreadable : StreamView → Type 0
 IsUnreadable t = is_read_half_open t.halves ≡ true → ready t.reassembly ≡ []
 
--- Of a receive buffer of this size: as many bytes wait, none of them is past a gap, and no stream whose read half is open
--- has a message that is ready. Nothing more can come in order, and nothing can be read.
+-- Of a receive buffer of this size: as many bytes wait, none of them is past a gap, and no stream whose read half is
+-- open has a message that is ready. Nothing more can come in order, and nothing can be read.
 pub record IsFullForGood (size : ℕ) (p : Parts) : Type 0 where
   pub full : size ≤ bytes_waiting p.streams
   pub some : 0 < bytes_waiting p.streams

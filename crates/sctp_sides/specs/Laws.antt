@@ -84,8 +84,8 @@ abbrev pub BundlesFitThePacket : Type 0
 BundlesFitThePacket = (a : Shown) (now : ℕ)
     → AllByRecursion (IsShortOrAlone (header_of a.handshake) a.sender.mtu) (data_polled a now).1
 
--- A poll that gives a TSN to new DATA leaves no more bytes outstanding than the congestion window has, or exactly one piece
--- in flight, as a probe is (RFC 4960 section 6.1, rules A and B). The window is a number of 32 bits, as
+-- A poll that gives a TSN to new DATA leaves no more bytes outstanding than the congestion window has, or exactly one
+-- piece in flight, as a probe is (RFC 4960 section 6.1, rules A and B). The window is a number of 32 bits, as
 -- `Association::cwnd` is. Of the peer's window and of DATA that goes again this says nothing.
 abbrev pub NewDataStaysInTheCongestionWindow : Type 0
 NewDataStaysInTheCongestionWindow = (a : Shown) (now : ℕ) → a.sender.congestion.cwnd < 2 ^ 32
@@ -138,8 +138,8 @@ pub record TellsNothing (a b : Shown) : Type 0 where
   pub lost : b.lost ≡ a.lost
   pub events : b.events ≡ a.events
 
--- No write, setting, limit, opened or accepted stream, poll for packets or timer closes an association. A write may be told
--- as an event, but as no loss.
+-- No write, setting, limit, opened or accepted stream, poll for packets or timer closes an association. A write may be
+-- told as an event, but as no loss.
 abbrev pub WritesDoNotClose : Type 0
 WritesDoNotClose = (a : Shown) (id : ℕ) (named : Option PayloadProtocolIdentifier) (bytes : List ℕ)
     → DoesNotClose a (written a id named bytes)

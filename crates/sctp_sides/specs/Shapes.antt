@@ -90,8 +90,8 @@ AcceptedStreamsKeepTheStatus =
 abbrev pub with_read : Shown → ℕ → Shown
 with_read a id = record a { streams = (read_in a.streams id).0 }
 
--- A read leaves the status and whatever else but streams, unless it leaves the receive buffer exhausted, and then that is
--- what closes.
+-- A read leaves the status and whatever else but streams, unless it leaves the receive buffer exhausted, and then that
+-- is what closes.
 pub record ReadsOn (a : Shown) (id : ℕ) : Type 0 where
   pub same : IsSameStatus a (with_read a id)
   pub plainly : read_exhausts a id ≡ false → (read_from_stream a id).0 ≡ with_read a id

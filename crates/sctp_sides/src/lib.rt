@@ -42,8 +42,8 @@ pub fn bundles_fit_the_packet()
     ensures bundles { BundlesFitThePacket }
 {}
 
-/// Windows: new DATA leaves no more bytes outstanding than the congestion window has, or exactly one piece in flight (RFC
-/// 4960 section 6.1, rule B).
+/// Windows: new DATA leaves no more bytes outstanding than the congestion window has, or exactly one piece in flight
+/// (RFC 4960 section 6.1, rule B).
 pub fn new_data_stays_in_the_congestion_window()
     ensures window { NewDataStaysInTheCongestionWindow }
 {}

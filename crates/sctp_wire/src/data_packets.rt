@@ -66,8 +66,8 @@ impl DataPackets {
         }
     }
 
-    /// Adds DATA behind the last one, in the same packet where it has room, and else as the first of the next packet. DATA
-    /// that is longer than its length field can say is left out.
+    /// Adds DATA behind the last one, in the same packet where it has room, and else as the first of the next packet.
+    /// DATA that is longer than its length field can say is left out.
     pub fn add(&mut self, piece: &ChunkPayloadData) -> Result<(), AllocError>
         ensures { OnOk result (self.new ≡ with_data self.old piece.now) }
     {
@@ -89,8 +89,8 @@ impl DataPackets {
         self.current.len().max(COMMON_HEADER) + length <= self.mtu as usize
     }
 
-    /// Ends the packet that is being written; the next DATA begins a new one. It lacks memory only where a packet is being
-    /// written.
+    /// Ends the packet that is being written; the next DATA begins a new one. It lacks memory only where a packet is
+    /// being written.
     pub fn close(&mut self) -> Result<(), AllocError>
         ensures exact { OnOk result (self.new ≡ closed self.old) }
         ensures grows { OnErr result (nat_lt 0 (length self.old.current) ≡ true) }

@@ -76,7 +76,8 @@ fn the_greatest_message_is_set(rt: HostRuntime) -> Result<(), Fail> {
     Ok(())
 }
 
-/// What A's 3,601 bytes do to B, whose buffer has 2,000: two packets go out, and then nothing of it can be read or come.
+/// What A's 3,601 bytes do to B, whose buffer has 2,000: two packets go out, and then nothing of it can be read or
+/// come.
 static EXHAUSTING_STEPS: &str =
     "send A 0\ndeliver B 0 0\ntime B 200\nsend B 200\ndeliver A 0 200\nsend A 200\ndeliver B 1 200\nsend B 200\ndeliver A 1 200\nevent A\nevent A\nevent A\nevent A\nevent B\nevent B\nevent B\nevent B\nevent B\nevent B\nevent B\n";
 

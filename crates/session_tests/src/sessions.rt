@@ -198,7 +198,8 @@ buffered A 1=0
 deadline A=none
 ";
 
-/// Streams are listed, accepted once each and finished, a message has a payload type of its own, and a close is told once.
+/// Streams are listed, accepted once each and finished, a message has a payload type of its own, and a close is told
+/// once.
 static CALLS: &str = "\
 snap 1200 100 500=ok
 open A 1 53=ok
