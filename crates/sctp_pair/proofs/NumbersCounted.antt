@@ -1,9 +1,9 @@
 -- Distinct numbers below a bound that pass a test are no more than all numbers there that pass it; and of messages,
 -- those whose numbers pass a test that no ordered one from a number on passes.
 use Rattle.std.proofs.Common.{◌≡◌, refl, sym, ap, ◌∙◌, subst, ⊎_elim, ℕ, zero, suc, ◌+◌, ◌<◌, ◌≤◌, arith, Bool, true}
-use Rattle.std.proofs.Common.{false, not, eqb, ◌&&◌, ◌||◌, cond, List, [], ◌∷◌, drop, get_or, length}
+use Rattle.std.proofs.Common.{false, not, eqb, ◌&&◌, cond, List, [], ◌∷◌, drop, get_or, length}
 use Rattle.std.specs.List.{AllByRecursion}
-use Rattle.std.proofs.lemmas.Bool.{and_parts, cases_Bool, cases_lt, eq-eqb, eqb-true, or_parts, true≢false}
+use Rattle.std.proofs.lemmas.Bool.{and_parts, cases_lt, eq-eqb, or_parts}
 use Rattle.sctp_model.specs.Messages.{Message, count_ordered, no_message}
 use Rattle.sctp_model.specs.Packets.{mem}
 use Rattle.sctp_model.specs.Safe.{AreDistinct}

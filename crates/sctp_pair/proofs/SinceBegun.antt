@@ -6,15 +6,14 @@ use Rattle.std.proofs.lemmas.Bool.{cases_Bool, true≢false}
 use Rattle.sctp_serial.specs.Serial.{tsn, tsn_past}
 use Rattle.sctp_model.specs.Messages.{Place}
 use Rattle.sctp_model.specs.Machine.{Direction}
-use Rattle.sctp_model.specs.Safe.{IsWithin}
 use Rattle.sctp_assoc.specs.Shown.{Shown}
 use Rattle.sctp_pair.specs.declared.step.Reply.{Reply}
 use Rattle.sctp_pair.specs.declared.step.Side2.{Side2}
 use Rattle.sctp_pair.specs.declared.step.Step.{Step}
-use Rattle.sctp_pair.specs.Counted.{IsFew, IsPresent, acknowledged_of}
+use Rattle.sctp_pair.specs.Counted.{IsPresent, acknowledged_of}
 use Rattle.sctp_pair.specs.Ends.{Ends, end_of}
 use Rattle.sctp_pair.specs.Fits.{Stands, StandsClosed, StandsFailed, StandsOpen}
-use Rattle.sctp_pair.specs.World.{IsDirectionStep, IsOpen, IsWorldStep, World, other_side}
+use Rattle.sctp_pair.specs.World.{IsDirectionStep, IsOpen, World, other_side}
 use Rattle.sctp_pair.proofs.Promised.{stands_open}
 
 -- Of a side that was a when a call began, now between these directions; `initial` is its initial TSN.

@@ -7,11 +7,11 @@ use Rattle.std.specs.List.{AllByRecursion}
 use Rattle.std.proofs.lemmas.Bool.{cases_Bool, cond-false, cond-true, le-ltb, lt-ltb, or_parts}
 use Rattle.std.proofs.lemmas.List.{length-map}
 use Rattle.std.proofs.Math.Bool.{or-true}
-use Rattle.sctp_model.specs.Messages.{Message, Plan}
+use Rattle.sctp_model.specs.Messages.{Plan}
 use Rattle.sctp_model.specs.Packets.{mem}
-use Rattle.sctp_model.specs.Reassembly.{Got, Queue}
+use Rattle.sctp_model.specs.Reassembly.{Got}
 use Rattle.sctp_model.specs.Machine.{Direction, live}
-use Rattle.sctp_model.specs.Invariants.{Invariant, IsGot, IsStream, numbers_of}
+use Rattle.sctp_model.specs.Invariants.{Invariant, IsGot, numbers_of}
 use Rattle.sctp_model.specs.Safe.{AreDistinct, is_ordered, number_of, read_end, unread}
 use Rattle.sctp_model.proofs.Lists.{all_front}
 use Rattle.sctp_fit.proofs.CountsBelow.{count_of}

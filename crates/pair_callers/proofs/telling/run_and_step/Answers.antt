@@ -12,6 +12,6 @@ returns c =
     } in
     record {
       front = λ few. law_of_one_more ReadsAreFronts m c.args.steps.now c.in_ok-replies.replies.items c.args.last.now
-          c.step-reply.result c.in_ok-pair.pair c.in_ok-replies.new.self c.step-reply.new.self c.in_ok-pair.ensures.new
+          c.step-reply.result c.in_ok-pair.pair c.run.new.self c.step-reply.new.self c.in_ok-pair.ensures.new
           c.in_ok-replies.ensures.ok c.step-reply.ensures.exact c.in_ok-replies.ensures.came c.step-reply.ensures.front few;
     }

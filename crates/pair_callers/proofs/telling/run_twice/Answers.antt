@@ -3,7 +3,7 @@ use Rattle.pair_callers.proofs.telling.run_twice.Goals as goal
 
 pub returns : goal.returns
 returns c = record {
-  between = c.in_ok-answers.new.self;
+  between = c.run.new.self;
   first_led = c.in_ok-answers.ensures.ok;
   second_led = c.in_ok-replies.ensures.ok;
   hold = λ m ss rs came few then.
