@@ -1,0 +1,3 @@
+mod CutsLeft
+mod MadeClients
+mod TimersMet

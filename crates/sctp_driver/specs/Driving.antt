@@ -1,0 +1,32 @@
+-- A driver as its contracts see it.
+use Rattle.std.specs.Prelude.{◌≡◌, ℕ, List, []}
+use Rattle.sctp_wire_types.specs.declared.ids.PayloadProtocolIdentifier.{PayloadProtocolIdentifier}
+use Rattle.sctp_assoc.specs.Shown.{HasFailed, Shown, answers_of}
+
+-- a message that was taken out of the association and not read yet: its stream, its payload type (RFC 4960 section
+-- 10.1) and its bytes
+pub record KeptMessage : Type 0 where
+  pub stream : ℕ
+  pub payload_type : PayloadProtocolIdentifier
+  pub bytes : List ℕ
+
+pub record Driving : Type 0 where
+  pub association : Shown
+  -- this side's verification tag
+  pub own_tag : ℕ
+  -- the datagrams that wait to go out, oldest first
+  pub waiting : List (List ℕ)
+  -- the messages that wait for a buffer that is long enough, oldest first; of each stream at most the next one
+  pub kept : List KeptMessage
+
+-- nothing but the association changed
+abbrev pub with_association : Driving → Shown → Driving
+with_association d a = record d { association = a }
+
+-- a driver before its first call: nothing waits at it
+abbrev pub begun_with : Shown → ℕ → Driving
+begun_with a tag = record { association = a; own_tag = tag; waiting = []; kept = [] }
+
+-- the association found no memory in the middle of the call and failed, and nothing else changed
+abbrev pub Fails : Driving → Driving → Type 0
+Fails d e = (e ≡ with_association d e.association) × HasFailed (answers_of d.association) e.association

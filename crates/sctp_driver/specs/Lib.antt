@@ -1,0 +1,5 @@
+pub mod Driving
+pub mod Messages
+pub mod Sending
+pub mod Streams
+pub mod Tags

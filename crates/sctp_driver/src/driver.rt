@@ -1,0 +1,359 @@
+// A driver: how it is made, and its calls with datagrams and moments.
+ghost use Rattle.std.specs.Prelude.{◌≡◌, ◌≢◌, ◌↔◌, ◌⊎◌, [], None, Err, IsErrOf, IfOk, OnErr, OnOk, false, true};
+ghost use Rattle.sctp_wire.specs.Packets.{finished};
+ghost use Rattle.sctp_parts.specs.Timers.{least_moment};
+ghost use Rattle.sctp_assoc.specs.Calls.{RefusesOrLacksMemory, event_polled, failed_refusal, is_established};
+ghost use Rattle.sctp_assoc.specs.Chunks.{after_packet};
+ghost use Rattle.sctp_assoc.specs.Closing.{closed_by, is_closed_state};
+ghost use Rattle.sctp_assoc.specs.Created.{client, create_refusal, join_refusal, joined, server};
+ghost use Rattle.sctp_assoc.specs.Gather.{has_something_to_give};
+ghost use Rattle.sctp_assoc.specs.Inbound.{taken_packet};
+ghost use Rattle.sctp_assoc.specs.Timeouts.{after_timeouts, handshake_goes_out_again};
+ghost use Rattle.sctp_driver.specs.Driving.{Fails, begun_with, with_association};
+ghost use Rattle.sctp_driver.specs.Sending.{Sends, asked};
+ghost use Rattle.sctp_driver.specs.Tags.{answer_to, begins, judged_packet, packet_in};
+
+use crate::messages::Kept;
+use crate::sending::{Sent, packets_in, take_first};
+use crate::tags::{Received, first_chunk, judge};
+use bytes::Bytes;
+use sctp_assoc::{
+    Association, AssociationError, AssociationEvent, AssociationState, ChunkInit, Error, Event,
+    Instant, PartialDecode, Payload, ServerConfig, Transmit, TransportConfig,
+};
+use std::alloc::Global;
+use std::collections::VecDeque;
+use std::marker::Model;
+use std::net::{IpAddr, Ipv4Addr, SocketAddr};
+
+/// One association, the datagrams that wait to go out, and the messages that wait for a buffer that is long enough.
+/// Moments are nanoseconds. Addresses are not its business: it is for datagrams of one peer.
+///
+/// A call that finds no memory may leave the association failed; `is_failed` says it. Then every call that asks the
+/// association for a `Result` answers `ErrAssociationFailed` and changes nothing.
+#[derive(Drop)]
+pub struct Driver {
+    pub(crate) alloc: Global,
+    pub(crate) association: Association,
+    own_tag: u32,
+    waiting: VecDeque<Bytes>,
+    pub(crate) kept: VecDeque<Kept>,
+}
+
+impl Model for Driver {
+    ghost use Rattle.sctp_driver.specs.Driving.{Driving};
+
+    ghost Value = { Driving };
+
+    ghost view = { λ d. record {
+      association = d.association;
+      own_tag = d.own_tag;
+      waiting = d.waiting.items;
+      kept = d.kept.items;
+    } };
+}
+
+impl Driver {
+    /// Makes a client, whose INIT waits for the next `poll_transmit`; the timer of it runs from `now` (RFC 4960
+    /// section 5.1). `max_payload_size` is the greatest payload of one DATA chunk, in bytes, 1 to 65,519. `local_tag`
+    /// is this side's verification tag (a peer refuses 0), `initial_tsn` its first TSN and `cookie` its State Cookie:
+    /// nobody else should be able to guess them.
+    ///
+    /// Refused, in this order: `ErrBadPayloadSize`, `ErrBadInitialTsn` for the `initial_tsn` 0, `ErrNoMemory`.
+    pub fn client(
+        alloc: Global,
+        config: &TransportConfig,
+        max_payload_size: u32,
+        local_tag: u32,
+        initial_tsn: u32,
+        cookie: [u8; 32],
+        now: u64,
+    ) -> Result<Driver, Error>
+        ensures refused { RefusesOrLacksMemory result (create_refusal max_payload_size initial_tsn) }
+        ensures created { IfOk result (λ d. d ≡ begun_with (client config.now max_payload_size local_tag initial_tsn
+            cookie d.association.remote_addr None now) local_tag) }
+    {
+        let association = Association::new(
+            alloc,
+            None,
+            config,
+            max_payload_size,
+            local_tag,
+            initial_tsn,
+            cookie,
+            nowhere(),
+            None,
+            Instant::from_nanos(now),
+        )?;
+        Ok(Driver::of(alloc, association, local_tag))
+    }
+
+    /// Makes a server, which waits for an INIT (RFC 4960 section 5.1). The arguments are those of `client`.
+    ///
+    /// Refused, in this order: `ErrBadPayloadSize`, `ErrBadInitialTsn` for the `initial_tsn` 0, `ErrNoMemory`.
+    pub fn server(
+        alloc: Global,
+        config: &TransportConfig,
+        max_payload_size: u32,
+        local_tag: u32,
+        initial_tsn: u32,
+        cookie: [u8; 32],
+        now: u64,
+    ) -> Result<Driver, Error>
+        ensures refused { RefusesOrLacksMemory result (create_refusal max_payload_size initial_tsn) }
+        ensures created { IfOk result (λ d. d ≡ begun_with (server config.now max_payload_size local_tag initial_tsn
+            cookie d.association.remote_addr None) local_tag) }
+    {
+        let of_server = ServerConfig::default();
+        let association = Association::new(
+            alloc,
+            Some(&of_server),
+            config,
+            max_payload_size,
+            local_tag,
+            initial_tsn,
+            cookie,
+            nowhere(),
+            None,
+            Instant::from_nanos(now),
+        )?;
+        Ok(Driver::of(alloc, association, local_tag))
+    }
+
+    /// Makes a side that is established at once, by the two sides' INIT chunks (tokens), which were exchanged in
+    /// another way. `Event::Connected` waits for `poll_event`. `max_payload_size` is that of `client`.
+    ///
+    /// Refused, in this order: `ErrBadPayloadSize`; `ErrBadToken` where a token has an initiate tag 0, a number of
+    /// streams 0 or a window below 1500 bytes (RFC 4960 section 3.3.2); `ErrNoMemory`.
+    pub fn joined(
+        alloc: Global,
+        config: &TransportConfig,
+        max_payload_size: u32,
+        local_token: &ChunkInit,
+        remote_token: &ChunkInit,
+    ) -> Result<Driver, Error>
+        ensures refused { RefusesOrLacksMemory result
+            (join_refusal max_payload_size local_token.now remote_token.now) }
+        ensures joined { IfOk result (λ d. d ≡ begun_with (joined config.now max_payload_size
+            d.association.remote_addr None local_token.now remote_token.now) local_token.now.initiate_tag) }
+    {
+        let association = Association::new_with_out_of_band_init(
+            alloc,
+            config,
+            max_payload_size,
+            nowhere(),
+            None,
+            local_token,
+            remote_token,
+        )?;
+        Ok(Driver::of(alloc, association, local_token.initiate_tag))
+    }
+
+    fn of(alloc: Global, association: Association, own_tag: u32) -> Driver
+        ensures { result ≡ begun_with association own_tag }
+    {
+        Driver {
+            alloc,
+            association,
+            own_tag,
+            waiting: VecDeque::new(alloc),
+            kept: VecDeque::new(alloc),
+        }
+    }
+
+    /// Takes in one datagram that came at `now`, in nanoseconds. One that is no packet, whose verification tag RFC 4960
+    /// section 8.5 does not accept, or that is an INIT past the handshake, is left and changes nothing. An ABORT or a
+    /// SHUTDOWN COMPLETE may have the peer's tag and its T bit set (section 8.5.1).
+    ///
+    /// Errors: `ErrAssociationFailed`, with nothing changed; `ErrNoMemory`, which leaves all as it was, or the
+    /// association failed where it was at reading the packet.
+    pub fn handle_datagram(&mut self, now: u64, datagram: &[u8]) -> Result<Received, Error>
+        ensures answer { IfOk result (λ answer. answer ≡ answer_to self.old datagram.now) }
+        ensures left { answer_to self.old datagram.now ≢ Received.Taken → self.new ≡ self.old }
+        ensures taken { OnOk result (answer_to self.old datagram.now ≡ Received.Taken → self.new
+            ≡ with_association self.old (after_packet self.old.association (packet_in datagram.now) now)) }
+        ensures failed { IsErrOf result Error.ErrAssociationFailed ↔ (self.old.association.failed ≡ true) }
+        ensures refused { IsErrOf result Error.ErrAssociationFailed → self.new ≡ self.old }
+        ensures memory { IsErrOf result Error.ErrNoMemory → (self.new ≡ self.old) ⊎ Fails self.old self.new }
+        ensures only { OnErr result ((result ≡ Err Error.ErrAssociationFailed) ⊎ (result ≡ Err Error.ErrNoMemory)) }
+    {
+        if self.association.is_failed() {
+            return Err(Error::ErrAssociationFailed);
+        }
+        let bytes = Bytes::copy_from_slice(self.alloc, datagram)?;
+        let packet = match PartialDecode::unmarshal(&bytes) {
+            Ok(packet) => packet,
+            Err(Error::ErrNoMemory) => return Err(Error::ErrNoMemory),
+            Err(_) => return Ok(Received::NoPacket),
+        };
+        match self.judge(&packet) {
+            Received::Taken => {
+                self.take_in(now, packet)?;
+                Ok(Received::Taken)
+            }
+            left => Ok(left),
+        }
+    }
+
+    fn judge(&self, packet: &PartialDecode) -> Received
+        ensures { result ≡ judged_packet self.now packet.now }
+    {
+        judge(
+            first_chunk(packet.remaining.as_slice()),
+            packet.common_header.verification_tag,
+            self.own_tag,
+            self.association.peer_tag(),
+            begins(&self.association),
+        )
+    }
+
+    fn take_in(&mut self, now: u64, packet: PartialDecode) -> Result<(), Error>
+        ensures ok { OnOk result (self.new
+            ≡ with_association self.old (after_packet self.old.association (taken_packet (finished packet)) now)) }
+        ensures failed { IsErrOf result Error.ErrAssociationFailed ↔ (self.old.association.failed ≡ true) }
+        ensures refused { IsErrOf result Error.ErrAssociationFailed → self.new ≡ self.old }
+        ensures memory { IsErrOf result Error.ErrNoMemory → Fails self.old self.new }
+        ensures only { OnErr result ((result ≡ Err Error.ErrAssociationFailed) ⊎ (result ≡ Err Error.ErrNoMemory)) }
+    {
+        self.association.handle_event(AssociationEvent::datagram(Transmit {
+            now: Instant::from_nanos(now),
+            remote: nowhere(),
+            payload: Payload::PartialDecode(packet),
+            ecn: None,
+            local_ip: None,
+        }))
+    }
+
+    /// Copies the next datagram that is due at `now`, in nanoseconds, to the front of the buffer and takes it out.
+    /// Where the buffer is shorter the datagram waits on, and `NoRoom` says how long it is. Call it until it answers
+    /// `Nothing`. The association is asked only where no datagram waits in the driver.
+    ///
+    /// Errors, only where none waits: `ErrAssociationFailed`, with nothing changed; `ErrNoMemory`, only where there is
+    /// something to give, after which the association is failed and the packets of this poll are lost.
+    pub fn poll_transmit(&mut self, now: u64, buffer: &mut [u8]) -> Result<Sent, Error>
+        ensures ok { IfOk result
+            (λ answer. Sends (asked self.old now) buffer.old answer self.new buffer.new) }
+        ensures failed { IsErrOf result Error.ErrAssociationFailed
+            ↔ ((self.old.waiting ≡ []) × (self.old.association.failed ≡ true)) }
+        ensures refused { IsErrOf result Error.ErrAssociationFailed → self.new ≡ self.old }
+        ensures memory { IsErrOf result Error.ErrNoMemory → Fails self.old self.new }
+        ensures given { IsErrOf result Error.ErrNoMemory
+            → has_something_to_give self.old.association now ≡ true }
+        ensures only { OnErr result ((result ≡ Err Error.ErrAssociationFailed) ⊎ (result ≡ Err Error.ErrNoMemory)) }
+        ensures unfilled { OnErr result (buffer.new ≡ buffer.old) }
+    {
+        self.ask(now)?;
+        Ok(take_first(&mut self.waiting, buffer))
+    }
+
+    // Where no datagram waits, asks the association for those that are due.
+    fn ask(&mut self, now: u64) -> Result<(), Error>
+        ensures ok { OnOk result (self.new ≡ asked self.old now) }
+        ensures failed { IsErrOf result Error.ErrAssociationFailed
+            ↔ ((self.old.waiting ≡ []) × (self.old.association.failed ≡ true)) }
+        ensures refused { IsErrOf result Error.ErrAssociationFailed → self.new ≡ self.old }
+        ensures memory { IsErrOf result Error.ErrNoMemory → Fails self.old self.new }
+        ensures given { IsErrOf result Error.ErrNoMemory
+            → has_something_to_give self.old.association now ≡ true }
+        ensures only { OnErr result ((result ≡ Err Error.ErrAssociationFailed) ⊎ (result ≡ Err Error.ErrNoMemory)) }
+    {
+        if !self.waiting.is_empty() {
+            return Ok(());
+        }
+        let given = self.association.poll_transmit(Instant::from_nanos(now))?;
+        self.waiting = packets_in(self.alloc, given);
+        Ok(())
+    }
+
+    /// The moment at which the next timer expires, in nanoseconds; None where no timer runs. Where it is not after now,
+    /// `handle_timeout` is due.
+    pub fn poll_timeout(&self) -> Option<u64>
+        ensures { result ≡ least_moment self.now.association.timers }
+    {
+        match self.association.poll_timeout() {
+            Some(moment) => Some(moment.as_nanos()),
+            None => None,
+        }
+    }
+
+    /// Does what the timers that expired by `now`, in nanoseconds, ask for, and nothing where none did (RFC 4960
+    /// sections 5.1, 6.2 and 6.3.3). `poll_transmit` gives the packets.
+    ///
+    /// Errors: `ErrAssociationFailed`, with nothing changed, and `ErrNoMemory` only where INIT or COOKIE ECHO is to go
+    /// out again, after which the association is failed.
+    pub fn handle_timeout(&mut self, now: u64) -> Result<(), Error>
+        ensures ok { OnOk result
+            (self.new ≡ with_association self.old (after_timeouts self.old.association now)) }
+        ensures failed { IsErrOf result Error.ErrAssociationFailed ↔ (self.old.association.failed ≡ true) }
+        ensures refused { IsErrOf result Error.ErrAssociationFailed → self.new ≡ self.old }
+        ensures memory { IsErrOf result Error.ErrNoMemory → Fails self.old self.new }
+        ensures again { IsErrOf result Error.ErrNoMemory
+            → handshake_goes_out_again self.old.association now ≡ true }
+        ensures only { OnErr result ((result ≡ Err Error.ErrAssociationFailed) ⊎ (result ≡ Err Error.ErrNoMemory)) }
+    {
+        self.association.handle_timeout(Instant::from_nanos(now))
+    }
+
+    /// Takes out the oldest event; None where none waits. Its one error is `ErrAssociationFailed`, with nothing
+    /// changed.
+    pub fn poll_event(&mut self) -> Result<Option<Event>, Error>
+        ensures ok { IfOk result (λ event. event_polled self.old.association ≡ (self.new.association, event)) }
+        ensures others { self.new ≡ with_association self.old self.new.association }
+        ensures failed { IsErrOf result Error.ErrAssociationFailed ↔ (self.old.association.failed ≡ true) }
+        ensures err { OnErr result ((result ≡ Err Error.ErrAssociationFailed) × (self.new ≡ self.old)) }
+    {
+        self.association.poll()
+    }
+
+    /// Closes the association at once, in any state but Closed; nothing is told to the peer, and each stream ends.
+    /// Datagrams that wait in the driver still go out, and messages that wait in it can be read.
+    ///
+    /// Refused: `ErrAssociationFailed`, with nothing changed; `ErrNoMemory`, which leaves the association failed.
+    pub fn close(&mut self) -> Result<(), Error>
+        ensures refused { RefusesOrLacksMemory result (failed_refusal self.old.association) }
+        ensures ok { OnOk result (self.new
+            ≡ with_association self.old (closed_by self.old.association AssociationError.AssociationClosed)) }
+        ensures unchanged { (result ≡ Err Error.ErrAssociationFailed) → self.new ≡ self.old }
+        ensures memory { (result ≡ Err Error.ErrNoMemory) → Fails self.old self.new }
+        ensures grows { (result ≡ Err Error.ErrNoMemory) → is_closed_state self.old.association.state ≡ false }
+    {
+        self.association.close()
+    }
+
+    /// Whether the state is Established (RFC 4960 section 4): messages can be written.
+    pub fn is_established(&self) -> bool
+        ensures { result ≡ is_established self.now.association.state }
+    {
+        matches!(self.association.state(), AssociationState::Established)
+    }
+
+    /// Whether the state is Closed: that of a server until a handshake establishes it, and of any side after a loss.
+    pub fn is_closed(&self) -> bool
+        ensures { result ≡ is_closed_state self.now.association.state }
+    {
+        self.association.is_closed()
+    }
+
+    /// Whether an earlier call found no memory in its middle. Then the association is over.
+    pub fn is_failed(&self) -> bool
+        ensures { result ≡ self.now.association.failed }
+    {
+        self.association.is_failed()
+    }
+}
+
+// Whether an association is at its handshake.
+fn begins(association: &Association) -> bool
+    ensures { result ≡ begins association.now }
+{
+    !association.is_drained()
+        && matches!(
+            association.state(),
+            AssociationState::Closed | AssociationState::CookieWait | AssociationState::CookieEchoed
+        )
+}
+
+// An address of the documentation range (RFC 5737), which is never looked at.
+fn nowhere() -> SocketAddr {
+    SocketAddr::new(IpAddr::V4(Ipv4Addr::new(192, 0, 2, 1)), 5000)
+}

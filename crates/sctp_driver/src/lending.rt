@@ -1,0 +1,95 @@
+// Calls of one stream of an association, by the stream's identifier.
+ghost use Rattle.std.specs.Prelude.{◌≡◌, length, IfErr, IfOk, OnErr, OnOk};
+ghost use Rattle.sctp_streams.specs.declared.setting.Setting.TheVariants as settings;
+ghost use Rattle.sctp_streams.specs.Stream.{params_of};
+ghost use Rattle.sctp_assoc.specs.Calls.{Refuses, RefusesOrLacksMemory, accepted_stream, adjusted, open_refusal};
+ghost use Rattle.sctp_assoc.specs.Calls.{opened, read_from_stream, stream_refusal, written};
+ghost use Rattle.sctp_driver.specs.Messages.{StopsRead};
+ghost use Rattle.sctp_driver.specs.Streams.{buffered_on, refusal_to_write};
+
+use sctp_assoc::{
+    Association, Chunks, Error, PayloadProtocolIdentifier, ReliabilityType, StreamId,
+};
+
+pub(crate) fn open_stream(
+    association: &mut Association,
+    id: StreamId,
+    payload_type: PayloadProtocolIdentifier,
+) -> Result<(), Error>
+    ensures refused { RefusesOrLacksMemory result (open_refusal association.old id) }
+    ensures ok { OnOk result (association.new ≡ opened association.old id payload_type) }
+    ensures err { OnErr result (association.new ≡ association.old) }
+{
+    match association.open_stream(id, payload_type) {
+        Ok(_) => Ok(()),
+        Err(error) => Err(error),
+    }
+}
+
+pub(crate) fn accept_stream(association: &mut Association) -> Option<StreamId>
+    ensures { accepted_stream association.old ≡ (association.new, result) }
+{
+    match association.accept_stream() {
+        Some(stream) => Some(stream.stream_identifier()),
+        None => None,
+    }
+}
+
+pub(crate) fn write(
+    association: &mut Association,
+    id: StreamId,
+    payload_type: Option<PayloadProtocolIdentifier>,
+    bytes: &[u8],
+) -> Result<usize, Error>
+    ensures refused { RefusesOrLacksMemory result (refusal_to_write association.old id (length bytes.now)) }
+    ensures ok { IfOk result (λ n. n ≡ length bytes.now) }
+    ensures accepted { OnOk result (association.new ≡ written association.old id payload_type bytes.now) }
+    ensures err { OnErr result (association.new ≡ association.old) }
+{
+    let mut stream = association.stream(id)?;
+    match payload_type {
+        None => stream.write(bytes),
+        Some(payload_type) => stream.write_with_ppi(bytes, payload_type),
+    }
+}
+
+pub(crate) fn read(association: &mut Association, id: StreamId) -> Result<Option<Chunks>, Error>
+    ensures ok { IfOk result (λ message. read_from_stream association.old id ≡ (association.new, message)) }
+    ensures err { IfErr result (λ error. StopsRead association.old id error association.new) }
+{
+    let mut stream = association.stream(id)?;
+    stream.read()
+}
+
+pub(crate) fn finish(association: &mut Association, id: StreamId) -> Result<(), Error>
+    ensures refused { Refuses result (stream_refusal association.old id) }
+    ensures ok { OnOk result (association.new ≡ adjusted association.old id settings.WriteHalfClosed) }
+    ensures err { OnErr result (association.new ≡ association.old) }
+{
+    let mut stream = association.stream(id)?;
+    stream.finish()
+}
+
+pub(crate) fn set_reliability_params(
+    association: &mut Association,
+    id: StreamId,
+    unordered: bool,
+    kind: ReliabilityType,
+    value: u32,
+) -> Result<(), Error>
+    ensures refused { Refuses result (stream_refusal association.old id) }
+    ensures ok { OnOk result (association.new
+        ≡ adjusted association.old id (settings.Reliability (params_of unordered kind value))) }
+    ensures err { OnErr result (association.new ≡ association.old) }
+{
+    let mut stream = association.stream(id)?;
+    stream.set_reliability_params(unordered, kind, value)
+}
+
+pub(crate) fn buffered_amount(association: &mut Association, id: StreamId) -> Result<usize, Error>
+    ensures answer { result ≡ buffered_on association.old id }
+    ensures same { association.new ≡ association.old }
+{
+    let stream = association.stream(id)?;
+    stream.buffered_amount()
+}

@@ -1,0 +1,31 @@
+//! One association with what a user of sockets keeps beside it, in numbers and bytes: the datagrams that wait to go
+//! out, the messages that wait for a buffer that is long enough, and the rule of verification tags (RFC 4960 section
+//! 8.5).
+//!
+//! A [`Driver`] is made as a client, as a server, or joined by two tokens. One turn of its loop, at the moment `now`:
+//!
+//! 1. If `poll_timeout` answers a moment that is not after `now`, call `handle_timeout`.
+//! 2. If a datagram came, hand it to `handle_datagram`. One that is no packet, or is not for this association, is left.
+//! 3. Call `poll_event` until it answers None. On `StreamEvent::Readable` call `read` until it answers `Nothing`.
+//! 4. Call `poll_transmit` until it answers `Nothing`, and send each datagram that it gives.
+//! 5. Sleep until the moment that `poll_timeout` answers, or until a datagram comes.
+//!
+//! Moments are nanoseconds from one that the user chooses. Each call is safe in each state and at each moment. What
+//! it refuses it refuses by name, and the page of each call says what is left then.
+#![tactic(auto)]
+
+mod driver;
+mod lending;
+mod messages;
+mod sending;
+mod streams;
+mod tags;
+
+pub use driver::Driver;
+pub use messages::Read;
+pub use sctp_assoc::{
+    ChunkInit, Error, Event, PayloadProtocolIdentifier, ReliabilityType, StreamEvent,
+    TransportConfig,
+};
+pub use sending::Sent;
+pub use tags::Received;

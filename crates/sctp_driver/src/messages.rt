@@ -1,0 +1,181 @@
+// Messages that were taken out of the association and wait for a buffer that is long enough.
+ghost use Rattle.std.specs.Prelude.{◌≡◌, ◌++◌, ◌<◌, length, Err, IfOk, IfSome, OnErr, OnOk};
+ghost use Rattle.sctp_receive_queues.specs.Messages.{bytes_left};
+ghost use Rattle.sctp_driver.specs.Messages.{Gives, kept_of, message_at, place_of, put_front};
+
+use crate::sending::fill;
+use bytes::BytesMut;
+use sctp_assoc::{Chunks, Error, PayloadProtocolIdentifier, StreamId};
+use std::alloc::Global;
+use std::collections::VecDeque;
+use std::marker::Model;
+
+/// What `Driver::read` gave.
+#[derive(Clone, Copy, Debug, PartialEq, Eq)]
+pub enum Read {
+    /// One message stands in the first `length` bytes of the buffer, whole.
+    Message {
+        payload_type: PayloadProtocolIdentifier,
+        length: usize,
+    },
+    /// No message of the stream is ready.
+    Nothing,
+    /// The next message has `length` bytes, more than the buffer. It stays to be read.
+    NoRoom {
+        length: usize,
+    },
+}
+
+/// A message that was not read yet: the bytes that were put in one piece, and behind them those that were not.
+#[derive(Drop)]
+pub(crate) struct Kept {
+    stream: StreamId,
+    payload_type: PayloadProtocolIdentifier,
+    size: usize,
+    front: BytesMut,
+    rest: Chunks,
+}
+
+impl Model for Kept {
+    ghost use Rattle.std.specs.Prelude.{◌≡◌, ◌++◌, length};
+    ghost use Rattle.sctp_receive_queues.specs.Messages.{bytes_left};
+    ghost use Rattle.sctp_driver.specs.Driving.{KeptMessage};
+
+    ghost Value = { KeptMessage };
+
+    ghost view = { λ k. record {
+      stream = k.stream;
+      payload_type = k.payload_type;
+      bytes = k.front.items ++ bytes_left k.rest;
+    } };
+
+    ghost invariant = { λ k. k.size ≡ length (k.front.items ++ bytes_left k.rest) };
+}
+
+impl Kept {
+    pub(crate) fn new(alloc: Global, stream: StreamId, message: Chunks) -> Kept
+        ensures { result ≡ kept_of stream message }
+    {
+        Kept {
+            stream,
+            payload_type: message.payload_type(),
+            size: message.len(),
+            front: BytesMut::new(alloc),
+            rest: message,
+        }
+    }
+
+    fn stream(&self) -> StreamId
+        ensures { result ≡ self.now.stream }
+    {
+        self.stream
+    }
+
+    fn payload_type(&self) -> PayloadProtocolIdentifier
+        ensures { result ≡ self.now.payload_type }
+    {
+        self.payload_type
+    }
+
+    fn size(&self) -> usize
+        ensures { result ≡ length self.now.bytes }
+    {
+        self.size
+    }
+
+    // Copies the message to the front of the buffer; where it is shorter nothing is copied.
+    fn copy_to(&mut self, buffer: &mut [u8]) -> Result<(), Error>
+        ensures same { self.new ≡ self.old }
+        ensures ok { OnOk result (buffer.new ≡ put_front self.old.bytes buffer.old) }
+        ensures refused { OnErr result (result ≡ Err Error.ErrNoMemory) }
+        ensures err { OnErr result (buffer.new ≡ buffer.old) }
+    {
+        gather(&mut self.front, &mut self.rest)?;
+        fill(buffer, self.front.as_slice());
+        Ok(())
+    }
+}
+
+// Puts the rest of a message behind its front. Where memory is refused no byte is lost.
+#[tactic(auto, using(crate::proofs::CutsLeft::none_left))]
+fn gather(front: &mut BytesMut, rest: &mut Chunks) -> Result<(), Error>
+    ensures same { front.new.items ++ bytes_left rest.new ≡ front.old.items ++ bytes_left rest.old }
+    ensures ok { OnOk result (front.new.items ≡ front.old.items ++ bytes_left rest.old) }
+    ensures refused { OnErr result (result ≡ Err Error.ErrNoMemory) }
+{
+    front.reserve(rest.len())?;
+    while !rest.is_empty() {
+        match rest.next(usize::MAX)? {
+            Some(cut) => front.extend_reserved(cut.as_slice()),
+            None => return Ok(()),
+        }
+    }
+    Ok(())
+}
+
+/// Where the first message of this stream stands.
+pub(crate) fn find(kept: &VecDeque<Kept>, stream: StreamId) -> Option<usize>
+    ensures place { result ≡ place_of stream kept.now.items }
+    ensures bound { IfSome result (λ place. place < length kept.now.items) }
+{
+    kept.iter().position(|message| message.stream() == stream)
+}
+
+/// Gives the first message of this stream where the buffer has room for it. Where memory is refused it stays.
+pub(crate) fn give(
+    kept: &mut VecDeque<Kept>,
+    stream: StreamId,
+    buffer: &mut [u8],
+) -> Result<Read, Error>
+    ensures ok { IfOk result (λ answer. Gives stream kept.old.items buffer.old answer kept.new.items buffer.new) }
+    ensures refused { OnErr result (result ≡ Err Error.ErrNoMemory) }
+    ensures err { OnErr result (kept.new.items ≡ kept.old.items) }
+    ensures unfilled { OnErr result (buffer.new ≡ buffer.old) }
+{
+    let Some(place) = find(kept, stream) else {
+        return Ok(Read::Nothing);
+    };
+    let length = size_at(kept, place);
+    if buffer.len() < length {
+        return Ok(Read::NoRoom { length });
+    }
+    copy_at(kept, place, buffer)?;
+    let payload_type = payload_type_at(kept, place);
+    kept.remove(place);
+    Ok(Read::Message {
+        payload_type,
+        length,
+    })
+}
+
+fn size_at(kept: &VecDeque<Kept>, place: usize) -> usize
+    ensures { result ≡ length (message_at kept.now.items place).bytes }
+{
+    match kept.get(place) {
+        Some(message) => message.size(),
+        None => 0,
+    }
+}
+
+fn payload_type_at(kept: &VecDeque<Kept>, place: usize) -> PayloadProtocolIdentifier
+    ensures { result ≡ (message_at kept.now.items place).payload_type }
+{
+    match kept.get(place) {
+        Some(message) => message.payload_type(),
+        None => PayloadProtocolIdentifier::Unknown,
+    }
+}
+
+// Copies the message at a place to the front of the buffer; where it is shorter nothing is copied.
+fn copy_at(kept: &mut VecDeque<Kept>, place: usize, buffer: &mut [u8]) -> Result<(), Error>
+    requires { place < length kept.old.items }
+    ensures same { kept.new.items ≡ kept.old.items }
+    ensures ok { OnOk result (buffer.new ≡ put_front (message_at kept.old.items place).bytes buffer.old) }
+    ensures refused { OnErr result (result ≡ Err Error.ErrNoMemory) }
+    ensures err { OnErr result (buffer.new ≡ buffer.old) }
+{
+    match kept.get_mut(place) {
+        Some(message) => message.copy_to(buffer),
+        None => Ok(()),
+    }
+}

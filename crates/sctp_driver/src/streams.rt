@@ -1,0 +1,140 @@
+// The calls of a driver's streams, each named by its identifier.
+ghost use Rattle.std.specs.Prelude.{◌≡◌, length, IfErr, IfOk, OnErr, OnOk};
+ghost use Rattle.sctp_streams.specs.declared.setting.Setting.TheVariants as settings;
+ghost use Rattle.sctp_streams.specs.Stream.{params_of};
+ghost use Rattle.sctp_assoc.specs.Calls.{Refuses, RefusesOrLacksMemory, accepted_stream, adjusted, open_refusal};
+ghost use Rattle.sctp_assoc.specs.Calls.{opened, stream_refusal, written};
+ghost use Rattle.sctp_driver.specs.Driving.{with_association};
+ghost use Rattle.sctp_driver.specs.Messages.{Reads, RefusesRead, with_message};
+ghost use Rattle.sctp_driver.specs.Streams.{buffered_on, refusal_to_write};
+
+use crate::driver::Driver;
+use crate::lending;
+use crate::messages::{Kept, Read, find, give};
+use sctp_assoc::{Error, PayloadProtocolIdentifier, ReliabilityType, StreamId};
+
+impl Driver {
+    /// Makes a stream on this side. What is written on it carries `payload_type` where a write names none. Nothing is
+    /// sent for it: the peer sees the stream with its first DATA.
+    ///
+    /// Refused, in this order with nothing changed: `ErrAssociationFailed`; `ErrStreamAlreadyExist`, also where the
+    /// peer opened it; `ErrStreamCreateFailed` where no generation is left; `ErrNoMemory`.
+    pub fn open_stream(
+        &mut self,
+        id: StreamId,
+        payload_type: PayloadProtocolIdentifier,
+    ) -> Result<(), Error>
+        ensures refused { RefusesOrLacksMemory result (open_refusal self.old.association id) }
+        ensures ok { OnOk result
+            (self.new ≡ with_association self.old (opened self.old.association id payload_type)) }
+        ensures err { OnErr result (self.new ≡ self.old) }
+    {
+        lending::open_stream(&mut self.association, id, payload_type)
+    }
+
+    /// Takes out the identifier of the oldest stream that the peer opened and that was not accepted yet, each once;
+    /// None where there is none, or the association failed. Such a stream may have ended since.
+    pub fn accept_stream(&mut self) -> Option<StreamId>
+        ensures accepted { accepted_stream self.old.association ≡ (self.new.association, result) }
+        ensures others { self.new ≡ with_association self.old self.new.association }
+    {
+        lending::accept_stream(&mut self.association)
+    }
+
+    /// Accepts one message under this payload type, or else the stream's, and answers its length, in bytes. The bytes
+    /// are copied; they go out with `poll_transmit`, as the windows allow.
+    ///
+    /// Refused, in this order with nothing changed: `ErrAssociationFailed`; `ErrStreamNotExisted`; `ErrStreamClosed`
+    /// where its write half is closed; `ErrPayloadDataStateNotExist` outside Established; `ErrEmptyMessage`;
+    /// `ErrOutboundPacketTooLarge` for a message that is longer than `max_send_message_size`; `ErrNoMemory`.
+    pub fn write(
+        &mut self,
+        id: StreamId,
+        payload_type: Option<PayloadProtocolIdentifier>,
+        bytes: &[u8],
+    ) -> Result<usize, Error>
+        ensures refused { RefusesOrLacksMemory result
+            (refusal_to_write self.old.association id (length bytes.now)) }
+        ensures ok { IfOk result (λ n. n ≡ length bytes.now) }
+        ensures accepted { OnOk result
+            (self.new ≡ with_association self.old (written self.old.association id payload_type bytes.now)) }
+        ensures err { OnErr result (self.new ≡ self.old) }
+    {
+        lending::write(&mut self.association, id, payload_type, bytes)
+    }
+
+    /// Copies the next message of a stream to the front of the buffer, whole. Where the buffer is shorter the message
+    /// stays, and `NoRoom` says how long it is; a later read with a longer buffer gives it, also after a loss of the
+    /// association. After `StreamEvent::Readable` read until it answers `Nothing`.
+    ///
+    /// Refused, in this order: `ErrAssociationFailed`, `ErrStreamNotExisted` and `ErrStreamClosed` (its read half is
+    /// closed), with nothing changed, and only where no message of the stream waits in the driver; `ErrNoMemory`, which
+    /// leaves the message to be read, or the association failed where the read was to close it.
+    pub fn read(&mut self, id: StreamId, buffer: &mut [u8]) -> Result<Read, Error>
+        ensures ok { IfOk result
+            (λ answer. Reads (with_message self.old id) id buffer.old answer self.new buffer.new) }
+        ensures err { IfErr result (λ error. RefusesRead self.old id error self.new) }
+        ensures unfilled { OnErr result (buffer.new ≡ buffer.old) }
+    {
+        self.take_out(id)?;
+        give(&mut self.kept, id, buffer)
+    }
+
+    // Takes the next message of a stream out of the association, unless one is kept already.
+    fn take_out(&mut self, id: StreamId) -> Result<(), Error>
+        ensures ok { OnOk result (self.new ≡ with_message self.old id) }
+        ensures err { IfErr result (λ error. RefusesRead self.old id error self.new) }
+    {
+        if find(&self.kept, id).is_some() {
+            return Ok(());
+        }
+        self.kept.reserve(1)?;
+        if let Some(message) = lending::read(&mut self.association, id)? {
+            self.kept
+                .push_back_reserved(Kept::new(self.alloc, id, message));
+        }
+        Ok(())
+    }
+
+    /// Closes the write half of a stream: from then on a write is refused as `ErrStreamClosed`. What was accepted goes
+    /// out all the same, and the peer isn't told.
+    ///
+    /// Refused, in this order with nothing changed: `ErrAssociationFailed`, `ErrStreamNotExisted`.
+    pub fn finish(&mut self, id: StreamId) -> Result<(), Error>
+        ensures refused { Refuses result (stream_refusal self.old.association id) }
+        ensures ok { OnOk result
+            (self.new ≡ with_association self.old (adjusted self.old.association id settings.WriteHalfClosed)) }
+        ensures err { OnErr result (self.new ≡ self.old) }
+    {
+        lending::finish(&mut self.association, id)
+    }
+
+    /// Sets how messages of a stream are sent that are written from now on: in order or not, and how long each is
+    /// tried (RFC 3758 sections 3.5 and 4.1). `value` is the greatest number of retransmissions for `Rexmit` and the
+    /// lifetime in ms for `Timed`; for `Reliable` it says nothing. So far no message is given up.
+    ///
+    /// Refused, in this order with nothing changed: `ErrAssociationFailed`, `ErrStreamNotExisted`.
+    pub fn set_reliability_params(
+        &mut self,
+        id: StreamId,
+        unordered: bool,
+        kind: ReliabilityType,
+        value: u32,
+    ) -> Result<(), Error>
+        ensures refused { Refuses result (stream_refusal self.old.association id) }
+        ensures ok { OnOk result (self.new ≡ with_association self.old
+            (adjusted self.old.association id (settings.Reliability (params_of unordered kind value)))) }
+        ensures err { OnErr result (self.new ≡ self.old) }
+    {
+        lending::set_reliability_params(&mut self.association, id, unordered, kind, value)
+    }
+
+    /// Bytes that were accepted on a stream and are not released: a SACK releases those of the DATA that it
+    /// acknowledges. Nothing changes. Refused: `ErrAssociationFailed`, `ErrStreamNotExisted`.
+    pub fn buffered_amount(&mut self, id: StreamId) -> Result<usize, Error>
+        ensures answer { result ≡ buffered_on self.old.association id }
+        ensures same { self.new ≡ self.old }
+    {
+        lending::buffered_amount(&mut self.association, id)
+    }
+}
