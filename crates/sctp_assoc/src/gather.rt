@@ -16,8 +16,8 @@ use crate::control::ControlPacket;
 use bytes::Bytes;
 use sctp_parts::state::{AckState, AssociationState};
 use sctp_parts::timer::Timer;
-use sctp_wire::DataPackets;
-use sctp_wire_queues::{Chunk, CommonHeader, Error, Instant, List, Packet};
+use sctp_wire::{DataPackets, marshal};
+use sctp_wire_queues::{Chunk, CommonHeader, Error, Instant};
 use std::alloc::{AllocError, Global};
 use std::mem;
 
@@ -75,7 +75,12 @@ impl Association {
         ensures again { OnOk result (AreReadAgain (header_of self.old.handshake) (data_polled self.old now).1) }
         ensures grows { OnErr result (gives_data self.old.sender now ≡ true) }
     {
-        let mut packets = DataPackets::new(self.alloc, self.handshake.header(), self.sender.mtu);
+        let mut packets = DataPackets::new(
+            self.alloc,
+            self.handshake.header(),
+            self.sender.mtu,
+            self.sender.queue.pending_bytes(),
+        );
         self.resend_data(&mut packets)?;
         let sent = self.sender.send_new(&mut packets, now)?;
         if sent {
@@ -127,17 +132,24 @@ fn put_control(
     ensures again { OnOk result (AreControlReadAgain waiting.items) }
     ensures grows { OnErr result (nat_lt 0 (length waiting.items) ≡ true) }
 {
+    if waiting.is_empty() {
+        return Ok(());
+    }
     for packet in waiting {
         put_packet(packets, alloc, packet.header, packet.chunk)?;
     }
     Ok(())
 }
 
-// Some packets behind others.
+// Some packets behind others; where there are no others they need no room.
 fn put_all(packets: &mut Vec<Bytes>, more: Vec<Bytes>) -> Result<(), AllocError>
     ensures exact { OnOk result (packets.new.items ≡ packets.old.items ++ more.items) }
     ensures grows { OnErr result (nat_lt 0 (length more.items) ≡ true) }
 {
+    if packets.is_empty() {
+        *packets = more;
+        return Ok(());
+    }
     for packet in more {
         packets.push(packet)?;
     }
@@ -156,13 +168,7 @@ fn put_packet(
     ensures again { OnOk result (packet_is_plain (packet_with common_header chunk) ≡ true
         → IsReadAgain common_header chunk) }
 {
-    let mut chunks = List::new(alloc);
-    chunks.push(chunk)?;
-    let packet = Packet {
-        common_header,
-        chunks,
-    };
-    match packet.marshal(alloc) {
+    match marshal(alloc, &common_header, &[chunk]) {
         Ok(bytes) => {
             packets.push(bytes)?;
             Ok(())

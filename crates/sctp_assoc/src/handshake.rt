@@ -18,6 +18,8 @@ use std::alloc::AllocError;
 
 impl Association {
     // INIT (RFC 4960 sections 5.1 and 5.2): before the association is established it is answered by INIT ACK.
+    #[cold]
+    #[inline(never)]
     #[tactic(auto, unfolding(crate::specs::Handshake::on_init))]
     pub(crate) fn on_init(
         &mut self,
@@ -54,6 +56,8 @@ impl Association {
 
     // INIT ACK (RFC 4960 section 5.1): its cookie is echoed. With other ports than those of this side's INIT it is
     // left.
+    #[cold]
+    #[inline(never)]
     #[tactic(auto, unfolding(crate::specs::Handshake::on_init_ack))]
     pub(crate) fn on_init_ack(
         &mut self,
@@ -91,6 +95,8 @@ impl Association {
     }
 
     // COOKIE ECHO (RFC 4960 section 5.1): the cookie that this side gave out establishes the association.
+    #[cold]
+    #[inline(never)]
     #[tactic(auto, unfolding(crate::specs::Handshake::on_cookie_echo))]
     pub(crate) fn on_cookie_echo(
         &mut self,
@@ -139,6 +145,8 @@ impl Association {
     }
 
     // HEARTBEAT (RFC 4960 section 8.3): its information goes back.
+    #[cold]
+    #[inline(never)]
     #[tactic(auto, unfolding(crate::specs::Handshake::on_heartbeat))]
     pub(crate) fn on_heartbeat(
         &mut self,

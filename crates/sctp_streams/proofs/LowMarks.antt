@@ -45,7 +45,7 @@ insert_front : (id : ℕ) (xs : List ℕ) → AllByRecursion (λ y. nat_cmp id y
 insert_front id [] a = refl
 insert_front id (x ∷ xs) (l, a) = rw l refl
 
-insert_some : (id : ℕ) (xs : List ℕ) → 0 < length (insert_key nat_cmp xs id)
+pub insert_some : (id : ℕ) (xs : List ℕ) → 0 < length (insert_key nat_cmp xs id)
 insert_some id [] = omega arith
 insert_some id (x ∷ xs) = by (nat_cmp id x)
   where

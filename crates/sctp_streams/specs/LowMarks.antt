@@ -1,6 +1,7 @@
 -- The streams whose buffered amount falls to their low mark while bytes are released.
 use Rattle.std.specs.Prelude.{◌≡◌, ℕ, ◌<◌, ◌≤◌, ◌&&◌, Bool, true, false, List, [], length, map, nat_le, nat_lt}
 use Rattle.std.specs.Prelude.{Option, Some, None, ⊤}
+use Rattle.std.specs.BTreeSet.{insert_key}
 use Rattle.std.specs.List.{filter}
 use Rattle.std.specs.List.Sorted.{IsStrictlySortedBy}
 use Rattle.std.specs.Ordering.{nat_cmp}
@@ -32,6 +33,11 @@ pub record FallenView : Type 0 where
   pub ids : List ℕ
   -- memory was refused for one of them
   pub refused : Bool
+
+-- the identifiers of a set and one more, ascending
+abbrev pub ids_with : Option ℕ → List ℕ → List ℕ
+ids_with None ids = ids
+ids_with (Some id) ids = insert_key nat_cmp ids id
 
 abbrev pub none_fallen : FallenView
 none_fallen = record { ids = []; refused = false }

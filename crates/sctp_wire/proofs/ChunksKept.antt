@@ -32,7 +32,7 @@ use Rattle.sctp_wire.proofs.FrameLoop.{ok_is}
 use Rattle.sctp_wire.proofs.ListsWritten.{flat_length, sack_length}
 use Rattle.sctp_wire.proofs.FramesKept.{AreBytes, AreBytes-drop, u16_below, u32_below, bind_ok, choose, frame_kept}
 use Rattle.sctp_wire.proofs.FramesKept.{entries_kept, entries_count, joined_length, items_kept}
-use Rattle.sctp_wire.proofs.ParamsKept.{AreWhole, all_whole_params, param_kept, params_kept}
+use Rattle.sctp_wire.proofs.ParamsKept.{AreWhole, all_whole_params, fits_below, param_kept, params_kept}
 use Rattle.sctp_wire.proofs.ParamsKept.{causes_kept}
 
 abbrev PayloadKept : ℕ → ChunkPayloadData → Type 0
@@ -227,9 +227,6 @@ IsWholeChunk c = IsChunk c × (chunk_is_plain c ≡ true) × (chunk_fits c ≡ t
 
 abbrev ChunkKept : ℕ → Chunk → Type 0
 ChunkKept len c = IsWholeChunk c × (length (chunk_frame c).value ≤ len)
-
-fits_below : (a b : ℕ) → a ≤ b → b < 65532 → ltb a 65532 ≡ true
-fits_below a b le lt = lt-ltb a 65532 (omega arith)
 
 -- of two tests that fail, neither holds
 neither : {a b : Bool} → a ≡ false → b ≡ false → (a || b) ≡ false

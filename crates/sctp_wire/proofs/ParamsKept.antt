@@ -82,7 +82,7 @@ IsWhole p = IsParam p × (param_is_plain p ≡ true) × (param_fits p ≡ true)
 abbrev ParamKept : ℕ → Param → Type 0
 ParamKept len p = IsWhole p × (length (param_frame p).value ≤ len)
 
-fits_below : (a b : ℕ) → a ≤ b → b < 65532 → ltb a 65532 ≡ true
+pub fits_below : (a b : ℕ) → a ≤ b → b < 65532 → ltb a 65532 ≡ true
 fits_below a b le lt = lt-ltb a 65532 (omega arith)
 
 module _ (a b c d e : Bool) where

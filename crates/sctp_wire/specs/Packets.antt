@@ -40,6 +40,10 @@ finished partial =
 abbrev pub packet_at : List ℕ → Result Packet Fault
 packet_at bytes = partial_at bytes >>= finished
 
+-- a packet of these chunks
+abbrev pub packet_with : CommonHeader → List Chunk → Packet
+packet_with header chunks = record { common_header = header; chunks = chunks }
+
 -- whether the lengths of all chunks and of what stands in them fit their fields
 abbrev pub packet_fits : Packet → Bool
 packet_fits packet = list_all chunk_fits packet.chunks

@@ -6,7 +6,7 @@ mod payload_data;
 mod reconfig;
 mod selective_ack;
 
-ghost use Rattle.std.specs.Prelude.{◌≡◌, ◌+◌, ◌*◌, ◌++◌, ◌&&◌, OnOk};
+ghost use Rattle.std.specs.Prelude.{◌≡◌, ◌≢◌, ◌+◌, ◌*◌, ◌/◌, ◌++◌, ◌&&◌, OnOk};
 ghost use Rattle.std.specs.List.{flat_map, list_all, AllByRecursion};
 ghost use Rattle.sctp_wire.specs.Results.{Yields, Writes};
 ghost use Rattle.sctp_wire.specs.Frames.{padded, frame_fits};
@@ -32,39 +32,53 @@ impl Item for Chunk {
 
     #[tactic(auto, unfolding(crate::specs::Chunks::chunk_of))]
     fn read(alloc: Global, frame: Frame) -> Result<Chunk, WireError> {
-        let flags = frame.head % 256;
-        let value = frame.value;
         match frame.head / 256 {
-            0 => Ok(Chunk::Data(read_payload_data(flags, value)?)),
-            1 => Ok(Chunk::Init(read_init(alloc, value)?)),
-            2 => Ok(Chunk::InitAck(read_init(alloc, value)?)),
-            3 => Ok(Chunk::SelectiveAck(read_selective_ack(alloc, value.as_slice())?)),
-            4 => Ok(Chunk::Heartbeat(ChunkHeartbeat {
-                params: read_params(alloc, value)?,
-            })),
-            5 => Ok(Chunk::HeartbeatAck(ChunkHeartbeat {
-                params: read_params(alloc, value)?,
-            })),
-            6 => Ok(Chunk::Abort(ChunkAbort {
-                error_causes: read_causes(alloc, value)?,
-            })),
-            7 => Ok(Chunk::Shutdown(read_point(value.as_slice())?)),
-            8 => Ok(Chunk::ShutdownAck),
-            9 => Ok(Chunk::Error(ChunkError {
-                error_causes: read_causes(alloc, value)?,
-            })),
-            10 => Ok(Chunk::CookieEcho(value)),
-            11 => Ok(Chunk::CookieAck),
-            14 => Ok(Chunk::ShutdownComplete),
-            130 => Ok(Chunk::Reconfig(read_reconfig(alloc, value)?)),
-            192 => Ok(Chunk::ForwardTsn(read_forward_tsn(alloc, value.as_slice())?)),
-            194 => Ok(Chunk::IForwardTsn(read_i_forward_tsn(alloc, value.as_slice())?)),
-            kind => Ok(Chunk::Other {
-                kind: kind as u8,
-                flags: flags as u8,
-                value,
-            }),
+            0 => Ok(Chunk::Data(read_payload_data(frame.head % 256, frame.value)?)),
+            3 => Ok(Chunk::SelectiveAck(read_selective_ack(alloc, frame.value.as_slice())?)),
+            _ => read_other(alloc, frame),
         }
+    }
+}
+
+// A chunk that is neither DATA nor SACK. These are rare, and what they are read into is large.
+#[cold]
+#[inline(never)]
+#[tactic(auto, unfolding(crate::specs::Chunks::chunk_of))]
+fn read_other(alloc: Global, frame: Frame) -> Result<Chunk, WireError>
+    requires data { frame.head / 256 ≢ 0 }
+    requires sack { frame.head / 256 ≢ 3 }
+    ensures { Yields result (chunk_of frame) }
+{
+    let flags = frame.head % 256;
+    let value = frame.value;
+    match frame.head / 256 {
+        1 => Ok(Chunk::Init(read_init(alloc, value)?)),
+        2 => Ok(Chunk::InitAck(read_init(alloc, value)?)),
+        4 => Ok(Chunk::Heartbeat(ChunkHeartbeat {
+            params: read_params(alloc, value)?,
+        })),
+        5 => Ok(Chunk::HeartbeatAck(ChunkHeartbeat {
+            params: read_params(alloc, value)?,
+        })),
+        6 => Ok(Chunk::Abort(ChunkAbort {
+            error_causes: read_causes(alloc, value)?,
+        })),
+        7 => Ok(Chunk::Shutdown(read_point(value.as_slice())?)),
+        8 => Ok(Chunk::ShutdownAck),
+        9 => Ok(Chunk::Error(ChunkError {
+            error_causes: read_causes(alloc, value)?,
+        })),
+        10 => Ok(Chunk::CookieEcho(value)),
+        11 => Ok(Chunk::CookieAck),
+        14 => Ok(Chunk::ShutdownComplete),
+        130 => Ok(Chunk::Reconfig(read_reconfig(alloc, value)?)),
+        192 => Ok(Chunk::ForwardTsn(read_forward_tsn(alloc, value.as_slice())?)),
+        194 => Ok(Chunk::IForwardTsn(read_i_forward_tsn(alloc, value.as_slice())?)),
+        kind => Ok(Chunk::Other {
+            kind: kind as u8,
+            flags: flags as u8,
+            value,
+        }),
     }
 }
 

@@ -11,7 +11,7 @@ ghost use Rattle.sctp_wire_types.specs.declared.chunk.Chunk.TheVariants as chunk
 use crate::chunk::put_payload_data;
 use crate::frame::MAX_VALUE;
 use crate::number::{put_u16, put_u32};
-use crate::packet::set_sum;
+use crate::written::set_sum;
 use bytes::Bytes;
 use sctp_crc::packet_sum;
 use sctp_wire_types::{ChunkPayloadData, CommonHeader};
@@ -29,6 +29,8 @@ pub struct DataPackets {
     alloc: Global,
     header: CommonHeader,
     mtu: u32,
+    // Bytes of the buffer in which a packet is begun.
+    room: usize,
     // The packets that are written.
     done: Vec<Bytes>,
     // The packet that is being written, with zeros for its checksum; nothing as long as it has no DATA.
@@ -53,14 +55,15 @@ impl Model for DataPackets {
 }
 
 impl DataPackets {
-    /// No packet yet. Takes no memory.
-    pub fn new(alloc: Global, header: CommonHeader, mtu: u32) -> Self
+    /// No packet yet. Takes no memory. So many bytes of DATA wait: where they are few, the buffer of a packet is small.
+    pub fn new(alloc: Global, header: CommonHeader, mtu: u32, waiting: u64) -> Self
         ensures { result ≡ nothing_written header mtu }
     {
         DataPackets {
             alloc,
             header,
             mtu,
+            room: room_for(waiting, mtu),
             done: Vec::new(alloc),
             current: Vec::new(alloc),
         }
@@ -109,7 +112,7 @@ impl DataPackets {
         ensures { OnOk result (self.new ≡ joined_by self.old piece.now) }
     {
         let written = mem::replace(&mut self.current, Vec::new(self.alloc));
-        let mut current = begun(self.alloc, &self.header, self.mtu as usize, written)?;
+        let mut current = begun(self.alloc, &self.header, self.room, written)?;
         put_data(&mut current, piece)?;
         self.current = current;
         Ok(())
@@ -124,6 +127,12 @@ impl DataPackets {
         self.close()?;
         Ok(mem::replace(&mut self.done, Vec::new(self.alloc)))
     }
+}
+
+// The bytes of a buffer for so many bytes of DATA, in messages of 16 bytes or more, at most those of a packet.
+fn room_for(waiting: u64, mtu: u32) -> usize {
+    let length = waiting.saturating_mul(2).saturating_add(32);
+    length.min(u64::from(mtu)) as usize
 }
 
 // What is being written already, or else the common header.

@@ -14,6 +14,7 @@ mod param;
 mod partial;
 mod refuse;
 mod transmit;
+mod written;
 
 pub use data_packets::DataPackets;
 pub use packet::Packet;
@@ -30,3 +31,4 @@ pub use sctp_wire_types::{
     sna32lt, sna32lte,
 };
 pub use transmit::{Payload, Transmit};
+pub use written::marshal;
