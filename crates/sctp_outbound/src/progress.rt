@@ -21,8 +21,10 @@ pub struct Progress {
 impl Sender {
     // Whether a SACK acknowledges the first outstanding piece, by its point, up to which so many are in flight, or by a
     // block.
-    pub(crate) fn names_earliest(&self, count: u32, blocks: &List<GapAckBlock>) -> bool
-        ensures { result ≡ acknowledges_at count blocks.now (position is_outstanding self.now.queue.in_flight) }
+    pub(crate) fn names_earliest(&mut self, count: u32, blocks: &List<GapAckBlock>) -> bool
+        ensures same { self.new ≡ self.old }
+        ensures names { result ≡
+            acknowledges_at count blocks.now (position is_outstanding self.old.queue.in_flight) }
     {
         match self.queue.first_outstanding() {
             Some(index) => is_named(blocks, index, count as usize),

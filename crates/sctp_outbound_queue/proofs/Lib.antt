@@ -1,5 +1,6 @@
 pub mod ByteSums
 pub mod BytesLeft
 pub mod ExpiredUnsent
+pub mod FirstOutstanding
 pub mod PiecesCut
 pub mod ReportedMissing

@@ -1,5 +1,5 @@
 -- What waits to be sent and what is in flight (RFC 4960 section 6.1).
-use Rattle.std.specs.Prelude.{◌≡◌, ℕ, Bool, List, [], ◌∷◌, ◌++◌, ◌+◌, ◌-◌, ◌<◌, ◌%◌, ◌^◌, ◌==◌, ◌||◌, if◌then◌else◌}
+use Rattle.std.specs.Prelude.{◌≡◌, ℕ, Bool, List, [], ◌∷◌, ◌++◌, ◌+◌, ◌-◌, ◌<◌, ◌≤◌, ◌%◌, ◌^◌, ◌==◌, ◌||◌, if◌then◌else◌}
 use Rattle.std.specs.Prelude.{drop, length, map, sum_by, slice_get, slice_set, take, Option, Some, None, not, false}
 use Rattle.std.specs.List.{count_by, list_any, position_or_len}
 use Rattle.sctp_serial.specs.Serial.{tsn_past}
@@ -8,7 +8,7 @@ use Rattle.sctp_outbound_queue.specs.declared.message.Attributes.{Attributes}
 use Rattle.sctp_outbound_queue.specs.declared.queue.Released.{Released}
 use Rattle.sctp_outbound_queue.specs.Waiting.{Waiting}
 use Rattle.sctp_outbound_queue.specs.Message.{message_bytes, piece_count, accepted, sent_once, without_piece, marker_of}
-use Rattle.sctp_outbound_queue.specs.Message.{is_of_stream, is_waiting_of_stream, outstanding_bytes}
+use Rattle.sctp_outbound_queue.specs.Message.{is_of_stream, is_outstanding, is_third_report, is_waiting_of_stream, outstanding_bytes}
 use Rattle.sctp_outbound_queue.specs.Message.{outstanding_bytes_of, acked, marked_again, flagged, reported_missing}
 
 pub record Outbound : Type 0 where
@@ -37,12 +37,21 @@ outstanding_of_message id pieces = sum_by (outstanding_bytes_of id) pieces
 abbrev pub marked_of : List InFlight → ℕ
 marked_of pieces = count_by (λ p. p.retransmit) pieces
 
--- three numbers that are kept as the queue changes are the bytes that wait and the outstanding bytes, which together
--- are below the greatest number of 64 bits, and how many pieces in flight are marked to be sent again
-abbrev pub AreKept : List Waiting → List InFlight → ℕ → ℕ → ℕ → Type 0
-AreKept pending in_flight waiting outstanding marked =
+-- the place of the first outstanding piece, or how many pieces there are
+abbrev pub first_outstanding_of : List InFlight → ℕ
+first_outstanding_of pieces = position_or_len is_outstanding pieces
+
+abbrev pub is_outstanding_piece : Option InFlight → Bool
+is_outstanding_piece None = false
+is_outstanding_piece (Some p) = is_outstanding p
+
+-- what is kept as the queue changes: the bytes that wait and the outstanding bytes, which together are below the
+-- greatest number of 64 bits, how many pieces in flight are marked to be sent again, and a place before which no piece
+-- in flight is outstanding
+abbrev pub AreKept : List Waiting → List InFlight → ℕ → ℕ → ℕ → ℕ → Type 0
+AreKept pending in_flight waiting outstanding marked settled =
     (waiting ≡ waiting_of pending) × (outstanding ≡ outstanding_of in_flight) × (waiting + outstanding < 2 ^ 64 - 1)
-    × (marked ≡ marked_of in_flight)
+    × (marked ≡ marked_of in_flight) × (settled ≤ first_outstanding_of in_flight)
 
 abbrev pub empty_outbound : ℕ → Outbound
 empty_outbound tsn = record { pending = []; in_flight = []; first_tsn = tsn; next_message_id = 0 }
@@ -119,6 +128,16 @@ all_marked q = record q { in_flight = map marked_again q.in_flight }
 -- a SACK reported the first n in flight missing, those of them that are outstanding (RFC 4960 section 7.2.4)
 abbrev pub with_missing : ℕ → Outbound → Outbound
 with_missing n q = record q { in_flight = map reported_missing (take n q.in_flight) ++ drop n q.in_flight }
+
+-- that was the third report of a piece, if it is there
+abbrev pub is_third_report_of : Option InFlight → Bool
+is_third_report_of None = false
+is_third_report_of (Some p) = is_third_report p
+
+-- pieces of which one was reported missing
+abbrev pub with_report : Option InFlight → ℕ → List InFlight → List InFlight
+with_report None index pieces = pieces
+with_report (Some p) index pieces = slice_set pieces index (reported_missing p)
 
 -- a piece of this stream waits or is not acknowledged cumulatively
 abbrev pub has_stream : Outbound → ℕ → Bool

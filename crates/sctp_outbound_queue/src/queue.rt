@@ -18,7 +18,7 @@ ghost use Rattle.sctp_outbound_queue.specs.Expiry.{after_tail_expiry, is_expired
 use crate::walks::{
     any_of_message, any_of_stream, any_waiting_of_stream, bytes_of_message, count_marked,
     drop_expired, first_expired_piece, first_missing, first_not_abandoned, first_outstanding,
-    flag_all, mark_all, pieces_of, report_missing, start_each_sent, start_each_waiting, take_piece,
+    flag_all, mark_all, pieces_of, report_missing, start_all_sent, start_all_waiting, take_piece,
 };
 use crate::{Attributes, InFlight, PendingMessage, Retransmission};
 use sctp_wire_types::{Instant, StreamId};
@@ -47,6 +47,8 @@ pub struct OutboundQueue {
     outstanding_bytes: u64,
     // How many pieces in flight are marked to be sent again.
     marked: usize,
+    // No piece in flight before this place is outstanding.
+    settled: usize,
 }
 
 impl Model for OutboundQueue {
@@ -62,7 +64,7 @@ impl Model for OutboundQueue {
     } };
 
     ghost invariant = { λ q. AreKept q.pending.items q.in_flight.items q.pending_bytes q.outstanding_bytes
-        q.marked };
+        q.marked q.settled };
 }
 
 impl OutboundQueue {
@@ -78,6 +80,7 @@ impl OutboundQueue {
             pending_bytes: 0,
             outstanding_bytes: 0,
             marked: 0,
+            settled: 0,
         }
     }
 
@@ -217,6 +220,7 @@ impl OutboundQueue {
     }
 
     /// Takes out the first piece in flight: it is acknowledged cumulatively. Goes over no other piece.
+    #[tactic(auto, using(crate::proofs::FirstOutstanding::popped_there))]
     pub fn pop(&mut self) -> Option<InFlight>
         ensures piece { result ≡ slice_get self.old.in_flight 0 }
         ensures rest { self.new ≡ without_first self.old }
@@ -225,6 +229,7 @@ impl OutboundQueue {
         self.first_tsn = self.first_tsn.wrapping_add(1);
         self.outstanding_bytes -= piece.outstanding_bytes();
         self.marked -= usize::from(piece.retransmit);
+        self.settled = self.settled.saturating_sub(1);
         Some(piece)
     }
 
@@ -255,6 +260,7 @@ impl OutboundQueue {
 
     /// Counts that a piece is sent again. One that goes because the timer marked it loses the mark. Goes over no other
     /// piece.
+    #[tactic(auto, using(crate::proofs::FirstOutstanding::resent_there))]
     pub fn resend(&mut self, index: usize, by: Retransmission)
         ensures { self.new ≡ changed_at (counted_again by) self.old index }
     {
@@ -273,8 +279,7 @@ impl OutboundQueue {
     }
 
     /// A SACK reported the first `count` pieces in flight missing: each outstanding one counts it, up to 3 (RFC 4960
-    /// section 7.2.4). Answers whether it was the third report of one of them. Goes over those pieces; where there are
-    /// some and the ring that holds what is in flight wraps round, all of it is put in a row first.
+    /// section 7.2.4). Answers whether it was the third report of one of them. Goes over those pieces.
     pub fn report_missing(&mut self, count: usize) -> bool
         ensures third { result ≡ list_any is_third_report (take count self.old.in_flight) }
         ensures counted { self.new ≡ with_missing count self.old }
@@ -282,18 +287,26 @@ impl OutboundQueue {
         report_missing(&mut self.in_flight, count)
     }
 
-    /// How many TSNs past the first one in flight the first outstanding piece is. Goes over the pieces before it.
-    pub fn first_outstanding(&self) -> Option<usize>
-        ensures { result ≡ position is_outstanding self.now.in_flight }
+    /// How many TSNs past the first one in flight the first outstanding piece is. Goes over the pieces before it that
+    /// no earlier call went over: a piece that is outstanding no more never is again.
+    pub fn first_outstanding(&mut self) -> Option<usize>
+        ensures same { self.new ≡ self.old }
+        ensures index { result ≡ position is_outstanding self.old.in_flight }
     {
-        first_outstanding(&self.in_flight)
+        self.settled = first_outstanding(&self.in_flight, self.settled);
+        if self.settled < self.in_flight.len() {
+            Some(self.settled)
+        } else {
+            None
+        }
     }
 
-    /// The TSN of the first outstanding piece. Goes over the pieces before it.
-    pub fn earliest_outstanding_tsn(&self) -> Option<u32>
-        ensures { result ≡ first_tsn_that is_outstanding self.now }
+    /// The TSN of the first outstanding piece. Costs what `first_outstanding` does.
+    pub fn earliest_outstanding_tsn(&mut self) -> Option<u32>
+        ensures same { self.new ≡ self.old }
+        ensures tsn { result ≡ first_tsn_that is_outstanding self.old }
     {
-        match first_outstanding(&self.in_flight) {
+        match self.first_outstanding() {
             Some(index) => Some(self.tsn_at(index)),
             None => None,
         }
@@ -358,6 +371,7 @@ impl OutboundQueue {
 
     // Drops the unsent pieces of a message, if it is the first one that waits; a marker takes the next TSN. Answers the
     // bytes dropped.
+    #[tactic(auto, using(crate::proofs::FirstOutstanding::more_there))]
     fn drop_tail(&mut self, message_id: u64) -> Result<u64, AllocError>
         ensures ok { IfOk result (λ bytes. tail_dropped self.old message_id ≡ (self.new, bytes)) }
         ensures err { OnErr result (self.new ≡ self.old) }
@@ -388,8 +402,8 @@ impl OutboundQueue {
     pub fn start_timed_messages(&mut self, now: Instant)
         ensures { self.new ≡ all_started now self.old }
     {
-        start_each_waiting(self.pending.make_contiguous(), now);
-        start_each_sent(self.in_flight.make_contiguous(), now);
+        start_all_waiting(&mut self.pending, now);
+        start_all_sent(&mut self.in_flight, now);
     }
 
     /// The first TSN in flight of an expired message that is not abandoned yet.

@@ -1,13 +1,14 @@
 // What goes over a list of the queue.
 ghost use Rattle.std.specs.Prelude.{◌≡◌, ◌+◌, ◌-◌, ◌^◌, ◌<◌, ◌≤◌, ◌++◌, not, length, map, min, fold, find, take, drop};
 ghost use Rattle.std.specs.Prelude.{position, slice_get, IfSome};
-ghost use Rattle.std.specs.List.{list_any};
+ghost use Rattle.std.specs.List.{list_any, position_or_len};
 ghost use Rattle.std.specs.Option.{option_copied, option_map};
 ghost use Rattle.sctp_outbound_queue.specs.Message.{piece_count, is_of, is_of_stream, is_waiting_of_stream};
 ghost use Rattle.sctp_outbound_queue.specs.Message.{is_outstanding, outstanding_bytes_of, is_expired_piece};
 ghost use Rattle.sctp_outbound_queue.specs.Message.{is_expired_unsent, marked_again, flagged, waiting_started};
 ghost use Rattle.sctp_outbound_queue.specs.Message.{sent_started, moved_down, sent_once, is_third_report, picks, reported_missing};
 ghost use Rattle.sctp_outbound_queue.specs.Outbound.{outstanding_of_message, pieces_waiting, after_piece, marked_of};
+ghost use Rattle.sctp_outbound_queue.specs.Outbound.{is_outstanding_piece, is_third_report_of, with_report};
 ghost use Rattle.sctp_outbound_queue.specs.Expiry.{without_expired};
 
 use crate::{Attributes, InFlight, PendingMessage, Retransmission};
@@ -64,10 +65,26 @@ pub(crate) fn count_marked(pieces: &VecDeque<InFlight>) -> usize
     pieces.iter().filter(|piece| piece.retransmit).count()
 }
 
-pub(crate) fn first_outstanding(pieces: &VecDeque<InFlight>) -> Option<usize>
-    ensures { result ≡ position is_outstanding pieces.now.items }
+// The place of the first outstanding piece, or how many there are. No piece before `from` is outstanding.
+pub(crate) fn first_outstanding(pieces: &VecDeque<InFlight>, from: usize) -> usize
+    requires { from ≤ position_or_len is_outstanding pieces.now.items }
+    ensures { result ≡ position_or_len is_outstanding pieces.now.items }
 {
-    pieces.iter().position(|piece| piece.is_outstanding())
+    for index in from..pieces.len() {
+        if is_outstanding_at(pieces, index) {
+            return index;
+        }
+    }
+    pieces.len()
+}
+
+fn is_outstanding_at(pieces: &VecDeque<InFlight>, index: usize) -> bool
+    ensures { result ≡ is_outstanding_piece (slice_get pieces.now.items index) }
+{
+    match pieces.get(index) {
+        Some(piece) => piece.is_outstanding(),
+        None => false,
+    }
 }
 
 pub(crate) fn first_missing(pieces: &VecDeque<InFlight>) -> Option<&InFlight>
@@ -167,40 +184,33 @@ fn mark_each(pieces: &mut [InFlight])
     }
 }
 
-// The first `count` pieces are reported missing. Answers whether it was the third report of one of them. Where there
-// are none nothing is gone over or moved.
+// The first `count` pieces are reported missing. Answers whether it was the third report of one of them.
 pub(crate) fn report_missing(pieces: &mut VecDeque<InFlight>, count: usize) -> bool
     ensures third { result ≡ list_any is_third_report (take count pieces.old.items) }
     ensures counted { pieces.new.items ≡
         map reported_missing (take count pieces.old.items) ++ drop count pieces.old.items }
 {
-    if count == 0 {
-        return false;
-    }
-    report_first(pieces.make_contiguous(), count)
-}
-
-fn report_first(pieces: &mut [InFlight], count: usize) -> bool
-    ensures third { result ≡ list_any is_third_report (take count pieces.old) }
-    ensures counted { pieces.new ≡ map reported_missing (take count pieces.old) ++ drop count pieces.old }
-{
-    if count < pieces.len() {
-        report_each(&mut pieces[..count])
-    } else {
-        report_each(pieces)
-    }
-}
-
-fn report_each(pieces: &mut [InFlight]) -> bool
-    ensures third { result ≡ list_any is_third_report pieces.old }
-    ensures counted { pieces.new ≡ map reported_missing pieces.old }
-{
     let mut any_third = false;
-    for piece in pieces.iter_mut() {
-        any_third |= piece.is_third_report();
-        piece.report_missing();
+    for index in 0..count.min(pieces.len()) {
+        any_third |= report_at(pieces, index);
     }
     any_third
+}
+
+// One piece is reported missing. Answers whether it was its third report.
+fn report_at(pieces: &mut VecDeque<InFlight>, index: usize) -> bool
+    ensures third { result ≡ is_third_report_of (slice_get pieces.old.items index) }
+    ensures counted { pieces.new.items ≡
+        with_report (slice_get pieces.old.items index) index pieces.old.items }
+{
+    match pieces.get_mut(index) {
+        Some(piece) => {
+            let is_third = piece.is_third_report();
+            piece.report_missing();
+            is_third
+        }
+        None => false,
+    }
 }
 
 fn flag_each(pieces: &mut [InFlight], message_id: u64)
@@ -211,7 +221,19 @@ fn flag_each(pieces: &mut [InFlight], message_id: u64)
     }
 }
 
-pub(crate) fn start_each_waiting(messages: &mut [PendingMessage], now: Instant)
+pub(crate) fn start_all_waiting(messages: &mut VecDeque<PendingMessage>, now: Instant)
+    ensures { messages.new.items ≡ map (waiting_started now) messages.old.items }
+{
+    start_each_waiting(messages.make_contiguous(), now);
+}
+
+pub(crate) fn start_all_sent(pieces: &mut VecDeque<InFlight>, now: Instant)
+    ensures { pieces.new.items ≡ map (sent_started now) pieces.old.items }
+{
+    start_each_sent(pieces.make_contiguous(), now);
+}
+
+fn start_each_waiting(messages: &mut [PendingMessage], now: Instant)
     ensures { messages.new ≡ map (waiting_started now) messages.old }
 {
     for message in messages.iter_mut() {
@@ -219,7 +241,7 @@ pub(crate) fn start_each_waiting(messages: &mut [PendingMessage], now: Instant)
     }
 }
 
-pub(crate) fn start_each_sent(pieces: &mut [InFlight], now: Instant)
+fn start_each_sent(pieces: &mut [InFlight], now: Instant)
     ensures { pieces.new ≡ map (sent_started now) pieces.old }
 {
     for piece in pieces.iter_mut() {

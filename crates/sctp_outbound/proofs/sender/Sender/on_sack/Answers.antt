@@ -5,6 +5,7 @@ use Rattle.sctp_outbound_queue.specs.declared.message.InFlight.{InFlight}
 use Rattle.sctp_outbound.specs.declared.sender.Sender.{Sender}
 use Rattle.sctp_outbound.specs.GapAcks.{with_blocks}
 use Rattle.sctp_outbound.specs.Progress.{any_new_up_to}
+use Rattle.sctp_outbound.specs.Recovery.{past_recovery}
 use Rattle.sctp_outbound.specs.Sacks.{grown_by, reported_by}
 use Rattle.sctp_outbound.specs.Sender.{acknowledged, t3_after_sack}
 use Rattle.sctp_outbound.proofs.MissingPieces.{counts_with}
@@ -29,10 +30,13 @@ pub returns-clause-taken : goal.returns-clause-taken
 returns-clause-taken c =
     let s : Sender = c.args.self.now in
     let n = c.count_to-count.result in
+    let past : c.leave_recovery.new.self ≡ past_recovery n (record s { advertised_window = c.args.window }) =
+    c.leave_recovery.ensures ∙ ap (λ (z : Sender). past_recovery n (record z { advertised_window = c.args.window }))
+    c.names_earliest-earliest.ensures.same in
     let left : c.acknowledge-any_new.new.self.queue.in_flight ≡ drop n s.queue.in_flight =
     sym (ap (λ (z : Sender × Estimate × StreamMap). z.0.queue.in_flight) c.acknowledge-any_new.ensures.exact)
     ∙ left_behind n c.args.now c.leave_recovery.new.self c.args.rto.now c.args.streams.now
-    ∙ ap (λ (z : Sender). drop n z.queue.in_flight) c.leave_recovery.ensures in
+    ∙ ap (λ (z : Sender). drop n z.queue.in_flight) past in
     λ _. rw (c.count_misses.ensures, c.grow_window.ensures)
     (counts_with s c.args.cumulative_tsn_ack c.args.blocks.now c.args.window c.args.now c.args.rto.now
     c.args.streams.now n c.inflight_bytes-before.result c.acknowledge_blocks-newest.result
@@ -41,7 +45,7 @@ returns-clause-taken c =
     ∙ ap (λ z. reported_by (nat_lt 0 n) c.acknowledge_blocks-newest.result
     (grown_by (nat_lt 0 n) c.inflight_bytes-before.result z))
     (ap (λ z. with_blocks c.args.now c.args.blocks.now
-    (acknowledged n c.args.now (z, c.args.rto.now, c.args.streams.now))) (sym c.leave_recovery.ensures)
+    (acknowledged n c.args.now (z, c.args.rto.now, c.args.streams.now))) (sym past)
     ∙ ap (with_blocks c.args.now c.args.blocks.now) c.acknowledge-any_new.ensures.exact
     ∙ c.acknowledge_blocks-newest.ensures.exact))
 
@@ -49,7 +53,8 @@ pub returns-clause-timer : goal.returns-clause-timer
 returns-clause-timer c =
     let n = c.count_to-count.result in
     let pieces : c.leave_recovery.new.self.queue.in_flight ≡ c.args.self.now.queue.in_flight =
-    ap (λ (z : Sender). z.queue.in_flight) c.leave_recovery.ensures in
+    ap (λ (z : Sender). z.queue.in_flight) c.leave_recovery.ensures
+    ∙ ap (λ (z : Sender). z.queue.in_flight) c.names_earliest-earliest.ensures.same in
     let left =
     sym (ap (λ (z : Sender × Estimate × StreamMap). z.0.queue.in_flight) c.acknowledge-any_new.ensures.exact)
     ∙ left_behind n c.args.now c.leave_recovery.new.self c.args.rto.now c.args.streams.now
@@ -65,4 +70,4 @@ returns-clause-timer c =
     c.acknowledge-any_new.result c.names_earliest-earliest.result c.acknowledge_blocks-newest.result
     c.acknowledge-any_new.new.self.queue.in_flight c.count_to-count.ensures
     (c.acknowledge-any_new.ensures.any ∙ ap (any_new_up_to n) pieces)
-    c.acknowledge_blocks-newest.ensures.newest left c.names_earliest-earliest.ensures)
+    c.acknowledge_blocks-newest.ensures.newest left c.names_earliest-earliest.ensures.names)

@@ -1,5 +1,7 @@
-use Rattle.std.proofs.Common.{◌∙◌, ap, sym}
+use Rattle.std.proofs.Common.{◌∙◌, ap, arith, sym}
 use Rattle.sctp_outbound_queue.specs.Outbound.{marked_of, outstanding_of}
+use Rattle.sctp_outbound_queue.specs.Message.{reported_missing}
+use Rattle.sctp_outbound_queue.proofs.FirstOutstanding.{after_reports, reported}
 use Rattle.sctp_outbound_queue.proofs.ReportedMissing.{as_many_marked, as_many_outstanding}
 use Rattle.sctp_outbound_queue.proofs.queue.OutboundQueue.report_missing.Goals as goal
 
@@ -13,4 +15,6 @@ invariant_of-self c = (
   c.self.invariant.3
       ∙ sym (ap marked_of c.report_missing.ensures.counted
       ∙ as_many_marked c.args.count c.self.inside.in_flight.items),
+  rw c.report_missing.ensures.counted
+      (omega (arith, after_reports reported_missing reported c.args.count c.self.inside.in_flight.items, c.self.invariant.4)),
 )
