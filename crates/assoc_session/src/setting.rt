@@ -1,10 +1,8 @@
 // The setting in which every session runs.
 use crate::line::Beginning;
-use bytes::Bytes;
-use sctp_assoc::{ChunkInit, Error, Instant, SUPPORTED_EXTENSIONS, ServerConfig, TransportConfig};
+use sctp_assoc::{Error, Instant, ServerConfig, TransportConfig, token};
 use sctp_pair::Pair;
-use sctp_wire_queues::{List, Param};
-use std::alloc::{AllocError, Global};
+use std::alloc::Global;
 use std::net::{IpAddr, Ipv4Addr, SocketAddr};
 
 /// Initiate tags of the two sides.
@@ -87,25 +85,6 @@ pub fn snapped_under(
         address(2),
         address(1),
     )
-}
-
-/// What one side offers, as an INIT would say it.
-fn token(
-    alloc: Global,
-    config: &TransportConfig,
-    initiate_tag: u32,
-    initial_tsn: u32,
-) -> Result<ChunkInit, AllocError> {
-    let mut params = List::new(alloc);
-    params.push(Param::SupportedExtensions(Bytes::from_static(&SUPPORTED_EXTENSIONS)))?;
-    Ok(ChunkInit {
-        initiate_tag,
-        advertised_receiver_window_credit: config.max_receive_buffer_size(),
-        num_outbound_streams: config.max_num_outbound_streams(),
-        num_inbound_streams: config.max_num_inbound_streams(),
-        initial_tsn,
-        params,
-    })
 }
 
 /// An address of the documentation range, at port 5000.

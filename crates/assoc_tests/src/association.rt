@@ -1,11 +1,9 @@
 // One association by itself.
-use bytes::Bytes;
 use sctp_assoc::{
-    Association, AssociationState, ChunkInit, Error, Event, Instant, PayloadProtocolIdentifier,
-    SUPPORTED_EXTENSIONS, TransportConfig,
+    Association, AssociationState, Error, Event, Instant, PayloadProtocolIdentifier,
+    TransportConfig, token,
 };
-use sctp_wire_queues::{List, Param};
-use std::alloc::{AllocError, Global};
+use std::alloc::Global;
 use std::net::{IpAddr, Ipv4Addr, SocketAddr};
 use std::test::Fail;
 use std::time::Duration;
@@ -15,21 +13,6 @@ pub(crate) fn address(host: u8) -> SocketAddr {
     SocketAddr::new(IpAddr::V4(Ipv4Addr::new(192, 0, 2, host)), 5000)
 }
 
-// What a side offers, as an INIT would say it.
-fn token(alloc: Global, initiate_tag: u32, initial_tsn: u32) -> Result<ChunkInit, AllocError> {
-    let config = TransportConfig::default();
-    let mut params = List::new(alloc);
-    params.push(Param::SupportedExtensions(Bytes::from_static(&SUPPORTED_EXTENSIONS)))?;
-    Ok(ChunkInit {
-        initiate_tag,
-        advertised_receiver_window_credit: config.max_receive_buffer_size(),
-        num_outbound_streams: config.max_num_outbound_streams(),
-        num_inbound_streams: config.max_num_inbound_streams(),
-        initial_tsn,
-        params,
-    })
-}
-
 /// An association that tokens with these initiate tags join, its own first.
 pub(crate) fn joined(
     alloc: Global,
@@ -37,8 +20,8 @@ pub(crate) fn joined(
     tags: (u32, u32),
 ) -> Result<Association, Error> {
     let config = TransportConfig::default();
-    let local = token(alloc, tags.0, 100)?;
-    let remote = token(alloc, tags.1, 500)?;
+    let local = token(alloc, &config, tags.0, 100)?;
+    let remote = token(alloc, &config, tags.1, 500)?;
     let remote_addr = address(2);
     Association::new_with_out_of_band_init(
         alloc,

@@ -2,11 +2,10 @@
 use anyhow::{Result, bail};
 use bytes::Bytes;
 use sctp_assoc::{
-    Association, AssociationEvent, ChunkInit, Chunks, Error, Event, Instant, List, Param,
-    PartialDecode, Payload, PayloadProtocolIdentifier, SUPPORTED_EXTENSIONS, StreamEvent, StreamId,
-    Transmit, TransportConfig,
+    Association, AssociationEvent, ChunkInit, Chunks, Error, Event, Instant, PartialDecode,
+    Payload, PayloadProtocolIdentifier, StreamEvent, StreamId, Transmit, TransportConfig, token,
 };
-use std::alloc::{AllocError, Global};
+use std::alloc::Global;
 use std::net::{IpAddr, Ipv4Addr, SocketAddr};
 
 /// Greatest payload of one DATA chunk, in bytes.
@@ -96,25 +95,6 @@ fn joined_by(
     other: &ChunkInit,
 ) -> Result<Association, Error> {
     Association::new_with_out_of_band_init(alloc, config, PAYLOAD_SIZE, peer(), None, own, other)
-}
-
-// What one side offers, as an INIT would say it.
-fn token(
-    alloc: Global,
-    config: &TransportConfig,
-    initiate_tag: u32,
-    initial_tsn: u32,
-) -> Result<ChunkInit, AllocError> {
-    let mut params = List::new(alloc);
-    params.push(Param::SupportedExtensions(Bytes::from_static(&SUPPORTED_EXTENSIONS)))?;
-    Ok(ChunkInit {
-        initiate_tag,
-        advertised_receiver_window_credit: config.max_receive_buffer_size(),
-        num_outbound_streams: config.max_num_outbound_streams(),
-        num_inbound_streams: config.max_num_inbound_streams(),
-        initial_tsn,
-        params,
-    })
 }
 
 // An address that no association looks at.

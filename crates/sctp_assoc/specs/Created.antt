@@ -19,12 +19,17 @@ use Rattle.sctp_parts.specs.Stats.{no_counts}
 use Rattle.sctp_streams.specs.declared.event.Event.TheVariants.{Connected}
 use Rattle.sctp_streams.specs.Streams.{no_stream}
 use Rattle.sctp_inbound.specs.declared.handshake.Handshake.{Handshake}
+use Rattle.sctp_inbound.specs.Greeting.{init_of}
 use Rattle.sctp_inbound.specs.Handshake.{by_tokens_of, fresh_of, offer_of, side_of}
 use Rattle.sctp_inbound.specs.Receiver.{fresh_receiver}
 use Rattle.sctp_outbound.specs.Sender.{fresh_sender}
 use Rattle.sctp_wire_types.specs.declared.config.ServerConfig.{ServerConfig}
 use Rattle.sctp_assoc.specs.Handshake.{sends_init}
 use Rattle.sctp_assoc.specs.Shown.{Shown}
+
+-- the token of a side with this configuration: the INIT that it would send
+abbrev pub token_of : Settings → ℕ → ℕ → ChunkInit
+token_of config tag initial_tsn = init_of (fresh_of config tag initial_tsn [] None) (offer_of config)
 
 -- why two tokens do not establish an association, want of memory aside
 abbrev pub join_refusal : ℕ → ChunkInit → ChunkInit → Option Error

@@ -7,7 +7,7 @@
 //!
 //! - [`Association::new`] makes a client or a server, which a handshake is to establish.
 //! - [`Association::new_with_out_of_band_init`] makes one that is established at once. Both sides exchanged their
-//!   INIT chunks in another way before; such a chunk is called a token.
+//!   INIT chunks in another way before; such a chunk is called a token, and [`token`] makes it.
 //!
 //! | Calls | Who makes them |
 //! |---|---|
@@ -79,6 +79,7 @@ mod readers;
 mod shared;
 mod stream;
 mod stream_calls;
+mod tokens;
 
 pub use association::Association;
 pub use sctp_inbound::SUPPORTED_EXTENSIONS;
@@ -94,3 +95,4 @@ pub use sctp_wire_queues::{
 };
 pub use shared::AssociationEvent;
 pub use stream::Stream;
+pub use tokens::token;

@@ -25,7 +25,7 @@ pub use driver::Driver;
 pub use messages::Read;
 pub use sctp_assoc::{
     ChunkInit, Error, Event, PayloadProtocolIdentifier, ReliabilityType, StreamEvent,
-    TransportConfig,
+    TransportConfig, token,
 };
 pub use sending::Sent;
 pub use tags::Received;
