@@ -7,13 +7,16 @@ use Rattle.sctp_pair.specs.declared.step.Step.{Step}
 use Rattle.sctp_pair.specs.Ends.{Ends}
 use Rattle.sctp_pair.specs.World.{IsSafeWorld, World, empty_world}
 use Rattle.sctp_pair.specs.Fits.{Fits, RunsSafely}
-use Rattle.sctp_pair.specs.Callers.{AcceptFew, CameBy, ComesOn, HoldsOn, Made}
+use Rattle.sctp_pair.specs.Callers.{AcceptFew, CameBy, ComesOn, HoldsOn, Made, NothingIsReadBeforeADelivery}
+use Rattle.sctp_pair.specs.Callers.{ReadsAreFronts, ReadsWereWritten}
 use Rattle.sctp_pair.specs.Counted.{FitsCounted, LeadsCounted, RunsCounted, Tally}
 use Rattle.sctp_pair.specs.Steps.{Runs, Steps}
 use Rattle.sctp_pair.proofs.FewInAll.{few_in_front, few_stay_few}
 use Rattle.pair_callers.specs.Going.{to_side}
 use Rattle.pair_callers.specs.Running.{BeginsWithNothing, HasNothing, RunsCounting, RunsTelling, StepsTelling}
 use Rattle.pair_callers.specs.Running.{TellsAccepted}
+use Rattle.pair_callers.specs.Telling.{HoldFromNew}
+use Rattle.pair_callers.proofs.QuestionSteps.{as_many_replies}
 use Rattle.pair_callers.proofs.StepsByDirection.{promised_to}
 use Rattle.pair_callers.proofs.ReadMessages.{are_numbered}
 
@@ -58,11 +61,35 @@ law_of_one_more Law m ss rs s r p u q new led one on holds few =
     let came = on m [] [] new (few_stay_few ss rs p u led m [] [] new first) in
     holds m ss rs came (few_stay_few (s ∷ []) (r ∷ []) u q (q, one, refl) m ss rs came few)
 
--- what holds of a value that was answered by two things that do
-pub if_ok_both : {A E : Type 0} (r : Result A E) (P Q R : A → Type 0) → IfOk r P → IfOk r Q
-    → ((a : A) → P a → Q a → R a) → IfOk r R
-if_ok_both (Ok a) P Q R h g f = f a h g
-if_ok_both (Err e) P Q R h g f = h
+-- what a pair was made with whose sides have the same payload size
+abbrev pub made_alike : ℕ → ℕ → ℕ → Made
+made_alike size initial_a initial_b = record {
+  size_a = size;
+  size_b = size;
+  initial_a = initial_a;
+  initial_b = initial_b;
+}
+
+-- What holds of all steps of a new pair, by the clauses of its run.
+pub hold_from_new : (size initial_a initial_b : ℕ) (ss : List Step) (rs : List Reply) (p q : Ends)
+    → CameBy (made_alike size initial_a initial_b) [] [] p → Runs ss rs p q → HoldsOn ReadsAreFronts ss rs p
+    → HoldsOn ReadsWereWritten ss rs p → HoldsOn NothingIsReadBeforeADelivery ss rs p → HoldFromNew size ss rs
+hold_from_new size initial_a initial_b ss rs p q new led front written undelivered =
+    let m = made_alike size initial_a initial_b in
+    record {
+      each = as_many_replies ss rs p q led;
+      hold = λ few. record {
+        front = law_of_all ReadsAreFronts m ss rs p q new led front few;
+        written = law_of_all ReadsWereWritten m ss rs p q new led written few;
+        undelivered = law_of_all NothingIsReadBeforeADelivery m ss rs p q new led undelivered few;
+      };
+    }
+
+-- what holds of a value that was answered by four things that do
+pub if_ok_all : {A E : Type 0} (r : Result A E) (P Q R S T : A → Type 0) → IfOk r P → IfOk r Q → IfOk r R → IfOk r S
+    → ((a : A) → P a → Q a → R a → S a → T a) → IfOk r T
+if_ok_all (Ok a) P Q R S T first second third fourth f = f a first second third fourth
+if_ok_all (Err e) P Q R S T first second third fourth f = first
 
 has_nothing : (size : ℕ) → HasNothing (fresh size)
 has_nothing size = record { accepted = λ s. refl; read = λ s. refl; span = λ s. refl }

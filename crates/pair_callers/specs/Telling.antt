@@ -1,9 +1,9 @@
 -- What the replies of all steps of a pair tell, run by run.
-use Rattle.std.specs.Prelude.{List, ◌++◌}
+use Rattle.std.specs.Prelude.{◌≡◌, ℕ, List, ◌++◌, length}
 use Rattle.sctp_pair.specs.declared.step.Reply.{Reply}
 use Rattle.sctp_pair.specs.declared.step.Step.{Step}
-use Rattle.sctp_pair.specs.Callers.{CameBy, Made, NothingIsReadBeforeADelivery, ReadsAreFronts, ReadsWereWritten}
-use Rattle.sctp_pair.specs.Callers.{StaysFew, tally_of}
+use Rattle.sctp_pair.specs.Callers.{AcceptFew, CameBy, Made, NothingIsReadBeforeADelivery, ReadsAreFronts}
+use Rattle.sctp_pair.specs.Callers.{ReadsWereWritten, StaysFew, tally_of}
 use Rattle.sctp_pair.specs.Ends.{Ends}
 use Rattle.sctp_pair.specs.Steps.{Runs}
 
@@ -12,6 +12,12 @@ pub record AllHold (ss : List Step) (rs : List Reply) : Type 0 where
   pub front : ReadsAreFronts ss rs
   pub written : ReadsWereWritten ss rs
   pub undelivered : NothingIsReadBeforeADelivery ss rs
+
+-- All steps of a new pair, each side of which has this payload size: each step has its reply, and where each side
+-- accepts few pieces in all, the laws hold.
+pub record HoldFromNew (size : ℕ) (ss : List Step) (rs : List Reply) : Type 0 where
+  pub each : length rs ≡ length ss
+  pub hold : AcceptFew size size ss rs → AllHold ss rs
 
 -- Two runs, of which the first one led from p to `between`, and the second one from there to q. Whatever steps led to p
 -- before: where few pieces stay unacknowledged in the first run, counted from p, and in the second one, counted from

@@ -1,8 +1,8 @@
 // Telling: what the replies of all steps tell of a pair, with no world and no premise but that few pieces stay
 // unacknowledged and few messages unread; it is enough that little is written at all.
-ghost use Rattle.std.specs.Prelude.{◌≡◌, ◌∷◌, ◌++◌, [], IfOk, length};
-ghost use Rattle.sctp_pair.specs.Callers.{AcceptFew, NothingIsReadBeforeADelivery, ReadsAreFronts, ReadsWereWritten};
-ghost use Rattle.pair_callers.specs.Telling.{HoldOverTwo};
+ghost use Rattle.std.specs.Prelude.{◌∷◌, ◌++◌, [], IfOk};
+ghost use Rattle.sctp_pair.specs.Callers.{AcceptFew, ReadsAreFronts};
+ghost use Rattle.pair_callers.specs.Telling.{HoldFromNew, HoldOverTwo};
 
 use crate::running::join;
 use sctp_assoc::{AssociationId, ChunkInit, Error, Instant, ServerConfig, TransportConfig};
@@ -10,8 +10,8 @@ use sctp_pair::{Pair, Reply, Step};
 use std::alloc::Global;
 use std::net::SocketAddr;
 
-/// Joins two associations by their tokens and runs the steps: what one side read is a front of what the other one
-/// wrote, and nothing was read before the first delivery.
+/// Joins two associations by their tokens and runs the steps: each has a reply, what one side read is a front of what
+/// the other one wrote, each message of it was written, and nothing was read before the first delivery.
 pub fn run_joined(
     alloc: Global,
     config: &TransportConfig,
@@ -22,15 +22,7 @@ pub fn run_joined(
     remote_of_b: SocketAddr,
     steps: &[Step],
 ) -> Result<Vec<Reply>, Error>
-    ensures each { IfOk result (λ replies. length replies.items ≡ length steps.now) }
-    ensures front { IfOk result (λ replies.
-        AcceptFew max_payload_size max_payload_size steps.now replies.items → ReadsAreFronts steps.now replies.items) }
-    ensures written { IfOk result (λ replies.
-        AcceptFew max_payload_size max_payload_size steps.now replies.items
-        → ReadsWereWritten steps.now replies.items) }
-    ensures undelivered { IfOk result (λ replies.
-        AcceptFew max_payload_size max_payload_size steps.now replies.items
-        → NothingIsReadBeforeADelivery steps.now replies.items) }
+    ensures { IfOk result (λ replies. HoldFromNew max_payload_size steps.now replies.items) }
 {
     let mut pair = join(
         alloc,
@@ -44,7 +36,7 @@ pub fn run_joined(
     pair.run(steps)
 }
 
-/// Makes a client and a server and runs the steps: what one side read is a front of what the other one wrote.
+/// Makes a client and a server and runs the steps: the same holds of them.
 pub fn run_client_server(
     alloc: Global,
     config: &TransportConfig,
@@ -57,15 +49,7 @@ pub fn run_client_server(
     now: Instant,
     steps: &[Step],
 ) -> Result<Vec<Reply>, Error>
-    ensures each { IfOk result (λ replies. length replies.items ≡ length steps.now) }
-    ensures front { IfOk result (λ replies.
-        AcceptFew max_payload_size max_payload_size steps.now replies.items → ReadsAreFronts steps.now replies.items) }
-    ensures written { IfOk result (λ replies.
-        AcceptFew max_payload_size max_payload_size steps.now replies.items
-        → ReadsWereWritten steps.now replies.items) }
-    ensures undelivered { IfOk result (λ replies.
-        AcceptFew max_payload_size max_payload_size steps.now replies.items
-        → NothingIsReadBeforeADelivery steps.now replies.items) }
+    ensures { IfOk result (λ replies. HoldFromNew max_payload_size steps.now replies.items) }
 {
     let mut pair = Pair::client_server(
         alloc,
