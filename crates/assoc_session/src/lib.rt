@@ -6,7 +6,7 @@ mod replay;
 mod reply;
 mod setting;
 
-pub use line::{Beginning, Line, parse};
+pub use line::{Beginning, JoinedBy, Line, parse};
 pub use replay::session;
 pub use reply::show;
-pub use setting::{snapped, snapped_under};
+pub use setting::snapped_under;

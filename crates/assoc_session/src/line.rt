@@ -9,20 +9,26 @@ use std::alloc::{AllocError, Global};
 #[derive(Drop)]
 pub enum Line {
     /// Make two associations.
-    Begin {
-        by: Beginning,
-        max_payload_size: u32,
-        tsn_a: u32,
-        tsn_b: u32,
-    },
+    Begin(Beginning),
     Step(Step),
     /// All five questions about the state of a side.
     State(Side2),
 }
 
+/// What two associations begin with.
+#[derive(Clone, Copy, Debug)]
+pub struct Beginning {
+    pub by: JoinedBy,
+    /// Greatest payload of one DATA chunk, in bytes.
+    pub max_payload_size: u32,
+    /// First TSNs.
+    pub tsn_a: u32,
+    pub tsn_b: u32,
+}
+
 /// How two associations come about.
 #[derive(Clone, Copy, Debug)]
-pub enum Beginning {
+pub enum JoinedBy {
     /// Tokens join them.
     Tokens,
     /// A is a client and B a server, before their handshake.
@@ -51,20 +57,20 @@ fn parse_fields(alloc: Global, fields: &[&str]) -> Result<Option<Line>, AllocErr
 // The lines that take no memory to read.
 fn plain_line(fields: &[&str]) -> Option<Line> {
     match fields {
-        ["snap", size, tsn_a, tsn_b] => begin(Beginning::Tokens, size, tsn_a, tsn_b),
-        ["client", size, tsn_a, tsn_b] => begin(Beginning::Handshake, size, tsn_a, tsn_b),
+        ["snap", size, tsn_a, tsn_b] => begin(JoinedBy::Tokens, size, tsn_a, tsn_b),
+        ["client", size, tsn_a, tsn_b] => begin(JoinedBy::Handshake, size, tsn_a, tsn_b),
         ["state", side] => Some(Line::State(side_of(side)?)),
         fields => Some(Line::Step(other_step(fields)?)),
     }
 }
 
-fn begin(by: Beginning, size: &str, tsn_a: &str, tsn_b: &str) -> Option<Line> {
-    Some(Line::Begin {
+fn begin(by: JoinedBy, size: &str, tsn_a: &str, tsn_b: &str) -> Option<Line> {
+    Some(Line::Begin(Beginning {
         by,
         max_payload_size: number_u32(size)?,
         tsn_a: number_u32(tsn_a)?,
         tsn_b: number_u32(tsn_b)?,
-    })
+    }))
 }
 
 fn write(alloc: Global, side: &str, id: &str, bytes: &str) -> Result<Option<Line>, AllocError> {

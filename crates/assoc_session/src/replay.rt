@@ -1,8 +1,8 @@
 // A session: lines in, replies out.
 ghost use Rattle.std.specs.Prelude.{◌≡◌, ◌⊎◌};
 
-use crate::line::{Line, parse};
-use crate::reply::show;
+use crate::line::{Beginning, Line, parse};
+use crate::reply::{flag, show, show_refusal};
 use crate::setting::begun;
 use sctp_pair::{Pair, Reply, Side2, Step};
 use std::alloc::{AllocError, Global};
@@ -63,6 +63,9 @@ fn replay<R: Read + Drop, W: Write + Drop>(alloc: Global, input: R, output: W) -
     ended
 }
 
+// Each way out of a function that owns a pair, a step or a reply proves how that is dropped. So one function owns each
+// of them, with one way out, and the others borrow it.
+
 fn replay_lines<R: BufRead, W: Write>(
     alloc: Global,
     reader: &mut R,
@@ -72,22 +75,65 @@ fn replay_lines<R: BufRead, W: Write>(
     if !next_line(reader, &mut line)? {
         return Ok(());
     }
-    let Some(mut pair) = first_step(alloc, writer, line.as_slice())? else {
-        return Ok(());
-    };
+    let beginning = beginning_of(alloc, line.as_slice())?;
+    begin(alloc, reader, writer, beginning, &mut line)
+}
+
+// What the first line asks for.
+fn beginning_of(alloc: Global, line: &[u8]) -> Result<Beginning, Stop> {
+    let line = parse(alloc, line)?;
+    match &line {
+        Some(Line::Begin(beginning)) => Ok(*beginning),
+        _ => Err(Stop::BadStep(1)),
+    }
+}
+
+// Makes the pair, and carries out the lines that follow; where it is refused, the session ends.
+fn begin<R: BufRead, W: Write>(
+    alloc: Global,
+    reader: &mut R,
+    writer: &mut W,
+    beginning: Beginning,
+    line: &mut Vec<u8>,
+) -> Result<(), Stop> {
+    match begun(alloc, beginning) {
+        Ok(mut pair) => go_on(alloc, reader, writer, &mut pair, line),
+        Err(error) => write_refusal(alloc, writer, error.number()),
+    }
+}
+
+// The reply to the first line, and the lines behind it. `line` is room for one.
+fn go_on<R: BufRead, W: Write>(
+    alloc: Global,
+    reader: &mut R,
+    writer: &mut W,
+    pair: &mut Pair,
+    line: &mut Vec<u8>,
+) -> Result<(), Stop> {
+    writeln!(writer, "ok")?;
     for number in 2..u64::MAX {
-        if !next_line(reader, &mut line)? {
+        if !next_line(reader, line)? {
             break;
         }
-        let Some(line) = parse(alloc, line.as_slice())? else {
-            return Err(Stop::BadStep(number));
-        };
-        carry_out(alloc, writer, &mut pair, &line, number)?;
+        answer_line(alloc, writer, pair, line.as_slice(), number)?;
     }
     Ok(())
 }
 
 // Carries out a line behind the first one.
+fn answer_line<W: Write>(
+    alloc: Global,
+    writer: &mut W,
+    pair: &mut Pair,
+    line: &[u8],
+    number: u64,
+) -> Result<(), Stop> {
+    match parse(alloc, line)? {
+        Some(line) => carry_out(alloc, writer, pair, &line, number),
+        None => Err(Stop::BadStep(number)),
+    }
+}
+
 fn carry_out<W: Write>(
     alloc: Global,
     writer: &mut W,
@@ -96,36 +142,20 @@ fn carry_out<W: Write>(
     number: u64,
 ) -> Result<(), Stop> {
     match line {
-        Line::Step(step) => write_line(alloc, writer, pair.step(step)),
+        Line::Step(step) => answer_step(alloc, writer, pair, step),
         Line::State(side) => write_state(writer, pair, *side),
-        Line::Begin { .. } => Err(Stop::BadStep(number)),
+        Line::Begin(_) => Err(Stop::BadStep(number)),
     }
 }
 
-// Makes the pair; None where it is refused, which ends the session.
-fn first_step<W: Write>(alloc: Global, writer: &mut W, line: &[u8]) -> Result<Option<Pair>, Stop> {
-    let line = parse(alloc, line)?;
-    let Some(
-        Line::Begin {
-            by,
-            max_payload_size,
-            tsn_a,
-            tsn_b,
-        },
-    ) = &line
-    else {
-        return Err(Stop::BadStep(1));
-    };
-    match begun(alloc, *by, *max_payload_size, *tsn_a, *tsn_b) {
-        Ok(pair) => {
-            write_line(alloc, writer, Reply::Done)?;
-            Ok(Some(pair))
-        }
-        Err(error) => {
-            write_line(alloc, writer, Reply::Refused(error.number()))?;
-            Ok(None)
-        }
-    }
+fn answer_step<W: Write>(
+    alloc: Global,
+    writer: &mut W,
+    pair: &mut Pair,
+    step: &Step,
+) -> Result<(), Stop> {
+    let mut reply = pair.step(step);
+    write_reply(alloc, writer, &mut reply)
 }
 
 // The next line without its newline; false where the input ended.
@@ -141,29 +171,29 @@ fn next_line<R: BufRead>(reader: &mut R, line: &mut Vec<u8>) -> Result<bool, Sto
     Ok(true)
 }
 
-fn write_line<W: Write>(alloc: Global, writer: &mut W, reply: Reply) -> Result<(), Stop> {
+fn write_reply<W: Write>(alloc: Global, writer: &mut W, reply: &mut Reply) -> Result<(), Stop> {
     let text = show(alloc, reply)?;
     writeln!(writer, "{text}")?;
     Ok(())
 }
 
+fn write_refusal<W: Write>(alloc: Global, writer: &mut W, number: u8) -> Result<(), Stop> {
+    let text = show_refusal(alloc, number)?;
+    writeln!(writer, "{text}")?;
+    Ok(())
+}
+
 // Handshaking, closed, closing, drained and failed, each 0 or 1.
-fn write_state<W: Write>(writer: &mut W, pair: &mut Pair, side: Side2) -> Result<(), Stop> {
-    let handshaking = answer(pair.step(&Step::IsHandshaking { side }));
-    let closed = answer(pair.step(&Step::IsClosed { side }));
-    let closing = answer(pair.step(&Step::IsClosing { side }));
-    let drained = answer(pair.step(&Step::IsDrained { side }));
-    let failed = answer(pair.step(&Step::IsFailed { side }));
+fn write_state<W: Write>(writer: &mut W, pair: &Pair, side: Side2) -> Result<(), Stop> {
+    let association = pair.association(side);
+    let handshaking = flag(association.is_handshaking());
+    let closed = flag(association.is_closed());
+    let closing = flag(association.is_closing());
+    let drained = flag(association.is_drained());
+    let failed = flag(association.is_failed());
     writeln!(
         writer,
         "{handshaking} {closed} {closing} {drained} {failed}"
     )?;
     Ok(())
-}
-
-fn answer(reply: Reply) -> u8 {
-    match reply {
-        Reply::State(true) => 1,
-        _ => 0,
-    }
 }

@@ -3,13 +3,13 @@ use sctp_assoc::{AssociationError, Chunks, Event, StreamEvent};
 use sctp_pair::Reply;
 use std::alloc::{AllocError, Global};
 
-/// A reply without its newline.
-pub fn show(alloc: Global, reply: Reply) -> Result<String, AllocError> {
+/// A reply without its newline. The bytes of a message are taken out of it.
+pub fn show(alloc: Global, reply: &mut Reply) -> Result<String, AllocError> {
     match reply {
         Reply::Read(Some(message)) => show_message(alloc, message),
         Reply::StreamIds(ids) => show_ids(alloc, ids.as_slice()),
-        Reply::Event(Some(event)) => show_event(alloc, event),
-        other => show_word(alloc, &other),
+        Reply::Event(Some(event)) => show_event(alloc, *event),
+        other => show_word(alloc, other),
     }
 }
 
@@ -28,9 +28,14 @@ fn show_number(alloc: Global, reply: &Reply) -> Result<String, AllocError> {
         Reply::BufferedAmount(amount) => format!(in alloc; "{amount}"),
         Reply::Accepted(Some(id)) => format!(in alloc; "stream {id}"),
         Reply::Sent { first, count } => format!(in alloc; "packets {first} {count}"),
-        Reply::Refused(number) => format!(in alloc; "refused {number}"),
+        Reply::Refused(number) => show_refusal(alloc, *number),
         other => show_time(alloc, other),
     }
+}
+
+/// A refusal of this number.
+pub(crate) fn show_refusal(alloc: Global, number: u8) -> Result<String, AllocError> {
+    format!(in alloc; "refused {number}")
 }
 
 fn show_time(alloc: Global, reply: &Reply) -> Result<String, AllocError> {
@@ -55,12 +60,12 @@ fn show_ids(alloc: Global, ids: &[u16]) -> Result<String, AllocError> {
     Ok(text)
 }
 
-fn flag(answer: bool) -> &'static str {
+/// The answer of a question about the state.
+pub(crate) fn flag(answer: bool) -> &'static str {
     if answer { "1" } else { "0" }
 }
 
-fn show_message(alloc: Global, message: Chunks) -> Result<String, AllocError> {
-    let mut message = message;
+fn show_message(alloc: Global, message: &mut Chunks) -> Result<String, AllocError> {
     let number = message.payload_type().number();
     let mut text = format!(in alloc; "message {number} ")?;
     if message.is_empty() {

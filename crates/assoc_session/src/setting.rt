@@ -1,5 +1,5 @@
 // The setting in which every session runs.
-use crate::line::Beginning;
+use crate::line::{Beginning, JoinedBy};
 use sctp_assoc::{Error, Instant, ServerConfig, TransportConfig, token};
 use sctp_pair::Pair;
 use std::alloc::Global;
@@ -14,54 +14,42 @@ const TAG_B: u32 = 2;
 const COOKIE: [u8; 32] = [67; 32];
 
 /// Two associations, each with the default configuration; a client's INIT is due at the moment 0.
-pub fn begun(
-    alloc: Global,
-    by: Beginning,
-    max_payload_size: u32,
-    tsn_a: u32,
-    tsn_b: u32,
-) -> Result<Pair, Error> {
-    match by {
-        Beginning::Tokens => snapped(alloc, max_payload_size, tsn_a, tsn_b),
-        Beginning::Handshake => client_server(alloc, max_payload_size, tsn_a, tsn_b),
+pub fn begun(alloc: Global, beginning: Beginning) -> Result<Pair, Error> {
+    let config = TransportConfig::default();
+    match beginning.by {
+        JoinedBy::Tokens => snapped_under(
+            alloc,
+            &config,
+            beginning.max_payload_size,
+            beginning.tsn_a,
+            beginning.tsn_b,
+        ),
+        JoinedBy::Handshake => client_server(alloc, &config, beginning),
     }
 }
 
 fn client_server(
     alloc: Global,
-    max_payload_size: u32,
-    tsn_a: u32,
-    tsn_b: u32,
+    config: &TransportConfig,
+    beginning: Beginning,
 ) -> Result<Pair, Error> {
-    let config = TransportConfig::default();
     Pair::client_server(
         alloc,
-        &config,
+        config,
         &ServerConfig::default(),
-        &config,
-        max_payload_size,
-        max_payload_size,
+        config,
+        beginning.max_payload_size,
+        beginning.max_payload_size,
         TAG_A,
         TAG_B,
-        tsn_a,
-        tsn_b,
+        beginning.tsn_a,
+        beginning.tsn_b,
         COOKIE,
         COOKIE,
         address(2),
         address(1),
         Instant::from_millis(0),
     )
-}
-
-/// Two associations that tokens join.
-pub fn snapped(
-    alloc: Global,
-    max_payload_size: u32,
-    tsn_a: u32,
-    tsn_b: u32,
-) -> Result<Pair, Error> {
-    let config = TransportConfig::default();
-    snapped_under(alloc, &config, max_payload_size, tsn_a, tsn_b)
 }
 
 /// Two associations that tokens join, both with this configuration.

@@ -49,24 +49,34 @@ pub(crate) fn ran(alloc: Global, config: &TransportConfig, steps: &[Step]) -> Re
 }
 
 fn run_on(alloc: Global, pair: &mut Pair, steps: &[Step]) -> Result<Shown, Error> {
-    let replies = pair.run(steps)?;
-    let mut text = String::new(alloc);
-    let mut counted = Vec::new(alloc);
-    for reply in replies {
-        if let Some(counts) = counts_of(&reply) {
-            counted.extend_from_slice(&counts)?;
-        }
-        text.push_str(show(alloc, reply)?.as_str())?;
-        text.push_str("\n")?;
-    }
+    let (replies, counted) = told(alloc, pair, steps)?;
     Ok(Shown {
-        replies: text,
+        replies,
         counted,
         lengths: lengths(alloc, pair)?,
         second_of_b: second_of_b(alloc, pair)?,
         a: standing_of(pair.association(Side2::A)),
         b: standing_of(pair.association(Side2::B)),
     })
+}
+
+// The replies, a line each, and the counts that were asked for.
+fn told(alloc: Global, pair: &mut Pair, steps: &[Step]) -> Result<(String, Vec<u64>), Error> {
+    let mut replies = pair.run(steps)?;
+    told_by(alloc, replies.as_mut_slice())
+}
+
+fn told_by(alloc: Global, replies: &mut [Reply]) -> Result<(String, Vec<u64>), Error> {
+    let mut text = String::new(alloc);
+    let mut counted = Vec::new(alloc);
+    for reply in replies.iter_mut() {
+        if let Some(counts) = counts_of(reply) {
+            counted.extend_from_slice(&counts)?;
+        }
+        text.push_str(show(alloc, reply)?.as_str())?;
+        text.push_str("\n")?;
+    }
+    Ok((text, counted))
 }
 
 fn counts_of(reply: &Reply) -> Option<[u64; 4]> {
