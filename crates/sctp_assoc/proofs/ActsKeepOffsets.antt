@@ -121,7 +121,12 @@ size_stays (suc n) now s e m =
 
 blocks_named : (now : ℕ) (blocks : List GapAckBlock) (base size : ℕ) (x : Sender × Estimate × StreamMap)
     → with_named (λ j. is_named (j + 1) blocks) (record { queue = x.0.queue; streams = x.2; base = base; size = size })
-    ≡ record { queue = (with_blocks now blocks x).0.queue; streams = (with_blocks now blocks x).2; base = base; size = size }
+    ≡ record {
+      queue = (with_blocks now blocks x).0.queue;
+      streams = (with_blocks now blocks x).2;
+      base = base;
+      size = size;
+    }
 blocks_named now blocks base size (s, e, m) = refl
 
 pub blocks_size : (now : ℕ) (blocks : List GapAckBlock) (x : Sender × Estimate × StreamMap)

@@ -50,7 +50,8 @@ use Rattle.sctp_assoc.specs.Leads.{Binds, Leads, IsSamePast, LeadsOn, parts}
 use Rattle.sctp_assoc.specs.Memory.{is_taken}
 use Rattle.sctp_directions.specs.Acts.{with_acknowledged as with_all}
 use Rattle.sctp_directions.specs.Acts.{with_reports, offset_in, with_peer, with_taken, with_written}
-use Rattle.sctp_assoc.specs.Calls.{accepted_from, accepted_stream, adjusted, after_ack_delay, after_t3, event_from, event_polled, opened}
+use Rattle.sctp_assoc.specs.Calls.{accepted_from, accepted_stream, adjusted, after_ack_delay, after_t3, event_from}
+use Rattle.sctp_assoc.specs.Calls.{event_polled, opened}
 use Rattle.sctp_assoc.specs.Calls.{with_max_send_message_size}
 use Rattle.sctp_assoc.specs.Chunks.{asks}
 use Rattle.sctp_inbound.specs.Receiver.{asked}
@@ -335,7 +336,8 @@ sack_taken_leads a point blocks window now h binds within =
     let small : a.sender.queue.first_tsn < 2 ^ 32 = rw binds.first (tsn_small h.own h.base) in
     let same = acknowledged_parts (counted_sack a) (progress_of a.sender point blocks) now x k in
     let all = reported_parts a point blocks window now h within small in
-    leads_by (Act.Acknowledged n blocks (reports_of a.sender point blocks) ∷ []) a (after_sack (counted_sack a) point blocks window now) h binds
+    leads_by (Act.Acknowledged n blocks (reports_of a.sender point blocks) ∷ []) a
+    (after_sack (counted_sack a) point blocks window now) h binds
     (within, tt) (same ∙ sym all)
     (ap past_of (acknowledged_receiver (counted_sack a) (progress_of a.sender point blocks) now x))
     (record { peer = refl; taken = refl; passed = refl })
@@ -346,7 +348,8 @@ sack_taken_leads a point blocks window now h binds within =
 outcome_leads : (o : SackOutcome) (a : Shown) (point : ℕ) (blocks : List GapAckBlock) (window : ℕ)
     (trigger : AckTrigger) (now : ℕ) (h : History)
     → sack_outcome a.sender point blocks ≡ o → Binds a h
-    → (k : History) × Leads (acts_of_outcome o (tsns_up_to a.sender point) blocks (reports_of a.sender point blocks)) a h
+    → (k : History)
+    × Leads (acts_of_outcome o (tsns_up_to a.sender point) blocks (reports_of a.sender point blocks)) a h
     (on_counted_sack o (counted_sack a) point blocks window trigger now).0 k
 outcome_leads outcomes.Older a point blocks window trigger now h e binds =
     (h, leads_nowhere a (counted_sack a) h binds refl refl)

@@ -5,7 +5,8 @@ use Rattle.std.specs.List.{AllByRecursion}
 use Rattle.std.proofs.lemmas.Bool.{false≢true}
 use Rattle.sctp_outbound_queue.specs.declared.message.InFlight.{InFlight}
 use Rattle.sctp_outbound_queue.specs.Waiting.{Waiting}
-use Rattle.sctp_outbound_queue.specs.Message.{acked, counted_again, is_outstanding, marked_again, reported_missing, sent_once}
+use Rattle.sctp_outbound_queue.specs.Message.{acked, counted_again, is_outstanding, marked_again, reported_missing}
+use Rattle.sctp_outbound_queue.specs.Message.{sent_once}
 use Rattle.sctp_outbound_queue.specs.declared.message.Retransmission.{Retransmission}
 use Rattle.sctp_outbound_queue.specs.declared.message.Retransmission.TheVariants as causes
 use Rattle.sctp_outbound_queue.specs.Outbound.{Outbound, changed_from, sent_from}
@@ -78,7 +79,8 @@ again_right by None q index e m = m
 again_right by (Some p) q index e m =
     set_right q.in_flight index (counted_again by p) (counted_right by p (get_right q.in_flight index p e m)) m
 
-reported_if : (c : Bool) (x : InFlight) → IsMarkedRight x → IsMarkedRight (if c then record x { misses = x.misses + 1 } else x)
+reported_if : (c : Bool) (x : InFlight) → IsMarkedRight x
+    → IsMarkedRight (if c then record x { misses = x.misses + 1 } else x)
 reported_if true x m e = m e
 reported_if false x m e = m e
 

@@ -1,6 +1,7 @@
 -- Where memory may lack: what takes some takes it by what stands in chunk and state.
 use Rattle.std.proofs.Common.{◌≡◌, ◌≢◌, refl, sym, ap, ◌∙◌, subst, ℕ, ◌+◌, Bool, true, false, not, ◌&&◌, ◌||◌}
-use Rattle.std.proofs.Common.{if◌then◌else◌, is_some, nat_lt, length, List, [], ◌∷◌, ◌++◌, suc, Option, Some, None, arith}
+use Rattle.std.proofs.Common.{if◌then◌else◌, is_some, nat_lt, length, List, [], ◌∷◌, ◌++◌, suc, Option, Some, None}
+use Rattle.std.proofs.Common.{arith}
 use Rattle.std.proofs.lemmas.Bool.{false≢true, lt-ltb, or_left, or_right, true≢false}
 use Rattle.sctp_wire_types.specs.declared.chunk.Chunk.{Chunk}
 use Rattle.sctp_wire_types.specs.declared.chunk.ChunkPayloadData.{ChunkPayloadData}
@@ -189,7 +190,8 @@ gives_if false a now e some =
 
 -- DATA that a poll gives is given
 pub packets_are_given : (a : Shown) (now : ℕ)
-    → nat_lt 0 (length (datagrams_of (header_of a.handshake) (data_polled a now).1)) ≡ true → exchange_gives a now ≡ true
+    → nat_lt 0 (length (datagrams_of (header_of a.handshake) (data_polled a now).1)) ≡ true
+    → exchange_gives a now ≡ true
 unfolding data_polled
 packets_are_given a now some = or_left _ _ (gives_if (gives_data a.sender now) a now refl some)
 

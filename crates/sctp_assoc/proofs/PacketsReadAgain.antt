@@ -13,7 +13,8 @@ use Rattle.sctp_wire.proofs.DataCarried.{header_stays}
 use Rattle.sctp_outbound.specs.Sender.{after_marked, after_resending, marked_by, missing_by, sent_new}
 use Rattle.sctp_assoc.specs.declared.control.ControlPacket.{ControlPacket}
 use Rattle.sctp_assoc.specs.Gather.{AckIsReadAgain, AreControlReadAgain, AreReadAgain, ControlIsReadAgain}
-use Rattle.sctp_assoc.specs.Gather.{ExchangeIsReadAgain, IsReadAgain, ack_after, ack_polled, after_both, data_polled, resent_into, packet_bytes, packet_with, spelled}
+use Rattle.sctp_assoc.specs.Gather.{ExchangeIsReadAgain, IsReadAgain, ack_after, ack_polled, after_both, data_polled}
+use Rattle.sctp_assoc.specs.Gather.{resent_into, packet_bytes, packet_with, spelled}
 use Rattle.sctp_assoc.specs.Shown.{Shown}
 use Rattle.sctp_assoc.proofs.PolledData.{data_poll_stays}
 

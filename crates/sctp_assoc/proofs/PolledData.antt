@@ -1,6 +1,7 @@
 -- What a poll gives out is what its acts say.
 use Rattle.std.proofs.Common.{◌≡◌, refl, sym, ap, ◌∙◌, ⊎_elim, ℕ, zero, suc, ◌+◌, ◌-◌, arith, Bool, true, false}
-use Rattle.std.proofs.Common.{if◌then◌else◌, List, [], ◌∷◌, ◌++◌, length, nat_lt, slice_get, slice_set, Some, is_some, nat_le, ◌==◌, ◌&&◌, subst}
+use Rattle.std.proofs.Common.{if◌then◌else◌, List, [], ◌∷◌, ◌++◌, length, nat_lt, slice_get, slice_set, Some, is_some}
+use Rattle.std.proofs.Common.{nat_le, ◌==◌, ◌&&◌, subst}
 use Rattle.std.proofs.lemmas.Bool.{and_parts, cases_Bool, false≢true}
 use Rattle.std.proofs.lemmas.List.{append_assoc, append-nil}
 use Rattle.sctp_wire_types.specs.declared.chunk.ChunkPayloadData.{ChunkPayloadData}
@@ -80,7 +81,8 @@ picked_right causes.Fast x picked marked =
     (and_parts (is_outstanding x) (x.sent_count == 1)
     (and_parts (is_outstanding x && x.sent_count == 1) (nat_le 3 x.misses) picked).0).0
 
-again_one : (by : Retransmission) (x : InFlight) (ps xs : List InFlight) (p : Parts) → p.queue.in_flight ≡ xs ++ x ∷ ps → Tied p
+again_one : (by : Retransmission) (x : InFlight) (ps xs : List InFlight) (p : Parts)
+    → p.queue.in_flight ≡ xs ++ x ∷ ps → Tied p
     → is_outstanding x ≡ true
     → Gives (Act.SentAgain by (length xs) ∷ []) p (with_pieces p (xs ++ counted_again by x ∷ ps))
     (chunk_of x (tsn_at p.queue.first_tsn (length xs)) ∷ [])
@@ -122,7 +124,8 @@ shifted c xs rest acts chunks p m =
     (ap (λ (z : List InFlight). with_pieces p z) (sym (append_assoc xs (c ∷ []) rest)))
     (ap chunks (sym (one_longer xs c))) m
 
-pub resending : (by : Retransmission) (ps xs : List InFlight) (room : ℕ) (p : Parts) → p.queue.in_flight ≡ xs ++ ps → Tied p
+pub resending : (by : Retransmission) (ps xs : List InFlight) (room : ℕ) (p : Parts)
+    → p.queue.in_flight ≡ xs ++ ps → Tied p
     → AreMarkedRight ps
     → Gives (acts_of_resending by (length xs) room ps) p (with_pieces p (xs ++ resent_pieces by room ps))
     (resent_chunks by p.queue.first_tsn (length xs) room ps)

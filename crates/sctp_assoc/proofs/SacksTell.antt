@@ -40,7 +40,8 @@ some_fell m n f g lacks =
     lacks)
     (cases_Bool f.refused)
 
-module _ (a : Shown) (point : ℕ) (blocks : List GapAckBlock) (window now : ℕ) (s : Sender) (e : Estimate) (m : StreamMap)
+module _ (a : Shown) (point : ℕ) (blocks : List GapAckBlock) (window now : ℕ) (s : Sender) (e : Estimate)
+    (m : StreamMap)
     (established : is_established a.state ≡ true) (taken : sack_outcome a.sender point blocks ≡ outcomes.Taken)
     (is : sack_taken point blocks window now a.sender a.estimate a.streams ≡ (s, e, m))
   where

@@ -11,7 +11,8 @@ use Rattle.sctp_receive_queues.specs.Reassembly.{Reassembly, ready, taken}
 use Rattle.sctp_receive_queues.proofs.ReadyMessages.{reads_give_what_is_ready}
 use Rattle.sctp_streams.specs.Stream.{StreamView, read_with, stream_read}
 use Rattle.sctp_streams.specs.Streams.{StreamMap, read_at, read_in, stream_at}
-use Rattle.sctp_assoc.specs.Calls.{LeavesTheOthers, after_read, read_exhausts, read_from_stream, ready_messages, ready_of}
+use Rattle.sctp_assoc.specs.Calls.{LeavesTheOthers, after_read, read_exhausts, read_from_stream, ready_messages}
+use Rattle.sctp_assoc.specs.Calls.{ready_of}
 use Rattle.sctp_assoc.specs.Closing.{exhausted, is_exhausted}
 use Rattle.sctp_assoc.specs.Shown.{Shown}
 

@@ -28,7 +28,8 @@ use Rattle.sctp_outbound.specs.declared.sender.SackOutcome.{SackOutcome}
 use Rattle.sctp_outbound.specs.declared.sender.SackOutcome.TheVariants as outcomes
 use Rattle.sctp_outbound.specs.declared.sender.Sender.{Sender}
 use Rattle.sctp_outbound.specs.Sacks.{reports_of}
-use Rattle.sctp_outbound.specs.Sender.{after_marked, after_resending, both_windows, can_send_next, fast_room, tsns_up_to}
+use Rattle.sctp_outbound.specs.Sender.{after_marked, after_resending, both_windows, can_send_next, fast_room}
+use Rattle.sctp_outbound.specs.Sender.{tsns_up_to}
 use Rattle.sctp_outbound.specs.Sender.{resends_alone}
 use Rattle.sctp_outbound.specs.Sender.{resent_by, sack_outcome, sent_one}
 use Rattle.sctp_assoc.specs.declared.inbound.Flow.{Flow}

@@ -41,8 +41,8 @@ wrote_here (replies.Wrote n) sides.A id named bytes w s = refl
 wrote_here (replies.Wrote n) sides.B id named bytes w s = refl
 wrote_here r side id named bytes w s = refl
 
-wrote_there : (r : Reply) (side : Side2) (id : ℕ) (named : Option PayloadProtocolIdentifier) (bytes : List ℕ) (w : World)
-    (s : ℕ) → [] ≡ accepted_of (writes side id named bytes) r (other_side side) s w
+wrote_there : (r : Reply) (side : Side2) (id : ℕ) (named : Option PayloadProtocolIdentifier) (bytes : List ℕ)
+    (w : World) (s : ℕ) → [] ≡ accepted_of (writes side id named bytes) r (other_side side) s w
 wrote_there (replies.Wrote n) sides.A id named bytes w s = refl
 wrote_there (replies.Wrote n) sides.B id named bytes w s = refl
 wrote_there r side id named bytes w s = refl
@@ -61,7 +61,8 @@ write_call step side id named bytes r w initial e none = record {
   adds_alone = λ s. subst (λ o. [] ≡ accepted_of o r (other_side side) s w) (sym e)
       (wrote_there r side id named bytes w s);
   reads_alone =
-      λ s. subst (λ o. None ≡ message_answered o r (other_side side) s) (sym none) (none_answered r (other_side side) s);
+      λ s. subst (λ o. None ≡ message_answered o r (other_side side) s) (sym none)
+      (none_answered r (other_side side) s);
 }
 
 -- A read reads at its side what its reply says, and nothing at the other side.

@@ -111,11 +111,14 @@ module _ (x : Surroundings) (p : Parts) (h : Holds x p) where
       (after_event x e tt (λ n. n) tt h.sound_out h.other) resent.0 resent.1
   one_given act g can = absurd g
 
--- a SACK that acknowledges the first n pieces in flight and those that its gap ack blocks name, and reports some missing
-pub act_acknowledged : {x : Surroundings} {p : Parts} (n k missing : ℕ) (c : ChunkSelectiveAck) (sack : Sack) → Holds x p
+-- a SACK that acknowledges the first n pieces in flight and those that its gap ack blocks name, and reports some
+-- missing
+pub act_acknowledged : {x : Surroundings} {p : Parts} (n k missing : ℕ) (c : ChunkSelectiveAck) (sack : Sack)
+    → Holds x p
     → slice_get x.out.sacks k ≡ Some sack → SaysWhatWasTaken p.history.own sack.reach sack.above c
     → sack.reach ≡ x.out.sender.reach + n → Can (Act.Acknowledged n c.gap_ack_blocks missing) p
-    → (after : AfterOut x (done (Act.Acknowledged n c.gap_ack_blocks missing) p) []) × (IsWithin x.out → IsWithin after.out2)
+    → (after : AfterOut x (done (Act.Acknowledged n c.gap_ack_blocks missing) p) [])
+    × (IsWithin x.out → IsWithin after.out2)
     × (after.out2.sender.plan.places ≡ x.out.sender.plan.places)
 unfolding act_at_sender
 act_acknowledged {x} {p} n k missing c sack h e says at can = (

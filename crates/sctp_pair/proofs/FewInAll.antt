@@ -13,7 +13,8 @@ use Rattle.sctp_pair.specs.declared.step.Side2.{Side2}
 use Rattle.sctp_pair.specs.declared.step.Side2.TheVariants as sides
 use Rattle.sctp_pair.specs.declared.step.Step.{Step}
 use Rattle.sctp_pair.specs.declared.step.Step.TheVariants as steps
-use Rattle.sctp_pair.specs.Callers.{AcceptFew, FewStayFew, Made, StaysFew, accepted_in, tallied_by, tally_from, tally_of}
+use Rattle.sctp_pair.specs.Callers.{AcceptFew, FewStayFew, Made, StaysFew, accepted_in, tallied_by, tally_from}
+use Rattle.sctp_pair.specs.Callers.{tally_of}
 use Rattle.sctp_pair.specs.Counted.{Tally, nothing_tallied, one_accepted, one_written, pieces_accepted, pieces_of}
 use Rattle.sctp_pair.specs.Ends.{Ends}
 use Rattle.sctp_pair.specs.Steps.{AtSide, Runs, Steps, Writes}
@@ -34,7 +35,9 @@ filled_at sides.B id n named bytes p q h = filled p.b q.b id n named bytes h.0
 
 one_piece : (here there : Bool) (size bytes : ℕ) → 0 < size → 0 < bytes
     → (if here && there then 1 else 0) ≤ (if here then pieces_in size bytes else 0)
-one_piece true true size bytes some filled = let one = piece_counted size bytes 0 some (omega arith) in omega (arith, one)
+one_piece true true size bytes some filled =
+    let one = piece_counted size bytes 0 some (omega arith) in
+    omega (arith, one)
 one_piece true false size bytes some filled = omega arith
 one_piece false there size bytes some filled = omega arith
 
@@ -68,8 +71,14 @@ module _ (m : Made) (some_a : 0 < m.size_a) (some_b : 0 < m.size_b) where
   covered_step : (step : Step) (p q : Ends) (r : Reply) → Steps step p r q → (t : Tally) → IsCovered t
       → IsCovered (tallied_by m step r t)
   covered_step step p q r h t c = record {
-    of_a = λ s. let one = covered_by m.size_a sides.A s step p q r some_a h in let old = c.of_a s in omega (arith, one, old);
-    of_b = λ s. let one = covered_by m.size_b sides.B s step p q r some_b h in let old = c.of_b s in omega (arith, one, old);
+    of_a = λ s.
+        let one = covered_by m.size_a sides.A s step p q r some_a h in
+        let old = c.of_a s in
+        omega (arith, one, old);
+    of_b = λ s.
+        let one = covered_by m.size_b sides.B s step p q r some_b h in
+        let old = c.of_b s in
+        omega (arith, one, old);
   }
 
   covered_row : (ss : List Step) (rs : List Reply) (p q : Ends) → Runs ss rs p q → (t : Tally) → IsCovered t

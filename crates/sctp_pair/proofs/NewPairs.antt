@@ -102,8 +102,8 @@ joined_begins : {size : ℕ} {own peer : ChunkInit} {a : Shown} (other : ℕ) �
 joined_begins {size} {own} {peer} other j = record {
   some = some_size size _ _ _ j.unrefused;
   stands =
-      subst (λ (z : Shown). StandsOpen none_loose own.initial_tsn peer.initial_tsn z (fresh size) (fresh other)) (sym j.is)
-      stands;
+      subst (λ (z : Shown). StandsOpen none_loose own.initial_tsn peer.initial_tsn z (fresh size) (fresh other))
+      (sym j.is) stands;
 }
   where
     stands : StandsOpen none_loose own.initial_tsn peer.initial_tsn (joined j.config size j.remote None own peer)

@@ -83,7 +83,8 @@ released_if false (Some t) a s n w there span fits e =
 
 -- Where the sender and the receiver of a direction stand in it, and it is within the limits, the promise of it holds.
 module _ {loose loose_there : ℕ → Bool} {own peer : ℕ} {sender receiver : Shown} {w back : Direction}
-    (giving : Stands loose own peer sender w back) (taking : Stands loose_there peer own receiver back w) (within : IsWithin w) (sound : IsSound w) where
+    (giving : Stands loose own peer sender w back) (taking : Stands loose_there peer own receiver back w)
+    (within : IsWithin w) (sound : IsSound w) where
   promised : IsPromised sender receiver w
   promised = record {
     safe = λ s span. the_invariant_is_enough w within sound.invariant s span;

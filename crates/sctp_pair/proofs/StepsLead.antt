@@ -210,7 +210,8 @@ module _ (q : Ends) (r : Reply) (w : World) (fits : Fits w.ends w) where
   step_at (steps.WriteWithPpi side id bytes kind) h =
       change_leads side (steps.WriteWithPpi side id bytes kind) (λ a b. Writes a id (Some kind) bytes r b)
       (λ a. written_by r a id (Some kind) bytes) nothing_read (λ x a b c. writes_settle id (Some kind) bytes r c)
-      (write_call (steps.WriteWithPpi side id bytes kind) side id (Some kind) bytes r w (initial_to side w) refl refl) h h
+      (write_call (steps.WriteWithPpi side id bytes kind) side id (Some kind) bytes r w (initial_to side w) refl refl)
+      h h
   step_at (steps.WriteSctp side id bytes kind) h =
       change_leads side (steps.WriteSctp side id bytes kind) (λ a b. Writes a id (Some kind) bytes r b)
       (λ a. written_by r a id (Some kind) bytes) nothing_read (λ x a b c. writes_settle id (Some kind) bytes r c)
@@ -230,40 +231,50 @@ module _ (q : Ends) (r : Reply) (w : World) (fits : Fits w.ends w) where
       (λ x a b c. reads_settle id r c) (read_call (steps.Read side id) side id r w (initial_to side w) refl refl) h h
   step_at (steps.ReadSctp side id) h =
       change_leads side (steps.ReadSctp side id) (λ a b. Reads a id r b) (λ a. nothing_added) (read_by r id)
-      (λ x a b c. reads_settle id r c) (read_call (steps.ReadSctp side id) side id r w (initial_to side w) refl refl) h h
+      (λ x a b c. reads_settle id r c) (read_call (steps.ReadSctp side id) side id r w (initial_to side w) refl refl)
+      h h
   step_at (steps.Finish side id) h =
       quiet_leads side (steps.Finish side id) (λ a b. Sets a id settings.WriteHalfClosed r b)
       (λ x a b c. sets_settle id settings.WriteHalfClosed r (λ s n. n) c) (λ y s. (refl, refl)) h h
   step_at (steps.SetReliabilityParams side id unordered kind value) h = set_leads side id unordered kind value h
   step_at (steps.SetDefaultPayloadType side id kind) h =
-      quiet_leads side (steps.SetDefaultPayloadType side id kind) (λ a b. Sets a id (settings.DefaultPayloadType kind) r b)
+      quiet_leads side (steps.SetDefaultPayloadType side id kind)
+      (λ a b. Sets a id (settings.DefaultPayloadType kind) r b)
       (λ x a b c. sets_settle id (settings.DefaultPayloadType kind) r (λ s n. n) c) (λ y s. (refl, refl)) h h
   step_at (steps.SetBufferedAmountLowThreshold side id bytes) h =
-      quiet_leads side (steps.SetBufferedAmountLowThreshold side id bytes) (λ a b. Sets a id (settings.LowMark bytes) r b)
+      quiet_leads side (steps.SetBufferedAmountLowThreshold side id bytes)
+      (λ a b. Sets a id (settings.LowMark bytes) r b)
       (λ x a b c. sets_settle id (settings.LowMark bytes) r (λ s n. n) c) (λ y s. (refl, refl)) h h
   step_at (steps.SetBufferedAmountHighThreshold side id bytes) h =
-      quiet_leads side (steps.SetBufferedAmountHighThreshold side id bytes) (λ a b. Sets a id (settings.HighMark bytes) r b)
+      quiet_leads side (steps.SetBufferedAmountHighThreshold side id bytes)
+      (λ a b. Sets a id (settings.HighMark bytes) r b)
       (λ x a b c. sets_settle id (settings.HighMark bytes) r (λ s n. n) c) (λ y s. (refl, refl)) h h
   step_at (steps.StreamStats side id) h =
       same_leads side (steps.StreamStats side id) (λ a b. ShowsOrRefuses a id (λ s. replies.StreamStats s.stats) r b)
       (λ a b c. shows_same a id (λ s. replies.StreamStats s.stats) r b c) (λ y s. (refl, refl)) h h
   step_at (steps.IsReadable side id) h =
-      same_leads side (steps.IsReadable side id) (λ a b. ShowsOrRefuses a id (λ s. replies.State (is_read_half_open s.halves)) r b)
+      same_leads side (steps.IsReadable side id)
+      (λ a b. ShowsOrRefuses a id (λ s. replies.State (is_read_half_open s.halves)) r b)
       (λ a b c. shows_same a id (λ s. replies.State (is_read_half_open s.halves)) r b c) (λ y s. (refl, refl)) h h
   step_at (steps.IsWritable side id) h =
-      same_leads side (steps.IsWritable side id) (λ a b. ShowsOrRefuses a id (λ s. replies.State (is_write_half_open s.halves)) r b)
+      same_leads side (steps.IsWritable side id)
+      (λ a b. ShowsOrRefuses a id (λ s. replies.State (is_write_half_open s.halves)) r b)
       (λ a b c. shows_same a id (λ s. replies.State (is_write_half_open s.halves)) r b c) (λ y s. (refl, refl)) h h
   step_at (steps.StreamIdentifier side id) h =
-      same_leads side (steps.StreamIdentifier side id) (λ a b. ShowsOrRefuses a id (λ s. replies.StreamIdentifier id) r b)
+      same_leads side (steps.StreamIdentifier side id)
+      (λ a b. ShowsOrRefuses a id (λ s. replies.StreamIdentifier id) r b)
       (λ a b c. shows_same a id (λ s. replies.StreamIdentifier id) r b c) (λ y s. (refl, refl)) h h
   step_at (steps.GetDefaultPayloadType side id) h =
-      same_leads side (steps.GetDefaultPayloadType side id) (λ a b. ShowsOrRefuses a id (λ s. replies.PayloadType s.default_payload_type) r b)
+      same_leads side (steps.GetDefaultPayloadType side id)
+      (λ a b. ShowsOrRefuses a id (λ s. replies.PayloadType s.default_payload_type) r b)
       (λ a b c. shows_same a id (λ s. replies.PayloadType s.default_payload_type) r b c) (λ y s. (refl, refl)) h h
   step_at (steps.BufferedAmountLowThreshold side id) h =
-      same_leads side (steps.BufferedAmountLowThreshold side id) (λ a b. ShowsOrRefuses a id (λ s. replies.Threshold s.low_mark) r b)
+      same_leads side (steps.BufferedAmountLowThreshold side id)
+      (λ a b. ShowsOrRefuses a id (λ s. replies.Threshold s.low_mark) r b)
       (λ a b c. shows_same a id (λ s. replies.Threshold s.low_mark) r b c) (λ y s. (refl, refl)) h h
   step_at (steps.BufferedAmountHighThreshold side id) h =
-      same_leads side (steps.BufferedAmountHighThreshold side id) (λ a b. ShowsOrRefuses a id (λ s. replies.Threshold s.high_mark) r b)
+      same_leads side (steps.BufferedAmountHighThreshold side id)
+      (λ a b. ShowsOrRefuses a id (λ s. replies.Threshold s.high_mark) r b)
       (λ a b c. shows_same a id (λ s. replies.Threshold s.high_mark) r b c) (λ y s. (refl, refl)) h h
   step_at (steps.AcceptStream side) h =
       quiet_leads side (steps.AcceptStream side) (λ a b. Accepts a r b) (λ x a b c. accepts_settle r c)
@@ -272,7 +283,8 @@ module _ (q : Ends) (r : Reply) (w : World) (fits : Fits w.ends w) where
       quiet_leads side (steps.SetMaxSendMessageSize side size) (λ a b. Limits a size r b)
       (λ x a b c. limits_settle size r c) (λ y s. (refl, refl)) h h
   step_at (steps.StreamIds side) h =
-      same_leads side (steps.StreamIds side) (λ a b. Lists a r b) (λ a b c. lists_same a r b c) (λ y s. (refl, refl)) h h
+      same_leads side (steps.StreamIds side) (λ a b. Lists a r b) (λ a b c. lists_same a r b c)
+      (λ y s. (refl, refl)) h h
   step_at (steps.Close side) h =
       quiet_leads side (steps.Close side) (λ a b. ClosesOne a r b) (λ x a b c. closes_settle r c)
       (λ y s. (refl, refl)) h h

@@ -1,5 +1,5 @@
--- Calls of streams that neither write nor read, and the application's close: each leads to directions between which both
--- associations stand.
+-- Calls of streams that neither write nor read, and the application's close: each leads to directions between which
+-- both associations stand.
 use Rattle.std.proofs.Common.{◌≡◌, refl, sym, ap, ◌∙◌, subst, ⊎_elim, inl, inr, ℕ, Bool, true, false, [], ◌∷◌, Option}
 use Rattle.std.proofs.Common.{Some, None, ◌⊎◌}
 use Rattle.std.proofs.Common.{if◌then◌else◌}
@@ -30,7 +30,8 @@ use Rattle.sctp_pair.specs.declared.step.Reply.TheVariants as replies
 use Rattle.sctp_pair.specs.Steps.{Accepts, ClosesOne, Limits, Lists, Sets, ShowsOrRefuses}
 use Rattle.sctp_pair.proofs.BetweenDirections.{KeepsOrder, orderly_acts_keep_order}
 use Rattle.sctp_pair.proofs.BetweenDirections.{Faces, SettlesQuietly, Surroundings}
-use Rattle.sctp_pair.proofs.SimpleCalls.{by_working, closed_on, fails_settle, open_on, same_settles, settles_by_receiver}
+use Rattle.sctp_pair.proofs.SimpleCalls.{by_working, closed_on, fails_settle, open_on, same_settles}
+use Rattle.sctp_pair.proofs.SimpleCalls.{settles_by_receiver}
 use Rattle.sctp_pair.proofs.SimpleCalls.{still}
 use Rattle.sctp_pair.proofs.TimedCalls.{empty_still}
 use Rattle.sctp_pair.proofs.HandshakeStages.{at_same}

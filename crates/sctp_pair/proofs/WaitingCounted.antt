@@ -1,6 +1,7 @@
 -- What waits to be read on a stream is no more than what was accepted and not read: each message that was read is
 -- another one, and none of them is an ordered one behind the last ordered one read.
-use Rattle.std.proofs.Common.{◌≡◌, refl, sym, ap, ◌∙◌, subst, ⊎_elim, ℕ, ◌+◌, ◌<◌, ◌≤◌, arith, Bool, true, false, not, eqb, ltb}
+use Rattle.std.proofs.Common.{◌≡◌, refl, sym, ap, ◌∙◌, subst, ⊎_elim, ℕ, ◌+◌, ◌<◌, ◌≤◌, arith, Bool, true, false, not}
+use Rattle.std.proofs.Common.{eqb, ltb}
 use Rattle.std.proofs.Common.{◌||◌, List, [], ◌∷◌, ◌++◌, length}
 use Rattle.std.specs.Prelude.{filter, map}
 use Rattle.std.specs.List.{AllByRecursion}
@@ -83,7 +84,8 @@ module _ (p : Plan) (taken : List ℕ) (s e : ℕ) where
       → length gs ≤ count_of is_passed (length (p.accepted s))
   reads_counted gs more a once b =
       let all =
-      distinct_counted is_passed (length (p.accepted s)) (numbers_of p gs) (distinct_in_front (number_of p) gs more once)
+      distinct_counted is_passed (length (p.accepted s)) (numbers_of p gs)
+      (distinct_in_front (number_of p) gs more once)
       (numbers_pass gs (all_front (IsGot p taken s) gs more a) b) in
       let same = length-map gs (number_of p) in
       omega (arith, all, same)
@@ -100,5 +102,6 @@ waiting_counted w s invariant span =
     reads_counted p w.receiver.taken s e (w.reads s) (live (w.receiver.queues s)).complete stream.got stream.once
     stream.below in
     let apart =
-    ordered_apart (p.accepted s) e (is_passed p w.receiver.taken s e) (λ i l b o. not_passed p w.receiver.taken s e i b o) in
+    ordered_apart (p.accepted s) e (is_passed p w.receiver.taken s e)
+    (λ i l b o. not_passed p w.receiver.taken s e i b o) in
     omega (arith, read, apart)

@@ -264,7 +264,8 @@ pub(crate) fn stream_stats(association: &mut Association, id: StreamId) -> Reply
 }
 
 pub(crate) fn default_payload_type(association: &mut Association, id: StreamId) -> Reply
-    ensures { ShowsOrRefuses association.old id (λ s. replies.PayloadType s.default_payload_type) result association.new }
+    ensures { ShowsOrRefuses association.old id (λ s. replies.PayloadType s.default_payload_type)
+        result association.new }
 {
     match association.stream(id) {
         Ok(stream) => match stream.get_default_payload_type() {
@@ -300,7 +301,8 @@ pub(crate) fn high_threshold(association: &mut Association, id: StreamId) -> Rep
 }
 
 pub(crate) fn is_readable(association: &mut Association, id: StreamId) -> Reply
-    ensures { ShowsOrRefuses association.old id (λ s. replies.State (is_read_half_open s.halves)) result association.new }
+    ensures { ShowsOrRefuses association.old id (λ s. replies.State (is_read_half_open s.halves))
+        result association.new }
 {
     match association.stream(id) {
         Ok(stream) => Reply::State(stream.is_readable()),
@@ -309,7 +311,8 @@ pub(crate) fn is_readable(association: &mut Association, id: StreamId) -> Reply
 }
 
 pub(crate) fn is_writable(association: &mut Association, id: StreamId) -> Reply
-    ensures { ShowsOrRefuses association.old id (λ s. replies.State (is_write_half_open s.halves)) result association.new }
+    ensures { ShowsOrRefuses association.old id (λ s. replies.State (is_write_half_open s.halves))
+        result association.new }
 {
     match association.stream(id) {
         Ok(stream) => Reply::State(stream.is_writable()),

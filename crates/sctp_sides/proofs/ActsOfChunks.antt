@@ -334,7 +334,8 @@ give_if : (c : Bool) (xs ys : List Act) → AllByRecursion GivesData xs → AllB
 give_if true xs ys g h = g
 give_if false xs ys g h = h
 
-resending_gives : (by : Retransmission) (index room : ℕ) (ps : List InFlight) → AllByRecursion GivesData (acts_of_resending by index room ps)
+resending_gives : (by : Retransmission) (index room : ℕ) (ps : List InFlight)
+    → AllByRecursion GivesData (acts_of_resending by index room ps)
 resending_gives by index room [] = tt
 resending_gives by index room (p ∷ ps) =
     give_if (not (picks by p)) (acts_of_resending by (index + 1) room ps) _ (resending_gives by (index + 1) room ps)

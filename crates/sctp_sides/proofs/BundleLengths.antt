@@ -1,5 +1,6 @@
 -- A packet of DATA that a poll gives has one chunk, or is no longer than the greatest packet.
-use Rattle.std.proofs.Common.{◌≡◌, refl, sym, ap, ◌∙◌, subst, ◌⊎◌, ⊎_elim, inl, inr, ℕ, ◌≤◌, arith, true, false, List, []}
+use Rattle.std.proofs.Common.{◌≡◌, refl, sym, ap, ◌∙◌, subst, ◌⊎◌, ⊎_elim, inl, inr, ℕ, ◌≤◌, arith, true, false, List}
+use Rattle.std.proofs.Common.{[]}
 use Rattle.std.proofs.Common.{◌∷◌, ◌++◌, length}
 use Rattle.std.specs.List.{AllByRecursion}
 use Rattle.std.proofs.lemmas.Bool.{cases_Bool, leb-true}
@@ -89,7 +90,8 @@ module _ (header : CommonHeader) (mtu : ℕ) where
       (λ (long : data_fits c ≡ false). rw long h)
       (cases_Bool (data_fits c))
 
-  all_short : (w : DataWritten) (cs : List ChunkPayloadData) → AreShort header mtu w → AreShort header mtu (with_all w cs)
+  all_short : (w : DataWritten) (cs : List ChunkPayloadData) → AreShort header mtu w
+      → AreShort header mtu (with_all w cs)
   all_short w [] h = h
   all_short w (c ∷ cs) h = all_short (with_data w c) cs (data_short w c h)
 

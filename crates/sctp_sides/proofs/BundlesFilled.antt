@@ -3,7 +3,8 @@ use Rattle.std.proofs.Common.{◌≡◌, ⊎_elim, ℕ, ◌<◌, arith, true, fa
 use Rattle.std.specs.List.{AllByRecursion}
 use Rattle.std.proofs.lemmas.Bool.{cases_Bool}
 use Rattle.sctp_wire_types.specs.declared.chunk.ChunkPayloadData.{ChunkPayloadData}
-use Rattle.sctp_wire.specs.DataPackets.{DataWritten, closed, data_fits, has_room, nothing_written, unless_empty, with_all}
+use Rattle.sctp_wire.specs.DataPackets.{DataWritten, closed, data_fits, has_room, nothing_written, unless_empty}
+use Rattle.sctp_wire.specs.DataPackets.{with_all}
 use Rattle.sctp_wire.specs.DataPackets.{with_data}
 use Rattle.sctp_inbound.specs.Handshake.{header_of}
 use Rattle.sctp_outbound.specs.Sender.{after_marked, after_resending, marked_by, missing_by, sent_new}

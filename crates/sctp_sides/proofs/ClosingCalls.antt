@@ -11,7 +11,8 @@ use Rattle.sctp_streams.specs.Streams.{stream_at}
 use Rattle.sctp_assoc.specs.Calls.{accepted_from, high_told, written_at}
 use Rattle.sctp_assoc.specs.Closing.{is_closed_state}
 use Rattle.sctp_assoc.specs.Shown.{Shown}
-use Rattle.sctp_sides.specs.Laws.{AcceptedStreamsDoNotClose, ClosesClose, SettingsDoNotClose, TellsNothing, DoesNotClose}
+use Rattle.sctp_sides.specs.Laws.{AcceptedStreamsDoNotClose, ClosesClose, SettingsDoNotClose, TellsNothing}
+use Rattle.sctp_sides.specs.Laws.{DoesNotClose}
 use Rattle.sctp_sides.specs.Laws.{LimitsDoNotClose, WritesDoNotClose, loss_of, losses}
 use Rattle.sctp_sides.proofs.ClosingPackets.{fault_closes, stays}
 

@@ -29,7 +29,8 @@ use Rattle.sctp_assoc.specs.Shown.{Shown}
 use Rattle.sctp_sides.proofs.PacketLaws.{chunks_lead_on}
 use Rattle.sctp_sides.proofs.FaultCauses.{cookie_ack_flow, echo_flow, faults_are_causes, heartbeat_flow, never}
 use Rattle.sctp_sides.proofs.DataIntake.{exhausts_of, fault_of}
-use Rattle.sctp_sides.proofs.FaultCauses.{cookie_ack_spares, echo_spares, heartbeat_spares, init_ack_spares, init_spares}
+use Rattle.sctp_sides.proofs.FaultCauses.{cookie_ack_spares, echo_spares, heartbeat_spares, init_ack_spares}
+use Rattle.sctp_sides.proofs.FaultCauses.{init_spares}
 use Rattle.std.proofs.Common.{⊎_elim, inl, inr}
 
 open_state : (s : AssociationState) → s ≢ states.Closed → is_closed_state s ≡ false

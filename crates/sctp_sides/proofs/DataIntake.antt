@@ -97,7 +97,8 @@ has_room a piece = admits a.receiver piece.tsn (bytes_waiting a.streams)
 pub record Found (a : Shown) (piece : ChunkPayloadData) (x : Shown × Bool) : Type 0 where
   pub found : x.1 ≡ (is_some (stream_at a.streams piece.stream_identifier) || generation_left a.streams)
   pub room : has_room x.0 piece ≡ has_room a piece
-  pub refused : x.1 ≡ true → refusal_in x.0.streams piece.stream_identifier piece (receive_limit x.0) ≡ refusal_of a piece
+  pub refused : x.1 ≡ true
+      → refusal_in x.0.streams piece.stream_identifier piece (receive_limit x.0) ≡ refusal_of a piece
 
 found_if : (o : Option StreamView) (left : Bool) (a : Shown) (piece : ChunkPayloadData)
     → stream_at a.streams piece.stream_identifier ≡ o → generation_left a.streams ≡ left

@@ -64,7 +64,8 @@ both_open a (b, pieces) m =
     rw (both_first (datagrams_of (header_of b.handshake) pieces) (ack_polled b))
     (open_on a b (ack_polled b).0 m (ack_open _ b refl))
 
-polls_open_if : (c : Bool) (a : Shown) (now : ℕ) → TellsNothing a (if c then ack_after (data_polled a now) else (a, [])).0
+polls_open_if : (c : Bool) (a : Shown) (now : ℕ)
+    → TellsNothing a (if c then ack_after (data_polled a now) else (a, [])).0
 polls_open_if true a now = both_open a (data_polled a now) (data_open a now)
 polls_open_if false a now = record { state = refl; lost = refl; events = refl }
 

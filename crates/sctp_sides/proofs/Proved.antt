@@ -18,7 +18,8 @@ pub use Rattle.sctp_sides.proofs.ActsOfChunks.{data_is_taken, greetings_meet, ot
 pub use Rattle.sctp_sides.proofs.ActsOfChunks.{other_sacks_do_nothing, polls_give_and_report, sacks_acknowledge}
 pub use Rattle.sctp_sides.proofs.ActsOfChunks.{taken_sacks_acknowledge, timeouts_mark_at_most}
 pub use Rattle.sctp_sides.proofs.Status.{opened_streams_keep_the_status, polls_keep_the_status, reads_keep_the_status}
-pub use Rattle.sctp_sides.proofs.Status.{accepted_streams_keep_the_status, limits_keep_the_status, settings_keep_the_status}
+pub use Rattle.sctp_sides.proofs.Status.{accepted_streams_keep_the_status, limits_keep_the_status}
+pub use Rattle.sctp_sides.proofs.Status.{settings_keep_the_status}
 pub use Rattle.sctp_sides.proofs.Status.{timers_keep_the_status, told_events_keep_the_status, writes_keep_the_status}
 pub use Rattle.sctp_sides.proofs.ClosingCalls.{accepted_streams_do_not_close, closes_close, settings_do_not_close}
 pub use Rattle.sctp_sides.proofs.StreamsChanged.{at_made, at_with}

@@ -1,6 +1,7 @@
 -- Calls leave an association's status as it is: whether it failed, its state, whether it was lost, and its payload
 -- size.
-use Rattle.std.proofs.Common.{◌++◌, ◌≡◌, refl, sym, ap, ◌∙◌, ℕ, zero, suc, Bool, true, false, ◌&&◌, if◌then◌else◌, not, eqb}
+use Rattle.std.proofs.Common.{◌++◌, ◌≡◌, refl, sym, ap, ◌∙◌, ℕ, zero, suc, Bool, true, false, ◌&&◌, if◌then◌else◌, not}
+use Rattle.std.proofs.Common.{eqb}
 use Rattle.std.proofs.Common.{List, [], ◌∷◌, length, Option, Some, None, is_some, Result, Ok, Err}
 use Rattle.std.specs.Prelude.{slice_get}
 use Rattle.sctp_wire_types.specs.declared.chunk.Chunk.{Chunk}
@@ -46,7 +47,8 @@ use Rattle.sctp_assoc.specs.Handshake.{sends_init, t1_cookie_expired, t1_init_ex
 use Rattle.sctp_assoc.specs.Gather.{ack_after, ack_polled, control_packets, data_polled, exchange_polled}
 use Rattle.sctp_assoc.specs.Gather.{fast_counted, is_due, packet_with, with_sent_data, without_control}
 use Rattle.sctp_assoc.specs.Timeouts.{after_handshake_timers}
-use Rattle.sctp_sides.specs.Shapes.{IsSameStatus, KeepsWorking, Leaves, LimitsKeepTheStatus, OpenedStreamsKeepTheStatus, PollsKeepTheStatus}
+use Rattle.sctp_sides.specs.Shapes.{IsSameStatus, KeepsWorking, Leaves, LimitsKeepTheStatus, OpenedStreamsKeepTheStatus}
+use Rattle.sctp_sides.specs.Shapes.{PollsKeepTheStatus}
 use Rattle.sctp_sides.specs.Shapes.{ReadsKeepTheStatus, TimersKeepTheStatus, ToldEventsKeepTheStatus}
 use Rattle.sctp_sides.specs.Shapes.{AcceptedStreamsKeepTheStatus, SettingsKeepTheStatus, WritesKeepTheStatus}
 use Rattle.sctp_sides.specs.Meeting.{Greets, IsTruthful, stage_of}
@@ -367,7 +369,8 @@ unfolding ack_polled
 ack_polled_status true a e = rw e (status_by a _ refl refl refl refl refl refl refl)
 ack_polled_status false a e = rw e (status_same a)
 
-ack_after_status : (x : Shown × List (List ChunkPayloadData)) (a : Shown) → IsSameStatus a x.0 → IsSameStatus a (ack_after x).0
+ack_after_status : (x : Shown × List (List ChunkPayloadData)) (a : Shown) → IsSameStatus a x.0
+    → IsSameStatus a (ack_after x).0
 ack_after_status (b, pieces) a h =
     rw (both_first (datagrams_of (header_of b.handshake) pieces) (ack_polled b))
     (status_on a b _ h (ack_polled_status (is_due b.receiver.ack_state) b refl))

@@ -1,5 +1,6 @@
 -- Polls for packets keep the timers where they should run: T3-rtx is restarted where DATA is sent for the first time.
-use Rattle.std.proofs.Common.{◌++◌, ◌≡◌, refl, sym, ap, ◌∙◌, subst, ◌⊎◌, ⊎_elim, inl, inr, ℕ, zero, suc, ◌<◌, ◌-◌, arith}
+use Rattle.std.proofs.Common.{◌++◌, ◌≡◌, refl, sym, ap, ◌∙◌, subst, ◌⊎◌, ⊎_elim, inl, inr, ℕ, zero, suc, ◌<◌, ◌-◌}
+use Rattle.std.proofs.Common.{arith}
 use Rattle.std.proofs.Common.{Bool, true, false, eqb, ltb, ◌&&◌, not, if◌then◌else◌, List, [], ◌∷◌, length}
 use Rattle.std.proofs.lemmas.Bool.{false≢true, le-ltb, lt-ltb}
 use Rattle.std.proofs.lemmas.List.{length-append}
@@ -130,7 +131,8 @@ polls_bring s now = ⊎_elim
 sent_if : (sent : Bool) (a : Shown) (now : ℕ) (s : Sender) → is_beginning a.state ≡ false
     → ((length s.queue.in_flight ≡ length a.sender.queue.in_flight) × (sent ≡ false))
     ⊎ ((0 < length s.queue.in_flight) × (sent ≡ true)) → Ticks a
-    → Ticks (let b = fast_counted a in record b { sender = s; timers = t3_after_sending sent now a.estimate.rto a.timers })
+    → Ticks
+    (let b = fast_counted a in record b { sender = s; timers = t3_after_sending sent now a.estimate.rto a.timers })
 sent_if false a now s b (inl (e, n)) h = record {
   working = h.working;
   not_lost = h.not_lost;

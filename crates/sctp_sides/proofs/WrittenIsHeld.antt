@@ -123,7 +123,8 @@ pieces_same by (p ∷ ps) room number = ⊎_elim
     ap (list_any (is_of number)) (pieces_full by p ps room marked full))
     (λ (fits : nat_lt room (room_taken by p) ≡ false).
     ap (list_any (is_of number)) (pieces_sent by p ps room marked fits)
-    ∙ ap (λ (b : Bool). b || list_any (is_of number) (resent_pieces by (room - room_taken by p) ps)) (of_again by p number)
+    ∙ ap (λ (b : Bool). b || list_any (is_of number) (resent_pieces by (room - room_taken by p) ps))
+    (of_again by p number)
     ∙ ap (λ (b : Bool). is_of number p || b) (pieces_same by ps (room - room_taken by p) number))
     (cases_Bool (nat_lt room (room_taken by p))))
     (λ (unmarked : picks by p ≡ false).
@@ -141,14 +142,16 @@ resent_same : (c : Bool) (s : Sender) (number : ℕ)
     resent_pieces causes.Timer (both_windows s) s.queue.in_flight)).queue number ≡ is_held s.queue number
 resent_same true s number = ap (λ (b : Bool). waits number s.queue.pending || b) (first_same s.queue.in_flight number)
 resent_same false s number =
-    ap (λ (b : Bool). waits number s.queue.pending || b) (pieces_same causes.Timer s.queue.in_flight (both_windows s) number)
+    ap (λ (b : Bool). waits number s.queue.pending || b)
+    (pieces_same causes.Timer s.queue.in_flight (both_windows s) number)
 
 missing_same : (c : Bool) (s : Sender) (number : ℕ)
     → is_held
     (with_in_flight s (if c then resent_pieces causes.Fast (fast_room s) s.queue.in_flight else
     s.queue.in_flight)).queue number ≡ is_held s.queue number
 missing_same true s number =
-    ap (λ (b : Bool). waits number s.queue.pending || b) (pieces_same causes.Fast s.queue.in_flight (fast_room s) number)
+    ap (λ (b : Bool). waits number s.queue.pending || b)
+    (pieces_same causes.Fast s.queue.in_flight (fast_room s) number)
 missing_same false s number = refl
 
 -- A poll.

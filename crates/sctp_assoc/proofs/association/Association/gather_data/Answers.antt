@@ -28,7 +28,8 @@ returns-clause-packets c =
     (ap (λ (a : Shown). a.sender.mtu) c.self.view_is) c.new-packets.ensures c.in_ok-resend_data.ensures.packets
     (ap (λ (a : Shown). a.sender) (c.self-2.view_is ∙ c.in_ok-resend_data.ensures.exact)) c.in_ok-sent.ensures.chunks in
     let is = finished_as c.args.self.now c.args.now c.send_new.new.out same in
-    subst (λ h. IfOk c.finish.result (λ packets. packets.items ≡ datagrams_of h (data_polled c.args.self.now c.args.now).1))
+    subst
+    (λ h. IfOk c.finish.result (λ packets. packets.items ≡ datagrams_of h (data_polled c.args.self.now c.args.now).1))
     is.0
     (subst (λ d. IfOk c.finish.result (λ packets. packets.items ≡ datagrams_of c.send_new.new.out.header d)) is.1
     c.finish.ensures.packets)
