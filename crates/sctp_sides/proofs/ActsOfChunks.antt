@@ -54,7 +54,7 @@ use Rattle.sctp_sides.specs.Shapes.{OtherChunksDoNothing, OtherSacksDoNothing, P
 use Rattle.sctp_sides.specs.Shapes.{TakenSacksAcknowledge, TimeoutsMarkAtMost}
 use Rattle.sctp_assoc.specs.Shown.{Shown}
 use Rattle.sctp_assoc.proofs.CallsLeadOn.{chunk_leads}
-use Rattle.sctp_sides.proofs.StreamsChanged.{at_made}
+use Rattle.sctp_fit.proofs.StreamsThere.{at_made}
 
 -- DATA
 

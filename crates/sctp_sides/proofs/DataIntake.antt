@@ -37,7 +37,7 @@ use Rattle.sctp_assoc.specs.Shown.{Shown}
 use Rattle.sctp_assoc.proofs.DataCame.{from_new_tsn, new_tsn}
 use Rattle.sctp_sides.proofs.ActsOfChunks.{greetings_meet, other_chunks_do_nothing, sacks_acknowledge}
 use Rattle.sctp_sides.proofs.GapsFilled.{came_passed, passed_came}
-use Rattle.sctp_sides.proofs.StreamsChanged.{at_made}
+use Rattle.sctp_fit.proofs.StreamsThere.{at_made}
 use Rattle.sctp_assoc.specs.Chunks.{asks, with_message}
 use Rattle.sctp_assoc.specs.Closing.{is_exhausted}
 use Rattle.sctp_inbound.specs.Receiver.{asked}

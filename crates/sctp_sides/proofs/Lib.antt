@@ -19,7 +19,6 @@ mod PacketsByChunks
 mod PolledPackets
 pub mod Proved
 mod Status
-mod StreamsChanged
 mod TimersOverChunks
 mod TimersOverPolls
 mod TimersOverRuns

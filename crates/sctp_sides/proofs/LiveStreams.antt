@@ -15,7 +15,7 @@ use Rattle.sctp_sides.specs.Shapes.{AcceptedWritesFit, WasWritable, FoundStreams
 use Rattle.sctp_sides.specs.Shapes.{OpenedStreamsHoldNothing, OpenedStreamsWereNotLive, SettingsHoldNothing}
 use Rattle.sctp_sides.specs.Shapes.{WhatHoldsNothingGivesNothing}
 use Rattle.sctp_assoc.specs.Shown.{Shown}
-use Rattle.sctp_sides.proofs.StreamsChanged.{at_made, at_with}
+use Rattle.sctp_fit.proofs.StreamsThere.{at_made, at_with}
 use Rattle.sctp_assoc.specs.Calls.{after_read, read_from_stream}
 
 -- Refusals

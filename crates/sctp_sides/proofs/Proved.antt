@@ -22,5 +22,4 @@ pub use Rattle.sctp_sides.proofs.Status.{accepted_streams_keep_the_status, limit
 pub use Rattle.sctp_sides.proofs.Status.{settings_keep_the_status}
 pub use Rattle.sctp_sides.proofs.Status.{timers_keep_the_status, told_events_keep_the_status, writes_keep_the_status}
 pub use Rattle.sctp_sides.proofs.ClosingCalls.{accepted_streams_do_not_close, closes_close, settings_do_not_close}
-pub use Rattle.sctp_sides.proofs.StreamsChanged.{at_made, at_with}
 pub use Rattle.sctp_sides.proofs.HandshakeTruth.{greetings_stay_true}
