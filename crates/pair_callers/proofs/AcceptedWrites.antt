@@ -4,7 +4,6 @@ use Rattle.std.proofs.Common.{◌++◌, length, Option, Some, None, is_some}
 use Rattle.std.specs.Prelude.{IfSome}
 use Rattle.std.proofs.lemmas.Bool.{eq-eqb, ne_eqb, true≢false}
 use Rattle.std.proofs.lemmas.List.{append-nil}
-use Rattle.sctp_wire_types.specs.declared.error.Error.{Error}
 use Rattle.sctp_streams.specs.Stream.{StreamView}
 use Rattle.sctp_streams.specs.Streams.{stream_at}
 use Rattle.sctp_model.specs.Messages.{Message}
@@ -19,16 +18,13 @@ use Rattle.sctp_pair.specs.declared.step.Reply.TheVariants as replies
 use Rattle.sctp_pair.specs.declared.step.Side2.{Side2}
 use Rattle.sctp_pair.specs.declared.step.Step.TheVariants as steps
 use Rattle.sctp_pair.specs.Ends.{Ends, end_of}
-use Rattle.sctp_pair.specs.Steps.{Steps, Writes, first_refusal}
+use Rattle.sctp_pair.specs.Steps.{Steps, Writes}
 use Rattle.sctp_pair.specs.World.{IsWorldStep, World, accepted_at, is_side}
 use Rattle.sctp_pair.specs.World.{messages_on}
+use Rattle.sctp_pair.proofs.ReadCall.{found_none}
 use Rattle.pair_callers.specs.Going.{GoesOn, from_side}
 use Rattle.pair_callers.specs.Writing.{AcceptsNone, AcceptsOne, count_in}
 use Rattle.pair_callers.proofs.StepsByDirection.{Leads, at_its_side, goes_on, is_own, step_from}
-
-first_is_none : (x y : Option Error) → first_refusal x y ≡ None → x ≡ None
-first_is_none None y e = refl
-first_is_none (Some fault) y e = absurd (true≢false (ap is_some e))
 
 -- A stream on which a write was answered is live.
 pub written_is_live : (side : Side2) (id n : ℕ) (bytes : List ℕ) (w v : World)
@@ -38,7 +34,7 @@ written_is_live side id n bytes w v h =
     let done =
     at_its_side side w.ends (λ (x y : Shown). Writes x id None bytes (replies.Wrote n) y) v.ends h.ends_step in
     found_streams_are_live (end_of side w.ends) id
-    (first_is_none (stream_refusal (end_of side w.ends) id) (write_refusal (end_of side w.ends) id (length bytes))
+    (found_none (stream_refusal (end_of side w.ends) id) (write_refusal (end_of side w.ends) id (length bytes))
     done.0)
 
 accepts_one : {w v : World} (side : Side2) (id n : ℕ) (bytes : List ℕ)

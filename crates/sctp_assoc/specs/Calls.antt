@@ -176,6 +176,17 @@ abbrev pub write_refusal : Shown → ℕ → ℕ → Option Error
 write_refusal a id size =
     if a.failed then Some errors.ErrAssociationFailed else write_refusal_at a (stream_at a.streams id) size
 
+-- a call of a stream by its identifier is refused as the call that lends the stream is, else for a reason of its own
+abbrev pub first_refusal : Option Error → Option Error → Option Error
+first_refusal None own = own
+first_refusal (Some e) own = Some e
+
+abbrev pub refusal_to_write : Shown → ℕ → ℕ → Option Error
+refusal_to_write a id size = first_refusal (stream_refusal a id) (write_refusal a id size)
+
+abbrev pub refusal_to_read : Shown → ℕ → Option Error
+refusal_to_read a id = first_refusal (stream_refusal a id) (read_refusal a id)
+
 -- a write that takes a stream's buffered amount from below its high mark to it or above is told
 abbrev pub high_told : StreamView → ℕ → ℕ → List Event
 high_told s id size = if reaches_high_mark s size then events.Stream (BufferedAmountHigh id) ∷ [] else []

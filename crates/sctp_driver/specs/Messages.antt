@@ -5,12 +5,11 @@ use Rattle.sctp_wire_types.specs.declared.error.Error.{Error}
 use Rattle.sctp_wire_types.specs.declared.error.Error.TheVariants as errors
 use Rattle.sctp_wire_types.specs.declared.ids.PayloadProtocolIdentifier.TheVariants as kinds
 use Rattle.sctp_receive_queues.specs.Messages.{ReceivedMessage, bytes_left}
-use Rattle.sctp_assoc.specs.Calls.{read_exhausts, read_from_stream}
+use Rattle.sctp_assoc.specs.Calls.{read_exhausts, read_from_stream, refusal_to_read}
 use Rattle.sctp_assoc.specs.Shown.{HasFailed, Shown, answers_of}
 use Rattle.sctp_driver.specs.declared.messages.Read.{Read}
 use Rattle.sctp_driver.specs.declared.messages.Read.TheVariants as answers
 use Rattle.sctp_driver.specs.Driving.{Driving, KeptMessage, with_association}
-use Rattle.sctp_driver.specs.Streams.{refusal_to_read}
 
 -- the bytes at the front of a buffer, where it is long enough
 abbrev pub put_front : List ℕ → List ℕ → List ℕ

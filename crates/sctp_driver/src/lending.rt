@@ -3,9 +3,9 @@ ghost use Rattle.std.specs.Prelude.{◌≡◌, length, IfErr, IfOk, OnErr, OnOk}
 ghost use Rattle.sctp_streams.specs.declared.setting.Setting.TheVariants as settings;
 ghost use Rattle.sctp_streams.specs.Stream.{params_of};
 ghost use Rattle.sctp_assoc.specs.Calls.{Refuses, RefusesOrLacksMemory, accepted_stream, adjusted, open_refusal};
-ghost use Rattle.sctp_assoc.specs.Calls.{opened, read_from_stream, stream_refusal, written};
+ghost use Rattle.sctp_assoc.specs.Calls.{opened, read_from_stream, refusal_to_write, stream_refusal, written};
 ghost use Rattle.sctp_driver.specs.Messages.{StopsRead};
-ghost use Rattle.sctp_driver.specs.Streams.{buffered_on, refusal_to_write};
+ghost use Rattle.sctp_driver.specs.Streams.{buffered_on};
 
 use sctp_assoc::{
     Association, Chunks, Error, PayloadProtocolIdentifier, ReliabilityType, StreamId,

@@ -3,10 +3,10 @@ ghost use Rattle.std.specs.Prelude.{◌≡◌, length, IfErr, IfOk, OnErr, OnOk}
 ghost use Rattle.sctp_streams.specs.declared.setting.Setting.TheVariants as settings;
 ghost use Rattle.sctp_streams.specs.Stream.{params_of};
 ghost use Rattle.sctp_assoc.specs.Calls.{Refuses, RefusesOrLacksMemory, accepted_stream, adjusted, open_refusal};
-ghost use Rattle.sctp_assoc.specs.Calls.{opened, stream_refusal, written};
+ghost use Rattle.sctp_assoc.specs.Calls.{opened, refusal_to_write, stream_refusal, written};
 ghost use Rattle.sctp_driver.specs.Driving.{with_association};
 ghost use Rattle.sctp_driver.specs.Messages.{Reads, RefusesRead, with_message};
-ghost use Rattle.sctp_driver.specs.Streams.{buffered_on, refusal_to_write};
+ghost use Rattle.sctp_driver.specs.Streams.{buffered_on};
 
 use crate::driver::Driver;
 use crate::lending;

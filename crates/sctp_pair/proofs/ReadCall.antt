@@ -20,7 +20,7 @@ use Rattle.sctp_directions.proofs.Proved.{closed_receivers_are_not_open}
 use Rattle.sctp_directions.proofs.Proved.{only_what_is_brought_is_taken_in, receivers_events_are_received}
 use Rattle.sctp_directions.proofs.Proved.{what_comes_leaves_its_own}
 use Rattle.sctp_assoc.specs.Leads.{parts}
-use Rattle.sctp_assoc.specs.Calls.{read_exhausts, read_from_stream}
+use Rattle.sctp_assoc.specs.Calls.{first_refusal, read_exhausts, read_from_stream}
 use Rattle.sctp_assoc.specs.Closing.{exhausted, is_closed_state, is_exhausted}
 use Rattle.sctp_assoc.specs.Shown.{Shown}
 use Rattle.sctp_sides.specs.Meeting.{IsTruthful, Stage}
@@ -30,7 +30,7 @@ use Rattle.sctp_sides.proofs.Proved.{the_same_handshake_is_the_same_stage, what_
 use Rattle.sctp_pair.specs.declared.step.Reply.{Reply}
 use Rattle.sctp_pair.specs.declared.step.Reply.TheVariants as replies
 use Rattle.sctp_pair.specs.Fits.{IsAt, StandsClosed}
-use Rattle.sctp_pair.specs.Steps.{Reads, first_refusal}
+use Rattle.sctp_pair.specs.Steps.{Reads}
 use Rattle.sctp_pair.proofs.BetweenDirections.{orderly_acts_keep_order}
 use Rattle.sctp_pair.proofs.BetweenDirections.{ClosedAt, Does, Faces, Goes, None_brought, OpenAt, OtherStands}
 use Rattle.sctp_pair.proofs.BetweenDirections.{Settles, SettlesQuietly, StandsAt, goes_by_receiver, run_append}
@@ -45,7 +45,7 @@ read_by (replies.Read message) id s = if id == s then message else None
 read_by r id s = None
 
 -- where a call of a stream isn't refused, the stream is found
-found_none : (x y : Option Error) → first_refusal x y ≡ None → x ≡ None
+pub found_none : (x y : Option Error) → first_refusal x y ≡ None → x ≡ None
 found_none None y e = refl
 found_none (Some fault) y e = e
 

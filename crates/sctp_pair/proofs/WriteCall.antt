@@ -19,13 +19,13 @@ use Rattle.sctp_directions.proofs.Proved.{only_beginnings_assign, own_acts_leave
 use Rattle.sctp_directions.proofs.Proved.{senders_events_keep_the_invariant, writes_are_accepted}
 use Rattle.sctp_directions.proofs.Proved.{writes_are_accepted_last}
 use Rattle.sctp_assoc.specs.Leads.{parts}
-use Rattle.sctp_assoc.specs.Calls.{first_filled, written}
+use Rattle.sctp_assoc.specs.Calls.{first_filled, first_refusal, written}
 use Rattle.sctp_assoc.specs.Shown.{Shown}
 use Rattle.sctp_sides.specs.Shapes.{WasWritable}
 use Rattle.sctp_sides.proofs.Proved.{accepted_writes_fit, write_leads_on, writes_keep_the_status}
 use Rattle.sctp_pair.specs.declared.step.Reply.{Reply}
 use Rattle.sctp_pair.specs.declared.step.Reply.TheVariants as replies
-use Rattle.sctp_pair.specs.Steps.{Writes, WritesFirst, first_refusal}
+use Rattle.sctp_pair.specs.Steps.{Writes, WritesFirst}
 use Rattle.sctp_pair.specs.World.{IsOrderedAndReliable, messages_on}
 use Rattle.sctp_pair.proofs.BetweenDirections.{orderly_acts_keep_order}
 use Rattle.sctp_pair.proofs.BetweenDirections.{Does, Faces, None_brought, OpenAt, Settles, Surroundings}

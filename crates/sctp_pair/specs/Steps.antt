@@ -9,14 +9,14 @@ use Rattle.sctp_wire_types.specs.Errors.{refusal_number}
 use Rattle.sctp_wire.specs.declared.packet.Packet.{Packet}
 use Rattle.sctp_wire.specs.Packets.{packet_at}
 use Rattle.sctp_assoc.specs.Calls.{accepted_stream, adjusted, buffered_of, deadline_of, event_polled}
-use Rattle.sctp_assoc.specs.Calls.{first_filled, has_begun_closing, read_exhausts, read_refusal}
+use Rattle.sctp_assoc.specs.Calls.{first_filled, has_begun_closing, read_exhausts, refusal_to_read}
 use Rattle.sctp_assoc.specs.Closing.{closed_by, is_closed_state}
 use Rattle.sctp_streams.specs.declared.event.AssociationError.TheVariants as reasons
 use Rattle.sctp_streams.specs.declared.setting.Setting.{Setting}
 use Rattle.sctp_streams.specs.declared.setting.Setting.TheVariants as settings
 use Rattle.sctp_streams.specs.Stream.{StreamView, is_read_half_open, is_write_half_open, params_of}
 use Rattle.sctp_streams.specs.Streams.{live_ids, stream_at}
-use Rattle.sctp_assoc.specs.Calls.{open_refusal, opened, read_from_stream, stream_refusal, write_refusal}
+use Rattle.sctp_assoc.specs.Calls.{open_refusal, opened, read_from_stream, refusal_to_write, stream_refusal}
 use Rattle.sctp_assoc.specs.Calls.{with_max_send_message_size, written}
 use Rattle.sctp_assoc.specs.Chunks.{after_packet}
 use Rattle.sctp_assoc.specs.Happened.{PollsOn, acts_of_poll}
@@ -44,11 +44,6 @@ abbrev pub IsNumberOrMemory : Option Error → ℕ → Type 0
 IsNumberOrMemory None n = n ≡ refusal_number errors.ErrNoMemory
 IsNumberOrMemory (Some e) n = n ≡ refusal_number e
 
--- a call of a stream is refused as the call that lends the stream is, else for a reason of its own
-abbrev pub first_refusal : Option Error → Option Error → Option Error
-first_refusal None own = own
-first_refusal (Some e) own = Some e
-
 -- memory was refused in the middle of a call, and the association, which had not failed before, failed
 abbrev pub Fails : Shown → ℕ → Shown → Type 0
 Fails a n b = (a.failed ≡ false) × (n ≡ refusal_number errors.ErrNoMemory) × HasFailed (answers_of a) b
@@ -67,9 +62,6 @@ Finds a id replies.Done b = (stream_refusal a id ≡ None) × (b ≡ a)
 Finds a id (replies.Refused n) b = IsNumberOf (stream_refusal a id) n × (b ≡ a)
 Finds a id _ b = ⊥
 
-abbrev pub refusal_to_write : Shown → ℕ → ℕ → Option Error
-refusal_to_write a id size = first_refusal (stream_refusal a id) (write_refusal a id size)
-
 -- the bytes are written under the payload type that is named, or else the stream's
 abbrev pub Writes : Shown → ℕ → Option PayloadProtocolIdentifier → List ℕ → Reply → Shown → Type 0
 Writes a id named bytes (replies.Wrote n) b =
@@ -85,9 +77,6 @@ WritesFirst a id buffers (replies.Refused n) b =
     (IsNumberOrMemory (refusal_to_write a id (length (first_filled buffers))) n
     ⊎ (n ≡ refusal_number errors.ErrNoMemory)) × (b ≡ a)
 WritesFirst a id buffers _ b = ⊥
-
-abbrev pub refusal_to_read : Shown → ℕ → Option Error
-refusal_to_read a id = first_refusal (stream_refusal a id) (read_refusal a id)
 
 abbrev pub Reads : Shown → ℕ → Reply → Shown → Type 0
 Reads a id (replies.Read message) b = (refusal_to_read a id ≡ None) × (read_from_stream a id ≡ (b, message))
