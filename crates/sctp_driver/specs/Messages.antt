@@ -20,47 +20,47 @@ abbrev pub kept_of : ℕ → ReceivedMessage → KeptMessage
 kept_of id m = record { stream = id; payload_type = m.payload_type; bytes = bytes_left m }
 
 -- where the first message of this stream stands
-abbrev pub place_of : ℕ → List KeptMessage → Option ℕ
-place_of id kept = position (λ (m : KeptMessage). m.stream == id) kept
+abbrev pub index_of : ℕ → List KeptMessage → Option ℕ
+index_of id kept = position (λ (m : KeptMessage). m.stream == id) kept
 
 abbrev pub no_message : KeptMessage
 no_message = record { stream = 0; payload_type = kinds.Unknown; bytes = [] }
 
--- the message at a place; one without bytes past the last
+-- the message at an index; one without bytes past the last
 abbrev pub message_at : List KeptMessage → ℕ → KeptMessage
-message_at kept place = slice_index_or kept place no_message
+message_at kept index = slice_index_or kept index no_message
 
 abbrev pub keeping : Driving → ℕ → Shown × Option ReceivedMessage → Driving
 keeping d id (a, None) = with_association d a
 keeping d id (a, Some message) = record d { association = a; kept = d.kept ++ kept_of id message ∷ [] }
 
 abbrev pub with_message_at : Option ℕ → Driving → ℕ → Driving
-with_message_at (Some place) d id = d
+with_message_at (Some index) d id = d
 with_message_at None d id = keeping d id (read_from_stream d.association id)
 
 -- where no message of a stream is kept, the association is asked for the next one
 abbrev pub with_message : Driving → ℕ → Driving
-with_message d id = with_message_at (place_of id d.kept) d id
+with_message d id = with_message_at (index_of id d.kept) d id
 
 -- A message is read: it stands at the front of the buffer, whole, and is no longer kept. It stays where the buffer is
 -- shorter.
 abbrev pub GivesOne : KeptMessage → ℕ → List KeptMessage → List ℕ → Read → List KeptMessage → List ℕ → Type 0
-GivesOne m place kept buffer (answers.Message kind n) left filled =
+GivesOne m index kept buffer (answers.Message kind n) left filled =
     (kind ≡ m.payload_type) × (n ≡ length m.bytes) × (n ≤ length buffer)
-    × (left ≡ remove kept place) × (filled ≡ m.bytes ++ drop n buffer)
-GivesOne m place kept buffer (answers.NoRoom n) left filled =
+    × (left ≡ remove kept index) × (filled ≡ m.bytes ++ drop n buffer)
+GivesOne m index kept buffer (answers.NoRoom n) left filled =
     (n ≡ length m.bytes) × (length buffer < n) × (left ≡ kept) × (filled ≡ buffer)
-GivesOne m place kept buffer answers.Nothing left filled = ⊥
+GivesOne m index kept buffer answers.Nothing left filled = ⊥
 
 abbrev pub GivesAt : Option ℕ → List KeptMessage → List ℕ → Read → List KeptMessage → List ℕ → Type 0
 GivesAt None kept buffer answers.Nothing left filled = (left ≡ kept) × (filled ≡ buffer)
 GivesAt None kept buffer answer left filled = ⊥
-GivesAt (Some place) kept buffer answer left filled =
-    GivesOne (message_at kept place) place kept buffer answer left filled
+GivesAt (Some index) kept buffer answer left filled =
+    GivesOne (message_at kept index) index kept buffer answer left filled
 
 -- of the messages that are kept the first one of a stream is given
 abbrev pub Gives : ℕ → List KeptMessage → List ℕ → Read → List KeptMessage → List ℕ → Type 0
-Gives id kept buffer answer left filled = GivesAt (place_of id kept) kept buffer answer left filled
+Gives id kept buffer answer left filled = GivesAt (index_of id kept) kept buffer answer left filled
 
 -- the same of a driver, in which nothing but what is kept changes
 abbrev pub Reads : Driving → ℕ → List ℕ → Read → Driving → List ℕ → Type 0

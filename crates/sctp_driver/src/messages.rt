@@ -1,7 +1,7 @@
 // Messages that were taken out of the association and wait for a buffer that is long enough.
 ghost use Rattle.std.specs.Prelude.{◌≡◌, ◌++◌, ◌<◌, length, Err, IfOk, IfSome, OnErr, OnOk};
 ghost use Rattle.sctp_receive_queues.specs.Messages.{bytes_left};
-ghost use Rattle.sctp_driver.specs.Messages.{Gives, kept_of, message_at, place_of, put_front};
+ghost use Rattle.sctp_driver.specs.Messages.{Gives, index_of, kept_of, message_at, put_front};
 
 use crate::sending::fill;
 use bytes::BytesMut;
@@ -115,8 +115,8 @@ fn gather(front: &mut BytesMut, rest: &mut Chunks) -> Result<(), Error>
 
 /// Where the first message of this stream stands.
 pub(crate) fn find(kept: &VecDeque<Kept>, stream: StreamId) -> Option<usize>
-    ensures place { result ≡ place_of stream kept.now.items }
-    ensures bound { IfSome result (λ place. place < length kept.now.items) }
+    ensures found { result ≡ index_of stream kept.now.items }
+    ensures bound { IfSome result (λ index. index < length kept.now.items) }
 {
     kept.iter().position(|message| message.stream() == stream)
 }
@@ -132,49 +132,49 @@ pub(crate) fn give(
     ensures err { OnErr result (kept.new.items ≡ kept.old.items) }
     ensures unfilled { OnErr result (buffer.new ≡ buffer.old) }
 {
-    let Some(place) = find(kept, stream) else {
+    let Some(index) = find(kept, stream) else {
         return Ok(Read::Nothing);
     };
-    let length = size_at(kept, place);
+    let length = size_at(kept, index);
     if buffer.len() < length {
         return Ok(Read::NoRoom { length });
     }
-    copy_at(kept, place, buffer)?;
-    let payload_type = payload_type_at(kept, place);
-    kept.remove(place);
+    copy_at(kept, index, buffer)?;
+    let payload_type = payload_type_at(kept, index);
+    kept.remove(index);
     Ok(Read::Message {
         payload_type,
         length,
     })
 }
 
-fn size_at(kept: &VecDeque<Kept>, place: usize) -> usize
-    ensures { result ≡ length (message_at kept.now.items place).bytes }
+fn size_at(kept: &VecDeque<Kept>, index: usize) -> usize
+    ensures { result ≡ length (message_at kept.now.items index).bytes }
 {
-    match kept.get(place) {
+    match kept.get(index) {
         Some(message) => message.size(),
         None => 0,
     }
 }
 
-fn payload_type_at(kept: &VecDeque<Kept>, place: usize) -> PayloadProtocolIdentifier
-    ensures { result ≡ (message_at kept.now.items place).payload_type }
+fn payload_type_at(kept: &VecDeque<Kept>, index: usize) -> PayloadProtocolIdentifier
+    ensures { result ≡ (message_at kept.now.items index).payload_type }
 {
-    match kept.get(place) {
+    match kept.get(index) {
         Some(message) => message.payload_type(),
         None => PayloadProtocolIdentifier::Unknown,
     }
 }
 
-// Copies the message at a place to the front of the buffer; where it is shorter nothing is copied.
-fn copy_at(kept: &mut VecDeque<Kept>, place: usize, buffer: &mut [u8]) -> Result<(), Error>
-    requires { place < length kept.old.items }
+// Copies the message at an index to the front of the buffer; where it is shorter nothing is copied.
+fn copy_at(kept: &mut VecDeque<Kept>, index: usize, buffer: &mut [u8]) -> Result<(), Error>
+    requires { index < length kept.old.items }
     ensures same { kept.new.items ≡ kept.old.items }
-    ensures ok { OnOk result (buffer.new ≡ put_front (message_at kept.old.items place).bytes buffer.old) }
+    ensures ok { OnOk result (buffer.new ≡ put_front (message_at kept.old.items index).bytes buffer.old) }
     ensures refused { OnErr result (result ≡ Err Error.ErrNoMemory) }
     ensures err { OnErr result (buffer.new ≡ buffer.old) }
 {
-    match kept.get_mut(place) {
+    match kept.get_mut(index) {
         Some(message) => message.copy_to(buffer),
         None => Ok(()),
     }
