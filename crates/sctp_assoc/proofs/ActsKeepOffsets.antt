@@ -111,7 +111,7 @@ first_size : (o : Option InFlight) (s : Sender) → (sender_after o s).max_paylo
 first_size None s = refl
 first_size (Some p) s = refl
 
-size_stays : (n now : ℕ) (s : Sender) (e : Estimate) (m : StreamMap)
+pub size_stays : (n now : ℕ) (s : Sender) (e : Estimate) (m : StreamMap)
     → (acknowledged n now (s, e, m)).0.max_payload_size ≡ s.max_payload_size
 unfolding after_first
 size_stays zero now s e m = refl

@@ -147,7 +147,7 @@ checked_sack (Ok done) a header k =
     (reports_of a.sender k.cumulative_tsn_ack k.gap_ack_blocks)
 
 -- a point that is n past the TSN before the first one in flight
-point_back : (own base t : ℕ)
+pub point_back : (own base t : ℕ)
     → t % 2 ^ 32 ≡ tsn_before (tsn own (base + tsn_past ((tsn own base + 2 ^ 32 - 1) % 2 ^ 32) t))
 point_back own base t = omega arith
 
@@ -177,7 +177,8 @@ sacks_acknowledge a h header sack binds =
 
 -- a SACK that names what was sent is taken
 
-acked_at : (a : Shown) (h : History) → Binds a h → cumulative_tsn_ack_point_of a.sender ≡ tsn_before (tsn h.own h.base)
+pub acked_at : (a : Shown) (h : History) → Binds a h
+    → cumulative_tsn_ack_point_of a.sender ≡ tsn_before (tsn h.own h.base)
 acked_at a h binds = ap (λ (t : ℕ). (t + 2 ^ 32 - 1) % 2 ^ 32) binds.first
 
 named_past : (own base n : ℕ) → n < 2 ^ 31 → tsn_past (tsn_before (tsn own base)) (tsn_before (tsn own (base + n))) ≡ n

@@ -37,6 +37,7 @@ use Rattle.sctp_sides.specs.Causes.{IsBeyondTheSent, IsCauseOfItsKind, IsFault, 
 use Rattle.sctp_assoc.specs.Chunks.{checked_first, dispatched, on_chunk, on_counted_sack, on_data, on_sack}
 use Rattle.sctp_assoc.specs.Handshake.{echoed, on_cookie_ack, on_cookie_echo, on_heartbeat, on_init, on_init_ack}
 use Rattle.sctp_assoc.specs.Shown.{Shown}
+use Rattle.sctp_sides.proofs.ActsOfChunks.{acked_at, point_back}
 use Rattle.sctp_sides.proofs.DataIntake.{data_passed, fault_from, fault_of, may_passes, passes_may, refused_data}
 use Rattle.sctp_sides.proofs.DataIntake.{exhausts_of}
 use Rattle.sctp_sides.proofs.ExhaustedBuffers.{exhausting_data_leaves_nothing, flow_is, nothing_left_exhausts}
@@ -157,12 +158,6 @@ past_exactly own base n t near e = omega (arith, e)
 
 past_small : (acked t : ℕ) → tsn_past acked t < 2 ^ 32
 past_small acked t = omega arith
-
-point_back : (own base t : ℕ) → t % 2 ^ 32 ≡ tsn_before (tsn own (base + tsn_past (tsn_before (tsn own base)) t))
-point_back own base t = omega arith
-
-acked_at : (a : Shown) (h : History) → Binds a h → cumulative_tsn_ack_point_of a.sender ≡ tsn_before (tsn h.own h.base)
-acked_at a h binds = ap (λ (t : ℕ). (t + 2 ^ 32 - 1) % 2 ^ 32) binds.first
 
 module _ (acked own base flown t : ℕ) (at : acked ≡ tsn_before (tsn own base)) where
   never_sent : ltb flown (tsn_past acked t) ≡ true → (n : ℕ) → n ≤ flown → t % 2 ^ 32 ≢ tsn_before (tsn own (base + n))

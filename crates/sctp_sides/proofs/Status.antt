@@ -3,7 +3,6 @@
 use Rattle.std.proofs.Common.{◌++◌, ◌≡◌, refl, sym, ap, ◌∙◌, ℕ, zero, suc, Bool, true, false, ◌&&◌, if◌then◌else◌, not}
 use Rattle.std.proofs.Common.{eqb}
 use Rattle.std.proofs.Common.{List, [], ◌∷◌, length, Option, Some, None, is_some, Result, Ok, Err}
-use Rattle.std.specs.Prelude.{slice_get}
 use Rattle.sctp_wire_types.specs.declared.chunk.Chunk.{Chunk}
 use Rattle.sctp_wire_types.specs.declared.chunk.Chunk.TheVariants as chunks
 use Rattle.sctp_wire_types.specs.declared.chunk.ChunkPayloadData.{ChunkPayloadData}
@@ -14,8 +13,6 @@ use Rattle.sctp_wire_types.specs.Checks.{checked_chunk}
 use Rattle.sctp_parts.specs.declared.state.AssociationState.TheVariants as states
 use Rattle.sctp_parts.specs.declared.timer.Timer.TheVariants as names
 use Rattle.sctp_parts.specs.Timers.{expiry_of}
-use Rattle.sctp_parts.specs.Estimate.{Estimate}
-use Rattle.sctp_outbound_queue.specs.declared.message.InFlight.{InFlight}
 use Rattle.sctp_outbound_queue.specs.Waiting.{Waiting}
 use Rattle.sctp_outbound_queue.specs.Outbound.{pieces_waiting}
 use Rattle.sctp_streams.specs.declared.event.Event.{Event}
@@ -31,10 +28,10 @@ use Rattle.sctp_outbound.specs.declared.sender.SackOutcome.TheVariants as outcom
 use Rattle.sctp_outbound.specs.declared.sender.Sender.{Sender}
 use Rattle.sctp_wire_types.specs.declared.chunk.GapAckBlock.{GapAckBlock}
 use Rattle.sctp_wire.specs.DataPackets.{datagrams_of}
-use Rattle.sctp_assoc.proofs.ActsKeepOffsets.{blocks_size}
-use Rattle.sctp_outbound.specs.Sender.{acknowledged, after_first, after_resending, can_send_next, tsns_up_to, resent_by}
+use Rattle.sctp_assoc.proofs.ActsKeepOffsets.{blocks_size, size_stays}
+use Rattle.sctp_outbound.specs.Sender.{acknowledged, after_resending, can_send_next, tsns_up_to, resent_by}
 use Rattle.sctp_outbound.specs.Sacks.{before_point}
-use Rattle.sctp_outbound.specs.Sender.{sack_outcome, sender_after, sent_new, sent_one, sent_within}
+use Rattle.sctp_outbound.specs.Sender.{sack_outcome, sent_new, sent_one, sent_within}
 use Rattle.sctp_wire_types.specs.declared.ids.PayloadProtocolIdentifier.{PayloadProtocolIdentifier}
 use Rattle.sctp_assoc.specs.Calls.{accepted_from, after_ack_delay, after_t3, event_from, is_beginning, is_cookie_echoed}
 use Rattle.sctp_assoc.specs.Calls.{is_cookie_wait, is_established, retransmits, t3_expired, written_at}
@@ -166,18 +163,6 @@ data_status a piece trigger =
 
 -- SACK
 
-sender_after_size : (o : Option InFlight) (s : Sender) → (sender_after o s).max_payload_size ≡ s.max_payload_size
-sender_after_size None s = refl
-sender_after_size (Some p) s = refl
-
-acknowledged_size : (n now : ℕ) (s : Sender) (e : Estimate) (m : StreamMap)
-    → (acknowledged n now (s, e, m)).0.max_payload_size ≡ s.max_payload_size
-unfolding after_first
-acknowledged_size zero now s e m = refl
-acknowledged_size (suc n) now s e m =
-    acknowledged_size n now (sender_after (slice_get s.queue.in_flight 0) s) _ _
-    ∙ sender_after_size (slice_get s.queue.in_flight 0) s
-
 outcome_status : (o : SackOutcome) (a : Shown) (point : ℕ) (blocks : List GapAckBlock) (window : ℕ)
     (trigger : AckTrigger) (now : ℕ)
     → IsSameStatus a (on_counted_sack o a point blocks window trigger now).0
@@ -189,7 +174,7 @@ outcome_status outcomes.Taken a point blocks window trigger now =
     (blocks_size now blocks
     (acknowledged (tsns_up_to a.sender point) now
     (before_point (tsns_up_to a.sender point) window a.sender, a.estimate, a.streams))
-    ∙ acknowledged_size (tsns_up_to a.sender point) now (before_point (tsns_up_to a.sender point) window a.sender)
+    ∙ size_stays (tsns_up_to a.sender point) now (before_point (tsns_up_to a.sender point) window a.sender)
     a.estimate a.streams)
     refl refl refl
 
