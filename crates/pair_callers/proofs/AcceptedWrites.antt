@@ -1,6 +1,6 @@
 -- What is answered as written was accepted, and a write that is refused accepts nothing.
 use Rattle.std.proofs.Common.{◌≡◌, refl, sym, ap, ◌∙◌, ℕ, Bool, true, false, eqb, ◌&&◌, if◌then◌else◌, List, []}
-use Rattle.std.proofs.Common.{◌++◌, length, Option, Some, None, is_some}
+use Rattle.std.proofs.Common.{◌++◌, length, Option, None, is_some}
 use Rattle.std.specs.Prelude.{IfSome}
 use Rattle.std.proofs.lemmas.Bool.{eq-eqb, ne_eqb, true≢false}
 use Rattle.std.proofs.lemmas.List.{append-nil}
