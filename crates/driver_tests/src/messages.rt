@@ -1,0 +1,193 @@
+// Messages from one driver to the other one.
+use crate::link::{carry, client, is_told, open, server, settle};
+use sctp_driver::{
+    Driver, Error, Event, PayloadProtocolIdentifier, Read, ReliabilityType, StreamEvent,
+};
+use std::alloc::Global;
+use std::test::Fail;
+
+// What two drivers do once they are established; the client opened stream 1.
+#[derive(Clone, Copy, Debug, PartialEq, Eq)]
+enum Scene {
+    // Each writes one message of so many bytes, and the other one reads it.
+    Messages { size: usize },
+    // The server reads a message of so many bytes with a buffer of one byte less, and then with one as long.
+    ShortBuffer { size: usize },
+    // The client's first DATA is lost.
+    Loss,
+    // The client closes its half of the stream.
+    Finish,
+    // The client closes.
+    Close,
+}
+
+// Whether all went as it should. No other function here owns a driver, as each way out of one that does proves how it
+// is dropped.
+fn played(alloc: Global, scene: Scene) -> Result<bool, Fail> {
+    let mut client = client(alloc)?;
+    let mut server = server(alloc)?;
+    play(alloc, &mut client, &mut server, scene)
+}
+
+fn play(
+    alloc: Global,
+    client: &mut Driver,
+    server: &mut Driver,
+    scene: Scene,
+) -> Result<bool, Fail> {
+    if !is_established(alloc, client, server)? {
+        return Ok(false);
+    }
+    open(client)?;
+    match scene {
+        Scene::Messages { size } => is_exchanged(alloc, client, server, size),
+        Scene::ShortBuffer { size } => stays_to_be_read(alloc, client, server, size),
+        Scene::Loss => comes_again(alloc, client, server),
+        Scene::Finish => is_finished(client),
+        Scene::Close => is_over(client),
+    }
+}
+
+// Whether a handshake establishes both, and both are told.
+fn is_established(alloc: Global, client: &mut Driver, server: &mut Driver) -> Result<bool, Fail> {
+    settle(alloc, client, server, 0)?;
+    let stand = client.is_established() && server.is_established();
+    let client_told = is_told(client, &Event::Connected)?;
+    let server_told = is_told(server, &Event::Connected)?;
+    Ok(stand && client_told && server_told)
+}
+
+// So many bytes, of which no two neighbours are the same.
+fn pattern(alloc: Global, size: usize) -> Result<Vec<u8>, Fail> {
+    let mut bytes = Vec::from_elem(alloc, 7, size)?;
+    for (k, byte) in bytes.iter_mut().enumerate() {
+        *byte = (k % 251) as u8;
+    }
+    Ok(bytes)
+}
+
+fn write(from: &mut Driver, bytes: &[u8]) -> Result<bool, Error> {
+    let accepted = from.write(1, Some(PayloadProtocolIdentifier::Binary), bytes)?;
+    Ok(accepted == bytes.len())
+}
+
+// Whether a read of stream 1 with a buffer of this size answers so.
+fn reads(alloc: Global, at: &mut Driver, size: usize, awaited: Read) -> Result<bool, Fail> {
+    let mut buffer = Vec::from_elem(alloc, 0, size)?;
+    Ok(at.read(1, buffer.as_mut_slice())? == awaited)
+}
+
+// Whether a read of stream 1 gives these bytes, and nothing behind them.
+fn reads_bytes(alloc: Global, at: &mut Driver, bytes: &[u8]) -> Result<bool, Fail> {
+    let mut buffer = Vec::from_elem(alloc, 0, bytes.len())?;
+    let answer = at.read(1, buffer.as_mut_slice())?;
+    let whole = Read::Message {
+        payload_type: PayloadProtocolIdentifier::Binary,
+        length: bytes.len(),
+    };
+    let same = answer == whole && buffer.as_slice() == bytes;
+    Ok(reads(alloc, at, 0, Read::Nothing)? && same)
+}
+
+// Whether one side's message is told to the other one and read there, whole.
+fn is_carried(
+    alloc: Global,
+    from: &mut Driver,
+    to: &mut Driver,
+    bytes: &[u8],
+) -> Result<bool, Fail> {
+    let accepted = write(from, bytes)?;
+    settle(alloc, from, to, 0)?;
+    let told = is_told(to, &Event::Stream(StreamEvent::Readable { id: 1 }))?;
+    Ok(reads_bytes(alloc, to, bytes)? && accepted && told)
+}
+
+fn is_exchanged(
+    alloc: Global,
+    client: &mut Driver,
+    server: &mut Driver,
+    size: usize,
+) -> Result<bool, Fail> {
+    let bytes = pattern(alloc, size)?;
+    let there = is_carried(alloc, client, server, bytes.as_slice())?;
+    let accepted = server.accept_stream() == Some(1);
+    let back = is_carried(alloc, server, client, bytes.as_slice())?;
+    let released = client.buffered_amount(1)? == 0;
+    Ok(there && accepted && back && released)
+}
+
+fn stays_to_be_read(
+    alloc: Global,
+    client: &mut Driver,
+    server: &mut Driver,
+    size: usize,
+) -> Result<bool, Fail> {
+    let bytes = pattern(alloc, size)?;
+    let _ = write(client, bytes.as_slice())?;
+    settle(alloc, client, server, 0)?;
+    let stays = reads(
+        alloc,
+        server,
+        size.saturating_sub(1),
+        Read::NoRoom { length: size },
+    )?;
+    Ok(reads_bytes(alloc, server, bytes.as_slice())? && stays)
+}
+
+// The first DATA goes nowhere: when the retransmission timer expires it goes out again.
+fn comes_again(alloc: Global, client: &mut Driver, server: &mut Driver) -> Result<bool, Fail> {
+    let bytes = pattern(alloc, 10)?;
+    let _ = write(client, bytes.as_slice())?;
+    client.set_reliability_params(1, true, ReliabilityType::Reliable, 0)?;
+    let lost = !crate::link::next_datagram(alloc, client, 0)?.is_empty();
+    let quiet = carry(alloc, client, server, 0)? == 0 && client.buffered_amount(1)? == 10;
+    let end = settle(alloc, client, server, 0)?;
+    Ok(reads_bytes(alloc, server, bytes.as_slice())? && lost && quiet && end != 0)
+}
+
+fn is_finished(client: &mut Driver) -> Result<bool, Fail> {
+    client.finish(1)?;
+    Ok(matches!(write(client, b"late"), Err(Error::ErrStreamClosed)))
+}
+
+fn is_over(client: &mut Driver) -> Result<bool, Fail> {
+    client.close()?;
+    let refused = matches!(write(client, b"late"), Err(Error::ErrStreamNotExisted));
+    Ok(client.is_closed() && !client.is_failed() && refused)
+}
+
+#[test]
+fn a_message_is_read_whole_each_way(rt: HostRuntime) -> Result<(), Fail> {
+    for size in [1, 1200, 65_536] {
+        assert!(rt;
+            played(rt.alloc(), Scene::Messages { size })?,
+            "of {size} bytes"
+        );
+    }
+    Ok(())
+}
+
+#[test]
+fn a_message_longer_than_the_buffer_stays(rt: HostRuntime) -> Result<(), Fail> {
+    for size in [1, 1200, 65_536] {
+        assert!(rt;
+            played(rt.alloc(), Scene::ShortBuffer { size })?,
+            "of {size} bytes"
+        );
+    }
+    Ok(())
+}
+
+#[test]
+fn data_that_is_lost_comes_again(rt: HostRuntime) -> Result<(), Fail> {
+    assert!(rt; played(rt.alloc(), Scene::Loss)?);
+    Ok(())
+}
+
+#[test]
+fn nothing_is_written_once_finished_or_closed(rt: HostRuntime) -> Result<(), Fail> {
+    for scene in [Scene::Finish, Scene::Close] {
+        assert!(rt; played(rt.alloc(), scene)?);
+    }
+    Ok(())
+}
