@@ -1,3 +1,3 @@
 mod CutsLeft
-mod MadeClients
+mod MadeDrivers
 mod TimersMet

@@ -1,11 +1,12 @@
 // A driver: how it is made, and its calls with datagrams and moments.
 ghost use Rattle.std.specs.Prelude.{◌≡◌, ◌≢◌, ◌↔◌, ◌⊎◌, [], None, Err, IsErrOf, IfOk, OnErr, OnOk, false, true};
+ghost use Rattle.std.specs.Option.{option_copied};
 ghost use Rattle.sctp_wire.specs.Packets.{finished};
 ghost use Rattle.sctp_parts.specs.Timers.{least_moment};
 ghost use Rattle.sctp_assoc.specs.Calls.{RefusesOrLacksMemory, event_polled, failed_refusal, is_established};
 ghost use Rattle.sctp_assoc.specs.Chunks.{after_packet};
 ghost use Rattle.sctp_assoc.specs.Closing.{closed_by, is_closed_state};
-ghost use Rattle.sctp_assoc.specs.Created.{client, create_refusal, join_refusal, joined, server};
+ghost use Rattle.sctp_assoc.specs.Created.{client, create_refusal, created, join_refusal, joined, server};
 ghost use Rattle.sctp_assoc.specs.Gather.{has_something_to_give};
 ghost use Rattle.sctp_assoc.specs.Inbound.{taken_packet};
 ghost use Rattle.sctp_assoc.specs.Timeouts.{after_timeouts, handshake_goes_out_again};
@@ -73,7 +74,7 @@ impl Driver {
         ensures created { IfOk result (λ d. d ≡ begun_with (client config.now max_payload_size local_tag initial_tsn
             cookie d.association.remote_addr None now) local_tag) }
     {
-        let association = Association::new(
+        Driver::made(
             alloc,
             None,
             config,
@@ -81,11 +82,8 @@ impl Driver {
             local_tag,
             initial_tsn,
             cookie,
-            nowhere(),
-            None,
-            Instant::from_nanos(now),
-        )?;
-        Ok(Driver::of(alloc, association, local_tag))
+            now,
+        )
     }
 
     /// Makes a server, which waits for an INIT (RFC 4960 section 5.1). The arguments are those of `client`.
@@ -105,9 +103,36 @@ impl Driver {
             cookie d.association.remote_addr None) local_tag) }
     {
         let of_server = ServerConfig::default();
-        let association = Association::new(
+        Driver::made(
             alloc,
             Some(&of_server),
+            config,
+            max_payload_size,
+            local_tag,
+            initial_tsn,
+            cookie,
+            now,
+        )
+    }
+
+    // A server where there is a server's configuration, else a client.
+    fn made(
+        alloc: Global,
+        server_config: Option<&ServerConfig>,
+        config: &TransportConfig,
+        max_payload_size: u32,
+        local_tag: u32,
+        initial_tsn: u32,
+        cookie: [u8; 32],
+        now: u64,
+    ) -> Result<Driver, Error>
+        ensures refused { RefusesOrLacksMemory result (create_refusal max_payload_size initial_tsn) }
+        ensures created { IfOk result (λ d. d ≡ begun_with (created (option_copied server_config.entry) config.now
+            max_payload_size local_tag initial_tsn cookie d.association.remote_addr None now) local_tag) }
+    {
+        let association = Association::new(
+            alloc,
+            server_config,
             config,
             max_payload_size,
             local_tag,

@@ -1,8 +1,0 @@
-use Rattle.sctp_driver.proofs.MadeClients.{made_client}
-use Rattle.sctp_driver.proofs.driver.Driver.client.Goals as goal
-
-pub returns-clause-created : goal.returns-clause-created
-returns-clause-created c =
-    made_client c.of.result c.in_ok-association.association c.args.config.now c.args.max_payload_size c.args.local_tag
-    c.args.initial_tsn c.args.cookie c.nowhere.result c.from_nanos.result c.args.now c.of.ensures
-    c.in_ok-association.ensures.created c.from_nanos.ensures
