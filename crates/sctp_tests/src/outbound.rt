@@ -17,7 +17,7 @@ pub fn no_packets(alloc: Global) -> DataPackets {
         destination_port: 5000,
         verification_tag: 2,
     };
-    DataPackets::new(alloc, header, 1228)
+    DataPackets::new(alloc, header, 1228, 0)
 }
 
 // The TSNs of the DATA in these packets, and how many packets there are.
