@@ -1,7 +1,7 @@
 -- The TSNs held past the receiver's cumulative TSN ack point (RFC 4960 sections 3.3.4 and 6.2).
 use Rattle.std.specs.Prelude.{ℕ, Bool, List, ◌==◌, ◌||◌, not, length, nat_lt}
-use Rattle.std.specs.List.{list_any}
-use Rattle.sctp_serial.specs.Serial.{tsn_past}
+use Rattle.std.specs.List.{filter, list_any}
+use Rattle.sctp_serial.specs.Serial.{tsn_lte, tsn_past}
 use Rattle.sctp_received.specs.Received.{advanced, with_tsn}
 
 -- a new TSN is held, and then the point moves over all that follow it one after another: the new point, and what is
@@ -20,3 +20,8 @@ is_admitted held point tsn credit = nat_lt 0 credit || is_passed held point tsn
 -- a TSN before one that is held did not come
 abbrev pub has_gap : List ℕ → Bool
 has_gap held = not (length held == 0)
+
+-- a FORWARD TSN passed over all up to a TSN (RFC 3758 section 3.6): the point is that TSN, and moves over all that are
+-- held behind it one after another; the new point, and what is held past that
+abbrev pub held_past : List ℕ → ℕ → ℕ × List ℕ
+held_past held tsn = let left = filter (λ t. not (tsn_lte t tsn)) held in advanced (length left) tsn left

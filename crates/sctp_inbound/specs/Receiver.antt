@@ -6,7 +6,8 @@ use Rattle.sctp_parts.specs.declared.state.AckState.TheVariants as states
 use Rattle.sctp_parts.specs.declared.timer.Timer.TheVariants as names
 use Rattle.sctp_parts.specs.Timers.{Timers, started, with_stopped}
 use Rattle.sctp_received.specs.Received.{gap_ack_blocks, is_new}
-use Rattle.sctp_inbound.specs.Held.{has_gap, held_after, is_admitted}
+use Rattle.sctp_inbound.specs.Held.{has_gap, held_after, held_past, is_admitted}
+use Rattle.sctp_serial.specs.Serial.{tsn_lte}
 use Rattle.sctp_inbound.specs.declared.receiver.Receiver.{Receiver}
 use Rattle.sctp_inbound.specs.declared.receiver.AckTrigger.{AckTrigger}
 use Rattle.sctp_inbound.specs.declared.receiver.AckTrigger.TheVariants as triggers
@@ -39,6 +40,14 @@ past_of r = (r.peer_last_tsn, r.held)
 -- a new TSN came: it is held, and the point moves over all that follow it one after another
 abbrev pub taken_to : Receiver → ℕ → Receiver
 taken_to r tsn = moved_to r (held_after r.held r.peer_last_tsn tsn)
+
+-- a TSN is at or behind the last one that came or was skipped (RFC 1982)
+abbrev pub is_behind : Receiver → ℕ → Bool
+is_behind r tsn = tsn_lte tsn r.peer_last_tsn
+
+-- a FORWARD TSN passed over all up to a TSN (RFC 3758 section 3.6)
+abbrev pub passed_to : Receiver → ℕ → Receiver
+passed_to r tsn = moved_to r (held_past r.held tsn)
 
 abbrev pub is_immediate : AckTrigger → Bool
 is_immediate triggers.None = false

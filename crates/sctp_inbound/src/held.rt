@@ -2,7 +2,7 @@
 ghost use Rattle.std.specs.Prelude.{◌≡◌, ℕ, ◌<◌, ◌^◌, [], true, false, IfOk, OnErr, IsOk};
 ghost use Rattle.sctp_serial.specs.Serial.{tsn_after};
 ghost use Rattle.sctp_received.specs.Received.{AreRuns, gap_ack_blocks, is_held, is_held_at, is_named, is_new};
-ghost use Rattle.sctp_inbound.specs.Held.{has_gap, held_after, is_admitted, is_passed};
+ghost use Rattle.sctp_inbound.specs.Held.{has_gap, held_after, held_past, is_admitted, is_passed};
 
 use sctp_received::ReceiveQueue;
 use sctp_wire_types::{GapAckBlock, List};
@@ -89,6 +89,15 @@ impl Held {
             return Ok(tsn);
         }
         Ok(self.tsns.advance(tsn))
+    }
+
+    /// A FORWARD TSN passed over all up to this TSN, which lies ahead: nothing up to it is held any more. Answers the
+    /// point, which moves over all that follow it one after another (RFC 3758 section 3.6).
+    pub fn pass_over(&mut self, tsn: u32) -> u32
+        ensures { held_past self.old tsn ≡ (result, self.new) }
+    {
+        self.tsns.pop_up_to(tsn);
+        self.tsns.advance(tsn)
     }
 
     /// The gap ack blocks of a SACK with this point: the maximal runs of what is held, by their first and last offset

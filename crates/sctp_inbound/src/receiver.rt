@@ -4,12 +4,12 @@ ghost use Rattle.sctp_serial.specs.Serial.{tsn_after};
 ghost use Rattle.sctp_received.specs.Received.{AreRuns, is_held_at, is_named};
 ghost use Rattle.sctp_inbound.specs.Receiver.{admits, fresh_receiver, is_new_to, receiver_from, taken_to, asked};
 ghost use Rattle.sctp_inbound.specs.Receiver.{ended_packet, ended_packet_timers, credit_of, acknowledged_at_once};
-ghost use Rattle.sctp_inbound.specs.Receiver.{acknowledged, sack_of};
+ghost use Rattle.sctp_inbound.specs.Receiver.{acknowledged, is_behind, passed_to, sack_of};
 
 use crate::held::Held;
 use sctp_parts::state::AckState;
 use sctp_parts::timer::{ACK_INTERVAL, Timer, TimerTable};
-use sctp_wire_types::{ChunkSelectiveAck, Instant, List};
+use sctp_wire_types::{ChunkSelectiveAck, Instant, List, sna32lte};
 use std::alloc::{AllocError, Global};
 
 /// How soon the chunks of one packet ask to be acknowledged.
@@ -87,6 +87,21 @@ impl Receiver {
     {
         self.peer_last_tsn = self.held.take(self.peer_last_tsn, tsn)?;
         Ok(())
+    }
+
+    /// Whether a TSN is at or behind `peer_last_tsn`.
+    pub fn is_behind(&self, tsn: u32) -> bool
+        ensures { result ≡ is_behind self.now tsn }
+    {
+        sna32lte(tsn, self.peer_last_tsn)
+    }
+
+    /// A FORWARD TSN passed over all up to this TSN, which is not behind: `peer_last_tsn` is that TSN, or the last of
+    /// those that are held behind it one after another (RFC 3758 section 3.6). Takes no memory.
+    pub fn pass_over(&mut self, tsn: u32)
+        ensures { self.new ≡ passed_to self.old tsn }
+    {
+        self.peer_last_tsn = self.held.pass_over(tsn);
     }
 
     /// The trigger of a packet after one more chunk of it asked for an acknowledgement: at once where `immediate` is

@@ -5,3 +5,8 @@ pub mod MarkedPieces
 pub mod MissingPieces
 pub mod NewPieces
 pub mod Offsets
+pub mod GivenUp
+pub mod ForwardMade
+pub mod Unlimited
+pub mod Spared
+pub mod NoneLeft

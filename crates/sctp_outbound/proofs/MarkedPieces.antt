@@ -16,7 +16,7 @@ count_none : (b : Bool) (n m : ℕ) → m ≡ cond b 1 0 + n → m ≡ 0 → (b 
 count_none true n m sum none = absurd (omega (arith, sum, none))
 count_none false n m sum none = (refl, omega (arith, sum, none))
 
-none_of : (p : InFlight) (ps : List InFlight) → marked_of (p ∷ ps) ≡ 0 → (p.retransmit ≡ false) × (marked_of ps ≡ 0)
+pub none_of : (p : InFlight) (ps : List InFlight) → marked_of (p ∷ ps) ≡ 0 → (p.retransmit ≡ false) × (marked_of ps ≡ 0)
 none_of p ps none =
     count_none p.retransmit (marked_of ps) (marked_of (p ∷ ps))
     (sum_by-cons (λ (q : InFlight). cond q.retransmit 1 0) p ps) none

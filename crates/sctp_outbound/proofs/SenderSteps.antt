@@ -132,12 +132,12 @@ probe_sends s now none full waits =
 
 -- pieces in flight
 
-drop_get : (xs : List InFlight) (i : ℕ) (p : InFlight) → slice_get xs i ≡ Some p → drop i xs ≡ p ∷ drop (i + 1) xs
+pub drop_get : (xs : List InFlight) (i : ℕ) (p : InFlight) → slice_get xs i ≡ Some p → drop i xs ≡ p ∷ drop (i + 1) xs
 drop_get xs i p e =
     let same = get_or_from_slice_get xs i p p e in
     rw (drop_more xs i p (slice_get_within xs i p e), same)
 
-take_get : (xs : List InFlight) (i : ℕ) (p : InFlight) → slice_get xs i ≡ Some p → take (i + 1) xs ≡ take i xs ++ p ∷ []
+pub take_get : (xs : List InFlight) (i : ℕ) (p : InFlight) → slice_get xs i ≡ Some p → take (i + 1) xs ≡ take i xs ++ p ∷ []
 take_get xs i p e =
     let same = get_or_from_slice_get xs i p p e in
     rw (take_more xs i p (slice_get_within xs i p e), same)

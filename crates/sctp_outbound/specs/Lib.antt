@@ -5,3 +5,6 @@ pub mod Congestion
 pub mod Progress
 pub mod Sacks
 pub mod Recovery
+pub mod Abandonment
+pub mod Forward
+pub mod Laws

@@ -36,6 +36,7 @@ fresh_sender size tsn window = record {
   min_tsn2measure_rtt = tsn;
   recovery_exit = None;
   is_fast_due = false;
+  is_forward_due = false;
 }
 
 -- the peer's receive window less the bytes in flight

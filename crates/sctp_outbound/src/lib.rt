@@ -1,12 +1,16 @@
 //! What an association sends and how it learns that it came: the sender.
 #![tactic(auto)]
 
+mod abandonment;
 mod congestion;
+mod forward;
 mod gap_acks;
+mod laws;
 mod progress;
 mod recovery;
 mod sender;
 
 pub use congestion::CongestionWindow;
+pub use laws::{all_are_given_up, spent_pieces_are_spared, unlimited_messages_stay};
 pub use progress::Progress;
 pub use sender::{SackOutcome, Sender};

@@ -76,6 +76,8 @@ pub struct Sender {
     pub recovery_exit: Option<u32>,
     /// Fast retransmission is due.
     pub is_fast_due: bool,
+    /// FORWARD TSN is due (RFC 3758 section 3.5).
+    pub is_forward_due: bool,
 }
 
 impl Sender {
@@ -94,6 +96,7 @@ impl Sender {
             min_tsn2measure_rtt: initial_tsn,
             recovery_exit: None,
             is_fast_due: false,
+            is_forward_due: false,
         }
     }
 
@@ -336,7 +339,7 @@ impl Sender {
     }
 
     // The room of one packet behind its common header, in bytes; a piece that is longer goes alone.
-    fn fast_room(&self) -> u64
+    pub(crate) fn fast_room(&self) -> u64
         ensures { result ≡ fast_room self.now }
     {
         let room = u64::from(self.mtu.saturating_sub(COMMON_HEADER));
@@ -360,7 +363,7 @@ impl Sender {
     }
 
     // Whether it is known that a reason picks no piece in flight: the marks of the timer are counted.
-    fn none_left(&self, by: Retransmission) -> bool
+    pub(crate) fn none_left(&self, by: Retransmission) -> bool
         ensures { result ≡ none_left by self.now }
     {
         match by {

@@ -1,6 +1,6 @@
 -- The streams whose reads give messages, counted over the live streams.
 use Rattle.std.proofs.Common.{◌≡◌, ℕ, ◌+◌, ◌-◌, ◌^◌, ◌<◌, ◌≤◌, Bool, true, false, List, [], ◌∷◌, length, map, Some}
-use Rattle.std.proofs.Common.{None, refl, ap, ◌∙◌, arith, if◌then◌else◌, nat_lt, min, ◌||◌}
+use Rattle.std.proofs.Common.{None, refl, ap, sym, ◌∙◌, arith, if◌then◌else◌, nat_lt, min, ◌||◌}
 use Rattle.std.specs.List.{list_any, sum_by}
 use Rattle.std.specs.List.Sorted.{IsStrictlySortedBy}
 use Rattle.std.specs.Map.{keys_of, lookup, set_value}
@@ -15,8 +15,9 @@ use Rattle.sctp_streams.specs.declared.setting.Setting.{Setting}
 use Rattle.sctp_streams.specs.declared.setting.Setting.TheVariants as settings
 use Rattle.sctp_streams.specs.declared.halves.RecvSendState.{RecvSendState}
 use Rattle.sctp_streams.specs.declared.halves.RecvSendState.TheVariants as open_halves
-use Rattle.sctp_streams.specs.Stream.{StreamView, gives_messages, is_read_half_open, with_setting, without_write_half}
-use Rattle.sctp_streams.specs.Streams.{readable_count, readable_in}
+use Rattle.sctp_streams.specs.Stream.{StreamView, gives_messages, is_read_half_open, stream_passed, with_setting}
+use Rattle.sctp_streams.specs.Stream.{released_from, with_ssn_given_back, without_write_half}
+use Rattle.sctp_streams.specs.Streams.{passed_each, readable_count, readable_in}
 
 -- whether some stream gives messages is told by their number
 pub some_counted : (ss : List StreamView) → list_any gives_messages ss ≡ nat_lt 0 (sum_by readable_count ss)
@@ -114,3 +115,17 @@ pub added_count : (es n : List (ℕ × StreamView)) (id : ℕ) (s : StreamView)
 added_count es n id s sorted is silent there =
     let sum = made_count es n id s sorted is silent in
     let one = rw there at sum in omega (arith, one)
+
+-- unordered pieces of messages that are not complete are not read
+pub passed_count : (tsn : ℕ) (es : List (ℕ × StreamView)) → readable_in (passed_each tsn es) ≡ readable_in es
+passed_count tsn [] = refl
+passed_count tsn (e ∷ es) =
+    sum_by-cons readable_count (stream_passed tsn e.1) (map (λ e. e.1) (passed_each tsn es))
+    ∙ ap (λ n. readable_count e.1 + n) (passed_count tsn es)
+    ∙ sym (sum_by-cons readable_count e.1 (map (λ e. e.1) es))
+
+-- nor does a message that is given back touch whether one can be read
+pub given_gives : (s : StreamView) (unordered : Bool) (bytes : ℕ)
+    → gives_messages (released_from (if unordered then s else with_ssn_given_back s) bytes) ≡ gives_messages s
+given_gives s true bytes = refl
+given_gives s false bytes = refl

@@ -1,5 +1,5 @@
 -- The bytes that wait, summed over the live streams.
-use Rattle.std.proofs.Common.{◌≡◌, ℕ, ◌+◌, Bool, true, false, List, [], ◌∷◌, length, Option, Some, None}
+use Rattle.std.proofs.Common.{◌≡◌, ℕ, ◌+◌, ◌≤◌, map, Bool, true, false, List, [], ◌∷◌, length, Option, Some, None}
 use Rattle.std.proofs.Common.{refl, ap, sym, ◌∙◌, arith, if◌then◌else◌}
 use Rattle.std.specs.Map.{lookup, set_value}
 use Rattle.std.specs.BTreeMap.{is_at}
@@ -18,11 +18,13 @@ use Rattle.sctp_receive_queues.specs.Reassembly.{empty_reassembly, is_due, pushe
 use Rattle.sctp_receive_queues.specs.Reassembly.{unordered_put, with_ordered, with_put}
 use Rattle.sctp_receive_queues.specs.Messages.{ReceivedMessage, bytes_left}
 use Rattle.sctp_receive_queues.specs.Pieces.{bytes_of}
-use Rattle.sctp_receive_queues.proofs.BytesWaiting.{message_length, ordered_bytes, unordered_bytes}
+use Rattle.sctp_receive_queues.proofs.BytesWaiting.{message_length, ordered_bytes, stays_bytes, trimmed_bytes}
+use Rattle.sctp_receive_queues.proofs.BytesWaiting.{unordered_bytes}
 use Rattle.sctp_streams.specs.declared.setting.Setting.{Setting}
 use Rattle.sctp_streams.specs.declared.setting.Setting.TheVariants as settings
-use Rattle.sctp_streams.specs.Stream.{StreamView, read_with, stream_pushed, stream_read, with_setting}
-use Rattle.sctp_streams.specs.Streams.{StreamMap, pushed_in, stream_at, waiting_in, with_stream}
+use Rattle.sctp_streams.specs.Stream.{StreamView, read_with, stream_passed, stream_pushed, stream_read}
+use Rattle.sctp_streams.specs.Stream.{released_from, stream_skipped, with_setting, with_ssn_given_back}
+use Rattle.sctp_streams.specs.Streams.{StreamMap, passed_each, pushed_in, stream_at, waiting_in, with_stream}
 
 -- one stream's bytes are exchanged for those that it has after a change
 pub exchanged : (id : ℕ) (m n : List (ℕ × StreamView)) (s t : StreamView) → lookup (is_at (nat_cmp id)) m ≡ Some s
@@ -161,3 +163,33 @@ added_bytes es n id s sorted is empty there =
     let none : bytes_waiting s.reassembly ≡ 0 = ap bytes_waiting empty in
     let all : waiting_in n ≡ waiting_in (insert_entry nat_cmp es id s) = ap waiting_in is in
     omega (arith, rw there at sum, none, all)
+
+-- what a FORWARD TSN passes over is dropped, and its bytes wait no more
+
+pub skipped_bytes : (s t : StreamView) (ssn : ℕ) → t ≡ stream_skipped ssn s
+    → bytes_waiting t.reassembly ≤ bytes_waiting s.reassembly
+skipped_bytes s t ssn is =
+    let less = stays_bytes ssn s.reassembly.ordered in
+    rw is (omega (arith, less))
+
+passed_bytes : (tsn : ℕ) (s : StreamView)
+    → bytes_waiting (stream_passed tsn s).reassembly ≤ bytes_waiting s.reassembly
+passed_bytes tsn s =
+    let less = trimmed_bytes tsn s.reassembly.unordered in
+    omega (arith, less)
+
+pub passed_sum : (tsn : ℕ) (es : List (ℕ × StreamView)) → waiting_in (passed_each tsn es) ≤ waiting_in es
+passed_sum tsn [] = omega arith
+passed_sum tsn (e ∷ es) =
+    let f : StreamView → ℕ = λ (s : StreamView). bytes_waiting s.reassembly in
+    let a = sum_by-cons f (stream_passed tsn e.1) (map (λ e. e.1) (passed_each tsn es)) in
+    let b = sum_by-cons f e.1 (map (λ e. e.1) es) in
+    let one = passed_bytes tsn e.1 in
+    let more = passed_sum tsn es in
+    omega (arith, a, b, one, more)
+
+-- a message that is given back touches nothing that came
+pub given_reassembly : (s : StreamView) (unordered : Bool) (bytes : ℕ)
+    → (released_from (if unordered then s else with_ssn_given_back s) bytes).reassembly ≡ s.reassembly
+given_reassembly s true bytes = refl
+given_reassembly s false bytes = refl

@@ -15,7 +15,8 @@ use Rattle.sctp_streams.specs.declared.setting.Setting.TheVariants as settings
 use Rattle.sctp_streams.specs.declared.stats.DataChannelStats.{DataChannelStats}
 use Rattle.sctp_wire_types.specs.declared.chunk.ChunkPayloadData.{ChunkPayloadData}
 use Rattle.sctp_receive_queues.specs.Messages.{ReceivedMessage, bytes_left}
-use Rattle.sctp_receive_queues.specs.Reassembly.{Reassembly, empty_reassembly, is_ready, pushed, taken}
+use Rattle.sctp_receive_queues.specs.Reassembly.{Reassembly, empty_reassembly, is_ready, pushed, skipped, taken}
+use Rattle.sctp_receive_queues.specs.Reassembly.{unordered_skipped}
 use Rattle.sctp_streams.specs.Stats.{fresh_stats, with_sent, with_received}
 
 -- The halves of a stream.
@@ -142,6 +143,14 @@ with_ssn_given_back s = record s { next_ssn = (s.next_ssn + 2 ^ 16 - 1) % 2 ^ 16
 
 abbrev pub with_restarted_ssn : StreamView → StreamView
 with_restarted_ssn s = record s { next_ssn = 0 }
+
+-- a FORWARD TSN passed over the ordered messages up to an SSN (RFC 3758 section 3.6)
+abbrev pub stream_skipped : ℕ → StreamView → StreamView
+stream_skipped ssn s = record s { reassembly = skipped s.reassembly ssn }
+
+-- it passed over the unordered pieces up to a TSN
+abbrev pub stream_passed : ℕ → StreamView → StreamView
+stream_passed tsn s = record s { reassembly = unordered_skipped s.reassembly tsn }
 
 abbrev pub stream_pushed : StreamView → ChunkPayloadData → StreamView × Bool
 stream_pushed s p = (record s { reassembly = (pushed s.reassembly p).0 }, (pushed s.reassembly p).1)

@@ -1,6 +1,6 @@
 -- The live streams of an association and their generations.
 use Rattle.std.specs.Prelude.{ℕ, Bool, true, false, ◌==◌, ◌&&◌, if◌then◌else◌, List, [], ◌∷◌, ◌+◌, ◌-◌, ◌^◌, fold, map}
-use Rattle.std.specs.Prelude.{min, nat_lt, sum_by, Option, Some, None}
+use Rattle.std.specs.Prelude.{min, nat_lt, not, sum_by, Option, Some, None}
 use Rattle.std.specs.List.{list_any}
 use Rattle.std.specs.Ordering.{nat_cmp}
 use Rattle.std.specs.BTreeMap.{is_at, insert_entry}
@@ -10,10 +10,10 @@ use Rattle.sctp_wire_types.specs.declared.chunk.ChunkPayloadData.{ChunkPayloadDa
 use Rattle.sctp_wire_types.specs.declared.error.Error.{Error}
 use Rattle.sctp_streams.specs.declared.stats.DataChannelStats.{DataChannelStats}
 use Rattle.sctp_receive_queues.specs.Messages.{ReceivedMessage}
-use Rattle.sctp_receive_queues.specs.Reassembly.{is_ready, refusal}
+use Rattle.sctp_receive_queues.specs.Reassembly.{is_ready, refusal, skipped}
 use Rattle.sctp_receive_queues.specs.Reassembly as reassembly
 use Rattle.sctp_streams.specs.Stream.{StreamView, falls_to_low_mark, fresh_stream, gives_messages, reaches_high_mark}
-use Rattle.sctp_streams.specs.Stream.{released_from, stream_pushed, stream_read}
+use Rattle.sctp_streams.specs.Stream.{released_from, stream_passed, stream_pushed, stream_read, with_ssn_given_back}
 
 pub record StreamMap : Type 0 where
   -- the live streams by their identifiers, which ascend
@@ -98,6 +98,29 @@ is_readable_at (Some s) = is_ready s.reassembly
 
 abbrev pub is_readable_in : StreamMap → ℕ → Bool
 is_readable_in m id = is_readable_at (stream_at m id)
+
+abbrev pub becomes_ready : Option StreamView → ℕ → Bool
+becomes_ready None ssn = false
+becomes_ready (Some s) ssn = not (is_ready s.reassembly) && is_ready (skipped s.reassembly ssn)
+
+-- a skip of ordered messages up to an SSN makes a message ready on a live stream on which none was
+abbrev pub becomes_ready_in : StreamMap → ℕ → ℕ → Bool
+becomes_ready_in m id ssn = becomes_ready (stream_at m id) ssn
+
+abbrev pub passed_each : ℕ → List (ℕ × StreamView) → List (ℕ × StreamView)
+passed_each tsn es = map (λ e. (e.0, stream_passed tsn e.1)) es
+
+-- a FORWARD TSN passed over the unordered pieces up to a TSN, on all live streams
+abbrev pub passed_in : StreamMap → ℕ → StreamMap
+passed_in m tsn = record m { by_id = passed_each tsn m.by_id }
+
+-- a message was dropped before any of it was sent: where its generation is live, its bytes are released, and the number
+-- of an ordered one is given back
+abbrev pub given_back_in : StreamMap → ℕ → ℕ → Bool → ℕ → StreamMap
+given_back_in m id generation unordered bytes =
+    if is_generation (stream_at m id) generation then
+    changed_stream (λ s. released_from (if unordered then s else with_ssn_given_back s) bytes) m id
+    else m
 
 abbrev pub generation_left : StreamMap → Bool
 generation_left m = nat_lt m.next_generation (2 ^ 64 - 1)

@@ -1,9 +1,9 @@
 // One live stream.
-ghost use Rattle.std.specs.Prelude.{◌≡◌, ◌+◌, ◌<◌, ◌≤◌, ◌^◌, IfOk, IfErr, OnOk, OnErr, IsOk, ◌⊎◌, Some, None};
+ghost use Rattle.std.specs.Prelude.{if◌then◌else◌, ◌≡◌, ◌+◌, ◌<◌, ◌≤◌, ◌^◌, IfOk, IfErr, OnOk, OnErr, IsOk, ◌⊎◌, Some, None};
 ghost use Rattle.sctp_streams.specs.Stream.{fresh_stream, params_for, accepted_by, reaches_high_mark, released_from};
 ghost use Rattle.sctp_streams.specs.Stream.{falls_to_low_mark, with_ssn_given_back, with_restarted_ssn, with_setting};
 ghost use Rattle.sctp_streams.specs.Stream.{with_halves, without_read_half, is_read_half_open, gives_messages};
-ghost use Rattle.sctp_streams.specs.Stream.{is_write_half_open, stream_pushed, stream_read};
+ghost use Rattle.sctp_streams.specs.Stream.{is_write_half_open, stream_passed, stream_pushed, stream_read, stream_skipped};
 ghost use Rattle.sctp_receive_queues.specs.Reassembly.{is_ready, bytes_waiting, refusal};
 
 use crate::{DataChannelStats, RecvSendState, ReliabilityParams, Setting};
@@ -227,6 +227,18 @@ impl StreamState {
         self.next_ssn = self.next_ssn.wrapping_sub(1);
     }
 
+    /// A message was dropped before any of it was sent: its bytes are released, and the SSN of an ordered one goes to
+    /// the next message. Answers whether the low mark was crossed.
+    pub fn give_back(&mut self, unordered: bool, bytes: u64) -> bool
+        ensures given { self.new ≡ released_from (if unordered then self.old else with_ssn_given_back self.old) bytes }
+        ensures low { result ≡ falls_to_low_mark self.old bytes }
+    {
+        if !unordered {
+            self.give_back_ssn();
+        }
+        self.on_buffer_released(bytes)
+    }
+
     /// SSNs begin again at 0, after the outgoing stream was reset (RFC 6525 section 5.1.2).
     pub fn restart_ssn(&mut self)
         ensures { self.new ≡ with_restarted_ssn self.old }
@@ -251,6 +263,20 @@ impl StreamState {
             ⊎ (refusal self.old.reassembly piece limit ≡ Some e)) }
     {
         self.reassembly.push(piece, limit)
+    }
+
+    /// A FORWARD TSN passed over the ordered messages up to an SSN: incomplete ones are dropped (RFC 3758 section 3.6).
+    pub fn skip(&mut self, ssn: u16)
+        ensures { self.new ≡ stream_skipped ssn self.old }
+    {
+        self.reassembly.forward_tsn_for_ordered(ssn);
+    }
+
+    /// It passed over the pieces of incomplete unordered messages up to a TSN, which are dropped.
+    pub fn skip_unordered(&mut self, tsn: u32)
+        ensures { self.new ≡ stream_passed tsn self.old }
+    {
+        self.reassembly.forward_tsn_for_unordered(tsn);
     }
 
     /// Whether a message can be read.

@@ -1,13 +1,17 @@
 // The live streams of an association.
 ghost use Rattle.std.specs.Prelude.{◌≡◌, ◌==◌, true, false, if◌then◌else◌, length, IfOk, OnOk, OnErr, is_some, IsOk};
 ghost use Rattle.std.specs.Prelude.{IfErr, ◌⊎◌, Some, None, min, ◌+◌, ◌-◌, ◌^◌};
+ghost use Rattle.std.specs.Prelude.{map};
 ghost use Rattle.std.specs.Option.{option_copied};
+ghost use Rattle.sctp_receive_queues.specs.Reassembly.{bytes_waiting as waiting_on, saturated_bytes};
 ghost use Rattle.sctp_streams.specs.Streams.{no_stream, stream_at, has_room, made, generation_left, bytes_waiting};
 ghost use Rattle.sctp_streams.specs.Streams.{first_ended, changed_stream, released_in, is_generation, pushed_in};
 ghost use Rattle.sctp_streams.specs.Streams.{refusal_in, read_in, is_readable_in};
 ghost use Rattle.sctp_streams.specs.Streams.{reaches_high_mark_at, falls_to_low_mark_in, live_ids};
 ghost use Rattle.sctp_streams.specs.Streams.{some_gives_messages};
-ghost use Rattle.sctp_streams.specs.Stream.{accepted_by, with_setting};
+ghost use Rattle.sctp_streams.specs.Streams.{becomes_ready_in, given_back_in, passed_in, passed_each};
+ghost use Rattle.sctp_streams.specs.Stream.{StreamView};
+ghost use Rattle.sctp_streams.specs.Stream.{accepted_by, stream_skipped, with_setting};
 ghost use Rattle.sctp_streams.specs.LowMarks.{IsGathered};
 
 use crate::{DataChannelStats, Fallen, Setting, StreamState};
@@ -174,6 +178,53 @@ impl Streams {
         Some(message)
     }
 
+    /// A FORWARD TSN passed over the ordered messages of a live stream up to an SSN: incomplete ones are dropped (RFC
+    /// 3758 section 3.6). Answers whether a message can be read there now where none could be. Goes over the ordered
+    /// messages that wait there.
+    pub fn skip(&mut self, id: StreamId, ssn: u16) -> bool
+        ensures skipped { self.new ≡ changed_stream (stream_skipped ssn) self.old id }
+        ensures ready { result ≡ becomes_ready_in self.old id ssn }
+    {
+        let Some(stream) = self.by_id.get_mut(&id) else {
+            return false;
+        };
+        let was_readable = stream.is_readable();
+        let gave = stream.gives_messages();
+        let held = stream.waiting_bytes();
+        stream.skip(ssn);
+        let is_readable = stream.is_readable();
+        let gives = stream.gives_messages();
+        let dropped = held.saturating_sub(stream.waiting_bytes());
+        self.readable = recounted(self.readable, gave, gives, self.by_id.len() as u64);
+        self.waiting = self.waiting.saturating_sub(dropped);
+        !was_readable && is_readable
+    }
+
+    /// A FORWARD TSN passed over the pieces of incomplete unordered messages up to a TSN, which are dropped on all live
+    /// streams (RFC 3758 section 3.6). Goes over all of them.
+    pub fn skip_unordered(&mut self, tsn: u32)
+        ensures { self.new ≡ passed_in self.old tsn }
+    {
+        skip_each(&mut self.by_id, tsn);
+        self.waiting = add_waiting(&self.by_id);
+    }
+
+    /// A message was dropped before any of it was sent (RFC 3758 section 3.5): where its generation is still live, its
+    /// bytes are released, and the SSN of an ordered one goes to the next message. Answers whether the low mark was
+    /// crossed.
+    pub fn give_back(&mut self, id: StreamId, generation: u64, unordered: bool, bytes: u64) -> bool
+        ensures released { self.new ≡ given_back_in self.old id generation unordered bytes }
+        ensures low { result ≡ falls_to_low_mark_in self.old id generation bytes }
+    {
+        if !self.is_live(id, generation) {
+            return false;
+        }
+        let Some(stream) = self.by_id.get_mut(&id) else {
+            return false;
+        };
+        stream.give_back(unordered, bytes)
+    }
+
     /// Whether a stream is live and a message of it can be read.
     pub fn is_readable(&self, id: StreamId) -> bool
         ensures { result ≡ is_readable_in self.now id }
@@ -271,6 +322,25 @@ impl Streams {
         self.readable = self.readable.saturating_sub(gave);
         Some(stream.stats())
     }
+}
+
+fn skip_each(streams: &mut BTreeMap<StreamId, StreamState>, tsn: u32)
+    ensures { streams.new.entries ≡ passed_each tsn streams.old.entries }
+{
+    streams.retain(|_, stream| {
+        stream.skip_unordered(tsn);
+        true
+    });
+}
+
+// The bytes that wait on all of these streams, at most the greatest u64.
+fn add_waiting(streams: &BTreeMap<StreamId, StreamState>) -> u64
+    ensures { result ≡ saturated_bytes (λ (s : StreamView). waiting_on s.reassembly) (map (λ e. e.1) streams.now.entries) }
+{
+    streams.values().fold(
+        0u64,
+        |sum, stream| sum.saturating_add(stream.waiting_bytes()),
+    )
 }
 
 // How many of so many streams give messages, once a single one of them changed: it gave some before or did not, and

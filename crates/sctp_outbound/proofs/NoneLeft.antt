@@ -1,0 +1,324 @@
+-- Once all that is given up for a reason is abandoned, nothing is given up for it.
+use Rattle.std.proofs.Common.{◌≡◌, ℕ, zero, suc, ◌+◌, ◌-◌, ◌<◌, ◌≤◌, ◌%◌, ◌^◌, Bool, true, false, ◌&&◌, ◌||◌, not, is_some}
+use Rattle.std.proofs.Common.{nat_lt, eqb, List, [], ◌∷◌, ◌++◌, map, Option, Some, None, length, position, slice_get, get_or}
+use Rattle.std.proofs.Common.{cond, eq-eqb, refl, ap, sym, subst, ◌∙◌, ⊎_elim, arith}
+use Rattle.std.proofs.lemmas.Bool.{cases_Bool, and_parts, eqb-true, false≢true, true≢false}
+use Rattle.std.proofs.lemmas.List.{length-append, length-map, map-append}
+use Rattle.std.proofs.lemmas.List.Quantifiers.{position-Some}
+use Rattle.std.proofs.lemmas.List.Sums.{count_by-le-length, sum_by-append, sum_by-cons}
+use Rattle.std.proofs.lemmas.Option.{slice_get-get_or, slice_get_within}
+use Rattle.std.specs.List.{count_by}
+use Rattle.std.specs.Option.{option_map, unwrap_or}
+use Rattle.sctp_serial.specs.Serial.{tsn_past}
+use Rattle.sctp_outbound_queue.specs.declared.message.Attributes.{Attributes}
+use Rattle.sctp_outbound_queue.specs.declared.message.InFlight.{InFlight}
+use Rattle.sctp_outbound_queue.specs.declared.message.Retransmission.{Retransmission}
+use Rattle.sctp_outbound_queue.specs.declared.message.Retransmission.TheVariants as causes
+use Rattle.sctp_outbound_queue.specs.Message.{flagged, is_expired, is_expired_piece, is_of, is_outstanding, marker_of}
+use Rattle.sctp_outbound_queue.specs.Message.{picks, room_taken}
+use Rattle.sctp_outbound_queue.specs.Outbound.{Outbound, abandoned_at, abandoned_from, tail_dropped, tail_dropped_from}
+use Rattle.sctp_outbound_queue.specs.Outbound.{piece_at, tsn_at}
+use Rattle.sctp_outbound_queue.specs.Waiting.{Waiting}
+use Rattle.sctp_streams.specs.Streams.{StreamMap}
+use Rattle.sctp_outbound.specs.declared.abandonment.Reason.{Reason}
+use Rattle.sctp_outbound.specs.declared.abandonment.Reason.TheVariants as reasons
+use Rattle.sctp_outbound.specs.declared.sender.Sender.{Sender}
+use Rattle.sctp_outbound.specs.Abandonment.{abandoned_if, abandoned_of, first_spent, given_up_first, is_pass_due, is_spent}
+use Rattle.sctp_outbound.specs.Abandonment.{next_given_up, pass_room, spent_place}
+use Rattle.sctp_outbound.specs.Laws.{NoneIsLeft}
+use Rattle.sctp_outbound.proofs.GivenUp.{none_given_up}
+use Rattle.sctp_outbound.proofs.Unlimited.{place_full, place_on, place_skip, place_spent}
+
+-- a piece that may be given up yet: it is marked, or not abandoned
+abbrev is_active : InFlight → Bool
+is_active p = p.retransmit || not p.abandoned
+
+abbrev active_in : List InFlight → ℕ
+active_in ps = count_by is_active ps
+
+abbrev one_if : InFlight → ℕ
+one_if p = cond (is_active p) 1 0
+
+or_true : (a : Bool) → (a || true) ≡ true
+or_true true = refl
+or_true false = refl
+
+-- an active piece in flight that has this TSN
+record Gives (s : Sender) (tsn : ℕ) : Type 0 where
+  place : ℕ
+  piece : InFlight
+  there : slice_get s.queue.in_flight place ≡ Some piece
+  active : is_active piece ≡ true
+  named : tsn ≡ tsn_at s.queue.first_tsn place
+
+none_is_some : (i : ℕ) → None ≡ Some i → ⊥
+none_is_some i e = false≢true (ap (λ (z : Option ℕ). is_some z) e)
+
+same_number : (i j : ℕ) → Some i ≡ Some j → i ≡ j
+same_number i j e = ap (λ (z : Option ℕ). unwrap_or z 0) e
+
+mapped : (f : ℕ → ℕ) (o : Option ℕ) (tsn : ℕ) → option_map f o ≡ Some tsn → (i : ℕ) × (o ≡ Some i) × (tsn ≡ f i)
+mapped f None tsn e = absurd (none_is_some tsn e)
+mapped f (Some i) tsn e = (i, refl, sym (same_number (f i) tsn e))
+
+-- expired pieces
+
+expired_active : (now : ℕ) (p : InFlight) → is_expired_piece now p ≡ true → is_active p ≡ true
+expired_active now p e =
+    ap (λ z. p.retransmit || z) (and_parts (not p.abandoned) (is_expired now p.message) e).0 ∙ or_true p.retransmit
+
+expired_at : (now : ℕ) (ps : List InFlight) (i : ℕ) → position (is_expired_piece now) ps ≡ Some i
+    → (p : InFlight) × (slice_get ps i ≡ Some p) × (is_active p ≡ true)
+expired_at now [] i e = absurd (none_is_some i e)
+expired_at now (p ∷ ps) i e =
+    let found = position-Some (is_expired_piece now) (p ∷ ps) i p e in (
+      get_or (p ∷ ps) i p,
+      slice_get-get_or (p ∷ ps) i p found.0,
+      expired_active now (get_or (p ∷ ps) i p) found.1,
+    )
+
+expired_gives : (now : ℕ) (s : Sender) (tsn : ℕ) → next_given_up (reasons.Expired now) s ≡ Some tsn → Gives s tsn
+expired_gives now s tsn e =
+    let m = mapped (tsn_at s.queue.first_tsn) (position (is_expired_piece now) s.queue.in_flight) tsn e in
+    let a = expired_at now s.queue.in_flight m.0 m.1 in
+    record { place = m.0; piece = a.0; there = a.1; active = a.2; named = m.2 }
+
+-- spent pieces
+
+picked_active : (k : Retransmission) (p : InFlight) → picks k p ≡ true → is_active p ≡ true
+picked_active causes.Timer p e = ap (λ z. z || not p.abandoned) e
+picked_active causes.Fast p e =
+    let out = (and_parts (not p.acked) (not p.abandoned) (outstanding p e)).1 in
+    ap (λ z. p.retransmit || z) out ∙ or_true p.retransmit
+  where
+    outstanding : (p : InFlight) → picks causes.Fast p ≡ true → is_outstanding p ≡ true
+    outstanding p e =
+        ⊎_elim
+        (λ (a : is_outstanding p ≡ true). a)
+        (λ (a : is_outstanding p ≡ false). absurd (false≢true (rw a at e)))
+        (cases_Bool (is_outstanding p))
+
+-- a place so far past another, with an active piece
+record Comes (j : ℕ) (ps : List InFlight) (i : ℕ) : Type 0 where
+  past : ℕ
+  piece : InFlight
+  sum : i ≡ j + past
+  there : slice_get ps past ≡ Some piece
+  active : is_active piece ≡ true
+
+comes_later : (j i : ℕ) (p : InFlight) (ps : List InFlight) → Comes (j + 1) ps i → Comes j (p ∷ ps) i
+comes_later j i p ps c =
+    record { past = suc c.past; piece = c.piece; sum = omega (arith, c.sum); there = c.there; active = c.active }
+
+spent_comes : (k : Retransmission) (j room i : ℕ) (ps : List InFlight) → spent_place k j room ps ≡ Some i → Comes j ps i
+spent_comes k j room i [] e = absurd (none_is_some i e)
+spent_comes k j room i (p ∷ ps) e =
+    ⊎_elim (
+    λ (a : picks k p ≡ true). ⊎_elim (
+    λ (b : is_spent p ≡ true).
+    let same = same_number j i (sym (place_spent k j room p ps a b) ∙ e) in
+    record { past = 0; piece = p; sum = omega (arith, same); there = refl; active = picked_active k p a }
+    ) (
+    λ (b : is_spent p ≡ false). ⊎_elim
+    (λ (c : nat_lt room (room_taken k p) ≡ true).
+    absurd (none_is_some i (sym (place_full k j room p ps a b c) ∙ e)))
+    (λ (c : nat_lt room (room_taken k p) ≡ false).
+    comes_later j i p ps
+    (spent_comes k (j + 1) (room - room_taken k p) i ps (sym (place_on k j room p ps a b c) ∙ e)))
+    (cases_Bool (nat_lt room (room_taken k p)))
+    ) (cases_Bool (is_spent p))
+    ) (
+    λ (a : picks k p ≡ false).
+    comes_later j i p ps (spent_comes k (j + 1) room i ps (sym (place_skip k j room p ps a) ∙ e))
+    ) (cases_Bool (picks k p))
+
+due_gives : (k : Retransmission) (s : Sender) (tsn : ℕ)
+    → option_map (tsn_at s.queue.first_tsn) (spent_place k 0 (pass_room k s) s.queue.in_flight) ≡ Some tsn → Gives s tsn
+due_gives k s tsn e =
+    let m = mapped (tsn_at s.queue.first_tsn) (spent_place k 0 (pass_room k s) s.queue.in_flight) tsn e in
+    let c = spent_comes k 0 (pass_room k s) m.0 s.queue.in_flight m.1 in
+    let same : m.0 ≡ c.past = omega (arith, c.sum) in
+    record {
+      place = c.past;
+      piece = c.piece;
+      there = c.there;
+      active = c.active;
+      named = m.2 ∙ ap (tsn_at s.queue.first_tsn) same;
+    }
+
+spent_gives : (k : Retransmission) (s : Sender) (tsn : ℕ) → first_spent k s ≡ Some tsn → Gives s tsn
+spent_gives k s tsn e =
+    ⊎_elim
+    (λ (due : is_pass_due k s ≡ true). due_gives k s tsn (rw due at e))
+    (λ (due : is_pass_due k s ≡ false). absurd (none_is_some tsn (rw due at e)))
+    (cases_Bool (is_pass_due k s))
+
+gives : (why : Reason) (s : Sender) (tsn : ℕ) → next_given_up why s ≡ Some tsn → Gives s tsn
+gives (reasons.Expired now) s tsn e = expired_gives now s tsn e
+gives (reasons.Spent k) s tsn e = spent_gives k s tsn e
+
+-- what an abandonment leaves
+
+tested : (InFlight → Bool) → Option InFlight → Bool
+tested f None = false
+tested f (Some p) = f p
+
+-- what holds of the piece found holds of the one that stands there
+holds_at : (f : InFlight → Bool) (q p : InFlight) → Some q ≡ Some p → f p ≡ true → f q ≡ true
+unfolding tested
+holds_at f q p e h = ap (tested f) e ∙ h
+
+nothing_there : (p : InFlight) → None ≡ Some p → ⊥
+nothing_there p e = false≢true (ap (λ (z : Option InFlight). is_some z) e)
+
+one_at_least : (ps : List InFlight) (i : ℕ) (p : InFlight) → slice_get ps i ≡ Some p → is_active p ≡ true
+    → 1 ≤ active_in ps
+one_at_least [] i p there active = absurd (nothing_there p there)
+one_at_least (q ∷ ps) zero p there active =
+    let same : one_if q ≡ 1 = ap (λ z. cond z 1 0) (holds_at is_active q p there active) in
+    let sum = sum_by-cons one_if q ps in
+    omega (arith, same, sum)
+one_at_least (q ∷ ps) (suc i) p there active =
+    let rest = one_at_least ps i p there active in
+    let sum = sum_by-cons one_if q ps in
+    omega (arith, rest, sum)
+
+flag_one : (id : ℕ) (p : InFlight) → one_if (flagged id p) ≤ one_if p
+flag_one id p =
+    ⊎_elim
+    (λ (a : is_of id p ≡ true). rw a (omega arith))
+    (λ (a : is_of id p ≡ false). rw a (omega arith))
+    (cases_Bool (is_of id p))
+
+flags : (id : ℕ) (ps : List InFlight) → active_in (map (flagged id) ps) ≤ active_in ps
+flags id [] = omega arith
+flags id (p ∷ ps) =
+    let one = flag_one id p in
+    let rest = flags id ps in
+    let before = sum_by-cons one_if p ps in
+    let after = sum_by-cons one_if (flagged id p) (map (flagged id) ps) in
+    omega (arith, one, rest, before, after)
+
+flag_own : (id : ℕ) (p : InFlight) → is_of id p ≡ true → one_if (flagged id p) ≡ 0
+flag_own id p a = rw a refl
+
+flags_less : (id : ℕ) (ps : List InFlight) (i : ℕ) (p : InFlight) → slice_get ps i ≡ Some p → is_of id p ≡ true
+    → is_active p ≡ true → active_in (map (flagged id) ps) + 1 ≤ active_in ps
+flags_less id [] i p there own active = absurd (nothing_there p there)
+flags_less id (q ∷ ps) zero p there own active =
+    let one : one_if q ≡ 1 = ap (λ z. cond z 1 0) (holds_at is_active q p there active) in
+    let none = flag_own id q (holds_at (is_of id) q p there own) in
+    let rest = flags id ps in
+    let before = sum_by-cons one_if q ps in
+    let after = sum_by-cons one_if (flagged id q) (map (flagged id) ps) in
+    omega (arith, one, none, rest, before, after)
+flags_less id (q ∷ ps) (suc i) p there own active =
+    let one = flag_one id q in
+    let rest = flags_less id ps i p there own active in
+    let before = sum_by-cons one_if q ps in
+    let after = sum_by-cons one_if (flagged id q) (map (flagged id) ps) in
+    omega (arith, one, rest, before, after)
+
+-- a marker is not active
+marker_rests : (id : ℕ) (a : Attributes) → active_in (map (flagged id) (marker_of a ∷ [])) ≡ 0
+marker_rests id a =
+    let one = flag_one id (marker_of a) in
+    let after = sum_by-cons one_if (flagged id (marker_of a)) [] in
+    omega (arith, one, after)
+
+-- fewer active pieces are in flight, and one piece more at most
+record Fewer (q r : Outbound) : Type 0 where
+  fewer : active_in r.in_flight + 1 ≤ active_in q.in_flight
+  longer : length r.in_flight ≤ length q.in_flight + 1
+  first : r.first_tsn ≡ q.first_tsn
+
+flagged_fewer : (q r : Outbound) (id i : ℕ) (p : InFlight) → slice_get q.in_flight i ≡ Some p → is_of id p ≡ true
+    → is_active p ≡ true → r.in_flight ≡ map (flagged id) q.in_flight → r.first_tsn ≡ q.first_tsn → Fewer q r
+flagged_fewer q r id i p there own active is first =
+    let less = flags_less id q.in_flight i p there own active in
+    let same = ap active_in is in
+    let long = ap (λ (z : List InFlight). length z) is ∙ length-map q.in_flight (flagged id) in
+    record { fewer = omega (arith, less, same); longer = omega (arith, long); first = first }
+
+marked_fewer : (q r : Outbound) (id i : ℕ) (p : InFlight) (a : Attributes) → slice_get q.in_flight i ≡ Some p
+    → is_of id p ≡ true → is_active p ≡ true → r.in_flight ≡ map (flagged id) (q.in_flight ++ marker_of a ∷ [])
+    → r.first_tsn ≡ q.first_tsn → Fewer q r
+marked_fewer q r id i p a there own active is first =
+    let less = flags_less id q.in_flight i p there own active in
+    let parts = is ∙ map-append (flagged id) q.in_flight (marker_of a ∷ []) in
+    let same = ap active_in parts in
+    let sum = sum_by-append one_if (map (flagged id) q.in_flight) (map (flagged id) (marker_of a ∷ [])) in
+    let none = marker_rests id a in
+    let long = ap (λ (z : List InFlight). length z) is ∙ length-map (q.in_flight ++ marker_of a ∷ []) (flagged id) in
+    let more = length-append q.in_flight (marker_of a ∷ []) in
+    record { fewer = omega (arith, less, same, sum, none); longer = omega (arith, long, more); first = first }
+
+dropped_fewer : (ms : List Waiting) (q : Outbound) (id i : ℕ) (p : InFlight) → slice_get q.in_flight i ≡ Some p
+    → is_of id p ≡ true → is_active p ≡ true
+    → Fewer q (let r = (tail_dropped_from ms q id).0 in record r { in_flight = map (flagged id) r.in_flight })
+dropped_fewer [] q id i p there own active = flagged_fewer q _ id i p there own active refl refl
+dropped_fewer (m ∷ ms) q id i p there own active =
+    ⊎_elim
+    (λ (a : eqb m.message.message_id id ≡ true).
+    rw a (marked_fewer q _ id i p m.message there own active refl refl))
+    (λ (a : eqb m.message.message_id id ≡ false). rw a (flagged_fewer q _ id i p there own active refl refl))
+    (cases_Bool (eqb m.message.message_id id))
+
+piece_fewer : (o : Option InFlight) (q : Outbound) (i : ℕ) (p : InFlight) → o ≡ Some p → slice_get q.in_flight i ≡ Some p
+    → is_active p ≡ true → Fewer q (abandoned_from o q).0
+piece_fewer o q i p e there active =
+    rw e
+    (dropped_fewer q.pending q p.message.message_id i p there
+    (eq-eqb p.message.message_id p.message.message_id refl) active)
+
+abandoned_fewer : (s : Sender) (tsn : ℕ) → s.queue.first_tsn < 2 ^ 32 → length s.queue.in_flight ≤ 2 ^ 32
+    → Gives s tsn → Fewer s.queue (abandoned_at s.queue tsn).0
+abandoned_fewer s tsn first long g =
+    let within = slice_get_within s.queue.in_flight g.place g.piece g.there in
+    let at : tsn_past s.queue.first_tsn (tsn_at s.queue.first_tsn g.place) ≡ g.place = omega (arith, within, first, long) in
+    let here = ap (λ z. slice_get s.queue.in_flight (tsn_past s.queue.first_tsn z)) g.named
+    ∙ ap (slice_get s.queue.in_flight) at ∙ g.there in
+    piece_fewer (piece_at s.queue tsn) s.queue g.place g.piece here g.there g.active
+
+queue_after : (tsn : ℕ) (all : Sender × StreamMap) → (abandoned_of tsn all).0.queue ≡ (abandoned_at all.0.queue tsn).0
+unfolding abandoned_of
+queue_after tsn all = refl
+
+after_fewer : (tsn : ℕ) (all : Sender × StreamMap) → all.0.queue.first_tsn < 2 ^ 32
+    → length all.0.queue.in_flight ≤ 2 ^ 32 → Gives all.0 tsn → Fewer all.0.queue (abandoned_of tsn all).0.queue
+after_fewer tsn all first long g =
+    subst (Fewer all.0.queue) (sym (queue_after tsn all)) (abandoned_fewer all.0 tsn first long g)
+
+none_active : (why : Reason) (s : Sender) (o : Option ℕ) → next_given_up why s ≡ o → active_in s.queue.in_flight ≤ 0
+    → next_given_up why s ≡ None
+none_active why s None e few = e
+none_active why s (Some tsn) e few =
+    let g = gives why s tsn e in
+    let one = one_at_least s.queue.in_flight g.place g.piece g.there g.active in
+    absurd (omega (arith, one, few))
+
+-- for one more, where it holds of so many
+next_none : (why : Reason) (n : ℕ) (all : Sender × StreamMap) → all.0.queue.first_tsn < 2 ^ 32
+    → active_in all.0.queue.in_flight ≤ suc n → length all.0.queue.in_flight + suc n ≤ 2 ^ 32
+    → ((then : Sender × StreamMap) → then.0.queue.first_tsn < 2 ^ 32 → active_in then.0.queue.in_flight ≤ n
+    → length then.0.queue.in_flight + n ≤ 2 ^ 32 → next_given_up why (given_up_first n why then).0 ≡ None)
+    → (o : Option ℕ) → next_given_up why all.0 ≡ o → next_given_up why (given_up_first (suc n) why all).0 ≡ None
+next_none why n all first few long rest None e =
+    ap (λ (z : Sender × StreamMap). next_given_up why z.0) (none_given_up why (suc n) all e) ∙ e
+next_none why n all first few long rest (Some tsn) e =
+    let less = after_fewer tsn all first (omega (arith, long)) (gives why all.0 tsn e) in
+    ap (λ o. next_given_up why (given_up_first n why (abandoned_if o all)).0) e
+    ∙ rest (abandoned_of tsn all) (omega (arith, less.first, first)) (omega (arith, less.fewer, few))
+    (omega (arith, less.longer, long))
+
+left_none : (why : Reason) (n : ℕ) (all : Sender × StreamMap) → all.0.queue.first_tsn < 2 ^ 32
+    → active_in all.0.queue.in_flight ≤ n → length all.0.queue.in_flight + n ≤ 2 ^ 32
+    → next_given_up why (given_up_first n why all).0 ≡ None
+left_none why zero all first few long = none_active why all.0 (next_given_up why all.0) refl few
+left_none why (suc n) all first few long =
+    next_none why n all first few long (left_none why n) (next_given_up why all.0) refl
+
+pub none_is_left : NoneIsLeft
+none_is_left why s m first long =
+    left_none why (length s.queue.in_flight) (s, m) first (count_by-le-length is_active s.queue.in_flight)
+    (omega (arith, long))

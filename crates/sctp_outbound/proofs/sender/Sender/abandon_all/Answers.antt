@@ -1,0 +1,57 @@
+use Rattle.std.proofs.Common.{sym, ◌∙◌, arith, not}
+use Rattle.sctp_streams.proofs.LowMarks.{gathers_both, gathers_nothing}
+use Rattle.sctp_outbound.proofs.SenderSteps.{on_err}
+use Rattle.sctp_outbound.proofs.GivenUp.{any_early, any_late, ends_early, ends_late, gives_up_from, gives_up_more, some_more}
+use Rattle.sctp_outbound.proofs.sender.Sender.abandon_all.Goals as goal
+
+pub loop-done-init : goal.loop-done-init
+loop-done-init c = (
+  gives_up_from c.args.why.now c.inflight_len-count.result (c.args.self.now, c.args.streams.now),
+  gathers_nothing c.args.streams.now c.args.fallen.now,
+)
+
+pub returns-then-not-branch-clause-exact : goal.returns-then-not-branch-clause-exact
+returns-then-not-branch-clause-exact c =
+    ends_early c.args.why.now c.inflight_len-count.result c.loop-done.done (c.args.self.now, c.args.streams.now)
+    (c.loop-done.self, c.loop-done.streams) (c.abandon_next.new.self, c.abandon_next.new.streams)
+    c.loop-done.invariant.0 c.inflight_len-count.ensures
+    (sym c.in_ok-abandon_next.ensures.any ∙ c.if-not-branch.true)
+    c.in_ok-abandon_next.ensures.exact
+
+pub returns-then-not-branch-clause-any : goal.returns-then-not-branch-clause-any
+returns-then-not-branch-clause-any c =
+    any_early c.args.why.now c.inflight_len-count.result c.loop-done.done (c.args.self.now, c.args.streams.now)
+    (c.loop-done.self, c.loop-done.streams) c.loop-done.invariant.0
+    (sym c.in_ok-abandon_next.ensures.any ∙ c.if-not-branch.true)
+
+pub returns-then-not-branch-clause-gathers : goal.returns-then-not-branch-clause-gathers
+returns-then-not-branch-clause-gathers c =
+    gathers_both _ _ _ _ _ _ c.loop-done.invariant.1 c.in_ok-abandon_next.ensures.gathers
+
+pub returns-in_err-abandon_next-clause-grows : goal.returns-in_err-abandon_next-clause-grows
+returns-in_err-abandon_next-clause-grows c =
+    on_err c.from_residual.result
+    (some_more c.args.why.now c.inflight_len-count.result c.loop-done.done (c.args.self.now, c.args.streams.now)
+    (c.loop-done.self, c.loop-done.streams) c.loop-done.invariant.0 c.in_err-abandon_next.ensures.grows)
+
+pub loop-done-preserved : goal.loop-done-preserved
+loop-done-preserved c = (
+  gives_up_more c.args.why.now c.inflight_len-count.result c.loop-done.done (c.args.self.now, c.args.streams.now)
+      (c.loop-done.self, c.loop-done.streams) (c.abandon_next.new.self, c.abandon_next.new.streams)
+      c.loop-done.invariant.0 c.loop-done-test.true
+      (sym c.in_ok-abandon_next.ensures.any ∙ c.if-not-branch.false)
+      c.in_ok-abandon_next.ensures.exact,
+  gathers_both _ _ _ _ _ _ c.loop-done.invariant.1 c.in_ok-abandon_next.ensures.gathers,
+)
+
+pub returns-clause-exact : goal.returns-clause-exact
+returns-clause-exact c =
+    ends_late c.args.why.now c.inflight_len-count.result c.loop-done.done (c.args.self.now, c.args.streams.now)
+    (c.loop-done.self, c.loop-done.streams) c.loop-done.invariant.0 c.inflight_len-count.ensures
+    (omega (arith, c.loop-done-test.false))
+
+pub returns-clause-any : goal.returns-clause-any
+returns-clause-any c =
+    any_late c.args.why.now c.inflight_len-count.result c.loop-done.done (c.args.self.now, c.args.streams.now)
+    (c.loop-done.self, c.loop-done.streams) c.loop-done.invariant.0 c.inflight_len-count.ensures
+    (omega (arith, c.loop-done-test.false))

@@ -1,0 +1,19 @@
+use Rattle.std.proofs.Common.{Bool, true, false, ◌≡◌, refl, ap, ◌∙◌, sym}
+use Rattle.std.specs.Option.{option_copied_mut}
+use Rattle.sctp_streams.proofs.ReadableStreams.{given_gives, still_readable}
+use Rattle.sctp_streams.proofs.WaitingBytes.{given_reassembly, unchanged}
+use Rattle.sctp_streams.proofs.streams.Streams.give_back.Goals as goal
+
+pub invariant_of-self-2 : goal.invariant_of-self-2
+invariant_of-self-2 c =
+    let there = sym c.get_mut.ensures.value ∙ ap option_copied_mut c.in-Some.is in
+    let s = c.in-Some.stream.now in
+    let last = c.give_back.new.self in
+    let old = c.self.inside.by_id.entries in
+    let new = (c.get_mut.follows.lender last).entries in
+    let holds = (c.get_mut.follows.holds last).0 in (
+      c.self.invariant.0 ∙ sym (unchanged c.args.id old new s last there holds
+          (rw c.give_back.ensures.given (given_reassembly s c.args.unordered c.args.bytes))),
+      c.self.invariant.1 ∙ sym (still_readable c.args.id old new s last there holds
+          (rw c.give_back.ensures.given (given_gives s c.args.unordered c.args.bytes))),
+    )
