@@ -378,11 +378,11 @@ fn met_and_said(alloc: Global) -> Result<((Standing, Standing), (bool, String, u
 
 #[test]
 fn two_clients_that_meet_are_established(rt: HostRuntime) -> Result<(), Fail> {
-    let (standing, (heard, message, point)) = met_and_said(rt.alloc())?;
+    let (standing, (heard, message, last_tsn)) = met_and_said(rt.alloc())?;
     let established = (AssociationState::Established, 0);
     assert_eq!(rt; standing, (established, established));
     assert!(rt; heard);
     assert_eq!(rt; message.as_str(), "53 6869");
-    assert_eq!(rt; point, 100);
+    assert_eq!(rt; last_tsn, 100);
     Ok(())
 }

@@ -5,13 +5,14 @@ use sctp_assoc::{Association, AssociationState, Error, Instant};
 use std::alloc::Global;
 use std::test::Fail;
 
-/// SACK under the tag 1: the point 99, window 1,048,576, and a block of the second TSN past the point.
+/// SACK under the tag 1: the cumulative TSN ack 99, window 1,048,576, and a block of the second TSN past the cumulative
+/// TSN ack.
 static SECOND_CAME: &str = "\
 1388138800000001a0a59fec\
 0300001400000063001000000001000000020002
 ";
 
-/// The same with a block of the third and the fourth TSN past the point.
+/// The same with a block of the third and the fourth TSN past the cumulative TSN ack.
 static FOURTH_CAME: &str = "\
 138813880000000136d07f6f\
 0300001400000063001000000001000000030004

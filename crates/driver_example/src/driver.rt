@@ -23,7 +23,7 @@ const COOKIE: [u8; 32] = [67; 32];
 
 /// One association and where its peer is.
 #[derive(Drop)]
-struct Driver {
+struct EchoServer {
     alloc: Global,
     association: Association,
     peer: SocketAddr,
@@ -31,7 +31,7 @@ struct Driver {
 
 /// Drives an association by the lines of the input, to their end.
 pub fn serve<R: BufRead + Drop, W: Write>(alloc: Global, input: R, output: &mut W) -> Result<()> {
-    let mut driver = Driver::listening(alloc)?;
+    let mut driver = EchoServer::listening(alloc)?;
     for line in input.split(alloc, b'\n') {
         let happening = parse(alloc, line?.as_slice())?;
         driver.go_on(happening, output)?;
@@ -39,9 +39,9 @@ pub fn serve<R: BufRead + Drop, W: Write>(alloc: Global, input: R, output: &mut 
     Ok(())
 }
 
-impl Driver {
+impl EchoServer {
     // A server that waits for an INIT.
-    fn listening(alloc: Global) -> Result<Driver> {
+    fn listening(alloc: Global) -> Result<EchoServer> {
         let peer = SocketAddr::new(IpAddr::V4(Ipv4Addr::new(192, 0, 2, 1)), 5000);
         let association = Association::new(
             alloc,
@@ -55,7 +55,7 @@ impl Driver {
             None,
             Instant::from_millis(0),
         )?;
-        Ok(Driver {
+        Ok(EchoServer {
             alloc,
             association,
             peer,

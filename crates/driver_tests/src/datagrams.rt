@@ -1,6 +1,6 @@
 // Datagrams that are left, and one that does not fit its buffer. Those in hex were spelled apart from this code.
 use crate::link::{client, is_told, next_datagram, open, server, settle};
-use sctp_driver::{Driver, Error, Event, Received, Sent};
+use sctp_driver::{DatagramAnswer, Driver, Error, Event, PollAnswer};
 use std::alloc::Global;
 use std::test::Fail;
 
@@ -24,7 +24,7 @@ static REFLECTED_ABORT: &str = "13881388000000011b93aa3806010004";
 /// The HEARTBEAT under the tag 2 with a byte changed and its sum left.
 static CHANGED_HEARTBEAT: &str = "1388138800000002780a9e3f0400000b0001000701020400";
 
-fn hand_over(alloc: Global, to: &mut Driver, datagram: &str) -> Result<Received, Fail> {
+fn hand_over(alloc: Global, to: &mut Driver, datagram: &str) -> Result<DatagramAnswer, Fail> {
     let bytes = hex::decode(alloc, datagram)?;
     Ok(to.handle_datagram(0, bytes.as_slice())?)
 }
@@ -42,29 +42,29 @@ fn is_left(
     alloc: Global,
     to: &mut Driver,
     datagram: &str,
-    awaited: Received,
+    awaited: DatagramAnswer,
 ) -> Result<bool, Fail> {
     let answer = hand_over(alloc, to, datagram)?;
     Ok(is_quiet(alloc, to)? && answer == awaited)
 }
 
 fn leaves_other_tags(alloc: Global, server: &mut Driver) -> Result<bool, Fail> {
-    let mut left = is_left(alloc, server, CHANGED_HEARTBEAT, Received::NoPacket)?;
+    let mut left = is_left(alloc, server, CHANGED_HEARTBEAT, DatagramAnswer::NoPacket)?;
     for datagram in [
         HEARTBEAT_UNDER_OTHER_TAG,
         ABORT_UNDER_OTHER_TAG,
         REFLECTED_ABORT_UNDER_OTHER_TAG,
     ] {
-        left = is_left(alloc, server, datagram, Received::OtherTag)? && left;
+        left = is_left(alloc, server, datagram, DatagramAnswer::OtherTag)? && left;
     }
     Ok(left)
 }
 
 // Whether the same HEARTBEAT is answered under the own tag, and then an ABORT under the peer's tag closes.
 fn takes_own_tag(alloc: Global, server: &mut Driver) -> Result<bool, Fail> {
-    let taken = hand_over(alloc, server, HEARTBEAT)? == Received::Taken;
+    let taken = hand_over(alloc, server, HEARTBEAT)? == DatagramAnswer::Taken;
     let answer = hex::encode(alloc, next_datagram(alloc, server, 0)?.as_slice())?;
-    let closed = hand_over(alloc, server, REFLECTED_ABORT)? == Received::Taken;
+    let closed = hand_over(alloc, server, REFLECTED_ABORT)? == DatagramAnswer::Taken;
     Ok(taken && answer.as_str() == HEARTBEAT_ACK && closed && server.is_closed())
 }
 
@@ -92,7 +92,7 @@ fn try_with(
     trial: Trial,
 ) -> Result<bool, Fail> {
     let init = next_datagram(alloc, client, 0)?;
-    let taken = server.handle_datagram(0, init.as_slice())? == Received::Taken;
+    let taken = server.handle_datagram(0, init.as_slice())? == DatagramAnswer::Taken;
     settle(alloc, client, server, 0)?;
     let told = is_told(server, &Event::Connected)?;
     let kept = match trial {
@@ -110,7 +110,7 @@ fn leaves_init(
     init: &[u8],
 ) -> Result<bool, Fail> {
     let answer = server.handle_datagram(0, init)?;
-    let left = is_quiet(alloc, server)? && answer == Received::RepeatedInit;
+    let left = is_quiet(alloc, server)? && answer == DatagramAnswer::RepeatedInit;
     open(client)?;
     let _ = client.write(1, None, b"hi")?;
     settle(alloc, client, server, 0)?;
@@ -130,7 +130,7 @@ fn an_init_that_comes_again_is_left(rt: HostRuntime) -> Result<(), Fail> {
 }
 
 // What a client answers to a poll with a buffer of this size.
-fn first_poll(alloc: Global, size: usize) -> Result<Sent, Fail> {
+fn first_poll(alloc: Global, size: usize) -> Result<PollAnswer, Fail> {
     let mut client = client(alloc)?;
     let mut buffer = Vec::from_elem(alloc, 0, size)?;
     Ok(client.poll_transmit(0, buffer.as_mut_slice())?)
@@ -139,7 +139,13 @@ fn first_poll(alloc: Global, size: usize) -> Result<Sent, Fail> {
 #[test]
 fn a_datagram_that_does_not_fit_is_not_given(rt: HostRuntime) -> Result<(), Fail> {
     // common header 12, INIT with its values 20, and the supported extensions with their padding 8
-    assert_eq!(rt; first_poll(rt.alloc(), 39)?, Sent::NoRoom { length: 40 });
-    assert_eq!(rt; first_poll(rt.alloc(), 40)?, Sent::Datagram { length: 40 });
+    assert_eq!(rt;
+        first_poll(rt.alloc(), 39)?,
+        PollAnswer::NoRoom { length: 40 }
+    );
+    assert_eq!(rt;
+        first_poll(rt.alloc(), 40)?,
+        PollAnswer::Datagram { length: 40 }
+    );
     Ok(())
 }

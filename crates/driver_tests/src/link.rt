@@ -1,5 +1,5 @@
 // Two drivers, and the datagrams between them.
-use sctp_driver::{Driver, Error, Event, PayloadProtocolIdentifier, Sent, TransportConfig};
+use sctp_driver::{Driver, Error, Event, PayloadProtocolIdentifier, PollAnswer, TransportConfig};
 use std::alloc::Global;
 use std::test::Fail;
 
@@ -25,8 +25,8 @@ pub(crate) fn server(alloc: Global) -> Result<Driver, Error> {
 pub(crate) fn next_datagram(alloc: Global, from: &mut Driver, now: u64) -> Result<Vec<u8>, Fail> {
     let mut datagram = Vec::from_elem(alloc, 0, DATAGRAM_SIZE)?;
     match from.poll_transmit(now, datagram.as_mut_slice())? {
-        Sent::Datagram { length } => datagram.truncate(length),
-        Sent::Nothing | Sent::NoRoom { .. } => datagram.clear(),
+        PollAnswer::Datagram { length } => datagram.truncate(length),
+        PollAnswer::Nothing | PollAnswer::NoRoom { .. } => datagram.clear(),
     }
     Ok(datagram)
 }

@@ -1,7 +1,7 @@
 // Messages from one driver to the other one.
 use crate::link::{carry, client, is_told, open, server, settle};
 use sctp_driver::{
-    Driver, Error, Event, PayloadProtocolIdentifier, Read, ReliabilityType, StreamEvent,
+    Driver, Error, Event, PayloadProtocolIdentifier, ReadAnswer, ReliabilityType, StreamEvent,
 };
 use std::alloc::Global;
 use std::test::Fail;
@@ -72,7 +72,7 @@ fn write(from: &mut Driver, bytes: &[u8]) -> Result<bool, Error> {
 }
 
 // Whether a read of stream 1 with a buffer of this size answers so.
-fn reads(alloc: Global, at: &mut Driver, size: usize, awaited: Read) -> Result<bool, Fail> {
+fn reads(alloc: Global, at: &mut Driver, size: usize, awaited: ReadAnswer) -> Result<bool, Fail> {
     let mut buffer = Vec::from_elem(alloc, 0, size)?;
     Ok(at.read(1, buffer.as_mut_slice())? == awaited)
 }
@@ -81,12 +81,12 @@ fn reads(alloc: Global, at: &mut Driver, size: usize, awaited: Read) -> Result<b
 fn reads_bytes(alloc: Global, at: &mut Driver, bytes: &[u8]) -> Result<bool, Fail> {
     let mut buffer = Vec::from_elem(alloc, 0, bytes.len())?;
     let answer = at.read(1, buffer.as_mut_slice())?;
-    let whole = Read::Message {
+    let whole = ReadAnswer::Message {
         payload_type: PayloadProtocolIdentifier::Binary,
         length: bytes.len(),
     };
     let same = answer == whole && buffer.as_slice() == bytes;
-    Ok(reads(alloc, at, 0, Read::Nothing)? && same)
+    Ok(reads(alloc, at, 0, ReadAnswer::Nothing)? && same)
 }
 
 // Whether one side's message is told to the other one and read there, whole.
@@ -129,7 +129,7 @@ fn stays_to_be_read(
         alloc,
         server,
         size.saturating_sub(1),
-        Read::NoRoom { length: size },
+        ReadAnswer::NoRoom { length: size },
     )?;
     Ok(reads_bytes(alloc, server, bytes.as_slice())? && stays)
 }

@@ -136,7 +136,10 @@ pub fn write_chunk<W: Write>(output: &mut W, chunk: &Chunk) -> io::Result<()> {
         Chunk::HeartbeatAck(heartbeat) => write_params(output, heartbeat.params.as_slice()),
         Chunk::Abort(abort) => write_causes(output, abort.error_causes.as_slice()),
         Chunk::Error(error) => write_causes(output, error.error_causes.as_slice()),
-        Chunk::Shutdown(point) => write!(output, ": cumulative TSN ack {point}"),
+        Chunk::Shutdown(cumulative_tsn_ack) => write!(
+            output,
+            ": cumulative TSN ack {cumulative_tsn_ack}"
+        ),
         Chunk::CookieEcho(cookie) => write!(output, ": cookie of {} bytes", cookie.len()),
         Chunk::Reconfig(reconfig) => write_reconfig(output, reconfig),
         Chunk::ForwardTsn(forward) => write_forward_tsn(output, forward),

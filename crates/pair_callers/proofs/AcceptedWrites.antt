@@ -8,7 +8,7 @@ use Rattle.sctp_streams.specs.Stream.{StreamView}
 use Rattle.sctp_streams.specs.Streams.{stream_at}
 use Rattle.sctp_model.specs.Messages.{Message}
 use Rattle.sctp_assoc.specs.Calls.{stream_refusal, write_refusal}
-use Rattle.sctp_sides.specs.Shapes.{IsLive}
+use Rattle.sctp_sides.specs.SideLaws.{IsLive}
 use Rattle.sctp_assoc.specs.Shown.{Shown}
 use Rattle.sctp_sides.proofs.Proved.{found_streams_are_live}
 use Rattle.sctp_directions.specs.Acts.{type_on}
@@ -22,7 +22,7 @@ use Rattle.sctp_pair.specs.Steps.{Steps, Writes}
 use Rattle.sctp_pair.specs.World.{IsWorldStep, World, accepted_at, is_side}
 use Rattle.sctp_pair.specs.World.{messages_on}
 use Rattle.sctp_pair.proofs.ReadCall.{found_none}
-use Rattle.pair_callers.specs.Going.{GoesOn, from_side}
+use Rattle.pair_callers.specs.BetweenWorlds.{GoesOn, from_side}
 use Rattle.pair_callers.specs.Writing.{AcceptsNone, AcceptsOne, count_in}
 use Rattle.pair_callers.proofs.StepsByDirection.{Leads, at_its_side, goes_on, is_own, step_from}
 

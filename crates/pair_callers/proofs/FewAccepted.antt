@@ -12,7 +12,7 @@ use Rattle.sctp_pair.specs.Callers.{ReadsAreFronts, ReadsWereWritten}
 use Rattle.sctp_pair.specs.Counted.{FitsCounted, LeadsCounted, RunsCounted, Tally}
 use Rattle.sctp_pair.specs.Steps.{Runs, Steps}
 use Rattle.sctp_pair.proofs.FewInAll.{few_in_front, few_stay_few}
-use Rattle.pair_callers.specs.Going.{to_side}
+use Rattle.pair_callers.specs.BetweenWorlds.{to_side}
 use Rattle.pair_callers.specs.Running.{BeginsWithNothing, HasNothing, RunsCounting, RunsTelling, StepsTelling}
 use Rattle.pair_callers.specs.Running.{TellsAccepted}
 use Rattle.pair_callers.specs.Telling.{HoldFromNew}

@@ -1,6 +1,6 @@
 mod AcceptedWrites
 mod FewAccepted
-mod NotEnded
+mod LastingFacts
 mod QuestionSteps
 mod ReadMessages
 mod ReadyOrBuffered

@@ -18,7 +18,7 @@ use Rattle.sctp_pair.specs.declared.step.Step.{Step}
 use Rattle.sctp_pair.specs.declared.step.Step.TheVariants as steps
 use Rattle.sctp_pair.specs.Ends.{Ends}
 use Rattle.sctp_pair.specs.World.{IsWorldStep, World, is_side, message_read}
-use Rattle.pair_callers.specs.Going.{GoesOn, GoesOnWithin, to_side}
+use Rattle.pair_callers.specs.BetweenWorlds.{GoesOn, GoesOnWithin, to_side}
 use Rattle.pair_callers.specs.Reading.{AreNumbered, IsOfAccepted, ReadsNext, letter_at, letters_of, message_in}
 use Rattle.pair_callers.proofs.StepsByDirection.{Leads, goes_on, goes_on_within, is_own, promised_to, step_to}
 

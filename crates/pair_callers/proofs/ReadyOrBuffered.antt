@@ -21,8 +21,8 @@ use Rattle.sctp_pair.specs.declared.step.Step.TheVariants as steps
 use Rattle.sctp_pair.specs.Ends.{Ends, end_of}
 use Rattle.sctp_pair.specs.Steps.{Buffers, Steps}
 use Rattle.sctp_pair.specs.World.{IsOpen, IsPromised}
-use Rattle.sctp_pair.proofs.SimpleCalls.{buffers_same}
-use Rattle.pair_callers.specs.Going.{GoesOnWithin, from_side, to_side}
+use Rattle.sctp_pair.proofs.QuietCalls.{buffers_same}
+use Rattle.pair_callers.specs.BetweenWorlds.{GoesOnWithin, from_side, to_side}
 use Rattle.pair_callers.specs.Reading.{letters_read}
 use Rattle.pair_callers.specs.Buffering.{IsAllThatCame, IsAllToBeHad, IsFrontOfWhatCame, IsKept, IsReliable}
 use Rattle.pair_callers.specs.Buffering.{KeepsWhatDidNotCome, amount_in, letters_ready}

@@ -9,7 +9,7 @@ use Rattle.sctp_pair.specs.Steps.{AtSide}
 use Rattle.sctp_pair.specs.World.{IsDirectionStep, IsPromised, IsSafeWorld, IsWorldStep, World, is_side, other_side}
 use Rattle.sctp_pair.specs.Fits.{Fits, LeadsSafely}
 use Rattle.sctp_assoc.specs.Shown.{Shown}
-use Rattle.pair_callers.specs.Going.{GoesOn, GoesOnWithin, from_side, initial_of, to_side}
+use Rattle.pair_callers.specs.BetweenWorlds.{GoesOn, GoesOnWithin, from_side, initial_of, to_side}
 
 pub is_own : (x : Side2) → is_side x x ≡ true
 is_own sides.A = refl

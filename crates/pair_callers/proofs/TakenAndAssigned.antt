@@ -13,7 +13,7 @@ use Rattle.sctp_pair.specs.declared.step.Step.{Step}
 use Rattle.sctp_pair.specs.declared.step.Step.TheVariants as steps
 use Rattle.sctp_pair.specs.Ends.{Ends}
 use Rattle.sctp_pair.specs.World.{HasData, HasForward, IsWorldStep, World, other_side, packet_brought}
-use Rattle.pair_callers.specs.Going.{AssignsWhileOpen, GoesOn, IsAcknowledgedOn, from_side, initial_of, to_side}
+use Rattle.pair_callers.specs.BetweenWorlds.{AssignsWhileOpen, GoesOn, IsAcknowledgedOn, from_side, initial_of, to_side}
 use Rattle.pair_callers.specs.Delivering.{HasNoData, PassesBy, TakesNothing, TakesOf, packet_for}
 use Rattle.pair_callers.proofs.StepsByDirection.{Leads, goes_on, step_from, step_to}
 

@@ -8,7 +8,7 @@ use Rattle.sctp_fit.specs.Incoming.{tsn_before}
 use Rattle.sctp_pair.specs.declared.step.Side2.{Side2}
 use Rattle.sctp_pair.specs.Ends.{Ends, packets_of}
 use Rattle.sctp_pair.specs.World.{HasData, HasForward, World, other_side, packet_of_bytes}
-use Rattle.pair_callers.specs.Going.{initial_of, to_side}
+use Rattle.pair_callers.specs.BetweenWorlds.{initial_of, to_side}
 
 -- the packet of this number that comes to a side, as what it spells
 abbrev pub packet_for : Side2 → ℕ → Ends → Option Packet

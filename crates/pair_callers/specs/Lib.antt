@@ -1,4 +1,4 @@
-pub mod Going
+pub mod BetweenWorlds
 pub mod Reading
 pub mod Writing
 pub mod Delivering

@@ -9,7 +9,7 @@ use Rattle.sctp_pair.specs.Ends.{Ends}
 use Rattle.sctp_pair.specs.World.{IsWithinLimits, World}
 use Rattle.sctp_pair.specs.Fits.{Fits}
 use Rattle.sctp_pair.specs.Counted.{AreFew, FitsCounted, Tally, tallied_in}
-use Rattle.pair_callers.specs.Going.{to_side}
+use Rattle.pair_callers.specs.BetweenWorlds.{to_side}
 use Rattle.pair_callers.specs.Reading.{AreNumbered}
 
 -- the answer that a reply tells, if it is that of a question about the state

@@ -1,6 +1,6 @@
 // Lasting: what a step does not end.
 ghost use Rattle.sctp_pair.specs.Ends.{end_of};
-ghost use Rattle.pair_callers.specs.Going.{GoesOn, from_side, to_side};
+ghost use Rattle.pair_callers.specs.BetweenWorlds.{GoesOn, from_side, to_side};
 ghost use Rattle.pair_callers.specs.Lasting.{KeepsReliable, PassesNothing, ReceivesOn, StaysClosed, StaysInSpan};
 ghost use Rattle.pair_callers.specs.Lasting.{StaysOver};
 

@@ -1,6 +1,6 @@
 // Writing: what is answered as written was accepted, and nothing else.
 ghost use Rattle.std.specs.Prelude.{◌≡◌, IfSome, None, length};
-ghost use Rattle.pair_callers.specs.Going.{GoesOn, from_side};
+ghost use Rattle.pair_callers.specs.BetweenWorlds.{GoesOn, from_side};
 ghost use Rattle.pair_callers.specs.Writing.{AcceptsNone, AcceptsOne, count_in};
 
 use bytes::Bytes;

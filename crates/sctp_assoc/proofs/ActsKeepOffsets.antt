@@ -18,8 +18,8 @@ use Rattle.sctp_outbound.specs.Sender.{acknowledged, after_first, sender_after, 
 use Rattle.sctp_directions.specs.Acts.{Act, Can, CanAll, History, Parts, done, done_all, data_given, all_data_given}
 use Rattle.sctp_directions.specs.Acts.{with_written, with_acknowledged}
 use Rattle.sctp_fit.specs.Outgoing.{Sending}
-use Rattle.sctp_fit.specs.Points.{so_many, with_named}
-use Rattle.sctp_fit.proofs.BlocksTaken.{points_and_blocks_acknowledge}
+use Rattle.sctp_fit.specs.CumulativeAcks.{first_pieces_acknowledged, with_named}
+use Rattle.sctp_fit.proofs.BlocksTaken.{sacks_take_what_they_name}
 use Rattle.sctp_wire_types.specs.declared.chunk.GapAckBlock.{GapAckBlock}
 use Rattle.sctp_received.specs.Received.{is_named}
 use Rattle.sctp_outbound.specs.GapAcks.{with_blocks}
@@ -92,7 +92,7 @@ first_queue [] s e = rw e refl
 first_queue (p ∷ ps) s e = refl
 
 so_many_acknowledged : (n now base size : ℕ) (s : Sender) (e : Estimate) (m : StreamMap)
-    → so_many n (record { queue = s.queue; streams = m; base = base; size = size })
+    → first_pieces_acknowledged n (record { queue = s.queue; streams = m; base = base; size = size })
     ≡ record {
       queue = (acknowledged n now (s, e, m)).0.queue;
       streams = (acknowledged n now (s, e, m)).2;
@@ -147,7 +147,7 @@ pub pieces_acknowledged : (n now : ℕ) (blocks : List GapAckBlock) (s : Sender)
 pieces_acknowledged n now blocks s e m h within small =
     rw (blocks_size now blocks (acknowledged n now (s, e, m)), size_stays n now s e m)
     (ap (λ (a : Sending). parts_with a)
-    (points_and_blocks_acknowledge
+    (sacks_take_what_they_name
     (record { queue = s.queue; streams = m; base = h.base; size = s.max_payload_size }) n blocks within small
     ∙ ap (with_named (λ j. is_named (j + 1) blocks)) (so_many_acknowledged n now h.base s.max_payload_size s e m)
     ∙ blocks_named now blocks (h.base + n) s.max_payload_size (acknowledged n now (s, e, m))))

@@ -36,7 +36,7 @@ use Rattle.sctp_inbound.specs.Handshake.{comes_back, has_issued}
 use Rattle.sctp_inbound.specs.Receiver.{admits, is_new_to, past_of, taken_to}
 use Rattle.sctp_outbound_queue.specs.Outbound.{Outbound, outstanding_of}
 use Rattle.sctp_wire_types.specs.declared.chunk.GapAckBlock.{GapAckBlock}
-use Rattle.sctp_outbound.specs.Sacks.{all_acknowledged, before_point, progress_of, reports_of, sack_taken}
+use Rattle.sctp_outbound.specs.Sacks.{all_acknowledged, before_acknowledging, progress_of, reports_of, sack_taken}
 use Rattle.sctp_outbound.proofs.MissingPieces.{reports_are}
 use Rattle.sctp_outbound.specs.declared.sender.Sender.{Sender}
 use Rattle.sctp_outbound.specs.declared.progress.Progress.{Progress}
@@ -81,8 +81,8 @@ use Rattle.sctp_assoc.proofs.ActsKeepOffsets.{acts_tied, can_append, done_append
 use Rattle.sctp_assoc.proofs.ActsKeepOffsets.{pieces_acknowledged}
 use Rattle.sctp_fit.specs.HeldSet.{HoldsPast}
 use Rattle.sctp_fit.proofs.HeldTsns.{nothing_is_held_at_first}
-use Rattle.sctp_assoc.proofs.DataCame.{held_follows, new_tsn, point_follows}
-use Rattle.sctp_assoc.proofs.WhatCame.{came_on, same_held, same_point}
+use Rattle.sctp_assoc.proofs.DataCame.{held_follows, new_tsn, last_tsn_follows}
+use Rattle.sctp_assoc.proofs.WhatCame.{came_on, same_held, same_last_tsn}
 
 pub leads_on : (xs ys : List Act) {a b c : Shown} {h k l : History} → Leads xs a h b k → Leads ys b k c l
     → Leads (xs ++ ys) a h c l
@@ -98,17 +98,17 @@ pub leads_by : (xs : List Act) (a b : Shown) (h : History) → Binds a h → Can
     → past_of b.receiver ≡ past_of a.receiver
     → IsSamePast h (done_all xs (parts a h)).history
     → Leads xs a h b (done_all xs (parts a h)).history
-leads_by xs a b h binds can there point same = record {
+leads_by xs a b h binds can there peer_last_tsn same = record {
   can = can;
   there = there;
   binds = record {
     first = ap (λ (p : Parts). p.queue.first_tsn) there ∙ acts_tied xs (parts a h) can binds.first;
-    point =
-        ap (λ (z : ℕ × List ℕ). z.0) point ∙ binds.point
-        ∙ same_point h (done_all xs (parts a h)).history a.streams b.streams same;
+    peer_last_tsn =
+        ap (λ (z : ℕ × List ℕ). z.0) peer_last_tsn ∙ binds.peer_last_tsn
+        ∙ same_last_tsn h (done_all xs (parts a h)).history a.streams b.streams same;
     held =
         subst (HoldsPast (came_on (done_all xs (parts a h)).history b.streams))
-        (sym (ap (λ (z : ℕ × List ℕ). z.1) point))
+        (sym (ap (λ (z : ℕ × List ℕ). z.1) peer_last_tsn))
         (same_held h (done_all xs (parts a h)).history a.streams b.streams same binds.held);
     marked =
         subst (λ (p : Parts). AreMarkedRight p.queue.in_flight) (sym there) (acts_marked xs (parts a h) binds.marked);
@@ -123,19 +123,19 @@ past_itself h = record { peer = refl; taken = refl; passed = refl }
 -- nothing that the directions see changed
 pub leads_nowhere : (a b : Shown) (h : History) → Binds a h → parts b h ≡ parts a h
     → past_of b.receiver ≡ past_of a.receiver → Leads [] a h b h
-leads_nowhere a b h binds same point = leads_by [] a b h binds tt same point (past_itself h)
+leads_nowhere a b h binds same peer_last_tsn = leads_by [] a b h binds tt same peer_last_tsn (past_itself h)
 
 -- what changes beside the directions does no harm
 leads_beside : (xs : List Act) (a b c : Shown) (h k : History) → parts c k ≡ parts b k
     → past_of c.receiver ≡ past_of b.receiver → Leads xs a h b k → Leads xs a h c k
-leads_beside xs a b c h k same point m = record {
+leads_beside xs a b c h k same peer_last_tsn m = record {
   can = m.can;
   there = same ∙ m.there;
   binds = record {
     first = ap (λ (p : Parts). p.queue.first_tsn) same ∙ m.binds.first;
-    point = ap (λ (z : ℕ × List ℕ). z.0) point ∙ m.binds.point;
+    peer_last_tsn = ap (λ (z : ℕ × List ℕ). z.0) peer_last_tsn ∙ m.binds.peer_last_tsn;
     held =
-        subst (HoldsPast (came_on k c.streams)) (sym (ap (λ (z : ℕ × List ℕ). z.1) point))
+        subst (HoldsPast (came_on k c.streams)) (sym (ap (λ (z : ℕ × List ℕ). z.1) peer_last_tsn))
         (same_held k k b.streams c.streams (past_itself k) m.binds.held);
     marked = subst (λ (p : Parts). AreMarkedRight p.queue.in_flight) (sym same) m.binds.marked;
   };
@@ -191,16 +191,16 @@ took_leads a piece h binds new (streams, kept) e =
     let told =
     told_receiver (kept && is_readable_in streams piece.stream_identifier) b piece.stream_identifier kept refl in
     record {
-      can = (new_tsn h a.streams a.receiver piece.tsn binds.point binds.held new, tt);
+      can = (new_tsn h a.streams a.receiver piece.tsn binds.peer_last_tsn binds.held new, tt);
       there = same ∙ rw (← e) refl;
       binds = record {
         first = ap (λ (p : Parts). p.queue.first_tsn) same ∙ binds.first;
-        point =
+        peer_last_tsn =
             ap (λ (r : Receiver). r.peer_last_tsn) told
-            ∙ point_follows h a.streams a.receiver piece.tsn binds.point binds.held new n;
+            ∙ last_tsn_follows h a.streams a.receiver piece.tsn binds.peer_last_tsn binds.held new n;
         held =
             subst (λ (r : Receiver). HoldsPast (came_on k n) r.held) (sym told)
-            (held_follows h a.streams a.receiver piece.tsn binds.point binds.held new n);
+            (held_follows h a.streams a.receiver piece.tsn binds.peer_last_tsn binds.held new n);
         marked = subst (λ (p : Parts). AreMarkedRight p.queue.in_flight) (sym same) binds.marked;
       };
     }
@@ -264,7 +264,7 @@ next_leads false a piece trigger h e binds =
 next_leads true a piece trigger h e binds =
     let b : Shown = counted_data a in
     let counted : Binds b h =
-    record { first = binds.first; point = binds.point; held = binds.held; marked = binds.marked } in
+    record { first = binds.first; peer_last_tsn = binds.peer_last_tsn; held = binds.held; marked = binds.marked } in
     let id = piece.stream_identifier in
     let made = stream_leads (is_some (stream_at a.streams id)) (generation_left a.streams) b id h refl refl counted in
     let same = stream_receiver (is_some (stream_at a.streams id)) (generation_left a.streams) b id refl refl in
@@ -277,18 +277,19 @@ next_leads true a piece trigger h e binds =
 
 -- SACK
 
--- a SACK that is taken is not behind, and its point is within what is in flight
-taken_within : (older beyond : Bool) (s : Sender) (point : ℕ) (blocks : List GapAckBlock)
-    → tsn_gt (cumulative_tsn_ack_point_of s) point ≡ older
-    → nat_lt (length s.queue.in_flight) (tsns_up_to s point) ≡ beyond
-    → sack_outcome s point blocks ≡ outcomes.Taken
-    → tsns_up_to s point ≤ length s.queue.in_flight
-taken_within true beyond s point blocks e f t =
-    let u : is_taken (sack_outcome s point blocks) ≡ true = ap is_taken t in
+-- a SACK that is taken is not behind, and its cumulative TSN ack is within what is in flight
+taken_within : (older beyond : Bool) (s : Sender) (cumulative_tsn_ack : ℕ) (blocks : List GapAckBlock)
+    → tsn_gt (cumulative_tsn_ack_point_of s) cumulative_tsn_ack ≡ older
+    → nat_lt (length s.queue.in_flight) (tsns_up_to s cumulative_tsn_ack) ≡ beyond
+    → sack_outcome s cumulative_tsn_ack blocks ≡ outcomes.Taken
+    → tsns_up_to s cumulative_tsn_ack ≤ length s.queue.in_flight
+taken_within true beyond s cumulative_tsn_ack blocks e f t =
+    let u : is_taken (sack_outcome s cumulative_tsn_ack blocks) ≡ true = ap is_taken t in
     let v = rw e at u in absurd (false≢true v)
-taken_within false false s point blocks e f t = ltb-false (length s.queue.in_flight) (tsns_up_to s point) f
-taken_within false true s point blocks e f t =
-    let u : is_taken (sack_outcome s point blocks) ≡ true = ap is_taken t in
+taken_within false false s cumulative_tsn_ack blocks e f t =
+    ltb-false (length s.queue.in_flight) (tsns_up_to s cumulative_tsn_ack) f
+taken_within false true s cumulative_tsn_ack blocks e f t =
+    let u : is_taken (sack_outcome s cumulative_tsn_ack blocks) ≡ true = ap is_taken t in
     let v = rw (e, f) at u in absurd (false≢true v)
 
 acknowledged_parts : (a : Shown) (progress : Progress) (now : ℕ) (x : Sender × Estimate × StreamMap) (k : History)
@@ -301,95 +302,106 @@ acknowledged_receiver : (a : Shown) (progress : Progress) (now : ℕ) (x : Sende
 acknowledged_receiver a progress now (s, e, m) = refl
 
 -- what a SACK acknowledges and reports missing of the pieces in flight
-reported_parts : (a : Shown) (point : ℕ) (blocks : List GapAckBlock) (window now : ℕ) (h : History)
-    → tsns_up_to a.sender point ≤ length a.sender.queue.in_flight → a.sender.queue.first_tsn < 2 ^ 32
-    → let n = tsns_up_to a.sender point in
-    let x = sack_taken point blocks window now a.sender a.estimate a.streams in
-    with_reports (reports_of a.sender point blocks) (with_all n blocks (parts a h))
+reported_parts : (a : Shown) (cumulative_tsn_ack : ℕ) (blocks : List GapAckBlock) (window now : ℕ) (h : History)
+    → tsns_up_to a.sender cumulative_tsn_ack ≤ length a.sender.queue.in_flight → a.sender.queue.first_tsn < 2 ^ 32
+    → let n = tsns_up_to a.sender cumulative_tsn_ack in
+    let x = sack_taken cumulative_tsn_ack blocks window now a.sender a.estimate a.streams in
+    with_reports (reports_of a.sender cumulative_tsn_ack blocks) (with_all n blocks (parts a h))
     ≡ record {
       queue = x.0.queue;
       streams = x.2;
       size = x.0.max_payload_size;
       history = record h { base = h.base + n };
     }
-reported_parts a point blocks window now h within small =
-    let n = tsns_up_to a.sender point in
-    ap (with_reports (reports_of a.sender point blocks))
-    (pieces_acknowledged n now blocks (before_point n window a.sender) a.estimate a.streams h within small)
+reported_parts a cumulative_tsn_ack blocks window now h within small =
+    let n = tsns_up_to a.sender cumulative_tsn_ack in
+    ap (with_reports (reports_of a.sender cumulative_tsn_ack blocks))
+    (pieces_acknowledged n now blocks (before_acknowledging n window a.sender) a.estimate a.streams h within small)
     ∙ ap (λ k. with_reports k (record {
       queue = (all_acknowledged n blocks window now a.sender a.estimate a.streams).0.queue;
       streams = (all_acknowledged n blocks window now a.sender a.estimate a.streams).2;
       size = (all_acknowledged n blocks window now a.sender a.estimate a.streams).0.max_payload_size;
       history = record h { base = h.base + n };
     }))
-    (sym (reports_are a.sender point blocks window now a.estimate a.streams n (outstanding_of a.sender.queue.in_flight)
+    (sym (reports_are a.sender cumulative_tsn_ack blocks window now a.estimate a.streams n
+    (outstanding_of a.sender.queue.in_flight)
     refl))
 
-sack_taken_leads : (a : Shown) (point : ℕ) (blocks : List GapAckBlock) (window now : ℕ) (h : History) → Binds a h
-    → tsns_up_to a.sender point ≤ length a.sender.queue.in_flight
-    → Leads (Act.Acknowledged (tsns_up_to a.sender point) blocks (reports_of a.sender point blocks) ∷ []) a h
-    (after_sack (counted_sack a) point blocks window now) (record h { base = h.base + tsns_up_to a.sender point })
-sack_taken_leads a point blocks window now h binds within =
-    let n = tsns_up_to a.sender point in
-    let x = sack_taken point blocks window now a.sender a.estimate a.streams in
+sack_taken_leads : (a : Shown) (cumulative_tsn_ack : ℕ) (blocks : List GapAckBlock) (window now : ℕ) (h : History)
+    → Binds a h
+    → tsns_up_to a.sender cumulative_tsn_ack ≤ length a.sender.queue.in_flight
+    → Leads (Act.Acknowledged (tsns_up_to a.sender cumulative_tsn_ack) blocks
+    (reports_of a.sender cumulative_tsn_ack blocks) ∷ []) a h
+    (after_sack (counted_sack a) cumulative_tsn_ack blocks window now)
+    (record h { base = h.base + tsns_up_to a.sender cumulative_tsn_ack })
+sack_taken_leads a cumulative_tsn_ack blocks window now h binds within =
+    let n = tsns_up_to a.sender cumulative_tsn_ack in
+    let x = sack_taken cumulative_tsn_ack blocks window now a.sender a.estimate a.streams in
     let k : History = record h { base = h.base + n } in
     let small : a.sender.queue.first_tsn < 2 ^ 32 = rw binds.first (tsn_small h.own h.base) in
-    let same = acknowledged_parts (counted_sack a) (progress_of a.sender point blocks) now x k in
-    let all = reported_parts a point blocks window now h within small in
-    leads_by (Act.Acknowledged n blocks (reports_of a.sender point blocks) ∷ []) a
-    (after_sack (counted_sack a) point blocks window now) h binds
+    let same = acknowledged_parts (counted_sack a) (progress_of a.sender cumulative_tsn_ack blocks) now x k in
+    let all = reported_parts a cumulative_tsn_ack blocks window now h within small in
+    leads_by (Act.Acknowledged n blocks (reports_of a.sender cumulative_tsn_ack blocks) ∷ []) a
+    (after_sack (counted_sack a) cumulative_tsn_ack blocks window now) h binds
     (within, tt) (same ∙ sym all)
-    (ap past_of (acknowledged_receiver (counted_sack a) (progress_of a.sender point blocks) now x))
+    (ap past_of (acknowledged_receiver (counted_sack a) (progress_of a.sender cumulative_tsn_ack blocks) now x))
     (record { peer = refl; taken = refl; passed = refl })
   where
     tsn_small : (own base : ℕ) → tsn own base < 2 ^ 32
     tsn_small own base = omega arith
 
-outcome_leads : (o : SackOutcome) (a : Shown) (point : ℕ) (blocks : List GapAckBlock) (window : ℕ)
+outcome_leads : (o : SackOutcome) (a : Shown) (cumulative_tsn_ack : ℕ) (blocks : List GapAckBlock) (window : ℕ)
     (trigger : AckTrigger) (now : ℕ) (h : History)
-    → sack_outcome a.sender point blocks ≡ o → Binds a h
+    → sack_outcome a.sender cumulative_tsn_ack blocks ≡ o → Binds a h
     → (k : History)
-    × Leads (acts_of_outcome o (tsns_up_to a.sender point) blocks (reports_of a.sender point blocks)) a h
-    (on_counted_sack o (counted_sack a) point blocks window trigger now).0 k
-outcome_leads outcomes.Older a point blocks window trigger now h e binds =
+    × Leads (acts_of_outcome o (tsns_up_to a.sender cumulative_tsn_ack) blocks
+    (reports_of a.sender cumulative_tsn_ack blocks)) a h
+    (on_counted_sack o (counted_sack a) cumulative_tsn_ack blocks window trigger now).0 k
+outcome_leads outcomes.Older a cumulative_tsn_ack blocks window trigger now h e binds =
     (h, leads_nowhere a (counted_sack a) h binds refl refl)
-outcome_leads outcomes.NotInFlight a point blocks window trigger now h e binds =
+outcome_leads outcomes.NotInFlight a cumulative_tsn_ack blocks window trigger now h e binds =
     (h, leads_nowhere a (counted_sack a) h binds refl refl)
-outcome_leads outcomes.NamesTheUnsent a point blocks window trigger now h e binds =
+outcome_leads outcomes.NamesTheUnsent a cumulative_tsn_ack blocks window trigger now h e binds =
     (h, leads_nowhere a (counted_sack a) h binds refl refl)
-outcome_leads outcomes.Taken a point blocks window trigger now h e binds = (
+outcome_leads outcomes.Taken a cumulative_tsn_ack blocks window trigger now h e binds = (
   _,
-  sack_taken_leads a point blocks window now h binds
-      (taken_within (tsn_gt (cumulative_tsn_ack_point_of a.sender) point)
-      (nat_lt (length a.sender.queue.in_flight) (tsns_up_to a.sender point)) a.sender point blocks refl refl e),
+  sack_taken_leads a cumulative_tsn_ack blocks window now h binds
+      (taken_within (tsn_gt (cumulative_tsn_ack_point_of a.sender) cumulative_tsn_ack)
+      (nat_lt (length a.sender.queue.in_flight) (tsns_up_to a.sender cumulative_tsn_ack)) a.sender cumulative_tsn_ack
+      blocks refl refl e),
 )
 
-sack_leads : (c : Bool) (a : Shown) (point : ℕ) (blocks : List GapAckBlock) (window : ℕ) (trigger : AckTrigger)
+sack_leads : (c : Bool) (a : Shown) (cumulative_tsn_ack : ℕ) (blocks : List GapAckBlock) (window : ℕ)
+    (trigger : AckTrigger)
     (now : ℕ) (h : History)
     → is_established a.state ≡ c → Binds a h
-    → (k : History) × Leads (acts_of_sack a point blocks) a h (on_sack a point blocks window trigger now).0 k
+    → (k : History) × Leads (acts_of_sack a cumulative_tsn_ack blocks) a h
+    (on_sack a cumulative_tsn_ack blocks window trigger now).0 k
 unfolding on_sack
-sack_leads false a point blocks window trigger now h e binds = rw e (h, leads_nowhere a a h binds refl refl)
-sack_leads true a point blocks window trigger now h e binds =
-    rw e (outcome_leads (sack_outcome a.sender point blocks) a point blocks window trigger now h refl binds)
+sack_leads false a cumulative_tsn_ack blocks window trigger now h e binds =
+    rw e (h, leads_nowhere a a h binds refl refl)
+sack_leads true a cumulative_tsn_ack blocks window trigger now h e binds =
+    rw e (outcome_leads (sack_outcome a.sender cumulative_tsn_ack blocks) a cumulative_tsn_ack blocks window trigger now
+    h refl binds)
 
 -- the handshake
 
 -- the peer's initial TSN became known
-met_leads : (a b : Shown) (t : ℕ) (h : History) → Binds a h → b.sender.queue ≡ a.sender.queue → b.streams ≡ a.streams
+peer_known_leads : (a b : Shown) (t : ℕ) (h : History) → Binds a h → b.sender.queue ≡ a.sender.queue
+    → b.streams ≡ a.streams
     → b.sender.max_payload_size ≡ a.sender.max_payload_size
     → past_of b.receiver ≡ ((t + 2 ^ 32 - 1) % 2 ^ 32, [])
     → (k : History) × Leads (Act.PeerKnown t ∷ []) a h b k
-met_leads a b t h binds queue streams size point = (
+peer_known_leads a b t h binds queue streams size peer_last_tsn = (
   with_peer h t,
   record {
     can = (tt, tt);
     there = rw (queue, streams, size) refl;
     binds = record {
       first = ap (λ (q : Outbound). q.first_tsn) queue ∙ binds.first;
-      point = ap (λ (z : ℕ × List ℕ). z.0) point ∙ omega arith;
+      peer_last_tsn = ap (λ (z : ℕ × List ℕ). z.0) peer_last_tsn ∙ omega arith;
       held =
-          subst (HoldsPast (came_on (with_peer h t) b.streams)) (sym (ap (λ (z : ℕ × List ℕ). z.1) point))
+          subst (HoldsPast (came_on (with_peer h t) b.streams)) (sym (ap (λ (z : ℕ × List ℕ). z.1) peer_last_tsn))
           (nothing_is_held_at_first _ refl);
       marked = subst (λ (q : Outbound). AreMarkedRight q.in_flight) (sym queue) binds.marked;
     };
@@ -408,7 +420,7 @@ module _ (a : Shown) (trigger : AckTrigger) (h : History) (binds : Binds a h) wh
       → (k : History) × Leads (acts_of_init a init) a h (on_init a header init trigger).0 k
   unfolding on_init
   init_leads true header init e =
-      rw e (met_leads a (answered (learned a header init)) init.initial_tsn h binds refl refl refl refl)
+      rw e (peer_known_leads a (answered (learned a header init)) init.initial_tsn h binds refl refl refl refl)
   init_leads false header init e = rw e (h, leads_nowhere a a h binds refl refl)
 
   echoed_leads : (o : Option (List ℕ)) (b : Shown) (t now : ℕ)
@@ -417,9 +429,10 @@ module _ (a : Shown) (trigger : AckTrigger) (h : History) (binds : Binds a h) wh
       → past_of b.receiver ≡ ((t + 2 ^ 32 - 1) % 2 ^ 32, [])
       → (k : History) × Leads (Act.PeerKnown t ∷ []) a h (echoed o b trigger now).0 k
   unfolding sends_cookie
-  echoed_leads None b t now queue streams size point = met_leads a b t h binds queue streams size point
-  echoed_leads (Some cookie) b t now queue streams size point =
-      met_leads a (with_echo b cookie now) t h binds queue streams size point
+  echoed_leads None b t now queue streams size peer_last_tsn =
+      peer_known_leads a b t h binds queue streams size peer_last_tsn
+  echoed_leads (Some cookie) b t now queue streams size peer_last_tsn =
+      peer_known_leads a (with_echo b cookie now) t h binds queue streams size peer_last_tsn
 
   init_ack_leads : (waits back : Bool) (header : CommonHeader) (init : ChunkInit) (now : ℕ)
       → is_cookie_wait a.state ≡ waits
@@ -493,11 +506,11 @@ pub chunk_leads : (header : CommonHeader) (c : Chunk) (a : Shown) (trigger : Ack
 unfolding on_chunk
 chunk_leads header c a trigger now h binds = checked_leads a trigger h binds (checked_chunk c) header c now
 
-ended_point : (a : Shown) (trigger : AckTrigger) (now : ℕ)
+ended_last_tsn : (a : Shown) (trigger : AckTrigger) (now : ℕ)
     → past_of (ended a trigger now).receiver ≡ past_of a.receiver
-ended_point a triggers.None now = refl
-ended_point a triggers.Delayed now = refl
-ended_point a triggers.Immediate now = refl
+ended_last_tsn a triggers.None now = refl
+ended_last_tsn a triggers.Delayed now = refl
+ended_last_tsn a triggers.Immediate now = refl
 
 pub exhausted_leads : (a : Shown) (h : History) → Binds a h → Leads (acts_of_close a) a h (exhausted a) h
 exhausted_leads a h binds =
@@ -518,7 +531,7 @@ pub chunks_lead : (header : CommonHeader) (cs : List Chunk) (a : Shown) (trigger
     → Binds a h
     → (k : History) × Leads (acts_of_chunks header cs a trigger now) a h (after_chunks header cs a trigger now) k
 chunks_lead header [] a trigger now h binds =
-    (h, leads_nowhere a (ended a trigger now) h binds refl (ended_point a trigger now))
+    (h, leads_nowhere a (ended a trigger now) h binds refl (ended_last_tsn a trigger now))
 chunks_lead header (c ∷ cs) a trigger now h binds =
     let one = chunk_leads header c a trigger now h binds in
     let rest =
@@ -584,7 +597,8 @@ written_leads a id named bytes h binds =
             ap (λ (p : Parts). p.queue.first_tsn) there
             ∙ acts_tied (Act.Wrote id named bytes ∷ []) (parts a h) (tt, tt) binds.first
             ∙ ap (λ (k : History). tsn k.own k.base) (written_history o a id named bytes h);
-        point = ap (λ (r : Receiver). r.peer_last_tsn) (written_receiver o a id named bytes) ∙ binds.point;
+        peer_last_tsn = ap (λ (r : Receiver). r.peer_last_tsn) (written_receiver o a id named bytes)
+            ∙ binds.peer_last_tsn;
         held =
             subst (λ (r : Receiver). HoldsPast (came_on h (written a id named bytes).streams) r.held)
             (sym (written_receiver o a id named bytes))
@@ -696,9 +710,9 @@ ack_delay_leads true xs a b now h e m =
     leads_beside xs a b (after_ack_delay b now) h h (rw e refl) (rw e refl) m
 
 -- the timers of the handshake change nothing that the directions see
-init_queued_beside : (o : Option Offer) (a : Shown) (h : History) → Binds a h → Leads [] a h (init_queued o a) h
-init_queued_beside None a h binds = leads_nowhere a a h binds refl refl
-init_queued_beside (Some offer) a h binds = leads_nowhere a (init_queued (Some offer) a) h binds refl refl
+init_queued_leads : (o : Option Offer) (a : Shown) (h : History) → Binds a h → Leads [] a h (init_queued o a) h
+init_queued_leads None a h binds = leads_nowhere a a h binds refl refl
+init_queued_leads (Some offer) a h binds = leads_nowhere a (init_queued (Some offer) a) h binds refl refl
 
 cookie_queued_leads : (o : Option (List ℕ)) (a : Shown) (h : History) → Binds a h → Leads [] a h (cookie_queued o a) h
 cookie_queued_leads None a h binds = leads_nowhere a a h binds refl refl
@@ -708,7 +722,7 @@ pub sends_init_leads : (a : Shown) (now : ℕ) (h : History) → Binds a h → L
 unfolding sends_init
 sends_init_leads a now h binds =
     let b : Shown = init_queued a.handshake.offer a in
-    leads_beside [] a b (sends_init a now) h h refl refl (init_queued_beside a.handshake.offer a h binds)
+    leads_beside [] a b (sends_init a now) h h refl refl (init_queued_leads a.handshake.offer a h binds)
 
 sends_cookie_leads : (a : Shown) (now : ℕ) (h : History) → Binds a h → Leads [] a h (sends_cookie a now) h
 unfolding sends_cookie
@@ -726,7 +740,7 @@ t1_init_leads true true a now h binds = leads_nowhere a _ h binds refl refl
 t1_init_leads true false a now h binds =
     leads_on [] [] (leads_nowhere a (t1_init_expired a now) h binds refl refl)
     (sends_init_leads (t1_init_expired a now) now h
-    (record { first = binds.first; point = binds.point; held = binds.held; marked = binds.marked }))
+    (record { first = binds.first; peer_last_tsn = binds.peer_last_tsn; held = binds.held; marked = binds.marked }))
 
 t1_cookie_leads : (expired failure : Bool) (a : Shown) (now : ℕ) (h : History) → Binds a h
     → Leads [] a h
@@ -739,7 +753,7 @@ t1_cookie_leads true true a now h binds = leads_nowhere a _ h binds refl refl
 t1_cookie_leads true false a now h binds =
     leads_on [] [] (leads_nowhere a (t1_cookie_expired a now) h binds refl refl)
     (sends_cookie_leads (t1_cookie_expired a now) now h
-    (record { first = binds.first; point = binds.point; held = binds.held; marked = binds.marked }))
+    (record { first = binds.first; peer_last_tsn = binds.peer_last_tsn; held = binds.held; marked = binds.marked }))
 
 pub handshake_timers_lead : (a : Shown) (now : ℕ) (h : History) → Binds a h
     → Leads [] a h (after_handshake_timers a now) h

@@ -16,11 +16,11 @@ use Rattle.sctp_assoc.proofs.CallsLeadOn.{sends_init_leads}
 fresh_binds : (a : Shown) (tsn : ℕ) → tsn < 2 ^ 32 → a.sender.queue.first_tsn ≡ tsn → past_of a.receiver ≡ (0, [])
     → a.sender.queue.in_flight ≡ []
     → Binds a (begun tsn 1)
-fresh_binds a tsn small first point none = record {
+fresh_binds a tsn small first peer_last_tsn none = record {
   first = first ∙ omega (arith, small);
-  point = ap (λ (z : ℕ × List ℕ). z.0) point ∙ omega arith;
+  peer_last_tsn = ap (λ (z : ℕ × List ℕ). z.0) peer_last_tsn ∙ omega arith;
   held =
-      subst (HoldsPast _) (sym (ap (λ (z : ℕ × List ℕ). z.1) point)) (nothing_is_held_at_first _ refl);
+      subst (HoldsPast _) (sym (ap (λ (z : ℕ × List ℕ). z.1) peer_last_tsn)) (nothing_is_held_at_first _ refl);
   marked = rw none tt;
 }
 

@@ -14,7 +14,7 @@ use Rattle.sctp_outbound.specs.Sender.{after_marked, after_resending, marked_by,
 use Rattle.sctp_assoc.specs.declared.control.ControlPacket.{ControlPacket}
 use Rattle.sctp_assoc.specs.Gather.{AckIsReadAgain, AreControlReadAgain, AreReadAgain, ControlIsReadAgain}
 use Rattle.sctp_assoc.specs.Gather.{ExchangeIsReadAgain, IsReadAgain, ack_after, ack_polled, after_both, data_polled}
-use Rattle.sctp_assoc.specs.Gather.{resent_into, packet_bytes, packet_with, spelled}
+use Rattle.sctp_assoc.specs.Gather.{resent_into, packet_bytes, single_chunk_packet, spelled}
 use Rattle.sctp_assoc.specs.Shown.{Shown}
 use Rattle.sctp_assoc.proofs.PolledData.{data_poll_stays}
 
@@ -23,12 +23,13 @@ one_spelled (Ok x) given bytes e f = cc
 one_spelled (Err x) given bytes e f = absurd cc
 
 pub read_again : (header : CommonHeader) (chunk : Chunk) (given : List ℕ)
-    → written (packet_with header chunk) ≡ Ok given
-    → (packet_is_plain (packet_with header chunk) ≡ true → packet_at given ≡ Ok (packet_with header chunk))
-    → packet_is_plain (packet_with header chunk) ≡ true → IsReadAgain header chunk
+    → written (single_chunk_packet header chunk) ≡ Ok given
+    → (packet_is_plain (single_chunk_packet header chunk) ≡ true
+    → packet_at given ≡ Ok (single_chunk_packet header chunk))
+    → packet_is_plain (single_chunk_packet header chunk) ≡ true → IsReadAgain header chunk
 unfolding packet_bytes
 read_again header chunk given e again plain bytes f =
-    rw (one_spelled (written (packet_with header chunk)) given bytes e f) (again plain)
+    rw (one_spelled (written (single_chunk_packet header chunk)) given bytes e f) (again plain)
 
 pub poll_again : (a b : Shown) (now : ℕ) → (data_polled a now).0 ≡ b
     → AreReadAgain (header_of a.handshake) (data_polled a now).1 → AckIsReadAgain b → ExchangeIsReadAgain a now
@@ -40,7 +41,7 @@ more_control_again [] c all more = (more, tt)
 more_control_again (x ∷ xs) c (first, all) more = (first, more_control_again xs c all more)
 
 pub one_more_control_again : (cs : List ControlPacket) (c : ControlPacket) → AreControlReadAgain cs
-    → (packet_is_plain (packet_with c.header c.chunk) ≡ true → IsReadAgain c.header c.chunk)
+    → (packet_is_plain (single_chunk_packet c.header c.chunk) ≡ true → IsReadAgain c.header c.chunk)
     → AreControlReadAgain (cs ++ c ∷ [])
 one_more_control_again cs c all more = more_control_again cs c all more
 

@@ -58,8 +58,8 @@ with_pieces p pieces = record p { queue = (let q = p.queue in record q { in_flig
 
 -- Pieces that go out again.
 
-place_tsn : (own base first index : ℕ) → first ≡ tsn own base → tsn own (base + index) ≡ tsn_at first index
-place_tsn own base first index e = rw e (omega arith)
+tsn_at_index : (own base first index : ℕ) → first ≡ tsn own base → tsn own (base + index) ≡ tsn_at first index
+tsn_at_index own base first index e = rw e (omega arith)
 
 get_behind : {X : Type 0} (xs ys : List X) (x : X) → slice_get (xs ++ x ∷ ys) (length xs) ≡ Some x
 get_behind [] ys x = refl
@@ -93,7 +93,7 @@ again_one by x ps xs p e tied outstanding =
     record {
       can = (rw held outstanding, tt);
       there = rw (held, put) refl;
-      said = rw (held, place_tsn p.history.own p.history.base p.queue.first_tsn (length xs) tied) refl;
+      said = rw (held, tsn_at_index p.history.own p.history.base p.queue.first_tsn (length xs) tied) refl;
     }
 
 gives_same : {xs ys : List Act} {p q r : Parts} {c d : List ChunkPayloadData} → xs ≡ ys → q ≡ r → c ≡ d → Gives ys p r d
@@ -249,7 +249,7 @@ one_gives [] s now m h e tied = gives_none (sending s m h)
 one_gives (w ∷ ws) s now m h e tied = record {
   can = (rw e refl, tt);
   there = refl;
-  said = rw (e, place_tsn h.own h.base s.queue.first_tsn (length s.queue.in_flight) tied) refl;
+  said = rw (e, tsn_at_index h.own h.base s.queue.first_tsn (length s.queue.in_flight) tied) refl;
 }
 
 is_pending : (ms : List Waiting) (s : Sender) (now : ℕ) → fits_windows s (slice_get ms 0) ≡ true

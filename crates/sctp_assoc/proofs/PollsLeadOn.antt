@@ -81,7 +81,7 @@ poll_of (b, bundles) xs a h given same binds gives =
         first =
             ap (λ (p : Parts). p.queue.first_tsn) gives.there ∙ acts_tied xs (parts a h) gives.can binds.first
             ∙ ap (λ (p : Parts). tsn p.history.own p.history.base) (sym gives.there);
-        point = rw same.receiver binds.point;
+        peer_last_tsn = rw same.receiver binds.peer_last_tsn;
         held = rw same.receiver (same_held h h a.streams b.streams (past_itself h) binds.held);
         marked =
             subst (λ (p : Parts). AreMarkedRight p.queue.in_flight) (sym gives.there)
@@ -142,7 +142,7 @@ polls : (a : Shown) (now : ℕ) (h : History) → PollIsReadAgain (without_contr
 polls a now h again binds =
     let b : Shown = without_control a in
     let bound : Binds b h =
-    record { first = binds.first; point = binds.point; held = binds.held; marked = binds.marked } in
+    record { first = binds.first; peer_last_tsn = binds.peer_last_tsn; held = binds.held; marked = binds.marked } in
     let all = exchange_leads b now h bound in
     record {
       leads =

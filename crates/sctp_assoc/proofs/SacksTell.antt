@@ -40,15 +40,17 @@ some_fell m n f g lacks =
     lacks)
     (cases_Bool f.refused)
 
-module _ (a : Shown) (point : ℕ) (blocks : List GapAckBlock) (window now : ℕ) (s : Sender) (e : Estimate)
+module _ (a : Shown) (cumulative_tsn_ack : ℕ) (blocks : List GapAckBlock) (window now : ℕ) (s : Sender) (e : Estimate)
     (m : StreamMap)
-    (established : is_established a.state ≡ true) (taken : sack_outcome a.sender point blocks ≡ outcomes.Taken)
-    (is : sack_taken point blocks window now a.sender a.estimate a.streams ≡ (s, e, m))
+    (established : is_established a.state ≡ true)
+    (taken : sack_outcome a.sender cumulative_tsn_ack blocks ≡ outcomes.Taken)
+    (is : sack_taken cumulative_tsn_ack blocks window now a.sender a.estimate a.streams ≡ (s, e, m))
   where
     pub taken_leaves : (trigger : AckTrigger) (timers : Timers) (queued : List Event) (ids : List ℕ)
-        → timers ≡ t3_after_sack (progress_of a.sender point blocks) (length s.queue.in_flight) now e.rto a.timers
+        → timers ≡ t3_after_sack (progress_of a.sender cumulative_tsn_ack blocks)
+        (length s.queue.in_flight) now e.rto a.timers
         → queued ≡ a.events ++ map low_event ids → ids ≡ fallen a.streams m
-        → on_sack a point blocks window trigger now
+        → on_sack a cumulative_tsn_ack blocks window trigger now
         ≡ (
           record (counted_sack a) { sender = s; estimate = e; streams = m; events = queued; timers = timers },
           flows.Next trigger,
@@ -56,11 +58,15 @@ module _ (a : Shown) (point : ℕ) (blocks : List GapAckBlock) (window now : ℕ
     unfolding on_sack
     taken_leaves trigger timers queued ids timed told those =
         rw (established, taken, timed, told, those)
-        (ap (λ x. (with_acknowledged (counted_sack a) (progress_of a.sender point blocks) now x, flows.Next trigger))
+        (ap (λ x. (
+          with_acknowledged (counted_sack a)
+              (progress_of a.sender cumulative_tsn_ack blocks) now x,
+          flows.Next trigger,
+        ))
         is)
 
-    pub taken_takes : 0 < length (fallen a.streams m) → sack_takes_memory a point blocks window now ≡ true
+    pub taken_takes : 0 < length (fallen a.streams m) → sack_takes_memory a cumulative_tsn_ack blocks window now ≡ true
     taken_takes some =
-        let there : (after_sack a point blocks window now).streams ≡ m =
-        ap (λ x. (with_acknowledged a (progress_of a.sender point blocks) now x).streams) is in
+        let there : (after_sack a cumulative_tsn_ack blocks window now).streams ≡ m =
+        ap (λ x. (with_acknowledged a (progress_of a.sender cumulative_tsn_ack blocks) now x).streams) is in
         rw (established, taken, there) (positive _ (some_mapped (fallen a.streams m) some))

@@ -5,7 +5,7 @@ use Rattle.sctp_streams.specs.Streams.{StreamMap}
 use Rattle.sctp_model.specs.Packets.{mem}
 use Rattle.sctp_model.specs.Machine.{Receiver}
 use Rattle.sctp_model.proofs.OffsetSets.{reach_below, reach_from, reach_stops}
-use Rattle.sctp_fit.specs.HeldSet.{HoldsPast, IsPast, point_of}
+use Rattle.sctp_fit.specs.HeldSet.{HoldsPast, IsPast, peer_last_tsn_of}
 use Rattle.sctp_model.proofs.Lists.{all_weaker}
 use Rattle.sctp_fit.specs.Incoming.{Receiving}
 use Rattle.sctp_directions.specs.Acts.{History, reach_in}
@@ -33,8 +33,9 @@ passed_reach h = reach_from (receiver_on h)
 
 -- Nothing more came.
 
-pub same_point : (h k : History) (m n : StreamMap) → IsSamePast h k → point_of (came_on h m) ≡ point_of (came_on k n)
-same_point h k m n same = rw (same.peer, same.taken, same.passed) refl
+pub same_last_tsn : (h k : History) (m n : StreamMap) → IsSamePast h k
+    → peer_last_tsn_of (came_on h m) ≡ peer_last_tsn_of (came_on k n)
+same_last_tsn h k m n same = rw (same.peer, same.taken, same.passed) refl
 
 -- what is held is what came past the reach, whatever the streams are
 same_past : (h k : History) (m n : StreamMap) → IsSamePast h k → (t : ℕ) → IsPast (came_on h m) t

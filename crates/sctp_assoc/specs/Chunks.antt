@@ -70,8 +70,8 @@ abbrev pub taken_unless : Option Error → Shown → ChunkPayloadData → Shown 
 taken_unless (Some fault) a piece = (a, Some fault)
 taken_unless None a piece = (with_message a piece (pushed_in a.streams piece.stream_identifier piece), None)
 
--- a piece goes to its stream, and its TSN is held and the point moves over all that follow it; or the stream refuses
--- it, as one of a message that is longer than the limit
+-- a piece goes to its stream, and its TSN is held and the last TSN in order moves over all that follow it; or the
+-- stream refuses it, as one of a message that is longer than the limit
 unfoldable pub taken_in : Shown → ChunkPayloadData → Shown × Option Error
 taken_in a piece =
     taken_unless (refusal_in a.streams piece.stream_identifier piece a.receiver.max_receive_message_size) a piece
@@ -119,8 +119,8 @@ with_acknowledged a progress now (sender, estimate, streams) = record a {
   timers = t3_after_sack progress (length sender.queue.in_flight) now estimate.rto a.timers;
 }
 
--- a SACK is taken: the pieces up to its point and those that its gap ack blocks name are acknowledged, and its window
--- is the peer's; each stream whose buffered amount fell to its low mark is told of once
+-- a SACK is taken: the pieces up to its cumulative TSN ack and those that its gap ack blocks name are acknowledged, and
+-- its window is the peer's; each stream whose buffered amount fell to its low mark is told of once
 abbrev pub after_sack : Shown → ℕ → List GapAckBlock → ℕ → ℕ → Shown
 after_sack a cumulative_tsn_ack blocks window now =
     with_acknowledged a (progress_of a.sender cumulative_tsn_ack blocks) now
@@ -135,8 +135,8 @@ on_counted_sack outcomes.NamesTheUnsent a cumulative_tsn_ack blocks window trigg
 on_counted_sack outcomes.Taken a cumulative_tsn_ack blocks window trigger now =
     (after_sack a cumulative_tsn_ack blocks window now, flows.Next trigger)
 
--- a SACK counts in Established alone; one whose point is not in flight, or whose gap ack blocks name a TSN that is not,
--- is a fault
+-- a SACK counts in Established alone; one whose cumulative TSN ack is not in flight, or whose gap ack blocks name a TSN
+-- that is not, is a fault
 unfoldable pub on_sack : Shown → ℕ → List GapAckBlock → ℕ → AckTrigger → ℕ → Shown × Flow
 on_sack a cumulative_tsn_ack blocks window trigger now =
     if is_established a.state then

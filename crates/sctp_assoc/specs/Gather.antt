@@ -28,8 +28,8 @@ use Rattle.sctp_assoc.specs.Calls.{is_established}
 use Rattle.sctp_assoc.specs.Shown.{Shown}
 
 -- a packet of one chunk
-abbrev pub packet_with : CommonHeader → Chunk → Packet
-packet_with header chunk = record { common_header = header; chunks = chunk ∷ [] }
+abbrev pub single_chunk_packet : CommonHeader → Chunk → Packet
+single_chunk_packet header chunk = record { common_header = header; chunks = chunk ∷ [] }
 
 abbrev pub spelled : Result (List ℕ) Fault → List (List ℕ)
 spelled (Ok bytes) = bytes ∷ []
@@ -37,7 +37,7 @@ spelled (Err fault) = []
 
 -- the bytes of a packet of one chunk; none where the chunk is longer than its length field can say
 unfoldable pub packet_bytes : CommonHeader → Chunk → List (List ℕ)
-packet_bytes header chunk = spelled (written (packet_with header chunk))
+packet_bytes header chunk = spelled (written (single_chunk_packet header chunk))
 
 -- the retransmission timer runs where DATA was sent for the first time (RFC 4960 section 6.3.2)
 abbrev pub t3_after_sending : Bool → ℕ → ℕ → Timers → Timers
@@ -144,7 +144,7 @@ pub record IsAddressed (a : Shown) (now : ℕ) (t : Transmit) : Type 0 where
 -- a packet of one chunk, where it is spelled, is read as that packet again
 abbrev pub IsReadAgain : CommonHeader → Chunk → Type 0
 IsReadAgain header chunk =
-    (bytes : List ℕ) → packet_bytes header chunk ≡ bytes ∷ [] → packet_at bytes ≡ Ok (packet_with header chunk)
+    (bytes : List ℕ) → packet_bytes header chunk ≡ bytes ∷ [] → packet_at bytes ≡ Ok (single_chunk_packet header chunk)
 
 abbrev pub AreReadAgain : CommonHeader → List (List ChunkPayloadData) → Type 0
 AreReadAgain header bundles = AllByRecursion (IsReadBack header) bundles
@@ -155,11 +155,12 @@ AckIsReadAgain a = is_due a.receiver.ack_state ≡ true → IsReadAgain (header_
 -- a packet that waits is read again as it was made, where nothing in it is kept under `Other` whose type has a variant
 -- of its own
 abbrev pub ControlIsReadAgain : ControlPacket → Type 0
-ControlIsReadAgain c = packet_is_plain (packet_with c.header c.chunk) ≡ true → IsReadAgain c.header c.chunk
+ControlIsReadAgain c = packet_is_plain (single_chunk_packet c.header c.chunk) ≡ true → IsReadAgain c.header c.chunk
 
 -- nothing that waits to go out is kept under `Other` so
 abbrev pub WaitPlainly : Shown → Type 0
-WaitPlainly a = AllByRecursion (λ (c : ControlPacket). packet_is_plain (packet_with c.header c.chunk) ≡ true) a.control
+WaitPlainly a = AllByRecursion
+    (λ (c : ControlPacket). packet_is_plain (single_chunk_packet c.header c.chunk) ≡ true) a.control
 
 abbrev pub AreControlReadAgain : List ControlPacket → Type 0
 AreControlReadAgain cs = AllByRecursion ControlIsReadAgain cs

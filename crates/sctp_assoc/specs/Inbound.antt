@@ -33,5 +33,5 @@ packet_within (payloads.PartialDecode datagram) = taken_packet (finished datagra
 packet_within (payloads.RawEncode packets) = None
 
 -- the packet that an event brings; none where the datagram does not decode or is refused as a packet
-abbrev pub packet_of : AssociationEvent → Option Packet
-packet_of event = packet_within (transmit_of event).payload
+abbrev pub packet_of_event : AssociationEvent → Option Packet
+packet_of_event event = packet_within (transmit_of event).payload

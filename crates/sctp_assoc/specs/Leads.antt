@@ -4,7 +4,7 @@ use Rattle.std.specs.List.{AllByRecursion}
 use Rattle.sctp_serial.specs.Serial.{tsn}
 use Rattle.sctp_outbound_queue.specs.declared.message.InFlight.{InFlight}
 use Rattle.sctp_outbound_queue.specs.Message.{is_outstanding}
-use Rattle.sctp_fit.specs.HeldSet.{HoldsPast, point_of}
+use Rattle.sctp_fit.specs.HeldSet.{HoldsPast, peer_last_tsn_of}
 use Rattle.sctp_directions.specs.Acts.{Act, CanAll, History, Parts, done_all, receiving}
 use Rattle.sctp_assoc.specs.Shown.{Shown}
 
@@ -16,7 +16,7 @@ parts a h =
 -- An association stands where its history says.
 pub record Binds (a : Shown) (h : History) : Type 0 where
   pub first : a.sender.queue.first_tsn ≡ tsn h.own h.base
-  pub point : a.receiver.peer_last_tsn ≡ point_of (receiving (parts a h))
+  pub peer_last_tsn : a.receiver.peer_last_tsn ≡ peer_last_tsn_of (receiving (parts a h))
   pub held : HoldsPast (receiving (parts a h)) a.receiver.held
   -- what is to go out again is neither acknowledged nor abandoned
   pub marked : AllByRecursion (λ (x : InFlight). x.retransmit ≡ true → is_outstanding x ≡ true)

@@ -16,7 +16,7 @@ ghost use Rattle.sctp_assoc.specs.Chunks.{after_packet};
 ghost use Rattle.sctp_directions.specs.Acts.{Act, begun};
 ghost use Rattle.sctp_assoc.specs.Leads.{LeadsOn, Binds};
 ghost use Rattle.sctp_assoc.specs.Happened.{PollsOn, acts_of_close, acts_of_packet, acts_of_poll, acts_of_timeouts};
-ghost use Rattle.sctp_assoc.specs.Inbound.{is_datagram, packet_of, transmit_of};
+ghost use Rattle.sctp_assoc.specs.Inbound.{is_datagram, packet_of_event, transmit_of};
 ghost use Rattle.sctp_assoc.specs.Created.{create_refusal, created, fresh_association, join_refusal, joined};
 ghost use Rattle.sctp_assoc.specs.Stream.{id_of, lender, lent, rests_if_none, rests_if_refused};
 ghost use Rattle.sctp_assoc.specs.Gather.{IsAddressed, has_something_to_give, packets_of, polled};
@@ -373,9 +373,9 @@ impl Association {
         ensures present { IsErrOf result Error.ErrNoMemory → self.old.lost ≡ false }
         ensures read { IsErrOf result Error.ErrNoMemory → is_datagram (transmit_of event).payload ≡ true }
         ensures only { OnErr result ((result ≡ Err Error.ErrAssociationFailed) ⊎ (result ≡ Err Error.ErrNoMemory)) }
-        ensures ok { OnOk result (self.new ≡ after_packet self.old (packet_of event) (transmit_of event).now) }
+        ensures ok { OnOk result (self.new ≡ after_packet self.old (packet_of_event event) (transmit_of event).now) }
         ensures acts { OnOk result
-            (LeadsOn (acts_of_packet self.old (packet_of event) (transmit_of event).now) self.old self.new) }
+            (LeadsOn (acts_of_packet self.old (packet_of_event event) (transmit_of event).now) self.old self.new) }
     {
         self.check_usable()?;
         let transmit = event.transmit;

@@ -8,7 +8,7 @@ ghost use Rattle.sctp_assoc.specs.Calls.{is_established};
 ghost use Rattle.sctp_assoc.specs.Gather.{AckIsReadAgain, AreControlReadAgain, AreReadAgain, ExchangeIsReadAgain};
 ghost use Rattle.sctp_assoc.specs.Gather.{IsReadAgain, PollIsReadAgain, ack_after, ack_polled, after_both};
 ghost use Rattle.sctp_assoc.specs.Gather.{control_packets, data_polled, resent_into, exchange_gives, exchange_polled};
-ghost use Rattle.sctp_assoc.specs.Gather.{has_something_to_give, is_due, packet_bytes, packet_with, polled};
+ghost use Rattle.sctp_assoc.specs.Gather.{has_something_to_give, is_due, packet_bytes, single_chunk_packet, polled};
 ghost use Rattle.sctp_assoc.specs.Gather.{with_resent, without_control};
 
 use crate::Association;
@@ -165,7 +165,7 @@ fn put_packet(
     chunk: Chunk,
 ) -> Result<(), AllocError>
     ensures exact { OnOk result (packets.new.items ≡ packets.old.items ++ packet_bytes common_header chunk) }
-    ensures again { OnOk result (packet_is_plain (packet_with common_header chunk) ≡ true
+    ensures again { OnOk result (packet_is_plain (single_chunk_packet common_header chunk) ≡ true
         → IsReadAgain common_header chunk) }
 {
     match marshal(alloc, &common_header, &[chunk]) {

@@ -199,8 +199,9 @@ impl Association {
         Ok(true)
     }
 
-    // Hands a new piece to its stream and then moves the point; answers why the stream refuses it, if it does: a
-    // message that is longer than the limit is a refusal. What the stream refuses isn't held, and lacks no memory.
+    // Hands a new piece to its stream and then moves the last TSN in order; answers why the stream refuses it, if it
+    // does: a message that is longer than the limit is a refusal. What the stream refuses isn't held, and lacks no
+    // memory.
     #[tactic(auto, using(crate::proofs::MemoryTaken::not_for_memory), unfolding(crate::specs::Chunks::taken_in))]
     fn take_in(&mut self, piece: ChunkPayloadData) -> Result<Option<Error>, AllocError>
         requires { is_new_to self.old.receiver piece.tsn ≡ true }
@@ -231,8 +232,8 @@ impl Association {
         self.receiver.admits(tsn, self.streams.waiting_bytes())
     }
 
-    // SACK (RFC 4960 section 6.2.1), read by its point, its gap ack blocks and its window. Streams that it takes to
-    // their low mark are told of.
+    // SACK (RFC 4960 section 6.2.1), read by its cumulative TSN ack, its gap ack blocks and its window. Streams that it
+    // takes to their low mark are told of.
     #[tactic(auto, unfolding(crate::specs::Chunks::on_sack))]
     fn on_sack(
         &mut self,

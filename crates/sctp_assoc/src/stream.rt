@@ -359,7 +359,7 @@ fn first_filled(buffers: &[Bytes]) -> Option<usize>
     first_with_bytes(buffers)
 }
 
-// The same place, as `position` has it.
+// The same index, as `position` has it.
 fn first_with_bytes(buffers: &[Bytes]) -> Option<usize>
     ensures { result ≡ position (λ bytes. not (length bytes == 0)) buffers.now }
 {

@@ -32,7 +32,7 @@ above_from r o from =
     ∙ sym b)
     (cases_Bool (mem o r.taken))
 
--- the offset that a gap ack block counts as o from the point
+-- the offset that a gap ack block counts as o from the cumulative TSN ack
 on_from : (n o : ℕ) → 0 < o → n ≤ n + o - 1
 on_from n o some = omega arith
 

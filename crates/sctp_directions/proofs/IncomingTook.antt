@@ -14,7 +14,7 @@ use Rattle.sctp_fit.specs.Incoming.{FitsIncoming}
 use Rattle.sctp_fit.proofs.DataTaken.{same_reach}
 use Rattle.sctp_fit.proofs.DataTaken as fit
 use Rattle.sctp_directions.specs.Acts.{offset_in, reach_in, receiving}
-use Rattle.sctp_directions.specs.Laws.{WhatIsTakenInComes}
+use Rattle.sctp_directions.specs.Laws.{WhatItTakesInComes}
 
 -- each offset below the receiver's reach was assigned
 pub reach_known : (w : Direction) → Invariant w → reach w.receiver ≤ length w.sender.plan.places
@@ -41,8 +41,8 @@ new_at r at o taken reached same past missing =
     (ap (λ z. not (mem o z)) (sym same) ∙ ap not missing)
 
 -- an association that takes in new DATA does what the model's receiver does
-pub what_is_taken_in_comes : WhatIsTakenInComes
-what_is_taken_in_comes p piece k d t w can e said there span within inv fits = (
+pub what_it_takes_in_comes : WhatItTakesInComes
+what_it_takes_in_comes p piece k d t w can e said there span within inv fits = (
   here,
   subst (λ o. FitsIncoming (took (receiving p) piece o) (happens w (Event.DataComes k))) here
       (fit.what_is_taken_in_comes (receiving p) piece k d t 0 w e said new there span within inv fits).0,

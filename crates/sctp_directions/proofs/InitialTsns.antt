@@ -1,9 +1,9 @@
--- No act but a meeting changes the initial TSNs of an association's directions.
+-- No act but `PeerKnown` changes the initial TSNs of an association's directions.
 use Rattle.std.proofs.Common.{◌≡◌, refl, ◌∙◌, ℕ, List, [], ◌∷◌, Option, Some, None}
 use Rattle.sctp_wire_types.specs.declared.ids.PayloadProtocolIdentifier.{PayloadProtocolIdentifier}
 use Rattle.sctp_streams.specs.Stream.{StreamView}
 use Rattle.sctp_streams.specs.Streams.{stream_at}
-use Rattle.sctp_directions.specs.Acts.{Act, MeetsNobody, Parts, done, with_written}
+use Rattle.sctp_directions.specs.Acts.{Act, IsNotPeerKnown, Parts, done, with_written}
 use Rattle.sctp_directions.specs.Laws.{ActsKeepTheInitialTsns}
 
 -- a write changes none of them
@@ -15,7 +15,7 @@ written_initials None p id named bytes = (refl, refl)
 written_initials (Some t) p id named bytes = (refl, refl)
 
 -- one act changes none of them
-same_initials : (x : Act) (p : Parts) → MeetsNobody x
+same_initials : (x : Act) (p : Parts) → IsNotPeerKnown x
     → ((done x p).history.own ≡ p.history.own) × ((done x p).history.peer ≡ p.history.peer)
 same_initials (Act.PeerKnown t) p nobody = absurd nobody
 same_initials (Act.Opened id first kind) p nobody = (refl, refl)

@@ -17,7 +17,7 @@ use Rattle.sctp_model.proofs.OffsetsAssigned.{keeps_go_on}
 use Rattle.sctp_model.proofs.EventsKeepInvariant.{begin_event_keeps, resend_event_keeps, sack_event_keeps}
 use Rattle.sctp_model.proofs.EventsKeepInvariant.{write_event_keeps}
 use Rattle.sctp_fit.specs.Writes.{message_on}
-use Rattle.sctp_directions.specs.Events.{Accepts, Assigns, Brings, GivesAMessage, IsOfReceiving, IsOfSending}
+use Rattle.sctp_directions.specs.Events.{AcceptsAMessage, Assigns, Brings, GivesAMessage, IsOfReceiving, IsOfSending}
 use Rattle.sctp_directions.specs.Events.{IsReceived, IsSentOn}
 use Rattle.sctp_directions.specs.Laws.{ClosedReceiversAreNotOpen, EventsKeepTheLimits, FreshDirectionsArePlain}
 use Rattle.sctp_directions.specs.Laws.{OnlyBeginningsAssign, OnlyReadsGiveMessages, OnlyWhatIsBroughtIsTakenIn}
@@ -30,8 +30,8 @@ use Rattle.sctp_directions.proofs.PlainReceiver.{sack_received, sack_takes, with
 use Rattle.sctp_directions.proofs.PlainReceiver.{within_sack, within_sack_comes}
 use Rattle.sctp_directions.proofs.PlainSender.{plain_begin, plain_go_on, plain_pass_over, plain_resend}
 use Rattle.sctp_directions.proofs.PlainSender.{plain_sack_comes, plain_write}
-use Rattle.sctp_directions.proofs.SenderEvents.{begin_cases, go_on_cases, pass_over_cases, resend_cases, sack_cases}
-use Rattle.sctp_directions.proofs.SenderEvents.{write_cases}
+use Rattle.sctp_directions.proofs.SenderCases.{begin_cases, go_on_cases, pass_over_cases, resend_cases, sack_cases}
+use Rattle.sctp_directions.proofs.SenderCases.{write_cases}
 
 -- Which events there are
 
@@ -125,7 +125,7 @@ senders_events_are_sent w e at =
 
 pub only_writes_accept : OnlyWritesAccept
 only_writes_accept w e at none =
-    by_sender (λ (x : Event). (Accepts x → ⊥) → P (happens w x))
+    by_sender (λ (x : Event). (AcceptsAMessage x → ⊥) → P (happens w x))
     (λ s m n. absurd (n tt))
     (λ s n. pass_over_cases P w s refl (λ b. refl))
     (λ s i any n. begin_cases P w s i any refl (λ m f g. refl))

@@ -15,19 +15,19 @@ use Rattle.sctp_fit.proofs.FlightAcknowledged as flight
 use Rattle.sctp_fit.proofs.SentAgain.{flight_length}
 use Rattle.sctp_directions.specs.Acts.{is_acknowledged_by, sending, with_acknowledged, with_reports}
 use Rattle.sctp_directions.proofs.OutgoingSentAgain.{same_piece}
-use Rattle.sctp_fit.proofs.Marks as marks
+use Rattle.sctp_fit.proofs.MarksSayNothing as marks
 use Rattle.sctp_fit.specs.Sendings.{AreSamePieces, IsSamePiece}
 use Rattle.sctp_outbound_queue.specs.declared.message.InFlight.{InFlight}
 use Rattle.sctp_outbound_queue.specs.Message.{is_outstanding, reported_missing}
 use Rattle.std.proofs.lemmas.Bool.{cond_both}
-use Rattle.sctp_directions.specs.Laws.{AcknowledgementsAreAlike, SacksMeanTheSame}
+use Rattle.sctp_directions.specs.Laws.{ItsAcknowledgementsAreAlike, SacksMeanTheSame}
 use Rattle.sctp_directions.specs.Reports.{SaysWhatWasTaken}
 use Rattle.sctp_directions.proofs.IncomingTook.{reach_known}
 
 -- What a SACK names
 
 -- the offset that is j past the first piece in flight lies below the SACK's reach, or is one of the set above it, where
--- its point or its blocks acknowledge the piece at j
+-- its cumulative TSN ack or its blocks acknowledge the piece at j
 names_alike : (own base n j : ℕ) (x : Sack) (c : ChunkSelectiveAck) → SaysWhatWasTaken own x.reach x.above c
     → x.reach ≡ base + n → names x (base + j) ≡ is_acknowledged_by n c.gap_ack_blocks j
 names_alike own base n j x c says far = ⊎_elim
@@ -60,22 +60,22 @@ first_reported (suc n) [] = tt
 first_reported (suc n) (x ∷ xs) = (same_reported x, first_reported n xs)
 
 -- What a SACK acknowledges of the pieces in flight, it acknowledges at the direction's sender.
-pub acknowledgements_are_alike : AcknowledgementsAreAlike
-acknowledgements_are_alike p n k missing c x w there says far within inv f =
+pub its_acknowledgements_are_alike : ItsAcknowledgementsAreAlike
+its_acknowledgements_are_alike p n k missing c x w there says far within inv f =
     let left = with_acknowledged n c.gap_ack_blocks p in
     marks.marks_are_no_events (sending left) (with_reports missing left).queue.in_flight (happens w (Event.SackComes k))
     (first_reported missing left.queue.in_flight)
     (flight.acknowledgements_are_alike (sending p) n k (is_acknowledged_by n c.gap_ack_blocks) x w there far within
     (λ j l. names_alike p.history.own w.sender.reach n j x c says far) inv f)
 
--- What its point means
+-- What its cumulative TSN ack means
 
 -- two reaches of offsets that are known, and that are less than half the range of the TSNs
 same_reach : (own at p l t : ℕ) → t ≡ tsn_before (tsn own p) → t % 2 ^ 32 ≡ tsn_before (tsn own at) → at ≤ l → p ≤ l
     → l < 2 ^ 31 → p ≡ at
 same_reach own at p l t e f within known small = omega arith
 
--- A SACK that was made acknowledges as many offsets as its point acknowledges pieces.
+-- A SACK that was made acknowledges as many offsets as its cumulative TSN ack acknowledges pieces.
 pub sacks_mean_the_same : SacksMeanTheSame
 sacks_mean_the_same p n t k x w there at is some within inv f =
     let honest = all_get (IsHonest w.receiver.taken w.receiver.passed (reach w.receiver)) w.sacks k x there inv.sacks in

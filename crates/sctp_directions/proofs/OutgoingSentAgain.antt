@@ -13,13 +13,14 @@ use Rattle.sctp_model.specs.Invariants.{Invariant}
 use Rattle.sctp_model.specs.Machine.{Direction, Event, happens}
 use Rattle.sctp_fit.specs.Outgoing.{FitsOutgoing}
 use Rattle.sctp_fit.specs.Sendings.{AreSamePieces, IsGiven, IsSamePiece}
-use Rattle.sctp_fit.proofs.Marks as marks
+use Rattle.sctp_fit.proofs.MarksSayNothing as marks
 use Rattle.sctp_fit.proofs.SentAgain as again
 use Rattle.sctp_directions.specs.Acts.{Act, Parts, can_go_again, chunk_said, done, sending}
-use Rattle.sctp_directions.specs.Laws.{MarksAreNoEvents, PiecesAreGiven}
+use Rattle.sctp_directions.specs.Laws.{ItsMarksAreNoEvents, ItsPiecesAreGiven}
 
 -- what goes out again is the piece, which is there and outstanding
-pieces_given : (p : Parts) (by : Retransmission) (index : ℕ) (o : Option InFlight) (w : Direction) → can_go_again o ≡ true
+pieces_given : (p : Parts) (by : Retransmission) (index : ℕ) (o : Option InFlight) (w : Direction)
+    → can_go_again o ≡ true
     → slice_get p.queue.in_flight index ≡ o → Invariant w → FitsOutgoing (sending p) w
     → FitsOutgoing (sending (done (Act.SentAgain by index) p)) (happens w (Event.Resend (w.sender.reach + index)))
     × AllByRecursion (IsGiven p.history.own (happens w (Event.Resend (w.sender.reach + index))))
@@ -29,8 +30,8 @@ pieces_given p by index (Some x) w can e inv f =
     let given = again.pieces_are_given p.history.own (sending p) by index x w e can inv f in (given.0, (given.1, tt))
 
 -- An association sends a piece again: the direction gives out the DATA of its offset again.
-pub pieces_are_given : PiecesAreGiven
-pieces_are_given p by index w can inv f =
+pub its_pieces_are_given : ItsPiecesAreGiven
+its_pieces_are_given p by index w can inv f =
     pieces_given p by index (slice_get p.queue.in_flight index) w can refl inv f
 
 -- a piece is the same one, marked or not and however often it was reported missing
@@ -65,6 +66,6 @@ all_same_marked [] = tt
 all_same_marked (x ∷ xs) = (same_marked x, all_same_marked xs)
 
 -- All that is outstanding is marked to be sent again, of which the direction knows nothing.
-pub marks_are_no_events : MarksAreNoEvents
-marks_are_no_events p w f =
+pub its_marks_are_no_events : ItsMarksAreNoEvents
+its_marks_are_no_events p w f =
     marks.marks_are_no_events (sending p) (map marked_again p.queue.in_flight) w (all_same_marked p.queue.in_flight) f

@@ -10,7 +10,7 @@ use Rattle.sctp_outbound_queue.proofs.PiecesCut.{is_cut}
 use Rattle.sctp_fit.proofs.CutsGiven.{cuts_give_the_pieces}
 use Rattle.sctp_fit.proofs.MessagesAccepted as accepted
 use Rattle.sctp_directions.specs.Acts.{message_of, sending, type_on, with_written}
-use Rattle.sctp_directions.specs.Laws.{WritesAreAccepted}
+use Rattle.sctp_directions.specs.Laws.{ItsWritesAreAccepted}
 
 -- what is queued is what the stream accepts, in all its pieces
 is_written : (t : StreamView) (id : ℕ) (kind : PayloadProtocolIdentifier) (size : ℕ) (bytes : List ℕ) → 0 < size
@@ -29,8 +29,8 @@ is_written t id kind size bytes sized some = record {
 }
 
 -- A write on a live stream: the direction's sender accepts the message as the stream has it.
-pub writes_are_accepted : WritesAreAccepted
-writes_are_accepted p id named bytes t w there some inv count f =
+pub its_writes_are_accepted : ItsWritesAreAccepted
+its_writes_are_accepted p id named bytes t w there some inv count f =
     let sized : 0 < p.size = rw f.size inv.planned.size in
     let kind = type_on t named in
     subst (λ o. FitsOutgoing (sending (with_written o p id named bytes))

@@ -8,7 +8,7 @@ use Rattle.sctp_model.specs.Invariants.{Invariant}
 use Rattle.sctp_fit.specs.Incoming.{FitsIncoming}
 use Rattle.sctp_fit.proofs.OtherEnd as fit
 use Rattle.sctp_directions.specs.Acts.{receiving}
-use Rattle.sctp_directions.specs.Laws.{MeetingsAreNoEvents}
+use Rattle.sctp_directions.specs.Laws.{PeerKnownIsNoEvent}
 
 -- a list of which nothing is a member is empty
 none_in : (xs : List ℕ) → ((o : ℕ) → mem o xs ≡ true → ⊥) → xs ≡ []
@@ -21,10 +21,10 @@ nothing_taken w e inv = none_in w.receiver.taken (λ o m.
     let l : o < 0 = subst (λ (ps : List Place). o < length ps) e (inv.taken o m).0 in omega arith)
 
 -- where no offset was assigned, the peer's initial TSN may become known
-pub meetings_are_no_events : MeetingsAreNoEvents
-meetings_are_no_events p t w none inv plain fits =
+pub peer_known_is_no_event : PeerKnownIsNoEvent
+peer_known_is_no_event p t w none inv plain fits =
     let met : FitsIncoming (record (receiving p) { peer = t }) w =
-    fit.meetings_are_no_events (receiving p) t w none inv fits in
+    fit.initial_tsns_are_no_events (receiving p) t w none inv fits in
     record {
       is_open = met.is_open;
       taken = sym (nothing_taken w none inv);

@@ -12,7 +12,7 @@ use Rattle.sctp_model.specs.Safe.{IsWithin, unread}
 use Rattle.sctp_model.proofs.StreamsTakeData.{mem_new}
 use Rattle.sctp_directions.specs.Events.{IsReceived}
 use Rattle.sctp_directions.specs.Plain.{IsPlain}
-use Rattle.sctp_directions.proofs.SenderEvents.{sack_cases}
+use Rattle.sctp_directions.proofs.SenderCases.{sack_cases}
 
 -- The events, by their cases
 

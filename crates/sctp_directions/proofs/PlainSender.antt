@@ -4,8 +4,8 @@ use Rattle.sctp_model.specs.Messages.{Message}
 use Rattle.sctp_model.specs.Packets.{Data}
 use Rattle.sctp_model.specs.Machine.{Direction, Event, Sender, acknowledged_by, happens}
 use Rattle.sctp_directions.specs.Plain.{IsPlain}
-use Rattle.sctp_directions.proofs.SenderEvents.{begin_cases, go_on_cases, pass_over_cases, resend_cases, sack_cases}
-use Rattle.sctp_directions.proofs.SenderEvents.{write_cases}
+use Rattle.sctp_directions.proofs.SenderCases.{begin_cases, go_on_cases, pass_over_cases, resend_cases, sack_cases}
+use Rattle.sctp_directions.proofs.SenderCases.{write_cases}
 
 -- what a plain direction asks of its sender's side
 plain_by : (w : Direction) (x : Sender) (datas : List Data) → ((s i : ℕ) → x.gone s i ≡ false) → IsPlain w

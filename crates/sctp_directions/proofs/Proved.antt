@@ -1,20 +1,20 @@
 -- The laws of an association between its directions, each by its name: what crates that build on this one cite of its
 -- proofs.
-pub use Rattle.sctp_directions.proofs.OutgoingWrote.{writes_are_accepted}
-pub use Rattle.sctp_directions.proofs.OutgoingSentAgain.{marks_are_no_events, pieces_are_given}
-pub use Rattle.sctp_directions.proofs.OutgoingAcknowledged.{acknowledgements_are_alike, sacks_mean_the_same}
+pub use Rattle.sctp_directions.proofs.OutgoingWrote.{its_writes_are_accepted}
+pub use Rattle.sctp_directions.proofs.OutgoingSentAgain.{its_marks_are_no_events, its_pieces_are_given}
+pub use Rattle.sctp_directions.proofs.OutgoingAcknowledged.{its_acknowledgements_are_alike, sacks_mean_the_same}
 pub use Rattle.sctp_directions.proofs.OutgoingBeside.{settings_are_no_events, what_comes_leaves_its_own}
 pub use Rattle.sctp_directions.proofs.OrderKept.{only_settings_loosen}
-pub use Rattle.sctp_directions.proofs.IncomingTook.{what_is_taken_in_comes}
+pub use Rattle.sctp_directions.proofs.IncomingTook.{what_it_takes_in_comes}
 pub use Rattle.sctp_directions.proofs.IncomingReports.{reports_say_what_was_taken}
 pub use Rattle.sctp_directions.proofs.IncomingBeside.{own_acts_leave_what_comes}
 pub use Rattle.sctp_directions.proofs.InitialTsns.{acts_keep_the_initial_tsns}
-pub use Rattle.sctp_directions.proofs.PeerKnown.{meetings_are_no_events}
+pub use Rattle.sctp_directions.proofs.PeerKnown.{peer_known_is_no_event}
 pub use Rattle.sctp_directions.proofs.LawsByEvent.{closed_receivers_are_not_open, events_keep_the_limits}
 pub use Rattle.sctp_directions.proofs.LawsByEvent.{fresh_directions_are_plain, only_beginnings_assign}
 pub use Rattle.sctp_directions.proofs.LawsByEvent.{only_reads_give_messages, only_what_is_brought_is_taken_in}
 pub use Rattle.sctp_directions.proofs.LawsByEvent.{only_writes_accept, plain_events_keep_it_plain}
 pub use Rattle.sctp_directions.proofs.LawsByEvent.{receivers_events_are_received, senders_events_are_sent}
 pub use Rattle.sctp_directions.proofs.LawsByEvent.{senders_events_keep_the_invariant, writes_are_accepted_last}
-pub use Rattle.sctp_directions.proofs.Counted.{accepted_messages_are_counted, nothing_is_accepted_at_first}
-pub use Rattle.sctp_directions.proofs.Pieces.{pieces_are_counted, short_messages_are_one_piece}
+pub use Rattle.sctp_directions.proofs.AcceptedCounted.{accepted_messages_are_counted, nothing_is_accepted_at_first}
+pub use Rattle.sctp_directions.proofs.MessagePieces.{pieces_are_counted, short_messages_are_one_piece}

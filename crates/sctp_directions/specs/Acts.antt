@@ -137,8 +137,8 @@ with_written (Some s) p id named bytes =
     record p { queue = a.queue; streams = a.streams })
 
 -- A SACK that acknowledges the first n pieces in flight cumulatively acknowledges the piece at an index: it is one of
--- those, or one of the gap ack blocks names it. Blocks count from the point, so the piece at n is their 1 (RFC 4960
--- section 3.3.4).
+-- those, or one of the gap ack blocks names it. Blocks count from the cumulative TSN ack, so the piece at n is their 1
+-- (RFC 4960 section 3.3.4).
 abbrev pub is_acknowledged_by : ℕ → List GapAckBlock → ℕ → Bool
 is_acknowledged_by n blocks index = nat_lt index n || is_named (index + 1 - n) blocks
 
@@ -218,9 +218,9 @@ all_data_given [] p = []
 all_data_given (x ∷ xs) p = data_given x p ++ all_data_given xs (done x p)
 
 -- it isn't that the peer's initial TSN became known
-abbrev pub MeetsNobody : Act → Type 0
-MeetsNobody (PeerKnown t) = ⊥
-MeetsNobody act = Unit {0}
+abbrev pub IsNotPeerKnown : Act → Type 0
+IsNotPeerKnown (PeerKnown t) = ⊥
+IsNotPeerKnown act = Unit {0}
 
 -- acts of the association's own DATA
 abbrev pub IsOfItsOwn : Act → Type 0

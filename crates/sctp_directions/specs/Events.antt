@@ -40,9 +40,9 @@ IsOfReceiving Event.Close = ⊤
 IsOfReceiving e = ⊥
 
 -- an event of the sender accepts a message
-abbrev pub Accepts : Event → Type 0
-Accepts (Event.Write s m) = ⊤
-Accepts e = ⊥
+abbrev pub AcceptsAMessage : Event → Type 0
+AcceptsAMessage (Event.Write s m) = ⊤
+AcceptsAMessage e = ⊥
 
 -- an event of the sender assigns an offset
 abbrev pub Assigns : Event → Type 0

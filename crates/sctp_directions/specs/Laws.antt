@@ -15,15 +15,15 @@ use Rattle.sctp_model.specs.Packets.{Data, Sack, mem}
 use Rattle.sctp_model.specs.Machine.{Direction, Event, fresh, happens}
 use Rattle.sctp_model.specs.Invariants.{Invariant}
 use Rattle.sctp_model.specs.Safe.{IsWithin}
-use Rattle.sctp_fit.specs.Counted.{HasAccepted, all_pieces, pieces_in}
+use Rattle.sctp_fit.specs.FewPieces.{HasAccepted, all_pieces, pieces_in}
 use Rattle.sctp_fit.specs.Incoming.{FitsIncoming, IsSaid, tsn_before}
 use Rattle.sctp_fit.specs.Outgoing.{CountsBegun, FitsOutgoing}
 use Rattle.sctp_fit.specs.Sendings.{IsGiven}
 use Rattle.sctp_fit.specs.Writes.{message_on}
-use Rattle.sctp_directions.specs.Acts.{Act, Can, IsKeptInOrder, IsOfItsOwn, IsOfWhatComes, MeetsNobody, Parts}
+use Rattle.sctp_directions.specs.Acts.{Act, Can, IsKeptInOrder, IsOfItsOwn, IsOfWhatComes, IsNotPeerKnown, Parts}
 use Rattle.sctp_directions.specs.Acts.{SetsReliability, data_given, done, done_all, offset_in, reach_in, receiving}
 use Rattle.sctp_directions.specs.Acts.{sending, type_on}
-use Rattle.sctp_directions.specs.Events.{Accepts, Assigns, Brings, GivesAMessage, IsOfReceiving, IsOfSending}
+use Rattle.sctp_directions.specs.Events.{AcceptsAMessage, Assigns, Brings, GivesAMessage, IsOfReceiving, IsOfSending}
 use Rattle.sctp_directions.specs.Events.{IsPlainEvent, IsReceived, IsSentOn, KeepsWithin}
 use Rattle.sctp_directions.specs.Plain.{IsPlain}
 use Rattle.sctp_directions.specs.Reports.{SaysWhatWasTaken}
@@ -33,8 +33,8 @@ use Rattle.sctp_directions.specs.Said.{IsMade}
 
 -- A write, of any number of pieces, on a live stream is accepted by the direction as that message: under the payload
 -- type that it names or else the stream's, with the stream's order and reliability of that moment.
-abbrev pub WritesAreAccepted : Type 0
-WritesAreAccepted = (p : Parts) (id : ℕ) (named : Option PayloadProtocolIdentifier) (bytes : List ℕ) (t : StreamView)
+abbrev pub ItsWritesAreAccepted : Type 0
+ItsWritesAreAccepted = (p : Parts) (id : ℕ) (named : Option PayloadProtocolIdentifier) (bytes : List ℕ) (t : StreamView)
     (w : Direction)
     → stream_at p.streams id ≡ Some t → 0 < length bytes → Invariant w → CountsBegun w.sender
     → FitsOutgoing (sending p) w
@@ -47,22 +47,22 @@ SettingsAreNoEvents = (p : Parts) (id : ℕ) (setting : Setting) (w : Direction)
     → FitsOutgoing (sending (done (Act.Adjusted id setting) p)) w
 
 -- A piece that goes out again is that of its offset, and is DATA of the direction.
-abbrev pub PiecesAreGiven : Type 0
-PiecesAreGiven = (p : Parts) (by : Retransmission) (index : ℕ) (w : Direction) → Can (Act.SentAgain by index) p
+abbrev pub ItsPiecesAreGiven : Type 0
+ItsPiecesAreGiven = (p : Parts) (by : Retransmission) (index : ℕ) (w : Direction) → Can (Act.SentAgain by index) p
     → Invariant w → FitsOutgoing (sending p) w
     → FitsOutgoing (sending (done (Act.SentAgain by index) p)) (happens w (Event.Resend (w.sender.reach + index)))
     × AllByRecursion (IsGiven p.history.own (happens w (Event.Resend (w.sender.reach + index))))
     (data_given (Act.SentAgain by index) p)
 
 -- Of a mark for sending again the direction knows nothing.
-abbrev pub MarksAreNoEvents : Type 0
-MarksAreNoEvents = (p : Parts) (w : Direction) → FitsOutgoing (sending p) w
+abbrev pub ItsMarksAreNoEvents : Type 0
+ItsMarksAreNoEvents = (p : Parts) (w : Direction) → FitsOutgoing (sending p) w
     → FitsOutgoing (sending (done Act.Marked p)) w
 
--- What a SACK acknowledges at the association, by its point and by its gap ack blocks, it acknowledges at the
--- direction's sender, whatever it reports missing.
-abbrev pub AcknowledgementsAreAlike : Type 0
-AcknowledgementsAreAlike = (p : Parts) (n k missing : ℕ) (c : ChunkSelectiveAck) (x : Sack) (w : Direction)
+-- What a SACK acknowledges at the association, by its cumulative TSN ack and by its gap ack blocks, it acknowledges at
+-- the direction's sender, whatever it reports missing.
+abbrev pub ItsAcknowledgementsAreAlike : Type 0
+ItsAcknowledgementsAreAlike = (p : Parts) (n k missing : ℕ) (c : ChunkSelectiveAck) (x : Sack) (w : Direction)
     → slice_get w.sacks k ≡ Some x → SaysWhatWasTaken p.history.own x.reach x.above c → x.reach ≡ w.sender.reach + n
     → n ≤ length p.queue.in_flight → Invariant w → FitsOutgoing (sending p) w
     → FitsOutgoing (sending (done (Act.Acknowledged n c.gap_ack_blocks missing) p)) (happens w (Event.SackComes k))
@@ -78,8 +78,8 @@ SacksMeanTheSame = (p : Parts) (n t k : ℕ) (x : Sack) (w : Direction) → slic
 
 -- New DATA that is taken in, in whatever order, stands on the offset that its TSN spells, and comes to the direction's
 -- receiver.
-abbrev pub WhatIsTakenInComes : Type 0
-WhatIsTakenInComes = (p : Parts) (piece : ChunkPayloadData) (k : ℕ) (d : Data) (t : StreamView) (w : Direction)
+abbrev pub WhatItTakesInComes : Type 0
+WhatItTakesInComes = (p : Parts) (piece : ChunkPayloadData) (k : ℕ) (d : Data) (t : StreamView) (w : Direction)
     → Can (Act.Took piece) p
     → slice_get w.datas k ≡ Some d → IsSaid p.history.peer piece d
     → stream_at p.streams piece.stream_identifier ≡ Some t → w.over piece.stream_identifier ≡ false
@@ -87,8 +87,8 @@ WhatIsTakenInComes = (p : Parts) (piece : ChunkPayloadData) (k : ℕ) (d : Data)
     → (d.offset ≡ offset_in p.history piece.tsn)
     × FitsIncoming (receiving (done (Act.Took piece) p)) (happens w (Event.DataComes k))
 
--- A report makes a SACK, and any chunk that says what came to the association is that one: its point and its set are
--- the receiver's.
+-- A report makes a SACK, and any chunk that says what came to the association is that one: its cumulative TSN ack and
+-- its set are the receiver's.
 abbrev pub ReportsSayWhatWasTaken : Type 0
 ReportsSayWhatWasTaken = (p : Parts) (w : Direction) → FitsIncoming (receiving p) w
     → FitsIncoming (receiving p) (happens w Event.SackMade)
@@ -97,8 +97,8 @@ ReportsSayWhatWasTaken = (p : Parts) (w : Direction) → FitsIncoming (receiving
 
 -- Where no offset was assigned in the direction that comes, the peer's initial TSN may become known: the direction
 -- knows nothing of it.
-abbrev pub MeetingsAreNoEvents : Type 0
-MeetingsAreNoEvents = (p : Parts) (t : ℕ) (w : Direction) → w.sender.plan.places ≡ [] → Invariant w → IsPlain w
+abbrev pub PeerKnownIsNoEvent : Type 0
+PeerKnownIsNoEvent = (p : Parts) (t : ℕ) (w : Direction) → w.sender.plan.places ≡ [] → Invariant w → IsPlain w
     → FitsIncoming (receiving p) w → FitsIncoming (receiving (done (Act.PeerKnown t) p)) w
 
 -- Both
@@ -114,7 +114,7 @@ WhatComesLeavesItsOwn = (act : Act) (p : Parts) (w : Direction) → IsOfWhatCome
     → FitsOutgoing (sending (done act p)) w
 
 abbrev pub ActsKeepTheInitialTsns : Type 0
-ActsKeepTheInitialTsns = (acts : List Act) (p : Parts) → AllByRecursion MeetsNobody acts
+ActsKeepTheInitialTsns = (acts : List Act) (p : Parts) → AllByRecursion IsNotPeerKnown acts
     → ((done_all acts p).history.own ≡ p.history.own) × ((done_all acts p).history.peer ≡ p.history.peer)
 
 -- Only an act that sets a stream's order or reliability has the stream send other messages than ordered, reliable ones.
@@ -135,7 +135,7 @@ SendersEventsAreSent =
 -- are assigned offsets.
 abbrev pub OnlyWritesAccept : Type 0
 OnlyWritesAccept =
-    (w : Direction) (e : Event) → IsOfSending e → (Accepts e → ⊥)
+    (w : Direction) (e : Event) → IsOfSending e → (AcceptsAMessage e → ⊥)
     → (happens w e).sender.plan.accepted ≡ w.sender.plan.accepted
 
 abbrev pub WritesAreAcceptedLast : Type 0

@@ -2,36 +2,36 @@
 //! as acts; and what each act is there. No code runs here; each empty function carries laws that are proved.
 #![tactic(auto)]
 
-ghost use Rattle.sctp_directions.specs.Laws.{AcceptedMessagesAreCounted, AcknowledgementsAreAlike};
+ghost use Rattle.sctp_directions.specs.Laws.{AcceptedMessagesAreCounted, ItsAcknowledgementsAreAlike};
 ghost use Rattle.sctp_directions.specs.Laws.{ActsKeepTheInitialTsns, ClosedReceiversAreNotOpen, EventsKeepTheLimits};
-ghost use Rattle.sctp_directions.specs.Laws.{FreshDirectionsArePlain, MarksAreNoEvents, MeetingsAreNoEvents};
+ghost use Rattle.sctp_directions.specs.Laws.{FreshDirectionsArePlain, ItsMarksAreNoEvents, PeerKnownIsNoEvent};
 ghost use Rattle.sctp_directions.specs.Laws.{NothingIsAcceptedAtFirst, OnlyBeginningsAssign, OnlyReadsGiveMessages};
 ghost use Rattle.sctp_directions.specs.Laws.{OnlySettingsLoosen, OnlyWhatIsBroughtIsTakenIn, OnlyWritesAccept};
 ghost use Rattle.sctp_directions.specs.Laws.{OwnActsLeaveWhatComes};
-ghost use Rattle.sctp_directions.specs.Laws.{PiecesAreCounted, PiecesAreGiven, PlainEventsKeepItPlain};
+ghost use Rattle.sctp_directions.specs.Laws.{PiecesAreCounted, ItsPiecesAreGiven, PlainEventsKeepItPlain};
 ghost use Rattle.sctp_directions.specs.Laws.{ReceiversEventsAreReceived, ReportsSayWhatWasTaken, SacksMeanTheSame};
 ghost use Rattle.sctp_directions.specs.Laws.{SendersEventsAreSent, SendersEventsKeepTheInvariant};
 ghost use Rattle.sctp_directions.specs.Laws.{SettingsAreNoEvents, ShortMessagesAreOnePiece};
-ghost use Rattle.sctp_directions.specs.Laws.{WhatComesLeavesItsOwn, WhatIsTakenInComes, WritesAreAccepted};
+ghost use Rattle.sctp_directions.specs.Laws.{WhatComesLeavesItsOwn, WhatItTakesInComes, ItsWritesAreAccepted};
 ghost use Rattle.sctp_directions.specs.Laws.{WritesAreAcceptedLast};
 
 /// What an association writes, sends again and finds acknowledged happens at the sender of its direction; of marks and
 /// of what an application sets on a stream that one knows nothing.
 pub fn its_own_acts_are_events()
-    ensures writes { WritesAreAccepted }
-    ensures pieces { PiecesAreGiven }
-    ensures marks { MarksAreNoEvents }
+    ensures writes { ItsWritesAreAccepted }
+    ensures pieces { ItsPiecesAreGiven }
+    ensures marks { ItsMarksAreNoEvents }
     ensures settings { SettingsAreNoEvents }
-    ensures acknowledgements { AcknowledgementsAreAlike }
+    ensures acknowledgements { ItsAcknowledgementsAreAlike }
     ensures sacks { SacksMeanTheSame }
 {}
 
 /// What an association takes in and reports happens at the receiver of the direction that comes to it; that the peer's
 /// initial TSN becomes known is nothing to it.
 pub fn what_comes_to_it_are_events()
-    ensures taken { WhatIsTakenInComes }
+    ensures taken { WhatItTakesInComes }
     ensures reports { ReportsSayWhatWasTaken }
-    ensures meetings { MeetingsAreNoEvents }
+    ensures peer_known { PeerKnownIsNoEvent }
 {}
 
 /// What an act in one direction leaves of the other, what no act changes, and what a setting alone changes.

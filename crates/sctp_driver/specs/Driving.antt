@@ -28,5 +28,5 @@ abbrev pub begun_with : Shown → ℕ → Driving
 begun_with a tag = record { association = a; own_tag = tag; waiting = []; kept = [] }
 
 -- the association found no memory in the middle of the call and failed, and nothing else changed
-abbrev pub Fails : Driving → Driving → Type 0
-Fails d e = (e ≡ with_association d e.association) × HasFailed (answers_of d.association) e.association
+abbrev pub RunsOutOfMemory : Driving → Driving → Type 0
+RunsOutOfMemory d e = (e ≡ with_association d e.association) × HasFailed (answers_of d.association) e.association

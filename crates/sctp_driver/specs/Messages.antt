@@ -7,8 +7,8 @@ use Rattle.sctp_wire_types.specs.declared.ids.PayloadProtocolIdentifier.TheVaria
 use Rattle.sctp_receive_queues.specs.Messages.{ReceivedMessage, bytes_left}
 use Rattle.sctp_assoc.specs.Calls.{read_exhausts, read_from_stream, refusal_to_read}
 use Rattle.sctp_assoc.specs.Shown.{HasFailed, Shown, answers_of}
-use Rattle.sctp_driver.specs.declared.messages.Read.{Read}
-use Rattle.sctp_driver.specs.declared.messages.Read.TheVariants as answers
+use Rattle.sctp_driver.specs.declared.messages.ReadAnswer.{ReadAnswer}
+use Rattle.sctp_driver.specs.declared.messages.ReadAnswer.TheVariants as answers
 use Rattle.sctp_driver.specs.Driving.{Driving, KeptMessage, with_association}
 
 -- the bytes at the front of a buffer, where it is long enough
@@ -44,7 +44,7 @@ with_message d id = with_message_at (index_of id d.kept) d id
 
 -- A message is read: it stands at the front of the buffer, whole, and is no longer kept. It stays where the buffer is
 -- shorter.
-abbrev pub GivesOne : KeptMessage → ℕ → List KeptMessage → List ℕ → Read → List KeptMessage → List ℕ → Type 0
+abbrev pub GivesOne : KeptMessage → ℕ → List KeptMessage → List ℕ → ReadAnswer → List KeptMessage → List ℕ → Type 0
 GivesOne m index kept buffer (answers.Message kind n) left filled =
     (kind ≡ m.payload_type) × (n ≡ length m.bytes) × (n ≤ length buffer)
     × (left ≡ remove kept index) × (filled ≡ m.bytes ++ drop n buffer)
@@ -52,18 +52,18 @@ GivesOne m index kept buffer (answers.NoRoom n) left filled =
     (n ≡ length m.bytes) × (length buffer < n) × (left ≡ kept) × (filled ≡ buffer)
 GivesOne m index kept buffer answers.Nothing left filled = ⊥
 
-abbrev pub GivesAt : Option ℕ → List KeptMessage → List ℕ → Read → List KeptMessage → List ℕ → Type 0
+abbrev pub GivesAt : Option ℕ → List KeptMessage → List ℕ → ReadAnswer → List KeptMessage → List ℕ → Type 0
 GivesAt None kept buffer answers.Nothing left filled = (left ≡ kept) × (filled ≡ buffer)
 GivesAt None kept buffer answer left filled = ⊥
 GivesAt (Some index) kept buffer answer left filled =
     GivesOne (message_at kept index) index kept buffer answer left filled
 
 -- of the messages that are kept the first one of a stream is given
-abbrev pub Gives : ℕ → List KeptMessage → List ℕ → Read → List KeptMessage → List ℕ → Type 0
+abbrev pub Gives : ℕ → List KeptMessage → List ℕ → ReadAnswer → List KeptMessage → List ℕ → Type 0
 Gives id kept buffer answer left filled = GivesAt (index_of id kept) kept buffer answer left filled
 
 -- the same of a driver, in which nothing but what is kept changes
-abbrev pub Reads : Driving → ℕ → List ℕ → Read → Driving → List ℕ → Type 0
+abbrev pub Reads : Driving → ℕ → List ℕ → ReadAnswer → Driving → List ℕ → Type 0
 Reads d id buffer answer e filled =
     Gives id d.kept buffer answer e.kept filled × (e ≡ record d { kept = e.kept })
 
@@ -79,7 +79,7 @@ abbrev pub LacksMemory : Driving → ℕ → Error → Driving → Type 0
 LacksMemory d id error e = (error ≡ errors.ErrNoMemory) × ((e ≡ d) ⊎ (e ≡ with_message d id))
 
 -- why a read gave no answer, and what it left
-abbrev pub RefusesRead : Driving → ℕ → Error → Driving → Type 0
-RefusesRead d id error e =
+abbrev pub ReadFails : Driving → ℕ → Error → Driving → Type 0
+ReadFails d id error e =
     LacksMemory d id error e
     ⊎ (StopsRead d.association id error e.association × (e ≡ with_association d e.association))

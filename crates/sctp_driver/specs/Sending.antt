@@ -2,8 +2,8 @@
 use Rattle.std.specs.Prelude.{◌≡◌, ◌<◌, ◌≤◌, ℕ, List, [], ◌∷◌, ◌++◌, drop, length}
 use Rattle.sctp_assoc.specs.Gather.{polled}
 use Rattle.sctp_assoc.specs.Shown.{Shown}
-use Rattle.sctp_driver.specs.declared.sending.Sent.{Sent}
-use Rattle.sctp_driver.specs.declared.sending.Sent.TheVariants as answers
+use Rattle.sctp_driver.specs.declared.sending.PollAnswer.{PollAnswer}
+use Rattle.sctp_driver.specs.declared.sending.PollAnswer.TheVariants as answers
 use Rattle.sctp_driver.specs.Driving.{Driving}
 
 abbrev pub with_polled : Driving → Shown × List (List ℕ) → Driving
@@ -19,7 +19,7 @@ asked d now = asked_for d.waiting d now
 
 -- Of the datagrams that wait the first one goes out: it stands at the front of the buffer, and the others wait on. It
 -- waits on too where the buffer is shorter. With none nothing changes.
-abbrev pub Takes : List (List ℕ) → List ℕ → Sent → List (List ℕ) → List ℕ → Type 0
+abbrev pub Takes : List (List ℕ) → List ℕ → PollAnswer → List (List ℕ) → List ℕ → Type 0
 Takes [] buffer answers.Nothing left filled = (left ≡ []) × (filled ≡ buffer)
 Takes [] buffer answer left filled = ⊥
 Takes (w ∷ ws) buffer (answers.Datagram n) left filled =
@@ -29,6 +29,6 @@ Takes (w ∷ ws) buffer (answers.NoRoom n) left filled =
 Takes (w ∷ ws) buffer answers.Nothing left filled = ⊥
 
 -- the same of a driver, in which nothing but what waits changes
-abbrev pub Sends : Driving → List ℕ → Sent → Driving → List ℕ → Type 0
+abbrev pub Sends : Driving → List ℕ → PollAnswer → Driving → List ℕ → Type 0
 Sends d buffer answer e filled =
     Takes d.waiting buffer answer e.waiting filled × (e ≡ record d { waiting = e.waiting })

@@ -10,8 +10,8 @@ use Rattle.sctp_assoc.specs.Inbound.{taken_packet}
 use Rattle.sctp_assoc.specs.Shown.{Shown}
 use Rattle.sctp_driver.specs.declared.tags.FirstChunk.{FirstChunk}
 use Rattle.sctp_driver.specs.declared.tags.FirstChunk.TheVariants as firsts
-use Rattle.sctp_driver.specs.declared.tags.Received.{Received}
-use Rattle.sctp_driver.specs.declared.tags.Received.TheVariants as answers
+use Rattle.sctp_driver.specs.declared.tags.DatagramAnswer.{DatagramAnswer}
+use Rattle.sctp_driver.specs.declared.tags.DatagramAnswer.TheVariants as answers
 use Rattle.sctp_driver.specs.Driving.{Driving}
 
 -- the T bit of an ABORT or a SHUTDOWN COMPLETE is the lowest one of its flags (RFC 4960 sections 3.3.7 and 3.3.13)
@@ -31,11 +31,11 @@ abbrev pub first_chunk_of : List ℕ → FirstChunk
 first_chunk_of bytes =
     if nat_lt (length bytes) 2 then firsts.Other else chunk_named (slice_index bytes 0) (slice_index bytes 1)
 
-abbrev pub taken_if : Bool → Received
+abbrev pub taken_if : Bool → DatagramAnswer
 taken_if fits = if fits then answers.Taken else answers.OtherTag
 
 -- section 8.5.1 A: an INIT has the tag 0. It is for an association that is at its handshake; a repeated one is left
-abbrev pub judged_init : ℕ → Bool → Received
+abbrev pub judged_init : ℕ → Bool → DatagramAnswer
 judged_init tag begins =
     if tag == 0 then (if begins then answers.Taken else answers.RepeatedInit) else answers.OtherTag
 
@@ -45,7 +45,7 @@ is_own_or_reflected reflected tag own peer = if reflected then not (peer == 0) &
 
 -- What becomes of a packet with this first chunk and this tag, at a side with this own tag and this tag of its peer (0
 -- where it is unknown), which may be at its handshake.
-abbrev pub judged : FirstChunk → ℕ → ℕ → ℕ → Bool → Received
+abbrev pub judged : FirstChunk → ℕ → ℕ → ℕ → Bool → DatagramAnswer
 judged firsts.Init tag own peer begins = judged_init tag begins
 judged (firsts.Abort reflected) tag own peer begins = taken_if (is_own_or_reflected reflected tag own peer)
 judged (firsts.ShutdownComplete reflected) tag own peer begins =
@@ -59,17 +59,17 @@ judged firsts.Other tag own peer begins = taken_if (tag == own)
 abbrev pub begins : Shown → Bool
 begins a = not a.lost && is_beginning a.state
 
-abbrev pub judged_packet : Driving → PartialDecode → Received
+abbrev pub judged_packet : Driving → PartialDecode → DatagramAnswer
 judged_packet d packet =
     judged (first_chunk_of packet.remaining) packet.common_header.verification_tag d.own_tag
     d.association.handshake.peer_verification_tag (begins d.association)
 
-abbrev pub answer_to_read : Driving → Result PartialDecode Fault → Received
+abbrev pub answer_to_read : Driving → Result PartialDecode Fault → DatagramAnswer
 answer_to_read d (Ok packet) = judged_packet d packet
 answer_to_read d (Err fault) = answers.NoPacket
 
 -- what becomes of a datagram: left where it spells no packet, else judged by its tag
-abbrev pub answer_to : Driving → List ℕ → Received
+abbrev pub answer_to : Driving → List ℕ → DatagramAnswer
 answer_to d bytes = answer_to_read d (partial_at bytes)
 
 -- the packet that a datagram spells; none where its chunks do not decode or it is refused as a packet

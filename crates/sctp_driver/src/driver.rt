@@ -10,13 +10,13 @@ ghost use Rattle.sctp_assoc.specs.Created.{client, create_refusal, created, join
 ghost use Rattle.sctp_assoc.specs.Gather.{has_something_to_give};
 ghost use Rattle.sctp_assoc.specs.Inbound.{taken_packet};
 ghost use Rattle.sctp_assoc.specs.Timeouts.{after_timeouts, handshake_goes_out_again};
-ghost use Rattle.sctp_driver.specs.Driving.{Fails, begun_with, with_association};
+ghost use Rattle.sctp_driver.specs.Driving.{RunsOutOfMemory, begun_with, with_association};
 ghost use Rattle.sctp_driver.specs.Sending.{Sends, asked};
 ghost use Rattle.sctp_driver.specs.Tags.{answer_to, begins, judged_packet, packet_in};
 
 use crate::messages::Kept;
-use crate::sending::{Sent, packets_in, take_first};
-use crate::tags::{Received, first_chunk, judge};
+use crate::sending::{PollAnswer, packets_in, take_first};
+use crate::tags::{DatagramAnswer, first_chunk, judge};
 use bytes::Bytes;
 use sctp_assoc::{
     Association, AssociationError, AssociationEvent, AssociationState, ChunkInit, Error, Event,
@@ -192,14 +192,14 @@ impl Driver {
     ///
     /// Errors: `ErrAssociationFailed`, with nothing changed; `ErrNoMemory`, which leaves all as it was, or the
     /// association failed where it was at reading the packet.
-    pub fn handle_datagram(&mut self, now: u64, datagram: &[u8]) -> Result<Received, Error>
+    pub fn handle_datagram(&mut self, now: u64, datagram: &[u8]) -> Result<DatagramAnswer, Error>
         ensures answer { IfOk result (λ answer. answer ≡ answer_to self.old datagram.now) }
-        ensures left { answer_to self.old datagram.now ≢ Received.Taken → self.new ≡ self.old }
-        ensures taken { OnOk result (answer_to self.old datagram.now ≡ Received.Taken → self.new
+        ensures left { answer_to self.old datagram.now ≢ DatagramAnswer.Taken → self.new ≡ self.old }
+        ensures taken { OnOk result (answer_to self.old datagram.now ≡ DatagramAnswer.Taken → self.new
             ≡ with_association self.old (after_packet self.old.association (packet_in datagram.now) now)) }
         ensures failed { IsErrOf result Error.ErrAssociationFailed ↔ (self.old.association.failed ≡ true) }
         ensures refused { IsErrOf result Error.ErrAssociationFailed → self.new ≡ self.old }
-        ensures memory { IsErrOf result Error.ErrNoMemory → (self.new ≡ self.old) ⊎ Fails self.old self.new }
+        ensures memory { IsErrOf result Error.ErrNoMemory → (self.new ≡ self.old) ⊎ RunsOutOfMemory self.old self.new }
         ensures only { OnErr result ((result ≡ Err Error.ErrAssociationFailed) ⊎ (result ≡ Err Error.ErrNoMemory)) }
     {
         if self.association.is_failed() {
@@ -209,18 +209,18 @@ impl Driver {
         let packet = match PartialDecode::unmarshal(&bytes) {
             Ok(packet) => packet,
             Err(Error::ErrNoMemory) => return Err(Error::ErrNoMemory),
-            Err(_) => return Ok(Received::NoPacket),
+            Err(_) => return Ok(DatagramAnswer::NoPacket),
         };
         match self.judge(&packet) {
-            Received::Taken => {
+            DatagramAnswer::Taken => {
                 self.take_in(now, packet)?;
-                Ok(Received::Taken)
+                Ok(DatagramAnswer::Taken)
             }
             left => Ok(left),
         }
     }
 
-    fn judge(&self, packet: &PartialDecode) -> Received
+    fn judge(&self, packet: &PartialDecode) -> DatagramAnswer
         ensures { result ≡ judged_packet self.now packet.now }
     {
         judge(
@@ -237,7 +237,7 @@ impl Driver {
             ≡ with_association self.old (after_packet self.old.association (taken_packet (finished packet)) now)) }
         ensures failed { IsErrOf result Error.ErrAssociationFailed ↔ (self.old.association.failed ≡ true) }
         ensures refused { IsErrOf result Error.ErrAssociationFailed → self.new ≡ self.old }
-        ensures memory { IsErrOf result Error.ErrNoMemory → Fails self.old self.new }
+        ensures memory { IsErrOf result Error.ErrNoMemory → RunsOutOfMemory self.old self.new }
         ensures only { OnErr result ((result ≡ Err Error.ErrAssociationFailed) ⊎ (result ≡ Err Error.ErrNoMemory)) }
     {
         self.association.handle_event(AssociationEvent::datagram(Transmit {
@@ -255,13 +255,13 @@ impl Driver {
     ///
     /// Errors, only where none waits: `ErrAssociationFailed`, with nothing changed; `ErrNoMemory`, only where there is
     /// something to give, after which the association is failed and the packets of this poll are lost.
-    pub fn poll_transmit(&mut self, now: u64, buffer: &mut [u8]) -> Result<Sent, Error>
+    pub fn poll_transmit(&mut self, now: u64, buffer: &mut [u8]) -> Result<PollAnswer, Error>
         ensures ok { IfOk result
             (λ answer. Sends (asked self.old now) buffer.old answer self.new buffer.new) }
         ensures failed { IsErrOf result Error.ErrAssociationFailed
             ↔ ((self.old.waiting ≡ []) × (self.old.association.failed ≡ true)) }
         ensures refused { IsErrOf result Error.ErrAssociationFailed → self.new ≡ self.old }
-        ensures memory { IsErrOf result Error.ErrNoMemory → Fails self.old self.new }
+        ensures memory { IsErrOf result Error.ErrNoMemory → RunsOutOfMemory self.old self.new }
         ensures given { IsErrOf result Error.ErrNoMemory
             → has_something_to_give self.old.association now ≡ true }
         ensures only { OnErr result ((result ≡ Err Error.ErrAssociationFailed) ⊎ (result ≡ Err Error.ErrNoMemory)) }
@@ -277,7 +277,7 @@ impl Driver {
         ensures failed { IsErrOf result Error.ErrAssociationFailed
             ↔ ((self.old.waiting ≡ []) × (self.old.association.failed ≡ true)) }
         ensures refused { IsErrOf result Error.ErrAssociationFailed → self.new ≡ self.old }
-        ensures memory { IsErrOf result Error.ErrNoMemory → Fails self.old self.new }
+        ensures memory { IsErrOf result Error.ErrNoMemory → RunsOutOfMemory self.old self.new }
         ensures given { IsErrOf result Error.ErrNoMemory
             → has_something_to_give self.old.association now ≡ true }
         ensures only { OnErr result ((result ≡ Err Error.ErrAssociationFailed) ⊎ (result ≡ Err Error.ErrNoMemory)) }
@@ -311,7 +311,7 @@ impl Driver {
             (self.new ≡ with_association self.old (after_timeouts self.old.association now)) }
         ensures failed { IsErrOf result Error.ErrAssociationFailed ↔ (self.old.association.failed ≡ true) }
         ensures refused { IsErrOf result Error.ErrAssociationFailed → self.new ≡ self.old }
-        ensures memory { IsErrOf result Error.ErrNoMemory → Fails self.old self.new }
+        ensures memory { IsErrOf result Error.ErrNoMemory → RunsOutOfMemory self.old self.new }
         ensures again { IsErrOf result Error.ErrNoMemory
             → handshake_goes_out_again self.old.association now ≡ true }
         ensures only { OnErr result ((result ≡ Err Error.ErrAssociationFailed) ⊎ (result ≡ Err Error.ErrNoMemory)) }
@@ -339,7 +339,7 @@ impl Driver {
         ensures ok { OnOk result (self.new
             ≡ with_association self.old (closed_by self.old.association AssociationError.AssociationClosed)) }
         ensures unchanged { (result ≡ Err Error.ErrAssociationFailed) → self.new ≡ self.old }
-        ensures memory { (result ≡ Err Error.ErrNoMemory) → Fails self.old self.new }
+        ensures memory { (result ≡ Err Error.ErrNoMemory) → RunsOutOfMemory self.old self.new }
         ensures grows { (result ≡ Err Error.ErrNoMemory) → is_closed_state self.old.association.state ≡ false }
     {
         self.association.close()

@@ -22,10 +22,10 @@ mod streams;
 mod tags;
 
 pub use driver::Driver;
-pub use messages::Read;
+pub use messages::ReadAnswer;
 pub use sctp_assoc::{
     ChunkInit, Error, Event, PayloadProtocolIdentifier, ReliabilityType, StreamEvent,
     TransportConfig, token,
 };
-pub use sending::Sent;
-pub use tags::Received;
+pub use sending::PollAnswer;
+pub use tags::DatagramAnswer;

@@ -12,7 +12,7 @@ use std::marker::Model;
 
 /// What `Driver::read` gave.
 #[derive(Clone, Copy, Debug, PartialEq, Eq)]
-pub enum Read {
+pub enum ReadAnswer {
     /// One message stands in the first `length` bytes of the buffer, whole.
     Message {
         payload_type: PayloadProtocolIdentifier,
@@ -126,23 +126,23 @@ pub(crate) fn give(
     kept: &mut VecDeque<Kept>,
     stream: StreamId,
     buffer: &mut [u8],
-) -> Result<Read, Error>
+) -> Result<ReadAnswer, Error>
     ensures ok { IfOk result (λ answer. Gives stream kept.old.items buffer.old answer kept.new.items buffer.new) }
     ensures refused { OnErr result (result ≡ Err Error.ErrNoMemory) }
     ensures err { OnErr result (kept.new.items ≡ kept.old.items) }
     ensures unfilled { OnErr result (buffer.new ≡ buffer.old) }
 {
     let Some(index) = find(kept, stream) else {
-        return Ok(Read::Nothing);
+        return Ok(ReadAnswer::Nothing);
     };
     let length = size_at(kept, index);
     if buffer.len() < length {
-        return Ok(Read::NoRoom { length });
+        return Ok(ReadAnswer::NoRoom { length });
     }
     copy_at(kept, index, buffer)?;
     let payload_type = payload_type_at(kept, index);
     kept.remove(index);
-    Ok(Read::Message {
+    Ok(ReadAnswer::Message {
         payload_type,
         length,
     })

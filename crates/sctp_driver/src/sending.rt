@@ -11,7 +11,7 @@ use std::collections::VecDeque;
 
 /// What `Driver::poll_transmit` gave.
 #[derive(Clone, Copy, Debug, PartialEq, Eq)]
-pub enum Sent {
+pub enum PollAnswer {
     /// One datagram stands in the first `length` bytes of the buffer, and is to be sent.
     Datagram { length: usize },
     /// None is due.
@@ -40,19 +40,19 @@ fn packets_within(alloc: Global, payload: Payload) -> VecDeque<Bytes>
 }
 
 /// Takes out the first datagram where the buffer has room for it.
-pub(crate) fn take_first(waiting: &mut VecDeque<Bytes>, buffer: &mut [u8]) -> Sent
+pub(crate) fn take_first(waiting: &mut VecDeque<Bytes>, buffer: &mut [u8]) -> PollAnswer
     ensures { Takes waiting.old.items buffer.old result waiting.new.items buffer.new }
 {
     let Some(first) = waiting.front() else {
-        return Sent::Nothing;
+        return PollAnswer::Nothing;
     };
     let length = first.len();
     if buffer.len() < length {
-        return Sent::NoRoom { length };
+        return PollAnswer::NoRoom { length };
     }
     fill(buffer, first.as_slice());
     waiting.pop_front();
-    Sent::Datagram { length }
+    PollAnswer::Datagram { length }
 }
 
 /// Copies the bytes to the front of the buffer; where it is shorter nothing is copied.

@@ -5,12 +5,12 @@ ghost use Rattle.sctp_streams.specs.Stream.{params_of};
 ghost use Rattle.sctp_assoc.specs.Calls.{Refuses, RefusesOrLacksMemory, accepted_stream, adjusted, open_refusal};
 ghost use Rattle.sctp_assoc.specs.Calls.{opened, refusal_to_write, stream_refusal, written};
 ghost use Rattle.sctp_driver.specs.Driving.{with_association};
-ghost use Rattle.sctp_driver.specs.Messages.{Reads, RefusesRead, with_message};
+ghost use Rattle.sctp_driver.specs.Messages.{Reads, ReadFails, with_message};
 ghost use Rattle.sctp_driver.specs.Streams.{buffered_on};
 
 use crate::driver::Driver;
 use crate::lending;
-use crate::messages::{Kept, Read, find, give};
+use crate::messages::{Kept, ReadAnswer, find, give};
 use sctp_assoc::{Error, PayloadProtocolIdentifier, ReliabilityType, StreamId};
 
 impl Driver {
@@ -70,10 +70,10 @@ impl Driver {
     /// Refused, in this order: `ErrAssociationFailed`, `ErrStreamNotExisted` and `ErrStreamClosed` (its read half is
     /// closed), with nothing changed, and only where no message of the stream waits in the driver; `ErrNoMemory`, which
     /// leaves the message to be read, or the association failed where the read was to close it.
-    pub fn read(&mut self, id: StreamId, buffer: &mut [u8]) -> Result<Read, Error>
+    pub fn read(&mut self, id: StreamId, buffer: &mut [u8]) -> Result<ReadAnswer, Error>
         ensures ok { IfOk result
             (λ answer. Reads (with_message self.old id) id buffer.old answer self.new buffer.new) }
-        ensures err { IfErr result (λ error. RefusesRead self.old id error self.new) }
+        ensures err { IfErr result (λ error. ReadFails self.old id error self.new) }
         ensures unfilled { OnErr result (buffer.new ≡ buffer.old) }
     {
         self.take_out(id)?;
@@ -83,7 +83,7 @@ impl Driver {
     // Takes the next message of a stream out of the association, unless one is kept already.
     fn take_out(&mut self, id: StreamId) -> Result<(), Error>
         ensures ok { OnOk result (self.new ≡ with_message self.old id) }
-        ensures err { IfErr result (λ error. RefusesRead self.old id error self.new) }
+        ensures err { IfErr result (λ error. ReadFails self.old id error self.new) }
     {
         if find(&self.kept, id).is_some() {
             return Ok(());

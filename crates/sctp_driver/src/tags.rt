@@ -5,7 +5,7 @@ ghost use Rattle.sctp_driver.specs.Tags.{taken_if};
 
 /// What became of a datagram that came.
 #[derive(Clone, Copy, Debug, PartialEq, Eq)]
-pub enum Received {
+pub enum DatagramAnswer {
     /// Its tag is accepted, and it was handed to the association, which leaves what does not decode.
     Taken,
     /// It is no SCTP packet, or its checksum is wrong (RFC 4960 section 6.8). Nothing changed.
@@ -52,7 +52,13 @@ fn chunk_of(kind: u8, flags: u8) -> FirstChunk
 
 /// What becomes of a packet with this first chunk and this verification tag. `own` is this side's tag, `peer` its
 /// peer's, 0 where that is unknown, and `begins` says whether the association is at its handshake.
-pub(crate) fn judge(first: FirstChunk, tag: u32, own: u32, peer: u32, begins: bool) -> Received
+pub(crate) fn judge(
+    first: FirstChunk,
+    tag: u32,
+    own: u32,
+    peer: u32,
+    begins: bool,
+) -> DatagramAnswer
     ensures { result ≡ judged first tag own peer begins }
 {
     match first {
@@ -68,16 +74,16 @@ pub(crate) fn judge(first: FirstChunk, tag: u32, own: u32, peer: u32, begins: bo
     }
 }
 
-fn judge_init(tag: u32, begins: bool) -> Received
+fn judge_init(tag: u32, begins: bool) -> DatagramAnswer
     ensures { result ≡ judged_init tag begins }
 {
     if tag != 0 {
-        return Received::OtherTag;
+        return DatagramAnswer::OtherTag;
     }
     if begins {
-        Received::Taken
+        DatagramAnswer::Taken
     } else {
-        Received::RepeatedInit
+        DatagramAnswer::RepeatedInit
     }
 }
 
@@ -92,12 +98,12 @@ fn is_own_or_reflected(reflected: bool, tag: u32, own: u32, peer: u32) -> bool
     }
 }
 
-fn take_if(fits: bool) -> Received
+fn take_if(fits: bool) -> DatagramAnswer
     ensures { result ≡ taken_if fits }
 {
     if fits {
-        Received::Taken
+        DatagramAnswer::Taken
     } else {
-        Received::OtherTag
+        DatagramAnswer::OtherTag
     }
 }

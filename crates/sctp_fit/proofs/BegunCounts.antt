@@ -21,7 +21,7 @@ use Rattle.sctp_fit.specs.Growth.{EventsKeepTheCount}
 use Rattle.sctp_fit.specs.Outgoing.{CountsBegun}
 
 -- `CountsBegun` of the parts that it speaks of; what is accepted below the next number was begun or given up.
-record Counts (accepted : ℕ → List Message) (next : ℕ → ℕ) (begun gone : ℕ → ℕ → Bool) : Type 0 where
+record BegunIsCounted (accepted : ℕ → List Message) (next : ℕ → ℕ) (begun gone : ℕ → ℕ → Bool) : Type 0 where
   known : (s i : ℕ) → begun s i ≡ true → i < length (accepted s)
   below : (s i : ℕ) → begun s i ≡ true → (get_or (accepted s) i no_message).ordered ≡ true → i < next s
   behind : (s i : ℕ) → i < next s → i < length (accepted s) → (get_or (accepted s) i no_message).ordered ≡ true
@@ -41,7 +41,7 @@ tests_refused true false false h =
     absurd (⊎_elim (λ (e : false ≡ true). true≢false (sym e)) (λ (e : false ≡ true). true≢false (sym e)) (h refl))
 tests_refused false b c h = refl
 
-counts_of : (x : Sender) → CountsBegun x → Counts x.plan.accepted x.next x.begun x.gone
+counts_of : (x : Sender) → CountsBegun x → BegunIsCounted x.plan.accepted x.next x.begun x.gone
 counts_of x h = record {
   known = h.accepted;
   below = h.below;
@@ -50,7 +50,7 @@ counts_of x h = record {
       (h.behind s i l o);
 }
 
-counts_begun : (x : Sender) → Counts x.plan.accepted x.next x.begun x.gone → CountsBegun x
+counts_begun : (x : Sender) → BegunIsCounted x.plan.accepted x.next x.begun x.gone → CountsBegun x
 counts_begun x h = record {
   accepted = h.known;
   below = h.below;
@@ -61,8 +61,8 @@ counts_begun x h = record {
 
 -- more is given up
 counts_gone : (accepted : ℕ → List Message) (next : ℕ → ℕ) (begun gone gone' : ℕ → ℕ → Bool)
-    → ((s i : ℕ) → gone s i ≡ true → gone' s i ≡ true) → Counts accepted next begun gone
-    → Counts accepted next begun gone'
+    → ((s i : ℕ) → gone s i ≡ true → gone' s i ≡ true) → BegunIsCounted accepted next begun gone
+    → BegunIsCounted accepted next begun gone'
 counts_gone accepted next begun gone gone' more h = record {
   known = h.known;
   below = h.below;
@@ -72,8 +72,8 @@ counts_gone accepted next begun gone gone' more h = record {
 
 -- more is accepted, and the next number is not past what was
 counts_written : (p q : Plan) (e : IsExtended p q) (next : ℕ → ℕ) (begun gone : ℕ → ℕ → Bool)
-    → ((s : ℕ) → next s ≤ length (p.accepted s)) → Counts p.accepted next begun gone
-    → Counts q.accepted next begun gone
+    → ((s : ℕ) → next s ≤ length (p.accepted s)) → BegunIsCounted p.accepted next begun gone
+    → BegunIsCounted q.accepted next begun gone
 counts_written p q e next begun gone within h = record {
   known = λ s i b. let k = h.known s i b in let l = e.longer s in omega arith;
   below = λ s i b o.
@@ -107,8 +107,8 @@ next_more next s t i l = ⊎_elim
 -- the message at the next number is unordered, or was given up
 counts_passed : (accepted : ℕ → List Message) (next : ℕ → ℕ) (begun gone : ℕ → ℕ → Bool) (s : ℕ)
     → ((get_or (accepted s) (next s) no_message).ordered ≡ true → gone s (next s) ≡ true)
-    → Counts accepted next begun gone
-    → Counts accepted (put next s (suc (next s))) begun gone
+    → BegunIsCounted accepted next begun gone
+    → BegunIsCounted accepted (put next s (suc (next s))) begun gone
 counts_passed accepted next begun gone s there h = record {
   known = h.known;
   below = λ t i b o. next_more next s t i (h.below t i b o);
@@ -124,8 +124,8 @@ counts_passed accepted next begun gone s there h = record {
 -- Message i of stream s begins: where it is ordered, it is the next one, and the next number moves past it.
 counts_unordered : (accepted : ℕ → List Message) (next : ℕ → ℕ) (begun gone : ℕ → ℕ → Bool) (s i : ℕ)
     → i < length (accepted s) → (get_or (accepted s) i no_message).ordered ≡ false
-    → Counts accepted next begun gone
-    → Counts accepted next (put_2 begun s i) gone
+    → BegunIsCounted accepted next begun gone
+    → BegunIsCounted accepted next (put_2 begun s i) gone
 counts_unordered accepted next begun gone s i accepts unordered h = record {
   known = λ t j b. ⊎_elim
       (λ (a : (t ≡ s) × (j ≡ i)). subst (λ z. j < length (accepted z)) (sym a.0)
@@ -145,10 +145,10 @@ counts_unordered accepted next begun gone s i accepts unordered h = record {
 
 counts_ordered : (accepted : ℕ → List Message) (next : ℕ → ℕ) (begun gone : ℕ → ℕ → Bool) (s i : ℕ)
     → i < length (accepted s) → i ≡ next s
-    → Counts accepted next begun gone
-    → Counts accepted (put next s (suc i)) (put_2 begun s i) gone
+    → BegunIsCounted accepted next begun gone
+    → BegunIsCounted accepted (put next s (suc i)) (put_2 begun s i) gone
 counts_ordered accepted next begun gone s i accepts is h =
-    subst (λ z. Counts accepted (put next s (suc z)) (put_2 begun s i) gone) (sym is) (record {
+    subst (λ z. BegunIsCounted accepted (put next s (suc z)) (put_2 begun s i) gone) (sym is) (record {
       known = λ t j b. ⊎_elim
           (λ (a : (t ≡ s) × (j ≡ i)). subst (λ z. j < length (accepted z)) (sym a.0)
           (subst (λ z. z < length (accepted s)) (sym a.1) accepts))

@@ -1,5 +1,5 @@
 -- The first pieces in flight, acknowledged one at a time, and then those that gap ack blocks name of the pieces behind
--- them, are those that a point and its blocks acknowledge at once.
+-- them, are those that a cumulative TSN ack and its blocks acknowledge at once.
 use Rattle.std.proofs.Common.{ℕ, zero, suc, ◌+◌, ◌-◌, ◌<◌, ◌≤◌, ◌≡◌, Bool, true, ◌||◌, List, [], ◌∷◌, length}
 use Rattle.std.proofs.Common.{Some, cond, refl, sym, ap, ◌∙◌, arith, ltb, drop}
 use Rattle.std.proofs.lemmas.Bool.{le-ltb, lt-ltb}
@@ -11,8 +11,8 @@ use Rattle.sctp_outbound_queue.specs.Outbound.{Outbound, tsn_at}
 use Rattle.sctp_outbound.specs.Sender.{streams_after}
 use Rattle.sctp_streams.specs.Streams.{StreamMap}
 use Rattle.sctp_outbound.specs.GapAcks.{acked_among, released_among}
-use Rattle.sctp_fit.specs.Points.{PointsAndBlocksAcknowledge, with_named}
-use Rattle.sctp_fit.proofs.PointsTaken.{one_at_a_time, released_first, with_flight}
+use Rattle.sctp_fit.specs.CumulativeAcks.{SacksTakeWhatTheyName, with_named}
+use Rattle.sctp_fit.proofs.CumulativeAcksTaken.{one_at_a_time, released_first, with_flight}
 
 module _ (named said : ℕ → Bool) where
   -- one set names from k on what another names from i on
@@ -66,19 +66,19 @@ module _ (named said : ℕ → Bool) where
       (λ j u v. all j (omega arith) (omega arith))
       (λ j. ap named (let e : suc k + n + j ≡ k + suc n + j = omega arith in e) ∙ same j)
 
--- what a point and its blocks acknowledge at once
+-- what a cumulative TSN ack and its blocks acknowledge at once
 abbrev named_from : ℕ → List GapAckBlock → ℕ → Bool
 named_from n blocks j = ltb j n || is_named (j + 1 - n) blocks
 
 -- of the pieces behind the first n it is what the blocks name
-behind_the_point : (n : ℕ) (blocks : List GapAckBlock) (j : ℕ) → named_from n blocks (n + j) ≡ is_named (j + 1) blocks
-behind_the_point n blocks j =
+behind_the_first : (n : ℕ) (blocks : List GapAckBlock) (j : ℕ) → named_from n blocks (n + j) ≡ is_named (j + 1) blocks
+behind_the_first n blocks j =
     ap (λ b. b || is_named (n + j + 1 - n) blocks) (le-ltb (n + j) n (omega arith))
     ∙ ap (λ z. is_named z blocks) (let e : n + j + 1 - n ≡ j + 1 = omega arith in e)
 
--- A point and its blocks acknowledge at once what is taken one piece at a time, and then by the blocks.
-pub points_and_blocks_acknowledge : PointsAndBlocksAcknowledge
-points_and_blocks_acknowledge a n blocks l small =
+-- A cumulative TSN ack and its blocks acknowledge at once what is taken one piece at a time, and then by the blocks.
+pub sacks_take_what_they_name : SacksTakeWhatTheyName
+sacks_take_what_they_name a n blocks l small =
     ap (λ z. with_flight q.pending q.next_message_id a.size z (tsn_at q.first_tsn n)
     (released_among named 0 q.in_flight a.streams) (a.base + n))
     (acked_behind named said n 0 0 q.in_flight l same)
@@ -100,5 +100,5 @@ points_and_blocks_acknowledge a n blocks l small =
 
     same : (j : ℕ) → named (0 + n + j) ≡ said (0 + j)
     same j =
-        ap named (let e : 0 + n + j ≡ n + j = omega arith in e) ∙ behind_the_point n blocks j
+        ap named (let e : 0 + n + j ≡ n + j = omega arith in e) ∙ behind_the_first n blocks j
         ∙ ap said (let e : j ≡ 0 + j = omega arith in e)

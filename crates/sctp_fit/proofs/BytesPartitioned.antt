@@ -76,7 +76,7 @@ pub record IsOn (p : Plan) (s i o : ℕ) : Type 0 where
   pub message : (place_at p o).message ≡ i
 
 -- Message i of stream s goes on with the place y.
-pub record GoesOn (current : Option Place) (s i : ℕ) (y : Place) : Type 0 where
+pub record GoesOnWith (current : Option Place) (s i : ℕ) (y : Place) : Type 0 where
   pub is : current ≡ Some y
   pub stream : y.stream ≡ s
   pub message : y.message ≡ i
@@ -168,7 +168,7 @@ module _ (w : Direction) (inv : Invariant w) (s i : ℕ) (stays : w.sender.gone 
   -- the last offset is one of the message, and its piece isn't the last one
   ends : (o : ℕ) → IsOn w.sender.plan s i o → (c : Option Place) → w.sender.current ≡ c
       → length w.sender.plan.places ≡ suc o
-      → is_last w.sender.plan (place_at w.sender.plan o) ≡ false → (y : Place) × GoesOn w.sender.current s i y
+      → is_last w.sender.plan (place_at w.sender.plan o) ≡ false → (y : Place) × GoesOnWith w.sender.current s i y
   ends o a None c n b = absurd (⊎_elim
       (λ (l : is_last w.sender.plan (place_at w.sender.plan o) ≡ true). true≢false (sym l ∙ b))
       (λ (m : (place_at w.sender.plan o).marker ≡ true). true≢false (sym m ∙ sent_on o a))
@@ -187,7 +187,7 @@ module _ (w : Direction) (inv : Invariant w) (s i : ℕ) (stays : w.sender.gone 
 
   -- From an offset of the message on, it goes on past the last offset, or all its bytes lie on offsets.
   pub goes_on_or_ends : (d o : ℕ) → o + suc d ≡ length w.sender.plan.places → IsOn w.sender.plan s i o
-      → ((y : Place) × GoesOn w.sender.current s i y) ⊎ (bytes_sent ≡ length (message_at w.sender.plan s i).bytes)
+      → ((y : Place) × GoesOnWith w.sender.current s i y) ⊎ (bytes_sent ≡ length (message_at w.sender.plan s i).bytes)
   goes_on_or_ends zero o e a = ⊎_elim
       (λ (b : is_last w.sender.plan (place_at w.sender.plan o) ≡ true).
       inr (all_bytes w.sender.plan w.over inv.planned s i sent_on o a b))
@@ -204,7 +204,7 @@ module _ (w : Direction) (inv : Invariant w) (s i : ℕ) (stays : w.sender.gone 
       (cases_Bool (is_last w.sender.plan (place_at w.sender.plan o)))
 
   -- Where it goes on, the bytes of the pieces before the next one lie on offsets.
-  pub bytes_before : (y : Place) → GoesOn w.sender.current s i y
+  pub bytes_before : (y : Place) → GoesOnWith w.sender.current s i y
       → (bytes_sent ≡ w.sender.plan.size * y.piece)
       × (w.sender.plan.size * y.piece < length (message_at w.sender.plan s i).bytes)
   bytes_before y h =

@@ -12,7 +12,7 @@ use Rattle.sctp_model.specs.Machine.{has_message, is_unsent, next_data, number_f
 use Rattle.sctp_model.proofs.PlansGrow.{at_put, off_put}
 use Rattle.sctp_fit.specs.Outgoing.{CountsBegun}
 use Rattle.sctp_fit.specs.Sendings.{SendsNext}
-use Rattle.sctp_fit.proofs.UnsentKept.{AreAlike}
+use Rattle.sctp_fit.proofs.UnsentKept.{AreUnsentAlike}
 
 -- Messages that are begun
 
@@ -44,7 +44,7 @@ module _ (x : Sender) (s i : ℕ) where
 
   -- where none before it is unsent, from there on the same are, but for it
   pub alike_begun : ((j : ℕ) → j < i → is_unsent x s j ≡ false)
-      → AreAlike (is_unsent x) unsent_then (put (λ t. 0) s (suc i)) (λ t. 0)
+      → AreUnsentAlike (is_unsent x) unsent_then (put (λ t. 0) s (suc i)) (λ t. 0)
   alike_begun none = record { lower = λ t. omega arith; below = below; same = same }
     where
       below : (t j : ℕ) → 0 ≤ j → j < put (λ u. 0) s (suc i) t → unsent_then t j ≡ false

@@ -1,5 +1,5 @@
--- What a SACK acknowledges at an association, by its point and by gap ack blocks, it acknowledges at the direction's
--- sender (RFC 4960 section 6.2.1).
+-- What a SACK acknowledges at an association, by its cumulative TSN ack and by gap ack blocks, it acknowledges at the
+-- direction's sender (RFC 4960 section 6.2.1).
 use Rattle.std.proofs.Common.{ℕ, zero, suc, ◌+◌, ◌<◌, ◌≤◌, ◌≡◌, Bool, true, false, not, cond, ◌&&◌, ◌||◌, List, [], ◌∷◌}
 use Rattle.std.proofs.Common.{length, drop, Some, refl, sym, ap, ◌∙◌, subst, arith}
 use Rattle.std.specs.Prelude.{slice_get}

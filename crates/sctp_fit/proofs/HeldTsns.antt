@@ -1,4 +1,4 @@
--- The TSNs held past the receiver's point, as a set of numbers, and what they are of the offsets that came.
+-- The TSNs held past the receiver's last TSN in order, as a set of numbers, and what they are of the offsets that came.
 use Rattle.std.proofs.Common.{ℕ, suc, ◌+◌, ◌-◌, ◌%◌, ◌^◌, ◌<◌, ◌≤◌, ◌≡◌, Bool, true, false, not, eqb, ltb}
 use Rattle.std.proofs.Common.{◌&&◌, List, [], ◌∷◌, length, refl, sym, ap, ◌∙◌, subst, ⊎_elim, arith}
 use Rattle.std.specs.List.{AllByRecursion, list_any}
@@ -18,7 +18,7 @@ use Rattle.sctp_received.specs.Received.{has_offset, is_held, is_held_at}
 use Rattle.sctp_model.specs.Packets.{mem}
 use Rattle.sctp_model.proofs.Lists.{all_mem, all_weaker}
 use Rattle.sctp_fit.specs.HeldSet.{BlocksNameWhatCame, HoldsPast, IsPast, NewTsnsDidNotCome, NothingIsHeldAtFirst}
-use Rattle.sctp_fit.specs.HeldSet.{point_of}
+use Rattle.sctp_fit.specs.HeldSet.{peer_last_tsn_of}
 use Rattle.sctp_fit.specs.Incoming.{Receiving, offset_of, reach_of}
 
 -- Sets of numbers, as lists that ascend
@@ -180,17 +180,17 @@ spells i r t l = omega arith
 pub same_offset : (i r x y : ℕ) → r ≤ x → x < r + 65535 → r ≤ y → y < r + 65535 → tsn i x ≡ tsn i y → x ≡ y
 same_offset i r x y a b c d e = omega arith
 
--- how far a TSN lies past the point
+-- how far a TSN lies past the last TSN in order
 past_before : (i r x : ℕ) → r ≤ x → x < r + 65535 → tsn_past (before i r) (tsn i x) + r ≡ suc x
 past_before i r x a b = omega arith
 
-past_point : (i r t : ℕ) → t < 2 ^ 32 → tsn_past (before i r) t ≡ (tsn_past (tsn i r) t + 1) % 2 ^ 32
-past_point i r t l = omega arith
+past_last_tsn : (i r t : ℕ) → t < 2 ^ 32 → tsn_past (before i r) t ≡ (tsn_past (tsn i r) t + 1) % 2 ^ 32
+past_last_tsn i r t l = omega arith
 
--- a TSN is 1 to 65,535 past the point where its offset is less than 65,535 past the reach
-near_point : (i r t : ℕ) → t < 2 ^ 32
+-- a TSN is 1 to 65,535 past the last TSN in order where its offset is less than 65,535 past the reach
+near_last_tsn : (i r t : ℕ) → t < 2 ^ 32
     → has_offset (tsn_past (before i r) t) ≡ ltb (r + tsn_past (tsn i r) t) (r + 65535)
-near_point i r t l = ap has_offset (past_point i r t l) ∙ near (tsn_past (tsn i r) t) (omega arith)
+near_last_tsn i r t l = ap has_offset (past_last_tsn i r t l) ∙ near (tsn_past (tsn i r) t) (omega arith)
   where
     near : (d : ℕ) → d < 2 ^ 32 → has_offset ((d + 1) % 2 ^ 32) ≡ ltb (r + d) (r + 65535)
     near d b = ⊎_elim
@@ -230,27 +230,29 @@ held_came a held t small h near = both_ways (is_held t held) (mem (offset_of a t
 
 pub new_tsns_did_not_come : NewTsnsDidNotCome
 new_tsns_did_not_come a held t small h =
-    ap (λ z. z && not (is_held t held)) (near_point a.peer (reach_of a) t small)
+    ap (λ z. z && not (is_held t held)) (near_last_tsn a.peer (reach_of a) t small)
     ∙ and_same (ltb (offset_of a t) (reach_of a + 65535)) (not (is_held t held)) (not (mem (offset_of a t) a.taken))
     (λ b. ap not (held_came a held t small h (ltb-true _ _ b)))
 
 pub blocks_name_what_came : BlocksNameWhatCame
 blocks_name_what_came a held blocks h exact o from below =
     exact o from below
-    ∙ both_ways (is_held_at (point_of a) o held) (mem (reach_of a + o - 1) a.taken)
-    (any_from (λ t. eqb (tsn_past (point_of a) t) o) (IsPast a) (mem (reach_of a + o - 1) a.taken ≡ true) held h.only
+    ∙ both_ways (is_held_at (peer_last_tsn_of a) o held) (mem (reach_of a + o - 1) a.taken)
+    (any_from (λ t. eqb (tsn_past (peer_last_tsn_of a) t) o) (IsPast a)
+    (mem (reach_of a + o - 1) a.taken ≡ true) held h.only
     there)
-    (λ m. any_in (λ t. eqb (tsn_past (point_of a) t) o) (tsn a.peer (reach_of a + o - 1)) held
+    (λ m. any_in (λ t. eqb (tsn_past (peer_last_tsn_of a) t) o) (tsn a.peer (reach_of a + o - 1)) held
     (sym (held_is (tsn a.peer (reach_of a + o - 1)) held) ∙ h.all (reach_of a + o - 1) m (omega arith))
     (eq-eqb _ _ (let e = past_before a.peer (reach_of a) (reach_of a + o - 1) (omega arith) (omega arith) in
     omega arith)))
   where
-    there : (t : ℕ) → IsPast a t → eqb (tsn_past (point_of a) t) o ≡ true → mem (reach_of a + o - 1) a.taken ≡ true
+    there : (t : ℕ) → IsPast a t → eqb (tsn_past (peer_last_tsn_of a) t) o ≡ true
+        → mem (reach_of a + o - 1) a.taken ≡ true
     there t p e =
         let f = p.past in
         let d = past_before a.peer (reach_of a) p.offset (omega arith) p.near in
-        let u : tsn_past (point_of a) (tsn a.peer p.offset) ≡ o =
-        ap (tsn_past (point_of a)) (sym p.is) ∙ eqb-true _ _ e in
+        let u : tsn_past (peer_last_tsn_of a) (tsn a.peer p.offset) ≡ o =
+        ap (tsn_past (peer_last_tsn_of a)) (sym p.is) ∙ eqb-true _ _ e in
         subst (λ z. mem z a.taken ≡ true) (last p.offset (reach_of a) _ d u) p.came
       where
         last : (x r d : ℕ) → d + r ≡ suc x → d ≡ o → x ≡ r + o - 1

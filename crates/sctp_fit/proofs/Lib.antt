@@ -10,7 +10,7 @@ pub mod FlightAcknowledged
 mod ForwardTaken
 mod FrontAlike
 pub mod HeldTsns
-pub mod Marks
+pub mod MarksSayNothing
 mod MessageDropped
 pub mod MessagesAccepted
 mod NamesKept
@@ -18,18 +18,18 @@ pub mod NextPiece
 pub mod NothingToSend
 mod NumbersMoveDown
 pub mod OtherEnd
-pub mod Pinned
+pub mod SendersPinned
 pub mod PlacesCounted
 pub mod PlansExtended
-pub mod PointsTaken
+pub mod CumulativeAcksTaken
 pub mod QueuesPinned
 pub mod ReachClimbs
 pub mod ReadsAnswered
 pub mod SentAgain
-pub mod StandsOn
+pub mod GrownPlansStand
 pub mod StreamsChanged
 pub mod StreamsThere
 mod TailMarked
-mod Unsent
+mod LastUnsent
 mod UnsentKept
 mod WholeAbandoned

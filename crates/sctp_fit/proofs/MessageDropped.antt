@@ -29,7 +29,7 @@ use Rattle.sctp_fit.proofs.BytesReleased.{own_less}
 use Rattle.sctp_fit.proofs.FirstPiece.{at_put_2, off_put_2}
 use Rattle.sctp_fit.proofs.NumbersMoveDown.{above_itself, after_without, one_if, steps, unsent_down, wrapped_down}
 use Rattle.sctp_fit.proofs.StreamsChanged.{each_with}
-use Rattle.sctp_fit.proofs.UnsentKept.{AreAlike, unsent_kept}
+use Rattle.sctp_fit.proofs.UnsentKept.{AreUnsentAlike, unsent_kept}
 
 -- What is unsent
 
@@ -40,7 +40,7 @@ record IsOneLess (unsent fewer : ℕ → ℕ → Bool) (s i : ℕ) : Type 0 wher
 
 -- where it was the first unsent one of its stream, those past it are the same, and none before it is unsent
 alike_less : {unsent fewer : ℕ → ℕ → Bool} (from : ℕ → ℕ) {s i : ℕ} → IsOneLess unsent fewer s i → from s ≤ i
-    → ((j : ℕ) → from s ≤ j → j < i → unsent s j ≡ false) → AreAlike unsent fewer (put from s (suc i)) from
+    → ((j : ℕ) → from s ≤ j → j < i → unsent s j ≡ false) → AreUnsentAlike unsent fewer (put from s (suc i)) from
 alike_less {unsent} {fewer} from {s} {i} less past none = record { lower = lower; below = below; same = same }
   where
     lower : (t : ℕ) → from t ≤ put from s (suc i) t

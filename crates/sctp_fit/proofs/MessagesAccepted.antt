@@ -26,7 +26,7 @@ use Rattle.sctp_fit.specs.Outgoing.{policy_of}
 use Rattle.sctp_fit.specs.Writes.{IsWritten, WritesAreAccepted, message_on, written}
 use Rattle.sctp_fit.proofs.NamesKept.{KeepsMessages, all_waiting_kept, flight_kept}
 use Rattle.sctp_fit.proofs.StreamsChanged.{each_with}
-use Rattle.sctp_fit.proofs.Unsent.{IsOneMore, numbers_push, past_others, waiting_push}
+use Rattle.sctp_fit.proofs.LastUnsent.{IsOneMore, numbers_push, past_others, waiting_push}
 
 -- The event
 

@@ -19,7 +19,7 @@ use Rattle.sctp_fit.specs.Outgoing.{numbers_past}
 use Rattle.sctp_fit.specs.Writes.{FreshOnesFit, OpenedStreamsSendNothing}
 use Rattle.sctp_fit.proofs.NamesKept.{KeepsMessages, all_waiting_kept, flight_kept}
 use Rattle.sctp_fit.proofs.StreamsChanged.{each_made}
-use Rattle.sctp_fit.proofs.Unsent.{past_others}
+use Rattle.sctp_fit.proofs.LastUnsent.{past_others}
 
 -- On a stream on which nothing was accepted
 

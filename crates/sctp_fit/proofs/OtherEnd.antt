@@ -11,12 +11,12 @@ use Rattle.sctp_model.specs.Reassembly.{Got, Queue, Taken, next}
 use Rattle.sctp_model.specs.Machine.{Direction, Event, Receiver, data_comes, forward_comes, fresh, happens, is_new}
 use Rattle.sctp_model.specs.Machine.{passes, reach, read, took, was_read}
 use Rattle.sctp_model.proofs.PlansGrow.{IsExtended}
-use Rattle.sctp_fit.specs.Growth.{FreshOnesReceiveNothing, MeetingsAreNoEvents}
+use Rattle.sctp_fit.specs.Growth.{FreshOnesReceiveNothing, InitialTsnsAreNoEvents}
 use Rattle.sctp_fit.specs.Growth.{ReceiversEventsLeaveWhatIsSent, SendersEventsLeaveWhatComes}
 use Rattle.sctp_fit.specs.Incoming.{FitsIncoming, IsQueueAt, Receiving}
 use Rattle.sctp_fit.specs.Outgoing.{FitsOutgoing, Sending}
 use Rattle.sctp_fit.proofs.PlansExtended.{IsGrownAlone, grown_by}
-use Rattle.sctp_fit.proofs.StandsOn.{stands_anew, stands_kept}
+use Rattle.sctp_fit.proofs.GrownPlansStand.{stands_anew, stands_kept}
 
 -- What comes
 
@@ -50,8 +50,8 @@ queue_anew peer t p s None (Some u) none h = absurd h
 queue_anew peer t p s (Some x) None none h = absurd h
 queue_anew peer t p s (Some x) (Some u) none h = stands_anew peer t p s x.reassembly u none h
 
-pub meetings_are_no_events : MeetingsAreNoEvents
-meetings_are_no_events a t w none inv fits = record {
+pub initial_tsns_are_no_events : InitialTsnsAreNoEvents
+initial_tsns_are_no_events a t w none inv fits = record {
   is_open = fits.is_open;
   taken = fits.taken;
   passed = fits.passed;

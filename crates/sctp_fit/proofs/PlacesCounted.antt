@@ -12,7 +12,7 @@ use Rattle.sctp_model.specs.Packets.{mem}
 use Rattle.sctp_model.specs.Machine.{Direction}
 use Rattle.sctp_model.specs.Invariants.{Invariant, IsPlanned}
 use Rattle.sctp_model.specs.Safe.{read_end}
-use Rattle.sctp_fit.specs.Counted.{FewPiecesStayWithin, HasAccepted, all_pieces, pieces_in}
+use Rattle.sctp_fit.specs.FewPieces.{FewPiecesStayWithin, HasAccepted, all_pieces, pieces_in}
 use Rattle.sctp_fit.proofs.CountsBelow.{count_of, count_one, counted_by_member, counted_by_value, has_value, one_below}
 use Rattle.sctp_fit.proofs.CountsBelow.{sum_of_ones, sum_shifted, sums_below, sums_over}
 

@@ -8,7 +8,7 @@ use Rattle.sctp_model.specs.Messages.{Plan}
 use Rattle.sctp_model.specs.Packets.{Data, data_at, mem}
 use Rattle.sctp_serial.specs.Serial.{tsn}
 use Rattle.sctp_model.proofs.Lists.{all_weaker}
-use Rattle.sctp_reassembly.specs.Stands.{AreGroups, AreRuns, AreWaiting, CarryDataOf, Held, IsLoose, IsOf}
+use Rattle.sctp_reassembly.specs.Stands.{AreGroups, AreRuns, AreWaiting, CarryDataOf, HeldMessage, IsLoose, IsOf}
 use Rattle.sctp_reassembly.specs.Stands.{offsets_in, runs_of}
 use Rattle.sctp_reassembly.proofs.OffsetRuns.{all_in, joined, joined_runs}
 use Rattle.sctp_fit.specs.Arrivals.{ReadersArePinned}
@@ -57,7 +57,7 @@ module _ (initial : ℕ) (p : Plan) (s : ℕ) (near : length p.places < 2 ^ 31) 
       (λ o i. let k = i.at.known in omega arith) a
 
   -- the same pieces of ordered messages are held
-  same_groups : (gs : List Group) (hs ks : List Held) → AreGroups initial p s gs hs → AreGroups initial p s gs ks
+  same_groups : (gs : List Group) (hs ks : List HeldMessage) → AreGroups initial p s gs hs → AreGroups initial p s gs ks
       → offsets_in hs ≡ offsets_in ks
   same_groups [] [] [] x y = refl
   same_groups [] [] (k ∷ ks) x y = absurd y

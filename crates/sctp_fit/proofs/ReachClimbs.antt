@@ -1,4 +1,4 @@
--- The point moves over the TSNs held that follow it, as the reach climbs over the offsets that came.
+-- The last TSN in order moves over the TSNs held that follow it, as the reach climbs over the offsets that came.
 use Rattle.std.proofs.Common.{ℕ, zero, suc, ◌+◌, ◌<◌, ◌≤◌, ◌≡◌, Bool, true, false, List, ◌∷◌, length, None}
 use Rattle.std.proofs.Common.{refl, sym, ap, ◌∙◌, subst, ⊎_elim, arith, eqb}
 use Rattle.std.specs.List.{AllByRecursion}
@@ -14,7 +14,7 @@ use Rattle.sctp_serial.specs.Serial.{tsn, tsn_after}
 use Rattle.sctp_model.specs.Machine.{climb, past_all}
 use Rattle.sctp_model.proofs.Lists.{all_both, all_mem, all_weaker}
 use Rattle.sctp_model.proofs.OffsetSets.{climb_from, climb_in, reach_stops}
-use Rattle.sctp_fit.specs.HeldSet.{IsPast, TheSetFollows, point_of, with_offset}
+use Rattle.sctp_fit.specs.HeldSet.{IsPast, TheSetFollows, peer_last_tsn_of, with_offset}
 use Rattle.sctp_fit.specs.Incoming.{Receiving, offset_of, reach_of}
 use Rattle.sctp_fit.proofs.HeldTsns.{before, held_is, insert_all, insert_ascends, insert_here, insert_keeps}
 use Rattle.sctp_fit.proofs.HeldTsns.{new_tsns_did_not_come, same_offset, spells, without, without_all}
@@ -91,10 +91,10 @@ module _ (i : ℕ) (taken : List ℕ) where
       }
 
   module _ (passed : ℕ) where
-    -- where the point stops, the reach does, and the TSNs are those past it
-    record IsReached (point : ℕ) (held : List ℕ) : Type 0 where
+    -- where the last TSN in order stops, the reach does, and the TSNs are those past it
+    record IsReached (last_tsn : ℕ) (held : List ℕ) : Type 0 where
       reach : ℕ
-      moved : point ≡ before i reach
+      moved : last_tsn ≡ before i reach
       holds : HoldsFrom reach held
       is : reach ≡ climb taken (past_all taken) passed
 
@@ -165,9 +165,9 @@ the_set_follows a held t n small h new short = (
     p = let c = and_parts _ _ (sym (new_tsns_did_not_come a held t small h) ∙ new) in
         (ltb-true _ _ c.0, not-true _ c.1)
 
-    put_in : (with_tsn held t (point_of a)).0 ≡ insert_key nat_cmp held t
+    put_in : (with_tsn held t (peer_last_tsn_of a)).0 ≡ insert_key nat_cmp held t
     put_in = ap (λ (z : List ℕ × Bool). z.0)
-        (cond-true (is_new held t (point_of a)) (insert_key nat_cmp held t, true) (held, false) new)
+        (cond-true (is_new held t (peer_last_tsn_of a)) (insert_key nat_cmp held t, true) (held, false) new)
 
     spelt : tsn a.peer o ≡ t
     spelt = spells a.peer (reach_of a) t small
@@ -197,16 +197,19 @@ the_set_follows a held t n small h new short = (
       once = insert_ascends t held h.once;
     }
 
-    f : IsReached a.peer (o ∷ a.taken) a.passed (advanced n (point_of a) (with_tsn held t (point_of a)).0).0
-        (advanced n (point_of a) (with_tsn held t (point_of a)).0).1
-    f = subst (λ z. IsReached a.peer (o ∷ a.taken) a.passed (advanced n (point_of a) z).0
-        (advanced n (point_of a) z).1) (sym put_in)
+    f : IsReached a.peer (o ∷ a.taken) a.passed
+        (advanced n (peer_last_tsn_of a) (with_tsn held t (peer_last_tsn_of a)).0).0
+        (advanced n (peer_last_tsn_of a) (with_tsn held t (peer_last_tsn_of a)).0).1
+    f = subst (λ z. IsReached a.peer (o ∷ a.taken) a.passed (advanced n (peer_last_tsn_of a) z).0
+        (advanced n (peer_last_tsn_of a) z).1) (sym put_in)
         (advances a.peer (o ∷ a.taken) a.passed n (reach_of a) (insert_key nat_cmp held t)
         (subst (λ z. length z ≤ n) put_in short) (climb_from a.taken (past_all a.taken) a.passed)
         (λ x l u. or_right (eqb o x) _ (climb_in a.taken (past_all a.taken) a.passed x l u)) start)
 
-    g : HoldsFrom a.peer (o ∷ a.taken) (reach_of b) (advanced n (point_of a) (with_tsn held t (point_of a)).0).1
-    g = subst (λ z. HoldsFrom a.peer (o ∷ a.taken) z (advanced n (point_of a) (with_tsn held t (point_of a)).0).1) f.is
+    g : HoldsFrom a.peer (o ∷ a.taken) (reach_of b)
+        (advanced n (peer_last_tsn_of a) (with_tsn held t (peer_last_tsn_of a)).0).1
+    g = subst (λ z. HoldsFrom a.peer (o ∷ a.taken) z
+        (advanced n (peer_last_tsn_of a) (with_tsn held t (peer_last_tsn_of a)).0).1) f.is
         f.holds
 
     past : (x : ℕ) → IsFrom a.peer (o ∷ a.taken) (reach_of b) x → IsPast b x

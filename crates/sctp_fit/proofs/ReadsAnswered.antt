@@ -17,7 +17,7 @@ use Rattle.sctp_reassembly.proofs.LawsInEvents.{a_read_that_happens_stands}
 use Rattle.sctp_reassembly.proofs.ReadyAlike.{the_same_is_ready as same_is_ready}
 use Rattle.sctp_reassembly.proofs.SkipsAlike.{the_invariant_gives_the_window}
 use Rattle.sctp_fit.specs.Incoming.{FitsIncoming}
-use Rattle.sctp_fit.specs.Arrivals.{ReadsAreAlike, TheSameIsReady}
+use Rattle.sctp_fit.specs.Arrivals.{ReadsAreAlike, TheSameStreamsAreReady}
 use Rattle.sctp_fit.proofs.StreamsThere.{IsChangedAt, at_with, queue_of, queues_after}
 
 -- a read of a receiver that is open gives what is next of the stream
@@ -126,8 +126,8 @@ reads_are_alike a id t w there v within inv fits =
     }
 
 -- what is ready is the same on both sides
-pub the_same_is_ready : TheSameIsReady
-the_same_is_ready a id t w there v within inv fits =
+pub the_same_streams_are_ready : TheSameStreamsAreReady
+the_same_streams_are_ready a id t w there v within inv fits =
     let p = w.sender.plan in
     let low = read_ssn p 0 (w.reads id) in
     let queue = queue_of a.peer p id (stream_at a.streams id) (w.receiver.queues id) t there (fits.queues id v) in

@@ -17,7 +17,7 @@ use Rattle.sctp_model.specs.Machine.{Direction, Event, happens}
 use Rattle.sctp_fit.specs.Incoming.{IsSaid}
 use Rattle.sctp_fit.specs.Outgoing.{AreInFlight, FitsOutgoing, IsInFlight, IsMessage, IsPieceOf, Names}
 use Rattle.sctp_fit.specs.Sendings.{IsGiven, IsSamePiece, PiecesAreGiven}
-use Rattle.sctp_fit.proofs.Marks.{in_flight_same}
+use Rattle.sctp_fit.proofs.MarksSayNothing.{in_flight_same}
 
 -- the last of a list
 pub got_last : {X : Type 0} (xs : List X) (x : X) → slice_get (xs ++ x ∷ []) (length xs) ≡ Some x

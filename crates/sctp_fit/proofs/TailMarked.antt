@@ -27,13 +27,13 @@ use Rattle.sctp_model.proofs.ReleasedBytes.{bytes_none, bytes_same, bytes_tail, 
 use Rattle.sctp_fit.specs.Outgoing.{AreInFlight, AreUnsent, AreWaiting, FitsOutgoing, IsGoingOn, IsInFlight, IsMessage}
 use Rattle.sctp_fit.specs.Outgoing.{IsNumbered, IsOwnAt, Names, Sending, numbers_after, numbers_past, policy_of}
 use Rattle.sctp_fit.specs.Abandonments.{AbandonmentsAreAlike, TailsAreAbandonedAlike}
-use Rattle.sctp_fit.proofs.BytesPartitioned.{GoesOn, IsOn, bytes_before, bytes_sent, bytes_split, goes_on_or_ends}
+use Rattle.sctp_fit.proofs.BytesPartitioned.{GoesOnWith, IsOn, bytes_before, bytes_sent, bytes_split, goes_on_or_ends}
 use Rattle.sctp_fit.proofs.BytesPartitioned.{pieces_bytes}
 use Rattle.sctp_fit.proofs.BytesReleased.{less, numbered_less, own_less, released_at}
 use Rattle.sctp_fit.proofs.FirstPiece.{at_put_2}
 use Rattle.sctp_fit.proofs.NextPiece.{flight_placed}
 use Rattle.sctp_fit.proofs.SentAgain.{flight_at}
-use Rattle.sctp_fit.proofs.UnsentKept.{AreAlike, attributes_kept, unsent_kept}
+use Rattle.sctp_fit.proofs.UnsentKept.{AreUnsentAlike, attributes_kept, unsent_kept}
 use Rattle.sctp_fit.proofs.WholeAbandoned.{flagged_before, flight_bytes, flight_flagged, none_flagged}
 use Rattle.sctp_fit.proofs.WholeAbandoned.{none_outstanding}
 
@@ -123,7 +123,7 @@ module _ (a : Sending) (w : Direction) (inv : Invariant w) (f : FitsOutgoing a w
       omega arith
 
   -- the same messages are unsent
-  alike : AreAlike (is_unsent w.sender)
+  alike : AreUnsentAlike (is_unsent w.sender)
       unsent (λ x. 0) (λ x. 0)
   alike = record {
     lower = λ x. omega arith;
@@ -213,7 +213,7 @@ module _ (a : Sending) (w : Direction) (inv : Invariant w) (f : FitsOutgoing a w
 
   -- The message goes on with the place y: its tail is marked.
 
-  module _ (y : Place) (g : GoesOn w.sender.current s i y) (x : Waiting) (xs : List Waiting)
+  module _ (y : Place) (g : GoesOnWith w.sender.current s i y) (x : Waiting) (xs : List Waiting)
       (pending : a.queue.pending ≡ x ∷ xs) (h : IsGoingOn f.named p y x)
       (hs : AreUnsent f.named p (is_unsent w.sender) (λ z. 0) w.sender.ssn xs) where
     abbrev pub marker : Place
@@ -390,7 +390,7 @@ module _ (a : Sending) (w : Direction) (inv : Invariant w) (f : FitsOutgoing a w
       (abandoned_with (tail_dropped a.queue t.message_id).0 (tail_dropped a.queue t.message_id).1))
       (sym (happens_abandon ∙ ap (λ z. record w { sender = left z s i }) e)) h
 
-  goes_on : (y : Place) → GoesOn w.sender.current s i y → (ps : List Waiting) → a.queue.pending ≡ ps
+  goes_on : (y : Place) → GoesOnWith w.sender.current s i y → (ps : List Waiting) → a.queue.pending ≡ ps
       → AreWaiting f.named p (is_unsent w.sender) w.sender.ssn (Some y) ps
       → FitsOutgoing (abandoned_with (tail_dropped a.queue t.message_id).0 (tail_dropped a.queue t.message_id).1)
       (happens w (Event.Abandon s i))
@@ -407,7 +407,7 @@ module _ (a : Sending) (w : Direction) (inv : Invariant w) (f : FitsOutgoing a w
       (abandoned_with (tail_dropped a.queue t.message_id).0 (tail_dropped a.queue t.message_id).1)
       (happens w (Event.Abandon s i))
   abandoned_fits = ⊎_elim
-      (λ (r : (y : Place) × GoesOn w.sender.current s i y).
+      (λ (r : (y : Place) × GoesOnWith w.sender.current s i y).
       goes_on r.0 r.1 a.queue.pending refl
       (subst (λ c. AreWaiting f.named p (is_unsent w.sender) w.sender.ssn c a.queue.pending) (r.1).is f.waiting))
       (λ (e : bytes_sent w inv s i can.stays ≡ length (message_at p s i).bytes).

@@ -11,13 +11,13 @@ use Rattle.sctp_model.proofs.PlansGrow.{IsExtended, at_put, off_put}
 use Rattle.sctp_fit.specs.Outgoing.{ArePieces, AreUnsent, IsMessage, IsWaiting, Names, numbers_past}
 
 -- From `from` on the same messages are unsent in both, and from `to` up to there none is in the second.
-pub record AreAlike (unsent fewer : ℕ → ℕ → Bool) (from to : ℕ → ℕ) : Type 0 where
+pub record AreUnsentAlike (unsent fewer : ℕ → ℕ → Bool) (from to : ℕ → ℕ) : Type 0 where
   pub lower : (s : ℕ) → to s ≤ from s
   pub below : (s i : ℕ) → to s ≤ i → i < from s → fewer s i ≡ false
   pub same : (s i : ℕ) → from s ≤ i → fewer s i ≡ unsent s i
 
 -- where the same messages are unsent, they are alike from anywhere
-pub alike_same : (unsent : ℕ → ℕ → Bool) (from : ℕ → ℕ) → AreAlike unsent unsent from from
+pub alike_same : (unsent : ℕ → ℕ → Bool) (from : ℕ → ℕ) → AreUnsentAlike unsent unsent from from
 alike_same unsent from = record {
   lower = λ s. omega arith;
   below = λ s i a b. absurd (omega arith);
@@ -25,8 +25,9 @@ alike_same unsent from = record {
 }
 
 -- they are alike past a message too
-alike_past : (unsent fewer : ℕ → ℕ → Bool) (from to : ℕ → ℕ) (s i : ℕ) → from s ≤ i → AreAlike unsent fewer from to
-    → AreAlike unsent fewer (put from s (suc i)) (put to s (suc i))
+alike_past : (unsent fewer : ℕ → ℕ → Bool) (from to : ℕ → ℕ) (s i : ℕ) → from s ≤ i
+    → AreUnsentAlike unsent fewer from to
+    → AreUnsentAlike unsent fewer (put from s (suc i)) (put to s (suc i))
 alike_past unsent fewer from to s i past h = record { lower = lower; below = below; same = same }
   where
     lower : (t : ℕ) → put to s (suc i) t ≤ put from s (suc i) t
@@ -78,7 +79,7 @@ module _ (n : Names) (p q : Plan) (e : IsExtended p q) where
 
   -- All that waits unsent stays so, where what is unsent is alike.
   pub unsent_kept : {unsent fewer : ℕ → ℕ → Bool} {from to : ℕ → ℕ} → (numbers : ℕ → ℕ) (xs : List Waiting)
-      → AreAlike unsent fewer from to → AreUnsent n p unsent from numbers xs → AreUnsent n q fewer to numbers xs
+      → AreUnsentAlike unsent fewer from to → AreUnsent n p unsent from numbers xs → AreUnsent n q fewer to numbers xs
   unsent_kept {from = from} numbers [] a h = λ s i l. ⊎_elim
       (λ (b : i < from s). a.below s i l b)
       (λ (b : from s ≤ i). a.same s i b ∙ h s i b)

@@ -1,5 +1,5 @@
--- The laws of acknowledgements: what a SACK acknowledges at an association, by its point and by its gap ack blocks, it
--- acknowledges at the direction's sender, and the same bytes are released (RFC 4960 section 6.2.1).
+-- The laws of acknowledgements: what a SACK acknowledges at an association, by its cumulative TSN ack and by its gap
+-- ack blocks, it acknowledges at the direction's sender, and the same bytes are released (RFC 4960 section 6.2.1).
 use Rattle.std.specs.Prelude.{◌≡◌, ℕ, ◌+◌, ◌<◌, ◌≤◌, Bool, false, length, drop, slice_get, Some}
 use Rattle.sctp_outbound_queue.specs.Outbound.{tsn_at}
 use Rattle.sctp_streams.specs.Stream.{StreamView}

@@ -56,8 +56,8 @@ ReadsAreAlike = (a : Receiving) (id : ℕ) (t : StreamView) (w : Direction) → 
     × ((s : ℕ) → (s == id) ≡ false → (happens w (Event.Read id)).reads s ≡ w.reads s)
 
 -- What is ready is the same on both sides.
-abbrev pub TheSameIsReady : Type 0
-TheSameIsReady = (a : Receiving) (id : ℕ) (t : StreamView) (w : Direction) → stream_at a.streams id ≡ Some t
+abbrev pub TheSameStreamsAreReady : Type 0
+TheSameStreamsAreReady = (a : Receiving) (id : ℕ) (t : StreamView) (w : Direction) → stream_at a.streams id ≡ Some t
     → w.over id ≡ false → IsWithin w → Invariant w → FitsIncoming a w
     → map letter_read (queue.ready (live (w.receiver.queues id))) ≡ map letter_received (ready t.reassembly)
 

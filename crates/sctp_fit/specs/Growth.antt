@@ -47,8 +47,8 @@ EventsKeepTheCount = (w : Direction) (e : Event) → Invariant w → CountsBegun
 
 -- Where no offset was assigned in the direction that comes, the peer's initial TSN may become known: the direction
 -- knows nothing of it.
-abbrev pub MeetingsAreNoEvents : Type 0
-MeetingsAreNoEvents = (a : Receiving) (t : ℕ) (w : Direction) → w.sender.plan.places ≡ [] → Invariant w
+abbrev pub InitialTsnsAreNoEvents : Type 0
+InitialTsnsAreNoEvents = (a : Receiving) (t : ℕ) (w : Direction) → w.sender.plan.places ≡ [] → Invariant w
     → FitsIncoming a w → FitsIncoming (record a { peer = t }) w
 
 -- An association without a live stream, to which nothing came, fits a direction in which nothing happened, as its

@@ -1,7 +1,7 @@
 pub mod Abandonments
 pub mod Acknowledgements
 pub mod Arrivals
-pub mod Counted
+pub mod FewPieces
 pub mod Cuts
 pub mod Drops
 pub mod Forwards
@@ -9,6 +9,6 @@ pub mod Growth
 pub mod HeldSet
 pub mod Incoming
 pub mod Outgoing
-pub mod Points
+pub mod CumulativeAcks
 pub mod Sendings
 pub mod Writes

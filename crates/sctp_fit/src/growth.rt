@@ -1,5 +1,5 @@
 // What events leave as it was.
-ghost use Rattle.sctp_fit.specs.Growth.{EventsKeepTheCount, FreshOnesReceiveNothing, MeetingsAreNoEvents};
+ghost use Rattle.sctp_fit.specs.Growth.{EventsKeepTheCount, FreshOnesReceiveNothing, InitialTsnsAreNoEvents};
 ghost use Rattle.sctp_fit.specs.Growth.{ReceiversEventsLeaveWhatIsSent, SendersEventsLeaveWhatComes};
 
 /// An event at one end of a direction leaves what the association has at the other, begun messages stay counted as they
@@ -8,6 +8,6 @@ pub fn events_leave_the_other_end()
     ensures incoming { SendersEventsLeaveWhatComes }
     ensures outgoing { ReceiversEventsLeaveWhatIsSent }
     ensures counted { EventsKeepTheCount }
-    ensures meetings { MeetingsAreNoEvents }
+    ensures initials { InitialTsnsAreNoEvents }
     ensures fresh { FreshOnesReceiveNothing }
 {}

@@ -1,1 +1,1 @@
-mod HeldTsns
+mod NewTsnsHeld

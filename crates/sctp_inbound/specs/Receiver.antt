@@ -33,11 +33,11 @@ is_new_to r tsn = nat_lt tsn (2 ^ 32) && is_new r.held tsn r.peer_last_tsn
 abbrev pub moved_to : Receiver → ℕ × List ℕ → Receiver
 moved_to r moved = record r { peer_last_tsn = moved.0; held = moved.1 }
 
--- the point, and what is held past it
+-- the last TSN in order, and what is held past it
 abbrev pub past_of : Receiver → ℕ × List ℕ
 past_of r = (r.peer_last_tsn, r.held)
 
--- a new TSN came: it is held, and the point moves over all that follow it one after another
+-- a new TSN came: it is held, and the last TSN in order moves over all that follow it one after another
 abbrev pub taken_to : Receiver → ℕ → Receiver
 taken_to r tsn = moved_to r (held_after r.held r.peer_last_tsn tsn)
 
@@ -92,7 +92,7 @@ admits r tsn waiting = is_admitted r.held r.peer_last_tsn tsn (credit_of r waiti
 abbrev pub acknowledged : Receiver → Receiver
 acknowledged r = record r { ack_state = states.Idle }
 
--- the acknowledgement that says what came up to the point and past it (RFC 4960 section 3.3.4)
+-- the acknowledgement that says what came up to the last TSN in order and past it (RFC 4960 section 3.3.4)
 abbrev pub sack_of : Receiver → ℕ → ChunkSelectiveAck
 sack_of r waiting = record {
   cumulative_tsn_ack = r.peer_last_tsn;

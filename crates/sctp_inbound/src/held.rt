@@ -1,4 +1,4 @@
-// What came past the receiver's point, with a gap before it.
+// What came past the receiver's last TSN in order, with a gap before it.
 ghost use Rattle.std.specs.Prelude.{◌≡◌, ℕ, ◌<◌, ◌^◌, [], true, false, IfOk, OnErr, IsOk};
 ghost use Rattle.sctp_serial.specs.Serial.{tsn_after};
 ghost use Rattle.sctp_received.specs.Received.{AreRuns, gap_ack_blocks, is_held, is_held_at, is_named, is_new};
@@ -9,8 +9,8 @@ use sctp_wire_types::{GapAckBlock, List};
 use std::alloc::{AllocError, Global};
 use std::marker::Model;
 
-/// The TSNs that came past the cumulative TSN ack point and do not follow it yet; the receiver keeps the point
-/// (RFC 4960 section 6.2).
+/// The TSNs that came past the cumulative TSN ack point and do not follow it yet; the receiver keeps the last TSN in
+/// order (RFC 4960 section 6.2).
 #[derive(Debug, Drop)]
 pub struct Held {
     tsns: ReceiveQueue,
@@ -48,42 +48,42 @@ impl Held {
         !self.tsns.is_empty()
     }
 
-    /// Whether DATA with this TSN did not come yet: it is 1 to 65,535 past the point and not held.
-    pub fn is_new(&self, point: u32, tsn: u32) -> bool
-        ensures { result ≡ is_new self.now tsn point }
+    /// Whether DATA with this TSN did not come yet: it is 1 to 65,535 past the last TSN in order and not held.
+    pub fn is_new(&self, peer_last_tsn: u32, tsn: u32) -> bool
+        ensures { result ≡ is_new self.now tsn peer_last_tsn }
     {
-        self.tsns.can_push(tsn, point)
+        self.tsns.can_push(tsn, peer_last_tsn)
     }
 
     /// Whether DATA may be taken in while so many bytes may still come: at none only where it fills a gap.
-    pub fn admits(&self, point: u32, tsn: u32, credit: u32) -> bool
-        ensures { result ≡ is_admitted self.now point tsn credit }
+    pub fn admits(&self, peer_last_tsn: u32, tsn: u32, credit: u32) -> bool
+        ensures { result ≡ is_admitted self.now peer_last_tsn tsn credit }
     {
-        0 < credit || self.passes(point, tsn)
+        0 < credit || self.passes(peer_last_tsn, tsn)
     }
 
-    // Whether a TSN that is held is farther past the point.
-    fn passes(&self, point: u32, tsn: u32) -> bool
-        ensures { result ≡ is_passed self.now point tsn }
+    // Whether a TSN that is held is farther past the last TSN in order.
+    fn passes(&self, peer_last_tsn: u32, tsn: u32) -> bool
+        ensures { result ≡ is_passed self.now peer_last_tsn tsn }
     {
-        match self.tsns.get_last_tsn_received(point) {
-            Some(last) => tsn.wrapping_sub(point) < last.wrapping_sub(point),
+        match self.tsns.get_last_tsn_received(peer_last_tsn) {
+            Some(last) => tsn.wrapping_sub(peer_last_tsn) < last.wrapping_sub(peer_last_tsn),
             None => false,
         }
     }
 
-    /// Holds a new TSN, and answers the point once it moved over all that follow it one after another. Where memory is
-    /// refused all stays as it was; the TSN after the point takes none.
-    pub fn take(&mut self, point: u32, tsn: u32) -> Result<u32, AllocError>
-        requires { is_new self.now tsn point ≡ true }
-        ensures moved { IfOk result (λ moved. held_after self.old point tsn ≡ (moved, self.new)) }
+    /// Holds a new TSN, and answers the last TSN in order once it moved over all that follow it one after another.
+    /// Where memory is refused all stays as it was; the TSN after the last TSN in order takes none.
+    pub fn take(&mut self, peer_last_tsn: u32, tsn: u32) -> Result<u32, AllocError>
+        requires { is_new self.now tsn peer_last_tsn ≡ true }
+        ensures moved { IfOk result (λ moved. held_after self.old peer_last_tsn tsn ≡ (moved, self.new)) }
         ensures stops { IfOk result (λ moved. is_held (tsn_after moved) self.new ≡ false) }
         ensures unchanged { OnErr result (self.new ≡ self.old) }
-        ensures next { tsn ≡ tsn_after point → IsOk result }
+        ensures next { tsn ≡ tsn_after peer_last_tsn → IsOk result }
     {
-        if tsn != point.wrapping_add(1) {
-            self.tsns.push(tsn, point)?;
-            return Ok(self.tsns.advance(point));
+        if tsn != peer_last_tsn.wrapping_add(1) {
+            self.tsns.push(tsn, peer_last_tsn)?;
+            return Ok(self.tsns.advance(peer_last_tsn));
         }
         if self.tsns.is_empty() {
             return Ok(tsn);
@@ -92,7 +92,7 @@ impl Held {
     }
 
     /// A FORWARD TSN passed over all up to this TSN, which lies ahead: nothing up to it is held any more. Answers the
-    /// point, which moves over all that follow it one after another (RFC 3758 section 3.6).
+    /// last TSN in order, which moves over all that follow it one after another (RFC 3758 section 3.6).
     pub fn pass_over(&mut self, tsn: u32) -> u32
         ensures { held_past self.old tsn ≡ (result, self.new) }
     {
@@ -100,18 +100,22 @@ impl Held {
         self.tsns.advance(tsn)
     }
 
-    /// The gap ack blocks of a SACK with this point: the maximal runs of what is held, by their first and last offset
-    /// from the point (RFC 4960 section 3.3.4). With nothing held they take no memory.
-    pub fn gap_ack_blocks(&self, alloc: Global, point: u32) -> Result<List<GapAckBlock>, AllocError>
-        ensures blocks { IfOk result (λ blocks. blocks ≡ gap_ack_blocks point self.now) }
+    /// The gap ack blocks of a SACK with this last TSN in order: the maximal runs of what is held, by their first and
+    /// last offset from the last TSN in order (RFC 4960 section 3.3.4). With nothing held they take no memory.
+    pub fn gap_ack_blocks(
+        &self,
+        alloc: Global,
+        peer_last_tsn: u32,
+    ) -> Result<List<GapAckBlock>, AllocError>
+        ensures blocks { IfOk result (λ blocks. blocks ≡ gap_ack_blocks peer_last_tsn self.now) }
         ensures exact { IfOk result (λ blocks. (o : ℕ) → 0 < o → o < 2 ^ 16
-            → is_named o blocks ≡ is_held_at point o self.now) }
+            → is_named o blocks ≡ is_held_at peer_last_tsn o self.now) }
         ensures maximal { IfOk result (λ blocks. AreRuns 1 blocks) }
         ensures none { self.now ≡ [] → IsOk result }
     {
         if self.tsns.is_empty() {
             return Ok(List::new(alloc));
         }
-        self.tsns.get_gap_ack_blocks(alloc, point)
+        self.tsns.get_gap_ack_blocks(alloc, peer_last_tsn)
     }
 }

@@ -61,7 +61,7 @@ impl Receiver {
         self.held.clear();
     }
 
-    /// Whether DATA with this TSN did not come yet: it is 1 to 65,535 past the point and not held.
+    /// Whether DATA with this TSN did not come yet: it is 1 to 65,535 past the last TSN in order and not held.
     pub fn is_new(&self, tsn: u32) -> bool
         ensures { result ≡ is_new_to self.now tsn }
     {
@@ -153,8 +153,9 @@ impl Receiver {
         buffer.saturating_sub(waiting) as u32
     }
 
-    /// The acknowledgement of what came up to the point and of what is held past it, by gap ack blocks (RFC 4960
-    /// section 3.3.4); none is due after it. Where memory is refused it stays due; with nothing held it takes none.
+    /// The acknowledgement of what came up to the last TSN in order and of what is held past it, by gap ack blocks (RFC
+    /// 4960 section 3.3.4); none is due after it. Where memory is refused it stays due; with nothing held it takes
+    /// none.
     pub fn sack(&mut self, alloc: Global, waiting: u64) -> Result<ChunkSelectiveAck, AllocError>
         ensures state { OnOk result (self.new ≡ acknowledged self.old) }
         ensures unchanged { OnErr result (self.new ≡ self.old) }

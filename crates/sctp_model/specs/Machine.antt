@@ -167,7 +167,8 @@ can_resend p o = nat_lt o (length p.places) && not (place_at p o).marker
 -- a message of which something was sent is abandoned whole; a tail that is still unsent gets one offset (RFC 3758
 -- section 3.5, A3)
 abbrev pub can_abandon : Sender → ℕ → ℕ → Bool
-can_abandon x s i = has_message x.plan s i && (x.begun s i && not (x.gone s i) && not (is_reliable (message_at x.plan s i).policy))
+can_abandon x s i = has_message x.plan s i
+    && (x.begun s i && not (x.gone s i) && not (is_reliable (message_at x.plan s i).policy))
 
 abbrev pub is_of : Place → ℕ → ℕ → Bool
 is_of y s i = (y.stream == s) && (y.message == i)

@@ -17,7 +17,8 @@ use Rattle.sctp_streams.specs.Streams.{StreamMap}
 use Rattle.sctp_parts.specs.Estimate.{Estimate, measured}
 use Rattle.sctp_outbound.specs.declared.sender.Sender.{Sender}
 use Rattle.sctp_outbound.specs.Sender.{streams_after}
-use Rattle.sctp_outbound.specs.GapAcks.{acked_among, block_trips, is_named_by, released_among, round_trips, timed, trip_of, trips_from}
+use Rattle.sctp_outbound.specs.GapAcks.{acked_among, block_trips, is_named_by, released_among, round_trips, timed}
+use Rattle.sctp_outbound.specs.GapAcks.{trip_of, trips_from}
 use Rattle.sctp_outbound.specs.Progress.{greatest_of, if_new, last_new}
 use Rattle.sctp_outbound.specs.GapAcks.{blocks_timed, with_blocks, with_measure}
 use Rattle.sctp_outbound.proofs.SenderSteps.{none_past}
@@ -204,14 +205,14 @@ new_again a b k (x ∷ xs) =
 -- The sender and the streams
 
 -- of the pieces in flight those are acknowledged, and their bytes released, whose numbers are named
-pub record Acknowledges (named : ℕ → Bool) (s s2 : Sender) (m m2 : StreamMap) (last : Option ℕ) : Type 0 where
+pub record AcknowledgesNamed (named : ℕ → Bool) (s s2 : Sender) (m m2 : StreamMap) (last : Option ℕ) : Type 0 where
   pub pieces : s2 ≡ with_measure s (acked_among named 0 s.queue.in_flight) s2.min_tsn2measure_rtt
   pub released : m2 ≡ released_among named 0 s.queue.in_flight m
   pub newest : last ≡ last_new named 0 s.queue.in_flight
 
 -- where none in flight is named, nothing changes
 pub acknowledges_none : (named : ℕ → Bool) (s : Sender) (m : StreamMap)
-    → ((j : ℕ) → j < length s.queue.in_flight → named j ≡ false) → Acknowledges named s s m m None
+    → ((j : ℕ) → j < length s.queue.in_flight → named j ≡ false) → AcknowledgesNamed named s s m m None
 acknowledges_none named s m h = record {
   pieces =
       ap (λ z. with_measure s z s.min_tsn2measure_rtt)
@@ -222,8 +223,8 @@ acknowledges_none named s m h = record {
 
 -- the same in flight are named
 pub acknowledges_same : {a : ℕ → Bool} {s s2 : Sender} {m m2 : StreamMap} {last : Option ℕ} (named : ℕ → Bool)
-    → Acknowledges a s s2 m m2 last → ((j : ℕ) → j < length s.queue.in_flight → a j ≡ named j)
-    → Acknowledges named s s2 m m2 last
+    → AcknowledgesNamed a s s2 m m2 last → ((j : ℕ) → j < length s.queue.in_flight → a j ≡ named j)
+    → AcknowledgesNamed named s s2 m m2 last
 acknowledges_same {a = a} {s = s} {s2 = s2} {m = m} named all h = record {
   pieces =
       all.pieces
@@ -236,9 +237,9 @@ acknowledges_same {a = a} {s = s} {s2 = s2} {m = m} named all h = record {
 -- some are named, and then others
 pub acknowledges_both : {a b : ℕ → Bool} {s s2 s3 : Sender} {m m2 m3 : StreamMap} {k l : Option ℕ}
     (named : ℕ → Bool)
-    → Acknowledges a s s2 m m2 k → Acknowledges b s2 s3 m2 m3 l
+    → AcknowledgesNamed a s s2 m m2 k → AcknowledgesNamed b s2 s3 m2 m3 l
     → ((j : ℕ) → j < length s.queue.in_flight → (a j || b j) ≡ named j)
-    → Acknowledges named s s3 m m3 (greatest_of k l)
+    → AcknowledgesNamed named s s3 m m3 (greatest_of k l)
 acknowledges_both {a = a} {b = b} {s = s} {s3 = s3} {m = m} {m2 = m2} {k = k} {l = l} named first second h =
     let xs = s.queue.in_flight in
     acknowledges_same named
@@ -260,12 +261,13 @@ acknowledges_both {a = a} {b = b} {s = s} {s3 = s3} {m = m} {m2 = m2} {k = k} {l
     })
     h
 
--- the piece at a place is marked, and its bytes are released
+-- the piece at an index is marked, and its bytes are released
 pub acknowledges_one : (s : Sender) (q : Outbound) (m : StreamMap) (bytes i tsn first : ℕ) (p : InFlight)
     → slice_get s.queue.in_flight i ≡ Some p
     → s.queue.first_tsn < 2 ^ 32 → i < 65536 → tsn ≡ (s.queue.first_tsn + i) % 2 ^ 32
     → acked_at s.queue tsn ≡ (q, bytes)
-    → Acknowledges (λ j. eqb j i) s (record s { queue = q; min_tsn2measure_rtt = first }) m (streams_after (Some p) m)
+    → AcknowledgesNamed (λ j. eqb j i) s (record s { queue = q; min_tsn2measure_rtt = first }) m
+    (streams_after (Some p) m)
     (if_new true i p)
 acknowledges_one s q m bytes i tsn first p here small near e marked =
     let place : tsn_past s.queue.first_tsn tsn ≡ i = omega arith in
@@ -284,16 +286,16 @@ acknowledges_one s q m bytes i tsn first p here small near e marked =
       newest = sym (one_new i i 0 s.queue.in_flight p (omega arith) here);
     }
 
--- no piece is at the place
+-- no piece is at the index
 pub acknowledges_past : (s : Sender) (m : StreamMap) (i : ℕ) → slice_get s.queue.in_flight i ≡ None
-    → Acknowledges (λ j. eqb j i) s s m m None
+    → AcknowledgesNamed (λ j. eqb j i) s s m m None
 acknowledges_past s m i none =
     let past = none_past s.queue.in_flight i none in
     acknowledges_none (λ j. eqb j i) s m (λ j l. ne_eqb j i (λ (f : j ≡ i). omega arith))
 
 -- and where their round trips were measured besides, that is all that the blocks do
 pub all_taken : (now : ℕ) (blocks : List GapAckBlock) (s s2 : Sender) (e e2 : Estimate) (m m2 : StreamMap)
-    → {last : Option ℕ} → Acknowledges (λ j. is_named (j + 1) blocks) s s2 m m2 last
+    → {last : Option ℕ} → AcknowledgesNamed (λ j. is_named (j + 1) blocks) s s2 m m2 last
     → (s2.min_tsn2measure_rtt, e2) ≡ blocks_timed now blocks s e
     → with_blocks now blocks (s, e, m) ≡ (s2, e2, m2)
 all_taken now blocks s s2 e e2 m m2 all measured =

@@ -1,6 +1,7 @@
 -- Messages are given up one after another.
 use Rattle.std.proofs.Common.{◌≡◌, ℕ, zero, suc, ◌+◌, ◌-◌, ◌<◌, ◌≤◌, Bool, true, false, is_some, nat_lt, List, [], ◌∷◌}
-use Rattle.std.proofs.Common.{Option, Some, None, length, drop, slice_get, refl, ap, sym, ◌∙◌, ⊎_elim, arith, ◌||◌, ◌&&◌, not}
+use Rattle.std.proofs.Common.{Option, Some, None, length, drop, slice_get, refl, ap, sym, ◌∙◌, ⊎_elim, arith, ◌||◌}
+use Rattle.std.proofs.Common.{◌&&◌, not}
 use Rattle.std.specs.List.{list_any}
 use Rattle.std.proofs.lemmas.Bool.{cases_Bool, lt-ltb, ltb-true, true≢false}
 use Rattle.std.proofs.lemmas.List.{drop_all}
@@ -16,8 +17,10 @@ use Rattle.sctp_outbound.specs.declared.abandonment.Reason.TheVariants as reason
 use Rattle.sctp_outbound.specs.declared.abandonment.Reached.{Reached}
 use Rattle.sctp_outbound.specs.declared.abandonment.Reached.TheVariants as reached
 use Rattle.sctp_outbound.specs.declared.sender.Sender.{Sender}
-use Rattle.sctp_outbound.specs.Abandonment.{abandoned_if, all_given_up, given_up_first, is_late, is_pass_due, next_given_up, pass_room}
-use Rattle.sctp_outbound.specs.Abandonment.{asked_past, has_late_tail, reached_at, spent_from, spent_place, tail_given_up}
+use Rattle.sctp_outbound.specs.Abandonment.{abandoned_if, all_given_up, given_up_first, is_late, is_pass_due}
+use Rattle.sctp_outbound.specs.Abandonment.{next_given_up, pass_room}
+use Rattle.sctp_outbound.specs.Abandonment.{asked_past, has_late_tail, reached_at, spent_from, spent_place}
+use Rattle.sctp_outbound.specs.Abandonment.{tail_given_up}
 use Rattle.sctp_outbound.proofs.SenderSteps.{drop_get}
 
 -- so many messages were abandoned, and those that are given up then are the others of all

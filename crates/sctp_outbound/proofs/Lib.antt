@@ -4,7 +4,7 @@ pub mod GapAcks
 pub mod MarkedPieces
 pub mod MissingPieces
 pub mod NewPieces
-pub mod Offsets
+pub mod BlockOffsets
 pub mod GivenUp
 pub mod ForwardMade
 pub mod Unlimited

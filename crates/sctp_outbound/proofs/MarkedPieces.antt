@@ -39,7 +39,7 @@ none_behind zero ps none = none
 none_behind (suc i) [] none = refl
 none_behind (suc i) (p ∷ ps) none = none_behind i ps (none_of p ps none).1
 
--- nothing more is resent from a place on
+-- nothing more is resent from an index on
 pub stops : (k : Retransmission) (s : Sender) (i left : ℕ) (given : List ChunkPayloadData) → none_left k s ≡ true
     → Stopped k s s i left given given
 stops causes.Timer s i left given known =

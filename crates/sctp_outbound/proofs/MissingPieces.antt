@@ -11,25 +11,27 @@ use Rattle.sctp_outbound.specs.declared.sender.Sender.{Sender}
 use Rattle.sctp_outbound.specs.Progress.{last_new}
 use Rattle.sctp_outbound.specs.GapAcks.{acked_among, with_blocks}
 use Rattle.sctp_outbound.specs.Recovery.{in_front_of, missing_of, past_recovery}
-use Rattle.sctp_outbound.specs.Sacks.{all_acknowledged, before_point, grown_by, newest_of, reported_by, reports_of}
+use Rattle.sctp_outbound.specs.Sacks.{all_acknowledged, before_acknowledging, grown_by, newest_of, reported_by}
+use Rattle.sctp_outbound.specs.Sacks.{reports_of}
 use Rattle.sctp_outbound.specs.Sacks.{sack_taken}
 use Rattle.sctp_outbound.specs.Sender.{acknowledged, after_first, sender_after, sender_after_first, tsns_up_to}
 use Rattle.sctp_outbound.specs.Sender.{with_in_flight}
 use Rattle.sctp_outbound.proofs.NewPieces.{left_behind}
 
--- all that a SACK does, where it acknowledges so many, so many bytes were outstanding, and this is the last place that
+-- all that a SACK does, where it acknowledges so many, so many bytes were outstanding, and this is the last index that
 -- its blocks newly acknowledge
 abbrev pub done_by : ℕ → ℕ → Option ℕ → List GapAckBlock → ℕ → ℕ → Sender → Estimate → StreamMap
     → Sender × Estimate × StreamMap
 done_by n before last blocks window now s e m =
     reported_by (nat_lt 0 n) last (grown_by (nat_lt 0 n) before (all_acknowledged n blocks window now s e m))
 
-pub counts_with : (s : Sender) (point : ℕ) (blocks : List GapAckBlock) (window now : ℕ) (e : Estimate) (m : StreamMap)
+pub counts_with : (s : Sender) (cumulative_tsn_ack : ℕ) (blocks : List GapAckBlock) (window now : ℕ) (e : Estimate)
+    (m : StreamMap)
     (n before : ℕ) (last : Option ℕ) (left : List InFlight)
-    → n ≡ tsns_up_to s point → before ≡ outstanding_of s.queue.in_flight
+    → n ≡ tsns_up_to s cumulative_tsn_ack → before ≡ outstanding_of s.queue.in_flight
     → last ≡ last_new (λ j. is_named (j + 1) blocks) 0 left → left ≡ drop n s.queue.in_flight
-    → sack_taken point blocks window now s e m ≡ done_by n before last blocks window now s e m
-counts_with s point blocks window now e m n before last left count bytes newest behind =
+    → sack_taken cumulative_tsn_ack blocks window now s e m ≡ done_by n before last blocks window now s e m
+counts_with s cumulative_tsn_ack blocks window now e m n before last left count bytes newest behind =
     ap (λ k. done_by k (outstanding_of s.queue.in_flight)
     (last_new (λ j. is_named (j + 1) blocks) 0 (drop k s.queue.in_flight)) blocks window now s e m) (sym count)
     ∙ ap (λ b. done_by n b (last_new (λ j. is_named (j + 1) blocks) 0 (drop n s.queue.in_flight)) blocks window now s e
@@ -37,7 +39,7 @@ counts_with s point blocks window now e m n before last left count bytes newest 
     ∙ ap (λ l. done_by n before l blocks window now s e m)
     (ap (last_new (λ j. is_named (j + 1) blocks) 0) (sym behind) ∙ sym newest)
 
--- What a SACK reports missing is decided by what its point leaves in flight.
+-- What a SACK reports missing is decided by what its cumulative TSN ack leaves in flight.
 
 same_missing : (moved : Bool) (last : Option ℕ) (s t : Sender) → s.recovery_exit ≡ t.recovery_exit
     → length s.queue.in_flight ≡ length t.queue.in_flight → missing_of moved last s ≡ missing_of moved last t
@@ -68,16 +70,18 @@ blocks_length : (now : ℕ) (blocks : List GapAckBlock) (x : Sender × Estimate 
     → length (with_blocks now blocks x).0.queue.in_flight ≡ length x.0.queue.in_flight
 blocks_length now blocks (s, e, m) = acked_length (λ j. is_named (j + 1) blocks) 0 s.queue.in_flight
 
-pub reports_are : (s : Sender) (point : ℕ) (blocks : List GapAckBlock) (window now : ℕ) (e : Estimate) (m : StreamMap)
-    (n before : ℕ) → n ≡ tsns_up_to s point
-    → missing_of (nat_lt 0 n) (newest_of s point blocks)
+pub reports_are : (s : Sender) (cumulative_tsn_ack : ℕ) (blocks : List GapAckBlock) (window now : ℕ) (e : Estimate)
+    (m : StreamMap)
+    (n before : ℕ) → n ≡ tsns_up_to s cumulative_tsn_ack
+    → missing_of (nat_lt 0 n) (newest_of s cumulative_tsn_ack blocks)
     (grown_by (nat_lt 0 n) before (all_acknowledged n blocks window now s e m)).0
-    ≡ reports_of s point blocks
-reports_are s point blocks window now e m n before count =
-    let x = acknowledged n now (before_point n window s, e, m) in
-    same_missing (nat_lt 0 n) (newest_of s point blocks) (grown_by (nat_lt 0 n) before (with_blocks now blocks x)).0
+    ≡ reports_of s cumulative_tsn_ack blocks
+reports_are s cumulative_tsn_ack blocks window now e m n before count =
+    let x = acknowledged n now (before_acknowledging n window s, e, m) in
+    same_missing (nat_lt 0 n) (newest_of s cumulative_tsn_ack blocks)
+    (grown_by (nat_lt 0 n) before (with_blocks now blocks x)).0
     (with_in_flight (past_recovery n s) (drop n s.queue.in_flight))
-    (blocks_exit now blocks x ∙ exit_stays n now (before_point n window s) e m)
-    (blocks_length now blocks x ∙ ap length (left_behind n now (before_point n window s) e m))
-    ∙ ap (λ k. missing_of (nat_lt 0 k) (newest_of s point blocks)
+    (blocks_exit now blocks x ∙ exit_stays n now (before_acknowledging n window s) e m)
+    (blocks_length now blocks x ∙ ap length (left_behind n now (before_acknowledging n window s) e m))
+    ∙ ap (λ k. missing_of (nat_lt 0 k) (newest_of s cumulative_tsn_ack blocks)
     (with_in_flight (past_recovery k s) (drop k s.queue.in_flight))) count

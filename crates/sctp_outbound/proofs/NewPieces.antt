@@ -66,13 +66,13 @@ left_behind (suc n) now s e m =
     more n = omega arith
 
 -- what the parts of a SACK acknowledge together
-pub progress_is : (s : Sender) (point n : ℕ) (blocks : List GapAckBlock) (a b : Bool) (l : Option ℕ)
+pub progress_is : (s : Sender) (cumulative_tsn_ack n : ℕ) (blocks : List GapAckBlock) (a b : Bool) (l : Option ℕ)
     (left : List InFlight)
-    → n ≡ tsns_up_to s point → a ≡ any_new_up_to n s.queue.in_flight
+    → n ≡ tsns_up_to s cumulative_tsn_ack → a ≡ any_new_up_to n s.queue.in_flight
     → l ≡ last_new (λ j. is_named (j + 1) blocks) 0 left → left ≡ drop n s.queue.in_flight
     → b ≡ acknowledges_at n blocks (position is_outstanding s.queue.in_flight)
-    → record { any_new = a || is_some l; earliest = b } ≡ progress_of s point blocks
-progress_is s point n blocks a b l left count any last behind earliest =
+    → record { any_new = a || is_some l; earliest = b } ≡ progress_of s cumulative_tsn_ack blocks
+progress_is s cumulative_tsn_ack n blocks a b l left count any last behind earliest =
     ap (λ z. record { any_new = z || is_some l; earliest = b }) any
     ∙ ap (λ z. record { any_new = any_new_up_to n s.queue.in_flight || is_some z; earliest = b })
     (last ∙ ap (last_new (λ j. is_named (j + 1) blocks) 0) behind)

@@ -1,6 +1,8 @@
 -- Once all that is given up for a reason is abandoned, nothing is given up for it.
-use Rattle.std.proofs.Common.{◌≡◌, ℕ, zero, suc, ◌+◌, ◌-◌, ◌<◌, ◌≤◌, ◌%◌, ◌^◌, Bool, true, false, ◌&&◌, ◌||◌, not, is_some}
-use Rattle.std.proofs.Common.{nat_lt, eqb, List, [], ◌∷◌, ◌++◌, map, Option, Some, None, length, position, slice_get, get_or}
+use Rattle.std.proofs.Common.{◌≡◌, ℕ, zero, suc, ◌+◌, ◌-◌, ◌<◌, ◌≤◌, ◌%◌, ◌^◌, Bool, true, false, ◌&&◌, ◌||◌, not}
+use Rattle.std.proofs.Common.{is_some}
+use Rattle.std.proofs.Common.{nat_lt, eqb, List, [], ◌∷◌, ◌++◌, map, Option, Some, None, length, position, slice_get}
+use Rattle.std.proofs.Common.{get_or}
 use Rattle.std.proofs.Common.{cond, eq-eqb, refl, ap, sym, subst, ◌∙◌, ⊎_elim, arith}
 use Rattle.std.proofs.lemmas.Bool.{cases_Bool, and_parts, eqb-true, false≢true, true≢false}
 use Rattle.std.proofs.lemmas.List.{length-append, length-map, map-append}
@@ -23,7 +25,8 @@ use Rattle.sctp_streams.specs.Streams.{StreamMap}
 use Rattle.sctp_outbound.specs.declared.abandonment.Reason.{Reason}
 use Rattle.sctp_outbound.specs.declared.abandonment.Reason.TheVariants as reasons
 use Rattle.sctp_outbound.specs.declared.sender.Sender.{Sender}
-use Rattle.sctp_outbound.specs.Abandonment.{abandoned_if, abandoned_of, first_spent, given_up_first, is_pass_due, is_spent}
+use Rattle.sctp_outbound.specs.Abandonment.{abandoned_if, abandoned_of, first_spent, given_up_first, is_pass_due}
+use Rattle.sctp_outbound.specs.Abandonment.{is_spent}
 use Rattle.sctp_outbound.specs.Abandonment.{next_given_up, pass_room, spent_place}
 use Rattle.sctp_outbound.specs.Laws.{NoneIsLeft}
 use Rattle.sctp_outbound.proofs.GivenUp.{none_given_up}
@@ -98,7 +101,7 @@ picked_active causes.Fast p e =
         (λ (a : is_outstanding p ≡ false). absurd (false≢true (rw a at e)))
         (cases_Bool (is_outstanding p))
 
--- a place so far past another, with an active piece
+-- an index so far past another, with an active piece
 record Comes (j : ℕ) (ps : List InFlight) (i : ℕ) : Type 0 where
   past : ℕ
   piece : InFlight
@@ -264,7 +267,8 @@ dropped_fewer (m ∷ ms) q id i p there own active =
     (λ (a : eqb m.message.message_id id ≡ false). rw a (flagged_fewer q _ id i p there own active refl refl))
     (cases_Bool (eqb m.message.message_id id))
 
-piece_fewer : (o : Option InFlight) (q : Outbound) (i : ℕ) (p : InFlight) → o ≡ Some p → slice_get q.in_flight i ≡ Some p
+piece_fewer : (o : Option InFlight) (q : Outbound) (i : ℕ) (p : InFlight) → o ≡ Some p
+    → slice_get q.in_flight i ≡ Some p
     → is_active p ≡ true → Fewer q (abandoned_from o q).0
 piece_fewer o q i p e there active =
     rw e
@@ -275,7 +279,8 @@ abandoned_fewer : (s : Sender) (tsn : ℕ) → s.queue.first_tsn < 2 ^ 32 → le
     → Gives s tsn → Fewer s.queue (abandoned_at s.queue tsn).0
 abandoned_fewer s tsn first long g =
     let within = slice_get_within s.queue.in_flight g.place g.piece g.there in
-    let at : tsn_past s.queue.first_tsn (tsn_at s.queue.first_tsn g.place) ≡ g.place = omega (arith, within, first, long) in
+    let at : tsn_past s.queue.first_tsn (tsn_at s.queue.first_tsn g.place)
+    ≡ g.place = omega (arith, within, first, long) in
     let here = ap (λ z. slice_get s.queue.in_flight (tsn_past s.queue.first_tsn z)) g.named
     ∙ ap (slice_get s.queue.in_flight) at ∙ g.there in
     piece_fewer (piece_at s.queue tsn) s.queue g.place g.piece here g.there g.active

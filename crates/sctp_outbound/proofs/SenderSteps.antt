@@ -21,7 +21,8 @@ use Rattle.sctp_outbound.specs.declared.sender.Attempt.{Attempt}
 use Rattle.sctp_outbound.specs.declared.sender.Attempt.TheVariants as attempts
 use Rattle.sctp_outbound.specs.declared.sender.Sender.{Sender}
 use Rattle.sctp_outbound.specs.Sender.{after_first, after_resending, acknowledged, with_in_flight, resent_pieces}
-use Rattle.sctp_outbound.specs.Sender.{after_marked, chunks_tried, marked_by, missing_by, resent_chunks, tried_again, chunk_of, fits_windows, can_send_next, gives_data}
+use Rattle.sctp_outbound.specs.Sender.{after_marked, chunks_tried, marked_by, missing_by, resent_chunks, tried_again}
+use Rattle.sctp_outbound.specs.Sender.{chunk_of, fits_windows, can_send_next, gives_data}
 use Rattle.sctp_outbound.specs.Sender.{goes_again, resends, sends_new, sent_one, sent_within}
 
 pub acknowledge_more : (n i now : ℕ) (all : Sender × Estimate × StreamMap) → i < n
@@ -137,7 +138,8 @@ drop_get xs i p e =
     let same = get_or_from_slice_get xs i p p e in
     rw (drop_more xs i p (slice_get_within xs i p e), same)
 
-pub take_get : (xs : List InFlight) (i : ℕ) (p : InFlight) → slice_get xs i ≡ Some p → take (i + 1) xs ≡ take i xs ++ p ∷ []
+pub take_get : (xs : List InFlight) (i : ℕ) (p : InFlight) → slice_get xs i ≡ Some p
+    → take (i + 1) xs ≡ take i xs ++ p ∷ []
 take_get xs i p e =
     let same = get_or_from_slice_get xs i p p e in
     rw (take_more xs i p (slice_get_within xs i p e), same)
@@ -191,8 +193,9 @@ tried_sent : (k : Retransmission) (p : InFlight) (s : Sender) (index left : ℕ)
     × (chunks_tried k (Some p) s index left ≡ chunk_of p (tsn_at s.queue.first_tsn index) ∷ [])
 tried_sent k p s index left marked fits = (rw (marked, fits) refl, rw (marked, fits) refl)
 
--- once the piece at a place is dealt with, the rest is resent as it was to be before
-pub record Stepped (k : Retransmission) (s s2 : Sender) (index left left2 : ℕ) (out out2 : List ChunkPayloadData) : Type 0 where
+-- once the piece at an index is dealt with, the rest is resent as it was to be before
+pub record Stepped (k : Retransmission) (s s2 : Sender) (index left left2 : ℕ)
+    (out out2 : List ChunkPayloadData) : Type 0 where
   pub count : length s2.queue.in_flight ≡ length s.queue.in_flight
   pub grown : length out ≤ length out2
   pub rest : s2 ≡ with_in_flight s s2.queue.in_flight
@@ -211,7 +214,8 @@ skipped k p s index left out here unmarked =
       grown = omega arith;
       rest = refl;
       pieces =
-          one_more (take index xs) (take (index + 1) xs) (resent_pieces k left (drop index xs)) (resent_pieces k left ds) p
+          one_more (take index xs) (take (index + 1) xs) (resent_pieces k left (drop index xs))
+          (resent_pieces k left ds) p
           (take_get xs index p here)
           (ap (resent_pieces k left) (drop_get xs index p here) ∙ pieces_skip k p ds left unmarked);
       chunks =
@@ -240,7 +244,8 @@ sent_again_at k p s index left out here marked fits =
       pieces =
           one_more (take index xs) (take (index + 1) ys) (resent_pieces k left (drop index xs))
           (resent_pieces k left2 (drop (index + 1) ys)) q (take_more_set xs index q below) (
-          ap (resent_pieces k left) (drop_get xs index p here) ∙ pieces_sent k p (drop (index + 1) xs) left marked fits ∙
+          ap (resent_pieces k left) (drop_get xs index p here) ∙ pieces_sent k p (drop (index + 1) xs) left marked fits
+          ∙
           ap (λ z. q ∷ resent_pieces k left2 z) (sym same)
           );
       chunks =
@@ -257,14 +262,16 @@ none_past [] i e = omega arith
 none_past (x ∷ xs) zero e = absurd (cc)
 none_past (x ∷ xs) (suc i) e = let below = none_past xs i e in omega arith
 
--- nothing more is resent from a place on
-pub record Stopped (k : Retransmission) (s s2 : Sender) (index left : ℕ) (out out2 : List ChunkPayloadData) : Type 0 where
+-- nothing more is resent from an index on
+pub record Stopped (k : Retransmission) (s s2 : Sender) (index left : ℕ)
+    (out out2 : List ChunkPayloadData) : Type 0 where
   pub sender : s2 ≡ s
   pub sent : out2 ≡ out
   pub pieces : resent_pieces k left (drop index s.queue.in_flight) ≡ drop index s.queue.in_flight
   pub chunks : resent_chunks k s.queue.first_tsn index left (drop index s.queue.in_flight) ≡ []
 
-past_end : (k : Retransmission) (s : Sender) (index left : ℕ) (out : List ChunkPayloadData) → length s.queue.in_flight ≤ index
+past_end : (k : Retransmission) (s : Sender) (index left : ℕ) (out : List ChunkPayloadData)
+    → length s.queue.in_flight ≤ index
     → Stopped k s s index left out out
 past_end k s index left out past =
     let none : drop index s.queue.in_flight ≡ [] = drop_all index s.queue.in_flight past in
@@ -292,7 +299,7 @@ does_not_fit k p s index left out here marked full =
           chunks_full k p ds s.queue.first_tsn index left marked full;
     }
 
--- what became of a piece at a place, with the chunks given before it and with it
+-- what became of a piece at an index, with the chunks given before it and with it
 abbrev Became : Retransmission → Sender → Sender → ℕ → ℕ → List ChunkPayloadData → List ChunkPayloadData → Attempt
     → Type 0
 Became k s s2 index left out more attempts.Passed = Stepped k s s2 index left left out more × (more ≡ out)
@@ -324,7 +331,7 @@ became k (Some p) s index left out here =
     rw (e.0, e.1, append-nil out) (skipped k p s index left out here unmarked, refl)
     ) (cases_Bool (picks k p))
 
--- before a place the pieces are as they will stay; with what is resent of the rest they are what the whole was to
+-- before an index the pieces are as they will stay; with what is resent of the rest they are what the whole was to
 -- become; so many chunks were given, and are written
 pub record ResendsOn (k : Retransmission) (s0 s : Sender) (i end room left sent : ℕ) (out0 out : DataWritten) : Type 0
   where
@@ -339,8 +346,9 @@ pub record ResendsOn (k : Retransmission) (s0 s : Sender) (i end room left sent 
         ≡ resent_chunks k s0.queue.first_tsn 0 room s0.queue.in_flight
     pub written : out ≡ with_all out0 given
 
--- a piece that is to be sent again is the first of what is resent from its place on
-goes_first : (k : Retransmission) (o : Option InFlight) (s : Sender) (index left : ℕ) → slice_get s.queue.in_flight index ≡ o
+-- a piece that is to be sent again is the first of what is resent from its index on
+goes_first : (k : Retransmission) (o : Option InFlight) (s : Sender) (index left : ℕ)
+    → slice_get s.queue.in_flight index ≡ o
     → goes_again k o left ≡ true
     → 0 < length (resent_chunks k s.queue.first_tsn index left (drop index s.queue.in_flight))
 goes_first k None s index left here again = absurd (false_from_true again)
@@ -353,7 +361,7 @@ goes_first k (Some p) s index left here again =
 
 module _ {k : Retransmission} {s0 s : Sender} {i end room left sent : ℕ} {out0 out : DataWritten}
     (inv : ResendsOn k s0 s i end room left sent out0 out) where
-  -- with the piece at the place dealt with
+  -- with the piece at the index dealt with
   stepped_on : {s2 : Sender} {left2 : ℕ} {more : List ChunkPayloadData} (sent2 : ℕ) (out2 : DataWritten)
       → Stepped k s s2 i left left2 inv.given more → sent2 ≡ length more → length more ≤ i + 1
       → out2 ≡ with_all out0 more → ResendsOn k s0 s2 (i + 1) end room left2 sent2 out0 out2
@@ -375,7 +383,8 @@ module _ {k : Retransmission} {s0 s : Sender} {i end room left sent : ℕ} {out0
       e ∙ ap (λ (w : DataWritten). with_all w (chunks_tried k (slice_get s.queue.in_flight i) s i left)) inv.written
       ∙ sym (all_after out0 inv.given (chunks_tried k (slice_get s.queue.in_flight i) s i left))
 
-  of_attempt : {s2 : Sender} {attempt : Attempt} → tried_again k (slice_get s.queue.in_flight i) s i left ≡ (s2, attempt)
+  of_attempt : {s2 : Sender} {attempt : Attempt}
+      → tried_again k (slice_get s.queue.in_flight i) s i left ≡ (s2, attempt)
       → Became k s s2 i left inv.given (inv.given ++ chunks_tried k (slice_get s.queue.in_flight i) s i left) attempt
   of_attempt e =
       subst (λ (z : Sender × Attempt). Became k s z.0 i left inv.given
@@ -404,7 +413,7 @@ module _ {k : Retransmission} {s0 s : Sender} {i end room left sent : ℕ} {out0
       → Stopped k s s2 i left inv.given (inv.given ++ chunks_tried k (slice_get s.queue.in_flight i) s i left)
   stopped e = of_attempt e
 
-  -- with nothing more resent from the place on
+  -- with nothing more resent from the index on
 
   pub ends_sender : {s2 : Sender} {more : List ChunkPayloadData} → Stopped k s s2 i left inv.given more
       → s2 ≡ with_in_flight s0 (resent_pieces k room s0.queue.in_flight)

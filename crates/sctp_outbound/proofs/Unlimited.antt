@@ -7,7 +7,8 @@ use Rattle.std.specs.Option.{option_map}
 use Rattle.sctp_outbound_queue.specs.declared.message.Attributes.{Attributes}
 use Rattle.sctp_outbound_queue.specs.declared.message.InFlight.{InFlight}
 use Rattle.sctp_outbound_queue.specs.declared.message.Retransmission.{Retransmission}
-use Rattle.sctp_outbound_queue.specs.Message.{deadline_under, is_expired_piece, is_past, picks, room_taken, sent_started}
+use Rattle.sctp_outbound_queue.specs.Message.{deadline_under, is_expired_piece, is_past, picks, room_taken}
+use Rattle.sctp_outbound_queue.specs.Message.{sent_started}
 use Rattle.sctp_outbound_queue.specs.Message.{started, waiting_started}
 use Rattle.sctp_outbound_queue.specs.Outbound.{Outbound, tsn_at}
 use Rattle.sctp_outbound_queue.specs.Expiry.{all_started, first_tsn_that}
@@ -17,7 +18,8 @@ use Rattle.sctp_outbound.specs.declared.abandonment.Reason.TheVariants as reason
 use Rattle.sctp_outbound.specs.declared.sender.Sender.{Sender}
 use Rattle.sctp_outbound.specs.Abandonment.{all_given_up, allows_no_more, expired_by, expires, first_spent}
 use Rattle.sctp_outbound.specs.Abandonment.{given_up_before, gives_up_before, has_late_tail, is_late, is_pass_due}
-use Rattle.sctp_outbound.specs.Abandonment.{is_spent, late_given_up, next_given_up, pass_room, spent_place, tail_given_up}
+use Rattle.sctp_outbound.specs.Abandonment.{is_spent, late_given_up, next_given_up, pass_room, spent_place}
+use Rattle.sctp_outbound.specs.Abandonment.{tail_given_up}
 use Rattle.sctp_outbound.specs.Abandonment.{with_started}
 use Rattle.sctp_outbound.specs.Laws.{HasNoLimit, IsUnlimited, UnlimitedStay}
 use Rattle.sctp_outbound.proofs.GivenUp.{lt_same, no_late_tail, none_given_up, tail_stays}
@@ -111,7 +113,8 @@ waiting_same now (m ∷ ms) all =
 
 all_same : (now : ℕ) (q : Outbound) → HasNoLimit q → all_started now q ≡ q
 all_same now q all =
-    ap (λ z. record q { pending = z; in_flight = map (sent_started now) q.in_flight }) (waiting_same now q.pending all.0)
+    ap (λ z. record q { pending = z; in_flight = map (sent_started now) q.in_flight })
+    (waiting_same now q.pending all.0)
     ∙ ap (λ z. record q { in_flight = z }) (sent_same now q.in_flight all.1)
 
 sender_same : (now : ℕ) (s : Sender) → HasNoLimit s.queue → with_started now s ≡ s

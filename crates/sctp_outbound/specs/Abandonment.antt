@@ -66,8 +66,8 @@ spent_from (reached.On room) index others = others room
 spent_from reached.Spent index others = Some index
 spent_from reached.Full index others = None
 
--- the first place at which the pass comes to a spent piece that it would send again. It is asked before the room, so the
--- piece at which the pass stops counts too
+-- the first index at which the pass comes to a spent piece that it would send again. It is asked before the room, so
+-- the piece at which the pass stops counts too
 abbrev pub spent_place : Retransmission → ℕ → ℕ → List InFlight → Option ℕ
 spent_place k index room [] = None
 spent_place k index room (p ∷ ps) =

@@ -1,5 +1,6 @@
 -- The FORWARD TSN that a sender makes (RFC 3758 sections 3.2 and 3.5).
-use Rattle.std.specs.Prelude.{ℕ, Bool, List, [], ◌∷◌, ◌+◌, ◌-◌, ◌%◌, ◌^◌, ◌&&◌, ◌||◌, if◌then◌else◌, map, take, slice_get}
+use Rattle.std.specs.Prelude.{ℕ, Bool, List, [], ◌∷◌, ◌+◌, ◌-◌, ◌%◌, ◌^◌, ◌&&◌, ◌||◌, if◌then◌else◌, map, take}
+use Rattle.std.specs.Prelude.{slice_get}
 use Rattle.std.specs.Prelude.{Option, Some, None, false}
 use Rattle.std.specs.List.{fold}
 use Rattle.std.specs.BTreeMap.{insert_entry}
@@ -38,8 +39,8 @@ abbrev pub skipped_over : List (ℕ × ℕ) → Option InFlight → List (ℕ ×
 skipped_over numbers None = numbers
 skipped_over numbers (Some p) = skipped_with numbers p.message
 
--- of the ordered ones among these pieces, in the order of their TSNs: for each stream, identifiers ascending, the SSN of
--- the last one
+-- of the ordered ones among these pieces, in the order of their TSNs: for each stream, identifiers ascending, the SSN
+-- of the last one
 abbrev pub skipped_numbers : List InFlight → List (ℕ × ℕ)
 skipped_numbers pieces = fold (λ numbers p. skipped_with numbers p.message) [] pieces
 

@@ -21,7 +21,7 @@ abbrev pub released_among : (ℕ → Bool) → ℕ → List InFlight → StreamM
 released_among named j [] m = m
 released_among named j (x ∷ xs) m = released_among named (suc j) xs (if named j then streams_after (Some x) m else m)
 
--- the block names the piece in flight of this number, counted from 0: its TSN is one more past the point
+-- the block names the piece in flight of this number, counted from 0: its TSN is one more past the cumulative TSN ack
 abbrev pub is_named_by : GapAckBlock → ℕ → Bool
 is_named_by b j = nat_le b.start (j + 1) && nat_le (j + 1) b.end
 
@@ -66,7 +66,7 @@ abbrev pub blocks_timed : ℕ → List GapAckBlock → Sender → Estimate → �
 blocks_timed now blocks s e =
     timed (next_tsn_of s.queue) (round_trips now blocks s.queue.in_flight) (s.min_tsn2measure_rtt, e)
 
--- sender, estimate and streams behind a SACK's point once its blocks were taken in
+-- sender, estimate and streams behind a SACK's cumulative TSN ack once its blocks were taken in
 abbrev pub with_blocks : ℕ → List GapAckBlock → Sender × Estimate × StreamMap → Sender × Estimate × StreamMap
 with_blocks now blocks (s, e, m) = (
   with_measure s (acked_among (λ j. is_named (j + 1) blocks) 0 s.queue.in_flight) (blocks_timed now blocks s e).0,

@@ -14,7 +14,8 @@ use Rattle.sctp_outbound.specs.declared.abandonment.Reason.{Reason}
 use Rattle.sctp_outbound.specs.declared.sender.Sender.{Sender}
 use Rattle.sctp_outbound.specs.Sender.{after_marked, after_missing}
 use Rattle.sctp_outbound.specs.Abandonment.{all_given_up, next_given_up}
-use Rattle.sctp_outbound.specs.Abandonment.{expired_by, expires, first_spent, given_up_before, gives_up_before, is_spent}
+use Rattle.sctp_outbound.specs.Abandonment.{expired_by, expires, first_spent, given_up_before, gives_up_before}
+use Rattle.sctp_outbound.specs.Abandonment.{is_spent}
 
 -- a message is reliable, and no deadline of it runs
 abbrev pub IsUnlimited : Attributes → Type 0
@@ -47,8 +48,8 @@ SpentAreSpared = (s : Sender)
     → (first_spent causes.Timer s ≡ None → IsSparing causes.Timer s.queue.in_flight (after_marked s).queue.in_flight)
     × (first_spent causes.Fast s ≡ None → IsSparing causes.Fast s.queue.in_flight (after_missing s).queue.in_flight)
 
--- Once all that is given up for a reason is abandoned, nothing more is given up for it: no expired piece in flight stays
--- that is not abandoned, and no pass reaches a spent one.
+-- Once all that is given up for a reason is abandoned, nothing more is given up for it: no expired piece in flight
+-- stays that is not abandoned, and no pass reaches a spent one.
 abbrev pub NoneIsLeft : Type 0
 NoneIsLeft = (why : Reason) (s : Sender) (m : StreamMap) → s.queue.first_tsn < 2 ^ 32
     → length s.queue.in_flight ≤ 2 ^ 31 → next_given_up why (all_given_up why (s, m)).0 ≡ None

@@ -1,6 +1,6 @@
 pub mod Sender
 pub mod GapAcks
-pub mod Offsets
+pub mod BlockOffsets
 pub mod Congestion
 pub mod Progress
 pub mod Sacks

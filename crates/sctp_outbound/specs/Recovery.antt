@@ -53,6 +53,6 @@ abbrev pub due_again : Bool → Sender → Sender
 due_again moved s = record s { is_fast_due = s.is_fast_due || (moved && recovers s) }
 
 -- what a SACK reports missing, where it moved the cumulative TSN ack point or not and newly acknowledged at last the
--- piece at this place of those in flight
+-- piece at this index of those in flight
 abbrev pub misses_counted : Bool → Option ℕ → Sender → Sender
 misses_counted moved last s = due_again moved (with_reports (missing_of moved last s) s)

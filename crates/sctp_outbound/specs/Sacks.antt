@@ -1,5 +1,6 @@
 -- What a SACK does that is taken (RFC 4960 sections 6.2.1 and 7.2).
-use Rattle.std.specs.Prelude.{ℕ, ◌+◌, ◌-◌, ◌||◌, Bool, List, Option, drop, length, if◌then◌else◌, is_some, nat_lt, position}
+use Rattle.std.specs.Prelude.{ℕ, ◌+◌, ◌-◌, ◌||◌, Bool, List, Option, drop, length, if◌then◌else◌, is_some, nat_lt}
+use Rattle.std.specs.Prelude.{position}
 use Rattle.sctp_wire_types.specs.declared.chunk.GapAckBlock.{GapAckBlock}
 use Rattle.sctp_parts.specs.Estimate.{Estimate}
 use Rattle.sctp_streams.specs.Streams.{StreamMap}
@@ -16,8 +17,8 @@ use Rattle.sctp_outbound.specs.Sender.{acknowledged, tsns_up_to, with_in_flight,
 
 -- what a SACK acknowledges that was not acknowledged before
 abbrev pub progress_of : Sender → ℕ → List GapAckBlock → Progress
-progress_of s point blocks =
-    let count = tsns_up_to s point in
+progress_of s cumulative_tsn_ack blocks =
+    let count = tsns_up_to s cumulative_tsn_ack in
     let pieces = s.queue.in_flight in record {
       any_new = any_new_up_to count pieces || is_some (last_new (λ j. is_named (j + 1) blocks) 0 (drop count pieces));
       earliest = acknowledges_at count blocks (position is_outstanding pieces);
@@ -38,35 +39,38 @@ with_growth moved before s = record s {
 abbrev pub grown_by : Bool → ℕ → Sender × Estimate × StreamMap → Sender × Estimate × StreamMap
 grown_by moved before x = (with_growth moved before x.0, x.1, x.2)
 
--- the last place of those that its point leaves in flight that a SACK newly acknowledges by its blocks
+-- the last index of those that its cumulative TSN ack leaves in flight that a SACK newly acknowledges by its blocks
 abbrev pub newest_of : Sender → ℕ → List GapAckBlock → Option ℕ
-newest_of s point blocks =
-    last_new (λ j. is_named (j + 1) blocks) 0 (drop (tsns_up_to s point) s.queue.in_flight)
+newest_of s cumulative_tsn_ack blocks =
+    last_new (λ j. is_named (j + 1) blocks) 0 (drop (tsns_up_to s cumulative_tsn_ack) s.queue.in_flight)
 
--- how many of those that its point leaves in flight a SACK reports missing
+-- how many of those that its cumulative TSN ack leaves in flight a SACK reports missing
 abbrev pub reports_of : Sender → ℕ → List GapAckBlock → ℕ
-reports_of s point blocks =
-    let n = tsns_up_to s point in
-    missing_of (nat_lt 0 n) (newest_of s point blocks)
+reports_of s cumulative_tsn_ack blocks =
+    let n = tsns_up_to s cumulative_tsn_ack in
+    missing_of (nat_lt 0 n) (newest_of s cumulative_tsn_ack blocks)
     (with_in_flight (past_recovery n s) (drop n s.queue.in_flight))
 
 abbrev pub reported_by : Bool → Option ℕ → Sender × Estimate × StreamMap → Sender × Estimate × StreamMap
 reported_by moved last x = (misses_counted moved last x.0, x.1, x.2)
 
--- before its point acknowledges: the window is the SACK's, and its point may end the recovery of a loss
-abbrev pub before_point : ℕ → ℕ → Sender → Sender
-before_point n window s = past_recovery n (with_window s window)
+-- before its cumulative TSN ack acknowledges: the window is the SACK's, and its cumulative TSN ack may end the recovery
+-- of a loss
+abbrev pub before_acknowledging : ℕ → ℕ → Sender → Sender
+before_acknowledging n window s = past_recovery n (with_window s window)
 
--- sender, estimate and streams once the pieces up to its point and those that its gap ack blocks name are acknowledged
+-- sender, estimate and streams once the pieces up to its cumulative TSN ack and those that its gap ack blocks name are
+-- acknowledged
 abbrev pub all_acknowledged : ℕ → List GapAckBlock → ℕ → ℕ → Sender → Estimate → StreamMap
     → Sender × Estimate × StreamMap
 all_acknowledged n blocks window now s e m =
-    with_blocks now blocks (acknowledged n now (before_point n window s, e, m))
+    with_blocks now blocks (acknowledged n now (before_acknowledging n window s, e, m))
 
--- sender, estimate and streams once a SACK was taken: the pieces up to its point and those that its gap ack blocks name
--- are acknowledged, its window is the peer's, the congestion window grows, and what it reports missing is counted
+-- sender, estimate and streams once a SACK was taken: the pieces up to its cumulative TSN ack and those that its gap
+-- ack blocks name are acknowledged, its window is the peer's, the congestion window grows, and what it reports missing
+-- is counted
 abbrev pub sack_taken : ℕ → List GapAckBlock → ℕ → ℕ → Sender → Estimate → StreamMap → Sender × Estimate × StreamMap
-sack_taken point blocks window now s e m =
-    let n = tsns_up_to s point in
-    reported_by (nat_lt 0 n) (newest_of s point blocks)
+sack_taken cumulative_tsn_ack blocks window now s e m =
+    let n = tsns_up_to s cumulative_tsn_ack in
+    reported_by (nat_lt 0 n) (newest_of s cumulative_tsn_ack blocks)
     (grown_by (nat_lt 0 n) (outstanding_of s.queue.in_flight) (all_acknowledged n blocks window now s e m))

@@ -18,7 +18,7 @@ use Rattle.sctp_outbound_queue.specs.Outbound.{empty_outbound, tsn_at, next_tsn_
 use Rattle.sctp_outbound_queue.specs.Outbound.{all_marked, marked_of, pieces_waiting, sent_next}
 use Rattle.sctp_streams.specs.Streams.{StreamMap, released_in}
 use Rattle.sctp_outbound.specs.Congestion.{first_congestion, timed_out}
-use Rattle.sctp_outbound.specs.Offsets.{name_unsent}
+use Rattle.sctp_outbound.specs.BlockOffsets.{name_unsent}
 use Rattle.sctp_outbound.specs.declared.sender.Sender.{Sender}
 use Rattle.sctp_outbound.specs.declared.progress.Progress.{Progress}
 use Rattle.sctp_outbound.specs.declared.sender.Attempt.{Attempt}
@@ -55,7 +55,7 @@ marks s tsn = is_to_resend (slice_get s.queue.in_flight (tsn_past s.queue.first_
 abbrev pub cumulative_tsn_ack_point_of : Sender → ℕ
 cumulative_tsn_ack_point_of s = (s.queue.first_tsn + 2 ^ 32 - 1) % 2 ^ 32
 
--- how many TSNs a point acknowledges
+-- how many TSNs a cumulative TSN ack acknowledges
 abbrev pub tsns_up_to : Sender → ℕ → ℕ
 tsns_up_to s cumulative_tsn_ack = tsn_past (cumulative_tsn_ack_point_of s) cumulative_tsn_ack
 
@@ -102,14 +102,14 @@ abbrev pub acknowledged : ℕ → ℕ → Sender × Estimate × StreamMap → Se
 acknowledged zero now all = all
 acknowledged (suc n) now all = acknowledged n now (after_first now all)
 
--- the gap ack blocks behind this point name a TSN that is not in flight
+-- the gap ack blocks behind this cumulative TSN ack name a TSN that is not in flight
 abbrev pub names_unsent : Sender → ℕ → List GapAckBlock → Bool
 names_unsent s cumulative_tsn_ack blocks =
     name_unsent (tsns_up_to s cumulative_tsn_ack) (length s.queue.in_flight) blocks
 
 -- what a SACK with this cumulative TSN ack and these gap ack blocks is to the sender (RFC 4960 section 6.2.1): its
--- point is behind the one before it or beyond what is in flight, or its blocks name what is not in flight, or it is
--- taken
+-- cumulative TSN ack is behind the one before it or beyond what is in flight, or its blocks name what is not in flight,
+-- or it is taken
 abbrev pub sack_outcome : Sender → ℕ → List GapAckBlock → SackOutcome
 sack_outcome s cumulative_tsn_ack blocks =
     if tsn_gt (cumulative_tsn_ack_point_of s) cumulative_tsn_ack then outcomes.Older else
@@ -197,7 +197,7 @@ abbrev pub none_left : Retransmission → Sender → Bool
 none_left causes.Timer s = marked_of s.queue.in_flight == 0
 none_left causes.Fast s = false
 
--- the sender once the piece at a place may have gone again, and what became of it
+-- the sender once the piece at an index may have gone again, and what became of it
 abbrev pub tried_again : Retransmission → Option InFlight → Sender → ℕ → ℕ → Sender × Attempt
 tried_again k None s index room = (s, attempts.Full)
 tried_again k (Some p) s index room =

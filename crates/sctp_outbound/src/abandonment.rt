@@ -4,7 +4,8 @@ ghost use Rattle.sctp_outbound_queue.specs.Expiry.{after_tail_expiry};
 ghost use Rattle.sctp_outbound_queue.specs.Outbound.{abandoned_at};
 ghost use Rattle.sctp_streams.specs.LowMarks.{Gathers};
 ghost use Rattle.sctp_streams.specs.Streams.{released_in};
-ghost use Rattle.sctp_outbound.specs.Abandonment.{abandoned_if, abandoned_of, all_given_up, asked_past, expired_by, expires};
+ghost use Rattle.sctp_outbound.specs.Abandonment.{abandoned_if, abandoned_of, all_given_up, asked_past, expired_by};
+ghost use Rattle.sctp_outbound.specs.Abandonment.{expires};
 ghost use Rattle.sctp_outbound.specs.Abandonment.{first_spent, given_up_before, gives_up_before, has_late_tail};
 ghost use Rattle.sctp_outbound.specs.Abandonment.{is_late, is_pass_due, is_spent, may_expire, next_given_up, pass_room};
 ghost use Rattle.sctp_outbound.specs.Abandonment.{reached_at, released_with, spent_place, tail_given_up, with_started};
@@ -316,7 +317,8 @@ fn expire_tail_in(
     fallen: &mut Fallen,
     now: Instant,
 ) -> Result<bool, AllocError>
-    ensures exact { OnOk result (released_with (after_tail_expiry now queue.old) streams.old ≡ (queue.new, streams.new)) }
+    ensures exact { OnOk result (released_with (after_tail_expiry now queue.old) streams.old ≡
+        (queue.new, streams.new)) }
     ensures any { IfOk result (λ any. any ≡ is_some (after_tail_expiry now queue.old).1) }
     ensures gathers { OnOk result (Gathers streams.old fallen.old streams.new fallen.new) }
 {

@@ -1,6 +1,7 @@
 // The congestion window.
 ghost use Rattle.std.specs.Prelude.{◌≡◌, ◌<◌, ◌*◌, ◌^◌, min};
-ghost use Rattle.sctp_outbound.specs.Congestion.{first_congestion, grown, slowly_started, avoided, timed_out, least_threshold, halved};
+ghost use Rattle.sctp_outbound.specs.Congestion.{first_congestion, grown, slowly_started, avoided, timed_out};
+ghost use Rattle.sctp_outbound.specs.Congestion.{least_threshold, halved};
 
 /// How many bytes may be in flight (RFC 4960 section 7.2). Each sum stays at the greatest u32.
 #[derive(Clone, Copy, Debug, PartialEq, Eq)]

@@ -1,7 +1,8 @@
 // The FORWARD TSN that a sender makes (RFC 3758 sections 3.2 and 3.5).
 ghost use Rattle.std.specs.Prelude.{◌≡◌, is_some, map, slice_get, true, IfOk, OnErr, OnOk};
 ghost use Rattle.sctp_outbound.specs.Forward.{abandoned_front, advanced_peer_ack_point_of, forward_asked, forward_by};
-ghost use Rattle.sctp_outbound.specs.Forward.{forward_given, forward_of, gives_forward, is_front_abandoned, skipped_over};
+ghost use Rattle.sctp_outbound.specs.Forward.{forward_given, forward_of, gives_forward, is_front_abandoned};
+ghost use Rattle.sctp_outbound.specs.Forward.{skipped_over};
 ghost use Rattle.sctp_outbound.specs.Forward.{skipped_numbers, skipped_stream, skipped_with};
 
 use crate::sender::Sender;
@@ -19,9 +20,9 @@ impl Sender {
         self.is_forward_due |= forward & self.is_front_abandoned();
     }
 
-    /// The FORWARD TSN that is due, which is not due any more then. None where none is due, or where a SACK overtook the
-    /// advanced peer ack point since. It lacks memory only where there is one. Goes over the abandoned pieces in front
-    /// of all others in flight.
+    /// The FORWARD TSN that is due, which is not due any more then. None where none is due, or where a SACK overtook
+    /// the advanced peer ack point since. It lacks memory only where there is one. Goes over the abandoned pieces in
+    /// front of all others in flight.
     pub fn forward_tsn(&mut self, alloc: Global) -> Result<Option<ChunkForwardTsn>, AllocError>
         ensures chunk { IfOk result (λ chunk. chunk ≡ forward_by self.old) }
         ensures sender { OnOk result (self.new ≡ forward_given self.old) }
@@ -36,8 +37,8 @@ impl Sender {
         Ok(Some(chunk))
     }
 
-    /// The TSN up to which all is acknowledged cumulatively or abandoned (RFC 3758 section 3.5). Goes over the abandoned
-    /// pieces in front of all others in flight.
+    /// The TSN up to which all is acknowledged cumulatively or abandoned (RFC 3758 section 3.5). Goes over the
+    /// abandoned pieces in front of all others in flight.
     pub fn advanced_peer_ack_point(&self) -> u32
         ensures { result ≡ advanced_peer_ack_point_of self.now }
     {

@@ -3,7 +3,7 @@ ghost use Rattle.std.specs.Prelude.{◌↔◌, true, length, slice_get, Some, �
 ghost use Rattle.sctp_received.specs.Received.{is_named};
 ghost use Rattle.sctp_outbound.specs.Progress.{last_new};
 ghost use Rattle.sctp_streams.specs.LowMarks.{Gathers};
-ghost use Rattle.sctp_outbound.specs.Offsets.{NameUnsent, is_unsent_in, name_unsent};
+ghost use Rattle.sctp_outbound.specs.BlockOffsets.{NameUnsent, is_unsent_in, name_unsent};
 ghost use Rattle.sctp_outbound.specs.GapAcks.{acked_among, block_trips, is_named_by, released_among, timed};
 ghost use Rattle.sctp_outbound.specs.GapAcks.{trip_of, with_blocks, with_measure};
 
@@ -15,7 +15,8 @@ use sctp_streams::{Fallen, Streams};
 use sctp_wire_types::{GapAckBlock, Instant, List};
 
 impl Sender {
-    // Whether a block names a TSN that is not in flight, where so many of those in flight are up to the SACK's point.
+    // Whether a block names a TSN that is not in flight, where so many of those in flight are up to the SACK's
+    // cumulative TSN ack.
     pub(crate) fn names_unsent(&self, count: u32, blocks: &List<GapAckBlock>) -> bool
         ensures test { result ≡ name_unsent count (length self.now.queue.in_flight) blocks.now }
         ensures sets { (result ≡ true) ↔ NameUnsent count (length self.now.queue.in_flight) blocks.now }
@@ -29,7 +30,7 @@ impl Sender {
     /// until then are released at their streams. Blocks may overlap, stand in any order and be empty; offsets past what
     /// is in flight name nothing. Goes over the offsets that the blocks name and that are in flight, block by block in
     /// their order, and over nothing else; an offset that several blocks name is gone over once for each of them.
-    /// Streams that fall to their low mark are gathered. Answers the last place that is acknowledged for the first
+    /// Streams that fall to their low mark are gathered. Answers the last index that is acknowledged for the first
     /// time.
     pub fn acknowledge_blocks(
         &mut self,
@@ -52,8 +53,8 @@ impl Sender {
         newest
     }
 
-    // Takes in one block. The point is the TSN before the first one in flight, so the piece at index j is at the offset
-    // j + 1.
+    // Takes in one block. The cumulative TSN ack is the TSN before the first one in flight, so the piece at index j is
+    // at the offset j + 1.
     fn acknowledge_block(
         &mut self,
         rto: &mut RtoManager,
@@ -82,7 +83,7 @@ impl Sender {
         newest
     }
 
-    // The piece at a place came, if there is one: it is marked, its outstanding bytes are released, and where it was
+    // The piece at an index came, if there is one: it is marked, its outstanding bytes are released, and where it was
     // sent once its round trip is measured.
     fn acknowledge_at(
         &mut self,
@@ -135,7 +136,7 @@ fn name_unsent(blocks: &List<GapAckBlock>, count: u32, in_flight: usize) -> bool
         .any(|block| is_unsent(block, count, in_flight))
 }
 
-// Offsets count from the SACK's point, up to which so many TSNs are in flight, of `in_flight` in all.
+// Offsets count from the SACK's cumulative TSN ack, up to which so many TSNs are in flight, of `in_flight` in all.
 fn is_unsent(block: &GapAckBlock, count: u32, in_flight: usize) -> bool
     ensures { result ≡ is_unsent_in count in_flight block.now }
 {

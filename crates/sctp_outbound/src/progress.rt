@@ -19,8 +19,8 @@ pub struct Progress {
 }
 
 impl Sender {
-    // Whether a SACK acknowledges the first outstanding piece, by its point, up to which so many are in flight, or by a
-    // block.
+    // Whether a SACK acknowledges the first outstanding piece, by its cumulative TSN ack, up to which so many are in
+    // flight, or by a block.
     pub(crate) fn names_earliest(&mut self, count: u32, blocks: &List<GapAckBlock>) -> bool
         ensures same { self.new ≡ self.old }
         ensures names { result ≡
@@ -48,7 +48,7 @@ fn any_names(blocks: &List<GapAckBlock>, index: usize) -> bool
     blocks.as_slice().iter().any(|block| names(block, index))
 }
 
-// Whether a block names the piece at a place behind the point, counted from 0.
+// Whether a block names the piece at an index behind the cumulative TSN ack, counted from 0.
 fn names(block: &GapAckBlock, index: usize) -> bool
     ensures { result ≡ is_named_by block.now index }
 {
@@ -62,14 +62,14 @@ pub(crate) fn is_new(piece: &InFlight) -> bool
     !piece.acked && piece.sent_count > 0
 }
 
-// The place of a piece where it is new.
+// The index of a piece where it is new.
 pub(crate) fn place_if_new(piece: &InFlight, index: usize) -> Option<usize>
     ensures { result ≡ if_new true index piece.now }
 {
     if is_new(piece) { Some(index) } else { None }
 }
 
-// The greater place of two.
+// The greater index of two.
 pub(crate) fn greatest_of(a: Option<usize>, b: Option<usize>) -> Option<usize>
     ensures { result ≡ greatest_of a b }
 {

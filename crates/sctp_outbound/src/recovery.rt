@@ -32,7 +32,7 @@ impl Sender {
         }
     }
 
-    // Counts what a SACK reports missing, and finds a loss by the third report of a piece. `newest` is the last place
+    // Counts what a SACK reports missing, and finds a loss by the third report of a piece. `newest` is the last index
     // of those in flight that it newly acknowledges by its blocks.
     pub(crate) fn count_misses(&mut self, moved: bool, newest: Option<usize>)
         ensures { self.new ≡ misses_counted moved newest self.old }

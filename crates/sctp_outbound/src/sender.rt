@@ -6,7 +6,8 @@ ghost use Rattle.sctp_streams.specs.Streams.{released_in};
 ghost use Rattle.sctp_streams.specs.LowMarks.{Gathers};
 ghost use Rattle.std.specs.Prelude.{true, is_some, ◌≡◌, ◌+◌, ◌-◌, ◌/◌, if◌then◌else◌, ◌≤◌, ◌<◌, ◌^◌, ◌++◌, ◌∷◌, []};
 ghost use Rattle.std.specs.Prelude.{OnErr, OnOk, IfOk, IfSome, length, slice_get, nat_lt};
-ghost use Rattle.sctp_outbound.specs.Sender.{goes_again, none_left, resends, sends_new, fresh_sender, window_left, marks};
+ghost use Rattle.sctp_outbound.specs.Sender.{goes_again, none_left, resends, sends_new, fresh_sender, window_left};
+ghost use Rattle.sctp_outbound.specs.Sender.{marks};
 ghost use Rattle.sctp_outbound.specs.Sender.{cumulative_tsn_ack_point_of, tsns_up_to, after_first, acknowledged};
 ghost use Rattle.sctp_outbound.specs.Sacks.{progress_of, sack_taken, with_growth};
 ghost use Rattle.sctp_outbound.specs.Progress.{any_new_up_to, is_new_piece};
@@ -40,7 +41,7 @@ const COMMON_HEADER: u32 = 12;
 pub enum SackOutcome {
     /// Its cumulative TSN ack is behind what is acknowledged already; nothing changed.
     Older,
-    /// Its point acknowledges a TSN that is not in flight; nothing changed.
+    /// Its cumulative TSN ack acknowledges a TSN that is not in flight; nothing changed.
     NotInFlight,
     /// One of its gap ack blocks names a TSN that is not in flight; nothing changed.
     NamesTheUnsent,
@@ -407,7 +408,7 @@ impl Sender {
         Ok(sent)
     }
 
-    // Sends the piece at a place again, where the reason picks it and `room` bytes are enough for it.
+    // Sends the piece at an index again, where the reason picks it and `room` bytes are enough for it.
     fn resend_at(
         &mut self,
         by: Retransmission,

@@ -19,7 +19,7 @@ use Rattle.sctp_outbound_queue.specs.Outbound.{abandoned_at, abandoned_from}
 use Rattle.sctp_outbound_queue.specs.Expiry.{without_expired, expired_in, after_expiry, is_expired_tail}
 use Rattle.sctp_outbound_queue.specs.Expiry.{after_tail_expiry, after_tail_expiry_of}
 use Rattle.sctp_outbound_queue.specs.Laws.{bytes_in, released_bytes, IsReleased, is_whole}
-use Rattle.sctp_outbound_queue.proofs.ByteSums.{flagged_sum, left_behind_bytes}
+use Rattle.sctp_outbound_queue.proofs.QueuedBytes.{flagged_sum, left_behind_bytes}
 use Rattle.sctp_outbound_queue.proofs.ExpiredUnsent.{without_none, without_bytes}
 
 none_or_some : {X : Type 0} (x : X) → None ≡ Some x → ⊥

@@ -1,7 +1,8 @@
 -- The first outstanding piece in flight: no change makes a piece outstanding that was not, so it never moves to the
 -- front, but where the first piece leaves.
 use Rattle.std.proofs.Common.{◌≡◌, ℕ, zero, suc, ◌+◌, ◌-◌, ◌<◌, ◌≤◌, Bool, true, false, ◌&&◌, not}
-use Rattle.std.proofs.Common.{List, [], ◌∷◌, ◌++◌, Option, Some, None, length, map, take, drop, slice_get, refl, ap, sym, ◌∙◌, arith, ⊎_elim}
+use Rattle.std.proofs.Common.{List, [], ◌∷◌, ◌++◌, Option, Some, None, length, map, take, drop, slice_get, refl, ap}
+use Rattle.std.proofs.Common.{sym, ◌∙◌, arith, ⊎_elim}
 use Rattle.std.proofs.lemmas.Bool.{cases_Bool}
 use Rattle.std.proofs.lemmas.List.Sums.{prefix_len-le-length}
 use Rattle.std.specs.Prelude.{get_or, slice_set}
@@ -111,7 +112,8 @@ and_none true = refl
 and_none false = refl
 
 pub abandoned : (id : ℕ) → Settles (flagged id)
-abandoned id x e = ⊎_elim (λ (t : is_of id x ≡ true). rw t (and_none (not x.acked))) (λ (f : is_of id x ≡ false). rw f e)
+abandoned id x e = ⊎_elim (λ (t : is_of id x ≡ true). rw t (and_none (not x.acked)))
+    (λ (f : is_of id x ≡ false). rw f e)
     (cases_Bool (is_of id x))
 
 pub resent : (by : Retransmission) → Settles (counted_again by)
@@ -121,7 +123,7 @@ resent causes.Fast x e = e
 pub started_too : (now : ℕ) → Settles (sent_started now)
 started_too now x e = e
 
--- a place before which nothing is outstanding stays one
+-- an index before which nothing is outstanding stays one
 
 pub resent_there : (by : Retransmission) (xs : List InFlight) (i s : ℕ) (x : InFlight) → slice_get xs i ≡ Some x
     → s ≤ first_outstanding_of xs → s ≤ first_outstanding_of (slice_set xs i (counted_again by x))

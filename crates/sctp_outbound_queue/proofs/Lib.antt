@@ -1,4 +1,4 @@
-pub mod ByteSums
+pub mod QueuedBytes
 pub mod BytesLeft
 pub mod ExpiredUnsent
 pub mod FirstOutstanding

@@ -1,6 +1,7 @@
 -- Reports of a SACK that pieces in flight are missing: they leave as many bytes outstanding and as many pieces marked.
 use Rattle.std.proofs.Common.{◌≡◌, ℕ, zero, suc, ◌+◌, ◌-◌, ◌<◌, true, false, List, [], ◌∷◌, ◌++◌, length, map}
-use Rattle.std.proofs.Common.{take, drop, slice_get, refl, ap, sym, ◌∙◌, arith, ⊎_elim, Bool, ◌&&◌, ◌||◌, nat_lt, Option, Some, None}
+use Rattle.std.proofs.Common.{take, drop, slice_get, refl, ap, sym, ◌∙◌, arith, ⊎_elim, Bool, ◌&&◌, ◌||◌, nat_lt}
+use Rattle.std.proofs.Common.{Option, Some, None}
 use Rattle.std.proofs.lemmas.Bool.{cases_Bool}
 use Rattle.std.proofs.lemmas.List.Sums.{sum_by-cons}
 use Rattle.std.specs.Prelude.{if◌then◌else◌, slice_set, sum_by}
@@ -92,4 +93,5 @@ as_many_outstanding n xs = same_sum outstanding_bytes same_bytes n xs
 
 pub as_many_marked : (n : ℕ) (xs : List InFlight)
     → marked_of (map reported_missing (take n xs) ++ drop n xs) ≡ marked_of xs
-as_many_marked n xs = same_sum (λ x. if x.retransmit then 1 else 0) (λ x. ap (λ b. if b then 1 else 0) (same_mark x)) n xs
+as_many_marked n xs =
+    same_sum (λ x. if x.retransmit then 1 else 0) (λ x. ap (λ b. if b then 1 else 0) (same_mark x)) n xs

@@ -1,5 +1,6 @@
 -- What waits to be sent and what is in flight (RFC 4960 section 6.1).
-use Rattle.std.specs.Prelude.{◌≡◌, ℕ, Bool, List, [], ◌∷◌, ◌++◌, ◌+◌, ◌-◌, ◌<◌, ◌≤◌, ◌%◌, ◌^◌, ◌==◌, ◌||◌, if◌then◌else◌}
+use Rattle.std.specs.Prelude.{◌≡◌, ℕ, Bool, List, [], ◌∷◌, ◌++◌, ◌+◌, ◌-◌, ◌<◌, ◌≤◌, ◌%◌, ◌^◌, ◌==◌, ◌||◌}
+use Rattle.std.specs.Prelude.{if◌then◌else◌}
 use Rattle.std.specs.Prelude.{drop, length, map, sum_by, slice_get, slice_set, take, Option, Some, None, not, false}
 use Rattle.std.specs.List.{count_by, list_any, position_or_len}
 use Rattle.sctp_serial.specs.Serial.{tsn_past}
@@ -8,7 +9,8 @@ use Rattle.sctp_outbound_queue.specs.declared.message.Attributes.{Attributes}
 use Rattle.sctp_outbound_queue.specs.declared.queue.Released.{Released}
 use Rattle.sctp_outbound_queue.specs.Waiting.{Waiting}
 use Rattle.sctp_outbound_queue.specs.Message.{message_bytes, piece_count, accepted, sent_once, without_piece, marker_of}
-use Rattle.sctp_outbound_queue.specs.Message.{is_of_stream, is_outstanding, is_third_report, is_waiting_of_stream, outstanding_bytes}
+use Rattle.sctp_outbound_queue.specs.Message.{is_of_stream, is_outstanding, is_third_report, is_waiting_of_stream}
+use Rattle.sctp_outbound_queue.specs.Message.{outstanding_bytes}
 use Rattle.sctp_outbound_queue.specs.Message.{outstanding_bytes_of, acked, marked_again, flagged, reported_missing}
 
 pub record Outbound : Type 0 where
@@ -37,7 +39,7 @@ outstanding_of_message id pieces = sum_by (outstanding_bytes_of id) pieces
 abbrev pub marked_of : List InFlight → ℕ
 marked_of pieces = count_by (λ p. p.retransmit) pieces
 
--- the place of the first outstanding piece, or how many pieces there are
+-- the index of the first outstanding piece, or how many pieces there are
 abbrev pub first_outstanding_of : List InFlight → ℕ
 first_outstanding_of pieces = position_or_len is_outstanding pieces
 
@@ -46,7 +48,7 @@ is_outstanding_piece None = false
 is_outstanding_piece (Some p) = is_outstanding p
 
 -- what is kept as the queue changes: the bytes that wait and the outstanding bytes, which together are below the
--- greatest number of 64 bits, how many pieces in flight are marked to be sent again, and a place before which no piece
+-- greatest number of 64 bits, how many pieces in flight are marked to be sent again, and an index before which no piece
 -- in flight is outstanding
 abbrev pub AreKept : List Waiting → List InFlight → ℕ → ℕ → ℕ → ℕ → Type 0
 AreKept pending in_flight waiting outstanding marked settled =
@@ -109,7 +111,7 @@ abbrev pub changed_from : (InFlight → InFlight) → Option InFlight → Outbou
 changed_from change None q index = q
 changed_from change (Some p) q index = record q { in_flight = slice_set q.in_flight index (change p) }
 
--- the piece at a place, if there is one, was changed
+-- the piece at an index, if there is one, was changed
 abbrev pub changed_at : (InFlight → InFlight) → Outbound → ℕ → Outbound
 changed_at change q index = changed_from change (slice_get q.in_flight index) q index
 

@@ -5,7 +5,8 @@ ghost use Rattle.sctp_outbound_queue.specs.Cut.{MayFollow, first_piece, other_pi
 ghost use Rattle.sctp_outbound_queue.specs.Message.{message_bytes, piece_count, accepted, sent_once, without_piece};
 ghost use Rattle.sctp_outbound_queue.specs.Message.{marker_of, is_of, is_of_stream, is_waiting_of_stream};
 ghost use Rattle.sctp_outbound_queue.specs.Message.{is_outstanding, outstanding_bytes, outstanding_bytes_of, acked};
-ghost use Rattle.sctp_outbound_queue.specs.Message.{marked_again, counted_again, data_length, flagged, is_third_report, picks, room_taken, reported_missing};
+ghost use Rattle.sctp_outbound_queue.specs.Message.{marked_again, counted_again, data_length, flagged, is_third_report};
+ghost use Rattle.sctp_outbound_queue.specs.Message.{picks, room_taken, reported_missing};
 ghost use Rattle.sctp_outbound_queue.specs.Message.{deadline_under, started, waiting_started, sent_started, is_expired};
 ghost use Rattle.sctp_outbound_queue.specs.Message.{is_expired_piece, is_expired_unsent, share_ssns, moved_down};
 

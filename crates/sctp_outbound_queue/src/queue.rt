@@ -1,5 +1,6 @@
 // Messages that wait to be sent, and pieces in flight.
-ghost use Rattle.std.specs.Prelude.{◌≡◌, ◌==◌, ◌&&◌, ◌+◌, ◌-◌, ◌^◌, find, length, map, min, nat_lt, position, slice_get, take};
+ghost use Rattle.std.specs.Prelude.{◌≡◌, ◌==◌, ◌&&◌, ◌+◌, ◌-◌, ◌^◌, find, length, map, min, nat_lt, position};
+ghost use Rattle.std.specs.Prelude.{slice_get, take};
 ghost use Rattle.std.specs.Prelude.{IfOk, OnOk, OnErr};
 ghost use Rattle.std.specs.Option.{option_copied, option_map};
 ghost use Rattle.sctp_serial.specs.Serial.{tsn_past};
@@ -10,7 +11,8 @@ ghost use Rattle.sctp_outbound_queue.specs.Outbound.{empty_outbound, tsn_at, nex
 ghost use Rattle.sctp_outbound_queue.specs.Outbound.{outstanding_of_message, pieces_waiting, with_message, sent_next};
 ghost use Rattle.sctp_outbound_queue.specs.Outbound.{after_piece, without_first, changed_at, acked_at, piece_at};
 ghost use Rattle.sctp_outbound_queue.specs.Outbound.{all_marked, has_stream, abandoned_in_front_of, tail_dropped};
-ghost use Rattle.sctp_outbound_queue.specs.Outbound.{all_flagged, abandoned_at, is_abandoned_piece, with_missing, marked_of};
+ghost use Rattle.sctp_outbound_queue.specs.Outbound.{all_flagged, abandoned_at, is_abandoned_piece, with_missing};
+ghost use Rattle.sctp_outbound_queue.specs.Outbound.{marked_of};
 ghost use Rattle.std.specs.List.{list_any};
 ghost use Rattle.sctp_outbound_queue.specs.Expiry.{all_started, first_tsn_that, without_expired, after_expiry};
 ghost use Rattle.sctp_outbound_queue.specs.Expiry.{after_tail_expiry, is_expired_tail};
@@ -47,7 +49,7 @@ pub struct OutboundQueue {
     outstanding_bytes: u64,
     // How many pieces in flight are marked to be sent again.
     marked: usize,
-    // No piece in flight before this place is outstanding.
+    // No piece in flight before this index is outstanding.
     settled: usize,
 }
 

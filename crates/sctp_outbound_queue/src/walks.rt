@@ -6,7 +6,8 @@ ghost use Rattle.std.specs.Option.{option_copied, option_map};
 ghost use Rattle.sctp_outbound_queue.specs.Message.{piece_count, is_of, is_of_stream, is_waiting_of_stream};
 ghost use Rattle.sctp_outbound_queue.specs.Message.{is_outstanding, outstanding_bytes_of, is_expired_piece};
 ghost use Rattle.sctp_outbound_queue.specs.Message.{is_expired_unsent, marked_again, flagged, waiting_started};
-ghost use Rattle.sctp_outbound_queue.specs.Message.{sent_started, moved_down, sent_once, is_third_report, picks, reported_missing};
+ghost use Rattle.sctp_outbound_queue.specs.Message.{sent_started, moved_down, sent_once, is_third_report, picks};
+ghost use Rattle.sctp_outbound_queue.specs.Message.{reported_missing};
 ghost use Rattle.sctp_outbound_queue.specs.Outbound.{outstanding_of_message, pieces_waiting, after_piece, marked_of};
 ghost use Rattle.sctp_outbound_queue.specs.Outbound.{is_outstanding_piece, is_third_report_of, with_report};
 ghost use Rattle.sctp_outbound_queue.specs.Expiry.{without_expired};
@@ -65,7 +66,7 @@ pub(crate) fn count_marked(pieces: &VecDeque<InFlight>) -> usize
     pieces.iter().filter(|piece| piece.retransmit).count()
 }
 
-// The place of the first outstanding piece, or how many there are. No piece before `from` is outstanding.
+// The index of the first outstanding piece, or how many there are. No piece before `from` is outstanding.
 pub(crate) fn first_outstanding(pieces: &VecDeque<InFlight>, from: usize) -> usize
     requires { from ≤ position_or_len is_outstanding pieces.now.items }
     ensures { result ≡ position_or_len is_outstanding pieces.now.items }

@@ -5,7 +5,7 @@ use Rattle.sctp_model.specs.Safe.{IsWithin}
 use Rattle.sctp_assoc.specs.Leads.{Binds, parts}
 use Rattle.sctp_directions.specs.Acts.{History}
 use Rattle.sctp_sides.specs.Meeting.{IsNoEarlier, Stage, stage_of}
-use Rattle.sctp_sides.specs.Shapes.{IsSameStatus}
+use Rattle.sctp_sides.specs.SideLaws.{IsSameStatus}
 use Rattle.sctp_assoc.specs.Shown.{Shown}
 use Rattle.sctp_pair.specs.Fits.{IsSilent, StagesAgree, StandsOpen}
 use Rattle.sctp_pair.proofs.BetweenDirections.{Goes, Holds, None_brought, OpenAt, Surroundings, moved}

@@ -18,7 +18,8 @@ use Rattle.sctp_assoc.specs.Leads.{parts}
 use Rattle.sctp_assoc.specs.Calls.{is_established}
 use Rattle.sctp_sides.specs.Meeting.{IsNoEarlier, Stage}
 use Rattle.sctp_assoc.specs.Shown.{Shown}
-use Rattle.sctp_directions.specs.Events.{Accepts, Brings, GivesAMessage, IsOfReceiving, IsOfSending, IsPlainEvent}
+use Rattle.sctp_directions.specs.Events.{AcceptsAMessage, Brings, GivesAMessage, IsOfReceiving, IsOfSending}
+use Rattle.sctp_directions.specs.Events.{IsPlainEvent}
 use Rattle.sctp_reassembly.specs.Stands.{IsReadAs}
 use Rattle.sctp_directions.specs.Between.{FitsBetween, IsSound}
 use Rattle.sctp_directions.proofs.Proved.{only_reads_give_messages, only_what_is_brought_is_taken_in}
@@ -70,7 +71,7 @@ goes_on B w v u g h = record {
 }
 
 -- one event at the sender that is no write
-pub goes_by_sender : (B : ℕ → Type 0) (w : Direction) (e : Event) → IsOfSending e → (Accepts e → ⊥)
+pub goes_by_sender : (B : ℕ → Type 0) (w : Direction) (e : Event) → IsOfSending e → (AcceptsAMessage e → ⊥)
     → Goes B w (happens w e)
 goes_by_sender B w e at none =
     let sent = senders_events_are_sent w e at in

@@ -31,7 +31,7 @@ use Rattle.sctp_pair.specs.Callers as callers
 use Rattle.sctp_pair.specs.Callers.{AreAt, ReadsWereWritten, WrittenMessage, message_accepted, messages_of}
 use Rattle.sctp_pair.specs.Callers.{messages_read, messages_written, stays_in_order}
 use Rattle.sctp_pair.specs.World.{IsOrderedAndReliable, loose_after, loose_of, loosens}
-use Rattle.sctp_pair.proofs.WrittenPlaces.{AreTold, at_places, letters_grow, told_accepted, told_join}
+use Rattle.sctp_pair.proofs.WrittenIndexes.{AreTold, at_indexes, letters_grow, told_accepted, told_join}
 use Rattle.sctp_model.specs.Safe.{AreDistinct, letter_read}
 use Rattle.sctp_reassembly.specs.Stands.{letter_received}
 use Rattle.std.proofs.lemmas.Bool.{and_parts}
@@ -45,7 +45,7 @@ use Rattle.sctp_pair.specs.World.{accepted_of, is_side, message_answered, messag
 use Rattle.sctp_pair.specs.World.{packet_brought}
 use Rattle.sctp_pair.proofs.AcceptedAndRead.{writes}
 use Rattle.sctp_pair.proofs.Counted.{runs_lead_counted}
-use Rattle.sctp_pair.proofs.LedOn.{begun_made, led_from, led_join}
+use Rattle.sctp_pair.proofs.CountedRuns.{begun_made, led_from, led_join}
 use Rattle.sctp_pair.proofs.MessageBytes.{bytes_accepted, bytes_got, nothing_read_of_none, read_grows}
 use Rattle.sctp_pair.proofs.MessageBytes.{reads_are_a_front}
 use Rattle.sctp_pair.proofs.Promised.{safe_world}
@@ -289,21 +289,21 @@ filled_from sides.A s f i b = f.fits.stand.sound_ab.invariant.planned.filled s i
 filled_from sides.B s f i b = f.fits.stand.sound_ba.invariant.planned.filled s i b
 
 -- At first nothing was accepted, read or taken in, and no stream's span is over.
-record IsFresh (d : Direction) : Type 0 where
+record NothingHappened (d : Direction) : Type 0 where
   accepted : (s : ℕ) → d.sender.plan.accepted s ≡ []
   unread : (s : ℕ) → d.reads s ≡ []
   untaken : (o : ℕ) → mem o d.receiver.taken ≡ true → ⊥
   within : (s : ℕ) → d.over s ≡ false
 
 fresh_from : (x : Side2) (p : Ends) (initial_a initial_b size_a size_b : ℕ)
-    → IsFresh (from x (empty_world p initial_a initial_b size_a size_b))
+    → NothingHappened (from x (empty_world p initial_a initial_b size_a size_b))
 fresh_from sides.A p initial_a initial_b size_a size_b =
     record { accepted = λ s. refl; unread = λ s. refl; untaken = λ o m. true≢false (sym m); within = λ s. refl }
 fresh_from sides.B p initial_a initial_b size_a size_b =
     record { accepted = λ s. refl; unread = λ s. refl; untaken = λ o m. true≢false (sym m); within = λ s. refl }
 
 front_along : (loose : ℕ → Bool) (ss : List Step) (rs : List Reply) (x : Side2) (s : ℕ) (before after : Direction)
-    → IsFresh before → loose s ≡ false → stays_in_order ss rs x s ≡ true
+    → NothingHappened before → loose s ≡ false → stays_in_order ss rs x s ≡ true
     → Grew loose ss rs x before after → (after.over s ≡ false → IsSafe after s)
     → IsFrontOf (read_in ss rs (other_side x) s) (written_in ss rs x s)
 front_along loose ss rs x s before after first tight stays grew safe =
@@ -315,11 +315,11 @@ front_along loose ss rs x s before after first tight stays grew safe =
     grew.read s ∙ ap (λ gs. bytes_got gs ++ read_in ss rs (other_side x) s) (first.unread s) in
     (front.0, sym wrote ∙ front.1 ∙ ap (λ z. z ++ front.0) read)
 
--- each message that was read was written at a place of its own
+-- each message that was read was written at an index of its own
 written_along : (loose : ℕ → Bool) (ss : List Step) (rs : List Reply) (x : Side2) (s : ℕ) (before after : Direction)
-    → IsFresh before → Grew loose ss rs x before after → (after.over s ≡ false → IsSafe after s)
-    → (places : List ℕ) × AreDistinct places
-    × AreAt (messages_read ss rs (other_side x) s) places (messages_written ss rs x s)
+    → NothingHappened before → Grew loose ss rs x before after → (after.over s ≡ false → IsSafe after s)
+    → (indexes : List ℕ) × AreDistinct indexes
+    × AreAt (messages_read ss rs (other_side x) s) indexes (messages_written ss rs x s)
 written_along loose ss rs x s before after first grew safe =
     let named = (safe (grew.span s (first.within s))).read in
     let told = grew.told s [] (subst (λ ms. AreTold ms []) (sym (first.accepted s)) tt) in
@@ -328,7 +328,7 @@ written_along loose ss rs x s before after first grew safe =
     ∙ ap (λ gs. map letter_read gs ++ map letter_received (messages_read ss rs (other_side x) s)) (first.unread s) in (
       named.0,
       named.1.once,
-      at_places after.sender.plan after.receiver.taken s (after.reads s) named.0
+      at_indexes after.sender.plan after.receiver.taken s (after.reads s) named.0
           (messages_read ss rs (other_side x) s) (messages_written ss rs x s) named.1.named letters told,
     )
 
@@ -370,7 +370,7 @@ abbrev begun : {m : Made} {ss : List Step} {rs : List Reply} {p : Ends} → Came
 begun {m} c = world_of m c.begin
 
 begun_fresh : {m : Made} {ss : List Step} {rs : List Reply} {p : Ends} (c : CameBy m ss rs p) (x : Side2)
-    → IsFresh (from x (begun c))
+    → NothingHappened (from x (begun c))
 begun_fresh {m} c x = fresh_from x c.begin m.initial_a m.initial_b m.size_a m.size_b
 
 begun_tight : {m : Made} {ss : List Step} {rs : List Reply} {p : Ends} (c : CameBy m ss rs p) (x : Side2) (s : ℕ)

@@ -12,7 +12,7 @@ use Rattle.sctp_model.specs.Machine.{Direction, Sender}
 use Rattle.sctp_model.proofs.Lists.{all_join}
 use Rattle.sctp_assoc.specs.Calls.{is_established}
 use Rattle.sctp_sides.specs.Meeting.{Stage}
-use Rattle.sctp_sides.specs.Shapes.{OfEachChunk}
+use Rattle.sctp_sides.specs.SideLaws.{OfEachChunk}
 use Rattle.sctp_assoc.specs.Shown.{Shown}
 use Rattle.sctp_sides.proofs.Proved.{established_is_not_closed, established_sides_talk}
 use Rattle.sctp_reassembly.specs.Stands.{IsReadAs}
@@ -30,7 +30,7 @@ use Rattle.sctp_pair.proofs.BetweenDirections.{Does, Faces, OpenAt, Settles, Sur
 use Rattle.sctp_pair.proofs.AcceptedInOrder.{accepted_in_order}
 use Rattle.sctp_pair.proofs.NeverTakenBack.{runs_are_onward}
 use Rattle.sctp_pair.proofs.Promised.{receives_or_stopped, safe_world}
-use Rattle.sctp_pair.proofs.SaidStaysSaid.{GoesOn, said_grows}
+use Rattle.sctp_pair.proofs.SaidStaysSaid.{StageGoesOn, said_grows}
 use Rattle.sctp_pair.proofs.HandshakeStages.{stays_put, turned}
 
 -- an association stands there still where more streams may be loose
@@ -155,10 +155,10 @@ module _ {x : Surroundings} {b : Shown} {Added : ℕ → List Message} {Read : �
       s.no_more
 
   -- its side goes on, and so does the other one
-  own_goes_on : GoesOn x.here s.here2 x.out x.coming s.out2 s.coming2
+  own_goes_on : StageGoesOn x.here s.here2 x.out x.coming s.out2 s.coming2
   own_goes_on = record { goes = s.goes; datas = s.does_out.datas; sacks = s.does_coming.sacks }
 
-  other_goes_on : GoesOn x.there x.there x.coming x.out s.coming2 s.out2
+  other_goes_on : StageGoesOn x.there x.there x.coming x.out s.coming2 s.out2
   other_goes_on = record { goes = stays_put x.there; datas = s.does_coming.datas; sacks = s.does_out.sacks }
 
 -- This step of the world's pair has this reply and leads to q.

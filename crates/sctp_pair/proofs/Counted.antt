@@ -14,7 +14,7 @@ use Rattle.sctp_model.specs.Reassembly.{Got}
 use Rattle.sctp_model.specs.Safe.{IsWithin}
 use Rattle.sctp_reassembly.specs.Stands.{IsReadAs}
 use Rattle.sctp_fit.specs.Writes.{message_on}
-use Rattle.sctp_fit.specs.Counted.{HasAccepted, all_pieces, pieces_in}
+use Rattle.sctp_fit.specs.FewPieces.{HasAccepted, all_pieces, pieces_in}
 use Rattle.sctp_directions.specs.Acts.{type_on}
 use Rattle.sctp_directions.specs.Between.{IsSound}
 use Rattle.sctp_directions.proofs.Proved.{accepted_messages_are_counted, nothing_is_accepted_at_first}
@@ -39,12 +39,12 @@ use Rattle.sctp_pair.proofs.WaitingCounted.{waiting_counted}
 -- The pieces of what a step accepts are counted
 
 -- On each stream these messages were accepted behind those before, and the payload size stays.
-record Accepts (more : ℕ → List Message) (before after : Direction) : Type 0 where
+record AcceptsMore (more : ℕ → List Message) (before after : Direction) : Type 0 where
   size : after.sender.plan.size ≡ before.sender.plan.size
   accepted : (s : ℕ) → after.sender.plan.accepted s ≡ before.sender.plan.accepted s ++ more s
 
 -- nothing more was accepted
-none_counted : {n : ℕ} {before after : Direction} → Accepts (λ s. []) before after → HasAccepted n before
+none_counted : {n : ℕ} {before after : Direction} → AcceptsMore (λ s. []) before after → HasAccepted n before
     → HasAccepted (n + 0) after
 none_counted {n} {before} {after} c a =
     let stays = λ (s : ℕ). c.accepted s ∙ append-nil (before.sender.plan.accepted s) in
@@ -61,7 +61,7 @@ one_message size (Some t) named bytes =
 
 -- on one stream these messages were accepted, which have at most so many pieces
 some_counted : (here : Bool) (id more : ℕ) (ms : List Message) {n : ℕ} {before after : Direction}
-    → Accepts (λ s. if here && eqb id s then ms else []) before after
+    → AcceptsMore (λ s. if here && eqb id s then ms else []) before after
     → all_pieces before.sender.plan.size ms ≤ more → HasAccepted n before
     → HasAccepted (n + (if here then more else 0)) after
 some_counted false id more ms c most a = none_counted c a
@@ -86,7 +86,7 @@ some_counted true id more ms {n} {before} {after} c most a =
         at_most false = omega arith
 
 writing_counted : (x : Side2) (writing : Option Writing) (r : Reply) (w : World) {n : ℕ} {before after : Direction}
-    → Accepts (λ s. accepted_of writing r x s w) before after → HasAccepted n before
+    → AcceptsMore (λ s. accepted_of writing r x s w) before after → HasAccepted n before
     → HasAccepted (n + pieces_accepted before.sender.plan.size x writing r) after
 writing_counted x (Some y) (replies.Wrote count) w {n} {before} c a =
     let o : Option StreamView = stream_at (end_of x w.ends).streams y.id in
@@ -130,7 +130,7 @@ module _ (x : Side2) (step : Step) (r : Reply) (w : World) (q : Ends) (initial :
     (h : IsDirectionStep step r x (other_side x) w q initial before after) where
   pieces_counted : {n : ℕ} → HasAccepted n before → HasAccepted (n + pieces_of before.sender.plan.size x step r) after
   pieces_counted a =
-      let more : Accepts (λ s. accepted_at step r x s w) before after =
+      let more : AcceptsMore (λ s. accepted_at step r x s w) before after =
       record { size = h.size; accepted = h.accepted } in
       writing_counted x (writing_of step) r w more a
 

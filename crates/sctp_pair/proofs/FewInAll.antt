@@ -5,7 +5,7 @@ use Rattle.sctp_wire_types.specs.declared.ids.PayloadProtocolIdentifier.{Payload
 use Rattle.sctp_assoc.specs.Calls.{first_filled}
 use Rattle.sctp_assoc.specs.Shown.{Shown}
 use Rattle.sctp_sides.proofs.Proved.{accepted_writes_fit}
-use Rattle.sctp_fit.specs.Counted.{pieces_in}
+use Rattle.sctp_fit.specs.FewPieces.{pieces_in}
 use Rattle.sctp_fit.proofs.PlacesCounted.{piece_counted}
 use Rattle.sctp_pair.specs.declared.step.Reply.{Reply}
 use Rattle.sctp_pair.specs.declared.step.Reply.TheVariants as replies

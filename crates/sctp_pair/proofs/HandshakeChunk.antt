@@ -7,9 +7,9 @@ use Rattle.sctp_directions.specs.Acts.{Act, History, Parts, done_all}
 use Rattle.sctp_assoc.specs.Leads.{parts}
 use Rattle.sctp_assoc.specs.Happened.{acts_of_chunk}
 use Rattle.sctp_sides.specs.Meeting.{Greets, IsLearning, MayHear, stage_of}
-use Rattle.sctp_sides.specs.Shapes.{TakesChunk}
+use Rattle.sctp_sides.specs.SideLaws.{TakesChunk}
 use Rattle.sctp_assoc.specs.Shown.{Shown}
-use Rattle.sctp_directions.proofs.Proved.{meetings_are_no_events}
+use Rattle.sctp_directions.proofs.Proved.{peer_known_is_no_event}
 use Rattle.sctp_pair.proofs.BetweenDirections.{Holds, Surroundings, moved}
 use Rattle.sctp_pair.proofs.HandshakeStages.{goes_through, meets_on, works_on}
 use Rattle.sctp_pair.proofs.BetweenChunks.{Underway}
@@ -46,7 +46,7 @@ learnt x acts {a} {b} k u is (inr (met, deaf)) =
         between = record {
           outgoing = u.holds.between.outgoing;
           incoming =
-              meetings_are_no_events p x.peer u.coming2 (u.silent never) u.holds.sound_coming.invariant
+              peer_known_is_no_event p x.peer u.coming2 (u.silent never) u.holds.sound_coming.invariant
               u.holds.sound_coming.plain u.holds.between.incoming;
         };
         in_order = u.holds.in_order;

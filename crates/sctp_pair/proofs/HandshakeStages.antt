@@ -4,7 +4,7 @@ use Rattle.std.proofs.lemmas.Bool.{true≢false}
 use Rattle.sctp_wire_types.specs.declared.chunk.Chunk.{Chunk}
 use Rattle.sctp_wire_types.specs.declared.chunk.Chunk.TheVariants as chunks
 use Rattle.sctp_sides.specs.Meeting.{HasCome, IsNoEarlier, MayHear, Stage, stage_of}
-use Rattle.sctp_sides.specs.Shapes.{IsSameStatus, KeepsWorking, Leaves}
+use Rattle.sctp_sides.specs.SideLaws.{IsSameStatus, KeepsWorking, Leaves}
 use Rattle.sctp_assoc.specs.Shown.{Shown}
 use Rattle.sctp_sides.proofs.Proved.{the_same_handshake_is_the_same_stage}
 use Rattle.sctp_pair.specs.Fits.{IsAt, StagesAgree}

@@ -72,25 +72,25 @@ count_without test x (suc n) l t = ⊎_elim
     (cases_lt x n)
 
 -- a number below n that passes the test
-pub record Passes (test : ℕ → Bool) (n i : ℕ) : Type 0 where
+pub record PassesBelow (test : ℕ → Bool) (n i : ℕ) : Type 0 where
   pub below : i < n
   pub pass : test i ≡ true
 
-still_passes : (test : ℕ → Bool) (n x i : ℕ) → Passes test n i → eqb i x ≡ false → Passes (without test x) n i
+still_passes : (test : ℕ → Bool) (n x i : ℕ) → PassesBelow test n i → eqb i x ≡ false → PassesBelow (without test x) n i
 still_passes test n x i h e = record {
   below = h.below;
   pass = ap (λ (c : Bool). c && not (eqb i x)) h.pass ∙ ap (λ (c : Bool). not c) e;
 }
 
-all_still_pass : (test : ℕ → Bool) (n x : ℕ) (is : List ℕ) → mem x is ≡ false → AllByRecursion (Passes test n) is
-    → AllByRecursion (Passes (without test x) n) is
+all_still_pass : (test : ℕ → Bool) (n x : ℕ) (is : List ℕ) → mem x is ≡ false → AllByRecursion (PassesBelow test n) is
+    → AllByRecursion (PassesBelow (without test x) n) is
 all_still_pass test n x [] m a = tt
 all_still_pass test n x (i ∷ is) m a =
     let parts = or_parts (eqb i x) (mem x is) m in
     (still_passes test n x i a.0 parts.0, all_still_pass test n x is parts.1 a.1)
 
 -- Distinct numbers below n that pass a test are no more than all that pass it there.
-pub distinct_counted : (test : ℕ → Bool) (n : ℕ) (is : List ℕ) → AreDistinct is → AllByRecursion (Passes test n) is
+pub distinct_counted : (test : ℕ → Bool) (n : ℕ) (is : List ℕ) → AreDistinct is → AllByRecursion (PassesBelow test n) is
     → length is ≤ count_of test n
 distinct_counted test n [] once a = omega arith
 distinct_counted test n (i ∷ is) once a =

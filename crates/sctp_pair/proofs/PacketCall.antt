@@ -12,7 +12,7 @@ use Rattle.sctp_assoc.specs.Leads.{parts}
 use Rattle.sctp_assoc.specs.Closing.{is_closed_state}
 use Rattle.sctp_assoc.specs.Chunks.{after_packet}
 use Rattle.sctp_sides.specs.Meeting.{IsNoEarlier, Stage, stage_of}
-use Rattle.sctp_sides.specs.Shapes.{Closes, EndsPacket, OfEachChunk}
+use Rattle.sctp_sides.specs.SideLaws.{Closes, EndsPacket, OfEachChunk}
 use Rattle.sctp_assoc.specs.Shown.{Shown}
 use Rattle.sctp_sides.proofs.Proved.{lost_associations_take_nothing, no_packet_changes_nothing, packets_carry}
 use Rattle.sctp_sides.proofs.Proved.{the_same_handshake_is_the_same_stage}
@@ -27,10 +27,10 @@ use Rattle.sctp_pair.proofs.BetweenDirections.{SettlesQuietly, Surroundings, doe
 use Rattle.sctp_pair.proofs.BetweenDirections.{goes_nowhere, goes_on, moved, nothing_added, nothing_read}
 use Rattle.sctp_pair.proofs.BetweenDirections.{other_by_receiver, sound_after}
 use Rattle.sctp_pair.proofs.PacketChunks.{OtherSays, SaidIn, all_said_in, chunk_step}
-use Rattle.sctp_pair.proofs.SimpleCalls.{fails_settle, same_settles}
+use Rattle.sctp_pair.proofs.QuietCalls.{fails_settle, same_settles}
 use Rattle.sctp_pair.proofs.HandshakeStages.{stays_put, works_on}
 use Rattle.sctp_pair.proofs.BetweenChunks.{Underway, goes_same, meets_same, stands_by}
-use Rattle.sctp_sides.specs.Shapes.{Exhausts, IsOver}
+use Rattle.sctp_sides.specs.SideLaws.{Exhausts, IsOver}
 use Rattle.sctp_sides.specs.Meeting.{IsTruthful}
 
 -- The end of a packet

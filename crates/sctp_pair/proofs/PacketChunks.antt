@@ -20,7 +20,7 @@ use Rattle.sctp_model.specs.Safe.{IsWithin}
 use Rattle.sctp_model.proofs.Lists.{all_get}
 use Rattle.sctp_fit.specs.Incoming.{IsSaid}
 use Rattle.sctp_fit.specs.Sendings.{IsGiven}
-use Rattle.sctp_directions.specs.Acts.{Act, CanAll, History, MeetsNobody, Parts, done, done_all}
+use Rattle.sctp_directions.specs.Acts.{Act, CanAll, History, IsNotPeerKnown, Parts, done, done_all}
 use Rattle.sctp_directions.specs.Reports.{SaysWhatWasTaken}
 use Rattle.sctp_directions.specs.Said.{IsMade}
 use Rattle.sctp_directions.proofs.Proved.{acts_keep_the_initial_tsns, sacks_mean_the_same}
@@ -28,16 +28,16 @@ use Rattle.sctp_assoc.specs.Leads.{parts}
 use Rattle.sctp_assoc.specs.Happened.{acts_of_chunk}
 use Rattle.sctp_assoc.specs.Shown.{Shown}
 use Rattle.sctp_sides.specs.Meeting.{Greets}
-use Rattle.sctp_sides.specs.Shapes.{Acknowledges, IsTaking, OpensAndTakes, OpensOnly, TakesChunk, TakesOnly}
-use Rattle.sctp_sides.proofs.Proved.{data_is_taken, sacks_acknowledge}
+use Rattle.sctp_sides.specs.SideLaws.{IsAcknowledging, IsTaking, OpensAndTakes, OpensOnly, TakesChunk, TakesOnly}
+use Rattle.sctp_sides.proofs.Proved.{data_opens_or_takes, sacks_acknowledge}
 use Rattle.sctp_pair.specs.Fits.{IsSaidBy}
 use Rattle.sctp_pair.specs.World.{HasData}
 use Rattle.sctp_pair.proofs.BetweenDirections.{Holds, None_brought, Surroundings, goes_nowhere, goes_on, moved}
-use Rattle.sctp_pair.proofs.DataGiven.{AfterOut, act_acknowledged}
+use Rattle.sctp_pair.proofs.OutgoingData.{AfterOut, act_acknowledged}
 use Rattle.sctp_pair.proofs.HandshakeStages.{hearers_know}
 use Rattle.sctp_pair.proofs.HandshakeChunk.{greet_step}
 use Rattle.sctp_pair.proofs.BetweenChunks.{Underway, goes_same, meets_same, stands_by}
-use Rattle.sctp_pair.proofs.DataTaken.{AfterComing, act_opened, act_took, coming_nowhere}
+use Rattle.sctp_pair.proofs.ComingData.{AfterComing, act_opened, act_took, coming_nowhere}
 
 -- DATA
 
@@ -120,12 +120,13 @@ module _ (x : Surroundings) (B : ℕ → Type 0) (a : Shown) (h : History) (piec
   take_shape acts (inr (inr (inr t))) can (k, d, e, said) brings =
       data_takes k d e said (brings d.offset said.carries.tsn) acts can t
 
-taking_meets_nobody : (a : Shown) (piece : ChunkPayloadData) (acts : List Act) → IsTaking a piece acts
-    → AllByRecursion MeetsNobody acts
-taking_meets_nobody a piece acts (inl n) = subst (AllByRecursion MeetsNobody) (sym n) tt
-taking_meets_nobody a piece acts (inr (inl o)) = subst (AllByRecursion MeetsNobody) (sym o.are) (tt, tt)
-taking_meets_nobody a piece acts (inr (inr (inl t))) = subst (AllByRecursion MeetsNobody) (sym t.are) (tt, (tt, tt))
-taking_meets_nobody a piece acts (inr (inr (inr t))) = subst (AllByRecursion MeetsNobody) (sym t.are) (tt, tt)
+taking_is_not_peer_known : (a : Shown) (piece : ChunkPayloadData) (acts : List Act) → IsTaking a piece acts
+    → AllByRecursion IsNotPeerKnown acts
+taking_is_not_peer_known a piece acts (inl n) = subst (AllByRecursion IsNotPeerKnown) (sym n) tt
+taking_is_not_peer_known a piece acts (inr (inl o)) = subst (AllByRecursion IsNotPeerKnown) (sym o.are) (tt, tt)
+taking_is_not_peer_known a piece acts (inr (inr (inl t))) =
+    subst (AllByRecursion IsNotPeerKnown) (sym t.are) (tt, (tt, tt))
+taking_is_not_peer_known a piece acts (inr (inr (inr t))) = subst (AllByRecursion IsNotPeerKnown) (sym t.are) (tt, tt)
 
 data_step : {x : Surroundings} {B : ℕ → Type 0} (header : CommonHeader) (piece : ChunkPayloadData) {a b : Shown}
     → TakesChunk header (chunks.Data piece) a b → IsGiven x.peer x.coming piece
@@ -134,7 +135,7 @@ unfolding stands_by
 data_step {x} {B} header piece {a} {b} takes (k, d, e, said) brings u =
     let h : History = u.stands.past in
     let acts : List Act = acts_of_chunk a header (chunks.Data piece) in
-    let taking = data_is_taken a header piece in
+    let taking = data_opens_or_takes a header piece in
     let leads = takes.leads h u.stands.binds in
     let there = u.goes_coming.datas k d e in
     let now : Surroundings = moved x u.out2 u.coming2 in
@@ -144,7 +145,7 @@ data_step {x} {B} header piece {a} {b} takes (k, d, e, said) brings u =
     let next : Surroundings = moved x u.out2 after.coming2 in
     let holds : Holds next (parts b leads.0) = subst (Holds next) (sym leads.1.there) after.holds in
     let met = ap (λ (p : Parts). p.history.peer) leads.1.there
-    ∙ (acts_keep_the_initial_tsns acts (parts a h) (taking_meets_nobody a piece acts taking)).1 in
+    ∙ (acts_keep_the_initial_tsns acts (parts a h) (taking_is_not_peer_known a piece acts taking)).1 in
     record {
       out2 = u.out2;
       coming2 = after.coming2;
@@ -170,7 +171,7 @@ Goes_out x p acts =
     × (after.out2.sender.plan.places ≡ x.out.sender.plan.places)
 
 sack_shape : (x : Surroundings) (a : Shown) (h : History) (c : ChunkSelectiveAck) (acts : List Act)
-    → (acts ≡ []) ⊎ Acknowledges a h c acts → IsMade x.own x.out c → IsWithin x.out
+    → (acts ≡ []) ⊎ IsAcknowledging a h c acts → IsMade x.own x.out c → IsWithin x.out
     → Holds x (parts a h) → Goes_out x (parts a h) acts
 sack_shape x a h c acts (inl n) made within holds =
     subst (Goes_out x (parts a h)) (sym n)
@@ -184,10 +185,10 @@ sack_shape x a h c acts (inr s) (k, sack, e, says) within holds =
     let one = act_acknowledged s.count k s.missing c sack holds e named at s.within in
     subst (Goes_out x (parts a h)) (sym s.are) (one.0, one.1 within, one.2)
 
-sack_meets_nobody : (a : Shown) (h : History) (c : ChunkSelectiveAck) (acts : List Act)
-    → (acts ≡ []) ⊎ Acknowledges a h c acts → AllByRecursion MeetsNobody acts
-sack_meets_nobody a h c acts (inl n) = subst (AllByRecursion MeetsNobody) (sym n) tt
-sack_meets_nobody a h c acts (inr s) = subst (AllByRecursion MeetsNobody) (sym s.are) (tt, tt)
+sack_is_not_peer_known : (a : Shown) (h : History) (c : ChunkSelectiveAck) (acts : List Act)
+    → (acts ≡ []) ⊎ IsAcknowledging a h c acts → AllByRecursion IsNotPeerKnown acts
+sack_is_not_peer_known a h c acts (inl n) = subst (AllByRecursion IsNotPeerKnown) (sym n) tt
+sack_is_not_peer_known a h c acts (inr s) = subst (AllByRecursion IsNotPeerKnown) (sym s.are) (tt, tt)
 
 sack_step : {x : Surroundings} {B : ℕ → Type 0} (header : CommonHeader) (s : ChunkSelectiveAck) {a b : Shown}
     → TakesChunk header (chunks.SelectiveAck s) a b → IsMade x.own x.out s → Underway x B a → Underway x B b
@@ -203,7 +204,7 @@ sack_step {x} {B} header s {a} {b} takes (k, sack, e, says) u =
     let next : Surroundings = moved x after.out2 u.coming2 in
     let holds : Holds next (parts b leads.0) = subst (Holds next) (sym leads.1.there) after.holds in
     let met = ap (λ (p : Parts). p.history.peer) leads.1.there
-    ∙ (acts_keep_the_initial_tsns acts (parts a h) (sack_meets_nobody a h s acts shape)).1 in
+    ∙ (acts_keep_the_initial_tsns acts (parts a h) (sack_is_not_peer_known a h s acts shape)).1 in
     record {
       out2 = after.out2;
       coming2 = u.coming2;

@@ -17,8 +17,8 @@ use Rattle.sctp_assoc.specs.declared.control.ControlPacket.{ControlPacket}
 use Rattle.sctp_sides.specs.Meeting.{Greets, IsTruthful, Stage, stage_of}
 use Rattle.sctp_assoc.specs.Gather.{AreControlReadAgain, control_packets, has_something_to_give, polled}
 use Rattle.sctp_assoc.specs.Gather.{without_control}
-use Rattle.sctp_sides.specs.Shapes.{IsExchanged, IsGivenBy, IsPolling, IsSameStatus, IsWaitingToGo, OfEachChunk}
-use Rattle.sctp_sides.specs.Shapes.{reports}
+use Rattle.sctp_sides.specs.SideLaws.{IsExchanged, IsGivenBy, IsPolling, IsSameStatus, IsWaitingToGo, OfEachChunk}
+use Rattle.sctp_sides.specs.SideLaws.{reports}
 use Rattle.sctp_assoc.specs.Shown.{Shown}
 use Rattle.sctp_sides.proofs.Proved.{done_append, established_sides_talk, given_append, polls_give_and_report}
 use Rattle.sctp_sides.proofs.Proved.{polls_keep_the_status, polls_outside_established_give_what_waits}
@@ -31,10 +31,10 @@ use Rattle.sctp_pair.specs.Fits.{AreSaid, IsSaidBy}
 use Rattle.sctp_pair.specs.Steps.{Fails, GivesOut, HadFailed, LosesSome, packet_in}
 use Rattle.sctp_pair.proofs.BetweenDirections.{ClosedAt, Faces, Holds, None_brought, OpenAt, SettlesQuietly, StandsAt}
 use Rattle.sctp_pair.proofs.BetweenDirections.{Surroundings, does_by_goes, moved}
-use Rattle.sctp_pair.proofs.DataGiven.{all_given}
-use Rattle.sctp_pair.proofs.SimpleCalls.{by_working, closed_on, fails_settle, same_settles, still}
+use Rattle.sctp_pair.proofs.OutgoingData.{all_given}
+use Rattle.sctp_pair.proofs.QuietCalls.{by_working, closed_on, fails_settle, same_settles, still}
 use Rattle.sctp_pair.proofs.HandshakeStages.{at_same, come_on, stays_put}
-use Rattle.sctp_pair.proofs.DataTaken.{AfterComing, ReportsSaid, act_reported, coming_nowhere}
+use Rattle.sctp_pair.proofs.ComingData.{AfterComing, ReportsSaid, act_reported, coming_nowhere}
 
 can_front : (xs ys : List Act) (p : Parts) → CanAll (xs ++ ys) p → CanAll xs p
 can_front [] ys p c = tt
@@ -205,7 +205,7 @@ open_without x a same s = record {
   peer_is = s.peer_is;
   binds = record {
     first = s.binds.first;
-    point = s.binds.point;
+    peer_last_tsn = s.binds.peer_last_tsn;
     held = s.binds.held;
     marked = s.binds.marked;
   };

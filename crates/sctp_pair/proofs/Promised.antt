@@ -16,8 +16,8 @@ use Rattle.sctp_model.proofs.Proved.{the_invariant_is_enough}
 use Rattle.sctp_reassembly.specs.Stands.{letter_received}
 use Rattle.sctp_fit.specs.Incoming.{FitsIncoming, IsQueueAt, Receiving}
 use Rattle.sctp_fit.specs.Outgoing.{FitsOutgoing, Sending}
-use Rattle.sctp_fit.proofs.Pinned.{what_is_released_is_not_buffered}
-use Rattle.sctp_fit.proofs.ReadsAnswered.{the_same_is_ready}
+use Rattle.sctp_fit.proofs.SendersPinned.{what_is_released_is_not_buffered}
+use Rattle.sctp_fit.proofs.ReadsAnswered.{the_same_streams_are_ready}
 use Rattle.sctp_directions.specs.Acts.{receiving, sending}
 use Rattle.sctp_directions.specs.Between.{IsSound}
 use Rattle.sctp_assoc.specs.Leads.{parts}
@@ -68,7 +68,7 @@ ready_at None a s w there span within invariant fits =
     (subst (λ (o : Option StreamView). IsQueueAt a.peer w.sender.plan s o (w.receiver.queues s)) there
     (fits.queues s span))
 ready_at (Some t) a s w there span within invariant fits =
-    the_same_is_ready a s t w there span within invariant fits
+    the_same_streams_are_ready a s t w there span within invariant fits
 
 -- what is released of a stream is what was accepted and isn't buffered, where the association can be asked for that
 released_if : (failed : Bool) (o : Option StreamView) (a : Sending) (s n : ℕ) (w : Direction)

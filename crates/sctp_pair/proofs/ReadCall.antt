@@ -24,7 +24,7 @@ use Rattle.sctp_assoc.specs.Calls.{first_refusal, read_exhausts, read_from_strea
 use Rattle.sctp_assoc.specs.Closing.{exhausted, is_closed_state, is_exhausted}
 use Rattle.sctp_assoc.specs.Shown.{Shown}
 use Rattle.sctp_sides.specs.Meeting.{IsTruthful, Stage}
-use Rattle.sctp_sides.specs.Shapes.{Exhausts, HoldsNothing, IsLive, IsOver, IsSameStatus, with_read}
+use Rattle.sctp_sides.specs.SideLaws.{Exhausts, HoldsNothing, IsLive, IsOver, IsSameStatus, with_read}
 use Rattle.sctp_sides.proofs.Proved.{exhaustion_closes, found_streams_are_live, plain_read_leads, reads_keep_the_status}
 use Rattle.sctp_sides.proofs.Proved.{the_same_handshake_is_the_same_stage, what_holds_nothing_gives_nothing}
 use Rattle.sctp_pair.specs.declared.step.Reply.{Reply}
@@ -36,7 +36,7 @@ use Rattle.sctp_pair.proofs.BetweenDirections.{ClosedAt, Does, Faces, Goes, None
 use Rattle.sctp_pair.proofs.BetweenDirections.{Settles, SettlesQuietly, StandsAt, goes_by_receiver, run_append}
 use Rattle.sctp_pair.proofs.BetweenDirections.{Surroundings, does_by_goes, goes_nowhere, nothing_added}
 use Rattle.sctp_pair.proofs.BetweenDirections.{other_by_receiver, sound_after}
-use Rattle.sctp_pair.proofs.SimpleCalls.{by_working, closed_on, fails_settle, open_on, same_settles, still}
+use Rattle.sctp_pair.proofs.QuietCalls.{by_working, closed_on, fails_settle, open_on, same_settles, still}
 use Rattle.sctp_pair.proofs.HandshakeStages.{at_same, stays_put}
 
 -- what a read with this reply gives on stream s

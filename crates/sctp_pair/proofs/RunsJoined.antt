@@ -22,7 +22,7 @@ runs_join (x ∷ xs) (y ∷ ys) p u q more answers (v, first, rest) h =
 runs_join [] (y ∷ ys) p u q more answers h i = absurd h
 runs_join (x ∷ xs) [] p u q more answers h i = absurd h
 
--- a run goes on by the step at place i of a list
+-- a run goes on by the step at index i of a list
 module _ (ss : List Step) (i : ℕ) (s : Step) (rs more : List Reply) (p u q : Ends) (r : Reply) where
   pub run_next : i < length ss → s ≡ get_or ss i s → more ≡ rs ++ r ∷ [] → Runs (take i ss) rs p u → Steps s u r q
       → Runs (take (i + 1) ss) more p q

@@ -8,7 +8,7 @@ use Rattle.sctp_model.specs.Packets.{Data, Sack}
 use Rattle.sctp_model.specs.Machine.{Direction}
 use Rattle.sctp_model.proofs.Lists.{all_weaker}
 use Rattle.sctp_sides.specs.Meeting.{IsNoEarlier, Stage}
-use Rattle.sctp_sides.specs.Shapes.{OfEachChunk}
+use Rattle.sctp_sides.specs.SideLaws.{OfEachChunk}
 use Rattle.sctp_sides.proofs.Proved.{greetings_stay_true}
 use Rattle.sctp_directions.specs.Said.{Says}
 use Rattle.sctp_pair.specs.Steps.{packet_in}
@@ -23,13 +23,13 @@ abbrev pub KeepsSacks : Direction → Direction → Type 0
 KeepsSacks w v = (k : ℕ) (x : Sack) → slice_get w.sacks k ≡ Some x → slice_get v.sacks k ≡ Some x
 
 -- A side's stage goes on, and so do its own direction and the one that comes to it.
-pub record GoesOn (s t : Stage) (out coming out2 coming2 : Direction) : Type 0 where
+pub record StageGoesOn (s t : Stage) (out coming out2 coming2 : Direction) : Type 0 where
   pub goes : IsNoEarlier s t
   pub datas : KeepsDatas out out2
   pub sacks : KeepsSacks coming coming2
 
 module _ (own peer : ℕ) {s t : Stage} {out coming out2 coming2 : Direction}
-    (g : GoesOn s t out coming out2 coming2) where
+    (g : StageGoesOn s t out coming out2 coming2) where
   -- one chunk
   chunk_grows : (c : Chunk) → Says own peer out coming c → Says own peer out2 coming2 c
   chunk_grows (chunks.Data c) (k, d, there, said) = (k, d, g.datas k d there, said)

@@ -9,7 +9,7 @@ use Rattle.sctp_receive_queues.specs.Messages as letters
 use Rattle.sctp_model.specs.Messages.{Message}
 use Rattle.sctp_serial.specs.Serial.{tsn}
 use Rattle.sctp_model.proofs.Lists.{all_get}
-use Rattle.sctp_sides.specs.Shapes.{OfEachChunk}
+use Rattle.sctp_sides.specs.SideLaws.{OfEachChunk}
 use Rattle.sctp_assoc.specs.Calls.{first_filled}
 use Rattle.sctp_assoc.specs.Shown.{Shown}
 use Rattle.sctp_pair.specs.declared.step.Reply.{Reply}
@@ -20,7 +20,8 @@ use Rattle.sctp_pair.specs.declared.step.Step.{Step}
 use Rattle.sctp_pair.specs.declared.step.Step.TheVariants as steps
 use Rattle.sctp_pair.specs.Ends.{Ends, end_of, packets_of}
 use Rattle.sctp_pair.specs.Steps.{AtSide, Buffers, ComesTo, Delivers, Expires, Finds, Measures, Opens, Reads, SendsAt}
-use Rattle.sctp_pair.specs.Steps.{Accepts, ClosesOne, Limits, Lists, Sets, ShowsOrRefuses, Steps, Tells, Writes}
+use Rattle.sctp_pair.specs.Steps.{AcceptsStream, ClosesOne, Limits, Lists, Sets, ShowsOrRefuses, Steps, PollsEvent}
+use Rattle.sctp_pair.specs.Steps.{Writes}
 use Rattle.sctp_pair.specs.Steps.{WritesFirst}
 use Rattle.sctp_pair.specs.Steps.{packet_in}
 use Rattle.sctp_streams.specs.declared.setting.Setting.TheVariants as settings
@@ -36,7 +37,7 @@ use Rattle.sctp_pair.proofs.PacketCall.{Brings_of, brings_more, brought_by, pack
 use Rattle.sctp_pair.proofs.PacketChunks.{OtherSays}
 use Rattle.sctp_pair.proofs.PollCall.{poll_settles}
 use Rattle.sctp_pair.proofs.ReadCall.{read_by, reads_settle}
-use Rattle.sctp_pair.proofs.SimpleCalls.{buffers_same, finds_same, measures_same, opens_settle, same_settles}
+use Rattle.sctp_pair.proofs.QuietCalls.{buffers_same, finds_same, measures_same, opens_settle, same_settles}
 use Rattle.sctp_pair.proofs.StreamCalls.{accepts_settle, closes_settle, limits_settle, lists_same, sets_settle}
 use Rattle.sctp_pair.proofs.StreamCalls.{shows_same}
 use Rattle.sctp_pair.proofs.StreamCalls.{IsCovered, reliability_settles}
@@ -277,7 +278,7 @@ module _ (q : Ends) (r : Reply) (w : World) (fits : Fits w.ends w) where
       (λ a b. ShowsOrRefuses a id (λ s. replies.Threshold s.high_mark) r b)
       (λ a b c. shows_same a id (λ s. replies.Threshold s.high_mark) r b c) (λ y s. (refl, refl)) h h
   step_at (steps.AcceptStream side) h =
-      quiet_leads side (steps.AcceptStream side) (λ a b. Accepts a r b) (λ x a b c. accepts_settle r c)
+      quiet_leads side (steps.AcceptStream side) (λ a b. AcceptsStream a r b) (λ x a b c. accepts_settle r c)
       (λ y s. (refl, refl)) h h
   step_at (steps.SetMaxSendMessageSize side size) h =
       quiet_leads side (steps.SetMaxSendMessageSize side size) (λ a b. Limits a size r b)
@@ -292,7 +293,7 @@ module _ (q : Ends) (r : Reply) (w : World) (fits : Fits w.ends w) where
       same_leads side (steps.BufferedAmount side id) (λ a b. Buffers a id r b) (λ a b c. buffers_same a id r b c)
       (λ y s. (refl, refl)) h h
   step_at (steps.Poll side) h =
-      quiet_leads side (steps.Poll side) (λ a b. Tells a r b) (λ x a b c. tells_settle r c)
+      quiet_leads side (steps.Poll side) (λ a b. PollsEvent a r b) (λ x a b c. tells_settle r c)
       (λ y s. (refl, refl)) h h
   step_at (steps.PollTimeout side) h =
       same_leads side (steps.PollTimeout side) _ (λ a b c. c.1) (λ y s. (refl, refl)) h h

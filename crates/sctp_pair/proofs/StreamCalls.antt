@@ -20,19 +20,19 @@ use Rattle.sctp_assoc.specs.Calls.{accepted_from, accepted_stream, adjusted, str
 use Rattle.sctp_assoc.specs.Calls.{with_max_send_message_size}
 use Rattle.sctp_assoc.specs.Closing.{closed_by, is_closed_state}
 use Rattle.sctp_assoc.specs.Shown.{Shown}
-use Rattle.sctp_sides.specs.Shapes.{IsSameStatus}
+use Rattle.sctp_sides.specs.SideLaws.{IsSameStatus}
 use Rattle.sctp_sides.proofs.Proved.{accept_leads_on, accepted_streams_keep_the_status, faults_close}
 use Rattle.sctp_sides.proofs.Proved.{limit_leads_on, limits_keep_the_status}
 use Rattle.sctp_sides.proofs.Proved.{found_streams_are_live, setting_leads_on, settings_hold_nothing}
 use Rattle.sctp_sides.proofs.Proved.{settings_keep_the_status, the_same_handshake_is_the_same_stage}
 use Rattle.sctp_pair.specs.declared.step.Reply.{Reply}
 use Rattle.sctp_pair.specs.declared.step.Reply.TheVariants as replies
-use Rattle.sctp_pair.specs.Steps.{Accepts, ClosesOne, Limits, Lists, Sets, ShowsOrRefuses}
+use Rattle.sctp_pair.specs.Steps.{AcceptsStream, ClosesOne, Limits, Lists, Sets, ShowsOrRefuses}
 use Rattle.sctp_pair.proofs.BetweenDirections.{KeepsOrder, orderly_acts_keep_order}
 use Rattle.sctp_pair.proofs.BetweenDirections.{Faces, SettlesQuietly, Surroundings}
-use Rattle.sctp_pair.proofs.SimpleCalls.{by_working, closed_on, fails_settle, open_on, same_settles}
-use Rattle.sctp_pair.proofs.SimpleCalls.{settles_by_receiver}
-use Rattle.sctp_pair.proofs.SimpleCalls.{still}
+use Rattle.sctp_pair.proofs.QuietCalls.{by_working, closed_on, fails_settle, open_on, same_settles}
+use Rattle.sctp_pair.proofs.QuietCalls.{settles_by_receiver}
+use Rattle.sctp_pair.proofs.QuietCalls.{still}
 use Rattle.sctp_pair.proofs.TimedCalls.{empty_still}
 use Rattle.sctp_pair.proofs.HandshakeStages.{at_same}
 
@@ -152,7 +152,7 @@ accepted_if_failed a b id failed e =
     ≡ (b, id)) failed e))
 
 -- The oldest stream that the peer opened is accepted, or there is none.
-pub accepts_settle : {x : Surroundings} {a b : Shown} (r : Reply) → Accepts a r b → Faces x a → SettlesQuietly x b
+pub accepts_settle : {x : Surroundings} {a b : Shown} (r : Reply) → AcceptsStream a r b → Faces x a → SettlesQuietly x b
 accepts_settle {x} {a} {b} (replies.Accepted id) h f =
     ⊎_elim
     (λ (failed : a.failed ≡ true). same_settles (accepted_if_failed a b id failed h) f)

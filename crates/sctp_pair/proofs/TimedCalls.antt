@@ -5,22 +5,22 @@ use Rattle.sctp_streams.specs.declared.event.Event.{Event}
 use Rattle.sctp_model.specs.Machine.{Direction}
 use Rattle.sctp_fit.specs.Incoming.{FitsIncoming}
 use Rattle.sctp_fit.specs.Outgoing.{FitsOutgoing}
-use Rattle.sctp_directions.specs.Acts.{Act, MeetsNobody, Parts, done_all, receiving, sending}
-use Rattle.sctp_directions.proofs.Proved.{marks_are_no_events, own_acts_leave_what_comes}
+use Rattle.sctp_directions.specs.Acts.{Act, IsNotPeerKnown, Parts, done_all, receiving, sending}
+use Rattle.sctp_directions.proofs.Proved.{its_marks_are_no_events, own_acts_leave_what_comes}
 use Rattle.sctp_assoc.specs.Leads.{parts}
 use Rattle.sctp_assoc.specs.Calls.{event_polled}
 use Rattle.sctp_assoc.specs.Happened.{acts_of_timeouts}
 use Rattle.sctp_assoc.specs.Shown.{Shown}
 use Rattle.sctp_assoc.specs.Timeouts.{after_timeouts}
-use Rattle.sctp_sides.specs.Shapes.{HoldsNothing}
+use Rattle.sctp_sides.specs.SideLaws.{HoldsNothing}
 use Rattle.sctp_sides.proofs.Proved.{poll_leads_on, timeouts_lead_on, timeouts_mark_at_most, timers_keep_the_status}
 use Rattle.sctp_sides.proofs.Proved.{told_events_keep_the_status}
 use Rattle.sctp_pair.specs.declared.step.Reply.{Reply}
 use Rattle.sctp_pair.specs.declared.step.Reply.TheVariants as replies
-use Rattle.sctp_pair.specs.Steps.{Expires, Tells}
+use Rattle.sctp_pair.specs.Steps.{Expires, PollsEvent}
 use Rattle.sctp_pair.proofs.BetweenDirections.{orderly_acts_keep_order}
 use Rattle.sctp_pair.proofs.BetweenDirections.{Faces, KeepsOrder, SettlesQuietly, Surroundings}
-use Rattle.sctp_pair.proofs.SimpleCalls.{by_working, closed_on, fails_settle, open_on, same_settles, still}
+use Rattle.sctp_pair.proofs.QuietCalls.{by_working, closed_on, fails_settle, open_on, same_settles, still}
 use Rattle.sctp_pair.proofs.HandshakeStages.{at_same}
 
 -- Events
@@ -49,7 +49,7 @@ told_settles {x} {a} {b} event working e f =
     (inr (inl (closed_on stays.0 (empty_still a b stays.1 s.nothing_left) s))))
 
 -- The oldest event is told: the directions see nothing of it.
-pub tells_settle : {x : Surroundings} {a b : Shown} (r : Reply) → Tells a r b → Faces x a → SettlesQuietly x b
+pub tells_settle : {x : Surroundings} {a b : Shown} (r : Reply) → PollsEvent a r b → Faces x a → SettlesQuietly x b
 tells_settle (replies.Event event) h f = told_settles event h.0 h.1 f
 tells_settle (replies.Refused n) h f = same_settles h.2 f
 tells_settle r h f = absurd h
@@ -60,7 +60,7 @@ timeouts_out : (acts : List Act) (p : Parts) (w : Direction) → (acts ≡ []) �
     → FitsOutgoing (sending p) w → FitsOutgoing (sending (done_all acts p)) w
 timeouts_out acts p w (inl none) h = subst (λ zs. FitsOutgoing (sending (done_all zs p)) w) (sym none) h
 timeouts_out acts p w (inr marks) h =
-    subst (λ zs. FitsOutgoing (sending (done_all zs p)) w) (sym marks) (marks_are_no_events p w h)
+    subst (λ zs. FitsOutgoing (sending (done_all zs p)) w) (sym marks) (its_marks_are_no_events p w h)
 
 timeouts_coming : (acts : List Act) (p : Parts) (w : Direction) → (acts ≡ []) ⊎ (acts ≡ Act.Marked ∷ [])
     → FitsIncoming (receiving p) w → FitsIncoming (receiving (done_all acts p)) w
@@ -69,9 +69,10 @@ timeouts_coming acts p w (inr marks) h =
     subst (λ zs. FitsIncoming (receiving (done_all zs p)) w) (sym marks)
     (own_acts_leave_what_comes Act.Marked p w tt h)
 
-timeouts_meet_nobody : (acts : List Act) → (acts ≡ []) ⊎ (acts ≡ Act.Marked ∷ []) → AllByRecursion MeetsNobody acts
-timeouts_meet_nobody acts (inl none) = subst (AllByRecursion MeetsNobody) (sym none) tt
-timeouts_meet_nobody acts (inr marks) = subst (AllByRecursion MeetsNobody) (sym marks) (tt, tt)
+timeouts_are_not_peer_known : (acts : List Act) → (acts ≡ []) ⊎ (acts ≡ Act.Marked ∷ [])
+    → AllByRecursion IsNotPeerKnown acts
+timeouts_are_not_peer_known acts (inl none) = subst (AllByRecursion IsNotPeerKnown) (sym none) tt
+timeouts_are_not_peer_known acts (inr marks) = subst (AllByRecursion IsNotPeerKnown) (sym marks) (tt, tt)
 
 timeouts_keep_order : (loose : ℕ → Bool) (acts : List Act) → (acts ≡ []) ⊎ (acts ≡ Act.Marked ∷ [])
     → AllByRecursion (KeepsOrder loose) acts
@@ -92,7 +93,7 @@ expired_settles {x} {a} now working f =
     still f (at_same a b x.here stays.0 f.at) (inl (open_on x acts s record {
       past2 = m.0;
       leads = m.1;
-      nobody = timeouts_meet_nobody acts shape;
+      nobody = timeouts_are_not_peer_known acts shape;
       orderly = timeouts_keep_order x.loose acts shape;
       same = stays.0;
       size = refl;

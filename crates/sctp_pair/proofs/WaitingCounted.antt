@@ -16,7 +16,7 @@ use Rattle.sctp_model.specs.Invariants.{Invariant, IsGot, numbers_of}
 use Rattle.sctp_model.specs.Safe.{AreDistinct, is_ordered, number_of, read_end, unread}
 use Rattle.sctp_model.proofs.Lists.{all_front}
 use Rattle.sctp_fit.proofs.CountsBelow.{count_of}
-use Rattle.sctp_pair.proofs.NumbersCounted.{Passes, distinct_counted, ordered_apart}
+use Rattle.sctp_pair.proofs.NumbersCounted.{PassesBelow, distinct_counted, ordered_apart}
 
 -- a number that stands for no value of a list stands for none of its front, and what is distinct is so in front
 none_in_front : (f : Got → ℕ) (gs more : List Got) (i : ℕ) → mem i (map f (gs ++ more)) ≡ false
@@ -63,7 +63,7 @@ module _ (p : Plan) (taken : List ℕ) (s e : ℕ) where
 
   -- each number of what was read is one that was accepted, and passes
   numbers_pass : (gs : List Got) → AllByRecursion (IsGot p taken s) gs → AreBelow gs
-      → AllByRecursion (Passes is_passed (length (p.accepted s))) (numbers_of p gs)
+      → AllByRecursion (PassesBelow is_passed (length (p.accepted s))) (numbers_of p gs)
   numbers_pass [] a b = tt
   numbers_pass (g ∷ gs) a b =
       let t = (a.0).tells in

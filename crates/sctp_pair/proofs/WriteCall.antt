@@ -16,12 +16,12 @@ use Rattle.sctp_fit.specs.Outgoing.{policy_of}
 use Rattle.sctp_fit.specs.Writes.{message_on}
 use Rattle.sctp_directions.specs.Acts.{Act, type_on}
 use Rattle.sctp_directions.proofs.Proved.{only_beginnings_assign, own_acts_leave_what_comes, senders_events_are_sent}
-use Rattle.sctp_directions.proofs.Proved.{senders_events_keep_the_invariant, writes_are_accepted}
+use Rattle.sctp_directions.proofs.Proved.{senders_events_keep_the_invariant, its_writes_are_accepted}
 use Rattle.sctp_directions.proofs.Proved.{writes_are_accepted_last}
 use Rattle.sctp_assoc.specs.Leads.{parts}
 use Rattle.sctp_assoc.specs.Calls.{first_filled, first_refusal, written}
 use Rattle.sctp_assoc.specs.Shown.{Shown}
-use Rattle.sctp_sides.specs.Shapes.{WasWritable}
+use Rattle.sctp_sides.specs.SideLaws.{WasWritable}
 use Rattle.sctp_sides.proofs.Proved.{accepted_writes_fit, write_leads_on, writes_keep_the_status}
 use Rattle.sctp_pair.specs.declared.step.Reply.{Reply}
 use Rattle.sctp_pair.specs.declared.step.Reply.TheVariants as replies
@@ -31,7 +31,7 @@ use Rattle.sctp_pair.proofs.BetweenDirections.{orderly_acts_keep_order}
 use Rattle.sctp_pair.proofs.BetweenDirections.{Does, Faces, None_brought, OpenAt, Settles, Surroundings}
 use Rattle.sctp_pair.proofs.BetweenDirections.{does_by_goes, goes_nowhere, nothing_read, other_by_sender}
 use Rattle.sctp_pair.proofs.BetweenDirections.{sound_after}
-use Rattle.sctp_pair.proofs.SimpleCalls.{by_working, open_on, same_settles}
+use Rattle.sctp_pair.proofs.QuietCalls.{by_working, open_on, same_settles}
 use Rattle.sctp_pair.proofs.HandshakeStages.{at_same, stays_put}
 
 -- what a write with this reply adds to what was accepted on stream s
@@ -101,7 +101,7 @@ written_settles {x} {a} id n named bytes can f s =
       same = writes_keep_the_status a id named bytes;
       size = sent.0.size;
       outgoing =
-          writes_are_accepted (parts a s.past) id named bytes t x.out there can.some f.sound_out.invariant
+          its_writes_are_accepted (parts a s.past) id named bytes t x.out there can.some f.sound_out.invariant
           f.sound_out.counts s.between.outgoing;
       incoming =
           own_acts_leave_what_comes (Act.Wrote id named bytes) (parts a s.past) x.coming tt s.between.incoming;

@@ -124,25 +124,25 @@ IsNamed None kind = ⊤
 IsNamed (Some named) kind = kind ≡ named
 
 -- What was read is what was written.
-pub record IsSameMessage (message : ReceivedMessage) (written : WrittenMessage) : Type 0 where
+pub record IsAsWritten (message : ReceivedMessage) (written : WrittenMessage) : Type 0 where
   pub bytes : bytes_left message ≡ written.bytes
   pub payload_type : IsNamed written.named message.payload_type
 
--- each message that was read is the one that was written at its place, one place for each
+-- each message that was read is the one that was written at its index, one index for each
 abbrev pub AreAt : List ReceivedMessage → List ℕ → List WrittenMessage → Type 0
 AreAt [] [] written = ⊤
-AreAt (message ∷ messages) (place ∷ places) written =
-    ((w : WrittenMessage) × (slice_get written place ≡ Some w) × IsSameMessage message w)
-    × AreAt messages places written
-AreAt [] (place ∷ places) written = ⊥
+AreAt (message ∷ messages) (index ∷ indexes) written =
+    ((w : WrittenMessage) × (slice_get written index ≡ Some w) × IsAsWritten message w)
+    × AreAt messages indexes written
+AreAt [] (index ∷ indexes) written = ⊥
 AreAt (message ∷ messages) [] written = ⊥
 
 -- On each stream, in order or not, each message that either side read was written by the other side, whole, and is read
 -- at most once.
 abbrev pub ReadsWereWritten : List Step → List Reply → Type 0
 ReadsWereWritten ss rs = (x : Side2) (s : ℕ)
-    → (places : List ℕ) × AreDistinct places
-    × AreAt (messages_read ss rs (other_side x) s) places (messages_written ss rs x s)
+    → (indexes : List ℕ) × AreDistinct indexes
+    × AreAt (messages_read ss rs (other_side x) s) indexes (messages_written ss rs x s)
 
 -- a side that was handed no packet yet reads nothing
 abbrev pub NothingIsReadBeforeADelivery : List Step → List Reply → Type 0

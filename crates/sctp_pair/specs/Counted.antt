@@ -3,7 +3,7 @@
 use Rattle.std.specs.Prelude.{◌≡◌, ℕ, ◌<◌, ◌≤◌, ◌+◌, ◌-◌, ◌^◌, ◌&&◌, ◌==◌, false, if◌then◌else◌, is_some, List, [], ◌∷◌}
 use Rattle.std.specs.Prelude.{length, Option, Some}
 use Rattle.sctp_serial.specs.Serial.{tsn_past}
-use Rattle.sctp_fit.specs.Counted.{HasAccepted, pieces_in}
+use Rattle.sctp_fit.specs.FewPieces.{HasAccepted, pieces_in}
 use Rattle.sctp_assoc.specs.Shown.{Shown}
 use Rattle.sctp_pair.specs.declared.step.Reply.{Reply}
 use Rattle.sctp_pair.specs.declared.step.Reply.TheVariants as replies

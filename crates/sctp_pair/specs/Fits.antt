@@ -8,7 +8,7 @@ use Rattle.sctp_directions.specs.Acts.{History, IsKeptInOrder}
 use Rattle.sctp_assoc.specs.Calls.{is_established}
 use Rattle.sctp_assoc.specs.Closing.{is_closed_state}
 use Rattle.sctp_sides.specs.Meeting.{Greets, HasCome, IsDoneAmongClients, IsTruthful, MayHear, Stage, stage_of}
-use Rattle.sctp_sides.specs.Shapes.{HoldsNothing, OfEachChunk}
+use Rattle.sctp_sides.specs.SideLaws.{HoldsNothing, OfEachChunk}
 use Rattle.sctp_assoc.specs.Shown.{Shown}
 use Rattle.sctp_directions.specs.Said.{Says}
 use Rattle.sctp_directions.specs.Between.{FitsBetween, IsSound}

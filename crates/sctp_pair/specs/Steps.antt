@@ -105,9 +105,9 @@ ShowsOrRefuses a id answer reply b =
     ⊎ ((n : ℕ) × (reply ≡ replies.Refused n) × IsNumberOf (stream_refusal a id) n × (b ≡ a))
 
 -- the oldest stream that the peer opened is accepted
-abbrev pub Accepts : Shown → Reply → Shown → Type 0
-Accepts a (replies.Accepted id) b = accepted_stream a ≡ (b, id)
-Accepts a _ b = ⊥
+abbrev pub AcceptsStream : Shown → Reply → Shown → Type 0
+AcceptsStream a (replies.Accepted id) b = accepted_stream a ≡ (b, id)
+AcceptsStream a _ b = ⊥
 
 -- writes take messages of up to so many bytes
 abbrev pub Limits : Shown → ℕ → Reply → Shown → Type 0
@@ -136,11 +136,11 @@ ClosesOne a (replies.Refused n) b = HadFailed a n b ⊎ ((is_closed_state a.stat
 ClosesOne a _ b = ⊥
 
 -- the oldest event is taken out, or with none left it is told that the handshake failed
-abbrev pub Tells : Shown → Reply → Shown → Type 0
-Tells a (replies.Event event) b =
+abbrev pub PollsEvent : Shown → Reply → Shown → Type 0
+PollsEvent a (replies.Event event) b =
     (a.failed ≡ false) × (event_polled a ≡ (b, event))
-Tells a (replies.Refused n) b = HadFailed a n b
-Tells a _ b = ⊥
+PollsEvent a (replies.Refused n) b = HadFailed a n b
+PollsEvent a _ b = ⊥
 
 -- the timers are met; memory is wanted only where INIT or COOKIE ECHO is to go out again (RFC 4960 section 5.1)
 abbrev pub Expires : Shown → ℕ → Reply → Shown → Type 0
@@ -232,7 +232,7 @@ Measures a _ b = ⊥
 abbrev pub Steps : Step → Ends → Reply → Ends → Type 0
 Steps (steps.OpenStream side id kind) p r q = AtSide side p (λ a b. Opens a id kind r b) q
 Steps (steps.Stream side id) p r q = AtSide side p (λ a b. Finds a id r b) q
-Steps (steps.AcceptStream side) p r q = AtSide side p (λ a b. Accepts a r b) q
+Steps (steps.AcceptStream side) p r q = AtSide side p (λ a b. AcceptsStream a r b) q
 Steps (steps.SetMaxSendMessageSize side size) p r q = AtSide side p (λ a b. Limits a size r b) q
 Steps (steps.StreamIds side) p r q = AtSide side p (λ a b. Lists a r b) q
 Steps (steps.Close side) p r q = AtSide side p (λ a b. ClosesOne a r b) q
@@ -267,7 +267,7 @@ Steps (steps.BufferedAmountLowThreshold side id) p r q =
 Steps (steps.BufferedAmountHighThreshold side id) p r q =
     AtSide side p (λ a b. ShowsOrRefuses a id (λ s. replies.Threshold s.high_mark) r b) q
 Steps (steps.BufferedAmount side id) p r q = AtSide side p (λ a b. Buffers a id r b) q
-Steps (steps.Poll side) p r q = AtSide side p (λ a b. Tells a r b) q
+Steps (steps.Poll side) p r q = AtSide side p (λ a b. PollsEvent a r b) q
 Steps (steps.PollTimeout side) p r q = AtSide side p (λ a b. OnlyAnswers a (replies.Timeout (deadline_of a)) r b) q
 Steps (steps.PollTransmit side now) p r q = SendsAt side p now r q
 Steps (steps.HandleTimeout side now) p r q = AtSide side p (λ a b. Expires a now r b) q

@@ -5,9 +5,9 @@ ghost use Rattle.sctp_assoc.specs.Chunks.{after_packet};
 ghost use Rattle.sctp_assoc.specs.Inbound.{taken_packet};
 ghost use Rattle.sctp_assoc.specs.Gather.{bytes_within};
 ghost use Rattle.sctp_pair.specs.Steps.{Buffers, Delivers, Expires, Fails, Finds, GivesOut, HadFailed, Opens, Reads};
-ghost use Rattle.sctp_pair.specs.Steps.{Accepts, ClosesOne, Keeps, Limits, Lists, Sets, ShowsOrRefuses, TakesIn};
+ghost use Rattle.sctp_pair.specs.Steps.{AcceptsStream, ClosesOne, Keeps, Limits, Lists, Sets, ShowsOrRefuses, TakesIn};
 ghost use Rattle.sctp_pair.specs.Steps.{TakesPacket};
-ghost use Rattle.sctp_pair.specs.Steps.{Tells, Writes, WritesFirst};
+ghost use Rattle.sctp_pair.specs.Steps.{PollsEvent, Writes, WritesFirst};
 ghost use Rattle.sctp_assoc.specs.Calls.{RefusesOrLacksMemory, first_filled, refusal_to_write, written};
 ghost use Rattle.sctp_pair.specs.declared.step.Reply.TheVariants as replies;
 ghost use Rattle.sctp_streams.specs.declared.setting.Setting.TheVariants as settings;
@@ -46,7 +46,7 @@ pub(crate) fn find_stream(association: &mut Association, id: StreamId) -> Reply
 }
 
 pub(crate) fn accept_stream(association: &mut Association) -> Reply
-    ensures { Accepts association.old result association.new }
+    ensures { AcceptsStream association.old result association.new }
 {
     match association.accept_stream() {
         Some(stream) => Reply::Accepted(Some(stream.stream_identifier())),
@@ -366,7 +366,7 @@ pub(crate) fn buffered_amount(association: &mut Association, id: StreamId) -> Re
 }
 
 pub(crate) fn poll(association: &mut Association) -> Reply
-    ensures { Tells association.old result association.new }
+    ensures { PollsEvent association.old result association.new }
 {
     match association.poll() {
         Ok(event) => Reply::Event(event),

@@ -21,7 +21,8 @@ use Rattle.sctp_model.proofs.Lists.{all_both, all_filter, all_mem, all_passed, a
 use Rattle.sctp_model.proofs.Lists.{mem_right}
 use Rattle.sctp_model.proofs.NumberWindows.{before_is, same_from, up_to_is}
 use Rattle.sctp_reassembly.specs.Laws.{BoundedSkipsSpare, BoundedSkipsStand}
-use Rattle.sctp_reassembly.specs.Stands.{Held, IsOf, CarryDataOf, IsGroup, AreGroups, offsets_in, numbers_in, StandsFor}
+use Rattle.sctp_reassembly.specs.Stands.{HeldMessage, IsOf, CarryDataOf, IsGroup, AreGroups, offsets_in, numbers_in}
+use Rattle.sctp_reassembly.specs.Stands.{StandsFor}
 use Rattle.sctp_reassembly.specs.Stands.{IsInWindow, IsSpared, bounded_at, held_past, just_before}
 use Rattle.sctp_reassembly.proofs.UnorderedFits.{end_is, end_of}
 use Rattle.sctp_reassembly.proofs.HeldMessages.{and_none, at_filtered, in_from, later_number, number_in, there_from}
@@ -50,13 +51,13 @@ end_greatest x (z ∷ zs) y r m =
     (λ (n : mem y (z ∷ zs) ≡ true). end_greatest z zs y r.1 n)
     (or_cases (eqb x y) (mem y (z ∷ zs)) m)
 
-record HasEnd (initial o : ℕ) (g : Group) (h : Held) : Type 0 where
+record HasEnd (initial o : ℕ) (g : Group) (h : HeldMessage) : Type 0 where
   pub offset : ℕ
   pub among : mem offset h.offsets ≡ true
   pub greatest : (y : ℕ) → mem y h.offsets ≡ true → y ≤ offset
   pub test : is_later (tsn initial o) (last_of g.pieces) ≡ ltb o offset
 
-module _ {initial : ℕ} {p : Plan} {s : ℕ} {g : Group} {h : Held} (o : ℕ) (small : length p.places < 2 ^ 31)
+module _ {initial : ℕ} {p : Plan} {s : ℕ} {g : Group} {h : HeldMessage} (o : ℕ) (small : length p.places < 2 ^ 31)
     (l : o < 2 ^ 31) (i : IsGroup initial p s g h) where
   has_end : HasEnd initial o g h
   has_end = go g.pieces h.offsets refl refl i.pieces i.some i.rising i.mine
@@ -85,7 +86,7 @@ module _ {initial : ℕ} {p : Plan} {s : ℕ} {g : Group} {h : Held} (o : ℕ) (
 abbrev up_to : Plan → ℕ → ℕ → Bool
 up_to p m x = ssn_lte ((place_at p x).ssn % 65536) m
 
-record IsFirst (p : Plan) (m o : ℕ) (hs : List Held) (bound : ℕ) : Type 0 where
+record IsFirst (p : Plan) (m o : ℕ) (hs : List HeldMessage) (bound : ℕ) : Type 0 where
   pub offset : ℕ
   pub among : mem offset (offsets_in hs) ≡ true
   pub past : o < offset
@@ -94,7 +95,7 @@ record IsFirst (p : Plan) (m o : ℕ) (hs : List Held) (bound : ℕ) : Type 0 wh
   pub first : (x : ℕ) → mem x (offsets_in hs) ≡ true → o < x → up_to p m x ≡ true
       → (place_at p offset).ssn ≤ (place_at p x).ssn
 
-record IsNowhere (p : Plan) (m o : ℕ) (hs : List Held) (bound : ℕ) : Type 0 where
+record IsNowhere (p : Plan) (m o : ℕ) (hs : List HeldMessage) (bound : ℕ) : Type 0 where
   pub is : bound ≡ m
   pub none : (x : ℕ) → mem x (offsets_in hs) ≡ true → o < x → up_to p m x ≡ false
 
@@ -192,7 +193,7 @@ some_least m o q x d e f n =
 module _ (initial : ℕ) (p : Plan) (over : ℕ → Bool) (came : List ℕ) (s low cursor m o : ℕ) (r : Reassembly)
     (q : Queue) (h : IsPlanned p over) (v : over s ≡ false) (small : length p.places < 2 ^ 31) (l : o < 2 ^ 31)
     (w : IsInWindow p came s low cursor q) where
-  bounded_first : (gs : List Group) (hs : List Held) → AreGroups initial p s gs hs → AreRising (numbers_in hs)
+  bounded_first : (gs : List Group) (hs : List HeldMessage) → AreGroups initial p s gs hs → AreRising (numbers_in hs)
       → IsNowhere p m o hs (bounded gs m (tsn initial o)) ⊎ IsFirst p m o hs (bounded gs m (tsn initial o))
   bounded_first [] [] a r =
       inl (record { is = refl; none = λ x k. absurd (let e : false ≡ true = k in true≢false (sym e)) })

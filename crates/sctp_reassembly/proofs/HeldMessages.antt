@@ -9,11 +9,11 @@ use Rattle.sctp_model.specs.Packets.{Data, mem, data_at}
 use Rattle.sctp_model.specs.Reassembly.{at}
 use Rattle.sctp_model.specs.Safe.{AreRising}
 use Rattle.sctp_model.proofs.Lists.{all_mem, mem_left, mem_right, mem_cases}
-use Rattle.sctp_reassembly.specs.Stands.{Held, IsOf, IsGroup, AreGroups, offsets_in, numbers_in}
+use Rattle.sctp_reassembly.specs.Stands.{HeldMessage, IsOf, IsGroup, AreGroups, offsets_in, numbers_in}
 use Rattle.sctp_reassembly.proofs.WholeMessages.{IsAllOf}
 
 -- the number of an offset held is one of the numbers
-pub number_in : (initial : ℕ) (p : Plan) (s : ℕ) (gs : List Group) (hs : List Held) (o : ℕ)
+pub number_in : (initial : ℕ) (p : Plan) (s : ℕ) (gs : List Group) (hs : List HeldMessage) (o : ℕ)
     → AreGroups initial p s gs hs
     → mem o (offsets_in hs) ≡ true → mem (place_at p o).ssn (numbers_in hs) ≡ true
 number_in initial p s gs [] o a m = m
@@ -26,22 +26,22 @@ number_in initial p s (g ∷ gs) (h ∷ hs) o a m =
     (mem_cases o h.offsets (offsets_in hs) m)
 
 -- an offset of a later message is none of the first
-pub later_number : (p : Plan) (h : Held) (hs : List Held) (o : ℕ) → AreRising (numbers_in (h ∷ hs))
+pub later_number : (p : Plan) (h : HeldMessage) (hs : List HeldMessage) (o : ℕ) → AreRising (numbers_in (h ∷ hs))
     → mem (place_at p o).ssn (numbers_in hs) ≡ true → h.number < (place_at p o).ssn
 later_number p h hs o r m = all_mem (λ (j : ℕ). h.number < j) (numbers_in hs) (place_at p o).ssn r.0 m
 
 -- what is held at the offsets of these messages
-abbrev pub AreThere : Plan → List Data → List Held → Type 0
+abbrev pub AreThere : Plan → List Data → List HeldMessage → Type 0
 AreThere p held hs = (x : ℕ) → mem x (offsets_in hs) ≡ true → at x held ≡ Some (data_at p x)
 
 -- and nothing else of their numbers
-abbrev pub AreFull : Plan → List Data → List Held → Type 0
+abbrev pub AreFull : Plan → List Data → List HeldMessage → Type 0
 AreFull p held hs =
     (x : ℕ) (d : Data) → at x held ≡ Some d → mem (place_at p x).ssn (numbers_in hs) ≡ true
     → mem x (offsets_in hs) ≡ true
 
 -- the offsets of a message are all that is held of it
-pub record IsAlone (p : Plan) (s : ℕ) (held : List Data) (h : Held) : Type 0 where
+pub record IsAlone (p : Plan) (s : ℕ) (held : List Data) (h : HeldMessage) : Type 0 where
   pub first : ℕ
   pub rest : List ℕ
   pub offsets : h.offsets ≡ first ∷ rest
@@ -52,7 +52,7 @@ all_at : (p : Plan) (held : List Data) (os : List ℕ) → ((x : ℕ) → mem x 
 all_at p held [] f = tt
 all_at p held (o ∷ os) f = (f o (or_left _ _ (eq-eqb o o refl)), all_at p held os (λ x m. f x (or_right _ _ m)))
 
-alone_with : (p : Plan) (s : ℕ) (held : List Data) (h : Held) (os : List ℕ) → h.offsets ≡ os → 0 < length os
+alone_with : (p : Plan) (s : ℕ) (held : List Data) (h : HeldMessage) (os : List ℕ) → h.offsets ≡ os → 0 < length os
     → AreRising os → AllByRecursion (IsOf p s h.number) os
     → ((x : ℕ) → mem x os ≡ true → at x held ≡ Some (data_at p x))
     → ((x : ℕ) (d : Data) → at x held ≡ Some d → (place_at p x).ssn ≡ h.number → mem x os ≡ true) → IsAlone p s held h
@@ -67,7 +67,7 @@ alone_with p s held h (o ∷ os) e some r m t f = record {
   };
 }
 
-module _ {initial : ℕ} {p : Plan} {s : ℕ} {g : Group} {h : Held} (held : List Data) (hs : List Held)
+module _ {initial : ℕ} {p : Plan} {s : ℕ} {g : Group} {h : HeldMessage} (held : List Data) (hs : List HeldMessage)
     (r : AreRising (numbers_in (h ∷ hs))) (i : IsGroup initial p s g h) where
   pub full_rest : AreFull p held (h ∷ hs) → AreFull p held hs
   full_rest f x d e m =
@@ -91,13 +91,14 @@ module _ {initial : ℕ} {p : Plan} {s : ℕ} {g : Group} {h : Held} (held : Lis
       (mem_cases x h.offsets (offsets_in hs) (f x d e (or_left _ _ (eq-eqb h.number (place_at p x).ssn (sym n))))))
 
 -- the first of some groups with the message that it is held of, and nothing else of that is held
-pub record BeginsWith (initial : ℕ) (p : Plan) (s : ℕ) (held : List Data) (g : Group) (gs : List Group) (h : Held)
-    (hs : List Held) : Type 0 where
+pub record BeginsWith (initial : ℕ) (p : Plan) (s : ℕ) (held : List Data) (g : Group) (gs : List Group)
+    (h : HeldMessage)
+    (hs : List HeldMessage) : Type 0 where
   pub groups : AreGroups initial p s (g ∷ gs) (h ∷ hs)
   pub rising : AllByRecursion (λ (j : ℕ). h.number < j) (numbers_in hs)
   pub alone : IsAlone p s held h
 
-pub all_alone : (initial : ℕ) (p : Plan) (s : ℕ) (held : List Data) (gs : List Group) (hs : List Held)
+pub all_alone : (initial : ℕ) (p : Plan) (s : ℕ) (held : List Data) (gs : List Group) (hs : List HeldMessage)
     → AreRising (numbers_in hs)
     → AreGroups initial p s gs hs → AreThere p held hs → AreFull p held hs → AllByRecursion (IsAlone p s held) hs
 all_alone initial p s held gs [] r a t f = tt
@@ -108,7 +109,7 @@ all_alone initial p s held (g ∷ gs) (h ∷ hs) r a t f = (
       (full_rest held hs r a.0 f),
 )
 
-module _ (p : Plan) (held : List Data) (hs : List Held)
+module _ (p : Plan) (held : List Data) (hs : List HeldMessage)
     (same : (o : ℕ) → at o held ≡ cond (mem o (offsets_in hs)) (Some (data_at p o)) None) where
   -- from what the relation says
   pub there_from : AreThere p held hs

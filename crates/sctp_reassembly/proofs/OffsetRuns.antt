@@ -13,21 +13,22 @@ last_leads p [] r = false
 last_leads p (o ∷ []) r = leads p o r
 last_leads p (o ∷ x ∷ xs) r = last_leads p (x ∷ xs) r
 
-abbrev pub met : Plan → List ℕ → List (List ℕ) → List (List ℕ)
-met p z [] = z ∷ []
-met p z (k ∷ ks) = cond (last_leads p z k) ((z ++ k) ∷ ks) (z ∷ k ∷ ks)
+abbrev pub join_run : Plan → List ℕ → List (List ℕ) → List (List ℕ)
+join_run p z [] = z ∷ []
+join_run p z (k ∷ ks) = cond (last_leads p z k) ((z ++ k) ∷ ks) (z ∷ k ∷ ks)
 
 -- runs, and those of later offsets
-abbrev pub meet : Plan → List (List ℕ) → List (List ℕ) → List (List ℕ)
-meet p [] hs = hs
-meet p (z ∷ []) hs = met p z hs
-meet p (z ∷ y ∷ zs) hs = z ∷ meet p (y ∷ zs) hs
+abbrev pub join_runs : Plan → List (List ℕ) → List (List ℕ) → List (List ℕ)
+join_runs p [] hs = hs
+join_runs p (z ∷ []) hs = join_run p z hs
+join_runs p (z ∷ y ∷ zs) hs = z ∷ join_runs p (y ∷ zs) hs
 
-led_met : (p : Plan) (a : ℕ) (z : List ℕ) (hs : List (List ℕ)) → led p a (met p z hs) ≡ meet p (led p a (z ∷ [])) hs
-led_met p a z [] =
+led_join_run : (p : Plan) (a : ℕ) (z : List ℕ) (hs : List (List ℕ))
+    → led p a (join_run p z hs) ≡ join_runs p (led p a (z ∷ [])) hs
+led_join_run p a z [] =
     ⊎_elim (λ (b : leads p a z ≡ true). rw b refl) (λ (b : leads p a z ≡ false). rw b refl) (cases_Bool (leads p a z))
-led_met p a [] (k ∷ ks) = refl
-led_met p a (x ∷ xs) (k ∷ ks) =
+led_join_run p a [] (k ∷ ks) = refl
+led_join_run p a (x ∷ xs) (k ∷ ks) =
     ⊎_elim
     (λ (b : leads p a (x ∷ xs) ≡ true).
     ⊎_elim
@@ -41,22 +42,22 @@ led_met p a (x ∷ xs) (k ∷ ks) =
     (cases_Bool (last_leads p (x ∷ xs) k)))
     (cases_Bool (leads p a (x ∷ xs)))
 
-led_meet : (p : Plan) (a : ℕ) (gs hs : List (List ℕ)) → led p a (meet p gs hs) ≡ meet p (led p a gs) hs
-led_meet p a [] [] = refl
-led_meet p a [] (k ∷ ks) = refl
-led_meet p a (z ∷ []) hs = led_met p a z hs
-led_meet p a (z ∷ y ∷ zs) hs =
+led_join_runs : (p : Plan) (a : ℕ) (gs hs : List (List ℕ)) → led p a (join_runs p gs hs) ≡ join_runs p (led p a gs) hs
+led_join_runs p a [] [] = refl
+led_join_runs p a [] (k ∷ ks) = refl
+led_join_runs p a (z ∷ []) hs = led_join_run p a z hs
+led_join_runs p a (z ∷ y ∷ zs) hs =
     ⊎_elim (λ (b : leads p a z ≡ true). rw b refl) (λ (b : leads p a z ≡ false). rw b refl) (cases_Bool (leads p a z))
 
-pub runs_meet : (p : Plan) (os qs : List ℕ) → runs_of p (os ++ qs) ≡ meet p (runs_of p os) (runs_of p qs)
-runs_meet p [] qs = refl
-runs_meet p (o ∷ os) qs = ap (led p o) (runs_meet p os qs) ∙ led_meet p o (runs_of p os) (runs_of p qs)
+pub runs_of_both : (p : Plan) (os qs : List ℕ) → runs_of p (os ++ qs) ≡ join_runs p (runs_of p os) (runs_of p qs)
+runs_of_both p [] qs = refl
+runs_of_both p (o ∷ os) qs = ap (led p o) (runs_of_both p os qs) ∙ led_join_runs p o (runs_of p os) (runs_of p qs)
 
-pub meet_last : (p : Plan) (zs : List (List ℕ)) (z : List ℕ) (hs : List (List ℕ))
-    → meet p (zs ++ z ∷ []) hs ≡ zs ++ met p z hs
-meet_last p [] z hs = refl
-meet_last p (x ∷ []) z hs = refl
-meet_last p (x ∷ y ∷ ys) z hs = ap (λ t. x ∷ t) (meet_last p (y ∷ ys) z hs)
+pub join_last : (p : Plan) (zs : List (List ℕ)) (z : List ℕ) (hs : List (List ℕ))
+    → join_runs p (zs ++ z ∷ []) hs ≡ zs ++ join_run p z hs
+join_last p [] z hs = refl
+join_last p (x ∷ []) z hs = refl
+join_last p (x ∷ y ∷ ys) z hs = ap (λ t. x ∷ t) (join_last p (y ∷ ys) z hs)
 
 -- What each run is.
 

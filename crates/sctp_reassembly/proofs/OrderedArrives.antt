@@ -17,7 +17,7 @@ use Rattle.sctp_model.specs.Reassembly.{Queue, at, push, push_ordered, push_unor
 use Rattle.sctp_model.specs.Invariants.{IsPlanned}
 use Rattle.sctp_model.proofs.Lists.{all_weaker}
 use Rattle.sctp_reassembly.specs.Laws.{OrderedPiecesStand}
-use Rattle.sctp_reassembly.specs.Stands.{Held, CarriesData, IsOf, AreGroups, offsets_in, StandsFor, IsInWindow}
+use Rattle.sctp_reassembly.specs.Stands.{HeldMessage, CarriesData, IsOf, AreGroups, offsets_in, StandsFor, IsInWindow}
 use Rattle.sctp_reassembly.specs.Stands.{IsForBytesAlone}
 use Rattle.sctp_reassembly.proofs.HeldMessages.{IsAlone, all_alone, full_from, there_from}
 use Rattle.sctp_reassembly.proofs.IndexRecursion.{with_ordered_is}
@@ -48,7 +48,7 @@ module _ {initial : ℕ} {p : Plan} {came : List ℕ} {s low cursor : ℕ} {r : 
       (all_alone initial p s q.ordered r.ordered st.held st.ascends st.groups (there_from p q.ordered st.held st.same)
       (full_from p q.ordered st.held st.same))
 
-not_among : (p : Plan) (held : List Data) (hs : List Held) (o : ℕ) → at o held ≡ None
+not_among : (p : Plan) (held : List Data) (hs : List HeldMessage) (o : ℕ) → at o held ≡ None
     → ((x : ℕ) → at x held ≡ cond (mem x (offsets_in hs)) (Some (data_at p x)) None) → mem o (offsets_in hs) ≡ false
 not_among p held hs o e same =
     false_from_ne_true _
@@ -57,7 +57,7 @@ not_among p held hs o e same =
     none_some : None ≡ Some (data_at p o) → ⊥
     none_some i = cc
 
-same_with : (p : Plan) (held : List Data) (hs : List Held) (o : ℕ)
+same_with : (p : Plan) (held : List Data) (hs : List HeldMessage) (o : ℕ)
     → ((x : ℕ) → at x held ≡ cond (mem x (offsets_in hs)) (Some (data_at p x)) None)
     → (x : ℕ)
     → at x (data_at p o ∷ held) ≡ cond (mem x (offsets_in (put_in (place_at p o).ssn o hs))) (Some (data_at p x)) None

@@ -14,7 +14,7 @@ use Rattle.sctp_model.specs.Safe.{AreRising}
 use Rattle.sctp_model.specs.Invariants.{IsPlanned}
 use Rattle.sctp_model.proofs.Lists.{all_weaker, mem_neither, mem-join}
 use Rattle.sctp_model.proofs.NumberWindows.{before_is, same_is}
-use Rattle.sctp_reassembly.specs.Stands.{Held, CarriesData, CarryDataOf, IsOf, IsGroup, AreGroups, offsets_in}
+use Rattle.sctp_reassembly.specs.Stands.{HeldMessage, CarriesData, CarryDataOf, IsOf, IsGroup, AreGroups, offsets_in}
 use Rattle.sctp_reassembly.specs.Stands.{numbers_in}
 use Rattle.sctp_reassembly.proofs.IndexRecursion.{AreOthers, AreSplit, entered, grown_is, position_here, position_later}
 use Rattle.sctp_reassembly.proofs.IndexRecursion.{up_one}
@@ -22,17 +22,18 @@ use Rattle.sctp_reassembly.proofs.PiecePlace.{all_put, mem_put, piece_fits, put_
 use Rattle.sctp_reassembly.proofs.PiecePlace.{swap_or}
 
 -- the offset o of the message with number n among those held
-abbrev pub put_in : ℕ → ℕ → List Held → List Held
+abbrev pub put_in : ℕ → ℕ → List HeldMessage → List HeldMessage
 put_in n o [] = record { number = n; offsets = o ∷ [] } ∷ []
 put_in n o (h ∷ hs) =
     cond (eqb h.number n) (record { number = n; offsets = put_offset o h.offsets } ∷ hs)
     (cond (ltb n h.number) (record { number = n; offsets = o ∷ [] } ∷ h ∷ hs) (h ∷ put_in n o hs))
 
 -- two numbers whose order shows where they wrap
-abbrev pub AreNear : ℕ → Held → Type 0
+abbrev pub AreNear : ℕ → HeldMessage → Type 0
 AreNear n h = (h.number < n + 32768) × (n < h.number + 32768)
 
-pub mem_put_in : (n o x : ℕ) (hs : List Held) → mem x (offsets_in (put_in n o hs)) ≡ (eqb o x || mem x (offsets_in hs))
+pub mem_put_in : (n o x : ℕ) (hs : List HeldMessage)
+    → mem x (offsets_in (put_in n o hs)) ≡ (eqb o x || mem x (offsets_in hs))
 mem_put_in n o x [] = refl
 mem_put_in n o x (h ∷ hs) =
     ⊎_elim
@@ -50,7 +51,7 @@ mem_put_in n o x (h ∷ hs) =
     (cases_Bool (ltb n h.number))))
     (cases_Bool (eqb h.number n))
 
-all_numbers : (P : ℕ → Type 0) (n o : ℕ) (hs : List Held) → P n → AllByRecursion P (numbers_in hs)
+all_numbers : (P : ℕ → Type 0) (n o : ℕ) (hs : List HeldMessage) → P n → AllByRecursion P (numbers_in hs)
     → AllByRecursion P (numbers_in (put_in n o hs))
 all_numbers P n o [] x a = (x, tt)
 all_numbers P n o (h ∷ hs) x a =
@@ -62,7 +63,7 @@ all_numbers P n o (h ∷ hs) x a =
     (cases_Bool (ltb n h.number))))
     (cases_Bool (eqb h.number n))
 
-pub rising_in : (n o : ℕ) (hs : List Held) → AreRising (numbers_in hs) → AreRising (numbers_in (put_in n o hs))
+pub rising_in : (n o : ℕ) (hs : List HeldMessage) → AreRising (numbers_in hs) → AreRising (numbers_in (put_in n o hs))
 rising_in n o [] r = (tt, tt)
 rising_in n o (h ∷ hs) r =
     ⊎_elim
@@ -94,7 +95,7 @@ pub record BringsPiece (initial : ℕ) (p : Plan) (over : ℕ → Bool) (s n o :
 module _ {initial : ℕ} {p : Plan} {over : ℕ → Bool} {s n o : ℕ} {c : ChunkPayloadData}
     (brings : BringsPiece initial p over s n o c) where
   -- the tests on wrapped numbers are those on the numbers themselves
-  same_number : (g : Group) (h : Held) → IsGroup initial p s g h → AreNear n h
+  same_number : (g : Group) (h : HeldMessage) → IsGroup initial p s g h → AreNear n h
       → eqb g.ssn c.stream_sequence_number ≡ eqb h.number n
   same_number g h i w =
       let w0 = w.0 in
@@ -102,7 +103,7 @@ module _ {initial : ℕ} {p : Plan} {over : ℕ → Bool} {s n o : ℕ} {c : Chu
       ap (λ z. eqb z c.stream_sequence_number) i.ssn ∙ ap (eqb (h.number % 65536)) brings.number
       ∙ same_is h.number n (omega arith) (omega arith)
 
-  before_number : (g : Group) (h : Held) → IsGroup initial p s g h → AreNear n h
+  before_number : (g : Group) (h : HeldMessage) → IsGroup initial p s g h → AreNear n h
       → ssn_lt c.stream_sequence_number g.ssn ≡ ltb n h.number
   before_number g h i w =
       let w0 = w.0 in
@@ -110,7 +111,7 @@ module _ {initial : ℕ} {p : Plan} {over : ℕ → Bool} {s n o : ℕ} {c : Chu
       ap (λ z. ssn_lt z g.ssn) brings.number ∙ ap (ssn_lt (n % 65536)) i.ssn
       ∙ before_is n h.number (omega arith) (omega arith)
 
-  others : (gs : List Group) (hs : List Held) → AreGroups initial p s gs hs → AllByRecursion (AreNear n) hs
+  others : (gs : List Group) (hs : List HeldMessage) → AreGroups initial p s gs hs → AllByRecursion (AreNear n) hs
       → AllByRecursion (λ (j : ℕ). n < j) (numbers_in hs) → AreOthers c.stream_sequence_number gs
   others [] hs a w l = tt
   others (g ∷ gs) [] a w l = absurd a
@@ -119,7 +120,7 @@ module _ {initial : ℕ} {p : Plan} {over : ℕ → Bool} {s n o : ℕ} {c : Chu
     others gs hs a.1 w.1 l.1,
   )
 
-  pub split : (gs : List Group) (hs : List Held) → AreGroups initial p s gs hs → AllByRecursion (AreNear n) hs
+  pub split : (gs : List Group) (hs : List HeldMessage) → AreGroups initial p s gs hs → AllByRecursion (AreNear n) hs
       → AreRising (numbers_in hs) → AreSplit c.stream_sequence_number gs
   split [] hs a w r = tt
   split (g ∷ gs) [] a w r = absurd a
@@ -142,7 +143,7 @@ module _ {initial : ℕ} {p : Plan} {over : ℕ → Bool} {s n o : ℕ} {c : Chu
             (brings.mine, tt);
       }
 
-  grown_group : (g : Group) (h : Held) → IsGroup initial p s g h → h.number ≡ n → mem o h.offsets ≡ false
+  grown_group : (g : Group) (h : HeldMessage) → IsGroup initial p s g h → h.number ≡ n → mem o h.offsets ≡ false
       → IsGroup initial p s (grown g c) (record { number = n; offsets = put_offset o h.offsets })
   grown_group g h a e out = record {
     ssn = a.ssn ∙ ap (λ z. z % 65536) e;
@@ -159,7 +160,8 @@ module _ {initial : ℕ} {p : Plan} {over : ℕ → Bool} {s n o : ℕ} {c : Chu
       AreSaidAt : List ChunkPayloadData → Type 0
       AreSaidAt z = CarryDataOf initial p z (put_offset o h.offsets)
 
-  pub groups_in : (gs : List Group) (hs : List Held) → AreGroups initial p s gs hs → AllByRecursion (AreNear n) hs
+  pub groups_in : (gs : List Group) (hs : List HeldMessage) → AreGroups initial p s gs hs
+      → AllByRecursion (AreNear n) hs
       → mem o (offsets_in hs) ≡ false → AreGroups initial p s (entered gs c) (put_in n o hs)
   groups_in [] [] a w out = (new_group, tt)
   groups_in [] (h ∷ hs) a w out = absurd a
@@ -181,7 +183,8 @@ module _ {initial : ℕ} {p : Plan} {over : ℕ → Bool} {s n o : ℕ} {c : Chu
       (cases_Bool (eqb h.number n))
 
   -- and the pieces of its message don't contradict it
-  pub fits_there : (gs : List Group) (hs : List Held) → AreGroups initial p s gs hs → AllByRecursion (AreNear n) hs
+  pub fits_there : (gs : List Group) (hs : List HeldMessage) → AreGroups initial p s gs hs
+      → AllByRecursion (AreNear n) hs
       → mem o (offsets_in hs) ≡ false → contradicts (pieces_at (index_of_ssn c.stream_sequence_number gs) gs) c ≡ false
   fits_there [] hs a w out = refl
   fits_there (g ∷ gs) [] a w out = absurd a

@@ -15,7 +15,8 @@ use Rattle.sctp_model.specs.Invariants.{IsPlanned}
 use Rattle.sctp_model.proofs.Lists.{all_weaker, all_mem}
 use Rattle.sctp_model.proofs.NumberWindows.{before_is, up_to_is}
 use Rattle.sctp_reassembly.specs.Laws.{ReadsAnswerAlike}
-use Rattle.sctp_reassembly.specs.Stands.{Held, IsGroup, AreGroups, CarryDataOf, offsets_in, numbers_in, letter_received}
+use Rattle.sctp_reassembly.specs.Stands.{HeldMessage, IsGroup, AreGroups, CarryDataOf, offsets_in, numbers_in}
+use Rattle.sctp_reassembly.specs.Stands.{letter_received}
 use Rattle.sctp_reassembly.specs.Stands.{StandsFor, IsInWindow, IsAnsweredAlike}
 use Rattle.sctp_reassembly.proofs.HeldMessages.{IsAlone, first_alone, full_from, in_from, nothing_held, number_in}
 use Rattle.sctp_reassembly.proofs.HeldMessages.{there_from, BeginsWith}
@@ -27,7 +28,7 @@ use Rattle.sctp_reassembly.proofs.ReadsAlike.{in_window, least_first, stands_aft
 abbrev pub is_all : Plan → ℕ → List ℕ → Bool
 is_all p o rest = eqb (place_at p o).piece 0 && is_rest p (o ∷ rest)
 
-module _ {initial : ℕ} {p : Plan} {s : ℕ} {held : List Data} {g : Group} {h : Held}
+module _ {initial : ℕ} {p : Plan} {s : ℕ} {held : List Data} {g : Group} {h : HeldMessage}
     (small : length p.places < 2 ^ 31) (i : IsGroup initial p s g h) (a : IsAlone p s held h) where
   -- a group is complete where all of its message is there
   pub group_is : is_complete g.pieces ≡ is_all p a.first a.rest
@@ -39,7 +40,7 @@ module _ {initial : ℕ} {p : Plan} {over : ℕ → Bool} {came : List ℕ} {s l
     {q : Queue} (hp : IsPlanned p over) (v : over s ≡ false) (small : length p.places < 2 ^ 31)
     (w : IsInWindow p came s low cursor q) (st : StandsFor initial p s r q) where
   -- it is due where its number isn't past the cursor
-  first_due : (g : Group) (h : Held) → IsGroup initial p s g h → IsAlone p s q.ordered h
+  first_due : (g : Group) (h : HeldMessage) → IsGroup initial p s g h → IsAlone p s q.ordered h
       → (ssn_lte g.ssn r.next_ssn ≡ leb h.number cursor)
       × (ssn_lt q.cursor (h.number % 65536) ≡ not (leb h.number cursor))
   first_due g h i a =
@@ -68,7 +69,8 @@ module _ {initial : ℕ} {p : Plan} {over : ℕ → Bool} {came : List ℕ} {s l
   decided after m n run true false a = st
   decided after m n run false c a = st
 
-  first_answered : (g : Group) (gs : List Group) (h : Held) (hs : List Held) → AreGroups initial p s (g ∷ gs) (h ∷ hs)
+  first_answered : (g : Group) (gs : List Group) (h : HeldMessage) (hs : List HeldMessage)
+      → AreGroups initial p s (g ∷ gs) (h ∷ hs)
       → AreRising (numbers_in (h ∷ hs)) → st.held ≡ h ∷ hs → IsAlone p s q.ordered h
       → ((o : ℕ) (d : Data) → at o q.ordered ≡ Some d → h.number ≤ (place_at p o).ssn)
       → IsAnsweredAlike initial p s q (read_ordered r (g ∷ gs)) (next_ordered q)
@@ -98,7 +100,7 @@ module _ {initial : ℕ} {p : Plan} {over : ℕ → Bool} {came : List ℕ} {s l
       )))
 
   -- the first message held has the least number
-  least_number : (gs : List Group) (h : Held) (hs : List Held) → AreGroups initial p s gs (h ∷ hs)
+  least_number : (gs : List Group) (h : HeldMessage) (hs : List HeldMessage) → AreGroups initial p s gs (h ∷ hs)
       → AreRising (numbers_in (h ∷ hs))
       → ((o : ℕ) → at o q.ordered ≡ cond (mem o (offsets_in (h ∷ hs))) (Some (data_at p o)) None) → (o : ℕ) (d : Data)
       → at o q.ordered ≡ Some d → h.number ≤ (place_at p o).ssn
@@ -110,7 +112,7 @@ module _ {initial : ℕ} {p : Plan} {over : ℕ → Bool} {came : List ℕ} {s l
       le_refl_of : (n : ℕ) → n ≤ n
       le_refl_of n = omega arith
 
-  ordered_answered : (gs : List Group) (hs : List Held) → AreGroups initial p s gs hs → AreRising (numbers_in hs)
+  ordered_answered : (gs : List Group) (hs : List HeldMessage) → AreGroups initial p s gs hs → AreRising (numbers_in hs)
       → ((o : ℕ) → at o q.ordered ≡ cond (mem o (offsets_in hs)) (Some (data_at p o)) None) → st.held ≡ hs
       → IsAnsweredAlike initial p s q (read_ordered r gs) (next_ordered q)
   ordered_answered [] [] a rise same e =

@@ -14,7 +14,7 @@ use Rattle.sctp_model.proofs.Lists.{all_weaker, all_both, all_mem, mem-join}
 use Rattle.sctp_model.proofs.NumberWindows.{same_from}
 use Rattle.sctp_model.proofs.CompleteRuns.{at_found}
 use Rattle.sctp_model.proofs.NextOrdered.{IsNear, least_is, least_none, ssn_is}
-use Rattle.sctp_reassembly.specs.Stands.{Held, IsOf, offsets_in, numbers_in, StandsFor, IsInWindow}
+use Rattle.sctp_reassembly.specs.Stands.{HeldMessage, IsOf, offsets_in, numbers_in, StandsFor, IsInWindow}
 use Rattle.sctp_reassembly.proofs.HeldMessages.{IsAlone, at_filtered, number_in, BeginsWith}
 use Rattle.sctp_reassembly.proofs.WholeMessages.{IsThere, IsNearBy, all_there}
 
@@ -48,7 +48,7 @@ module _ {p : Plan} {came : List ℕ} {s low cursor : ℕ} {q : Queue} (w : IsIn
       (a.above, (at_found (IsNearBy p low) o q.ordered (data_at p o) e w.near).0)
 
   -- the model's least number is that of the first message held
-  pub least_first : (h : Held) → IsAlone p s q.ordered h
+  pub least_first : (h : HeldMessage) → IsAlone p s q.ordered h
       → ((o : ℕ) (d : Data) → at o q.ordered ≡ Some d → h.number ≤ (place_at p o).ssn)
       → least q.ordered ≡ Some (h.number % 65536)
   least_first h a below = go (least q.ordered) refl
@@ -97,7 +97,7 @@ the_cursor a b c e =
     (cases_Bool (eqb a c))
 
 module _ {initial : ℕ} {p : Plan} {came : List ℕ} {s low cursor : ℕ} {q : Queue} {g : Group} {gs : List Group}
-    {h : Held} {hs : List Held} (w : IsInWindow p came s low cursor q)
+    {h : HeldMessage} {hs : List HeldMessage} (w : IsInWindow p came s low cursor q)
     (begin : BeginsWith initial p s q.ordered g gs h hs) where
   -- the queue without the first message
   rest_same : ((o : ℕ) → at o q.ordered ≡ cond (mem o (offsets_in (h ∷ hs))) (Some (data_at p o)) None) → (o : ℕ)
@@ -162,5 +162,5 @@ module _ {initial : ℕ} {p : Plan} {came : List ℕ} {s low cursor : ℕ} {q : 
     complete = st.complete;
   }
     where
-      AreRisingIn : List Held → Type 0
+      AreRisingIn : List HeldMessage → Type 0
       AreRisingIn z = AreRising (numbers_in z)

@@ -15,7 +15,8 @@ use Rattle.sctp_model.specs.Invariants.{IsPlanned}
 use Rattle.sctp_model.proofs.NextOrdered.{IsNear, near_all, window_next}
 use Rattle.sctp_model.proofs.Lists.{all_mem, all_weaker, mem-join}
 use Rattle.sctp_reassembly.specs.Laws.{EmptyOnesStand, OrderedSkipsStand, TheInvariantGivesTheWindow}
-use Rattle.sctp_reassembly.specs.Stands.{Held, IsOf, IsGroup, AreGroups, offsets_in, numbers_in, IsInWindow, StandsFor}
+use Rattle.sctp_reassembly.specs.Stands.{HeldMessage, IsOf, IsGroup, AreGroups, offsets_in, numbers_in, IsInWindow}
+use Rattle.sctp_reassembly.specs.Stands.{StandsFor}
 use Rattle.sctp_reassembly.proofs.ReadAnswers.{group_is, is_all}
 use Rattle.sctp_reassembly.proofs.MessageRuns.{run_at}
 use Rattle.sctp_reassembly.proofs.HeldMessages.{IsAlone, all_alone, and_none, at_filtered, full_from, nested}
@@ -23,17 +24,18 @@ use Rattle.sctp_reassembly.proofs.HeldMessages.{there_from}
 use Rattle.sctp_reassembly.proofs.WholeMessages.{IsNearBy, message_is}
 
 -- the messages whose number passes a test
-abbrev pub those : (ℕ → Bool) → List Held → List Held
-those keeps hs = filter (λ (h : Held). keeps h.number) hs
+abbrev pub those : (ℕ → Bool) → List HeldMessage → List HeldMessage
+those keeps hs = filter (λ (h : HeldMessage). keeps h.number) hs
 
-numbers_of_those : (P : ℕ → Type 0) (keeps : ℕ → Bool) (hs : List Held) → AllByRecursion P (numbers_in hs)
+numbers_of_those : (P : ℕ → Type 0) (keeps : ℕ → Bool) (hs : List HeldMessage) → AllByRecursion P (numbers_in hs)
     → AllByRecursion P (numbers_in (those keeps hs))
 numbers_of_those P keeps [] a = tt
 numbers_of_those P keeps (h ∷ hs) a =
     ⊎_elim (λ (b : keeps h.number ≡ true). rw b (a.0, numbers_of_those P keeps hs a.1))
     (λ (b : keeps h.number ≡ false). rw b (numbers_of_those P keeps hs a.1)) (cases_Bool (keeps h.number))
 
-rising_those : (keeps : ℕ → Bool) (hs : List Held) → AreRising (numbers_in hs) → AreRising (numbers_in (those keeps hs))
+rising_those : (keeps : ℕ → Bool) (hs : List HeldMessage) → AreRising (numbers_in hs)
+    → AreRising (numbers_in (those keeps hs))
 rising_those keeps [] r = tt
 rising_those keeps (h ∷ hs) r =
     ⊎_elim
@@ -42,7 +44,7 @@ rising_those keeps (h ∷ hs) r =
     (λ (b : keeps h.number ≡ false). rw b (rising_those keeps hs r.1))
     (cases_Bool (keeps h.number))
 
-offsets_of_those : (initial : ℕ) (p : Plan) (s : ℕ) (keeps : ℕ → Bool) (gs : List Group) (hs : List Held) (x : ℕ)
+offsets_of_those : (initial : ℕ) (p : Plan) (s : ℕ) (keeps : ℕ → Bool) (gs : List Group) (hs : List HeldMessage) (x : ℕ)
     → AreGroups initial p s gs hs
     → mem x (offsets_in (those keeps hs)) ≡ (keeps (place_at p x).ssn && mem x (offsets_in hs))
 offsets_of_those initial p s keeps gs [] x a = sym (and_none (keeps (place_at p x).ssn))
@@ -74,10 +76,10 @@ keeps_past held m n = not (ssn_lte (n % 65536) m) || is_some (message_in held (n
 module _ (initial : ℕ) (p : Plan) (over : ℕ → Bool) (came : List ℕ) (s low cursor m : ℕ) (r : Reassembly)
     (q : Queue) (hp : IsPlanned p over) (v : over s ≡ false) (small : length p.places < 2 ^ 31)
     (w : IsInWindow p came s low cursor q) (st : StandsFor initial p s r q) where
-  groups_of_those : (held : List Data) (keeps : ℕ → Bool) (gs : List Group) (hs : List Held)
+  groups_of_those : (held : List Data) (keeps : ℕ → Bool) (gs : List Group) (hs : List HeldMessage)
       → AreGroups initial p s gs hs
       → AllByRecursion (IsAlone p s held) hs
-      → ((g : Group) (h : Held) → IsGroup initial p s g h → IsAlone p s held h → stays m g ≡ keeps h.number)
+      → ((g : Group) (h : HeldMessage) → IsGroup initial p s g h → IsAlone p s held h → stays m g ≡ keeps h.number)
       → AreGroups initial p s (filter (stays m) gs) (those keeps hs)
   groups_of_those held keeps [] [] a l f = tt
   groups_of_those held keeps [] (h ∷ hs) a l f = absurd a
@@ -88,7 +90,7 @@ module _ (initial : ℕ) (p : Plan) (over : ℕ → Bool) (came : List ℕ) (s l
       ⊎_elim (λ (b : keeps h.number ≡ true). rw (same ∙ b, b) (a.0, more))
       (λ (b : keeps h.number ≡ false). rw (same ∙ b, b) more) (cases_Bool (keeps h.number))
 
-  same_stays : (g : Group) (h : Held) → IsGroup initial p s g h → IsAlone p s q.ordered h
+  same_stays : (g : Group) (h : HeldMessage) → IsGroup initial p s g h → IsAlone p s q.ordered h
       → stays m g ≡ keeps_past q.ordered m h.number
   same_stays g h i a =
       let done = is_all p a.first a.rest in

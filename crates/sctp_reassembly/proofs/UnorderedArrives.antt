@@ -29,7 +29,8 @@ use Rattle.sctp_reassembly.proofs.UnorderedFound.{AreHeld, is_whole, whole_found
 use Rattle.sctp_reassembly.proofs.MessageRuns.{run_at}
 use Rattle.sctp_reassembly.proofs.HeldMessages.{nested}
 use Rattle.sctp_reassembly.proofs.PiecePlace.{swap_or}
-use Rattle.sctp_reassembly.proofs.OffsetRuns.{all_in, chains, joined, joined_append, joined_runs, runs_apart, runs_meet}
+use Rattle.sctp_reassembly.proofs.OffsetRuns.{all_in, chains, joined, joined_append, joined_runs, runs_apart}
+use Rattle.sctp_reassembly.proofs.OffsetRuns.{runs_of_both}
 use Rattle.sctp_reassembly.proofs.OffsetRuns.{runs_parts, some_in}
 use Rattle.sctp_reassembly.proofs.WholeMessages.{complete_is, letter_is}
 
@@ -353,7 +354,7 @@ module _ {initial : ℕ} {p : Plan} {over : ℕ → Bool} {s o : ℕ} (limit : �
       } in
       let both =
       entered_so o h st held
-      (subst (IsEntered initial p c (xs ++ ys) (length xs)) (sym (runs_meet p k.below (o ∷ k.above))) put)
+      (subst (IsEntered initial p c (xs ++ ys) (length xs)) (sym (runs_of_both p k.below (o ∷ k.above))) put)
       (smalls small os held.mine)
       (subst (AllByRecursion IsIncomplete) two.2 w.incomplete) in
       let view : pushed r c

@@ -9,14 +9,14 @@ use Rattle.sctp_serial.specs.Serial.{tsn_lt, tsn, tsn_after}
 use Rattle.sctp_receive_queues.specs.Messages.{ReceivedMessage, message_of}
 use Rattle.sctp_receive_queues.specs.Pieces.{is_complete, is_past, is_last as is_last_piece}
 use Rattle.sctp_receive_queues.specs.Reassembly.{finished, joins_after, joins_before, part, index_for_tsn, put_between}
-use Rattle.sctp_receive_queues.specs.Reassembly.{run_at, run_before, run_place, with_unordered}
+use Rattle.sctp_receive_queues.specs.Reassembly.{run_at, run_before, run_index, with_unordered}
 use Rattle.sctp_model.specs.Messages.{Plan}
 use Rattle.sctp_model.specs.Packets.{data_at}
 use Rattle.sctp_model.proofs.Lists.{all_back, all_front}
 use Rattle.sctp_reassembly.specs.Stands.{AreRuns, CarryDataOf, CarriesData, leads, led}
 use Rattle.sctp_reassembly.proofs.PiecePlace.{unwrap_up}
 use Rattle.sctp_reassembly.proofs.IndexRecursion.{position_here, position_later}
-use Rattle.sctp_reassembly.proofs.OffsetRuns.{last_leads, meet, meet_last, met}
+use Rattle.sctp_reassembly.proofs.OffsetRuns.{last_leads, join_runs, join_last, join_run}
 use Rattle.sctp_reassembly.proofs.TsnOrder.{tsn_before, tsn_next}
 use Rattle.sctp_reassembly.proofs.WholeMessages.{last_later}
 
@@ -218,7 +218,7 @@ put_after : (before after : List ChunkPayloadData) (chunks : List (List ChunkPay
     → with_unordered chunks index c
     ≡ (
       put_between b (joins_after after c) chunks index (part b before ++ c ∷ part (joins_after after c) after),
-      run_place b index,
+      run_index b index,
     )
 put_after before after chunks index c b e f g = rw (e, f, g) refl
 
@@ -353,16 +353,16 @@ module _ {initial : ℕ} {c : ChunkPayloadData} (p : Plan) (o : ℕ) (i : Carrie
 
   pub entered : (xs ys : List (List ChunkPayloadData)) (gs hs : List (List ℕ)) → AreRuns initial p xs gs
       → AreRuns initial p ys hs → AllByRecursion AreSmall gs → AllByRecursion AreSmall hs
-      → IsEntered initial p c (xs ++ ys) (length xs) (meet p gs (led p o hs))
+      → IsEntered initial p c (xs ++ ys) (length xs) (join_runs p gs (led p o hs))
   entered xs ys gs hs a b s t =
       ⊎_elim
       (λ (n : (xs ≡ []) × (gs ≡ [])).
-      subst (λ z. IsEntered initial p c (z ++ ys) (length z) (meet p gs (led p o hs))) (sym n.0)
-      (subst (λ z. IsEntered initial p c ys 0 (meet p z (led p o hs))) (sym n.1) at_front))
+      subst (λ z. IsEntered initial p c (z ++ ys) (length z) (join_runs p gs (led p o hs))) (sym n.0)
+      (subst (λ z. IsEntered initial p c ys 0 (join_runs p z (led p o hs))) (sym n.1) at_front))
       (λ (n : HasLast initial p xs gs).
-      subst (λ z. IsEntered initial p c (z ++ ys) (length z) (meet p gs (led p o hs))) (sym n.are_chunks)
+      subst (λ z. IsEntered initial p c (z ++ ys) (length z) (join_runs p gs (led p o hs))) (sym n.are_chunks)
       (subst (λ z. IsEntered initial p c ((n.chunks ++ n.run ∷ []) ++ ys) (length (n.chunks ++ n.run ∷ []))
-      (meet p z (led p o hs))) (sym n.are_offsets)
+      (join_runs p z (led p o hs))) (sym n.are_offsets)
       (behind n.chunks n.run n.offsets n.last n.before n.said
       (all_back AreSmall n.offsets (n.last ∷ []) (subst (AllByRecursion AreSmall) n.are_offsets s)).0)))
       (last_cases initial p xs gs a)
@@ -391,11 +391,12 @@ module _ {initial : ℕ} {c : ChunkPayloadData} (p : Plan) (o : ℕ) (i : Carrie
 
       behind : (zs : List (List ChunkPayloadData)) (z : List ChunkPayloadData) (ks : List (List ℕ)) (k : List ℕ)
           → AreRuns initial p zs ks → CarryDataOf initial p z k → AreSmall k
-          → IsEntered initial p c ((zs ++ z ∷ []) ++ ys) (length (zs ++ z ∷ [])) (meet p (ks ++ k ∷ []) (led p o hs))
+          → IsEntered initial p c ((zs ++ z ∷ []) ++ ys) (length (zs ++ z ∷ []))
+          (join_runs p (ks ++ k ∷ []) (led p o hs))
       behind zs z ks k before said small =
           let test = joins_front w.rest z k said small in
-          let model : meet p (ks ++ k ∷ []) (led p o hs) ≡ ks ++ met p k ((o ∷ w.rest) ∷ w.later)
-          = ap (meet p (ks ++ k ∷ [])) w.is ∙ meet_last p ks k ((o ∷ w.rest) ∷ w.later) in
+          let model : join_runs p (ks ++ k ∷ []) (led p o hs) ≡ ks ++ join_run p k ((o ∷ w.rest) ∷ w.later)
+          = ap (join_runs p (ks ++ k ∷ [])) w.is ∙ join_last p ks k ((o ∷ w.rest) ∷ w.later) in
           ⊎_elim
           (λ (e : last_leads p k (o ∷ w.rest) ≡ true).
           on zs z ks k before said e (put_after z (head_run ys) ((zs ++ z ∷ []) ++ ys) (length (zs ++ z ∷ [])) c true
@@ -438,9 +439,9 @@ module _ {initial : ℕ} {c : ChunkPayloadData} (p : Plan) (o : ℕ) (i : Carrie
                     (z ++ c ∷ part (joins_after (head_run ys) c) (head_run ys)),
                 length (zs ++ z ∷ []) - 1,
               )
-              → meet p (ks ++ k ∷ []) (led p o hs) ≡ ks ++ (k ++ (o ∷ w.rest)) ∷ w.later
+              → join_runs p (ks ++ k ∷ []) (led p o hs) ≡ ks ++ (k ++ (o ∷ w.rest)) ∷ w.later
               → IsEntered initial p c ((zs ++ z ∷ []) ++ ys) (length (zs ++ z ∷ []))
-              (meet p (ks ++ k ∷ []) (led p o hs))
+              (join_runs p (ks ++ k ∷ []) (led p o hs))
           on zs z ks [] before said e f g = absurd (false≢true e)
           on zs z ks (x ∷ k) before said e f g = record {
             front = zs;

@@ -35,7 +35,7 @@ CarryDataOf initial p (c ∷ cs) [] = ⊥
 CarryDataOf initial p (c ∷ cs) (o ∷ os) = CarriesData initial c (data_at p o) × CarryDataOf initial p cs os
 
 -- What is held of an ordered message: its stream sequence number before that wraps, and the offsets of the pieces.
-pub record Held : Type 0 where
+pub record HeldMessage : Type 0 where
   pub number : ℕ
   pub offsets : List ℕ
 
@@ -46,24 +46,24 @@ pub record IsOf (p : Plan) (s number o : ℕ) : Type 0 where
   pub is : (place_at p o).ssn ≡ number
 
 -- A group is what is held of one message: at least one piece, the pieces in the order of their offsets.
-pub record IsGroup (initial : ℕ) (p : Plan) (s : ℕ) (g : Group) (h : Held) : Type 0 where
+pub record IsGroup (initial : ℕ) (p : Plan) (s : ℕ) (g : Group) (h : HeldMessage) : Type 0 where
   pub ssn : g.ssn ≡ h.number % 65536
   pub pieces : CarryDataOf initial p g.pieces h.offsets
   pub some : 0 < length h.offsets
   pub rising : AreRising h.offsets
   pub mine : AllByRecursion (IsOf p s h.number) h.offsets
 
-abbrev pub AreGroups : ℕ → Plan → ℕ → List Group → List Held → Type 0
+abbrev pub AreGroups : ℕ → Plan → ℕ → List Group → List HeldMessage → Type 0
 AreGroups initial p s [] [] = ⊤
 AreGroups initial p s [] (h ∷ hs) = ⊥
 AreGroups initial p s (g ∷ gs) [] = ⊥
 AreGroups initial p s (g ∷ gs) (h ∷ hs) = IsGroup initial p s g h × AreGroups initial p s gs hs
 
-abbrev pub offsets_in : List Held → List ℕ
-offsets_in hs = flat_map (λ (h : Held). h.offsets) hs
+abbrev pub offsets_in : List HeldMessage → List ℕ
+offsets_in hs = flat_map (λ (h : HeldMessage). h.offsets) hs
 
-abbrev pub numbers_in : List Held → List ℕ
-numbers_in hs = map (λ (h : Held). h.number) hs
+abbrev pub numbers_in : List HeldMessage → List ℕ
+numbers_in hs = map (λ (h : HeldMessage). h.number) hs
 
 -- what a reader sees of a message
 abbrev pub letter_received : ReceivedMessage → Letter
@@ -116,7 +116,7 @@ pub record AreWaiting (initial : ℕ) (p : Plan) (s : ℕ) (chunks : List (List 
 -- is its DATA where one of the groups has it, and nothing elsewhere. The same message is next, the same pieces of
 -- unordered messages wait, and the same unordered messages are complete, in the same order.
 pub record StandsFor (initial : ℕ) (p : Plan) (s : ℕ) (r : Reassembly) (q : Queue) : Type 0 where
-  pub held : List Held
+  pub held : List HeldMessage
   pub groups : AreGroups initial p s r.ordered held
   pub ascends : AreRising (numbers_in held)
   pub same : (o : ℕ) → at o q.ordered ≡ (if mem o (offsets_in held) then Some (data_at p o) else None)

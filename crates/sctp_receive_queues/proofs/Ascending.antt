@@ -55,7 +55,7 @@ less_one_way a b ba bb e =
 
 -- Ends speak for what is between them.
 
--- where the ends in front of a place are before an SSN, all in front of it are
+-- where the ends in front of an index are before an SSN, all in front of it are
 pub all_before : (gs : List Group) (index s : ℕ) → Ascend gs → index ≤ length gs → s < 2 ^ 16
     → AreEndsBefore gs index s → (k : ℕ) (d : Group) → k < index → IsBefore s (get_or gs k d)
 all_before gs index s a le b e k d h =
@@ -79,7 +79,7 @@ all_before gs index s a le b e k d h =
     (λ (z : k ≤ 0). let same : k ≡ 0 = omega (arith, z) in rw same first)
     (cases_lt 0 k)
 
--- where the ends from a place on are past an SSN, all from it on are
+-- where the ends from an index on are past an SSN, all from it on are
 pub all_behind : (gs : List Group) (index s : ℕ) → Ascend gs → s < 2 ^ 16
     → AreEndsBehind gs index s → (k : ℕ) (d : Group) → index ≤ k → k < length gs → IsBehind s (get_or gs k d)
 all_behind gs index s a b e k d le h =
@@ -114,10 +114,10 @@ none_has gs s a b e =
     (λ k d h. let f = all_before gs (length gs) s a (omega arith) b e k d h in
     less_apart (get_or gs k d).ssn s f.0 b f.1)
 
--- and its place is the end
-pub end_is_place : (gs : List Group) (s : ℕ) → Ascend gs → s < 2 ^ 16 → AreEndsBefore gs (length gs) s
+-- and its index is the end
+pub end_is_index : (gs : List Group) (s : ℕ) → Ascend gs → s < 2 ^ 16 → AreEndsBefore gs (length gs) s
     → index_for_ssn s gs ≡ length gs
-end_is_place gs s a b e =
+end_is_index gs s a b e =
     let none =
     absent (λ (g : Group). ssn_lt s g.ssn) gs
     (λ k d h. let f = all_before gs (length gs) s a (omega arith) b e k d h in
@@ -135,7 +135,7 @@ newest_has gs last a some b is =
 
 -- Changes that keep the order.
 
--- behind the place of a new message each stands one place later
+-- behind the index of a new message each stands one further
 above_place : (gs : List Group) (index : ℕ) (x d : Group) (k : ℕ) → index ≤ length gs → index < k
     → get_or (insert gs index x) k d ≡ get_or gs (k - 1) d
 above_place gs index x d k le h =
@@ -178,7 +178,7 @@ insert_ascends gs index x a le b before behind i j d lt h =
     (cases_lt index j))
     (cases_lt j index)
 
--- a message in place of one with its SSN changes the SSN of no place
+-- a message in place of one with its SSN changes the SSN of no index
 same_ssn : (gs : List Group) (k i : ℕ) (y d : Group) → y.ssn ≡ (get_or gs k y).ssn → k < length gs
     → (get_or (set gs k y) i d).ssn ≡ (get_or gs i d).ssn
 same_ssn gs k i y d e h =

@@ -19,8 +19,8 @@ use Rattle.sctp_receive_queues.specs.Reassembly.{run_at, index_for_tsn, joins_be
 use Rattle.sctp_receive_queues.specs.Reassembly.{with_unordered, finished, unordered_put, saturated_bytes, stays, above}
 use Rattle.sctp_receive_queues.specs.Reassembly.{trimmed}
 use Rattle.sctp_receive_queues.proofs.Cuts.{bytes_of_pieces}
-use Rattle.sctp_receive_queues.proofs.RunPlaces.{run_get}
-use Rattle.sctp_receive_queues.proofs.ByteSums.{saturated_sum, filter_sum}
+use Rattle.sctp_receive_queues.proofs.RunsJoined.{run_get}
+use Rattle.sctp_receive_queues.proofs.SaturatedSums.{saturated_sum, filter_sum}
 
 group_bytes : Group → ℕ
 group_bytes g = bytes_of g.pieces

@@ -1,8 +1,8 @@
 pub mod Ascending
-pub mod ByteSums
+pub mod SaturatedSums
 pub mod BytesWaiting
 pub mod Cuts
 pub mod ReadyMessages
 pub mod Reach
-pub mod RunPlaces
+pub mod RunsJoined
 pub mod Searches

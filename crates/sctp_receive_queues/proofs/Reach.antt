@@ -50,10 +50,10 @@ none_has base s reach ps w r =
     list_any_none (λ (p : ChunkPayloadData). eqb p.tsn s) ps
     (λ k d l. apart base (get_or ps k d).tsn s reach (w k d l) r)
 
--- and its place is the end
-pub end_is_place : (base s reach : ℕ) (ps : List ChunkPayloadData) → base < 2 ^ 32 → s < 2 ^ 32
+-- and its index is the end
+pub end_is_slot : (base s reach : ℕ) (ps : List ChunkPayloadData) → base < 2 ^ 32 → s < 2 ^ 32
     → AreWithin base ps reach → reach < tsn_past base s → tsn_past base s < 2 ^ 31 → index_of s ps ≡ length ps
-end_is_place base s reach ps bb bs w r h =
+end_is_slot base s reach ps bb bs w r h =
     let none =
     absent (λ (p : ChunkPayloadData). tsn_lt s p.tsn) ps
     (λ k d l. not_later base (get_or ps k d).tsn s reach bb bs (w k d l) r h) in

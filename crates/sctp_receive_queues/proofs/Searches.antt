@@ -14,7 +14,7 @@ absent p (x ∷ xs) none =
     (λ h. absurd (omega (arith, h))) in
     rw (e, le-ltb (length (x ∷ xs)) (length (x ∷ xs)) (omega arith)) refl
 
--- the first that passes is at this place
+-- the first that passes is at this index
 pub found : {X : Type 0} (p : X → Bool) (xs : List X) (i : ℕ) (d : X) → i < length xs
     → ((k : ℕ) → k < i → p (get_or xs k d) ≡ false) → p (get_or xs i d) ≡ true → position p xs ≡ Some i
 found p xs i d h before here =

@@ -15,12 +15,12 @@ IsBehind ssn g = (g.ssn < 2 ^ 16) × (ssn_lt ssn g.ssn ≡ true)
 abbrev pub Ascend : List Group → Type 0
 Ascend groups = AllPairs (λ (g h : Group). IsBefore h.ssn g) groups
 
--- the first message and the one in front of a place have SSNs before this one, where there are any
+-- the first message and the one in front of an index have SSNs before this one, where there are any
 abbrev pub AreEndsBefore : List Group → ℕ → ℕ → Type 0
 AreEndsBefore groups index ssn =
     0 < index → HoldsAt (IsBefore ssn) groups 0 × HoldsAt (IsBefore ssn) groups (index - 1)
 
--- the message at a place and the last one have SSNs past this one, where there are any
+-- the message at an index and the last one have SSNs past this one, where there are any
 abbrev pub AreEndsBehind : List Group → ℕ → ℕ → Type 0
 AreEndsBehind groups index ssn =
     index < length groups → HoldsAt (IsBehind ssn) groups index × HoldsAt (IsBehind ssn) groups (length groups - 1)

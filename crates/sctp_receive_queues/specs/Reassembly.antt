@@ -143,11 +143,11 @@ bounded (g ∷ gs) ssn tsn =
 abbrev pub index_for_tsn : ℕ → List (List ChunkPayloadData) → ℕ
 index_for_tsn tsn runs = unwrap_or (position (λ r. is_past r tsn) runs) (length runs)
 
--- the run in front of a place
+-- the run in front of an index
 abbrev pub run_before : List (List ChunkPayloadData) → ℕ → List ChunkPayloadData
 run_before runs index = if index == 0 then [] else unwrap_or (slice_get runs (index - 1)) []
 
--- the run at a place
+-- the run at an index
 abbrev pub run_at : List (List ChunkPayloadData) → ℕ → List ChunkPayloadData
 run_at runs index = unwrap_or (slice_get runs index) []
 
@@ -202,16 +202,16 @@ put_between true false runs index run = slice_set runs (index - 1) run
 put_between false true runs index run = slice_set runs index run
 put_between true true runs index run = remove (slice_set runs (index - 1) run) index
 
--- the place of the piece's run
-abbrev pub run_place : Bool → ℕ → ℕ
-run_place joins_before index = if joins_before then index - 1 else index
+-- the index of the piece's run
+abbrev pub run_index : Bool → ℕ → ℕ
+run_index joins_before index = if joins_before then index - 1 else index
 
--- the runs with a piece that has this place among them, and the place of its run
+-- the runs with a piece that has this index among them, and the index of its run
 abbrev pub with_unordered : List (List ChunkPayloadData) → ℕ → ChunkPayloadData → List (List ChunkPayloadData) × ℕ
 with_unordered runs index p = (
   put_between (joins_before (run_before runs index) p) (joins_after (run_at runs index) p) runs index
       (joined_run (run_before runs index) p (run_at runs index)),
-  run_place (joins_before (run_before runs index) p) index,
+  run_index (joins_before (run_before runs index) p) index,
 )
 
 -- a run that is a complete message is that

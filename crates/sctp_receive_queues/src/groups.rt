@@ -19,7 +19,7 @@ use std::marker::Model;
 pub(crate) struct Groups {
     list: VecDeque<Group>,
     // Whether each SSN is known to be before all behind it. Where they are, the newest message is found at the end, and
-    // the place of a newer one too.
+    // the index of a newer one too.
     ascends: bool,
 }
 
@@ -168,7 +168,7 @@ impl Groups {
         self.ascends || self.list.is_empty()
     }
 
-    // Whether the SSNs are known to ascend with this one at a place.
+    // Whether the SSNs are known to ascend with this one at an index.
     fn ascends_with(&self, index: usize, ssn: u16) -> bool
         requires { index ≤ length self.now }
         ensures ascends { IsTrue result → Ascend self.now }
@@ -233,7 +233,7 @@ fn first_past(groups: &VecDeque<Group>, ssn: u16) -> Option<usize>
     groups.iter().position(|group| sna16lt(ssn, group.ssn()))
 }
 
-// Whether an SSN is past the first message and past the one in front of a place, where that is not the first place.
+// Whether an SSN is past the first message and past the one in front of an index, where that is not the first place.
 fn is_past_before(groups: &VecDeque<Group>, index: usize, ssn: u16) -> bool
     requires { index ≤ length groups.now.items }
     ensures { IsTrue result → AreEndsBefore groups.now.items index ssn }
@@ -247,7 +247,7 @@ fn is_past_before(groups: &VecDeque<Group>, index: usize, ssn: u16) -> bool
     }
 }
 
-// Whether an SSN is before the message at a place and before the last one, where that place is not the end.
+// Whether an SSN is before the message at an index and before the last one, where that index is not the end.
 fn is_before_behind(groups: &VecDeque<Group>, index: usize, ssn: u16) -> bool
     requires { index ≤ length groups.now.items }
     ensures { IsTrue result → AreEndsBehind groups.now.items index ssn }

@@ -22,7 +22,7 @@ pub(crate) struct Pieces {
     list: Row,
     bytes: u64,
     // No piece is more than `reach` past the TSN `base`; None where pieces were joined or dropped. A TSN past all of
-    // these is of no piece, and its place is the end.
+    // these is of no piece, and its index is the end.
     base: u32,
     reach: Option<u32>,
 }

@@ -125,7 +125,7 @@ impl Row {
         }
     }
 
-    // Puts a piece at a place; where memory is refused nothing changes.
+    // Puts a piece at an index; where memory is refused nothing changes.
     pub(crate) fn insert(&mut self, index: usize, piece: ChunkPayloadData) -> Result<(), AllocError>
         requires { index ≤ length self.old }
         ensures put { OnOk result (self.new ≡ insert self.old index piece) }

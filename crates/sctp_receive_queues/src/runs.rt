@@ -175,7 +175,7 @@ fn bytes_after(runs: &VecDeque<Pieces>, index: usize, piece: &ChunkPayloadData) 
     }
 }
 
-// Puts a piece to the runs that it goes on with, and answers the place of its run.
+// Puts a piece to the runs that it goes on with, and answers the index of its run.
 fn join(
     runs: &mut VecDeque<Pieces>,
     index: usize,
@@ -245,7 +245,7 @@ fn push_front_at(
     }
 }
 
-// Puts a piece between the run in front of a place and the run at it.
+// Puts a piece between the run in front of an index and the run at it.
 fn join_at(
     runs: &mut VecDeque<Pieces>,
     index: usize,
@@ -304,7 +304,7 @@ fn join_front(
     }
 }
 
-// Where the run at a place is a complete message, it is that.
+// Where the run at an index is a complete message, it is that.
 fn finish(runs: &mut VecDeque<Pieces>, complete: &mut VecDeque<Chunks>, index: usize)
     requires { deque_len complete.old < deque_capacity complete.old }
     ensures { finished runs.old.items index complete.old.items ≡ (runs.new.items, complete.new.items) }

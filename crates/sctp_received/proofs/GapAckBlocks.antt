@@ -22,7 +22,7 @@ use Rattle.sctp_wire_types.specs.declared.chunk.GapAckBlock.{GapAckBlock}
 use Rattle.sctp_received.specs.Received.{is_held, has_offset, advanced, is_greater, offsets_in, offsets_of, block}
 use Rattle.sctp_received.specs.Received.{runs_from, runs_of, gap_ack_blocks, is_named, is_held_at, AreRuns}
 
--- The point moves on.
+-- The cumulative TSN moves on.
 
 advance_more : (p : ℕ) (ks ns : List ℕ) → is_held (tsn_after p) ks ≡ true → length ns + 1 ≡ length ks
     → ns ≡ remove_key (is_at (nat_cmp (tsn_after p))) ks

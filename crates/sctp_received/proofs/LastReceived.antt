@@ -1,4 +1,4 @@
--- The last TSN received is the one farthest past the point.
+-- The last TSN received is the one farthest past the cumulative TSN.
 use Rattle.std.proofs.Common.{◌≡◌, ℕ, ◌≤◌, ◌<◌, true, false, ltb, List, [], ◌∷◌, Option, Some, None, fold, refl, ⊎_elim}
 use Rattle.std.proofs.Common.{arith}
 use Rattle.std.specs.List.{AllByRecursion}

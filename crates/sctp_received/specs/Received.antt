@@ -16,7 +16,7 @@ AreTsns tsns = All (λ t. t < 2 ^ 32) tsns
 abbrev pub is_held : ℕ → List ℕ → Bool
 is_held tsn tsns = list_any (is_at (nat_cmp tsn)) tsns
 
--- a TSN that is this far past the point can be told by a gap ack block
+-- a TSN that is this far past the cumulative TSN can be told by a gap ack block
 abbrev pub has_offset : ℕ → Bool
 has_offset distance = nat_lt 0 distance && nat_le distance 65535
 
@@ -29,7 +29,7 @@ abbrev pub with_tsn : List ℕ → ℕ → ℕ → List ℕ × Bool
 with_tsn tsns tsn cumulative_tsn =
     if is_new tsns tsn cumulative_tsn then (insert_key nat_cmp tsns tsn, true) else (tsns, false)
 
--- the point moves over the TSNs that follow it, at most n of them, and they are held no more
+-- the cumulative TSN moves over the TSNs that follow it, at most n of them, and they are held no more
 abbrev pub advanced : ℕ → ℕ → List ℕ → ℕ × List ℕ
 advanced zero cumulative_tsn tsns = (cumulative_tsn, tsns)
 advanced (suc n) cumulative_tsn tsns =
@@ -37,27 +37,27 @@ advanced (suc n) cumulative_tsn tsns =
     advanced n (tsn_after cumulative_tsn) (remove_key (is_at (nat_cmp (tsn_after cumulative_tsn))) tsns)
     else (cumulative_tsn, tsns)
 
--- the one of two TSNs that is farther past the point
+-- the one of two TSNs that is farther past the cumulative TSN
 abbrev pub later_of : ℕ → Option ℕ → ℕ → ℕ
 later_of cumulative_tsn None t = t
 later_of cumulative_tsn (Some last) t =
     if nat_lt (tsn_past cumulative_tsn last) (tsn_past cumulative_tsn t) then t else last
 
--- the TSN that is farthest past the point
+-- the TSN that is farthest past the cumulative TSN
 abbrev pub last_received : ℕ → List ℕ → Option ℕ
 last_received cumulative_tsn tsns = fold (λ last t. Some (later_of cumulative_tsn last t)) None tsns
 
--- no TSN is farther past the point; there is none only where there are no TSNs
+-- no TSN is farther past the cumulative TSN; there is none only where there are no TSNs
 abbrev pub IsFarthest : ℕ → List ℕ → Option ℕ → Type 0
 IsFarthest cumulative_tsn tsns None = tsns ≡ []
 IsFarthest cumulative_tsn tsns (Some t) =
     AllByRecursion (λ u. tsn_past cumulative_tsn u ≤ tsn_past cumulative_tsn t) tsns
 
--- a TSN is greater than the point as a number, or it is not
+-- a TSN is greater than the cumulative TSN as a number, or it is not
 abbrev pub is_greater : Bool → ℕ → ℕ → Bool
 is_greater greater cumulative_tsn tsn = if nat_lt cumulative_tsn tsn then greater else not greater
 
--- how far the TSNs that are greater than the point as numbers, or those that are not, are past it
+-- how far the TSNs that are greater than the cumulative TSN as numbers, or those that are not, are past it
 abbrev pub offsets_in : Bool → ℕ → List ℕ → List ℕ
 offsets_in greater cumulative_tsn [] = []
 offsets_in greater cumulative_tsn (t ∷ ts) =
@@ -65,7 +65,8 @@ offsets_in greater cumulative_tsn (t ∷ ts) =
     tsn_past cumulative_tsn t ∷ offsets_in greater cumulative_tsn ts
     else offsets_in greater cumulative_tsn ts
 
--- how far the TSNs are past the point: the numbers of TSNs go round, so those behind the point as numbers are farther
+-- how far the TSNs are past the cumulative TSN: the numbers of TSNs go round, so those behind the cumulative TSN as
+-- numbers are farther
 abbrev pub offsets_of : ℕ → List ℕ → List ℕ
 offsets_of cumulative_tsn tsns = offsets_in true cumulative_tsn tsns ++ offsets_in false cumulative_tsn tsns
 
@@ -82,7 +83,7 @@ abbrev pub runs_of : List ℕ → List GapAckBlock
 runs_of [] = []
 runs_of (o ∷ os) = runs_from (block o o) os
 
--- the gap ack blocks of a SACK with this point
+-- the gap ack blocks of a SACK with this cumulative TSN
 abbrev pub gap_ack_blocks : ℕ → List ℕ → List GapAckBlock
 gap_ack_blocks cumulative_tsn tsns = runs_of (offsets_of cumulative_tsn tsns)
 
@@ -90,7 +91,7 @@ gap_ack_blocks cumulative_tsn tsns = runs_of (offsets_of cumulative_tsn tsns)
 abbrev pub is_named : ℕ → List GapAckBlock → Bool
 is_named o blocks = list_any (λ (b : GapAckBlock). nat_le b.start o && nat_le o b.end) blocks
 
--- a TSN that is this far past the point is held
+-- a TSN that is this far past the cumulative TSN is held
 abbrev pub is_held_at : ℕ → ℕ → List ℕ → Bool
 is_held_at cumulative_tsn offset tsns = list_any (λ t. tsn_past cumulative_tsn t == offset) tsns
 

@@ -44,7 +44,7 @@ impl ReceiveQueue {
         }
     }
 
-    /// Whether DATA with this TSN is new: 1 to 65,535 past the point and not held.
+    /// Whether DATA with this TSN is new: 1 to 65,535 past the cumulative TSN and not held.
     pub fn can_push(&self, tsn: u32, cumulative_tsn: u32) -> bool
         ensures { result ≡ is_new self.now tsn cumulative_tsn }
     {
@@ -88,8 +88,8 @@ impl ReceiveQueue {
         self.tsns.retain(|held| !sna32lte(*held, tsn));
     }
 
-    /// Takes out the TSNs that follow the point one after another, and answers the last of them: where the cumulative
-    /// TSN ack point moves (RFC 4960 section 6.2).
+    /// Takes out the TSNs that follow the cumulative TSN one after another, and answers the last of them: where the
+    /// cumulative TSN ack point moves (RFC 4960 section 6.2).
     pub fn advance(&mut self, cumulative_tsn: u32) -> u32
         ensures moved { advanced (length self.old) cumulative_tsn self.old ≡ (result, self.new) }
         ensures stops { is_held ((result + 1) % 2 ^ 32) self.new ≡ false }
@@ -101,9 +101,9 @@ impl ReceiveQueue {
         cumulative_tsn
     }
 
-    /// The TSNs held, as the SACK for this point says them: the maximal runs, ascending, by their first and last offset
-    /// from the point (RFC 4960 section 3.3.4). TSNs that are not 1 to 65,535 past the point have no offset and are
-    /// left out.
+    /// The TSNs held, as the SACK for this cumulative TSN says them: the maximal runs, ascending, by their first and
+    /// last offset from the cumulative TSN (RFC 4960 section 3.3.4). TSNs that are not 1 to 65,535 past the cumulative
+    /// TSN have no offset and are left out.
     pub fn get_gap_ack_blocks(
         &self,
         alloc: Global,
@@ -119,7 +119,8 @@ impl ReceiveQueue {
         Ok(List::from_vec(blocks))
     }
 
-    // Offsets from the point, ascending: the TSNs past the point as numbers come before those behind it, which wrapped.
+    // Offsets from the cumulative TSN, ascending: the TSNs past the cumulative TSN as numbers come before those behind
+    // it, which wrapped.
     fn offsets(&self, alloc: Global, cumulative_tsn: u32) -> Result<Vec<u16>, AllocError>
         ensures offsets { IfOk result (λ offsets. offsets.items ≡ offsets_of cumulative_tsn self.now) }
         ensures tsns { OnOk result (AreTsns self.now × IsStrictlySortedBy nat_cmp self.now) }
@@ -130,7 +131,7 @@ impl ReceiveQueue {
         Ok(offsets)
     }
 
-    /// The TSN held that is farthest past the point; None where nothing is held.
+    /// The TSN held that is farthest past the cumulative TSN; None where nothing is held.
     pub fn get_last_tsn_received(&self, cumulative_tsn: u32) -> Option<u32>
         ensures last { result ≡ last_received cumulative_tsn self.now }
         ensures farthest { IsFarthest cumulative_tsn self.now result }
@@ -161,7 +162,7 @@ impl ReceiveQueue {
     }
 }
 
-// The one of two TSNs that is farther past the point.
+// The one of two TSNs that is farther past the cumulative TSN.
 fn later(cumulative_tsn: u32, last: Option<u32>, tsn: u32) -> u32
     ensures { result ≡ later_of cumulative_tsn last tsn }
 {

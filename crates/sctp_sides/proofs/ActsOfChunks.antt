@@ -30,8 +30,8 @@ use Rattle.sctp_outbound.specs.declared.sender.SackOutcome.{SackOutcome}
 use Rattle.sctp_outbound.specs.declared.sender.SackOutcome.TheVariants as outcomes
 use Rattle.sctp_outbound.specs.declared.sender.Sender.{Sender}
 use Rattle.sctp_outbound.specs.Sender.{after_resending, both_windows, can_send_next, cumulative_tsn_ack_point_of}
-use Rattle.sctp_outbound.specs.Offsets.{is_in_flight_at, name_unsent}
-use Rattle.sctp_outbound.proofs.Offsets.{names_sets}
+use Rattle.sctp_outbound.specs.BlockOffsets.{is_in_flight_at, name_unsent}
+use Rattle.sctp_outbound.proofs.BlockOffsets.{names_sets}
 use Rattle.sctp_outbound.specs.Sender.{names_unsent, tsns_up_to, resends_alone, resent_by, sack_outcome, sent_one}
 use Rattle.sctp_model.proofs.Lists.{all_join}
 use Rattle.sctp_directions.specs.Acts.{Act, CanAll, History}
@@ -49,9 +49,10 @@ use Rattle.sctp_outbound_queue.specs.declared.message.Retransmission.TheVariants
 use Rattle.sctp_assoc.specs.Happened.{acts_of_marks, acts_of_new, acts_of_outcome, acts_of_resending, acts_of_sending}
 use Rattle.sctp_assoc.specs.Happened.{acts_of_stream, acts_unless_refused, first_again, first_sent}
 use Rattle.sctp_assoc.specs.Timeouts.{after_handshake_timers}
-use Rattle.sctp_sides.specs.Shapes.{DataIsTaken, GivesData, GreetingsMeet, IsMeeting, IsOther, IsTaking}
-use Rattle.sctp_sides.specs.Shapes.{OtherChunksDoNothing, OtherSacksDoNothing, PollsGiveAndReport, SacksAcknowledge}
-use Rattle.sctp_sides.specs.Shapes.{TakenSacksAcknowledge, TimeoutsMarkAtMost}
+use Rattle.sctp_sides.specs.SideLaws.{DataOpensOrTakes, GivesData, GreetingsMakeThePeerKnown, IsPeerKnown, IsOther}
+use Rattle.sctp_sides.specs.SideLaws.{IsTaking}
+use Rattle.sctp_sides.specs.SideLaws.{OtherChunksDoNothing, OtherSacksDoNothing, PollsGiveAndReport, SacksAcknowledge}
+use Rattle.sctp_sides.specs.SideLaws.{TakenSacksAcknowledge, TimeoutsMarkAtMost}
 use Rattle.sctp_assoc.specs.Shown.{Shown}
 use Rattle.sctp_assoc.proofs.CallsLeadOn.{chunk_leads}
 use Rattle.sctp_fit.proofs.StreamsThere.{at_made}
@@ -116,8 +117,8 @@ checked_acts : (r : Result (Unit {0}) Error) (a : Shown) (header : CommonHeader)
 checked_acts (Err fault) a header piece = inl refl
 checked_acts (Ok done) a header piece = next_acts (is_new_to a.receiver piece.tsn) a piece
 
-pub data_is_taken : DataIsTaken
-data_is_taken a header piece = checked_acts (checked_chunk (chunks.Data piece)) a header piece
+pub data_opens_or_takes : DataOpensOrTakes
+data_opens_or_takes a header piece = checked_acts (checked_chunk (chunks.Data piece)) a header piece
 
 -- SACK
 
@@ -146,10 +147,10 @@ checked_sack (Ok done) a header k =
     (tsns_up_to a.sender k.cumulative_tsn_ack) k.gap_ack_blocks
     (reports_of a.sender k.cumulative_tsn_ack k.gap_ack_blocks)
 
--- a point that is n past the TSN before the first one in flight
-pub point_back : (own base t : ℕ)
+-- a cumulative TSN ack that is n past the TSN before the first one in flight
+pub acked_back : (own base t : ℕ)
     → t % 2 ^ 32 ≡ tsn_before (tsn own (base + tsn_past ((tsn own base + 2 ^ 32 - 1) % 2 ^ 32) t))
-point_back own base t = omega arith
+acked_back own base t = omega arith
 
 pub sacks_acknowledge : SacksAcknowledge
 sacks_acknowledge a h header sack binds =
@@ -171,7 +172,7 @@ sacks_acknowledge a h header sack binds =
       at =
           subst (λ (f : ℕ). sack.cumulative_tsn_ack % 2 ^ 32 ≡ tsn_before
           (tsn h.own (h.base + tsn_past ((f + 2 ^ 32 - 1) % 2 ^ 32) sack.cumulative_tsn_ack))) (sym binds.first)
-          (point_back h.own h.base sack.cumulative_tsn_ack);
+          (acked_back h.own h.base sack.cumulative_tsn_ack);
     }))
     (checked_sack (checked_chunk (chunks.SelectiveAck sack)) a header sack)
 
@@ -277,27 +278,27 @@ other_sacks_do_nothing a h header sack binds other =
 
 -- INIT and INIT ACK
 
-meeting_if : (c : Bool) (init : ChunkInit) → IsMeeting init (if c then Act.PeerKnown init.initial_tsn ∷ [] else [])
-meeting_if true init = inr refl
-meeting_if false init = inl refl
+peer_known_if : (c : Bool) (init : ChunkInit) → IsPeerKnown init (if c then Act.PeerKnown init.initial_tsn ∷ [] else [])
+peer_known_if true init = inr refl
+peer_known_if false init = inl refl
 
 coming_back_if : (waits back : Bool) (init : ChunkInit)
-    → IsMeeting init (if waits then (if back then Act.PeerKnown init.initial_tsn ∷ [] else []) else [])
-coming_back_if true back init = meeting_if back init
+    → IsPeerKnown init (if waits then (if back then Act.PeerKnown init.initial_tsn ∷ [] else []) else [])
+coming_back_if true back init = peer_known_if back init
 coming_back_if false back init = inl refl
 
 checked_init : (r : Result (Unit {0}) Error) (a : Shown) (header : CommonHeader) (init : ChunkInit)
-    → IsMeeting init (acts_of_checked r a header (chunks.Init init))
+    → IsPeerKnown init (acts_of_checked r a header (chunks.Init init))
 checked_init (Err fault) a header init = inl refl
-checked_init (Ok done) a header init = meeting_if (is_beginning a.state) init
+checked_init (Ok done) a header init = peer_known_if (is_beginning a.state) init
 
 checked_init_ack : (r : Result (Unit {0}) Error) (a : Shown) (header : CommonHeader) (init : ChunkInit)
-    → IsMeeting init (acts_of_checked r a header (chunks.InitAck init))
+    → IsPeerKnown init (acts_of_checked r a header (chunks.InitAck init))
 checked_init_ack (Err fault) a header init = inl refl
 checked_init_ack (Ok done) a header init = coming_back_if (is_cookie_wait a.state) (comes_back a.handshake header) init
 
-pub greetings_meet : GreetingsMeet
-greetings_meet a header init = (
+pub greetings_make_the_peer_known : GreetingsMakeThePeerKnown
+greetings_make_the_peer_known a header init = (
   checked_init (checked_chunk (chunks.Init init)) a header init,
   checked_init_ack (checked_chunk (chunks.InitAck init)) a header init,
 )
@@ -344,9 +345,9 @@ resending_gives by index room (p ∷ ps) =
     (Act.SentAgain by index ∷ acts_of_resending by (index + 1) (room - room_taken by p) ps) tt
     (tt, resending_gives by (index + 1) (room - room_taken by p) ps))
 
-first_again_gives : (ps : List InFlight) → AllByRecursion GivesData (first_again ps)
-first_again_gives [] = tt
-first_again_gives (p ∷ ps) = (tt, tt)
+first_again_is_data : (ps : List InFlight) → AllByRecursion GivesData (first_again ps)
+first_again_is_data [] = tt
+first_again_is_data (p ∷ ps) = (tt, tt)
 
 first_sent_gives : (ms : List Waiting) (now : ℕ) → AllByRecursion GivesData (first_sent ms now)
 first_sent_gives [] now = tt
@@ -364,15 +365,15 @@ new_gives s now =
     (acts_of_sending (pieces_waiting s.queue.pending) s now)
     (first_sent_gives s.queue.pending now) (sending_gives (pieces_waiting s.queue.pending) s now)
 
-data_poll_gives : (a : Shown) (now : ℕ) → AllByRecursion GivesData (acts_of_data_poll a now)
-data_poll_gives a now =
+data_poll_is_data : (a : Shown) (now : ℕ) → AllByRecursion GivesData (acts_of_data_poll a now)
+data_poll_is_data a now =
     let s = after_marked a.sender in
     all_join GivesData (acts_of_marks a.sender ++ acts_of_missing s)
     (acts_of_new (after_resending a.sender) now)
     (all_join GivesData (acts_of_marks a.sender) (acts_of_missing s)
     (give_if (resends_alone a.sender) (first_again a.sender.queue.in_flight)
     (acts_of_resending causes.Timer 0 (both_windows a.sender) a.sender.queue.in_flight)
-    (first_again_gives a.sender.queue.in_flight)
+    (first_again_is_data a.sender.queue.in_flight)
     (resending_gives causes.Timer 0 (both_windows a.sender) a.sender.queue.in_flight))
     (give_if s.is_fast_due (acts_of_resending causes.Fast 0 (fast_room s) s.queue.in_flight) []
     (resending_gives causes.Fast 0 (fast_room s) s.queue.in_flight) tt))
@@ -381,7 +382,7 @@ data_poll_gives a now =
 pub polls_give_and_report : PollsGiveAndReport
 polls_give_and_report a now established = record {
   given = acts_of_data_poll a now;
-  give = data_poll_gives a now;
+  give = data_poll_is_data a now;
   are = cond-true (is_established a.state) (acts_of_data_poll a now ++ acts_of_ack a) [] established;
 }
 

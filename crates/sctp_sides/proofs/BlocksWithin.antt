@@ -34,26 +34,30 @@ unnamed x (o ∷ os) a = unnamed_from x (block o o) os a.0 a.1
 offset_below : (d x : ℕ) → 65535 < x → has_offset d ≡ true → d < x
 offset_below d x l e = grind (arith, nat_tests, l, e)
 
-offsets_below : (g : Bool) (point x : ℕ) (ts : List ℕ) → 65535 < x → AreBelow x (offsets_in g point ts)
+offsets_below : (g : Bool) (cumulative_tsn x : ℕ) (ts : List ℕ) → 65535 < x
+    → AreBelow x (offsets_in g cumulative_tsn ts)
 unfolding AreBelow
-offsets_below g point x [] l = tt
-offsets_below g point x (t ∷ ts) l = ⊎_elim
-    (λ (e : (is_greater g point t && has_offset (tsn_past point t)) ≡ true).
+offsets_below g cumulative_tsn x [] l = tt
+offsets_below g cumulative_tsn x (t ∷ ts) l = ⊎_elim
+    (λ (e : (is_greater g cumulative_tsn t && has_offset (tsn_past cumulative_tsn t)) ≡ true).
     rw e (
-      offset_below (tsn_past point t) x l (and_parts (is_greater g point t) (has_offset (tsn_past point t)) e).1,
-      offsets_below g point x ts l,
+      offset_below (tsn_past cumulative_tsn t) x l
+          (and_parts (is_greater g cumulative_tsn t) (has_offset (tsn_past cumulative_tsn t)) e).1,
+      offsets_below g cumulative_tsn x ts l,
     ))
-    (λ (e : (is_greater g point t && has_offset (tsn_past point t)) ≡ false).
-    rw e (offsets_below g point x ts l))
-    (cases_Bool (is_greater g point t && has_offset (tsn_past point t)))
+    (λ (e : (is_greater g cumulative_tsn t && has_offset (tsn_past cumulative_tsn t)) ≡ false).
+    rw e (offsets_below g cumulative_tsn x ts l))
+    (cases_Bool (is_greater g cumulative_tsn t && has_offset (tsn_past cumulative_tsn t)))
 
 both_below : (x : ℕ) (os ps : List ℕ) → AreBelow x os → AreBelow x ps → AreBelow x (os ++ ps)
 unfolding AreBelow
 both_below x [] ps a b = b
 both_below x (o ∷ os) ps a b = (a.0, both_below x os ps a.1 b)
 
-pub nothing_named : (point : ℕ) (held : List ℕ) (x : ℕ) → 65535 < x → is_named x (gap_ack_blocks point held) ≡ false
-nothing_named point held x l =
-    unnamed x (offsets_in true point held ++ offsets_in false point held)
-    (both_below x (offsets_in true point held) (offsets_in false point held) (offsets_below true point x held l)
-    (offsets_below false point x held l))
+pub nothing_named : (cumulative_tsn : ℕ) (held : List ℕ) (x : ℕ) → 65535 < x
+    → is_named x (gap_ack_blocks cumulative_tsn held) ≡ false
+nothing_named cumulative_tsn held x l =
+    unnamed x (offsets_in true cumulative_tsn held ++ offsets_in false cumulative_tsn held)
+    (both_below x (offsets_in true cumulative_tsn held) (offsets_in false cumulative_tsn held)
+    (offsets_below true cumulative_tsn x held l)
+    (offsets_below false cumulative_tsn x held l))

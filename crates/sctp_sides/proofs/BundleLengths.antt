@@ -8,7 +8,8 @@ use Rattle.sctp_wire_types.specs.declared.chunk.ChunkPayloadData.{ChunkPayloadDa
 use Rattle.sctp_wire_types.specs.declared.packet.CommonHeader.{CommonHeader}
 use Rattle.sctp_wire.specs.declared.packet.Packet.{Packet}
 use Rattle.sctp_wire.specs.Packets.{spelling, unsummed}
-use Rattle.sctp_wire.specs.DataPackets.{DataWritten, closed, data_fits, has_room, joined_by, nothing_written, packet_of}
+use Rattle.sctp_wire.specs.DataPackets.{DataWritten, closed, data_fits, has_room, joined_by, nothing_written}
+use Rattle.sctp_wire.specs.DataPackets.{data_packet}
 use Rattle.sctp_wire.specs.DataPackets.{unless_empty, with_all, with_data}
 use Rattle.sctp_inbound.specs.Handshake.{header_of}
 use Rattle.sctp_outbound.specs.Sender.{after_marked, after_resending, marked_by, missing_by, sent_new}
@@ -25,7 +26,7 @@ spelled_length p = refl
 
 -- as long as it is being written a packet may be empty
 abbrev IsShort : CommonHeader → ℕ → List ChunkPayloadData → Type 0
-IsShort header mtu cs = (length cs ≤ 1) ⊎ (length (spelling (packet_of header cs)) ≤ mtu)
+IsShort header mtu cs = (length cs ≤ 1) ⊎ (length (spelling (data_packet header cs)) ≤ mtu)
 
 filled_short : (header : CommonHeader) (mtu : ℕ) (cs : List ChunkPayloadData) → IsShort header mtu cs × IsFilled cs
     → IsShortOrAlone header mtu cs
@@ -58,15 +59,15 @@ module _ (header : CommonHeader) (mtu : ℕ) where
       → AreShort header mtu (joined_by w c)
   joined_short w c h room =
       let within = leb-true _ _ room in
-      let length_is = spelled_length (packet_of w.header (w.current ++ c ∷ [])) in
+      let length_is = spelled_length (data_packet w.header (w.current ++ c ∷ [])) in
       let least = h.mtu_is in
-      let short : length (spelling (packet_of w.header (w.current ++ c ∷ []))) ≤ mtu =
+      let short : length (spelling (data_packet w.header (w.current ++ c ∷ []))) ≤ mtu =
       omega (arith, within, length_is, least) in
       record {
         header_is = h.header_is;
         mtu_is = h.mtu_is;
         done = h.done;
-        current = inr (subst (λ z. length (spelling (packet_of z (w.current ++ c ∷ []))) ≤ mtu) h.header_is short);
+        current = inr (subst (λ z. length (spelling (data_packet z (w.current ++ c ∷ []))) ≤ mtu) h.header_is short);
       }
 
   -- DATA that begins a packet

@@ -61,17 +61,17 @@ use Rattle.std.proofs.Common.{subst}
 
 -- What a chunk leaves of an association's end: it isn't closed unless it was, and the mark of a loss and the losses
 -- among the events are the same.
-pub record GoesOn (a b : Shown) : Type 0 where
+pub record StaysOpen (a b : Shown) : Type 0 where
   pub still_open : is_closed_state b.state ≡ true → is_closed_state a.state ≡ true
   pub lost : b.lost ≡ a.lost
   pub told : losses b.events ≡ losses a.events
 
-goes_on_there : (a b c : Shown) → GoesOn a b → GoesOn b c → GoesOn a c
+goes_on_there : (a b c : Shown) → StaysOpen a b → StaysOpen b c → StaysOpen a c
 goes_on_there a b c m n =
     record { still_open = λ e. m.still_open (n.still_open e); lost = n.lost ∙ m.lost; told = n.told ∙ m.told }
 
 -- nothing of the end changed, or one event came that is no loss
-pub stays : (a b : Shown) → b.state ≡ a.state → b.lost ≡ a.lost → b.events ≡ a.events → GoesOn a b
+pub stays : (a b : Shown) → b.state ≡ a.state → b.lost ≡ a.lost → b.events ≡ a.events → StaysOpen a b
 stays a b s l e = record { still_open = λ c. ap is_closed_state (sym s) ∙ c; lost = l; told = ap losses e }
 
 one_more_told : (queued : List Event) (event : Event) → losses (queued ++ event ∷ []) ≡ losses queued + loss_of event
@@ -85,7 +85,7 @@ tells queued event e = one_more_told queued event ∙ ap (λ (n : ℕ). losses q
 -- DATA
 
 told_goes_on : (c : Bool) (b : Shown) (id : ℕ) (kept : Bool) → (kept && is_readable_in b.streams id) ≡ c
-    → GoesOn b (told b id kept)
+    → StaysOpen b (told b id kept)
 told_goes_on true b id kept e = rw e (record {
   still_open = λ c. c;
   lost = refl;
@@ -96,39 +96,40 @@ told_goes_on true b id kept e = rw e (record {
 told_goes_on false b id kept e =
     rw e (record { still_open = λ c. c; lost = refl; told = tells b.events DatagramReceived refl })
 
-message_goes_on : (a : Shown) (piece : ChunkPayloadData) (x : StreamMap × Bool) → GoesOn a (with_message a piece x)
+message_goes_on : (a : Shown) (piece : ChunkPayloadData) (x : StreamMap × Bool) → StaysOpen a (with_message a piece x)
 message_goes_on a piece (streams, kept) =
     let m = told_goes_on _ _ piece.stream_identifier kept refl in
     record { still_open = m.still_open; lost = m.lost; told = m.told }
 
-taking_goes_on : (o : Option Error) (a : Shown) (piece : ChunkPayloadData) → GoesOn a (taken_unless o a piece).0
+taking_goes_on : (o : Option Error) (a : Shown) (piece : ChunkPayloadData) → StaysOpen a (taken_unless o a piece).0
 taking_goes_on (Some fault) a piece = stays a a refl refl refl
 taking_goes_on None a piece = message_goes_on a piece (pushed_in a.streams piece.stream_identifier piece)
 
-asked_goes_on : (a : Shown) (x : Shown × Option Error) (piece : ChunkPayloadData) (trigger : AckTrigger) → GoesOn a x.0
-    → GoesOn a (asks_or_faults x piece trigger).0
+asked_goes_on : (a : Shown) (x : Shown × Option Error) (piece : ChunkPayloadData) (trigger : AckTrigger)
+    → StaysOpen a x.0
+    → StaysOpen a (asks_or_faults x piece trigger).0
 asked_goes_on a (b, None) piece trigger m =
-    subst (λ (z : Shown). GoesOn a z) (sym (asks_keeps b piece trigger)) m
+    subst (λ (z : Shown). StaysOpen a z) (sym (asks_keeps b piece trigger)) m
 asked_goes_on a (b, Some fault) piece trigger m = m
 
 credit_goes_on : (c : Bool) (b : Shown) (piece : ChunkPayloadData) (trigger : AckTrigger)
     → admits b.receiver piece.tsn (bytes_waiting b.streams) ≡ c
-    → GoesOn b (on_new_data (b, true) piece trigger).0
+    → StaysOpen b (on_new_data (b, true) piece trigger).0
 unfolding taken_in
 credit_goes_on true b piece trigger e =
     rw e (asked_goes_on b (taken_in b piece) piece trigger
     (taking_goes_on (refusal_in b.streams piece.stream_identifier piece _) b piece))
 credit_goes_on false b piece trigger e =
-    rw e (subst (λ (z : Shown). GoesOn b z) (sym (asks_keeps b piece trigger)) (stays b b refl refl refl))
+    rw e (subst (λ (z : Shown). StaysOpen b z) (sym (asks_keeps b piece trigger)) (stays b b refl refl refl))
 
 next_goes_on : (x : Shown × Bool) (piece : ChunkPayloadData) (trigger : AckTrigger)
-    → GoesOn x.0 (on_new_data x piece trigger).0
+    → StaysOpen x.0 (on_new_data x piece trigger).0
 next_goes_on (b, false) piece trigger = stays b b refl refl refl
 next_goes_on (b, true) piece trigger = credit_goes_on _ b piece trigger refl
 
 found_goes_on : (there left : Bool) (a : Shown) (id : ℕ) → is_some (stream_at a.streams id) ≡ there
     → generation_left a.streams ≡ left
-    → GoesOn a (stream_found a id).0
+    → StaysOpen a (stream_found a id).0
 unfolding stream_found
 found_goes_on true left a id e f = rw e (stays a a refl refl refl)
 found_goes_on false true a id e f =
@@ -137,15 +138,16 @@ found_goes_on false false a id e f = rw (e, f) (stays a a refl refl refl)
 
 data_goes_on : (c : Bool) (b : Shown) (piece : ChunkPayloadData) (trigger : AckTrigger)
     → is_new_to b.receiver piece.tsn ≡ c
-    → GoesOn b (on_counted_data b piece trigger).0
+    → StaysOpen b (on_counted_data b piece trigger).0
 data_goes_on false b piece trigger e =
-    rw e (subst (λ (z : Shown). GoesOn b z) (sym (asks_keeps b piece trigger)) (stays b b refl refl refl))
+    rw e (subst (λ (z : Shown). StaysOpen b z) (sym (asks_keeps b piece trigger)) (stays b b refl refl refl))
 data_goes_on true b piece trigger e =
     let id = piece.stream_identifier in
     rw e (goes_on_there b (stream_found b id).0 _ (found_goes_on _ _ b id refl refl)
     (next_goes_on (stream_found b id) piece trigger))
 
-on_data_goes_on : (a : Shown) (piece : ChunkPayloadData) (trigger : AckTrigger) → GoesOn a (on_data a piece trigger).0
+on_data_goes_on : (a : Shown) (piece : ChunkPayloadData) (trigger : AckTrigger)
+    → StaysOpen a (on_data a piece trigger).0
 unfolding on_data
 on_data_goes_on a piece trigger =
     let m = data_goes_on _ _ piece trigger refl in
@@ -160,7 +162,7 @@ low_marks_tell (id ∷ ids) =
     sum_by-cons loss_of (low_event id) (map low_event ids) ∙ ap (λ (n : ℕ). 0 + n) (low_marks_tell ids)
 
 acknowledged_goes_on : (a : Shown) (progress : Progress) (now : ℕ) (x : Sender × Estimate × StreamMap)
-    → GoesOn a (with_acknowledged a progress now x)
+    → StaysOpen a (with_acknowledged a progress now x)
 acknowledged_goes_on a progress now (s, e, m) = record {
   still_open = λ c. c;
   lost = refl;
@@ -170,35 +172,37 @@ acknowledged_goes_on a progress now (s, e, m) = record {
       ∙ omega arith;
 }
 
-outcome_goes_on : (o : SackOutcome) (b : Shown) (point : ℕ) (blocks : List GapAckBlock) (window : ℕ)
+outcome_goes_on : (o : SackOutcome) (b : Shown) (cumulative_tsn_ack : ℕ) (blocks : List GapAckBlock) (window : ℕ)
     (trigger : AckTrigger) (now : ℕ)
-    → GoesOn b (on_counted_sack o b point blocks window trigger now).0
-outcome_goes_on outcomes.Older b point blocks window trigger now = stays b b refl refl refl
-outcome_goes_on outcomes.NotInFlight b point blocks window trigger now = stays b b refl refl refl
-outcome_goes_on outcomes.NamesTheUnsent b point blocks window trigger now = stays b b refl refl refl
-outcome_goes_on outcomes.Taken b point blocks window trigger now =
-    acknowledged_goes_on b (progress_of b.sender point blocks) now
-    (sack_taken point blocks window now b.sender b.estimate b.streams)
+    → StaysOpen b (on_counted_sack o b cumulative_tsn_ack blocks window trigger now).0
+outcome_goes_on outcomes.Older b cumulative_tsn_ack blocks window trigger now = stays b b refl refl refl
+outcome_goes_on outcomes.NotInFlight b cumulative_tsn_ack blocks window trigger now = stays b b refl refl refl
+outcome_goes_on outcomes.NamesTheUnsent b cumulative_tsn_ack blocks window trigger now = stays b b refl refl refl
+outcome_goes_on outcomes.Taken b cumulative_tsn_ack blocks window trigger now =
+    acknowledged_goes_on b (progress_of b.sender cumulative_tsn_ack blocks) now
+    (sack_taken cumulative_tsn_ack blocks window now b.sender b.estimate b.streams)
 
-sack_goes_on : (c : Bool) (a : Shown) (point : ℕ) (blocks : List GapAckBlock) (window : ℕ) (trigger : AckTrigger)
+sack_goes_on : (c : Bool) (a : Shown) (cumulative_tsn_ack : ℕ) (blocks : List GapAckBlock) (window : ℕ)
+    (trigger : AckTrigger)
     (now : ℕ) → is_established a.state ≡ c
-    → GoesOn a (on_sack a point blocks window trigger now).0
+    → StaysOpen a (on_sack a cumulative_tsn_ack blocks window trigger now).0
 unfolding on_sack
-sack_goes_on true a point blocks window trigger now e =
-    let m = outcome_goes_on (sack_outcome a.sender point blocks) _ point blocks window trigger now in
+sack_goes_on true a cumulative_tsn_ack blocks window trigger now e =
+    let m = outcome_goes_on
+    (sack_outcome a.sender cumulative_tsn_ack blocks) _ cumulative_tsn_ack blocks window trigger now in
     rw e (record { still_open = m.still_open; lost = m.lost; told = m.told })
-sack_goes_on false a point blocks window trigger now e = rw e (stays a a refl refl refl)
+sack_goes_on false a cumulative_tsn_ack blocks window trigger now e = rw e (stays a a refl refl refl)
 
 -- the handshake
 
 init_goes_on : (c : Bool) (a : Shown) (header : CommonHeader) (init : ChunkInit) (trigger : AckTrigger)
-    → is_beginning a.state ≡ c → GoesOn a (on_init a header init trigger).0
+    → is_beginning a.state ≡ c → StaysOpen a (on_init a header init trigger).0
 unfolding on_init
 init_goes_on true a header init trigger e = rw e (stays a (answered (learned a header init)) refl refl refl)
 init_goes_on false a header init trigger e = rw e (stays a a refl refl refl)
 
 echoed_goes_on : (o : Option (List ℕ)) (a b : Shown) (trigger : AckTrigger) (now : ℕ) → b.state ≡ a.state
-    → b.lost ≡ a.lost → b.events ≡ a.events → GoesOn a (echoed o b trigger now).0
+    → b.lost ≡ a.lost → b.events ≡ a.events → StaysOpen a (echoed o b trigger now).0
 unfolding sends_cookie
 echoed_goes_on None a b trigger now s l e = stays a b s l e
 echoed_goes_on (Some cookie) a b trigger now s l e =
@@ -206,7 +210,7 @@ echoed_goes_on (Some cookie) a b trigger now s l e =
 
 init_ack_goes_on : (waits back : Bool) (a : Shown) (header : CommonHeader) (init : ChunkInit) (trigger : AckTrigger)
     (now : ℕ) → is_cookie_wait a.state ≡ waits
-    → comes_back a.handshake header ≡ back → GoesOn a (on_init_ack a header init trigger now).0
+    → comes_back a.handshake header ≡ back → StaysOpen a (on_init_ack a header init trigger now).0
 unfolding on_init_ack
 init_ack_goes_on true true a header init trigger now e f =
     rw (e, f) (echoed_goes_on (first_cookie init.params) a _ trigger now refl refl refl)
@@ -214,7 +218,7 @@ init_ack_goes_on true false a header init trigger now e f = rw (e, f) (stays a _
 init_ack_goes_on false back a header init trigger now e f = rw e (stays a a refl refl refl)
 
 connected_goes_on : (a b : Shown) → b.state ≡ states.Established → b.lost ≡ a.lost
-    → b.events ≡ a.events ++ Connected ∷ [] → GoesOn a b
+    → b.events ≡ a.events ++ Connected ∷ [] → StaysOpen a b
 connected_goes_on a b s l e = record {
   still_open = λ c. absurd (false≢true (ap is_closed_state (sym s) ∙ c));
   lost = l;
@@ -224,7 +228,7 @@ connected_goes_on a b s l e = record {
 cookie_echo_goes_on : (issued beginning established : Bool) (a : Shown) (cookie : List ℕ) (trigger : AckTrigger)
     → has_issued a.handshake cookie ≡ issued
     → is_beginning a.state ≡ beginning → is_established a.state ≡ established
-    → GoesOn a (on_cookie_echo a cookie trigger).0
+    → StaysOpen a (on_cookie_echo a cookie trigger).0
 unfolding on_cookie_echo
 cookie_echo_goes_on false beginning established a cookie trigger e f g = rw e (stays a a refl refl refl)
 cookie_echo_goes_on true true established a cookie trigger e f g =
@@ -234,24 +238,24 @@ cookie_echo_goes_on true false true a cookie trigger e f g =
 cookie_echo_goes_on true false false a cookie trigger e f g = rw (e, f, g) (stays a a refl refl refl)
 
 cookie_ack_goes_on : (c : Bool) (a : Shown) (trigger : AckTrigger) → is_cookie_echoed a.state ≡ c
-    → GoesOn a (on_cookie_ack a trigger).0
+    → StaysOpen a (on_cookie_ack a trigger).0
 unfolding on_cookie_ack
 cookie_ack_goes_on true a trigger e = rw e (connected_goes_on a (connected a) refl refl refl)
 cookie_ack_goes_on false a trigger e = rw e (stays a a refl refl refl)
 
-returned_goes_on : (o : Option (List ℕ)) (a : Shown) → GoesOn a (information_returned o a)
+returned_goes_on : (o : Option (List ℕ)) (a : Shown) → StaysOpen a (information_returned o a)
 returned_goes_on None a = stays a a refl refl refl
 returned_goes_on (Some information) a = stays a (information_returned (Some information) a) refl refl refl
 
 heartbeat_goes_on : (a : Shown) (heartbeat : ChunkHeartbeat) (trigger : AckTrigger)
-    → GoesOn a (on_heartbeat a heartbeat trigger).0
+    → StaysOpen a (on_heartbeat a heartbeat trigger).0
 unfolding on_heartbeat
 heartbeat_goes_on a heartbeat trigger = returned_goes_on (information_of heartbeat.params) a
 
 -- Any chunk
 
 kind_goes_on : (header : CommonHeader) (c : Chunk) (a : Shown) (trigger : AckTrigger) (now : ℕ)
-    → GoesOn a (dispatched a header c trigger now).0
+    → StaysOpen a (dispatched a header c trigger now).0
 kind_goes_on header (chunks.Data piece) a trigger now = on_data_goes_on a piece trigger
 kind_goes_on header (chunks.SelectiveAck sack) a trigger now =
     sack_goes_on _ a sack.cumulative_tsn_ack sack.gap_ack_blocks sack.advertised_receiver_window_credit trigger now refl
@@ -272,12 +276,12 @@ kind_goes_on header (chunks.IForwardTsn x) a trigger now = stays a a refl refl r
 kind_goes_on header (chunks.Other kind flags value) a trigger now = stays a a refl refl refl
 
 checked_goes_on : (r : Result (Unit {0}) Error) (header : CommonHeader) (c : Chunk) (a : Shown) (trigger : AckTrigger)
-    (now : ℕ) → GoesOn a (checked_first r a header c trigger now).0
+    (now : ℕ) → StaysOpen a (checked_first r a header c trigger now).0
 checked_goes_on (Err fault) header c a trigger now = stays a a refl refl refl
 checked_goes_on (Ok done) header c a trigger now = kind_goes_on header c a trigger now
 
 chunk_goes_on : (header : CommonHeader) (c : Chunk) (a : Shown) (trigger : AckTrigger) (now : ℕ)
-    → GoesOn a (on_chunk a header c trigger now).0
+    → StaysOpen a (on_chunk a header c trigger now).0
 unfolding on_chunk
 chunk_goes_on header c a trigger now = checked_goes_on (checked_chunk c) header c a trigger now
 
@@ -299,7 +303,7 @@ loss_told queued stats reason =
 
 -- an association that is open is closed by a fault that came after chunks that leave its end as it was
 pub fault_closes : (closed : Bool) (a b : Shown) (reason : AssociationError) → is_closed_state b.state ≡ closed
-    → GoesOn a b → IsClosedIf (not closed) a (closed_by b reason)
+    → StaysOpen a b → IsClosedIf (not closed) a (closed_by b reason)
 fault_closes true a b reason e m = rw e (record {
   closed = λ c. absurd (false≢true c);
   still_open = λ _ c. m.still_open c;
@@ -314,7 +318,7 @@ fault_closes false a b reason e m = rw e (record {
 })
 
 -- what closes an association whose end is as that of another one closes that one
-closed_from : (closing : Bool) (a b c : Shown) → GoesOn a b → IsClosedIf closing b c → IsClosedIf closing a c
+closed_from : (closing : Bool) (a b c : Shown) → StaysOpen a b → IsClosedIf closing b c → IsClosedIf closing a c
 closed_from true a b c m n = record {
   closed = n.closed;
   still_open = λ e _. absurd (false≢true (sym e));
@@ -337,13 +341,13 @@ stays_open a b s l e = record {
 }
 
 -- an exhausted receive buffer closes as a fault does; the ABORT that it queues changes nothing of that
-exhausted_closes : (a b : Shown) → GoesOn a b → IsClosedIf (not (is_closed_state b.state)) a (exhausted b)
+exhausted_closes : (a b : Shown) → StaysOpen a b → IsClosedIf (not (is_closed_state b.state)) a (exhausted b)
 exhausted_closes a b m =
     let n = fault_closes (is_closed_state b.state) a b reasons.ReceiveBufferExhausted refl m in
     record { closed = n.closed; still_open = n.still_open; lost = n.lost; told = n.told }
 
 after_fault : (x : Shown × Flow) (a : Shown) (more : Shown → AckTrigger → Shown) (faulted : Shown → AckTrigger → Bool)
-    → GoesOn a x.0
+    → StaysOpen a x.0
     → ((b : Shown) (trigger : AckTrigger) → IsClosedIf (faulted b trigger) b (more b trigger))
     → IsClosedIf (faults_or x faulted) a (goes_on x more)
 after_fault (b, flows.Next trigger) a more faulted m on =
@@ -373,7 +377,7 @@ packet_closes_unless false packet a now = packet_closes packet a now
 pub faults_alone_close : FaultsAloneClose
 faults_alone_close a packet now = packet_closes_unless a.lost packet a now
 
-relieved_closes : (e : Bool) (a b : Shown) → GoesOn a b
+relieved_closes : (e : Bool) (a b : Shown) → StaysOpen a b
     → IsClosedIf (e && not (is_closed_state b.state)) a (if e then exhausted b else b)
 relieved_closes true a b m = exhausted_closes a b m
 relieved_closes false a b m = closed_from false a b b m (stays_open b b refl refl refl)

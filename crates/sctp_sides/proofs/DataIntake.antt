@@ -32,10 +32,10 @@ use Rattle.sctp_assoc.specs.Happened.{acts_of_chunk, acts_of_data, acts_of_found
 use Rattle.sctp_sides.specs.Intake.{DataIsTakenIn, IsTakenIn, MayTakeIn, NothingElseIsTakenIn, WasToBeTakenIn, held_by}
 use Rattle.sctp_sides.specs.Intake.{FillsAGap, receive_limit, refusal_of}
 use Rattle.sctp_wire_types.specs.declared.chunk.ChunkSelectiveAck.{ChunkSelectiveAck}
-use Rattle.sctp_sides.specs.Shapes.{Acknowledges, IsMeeting}
+use Rattle.sctp_sides.specs.SideLaws.{IsAcknowledging, IsPeerKnown}
 use Rattle.sctp_assoc.specs.Shown.{Shown}
 use Rattle.sctp_assoc.proofs.DataCame.{from_new_tsn, new_tsn}
-use Rattle.sctp_sides.proofs.ActsOfChunks.{greetings_meet, other_chunks_do_nothing, sacks_acknowledge}
+use Rattle.sctp_sides.proofs.ActsOfChunks.{greetings_make_the_peer_known, other_chunks_do_nothing, sacks_acknowledge}
 use Rattle.sctp_sides.proofs.GapsFilled.{came_passed, passed_came}
 use Rattle.sctp_fit.proofs.StreamsThere.{at_made}
 use Rattle.sctp_assoc.specs.Chunks.{asks, with_message}
@@ -221,7 +221,7 @@ data_acts false a piece e = rw e refl
 
 -- What may be taken in, as the tests that a side makes.
 
-pub record Passes (a : Shown) (piece : ChunkPayloadData) : Type 0 where
+pub record PassesTests (a : Shown) (piece : ChunkPayloadData) : Type 0 where
   pub new : is_new a piece ≡ true
   pub found : is_found a piece ≡ true
   pub room : has_room a piece ≡ true
@@ -237,12 +237,12 @@ stream_found_as there left h =
     ⊎_elim (λ (e : there ≡ true). or_left there left e) (λ (e : left ≡ true). or_right there left e) h
 
 pub may_passes : (a : Shown) (h : History) (piece : ChunkPayloadData) → Binds a h → MayTakeIn a h piece
-    → Passes a piece
+    → PassesTests a piece
 may_passes a h piece binds may =
     let waiting = bytes_waiting a.streams in
     let r = a.receiver in
     record {
-      new = from_new_tsn h a.streams r piece.tsn binds.point binds.held may.new;
+      new = from_new_tsn h a.streams r piece.tsn binds.peer_last_tsn binds.held may.new;
       found =
           stream_found_as (is_some (stream_at a.streams piece.stream_identifier))
           (generation_left a.streams) may.stream;
@@ -252,17 +252,17 @@ may_passes a h piece binds may =
           (lt-ltb 0 (r.buffer_size - waiting) (room_left r.buffer_size waiting l)))
           (λ (g : FillsAGap h piece.tsn).
           or_right (ltb 0 (credit_of r waiting)) (is_passed r.held r.peer_last_tsn piece.tsn)
-          (ap (λ p. is_passed r.held p piece.tsn) binds.point
+          (ap (λ p. is_passed r.held p piece.tsn) binds.peer_last_tsn
           ∙ came_passed h a.streams r.held piece.tsn binds.held may.new g))
           may.room;
     }
 
-pub passes_may : (a : Shown) (h : History) (piece : ChunkPayloadData) → Binds a h → Passes a piece
+pub passes_may : (a : Shown) (h : History) (piece : ChunkPayloadData) → Binds a h → PassesTests a piece
     → MayTakeIn a h piece
 passes_may a h piece binds p =
     let waiting = bytes_waiting a.streams in
     let r = a.receiver in
-    let new = new_tsn h a.streams r piece.tsn binds.point binds.held p.new in
+    let new = new_tsn h a.streams r piece.tsn binds.peer_last_tsn binds.held p.new in
     record {
       new = new;
       stream = or_cases (is_some (stream_at a.streams piece.stream_identifier)) (generation_left a.streams) p.found;
@@ -271,13 +271,13 @@ passes_may a h piece binds p =
           inl (left_room r.buffer_size waiting (ltb-true 0 (r.buffer_size - waiting) l)))
           (λ (g : is_passed r.held r.peer_last_tsn piece.tsn ≡ true).
           inr (passed_came h a.streams r.held piece.tsn binds.held new
-          (ap (λ q. is_passed r.held q piece.tsn) (sym binds.point) ∙ g)))
+          (ap (λ q. is_passed r.held q piece.tsn) (sym binds.peer_last_tsn) ∙ g)))
           (or_cases (ltb 0 (credit_of r waiting)) (is_passed r.held r.peer_last_tsn piece.tsn) p.room);
     }
 
 -- Taken in
 
-pub refused_data : (a : Shown) (piece : ChunkPayloadData) (trigger : AckTrigger) → Passes a piece
+pub refused_data : (a : Shown) (piece : ChunkPayloadData) (trigger : AckTrigger) → PassesTests a piece
     → fault_of (on_data a piece trigger).1 ≡ refusal_of a piece
 refused_data a piece trigger p = data_flow true a piece trigger p.new ∙ rw (p.found, p.room) refl
 
@@ -291,7 +291,7 @@ refused_if true true true o error e = (refl, refl, refl, e)
 
 pub data_passed : (a : Shown) (piece : ChunkPayloadData) (trigger : AckTrigger) (error : Error)
     → fault_of (on_data a piece trigger).1 ≡ Some error
-    → Passes a piece × (refusal_of a piece ≡ Some error)
+    → PassesTests a piece × (refusal_of a piece ≡ Some error)
 data_passed a piece trigger error e =
     let r =
     refused_if (is_new a piece) (is_found a piece) (has_room a piece) (refusal_of a piece) error
@@ -421,19 +421,20 @@ one_act : (acts : List Act) (x : Act) (index : ℕ) (piece : ChunkPayloadData) �
 one_act acts x index piece n one e =
     not_alone x index piece n (sym (ap (λ (zs : List Act). slice_get zs index) one) ∙ e)
 
-met_no_data : (acts : List Act) (init : ChunkInit) (index : ℕ) (piece : ChunkPayloadData) → IsMeeting init acts
+peer_known_is_no_data : (acts : List Act) (init : ChunkInit) (index : ℕ) (piece : ChunkPayloadData)
+    → IsPeerKnown init acts
     → slice_get acts index ≡ Some (Act.Took piece) → ⊥
-met_no_data acts init index piece m e =
+peer_known_is_no_data acts init index piece m e =
     ⊎_elim (λ (n : acts ≡ []). no_acts acts index piece n e) (λ (n : acts ≡ Act.PeerKnown init.initial_tsn ∷ []).
     one_act acts (Act.PeerKnown init.initial_tsn) index piece refl n e) m
 
 sack_no_data : (acts : List Act) (a : Shown) (h : History) (sack : ChunkSelectiveAck) (index : ℕ)
     (piece : ChunkPayloadData)
-    → (acts ≡ []) ⊎ Acknowledges a h sack acts
+    → (acts ≡ []) ⊎ IsAcknowledging a h sack acts
     → slice_get acts index ≡ Some (Act.Took piece) → ⊥
 sack_no_data acts a h sack index piece m e =
     ⊎_elim (λ (n : acts ≡ []). no_acts acts index piece n e)
-    (λ (n : Acknowledges a h sack acts).
+    (λ (n : IsAcknowledging a h sack acts).
     one_act acts (Act.Acknowledged n.count sack.gap_ack_blocks n.missing) index piece refl n.are e) m
 
 pub nothing_else_is_taken_in : NothingElseIsTakenIn
@@ -444,9 +445,10 @@ nothing_else_is_taken_in a h header (chunks.SelectiveAck sack) index came binds 
     absurd (sack_no_data (acts_of_chunk a header (chunks.SelectiveAck sack)) a h sack index came
     (sacks_acknowledge a h header sack binds) e)
 nothing_else_is_taken_in a h header (chunks.Init init) index came binds e =
-    absurd (met_no_data (acts_of_chunk a header (chunks.Init init)) init index came (greetings_meet a header init).0 e)
+    absurd (peer_known_is_no_data (acts_of_chunk a header (chunks.Init init)) init index came
+    (greetings_make_the_peer_known a header init).0 e)
 nothing_else_is_taken_in a h header (chunks.InitAck init) index came binds e =
-    absurd (met_no_data (acts_of_chunk a header (chunks.InitAck init)) init index came
-    (greetings_meet a header init).1 e)
+    absurd (peer_known_is_no_data (acts_of_chunk a header (chunks.InitAck init)) init index came
+    (greetings_make_the_peer_known a header init).1 e)
 nothing_else_is_taken_in a h header chunk index came binds e =
     absurd (no_acts (acts_of_chunk a header chunk) index came (other_chunks_do_nothing a header chunk tt) e)

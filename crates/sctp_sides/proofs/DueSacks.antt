@@ -27,10 +27,11 @@ use Rattle.sctp_assoc.specs.Calls.{after_ack_delay, after_t3, is_established, re
 use Rattle.sctp_assoc.specs.Handshake.{after_t1_init, sends_cookie, sends_init, t1_cookie_expired, t1_init_expired}
 use Rattle.sctp_assoc.specs.Timeouts.{after_handshake_timers}
 use Rattle.sctp_sides.specs.Laws.{DueSacksGoOut, PollsDoNotClose, SacksAreSpelled, SacksOfferTheBuffer}
-use Rattle.sctp_sides.specs.Laws.{SacksNameThePoint, SacksSayWhatWasTaken, TellsNothing, TimersDoNotClose}
+use Rattle.sctp_sides.specs.Laws.{SacksNameTheLastTsn, SacksSayWhatWasTaken, TellsNothing, TimersDoNotClose}
 use Rattle.sctp_assoc.specs.Gather.{fast_counted}
 use Rattle.sctp_assoc.specs.Gather.{ack_after, ack_polled, control_packets, data_polled, exchange_polled}
-use Rattle.sctp_assoc.specs.Gather.{is_due, packet_bytes, packet_with, sack_chunk, sack_packet, spelled, with_sent_data}
+use Rattle.sctp_assoc.specs.Gather.{is_due, packet_bytes, single_chunk_packet, sack_chunk, sack_packet, spelled}
+use Rattle.sctp_assoc.specs.Gather.{with_sent_data}
 use Rattle.sctp_assoc.specs.Gather.{without_control}
 use Rattle.sctp_assoc.specs.Shown.{Shown}
 use Rattle.sctp_assoc.proofs.PolledData.{IsSentBeside, data_poll_stays}
@@ -111,25 +112,25 @@ none_above h below o far = ⊎_elim
     (λ (n : mem o h.taken ≡ false). n)
     (cases_Bool (mem o h.taken))
 
-pub sacks_name_the_point : SacksNameThePoint
-sacks_name_the_point a h binds = (
+pub sacks_name_the_last_tsn : SacksNameTheLastTsn
+sacks_name_the_last_tsn a h binds = (
   record {
     before = below_reach h;
     missing = reach_missing h;
     passed = passed_reach h;
   },
-  binds.point,
+  binds.peer_last_tsn,
 )
 
 pub sacks_say_what_was_taken : SacksSayWhatWasTaken
 sacks_say_what_was_taken a h binds = record {
-  at = binds.point;
+  at = binds.peer_last_tsn;
   set = λ o some. ⊎_elim
       (λ (l : o < 2 ^ 16).
       blocks_name_what_came (receiving (parts a h)) a.receiver.held
       (gap_ack_blocks a.receiver.peer_last_tsn a.receiver.held) binds.held
       (λ x from below. named_exactly a.receiver.peer_last_tsn x a.receiver.held from below
-      ∙ ap (λ p. is_held_at p x a.receiver.held) binds.point) o some l)
+      ∙ ap (λ p. is_held_at p x a.receiver.held) binds.peer_last_tsn) o some l)
       (λ (g : 2 ^ 16 ≤ o).
       nothing_named a.receiver.peer_last_tsn a.receiver.held o (omega (arith, g))
       ∙ sym (none_above h binds.held.below (reach_in h + o - 1) (omega (arith, g))))
@@ -145,14 +146,14 @@ blocks_length (b ∷ bs) = let rest = blocks_length bs in omega (arith, rest)
 
 sack_fits : (header : CommonHeader) (sack : ChunkSelectiveAck) → sack.duplicate_tsn ≡ []
     → length sack.gap_ack_blocks ≤ 16379
-    → packet_fits (packet_with header (chunks.SelectiveAck sack)) ≡ true
+    → packet_fits (single_chunk_packet header (chunks.SelectiveAck sack)) ≡ true
 sack_fits header sack once few =
     rw once (let e = blocks_length sack.gap_ack_blocks in short_enough _ (omega (arith, e, few)))
 
 pub sacks_are_spelled : SacksAreSpelled
 unfolding packet_bytes
 sacks_are_spelled a few =
-    ap spelled (fits_written (packet_with (header_of a.handshake) (sack_chunk a))
+    ap spelled (fits_written (single_chunk_packet (header_of a.handshake) (sack_chunk a))
     (sack_fits (header_of a.handshake) (sack_of a.receiver (bytes_waiting a.streams)) refl few))
 
 -- Timers leave an association open.

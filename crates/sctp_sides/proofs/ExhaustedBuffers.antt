@@ -323,7 +323,7 @@ module _ (a : Shown) (h : History) (header : CommonHeader) (piece : ChunkPayload
       record {
         stream = λ new. or_cases (is_some (stream_at a.streams piece.stream_identifier)) (generation_left a.streams)
             (asked_found (is_new a piece) (is_found a piece) (has_room a piece) (refusal_of a piece)
-            (from_new_tsn h a.streams a.receiver piece.tsn binds.point binds.held new) both.0);
+            (from_new_tsn h a.streams a.receiver piece.tsn binds.peer_last_tsn binds.held new) both.0);
         fits = λ may.
             let p = may_passes a h piece binds may in
             asked_unrefused (is_new a piece) (is_found a piece) (has_room a piece) (refusal_of a piece)
@@ -348,7 +348,7 @@ module _ (a : Shown) (h : History) (header : CommonHeader) (piece : ChunkPayload
       ⊎_elim
       (λ there. or_left (is_some (stream_at a.streams piece.stream_identifier)) (generation_left a.streams) there)
       (λ left. or_right (is_some (stream_at a.streams piece.stream_identifier)) (generation_left a.streams) left)
-      (c.stream (new_tsn h a.streams a.receiver piece.tsn binds.point binds.held n)))
+      (c.stream (new_tsn h a.streams a.receiver piece.tsn binds.peer_last_tsn binds.held n)))
       (λ n f r. c.fits (passes_may a h piece binds (record { new = n; found = f; room = r }))) in
       data_exhausts (is_new a piece) a piece trigger refl
       ∙ and_from (asked_by a piece) (is_exhausted (on_data a piece trigger).0) asked

@@ -23,9 +23,9 @@ use Rattle.sctp_inbound.specs.Greeting.{first_cookie}
 use Rattle.sctp_inbound.specs.Handshake.{comes_back, has_issued}
 use Rattle.sctp_outbound.specs.declared.sender.SackOutcome.{SackOutcome}
 use Rattle.sctp_outbound.specs.declared.sender.SackOutcome.TheVariants as outcomes
-use Rattle.sctp_outbound.specs.Offsets.{is_in_flight_at}
+use Rattle.sctp_outbound.specs.BlockOffsets.{is_in_flight_at}
 use Rattle.sctp_outbound.specs.Sender.{cumulative_tsn_ack_point_of, names_unsent, tsns_up_to, sack_outcome}
-use Rattle.sctp_outbound.proofs.Offsets.{names_sets}
+use Rattle.sctp_outbound.proofs.BlockOffsets.{names_sets}
 use Rattle.sctp_wire_types.specs.declared.chunk.GapAckBlock.{GapAckBlock}
 use Rattle.sctp_wire_types.specs.declared.chunk.ChunkSelectiveAck.{ChunkSelectiveAck}
 use Rattle.sctp_assoc.specs.Leads.{Binds}
@@ -37,7 +37,7 @@ use Rattle.sctp_sides.specs.Causes.{IsBeyondTheSent, IsCauseOfItsKind, IsFault, 
 use Rattle.sctp_assoc.specs.Chunks.{checked_first, dispatched, on_chunk, on_counted_sack, on_data, on_sack}
 use Rattle.sctp_assoc.specs.Handshake.{echoed, on_cookie_ack, on_cookie_echo, on_heartbeat, on_init, on_init_ack}
 use Rattle.sctp_assoc.specs.Shown.{Shown}
-use Rattle.sctp_sides.proofs.ActsOfChunks.{acked_at, point_back}
+use Rattle.sctp_sides.proofs.ActsOfChunks.{acked_at, acked_back}
 use Rattle.sctp_sides.proofs.DataIntake.{data_passed, fault_from, fault_of, may_passes, passes_may, refused_data}
 use Rattle.sctp_sides.proofs.DataIntake.{exhausts_of}
 use Rattle.sctp_sides.proofs.ExhaustedBuffers.{exhausting_data_leaves_nothing, flow_is, nothing_left_exhausts}
@@ -110,30 +110,30 @@ outcome_fault outcomes.NotInFlight = Some errors.ErrInflightQueueTsnPop
 outcome_fault outcomes.NamesTheUnsent = Some errors.ErrTsnRequestNotExist
 outcome_fault outcomes.Taken = None
 
-outcome_flow : (o : SackOutcome) (b : Shown) (point : ℕ) (blocks : List GapAckBlock) (window : ℕ)
+outcome_flow : (o : SackOutcome) (b : Shown) (cumulative_tsn_ack : ℕ) (blocks : List GapAckBlock) (window : ℕ)
     (trigger : AckTrigger) (now : ℕ)
-    → fault_of (on_counted_sack o b point blocks window trigger now).1 ≡ outcome_fault o
-outcome_flow outcomes.Older b point blocks window trigger now = refl
-outcome_flow outcomes.NotInFlight b point blocks window trigger now = refl
-outcome_flow outcomes.NamesTheUnsent b point blocks window trigger now = refl
-outcome_flow outcomes.Taken b point blocks window trigger now = refl
+    → fault_of (on_counted_sack o b cumulative_tsn_ack blocks window trigger now).1 ≡ outcome_fault o
+outcome_flow outcomes.Older b cumulative_tsn_ack blocks window trigger now = refl
+outcome_flow outcomes.NotInFlight b cumulative_tsn_ack blocks window trigger now = refl
+outcome_flow outcomes.NamesTheUnsent b cumulative_tsn_ack blocks window trigger now = refl
+outcome_flow outcomes.Taken b cumulative_tsn_ack blocks window trigger now = refl
 
-sack_flow : (established : Bool) (a : Shown) (point : ℕ) (blocks : List GapAckBlock) (window : ℕ)
+sack_flow : (established : Bool) (a : Shown) (cumulative_tsn_ack : ℕ) (blocks : List GapAckBlock) (window : ℕ)
     (trigger : AckTrigger) (now : ℕ)
     → is_established a.state ≡ established
-    → fault_of (on_sack a point blocks window trigger now).1
-    ≡ (if established then outcome_fault (sack_outcome a.sender point blocks) else None)
+    → fault_of (on_sack a cumulative_tsn_ack blocks window trigger now).1
+    ≡ (if established then outcome_fault (sack_outcome a.sender cumulative_tsn_ack blocks) else None)
 unfolding on_sack
-sack_flow true a point blocks window trigger now e =
-    rw e (outcome_flow (sack_outcome a.sender point blocks) _ point blocks window trigger now)
-sack_flow false a point blocks window trigger now e = rw e refl
+sack_flow true a cumulative_tsn_ack blocks window trigger now e =
+    rw e (outcome_flow (sack_outcome a.sender cumulative_tsn_ack blocks) _ cumulative_tsn_ack blocks window trigger now)
+sack_flow false a cumulative_tsn_ack blocks window trigger now e = rw e refl
 
 abbrev sack_fault : Bool → Bool → Bool → Bool → Option Error
 sack_fault established older beyond unsent =
     if established then outcome_fault (if older then outcomes.Older else if beyond then outcomes.NotInFlight else
     if unsent then outcomes.NamesTheUnsent else outcomes.Taken) else None
 
--- the SACK's point is beyond what is in flight, or its blocks name what is not in flight
+-- the SACK's cumulative TSN ack is beyond what is in flight, or its blocks name what is not in flight
 pub record IsBeyond (established older beyond unsent : Bool) : Type 0 where
   pub counts : established ≡ true
   pub ahead : older ≡ false
@@ -147,7 +147,7 @@ beyond_if true false true unsent error e = record { counts = refl; ahead = refl;
 beyond_if true false false true error e = record { counts = refl; ahead = refl; which = inr (refl, refl) }
 beyond_if true false false false error e = absurd (never None error refl e)
 
--- how far a point is past the one acknowledged, where it stands before this offset
+-- how far a cumulative TSN ack is past the one acknowledged, where it stands before this offset
 past_is : (own base n t : ℕ) → t % 2 ^ 32 ≡ tsn_before (tsn own (base + n))
     → tsn_past (tsn_before (tsn own base)) t ≤ n
 past_is own base n t e = omega (arith, e)
@@ -170,11 +170,11 @@ module _ (acked own base flown t : ℕ) (at : acked ≡ tsn_before (tsn own base
       beyond_both : (p q n f : ℕ) → f < p → q ≤ n → p ≡ q → n ≤ f → ⊥
       beyond_both p q n f far near same within = omega (arith, far, near, same, within)
 
-  -- a point that is not past all that is in flight stands behind so many
-  point_at : t % 2 ^ 32 ≡ tsn_before (tsn own (base + tsn_past acked t))
-  point_at = point_back own base t ∙ ap (λ (z : ℕ). tsn_before (tsn own (base + tsn_past z t))) (sym at)
+  -- a cumulative TSN ack that is not past all that is in flight stands behind so many
+  acked_stands : t % 2 ^ 32 ≡ tsn_before (tsn own (base + tsn_past acked t))
+  acked_stands = acked_back own base t ∙ ap (λ (z : ℕ). tsn_before (tsn own (base + tsn_past z t))) (sym at)
 
-  -- and a point behind so many is that far past the acknowledged one
+  -- and a cumulative TSN ack behind so many is that far past the acknowledged one
   past_at : (n : ℕ) → n < 2 ^ 32 → t % 2 ^ 32 ≡ tsn_before (tsn own (base + n)) → tsn_past acked t ≡ n
   past_at n near e = ap (λ (z : ℕ). tsn_past z t) at ∙ past_exactly own base n t near e
 
@@ -183,7 +183,7 @@ sent_if : (beyond : Bool) (acked own base flown t : ℕ) → ltb flown (tsn_past
     → ((n : ℕ) → n ≤ flown → t % 2 ^ 32 ≢ tsn_before (tsn own (base + n))) → beyond ≡ true
 sent_if true acked own base flown t e at unsent = refl
 sent_if false acked own base flown t e at unsent =
-    absurd (unsent (tsn_past acked t) (ltb-false flown (tsn_past acked t) e) (point_at acked own base flown t at))
+    absurd (unsent (tsn_past acked t) (ltb-false flown (tsn_past acked t) e) (acked_stands acked own base flown t at))
 
 -- an offset at which nothing in flight stands
 no_piece : (n flown o : ℕ) → is_in_flight_at n flown o ≡ false → (index : ℕ) → index < flown → n + o ≢ index + 1
@@ -204,29 +204,29 @@ sack_cause : (a : Shown) (h : History) (sack : ChunkSelectiveAck) (window : ℕ)
     → fault_of (on_sack a sack.cumulative_tsn_ack sack.gap_ack_blocks window trigger now).1 ≡ Some error
     → AcknowledgesTheUnsent a h sack
 sack_cause a h sack window trigger now error binds e =
-    let point = sack.cumulative_tsn_ack in
+    let cumulative_tsn_ack = sack.cumulative_tsn_ack in
     let blocks = sack.gap_ack_blocks in
     let flown = length a.sender.queue.in_flight in
-    let n = tsns_up_to a.sender point in
+    let n = tsns_up_to a.sender cumulative_tsn_ack in
     let at = acked_at a h binds in
     let b =
-    beyond_if (is_established a.state) (tsn_gt (cumulative_tsn_ack_point_of a.sender) point) (ltb flown n)
-    (names_unsent a.sender point blocks) error
-    (sym (sack_flow (is_established a.state) a point blocks window trigger now refl) ∙ e) in
+    beyond_if (is_established a.state) (tsn_gt (cumulative_tsn_ack_point_of a.sender) cumulative_tsn_ack) (ltb flown n)
+    (names_unsent a.sender cumulative_tsn_ack blocks) error
+    (sym (sack_flow (is_established a.state) a cumulative_tsn_ack blocks window trigger now refl) ∙ e) in
     record {
       established = established_state a.state b.counts;
       not_behind = sym (ap (λ (z : ℕ). tsn_gt z sack.cumulative_tsn_ack) (acked_at a h binds)) ∙ b.ahead;
       unsent = ⊎_elim
           (λ (beyond : ltb (length a.sender.queue.in_flight) (tsns_up_to a.sender sack.cumulative_tsn_ack) ≡ true).
-          inl (never_sent (cumulative_tsn_ack_point_of a.sender) h.own h.base flown point at beyond))
+          inl (never_sent (cumulative_tsn_ack_point_of a.sender) h.own h.base flown cumulative_tsn_ack at beyond))
           (λ (other : (ltb (length a.sender.queue.in_flight) (tsns_up_to a.sender sack.cumulative_tsn_ack) ≡ false)
           × (names_unsent a.sender sack.cumulative_tsn_ack sack.gap_ack_blocks ≡ true)).
           let some = (names_sets n flown blocks).0 other.1 in
           inr (record {
             count = n;
             within = ltb-false flown n other.0;
-            near = past_small (cumulative_tsn_ack_point_of a.sender) point;
-            at = point_at (cumulative_tsn_ack_point_of a.sender) h.own h.base flown point at;
+            near = past_small (cumulative_tsn_ack_point_of a.sender) cumulative_tsn_ack;
+            at = acked_stands (cumulative_tsn_ack_point_of a.sender) h.own h.base flown cumulative_tsn_ack at;
             offset = some.offset;
             named = some.named;
             unsent = no_piece n flown some.offset some.unsent;
@@ -265,10 +265,10 @@ cause_sack : (a : Shown) (h : History) (sack : ChunkSelectiveAck) (window : ℕ)
     → Binds a h → AcknowledgesTheUnsent a h sack
     → IsFault (on_sack a sack.cumulative_tsn_ack sack.gap_ack_blocks window trigger now)
 cause_sack a h sack window trigger now binds c =
-    let point = sack.cumulative_tsn_ack in
+    let cumulative_tsn_ack = sack.cumulative_tsn_ack in
     let blocks = sack.gap_ack_blocks in
     let flown = length a.sender.queue.in_flight in
-    let flow = sack_flow (is_established a.state) a point blocks window trigger now refl in
+    let flow = sack_flow (is_established a.state) a cumulative_tsn_ack blocks window trigger now refl in
     let counts = ap is_established c.established in
     let ahead = ap (λ (z : ℕ). tsn_gt z sack.cumulative_tsn_ack) (acked_at a h binds) ∙ c.not_behind in
     ⊎_elim
@@ -276,16 +276,21 @@ cause_sack a h sack window trigger now binds c =
       errors.ErrInflightQueueTsnPop,
       fault_from (on_sack a sack.cumulative_tsn_ack sack.gap_ack_blocks window trigger now).1
           errors.ErrInflightQueueTsnPop
-          (flow ∙ beyond_faults (is_established a.state) (tsn_gt (cumulative_tsn_ack_point_of a.sender) point)
-          (ltb flown (tsns_up_to a.sender point)) (names_unsent a.sender point blocks) counts ahead
-          (sent_if _ (cumulative_tsn_ack_point_of a.sender) h.own h.base flown point refl (acked_at a h binds) beyond)),
+          (flow ∙ beyond_faults (is_established a.state)
+          (tsn_gt (cumulative_tsn_ack_point_of a.sender) cumulative_tsn_ack)
+          (ltb flown (tsns_up_to a.sender cumulative_tsn_ack))
+          (names_unsent a.sender cumulative_tsn_ack blocks) counts ahead
+          (sent_if _ (cumulative_tsn_ack_point_of a.sender) h.own h.base flown cumulative_tsn_ack refl
+          (acked_at a h binds) beyond)),
     ))
     (λ (names : NamesNoPiece a h sack). inl (
       errors.ErrTsnRequestNotExist,
       fault_from (on_sack a sack.cumulative_tsn_ack sack.gap_ack_blocks window trigger now).1
           errors.ErrTsnRequestNotExist
-          (flow ∙ unsent_faults (is_established a.state) (tsn_gt (cumulative_tsn_ack_point_of a.sender) point)
-          (ltb flown (tsns_up_to a.sender point)) (names_unsent a.sender point blocks) counts ahead
+          (flow ∙ unsent_faults (is_established a.state)
+          (tsn_gt (cumulative_tsn_ack_point_of a.sender) cumulative_tsn_ack)
+          (ltb flown (tsns_up_to a.sender cumulative_tsn_ack))
+          (names_unsent a.sender cumulative_tsn_ack blocks) counts ahead
           (names_faults a h sack binds names).0 (names_faults a h sack binds names).1),
     ))
     c.unsent
@@ -397,21 +402,22 @@ heartbeat_flow a heartbeat trigger = refl
 
 -- Only DATA tells of an exhausted receive buffer.
 
-outcome_spares : (o : SackOutcome) (b : Shown) (point : ℕ) (blocks : List GapAckBlock) (window : ℕ)
+outcome_spares : (o : SackOutcome) (b : Shown) (cumulative_tsn_ack : ℕ) (blocks : List GapAckBlock) (window : ℕ)
     (trigger : AckTrigger) (now : ℕ)
-    → exhausts_of (on_counted_sack o b point blocks window trigger now).1 ≡ false
-outcome_spares outcomes.Older b point blocks window trigger now = refl
-outcome_spares outcomes.NotInFlight b point blocks window trigger now = refl
-outcome_spares outcomes.NamesTheUnsent b point blocks window trigger now = refl
-outcome_spares outcomes.Taken b point blocks window trigger now = refl
+    → exhausts_of (on_counted_sack o b cumulative_tsn_ack blocks window trigger now).1 ≡ false
+outcome_spares outcomes.Older b cumulative_tsn_ack blocks window trigger now = refl
+outcome_spares outcomes.NotInFlight b cumulative_tsn_ack blocks window trigger now = refl
+outcome_spares outcomes.NamesTheUnsent b cumulative_tsn_ack blocks window trigger now = refl
+outcome_spares outcomes.Taken b cumulative_tsn_ack blocks window trigger now = refl
 
-pub sack_spares : (established : Bool) (a : Shown) (point : ℕ) (blocks : List GapAckBlock) (window : ℕ)
+pub sack_spares : (established : Bool) (a : Shown) (cumulative_tsn_ack : ℕ) (blocks : List GapAckBlock) (window : ℕ)
     (trigger : AckTrigger) (now : ℕ) → is_established a.state ≡ established
-    → exhausts_of (on_sack a point blocks window trigger now).1 ≡ false
+    → exhausts_of (on_sack a cumulative_tsn_ack blocks window trigger now).1 ≡ false
 unfolding on_sack
-sack_spares true a point blocks window trigger now e =
-    rw e (outcome_spares (sack_outcome a.sender point blocks) _ point blocks window trigger now)
-sack_spares false a point blocks window trigger now e = rw e refl
+sack_spares true a cumulative_tsn_ack blocks window trigger now e =
+    rw e (outcome_spares (sack_outcome a.sender cumulative_tsn_ack blocks) _ cumulative_tsn_ack blocks window trigger
+    now)
+sack_spares false a cumulative_tsn_ack blocks window trigger now e = rw e refl
 
 pub init_spares : (beginning : Bool) (a : Shown) (header : CommonHeader) (init : ChunkInit) (trigger : AckTrigger)
     → is_beginning a.state ≡ beginning → exhausts_of (on_init a header init trigger).1 ≡ false

@@ -1,21 +1,22 @@
--- A TSN that is held is farther past the point than a new one exactly where an offset past the new one's came.
+-- A TSN that is held is farther past the last TSN in order than a new one exactly where an offset past the new one's
+-- came.
 use Rattle.std.proofs.Common.{◌≡◌, sym, ◌∙◌, subst, ℕ, suc, ◌<◌, ◌≤◌, ◌+◌, arith, true, ltb}
 use Rattle.std.proofs.Common.{List}
 use Rattle.std.proofs.lemmas.Bool.{lt-ltb, ltb-true}
 use Rattle.sctp_serial.specs.Serial.{tsn, tsn_past}
 use Rattle.sctp_streams.specs.Streams.{StreamMap}
 use Rattle.sctp_inbound.specs.Held.{is_passed}
-use Rattle.sctp_fit.specs.HeldSet.{HoldsPast, IsPast, point_of}
+use Rattle.sctp_fit.specs.HeldSet.{HoldsPast, IsPast, peer_last_tsn_of}
 use Rattle.sctp_fit.proofs.HeldTsns.{any_from, any_in, before, held_is, spells}
 use Rattle.sctp_directions.specs.Acts.{History, IsNewTsn, offset_in, reach_in}
 use Rattle.sctp_assoc.proofs.WhatCame.{came_on}
 use Rattle.sctp_sides.specs.Intake.{FillsAGap}
 
--- how far the TSN of an offset lies past the point
+-- how far the TSN of an offset lies past the last TSN in order
 past_before : (i r x : ℕ) → r ≤ x → x < r + 65535 → tsn_past (before i r) (tsn i x) + r ≡ suc x
 past_before i r x a b = omega arith
 
--- distances past the point go as offsets do
+-- distances past the last TSN in order go as offsets do
 farther : (x y r o q : ℕ) → x + r ≡ suc o → y + r ≡ suc q → x < y → o < q
 farther x y r o q a b l = omega arith
 
@@ -41,7 +42,7 @@ module _ (h : History) (m : StreamMap) (held : List ℕ) (t : ℕ) (holds : Hold
       (past_before h.peer (reach_in h) (offset_in h t) (from_reach (reach_in h) (tsn_past (tsn h.peer (reach_in h)) t))
       new.near)
 
-  pub passed_came : is_passed held (point_of (came_on h m)) t ≡ true → FillsAGap h t
+  pub passed_came : is_passed held (peer_last_tsn_of (came_on h m)) t ≡ true → FillsAGap h t
   passed_came =
       any_from (λ u. ltb (tsn_past (before h.peer (reach_in h)) t) (tsn_past (before h.peer (reach_in h)) u))
       (IsPast (came_on h m)) (FillsAGap h t) held holds.only there
@@ -61,7 +62,7 @@ module _ (h : History) (m : StreamMap) (held : List ℕ) (t : ℕ) (holds : Hold
             (ltb-true _ _ e));
       }
 
-  pub came_passed : FillsAGap h t → is_passed held (point_of (came_on h m)) t ≡ true
+  pub came_passed : FillsAGap h t → is_passed held (peer_last_tsn_of (came_on h m)) t ≡ true
   came_passed g =
       let from : reach_in h ≤ g.offset =
       at_least (reach_in h) (tsn_past (tsn h.peer (reach_in h)) t) g.offset g.past in

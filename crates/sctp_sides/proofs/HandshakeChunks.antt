@@ -25,7 +25,7 @@ use Rattle.sctp_assoc.specs.Handshake.{on_cookie_echo, on_init, on_init_ack, sen
 use Rattle.sctp_assoc.specs.Happened.{acts_of_checked}
 use Rattle.sctp_sides.specs.Meeting.{AwaitsInitAck, Greets, GreetsOn, HasCome, IsDoneAmongClients, IsGreeted}
 use Rattle.sctp_sides.specs.Meeting.{IsNoEarlier, IsTruthful, Listens, MayHear, Stage, stage_of}
-use Rattle.sctp_sides.specs.Shapes.{EstablishedSidesTalk, TheSameHandshakeIsTheSameStage}
+use Rattle.sctp_sides.specs.SideLaws.{EstablishedSidesTalk, TheSameHandshakeIsTheSameStage}
 use Rattle.sctp_assoc.specs.Shown.{Shown}
 use Rattle.sctp_sides.proofs.HandshakeTruth.{KeepsSaying, truthful_still, truthful_with}
 

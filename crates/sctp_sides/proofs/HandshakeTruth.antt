@@ -8,8 +8,8 @@ use Rattle.sctp_model.proofs.Lists.{all_join, all_weaker}
 use Rattle.sctp_inbound.specs.declared.handshake.Handshake.{Handshake}
 use Rattle.sctp_assoc.specs.declared.control.ControlPacket.{ControlPacket}
 use Rattle.sctp_sides.specs.Meeting.{Greets, IsNoEarlier, IsTruthful, stage_of}
-use Rattle.sctp_assoc.specs.Gather.{packet_with}
-use Rattle.sctp_sides.specs.Shapes.{GreetingsStayTrue}
+use Rattle.sctp_assoc.specs.Gather.{single_chunk_packet}
+use Rattle.sctp_sides.specs.SideLaws.{GreetingsStayTrue}
 use Rattle.sctp_assoc.specs.Shown.{Shown}
 
 -- what a side said stays so in its later stages
@@ -81,7 +81,7 @@ truthful_still own a b t k same = record {
   says =
       subst (AllByRecursion (λ (c : ControlPacket). Greets own (stage_of b) c.chunk)) (sym same) (says_on own a b t k);
   plain =
-      subst (AllByRecursion (λ (c : ControlPacket). packet_is_plain (packet_with c.header c.chunk) ≡ true))
+      subst (AllByRecursion (λ (c : ControlPacket). packet_is_plain (single_chunk_packet c.header c.chunk) ≡ true))
       (sym same) t.plain;
   offers = λ e. k.goes.side ∙ t.offers (k.offers e);
   echoes = λ e. echoes_on own a b t k e;
@@ -90,15 +90,17 @@ truthful_still own a b t k same = record {
 -- one packet more waits
 pub truthful_with : (own : ℕ) (a b : Shown) (c : ControlPacket) → IsTruthful own a → KeepsSaying a b
     → b.control ≡ a.control ++ c ∷ [] → Greets own (stage_of b) c.chunk
-    → packet_is_plain (packet_with c.header c.chunk) ≡ true → IsTruthful own b
+    → packet_is_plain (single_chunk_packet c.header c.chunk) ≡ true → IsTruthful own b
 truthful_with own a b c t k grown said plain = record {
   tsn = k.tsn ∙ t.tsn;
   says = subst (AllByRecursion (λ (x : ControlPacket). Greets own (stage_of b) x.chunk)) (sym grown)
       (all_join (λ (x : ControlPacket). Greets own (stage_of b) x.chunk) a.control (c ∷ [])
       (says_on own a b t k) (said, tt));
   plain =
-      subst (AllByRecursion (λ (x : ControlPacket). packet_is_plain (packet_with x.header x.chunk) ≡ true)) (sym grown)
-      (all_join (λ (x : ControlPacket). packet_is_plain (packet_with x.header x.chunk) ≡ true) a.control (c ∷ [])
+      subst (AllByRecursion (λ (x : ControlPacket). packet_is_plain (single_chunk_packet x.header x.chunk) ≡ true))
+      (sym grown)
+      (all_join (λ (x : ControlPacket). packet_is_plain (single_chunk_packet x.header x.chunk) ≡ true) a.control
+      (c ∷ [])
       t.plain (plain, tt));
   offers = λ e. k.goes.side ∙ t.offers (k.offers e);
   echoes = λ e. echoes_on own a b t k e;
@@ -110,7 +112,7 @@ truthful_silent own a b t k none = record {
   tsn = k.tsn ∙ t.tsn;
   says = subst (AllByRecursion (λ (c : ControlPacket). Greets own (stage_of b) c.chunk)) (sym none) tt;
   plain =
-      subst (AllByRecursion (λ (c : ControlPacket). packet_is_plain (packet_with c.header c.chunk) ≡ true))
+      subst (AllByRecursion (λ (c : ControlPacket). packet_is_plain (single_chunk_packet c.header c.chunk) ≡ true))
       (sym none) tt;
   offers = λ e. k.goes.side ∙ t.offers (k.offers e);
   echoes = λ e. echoes_on own a b t k e;

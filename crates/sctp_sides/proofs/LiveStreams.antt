@@ -11,9 +11,9 @@ use Rattle.sctp_streams.specs.Stream.{StreamView, fresh_stream, is_write_half_op
 use Rattle.sctp_streams.specs.Stream.{with_setting}
 use Rattle.sctp_streams.specs.Streams.{StreamMap, change_at, generation_left, read_at, read_in, stream_at, with_stream}
 use Rattle.sctp_assoc.specs.Calls.{is_established, opened, write_refusal_at}
-use Rattle.sctp_sides.specs.Shapes.{AcceptedWritesFit, WasWritable, FoundStreamsAreLive, IsLive}
-use Rattle.sctp_sides.specs.Shapes.{OpenedStreamsHoldNothing, OpenedStreamsWereNotLive, SettingsHoldNothing}
-use Rattle.sctp_sides.specs.Shapes.{WhatHoldsNothingGivesNothing}
+use Rattle.sctp_sides.specs.SideLaws.{AcceptedWritesFit, WasWritable, FoundStreamsAreLive, IsLive}
+use Rattle.sctp_sides.specs.SideLaws.{OpenedStreamsHoldNothing, OpenedStreamsWereNotLive, SettingsHoldNothing}
+use Rattle.sctp_sides.specs.SideLaws.{WhatHoldsNothingGivesNothing}
 use Rattle.sctp_assoc.specs.Shown.{Shown}
 use Rattle.sctp_fit.proofs.StreamsThere.{at_made, at_with}
 use Rattle.sctp_assoc.specs.Calls.{after_read, read_from_stream}

@@ -27,22 +27,22 @@ use Rattle.sctp_sides.specs.Laws.{read_closes}
 use Rattle.sctp_sides.proofs.ClosingPackets.{exhausting_reads_alone_close}
 
 -- Of these losses that were told, and those that wait, there is one where it was lost.
-record Counts (n : ℕ) (a : Shown) : Type 0 where
+record CountsLosses (n : ℕ) (a : Shown) : Type 0 where
   at_most : n ≤ loss_count a.lost
   in_all : a.failed ≡ false → n + losses a.events ≡ loss_count a.lost
 
 -- What a call that is carried out told and left: one loss more where it closed the association, which was not lost.
-record Tells (closing : Bool) (a : Shown) (x : Shown × List Event) : Type 0 where
+record TellsLosses (closing : Bool) (a : Shown) (x : Shown × List Event) : Type 0 where
   lost : x.0.lost ≡ (closing || a.lost)
   count : losses x.1 + losses x.0.events ≡ losses a.events + (if closing then 1 else 0)
   once : closing ≡ true → a.lost ≡ false
 
-tells_nothing : (a b : Shown) → b.lost ≡ a.lost → b.events ≡ a.events → Tells false a (b, [])
+tells_nothing : (a b : Shown) → b.lost ≡ a.lost → b.events ≡ a.events → TellsLosses false a (b, [])
 tells_nothing a b lost events =
     let n : losses b.events ≡ losses a.events = ap losses events in
     record { lost = lost; count = omega (arith, n); once = λ e. absurd (false≢true e) }
 
-unclosed_tells : (a b : Shown) → DoesNotClose a b → Tells false a (b, [])
+unclosed_tells : (a b : Shown) → DoesNotClose a b → TellsLosses false a (b, [])
 unclosed_tells a b h =
     record { lost = h.lost; count = omega (arith, h.told); once = λ e. absurd (false≢true e) }
 
@@ -50,7 +50,8 @@ fault_counts : (o : Option Error) → losses (told_by (fault_told o)) ≡ 0
 fault_counts None = refl
 fault_counts (Some fault) = refl
 
-poll_tells : (queued : List Event) (a : Shown) → a.events ≡ queued → Tells false a (with_told (event_from queued a))
+poll_tells : (queued : List Event) (a : Shown) → a.events ≡ queued
+    → TellsLosses false a (with_told (event_from queued a))
 poll_tells [] a e =
     let n : losses (told_by (fault_told a.handshake_fault)) ≡ 0 = fault_counts a.handshake_fault in
     record { lost = refl; count = omega (arith, n); once = λ c. absurd (false≢true c) }
@@ -63,7 +64,7 @@ closes_once : (lost faulted : Bool) → (not lost && faulted) ≡ true → lost 
 closes_once lost faulted e = not-true lost (and_parts (not lost) faulted e).0
 
 closing_tells : (closing : Bool) (a b : Shown) → IsClosedIf closing a b → (closing ≡ true → a.lost ≡ false)
-    → Tells closing a (b, [])
+    → TellsLosses closing a (b, [])
 closing_tells closing a b h once = record { lost = h.lost; count = omega (arith, h.told); once = once }
 
 -- how a call that is carried out closes the association
@@ -80,7 +81,7 @@ closes_by (Call.PollTransmit now) a = false
 closes_by (Call.HandleTimeout now) a = false
 closes_by (Call.HandleEvent packet now) a = closes a packet now
 
-open_tells : (a b : Shown) → TellsNothing a b → Tells false a (b, [])
+open_tells : (a b : Shown) → TellsNothing a b → TellsLosses false a (b, [])
 open_tells a b h = tells_nothing a b h.lost h.events
 
 -- what is not closed was not lost, where each association that was lost is closed
@@ -98,7 +99,7 @@ read_is_kept false closed lost ends e = absurd (false≢true e)
 abbrev EndsClosed : Shown → Type 0
 EndsClosed a = a.lost ≡ true → is_closed_state a.state ≡ true
 
-carried_tells : (call : Call) (a : Shown) → EndsClosed a → Tells (closes_by call a) a (carried_out call a)
+carried_tells : (call : Call) (a : Shown) → EndsClosed a → TellsLosses (closes_by call a) a (carried_out call a)
 carried_tells (Call.OpenStream id kind) a ends = tells_nothing a _ refl refl
 carried_tells (Call.Write id named bytes) a ends =
     unclosed_tells a (written a id named bytes) (writes_do_not_close a id named bytes)
@@ -120,11 +121,11 @@ carried_tells (Call.HandleEvent packet now) a ends =
     (closes_once a.lost (is_faulted_packet a packet now))
 
 counts_all : (n : ℕ) (x : Shown × List Event) → n + losses x.1 + losses x.0.events ≡ loss_count x.0.lost
-    → Counts (n + losses x.1) x.0
+    → CountsLosses (n + losses x.1) x.0
 counts_all n x e = record { at_most = omega (arith, e); in_all = λ _. e }
 
-counts_on : (closing : Bool) (n : ℕ) (a : Shown) (x : Shown × List Event) → a.failed ≡ false → Counts n a
-    → Tells closing a x → Counts (n + losses x.1) x.0
+counts_on : (closing : Bool) (n : ℕ) (a : Shown) (x : Shown × List Event) → a.failed ≡ false → CountsLosses n a
+    → TellsLosses closing a x → CountsLosses (n + losses x.1) x.0
 counts_on false n a x works h t =
     let before : n + losses a.events ≡ loss_count a.lost = h.in_all works in
     let after : loss_count x.0.lost ≡ loss_count a.lost = ap loss_count t.lost in
@@ -135,48 +136,48 @@ counts_on true n a x works h t =
     let after : loss_count x.0.lost ≡ 1 = ap loss_count t.lost in
     counts_all n x (omega (arith, before, none, after, t.count))
 
-counts_still : (n : ℕ) (a : Shown) → Counts n a → Counts (n + losses []) a
+counts_still : (n : ℕ) (a : Shown) → CountsLosses n a → CountsLosses (n + losses []) a
 counts_still n a h = record { at_most = omega (arith, h.at_most); in_all = λ e. omega (arith, h.in_all e) }
 
-counts_unchanged : (n : ℕ) (told : List Event) (a b : Shown) → Counts n a → IsUnchanged told a b
-    → Counts (n + losses told) b
+counts_unchanged : (n : ℕ) (told : List Event) (a b : Shown) → CountsLosses n a → IsUnchanged told a b
+    → CountsLosses (n + losses told) b
 counts_unchanged n told a b h r =
-    subst (λ (z : List Event). Counts (n + losses z) b) (sym r.silent)
-    (counts_still n b (subst (λ (z : Shown). Counts n z) (sym r.same) h))
+    subst (λ (z : List Event). CountsLosses (n + losses z) b) (sym r.silent)
+    (counts_still n b (subst (λ (z : Shown). CountsLosses n z) (sym r.same) h))
 
-counts_fell : (n : ℕ) (a b : Shown) → Counts n a → Fell a b → Counts (n + losses []) b
+counts_fell : (n : ℕ) (a b : Shown) → CountsLosses n a → Fell a b → CountsLosses (n + losses []) b
 counts_fell n a b h f =
     let same : loss_count b.lost ≡ loss_count a.lost = ap loss_count f.lost in
     record { at_most = omega (arith, h.at_most, same); in_all = λ e. absurd (true≢false (sym f.failed ∙ e)) }
 
-carried_counts : (call : Call) (n : ℕ) (a : Shown) → EndsClosed a → Counts n a → Works call a
-    → Counts (n + losses (carried_out call a).1) (carried_out call a).0
+carried_counts : (call : Call) (n : ℕ) (a : Shown) → EndsClosed a → CountsLosses n a → Works call a
+    → CountsLosses (n + losses (carried_out call a).1) (carried_out call a).0
 carried_counts call n a ends h (inl works) =
     counts_on (closes_by call a) n a (carried_out call a) works h (carried_tells call a ends)
 carried_counts call n a ends h (inr same) =
-    subst (λ (x : Shown × List Event). Counts (n + losses x.1) x.0) (sym same) (counts_still n a h)
+    subst (λ (x : Shown × List Event). CountsLosses (n + losses x.1) x.0) (sym same) (counts_still n a h)
 
-call_counts : (call : Call) (n : ℕ) (told : List Event) (a b : Shown) → EndsClosed a → Counts n a
-    → Calls call told a b → Counts (n + losses told) b
+call_counts : (call : Call) (n : ℕ) (told : List Event) (a b : Shown) → EndsClosed a → CountsLosses n a
+    → Calls call told a b → CountsLosses (n + losses told) b
 call_counts call n told a b ends h (inl c) =
-    subst (λ (x : Shown × List Event). Counts (n + losses x.1) x.0) c.there
+    subst (λ (x : Shown × List Event). CountsLosses (n + losses x.1) x.0) c.there
     (carried_counts call n a ends h (accepted_works call a c.accepted))
 call_counts call n told a b ends h (inr (inl c)) = counts_unchanged n told a b h c
 call_counts call n told a b ends h (inr (inr c)) =
-    subst (λ (z : List Event). Counts (n + losses z) b) (sym c.silent) (counts_fell n a b h (fell a b c.failed))
+    subst (λ (z : List Event). CountsLosses (n + losses z) b) (sym c.silent) (counts_fell n a b h (fell a b c.failed))
 
-run_counts : (calls : List Call) (n : ℕ) (told : List Event) (a b : Shown) → IsSound a → Counts n a
-    → IsRun calls told a b → Counts (n + losses told) b
+run_counts : (calls : List Call) (n : ℕ) (told : List Event) (a b : Shown) → IsSound a → CountsLosses n a
+    → IsRun calls told a b → CountsLosses (n + losses told) b
 run_counts [] n told a b sound h r = counts_unchanged n told a b h r
 run_counts (c ∷ cs) n told a b sound h r =
     let all : losses told ≡ losses r.first + losses r.later = ap losses r.in_order
     ∙ sum_by-append loss_of r.first r.later in
     let sums : n + losses r.first + losses r.later ≡ n + losses told = omega (arith, all) in
-    subst (λ (z : ℕ). Counts z b) sums (run_counts cs (n + losses r.first) r.later r.middle b
+    subst (λ (z : ℕ). CountsLosses z b) sums (run_counts cs (n + losses r.first) r.later r.middle b
     (call_sound c r.first a r.middle sound r.called)
     (call_counts c n r.first a r.middle (sound_closed a sound) h r.called) r.others)
 
-fresh_counts : (a : Shown) → IsFresh a → Counts 0 a
+fresh_counts : (a : Shown) → IsFresh a → CountsLosses 0 a
 fresh_counts a h =
     let none : loss_count a.lost ≡ 0 = ap loss_count h.not_lost in
     record { at_most = omega arith; in_all = λ e. omega (arith, h.untold, none) }

@@ -15,8 +15,8 @@ use Rattle.sctp_inbound.specs.declared.receiver.AckTrigger.TheVariants as trigge
 use Rattle.sctp_assoc.specs.Calls.{is_established}
 use Rattle.sctp_assoc.specs.Closing.{closed_by, closed_open, is_closed_state}
 use Rattle.sctp_assoc.specs.Chunks.{after_packet, after_packet_of, ended, on_chunk}
-use Rattle.sctp_sides.specs.Shapes.{ChunksLeadOn, Closes, EndsPacket, EstablishedIsNotClosed, FaultsClose}
-use Rattle.sctp_sides.specs.Shapes.{LostAssociationsTakeNothing, NoPacketChangesNothing, PacketsEnd, TakesChunk}
+use Rattle.sctp_sides.specs.SideLaws.{ChunksLeadOn, Closes, EndsPacket, EstablishedIsNotClosed, FaultsClose}
+use Rattle.sctp_sides.specs.SideLaws.{LostAssociationsTakeNothing, NoPacketChangesNothing, PacketsEnd, TakesChunk}
 use Rattle.sctp_assoc.specs.Shown.{Shown}
 use Rattle.sctp_sides.proofs.PacketsByChunks.{chunks_carry}
 use Rattle.sctp_inbound.specs.Receiver.{past_of}
@@ -27,7 +27,7 @@ use Rattle.sctp_sides.proofs.HandshakeTruth.{keeps_saying, truthful_silent}
 use Rattle.sctp_assoc.specs.Closing.{exhausted, out_of_resource}
 use Rattle.sctp_assoc.specs.Control.{queued}
 use Rattle.sctp_sides.specs.Meeting.{IsTruthful}
-use Rattle.sctp_sides.specs.Shapes.{Exhausts, ExhaustionCloses}
+use Rattle.sctp_sides.specs.SideLaws.{Exhausts, ExhaustionCloses}
 use Rattle.sctp_sides.proofs.HandshakeTruth.{truthful_with}
 use Rattle.sctp_inbound.specs.Handshake.{header_of}
 
@@ -40,14 +40,14 @@ chunks_lead_on header c a trigger now = record {
 
 pub packets_end : PacketsEnd
 packets_end a trigger now = record {
-  leads = λ h binds. (h, leads_nowhere a (ended a trigger now) h binds refl (point_stays trigger));
+  leads = λ h binds. (h, leads_nowhere a (ended a trigger now) h binds refl (last_tsn_stays trigger));
   same = status_by a (ended a trigger now) refl refl refl refl refl refl refl;
 }
   where
-    point_stays : (w : AckTrigger) → past_of (ended a w now).receiver ≡ past_of a.receiver
-    point_stays triggers.None = refl
-    point_stays triggers.Delayed = refl
-    point_stays triggers.Immediate = refl
+    last_tsn_stays : (w : AckTrigger) → past_of (ended a w now).receiver ≡ past_of a.receiver
+    last_tsn_stays triggers.None = refl
+    last_tsn_stays triggers.Delayed = refl
+    last_tsn_stays triggers.Immediate = refl
 
 none_some : (t : StreamView) → None ≡ Some t → ⊥
 none_some t e = cc

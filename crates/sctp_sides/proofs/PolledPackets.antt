@@ -10,7 +10,7 @@ use Rattle.sctp_wire_types.specs.declared.chunk.Chunk.TheVariants as chunks
 use Rattle.sctp_wire_types.specs.declared.chunk.ChunkPayloadData.{ChunkPayloadData}
 use Rattle.sctp_wire_types.specs.declared.error.Fault.{Fault}
 use Rattle.sctp_wire_types.specs.declared.packet.CommonHeader.{CommonHeader}
-use Rattle.sctp_wire.specs.DataPackets.{IsReadBack, all_of, data_fits, datagrams_of, packet_of}
+use Rattle.sctp_wire.specs.DataPackets.{IsReadBack, all_of, data_fits, datagrams_of, data_packet}
 use Rattle.sctp_wire.specs.Packets.{checked, packet_at, packet_is_plain, spelling, written}
 use Rattle.sctp_inbound.specs.Handshake.{header_of}
 use Rattle.sctp_model.proofs.Lists.{all_back, all_filter, all_front, all_join, all_map}
@@ -23,9 +23,10 @@ use Rattle.sctp_assoc.specs.Inbound.{taken_packet}
 use Rattle.sctp_assoc.specs.declared.control.ControlPacket.{ControlPacket}
 use Rattle.sctp_assoc.specs.Gather.{AckIsReadAgain, AreControlReadAgain, AreReadAgain, IsReadAgain, ack_after}
 use Rattle.sctp_assoc.specs.Gather.{after_both, control_packets, data_polled, exchange_polled, is_due}
-use Rattle.sctp_assoc.specs.Gather.{packet_bytes, packet_with, sack_chunk, sack_packet, spelled, without_control}
-use Rattle.sctp_sides.specs.Shapes.{IsGivenBy, IsWaitingToGo, OfEachChunk, PollsOutsideEstablishedGiveWhatWaits}
-use Rattle.sctp_sides.specs.Shapes.{PollsSayTheirActs, WhatWaitsGoesOutAsItIs}
+use Rattle.sctp_assoc.specs.Gather.{packet_bytes, single_chunk_packet, sack_chunk, sack_packet, spelled}
+use Rattle.sctp_assoc.specs.Gather.{without_control}
+use Rattle.sctp_sides.specs.SideLaws.{IsGivenBy, IsWaitingToGo, OfEachChunk, PollsOutsideEstablishedGiveWhatWaits}
+use Rattle.sctp_sides.specs.SideLaws.{PollsSayTheirActs, WhatWaitsGoesOutAsItIs}
 use Rattle.sctp_assoc.specs.Shown.{Shown}
 use Rattle.sctp_sides.proofs.DueSacks.{sacks_say_what_was_taken}
 
@@ -36,16 +37,16 @@ AreOf Is packets = AllByRecursion (λ (bytes : List ℕ). OfEachChunk Is (taken_
 -- A packet of one chunk says what its chunk says.
 
 taken_says : (c : Bool) (Is : Chunk → Type 0) (header : CommonHeader) (chunk : Chunk) → Is chunk
-    → OfEachChunk Is (if c then Some (packet_with header chunk) else None)
+    → OfEachChunk Is (if c then Some (single_chunk_packet header chunk) else None)
 taken_says true Is header chunk s = (s, tt)
 taken_says false Is header chunk s = tt
 
 spelled_says : (r : Result (List ℕ) Fault) (Is : Chunk → Type 0) (header : CommonHeader) (chunk : Chunk)
-    → ((bytes : List ℕ) → spelled r ≡ bytes ∷ [] → packet_at bytes ≡ Ok (packet_with header chunk)) → Is chunk
+    → ((bytes : List ℕ) → spelled r ≡ bytes ∷ [] → packet_at bytes ≡ Ok (single_chunk_packet header chunk)) → Is chunk
     → AreOf Is (spelled r)
 spelled_says (Ok bytes) Is header chunk again s = (
   subst (λ z. OfEachChunk Is (taken_packet z)) (sym (again bytes refl))
-      (taken_says (is_ok (checked (packet_with header chunk))) Is header chunk s),
+      (taken_says (is_ok (checked (single_chunk_packet header chunk))) Is header chunk s),
   tt,
 )
 spelled_says (Err fault) Is header chunk again s = tt
@@ -53,22 +54,22 @@ spelled_says (Err fault) Is header chunk again s = tt
 one_says : (Is : Chunk → Type 0) (header : CommonHeader) (chunk : Chunk) → IsReadAgain header chunk → Is chunk
     → AreOf Is (packet_bytes header chunk)
 unfolding packet_bytes
-one_says Is header chunk again s = spelled_says (written (packet_with header chunk)) Is header chunk again s
+one_says Is header chunk again s = spelled_says (written (single_chunk_packet header chunk)) Is header chunk again s
 
 -- A packet of DATA says what its chunks say.
 
 bundle_checked : (c : Bool) (Is : Chunk → Type 0) (header : CommonHeader) (cs : List ChunkPayloadData)
     → AllByRecursion (λ (c : ChunkPayloadData). Is (chunks.Data c)) cs
-    → OfEachChunk Is (if c then Some (packet_of header cs) else None)
+    → OfEachChunk Is (if c then Some (data_packet header cs) else None)
 bundle_checked true Is header cs all = all_map Is (λ c. chunks.Data c) cs all
 bundle_checked false Is header cs all = tt
 
 bundle_says : (Is : Chunk → Type 0) (header : CommonHeader) (cs : List ChunkPayloadData) → IsReadBack header cs
     → AllByRecursion (λ (c : ChunkPayloadData). Is (chunks.Data c)) cs
-    → OfEachChunk Is (taken_packet (packet_at (spelling (packet_of header cs))))
+    → OfEachChunk Is (taken_packet (packet_at (spelling (data_packet header cs))))
 bundle_says Is header cs again all =
     subst (λ z. OfEachChunk Is (taken_packet z)) (sym again)
-    (bundle_checked (is_ok (checked (packet_of header cs))) Is header cs all)
+    (bundle_checked (is_ok (checked (data_packet header cs))) Is header cs all)
 
 data_says : (Is : Chunk → Type 0) (header : CommonHeader) (bundles : List (List ChunkPayloadData))
     → AreReadAgain header bundles
@@ -96,7 +97,7 @@ each_there {X} (x ∷ xs) = (
 )
 
 waiting_say : (Is : Chunk → Type 0) (cs : List ControlPacket) → AreControlReadAgain cs
-    → AllByRecursion (λ (c : ControlPacket). packet_is_plain (packet_with c.header c.chunk) ≡ true) cs
+    → AllByRecursion (λ (c : ControlPacket). packet_is_plain (single_chunk_packet c.header c.chunk) ≡ true) cs
     → AllByRecursion (λ (c : ControlPacket). Is c.chunk) cs → AreOf Is (control_packets cs)
 waiting_say Is [] again plain all = tt
 waiting_say Is (c ∷ cs) (again, more) (plain, others) (one, rest) =

@@ -14,7 +14,8 @@ pub use Rattle.sctp_sides.proofs.HandshakeChunks.{established_sides_talk, the_sa
 pub use Rattle.sctp_assoc.proofs.PollsLeadOn.{reports_are_silent}
 pub use Rattle.sctp_sides.proofs.PolledPackets.{polls_outside_established_give_what_waits, polls_say_their_acts}
 pub use Rattle.sctp_sides.proofs.PolledPackets.{what_waits_goes_out_as_it_is}
-pub use Rattle.sctp_sides.proofs.ActsOfChunks.{data_is_taken, greetings_meet, other_chunks_do_nothing}
+pub use Rattle.sctp_sides.proofs.ActsOfChunks.{data_opens_or_takes, greetings_make_the_peer_known}
+pub use Rattle.sctp_sides.proofs.ActsOfChunks.{other_chunks_do_nothing}
 pub use Rattle.sctp_sides.proofs.ActsOfChunks.{other_sacks_do_nothing, polls_give_and_report, sacks_acknowledge}
 pub use Rattle.sctp_sides.proofs.ActsOfChunks.{taken_sacks_acknowledge, timeouts_mark_at_most}
 pub use Rattle.sctp_sides.proofs.Status.{opened_streams_keep_the_status, polls_keep_the_status, reads_keep_the_status}

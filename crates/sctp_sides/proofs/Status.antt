@@ -30,7 +30,7 @@ use Rattle.sctp_wire_types.specs.declared.chunk.GapAckBlock.{GapAckBlock}
 use Rattle.sctp_wire.specs.DataPackets.{datagrams_of}
 use Rattle.sctp_assoc.proofs.ActsKeepOffsets.{blocks_size, size_stays}
 use Rattle.sctp_outbound.specs.Sender.{acknowledged, after_resending, can_send_next, tsns_up_to, resent_by}
-use Rattle.sctp_outbound.specs.Sacks.{before_point}
+use Rattle.sctp_outbound.specs.Sacks.{before_acknowledging}
 use Rattle.sctp_outbound.specs.Sender.{sack_outcome, sent_new, sent_one, sent_within}
 use Rattle.sctp_wire_types.specs.declared.ids.PayloadProtocolIdentifier.{PayloadProtocolIdentifier}
 use Rattle.sctp_assoc.specs.Calls.{accepted_from, after_ack_delay, after_t3, event_from, is_beginning, is_cookie_echoed}
@@ -42,12 +42,13 @@ use Rattle.sctp_assoc.specs.Handshake.{after_t1_init, cookie_queued, echoed, inf
 use Rattle.sctp_assoc.specs.Handshake.{on_cookie_ack, on_cookie_echo, on_heartbeat, on_init, on_init_ack, sends_cookie}
 use Rattle.sctp_assoc.specs.Handshake.{sends_init, t1_cookie_expired, t1_init_expired}
 use Rattle.sctp_assoc.specs.Gather.{ack_after, ack_polled, control_packets, data_polled, exchange_polled}
-use Rattle.sctp_assoc.specs.Gather.{fast_counted, is_due, packet_with, with_sent_data, without_control}
+use Rattle.sctp_assoc.specs.Gather.{fast_counted, is_due, single_chunk_packet, with_sent_data, without_control}
 use Rattle.sctp_assoc.specs.Timeouts.{after_handshake_timers}
-use Rattle.sctp_sides.specs.Shapes.{IsSameStatus, KeepsWorking, Leaves, LimitsKeepTheStatus, OpenedStreamsKeepTheStatus}
-use Rattle.sctp_sides.specs.Shapes.{PollsKeepTheStatus}
-use Rattle.sctp_sides.specs.Shapes.{ReadsKeepTheStatus, TimersKeepTheStatus, ToldEventsKeepTheStatus}
-use Rattle.sctp_sides.specs.Shapes.{AcceptedStreamsKeepTheStatus, SettingsKeepTheStatus, WritesKeepTheStatus}
+use Rattle.sctp_sides.specs.SideLaws.{IsSameStatus, KeepsWorking, Leaves, LimitsKeepTheStatus}
+use Rattle.sctp_sides.specs.SideLaws.{OpenedStreamsKeepTheStatus}
+use Rattle.sctp_sides.specs.SideLaws.{PollsKeepTheStatus}
+use Rattle.sctp_sides.specs.SideLaws.{ReadsKeepTheStatus, TimersKeepTheStatus, ToldEventsKeepTheStatus}
+use Rattle.sctp_sides.specs.SideLaws.{AcceptedStreamsKeepTheStatus, SettingsKeepTheStatus, WritesKeepTheStatus}
 use Rattle.sctp_sides.specs.Meeting.{Greets, IsTruthful, stage_of}
 use Rattle.sctp_assoc.specs.Control.{queued}
 use Rattle.sctp_inbound.specs.Greeting.{first_cookie, information_of, init_of}
@@ -163,30 +164,32 @@ data_status a piece trigger =
 
 -- SACK
 
-outcome_status : (o : SackOutcome) (a : Shown) (point : ℕ) (blocks : List GapAckBlock) (window : ℕ)
+outcome_status : (o : SackOutcome) (a : Shown) (cumulative_tsn_ack : ℕ) (blocks : List GapAckBlock) (window : ℕ)
     (trigger : AckTrigger) (now : ℕ)
-    → IsSameStatus a (on_counted_sack o a point blocks window trigger now).0
-outcome_status outcomes.Older a point blocks window trigger now = status_same a
-outcome_status outcomes.NotInFlight a point blocks window trigger now = status_same a
-outcome_status outcomes.NamesTheUnsent a point blocks window trigger now = status_same a
-outcome_status outcomes.Taken a point blocks window trigger now =
+    → IsSameStatus a (on_counted_sack o a cumulative_tsn_ack blocks window trigger now).0
+outcome_status outcomes.Older a cumulative_tsn_ack blocks window trigger now = status_same a
+outcome_status outcomes.NotInFlight a cumulative_tsn_ack blocks window trigger now = status_same a
+outcome_status outcomes.NamesTheUnsent a cumulative_tsn_ack blocks window trigger now = status_same a
+outcome_status outcomes.Taken a cumulative_tsn_ack blocks window trigger now =
     status_by a _ refl refl refl
     (blocks_size now blocks
-    (acknowledged (tsns_up_to a.sender point) now
-    (before_point (tsns_up_to a.sender point) window a.sender, a.estimate, a.streams))
-    ∙ size_stays (tsns_up_to a.sender point) now (before_point (tsns_up_to a.sender point) window a.sender)
+    (acknowledged (tsns_up_to a.sender cumulative_tsn_ack) now
+    (before_acknowledging (tsns_up_to a.sender cumulative_tsn_ack) window a.sender, a.estimate, a.streams))
+    ∙ size_stays (tsns_up_to a.sender cumulative_tsn_ack) now
+    (before_acknowledging (tsns_up_to a.sender cumulative_tsn_ack) window a.sender)
     a.estimate a.streams)
     refl refl refl
 
-sack_status : (established : Bool) (a : Shown) (point : ℕ) (blocks : List GapAckBlock) (window : ℕ)
+sack_status : (established : Bool) (a : Shown) (cumulative_tsn_ack : ℕ) (blocks : List GapAckBlock) (window : ℕ)
     (trigger : AckTrigger) (now : ℕ)
     → is_established a.state ≡ established
-    → IsSameStatus a (on_sack a point blocks window trigger now).0
+    → IsSameStatus a (on_sack a cumulative_tsn_ack blocks window trigger now).0
 unfolding on_sack
-sack_status true a point blocks window trigger now e =
+sack_status true a cumulative_tsn_ack blocks window trigger now e =
     rw e (status_on a (counted_sack a) _ (status_by a (counted_sack a) refl refl refl refl refl refl refl)
-    (outcome_status (sack_outcome a.sender point blocks) (counted_sack a) point blocks window trigger now))
-sack_status false a point blocks window trigger now e = rw e (status_same a)
+    (outcome_status (sack_outcome a.sender cumulative_tsn_ack blocks)
+    (counted_sack a) cumulative_tsn_ack blocks window trigger now))
+sack_status false a cumulative_tsn_ack blocks window trigger now e = rw e (status_same a)
 
 -- Any chunk: whether it failed, whether it was lost, and its payload size stay
 
@@ -481,7 +484,7 @@ ack_delay_beside true a b now e (h, streams) =
 
 -- a packet of the handshake more waits, and says what is so
 with_queued : (a b : Shown) (c : Chunk) → IsSameBeside a b → ((own : ℕ) → IsTruthful own b → Greets own (stage_of b) c)
-    → packet_is_plain (packet_with (header_of b.handshake) c) ≡ true → IsSameBeside a (queued b c)
+    → packet_is_plain (single_chunk_packet (header_of b.handshake) c) ≡ true → IsSameBeside a (queued b c)
 with_queued a b c (h, streams) says plain = (
   record {
     failed = h.failed;

@@ -191,16 +191,16 @@ taken_ticks a p now (s, e, m) b h = record {
       (sack_keeps_ack (ltb 0 (length s.queue.in_flight)) p a.timers now e.rto) h.acks;
 }
 
-outcome_ticks : (o : SackOutcome) (a : Shown) (point : ℕ) (blocks : List GapAckBlock) (window : ℕ)
+outcome_ticks : (o : SackOutcome) (a : Shown) (cumulative_tsn_ack : ℕ) (blocks : List GapAckBlock) (window : ℕ)
     (trigger : AckTrigger) (now : ℕ)
     → is_beginning a.state ≡ false → Ticks a
-    → Ticks (on_counted_sack o a point blocks window trigger now).0
-outcome_ticks outcomes.Older a point blocks window trigger now b h = h
-outcome_ticks outcomes.NotInFlight a point blocks window trigger now b h = h
-outcome_ticks outcomes.NamesTheUnsent a point blocks window trigger now b h = h
-outcome_ticks outcomes.Taken a point blocks window trigger now b h =
-    taken_ticks a (progress_of a.sender point blocks) now
-    (sack_taken point blocks window now a.sender a.estimate a.streams) b h
+    → Ticks (on_counted_sack o a cumulative_tsn_ack blocks window trigger now).0
+outcome_ticks outcomes.Older a cumulative_tsn_ack blocks window trigger now b h = h
+outcome_ticks outcomes.NotInFlight a cumulative_tsn_ack blocks window trigger now b h = h
+outcome_ticks outcomes.NamesTheUnsent a cumulative_tsn_ack blocks window trigger now b h = h
+outcome_ticks outcomes.Taken a cumulative_tsn_ack blocks window trigger now b h =
+    taken_ticks a (progress_of a.sender cumulative_tsn_ack blocks) now
+    (sack_taken cumulative_tsn_ack blocks window now a.sender a.estimate a.streams) b h
 
 -- The handshake
 
@@ -303,15 +303,16 @@ information_ticks (Some information) a h = ticks_by a _ (time_by a _ refl refl r
 
 -- Each chunk keeps the timers where they should run, or is a fault.
 module _ (a : Shown) (trigger : AckTrigger) (h : Ticks a) where
-  sack_ticks : (established : Bool) (point : ℕ) (blocks : List GapAckBlock) (window now : ℕ)
+  sack_ticks : (established : Bool) (cumulative_tsn_ack : ℕ) (blocks : List GapAckBlock) (window now : ℕ)
       → is_established a.state ≡ established
-      → Ticks (on_sack a point blocks window trigger now).0
+      → Ticks (on_sack a cumulative_tsn_ack blocks window trigger now).0
   unfolding on_sack
-  sack_ticks true point blocks window now e =
-      rw e (outcome_ticks (sack_outcome a.sender point blocks) (counted_sack a) point blocks window trigger now
+  sack_ticks true cumulative_tsn_ack blocks window now e =
+      rw e (outcome_ticks (sack_outcome a.sender cumulative_tsn_ack blocks)
+      (counted_sack a) cumulative_tsn_ack blocks window trigger now
       (established_begins_no_more a.state e)
       (ticks_by a (counted_sack a) (time_by a (counted_sack a) refl refl refl refl refl refl) h))
-  sack_ticks false point blocks window now e = rw e h
+  sack_ticks false cumulative_tsn_ack blocks window now e = rw e h
 
   init_ticks : (c : Bool) (header : CommonHeader) (init : ChunkInit) → is_beginning a.state ≡ c
       → Ticks (on_init a header init trigger).0

@@ -114,15 +114,15 @@ resending_keeps_as_many s =
 -- A poll
 
 -- so many pieces are in flight as before, and nothing was sent for the first time; or something was
-abbrev Brings : ℕ → ℕ → Sender × List ChunkPayloadData → Type 0
-Brings flown count x =
+abbrev SendsOrKeeps : ℕ → ℕ → Sender × List ChunkPayloadData → Type 0
+SendsOrKeeps flown count x =
     ((length x.0.queue.in_flight ≡ flown) × (ltb count (length x.1) ≡ false))
     ⊎ ((0 < length x.0.queue.in_flight) × (ltb count (length x.1) ≡ true))
 
 not_below : (m n : ℕ) → m ≡ n → ltb n m ≡ false
 not_below m n e = le-ltb n m (omega (arith, e))
 
-polls_bring : (s : Sender) (now : ℕ) → Brings (length s.queue.in_flight) 0 (sent_new (after_resending s) now)
+polls_bring : (s : Sender) (now : ℕ) → SendsOrKeeps (length s.queue.in_flight) 0 (sent_new (after_resending s) now)
 polls_bring s now = ⊎_elim
     (λ h. inl (ap (λ (z : List InFlight). length z) h.0 ∙ resending_keeps_as_many s, not_below _ _ h.1))
     (λ h. inr (h.0, lt-ltb _ _ h.1))
@@ -151,7 +151,7 @@ sent_if true a now s b (inr (p, n)) h = record {
 }
 
 sent_data_ticks : (a : Shown) (now : ℕ) (x : Sender × List ChunkPayloadData) → is_beginning a.state ≡ false
-    → Brings (length a.sender.queue.in_flight) 0 x → Ticks a
+    → SendsOrKeeps (length a.sender.queue.in_flight) 0 x → Ticks a
     → Ticks (with_sent_data (fast_counted a) now x)
 sent_data_ticks a now (s, pieces) b g h = sent_if (ltb 0 (length pieces)) a now s b g h
 

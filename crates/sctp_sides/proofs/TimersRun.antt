@@ -27,7 +27,7 @@ pub record Waits (there : Bool) (timer : TimerState) (limit : Option ℕ) : Type
   pub timed : there ≡ true → (is_some timer.moment ≡ true) ⊎ (passes timer.retries limit ≡ true)
 
 -- the timers of DATA and of the handshake
-pub record Fits (state : AssociationState) (flown : List InFlight) (t3 init cookie : TimerState)
+pub record AreTimersOf (state : AssociationState) (flown : List InFlight) (t3 init cookie : TimerState)
     (data_limit handshake_limit : Option ℕ) : Type 0 where
   pub flies : Flies (is_established state) flown t3 data_limit
   pub inits : Waits (is_cookie_wait state) init handshake_limit
@@ -36,7 +36,7 @@ pub record Fits (state : AssociationState) (flown : List InFlight) (t3 init cook
   pub unsent : is_beginning state ≡ true → flown ≡ []
 
 abbrev pub FitsTimers : AssociationState → List InFlight → Timers → Type 0
-FitsTimers state flown t = Fits state flown t.t3_rtx t.t1_init t.t1_cookie t.data_limit t.handshake_limit
+FitsTimers state flown t = AreTimersOf state flown t.t3_rtx t.t1_init t.t1_cookie t.data_limit t.handshake_limit
 
 -- An association that works and was not lost.
 pub record Ticks (a : Shown) : Type 0 where

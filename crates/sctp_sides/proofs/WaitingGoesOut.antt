@@ -17,7 +17,7 @@ use Rattle.sctp_outbound_queue.specs.declared.message.InFlight.{InFlight}
 use Rattle.sctp_outbound_queue.specs.Outbound.{Outbound, next_tsn_of, pieces_waiting}
 use Rattle.sctp_inbound.specs.Handshake.{header_of}
 use Rattle.sctp_outbound.specs.declared.sender.Sender.{Sender}
-use Rattle.sctp_wire.specs.DataPackets.{all_of, data_fits, datagrams_of, packet_of}
+use Rattle.sctp_wire.specs.DataPackets.{all_of, data_fits, datagrams_of, data_packet}
 use Rattle.sctp_outbound.specs.Sender.{with_in_flight}
 use Rattle.sctp_outbound.specs.Sender.{after_resending, can_send_next, next_chunk_of, resent_by, sent_new, sent_one}
 use Rattle.sctp_outbound.specs.Sender.{sent_within}
@@ -28,7 +28,7 @@ use Rattle.sctp_assoc.specs.Calls.{is_established}
 use Rattle.sctp_sides.specs.Laws.{IsNextWithNothingInFlight, PollsBeginWithWhatWaits, WhatWaitsIsGiven}
 use Rattle.sctp_sides.specs.Laws.{WhatWaitsIsPolled}
 use Rattle.sctp_assoc.specs.Gather.{ack_after, ack_polled, control_packets, data_polled, exchange_polled}
-use Rattle.sctp_assoc.specs.Gather.{packet_bytes, packet_with, spelled, without_control}
+use Rattle.sctp_assoc.specs.Gather.{packet_bytes, single_chunk_packet, spelled, without_control}
 use Rattle.sctp_assoc.specs.Shown.{Shown}
 use Rattle.sctp_assoc.proofs.ActsKeepOffsets.{given_append}
 use Rattle.sctp_assoc.proofs.PolledData.{IsSentBeside, data_of_poll, data_poll_carries, data_poll_gives}
@@ -159,11 +159,11 @@ fits_written p fits = rw fits refl
 first_bundle : (header : CommonHeader) (bundles : List (List ChunkPayloadData)) (c : ChunkPayloadData)
     → AllByRecursion IsFilled bundles → slice_get (all_of bundles) 0 ≡ Some c
     → (rest : List ChunkPayloadData)
-    × (slice_get (datagrams_of header bundles) 0 ≡ Some (spelling (packet_of header (c ∷ rest))))
+    × (slice_get (datagrams_of header bundles) 0 ≡ Some (spelling (data_packet header (c ∷ rest))))
 first_bundle header [] c filled e = absurd (cc)
 first_bundle header ([] ∷ bs) c (filled, more) e = absurd (omega (arith, filled))
 first_bundle header ((d ∷ ds) ∷ bs) c filled e =
-    let same : d ≡ c = cc in (ds, ap (λ (z : ChunkPayloadData). Some (spelling (packet_of header (z ∷ ds)))) same)
+    let same : d ≡ c = cc in (ds, ap (λ (z : ChunkPayloadData). Some (spelling (data_packet header (z ∷ ds)))) same)
 
 pub ack_behind : (x : Shown × List (List ChunkPayloadData))
     → (ack_after x).1 ≡ datagrams_of (header_of x.0.handshake) x.1 ++ (ack_polled x.0).1
@@ -173,7 +173,7 @@ exchange_begins : (a : Shown) (now : ℕ) (m : Waiting) → is_established a.sta
     → length m.user_data ≤ 65519
     → (rest : List ChunkPayloadData)
     × (slice_get (exchange_polled a now).1 0 ≡ Some
-    (spelling (packet_of (header_of a.handshake) (next_chunk_of m (next_tsn_of a.sender.queue) ∷ rest))))
+    (spelling (data_packet (header_of a.handshake) (next_chunk_of m (next_tsn_of a.sender.queue) ∷ rest))))
 unfolding exchange_polled
 exchange_begins a now m established next short =
     let stays : IsSentBeside a (data_polled a now).0 = data_poll_stays a now in

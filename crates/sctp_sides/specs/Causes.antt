@@ -67,14 +67,15 @@ pub record LeavesNothingToRead (a : Shown) (h : History) (header : CommonHeader)
   pub fits : MayTakeIn a h piece → refusal_of a piece ≡ None
   pub full : IsFullForGood a.receiver.buffer_size (done_all (acts_of_chunk a header (chunks.Data piece)) (parts a h))
 
--- A point that is neither the acknowledged one nor the TSN of a piece in flight. The number that the SACK names counts
--- modulo 2^32, as TSNs do.
+-- A cumulative TSN ack that is neither the acknowledged one nor the TSN of a piece in flight. The number that the SACK
+-- names counts modulo 2^32, as TSNs do.
 abbrev pub IsBeyondTheSent : Shown → History → ℕ → Type 0
 IsBeyondTheSent a h cumulative_tsn_ack = (n : ℕ) → n ≤ length a.sender.queue.in_flight
     → cumulative_tsn_ack % 2 ^ 32 ≢ tsn_before (tsn h.own (h.base + n))
 
--- A point behind so many of the pieces in flight, and an offset past it that the gap ack blocks name and at which no
--- piece in flight stands: offsets count from the point, so the piece behind it is at 1 (RFC 4960 section 3.3.4).
+-- A cumulative TSN ack behind so many of the pieces in flight, and an offset past it that the gap ack blocks name and
+-- at which no piece in flight stands: offsets count from the cumulative TSN ack, so the piece behind it is at 1 (RFC
+-- 4960 section 3.3.4).
 pub record NamesNoPiece (a : Shown) (h : History) (sack : ChunkSelectiveAck) : Type 0 where
   pub count : ℕ
   pub within : count ≤ length a.sender.queue.in_flight
@@ -84,8 +85,8 @@ pub record NamesNoPiece (a : Shown) (h : History) (sack : ChunkSelectiveAck) : T
   pub named : is_named offset sack.gap_ack_blocks ≡ true
   pub unsent : (index : ℕ) → index < length a.sender.queue.in_flight → count + offset ≢ index + 1
 
--- A SACK in Established acknowledges what is not in flight: its point is not behind the acknowledged one, and it lies
--- beyond what was sent, or the gap ack blocks name a TSN that no piece in flight has.
+-- A SACK in Established acknowledges what is not in flight: its cumulative TSN ack is not behind the acknowledged one,
+-- and it lies beyond what was sent, or the gap ack blocks name a TSN that no piece in flight has.
 pub record AcknowledgesTheUnsent (a : Shown) (h : History) (sack : ChunkSelectiveAck) : Type 0 where
   pub established : a.state ≡ states.Established
   pub not_behind : tsn_gt (tsn_before (tsn h.own h.base)) sack.cumulative_tsn_ack ≡ false
@@ -135,7 +136,7 @@ FaultsAreCauses = (a : Shown) (h : History) (header : CommonHeader) (chunk : Chu
 
 -- Packets
 
--- the chunk at this place of a packet is reached, with the association so: none of those before it is a fault
+-- the chunk at this index of a packet is reached, with the association so: none of those before it is a fault
 abbrev pub Reaches : CommonHeader → List Chunk → Shown → AckTrigger → ℕ → ℕ → Shown → Type 0
 Reaches header [] a trigger now index reached = ⊥
 Reaches header (c ∷ cs) a trigger now zero reached = reached ≡ a

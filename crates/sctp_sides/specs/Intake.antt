@@ -15,7 +15,7 @@ use Rattle.sctp_directions.specs.Acts.{Act, History, IsNewTsn, offset_in}
 use Rattle.sctp_assoc.specs.Leads.{Binds}
 use Rattle.sctp_assoc.specs.Chunks.{on_chunk}
 use Rattle.sctp_assoc.specs.Happened.{acts_of_chunk}
-use Rattle.sctp_sides.specs.Shapes.{OpensAndTakes, TakesOnly}
+use Rattle.sctp_sides.specs.SideLaws.{OpensAndTakes, TakesOnly}
 use Rattle.sctp_assoc.specs.Shown.{Shown}
 
 -- the most bytes that a message may have, once it is put together

@@ -10,7 +10,7 @@ use Rattle.sctp_wire_types.specs.declared.chunk.ChunkSelectiveAck.{ChunkSelectiv
 use Rattle.sctp_wire_types.specs.declared.ids.PayloadProtocolIdentifier.{PayloadProtocolIdentifier}
 use Rattle.sctp_wire_types.specs.declared.packet.CommonHeader.{CommonHeader}
 use Rattle.sctp_wire.specs.declared.packet.Packet.{Packet}
-use Rattle.sctp_wire.specs.DataPackets.{all_of, packet_of}
+use Rattle.sctp_wire.specs.DataPackets.{all_of, data_packet}
 use Rattle.sctp_wire.specs.Packets.{spelling}
 use Rattle.sctp_parts.specs.declared.state.AssociationState.TheVariants as states
 use Rattle.sctp_streams.specs.declared.event.AssociationError.{AssociationError}
@@ -38,7 +38,8 @@ use Rattle.sctp_assoc.specs.Calls.{with_max_send_message_size, written}
 use Rattle.sctp_assoc.specs.Closing.{closed_by, is_closed_state}
 use Rattle.sctp_assoc.specs.Chunks.{after_packet, on_chunk}
 use Rattle.sctp_assoc.specs.Happened.{acts_of_poll}
-use Rattle.sctp_assoc.specs.Gather.{control_packets, data_polled, is_due, packet_bytes, packet_with, polled, sack_chunk}
+use Rattle.sctp_assoc.specs.Gather.{control_packets, data_polled, is_due, packet_bytes, single_chunk_packet, polled}
+use Rattle.sctp_assoc.specs.Gather.{sack_chunk}
 use Rattle.sctp_assoc.specs.Gather.{sack_packet}
 use Rattle.sctp_directions.specs.Reports.{SaysWhatWasTaken}
 use Rattle.sctp_assoc.specs.Shown.{Shown}
@@ -73,11 +74,11 @@ PollsBeginWithWhatWaits = (a : Shown) (now : ℕ) (m : Waiting) → is_establish
     → length m.user_data ≤ 65519
     → (bundled : List ChunkPayloadData)
     × (slice_get (polled a now).1 (length (control_packets a.control)) ≡ Some
-    (spelling (packet_of (header_of a.handshake) (next_chunk_of m (next_tsn_of a.sender.queue) ∷ bundled))))
+    (spelling (data_packet (header_of a.handshake) (next_chunk_of m (next_tsn_of a.sender.queue) ∷ bundled))))
 
 -- A packet of this DATA has one chunk, or at most so many bytes.
 abbrev pub IsShortOrAlone : CommonHeader → ℕ → List ChunkPayloadData → Type 0
-IsShortOrAlone header mtu cs = (length cs ≡ 1) ⊎ (length (spelling (packet_of header cs)) ≤ mtu)
+IsShortOrAlone header mtu cs = (length cs ≡ 1) ⊎ (length (spelling (data_packet header cs)) ≤ mtu)
 
 -- Each packet of DATA that a poll gives in Established has one chunk, or is at most `mtu` bytes long (RFC 4960 section
 -- 6.10).
@@ -220,12 +221,12 @@ pub record IsFirstMissing (o : ℕ) (h : History) : Type 0 where
 
 -- A SACK names the TSN before that of the first offset that was neither taken in nor passed over (RFC 4960 section
 -- 3.3.4): it neither claims what was not taken in nor keeps back what was.
-abbrev pub SacksNameThePoint : Type 0
-SacksNameThePoint = (a : Shown) (h : History) → Binds a h
+abbrev pub SacksNameTheLastTsn : Type 0
+SacksNameTheLastTsn = (a : Shown) (h : History) → Binds a h
     → IsFirstMissing (reach_in h) h
     × ((sack_of a.receiver (bytes_waiting a.streams)).cumulative_tsn_ack ≡ tsn_before (tsn h.peer (reach_in h)))
 
--- It says what was taken in: the point, and past it exactly the offsets that were.
+-- It says what was taken in: the last TSN in order, and past it exactly the offsets that were.
 abbrev pub SacksSayWhatWasTaken : Type 0
 SacksSayWhatWasTaken =
     (a : Shown) (h : History) → Binds a h
@@ -242,7 +243,7 @@ SacksOfferTheBuffer = (a : Shown)
 -- with more of them it isn't sent.
 abbrev pub SacksAreSpelled : Type 0
 SacksAreSpelled = (a : Shown) → length (sack_of a.receiver (bytes_waiting a.streams)).gap_ack_blocks ≤ 16379
-    → sack_packet a ≡ spelling (packet_with (header_of a.handshake) (sack_chunk a)) ∷ []
+    → sack_packet a ≡ spelling (single_chunk_packet (header_of a.handshake) (sack_chunk a)) ∷ []
 
 -- A SACK that is due goes out with the next poll in Established, as its last packet.
 abbrev pub DueSacksGoOut : Type 0

@@ -3,5 +3,5 @@ pub mod Intake
 pub mod Laws
 pub mod Meeting
 pub mod OneSide
-pub mod Shapes
+pub mod SideLaws
 pub mod Witnesses

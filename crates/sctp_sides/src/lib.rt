@@ -3,24 +3,26 @@
 //! have for contracts, and no call needs them. No code runs here; each empty function carries laws that are proved.
 #![tactic(auto)]
 
-ghost use Rattle.sctp_sides.specs.Shapes.{AcceptedWritesFit, ChunksLeadOn, DataIsTaken, EstablishedIsNotClosed};
-ghost use Rattle.sctp_sides.specs.Shapes.{EstablishedSidesTalk, FaultsClose, FoundStreamsAreLive, GreetingsMeet};
-ghost use Rattle.sctp_sides.specs.Shapes.{AcceptedStreamsKeepTheStatus, ExhaustionCloses, GreetingsStayTrue};
-ghost use Rattle.sctp_sides.specs.Shapes.{LostAssociationsTakeNothing, NoPacketChangesNothing, SettingsHoldNothing};
-ghost use Rattle.sctp_sides.specs.Shapes.{LimitsKeepTheStatus, SettingsKeepTheStatus};
-ghost use Rattle.sctp_sides.specs.Shapes.{OpenedStreamsHoldNothing, OpenedStreamsKeepTheStatus};
-ghost use Rattle.sctp_sides.specs.Shapes.{OpenedStreamsWereNotLive, OtherChunksDoNothing, OtherSacksDoNothing};
-ghost use Rattle.sctp_sides.specs.Shapes.{PacketsEnd, PollsGiveAndReport, PollsKeepTheStatus};
-ghost use Rattle.sctp_sides.specs.Shapes.{PollsOutsideEstablishedGiveWhatWaits, PollsSayTheirActs, ReadsKeepTheStatus};
-ghost use Rattle.sctp_sides.specs.Shapes.{SacksAcknowledge, TakenSacksAcknowledge, TheSameHandshakeIsTheSameStage};
-ghost use Rattle.sctp_sides.specs.Shapes.{TimeoutsMarkAtMost, TimersKeepTheStatus, ToldEventsKeepTheStatus};
-ghost use Rattle.sctp_sides.specs.Shapes.{WhatHoldsNothingGivesNothing, WhatWaitsGoesOutAsItIs, WritesKeepTheStatus};
+ghost use Rattle.sctp_sides.specs.SideLaws.{AcceptedWritesFit, ChunksLeadOn, DataOpensOrTakes, EstablishedIsNotClosed};
+ghost use Rattle.sctp_sides.specs.SideLaws.{EstablishedSidesTalk, FaultsClose, FoundStreamsAreLive};
+ghost use Rattle.sctp_sides.specs.SideLaws.{GreetingsMakeThePeerKnown};
+ghost use Rattle.sctp_sides.specs.SideLaws.{AcceptedStreamsKeepTheStatus, ExhaustionCloses, GreetingsStayTrue};
+ghost use Rattle.sctp_sides.specs.SideLaws.{LostAssociationsTakeNothing, NoPacketChangesNothing, SettingsHoldNothing};
+ghost use Rattle.sctp_sides.specs.SideLaws.{LimitsKeepTheStatus, SettingsKeepTheStatus};
+ghost use Rattle.sctp_sides.specs.SideLaws.{OpenedStreamsHoldNothing, OpenedStreamsKeepTheStatus};
+ghost use Rattle.sctp_sides.specs.SideLaws.{OpenedStreamsWereNotLive, OtherChunksDoNothing, OtherSacksDoNothing};
+ghost use Rattle.sctp_sides.specs.SideLaws.{PacketsEnd, PollsGiveAndReport, PollsKeepTheStatus};
+ghost use Rattle.sctp_sides.specs.SideLaws.{PollsOutsideEstablishedGiveWhatWaits, PollsSayTheirActs};
+ghost use Rattle.sctp_sides.specs.SideLaws.{ReadsKeepTheStatus};
+ghost use Rattle.sctp_sides.specs.SideLaws.{SacksAcknowledge, TakenSacksAcknowledge, TheSameHandshakeIsTheSameStage};
+ghost use Rattle.sctp_sides.specs.SideLaws.{TimeoutsMarkAtMost, TimersKeepTheStatus, ToldEventsKeepTheStatus};
+ghost use Rattle.sctp_sides.specs.SideLaws.{WhatHoldsNothingGivesNothing, WhatWaitsGoesOutAsItIs, WritesKeepTheStatus};
 ghost use Rattle.sctp_sides.specs.Causes.{CausesClose, ClosingPacketsHaveCauses, FaultsAreCauses};
 ghost use Rattle.sctp_sides.specs.Intake.{DataIsTakenIn, NothingElseIsTakenIn};
 ghost use Rattle.sctp_sides.specs.Laws.{DueSacksGoOut, FaultsAloneClose, OpenedStreamsDoNotClose, PollsDoNotClose};
 ghost use Rattle.sctp_sides.specs.Laws.{AcceptedStreamsDoNotClose, ClosesClose, ExhaustingReadsAloneClose};
 ghost use Rattle.sctp_sides.specs.Laws.{LimitsDoNotClose};
-ghost use Rattle.sctp_sides.specs.Laws.{PollsKeepWhatIsHeld, SacksAreSpelled, SacksNameThePoint, SettingsDoNotClose};
+ghost use Rattle.sctp_sides.specs.Laws.{PollsKeepWhatIsHeld, SacksAreSpelled, SacksNameTheLastTsn, SettingsDoNotClose};
 ghost use Rattle.sctp_sides.specs.Laws.{PollsBeginWithWhatWaits, SacksOfferTheBuffer, SacksSayWhatWasTaken};
 ghost use Rattle.sctp_sides.specs.Laws.{BundlesFitThePacket, NewDataStaysInTheCongestionWindow, TimersDoNotClose};
 ghost use Rattle.sctp_sides.specs.Laws.{WhatWaitsIsGiven, WhatWaitsIsPolled, WritesAreHeld, WritesDoNotClose};
@@ -81,8 +83,8 @@ pub fn only_named_causes_close()
 
 /// Reporting: a SACK says what was taken in, is one datagram, and in Established goes out with the next poll where it
 /// is due (RFC 4960 sections 3.3.4 and 6.2).
-pub fn sacks_name_the_point()
-    ensures point { SacksNameThePoint }
+pub fn sacks_name_the_last_tsn()
+    ensures last_tsn { SacksNameTheLastTsn }
     ensures said { SacksSayWhatWasTaken }
     ensures window { SacksOfferTheBuffer }
     ensures spelled { SacksAreSpelled }
@@ -147,11 +149,11 @@ pub fn packets_lead_on()
 /// Acts: of which acts each chunk, a poll and timeouts are made, and that the packets of a poll say what its acts give
 /// out.
 pub fn calls_are_made_of_acts()
-    ensures data { DataIsTaken }
+    ensures data { DataOpensOrTakes }
     ensures sack { SacksAcknowledge }
     ensures taken { TakenSacksAcknowledge }
     ensures older { OtherSacksDoNothing }
-    ensures greeting { GreetingsMeet }
+    ensures greeting { GreetingsMakeThePeerKnown }
     ensures other { OtherChunksDoNothing }
     ensures poll { PollsGiveAndReport }
     ensures silent { PollsOutsideEstablishedGiveWhatWaits }

@@ -1,9 +1,11 @@
 // One live stream.
-ghost use Rattle.std.specs.Prelude.{if◌then◌else◌, ◌≡◌, ◌+◌, ◌<◌, ◌≤◌, ◌^◌, IfOk, IfErr, OnOk, OnErr, IsOk, ◌⊎◌, Some, None};
+ghost use Rattle.std.specs.Prelude.{if◌then◌else◌, ◌≡◌, ◌+◌, ◌<◌, ◌≤◌, ◌^◌, IfOk, IfErr, OnOk, OnErr, IsOk, ◌⊎◌, Some};
+ghost use Rattle.std.specs.Prelude.{None};
 ghost use Rattle.sctp_streams.specs.Stream.{fresh_stream, params_for, accepted_by, reaches_high_mark, released_from};
 ghost use Rattle.sctp_streams.specs.Stream.{falls_to_low_mark, with_ssn_given_back, with_restarted_ssn, with_setting};
 ghost use Rattle.sctp_streams.specs.Stream.{with_halves, without_read_half, is_read_half_open, gives_messages};
-ghost use Rattle.sctp_streams.specs.Stream.{is_write_half_open, stream_passed, stream_pushed, stream_read, stream_skipped};
+ghost use Rattle.sctp_streams.specs.Stream.{is_write_half_open, stream_passed, stream_pushed, stream_read};
+ghost use Rattle.sctp_streams.specs.Stream.{stream_skipped};
 ghost use Rattle.sctp_receive_queues.specs.Reassembly.{is_ready, bytes_waiting, refusal};
 
 use crate::{DataChannelStats, RecvSendState, ReliabilityParams, Setting};

@@ -335,7 +335,8 @@ fn skip_each(streams: &mut BTreeMap<StreamId, StreamState>, tsn: u32)
 
 // The bytes that wait on all of these streams, at most the greatest u64.
 fn add_waiting(streams: &BTreeMap<StreamId, StreamState>) -> u64
-    ensures { result ≡ saturated_bytes (λ (s : StreamView). waiting_on s.reassembly) (map (λ e. e.1) streams.now.entries) }
+    ensures { result ≡ saturated_bytes (λ (s : StreamView). waiting_on s.reassembly)
+        (map (λ e. e.1) streams.now.entries) }
 {
     streams.values().fold(
         0u64,

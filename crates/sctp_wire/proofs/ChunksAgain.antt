@@ -34,7 +34,7 @@ use Rattle.sctp_wire.specs.ForwardTsn.{skipped_at, skipped_bytes, IsSkipped, for
 use Rattle.sctp_wire.specs.ForwardTsn.{IsForwardTsn, message_skip_at, message_skip_bytes, IsMessageSkip}
 use Rattle.sctp_wire.specs.ForwardTsn.{i_forward_tsn_of, i_forward_tsn_value, IsIForwardTsn}
 use Rattle.sctp_wire.specs.Reconfig.{reconfig_of, reconfig_list}
-use Rattle.sctp_wire.specs.Chunks.{point_of, chunk_of, chunks_at, chunk_frame, chunk_fits, chunk_bytes}
+use Rattle.sctp_wire.specs.Chunks.{cumulative_tsn_ack_of, chunk_of, chunks_at, chunk_frame, chunk_fits, chunk_bytes}
 use Rattle.sctp_wire.specs.Chunks.{IsChunk, chunk_is_plain}
 use Rattle.sctp_wire.proofs.ListsWritten.{flat_length, sack_length}
 use Rattle.sctp_wire.proofs.FramesAgain.{IsAgain, frame_last, frame_padded, entries_again, items_again}
@@ -285,9 +285,9 @@ i_forward_again c h =
 
 -- ---- any chunk
 
-point_again : (n : ℕ) → n < 2 ^ 32 → point_of (to_be_bytes w32 n) ≡ Ok n
-unfolding point_of
-point_again n lt = ap (λ (m : ℕ). Ok m) (from_be_bytes-to_be_bytes_4 n lt)
+cumulative_tsn_ack_again : (n : ℕ) → n < 2 ^ 32 → cumulative_tsn_ack_of (to_be_bytes w32 n) ≡ Ok n
+unfolding cumulative_tsn_ack_of
+cumulative_tsn_ack_again n lt = ap (λ (m : ℕ). Ok m) (from_be_bytes-to_be_bytes_4 n lt)
 
 data_chunk : (f : Frame) (c : ChunkPayloadData) → f.head / 256 ≡ 0 → payload_data_of (f.head % 256) f.value ≡ Ok c
     → chunk_of f ≡ Ok (chunks.Data c)
@@ -362,8 +362,9 @@ chunk_again (chunks.HeartbeatAck c) h fits plain =
 chunk_again (chunks.Abort c) h fits plain =
     ap (λ r. r >>= λ causes. Ok (chunks.Abort (record { error_causes = causes })))
     (causes_again c.error_causes h (and_parts _ _ fits).0)
-chunk_again (chunks.Shutdown point) h fits plain =
-    ap (λ r. r >>= λ point. Ok (chunks.Shutdown point)) (point_again point h)
+chunk_again (chunks.Shutdown cumulative_tsn_ack) h fits plain =
+    ap (λ r. r >>= λ cumulative_tsn_ack. Ok (chunks.Shutdown cumulative_tsn_ack))
+    (cumulative_tsn_ack_again cumulative_tsn_ack h)
 chunk_again chunks.ShutdownAck h fits plain = refl
 chunk_again (chunks.Error c) h fits plain =
     ap (λ r. r >>= λ causes. Ok (chunks.Error (record { error_causes = causes })))
@@ -390,7 +391,7 @@ chunk_head (chunks.SelectiveAck c) h = omega arith
 chunk_head (chunks.Heartbeat c) h = omega arith
 chunk_head (chunks.HeartbeatAck c) h = omega arith
 chunk_head (chunks.Abort c) h = omega arith
-chunk_head (chunks.Shutdown point) h = omega arith
+chunk_head (chunks.Shutdown cumulative_tsn_ack) h = omega arith
 chunk_head chunks.ShutdownAck h = omega arith
 chunk_head (chunks.Error c) h = omega arith
 chunk_head (chunks.CookieEcho cookie) h = omega arith

@@ -27,7 +27,8 @@ use Rattle.sctp_wire.specs.ForwardTsn.{skipped_at, skipped_bytes, IsSkipped, for
 use Rattle.sctp_wire.specs.ForwardTsn.{IsForwardTsn, message_skip_at, message_skip_bytes, IsMessageSkip}
 use Rattle.sctp_wire.specs.ForwardTsn.{i_forward_tsn_of, i_forward_tsn_value, IsIForwardTsn}
 use Rattle.sctp_wire.specs.Reconfig.{reconfig_of, reconfig_params}
-use Rattle.sctp_wire.specs.Chunks.{point_of, chunk_of, chunks_at, chunk_frame, chunk_fits, IsChunk, chunk_is_plain}
+use Rattle.sctp_wire.specs.Chunks.{cumulative_tsn_ack_of, chunk_of, chunks_at, chunk_frame, chunk_fits, IsChunk}
+use Rattle.sctp_wire.specs.Chunks.{chunk_is_plain}
 use Rattle.sctp_wire.proofs.FrameLoop.{ok_is}
 use Rattle.sctp_wire.proofs.ListsWritten.{flat_length, sack_length}
 use Rattle.sctp_wire.proofs.FramesKept.{AreBytes, AreBytes-drop, u16_below, u32_below, bind_ok, choose, frame_kept}
@@ -308,18 +309,21 @@ error_case f c h e =
     subst (ChunkKept (length f.value)) (ok_is (chunks.Error (record { error_causes = a.0 })) c a.2)
     ((k.0.ranges, refl, and_from _ _ k.0.fits (fits_below _ _ k.1 h.short)), k.1)
 
-point_kept : (value : List ℕ) (n : ℕ) → AreBytes value → point_of value ≡ Ok n → IsU32 n × (4 ≤ length value)
-unfolding point_of
-point_kept value n h e =
+cumulative_tsn_ack_kept : (value : List ℕ) (n : ℕ) → AreBytes value → cumulative_tsn_ack_of value ≡ Ok n
+    → IsU32 n × (4 ≤ length value)
+unfolding cumulative_tsn_ack_of
+cumulative_tsn_ack_kept value n h e =
     choose (ltb (length value) 4) _ _ _ e (λ t k. absurd cc)
     (λ t k. let long : 4 ≤ length value = ltb-false _ _ t in
     subst (λ (m : ℕ). IsU32 m × (4 ≤ length value)) (ok_is (u32_at value 0) n k) (u32_below value 0 h, long))
 
-shutdown_case : (f : Frame) (c : Chunk) → Case f c → (point_of f.value >>= λ point. Ok (chunks.Shutdown point)) ≡ Ok c
+shutdown_case : (f : Frame) (c : Chunk) → Case f c
+    → (cumulative_tsn_ack_of f.value >>= λ cumulative_tsn_ack. Ok (chunks.Shutdown cumulative_tsn_ack)) ≡ Ok c
     → ChunkKept (length f.value) c
 shutdown_case f c h e =
-    let a = bind_ok (point_of f.value) (λ point. Ok (chunks.Shutdown point)) c e in
-    let k = point_kept f.value a.0 h.bytes a.1 in
+    let a = bind_ok (cumulative_tsn_ack_of f.value)
+    (λ cumulative_tsn_ack. Ok (chunks.Shutdown cumulative_tsn_ack)) c e in
+    let k = cumulative_tsn_ack_kept f.value a.0 h.bytes a.1 in
     subst (ChunkKept (length f.value)) (ok_is (chunks.Shutdown a.0) c a.2) ((k.0, refl, refl), k.1)
 
 cookie_case : (f : Frame) (c : Chunk) → Case f c → done (chunks.CookieEcho f.value) ≡ Ok c

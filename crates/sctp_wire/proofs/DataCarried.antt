@@ -31,7 +31,8 @@ joined_carries : (w : DataWritten) (c : ChunkPayloadData) → carried (joined_by
 unfolding carried
 joined_carries w c = sym (append_assoc (all_of w.done) w.current (c ∷ []))
 
-data_carries : (w : DataWritten) (c : ChunkPayloadData) → carried (with_data w c) ≡ carried w ++ filter data_fits (c ∷ [])
+data_carries : (w : DataWritten) (c : ChunkPayloadData)
+    → carried (with_data w c) ≡ carried w ++ filter data_fits (c ∷ [])
 data_carries w c =
     ⊎_elim
     (λ (fits : data_fits c ≡ true).
@@ -44,7 +45,8 @@ data_carries w c =
     (λ (long : data_fits c ≡ false). rw long (sym (append-nil (carried w))))
     (cases_Bool (data_fits c))
 
-all_carries : (w : DataWritten) (cs : List ChunkPayloadData) → carried (with_all w cs) ≡ carried w ++ filter data_fits cs
+all_carries : (w : DataWritten) (cs : List ChunkPayloadData)
+    → carried (with_all w cs) ≡ carried w ++ filter data_fits cs
 all_carries w [] = sym (append-nil (carried w))
 all_carries w (c ∷ cs) =
     all_carries (with_data w c) cs
@@ -80,7 +82,8 @@ header_kept : (w : DataWritten) (c : ChunkPayloadData) → (with_data w c).heade
 header_kept w c =
     ⊎_elim
     (λ (fits : data_fits c ≡ true).
-    ⊎_elim (λ (room : has_room w c ≡ true). rw (fits, room) refl) (λ (full : has_room w c ≡ false). rw (fits, full) refl)
+    ⊎_elim (λ (room : has_room w c ≡ true). rw (fits, room) refl)
+    (λ (full : has_room w c ≡ false). rw (fits, full) refl)
     (cases_Bool (has_room w c)))
     (λ (long : data_fits c ≡ false). rw long refl)
     (cases_Bool (data_fits c))

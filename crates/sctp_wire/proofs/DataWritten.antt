@@ -1,5 +1,6 @@
 -- Packets of DATA that are being written.
-use Rattle.std.proofs.Common.{◌≡◌, ℕ, suc, ◌==◌, ◌+◌, ◌*◌, ◌/◌, Bool, true, ◌&&◌, List, [], ◌∷◌, ◌++◌, length, map, max, drop}
+use Rattle.std.proofs.Common.{◌≡◌, ℕ, suc, ◌==◌, ◌+◌, ◌*◌, ◌/◌, Bool, true, ◌&&◌, List, [], ◌∷◌, ◌++◌, length, map, max}
+use Rattle.std.proofs.Common.{drop}
 use Rattle.std.proofs.Common.{refl, sym, ap, subst, ◌∙◌, arith}
 use Rattle.std.specs.List.{list_all, flat_map, AllByRecursion}
 use Rattle.std.proofs.lemmas.Bool.{and_parts, cond-false, false_from_ne_true}
@@ -14,7 +15,8 @@ use Rattle.sctp_wire.specs.Packets.{IsHeader, spelling, unsummed}
 use Rattle.sctp_wire.proofs.PacketsAgain.{packet_again}
 use Rattle.sctp_wire.specs.PayloadData.{IsPayloadData}
 use Rattle.sctp_wire.specs.DataPackets.{IsBeingWritten, being_written, data_among, data_fits, data_in, data_read}
-use Rattle.sctp_wire.specs.DataPackets.{IsDone, IsReadBack, begun, datagrams_of, packet_of, started, summed, unless_empty}
+use Rattle.sctp_wire.specs.DataPackets.{IsDone, IsReadBack, begun, datagrams_of, data_packet, started, summed}
+use Rattle.sctp_wire.specs.DataPackets.{unless_empty}
 use Rattle.sctp_wire.specs.Chunks.{chunk_frame, chunks_at}
 use Rattle.sctp_wire.specs.Frames.{pad_len, zeros}
 use Rattle.sctp_wire.proofs.FramesAgain.{length-zeros}
@@ -66,19 +68,20 @@ bytes_more : (cs : List ChunkPayloadData) (c : ChunkPayloadData)
 bytes_more [] c = append-nil (chunk_bytes (chunks.Data c))
 bytes_more (x ∷ xs) c =
     ap (λ (z : List ℕ). chunk_bytes (chunks.Data x) ++ z) (bytes_more xs c)
-    ∙ sym (append_assoc (chunk_bytes (chunks.Data x)) (flat_map chunk_bytes (as_chunks xs)) (chunk_bytes (chunks.Data c)))
+    ∙ sym (append_assoc (chunk_bytes (chunks.Data x)) (flat_map chunk_bytes (as_chunks xs))
+    (chunk_bytes (chunks.Data c)))
 
 -- The common header, with or without DATA behind it
 
 started_bytes : (header : CommonHeader) (cs : List ChunkPayloadData) (c : ChunkPayloadData)
-    → unsummed (packet_of header (cs ++ c ∷ []))
+    → unsummed (data_packet header (cs ++ c ∷ []))
     ≡ (started header ++ flat_map chunk_bytes (as_chunks cs)) ++ chunk_bytes (chunks.Data c)
 started_bytes header cs c =
     ap (λ (z : List ℕ). started header ++ z) (bytes_more cs c)
     ∙ sym (append_assoc (started header) (flat_map chunk_bytes (as_chunks cs)) (chunk_bytes (chunks.Data c)))
 
 some_behind : (header : CommonHeader) (cs : List ChunkPayloadData) (c : ChunkPayloadData)
-    → being_written header (cs ++ c ∷ []) ≡ unsummed (packet_of header (cs ++ c ∷ []))
+    → being_written header (cs ++ c ∷ []) ≡ unsummed (data_packet header (cs ++ c ∷ []))
 some_behind header [] c = refl
 some_behind header (x ∷ xs) c = refl
 
@@ -122,19 +125,19 @@ nothing_yet header bytes e =
 -- A packet is done.
 
 behind_header : (header : CommonHeader) (cs : List ChunkPayloadData)
-    → drop 12 (spelling (packet_of header cs)) ≡ flat_map chunk_bytes (as_chunks cs)
+    → drop 12 (spelling (data_packet header cs)) ≡ flat_map chunk_bytes (as_chunks cs)
 unfolding spelling
 behind_header header cs = refl
 
 pub read_done : (header : CommonHeader) (cs : List ChunkPayloadData) → AllByRecursion IsPayloadData cs
-    → list_all data_fits cs ≡ true → data_in (spelling (packet_of header cs)) ≡ cs
+    → list_all data_fits cs ≡ true → data_in (spelling (data_packet header cs)) ≡ cs
 read_done header cs ranges fit =
     ap (λ (z : List ℕ). data_read (chunks_at z)) (behind_header header cs)
     ∙ ap data_read (chunks_again (as_chunks cs) (all_ranges cs ranges) (sym (all_fit cs) ∙ fit) (all_plain cs))
     ∙ all_among cs
 
 summed_is : (header : CommonHeader) (cs : List ChunkPayloadData)
-    → summed (unsummed (packet_of header cs)) ≡ spelling (packet_of header cs)
+    → summed (unsummed (data_packet header cs)) ≡ spelling (data_packet header cs)
 unfolding spelling
 summed_is header cs = refl
 
@@ -145,13 +148,13 @@ pub done_is : (header : CommonHeader) (bytes datagram : List ℕ) (c : ChunkPayl
 done_is header bytes datagram c cs e h some put =
     let ranges = subst (AllByRecursion IsPayloadData) e h.ranges in
     let fit : list_all data_fits (c ∷ cs) ≡ true = ap (list_all data_fits) (sym e) ∙ h.fit in
-    let spelled : datagram ≡ spelling (packet_of header (c ∷ cs)) =
+    let spelled : datagram ≡ spelling (data_packet header (c ∷ cs)) =
     put ∙ ap summed (h.bytes_are ∙ ap (being_written header) e) ∙ summed_is header (c ∷ cs) in
     let read : data_in datagram ≡ c ∷ cs = ap data_in spelled ∙ read_done header (c ∷ cs) ranges fit in (
       read,
       record {
         ports = h.ports some;
-        datagram_is = spelled ∙ ap (λ (z : List ChunkPayloadData). spelling (packet_of header z)) (sym read);
+        datagram_is = spelled ∙ ap (λ (z : List ChunkPayloadData). spelling (data_packet header z)) (sym read);
         ranges = subst (AllByRecursion IsPayloadData) (sym read) ranges;
         fit = ap (list_all data_fits) read ∙ fit;
       },
@@ -164,7 +167,8 @@ pub carries_some : (header : CommonHeader) (bytes : List ℕ) (cs : List ChunkPa
 carries_some header bytes [] e h some = absurd (some (h.bytes_are ∙ ap (being_written header) e))
 carries_some header bytes (c ∷ cs) e h some = (c, cs, e)
 
-pub all_more : {X : Type 0} (P : X → Type 0) (xs : List X) (x : X) → AllByRecursion P xs → P x → AllByRecursion P (xs ++ x ∷ [])
+pub all_more : {X : Type 0} (P : X → Type 0) (xs : List X) (x : X) → AllByRecursion P xs → P x
+    → AllByRecursion P (xs ++ x ∷ [])
 all_more P [] x h one = (one, tt)
 all_more P (y ∷ ys) x (h, hs) one = (h, all_more P ys x hs one)
 
@@ -184,21 +188,22 @@ chunk_length c =
 
 pub packet_length : (header : CommonHeader) (bytes : List ℕ) (cs : List ChunkPayloadData) (c : ChunkPayloadData)
     → data_in bytes ≡ cs → IsBeingWritten header bytes
-    → length (unsummed (packet_of header (cs ++ c ∷ []))) ≡ max (length bytes) 12 + (length c.user_data + 19) / 4 * 4
+    → length (unsummed (data_packet header (cs ++ c ∷ []))) ≡ max (length bytes) 12 + (length c.user_data + 19) / 4 * 4
 packet_length header bytes [] c e h =
     let none : length bytes ≡ 0 = ap length (h.bytes_are ∙ ap (being_written header) e) in
     let one = chunk_length c in
-    let all : length (unsummed (packet_of header (c ∷ []))) ≡ 12 + length (chunk_bytes (chunks.Data c)) =
+    let all : length (unsummed (data_packet header (c ∷ []))) ≡ 12 + length (chunk_bytes (chunks.Data c)) =
     ap length (started_bytes header [] c) ∙ length-append (started header ++ []) (chunk_bytes (chunks.Data c)) in
     omega (arith, none, one, all)
 packet_length header bytes (x ∷ xs) c e h =
-    let some : length bytes ≡ length (unsummed (packet_of header (x ∷ xs))) =
+    let some : length bytes ≡ length (unsummed (data_packet header (x ∷ xs))) =
     ap length (h.bytes_are ∙ ap (being_written header) e) in
-    let front : length (unsummed (packet_of header (x ∷ xs))) ≡ 12 + length (flat_map chunk_bytes (as_chunks (x ∷ xs))) =
+    let front : length (unsummed (data_packet header (x ∷ xs)))
+    ≡ 12 + length (flat_map chunk_bytes (as_chunks (x ∷ xs))) =
     length-append (started header) (flat_map chunk_bytes (as_chunks (x ∷ xs))) in
     let one = chunk_length c in
-    let all : length (unsummed (packet_of header ((x ∷ xs) ++ c ∷ [])))
-    ≡ length (unsummed (packet_of header (x ∷ xs))) + length (chunk_bytes (chunks.Data c)) =
+    let all : length (unsummed (data_packet header ((x ∷ xs) ++ c ∷ [])))
+    ≡ length (unsummed (data_packet header (x ∷ xs))) + length (chunk_bytes (chunks.Data c)) =
     ap length (started_bytes header (x ∷ xs) c)
     ∙ length-append (started header ++ flat_map chunk_bytes (as_chunks (x ∷ xs))) (chunk_bytes (chunks.Data c)) in
     omega (arith, some, front, one, all)
@@ -227,7 +232,7 @@ are_datagrams header (d ∷ ds) (one, all) =
 read_back_one : (header : CommonHeader) (cs : List ChunkPayloadData) → IsHeader header
     → AllByRecursion IsPayloadData cs → list_all data_fits cs ≡ true → IsReadBack header cs
 read_back_one header cs ports ranges fit =
-    packet_again (packet_of header cs) (ports, all_ranges cs ranges) (sym (all_fit cs) ∙ fit) (all_plain cs)
+    packet_again (data_packet header cs) (ports, all_ranges cs ranges) (sym (all_fit cs) ∙ fit) (all_plain cs)
 
 pub are_read_back : (header : CommonHeader) (done : List (List ℕ))
     → AllByRecursion (IsDone header) done → AllByRecursion (IsReadBack header) (map data_in done)
@@ -244,7 +249,7 @@ begun_already header byte bytes =
     (false_from_ne_true (length (byte ∷ bytes) == 0) (no_zero (length bytes)))
 
 begun_before : (header : CommonHeader) (cs : List ChunkPayloadData)
-    → begun header (unsummed (packet_of header cs)) ≡ unsummed (packet_of header cs)
+    → begun header (unsummed (data_packet header cs)) ≡ unsummed (data_packet header cs)
 begun_before header cs = begun_already header _ _
 
 -- DATA behind what is being written, or behind the common header
@@ -258,13 +263,13 @@ behind header bytes new [] c e h ports range fits are =
     (are ∙ ap (λ (z : List ℕ). begun header z ++ chunk_bytes (chunks.Data c)) none
     ∙ ap (λ (z : List ℕ). z ++ chunk_bytes (chunks.Data c)) (sym (append-nil (started header))))
 behind header bytes new (x ∷ xs) c e h ports range fits are =
-    let same : bytes ≡ unsummed (packet_of header (x ∷ xs)) = h.bytes_are ∙ ap (being_written header) e in
+    let same : bytes ≡ unsummed (data_packet header (x ∷ xs)) = h.bytes_are ∙ ap (being_written header) e in
     more_written header (x ∷ xs) c new (h.ports (λ none. some_bytes header (x ∷ xs) (sym same ∙ none)))
     (subst (AllByRecursion IsPayloadData) e h.ranges) (ap (list_all data_fits) (sym e) ∙ h.fit) range fits
     (are ∙ ap (λ (z : List ℕ). begun header z ++ chunk_bytes (chunks.Data c)) same
     ∙ ap (λ (z : List ℕ). z ++ chunk_bytes (chunks.Data c)) (begun_before header (x ∷ xs)))
   where
-    some_bytes : (header : CommonHeader) (cs : List ChunkPayloadData) → unsummed (packet_of header cs) ≡ [] → ⊥
+    some_bytes : (header : CommonHeader) (cs : List ChunkPayloadData) → unsummed (data_packet header cs) ≡ [] → ⊥
     some_bytes header cs none = cc
 
 pub more_on : (header : CommonHeader) (bytes new : List ℕ) (c : ChunkPayloadData) → IsBeingWritten header bytes

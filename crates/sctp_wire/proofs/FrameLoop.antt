@@ -9,7 +9,7 @@ use Rattle.sctp_wire_types.specs.declared.error.Fault.TheVariants.{Short, Length
 use Rattle.sctp_wire.specs.declared.error.WireError.{WireError}
 use Rattle.sctp_wire.specs.declared.error.WireError.TheVariants as wire
 use Rattle.sctp_wire.specs.declared.frame.Frame.{Frame}
-use Rattle.sctp_wire.specs.Results.{◌>>=◌, Fails}
+use Rattle.sctp_wire.specs.Results.{◌>>=◌, IsFaultOrNoMemory}
 use Rattle.sctp_wire.specs.Numbers.{u16_at}
 use Rattle.sctp_wire.specs.Frames.{padded_len, frame_at, items_within, items_at, entries_at}
 
@@ -112,8 +112,9 @@ module _ {A : Type 0} (item_of : Frame → Result A Fault) (least : ℕ) (front 
 
 pub frame_fails : {A : Type 0} (item_of : Frame → Result A Fault) (least : ℕ) (front : List A) (bytes : List ℕ)
     (e : WireError) (total : Result (List A) Fault)
-    → least ≤ length bytes → Fails e (frame_at bytes) → with_front front (items_at item_of least bytes) ≡ total
-    → Fails e total
+    → least ≤ length bytes → IsFaultOrNoMemory e (frame_at bytes)
+    → with_front front (items_at item_of least bytes) ≡ total
+    → IsFaultOrNoMemory e total
 frame_fails item_of least front bytes wire.NoMemory total le h so_far = tt
 frame_fails item_of least front bytes (wire.Malformed d) total le h so_far =
     sym so_far ∙ ap (with_front front) (items_fault item_of least bytes d le h)
@@ -122,7 +123,8 @@ module _ {A : Type 0} (item_of : Frame → Result A Fault) (least : ℕ) (front 
     (f : Frame) (rest : List ℕ) where
   pub item_fails : (e : WireError) (total : Result (List A) Fault) → least ≤ length bytes
       → frame_at bytes ≡ Ok (f, rest)
-      → Fails e (item_of f) → with_front front (items_at item_of least bytes) ≡ total → Fails e total
+      → IsFaultOrNoMemory e (item_of f) → with_front front (items_at item_of least bytes) ≡ total
+      → IsFaultOrNoMemory e total
   item_fails wire.NoMemory total le i h so_far = tt
   item_fails (wire.Malformed d) total le i h so_far =
       let step : items_at item_of least bytes ≡ Err d = items_step item_of least bytes f rest le i ∙ rw h refl in

@@ -21,9 +21,9 @@ use Rattle.sctp_wire.specs.ForwardTsn.{forward_tsn_of, forward_tsn_value, IsForw
 use Rattle.sctp_wire.specs.ForwardTsn.{i_forward_tsn_value, IsIForwardTsn}
 use Rattle.sctp_wire.specs.Reconfig.{reconfig_of, reconfig_params}
 
--- the point of a SHUTDOWN (RFC 4960 section 3.3.8)
-unfoldable pub point_of : List ℕ → Result ℕ Fault
-point_of value = if nat_lt (length value) 4 then Err Short else Ok (u32_at value 0)
+-- the cumulative TSN ack of a SHUTDOWN (RFC 4960 section 3.3.8)
+unfoldable pub cumulative_tsn_ack_of : List ℕ → Result ℕ Fault
+cumulative_tsn_ack_of value = if nat_lt (length value) 4 then Err Short else Ok (u32_at value 0)
 
 -- the chunk that a frame spells, by the type in its head
 unfoldable pub chunk_of : Frame → Result Chunk Fault
@@ -39,7 +39,8 @@ chunk_of frame =
     (params_at frame.value >>= λ params. Ok (chunks.HeartbeatAck (record { params = params }))) else
     if frame.head / 256 == 6 then
     (causes_at frame.value >>= λ causes. Ok (chunks.Abort (record { error_causes = causes }))) else
-    if frame.head / 256 == 7 then (point_of frame.value >>= λ point. Ok (chunks.Shutdown point)) else
+    if frame.head / 256 == 7
+    then (cumulative_tsn_ack_of frame.value >>= λ cumulative_tsn_ack. Ok (chunks.Shutdown cumulative_tsn_ack)) else
     if frame.head / 256 == 8 then Ok chunks.ShutdownAck else
     if frame.head / 256 == 9 then
     (causes_at frame.value >>= λ causes. Ok (chunks.Error (record { error_causes = causes }))) else
@@ -63,7 +64,7 @@ chunk_frame (chunks.SelectiveAck c) = framed 768 (selective_ack_value c)
 chunk_frame (chunks.Heartbeat c) = framed 1024 (joined param_frame c.params)
 chunk_frame (chunks.HeartbeatAck c) = framed 1280 (joined param_frame c.params)
 chunk_frame (chunks.Abort c) = framed 1536 (joined cause_frame c.error_causes)
-chunk_frame (chunks.Shutdown point) = framed 1792 (to_be_bytes w32 point)
+chunk_frame (chunks.Shutdown cumulative_tsn_ack) = framed 1792 (to_be_bytes w32 cumulative_tsn_ack)
 chunk_frame chunks.ShutdownAck = framed 2048 []
 chunk_frame (chunks.Error c) = framed 2304 (joined cause_frame c.error_causes)
 chunk_frame (chunks.CookieEcho cookie) = framed 2560 cookie
@@ -99,7 +100,7 @@ IsChunk (chunks.SelectiveAck c) = IsSack c
 IsChunk (chunks.Heartbeat c) = AllByRecursion IsParam c.params
 IsChunk (chunks.HeartbeatAck c) = AllByRecursion IsParam c.params
 IsChunk (chunks.Abort c) = AllByRecursion IsCause c.error_causes
-IsChunk (chunks.Shutdown point) = IsU32 point
+IsChunk (chunks.Shutdown cumulative_tsn_ack) = IsU32 cumulative_tsn_ack
 IsChunk (chunks.Error c) = AllByRecursion IsCause c.error_causes
 IsChunk (chunks.Reconfig c) = AllByRecursion IsParam (reconfig_params c)
 IsChunk (chunks.ForwardTsn c) = IsForwardTsn c

@@ -15,8 +15,8 @@ use Rattle.sctp_wire.specs.Packets.{IsHeader, header_bytes, packet_at, spelling,
 use Rattle.sctp_wire.specs.PayloadData.{IsPayloadData}
 
 -- a packet of this DATA
-abbrev pub packet_of : CommonHeader → List ChunkPayloadData → Packet
-packet_of header pieces = record { common_header = header; chunks = map (λ c. chunks.Data c) pieces }
+abbrev pub data_packet : CommonHeader → List ChunkPayloadData → Packet
+data_packet header pieces = record { common_header = header; chunks = map (λ c. chunks.Data c) pieces }
 
 -- its length fits its length field
 abbrev pub data_fits : ChunkPayloadData → Bool
@@ -44,7 +44,7 @@ data_in bytes = data_read (chunks_at (drop 12 bytes))
 -- its bytes, with zeros for the checksum: none as long as it has no DATA
 abbrev pub being_written : CommonHeader → List ChunkPayloadData → List ℕ
 being_written header [] = []
-being_written header (c ∷ cs) = unsummed (packet_of header (c ∷ cs))
+being_written header (c ∷ cs) = unsummed (data_packet header (c ∷ cs))
 
 pub record IsBeingWritten (header : CommonHeader) (bytes : List ℕ) : Type 0 where
   pub bytes_are : bytes ≡ being_written header (data_in bytes)
@@ -54,7 +54,7 @@ pub record IsBeingWritten (header : CommonHeader) (bytes : List ℕ) : Type 0 wh
 
 -- the datagram of a packet that is done
 pub record IsDone (header : CommonHeader) (datagram : List ℕ) : Type 0 where
-  pub datagram_is : datagram ≡ spelling (packet_of header (data_in datagram))
+  pub datagram_is : datagram ≡ spelling (data_packet header (data_in datagram))
   pub ports : IsHeader header
   pub ranges : AllByRecursion IsPayloadData (data_in datagram)
   pub fit : list_all data_fits (data_in datagram) ≡ true
@@ -94,15 +94,15 @@ all_of bundles = flat_map (λ cs. cs) bundles
 
 -- the packets that are done, as datagrams
 abbrev pub datagrams_of : CommonHeader → List (List ChunkPayloadData) → List (List ℕ)
-datagrams_of header bundles = map (λ cs. spelling (packet_of header cs)) bundles
+datagrams_of header bundles = map (λ cs. spelling (data_packet header cs)) bundles
 
 -- the datagram of this DATA is read as the packet that it was made of
 abbrev pub IsReadBack : CommonHeader → List ChunkPayloadData → Type 0
-IsReadBack header cs = packet_at (spelling (packet_of header cs)) ≡ Ok (packet_of header cs)
+IsReadBack header cs = packet_at (spelling (data_packet header cs)) ≡ Ok (data_packet header cs)
 
 -- with this DATA the packet that is being written is no longer than it may be
 abbrev pub has_room : DataWritten → ChunkPayloadData → Bool
-has_room w c = nat_le (length (unsummed (packet_of w.header (w.current ++ c ∷ [])))) w.mtu
+has_room w c = nat_le (length (unsummed (data_packet w.header (w.current ++ c ∷ [])))) w.mtu
 
 abbrev pub joined_by : DataWritten → ChunkPayloadData → DataWritten
 joined_by w c = record w { current = w.current ++ c ∷ [] }

@@ -14,21 +14,21 @@ abbrev pub ◌>>=◌ : {A B : Type 0} → Result A Fault → (A → Result B Fau
 (Err e) >>= f = Err e
 
 -- the error is the fault that the definition gives, or memory ran out
-abbrev pub Fails : {Y : Type 0} → WireError → Result Y Fault → Type 0
-Fails wire.NoMemory given = Unit {0}
-Fails (wire.Malformed f) given = given ≡ Err f
+abbrev pub IsFaultOrNoMemory : {Y : Type 0} → WireError → Result Y Fault → Type 0
+IsFaultOrNoMemory wire.NoMemory given = Unit {0}
+IsFaultOrNoMemory (wire.Malformed f) given = given ≡ Err f
 
 -- the answer is what the definition gives, its value or its first fault, or memory ran out
 abbrev pub Yields : {Y : Type 0} → Result Y WireError → Result Y Fault → Type 0
 Yields (Ok x) given = given ≡ Ok x
-Yields (Err e) given = Fails e given
+Yields (Err e) given = IsFaultOrNoMemory e given
 
 -- the bytes were written at the end, all of them, where they fit; refused as too long where they do not; or memory ran
 -- out
-abbrev pub Writes : Result (Unit {0}) WireError → Bool → List ℕ → List ℕ → List ℕ → Type 0
-Writes (Ok _) fits old new bytes = (fits ≡ true) × (new ≡ old ++ bytes)
-Writes (Err wire.NoMemory) fits old new bytes = Unit {0}
-Writes (Err (wire.Malformed f)) fits old new bytes = (fits ≡ false) × (f ≡ Long)
+abbrev pub Appends : Result (Unit {0}) WireError → Bool → List ℕ → List ℕ → List ℕ → Type 0
+Appends (Ok _) fits old new bytes = (fits ≡ true) × (new ≡ old ++ bytes)
+Appends (Err wire.NoMemory) fits old new bytes = Unit {0}
+Appends (Err (wire.Malformed f)) fits old new bytes = (fits ≡ false) × (f ≡ Long)
 
 -- a buffer of these bytes was made, where they fit
 abbrev pub Builds : Result (Vec ℕ) WireError → Bool → List ℕ → Type 0

@@ -8,7 +8,7 @@ mod selective_ack;
 
 ghost use Rattle.std.specs.Prelude.{◌≡◌, ◌≢◌, ◌+◌, ◌*◌, ◌/◌, ◌++◌, ◌&&◌, OnOk};
 ghost use Rattle.std.specs.List.{flat_map, list_all, AllByRecursion};
-ghost use Rattle.sctp_wire.specs.Results.{Yields, Writes};
+ghost use Rattle.sctp_wire.specs.Results.{Yields, Appends};
 ghost use Rattle.sctp_wire.specs.Frames.{padded, frame_fits};
 ghost use Rattle.sctp_wire.specs.Chunks.{chunk_of, chunks_at, chunk_frame, parts_fit, chunk_fits, chunk_bytes, IsChunk};
 
@@ -19,7 +19,7 @@ use crate::param::{read_causes, read_params};
 use bytes::Bytes;
 use forward_tsn::{put_forward_tsn, put_i_forward_tsn, read_forward_tsn, read_i_forward_tsn};
 use init::{put_init, read_init};
-use other::{head_of, put_causes, put_params, put_point, read_point};
+use other::{head_of, put_causes, put_cumulative_tsn_ack, put_params, read_cumulative_tsn_ack};
 pub(crate) use payload_data::put_payload_data;
 use payload_data::read_payload_data;
 use reconfig::{put_reconfig, read_reconfig};
@@ -63,7 +63,7 @@ fn read_other(alloc: Global, frame: Frame) -> Result<Chunk, WireError>
         6 => Ok(Chunk::Abort(ChunkAbort {
             error_causes: read_causes(alloc, value)?,
         })),
-        7 => Ok(Chunk::Shutdown(read_point(value.as_slice())?)),
+        7 => Ok(Chunk::Shutdown(read_cumulative_tsn_ack(value.as_slice())?)),
         8 => Ok(Chunk::ShutdownAck),
         9 => Ok(Chunk::Error(ChunkError {
             error_causes: read_causes(alloc, value)?,
@@ -83,7 +83,7 @@ fn read_other(alloc: Global, frame: Frame) -> Result<Chunk, WireError>
 }
 
 fn put_chunk(alloc: Global, out: &mut Vec<u8>, chunk: &Chunk) -> Result<(), WireError>
-    ensures bytes { Writes result (chunk_fits chunk.now) out.old.items out.new.items (chunk_bytes chunk.now) }
+    ensures bytes { Appends result (chunk_fits chunk.now) out.old.items out.new.items (chunk_bytes chunk.now) }
     ensures range { OnOk result (IsChunk chunk.now) }
 {
     match chunk {
@@ -94,7 +94,7 @@ fn put_chunk(alloc: Global, out: &mut Vec<u8>, chunk: &Chunk) -> Result<(), Wire
         Chunk::Heartbeat(heartbeat) => put_params(alloc, out, 1024, heartbeat.params.as_slice()),
         Chunk::HeartbeatAck(heartbeat) => put_params(alloc, out, 1280, heartbeat.params.as_slice()),
         Chunk::Abort(abort) => put_causes(alloc, out, 1536, abort.error_causes.as_slice()),
-        Chunk::Shutdown(point) => put_point(out, *point),
+        Chunk::Shutdown(cumulative_tsn_ack) => put_cumulative_tsn_ack(out, *cumulative_tsn_ack),
         Chunk::ShutdownAck => put_padded(out, 2048, &[]),
         Chunk::Error(error) => put_causes(alloc, out, 2304, error.error_causes.as_slice()),
         Chunk::CookieEcho(cookie) => put_padded(out, 2560, cookie.as_slice()),
@@ -122,7 +122,7 @@ pub(crate) fn write_chunks(
     out: &mut Vec<u8>,
     chunks: &[Chunk],
 ) -> Result<(), WireError>
-    ensures bytes { Writes result (list_all chunk_fits chunks.now) out.old.items out.new.items
+    ensures bytes { Appends result (list_all chunk_fits chunks.now) out.old.items out.new.items
         (flat_map chunk_bytes chunks.now) }
     ensures range { OnOk result (AllByRecursion IsChunk chunks.now) }
 {

@@ -1,7 +1,7 @@
 // Frames: what chunks, parameters and error causes have in common.
 ghost use Rattle.std.specs.Prelude.{◌≡◌, ◌<◌, ◌+◌, ◌++◌, length, IfOk, OnOk};
 ghost use Rattle.std.specs.Int.{w16, to_be_bytes};
-ghost use Rattle.sctp_wire.specs.Results.{Yields, Writes};
+ghost use Rattle.sctp_wire.specs.Results.{Yields, Appends};
 ghost use Rattle.sctp_wire.specs.Numbers.{IsU16};
 ghost use Rattle.sctp_wire.specs.Frames.{pad_len, padded_len, frame_at, zeros, framed, bare, padded, frame_fits};
 ghost use Rattle.sctp_wire.specs.Frames.{WritesBare};
@@ -91,7 +91,7 @@ pub(crate) fn put_padding(out: &mut Vec<u8>, len: usize) -> Result<(), AllocErro
 
 /// A frame with its padding.
 pub(crate) fn put_padded(out: &mut Vec<u8>, head: u16, value: &[u8]) -> Result<(), WireError>
-    ensures { Writes result (frame_fits (framed head value.now)) out.old.items out.new.items
+    ensures { Appends result (frame_fits (framed head value.now)) out.old.items out.new.items
         (padded (framed head value.now)) }
 {
     let len = put_bare(out, head, value)?;

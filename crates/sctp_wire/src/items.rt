@@ -3,7 +3,7 @@ ghost use Rattle.std.specs.Prelude.{◌≡◌, ◌+◌, ◌<◌, ◌^◌, Bool, 
 ghost use Rattle.std.specs.List.{list_all, AllByRecursion};
 ghost use Rattle.sctp_wire_types.specs.declared.error.Fault.{Fault as Faults};
 ghost use Rattle.sctp_wire.specs.declared.frame.Frame.{Frame as Framed};
-ghost use Rattle.sctp_wire.specs.Results.{Yields, Writes};
+ghost use Rattle.sctp_wire.specs.Results.{Yields, Appends};
 ghost use Rattle.sctp_wire.specs.Frames.{items_at, bare, frame_fits, joined, WritesBare};
 
 use crate::error::WireError;
@@ -58,7 +58,7 @@ pub(crate) fn put_items<T: PutItem>(
     out: &mut Vec<u8>,
     items: &[T],
 ) -> Result<(), WireError>
-    ensures bytes { Writes result (list_all (λ x. frame_fits (T.frame_of x)) items.now) out.old.items out.new.items
+    ensures bytes { Appends result (list_all (λ x. frame_fits (T.frame_of x)) items.now) out.old.items out.new.items
         (joined T.frame_of items.now) }
     ensures range { OnOk result (AllByRecursion T.IsItem items.now) }
 {

@@ -1,11 +1,12 @@
-use Rattle.sctp_sides.proofs.Proved.{data_is_taken, greetings_meet, other_chunks_do_nothing, other_sacks_do_nothing}
+use Rattle.sctp_sides.proofs.Proved.{data_opens_or_takes, greetings_make_the_peer_known, other_chunks_do_nothing}
+use Rattle.sctp_sides.proofs.Proved.{other_sacks_do_nothing}
 use Rattle.sctp_sides.proofs.Proved.{polls_give_and_report, polls_outside_established_give_what_waits}
 use Rattle.sctp_sides.proofs.Proved.{polls_say_their_acts, sacks_acknowledge, taken_sacks_acknowledge}
 use Rattle.sctp_sides.proofs.Proved.{timeouts_mark_at_most, what_waits_goes_out_as_it_is}
 use Rattle.sctp_sides.proofs.calls_are_made_of_acts.Goals as goal
 
 pub returns-clause-data : goal.returns-clause-data
-returns-clause-data c = data_is_taken
+returns-clause-data c = data_opens_or_takes
 
 pub returns-clause-sack : goal.returns-clause-sack
 returns-clause-sack c = sacks_acknowledge
@@ -32,7 +33,7 @@ pub returns-clause-timeouts : goal.returns-clause-timeouts
 returns-clause-timeouts c = timeouts_mark_at_most
 
 pub returns-clause-greeting : goal.returns-clause-greeting
-returns-clause-greeting c = greetings_meet
+returns-clause-greeting c = greetings_make_the_peer_known
 
 pub returns-clause-waiting : goal.returns-clause-waiting
 returns-clause-waiting c = what_waits_goes_out_as_it_is

@@ -1,6 +1,6 @@
 // FORWARD TSN (RFC 3758 section 3.2) and I-FORWARD-TSN (RFC 8260 section 2.3.1).
 ghost use Rattle.std.specs.Prelude.{◌≡◌, ◌++◌, OnOk};
-ghost use Rattle.sctp_wire.specs.Results.{Yields, Writes};
+ghost use Rattle.sctp_wire.specs.Results.{Yields, Appends};
 ghost use Rattle.sctp_wire.specs.Frames.{framed, padded, frame_fits};
 ghost use Rattle.sctp_wire.specs.ForwardTsn.{skipped_at, skipped_bytes, IsSkipped, forward_tsn_of, forward_tsn_value};
 ghost use Rattle.sctp_wire.specs.ForwardTsn.{IsForwardTsn, message_skip_at, message_skip_bytes, IsMessageSkip};
@@ -58,7 +58,7 @@ pub(crate) fn put_forward_tsn(
     out: &mut Vec<u8>,
     forward: &ChunkForwardTsn,
 ) -> Result<(), WireError>
-    ensures bytes { Writes result (frame_fits (framed 49152 (forward_tsn_value forward.now)))
+    ensures bytes { Appends result (frame_fits (framed 49152 (forward_tsn_value forward.now)))
         out.old.items out.new.items (padded (framed 49152 (forward_tsn_value forward.now))) }
     ensures range { OnOk result (IsForwardTsn forward.now) }
 {
@@ -115,7 +115,7 @@ pub(crate) fn put_i_forward_tsn(
     out: &mut Vec<u8>,
     forward: &ChunkIForwardTsn,
 ) -> Result<(), WireError>
-    ensures bytes { Writes result (frame_fits (framed 49664 (i_forward_tsn_value forward.now)))
+    ensures bytes { Appends result (frame_fits (framed 49664 (i_forward_tsn_value forward.now)))
         out.old.items out.new.items (padded (framed 49664 (i_forward_tsn_value forward.now))) }
     ensures range { OnOk result (IsIForwardTsn forward.now) }
 {

@@ -1,7 +1,7 @@
 // INIT and INIT ACK (RFC 4960 sections 3.3.2 and 3.3.3).
 ghost use Rattle.std.specs.Prelude.{◌≡◌, ◌++◌, ◌&&◌, OnOk};
 ghost use Rattle.std.specs.List.{list_all};
-ghost use Rattle.sctp_wire.specs.Results.{Yields, Writes};
+ghost use Rattle.sctp_wire.specs.Results.{Yields, Appends};
 ghost use Rattle.sctp_wire.specs.Frames.{framed, padded, frame_fits};
 ghost use Rattle.sctp_wire.specs.Params.{param_fits};
 ghost use Rattle.sctp_wire.specs.Init.{init_of, init_value, IsInit};
@@ -47,7 +47,7 @@ pub(crate) fn put_init(
     head: u16,
     init: &ChunkInit,
 ) -> Result<(), WireError>
-    ensures bytes { Writes result
+    ensures bytes { Appends result
         (list_all param_fits init.now.params && frame_fits (framed head (init_value init.now)))
         out.old.items out.new.items (padded (framed head (init_value init.now))) }
     ensures range { OnOk result (IsInit init.now) }

@@ -1,6 +1,6 @@
 // DATA (RFC 4960 section 3.3.1).
 ghost use Rattle.std.specs.Prelude.{◌≡◌, ◌≤◌, ◌++◌, OnOk};
-ghost use Rattle.sctp_wire.specs.Results.{Yields, Writes};
+ghost use Rattle.sctp_wire.specs.Results.{Yields, Appends};
 ghost use Rattle.sctp_wire.specs.Numbers.{bit};
 ghost use Rattle.sctp_wire.specs.Frames.{framed, padded, frame_fits};
 ghost use Rattle.sctp_wire.specs.PayloadData.{payload_data_of, payload_data_flags, payload_data_value, IsPayloadData};
@@ -69,7 +69,7 @@ fn put_payload_fields(out: &mut Vec<u8>, piece: &ChunkPayloadData) -> Result<(),
 
 // The payload goes straight into the output.
 pub(crate) fn put_payload_data(out: &mut Vec<u8>, piece: &ChunkPayloadData) -> Result<(), WireError>
-    ensures bytes { Writes result (frame_fits (framed (payload_data_flags piece.now) (payload_data_value piece.now)))
+    ensures bytes { Appends result (frame_fits (framed (payload_data_flags piece.now) (payload_data_value piece.now)))
         out.old.items out.new.items (padded (framed (payload_data_flags piece.now) (payload_data_value piece.now))) }
     ensures range { OnOk result (IsPayloadData piece.now) }
 {

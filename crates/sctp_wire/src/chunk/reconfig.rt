@@ -1,7 +1,7 @@
 // RE-CONFIG (RFC 6525 section 3.1).
 ghost use Rattle.std.specs.Prelude.{◌≡◌, ◌++◌, ◌&&◌, OnOk};
 ghost use Rattle.std.specs.List.{list_all, AllByRecursion};
-ghost use Rattle.sctp_wire.specs.Results.{Yields, Writes};
+ghost use Rattle.sctp_wire.specs.Results.{Yields, Appends};
 ghost use Rattle.sctp_wire.specs.Frames.{framed, padded, frame_fits, joined};
 ghost use Rattle.sctp_wire.specs.Params.{param_frame, param_fits, IsParam};
 ghost use Rattle.sctp_wire.specs.Reconfig.{reconfig_of, reconfig_list, reconfig_params};
@@ -40,8 +40,8 @@ fn put_reconfig_params(
     first: &Param,
     second: &Option<Param>,
 ) -> Result<(), WireError>
-    ensures bytes { Writes result (list_all param_fits (reconfig_list first.now second.now)) out.old.items out.new.items
-        (joined param_frame (reconfig_list first.now second.now)) }
+    ensures bytes { Appends result (list_all param_fits (reconfig_list first.now second.now))
+        out.old.items out.new.items (joined param_frame (reconfig_list first.now second.now)) }
     ensures range { OnOk result (AllByRecursion IsParam (reconfig_list first.now second.now)) }
 {
     let len = first.put(alloc, out)?;
@@ -60,7 +60,7 @@ pub(crate) fn put_reconfig(
     out: &mut Vec<u8>,
     reconfig: &ChunkReconfig,
 ) -> Result<(), WireError>
-    ensures bytes { Writes result (list_all param_fits (reconfig_params reconfig.now)
+    ensures bytes { Appends result (list_all param_fits (reconfig_params reconfig.now)
         && frame_fits (framed 33280 (joined param_frame (reconfig_params reconfig.now))))
         out.old.items out.new.items (padded (framed 33280 (joined param_frame (reconfig_params reconfig.now)))) }
     ensures range { OnOk result (AllByRecursion IsParam (reconfig_params reconfig.now)) }

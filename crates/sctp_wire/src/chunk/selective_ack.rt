@@ -1,6 +1,6 @@
 // SACK (RFC 4960 section 3.3.4).
 ghost use Rattle.std.specs.Prelude.{◌≡◌, ◌<◌, ◌++◌, length, OnOk};
-ghost use Rattle.sctp_wire.specs.Results.{Yields, Writes};
+ghost use Rattle.sctp_wire.specs.Results.{Yields, Appends};
 ghost use Rattle.sctp_wire.specs.Frames.{framed, padded, frame_fits};
 ghost use Rattle.sctp_wire.specs.SelectiveAck.{block_at, block_bytes, IsBlock, selective_ack_of, selective_ack_value};
 ghost use Rattle.sctp_wire.specs.SelectiveAck.{IsSack};
@@ -82,7 +82,7 @@ pub(crate) fn put_selective_ack(
     out: &mut Vec<u8>,
     sack: &ChunkSelectiveAck,
 ) -> Result<(), WireError>
-    ensures bytes { Writes result (frame_fits (framed 768 (selective_ack_value sack.now)))
+    ensures bytes { Appends result (frame_fits (framed 768 (selective_ack_value sack.now)))
         out.old.items out.new.items (padded (framed 768 (selective_ack_value sack.now))) }
     ensures range { OnOk result (IsSack sack.now) }
 {

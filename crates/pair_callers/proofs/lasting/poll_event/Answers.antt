@@ -1,4 +1,4 @@
-use Rattle.pair_callers.proofs.NotEnded.{polls_end_no_span, polls_pass_nothing}
+use Rattle.pair_callers.proofs.LastingFacts.{polls_end_no_span, polls_pass_nothing}
 use Rattle.pair_callers.proofs.lasting.poll_event.Goals as goal
 
 pub returns-clause-span : goal.returns-clause-span

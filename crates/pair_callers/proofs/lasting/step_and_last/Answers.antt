@@ -1,4 +1,4 @@
-use Rattle.pair_callers.proofs.NotEnded.{closed_on, over_on, receives_on, reliable_on}
+use Rattle.pair_callers.proofs.LastingFacts.{closed_on, over_on, receives_on, reliable_on}
 use Rattle.pair_callers.proofs.lasting.step_and_last.Goals as goal
 
 pub returns-clause-reliable : goal.returns-clause-reliable

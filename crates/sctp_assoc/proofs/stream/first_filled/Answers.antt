@@ -1,4 +1,4 @@
--- What stands at the place found, and what is left where it is emptied.
+-- What stands at the index found, and what is left where it is emptied.
 use Rattle.sctp_assoc.proofs.FilledBuffers.{empties_the_first, is_the_first, none_has_bytes}
 use Rattle.sctp_assoc.proofs.stream.first_filled.Goals as goal
 

@@ -1,5 +1,5 @@
 use Rattle.sctp_fit.proofs.FlightAcknowledged.{acknowledgements_are_alike}
-use Rattle.sctp_fit.proofs.Pinned.{senders_are_pinned, what_is_released_is_not_buffered}
+use Rattle.sctp_fit.proofs.SendersPinned.{senders_are_pinned, what_is_released_is_not_buffered}
 use Rattle.sctp_fit.proofs.acknowledgements.acknowledgements_are_alike.Goals as goal
 
 pub returns-clause-acknowledged : goal.returns-clause-acknowledged

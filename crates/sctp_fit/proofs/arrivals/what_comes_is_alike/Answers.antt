@@ -1,7 +1,7 @@
 use Rattle.sctp_fit.proofs.DataTaken.{new_tsns_spell_their_offsets, opened_streams_are_alike, reports_change_nothing}
 use Rattle.sctp_fit.proofs.DataTaken.{what_is_taken_in_comes}
 use Rattle.sctp_fit.proofs.QueuesPinned.{readers_are_pinned}
-use Rattle.sctp_fit.proofs.ReadsAnswered.{reads_are_alike, the_same_is_ready}
+use Rattle.sctp_fit.proofs.ReadsAnswered.{reads_are_alike, the_same_streams_are_ready}
 use Rattle.sctp_fit.proofs.arrivals.what_comes_is_alike.Goals as goal
 
 pub returns-clause-offsets : goal.returns-clause-offsets
@@ -20,7 +20,7 @@ pub returns-clause-reads : goal.returns-clause-reads
 returns-clause-reads c = reads_are_alike
 
 pub returns-clause-ready : goal.returns-clause-ready
-returns-clause-ready c = the_same_is_ready
+returns-clause-ready c = the_same_streams_are_ready
 
 pub returns-clause-pinned : goal.returns-clause-pinned
 returns-clause-pinned c = readers_are_pinned

@@ -1,4 +1,4 @@
-use Rattle.sctp_fit.proofs.Marks.{marks_are_no_events}
+use Rattle.sctp_fit.proofs.MarksSayNothing.{marks_are_no_events}
 use Rattle.sctp_fit.proofs.NextPiece.{sent_pieces_are_events}
 use Rattle.sctp_fit.proofs.SentAgain.{pieces_are_given}
 use Rattle.sctp_fit.proofs.sendings.sent_pieces_are_events.Goals as goal

@@ -1,6 +1,6 @@
 use Rattle.std.proofs.Common.{arith, ◌∙◌}
 use Rattle.sctp_outbound_queue.specs.Message.{outstanding_bytes_of}
-use Rattle.sctp_outbound_queue.proofs.ByteSums.{fold_saturates}
+use Rattle.sctp_outbound_queue.proofs.QueuedBytes.{fold_saturates}
 use Rattle.sctp_outbound_queue.proofs.walks.bytes_of_message.Goals as goal
 
 pub returns : goal.returns

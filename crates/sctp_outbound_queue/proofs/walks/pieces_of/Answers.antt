@@ -1,6 +1,6 @@
 use Rattle.std.proofs.Common.{arith, ◌∙◌}
 use Rattle.sctp_outbound_queue.specs.Message.{piece_count}
-use Rattle.sctp_outbound_queue.proofs.ByteSums.{fold_saturates_twice}
+use Rattle.sctp_outbound_queue.proofs.QueuedBytes.{fold_saturates_twice}
 use Rattle.sctp_outbound_queue.proofs.walks.pieces_of.Goals as goal
 
 pub returns : goal.returns

@@ -2,7 +2,8 @@ use Rattle.std.proofs.Common.{rules, ◌+◌, ◌-◌, ◌∙◌, ap, arith, eqb
 use Rattle.sctp_outbound.specs.GapAcks.{acked_among, is_named_by, timed, trips_from}
 use Rattle.sctp_outbound.specs.declared.sender.Sender.{Sender}
 use Rattle.sctp_streams.proofs.LowMarks.{gathers_both, gathers_nothing}
-use Rattle.sctp_outbound.proofs.GapAcks.{Acknowledges, acknowledges_none, acknowledges_both, acknowledges_same, passed}
+use Rattle.sctp_outbound.proofs.GapAcks.{AcknowledgesNamed, acknowledges_none, acknowledges_both, acknowledges_same}
+use Rattle.sctp_outbound.proofs.GapAcks.{passed}
 use Rattle.sctp_outbound.proofs.GapAcks.{passed_none, passed_more, passed_all, trips_done, trips_step}
 use Rattle.sctp_outbound.proofs.sender.Sender.acknowledge_block.Goals as goal
 
@@ -17,7 +18,7 @@ loop-index-init c = (
 
 pub loop-index-preserved : goal.loop-index-preserved
 loop-index-preserved c = (
-  subst (Acknowledges (passed c.saturating_sub-first.result c.min-count.result (c.loop-index.index + 1))
+  subst (AcknowledgesNamed (passed c.saturating_sub-first.result c.min-count.result (c.loop-index.index + 1))
       c.args.self.now c.acknowledge_at-other.new.self c.args.streams.now c.acknowledge_at-other.new.streams)
       (sym c.greatest_of-newest.ensures)
       (acknowledges_both (passed c.saturating_sub-first.result c.min-count.result (c.loop-index.index + 1))

@@ -3,7 +3,8 @@ use Rattle.sctp_outbound.specs.GapAcks.{acked_among, is_named_by, round_trips, t
 use Rattle.sctp_outbound.specs.declared.sender.Sender.{Sender}
 use Rattle.sctp_received.specs.Received.{is_named}
 use Rattle.sctp_streams.proofs.LowMarks.{gathers_both, gathers_nothing}
-use Rattle.sctp_outbound.proofs.GapAcks.{Acknowledges, acknowledges_none, acknowledges_both, acknowledges_same, named_more, named_all}
+use Rattle.sctp_outbound.proofs.GapAcks.{AcknowledgesNamed, acknowledges_none, acknowledges_both, acknowledges_same}
+use Rattle.sctp_outbound.proofs.GapAcks.{named_more, named_all}
 use Rattle.sctp_outbound.proofs.GapAcks.{all_taken, blocks_done, blocks_step, no_block}
 use Rattle.sctp_outbound.proofs.sender.Sender.acknowledge_blocks.Goals as goal
 
@@ -17,7 +18,7 @@ loop-block-init c = (
 
 pub loop-block-preserved : goal.loop-block-preserved
 loop-block-preserved c = (
-  subst (Acknowledges (λ j. is_named (j + 1) (take (c.loop-block.block-index + 1) c.args.blocks.now))
+  subst (AcknowledgesNamed (λ j. is_named (j + 1) (take (c.loop-block.block-index + 1) c.args.blocks.now))
       c.args.self.now c.acknowledge_block-other.new.self c.args.streams.now c.acknowledge_block-other.new.streams)
       (sym c.greatest_of-newest.ensures)
       (acknowledges_both (λ j. is_named (j + 1) (take (c.loop-block.block-index + 1) c.args.blocks.now))
@@ -29,7 +30,8 @@ loop-block-preserved c = (
       })
       (λ j l. named_more c.args.blocks.now c.as_slice-block-items.result.now c.loop-block.block-index j
       c.as_slice-block-items.ensures c.loop-block-test.true)),
-  ap (λ z. timed c.next_tsn-next_tsn.result (round_trips c.args.now (drop (c.loop-block.block-index + 1) c.args.blocks.now) z)
+  ap (λ z. timed c.next_tsn-next_tsn.result
+      (round_trips c.args.now (drop (c.loop-block.block-index + 1) c.args.blocks.now) z)
       (c.acknowledge_block-other.new.self.min_tsn2measure_rtt, c.acknowledge_block-other.new.rto))
       (ap (λ (z : Sender). z.queue.in_flight) c.acknowledge_block-other.ensures.pieces)
       ∙ ap (λ z. timed c.next_tsn-next_tsn.result (round_trips c.args.now

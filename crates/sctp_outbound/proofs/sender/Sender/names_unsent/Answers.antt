@@ -1,5 +1,5 @@
 use Rattle.std.proofs.Common.{length}
-use Rattle.sctp_outbound.proofs.Offsets.{names_sets}
+use Rattle.sctp_outbound.proofs.BlockOffsets.{names_sets}
 use Rattle.sctp_outbound.proofs.sender.Sender.names_unsent.Goals as goal
 
 pub returns-clause-sets : goal.returns-clause-sets

@@ -1,5 +1,5 @@
 use Rattle.std.proofs.Common.{arith, ◌∙◌, length}
-use Rattle.sctp_outbound_queue.proofs.ByteSums.{fold_saturates}
+use Rattle.sctp_outbound_queue.proofs.QueuedBytes.{fold_saturates}
 use Rattle.sctp_outbound_queue.proofs.message.PendingMessage.bytes.Goals as goal
 
 pub returns : goal.returns

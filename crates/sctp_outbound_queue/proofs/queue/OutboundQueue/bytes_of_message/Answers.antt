@@ -1,5 +1,5 @@
 use Rattle.std.proofs.Common.{arith, ◌∙◌}
-use Rattle.sctp_outbound_queue.proofs.ByteSums.{flagged_sum}
+use Rattle.sctp_outbound_queue.proofs.QueuedBytes.{flagged_sum}
 use Rattle.sctp_outbound_queue.proofs.queue.OutboundQueue.bytes_of_message.Goals as goal
 
 pub returns : goal.returns

@@ -1,6 +1,6 @@
 use Rattle.std.proofs.Common.{◌≡◌, ap}
 use Rattle.sctp_outbound_queue.specs.Waiting.{Waiting}
-use Rattle.sctp_outbound_queue.proofs.ByteSums.{kept_same, kept_dropped, dropped_bytes, expiry_is}
+use Rattle.sctp_outbound_queue.proofs.QueuedBytes.{kept_same, kept_dropped, dropped_bytes, expiry_is}
 use Rattle.sctp_outbound_queue.proofs.queue.OutboundQueue.expire_pending.Goals as goal
 
 pub invariant_of-self-in-None : goal.invariant_of-self-in-None

@@ -1,5 +1,5 @@
 use Rattle.std.proofs.Common.{arith}
-use Rattle.sctp_outbound_queue.proofs.ByteSums.{flagged_sum, kept_flagged}
+use Rattle.sctp_outbound_queue.proofs.QueuedBytes.{flagged_sum, kept_flagged}
 use Rattle.sctp_outbound_queue.proofs.queue.OutboundQueue.flag.Goals as goal
 
 pub overflow_sub-self : goal.overflow_sub-self

@@ -1,7 +1,7 @@
 use Rattle.std.proofs.Common.{ap, arith, sym, ◌∙◌}
 use Rattle.sctp_outbound_queue.specs.Outbound.{outstanding_of}
 use Rattle.sctp_outbound_queue.specs.Message.{marked_again}
-use Rattle.sctp_outbound_queue.proofs.ByteSums.{marked_sum}
+use Rattle.sctp_outbound_queue.proofs.QueuedBytes.{marked_sum}
 use Rattle.sctp_outbound_queue.proofs.FirstOutstanding.{after_change, marked}
 use Rattle.sctp_outbound_queue.proofs.queue.OutboundQueue.mark_all_to_retransmit.Goals as goal
 
@@ -12,5 +12,6 @@ invariant_of-self c = (
       ∙ sym (ap outstanding_of c.mark_all-self-inside.ensures.marked ∙ marked_sum c.self.inside.in_flight.items),
   c.self.invariant.2,
   c.mark_all-self-inside.ensures.count,
-  rw c.mark_all-self-inside.ensures.marked (omega (arith, after_change marked_again marked c.self.inside.in_flight.items, c.self.invariant.4)),
+  rw c.mark_all-self-inside.ensures.marked
+      (omega (arith, after_change marked_again marked c.self.inside.in_flight.items, c.self.invariant.4)),
 )

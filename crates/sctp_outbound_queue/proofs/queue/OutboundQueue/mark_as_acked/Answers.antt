@@ -1,7 +1,7 @@
 use Rattle.std.proofs.Common.{◌≡◌, true, false, ⊎_elim}
 use Rattle.std.proofs.Math.Bool.{cond}
 use Rattle.std.proofs.lemmas.Bool.{cases_Bool}
-use Rattle.sctp_outbound_queue.proofs.ByteSums.{kept_acked}
+use Rattle.sctp_outbound_queue.proofs.QueuedBytes.{kept_acked}
 use Rattle.sctp_outbound_queue.proofs.FirstOutstanding.{item_there}
 use Rattle.sctp_outbound_queue.proofs.queue.OutboundQueue.mark_as_acked.Goals as goal
 

@@ -16,5 +16,9 @@ invariant_of-self c = (
       ∙ sym (ap marked_of c.report_missing.ensures.counted
       ∙ as_many_marked c.args.count c.self.inside.in_flight.items),
   rw c.report_missing.ensures.counted
-      (omega (arith, after_reports reported_missing reported c.args.count c.self.inside.in_flight.items, c.self.invariant.4)),
+      (omega (
+        arith,
+        after_reports reported_missing reported c.args.count c.self.inside.in_flight.items,
+        c.self.invariant.4,
+      )),
 )

@@ -1,4 +1,4 @@
-use Rattle.sctp_outbound_queue.proofs.ByteSums.{kept_sent}
+use Rattle.sctp_outbound_queue.proofs.QueuedBytes.{kept_sent}
 use Rattle.sctp_outbound_queue.proofs.queue.OutboundQueue.send_next.Goals as goal
 
 pub invariant_of-self-in-Some : goal.invariant_of-self-in-Some

@@ -1,4 +1,4 @@
-use Rattle.sctp_outbound_queue.proofs.ByteSums.{kept_started}
+use Rattle.sctp_outbound_queue.proofs.QueuedBytes.{kept_started}
 use Rattle.sctp_outbound_queue.proofs.queue.OutboundQueue.start_timed_messages.Goals as goal
 
 pub invariant_of-self : goal.invariant_of-self

@@ -1,5 +1,5 @@
 use Rattle.std.proofs.Common.{rules}
-use Rattle.sctp_receive_queues.proofs.Ascending.{none_has, end_is_place}
+use Rattle.sctp_receive_queues.proofs.Ascending.{none_has, end_is_index}
 use Rattle.sctp_receive_queues.proofs.groups.Groups.is_past_all.Goals as goal
 
 pub returns-then-self-clause-none : goal.returns-then-self-clause-none
@@ -10,4 +10,4 @@ returns-then-self-clause-none c t =
 pub returns-then-self-clause-last : goal.returns-then-self-clause-last
 returns-then-self-clause-last c t =
     rw (← c.self.view_is)
-    (end_is_place c.self.inside.list.items c.args.ssn (c.self.invariant (search rules)) (search rules) (search rules))
+    (end_is_index c.self.inside.list.items c.args.ssn (c.self.invariant (search rules)) (search rules) (search rules))

@@ -2,7 +2,7 @@ use Rattle.std.proofs.Common.{◌≡◌, ◌∙◌, ◌<◌, ◌^◌, length, no
 use Rattle.sctp_wire_types.specs.declared.chunk.ChunkPayloadData.{ChunkPayloadData}
 use Rattle.sctp_serial.specs.Serial.{tsn_lte}
 use Rattle.sctp_receive_queues.specs.Pieces.{bytes_of}
-use Rattle.sctp_receive_queues.proofs.ByteSums.{saturated_sum, filter_sum}
+use Rattle.sctp_receive_queues.proofs.SaturatedSums.{saturated_sum, filter_sum}
 use Rattle.sctp_receive_queues.proofs.pieces.Pieces.drop_up_to.Goals as goal
 
 pub invariant_of-self : goal.invariant_of-self

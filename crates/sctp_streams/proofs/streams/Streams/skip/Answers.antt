@@ -16,7 +16,8 @@ invariant_of-self-2 c =
     let less = skipped_bytes s last c.args.ssn c.skip.ensures in
     let held = c.waiting_bytes-held.ensures in
     let left = c.waiting_bytes.ensures in
-    let dropped : c.saturating_sub-dropped.result ≡ c.waiting_bytes-held.result - c.waiting_bytes.result = search rules in
+    let dropped : c.saturating_sub-dropped.result
+    ≡ c.waiting_bytes-held.result - c.waiting_bytes.result = search rules in
     let rest : c.saturating_sub-self-inside.result ≡ c.self.inside.waiting - c.saturating_sub-dropped.result =
     search rules in (
       omega (arith, e, less, held, left, dropped, rest, c.self.invariant.0),

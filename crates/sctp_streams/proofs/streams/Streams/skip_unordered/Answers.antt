@@ -1,5 +1,5 @@
 use Rattle.std.proofs.Common.{◌<◌, ◌^◌, map, ◌∙◌, sym, ap, arith}
-use Rattle.sctp_receive_queues.proofs.ByteSums.{saturated_sum}
+use Rattle.sctp_receive_queues.proofs.SaturatedSums.{saturated_sum}
 use Rattle.sctp_receive_queues.specs.Reassembly.{bytes_waiting}
 use Rattle.sctp_streams.specs.Stream.{StreamView}
 use Rattle.sctp_streams.specs.Streams.{passed_each, readable_in, waiting_in}
@@ -14,6 +14,7 @@ invariant_of-self c =
     let small : waiting_in passed < 2 ^ 64 = omega (arith, c.self.invariant.0, passed_sum c.args.tsn es) in
     rw c.skip_each.ensures (
       c.add_waiting-self-inside.ensures
-          ∙ rw c.skip_each.ensures (saturated_sum (λ (s : StreamView). bytes_waiting s.reassembly) (map (λ e. e.1) passed) small),
+          ∙ rw c.skip_each.ensures
+          (saturated_sum (λ (s : StreamView). bytes_waiting s.reassembly) (map (λ e. e.1) passed) small),
       c.self.invariant.1 ∙ sym (passed_count c.args.tsn es),
     )

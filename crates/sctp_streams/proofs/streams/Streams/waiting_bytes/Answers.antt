@@ -1,5 +1,5 @@
 use Rattle.std.proofs.Common.{◌<◌, ◌^◌, map, ◌∙◌, sym, arith}
-use Rattle.sctp_receive_queues.proofs.ByteSums.{saturated_sum}
+use Rattle.sctp_receive_queues.proofs.SaturatedSums.{saturated_sum}
 use Rattle.sctp_receive_queues.specs.Reassembly.{bytes_waiting}
 use Rattle.sctp_streams.specs.Stream.{StreamView}
 use Rattle.sctp_streams.specs.Streams.{waiting_in}

@@ -4,7 +4,8 @@ use Rattle.sctp_wire.proofs.DataWritten.{packet_length}
 use Rattle.sctp_wire.proofs.data_packets.DataPackets.has_room.Goals as goal
 
 pub overflow_add-result : goal.overflow_add-result
-overflow_add-result c = omega (arith, c.requires, c.len.ensures.value, c.self.inside.current.small, c.len-2.ensures, c.max.ensures)
+overflow_add-result c =
+    omega (arith, c.requires, c.len.ensures.value, c.self.inside.current.small, c.len-2.ensures, c.max.ensures)
 
 pub returns : goal.returns
 returns c =

@@ -12,15 +12,15 @@ use Rattle.sctp_model.proofs.Lists.{all_join, all_weaker}
 use Rattle.sctp_fit.specs.Outgoing.{FitsOutgoing}
 use Rattle.sctp_fit.specs.Sendings.{IsGiven, SendsNext}
 use Rattle.sctp_fit.proofs.NextPiece.{sent_pieces_are_events}
-use Rattle.sctp_directions.specs.Acts.{Act, Can, CanAll, IsOfItsOwn, MeetsNobody, Parts, all_data_given, data_given}
+use Rattle.sctp_directions.specs.Acts.{Act, Can, CanAll, IsOfItsOwn, IsNotPeerKnown, Parts, all_data_given, data_given}
 use Rattle.sctp_directions.specs.Acts.{done, done_all, sending}
 use Rattle.sctp_directions.specs.Between.{IsSound}
-use Rattle.sctp_directions.specs.Events.{Accepts, IsOfSending, IsPlainEvent}
+use Rattle.sctp_directions.specs.Events.{AcceptsAMessage, IsOfSending, IsPlainEvent}
 use Rattle.sctp_directions.specs.Reports.{SaysWhatWasTaken}
-use Rattle.sctp_directions.proofs.Proved.{acknowledgements_are_alike, acts_keep_the_initial_tsns}
+use Rattle.sctp_directions.proofs.Proved.{its_acknowledgements_are_alike, acts_keep_the_initial_tsns}
 use Rattle.sctp_directions.proofs.Proved.{events_keep_the_limits, only_beginnings_assign, own_acts_leave_what_comes}
-use Rattle.sctp_directions.proofs.Proved.{only_settings_loosen, pieces_are_given, senders_events_keep_the_invariant}
-use Rattle.sctp_sides.specs.Shapes.{GivesData}
+use Rattle.sctp_directions.proofs.Proved.{only_settings_loosen, its_pieces_are_given, senders_events_keep_the_invariant}
+use Rattle.sctp_sides.specs.SideLaws.{GivesData}
 use Rattle.sctp_pair.proofs.BetweenDirections.{Goes, Holds, IsOrderly, None_brought, OtherStands, Surroundings}
 use Rattle.sctp_pair.proofs.BetweenDirections.{goes_by_sender, goes_nowhere, goes_on, other_by_sender, sound_after}
 
@@ -38,7 +38,7 @@ record IsAfterEvents (x : Surroundings) (out2 : Direction) : Type 0 where
   sound : IsSound out2
   other : OtherStands (record x { out = out2 })
 
-after_event : (x : Surroundings) (e : Event) → IsOfSending e → (Accepts e → ⊥) → IsPlainEvent e → IsSound x.out
+after_event : (x : Surroundings) (e : Event) → IsOfSending e → (AcceptsAMessage e → ⊥) → IsPlainEvent e → IsSound x.out
     → OtherStands x → IsAfterEvents x (happens x.out e)
 after_event x e at none plain sound other = record {
   goes = goes_by_sender None_brought x.out e at none;
@@ -72,7 +72,7 @@ after_sendings (e ∷ es) x (t, ts) sound other =
 -- The directions hold the association.
 module _ (x : Surroundings) (p : Parts) (h : Holds x p) where
   -- the act is what these events are at the sender of its own direction
-  act_at_sender : (act : Act) (out2 : Direction) (given : List ChunkPayloadData) → IsOfItsOwn act → MeetsNobody act
+  act_at_sender : (act : Act) (out2 : Direction) (given : List ChunkPayloadData) → IsOfItsOwn act → IsNotPeerKnown act
       → IsOrderly act → IsAfterEvents x out2 → FitsOutgoing (sending (done act p)) out2
       → AllByRecursion (IsGiven p.history.own out2) given → AfterOut x (done act p) given
   act_at_sender act out2 given its_own nobody orderly after fits said = record {
@@ -104,7 +104,7 @@ module _ (x : Surroundings) (p : Parts) (h : Holds x p) where
   one_given : (act : Act) → GivesData act → Can act p → AfterOut x (done act p) (data_given act p)
   one_given (Act.Sent now) g can = act_sent now can
   one_given (Act.SentAgain by index) g can =
-      let resent = pieces_are_given p by index x.out can h.sound_out.invariant h.between.outgoing in
+      let resent = its_pieces_are_given p by index x.out can h.sound_out.invariant h.between.outgoing in
       let e : Event = Event.Resend (x.out.sender.reach + index) in
       act_at_sender (Act.SentAgain by index) (happens x.out e) (data_given (Act.SentAgain by index) p) tt tt
       (λ s n. n)
@@ -125,7 +125,8 @@ act_acknowledged {x} {p} n k missing c sack h e says at can = (
   act_at_sender x p h (Act.Acknowledged n c.gap_ack_blocks missing) (happens x.out (Event.SackComes k)) [] tt tt
       (λ s n. n)
       (after_event x (Event.SackComes k) tt (λ n. n) tt h.sound_out h.other)
-      (acknowledgements_are_alike p n k missing c sack x.out e says at can h.sound_out.invariant h.between.outgoing) tt,
+      (its_acknowledgements_are_alike p n k missing c sack x.out e says at can h.sound_out.invariant h.between.outgoing)
+      tt,
   λ within. events_keep_the_limits x.out (Event.SackComes k) tt within,
   only_beginnings_assign x.out (Event.SackComes k) tt (λ n. n),
 )

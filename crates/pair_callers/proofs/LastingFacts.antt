@@ -10,7 +10,7 @@ use Rattle.sctp_pair.specs.declared.step.Step.{Step}
 use Rattle.sctp_pair.specs.declared.step.Step.TheVariants as steps
 use Rattle.sctp_pair.specs.Ends.{Ends, end_of}
 use Rattle.sctp_pair.specs.World.{IsOpen}
-use Rattle.pair_callers.specs.Going.{GoesOn, from_side, to_side}
+use Rattle.pair_callers.specs.BetweenWorlds.{GoesOn, from_side, to_side}
 use Rattle.pair_callers.specs.Lasting.{KeepsReliable, PassesNothing, ReceivesOn, StaysClosed, StaysInSpan, StaysOver}
 use Rattle.pair_callers.proofs.StepsByDirection.{Leads, goes_on, step_from, step_to}
 

@@ -10,7 +10,7 @@ use Rattle.sctp_outbound.specs.Sender.{streams_after}
 use Rattle.sctp_outbound.proofs.GapAcks.{none_acked, none_released}
 use Rattle.sctp_streams.specs.Streams.{StreamMap}
 use Rattle.sctp_fit.specs.Outgoing.{Sending}
-use Rattle.sctp_fit.specs.Points.{PointsAcknowledgeTheFirst, so_many}
+use Rattle.sctp_fit.specs.CumulativeAcks.{CumulativeAcksTakeTheFirstPieces, first_pieces_acknowledged}
 
 -- the streams once the outstanding bytes of the first n of these were released
 abbrev pub released_first : ℕ → List InFlight → StreamMap → StreamMap
@@ -50,7 +50,7 @@ module _ (pending : List Waiting) (next size : ℕ) where
   -- one at a time the first n go, and their bytes are released
   pub one_at_a_time : (n : ℕ) (xs : List InFlight) (first : ℕ) (m : StreamMap) (base : ℕ) → n ≤ length xs
       → first < 2 ^ 32
-      → so_many n (with_flight xs first m base)
+      → first_pieces_acknowledged n (with_flight xs first m base)
       ≡ with_flight (drop n xs) (tsn_at first n) (released_first n xs m) (base + n)
   one_at_a_time zero xs first m base l small =
       let e : first ≡ tsn_at first 0 = omega arith in
@@ -64,8 +64,8 @@ module _ (pending : List Waiting) (next size : ℕ) where
       ∙ ap (λ z. with_flight (drop n xs) z (released_first n xs (streams_after (Some x) m)) (base + 1 + n)) e
       ∙ ap (λ z. with_flight (drop n xs) (tsn_at first (suc n)) (released_first n xs (streams_after (Some x) m)) z) b
 
-pub points_acknowledge_the_first : PointsAcknowledgeTheFirst
-points_acknowledge_the_first a n l small =
+pub cumulative_acks_take_the_first_pieces : CumulativeAcksTakeTheFirstPieces
+cumulative_acks_take_the_first_pieces a n l small =
     one_at_a_time q.pending q.next_message_id a.size n q.in_flight q.first_tsn a.streams a.base l small
     ∙ ap (λ z. with_flight q.pending q.next_message_id a.size z (tsn_at q.first_tsn n)
     (released_first n q.in_flight a.streams) (a.base + n))

@@ -4,8 +4,8 @@ use Rattle.std.specs.List.{list_any}
 use Rattle.sctp_wire_types.specs.declared.chunk.GapAckBlock.{GapAckBlock}
 use Rattle.sctp_received.specs.Received.{is_named}
 
--- With n TSNs up to the point of a SACK that are in flight, of so many in all, the TSN at an offset past that point is
--- in flight, too: it is at or past the first one of them, and not past the last one.
+-- With n TSNs up to the cumulative TSN ack of a SACK that are in flight, of so many in all, the TSN at an offset past
+-- that cumulative TSN ack is in flight, too: it is at or past the first one of them, and not past the last one.
 abbrev pub is_in_flight_at : ℕ → ℕ → ℕ → Bool
 is_in_flight_at n count offset = nat_lt 0 (n + offset) && nat_le (n + offset) count
 

@@ -2,7 +2,7 @@
 use Rattle.std.proofs.Common.{⊎_elim, ℕ, ◌+◌, ◌*◌, ◌<◌, ◌≤◌, arith}
 use Rattle.std.proofs.Math.Nat.{mul-le-mul_left}
 use Rattle.std.proofs.lemmas.Bool.{cases_lt}
-use Rattle.sctp_fit.specs.Counted.{pieces_in}
+use Rattle.sctp_fit.specs.FewPieces.{pieces_in}
 use Rattle.sctp_fit.proofs.PlacesCounted.{piece_counted}
 use Rattle.sctp_directions.specs.Laws.{PiecesAreCounted, ShortMessagesAreOnePiece}
 

@@ -284,29 +284,29 @@ abbrev pub IsTaking : Shown → ChunkPayloadData → List Act → Type 0
 IsTaking a piece acts = (acts ≡ []) ⊎ (OpensOnly a piece acts ⊎ (OpensAndTakes a piece acts ⊎ TakesOnly a piece acts))
 
 -- DATA may make its stream first, and may be taken in; nothing else (RFC 4960 section 6.2).
-abbrev pub DataIsTaken : Type 0
-DataIsTaken =
+abbrev pub DataOpensOrTakes : Type 0
+DataOpensOrTakes =
     (a : Shown) (header : CommonHeader) (piece : ChunkPayloadData)
     → IsTaking a piece (acts_of_chunk a header (chunks.Data piece))
 
--- The first pieces in flight are acknowledged, so many that the point is the TSN before that of the next one, and of
--- those behind them the ones that the gap ack blocks name; some may be reported missing.
-pub record Acknowledges (a : Shown) (h : History) (sack : ChunkSelectiveAck) (acts : List Act) : Type 0 where
+-- The first pieces in flight are acknowledged, so many that the cumulative TSN ack is the TSN before that of the next
+-- one, and of those behind them the ones that the gap ack blocks name; some may be reported missing.
+pub record IsAcknowledging (a : Shown) (h : History) (sack : ChunkSelectiveAck) (acts : List Act) : Type 0 where
   pub count : ℕ
   pub missing : ℕ
   pub are : acts ≡ Act.Acknowledged count sack.gap_ack_blocks missing ∷ []
   pub within : count ≤ length a.sender.queue.in_flight
   pub at : sack.cumulative_tsn_ack % 2 ^ 32 ≡ tsn_before (tsn h.own (h.base + count))
 
--- A SACK acknowledges what its point and its gap ack blocks say, or nothing (RFC 4960 section 6.2.1).
+-- A SACK acknowledges what its cumulative TSN ack and its gap ack blocks say, or nothing (RFC 4960 section 6.2.1).
 abbrev pub SacksAcknowledge : Type 0
 SacksAcknowledge = (a : Shown) (h : History) (header : CommonHeader) (sack : ChunkSelectiveAck) → Binds a h
     → (acts_of_chunk a header (chunks.SelectiveAck sack) ≡ [])
-    ⊎ Acknowledges a h sack (acts_of_chunk a header (chunks.SelectiveAck sack))
+    ⊎ IsAcknowledging a h sack (acts_of_chunk a header (chunks.SelectiveAck sack))
 
 -- A SACK names the TSN of the last of the first so many pieces in flight, or with none of them the acknowledged point.
 -- They are fewer than half of all TSNs. Each offset that its gap ack blocks name is that of a piece in flight: offsets
--- count from the point, so the piece behind it is at 1.
+-- count from the cumulative TSN ack, so the piece behind it is at 1.
 pub record NamesTheSent (a : Shown) (h : History) (sack : ChunkSelectiveAck) (count : ℕ) : Type 0 where
   pub within : count ≤ length a.sender.queue.in_flight
   pub near : count < 2 ^ 31
@@ -323,22 +323,22 @@ TakenSacksAcknowledge = (a : Shown) (h : History) (header : CommonHeader) (sack 
     ≡ Act.Acknowledged count sack.gap_ack_blocks
     (reports_of a.sender sack.cumulative_tsn_ack sack.gap_ack_blocks) ∷ []
 
--- Outside of Established a SACK acknowledges nothing, and neither does one whose point lies behind the acknowledged
--- one.
+-- Outside of Established a SACK acknowledges nothing, and neither does one whose cumulative TSN ack lies behind the
+-- acknowledged one.
 abbrev pub OtherSacksDoNothing : Type 0
 OtherSacksDoNothing = (a : Shown) (h : History) (header : CommonHeader) (sack : ChunkSelectiveAck) → Binds a h
     → (is_established a.state ≡ false) ⊎ (tsn_gt (tsn_before (tsn h.own h.base)) sack.cumulative_tsn_ack ≡ true)
     → acts_of_chunk a header (chunks.SelectiveAck sack) ≡ []
 
 -- The peer's initial TSN became known, or nothing did.
-abbrev pub IsMeeting : ChunkInit → List Act → Type 0
-IsMeeting init acts = (acts ≡ []) ⊎ (acts ≡ Act.PeerKnown init.initial_tsn ∷ [])
+abbrev pub IsPeerKnown : ChunkInit → List Act → Type 0
+IsPeerKnown init acts = (acts ≡ []) ⊎ (acts ≡ Act.PeerKnown init.initial_tsn ∷ [])
 
 -- INIT and INIT ACK tell the peer's initial TSN, or do nothing to the directions (RFC 4960 section 5.1).
-abbrev pub GreetingsMeet : Type 0
-GreetingsMeet = (a : Shown) (header : CommonHeader) (init : ChunkInit)
-    → IsMeeting init (acts_of_chunk a header (chunks.Init init))
-    × IsMeeting init (acts_of_chunk a header (chunks.InitAck init))
+abbrev pub GreetingsMakeThePeerKnown : Type 0
+GreetingsMakeThePeerKnown = (a : Shown) (header : CommonHeader) (init : ChunkInit)
+    → IsPeerKnown init (acts_of_chunk a header (chunks.Init init))
+    × IsPeerKnown init (acts_of_chunk a header (chunks.InitAck init))
 
 -- neither DATA nor a SACK, nor one that tells an initial TSN
 abbrev pub IsOther : Chunk → Type 0

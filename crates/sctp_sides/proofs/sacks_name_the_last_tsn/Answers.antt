@@ -1,9 +1,9 @@
 use Rattle.sctp_sides.proofs.DueSacks.{due_sacks_go_out, sacks_are_spelled, sacks_offer_the_buffer}
-use Rattle.sctp_sides.proofs.DueSacks.{sacks_name_the_point, sacks_say_what_was_taken}
-use Rattle.sctp_sides.proofs.sacks_name_the_point.Goals as goal
+use Rattle.sctp_sides.proofs.DueSacks.{sacks_name_the_last_tsn, sacks_say_what_was_taken}
+use Rattle.sctp_sides.proofs.sacks_name_the_last_tsn.Goals as goal
 
-pub returns-clause-point : goal.returns-clause-point
-returns-clause-point c = sacks_name_the_point
+pub returns-clause-last_tsn : goal.returns-clause-last_tsn
+returns-clause-last_tsn c = sacks_name_the_last_tsn
 
 pub returns-clause-due : goal.returns-clause-due
 returns-clause-due c = due_sacks_go_out

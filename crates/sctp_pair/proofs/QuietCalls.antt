@@ -11,7 +11,7 @@ use Rattle.sctp_fit.specs.Incoming.{FitsIncoming}
 use Rattle.sctp_fit.specs.Outgoing.{FitsOutgoing}
 use Rattle.sctp_fit.proofs.DataTaken.{opened_streams_are_alike}
 use Rattle.sctp_fit.proofs.NothingToSend.{opened_streams_send_nothing}
-use Rattle.sctp_directions.specs.Acts.{Act, History, IsKeptInOrder, MeetsNobody, Parts, done, done_all, receiving}
+use Rattle.sctp_directions.specs.Acts.{Act, History, IsKeptInOrder, IsNotPeerKnown, Parts, done, done_all, receiving}
 use Rattle.sctp_directions.specs.Acts.{sending}
 use Rattle.sctp_directions.specs.Events.{Brings, GivesAMessage, IsOfReceiving, IsPlainEvent}
 use Rattle.sctp_directions.proofs.Proved.{acts_keep_the_initial_tsns, closed_receivers_are_not_open}
@@ -20,7 +20,7 @@ use Rattle.sctp_assoc.specs.Leads.{Leads, parts}
 use Rattle.sctp_assoc.specs.Calls.{is_established, open_refusal, opened}
 use Rattle.sctp_assoc.specs.Closing.{is_closed_state}
 use Rattle.sctp_assoc.specs.Shown.{Shown}
-use Rattle.sctp_sides.specs.Shapes.{HoldsNothing, IsNotLive, IsSameStatus}
+use Rattle.sctp_sides.specs.SideLaws.{HoldsNothing, IsNotLive, IsSameStatus}
 use Rattle.sctp_sides.proofs.Proved.{open_leads_on, opened_streams_hold_nothing, opened_streams_keep_the_status}
 use Rattle.sctp_sides.proofs.Proved.{opened_streams_were_not_live}
 use Rattle.sctp_pair.specs.declared.step.Reply.{Reply}
@@ -119,13 +119,13 @@ fails_settle {x} failed f =
 
 -- An open association goes on
 
--- Acts that meet nobody and leave the streams in order that are not loose lead from a with this past to b, whose status
--- is the same, and to directions that fit what the acts did.
+-- Acts that are not `PeerKnown` and leave the streams in order that are not loose lead from a with this past to b,
+-- whose status is the same, and to directions that fit what the acts did.
 pub record LeadsOn (x : Surroundings) (a : Shown) (past : History) (acts : List Act) (b : Shown)
     (out2 coming2 : Direction) : Type 0 where
   pub past2 : History
   pub leads : Leads acts a past b past2
-  pub nobody : AllByRecursion MeetsNobody acts
+  pub nobody : AllByRecursion IsNotPeerKnown acts
   pub orderly : AllByRecursion (KeepsOrder x.loose) acts
   pub same : IsSameStatus a b
   pub size : out2.sender.plan.size ≡ x.out.sender.plan.size

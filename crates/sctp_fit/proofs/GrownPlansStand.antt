@@ -11,7 +11,7 @@ use Rattle.sctp_model.specs.Packets.{Data, data_at, mem}
 use Rattle.sctp_model.specs.Reassembly.{Queue, at}
 use Rattle.sctp_model.proofs.Lists.{all_both, all_join, all_mem, all_weaker}
 use Rattle.sctp_model.proofs.PlansGrow.{IsExtended, at_kept, data_kept, last_kept}
-use Rattle.sctp_reassembly.specs.Stands.{AreGroups, AreRuns, AreWaiting, CarriesData, CarryDataOf, Held, IsGroup}
+use Rattle.sctp_reassembly.specs.Stands.{AreGroups, AreRuns, AreWaiting, CarriesData, CarryDataOf, HeldMessage, IsGroup}
 use Rattle.sctp_reassembly.specs.Stands.{IsLoose, IsOf, StandsFor, leads, led, offsets_in, runs_of}
 use Rattle.sctp_reassembly.proofs.WholeMessages.{IsThere, all_there}
 
@@ -42,7 +42,7 @@ module _ (p q : Plan) (e : IsExtended p q) where
     is = ap (λ (z : Place). z.ssn) (e.places o h.at.known) ∙ h.is;
   }
 
-  group_kept : (initial s : ℕ) (g : Group) (h : Held) → IsGroup initial p s g h → IsGroup initial q s g h
+  group_kept : (initial s : ℕ) (g : Group) (h : HeldMessage) → IsGroup initial p s g h → IsGroup initial q s g h
   group_kept initial s g h i = record {
     ssn = i.ssn;
     pieces =
@@ -53,7 +53,7 @@ module _ (p q : Plan) (e : IsExtended p q) where
     mine = all_weaker (IsOf p s h.number) (IsOf q s h.number) h.offsets (of_kept s h.number) i.mine;
   }
 
-  groups_kept : (initial s : ℕ) (gs : List Group) (hs : List Held) → AreGroups initial p s gs hs
+  groups_kept : (initial s : ℕ) (gs : List Group) (hs : List HeldMessage) → AreGroups initial p s gs hs
       → AreGroups initial q s gs hs
   groups_kept initial s [] [] a = tt
   groups_kept initial s [] (h ∷ hs) a = absurd a
@@ -151,7 +151,7 @@ waiting_kept p q e initial s cs held w = record {
     known = loose_known p s w.offsets w.mine
 
 -- the offsets of all groups were assigned
-groups_known : (initial : ℕ) (p : Plan) (s : ℕ) (gs : List Group) (hs : List Held) → AreGroups initial p s gs hs
+groups_known : (initial : ℕ) (p : Plan) (s : ℕ) (gs : List Group) (hs : List HeldMessage) → AreGroups initial p s gs hs
     → AllByRecursion (IsKnown p) (offsets_in hs)
 groups_known initial p s [] [] a = tt
 groups_known initial p s [] (h ∷ hs) a = absurd a
@@ -178,7 +178,7 @@ stands_kept p q e initial s r u h = record {
 -- Nothing was assigned
 
 -- no group is held, since it would have an offset
-groups_anew : (initial t : ℕ) (p : Plan) (s : ℕ) (gs : List Group) (hs : List Held) → length p.places ≡ 0
+groups_anew : (initial t : ℕ) (p : Plan) (s : ℕ) (gs : List Group) (hs : List HeldMessage) → length p.places ≡ 0
     → AreGroups initial p s gs hs → AreGroups t p s gs hs
 groups_anew initial t p s [] [] none a = tt
 groups_anew initial t p s [] (h ∷ hs) none a = absurd a

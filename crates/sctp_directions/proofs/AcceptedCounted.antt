@@ -8,7 +8,7 @@ use Rattle.sctp_model.specs.Messages.{Message}
 use Rattle.sctp_model.specs.Packets.{mem}
 use Rattle.sctp_model.specs.Machine.{Direction}
 use Rattle.sctp_model.specs.Safe.{AreDistinct}
-use Rattle.sctp_fit.specs.Counted.{all_pieces}
+use Rattle.sctp_fit.specs.FewPieces.{all_pieces}
 use Rattle.sctp_directions.specs.Laws.{AcceptedMessagesAreCounted, NothingIsAcceptedAtFirst}
 
 -- More pieces of one stream

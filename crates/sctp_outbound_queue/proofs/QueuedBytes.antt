@@ -1,5 +1,6 @@
 -- Sums over what waits and what is in flight.
-use Rattle.std.proofs.Common.{◌≡◌, ℕ, zero, suc, ◌+◌, ◌-◌, ◌^◌, ◌<◌, ◌≤◌, ◌==◌, true, false, List, [], ◌∷◌, ◌++◌, Some, None}
+use Rattle.std.proofs.Common.{◌≡◌, ℕ, zero, suc, ◌+◌, ◌-◌, ◌^◌, ◌<◌, ◌≤◌, ◌==◌, true, false, List, [], ◌∷◌, ◌++◌, Some}
+use Rattle.std.proofs.Common.{None}
 use Rattle.std.proofs.Common.{length, map, min, fold, drop, slice_get, slice_index_or, refl, ap, sym, ◌∙◌, ⊎_elim}
 use Rattle.std.proofs.Common.{arith}
 use Rattle.std.proofs.Math.Bool.{cond}
@@ -13,12 +14,14 @@ use Rattle.std.proofs.lemmas.Bool.Decides.{nat_tests}
 use Rattle.sctp_outbound_queue.specs.declared.message.InFlight.{InFlight}
 use Rattle.sctp_outbound_queue.specs.Waiting.{Waiting}
 use Rattle.sctp_outbound_queue.specs.Message.{acked, message_bytes, is_expired_unsent, without_piece, sent_once, is_of}
-use Rattle.sctp_outbound_queue.specs.Message.{is_outstanding, marked_again, outstanding_bytes, outstanding_bytes_of, flagged}
+use Rattle.sctp_outbound_queue.specs.Message.{is_outstanding, marked_again, outstanding_bytes, outstanding_bytes_of}
+use Rattle.sctp_outbound_queue.specs.Message.{flagged}
 use Rattle.sctp_outbound_queue.specs.Expiry.{without_expired, after_expiry}
 use Rattle.sctp_outbound_queue.specs.Outbound.{abandoned_at, all_flagged, released, Outbound, AreKept, waiting_of}
 use Rattle.sctp_outbound_queue.specs.Outbound.{outstanding_of, outstanding_of_message, left_behind, after_piece}
 use Rattle.sctp_outbound_queue.specs.Outbound.{marked_of, tail_dropped, tail_dropped_from}
-use Rattle.sctp_outbound_queue.proofs.FirstOutstanding.{abandoned, acknowledged, after_change, after_change_at, after_more}
+use Rattle.sctp_outbound_queue.proofs.FirstOutstanding.{abandoned, acknowledged, after_change, after_change_at}
+use Rattle.sctp_outbound_queue.proofs.FirstOutstanding.{after_more}
 use Rattle.sctp_outbound_queue.proofs.FirstOutstanding.{started_too}
 use Rattle.sctp_outbound_queue.specs.Message.{sent_started, waiting_started}
 
@@ -155,7 +158,8 @@ released_bound q id waiting outstanding marked settled kept =
 
 -- the kept sums after a change
 
-pub kept_sent : {ms2 : List Waiting} {ps1 ps2 : List InFlight} {w o k b s : ℕ} {p : InFlight} (now : ℕ) (ms : List Waiting)
+pub kept_sent : {ms2 : List Waiting} {ps1 ps2 : List InFlight} {w o k b s : ℕ} {p : InFlight} (now : ℕ)
+    (ms : List Waiting)
     (ps : List InFlight) → AreKept ms ps w o k s
     → Some p ≡ option_map (sent_once now) (slice_get ms 0) → ms2 ≡ after_piece ms → ps1 ≡ ps → ps2 ≡ ps1 ++ p ∷ []
     → b ≡ outstanding_bytes p → AreKept ms2 ps2 (w - b) (o + b) k s
@@ -168,8 +172,14 @@ kept_sent {p} now ms ps kept first left same more bytes =
     let e = kept.2 in
     let f = kept.3 in
     let first = after_more ps p in
-    rw (left, more, same, bytes)
-    (omega (arith, a, c), omega (arith, push, d), omega (arith, a, c, e), f ∙ sym unmarked, omega (arith, first, kept.4))
+    rw (left, more, same, bytes) (
+      omega (arith, a, c),
+      omega (arith, push, d),
+      omega (arith, a, c, e),
+      f
+          ∙ sym unmarked,
+      omega (arith, first, kept.4),
+    )
 
 -- a sum once one piece changed
 set_sum : (f : InFlight → ℕ) (ps : List InFlight) (i : ℕ) (x y : InFlight) → slice_get ps i ≡ Some x

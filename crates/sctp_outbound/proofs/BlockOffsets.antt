@@ -5,7 +5,7 @@ use Rattle.std.proofs.lemmas.Bool.{and_parts, cases_Bool, false≢true}
 use Rattle.std.proofs.lemmas.Bool.Decides.{nat_tests}
 use Rattle.sctp_wire_types.specs.declared.chunk.GapAckBlock.{GapAckBlock}
 use Rattle.sctp_received.specs.Received.{is_named}
-use Rattle.sctp_outbound.specs.Offsets.{NameUnsent, is_in_flight_at, is_unsent_in, name_unsent}
+use Rattle.sctp_outbound.specs.BlockOffsets.{NameUnsent, is_in_flight_at, is_unsent_in, name_unsent}
 
 abbrev named_by : ℕ → GapAckBlock → Bool
 named_by o b = leb b.start o && leb o b.end

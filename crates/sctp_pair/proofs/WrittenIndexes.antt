@@ -1,4 +1,4 @@
--- Messages that were read stand at places of their own among those that were written.
+-- Messages that were read stand at indexes of their own among those that were written.
 use Rattle.std.proofs.Common.{◌≡◌, refl, sym, ap, ◌∙◌, subst, ℕ, zero, suc, ◌<◌, arith, Bool, true, false, eqb}
 use Rattle.std.proofs.Common.{if◌then◌else◌, List, [], ◌∷◌, ◌++◌, length, get_or, map, Option, Some, None}
 use Rattle.std.specs.Prelude.{slice_get, ⊤}
@@ -22,7 +22,7 @@ use Rattle.sctp_pair.specs.declared.step.Side2.{Side2}
 use Rattle.sctp_pair.specs.declared.step.Side2.TheVariants as sides
 use Rattle.sctp_pair.specs.declared.step.Step.{Step}
 use Rattle.sctp_pair.specs.declared.step.Step.TheVariants as steps
-use Rattle.sctp_pair.specs.Callers.{AreAt, IsNamed, IsSameMessage, WrittenMessage, message_accepted, messages_of}
+use Rattle.sctp_pair.specs.Callers.{AreAt, IsNamed, IsAsWritten, WrittenMessage, message_accepted, messages_of}
 use Rattle.sctp_pair.specs.Ends.{Ends}
 use Rattle.sctp_pair.specs.Steps.{AtSide, Steps, Writes, writing_of}
 use Rattle.sctp_pair.specs.World.{World, accepted_at, accepted_of, messages_on}
@@ -107,7 +107,7 @@ letters_grow (Some m) before after (g, e, l) =
     ap (map letter_read) e ∙ map-append letter_read before (g ∷ [])
     ∙ ap (λ z. map letter_read before ++ z ∷ []) (sym l)
 
--- Each message that was read has its place
+-- Each message that was read has its index
 
 same_kind : (kind : PayloadProtocolIdentifier) → identifier_of (number_of kind) ≡ kind
 same_kind kinds.Dcep = refl
@@ -122,29 +122,29 @@ named_of : (named : Option PayloadProtocolIdentifier) (kind : PayloadProtocolIde
 named_of None kind number e h = tt
 named_of (Some named) kind number e h = sym (same_kind kind) ∙ ap identifier_of (e ∙ h) ∙ same_kind named
 
-told_place : (ms : List Message) (ws : List WrittenMessage) (i : ℕ) → AreTold ms ws → i < length ms
+told_index : (ms : List Message) (ws : List WrittenMessage) (i : ℕ) → AreTold ms ws → i < length ms
     → (w : WrittenMessage) × (slice_get ws i ≡ Some w) × IsTold (get_or ms i no_message) w
-told_place [] ws i h b = absurd (omega arith)
-told_place (m ∷ ms) [] i h b = absurd h
-told_place (m ∷ ms) (w ∷ ws) zero h b = (w, refl, h.0)
-told_place (m ∷ ms) (w ∷ ws) (suc i) h b = told_place ms ws i h.1 (omega arith)
+told_index [] ws i h b = absurd (omega arith)
+told_index (m ∷ ms) [] i h b = absurd h
+told_index (m ∷ ms) (w ∷ ws) zero h b = (w, refl, h.0)
+told_index (m ∷ ms) (w ∷ ws) (suc i) h b = told_index ms ws i h.1 (omega arith)
 
-pub at_places : (p : Plan) (taken : List ℕ) (s : ℕ) (gs : List Got) (numbers : List ℕ) (ms : List ReceivedMessage)
+pub at_indexes : (p : Plan) (taken : List ℕ) (s : ℕ) (gs : List Got) (numbers : List ℕ) (ms : List ReceivedMessage)
     (ws : List WrittenMessage) → Names p taken s gs numbers → map letter_read gs ≡ map letter_received ms
     → AreTold (p.accepted s) ws → AreAt ms numbers ws
-at_places p taken s [] [] [] ws h e told = tt
-at_places p taken s [] [] (m ∷ ms) ws h e told = absurd (cc)
-at_places p taken s [] (i ∷ is) ms ws h e told = absurd h
-at_places p taken s (g ∷ gs) [] ms ws h e told = absurd h
-at_places p taken s (g ∷ gs) (i ∷ is) [] ws h e told = absurd (cc)
-at_places p taken s (g ∷ gs) (i ∷ is) (m ∷ ms) ws h e told =
+at_indexes p taken s [] [] [] ws h e told = tt
+at_indexes p taken s [] [] (m ∷ ms) ws h e told = absurd (cc)
+at_indexes p taken s [] (i ∷ is) ms ws h e told = absurd h
+at_indexes p taken s (g ∷ gs) [] ms ws h e told = absurd h
+at_indexes p taken s (g ∷ gs) (i ∷ is) [] ws h e told = absurd (cc)
+at_indexes p taken s (g ∷ gs) (i ∷ is) (m ∷ ms) ws h e told =
     let head : letter_read g ≡ letter_received m = cc in
     let tail : map letter_read gs ≡ map letter_received ms = cc in
     let tells : Tells p taken s g i = h.0 in
-    let place = told_place (p.accepted s) ws i told tells.whole.accepted in
-    let same : IsSameMessage m place.0 = record {
-      bytes = ap (λ (l : Letter). l.bytes) (sym head) ∙ tells.bytes ∙ place.2.bytes;
-      payload_type = named_of place.0.named m.payload_type _
-          (ap (λ (l : Letter). l.payload_type) (sym head) ∙ tells.payload_type) place.2.payload_type;
+    let at = told_index (p.accepted s) ws i told tells.whole.accepted in
+    let same : IsAsWritten m at.0 = record {
+      bytes = ap (λ (l : Letter). l.bytes) (sym head) ∙ tells.bytes ∙ at.2.bytes;
+      payload_type = named_of at.0.named m.payload_type _
+          (ap (λ (l : Letter). l.payload_type) (sym head) ∙ tells.payload_type) at.2.payload_type;
     } in
-    ((place.0, place.1, same), at_places p taken s gs is ms ws h.1 tail told)
+    ((at.0, at.1, same), at_indexes p taken s gs is ms ws h.1 tail told)

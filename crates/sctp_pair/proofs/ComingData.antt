@@ -15,14 +15,14 @@ use Rattle.sctp_fit.specs.Incoming.{FitsIncoming, IsSaid}
 use Rattle.sctp_fit.specs.Outgoing.{FitsOutgoing}
 use Rattle.sctp_fit.proofs.DataTaken.{opened_streams_are_alike}
 use Rattle.sctp_fit.proofs.NothingToSend.{opened_streams_send_nothing}
-use Rattle.sctp_directions.specs.Acts.{Act, Can, History, MeetsNobody, Parts, done, reach_in, receiving, sending}
+use Rattle.sctp_directions.specs.Acts.{Act, Can, History, IsNotPeerKnown, Parts, done, reach_in, receiving, sending}
 use Rattle.sctp_directions.specs.Events.{Brings, GivesAMessage, IsOfReceiving, IsPlainEvent, KeepsWithin}
 use Rattle.sctp_directions.specs.Reports.{SaysWhatWasTaken}
 use Rattle.sctp_directions.specs.Said.{IsMade}
 use Rattle.sctp_directions.proofs.Proved.{acts_keep_the_initial_tsns, events_keep_the_limits}
 use Rattle.sctp_directions.proofs.Proved.{only_settings_loosen, receivers_events_are_received}
 use Rattle.sctp_directions.proofs.Proved.{reports_say_what_was_taken, what_comes_leaves_its_own}
-use Rattle.sctp_directions.proofs.Proved.{what_is_taken_in_comes}
+use Rattle.sctp_directions.proofs.Proved.{what_it_takes_in_comes}
 use Rattle.sctp_pair.proofs.BetweenDirections.{Goes, Holds, IsOrderly, Surroundings, goes_by_receiver, goes_nowhere}
 use Rattle.sctp_pair.proofs.BetweenDirections.{other_by_receiver, sound_after}
 
@@ -41,7 +41,7 @@ coming_nowhere {x} B within h =
 
 -- Of an association with these parts, the act is this event at the receiver of the direction that comes, and no read.
 record IsReceiversEvent (x : Surroundings) (p : Parts) (B : ℕ → Type 0) (act : Act) (e : Event) : Type 0 where
-  nobody : MeetsNobody act
+  nobody : IsNotPeerKnown act
   orderly : IsOrderly act
   at : IsOfReceiving e
   none : GivesAMessage e → ⊥
@@ -107,7 +107,7 @@ module _ (x : Surroundings) (p : Parts) (B : ℕ → Type 0) (h : Holds x p) (wi
   act_took piece m =
       let named = subst (λ i. IsSaid i piece m.datum) (sym m.known) m.said in
       let fits =
-      what_is_taken_in_comes p piece m.index m.datum m.stream x.coming m.can m.there named m.live
+      what_it_takes_in_comes p piece m.index m.datum m.stream x.coming m.can m.there named m.live
       (h.sound_coming.plain.span piece.stream_identifier) within h.sound_coming.invariant h.between.incoming in
       act_at_receiver (Act.Took piece) (Event.DataComes m.index) record {
         nobody = tt;
