@@ -147,13 +147,15 @@ waiting_started now m = record m { message = started now m.message }
 abbrev pub sent_started : ℕ → InFlight → InFlight
 sent_started now p = record p { message = started now p.message }
 
-abbrev pub is_past : Option ℕ → ℕ → Bool
-is_past None now = false
-is_past (Some deadline) now = nat_le deadline now
+abbrev pub is_past : Policy → Option ℕ → ℕ → Bool
+is_past Reliable deadline now = false
+is_past (Rexmit n) deadline now = false
+is_past (Timed ms) None now = false
+is_past (Timed ms) (Some deadline) now = nat_le deadline now
 
--- at or past its deadline
+-- the lifetime is limited, and it is at or past its deadline
 abbrev pub is_expired : ℕ → Attributes → Bool
-is_expired now a = is_past a.deadline now
+is_expired now a = is_past a.policy a.deadline now
 
 -- an expired piece of a message that is not abandoned yet
 abbrev pub is_expired_piece : ℕ → InFlight → Bool

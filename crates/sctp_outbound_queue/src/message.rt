@@ -88,13 +88,13 @@ pub struct InFlight {
 }
 
 impl Attributes {
-    /// At or past its deadline.
+    /// Its lifetime is limited, and it is at or past its deadline.
     pub fn is_expired(&self, now: Instant) -> bool
         ensures { result ≡ is_expired now self.now }
     {
-        match self.deadline {
-            Some(deadline) => deadline <= now,
-            None => false,
+        match (self.policy, self.deadline) {
+            (Policy::Timed(_), Some(deadline)) => deadline <= now,
+            _ => false,
         }
     }
 

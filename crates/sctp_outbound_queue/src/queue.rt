@@ -125,6 +125,13 @@ impl OutboundQueue {
         !self.pending.is_empty()
     }
 
+    /// Number of messages that wait, or of which a rest waits.
+    pub fn pending_messages(&self) -> usize
+        ensures { result ≡ length self.now.pending }
+    {
+        self.pending.len()
+    }
+
     /// Number of pieces that wait, at most the greatest usize. Goes over the messages that wait.
     pub fn pending_len(&self) -> usize
         ensures { result ≡ min (pieces_waiting self.now.pending) (2 ^ 64 - 1) }
