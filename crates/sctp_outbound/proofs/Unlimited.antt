@@ -16,12 +16,12 @@ use Rattle.sctp_streams.specs.Streams.{StreamMap}
 use Rattle.sctp_outbound.specs.declared.abandonment.Reason.TheVariants as reasons
 use Rattle.sctp_outbound.specs.declared.sender.Sender.{Sender}
 use Rattle.sctp_outbound.specs.Abandonment.{all_given_up, allows_no_more, dropped_by, expired_by, expires, first_spent}
-use Rattle.sctp_outbound.specs.Abandonment.{given_up_before, gives_up_before, has_late_tail, is_late, is_pass_due}
+use Rattle.sctp_outbound.specs.Abandonment.{given_up_before, gives_up_before, has_late_tail, is_pass_due}
 use Rattle.sctp_outbound.specs.Abandonment.{is_spent, late_given_up, next_given_up, pass_room, spent_place, tail_given_up}
 use Rattle.sctp_outbound.specs.Abandonment.{with_started}
 use Rattle.sctp_outbound.specs.Laws.{HasNoLimit, IsUnlimited, UnlimitedStay}
 use Rattle.sctp_outbound.proofs.Dropped.{none_of_any}
-use Rattle.sctp_outbound.proofs.GivenUp.{lt_same, no_late_tail, none_given_up, tail_stays}
+use Rattle.sctp_outbound.proofs.GivenUp.{is_late, lt_same, no_late_tail, none_given_up, tail_stays}
 
 -- what a pass does at one piece
 

@@ -116,11 +116,6 @@ given_up_before forward k all = if forward then all_given_up (reasons.Spent k) a
 abbrev pub gives_up_before : Bool → Retransmission → Sender → Bool
 gives_up_before forward k s = forward && is_some (next_given_up (reasons.Spent k) s)
 
--- the first message that waits is begun and expired
-abbrev pub is_late : ℕ → Option Waiting → Bool
-is_late now None = false
-is_late now (Some m) = m.begun && is_expired now m.message
-
 -- an expired message of which a part was sent, and none of that part is in flight, has unsent pieces
 abbrev pub has_late_tail : ℕ → Sender → Bool
 has_late_tail now s = is_some (after_tail_expiry now s.queue).1
@@ -148,13 +143,6 @@ expires forward now all =
     forward
     && (is_some (next_given_up (reasons.Expired now) (with_started now all.0))
     || has_late_tail now (late_given_up now all).0)
-
--- memory may be asked for while they are
-abbrev pub may_expire : Bool → ℕ → Sender × StreamMap → Bool
-may_expire forward now all =
-    forward
-    && (is_some (next_given_up (reasons.Expired now) (with_started now all.0))
-    || is_late now (slice_get (late_given_up now all).0.queue.pending 0))
 
 -- Messages that are dropped before any of them was sent
 

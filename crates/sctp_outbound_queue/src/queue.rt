@@ -1,6 +1,6 @@
 // Messages that wait to be sent, and pieces in flight.
 ghost use Rattle.std.specs.Prelude.{◌≡◌, ◌==◌, ◌&&◌, ◌+◌, ◌-◌, ◌^◌, find, length, map, min, nat_lt, position, slice_get, take};
-ghost use Rattle.std.specs.Prelude.{IfOk, OnOk, OnErr};
+ghost use Rattle.std.specs.Prelude.{IfOk, OnOk, OnErr, is_some, true};
 ghost use Rattle.std.specs.Option.{option_copied, option_map};
 ghost use Rattle.sctp_serial.specs.Serial.{tsn_past};
 ghost use Rattle.sctp_outbound_queue.specs.Message.{is_outstanding, is_expired_piece, is_expired_unsent, counted_again};
@@ -471,6 +471,7 @@ impl OutboundQueue {
     pub fn expire_pending_tail(&mut self, now: Instant) -> Result<Option<Released>, AllocError>
         ensures ok { IfOk result (λ released. after_tail_expiry now self.old ≡ (self.new, released)) }
         ensures err { OnErr result (self.new ≡ self.old) }
+        ensures grows { OnErr result (is_some (after_tail_expiry now self.old).1 ≡ true) }
     {
         let Some(first) = self.pending.front() else {
             return Ok(None);

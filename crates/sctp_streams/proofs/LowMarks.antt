@@ -279,6 +279,11 @@ module _ (m : StreamMap) (id bytes : ℕ) (t u : StreamView) (there : stream_at 
         some = λ r. subst (λ z. 0 < length z) (sym more) (insert_some id (fallen before m));
       }
 
+-- a change of the stream of this identifier, where it is live in this generation
+abbrev changed_if : (StreamView → StreamView) → StreamMap → ℕ → ℕ → StreamMap
+changed_if change m id generation =
+    if is_generation (stream_at m id) generation then changed_stream change m id else m
+
 -- a change by which bytes are released is gathered where its stream falls to its low mark by it
 gathers_change : (change : StreamView → StreamView) (m : StreamMap) (id generation bytes : ℕ) (f g : FallenView)
     → ((t : StreamView) → (change t).low_mark ≡ t.low_mark)
@@ -286,14 +291,11 @@ gathers_change : (change : StreamView → StreamView) (m : StreamMap) (id genera
     → (falls_to_low_mark_in m id generation bytes ≡ true → g.refused ≡ false → g.ids ≡ insert_key nat_cmp f.ids id)
     → (falls_to_low_mark_in m id generation bytes ≡ true → g.refused ≡ false → f.refused ≡ false)
     → (falls_to_low_mark_in m id generation bytes ≡ false → g ≡ f)
-    → Gathers m f (if is_generation (stream_at m id) generation then changed_stream change m id else m) g
+    → Gathers m f (changed_if change m id generation) g
 unfolding Gathers
 gathers_change change m id generation bytes f g low less adds keeps stays before h = at (stream_at m id) refl
   where
-    abbrev after : StreamMap
-    after = if is_generation (stream_at m id) generation then changed_stream change m id else m
-
-    at : (o : Option StreamView) → stream_at m id ≡ o → IsGathered before after g
+    at : (o : Option StreamView) → stream_at m id ≡ o → IsGathered before (changed_if change m id generation) g
     at None e = rw e (subst (IsGathered before m) (sym (stays (rw e refl))) h)
     at (Some t) e = of (eqb t.stats.generation generation) refl
       where
@@ -306,7 +308,7 @@ gathers_change change m id generation bytes f g low less adds keeps stays before
             subst (IsGathered before (with_stream m id (change t))) (sym (stays (rw (e, c, b) refl)))
             (stays_gathered m id bytes t (change t) e (low t) (less t) before f h b)
 
-        of : (b : Bool) → eqb t.stats.generation generation ≡ b → IsGathered before after g
+        of : (b : Bool) → eqb t.stats.generation generation ≡ b → IsGathered before (changed_if change m id generation) g
         of true c = rw (e, c) (falling (falls_to_low_mark t bytes) refl c)
         of false c = rw (e, c) (subst (IsGathered before m) (sym (stays (rw (e, c) refl))) h)
 
