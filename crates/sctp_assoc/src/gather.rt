@@ -16,8 +16,7 @@ use crate::control::ControlPacket;
 use bytes::Bytes;
 use sctp_parts::state::{AckState, AssociationState};
 use sctp_parts::timer::Timer;
-use sctp_wire::{DataPackets, marshal};
-use sctp_wire_queues::{Chunk, CommonHeader, Error, Instant};
+use sctp_wire_queues::{Chunk, CommonHeader, DataPackets, Error, Instant, marshal};
 use std::alloc::{AllocError, Global};
 use std::mem;
 

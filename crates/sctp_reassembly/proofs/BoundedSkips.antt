@@ -28,7 +28,7 @@ use Rattle.sctp_reassembly.proofs.UnorderedFits.{end_is, end_of}
 use Rattle.sctp_reassembly.proofs.HeldMessages.{and_none, at_filtered, in_from, later_number, number_in, there_from}
 use Rattle.sctp_reassembly.proofs.ReadsAlike.{least_among, near_too}
 use Rattle.sctp_reassembly.proofs.SkipsAlike.{ordered_skips_stand}
-use Rattle.sctp_reassembly.proofs.TsnOrder.{tsn_before}
+use Rattle.sctp_reassembly.proofs.TsnOrder.{tsns_go_as_offsets}
 use Rattle.sctp_reassembly.proofs.WholeMessages.{IsNearBy, IsThere, all_there}
 
 -- The last piece of a group.
@@ -78,7 +78,7 @@ module _ {initial : ℕ} {p : Plan} {s : ℕ} {g : Group} {h : HeldMessage} (o :
             test =
                 ap (λ y. is_later (tsn initial o) (last_of y)) e ∙ ap (is_later (tsn initial o)) t.1
                 ∙ ap (tsn_lt (tsn initial o)) t.2.tsn
-                ∙ tsn_before initial o (end_of x xs) l (omega arith);
+                ∙ tsns_go_as_offsets initial o (end_of x xs) l (omega arith);
           }
 
 -- The first message up to m that has a piece past the offset.

@@ -17,7 +17,7 @@ use Rattle.sctp_model.proofs.Lists.{all_weaker}
 use Rattle.sctp_reassembly.specs.Stands.{CarryDataOf, CarriesData, IsOf}
 use Rattle.sctp_reassembly.proofs.PieceChains.{apart, not_last, one_message, same_text}
 use Rattle.sctp_reassembly.proofs.IndexRecursion.{position_here, position_later, put_before, up_one}
-use Rattle.sctp_reassembly.proofs.TsnOrder.{tsn_before, tsn_same}
+use Rattle.sctp_reassembly.proofs.TsnOrder.{tsns_go_as_offsets, tsn_same}
 use Rattle.sctp_reassembly.proofs.WholeMessages.{last_later}
 
 -- an offset at its place among ascending ones
@@ -74,7 +74,7 @@ module _ {initial : ℕ} {c : ChunkPayloadData} (p : Plan) (o : ℕ) (i : Carrie
   said_put (d ∷ ds) [] a s = absurd a
   said_put (d ∷ ds) (x ∷ xs) a s =
       let e : tsn_lt c.tsn d.tsn ≡ ltb o x =
-      ap (λ z. tsn_lt z d.tsn) i.tsn ∙ ap (tsn_lt (tsn initial o)) a.0.tsn ∙ tsn_before initial o x l s.0 in
+      ap (λ z. tsn_lt z d.tsn) i.tsn ∙ ap (tsn_lt (tsn initial o)) a.0.tsn ∙ tsns_go_as_offsets initial o x l s.0 in
       ⊎_elim
       (λ (b : ltb o x ≡ true). rw (e, b) (i, a))
       (λ (b : ltb o x ≡ false). rw (e, b) (a.0, said_put ds xs a.1 s.1))
@@ -152,7 +152,7 @@ module _ {initial : ℕ} {p : Plan} {over : ℕ → Bool} {s n : ℕ} {c : Chunk
   front_fits (d ∷ ds) [] a m t out = absurd a
   front_fits (d ∷ ds) (y ∷ ys) a m t out =
       let e : tsn_lt c.tsn d.tsn ≡ ltb o y =
-      ap (λ z. tsn_lt z d.tsn) i.tsn ∙ ap (tsn_lt (tsn initial o)) a.0.tsn ∙ tsn_before initial o y l t.0 in
+      ap (λ z. tsn_lt z d.tsn) i.tsn ∙ ap (tsn_lt (tsn initial o)) a.0.tsn ∙ tsns_go_as_offsets initial o y l t.0 in
       let apart_from = eqb-false y o (or_parts (eqb y o) (mem o ys) out).0 in
       ⊎_elim
       (λ (b : ltb o y ≡ true).
@@ -172,7 +172,7 @@ module _ {initial : ℕ} {p : Plan} {over : ℕ → Bool} {s n : ℕ} {c : Chunk
   back_fits (d ∷ ds) [] a m t out = absurd a
   back_fits (d ∷ ds) (y ∷ ys) a m t out =
       let e : tsn_lt c.tsn d.tsn ≡ ltb o y =
-      ap (λ z. tsn_lt z d.tsn) i.tsn ∙ ap (tsn_lt (tsn initial o)) a.0.tsn ∙ tsn_before initial o y l t.0 in
+      ap (λ z. tsn_lt z d.tsn) i.tsn ∙ ap (tsn_lt (tsn initial o)) a.0.tsn ∙ tsns_go_as_offsets initial o y l t.0 in
       let parts = or_parts (eqb y o) (mem o ys) out in
       let apart_from = eqb-false y o parts.0 in
       ⊎_elim

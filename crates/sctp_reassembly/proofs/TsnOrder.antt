@@ -3,8 +3,8 @@ use Rattle.std.proofs.Common.{ℕ, suc, ◌+◌, ◌-◌, ◌^◌, ◌<◌, ◌�
 use Rattle.std.proofs.lemmas.Bool.{cases_lt, cases_eq, and_from, and_left, and_right, eq-eqb, ne_eqb, lt-ltb, le-ltb}
 use Rattle.sctp_serial.specs.Serial.{tsn, tsn_lt, tsn_past, tsn_after}
 
-pub tsn_before : (initial a b : ℕ) → a < 2 ^ 31 → b < 2 ^ 31 → tsn_lt (tsn initial a) (tsn initial b) ≡ ltb a b
-tsn_before initial a b la lb =
+pub tsns_go_as_offsets : (initial a b : ℕ) → a < 2 ^ 31 → b < 2 ^ 31 → tsn_lt (tsn initial a) (tsn initial b) ≡ ltb a b
+tsns_go_as_offsets initial a b la lb =
     ⊎_elim
     (λ (l : a < b).
     let e : tsn_past (tsn initial a) (tsn initial b) ≡ b - a = omega arith in

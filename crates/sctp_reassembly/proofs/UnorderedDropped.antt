@@ -20,7 +20,7 @@ use Rattle.sctp_reassembly.proofs.UnorderedFound.{is_whole}
 use Rattle.sctp_reassembly.proofs.MessageRuns.{is_rest}
 use Rattle.sctp_reassembly.proofs.HeldMessages.{and_none, nested}
 use Rattle.sctp_reassembly.proofs.OffsetRuns.{IsChain, all_in, chains, some_in}
-use Rattle.sctp_reassembly.proofs.TsnOrder.{tsn_before, tsn_same}
+use Rattle.sctp_reassembly.proofs.TsnOrder.{tsns_go_as_offsets, tsn_same}
 use Rattle.sctp_reassembly.proofs.UnorderedArrives.{at_kept, not_whole}
 use Rattle.sctp_reassembly.proofs.WholeMessages.{complete_is}
 
@@ -64,7 +64,7 @@ said_above initial p o (d ∷ ds) (x ∷ xs) l a s =
     let test : not (tsn_lte d.tsn (tsn initial o)) ≡ past o x
     = ap (λ z. not (tsn_lte z (tsn initial o))) a.0.tsn
     ∙ ap (λ z. not (z || tsn_lt (tsn initial x) (tsn initial o))) (tsn_same initial x o s.0 l)
-    ∙ ap (λ z. not (eqb x o || z)) (tsn_before initial x o s.0 l) ∙ not_up_to x o in
+    ∙ ap (λ z. not (eqb x o || z)) (tsns_go_as_offsets initial x o s.0 l) ∙ not_up_to x o in
     let more = said_above initial p o ds xs l a.1 s.1 in
     ⊎_elim (λ (b : past o x ≡ true). rw (test ∙ b, b) (a.0, more)) (λ (b : past o x ≡ false). rw (test ∙ b, b) more)
     (cases_Bool (past o x))

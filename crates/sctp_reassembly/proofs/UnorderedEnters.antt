@@ -17,7 +17,7 @@ use Rattle.sctp_reassembly.specs.Stands.{AreRuns, CarryDataOf, CarriesData, lead
 use Rattle.sctp_reassembly.proofs.PiecePlace.{unwrap_up}
 use Rattle.sctp_reassembly.proofs.IndexRecursion.{position_here, position_later}
 use Rattle.sctp_reassembly.proofs.OffsetRuns.{last_leads, join_runs, join_last, join_run}
-use Rattle.sctp_reassembly.proofs.TsnOrder.{tsn_before, tsn_next}
+use Rattle.sctp_reassembly.proofs.TsnOrder.{tsns_go_as_offsets, tsn_next}
 use Rattle.sctp_reassembly.proofs.WholeMessages.{last_later}
 
 -- Where two lists meet.
@@ -274,7 +274,8 @@ module _ {initial : ℕ} {c : ChunkPayloadData} (p : Plan) (o : ℕ) (i : Carrie
       one (d ∷ ds) [] a b = absurd a
       one (d ∷ ds) (x ∷ xs) a b =
           let less = b.0 in
-          ap (λ z. tsn_lt z d.tsn) i.tsn ∙ ap (tsn_lt (tsn initial o)) a.0.tsn ∙ tsn_before initial o x l (omega arith)
+          ap (λ z. tsn_lt z d.tsn) i.tsn ∙ ap (tsn_lt (tsn initial o)) a.0.tsn
+          ∙ tsns_go_as_offsets initial o x l (omega arith)
           ∙ le-ltb o x (omega arith)
 
   pub all_past : (cs : List (List ChunkPayloadData)) (gs : List (List ℕ)) → AreRuns initial p cs gs
@@ -291,7 +292,7 @@ module _ {initial : ℕ} {c : ChunkPayloadData} (p : Plan) (o : ℕ) (i : Carrie
       one r [] a n b s = absurd (omega arith)
       one [] (x ∷ xs) a n b s = absurd a
       one (d ∷ ds) (x ∷ xs) a n b s =
-          ap (λ z. tsn_lt z d.tsn) i.tsn ∙ ap (tsn_lt (tsn initial o)) a.0.tsn ∙ tsn_before initial o x l s.0
+          ap (λ z. tsn_lt z d.tsn) i.tsn ∙ ap (tsn_lt (tsn initial o)) a.0.tsn ∙ tsns_go_as_offsets initial o x l s.0
           ∙ lt-ltb o x b.0
 
   led_so : (ys : List (List ChunkPayloadData)) (hs : List (List ℕ)) → AreRuns initial p ys hs
