@@ -17,8 +17,8 @@ use Rattle.sctp_outbound.specs.declared.abandonment.Reason.TheVariants as reason
 use Rattle.sctp_outbound.specs.declared.abandonment.Reached.{Reached}
 use Rattle.sctp_outbound.specs.declared.abandonment.Reached.TheVariants as reached
 use Rattle.sctp_outbound.specs.declared.sender.Sender.{Sender}
-use Rattle.sctp_outbound.specs.Abandonment.{abandoned_if, all_given_up, given_up_first, is_late, is_pass_due}
-use Rattle.sctp_outbound.specs.Abandonment.{next_given_up, pass_room}
+use Rattle.sctp_outbound.specs.Abandonment.{abandoned_if, all_given_up, given_up_first, is_pass_due, next_given_up}
+use Rattle.sctp_outbound.specs.Abandonment.{pass_room}
 use Rattle.sctp_outbound.specs.Abandonment.{asked_past, has_late_tail, reached_at, spent_from, spent_place}
 use Rattle.sctp_outbound.specs.Abandonment.{tail_given_up}
 use Rattle.sctp_outbound.proofs.SenderSteps.{drop_get}
@@ -154,6 +154,11 @@ not_late true true c e = absurd (true≢false e)
 not_late true false c e = refl
 not_late false true c e = refl
 not_late false false c e = refl
+
+-- the first message that waits is begun and expired
+abbrev pub is_late : ℕ → Option Waiting → Bool
+is_late now None = false
+is_late now (Some m) = m.begun && is_expired now m.message
 
 no_tail : (now : ℕ) (ms : List Waiting) (q : Outbound) → is_late now (slice_get ms 0) ≡ false
     → after_tail_expiry_of ms q now ≡ (q, None)

@@ -10,3 +10,4 @@ pub mod ForwardMade
 pub mod Unlimited
 pub mod Spared
 pub mod NoneLeft
+pub mod Dropped

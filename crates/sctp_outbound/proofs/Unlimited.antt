@@ -2,27 +2,28 @@
 use Rattle.std.proofs.Common.{◌≡◌, ℕ, ◌+◌, ◌-◌, Bool, true, false, ◌&&◌, ◌||◌, not, is_some, nat_lt, List, [], ◌∷◌, map}
 use Rattle.std.proofs.Common.{Option, Some, None, length, slice_get, refl, ap, sym, ◌∙◌, ⊎_elim, arith}
 use Rattle.std.proofs.lemmas.Bool.{cases_Bool}
-use Rattle.std.specs.List.{AllByRecursion, position, position_or_len}
+use Rattle.std.specs.List.{AllByRecursion, find, position, position_or_len}
 use Rattle.std.specs.Option.{option_map}
 use Rattle.sctp_outbound_queue.specs.declared.message.Attributes.{Attributes}
 use Rattle.sctp_outbound_queue.specs.declared.message.InFlight.{InFlight}
 use Rattle.sctp_outbound_queue.specs.declared.message.Retransmission.{Retransmission}
 use Rattle.sctp_outbound_queue.specs.Message.{deadline_under, is_expired_piece, is_past, picks, room_taken}
 use Rattle.sctp_outbound_queue.specs.Message.{sent_started}
-use Rattle.sctp_outbound_queue.specs.Message.{started, waiting_started}
-use Rattle.sctp_outbound_queue.specs.Outbound.{Outbound, tsn_at}
+use Rattle.sctp_outbound_queue.specs.Message.{is_expired_unsent, message_bytes, started, waiting_started}
+use Rattle.sctp_outbound_queue.specs.Outbound.{Outbound, released, tsn_at}
 use Rattle.sctp_outbound_queue.specs.Expiry.{all_started, first_tsn_that}
 use Rattle.sctp_outbound_queue.specs.Waiting.{Waiting}
 use Rattle.sctp_streams.specs.Streams.{StreamMap}
 use Rattle.sctp_outbound.specs.declared.abandonment.Reason.TheVariants as reasons
 use Rattle.sctp_outbound.specs.declared.sender.Sender.{Sender}
-use Rattle.sctp_outbound.specs.Abandonment.{all_given_up, allows_no_more, expired_by, expires, first_spent}
-use Rattle.sctp_outbound.specs.Abandonment.{given_up_before, gives_up_before, has_late_tail, is_late, is_pass_due}
+use Rattle.sctp_outbound.specs.Abandonment.{all_given_up, allows_no_more, dropped_by, expired_by, expires, first_spent}
+use Rattle.sctp_outbound.specs.Abandonment.{given_up_before, gives_up_before, has_late_tail, is_pass_due}
 use Rattle.sctp_outbound.specs.Abandonment.{is_spent, late_given_up, next_given_up, pass_room, spent_place}
 use Rattle.sctp_outbound.specs.Abandonment.{tail_given_up}
 use Rattle.sctp_outbound.specs.Abandonment.{with_started}
 use Rattle.sctp_outbound.specs.Laws.{HasNoLimit, IsUnlimited, UnlimitedStay}
-use Rattle.sctp_outbound.proofs.GivenUp.{lt_same, no_late_tail, none_given_up, tail_stays}
+use Rattle.sctp_outbound.proofs.Dropped.{none_of_any}
+use Rattle.sctp_outbound.proofs.GivenUp.{is_late, lt_same, no_late_tail, none_given_up, tail_stays}
 
 -- what a pass does at one piece
 
@@ -46,7 +47,7 @@ place_on k i room p ps a b c = rw (a, b, c) refl
 -- no piece is spent
 
 never_spent : (p : InFlight) → IsUnlimited p.message → is_spent p ≡ false
-never_spent p u = ap (λ z. allows_no_more z p.sent_count) u.0
+never_spent p u = ap (λ z. allows_no_more z p.sent_count) u
 
 no_place : (k : Retransmission) (i room : ℕ) (ps : List InFlight)
     → AllByRecursion (λ (p : InFlight). IsUnlimited p.message) ps → spent_place k i room ps ≡ None
@@ -78,7 +79,7 @@ and_false false = refl
 
 not_expired : (now : ℕ) (p : InFlight) → IsUnlimited p.message → is_expired_piece now p ≡ false
 not_expired now p u =
-    ap (λ (z : Option ℕ). not p.abandoned && is_past z now) u.1 ∙ and_false (not p.abandoned)
+    ap (λ z. not p.abandoned && is_past z p.message.deadline now) u ∙ and_false (not p.abandoned)
 
 all_passed : (now : ℕ) (ps : List InFlight) → AllByRecursion (λ (p : InFlight). IsUnlimited p.message) ps
     → position_or_len (is_expired_piece now) ps ≡ length ps
@@ -95,7 +96,7 @@ none_expired : (now : ℕ) (s : Sender) → HasNoLimit s.queue → next_given_up
 none_expired now s all = ap (option_map (tsn_at s.queue.first_tsn)) (no_position now s.queue.in_flight all.1)
 
 started_same : (now : ℕ) (a : Attributes) → IsUnlimited a → started now a ≡ a
-started_same now a u = ap (λ z. record a { deadline = z }) (ap (λ z. deadline_under z now a.deadline) u.0)
+started_same now a u = ap (λ z. record a { deadline = z }) (ap (λ z. deadline_under z now a.deadline) u)
 
 sent_same : (now : ℕ) (ps : List InFlight) → AllByRecursion (λ (p : InFlight). IsUnlimited p.message) ps
     → map (sent_started now) ps ≡ ps
@@ -123,7 +124,7 @@ sender_same now s all = ap (λ z. record s { queue = z }) (all_same now s.queue 
 never_late : (now : ℕ) (ms : List Waiting) → AllByRecursion (λ (m : Waiting). IsUnlimited m.message) ms
     → is_late now (slice_get ms 0) ≡ false
 never_late now [] all = refl
-never_late now (m ∷ ms) all = ap (λ (z : Option ℕ). m.begun && is_past z now) all.0.1 ∙ and_false m.begun
+never_late now (m ∷ ms) all = ap (λ z. m.begun && is_past z m.message.deadline now) all.0 ∙ and_false m.begun
 
 late_same : (now : ℕ) (s : Sender) (m : StreamMap) → HasNoLimit s.queue → late_given_up now (s, m) ≡ (s, m)
 late_same now s m all =
@@ -150,5 +151,27 @@ expired_same s m all true now = (
       ∙ no_late_tail now s (never_late now s.queue.pending all.0),
 )
 
+never_unsent : (now : ℕ) (ms : List Waiting) → AllByRecursion (λ (m : Waiting). IsUnlimited m.message) ms
+    → find (is_expired_unsent now) ms ≡ None
+never_unsent now [] all = refl
+never_unsent now (m ∷ ms) all =
+    let late = ap (λ z. not m.begun && is_past z m.message.deadline now) all.0 ∙ and_false (not m.begun) in
+    rw late (never_unsent now ms all.1)
+
+dropped_same : (s : Sender) (m : StreamMap) → HasNoLimit s.queue → (forward : Bool) (now : ℕ)
+    → dropped_by forward now (s, m) ≡ (s, m)
+dropped_same s m all false now = refl
+dropped_same s m all true now =
+    none_of_any (length s.queue.pending) now (s, m)
+    (ap (λ (z : Option Waiting). is_some (option_map (λ m. released m.message (message_bytes m)) z))
+    (never_unsent now s.queue.pending all.0))
+
 pub unlimited_stay : UnlimitedStay
-unlimited_stay s m all = (given_up_same s m all, expired_same s m all)
+unlimited_stay s m all = (
+  given_up_same s m all,
+  λ forward now. (
+    (expired_same s m all forward now).0,
+    (expired_same s m all forward now).1,
+    dropped_same s m all forward now,
+  ),
+)

@@ -11,8 +11,8 @@ use Rattle.sctp_outbound_queue.specs.declared.queue.Released.{Released}
 use Rattle.sctp_outbound_queue.specs.Waiting.{Waiting}
 use Rattle.sctp_outbound_queue.specs.Message.{picks, room_taken, is_expired, is_expired_piece}
 use Rattle.sctp_outbound_queue.specs.Outbound.{Outbound, abandoned_at, abandoned_in_front_of, marked_of, tsn_at}
-use Rattle.sctp_outbound_queue.specs.Expiry.{all_started, first_tsn_that, after_tail_expiry}
-use Rattle.sctp_streams.specs.Streams.{StreamMap, released_in}
+use Rattle.sctp_outbound_queue.specs.Expiry.{after_expiry, after_tail_expiry, all_started, first_tsn_that}
+use Rattle.sctp_streams.specs.Streams.{StreamMap, given_back_in, released_in}
 use Rattle.sctp_outbound.specs.declared.abandonment.Reason.{Reason}
 use Rattle.sctp_outbound.specs.declared.abandonment.Reason.TheVariants as reasons
 use Rattle.sctp_outbound.specs.declared.abandonment.Reached.{Reached}
@@ -116,11 +116,6 @@ given_up_before forward k all = if forward then all_given_up (reasons.Spent k) a
 abbrev pub gives_up_before : Bool → Retransmission → Sender → Bool
 gives_up_before forward k s = forward && is_some (next_given_up (reasons.Spent k) s)
 
--- the first message that waits is begun and expired
-abbrev pub is_late : ℕ → Option Waiting → Bool
-is_late now None = false
-is_late now (Some m) = m.begun && is_expired now m.message
-
 -- an expired message of which a part was sent, and none of that part is in flight, has unsent pieces
 abbrev pub has_late_tail : ℕ → Sender → Bool
 has_late_tail now s = is_some (after_tail_expiry now s.queue).1
@@ -149,9 +144,28 @@ expires forward now all =
     && (is_some (next_given_up (reasons.Expired now) (with_started now all.0))
     || has_late_tail now (late_given_up now all).0)
 
--- memory may be asked for while they are
-abbrev pub may_expire : Bool → ℕ → Sender × StreamMap → Bool
-may_expire forward now all =
-    forward
-    && (is_some (next_given_up (reasons.Expired now) (with_started now all.0))
-    || is_late now (slice_get (late_given_up now all).0.queue.pending 0))
+-- Messages that are dropped before any of them was sent
+
+-- the bytes of a dropped message are released at its stream, and the number of an ordered one is given back there
+abbrev pub given_back_of : Option Released → StreamMap → StreamMap
+given_back_of None m = m
+given_back_of (Some r) m =
+    given_back_in m r.message.stream_identifier r.message.generation r.message.unordered r.bytes
+
+-- the first expired message of which nothing was sent is dropped
+unfoldable pub first_dropped : ℕ → Sender × StreamMap → Sender × StreamMap
+first_dropped now (s, m) =
+    (record s { queue = (after_expiry now s.queue).0 }, given_back_of (after_expiry now s.queue).1 m)
+
+-- so many of them are, one after another
+abbrev pub dropped_first : ℕ → ℕ → Sender × StreamMap → Sender × StreamMap
+dropped_first zero now all = all
+dropped_first (suc n) now all = dropped_first n now (first_dropped now all)
+
+-- all of them are: as many as messages wait at most
+abbrev pub all_dropped : ℕ → Sender × StreamMap → Sender × StreamMap
+all_dropped now all = dropped_first (length all.0.queue.pending) now all
+
+-- where FORWARD TSN is in use, the expired messages of which nothing was sent are dropped
+abbrev pub dropped_by : Bool → ℕ → Sender × StreamMap → Sender × StreamMap
+dropped_by forward now all = if forward then all_dropped now all else all

@@ -13,13 +13,13 @@ use Rattle.sctp_streams.specs.Streams.{StreamMap}
 use Rattle.sctp_outbound.specs.declared.abandonment.Reason.{Reason}
 use Rattle.sctp_outbound.specs.declared.sender.Sender.{Sender}
 use Rattle.sctp_outbound.specs.Sender.{after_marked, after_missing}
-use Rattle.sctp_outbound.specs.Abandonment.{all_given_up, next_given_up}
+use Rattle.sctp_outbound.specs.Abandonment.{all_given_up, dropped_by, next_given_up}
 use Rattle.sctp_outbound.specs.Abandonment.{expired_by, expires, first_spent, given_up_before, gives_up_before}
 use Rattle.sctp_outbound.specs.Abandonment.{is_spent}
 
--- a message is reliable, and no deadline of it runs
+-- a message is reliable
 abbrev pub IsUnlimited : Attributes → Type 0
-IsUnlimited a = (a.policy ≡ Reliable) × (a.deadline ≡ None)
+IsUnlimited a = a.policy ≡ Reliable
 
 -- so is each that waits or is in flight
 abbrev pub HasNoLimit : Outbound → Type 0
@@ -32,7 +32,8 @@ abbrev pub UnlimitedStay : Type 0
 UnlimitedStay = (s : Sender) (m : StreamMap) → HasNoLimit s.queue
     → ((forward : Bool) (k : Retransmission) → (given_up_before forward k (s, m) ≡ (s, m))
     × (gives_up_before forward k s ≡ false))
-    × ((forward : Bool) (now : ℕ) → (expired_by forward now (s, m) ≡ (s, m)) × (expires forward now (s, m) ≡ false))
+    × ((forward : Bool) (now : ℕ) → (expired_by forward now (s, m) ≡ (s, m)) × (expires forward now (s, m) ≡ false)
+    × (dropped_by forward now (s, m) ≡ (s, m)))
 
 -- each piece is as it was, or it counts one sending more and was not spent
 abbrev pub IsSparing : Retransmission → List InFlight → List InFlight → Type 0

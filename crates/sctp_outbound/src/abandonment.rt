@@ -7,7 +7,7 @@ ghost use Rattle.sctp_streams.specs.Streams.{released_in};
 ghost use Rattle.sctp_outbound.specs.Abandonment.{abandoned_if, abandoned_of, all_given_up, asked_past, expired_by};
 ghost use Rattle.sctp_outbound.specs.Abandonment.{expires};
 ghost use Rattle.sctp_outbound.specs.Abandonment.{first_spent, given_up_before, gives_up_before, has_late_tail};
-ghost use Rattle.sctp_outbound.specs.Abandonment.{is_late, is_pass_due, is_spent, may_expire, next_given_up, pass_room};
+ghost use Rattle.sctp_outbound.specs.Abandonment.{is_pass_due, is_spent, next_given_up, pass_room};
 ghost use Rattle.sctp_outbound.specs.Abandonment.{reached_at, released_with, spent_place, tail_given_up, with_started};
 
 use crate::sender::Sender;
@@ -63,7 +63,8 @@ impl Sender {
 
     /// Where FORWARD TSN is in use, lets the time of each message that has one run from `now` on where it does not run
     /// yet, and gives up each expired message of which something was sent: it is abandoned whole, and its bytes are
-    /// released at its stream. Answers whether any message was given up. It lacks memory only where one may be.
+    /// released at its stream. Answers whether any message was given up. It lacks memory only where one is. Goes over
+    /// what is in flight only where a deadline is over.
     pub fn expire(
         &mut self,
         streams: &mut Streams,
@@ -74,7 +75,7 @@ impl Sender {
         ensures exact { OnOk result (expired_by forward now (self.old, streams.old) ≡ (self.new, streams.new)) }
         ensures any { IfOk result (λ any. any ≡ expires forward now (self.old, streams.old)) }
         ensures gathers { OnOk result (Gathers streams.old fallen.old streams.new fallen.new) }
-        ensures grows { OnErr result (may_expire forward now (self.old, streams.old) ≡ true) }
+        ensures grows { OnErr result (expires forward now (self.old, streams.old) ≡ true) }
     {
         if !forward {
             return Ok(false);
@@ -102,25 +103,12 @@ impl Sender {
         ensures exact { OnOk result (tail_given_up now (self.old, streams.old) ≡ (self.new, streams.new)) }
         ensures any { IfOk result (λ any. any ≡ has_late_tail now self.old) }
         ensures gathers { OnOk result (Gathers streams.old fallen.old streams.new fallen.new) }
-        ensures grows { OnErr result (is_late now (slice_get self.old.queue.pending 0) ≡ true) }
+        ensures grows { OnErr result (has_late_tail now self.old ≡ true) }
     {
-        if !self.is_late(now) {
-            return Ok(false);
-        }
         let before = self.queue.abandoned_in_front();
         let any = expire_tail_in(&mut self.queue, streams, fallen, now)?;
         self.ask_past(before);
         Ok(any)
-    }
-
-    // Whether the first message that waits is begun and expired.
-    fn is_late(&self, now: Instant) -> bool
-        ensures { result ≡ is_late now (slice_get self.now.queue.pending 0) }
-    {
-        match self.queue.peek_pending() {
-            Some(message) => message.begun && message.message.is_expired(now),
-            None => false,
-        }
     }
 
     // Abandons each message that is given up for a reason, and answers whether any was.
@@ -194,8 +182,9 @@ impl Sender {
     }
 
     // The TSN whose message is given up next.
-    fn next_given_up(&self, why: &Reason) -> Option<u32>
-        ensures { result ≡ next_given_up why.now self.now }
+    fn next_given_up(&mut self, why: &Reason) -> Option<u32>
+        ensures same { self.new ≡ self.old }
+        ensures tsn { result ≡ next_given_up why.now self.old }
     {
         match why {
             Reason::Expired(now) => self.queue.expired_inflight(*now),
@@ -320,6 +309,7 @@ fn expire_tail_in(
     ensures exact { OnOk result (released_with (after_tail_expiry now queue.old) streams.old ≡
         (queue.new, streams.new)) }
     ensures any { IfOk result (λ any. any ≡ is_some (after_tail_expiry now queue.old).1) }
+    ensures grows { OnErr result (is_some (after_tail_expiry now queue.old).1 ≡ true) }
     ensures gathers { OnOk result (Gathers streams.old fallen.old streams.new fallen.new) }
 {
     let Some(released) = queue.expire_pending_tail(now)? else {

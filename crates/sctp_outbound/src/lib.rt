@@ -9,6 +9,7 @@ mod laws;
 mod progress;
 mod recovery;
 mod sender;
+mod unsent;
 
 pub use congestion::CongestionWindow;
 pub use laws::{all_are_given_up, spent_pieces_are_spared, unlimited_messages_stay};

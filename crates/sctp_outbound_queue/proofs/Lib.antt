@@ -4,3 +4,4 @@ pub mod ExpiredUnsent
 pub mod FirstOutstanding
 pub mod PiecesCut
 pub mod ReportedMissing
+pub mod Timely

@@ -1,6 +1,6 @@
 -- Sums over what waits and what is in flight.
-use Rattle.std.proofs.Common.{◌≡◌, ℕ, zero, suc, ◌+◌, ◌-◌, ◌^◌, ◌<◌, ◌≤◌, ◌==◌, true, false, List, [], ◌∷◌, ◌++◌, Some}
-use Rattle.std.proofs.Common.{None}
+use Rattle.std.proofs.Common.{◌≡◌, ℕ, zero, suc, ◌+◌, ◌-◌, ◌^◌, ◌<◌, ◌≤◌, ◌==◌, ◌&&◌, not, Bool, true, false, List, []}
+use Rattle.std.proofs.Common.{◌∷◌, ◌++◌, Option, Some, None}
 use Rattle.std.proofs.Common.{length, map, min, fold, drop, slice_get, slice_index_or, refl, ap, sym, ◌∙◌, ⊎_elim}
 use Rattle.std.proofs.Common.{arith}
 use Rattle.std.proofs.Math.Bool.{cond}
@@ -13,16 +13,19 @@ use Rattle.std.proofs.lemmas.Bool.{cases_Bool}
 use Rattle.std.proofs.lemmas.Bool.Decides.{nat_tests}
 use Rattle.sctp_outbound_queue.specs.declared.message.InFlight.{InFlight}
 use Rattle.sctp_outbound_queue.specs.Waiting.{Waiting}
-use Rattle.sctp_outbound_queue.specs.Message.{acked, message_bytes, is_expired_unsent, without_piece, sent_once, is_of}
+use Rattle.sctp_outbound_queue.specs.Message.{accepted, acked, is_timed, message_bytes, is_expired_unsent}
+use Rattle.sctp_outbound_queue.specs.Message.{without_piece, sent_once, is_of}
 use Rattle.sctp_outbound_queue.specs.Message.{is_outstanding, marked_again, outstanding_bytes, outstanding_bytes_of}
 use Rattle.sctp_outbound_queue.specs.Message.{flagged}
 use Rattle.sctp_outbound_queue.specs.Expiry.{without_expired, after_expiry}
 use Rattle.sctp_outbound_queue.specs.Outbound.{abandoned_at, all_flagged, released, Outbound, AreKept, waiting_of}
 use Rattle.sctp_outbound_queue.specs.Outbound.{outstanding_of, outstanding_of_message, left_behind, after_piece}
-use Rattle.sctp_outbound_queue.specs.Outbound.{marked_of, tail_dropped, tail_dropped_from}
+use Rattle.sctp_outbound_queue.specs.Outbound.{marked_of, next_deadline_of, tail_dropped, tail_dropped_from}
 use Rattle.sctp_outbound_queue.proofs.FirstOutstanding.{abandoned, acknowledged, after_change, after_change_at}
 use Rattle.sctp_outbound_queue.proofs.FirstOutstanding.{after_more}
 use Rattle.sctp_outbound_queue.proofs.FirstOutstanding.{started_too}
+use Rattle.sctp_outbound_queue.proofs.Timely.{acked_keeps, flagged_keeps, timely_at, timely_changed, timely_dropped}
+use Rattle.sctp_outbound_queue.proofs.Timely.{timely_more, timely_sent, timely_started}
 use Rattle.sctp_outbound_queue.specs.Message.{sent_started, waiting_started}
 
 -- a sum that stops at a greatest number
@@ -148,22 +151,39 @@ tail_from (m ∷ ms) q id =
     λ (a : (m.message.message_id == id) ≡ false). rw a (omega arith)
     ) (cases_Bool (m.message.message_id == id))
 
-pub released_bound : (q : Outbound) (id waiting outstanding marked settled : ℕ)
-    → AreKept q.pending q.in_flight waiting outstanding marked settled
+pub released_bound : (run : Bool) (next : Option ℕ) (q : Outbound) (id waiting outstanding marked settled : ℕ)
+    → AreKept q.pending q.in_flight waiting outstanding marked settled run next
     → outstanding_of_message id q.in_flight + (tail_dropped q id).1 < 2 ^ 64
-released_bound q id waiting outstanding marked settled kept =
+released_bound run next q id waiting outstanding marked settled kept =
     let tail = tail_from q.pending q id in
     let sent = flagged_sum id q.in_flight in
     omega (arith, tail, sent, kept.0, kept.1, kept.2)
 
 -- the kept sums after a change
 
-pub kept_sent : {ms2 : List Waiting} {ps1 ps2 : List InFlight} {w o k b s : ℕ} {p : InFlight} (now : ℕ)
-    (ms : List Waiting)
-    (ps : List InFlight) → AreKept ms ps w o k s
+-- a message more waits, under a number that is its own
+pub kept_more : {ms2 : List Waiting} {w w2 o b all k s : ℕ} (run : Bool) (next : Option ℕ) (id : ℕ) (ms : List Waiting)
+    (ps : List InFlight) (m : Waiting) → AreKept ms ps w o k s run next → b ≡ min (message_bytes m) (2 ^ 64 - 1)
+    → w2 ≡ min (w + b) (2 ^ 64 - 1) → all ≡ min (w2 + o) (2 ^ 64 - 1) → (all ≡ 2 ^ 64 - 1 → ⊥)
+    → ms2 ≡ ms ++ accepted id m ∷ []
+    → AreKept ms2 ps w2 o k s (run && not (is_timed m.message.policy)) next
+kept_more run next id ms ps m kept bytes waiting total below more =
+    let push = sum_by_push message_bytes ms (accepted id m) in
+    rw more (
+      omega (arith, push, kept.0, bytes, waiting, total, below, kept.2),
+      kept.1,
+      omega (arith, push, kept.0, bytes, waiting, total, below, kept.2),
+      kept.3,
+      kept.4,
+      timely_more run next ms ps (accepted id m) refl kept.5,
+    )
+
+pub kept_sent : {ms2 : List Waiting} {ps1 ps2 : List InFlight} {w o k b s : ℕ} {p : InFlight} (run : Bool)
+    (next : Option ℕ) (now : ℕ) (ms : List Waiting)
+    (ps : List InFlight) → AreKept ms ps w o k s run next
     → Some p ≡ option_map (sent_once now) (slice_get ms 0) → ms2 ≡ after_piece ms → ps1 ≡ ps → ps2 ≡ ps1 ++ p ∷ []
-    → b ≡ outstanding_bytes p → AreKept ms2 ps2 (w - b) (o + b) k s
-kept_sent {p} now ms ps kept first left same more bytes =
+    → b ≡ outstanding_bytes p → AreKept ms2 ps2 (w - b) (o + b) k s run next
+kept_sent {p} run next now ms ps kept first left same more bytes =
     let a = after_piece_bytes now ms p (sym first) in
     let push = sum_by_push outstanding_bytes ps p in
     let unmarked = unmarked_more ps p (sent_unmarked now ms p (sym first)) in
@@ -171,14 +191,16 @@ kept_sent {p} now ms ps kept first left same more bytes =
     let d = kept.1 in
     let e = kept.2 in
     let f = kept.3 in
-    let first = after_more ps p in
+    let places = after_more ps p in
+    let timely = timely_sent now _ _ ms ps p (sym first) kept.5 in
     rw (left, more, same, bytes) (
       omega (arith, a, c),
       omega (arith, push, d),
       omega (arith, a, c, e),
       f
           ∙ sym unmarked,
-      omega (arith, first, kept.4),
+      omega (arith, places, kept.4),
+      timely,
     )
 
 -- a sum once one piece changed
@@ -196,18 +218,25 @@ set_sum f (p ∷ ps) (suc i) x y e =
     let b = sum_by-cons f p ps in
     omega (arith, a, b, more)
 
-pub kept_acked : {w o k b m s : ℕ} {x y : InFlight} (ms : List Waiting) (ps : List InFlight) (i : ℕ)
-    → AreKept ms ps w o k s → slice_get ps i ≡ Some x → b ≡ outstanding_bytes x → m ≡ cond x.retransmit 1 0
-    → y ≡ acked x → AreKept ms (slice_set ps i y) w (o - b) (k - m) s
-kept_acked {x} ms ps i kept there bytes mark now_acked =
+pub kept_acked : {w o k b m s : ℕ} {x y : InFlight} (run : Bool) (next : Option ℕ) (ms : List Waiting)
+    (ps : List InFlight) (i : ℕ)
+    → AreKept ms ps w o k s run next → slice_get ps i ≡ Some x → b ≡ outstanding_bytes x → m ≡ cond x.retransmit 1 0
+    → y ≡ acked x → AreKept ms (slice_set ps i y) w (o - b) (k - m) s run next
+kept_acked {x} run next ms ps i kept there bytes mark now_acked =
     let sum = set_sum outstanding_bytes ps i x (acked x) there in
     let marks = set_sum (λ (q : InFlight). cond q.retransmit 1 0) ps i x (acked x) there in
     let first = after_change_at acked acknowledged ps i x there in
     let c = kept.1 in
     let d = kept.2 in
     let e = kept.3 in
-    rw (now_acked, bytes, mark)
-    (kept.0, omega (arith, sum, c), omega (arith, d), omega (arith, marks, e), omega (arith, first, kept.4))
+    rw (now_acked, bytes, mark) (
+      kept.0,
+      omega (arith, sum, c),
+      omega (arith, d),
+      omega (arith, marks, e),
+      omega (arith, first, kept.4),
+      timely_at _ _ acked (acked_keeps _ _) ms ps i x there kept.5,
+    )
 
 -- a sum over what a change leaves as it is
 same_sum : {X : Type 0} (f : X → ℕ) (g : X → X) → ((x : X) → f (g x) ≡ f x) → (xs : List X)
@@ -220,60 +249,81 @@ same_sum f g same (x ∷ xs) =
     let one = same x in
     omega (arith, a, b, more, one)
 
-pub kept_started : {ms2 : List Waiting} {ps2 : List InFlight} {w o k s : ℕ} (now : ℕ) (ms : List Waiting)
-    (ps : List InFlight) → AreKept ms ps w o k s → ms2 ≡ map (waiting_started now) ms → ps2 ≡ map (sent_started now) ps
-    → AreKept ms2 ps2 w o k s
-kept_started now ms ps kept waiting sent =
+pub kept_started : {ms2 : List Waiting} {ps2 : List InFlight} {w o k s : ℕ} (run : Bool) (next : Option ℕ) (now : ℕ)
+    (ms : List Waiting)
+    (ps : List InFlight) → AreKept ms ps w o k s run next → ms2 ≡ map (waiting_started now) ms
+    → ps2 ≡ map (sent_started now) ps
+    → AreKept ms2 ps2 w o k s true (next_deadline_of ms2 ps2)
+kept_started run next now ms ps kept waiting sent =
     let a = same_sum message_bytes (waiting_started now) (λ m. refl) ms in
     let b = same_sum outstanding_bytes (sent_started now) (λ p. refl) ps in
     let c = same_sum (λ (p : InFlight). cond p.retransmit 1 0) (sent_started now) (λ p. refl) ps in
     let first = after_change (sent_started now) (started_too now) ps in
     rw (waiting, sent)
-    (kept.0 ∙ sym a, kept.1 ∙ sym b, kept.2, kept.3 ∙ sym c, omega (arith, first, kept.4))
+    (kept.0 ∙ sym a, kept.1 ∙ sym b, kept.2, kept.3 ∙ sym c, omega (arith, first, kept.4), timely_started now ms ps)
 
-pub kept_flagged : {ps2 : List InFlight} {w o k b left s : ℕ} (id : ℕ) (ms : List Waiting) (ps : List InFlight)
-    → AreKept ms ps w o k s → b ≡ min (outstanding_of_message id ps) (2 ^ 64 - 1)
-    → ps2 ≡ map (flagged id) ps → left ≡ marked_of ps2 → AreKept ms ps2 w (o - b) left s
-kept_flagged id ms ps kept bytes flags counted =
+pub kept_flagged : {ps2 : List InFlight} {w o k b left s : ℕ} (run : Bool) (next : Option ℕ) (id : ℕ)
+    (ms : List Waiting) (ps : List InFlight)
+    → AreKept ms ps w o k s run next → b ≡ min (outstanding_of_message id ps) (2 ^ 64 - 1)
+    → ps2 ≡ map (flagged id) ps → left ≡ marked_of ps2 → AreKept ms ps2 w (o - b) left s run next
+kept_flagged run next id ms ps kept bytes flags counted =
     let a = flagged_sum id ps in
     let c = kept.0 in
     let d = kept.1 in
     let e = kept.2 in
-    let first = after_change (flagged id) (abandoned id) ps in
-    (c, rw flags (omega (arith, a, bytes, d, e)), omega (arith, e), counted, rw flags (omega (arith, first, kept.4)))
+    let first = after_change (flagged id) (abandoned id) ps in (
+      c,
+      rw flags (omega (arith, a, bytes, d, e)),
+      omega (arith, e),
+      counted,
+      rw flags (omega (arith, first, kept.4)),
+      rw flags (timely_changed _ _ (flagged id) (flagged_keeps id _ _) ms ps kept.5),
+    )
 
-pub kept_same : {ms2 : List Waiting} {w o k s : ℕ} (now : ℕ) (ms : List Waiting) (ps : List InFlight)
-    → AreKept ms ps w o k s → None ≡ find (is_expired_unsent now) ms
-    → ms2 ≡ without_expired now ms → AreKept ms2 ps w o k s
-kept_same now ms ps kept none left =
+pub kept_same : {ms2 : List Waiting} {w o k s : ℕ} (run : Bool) (next : Option ℕ) (now : ℕ) (ms : List Waiting)
+    (ps : List InFlight)
+    → AreKept ms ps w o k s run next → None ≡ find (is_expired_unsent now) ms
+    → ms2 ≡ without_expired now ms → AreKept ms2 ps w o k s run next
+kept_same run next now ms ps kept none left =
     rw (left, without_none now ms (sym none)) kept
 
-pub kept_dropped : {ms2 : List Waiting} {w o k b s : ℕ} {d : Waiting} (now : ℕ) (ms : List Waiting) (ps : List InFlight)
-    → AreKept ms ps w o k s
+pub kept_dropped : {ms2 : List Waiting} {w o k b s : ℕ} {d : Waiting} (run : Bool) (next : Option ℕ) (now : ℕ)
+    (ms : List Waiting) (ps : List InFlight)
+    → AreKept ms ps w o k s run next
     → Some d ≡ find (is_expired_unsent now) ms → ms2 ≡ without_expired now ms → b ≡ min (message_bytes d) (2 ^ 64 - 1)
-    → AreKept ms2 ps (w - b) o k s
-kept_dropped now ms ps kept found left bytes =
+    → AreKept ms2 ps (w - b) o k s run next
+kept_dropped run next now ms ps kept found left bytes =
     let a = without_bytes now ms _ (sym found) in
     let c = kept.0 in
     let e = kept.2 in
-    rw left (omega (arith, a, bytes, c, e), kept.1, omega (arith, e), kept.3, kept.4)
+    rw left (
+      omega (arith, a, bytes, c, e),
+      kept.1,
+      omega
+          (arith, e),
+      kept.3,
+      kept.4,
+      timely_dropped now _ _ ms ps kept.5,
+    )
 
-pub dropped_bytes : {w o k b s : ℕ} {d : Waiting} (now : ℕ) (ms : List Waiting) (ps : List InFlight)
-    → AreKept ms ps w o k s
+pub dropped_bytes : {w o k b s : ℕ} {d : Waiting} (run : Bool) (next : Option ℕ) (now : ℕ) (ms : List Waiting)
+    (ps : List InFlight)
+    → AreKept ms ps w o k s run next
     → Some d ≡ find (is_expired_unsent now) ms
     → b ≡ min (message_bytes d) (2 ^ 64 - 1) → (b ≡ message_bytes d) × (b ≤ w)
-dropped_bytes now ms ps kept found bytes =
+dropped_bytes run next now ms ps kept found bytes =
     let a = without_bytes now ms _ (sym found) in
     let c = kept.0 in
     let e = kept.2 in
     (omega (arith, a, bytes, c, e), omega (arith, a, bytes, c, e))
 
-pub expiry_is : {ms : List Waiting} {d : Waiting} {b w o k s : ℕ} (now : ℕ) (q : Outbound)
-    → AreKept q.pending q.in_flight w o k s → Some d ≡ find (is_expired_unsent now) q.pending
+pub expiry_is : {ms : List Waiting} {d : Waiting} {b w o k s : ℕ} (run : Bool) (next : Option ℕ) (now : ℕ)
+    (q : Outbound)
+    → AreKept q.pending q.in_flight w o k s run next → Some d ≡ find (is_expired_unsent now) q.pending
     → ms ≡ without_expired now q.pending → b ≡ min (message_bytes d) (2 ^ 64 - 1)
     → after_expiry now q ≡ (record q { pending = ms }, Some (released d.message b))
-expiry_is now q kept found left bytes =
-    let same = (dropped_bytes now q.pending q.in_flight kept found bytes).0 in
+expiry_is run next now q kept found left bytes =
+    let same = (dropped_bytes _ _ now q.pending q.in_flight kept found bytes).0 in
     rw (left, same, ← found)
 
 pub abandoned_is : {q1 q2 : Outbound} {index : ℕ} {p : InFlight} {sent tail : ℕ} (q : Outbound) (tsn : ℕ)

@@ -148,13 +148,61 @@ waiting_started now m = record m { message = started now m.message }
 abbrev pub sent_started : ℕ → InFlight → InFlight
 sent_started now p = record p { message = started now p.message }
 
-abbrev pub is_past : Option ℕ → ℕ → Bool
-is_past None now = false
-is_past (Some deadline) now = nat_le deadline now
+-- a deadline is at or past the next one, if there is a next one
+abbrev pub is_from : Option ℕ → ℕ → Bool
+is_from None deadline = false
+is_from (Some next) deadline = nat_le next deadline
 
--- at or past its deadline
+-- the next deadline is over
+abbrev pub is_due : Option ℕ → ℕ → Bool
+is_due None now = false
+is_due (Some next) now = nat_le next now
+
+abbrev pub keeps_time : Bool → Option ℕ → Policy → Option ℕ → Bool
+keeps_time run next Reliable deadline = true
+keeps_time run next (Rexmit n) deadline = true
+keeps_time run next (Timed ms) None = not run
+keeps_time run next (Timed ms) (Some deadline) = is_from next deadline
+
+-- where a message has a lifetime, it runs if that of all messages does, and ends at or past the next deadline
+abbrev pub is_timely : Bool → Option ℕ → Attributes → Bool
+is_timely run next a = keeps_time run next a.policy a.deadline
+
+-- so it is with the message of a piece; an abandoned one has no deadline to wait for
+abbrev pub is_timely_piece : Bool → Option ℕ → InFlight → Bool
+is_timely_piece run next p = is_timely run (if p.abandoned then Some 0 else next) p.message
+
+abbrev pub is_timed : Policy → Bool
+is_timed Reliable = false
+is_timed (Rexmit n) = false
+is_timed (Timed ms) = true
+
+abbrev pub sooner_of : Option ℕ → ℕ → ℕ
+sooner_of None deadline = deadline
+sooner_of (Some next) deadline = min next deadline
+
+abbrev pub sooner_under : Policy → Option ℕ → Option ℕ → Option ℕ
+sooner_under Reliable deadline next = next
+sooner_under (Rexmit n) deadline next = next
+sooner_under (Timed ms) None next = next
+sooner_under (Timed ms) (Some deadline) next = Some (sooner_of next deadline)
+
+-- the next deadline, where that of one message more counts
+abbrev pub sooner : Option ℕ → Attributes → Option ℕ
+sooner next a = sooner_under a.policy a.deadline next
+
+abbrev pub sooner_piece : Option ℕ → InFlight → Option ℕ
+sooner_piece next p = if p.abandoned then next else sooner next p.message
+
+abbrev pub is_past : Policy → Option ℕ → ℕ → Bool
+is_past Reliable deadline now = false
+is_past (Rexmit n) deadline now = false
+is_past (Timed ms) None now = false
+is_past (Timed ms) (Some deadline) now = nat_le deadline now
+
+-- the lifetime is limited, and it is at or past its deadline
 abbrev pub is_expired : ℕ → Attributes → Bool
-is_expired now a = is_past a.deadline now
+is_expired now a = is_past a.policy a.deadline now
 
 -- an expired piece of a message that is not abandoned yet
 abbrev pub is_expired_piece : ℕ → InFlight → Bool

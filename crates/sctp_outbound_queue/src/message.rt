@@ -8,7 +8,9 @@ ghost use Rattle.sctp_outbound_queue.specs.Message.{is_outstanding, outstanding_
 ghost use Rattle.sctp_outbound_queue.specs.Message.{marked_again, counted_again, data_length, flagged, is_third_report};
 ghost use Rattle.sctp_outbound_queue.specs.Message.{picks, room_taken, reported_missing};
 ghost use Rattle.sctp_outbound_queue.specs.Message.{deadline_under, started, waiting_started, sent_started, is_expired};
-ghost use Rattle.sctp_outbound_queue.specs.Message.{is_expired_piece, is_expired_unsent, share_ssns, moved_down};
+ghost use Rattle.sctp_outbound_queue.specs.Message.{is_expired_piece, is_expired_unsent, is_timed, share_ssns};
+ghost use Rattle.sctp_outbound_queue.specs.Message.{moved_down};
+ghost use Rattle.sctp_outbound_queue.specs.Message.{sooner, sooner_of, sooner_piece};
 
 use bytes::Bytes;
 use sctp_wire_types::{Instant, PayloadProtocolIdentifier, Policy, StreamId};
@@ -89,13 +91,33 @@ pub struct InFlight {
 }
 
 impl Attributes {
-    /// At or past its deadline.
+    // It has a lifetime.
+    pub(crate) fn is_timed(&self) -> bool
+        ensures { result ≡ is_timed self.now.policy }
+    {
+        match self.policy {
+            Policy::Timed(_) => true,
+            Policy::Reliable | Policy::Rexmit(_) => false,
+        }
+    }
+
+    // The next deadline, where its own counts too.
+    pub(crate) fn sooner(&self, next: Option<Instant>) -> Option<Instant>
+        ensures { result ≡ sooner next self.now }
+    {
+        match (self.policy, self.deadline) {
+            (Policy::Timed(_), Some(deadline)) => Some(sooner_of(next, deadline)),
+            _ => next,
+        }
+    }
+
+    /// Its lifetime is limited, and it is at or past its deadline.
     pub fn is_expired(&self, now: Instant) -> bool
         ensures { result ≡ is_expired now self.now }
     {
-        match self.deadline {
-            Some(deadline) => deadline <= now,
-            None => false,
+        match (self.policy, self.deadline) {
+            (Policy::Timed(_), Some(deadline)) => deadline <= now,
+            _ => false,
         }
     }
 
@@ -268,6 +290,17 @@ impl InFlight {
         !self.abandoned && self.message.is_expired(now)
     }
 
+    // The next deadline, where its own counts too unless it is abandoned.
+    pub(crate) fn sooner(&self, next: Option<Instant>) -> Option<Instant>
+        ensures { result ≡ sooner_piece next self.now }
+    {
+        if self.abandoned {
+            next
+        } else {
+            self.message.sooner(next)
+        }
+    }
+
     pub(crate) fn acknowledge(&mut self)
         ensures { self.new ≡ acked self.old }
     {
@@ -343,6 +376,15 @@ impl InFlight {
         ensures { self.new ≡ sent_started now self.old }
     {
         self.message.deadline = self.message.deadline_from(now);
+    }
+}
+
+fn sooner_of(next: Option<Instant>, deadline: Instant) -> Instant
+    ensures { result ≡ sooner_of next deadline }
+{
+    match next {
+        Some(next) if next < deadline => next,
+        _ => deadline,
     }
 }
 

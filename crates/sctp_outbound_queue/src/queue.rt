@@ -1,12 +1,12 @@
 // Messages that wait to be sent, and pieces in flight.
 ghost use Rattle.std.specs.Prelude.{◌≡◌, ◌==◌, ◌&&◌, ◌+◌, ◌-◌, ◌^◌, find, length, map, min, nat_lt, position};
 ghost use Rattle.std.specs.Prelude.{slice_get, take};
-ghost use Rattle.std.specs.Prelude.{IfOk, OnOk, OnErr};
+ghost use Rattle.std.specs.Prelude.{IfOk, OnOk, OnErr, is_some, true};
 ghost use Rattle.std.specs.Option.{option_copied, option_map};
 ghost use Rattle.sctp_serial.specs.Serial.{tsn_past};
 ghost use Rattle.sctp_outbound_queue.specs.Message.{is_outstanding, is_expired_piece, is_expired_unsent, counted_again};
 ghost use Rattle.sctp_outbound_queue.specs.Message.{is_third_report, marked_again, picks, flagged, waiting_started};
-ghost use Rattle.sctp_outbound_queue.specs.Message.{sent_started, moved_down, sent_once};
+ghost use Rattle.sctp_outbound_queue.specs.Message.{is_due, sent_started, moved_down, sent_once};
 ghost use Rattle.sctp_outbound_queue.specs.Outbound.{empty_outbound, tsn_at, next_tsn_of, waiting_of, outstanding_of};
 ghost use Rattle.sctp_outbound_queue.specs.Outbound.{outstanding_of_message, pieces_waiting, with_message, sent_next};
 ghost use Rattle.sctp_outbound_queue.specs.Outbound.{after_piece, without_first, changed_at, acked_at, piece_at};
@@ -20,7 +20,8 @@ ghost use Rattle.sctp_outbound_queue.specs.Expiry.{after_tail_expiry, is_expired
 use crate::walks::{
     any_of_message, any_of_stream, any_waiting_of_stream, bytes_of_message, count_marked,
     drop_expired, first_expired_piece, first_missing, first_not_abandoned, first_outstanding,
-    flag_all, mark_all, pieces_of, report_missing, start_all_sent, start_all_waiting, take_piece,
+    flag_all, mark_all, next_deadline, pieces_of, report_missing, start_all_sent,
+    start_all_waiting, take_piece,
 };
 use crate::{Attributes, InFlight, PendingMessage, Retransmission};
 use sctp_wire_types::{Instant, StreamId};
@@ -51,6 +52,10 @@ pub struct OutboundQueue {
     marked: usize,
     // No piece in flight before this index is outstanding.
     settled: usize,
+    // The time of each message that has one runs.
+    all_run: bool,
+    // No deadline of what waits or is in flight and not abandoned lies before this one; None: there is none.
+    next_deadline: Option<Instant>,
 }
 
 impl Model for OutboundQueue {
@@ -66,7 +71,7 @@ impl Model for OutboundQueue {
     } };
 
     ghost invariant = { λ q. AreKept q.pending.items q.in_flight.items q.pending_bytes q.outstanding_bytes
-        q.marked q.settled };
+        q.marked q.settled q.all_run q.next_deadline };
 }
 
 impl OutboundQueue {
@@ -83,11 +88,14 @@ impl OutboundQueue {
             outstanding_bytes: 0,
             marked: 0,
             settled: 0,
+            all_run: true,
+            next_deadline: None,
         }
     }
 
     /// Adds a message behind those that wait, under the next message identifier. A sum of bytes that reaches the
     /// greatest u64 and a message identifier past it count as want of memory.
+    #[tactic(auto, using(crate::proofs::Timely::timely_more))]
     pub fn push(&mut self, mut message: PendingMessage) -> Result<(), AllocError>
         ensures ok { OnOk result (self.new ≡ with_message self.old message) }
         ensures err { OnErr result (self.new ≡ self.old) }
@@ -100,9 +108,11 @@ impl OutboundQueue {
             return Err(AllocError);
         }
         message.accept(self.next_message_id);
+        let waits_for_start = message.message.is_timed();
         self.pending.push_back(message)?;
         self.next_message_id += 1;
         self.pending_bytes = waiting;
+        self.all_run &= !waits_for_start;
         Ok(())
     }
 
@@ -125,6 +135,13 @@ impl OutboundQueue {
         ensures { result ≡ nat_lt 0 (length self.now.pending) }
     {
         !self.pending.is_empty()
+    }
+
+    /// Number of messages that wait, or of which a rest waits.
+    pub fn pending_messages(&self) -> usize
+        ensures { result ≡ length self.now.pending }
+    {
+        self.pending.len()
     }
 
     /// Number of pieces that wait, at most the greatest usize. Goes over the messages that wait.
@@ -222,7 +239,7 @@ impl OutboundQueue {
     }
 
     /// Takes out the first piece in flight: it is acknowledged cumulatively. Goes over no other piece.
-    #[tactic(auto, using(crate::proofs::FirstOutstanding::popped_there))]
+    #[tactic(auto, using(crate::proofs::FirstOutstanding::popped_there, crate::proofs::Timely::timely_behind))]
     pub fn pop(&mut self) -> Option<InFlight>
         ensures piece { result ≡ slice_get self.old.in_flight 0 }
         ensures rest { self.new ≡ without_first self.old }
@@ -262,7 +279,7 @@ impl OutboundQueue {
 
     /// Counts that a piece is sent again. One that goes because the timer marked it loses the mark. Goes over no other
     /// piece.
-    #[tactic(auto, using(crate::proofs::FirstOutstanding::resent_there))]
+    #[tactic(auto, using(crate::proofs::FirstOutstanding::resent_there, crate::proofs::Timely::timely_resent))]
     pub fn resend(&mut self, index: usize, by: Retransmission)
         ensures { self.new ≡ changed_at (counted_again by) self.old index }
     {
@@ -373,7 +390,7 @@ impl OutboundQueue {
 
     // Drops the unsent pieces of a message, if it is the first one that waits; a marker takes the next TSN. Answers the
     // bytes dropped.
-    #[tactic(auto, using(crate::proofs::FirstOutstanding::more_there))]
+    #[tactic(auto, using(crate::proofs::FirstOutstanding::more_there, crate::proofs::Timely::timely_marker))]
     fn drop_tail(&mut self, message_id: u64) -> Result<u64, AllocError>
         ensures ok { IfOk result (λ bytes. tail_dropped self.old message_id ≡ (self.new, bytes)) }
         ensures err { OnErr result (self.new ≡ self.old) }
@@ -400,29 +417,46 @@ impl OutboundQueue {
         self.marked = count_marked(&self.in_flight);
     }
 
-    /// Lets the time of each message that has one run from `now` on, where it does not run yet.
+    /// Lets the time of each message that has one run from `now` on, where it does not run yet. Goes over what waits
+    /// and is in flight only where such a message was pushed since the last call.
     pub fn start_timed_messages(&mut self, now: Instant)
         ensures { self.new ≡ all_started now self.old }
     {
+        if self.all_run {
+            return;
+        }
         start_all_waiting(&mut self.pending, now);
         start_all_sent(&mut self.in_flight, now);
+        self.all_run = true;
+        self.next_deadline = next_deadline(&self.pending, &self.in_flight);
     }
 
-    /// The first TSN in flight of an expired message that is not abandoned yet.
-    pub fn expired_inflight(&self, now: Instant) -> Option<u32>
-        ensures { result ≡ first_tsn_that (is_expired_piece now) self.now }
+    /// The first TSN in flight of an expired message that is not abandoned yet. Goes over what waits and is in flight
+    /// only where a deadline is over since an earlier call went over it.
+    pub fn expired_inflight(&mut self, now: Instant) -> Option<u32>
+        ensures same { self.new ≡ self.old }
+        ensures tsn { result ≡ first_tsn_that (is_expired_piece now) self.old }
     {
+        if !is_over(self.next_deadline, now) {
+            return None;
+        }
         match first_expired_piece(&self.in_flight, now) {
             Some(index) => Some(self.tsn_at(index)),
-            None => None,
+            None => {
+                self.next_deadline = next_deadline(&self.pending, &self.in_flight);
+                None
+            }
         }
     }
 
     /// Drops the first expired message of which nothing was sent. Later ordered messages of its stream and generation
-    /// that wait move down by one SSN, if it is an ordered one.
+    /// that wait move down by one SSN, if it is an ordered one. Goes over what waits only where a deadline is over.
     pub fn expire_pending(&mut self, now: Instant) -> Option<Released>
         ensures { after_expiry now self.old ≡ (self.new, result) }
     {
+        if !is_over(self.next_deadline, now) {
+            return None;
+        }
         match drop_expired(&mut self.pending, now) {
             Some(dropped) => {
                 let bytes = dropped.bytes();
@@ -440,6 +474,7 @@ impl OutboundQueue {
     pub fn expire_pending_tail(&mut self, now: Instant) -> Result<Option<Released>, AllocError>
         ensures ok { IfOk result (λ released. after_tail_expiry now self.old ≡ (self.new, released)) }
         ensures err { OnErr result (self.new ≡ self.old) }
+        ensures grows { OnErr result (is_some (after_tail_expiry now self.old).1 ≡ true) }
     {
         let Some(first) = self.pending.front() else {
             return Ok(None);
@@ -458,5 +493,15 @@ impl OutboundQueue {
         first.begun
             && first.message.is_expired(now)
             && !any_of_message(&self.in_flight, first.message.message_id)
+    }
+}
+
+// Whether the next deadline is at or before `now`.
+fn is_over(next: Option<Instant>, now: Instant) -> bool
+    ensures { result ≡ is_due next now }
+{
+    match next {
+        Some(next) => next <= now,
+        None => false,
     }
 }

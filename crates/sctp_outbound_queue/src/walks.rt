@@ -10,6 +10,8 @@ ghost use Rattle.sctp_outbound_queue.specs.Message.{sent_started, moved_down, se
 ghost use Rattle.sctp_outbound_queue.specs.Message.{reported_missing};
 ghost use Rattle.sctp_outbound_queue.specs.Outbound.{outstanding_of_message, pieces_waiting, after_piece, marked_of};
 ghost use Rattle.sctp_outbound_queue.specs.Outbound.{is_outstanding_piece, is_third_report_of, with_report};
+ghost use Rattle.sctp_outbound_queue.specs.Outbound.{next_deadline_of};
+ghost use Rattle.sctp_outbound_queue.specs.Message.{sooner, sooner_piece};
 ghost use Rattle.sctp_outbound_queue.specs.Expiry.{without_expired};
 
 use crate::{Attributes, InFlight, PendingMessage, Retransmission};
@@ -256,4 +258,28 @@ fn move_down(messages: &mut [PendingMessage], dropped: &Attributes)
     for message in messages.iter_mut() {
         message.move_down(dropped);
     }
+}
+
+// The least deadline of what waits and of what is in flight and not abandoned.
+pub(crate) fn next_deadline(
+    messages: &VecDeque<PendingMessage>,
+    pieces: &VecDeque<InFlight>,
+) -> Option<Instant>
+    ensures { result ≡ next_deadline_of messages.now.items pieces.now.items }
+{
+    sooner_in_flight(pieces, sooner_waiting(messages))
+}
+
+fn sooner_waiting(messages: &VecDeque<PendingMessage>) -> Option<Instant>
+    ensures { result ≡ fold (λ next m. sooner next m.message) None messages.now.items }
+{
+    messages
+        .iter()
+        .fold(None, |next, message| message.message.sooner(next))
+}
+
+fn sooner_in_flight(pieces: &VecDeque<InFlight>, next: Option<Instant>) -> Option<Instant>
+    ensures { result ≡ fold sooner_piece next pieces.now.items }
+{
+    pieces.iter().fold(next, |next, piece| piece.sooner(next))
 }

@@ -1,6 +1,7 @@
 -- The streams that fall to their low mark are gathered one release after another.
 use Rattle.std.proofs.Common.{◌≡◌, refl, sym, ap, ◌∙◌, subst, ⊎_elim, ℕ, ◌-◌, ◌<◌, ◌≤◌, Bool, true, false, cond, eqb}
-use Rattle.std.proofs.Common.{◌&&◌, nat_le, nat_lt, List, [], ◌∷◌, length, Option, Some, None, is_some, arith}
+use Rattle.std.proofs.Common.{if◌then◌else◌, ◌&&◌, nat_le, nat_lt, List, [], ◌∷◌, length, Option, Some, None, is_some}
+use Rattle.std.proofs.Common.{arith}
 use Rattle.std.proofs.Common.{Ordering, Less, Equal, Greater, is_eq, nat_cmp}
 use Rattle.std.specs.Ordering.{match_ordering}
 use Rattle.std.specs.BTreeMap.{is_at}
@@ -14,9 +15,9 @@ use Rattle.std.proofs.lemmas.Cmp.{eq_by_cmp_equiv, nat_cmp_total}
 use Rattle.std.proofs.lemmas.List.Elements.{filter_agree}
 use Rattle.std.proofs.lemmas.Map.{lookup-set_value}
 use Rattle.sctp_streams.specs.LowMarks.{FallenView, Gathers, HasNoMore, IsGathered, fallen, has_fallen, none_fallen}
-use Rattle.sctp_streams.specs.Stream.{StreamView, falls_to_low_mark, released_from}
+use Rattle.sctp_streams.specs.Stream.{StreamView, falls_to_low_mark, released_from, with_ssn_given_back}
 use Rattle.sctp_streams.specs.Streams.{StreamMap, change_at, falls_to_low_mark_at, falls_to_low_mark_in, is_generation}
-use Rattle.sctp_streams.specs.Streams.{live_ids, released_in, stream_at, with_stream}
+use Rattle.sctp_streams.specs.Streams.{changed_stream, given_back_in, live_ids, released_in, stream_at, with_stream}
 
 -- Sorted identifiers
 
@@ -189,10 +190,22 @@ nothing_gathered m f sorted e = record {
 
 -- A release
 
-module _ (m : StreamMap) (id bytes : ℕ) (t : StreamView) (there : stream_at m id ≡ Some t) (before : StreamMap)
+-- a stream of which so many bytes were released, whatever else of it changed but its low mark
+fallen_as : (o : Option StreamView) (t u : StreamView) (bytes : ℕ) → u.buffered ≡ t.buffered - bytes
+    → has_fallen o (Some u) ≡ has_fallen o (Some (released_from t bytes))
+fallen_as None t u bytes less = refl
+fallen_as (Some s) t u bytes less = ap (λ b. nat_lt s.low_mark s.buffered && nat_le b s.low_mark) less
+
+more_as : (o : Option StreamView) (t u : StreamView) (bytes : ℕ) → u.low_mark ≡ t.low_mark
+    → u.buffered ≡ t.buffered - bytes → HasNoMore o (Some (released_from t bytes)) → HasNoMore o (Some u)
+more_as None t u bytes low less h = absurd h
+more_as (Some s) t u bytes low less (same, l) = (low ∙ same, subst (λ b. b ≤ s.buffered) (sym less) l)
+
+module _ (m : StreamMap) (id bytes : ℕ) (t u : StreamView) (there : stream_at m id ≡ Some t)
+    (low : u.low_mark ≡ t.low_mark) (less : u.buffered ≡ t.buffered - bytes) (before : StreamMap)
     (f : FallenView) (h : IsGathered before m f) where
   abbrev now : StreamMap
-  now = with_stream m id (released_from t bytes)
+  now = with_stream m id u
 
   abbrev had : ℕ → Bool
   had i = has_fallen (stream_at before i) (stream_at m i)
@@ -205,27 +218,27 @@ module _ (m : StreamMap) (id bytes : ℕ) (t : StreamView) (there : stream_at m 
 
   released_here : (i : ℕ) → HasNoMore (stream_at before i) (stream_at now i)
   released_here i =
-      subst (λ z. HasNoMore (stream_at before i) z) (sym (at_with m id i t (released_from t bytes) there))
+      subst (λ z. HasNoMore (stream_at before i) z) (sym (at_with m id i t u there))
       (by (eqb i id) refl)
     where
       by : (b : Bool) → eqb i id ≡ b
-          → HasNoMore (stream_at before i) (cond b (Some (released_from t bytes)) (stream_at m i))
+          → HasNoMore (stream_at before i) (cond b (Some u) (stream_at m i))
       by true e =
-          subst (λ z. HasNoMore (stream_at before z) (Some (released_from t bytes))) (sym (eqb-true i id e))
-          (more_released (stream_at before id) t bytes here)
+          subst (λ z. HasNoMore (stream_at before z) (Some u)) (sym (eqb-true i id e))
+          (more_as (stream_at before id) t u bytes low less (more_released (stream_at before id) t bytes here))
       by false e = h.released i
 
   has_apart : (i : ℕ) → eqb i id ≡ false → has i ≡ had i
   has_apart i e =
       ap (has_fallen (stream_at before i))
-      (at_with m id i t (released_from t bytes) there
-      ∙ ap (λ b. cond b (Some (released_from t bytes)) (stream_at m i)) e)
+      (at_with m id i t u there
+      ∙ ap (λ b. cond b (Some u) (stream_at m i)) e)
 
-  has_here : has id ≡ has_fallen (stream_at before id) (Some (released_from t bytes))
+  has_here : has id ≡ has_fallen (stream_at before id) (Some u)
   has_here =
       ap (has_fallen (stream_at before id))
-      (at_with m id id t (released_from t bytes) there
-      ∙ ap (λ b. cond b (Some (released_from t bytes)) (stream_at m id)) (eq-eqb id id refl))
+      (at_with m id id t u there
+      ∙ ap (λ b. cond b (Some u) (stream_at m id)) (eq-eqb id id refl))
 
   had_here : had id ≡ has_fallen (stream_at before id) (Some t)
   had_here = ap (has_fallen (stream_at before id)) there
@@ -247,7 +260,8 @@ module _ (m : StreamMap) (id bytes : ℕ) (t : StreamView) (there : stream_at m 
           ⊎_elim
           (λ (c : eqb i id ≡ true).
           subst (λ z. has z ≡ had z) (sym (eqb-true i id c))
-          (has_here ∙ no_fall (stream_at before id) t bytes here e ∙ sym had_here))
+          (has_here ∙ fallen_as (stream_at before id) t u bytes less ∙ no_fall (stream_at before id) t bytes here e
+          ∙ sym had_here))
           (λ (c : eqb i id ≡ false). has_apart i c)
           (cases_Bool (eqb i id))
 
@@ -259,7 +273,8 @@ module _ (m : StreamMap) (id bytes : ℕ) (t : StreamView) (there : stream_at m 
   is_gathered g e adds keeps =
       let more : fallen before now ≡ insert_key nat_cmp (fallen before m) id =
       added had has id has_apart (had_here ∙ not_fallen (stream_at before id) t bytes here e)
-      (has_here ∙ falls (stream_at before id) t bytes here e) before.by_id h.ascending
+      (has_here ∙ fallen_as (stream_at before id) t u bytes less ∙ falls (stream_at before id) t bytes here e)
+      before.by_id h.ascending
       (was_there (stream_at before id) t here) in
       record {
         ascending = h.ascending;
@@ -268,32 +283,60 @@ module _ (m : StreamMap) (id bytes : ℕ) (t : StreamView) (there : stream_at m 
         some = λ r. subst (λ z. 0 < length z) (sym more) (insert_some id (fallen before m));
       }
 
--- a release is gathered where its stream falls to its low mark by it
+-- a change of the stream of this identifier, where it is live in this generation
+abbrev changed_if : (StreamView → StreamView) → StreamMap → ℕ → ℕ → StreamMap
+changed_if change m id generation =
+    if is_generation (stream_at m id) generation then changed_stream change m id else m
+
+-- a change by which bytes are released is gathered where its stream falls to its low mark by it
+gathers_change : (change : StreamView → StreamView) (m : StreamMap) (id generation bytes : ℕ) (f g : FallenView)
+    → ((t : StreamView) → (change t).low_mark ≡ t.low_mark)
+    → ((t : StreamView) → (change t).buffered ≡ t.buffered - bytes)
+    → (falls_to_low_mark_in m id generation bytes ≡ true → g.refused ≡ false → g.ids ≡ insert_key nat_cmp f.ids id)
+    → (falls_to_low_mark_in m id generation bytes ≡ true → g.refused ≡ false → f.refused ≡ false)
+    → (falls_to_low_mark_in m id generation bytes ≡ false → g ≡ f)
+    → Gathers m f (changed_if change m id generation) g
+unfolding Gathers
+gathers_change change m id generation bytes f g low less adds keeps stays before h = at (stream_at m id) refl
+  where
+    at : (o : Option StreamView) → stream_at m id ≡ o → IsGathered before (changed_if change m id generation) g
+    at None e = rw e (subst (IsGathered before m) (sym (stays (rw e refl))) h)
+    at (Some t) e = of (eqb t.stats.generation generation) refl
+      where
+        falling : (b : Bool) → falls_to_low_mark t bytes ≡ b → eqb t.stats.generation generation ≡ true
+            → IsGathered before (with_stream m id (change t)) g
+        falling true b c =
+            is_gathered m id bytes t (change t) e (low t) (less t) before f h g b (adds (rw (e, c, b) refl))
+            (keeps (rw (e, c, b) refl))
+        falling false b c =
+            subst (IsGathered before (with_stream m id (change t))) (sym (stays (rw (e, c, b) refl)))
+            (stays_gathered m id bytes t (change t) e (low t) (less t) before f h b)
+
+        of : (b : Bool) → eqb t.stats.generation generation ≡ b
+            → IsGathered before (changed_if change m id generation) g
+        of true c = rw (e, c) (falling (falls_to_low_mark t bytes) refl c)
+        of false c = rw (e, c) (subst (IsGathered before m) (sym (stays (rw (e, c) refl))) h)
+
+-- a release is
 pub gathers_release : (m : StreamMap) (id generation bytes : ℕ) (f g : FallenView)
     → (falls_to_low_mark_in m id generation bytes ≡ true → g.refused ≡ false → g.ids ≡ insert_key nat_cmp f.ids id)
     → (falls_to_low_mark_in m id generation bytes ≡ true → g.refused ≡ false → f.refused ≡ false)
     → (falls_to_low_mark_in m id generation bytes ≡ false → g ≡ f)
     → Gathers m f (released_in m id generation bytes) g
-unfolding Gathers
-gathers_release m id generation bytes f g adds keeps stays before h = at (stream_at m id) refl
-  where
-    at : (o : Option StreamView) → stream_at m id ≡ o
-        → IsGathered before (released_in m id generation bytes) g
-    at None e = rw e (subst (IsGathered before m) (sym (stays (rw e refl))) h)
-    at (Some t) e = of (eqb t.stats.generation generation) refl
-      where
-        falling : (b : Bool) → falls_to_low_mark t bytes ≡ b → eqb t.stats.generation generation ≡ true
-            → IsGathered before (with_stream m id (released_from t bytes)) g
-        falling true b c =
-            is_gathered m id bytes t e before f h g b (adds (rw (e, c, b) refl)) (keeps (rw (e, c, b) refl))
-        falling false b c =
-            subst (IsGathered before (with_stream m id (released_from t bytes))) (sym (stays (rw (e, c, b) refl)))
-            (stays_gathered m id bytes t e before f h b)
+gathers_release m id generation bytes f g adds keeps stays =
+    gathers_change (λ t. released_from t bytes) m id generation bytes f g (λ t. refl) (λ t. refl) adds keeps stays
 
-        of : (b : Bool) → eqb t.stats.generation generation ≡ b
-            → IsGathered before (released_in m id generation bytes) g
-        of true c = rw (e, c) (falling (falls_to_low_mark t bytes) refl c)
-        of false c = rw (e, c) (subst (IsGathered before m) (sym (stays (rw (e, c) refl))) h)
+-- so is a message that is dropped
+pub gathers_given_back : (m : StreamMap) (id generation : ℕ) (unordered : Bool) (bytes : ℕ) (f g : FallenView)
+    → (falls_to_low_mark_in m id generation bytes ≡ true → g.refused ≡ false → g.ids ≡ insert_key nat_cmp f.ids id)
+    → (falls_to_low_mark_in m id generation bytes ≡ true → g.refused ≡ false → f.refused ≡ false)
+    → (falls_to_low_mark_in m id generation bytes ≡ false → g ≡ f)
+    → Gathers m f (given_back_in m id generation unordered bytes) g
+gathers_given_back m id generation true bytes f g adds keeps stays =
+    gathers_change (λ t. released_from t bytes) m id generation bytes f g (λ t. refl) (λ t. refl) adds keeps stays
+gathers_given_back m id generation false bytes f g adds keeps stays =
+    gathers_change (λ t. released_from (with_ssn_given_back t) bytes) m id generation bytes f g (λ t. refl)
+    (λ t. refl) adds keeps stays
 
 pub gathers_nothing : (m : StreamMap) (f : FallenView) → Gathers m f m f
 unfolding Gathers

@@ -3,6 +3,7 @@ use Rattle.sctp_outbound_queue.specs.Outbound.{outstanding_of}
 use Rattle.sctp_outbound_queue.specs.Message.{marked_again}
 use Rattle.sctp_outbound_queue.proofs.QueuedBytes.{marked_sum}
 use Rattle.sctp_outbound_queue.proofs.FirstOutstanding.{after_change, marked}
+use Rattle.sctp_outbound_queue.proofs.Timely.{marked_keeps, timely_changed}
 use Rattle.sctp_outbound_queue.proofs.queue.OutboundQueue.mark_all_to_retransmit.Goals as goal
 
 pub invariant_of-self : goal.invariant_of-self
@@ -14,4 +15,6 @@ invariant_of-self c = (
   c.mark_all-self-inside.ensures.count,
   rw c.mark_all-self-inside.ensures.marked
       (omega (arith, after_change marked_again marked c.self.inside.in_flight.items, c.self.invariant.4)),
+  rw c.mark_all-self-inside.ensures.marked
+      (timely_changed _ _ marked_again (marked_keeps _ _) _ c.self.inside.in_flight.items c.self.invariant.5),
 )

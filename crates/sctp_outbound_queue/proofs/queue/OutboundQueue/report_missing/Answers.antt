@@ -3,6 +3,7 @@ use Rattle.sctp_outbound_queue.specs.Outbound.{marked_of, outstanding_of}
 use Rattle.sctp_outbound_queue.specs.Message.{reported_missing}
 use Rattle.sctp_outbound_queue.proofs.FirstOutstanding.{after_reports, reported}
 use Rattle.sctp_outbound_queue.proofs.ReportedMissing.{as_many_marked, as_many_outstanding}
+use Rattle.sctp_outbound_queue.proofs.Timely.{reported_keeps, timely_first}
 use Rattle.sctp_outbound_queue.proofs.queue.OutboundQueue.report_missing.Goals as goal
 
 pub invariant_of-self : goal.invariant_of-self
@@ -21,4 +22,7 @@ invariant_of-self c = (
         after_reports reported_missing reported c.args.count c.self.inside.in_flight.items,
         c.self.invariant.4,
       )),
+  rw c.report_missing.ensures.counted
+      (timely_first _ _ reported_missing
+      (reported_keeps _ _) c.args.count _ c.self.inside.in_flight.items c.self.invariant.5),
 )

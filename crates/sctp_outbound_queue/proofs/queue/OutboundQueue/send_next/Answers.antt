@@ -1,8 +1,16 @@
-use Rattle.sctp_outbound_queue.proofs.QueuedBytes.{kept_sent}
+use Rattle.std.proofs.Common.{arith, sym}
+use Rattle.sctp_outbound_queue.proofs.QueuedBytes.{after_piece_bytes, kept_sent}
 use Rattle.sctp_outbound_queue.proofs.queue.OutboundQueue.send_next.Goals as goal
 
 pub invariant_of-self-in-Some : goal.invariant_of-self-in-Some
 invariant_of-self-in-Some c =
-    kept_sent c.args.now c.self.inside.pending.items c.self.inside.in_flight.items c.self.invariant
+    kept_sent _ _ c.args.now c.self.inside.pending.items c.self.inside.in_flight.items c.self.invariant
     c.in-Some.ensures.piece c.in-Some.ensures.left c.reserve.ensures.items c.push_back_reserved.ensures.items
     c.outstanding_bytes-bytes.ensures
+
+pub overflow_sub-self : goal.overflow_sub-self
+overflow_sub-self c =
+    let all = after_piece_bytes c.args.now c.self.inside.pending.items c.in-Some.piece (sym c.in-Some.ensures.piece) in
+    let bytes = c.outstanding_bytes-bytes.ensures in
+    let kept = c.self.invariant.0 in
+    omega (arith, all, bytes, kept)

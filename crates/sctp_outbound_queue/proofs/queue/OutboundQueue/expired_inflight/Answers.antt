@@ -1,0 +1,29 @@
+use Rattle.std.proofs.Common.{◌∙◌, sym}
+use Rattle.sctp_outbound_queue.proofs.Timely.{none_over, rebound}
+use Rattle.sctp_outbound_queue.proofs.queue.OutboundQueue.expired_inflight.Goals as goal
+
+pub returns-then-not-is_over-clause-tsn : goal.returns-then-not-is_over-clause-tsn
+returns-then-not-is_over-clause-tsn c =
+    let q = c.self.inside in
+    rw (← c.self.view_is)
+    (none_over c.args.now q.all_run q.next_deadline
+    (record {
+      pending = q.pending.items;
+      in_flight = q.in_flight.items;
+      first_tsn = q.first_tsn;
+      next_message_id = q.next_message_id;
+    })
+    c.self.invariant.5
+    (sym c.is_over.ensures ∙ c.if-not-is_over.true))
+
+pub invariant_of-self : goal.invariant_of-self
+invariant_of-self c = (
+  c.self.invariant.0,
+  c.self.invariant.1,
+  c.self.invariant.2,
+  c.self.invariant.3,
+  c.self.invariant.4,
+  rw c.next_deadline-self-inside.ensures
+      (rebound c.self.inside.all_run c.self.inside.next_deadline c.self.inside.pending.items
+      c.self.inside.in_flight.items c.self.invariant.5),
+)
