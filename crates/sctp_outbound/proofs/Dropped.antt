@@ -1,19 +1,18 @@
 -- Messages of which nothing was sent are dropped one after another.
-use Rattle.std.proofs.Common.{◌≡◌, ℕ, zero, suc, ◌+◌, ◌-◌, ◌<◌, ◌≤◌, false, true, Bool, is_some, List, [], ◌∷◌, Option}
+use Rattle.std.proofs.Common.{◌≡◌, ℕ, zero, suc, ◌+◌, ◌-◌, ◌<◌, ◌≤◌, false, is_some, Option}
 use Rattle.std.proofs.Common.{Some}
 use Rattle.std.proofs.Common.{None, length, refl, ap, sym, ◌∙◌, arith}
 use Rattle.std.proofs.lemmas.Bool.{false≢true}
 use Rattle.std.specs.Prelude.{find}
 use Rattle.std.specs.Option.{option_map}
-use Rattle.sctp_outbound_queue.specs.declared.queue.Released.{Released}
 use Rattle.sctp_outbound_queue.specs.Waiting.{Waiting}
 use Rattle.sctp_outbound_queue.specs.Message.{is_expired_unsent, message_bytes}
-use Rattle.sctp_outbound_queue.specs.Outbound.{Outbound, released}
-use Rattle.sctp_outbound_queue.specs.Expiry.{after_expiry, expired_in}
+use Rattle.sctp_outbound_queue.specs.Outbound.{released}
+use Rattle.sctp_outbound_queue.specs.Expiry.{after_expiry}
 use Rattle.sctp_outbound_queue.proofs.ExpiredUnsent.{without_none}
 use Rattle.sctp_streams.specs.Streams.{StreamMap}
 use Rattle.sctp_outbound.specs.declared.sender.Sender.{Sender}
-use Rattle.sctp_outbound.specs.Abandonment.{all_dropped, dropped_first, first_dropped, given_back_of}
+use Rattle.sctp_outbound.specs.Abandonment.{all_dropped, dropped_first, first_dropped}
 
 none_found : (o : Option Waiting) → is_some (option_map (λ m. released m.message (message_bytes m)) o) ≡ false
     → o ≡ None

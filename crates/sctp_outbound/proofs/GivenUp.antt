@@ -15,10 +15,8 @@ use Rattle.sctp_streams.specs.Streams.{StreamMap}
 use Rattle.sctp_outbound.specs.declared.abandonment.Reason.{Reason}
 use Rattle.sctp_outbound.specs.declared.abandonment.Reason.TheVariants as reasons
 use Rattle.sctp_outbound.specs.declared.abandonment.Reached.{Reached}
-use Rattle.sctp_outbound.specs.declared.abandonment.Reached.TheVariants as reached
 use Rattle.sctp_outbound.specs.declared.sender.Sender.{Sender}
 use Rattle.sctp_outbound.specs.Abandonment.{abandoned_if, all_given_up, given_up_first, is_pass_due, next_given_up}
-use Rattle.sctp_outbound.specs.Abandonment.{pass_room}
 use Rattle.sctp_outbound.specs.Abandonment.{asked_past, has_late_tail, reached_at, spent_from, spent_place}
 use Rattle.sctp_outbound.specs.Abandonment.{tail_given_up}
 use Rattle.sctp_outbound.proofs.SenderSteps.{drop_get}

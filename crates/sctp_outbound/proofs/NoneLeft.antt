@@ -1,10 +1,10 @@
 -- Once all that is given up for a reason is abandoned, nothing is given up for it.
-use Rattle.std.proofs.Common.{◌≡◌, ℕ, zero, suc, ◌+◌, ◌-◌, ◌<◌, ◌≤◌, ◌%◌, ◌^◌, Bool, true, false, ◌&&◌, ◌||◌, not}
+use Rattle.std.proofs.Common.{◌≡◌, ℕ, zero, suc, ◌+◌, ◌-◌, ◌<◌, ◌≤◌, ◌^◌, Bool, true, false, ◌||◌, not}
 use Rattle.std.proofs.Common.{is_some}
 use Rattle.std.proofs.Common.{nat_lt, eqb, List, [], ◌∷◌, ◌++◌, map, Option, Some, None, length, position, slice_get}
 use Rattle.std.proofs.Common.{get_or}
 use Rattle.std.proofs.Common.{cond, eq-eqb, refl, ap, sym, subst, ◌∙◌, ⊎_elim, arith}
-use Rattle.std.proofs.lemmas.Bool.{cases_Bool, and_parts, eqb-true, false≢true, true≢false}
+use Rattle.std.proofs.lemmas.Bool.{cases_Bool, and_parts, false≢true}
 use Rattle.std.proofs.lemmas.List.{length-append, length-map, map-append}
 use Rattle.std.proofs.lemmas.List.Quantifiers.{position-Some}
 use Rattle.std.proofs.lemmas.List.Sums.{count_by-le-length, sum_by-append, sum_by-cons}
@@ -18,7 +18,7 @@ use Rattle.sctp_outbound_queue.specs.declared.message.Retransmission.{Retransmis
 use Rattle.sctp_outbound_queue.specs.declared.message.Retransmission.TheVariants as causes
 use Rattle.sctp_outbound_queue.specs.Message.{flagged, is_expired, is_expired_piece, is_of, is_outstanding, marker_of}
 use Rattle.sctp_outbound_queue.specs.Message.{picks, room_taken}
-use Rattle.sctp_outbound_queue.specs.Outbound.{Outbound, abandoned_at, abandoned_from, tail_dropped, tail_dropped_from}
+use Rattle.sctp_outbound_queue.specs.Outbound.{Outbound, abandoned_at, abandoned_from, tail_dropped_from}
 use Rattle.sctp_outbound_queue.specs.Outbound.{piece_at, tsn_at}
 use Rattle.sctp_outbound_queue.specs.Waiting.{Waiting}
 use Rattle.sctp_streams.specs.Streams.{StreamMap}

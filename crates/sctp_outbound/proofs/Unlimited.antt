@@ -1,6 +1,6 @@
 -- Where no message has a limit nothing is given up.
 use Rattle.std.proofs.Common.{◌≡◌, ℕ, ◌+◌, ◌-◌, Bool, true, false, ◌&&◌, ◌||◌, not, is_some, nat_lt, List, [], ◌∷◌, map}
-use Rattle.std.proofs.Common.{Option, Some, None, length, slice_get, refl, ap, sym, ◌∙◌, ⊎_elim, arith}
+use Rattle.std.proofs.Common.{Option, Some, None, length, slice_get, refl, ap, ◌∙◌, ⊎_elim, arith}
 use Rattle.std.proofs.lemmas.Bool.{cases_Bool}
 use Rattle.std.specs.List.{AllByRecursion, find, position, position_or_len}
 use Rattle.std.specs.Option.{option_map}
@@ -11,7 +11,7 @@ use Rattle.sctp_outbound_queue.specs.Message.{deadline_under, is_expired_piece, 
 use Rattle.sctp_outbound_queue.specs.Message.{sent_started}
 use Rattle.sctp_outbound_queue.specs.Message.{is_expired_unsent, message_bytes, started, waiting_started}
 use Rattle.sctp_outbound_queue.specs.Outbound.{Outbound, released, tsn_at}
-use Rattle.sctp_outbound_queue.specs.Expiry.{all_started, first_tsn_that}
+use Rattle.sctp_outbound_queue.specs.Expiry.{all_started}
 use Rattle.sctp_outbound_queue.specs.Waiting.{Waiting}
 use Rattle.sctp_streams.specs.Streams.{StreamMap}
 use Rattle.sctp_outbound.specs.declared.abandonment.Reason.TheVariants as reasons

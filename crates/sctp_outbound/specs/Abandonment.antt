@@ -1,6 +1,6 @@
 -- Messages that are given up (RFC 3758 section 3.5), over the sender and the streams at which their bytes are released.
-use Rattle.std.specs.Prelude.{ℕ, zero, suc, Bool, true, false, List, [], ◌∷◌, ◌+◌, ◌-◌, ◌&&◌, ◌||◌, not, nat_lt}
-use Rattle.std.specs.Prelude.{if◌then◌else◌, length, is_some, slice_get, Option, Some, None}
+use Rattle.std.specs.Prelude.{ℕ, zero, suc, Bool, false, List, [], ◌∷◌, ◌+◌, ◌-◌, ◌&&◌, ◌||◌, not, nat_lt}
+use Rattle.std.specs.Prelude.{if◌then◌else◌, length, is_some, Option, Some, None}
 use Rattle.std.specs.Option.{option_map}
 use Rattle.sctp_wire_types.specs.declared.reliability.Policy.{Policy}
 use Rattle.sctp_wire_types.specs.declared.reliability.Policy.TheVariants.{Reliable, Rexmit, Timed}
@@ -8,8 +8,7 @@ use Rattle.sctp_outbound_queue.specs.declared.message.InFlight.{InFlight}
 use Rattle.sctp_outbound_queue.specs.declared.message.Retransmission.{Retransmission}
 use Rattle.sctp_outbound_queue.specs.declared.message.Retransmission.TheVariants as causes
 use Rattle.sctp_outbound_queue.specs.declared.queue.Released.{Released}
-use Rattle.sctp_outbound_queue.specs.Waiting.{Waiting}
-use Rattle.sctp_outbound_queue.specs.Message.{picks, room_taken, is_expired, is_expired_piece}
+use Rattle.sctp_outbound_queue.specs.Message.{picks, room_taken, is_expired_piece}
 use Rattle.sctp_outbound_queue.specs.Outbound.{Outbound, abandoned_at, abandoned_in_front_of, marked_of, tsn_at}
 use Rattle.sctp_outbound_queue.specs.Expiry.{after_expiry, after_tail_expiry, all_started, first_tsn_that}
 use Rattle.sctp_streams.specs.Streams.{StreamMap, given_back_in, released_in}

@@ -1,5 +1,5 @@
 -- The FORWARD TSN that a sender makes (RFC 3758 sections 3.2 and 3.5).
-use Rattle.std.specs.Prelude.{ℕ, Bool, List, [], ◌∷◌, ◌+◌, ◌-◌, ◌%◌, ◌^◌, ◌&&◌, ◌||◌, if◌then◌else◌, map, take}
+use Rattle.std.specs.Prelude.{ℕ, Bool, List, [], ◌+◌, ◌-◌, ◌%◌, ◌^◌, ◌&&◌, ◌||◌, if◌then◌else◌, map, take}
 use Rattle.std.specs.Prelude.{slice_get}
 use Rattle.std.specs.Prelude.{Option, Some, None, false}
 use Rattle.std.specs.List.{fold}

@@ -1,5 +1,5 @@
 -- Reports of a SACK that pieces in flight are missing: they leave as many bytes outstanding and as many pieces marked.
-use Rattle.std.proofs.Common.{◌≡◌, ℕ, zero, suc, ◌+◌, ◌-◌, ◌<◌, true, false, List, [], ◌∷◌, ◌++◌, length, map}
+use Rattle.std.proofs.Common.{◌≡◌, ℕ, zero, suc, ◌+◌, ◌<◌, true, false, List, [], ◌∷◌, ◌++◌, length, map}
 use Rattle.std.proofs.Common.{take, drop, slice_get, refl, ap, sym, ◌∙◌, arith, ⊎_elim, Bool, ◌&&◌, ◌||◌, nat_lt}
 use Rattle.std.proofs.Common.{Option, Some, None}
 use Rattle.std.proofs.lemmas.Bool.{cases_Bool}

@@ -1,6 +1,6 @@
 -- What is known of deadlines: whether the times of all messages run, and a moment before which none is over.
-use Rattle.std.proofs.Common.{◌≡◌, ℕ, zero, suc, ◌<◌, ◌≤◌, Bool, true, false, ◌||◌, ◌&&◌, ◌==◌, not, nat_le, nat_lt}
-use Rattle.std.proofs.Common.{min, List, [], ◌∷◌, ◌++◌}
+use Rattle.std.proofs.Common.{◌≡◌, ℕ, zero, suc, Bool, true, false, ◌&&◌, ◌==◌, not, nat_le, nat_lt}
+use Rattle.std.proofs.Common.{List, [], ◌∷◌, ◌++◌}
 use Rattle.std.proofs.Common.{Option, Some, None, length, map, take, drop, slice_get, refl, ap, sym, ◌∙◌, arith, ⊎_elim}
 use Rattle.std.proofs.Common.{true≢false}
 use Rattle.std.specs.Prelude.{slice_set, find, position, if◌then◌else◌}
@@ -21,7 +21,7 @@ use Rattle.sctp_outbound_queue.specs.Message.{is_of, is_outstanding, is_past, is
 use Rattle.sctp_outbound_queue.specs.Message.{keeps_time}
 use Rattle.sctp_outbound_queue.specs.Message.{marked_again, moved_down, reported_missing, sent_started, share_ssns}
 use Rattle.sctp_outbound_queue.specs.Message.{sooner}
-use Rattle.sctp_outbound_queue.specs.Message.{sooner_of, sooner_piece, sooner_under, deadline_under, sent_once}
+use Rattle.sctp_outbound_queue.specs.Message.{sooner_piece, sooner_under, deadline_under, sent_once}
 use Rattle.sctp_outbound_queue.specs.Message.{waiting_started}
 use Rattle.sctp_outbound_queue.specs.Outbound.{AreTimely, Outbound, after_piece, next_deadline_of}
 use Rattle.sctp_outbound_queue.specs.Expiry.{after_expiry, all_started, first_tsn_that, without_expired}

@@ -9,14 +9,14 @@ use Rattle.std.specs.BTreeSet.{insert_key}
 use Rattle.std.specs.List.{AllByRecursion, filter}
 use Rattle.std.specs.List.Sorted.{IsStrictlySortedBy}
 use Rattle.std.specs.Map.{keys_of, lookup}
-use Rattle.std.proofs.lemmas.Bool.{cases_Bool, eqb-true, eq-eqb, false≢true, true≢false}
+use Rattle.std.proofs.lemmas.Bool.{cases_Bool, eqb-true, eq-eqb, false≢true}
 use Rattle.std.proofs.lemmas.Bool.Decides.{nat_tests}
 use Rattle.std.proofs.lemmas.Cmp.{eq_by_cmp_equiv, nat_cmp_total}
 use Rattle.std.proofs.lemmas.List.Elements.{filter_agree}
 use Rattle.std.proofs.lemmas.Map.{lookup-set_value}
 use Rattle.sctp_streams.specs.LowMarks.{FallenView, Gathers, HasNoMore, IsGathered, fallen, has_fallen, none_fallen}
 use Rattle.sctp_streams.specs.Stream.{StreamView, falls_to_low_mark, released_from, with_ssn_given_back}
-use Rattle.sctp_streams.specs.Streams.{StreamMap, change_at, falls_to_low_mark_at, falls_to_low_mark_in, is_generation}
+use Rattle.sctp_streams.specs.Streams.{StreamMap, falls_to_low_mark_in, is_generation}
 use Rattle.sctp_streams.specs.Streams.{changed_stream, given_back_in, live_ids, released_in, stream_at, with_stream}
 
 -- Sorted identifiers

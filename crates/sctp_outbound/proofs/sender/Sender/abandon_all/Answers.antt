@@ -1,4 +1,4 @@
-use Rattle.std.proofs.Common.{sym, ◌∙◌, arith, not}
+use Rattle.std.proofs.Common.{sym, ◌∙◌, arith}
 use Rattle.sctp_streams.proofs.LowMarks.{gathers_both, gathers_nothing}
 use Rattle.sctp_outbound.proofs.SenderSteps.{on_err}
 use Rattle.sctp_outbound.proofs.GivenUp.{any_early, any_late, ends_early, ends_late, gives_up_from, gives_up_more}

@@ -1,4 +1,3 @@
-use Rattle.std.proofs.Common.{sym, ap}
 use Rattle.sctp_outbound_queue.proofs.QueuedBytes.{kept_started}
 use Rattle.sctp_outbound_queue.proofs.Timely.{all_started_already}
 use Rattle.sctp_outbound_queue.proofs.queue.OutboundQueue.start_timed_messages.Goals as goal

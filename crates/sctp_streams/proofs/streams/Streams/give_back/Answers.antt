@@ -1,4 +1,4 @@
-use Rattle.std.proofs.Common.{Bool, true, false, ◌≡◌, refl, ap, ◌∙◌, sym}
+use Rattle.std.proofs.Common.{ap, ◌∙◌, sym}
 use Rattle.std.specs.Option.{option_copied_mut}
 use Rattle.sctp_streams.proofs.ReadableStreams.{given_gives, still_readable}
 use Rattle.sctp_streams.proofs.WaitingBytes.{given_reassembly, unchanged}

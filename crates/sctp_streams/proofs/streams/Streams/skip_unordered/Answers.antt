@@ -1,8 +1,8 @@
-use Rattle.std.proofs.Common.{◌<◌, ◌^◌, map, ◌∙◌, sym, ap, arith}
+use Rattle.std.proofs.Common.{◌<◌, ◌^◌, map, ◌∙◌, sym, arith}
 use Rattle.sctp_receive_queues.proofs.SaturatedSums.{saturated_sum}
 use Rattle.sctp_receive_queues.specs.Reassembly.{bytes_waiting}
 use Rattle.sctp_streams.specs.Stream.{StreamView}
-use Rattle.sctp_streams.specs.Streams.{passed_each, readable_in, waiting_in}
+use Rattle.sctp_streams.specs.Streams.{passed_each, waiting_in}
 use Rattle.sctp_streams.proofs.ReadableStreams.{passed_count}
 use Rattle.sctp_streams.proofs.WaitingBytes.{passed_sum}
 use Rattle.sctp_streams.proofs.streams.Streams.skip_unordered.Goals as goal
