@@ -17,6 +17,7 @@ use Rattle.sctp_model.proofs.OffsetsAssigned.{keeps_go_on}
 use Rattle.sctp_model.proofs.EventsKeepInvariant.{begin_event_keeps, resend_event_keeps, sack_event_keeps}
 use Rattle.sctp_model.proofs.EventsKeepInvariant.{write_event_keeps}
 use Rattle.sctp_fit.specs.Writes.{message_on}
+use Rattle.sctp_fit.proofs.MessagesAccepted.{happens_write, kept_as_written}
 use Rattle.sctp_directions.specs.Events.{AcceptsAMessage, Assigns, Brings, GivesAMessage, IsOfReceiving, IsOfSending}
 use Rattle.sctp_directions.specs.Events.{IsReceived, IsSentOn}
 use Rattle.sctp_directions.specs.Laws.{ClosedReceiversAreNotOpen, EventsKeepTheLimits, FreshDirectionsArePlain}
@@ -161,26 +162,6 @@ senders_events_keep_the_invariant w e at h =
 
 -- Writes
 
--- A message that is written on a stream is kept as the stream accepts it: that of the data channel establishment
--- protocol, which alone has the number 50, is ordered and reliable on any stream.
-kept_as_accepted : (t : StreamView) (kind : PayloadProtocolIdentifier) (bytes : List ℕ)
-    → as_kept (message_on t kind bytes) ≡ message_on t kind bytes
-kept_as_accepted t kinds.Dcep bytes = refl
-kept_as_accepted t kinds.String bytes = refl
-kept_as_accepted t kinds.Binary bytes = refl
-kept_as_accepted t kinds.StringEmpty bytes = refl
-kept_as_accepted t kinds.BinaryEmpty bytes = refl
-kept_as_accepted t kinds.Unknown bytes = refl
-
--- a direction after the write of such a message, of one byte at least
-happens_write : (w : Direction) (s : ℕ) (m : Message) → 0 < length m.bytes → as_kept m ≡ m
-    → happens w (Event.Write s m) ≡ record w { sender = written w.sender s m }
-unfolding happens
-happens_write w s m some same =
-    cond-false (eqb (length m.bytes) 0) w (record w { sender = written w.sender s (as_kept m) })
-    (ne_eqb _ _ (λ (e : length m.bytes ≡ 0). omega arith))
-    ∙ ap (λ z. record w { sender = written w.sender s z }) same
-
 -- one message more on stream s, seen from stream t
 accepted_more : (f : ℕ → List Message) (s t : ℕ) (m : Message)
     → put f s (f s ++ m ∷ []) t ≡ f t ++ (if s == t then m ∷ [] else [])
@@ -194,7 +175,7 @@ accepted_more f s t m = ⊎_elim
 pub writes_are_accepted_last : WritesAreAcceptedLast
 writes_are_accepted_last w s u t kind bytes some =
     ap (λ (v : Direction). v.sender.plan.accepted u)
-    (happens_write w s (message_on t kind bytes) some (kept_as_accepted t kind bytes))
+    (happens_write w s (message_on t kind bytes) some (kept_as_written t kind bytes))
     ∙ accepted_more w.sender.plan.accepted s u (message_on t kind bytes)
 
 -- The receiver's events

@@ -37,22 +37,7 @@ its_pieces_are_given p by index w can inv f =
 -- a piece is the same one, marked or not and however often it was reported missing
 pub same_piece : (x : InFlight) (retransmit : Bool) (misses : ℕ)
     → IsSamePiece x (record x { retransmit = retransmit; misses = misses })
-same_piece x retransmit misses = record {
-  message = record {
-    id = refl;
-    stream = refl;
-    generation = refl;
-    unordered = refl;
-    ssn = refl;
-    payload_type = refl;
-    policy = refl;
-  };
-  first = refl;
-  last = refl;
-  bytes = refl;
-  acked = refl;
-  abandoned = refl;
-}
+same_piece x retransmit misses = again.same_but_counts x retransmit x.sent_count misses
 
 -- a mark for sending again says nothing of a piece
 same_marked : (x : InFlight) → IsSamePiece x (marked_again x)

@@ -8,6 +8,7 @@ use Rattle.sctp_outbound_queue.specs.declared.message.InFlight.{InFlight}
 use Rattle.sctp_outbound_queue.specs.Message.{acked}
 use Rattle.sctp_streams.specs.Streams.{stream_at}
 use Rattle.sctp_outbound.specs.GapAcks.{acked_among, released_among}
+use Rattle.sctp_outbound.proofs.MissingPieces.{acked_length}
 use Rattle.sctp_model.specs.Messages.{Plan, accepted_bytes, bytes_below}
 use Rattle.sctp_model.specs.Packets.{Sack, names}
 use Rattle.sctp_model.specs.Machine.{Direction, Event, acknowledged_by, happens, newly, reach, sack_comes}
@@ -74,11 +75,6 @@ flight_dropped n p acknowledged gone o (suc k) [] l h = absurd (omega (arith, l)
 flight_dropped n p acknowledged gone o (suc k) (x ∷ xs) l (h, hs) =
     subst (λ z. AreInFlight n p acknowledged gone z (drop k xs)) (let r : suc o + k ≡ o + suc k = omega arith in r)
     (flight_dropped n p acknowledged gone (suc o) k xs (omega (arith, l)) hs)
-
--- none of them goes by that
-acked_length : (named : ℕ → Bool) (j : ℕ) (xs : List InFlight) → length (acked_among named j xs) ≡ length xs
-acked_length named j [] = refl
-acked_length named j (x ∷ xs) = let r = acked_length named (suc j) xs in omega arith
 
 -- A SACK comes
 

@@ -12,18 +12,9 @@ use Rattle.sctp_serial.specs.Serial.{tsn}
 use Rattle.sctp_model.specs.Reassembly.{Queue, drop_unordered, skip_if}
 use Rattle.sctp_model.specs.Machine.{Direction, Event, forward_comes, forwarded, happens, live, passes, reach}
 use Rattle.sctp_reassembly.specs.Stands.{StandsFor, skipped_if}
-use Rattle.sctp_reassembly.proofs.LawsInEvents.{a_forward_that_comes_stands}
+use Rattle.sctp_reassembly.proofs.LawsInEvents.{a_forward_that_comes_stands, came_forward}
 use Rattle.sctp_fit.specs.Incoming.{FitsIncoming, IsQueueAt}
 use Rattle.sctp_fit.specs.Forwards.{ForwardsThatComeAreTaken, passed_stream}
-
--- a FORWARD TSN that lies ahead of a receiver that is open is taken
-came_forward : (w : Direction) (k : ℕ) (f : Forward) → slice_get w.forwards k ≡ Some f → w.receiver.is_open ≡ true
-    → ltb (reach w.receiver) f.reach ≡ true
-    → happens w (Event.ForwardComes k) ≡ passes w f
-unfolding happens
-came_forward w k f e o n =
-    ap (forward_comes w) e ∙ cond-true (w.receiver.is_open && ltb (reach w.receiver) f.reach) (passes w f) w
-    (and_from w.receiver.is_open (ltb (reach w.receiver) f.reach) o n)
 
 -- Where what is left of each reassembly stands for what is left of its queue, each stream is live on both sides or on
 -- neither again.

@@ -181,7 +181,7 @@ pub same_offset : (i r x y : ℕ) → r ≤ x → x < r + 65535 → r ≤ y → 
 same_offset i r x y a b c d e = omega arith
 
 -- how far a TSN lies past the last TSN in order
-past_before : (i r x : ℕ) → r ≤ x → x < r + 65535 → tsn_past (before i r) (tsn i x) + r ≡ suc x
+pub past_before : (i r x : ℕ) → r ≤ x → x < r + 65535 → tsn_past (before i r) (tsn i x) + r ≡ suc x
 past_before i r x a b = omega arith
 
 past_last_tsn : (i r t : ℕ) → t < 2 ^ 32 → tsn_past (before i r) t ≡ (tsn_past (tsn i r) t + 1) % 2 ^ 32

@@ -31,7 +31,7 @@ use Rattle.sctp_fit.proofs.LastUnsent.{IsOneMore, numbers_push, past_others, wai
 -- The event
 
 -- a message is kept as it was written, since one of the data channel establishment protocol was written so
-kept_as_written : (t : StreamView) (kind : PayloadProtocolIdentifier) (bytes : List ℕ)
+pub kept_as_written : (t : StreamView) (kind : PayloadProtocolIdentifier) (bytes : List ℕ)
     → as_kept (message_on t kind bytes) ≡ message_on t kind bytes
 kept_as_written t kinds.Dcep bytes = refl
 kept_as_written t kinds.String bytes = refl
@@ -41,7 +41,7 @@ kept_as_written t kinds.BinaryEmpty bytes = refl
 kept_as_written t kinds.Unknown bytes = refl
 
 -- a write of at least one byte is accepted
-happens_write : (w : Direction) (s : ℕ) (m : Message) → 0 < length m.bytes → as_kept m ≡ m
+pub happens_write : (w : Direction) (s : ℕ) (m : Message) → 0 < length m.bytes → as_kept m ≡ m
     → happens w (Event.Write s m) ≡ record w { sender = machine.written w.sender s m }
 unfolding happens
 happens_write w s m some e =

@@ -41,11 +41,10 @@ said_at initial n p o y x m e k = record {
   };
 }
 
--- one more sending, for whatever reason, says nothing new of a piece
-
-same_but_sendings : (x : InFlight) (retransmit : Bool) (sent_count : ℕ)
-    → IsSamePiece x (record x { retransmit = retransmit; sent_count = sent_count })
-same_but_sendings x retransmit sent_count = record {
+-- a piece is the same one, marked or not, however often it was sent and however often it was reported missing
+pub same_but_counts : (x : InFlight) (retransmit : Bool) (sent_count misses : ℕ)
+    → IsSamePiece x (record x { retransmit = retransmit; sent_count = sent_count; misses = misses })
+same_but_counts x retransmit sent_count misses = record {
   message = record {
     id = refl;
     stream = refl;
@@ -63,8 +62,8 @@ same_but_sendings x retransmit sent_count = record {
 }
 
 again_same : (by : Retransmission) (x : InFlight) → IsSamePiece x (counted_again by x)
-again_same causes.Timer x = same_but_sendings x false (one_sending_more x.sent_count)
-again_same causes.Fast x = same_but_sendings x x.retransmit (one_sending_more x.sent_count)
+again_same causes.Timer x = same_but_counts x false (one_sending_more x.sent_count) x.misses
+again_same causes.Fast x = same_but_counts x x.retransmit (one_sending_more x.sent_count) x.misses
 
 module _ (n : Names) (p : Plan) (acknowledged : ℕ → Bool) (gone : ℕ → ℕ → Bool) where
   -- the piece at a place of the flight stands on its offset

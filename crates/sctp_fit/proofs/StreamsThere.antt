@@ -18,21 +18,7 @@ use Rattle.sctp_model.specs.Reassembly.{Queue}
 use Rattle.sctp_model.specs.Machine.{Direction}
 use Rattle.sctp_reassembly.specs.Stands.{StandsFor}
 use Rattle.sctp_fit.specs.Incoming.{FitsIncoming, IsQueueAt, Receiving}
-
--- a key is found exactly where it is the one that is looked for, from either side
-found_as : (n k : ℕ) → is_eq (nat_cmp n k) ≡ eqb n k
-found_as n k = grind (arith, nat_tests)
-
-found_of : (n k : ℕ) → is_eq (nat_cmp k n) ≡ eqb n k
-found_of n k = grind (arith, nat_tests)
-
--- a live stream is another one now: the others stay
-pub at_with : (m : StreamMap) (id n : ℕ) (t s : StreamView) → stream_at m id ≡ Some t
-    → stream_at (with_stream m id s) n ≡ cond (eqb n id) (Some s) (stream_at m n)
-at_with m id n t s h =
-    lookup-set_value (eq_by_cmp_equiv nat_cmp_total) (is_at (nat_cmp id)) ((eq_by_cmp_equiv nat_cmp_total).congr id) n s
-    m.by_id (ap is_some h)
-    ∙ ap (λ b. cond b (Some s) (stream_at m n)) (found_of n id)
+pub use Rattle.sctp_streams.proofs.LowMarks.{at_with, found_as, found_of}
 
 -- two keys that differ are not both found
 pub cond_swap : {X : Type 0} (n k l : ℕ) (x y z : X) → eqb l k ≡ false

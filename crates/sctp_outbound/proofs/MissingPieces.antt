@@ -58,7 +58,8 @@ exit_stays zero now s e m = refl
 exit_stays (suc n) now s e m =
     exit_stays n now (sender_after_first s) _ _ ∙ first_exit (slice_get s.queue.in_flight 0) s
 
-acked_length : (named : ℕ → Bool) (j : ℕ) (xs : List InFlight) → length (acked_among named j xs) ≡ length xs
+-- none of them goes by an acknowledgement
+pub acked_length : (named : ℕ → Bool) (j : ℕ) (xs : List InFlight) → length (acked_among named j xs) ≡ length xs
 acked_length named j [] = refl
 acked_length named j (x ∷ xs) = ap suc (acked_length named (suc j) xs)
 

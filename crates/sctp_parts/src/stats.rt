@@ -58,6 +58,7 @@ impl AssociationStats {
         self.datas = self.datas.saturating_add(1);
     }
 
+    /// How many DATA chunks were reached in their packets since the counts were last 0; it stays at 2^64 - 1.
     pub fn get_num_datas(&self) -> u64
         ensures { result ≡ self.now.datas }
     {
@@ -71,6 +72,7 @@ impl AssociationStats {
         self.sacks = self.sacks.saturating_add(1);
     }
 
+    /// How many SACKs were reached in a state in which SACKs count.
     pub fn get_num_sacks(&self) -> u64
         ensures { result ≡ self.now.sacks }
     {
@@ -84,6 +86,7 @@ impl AssociationStats {
         self.t3timeouts = self.t3timeouts.saturating_add(1);
     }
 
+    /// How often the retransmission timer expired within its limit (RFC 4960 section 6.3.3).
     pub fn get_num_t3timeouts(&self) -> u64
         ensures { result ≡ self.now.t3timeouts }
     {
@@ -97,6 +100,7 @@ impl AssociationStats {
         self.ack_timeouts = self.ack_timeouts.saturating_add(1);
     }
 
+    /// How often the timer of delayed acknowledgements expired (RFC 4960 section 6.2).
     pub fn get_num_ack_timeouts(&self) -> u64
         ensures { result ≡ self.now.ack_timeouts }
     {
@@ -110,6 +114,7 @@ impl AssociationStats {
         self.fast_retrans = self.fast_retrans.saturating_add(count);
     }
 
+    /// How many DATA chunks fast retransmission selected (RFC 4960 section 7.2.4).
     pub fn get_num_fast_retrans(&self) -> u64
         ensures { result ≡ self.now.fast_retrans }
     {

@@ -165,7 +165,8 @@ a_read_that_happens_stands = read_stands
 
 -- A FORWARD TSN
 
-came_forward : (w : Direction) (k : ℕ) (f : Forward) → slice_get w.forwards k ≡ Some f → w.receiver.is_open ≡ true
+-- a FORWARD TSN that lies ahead of a receiver that is open is taken
+pub came_forward : (w : Direction) (k : ℕ) (f : Forward) → slice_get w.forwards k ≡ Some f → w.receiver.is_open ≡ true
     → ltb (reach w.receiver) f.reach ≡ true
     → happens w (Event.ForwardComes k) ≡ passes w f
 unfolding happens

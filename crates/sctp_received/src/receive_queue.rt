@@ -149,12 +149,14 @@ impl ReceiveQueue {
         last
     }
 
+    /// Whether no TSN is held.
     pub fn is_empty(&self) -> bool
         ensures { result ≡ (length self.now == 0) }
     {
         self.tsns.len() == 0
     }
 
+    /// Holds no TSN any more.
     pub fn clear(&mut self)
         ensures { self.new ≡ [] }
     {

@@ -7,14 +7,10 @@ use Rattle.sctp_serial.specs.Serial.{tsn, tsn_past}
 use Rattle.sctp_streams.specs.Streams.{StreamMap}
 use Rattle.sctp_inbound.specs.Held.{is_passed}
 use Rattle.sctp_fit.specs.HeldSet.{HoldsPast, IsPast, peer_last_tsn_of}
-use Rattle.sctp_fit.proofs.HeldTsns.{any_from, any_in, before, held_is, spells}
+use Rattle.sctp_fit.proofs.HeldTsns.{any_from, any_in, before, held_is, past_before, spells}
 use Rattle.sctp_directions.specs.Acts.{History, IsNewTsn, offset_in, reach_in}
 use Rattle.sctp_assoc.proofs.WhatCame.{came_on}
 use Rattle.sctp_sides.specs.Intake.{FillsAGap}
-
--- how far the TSN of an offset lies past the last TSN in order
-past_before : (i r x : ℕ) → r ≤ x → x < r + 65535 → tsn_past (before i r) (tsn i x) + r ≡ suc x
-past_before i r x a b = omega arith
 
 -- distances past the last TSN in order go as offsets do
 farther : (x y r o q : ℕ) → x + r ≡ suc o → y + r ≡ suc q → x < y → o < q

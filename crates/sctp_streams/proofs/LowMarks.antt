@@ -21,10 +21,11 @@ use Rattle.sctp_streams.specs.Streams.{changed_stream, given_back_in, live_ids, 
 
 -- Sorted identifiers
 
-found_as : (n k : ℕ) → is_eq (nat_cmp n k) ≡ eqb n k
+-- a key is found exactly where it is the one that is looked for, from either side
+pub found_as : (n k : ℕ) → is_eq (nat_cmp n k) ≡ eqb n k
 found_as n k = grind (arith, nat_tests)
 
-found_of : (n k : ℕ) → is_eq (nat_cmp k n) ≡ eqb n k
+pub found_of : (n k : ℕ) → is_eq (nat_cmp k n) ≡ eqb n k
 found_of n k = grind (arith, nat_tests)
 
 less_below : (i x y : ℕ) → nat_cmp i x ≡ Less → nat_cmp x y ≡ Less → nat_cmp i y ≡ Less
@@ -160,7 +161,8 @@ not_yet (Some s) = none s.low_mark s.buffered
 
 -- All streams
 
-at_with : (m : StreamMap) (id n : ℕ) (t s : StreamView) → stream_at m id ≡ Some t
+-- a live stream is another one now: the others stay
+pub at_with : (m : StreamMap) (id n : ℕ) (t s : StreamView) → stream_at m id ≡ Some t
     → stream_at (with_stream m id s) n ≡ cond (eqb n id) (Some s) (stream_at m n)
 at_with m id n t s h =
     lookup-set_value (eq_by_cmp_equiv nat_cmp_total) (is_at (nat_cmp id)) ((eq_by_cmp_equiv nat_cmp_total).congr id) n s

@@ -306,6 +306,7 @@ impl Streams {
         self.by_id.len()
     }
 
+    /// Whether no stream is live.
     pub fn is_empty(&self) -> bool
         ensures { result ≡ (length self.now.by_id == 0) }
     {
