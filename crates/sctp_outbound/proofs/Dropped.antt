@@ -1,7 +1,8 @@
 -- Messages of which nothing was sent are dropped one after another.
 use Rattle.std.proofs.Common.{◌≡◌, ℕ, zero, suc, ◌+◌, ◌-◌, ◌<◌, ◌≤◌, false, true, Bool, is_some, List, [], ◌∷◌, Option}
 use Rattle.std.proofs.Common.{Some}
-use Rattle.std.proofs.Common.{None, length, refl, ap, sym, ◌∙◌, arith, false≢true}
+use Rattle.std.proofs.Common.{None, length, refl, ap, sym, ◌∙◌, arith}
+use Rattle.std.proofs.lemmas.Bool.{false≢true}
 use Rattle.std.specs.Prelude.{find}
 use Rattle.std.specs.Option.{option_map}
 use Rattle.sctp_outbound_queue.specs.declared.queue.Released.{Released}

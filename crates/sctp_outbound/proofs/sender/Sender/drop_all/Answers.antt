@@ -9,15 +9,15 @@ loop-done-init c = (
   gathers_nothing c.args.streams.now c.args.fallen.now,
 )
 
-pub returns-then-not-branch-clause-exact : goal.returns-then-not-branch-clause-exact
-returns-then-not-branch-clause-exact c =
+pub returns-then-not-drop_first-clause-exact : goal.returns-then-not-drop_first-clause-exact
+returns-then-not-drop_first-clause-exact c =
     drop_ends_early c.pending_messages-count.result c.loop-done.done c.args.now (c.args.self.now, c.args.streams.now)
     (c.loop-done.self, c.loop-done.streams) (c.drop_first.new.self, c.drop_first.new.streams)
     c.pending_messages-count.ensures c.loop-done.invariant.0
-    (sym c.drop_first.ensures.any ∙ c.if-not-branch.true) c.drop_first.ensures.exact
+    (sym c.drop_first.ensures.any ∙ c.if-not-drop_first.true) c.drop_first.ensures.exact
 
-pub returns-then-not-branch-clause-gathers : goal.returns-then-not-branch-clause-gathers
-returns-then-not-branch-clause-gathers c =
+pub returns-then-not-drop_first-clause-gathers : goal.returns-then-not-drop_first-clause-gathers
+returns-then-not-drop_first-clause-gathers c =
     gathers_both _ _ _ _ _ _ c.loop-done.invariant.1 c.drop_first.ensures.gathers
 
 pub loop-done-preserved : goal.loop-done-preserved
