@@ -40,7 +40,7 @@ pub(crate) fn joined(
 /// The state's name and the next deadline, in ms, 0 where there is none.
 pub(crate) type Standing = (AssociationState, u64);
 
-/// The peer's window, the cumulative TSN ack point and the peer's tag, streams that may be sent on and received on, and
+/// The peer's window, the last TSN in order and the peer's tag, streams that may be sent on and received on, and
 /// whether FORWARD TSN is in use.
 pub(crate) type Numbers = (u32, u32, u32, (u16, u16), bool);
 

@@ -354,7 +354,7 @@ fn read_text(alloc: Global, association: &mut Association) -> Result<String, Fai
     Ok(format!(in alloc; "{number} {bytes}")?)
 }
 
-// A writes a message and B gets it: whether B is told, what it reads, and its cumulative TSN ack point.
+// A writes a message and B gets it: whether B is told, what it reads, and its last TSN in order.
 fn say(
     alloc: Global,
     a: &mut Association,

@@ -214,7 +214,7 @@ impl Association {
         Ok(association)
     }
 
-    // Nothing was sent and nothing came. `peer_last_tsn` is the cumulative TSN ack point and `window` the peer's
+    // Nothing was sent and nothing came. `peer_last_tsn` is the last TSN in order and `window` the peer's
     // receive window.
     fn fresh(
         alloc: Global,

@@ -78,8 +78,9 @@ impl Association {
         self.sender.rwnd()
     }
 
-    /// The cumulative TSN ack point (RFC 4960 section 6.2): of the TSNs that the peer sent, the last one that came in
-    /// order. Before any DATA came it is the one before the peer's initial TSN, or 0 until that is known.
+    /// The last TSN in order, RFC 4960's cumulative TSN ack point of the receiver (section 6.2): of the TSNs that the
+    /// peer sent, the last one that came in order. Before any DATA came it is the one before the peer's initial TSN, or
+    /// 0 until that is known.
     pub fn peer_last_tsn(&self) -> u32
         ensures { result ≡ self.now.receiver.peer_last_tsn }
     {

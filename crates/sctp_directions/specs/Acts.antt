@@ -181,7 +181,7 @@ abbrev pub can_go_again : Option InFlight → Bool
 can_go_again None = false
 can_go_again (Some x) = is_outstanding x
 
--- DATA with this TSN is new: it is 1 to 65,535 past the cumulative TSN ack point, and did not come
+-- DATA with this TSN is new: it is 1 to 65,535 past the last TSN in order, and did not come
 pub record IsNewTsn (h : History) (t : ℕ) : Type 0 where
   pub small : t < 2 ^ 32
   pub near : offset_in h t < reach_in h + 65535

@@ -1,7 +1,7 @@
 // The TSNs that are held past the receiver's last TSN in order.
 ghost use Rattle.sctp_fit.specs.HeldSet.{BlocksNameWhatCame, NewTsnsDidNotCome, NothingIsHeldAtFirst, TheSetFollows};
 
-/// The TSNs that a receiver holds past its cumulative TSN ack point are those of the offsets past the reach that came;
+/// The TSNs that a receiver holds past its last TSN in order are those of the offsets past the reach that came;
 /// a new one moves the last TSN in order with the reach, and gap ack blocks made of them name what came (RFC 4960
 /// sections 3.3.4 and 6.2).
 pub fn the_set_holds_what_lies_past_the_reach()

@@ -1,4 +1,4 @@
--- The TSNs held past the receiver's cumulative TSN ack point (RFC 4960 sections 3.3.4 and 6.2).
+-- The TSNs held past the receiver's last TSN in order (RFC 4960 sections 3.3.4 and 6.2).
 use Rattle.std.specs.Prelude.{ℕ, Bool, List, ◌==◌, ◌||◌, not, length, nat_lt}
 use Rattle.std.specs.List.{filter, list_any}
 use Rattle.sctp_serial.specs.Serial.{tsn_lte, tsn_past}

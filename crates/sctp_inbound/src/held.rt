@@ -9,8 +9,8 @@ use sctp_wire_types::{GapAckBlock, List};
 use std::alloc::{AllocError, Global};
 use std::marker::Model;
 
-/// The TSNs that came past the cumulative TSN ack point and do not follow it yet; the receiver keeps the last TSN in
-/// order (RFC 4960 section 6.2).
+/// The TSNs that came past the last TSN in order and do not follow it yet; the receiver keeps that
+/// one (RFC 4960 section 6.2).
 #[derive(Debug, Drop)]
 pub struct Held {
     tsns: ReceiveQueue,

@@ -20,7 +20,8 @@ pub enum AckTrigger {
     Immediate,
 }
 
-/// The cumulative TSN ack point, what came past it, and the state of the acknowledgement (RFC 4960 section 6.2).
+/// The last TSN in order (RFC 4960: its cumulative TSN ack point), what came past it, and the state of the
+/// acknowledgement (RFC 4960 section 6.2).
 #[derive(Debug, Drop)]
 pub struct Receiver {
     /// Every TSN up to this one came or was skipped.

@@ -1,4 +1,4 @@
-//! The TSNs that came and are held above the cumulative TSN ack point, and the gap ack blocks that say them.
+//! The TSNs that came and are held past the last one in order, and the gap ack blocks that say them.
 #![tactic(auto)]
 
 mod receive_queue;

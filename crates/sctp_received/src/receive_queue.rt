@@ -1,4 +1,4 @@
-// TSNs that came and stand above the cumulative TSN ack point.
+// TSNs that came and stand past the last one in order.
 ghost use Rattle.std.specs.Prelude.{◌≡◌, ℕ, ◌+◌, ◌%◌, ◌^◌, ◌<◌, ◌==◌, ◌++◌, not, if◌then◌else◌, length, [], filter};
 ghost use Rattle.std.specs.Prelude.{Some, None, is_some, false, IfOk, OnOk, OnErr};
 ghost use Rattle.std.specs.Ordering.{nat_cmp};
@@ -16,8 +16,9 @@ use std::alloc::{AllocError, Global};
 use std::collections::BTreeSet;
 use std::marker::Model;
 
-/// A finite set of TSNs that came above the cumulative TSN ack point, which the caller keeps (RFC 4960 section 6.2). A
-/// contract sees the set as the list of its TSNs, so a list of ranges may take the place of what holds it.
+/// A finite set of TSNs that came past the last one in order, the cumulative TSN, which the caller keeps (RFC 4960
+/// section 6.2). A contract sees the set as the list of its TSNs, so a list of ranges may take the place of what holds
+/// it.
 #[derive(Debug, Drop)]
 pub struct ReceiveQueue {
     tsns: BTreeSet<u32>,
@@ -89,7 +90,7 @@ impl ReceiveQueue {
     }
 
     /// Takes out the TSNs that follow the cumulative TSN one after another, and answers the last of them: where the
-    /// cumulative TSN ack point moves (RFC 4960 section 6.2).
+    /// cumulative TSN moves (RFC 4960 section 6.2).
     pub fn advance(&mut self, cumulative_tsn: u32) -> u32
         ensures moved { advanced (length self.old) cumulative_tsn self.old ≡ (result, self.new) }
         ensures stops { is_held ((result + 1) % 2 ^ 32) self.new ≡ false }

@@ -12,7 +12,7 @@ pub enum Chunk {
     Heartbeat(ChunkHeartbeat),
     HeartbeatAck(ChunkHeartbeat),
     Abort(ChunkAbort),
-    /// The cumulative TSN ack point.
+    /// The cumulative TSN ack: the last TSN that came in order.
     Shutdown(u32),
     ShutdownAck,
     Error(ChunkError),
@@ -63,7 +63,7 @@ pub struct ChunkSelectiveAck {
     pub duplicate_tsn: List<u32>,
 }
 
-/// The first and the last TSN of a run that came, as offsets from the cumulative TSN ack point.
+/// The first and the last TSN of a run that came, as offsets from the cumulative TSN ack.
 #[derive(Clone, Copy, Debug, PartialEq, Eq)]
 pub struct GapAckBlock {
     pub start: u16,
