@@ -62,7 +62,8 @@ typedef uint32_t sctp_assoc_code;
 /* Memory was refused. What that leaves the call says; where it leaves the association failed,
  * sctp_assoc_is_failed tells so, and each later call answers SCTP_ASSOC_FAILED. */
 #define SCTP_ASSOC_NO_MEMORY 2
-/* There is none: no datagram is due, no event waits, no message is ready, no stream is to be accepted, no timer runs. */
+/* There is none: no datagram is due, no event waits, no message is ready, no stream is to be accepted, or no timer
+ * runs. */
 #define SCTP_ASSOC_NOTHING 3
 /* The buffer is too short. What is next stays, and `length` says how long it is. */
 #define SCTP_ASSOC_NO_ROOM 4
@@ -255,8 +256,8 @@ sctp_assoc_code sctp_assoc_is_failed(sctp_assoc *slot, bool *answer);
  * NO_STREAM_LEFT, NO_MEMORY (nothing changed). */
 sctp_assoc_code sctp_assoc_open_stream(sctp_assoc *slot, uint16_t stream, uint32_t payload_type);
 
-/* Takes out the identifier of the oldest stream that the peer opened and that wasn't accepted yet. Not needed to read or
- * to write on it. Codes: DONE, EMPTY_SLOT, NOTHING (also where the association has failed). */
+/* Takes out the identifier of the oldest stream that the peer opened and that wasn't accepted yet. It needs no accepting
+ * to be read or written. Codes: DONE, EMPTY_SLOT, NOTHING (also where the association has failed). */
 sctp_assoc_code sctp_assoc_accept_stream(sctp_assoc *slot, uint16_t *stream);
 
 /* Accepts one message, which goes out with sctp_assoc_poll_transmit as the windows allow. Codes: DONE, EMPTY_SLOT,
@@ -265,8 +266,8 @@ sctp_assoc_code sctp_assoc_write(sctp_assoc *slot, uint16_t stream, uint32_t pay
                                  size_t length);
 
 /* Copies the next message of a stream, whole, to the front of the buffer, and writes its length and its payload
- * protocol identifier. At NO_ROOM the message stays, and `length` says how long it is. Codes: DONE, EMPTY_SLOT, NOTHING,
- * NO_ROOM, FAILED, NO_STREAM, STREAM_CLOSED, NO_MEMORY (the message stays, or the association has failed). */
+ * protocol identifier. At NO_ROOM the message stays, and `length` says how long it is. Codes: DONE, EMPTY_SLOT,
+ * NOTHING, NO_ROOM, FAILED, NO_STREAM, STREAM_CLOSED, NO_MEMORY (the message stays, or the association has failed). */
 sctp_assoc_code sctp_assoc_read(sctp_assoc *slot, uint16_t stream, uint8_t *buffer, size_t room, size_t *length,
                                 uint32_t *payload_type);
 
@@ -292,8 +293,9 @@ sctp_assoc_code sctp_assoc_buffered_amount(sctp_assoc *slot, uint16_t stream, si
  *
  * A program that defines all three has the library take its memory from them; `#define SCTP_ASSOC_HEAP` before this
  * header declares them. Give the linker the program's definitions before the archive. `align` is a power of two up to
- * 16, and a block of `size` 0 has an address of its own too. The first two answer ok = false where they refuse; then the
- * old block stays as it was. The whole of it is `kept` bytes, which move with it. None of them calls the library.
+ * 16, and a block of `size` 0 has an address of its own too. What rattle_realloc answers keeps its first `kept` bytes.
+ * The first two answer ok = false where they refuse; then the old block stays as it was, and `at` leads anywhere but to
+ * NULL. None of the three calls the library.
  */
 #ifdef SCTP_ASSOC_HEAP
 typedef struct sctp_assoc_block {
