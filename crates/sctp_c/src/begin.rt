@@ -1,0 +1,133 @@
+// How an association begins and ends.
+ghost use Rattle.std.specs.Prelude.{◌≡◌, ◌≢◌, None, Some};
+
+use crate::codes::{DONE, EMPTY_SLOT, NO_MEMORY, code_of, refusal_code};
+use crate::config::{Config, Identity, Token};
+use crate::slot::Slot;
+use sctp_driver::{Driver, Error};
+use std::alloc::Global;
+
+// Puts a driver that was just made into a slot, in place of one that it held.
+fn place(slot: &mut Slot, alloc: Global, made: Result<Driver, Error>) -> u32
+    ensures refused { result ≢ 0 → slot.new.handle.driver ≡ slot.old.handle.driver }
+{
+    let driver = match made {
+        Ok(driver) => driver,
+        Err(error) => return refusal_code(error),
+    };
+    match Box::new(alloc, driver) {
+        Ok(driver) => {
+            drop(slot.take(alloc));
+            slot.put(driver);
+            DONE
+        }
+        Err(_) => NO_MEMORY,
+    }
+}
+
+/// Makes a client.
+#[unsafe(no_mangle)]
+pub extern "C" fn sctp_assoc_client(
+    slot: &mut Slot,
+    alloc: Global,
+    config: &Config,
+    max_payload_size: u32,
+    identity: &Identity,
+    now: u64,
+) -> u32
+    ensures refused { result ≢ 0 → slot.new.handle.driver ≡ slot.old.handle.driver }
+{
+    let made = Driver::client(
+        alloc,
+        &config.transport(),
+        max_payload_size,
+        identity.tag,
+        identity.initial_tsn,
+        identity.cookie,
+        now,
+    );
+    place(slot, alloc, made)
+}
+
+/// Makes a server.
+#[unsafe(no_mangle)]
+pub extern "C" fn sctp_assoc_server(
+    slot: &mut Slot,
+    alloc: Global,
+    config: &Config,
+    max_payload_size: u32,
+    identity: &Identity,
+    now: u64,
+) -> u32
+    ensures refused { result ≢ 0 → slot.new.handle.driver ≡ slot.old.handle.driver }
+{
+    let made = Driver::server(
+        alloc,
+        &config.transport(),
+        max_payload_size,
+        identity.tag,
+        identity.initial_tsn,
+        identity.cookie,
+        now,
+    );
+    place(slot, alloc, made)
+}
+
+fn by_tokens(
+    alloc: Global,
+    config: &Config,
+    max_payload_size: u32,
+    local: &Token,
+    remote: &Token,
+) -> Result<Driver, Error> {
+    let local_init = local.chunk(alloc)?;
+    let remote_init = remote.chunk(alloc)?;
+    Driver::joined(
+        alloc,
+        &config.transport(),
+        max_payload_size,
+        &local_init,
+        &remote_init,
+    )
+}
+
+/// Makes a side that is established at once.
+#[unsafe(no_mangle)]
+pub extern "C" fn sctp_assoc_joined(
+    slot: &mut Slot,
+    alloc: Global,
+    config: &Config,
+    max_payload_size: u32,
+    local: &Token,
+    remote: &Token,
+) -> u32
+    ensures refused { result ≢ 0 → slot.new.handle.driver ≡ slot.old.handle.driver }
+{
+    let made = by_tokens(alloc, config, max_payload_size, local, remote);
+    place(slot, alloc, made)
+}
+
+/// Frees the association.
+#[unsafe(no_mangle)]
+pub extern "C" fn sctp_assoc_free(slot: &mut Slot, alloc: Global) -> u32
+    ensures empty { slot.new.handle.driver ≡ None }
+{
+    match slot.take(alloc) {
+        Some(driver) => {
+            drop(driver);
+            DONE
+        }
+        None => EMPTY_SLOT,
+    }
+}
+
+/// Closes the association.
+#[unsafe(no_mangle)]
+pub extern "C" fn sctp_assoc_close(slot: &mut Slot, alloc: Global) -> u32 {
+    let Some(mut driver) = slot.take(alloc) else {
+        return EMPTY_SLOT;
+    };
+    let answer = driver.close();
+    slot.put(driver);
+    code_of(answer)
+}
