@@ -48,3 +48,6 @@ impl Handle {
         Parts { ptr, alloc }
     }
 }
+
+// As a box with a driver is.
+unsafe impl Send for Handle {}

@@ -22,8 +22,10 @@ impl Slot {
     fn empty(alloc: Global) -> Slot
         ensures { result.handle.driver ≡ None }
     {
+        let nowhere: *mut u8 = ptr::null_mut();
+        let handle = Handle::empty(nowhere, alloc);
         Slot {
-            handle: Handle::empty(ptr::null_mut(), alloc),
+            handle,
             live: false,
         }
     }
