@@ -1,5 +1,10 @@
 // How an association begins and ends.
 ghost use Rattle.std.specs.Prelude.{◌≡◌, ◌≢◌, None, Some};
+ghost use Rattle.sctp_streams.specs.declared.event.AssociationError.TheVariants as reasons;
+ghost use Rattle.sctp_assoc.specs.Calls.{failed_refusal};
+ghost use Rattle.sctp_assoc.specs.Closing.{closed_by};
+ghost use Rattle.sctp_driver.specs.Driving.{Fails, with_association};
+ghost use Rattle.sctp_c.specs.Slots.{OnHeld, RefusesBy, RefusesOrLacksMemoryBy};
 
 use crate::codes::{DONE, EMPTY_SLOT, NO_MEMORY, code_of, refusal_code};
 use crate::config::{Config, Identity, Token};
@@ -111,6 +116,7 @@ pub extern "C" fn sctp_assoc_joined(
 #[unsafe(no_mangle)]
 pub extern "C" fn sctp_assoc_free(slot: &mut Slot, alloc: Global) -> u32
     ensures empty { slot.new.handle.driver ≡ None }
+    ensures code { RefusesBy (λ d. None) slot.old.handle.driver result }
 {
     match slot.take(alloc) {
         Some(driver) => {
@@ -123,7 +129,24 @@ pub extern "C" fn sctp_assoc_free(slot: &mut Slot, alloc: Global) -> u32
 
 /// Closes the association.
 #[unsafe(no_mangle)]
-pub extern "C" fn sctp_assoc_close(slot: &mut Slot, alloc: Global) -> u32 {
+#[tactic(
+    auto,
+    using(
+        crate::proofs::Refusals::of_refusal_or_memory,
+        crate::proofs::Refusals::when_done,
+        crate::proofs::Refusals::when_failed,
+        crate::proofs::Refusals::when_memory
+    )
+)]
+pub extern "C" fn sctp_assoc_close(slot: &mut Slot, alloc: Global) -> u32
+    ensures code { RefusesOrLacksMemoryBy (λ d. failed_refusal d.association)
+        slot.old.handle.driver result }
+    ensures done { result ≡ 0 → OnHeld slot.old.handle.driver slot.new.handle.driver
+        (λ d e. e ≡ with_association d
+            (closed_by d.association reasons.AssociationClosed)) }
+    ensures refused { result ≡ 10 → slot.new.handle.driver ≡ slot.old.handle.driver }
+    ensures memory { result ≡ 2 → OnHeld slot.old.handle.driver slot.new.handle.driver (λ d e. Fails d e) }
+{
     let Some(mut driver) = slot.take(alloc) else {
         return EMPTY_SLOT;
     };

@@ -1,5 +1,6 @@
 // What C hands over to make an association, as plain structs.
-ghost use Rattle.std.specs.Prelude.{◌≡◌};
+ghost use Rattle.std.specs.Prelude.{◌≡◌, Err, IfOk, OnErr};
+ghost use Rattle.sctp_c.specs.Configs.{limit_of, settings_of, token_chunk};
 
 use crate::codes::DONE;
 use sctp_driver::{ChunkInit, Error, TransportConfig, token};
@@ -45,7 +46,9 @@ pub struct Token {
     pub forward_tsn: bool,
 }
 
-fn limit(retransmits: usize) -> Option<usize> {
+fn limit(retransmits: usize) -> Option<usize>
+    ensures { result ≡ limit_of retransmits }
+{
     if retransmits == usize::MAX {
         None
     } else {
@@ -59,7 +62,9 @@ fn number(limit: Option<usize>) -> usize {
 
 impl Config {
     /// The configuration of an association.
-    pub(crate) fn transport(&self) -> TransportConfig {
+    pub(crate) fn transport(&self) -> TransportConfig
+        ensures { result ≡ settings_of self.now }
+    {
         TransportConfig::default()
             .with_max_receive_buffer_size(self.max_receive_buffer_size)
             .with_max_send_message_size(self.max_send_message_size)
@@ -95,7 +100,10 @@ impl Config {
 
 impl Token {
     /// The INIT chunk with these values.
-    pub(crate) fn chunk(&self, alloc: Global) -> Result<ChunkInit, Error> {
+    pub(crate) fn chunk(&self, alloc: Global) -> Result<ChunkInit, Error>
+        ensures ok { IfOk result (λ init. init ≡ token_chunk self.now) }
+        ensures err { OnErr result (result ≡ Err Error.ErrNoMemory) }
+    {
         let config = TransportConfig::default()
             .with_max_receive_buffer_size(self.window)
             .with_max_num_outbound_streams(self.num_outbound_streams)

@@ -1,5 +1,10 @@
 // Events, as a plain struct.
-ghost use Rattle.std.specs.Prelude.{◌≡◌, ◌≢◌, None, Some};
+ghost use Rattle.std.specs.Prelude.{◌≡◌, ◌≢◌, None};
+ghost use Rattle.sctp_streams.specs.declared.event.Event.TheVariants as events;
+ghost use Rattle.sctp_assoc.specs.Calls.{event_polled};
+ghost use Rattle.sctp_driver.specs.Driving.{with_association};
+ghost use Rattle.sctp_c.specs.Events.{event_with, happening, reason_number, told_of, Tells};
+ghost use Rattle.sctp_c.specs.Slots.{OnAny};
 
 use crate::codes::{DONE, EMPTY_SLOT, NOTHING, refusal_code};
 use crate::slot::Slot;
@@ -48,7 +53,9 @@ const CLOSED: u32 = 3;
 const BUFFER_EXHAUSTED: u32 = 4;
 const OTHER_REASON: u32 = 5;
 
-fn reason_of(reason: AssociationError) -> u32 {
+fn reason_of(reason: AssociationError) -> u32
+    ensures { result ≡ reason_number reason }
+{
     match reason {
         AssociationError::HandshakeFailed(Error::ErrHandshakeInitAck) => NO_INIT_ACK,
         AssociationError::HandshakeFailed(Error::ErrHandshakeCookieEcho) => NO_COOKIE_ACK,
@@ -58,7 +65,9 @@ fn reason_of(reason: AssociationError) -> u32 {
     }
 }
 
-fn event_of(kind: u32, reason: u32, stream: u16) -> Told {
+fn event_of(kind: u32, reason: u32, stream: u16) -> Told
+    ensures { result ≡ event_with kind reason stream }
+{
     Told {
         kind,
         reason,
@@ -72,7 +81,9 @@ fn event_of(kind: u32, reason: u32, stream: u16) -> Told {
     }
 }
 
-fn end_of(stats: DataChannelStats) -> Told {
+fn end_of(stats: DataChannelStats) -> Told
+    ensures { result ≡ told_of (events.DataChannelStatsFinal stats) }
+{
     Told {
         kind: STREAM_ENDED,
         reason: NO_REASON,
@@ -86,7 +97,9 @@ fn end_of(stats: DataChannelStats) -> Told {
     }
 }
 
-fn stream_event(event: StreamEvent) -> Told {
+fn stream_event(event: StreamEvent) -> Told
+    ensures { result ≡ happening event }
+{
     match event {
         StreamEvent::Opened { id } => event_of(OPENED, NO_REASON, id),
         StreamEvent::Readable { id } => event_of(READABLE, NO_REASON, id),
@@ -99,7 +112,9 @@ fn stream_event(event: StreamEvent) -> Told {
     }
 }
 
-fn written(event: Event) -> Told {
+fn written(event: Event) -> Told
+    ensures { result ≡ told_of event }
+{
     match event {
         Event::Connected => event_of(CONNECTED, NO_REASON, 0),
         Event::HandshakeFailed { reason } => event_of(HANDSHAKE_FAILED, reason_of(reason), 0),
@@ -112,7 +127,15 @@ fn written(event: Event) -> Told {
 
 /// Takes out the oldest event.
 #[unsafe(no_mangle)]
-pub extern "C" fn sctp_assoc_poll_event(slot: &mut Slot, alloc: Global, event: &mut Told) -> u32 {
+pub extern "C" fn sctp_assoc_poll_event(slot: &mut Slot, alloc: Global, event: &mut Told) -> u32
+    ensures given { result ≢ 10 → OnAny slot.old.handle.driver slot.new.handle.driver
+        (λ d e. (e.association ≡ (event_polled d.association).0)
+            × Tells ((event_polled d.association).1) result event.old event.new) }
+    ensures others { OnAny slot.old.handle.driver slot.new.handle.driver
+        (λ d e. e ≡ with_association d e.association) }
+    ensures empty { slot.old.handle.driver ≡ None → result ≡ 1 }
+    ensures refused { result ≡ 10 → slot.new.handle.driver ≡ slot.old.handle.driver }
+{
     let Some(mut driver) = slot.take(alloc) else {
         return EMPTY_SLOT;
     };
