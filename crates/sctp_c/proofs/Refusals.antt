@@ -233,7 +233,7 @@ takes_none waiting buffer (sendings.Datagram n) left filled holds other = absurd
 takes_none [] buffer sendings.Nothing left filled holds other = holds.1
 takes_none (w ∷ ws) buffer sendings.Nothing left filled holds other = absurd holds
 takes_none [] buffer (sendings.NoRoom n) left filled holds other = absurd holds
-takes_none (w ∷ ws) buffer (sendings.NoRoom n) left filled holds other = holds.1.1.1
+takes_none (w ∷ ws) buffer (sendings.NoRoom n) left filled holds other = holds.3
 
 pub unfilled_sent : (d e : Driving) (buffer filled : List ℕ) (answer : Result Sent Error)
     → IfOk answer (λ a. Sends d buffer a e filled) → OnErr answer (filled ≡ buffer)
@@ -249,7 +249,7 @@ gives_none index kept buffer (reads.Message kind n) left filled holds other = ab
 gives_none None kept buffer reads.Nothing left filled holds other = holds.1
 gives_none (Some i) kept buffer reads.Nothing left filled holds other = absurd holds
 gives_none None kept buffer (reads.NoRoom n) left filled holds other = absurd holds
-gives_none (Some i) kept buffer (reads.NoRoom n) left filled holds other = holds.1.1.1
+gives_none (Some i) kept buffer (reads.NoRoom n) left filled holds other = holds.3
 
 pub unfilled_read : (d e : Driving) (id : ℕ) (buffer filled : List ℕ) (answer : Result Read Error)
     → IfOk answer (λ a. Reads d id buffer a e filled) → OnErr answer (filled ≡ buffer)

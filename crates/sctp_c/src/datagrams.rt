@@ -30,7 +30,7 @@ fn fate_of(received: Received) -> u32
 // Writes what became of a datagram.
 #[tactic(auto, using(crate::proofs::Refusals::never_done))]
 fn tell_fate(answer: Result<Received, Error>, fate: &mut u32) -> u32
-    ensures { received_by result fate.new ≡ answer_in answer }
+    ensures answer { received_by result fate.new ≡ answer_in answer }
     ensures code { result ≡ code_of answer }
 {
     match answer {
@@ -83,7 +83,7 @@ pub extern "C" fn sctp_assoc_handle_datagram(
 // Writes how long the datagram is that was given, or that did not fit.
 #[tactic(auto, using(crate::proofs::Refusals::none_sent))]
 fn tell_sent(answer: Result<Sent, Error>, length: &mut usize) -> u32
-    ensures { sent_by result length.new ≡ answer_in answer }
+    ensures answer { sent_by result length.new ≡ answer_in answer }
     ensures code { result ≡ code_with sent_code answer }
 {
     match answer {

@@ -130,7 +130,7 @@ pub extern "C" fn sctp_assoc_write(
 // Writes what is known of the message that was read, or that did not fit.
 #[tactic(auto, using(crate::proofs::Refusals::none_read, crate::proofs::Refusals::number_names))]
 fn tell_read(answer: Result<Read, Error>, length: &mut usize, payload_type: &mut u32) -> u32
-    ensures { read_by result length.new payload_type.new ≡ answer_in answer }
+    ensures answer { read_by result length.new payload_type.new ≡ answer_in answer }
     ensures code { result ≡ code_with read_code answer }
 {
     match answer {
