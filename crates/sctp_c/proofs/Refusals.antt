@@ -1,6 +1,8 @@
 -- What codes say of the answers that they stand for.
-use Rattle.std.specs.Prelude.{◌≡◌, ◌≢◌, ℕ, List, [], ◌∷◌, Option, Some, None, Result, Ok, Err, IfOk, IfSome, OnOk, OnErr}
-use Rattle.std.proofs.Common.{refl, sym, ap, inl, inr, arith}
+use Rattle.std.specs.Prelude.{◌≡◌, ◌≢◌, ◌⊎◌, ℕ, List, [], ◌∷◌, Option, Some, None, Result, Ok, Err, IfOk, IfSome}
+use Rattle.std.specs.Prelude.{is_ok, IsErrOf, IsOkAnd, IsSomeAnd, OnOk, OnErr}
+use Rattle.std.proofs.Common.{refl, sym, ap, ◌∙◌, subst, inl, inr, arith}
+use Rattle.std.proofs.lemmas.Bool.{true≢false}
 use Rattle.std.proofs.lemmas.Option.{none-some, same_Some}
 use Rattle.sctp_wire_types.specs.declared.error.Error.{Error}
 use Rattle.sctp_wire_types.specs.declared.error.Error.TheVariants as errors
@@ -16,7 +18,7 @@ use Rattle.sctp_driver.specs.Driving.{Driving, KeptMessage}
 use Rattle.sctp_driver.specs.Messages.{GivesAt, Reads, index_of}
 use Rattle.sctp_driver.specs.Sending.{Sends, Takes}
 use Rattle.sctp_c.specs.Codes.{answer_in, code_of, code_with, read_by, read_code, refusal_code, sent_by, sent_code}
-use Rattle.sctp_c.specs.Slots.{IsCode, IsCodeOrLacksMemory}
+use Rattle.sctp_c.specs.Slots.{IsCode, IsCodeOrLacksMemory, IsPlaced}
 
 -- the code of a refusal is not that of a call that was done
 pub never_done : (e : Error) → refusal_code e ≢ 0
@@ -257,3 +259,34 @@ pub unfilled_read : (d e : Driving) (id : ℕ) (buffer filled : List ℕ) (answe
 unfilled_read d e id buffer filled (Ok a) holds refused other =
     gives_none (index_of id d.kept) d.kept buffer a e.kept filled holds.0 other
 unfilled_read d e id buffer filled (Err f) holds refused other = refused
+
+-- the code of a driver that was made and put into a slot
+pub when_placed : (made : Result Driving Error) (refusal : Option Error) (code : ℕ)
+    → RefusesOrLacksMemory made refusal → IsPlaced made code → IsCodeOrLacksMemory refusal code
+when_placed (Ok d) None code same placed = placed
+when_placed (Ok d) (Some f) code same placed = absurd (none-some f (sym same))
+when_placed (Err e) None code same placed = inr (placed ∙ ap refusal_code same)
+when_placed (Err e) (Some f) code same placed = placed ∙ ap refusal_code same
+
+error_in : Error → Result Driving Error → Error
+error_in other (Ok d) = other
+error_in other (Err e) = e
+
+same_error : (e f : Error) (made : Result Driving Error) → made ≡ Err f → made ≡ Err e → e ≡ f
+unfolding error_in
+same_error e f made is_f is_e = sym (ap (error_in e) is_e) ∙ ap (error_in e) is_f
+
+pub when_joined : (made : Result Driving Error) (refusal : Option Error) (code : ℕ)
+    → IsErrOf made errors.ErrNoMemory ⊎ Refuses made refusal → IsPlaced made code → (code ≡ 2) ⊎ IsCode refusal code
+when_joined (Ok d) None code same (inl done) = inr done
+when_joined (Ok d) None code same (inr lacks) = inl lacks
+when_joined (Ok d) (Some f) code (inr same) placed = absurd (none-some f (sym same))
+when_joined (Ok d) (Some f) code (inl same) placed = absurd (true≢false (ap is_ok same))
+when_joined (Err e) refusal code (inl same) placed = inl (placed ∙ ap refusal_code (same_error e errors.ErrNoMemory (Err e) same refl))
+when_joined (Err e) None code (inr same) placed = absurd (none-some e same)
+when_joined (Err e) (Some f) code (inr same) placed = inr (placed ∙ ap refusal_code (sym (same_Some f e same)))
+
+pub when_made : (made : Result Driving Error) (P : Driving → Type 0) (held : Option Driving)
+    → IfOk made P → IsOkAnd made (λ d. held ≡ Some d) → IsSomeAnd held P
+when_made (Ok d) P held holds same = subst (λ (o : Option Driving). IsSomeAnd o P) (sym same) holds
+when_made (Err e) P held holds same = absurd same

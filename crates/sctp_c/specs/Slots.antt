@@ -1,5 +1,5 @@
 -- What a call does to the driver that a slot holds.
-use Rattle.std.specs.Prelude.{◌≡◌, ◌⊎◌, ℕ, Option, Some, None}
+use Rattle.std.specs.Prelude.{◌≡◌, ◌⊎◌, ℕ, Option, Some, None, Result, Ok, Err}
 use Rattle.sctp_wire_types.specs.declared.error.Error.{Error}
 use Rattle.sctp_driver.specs.Driving.{Driving}
 use Rattle.sctp_c.specs.Codes.{refusal_code}
@@ -34,3 +34,8 @@ abbrev pub OnAny : Option Driving → Option Driving → (Driving → Driving �
 OnAny None after R = after ≡ None
 OnAny (Some d) None R = ⊥
 OnAny (Some d) (Some e) R = R d e
+
+-- what was made was put into a slot, or memory was refused for it; or it was refused
+abbrev pub IsPlaced : Result Driving Error → ℕ → Type 0
+IsPlaced (Ok d) code = (code ≡ 0) ⊎ (code ≡ 2)
+IsPlaced (Err e) code = code ≡ refusal_code e

@@ -1,10 +1,16 @@
 // How an association begins and ends.
-ghost use Rattle.std.specs.Prelude.{◌≡◌, ◌≢◌, None, Some};
+ghost use Rattle.std.specs.Prelude.{◌≡◌, ◌≢◌, ◌⊎◌, None, Some, IfOk, IsErrOf, IsOkAnd, IsSomeAnd};
+ghost use Rattle.sctp_wire_types.specs.declared.error.Error.TheVariants as errors;
 ghost use Rattle.sctp_streams.specs.declared.event.AssociationError.TheVariants as reasons;
 ghost use Rattle.sctp_assoc.specs.Calls.{failed_refusal};
+ghost use Rattle.sctp_assoc.specs.Calls.{Refuses};
 ghost use Rattle.sctp_assoc.specs.Closing.{closed_by};
-ghost use Rattle.sctp_driver.specs.Driving.{Fails, with_association};
-ghost use Rattle.sctp_c.specs.Slots.{OnHeld, RefusesBy, RefusesOrLacksMemoryBy};
+ghost use Rattle.sctp_assoc.specs.Created.{client, create_refusal, join_refusal, joined, server};
+ghost use Rattle.sctp_driver.specs.Driving.{Fails, begun_with, with_association};
+ghost use Rattle.sctp_c.specs.Codes.{code_of};
+ghost use Rattle.sctp_c.specs.Configs.{settings_of, token_chunk};
+ghost use Rattle.sctp_c.specs.Slots.{IsCode, IsCodeOrLacksMemory, IsPlaced, OnHeld, RefusesBy};
+ghost use Rattle.sctp_c.specs.Slots.{RefusesOrLacksMemoryBy};
 
 use crate::codes::{DONE, EMPTY_SLOT, NO_MEMORY, code_of, refusal_code};
 use crate::config::{Config, Identity, Token};
@@ -13,8 +19,11 @@ use sctp_driver::{Driver, Error};
 use std::alloc::Global;
 
 // Puts a driver that was just made into a slot, in place of one that it held.
+#[tactic(auto, using(crate::proofs::Refusals::never_done))]
 fn place(slot: &mut Slot, alloc: Global, made: Result<Driver, Error>) -> u32
-    ensures refused { result ≢ 0 → slot.new.handle.driver ≡ slot.old.handle.driver }
+    ensures code { IsPlaced made result }
+    ensures held { result ≡ 0 → IsOkAnd made (λ d. slot.new.handle.driver ≡ Some d) }
+    ensures left { result ≢ 0 → slot.new.handle.driver ≡ slot.old.handle.driver }
 {
     let driver = match made {
         Ok(driver) => driver,
@@ -32,6 +41,7 @@ fn place(slot: &mut Slot, alloc: Global, made: Result<Driver, Error>) -> u32
 
 /// Makes a client.
 #[unsafe(no_mangle)]
+#[tactic(auto, using(crate::proofs::Refusals::when_placed, crate::proofs::Refusals::when_made))]
 pub extern "C" fn sctp_assoc_client(
     slot: &mut Slot,
     alloc: Global,
@@ -40,7 +50,11 @@ pub extern "C" fn sctp_assoc_client(
     identity: &Identity,
     now: u64,
 ) -> u32
-    ensures refused { result ≢ 0 → slot.new.handle.driver ≡ slot.old.handle.driver }
+    ensures code { IsCodeOrLacksMemory (create_refusal max_payload_size identity.now.initial_tsn) result }
+    ensures created { result ≡ 0 → IsSomeAnd slot.new.handle.driver (λ d. d ≡ begun_with
+        (client (settings_of config.now) max_payload_size identity.now.tag identity.now.initial_tsn
+            identity.now.cookie d.association.remote_addr None now) identity.now.tag) }
+    ensures left { result ≢ 0 → slot.new.handle.driver ≡ slot.old.handle.driver }
 {
     let made = Driver::client(
         alloc,
@@ -56,6 +70,7 @@ pub extern "C" fn sctp_assoc_client(
 
 /// Makes a server.
 #[unsafe(no_mangle)]
+#[tactic(auto, using(crate::proofs::Refusals::when_placed, crate::proofs::Refusals::when_made))]
 pub extern "C" fn sctp_assoc_server(
     slot: &mut Slot,
     alloc: Global,
@@ -64,7 +79,11 @@ pub extern "C" fn sctp_assoc_server(
     identity: &Identity,
     now: u64,
 ) -> u32
-    ensures refused { result ≢ 0 → slot.new.handle.driver ≡ slot.old.handle.driver }
+    ensures code { IsCodeOrLacksMemory (create_refusal max_payload_size identity.now.initial_tsn) result }
+    ensures created { result ≡ 0 → IsSomeAnd slot.new.handle.driver (λ d. d ≡ begun_with
+        (server (settings_of config.now) max_payload_size identity.now.tag identity.now.initial_tsn
+            identity.now.cookie d.association.remote_addr None) identity.now.tag) }
+    ensures left { result ≢ 0 → slot.new.handle.driver ≡ slot.old.handle.driver }
 {
     let made = Driver::server(
         alloc,
@@ -84,7 +103,12 @@ fn by_tokens(
     max_payload_size: u32,
     local: &Token,
     remote: &Token,
-) -> Result<Driver, Error> {
+) -> Result<Driver, Error>
+    ensures refused { IsErrOf result errors.ErrNoMemory
+        ⊎ Refuses result (join_refusal max_payload_size (token_chunk local.now) (token_chunk remote.now)) }
+    ensures joined { IfOk result (λ d. d ≡ begun_with (joined (settings_of config.now) max_payload_size
+        d.association.remote_addr None (token_chunk local.now) (token_chunk remote.now)) local.now.tag) }
+{
     let local_init = local.chunk(alloc)?;
     let remote_init = remote.chunk(alloc)?;
     Driver::joined(
@@ -98,6 +122,7 @@ fn by_tokens(
 
 /// Makes a side that is established at once.
 #[unsafe(no_mangle)]
+#[tactic(auto, using(crate::proofs::Refusals::when_joined, crate::proofs::Refusals::when_made))]
 pub extern "C" fn sctp_assoc_joined(
     slot: &mut Slot,
     alloc: Global,
@@ -106,7 +131,12 @@ pub extern "C" fn sctp_assoc_joined(
     local: &Token,
     remote: &Token,
 ) -> u32
-    ensures refused { result ≢ 0 → slot.new.handle.driver ≡ slot.old.handle.driver }
+    ensures code { (result ≡ 2)
+        ⊎ IsCode (join_refusal max_payload_size (token_chunk local.now) (token_chunk remote.now)) result }
+    ensures created { result ≡ 0 → IsSomeAnd slot.new.handle.driver (λ d. d ≡ begun_with
+        (joined (settings_of config.now) max_payload_size d.association.remote_addr None
+            (token_chunk local.now) (token_chunk remote.now)) local.now.tag) }
+    ensures left { result ≢ 0 → slot.new.handle.driver ≡ slot.old.handle.driver }
 {
     let made = by_tokens(alloc, config, max_payload_size, local, remote);
     place(slot, alloc, made)
