@@ -204,29 +204,33 @@ pub when_refused : {T : Type 0} (answer : Result T Error) (P : Type 0) → OnErr
 when_refused (Ok answer) P holds other = absurd (other refl)
 when_refused (Err e) P holds other = holds
 
-pub when_memory : {T : Type 0} (answer : Result T Error) → code_of answer ≡ 2 → answer ≡ Err errors.ErrNoMemory
-when_memory (Ok answer) same = absurd (omega (arith, same))
-when_memory (Err e) same = ap Err (memory_code e same)
+pub when_memory : {T : Type 0} (answer : Result T Error) (P : Type 0)
+    → (answer ≡ Err errors.ErrNoMemory → P) → code_of answer ≡ 2 → P
+when_memory (Ok answer) P so same = absurd (omega (arith, same))
+when_memory (Err e) P so same = so (ap Err (memory_code e same))
 
-pub when_failed : {T : Type 0} (answer : Result T Error) → code_of answer ≡ 10 → answer ≡ Err errors.ErrAssociationFailed
-when_failed (Ok answer) same = absurd (omega (arith, same))
-when_failed (Err e) same = ap Err (failed_code e same)
+pub when_failed : {T : Type 0} (answer : Result T Error) (P : Type 0)
+    → (answer ≡ Err errors.ErrAssociationFailed → P) → code_of answer ≡ 10 → P
+when_failed (Ok answer) P so same = absurd (omega (arith, same))
+when_failed (Err e) P so same = so (ap Err (failed_code e same))
 
 pub when_answered : {T : Type 0} (answer : Result T Error) (P : T → Type 0) → IfOk answer P → IfSome (answer_in answer) P
 when_answered (Ok answer) P holds = holds
 when_answered (Err e) P holds = tt
 
-pub sent_memory : (answer : Result Sent Error) → code_with sent_code answer ≡ 2 → answer ≡ Err errors.ErrNoMemory
-sent_memory (Ok (sendings.Datagram n)) same = absurd (omega (arith, same))
-sent_memory (Ok sendings.Nothing) same = absurd (omega (arith, same))
-sent_memory (Ok (sendings.NoRoom n)) same = absurd (omega (arith, same))
-sent_memory (Err e) same = ap Err (memory_code e same)
+pub sent_memory : (answer : Result Sent Error) (P : Type 0)
+    → (answer ≡ Err errors.ErrNoMemory → P) → code_with sent_code answer ≡ 2 → P
+sent_memory (Ok (sendings.Datagram n)) P so same = absurd (omega (arith, same))
+sent_memory (Ok sendings.Nothing) P so same = absurd (omega (arith, same))
+sent_memory (Ok (sendings.NoRoom n)) P so same = absurd (omega (arith, same))
+sent_memory (Err e) P so same = so (ap Err (memory_code e same))
 
-pub sent_failed : (answer : Result Sent Error) → code_with sent_code answer ≡ 10 → answer ≡ Err errors.ErrAssociationFailed
-sent_failed (Ok (sendings.Datagram n)) same = absurd (omega (arith, same))
-sent_failed (Ok sendings.Nothing) same = absurd (omega (arith, same))
-sent_failed (Ok (sendings.NoRoom n)) same = absurd (omega (arith, same))
-sent_failed (Err e) same = ap Err (failed_code e same)
+pub sent_failed : (answer : Result Sent Error) (P : Type 0)
+    → (answer ≡ Err errors.ErrAssociationFailed → P) → code_with sent_code answer ≡ 10 → P
+sent_failed (Ok (sendings.Datagram n)) P so same = absurd (omega (arith, same))
+sent_failed (Ok sendings.Nothing) P so same = absurd (omega (arith, same))
+sent_failed (Ok (sendings.NoRoom n)) P so same = absurd (omega (arith, same))
+sent_failed (Err e) P so same = so (ap Err (failed_code e same))
 
 -- where no datagram is given the buffer stays as it was
 takes_none : (waiting : List (List ℕ)) (buffer : List ℕ) (a : Sent) (left : List (List ℕ)) (filled : List ℕ)
