@@ -18,7 +18,9 @@ use Rattle.sctp_driver.specs.Driving.{Driving, KeptMessage}
 use Rattle.sctp_driver.specs.Messages.{GivesAt, Reads, index_of}
 use Rattle.sctp_driver.specs.Sending.{Sends, Takes}
 use Rattle.sctp_c.specs.Codes.{answer_in, code_of, code_with, read_by, read_code, refusal_code, sent_by, sent_code}
-use Rattle.sctp_c.specs.Slots.{IsCode, IsCodeOrLacksMemory, IsPlaced}
+use Rattle.sctp_assoc.specs.Timeouts.{after_timeouts}
+use Rattle.sctp_driver.specs.Driving.{with_association}
+use Rattle.sctp_c.specs.Slots.{IsCode, IsCodeOrLacksMemory, IsPlaced, OnHeld}
 
 -- the code of a refusal is not that of a call that was done
 pub never_done : (e : Error) → refusal_code e ≢ 0
@@ -294,3 +296,17 @@ pub when_made : (made : Result Driving Error) (P : Driving → Type 0) (held : O
     → IfOk made P → IsOkAnd made (λ d. held ≡ Some d) → IsSomeAnd held P
 when_made (Ok d) P held holds same = subst (λ (o : Option Driving). IsSomeAnd o P) (sym same) holds
 when_made (Err e) P held holds same = absurd same
+
+-- what the timers asked for was done to the driver that lies in a box: `d` and `e` are what the box holds before and
+-- after, and `o` and `n` what the call was lent and what it left
+pub when_timed : (answer : Result Unit Error) (code now : ℕ) (before after : Option Driving) (d o e n : Driving)
+    → before ≡ Some d → after ≡ Some e → o ≡ d → e ≡ n
+    → OnOk answer (n ≡ with_association o (after_timeouts o.association now)) → code ≡ code_of answer → code ≡ 0
+    → OnHeld before after (λ d e. e ≡ with_association d (after_timeouts d.association now))
+when_timed answer code now before after d o e n is_d is_e lent left holds same done =
+    subst (λ (b : Option Driving). OnHeld b after (λ d e. e ≡ with_association d (after_timeouts d.association now)))
+    (sym is_d)
+    (subst (λ (a : Option Driving). OnHeld (Some d) a (λ d e. e ≡ with_association d (after_timeouts d.association now)))
+    (sym is_e)
+    (left ∙ subst (λ (b : Driving). n ≡ with_association b (after_timeouts b.association now)) lent
+    (when_done answer (n ≡ with_association o (after_timeouts o.association now)) holds (sym same ∙ done))))
