@@ -1,0 +1,43 @@
+//! A `Box` as its pointer and its allocator, for those who keep it where a `Box` cannot stand, as in a struct that C
+//! holds.
+#![tactic(auto)]
+
+ghost use Rattle.std.specs.Prelude.{◌≡◌};
+ghost use Rattle.std.specs.Box.Ownership.{box_owns};
+
+use std::alloc::Allocator;
+use std::marker::Model;
+
+/// What a `Box` is made of. It owns the value behind the pointer and the right to free its block, as the box does; one
+/// that is dropped frees nothing, so make the box again.
+pub struct Parts<T, A: Allocator> {
+    /// Where the value lies.
+    pub ptr: *mut T,
+    /// What the block was taken from.
+    pub alloc: A,
+    pub ghost value: { T },
+}
+
+impl<T, A: Allocator> Model for Parts<T, A> {
+    ghost also_owns = { λ p. box_owns (A.dealloc_token p.alloc) T.row p.ptr p.value };
+}
+
+impl<T, A: Allocator> Parts<T, A> {
+    /// Takes a box apart.
+    pub fn of(boxed: Box<T, A>) -> Parts<T, A>
+    where
+        T: Drop,
+        ensures { result.value ≡ boxed.value }
+    {
+        let (ptr, alloc) = Box::into_raw_with_allocator(boxed);
+        Parts { ptr, alloc }
+    }
+
+    /// Makes the box again.
+    pub fn into_box(self) -> Box<T, A>
+        ensures { result.value ≡ self.value }
+    {
+        let Parts { ptr, alloc } = self;
+        unsafe { Box::from_raw(alloc, ptr) }
+    }
+}

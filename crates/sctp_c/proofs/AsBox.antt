@@ -1,0 +1,21 @@
+-- A handle with a driver, and the parts of a box, own what a box with the driver owns.
+use mir.Syntax.{impl, tnil, dnil}
+use mathlib.Core.List.{[]}
+use denote.Signature.{Slot, plain}
+use Rattle.std.proofs.BoxSteps.Form.{Bx}
+use Rattle.std.specs.contracts.alloc.Global as Heap
+use Rattle.std.specs.contracts.impls.GlobalAllocator.TheImpl.{ghosts, dict}
+use Rattle.std.proofs.alloc.Global.TheLaws as heap
+use Rattle.sctp_driver.specs.contracts.driver.Driver as Engine
+use Rattle.sctp_driver.proofs.driver.Driver.TheLaws as engine
+use Rattle.box_parts.specs.contracts.Parts as Parts
+use Rattle.sctp_c.specs.contracts.handle.Handle as Handle
+
+abbrev pub E : Bx
+E = record { row = Engine.the_row; laws = engine.the_row_laws; al = record { row = Heap.the_row; laws = heap.the_row_laws; g = ghosts; d = dict; drops = impl [] tnil dnil } }
+
+abbrev pub FromParts : Slot 0
+FromParts = plain (λ _. Parts.the_row Engine.the_row Heap.the_row ghosts)
+
+abbrev pub FromHandle : Slot 0
+FromHandle = plain (λ _. Handle.the_row)

@@ -1,0 +1,85 @@
+-- What a call answers to C, as a number, and what the numbers that it wrote stand for then.
+use Rattle.std.specs.Prelude.{◌≡◌, ℕ, ◌+◌, ◌==◌, if◌then◌else◌, Option, Some, None, Result, Ok, Err}
+use Rattle.sctp_wire_types.specs.declared.error.Error.{Error}
+use Rattle.sctp_wire_types.specs.declared.error.Error.TheVariants as errors
+use Rattle.sctp_wire_types.specs.declared.ids.PayloadProtocolIdentifier.{PayloadProtocolIdentifier}
+use Rattle.sctp_wire_types.specs.declared.reliability.ReliabilityType.{ReliabilityType}
+use Rattle.sctp_wire_types.specs.declared.reliability.ReliabilityType.TheVariants as kinds
+use Rattle.sctp_wire_types.specs.Errors.{refusal_number}
+use Rattle.sctp_wire_types.specs.Ids.{identifier_of}
+use Rattle.sctp_driver.specs.declared.messages.Read.{Read}
+use Rattle.sctp_driver.specs.declared.messages.Read.TheVariants as reads
+use Rattle.sctp_driver.specs.declared.sending.Sent.{Sent}
+use Rattle.sctp_driver.specs.declared.sending.Sent.TheVariants as sendings
+use Rattle.sctp_driver.specs.declared.tags.Received.{Received}
+use Rattle.sctp_driver.specs.declared.tags.Received.TheVariants as fates
+
+-- 2 for want of memory, and else 5 and the number of the refusal
+abbrev pub refusal_code : Error → ℕ
+refusal_code errors.ErrNoMemory = 2
+refusal_code e = 5 + refusal_number e
+
+-- 0 where the call was done
+abbrev pub code_of : {T : Type 0} → Result T Error → ℕ
+code_of (Ok answer) = 0
+code_of (Err e) = refusal_code e
+
+-- the same of a call whose answer has a code itself
+abbrev pub code_with : {T : Type 0} → (T → ℕ) → Result T Error → ℕ
+code_with code (Ok answer) = code answer
+code_with code (Err e) = refusal_code e
+
+abbrev pub sent_code : Sent → ℕ
+sent_code (sendings.Datagram n) = 0
+sent_code sendings.Nothing = 3
+sent_code (sendings.NoRoom n) = 4
+
+abbrev pub read_code : Read → ℕ
+read_code (reads.Message kind n) = 0
+read_code reads.Nothing = 3
+read_code (reads.NoRoom n) = 4
+
+-- a call that writes one number did so, or was refused
+abbrev pub IsAnswer : Result ℕ Error → ℕ → ℕ → Type 0
+IsAnswer (Ok n) code number = (code ≡ 0) × (number ≡ n)
+IsAnswer (Err e) code number = code ≡ refusal_code e
+
+-- what a call answered, where it was not refused
+abbrev pub answer_in : {T : Type 0} → Result T Error → Option T
+answer_in (Ok answer) = Some answer
+answer_in (Err e) = None
+
+-- the numbers of what becomes of a datagram
+abbrev pub fate_of : ℕ → Received
+fate_of fate =
+    if fate == 0 then fates.Taken else
+    if fate == 1 then fates.NoPacket else
+    if fate == 2 then fates.OtherTag else fates.RepeatedInit
+
+abbrev pub received_by : ℕ → ℕ → Option Received
+received_by code fate = if code == 0 then Some (fate_of fate) else None
+
+-- what the code and the length say that a poll for datagrams gave; None where it was refused
+abbrev pub sent_by : ℕ → ℕ → Option Sent
+sent_by code length =
+    if code == 0 then Some (sendings.Datagram length) else
+    if code == 3 then Some sendings.Nothing else
+    if code == 4 then Some (sendings.NoRoom length) else None
+
+-- what the code, the length and the payload protocol identifier say that a read gave; None where it was refused
+abbrev pub read_by : ℕ → ℕ → ℕ → Option Read
+read_by code length payload_type =
+    if code == 0 then Some (reads.Message (identifier_of payload_type) length) else
+    if code == 3 then Some reads.Nothing else
+    if code == 4 then Some (reads.NoRoom length) else None
+
+-- a moment or a number that a call wrote, where there was one
+abbrev pub found_by : ℕ → ℕ → Option ℕ
+found_by code number = if code == 0 then Some number else None
+
+-- what a write names as its payload protocol identifier: the greatest number of 32 bits is that of the stream
+abbrev pub payload_type_by : ℕ → Option PayloadProtocolIdentifier
+payload_type_by number = if number == 4294967295 then None else Some (identifier_of number)
+
+abbrev pub reliability_by : ℕ → ReliabilityType
+reliability_by kind = if kind == 1 then kinds.Rexmit else if kind == 2 then kinds.Timed else kinds.Reliable

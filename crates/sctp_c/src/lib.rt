@@ -1,0 +1,22 @@
+//! The calls of a driver for C, each on a slot of 16 bytes that C owns. `include/sctp_assoc.h` declares them and says
+//! what each does, what it writes and which codes it answers.
+//!
+//! Each call takes the driver out of the slot, makes one call of `sctp_driver`, and puts the driver back. A code is 0
+//! where it was done, 1 where the slot is empty, 2 for want of memory, 3 where there is nothing, 4 where there is no
+//! room, and else a refusal by its number.
+#![tactic(auto)]
+
+mod begin;
+mod codes;
+mod config;
+mod datagrams;
+mod events;
+mod handle;
+mod questions;
+mod slot;
+mod streams;
+
+pub use config::{Config, Identity, Token};
+pub use events::{Counters, Told};
+pub use handle::Handle;
+pub use slot::Slot;

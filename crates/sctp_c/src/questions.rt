@@ -1,0 +1,58 @@
+// Questions about the state.
+ghost use Rattle.std.specs.Prelude.{◌≡◌, None};
+ghost use Rattle.sctp_assoc.specs.Calls.{is_established};
+ghost use Rattle.sctp_assoc.specs.Closing.{is_closed_state};
+ghost use Rattle.sctp_c.specs.Slots.{OnAny};
+
+use crate::codes::{DONE, EMPTY_SLOT};
+use crate::slot::Slot;
+use std::alloc::Global;
+
+/// Whether the association is established.
+#[unsafe(no_mangle)]
+pub extern "C" fn sctp_assoc_is_established(
+    slot: &mut Slot,
+    alloc: Global,
+    answer: &mut bool,
+) -> u32
+    ensures answer { OnAny slot.old.handle.driver slot.new.handle.driver
+        (λ d e. (e ≡ d) × (result ≡ 0) × (answer.new ≡ is_established d.association.state)) }
+    ensures empty { slot.old.handle.driver ≡ None → (result ≡ 1) × (answer.new ≡ answer.old) }
+{
+    let Some(driver) = slot.take(alloc) else {
+        return EMPTY_SLOT;
+    };
+    *answer = driver.is_established();
+    slot.put(driver);
+    DONE
+}
+
+/// Whether the association is closed.
+#[unsafe(no_mangle)]
+pub extern "C" fn sctp_assoc_is_closed(slot: &mut Slot, alloc: Global, answer: &mut bool) -> u32
+    ensures answer { OnAny slot.old.handle.driver slot.new.handle.driver
+        (λ d e. (e ≡ d) × (result ≡ 0) × (answer.new ≡ is_closed_state d.association.state)) }
+    ensures empty { slot.old.handle.driver ≡ None → (result ≡ 1) × (answer.new ≡ answer.old) }
+{
+    let Some(driver) = slot.take(alloc) else {
+        return EMPTY_SLOT;
+    };
+    *answer = driver.is_closed();
+    slot.put(driver);
+    DONE
+}
+
+/// Whether an earlier call found no memory in its middle.
+#[unsafe(no_mangle)]
+pub extern "C" fn sctp_assoc_is_failed(slot: &mut Slot, alloc: Global, answer: &mut bool) -> u32
+    ensures answer { OnAny slot.old.handle.driver slot.new.handle.driver
+        (λ d e. (e ≡ d) × (result ≡ 0) × (answer.new ≡ d.association.failed)) }
+    ensures empty { slot.old.handle.driver ≡ None → (result ≡ 1) × (answer.new ≡ answer.old) }
+{
+    let Some(driver) = slot.take(alloc) else {
+        return EMPTY_SLOT;
+    };
+    *answer = driver.is_failed();
+    slot.put(driver);
+    DONE
+}

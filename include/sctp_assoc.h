@@ -1,0 +1,314 @@
+/*
+ * sctp_assoc: the association layer of SCTP (RFC 4960) for C and C++.
+ *
+ * One association a slot. Datagrams, moments and calls of the application go in; datagrams, events and the next moment
+ * come out. No call reads a clock, a socket or a random source, blocks, calls back or keeps anything between calls but
+ * in the slot. `./library` builds the archive to link with.
+ *
+ * One turn of the loop, at the moment `now`:
+ *   1. if sctp_assoc_poll_timeout gives a moment that isn't after now: sctp_assoc_handle_timeout;
+ *   2. if a datagram came: sctp_assoc_handle_datagram;
+ *   3. sctp_assoc_poll_event until it answers SCTP_ASSOC_NOTHING; at SCTP_ASSOC_EVENT_READABLE sctp_assoc_read until it
+ *      does so too;
+ *   4. sctp_assoc_poll_transmit until it answers SCTP_ASSOC_NOTHING, and send each datagram;
+ *   5. sleep until the moment of sctp_assoc_poll_timeout, or until a datagram comes.
+ *
+ * Each call may be made in any state, in any order and at any moment; what it can't do it refuses by a code. Beyond
+ * that C owes this:
+ * - A slot begins with all its bytes 0 and is changed by these calls alone. It isn't copied while it holds an
+ *   association (moving it is fine). One call at a time; it may go from one thread to another between calls.
+ * - No pointer is NULL, even where its length is 0. What a call writes to doesn't overlap anything else that it gets,
+ *   and needs no value before.
+ * - A `bool` is 0 or 1. Nothing here is called from a signal handler, or from the child of a fork of a process with
+ *   threads.
+ * - The library takes memory by malloc and realloc and gives it back by free. A program that defines rattle_alloc,
+ *   rattle_realloc and rattle_dealloc itself (SCTP_ASSOC_HEAP below) has those called in their place.
+ *
+ * Moments (`now`) are nanoseconds from one that the program chooses; lengths and sizes are bytes; numbers are in the
+ * host's byte order. Bytes that go in are copied, and no pointer is kept after a call.
+ */
+#ifndef SCTP_ASSOC_H
+#define SCTP_ASSOC_H
+
+#include <stdbool.h>
+#include <stddef.h>
+#include <stdint.h>
+
+#ifdef __cplusplus
+extern "C" {
+#endif
+
+/* ---- The slot ---- */
+
+/* Room for one association, 16 bytes. All bytes 0 is the empty slot. Don't touch its fields. */
+typedef struct sctp_assoc {
+    void *at;
+    bool live;
+} sctp_assoc;
+
+/* sctp_assoc slot = SCTP_ASSOC_EMPTY; */
+#define SCTP_ASSOC_EMPTY {0, 0}
+
+/* ---- Codes ----
+ *
+ * Each call answers one of these. What it gives is written where it answers SCTP_ASSOC_DONE, and a length also at
+ * SCTP_ASSOC_NO_ROOM; at every other code what the pointers lead to stays as it was.
+ */
+typedef uint32_t sctp_assoc_code;
+
+#define SCTP_ASSOC_DONE 0
+/* The slot is empty. Nothing changed. */
+#define SCTP_ASSOC_EMPTY_SLOT 1
+/* Memory was refused. What that leaves the call says; where it leaves the association failed,
+ * sctp_assoc_is_failed tells so, and each later call answers SCTP_ASSOC_FAILED. */
+#define SCTP_ASSOC_NO_MEMORY 2
+/* There is none: no datagram is due, no event waits, no message is ready, no stream is to be accepted, or no timer
+ * runs. */
+#define SCTP_ASSOC_NOTHING 3
+/* The buffer is too short. What is next stays, and `length` says how long it is. */
+#define SCTP_ASSOC_NO_ROOM 4
+
+/* Refusals. Nothing changed. */
+#define SCTP_ASSOC_BAD_PAYLOAD_SIZE 6       /* max_payload_size isn't in 1 to 65,519 */
+#define SCTP_ASSOC_BAD_INITIAL_TSN 7        /* the initial TSN is 0 */
+#define SCTP_ASSOC_BAD_TOKEN 8              /* a token has a tag 0, a number of streams 0 or a window below 1500 */
+#define SCTP_ASSOC_FAILED 10                /* an earlier call found no memory in its middle; the association is over */
+#define SCTP_ASSOC_STREAM_EXISTS 11         /* this side or the peer opened the stream already */
+#define SCTP_ASSOC_NO_STREAM_LEFT 13        /* 2^64 streams were opened; none can be any more */
+#define SCTP_ASSOC_NO_STREAM 14             /* there is no such stream */
+#define SCTP_ASSOC_NOT_ESTABLISHED 16       /* messages are written in Established alone (RFC 4960 section 4) */
+#define SCTP_ASSOC_STREAM_CLOSED 26         /* this half of the stream is closed */
+#define SCTP_ASSOC_MESSAGE_TOO_LONG 27      /* the message is longer than max_send_message_size */
+#define SCTP_ASSOC_EMPTY_MESSAGE 28         /* a message has one byte at least */
+
+/* ---- Configuration ---- */
+
+/* Stands for no limit in max_init_retransmits and max_data_retransmits. */
+#define SCTP_ASSOC_NO_LIMIT SIZE_MAX
+
+typedef struct sctp_assoc_config {
+    uint32_t max_receive_buffer_size;  /* bytes; the window that is offered. A peer refuses one below 1500 */
+    uint32_t max_send_message_size;    /* bytes; a longer message is refused */
+    uint32_t max_receive_message_size; /* bytes; a longer message closes the association */
+    uint16_t max_num_outbound_streams; /* offered, 1 to 65,535 */
+    uint16_t max_num_inbound_streams;  /* offered, 1 to 65,535 */
+    uint16_t local_port;               /* SCTP port, not 0; a server takes both from the INIT */
+    uint16_t remote_port;
+    uint64_t rto_initial_ms;           /* retransmission timeouts, ms (RFC 4960 section 6.3.1) */
+    uint64_t rto_min_ms;
+    uint64_t rto_max_ms;
+    size_t max_init_retransmits;       /* how often INIT and COOKIE ECHO go out again; SCTP_ASSOC_NO_LIMIT */
+    size_t max_data_retransmits;       /* timeouts in a row before DATA is no longer sent again; SCTP_ASSOC_NO_LIMIT */
+} sctp_assoc_config;
+
+/* Writes the defaults: buffer 1,048,576, messages 65,536, streams 65,535, ports 5000, timeouts 3000, 1000 and 60,000,
+ * 8 retransmissions of INIT, no limit for DATA. Answers SCTP_ASSOC_DONE. */
+sctp_assoc_code sctp_assoc_default_config(sctp_assoc_config *config);
+
+/* What names one side. Take all three from a random source that nobody can guess. */
+typedef struct sctp_assoc_identity {
+    uint32_t tag;         /* this side's verification tag (RFC 4960 section 8.5), not 0 */
+    uint32_t initial_tsn; /* the first TSN, not 0 */
+    uint8_t cookie[32];   /* a server's State Cookie (section 5.1.3) */
+} sctp_assoc_identity;
+
+/* What two sides that join without a handshake exchange: the values of the INIT chunk that each would send. */
+typedef struct sctp_assoc_token {
+    uint32_t tag;
+    uint32_t initial_tsn;
+    uint32_t window;               /* bytes */
+    uint16_t num_outbound_streams;
+    uint16_t num_inbound_streams;
+    bool forward_tsn;              /* its Supported Extensions list FORWARD TSN (RFC 3758 section 3.1) */
+} sctp_assoc_token;
+
+/* Writes the token of a side with this configuration. Answers SCTP_ASSOC_DONE. */
+sctp_assoc_code sctp_assoc_make_token(const sctp_assoc_config *config, uint32_t tag, uint32_t initial_tsn,
+                                      sctp_assoc_token *token);
+
+/* ---- Begin and end ----
+ *
+ * Each of the first three makes an association and puts it into the slot; one that the slot held before is freed then.
+ * `max_payload_size` is the greatest payload of one DATA chunk, 1 to 65,519; a datagram has up to 28 bytes more (1172
+ * for UDP over links of 1280 bytes and IPv6).
+ *
+ * Codes: DONE, NO_MEMORY, BAD_PAYLOAD_SIZE, and BAD_INITIAL_TSN or BAD_TOKEN. At all but DONE the slot stays as it was.
+ */
+
+/* A client, whose INIT waits for sctp_assoc_poll_transmit; its timer runs from `now` (RFC 4960 section 5.1). */
+sctp_assoc_code sctp_assoc_client(sctp_assoc *slot, const sctp_assoc_config *config, uint32_t max_payload_size,
+                                  const sctp_assoc_identity *identity, uint64_t now);
+
+/* A server, which waits for an INIT. */
+sctp_assoc_code sctp_assoc_server(sctp_assoc *slot, const sctp_assoc_config *config, uint32_t max_payload_size,
+                                  const sctp_assoc_identity *identity, uint64_t now);
+
+/* One that is established at once, by both sides' tokens; SCTP_ASSOC_EVENT_CONNECTED waits. */
+sctp_assoc_code sctp_assoc_joined(sctp_assoc *slot, const sctp_assoc_config *config, uint32_t max_payload_size,
+                                  const sctp_assoc_token *local, const sctp_assoc_token *remote);
+
+/* Frees the association and all that waits in it, and leaves the slot empty. The peer is told nothing. Codes: DONE,
+ * EMPTY_SLOT. */
+sctp_assoc_code sctp_assoc_free(sctp_assoc *slot);
+
+/* Closes the association at once; nothing is told to the peer, and each stream ends. Datagrams and messages that wait
+ * at the slot can still be taken; SCTP_ASSOC_EVENT_LOST comes behind the events that wait. Codes: DONE, EMPTY_SLOT,
+ * FAILED, NO_MEMORY (the association has failed). */
+sctp_assoc_code sctp_assoc_close(sctp_assoc *slot);
+
+/* ---- Datagrams and moments ---- */
+
+/* What became of a datagram. */
+#define SCTP_ASSOC_TAKEN 0         /* its tag is accepted, and it went to the association */
+#define SCTP_ASSOC_NO_PACKET 1     /* no SCTP packet, or a wrong checksum; nothing changed */
+#define SCTP_ASSOC_OTHER_TAG 2     /* a verification tag that RFC 4960 section 8.5 refuses; nothing changed */
+#define SCTP_ASSOC_REPEATED_INIT 3 /* an INIT after the handshake; nothing changed */
+
+/* Takes in one datagram that came at `now`: an SCTP packet from its common header on. `fate` says what became of it.
+ * Codes: DONE, EMPTY_SLOT, FAILED, NO_MEMORY (all is as before, or the association has failed). */
+sctp_assoc_code sctp_assoc_handle_datagram(sctp_assoc *slot, uint64_t now, const uint8_t *datagram, size_t length,
+                                           uint32_t *fate);
+
+/* Copies the next datagram that is due at `now` to the front of the buffer; `length` says how long it is. Codes: DONE,
+ * EMPTY_SLOT, NOTHING, NO_ROOM, FAILED, NO_MEMORY (the association has failed, and what was due is lost). */
+sctp_assoc_code sctp_assoc_poll_transmit(sctp_assoc *slot, uint64_t now, uint8_t *buffer, size_t room, size_t *length);
+
+/* Writes the moment at which the next timer expires. Where it isn't after now, sctp_assoc_handle_timeout is due. Codes:
+ * DONE, EMPTY_SLOT, NOTHING. */
+sctp_assoc_code sctp_assoc_poll_timeout(sctp_assoc *slot, uint64_t *moment);
+
+/* Does what the timers that expired by `now` ask for, and nothing where none did; packets come by
+ * sctp_assoc_poll_transmit. Codes: DONE, EMPTY_SLOT, FAILED, NO_MEMORY (the association has failed). */
+sctp_assoc_code sctp_assoc_handle_timeout(sctp_assoc *slot, uint64_t now);
+
+/* ---- Events ---- */
+
+#define SCTP_ASSOC_EVENT_CONNECTED 1            /* established: messages can be written from now on */
+#define SCTP_ASSOC_EVENT_HANDSHAKE_FAILED 2     /* INIT or COOKIE ECHO went out too often; `reason` says which */
+#define SCTP_ASSOC_EVENT_LOST 3                 /* the association was closed; `reason` */
+#define SCTP_ASSOC_EVENT_DATAGRAM_RECEIVED 4    /* a DATA chunk was taken in; once for each */
+#define SCTP_ASSOC_EVENT_STREAM_ENDED 5         /* `stream` ended; `counters` are its last ones */
+#define SCTP_ASSOC_EVENT_OPENED 6               /* the peer opened `stream` by a message */
+#define SCTP_ASSOC_EVENT_READABLE 7             /* a message of `stream` can be read; once for each */
+#define SCTP_ASSOC_EVENT_BUFFERED_LOW 8         /* the buffered amount of `stream` fell to its low mark or below */
+#define SCTP_ASSOC_EVENT_BUFFERED_HIGH 9        /* the buffered amount of `stream` rose to its high mark or above */
+#define SCTP_ASSOC_EVENT_FINISHED 10            /* not told so far: the peer ended its half of `stream` */
+#define SCTP_ASSOC_EVENT_RESET_COMPLETE 11      /* not told so far: the reset of `stream` ended in success */
+#define SCTP_ASSOC_EVENT_RESET_FAILED 12        /* not told so far: the reset of `stream` failed */
+#define SCTP_ASSOC_EVENT_OTHER 13               /* not told so far: an event that this header has no name for */
+
+#define SCTP_ASSOC_REASON_NONE 0
+#define SCTP_ASSOC_REASON_NO_INIT_ACK 1         /* of HANDSHAKE_FAILED: INIT wasn't answered */
+#define SCTP_ASSOC_REASON_NO_COOKIE_ACK 2       /* of HANDSHAKE_FAILED: COOKIE ECHO wasn't answered */
+#define SCTP_ASSOC_REASON_CLOSED 3              /* of LOST: sctp_assoc_close, an ABORT or another fault of the peer */
+#define SCTP_ASSOC_REASON_BUFFER_EXHAUSTED 4    /* of LOST: the receive buffer is full of what can never be read */
+#define SCTP_ASSOC_REASON_OTHER 5               /* not told so far */
+
+/* Messages and bytes of a stream under the payload types of WebRTC application data (51, 53, 56, 57) alone. */
+typedef struct sctp_assoc_counters {
+    uint64_t messages_sent;     /* accepted for sending */
+    uint64_t bytes_sent;
+    uint64_t messages_received; /* read */
+    uint64_t bytes_received;
+} sctp_assoc_counters;
+
+typedef struct sctp_assoc_event {
+    uint32_t kind;   /* SCTP_ASSOC_EVENT_.. */
+    uint32_t reason; /* SCTP_ASSOC_REASON_.. */
+    uint16_t stream; /* 0 where the kind has none */
+    sctp_assoc_counters counters; /* of SCTP_ASSOC_EVENT_STREAM_ENDED, else all 0 */
+} sctp_assoc_event;
+
+/* Takes out the oldest event. Codes: DONE, EMPTY_SLOT, NOTHING, FAILED. */
+sctp_assoc_code sctp_assoc_poll_event(sctp_assoc *slot, sctp_assoc_event *event);
+
+/* ---- Questions ----
+ *
+ * Each writes its answer and changes nothing. Codes: DONE, EMPTY_SLOT.
+ */
+
+/* Whether the state is Established (RFC 4960 section 4): messages can be written. */
+sctp_assoc_code sctp_assoc_is_established(sctp_assoc *slot, bool *answer);
+
+/* Whether the state is Closed: that of a server before its handshake, and of any side after a loss. */
+sctp_assoc_code sctp_assoc_is_closed(sctp_assoc *slot, bool *answer);
+
+/* Whether an earlier call found no memory in its middle. Then the association is over. */
+sctp_assoc_code sctp_assoc_is_failed(sctp_assoc *slot, bool *answer);
+
+/* ---- Streams ----
+ *
+ * A stream is named by its identifier, 0 to 65,535.
+ */
+
+/* Payload protocol identifiers with a name (RFC 8831 section 8). Any other number is sent, and told, as 0. */
+#define SCTP_ASSOC_PPID_UNKNOWN 0
+#define SCTP_ASSOC_PPID_DCEP 50
+#define SCTP_ASSOC_PPID_STRING 51
+#define SCTP_ASSOC_PPID_BINARY 53
+#define SCTP_ASSOC_PPID_STRING_EMPTY 56
+#define SCTP_ASSOC_PPID_BINARY_EMPTY 57
+/* Of sctp_assoc_write alone: that which sctp_assoc_open_stream set. */
+#define SCTP_ASSOC_PPID_OF_STREAM UINT32_MAX
+
+/* Makes a stream on this side, whose messages have this payload protocol identifier where a write names none. Nothing
+ * is sent: the peer sees the stream by its first message. Codes: DONE, EMPTY_SLOT, FAILED, STREAM_EXISTS,
+ * NO_STREAM_LEFT, NO_MEMORY (nothing changed). */
+sctp_assoc_code sctp_assoc_open_stream(sctp_assoc *slot, uint16_t stream, uint32_t payload_type);
+
+/* Takes out the identifier of the oldest stream that the peer opened and that wasn't accepted yet. It needs no accepting
+ * to be read or written. Codes: DONE, EMPTY_SLOT, NOTHING (also where the association has failed). */
+sctp_assoc_code sctp_assoc_accept_stream(sctp_assoc *slot, uint16_t *stream);
+
+/* Accepts one message, which goes out with sctp_assoc_poll_transmit as the windows allow. Codes: DONE, EMPTY_SLOT,
+ * FAILED, NO_STREAM, STREAM_CLOSED, NOT_ESTABLISHED, EMPTY_MESSAGE, MESSAGE_TOO_LONG, NO_MEMORY (nothing changed). */
+sctp_assoc_code sctp_assoc_write(sctp_assoc *slot, uint16_t stream, uint32_t payload_type, const uint8_t *message,
+                                 size_t length);
+
+/* Copies the next message of a stream, whole, to the front of the buffer, and writes its length and its payload
+ * protocol identifier. At NO_ROOM the message stays, and `length` says how long it is. Codes: DONE, EMPTY_SLOT,
+ * NOTHING, NO_ROOM, FAILED, NO_STREAM, STREAM_CLOSED, NO_MEMORY (the message stays, or the association has failed). */
+sctp_assoc_code sctp_assoc_read(sctp_assoc *slot, uint16_t stream, uint8_t *buffer, size_t room, size_t *length,
+                                uint32_t *payload_type);
+
+/* Closes the write half of a stream. What was accepted goes out; the peer isn't told. Codes: DONE, EMPTY_SLOT, FAILED,
+ * NO_STREAM. */
+sctp_assoc_code sctp_assoc_finish(sctp_assoc *slot, uint16_t stream);
+
+/* How long a message is sent again (RFC 3758 section 4.1); any other number is SCTP_ASSOC_RELIABLE. */
+#define SCTP_ASSOC_RELIABLE 0 /* until it is acknowledged */
+#define SCTP_ASSOC_REXMIT 1   /* `value` times */
+#define SCTP_ASSOC_TIMED 2    /* for `value` ms */
+
+/* Sets how messages of a stream that are written from now on are sent: in order or not, and how long. So far no message
+ * is given up. Codes: DONE, EMPTY_SLOT, FAILED, NO_STREAM. */
+sctp_assoc_code sctp_assoc_set_reliability(sctp_assoc *slot, uint16_t stream, bool unordered, uint32_t kind,
+                                           uint32_t value);
+
+/* Writes how many bytes were accepted on a stream and aren't acknowledged. Codes: DONE, EMPTY_SLOT, FAILED,
+ * NO_STREAM. */
+sctp_assoc_code sctp_assoc_buffered_amount(sctp_assoc *slot, uint16_t stream, size_t *bytes);
+
+/* ---- A heap of the program's own ----
+ *
+ * A program that defines all three has the library take its memory from them; `#define SCTP_ASSOC_HEAP` before this
+ * header declares them. Give the linker the program's definitions before the archive. `align` is a power of two up to
+ * 16, and a block of `size` 0 has an address of its own too. What rattle_realloc answers keeps its first `kept` bytes.
+ * The first two answer ok = false where they refuse; then the old block stays as it was, and `at` leads anywhere but to
+ * NULL. None of the three calls the library.
+ */
+#ifdef SCTP_ASSOC_HEAP
+typedef struct sctp_assoc_block {
+    bool ok;
+    void *at;
+} sctp_assoc_block;
+sctp_assoc_block rattle_alloc(size_t size, size_t align);
+sctp_assoc_block rattle_realloc(void *at, size_t kept, size_t size, size_t align);
+void rattle_dealloc(void *at);
+#endif
+
+#ifdef __cplusplus
+}
+#endif
+
+#endif
