@@ -20,7 +20,8 @@
 /* usrsctp calls both sides of a link by one address: that of its end. */
 static char ends[2];
 static struct wire wires[2];
-static uint64_t now_ms, messages_read, bytes_read, heap_calls;
+static uint64_t now_ms, messages_read, bytes_read;
+static bool bundles; /* whether a writer waits for what fills a packet while DATA is in flight */
 static int established[2];
 
 /* usrsctp reads the wall clock beside its timers; here both are the same clock. */
@@ -70,10 +71,10 @@ static struct socket *new_socket(int end) {
     struct socket *socket = usrsctp_socket(AF_CONN, SOCK_STREAM, IPPROTO_SCTP, on_receive, NULL, 0, &ends[end]);
     if (!socket)
         fail("usrsctp_socket");
-    int buffer = BUFFER, yes = 1;
+    int buffer = BUFFER, at_once = !bundles;
     set(socket, SOL_SOCKET, SO_RCVBUF, &buffer, sizeof buffer);
     set(socket, SOL_SOCKET, SO_SNDBUF, &buffer, sizeof buffer);
-    set(socket, IPPROTO_SCTP, SCTP_NODELAY, &yes, sizeof yes);
+    set(socket, IPPROTO_SCTP, SCTP_NODELAY, &at_once, sizeof at_once);
     struct sctp_paddrparams path = {.spp_flags = SPP_PMTUD_DISABLE, .spp_pathmtu = PACKET_SIZE - 12};
     path.spp_address.ss_family = AF_CONN;
     set(socket, IPPROTO_SCTP, SCTP_PEER_ADDR_PARAMS, &path, sizeof path);
@@ -161,6 +162,7 @@ static bool write_message(struct socket *socket, const uint8_t *message, size_t 
 }
 
 static void messages(struct measure *m) {
+    bundles = !strcmp(m->name, "small");
     struct socket *joined[2];
     join(listening(), PORT + 1, joined);
     uint8_t *message = calloc(1, m->size);
@@ -231,7 +233,6 @@ int main(int argc, char **argv) {
         handshakes(&m);
     else
         messages(&m);
-    m.heap_calls = heap_calls;
     print_measure(&m);
     return 0;
 }
