@@ -11,8 +11,8 @@ use std::time::{Duration, Instant};
 /// It has no thread and no state outside itself, and may go from one thread to another. A moment before that at which
 /// it was made counts as that.
 ///
-/// After a call that answers [`Error::NoMemory`] it may have failed: [`is_failed`](Association::is_failed) says so. Then
-/// it is over, and the calls answer [`Error::Failed`].
+/// After a call that answers [`Error::NoMemory`] it may have failed: [`is_failed`](Association::is_failed) says so.
+/// Then it is over, and the calls answer [`Error::Failed`].
 pub struct Association {
     pub(crate) slot: UnsafeCell<sys::Slot>,
     began: Instant,
@@ -140,8 +140,8 @@ impl Association {
         Ok(done_or_nothing(code, 0)?.then(|| Event::of(&told)))
     }
 
-    /// Closes the association at once. The peer is told nothing, and each stream ends; what waits at this side to go out
-    /// or to be read still can be.
+    /// Closes the association at once. The peer is told nothing, and each stream ends. A datagram that waits, and a
+    /// message that did not fit a buffer, can still be taken.
     ///
     /// Errors: `Failed`; `NoMemory`, where the association failed.
     pub fn close(&mut self) -> Result<(), Error> {
@@ -166,8 +166,8 @@ impl Association {
 
     fn ask(&self, question: unsafe extern "C" fn(*mut sys::Slot, *mut bool) -> u32) -> bool {
         let mut answer = false;
-        // SAFETY: the slot holds an association that nobody else uses now, as `Association` is not `Sync`; it writes the
-        // answer.
+        // SAFETY: the slot holds an association that nobody else uses now, as `Association` is not `Sync`; it writes
+        // the answer.
         unsafe { question(self.slot.get(), &mut answer) };
         answer
     }
@@ -182,8 +182,8 @@ impl Association {
         Ok(self.stream(id))
     }
 
-    /// Takes out the oldest stream that the peer opened and that was not accepted yet. A stream needs no accepting to be
-    /// read or written.
+    /// Takes out the oldest stream that the peer opened and that was not accepted yet. A stream needs no accepting to
+    /// be read or written.
     pub fn accept_stream(&mut self) -> Option<Stream<'_>> {
         let mut id = 0;
         // SAFETY: the slot holds an association that nobody else uses now; it writes an identifier.

@@ -1,5 +1,5 @@
-//! The association layer of SCTP (RFC 4960) without input or output: safe Rust over the library that `./library` builds,
-//! whose functions are proved. `build.rs` looks for it in this checkout, or where `SCTP_ASSOC_ARCHIVE` says.
+//! The association layer of SCTP (RFC 4960) without input or output: safe Rust over the library that `./library`
+//! builds, whose functions are proved. `build.rs` looks for it in this checkout, or where `SCTP_ASSOC_ARCHIVE` says.
 //!
 //! An [`Association`] reads no clock, no socket and no random source. One turn of its loop, at the moment `now`:
 //!
