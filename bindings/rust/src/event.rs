@@ -30,7 +30,8 @@ pub enum Event {
         /// Its identifier.
         stream: u16,
     },
-    /// A message of a stream can be read; told once for each.
+    /// Messages of a stream can be read: read until there is none. Told for each DATA chunk that is taken in while one
+    /// is ready, so several may come of one event, and none of the next.
     Readable {
         /// The stream's identifier.
         stream: u16,
