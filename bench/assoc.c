@@ -20,29 +20,28 @@
 static sctp_assoc ends[2];
 static struct wire wires[2];
 static sctp_assoc_config config;
-static uint64_t now, written, messages_read, bytes_read, heap_calls;
+static uint64_t now, written, messages_read, bytes_read, allocations;
 static int established[2];
 static uint32_t next_tag = 1;
 static uint8_t *message;
 static uint8_t buffer[65536];
 
-/* The heap of the C library, counted. */
+/* The heap of the C library, whose allocations are counted. */
 sctp_assoc_block rattle_alloc(size_t size, size_t align) {
     (void)align;
     void *at = malloc(size ? size : 1);
-    heap_calls++;
+    allocations++;
     return (sctp_assoc_block){at, at ? at : buffer};
 }
 
 sctp_assoc_block rattle_realloc(void *old, size_t kept, size_t size, size_t align) {
     (void)kept, (void)align;
     void *at = realloc(old, size ? size : 1);
-    heap_calls++;
+    allocations++;
     return (sctp_assoc_block){at, at ? at : buffer};
 }
 
 void rattle_dealloc(void *at) {
-    heap_calls++;
     free(at);
 }
 
@@ -177,13 +176,13 @@ static void messages(struct measure *m) {
     if (!strcmp(m->name, "unordered"))
         done(sctp_assoc_set_reliability(&ends[0], STREAM, true, SCTP_ASSOC_RELIABLE, 0));
     lost_per_million = strcmp(m->name, "lossy") ? 0 : 10000;
-    uint64_t began = now, began_datagrams = datagrams_sent, began_heap = heap_calls;
+    uint64_t began = now, began_datagrams = datagrams_sent, began_allocations = allocations;
     double began_us = cpu_us();
     exchange(m->messages, m->size, 1);
     m->cpu_us = cpu_us() - began_us;
     m->virtual_ms = (now - began) / 1000000;
     m->datagrams = datagrams_sent - began_datagrams;
-    m->heap_calls = heap_calls - began_heap;
+    m->allocations = allocations - began_allocations;
     m->lost = datagrams_lost;
     if (bytes_read != m->messages * m->size)
         fail("other bytes were read than written");
@@ -198,7 +197,7 @@ static void handshakes(struct measure *m) {
     }
     m->cpu_us = cpu_us() - began_us;
     m->datagrams = datagrams_sent;
-    m->heap_calls = heap_calls;
+    m->allocations = allocations;
 }
 
 /* The heap's bytes for one idle association. */

@@ -31,7 +31,7 @@ struct wire {
 struct measure {
     const char *stack, *name;
     size_t size;
-    uint64_t messages, datagrams, lost, heap_calls, virtual_ms;
+    uint64_t messages, datagrams, lost, allocations, virtual_ms;
     double cpu_us;
 };
 
@@ -98,9 +98,9 @@ static struct datagram *take_from(struct wire *wire) {
 
 static void print_measure(const struct measure *m) {
     printf("{\"stack\":\"%s\",\"case\":\"%s\",\"size\":%zu,\"messages\":%llu,\"cpu_us\":%.3f,\"datagrams\":%llu,"
-           "\"lost\":%llu,\"heap_calls\":%.2f,\"virtual_ms\":%llu}\n",
+           "\"lost\":%llu,\"allocations\":%.2f,\"virtual_ms\":%llu}\n",
            m->stack, m->name, m->size, (unsigned long long)m->messages, m->cpu_us / m->messages,
-           (unsigned long long)m->datagrams, (unsigned long long)m->lost, (double)m->heap_calls / m->messages,
+           (unsigned long long)m->datagrams, (unsigned long long)m->lost, (double)m->allocations / m->messages,
            (unsigned long long)m->virtual_ms);
     fflush(stdout);
 }

@@ -32,6 +32,27 @@ int gettimeofday(struct timeval *restrict tv, void *restrict tz) {
     return 0;
 }
 
+/* The heap of the C library, whose allocations are counted. */
+static uint64_t allocations;
+void *__libc_malloc(size_t size);
+void *__libc_calloc(size_t count, size_t size);
+void *__libc_realloc(void *old, size_t size);
+
+void *malloc(size_t size) {
+    allocations++;
+    return __libc_malloc(size);
+}
+
+void *calloc(size_t count, size_t size) {
+    allocations++;
+    return __libc_calloc(count, size);
+}
+
+void *realloc(void *old, size_t size) {
+    allocations++;
+    return __libc_realloc(old, size);
+}
+
 static void quiet(const char *format, ...) { (void)format; }
 
 static int on_packet(void *address, void *bytes, size_t length, uint8_t tos, uint8_t df) {
@@ -168,7 +189,7 @@ static void messages(struct measure *m) {
     uint8_t *message = calloc(1, m->size);
     bool unordered = !strcmp(m->name, "unordered");
     lost_per_million = strcmp(m->name, "lossy") ? 0 : 10000;
-    uint64_t written = 0, began_ms = now_ms, began_datagrams = datagrams_sent;
+    uint64_t written = 0, began_ms = now_ms, began_datagrams = datagrams_sent, began_allocations = allocations;
     double began_us = cpu_us();
     while (messages_read < m->messages) {
         while (written < m->messages && written - messages_read < MAX_WAITING &&
@@ -184,6 +205,7 @@ static void messages(struct measure *m) {
     m->virtual_ms = now_ms - began_ms;
     m->datagrams = datagrams_sent - began_datagrams;
     m->lost = datagrams_lost;
+    m->allocations = allocations - began_allocations;
     if (bytes_read != m->messages * m->size)
         fail("other bytes were read than written");
     free(message);
@@ -200,6 +222,7 @@ static void handshakes(struct measure *m) {
     }
     m->cpu_us = cpu_us() - began_us;
     m->datagrams = datagrams_sent;
+    m->allocations = allocations;
 }
 
 /* The heap's bytes for one idle association. */
