@@ -1,6 +1,7 @@
 //! Finds the archive that `./library` builds: the file that `SCTP_ASSOC_ARCHIVE` names, else the one in this checkout.
 use std::env;
 use std::path::{Path, PathBuf};
+use std::process::exit;
 
 fn main() {
     println!("cargo:rerun-if-env-changed=SCTP_ASSOC_ARCHIVE");
@@ -11,10 +12,11 @@ fn main() {
     println!("cargo:rerun-if-changed={}", archive.display());
     let name = archive.file_stem().and_then(|stem| stem.to_str()).and_then(|stem| stem.strip_prefix("lib"));
     let (Ok(path), Some(name)) = (archive.canonicalize(), name) else {
-        panic!(
+        eprintln!(
             "no archive at {}: run ./library at the top of the repository, or let SCTP_ASSOC_ARCHIVE name libsctp_c.a",
             archive.display()
         );
+        exit(1);
     };
     let folder = path.parent().unwrap_or(Path::new("/"));
     println!("cargo:rustc-link-search=native={}", folder.display());
