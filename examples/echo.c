@@ -9,6 +9,7 @@
 #include "sctp_assoc.h"
 
 #include <arpa/inet.h>
+#include <errno.h>
 #include <poll.h>
 #include <stdio.h>
 #include <stdlib.h>
@@ -27,12 +28,16 @@ static int udp;
 static bool is_client;
 static unsigned long count, sent, echoed;
 
+static void stop(const char *why, unsigned number) {
+    fprintf(stderr, "echo: %s %u\n", why, number);
+    exit(1);
+}
+
 /* Ends the program at a code that it does not go on with. Answers whether the call was done. */
 static bool done(sctp_assoc_code code) {
-    if (code == SCTP_ASSOC_DONE || code == SCTP_ASSOC_NOTHING)
-        return code == SCTP_ASSOC_DONE;
-    fprintf(stderr, "echo: a call answered the code %u\n", (unsigned)code);
-    exit(1);
+    if (code != SCTP_ASSOC_DONE && code != SCTP_ASSOC_NOTHING)
+        stop("a call answered the code", code);
+    return code == SCTP_ASSOC_DONE;
 }
 
 static uint64_t now(void) {
@@ -45,7 +50,7 @@ static uint64_t now(void) {
 static void begin(void) {
     sctp_assoc_identity identity;
     if (getentropy(&identity, sizeof identity) != 0)
-        exit(1);
+        stop("no random bytes: errno", (unsigned)errno);
     identity.tag |= 1; /* so that neither number is 0 */
     identity.initial_tsn |= 1;
     done((is_client ? sctp_assoc_client : sctp_assoc_server)(&slot, &config, MAX_PAYLOAD_SIZE, &identity, now()));
@@ -74,7 +79,7 @@ static void read_all(uint16_t stream) {
         if (!is_client)
             done(sctp_assoc_write(&slot, stream, type, bytes, length));
         else if (message(echoed++, wanted) != length || memcmp(wanted, bytes, length) != 0)
-            exit(fprintf(stderr, "echo: another message came back\n") != 0);
+            stop("another message came back than that with the number", (unsigned)echoed - 1);
     }
     if (is_client)
         send_more();
@@ -89,10 +94,9 @@ static void take_events(void) {
         } else if (event.kind == SCTP_ASSOC_EVENT_READABLE) {
             read_all(event.stream);
         } else if (event.kind == SCTP_ASSOC_EVENT_LOST || event.kind == SCTP_ASSOC_EVENT_HANDSHAKE_FAILED) {
-            fprintf(stderr, "echo: the association ended for reason %u\n", (unsigned)event.reason);
             if (is_client)
-                exit(1);
-            begin();
+                stop("the association ended for the reason", event.reason);
+            begin(); /* a server waits for the next client */
         }
     }
 }
@@ -140,18 +144,20 @@ static void wait_for_either(void) {
 
 int main(int argc, char **argv) {
     is_client = argc == 5 && strcmp(argv[1], "client") == 0;
-    if (!is_client && (argc != 3 || strcmp(argv[1], "server") != 0))
-        return fprintf(stderr, "usage: echo server PORT | echo client ADDRESS PORT COUNT\n"), 2;
+    if (!is_client && (argc != 3 || strcmp(argv[1], "server") != 0)) {
+        fprintf(stderr, "usage: echo server PORT | echo client ADDRESS PORT COUNT\n");
+        return 2;
+    }
     struct sockaddr_in own = {.sin_family = AF_INET, .sin_port = is_client ? 0 : htons((uint16_t)atoi(argv[2]))};
     udp = socket(AF_INET, SOCK_DGRAM, 0);
     if (udp < 0 || bind(udp, (struct sockaddr *)&own, sizeof own) != 0)
-        return perror("echo"), 1;
+        stop("no UDP socket: errno", (unsigned)errno);
     done(sctp_assoc_default_config(&config));
     if (is_client) {
         peer = (struct sockaddr_in){.sin_family = AF_INET, .sin_port = htons((uint16_t)atoi(argv[3]))};
         count = strtoul(argv[4], NULL, 10);
         if (inet_pton(AF_INET, argv[2], &peer.sin_addr) != 1)
-            return fprintf(stderr, "echo: %s is no address\n", argv[2]), 2;
+            stop("no IPv4 address in word", 2);
     }
     for (begin(); !is_client || echoed < count;) {
         send_all();
