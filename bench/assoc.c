@@ -1,0 +1,322 @@
+/* The cases of the benchmark by sctp_assoc: both ends in one process, each datagram handed over at once, and the end
+ * that got it polled after each.
+ *
+ *   assoc CASE COUNT SIZE     small, packet, large, unordered, lossy, handshake or memory
+ *   assoc CASE COUNT SIZE     streams, unread or in_flight: a message with little there, and with much
+ *
+ * Its clock goes on by 10 ms where both ends are idle. */
+#define SCTP_ASSOC_HEAP
+#include "bench.h"
+#include "sctp_assoc.h"
+
+#define STREAM 1
+#define TICK_NS (TICK_MS * UINT64_C(1000000))
+#define MANY_STREAMS 10000
+#define MANY_UNREAD 20000
+#define FEW_IN_FLIGHT 10
+#define MANY_IN_FLIGHT 4000
+
+/* End 0 writes and is the client, end 1 reads. */
+static sctp_assoc ends[2];
+static struct wire wires[2];
+static sctp_assoc_config config;
+static uint64_t now, written, messages_read, bytes_read, allocations;
+static int established[2];
+static uint32_t next_tag = 1;
+static uint8_t *message;
+static uint8_t buffer[65536];
+
+/* The heap of the C library, whose allocations are counted. */
+sctp_assoc_block rattle_alloc(size_t size, size_t align) {
+    (void)align;
+    void *at = malloc(size ? size : 1);
+    allocations++;
+    return (sctp_assoc_block){at, at ? at : buffer};
+}
+
+sctp_assoc_block rattle_realloc(void *old, size_t kept, size_t size, size_t align) {
+    (void)kept, (void)align;
+    void *at = realloc(old, size ? size : 1);
+    allocations++;
+    return (sctp_assoc_block){at, at ? at : buffer};
+}
+
+void rattle_dealloc(void *at) {
+    free(at);
+}
+
+static bool done(sctp_assoc_code code) {
+    if (code != SCTP_ASSOC_DONE && code != SCTP_ASSOC_NOTHING) {
+        fprintf(stderr, "bench: a call answered the code %u\n", (unsigned)code);
+        exit(1);
+    }
+    return code == SCTP_ASSOC_DONE;
+}
+
+static void poll_end(int end) {
+    struct datagram *room = new_datagram();
+    while (done(sctp_assoc_poll_transmit(&ends[end], now, room->bytes, sizeof room->bytes, &room->length))) {
+        send_on(&wires[end], room);
+        room = new_datagram();
+    }
+    give_back(room);
+}
+
+static bool read_one(uint16_t stream) {
+    size_t length;
+    uint32_t type;
+    if (!done(sctp_assoc_read(&ends[1], stream, buffer, sizeof buffer, &length, &type)))
+        return false;
+    messages_read++;
+    bytes_read += length;
+    return true;
+}
+
+/* Takes all events of an end. Where `reads`, all messages are read, too. */
+static void take_events(int end, bool reads) {
+    sctp_assoc_event event;
+    while (done(sctp_assoc_poll_event(&ends[end], &event))) {
+        if (event.kind == SCTP_ASSOC_EVENT_CONNECTED)
+            established[end] = 1;
+        else if (event.kind == SCTP_ASSOC_EVENT_LOST)
+            fail("an association was lost");
+        while (reads && event.kind == SCTP_ASSOC_EVENT_READABLE && read_one(event.stream))
+            ;
+    }
+}
+
+/* Hands over the oldest datagram that this end sent. */
+static bool hand_over_from(int end, bool reads) {
+    struct datagram *came = take_from(&wires[end]);
+    if (!came)
+        return false;
+    uint32_t fate;
+    done(sctp_assoc_handle_datagram(&ends[!end], now, came->bytes, came->length, &fate));
+    give_back(came);
+    take_events(!end, reads);
+    poll_end(!end);
+    return true;
+}
+
+static void hand_over_all(void) {
+    bool any = true;
+    while (any) {
+        any = hand_over_from(0, true);
+        any |= hand_over_from(1, true);
+    }
+}
+
+/* The clock goes on to the next timer. */
+static void expire(void) {
+    uint64_t least = UINT64_MAX, due;
+    for (int end = 0; end < 2; end++)
+        if (done(sctp_assoc_poll_timeout(&ends[end], &due)) && due < least)
+            least = due;
+    if (least == UINT64_MAX)
+        fail("nothing arrives any more");
+    now += TICK_NS;
+    if (now < least)
+        now += (least - now + TICK_NS - 1) / TICK_NS * TICK_NS;
+    for (int end = 0; end < 2; end++) {
+        done(sctp_assoc_handle_timeout(&ends[end], now));
+        poll_end(end);
+    }
+}
+
+static void begin(int end) {
+    sctp_assoc_identity identity = {.tag = next_tag++, .initial_tsn = next_tag++};
+    done((end == 0 ? sctp_assoc_client : sctp_assoc_server)(&ends[end], &config, PAYLOAD_SIZE, &identity, now));
+}
+
+static void join(void) {
+    established[0] = established[1] = 0;
+    begin(0);
+    begin(1);
+    poll_end(0);
+    hand_over_all();
+    if (!established[0] || !established[1])
+        fail("a handshake failed");
+}
+
+/* A pair with these streams opened, from STREAM on. */
+static void join_with(uint16_t streams) {
+    join();
+    for (uint16_t i = 0; i < streams; i++)
+        done(sctp_assoc_open_stream(&ends[0], STREAM + i, SCTP_ASSOC_PPID_BINARY));
+}
+
+static void leave(void) {
+    for (int end = 0; end < 2; end++) {
+        done(sctp_assoc_free(&ends[end]));
+        for (struct datagram *left; (left = take_from(&wires[end]));)
+            give_back(left);
+    }
+}
+
+/* Writes as much as may wait, over so many streams in turn, and hands over all that comes of it. */
+static void exchange(uint64_t count, size_t size, uint16_t streams) {
+    uint64_t goal = messages_read + count;
+    written = messages_read;
+    while (messages_read < goal) {
+        while (written < goal && written - messages_read < MAX_WAITING &&
+               (written - messages_read) * size < MAX_WAITING_BYTES) {
+            uint16_t stream = STREAM + (uint16_t)(written * 7919 % streams);
+            done(sctp_assoc_write(&ends[0], stream, SCTP_ASSOC_PPID_OF_STREAM, message, size));
+            written++;
+        }
+        poll_end(0);
+        if (!wires[0].first && !wires[1].first)
+            expire();
+        hand_over_all();
+    }
+}
+
+static void messages(struct measure *m) {
+    join_with(1);
+    if (!strcmp(m->name, "unordered"))
+        done(sctp_assoc_set_reliability(&ends[0], STREAM, true, SCTP_ASSOC_RELIABLE, 0));
+    lost_per_million = strcmp(m->name, "lossy") ? 0 : 10000;
+    uint64_t began = now, began_datagrams = datagrams_sent, began_allocations = allocations;
+    double began_us = cpu_us();
+    exchange(m->messages, m->size, 1);
+    m->cpu_us = cpu_us() - began_us;
+    m->virtual_ms = (now - began) / 1000000;
+    m->datagrams = datagrams_sent - began_datagrams;
+    m->allocations = allocations - began_allocations;
+    m->lost = datagrams_lost;
+    if (bytes_read != m->messages * m->size)
+        fail("other bytes were read than written");
+}
+
+static void handshakes(struct measure *m) {
+    double began_us = cpu_us();
+    for (uint64_t i = 0; i < m->messages; i++) {
+        join();
+        leave();
+        now += 1000000;
+    }
+    m->cpu_us = cpu_us() - began_us;
+    m->datagrams = datagrams_sent;
+    m->allocations = allocations;
+}
+
+/* The heap's bytes for one idle association. */
+static void memory(void) {
+    static sctp_assoc idle[2 * IDLE_PAIRS];
+    join();
+    leave();
+    size_t before = heap_bytes();
+    for (int i = 0; i < IDLE_PAIRS; i++) {
+        join();
+        memcpy(&idle[2 * i], ends, sizeof ends);
+        memset(ends, 0, sizeof ends);
+    }
+    printf("{\"stack\":\"sctp_assoc\",\"case\":\"memory\",\"bytes\":%zu}\n",
+           (heap_bytes() - before) / (2 * IDLE_PAIRS));
+    for (int i = 0; i < 2 * IDLE_PAIRS; i++)
+        done(sctp_assoc_free(&idle[i]));
+}
+
+/* Microseconds for a message over so many streams. */
+static double with_streams(uint64_t count, size_t size, uint64_t streams) {
+    join_with((uint16_t)streams);
+    exchange(streams * 2, size, (uint16_t)streams);
+    double began_us = cpu_us();
+    exchange(count, size, (uint16_t)streams);
+    double took = cpu_us() - began_us;
+    leave();
+    return took / count;
+}
+
+/* One burst of messages to end 1, which does not read them. */
+static void deliver_unread(uint64_t count, size_t size) {
+    for (uint64_t i = 0; i < count; i++)
+        done(sctp_assoc_write(&ends[0], STREAM, SCTP_ASSOC_PPID_OF_STREAM, message, size));
+    poll_end(0);
+    for (bool any = true; any;) {
+        any = hand_over_from(0, false);
+        any |= hand_over_from(1, false);
+    }
+}
+
+/* Microseconds for a message while so many are unread: for each that comes one is read. */
+static double with_unread(uint64_t count, size_t size, uint64_t unread) {
+    join_with(1);
+    for (uint64_t i = 0; i < unread; i += MAX_WAITING)
+        deliver_unread(MAX_WAITING, size);
+    double began_us = cpu_us();
+    for (uint64_t i = 0; i < count; i += MAX_WAITING) {
+        deliver_unread(MAX_WAITING, size);
+        for (int k = 0; k < MAX_WAITING; k++)
+            if (!read_one(STREAM))
+                fail("a message cannot be read");
+    }
+    double took = cpu_us() - began_us;
+    leave();
+    return took / ((count + MAX_WAITING - 1) / MAX_WAITING * MAX_WAITING);
+}
+
+/* One message in a datagram of its own, and the oldest on the way is handed over, unless the way is to get longer. */
+static void send_one(size_t size, bool hands_over) {
+    done(sctp_assoc_write(&ends[0], STREAM, SCTP_ASSOC_PPID_OF_STREAM, message, size));
+    poll_end(0);
+    if (hands_over) {
+        hand_over_from(0, true);
+        while (hand_over_from(1, true))
+            ;
+    }
+}
+
+/* Microseconds for a message while so many are on the way. */
+static double with_in_flight(uint64_t count, size_t size, uint64_t in_flight) {
+    join_with(1);
+    exchange(20000, PAYLOAD_SIZE, 1); /* opens the congestion window */
+    uint64_t before = datagrams_sent;
+    for (uint64_t i = 0; i < in_flight; i++)
+        send_one(size, false);
+    if (datagrams_sent - before != in_flight)
+        fail("the congestion window holds too little");
+    double began_us = cpu_us();
+    for (uint64_t i = 0; i < count; i++)
+        send_one(size, true);
+    double took = cpu_us() - began_us;
+    leave();
+    return took / count;
+}
+
+static void growth(const struct measure *m, uint64_t few, uint64_t many, double took(uint64_t, size_t, uint64_t)) {
+    double small = took(m->messages, m->size, few), large = took(m->messages, m->size, many);
+    printf("{\"stack\":\"sctp_assoc\",\"case\":\"%s\",\"size\":%zu,\"messages\":%llu,\"from\":%llu,\"to\":%llu,"
+           "\"cpu_us_from\":%.3f,\"cpu_us_to\":%.3f,\"growth\":%.2f}\n",
+           m->name, m->size, (unsigned long long)m->messages, (unsigned long long)few, (unsigned long long)many, small,
+           large, large / small);
+}
+
+int main(int argc, char **argv) {
+    if (argc != 4) {
+        fprintf(stderr, "usage: assoc CASE COUNT SIZE\n");
+        return 2;
+    }
+    struct measure m = {.stack = "sctp_assoc", .name = argv[1], .size = strtoull(argv[3], NULL, 10)};
+    m.messages = strtoull(argv[2], NULL, 10);
+    done(sctp_assoc_default_config(&config));
+    message = calloc(1, m.size > PAYLOAD_SIZE ? m.size : PAYLOAD_SIZE);
+    if (!message)
+        fail("no memory");
+    if (!strcmp(m.name, "memory")) {
+        memory();
+    } else if (!strcmp(m.name, "streams")) {
+        growth(&m, 1, MANY_STREAMS, with_streams);
+    } else if (!strcmp(m.name, "unread")) {
+        growth(&m, 0, MANY_UNREAD, with_unread);
+    } else if (!strcmp(m.name, "in_flight")) {
+        growth(&m, FEW_IN_FLIGHT, MANY_IN_FLIGHT, with_in_flight);
+    } else {
+        if (!strcmp(m.name, "handshake"))
+            handshakes(&m);
+        else
+            messages(&m);
+        print_measure(&m);
+    }
+    return 0;
+}

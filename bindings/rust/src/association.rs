@@ -1,0 +1,215 @@
+use crate::error::{done, done_or_nothing};
+use crate::sys;
+use crate::{Config, Error, Event, Identity, PayloadType, Stream, Token};
+use std::cell::UnsafeCell;
+use std::fmt;
+use std::time::{Duration, Instant};
+
+/// One association, without input or output: datagrams, moments and calls of the application go in; datagrams, events
+/// and the next moment come out. The page of the crate shows the loop that drives it.
+///
+/// It has no thread and no state outside itself, and may go from one thread to another. A moment before that at which
+/// it was made counts as that.
+///
+/// After a call that answers [`Error::NoMemory`] it may have failed: [`is_failed`](Association::is_failed) says so.
+/// Then it is over, and the calls answer [`Error::Failed`].
+pub struct Association {
+    pub(crate) slot: UnsafeCell<sys::Slot>,
+    began: Instant,
+}
+
+// SAFETY: the library keeps nothing but in the slot, and may be called from any thread, one call at a time. There is no
+// `Sync`: the calls that ask a question write to the slot, too.
+unsafe impl Send for Association {}
+
+/// What became of a datagram that came.
+#[derive(Clone, Copy, Debug, PartialEq, Eq)]
+#[non_exhaustive]
+pub enum Fate {
+    /// Its verification tag is accepted, and it went to the association.
+    Taken,
+    /// It is no SCTP packet, or its checksum is wrong. Nothing changed.
+    NoPacket,
+    /// Its verification tag is one that RFC 4960 section 8.5 refuses. Nothing changed.
+    OtherTag,
+    /// It is an INIT, and the handshake is over. Nothing changed.
+    RepeatedInit,
+}
+
+impl Association {
+    /// Makes a client, whose INIT waits for [`poll_transmit`](Association::poll_transmit).
+    ///
+    /// Errors: `BadPayloadSize`, `BadInitialTsn`, `NoMemory`.
+    pub fn client(config: &Config, identity: &Identity, now: Instant) -> Result<Association, Error> {
+        let (raw, named) = (config.raw(), identity.raw());
+        // SAFETY: the slot is empty and nobody else's; the others are read.
+        Association::made(now, |slot| unsafe { sys::sctp_assoc_client(slot, &raw, config.max_payload_size, &named, 0) })
+    }
+
+    /// Makes a server, which waits for an INIT.
+    ///
+    /// Errors: `BadPayloadSize`, `BadInitialTsn`, `NoMemory`.
+    pub fn server(config: &Config, identity: &Identity, now: Instant) -> Result<Association, Error> {
+        let (raw, named) = (config.raw(), identity.raw());
+        // SAFETY: as in `client`.
+        Association::made(now, |slot| unsafe { sys::sctp_assoc_server(slot, &raw, config.max_payload_size, &named, 0) })
+    }
+
+    /// Makes a side that is established at once, by both sides' tokens. [`Event::Connected`] waits.
+    ///
+    /// Errors: `BadPayloadSize`, `BadToken`, `NoMemory`.
+    pub fn joined(config: &Config, local: &Token, remote: &Token, now: Instant) -> Result<Association, Error> {
+        let (raw, local, remote) = (config.raw(), local.raw(), remote.raw());
+        // SAFETY: as in `client`.
+        Association::made(now, |slot| unsafe {
+            sys::sctp_assoc_joined(slot, &raw, config.max_payload_size, &local, &remote)
+        })
+    }
+
+    fn made(now: Instant, make: impl FnOnce(*mut sys::Slot) -> u32) -> Result<Association, Error> {
+        let mut slot = sys::Slot::EMPTY;
+        done(make(&mut slot))?;
+        Ok(Association { slot: UnsafeCell::new(slot), began: now })
+    }
+
+    // Nanoseconds since the association was made.
+    fn nanos(&self, moment: Instant) -> u64 {
+        u64::try_from(moment.saturating_duration_since(self.began).as_nanos()).unwrap_or(u64::MAX)
+    }
+
+    /// Takes in one datagram that came at `now`: an SCTP packet from its common header on.
+    ///
+    /// Errors: `Failed`; `NoMemory`, where all is as before or the association failed.
+    pub fn handle_datagram(&mut self, now: Instant, datagram: &[u8]) -> Result<Fate, Error> {
+        let moment = self.nanos(now);
+        let mut fate = 0;
+        // SAFETY: the slot holds an association that nobody else uses now; the datagram is read and not kept.
+        done(unsafe {
+            let (at, length) = (datagram.as_ptr(), datagram.len());
+            sys::sctp_assoc_handle_datagram(self.slot.get(), moment, at, length, &mut fate)
+        })?;
+        Ok(match fate {
+            0 => Fate::Taken,
+            2 => Fate::OtherTag,
+            3 => Fate::RepeatedInit,
+            _ => Fate::NoPacket,
+        })
+    }
+
+    /// Copies the next datagram that is due at `now` to the front of the buffer. None where none is due: call it until
+    /// then.
+    ///
+    /// Errors: `NoRoom` where the buffer is shorter than the datagram, which stays; `Failed`; `NoMemory`, where the
+    /// association failed and what was due is lost.
+    pub fn poll_transmit<'b>(&mut self, now: Instant, buffer: &'b mut [u8]) -> Result<Option<&'b [u8]>, Error> {
+        let moment = self.nanos(now);
+        let mut length = 0;
+        // SAFETY: the slot holds an association that nobody else uses now; it writes to the buffer and the length.
+        let code = unsafe {
+            let (at, room) = (buffer.as_mut_ptr(), buffer.len());
+            sys::sctp_assoc_poll_transmit(self.slot.get(), moment, at, room, &mut length)
+        };
+        Ok(done_or_nothing(code, length)?.then(|| &buffer[..length]))
+    }
+
+    /// The moment at which the next timer expires; None where no timer runs. Where it is not after now,
+    /// [`handle_timeout`](Association::handle_timeout) is due.
+    pub fn poll_timeout(&self) -> Option<Instant> {
+        let mut nanos = 0;
+        // SAFETY: the slot holds an association that nobody else uses now, as `Association` is not `Sync`.
+        let code = unsafe { sys::sctp_assoc_poll_timeout(self.slot.get(), &mut nanos) };
+        (code == sys::DONE).then_some(())?;
+        self.began.checked_add(Duration::from_nanos(nanos))
+    }
+
+    /// Does what the timers that expired by `now` ask for, and nothing where none did.
+    ///
+    /// Errors: `Failed`; `NoMemory`, where the association failed.
+    pub fn handle_timeout(&mut self, now: Instant) -> Result<(), Error> {
+        // SAFETY: the slot holds an association that nobody else uses now.
+        done(unsafe { sys::sctp_assoc_handle_timeout(self.slot.get(), self.nanos(now)) })
+    }
+
+    /// Takes out the oldest event. None where none waits.
+    ///
+    /// Errors: `Failed`.
+    pub fn poll_event(&mut self) -> Result<Option<Event>, Error> {
+        let mut told = sys::Event::default();
+        // SAFETY: the slot holds an association that nobody else uses now; it writes an event.
+        let code = unsafe { sys::sctp_assoc_poll_event(self.slot.get(), &mut told) };
+        Ok(done_or_nothing(code, 0)?.then(|| Event::of(&told)))
+    }
+
+    /// Closes the association at once. The peer is told nothing, and each stream ends. A datagram that waits, and a
+    /// message that did not fit a buffer, can still be taken.
+    ///
+    /// Errors: `Failed`; `NoMemory`, where the association failed.
+    pub fn close(&mut self) -> Result<(), Error> {
+        // SAFETY: the slot holds an association that nobody else uses now.
+        done(unsafe { sys::sctp_assoc_close(self.slot.get()) })
+    }
+
+    /// Whether messages can be written: the state is Established (RFC 4960 section 4).
+    pub fn is_established(&self) -> bool {
+        self.ask(sys::sctp_assoc_is_established)
+    }
+
+    /// Whether the state is Closed: that of a server before its handshake, and of any side after a loss.
+    pub fn is_closed(&self) -> bool {
+        self.ask(sys::sctp_assoc_is_closed)
+    }
+
+    /// Whether an earlier call found no memory in its middle, so that the association is over.
+    pub fn is_failed(&self) -> bool {
+        self.ask(sys::sctp_assoc_is_failed)
+    }
+
+    fn ask(&self, question: unsafe extern "C" fn(*mut sys::Slot, *mut bool) -> u32) -> bool {
+        let mut answer = false;
+        // SAFETY: the slot holds an association that nobody else uses now, as `Association` is not `Sync`; it writes
+        // the answer.
+        unsafe { question(self.slot.get(), &mut answer) };
+        answer
+    }
+
+    /// Makes a stream on this side. What is written on it carries this payload type where a write names none. Nothing
+    /// is sent for it: the peer sees the stream by its first message.
+    ///
+    /// Errors: `Failed`, `StreamExists` (also where the peer opened it), `NoStreamLeft`, `NoMemory`.
+    pub fn open_stream(&mut self, id: u16, payload_type: PayloadType) -> Result<Stream<'_>, Error> {
+        // SAFETY: the slot holds an association that nobody else uses now.
+        done(unsafe { sys::sctp_assoc_open_stream(self.slot.get(), id, payload_type.number()) })?;
+        Ok(self.stream(id))
+    }
+
+    /// Takes out the oldest stream that the peer opened and that was not accepted yet. A stream needs no accepting to
+    /// be read or written.
+    pub fn accept_stream(&mut self) -> Option<Stream<'_>> {
+        let mut id = 0;
+        // SAFETY: the slot holds an association that nobody else uses now; it writes an identifier.
+        let code = unsafe { sys::sctp_assoc_accept_stream(self.slot.get(), &mut id) };
+        (code == sys::DONE).then(|| self.stream(id))
+    }
+
+    /// The stream with this identifier, whether or not there is one: its calls say so.
+    pub fn stream(&mut self, id: u16) -> Stream<'_> {
+        Stream { association: self, id }
+    }
+}
+
+impl Drop for Association {
+    fn drop(&mut self) {
+        // SAFETY: the slot holds an association that nobody uses any more.
+        unsafe { sys::sctp_assoc_free(self.slot.get()) };
+    }
+}
+
+impl fmt::Debug for Association {
+    fn fmt(&self, f: &mut fmt::Formatter<'_>) -> fmt::Result {
+        f.debug_struct("Association")
+            .field("established", &self.is_established())
+            .field("closed", &self.is_closed())
+            .field("failed", &self.is_failed())
+            .finish_non_exhaustive()
+    }
+}

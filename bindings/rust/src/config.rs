@@ -1,0 +1,155 @@
+use crate::sys;
+use std::time::Duration;
+
+/// Limits and timeouts of an association. `Config::default()` has the values named below.
+#[derive(Clone, Debug, PartialEq, Eq)]
+pub struct Config {
+    /// Greatest payload of one DATA chunk, 1 to 65,519 bytes; 1172, which fits links of 1280 bytes below UDP and IPv6.
+    /// A datagram has up to 28 bytes more.
+    pub max_payload_size: u32,
+    /// The receive buffer and the window that is offered, in bytes; 1,048,576. A peer refuses one below 1500.
+    pub max_receive_buffer_size: u32,
+    /// Greatest message that may be written, in bytes; 65,536.
+    pub max_send_message_size: u32,
+    /// Greatest message that may come, in bytes; 65,536. A longer one closes the association.
+    pub max_receive_message_size: u32,
+    /// Streams offered for sending; 65,535. A peer refuses 0.
+    pub max_num_outbound_streams: u16,
+    /// Streams offered for receiving; 65,535. A peer refuses 0.
+    pub max_num_inbound_streams: u16,
+    /// Own SCTP port, not 0; 5000. A server takes both ports from the INIT.
+    pub local_port: u16,
+    /// The peer's SCTP port, not 0; 5000.
+    pub remote_port: u16,
+    /// Retransmission timeout before the first measurement (RFC 4960 section 6.3.1); 3 s. Milliseconds count.
+    pub rto_initial: Duration,
+    /// Least retransmission timeout; 1 s.
+    pub rto_min: Duration,
+    /// Greatest retransmission timeout; 60 s.
+    pub rto_max: Duration,
+    /// How often INIT and COOKIE ECHO go out again before the handshake fails; 8. None is no limit.
+    pub max_init_retransmits: Option<usize>,
+    /// Timeouts in a row before DATA is no longer sent again. None, the default, is no limit.
+    pub max_data_retransmits: Option<usize>,
+}
+
+impl Default for Config {
+    fn default() -> Config {
+        let mut raw = sys::Config::default();
+        // SAFETY: it writes a configuration to the place it gets.
+        unsafe { sys::sctp_assoc_default_config(&mut raw) };
+        Config {
+            max_payload_size: 1172,
+            max_receive_buffer_size: raw.max_receive_buffer_size,
+            max_send_message_size: raw.max_send_message_size,
+            max_receive_message_size: raw.max_receive_message_size,
+            max_num_outbound_streams: raw.max_num_outbound_streams,
+            max_num_inbound_streams: raw.max_num_inbound_streams,
+            local_port: raw.local_port,
+            remote_port: raw.remote_port,
+            rto_initial: Duration::from_millis(raw.rto_initial_ms),
+            rto_min: Duration::from_millis(raw.rto_min_ms),
+            rto_max: Duration::from_millis(raw.rto_max_ms),
+            max_init_retransmits: limit(raw.max_init_retransmits),
+            max_data_retransmits: limit(raw.max_data_retransmits),
+        }
+    }
+}
+
+impl Config {
+    pub(crate) fn raw(&self) -> sys::Config {
+        sys::Config {
+            max_receive_buffer_size: self.max_receive_buffer_size,
+            max_send_message_size: self.max_send_message_size,
+            max_receive_message_size: self.max_receive_message_size,
+            max_num_outbound_streams: self.max_num_outbound_streams,
+            max_num_inbound_streams: self.max_num_inbound_streams,
+            local_port: self.local_port,
+            remote_port: self.remote_port,
+            rto_initial_ms: millis(self.rto_initial),
+            rto_min_ms: millis(self.rto_min),
+            rto_max_ms: millis(self.rto_max),
+            max_init_retransmits: self.max_init_retransmits.unwrap_or(sys::NO_LIMIT),
+            max_data_retransmits: self.max_data_retransmits.unwrap_or(sys::NO_LIMIT),
+        }
+    }
+}
+
+fn limit(raw: usize) -> Option<usize> {
+    (raw != sys::NO_LIMIT).then_some(raw)
+}
+
+fn millis(duration: Duration) -> u64 {
+    u64::try_from(duration.as_millis()).unwrap_or(u64::MAX)
+}
+
+/// What names one side. Nobody else should be able to guess it.
+#[derive(Clone, Debug, PartialEq, Eq)]
+pub struct Identity {
+    /// This side's verification tag (RFC 4960 section 8.5); a peer refuses 0.
+    pub tag: u32,
+    /// The first TSN, not 0.
+    pub initial_tsn: u32,
+    /// A server's State Cookie (RFC 4960 section 5.1.3).
+    pub cookie: [u8; 32],
+}
+
+impl Identity {
+    /// Makes an identity of bytes that come from a random source which nobody can guess.
+    pub fn from_random(bytes: [u8; 40]) -> Identity {
+        let word = |at: usize| u32::from_ne_bytes([bytes[at], bytes[at + 1], bytes[at + 2], bytes[at + 3]]).max(1);
+        let mut cookie = [0; 32];
+        cookie.copy_from_slice(&bytes[8..]);
+        Identity { tag: word(0), initial_tsn: word(4), cookie }
+    }
+
+    pub(crate) fn raw(&self) -> sys::Identity {
+        sys::Identity { tag: self.tag, initial_tsn: self.initial_tsn, cookie: self.cookie }
+    }
+}
+
+/// What two sides that join without a handshake exchange in another way: the values of the INIT chunk that each would
+/// send.
+#[derive(Clone, Copy, Debug, PartialEq, Eq)]
+pub struct Token {
+    /// The verification tag.
+    pub tag: u32,
+    /// The first TSN.
+    pub initial_tsn: u32,
+    /// The receive window, in bytes.
+    pub window: u32,
+    /// Streams offered for sending.
+    pub num_outbound_streams: u16,
+    /// Streams offered for receiving.
+    pub num_inbound_streams: u16,
+    /// Whether its Supported Extensions list FORWARD TSN (RFC 3758 section 3.1).
+    pub forward_tsn: bool,
+}
+
+impl Token {
+    /// The token of a side with this configuration.
+    pub fn new(config: &Config, tag: u32, initial_tsn: u32) -> Token {
+        let mut raw = sys::Token::default();
+        // SAFETY: it reads a configuration and writes a token to the places it gets.
+        unsafe { sys::sctp_assoc_make_token(&config.raw(), tag, initial_tsn, &mut raw) };
+        Token {
+            tag: raw.tag,
+            initial_tsn: raw.initial_tsn,
+            window: raw.window,
+            num_outbound_streams: raw.num_outbound_streams,
+            num_inbound_streams: raw.num_inbound_streams,
+            forward_tsn: raw.forward_tsn,
+        }
+    }
+
+    pub(crate) fn raw(&self) -> sys::Token {
+        sys::Token {
+            tag: self.tag,
+            initial_tsn: self.initial_tsn,
+            window: self.window,
+            num_outbound_streams: self.num_outbound_streams,
+            num_inbound_streams: self.num_inbound_streams,
+            forward_tsn: self.forward_tsn,
+        }
+    }
+}

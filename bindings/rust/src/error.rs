@@ -1,0 +1,102 @@
+use crate::sys;
+use std::fmt;
+
+/// Why a call was refused. Where a page says nothing else, the call changed nothing.
+#[derive(Clone, Copy, Debug, PartialEq, Eq)]
+#[non_exhaustive]
+pub enum Error {
+    /// Memory was refused. What that leaves the page of the call says;
+    /// [`is_failed`](crate::Association::is_failed) tells whether the association is over.
+    NoMemory,
+    /// The buffer is too short: what is next has so many bytes, and stays.
+    NoRoom {
+        /// The length of what is next, in bytes.
+        needed: usize,
+    },
+    /// The greatest payload of a DATA chunk is not in 1 to 65,519.
+    BadPayloadSize,
+    /// The initial TSN is 0.
+    BadInitialTsn,
+    /// A token has a tag 0, a number of streams 0 or a window below 1500.
+    BadToken,
+    /// An earlier call found no memory in its middle, and the association is over.
+    Failed,
+    /// This side or the peer opened the stream already.
+    StreamExists,
+    /// 2^64 streams were opened, and none can be any more.
+    NoStreamLeft,
+    /// There is no such stream.
+    NoStream,
+    /// Messages are written while the association is established, and at no other time.
+    NotEstablished,
+    /// This half of the stream is closed.
+    StreamClosed,
+    /// The message is longer than `max_send_message_size`.
+    MessageTooLong,
+    /// The message has no byte.
+    EmptyMessage,
+    /// The library answered a code that these bindings do not know.
+    Unknown(u32),
+}
+
+impl Error {
+    /// The error of a code that is not [`sys::DONE`]. `length` is what the call wrote for a length, if it has one.
+    pub(crate) fn of(code: u32, length: usize) -> Error {
+        match code {
+            sys::NO_MEMORY => Error::NoMemory,
+            sys::NO_ROOM => Error::NoRoom { needed: length },
+            6 => Error::BadPayloadSize,
+            7 => Error::BadInitialTsn,
+            8 => Error::BadToken,
+            10 => Error::Failed,
+            11 => Error::StreamExists,
+            13 => Error::NoStreamLeft,
+            14 => Error::NoStream,
+            16 => Error::NotEstablished,
+            26 => Error::StreamClosed,
+            27 => Error::MessageTooLong,
+            28 => Error::EmptyMessage,
+            other => Error::Unknown(other),
+        }
+    }
+}
+
+impl fmt::Display for Error {
+    fn fmt(&self, f: &mut fmt::Formatter<'_>) -> fmt::Result {
+        match self {
+            Error::NoMemory => f.write_str("memory was refused"),
+            Error::NoRoom { needed } => write!(f, "the buffer is too short: {needed} bytes are needed"),
+            Error::BadPayloadSize => f.write_str("the payload size is not in 1 to 65519"),
+            Error::BadInitialTsn => f.write_str("the initial TSN is 0"),
+            Error::BadToken => f.write_str("a token is refused"),
+            Error::Failed => f.write_str("an earlier call failed the association"),
+            Error::StreamExists => f.write_str("the stream exists already"),
+            Error::NoStreamLeft => f.write_str("no stream can be opened any more"),
+            Error::NoStream => f.write_str("there is no such stream"),
+            Error::NotEstablished => f.write_str("the association is not established"),
+            Error::StreamClosed => f.write_str("this half of the stream is closed"),
+            Error::MessageTooLong => f.write_str("the message is too long"),
+            Error::EmptyMessage => f.write_str("the message is empty"),
+            Error::Unknown(code) => write!(f, "the library answered the unknown code {code}"),
+        }
+    }
+}
+
+impl std::error::Error for Error {}
+
+/// What a code means where a call has an answer beside it. `length` as in [`Error::of`].
+pub(crate) fn done_or_nothing(code: u32, length: usize) -> Result<bool, Error> {
+    match code {
+        sys::DONE => Ok(true),
+        sys::NOTHING => Ok(false),
+        refused => Err(Error::of(refused, length)),
+    }
+}
+
+/// What a code means where a call has no answer beside it.
+pub(crate) fn done(code: u32) -> Result<(), Error> {
+    match code {
+        sys::DONE => Ok(()),
+        refused => Err(Error::of(refused, 0)),
+    }
+}

@@ -1,0 +1,126 @@
+use crate::sys;
+
+/// What happened to an association, as [`poll_event`](crate::Association::poll_event) tells it.
+#[derive(Clone, Copy, Debug, PartialEq, Eq)]
+#[non_exhaustive]
+pub enum Event {
+    /// Established: messages can be written from now on.
+    Connected,
+    /// INIT or COOKIE ECHO went out too often without an answer.
+    HandshakeFailed {
+        /// Which of the two.
+        reason: Reason,
+    },
+    /// The association was closed.
+    Lost {
+        /// By what.
+        reason: Reason,
+    },
+    /// A DATA chunk was taken in; told once for each.
+    DatagramReceived,
+    /// A stream ended.
+    StreamEnded {
+        /// Its identifier.
+        stream: u16,
+        /// Its last counters.
+        counters: Counters,
+    },
+    /// The peer opened a stream by a message.
+    Opened {
+        /// Its identifier.
+        stream: u16,
+    },
+    /// Messages of a stream can be read: read until there is none. Told for each DATA chunk that is taken in while one
+    /// is ready, so several may come of one event, and none of the next.
+    Readable {
+        /// The stream's identifier.
+        stream: u16,
+    },
+    /// The buffered amount of a stream fell to its low mark or below.
+    BufferedAmountLow {
+        /// The stream's identifier.
+        stream: u16,
+    },
+    /// The buffered amount of a stream rose to its high mark or above.
+    BufferedAmountHigh {
+        /// The stream's identifier.
+        stream: u16,
+    },
+    /// An event that has no name here, by its number in `sctp_assoc.h`; none of these is told so far.
+    Other {
+        /// The number of its kind.
+        kind: u32,
+        /// The stream's identifier, 0 where it has none.
+        stream: u16,
+    },
+}
+
+/// Why an association ended, or never began.
+#[derive(Clone, Copy, Debug, PartialEq, Eq)]
+#[non_exhaustive]
+pub enum Reason {
+    /// INIT was not answered.
+    NoInitAck,
+    /// COOKIE ECHO was not answered.
+    NoCookieAck,
+    /// [`close`](crate::Association::close), an ABORT or another fault of the peer.
+    Closed,
+    /// The receive buffer is full of what can never be read.
+    BufferExhausted,
+    /// Another reason; none of these is told so far.
+    Other,
+}
+
+/// Messages and bytes of a stream under the payload types of WebRTC application data (51, 53, 56 and 57) alone.
+#[derive(Clone, Copy, Debug, Default, PartialEq, Eq)]
+pub struct Counters {
+    /// Messages that were accepted for sending.
+    pub messages_sent: u64,
+    /// Their bytes.
+    pub bytes_sent: u64,
+    /// Messages that were read.
+    pub messages_received: u64,
+    /// Their bytes.
+    pub bytes_received: u64,
+}
+
+impl Event {
+    pub(crate) fn of(told: &sys::Event) -> Event {
+        let stream = told.stream;
+        match told.kind {
+            1 => Event::Connected,
+            2 => Event::HandshakeFailed { reason: Reason::of(told.reason) },
+            3 => Event::Lost { reason: Reason::of(told.reason) },
+            4 => Event::DatagramReceived,
+            5 => Event::StreamEnded { stream, counters: Counters::of(&told.counters) },
+            6 => Event::Opened { stream },
+            7 => Event::Readable { stream },
+            8 => Event::BufferedAmountLow { stream },
+            9 => Event::BufferedAmountHigh { stream },
+            kind => Event::Other { kind, stream },
+        }
+    }
+}
+
+impl Reason {
+    fn of(number: u32) -> Reason {
+        match number {
+            1 => Reason::NoInitAck,
+            2 => Reason::NoCookieAck,
+            3 => Reason::Closed,
+            4 => Reason::BufferExhausted,
+            _ => Reason::Other,
+        }
+    }
+}
+
+impl Counters {
+    fn of(told: &sys::Counters) -> Counters {
+        Counters {
+            messages_sent: told.messages_sent,
+            bytes_sent: told.bytes_sent,
+            messages_received: told.messages_received,
+            bytes_received: told.bytes_received,
+        }
+    }
+}

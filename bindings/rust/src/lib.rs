@@ -1,0 +1,62 @@
+//! The association layer of SCTP (RFC 4960) without input or output: safe Rust over the library that `./library`
+//! builds, whose functions are proved. `build.rs` looks for it in this checkout, or where `SCTP_ASSOC_ARCHIVE` says.
+//!
+//! An [`Association`] reads no clock, no socket and no random source. One turn of its loop, at the moment `now`:
+//!
+//! 1. If [`poll_timeout`](Association::poll_timeout) gives a moment that is not after `now`, call
+//!    [`handle_timeout`](Association::handle_timeout).
+//! 2. If a datagram came, hand it to [`handle_datagram`](Association::handle_datagram).
+//! 3. Call [`poll_event`](Association::poll_event) until it gives None; at [`Event::Readable`] call
+//!    [`read`](Stream::read) until it does so too.
+//! 4. Call [`poll_transmit`](Association::poll_transmit) until it gives None, and send each datagram.
+//! 5. Sleep until the moment of `poll_timeout`, or until a datagram comes.
+//!
+//! `examples/echo.rs` does so over UDP (RFC 6951). Here a client and a server meet in memory:
+//!
+//! ```
+//! use sctp_assoc::{Association, Config, Error, Identity, PayloadType};
+//! use std::time::Instant;
+//!
+//! /// Hands over what `from` has to send.
+//! fn pass_on(from: &mut Association, to: &mut Association, now: Instant) -> Result<(), Error> {
+//!     let mut buffer = [0; 1500];
+//!     while let Some(datagram) = from.poll_transmit(now, &mut buffer)? {
+//!         to.handle_datagram(now, datagram)?;
+//!     }
+//!     Ok(())
+//! }
+//!
+//! let now = Instant::now();
+//! let config = Config::default();
+//! // In earnest these bytes come from a random source.
+//! let mut client = Association::client(&config, &Identity::from_random([1; 40]), now)?;
+//! let mut server = Association::server(&config, &Identity::from_random([2; 40]), now)?;
+//! while !(client.is_established() && server.is_established()) {
+//!     pass_on(&mut client, &mut server, now)?;
+//!     pass_on(&mut server, &mut client, now)?;
+//! }
+//!
+//! client.open_stream(1, PayloadType::String)?.write(b"hello")?;
+//! pass_on(&mut client, &mut server, now)?;
+//!
+//! let mut buffer = [0; 100];
+//! let message = server.stream(1).read(&mut buffer)?.expect("the message came");
+//! assert_eq!(message.bytes, b"hello");
+//! assert_eq!(message.payload_type, PayloadType::String);
+//! # Ok::<(), Error>(())
+//! ```
+
+mod association;
+mod config;
+mod error;
+mod event;
+mod payload;
+mod stream;
+mod sys;
+
+pub use association::{Association, Fate};
+pub use config::{Config, Identity, Token};
+pub use error::Error;
+pub use event::{Counters, Event, Reason};
+pub use payload::{PayloadType, Reliability};
+pub use stream::{Message, Stream};

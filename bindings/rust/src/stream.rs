@@ -1,0 +1,105 @@
+use crate::error::{done, done_or_nothing};
+use crate::sys;
+use crate::{Association, Error, PayloadType, Reliability};
+
+/// One stream of an association, by its identifier. Each call of one that is not there answers [`Error::NoStream`].
+#[derive(Debug)]
+pub struct Stream<'a> {
+    pub(crate) association: &'a mut Association,
+    pub(crate) id: u16,
+}
+
+/// A message that was read.
+#[derive(Clone, Copy, Debug, PartialEq, Eq)]
+pub struct Message<'b> {
+    /// Its payload type.
+    pub payload_type: PayloadType,
+    /// Its bytes, whole.
+    pub bytes: &'b [u8],
+}
+
+impl Stream<'_> {
+    /// The stream's identifier.
+    pub fn id(&self) -> u16 {
+        self.id
+    }
+
+    /// Accepts one message under the payload type that the stream was opened with. It goes out with
+    /// [`poll_transmit`](Association::poll_transmit), as the windows allow.
+    ///
+    /// Errors: `Failed`, `NoStream`, `StreamClosed`, `NotEstablished`, `EmptyMessage`, `MessageTooLong`, `NoMemory`.
+    pub fn write(&mut self, message: &[u8]) -> Result<(), Error> {
+        self.write_raw(sys::PPID_OF_STREAM, message)
+    }
+
+    /// The same under another payload type.
+    pub fn write_as(&mut self, payload_type: PayloadType, message: &[u8]) -> Result<(), Error> {
+        self.write_raw(payload_type.number(), message)
+    }
+
+    fn write_raw(&mut self, payload_type: u32, message: &[u8]) -> Result<(), Error> {
+        let slot = self.association.slot.get();
+        // SAFETY: the slot holds an association that nobody else uses now; the message is read and not kept.
+        done(unsafe { sys::sctp_assoc_write(slot, self.id, payload_type, message.as_ptr(), message.len()) })
+    }
+
+    /// Copies the next message to the front of the buffer. None where none is ready.
+    ///
+    /// Errors: `NoRoom` where the buffer is shorter than the message, which stays; `Failed`, `NoStream`,
+    /// `StreamClosed`; `NoMemory`, where the message stays or the association failed.
+    pub fn read<'b>(&mut self, buffer: &'b mut [u8]) -> Result<Option<Message<'b>>, Error> {
+        let slot = self.association.slot.get();
+        let (mut length, mut number) = (0, 0);
+        // SAFETY: the slot holds an association that nobody else uses now; it writes to the buffer, the length and the
+        // payload type.
+        let code = unsafe {
+            let (at, room) = (buffer.as_mut_ptr(), buffer.len());
+            sys::sctp_assoc_read(slot, self.id, at, room, &mut length, &mut number)
+        };
+        Ok(done_or_nothing(code, length)?
+            .then(|| Message { payload_type: PayloadType::of(number), bytes: &buffer[..length] }))
+    }
+
+    /// The same into a vector of the message's length.
+    ///
+    /// Errors: those of [`read`](Stream::read) but `NoRoom`.
+    pub fn read_vec(&mut self) -> Result<Option<(PayloadType, Vec<u8>)>, Error> {
+        let needed = match self.read(&mut []) {
+            Err(Error::NoRoom { needed }) => needed,
+            Err(error) => return Err(error),
+            Ok(_) => return Ok(None),
+        };
+        let mut bytes = vec![0; needed];
+        let payload_type = self.read(&mut bytes)?.map(|message| message.payload_type);
+        Ok(payload_type.map(|payload_type| (payload_type, bytes)))
+    }
+
+    /// Closes the write half. What was accepted goes out all the same, and the peer is not told.
+    ///
+    /// Errors: `Failed`, `NoStream`.
+    pub fn finish(&mut self) -> Result<(), Error> {
+        // SAFETY: the slot holds an association that nobody else uses now.
+        done(unsafe { sys::sctp_assoc_finish(self.association.slot.get(), self.id) })
+    }
+
+    /// Sets how messages are sent that are written from now on: in order or not, and how long they are sent again. So
+    /// far no message is given up.
+    ///
+    /// Errors: `Failed`, `NoStream`.
+    pub fn set_reliability(&mut self, unordered: bool, reliability: Reliability) -> Result<(), Error> {
+        let slot = self.association.slot.get();
+        let (kind, value) = reliability.raw();
+        // SAFETY: the slot holds an association that nobody else uses now.
+        done(unsafe { sys::sctp_assoc_set_reliability(slot, self.id, unordered, kind, value) })
+    }
+
+    /// Bytes that were accepted and are not acknowledged.
+    ///
+    /// Errors: `Failed`, `NoStream`.
+    pub fn buffered_amount(&mut self) -> Result<usize, Error> {
+        let mut bytes = 0;
+        // SAFETY: the slot holds an association that nobody else uses now; it writes a number.
+        done(unsafe { sys::sctp_assoc_buffered_amount(self.association.slot.get(), self.id, &mut bytes) })?;
+        Ok(bytes)
+    }
+}

@@ -1,0 +1,152 @@
+//! The calls of `include/sctp_assoc.h`, which says what each does.
+use std::ffi::c_void;
+use std::ptr;
+
+/// Room for one association. All bytes 0 is the empty slot.
+#[repr(C)]
+pub(crate) struct Slot {
+    at: *mut c_void,
+    live: bool,
+}
+
+impl Slot {
+    pub(crate) const EMPTY: Slot = Slot { at: ptr::null_mut(), live: false };
+}
+
+#[repr(C)]
+#[derive(Default)]
+pub(crate) struct Config {
+    pub(crate) max_receive_buffer_size: u32,
+    pub(crate) max_send_message_size: u32,
+    pub(crate) max_receive_message_size: u32,
+    pub(crate) max_num_outbound_streams: u16,
+    pub(crate) max_num_inbound_streams: u16,
+    pub(crate) local_port: u16,
+    pub(crate) remote_port: u16,
+    pub(crate) rto_initial_ms: u64,
+    pub(crate) rto_min_ms: u64,
+    pub(crate) rto_max_ms: u64,
+    pub(crate) max_init_retransmits: usize,
+    pub(crate) max_data_retransmits: usize,
+}
+
+#[repr(C)]
+pub(crate) struct Identity {
+    pub(crate) tag: u32,
+    pub(crate) initial_tsn: u32,
+    pub(crate) cookie: [u8; 32],
+}
+
+#[repr(C)]
+#[derive(Default)]
+pub(crate) struct Token {
+    pub(crate) tag: u32,
+    pub(crate) initial_tsn: u32,
+    pub(crate) window: u32,
+    pub(crate) num_outbound_streams: u16,
+    pub(crate) num_inbound_streams: u16,
+    pub(crate) forward_tsn: bool,
+}
+
+#[repr(C)]
+#[derive(Default)]
+pub(crate) struct Counters {
+    pub(crate) messages_sent: u64,
+    pub(crate) bytes_sent: u64,
+    pub(crate) messages_received: u64,
+    pub(crate) bytes_received: u64,
+}
+
+#[repr(C)]
+#[derive(Default)]
+pub(crate) struct Event {
+    pub(crate) kind: u32,
+    pub(crate) reason: u32,
+    pub(crate) stream: u16,
+    pub(crate) counters: Counters,
+}
+
+pub(crate) const DONE: u32 = 0;
+pub(crate) const NO_MEMORY: u32 = 2;
+pub(crate) const NOTHING: u32 = 3;
+pub(crate) const NO_ROOM: u32 = 4;
+
+/// No limit of retransmissions.
+pub(crate) const NO_LIMIT: usize = usize::MAX;
+
+/// The payload protocol identifier of the stream.
+pub(crate) const PPID_OF_STREAM: u32 = u32::MAX;
+
+extern "C" {
+    pub(crate) fn sctp_assoc_default_config(config: *mut Config) -> u32;
+    pub(crate) fn sctp_assoc_make_token(config: *const Config, tag: u32, initial_tsn: u32, token: *mut Token) -> u32;
+    pub(crate) fn sctp_assoc_client(
+        slot: *mut Slot,
+        config: *const Config,
+        max_payload_size: u32,
+        identity: *const Identity,
+        now: u64,
+    ) -> u32;
+    pub(crate) fn sctp_assoc_server(
+        slot: *mut Slot,
+        config: *const Config,
+        max_payload_size: u32,
+        identity: *const Identity,
+        now: u64,
+    ) -> u32;
+    pub(crate) fn sctp_assoc_joined(
+        slot: *mut Slot,
+        config: *const Config,
+        max_payload_size: u32,
+        local: *const Token,
+        remote: *const Token,
+    ) -> u32;
+    pub(crate) fn sctp_assoc_free(slot: *mut Slot) -> u32;
+    pub(crate) fn sctp_assoc_close(slot: *mut Slot) -> u32;
+    pub(crate) fn sctp_assoc_handle_datagram(
+        slot: *mut Slot,
+        now: u64,
+        datagram: *const u8,
+        length: usize,
+        fate: *mut u32,
+    ) -> u32;
+    pub(crate) fn sctp_assoc_poll_transmit(
+        slot: *mut Slot,
+        now: u64,
+        buffer: *mut u8,
+        room: usize,
+        length: *mut usize,
+    ) -> u32;
+    pub(crate) fn sctp_assoc_poll_timeout(slot: *mut Slot, moment: *mut u64) -> u32;
+    pub(crate) fn sctp_assoc_handle_timeout(slot: *mut Slot, now: u64) -> u32;
+    pub(crate) fn sctp_assoc_poll_event(slot: *mut Slot, event: *mut Event) -> u32;
+    pub(crate) fn sctp_assoc_is_established(slot: *mut Slot, answer: *mut bool) -> u32;
+    pub(crate) fn sctp_assoc_is_closed(slot: *mut Slot, answer: *mut bool) -> u32;
+    pub(crate) fn sctp_assoc_is_failed(slot: *mut Slot, answer: *mut bool) -> u32;
+    pub(crate) fn sctp_assoc_open_stream(slot: *mut Slot, stream: u16, payload_type: u32) -> u32;
+    pub(crate) fn sctp_assoc_accept_stream(slot: *mut Slot, stream: *mut u16) -> u32;
+    pub(crate) fn sctp_assoc_write(
+        slot: *mut Slot,
+        stream: u16,
+        payload_type: u32,
+        message: *const u8,
+        length: usize,
+    ) -> u32;
+    pub(crate) fn sctp_assoc_read(
+        slot: *mut Slot,
+        stream: u16,
+        buffer: *mut u8,
+        room: usize,
+        length: *mut usize,
+        payload_type: *mut u32,
+    ) -> u32;
+    pub(crate) fn sctp_assoc_finish(slot: *mut Slot, stream: u16) -> u32;
+    pub(crate) fn sctp_assoc_set_reliability(
+        slot: *mut Slot,
+        stream: u16,
+        unordered: bool,
+        kind: u32,
+        value: u32,
+    ) -> u32;
+    pub(crate) fn sctp_assoc_buffered_amount(slot: *mut Slot, stream: u16, bytes: *mut usize) -> u32;
+}

@@ -1,0 +1,63 @@
+//! Two ends in memory, and a clock of the test's own.
+#![allow(dead_code)] // each test uses a part of it
+use sctp_assoc::{Association, Config, Error, Event, Identity};
+use std::time::{Duration, Instant};
+
+pub struct Link {
+    pub ends: [Association; 2],
+    pub now: Instant,
+}
+
+pub fn identity(number: u8) -> Identity {
+    Identity { tag: number.into(), initial_tsn: 100 * u32::from(number), cookie: [number; 32] }
+}
+
+/// Hands over all that is due at `from`. Answers whether there was any.
+pub fn pass_on(from: &mut Association, to: &mut Association, now: Instant) -> Result<bool, Error> {
+    let mut buffer = [0; 1500];
+    let mut any = false;
+    while let Some(datagram) = from.poll_transmit(now, &mut buffer)? {
+        to.handle_datagram(now, datagram)?;
+        any = true;
+    }
+    Ok(any)
+}
+
+impl Link {
+    /// A client and a server before their first packet.
+    pub fn new(config: &Config) -> Result<Link, Error> {
+        let now = Instant::now();
+        let client = Association::client(config, &identity(1), now)?;
+        let server = Association::server(config, &identity(2), now)?;
+        Ok(Link { ends: [client, server], now })
+    }
+
+    /// A client and a server after their handshake, with no event left.
+    pub fn established(config: &Config) -> Result<Link, Error> {
+        let mut link = Link::new(config)?;
+        link.settle()?;
+        for end in &mut link.ends {
+            assert_eq!(end.poll_event()?, Some(Event::Connected));
+            assert_eq!(end.poll_event()?, None);
+            assert!(end.is_established() && !end.is_closed() && !end.is_failed());
+        }
+        Ok(link)
+    }
+
+    /// Hands over what is due, and lets timers expire that do so within a second.
+    pub fn settle(&mut self) -> Result<(), Error> {
+        for _ in 0..100 {
+            let [client, server] = &mut self.ends;
+            while pass_on(client, server, self.now)? | pass_on(server, client, self.now)? {}
+            let due = self.ends.iter().filter_map(Association::poll_timeout).min();
+            match due {
+                Some(due) if due <= self.now + Duration::from_secs(1) => self.now = self.now.max(due),
+                _ => return Ok(()),
+            }
+            for end in &mut self.ends {
+                end.handle_timeout(self.now)?;
+            }
+        }
+        panic!("no end is in sight");
+    }
+}

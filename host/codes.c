@@ -1,0 +1,229 @@
+/* Every code of the interface, every fate of a datagram and every reason that is told, each at least once. Only
+ * SCTP_ASSOC_NO_STREAM_LEFT is not, which takes 2^64 streams. */
+#include "support.h"
+
+static sctp_assoc ends[2];
+static uint8_t bytes[70000];
+static size_t length;
+static uint64_t moment;
+static uint32_t number;
+static uint16_t stream;
+static bool answer;
+static sctp_assoc_event event;
+
+/* Calls of an empty slot. */
+static void empty_slot(void) {
+    sctp_assoc none = SCTP_ASSOC_EMPTY;
+    CHECK(sctp_assoc_free(&none) == SCTP_ASSOC_EMPTY_SLOT);
+    CHECK(sctp_assoc_close(&none) == SCTP_ASSOC_EMPTY_SLOT);
+    CHECK(sctp_assoc_handle_datagram(&none, 0, bytes, 20, &number) == SCTP_ASSOC_EMPTY_SLOT);
+    CHECK(sctp_assoc_poll_transmit(&none, 0, bytes, sizeof bytes, &length) == SCTP_ASSOC_EMPTY_SLOT);
+    CHECK(sctp_assoc_poll_timeout(&none, &moment) == SCTP_ASSOC_EMPTY_SLOT);
+    CHECK(sctp_assoc_handle_timeout(&none, 0) == SCTP_ASSOC_EMPTY_SLOT);
+    CHECK(sctp_assoc_poll_event(&none, &event) == SCTP_ASSOC_EMPTY_SLOT);
+    CHECK(sctp_assoc_is_established(&none, &answer) == SCTP_ASSOC_EMPTY_SLOT);
+    CHECK(sctp_assoc_is_closed(&none, &answer) == SCTP_ASSOC_EMPTY_SLOT);
+    CHECK(sctp_assoc_is_failed(&none, &answer) == SCTP_ASSOC_EMPTY_SLOT);
+    CHECK(sctp_assoc_open_stream(&none, 1, 53) == SCTP_ASSOC_EMPTY_SLOT);
+    CHECK(sctp_assoc_accept_stream(&none, &stream) == SCTP_ASSOC_EMPTY_SLOT);
+    CHECK(sctp_assoc_write(&none, 1, 53, bytes, 1) == SCTP_ASSOC_EMPTY_SLOT);
+    CHECK(sctp_assoc_read(&none, 1, bytes, sizeof bytes, &length, &number) == SCTP_ASSOC_EMPTY_SLOT);
+    CHECK(sctp_assoc_finish(&none, 1) == SCTP_ASSOC_EMPTY_SLOT);
+    CHECK(sctp_assoc_set_reliability(&none, 1, false, 0, 0) == SCTP_ASSOC_EMPTY_SLOT);
+    CHECK(sctp_assoc_buffered_amount(&none, 1, &length) == SCTP_ASSOC_EMPTY_SLOT);
+    CHECK(!none.at && !none.live);
+}
+
+/* Associations that are not made leave the slot as it was. */
+static void refused_begin(void) {
+    sctp_assoc slot = SCTP_ASSOC_EMPTY;
+    sctp_assoc_config config = default_config();
+    sctp_assoc_identity named = identity(1);
+    CHECK(sctp_assoc_client(&slot, &config, 0, &named, 0) == SCTP_ASSOC_BAD_PAYLOAD_SIZE);
+    CHECK(sctp_assoc_server(&slot, &config, 65520, &named, 0) == SCTP_ASSOC_BAD_PAYLOAD_SIZE);
+    named.initial_tsn = 0;
+    CHECK(sctp_assoc_client(&slot, &config, PAYLOAD_SIZE, &named, 0) == SCTP_ASSOC_BAD_INITIAL_TSN);
+    sctp_assoc_token good, bad;
+    CHECK(done(sctp_assoc_make_token(&config, 5, 6, &good)));
+    CHECK(good.tag == 5 && good.initial_tsn == 6 && good.window == config.max_receive_buffer_size);
+    bad = good;
+    bad.window = 1499;
+    CHECK(sctp_assoc_joined(&slot, &config, PAYLOAD_SIZE, &good, &bad) == SCTP_ASSOC_BAD_TOKEN);
+    refused_from = growths + 1, refused_to = UINT64_MAX;
+    CHECK(sctp_assoc_joined(&slot, &config, PAYLOAD_SIZE, &good, &good) == SCTP_ASSOC_NO_MEMORY);
+    refused_from = refused_to = 0;
+    CHECK(!slot.live && blocks == 0);
+}
+
+static void refused_streams(void) {
+    CHECK(sctp_assoc_write(&ends[0], 1, 53, bytes, 1) == SCTP_ASSOC_NO_STREAM);
+    CHECK(sctp_assoc_read(&ends[0], 1, bytes, sizeof bytes, &length, &number) == SCTP_ASSOC_NO_STREAM);
+    CHECK(sctp_assoc_finish(&ends[0], 1) == SCTP_ASSOC_NO_STREAM);
+    CHECK(sctp_assoc_set_reliability(&ends[0], 1, true, 0, 0) == SCTP_ASSOC_NO_STREAM);
+    CHECK(sctp_assoc_buffered_amount(&ends[0], 1, &length) == SCTP_ASSOC_NO_STREAM);
+    CHECK(done(sctp_assoc_open_stream(&ends[0], 1, SCTP_ASSOC_PPID_BINARY)));
+    CHECK(sctp_assoc_open_stream(&ends[0], 1, SCTP_ASSOC_PPID_BINARY) == SCTP_ASSOC_STREAM_EXISTS);
+    CHECK(sctp_assoc_write(&ends[0], 1, 53, bytes, 0) == SCTP_ASSOC_EMPTY_MESSAGE);
+    CHECK(sctp_assoc_write(&ends[0], 1, 53, bytes, 65537) == SCTP_ASSOC_MESSAGE_TOO_LONG);
+    CHECK(sctp_assoc_read(&ends[0], 1, bytes, sizeof bytes, &length, &number) == SCTP_ASSOC_NOTHING);
+    CHECK(sctp_assoc_accept_stream(&ends[0], &stream) == SCTP_ASSOC_NOTHING);
+    CHECK(sctp_assoc_poll_event(&ends[0], &event) == SCTP_ASSOC_NOTHING);
+    CHECK(sctp_assoc_poll_transmit(&ends[0], 0, bytes, sizeof bytes, &length) == SCTP_ASSOC_NOTHING);
+    CHECK(sctp_assoc_poll_timeout(&ends[0], &moment) == SCTP_ASSOC_NOTHING);
+}
+
+/* A datagram and a message that do not fit stay, until they do. */
+static void no_room(void) {
+    fill(bytes, 100, 1);
+    CHECK(done(sctp_assoc_write(&ends[0], 1, 51, bytes, 100)));
+    uint8_t datagram[200];
+    length = 0;
+    CHECK(sctp_assoc_poll_transmit(&ends[0], 0, datagram, 10, &length) == SCTP_ASSOC_NO_ROOM && length == 128);
+    CHECK(sctp_assoc_poll_transmit(&ends[0], 0, datagram, 128, &length) == SCTP_ASSOC_DONE && length == 128);
+    CHECK(done(sctp_assoc_handle_datagram(&ends[1], 0, datagram, 128, &number)) && number == SCTP_ASSOC_TAKEN);
+
+    datagram[127] ^= 1;
+    CHECK(done(sctp_assoc_handle_datagram(&ends[1], 0, datagram, 128, &number)) && number == SCTP_ASSOC_NO_PACKET);
+    CHECK(done(sctp_assoc_handle_datagram(&ends[1], 0, datagram, 0, &number)) && number == SCTP_ASSOC_NO_PACKET);
+    datagram[127] ^= 1;
+    CHECK(done(sctp_assoc_handle_datagram(&ends[0], 0, datagram, 128, &number)) && number == SCTP_ASSOC_OTHER_TAG);
+
+    uint8_t short_one[99], whole[100];
+    CHECK(sctp_assoc_read(&ends[1], 1, short_one, 99, &length, &number) == SCTP_ASSOC_NO_ROOM && length == 100);
+    CHECK(sctp_assoc_read(&ends[1], 1, whole, 100, &length, &number) == SCTP_ASSOC_DONE && length == 100);
+    CHECK(number == SCTP_ASSOC_PPID_STRING && !memcmp(whole, bytes, 100));
+    CHECK(sctp_assoc_read(&ends[1], 1, whole, 100, &length, &number) == SCTP_ASSOC_NOTHING);
+}
+
+/* An INIT that comes again changes nothing. */
+static void repeated_init(void) {
+    sctp_assoc_config config = default_config();
+    sctp_assoc_identity client = identity(1), server = identity(2);
+    uint8_t init[200], datagram[300];
+    size_t init_length;
+    CHECK(done(sctp_assoc_client(&ends[0], &config, PAYLOAD_SIZE, &client, 0)));
+    CHECK(done(sctp_assoc_server(&ends[1], &config, PAYLOAD_SIZE, &server, 0)));
+    CHECK(sctp_assoc_write(&ends[0], 1, 53, bytes, 1) == SCTP_ASSOC_NO_STREAM);
+    CHECK(done(sctp_assoc_open_stream(&ends[0], 1, 53)));
+    CHECK(sctp_assoc_write(&ends[0], 1, 53, bytes, 1) == SCTP_ASSOC_NOT_ESTABLISHED);
+    CHECK(done(sctp_assoc_is_closed(&ends[0], &answer)) && !answer);
+    CHECK(done(sctp_assoc_is_closed(&ends[1], &answer)) && answer);
+    CHECK(done(sctp_assoc_poll_transmit(&ends[0], 0, init, sizeof init, &init_length)));
+    CHECK(done(sctp_assoc_poll_timeout(&ends[0], &moment)) && moment == 3000 * MS);
+    CHECK(done(sctp_assoc_handle_datagram(&ends[1], 0, init, init_length, &number)) && number == SCTP_ASSOC_TAKEN);
+    for (int i = 0; i < 2; i++) {
+        pass_on(&ends[1], &ends[0], 0);
+        pass_on(&ends[0], &ends[1], 0);
+    }
+    CHECK(done(sctp_assoc_is_established(&ends[1], &answer)) && answer);
+    CHECK(done(sctp_assoc_handle_datagram(&ends[1], 0, init, init_length, &number)));
+    CHECK(number == SCTP_ASSOC_REPEATED_INIT);
+    CHECK(!done(sctp_assoc_poll_transmit(&ends[1], 0, datagram, sizeof datagram, &length)));
+    CHECK(done(sctp_assoc_is_established(&ends[1], &answer)) && answer);
+    free_both(ends);
+}
+
+static bool take_event(sctp_assoc *end, uint32_t kind) {
+    while (done(sctp_assoc_poll_event(end, &event)))
+        if (event.kind == kind)
+            return true;
+    return false;
+}
+
+static void closed(void) {
+    CHECK(done(sctp_assoc_finish(&ends[0], 1)));
+    CHECK(sctp_assoc_write(&ends[0], 1, 53, bytes, 1) == SCTP_ASSOC_STREAM_CLOSED);
+    CHECK(take_event(&ends[1], SCTP_ASSOC_EVENT_OPENED) && event.stream == 1);
+    CHECK(take_event(&ends[1], SCTP_ASSOC_EVENT_DATAGRAM_RECEIVED));
+    CHECK(take_event(&ends[1], SCTP_ASSOC_EVENT_READABLE) && event.stream == 1);
+    CHECK(done(sctp_assoc_close(&ends[1])));
+    CHECK(take_event(&ends[1], SCTP_ASSOC_EVENT_STREAM_ENDED) && event.stream == 1);
+    CHECK(event.counters.messages_received == 1 && event.counters.bytes_received == 100);
+    CHECK(take_event(&ends[1], SCTP_ASSOC_EVENT_LOST) && event.reason == SCTP_ASSOC_REASON_CLOSED);
+    CHECK(done(sctp_assoc_is_closed(&ends[1], &answer)) && answer);
+    CHECK(done(sctp_assoc_close(&ends[1])));
+    CHECK(!done(sctp_assoc_poll_event(&ends[1], &event)));
+}
+
+/* A poll that finds no memory fails the association, and every call says so. */
+static void out_of_memory(void) {
+    CHECK(done(sctp_assoc_open_stream(&ends[0], 2, 53)));
+    CHECK(done(sctp_assoc_write(&ends[0], 2, 53, bytes, 1)));
+    CHECK(done(sctp_assoc_is_failed(&ends[0], &answer)) && !answer);
+    refused_from = growths + 1, refused_to = UINT64_MAX;
+    CHECK(sctp_assoc_poll_transmit(&ends[0], 0, bytes, sizeof bytes, &length) == SCTP_ASSOC_NO_MEMORY);
+    refused_from = refused_to = 0;
+    CHECK(done(sctp_assoc_is_failed(&ends[0], &answer)) && answer);
+    CHECK(sctp_assoc_poll_transmit(&ends[0], 0, bytes, sizeof bytes, &length) == SCTP_ASSOC_FAILED);
+    CHECK(sctp_assoc_handle_datagram(&ends[0], 0, bytes, 20, &number) == SCTP_ASSOC_FAILED);
+    CHECK(sctp_assoc_handle_timeout(&ends[0], 0) == SCTP_ASSOC_FAILED);
+    CHECK(sctp_assoc_poll_event(&ends[0], &event) == SCTP_ASSOC_FAILED);
+    CHECK(sctp_assoc_open_stream(&ends[0], 3, 53) == SCTP_ASSOC_FAILED);
+    CHECK(sctp_assoc_accept_stream(&ends[0], &stream) == SCTP_ASSOC_NOTHING);
+    CHECK(sctp_assoc_write(&ends[0], 2, 53, bytes, 1) == SCTP_ASSOC_FAILED);
+    CHECK(sctp_assoc_read(&ends[0], 2, bytes, sizeof bytes, &length, &number) == SCTP_ASSOC_FAILED);
+    CHECK(sctp_assoc_finish(&ends[0], 2) == SCTP_ASSOC_FAILED);
+    CHECK(sctp_assoc_set_reliability(&ends[0], 2, true, 0, 0) == SCTP_ASSOC_FAILED);
+    CHECK(sctp_assoc_buffered_amount(&ends[0], 2, &length) == SCTP_ASSOC_FAILED);
+    CHECK(sctp_assoc_close(&ends[0]) == SCTP_ASSOC_FAILED);
+    CHECK(sctp_assoc_poll_timeout(&ends[0], &moment) == SCTP_ASSOC_NOTHING);
+}
+
+/* Lets the timers of a client expire until it gives up. */
+static void expire_until_failed(sctp_assoc *end, uint32_t reason) {
+    while (done(sctp_assoc_poll_timeout(end, &moment))) {
+        CHECK(done(sctp_assoc_handle_timeout(end, moment)));
+        while (done(sctp_assoc_poll_transmit(end, moment, bytes, sizeof bytes, &length)))
+            ;
+    }
+    CHECK(take_event(end, SCTP_ASSOC_EVENT_HANDSHAKE_FAILED) && event.reason == reason);
+}
+
+static void failed_handshakes(void) {
+    sctp_assoc_config config = default_config();
+    sctp_assoc_identity client = identity(1), server = identity(2);
+    config.max_init_retransmits = 2;
+    CHECK(done(sctp_assoc_client(&ends[0], &config, PAYLOAD_SIZE, &client, 0)));
+    expire_until_failed(&ends[0], SCTP_ASSOC_REASON_NO_INIT_ACK);
+    CHECK(done(sctp_assoc_client(&ends[0], &config, PAYLOAD_SIZE, &client, 0)));
+    CHECK(done(sctp_assoc_server(&ends[1], &config, PAYLOAD_SIZE, &server, 0)));
+    pass_on(&ends[0], &ends[1], 0);
+    pass_on(&ends[1], &ends[0], 0);
+    expire_until_failed(&ends[0], SCTP_ASSOC_REASON_NO_COOKIE_ACK);
+    free_both(ends);
+}
+
+/* A message that does not fit into the receive buffer can never be read. */
+static void exhausted(void) {
+    sctp_assoc_config config = default_config();
+    config.max_receive_buffer_size = 1500;
+    config.max_receive_message_size = 65536;
+    shake_hands(ends, &config, 0);
+    CHECK(done(sctp_assoc_open_stream(&ends[0], 1, 53)));
+    CHECK(done(sctp_assoc_write(&ends[0], 1, 53, bytes, 6000)));
+    for (uint64_t now = 0; now < 100000 * MS && !take_event(&ends[1], SCTP_ASSOC_EVENT_LOST); now += 100 * MS) {
+        for (int end = 0; end < 2; end++) {
+            CHECK(done(sctp_assoc_handle_timeout(&ends[end], now)));
+            pass_on(&ends[end], &ends[!end], now);
+        }
+    }
+    CHECK(event.kind == SCTP_ASSOC_EVENT_LOST && event.reason == SCTP_ASSOC_REASON_BUFFER_EXHAUSTED);
+    free_both(ends);
+}
+
+int main(void) {
+    sctp_assoc_config config = default_config();
+    empty_slot();
+    refused_begin();
+    repeated_init();
+    shake_hands(ends, &config, 0);
+    refused_streams();
+    no_room();
+    closed();
+    out_of_memory();
+    free_both(ends);
+    failed_handshakes();
+    exhausted();
+    puts("codes: ok");
+    return 0;
+}

@@ -1,0 +1,117 @@
+/* What the tests of the C interface share: a heap that can refuse, two ends and what goes between them. */
+#ifndef SUPPORT_H
+#define SUPPORT_H
+
+#define SCTP_ASSOC_HEAP
+#include "sctp_assoc.h"
+
+#include <stdint.h>
+#include <stdio.h>
+#include <stdlib.h>
+#include <string.h>
+
+#define PAYLOAD_SIZE 1172
+#define MS UINT64_C(1000000)
+
+/* Ends the program where something that a test states is not so. */
+#define CHECK(is_so) ((is_so) ? (void)0 : failed(__FILE__, __LINE__, #is_so))
+
+static void failed(const char *file, int line, const char *stated) {
+    fprintf(stderr, "%s:%d: not so: %s\n", file, line, stated);
+    exit(1);
+}
+
+/* ---- A heap that can refuse ---- */
+
+static uint64_t growths;                   /* how often memory was asked for */
+static uint64_t refused_from, refused_to;  /* of these the first that is refused, and the first after it that is not */
+static uint64_t blocks;                    /* blocks that were not given back */
+
+static bool is_refused(void) {
+    growths++;
+    return growths >= refused_from && growths < refused_to;
+}
+
+sctp_assoc_block rattle_alloc(size_t size, size_t align) {
+    CHECK(align <= 16);
+    void *at = is_refused() ? NULL : malloc(size ? size : 1);
+    blocks += at != NULL;
+    return (sctp_assoc_block){at, at ? at : &growths};
+}
+
+sctp_assoc_block rattle_realloc(void *old, size_t kept, size_t size, size_t align) {
+    (void)kept;
+    CHECK(align <= 16);
+    void *at = is_refused() ? NULL : realloc(old, size ? size : 1);
+    return (sctp_assoc_block){at, at ? at : &growths};
+}
+
+void rattle_dealloc(void *at) {
+    CHECK(blocks > 0);
+    blocks--;
+    free(at);
+}
+
+/* ---- Two ends ---- */
+
+/* Whether the call was done; it may answer that there is nothing, and no other code. */
+static bool done(sctp_assoc_code code) {
+    if (code != SCTP_ASSOC_DONE && code != SCTP_ASSOC_NOTHING)
+        fprintf(stderr, "code %u\n", (unsigned)code);
+    CHECK(code == SCTP_ASSOC_DONE || code == SCTP_ASSOC_NOTHING);
+    return code == SCTP_ASSOC_DONE;
+}
+
+static sctp_assoc_identity identity(uint32_t tag) {
+    sctp_assoc_identity named = {.tag = tag, .initial_tsn = tag * 1000};
+    memset(named.cookie, (int)tag, sizeof named.cookie);
+    return named;
+}
+
+static sctp_assoc_config default_config(void) {
+    sctp_assoc_config config;
+    CHECK(sctp_assoc_default_config(&config) == SCTP_ASSOC_DONE);
+    return config;
+}
+
+/* The bytes of the message with this number; two numbers give other bytes from the fourth one on. */
+static void fill(uint8_t *message, size_t length, uint32_t number) {
+    for (size_t i = 0; i < length; i++)
+        message[i] = (uint8_t)(i < 4 ? number >> (8 * i) : number * 31 + i * 7);
+}
+
+/* Hands over all that `from` has to send at `now`. */
+static inline void pass_on(sctp_assoc *from, sctp_assoc *to, uint64_t now) {
+    uint8_t datagram[PAYLOAD_SIZE + 28];
+    size_t length;
+    while (done(sctp_assoc_poll_transmit(from, now, datagram, sizeof datagram, &length))) {
+        uint32_t fate;
+        CHECK(done(sctp_assoc_handle_datagram(to, now, datagram, length, &fate)));
+        CHECK(fate == SCTP_ASSOC_TAKEN);
+    }
+}
+
+/* Makes a client and a server, and lets them shake hands. */
+static inline void shake_hands(sctp_assoc ends[2], const sctp_assoc_config *config, uint64_t now) {
+    sctp_assoc_identity client = identity(1), server = identity(2);
+    CHECK(done(sctp_assoc_client(&ends[0], config, PAYLOAD_SIZE, &client, now)));
+    CHECK(done(sctp_assoc_server(&ends[1], config, PAYLOAD_SIZE, &server, now)));
+    for (int i = 0; i < 2; i++) {
+        pass_on(&ends[0], &ends[1], now);
+        pass_on(&ends[1], &ends[0], now);
+    }
+    for (int end = 0; end < 2; end++) {
+        sctp_assoc_event event;
+        CHECK(done(sctp_assoc_poll_event(&ends[end], &event)) && event.kind == SCTP_ASSOC_EVENT_CONNECTED);
+        bool answer = false;
+        CHECK(done(sctp_assoc_is_established(&ends[end], &answer)) && answer);
+    }
+}
+
+static inline void free_both(sctp_assoc ends[2]) {
+    for (int end = 0; end < 2; end++)
+        CHECK(sctp_assoc_free(&ends[end]) == SCTP_ASSOC_DONE);
+    CHECK(blocks == 0);
+}
+
+#endif
