@@ -12,7 +12,12 @@ use Rattle.box_parts.specs.contracts.Parts as Parts
 use Rattle.sctp_c.specs.contracts.handle.Handle as Handle
 
 abbrev pub E : Bx
-E = record { row = Engine.the_row; laws = engine.the_row_laws; al = record { row = Heap.the_row; laws = heap.the_row_laws; g = ghosts; d = dict; drops = impl [] tnil dnil } }
+E = record {
+  row = Engine.the_row;
+  laws = engine.the_row_laws;
+  al =
+      record { row = Heap.the_row; laws = heap.the_row_laws; g = ghosts; d = dict; drops = impl [] tnil dnil };
+}
 
 abbrev pub FromParts : Slot 0
 FromParts = plain (λ _. Parts.the_row Engine.the_row Heap.the_row ghosts)

@@ -10,10 +10,10 @@ use Rattle.sctp_wire_types.specs.declared.ids.PayloadProtocolIdentifier.{Payload
 use Rattle.sctp_wire_types.specs.declared.ids.PayloadProtocolIdentifier.TheVariants as kinds
 use Rattle.sctp_wire_types.specs.Ids.{identifier_of, number_of}
 use Rattle.sctp_assoc.specs.Calls.{Refuses, RefusesOrLacksMemory}
-use Rattle.sctp_driver.specs.declared.messages.Read.{Read}
-use Rattle.sctp_driver.specs.declared.messages.Read.TheVariants as reads
-use Rattle.sctp_driver.specs.declared.sending.Sent.{Sent}
-use Rattle.sctp_driver.specs.declared.sending.Sent.TheVariants as sendings
+use Rattle.sctp_driver.specs.declared.messages.ReadAnswer.{ReadAnswer}
+use Rattle.sctp_driver.specs.declared.messages.ReadAnswer.TheVariants as reads
+use Rattle.sctp_driver.specs.declared.sending.PollAnswer.{PollAnswer}
+use Rattle.sctp_driver.specs.declared.sending.PollAnswer.TheVariants as sendings
 use Rattle.sctp_driver.specs.Driving.{Driving, KeptMessage}
 use Rattle.sctp_driver.specs.Messages.{GivesAt, Reads, index_of}
 use Rattle.sctp_driver.specs.Sending.{Sends, Takes}
@@ -216,18 +216,19 @@ pub when_failed : {T : Type 0} (answer : Result T Error) (P : Type 0)
 when_failed (Ok answer) P so same = absurd (omega (arith, same))
 when_failed (Err e) P so same = so (ap Err (failed_code e same))
 
-pub when_answered : {T : Type 0} (answer : Result T Error) (P : T → Type 0) → IfOk answer P → IfSome (answer_in answer) P
+pub when_answered : {T : Type 0} (answer : Result T Error) (P : T → Type 0) → IfOk answer P
+    → IfSome (answer_in answer) P
 when_answered (Ok answer) P holds = holds
 when_answered (Err e) P holds = tt
 
-pub sent_memory : (answer : Result Sent Error) (P : Type 0)
+pub sent_memory : (answer : Result PollAnswer Error) (P : Type 0)
     → (answer ≡ Err errors.ErrNoMemory → P) → code_with sent_code answer ≡ 2 → P
 sent_memory (Ok (sendings.Datagram n)) P so same = absurd (omega (arith, same))
 sent_memory (Ok sendings.Nothing) P so same = absurd (omega (arith, same))
 sent_memory (Ok (sendings.NoRoom n)) P so same = absurd (omega (arith, same))
 sent_memory (Err e) P so same = so (ap Err (memory_code e same))
 
-pub sent_failed : (answer : Result Sent Error) (P : Type 0)
+pub sent_failed : (answer : Result PollAnswer Error) (P : Type 0)
     → (answer ≡ Err errors.ErrAssociationFailed → P) → code_with sent_code answer ≡ 10 → P
 sent_failed (Ok (sendings.Datagram n)) P so same = absurd (omega (arith, same))
 sent_failed (Ok sendings.Nothing) P so same = absurd (omega (arith, same))
@@ -235,7 +236,7 @@ sent_failed (Ok (sendings.NoRoom n)) P so same = absurd (omega (arith, same))
 sent_failed (Err e) P so same = so (ap Err (failed_code e same))
 
 -- where no datagram is given the buffer stays as it was
-takes_none : (waiting : List (List ℕ)) (buffer : List ℕ) (a : Sent) (left : List (List ℕ)) (filled : List ℕ)
+takes_none : (waiting : List (List ℕ)) (buffer : List ℕ) (a : PollAnswer) (left : List (List ℕ)) (filled : List ℕ)
     → Takes waiting buffer a left filled → sent_code a ≢ 0 → filled ≡ buffer
 takes_none waiting buffer (sendings.Datagram n) left filled holds other = absurd (other refl)
 takes_none [] buffer sendings.Nothing left filled holds other = holds.1
@@ -243,7 +244,7 @@ takes_none (w ∷ ws) buffer sendings.Nothing left filled holds other = absurd h
 takes_none [] buffer (sendings.NoRoom n) left filled holds other = absurd holds
 takes_none (w ∷ ws) buffer (sendings.NoRoom n) left filled holds other = holds.3
 
-pub unfilled_sent : (d e : Driving) (buffer filled : List ℕ) (answer : Result Sent Error)
+pub unfilled_sent : (d e : Driving) (buffer filled : List ℕ) (answer : Result PollAnswer Error)
     → IfOk answer (λ a. Sends d buffer a e filled) → OnErr answer (filled ≡ buffer)
     → code_with sent_code answer ≢ 0 → filled ≡ buffer
 unfilled_sent d e buffer filled (Ok a) holds refused other =
@@ -251,7 +252,7 @@ unfilled_sent d e buffer filled (Ok a) holds refused other =
 unfilled_sent d e buffer filled (Err f) holds refused other = refused
 
 -- the same of a message
-gives_none : (index : Option ℕ) (kept : List KeptMessage) (buffer : List ℕ) (a : Read) (left : List KeptMessage)
+gives_none : (index : Option ℕ) (kept : List KeptMessage) (buffer : List ℕ) (a : ReadAnswer) (left : List KeptMessage)
     (filled : List ℕ) → GivesAt index kept buffer a left filled → read_code a ≢ 0 → filled ≡ buffer
 gives_none index kept buffer (reads.Message kind n) left filled holds other = absurd (other refl)
 gives_none None kept buffer reads.Nothing left filled holds other = holds.1
@@ -259,7 +260,7 @@ gives_none (Some i) kept buffer reads.Nothing left filled holds other = absurd h
 gives_none None kept buffer (reads.NoRoom n) left filled holds other = absurd holds
 gives_none (Some i) kept buffer (reads.NoRoom n) left filled holds other = holds.3
 
-pub unfilled_read : (d e : Driving) (id : ℕ) (buffer filled : List ℕ) (answer : Result Read Error)
+pub unfilled_read : (d e : Driving) (id : ℕ) (buffer filled : List ℕ) (answer : Result ReadAnswer Error)
     → IfOk answer (λ a. Reads d id buffer a e filled) → OnErr answer (filled ≡ buffer)
     → code_with read_code answer ≢ 0 → filled ≡ buffer
 unfilled_read d e id buffer filled (Ok a) holds refused other =
@@ -288,7 +289,8 @@ when_joined (Ok d) None code same (inl done) = inr done
 when_joined (Ok d) None code same (inr lacks) = inl lacks
 when_joined (Ok d) (Some f) code (inr same) placed = absurd (none-some f (sym same))
 when_joined (Ok d) (Some f) code (inl same) placed = absurd (true≢false (ap is_ok same))
-when_joined (Err e) refusal code (inl same) placed = inl (placed ∙ ap refusal_code (same_error e errors.ErrNoMemory (Err e) same refl))
+when_joined (Err e) refusal code (inl same) placed =
+    inl (placed ∙ ap refusal_code (same_error e errors.ErrNoMemory (Err e) same refl))
 when_joined (Err e) None code (inr same) placed = absurd (none-some e same)
 when_joined (Err e) (Some f) code (inr same) placed = inr (placed ∙ ap refusal_code (sym (same_Some f e same)))
 
@@ -306,7 +308,8 @@ pub when_timed : (answer : Result Unit Error) (code now : ℕ) (before after : O
 when_timed answer code now before after d o e n is_d is_e lent left holds same done =
     subst (λ (b : Option Driving). OnHeld b after (λ d e. e ≡ with_association d (after_timeouts d.association now)))
     (sym is_d)
-    (subst (λ (a : Option Driving). OnHeld (Some d) a (λ d e. e ≡ with_association d (after_timeouts d.association now)))
+    (subst (λ (a : Option Driving). OnHeld (Some d) a
+    (λ d e. e ≡ with_association d (after_timeouts d.association now)))
     (sym is_e)
     (left ∙ subst (λ (b : Driving). n ≡ with_association b (after_timeouts b.association now)) lent
     (when_done answer (n ≡ with_association o (after_timeouts o.association now)) holds (sym same ∙ done))))

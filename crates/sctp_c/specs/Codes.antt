@@ -7,12 +7,12 @@ use Rattle.sctp_wire_types.specs.declared.reliability.ReliabilityType.{Reliabili
 use Rattle.sctp_wire_types.specs.declared.reliability.ReliabilityType.TheVariants as kinds
 use Rattle.sctp_wire_types.specs.Errors.{refusal_number}
 use Rattle.sctp_wire_types.specs.Ids.{identifier_of}
-use Rattle.sctp_driver.specs.declared.messages.Read.{Read}
-use Rattle.sctp_driver.specs.declared.messages.Read.TheVariants as reads
-use Rattle.sctp_driver.specs.declared.sending.Sent.{Sent}
-use Rattle.sctp_driver.specs.declared.sending.Sent.TheVariants as sendings
-use Rattle.sctp_driver.specs.declared.tags.Received.{Received}
-use Rattle.sctp_driver.specs.declared.tags.Received.TheVariants as fates
+use Rattle.sctp_driver.specs.declared.messages.ReadAnswer.{ReadAnswer}
+use Rattle.sctp_driver.specs.declared.messages.ReadAnswer.TheVariants as reads
+use Rattle.sctp_driver.specs.declared.sending.PollAnswer.{PollAnswer}
+use Rattle.sctp_driver.specs.declared.sending.PollAnswer.TheVariants as sendings
+use Rattle.sctp_driver.specs.declared.tags.DatagramAnswer.{DatagramAnswer}
+use Rattle.sctp_driver.specs.declared.tags.DatagramAnswer.TheVariants as fates
 
 -- 2 for want of memory, and else 5 and the number of the refusal
 abbrev pub refusal_code : Error → ℕ
@@ -29,12 +29,12 @@ abbrev pub code_with : {T : Type 0} → (T → ℕ) → Result T Error → ℕ
 code_with code (Ok answer) = code answer
 code_with code (Err e) = refusal_code e
 
-abbrev pub sent_code : Sent → ℕ
+abbrev pub sent_code : PollAnswer → ℕ
 sent_code (sendings.Datagram n) = 0
 sent_code sendings.Nothing = 3
 sent_code (sendings.NoRoom n) = 4
 
-abbrev pub read_code : Read → ℕ
+abbrev pub read_code : ReadAnswer → ℕ
 read_code (reads.Message kind n) = 0
 read_code reads.Nothing = 3
 read_code (reads.NoRoom n) = 4
@@ -50,24 +50,24 @@ answer_in (Ok answer) = Some answer
 answer_in (Err e) = None
 
 -- the numbers of what becomes of a datagram
-abbrev pub fate_of : ℕ → Received
+abbrev pub fate_of : ℕ → DatagramAnswer
 fate_of fate =
     if fate == 0 then fates.Taken else
     if fate == 1 then fates.NoPacket else
     if fate == 2 then fates.OtherTag else fates.RepeatedInit
 
-abbrev pub received_by : ℕ → ℕ → Option Received
+abbrev pub received_by : ℕ → ℕ → Option DatagramAnswer
 received_by code fate = if code == 0 then Some (fate_of fate) else None
 
 -- what the code and the length say that a poll for datagrams gave; None where it was refused
-abbrev pub sent_by : ℕ → ℕ → Option Sent
+abbrev pub sent_by : ℕ → ℕ → Option PollAnswer
 sent_by code length =
     if code == 0 then Some (sendings.Datagram length) else
     if code == 3 then Some sendings.Nothing else
     if code == 4 then Some (sendings.NoRoom length) else None
 
 -- what the code, the length and the payload protocol identifier say that a read gave; None where it was refused
-abbrev pub read_by : ℕ → ℕ → ℕ → Option Read
+abbrev pub read_by : ℕ → ℕ → ℕ → Option ReadAnswer
 read_by code length payload_type =
     if code == 0 then Some (reads.Message (identifier_of payload_type) length) else
     if code == 3 then Some reads.Nothing else

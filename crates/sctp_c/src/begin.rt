@@ -6,7 +6,7 @@ ghost use Rattle.sctp_assoc.specs.Calls.{failed_refusal};
 ghost use Rattle.sctp_assoc.specs.Calls.{Refuses};
 ghost use Rattle.sctp_assoc.specs.Closing.{closed_by};
 ghost use Rattle.sctp_assoc.specs.Created.{client, create_refusal, join_refusal, joined, server};
-ghost use Rattle.sctp_driver.specs.Driving.{Fails, begun_with, with_association};
+ghost use Rattle.sctp_driver.specs.Driving.{RunsOutOfMemory, begun_with, with_association};
 ghost use Rattle.sctp_c.specs.Codes.{code_of};
 ghost use Rattle.sctp_c.specs.Configs.{settings_of, token_chunk};
 ghost use Rattle.sctp_c.specs.Slots.{IsCode, IsCodeOrLacksMemory, IsPlaced, OnHeld, RefusesBy};
@@ -53,7 +53,7 @@ pub extern "C" fn sctp_assoc_client(
     ensures code { IsCodeOrLacksMemory (create_refusal max_payload_size identity.now.initial_tsn) result }
     ensures created { result ≡ 0 → IsSomeAnd slot.new.handle.driver (λ d. d ≡ begun_with
         (client (settings_of config.now) max_payload_size identity.now.tag identity.now.initial_tsn
-            identity.now.cookie d.association.remote_addr None now) identity.now.tag) }
+        identity.now.cookie d.association.remote_addr None now) identity.now.tag) }
     ensures left { result ≢ 0 → slot.new.handle.driver ≡ slot.old.handle.driver }
 {
     let made = Driver::client(
@@ -82,7 +82,7 @@ pub extern "C" fn sctp_assoc_server(
     ensures code { IsCodeOrLacksMemory (create_refusal max_payload_size identity.now.initial_tsn) result }
     ensures created { result ≡ 0 → IsSomeAnd slot.new.handle.driver (λ d. d ≡ begun_with
         (server (settings_of config.now) max_payload_size identity.now.tag identity.now.initial_tsn
-            identity.now.cookie d.association.remote_addr None) identity.now.tag) }
+        identity.now.cookie d.association.remote_addr None) identity.now.tag) }
     ensures left { result ≢ 0 → slot.new.handle.driver ≡ slot.old.handle.driver }
 {
     let made = Driver::server(
@@ -135,7 +135,7 @@ pub extern "C" fn sctp_assoc_joined(
         ⊎ IsCode (join_refusal max_payload_size (token_chunk local.now) (token_chunk remote.now)) result }
     ensures created { result ≡ 0 → IsSomeAnd slot.new.handle.driver (λ d. d ≡ begun_with
         (joined (settings_of config.now) max_payload_size d.association.remote_addr None
-            (token_chunk local.now) (token_chunk remote.now)) local.now.tag) }
+        (token_chunk local.now) (token_chunk remote.now)) local.now.tag) }
     ensures left { result ≢ 0 → slot.new.handle.driver ≡ slot.old.handle.driver }
 {
     let made = by_tokens(alloc, config, max_payload_size, local, remote);
@@ -159,23 +159,15 @@ pub extern "C" fn sctp_assoc_free(slot: &mut Slot, alloc: Global) -> u32
 
 /// Closes the association.
 #[unsafe(no_mangle)]
-#[tactic(
-    auto,
-    using(
-        crate::proofs::Refusals::of_refusal_or_memory,
-        crate::proofs::Refusals::when_done,
-        crate::proofs::Refusals::when_failed,
-        crate::proofs::Refusals::when_memory
-    )
-)]
+#[tactic(auto, using(crate::proofs::Refusals::of_refusal_or_memory, crate::proofs::Refusals::when_done, crate::proofs::Refusals::when_failed, crate::proofs::Refusals::when_memory))]
 pub extern "C" fn sctp_assoc_close(slot: &mut Slot, alloc: Global) -> u32
     ensures code { RefusesOrLacksMemoryBy (λ d. failed_refusal d.association)
         slot.old.handle.driver result }
     ensures done { result ≡ 0 → OnHeld slot.old.handle.driver slot.new.handle.driver
         (λ d e. e ≡ with_association d
-            (closed_by d.association reasons.AssociationClosed)) }
+        (closed_by d.association reasons.AssociationClosed)) }
     ensures refused { result ≡ 10 → slot.new.handle.driver ≡ slot.old.handle.driver }
-    ensures memory { result ≡ 2 → OnHeld slot.old.handle.driver slot.new.handle.driver (λ d e. Fails d e) }
+    ensures memory { result ≡ 2 → OnHeld slot.old.handle.driver slot.new.handle.driver (λ d e. RunsOutOfMemory d e) }
 {
     let Some(mut driver) = slot.take(alloc) else {
         return EMPTY_SLOT;

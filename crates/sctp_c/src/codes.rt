@@ -7,6 +7,7 @@ use sctp_driver::Error;
 pub(crate) const DONE: u32 = 0;
 /// The slot is empty.
 pub(crate) const EMPTY_SLOT: u32 = 1;
+
 pub(crate) const NO_MEMORY: u32 = 2;
 /// No datagram is due, no event waits, no message is ready, no stream is to be accepted, or no timer runs.
 pub(crate) const NOTHING: u32 = 3;

@@ -3,8 +3,8 @@ ghost use Rattle.std.specs.Prelude.{◌≡◌, ◌≢◌, ◌⊎◌, None, IfSom
 ghost use Rattle.sctp_parts.specs.Timers.{least_moment};
 ghost use Rattle.sctp_assoc.specs.Chunks.{after_packet};
 ghost use Rattle.sctp_assoc.specs.Timeouts.{after_timeouts};
-ghost use Rattle.sctp_driver.specs.declared.tags.Received.TheVariants as fates;
-ghost use Rattle.sctp_driver.specs.Driving.{Fails, with_association};
+ghost use Rattle.sctp_driver.specs.declared.tags.DatagramAnswer.TheVariants as fates;
+ghost use Rattle.sctp_driver.specs.Driving.{RunsOutOfMemory, with_association};
 ghost use Rattle.sctp_driver.specs.Sending.{Sends, asked};
 ghost use Rattle.sctp_driver.specs.Tags.{answer_to, packet_in};
 ghost use Rattle.sctp_c.specs.Codes.{answer_in, code_of, fate_of, code_with, found_by, received_by};
@@ -13,23 +13,23 @@ ghost use Rattle.sctp_c.specs.Slots.{OnAny, OnHeld};
 
 use crate::codes::{DONE, EMPTY_SLOT, NO_ROOM, NOTHING, code_of, refusal_code};
 use crate::slot::Slot;
-use sctp_driver::{Error, Received, Sent};
+use sctp_driver::{DatagramAnswer, Error, PollAnswer};
 use std::alloc::Global;
 
-fn fate_of(received: Received) -> u32
+fn fate_of(received: DatagramAnswer) -> u32
     ensures { fate_of result ≡ received }
 {
     match received {
-        Received::Taken => 0,
-        Received::NoPacket => 1,
-        Received::OtherTag => 2,
-        Received::RepeatedInit => 3,
+        DatagramAnswer::Taken => 0,
+        DatagramAnswer::NoPacket => 1,
+        DatagramAnswer::OtherTag => 2,
+        DatagramAnswer::RepeatedInit => 3,
     }
 }
 
 // Writes what became of a datagram.
 #[tactic(auto, using(crate::proofs::Refusals::never_done))]
-fn tell_fate(answer: Result<Received, Error>, fate: &mut u32) -> u32
+fn tell_fate(answer: Result<DatagramAnswer, Error>, fate: &mut u32) -> u32
     ensures answer { received_by result fate.new ≡ answer_in answer }
     ensures code { result ≡ code_of answer }
 {
@@ -44,15 +44,7 @@ fn tell_fate(answer: Result<Received, Error>, fate: &mut u32) -> u32
 
 /// Takes in one datagram.
 #[unsafe(no_mangle)]
-#[tactic(
-    auto,
-    using(
-        crate::proofs::Refusals::when_answered,
-        crate::proofs::Refusals::when_done,
-        crate::proofs::Refusals::when_failed,
-        crate::proofs::Refusals::when_memory
-    )
-)]
+#[tactic(auto, using(crate::proofs::Refusals::when_answered, crate::proofs::Refusals::when_done, crate::proofs::Refusals::when_failed, crate::proofs::Refusals::when_memory))]
 pub extern "C" fn sctp_assoc_handle_datagram(
     slot: &mut Slot,
     alloc: Global,
@@ -66,11 +58,11 @@ pub extern "C" fn sctp_assoc_handle_datagram(
         (λ d e. answer_to d datagram.now ≢ fates.Taken → e ≡ d) }
     ensures taken { result ≡ 0 → OnHeld slot.old.handle.driver slot.new.handle.driver
         (λ d e. answer_to d datagram.now ≡ fates.Taken
-            → e ≡ with_association d (after_packet d.association (packet_in datagram.now) now)) }
+        → e ≡ with_association d (after_packet d.association (packet_in datagram.now) now)) }
     ensures empty { slot.old.handle.driver ≡ None → result ≡ 1 }
     ensures refused { result ≡ 10 → slot.new.handle.driver ≡ slot.old.handle.driver }
     ensures memory { result ≡ 2 → OnHeld slot.old.handle.driver slot.new.handle.driver
-        (λ d e. (e ≡ d) ⊎ Fails d e) }
+        (λ d e. (e ≡ d) ⊎ RunsOutOfMemory d e) }
 {
     let Some(mut driver) = slot.take(alloc) else {
         return EMPTY_SLOT;
@@ -82,17 +74,17 @@ pub extern "C" fn sctp_assoc_handle_datagram(
 
 // Writes how long the datagram is that was given, or that did not fit.
 #[tactic(auto, using(crate::proofs::Refusals::none_sent))]
-fn tell_sent(answer: Result<Sent, Error>, length: &mut usize) -> u32
+fn tell_sent(answer: Result<PollAnswer, Error>, length: &mut usize) -> u32
     ensures answer { sent_by result length.new ≡ answer_in answer }
     ensures code { result ≡ code_with sent_code answer }
 {
     match answer {
-        Ok(Sent::Datagram { length: sent }) => {
+        Ok(PollAnswer::Datagram { length: sent }) => {
             *length = sent;
             DONE
         }
-        Ok(Sent::Nothing) => NOTHING,
-        Ok(Sent::NoRoom { length: wanted }) => {
+        Ok(PollAnswer::Nothing) => NOTHING,
+        Ok(PollAnswer::NoRoom { length: wanted }) => {
             *length = wanted;
             NO_ROOM
         }
@@ -102,15 +94,7 @@ fn tell_sent(answer: Result<Sent, Error>, length: &mut usize) -> u32
 
 /// Gives the next datagram that is due.
 #[unsafe(no_mangle)]
-#[tactic(
-    auto,
-    using(
-        crate::proofs::Refusals::when_answered,
-        crate::proofs::Refusals::sent_failed,
-        crate::proofs::Refusals::sent_memory,
-        crate::proofs::Refusals::unfilled_sent
-    )
-)]
+#[tactic(auto, using(crate::proofs::Refusals::when_answered, crate::proofs::Refusals::sent_failed, crate::proofs::Refusals::sent_memory, crate::proofs::Refusals::unfilled_sent))]
 pub extern "C" fn sctp_assoc_poll_transmit(
     slot: &mut Slot,
     alloc: Global,
@@ -122,7 +106,7 @@ pub extern "C" fn sctp_assoc_poll_transmit(
         (λ d e. Sends (asked d now) buffer.old answer e buffer.new)) }
     ensures empty { slot.old.handle.driver ≡ None → (result ≡ 1) × (slot.new.handle.driver ≡ None) }
     ensures refused { result ≡ 10 → slot.new.handle.driver ≡ slot.old.handle.driver }
-    ensures memory { result ≡ 2 → OnHeld slot.old.handle.driver slot.new.handle.driver (λ d e. Fails d e) }
+    ensures memory { result ≡ 2 → OnHeld slot.old.handle.driver slot.new.handle.driver (λ d e. RunsOutOfMemory d e) }
     ensures unfilled { (result ≢ 0) → buffer.new ≡ buffer.old }
 {
     let Some(mut driver) = slot.take(alloc) else {
@@ -156,20 +140,13 @@ pub extern "C" fn sctp_assoc_poll_timeout(slot: &mut Slot, alloc: Global, moment
 
 /// Does what the timers that expired ask for.
 #[unsafe(no_mangle)]
-#[tactic(
-    auto,
-    using(
-        crate::proofs::Refusals::when_done,
-        crate::proofs::Refusals::when_failed,
-        crate::proofs::Refusals::when_memory
-    )
-)]
+#[tactic(auto, using(crate::proofs::Refusals::when_done, crate::proofs::Refusals::when_failed, crate::proofs::Refusals::when_memory))]
 pub extern "C" fn sctp_assoc_handle_timeout(slot: &mut Slot, alloc: Global, now: u64) -> u32
     ensures done { result ≡ 0 → OnHeld slot.old.handle.driver slot.new.handle.driver
         (λ d e. e ≡ with_association d (after_timeouts d.association now)) }
     ensures empty { slot.old.handle.driver ≡ None → (result ≡ 1) × (slot.new.handle.driver ≡ None) }
     ensures refused { result ≡ 10 → slot.new.handle.driver ≡ slot.old.handle.driver }
-    ensures memory { result ≡ 2 → OnHeld slot.old.handle.driver slot.new.handle.driver (λ d e. Fails d e) }
+    ensures memory { result ≡ 2 → OnHeld slot.old.handle.driver slot.new.handle.driver (λ d e. RunsOutOfMemory d e) }
 {
     let Some(mut driver) = slot.take(alloc) else {
         return EMPTY_SLOT;

@@ -33,24 +33,41 @@ pub struct Told {
 }
 
 const CONNECTED: u32 = 1;
+
 const HANDSHAKE_FAILED: u32 = 2;
+
 const LOST: u32 = 3;
+
 const DATAGRAM_RECEIVED: u32 = 4;
+
 const STREAM_ENDED: u32 = 5;
+
 const OPENED: u32 = 6;
+
 const READABLE: u32 = 7;
+
 const BUFFERED_LOW: u32 = 8;
+
 const BUFFERED_HIGH: u32 = 9;
+
 const FINISHED: u32 = 10;
+
 const RESET_COMPLETE: u32 = 11;
+
 const RESET_FAILED: u32 = 12;
+
 const OTHER: u32 = 13;
 
 const NO_REASON: u32 = 0;
+
 const NO_INIT_ACK: u32 = 1;
+
 const NO_COOKIE_ACK: u32 = 2;
+
 const CLOSED: u32 = 3;
+
 const BUFFER_EXHAUSTED: u32 = 4;
+
 const OTHER_REASON: u32 = 5;
 
 fn reason_of(reason: AssociationError) -> u32
@@ -130,7 +147,7 @@ fn written(event: Event) -> Told
 pub extern "C" fn sctp_assoc_poll_event(slot: &mut Slot, alloc: Global, event: &mut Told) -> u32
     ensures given { result ≢ 10 → OnAny slot.old.handle.driver slot.new.handle.driver
         (λ d e. (e.association ≡ (event_polled d.association).0)
-            × Tells ((event_polled d.association).1) result event.old event.new) }
+        × Tells ((event_polled d.association).1) result event.old event.new) }
     ensures others { OnAny slot.old.handle.driver slot.new.handle.driver
         (λ d e. e ≡ with_association d e.association) }
     ensures empty { slot.old.handle.driver ≡ None → result ≡ 1 }

@@ -5,8 +5,7 @@ use crate::handle::Handle;
 use box_parts::Parts;
 use sctp_driver::Driver;
 use std::alloc::Global;
-use std::mem;
-use std::ptr;
+use std::{mem, ptr};
 
 /// A slot of 16 bytes that C owns. All bytes 0 is the empty slot. It isn't to be copied: whoever holds it holds the
 /// driver.

@@ -14,19 +14,12 @@ ghost use Rattle.sctp_c.specs.Slots.{OnAny, OnHeld, RefusesBy, RefusesOrLacksMem
 
 use crate::codes::{DONE, EMPTY_SLOT, NO_ROOM, NOTHING, code_of, refusal_code};
 use crate::slot::Slot;
-use sctp_driver::{Error, PayloadProtocolIdentifier, Read, ReliabilityType};
+use sctp_driver::{Error, PayloadProtocolIdentifier, ReadAnswer, ReliabilityType};
 use std::alloc::Global;
 
 /// Makes a stream on this side.
 #[unsafe(no_mangle)]
-#[tactic(
-    auto,
-    using(
-        crate::proofs::Refusals::of_refusal_or_memory,
-        crate::proofs::Refusals::when_done,
-        crate::proofs::Refusals::when_refused
-    )
-)]
+#[tactic(auto, using(crate::proofs::Refusals::of_refusal_or_memory, crate::proofs::Refusals::when_done, crate::proofs::Refusals::when_refused))]
 pub extern "C" fn sctp_assoc_open_stream(
     slot: &mut Slot,
     alloc: Global,
@@ -37,7 +30,7 @@ pub extern "C" fn sctp_assoc_open_stream(
         slot.old.handle.driver result }
     ensures done { result ≡ 0 → OnHeld slot.old.handle.driver slot.new.handle.driver
         (λ d e. e ≡ with_association d
-            (opened d.association stream (identifier_of payload_type))) }
+        (opened d.association stream (identifier_of payload_type))) }
     ensures left { result ≢ 0 → slot.new.handle.driver ≡ slot.old.handle.driver }
 {
     let Some(mut driver) = slot.take(alloc) else {
@@ -50,11 +43,7 @@ pub extern "C" fn sctp_assoc_open_stream(
 
 /// Takes out the oldest stream that the peer opened and that was not accepted yet.
 #[unsafe(no_mangle)]
-pub extern "C" fn sctp_assoc_accept_stream(
-    slot: &mut Slot,
-    alloc: Global,
-    stream: &mut u16,
-) -> u32
+pub extern "C" fn sctp_assoc_accept_stream(slot: &mut Slot, alloc: Global, stream: &mut u16) -> u32
     ensures accepted { OnAny slot.old.handle.driver slot.new.handle.driver (λ d e. accepted_stream d.association
         ≡ (e.association, found_by result stream.new)) }
     ensures others { OnAny slot.old.handle.driver slot.new.handle.driver
@@ -97,14 +86,7 @@ fn code_of_write(answer: Result<usize, Error>) -> u32
 
 /// Accepts one message.
 #[unsafe(no_mangle)]
-#[tactic(
-    auto,
-    using(
-        crate::proofs::Refusals::of_refusal_or_memory,
-        crate::proofs::Refusals::when_done,
-        crate::proofs::Refusals::when_refused
-    )
-)]
+#[tactic(auto, using(crate::proofs::Refusals::of_refusal_or_memory, crate::proofs::Refusals::when_done, crate::proofs::Refusals::when_refused))]
 pub extern "C" fn sctp_assoc_write(
     slot: &mut Slot,
     alloc: Global,
@@ -116,7 +98,7 @@ pub extern "C" fn sctp_assoc_write(
         slot.old.handle.driver result }
     ensures done { result ≡ 0 → OnHeld slot.old.handle.driver slot.new.handle.driver
         (λ d e. e ≡ with_association d
-            (written d.association stream (payload_type_by payload_type) message.now)) }
+        (written d.association stream (payload_type_by payload_type) message.now)) }
     ensures left { result ≢ 0 → slot.new.handle.driver ≡ slot.old.handle.driver }
 {
     let Some(mut driver) = slot.take(alloc) else {
@@ -129,21 +111,23 @@ pub extern "C" fn sctp_assoc_write(
 
 // Writes what is known of the message that was read, or that did not fit.
 #[tactic(auto, using(crate::proofs::Refusals::none_read, crate::proofs::Refusals::number_names))]
-fn tell_read(answer: Result<Read, Error>, length: &mut usize, payload_type: &mut u32) -> u32
+fn tell_read(answer: Result<ReadAnswer, Error>, length: &mut usize, payload_type: &mut u32) -> u32
     ensures answer { read_by result length.new payload_type.new ≡ answer_in answer }
     ensures code { result ≡ code_with read_code answer }
 {
     match answer {
-        Ok(Read::Message {
-            payload_type: kind,
-            length: read,
-        }) => {
+        Ok(
+            ReadAnswer::Message {
+                payload_type: kind,
+                length: read,
+            },
+        ) => {
             *length = read;
             *payload_type = kind.number();
             DONE
         }
-        Ok(Read::Nothing) => NOTHING,
-        Ok(Read::NoRoom { length: wanted }) => {
+        Ok(ReadAnswer::Nothing) => NOTHING,
+        Ok(ReadAnswer::NoRoom { length: wanted }) => {
             *length = wanted;
             NO_ROOM
         }
@@ -153,13 +137,7 @@ fn tell_read(answer: Result<Read, Error>, length: &mut usize, payload_type: &mut
 
 /// Reads the next message of a stream.
 #[unsafe(no_mangle)]
-#[tactic(
-    auto,
-    using(
-        crate::proofs::Refusals::when_answered,
-        crate::proofs::Refusals::unfilled_read
-    )
-)]
+#[tactic(auto, using(crate::proofs::Refusals::when_answered, crate::proofs::Refusals::unfilled_read))]
 pub extern "C" fn sctp_assoc_read(
     slot: &mut Slot,
     alloc: Global,
@@ -170,7 +148,7 @@ pub extern "C" fn sctp_assoc_read(
 ) -> u32
     ensures given { IfSome (read_by result length.new payload_type.new) (λ answer.
         OnHeld slot.old.handle.driver slot.new.handle.driver
-            (λ d e. Reads (with_message d stream) stream buffer.old answer e buffer.new)) }
+        (λ d e. Reads (with_message d stream) stream buffer.old answer e buffer.new)) }
     ensures empty { slot.old.handle.driver ≡ None → (result ≡ 1) × (slot.new.handle.driver ≡ None) }
     ensures unfilled { result ≢ 0 → buffer.new ≡ buffer.old }
 {
@@ -184,19 +162,12 @@ pub extern "C" fn sctp_assoc_read(
 
 /// Closes the write half of a stream.
 #[unsafe(no_mangle)]
-#[tactic(
-    auto,
-    using(
-        crate::proofs::Refusals::of_refusal,
-        crate::proofs::Refusals::when_done,
-        crate::proofs::Refusals::when_refused
-    )
-)]
+#[tactic(auto, using(crate::proofs::Refusals::of_refusal, crate::proofs::Refusals::when_done, crate::proofs::Refusals::when_refused))]
 pub extern "C" fn sctp_assoc_finish(slot: &mut Slot, alloc: Global, stream: u16) -> u32
     ensures code { RefusesBy (λ d. stream_refusal d.association stream) slot.old.handle.driver result }
     ensures done { result ≡ 0 → OnHeld slot.old.handle.driver slot.new.handle.driver
         (λ d e. e ≡ with_association d
-            (adjusted d.association stream settings.WriteHalfClosed)) }
+        (adjusted d.association stream settings.WriteHalfClosed)) }
     ensures left { result ≢ 0 → slot.new.handle.driver ≡ slot.old.handle.driver }
 {
     let Some(mut driver) = slot.take(alloc) else {
@@ -219,14 +190,7 @@ fn reliability_of(kind: u32) -> ReliabilityType
 
 /// Sets how messages of a stream are sent.
 #[unsafe(no_mangle)]
-#[tactic(
-    auto,
-    using(
-        crate::proofs::Refusals::of_refusal,
-        crate::proofs::Refusals::when_done,
-        crate::proofs::Refusals::when_refused
-    )
-)]
+#[tactic(auto, using(crate::proofs::Refusals::of_refusal, crate::proofs::Refusals::when_done, crate::proofs::Refusals::when_refused))]
 pub extern "C" fn sctp_assoc_set_reliability(
     slot: &mut Slot,
     alloc: Global,
@@ -238,7 +202,7 @@ pub extern "C" fn sctp_assoc_set_reliability(
     ensures code { RefusesBy (λ d. stream_refusal d.association stream) slot.old.handle.driver result }
     ensures done { result ≡ 0 → OnHeld slot.old.handle.driver slot.new.handle.driver
         (λ d e. e ≡ with_association d (adjusted d.association stream
-            (settings.Reliability (params_of unordered (reliability_by kind) value)))) }
+        (settings.Reliability (params_of unordered (reliability_by kind) value)))) }
     ensures left { result ≢ 0 → slot.new.handle.driver ≡ slot.old.handle.driver }
 {
     let Some(mut driver) = slot.take(alloc) else {
