@@ -10,7 +10,8 @@
  *   2. if a datagram came: sctp_assoc_handle_datagram;
  *   3. sctp_assoc_poll_event until it answers SCTP_ASSOC_NOTHING; at SCTP_ASSOC_EVENT_READABLE sctp_assoc_read until it
  *      does so too;
- *   4. sctp_assoc_poll_transmit until it answers SCTP_ASSOC_NOTHING, and send each datagram;
+ *   4. sctp_assoc_poll_transmit until it answers SCTP_ASSOC_NOTHING, and send each datagram; do so also after each
+ *      datagram that was handed in and after each write, since no timer runs for what waits to go out;
  *   5. sleep until the moment of sctp_assoc_poll_timeout, or until a datagram comes.
  *
  * Each call may be made in any state, in any order and at any moment; what it can't do it refuses by a code. Beyond
@@ -189,9 +190,9 @@ sctp_assoc_code sctp_assoc_handle_timeout(sctp_assoc *slot, uint64_t now);
 #define SCTP_ASSOC_EVENT_DATAGRAM_RECEIVED 4    /* a DATA chunk was taken in; once for each */
 #define SCTP_ASSOC_EVENT_STREAM_ENDED 5         /* `stream` ended; `counters` are its last ones */
 #define SCTP_ASSOC_EVENT_OPENED 6               /* the peer opened `stream` by a message */
-#define SCTP_ASSOC_EVENT_READABLE 7             /* a message of `stream` can be read; once for each */
-#define SCTP_ASSOC_EVENT_BUFFERED_LOW 8         /* the buffered amount of `stream` fell to its low mark or below */
-#define SCTP_ASSOC_EVENT_BUFFERED_HIGH 9        /* the buffered amount of `stream` rose to its high mark or above */
+#define SCTP_ASSOC_EVENT_READABLE 7             /* messages of `stream` can be read: read until there is none */
+#define SCTP_ASSOC_EVENT_BUFFERED_LOW 8         /* the buffered amount of `stream` fell to 0, its low mark here */
+#define SCTP_ASSOC_EVENT_BUFFERED_HIGH 9        /* not told here: no call sets a high mark */
 #define SCTP_ASSOC_EVENT_FINISHED 10            /* not told so far: the peer ended its half of `stream` */
 #define SCTP_ASSOC_EVENT_RESET_COMPLETE 11      /* not told so far: the reset of `stream` ended in success */
 #define SCTP_ASSOC_EVENT_RESET_FAILED 12        /* not told so far: the reset of `stream` failed */
@@ -256,8 +257,8 @@ sctp_assoc_code sctp_assoc_is_failed(sctp_assoc *slot, bool *answer);
  * NO_STREAM_LEFT, NO_MEMORY (nothing changed). */
 sctp_assoc_code sctp_assoc_open_stream(sctp_assoc *slot, uint16_t stream, uint32_t payload_type);
 
-/* Takes out the identifier of the oldest stream that the peer opened and that wasn't accepted yet. It needs no accepting
- * to be read or written. Codes: DONE, EMPTY_SLOT, NOTHING (also where the association has failed). */
+/* Takes out the identifier of the oldest stream that the peer opened and that wasn't accepted yet. It needs no
+ * accepting to be read or written. Codes: DONE, EMPTY_SLOT, NOTHING (also where the association has failed). */
 sctp_assoc_code sctp_assoc_accept_stream(sctp_assoc *slot, uint16_t *stream);
 
 /* Accepts one message, which goes out with sctp_assoc_poll_transmit as the windows allow. Codes: DONE, EMPTY_SLOT,
