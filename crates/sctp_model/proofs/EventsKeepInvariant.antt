@@ -1,5 +1,5 @@
 -- Every event keeps the invariant, so it holds after every list of events, and with it the promise.
-use Rattle.std.proofs.Common.{ℕ, ◌+◌, ◌<◌, ◌≡◌, Bool, true, false, not, cond, eqb, ltb, ◌&&◌, List, [], ◌∷◌, Option}
+use Rattle.std.proofs.Common.{ℕ, ◌+◌, ◌<◌, ◌≤◌, length, ◌≡◌, Bool, true, false, not, cond, eqb, ltb, ◌&&◌, List, [], ◌∷◌, Option}
 use Rattle.std.proofs.Common.{Some, None, refl, sym, ap, ◌∙◌, inl, arith}
 use Rattle.std.specs.Prelude.{slice_get}
 use Rattle.std.proofs.lemmas.Bool.{and_parts, ltb-true, ltb-false, true≢false, false≢true, cond-true, cond_both}
@@ -10,7 +10,7 @@ use Rattle.sctp_model.specs.Reassembly.{Queue, Taken, next}
 use Rattle.sctp_model.specs.Machine.{Direction, Event, put_2, fresh, happens, run, reach, begin, begin_if, number_for}
 use Rattle.sctp_model.specs.Machine.{can_begin, go_on, can_abandon, is_of, marked, tail_marked, left, unacknowledged}
 use Rattle.sctp_model.specs.Machine.{has_message, sack_comes, data_comes, forward_comes, is_new, took, was_read, read}
-use Rattle.sctp_model.specs.Machine.{passes, acknowledged_by}
+use Rattle.sctp_model.specs.Machine.{passes, acknowledged_by, gone_front}
 use Rattle.sctp_model.specs.Safe.{IsWithin, StaysWithin}
 use Rattle.sctp_model.specs.Invariants.{Invariant, IsPiece, IsHonest, IsForward, released_bytes}
 use Rattle.sctp_model.specs.Laws.{EachEventKeepsTheInvariant, OneDirectionIsSafe}
@@ -18,6 +18,7 @@ use Rattle.sctp_model.proofs.Lists.{all_get}
 use Rattle.sctp_model.proofs.SenderEvents.{keeps_write, keeps_pass_over, keeps_drop, given_keeps}
 use Rattle.sctp_model.proofs.OffsetsAssigned.{keeps_begin, keeps_go_on, keeps_marked, marked_frees}
 use Rattle.sctp_model.proofs.ReleasedBytes.{released_given}
+use Rattle.sctp_model.proofs.ForwardTsns.{front_within}
 use Rattle.sctp_model.proofs.ReceiverEvents.{keeps_resend, keeps_sack_made, keeps_forward_made, keeps_sack_comes}
 use Rattle.sctp_model.proofs.ReceiverEvents.{keeps_data_comes, keeps_forward_comes, keeps_read, keeps_open}
 use Rattle.sctp_model.proofs.ReceiverEvents.{keeps_replace, keeps_close, keeps_end, keeps_restart}
@@ -139,6 +140,16 @@ pub sack_event_keeps : (w : Direction) (k : ℕ) → Invariant w → Invariant (
 unfolding happens
 sack_event_keeps w k h = sack_step w k (slice_get w.sacks k) refl h
 
+pub abandon_event_keeps : (w : Direction) (s i : ℕ) → Invariant w → Invariant (happens w (Event.Abandon s i))
+unfolding happens
+abandon_event_keeps w s i h = either _ _ _ (λ b. abandon_step w s i w.sender.current refl b h) (λ b. h)
+
+-- So does this one, where it passes over 16,384 offsets at most.
+pub forward_made_event_keeps : (w : Direction) → length (gone_front w.sender) ≤ 16384 → Invariant w
+    → Invariant (happens w Event.ForwardMade)
+unfolding happens
+forward_made_event_keeps w few h = either _ _ _ (λ b. keeps_forward_made w few (ltb-true _ _ b) h) (λ b. h)
+
 -- Every event keeps it where the limits hold.
 
 pub each_event_keeps_the_invariant : EachEventKeepsTheInvariant
@@ -149,11 +160,10 @@ each_event_keeps_the_invariant w (Event.Drop s i) l h = either _ _ _ (λ b. keep
 each_event_keeps_the_invariant w (Event.Begin s i any) l h = begin_event_keeps w s i any h
 each_event_keeps_the_invariant w Event.GoOn l h = go_on_step w w.sender.current refl h
 each_event_keeps_the_invariant w (Event.Resend o) l h = resend_event_keeps w o h
-each_event_keeps_the_invariant w (Event.Abandon s i) l h =
-    either _ _ _ (λ b. abandon_step w s i w.sender.current refl b h) (λ b. h)
+each_event_keeps_the_invariant w (Event.Abandon s i) l h = abandon_event_keeps w s i h
 each_event_keeps_the_invariant w (Event.SackComes k) l h = sack_event_keeps w k h
 each_event_keeps_the_invariant w Event.ForwardMade l h =
-    either _ _ _ (λ b. keeps_forward_made w l (ltb-true _ _ b) h) (λ b. h)
+    forward_made_event_keeps w (front_within w.sender 16384 (let few = l.flight in omega arith)) h
 each_event_keeps_the_invariant w (Event.DataComes k) l h = data_step w k (slice_get w.datas k) refl l h
 each_event_keeps_the_invariant w Event.SackMade l h = keeps_sack_made w h
 each_event_keeps_the_invariant w (Event.ForwardComes k) l h = forward_step w k (slice_get w.forwards k) refl l h

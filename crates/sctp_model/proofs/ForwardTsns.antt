@@ -121,6 +121,13 @@ among_same x (y ∷ ys) j l = ⊎_elim
     go zero l r = refl
     go (suc k) l r = r k (omega arith)
 
+-- no more are abandoned at the front than are assigned past the acknowledged reach
+pub front_within : (x : Sender) (n : ℕ) → length x.plan.places ≤ x.reach + n → length (gone_front x) ≤ n
+front_within x n few =
+    let a = among_short x (drop x.reach x.plan.places) in
+    let b = length-drop x.reach x.plan.places in
+    omega (arith, few)
+
 -- the last ordered place of a stream among some
 pub record IsLastOf (p : Plan) (s : ℕ) (ys : List Place) (m j : ℕ) : Type 0 where
   pub within : j < length ys
@@ -209,7 +216,7 @@ found_some p s (y ∷ ys) found (suc j) l h =
 
 pub forward_made : (x : Sender) (over : ℕ → Bool) → IsPlanned x.plan over
     → IsSending x.plan x.current x.next x.ssn x.begun x.gone over → IsAscending x.plan x.current x.ssn x.reach
-    → ((o : ℕ) → o < x.reach → x.acknowledged o ≡ true) → length x.plan.places < x.reach + 16384
+    → ((o : ℕ) → o < x.reach → x.acknowledged o ≡ true) → length (gone_front x) ≤ 16384
     → 0 < length (gone_front x)
     → IsForward x.plan x.gone over x.acknowledged x.reach (forward_of x over)
 forward_made x over h g rising below flight some = record {

@@ -74,7 +74,8 @@ keeps_sack_made w h = record {
   streams = h.streams;
 }
 
-pub keeps_forward_made : (w : Direction) → IsWithin w → 0 < length (gone_front w.sender) → Invariant w
+pub keeps_forward_made : (w : Direction) → length (gone_front w.sender) ≤ 16384 → 0 < length (gone_front w.sender)
+    → Invariant w
     → Invariant (record w { forwards = w.forwards ++ forward_of w.sender w.over ∷ [] })
 keeps_forward_made w l some h = record {
   planned = h.planned;
@@ -90,7 +91,7 @@ keeps_forward_made w l some h = record {
   cumulative = h.cumulative;
   behind = h.behind;
   forwards = all_push _ w.forwards _ h.forwards
-      (forward_made w.sender w.over h.planned h.sending h.ascending h.cumulative l.flight some);
+      (forward_made w.sender w.over h.planned h.sending h.ascending h.cumulative l some);
   released = h.released;
   streams = h.streams;
 }

@@ -17,7 +17,7 @@ use Rattle.sctp_outbound.specs.declared.abandonment.Reason.TheVariants as reason
 use Rattle.sctp_outbound.specs.declared.abandonment.Reached.{Reached}
 use Rattle.sctp_outbound.specs.declared.sender.Sender.{Sender}
 use Rattle.sctp_outbound.specs.Abandonment.{abandoned_if, all_given_up, given_up_first, is_pass_due, next_given_up}
-use Rattle.sctp_outbound.specs.Abandonment.{asked_past, has_late_tail, reached_at, spent_from, spent_place}
+use Rattle.sctp_outbound.specs.Abandonment.{asked_past, has_late_tail, reached_at, spent_from, spent_index}
 use Rattle.sctp_outbound.specs.Abandonment.{tail_given_up}
 use Rattle.sctp_outbound.proofs.SenderSteps.{drop_get}
 
@@ -60,7 +60,7 @@ gives_up_more why n i before all then g below some is =
 
 none_of : (o : Option ℕ) → is_some o ≡ false → o ≡ None
 none_of None e = refl
-none_of (Some tsn) e = absurd (true≢false e)
+none_of (Some index) e = absurd (true≢false e)
 
 -- where none is given up, none of any number is
 pub none_given_up : (why : Reason) (n : ℕ) (all : Sender × StreamMap) → next_given_up why all.0 ≡ None
@@ -121,12 +121,12 @@ any_late why (suc n) i before all g count past = lt-ltb 0 (suc n) (omega arith) 
 -- a pass
 
 pub pass_done : (k : Retransmission) (i left : ℕ) (xs : List InFlight) → length xs ≤ i
-    → spent_place k i left (drop i xs) ≡ None
+    → spent_index k i left (drop i xs) ≡ None
 pass_done k i left xs past = rw (drop_all i xs past) refl
 
 pub pass_step : (k : Retransmission) (i left : ℕ) (xs : List InFlight) (p : InFlight) (r : Reached)
     → slice_get xs i ≡ Some p → r ≡ reached_at k left p
-    → spent_place k i left (drop i xs) ≡ spent_from r i (λ room. spent_place k (i + 1) room (drop (i + 1) xs))
+    → spent_index k i left (drop i xs) ≡ spent_from r i (λ room. spent_index k (i + 1) room (drop (i + 1) xs))
 pass_step k i left xs p r here is = rw (is, drop_get xs i p here) refl
 
 -- a tail

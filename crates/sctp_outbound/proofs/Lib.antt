@@ -11,3 +11,4 @@ pub mod Unlimited
 pub mod Spared
 pub mod NoneLeft
 pub mod Dropped
+pub mod Falling

@@ -5,13 +5,12 @@ use Rattle.std.proofs.Common.{nat_lt, eqb, List, [], ◌∷◌, ◌++◌, map, O
 use Rattle.std.proofs.Common.{get_or}
 use Rattle.std.proofs.Common.{cond, eq-eqb, refl, ap, sym, subst, ◌∙◌, ⊎_elim, arith}
 use Rattle.std.proofs.lemmas.Bool.{cases_Bool, and_parts, false≢true}
-use Rattle.std.proofs.lemmas.List.{length-append, length-map, map-append}
+use Rattle.std.proofs.lemmas.List.{map-append}
 use Rattle.std.proofs.lemmas.List.Quantifiers.{position-Some}
 use Rattle.std.proofs.lemmas.List.Sums.{count_by-le-length, sum_by-append, sum_by-cons}
-use Rattle.std.proofs.lemmas.Option.{slice_get-get_or, slice_get_within}
+use Rattle.std.proofs.lemmas.Option.{slice_get-get_or}
 use Rattle.std.specs.List.{count_by}
-use Rattle.std.specs.Option.{option_map, unwrap_or}
-use Rattle.sctp_serial.specs.Serial.{tsn_past}
+use Rattle.std.specs.Option.{unwrap_or}
 use Rattle.sctp_outbound_queue.specs.declared.message.Attributes.{Attributes}
 use Rattle.sctp_outbound_queue.specs.declared.message.InFlight.{InFlight}
 use Rattle.sctp_outbound_queue.specs.declared.message.Retransmission.{Retransmission}
@@ -19,7 +18,6 @@ use Rattle.sctp_outbound_queue.specs.declared.message.Retransmission.TheVariants
 use Rattle.sctp_outbound_queue.specs.Message.{flagged, is_expired, is_expired_piece, is_of, is_outstanding, marker_of}
 use Rattle.sctp_outbound_queue.specs.Message.{picks, room_taken}
 use Rattle.sctp_outbound_queue.specs.Outbound.{Outbound, abandoned_at, abandoned_from, tail_dropped_from}
-use Rattle.sctp_outbound_queue.specs.Outbound.{piece_at, tsn_at}
 use Rattle.sctp_outbound_queue.specs.Waiting.{Waiting}
 use Rattle.sctp_streams.specs.Streams.{StreamMap}
 use Rattle.sctp_outbound.specs.declared.abandonment.Reason.{Reason}
@@ -27,10 +25,10 @@ use Rattle.sctp_outbound.specs.declared.abandonment.Reason.TheVariants as reason
 use Rattle.sctp_outbound.specs.declared.sender.Sender.{Sender}
 use Rattle.sctp_outbound.specs.Abandonment.{abandoned_if, abandoned_of, first_spent, given_up_first, is_pass_due}
 use Rattle.sctp_outbound.specs.Abandonment.{is_spent}
-use Rattle.sctp_outbound.specs.Abandonment.{next_given_up, pass_room, spent_place}
+use Rattle.sctp_outbound.specs.Abandonment.{next_given_up, pass_room, spent_index}
 use Rattle.sctp_outbound.specs.Laws.{NoneIsLeft}
 use Rattle.sctp_outbound.proofs.GivenUp.{none_given_up}
-use Rattle.sctp_outbound.proofs.Unlimited.{place_full, place_on, place_skip, place_spent}
+use Rattle.sctp_outbound.proofs.Unlimited.{index_full, index_on, index_skip, index_spent}
 
 -- a piece that may be given up yet: it is marked, or not abandoned
 abbrev is_active : InFlight → Bool
@@ -46,23 +44,17 @@ or_true : (a : Bool) → (a || true) ≡ true
 or_true true = refl
 or_true false = refl
 
--- an active piece in flight that has this TSN
-record Gives (s : Sender) (tsn : ℕ) : Type 0 where
-  place : ℕ
+-- an active piece stands at this index in flight
+record Gives (s : Sender) (index : ℕ) : Type 0 where
   piece : InFlight
-  there : slice_get s.queue.in_flight place ≡ Some piece
+  there : slice_get s.queue.in_flight index ≡ Some piece
   active : is_active piece ≡ true
-  named : tsn ≡ tsn_at s.queue.first_tsn place
 
 none_is_some : (i : ℕ) → None ≡ Some i → ⊥
 none_is_some i e = false≢true (ap (λ (z : Option ℕ). is_some z) e)
 
 same_number : (i j : ℕ) → Some i ≡ Some j → i ≡ j
 same_number i j e = ap (λ (z : Option ℕ). unwrap_or z 0) e
-
-mapped : (f : ℕ → ℕ) (o : Option ℕ) (tsn : ℕ) → option_map f o ≡ Some tsn → (i : ℕ) × (o ≡ Some i) × (tsn ≡ f i)
-mapped f None tsn e = absurd (none_is_some tsn e)
-mapped f (Some i) tsn e = (i, refl, sym (same_number (f i) tsn e))
 
 -- expired pieces
 
@@ -80,11 +72,11 @@ expired_at now (p ∷ ps) i e =
       expired_active now (get_or (p ∷ ps) i p) found.1,
     )
 
-expired_gives : (now : ℕ) (s : Sender) (tsn : ℕ) → next_given_up (reasons.Expired now) s ≡ Some tsn → Gives s tsn
-expired_gives now s tsn e =
-    let m = mapped (tsn_at s.queue.first_tsn) (position (is_expired_piece now) s.queue.in_flight) tsn e in
-    let a = expired_at now s.queue.in_flight m.0 m.1 in
-    record { place = m.0; piece = a.0; there = a.1; active = a.2; named = m.2 }
+expired_gives : (now : ℕ) (s : Sender) (index : ℕ) → next_given_up (reasons.Expired now) s ≡ Some index
+    → Gives s index
+expired_gives now s index e =
+    let a = expired_at now s.queue.in_flight index e in
+    record { piece = a.0; there = a.1; active = a.2 }
 
 -- spent pieces
 
@@ -113,40 +105,37 @@ comes_later : (j i : ℕ) (p : InFlight) (ps : List InFlight) → Comes (j + 1) 
 comes_later j i p ps c =
     record { past = suc c.past; piece = c.piece; sum = omega (arith, c.sum); there = c.there; active = c.active }
 
-spent_comes : (k : Retransmission) (j room i : ℕ) (ps : List InFlight) → spent_place k j room ps ≡ Some i → Comes j ps i
+spent_comes : (k : Retransmission) (j room i : ℕ) (ps : List InFlight) → spent_index k j room ps ≡ Some i → Comes j ps i
 spent_comes k j room i [] e = absurd (none_is_some i e)
 spent_comes k j room i (p ∷ ps) e =
     ⊎_elim (
     λ (a : picks k p ≡ true). ⊎_elim (
     λ (b : is_spent p ≡ true).
-    let same = same_number j i (sym (place_spent k j room p ps a b) ∙ e) in
+    let same = same_number j i (sym (index_spent k j room p ps a b) ∙ e) in
     record { past = 0; piece = p; sum = omega (arith, same); there = refl; active = picked_active k p a }
     ) (
     λ (b : is_spent p ≡ false). ⊎_elim
     (λ (c : nat_lt room (room_taken k p) ≡ true).
-    absurd (none_is_some i (sym (place_full k j room p ps a b c) ∙ e)))
+    absurd (none_is_some i (sym (index_full k j room p ps a b c) ∙ e)))
     (λ (c : nat_lt room (room_taken k p) ≡ false).
     comes_later j i p ps
-    (spent_comes k (j + 1) (room - room_taken k p) i ps (sym (place_on k j room p ps a b c) ∙ e)))
+    (spent_comes k (j + 1) (room - room_taken k p) i ps (sym (index_on k j room p ps a b c) ∙ e)))
     (cases_Bool (nat_lt room (room_taken k p)))
     ) (cases_Bool (is_spent p))
     ) (
     λ (a : picks k p ≡ false).
-    comes_later j i p ps (spent_comes k (j + 1) room i ps (sym (place_skip k j room p ps a) ∙ e))
+    comes_later j i p ps (spent_comes k (j + 1) room i ps (sym (index_skip k j room p ps a) ∙ e))
     ) (cases_Bool (picks k p))
 
-due_gives : (k : Retransmission) (s : Sender) (tsn : ℕ)
-    → option_map (tsn_at s.queue.first_tsn) (spent_place k 0 (pass_room k s) s.queue.in_flight) ≡ Some tsn → Gives s tsn
-due_gives k s tsn e =
-    let m = mapped (tsn_at s.queue.first_tsn) (spent_place k 0 (pass_room k s) s.queue.in_flight) tsn e in
-    let c = spent_comes k 0 (pass_room k s) m.0 s.queue.in_flight m.1 in
-    let same : m.0 ≡ c.past = omega (arith, c.sum) in
+due_gives : (k : Retransmission) (s : Sender) (index : ℕ)
+    → spent_index k 0 (pass_room k s) s.queue.in_flight ≡ Some index → Gives s index
+due_gives k s index e =
+    let c = spent_comes k 0 (pass_room k s) index s.queue.in_flight e in
+    let same : c.past ≡ index = omega (arith, c.sum) in
     record {
-      place = c.past;
       piece = c.piece;
-      there = c.there;
+      there = ap (slice_get s.queue.in_flight) (sym same) ∙ c.there;
       active = c.active;
-      named = m.2 ∙ ap (tsn_at s.queue.first_tsn) same;
     }
 
 spent_gives : (k : Retransmission) (s : Sender) (tsn : ℕ) → first_spent k s ≡ Some tsn → Gives s tsn
@@ -229,42 +218,37 @@ marker_rests id a =
     let after = sum_by-cons one_if (flagged id (marker_of a)) [] in
     omega (arith, one, after)
 
--- fewer active pieces are in flight, and one piece more at most
+-- fewer active pieces are in flight
 record Fewer (q r : Outbound) : Type 0 where
   fewer : active_in r.in_flight + 1 ≤ active_in q.in_flight
-  longer : length r.in_flight ≤ length q.in_flight + 1
-  first : r.first_tsn ≡ q.first_tsn
 
 flagged_fewer : (q r : Outbound) (id i : ℕ) (p : InFlight) → slice_get q.in_flight i ≡ Some p → is_of id p ≡ true
-    → is_active p ≡ true → r.in_flight ≡ map (flagged id) q.in_flight → r.first_tsn ≡ q.first_tsn → Fewer q r
-flagged_fewer q r id i p there own active is first =
+    → is_active p ≡ true → r.in_flight ≡ map (flagged id) q.in_flight → Fewer q r
+flagged_fewer q r id i p there own active is =
     let less = flags_less id q.in_flight i p there own active in
     let same = ap active_in is in
-    let long = ap (λ (z : List InFlight). length z) is ∙ length-map q.in_flight (flagged id) in
-    record { fewer = omega (arith, less, same); longer = omega (arith, long); first = first }
+    record { fewer = omega (arith, less, same) }
 
 marked_fewer : (q r : Outbound) (id i : ℕ) (p : InFlight) (a : Attributes) → slice_get q.in_flight i ≡ Some p
     → is_of id p ≡ true → is_active p ≡ true → r.in_flight ≡ map (flagged id) (q.in_flight ++ marker_of a ∷ [])
-    → r.first_tsn ≡ q.first_tsn → Fewer q r
-marked_fewer q r id i p a there own active is first =
+    → Fewer q r
+marked_fewer q r id i p a there own active is =
     let less = flags_less id q.in_flight i p there own active in
     let parts = is ∙ map-append (flagged id) q.in_flight (marker_of a ∷ []) in
     let same = ap active_in parts in
     let sum = sum_by-append one_if (map (flagged id) q.in_flight) (map (flagged id) (marker_of a ∷ [])) in
     let none = marker_rests id a in
-    let long = ap (λ (z : List InFlight). length z) is ∙ length-map (q.in_flight ++ marker_of a ∷ []) (flagged id) in
-    let more = length-append q.in_flight (marker_of a ∷ []) in
-    record { fewer = omega (arith, less, same, sum, none); longer = omega (arith, long, more); first = first }
+    record { fewer = omega (arith, less, same, sum, none) }
 
 dropped_fewer : (ms : List Waiting) (q : Outbound) (id i : ℕ) (p : InFlight) → slice_get q.in_flight i ≡ Some p
     → is_of id p ≡ true → is_active p ≡ true
     → Fewer q (let r = (tail_dropped_from ms q id).0 in record r { in_flight = map (flagged id) r.in_flight })
-dropped_fewer [] q id i p there own active = flagged_fewer q _ id i p there own active refl refl
+dropped_fewer [] q id i p there own active = flagged_fewer q _ id i p there own active refl
 dropped_fewer (m ∷ ms) q id i p there own active =
     ⊎_elim
     (λ (a : eqb m.message.message_id id ≡ true).
-    rw a (marked_fewer q _ id i p m.message there own active refl refl))
-    (λ (a : eqb m.message.message_id id ≡ false). rw a (flagged_fewer q _ id i p there own active refl refl))
+    rw a (marked_fewer q _ id i p m.message there own active refl))
+    (λ (a : eqb m.message.message_id id ≡ false). rw a (flagged_fewer q _ id i p there own active refl))
     (cases_Bool (eqb m.message.message_id id))
 
 piece_fewer : (o : Option InFlight) (q : Outbound) (i : ℕ) (p : InFlight) → o ≡ Some p
@@ -275,55 +259,44 @@ piece_fewer o q i p e there active =
     (dropped_fewer q.pending q p.message.message_id i p there
     (eq-eqb p.message.message_id p.message.message_id refl) active)
 
-abandoned_fewer : (s : Sender) (tsn : ℕ) → s.queue.first_tsn < 2 ^ 32 → length s.queue.in_flight ≤ 2 ^ 32
-    → Gives s tsn → Fewer s.queue (abandoned_at s.queue tsn).0
-abandoned_fewer s tsn first long g =
-    let within = slice_get_within s.queue.in_flight g.place g.piece g.there in
-    let at : tsn_past s.queue.first_tsn (tsn_at s.queue.first_tsn g.place)
-    ≡ g.place = omega (arith, within, first, long) in
-    let here = ap (λ z. slice_get s.queue.in_flight (tsn_past s.queue.first_tsn z)) g.named
-    ∙ ap (slice_get s.queue.in_flight) at ∙ g.there in
-    piece_fewer (piece_at s.queue tsn) s.queue g.place g.piece here g.there g.active
+abandoned_fewer : (s : Sender) (index : ℕ) → Gives s index → Fewer s.queue (abandoned_at s.queue index).0
+abandoned_fewer s index g =
+    piece_fewer (slice_get s.queue.in_flight index) s.queue index g.piece g.there g.there g.active
 
 queue_after : (tsn : ℕ) (all : Sender × StreamMap) → (abandoned_of tsn all).0.queue ≡ (abandoned_at all.0.queue tsn).0
 unfolding abandoned_of
 queue_after tsn all = refl
 
-after_fewer : (tsn : ℕ) (all : Sender × StreamMap) → all.0.queue.first_tsn < 2 ^ 32
-    → length all.0.queue.in_flight ≤ 2 ^ 32 → Gives all.0 tsn → Fewer all.0.queue (abandoned_of tsn all).0.queue
-after_fewer tsn all first long g =
-    subst (Fewer all.0.queue) (sym (queue_after tsn all)) (abandoned_fewer all.0 tsn first long g)
+after_fewer : (index : ℕ) (all : Sender × StreamMap) → Gives all.0 index
+    → Fewer all.0.queue (abandoned_of index all).0.queue
+after_fewer index all g =
+    subst (Fewer all.0.queue) (sym (queue_after index all)) (abandoned_fewer all.0 index g)
 
 none_active : (why : Reason) (s : Sender) (o : Option ℕ) → next_given_up why s ≡ o → active_in s.queue.in_flight ≤ 0
     → next_given_up why s ≡ None
 none_active why s None e few = e
-none_active why s (Some tsn) e few =
-    let g = gives why s tsn e in
-    let one = one_at_least s.queue.in_flight g.place g.piece g.there g.active in
+none_active why s (Some index) e few =
+    let g = gives why s index e in
+    let one = one_at_least s.queue.in_flight index g.piece g.there g.active in
     absurd (omega (arith, one, few))
 
 -- for one more, where it holds of so many
-next_none : (why : Reason) (n : ℕ) (all : Sender × StreamMap) → all.0.queue.first_tsn < 2 ^ 32
-    → active_in all.0.queue.in_flight ≤ suc n → length all.0.queue.in_flight + suc n ≤ 2 ^ 32
-    → ((then : Sender × StreamMap) → then.0.queue.first_tsn < 2 ^ 32 → active_in then.0.queue.in_flight ≤ n
-    → length then.0.queue.in_flight + n ≤ 2 ^ 32 → next_given_up why (given_up_first n why then).0 ≡ None)
+next_none : (why : Reason) (n : ℕ) (all : Sender × StreamMap) → active_in all.0.queue.in_flight ≤ suc n
+    → ((then : Sender × StreamMap) → active_in then.0.queue.in_flight ≤ n
+    → next_given_up why (given_up_first n why then).0 ≡ None)
     → (o : Option ℕ) → next_given_up why all.0 ≡ o → next_given_up why (given_up_first (suc n) why all).0 ≡ None
-next_none why n all first few long rest None e =
+next_none why n all few rest None e =
     ap (λ (z : Sender × StreamMap). next_given_up why z.0) (none_given_up why (suc n) all e) ∙ e
-next_none why n all first few long rest (Some tsn) e =
-    let less = after_fewer tsn all first (omega (arith, long)) (gives why all.0 tsn e) in
+next_none why n all few rest (Some index) e =
+    let less = after_fewer index all (gives why all.0 index e) in
     ap (λ o. next_given_up why (given_up_first n why (abandoned_if o all)).0) e
-    ∙ rest (abandoned_of tsn all) (omega (arith, less.first, first)) (omega (arith, less.fewer, few))
-    (omega (arith, less.longer, long))
+    ∙ rest (abandoned_of index all) (omega (arith, less.fewer, few))
 
-left_none : (why : Reason) (n : ℕ) (all : Sender × StreamMap) → all.0.queue.first_tsn < 2 ^ 32
-    → active_in all.0.queue.in_flight ≤ n → length all.0.queue.in_flight + n ≤ 2 ^ 32
+left_none : (why : Reason) (n : ℕ) (all : Sender × StreamMap) → active_in all.0.queue.in_flight ≤ n
     → next_given_up why (given_up_first n why all).0 ≡ None
-left_none why zero all first few long = none_active why all.0 (next_given_up why all.0) refl few
-left_none why (suc n) all first few long =
-    next_none why n all first few long (left_none why n) (next_given_up why all.0) refl
+left_none why zero all few = none_active why all.0 (next_given_up why all.0) refl few
+left_none why (suc n) all few = next_none why n all few (left_none why n) (next_given_up why all.0) refl
 
 pub none_is_left : NoneIsLeft
-none_is_left why s m first long =
-    left_none why (length s.queue.in_flight) (s, m) first (count_by-le-length is_active s.queue.in_flight)
-    (omega (arith, long))
+none_is_left why s m =
+    left_none why (length s.queue.in_flight) (s, m) (count_by-le-length is_active s.queue.in_flight)

@@ -10,7 +10,7 @@ use Rattle.sctp_outbound_queue.specs.declared.message.Retransmission.{Retransmis
 use Rattle.sctp_outbound_queue.specs.Message.{deadline_under, is_expired_piece, is_past, picks, room_taken}
 use Rattle.sctp_outbound_queue.specs.Message.{sent_started}
 use Rattle.sctp_outbound_queue.specs.Message.{is_expired_unsent, message_bytes, started, waiting_started}
-use Rattle.sctp_outbound_queue.specs.Outbound.{Outbound, released, tsn_at}
+use Rattle.sctp_outbound_queue.specs.Outbound.{Outbound, released}
 use Rattle.sctp_outbound_queue.specs.Expiry.{all_started}
 use Rattle.sctp_outbound_queue.specs.Waiting.{Waiting}
 use Rattle.sctp_streams.specs.Streams.{StreamMap}
@@ -18,7 +18,7 @@ use Rattle.sctp_outbound.specs.declared.abandonment.Reason.TheVariants as reason
 use Rattle.sctp_outbound.specs.declared.sender.Sender.{Sender}
 use Rattle.sctp_outbound.specs.Abandonment.{all_given_up, allows_no_more, dropped_by, expired_by, expires, first_spent}
 use Rattle.sctp_outbound.specs.Abandonment.{given_up_before, gives_up_before, has_late_tail, is_pass_due}
-use Rattle.sctp_outbound.specs.Abandonment.{is_spent, late_given_up, next_given_up, pass_room, spent_place}
+use Rattle.sctp_outbound.specs.Abandonment.{is_spent, late_given_up, next_given_up, pass_room, spent_index}
 use Rattle.sctp_outbound.specs.Abandonment.{tail_given_up}
 use Rattle.sctp_outbound.specs.Abandonment.{with_started}
 use Rattle.sctp_outbound.specs.Laws.{HasNoLimit, IsUnlimited, UnlimitedStay}
@@ -27,47 +27,47 @@ use Rattle.sctp_outbound.proofs.GivenUp.{is_late, lt_same, no_late_tail, none_gi
 
 -- what a pass does at one piece
 
-pub place_skip : (k : Retransmission) (i room : ℕ) (p : InFlight) (ps : List InFlight) → picks k p ≡ false
-    → spent_place k i room (p ∷ ps) ≡ spent_place k (i + 1) room ps
-place_skip k i room p ps a = rw a refl
+pub index_skip : (k : Retransmission) (i room : ℕ) (p : InFlight) (ps : List InFlight) → picks k p ≡ false
+    → spent_index k i room (p ∷ ps) ≡ spent_index k (i + 1) room ps
+index_skip k i room p ps a = rw a refl
 
-pub place_spent : (k : Retransmission) (i room : ℕ) (p : InFlight) (ps : List InFlight) → picks k p ≡ true
-    → is_spent p ≡ true → spent_place k i room (p ∷ ps) ≡ Some i
-place_spent k i room p ps a b = rw (a, b) refl
+pub index_spent : (k : Retransmission) (i room : ℕ) (p : InFlight) (ps : List InFlight) → picks k p ≡ true
+    → is_spent p ≡ true → spent_index k i room (p ∷ ps) ≡ Some i
+index_spent k i room p ps a b = rw (a, b) refl
 
-pub place_full : (k : Retransmission) (i room : ℕ) (p : InFlight) (ps : List InFlight) → picks k p ≡ true
-    → is_spent p ≡ false → nat_lt room (room_taken k p) ≡ true → spent_place k i room (p ∷ ps) ≡ None
-place_full k i room p ps a b c = rw (a, b, c) refl
+pub index_full : (k : Retransmission) (i room : ℕ) (p : InFlight) (ps : List InFlight) → picks k p ≡ true
+    → is_spent p ≡ false → nat_lt room (room_taken k p) ≡ true → spent_index k i room (p ∷ ps) ≡ None
+index_full k i room p ps a b c = rw (a, b, c) refl
 
-pub place_on : (k : Retransmission) (i room : ℕ) (p : InFlight) (ps : List InFlight) → picks k p ≡ true
+pub index_on : (k : Retransmission) (i room : ℕ) (p : InFlight) (ps : List InFlight) → picks k p ≡ true
     → is_spent p ≡ false → nat_lt room (room_taken k p) ≡ false
-    → spent_place k i room (p ∷ ps) ≡ spent_place k (i + 1) (room - room_taken k p) ps
-place_on k i room p ps a b c = rw (a, b, c) refl
+    → spent_index k i room (p ∷ ps) ≡ spent_index k (i + 1) (room - room_taken k p) ps
+index_on k i room p ps a b c = rw (a, b, c) refl
 
 -- no piece is spent
 
 never_spent : (p : InFlight) → IsUnlimited p.message → is_spent p ≡ false
 never_spent p u = ap (λ z. allows_no_more z p.sent_count) u
 
-no_place : (k : Retransmission) (i room : ℕ) (ps : List InFlight)
-    → AllByRecursion (λ (p : InFlight). IsUnlimited p.message) ps → spent_place k i room ps ≡ None
-no_place k i room [] all = refl
-no_place k i room (p ∷ ps) all =
+no_index : (k : Retransmission) (i room : ℕ) (ps : List InFlight)
+    → AllByRecursion (λ (p : InFlight). IsUnlimited p.message) ps → spent_index k i room ps ≡ None
+no_index k i room [] all = refl
+no_index k i room (p ∷ ps) all =
     ⊎_elim (
     λ (a : picks k p ≡ true). ⊎_elim
-    (λ (c : nat_lt room (room_taken k p) ≡ true). place_full k i room p ps a (never_spent p all.0) c)
+    (λ (c : nat_lt room (room_taken k p) ≡ true). index_full k i room p ps a (never_spent p all.0) c)
     (λ (c : nat_lt room (room_taken k p) ≡ false).
-    place_on k i room p ps a (never_spent p all.0) c ∙ no_place k (i + 1) (room - room_taken k p) ps all.1)
+    index_on k i room p ps a (never_spent p all.0) c ∙ no_index k (i + 1) (room - room_taken k p) ps all.1)
     (cases_Bool (nat_lt room (room_taken k p)))
     ) (
-    λ (a : picks k p ≡ false). place_skip k i room p ps a ∙ no_place k (i + 1) room ps all.1
+    λ (a : picks k p ≡ false). index_skip k i room p ps a ∙ no_index k (i + 1) room ps all.1
     ) (cases_Bool (picks k p))
 
 none_spent : (k : Retransmission) (s : Sender) → HasNoLimit s.queue → first_spent k s ≡ None
 none_spent k s all =
     ⊎_elim
     (λ (due : is_pass_due k s ≡ true).
-    rw due (ap (option_map (tsn_at s.queue.first_tsn)) (no_place k 0 (pass_room k s) s.queue.in_flight all.1)))
+    rw due (no_index k 0 (pass_room k s) s.queue.in_flight all.1))
     (λ (due : is_pass_due k s ≡ false). rw due refl)
     (cases_Bool (is_pass_due k s))
 
@@ -93,7 +93,7 @@ no_position : (now : ℕ) (ps : List InFlight) → AllByRecursion (λ (p : InFli
 no_position now ps all = rw (all_passed now ps all, lt_same (length ps)) refl
 
 none_expired : (now : ℕ) (s : Sender) → HasNoLimit s.queue → next_given_up (reasons.Expired now) s ≡ None
-none_expired now s all = ap (option_map (tsn_at s.queue.first_tsn)) (no_position now s.queue.in_flight all.1)
+none_expired now s all = no_position now s.queue.in_flight all.1
 
 started_same : (now : ℕ) (a : Attributes) → IsUnlimited a → started now a ≡ a
 started_same now a u = ap (λ z. record a { deadline = z }) (ap (λ z. deadline_under z now a.deadline) u)

@@ -1,7 +1,6 @@
 -- Messages that are given up (RFC 3758 section 3.5), over the sender and the streams at which their bytes are released.
 use Rattle.std.specs.Prelude.{ℕ, zero, suc, Bool, false, List, [], ◌∷◌, ◌+◌, ◌-◌, ◌&&◌, ◌||◌, not, nat_lt}
-use Rattle.std.specs.Prelude.{if◌then◌else◌, length, is_some, Option, Some, None}
-use Rattle.std.specs.Option.{option_map}
+use Rattle.std.specs.Prelude.{if◌then◌else◌, length, is_some, position, Option, Some, None}
 use Rattle.sctp_wire_types.specs.declared.reliability.Policy.{Policy}
 use Rattle.sctp_wire_types.specs.declared.reliability.Policy.TheVariants.{Reliable, Rexmit, Timed}
 use Rattle.sctp_outbound_queue.specs.declared.message.InFlight.{InFlight}
@@ -9,8 +8,8 @@ use Rattle.sctp_outbound_queue.specs.declared.message.Retransmission.{Retransmis
 use Rattle.sctp_outbound_queue.specs.declared.message.Retransmission.TheVariants as causes
 use Rattle.sctp_outbound_queue.specs.declared.queue.Released.{Released}
 use Rattle.sctp_outbound_queue.specs.Message.{picks, room_taken, is_expired_piece}
-use Rattle.sctp_outbound_queue.specs.Outbound.{Outbound, abandoned_at, abandoned_in_front_of, marked_of, tsn_at}
-use Rattle.sctp_outbound_queue.specs.Expiry.{after_expiry, after_tail_expiry, all_started, first_tsn_that}
+use Rattle.sctp_outbound_queue.specs.Outbound.{Outbound, abandoned_at, abandoned_in_front_of, marked_of}
+use Rattle.sctp_outbound_queue.specs.Expiry.{after_expiry, after_tail_expiry, all_started}
 use Rattle.sctp_streams.specs.Streams.{StreamMap, given_back_in, released_in}
 use Rattle.sctp_outbound.specs.declared.abandonment.Reason.{Reason}
 use Rattle.sctp_outbound.specs.declared.abandonment.Reason.TheVariants as reasons
@@ -38,10 +37,10 @@ asked_past before s = record s {
 abbrev pub with_abandoned : Outbound → Sender → Sender
 with_abandoned q s = asked_past (abandoned_in_front_of s.queue.in_flight) (record s { queue = q })
 
--- sender and streams once the message of a TSN in flight is abandoned whole, and its bytes are released
+-- sender and streams once the message of the piece at an index in flight is abandoned whole, and its bytes are released
 unfoldable pub abandoned_of : ℕ → Sender × StreamMap → Sender × StreamMap
-abandoned_of tsn (s, m) =
-    (with_abandoned (abandoned_at s.queue tsn).0 s, released_at (abandoned_at s.queue tsn).1 m)
+abandoned_of index (s, m) =
+    (with_abandoned (abandoned_at s.queue index).0 s, released_at (abandoned_at s.queue index).1 m)
 
 -- a policy allows no further sending after so many
 abbrev pub allows_no_more : Policy → ℕ → Bool
@@ -67,10 +66,10 @@ spent_from reached.Full index others = None
 
 -- the first index at which the pass comes to a spent piece that it would send again. It is asked before the room, so
 -- the piece at which the pass stops counts too
-abbrev pub spent_place : Retransmission → ℕ → ℕ → List InFlight → Option ℕ
-spent_place k index room [] = None
-spent_place k index room (p ∷ ps) =
-    spent_from (reached_at k room p) index (λ left. spent_place k (index + 1) left ps)
+abbrev pub spent_index : Retransmission → ℕ → ℕ → List InFlight → Option ℕ
+spent_index k index room [] = None
+spent_index k index room (p ∷ ps) =
+    spent_from (reached_at k room p) index (λ left. spent_index k (index + 1) left ps)
 
 -- the room of a pass at its start: the lesser of both windows, or that of one packet. A first piece that goes alone is
 -- longer than that
@@ -83,21 +82,18 @@ abbrev pub is_pass_due : Retransmission → Sender → Bool
 is_pass_due causes.Timer s = nat_lt 0 (marked_of s.queue.in_flight)
 is_pass_due causes.Fast s = s.is_fast_due
 
--- the TSN of that piece
+-- the index of that piece
 abbrev pub first_spent : Retransmission → Sender → Option ℕ
-first_spent k s =
-    if is_pass_due k s then
-    option_map (tsn_at s.queue.first_tsn) (spent_place k 0 (pass_room k s) s.queue.in_flight)
-    else None
+first_spent k s = if is_pass_due k s then spent_index k 0 (pass_room k s) s.queue.in_flight else None
 
--- the TSN whose message is given up next for a reason
+-- the index of the piece in flight whose message is given up next for a reason
 abbrev pub next_given_up : Reason → Sender → Option ℕ
-next_given_up (reasons.Expired now) s = first_tsn_that (is_expired_piece now) s.queue
+next_given_up (reasons.Expired now) s = position (is_expired_piece now) s.queue.in_flight
 next_given_up (reasons.Spent k) s = first_spent k s
 
 abbrev pub abandoned_if : Option ℕ → Sender × StreamMap → Sender × StreamMap
 abandoned_if None all = all
-abandoned_if (Some tsn) all = abandoned_of tsn all
+abandoned_if (Some index) all = abandoned_of index all
 
 -- the first n messages that are given up for a reason are abandoned, one after another
 abbrev pub given_up_first : ℕ → Reason → Sender × StreamMap → Sender × StreamMap

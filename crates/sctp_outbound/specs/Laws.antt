@@ -52,5 +52,5 @@ SpentAreSpared = (s : Sender)
 -- Once all that is given up for a reason is abandoned, nothing more is given up for it: no expired piece in flight
 -- stays that is not abandoned, and no pass reaches a spent one.
 abbrev pub NoneIsLeft : Type 0
-NoneIsLeft = (why : Reason) (s : Sender) (m : StreamMap) → s.queue.first_tsn < 2 ^ 32
-    → length s.queue.in_flight ≤ 2 ^ 31 → next_given_up why (all_given_up why (s, m)).0 ≡ None
+NoneIsLeft =
+    (why : Reason) (s : Sender) (m : StreamMap) → next_given_up why (all_given_up why (s, m)).0 ≡ None

@@ -8,3 +8,4 @@ pub mod Recovery
 pub mod Abandonment
 pub mod Forward
 pub mod Laws
+pub mod Falling

@@ -1,14 +1,16 @@
 // Messages that are given up (RFC 3758 section 3.5).
-ghost use Rattle.std.specs.Prelude.{◌≡◌, ◌<◌, is_some, nat_lt, length, slice_get, true, IfOk, OnErr, OnOk};
+ghost use Rattle.std.specs.Prelude.{◌≡◌, ◌<◌, is_some, nat_lt, length, slice_get, true, Some, IfOk, OnErr, OnOk};
 ghost use Rattle.sctp_outbound_queue.specs.Expiry.{after_tail_expiry};
 ghost use Rattle.sctp_outbound_queue.specs.Outbound.{abandoned_at};
-ghost use Rattle.sctp_streams.specs.LowMarks.{Gathers};
+ghost use Rattle.sctp_streams.specs.LowMarks.{AreGathered, falls_in};
 ghost use Rattle.sctp_streams.specs.Streams.{released_in};
 ghost use Rattle.sctp_outbound.specs.Abandonment.{abandoned_if, abandoned_of, all_given_up, asked_past, expired_by};
 ghost use Rattle.sctp_outbound.specs.Abandonment.{expires};
 ghost use Rattle.sctp_outbound.specs.Abandonment.{first_spent, given_up_before, gives_up_before, has_late_tail};
 ghost use Rattle.sctp_outbound.specs.Abandonment.{is_pass_due, is_spent, next_given_up, pass_room};
-ghost use Rattle.sctp_outbound.specs.Abandonment.{reached_at, released_with, spent_place, tail_given_up, with_started};
+ghost use Rattle.sctp_outbound.specs.Abandonment.{reached_at, released_with, spent_index, tail_given_up, with_started};
+ghost use Rattle.sctp_outbound.specs.Falling.{falls_at, fell_at, fell_before, fell_expired, fell_giving_up};
+ghost use Rattle.sctp_outbound.specs.Falling.{fell_with_tail};
 
 use crate::sender::Sender;
 use sctp_outbound_queue::{InFlight, OutboundQueue, Retransmission};
@@ -42,7 +44,7 @@ impl Sender {
     /// abandoned whole, and its bytes are released at its stream; the pass is looked at anew after each. Answers
     /// whether any message was given up. It lacks memory only where one is. Goes over what is in flight once, and twice
     /// more for each message that is given up; over nothing where nothing is marked, or fast retransmission is not due.
-    #[tactic(auto, using(sctp_streams::proofs::LowMarks::gathers_nothing))]
+    #[tactic(auto, using(sctp_streams::proofs::LowMarks::none_gathered))]
     pub fn give_up(
         &mut self,
         streams: &mut Streams,
@@ -52,7 +54,8 @@ impl Sender {
     ) -> Result<bool, AllocError>
         ensures exact { OnOk result (given_up_before forward by (self.old, streams.old) ≡ (self.new, streams.new)) }
         ensures any { IfOk result (λ any. any ≡ gives_up_before forward by self.old) }
-        ensures gathers { OnOk result (Gathers streams.old fallen.old streams.new fallen.new) }
+        ensures falls { OnOk result
+            (AreGathered (fell_before forward by (self.old, streams.old)) fallen.old fallen.new) }
         ensures grows { OnErr result (gives_up_before forward by self.old ≡ true) }
     {
         if !forward {
@@ -74,7 +77,8 @@ impl Sender {
     ) -> Result<bool, AllocError>
         ensures exact { OnOk result (expired_by forward now (self.old, streams.old) ≡ (self.new, streams.new)) }
         ensures any { IfOk result (λ any. any ≡ expires forward now (self.old, streams.old)) }
-        ensures gathers { OnOk result (Gathers streams.old fallen.old streams.new fallen.new) }
+        ensures falls { OnOk result
+            (AreGathered (fell_expired forward now (self.old, streams.old)) fallen.old fallen.new) }
         ensures grows { OnErr result (expires forward now (self.old, streams.old) ≡ true) }
     {
         if !forward {
@@ -102,7 +106,7 @@ impl Sender {
     ) -> Result<bool, AllocError>
         ensures exact { OnOk result (tail_given_up now (self.old, streams.old) ≡ (self.new, streams.new)) }
         ensures any { IfOk result (λ any. any ≡ has_late_tail now self.old) }
-        ensures gathers { OnOk result (Gathers streams.old fallen.old streams.new fallen.new) }
+        ensures falls { OnOk result (AreGathered (fell_with_tail now (self.old, streams.old)) fallen.old fallen.new) }
         ensures grows { OnErr result (has_late_tail now self.old ≡ true) }
     {
         let before = self.queue.abandoned_in_front();
@@ -120,7 +124,8 @@ impl Sender {
     ) -> Result<bool, AllocError>
         ensures exact { OnOk result (all_given_up why.now (self.old, streams.old) ≡ (self.new, streams.new)) }
         ensures any { IfOk result (λ any. any ≡ is_some (next_given_up why.now self.old)) }
-        ensures gathers { OnOk result (Gathers streams.old fallen.old streams.new fallen.new) }
+        ensures falls { OnOk result
+            (AreGathered (fell_giving_up why.now (self.old, streams.old)) fallen.old fallen.new) }
         ensures grows { OnErr result (is_some (next_given_up why.now self.old) ≡ true) }
     {
         let count = self.queue.inflight_len();
@@ -133,7 +138,7 @@ impl Sender {
     }
 
     // Abandons the message that is given up next, and answers whether there is one.
-    #[tactic(auto, using(sctp_streams::proofs::LowMarks::gathers_nothing))]
+    #[tactic(auto, using(sctp_streams::proofs::LowMarks::none_gathered))]
     fn abandon_next(
         &mut self,
         streams: &mut Streams,
@@ -143,33 +148,35 @@ impl Sender {
         ensures exact { OnOk result
             (abandoned_if (next_given_up why.now self.old) (self.old, streams.old) ≡ (self.new, streams.new)) }
         ensures any { IfOk result (λ any. any ≡ is_some (next_given_up why.now self.old)) }
-        ensures gathers { OnOk result (Gathers streams.old fallen.old streams.new fallen.new) }
+        ensures falls { OnOk result
+            (AreGathered (fell_at (next_given_up why.now self.old) (self.old, streams.old)) fallen.old fallen.new) }
         ensures grows { OnErr result (is_some (next_given_up why.now self.old) ≡ true) }
     {
         match self.next_given_up(why) {
-            Some(tsn) => {
-                self.abandon(streams, fallen, tsn)?;
+            Some(index) => {
+                self.abandon(streams, fallen, index)?;
                 Ok(true)
             }
             None => Ok(false),
         }
     }
 
-    // Abandons the message of a TSN in flight whole: every piece of it that is in flight, and its unsent pieces, for
-    // which a marker takes the next TSN. Its bytes are released at its stream. FORWARD TSN is due where that moves the
-    // advanced peer ack point. It lacks memory only where the marker has no room. Goes over what is in flight.
+    // Abandons the message of the piece at an index in flight whole: every piece of it that is in flight, and its
+    // unsent pieces, for which a marker takes the next TSN. Its bytes are released at its stream. FORWARD TSN is due
+    // where that moves the advanced peer ack point. It lacks memory only where the marker has no room. Goes over what
+    // is in flight.
     #[tactic(auto, unfolding(crate::specs::Abandonment::abandoned_of))]
     fn abandon(
         &mut self,
         streams: &mut Streams,
         fallen: &mut Fallen,
-        tsn: u32,
+        index: usize,
     ) -> Result<(), AllocError>
-        ensures exact { OnOk result (abandoned_of tsn (self.old, streams.old) ≡ (self.new, streams.new)) }
-        ensures gathers { OnOk result (Gathers streams.old fallen.old streams.new fallen.new) }
+        ensures exact { OnOk result (abandoned_of index (self.old, streams.old) ≡ (self.new, streams.new)) }
+        ensures falls { OnOk result (AreGathered (fell_at (Some index) (self.old, streams.old)) fallen.old fallen.new) }
     {
         let before = self.queue.abandoned_in_front();
-        abandon_in(&mut self.queue, streams, fallen, tsn)?;
+        abandon_in(&mut self.queue, streams, fallen, index)?;
         self.ask_past(before);
         Ok(())
     }
@@ -181,10 +188,10 @@ impl Sender {
         self.is_forward_due |= before < self.queue.abandoned_in_front();
     }
 
-    // The TSN whose message is given up next.
-    fn next_given_up(&mut self, why: &Reason) -> Option<u32>
+    // The index of the piece in flight whose message is given up next.
+    fn next_given_up(&mut self, why: &Reason) -> Option<usize>
         ensures same { self.new ≡ self.old }
-        ensures tsn { result ≡ next_given_up why.now self.old }
+        ensures index { result ≡ next_given_up why.now self.old }
     {
         match why {
             Reason::Expired(now) => self.queue.expired_inflight(*now),
@@ -192,17 +199,14 @@ impl Sender {
         }
     }
 
-    // The TSN of the first piece that a pass would send again too often.
-    fn first_spent(&self, by: Retransmission) -> Option<u32>
+    // The index of the first piece that a pass would send again too often.
+    fn first_spent(&self, by: Retransmission) -> Option<usize>
         ensures { result ≡ first_spent by self.now }
     {
         if !self.is_pass_due(by) {
             return None;
         }
-        match self.spent_place(by) {
-            Some(index) => Some(self.queue.tsn_at(index)),
-            None => None,
-        }
+        self.spent_index(by)
     }
 
     fn is_pass_due(&self, by: Retransmission) -> bool
@@ -223,8 +227,8 @@ impl Sender {
         }
     }
 
-    fn spent_place(&self, by: Retransmission) -> Option<usize>
-        ensures { result ≡ spent_place by 0 (pass_room by self.now) self.now.queue.in_flight }
+    fn spent_index(&self, by: Retransmission) -> Option<usize>
+        ensures { result ≡ spent_index by 0 (pass_room by self.now) self.now.queue.in_flight }
     {
         let mut left = self.pass_room(by);
         for index in 0..self.queue.inflight_len() {
@@ -269,18 +273,19 @@ fn is_spent(piece: &InFlight) -> bool
     }
 }
 
-// Abandons the message of a TSN in flight, and releases its bytes.
-#[tactic(auto, using(sctp_streams::proofs::LowMarks::gathers_nothing))]
+// Abandons the message of the piece at an index in flight, and releases its bytes.
+#[tactic(auto, using(sctp_streams::proofs::LowMarks::none_gathered))]
 fn abandon_in(
     queue: &mut OutboundQueue,
     streams: &mut Streams,
     fallen: &mut Fallen,
-    tsn: u32,
+    index: usize,
 ) -> Result<(), AllocError>
-    ensures exact { OnOk result (released_with (abandoned_at queue.old tsn) streams.old ≡ (queue.new, streams.new)) }
-    ensures gathers { OnOk result (Gathers streams.old fallen.old streams.new fallen.new) }
+    ensures exact { OnOk result (released_with (abandoned_at queue.old index) streams.old ≡ (queue.new, streams.new)) }
+    ensures falls { OnOk result
+        (AreGathered (falls_at (abandoned_at queue.old index).1 streams.old) fallen.old fallen.new) }
 {
-    match queue.abandon(tsn) {
+    match queue.abandon(index) {
         Ok(Some(released)) => {
             let id = released.message.stream_identifier;
             release_bytes(
@@ -299,7 +304,7 @@ fn abandon_in(
 
 // Abandons the unsent pieces of an expired message of which no piece is in flight any more, and releases their bytes.
 // Answers whether there are any.
-#[tactic(auto, using(sctp_streams::proofs::LowMarks::gathers_nothing))]
+#[tactic(auto, using(sctp_streams::proofs::LowMarks::none_gathered))]
 fn expire_tail_in(
     queue: &mut OutboundQueue,
     streams: &mut Streams,
@@ -310,7 +315,8 @@ fn expire_tail_in(
         (queue.new, streams.new)) }
     ensures any { IfOk result (λ any. any ≡ is_some (after_tail_expiry now queue.old).1) }
     ensures grows { OnErr result (is_some (after_tail_expiry now queue.old).1 ≡ true) }
-    ensures gathers { OnOk result (Gathers streams.old fallen.old streams.new fallen.new) }
+    ensures falls { OnOk result
+        (AreGathered (falls_at (after_tail_expiry now queue.old).1 streams.old) fallen.old fallen.new) }
 {
     let Some(released) = queue.expire_pending_tail(now)? else {
         return Ok(false);
@@ -335,7 +341,7 @@ fn release_bytes(
     bytes: u64,
 )
     ensures released { streams.new ≡ released_in streams.old id generation bytes }
-    ensures gathers { Gathers streams.old fallen.old streams.new fallen.new }
+    ensures falls { AreGathered (falls_in streams.old id generation bytes) fallen.old fallen.new }
 {
     if streams.release(id, generation, bytes) {
         fallen.add(id);

@@ -12,8 +12,7 @@ pub fn spent_pieces_are_spared()
     ensures { SpentAreSpared }
 {}
 
-/// Once all that is given up for a reason is abandoned, nothing more is given up for it, as long as at most 2^31 pieces
-/// were in flight.
+/// Once all that is given up for a reason is abandoned, nothing more is given up for it.
 pub fn all_are_given_up()
     ensures { NoneIsLeft }
 {}

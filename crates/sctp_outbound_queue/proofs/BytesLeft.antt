@@ -126,8 +126,8 @@ abandoned_from_bytes (Some p) q =
     let flags = flagged_sum p.message.message_id (tail_dropped q p.message.message_id).0.in_flight in
     omega (arith, tail, ours, flags)
 
-pub abandoned_bytes : (q : Outbound) (tsn : ℕ) → IsReleased q (abandoned_at q tsn)
-abandoned_bytes q tsn = abandoned_from_bytes (piece_at q tsn) q
+pub abandoned_bytes : (q : Outbound) (index : ℕ) → IsReleased q (abandoned_at q index)
+abandoned_bytes q index = abandoned_from_bytes (slice_get q.in_flight index) q
 
 expired_from : (now : ℕ) (o : Option Waiting) (ms : List Waiting) → find (is_expired_unsent now) ms ≡ o
     → waiting_of (without_expired now ms) + released_bytes (expired_in now ms) ≡ waiting_of ms
@@ -170,6 +170,6 @@ whole_from (Some p) q r a e =
     let answer = same_some _ a (ap (λ (z : Outbound × Option Released). z.1) e) in
     rw (← left, ← answer) (all_flagged_are_whole p.message.message_id (tail_dropped q p.message.message_id).0.in_flight)
 
-pub abandoned_whole : (q r : Outbound) (tsn : ℕ) (a : Released) → abandoned_at q tsn ≡ (r, Some a)
+pub abandoned_whole : (q r : Outbound) (index : ℕ) (a : Released) → abandoned_at q index ≡ (r, Some a)
     → is_whole a.message.message_id r ≡ true
-abandoned_whole q r tsn a e = whole_from (piece_at q tsn) q r a e
+abandoned_whole q r index a e = whole_from (slice_get q.in_flight index) q r a e

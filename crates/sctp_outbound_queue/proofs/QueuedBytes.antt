@@ -326,12 +326,12 @@ expiry_is run next now q kept found left bytes =
     let same = (dropped_bytes _ _ now q.pending q.in_flight kept found bytes).0 in
     rw (left, same, ← found)
 
-pub abandoned_is : {q1 q2 : Outbound} {index : ℕ} {p : InFlight} {sent tail : ℕ} (q : Outbound) (tsn : ℕ)
-    → index ≡ tsn_past q.first_tsn tsn → Some p ≡ slice_get q.in_flight index
+pub abandoned_is : {q1 q2 : Outbound} {p : InFlight} {sent tail : ℕ} (q : Outbound) (index : ℕ)
+    → Some p ≡ slice_get q.in_flight index
     → sent ≡ outstanding_of_message p.message.message_id q.in_flight → tail_dropped q p.message.message_id ≡ (q1, tail)
     → q2 ≡ all_flagged p.message.message_id q1
-    → abandoned_at q tsn ≡ (q2, Some (released p.message (sent + tail)))
-abandoned_is {q1} {p} q tsn there here bytes dropped flags =
+    → abandoned_at q index ≡ (q2, Some (released p.message (sent + tail)))
+abandoned_is {q1} {p} q index here bytes dropped flags =
     let a : (tail_dropped q p.message.message_id).0 ≡ q1 = ap (λ (z : Outbound × ℕ). z.0) dropped in
     let b : (tail_dropped q p.message.message_id).1 ≡ _ = ap (λ (z : Outbound × ℕ). z.1) dropped in
-    rw (← there, ← here, flags, bytes, ← a, ← b)
+    rw (← here, flags, bytes, ← a, ← b)

@@ -24,7 +24,7 @@ use Rattle.sctp_outbound_queue.specs.Message.{sooner}
 use Rattle.sctp_outbound_queue.specs.Message.{sooner_piece, sooner_under, deadline_under, sent_once}
 use Rattle.sctp_outbound_queue.specs.Message.{waiting_started}
 use Rattle.sctp_outbound_queue.specs.Outbound.{AreTimely, Outbound, after_piece, next_deadline_of}
-use Rattle.sctp_outbound_queue.specs.Expiry.{after_expiry, all_started, first_tsn_that, without_expired}
+use Rattle.sctp_outbound_queue.specs.Expiry.{after_expiry, all_started, without_expired}
 use Rattle.sctp_outbound_queue.proofs.ExpiredUnsent.{without_none}
 
 -- Lists of which all pass a test
@@ -453,8 +453,8 @@ no_expiry now run next q (waiting, sent) due =
     rw (none, same) refl
 
 pub none_over : (now : ℕ) (run : Bool) (next : Option ℕ) (q : Outbound) → AreTimely run next q.pending q.in_flight
-    → is_due next now ≡ false → None ≡ first_tsn_that (is_expired_piece now) q
-none_over now run next q (waiting, sent) due = rw (none_in_flight now run next q.in_flight sent due) refl
+    → is_due next now ≡ false → None ≡ position (is_expired_piece now) q.in_flight
+none_over now run next q (waiting, sent) due = sym (none_in_flight now run next q.in_flight sent due)
 
 pub all_started_already : (now : ℕ) (run : Bool) (next : Option ℕ) (q : Outbound) → run ≡ true
     → AreTimely run next q.pending q.in_flight → q ≡ all_started now q

@@ -33,7 +33,7 @@ abbrev pub PopsBytes : Type 0
 PopsBytes = (q : Outbound) → bytes_in (without_first q) + bytes_of_piece (slice_get q.in_flight 0) ≡ bytes_in q
 
 abbrev pub AbandonsBytes : Type 0
-AbandonsBytes = (q : Outbound) (tsn : ℕ) → IsReleased q (abandoned_at q tsn)
+AbandonsBytes = (q : Outbound) (index : ℕ) → IsReleased q (abandoned_at q index)
 
 abbrev pub ExpiresBytes : Type 0
 ExpiresBytes = (q : Outbound) (now : ℕ) → IsReleased q (after_expiry now q)
@@ -47,7 +47,7 @@ is_whole id q = list_all (λ p. not (is_of id p) || p.abandoned) q.in_flight
 
 abbrev pub AbandonsWhole : Type 0
 AbandonsWhole =
-    (q r : Outbound) (tsn : ℕ) (a : Released) → abandoned_at q tsn ≡ (r, Some a)
+    (q r : Outbound) (index : ℕ) (a : Released) → abandoned_at q index ≡ (r, Some a)
     → is_whole a.message.message_id r ≡ true
 
 -- the pieces of a message are its bytes, in their order (RFC 4960 section 6.9)

@@ -191,10 +191,10 @@ abandoned_from (Some p) q = (
       )),
 )
 
--- the message of a TSN in flight is abandoned whole; its bytes that were outstanding or waited are released
--- (RFC 3758 section 3.5)
+-- the message of the piece at an index in flight is abandoned whole; its bytes that were outstanding or waited are
+-- released (RFC 3758 section 3.5)
 abbrev pub abandoned_at : Outbound → ℕ → Outbound × Option Released
-abandoned_at q tsn = abandoned_from (piece_at q tsn) q
+abandoned_at q index = abandoned_from (slice_get q.in_flight index) q
 
 abbrev pub is_abandoned_piece : Option InFlight → Bool
 is_abandoned_piece None = false

@@ -359,16 +359,16 @@ impl OutboundQueue {
         }
     }
 
-    /// Abandons the message of a TSN in flight whole (RFC 3758 section 3.5): every piece of it that is in flight, an
-    /// acknowledged one too, and its unsent pieces, for which a marker takes the next TSN. Answers what is released;
-    /// None where the TSN is not in flight. Goes over what is in flight.
-    pub fn abandon(&mut self, tsn: u32) -> Result<Option<Released>, AllocError>
-        ensures ok { IfOk result (λ released. abandoned_at self.old tsn ≡ (self.new, released)) }
+    /// Abandons the message of the piece in flight that is `index` TSNs past the first whole (RFC 3758 section 3.5):
+    /// every piece of it that is in flight, an acknowledged one too, and its unsent pieces, for which a marker takes the
+    /// next TSN. Answers what is released; None where there is no such piece. Goes over what is in flight.
+    pub fn abandon(&mut self, index: usize) -> Result<Option<Released>, AllocError>
+        ensures ok { IfOk result (λ released. abandoned_at self.old index ≡ (self.new, released)) }
         ensures err { OnErr result (self.new ≡ self.old) }
     {
         // a use of a field opens the invariant for the proof
         let _ = &self.pending;
-        let Some(piece) = self.get(self.index_of(tsn)) else {
+        let Some(piece) = self.get(index) else {
             return Ok(None);
         };
         let message = piece.message;
@@ -431,17 +431,17 @@ impl OutboundQueue {
         self.next_deadline = next_deadline(&self.pending, &self.in_flight);
     }
 
-    /// The first TSN in flight of an expired message that is not abandoned yet. Goes over what waits and is in flight
-    /// only where a deadline is over since an earlier call went over it.
-    pub fn expired_inflight(&mut self, now: Instant) -> Option<u32>
+    /// How many TSNs past the first one in flight the first piece of an expired message that is not abandoned yet is.
+    /// Goes over what waits and is in flight only where a deadline is over since an earlier call went over it.
+    pub fn expired_inflight(&mut self, now: Instant) -> Option<usize>
         ensures same { self.new ≡ self.old }
-        ensures tsn { result ≡ first_tsn_that (is_expired_piece now) self.old }
+        ensures index { result ≡ position (is_expired_piece now) self.old.in_flight }
     {
         if !is_over(self.next_deadline, now) {
             return None;
         }
         match first_expired_piece(&self.in_flight, now) {
-            Some(index) => Some(self.tsn_at(index)),
+            Some(index) => Some(index),
             None => {
                 self.next_deadline = next_deadline(&self.pending, &self.in_flight);
                 None

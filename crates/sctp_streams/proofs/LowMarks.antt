@@ -1,6 +1,7 @@
 -- The streams that fall to their low mark are gathered one release after another.
 use Rattle.std.proofs.Common.{◌≡◌, refl, sym, ap, ◌∙◌, subst, ⊎_elim, ℕ, ◌-◌, ◌<◌, ◌≤◌, Bool, true, false, cond, eqb}
-use Rattle.std.proofs.Common.{if◌then◌else◌, ◌&&◌, nat_le, nat_lt, List, [], ◌∷◌, length, Option, Some, None, is_some}
+use Rattle.std.proofs.Common.{if◌then◌else◌, ◌&&◌, nat_le, nat_lt, List, [], ◌∷◌, ◌++◌, length, Option, Some, None}
+use Rattle.std.proofs.Common.{is_some, inl, inr}
 use Rattle.std.proofs.Common.{arith}
 use Rattle.std.proofs.Common.{Ordering, Less, Equal, Greater, is_eq, nat_cmp}
 use Rattle.std.specs.Ordering.{match_ordering}
@@ -14,10 +15,12 @@ use Rattle.std.proofs.lemmas.Bool.Decides.{nat_tests}
 use Rattle.std.proofs.lemmas.Cmp.{eq_by_cmp_equiv, nat_cmp_total}
 use Rattle.std.proofs.lemmas.List.Elements.{filter_agree}
 use Rattle.std.proofs.lemmas.Map.{lookup-set_value}
-use Rattle.sctp_streams.specs.LowMarks.{FallenView, Gathers, HasNoMore, IsGathered, fallen, has_fallen, none_fallen}
-use Rattle.sctp_streams.specs.Stream.{StreamView, falls_to_low_mark, released_from, with_ssn_given_back}
-use Rattle.sctp_streams.specs.Streams.{StreamMap, falls_to_low_mark_in, is_generation}
-use Rattle.sctp_streams.specs.Streams.{changed_stream, given_back_in, live_ids, released_in, stream_at, with_stream}
+use Rattle.std.proofs.lemmas.List.{append-nil, append_assoc}
+use Rattle.sctp_streams.specs.LowMarks.{AreGathered, FallenView, Gathers, HasNoMore, IsGathered, ascending, ascending_with}
+use Rattle.sctp_streams.specs.LowMarks.{fallen, falls_in, has_fallen, none_fallen}
+use Rattle.sctp_streams.specs.Stream.{StreamView, falls_to_low_mark, released_from}
+use Rattle.sctp_streams.specs.Streams.{StreamMap, falls_to_low_mark_in}
+use Rattle.sctp_streams.specs.Streams.{live_ids, released_in, stream_at, with_stream}
 
 -- Sorted identifiers
 
@@ -42,6 +45,12 @@ absent : (id : ℕ) (es : List (ℕ × StreamView)) → AllByRecursion (λ y. na
 absent id [] a = refl
 absent id (e ∷ es) (l, a) = rw l (absent id es a)
 
+-- one more identifier of a list is one more in ascending order
+pub ascending_more : (ids more : List ℕ) (id : ℕ)
+    → ascending_with ids (more ++ id ∷ []) ≡ insert_key nat_cmp (ascending_with ids more) id
+ascending_more ids [] id = refl
+ascending_more ids (m ∷ more) id = ascending_more (insert_key nat_cmp ids m) more id
+
 insert_front : (id : ℕ) (xs : List ℕ) → AllByRecursion (λ y. nat_cmp id y ≡ Less) xs
     → insert_key nat_cmp xs id ≡ id ∷ xs
 insert_front id [] a = refl
@@ -55,6 +64,15 @@ insert_some id (x ∷ xs) = by (nat_cmp id x)
     by Less = omega arith
     by Equal = omega arith
     by Greater = omega arith
+
+-- where there is an identifier there is one in ascending order
+still_some : (ids more : List ℕ) → 0 < length ids → 0 < length (ascending_with ids more)
+still_some ids [] l = l
+still_some ids (m ∷ more) l = still_some (insert_key nat_cmp ids m) more (insert_some m ids)
+
+pub some_ascending : (ids : List ℕ) → 0 < length ids → 0 < length (ascending ids)
+some_ascending [] l = l
+some_ascending (id ∷ ids) l = still_some (id ∷ []) ids (omega arith)
 
 kept_above : (test : ℕ → Bool) (id : ℕ) (ks : List ℕ) → AllByRecursion (λ y. nat_cmp id y ≡ Less) ks
     → AllByRecursion (λ y. nat_cmp id y ≡ Less) (filter test ks)
@@ -181,10 +199,10 @@ none_fallen_yet m =
 
 pub nothing_gathered : (m : StreamMap) (f : FallenView) → IsStrictlySortedBy nat_cmp (live_ids m) → f ≡ none_fallen
     → IsGathered m m f
-nothing_gathered m f sorted e = record {
-  ascending = sorted;
+nothing_gathered m f ordered e = record {
+  sorted = ordered;
   released = λ i. same_now (stream_at m i);
-  whole = λ r. ap (λ (z : FallenView). z.ids) e ∙ sym (none_fallen_yet m);
+  whole = λ r. ap (λ (z : FallenView). ascending z.ids) e ∙ sym (none_fallen_yet m);
   some = λ r. absurd (false≢true (sym (ap (λ (z : FallenView). z.refused) e) ∙ r));
 }
 
@@ -249,7 +267,7 @@ module _ (m : StreamMap) (id bytes : ℕ) (t u : StreamView) (there : stream_at 
   stays_gathered e =
       let same : fallen before now ≡ fallen before m = filter_agree has had agree (live_ids before) in
       record {
-        ascending = h.ascending;
+        sorted = h.sorted;
         released = released_here;
         whole = λ r. h.whole r ∙ sym same;
         some = λ r. subst (λ z. 0 < length z) (sym same) (h.some r);
@@ -267,76 +285,50 @@ module _ (m : StreamMap) (id bytes : ℕ) (t u : StreamView) (there : stream_at 
 
   -- it falls, and is added
   is_gathered : (g : FallenView) → falls_to_low_mark t bytes ≡ true
-      → (g.refused ≡ false → g.ids ≡ insert_key nat_cmp f.ids id)
+      → (g.refused ≡ false → g.ids ≡ f.ids ++ id ∷ [])
       → (g.refused ≡ false → f.refused ≡ false) → IsGathered before now g
   unfolding fallen
   is_gathered g e adds keeps =
       let more : fallen before now ≡ insert_key nat_cmp (fallen before m) id =
       added had has id has_apart (had_here ∙ not_fallen (stream_at before id) t bytes here e)
       (has_here ∙ fallen_as (stream_at before id) t u bytes less ∙ falls (stream_at before id) t bytes here e)
-      before.by_id h.ascending
+      before.by_id h.sorted
       (was_there (stream_at before id) t here) in
       record {
-        ascending = h.ascending;
+        sorted = h.sorted;
         released = released_here;
-        whole = λ r. adds r ∙ ap (λ z. insert_key nat_cmp z id) (h.whole (keeps r)) ∙ sym more;
+        whole = λ r.
+            ap ascending (adds r) ∙ ascending_more [] f.ids id ∙ ap (λ z. insert_key nat_cmp z id) (h.whole (keeps r))
+            ∙ sym more;
         some = λ r. subst (λ z. 0 < length z) (sym more) (insert_some id (fallen before m));
       }
 
--- a change of the stream of this identifier, where it is live in this generation
-abbrev changed_if : (StreamView → StreamView) → StreamMap → ℕ → ℕ → StreamMap
-changed_if change m id generation =
-    if is_generation (stream_at m id) generation then changed_stream change m id else m
-
--- a change by which bytes are released is gathered where its stream falls to its low mark by it
-gathers_change : (change : StreamView → StreamView) (m : StreamMap) (id generation bytes : ℕ) (f g : FallenView)
-    → ((t : StreamView) → (change t).low_mark ≡ t.low_mark)
-    → ((t : StreamView) → (change t).buffered ≡ t.buffered - bytes)
-    → (falls_to_low_mark_in m id generation bytes ≡ true → g.refused ≡ false → g.ids ≡ insert_key nat_cmp f.ids id)
+-- a release is gathered where its stream falls to its low mark by it
+pub gathers_release : (m : StreamMap) (id generation bytes : ℕ) (f g : FallenView)
+    → (falls_to_low_mark_in m id generation bytes ≡ true → g.refused ≡ false → g.ids ≡ f.ids ++ id ∷ [])
     → (falls_to_low_mark_in m id generation bytes ≡ true → g.refused ≡ false → f.refused ≡ false)
     → (falls_to_low_mark_in m id generation bytes ≡ false → g ≡ f)
-    → Gathers m f (changed_if change m id generation) g
+    → Gathers m f (released_in m id generation bytes) g
 unfolding Gathers
-gathers_change change m id generation bytes f g low less adds keeps stays before h = at (stream_at m id) refl
+gathers_release m id generation bytes f g adds keeps stays before h = at (stream_at m id) refl
   where
-    at : (o : Option StreamView) → stream_at m id ≡ o → IsGathered before (changed_if change m id generation) g
+    at : (o : Option StreamView) → stream_at m id ≡ o → IsGathered before (released_in m id generation bytes) g
     at None e = rw e (subst (IsGathered before m) (sym (stays (rw e refl))) h)
     at (Some t) e = of (eqb t.stats.generation generation) refl
       where
         falling : (b : Bool) → falls_to_low_mark t bytes ≡ b → eqb t.stats.generation generation ≡ true
-            → IsGathered before (with_stream m id (change t)) g
+            → IsGathered before (with_stream m id (released_from t bytes)) g
         falling true b c =
-            is_gathered m id bytes t (change t) e (low t) (less t) before f h g b (adds (rw (e, c, b) refl))
+            is_gathered m id bytes t (released_from t bytes) e refl refl before f h g b (adds (rw (e, c, b) refl))
             (keeps (rw (e, c, b) refl))
         falling false b c =
-            subst (IsGathered before (with_stream m id (change t))) (sym (stays (rw (e, c, b) refl)))
-            (stays_gathered m id bytes t (change t) e (low t) (less t) before f h b)
+            subst (IsGathered before (with_stream m id (released_from t bytes))) (sym (stays (rw (e, c, b) refl)))
+            (stays_gathered m id bytes t (released_from t bytes) e refl refl before f h b)
 
         of : (b : Bool) → eqb t.stats.generation generation ≡ b
-            → IsGathered before (changed_if change m id generation) g
+            → IsGathered before (released_in m id generation bytes) g
         of true c = rw (e, c) (falling (falls_to_low_mark t bytes) refl c)
         of false c = rw (e, c) (subst (IsGathered before m) (sym (stays (rw (e, c) refl))) h)
-
--- a release is
-pub gathers_release : (m : StreamMap) (id generation bytes : ℕ) (f g : FallenView)
-    → (falls_to_low_mark_in m id generation bytes ≡ true → g.refused ≡ false → g.ids ≡ insert_key nat_cmp f.ids id)
-    → (falls_to_low_mark_in m id generation bytes ≡ true → g.refused ≡ false → f.refused ≡ false)
-    → (falls_to_low_mark_in m id generation bytes ≡ false → g ≡ f)
-    → Gathers m f (released_in m id generation bytes) g
-gathers_release m id generation bytes f g adds keeps stays =
-    gathers_change (λ t. released_from t bytes) m id generation bytes f g (λ t. refl) (λ t. refl) adds keeps stays
-
--- so is a message that is dropped
-pub gathers_given_back : (m : StreamMap) (id generation : ℕ) (unordered : Bool) (bytes : ℕ) (f g : FallenView)
-    → (falls_to_low_mark_in m id generation bytes ≡ true → g.refused ≡ false → g.ids ≡ insert_key nat_cmp f.ids id)
-    → (falls_to_low_mark_in m id generation bytes ≡ true → g.refused ≡ false → f.refused ≡ false)
-    → (falls_to_low_mark_in m id generation bytes ≡ false → g ≡ f)
-    → Gathers m f (given_back_in m id generation unordered bytes) g
-gathers_given_back m id generation true bytes f g adds keeps stays =
-    gathers_change (λ t. released_from t bytes) m id generation bytes f g (λ t. refl) (λ t. refl) adds keeps stays
-gathers_given_back m id generation false bytes f g adds keeps stays =
-    gathers_change (λ t. released_from (with_ssn_given_back t) bytes) m id generation bytes f g (λ t. refl)
-    (λ t. refl) adds keeps stays
 
 pub gathers_nothing : (m : StreamMap) (f : FallenView) → Gathers m f m f
 unfolding Gathers
@@ -350,3 +342,41 @@ gathers_both m n k f g i x y before h = y before (x before h)
 pub gathered_since : (m n : StreamMap) (f g : FallenView) → IsGathered m m f → Gathers m f n g → IsGathered m n g
 unfolding Gathers
 gathered_since m n f g h x = x m h
+
+-- In the order of the releases
+
+-- nothing more was gathered
+pub none_gathered : (f : FallenView) → AreGathered [] f f
+none_gathered f = record { whole = λ r. (r, sym (append-nil f.ids)); some = λ r. inl r }
+
+longer : (xs ys : List ℕ) → 0 < length xs → 0 < length (xs ++ ys)
+longer [] ys l = absurd (omega (arith, l))
+longer (x ∷ xs) ys l = omega arith
+
+last : (xs ys : List ℕ) → 0 < length ys → 0 < length (xs ++ ys)
+last [] ys l = l
+last (x ∷ xs) ys l = omega arith
+
+-- some streams were, and then others
+pub gathered_behind : (xs ys : List ℕ) (f g i : FallenView) → AreGathered xs f g → AreGathered ys g i
+    → AreGathered (xs ++ ys) f i
+gathered_behind xs ys f g i x y = record {
+  whole = λ r.
+      let later = y.whole r in
+      let first = x.whole later.0 in
+      (first.0, later.1 ∙ ap (λ z. z ++ ys) first.1 ∙ append_assoc f.ids xs ys);
+  some = λ r. ⊎_elim (λ s. ⊎_elim (λ t. inl t) (λ l. inr (longer xs ys l)) (x.some s)) (λ l. inr (last xs ys l)) (y.some r);
+}
+
+-- the stream of a release is gathered where it falls by it
+pub release_gathered : (m : StreamMap) (id generation bytes : ℕ) (f g : FallenView)
+    → (falls_to_low_mark_in m id generation bytes ≡ true → g.refused ≡ false → g.ids ≡ f.ids ++ id ∷ [])
+    → (falls_to_low_mark_in m id generation bytes ≡ true → g.refused ≡ false → f.refused ≡ false)
+    → (falls_to_low_mark_in m id generation bytes ≡ false → g ≡ f)
+    → AreGathered (falls_in m id generation bytes) f g
+release_gathered m id generation bytes f g adds keeps stays = by (falls_to_low_mark_in m id generation bytes) refl
+  where
+    by : (b : Bool) → falls_to_low_mark_in m id generation bytes ≡ b
+        → AreGathered (if b then id ∷ [] else []) f g
+    by true e = record { whole = λ r. (keeps e r, adds e r); some = λ r. inr (omega arith) }
+    by false e = subst (AreGathered [] f) (sym (stays e)) (none_gathered f)

@@ -1,7 +1,7 @@
 // Partial reliability (RFC 3758): how long a message is kept for sending.
 
 /// How long a message is kept for sending (RFC 3758 sections 3.5 and 4.1). An association keeps a retry limit or a
-/// lifetime with each message and gives up none so far; the queue of what is to be sent could.
+/// lifetime with each message, and gives the message up by it where both sides use FORWARD TSN.
 #[derive(Clone, Copy, Debug)]
 pub enum Policy {
     /// Until it is acknowledged.

@@ -1,20 +1,18 @@
 use Rattle.std.proofs.Common.{refl, sym, ◌∙◌}
 use Rattle.std.proofs.lemmas.Bool.{false≢true, true≢false}
-use Rattle.sctp_streams.proofs.LowMarks.{gathers_release}
+use Rattle.sctp_streams.proofs.LowMarks.{release_gathered}
 use Rattle.sctp_outbound.proofs.abandonment.release_bytes.Goals as goal
 
-pub returns-then-release-clause-gathers : goal.returns-then-release-clause-gathers
-returns-then-release-clause-gathers c =
+pub returns-then-release-clause-falls : goal.returns-then-release-clause-falls
+returns-then-release-clause-falls c =
     let low = sym c.release.ensures.low ∙ c.if-release.true in
-    rw c.release.ensures.released
-    (gathers_release c.args.streams.now c.args.id c.args.generation c.args.bytes c.args.fallen.now
+    release_gathered c.args.streams.now c.args.id c.args.generation c.args.bytes c.args.fallen.now
     c.add.new.self (λ e r. c.add.ensures.added r) (λ e r. c.add.ensures.kept r)
-    (λ e. absurd (true≢false (sym low ∙ e))))
+    (λ e. absurd (true≢false (sym low ∙ e)))
 
-pub returns-else-release-clause-gathers : goal.returns-else-release-clause-gathers
-returns-else-release-clause-gathers c =
+pub returns-else-release-clause-falls : goal.returns-else-release-clause-falls
+returns-else-release-clause-falls c =
     let low = sym c.release.ensures.low ∙ c.if-release.false in
-    rw c.release.ensures.released
-    (gathers_release c.args.streams.now c.args.id c.args.generation c.args.bytes c.args.fallen.now
+    release_gathered c.args.streams.now c.args.id c.args.generation c.args.bytes c.args.fallen.now
     c.args.fallen.now (λ e r. absurd (false≢true (sym low ∙ e))) (λ e r. r)
-    (λ e. refl))
+    (λ e. refl)

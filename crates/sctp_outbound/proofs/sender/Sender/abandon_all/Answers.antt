@@ -1,14 +1,14 @@
 use Rattle.std.proofs.Common.{sym, ◌∙◌, arith}
-use Rattle.sctp_streams.proofs.LowMarks.{gathers_both, gathers_nothing}
 use Rattle.sctp_outbound.proofs.SenderSteps.{on_err}
 use Rattle.sctp_outbound.proofs.GivenUp.{any_early, any_late, ends_early, ends_late, gives_up_from, gives_up_more}
 use Rattle.sctp_outbound.proofs.GivenUp.{some_more}
+use Rattle.sctp_outbound.proofs.Falling.{first_early, first_from, first_late, first_more}
 use Rattle.sctp_outbound.proofs.sender.Sender.abandon_all.Goals as goal
 
 pub loop-done-init : goal.loop-done-init
 loop-done-init c = (
   gives_up_from c.args.why.now c.inflight_len-count.result (c.args.self.now, c.args.streams.now),
-  gathers_nothing c.args.streams.now c.args.fallen.now,
+  first_from c.args.why.now c.inflight_len-count.result (c.args.self.now, c.args.streams.now) c.args.fallen.now,
 )
 
 pub returns-then-not-branch-clause-exact : goal.returns-then-not-branch-clause-exact
@@ -25,9 +25,12 @@ returns-then-not-branch-clause-any c =
     (c.loop-done.self, c.loop-done.streams) c.loop-done.invariant.0
     (sym c.in_ok-abandon_next.ensures.any ∙ c.if-not-branch.true)
 
-pub returns-then-not-branch-clause-gathers : goal.returns-then-not-branch-clause-gathers
-returns-then-not-branch-clause-gathers c =
-    gathers_both _ _ _ _ _ _ c.loop-done.invariant.1 c.in_ok-abandon_next.ensures.gathers
+pub returns-then-not-branch-clause-falls : goal.returns-then-not-branch-clause-falls
+returns-then-not-branch-clause-falls c =
+    first_early c.args.why.now c.inflight_len-count.result _ c.loop-done.done (c.args.self.now, c.args.streams.now)
+    (c.loop-done.self, c.loop-done.streams) c.args.fallen.now c.loop-done.fallen c.abandon_next.new.fallen
+    c.inflight_len-count.ensures (sym c.in_ok-abandon_next.ensures.any ∙ c.if-not-branch.true)
+    c.loop-done.invariant.1 c.in_ok-abandon_next.ensures.falls
 
 pub returns-in_err-abandon_next-clause-grows : goal.returns-in_err-abandon_next-clause-grows
 returns-in_err-abandon_next-clause-grows c =
@@ -42,7 +45,10 @@ loop-done-preserved c = (
       c.loop-done.invariant.0 c.loop-done-test.true
       (sym c.in_ok-abandon_next.ensures.any ∙ c.if-not-branch.false)
       c.in_ok-abandon_next.ensures.exact,
-  gathers_both _ _ _ _ _ _ c.loop-done.invariant.1 c.in_ok-abandon_next.ensures.gathers,
+  first_more c.args.why.now c.inflight_len-count.result c.loop-done.done (c.args.self.now, c.args.streams.now)
+      (c.loop-done.self, c.loop-done.streams) (c.abandon_next.new.self, c.abandon_next.new.streams)
+      c.args.fallen.now c.loop-done.fallen c.abandon_next.new.fallen c.loop-done-test.true
+      c.in_ok-abandon_next.ensures.exact c.loop-done.invariant.1 c.in_ok-abandon_next.ensures.falls,
 )
 
 pub returns-clause-exact : goal.returns-clause-exact
@@ -56,3 +62,9 @@ returns-clause-any c =
     any_late c.args.why.now c.inflight_len-count.result c.loop-done.done (c.args.self.now, c.args.streams.now)
     (c.loop-done.self, c.loop-done.streams) c.loop-done.invariant.0 c.inflight_len-count.ensures
     (omega (arith, c.loop-done-test.false))
+
+pub returns-clause-falls : goal.returns-clause-falls
+returns-clause-falls c =
+    first_late c.args.why.now c.inflight_len-count.result _ c.loop-done.done (c.args.self.now, c.args.streams.now)
+    (c.loop-done.self, c.loop-done.streams) c.args.fallen.now c.loop-done.fallen c.inflight_len-count.ensures
+    (omega (arith, c.loop-done-test.false)) c.loop-done.invariant.1

@@ -1,12 +1,13 @@
 use Rattle.std.proofs.Common.{sym, ◌∙◌, arith}
-use Rattle.sctp_streams.proofs.LowMarks.{gathers_both, gathers_nothing}
 use Rattle.sctp_outbound.proofs.Dropped.{drop_ends_early, drop_ends_late, drops_from, drops_more}
+use Rattle.sctp_outbound.proofs.Falling as falling
 use Rattle.sctp_outbound.proofs.sender.Sender.drop_all.Goals as goal
 
 pub loop-done-init : goal.loop-done-init
 loop-done-init c = (
   drops_from c.pending_messages-count.result c.args.now (c.args.self.now, c.args.streams.now),
-  gathers_nothing c.args.streams.now c.args.fallen.now,
+  falling.drops_from c.args.now c.pending_messages-count.result (c.args.self.now, c.args.streams.now)
+      c.args.fallen.now,
 )
 
 pub returns-then-not-drop_first-clause-exact : goal.returns-then-not-drop_first-clause-exact
@@ -16,16 +17,22 @@ returns-then-not-drop_first-clause-exact c =
     c.pending_messages-count.ensures c.loop-done.invariant.0
     (sym c.drop_first.ensures.any ∙ c.if-not-drop_first.true) c.drop_first.ensures.exact
 
-pub returns-then-not-drop_first-clause-gathers : goal.returns-then-not-drop_first-clause-gathers
-returns-then-not-drop_first-clause-gathers c =
-    gathers_both _ _ _ _ _ _ c.loop-done.invariant.1 c.drop_first.ensures.gathers
+pub returns-then-not-drop_first-clause-falls : goal.returns-then-not-drop_first-clause-falls
+returns-then-not-drop_first-clause-falls c =
+    falling.drops_early c.args.now c.pending_messages-count.result _ c.loop-done.done
+    (c.args.self.now, c.args.streams.now) (c.loop-done.self, c.loop-done.streams) c.args.fallen.now
+    c.loop-done.fallen c.drop_first.new.fallen c.pending_messages-count.ensures
+    (sym c.drop_first.ensures.any ∙ c.if-not-drop_first.true) c.loop-done.invariant.1 c.drop_first.ensures.falls
 
 pub loop-done-preserved : goal.loop-done-preserved
 loop-done-preserved c = (
   drops_more c.pending_messages-count.result c.loop-done.done c.args.now (c.args.self.now, c.args.streams.now)
       (c.loop-done.self, c.loop-done.streams) (c.drop_first.new.self, c.drop_first.new.streams)
       c.loop-done-test.true c.loop-done.invariant.0 c.drop_first.ensures.exact,
-  gathers_both _ _ _ _ _ _ c.loop-done.invariant.1 c.drop_first.ensures.gathers,
+  falling.drops_more c.args.now c.pending_messages-count.result c.loop-done.done
+      (c.args.self.now, c.args.streams.now) (c.loop-done.self, c.loop-done.streams)
+      (c.drop_first.new.self, c.drop_first.new.streams) c.args.fallen.now c.loop-done.fallen c.drop_first.new.fallen
+      c.loop-done-test.true c.drop_first.ensures.exact c.loop-done.invariant.1 c.drop_first.ensures.falls,
 )
 
 pub returns-clause-exact : goal.returns-clause-exact
@@ -33,3 +40,10 @@ returns-clause-exact c =
     drop_ends_late c.pending_messages-count.result c.loop-done.done c.args.now (c.args.self.now, c.args.streams.now)
     (c.loop-done.self, c.loop-done.streams) c.pending_messages-count.ensures
     (omega (arith, c.loop-done-test.false)) c.loop-done.invariant.0
+
+pub returns-clause-falls : goal.returns-clause-falls
+returns-clause-falls c =
+    falling.drops_late c.args.now c.pending_messages-count.result _ c.loop-done.done
+    (c.args.self.now, c.args.streams.now) (c.loop-done.self, c.loop-done.streams) c.args.fallen.now
+    c.loop-done.fallen c.pending_messages-count.ensures (omega (arith, c.loop-done-test.false))
+    c.loop-done.invariant.1

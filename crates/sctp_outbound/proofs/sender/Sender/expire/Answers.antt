@@ -1,9 +1,14 @@
-use Rattle.sctp_streams.proofs.LowMarks.{gathers_both, gathers_nothing}
+use Rattle.sctp_outbound.proofs.Falling.{expired_all, expired_none}
 use Rattle.sctp_outbound.proofs.sender.Sender.expire.Goals as goal
 
-pub returns-then-not-forward-clause-gathers : goal.returns-then-not-forward-clause-gathers
-returns-then-not-forward-clause-gathers c = gathers_nothing c.args.streams.now c.args.fallen.now
+pub returns-then-not-forward-clause-falls : goal.returns-then-not-forward-clause-falls
+returns-then-not-forward-clause-falls c =
+    expired_none c.args.forward c.args.now (c.args.self.now, c.args.streams.now) c.args.fallen.now
+    c.if-not-forward.true
 
-pub returns-clause-gathers : goal.returns-clause-gathers
-returns-clause-gathers c =
-    gathers_both _ _ _ _ _ _ c.in_ok-any_sent.ensures.gathers c.in_ok-tail.ensures.gathers
+pub returns-clause-falls : goal.returns-clause-falls
+returns-clause-falls c =
+    expired_all c.args.forward c.args.now c.args.self.now c.start_timed.new.self c.abandon_all.new.self
+    c.args.streams.now c.abandon_all.new.streams c.args.fallen.now c.abandon_all.new.fallen c.expire_tail.new.fallen
+    c.if-not-forward.false c.start_timed.ensures c.in_ok-any_sent.ensures.exact c.in_ok-any_sent.ensures.falls
+    c.in_ok-tail.ensures.falls

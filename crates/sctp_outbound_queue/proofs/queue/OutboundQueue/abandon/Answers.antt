@@ -15,5 +15,5 @@ overflow_add-result c =
 
 pub returns-clause-ok : goal.returns-clause-ok
 returns-clause-ok c =
-    abandoned_is c.args.self.now c.args.tsn c.index_of.ensures c.in-Some.ensures c.bytes_of_message-sent.ensures
-    c.in_ok-tail.ensures.ok c.flag.ensures
+    abandoned_is c.args.self.now c.args.index c.in-Some.ensures c.bytes_of_message-sent.ensures c.in_ok-tail.ensures.ok
+    c.flag.ensures

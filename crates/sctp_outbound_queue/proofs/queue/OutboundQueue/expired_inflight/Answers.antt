@@ -2,8 +2,8 @@ use Rattle.std.proofs.Common.{◌∙◌, sym}
 use Rattle.sctp_outbound_queue.proofs.Timely.{none_over, rebound}
 use Rattle.sctp_outbound_queue.proofs.queue.OutboundQueue.expired_inflight.Goals as goal
 
-pub returns-then-not-is_over-clause-tsn : goal.returns-then-not-is_over-clause-tsn
-returns-then-not-is_over-clause-tsn c =
+pub returns-then-not-is_over-clause-index : goal.returns-then-not-is_over-clause-index
+returns-then-not-is_over-clause-index c =
     let q = c.self.inside in
     rw (← c.self.view_is)
     (none_over c.args.now q.all_run q.next_deadline

@@ -1,7 +1,7 @@
 use Rattle.std.proofs.Common.{rules, ◌≡◌, ◌∙◌, Some, slice_get, sym}
 use Rattle.sctp_outbound.specs.declared.abandonment.Reached.TheVariants as reached
 use Rattle.sctp_outbound.proofs.GivenUp.{pass_step}
-use Rattle.sctp_outbound.proofs.sender.Sender.spent_place.Goals as goal
+use Rattle.sctp_outbound.proofs.sender.Sender.spent_index.Goals as goal
 
 pub returns-in-Spent : goal.returns-in-Spent
 returns-in-Spent c =
