@@ -2,23 +2,26 @@
 -- any stream.
 use Rattle.std.proofs.Common.{◌≡◌, refl, sym, ap, ◌∙◌, subst, subst₂, ⊎_elim, ℕ, suc, Bool, true, false, cond, eqb}
 use Rattle.std.proofs.Common.{List, [], ◌∷◌, length, Option, Some, None}
-use Rattle.std.specs.Prelude.{⊤}
+use Rattle.std.specs.Prelude.{⊤, slice_get}
 use Rattle.std.proofs.lemmas.Bool.{cases_Bool, cond-true, cond-false, cond_both, eqb-true}
 use Rattle.sctp_outbound_queue.specs.declared.message.InFlight.{InFlight}
 use Rattle.sctp_outbound_queue.specs.Message.{outstanding_bytes}
+use Rattle.sctp_outbound_queue.specs.Waiting.{Waiting}
 use Rattle.sctp_outbound.specs.Sender.{streams_after}
 use Rattle.sctp_wire_types.specs.declared.ids.PayloadProtocolIdentifier.{PayloadProtocolIdentifier}
 use Rattle.sctp_streams.specs.declared.setting.Setting.{Setting}
 use Rattle.sctp_streams.specs.declared.setting.Setting.TheVariants as settings
-use Rattle.sctp_streams.specs.Stream.{StreamView, accepted_by, released_from, with_setting}
-use Rattle.sctp_streams.specs.Streams.{StreamMap, change_at, changed_stream, is_generation, stream_at}
+use Rattle.sctp_streams.specs.Stream.{StreamView, accepted_by, released_from, with_setting, with_ssn_given_back}
+use Rattle.sctp_streams.specs.Streams.{StreamMap, change_at, changed_stream, given_back_in, is_generation, released_in}
+use Rattle.sctp_streams.specs.Streams.{stream_at}
 use Rattle.sctp_model.specs.Messages.{Plan}
 use Rattle.sctp_model.specs.Reassembly.{Queue}
 use Rattle.sctp_model.specs.Machine.{Direction}
 use Rattle.sctp_fit.specs.Incoming.{FitsIncoming, IsQueueAt, Receiving}
 use Rattle.sctp_outbound.specs.GapAcks.{released_among}
 use Rattle.sctp_fit.proofs.StreamsThere.{at_with}
-use Rattle.sctp_directions.specs.Acts.{Act, Parts, is_acknowledged_by, receiving, type_on, with_written}
+use Rattle.sctp_directions.specs.Acts.{Act, Parts, is_acknowledged_by, receiving, type_on, with_abandoned, with_dropped}
+use Rattle.sctp_directions.specs.Acts.{with_tail_abandoned, with_written}
 use Rattle.sctp_directions.specs.Laws.{OwnActsLeaveWhatComes}
 
 -- Streams of which the same is held
@@ -93,14 +96,55 @@ setting_holds (settings.LowMark bytes) t = refl
 setting_holds (settings.HighMark bytes) t = refl
 setting_holds settings.WriteHalfClosed t = refl
 
--- releasing the bytes of a piece leaves what is held of each stream
+-- releasing bytes leaves what is held of each stream
+released_same : (m : StreamMap) (id generation bytes n : ℕ)
+    → IsSameHeld (stream_at m n) (stream_at (released_in m id generation bytes) n)
+released_same m id generation bytes n = cond_both (is_generation (stream_at m id) generation) _ m
+    (λ (z : StreamMap). IsSameHeld (stream_at m n) (stream_at z n))
+    (λ b. changed_same (λ t. released_from t bytes) (λ t. refl) m id n)
+    (λ b. same_held (stream_at m n))
+
 after_same : (x : Option InFlight) (m : StreamMap) (n : ℕ)
     → IsSameHeld (stream_at m n) (stream_at (streams_after x m) n)
 after_same None m n = same_held (stream_at m n)
-after_same (Some x) m n = cond_both (is_generation (stream_at m x.message.stream_identifier) x.message.generation) _ m
+after_same (Some x) m n =
+    released_same m x.message.stream_identifier x.message.generation (outstanding_bytes x) n
+
+-- so does giving back what a dropped message took
+returned_holds : (unordered : Bool) (bytes : ℕ) (t : StreamView)
+    → (released_from (cond unordered t (with_ssn_given_back t)) bytes).reassembly ≡ t.reassembly
+returned_holds true bytes t = refl
+returned_holds false bytes t = refl
+
+given_back_same : (m : StreamMap) (id generation : ℕ) (unordered : Bool) (bytes n : ℕ)
+    → IsSameHeld (stream_at m n) (stream_at (given_back_in m id generation unordered bytes) n)
+given_back_same m id generation unordered bytes n = cond_both (is_generation (stream_at m id) generation) _ m
     (λ (z : StreamMap). IsSameHeld (stream_at m n) (stream_at z n))
-    (λ b. changed_same (λ t. released_from t (outstanding_bytes x)) (λ t. refl) m x.message.stream_identifier n)
+    (λ b. changed_same (λ t. released_from (cond unordered t (with_ssn_given_back t)) bytes)
+    (returned_holds unordered bytes) m id n)
     (λ b. same_held (stream_at m n))
+
+-- a message that is given up leaves what came as it is
+abandoned_fits : (o : Option InFlight) (p : Parts) (w : Direction) → FitsIncoming (receiving p) w
+    → FitsIncoming (receiving (with_abandoned o p)) w
+abandoned_fits None p w fits = fits
+abandoned_fits (Some x) p w fits =
+    fits_streams (receiving p) (with_abandoned (Some x) p).streams w
+    (released_same p.streams x.message.stream_identifier x.message.generation _) fits
+
+tail_fits : (o : Option Waiting) (p : Parts) (w : Direction) → FitsIncoming (receiving p) w
+    → FitsIncoming (receiving (with_tail_abandoned o p)) w
+tail_fits None p w fits = fits
+tail_fits (Some x) p w fits =
+    fits_streams (receiving p) (with_tail_abandoned (Some x) p).streams w
+    (released_same p.streams x.message.stream_identifier x.message.generation _) fits
+
+dropped_fits : (k : ℕ) (o : Option Waiting) (p : Parts) (w : Direction) → FitsIncoming (receiving p) w
+    → FitsIncoming (receiving (with_dropped k o p)) w
+dropped_fits k None p w fits = fits
+dropped_fits k (Some x) p w fits =
+    fits_streams (receiving p) (with_dropped k (Some x) p).streams w
+    (given_back_same p.streams x.message.stream_identifier x.message.generation x.message.unordered _) fits
 
 -- and releasing those of the named pieces leaves what came as it is
 released_fits : (named : ℕ → Bool) (j : ℕ) (xs : List InFlight) (m : StreamMap) (a : Receiving) (w : Direction)
@@ -126,7 +170,14 @@ own_acts_leave_what_comes (Act.SentAgain by index) p w own fits = fits
 own_acts_leave_what_comes Act.Marked p w own fits = fits
 own_acts_leave_what_comes (Act.Acknowledged n blocks missing) p w own fits =
     released_fits (is_acknowledged_by n blocks) 0 p.queue.in_flight p.streams (receiving p) w fits
+own_acts_leave_what_comes (Act.Abandoned index) p w own fits =
+    abandoned_fits (slice_get p.queue.in_flight index) p w fits
+own_acts_leave_what_comes Act.TailAbandoned p w own fits = tail_fits (slice_get p.queue.pending 0) p w fits
+own_acts_leave_what_comes (Act.Dropped k) p w own fits = dropped_fits k (slice_get p.queue.pending k) p w fits
+own_acts_leave_what_comes (Act.Started now) p w own fits = fits
+own_acts_leave_what_comes Act.Forwarded p w own fits = fits
 own_acts_leave_what_comes (Act.Took piece) p w own fits = absurd own
+own_acts_leave_what_comes (Act.PassedOver tsn skipped) p w own fits = absurd own
 own_acts_leave_what_comes Act.Reported p w own fits = absurd own
 own_acts_leave_what_comes (Act.WasRead id) p w own fits = absurd own
 own_acts_leave_what_comes Act.Ended p w own fits = absurd own

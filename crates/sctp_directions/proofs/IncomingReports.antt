@@ -4,7 +4,7 @@ use Rattle.std.proofs.Common.{leb, List, [], ◌∷◌, ◌++◌, length, Some}
 use Rattle.std.specs.Prelude.{slice_get}
 use Rattle.std.proofs.lemmas.Bool.{cases_Bool, false_from_ne_true, le-leb, true≢false}
 use Rattle.sctp_wire_types.specs.declared.chunk.ChunkSelectiveAck.{ChunkSelectiveAck}
-use Rattle.sctp_model.specs.Packets.{Sack, mem}
+use Rattle.sctp_model.specs.Packets.{mem}
 use Rattle.sctp_model.specs.Machine.{Direction, Event, Receiver, happens, reach, sack_of}
 use Rattle.sctp_model.proofs.OffsetSets.{mem-filter, mem_from_filter}
 use Rattle.sctp_fit.proofs.DataTaken.{reports_change_nothing, same_reach}
@@ -13,7 +13,7 @@ use Rattle.sctp_directions.specs.Laws.{ReportsSayWhatWasTaken}
 use Rattle.sctp_directions.specs.Reports.{SaysWhatWasTaken}
 
 -- what is pushed to a list stands last in it
-pushed_last : (xs : List Sack) (x : Sack) → slice_get (xs ++ x ∷ []) (length xs) ≡ Some x
+pub pushed_last : {X : Type 0} (xs : List X) (x : X) → slice_get (xs ++ x ∷ []) (length xs) ≡ Some x
 pushed_last [] x = refl
 pushed_last (y ∷ ys) x = pushed_last ys x
 

@@ -1,84 +1,85 @@
 -- What each event of a direction between associations leaves, and what it keeps.
-use Rattle.std.proofs.Common.{◌≡◌, ◌⊎◌, refl, sym, ap, ◌∙◌, subst, ⊎_elim, inl, inr, ℕ, zero, suc, ◌<◌, ◌≤◌}
-use Rattle.std.proofs.Common.{arith, true, eqb, if◌then◌else◌, length, List, [], ◌∷◌, ◌++◌, Option, Some, None}
+use Rattle.std.proofs.Common.{◌≡◌, ◌⊎◌, refl, sym, ap, ◌∙◌, subst, ⊎_elim, inl, inr, ℕ, zero, suc, ◌≤◌}
+use Rattle.std.proofs.Common.{arith, Bool, true, eqb, if◌then◌else◌, length, List, [], ◌∷◌, ◌++◌, Option, Some, None}
 use Rattle.std.specs.Prelude.{◌==◌, slice_get}
 use Rattle.std.proofs.lemmas.Bool.{cases_eq, cond-false, cond-true, eq-eqb, ne_eqb}
-use Rattle.std.proofs.lemmas.List.{append-nil}
-use Rattle.sctp_wire_types.specs.declared.ids.PayloadProtocolIdentifier.{PayloadProtocolIdentifier}
-use Rattle.sctp_wire_types.specs.declared.ids.PayloadProtocolIdentifier.TheVariants as kinds
-use Rattle.sctp_streams.specs.Stream.{StreamView}
-use Rattle.sctp_model.specs.Messages.{Message, as_kept}
-use Rattle.sctp_model.specs.Packets.{Data, mem}
-use Rattle.sctp_model.specs.Machine.{Direction, Event, Sender, acknowledged_by, happens, put, written}
+use Rattle.std.proofs.lemmas.List.{append-nil, length-append}
+use Rattle.sctp_model.specs.Messages.{Message}
+use Rattle.sctp_model.specs.Packets.{Data, Forward, mem}
+use Rattle.sctp_model.specs.Machine.{Direction, Event, Sender, acknowledged_by, forward_of, happens, put}
 use Rattle.sctp_model.specs.Invariants.{Invariant}
 use Rattle.sctp_model.proofs.PlansGrow.{at_put, off_put}
-use Rattle.sctp_model.proofs.SenderEvents.{keeps_pass_over}
+use Rattle.sctp_model.proofs.SenderEvents.{keeps_drop, keeps_pass_over}
 use Rattle.sctp_model.proofs.OffsetsAssigned.{keeps_go_on}
-use Rattle.sctp_model.proofs.EventsKeepInvariant.{begin_event_keeps, resend_event_keeps, sack_event_keeps}
-use Rattle.sctp_model.proofs.EventsKeepInvariant.{write_event_keeps}
+use Rattle.sctp_model.proofs.EventsKeepInvariant.{abandon_event_keeps, begin_event_keeps, forward_made_event_keeps}
+use Rattle.sctp_model.proofs.EventsKeepInvariant.{resend_event_keeps, sack_event_keeps, write_event_keeps}
 use Rattle.sctp_fit.specs.Writes.{message_on}
 use Rattle.sctp_fit.proofs.MessagesAccepted.{happens_write, kept_as_written}
-use Rattle.sctp_directions.specs.Events.{AcceptsAMessage, Assigns, Brings, GivesAMessage, IsOfReceiving, IsOfSending}
-use Rattle.sctp_directions.specs.Events.{IsReceived, IsSentOn}
-use Rattle.sctp_directions.specs.Laws.{ClosedReceiversAreNotOpen, EventsKeepTheLimits, FreshDirectionsArePlain}
-use Rattle.sctp_directions.specs.Laws.{OnlyBeginningsAssign, OnlyReadsGiveMessages, OnlyWhatIsBroughtIsTakenIn}
+use Rattle.sctp_directions.specs.Events.{AcceptsAMessage, Assigns, Brings, BringsForward, GivesAMessage}
+use Rattle.sctp_directions.specs.Events.{IsForwardWithin, IsOfReceiving, IsOfSending, IsReceived, IsSentOn}
+use Rattle.sctp_directions.specs.Events.{MakesAForward}
+use Rattle.sctp_directions.specs.Plain.{IsPlain}
+use Rattle.sctp_directions.specs.Laws.{AbandonmentsAssignOneOffset, ClosedReceiversAreNotOpen, EventsKeepTheLimits}
+use Rattle.sctp_directions.specs.Laws.{FreshDirectionsArePlain, OnlyBeginningsAssign, OnlyForwardMadeGivesForwards}
+use Rattle.sctp_directions.specs.Laws.{OnlyForwardsPassOver, OnlyReadsGiveMessages, OnlyWhatIsBroughtIsTakenIn}
 use Rattle.sctp_directions.specs.Laws.{OnlyWritesAccept, PlainEventsKeepItPlain, ReceiversEventsAreReceived}
 use Rattle.sctp_directions.specs.Laws.{SendersEventsAreSent, SendersEventsKeepTheInvariant, WritesAreAcceptedLast}
-use Rattle.sctp_directions.proofs.PlainReceiver.{close_received, close_takes, closed, data_cases, data_received}
-use Rattle.sctp_directions.proofs.PlainReceiver.{data_takes, open_received, open_takes, plain_close, plain_data}
-use Rattle.sctp_directions.proofs.PlainReceiver.{plain_open, plain_read, plain_sack, read_received, read_takes}
-use Rattle.sctp_directions.proofs.PlainReceiver.{sack_received, sack_takes, within_close, within_data, within_open}
-use Rattle.sctp_directions.proofs.PlainReceiver.{within_sack, within_sack_comes}
-use Rattle.sctp_directions.proofs.PlainSender.{plain_begin, plain_go_on, plain_pass_over, plain_resend}
-use Rattle.sctp_directions.proofs.PlainSender.{plain_sack_comes, plain_write}
-use Rattle.sctp_directions.proofs.SenderCases.{begin_cases, go_on_cases, pass_over_cases, resend_cases, sack_cases}
-use Rattle.sctp_directions.proofs.SenderCases.{write_cases}
+use Rattle.sctp_directions.proofs.ReceiverCases.{close_passes, close_received, close_takes, closed, data_cases}
+use Rattle.sctp_directions.proofs.ReceiverCases.{data_passes, data_received, data_takes, forward_cases, forward_passes}
+use Rattle.sctp_directions.proofs.ReceiverCases.{forward_received, forward_takes, open_passes, open_received}
+use Rattle.sctp_directions.proofs.ReceiverCases.{open_takes, read_passes, read_received, read_takes, sack_passes}
+use Rattle.sctp_directions.proofs.ReceiverCases.{sack_received, sack_takes, within_close, within_data, within_drop}
+use Rattle.sctp_directions.proofs.ReceiverCases.{within_forward, within_forward_made, within_open, within_sack}
+use Rattle.sctp_directions.proofs.ReceiverCases.{within_sack_comes}
+use Rattle.sctp_directions.proofs.SenderCases.{abandon_cases, begin_cases, drop_cases, forward_made_cases, go_on_cases}
+use Rattle.sctp_directions.proofs.SenderCases.{pass_over_cases, resend_cases, sack_cases, write_cases}
 
 -- Which events there are
 
 by_sender : (P : Event → Type 0) → ((s : ℕ) (m : Message) → P (Event.Write s m)) → ((s : ℕ) → P (Event.PassOver s))
-    → ((s i any : ℕ) → P (Event.Begin s i any)) → P Event.GoOn → ((o : ℕ) → P (Event.Resend o))
-    → ((k : ℕ) → P (Event.SackComes k)) → (e : Event) → IsOfSending e → P e
-by_sender P writes passes begins goes_on resends sacks (Event.Write s m) h = writes s m
-by_sender P writes passes begins goes_on resends sacks (Event.PassOver s) h = passes s
-by_sender P writes passes begins goes_on resends sacks (Event.Drop s i) h = absurd h
-by_sender P writes passes begins goes_on resends sacks (Event.Begin s i any) h = begins s i any
-by_sender P writes passes begins goes_on resends sacks Event.GoOn h = goes_on
-by_sender P writes passes begins goes_on resends sacks (Event.Resend o) h = resends o
-by_sender P writes passes begins goes_on resends sacks (Event.Abandon s i) h = absurd h
-by_sender P writes passes begins goes_on resends sacks (Event.SackComes k) h = sacks k
-by_sender P writes passes begins goes_on resends sacks Event.ForwardMade h = absurd h
-by_sender P writes passes begins goes_on resends sacks (Event.DataComes k) h = absurd h
-by_sender P writes passes begins goes_on resends sacks Event.SackMade h = absurd h
-by_sender P writes passes begins goes_on resends sacks (Event.ForwardComes k) h = absurd h
-by_sender P writes passes begins goes_on resends sacks (Event.Open s) h = absurd h
-by_sender P writes passes begins goes_on resends sacks (Event.Read s) h = absurd h
-by_sender P writes passes begins goes_on resends sacks Event.Close h = absurd h
-by_sender P writes passes begins goes_on resends sacks (Event.End s) h = absurd h
-by_sender P writes passes begins goes_on resends sacks (Event.Restart s) h = absurd h
-by_sender P writes passes begins goes_on resends sacks (Event.Replace s q) h = absurd h
+    → ((s i : ℕ) → P (Event.Drop s i)) → ((s i any : ℕ) → P (Event.Begin s i any)) → P Event.GoOn
+    → ((o : ℕ) → P (Event.Resend o)) → ((s i : ℕ) → P (Event.Abandon s i)) → ((k : ℕ) → P (Event.SackComes k))
+    → P Event.ForwardMade → (e : Event) → IsOfSending e → P e
+by_sender P writes passes drops begins goes_on resends abandons sacks forwards (Event.Write s m) h = writes s m
+by_sender P writes passes drops begins goes_on resends abandons sacks forwards (Event.PassOver s) h = passes s
+by_sender P writes passes drops begins goes_on resends abandons sacks forwards (Event.Drop s i) h = drops s i
+by_sender P writes passes drops begins goes_on resends abandons sacks forwards (Event.Begin s i any) h = begins s i any
+by_sender P writes passes drops begins goes_on resends abandons sacks forwards Event.GoOn h = goes_on
+by_sender P writes passes drops begins goes_on resends abandons sacks forwards (Event.Resend o) h = resends o
+by_sender P writes passes drops begins goes_on resends abandons sacks forwards (Event.Abandon s i) h = abandons s i
+by_sender P writes passes drops begins goes_on resends abandons sacks forwards (Event.SackComes k) h = sacks k
+by_sender P writes passes drops begins goes_on resends abandons sacks forwards Event.ForwardMade h = forwards
+by_sender P writes passes drops begins goes_on resends abandons sacks forwards (Event.DataComes k) h = absurd h
+by_sender P writes passes drops begins goes_on resends abandons sacks forwards Event.SackMade h = absurd h
+by_sender P writes passes drops begins goes_on resends abandons sacks forwards (Event.ForwardComes k) h = absurd h
+by_sender P writes passes drops begins goes_on resends abandons sacks forwards (Event.Open s) h = absurd h
+by_sender P writes passes drops begins goes_on resends abandons sacks forwards (Event.Read s) h = absurd h
+by_sender P writes passes drops begins goes_on resends abandons sacks forwards Event.Close h = absurd h
+by_sender P writes passes drops begins goes_on resends abandons sacks forwards (Event.End s) h = absurd h
+by_sender P writes passes drops begins goes_on resends abandons sacks forwards (Event.Restart s) h = absurd h
+by_sender P writes passes drops begins goes_on resends abandons sacks forwards (Event.Replace s q) h = absurd h
 
-by_receiver : (P : Event → Type 0) → ((k : ℕ) → P (Event.DataComes k)) → P Event.SackMade → ((s : ℕ) → P (Event.Open s))
-    → ((s : ℕ) → P (Event.Read s))
+by_receiver : (P : Event → Type 0) → ((k : ℕ) → P (Event.DataComes k)) → P Event.SackMade
+    → ((k : ℕ) → P (Event.ForwardComes k)) → ((s : ℕ) → P (Event.Open s)) → ((s : ℕ) → P (Event.Read s))
     → P Event.Close → (e : Event) → IsOfReceiving e → P e
-by_receiver P comes made opens reads closes (Event.Write s m) h = absurd h
-by_receiver P comes made opens reads closes (Event.PassOver s) h = absurd h
-by_receiver P comes made opens reads closes (Event.Drop s i) h = absurd h
-by_receiver P comes made opens reads closes (Event.Begin s i any) h = absurd h
-by_receiver P comes made opens reads closes Event.GoOn h = absurd h
-by_receiver P comes made opens reads closes (Event.Resend o) h = absurd h
-by_receiver P comes made opens reads closes (Event.Abandon s i) h = absurd h
-by_receiver P comes made opens reads closes (Event.SackComes k) h = absurd h
-by_receiver P comes made opens reads closes Event.ForwardMade h = absurd h
-by_receiver P comes made opens reads closes (Event.DataComes k) h = comes k
-by_receiver P comes made opens reads closes Event.SackMade h = made
-by_receiver P comes made opens reads closes (Event.ForwardComes k) h = absurd h
-by_receiver P comes made opens reads closes (Event.Open s) h = opens s
-by_receiver P comes made opens reads closes (Event.Read s) h = reads s
-by_receiver P comes made opens reads closes Event.Close h = closes
-by_receiver P comes made opens reads closes (Event.End s) h = absurd h
-by_receiver P comes made opens reads closes (Event.Restart s) h = absurd h
-by_receiver P comes made opens reads closes (Event.Replace s q) h = absurd h
+by_receiver P comes made forwards opens reads closes (Event.Write s m) h = absurd h
+by_receiver P comes made forwards opens reads closes (Event.PassOver s) h = absurd h
+by_receiver P comes made forwards opens reads closes (Event.Drop s i) h = absurd h
+by_receiver P comes made forwards opens reads closes (Event.Begin s i any) h = absurd h
+by_receiver P comes made forwards opens reads closes Event.GoOn h = absurd h
+by_receiver P comes made forwards opens reads closes (Event.Resend o) h = absurd h
+by_receiver P comes made forwards opens reads closes (Event.Abandon s i) h = absurd h
+by_receiver P comes made forwards opens reads closes (Event.SackComes k) h = absurd h
+by_receiver P comes made forwards opens reads closes Event.ForwardMade h = absurd h
+by_receiver P comes made forwards opens reads closes (Event.DataComes k) h = comes k
+by_receiver P comes made forwards opens reads closes Event.SackMade h = made
+by_receiver P comes made forwards opens reads closes (Event.ForwardComes k) h = forwards k
+by_receiver P comes made forwards opens reads closes (Event.Open s) h = opens s
+by_receiver P comes made forwards opens reads closes (Event.Read s) h = reads s
+by_receiver P comes made forwards opens reads closes Event.Close h = closes
+by_receiver P comes made forwards opens reads closes (Event.End s) h = absurd h
+by_receiver P comes made forwards opens reads closes (Event.Restart s) h = absurd h
+by_receiver P comes made forwards opens reads closes (Event.Replace s q) h = absurd h
 
 -- The sender's events
 
@@ -91,23 +92,50 @@ sent_on : (w : Direction) (x : Sender) (datas : List Data) → x.plan.size ≡ w
     → w.sender.reach ≤ x.reach
     → ((k : ℕ) (d : Data) → slice_get w.datas k ≡ Some d → slice_get datas k ≡ Some d)
     → IsSentFrom w (record w { sender = x; datas = datas })
-sent_on w x datas size on kept =
-    (record { datas = kept; sacks = refl; receiver = refl; reads = refl; over = refl; size = size }, on)
+sent_on w x datas size on kept = (
+  record {
+    datas = kept;
+    forwards = λ k f e. e;
+    sacks = refl;
+    receiver = refl;
+    reads = refl;
+    over = refl;
+    size = size;
+  },
+  on,
+)
 
 -- an event that gives out no DATA
 sent_same : (w : Direction) (x : Sender) → x.plan.size ≡ w.sender.plan.size → w.sender.reach ≤ x.reach
     → IsSentFrom w (record w { sender = x })
 sent_same w x size on = sent_on w x w.datas size on (λ k d e. e)
 
+-- what stands in a list stays where it is, where one more stands behind it
+got_before : {X : Type 0} (xs : List X) (y : X) (k : ℕ) (x : X) → slice_get xs k ≡ Some x
+    → slice_get (xs ++ y ∷ []) k ≡ Some x
+got_before [] y k x e = absurd (cc)
+got_before (z ∷ xs) y zero x e = e
+got_before (z ∷ xs) y (suc k) x e = got_before xs y k x e
+
 -- an event that gives out DATA, behind all that was given out
 sent_more : (w : Direction) (x : Sender) (d : Data) → x.plan.size ≡ w.sender.plan.size → w.sender.reach ≤ x.reach
     → IsSentFrom w (record w { sender = x; datas = w.datas ++ d ∷ [] })
-sent_more w x d size on = sent_on w x (w.datas ++ d ∷ []) size on (λ k c e. got_before w.datas k c e)
-  where
-    got_before : (xs : List Data) (k : ℕ) (c : Data) → slice_get xs k ≡ Some c → slice_get (xs ++ d ∷ []) k ≡ Some c
-    got_before [] k c e = absurd (cc)
-    got_before (y ∷ xs) zero c e = e
-    got_before (y ∷ xs) (suc k) c e = got_before xs k c e
+sent_more w x d size on = sent_on w x (w.datas ++ d ∷ []) size on (λ k c e. got_before w.datas d k c e)
+
+-- an event that makes a FORWARD TSN, behind all that were made
+sent_forward : (w : Direction) (f : Forward) → IsSentFrom w (record w { forwards = w.forwards ++ f ∷ [] })
+sent_forward w f = (
+  record {
+    datas = λ k d e. e;
+    forwards = λ k g e. got_before w.forwards f k g e;
+    sacks = refl;
+    receiver = refl;
+    reads = refl;
+    over = refl;
+    size = refl;
+  },
+  omega arith,
+)
 
 -- an event that can't happen where it stands
 sent_nothing : (w : Direction) → IsSentFrom w w
@@ -118,10 +146,14 @@ senders_events_are_sent w e at =
     by_sender (λ (x : Event). IsSentFrom w (happens w x))
     (λ s m. write_cases (IsSentFrom w) w s m (sent_nothing w) (sent_same w _ refl (omega arith)))
     (λ s. pass_over_cases (IsSentFrom w) w s (sent_nothing w) (λ b. sent_same w _ refl (omega arith)))
+    (λ s i. drop_cases (IsSentFrom w) w s i (sent_nothing w) (λ b. sent_same w _ refl (omega arith)))
     (λ s i any. begin_cases (IsSentFrom w) w s i any (sent_nothing w) (λ n f g. sent_more w _ _ refl (omega arith)))
     (go_on_cases (IsSentFrom w) w (sent_nothing w) (λ y b. sent_more w _ _ refl (omega arith)))
     (λ o. resend_cases (IsSentFrom w) w o (sent_nothing w) (sent_more w w.sender _ refl (omega arith)))
+    (λ s i. abandon_cases (IsSentFrom w) w s i (sent_nothing w) (sent_same w _ refl (omega arith))
+    (λ y. sent_same w _ refl (omega arith)))
     (λ k. sack_cases (IsSentFrom w) w k (sent_nothing w) (λ x b l. sent_same w (acknowledged_by w.sender x) refl l))
+    (forward_made_cases (IsSentFrom w) w (sent_nothing w) (sent_forward w (forward_of w.sender w.over)))
     e at
 
 pub only_writes_accept : OnlyWritesAccept
@@ -129,10 +161,13 @@ only_writes_accept w e at none =
     by_sender (λ (x : Event). (AcceptsAMessage x → ⊥) → P (happens w x))
     (λ s m n. absurd (n tt))
     (λ s n. pass_over_cases P w s refl (λ b. refl))
+    (λ s i n. drop_cases P w s i refl (λ b. refl))
     (λ s i any n. begin_cases P w s i any refl (λ m f g. refl))
     (λ n. go_on_cases P w refl (λ y b. refl))
     (λ o n. resend_cases P w o refl refl)
+    (λ s i n. abandon_cases P w s i refl refl (λ y. refl))
     (λ k n. sack_cases P w k refl (λ x b l. refl))
+    (λ n. forward_made_cases P w refl refl)
     e at none
   where
     P : Direction → Type 0
@@ -143,22 +178,54 @@ only_beginnings_assign w e at none =
     by_sender (λ (x : Event). (Assigns x → ⊥) → P (happens w x))
     (λ s m n. write_cases P w s m refl refl)
     (λ s n. pass_over_cases P w s refl (λ b. refl))
+    (λ s i n. drop_cases P w s i refl (λ b. refl))
     (λ s i any n. absurd (n tt))
     (λ n. absurd (n tt))
     (λ o n. resend_cases P w o refl refl)
+    (λ s i n. absurd (n tt))
     (λ k n. sack_cases P w k refl (λ x b l. refl))
+    (λ n. forward_made_cases P w refl refl)
     e at none
   where
     P : Direction → Type 0
     P v = v.sender.plan.places ≡ w.sender.plan.places
 
+-- the rest of an abandoned message gets one offset
+pub abandonments_assign_one_offset : AbandonmentsAssignOneOffset
+abandonments_assign_one_offset w s i =
+    abandon_cases (λ (v : Direction). length v.sender.plan.places ≤ suc (length w.sender.plan.places)) w s i
+    (omega arith) (omega arith)
+    (λ y. let more = length-append w.sender.plan.places (record y { marker = true } ∷ []) in omega (arith, more))
+
+pub only_forward_made_gives_forwards : OnlyForwardMadeGivesForwards
+only_forward_made_gives_forwards w e at none =
+    by_sender (λ (x : Event). (MakesAForward x → ⊥) → P (happens w x))
+    (λ s m n. write_cases P w s m refl refl)
+    (λ s n. pass_over_cases P w s refl (λ b. refl))
+    (λ s i n. drop_cases P w s i refl (λ b. refl))
+    (λ s i any n. begin_cases P w s i any refl (λ m f g. refl))
+    (λ n. go_on_cases P w refl (λ y b. refl))
+    (λ o n. resend_cases P w o refl refl)
+    (λ s i n. abandon_cases P w s i refl refl (λ y. refl))
+    (λ k n. sack_cases P w k refl (λ x b l. refl))
+    (λ n. absurd (n tt))
+    e at none
+  where
+    P : Direction → Type 0
+    P v = v.forwards ≡ w.forwards
+
 pub senders_events_keep_the_invariant : SendersEventsKeepTheInvariant
-senders_events_keep_the_invariant w e at h =
-    by_sender (λ (x : Event). Invariant (happens w x)) (λ s m. write_event_keeps w s m h)
-    (λ s. pass_over_cases Invariant w s h (λ b. keeps_pass_over w s b h))
-    (λ s i any. begin_event_keeps w s i any h)
-    (go_on_cases Invariant w h (λ y b. keeps_go_on w y b h))
-    (λ o. resend_event_keeps w o h) (λ k. sack_event_keeps w k h) e at
+senders_events_keep_the_invariant w e at few h =
+    by_sender (λ (x : Event). IsForwardWithin w x → Invariant (happens w x)) (λ s m f. write_event_keeps w s m h)
+    (λ s f. pass_over_cases Invariant w s h (λ b. keeps_pass_over w s b h))
+    (λ s i f. drop_cases Invariant w s i h (λ b. keeps_drop w s i b h))
+    (λ s i any f. begin_event_keeps w s i any h)
+    (λ f. go_on_cases Invariant w h (λ y b. keeps_go_on w y b h))
+    (λ o f. resend_event_keeps w o h)
+    (λ s i f. abandon_event_keeps w s i h)
+    (λ k f. sack_event_keeps w k h)
+    (λ f. forward_made_event_keeps w f h)
+    e at few
 
 -- Writes
 
@@ -182,8 +249,8 @@ writes_are_accepted_last w s u t kind bytes some =
 
 pub receivers_events_are_received : ReceiversEventsAreReceived
 receivers_events_are_received w e at =
-    by_receiver (λ (x : Event). IsReceived w (happens w x)) (data_received w) (sack_received w) (open_received w)
-    (read_received w) (close_received w) e at
+    by_receiver (λ (x : Event). IsReceived w (happens w x)) (data_received w) (sack_received w) (forward_received w)
+    (open_received w) (read_received w) (close_received w) e at
 
 data_brings : (w : Direction) (k o : ℕ) → mem o (happens w (Event.DataComes k)).receiver.taken ≡ true
     → (mem o w.receiver.taken ≡ true) ⊎ Brings w (Event.DataComes k) o
@@ -207,9 +274,22 @@ only_what_is_brought_is_taken_in w e o at =
     → (mem o w.receiver.taken ≡ true) ⊎ Brings w x o)
     (λ k m. data_brings w k o m)
     (λ m. inl (subst (λ z. mem o z ≡ true) (sack_takes w) m))
+    (λ k m. inl (subst (λ z. mem o z ≡ true) (forward_takes w k) m))
     (λ s m. inl (subst (λ z. mem o z ≡ true) (open_takes w s) m))
     (λ s m. inl (subst (λ z. mem o z ≡ true) (read_takes w s) m))
     (λ m. inl (subst (λ z. mem o z ≡ true) (close_takes w) m))
+    e at
+
+pub only_forwards_pass_over : OnlyForwardsPassOver
+only_forwards_pass_over w e at =
+    by_receiver (λ (x : Event). ((happens w x).receiver.passed ≡ w.receiver.passed)
+    ⊎ BringsForward w x (happens w x).receiver.passed)
+    (λ k. inl (data_passes w k))
+    (inl (sack_passes w))
+    (forward_passes w)
+    (λ s. inl (open_passes w s))
+    (λ s. inl (read_passes w s))
+    (inl (close_passes w))
     e at
 
 reads_made : (w : Direction) (s : ℕ) → (happens w Event.SackMade).reads s ≡ w.reads s
@@ -229,6 +309,7 @@ only_reads_give_messages w e s at none =
     by_receiver (λ (x : Event). (GivesAMessage x → ⊥) → (happens w x).reads s ≡ w.reads s)
     (λ k n. data_cases (λ v. v.reads s ≡ w.reads s) w k refl (λ d f. refl))
     (λ n. reads_made w s)
+    (λ k n. forward_cases (λ v. v.reads s ≡ w.reads s) w k refl (λ f g. refl))
     (λ id n. reads_opened w id s)
     (λ id n. absurd (n tt))
     (λ n. reads_closed w s)
@@ -239,22 +320,32 @@ closed_receivers_are_not_open = closed
 
 -- What is kept
 
+-- a direction is plain where the spans are those of a plain one
+plain_by : (w v : Direction) → v.over ≡ w.over → IsPlain w → IsPlain v
+plain_by w v e h = record { span = λ s. ap (λ (f : ℕ → Bool). f s) e ∙ h.span s }
+
+sending_plain : (w : Direction) (e : Event) → IsOfSending e → IsPlain w → IsPlain (happens w e)
+sending_plain w e at h = plain_by w (happens w e) (senders_events_are_sent w e at).0.over h
+
+receiving_plain : (w : Direction) (e : Event) → IsOfReceiving e → IsPlain w → IsPlain (happens w e)
+receiving_plain w e at h = plain_by w (happens w e) (receivers_events_are_received w e at).over h
+
 pub plain_events_keep_it_plain : PlainEventsKeepItPlain
-plain_events_keep_it_plain w (Event.Write s m) e h = plain_write w s m h
-plain_events_keep_it_plain w (Event.PassOver s) e h = plain_pass_over w s h
-plain_events_keep_it_plain w (Event.Drop s i) e h = absurd e
-plain_events_keep_it_plain w (Event.Begin s i any) e h = plain_begin w s i any h
-plain_events_keep_it_plain w Event.GoOn e h = plain_go_on w h
-plain_events_keep_it_plain w (Event.Resend o) e h = plain_resend w o h
-plain_events_keep_it_plain w (Event.Abandon s i) e h = absurd e
-plain_events_keep_it_plain w (Event.SackComes k) e h = plain_sack_comes w k h
-plain_events_keep_it_plain w Event.ForwardMade e h = absurd e
-plain_events_keep_it_plain w (Event.DataComes k) e h = plain_data w k h
-plain_events_keep_it_plain w Event.SackMade e h = plain_sack w h
-plain_events_keep_it_plain w (Event.ForwardComes k) e h = absurd e
-plain_events_keep_it_plain w (Event.Open s) e h = plain_open w s h
-plain_events_keep_it_plain w (Event.Read s) e h = plain_read w s h
-plain_events_keep_it_plain w Event.Close e h = plain_close w h
+plain_events_keep_it_plain w (Event.Write s m) e h = sending_plain w (Event.Write s m) tt h
+plain_events_keep_it_plain w (Event.PassOver s) e h = sending_plain w (Event.PassOver s) tt h
+plain_events_keep_it_plain w (Event.Drop s i) e h = sending_plain w (Event.Drop s i) tt h
+plain_events_keep_it_plain w (Event.Begin s i any) e h = sending_plain w (Event.Begin s i any) tt h
+plain_events_keep_it_plain w Event.GoOn e h = sending_plain w Event.GoOn tt h
+plain_events_keep_it_plain w (Event.Resend o) e h = sending_plain w (Event.Resend o) tt h
+plain_events_keep_it_plain w (Event.Abandon s i) e h = sending_plain w (Event.Abandon s i) tt h
+plain_events_keep_it_plain w (Event.SackComes k) e h = sending_plain w (Event.SackComes k) tt h
+plain_events_keep_it_plain w Event.ForwardMade e h = sending_plain w Event.ForwardMade tt h
+plain_events_keep_it_plain w (Event.DataComes k) e h = receiving_plain w (Event.DataComes k) tt h
+plain_events_keep_it_plain w Event.SackMade e h = receiving_plain w Event.SackMade tt h
+plain_events_keep_it_plain w (Event.ForwardComes k) e h = receiving_plain w (Event.ForwardComes k) tt h
+plain_events_keep_it_plain w (Event.Open s) e h = receiving_plain w (Event.Open s) tt h
+plain_events_keep_it_plain w (Event.Read s) e h = receiving_plain w (Event.Read s) tt h
+plain_events_keep_it_plain w Event.Close e h = receiving_plain w Event.Close tt h
 plain_events_keep_it_plain w (Event.End s) e h = absurd e
 plain_events_keep_it_plain w (Event.Restart s) e h = absurd e
 plain_events_keep_it_plain w (Event.Replace s q) e h = absurd e
@@ -262,16 +353,16 @@ plain_events_keep_it_plain w (Event.Replace s q) e h = absurd e
 pub events_keep_the_limits : EventsKeepTheLimits
 events_keep_the_limits w (Event.Write s m) e h = absurd e
 events_keep_the_limits w (Event.PassOver s) e h = absurd e
-events_keep_the_limits w (Event.Drop s i) e h = absurd e
+events_keep_the_limits w (Event.Drop s i) e h = within_drop w s i h
 events_keep_the_limits w (Event.Begin s i any) e h = absurd e
 events_keep_the_limits w Event.GoOn e h = absurd e
 events_keep_the_limits w (Event.Resend o) e h = absurd e
 events_keep_the_limits w (Event.Abandon s i) e h = absurd e
 events_keep_the_limits w (Event.SackComes k) e h = within_sack_comes w k h
-events_keep_the_limits w Event.ForwardMade e h = absurd e
+events_keep_the_limits w Event.ForwardMade e h = within_forward_made w h
 events_keep_the_limits w (Event.DataComes k) e h = within_data w k h
 events_keep_the_limits w Event.SackMade e h = within_sack w h
-events_keep_the_limits w (Event.ForwardComes k) e h = absurd e
+events_keep_the_limits w (Event.ForwardComes k) e h = within_forward w k h
 events_keep_the_limits w (Event.Open s) e h = within_open w s h
 events_keep_the_limits w (Event.Read s) e h = absurd e
 events_keep_the_limits w Event.Close e h = within_close w h
@@ -282,6 +373,6 @@ events_keep_the_limits w (Event.Replace s q) e h = absurd e
 -- Nothing happened yet.
 pub fresh_directions_are_plain : FreshDirectionsArePlain
 fresh_directions_are_plain size = (
-  record { stays = λ s i. refl; unskipped = refl; span = λ s. refl },
+  record { span = λ s. refl },
   record { offsets = omega arith; flight = omega arith; unread = λ s. omega arith },
 )

@@ -2,6 +2,8 @@
 use Rattle.std.proofs.Common.{◌≡◌, refl, sym, ap, ◌∙◌, subst, ⊎_elim, ℕ, suc, Bool, true, false, cond}
 use Rattle.std.proofs.Common.{List, [], ◌∷◌, length, Option, Some, None, is_some, Ordering, Less, Equal, Greater}
 use Rattle.std.proofs.Common.{is_eq, nat_cmp}
+use Rattle.std.specs.Prelude.{slice_get}
+use Rattle.std.specs.Option.{option_map}
 use Rattle.std.specs.Ordering.{match_ordering}
 use Rattle.std.specs.BTreeMap.{is_at, insert_entry}
 use Rattle.std.specs.Map.{lookup}
@@ -9,6 +11,8 @@ use Rattle.std.proofs.lemmas.Bool.{cases_Bool, cond_both, cond-true, cond-false,
 use Rattle.sctp_wire_types.specs.declared.ids.PayloadProtocolIdentifier.{PayloadProtocolIdentifier}
 use Rattle.sctp_wire_types.specs.declared.chunk.ChunkPayloadData.{ChunkPayloadData}
 use Rattle.sctp_outbound_queue.specs.declared.message.InFlight.{InFlight}
+use Rattle.sctp_outbound_queue.specs.Message.{message_bytes, outstanding_bytes}
+use Rattle.sctp_outbound_queue.specs.Waiting.{Waiting}
 use Rattle.sctp_outbound.specs.GapAcks.{released_among}
 use Rattle.sctp_outbound.specs.Sender.{streams_after}
 use Rattle.sctp_receive_queues.specs.Messages.{ReceivedMessage}
@@ -16,13 +20,16 @@ use Rattle.sctp_receive_queues.specs.Reassembly.{Reassembly, taken}
 use Rattle.sctp_streams.specs.declared.setting.Setting.{Setting}
 use Rattle.sctp_streams.specs.declared.setting.Setting.TheVariants as settings
 use Rattle.sctp_streams.specs.Stream.{StreamView, accepted_by, fresh_stream, ordered_and_reliable, read_with}
-use Rattle.sctp_streams.specs.Stream.{stream_pushed, stream_read, with_setting}
-use Rattle.sctp_streams.specs.Streams.{StreamMap, change_at, is_generation, made, pushed_at, read_at, stream_at}
-use Rattle.sctp_streams.specs.Streams.{with_stream}
+use Rattle.sctp_streams.specs.Stream.{released_from, stream_pushed, stream_read, stream_skipped, with_setting}
+use Rattle.sctp_streams.specs.Stream.{with_ssn_given_back}
+use Rattle.sctp_streams.specs.Streams.{StreamMap, change_at, is_generation, made, pushed_at, read_at, released_in}
+use Rattle.sctp_streams.specs.Streams.{stream_at, with_stream}
+use Rattle.sctp_fit.specs.Forwards.{numbers_told}
 use Rattle.sctp_fit.proofs.StreamsChanged.{each_with}
-use Rattle.sctp_directions.specs.Acts.{Act, IsKeptInOrder, Parts, SetsReliability, is_acknowledged_by, type_on}
-use Rattle.sctp_directions.specs.Acts.{with_written}
+use Rattle.sctp_directions.specs.Acts.{Act, IsKeptInOrder, Parts, SetsReliability, is_acknowledged_by, passed_over}
+use Rattle.sctp_directions.specs.Acts.{type_on, with_abandoned, with_dropped, with_tail_abandoned, with_written}
 use Rattle.sctp_directions.specs.Laws.{OnlySettingsLoosen}
+use Rattle.sctp_directions.proofs.StreamsPassed.{at_passed, passed_by, skipped_by}
 
 -- One stream changes
 
@@ -60,16 +67,64 @@ kept_read None m id s e kept = kept
 kept_read (Some t) m id s e kept =
     kept_with m id s t (stream_read t).0 e (λ is. read_params t (taken t.reassembly)) kept
 
+-- bytes were released
+kept_less : (m : StreamMap) (id generation bytes s : ℕ) → IsKeptInOrder m s
+    → IsKeptInOrder (released_in m id generation bytes) s
+kept_less m id generation bytes s kept =
+    cond_both (is_generation (stream_at m id) generation) _ m (λ z. IsKeptInOrder z s)
+    (λ b. kept_changed (λ t. released_from t bytes) (stream_at m id) m id s refl (λ is t. refl) kept)
+    (λ b. kept)
+
 -- what a piece had outstanding was released, if there is one
 kept_released : (o : Option InFlight) (m : StreamMap) (s : ℕ) → IsKeptInOrder m s
     → IsKeptInOrder (streams_after o m) s
 kept_released None m s kept = kept
 kept_released (Some x) m s kept =
-    cond_both (is_generation (stream_at m x.message.stream_identifier) x.message.generation) _ m
+    kept_less m x.message.stream_identifier x.message.generation (outstanding_bytes x) s kept
+
+-- a message was given up
+kept_abandoned : (o : Option InFlight) (p : Parts) (s : ℕ) → IsKeptInOrder p.streams s
+    → IsKeptInOrder (with_abandoned o p).streams s
+kept_abandoned None p s kept = kept
+kept_abandoned (Some x) p s kept =
+    kept_less p.streams x.message.stream_identifier x.message.generation _ s kept
+
+kept_tail_abandoned : (o : Option Waiting) (p : Parts) (s : ℕ) → IsKeptInOrder p.streams s
+    → IsKeptInOrder (with_tail_abandoned o p).streams s
+kept_tail_abandoned None p s kept = kept
+kept_tail_abandoned (Some x) p s kept =
+    kept_less p.streams x.message.stream_identifier x.message.generation _ s kept
+
+returned_params : (unordered : Bool) (bytes : ℕ) (t : StreamView)
+    → (released_from (cond unordered t (with_ssn_given_back t)) bytes).params ≡ t.params
+returned_params true bytes t = refl
+returned_params false bytes t = refl
+
+kept_dropped : (k : ℕ) (o : Option Waiting) (p : Parts) (s : ℕ) → IsKeptInOrder p.streams s
+    → IsKeptInOrder (with_dropped k o p).streams s
+kept_dropped k None p s kept = kept
+kept_dropped k (Some x) p s kept =
+    cond_both (is_generation (stream_at p.streams x.message.stream_identifier) x.message.generation) _ p.streams
     (λ z. IsKeptInOrder z s)
-    (λ b. kept_changed _ (stream_at m x.message.stream_identifier) m x.message.stream_identifier s refl (λ is t. refl)
-    kept)
+    (λ b. kept_changed (λ t. released_from (cond x.message.unordered t (with_ssn_given_back t)) (message_bytes x))
+    (stream_at p.streams x.message.stream_identifier) p.streams x.message.stream_identifier s refl
+    (λ is t. returned_params x.message.unordered (message_bytes x) t) kept)
     (λ b. kept)
+
+-- a FORWARD TSN passed over what was received
+skipped_params : (ns : List ℕ) (t : StreamView) → (skipped_by ns t).params ≡ t.params
+skipped_params [] t = refl
+skipped_params (n ∷ ns) t = skipped_params ns (stream_skipped n t)
+
+kept_passed : (tsn : ℕ) (ns : List ℕ) (o : Option StreamView) (m : StreamMap) (s : ℕ)
+    → stream_at m s ≡ option_map (passed_by tsn ns) o
+    → ((t : StreamView) → o ≡ Some t → t.params ≡ ordered_and_reliable)
+    → IsKeptInOrder m s
+kept_passed tsn ns None m s at kept u e = absurd (false≢true (ap is_some (sym at ∙ e)))
+kept_passed tsn ns (Some t) m s at kept u e =
+    let is : Some (passed_by tsn ns t) ≡ Some u = sym at ∙ e in
+    let same : passed_by tsn ns t ≡ u = cc in
+    ap (λ z. z.params) (sym same) ∙ skipped_params ns t ∙ kept t refl
 
 -- what the named pieces had outstanding was released
 kept_acknowledged : (named : ℕ → Bool) (j : ℕ) (xs : List InFlight) (m : StreamMap) (s : ℕ) → IsKeptInOrder m s
@@ -163,6 +218,15 @@ only_settings_loosen (Act.SentAgain by index) p s others kept = kept
 only_settings_loosen Act.Marked p s others kept = kept
 only_settings_loosen (Act.Acknowledged n blocks missing) p s others kept =
     kept_acknowledged (is_acknowledged_by n blocks) 0 p.queue.in_flight p.streams s kept
+only_settings_loosen (Act.Abandoned index) p s others kept =
+    kept_abandoned (slice_get p.queue.in_flight index) p s kept
+only_settings_loosen Act.TailAbandoned p s others kept = kept_tail_abandoned (slice_get p.queue.pending 0) p s kept
+only_settings_loosen (Act.Dropped k) p s others kept = kept_dropped k (slice_get p.queue.pending k) p s kept
+only_settings_loosen (Act.Started now) p s others kept = kept
+only_settings_loosen Act.Forwarded p s others kept = kept
+only_settings_loosen (Act.PassedOver tsn skipped) p s others kept =
+    kept_passed tsn (numbers_told s skipped) (stream_at p.streams s) (passed_over tsn skipped p.streams) s
+    (at_passed tsn skipped p.streams s) kept
 only_settings_loosen (Act.Took piece) p s others kept =
     kept_pushed (stream_at p.streams piece.stream_identifier) p.streams piece.stream_identifier s piece refl kept
 only_settings_loosen Act.Reported p s others kept = kept

@@ -1,18 +1,22 @@
 -- What an association does for the direction that comes to it, and what an application sets on a stream, leaves how it
 -- stands as the sender of its own.
-use Rattle.std.proofs.Common.{◌≡◌, refl, ap, ◌∙◌, subst, ℕ, ◌+◌, false, Option, Some, None}
+use Rattle.std.proofs.Common.{◌≡◌, refl, sym, ap, ◌∙◌, subst, ℕ, ◌+◌, false, List, [], ◌∷◌, Option, Some, None, is_some}
+use Rattle.std.specs.Option.{option_map}
+use Rattle.std.proofs.lemmas.Bool.{false≢true}
 use Rattle.sctp_wire_types.specs.declared.chunk.ChunkPayloadData.{ChunkPayloadData}
 use Rattle.sctp_receive_queues.specs.Messages.{ReceivedMessage}
 use Rattle.sctp_receive_queues.specs.Reassembly.{Reassembly, taken}
 use Rattle.sctp_streams.specs.declared.setting.Setting.{Setting}
 use Rattle.sctp_streams.specs.declared.setting.Setting.TheVariants as settings
-use Rattle.sctp_streams.specs.Stream.{StreamView, read_with, stream_pushed, stream_read, with_setting}
-use Rattle.sctp_streams.specs.Streams.{change_at, pushed_at, read_at, stream_at, with_stream}
+use Rattle.sctp_streams.specs.Stream.{StreamView, read_with, stream_pushed, stream_read, stream_skipped, with_setting}
+use Rattle.sctp_streams.specs.Streams.{StreamMap, change_at, pushed_at, read_at, stream_at, with_stream}
 use Rattle.sctp_model.specs.Machine.{Direction}
+use Rattle.sctp_fit.specs.Forwards.{numbers_told}
 use Rattle.sctp_fit.specs.Outgoing.{FitsOutgoing, IsNumbered, IsOwnAt, Sending, numbers_after}
 use Rattle.sctp_fit.proofs.StreamsChanged.{each_with}
-use Rattle.sctp_directions.specs.Acts.{Act, sending}
+use Rattle.sctp_directions.specs.Acts.{Act, passed_over, sending}
 use Rattle.sctp_directions.specs.Laws.{SettingsAreNoEvents, WhatComesLeavesItsOwn}
+use Rattle.sctp_directions.proofs.StreamsPassed.{at_passed, passed_by, skipped_by}
 
 -- What a stream's sender sees stays
 
@@ -71,7 +75,58 @@ read_beside_at : (o : Option StreamView) (a : Sending) (id : ℕ) (w : Direction
 read_beside_at None a id w e f = f
 read_beside_at (Some t) a id w e f = fits_beside a id t (stream_read t).0 w e (read_beside t (taken t.reassembly)) f
 
--- What is taken in, reported and read leaves the association as the sender of its own direction.
+-- a FORWARD TSN changes what was received alone
+same_sender : (t : StreamView) (r : Reassembly) → IsSameSender t (record t { reassembly = r })
+same_sender t r = record { generation = refl; ssn = refl; buffered = refl }
+
+skipped_beside : (ns : List ℕ) (t : StreamView) → IsSameSender t (skipped_by ns t)
+skipped_beside [] t = same_sender t t.reassembly
+skipped_beside (n ∷ ns) t =
+    let rest = skipped_beside ns (stream_skipped n t) in
+    record { generation = rest.generation; ssn = rest.ssn; buffered = rest.buffered }
+
+passed_beside : (tsn : ℕ) (ns : List ℕ) (t : StreamView) → IsSameSender t (passed_by tsn ns t)
+passed_beside tsn ns t =
+    let skipped = skipped_beside ns t in
+    record { generation = skipped.generation; ssn = skipped.ssn; buffered = skipped.buffered }
+
+-- each live stream became one that is the same to its sender
+fits_mapped : (a : Sending) (m : StreamMap) (w : Direction) (g : ℕ → StreamView → StreamView)
+    → ((s : ℕ) (t : StreamView) → IsSameSender t (g s t))
+    → ((s : ℕ) → stream_at m s ≡ option_map (g s) (stream_at a.streams s)) → FitsOutgoing a w
+    → FitsOutgoing (record a { streams = m }) w
+fits_mapped a m w g same at f = record {
+  named = f.named;
+  names = f.names;
+  size = f.size;
+  base = f.base;
+  flight = f.flight;
+  waiting = f.waiting;
+  live = λ s v e.
+      numbered s (stream_at a.streams s) (λ t i. f.live s t i) v (sym (at s) ∙ e);
+  own_streams = λ s within.
+      subst (IsOwnAt w.sender.plan (w.sender.released s) s) (sym (at s))
+      (owned s (stream_at a.streams s) (f.own_streams s within));
+}
+  where
+    Numbered : ℕ → StreamView → Type 0
+    Numbered n v = IsNumbered f.named (numbers_after w.sender.ssn a.queue.pending n) n v
+
+    numbered : (s : ℕ) (o : Option StreamView) → ((t : StreamView) → o ≡ Some t → Numbered s t) → (v : StreamView)
+        → option_map (g s) o ≡ Some v → Numbered s v
+    numbered s None h v e = absurd (false≢true (ap is_some e))
+    numbered s (Some t) h v e =
+        let is : g s t ≡ v = cc in
+        let k = h t refl in
+        let u = same s t in
+        subst (Numbered s) is (record { generation = u.generation ∙ k.generation; ssn = u.ssn ∙ k.ssn })
+
+    owned : (s : ℕ) (o : Option StreamView) → IsOwnAt w.sender.plan (w.sender.released s) s o
+        → IsOwnAt w.sender.plan (w.sender.released s) s (option_map (g s) o)
+    owned s None h = h
+    owned s (Some t) h = ap (λ z. z + w.sender.released s) (same s t).buffered ∙ h
+
+-- What is taken in, passed over, reported and read leaves the association as the sender of its own direction.
 pub what_comes_leaves_its_own : WhatComesLeavesItsOwn
 what_comes_leaves_its_own (Act.PeerKnown t) p w coming f = absurd coming
 what_comes_leaves_its_own (Act.Opened id first kind) p w coming f = absurd coming
@@ -83,6 +138,14 @@ what_comes_leaves_its_own Act.Marked p w coming f = absurd coming
 what_comes_leaves_its_own (Act.Acknowledged n blocks missing) p w coming f = absurd coming
 what_comes_leaves_its_own (Act.Took piece) p w coming f =
     took_at (stream_at p.streams piece.stream_identifier) (sending p) piece w refl f
+what_comes_leaves_its_own (Act.Abandoned index) p w coming f = absurd coming
+what_comes_leaves_its_own Act.TailAbandoned p w coming f = absurd coming
+what_comes_leaves_its_own (Act.Dropped k) p w coming f = absurd coming
+what_comes_leaves_its_own (Act.Started now) p w coming f = absurd coming
+what_comes_leaves_its_own Act.Forwarded p w coming f = absurd coming
+what_comes_leaves_its_own (Act.PassedOver tsn skipped) p w coming f =
+    fits_mapped (sending p) (passed_over tsn skipped p.streams) w (λ s. passed_by tsn (numbers_told s skipped))
+    (λ s t. passed_beside tsn (numbers_told s skipped) t) (at_passed tsn skipped p.streams) f
 what_comes_leaves_its_own Act.Reported p w coming f = f
 what_comes_leaves_its_own (Act.WasRead id) p w coming f =
     read_beside_at (stream_at p.streams id) (sending p) id w refl f

@@ -1,5 +1,5 @@
 -- The peer's initial TSN becomes known where nothing came: the direction that comes sees nothing of it.
-use Rattle.std.proofs.Common.{◌≡◌, refl, sym, subst, ℕ, ◌<◌, arith, true, eqb, List, [], ◌∷◌, length}
+use Rattle.std.proofs.Common.{◌≡◌, refl, sym, subst, ℕ, ◌<◌, ◌≤◌, arith, true, eqb, List, [], ◌∷◌, length}
 use Rattle.std.proofs.lemmas.Bool.{eq-eqb, or_left}
 use Rattle.sctp_model.specs.Messages.{Place}
 use Rattle.sctp_model.specs.Packets.{mem}
@@ -20,14 +20,20 @@ nothing_taken : (w : Direction) → w.sender.plan.places ≡ [] → Invariant w 
 nothing_taken w e inv = none_in w.receiver.taken (λ o m.
     let l : o < 0 = subst (λ (ps : List Place). o < length ps) e (inv.taken o m).0 in omega arith)
 
+-- and nothing was passed over
+nothing_passed : (w : Direction) → w.sender.plan.places ≡ [] → Invariant w → w.receiver.passed ≡ 0
+nothing_passed w e inv =
+    let l : w.receiver.passed ≤ 0 =
+    subst (λ (ps : List Place). w.receiver.passed ≤ length ps) e inv.passed in omega arith
+
 -- where no offset was assigned, the peer's initial TSN may become known
 pub peer_known_is_no_event : PeerKnownIsNoEvent
-peer_known_is_no_event p t w none inv plain fits =
+peer_known_is_no_event p t w none inv fits =
     let met : FitsIncoming (record (receiving p) { peer = t }) w =
     fit.initial_tsns_are_no_events (receiving p) t w none inv fits in
     record {
       is_open = met.is_open;
       taken = sym (nothing_taken w none inv);
-      passed = sym plain.unskipped;
+      passed = sym (nothing_passed w none inv);
       queues = met.queues;
     }

@@ -3,16 +3,22 @@
 pub use Rattle.sctp_directions.proofs.OutgoingWrote.{its_writes_are_accepted}
 pub use Rattle.sctp_directions.proofs.OutgoingSentAgain.{its_marks_are_no_events, its_pieces_are_given}
 pub use Rattle.sctp_directions.proofs.OutgoingAcknowledged.{its_acknowledgements_are_alike, sacks_mean_the_same}
+pub use Rattle.sctp_directions.proofs.OutgoingAbandoned.{its_abandonments_are_alike, its_drops_are_alike}
+pub use Rattle.sctp_directions.proofs.OutgoingAbandoned.{its_starts_are_no_events, its_tails_are_abandoned_alike}
+pub use Rattle.sctp_directions.proofs.OutgoingForward.{forwards_pass_over_the_front, its_forwards_say_the_same}
 pub use Rattle.sctp_directions.proofs.OutgoingBeside.{settings_are_no_events, what_comes_leaves_its_own}
 pub use Rattle.sctp_directions.proofs.OrderKept.{only_settings_loosen}
 pub use Rattle.sctp_directions.proofs.IncomingTook.{what_it_takes_in_comes}
+pub use Rattle.sctp_directions.proofs.IncomingForward.{forwards_it_takes_come}
 pub use Rattle.sctp_directions.proofs.IncomingReports.{reports_say_what_was_taken}
 pub use Rattle.sctp_directions.proofs.IncomingBeside.{own_acts_leave_what_comes}
 pub use Rattle.sctp_directions.proofs.InitialTsns.{acts_keep_the_initial_tsns}
 pub use Rattle.sctp_directions.proofs.PeerKnown.{peer_known_is_no_event}
-pub use Rattle.sctp_directions.proofs.LawsByEvent.{closed_receivers_are_not_open, events_keep_the_limits}
-pub use Rattle.sctp_directions.proofs.LawsByEvent.{fresh_directions_are_plain, only_beginnings_assign}
-pub use Rattle.sctp_directions.proofs.LawsByEvent.{only_reads_give_messages, only_what_is_brought_is_taken_in}
+pub use Rattle.sctp_directions.proofs.LawsByEvent.{abandonments_assign_one_offset, closed_receivers_are_not_open}
+pub use Rattle.sctp_directions.proofs.LawsByEvent.{events_keep_the_limits, fresh_directions_are_plain}
+pub use Rattle.sctp_directions.proofs.LawsByEvent.{only_beginnings_assign, only_forward_made_gives_forwards}
+pub use Rattle.sctp_directions.proofs.LawsByEvent.{only_forwards_pass_over, only_reads_give_messages}
+pub use Rattle.sctp_directions.proofs.LawsByEvent.{only_what_is_brought_is_taken_in}
 pub use Rattle.sctp_directions.proofs.LawsByEvent.{only_writes_accept, plain_events_keep_it_plain}
 pub use Rattle.sctp_directions.proofs.LawsByEvent.{receivers_events_are_received, senders_events_are_sent}
 pub use Rattle.sctp_directions.proofs.LawsByEvent.{senders_events_keep_the_invariant, writes_are_accepted_last}

@@ -1,13 +1,14 @@
 -- The sender's events by their cases: what holds before one of them and after what it does where it can happen, holds
 -- after it.
-use Rattle.std.proofs.Common.{ℕ, ◌≤◌, ◌≡◌, Bool, true, false, ltb, [], ◌∷◌, ◌++◌, Option, Some, None, refl}
+use Rattle.std.proofs.Common.{ℕ, ◌≤◌, ◌≡◌, Bool, true, false, ltb, length, [], ◌∷◌, ◌++◌, Option, Some, None, refl}
 use Rattle.std.specs.Prelude.{slice_get}
 use Rattle.std.proofs.lemmas.Bool.{cond_both, ltb-false}
 use Rattle.sctp_model.specs.Messages.{Message, Place, as_kept, message_at}
 use Rattle.sctp_model.specs.Packets.{Sack, data_at}
-use Rattle.sctp_model.specs.Machine.{Direction, Event, acknowledged_by, begin, begin_if, can_begin, can_pass_over}
-use Rattle.sctp_model.specs.Machine.{can_resend, counted, first_place, go_on, happens, is_empty, next_data, number_for}
-use Rattle.sctp_model.specs.Machine.{passed_over, put_2, sack_comes, sent, written}
+use Rattle.sctp_model.specs.Machine.{Direction, Event, abandoned, acknowledged_by, begin, begin_if, can_abandon}
+use Rattle.sctp_model.specs.Machine.{can_begin, can_drop, can_pass_over, can_resend, counted, dropped, first_place}
+use Rattle.sctp_model.specs.Machine.{forward_of, go_on, gone_front, happens, is_empty, is_of, left, marked, next_data}
+use Rattle.sctp_model.specs.Machine.{number_for, passed_over, put_2, sack_comes, sent, tail_marked, written}
 
 -- a message is written; a write of no bytes does nothing
 pub write_cases : (P : Direction → Type 0) (w : Direction) (s : ℕ) (m : Message) → P w
@@ -24,6 +25,14 @@ pub pass_over_cases : (P : Direction → Type 0) (w : Direction) (s : ℕ) → P
 unfolding happens
 pass_over_cases P w s h f =
     cond_both (can_pass_over w.sender s) (record w { sender = passed_over w.sender s }) w P f (λ b. h)
+
+-- a message is dropped unsent
+pub drop_cases : (P : Direction → Type 0) (w : Direction) (s i : ℕ) → P w
+    → (can_drop w.sender s i ≡ true → P (record w { sender = dropped w.sender s i }))
+    → P (happens w (Event.Drop s i))
+unfolding happens
+drop_cases P w s i h f =
+    cond_both (can_drop w.sender s i) (record w { sender = dropped w.sender s i }) w P f (λ b. h)
 
 -- after a message's first piece: what is counted of its stream rests on whether it is ordered
 abbrev pub with_begun : Direction → ℕ → ℕ → ℕ → (ℕ → ℕ) → (ℕ → ℕ) → Direction
@@ -73,6 +82,31 @@ unfolding happens
 resend_cases P w o h f =
     cond_both (can_resend w.sender.plan o) (record w { datas = w.datas ++ data_at w.sender.plan o ∷ [] }) w P
     (λ b. f) (λ b. h)
+
+-- a message is abandoned, of which nothing waits, or the rest of which gets one offset
+pub abandon_cases : (P : Direction → Type 0) (w : Direction) (s i : ℕ) → P w
+    → P (record w { sender = left w.sender s i })
+    → ((y : Place) → P (record w { sender = left (marked w.sender y) s i }))
+    → P (happens w (Event.Abandon s i))
+unfolding happens
+abandon_cases P w s i h f g =
+    cond_both (can_abandon w.sender s i) (record w { sender = abandoned w.sender s i }) w P
+    (λ b. by_current w.sender.current) (λ b. h)
+  where
+    by_current : (c : Option Place) → P (record w { sender = left (tail_marked w.sender s i c) s i })
+    by_current None = f
+    by_current (Some y) =
+        cond_both (is_of y s i) (marked w.sender y) w.sender (λ z. P (record w { sender = left z s i }))
+        (λ b. g y) (λ b. f)
+
+-- a FORWARD TSN is made, where an abandoned message stands on the acknowledged reach
+pub forward_made_cases : (P : Direction → Type 0) (w : Direction) → P w
+    → P (record w { forwards = w.forwards ++ forward_of w.sender w.over ∷ [] })
+    → P (happens w Event.ForwardMade)
+unfolding happens
+forward_made_cases P w h f =
+    cond_both (ltb 0 (length (gone_front w.sender)))
+    (record w { forwards = w.forwards ++ forward_of w.sender w.over ∷ [] }) w P (λ b. f) (λ b. h)
 
 -- a SACK comes; one whose reach lies below the acknowledged one does nothing
 pub sack_cases : (P : Direction → Type 0) (w : Direction) (k : ℕ) → P w

@@ -1,28 +1,35 @@
 -- What an association does to the two directions between which it stands: to its own DATA, and to the DATA that comes.
 use Rattle.std.specs.Prelude.{◌≡◌, ◌<◌, ◌≤◌, ℕ, true, List, [], ◌∷◌, ◌++◌, ◌+◌, is_some, length, slice_get, Option}
-use Rattle.std.specs.Prelude.{Some, None, false, Bool, ◌||◌, ◌-◌, ◌^◌, nat_lt}
+use Rattle.std.specs.Prelude.{Some, None, false, Bool, ◌||◌, ◌&&◌, ◌-◌, ◌^◌, suc, not, nat_lt}
+use Rattle.std.specs.List.{list_any}
 use Rattle.sctp_serial.specs.Serial.{tsn, tsn_past}
 use Rattle.sctp_wire_types.specs.declared.chunk.ChunkPayloadData.{ChunkPayloadData}
 use Rattle.sctp_wire_types.specs.declared.chunk.GapAckBlock.{GapAckBlock}
+use Rattle.sctp_wire_types.specs.declared.chunk.SkippedStream.{SkippedStream}
 use Rattle.sctp_wire_types.specs.declared.ids.PayloadProtocolIdentifier.{PayloadProtocolIdentifier}
 use Rattle.sctp_outbound_queue.specs.declared.message.InFlight.{InFlight}
 use Rattle.sctp_outbound_queue.specs.declared.message.Retransmission.{Retransmission}
 use Rattle.sctp_outbound_queue.specs.Cut.{first_piece, other_pieces}
 use Rattle.sctp_outbound_queue.specs.Waiting.{Waiting}
-use Rattle.sctp_outbound_queue.specs.Message.{counted_again, is_outstanding}
+use Rattle.sctp_outbound_queue.specs.Expiry.{all_started}
+use Rattle.sctp_outbound_queue.specs.Message.{counted_again, is_of, is_outstanding}
 use Rattle.sctp_received.specs.Received.{is_named}
-use Rattle.sctp_outbound_queue.specs.Outbound.{Outbound, all_marked, changed_at, sent_next, with_missing}
+use Rattle.sctp_outbound_queue.specs.Outbound.{Outbound, abandoned_in_front_of, all_marked, changed_at, sent_next}
+use Rattle.sctp_outbound_queue.specs.Outbound.{with_missing}
 use Rattle.sctp_streams.specs.declared.setting.Setting.{Setting}
 use Rattle.sctp_streams.specs.declared.setting.Setting.TheVariants as settings
-use Rattle.sctp_streams.specs.Stream.{StreamView, ordered_and_reliable, params_for, with_setting}
-use Rattle.sctp_streams.specs.Streams.{StreamMap, changed_stream, made, pushed_in, read_in, stream_at}
+use Rattle.sctp_streams.specs.Stream.{StreamView, ordered_and_reliable, params_for, stream_skipped, with_setting}
+use Rattle.sctp_streams.specs.Streams.{StreamMap, changed_stream, made, passed_in, pushed_in, read_in, stream_at}
 use Rattle.sctp_streams.specs.Streams.{without_streams}
 use Rattle.sctp_outbound.specs.Sender.{chunk_of}
+use Rattle.sctp_model.specs.Messages.{is_reliable}
 use Rattle.sctp_model.specs.Packets.{mem}
 use Rattle.sctp_model.specs.Machine.{climb, past_all}
 use Rattle.sctp_fit.specs.Incoming.{Receiving}
-use Rattle.sctp_fit.specs.Outgoing.{Sending}
+use Rattle.sctp_fit.specs.Outgoing.{Sending, policy_of}
+use Rattle.sctp_fit.specs.Abandonments.{abandoned, tail_abandoned}
 use Rattle.sctp_fit.specs.Acknowledgements.{acknowledged}
+use Rattle.sctp_fit.specs.Drops.{dropped}
 use Rattle.sctp_fit.specs.Sendings.{next_chunks}
 use Rattle.sctp_fit.specs.Writes as fit
 
@@ -43,7 +50,7 @@ pub record History : Type 0 where
 abbrev pub reach_in : History → ℕ
 reach_in h = climb h.taken (past_all h.taken) h.passed
 
--- the offset that a TSN of DATA at or past the reach spells
+-- the offset that a TSN at or past the reach spells
 abbrev pub offset_in : History → ℕ → ℕ
 offset_in h t = reach_in h + tsn_past (tsn h.peer (reach_in h)) t
 
@@ -88,8 +95,21 @@ pub data Act : Type 0 where
   -- a SACK acknowledged so many of the first pieces in flight, and of those behind them the ones that its gap ack
   -- blocks name; then it reported so many of the first ones left in flight missing
   Acknowledged : ℕ → List GapAckBlock → ℕ → Act
+  -- the message of the piece in flight that is so many offsets past the first one was abandoned whole: each of its
+  -- pieces, and what of it waits
+  Abandoned : ℕ → Act
+  -- the rest of the first message that waits was abandoned, of which something was sent and nothing is in flight
+  TailAbandoned : Act
+  -- the message that waits at this index, of which nothing was sent, was dropped
+  Dropped : ℕ → Act
+  -- the times of all messages that have one ran from this moment on, where they did not run yet
+  Started : ℕ → Act
+  -- a FORWARD TSN went out
+  Forwarded : Act
   -- this DATA was taken in
   Took : ChunkPayloadData → Act
+  -- a FORWARD TSN passed over all up to this TSN, and on these streams skipped the ordered messages up to these SSNs
+  PassedOver : ℕ → List SkippedStream → Act
   -- a SACK went out
   Reported : Act
   -- a read on a stream
@@ -100,6 +120,10 @@ pub data Act : Type 0 where
 -- DATA on this offset came
 abbrev pub with_taken : History → ℕ → History
 with_taken h o = record h { taken = o ∷ h.taken }
+
+-- a FORWARD TSN passed over all up to this offset
+abbrev pub with_passed : History → ℕ → History
+with_passed h o = record h { passed = suc o }
 
 -- the peer's DATA begins with this TSN, and nothing of it came
 abbrev pub with_peer : History → ℕ → History
@@ -154,6 +178,36 @@ with_acknowledged n blocks p = record p {
 abbrev pub with_reports : ℕ → Parts → Parts
 with_reports missing p = record p { queue = with_missing missing p.queue }
 
+-- the parts with what its own direction's sender has of them now
+abbrev pub with_sending : Parts → Sending → Parts
+with_sending p a = record p { queue = a.queue; streams = a.streams }
+
+-- the message of this piece, if there is one, is abandoned whole
+abbrev pub with_abandoned : Option InFlight → Parts → Parts
+with_abandoned None p = p
+with_abandoned (Some x) p = with_sending p (abandoned x (sending p))
+
+-- the rest of this message, if there is one, is abandoned
+abbrev pub with_tail_abandoned : Option Waiting → Parts → Parts
+with_tail_abandoned None p = p
+with_tail_abandoned (Some x) p = with_sending p (tail_abandoned x (sending p))
+
+-- this message, if there is one, which waits at an index, is dropped
+abbrev pub with_dropped : ℕ → Option Waiting → Parts → Parts
+with_dropped k None p = p
+with_dropped k (Some x) p = with_sending p (dropped k x (sending p))
+
+-- on the live ones of these streams the ordered messages up to these SSNs are skipped
+abbrev pub skipped_each : List SkippedStream → StreamMap → StreamMap
+skipped_each [] m = m
+skipped_each (e ∷ es) m =
+    skipped_each es (changed_stream (stream_skipped e.stream_sequence_number) m e.stream_identifier)
+
+-- a FORWARD TSN passed over all up to a TSN: ordered messages are skipped as it says, and on each live stream the
+-- pieces of incomplete unordered messages up to the TSN are dropped (RFC 3758 section 3.6)
+abbrev pub passed_over : ℕ → List SkippedStream → StreamMap → StreamMap
+passed_over tsn es m = passed_in (skipped_each es m) tsn
+
 -- what an act makes of the parts
 abbrev pub done : Act → Parts → Parts
 done (PeerKnown t) p = record p { history = with_peer p.history t }
@@ -164,9 +218,18 @@ done (Sent now) p = record p { queue = sent_next p.queue now }
 done (SentAgain by index) p = record p { queue = changed_at (counted_again by) p.queue index }
 done Marked p = record p { queue = all_marked p.queue }
 done (Acknowledged n blocks missing) p = with_reports missing (with_acknowledged n blocks p)
+done (Abandoned index) p = with_abandoned (slice_get p.queue.in_flight index) p
+done TailAbandoned p = with_tail_abandoned (slice_get p.queue.pending 0) p
+done (Dropped k) p = with_dropped k (slice_get p.queue.pending k) p
+done (Started now) p = record p { queue = all_started now p.queue }
+done Forwarded p = p
 done (Took piece) p = record p {
   streams = (pushed_in p.streams piece.stream_identifier piece).0;
   history = with_taken p.history (offset_in p.history piece.tsn);
+}
+done (PassedOver tsn skipped) p = record p {
+  streams = passed_over tsn skipped p.streams;
+  history = with_passed p.history (offset_in p.history tsn);
 }
 done Reported p = p
 done (WasRead id) p = record p { streams = (read_in p.streams id).0 }
@@ -181,18 +244,44 @@ abbrev pub can_go_again : Option InFlight → Bool
 can_go_again None = false
 can_go_again (Some x) = is_outstanding x
 
--- DATA with this TSN is new: it is 1 to 65,535 past the last TSN in order, and did not come
+-- DATA with this TSN is new: it is 1 to 65,535 past the cumulative TSN ack point, and did not come
 pub record IsNewTsn (h : History) (t : ℕ) : Type 0 where
   pub small : t < 2 ^ 32
   pub near : offset_in h t < reach_in h + 65535
   pub missing : mem (offset_in h t) h.taken ≡ false
+
+-- a piece is there, its message isn't abandoned, and isn't reliable
+abbrev pub can_abandon : Option InFlight → Bool
+can_abandon None = false
+can_abandon (Some x) = not x.abandoned && not (is_reliable (policy_of x.message.policy))
+
+-- a message is there of which something was sent, and that isn't reliable; none of these pieces is of it
+abbrev pub can_abandon_tail : Option Waiting → List InFlight → Bool
+can_abandon_tail None pieces = false
+can_abandon_tail (Some x) pieces =
+    x.begun && (not (is_reliable (policy_of x.message.policy)) && not (list_any (is_of x.message.message_id) pieces))
+
+-- a message is there of which nothing was sent, and that isn't reliable
+abbrev pub can_drop : Option Waiting → Bool
+can_drop None = false
+can_drop (Some x) = not x.begun && not (is_reliable (policy_of x.message.policy))
+
+-- A TSN lies ahead: it is 1 to half the range past the cumulative TSN ack point.
+pub record IsAhead (h : History) (t : ℕ) : Type 0 where
+  pub small : t < 2 ^ 32
+  pub near : offset_in h t < reach_in h + 2 ^ 31
 
 -- an act can be done where the parts stand so
 abbrev pub Can : Act → Parts → Type 0
 Can (Sent now) p = is_some (slice_get p.queue.pending 0) ≡ true
 Can (SentAgain by index) p = can_go_again (slice_get p.queue.in_flight index) ≡ true
 Can (Acknowledged n blocks missing) p = n ≤ length p.queue.in_flight
+Can (Abandoned index) p = can_abandon (slice_get p.queue.in_flight index) ≡ true
+Can TailAbandoned p = can_abandon_tail (slice_get p.queue.pending 0) p.queue.in_flight ≡ true
+Can (Dropped k) p = can_drop (slice_get p.queue.pending k) ≡ true
+Can Forwarded p = 0 < abandoned_in_front_of p.queue.in_flight
 Can (Took piece) p = IsNewTsn p.history piece.tsn
+Can (PassedOver tsn skipped) p = IsAhead p.history tsn
 Can act p = Unit {0}
 
 abbrev pub CanAll : List Act → Parts → Type 0
@@ -230,11 +319,17 @@ IsOfItsOwn (Sent now) = Unit {0}
 IsOfItsOwn (SentAgain by index) = Unit {0}
 IsOfItsOwn Marked = Unit {0}
 IsOfItsOwn (Acknowledged n blocks missing) = Unit {0}
+IsOfItsOwn (Abandoned index) = Unit {0}
+IsOfItsOwn TailAbandoned = Unit {0}
+IsOfItsOwn (Dropped k) = Unit {0}
+IsOfItsOwn (Started now) = Unit {0}
+IsOfItsOwn Forwarded = Unit {0}
 IsOfItsOwn act = ⊥
 
 -- acts of the DATA that comes
 abbrev pub IsOfWhatComes : Act → Type 0
 IsOfWhatComes (Took piece) = Unit {0}
+IsOfWhatComes (PassedOver tsn skipped) = Unit {0}
 IsOfWhatComes Reported = Unit {0}
 IsOfWhatComes (WasRead id) = Unit {0}
 IsOfWhatComes act = ⊥

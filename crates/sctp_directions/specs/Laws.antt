@@ -1,9 +1,10 @@
 -- The laws of an association between its directions: what writes, pieces that go again, acknowledgements, DATA and
 -- reports are as events of the model, and what acts and events leave as it was.
 use Rattle.std.specs.Prelude.{◌≡◌, ◌⊎◌, ℕ, ◌+◌, ◌*◌, ◌<◌, ◌≤◌, ◌%◌, ◌^◌, true, false, List, [], ◌∷◌, ◌++◌}
-use Rattle.std.specs.Prelude.{if◌then◌else◌, length, slice_get, ◌==◌, Option, Some}
+use Rattle.std.specs.Prelude.{if◌then◌else◌, length, slice_get, suc, ◌==◌, Option, Some}
 use Rattle.std.specs.List.{AllByRecursion}
 use Rattle.sctp_serial.specs.Serial.{tsn}
+use Rattle.sctp_wire_types.specs.declared.chunk.ChunkForwardTsn.{ChunkForwardTsn}
 use Rattle.sctp_wire_types.specs.declared.chunk.ChunkPayloadData.{ChunkPayloadData}
 use Rattle.sctp_wire_types.specs.declared.chunk.ChunkSelectiveAck.{ChunkSelectiveAck}
 use Rattle.sctp_wire_types.specs.declared.ids.PayloadProtocolIdentifier.{PayloadProtocolIdentifier}
@@ -11,11 +12,15 @@ use Rattle.sctp_streams.specs.declared.setting.Setting.{Setting}
 use Rattle.sctp_streams.specs.Stream.{StreamView}
 use Rattle.sctp_streams.specs.Streams.{stream_at}
 use Rattle.sctp_outbound_queue.specs.declared.message.Retransmission.{Retransmission}
-use Rattle.sctp_model.specs.Packets.{Data, Sack, mem}
-use Rattle.sctp_model.specs.Machine.{Direction, Event, fresh, happens}
+use Rattle.sctp_outbound_queue.specs.Outbound.{abandoned_in_front_of}
+use Rattle.sctp_outbound.specs.declared.sender.Sender.{Sender}
+use Rattle.sctp_outbound.specs.Forward.{forward_of}
+use Rattle.sctp_model.specs.Packets.{Data, Forward, Sack, mem}
+use Rattle.sctp_model.specs.Machine.{Direction, Event, fresh, gone_front, happens}
 use Rattle.sctp_model.specs.Invariants.{Invariant}
 use Rattle.sctp_model.specs.Safe.{IsWithin}
 use Rattle.sctp_fit.specs.FewPieces.{HasAccepted, all_pieces, pieces_in}
+use Rattle.sctp_fit.specs.Forwards.{IsForwardSaid}
 use Rattle.sctp_fit.specs.Incoming.{FitsIncoming, IsSaid, tsn_before}
 use Rattle.sctp_fit.specs.Outgoing.{CountsBegun, FitsOutgoing}
 use Rattle.sctp_fit.specs.Sendings.{IsGiven}
@@ -23,11 +28,12 @@ use Rattle.sctp_fit.specs.Writes.{message_on}
 use Rattle.sctp_directions.specs.Acts.{Act, Can, IsKeptInOrder, IsOfItsOwn, IsOfWhatComes, IsNotPeerKnown, Parts}
 use Rattle.sctp_directions.specs.Acts.{SetsReliability, data_given, done, done_all, offset_in, reach_in, receiving}
 use Rattle.sctp_directions.specs.Acts.{sending, type_on}
-use Rattle.sctp_directions.specs.Events.{AcceptsAMessage, Assigns, Brings, GivesAMessage, IsOfReceiving, IsOfSending}
-use Rattle.sctp_directions.specs.Events.{IsPlainEvent, IsReceived, IsSentOn, KeepsWithin}
+use Rattle.sctp_directions.specs.Events.{AcceptsAMessage, Assigns, Brings, BringsForward, GivesAMessage}
+use Rattle.sctp_directions.specs.Events.{IsForwardWithin, IsOfReceiving, IsOfSending, IsPlainEvent, IsReceived}
+use Rattle.sctp_directions.specs.Events.{IsSentOn, KeepsWithin, MakesAForward}
 use Rattle.sctp_directions.specs.Plain.{IsPlain}
 use Rattle.sctp_directions.specs.Reports.{SaysWhatWasTaken}
-use Rattle.sctp_directions.specs.Said.{IsMade}
+use Rattle.sctp_directions.specs.Said.{IsForwardMade, IsMade}
 
 -- Its own DATA
 
@@ -74,6 +80,37 @@ SacksMeanTheSame = (p : Parts) (n t k : ℕ) (x : Sack) (w : Direction) → slic
     → t % 2 ^ 32 ≡ tsn_before (tsn p.history.own (p.history.base + n)) → n ≤ length p.queue.in_flight → IsWithin w
     → Invariant w → FitsOutgoing (sending p) w → x.reach ≡ w.sender.reach + n
 
+-- The message of a piece in flight, which isn't reliable, is abandoned: the direction abandons it too.
+abbrev pub ItsAbandonmentsAreAlike : Type 0
+ItsAbandonmentsAreAlike = (p : Parts) (index : ℕ) (w : Direction) → Can (Act.Abandoned index) p → Invariant w
+    → CountsBegun w.sender → FitsOutgoing (sending p) w
+    → (s : ℕ) × (i : ℕ) × FitsOutgoing (sending (done (Act.Abandoned index) p)) (happens w (Event.Abandon s i))
+
+-- So it is with one of which a part waits and nothing is in flight.
+abbrev pub ItsTailsAreAbandonedAlike : Type 0
+ItsTailsAreAbandonedAlike = (p : Parts) (w : Direction) → Can Act.TailAbandoned p → Invariant w → CountsBegun w.sender
+    → FitsOutgoing (sending p) w
+    → (s : ℕ) × (i : ℕ) × FitsOutgoing (sending (done Act.TailAbandoned p)) (happens w (Event.Abandon s i))
+
+-- A message of which nothing was sent, and that isn't reliable, is dropped: the direction drops it too.
+abbrev pub ItsDropsAreAlike : Type 0
+ItsDropsAreAlike = (p : Parts) (k : ℕ) (w : Direction) → Can (Act.Dropped k) p → Invariant w → CountsBegun w.sender
+    → FitsOutgoing (sending p) w
+    → (s : ℕ) × (i : ℕ) × FitsOutgoing (sending (done (Act.Dropped k) p)) (happens w (Event.Drop s i))
+
+-- Of the time that a message has the direction knows nothing.
+abbrev pub ItsStartsAreNoEvents : Type 0
+ItsStartsAreNoEvents = (p : Parts) (now : ℕ) (w : Direction) → FitsOutgoing (sending p) w
+    → FitsOutgoing (sending (done (Act.Started now) p)) w
+
+-- Where abandoned pieces stand in front of all others in flight, the direction makes a FORWARD TSN, and the chunk that
+-- an association's sender makes is that one.
+abbrev pub ItsForwardsSayTheSame : Type 0
+ItsForwardsSayTheSame = (p : Parts) (s : Sender) (w : Direction) → Can Act.Forwarded p → s.queue ≡ p.queue
+    → p.queue.first_tsn ≡ tsn p.history.own p.history.base → FitsOutgoing (sending p) w
+    → FitsOutgoing (sending (done Act.Forwarded p)) (happens w Event.ForwardMade)
+    × IsForwardMade p.history.own (happens w Event.ForwardMade) (forward_of s)
+
 -- What comes to it
 
 -- New DATA that is taken in, in whatever order, stands on the offset that its TSN spells, and comes to the direction's
@@ -87,6 +124,17 @@ WhatItTakesInComes = (p : Parts) (piece : ChunkPayloadData) (k : ℕ) (d : Data)
     → (d.offset ≡ offset_in p.history piece.tsn)
     × FitsIncoming (receiving (done (Act.Took piece) p)) (happens w (Event.DataComes k))
 
+-- A FORWARD TSN that lies ahead passes over all up to the offset that its new cumulative TSN spells, and comes to the
+-- direction's receiver.
+abbrev pub ForwardsItTakesCome : Type 0
+ForwardsItTakesCome = (p : Parts) (c : ChunkForwardTsn) (k : ℕ) (f : Forward) (w : Direction)
+    → Can (Act.PassedOver c.new_cumulative_tsn c.streams) p
+    → slice_get w.forwards k ≡ Some f → IsForwardSaid p.history.peer c f
+    → IsWithin w → Invariant w → FitsIncoming (receiving p) w
+    → (f.reach ≡ suc (offset_in p.history c.new_cumulative_tsn))
+    × FitsIncoming (receiving (done (Act.PassedOver c.new_cumulative_tsn c.streams) p))
+    (happens w (Event.ForwardComes k))
+
 -- A report makes a SACK, and any chunk that says what came to the association is that one: its cumulative TSN ack and
 -- its set are the receiver's.
 abbrev pub ReportsSayWhatWasTaken : Type 0
@@ -98,7 +146,7 @@ ReportsSayWhatWasTaken = (p : Parts) (w : Direction) → FitsIncoming (receiving
 -- Where no offset was assigned in the direction that comes, the peer's initial TSN may become known: the direction
 -- knows nothing of it.
 abbrev pub PeerKnownIsNoEvent : Type 0
-PeerKnownIsNoEvent = (p : Parts) (t : ℕ) (w : Direction) → w.sender.plan.places ≡ [] → Invariant w → IsPlain w
+PeerKnownIsNoEvent = (p : Parts) (t : ℕ) (w : Direction) → w.sender.plan.places ≡ [] → Invariant w
     → FitsIncoming (receiving p) w → FitsIncoming (receiving (done (Act.PeerKnown t) p)) w
 
 -- Both
@@ -124,15 +172,15 @@ OnlySettingsLoosen = (act : Act) (p : Parts) (s : ℕ) → (SetsReliability act 
 
 -- The events
 
--- An event of the sender leaves the receiver's side and all DATA that was given out, and never moves the acknowledged
--- reach back.
+-- An event of the sender leaves the receiver's side and all DATA and FORWARD TSNs that were given out, and never moves
+-- the acknowledged reach back.
 abbrev pub SendersEventsAreSent : Type 0
 SendersEventsAreSent =
     (w : Direction) (e : Event) → IsOfSending e
     → IsSentOn w (happens w e) × (w.sender.reach ≤ (happens w e).sender.reach)
 
--- A write alone accepts, behind what was accepted before, and the beginning of a message and its further pieces alone
--- are assigned offsets.
+-- A write alone accepts, behind what was accepted before; the beginning of a message, its further pieces and the rest
+-- of an abandoned one alone are assigned offsets, and of an abandoned one that is a single offset.
 abbrev pub OnlyWritesAccept : Type 0
 OnlyWritesAccept =
     (w : Direction) (e : Event) → IsOfSending e → (AcceptsAMessage e → ⊥)
@@ -149,11 +197,27 @@ OnlyBeginningsAssign =
     (w : Direction) (e : Event) → IsOfSending e → (Assigns e → ⊥)
     → (happens w e).sender.plan.places ≡ w.sender.plan.places
 
--- What holds before an event of the sender holds after it, whether or not the limits do.
-abbrev pub SendersEventsKeepTheInvariant : Type 0
-SendersEventsKeepTheInvariant = (w : Direction) (e : Event) → IsOfSending e → Invariant w → Invariant (happens w e)
+abbrev pub AbandonmentsAssignOneOffset : Type 0
+AbandonmentsAssignOneOffset =
+    (w : Direction) (s i : ℕ)
+    → length (happens w (Event.Abandon s i)).sender.plan.places ≤ suc (length w.sender.plan.places)
 
--- An event of the receiver leaves the sender's side; it takes in what it brings alone, and only a read gives a message.
+abbrev pub OnlyForwardMadeGivesForwards : Type 0
+OnlyForwardMadeGivesForwards =
+    (w : Direction) (e : Event) → IsOfSending e → (MakesAForward e → ⊥) → (happens w e).forwards ≡ w.forwards
+
+-- What holds before an event of the sender holds after it, whether or not the limits do, where a FORWARD TSN that is
+-- made passes over few offsets. Those are as many as there are abandoned pieces in front of all others in flight.
+abbrev pub SendersEventsKeepTheInvariant : Type 0
+SendersEventsKeepTheInvariant =
+    (w : Direction) (e : Event) → IsOfSending e → IsForwardWithin w e → Invariant w → Invariant (happens w e)
+
+abbrev pub ForwardsPassOverTheFront : Type 0
+ForwardsPassOverTheFront = (p : Parts) (w : Direction) → FitsOutgoing (sending p) w
+    → length (gone_front w.sender) ≡ abandoned_in_front_of p.queue.in_flight
+
+-- An event of the receiver leaves the sender's side; it takes in what it brings alone, passes over what a FORWARD TSN
+-- that it brings alone does, and only a read gives a message.
 abbrev pub ReceiversEventsAreReceived : Type 0
 ReceiversEventsAreReceived = (w : Direction) (e : Event) → IsOfReceiving e → IsReceived w (happens w e)
 
@@ -162,6 +226,10 @@ OnlyWhatIsBroughtIsTakenIn = (w : Direction) (e : Event) (o : ℕ) → IsOfRecei
     → mem o (happens w e).receiver.taken ≡ true
     → (mem o w.receiver.taken ≡ true) ⊎ Brings w e o
 
+abbrev pub OnlyForwardsPassOver : Type 0
+OnlyForwardsPassOver = (w : Direction) (e : Event) → IsOfReceiving e
+    → ((happens w e).receiver.passed ≡ w.receiver.passed) ⊎ BringsForward w e (happens w e).receiver.passed
+
 abbrev pub OnlyReadsGiveMessages : Type 0
 OnlyReadsGiveMessages =
     (w : Direction) (e : Event) (s : ℕ) → IsOfReceiving e → (GivesAMessage e → ⊥) → (happens w e).reads s ≡ w.reads s
@@ -169,8 +237,8 @@ OnlyReadsGiveMessages =
 abbrev pub ClosedReceiversAreNotOpen : Type 0
 ClosedReceiversAreNotOpen = (w : Direction) → (happens w Event.Close).receiver.is_open ≡ false
 
--- A direction stays plain. It stays within the limits where a SACK or DATA comes, a SACK is made, a stream is opened or
--- the receiver closes.
+-- A direction stays plain. It stays within the limits where a message is dropped, a SACK, a FORWARD TSN or DATA comes,
+-- a SACK or a FORWARD TSN is made, a stream is opened or the receiver closes.
 abbrev pub PlainEventsKeepItPlain : Type 0
 PlainEventsKeepItPlain = (w : Direction) (e : Event) → IsPlainEvent e → IsPlain w → IsPlain (happens w e)
 

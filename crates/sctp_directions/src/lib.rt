@@ -2,21 +2,25 @@
 //! as acts; and what each act is there. No code runs here; each empty function carries laws that are proved.
 #![tactic(auto)]
 
-ghost use Rattle.sctp_directions.specs.Laws.{AcceptedMessagesAreCounted, ItsAcknowledgementsAreAlike};
+ghost use Rattle.sctp_directions.specs.Laws.{AbandonmentsAssignOneOffset, AcceptedMessagesAreCounted};
 ghost use Rattle.sctp_directions.specs.Laws.{ActsKeepTheInitialTsns, ClosedReceiversAreNotOpen, EventsKeepTheLimits};
-ghost use Rattle.sctp_directions.specs.Laws.{FreshDirectionsArePlain, ItsMarksAreNoEvents, PeerKnownIsNoEvent};
-ghost use Rattle.sctp_directions.specs.Laws.{NothingIsAcceptedAtFirst, OnlyBeginningsAssign, OnlyReadsGiveMessages};
-ghost use Rattle.sctp_directions.specs.Laws.{OnlySettingsLoosen, OnlyWhatIsBroughtIsTakenIn, OnlyWritesAccept};
-ghost use Rattle.sctp_directions.specs.Laws.{OwnActsLeaveWhatComes};
-ghost use Rattle.sctp_directions.specs.Laws.{PiecesAreCounted, ItsPiecesAreGiven, PlainEventsKeepItPlain};
-ghost use Rattle.sctp_directions.specs.Laws.{ReceiversEventsAreReceived, ReportsSayWhatWasTaken, SacksMeanTheSame};
-ghost use Rattle.sctp_directions.specs.Laws.{SendersEventsAreSent, SendersEventsKeepTheInvariant};
-ghost use Rattle.sctp_directions.specs.Laws.{SettingsAreNoEvents, ShortMessagesAreOnePiece};
-ghost use Rattle.sctp_directions.specs.Laws.{WhatComesLeavesItsOwn, WhatItTakesInComes, ItsWritesAreAccepted};
+ghost use Rattle.sctp_directions.specs.Laws.{ForwardsItTakesCome, ForwardsPassOverTheFront};
+ghost use Rattle.sctp_directions.specs.Laws.{FreshDirectionsArePlain, ItsAbandonmentsAreAlike};
+ghost use Rattle.sctp_directions.specs.Laws.{ItsAcknowledgementsAreAlike, ItsDropsAreAlike, ItsForwardsSayTheSame};
+ghost use Rattle.sctp_directions.specs.Laws.{ItsMarksAreNoEvents, ItsPiecesAreGiven, ItsStartsAreNoEvents};
+ghost use Rattle.sctp_directions.specs.Laws.{ItsTailsAreAbandonedAlike, ItsWritesAreAccepted, NothingIsAcceptedAtFirst};
+ghost use Rattle.sctp_directions.specs.Laws.{OnlyBeginningsAssign, OnlyForwardMadeGivesForwards, OnlyForwardsPassOver};
+ghost use Rattle.sctp_directions.specs.Laws.{OnlyReadsGiveMessages, OnlySettingsLoosen, OnlyWhatIsBroughtIsTakenIn};
+ghost use Rattle.sctp_directions.specs.Laws.{OnlyWritesAccept, OwnActsLeaveWhatComes, PeerKnownIsNoEvent};
+ghost use Rattle.sctp_directions.specs.Laws.{PiecesAreCounted, PlainEventsKeepItPlain, ReceiversEventsAreReceived};
+ghost use Rattle.sctp_directions.specs.Laws.{ReportsSayWhatWasTaken, SacksMeanTheSame, SendersEventsAreSent};
+ghost use Rattle.sctp_directions.specs.Laws.{SendersEventsKeepTheInvariant, SettingsAreNoEvents};
+ghost use Rattle.sctp_directions.specs.Laws.{ShortMessagesAreOnePiece, WhatComesLeavesItsOwn, WhatItTakesInComes};
 ghost use Rattle.sctp_directions.specs.Laws.{WritesAreAcceptedLast};
 
-/// What an association writes, sends again and finds acknowledged happens at the sender of its direction; of marks and
-/// of what an application sets on a stream that one knows nothing.
+/// What an association writes, sends again, finds acknowledged, abandons and drops happens at the sender of its
+/// direction, and so does a FORWARD TSN that it makes; of marks, of deadlines and of what an application sets on a
+/// stream that one knows nothing.
 pub fn its_own_acts_are_events()
     ensures writes { ItsWritesAreAccepted }
     ensures pieces { ItsPiecesAreGiven }
@@ -24,12 +28,18 @@ pub fn its_own_acts_are_events()
     ensures settings { SettingsAreNoEvents }
     ensures acknowledgements { ItsAcknowledgementsAreAlike }
     ensures sacks { SacksMeanTheSame }
+    ensures abandonments { ItsAbandonmentsAreAlike }
+    ensures tails { ItsTailsAreAbandonedAlike }
+    ensures drops { ItsDropsAreAlike }
+    ensures starts { ItsStartsAreNoEvents }
+    ensures forwards { ItsForwardsSayTheSame }
 {}
 
-/// What an association takes in and reports happens at the receiver of the direction that comes to it; that the peer's
-/// initial TSN becomes known is nothing to it.
+/// What an association takes in, passes over and reports happens at the receiver of the direction that comes to it;
+/// that the peer's initial TSN becomes known is nothing to it.
 pub fn what_comes_to_it_are_events()
     ensures taken { WhatItTakesInComes }
+    ensures passed { ForwardsItTakesCome }
     ensures reports { ReportsSayWhatWasTaken }
     ensures peer_known { PeerKnownIsNoEvent }
 {}
@@ -48,13 +58,17 @@ pub fn events_at_the_sender_leave_the_receiver()
     ensures accepted { OnlyWritesAccept }
     ensures last { WritesAreAcceptedLast }
     ensures assigned { OnlyBeginningsAssign }
+    ensures marker { AbandonmentsAssignOneOffset }
+    ensures forwards { OnlyForwardMadeGivesForwards }
     ensures invariant { SendersEventsKeepTheInvariant }
+    ensures front { ForwardsPassOverTheFront }
 {}
 
 /// What an event at the receiver leaves of a direction.
 pub fn events_at_the_receiver_leave_the_sender()
     ensures received { ReceiversEventsAreReceived }
     ensures taken { OnlyWhatIsBroughtIsTakenIn }
+    ensures passed { OnlyForwardsPassOver }
     ensures reads { OnlyReadsGiveMessages }
     ensures closed { ClosedReceiversAreNotOpen }
 {}

@@ -46,7 +46,7 @@ module _ (n : Names) (v : Sender) where
       ∙ ap (λ z. eqb (place_at v.plan o).stream s && (message_at v.plan z (place_at v.plan o).message).ordered) h.stream
 
   -- as many pieces are abandoned in front of all others in flight as offsets past the acknowledged reach
-  front_alike : (o : ℕ) (xs : List InFlight) → AreInFlight n v.plan v.acknowledged v.gone o xs
+  pub front_alike : (o : ℕ) (xs : List InFlight) → AreInFlight n v.plan v.acknowledged v.gone o xs
       → abandoned_in_front_of xs ≡ length (gone_among v (drop o v.plan.places))
   front_alike o [] h = sym (ap (λ z. length (gone_among v z)) (drop_all o v.plan.places (omega (arith, h))))
   front_alike o (x ∷ xs) (h, hs) =

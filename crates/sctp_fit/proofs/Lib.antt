@@ -7,11 +7,12 @@ pub mod CutsGiven
 pub mod DataTaken
 mod FirstPiece
 pub mod FlightAcknowledged
-mod ForwardTaken
-mod FrontAlike
+pub mod ForwardTaken
+pub mod ForwardTold
+pub mod FrontAlike
 pub mod HeldTsns
 pub mod MarksSayNothing
-mod MessageDropped
+pub mod MessageDropped
 pub mod MessagesAccepted
 mod NamesKept
 pub mod NextPiece
@@ -29,7 +30,8 @@ pub mod SentAgain
 pub mod GrownPlansStand
 pub mod StreamsChanged
 pub mod StreamsThere
-mod TailMarked
+pub mod TailMarked
+pub mod TimesStarted
 mod LastUnsent
 mod UnsentKept
 mod WholeAbandoned

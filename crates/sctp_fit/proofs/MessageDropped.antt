@@ -14,7 +14,7 @@ use Rattle.sctp_outbound_queue.specs.declared.message.InFlight.{InFlight}
 use Rattle.sctp_outbound_queue.specs.Waiting.{Waiting}
 use Rattle.sctp_outbound_queue.specs.Message.{message_bytes}
 use Rattle.sctp_streams.specs.Stream.{StreamView, released_from, with_ssn_given_back}
-use Rattle.sctp_streams.specs.Streams.{StreamMap, change_at, is_generation, stream_at, with_stream}
+use Rattle.sctp_streams.specs.Streams.{StreamMap, change_at, given_back_in, is_generation, stream_at, with_stream}
 use Rattle.sctp_model.specs.Messages.{Place, Plan, accepted_bytes, is_reliable, message_at, place_at}
 use Rattle.sctp_model.specs.Machine as machine
 use Rattle.sctp_model.specs.Machine.{Direction, Event, Sender, can_drop, happens, has_message, is_unsent, put, put_2}
@@ -22,7 +22,7 @@ use Rattle.sctp_model.specs.Invariants.{Invariant}
 use Rattle.sctp_model.proofs.PlansGrow.{at_put, off_put}
 use Rattle.sctp_model.proofs.ReleasedBytes.{released_within}
 use Rattle.sctp_model.proofs.SenderEvents.{keeps_drop, same_plan}
-use Rattle.sctp_fit.specs.Drops.{DropsAreAlike, dropped, given_back, without_at}
+use Rattle.sctp_fit.specs.Drops.{DropsAreAlike, dropped, without_at}
 use Rattle.sctp_fit.specs.Outgoing.{AreInFlight, ArePieces, AreUnsent, AreWaiting, FitsOutgoing, IsNumbered, IsOwnAt}
 use Rattle.sctp_fit.specs.Outgoing.{IsWaiting, Names, Sending, number_at, numbers_after, numbers_past}
 use Rattle.sctp_fit.proofs.BytesReleased.{own_less}
@@ -246,7 +246,7 @@ each_given : (m : StreamMap) (d : Attributes) (bytes : ℕ) (P : ℕ → Option 
     → (stream_at m d.stream_identifier ≡ None → P d.stream_identifier None)
     → ((t : StreamView) → stream_at m d.stream_identifier ≡ Some t
     → P d.stream_identifier (Some (released_from (cond d.unordered t (with_ssn_given_back t)) bytes)))
-    → (s : ℕ) → P s (stream_at (given_back m d bytes) s)
+    → (s : ℕ) → P s (stream_at (given_back_in m d.stream_identifier d.generation d.unordered bytes) s)
 each_given m d bytes P live others none some = by_live (stream_at m d.stream_identifier) refl
   where
     by_live : (o : Option StreamView) → stream_at m d.stream_identifier ≡ o → (s : ℕ)
@@ -357,7 +357,7 @@ module _ (a : Sending) (k : ℕ) (x : Waiting) (w : Direction) (at : slice_get a
       (f.live x.message.stream_identifier t e).generation ∙ sym r.waits.message.generation
 
   -- each live stream counts on from its next number
-  live_now : (s : ℕ) (u : StreamView) → stream_at (given_back a.streams x.message (message_bytes x)) s ≡ Some u
+  live_now : (s : ℕ) (u : StreamView) → stream_at (dropped k x a).streams s ≡ Some u
       → IsNumbered f.named (numbers_after w.sender.ssn (without_at k a.queue.pending) s) s u
   live_now =
       each_given a.streams x.message (message_bytes x)
@@ -392,7 +392,7 @@ module _ (a : Sending) (k : ℕ) (x : Waiting) (w : Direction) (at : slice_get a
   own_now : (s : ℕ) → w.over s ≡ false
       → IsOwnAt w.sender.plan
       ((machine.dropped w.sender x.message.stream_identifier r.index).released s) s
-      (stream_at (given_back a.streams x.message (message_bytes x)) s)
+      (stream_at (dropped k x a).streams s)
   own_now =
       each_given a.streams x.message (message_bytes x)
       (λ s o. w.over s ≡ false

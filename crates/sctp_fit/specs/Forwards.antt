@@ -1,12 +1,15 @@
 -- The laws of FORWARD TSN (RFC 3758 sections 3.2, 3.5 and 3.6): the one that an association makes says what its
 -- direction's does, and one that comes skips the same on both sides.
-use Rattle.std.specs.Prelude.{◌≡◌, ℕ, suc, ◌+◌, ◌<◌, true, not, ◌&&◌, ◌==◌, List, [], ◌∷◌, ◌++◌, take, slice_get}
+use Rattle.std.specs.Prelude.{◌≡◌, ℕ, suc, ◌+◌, ◌<◌, true, not, ◌&&◌, ◌==◌, List, [], ◌∷◌, ◌++◌, map, take, slice_get}
 use Rattle.std.specs.Prelude.{nat_lt}
 use Rattle.std.specs.Prelude.{if◌then◌else◌, Option, Some, None}
-use Rattle.std.specs.Option.{option_map}
+use Rattle.std.specs.Option.{option_map, option_to_list}
+use Rattle.sctp_wire_types.specs.declared.chunk.ChunkForwardTsn.{ChunkForwardTsn}
+use Rattle.sctp_wire_types.specs.declared.chunk.SkippedStream.{SkippedStream}
 use Rattle.sctp_receive_queues.specs.Reassembly.{unordered_skipped}
 use Rattle.sctp_outbound_queue.specs.declared.message.InFlight.{InFlight}
 use Rattle.sctp_outbound_queue.specs.Outbound.{abandoned_in_front_of}
+use Rattle.sctp_outbound.specs.Forward.{skipped_numbers, skipped_stream}
 use Rattle.sctp_streams.specs.Stream.{StreamView}
 use Rattle.sctp_streams.specs.Streams.{StreamMap, stream_at}
 use Rattle.sctp_model.specs.Packets.{Forward, skips}
@@ -16,7 +19,7 @@ use Rattle.sctp_model.specs.Invariants.{Invariant}
 use Rattle.sctp_model.specs.Safe.{IsWithin}
 use Rattle.sctp_reassembly.specs.Stands.{skipped_if}
 use Rattle.sctp_fit.specs.Outgoing.{FitsOutgoing, Sending}
-use Rattle.sctp_fit.specs.Incoming.{FitsIncoming, Receiving}
+use Rattle.sctp_fit.specs.Incoming.{FitsIncoming, Receiving, tsn_before}
 
 -- the stream sequence number of the last ordered piece of stream s among these
 abbrev pub last_ordered : ℕ → List InFlight → Option ℕ → Option ℕ
@@ -41,6 +44,24 @@ pub record IsForwardOf (a : Sending) (w : Direction) (f : Forward) : Type 0 wher
 abbrev pub ForwardsSayTheSame : Type 0
 ForwardsSayTheSame = (a : Sending) (w : Direction) → 0 < abandoned_in_front_of a.queue.in_flight → FitsOutgoing a w
     → FitsOutgoing a (happens w Event.ForwardMade) × ((f : Forward) × IsForwardOf a w f)
+
+-- the numbers that these pairs tell for stream s
+abbrev pub numbers_told : ℕ → List SkippedStream → List ℕ
+numbers_told s [] = []
+numbers_told s (e ∷ es) =
+    if e.stream_identifier == s then e.stream_sequence_number ∷ numbers_told s es else numbers_told s es
+
+-- The pairs that are made of pieces tell of each stream with an ordered one among them the last one's number, once, and
+-- of no other stream.
+abbrev pub PairsTellTheLast : Type 0
+PairsTellTheLast = (s : ℕ) (pieces : List InFlight)
+    → numbers_told s (map skipped_stream (skipped_numbers pieces)) ≡ option_to_list (last_ordered s pieces None)
+
+-- A FORWARD TSN chunk is this one of a direction with this initial TSN: its new cumulative TSN is the one before that
+-- of the reach, and its pairs tell of each stream that is skipped the number up to which it is, once, and of no other.
+pub record IsForwardSaid (initial : ℕ) (c : ChunkForwardTsn) (f : Forward) : Type 0 where
+  pub reach : c.new_cumulative_tsn ≡ tsn_before (tsn initial f.reach)
+  pub streams : (s : ℕ) → numbers_told s c.streams ≡ option_to_list (skips f s)
 
 -- a stream once a FORWARD TSN passed over everything up to the offset o: ordered messages up to the number that is told
 -- are skipped, and unordered pieces up to o are dropped

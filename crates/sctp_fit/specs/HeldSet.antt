@@ -1,15 +1,15 @@
 -- The laws of the TSNs that are held past the receiver's last TSN in order: they are those of the offsets past the
--- reach that came, and a new one moves the last TSN in order with the reach (RFC 4960 sections 3.3.4 and 6.2). Of one
--- that a FORWARD TSN moves they say nothing yet.
-use Rattle.std.specs.Prelude.{◌≡◌, ℕ, ◌+◌, ◌-◌, ◌^◌, ◌<◌, ◌≤◌, ◌&&◌, not, true, List, [], ◌∷◌, length}
+-- reach that came, and a new one moves the last TSN in order with the reach (RFC 4960 sections 3.3.4 and 6.2), as a
+-- FORWARD TSN does (RFC 3758 section 3.6).
+use Rattle.std.specs.Prelude.{◌≡◌, ℕ, suc, ◌+◌, ◌-◌, ◌^◌, ◌<◌, ◌≤◌, ◌&&◌, not, true, List, [], ◌∷◌, length}
 use Rattle.std.specs.Prelude.{nat_lt}
-use Rattle.std.specs.List.{AllByRecursion}
+use Rattle.std.specs.List.{AllByRecursion, filter}
 use Rattle.std.specs.List.Sorted.{IsStrictlySortedBy}
 use Rattle.std.specs.Ordering.{nat_cmp}
 use Rattle.sctp_wire_types.specs.declared.chunk.GapAckBlock.{GapAckBlock}
 use Rattle.sctp_received.specs.Received.{advanced, is_held, is_held_at, is_named, is_new, with_tsn}
 use Rattle.sctp_model.specs.Packets.{mem}
-use Rattle.sctp_serial.specs.Serial.{tsn}
+use Rattle.sctp_serial.specs.Serial.{tsn, tsn_lte}
 use Rattle.sctp_fit.specs.Incoming.{Receiving, offset_of, reach_of, tsn_before}
 
 -- the receiver's last TSN in order: the TSN before that of its reach
@@ -51,6 +51,27 @@ TheSetFollows = (a : Receiving) (held : List ℕ) (t n : ℕ) → t < 2 ^ 32 →
     ≡ peer_last_tsn_of (with_offset a (offset_of a t)))
     × HoldsPast (with_offset a (offset_of a t))
     (advanced n (peer_last_tsn_of a) (with_tsn held t (peer_last_tsn_of a)).0).1
+
+-- A TSN is not behind the last one in order where it is 1 to half the range past it.
+abbrev pub TsnsAheadAreNotBehind : Type 0
+TsnsAheadAreNotBehind = (a : Receiving) (t : ℕ) → t < 2 ^ 32
+    → not (tsn_lte t (peer_last_tsn_of a)) ≡ nat_lt (offset_of a t) (reach_of a + 2 ^ 31)
+
+-- all up to the offset o was passed over
+abbrev pub with_all_to : Receiving → ℕ → Receiving
+with_all_to a o = record a { passed = suc o }
+
+-- those of some TSNs that are past this one
+abbrev pub past_tsn : ℕ → List ℕ → List ℕ
+past_tsn t held = filter (λ s. not (tsn_lte s t)) held
+
+-- A FORWARD TSN up to a TSN that is 1 to half the range past the last TSN in order moves the last TSN in order to that
+-- TSN and over all that follows it, to the new reach; what is held after that is what lies past that.
+abbrev pub TheSetIsPassedOver : Type 0
+TheSetIsPassedOver = (a : Receiving) (held : List ℕ) (t n : ℕ) → t < 2 ^ 32 → HoldsPast a held
+    → offset_of a t < reach_of a + 2 ^ 31 → length (past_tsn t held) ≤ n
+    → ((advanced n t (past_tsn t held)).0 ≡ peer_last_tsn_of (with_all_to a (offset_of a t)))
+    × HoldsPast (with_all_to a (offset_of a t)) (advanced n t (past_tsn t held)).1
 
 -- Gap ack blocks that name exactly what is held name exactly those of the 65,535 offsets from the reach on that came;
 -- blocks count from the last TSN in order: the reach itself is their 1.

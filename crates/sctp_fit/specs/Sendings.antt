@@ -5,6 +5,7 @@ use Rattle.sctp_wire_types.specs.declared.chunk.ChunkPayloadData.{ChunkPayloadDa
 use Rattle.sctp_outbound_queue.specs.declared.message.Attributes.{Attributes}
 use Rattle.sctp_outbound_queue.specs.declared.message.InFlight.{InFlight}
 use Rattle.sctp_outbound_queue.specs.declared.message.Retransmission.{Retransmission}
+use Rattle.sctp_outbound_queue.specs.Expiry.{all_started}
 use Rattle.sctp_outbound_queue.specs.Waiting.{Waiting}
 use Rattle.sctp_outbound_queue.specs.Message.{counted_again, is_outstanding}
 use Rattle.sctp_outbound_queue.specs.Outbound.{changed_at, sent_next}
@@ -89,3 +90,8 @@ abbrev pub MarksAreNoEvents : Type 0
 MarksAreNoEvents = (a : Sending) (pieces : List InFlight) (w : Direction) → AreSamePieces a.queue.in_flight pieces
     → FitsOutgoing a w
     → FitsOutgoing (record a { queue = (let q = a.queue in record q { in_flight = pieces }) }) w
+
+-- Nor does it know of deadlines, also of what waits.
+abbrev pub StartsAreNoEvents : Type 0
+StartsAreNoEvents = (a : Sending) (now : ℕ) (w : Direction) → FitsOutgoing a w
+    → FitsOutgoing (record a { queue = all_started now a.queue }) w

@@ -1,4 +1,5 @@
 use Rattle.sctp_directions.proofs.Proved.{peer_known_is_no_event, reports_say_what_was_taken, what_it_takes_in_comes}
+use Rattle.sctp_directions.proofs.Proved.{forwards_it_takes_come}
 use Rattle.sctp_directions.proofs.what_comes_to_it_are_events.Goals as goal
 
 pub returns-clause-taken : goal.returns-clause-taken
@@ -9,3 +10,6 @@ returns-clause-reports c = reports_say_what_was_taken
 
 pub returns-clause-peer_known : goal.returns-clause-peer_known
 returns-clause-peer_known c = peer_known_is_no_event
+
+pub returns-clause-passed : goal.returns-clause-passed
+returns-clause-passed c = forwards_it_takes_come

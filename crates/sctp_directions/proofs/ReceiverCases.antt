@@ -1,18 +1,16 @@
--- What the receiver's events keep of a plain direction and of the limits; and that they leave the sender's side as it
--- is.
+-- The receiver's events by their cases: they leave the sender's side as it is, and most of them keep the limits.
 use Rattle.std.proofs.Common.{◌≡◌, ◌⊎◌, refl, sym, ap, ◌∙◌, subst, subst₂, inl, inr, ⊎_elim, ℕ, zero, suc, ◌+◌, ◌^◌}
 use Rattle.std.proofs.Common.{◌<◌, arith, true, false, List, [], ◌∷◌, ◌++◌, length, Option, Some, None}
 use Rattle.std.specs.Prelude.{slice_get}
 use Rattle.std.proofs.lemmas.Bool.{cond_both}
-use Rattle.sctp_model.specs.Packets.{Data, Sack, mem}
+use Rattle.sctp_model.specs.Packets.{Data, Forward, Sack, mem}
 use Rattle.sctp_model.specs.Reassembly.{Got, Queue, Taken, next}
-use Rattle.sctp_model.specs.Machine.{Direction, Event, Receiver, data_comes, happens, opened, put, read, sack_of}
-use Rattle.sctp_model.specs.Machine.{took, was_read}
+use Rattle.sctp_model.specs.Machine.{Direction, Event, Receiver, data_comes, forward_comes, happens, opened, passes}
+use Rattle.sctp_model.specs.Machine.{put, read, sack_of, took, was_read}
 use Rattle.sctp_model.specs.Safe.{IsWithin, unread}
 use Rattle.sctp_model.proofs.StreamsTakeData.{mem_new}
-use Rattle.sctp_directions.specs.Events.{IsReceived}
-use Rattle.sctp_directions.specs.Plain.{IsPlain}
-use Rattle.sctp_directions.proofs.SenderCases.{sack_cases}
+use Rattle.sctp_directions.specs.Events.{BringsForward, IsReceived}
+use Rattle.sctp_directions.proofs.SenderCases.{drop_cases, forward_made_cases, sack_cases}
 
 -- The events, by their cases
 
@@ -26,6 +24,17 @@ data_cases P w k h f = go (slice_get w.datas k) refl
     go : (o : Option Data) → slice_get w.datas k ≡ o → P (data_comes w o)
     go None e = h
     go (Some d) e = cond_both _ _ _ P (λ b. f d e) (λ b. h)
+
+-- what holds before a FORWARD TSN comes and after one that is taken holds after it
+pub forward_cases : (P : Direction → Type 0) (w : Direction) (k : ℕ) → P w
+    → ((f : Forward) → slice_get w.forwards k ≡ Some f → P (passes w f))
+    → P (happens w (Event.ForwardComes k))
+unfolding happens
+forward_cases P w k h g = go (slice_get w.forwards k) refl
+  where
+    go : (o : Option Forward) → slice_get w.forwards k ≡ o → P (forward_comes w o)
+    go None e = h
+    go (Some f) e = cond_both _ _ _ P (λ b. g f e) (λ b. h)
 
 -- what holds before a read and after one that gives a message holds after it
 pub read_cases : (P : Direction → Type 0) (w : Direction) (s : ℕ) → P w
@@ -42,46 +51,12 @@ read_cases P w s h f = queued (w.receiver.queues s) refl
     queued None e = h
     queued (Some q) e = cond_both _ _ _ P (λ b. given q e (next q) refl) (λ b. h)
 
--- A plain direction stays plain
-
--- what a plain direction asks of its receiver's side
-plain_by : (w : Direction) (r : Receiver) (sacks : List Sack) (reads : ℕ → List Got) → r.passed ≡ 0 → IsPlain w
-    → IsPlain (record w { receiver = r; sacks = sacks; reads = reads })
-plain_by w r sacks reads passed h = record { stays = h.stays; unskipped = passed; span = h.span }
-
--- a direction stays plain when DATA comes, in whatever order
-pub plain_data : (w : Direction) (k : ℕ) → IsPlain w → IsPlain (happens w (Event.DataComes k))
-plain_data w k h =
-    data_cases IsPlain w k h (λ d e. plain_by w (took w.receiver d) w.sacks w.reads h.unskipped h)
-
--- it stays plain when its receiver reports
-pub plain_sack : (w : Direction) → IsPlain w → IsPlain (happens w Event.SackMade)
-unfolding happens
-plain_sack w h = plain_by w w.receiver (w.sacks ++ sack_of w.receiver ∷ []) w.reads h.unskipped h
-
--- it stays plain when a stream is opened
-pub plain_open : (w : Direction) (s : ℕ) → IsPlain w → IsPlain (happens w (Event.Open s))
-unfolding happens
-plain_open w s h =
-    plain_by w (record w.receiver { queues = put w.receiver.queues s (opened (w.receiver.queues s)) }) w.sacks w.reads
-    h.unskipped h
-
--- it stays plain when a stream is read
-pub plain_read : (w : Direction) (s : ℕ) → IsPlain w → IsPlain (happens w (Event.Read s))
-plain_read w s h = read_cases IsPlain w s h
-    (λ q t e f. plain_by w (record w.receiver { queues = put w.receiver.queues s (Some t.rest) }) w.sacks
-    (put w.reads s (w.reads s ++ t.got ∷ [])) h.unskipped h)
-
--- it stays plain when the receiver closes
-pub plain_close : (w : Direction) → IsPlain w → IsPlain (happens w Event.Close)
-unfolding happens
-plain_close w h = plain_by w (record w.receiver { is_open = false }) w.sacks w.reads h.unskipped h
-
 -- What the receiver's events leave
 
 received_by : (w : Direction) (r : Receiver) (reads : ℕ → List Got)
     → IsReceived w (record w { receiver = r; reads = reads })
-received_by w r reads = record { sender = refl; over = refl; datas = refl; sacks = λ k x e. e }
+received_by w r reads =
+    record { sender = refl; over = refl; datas = refl; forwards = refl; sacks = λ k x e. e }
 
 -- DATA that comes concerns the receiver alone
 pub data_received : (w : Direction) (k : ℕ) → IsReceived w (happens w (Event.DataComes k))
@@ -91,13 +66,25 @@ data_received w k =
 -- a SACK that is made comes behind those made before, which stay where they are
 pub sack_received : (w : Direction) → IsReceived w (happens w Event.SackMade)
 unfolding happens
-sack_received w = record { sender = refl; over = refl; datas = refl; sacks = λ k x e. get_before w.sacks k x e }
+sack_received w = record {
+  sender = refl;
+  over = refl;
+  datas = refl;
+  forwards = refl;
+  sacks = λ k x e. get_before w.sacks k x e;
+}
   where
     get_before : (xs : List Sack) (k : ℕ) (x : Sack) → slice_get xs k ≡ Some x
         → slice_get (xs ++ sack_of w.receiver ∷ []) k ≡ Some x
     get_before [] k x e = absurd (cc)
     get_before (y ∷ xs) zero x e = e
     get_before (y ∷ xs) (suc k) x e = get_before xs k x e
+
+-- a FORWARD TSN that comes concerns the receiver and what was skipped alone
+pub forward_received : (w : Direction) (k : ℕ) → IsReceived w (happens w (Event.ForwardComes k))
+forward_received w k =
+    forward_cases (IsReceived w) w k (received_by w w.receiver w.reads)
+    (λ f e. record { sender = refl; over = refl; datas = refl; forwards = refl; sacks = λ n x g. g })
 
 -- opening a stream concerns the receiver alone
 pub open_received : (w : Direction) (s : ℕ) → IsReceived w (happens w (Event.Open s))
@@ -138,6 +125,10 @@ pub sack_takes : (w : Direction) → (happens w Event.SackMade).receiver.taken �
 unfolding happens
 sack_takes w = refl
 
+-- a FORWARD TSN takes nothing in
+pub forward_takes : (w : Direction) (k : ℕ) → (happens w (Event.ForwardComes k)).receiver.taken ≡ w.receiver.taken
+forward_takes w k = forward_cases (λ v. v.receiver.taken ≡ w.receiver.taken) w k refl (λ f e. refl)
+
 -- opening a stream takes nothing in
 pub open_takes : (w : Direction) (s : ℕ) → (happens w (Event.Open s)).receiver.taken ≡ w.receiver.taken
 unfolding happens
@@ -151,6 +142,35 @@ read_takes w s = read_cases (λ v. v.receiver.taken ≡ w.receiver.taken) w s re
 pub close_takes : (w : Direction) → (happens w Event.Close).receiver.taken ≡ w.receiver.taken
 unfolding happens
 close_takes w = refl
+
+-- What is passed over
+
+-- a FORWARD TSN alone passes over anything, and as far as it says
+pub forward_passes : (w : Direction) (k : ℕ)
+    → ((happens w (Event.ForwardComes k)).receiver.passed ≡ w.receiver.passed)
+    ⊎ BringsForward w (Event.ForwardComes k) (happens w (Event.ForwardComes k)).receiver.passed
+forward_passes w k =
+    forward_cases
+    (λ v. (v.receiver.passed ≡ w.receiver.passed) ⊎ BringsForward w (Event.ForwardComes k) v.receiver.passed) w k
+    (inl refl) (λ f e. inr (f, e, refl))
+
+pub data_passes : (w : Direction) (k : ℕ) → (happens w (Event.DataComes k)).receiver.passed ≡ w.receiver.passed
+data_passes w k = data_cases (λ v. v.receiver.passed ≡ w.receiver.passed) w k refl (λ d e. refl)
+
+pub sack_passes : (w : Direction) → (happens w Event.SackMade).receiver.passed ≡ w.receiver.passed
+unfolding happens
+sack_passes w = refl
+
+pub open_passes : (w : Direction) (s : ℕ) → (happens w (Event.Open s)).receiver.passed ≡ w.receiver.passed
+unfolding happens
+open_passes w s = refl
+
+pub read_passes : (w : Direction) (s : ℕ) → (happens w (Event.Read s)).receiver.passed ≡ w.receiver.passed
+read_passes w s = read_cases (λ v. v.receiver.passed ≡ w.receiver.passed) w s refl (λ q t e f. refl)
+
+pub close_passes : (w : Direction) → (happens w Event.Close).receiver.passed ≡ w.receiver.passed
+unfolding happens
+close_passes w = refl
 
 -- The limits
 
@@ -166,6 +186,10 @@ within_by w v sender reads h = record {
 pub within_data : (w : Direction) (k : ℕ) → IsWithin w → IsWithin (happens w (Event.DataComes k))
 within_data w k h =
     data_cases IsWithin w k h (λ d e. within_by w (record w { receiver = took w.receiver d }) refl refl h)
+
+-- the numbers stay within their limits where a FORWARD TSN comes
+pub within_forward : (w : Direction) (k : ℕ) → IsWithin w → IsWithin (happens w (Event.ForwardComes k))
+within_forward w k h = forward_cases IsWithin w k h (λ f e. within_by w (passes w f) refl refl h)
 
 -- the numbers stay within their limits where a SACK is made
 pub within_sack : (w : Direction) → IsWithin w → IsWithin (happens w Event.SackMade)
@@ -184,6 +208,16 @@ within_open w s h =
 pub within_close : (w : Direction) → IsWithin w → IsWithin (happens w Event.Close)
 unfolding happens
 within_close w h = within_by w (record w { receiver = record w.receiver { is_open = false } }) refl refl h
+
+-- the numbers stay within their limits where a message is dropped
+pub within_drop : (w : Direction) (s i : ℕ) → IsWithin w → IsWithin (happens w (Event.Drop s i))
+within_drop w s i h =
+    drop_cases IsWithin w s i h (λ b. record { offsets = h.offsets; flight = h.flight; unread = h.unread })
+
+-- the numbers stay within their limits where a FORWARD TSN is made
+pub within_forward_made : (w : Direction) → IsWithin w → IsWithin (happens w Event.ForwardMade)
+within_forward_made w h =
+    forward_made_cases IsWithin w h (record { offsets = h.offsets; flight = h.flight; unread = h.unread })
 
 -- the numbers stay within their limits where a SACK comes: it moves the sender's reach onwards or not at all
 pub within_sack_comes : (w : Direction) (k : ℕ) → IsWithin w → IsWithin (happens w (Event.SackComes k))
