@@ -204,7 +204,8 @@ fn after(
     Ok((answer, numbers(association), standing(association)))
 }
 
-fn server_after(alloc: Global, text: &str) -> Result<(String, Numbers, Standing), Fail> {
+/// The same of a server to which nothing came before.
+pub(crate) fn server_after(alloc: Global, text: &str) -> Result<(String, Numbers, Standing), Fail> {
     let mut server = server(alloc)?;
     after(alloc, &mut server, text)
 }

@@ -1,14 +1,15 @@
 -- What acts leave as it is, and that the first TSN in flight keeps standing on the first offset that is not
 -- acknowledged.
 use Rattle.std.proofs.Common.{◌≡◌, refl, sym, ap, ◌∙◌, ℕ, zero, suc, ◌<◌, ◌≤◌, ◌+◌, ◌^◌, arith, List, [], ◌∷◌}
-use Rattle.std.proofs.Common.{◌++◌, length, slice_get, Option, Some, None}
+use Rattle.std.proofs.Common.{◌++◌, length, slice_get, Bool, true, false, if◌then◌else◌, ◌==◌, Option, Some, None}
 use Rattle.std.proofs.lemmas.List.{append_assoc}
 use Rattle.sctp_serial.specs.Serial.{tsn}
 use Rattle.sctp_outbound_queue.specs.declared.message.InFlight.{InFlight}
 use Rattle.sctp_outbound_queue.specs.declared.message.Retransmission.{Retransmission}
 use Rattle.sctp_outbound_queue.specs.Waiting.{Waiting}
 use Rattle.sctp_outbound_queue.specs.Message.{counted_again}
-use Rattle.sctp_outbound_queue.specs.Outbound.{Outbound, changed_from, sent_from, tsn_at, without_first}
+use Rattle.sctp_outbound_queue.specs.Outbound.{Outbound, changed_from, sent_from, tail_dropped_from, tsn_at}
+use Rattle.sctp_outbound_queue.specs.Outbound.{without_first}
 use Rattle.sctp_wire_types.specs.declared.ids.PayloadProtocolIdentifier.{PayloadProtocolIdentifier}
 use Rattle.sctp_streams.specs.Stream.{StreamView}
 use Rattle.sctp_streams.specs.Streams.{StreamMap, stream_at}
@@ -16,7 +17,8 @@ use Rattle.sctp_parts.specs.Estimate.{Estimate}
 use Rattle.sctp_outbound.specs.declared.sender.Sender.{Sender}
 use Rattle.sctp_outbound.specs.Sender.{acknowledged, after_first, sender_after, sender_after_first, streams_after}
 use Rattle.sctp_directions.specs.Acts.{Act, Can, CanAll, History, Parts, done, done_all, data_given, all_data_given}
-use Rattle.sctp_directions.specs.Acts.{with_written, with_acknowledged}
+use Rattle.sctp_directions.specs.Acts.{with_abandoned, with_acknowledged, with_dropped, with_tail_abandoned}
+use Rattle.sctp_directions.specs.Acts.{with_written}
 use Rattle.sctp_fit.specs.Outgoing.{Sending}
 use Rattle.sctp_fit.specs.CumulativeAcks.{first_pieces_acknowledged, with_named}
 use Rattle.sctp_fit.proofs.BlocksTaken.{sacks_take_what_they_name}
@@ -66,6 +68,28 @@ resent_first : (by : Retransmission) (o : Option InFlight) (q : Outbound) (index
 resent_first by None q index = refl
 resent_first by (Some p) q index = refl
 
+-- what is given up leaves the first TSN in flight
+tail_first : (ms : List Waiting) (q : Outbound) (id : ℕ) → (tail_dropped_from ms q id).0.first_tsn ≡ q.first_tsn
+tail_first [] q id = refl
+tail_first (m ∷ ms) q id = first_if (m.message.message_id == id) _ q _ _ refl
+  where
+    first_if : (c : Bool) (p q : Outbound) (n k : ℕ) → p.first_tsn ≡ q.first_tsn
+        → (if◌then◌else◌ {A = Outbound × ℕ} c (p, n) (q, k)).0.first_tsn ≡ q.first_tsn
+    first_if true p q n k e = e
+    first_if false p q n k e = refl
+
+abandoned_tied : (o : Option InFlight) (p : Parts) → Tied p → Tied (with_abandoned o p)
+abandoned_tied None p e = e
+abandoned_tied (Some x) p e = tail_first p.queue.pending p.queue x.message.message_id ∙ e
+
+tail_tied : (o : Option Waiting) (p : Parts) → Tied p → Tied (with_tail_abandoned o p)
+tail_tied None p e = e
+tail_tied (Some x) p e = tail_first p.queue.pending p.queue x.message.message_id ∙ e
+
+dropped_tied : (k : ℕ) (o : Option Waiting) (p : Parts) → Tied p → Tied (with_dropped k o p)
+dropped_tied k None p e = e
+dropped_tied k (Some x) p e = e
+
 pub act_tied : (x : Act) (p : Parts) → Can x p → Tied p → Tied (done x p)
 act_tied (Act.PeerKnown t) p c e = e
 act_tied (Act.Opened id first kind) p c e = e
@@ -75,7 +99,13 @@ act_tied (Act.Sent now) p c e = sent_first p.queue.pending p.queue now ∙ e
 act_tied (Act.SentAgain by index) p c e = resent_first by (slice_get p.queue.in_flight index) p.queue index ∙ e
 act_tied Act.Marked p c e = e
 act_tied (Act.Acknowledged n blocks missing) p c e = acknowledged_tied n blocks p e
+act_tied (Act.Abandoned index) p c e = abandoned_tied (slice_get p.queue.in_flight index) p e
+act_tied Act.TailAbandoned p c e = tail_tied (slice_get p.queue.pending 0) p e
+act_tied (Act.Dropped k) p c e = dropped_tied k (slice_get p.queue.pending k) p e
+act_tied (Act.Started now) p c e = e
+act_tied Act.Forwarded p c e = e
 act_tied (Act.Took piece) p c e = e
+act_tied (Act.PassedOver t skipped) p c e = e
 act_tied Act.Reported p c e = e
 act_tied (Act.WasRead id) p c e = e
 act_tied Act.Ended p c e = e

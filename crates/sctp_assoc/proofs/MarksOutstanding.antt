@@ -1,20 +1,21 @@
 -- What is to go out again is neither acknowledged nor abandoned, whatever an association does.
 use Rattle.std.proofs.Common.{◌≡◌, refl, ℕ, zero, suc, Bool, true, false, if◌then◌else◌, List, [], ◌∷◌, ◌++◌}
-use Rattle.std.proofs.Common.{◌&&◌, ◌+◌, drop, map, nat_lt, slice_get, slice_set, subst, take, Option, Some, None}
+use Rattle.std.proofs.Common.{◌&&◌, ◌+◌, ◌==◌, drop, map, nat_lt, slice_get, slice_set, subst, take, Option, Some, None}
 use Rattle.std.specs.List.{AllByRecursion}
 use Rattle.std.proofs.lemmas.Bool.{false≢true}
 use Rattle.sctp_outbound_queue.specs.declared.message.InFlight.{InFlight}
 use Rattle.sctp_outbound_queue.specs.Waiting.{Waiting}
 use Rattle.sctp_outbound_queue.specs.Message.{acked, counted_again, is_outstanding, marked_again, reported_missing}
-use Rattle.sctp_outbound_queue.specs.Message.{sent_once}
+use Rattle.sctp_outbound_queue.specs.Message.{flagged, is_of, marker_of, sent_once, sent_started}
 use Rattle.sctp_outbound_queue.specs.declared.message.Retransmission.{Retransmission}
 use Rattle.sctp_outbound_queue.specs.declared.message.Retransmission.TheVariants as causes
-use Rattle.sctp_outbound_queue.specs.Outbound.{Outbound, changed_from, sent_from}
+use Rattle.sctp_outbound_queue.specs.Outbound.{Outbound, changed_from, sent_from, tail_dropped_from}
 use Rattle.sctp_wire_types.specs.declared.ids.PayloadProtocolIdentifier.{PayloadProtocolIdentifier}
 use Rattle.sctp_streams.specs.Stream.{StreamView}
 use Rattle.sctp_streams.specs.Streams.{stream_at}
 use Rattle.sctp_outbound.specs.GapAcks.{acked_among}
-use Rattle.sctp_directions.specs.Acts.{Act, Parts, done, done_all, is_acknowledged_by, with_written}
+use Rattle.sctp_directions.specs.Acts.{Act, Parts, done, done_all, is_acknowledged_by, with_abandoned, with_dropped}
+use Rattle.sctp_directions.specs.Acts.{with_tail_abandoned, with_written}
 
 abbrev IsMarkedRight : InFlight → Type 0
 IsMarkedRight x = x.retransmit ≡ true → is_outstanding x ≡ true
@@ -62,7 +63,7 @@ sent_right : (fs : List Waiting) (q : Outbound) (now : ℕ) → AreMarkedRight q
 sent_right [] q now m = m
 sent_right (f ∷ fs) q now m = append_right q.in_flight (sent_once now f) (λ e. absurd (false≢true e)) m
 
-get_right : (xs : List InFlight) (index : ℕ) (x : InFlight) → slice_get xs index ≡ Some x → AreMarkedRight xs
+pub get_right : (xs : List InFlight) (index : ℕ) (x : InFlight) → slice_get xs index ≡ Some x → AreMarkedRight xs
     → IsMarkedRight x
 get_right [] index x e m = absurd (cc)
 get_right (y ∷ ys) zero x e (m, ms) = subst IsMarkedRight (let s : y ≡ x = cc in s) m
@@ -96,6 +97,48 @@ written_right : (o : Option StreamView) (p : Parts) (id : ℕ) (named : Option P
 written_right None p id named bytes m = m
 written_right (Some s) p id named bytes m = m
 
+flagged_if : (c : Bool) (x : InFlight) → IsMarkedRight x
+    → IsMarkedRight (if c then record x { abandoned = true; retransmit = false } else x)
+flagged_if true x m e = absurd (false≢true e)
+flagged_if false x m e = m e
+
+flagged_right : (id : ℕ) (xs : List InFlight) → AreMarkedRight xs → AreMarkedRight (map (flagged id) xs)
+flagged_right id [] m = tt
+flagged_right id (x ∷ xs) (m, ms) = (flagged_if (is_of id x) x m, flagged_right id xs ms)
+
+tail_right : (ms : List Waiting) (q : Outbound) (id : ℕ) → AreMarkedRight q.in_flight
+    → AreMarkedRight (tail_dropped_from ms q id).0.in_flight
+tail_right [] q id m = m
+tail_right (w ∷ ws) q id m =
+    tail_if (w.message.message_id == id) _ q _ _ (append_right q.in_flight (marker_of w.message)
+    (λ e. absurd (false≢true e)) m) m
+  where
+    tail_if : (c : Bool) (p q : Outbound) (n k : ℕ) → AreMarkedRight p.in_flight
+        → AreMarkedRight q.in_flight
+        → AreMarkedRight (if◌then◌else◌ {A = Outbound × ℕ} c (p, n) (q, k)).0.in_flight
+    tail_if true p q n k a b = a
+    tail_if false p q n k a b = b
+
+abandoned_right : (o : Option InFlight) (p : Parts) → AreMarkedRight p.queue.in_flight
+    → AreMarkedRight (with_abandoned o p).queue.in_flight
+abandoned_right None p m = m
+abandoned_right (Some x) p m =
+    flagged_right x.message.message_id _ (tail_right p.queue.pending p.queue x.message.message_id m)
+
+tail_abandoned_right : (o : Option Waiting) (p : Parts) → AreMarkedRight p.queue.in_flight
+    → AreMarkedRight (with_tail_abandoned o p).queue.in_flight
+tail_abandoned_right None p m = m
+tail_abandoned_right (Some x) p m = tail_right p.queue.pending p.queue x.message.message_id m
+
+dropped_right : (k : ℕ) (o : Option Waiting) (p : Parts) → AreMarkedRight p.queue.in_flight
+    → AreMarkedRight (with_dropped k o p).queue.in_flight
+dropped_right k None p m = m
+dropped_right k (Some x) p m = m
+
+started_right : (now : ℕ) (xs : List InFlight) → AreMarkedRight xs → AreMarkedRight (map (sent_started now) xs)
+started_right now [] m = tt
+started_right now (x ∷ xs) (m, ms) = (λ e. m e, started_right now xs ms)
+
 pub act_marked : (x : Act) (p : Parts) → AreMarkedRight p.queue.in_flight → AreMarkedRight (done x p).queue.in_flight
 act_marked (Act.PeerKnown t) p m = m
 act_marked (Act.Opened id first kind) p m = m
@@ -107,7 +150,13 @@ act_marked (Act.SentAgain by index) p m =
 act_marked Act.Marked p m = all_right p.queue.in_flight m
 act_marked (Act.Acknowledged n blocks missing) p m =
     missing_right missing _ (drop_right n _ (among_right (is_acknowledged_by n blocks) 0 p.queue.in_flight m))
+act_marked (Act.Abandoned index) p m = abandoned_right (slice_get p.queue.in_flight index) p m
+act_marked Act.TailAbandoned p m = tail_abandoned_right (slice_get p.queue.pending 0) p m
+act_marked (Act.Dropped k) p m = dropped_right k (slice_get p.queue.pending k) p m
+act_marked (Act.Started now) p m = started_right now p.queue.in_flight m
+act_marked Act.Forwarded p m = m
 act_marked (Act.Took piece) p m = m
+act_marked (Act.PassedOver t skipped) p m = m
 act_marked Act.Reported p m = m
 act_marked (Act.WasRead id) p m = m
 act_marked Act.Ended p m = m

@@ -1,8 +1,8 @@
 -- Where memory may lack: what takes some takes it by what stands in chunk and state.
 use Rattle.std.proofs.Common.{◌≡◌, ◌≢◌, refl, sym, ap, ◌∙◌, subst, ℕ, ◌+◌, Bool, true, false, not, ◌&&◌, ◌||◌}
-use Rattle.std.proofs.Common.{if◌then◌else◌, is_some, nat_lt, length, List, [], ◌∷◌, ◌++◌, suc, Option, Some, None}
-use Rattle.std.proofs.Common.{arith}
-use Rattle.std.proofs.lemmas.Bool.{false≢true, lt-ltb, or_left, or_right, true≢false}
+use Rattle.std.proofs.Common.{if◌then◌else◌, is_some, nat_lt, length, List, [], ◌∷◌, suc, Option, Some, None}
+use Rattle.std.proofs.Common.{arith, ◌<◌}
+use Rattle.std.proofs.lemmas.Bool.{false≢true, lt-ltb, or_left, or_parts, or_right, true≢false}
 use Rattle.sctp_wire_types.specs.declared.chunk.Chunk.{Chunk}
 use Rattle.sctp_wire_types.specs.declared.chunk.ChunkPayloadData.{ChunkPayloadData}
 use Rattle.sctp_wire_types.specs.declared.error.Error.{Error}
@@ -14,22 +14,30 @@ use Rattle.sctp_receive_queues.specs.Reassembly.{is_torn_after, is_torn_before, 
 use Rattle.sctp_receive_queues.specs.Reassembly.{pieces_at, index_for_tsn, index_of_ssn, refusal_between}
 use Rattle.sctp_receive_queues.specs.Reassembly.{refusal_of_ordered, refusal_of_unordered, run_at, run_before}
 use Rattle.sctp_streams.specs.Stream.{StreamView}
-use Rattle.sctp_streams.specs.Streams.{StreamMap, bytes_waiting, generation_left, refusal_at, refusal_in, stream_at}
+use Rattle.sctp_streams.specs.Streams.{StreamMap, becomes_ready_in, bytes_waiting, generation_left, refusal_at}
+use Rattle.sctp_streams.specs.Streams.{refusal_in, stream_at}
 use Rattle.sctp_inbound.specs.declared.receiver.AckTrigger.{AckTrigger}
 use Rattle.sctp_inbound.specs.declared.receiver.Receiver.{Receiver}
 use Rattle.sctp_inbound.specs.Receiver.{admits, is_new_to}
 use Rattle.sctp_outbound.specs.declared.sender.Sender.{Sender}
 use Rattle.sctp_inbound.specs.Handshake.{header_of}
-use Rattle.sctp_wire.specs.DataPackets.{datagrams_of}
-use Rattle.sctp_outbound.specs.Sender.{after_marked, after_resending, gives_data, marked_by, missing_by, resends}
-use Rattle.sctp_outbound.specs.Sender.{sends_new, sent_new}
+use Rattle.sctp_wire.specs.DataPackets.{DataWritten, datagrams_of, nothing_written, with_all}
+use Rattle.sctp_outbound.specs.Abandonment.{expires}
+use Rattle.sctp_outbound.specs.Forward.{gives_forward}
+use Rattle.sctp_wire_types.specs.declared.chunk.SkippedStream.{SkippedStream}
 use Rattle.sctp_assoc.specs.declared.inbound.Flow.TheVariants as flows
 use Rattle.sctp_assoc.specs.Closing.{is_closed_state}
 use Rattle.sctp_assoc.specs.Chunks.{counted_data, on_chunk, stream_found}
 use Rattle.sctp_assoc.specs.Memory.{chunk_takes_memory, chunks_take_memory, data_takes_memory, keeps_message}
 use Rattle.sctp_assoc.specs.Memory.{makes_stream, takes_memory_after}
-use Rattle.sctp_assoc.specs.Gather.{data_bundled, fast_counted, data_polled, exchange_gives, is_due, with_sent_data}
-use Rattle.sctp_assoc.specs.Shown.{Shown}
+use Rattle.sctp_assoc.specs.Gather.{ack_polled, both_of, bundled, data_bundled, data_gives, data_polled, exchange_gives}
+use Rattle.sctp_assoc.specs.Gather.{fast_gives, fast_polled, fast_sent, fell_in_poll, is_due, late_abandoned}
+use Rattle.sctp_assoc.specs.Gather.{marks_give, marks_polled, marks_sent, new_gives, new_sent}
+use Rattle.sctp_assoc.specs.Shown.{Shown, uses_forward_tsn}
+use Rattle.sctp_assoc.specs.Skipping.{some_is_told, with_skip}
+use Rattle.sctp_assoc.proofs.PolledSteps.{data_poll_stays}
+use Rattle.sctp_assoc.proofs.PollsLeadOn.{ack_sender}
+use Rattle.sctp_assoc.proofs.SacksTell.{positive}
 
 -- DATA
 
@@ -158,47 +166,85 @@ module _ (header : CommonHeader) (c : Chunk) (cs : List Chunk) (a : Shown) (trig
 
 -- polling
 
-sent_receiver : (a : Shown) (now : ℕ) (x : Sender × List ChunkPayloadData)
-    → (with_sent_data (fast_counted a) now x).receiver ≡ a.receiver
-sent_receiver a now (sender, pieces) = refl
-
 none_longer : {X : Type 0} (xs : List X) → nat_lt 0 (length xs) ≡ false → xs ≡ []
 none_longer [] e = refl
 none_longer (x ∷ xs) e = absurd (true≢false (sym (lt-ltb 0 (suc (length xs)) (omega arith)) ∙ e))
 
-both_none : {X : Type 0} (xs ys : List X) → xs ++ ys ≡ [] → (xs ≡ []) × (ys ≡ [])
-both_none [] ys e = (refl, e)
-both_none (x ∷ xs) ys e = absurd (cc)
+-- what a poll of DATA may lack memory for
+module _ (a : Shown) (now : ℕ) where
+  pub late_gives : expires (uses_forward_tsn a) now (both_of a) ≡ true → data_gives a now ≡ true
+  late_gives e = or_left _ _ (or_left _ _ (or_left _ _ (or_left _ _ e)))
 
-neither : (c d : Bool) → (c || d) ≡ false → (c ≡ false) × (d ≡ false)
-neither false d e = (refl, e)
-neither true d e = absurd (true≢false e)
+  pub marks_are_given : marks_give (late_abandoned a now) ≡ true → data_gives a now ≡ true
+  marks_are_given e = or_left _ _ (or_left _ _ (or_left _ _ (or_right _ _ e)))
 
--- with no DATA given there is no packet of it
-no_packets : (a : Shown) (now : ℕ) → gives_data a.sender now ≡ false → (data_bundled a now).done ≡ []
-no_packets a now e =
-    let split = neither (resends a.sender) (sends_new (after_resending a.sender) now) e in
-    let again = both_none (marked_by a.sender) (missing_by (after_marked a.sender)) (none_longer _ split.0) in
-    let new : (sent_new (after_resending a.sender) now).1 ≡ [] = none_longer _ split.1 in
-    rw (again.0, again.1, new) refl
+  pub fast_is_given : fast_gives (marks_polled a now) ≡ true → data_gives a now ≡ true
+  fast_is_given e = or_left _ _ (or_left _ _ (or_right _ _ e))
 
-gives_if : (c : Bool) (a : Shown) (now : ℕ) → gives_data a.sender now ≡ c
-    → nat_lt 0 (length (datagrams_of (header_of a.handshake) (data_bundled a now).done)) ≡ true → c ≡ true
-gives_if true a now e some = refl
-gives_if false a now e some =
-    absurd (false≢true (rw (no_packets a now e) at some))
+  pub new_is_given : new_gives (fast_polled a now) now ≡ true → data_gives a now ≡ true
+  new_is_given e = or_left _ _ (or_right _ _ e)
 
--- DATA that a poll gives is given
-pub packets_are_given : (a : Shown) (now : ℕ)
-    → nat_lt 0 (length (datagrams_of (header_of a.handshake) (data_polled a now).1)) ≡ true
-    → exchange_gives a now ≡ true
-unfolding data_polled
-packets_are_given a now some = or_left _ _ (gives_if (gives_data a.sender now) a now refl some)
+  pub low_is_told : 0 < length (fell_in_poll a now) → data_gives a now ≡ true
+  low_is_told l = or_right _ _ (positive _ l)
 
--- an acknowledgement that is due behind the DATA was due before it
-pub ack_is_given : (a : Shown) (now : ℕ) → is_due (data_polled a now).0.receiver.ack_state ≡ true
-    → exchange_gives a now ≡ true
-unfolding data_polled
-ack_is_given a now due =
-    or_right _ _ (subst (λ (z : Receiver). is_due z.ack_state ≡ true)
-    (sent_receiver a now (sent_new (after_resending a.sender) now)) due)
+  -- a packet that is being written at the end carries new DATA
+  pub last_is_given : (w : DataWritten)
+      → w ≡ with_all (bundled (bundled (nothing_written (header_of a.handshake) (late_abandoned a now).sender.mtu)
+      (marks_sent (late_abandoned a now))) (fast_sent (marks_polled a now))) (new_sent (fast_polled a now) now)
+      → nat_lt 0 (length w.current) ≡ true → data_gives a now ≡ true
+  last_is_given w e some = new_is_given (last_if (nat_lt 0 (length (new_sent (fast_polled a now) now))) refl)
+    where
+      last_if : (c : Bool) → nat_lt 0 (length (new_sent (fast_polled a now) now)) ≡ c → c ≡ true
+      last_if true f = refl
+      last_if false f =
+          let none : new_sent (fast_polled a now) now ≡ [] = none_longer _ f in
+          let empty : length w.current ≡ 0 = rw (e, none) refl in
+          absurd (false≢true (rw empty at some))
+
+  -- with no DATA given there is no packet of it
+  no_packets : data_gives a now ≡ false → (data_bundled a now).done ≡ []
+  no_packets e =
+      let told = or_parts _ _ e in
+      let new = or_parts _ _ told.0 in
+      let fast = or_parts _ _ new.0 in
+      let marks = or_parts _ _ fast.0 in
+      let again : marks_sent (late_abandoned a now) ≡ [] = none_longer _ (or_parts _ _ marks.1).1 in
+      let missing : fast_sent (marks_polled a now) ≡ [] = none_longer _ (or_parts _ _ fast.1).1 in
+      let first : new_sent (fast_polled a now) now ≡ [] = none_longer _ new.1 in
+      rw (again, missing, first) refl
+
+  gives_if : (c : Bool) → data_gives a now ≡ c
+      → nat_lt 0 (length (datagrams_of (header_of a.handshake) (data_bundled a now).done)) ≡ true → c ≡ true
+  gives_if true e some = refl
+  gives_if false e some = absurd (false≢true (rw (no_packets e) at some))
+
+  -- DATA that a poll gives is given
+  pub packets_are_given : nat_lt 0 (length (datagrams_of (header_of a.handshake) (data_polled a now).1)) ≡ true
+      → exchange_gives a now ≡ true
+  unfolding data_polled
+  packets_are_given some = or_left _ _ (or_left _ _ (gives_if (data_gives a now) refl some))
+
+  pub data_is_given : data_gives a now ≡ true → exchange_gives a now ≡ true
+  data_is_given e = or_left _ _ (or_left _ _ e)
+
+  -- an acknowledgement that is due behind the DATA was due before it
+  pub ack_is_given : is_due (data_polled a now).0.receiver.ack_state ≡ true → exchange_gives a now ≡ true
+  ack_is_given due =
+      or_left _ _ (or_right _ _
+      (subst (λ (z : Receiver). is_due z.ack_state ≡ true) (data_poll_stays a now).receiver due))
+
+  -- FORWARD TSN that is due behind the acknowledgement was due before it
+  pub forward_is_given : gives_forward (ack_polled (data_polled a now).0).0.sender ≡ true → exchange_gives a now ≡ true
+  forward_is_given due =
+      or_right _ _ (subst (λ (z : Sender). gives_forward z ≡ true) (ack_sender (data_polled a now).0).0 due)
+
+-- FORWARD TSN that comes
+
+module _ (es : List SkippedStream) (e : SkippedStream) (a : Shown) where
+  pub first_skip_takes : becomes_ready_in a.streams e.stream_identifier e.stream_sequence_number ≡ true
+      → some_is_told (e ∷ es) a ≡ true
+  first_skip_takes told = or_left _ _ told
+
+  pub later_skip_takes : some_is_told es (with_skip e.stream_identifier e.stream_sequence_number a) ≡ true
+      → some_is_told (e ∷ es) a ≡ true
+  later_skip_takes told = or_right _ _ told

@@ -1,8 +1,7 @@
 -- The packets of a poll are read as the chunks that they were made of.
-use Rattle.std.proofs.Common.{◌≡◌, refl, sym, ap, ◌∙◌, true, List, [], ◌∷◌, ◌++◌, ℕ, Result, Ok, Err}
+use Rattle.std.proofs.Common.{◌≡◌, refl, sym, ap, ◌∙◌, subst, map, true, List, [], ◌∷◌, ◌++◌, ℕ, Result, Ok, Err}
 use Rattle.std.proofs.lemmas.List.{append_assoc}
 use Rattle.sctp_wire_types.specs.declared.chunk.Chunk.{Chunk}
-use Rattle.sctp_wire_types.specs.declared.chunk.Chunk.TheVariants as chunks
 use Rattle.sctp_wire_types.specs.declared.chunk.ChunkPayloadData.{ChunkPayloadData}
 use Rattle.sctp_wire_types.specs.declared.error.Fault.{Fault}
 use Rattle.sctp_wire_types.specs.declared.packet.CommonHeader.{CommonHeader}
@@ -10,13 +9,15 @@ use Rattle.sctp_wire.specs.Packets.{packet_at, packet_is_plain, written}
 use Rattle.sctp_inbound.specs.Handshake.{header_of}
 use Rattle.sctp_wire.specs.DataPackets.{DataWritten, closed, datagrams_of, nothing_written, with_all}
 use Rattle.sctp_wire.proofs.DataCarried.{header_stays}
-use Rattle.sctp_outbound.specs.Sender.{after_marked, after_resending, marked_by, missing_by, sent_new}
 use Rattle.sctp_assoc.specs.declared.control.ControlPacket.{ControlPacket}
 use Rattle.sctp_assoc.specs.Gather.{AckIsReadAgain, AreControlReadAgain, AreReadAgain, ControlIsReadAgain}
-use Rattle.sctp_assoc.specs.Gather.{ExchangeIsReadAgain, IsReadAgain, ack_after, ack_polled, after_both, data_polled}
-use Rattle.sctp_assoc.specs.Gather.{resent_into, packet_bytes, single_chunk_packet, spelled}
+use Rattle.sctp_assoc.specs.Gather.{ExchangeIsReadAgain, ForwardIsReadAgain, IsReadAgain, ack_after, ack_polled}
+use Rattle.sctp_assoc.specs.Gather.{after_both, bundled, data_polled, fast_polled, fast_sent, forward_after}
+use Rattle.sctp_assoc.specs.Gather.{forward_polled, late_abandoned, marks_polled, marks_sent, new_polled, new_sent}
+use Rattle.sctp_assoc.specs.Gather.{fell_in_poll, packet_bytes, single_chunk_packet, spelled, with_low_told}
+use Rattle.sctp_streams.specs.declared.event.Event.{Event}
+use Rattle.sctp_streams.specs.LowMarks.{low_event}
 use Rattle.sctp_assoc.specs.Shown.{Shown}
-use Rattle.sctp_assoc.proofs.PolledData.{data_poll_stays}
 
 one_spelled : (r : Result (List ℕ) Fault) (given bytes : List ℕ) → r ≡ Ok given → spelled r ≡ bytes ∷ [] → bytes ≡ given
 one_spelled (Ok x) given bytes e f = cc
@@ -31,9 +32,28 @@ unfolding packet_bytes
 read_again header chunk given e again plain bytes f =
     rw (one_spelled (written (single_chunk_packet header chunk)) given bytes e f) (again plain)
 
-pub poll_again : (a b : Shown) (now : ℕ) → (data_polled a now).0 ≡ b
-    → AreReadAgain (header_of a.handshake) (data_polled a now).1 → AckIsReadAgain b → ExchangeIsReadAgain a now
-poll_again a b now e data_again ack_again = (data_again, rw e ack_again)
+both_first : (packets : List (List ℕ)) (x : Shown × List (List ℕ)) → (after_both packets x).0 ≡ x.0
+both_first packets (a, more) = refl
+
+both_second : (packets : List (List ℕ)) (x : Shown × List (List ℕ)) → (after_both packets x).1 ≡ packets ++ x.1
+both_second packets (a, more) = refl
+
+-- what the acknowledgement leaves
+pub acked_as : (x b d : Shown) (before packets : List (List ℕ)) → x ≡ b
+    → after_both before (ack_polled b) ≡ (d, packets) → (ack_polled x).0 ≡ d
+acked_as x b d before packets e f =
+    ap (λ (z : Shown). (ack_polled z).0) e ∙ sym (both_first before (ack_polled b))
+    ∙ ap (λ (z : Shown × List (List ℕ)). z.0) f
+
+pub poll_again : (a b d : Shown) (now : ℕ) (before packets : List (List ℕ)) → (data_polled a now).0 ≡ b
+    → after_both before (ack_polled b) ≡ (d, packets)
+    → AreReadAgain (header_of a.handshake) (data_polled a now).1 → AckIsReadAgain b → ForwardIsReadAgain d
+    → ExchangeIsReadAgain a now
+poll_again a b d now before packets e f data_again ack_again forward_again = (
+  data_again,
+  rw e ack_again,
+  subst ForwardIsReadAgain (sym (acked_as (data_polled a now).0 b d before packets e f)) forward_again,
+)
 
 more_control_again : (cs : List ControlPacket) (c : ControlPacket) → AreControlReadAgain cs → ControlIsReadAgain c
     → AreControlReadAgain (cs ++ c ∷ [])
@@ -45,35 +65,69 @@ pub one_more_control_again : (cs : List ControlPacket) (c : ControlPacket) → A
     → AreControlReadAgain (cs ++ c ∷ [])
 one_more_control_again cs c all more = more_control_again cs c all more
 
+-- what the parts of a poll bundle
+pub bundled_as : (a : Shown) (now : ℕ) (late marked again : Shown) (first second third out : DataWritten)
+    (header : CommonHeader) (mtu : ℕ) → late ≡ late_abandoned a now → marked ≡ marks_polled a now
+    → again ≡ fast_polled a now → header ≡ header_of a.handshake → mtu ≡ (late_abandoned a now).sender.mtu
+    → first ≡ nothing_written header mtu → second ≡ bundled first (marks_sent late)
+    → third ≡ bundled second (fast_sent marked) → out ≡ with_all third (new_sent again now)
+    → out ≡ with_all (bundled (bundled (nothing_written (header_of a.handshake) (late_abandoned a now).sender.mtu)
+    (marks_sent (late_abandoned a now))) (fast_sent (marks_polled a now))) (new_sent (fast_polled a now) now)
+bundled_as a now late marked again first second third out header mtu e f g h i j k l m =
+    m ∙ rw (l, k, j, h, i, g, f, e) refl
+
+-- what a poll of DATA leaves, once it told of the streams that fell to their low mark
+pub data_left : (a b : Shown) (now : ℕ) (events : List Event) → b ≡ new_polled a now
+    → events ≡ b.events ++ map low_event (fell_in_poll a now)
+    → (data_polled a now).0 ≡ record b { events = events }
+unfolding data_polled
+data_left a b now events e f =
+    ap (with_low_told (fell_in_poll a now)) (sym e) ∙ ap (λ (z : List Event). record b { events = z }) (sym f)
+
 -- what a poll bundles is finished under its own common header
 pub finished_as : (a : Shown) (now : ℕ) (w : DataWritten)
-    → w ≡ with_all (resent_into a.sender (nothing_written (header_of a.handshake) a.sender.mtu))
-    (sent_new (after_resending a.sender) now).1
+    → w ≡ with_all (bundled (bundled (nothing_written (header_of a.handshake) (late_abandoned a now).sender.mtu)
+    (marks_sent (late_abandoned a now))) (fast_sent (marks_polled a now))) (new_sent (fast_polled a now) now)
     → (w.header ≡ header_of a.handshake) × ((closed w).done ≡ (data_polled a now).1)
 unfolding data_polled
 finished_as a now w e =
-    let first = nothing_written (header_of a.handshake) a.sender.mtu in
-    let again = with_all first (marked_by a.sender) in
-    let missing = missing_by (after_marked a.sender) in (
+    let first = nothing_written (header_of a.handshake) (late_abandoned a now).sender.mtu in
+    let again = with_all first (marks_sent (late_abandoned a now)) in
+    let missing = with_all (closed again) (fast_sent (marks_polled a now)) in (
       ap (λ (z : DataWritten). z.header) e
-          ∙ header_stays (resent_into a.sender first) (sent_new (after_resending a.sender) now).1
-          ∙ header_stays (closed again) missing ∙ header_stays first (marked_by a.sender),
+          ∙ header_stays (closed missing) (new_sent (fast_polled a now) now)
+          ∙ header_stays (closed again) (fast_sent (marks_polled a now))
+          ∙ header_stays first (marks_sent (late_abandoned a now)),
       ap (λ (z : DataWritten). (closed z).done) e,
     )
 
--- packets behind packets, and the acknowledgement behind them
+-- packets behind packets, the acknowledgement behind them, and FORWARD TSN behind that
 
 behind_both : (xs ys : List (List ℕ)) (x : Shown × List (List ℕ))
     → after_both xs (after_both ys x) ≡ after_both (xs ++ ys) x
 behind_both xs ys (a, more) = ap (λ (z : List (List ℕ)). (a, z)) (sym (append_assoc xs ys more))
 
+after_forward : (first : List (List ℕ)) (y : Shown × List (List ℕ))
+    → forward_after (after_both first y) ≡ after_both (first ++ y.1) (forward_polled y.0)
+after_forward first (c, more) = refl
+
 pub exact_of : (x : Shown × List (List ChunkPayloadData)) (header : CommonHeader) (before mid more : List (List ℕ))
-    (d : Shown) (packets : List (List ℕ)) → header_of x.0.handshake ≡ header → more ≡ datagrams_of header x.1
-    → mid ≡ before ++ more → after_both mid (ack_polled x.0) ≡ (d, packets)
-    → after_both before (ack_after x) ≡ (d, packets)
-exact_of (b, bundles) header before mid more d packets h e f g =
-    behind_both before (datagrams_of (header_of b.handshake) bundles) (ack_polled b)
-    ∙ ap (λ (z : List (List ℕ)). after_both z (ack_polled b))
-    (ap (λ (k : CommonHeader). before ++ datagrams_of k bundles) h
-    ∙ ap (λ (z : List (List ℕ)). before ++ z) (sym e) ∙ sym f)
-    ∙ g
+    (d e : Shown) (acked packets : List (List ℕ)) → header_of x.0.handshake ≡ header → more ≡ datagrams_of header x.1
+    → mid ≡ before ++ more → after_both mid (ack_polled x.0) ≡ (d, acked)
+    → after_both acked (forward_polled d) ≡ (e, packets)
+    → after_both before (forward_after (ack_after x)) ≡ (e, packets)
+exact_of (b, bundles) header before mid more d e acked packets h f g acks forwards =
+    let first = datagrams_of (header_of b.handshake) bundles in
+    let y = ack_polled b in
+    let more_is : more ≡ first = f ∙ ap (λ (k : CommonHeader). datagrams_of k bundles) (sym h) in
+    let mid_is : mid ≡ before ++ first = g ∙ ap (λ (z : List (List ℕ)). before ++ z) more_is in
+    let there : y.0 ≡ d = sym (both_first mid y) ∙ ap (λ (z : Shown × List (List ℕ)). z.0) acks in
+    let given : before ++ (first ++ y.1) ≡ acked =
+    sym (append_assoc before first y.1)
+    ∙ ap (λ (z : List (List ℕ)). z ++ y.1) (sym mid_is)
+    ∙ sym (both_second mid y) ∙ ap (λ (z : Shown × List (List ℕ)). z.1) acks in
+    ap (after_both before) (after_forward first y)
+    ∙ behind_both before (first ++ y.1) (forward_polled y.0)
+    ∙ ap (λ (z : List (List ℕ)). after_both z (forward_polled y.0)) given
+    ∙ ap (λ (z : Shown). after_both acked (forward_polled z)) there
+    ∙ forwards

@@ -1,9 +1,9 @@
--- What a poll gives out is what its acts say.
+-- The DATA of a poll is what its acts give out.
 use Rattle.std.proofs.Common.{◌≡◌, refl, sym, ap, ◌∙◌, ⊎_elim, ℕ, zero, suc, ◌+◌, ◌-◌, arith, Bool, true, false}
 use Rattle.std.proofs.Common.{if◌then◌else◌, List, [], ◌∷◌, ◌++◌, length, nat_lt, slice_get, slice_set, Some, is_some}
-use Rattle.std.proofs.Common.{nat_le, ◌==◌, ◌&&◌, subst}
+use Rattle.std.proofs.Common.{nat_le, ◌==◌, ◌&&◌}
 use Rattle.std.proofs.lemmas.Bool.{and_parts, cases_Bool, false≢true}
-use Rattle.std.proofs.lemmas.List.{append_assoc, append-nil}
+use Rattle.std.proofs.lemmas.List.{append_assoc}
 use Rattle.sctp_wire_types.specs.declared.chunk.ChunkPayloadData.{ChunkPayloadData}
 use Rattle.sctp_serial.specs.Serial.{tsn}
 use Rattle.sctp_outbound_queue.specs.declared.message.InFlight.{InFlight}
@@ -11,47 +11,23 @@ use Rattle.sctp_outbound_queue.specs.Waiting.{Waiting}
 use Rattle.sctp_outbound_queue.specs.declared.message.Retransmission.{Retransmission}
 use Rattle.sctp_outbound_queue.specs.declared.message.Retransmission.TheVariants as causes
 use Rattle.sctp_outbound_queue.specs.Message.{counted_again, is_outstanding, picks, room_taken}
-use Rattle.sctp_outbound_queue.specs.Outbound.{Outbound, next_tsn_of, pieces_waiting, sent_next, tsn_at}
+use Rattle.sctp_outbound_queue.specs.Outbound.{Outbound, pieces_waiting, sent_next, tsn_at}
 use Rattle.sctp_streams.specs.Streams.{StreamMap}
 use Rattle.sctp_outbound.specs.declared.sender.Sender.{Sender}
-use Rattle.sctp_outbound.specs.Sender.{after_resending, alone_length_of, both_windows, window_left, can_send_next}
+use Rattle.sctp_outbound.specs.Sender.{alone_length_of, both_windows, window_left, can_send_next}
 use Rattle.sctp_outbound.specs.Sender.{chunk_of, first_chunk}
 use Rattle.sctp_outbound.specs.Sender.{after_marked, after_missing, fast_room, marked_by, missing_by}
-use Rattle.sctp_outbound.specs.Sender.{first_counted, fits_windows, resends_alone, resent_by, resent_chunks}
-use Rattle.sctp_outbound.specs.Sender.{resent_pieces, sent_new, sent_one, sent_within, with_in_flight}
-use Rattle.sctp_directions.specs.Acts.{Act, CanAll, History, Parts, done_all, all_data_given}
-use Rattle.sctp_fit.specs.Sendings.{next_chunks}
-use Rattle.std.specs.List.{filter}
-use Rattle.sctp_inbound.specs.Handshake.{header_of}
-use Rattle.sctp_wire.specs.DataPackets.{all_of, data_fits}
-use Rattle.sctp_wire.proofs.DataCarried.{three_carried}
-use Rattle.sctp_assoc.specs.Leads.{parts}
-use Rattle.sctp_assoc.specs.Gather.{AckIsReadAgain, data_polled, fast_counted, with_sent_data}
-use Rattle.sctp_assoc.specs.Shown.{Shown}
+use Rattle.sctp_outbound.specs.Sender.{first_counted, fits_windows, resends_alone, resent_chunks}
+use Rattle.sctp_outbound.specs.Sender.{resent_pieces, sent_one, sent_within, with_in_flight}
+use Rattle.sctp_directions.specs.Acts.{Act, History, Parts}
 use Rattle.sctp_assoc.specs.Happened.{acts_of_missing}
-use Rattle.sctp_assoc.specs.Happened.{acks_given, acts_of_ack, acts_of_data_poll, acts_of_marks, acts_of_new}
+use Rattle.sctp_assoc.specs.Happened.{acts_of_marks}
 use Rattle.sctp_assoc.specs.Happened.{acts_of_resending, acts_of_sending, first_again, first_sent}
-use Rattle.sctp_assoc.proofs.MarksOutstanding.{AreMarkedRight, acts_marked}
-use Rattle.sctp_assoc.proofs.ActsKeepOffsets.{Tied, can_append, done_append, given_append, sent_first}
+use Rattle.sctp_assoc.proofs.MarksOutstanding.{AreMarkedRight}
+use Rattle.sctp_assoc.proofs.ActsKeepOffsets.{Tied, sent_first}
+use Rattle.sctp_assoc.proofs.Giving.{Gives, gives_none, gives_on, sending}
 use Rattle.sctp_outbound.proofs.SenderSteps.{chunks_full, chunks_sent, chunks_skip, pieces_full, pieces_sent}
 use Rattle.sctp_outbound.proofs.SenderSteps.{pieces_skip}
-
--- Acts can be done, lead from some parts to others, and give out this DATA.
-pub record Gives (xs : List Act) (p q : Parts) (given : List ChunkPayloadData) : Type 0 where
-  pub can : CanAll xs p
-  pub there : q ≡ done_all xs p
-  pub said : all_data_given xs p ≡ given
-
-pub gives_on : (xs ys : List Act) (p q r : Parts) (first second : List ChunkPayloadData) → Gives xs p q first
-    → Gives ys q r second → Gives (xs ++ ys) p r (first ++ second)
-gives_on xs ys p q r first second m n = record {
-  can = can_append xs ys p m.can (rw (← m.there) n.can);
-  there = rw (done_append xs ys p, ← m.there) n.there;
-  said = rw (given_append xs ys p, ← m.there, m.said, n.said) refl;
-}
-
-gives_none : (p : Parts) → Gives [] p p []
-gives_none p = record { can = tt; there = refl; said = refl }
 
 abbrev with_pieces : Parts → List InFlight → Parts
 with_pieces p pieces = record p { queue = (let q = p.queue in record q { in_flight = pieces }) }
@@ -61,15 +37,15 @@ with_pieces p pieces = record p { queue = (let q = p.queue in record q { in_flig
 tsn_at_index : (own base first index : ℕ) → first ≡ tsn own base → tsn own (base + index) ≡ tsn_at first index
 tsn_at_index own base first index e = rw e (omega arith)
 
-get_behind : {X : Type 0} (xs ys : List X) (x : X) → slice_get (xs ++ x ∷ ys) (length xs) ≡ Some x
+pub get_behind : {X : Type 0} (xs ys : List X) (x : X) → slice_get (xs ++ x ∷ ys) (length xs) ≡ Some x
 get_behind [] ys x = refl
 get_behind (z ∷ zs) ys x = get_behind zs ys x
 
-set_behind : {X : Type 0} (xs ys : List X) (x y : X) → slice_set (xs ++ x ∷ ys) (length xs) y ≡ xs ++ y ∷ ys
+pub set_behind : {X : Type 0} (xs ys : List X) (x y : X) → slice_set (xs ++ x ∷ ys) (length xs) y ≡ xs ++ y ∷ ys
 set_behind [] ys x y = refl
 set_behind (z ∷ zs) ys x y = ap (λ (l : List _). z ∷ l) (set_behind zs ys x y)
 
-one_longer : {X : Type 0} (xs : List X) (x : X) → length (xs ++ x ∷ []) ≡ length xs + 1
+pub one_longer : {X : Type 0} (xs : List X) (x : X) → length (xs ++ x ∷ []) ≡ length xs + 1
 one_longer [] x = refl
 one_longer (z ∷ zs) x = let e = one_longer zs x in omega (arith, e)
 
@@ -100,15 +76,15 @@ gives_same : {xs ys : List Act} {p q r : Parts} {c d : List ChunkPayloadData} �
     → Gives xs p q c
 gives_same e f g m = rw (e, f, g) m
 
-acts_skip : (by : Retransmission) (p : InFlight) (ps : List InFlight) (index room : ℕ) → picks by p ≡ false
+pub acts_skip : (by : Retransmission) (p : InFlight) (ps : List InFlight) (index room : ℕ) → picks by p ≡ false
     → acts_of_resending by index room (p ∷ ps) ≡ acts_of_resending by (index + 1) room ps
 acts_skip by p ps index room unmarked = rw unmarked
 
-acts_full : (by : Retransmission) (p : InFlight) (ps : List InFlight) (index room : ℕ) → picks by p ≡ true
+pub acts_full : (by : Retransmission) (p : InFlight) (ps : List InFlight) (index room : ℕ) → picks by p ≡ true
     → nat_lt room (room_taken by p) ≡ true → acts_of_resending by index room (p ∷ ps) ≡ []
 acts_full by p ps index room marked full = rw (marked, full)
 
-acts_sent : (by : Retransmission) (p : InFlight) (ps : List InFlight) (index room : ℕ) → picks by p ≡ true
+pub acts_sent : (by : Retransmission) (p : InFlight) (ps : List InFlight) (index room : ℕ) → picks by p ≡ true
     → nat_lt room (room_taken by p) ≡ false
     → acts_of_resending by index room (p ∷ ps) ≡ Act.SentAgain by index
     ∷ acts_of_resending by (index + 1) (room - room_taken by p) ps
@@ -174,10 +150,6 @@ first_again_gives [] window p e tied right alone = record { can = tt; there = rw
 first_again_gives (x ∷ ps) window p e tied right alone =
     again_one causes.Timer x ps [] p e tied (right.0 (alone_marked x.retransmit window x refl alone))
 
--- the parts of a sender beside some streams
-abbrev pub sending : Sender → StreamMap → History → Parts
-sending s m h = record { queue = s.queue; streams = m; size = s.max_payload_size; history = h }
-
 marks_give_if : (alone : Bool) (s : Sender) (m : StreamMap) (h : History) → s.queue.first_tsn ≡ tsn h.own h.base
     → AreMarkedRight s.queue.in_flight → resends_alone s ≡ alone
     → Gives (if alone then first_again s.queue.in_flight else
@@ -212,20 +184,6 @@ pub missing_give : (s : Sender) (m : StreamMap) (h : History) → s.queue.first_
     → AreMarkedRight s.queue.in_flight
     → Gives (acts_of_missing s) (sending s m h) (sending (after_missing s) m h) (missing_by s)
 missing_give s m h tied right = missing_give_if s.is_fast_due s m h tied right
-
--- all that goes out again
-pub again_gives : (s : Sender) (m : StreamMap) (h : History) → s.queue.first_tsn ≡ tsn h.own h.base
-    → AreMarkedRight s.queue.in_flight
-    → Gives (acts_of_marks s ++ acts_of_missing (after_marked s)) (sending s m h) (sending (after_resending s) m h)
-    (resent_by s)
-again_gives s m h tied right =
-    let marked = marks_give s m h tied right in
-    let still : AreMarkedRight (after_marked s).queue.in_flight =
-    subst (λ (p : Parts). AreMarkedRight p.queue.in_flight) (sym marked.there)
-    (acts_marked (acts_of_marks s) (sending s m h) right) in
-    gives_on (acts_of_marks s) (acts_of_missing (after_marked s)) (sending s m h) (sending (after_marked s) m h)
-    (sending (after_resending s) m h) (marked_by s) (missing_by (after_marked s)) marked
-    (missing_give (after_marked s) m h tied still)
 
 -- Pieces that go out for the first time.
 
@@ -287,7 +245,7 @@ module _ (now : ℕ) (m : StreamMap) (h : History) where
   sending_gives (suc n) s tied =
       sending_gives_if (can_send_next s) n s refl tied (λ t bound. sending_gives n t bound)
 
-  new_gives_if : (c : Bool) (s : Sender) → s.queue.first_tsn ≡ tsn h.own h.base
+  pub new_gives_if : (c : Bool) (s : Sender) → s.queue.first_tsn ≡ tsn h.own h.base
       → Gives (if c then first_sent s.queue.pending now else acts_of_sending (pieces_waiting s.queue.pending) s now)
       (sending s m h)
       (sending (if c then sent_one s.queue.pending s now else
@@ -295,51 +253,3 @@ module _ (now : ℕ) (m : StreamMap) (h : History) where
       (if c then sent_one s.queue.pending s now else sent_within (pieces_waiting s.queue.pending) s now).1
   new_gives_if true s tied = one_gives s.queue.pending s now m h refl tied
   new_gives_if false s tied = sending_gives (pieces_waiting s.queue.pending) s tied
-
--- All DATA of a poll.
-
-sent_data_parts : (a : Shown) (now : ℕ) (x : Sender × List ChunkPayloadData) (h : History)
-    → parts (with_sent_data a now x) h ≡ sending x.0 a.streams h
-sent_data_parts a now (s, pieces) h = refl
-
--- what a poll's DATA leaves as it is
-pub record IsSentBeside (a b : Shown) : Type 0 where
-  pub receiver : b.receiver ≡ a.receiver
-  pub handshake : b.handshake ≡ a.handshake
-  pub acts : acts_of_ack b ≡ acts_of_ack a
-  pub acks : acks_given b ≡ acks_given a
-  pub again : AckIsReadAgain b → AckIsReadAgain a
-
-sent_data_stays : (a : Shown) (now : ℕ) (x : Sender × List ChunkPayloadData)
-    → IsSentBeside a (with_sent_data (fast_counted a) now x)
-sent_data_stays a now (s, pieces) =
-    record { receiver = refl; handshake = refl; acts = refl; acks = refl; again = λ x. x }
-
-pub data_poll_stays : (a : Shown) (now : ℕ) → IsSentBeside a (data_polled a now).0
-unfolding data_polled
-data_poll_stays a now = sent_data_stays a now (sent_new (after_resending a.sender) now)
-
--- the DATA of a poll, in order
-abbrev pub data_of_poll : Shown → ℕ → List ChunkPayloadData
-data_of_poll a now = resent_by a.sender ++ (sent_new (after_resending a.sender) now).1
-
-pub data_poll_gives : (a : Shown) (now : ℕ) (h : History) → a.sender.queue.first_tsn ≡ tsn h.own h.base
-    → AreMarkedRight a.sender.queue.in_flight
-    → Gives (acts_of_data_poll a now) (parts a h) (parts (data_polled a now).0 h) (data_of_poll a now)
-unfolding data_polled
-data_poll_gives a now h tied right =
-    let s : Sender = after_resending a.sender in
-    let x = sent_new s now in
-    let resent = acts_of_marks a.sender ++ acts_of_missing (after_marked a.sender) in
-    let both =
-    gives_on resent (acts_of_new s now) (parts a h) (sending s a.streams h) (sending x.0 a.streams h)
-    (resent_by a.sender) x.1 (again_gives a.sender a.streams h tied right)
-    (new_gives_if now a.streams h _ s tied) in
-    rw (sent_data_parts (fast_counted a) now x h) both
-
--- and it is what the packets of DATA carry
-pub data_poll_carries : (a : Shown) (now : ℕ) → all_of (data_polled a now).1 ≡ filter data_fits (data_of_poll a now)
-unfolding data_polled
-data_poll_carries a now =
-    three_carried (header_of a.handshake) a.sender.mtu (marked_by a.sender) (missing_by (after_marked a.sender))
-    (sent_new (after_resending a.sender) now).1

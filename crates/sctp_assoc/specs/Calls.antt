@@ -18,6 +18,7 @@ use Rattle.sctp_streams.specs.declared.event.Event.TheVariants.{HandshakeFailed}
 use Rattle.sctp_streams.specs.declared.event.Event.TheVariants as events
 use Rattle.sctp_streams.specs.declared.setting.Setting.{Setting}
 use Rattle.sctp_outbound_queue.specs.Outbound.{with_message}
+use Rattle.sctp_outbound.specs.Forward.{forward_asked}
 use Rattle.sctp_outbound.specs.Sender.{after_t3_timeout}
 use Rattle.sctp_outbound_queue.specs.Waiting.{Waiting}
 use Rattle.sctp_receive_queues.specs.Messages.{ReceivedMessage}
@@ -28,7 +29,7 @@ use Rattle.sctp_streams.specs.Streams.{StreamMap, changed_stream, generation_lef
 use Rattle.sctp_inbound.specs.Receiver.{acknowledged_at_once}
 use Rattle.sctp_directions.specs.Acts.{message_of, type_on}
 use Rattle.sctp_assoc.specs.Closing.{is_exhausted, relieved}
-use Rattle.sctp_assoc.specs.Shown.{HasFailed, Shown, answers_of}
+use Rattle.sctp_assoc.specs.Shown.{HasFailed, Shown, answers_of, uses_forward_tsn}
 
 -- a call with a Result is refused on a failed association before anything else
 abbrev pub usable : Shown → Result (Unit {0}) Error
@@ -75,11 +76,12 @@ is_cookie_echoed states.ShutdownPending = false
 is_cookie_echoed states.ShutdownReceived = false
 is_cookie_echoed states.ShutdownSent = false
 
--- the retransmission timer expired: all that is in flight is to be sent again (RFC 4960 section 6.3.3)
+-- the retransmission timer expired: all that is in flight is to be sent again (RFC 4960 section 6.3.3), and FORWARD TSN
+-- is due where what is abandoned stands in front of it (RFC 3758 section 3.5)
 abbrev pub retransmits : Shown → ℕ → Shown
 retransmits a now = record a {
   counts = (let c = a.counts in record c { t3timeouts = one_more c.t3timeouts });
-  sender = after_t3_timeout a.sender;
+  sender = forward_asked (uses_forward_tsn a) (after_t3_timeout a.sender);
   timers = started names.T3RTX now a.estimate.rto a.timers;
 }
 

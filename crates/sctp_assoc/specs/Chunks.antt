@@ -23,6 +23,7 @@ use Rattle.sctp_inbound.specs.declared.receiver.AckTrigger.{AckTrigger}
 use Rattle.sctp_inbound.specs.declared.receiver.AckTrigger.TheVariants as triggers
 use Rattle.sctp_inbound.specs.Receiver.{admits, asked, ended_packet, ended_packet_timers, is_new_to, taken_to}
 use Rattle.sctp_wire_types.specs.declared.chunk.GapAckBlock.{GapAckBlock}
+use Rattle.sctp_outbound.specs.Forward.{forward_asked}
 use Rattle.sctp_outbound.specs.Sacks.{progress_of, sack_taken}
 use Rattle.sctp_outbound.specs.declared.sender.Sender.{Sender}
 use Rattle.sctp_outbound.specs.declared.progress.Progress.{Progress}
@@ -34,7 +35,8 @@ use Rattle.sctp_assoc.specs.declared.inbound.Flow.TheVariants as flows
 use Rattle.sctp_assoc.specs.Calls.{is_established}
 use Rattle.sctp_assoc.specs.Closing.{closed_by, exhausted, is_exhausted}
 use Rattle.sctp_assoc.specs.Handshake.{on_cookie_ack, on_cookie_echo, on_heartbeat, on_init, on_init_ack}
-use Rattle.sctp_assoc.specs.Shown.{Shown}
+use Rattle.sctp_assoc.specs.Shown.{Shown, uses_forward_tsn}
+use Rattle.sctp_assoc.specs.Skipping.{on_forward, skips_of}
 
 -- DATA
 
@@ -112,7 +114,7 @@ counted_sack a = record a { counts = (let c = a.counts in record c { sacks = one
 
 abbrev pub with_acknowledged : Shown → Progress → ℕ → Sender × Estimate × StreamMap → Shown
 with_acknowledged a progress now (sender, estimate, streams) = record a {
-  sender = sender;
+  sender = forward_asked (uses_forward_tsn a) sender;
   estimate = estimate;
   streams = streams;
   events = a.events ++ low_told a.streams streams;
@@ -120,7 +122,8 @@ with_acknowledged a progress now (sender, estimate, streams) = record a {
 }
 
 -- a SACK is taken: the pieces up to its cumulative TSN ack and those that its gap ack blocks name are acknowledged, and
--- its window is the peer's; each stream whose buffered amount fell to its low mark is told of once
+-- its window is the peer's; each stream whose buffered amount fell to its low mark is told of once, and FORWARD TSN is
+-- due where what is abandoned stands in front of all others in flight
 abbrev pub after_sack : Shown → ℕ → List GapAckBlock → ℕ → ℕ → Shown
 after_sack a cumulative_tsn_ack blocks window now =
     with_acknowledged a (progress_of a.sender cumulative_tsn_ack blocks) now
@@ -155,6 +158,10 @@ dispatched a header (chunks.InitAck init) trigger now = on_init_ack a header ini
 dispatched a header (chunks.CookieEcho cookie) trigger now = on_cookie_echo a cookie trigger
 dispatched a header chunks.CookieAck trigger now = on_cookie_ack a trigger
 dispatched a header (chunks.Heartbeat heartbeat) trigger now = on_heartbeat a heartbeat trigger
+dispatched a header (chunks.ForwardTsn forward) trigger now =
+    on_forward a forward.new_cumulative_tsn forward.streams trigger now
+dispatched a header (chunks.IForwardTsn forward) trigger now =
+    on_forward a forward.new_cumulative_tsn (skips_of forward.entries) trigger now
 dispatched a header (chunks.Abort abort) trigger now = (a, flows.Fault errors.ErrAbortChunk)
 dispatched a header (chunks.Error error) trigger now = (a, flows.Fault errors.ErrAbortChunk)
 dispatched a header chunk trigger now = (a, flows.Fault errors.ErrChunkTypeUnhandled)

@@ -1,6 +1,6 @@
 -- What a poll for packets gives, and in which order (RFC 4960 sections 6.1, 6.2 and 6.10).
-use Rattle.std.specs.Prelude.{◌≡◌, ℕ, Bool, true, false, List, [], ◌∷◌, ◌++◌, ◌&&◌, ◌||◌, if◌then◌else◌, length, nat_lt}
-use Rattle.std.specs.Prelude.{Option, Some, None, Result, Ok, Err}
+use Rattle.std.specs.Prelude.{◌≡◌, ℕ, Bool, true, false, List, [], ◌∷◌, ◌++◌, ◌&&◌, ◌||◌, if◌then◌else◌, length, map}
+use Rattle.std.specs.Prelude.{nat_lt, Option, Some, None, Result, Ok, Err}
 use Rattle.std.specs.List.{AllByRecursion}
 use Rattle.sctp_wire_types.specs.declared.chunk.Chunk.{Chunk}
 use Rattle.sctp_wire_types.specs.declared.chunk.Chunk.TheVariants as chunks
@@ -18,14 +18,20 @@ use Rattle.sctp_parts.specs.declared.state.AckState.TheVariants as acks
 use Rattle.sctp_parts.specs.declared.timer.Timer.TheVariants as names
 use Rattle.sctp_parts.specs.Stats.{more_by}
 use Rattle.sctp_parts.specs.Timers.{Timers, restarted_if_stale}
-use Rattle.sctp_streams.specs.Streams.{bytes_waiting}
+use Rattle.sctp_streams.specs.LowMarks.{low_event}
+use Rattle.sctp_streams.specs.Streams.{StreamMap, bytes_waiting}
 use Rattle.sctp_inbound.specs.Handshake.{header_of}
 use Rattle.sctp_inbound.specs.Receiver.{acknowledged, sack_of}
 use Rattle.sctp_outbound.specs.declared.sender.Sender.{Sender}
-use Rattle.sctp_outbound.specs.Sender.{after_marked, after_resending, gives_data, marked_by, missing_by, sent_new}
+use Rattle.sctp_outbound.specs.Abandonment.{dropped_by, expired_by, expires, given_up_before, gives_up_before}
+use Rattle.sctp_outbound.specs.Falling.{fell_before, fell_dropped, fell_expired}
+use Rattle.sctp_outbound.specs.Forward.{forward_given, forward_of, gives_forward}
+use Rattle.sctp_outbound.specs.Sender.{after_marked, after_missing, marked_by, missing_by, sent_new}
+use Rattle.sctp_outbound_queue.specs.declared.message.Retransmission.{Retransmission}
+use Rattle.sctp_outbound_queue.specs.declared.message.Retransmission.TheVariants as causes
 use Rattle.sctp_assoc.specs.declared.control.ControlPacket.{ControlPacket}
 use Rattle.sctp_assoc.specs.Calls.{is_established}
-use Rattle.sctp_assoc.specs.Shown.{Shown}
+use Rattle.sctp_assoc.specs.Shown.{Shown, uses_forward_tsn}
 
 -- a packet of one chunk
 abbrev pub single_chunk_packet : CommonHeader → Chunk → Packet
@@ -39,42 +45,137 @@ spelled (Err fault) = []
 unfoldable pub packet_bytes : CommonHeader → Chunk → List (List ℕ)
 packet_bytes header chunk = spelled (written (single_chunk_packet header chunk))
 
--- the retransmission timer runs where DATA was sent for the first time (RFC 4960 section 6.3.2)
-abbrev pub t3_after_sending : Bool → ℕ → ℕ → Timers → Timers
-t3_after_sending sent now rto t = if sent then restarted_if_stale names.T3RTX now rto t else t
+-- the retransmission timer runs where this is so (RFC 4960 section 6.3.2)
+abbrev pub t3_run_if : Bool → ℕ → ℕ → Timers → Timers
+t3_run_if any now rto t = if any then restarted_if_stale names.T3RTX now rto t else t
 
-abbrev pub with_sent_data : Shown → ℕ → Sender × List ChunkPayloadData → Shown
-with_sent_data a now (sender, pieces) = record a {
-  sender = sender;
-  timers = t3_after_sending (nat_lt 0 (length pieces)) now a.estimate.rto a.timers;
-}
+abbrev pub with_t3 : Bool → ℕ → Shown → Shown
+with_t3 any now a = record a { timers = t3_run_if any now a.estimate.rto a.timers }
+
+abbrev pub both_of : Shown → Sender × StreamMap
+both_of a = (a.sender, a.streams)
+
+abbrev pub with_both : Sender × StreamMap → Shown → Shown
+with_both x a = record a { sender = x.0; streams = x.1 }
+
+-- messages of which something was sent and whose time is over are abandoned; where there is one, the retransmission
+-- timer runs
+abbrev pub late_abandoned : Shown → ℕ → Shown
+late_abandoned a now =
+    with_t3 (expires (uses_forward_tsn a) now (both_of a)) now
+    (with_both (expired_by (uses_forward_tsn a) now (both_of a)) a)
+
+-- so are those of which a piece would go out again for a reason, and was sent as often as its policy allows
+abbrev pub spent_abandoned : Retransmission → Shown → Shown
+spent_abandoned by a = with_both (given_up_before (uses_forward_tsn a) by (both_of a)) a
+
+-- messages of which nothing was sent and whose time is over are dropped
+abbrev pub late_dropped : Shown → ℕ → Shown
+late_dropped a now = with_both (dropped_by (uses_forward_tsn a) now (both_of a)) a
+
+-- behind these packets this DATA, in packets of its own
+abbrev pub bundled : DataWritten → List ChunkPayloadData → DataWritten
+bundled w pieces = closed (with_all w pieces)
+
+-- what the retransmission timer marked, behind what is given up of it
+abbrev pub marks_sent : Shown → List ChunkPayloadData
+marks_sent a = marked_by (spent_abandoned causes.Timer a).sender
+
+abbrev pub after_marks : Shown → Shown
+after_marks a = (let b = spent_abandoned causes.Timer a in record b { sender = after_marked b.sender })
+
+-- what is missing, behind what is given up of it
+abbrev pub fast_sent : Shown → List ChunkPayloadData
+fast_sent a = missing_by (spent_abandoned causes.Fast a).sender
 
 -- the chunks that fast retransmission gives are counted
-abbrev pub fast_counted : Shown → Shown
-fast_counted a = record a {
-  counts = (let c = a.counts in
-      record c { fast_retrans = more_by (length (missing_by (after_marked a.sender))) c.fast_retrans });
-}
+abbrev pub after_fast : Shown → Shown
+after_fast a =
+    (let b = spent_abandoned causes.Fast a in record b {
+      sender = after_missing b.sender;
+      counts = (let c = b.counts in record c { fast_retrans = more_by (length (missing_by b.sender)) c.fast_retrans });
+    })
 
--- behind these packets what the retransmission timer marked, and then what is missing, each bundled apart
-abbrev pub resent_into : Sender → DataWritten → DataWritten
-resent_into s w = closed (with_all (closed (with_all w (marked_by s))) (missing_by (after_marked s)))
+abbrev pub with_sent_data : Shown → ℕ → Sender × List ChunkPayloadData → Shown
+with_sent_data a now sent = with_t3 (nat_lt 0 (length sent.1)) now (record a { sender = sent.0 })
+
+-- new DATA, behind what is dropped of it
+abbrev pub new_sent : Shown → ℕ → List ChunkPayloadData
+new_sent a now = (sent_new (late_dropped a now).sender now).1
+
+abbrev pub after_new : Shown → ℕ → Shown
+after_new a now = with_sent_data (late_dropped a now) now (sent_new (late_dropped a now).sender now)
+
+-- the steps of a poll of DATA, one after another
+abbrev pub marks_polled : Shown → ℕ → Shown
+marks_polled a now = after_marks (late_abandoned a now)
+
+abbrev pub fast_polled : Shown → ℕ → Shown
+fast_polled a now = after_fast (marks_polled a now)
+
+abbrev pub new_polled : Shown → ℕ → Shown
+new_polled a now = after_new (fast_polled a now) now
+
+-- the streams that fall to their low mark in each of these steps, in the order in which they fall
+abbrev pub late_fell : Shown → ℕ → List ℕ
+late_fell a now = fell_expired (uses_forward_tsn a) now (both_of a)
+
+abbrev pub marks_fell : Shown → List ℕ
+marks_fell a = fell_before (uses_forward_tsn a) causes.Timer (both_of a)
+
+abbrev pub fast_fell : Shown → List ℕ
+fast_fell a = fell_before (uses_forward_tsn a) causes.Fast (both_of a)
+
+abbrev pub new_fell : Shown → ℕ → List ℕ
+new_fell a now = fell_dropped (uses_forward_tsn a) now (both_of a)
+
+-- and in a poll of DATA
+abbrev pub fell_in_poll : Shown → ℕ → List ℕ
+fell_in_poll a now =
+    late_fell a now
+    ++ marks_fell (late_abandoned a now)
+    ++ fast_fell (marks_polled a now)
+    ++ new_fell (fast_polled a now) now
+
+-- it is told of each of these streams that its buffered amount fell to its low mark
+abbrev pub with_low_told : List ℕ → Shown → Shown
+with_low_told ids a = record a { events = a.events ++ map low_event ids }
 
 -- the packets of a poll that carry DATA: what goes again, and then new DATA, bundled apart
 abbrev pub data_bundled : Shown → ℕ → DataWritten
 data_bundled a now =
-    closed (with_all (resent_into a.sender (nothing_written (header_of a.handshake) a.sender.mtu))
-    (sent_new (after_resending a.sender) now).1)
-
--- the association once DATA was sent again
-abbrev pub with_resent : Shown → Shown
-with_resent a = (let b = fast_counted a in record b { sender = after_resending a.sender })
+    bundled
+    (bundled
+    (bundled (nothing_written (header_of a.handshake) (late_abandoned a now).sender.mtu)
+    (marks_sent (late_abandoned a now)))
+    (fast_sent (marks_polled a now)))
+    (new_sent (fast_polled a now) now)
 
 -- what a poll of DATA leaves, and what its packets carry: what the retransmission timer marked, what is missing, and
--- then new DATA
+-- then new DATA; before each of them go the messages that are given up
 unfoldable pub data_polled : Shown → ℕ → Shown × List (List ChunkPayloadData)
-data_polled a now =
-    (with_sent_data (fast_counted a) now (sent_new (after_resending a.sender) now), (data_bundled a now).done)
+data_polled a now = (with_low_told (fell_in_poll a now) (new_polled a now), (data_bundled a now).done)
+
+-- marked DATA goes out again, or is given up
+abbrev pub marks_give : Shown → Bool
+marks_give a = gives_up_before (uses_forward_tsn a) causes.Timer a.sender || nat_lt 0 (length (marks_sent a))
+
+-- missing DATA does
+abbrev pub fast_gives : Shown → Bool
+fast_gives a = gives_up_before (uses_forward_tsn a) causes.Fast a.sender || nat_lt 0 (length (fast_sent a))
+
+-- DATA goes out for the first time
+abbrev pub new_gives : Shown → ℕ → Bool
+new_gives a now = nat_lt 0 (length (new_sent a now))
+
+-- a poll of DATA gives some, or gives some up, or tells of a stream whose buffered amount fell to its low mark
+abbrev pub data_gives : Shown → ℕ → Bool
+data_gives a now =
+    expires (uses_forward_tsn a) now (both_of a)
+    || marks_give (late_abandoned a now)
+    || fast_gives (marks_polled a now)
+    || new_gives (fast_polled a now) now
+    || nat_lt 0 (length (fell_in_poll a now))
 
 abbrev pub is_due : AckState → Bool
 is_due acks.Idle = false
@@ -99,6 +200,23 @@ after_both packets (a, more) = (a, packets ++ more)
 abbrev pub ack_after : Shown × List (List ChunkPayloadData) → Shown × List (List ℕ)
 ack_after (a, bundles) = after_both (datagrams_of (header_of a.handshake) bundles) (ack_polled a)
 
+-- FORWARD TSN, in a packet of its own
+abbrev pub forward_chunk : Shown → Chunk
+forward_chunk a = chunks.ForwardTsn (forward_of a.sender)
+
+abbrev pub forward_packet : Shown → List (List ℕ)
+forward_packet a = packet_bytes (header_of a.handshake) (forward_chunk a)
+
+abbrev pub forwards_given : Shown → List (List ℕ)
+forwards_given a = if gives_forward a.sender then forward_packet a else []
+
+-- FORWARD TSN, where it is due
+unfoldable pub forward_polled : Shown → Shown × List (List ℕ)
+forward_polled a = (record a { sender = forward_given a.sender }, forwards_given a)
+
+abbrev pub forward_after : Shown × List (List ℕ) → Shown × List (List ℕ)
+forward_after (a, packets) = after_both packets (forward_polled a)
+
 -- the packets that wait to go out before any DATA
 abbrev pub control_packets : List ControlPacket → List (List ℕ)
 control_packets [] = []
@@ -107,18 +225,20 @@ control_packets (c ∷ cs) = packet_bytes c.header c.chunk ++ control_packets cs
 abbrev pub without_control : Shown → Shown
 without_control a = record a { control = [] }
 
--- in Established DATA, and then the acknowledgement
+-- in Established DATA, then the acknowledgement, and then FORWARD TSN
 unfoldable pub exchange_polled : Shown → ℕ → Shown × List (List ℕ)
-exchange_polled a now = if is_established a.state then ack_after (data_polled a now) else (a, [])
+exchange_polled a now = if is_established a.state then forward_after (ack_after (data_polled a now)) else (a, [])
 
--- what a poll leaves, and the packets that it gives: those that wait, and in Established DATA and then the
--- acknowledgement
+-- what a poll leaves, and the packets that it gives: those that wait, and in Established DATA, then the
+-- acknowledgement, and then FORWARD TSN
 abbrev pub polled : Shown → ℕ → Shown × List (List ℕ)
 polled a now = after_both (control_packets a.control) (exchange_polled (without_control a) now)
 
--- the exchange of a poll has something to give: DATA goes out, or an acknowledgement is due
+-- the exchange of a poll has something to give: DATA goes out or is given up, or an acknowledgement or FORWARD TSN is
+-- due
 abbrev pub exchange_gives : Shown → ℕ → Bool
-exchange_gives a now = gives_data a.sender now || is_due a.receiver.ack_state
+exchange_gives a now =
+    data_gives a now || is_due a.receiver.ack_state || gives_forward (data_polled a now).0.sender
 
 -- a poll has something to give: a packet waits, or in Established its exchange does
 abbrev pub has_something_to_give : Shown → ℕ → Bool
@@ -165,10 +285,15 @@ WaitPlainly a = AllByRecursion
 abbrev pub AreControlReadAgain : List ControlPacket → Type 0
 AreControlReadAgain cs = AllByRecursion ControlIsReadAgain cs
 
--- each packet of DATA, and that of the acknowledgement behind it, is read again as it was made
+abbrev pub ForwardIsReadAgain : Shown → Type 0
+ForwardIsReadAgain a = gives_forward a.sender ≡ true → IsReadAgain (header_of a.handshake) (forward_chunk a)
+
+-- each packet of DATA, that of the acknowledgement behind it, and that of FORWARD TSN behind that, is read again as it
+-- was made
 abbrev pub ExchangeIsReadAgain : Shown → ℕ → Type 0
 ExchangeIsReadAgain a now =
     AreReadAgain (header_of a.handshake) (data_polled a now).1 × AckIsReadAgain (data_polled a now).0
+    × ForwardIsReadAgain (ack_polled (data_polled a now).0).0
 
 abbrev pub PollIsReadAgain : Shown → ℕ → Type 0
 PollIsReadAgain a now = is_established a.state ≡ true → ExchangeIsReadAgain a now

@@ -1,6 +1,7 @@
 -- What each call does to the two directions.
 use Rattle.std.specs.Prelude.{◌≡◌, ℕ, zero, suc, Bool, true, false, List, [], ◌∷◌, ◌++◌, ◌&&◌, ◌+◌, ◌-◌, ◌==◌}
-use Rattle.std.specs.Prelude.{if◌then◌else◌, not, is_some, length, nat_lt, Option, Some, None, Result, Ok, Err}
+use Rattle.std.specs.Prelude.{if◌then◌else◌, not, is_some, length, nat_lt, find, Option, Some, None, Result, Ok}
+use Rattle.std.specs.Prelude.{Err}
 use Rattle.sctp_wire_types.specs.declared.error.Error.{Error}
 use Rattle.sctp_wire_types.specs.declared.chunk.Chunk.{Chunk}
 use Rattle.sctp_wire_types.specs.declared.chunk.Chunk.TheVariants as chunks
@@ -8,6 +9,7 @@ use Rattle.sctp_wire_types.specs.declared.chunk.ChunkPayloadData.{ChunkPayloadDa
 use Rattle.sctp_wire_types.specs.declared.ids.PayloadProtocolIdentifier.TheVariants as kinds
 use Rattle.sctp_wire_types.specs.declared.chunk.ChunkInit.{ChunkInit}
 use Rattle.sctp_wire_types.specs.declared.chunk.GapAckBlock.{GapAckBlock}
+use Rattle.sctp_wire_types.specs.declared.chunk.SkippedStream.{SkippedStream}
 use Rattle.sctp_wire_types.specs.declared.packet.CommonHeader.{CommonHeader}
 use Rattle.sctp_wire_types.specs.Checks.{checked_chunk}
 use Rattle.sctp_wire.specs.declared.packet.Packet.{Packet}
@@ -16,10 +18,10 @@ use Rattle.sctp_parts.specs.Timers.{expiry_of}
 use Rattle.sctp_outbound_queue.specs.declared.message.InFlight.{InFlight}
 use Rattle.sctp_outbound_queue.specs.declared.message.Retransmission.{Retransmission}
 use Rattle.sctp_outbound_queue.specs.declared.message.Retransmission.TheVariants as causes
-use Rattle.sctp_outbound_queue.specs.Message.{picks, room_taken}
+use Rattle.sctp_outbound_queue.specs.Message.{is_expired_unsent, picks, room_taken}
 use Rattle.sctp_outbound_queue.specs.Waiting.{Waiting}
 use Rattle.sctp_outbound_queue.specs.Outbound.{pieces_waiting}
-use Rattle.sctp_streams.specs.Streams.{stream_at, generation_left, bytes_waiting, refusal_in}
+use Rattle.sctp_streams.specs.Streams.{StreamMap, stream_at, generation_left, bytes_waiting, refusal_in}
 use Rattle.sctp_inbound.specs.declared.receiver.AckTrigger.{AckTrigger}
 use Rattle.sctp_inbound.specs.declared.receiver.AckTrigger.TheVariants as triggers
 use Rattle.sctp_inbound.specs.Handshake.{comes_back, header_of}
@@ -28,10 +30,13 @@ use Rattle.sctp_outbound.specs.declared.sender.SackOutcome.{SackOutcome}
 use Rattle.sctp_outbound.specs.declared.sender.SackOutcome.TheVariants as outcomes
 use Rattle.sctp_outbound.specs.declared.sender.Sender.{Sender}
 use Rattle.sctp_outbound.specs.Sacks.{reports_of}
-use Rattle.sctp_outbound.specs.Sender.{after_marked, after_resending, both_windows, can_send_next, fast_room}
+use Rattle.sctp_outbound.specs.declared.abandonment.Reason.{Reason}
+use Rattle.sctp_outbound.specs.declared.abandonment.Reason.TheVariants as reasons
+use Rattle.sctp_outbound.specs.Abandonment.{abandoned_if, first_dropped, has_late_tail, late_given_up, next_given_up}
+use Rattle.sctp_outbound.specs.Abandonment.{with_started}
+use Rattle.sctp_outbound.specs.Forward.{gives_forward}
+use Rattle.sctp_outbound.specs.Sender.{both_windows, can_send_next, fast_room, resends_alone, sack_outcome, sent_one}
 use Rattle.sctp_outbound.specs.Sender.{tsns_up_to}
-use Rattle.sctp_outbound.specs.Sender.{resends_alone}
-use Rattle.sctp_outbound.specs.Sender.{resent_by, sack_outcome, sent_one}
 use Rattle.sctp_assoc.specs.declared.inbound.Flow.{Flow}
 use Rattle.sctp_assoc.specs.declared.inbound.Flow.TheVariants as flows
 use Rattle.sctp_directions.specs.Acts.{Act, History, all_data_given}
@@ -39,12 +44,16 @@ use Rattle.sctp_assoc.specs.Leads.{Binds, Leads, parts}
 use Rattle.sctp_assoc.specs.Calls.{is_beginning, is_cookie_wait, is_established, read_exhausts}
 use Rattle.sctp_assoc.specs.Closing.{is_closed_state}
 use Rattle.sctp_assoc.specs.Chunks.{counted_data, on_chunk, stream_found}
-use Rattle.std.specs.List.{filter}
+use Rattle.std.specs.List.{filter, position_or_len}
 use Rattle.sctp_wire.specs.DataPackets.{all_of, data_fits, datagrams_of}
-use Rattle.sctp_assoc.specs.Gather.{AckIsReadAgain, AreControlReadAgain, AreReadAgain, control_packets}
-use Rattle.sctp_assoc.specs.Gather.{is_due, sack_packet}
+use Rattle.sctp_assoc.specs.Gather.{AckIsReadAgain, AreControlReadAgain, AreReadAgain, IsReadAgain, both_of}
+use Rattle.sctp_assoc.specs.Gather.{control_packets, data_polled, fast_polled, forward_chunk, is_due, late_abandoned}
+use Rattle.sctp_assoc.specs.Gather.{late_dropped, marks_polled, packet_bytes, sack_packet, spent_abandoned}
 use Rattle.sctp_assoc.specs.Timeouts.{after_handshake_timers}
-use Rattle.sctp_assoc.specs.Shown.{Shown}
+use Rattle.sctp_assoc.specs.Shown.{Shown, uses_forward_tsn}
+use Rattle.sctp_assoc.specs.Skipping.{skips_of, standing_of}
+use Rattle.sctp_assoc.specs.declared.skipping.Standing.{Standing}
+use Rattle.sctp_assoc.specs.declared.skipping.Standing.TheVariants as standings
 
 -- What each call does to the directions.
 
@@ -98,11 +107,23 @@ acts_of_init_ack a header init =
     if is_cookie_wait a.state then
     (if comes_back a.handshake header then Act.PeerKnown init.initial_tsn ∷ [] else []) else []
 
+-- a FORWARD TSN that is ahead passes over what it says
+abbrev pub acts_of_forward_at : Standing → ℕ → List SkippedStream → List Act
+acts_of_forward_at standings.Unused tsn skips = []
+acts_of_forward_at standings.Behind tsn skips = []
+acts_of_forward_at standings.Ahead tsn skips = Act.PassedOver tsn skips ∷ []
+
+abbrev pub acts_of_forward : Shown → ℕ → List SkippedStream → List Act
+acts_of_forward a tsn skips = acts_of_forward_at (standing_of a tsn) tsn skips
+
 abbrev pub acts_of_kind : Shown → CommonHeader → Chunk → List Act
 acts_of_kind a header (chunks.Data piece) = acts_of_data a piece
 acts_of_kind a header (chunks.SelectiveAck sack) = acts_of_sack a sack.cumulative_tsn_ack sack.gap_ack_blocks
 acts_of_kind a header (chunks.Init init) = acts_of_init a init
 acts_of_kind a header (chunks.InitAck init) = acts_of_init_ack a header init
+acts_of_kind a header (chunks.ForwardTsn forward) = acts_of_forward a forward.new_cumulative_tsn forward.streams
+acts_of_kind a header (chunks.IForwardTsn forward) =
+    acts_of_forward a forward.new_cumulative_tsn (skips_of forward.entries)
 acts_of_kind a header chunk = []
 
 abbrev pub acts_of_checked : Result (Unit {0}) Error → Shown → CommonHeader → Chunk → List Act
@@ -176,46 +197,125 @@ acts_of_new s now =
     if length s.queue.in_flight == 0 && not (can_send_next s) then first_sent s.queue.pending now else
     acts_of_sending (pieces_waiting s.queue.pending) s now
 
--- the DATA of a poll
+-- the message of the piece at this index in flight, if there is one, is abandoned
+abbrev pub acts_of_abandoning : Option ℕ → List Act
+acts_of_abandoning None = []
+acts_of_abandoning (Some index) = Act.Abandoned index ∷ []
+
+-- the first n messages that are given up for a reason are abandoned, one after another
+abbrev pub acts_of_giving_up : ℕ → Reason → Sender × StreamMap → List Act
+acts_of_giving_up zero why all = []
+acts_of_giving_up (suc n) why all =
+    acts_of_abandoning (next_given_up why all.0)
+    ++ acts_of_giving_up n why (abandoned_if (next_given_up why all.0) all)
+
+abbrev pub acts_of_giving_all_up : Reason → Sender × StreamMap → List Act
+acts_of_giving_all_up why all = acts_of_giving_up (length all.0.queue.in_flight) why all
+
+-- what would go out again for a reason too often is given up, where FORWARD TSN is in use
+abbrev pub acts_of_spent : Retransmission → Shown → List Act
+acts_of_spent by a = if uses_forward_tsn a then acts_of_giving_all_up (reasons.Spent by) (both_of a) else []
+
+abbrev pub acts_of_tail : ℕ → Sender → List Act
+acts_of_tail now s = if has_late_tail now s then Act.TailAbandoned ∷ [] else []
+
+-- the time of each message runs, and those of which something was sent and whose time is over are abandoned
+abbrev pub acts_of_expiry : ℕ → Sender × StreamMap → List Act
+acts_of_expiry now all =
+    Act.Started now ∷ (acts_of_giving_all_up (reasons.Expired now) (with_started now all.0, all.1)
+    ++ acts_of_tail now (late_given_up now all).0)
+
+abbrev pub acts_of_late : Shown → ℕ → List Act
+acts_of_late a now = if uses_forward_tsn a then acts_of_expiry now (both_of a) else []
+
+-- this message, if there is one, which waits at an index, is dropped
+abbrev pub acts_of_dropping : Option Waiting → ℕ → List Act
+acts_of_dropping None index = []
+acts_of_dropping (Some m) index = Act.Dropped index ∷ []
+
+-- the first n messages of which nothing was sent and whose time is over are dropped, one after another
+abbrev pub acts_of_drops : ℕ → ℕ → Sender × StreamMap → List Act
+acts_of_drops zero now all = []
+acts_of_drops (suc n) now all =
+    acts_of_dropping (find (is_expired_unsent now) all.0.queue.pending)
+    (position_or_len (is_expired_unsent now) all.0.queue.pending)
+    ++ acts_of_drops n now (first_dropped now all)
+
+abbrev pub acts_of_unsent : Shown → ℕ → List Act
+acts_of_unsent a now =
+    if uses_forward_tsn a then acts_of_drops (length a.sender.queue.pending) now (both_of a) else []
+
+-- what the retransmission timer marked goes out again, behind what is given up of it
+abbrev pub acts_of_marks_poll : Shown → List Act
+acts_of_marks_poll a = acts_of_spent causes.Timer a ++ acts_of_marks (spent_abandoned causes.Timer a).sender
+
+-- so does what is missing
+abbrev pub acts_of_fast_poll : Shown → List Act
+acts_of_fast_poll a = acts_of_spent causes.Fast a ++ acts_of_missing (spent_abandoned causes.Fast a).sender
+
+-- new DATA goes out, behind what is dropped of it
+abbrev pub acts_of_new_poll : Shown → ℕ → List Act
+acts_of_new_poll a now = acts_of_unsent a now ++ acts_of_new (late_dropped a now).sender now
+
+-- the DATA of a poll, and what is given up before it
 abbrev pub acts_of_data_poll : Shown → ℕ → List Act
 acts_of_data_poll a now =
-    acts_of_marks a.sender ++ acts_of_missing (after_marked a.sender) ++ acts_of_new (after_resending a.sender) now
+    acts_of_late a now ++ acts_of_marks_poll (late_abandoned a now) ++ acts_of_fast_poll (marks_polled a now)
+    ++ acts_of_new_poll (fast_polled a now) now
 
 abbrev pub acts_of_ack : Shown → List Act
 acts_of_ack a = if is_due a.receiver.ack_state then Act.Reported ∷ [] else []
 
+-- FORWARD TSN goes out
+abbrev pub acts_of_forwarding : Bool → List Act
+acts_of_forwarding forwards = if forwards then Act.Forwarded ∷ [] else []
+
+-- a poll gives FORWARD TSN: it is due once DATA was selected (RFC 3758 section 3.5)
+abbrev pub forwards_of_poll : Shown → ℕ → Bool
+forwards_of_poll a now = is_established a.state && gives_forward (data_polled a now).0.sender
+
 -- a poll for packets
 abbrev pub acts_of_poll : Shown → ℕ → List Act
-acts_of_poll a now = if is_established a.state then acts_of_data_poll a now ++ acts_of_ack a else []
+acts_of_poll a now =
+    if is_established a.state then
+    acts_of_data_poll a now ++ acts_of_ack a ++ acts_of_forwarding (forwards_of_poll a now)
+    else []
 
 -- the acknowledgement that a poll gives, where one is due
 abbrev pub acks_given : Shown → List (List ℕ)
 acks_given a = if is_due a.receiver.ack_state then sack_packet a else []
 
--- packets that wait, and in Established these packets of DATA, and then the acknowledgement
-abbrev pub exchange_given : Shown → List (List ChunkPayloadData) → List (List ℕ)
-exchange_given a bundles =
-    if is_established a.state then datagrams_of (header_of a.handshake) bundles ++ acks_given a else []
+-- packets that wait, and in Established these packets of DATA, then the acknowledgement, and then, where it is given,
+-- the FORWARD TSN of what is in flight after the poll
+abbrev pub exchange_given : Shown → List (List ChunkPayloadData) → Bool → Shown → List (List ℕ)
+exchange_given a bundles forwards b =
+    if is_established a.state then
+    datagrams_of (header_of a.handshake) bundles ++ acks_given a
+    ++ (if forwards then packet_bytes (header_of a.handshake) (forward_chunk b) else [])
+    else []
 
-abbrev pub packets_given : Shown → List (List ChunkPayloadData) → List (List ℕ)
-packets_given a bundles = control_packets a.control ++ exchange_given a bundles
+abbrev pub packets_given : Shown → List (List ChunkPayloadData) → Bool → Shown → List (List ℕ)
+packets_given a bundles forwards b = control_packets a.control ++ exchange_given a bundles forwards b
 
 -- A poll for packets leads on by its acts, and gives what they say: its packets of DATA carry, in order, the DATA of
 -- the acts for which one chunk has room, under the TSNs of its offsets, and each packet is read as what it was made of.
-pub record Polls (xs : List Act) (a : Shown) (h : History) (b : Shown) (packets : List (List ℕ)) : Type 0 where
+-- It gives FORWARD TSN or not.
+pub record Polls (xs : List Act) (forwards : Bool) (a : Shown) (h : History) (b : Shown)
+    (packets : List (List ℕ)) : Type 0 where
   pub leads : Leads xs a h b h
   -- what the packets of DATA carry
   pub bundles : List (List ChunkPayloadData)
   pub joined : all_of bundles ≡ filter data_fits (all_data_given xs (parts a h))
-  pub said : packets ≡ packets_given a bundles
+  pub said : packets ≡ packets_given a bundles forwards b
   pub data_again : is_established a.state ≡ true → AreReadAgain (header_of a.handshake) bundles
   pub ack_again : is_established a.state ≡ true → AckIsReadAgain a
+  pub forward_again : forwards ≡ true → IsReadAgain (header_of a.handshake) (forward_chunk b)
 
 -- A poll for packets does and gives so from each history on which the association stands; what waited is read again as
 -- what it was.
-pub record PollsOn (xs : List Act) (a b : Shown) (packets : List (List ℕ)) : Type 0 where
+pub record PollsOn (xs : List Act) (forwards : Bool) (a b : Shown) (packets : List (List ℕ)) : Type 0 where
   pub control_again : AreControlReadAgain a.control
-  pub from : (h : History) → Binds a h → Polls xs a h b packets
+  pub from : (h : History) → Binds a h → Polls xs forwards a h b packets
 
 -- the retransmission timer, where it expired by a moment and is within its limit
 abbrev pub acts_of_t3 : Shown → ℕ → List Act

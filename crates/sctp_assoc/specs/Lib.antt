@@ -10,5 +10,6 @@ pub mod Happened
 pub mod Inbound
 pub mod Memory
 pub mod Shown
+pub mod Skipping
 pub mod Stream
 pub mod Timeouts

@@ -26,6 +26,7 @@ use Rattle.sctp_assoc.specs.Calls.{is_beginning, is_cookie_echoed, is_cookie_wai
 use Rattle.sctp_assoc.specs.Closing.{is_closed_state}
 use Rattle.sctp_assoc.specs.Chunks.{after_sack, on_chunk}
 use Rattle.sctp_assoc.specs.Shown.{Shown}
+use Rattle.sctp_assoc.specs.Skipping.{forward_takes_memory, skips_of}
 
 -- a stream is made: it is not live, and a generation is left for it
 abbrev pub makes_stream : Shown → ℕ → Bool
@@ -91,6 +92,10 @@ takes_memory a header (chunks.InitAck init) now = init_ack_takes_memory a header
 takes_memory a header (chunks.CookieEcho cookie) now = cookie_echo_takes_memory a cookie
 takes_memory a header chunks.CookieAck now = cookie_ack_takes_memory a
 takes_memory a header (chunks.Heartbeat heartbeat) now = heartbeat_takes_memory heartbeat
+takes_memory a header (chunks.ForwardTsn forward) now =
+    forward_takes_memory a forward.new_cumulative_tsn forward.streams
+takes_memory a header (chunks.IForwardTsn forward) now =
+    forward_takes_memory a forward.new_cumulative_tsn (skips_of forward.entries)
 takes_memory a header chunk now = false
 
 -- a chunk that its own check refuses takes no memory itself; it is a fault, too

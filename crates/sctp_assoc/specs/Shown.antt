@@ -44,6 +44,11 @@ pub record Shown : Type 0 where
   pub estimate : Estimate
   pub counts : Counts
 
+-- messages may be skipped by FORWARD TSN: the peer lists it among its extensions, as this side does (RFC 3758
+-- section 3.3)
+abbrev pub uses_forward_tsn : Shown → Bool
+uses_forward_tsn a = a.handshake.use_forward_tsn
+
 -- the timers with each of them stopped
 abbrev pub all_stopped : Timers → Timers
 all_stopped t =

@@ -16,6 +16,7 @@ ghost use Rattle.sctp_assoc.specs.Chunks.{after_packet};
 ghost use Rattle.sctp_directions.specs.Acts.{Act, begun};
 ghost use Rattle.sctp_assoc.specs.Leads.{LeadsOn, Binds};
 ghost use Rattle.sctp_assoc.specs.Happened.{PollsOn, acts_of_close, acts_of_packet, acts_of_poll, acts_of_timeouts};
+ghost use Rattle.sctp_assoc.specs.Happened.{forwards_of_poll};
 ghost use Rattle.sctp_assoc.specs.Inbound.{is_datagram, packet_of_event, transmit_of};
 ghost use Rattle.sctp_assoc.specs.Created.{create_refusal, created, fresh_association, join_refusal, joined};
 ghost use Rattle.sctp_assoc.specs.Stream.{id_of, lender, lent, rests_if_none, rests_if_refused};
@@ -310,12 +311,15 @@ impl Association {
     /// All packets that are due at `now`, in the order in which they are to go out; None where none is due. Each
     /// entry of the `Payload::RawEncode` is one datagram. Packets of the handshake and answers go first, in every
     /// state. In Established there follow DATA that the retransmission timer marked, DATA that is to be retransmitted
-    /// fast, new DATA within both windows (or one piece that probes them, where nothing is in flight), and a SACK that
-    /// is due. DATA chunks are bundled in packets of at most `mtu` bytes (RFC 4960 section 6.10); a packet of one alone
-    /// may be up to 3 bytes longer. Call it last in each turn of the loop, and after writes.
+    /// fast, new DATA within both windows (or one piece that probes them, where nothing is in flight), a SACK that is
+    /// due, and a FORWARD TSN that is due. Where FORWARD TSN is in use, messages are given up before that: those whose
+    /// time is over, which runs from the first such call after the write, and those of which a piece would go out again
+    /// too often (RFC 3758 section 3.5); `poll` tells of streams that this takes to their low mark, in the order in
+    /// which they fall. DATA chunks are bundled in packets of at most `mtu` bytes (RFC 4960 section 6.10); a packet of
+    /// one alone may be up to 3 bytes longer. Call it last in each turn of the loop, and after writes.
     ///
-    /// Errors: `ErrAssociationFailed`, and `ErrNoMemory` only where there is something to give. After the latter the
-    /// association is failed, and the packets of this call are lost.
+    /// Errors: `ErrAssociationFailed`, and `ErrNoMemory` only where there is something to give or to give up. After the
+    /// latter the association is failed, and the packets of this call are lost.
     pub fn poll_transmit(&mut self, now: Instant) -> Result<Option<Transmit>, Error>
         ensures failed { IsErrOf result Error.ErrAssociationFailed ↔ (self.old.failed ≡ true) }
         ensures refused { IsErrOf result Error.ErrAssociationFailed → self.new ≡ self.old }
@@ -323,7 +327,8 @@ impl Association {
         ensures given { IsErrOf result Error.ErrNoMemory → has_something_to_give self.old now ≡ true }
         ensures only { OnErr result ((result ≡ Err Error.ErrAssociationFailed) ⊎ (result ≡ Err Error.ErrNoMemory)) }
         ensures ok { IfOk result (λ given. polled self.old now ≡ (self.new, packets_of given)) }
-        ensures acts { IfOk result (λ given. PollsOn (acts_of_poll self.old now) self.old self.new (packets_of given)) }
+        ensures acts { IfOk result (λ given. PollsOn (acts_of_poll self.old now) (forwards_of_poll self.old now)
+            self.old self.new (packets_of given)) }
         ensures none { IfOk result (λ given. IsNone given ↔ (packets_of given ≡ [])) }
         ensures addressed { IfOk result (λ given. IfSome given (λ t. IsAddressed self.new now t)) }
     {
@@ -397,8 +402,9 @@ impl Association {
 
     /// Does what the timers that expired by `now` ask for, and nothing where none did. INIT or COOKIE ECHO waits to
     /// go out again, or past `max_init_retransmits` the handshake failed (RFC 4960 section 5.1). DATA in flight is
-    /// marked to be sent again, but not past `max_data_retransmits` (section 6.3.3). A delayed SACK becomes due
-    /// (section 6.2). `poll_transmit` gives the packets.
+    /// marked to be sent again, but not past `max_data_retransmits` (section 6.3.3), and where pieces in front of all
+    /// others in flight are given up, FORWARD TSN is due again (RFC 3758 section 3.5). A delayed SACK becomes due
+    /// (RFC 4960 section 6.2). `poll_transmit` gives the packets.
     ///
     /// Errors: `ErrAssociationFailed`, and `ErrNoMemory` only where INIT or COOKIE ECHO is to go out again. After the
     /// latter the association is failed.
@@ -443,6 +449,8 @@ impl Association {
             if !expiry.failed {
                 self.stats.inc_t3timeouts();
                 self.sender.on_t3_timeout();
+                let forward = self.handshake.use_forward_tsn;
+                self.sender.ask_for_forward_tsn(forward);
                 let rto = self.rto.get_rto();
                 self.timers.start(Timer::T3RTX, now, rto);
             }

@@ -1,28 +1,38 @@
 // The packets of one poll, in the order in which they go out.
 ghost use Rattle.std.specs.Prelude.{[], ◌≡◌, ◌++◌, ◌&&◌, true, length, nat_lt, OnErr, OnOk, IfOk};
 ghost use Rattle.sctp_wire.specs.Packets.{packet_is_plain};
-ghost use Rattle.sctp_outbound.specs.Sender.{gives_data, resends};
+ghost use Rattle.sctp_wire.specs.DataPackets.{datagrams_of, with_all};
+ghost use Rattle.sctp_streams.specs.LowMarks.{AreGathered};
 ghost use Rattle.sctp_inbound.specs.Handshake.{header_of};
-ghost use Rattle.sctp_wire.specs.DataPackets.{datagrams_of};
+ghost use Rattle.sctp_outbound.specs.Abandonment.{gives_up_before, expires};
+ghost use Rattle.sctp_outbound.specs.Falling.{fell_before};
+ghost use Rattle.sctp_outbound.specs.Forward.{gives_forward};
 ghost use Rattle.sctp_assoc.specs.Calls.{is_established};
 ghost use Rattle.sctp_assoc.specs.Gather.{AckIsReadAgain, AreControlReadAgain, AreReadAgain, ExchangeIsReadAgain};
-ghost use Rattle.sctp_assoc.specs.Gather.{IsReadAgain, PollIsReadAgain, ack_after, ack_polled, after_both};
-ghost use Rattle.sctp_assoc.specs.Gather.{control_packets, data_polled, resent_into, exchange_gives, exchange_polled};
-ghost use Rattle.sctp_assoc.specs.Gather.{has_something_to_give, is_due, packet_bytes, single_chunk_packet, polled};
-ghost use Rattle.sctp_assoc.specs.Gather.{with_resent, without_control};
+ghost use Rattle.sctp_assoc.specs.Gather.{ForwardIsReadAgain, IsReadAgain, PollIsReadAgain, ack_after, ack_polled};
+ghost use Rattle.sctp_assoc.specs.Gather.{after_both, after_fast, after_marks, after_new, both_of, bundled};
+ghost use Rattle.sctp_assoc.specs.Gather.{control_packets, data_gives, data_polled, exchange_gives, exchange_polled};
+ghost use Rattle.sctp_assoc.specs.Gather.{fast_fell, fast_gives, fast_sent, forward_after, forward_polled};
+ghost use Rattle.sctp_assoc.specs.Gather.{has_something_to_give, is_due, late_abandoned, late_fell, marks_fell};
+ghost use Rattle.sctp_assoc.specs.Gather.{marks_give, marks_sent, new_fell, new_gives, new_sent};
+ghost use Rattle.sctp_assoc.specs.Gather.{packet_bytes, single_chunk_packet, polled, spent_abandoned};
+ghost use Rattle.sctp_assoc.specs.Gather.{with_t3, without_control};
+ghost use Rattle.sctp_assoc.specs.Shown.{uses_forward_tsn};
 
 use crate::Association;
 use crate::control::ControlPacket;
 use bytes::Bytes;
+use sctp_outbound_queue::Retransmission;
 use sctp_parts::state::{AckState, AssociationState};
 use sctp_parts::timer::Timer;
+use sctp_streams::Fallen;
 use sctp_wire_queues::{Chunk, CommonHeader, DataPackets, Error, Instant, marshal};
 use std::alloc::{AllocError, Global};
 use std::mem;
 
 impl Association {
-    // The packets that wait, then DATA that is sent again, then new DATA, then the acknowledgement. It lacks memory
-    // only where there is something to give.
+    // The packets that wait, then DATA that is sent again, then new DATA, then the acknowledgement, and then FORWARD
+    // TSN. It lacks memory only where there is something to give or to give up.
     pub(crate) fn gather(&mut self, now: Instant) -> Result<Vec<Bytes>, AllocError>
         ensures exact { IfOk result (λ packets. polled self.old now ≡ (self.new, packets.items)) }
         ensures control_again { OnOk result (AreControlReadAgain self.old.control) }
@@ -55,51 +65,126 @@ impl Association {
         now: Instant,
     ) -> Result<(), AllocError>
         ensures exact { OnOk result
-            (after_both packets.old.items (ack_after (data_polled self.old now)) ≡ (self.new, packets.new.items)) }
+            (after_both packets.old.items (forward_after (ack_after (data_polled self.old now)))
+            ≡ (self.new, packets.new.items)) }
         ensures again { OnOk result (ExchangeIsReadAgain self.old now) }
         ensures grows { OnErr result (exchange_gives self.old now ≡ true) }
     {
         let data = self.gather_data(now)?;
         put_all(packets, data)?;
         self.gather_ack(packets)?;
+        self.gather_forward(packets)?;
         Ok(())
     }
 
-    // The packets of DATA: what the retransmission timer marked, what is missing, and new DATA, each bundled apart.
-    #[tactic(auto, unfolding(crate::specs::Gather::data_polled), using(sctp_outbound::proofs::SenderSteps::sending_gives))]
+    // The packets of DATA: what the retransmission timer marked, what is missing, and new DATA, each bundled apart. In
+    // front of each go the messages that are given up before it. Streams that this takes to their low mark are told of.
     fn gather_data(&mut self, now: Instant) -> Result<Vec<Bytes>, AllocError>
         ensures exact { OnOk result ((data_polled self.old now).0 ≡ self.new) }
         ensures packets { IfOk result
             (λ packets. packets.items ≡ datagrams_of (header_of self.old.handshake) (data_polled self.old now).1) }
         ensures again { OnOk result (AreReadAgain (header_of self.old.handshake) (data_polled self.old now).1) }
-        ensures grows { OnErr result (gives_data self.old.sender now ≡ true) }
+        ensures grows { OnErr result (data_gives self.old now ≡ true) }
     {
+        let mut fallen = Fallen::new(self.alloc);
+        self.expire(&mut fallen, now)?;
         let mut packets = DataPackets::new(
             self.alloc,
             self.handshake.header(),
             self.sender.mtu,
             self.sender.queue.pending_bytes(),
         );
-        self.resend_data(&mut packets)?;
-        let sent = self.sender.send_new(&mut packets, now)?;
-        if sent {
-            let rto = self.rto.get_rto();
-            self.timers.restart_if_stale(Timer::T3RTX, now, rto);
-        }
+        self.resend_marked(&mut fallen, &mut packets)?;
+        self.resend_missing(&mut fallen, &mut packets)?;
+        self.send_new(&mut fallen, &mut packets, now)?;
+        fallen.tell(&mut self.events)?;
         packets.finish()
     }
 
-    fn resend_data(&mut self, packets: &mut DataPackets) -> Result<(), AllocError>
-        requires { packets.old.current ≡ [] }
-        ensures exact { OnOk result (self.new ≡ with_resent self.old) }
-        ensures packets { OnOk result (packets.new ≡ resent_into self.old.sender packets.old) }
-        ensures grows { OnErr result (resends self.old.sender ≡ true) }
+    // Gives up the messages of which something was sent and whose time is over. Where there is one, the retransmission
+    // timer runs.
+    fn expire(&mut self, fallen: &mut Fallen, now: Instant) -> Result<(), AllocError>
+        ensures exact { OnOk result (self.new ≡ late_abandoned self.old now) }
+        ensures falls { OnOk result (AreGathered (late_fell self.old now) fallen.old fallen.new) }
+        ensures grows { OnErr result (expires (uses_forward_tsn self.old) now (both_of self.old) ≡ true) }
     {
+        let forward = self.handshake.use_forward_tsn;
+        let any = self.sender.expire(&mut self.streams, fallen, forward, now)?;
+        self.run_t3(any, now);
+        Ok(())
+    }
+
+    // The retransmission timer runs where this is so.
+    fn run_t3(&mut self, any: bool, now: Instant)
+        ensures { self.new ≡ with_t3 any now self.old }
+    {
+        if any {
+            let rto = self.rto.get_rto();
+            self.timers.restart_if_stale(Timer::T3RTX, now, rto);
+        }
+    }
+
+    // Gives up what would be sent again for a reason and was sent as often as it may be.
+    fn give_up(&mut self, fallen: &mut Fallen, by: Retransmission) -> Result<(), AllocError>
+        ensures exact { OnOk result (self.new ≡ spent_abandoned by self.old) }
+        ensures falls { OnOk result
+            (AreGathered (fell_before (uses_forward_tsn self.old) by (both_of self.old)) fallen.old fallen.new) }
+        ensures grows { OnErr result (gives_up_before (uses_forward_tsn self.old) by self.old.sender ≡ true) }
+    {
+        let forward = self.handshake.use_forward_tsn;
+        self.sender.give_up(&mut self.streams, fallen, forward, by)?;
+        Ok(())
+    }
+
+    fn resend_marked(
+        &mut self,
+        fallen: &mut Fallen,
+        packets: &mut DataPackets,
+    ) -> Result<(), AllocError>
+        requires { packets.old.current ≡ [] }
+        ensures exact { OnOk result (self.new ≡ after_marks self.old) }
+        ensures packets { OnOk result (packets.new ≡ bundled packets.old (marks_sent self.old)) }
+        ensures falls { OnOk result (AreGathered (marks_fell self.old) fallen.old fallen.new) }
+        ensures grows { OnErr result (marks_give self.old ≡ true) }
+    {
+        self.give_up(fallen, Retransmission::Timer)?;
         self.sender.resend_marked(packets)?;
-        packets.close()?;
+        packets.close()
+    }
+
+    fn resend_missing(
+        &mut self,
+        fallen: &mut Fallen,
+        packets: &mut DataPackets,
+    ) -> Result<(), AllocError>
+        requires { packets.old.current ≡ [] }
+        ensures exact { OnOk result (self.new ≡ after_fast self.old) }
+        ensures packets { OnOk result (packets.new ≡ bundled packets.old (fast_sent self.old)) }
+        ensures falls { OnOk result (AreGathered (fast_fell self.old) fallen.old fallen.new) }
+        ensures grows { OnErr result (fast_gives self.old ≡ true) }
+    {
+        self.give_up(fallen, Retransmission::Fast)?;
         let fast = self.sender.resend_missing(packets)?;
-        packets.close()?;
         self.stats.add_fast_retrans(fast);
+        packets.close()
+    }
+
+    fn send_new(
+        &mut self,
+        fallen: &mut Fallen,
+        packets: &mut DataPackets,
+        now: Instant,
+    ) -> Result<(), AllocError>
+        ensures exact { OnOk result (self.new ≡ after_new self.old now) }
+        ensures packets { OnOk result (packets.new ≡ with_all packets.old (new_sent self.old now)) }
+        ensures falls { OnOk result (AreGathered (new_fell self.old now) fallen.old fallen.new) }
+        ensures grows { OnErr result (new_gives self.old now ≡ true) }
+    {
+        let forward = self.handshake.use_forward_tsn;
+        self.sender
+            .drop_expired(&mut self.streams, fallen, forward, now);
+        let sent = self.sender.send_new(packets, now)?;
+        self.run_t3(sent, now);
         Ok(())
     }
 
@@ -115,6 +200,21 @@ impl Association {
             let sack = self.receiver.sack(self.alloc, waiting)?;
             let header = self.handshake.header();
             put_packet(packets, self.alloc, header, Chunk::SelectiveAck(sack))?;
+        }
+        Ok(())
+    }
+
+    // The FORWARD TSN that is due (RFC 3758 section 3.5), in a packet of its own.
+    #[tactic(auto, unfolding(crate::specs::Gather::forward_polled))]
+    fn gather_forward(&mut self, packets: &mut Vec<Bytes>) -> Result<(), AllocError>
+        ensures exact { OnOk result
+            (after_both packets.old.items (forward_polled self.old) ≡ (self.new, packets.new.items)) }
+        ensures again { OnOk result (ForwardIsReadAgain self.old) }
+        ensures grows { OnErr result (gives_forward self.old.sender ≡ true) }
+    {
+        if let Some(forward) = self.sender.forward_tsn(self.alloc)? {
+            let header = self.handshake.header();
+            put_packet(packets, self.alloc, header, Chunk::ForwardTsn(forward))?;
         }
         Ok(())
     }

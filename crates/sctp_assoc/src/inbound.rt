@@ -137,6 +137,8 @@ impl Association {
             Chunk::CookieEcho(cookie) => self.on_cookie_echo(cookie, trigger),
             Chunk::CookieAck => self.on_cookie_ack(trigger),
             Chunk::Heartbeat(heartbeat) => self.on_heartbeat(heartbeat, trigger),
+            Chunk::ForwardTsn(forward) => self.on_forward_tsn(forward, trigger, now),
+            Chunk::IForwardTsn(forward) => self.on_i_forward_tsn(forward, trigger, now),
             Chunk::Abort(_) | Chunk::Error(_) => Ok(Flow::Fault(Error::ErrAbortChunk)),
             _ => Ok(Flow::Fault(Error::ErrChunkTypeUnhandled)),
         }
@@ -165,7 +167,7 @@ impl Association {
     }
 
     // DATA asks to be acknowledged, unless the receive buffer is exhausted.
-    fn ask(&self, trigger: AckTrigger, immediate: bool) -> Flow
+    pub(crate) fn ask(&self, trigger: AckTrigger, immediate: bool) -> Flow
         ensures { result ≡ (if is_exhausted self.now then Flow.Exhausted else
             Flow.Next (asked self.now.receiver trigger immediate)) }
     {
@@ -251,6 +253,7 @@ impl Association {
             return Ok(Flow::Next(trigger));
         }
         self.stats.inc_sacks();
+        let forward = self.handshake.use_forward_tsn;
         let mut fallen = self.streams.watch(self.alloc);
         let outcome = self.sender.on_sack(
             &mut self.timers,
@@ -267,7 +270,8 @@ impl Association {
             SackOutcome::NotInFlight => Ok(Flow::Fault(Error::ErrInflightQueueTsnPop)),
             SackOutcome::NamesTheUnsent => Ok(Flow::Fault(Error::ErrTsnRequestNotExist)),
             SackOutcome::Taken => {
-                fallen.tell(&mut self.events)?;
+                self.sender.ask_for_forward_tsn(forward);
+                fallen.tell_ascending(self.alloc, &mut self.events)?;
                 Ok(Flow::Next(trigger))
             }
         }

@@ -29,7 +29,8 @@
 //!    cannot be read: it is no SCTP packet, or there was no memory for it.
 //! 3. Call `poll` until it answers None. On [`StreamEvent::Readable`] read that stream until `read` answers None.
 //!    From [`Event::Connected`] on streams can be written.
-//! 4. Call `poll_transmit`, and send each of the datagrams that it answers.
+//! 4. Call `poll_transmit`, and send each of the datagrams that it answers. Where it gives messages up, a stream may
+//!    fall to its low mark: the next turn's `poll` tells, or one right behind it.
 //! 5. Sleep until the moment that `poll_timeout` answers, or until a datagram comes.
 //!
 //! A new client begins with step 4, since its INIT waits there. After a write outside of the loop, go on with step 4.
@@ -77,6 +78,7 @@ mod handshake;
 mod inbound;
 mod readers;
 mod shared;
+mod skipping;
 mod stream;
 mod stream_calls;
 mod tokens;

@@ -114,8 +114,8 @@ impl Association {
         )
     }
 
-    /// Whether the peer lists FORWARD TSN among its extensions (RFC 3758, RFC 5061 section 4.2.7). No message is
-    /// skipped so far.
+    /// Whether the peer lists FORWARD TSN among its extensions (RFC 3758, RFC 5061 section 4.2.7). Else no message is
+    /// given up, and a FORWARD TSN that comes is answered by an ERROR.
     pub fn uses_forward_tsn(&self) -> bool
         ensures { result ≡ self.now.handshake.use_forward_tsn }
     {

@@ -189,8 +189,8 @@ impl<'a> Stream<'a> {
         Ok(count)
     }
 
-    /// Closes the write half: from then on a write is refused as `ErrStreamClosed`. What was accepted goes out all the
-    /// same, and the peer isn't told. Nothing changes where it is closed already.
+    /// Closes the write half: from then on a write is refused as `ErrStreamClosed`. What was accepted goes out as it
+    /// would without that, and the peer isn't told. Nothing changes where it is closed already.
     ///
     /// Refused, in this order with nothing changed: `ErrAssociationFailed`, `ErrStreamClosed`.
     pub fn finish(&mut self) -> Result<(), Error>
@@ -209,8 +209,9 @@ impl<'a> Stream<'a> {
 
     /// Sets how messages are sent that are written from now on: in order or not, and how long each is tried (RFC 3758
     /// sections 3.5 and 4.1). `value` is the greatest number of retransmissions for `Rexmit` and the lifetime in ms for
-    /// `Timed`; for `Reliable` it says nothing. So far the kind and its value are kept with each message, and no
-    /// message is given up. Messages of the payload type `Dcep` are ordered and reliable whatever is set.
+    /// `Timed`, which begins at the first `poll_transmit` after the write; for `Reliable` it says nothing. Where the
+    /// peer does not use FORWARD TSN no message is given up. Messages of the payload type `Dcep` are ordered and
+    /// reliable whatever is set.
     ///
     /// Refused, in this order with nothing changed: `ErrAssociationFailed`, `ErrStreamClosed`.
     pub fn set_reliability_params(
@@ -236,8 +237,8 @@ impl<'a> Stream<'a> {
     }
 
     /// Bytes that were accepted on this generation of the stream and are not released. A SACK releases those of the
-    /// DATA that it acknowledges, by its cumulative TSN ack or by a gap ack block. Refused, with nothing changed:
-    /// `ErrAssociationFailed`, `ErrStreamClosed`.
+    /// DATA that it acknowledges, by its cumulative TSN ack or by a gap ack block, and `poll_transmit` those of messages
+    /// that it gives up. Refused, with nothing changed: `ErrAssociationFailed`, `ErrStreamClosed`.
     pub fn buffered_amount(&self) -> Result<usize, Error>
         ensures { result ≡ buffered_of (lent self.now) (id_of self.now) }
     {
@@ -302,9 +303,9 @@ impl<'a> Stream<'a> {
             .set_stream(self.id, Setting::DefaultPayloadType(default_payload_type))
     }
 
-    /// In bytes, at first 0: a SACK that takes the buffered amount from above it to it or below is told as
-    /// `StreamEvent::BufferedAmountLow`, once for all that it releases. Refused: `ErrAssociationFailed`,
-    /// `ErrStreamClosed`.
+    /// In bytes, at first 0: where a SACK, or a poll that gives messages up, takes the buffered amount from above it to
+    /// it or below, that is told as `StreamEvent::BufferedAmountLow`, once for all that it releases. Refused:
+    /// `ErrAssociationFailed`, `ErrStreamClosed`.
     pub fn buffered_amount_low_threshold(&self) -> Result<usize, Error>
         ensures { result ≡ value_of (λ s. s.low_mark) (lent self.now) (id_of self.now) }
     {

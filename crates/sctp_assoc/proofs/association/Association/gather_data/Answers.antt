@@ -1,48 +1,121 @@
-use Rattle.std.proofs.Common.{◌≡◌, ◌∙◌, ap, refl, subst, ℕ}
-use Rattle.sctp_wire_types.specs.declared.packet.CommonHeader.{CommonHeader}
+use Rattle.std.proofs.Common.{◌≡◌, ◌∙◌, ap, sym, subst, ◌++◌, map, true}
 use Rattle.std.specs.Prelude.{IfOk, OnOk}
 use Rattle.std.specs.List.{AllByRecursion}
+use Rattle.std.proofs.lemmas.Result.{on_err_weaker, on_ok_weaker}
+use Rattle.sctp_wire.specs.DataPackets.{IsReadBack, datagrams_of}
+use Rattle.sctp_streams.specs.LowMarks.{AreGathered, low_event}
 use Rattle.sctp_inbound.specs.Handshake.{header_of}
-use Rattle.sctp_outbound.specs.declared.sender.Sender.{Sender}
-use Rattle.sctp_outbound.specs.Sender.{after_resending, sent_new}
-use Rattle.sctp_wire.specs.DataPackets.{DataWritten, IsReadBack, closed, datagrams_of, nothing_written, with_all}
-use Rattle.sctp_assoc.specs.Gather.{AreReadAgain, data_polled, resent_into}
+use Rattle.sctp_outbound.proofs.SenderSteps.{on_err}
+use Rattle.sctp_assoc.specs.Gather.{AreReadAgain, after_fast, after_marks, after_new, data_polled, fast_gives}
+use Rattle.sctp_assoc.specs.Gather.{fast_polled, fell_in_poll, marks_polled, new_gives}
+use Rattle.sctp_assoc.specs.Gather.{new_polled}
 use Rattle.sctp_assoc.specs.Shown.{Shown}
-use Rattle.sctp_assoc.proofs.PacketsReadAgain.{finished_as}
+use Rattle.sctp_assoc.proofs.MemoryTaken.{fast_is_given, last_is_given, low_is_told, new_is_given}
+use Rattle.sctp_assoc.proofs.PacketsReadAgain.{bundled_as, data_left, finished_as}
+use Rattle.sctp_assoc.proofs.FallsInPolls.{all_told, poll_gathers, some_falls}
 use Rattle.sctp_assoc.proofs.association.Association.gather_data.Goals as goal
 
--- what the parts of a poll bundle
-bundled : (a : Shown) (now : ℕ) (first again out : DataWritten) (s : Sender) (header : CommonHeader) (mtu : ℕ)
-    → header ≡ header_of a.handshake → mtu ≡ a.sender.mtu → first ≡ nothing_written header mtu
-    → again ≡ resent_into a.sender first → s ≡ after_resending a.sender → out ≡ with_all again (sent_new s now).1
-    → out ≡ with_all (resent_into a.sender (nothing_written (header_of a.handshake) a.sender.mtu))
-    (sent_new (after_resending a.sender) now).1
-bundled a now first again out s header mtu e f g h i j = rw (j, i, h, g, e, f) refl
+pub returns-in_err-resend_missing-clause-grows : goal.returns-in_err-resend_missing-clause-grows
+returns-in_err-resend_missing-clause-grows c =
+    let marked : c.resend_marked.new.self ≡ marks_polled c.args.self.now c.args.now =
+    c.in_ok-resend_marked.ensures.exact ∙ ap after_marks c.in_ok-expire.ensures.exact in
+    on_err c.from_residual-in_err-resend_missing.result
+    (fast_is_given c.args.self.now c.args.now
+    (subst (λ (b : Shown). fast_gives b ≡ true) marked c.in_err-resend_missing.ensures.grows))
+
+pub returns-in_err-send_new-clause-grows : goal.returns-in_err-send_new-clause-grows
+returns-in_err-send_new-clause-grows c =
+    let again : c.resend_missing.new.self ≡ fast_polled c.args.self.now c.args.now =
+    c.in_ok-resend_missing.ensures.exact
+    ∙ ap after_fast (c.in_ok-resend_marked.ensures.exact ∙ ap after_marks c.in_ok-expire.ensures.exact) in
+    on_err c.from_residual-in_err-send_new.result
+    (new_is_given c.args.self.now c.args.now
+    (subst (λ (b : Shown). new_gives b c.args.now ≡ true) again c.in_err-send_new.ensures.grows))
+
+pub returns-in_err-tell-clause-grows : goal.returns-in_err-tell-clause-grows
+returns-in_err-tell-clause-grows c =
+    let marked = c.in_ok-resend_marked.ensures.exact ∙ ap after_marks c.in_ok-expire.ensures.exact in
+    let gathered : AreGathered (fell_in_poll c.args.self.now c.args.now) c.new-fallen.result c.send_new.new.fallen =
+    poll_gathers c.args.self.now c.expire.new.self c.resend_marked.new.self c.resend_missing.new.self c.args.now
+    c.new-fallen.result c.expire.new.fallen c.resend_marked.new.fallen c.resend_missing.new.fallen
+    c.send_new.new.fallen c.in_ok-expire.ensures.exact marked
+    (c.in_ok-resend_missing.ensures.exact ∙ ap after_fast marked) c.in_ok-expire.ensures.falls
+    c.in_ok-resend_marked.ensures.falls c.in_ok-resend_missing.ensures.falls c.in_ok-send_new.ensures.falls in
+    on_err c.from_residual-in_err-tell.result
+    (low_is_told c.args.self.now c.args.now
+    (some_falls (fell_in_poll c.args.self.now c.args.now) c.new-fallen.result c.send_new.new.fallen c.new-fallen.ensures
+    gathered c.in_err-tell.ensures.grows))
+
+pub returns-clause-exact : goal.returns-clause-exact
+returns-clause-exact c =
+    let sent : c.send_new.new.self ≡ new_polled c.args.self.now c.args.now =
+    c.in_ok-send_new.ensures.exact
+    ∙ ap (λ (b : Shown). after_new b c.args.now) (c.in_ok-resend_missing.ensures.exact
+    ∙ ap after_fast (c.in_ok-resend_marked.ensures.exact ∙ ap after_marks c.in_ok-expire.ensures.exact)) in
+    let marked = c.in_ok-resend_marked.ensures.exact ∙ ap after_marks c.in_ok-expire.ensures.exact in
+    let gathered : AreGathered (fell_in_poll c.args.self.now c.args.now) c.new-fallen.result c.send_new.new.fallen =
+    poll_gathers c.args.self.now c.expire.new.self c.resend_marked.new.self c.resend_missing.new.self c.args.now
+    c.new-fallen.result c.expire.new.fallen c.resend_marked.new.fallen c.resend_missing.new.fallen
+    c.send_new.new.fallen c.in_ok-expire.ensures.exact marked
+    (c.in_ok-resend_missing.ensures.exact ∙ ap after_fast marked) c.in_ok-expire.ensures.falls
+    c.in_ok-resend_marked.ensures.falls c.in_ok-resend_missing.ensures.falls c.in_ok-send_new.ensures.falls in
+    on_ok_weaker c.finish.result
+    (λ again. data_left c.args.self.now c.send_new.new.self c.args.now c.tell.new.events sent
+    (c.in_ok-tell.ensures.told
+    ∙ ap (λ (b : Shown). b.events ++ map low_event c.send_new.new.fallen.ids) c.self-3.view_is
+    ∙ ap (λ ids. c.send_new.new.self.events ++ map low_event ids)
+    (all_told (fell_in_poll c.args.self.now c.args.now) c.new-fallen.result c.send_new.new.fallen c.new-fallen.ensures
+    gathered c.in_ok-tell.ensures.whole))
+    ∙ ap (λ (b : Shown). record b { events = c.tell.new.events }) (sym c.self-3.view_is))
+    c.finish.ensures.again
 
 pub returns-clause-packets : goal.returns-clause-packets
 returns-clause-packets c =
+    let late = c.self-2.view_is ∙ c.in_ok-expire.ensures.exact in
+    let marked = c.in_ok-resend_marked.ensures.exact ∙ ap after_marks c.in_ok-expire.ensures.exact in
+    let again = c.in_ok-resend_missing.ensures.exact ∙ ap after_fast marked in
     let same =
-    bundled c.args.self.now c.args.now c.new-packets.result c.resend_data.new.packets c.send_new.new.out
-    c.self-2.inside.sender c.header.result c.self.inside.sender.mtu
-    (c.header.ensures ∙ ap (λ (a : Shown). header_of a.handshake) c.self.view_is)
-    (ap (λ (a : Shown). a.sender.mtu) c.self.view_is) c.new-packets.ensures c.in_ok-resend_data.ensures.packets
-    (ap (λ (a : Shown). a.sender) (c.self-2.view_is ∙ c.in_ok-resend_data.ensures.exact)) c.in_ok-sent.ensures.chunks in
-    let is = finished_as c.args.self.now c.args.now c.send_new.new.out same in
+    bundled_as c.args.self.now c.args.now c.expire.new.self c.resend_marked.new.self c.resend_missing.new.self
+    c.new-packets.result c.resend_marked.new.packets c.resend_missing.new.packets c.send_new.new.packets
+    c.header.result c.self-2.inside.sender.mtu c.in_ok-expire.ensures.exact marked again
+    (c.header.ensures ∙ ap (λ (a : Shown). header_of a.handshake) late) (ap (λ (a : Shown). a.sender.mtu) late)
+    c.new-packets.ensures c.in_ok-resend_marked.ensures.packets c.in_ok-resend_missing.ensures.packets
+    c.in_ok-send_new.ensures.packets in
+    let is = finished_as c.args.self.now c.args.now c.send_new.new.packets same in
     subst
     (λ h. IfOk c.finish.result (λ packets. packets.items ≡ datagrams_of h (data_polled c.args.self.now c.args.now).1))
     is.0
-    (subst (λ d. IfOk c.finish.result (λ packets. packets.items ≡ datagrams_of c.send_new.new.out.header d)) is.1
+    (subst (λ d. IfOk c.finish.result (λ packets. packets.items ≡ datagrams_of c.send_new.new.packets.header d)) is.1
     c.finish.ensures.packets)
 
 pub returns-clause-again : goal.returns-clause-again
 returns-clause-again c =
+    let late = c.self-2.view_is ∙ c.in_ok-expire.ensures.exact in
+    let marked = c.in_ok-resend_marked.ensures.exact ∙ ap after_marks c.in_ok-expire.ensures.exact in
+    let again = c.in_ok-resend_missing.ensures.exact ∙ ap after_fast marked in
     let same =
-    bundled c.args.self.now c.args.now c.new-packets.result c.resend_data.new.packets c.send_new.new.out
-    c.self-2.inside.sender c.header.result c.self.inside.sender.mtu
-    (c.header.ensures ∙ ap (λ (a : Shown). header_of a.handshake) c.self.view_is)
-    (ap (λ (a : Shown). a.sender.mtu) c.self.view_is) c.new-packets.ensures c.in_ok-resend_data.ensures.packets
-    (ap (λ (a : Shown). a.sender) (c.self-2.view_is ∙ c.in_ok-resend_data.ensures.exact)) c.in_ok-sent.ensures.chunks in
-    let is = finished_as c.args.self.now c.args.now c.send_new.new.out same in
+    bundled_as c.args.self.now c.args.now c.expire.new.self c.resend_marked.new.self c.resend_missing.new.self
+    c.new-packets.result c.resend_marked.new.packets c.resend_missing.new.packets c.send_new.new.packets
+    c.header.result c.self-2.inside.sender.mtu c.in_ok-expire.ensures.exact marked again
+    (c.header.ensures ∙ ap (λ (a : Shown). header_of a.handshake) late) (ap (λ (a : Shown). a.sender.mtu) late)
+    c.new-packets.ensures c.in_ok-resend_marked.ensures.packets c.in_ok-resend_missing.ensures.packets
+    c.in_ok-send_new.ensures.packets in
+    let is = finished_as c.args.self.now c.args.now c.send_new.new.packets same in
     subst (λ h. OnOk c.finish.result (AreReadAgain h (data_polled c.args.self.now c.args.now).1)) is.0
-    (subst (λ d. OnOk c.finish.result (AllByRecursion (IsReadBack c.send_new.new.out.header) d)) is.1
+    (subst (λ d. OnOk c.finish.result (AllByRecursion (IsReadBack c.send_new.new.packets.header) d)) is.1
     c.finish.ensures.again)
+
+pub returns-clause-grows : goal.returns-clause-grows
+returns-clause-grows c =
+    let late = c.self-2.view_is ∙ c.in_ok-expire.ensures.exact in
+    let marked = c.in_ok-resend_marked.ensures.exact ∙ ap after_marks c.in_ok-expire.ensures.exact in
+    let again = c.in_ok-resend_missing.ensures.exact ∙ ap after_fast marked in
+    let same =
+    bundled_as c.args.self.now c.args.now c.expire.new.self c.resend_marked.new.self c.resend_missing.new.self
+    c.new-packets.result c.resend_marked.new.packets c.resend_missing.new.packets c.send_new.new.packets
+    c.header.result c.self-2.inside.sender.mtu c.in_ok-expire.ensures.exact marked again
+    (c.header.ensures ∙ ap (λ (a : Shown). header_of a.handshake) late) (ap (λ (a : Shown). a.sender.mtu) late)
+    c.new-packets.ensures c.in_ok-resend_marked.ensures.packets c.in_ok-resend_missing.ensures.packets
+    c.in_ok-send_new.ensures.packets in
+    on_err_weaker c.finish.result (λ some. last_is_given c.args.self.now c.args.now c.send_new.new.packets same some)
+    c.finish.ensures.grows

@@ -1,26 +1,35 @@
 use Rattle.std.proofs.Common.{◌≡◌, ◌∙◌, ap, length, nat_lt, subst, sym, true}
 use Rattle.sctp_inbound.specs.Handshake.{header_of}
+use Rattle.sctp_outbound.specs.Forward.{gives_forward}
 use Rattle.sctp_outbound.proofs.SenderSteps.{on_err}
 use Rattle.sctp_assoc.specs.Gather.{ack_polled, after_both, data_polled, is_due}
 use Rattle.sctp_assoc.specs.Shown.{Shown}
-use Rattle.sctp_assoc.proofs.MemoryTaken.{ack_is_given, packets_are_given}
-use Rattle.sctp_assoc.proofs.PacketsReadAgain.{exact_of, poll_again}
-use Rattle.sctp_assoc.proofs.PolledData.{data_poll_stays}
+use Rattle.sctp_assoc.proofs.MemoryTaken.{ack_is_given, data_is_given, forward_is_given, packets_are_given}
+use Rattle.sctp_assoc.proofs.PacketsReadAgain.{acked_as, exact_of, poll_again}
+use Rattle.sctp_assoc.proofs.PolledSteps.{data_poll_stays}
 use Rattle.sctp_assoc.proofs.association.Association.gather_established.Goals as goal
 
 pub returns-clause-exact : goal.returns-clause-exact
 returns-clause-exact c =
     exact_of (data_polled c.args.self.now c.args.now) (header_of c.args.self.now.handshake) c.args.packets.now.items
-    c.put_all.new.packets.items c.in_ok-data.data.items c.gather_ack.new.self c.gather_ack.new.packets.items
+    c.put_all.new.packets.items c.in_ok-data.data.items c.gather_ack.new.self c.gather_forward.new.self
+    c.gather_ack.new.packets.items c.gather_forward.new.packets.items
     (ap header_of (data_poll_stays c.args.self.now c.args.now).handshake) c.in_ok-data.ensures.packets
     c.in_ok-put_all.ensures.exact
     (ap (λ (b : Shown). after_both c.put_all.new.packets.items (ack_polled b)) c.in_ok-data.ensures.exact
     ∙ c.in_ok-gather_ack.ensures.exact)
+    c.in_ok-gather_forward.ensures.exact
 
 pub returns-clause-again : goal.returns-clause-again
 returns-clause-again c =
-    poll_again c.args.self.now c.gather_data.new.self c.args.now c.in_ok-data.ensures.exact c.in_ok-data.ensures.again
-    c.in_ok-gather_ack.ensures.again
+    poll_again c.args.self.now c.gather_data.new.self c.gather_ack.new.self c.args.now c.put_all.new.packets.items
+    c.gather_ack.new.packets.items c.in_ok-data.ensures.exact c.in_ok-gather_ack.ensures.exact
+    c.in_ok-data.ensures.again c.in_ok-gather_ack.ensures.again c.in_ok-gather_forward.ensures.again
+
+pub returns-in_err-data-clause-grows : goal.returns-in_err-data-clause-grows
+returns-in_err-data-clause-grows c =
+    on_err c.from_residual.result
+    (data_is_given c.args.self.now c.args.now c.in_err-data.ensures.grows)
 
 pub returns-in_err-put_all-clause-grows : goal.returns-in_err-put_all-clause-grows
 returns-in_err-put_all-clause-grows c =
@@ -34,3 +43,13 @@ returns-in_err-gather_ack-clause-grows c =
     (ack_is_given c.args.self.now c.args.now
     (subst (λ (b : Shown). is_due b.receiver.ack_state ≡ true) (sym c.in_ok-data.ensures.exact)
     c.in_err-gather_ack.ensures.grows))
+
+pub returns-in_err-gather_forward-clause-grows : goal.returns-in_err-gather_forward-clause-grows
+returns-in_err-gather_forward-clause-grows c =
+    on_err c.from_residual-in_err-gather_forward.result
+    (forward_is_given c.args.self.now c.args.now
+    (subst (λ (b : Shown). gives_forward b.sender ≡ true)
+    (sym (acked_as (data_polled c.args.self.now c.args.now).0 c.gather_data.new.self c.gather_ack.new.self
+    c.put_all.new.packets.items c.gather_ack.new.packets.items c.in_ok-data.ensures.exact
+    c.in_ok-gather_ack.ensures.exact))
+    c.in_err-gather_forward.ensures.grows))

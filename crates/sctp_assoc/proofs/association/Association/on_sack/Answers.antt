@@ -1,5 +1,5 @@
 use Rattle.std.proofs.Common.{rules, ◌≡◌, ◌∙◌, ap, sym, true}
-use Rattle.sctp_streams.specs.LowMarks.{IsGathered}
+use Rattle.sctp_streams.specs.LowMarks.{IsGathered, ascending}
 use Rattle.sctp_streams.proofs.LowMarks.{gathered_since}
 use Rattle.sctp_outbound.specs.declared.sender.SackOutcome.TheVariants as outcomes
 use Rattle.sctp_outbound.specs.Sacks.{sack_taken}
@@ -11,8 +11,8 @@ use Rattle.sctp_assoc.specs.Chunks.{counted_sack}
 use Rattle.sctp_assoc.proofs.SacksTell.{some_fell, taken_leaves, taken_takes}
 use Rattle.sctp_assoc.proofs.association.Association.on_sack.Goals as goal
 
-pub returns-in_err-tell-in-Taken-clause-grows : goal.returns-in_err-tell-in-Taken-clause-grows
-returns-in_err-tell-in-Taken-clause-grows c =
+pub returns-in_err-tell_ascending-in-Taken-clause-grows : goal.returns-in_err-tell_ascending-in-Taken-clause-grows
+returns-in_err-tell_ascending-in-Taken-clause-grows c =
     let established : is_established c.args.self.now.state ≡ true = search rules in
     let sacked = c.on_sack-outcome.new in
     let taken : sack_outcome c.args.self.now.sender c.args.cumulative_tsn_ack c.args.blocks.now ≡ outcomes.Taken =
@@ -28,10 +28,10 @@ returns-in_err-tell-in-Taken-clause-grows c =
     on_err c.from_residual.result
     (taken_takes c.args.self.now c.args.cumulative_tsn_ack c.args.blocks.now c.args.window c.args.now sacked.self
     sacked.rto sacked.streams established taken is
-    (some_fell c.args.self.now.streams sacked.streams sacked.fallen gathered c.in_err-tell-in-Taken.ensures.grows))
+    (some_fell c.args.self.now.streams sacked.streams sacked.fallen gathered c.in_err-tell_ascending-in-Taken.ensures.grows))
 
-pub returns-in_ok-tell-in-Taken-clause-exact : goal.returns-in_ok-tell-in-Taken-clause-exact
-returns-in_ok-tell-in-Taken-clause-exact c =
+pub returns-in_ok-tell_ascending-in-Taken-clause-exact : goal.returns-in_ok-tell_ascending-in-Taken-clause-exact
+returns-in_ok-tell_ascending-in-Taken-clause-exact c =
     let established : is_established c.args.self.now.state ≡ true = search rules in
     let sacked = c.on_sack-outcome.new in
     let taken : sack_outcome c.args.self.now.sender c.args.cumulative_tsn_ack c.args.blocks.now ≡ outcomes.Taken =
@@ -46,16 +46,17 @@ returns-in_ok-tell-in-Taken-clause-exact c =
     c.on_sack-outcome.ensures.gathers) in
     rw c.inc_sacks.ensures
     (taken_leaves c.args.self.now c.args.cumulative_tsn_ack c.args.blocks.now c.args.window c.args.now sacked.self
-    sacked.rto sacked.streams established taken is c.args.trigger sacked.timers c.tell.new.events sacked.fallen.ids
+    sacked.rto sacked.streams established taken is c.args.trigger c.ask_for_forward_tsn.new.self sacked.timers
+    c.tell_ascending.new.events (ascending sacked.fallen.ids) (rw (← c.self.view_is) c.ask_for_forward_tsn.ensures)
     (rw (← c.self.view_is) (c.on_sack-outcome.ensures.timer c.in-Taken.is))
-    (rw (← c.self.view_is) c.in_ok-tell-in-Taken.ensures.told)
-    (gathered.whole c.in_ok-tell-in-Taken.ensures.whole)
+    (rw (← c.self.view_is) c.in_ok-tell_ascending-in-Taken.ensures.told)
+    (gathered.whole c.in_ok-tell_ascending-in-Taken.ensures.whole)
     ∙ ap (λ z. (
       record (counted_sack z) {
-        sender = sacked.self;
+        sender = c.ask_for_forward_tsn.new.self;
         estimate = sacked.rto;
         streams = sacked.streams;
-        events = c.tell.new.events;
+        events = c.tell_ascending.new.events;
         timers = sacked.timers;
       },
       flows.Next c.args.trigger,

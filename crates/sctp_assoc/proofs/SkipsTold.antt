@@ -1,0 +1,51 @@
+-- The skips of a FORWARD TSN, one after another: which of them takes memory.
+use Rattle.std.proofs.Common.{◌≡◌, refl, sym, ap, ◌∙◌, subst, ℕ, suc, ◌+◌, ◌<◌, arith, true, false, List, [], ◌∷◌}
+use Rattle.std.proofs.Common.{drop, get_or, length}
+use Rattle.std.proofs.Math.Seq.{drop-cons}
+use Rattle.sctp_wire_types.specs.declared.chunk.IForwardTsnEntry.{IForwardTsnEntry}
+use Rattle.sctp_wire_types.specs.declared.chunk.SkippedStream.{SkippedStream}
+use Rattle.sctp_streams.specs.Streams.{becomes_ready_in}
+use Rattle.sctp_assoc.specs.Shown.{Shown}
+use Rattle.sctp_assoc.specs.Skipping.{skip_of, skips_of, some_is_told, with_skip, with_skips}
+use Rattle.sctp_assoc.proofs.MemoryTaken.{first_skip_takes, later_skip_takes}
+
+one_on : (i : ℕ) → suc i ≡ i + 1
+one_on i = omega arith
+
+skips_from : (xs : List SkippedStream) (i : ℕ) (d : SkippedStream) → i < length xs
+    → drop i xs ≡ get_or xs i d ∷ drop (i + 1) xs
+skips_from xs i d below =
+    drop-cons xs i d below ∙ ap (λ k. get_or xs i d ∷ drop k xs) (one_on i)
+
+module _ (xs : List SkippedStream) (i : ℕ) (d : SkippedStream) (a : Shown) (below : i < length xs) where
+  pub skip_told : becomes_ready_in a.streams (get_or xs i d).stream_identifier (get_or xs i d).stream_sequence_number
+      ≡ true
+      → some_is_told (drop i xs) a ≡ true
+  skip_told told =
+      subst (λ z. some_is_told z a ≡ true) (sym (skips_from xs i d below))
+      (first_skip_takes (drop (i + 1) xs) (get_or xs i d) a told)
+
+  pub skip_more : (b : Shown)
+      → b ≡ with_skip (get_or xs i d).stream_identifier (get_or xs i d).stream_sequence_number a
+      → (with_skips (drop i xs) a ≡ with_skips (drop (i + 1) xs) b)
+      × (some_is_told (drop (i + 1) xs) b ≡ true → some_is_told (drop i xs) a ≡ true)
+  skip_more b is = (
+    ap (λ z. with_skips z a) (skips_from xs i d below) ∙ ap (with_skips (drop (i + 1) xs)) (sym is),
+    λ told. subst (λ z. some_is_told z a ≡ true) (sym (skips_from xs i d below))
+        (later_skip_takes (drop (i + 1) xs) (get_or xs i d) a
+        (subst (λ z. some_is_told (drop (i + 1) xs) z ≡ true) is told)),
+  )
+
+entries_from : (es : List IForwardTsnEntry) (i : ℕ) (d : IForwardTsnEntry) → i < length es
+    → (get_or es i d).unordered ≡ false → skips_of (drop i es) ≡ skip_of (get_or es i d) ∷ skips_of (drop (i + 1) es)
+entries_from es i d below ordered =
+    ap skips_of (drop-cons es i d below ∙ ap (λ k. get_or es i d ∷ drop k es) (one_on i)) ∙ rw ordered refl
+
+pub entry_told : (es : List IForwardTsnEntry) (i : ℕ) (d : IForwardTsnEntry) (a : Shown) → i < length es
+    → (get_or es i d).unordered ≡ false
+    → becomes_ready_in a.streams (skip_of (get_or es i d)).stream_identifier
+    (skip_of (get_or es i d)).stream_sequence_number ≡ true
+    → some_is_told (skips_of (drop i es)) a ≡ true
+entry_told es i d a below ordered told =
+    subst (λ z. some_is_told z a ≡ true) (sym (entries_from es i d below ordered))
+    (first_skip_takes (skips_of (drop (i + 1) es)) (skip_of (get_or es i d)) a told)
