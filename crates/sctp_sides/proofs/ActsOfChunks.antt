@@ -1,16 +1,20 @@
 -- Of which acts chunks, polls and timeouts are made.
 use Rattle.std.proofs.Common.{◌≡◌, refl, sym, ap, ◌∙◌, subst, ◌⊎◌, ⊎_elim, inl, inr, ℕ, zero, suc, ◌<◌, ◌≤◌, ◌+◌, ◌-◌}
 use Rattle.std.proofs.Common.{◌%◌, ◌^◌, arith, Bool, true, false, eqb, ltb, ◌&&◌, not, if◌then◌else◌, List, []}
-use Rattle.std.proofs.Common.{◌∷◌, ◌++◌, length, Option, Some, None, is_some, Result, Ok, Err}
-use Rattle.std.specs.List.{AllByRecursion}
+use Rattle.std.proofs.Common.{◌∷◌, ◌++◌, find, length, nat_lt, Option, Some, None, is_some, Result, Ok, Err}
+use Rattle.std.specs.List.{AllByRecursion, position_or_len}
+use Rattle.std.proofs.lemmas.List.{append_assoc}
 use Rattle.std.proofs.lemmas.Bool.{cond-true, eq-eqb, false≢true, le-leb, le-ltb, lt-ltb}
 use Rattle.sctp_wire_types.specs.declared.chunk.Chunk.{Chunk}
 use Rattle.sctp_wire_types.specs.declared.chunk.Chunk.TheVariants as chunks
 use Rattle.sctp_wire_types.specs.declared.chunk.ChunkPayloadData.{ChunkPayloadData}
+use Rattle.sctp_wire_types.specs.declared.chunk.ChunkForwardTsn.{ChunkForwardTsn}
+use Rattle.sctp_wire_types.specs.declared.chunk.ChunkIForwardTsn.{ChunkIForwardTsn}
 use Rattle.sctp_wire_types.specs.declared.chunk.ChunkInit.{ChunkInit}
 use Rattle.sctp_wire_types.specs.declared.packet.CommonHeader.{CommonHeader}
 use Rattle.sctp_wire_types.specs.declared.chunk.ChunkSelectiveAck.{ChunkSelectiveAck}
 use Rattle.sctp_wire_types.specs.declared.chunk.GapAckBlock.{GapAckBlock}
+use Rattle.sctp_wire_types.specs.declared.chunk.SkippedStream.{SkippedStream}
 use Rattle.sctp_received.specs.Received.{is_named}
 use Rattle.sctp_wire_types.specs.declared.error.Error.{Error}
 use Rattle.sctp_wire_types.specs.declared.ids.PayloadProtocolIdentifier.TheVariants as kinds
@@ -22,40 +26,52 @@ use Rattle.sctp_outbound_queue.specs.declared.message.InFlight.{InFlight}
 use Rattle.sctp_outbound_queue.specs.Waiting.{Waiting}
 use Rattle.sctp_outbound_queue.specs.Outbound.{pieces_waiting}
 use Rattle.sctp_streams.specs.Stream.{StreamView, fresh_stream}
-use Rattle.sctp_streams.specs.Streams.{bytes_waiting, generation_left, refusal_in, stream_at}
+use Rattle.sctp_streams.specs.Streams.{StreamMap, bytes_waiting, generation_left, refusal_in, stream_at}
 use Rattle.sctp_inbound.specs.declared.receiver.AckTrigger.TheVariants as triggers
 use Rattle.sctp_inbound.specs.Handshake.{comes_back}
 use Rattle.sctp_inbound.specs.Receiver.{admits, is_new_to}
 use Rattle.sctp_outbound.specs.declared.sender.SackOutcome.{SackOutcome}
 use Rattle.sctp_outbound.specs.declared.sender.SackOutcome.TheVariants as outcomes
 use Rattle.sctp_outbound.specs.declared.sender.Sender.{Sender}
-use Rattle.sctp_outbound.specs.Sender.{after_resending, both_windows, can_send_next, cumulative_tsn_ack_point_of}
+use Rattle.sctp_outbound.specs.Sender.{both_windows, can_send_next, cumulative_tsn_ack_point_of}
 use Rattle.sctp_outbound.specs.BlockOffsets.{is_in_flight_at, name_unsent}
 use Rattle.sctp_outbound.proofs.BlockOffsets.{names_sets}
-use Rattle.sctp_outbound.specs.Sender.{names_unsent, tsns_up_to, resends_alone, resent_by, sack_outcome, sent_one}
+use Rattle.sctp_outbound.specs.Sender.{names_unsent, tsns_up_to, resends_alone, sack_outcome, sent_one}
 use Rattle.sctp_model.proofs.Lists.{all_join}
 use Rattle.sctp_directions.specs.Acts.{Act, CanAll, History}
 use Rattle.sctp_assoc.specs.Leads.{Binds, parts}
 use Rattle.sctp_fit.specs.Incoming.{tsn_before}
 use Rattle.sctp_assoc.specs.Calls.{is_beginning, is_cookie_wait, is_established}
 use Rattle.sctp_assoc.specs.Chunks.{counted_data, stream_found, with_new_stream}
+use Rattle.sctp_assoc.specs.Gather.{both_of, fast_polled, late_abandoned, late_dropped, marks_polled, spent_abandoned}
+use Rattle.sctp_assoc.specs.Happened.{acts_of_abandoning, acts_of_dropping, acts_of_drops, acts_of_expiry}
+use Rattle.sctp_assoc.specs.Happened.{acts_of_fast_poll, acts_of_forward, acts_of_forwarding, acts_of_giving_all_up}
+use Rattle.sctp_assoc.specs.Happened.{acts_of_giving_up, acts_of_late, acts_of_marks_poll, acts_of_spent, acts_of_tail}
+use Rattle.sctp_assoc.specs.Happened.{acts_of_unsent, forwards_of_poll}
 use Rattle.sctp_assoc.specs.Happened.{acts_of_ack, acts_of_checked, acts_of_chunk, acts_of_data_poll, acts_of_found}
 use Rattle.sctp_assoc.specs.Happened.{acts_of_missing}
 use Rattle.sctp_outbound.specs.Sacks.{reports_of}
-use Rattle.sctp_outbound.specs.Sender.{after_marked, fast_room}
-use Rattle.sctp_outbound_queue.specs.Message.{picks, room_taken}
+use Rattle.sctp_outbound.specs.Sender.{fast_room}
+use Rattle.sctp_outbound.specs.declared.abandonment.Reason.{Reason}
+use Rattle.sctp_outbound.specs.declared.abandonment.Reason.TheVariants as reasons
+use Rattle.sctp_outbound.specs.Abandonment.{abandoned_if, first_dropped, has_late_tail, late_given_up, next_given_up}
+use Rattle.sctp_outbound.specs.Abandonment.{with_started}
+use Rattle.sctp_outbound_queue.specs.Message.{is_expired_unsent, picks, room_taken}
 use Rattle.sctp_outbound_queue.specs.declared.message.Retransmission.{Retransmission}
 use Rattle.sctp_outbound_queue.specs.declared.message.Retransmission.TheVariants as causes
 use Rattle.sctp_assoc.specs.Happened.{acts_of_marks, acts_of_new, acts_of_outcome, acts_of_resending, acts_of_sending}
 use Rattle.sctp_assoc.specs.Happened.{acts_of_stream, acts_unless_refused, first_again, first_sent}
 use Rattle.sctp_assoc.specs.Timeouts.{after_handshake_timers}
-use Rattle.sctp_sides.specs.SideLaws.{DataOpensOrTakes, GivesData, GreetingsMakeThePeerKnown, IsPeerKnown, IsOther}
-use Rattle.sctp_sides.specs.SideLaws.{IsTaking}
+use Rattle.sctp_sides.specs.SideLaws.{DataOpensOrTakes, ForwardsPassOver, GivesNew, GivesUpOrAgain}
+use Rattle.sctp_sides.specs.SideLaws.{GreetingsMakeThePeerKnown, IForwardsPassOver, IsOther, IsPassingOver, IsPeerKnown}
+use Rattle.sctp_sides.specs.SideLaws.{IsTaking, OnlyForwardsAheadPassOver, UnusedForwardsDoNothing}
 use Rattle.sctp_sides.specs.SideLaws.{OtherChunksDoNothing, OtherSacksDoNothing, PollsGiveAndReport, SacksAcknowledge}
 use Rattle.sctp_sides.specs.SideLaws.{TakenSacksAcknowledge, TimeoutsMarkAtMost}
-use Rattle.sctp_assoc.specs.Shown.{Shown}
+use Rattle.sctp_assoc.specs.Shown.{Shown, uses_forward_tsn}
+use Rattle.sctp_assoc.specs.Skipping.{skips_of}
 use Rattle.sctp_assoc.proofs.CallsLeadOn.{chunk_leads}
 use Rattle.sctp_fit.proofs.StreamsThere.{at_made}
+use Rattle.sctp_sides.proofs.ForwardKinds.{acts_are_one_of}
 
 -- DATA
 
@@ -136,7 +152,7 @@ sack_if : (established : Bool) (o : SackOutcome) (n : ℕ) (blocks : List GapAck
 sack_if true o n blocks missing = outcome_acts o n blocks missing
 sack_if false o n blocks missing = inl refl
 
-checked_sack : (r : Result (Unit {0}) Error) (a : Shown) (header : CommonHeader) (k : ChunkSelectiveAck)
+pub checked_sack : (r : Result (Unit {0}) Error) (a : Shown) (header : CommonHeader) (k : ChunkSelectiveAck)
     → (acts_of_checked r a header (chunks.SelectiveAck k) ≡ [])
     ⊎ (acts_of_checked r a header (chunks.SelectiveAck k)
     ≡ Act.Acknowledged (tsns_up_to a.sender k.cumulative_tsn_ack) k.gap_ack_blocks
@@ -303,6 +319,60 @@ greetings_make_the_peer_known a header init = (
   checked_init_ack (checked_chunk (chunks.InitAck init)) a header init,
 )
 
+-- FORWARD TSN
+
+forward_acts : (a : Shown) (tsn : ℕ) (skips : List SkippedStream)
+    → IsPassingOver tsn skips (acts_of_forward a tsn skips)
+forward_acts a tsn skips =
+    acts_are_one_of tsn skips (λ b acts. IsPassingOver tsn skips acts) (λ b e. inl refl) (λ b e f. inl refl)
+    (λ b e f. inr refl) a
+
+checked_forward : (r : Result (Unit {0}) Error) (a : Shown) (header : CommonHeader) (x : ChunkForwardTsn)
+    → IsPassingOver x.new_cumulative_tsn x.streams (acts_of_checked r a header (chunks.ForwardTsn x))
+checked_forward (Err fault) a header x = inl refl
+checked_forward (Ok done) a header x = forward_acts a x.new_cumulative_tsn x.streams
+
+checked_i_forward : (r : Result (Unit {0}) Error) (a : Shown) (header : CommonHeader) (x : ChunkIForwardTsn)
+    → IsPassingOver x.new_cumulative_tsn (skips_of x.entries) (acts_of_checked r a header (chunks.IForwardTsn x))
+checked_i_forward (Err fault) a header x = inl refl
+checked_i_forward (Ok done) a header x = forward_acts a x.new_cumulative_tsn (skips_of x.entries)
+
+pub forwards_pass_over : ForwardsPassOver
+forwards_pass_over a header x = checked_forward (checked_chunk (chunks.ForwardTsn x)) a header x
+
+pub i_forwards_pass_over : IForwardsPassOver
+i_forwards_pass_over a header x = checked_i_forward (checked_chunk (chunks.IForwardTsn x)) a header x
+
+-- one passes over only where it is used, and only what lies ahead
+
+unused_checked : (r : Result (Unit {0}) Error) (a : Shown) (header : CommonHeader) (x : ChunkForwardTsn)
+    → uses_forward_tsn a ≡ false → acts_of_checked r a header (chunks.ForwardTsn x) ≡ []
+unused_checked (Err fault) a header x e = refl
+unused_checked (Ok done) a header x e =
+    acts_are_one_of x.new_cumulative_tsn x.streams (λ b acts. uses_forward_tsn b ≡ false → acts ≡ [])
+    (λ b f g. refl) (λ b f g h. refl) (λ b f g h. absurd (false≢true (sym h ∙ f))) a e
+
+pub unused_forwards_do_nothing : UnusedForwardsDoNothing
+unused_forwards_do_nothing a header x e = unused_checked (checked_chunk (chunks.ForwardTsn x)) a header x e
+
+no_act_is_none : (act : Act) → [] ≡ act ∷ [] → ⊥
+no_act_is_none act e = false≢true (ap (λ (xs : List Act). nat_lt 0 (length xs)) e)
+
+used_from : (uses : Bool) (acts : List Act) (act : Act) → acts ≡ act ∷ [] → (uses ≡ false → acts ≡ []) → uses ≡ true
+used_from true acts act e none = refl
+used_from false acts act e none = absurd (no_act_is_none act (sym (none refl) ∙ e))
+
+pub only_forwards_ahead_pass_over : OnlyForwardsAheadPassOver
+only_forwards_ahead_pass_over a h header x binds e =
+    let leads = chunk_leads header (chunks.ForwardTsn x) a triggers.None 0 h binds in
+    let can = subst (λ zs. CanAll zs (parts a h)) e leads.1.can in
+    record {
+      used =
+          used_from (uses_forward_tsn a) (acts_of_chunk a header (chunks.ForwardTsn x))
+          (Act.PassedOver x.new_cumulative_tsn x.streams) e (unused_forwards_do_nothing a header x);
+      ahead = can.0;
+    }
+
 -- Any other chunk
 
 other_acts : (r : Result (Unit {0}) Error) (a : Shown) (header : CommonHeader) (c : Chunk) → IsOther c
@@ -322,8 +392,8 @@ other_acts (Ok done) a header (chunks.CookieEcho x) other = refl
 other_acts (Ok done) a header chunks.CookieAck other = refl
 other_acts (Ok done) a header chunks.ShutdownComplete other = refl
 other_acts (Ok done) a header (chunks.Reconfig x) other = refl
-other_acts (Ok done) a header (chunks.ForwardTsn x) other = refl
-other_acts (Ok done) a header (chunks.IForwardTsn x) other = refl
+other_acts (Ok done) a header (chunks.ForwardTsn x) other = absurd other
+other_acts (Ok done) a header (chunks.IForwardTsn x) other = absurd other
 other_acts (Ok done) a header (chunks.Other kind flags value) other = refl
 
 pub other_chunks_do_nothing : OtherChunksDoNothing
@@ -331,60 +401,156 @@ other_chunks_do_nothing a header c other = other_acts (checked_chunk c) a header
 
 -- Polls
 
-give_if : (c : Bool) (xs ys : List Act) → AllByRecursion GivesData xs → AllByRecursion GivesData ys
-    → AllByRecursion GivesData (if c then xs else ys)
-give_if true xs ys g h = g
-give_if false xs ys g h = h
+pub give_if : (Is : Act → Type 0) (c : Bool) (xs ys : List Act) → AllByRecursion Is xs → AllByRecursion Is ys
+    → AllByRecursion Is (if c then xs else ys)
+give_if Is true xs ys g h = g
+give_if Is false xs ys g h = h
 
-resending_gives : (by : Retransmission) (index room : ℕ) (ps : List InFlight)
-    → AllByRecursion GivesData (acts_of_resending by index room ps)
-resending_gives by index room [] = tt
-resending_gives by index room (p ∷ ps) =
-    give_if (not (picks by p)) (acts_of_resending by (index + 1) room ps) _ (resending_gives by (index + 1) room ps)
-    (give_if (ltb room (room_taken by p)) []
-    (Act.SentAgain by index ∷ acts_of_resending by (index + 1) (room - room_taken by p) ps) tt
-    (tt, resending_gives by (index + 1) (room - room_taken by p) ps))
+-- Acts that give messages up, or give out DATA again, are all of a kind to which these belong.
+module _ (Is : Act → Type 0) (up : (index : ℕ) → Is (Act.Abandoned index)) (dropped : (k : ℕ) → Is (Act.Dropped k))
+    (again : (by : Retransmission) (index : ℕ) → Is (Act.SentAgain by index)) where
+  -- what is given up
 
-first_again_is_data : (ps : List InFlight) → AllByRecursion GivesData (first_again ps)
-first_again_is_data [] = tt
-first_again_is_data (p ∷ ps) = (tt, tt)
+  abandoning_gives : (o : Option ℕ) → AllByRecursion Is (acts_of_abandoning o)
+  abandoning_gives None = tt
+  abandoning_gives (Some index) = (up index, tt)
 
-first_sent_gives : (ms : List Waiting) (now : ℕ) → AllByRecursion GivesData (first_sent ms now)
+  giving_up_gives : (n : ℕ) (why : Reason) (all : Sender × StreamMap)
+      → AllByRecursion Is (acts_of_giving_up n why all)
+  giving_up_gives zero why all = tt
+  giving_up_gives (suc n) why all =
+      all_join Is (acts_of_abandoning (next_given_up why all.0))
+      (acts_of_giving_up n why (abandoned_if (next_given_up why all.0) all))
+      (abandoning_gives (next_given_up why all.0))
+      (giving_up_gives n why (abandoned_if (next_given_up why all.0) all))
+
+  spent_gives : (by : Retransmission) (a : Shown) → AllByRecursion Is (acts_of_spent by a)
+  spent_gives by a =
+      give_if Is (uses_forward_tsn a) (acts_of_giving_all_up (reasons.Spent by) (both_of a)) []
+      (giving_up_gives (length a.sender.queue.in_flight) (reasons.Spent by) (both_of a)) tt
+
+  dropping_gives : (o : Option Waiting) (index : ℕ) → AllByRecursion Is (acts_of_dropping o index)
+  dropping_gives None index = tt
+  dropping_gives (Some m) index = (dropped index, tt)
+
+  drops_give : (n now : ℕ) (all : Sender × StreamMap) → AllByRecursion Is (acts_of_drops n now all)
+  drops_give zero now all = tt
+  drops_give (suc n) now all =
+      let o = find (is_expired_unsent now) all.0.queue.pending in
+      let index = position_or_len (is_expired_unsent now) all.0.queue.pending in
+      all_join Is (acts_of_dropping o index) (acts_of_drops n now (first_dropped now all))
+      (dropping_gives o index) (drops_give n now (first_dropped now all))
+
+  pub unsent_gives : (a : Shown) (now : ℕ) → AllByRecursion Is (acts_of_unsent a now)
+  unsent_gives a now =
+      give_if Is (uses_forward_tsn a) (acts_of_drops (length a.sender.queue.pending) now (both_of a)) []
+      (drops_give (length a.sender.queue.pending) now (both_of a)) tt
+
+  -- what goes out again
+
+  resending_gives : (by : Retransmission) (index room : ℕ) (ps : List InFlight)
+      → AllByRecursion Is (acts_of_resending by index room ps)
+  resending_gives by index room [] = tt
+  resending_gives by index room (p ∷ ps) =
+      give_if Is (not (picks by p)) (acts_of_resending by (index + 1) room ps) _
+      (resending_gives by (index + 1) room ps)
+      (give_if Is (ltb room (room_taken by p)) []
+      (Act.SentAgain by index ∷ acts_of_resending by (index + 1) (room - room_taken by p) ps) tt
+      (again by index, resending_gives by (index + 1) (room - room_taken by p) ps))
+
+  first_again_gives : (ps : List InFlight) → AllByRecursion Is (first_again ps)
+  first_again_gives [] = tt
+  first_again_gives (p ∷ ps) = (again causes.Timer 0, tt)
+
+  pub marks_give : (a : Shown) → AllByRecursion Is (acts_of_marks_poll a)
+  marks_give a =
+      let s = (spent_abandoned causes.Timer a).sender in
+      all_join Is (acts_of_spent causes.Timer a) (acts_of_marks s) (spent_gives causes.Timer a)
+      (give_if Is (resends_alone s) (first_again s.queue.in_flight)
+      (acts_of_resending causes.Timer 0 (both_windows s) s.queue.in_flight) (first_again_gives s.queue.in_flight)
+      (resending_gives causes.Timer 0 (both_windows s) s.queue.in_flight))
+
+  pub fast_give : (a : Shown) → AllByRecursion Is (acts_of_fast_poll a)
+  fast_give a =
+      let s = (spent_abandoned causes.Fast a).sender in
+      all_join Is (acts_of_spent causes.Fast a) (acts_of_missing s) (spent_gives causes.Fast a)
+      (give_if Is s.is_fast_due (acts_of_resending causes.Fast 0 (fast_room s) s.queue.in_flight) []
+      (resending_gives causes.Fast 0 (fast_room s) s.queue.in_flight) tt)
+
+tail_gives : (now : ℕ) (s : Sender) → AllByRecursion GivesUpOrAgain (acts_of_tail now s)
+tail_gives now s = give_if GivesUpOrAgain (has_late_tail now s) (Act.TailAbandoned ∷ []) [] (tt, tt) tt
+
+late_gives : (a : Shown) (now : ℕ) → AllByRecursion GivesUpOrAgain (acts_of_late a now)
+late_gives a now =
+    let all = both_of a in
+    let b : Sender × StreamMap = (with_started now all.0, all.1) in
+    give_if GivesUpOrAgain (uses_forward_tsn a) (acts_of_expiry now all) [] (
+      tt,
+      all_join GivesUpOrAgain (acts_of_giving_all_up (reasons.Expired now) b)
+          (acts_of_tail now (late_given_up now all).0)
+          (giving_up_gives GivesUpOrAgain (λ i. tt) (λ k. tt) (λ by i. tt) (length b.0.queue.in_flight)
+          (reasons.Expired now) b)
+          (tail_gives now (late_given_up now all).0),
+    )
+    tt
+
+-- what goes out for the first time
+
+first_sent_gives : (ms : List Waiting) (now : ℕ) → AllByRecursion GivesNew (first_sent ms now)
 first_sent_gives [] now = tt
 first_sent_gives (m ∷ ms) now = (tt, tt)
 
-sending_gives : (n : ℕ) (s : Sender) (now : ℕ) → AllByRecursion GivesData (acts_of_sending n s now)
+sending_gives : (n : ℕ) (s : Sender) (now : ℕ) → AllByRecursion GivesNew (acts_of_sending n s now)
 sending_gives zero s now = tt
 sending_gives (suc n) s now =
-    give_if (can_send_next s) (Act.Sent now ∷ acts_of_sending n (sent_one s.queue.pending s now).0 now) []
+    give_if GivesNew (can_send_next s) (Act.Sent now ∷ acts_of_sending n (sent_one s.queue.pending s now).0 now) []
     (tt, sending_gives n (sent_one s.queue.pending s now).0 now) tt
 
-new_gives : (s : Sender) (now : ℕ) → AllByRecursion GivesData (acts_of_new s now)
+pub new_gives : (s : Sender) (now : ℕ) → AllByRecursion GivesNew (acts_of_new s now)
 new_gives s now =
-    give_if (eqb (length s.queue.in_flight) 0 && not (can_send_next s)) (first_sent s.queue.pending now)
+    give_if GivesNew (eqb (length s.queue.in_flight) 0 && not (can_send_next s)) (first_sent s.queue.pending now)
     (acts_of_sending (pieces_waiting s.queue.pending) s now)
     (first_sent_gives s.queue.pending now) (sending_gives (pieces_waiting s.queue.pending) s now)
 
-data_poll_is_data : (a : Shown) (now : ℕ) → AllByRecursion GivesData (acts_of_data_poll a now)
-data_poll_is_data a now =
-    let s = after_marked a.sender in
-    all_join GivesData (acts_of_marks a.sender ++ acts_of_missing s)
-    (acts_of_new (after_resending a.sender) now)
-    (all_join GivesData (acts_of_marks a.sender) (acts_of_missing s)
-    (give_if (resends_alone a.sender) (first_again a.sender.queue.in_flight)
-    (acts_of_resending causes.Timer 0 (both_windows a.sender) a.sender.queue.in_flight)
-    (first_again_is_data a.sender.queue.in_flight)
-    (resending_gives causes.Timer 0 (both_windows a.sender) a.sender.queue.in_flight))
-    (give_if s.is_fast_due (acts_of_resending causes.Fast 0 (fast_room s) s.queue.in_flight) []
-    (resending_gives causes.Fast 0 (fast_room s) s.queue.in_flight) tt))
-    (new_gives (after_resending a.sender) now)
+-- the acts of a poll before new DATA goes out, and those by which it goes out
+abbrev pub old_acts : Shown → ℕ → List Act
+old_acts a now =
+    acts_of_late a now ++ acts_of_marks_poll (late_abandoned a now) ++ acts_of_fast_poll (marks_polled a now)
+    ++ acts_of_unsent (fast_polled a now) now
+
+abbrev pub new_acts : Shown → ℕ → List Act
+new_acts a now = acts_of_new (late_dropped (fast_polled a now) now).sender now
+
+pub old_acts_are_old : (a : Shown) (now : ℕ) → AllByRecursion GivesUpOrAgain (old_acts a now)
+old_acts_are_old a now =
+    let late = acts_of_late a now in
+    let marks = acts_of_marks_poll (late_abandoned a now) in
+    let fast = acts_of_fast_poll (marks_polled a now) in
+    all_join GivesUpOrAgain (late ++ marks ++ fast) (acts_of_unsent (fast_polled a now) now)
+    (all_join GivesUpOrAgain (late ++ marks) fast
+    (all_join GivesUpOrAgain late marks (late_gives a now)
+    (marks_give GivesUpOrAgain (λ i. tt) (λ k. tt) (λ by i. tt) (late_abandoned a now)))
+    (fast_give GivesUpOrAgain (λ i. tt) (λ k. tt) (λ by i. tt) (marks_polled a now)))
+    (unsent_gives GivesUpOrAgain (λ i. tt) (λ k. tt) (λ by i. tt) (fast_polled a now) now)
+
+pub data_poll_acts : (a : Shown) (now : ℕ) → acts_of_data_poll a now ≡ old_acts a now ++ new_acts a now
+data_poll_acts a now =
+    sym (append_assoc
+    (acts_of_late a now ++ acts_of_marks_poll (late_abandoned a now) ++ acts_of_fast_poll (marks_polled a now))
+    (acts_of_unsent (fast_polled a now) now) (new_acts a now))
 
 pub polls_give_and_report : PollsGiveAndReport
-polls_give_and_report a now established = record {
-  given = acts_of_data_poll a now;
-  give = data_poll_is_data a now;
-  are = cond-true (is_established a.state) (acts_of_data_poll a now ++ acts_of_ack a) [] established;
-}
+polls_give_and_report a now established =
+    let forward = acts_of_forwarding (forwards_of_poll a now) in
+    record {
+      old = old_acts a now;
+      old_are = old_acts_are_old a now;
+      new = new_acts a now;
+      new_are = new_gives (late_dropped (fast_polled a now) now).sender now;
+      are =
+          cond-true (is_established a.state) (acts_of_data_poll a now ++ acts_of_ack a ++ forward) [] established
+          ∙ ap (λ (xs : List Act). xs ++ acts_of_ack a ++ forward) (data_poll_acts a now);
+    }
 
 -- Timeouts
 

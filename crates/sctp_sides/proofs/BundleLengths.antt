@@ -1,5 +1,5 @@
 -- A packet of DATA that a poll gives has one chunk, or is no longer than the greatest packet.
-use Rattle.std.proofs.Common.{◌≡◌, refl, sym, ap, ◌∙◌, subst, ◌⊎◌, ⊎_elim, inl, inr, ℕ, ◌≤◌, arith, true, false, List}
+use Rattle.std.proofs.Common.{◌≡◌, refl, sym, subst, ◌⊎◌, ⊎_elim, inl, inr, ℕ, ◌≤◌, arith, true, false, List}
 use Rattle.std.proofs.Common.{[]}
 use Rattle.std.proofs.Common.{◌∷◌, ◌++◌, length}
 use Rattle.std.specs.List.{AllByRecursion}
@@ -12,12 +12,16 @@ use Rattle.sctp_wire.specs.DataPackets.{DataWritten, closed, data_fits, has_room
 use Rattle.sctp_wire.specs.DataPackets.{data_packet}
 use Rattle.sctp_wire.specs.DataPackets.{unless_empty, with_all, with_data}
 use Rattle.sctp_inbound.specs.Handshake.{header_of}
-use Rattle.sctp_outbound.specs.Sender.{after_marked, after_resending, marked_by, missing_by, sent_new}
+use Rattle.sctp_streams.specs.Streams.{StreamMap}
+use Rattle.sctp_outbound.specs.declared.sender.Sender.{Sender}
+use Rattle.sctp_outbound.specs.Abandonment.{abandoned_of, first_dropped, tail_given_up}
 use Rattle.sctp_model.proofs.Lists.{all_both, all_join, all_weaker}
-use Rattle.sctp_assoc.specs.Gather.{data_polled}
-use Rattle.sctp_assoc.specs.Shown.{Shown}
+use Rattle.sctp_assoc.specs.Gather.{both_of, data_polled, fast_polled, fast_sent, late_abandoned, marks_polled}
+use Rattle.sctp_assoc.specs.Gather.{marks_sent, new_sent}
+use Rattle.sctp_assoc.specs.Shown.{Shown, uses_forward_tsn}
 use Rattle.sctp_sides.specs.Laws.{BundlesFitThePacket, IsShortOrAlone}
 use Rattle.sctp_sides.proofs.BundlesFilled.{IsFilled, polled_bundles_are_filled}
+use Rattle.sctp_sides.proofs.GivingUpKeeps.{late_kept}
 
 -- the checksum takes the place of zeros
 spelled_length : (p : Packet) → length (spelling p) ≡ length (unsummed p)
@@ -103,19 +107,48 @@ module _ (header : CommonHeader) (mtu : ℕ) where
   nothing_short : AreShort header mtu (nothing_written header mtu)
   nothing_short = record { header_is = refl; mtu_is = refl; done = tt; current = inl (omega arith) }
 
+-- what is given up leaves the greatest length of a packet
+abbrev HasMtu : ℕ → Sender × StreamMap → Type 0
+HasMtu n x = x.0.mtu ≡ n
+
+abandoned_mtu : (n t : ℕ) (x : Sender × StreamMap) → HasMtu n x → HasMtu n (abandoned_of t x)
+unfolding abandoned_of
+abandoned_mtu n t (s, m) e = e
+
+tail_mtu : (n now : ℕ) (x : Sender × StreamMap) → HasMtu n x → HasMtu n (tail_given_up now x)
+unfolding tail_given_up
+tail_mtu n now (s, m) e = e
+
+dropped_mtu : (n now : ℕ) (x : Sender × StreamMap) → HasMtu n x → HasMtu n (first_dropped now x)
+unfolding first_dropped
+dropped_mtu n now (s, m) e = e
+
+late_mtu : (a : Shown) (now : ℕ) → (late_abandoned a now).sender.mtu ≡ a.sender.mtu
+late_mtu a now =
+    let mtu = a.sender.mtu in
+    late_kept (HasMtu mtu) now (uses_forward_tsn a) (λ used. record {
+      started = λ x e. e;
+      abandoned = abandoned_mtu mtu;
+      tail = tail_mtu mtu now;
+      dropped = dropped_mtu mtu now;
+    }) (both_of a) refl
+
 pub bundles_fit_the_packet : BundlesFitThePacket
 unfolding data_polled
 bundles_fit_the_packet a now =
     let header = header_of a.handshake in
     let mtu = a.sender.mtu in
-    let none = nothing_written header mtu in
-    let marked = closed (with_all none (marked_by a.sender)) in
-    let missing = closed (with_all marked (missing_by (after_marked a.sender))) in
+    let none = nothing_written header (late_abandoned a now).sender.mtu in
+    let marked = closed (with_all none (marks_sent (late_abandoned a now))) in
+    let missing = closed (with_all marked (fast_sent (marks_polled a now))) in
+    let nothing : AreShort header mtu none =
+    subst (λ (n : ℕ). AreShort header mtu (nothing_written header n)) (sym (late_mtu a now)) (nothing_short header mtu)
+    in
     let short =
-    closed_after header mtu missing (sent_new (after_resending a.sender) now).1
-    (closed_after header mtu marked (missing_by (after_marked a.sender))
-    (closed_after header mtu none (marked_by a.sender) (nothing_short header mtu))) in
-    let bundles = (closed (with_all missing (sent_new (after_resending a.sender) now).1)).done in
+    closed_after header mtu missing (new_sent (fast_polled a now) now)
+    (closed_after header mtu marked (fast_sent (marks_polled a now))
+    (closed_after header mtu none (marks_sent (late_abandoned a now)) nothing)) in
+    let bundles = (closed (with_all missing (new_sent (fast_polled a now) now))).done in
     all_weaker (λ (cs : List ChunkPayloadData). IsShort header mtu cs × IsFilled cs) (IsShortOrAlone header mtu) bundles
     (λ cs h. filled_short header mtu cs h)
     (all_both (IsShort header mtu) IsFilled bundles short.done (polled_bundles_are_filled a now))

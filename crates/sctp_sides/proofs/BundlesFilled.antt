@@ -7,9 +7,9 @@ use Rattle.sctp_wire.specs.DataPackets.{DataWritten, closed, data_fits, has_room
 use Rattle.sctp_wire.specs.DataPackets.{with_all}
 use Rattle.sctp_wire.specs.DataPackets.{with_data}
 use Rattle.sctp_inbound.specs.Handshake.{header_of}
-use Rattle.sctp_outbound.specs.Sender.{after_marked, after_resending, marked_by, missing_by, sent_new}
 use Rattle.sctp_model.proofs.Lists.{all_join}
-use Rattle.sctp_assoc.specs.Gather.{data_polled}
+use Rattle.sctp_assoc.specs.Gather.{data_polled, fast_polled, fast_sent, late_abandoned, marks_polled, marks_sent}
+use Rattle.sctp_assoc.specs.Gather.{new_sent}
 use Rattle.sctp_assoc.specs.Shown.{Shown}
 
 abbrev pub IsFilled : List ChunkPayloadData → Type 0
@@ -44,8 +44,8 @@ closed_after w cs filled = closed_filled (with_all w cs) (all_filled w cs filled
 pub polled_bundles_are_filled : (a : Shown) (now : ℕ) → AllByRecursion IsFilled (data_polled a now).1
 unfolding data_polled
 polled_bundles_are_filled a now =
-    let none = nothing_written (header_of a.handshake) a.sender.mtu in
-    let marked = closed (with_all none (marked_by a.sender)) in
-    let missing = closed (with_all marked (missing_by (after_marked a.sender))) in
-    closed_after missing (sent_new (after_resending a.sender) now).1
-    (closed_after marked (missing_by (after_marked a.sender)) (closed_after none (marked_by a.sender) tt))
+    let none = nothing_written (header_of a.handshake) (late_abandoned a now).sender.mtu in
+    let marked = closed (with_all none (marks_sent (late_abandoned a now))) in
+    let missing = closed (with_all marked (fast_sent (marks_polled a now))) in
+    closed_after missing (new_sent (fast_polled a now) now)
+    (closed_after marked (fast_sent (marks_polled a now)) (closed_after none (marks_sent (late_abandoned a now)) tt))

@@ -86,6 +86,10 @@ fault_leaves_kind header chunks.CookieAck a trigger now error f =
     absurd (never _ error (cookie_ack_flow _ a trigger refl) f)
 fault_leaves_kind header (chunks.Heartbeat x) a trigger now error f =
     absurd (never _ error (heartbeat_flow a x trigger) f)
+fault_leaves_kind header (chunks.ForwardTsn x) a trigger now error f =
+    (chunks_lead_on header (chunks.ForwardTsn x) a trigger now).leaves.state
+fault_leaves_kind header (chunks.IForwardTsn x) a trigger now error f =
+    (chunks_lead_on header (chunks.IForwardTsn x) a trigger now).leaves.state
 fault_leaves_kind header c a trigger now error f = refl
 
 fault_leaves_checked : (r : Result (Unit {0}) Error) (header : CommonHeader) (c : Chunk) (a : Shown)
@@ -102,7 +106,7 @@ unfolding on_chunk
 fault_leaves_state header c a trigger now error f =
     fault_leaves_checked (checked_chunk c) header c a trigger now error f
 
--- so does an exhausted receive buffer, of which DATA alone tells
+-- so does an exhausted receive buffer, of which DATA and FORWARD TSN alone tell
 exhaustion_leaves_kind : (header : CommonHeader) (c : Chunk) (a : Shown) (trigger : AckTrigger) (now : ℕ)
     → exhausts_of (dispatched a header c trigger now).1 ≡ true
     → (dispatched a header c trigger now).0.state ≡ a.state
@@ -121,6 +125,10 @@ exhaustion_leaves_kind header chunks.CookieAck a trigger now e =
     absurd (false≢true (sym (cookie_ack_spares _ a trigger refl) ∙ e))
 exhaustion_leaves_kind header (chunks.Heartbeat x) a trigger now e =
     absurd (false≢true (sym (heartbeat_spares a x trigger) ∙ e))
+exhaustion_leaves_kind header (chunks.ForwardTsn x) a trigger now e =
+    (chunks_lead_on header (chunks.ForwardTsn x) a trigger now).leaves.state
+exhaustion_leaves_kind header (chunks.IForwardTsn x) a trigger now e =
+    (chunks_lead_on header (chunks.IForwardTsn x) a trigger now).leaves.state
 exhaustion_leaves_kind header c a trigger now e = refl
 
 exhaustion_leaves_checked : (r : Result (Unit {0}) Error) (header : CommonHeader) (c : Chunk) (a : Shown)

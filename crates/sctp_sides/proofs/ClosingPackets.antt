@@ -2,6 +2,7 @@
 use Rattle.std.proofs.Common.{◌≡◌, refl, sym, ap, ◌∙◌, ℕ, ◌+◌, arith, Bool, true, false, not, ◌&&◌, if◌then◌else◌, List}
 use Rattle.std.proofs.Common.{[], ◌∷◌, ◌++◌, map, Option, Some, None, Result, Ok, Err, is_some}
 use Rattle.std.proofs.lemmas.Bool.{false≢true}
+use Rattle.std.proofs.lemmas.List.{append-nil}
 use Rattle.std.proofs.lemmas.List.Sums.{sum_by-append, sum_by-cons}
 use Rattle.sctp_wire_types.specs.declared.chunk.Chunk.{Chunk}
 use Rattle.sctp_wire_types.specs.declared.chunk.Chunk.TheVariants as chunks
@@ -23,7 +24,7 @@ use Rattle.sctp_streams.specs.declared.event.Event.TheVariants.{DatagramReceived
 use Rattle.sctp_streams.specs.declared.event.Event.TheVariants as events
 use Rattle.sctp_streams.specs.declared.stats.DataChannelStats.{DataChannelStats}
 use Rattle.sctp_streams.specs.Streams.{StreamMap, bytes_waiting, generation_left, is_readable_in, last_stats, pushed_in}
-use Rattle.sctp_streams.specs.Streams.{refusal_in, stream_at}
+use Rattle.sctp_streams.specs.Streams.{becomes_ready_in, refusal_in, stream_at}
 use Rattle.sctp_inbound.specs.declared.receiver.AckTrigger.{AckTrigger}
 use Rattle.sctp_inbound.specs.declared.receiver.AckTrigger.TheVariants as triggers
 use Rattle.sctp_inbound.specs.Greeting.{first_cookie, information_of}
@@ -34,6 +35,7 @@ use Rattle.sctp_outbound.specs.declared.progress.Progress.{Progress}
 use Rattle.sctp_outbound.specs.declared.sender.SackOutcome.{SackOutcome}
 use Rattle.sctp_outbound.specs.declared.sender.SackOutcome.TheVariants as outcomes
 use Rattle.sctp_wire_types.specs.declared.chunk.GapAckBlock.{GapAckBlock}
+use Rattle.sctp_wire_types.specs.declared.chunk.SkippedStream.{SkippedStream}
 use Rattle.sctp_outbound.specs.Sacks.{progress_of, sack_taken}
 use Rattle.sctp_streams.specs.LowMarks.{fallen, low_event}
 use Rattle.sctp_outbound.specs.Sender.{sack_outcome}
@@ -51,7 +53,12 @@ use Rattle.sctp_assoc.specs.Chunks.{with_message}
 use Rattle.sctp_sides.specs.Laws.{FaultsAloneClose, IsClosedIf, faults_or, is_faulted, is_faulted_packet, loss_of}
 use Rattle.sctp_sides.specs.Laws.{losses}
 use Rattle.sctp_assoc.specs.Shown.{Shown}
+use Rattle.sctp_assoc.specs.Control.{queued as with_queued}
+use Rattle.sctp_assoc.specs.Skipping.{acknowledged_at_once, on_forward, readable_told, skips_of}
+use Rattle.sctp_assoc.specs.Skipping.{unrecognized_chunk, with_passed, with_skip, with_skips}
 use Rattle.sctp_assoc.proofs.CallsLeadOn.{asks_keeps}
+use Rattle.sctp_assoc.proofs.PassesOver.{asks_behind_keeps}
+use Rattle.sctp_sides.proofs.ForwardKinds.{forward_is_one_of}
 use Rattle.sctp_assoc.specs.Calls.{after_read}
 use Rattle.sctp_assoc.specs.Closing.{exhausted, is_exhausted}
 use Rattle.sctp_receive_queues.specs.Messages.{ReceivedMessage}
@@ -161,15 +168,19 @@ low_marks_tell [] = refl
 low_marks_tell (id ∷ ids) =
     sum_by-cons loss_of (low_event id) (map low_event ids) ∙ ap (λ (n : ℕ). 0 + n) (low_marks_tell ids)
 
+-- so it is where a poll or a SACK tells of them
+pub low_told_tells : (queued : List Event) (ids : List ℕ) → losses (queued ++ map low_event ids) ≡ losses queued
+low_told_tells queued ids =
+    sum_by-append loss_of queued (map low_event ids)
+    ∙ ap (λ (k : ℕ). losses queued + k) (low_marks_tell ids)
+    ∙ omega arith
+
 acknowledged_goes_on : (a : Shown) (progress : Progress) (now : ℕ) (x : Sender × Estimate × StreamMap)
     → StaysOpen a (with_acknowledged a progress now x)
 acknowledged_goes_on a progress now (s, e, m) = record {
   still_open = λ c. c;
   lost = refl;
-  told =
-      sum_by-append loss_of a.events (map low_event (fallen a.streams m))
-      ∙ ap (λ (n : ℕ). losses a.events + n) (low_marks_tell (fallen a.streams m))
-      ∙ omega arith;
+  told = low_told_tells a.events (fallen a.streams m);
 }
 
 outcome_goes_on : (o : SackOutcome) (b : Shown) (cumulative_tsn_ack : ℕ) (blocks : List GapAckBlock) (window : ℕ)
@@ -192,6 +203,43 @@ sack_goes_on true a cumulative_tsn_ack blocks window trigger now e =
     (sack_outcome a.sender cumulative_tsn_ack blocks) _ cumulative_tsn_ack blocks window trigger now in
     rw e (record { still_open = m.still_open; lost = m.lost; told = m.told })
 sack_goes_on false a cumulative_tsn_ack blocks window trigger now e = rw e (stays a a refl refl refl)
+
+-- FORWARD TSN
+
+readable_tells : (ready : Bool) (queued : List Event) (id : ℕ)
+    → losses (queued ++ readable_told ready id) ≡ losses queued
+readable_tells true queued id = tells queued (events.Stream (Readable id)) refl
+readable_tells false queued id = ap losses (append-nil queued)
+
+skip_goes_on : (id ssn : ℕ) (a : Shown) → StaysOpen a (with_skip id ssn a)
+unfolding with_skip
+skip_goes_on id ssn a = record {
+  still_open = λ c. c;
+  lost = refl;
+  told = readable_tells (becomes_ready_in a.streams id ssn) a.events id;
+}
+
+skips_go_on : (es : List SkippedStream) (a : Shown) → StaysOpen a (with_skips es a)
+skips_go_on [] a = stays a a refl refl refl
+skips_go_on (e ∷ es) a =
+    let b : Shown = with_skip e.stream_identifier e.stream_sequence_number a in
+    goes_on_there a b (with_skips es b) (skip_goes_on e.stream_identifier e.stream_sequence_number a)
+    (skips_go_on es b)
+
+passed_goes_on : (a : Shown) (tsn : ℕ) (es : List SkippedStream) → StaysOpen a (with_passed (with_skips es a) tsn)
+passed_goes_on a tsn es =
+    let b : Shown = with_skips es a in
+    goes_on_there a b (with_passed b tsn) (skips_go_on es a) (stays b (with_passed b tsn) refl refl refl)
+
+forward_goes_on : (a : Shown) (tsn : ℕ) (es : List SkippedStream) (trigger : AckTrigger) (now : ℕ)
+    → StaysOpen a (on_forward a tsn es trigger now).0
+forward_goes_on a tsn es trigger now =
+    forward_is_one_of tsn es (λ b x. StaysOpen b x.0) trigger now
+    (λ b e. stays b (with_queued b unrecognized_chunk) refl refl refl)
+    (λ b e f. stays b (acknowledged_at_once b now) refl refl refl)
+    (λ b e f. subst (λ (z : Shown). StaysOpen b z)
+    (sym (asks_behind_keeps (with_passed (with_skips es b) tsn) trigger)) (passed_goes_on b tsn es))
+    a
 
 -- the handshake
 
@@ -271,8 +319,10 @@ kind_goes_on header (chunks.CookieEcho x) a trigger now = cookie_echo_goes_on _ 
 kind_goes_on header chunks.CookieAck a trigger now = cookie_ack_goes_on _ a trigger refl
 kind_goes_on header chunks.ShutdownComplete a trigger now = stays a a refl refl refl
 kind_goes_on header (chunks.Reconfig x) a trigger now = stays a a refl refl refl
-kind_goes_on header (chunks.ForwardTsn x) a trigger now = stays a a refl refl refl
-kind_goes_on header (chunks.IForwardTsn x) a trigger now = stays a a refl refl refl
+kind_goes_on header (chunks.ForwardTsn x) a trigger now =
+    forward_goes_on a x.new_cumulative_tsn x.streams trigger now
+kind_goes_on header (chunks.IForwardTsn x) a trigger now =
+    forward_goes_on a x.new_cumulative_tsn (skips_of x.entries) trigger now
 kind_goes_on header (chunks.Other kind flags value) a trigger now = stays a a refl refl refl
 
 checked_goes_on : (r : Result (Unit {0}) Error) (header : CommonHeader) (c : Chunk) (a : Shown) (trigger : AckTrigger)

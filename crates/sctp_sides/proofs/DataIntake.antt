@@ -32,10 +32,13 @@ use Rattle.sctp_assoc.specs.Happened.{acts_of_chunk, acts_of_data, acts_of_found
 use Rattle.sctp_sides.specs.Intake.{DataIsTakenIn, IsTakenIn, MayTakeIn, NothingElseIsTakenIn, WasToBeTakenIn, held_by}
 use Rattle.sctp_sides.specs.Intake.{FillsAGap, receive_limit, refusal_of}
 use Rattle.sctp_wire_types.specs.declared.chunk.ChunkSelectiveAck.{ChunkSelectiveAck}
-use Rattle.sctp_sides.specs.SideLaws.{IsAcknowledging, IsPeerKnown}
+use Rattle.sctp_wire_types.specs.declared.chunk.SkippedStream.{SkippedStream}
+use Rattle.sctp_assoc.specs.Skipping.{skips_of}
+use Rattle.sctp_sides.specs.SideLaws.{IsAcknowledging, IsPassingOver, IsPeerKnown}
 use Rattle.sctp_assoc.specs.Shown.{Shown}
 use Rattle.sctp_assoc.proofs.DataCame.{from_new_tsn, new_tsn}
-use Rattle.sctp_sides.proofs.ActsOfChunks.{greetings_make_the_peer_known, other_chunks_do_nothing, sacks_acknowledge}
+use Rattle.sctp_sides.proofs.ActsOfChunks.{forwards_pass_over, greetings_make_the_peer_known, i_forwards_pass_over}
+use Rattle.sctp_sides.proofs.ActsOfChunks.{other_chunks_do_nothing, sacks_acknowledge}
 use Rattle.sctp_sides.proofs.GapsFilled.{came_passed, passed_came}
 use Rattle.sctp_fit.proofs.StreamsThere.{at_made}
 use Rattle.sctp_assoc.specs.Chunks.{asks, with_message}
@@ -437,6 +440,12 @@ sack_no_data acts a h sack index piece m e =
     (λ (n : IsAcknowledging a h sack acts).
     one_act acts (Act.Acknowledged n.count sack.gap_ack_blocks n.missing) index piece refl n.are e) m
 
+passing_is_no_data : (acts : List Act) (tsn : ℕ) (skipped : List SkippedStream) (index : ℕ) (piece : ChunkPayloadData)
+    → IsPassingOver tsn skipped acts → slice_get acts index ≡ Some (Act.Took piece) → ⊥
+passing_is_no_data acts tsn skipped index piece m e =
+    ⊎_elim (λ (n : acts ≡ []). no_acts acts index piece n e) (λ (n : acts ≡ Act.PassedOver tsn skipped ∷ []).
+    one_act acts (Act.PassedOver tsn skipped) index piece refl n e) m
+
 pub nothing_else_is_taken_in : NothingElseIsTakenIn
 nothing_else_is_taken_in a h header (chunks.Data piece) index came binds e =
     let p = passed_data (is_new a piece) a piece came index refl e in
@@ -450,5 +459,11 @@ nothing_else_is_taken_in a h header (chunks.Init init) index came binds e =
 nothing_else_is_taken_in a h header (chunks.InitAck init) index came binds e =
     absurd (peer_known_is_no_data (acts_of_chunk a header (chunks.InitAck init)) init index came
     (greetings_make_the_peer_known a header init).1 e)
+nothing_else_is_taken_in a h header (chunks.ForwardTsn x) index came binds e =
+    absurd (passing_is_no_data (acts_of_chunk a header (chunks.ForwardTsn x)) x.new_cumulative_tsn x.streams index came
+    (forwards_pass_over a header x) e)
+nothing_else_is_taken_in a h header (chunks.IForwardTsn x) index came binds e =
+    absurd (passing_is_no_data (acts_of_chunk a header (chunks.IForwardTsn x)) x.new_cumulative_tsn
+    (skips_of x.entries) index came (i_forwards_pass_over a header x) e)
 nothing_else_is_taken_in a h header chunk index came binds e =
     absurd (no_acts (acts_of_chunk a header chunk) index came (other_chunks_do_nothing a header chunk tt) e)

@@ -1,7 +1,7 @@
 -- Polls leave an association open, and give a SACK that is due, which says what came.
-use Rattle.std.proofs.Common.{◌≡◌, refl, sym, ap, ◌∙◌, ⊎_elim, ℕ, ◌<◌, ◌≤◌, ◌+◌, ◌-◌, arith, Bool, true, false}
+use Rattle.std.proofs.Common.{◌≡◌, refl, sym, ap, ◌∙◌, subst, ⊎_elim, ℕ, ◌<◌, ◌≤◌, ◌+◌, ◌-◌, arith, Bool, true, false}
 use Rattle.std.proofs.Common.{if◌then◌else◌, List, [], ◌∷◌, ◌++◌, ◌*◌, flat_map, length, ◌^◌, Option, Some, None}
-use Rattle.std.proofs.lemmas.Bool.{cases_Bool, cases_lt}
+use Rattle.std.proofs.lemmas.Bool.{and_parts, cases_Bool, cases_lt, cond-true}
 use Rattle.std.proofs.lemmas.List.{append_assoc}
 use Rattle.sctp_wire_types.specs.declared.chunk.ChunkPayloadData.{ChunkPayloadData}
 use Rattle.sctp_wire_types.specs.declared.chunk.Chunk.TheVariants as chunks
@@ -13,64 +13,56 @@ use Rattle.sctp_wire.specs.Packets.{packet_fits}
 use Rattle.sctp_wire.specs.SelectiveAck.{block_bytes}
 use Rattle.sctp_parts.specs.declared.timer.Timer.TheVariants as names
 use Rattle.sctp_parts.specs.Timers.{expiry_of}
+use Rattle.sctp_inbound.specs.declared.handshake.Handshake.{Handshake}
 use Rattle.sctp_inbound.specs.declared.handshake.Offer.{Offer}
 use Rattle.sctp_streams.specs.Streams.{bytes_waiting}
 use Rattle.sctp_inbound.specs.Handshake.{header_of}
 use Rattle.sctp_inbound.specs.Receiver.{sack_of}
 use Rattle.sctp_model.specs.Packets.{mem}
-use Rattle.sctp_outbound.specs.declared.sender.Sender.{Sender}
-use Rattle.sctp_outbound.specs.Sender.{after_resending, resent_by, sent_new}
+use Rattle.sctp_outbound.specs.Forward.{gives_forward}
 use Rattle.sctp_directions.specs.Acts.{History, reach_in, receiving}
 use Rattle.sctp_wire.specs.DataPackets.{datagrams_of}
 use Rattle.sctp_assoc.specs.Leads.{parts}
 use Rattle.sctp_assoc.specs.Calls.{after_ack_delay, after_t3, is_established, retransmits, t3_expired}
 use Rattle.sctp_assoc.specs.Handshake.{after_t1_init, sends_cookie, sends_init, t1_cookie_expired, t1_init_expired}
 use Rattle.sctp_assoc.specs.Timeouts.{after_handshake_timers}
-use Rattle.sctp_sides.specs.Laws.{DueSacksGoOut, PollsDoNotClose, SacksAreSpelled, SacksOfferTheBuffer}
+use Rattle.sctp_sides.specs.Laws.{DoesNotClose, DueForwardsGoOut, DueSacksGoOut, PollsDoNotClose, SacksAreSpelled}
+use Rattle.sctp_sides.specs.Laws.{SacksOfferTheBuffer}
 use Rattle.sctp_sides.specs.Laws.{SacksNameTheLastTsn, SacksSayWhatWasTaken, TellsNothing, TimersDoNotClose}
-use Rattle.sctp_assoc.specs.Gather.{fast_counted}
-use Rattle.sctp_assoc.specs.Gather.{ack_after, ack_polled, control_packets, data_polled, exchange_polled}
-use Rattle.sctp_assoc.specs.Gather.{is_due, packet_bytes, single_chunk_packet, sack_chunk, sack_packet, spelled}
-use Rattle.sctp_assoc.specs.Gather.{with_sent_data}
-use Rattle.sctp_assoc.specs.Gather.{without_control}
+use Rattle.sctp_assoc.specs.Gather.{ack_after, control_packets, data_polled, exchange_polled, forward_after}
+use Rattle.sctp_assoc.specs.Gather.{fell_in_poll, forward_chunk, forward_packet, packet_bytes, polled}
+use Rattle.sctp_assoc.specs.Gather.{sack_chunk, sack_packet, single_chunk_packet, spelled, without_control}
+use Rattle.sctp_assoc.specs.Happened.{acks_given, forwards_of_poll}
 use Rattle.sctp_assoc.specs.Shown.{Shown}
-use Rattle.sctp_assoc.proofs.PolledData.{IsSentBeside, data_poll_stays}
-use Rattle.sctp_assoc.proofs.PollsLeadOn.{ack_said, both_first, both_second}
+use Rattle.sctp_assoc.proofs.PollsLeadOn.{both_first, both_second}
+use Rattle.sctp_sides.proofs.ClosingPackets.{low_told_tells}
+use Rattle.sctp_sides.proofs.GivingUpKeeps.{after_is}
+use Rattle.sctp_sides.proofs.PolledExchange.{rest_gives_these}
+use Rattle.sctp_sides.proofs.Status.{polls_keep_the_status}
 use Rattle.sctp_assoc.proofs.WhatCame.{below_reach, passed_reach, reach_missing}
 use Rattle.sctp_received.specs.Received.{gap_ack_blocks, is_held_at}
 use Rattle.sctp_received.proofs.GapAckBlocks.{named_exactly}
 use Rattle.sctp_fit.proofs.HeldTsns.{blocks_name_what_came}
 use Rattle.sctp_sides.proofs.BlocksWithin.{nothing_named}
-use Rattle.sctp_sides.proofs.WaitingGoesOut.{ack_behind, fits_written, short_enough}
+use Rattle.sctp_sides.proofs.WaitingGoesOut.{fits_written, short_enough}
 
 open_on : (a b c : Shown) → TellsNothing a b → TellsNothing b c → TellsNothing a c
 open_on a b c m n = record { state = n.state ∙ m.state; lost = n.lost ∙ m.lost; events = n.events ∙ m.events }
 
-sent_data_open : (a : Shown) (now : ℕ) (x : Sender × List ChunkPayloadData)
-    → TellsNothing a (with_sent_data (fast_counted a) now x)
-sent_data_open a now (s, pieces) = record { state = refl; lost = refl; events = refl }
-
-data_open : (a : Shown) (now : ℕ) → TellsNothing a (data_polled a now).0
+data_open : (a : Shown) (now : ℕ) → DoesNotClose a (data_polled a now).0
 unfolding data_polled
 data_open a now =
-    sent_data_open a now (sent_new (after_resending a.sender) now)
-
-ack_open : (due : Bool) (b : Shown) → is_due b.receiver.ack_state ≡ due → TellsNothing b (ack_polled b).0
-unfolding ack_polled
-ack_open true b e = rw e (record { state = refl; lost = refl; events = refl })
-ack_open false b e = rw e (record { state = refl; lost = refl; events = refl })
-
-both_open : (a : Shown) (x : Shown × List (List ChunkPayloadData)) → TellsNothing a x.0 → TellsNothing a (ack_after x).0
-both_open a (b, pieces) m =
-    rw (both_first (datagrams_of (header_of b.handshake) pieces) (ack_polled b))
-    (open_on a b (ack_polled b).0 m (ack_open _ b refl))
+    record { state = refl; lost = refl; told = low_told_tells a.events (fell_in_poll a now) }
 
 polls_open_if : (c : Bool) (a : Shown) (now : ℕ)
-    → TellsNothing a (if c then ack_after (data_polled a now) else (a, [])).0
-polls_open_if true a now = both_open a (data_polled a now) (data_open a now)
-polls_open_if false a now = record { state = refl; lost = refl; events = refl }
+    → DoesNotClose a (if c then forward_after (ack_after (data_polled a now)) else (a, [])).0
+polls_open_if true a now =
+    let m = data_open a now in
+    subst (λ (z : Shown). DoesNotClose a z) (sym (after_is (data_polled a now)))
+    (record { state = m.state; lost = m.lost; told = m.told })
+polls_open_if false a now = record { state = refl; lost = refl; told = refl }
 
-exchange_open : (a : Shown) (now : ℕ) → TellsNothing a (exchange_polled a now).0
+exchange_open : (a : Shown) (now : ℕ) → DoesNotClose a (exchange_polled a now).0
 unfolding exchange_polled
 exchange_open a now = polls_open_if (is_established a.state) a now
 
@@ -78,28 +70,54 @@ pub polls_do_not_close : PollsDoNotClose
 polls_do_not_close a now =
     let m = exchange_open (without_control a) now in
     rw (both_first (control_packets a.control) (exchange_polled (without_control a) now))
-    (record { state = m.state; lost = m.lost; events = m.events })
+    (record { state = m.state; lost = m.lost; told = m.told })
 
-exchange_reports : (a : Shown) (now : ℕ) → is_established a.state ≡ true → is_due a.receiver.ack_state ≡ true
-    → (exchange_polled a now).1 ≡ datagrams_of (header_of (data_polled a now).0.handshake) (data_polled a now).1
-    ++ sack_packet a
-unfolding exchange_polled
-exchange_reports a now established due =
-    let stays : IsSentBeside a (data_polled a now).0 = data_poll_stays a now in
-    let given : (ack_polled (data_polled a now).0).1 ≡ sack_packet a =
-    ack_said (data_polled a now).0 ∙ stays.acks ∙ rw due refl in
-    rw established (ack_behind (data_polled a now)
-    ∙ ap (λ (z : List (List ℕ)). datagrams_of (header_of (data_polled a now).0.handshake) (data_polled a now).1 ++ z)
-    given)
+-- what a poll gives: packets of DATA, the acknowledgement where it is due, and FORWARD TSN where it is given
+polled_gives : (a : Shown) (now : ℕ) → is_established a.state ≡ true
+    → (bundles : List (List ChunkPayloadData))
+    × ((polled a now).1 ≡ control_packets a.control ++ (datagrams_of (header_of a.handshake) bundles ++ acks_given a
+    ++ (if forwards_of_poll a now then forward_packet (polled a now).0 else [])))
+polled_gives a now established =
+    let b : Shown = without_control a in
+    let after = both_first (control_packets a.control) (exchange_polled b now) in
+    let bundles = (data_polled b now).1 in (
+      bundles,
+      both_second (control_packets a.control) (exchange_polled b now)
+          ∙ ap (λ (z : List (List ℕ)). control_packets a.control ++ z)
+          (rest_gives_these a now established
+          ∙ ap (λ (z : Shown). datagrams_of (header_of a.handshake) bundles ++ acks_given a
+          ++ (if forwards_of_poll a now then packet_bytes (header_of a.handshake) (forward_chunk z) else []))
+          (sym after)
+          ∙ ap (λ (k : Handshake). datagrams_of (header_of a.handshake) bundles ++ acks_given a
+          ++ (if forwards_of_poll a now then packet_bytes (header_of k) (forward_chunk (polled a now).0) else []))
+          (sym (polls_keep_the_status a now).handshake)),
+    )
 
 pub due_sacks_go_out : DueSacksGoOut
 due_sacks_go_out a now established due =
-    let b : Shown = without_control a in
-    let pieces = datagrams_of (header_of (data_polled b now).0.handshake) (data_polled b now).1 in (
+    let g = polled_gives a now established in
+    let pieces = datagrams_of (header_of a.handshake) g.0 in
+    let forward : List (List ℕ) = if forwards_of_poll a now then forward_packet (polled a now).0 else [] in
+    let given : acks_given a ≡ sack_packet a = rw due refl in (
       control_packets a.control ++ pieces,
-      both_second (control_packets a.control) (exchange_polled b now)
-          ∙ ap (λ (z : List (List ℕ)). control_packets a.control ++ z) (exchange_reports b now established due)
-          ∙ sym (append_assoc (control_packets a.control) pieces (sack_packet a)),
+      g.1
+          ∙ ap (λ (z : List (List ℕ)). control_packets a.control ++ (pieces ++ z ++ forward)) given
+          ∙ ap (λ (z : List (List ℕ)). control_packets a.control ++ z)
+          (append_assoc pieces (sack_packet a) forward)
+          ∙ sym (append_assoc (control_packets a.control) pieces (sack_packet a ++ forward))
+          ∙ sym (append_assoc (control_packets a.control ++ pieces) (sack_packet a) forward),
+    )
+
+pub due_forwards_go_out : DueForwardsGoOut
+due_forwards_go_out a now forwards =
+    let established = (and_parts (is_established a.state) (gives_forward (data_polled a now).0.sender) forwards).0 in
+    let g = polled_gives a now established in
+    let first = datagrams_of (header_of a.handshake) g.0 ++ acks_given a in (
+      control_packets a.control ++ first,
+      g.1
+          ∙ ap (λ (z : List (List ℕ)). control_packets a.control ++ (first ++ z))
+          (cond-true (forwards_of_poll a now) (forward_packet (polled a now).0) [] forwards)
+          ∙ sym (append_assoc (control_packets a.control) first (forward_packet (polled a now).0)),
     )
 
 -- What a SACK says.

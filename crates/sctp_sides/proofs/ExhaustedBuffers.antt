@@ -150,7 +150,7 @@ not_true : (c : Bool) → not c ≡ true → c ≡ false
 not_true true e = absurd (false≢true e)
 not_true false e = refl
 
-exhausted_is_full : (b : Shown) (k : History) → Binds b k → is_exhausted b ≡ true
+pub exhausted_is_full : (b : Shown) (k : History) → Binds b k → is_exhausted b ≡ true
     → IsFullForGood b.receiver.buffer_size (parts b k)
 exhausted_is_full b k binds e =
     let waiting = bytes_waiting b.streams in
@@ -168,7 +168,7 @@ exhausted_is_full b k binds e =
           all_unreadable (live_streams b.streams) (not_true (some_gives_messages b.streams) last.1);
     }
 
-full_is_exhausted : (b : Shown) (k : History) → Binds b k → IsFullForGood b.receiver.buffer_size (parts b k)
+pub full_is_exhausted : (b : Shown) (k : History) → Binds b k → IsFullForGood b.receiver.buffer_size (parts b k)
     → is_exhausted b ≡ true
 full_is_exhausted b k binds f =
     let waiting = bytes_waiting b.streams in

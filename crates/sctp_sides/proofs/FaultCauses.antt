@@ -42,6 +42,9 @@ use Rattle.sctp_sides.proofs.DataIntake.{data_passed, fault_from, fault_of, may_
 use Rattle.sctp_sides.proofs.DataIntake.{exhausts_of}
 use Rattle.sctp_sides.proofs.ExhaustedBuffers.{exhausting_data_leaves_nothing, flow_is, nothing_left_exhausts}
 use Rattle.sctp_sides.specs.Causes.{LeavesNothingToRead}
+use Rattle.sctp_assoc.specs.Skipping.{on_forward, skips_of}
+use Rattle.sctp_sides.proofs.ForwardCauses.{exhausting_forwards_leave_nothing, forward_flow}
+use Rattle.sctp_sides.proofs.ForwardCauses.{passing_to_nothing_exhausts}
 
 -- States by their tests
 
@@ -400,7 +403,7 @@ pub heartbeat_flow : (a : Shown) (heartbeat : ChunkHeartbeat) (trigger : AckTrig
 unfolding on_heartbeat
 heartbeat_flow a heartbeat trigger = refl
 
--- Only DATA tells of an exhausted receive buffer.
+-- Only DATA and FORWARD TSN tell of an exhausted receive buffer.
 
 outcome_spares : (o : SackOutcome) (b : Shown) (cumulative_tsn_ack : ℕ) (blocks : List GapAckBlock) (window : ℕ)
     (trigger : AckTrigger) (now : ℕ)
@@ -460,7 +463,7 @@ pub heartbeat_spares : (a : Shown) (heartbeat : ChunkHeartbeat) (trigger : AckTr
 unfolding on_heartbeat
 heartbeat_spares a heartbeat trigger = refl
 
--- DATA that does leaves nothing to read
+-- DATA and FORWARD TSN that do leave nothing to read
 pub kind_exhausts : (header : CommonHeader) (c : Chunk) (a : Shown) (h : History) (trigger : AckTrigger) (now : ℕ)
     → Binds a h → exhausts_of (dispatched a header c trigger now).1 ≡ true → IsCauseOfItsKind a h header c
 kind_exhausts header (chunks.Data piece) a h trigger now binds e =
@@ -478,6 +481,12 @@ kind_exhausts header chunks.CookieAck a h trigger now binds e =
     absurd (false≢true (sym (cookie_ack_spares _ a trigger refl) ∙ e))
 kind_exhausts header (chunks.Heartbeat x) a h trigger now binds e =
     absurd (false≢true (sym (heartbeat_spares a x trigger) ∙ e))
+kind_exhausts header (chunks.ForwardTsn x) a h trigger now binds e =
+    exhausting_forwards_leave_nothing a h header (chunks.ForwardTsn x) x.new_cumulative_tsn x.streams trigger now refl
+    binds e
+kind_exhausts header (chunks.IForwardTsn x) a h trigger now binds e =
+    exhausting_forwards_leave_nothing a h header (chunks.IForwardTsn x) x.new_cumulative_tsn (skips_of x.entries)
+    trigger now refl binds e
 kind_exhausts header c a h trigger now binds e = tt
 
 nothing_to_read_exhausts : (a : Shown) (h : History) (header : CommonHeader) (piece : ChunkPayloadData)
@@ -504,6 +513,10 @@ kind_cause header chunks.CookieAck a h trigger now error binds e =
     absurd (never _ error (cookie_ack_flow _ a trigger refl) e)
 kind_cause header (chunks.Heartbeat x) a h trigger now error binds e =
     absurd (never _ error (heartbeat_flow a x trigger) e)
+kind_cause header (chunks.ForwardTsn x) a h trigger now error binds e =
+    absurd (never _ error (forward_flow a x.new_cumulative_tsn x.streams trigger now) e)
+kind_cause header (chunks.IForwardTsn x) a h trigger now error binds e =
+    absurd (never _ error (forward_flow a x.new_cumulative_tsn (skips_of x.entries) trigger now) e)
 kind_cause header c a h trigger now error binds e = tt
 
 cause_kind : (header : CommonHeader) (c : Chunk) (a : Shown) (h : History) (trigger : AckTrigger) (now : ℕ) → Binds a h
@@ -522,6 +535,14 @@ cause_kind header (chunks.InitAck x) a h trigger now binds cause = cause_init_ac
 cause_kind header (chunks.CookieEcho x) a h trigger now binds cause = absurd cause
 cause_kind header chunks.CookieAck a h trigger now binds cause = absurd cause
 cause_kind header (chunks.Heartbeat x) a h trigger now binds cause = absurd cause
+cause_kind header (chunks.ForwardTsn x) a h trigger now binds cause =
+    inr (flow_is (on_forward a x.new_cumulative_tsn x.streams trigger now).1
+    (passing_to_nothing_exhausts a h header (chunks.ForwardTsn x) x.new_cumulative_tsn x.streams trigger now refl
+    binds cause))
+cause_kind header (chunks.IForwardTsn x) a h trigger now binds cause =
+    inr (flow_is (on_forward a x.new_cumulative_tsn (skips_of x.entries) trigger now).1
+    (passing_to_nothing_exhausts a h header (chunks.IForwardTsn x) x.new_cumulative_tsn (skips_of x.entries) trigger now
+    refl binds cause))
 cause_kind header (chunks.Abort x) a h trigger now binds cause = inl (errors.ErrAbortChunk, refl)
 cause_kind header (chunks.Error x) a h trigger now binds cause = inl (errors.ErrAbortChunk, refl)
 cause_kind header c a h trigger now binds cause = inl (errors.ErrChunkTypeUnhandled, refl)

@@ -330,7 +330,7 @@ module _ (own peer : ℕ) (t : Stage) (a : Shown) (truthful : IsTruthful own a) 
   kind_greets (Ok done) header (chunks.Abort x) trigger now said one = nothing_greeted
   kind_greets (Ok done) header (chunks.Shutdown x) trigger now said one = absurd said
   kind_greets (Ok done) header chunks.ShutdownAck trigger now said one = absurd said
-  kind_greets (Ok done) header (chunks.Error x) trigger now said one = absurd said
+  kind_greets (Ok done) header (chunks.Error x) trigger now said one = nothing_greeted
   kind_greets (Ok done) header chunks.ShutdownComplete trigger now said one = absurd said
   kind_greets (Ok done) header (chunks.Reconfig x) trigger now said one = absurd said
   kind_greets (Ok done) header (chunks.ForwardTsn x) trigger now said one = absurd said

@@ -114,7 +114,7 @@ carried_tells (Call.Read id) a ends =
     closing_tells (read_closes a id) a (read_from_stream a id).0 (exhausting_reads_alone_close a id)
     (read_is_kept (read_exhausts a id) (is_closed_state a.state) a.lost ends)
 carried_tells Call.Poll a ends = poll_tells a.events a refl
-carried_tells (Call.PollTransmit now) a ends = open_tells a (polled a now).0 (polls_do_not_close a now)
+carried_tells (Call.PollTransmit now) a ends = unclosed_tells a (polled a now).0 (polls_do_not_close a now)
 carried_tells (Call.HandleTimeout now) a ends = open_tells a (after_timeouts a now) (timers_do_not_close a now)
 carried_tells (Call.HandleEvent packet now) a ends =
     closing_tells (closes a packet now) a (after_packet a packet now) (faults_alone_close a packet now)

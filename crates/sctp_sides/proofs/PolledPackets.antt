@@ -22,7 +22,8 @@ use Rattle.sctp_assoc.specs.Happened.{acks_given}
 use Rattle.sctp_assoc.specs.Inbound.{taken_packet}
 use Rattle.sctp_assoc.specs.declared.control.ControlPacket.{ControlPacket}
 use Rattle.sctp_assoc.specs.Gather.{AckIsReadAgain, AreControlReadAgain, AreReadAgain, IsReadAgain, ack_after}
-use Rattle.sctp_assoc.specs.Gather.{after_both, control_packets, data_polled, exchange_polled, is_due}
+use Rattle.sctp_assoc.specs.Gather.{after_both, control_packets, data_polled, exchange_polled, forward_after}
+use Rattle.sctp_assoc.specs.Gather.{forward_chunk, is_due}
 use Rattle.sctp_assoc.specs.Gather.{packet_bytes, single_chunk_packet, sack_chunk, sack_packet, spelled}
 use Rattle.sctp_assoc.specs.Gather.{without_control}
 use Rattle.sctp_sides.specs.SideLaws.{IsGivenBy, IsWaitingToGo, OfEachChunk, PollsOutsideEstablishedGiveWhatWaits}
@@ -87,6 +88,12 @@ ack_says : (due : Bool) (Is : Chunk → Type 0) (a : Shown) → is_due a.receive
 ack_says false Is a e again s = tt
 ack_says true Is a e again s = one_says Is (header_of a.handshake) (sack_chunk a) (again e) (s e)
 
+forward_says : (forwards : Bool) (Is : Chunk → Type 0) (header : CommonHeader) (b : Shown)
+    → (forwards ≡ true → IsReadAgain header (forward_chunk b)) → (forwards ≡ true → Is (forward_chunk b))
+    → AreOf Is (if forwards then packet_bytes header (forward_chunk b) else [])
+forward_says false Is header b again s = tt
+forward_says true Is header b again s = one_says Is header (forward_chunk b) (again refl) (s refl)
+
 -- each of a list stands in it
 each_there : {X : Type 0} (xs : List X) → AllByRecursion (λ (x : X). (k : ℕ) × (slice_get xs k ≡ Some x)) xs
 each_there [] = tt
@@ -106,37 +113,39 @@ waiting_say Is (c ∷ cs) (again, more) (plain, others) (one, rest) =
     (one_says Is c.header c.chunk (again plain) one) (waiting_say Is cs more others rest)
 
 pub polls_say_their_acts : PollsSayTheirActs
-polls_say_their_acts acts a b h packets =
+polls_say_their_acts acts forwards a b h packets =
     λ plain again established binds polls.
-    let header = header_of a.handshake in
-    let exchanged =
-    cond-true (is_established a.state) (datagrams_of (header_of a.handshake) polls.bundles ++ acks_given a) []
-    established in
+    let Is : Chunk → Type 0 = IsGivenBy acts forwards a b h in
+    let Of : List ℕ → Type 0 = λ (bytes : List ℕ). OfEachChunk Is (taken_packet (packet_at bytes)) in
+    let pieces = datagrams_of (header_of a.handshake) polls.bundles in
+    let forward : List (List ℕ) =
+    if forwards then packet_bytes (header_of a.handshake) (forward_chunk b) else [] in
+    let exchanged = cond-true (is_established a.state) (pieces ++ acks_given a ++ forward) [] established in
     let said = polls.said ∙ ap (λ (z : List (List ℕ)). control_packets a.control ++ z) exchanged in
-    let IsData : ChunkPayloadData → Type 0 = λ (c : ChunkPayloadData). IsGivenBy acts a h (chunks.Data c) in
+    let IsData : ChunkPayloadData → Type 0 = λ (c : ChunkPayloadData). Is (chunks.Data c) in
     let given =
     all_weaker (λ (c : ChunkPayloadData). (k : ℕ) × (slice_get (all_data_given acts (parts a h)) k ≡ Some c)) IsData
     (all_data_given acts (parts a h)) (λ c there. inr there) (each_there (all_data_given acts (parts a h))) in
     let carried : AllByRecursion IsData (all_of polls.bundles) =
     subst (AllByRecursion IsData) (sym polls.joined)
     (all_filter IsData data_fits (all_data_given acts (parts a h)) given) in
-    subst (AreOf (IsGivenBy acts a h)) (sym said)
-    (all_join (λ (bytes : List ℕ). OfEachChunk (IsGivenBy acts a h) (taken_packet (packet_at bytes)))
-    (control_packets a.control)
-    (datagrams_of (header_of a.handshake) polls.bundles ++ acks_given a)
-    (waiting_say (IsGivenBy acts a h) a.control again plain
+    subst (AreOf Is) (sym said)
+    (all_join Of (control_packets a.control) (pieces ++ acks_given a ++ forward)
+    (waiting_say Is a.control again plain
     (all_weaker (λ (c : ControlPacket). (k : ℕ) × (slice_get a.control k ≡ Some c))
-    (λ (c : ControlPacket). IsGivenBy acts a h c.chunk) a.control
+    (λ (c : ControlPacket). Is c.chunk) a.control
     (λ c there. inl (there.0, c, there.1, refl)) (each_there a.control)))
-    (all_join (λ (bytes : List ℕ). OfEachChunk (IsGivenBy acts a h) (taken_packet (packet_at bytes)))
-    (datagrams_of (header_of a.handshake) polls.bundles) (acks_given a)
-    (data_says (IsGivenBy acts a h) (header_of a.handshake) polls.bundles (polls.data_again established) carried)
-    (ack_says (is_due a.receiver.ack_state) (IsGivenBy acts a h) a refl (polls.ack_again established)
-    (λ due. inr (due, sacks_say_what_was_taken a h binds)))))
+    (all_join Of (pieces ++ acks_given a) forward
+    (all_join Of pieces (acks_given a)
+    (data_says Is (header_of a.handshake) polls.bundles (polls.data_again established) carried)
+    (ack_says (is_due a.receiver.ack_state) Is a refl (polls.ack_again established)
+    (λ due. inr (due, sacks_say_what_was_taken a h binds))))
+    (forward_says forwards Is (header_of a.handshake) b polls.forward_again (λ due. inr (due, refl)))))
 
 exchange_nothing : (a : Shown) (now : ℕ) → is_established a.state ≡ false → exchange_polled a now ≡ (a, [])
 unfolding exchange_polled
-exchange_nothing a now e = cond-false (is_established a.state) (ack_after (data_polled a now)) (a, []) e
+exchange_nothing a now e =
+    cond-false (is_established a.state) (forward_after (ack_after (data_polled a now))) (a, []) e
 
 pub polls_outside_established_give_what_waits : PollsOutsideEstablishedGiveWhatWaits
 polls_outside_established_give_what_waits a now e =

@@ -1,5 +1,5 @@
 -- The laws of one side, each by its name: what crates that build on this one cite of its proofs.
-pub use Rattle.sctp_assoc.proofs.ActsKeepOffsets.{done_append, given_append}
+pub use Rattle.sctp_assoc.proofs.ActsKeepOffsets.{acts_tied, done_append, given_append}
 pub use Rattle.sctp_sides.proofs.PacketLaws.{chunks_lead_on, established_is_not_closed, exhaustion_closes, faults_close}
 pub use Rattle.sctp_sides.proofs.PacketLaws.{lost_associations_take_nothing, no_packet_changes_nothing, packets_carry}
 pub use Rattle.sctp_sides.proofs.PacketLaws.{packets_end}
@@ -11,11 +11,13 @@ pub use Rattle.sctp_sides.proofs.LiveStreams.{accepted_writes_fit, found_streams
 pub use Rattle.sctp_sides.proofs.LiveStreams.{opened_streams_were_not_live, settings_hold_nothing}
 pub use Rattle.sctp_sides.proofs.LiveStreams.{what_holds_nothing_gives_nothing}
 pub use Rattle.sctp_sides.proofs.HandshakeChunks.{established_sides_talk, the_same_handshake_is_the_same_stage}
-pub use Rattle.sctp_assoc.proofs.PollsLeadOn.{reports_are_silent}
+pub use Rattle.sctp_assoc.proofs.PollsLeadOn.{forwardings_are_silent, reports_are_silent}
 pub use Rattle.sctp_sides.proofs.PolledPackets.{polls_outside_established_give_what_waits, polls_say_their_acts}
 pub use Rattle.sctp_sides.proofs.PolledPackets.{what_waits_goes_out_as_it_is}
 pub use Rattle.sctp_sides.proofs.ActsOfChunks.{data_opens_or_takes, greetings_make_the_peer_known}
-pub use Rattle.sctp_sides.proofs.ActsOfChunks.{other_chunks_do_nothing}
+pub use Rattle.sctp_sides.proofs.ActsOfChunks.{forwards_pass_over, i_forwards_pass_over}
+pub use Rattle.sctp_sides.proofs.ActsOfChunks.{only_forwards_ahead_pass_over, other_chunks_do_nothing}
+pub use Rattle.sctp_sides.proofs.ActsOfChunks.{unused_forwards_do_nothing}
 pub use Rattle.sctp_sides.proofs.ActsOfChunks.{other_sacks_do_nothing, polls_give_and_report, sacks_acknowledge}
 pub use Rattle.sctp_sides.proofs.ActsOfChunks.{taken_sacks_acknowledge, timeouts_mark_at_most}
 pub use Rattle.sctp_sides.proofs.Status.{opened_streams_keep_the_status, polls_keep_the_status, reads_keep_the_status}
@@ -24,3 +26,5 @@ pub use Rattle.sctp_sides.proofs.Status.{settings_keep_the_status}
 pub use Rattle.sctp_sides.proofs.Status.{timers_keep_the_status, told_events_keep_the_status, writes_keep_the_status}
 pub use Rattle.sctp_sides.proofs.ClosingCalls.{accepted_streams_do_not_close, closes_close, settings_do_not_close}
 pub use Rattle.sctp_sides.proofs.HandshakeTruth.{greetings_stay_true}
+pub use Rattle.sctp_sides.proofs.FirstBegunRuns.{created_sides_have_nothing_to_send, joined_sides_have_nothing_to_send}
+pub use Rattle.sctp_sides.proofs.PollsInTime.{nothing_late_goes_out}

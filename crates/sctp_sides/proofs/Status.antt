@@ -27,9 +27,8 @@ use Rattle.sctp_outbound.specs.declared.sender.SackOutcome.{SackOutcome}
 use Rattle.sctp_outbound.specs.declared.sender.SackOutcome.TheVariants as outcomes
 use Rattle.sctp_outbound.specs.declared.sender.Sender.{Sender}
 use Rattle.sctp_wire_types.specs.declared.chunk.GapAckBlock.{GapAckBlock}
-use Rattle.sctp_wire.specs.DataPackets.{datagrams_of}
 use Rattle.sctp_assoc.proofs.ActsKeepOffsets.{blocks_size, size_stays}
-use Rattle.sctp_outbound.specs.Sender.{acknowledged, after_resending, can_send_next, tsns_up_to, resent_by}
+use Rattle.sctp_outbound.specs.Sender.{acknowledged, can_send_next, tsns_up_to}
 use Rattle.sctp_outbound.specs.Sacks.{before_acknowledging}
 use Rattle.sctp_outbound.specs.Sender.{sack_outcome, sent_new, sent_one, sent_within}
 use Rattle.sctp_wire_types.specs.declared.ids.PayloadProtocolIdentifier.{PayloadProtocolIdentifier}
@@ -41,8 +40,16 @@ use Rattle.sctp_assoc.specs.Chunks.{told}
 use Rattle.sctp_assoc.specs.Handshake.{after_t1_init, cookie_queued, echoed, information_returned, init_queued}
 use Rattle.sctp_assoc.specs.Handshake.{on_cookie_ack, on_cookie_echo, on_heartbeat, on_init, on_init_ack, sends_cookie}
 use Rattle.sctp_assoc.specs.Handshake.{sends_init, t1_cookie_expired, t1_init_expired}
-use Rattle.sctp_assoc.specs.Gather.{ack_after, ack_polled, control_packets, data_polled, exchange_polled}
-use Rattle.sctp_assoc.specs.Gather.{fast_counted, is_due, single_chunk_packet, with_sent_data, without_control}
+use Rattle.sctp_assoc.specs.Gather.{ack_polled, control_packets, data_polled, exchange_polled, single_chunk_packet}
+use Rattle.sctp_assoc.specs.Gather.{without_control}
+use Rattle.sctp_assoc.specs.Skipping.{acknowledged_at_once as forward_acknowledged}
+use Rattle.sctp_assoc.specs.Skipping.{on_forward, skips_of, unrecognized_chunk, with_passed, with_skips}
+use Rattle.sctp_wire_types.specs.declared.chunk.SkippedStream.{SkippedStream}
+use Rattle.sctp_directions.specs.Acts.{skipped_each}
+use Rattle.sctp_outbound.specs.Abandonment.{abandoned_of, first_dropped, tail_given_up}
+use Rattle.sctp_assoc.proofs.PassesOver.{asks_behind_keeps, skips_are}
+use Rattle.sctp_sides.proofs.ForwardKinds.{forward_is_one_of}
+use Rattle.sctp_sides.proofs.GivingUpKeeps.{KeptByPolls, after_data, after_is, data_poll_kept}
 use Rattle.sctp_assoc.specs.Timeouts.{after_handshake_timers}
 use Rattle.sctp_sides.specs.SideLaws.{IsSameStatus, KeepsWorking, Leaves, LimitsKeepTheStatus}
 use Rattle.sctp_sides.specs.SideLaws.{OpenedStreamsKeepTheStatus}
@@ -55,7 +62,7 @@ use Rattle.sctp_inbound.specs.Greeting.{first_cookie, information_of, init_of}
 use Rattle.sctp_wire_types.specs.declared.chunk.ChunkInit.{ChunkInit}
 use Rattle.sctp_wire_types.specs.declared.chunk.ChunkHeartbeat.{ChunkHeartbeat}
 use Rattle.sctp_wire.specs.Packets.{packet_is_plain}
-use Rattle.sctp_assoc.specs.Shown.{Shown}
+use Rattle.sctp_assoc.specs.Shown.{Shown, uses_forward_tsn}
 use Rattle.sctp_assoc.proofs.CallsLeadOn.{asks_same}
 use Rattle.sctp_assoc.proofs.PollsLeadOn.{both_first}
 use Rattle.sctp_sides.proofs.HandshakeTruth.{keeps_saying, truthful_silent, truthful_still, truthful_with}
@@ -191,6 +198,46 @@ sack_status true a cumulative_tsn_ack blocks window trigger now e =
     (counted_sack a) cumulative_tsn_ack blocks window trigger now))
 sack_status false a cumulative_tsn_ack blocks window trigger now e = rw e (status_same a)
 
+-- FORWARD TSN
+
+-- one that isn't in use queues an ERROR, which says nothing of the handshake
+refused_status : (a : Shown) → IsSameStatus a (queued a unrecognized_chunk)
+refused_status a = record {
+  failed = refl;
+  state = refl;
+  lost = refl;
+  size = refl;
+  side = refl;
+  handshake = refl;
+  truthful = λ own t.
+      truthful_with own a (queued a unrecognized_chunk)
+      (record { header = header_of a.handshake; chunk = unrecognized_chunk }) t
+      (keeps_saying a (queued a unrecognized_chunk) refl refl) refl tt refl;
+}
+
+skips_status : (es : List SkippedStream) (a : Shown) → IsSameStatus a (with_skips es a)
+skips_status es a =
+    let are = skips_are es a in
+    subst (λ (z : Shown). IsSameStatus a z) (sym are)
+    (status_by a (record a { streams = skipped_each es a.streams; events = (with_skips es a).events })
+    refl refl refl refl refl refl refl)
+
+passed_status : (a : Shown) (tsn : ℕ) (es : List SkippedStream) → IsSameStatus a (with_passed (with_skips es a) tsn)
+passed_status a tsn es =
+    let b : Shown = with_skips es a in
+    status_on a b (with_passed b tsn) (skips_status es a)
+    (status_by b (with_passed b tsn) refl refl refl refl refl refl refl)
+
+forward_status : (a : Shown) (tsn : ℕ) (es : List SkippedStream) (trigger : AckTrigger) (now : ℕ)
+    → IsSameStatus a (on_forward a tsn es trigger now).0
+forward_status a tsn es trigger now =
+    forward_is_one_of tsn es (λ b x. IsSameStatus b x.0) trigger now
+    (λ b e. refused_status b)
+    (λ b e f. status_by b (forward_acknowledged b now) refl refl refl refl refl refl refl)
+    (λ b e f. subst (λ (z : Shown). IsSameStatus b z)
+    (sym (asks_behind_keeps (with_passed (with_skips es b) tsn) trigger)) (passed_status b tsn es))
+    a
+
 -- Any chunk: whether it failed, whether it was lost, and its payload size stay
 
 works_same : (a : Shown) → KeepsWorking a a
@@ -280,8 +327,10 @@ kind_leaves header (chunks.CookieEcho x) a trigger now =
 kind_leaves header chunks.CookieAck a trigger now = cookie_ack_works (is_cookie_echoed a.state) a trigger refl
 kind_leaves header chunks.ShutdownComplete a trigger now = works_same a
 kind_leaves header (chunks.Reconfig x) a trigger now = works_same a
-kind_leaves header (chunks.ForwardTsn x) a trigger now = works_same a
-kind_leaves header (chunks.IForwardTsn x) a trigger now = works_same a
+kind_leaves header (chunks.ForwardTsn x) a trigger now =
+    forward_status a x.new_cumulative_tsn x.streams trigger now
+kind_leaves header (chunks.IForwardTsn x) a trigger now =
+    forward_status a x.new_cumulative_tsn (skips_of x.entries) trigger now
 kind_leaves header (chunks.Other kind flags value) a trigger now = works_same a
 
 same_leaves : (c : Chunk) (a : Shown) → Leaves c a a
@@ -299,8 +348,8 @@ same_leaves (chunks.CookieEcho x) a = works_same a
 same_leaves chunks.CookieAck a = works_same a
 same_leaves chunks.ShutdownComplete a = works_same a
 same_leaves (chunks.Reconfig x) a = works_same a
-same_leaves (chunks.ForwardTsn x) a = works_same a
-same_leaves (chunks.IForwardTsn x) a = works_same a
+same_leaves (chunks.ForwardTsn x) a = status_same a
+same_leaves (chunks.IForwardTsn x) a = status_same a
 same_leaves (chunks.Other kind flags value) a = works_same a
 
 checked_leaves : (r : Result (Unit {0}) Error) (header : CommonHeader) (c : Chunk) (a : Shown) (trigger : AckTrigger)
@@ -341,32 +390,50 @@ sent_new_size s now =
     (sent_within (pieces_waiting s.queue.pending) s now) s.max_payload_size
     (sent_one_size s.queue.pending s now) (sent_within_size (pieces_waiting s.queue.pending) s now)
 
-sent_data_status : (a : Shown) (now : ℕ) (x : Sender × List ChunkPayloadData)
-    → x.0.max_payload_size ≡ a.sender.max_payload_size
-    → IsSameStatus a (with_sent_data (fast_counted a) now x)
-sent_data_status a now (s, pieces) e = status_by a _ refl refl refl e refl refl refl
+-- what a poll sends and gives up are pieces of the same size
+abbrev HasSize : ℕ → Sender × StreamMap → Type 0
+HasSize n x = x.0.max_payload_size ≡ n
+
+abandoned_size : (n t : ℕ) (x : Sender × StreamMap) → HasSize n x → HasSize n (abandoned_of t x)
+unfolding abandoned_of
+abandoned_size n t (s, m) e = e
+
+tail_size : (n now : ℕ) (x : Sender × StreamMap) → HasSize n x → HasSize n (tail_given_up now x)
+unfolding tail_given_up
+tail_size n now (s, m) e = e
+
+dropped_size : (n now : ℕ) (x : Sender × StreamMap) → HasSize n x → HasSize n (first_dropped now x)
+unfolding first_dropped
+dropped_size n now (s, m) e = e
+
+polls_keep_the_size : (n : ℕ) (uses : Bool) (now : ℕ) → KeptByPolls (HasSize n) uses now
+polls_keep_the_size n uses now = record {
+  given_up = λ used. record {
+    started = λ x e. e;
+    abandoned = abandoned_size n;
+    tail = tail_size n now;
+    dropped = dropped_size n now;
+  };
+  marked = λ x e. e;
+  missing = λ x e. e;
+  new = λ x e. sent_new_size x.0 now ∙ e;
+}
 
 data_polled_status : (a : Shown) (now : ℕ) → IsSameStatus a (data_polled a now).0
 unfolding data_polled
 data_polled_status a now =
-    sent_data_status a now (sent_new (after_resending a.sender) now)
-    (sent_new_size (after_resending a.sender) now)
-
-ack_polled_status : (due : Bool) (a : Shown) → is_due a.receiver.ack_state ≡ due → IsSameStatus a (ack_polled a).0
-unfolding ack_polled
-ack_polled_status true a e = rw e (status_by a _ refl refl refl refl refl refl refl)
-ack_polled_status false a e = rw e (status_same a)
-
-ack_after_status : (x : Shown × List (List ChunkPayloadData)) (a : Shown) → IsSameStatus a x.0
-    → IsSameStatus a (ack_after x).0
-ack_after_status (b, pieces) a h =
-    rw (both_first (datagrams_of (header_of b.handshake) pieces) (ack_polled b))
-    (status_on a b _ h (ack_polled_status (is_due b.receiver.ack_state) b refl))
+    let size = a.sender.max_payload_size in
+    status_by a _ refl refl refl (data_poll_kept (HasSize size) now a (polls_keep_the_size size (uses_forward_tsn a) now) refl)
+    refl refl refl
 
 exchanged_if : (established : Bool) (a : Shown) (now : ℕ) → is_established a.state ≡ established
     → IsSameStatus a (exchange_polled a now).0
 unfolding exchange_polled
-exchanged_if true a now e = rw e (ack_after_status (data_polled a now) a (data_polled_status a now))
+exchanged_if true a now e =
+    let b : Shown = (data_polled a now).0 in
+    rw e (subst (λ (z : Shown). IsSameStatus a z) (sym (after_is (data_polled a now)))
+    (status_on a b (after_data b (ack_polled b).0.receiver) (data_polled_status a now)
+    (status_by b (after_data b (ack_polled b).0.receiver) refl refl refl refl refl refl refl)))
 exchanged_if false a now e = rw e (status_same a)
 
 without_status : (a : Shown) → IsSameStatus a (without_control a)

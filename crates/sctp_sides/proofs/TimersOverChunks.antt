@@ -56,6 +56,12 @@ use Rattle.sctp_assoc.specs.Closing.{out_of_resource}
 use Rattle.sctp_assoc.specs.Control.{queued}
 use Rattle.sctp_sides.proofs.TimersRun.{rest_by}
 use Rattle.std.proofs.Common.{subst}
+use Rattle.sctp_wire_types.specs.declared.chunk.SkippedStream.{SkippedStream}
+use Rattle.sctp_directions.specs.Acts.{skipped_each}
+use Rattle.sctp_assoc.specs.Skipping.{acknowledged_at_once, on_forward, skips_of, unrecognized_chunk}
+use Rattle.sctp_assoc.specs.Skipping.{with_passed, with_skips}
+use Rattle.sctp_assoc.proofs.PassesOver.{asks_behind_keeps, skips_are}
+use Rattle.sctp_sides.proofs.ForwardKinds.{forward_is_one_of}
 
 -- DATA leaves all of it
 
@@ -301,6 +307,43 @@ information_ticks : (o : Option (List ℕ)) (a : Shown) → Ticks a → Ticks (i
 information_ticks None a h = h
 information_ticks (Some information) a h = ticks_by a _ (time_by a _ refl refl refl refl refl refl) h
 
+-- FORWARD TSN
+
+skips_tick : (es : List SkippedStream) (a : Shown) → Ticks a → Ticks (with_skips es a)
+skips_tick es a h =
+    ticks_by a (with_skips es a) (subst (λ (z : Shown). IsSameTime a z) (sym (skips_are es a))
+    (time_by a (record a { streams = skipped_each es a.streams; events = (with_skips es a).events })
+    refl refl refl refl refl refl)) h
+
+at_once_ticks : (a : Shown) (now : ℕ) → Ticks a → Ticks (acknowledged_at_once a now)
+at_once_ticks a now h = record {
+  working = h.working;
+  not_lost = h.not_lost;
+  fits = record {
+    flies = h.fits.flies;
+    inits = h.fits.inits;
+    cookies = h.fits.cookies;
+    unsent = h.fits.unsent;
+  };
+  acks = refl;
+}
+
+passed_ticks : (a : Shown) (tsn : ℕ) (es : List SkippedStream) → Ticks a → Ticks (with_passed (with_skips es a) tsn)
+passed_ticks a tsn es h =
+    let b : Shown = with_skips es a in
+    ticks_by b (with_passed b tsn) (time_by b (with_passed b tsn) refl refl refl refl refl refl) (skips_tick es a h)
+
+forward_ticks : (a : Shown) (tsn : ℕ) (es : List SkippedStream) (trigger : AckTrigger) (now : ℕ) → Ticks a
+    → Ticks (on_forward a tsn es trigger now).0
+forward_ticks a tsn es trigger now =
+    forward_is_one_of tsn es (λ b x. Ticks b → Ticks x.0) trigger now
+    (λ b e h. ticks_by b (queued b unrecognized_chunk)
+    (time_by b (queued b unrecognized_chunk) refl refl refl refl refl refl) h)
+    (λ b e f h. at_once_ticks b now h)
+    (λ b e f h. subst (λ (z : Shown). Ticks z)
+    (sym (asks_behind_keeps (with_passed (with_skips es b) tsn) trigger)) (passed_ticks b tsn es h))
+    a
+
 -- Each chunk keeps the timers where they should run, or is a fault.
 module _ (a : Shown) (trigger : AckTrigger) (h : Ticks a) where
   sack_ticks : (established : Bool) (cumulative_tsn_ack : ℕ) (blocks : List GapAckBlock) (window now : ℕ)
@@ -377,8 +420,11 @@ module _ (a : Shown) (trigger : AckTrigger) (h : Ticks a) where
       (cookie_ack_ticks (is_cookie_echoed a.state) refl)
   kind_ticks header chunks.ShutdownComplete now = faulty a h
   kind_ticks header (chunks.Reconfig x) now = faulty a h
-  kind_ticks header (chunks.ForwardTsn x) now = faulty a h
-  kind_ticks header (chunks.IForwardTsn x) now = faulty a h
+  kind_ticks header (chunks.ForwardTsn x) now = ticks_on (on_forward a x.new_cumulative_tsn x.streams trigger now)
+      (forward_ticks a x.new_cumulative_tsn x.streams trigger now h)
+  kind_ticks header (chunks.IForwardTsn x) now =
+      ticks_on (on_forward a x.new_cumulative_tsn (skips_of x.entries) trigger now)
+      (forward_ticks a x.new_cumulative_tsn (skips_of x.entries) trigger now h)
   kind_ticks header (chunks.Other kind flags value) now = faulty a h
 
   checked_ticks : (r : Result (Unit {0}) Error) (header : CommonHeader) (c : Chunk) (now : ℕ)

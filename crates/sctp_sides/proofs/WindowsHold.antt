@@ -1,25 +1,35 @@
 -- New DATA stays within the congestion window, or is alone in flight.
 use Rattle.std.proofs.Common.{◌≡◌, refl, sym, ap, ◌∙◌, subst, ◌⊎◌, ⊎_elim, inl, inr, ℕ, zero, suc, ◌<◌, ◌≤◌, ◌+◌, ◌-◌}
-use Rattle.std.proofs.Common.{◌^◌, arith, min, Bool, true, false, eqb, ◌&&◌, not, if◌then◌else◌, List, [], ◌∷◌, ◌++◌}
-use Rattle.std.proofs.Common.{length, nat_le, slice_get, Some, None}
-use Rattle.std.proofs.lemmas.Bool.{and_parts, cases_Bool, eqb-true, false≢true, leb-true}
+use Rattle.std.proofs.Common.{◌^◌, arith, min, Bool, true, false, eqb, ◌&&◌, ◌||◌, not, if◌then◌else◌, List, [], ◌∷◌, ◌++◌}
+use Rattle.std.proofs.Common.{length, nat_le, slice_get, Some}
+use Rattle.std.specs.List.{AllByRecursion, list_any}
+use Rattle.std.proofs.lemmas.Bool.{and_parts, cases_Bool, eqb-true, false≢true, leb-true, or_left, or_right}
+use Rattle.std.proofs.lemmas.Bool.{true≢false}
 use Rattle.std.proofs.lemmas.List.{length-append}
+use Rattle.std.proofs.lemmas.List.Folds.{list_any-append}
 use Rattle.std.proofs.lemmas.List.Sums.{sum_by_push}
 use Rattle.sctp_wire_types.specs.declared.chunk.ChunkPayloadData.{ChunkPayloadData}
 use Rattle.sctp_outbound_queue.specs.declared.message.InFlight.{InFlight}
 use Rattle.sctp_outbound_queue.specs.Message.{outstanding_bytes, sent_once}
 use Rattle.sctp_outbound_queue.specs.Waiting.{Waiting}
-use Rattle.sctp_outbound_queue.specs.Outbound.{Outbound, outstanding_of, pieces_waiting}
+use Rattle.sctp_outbound_queue.specs.Outbound.{outstanding_of, pieces_waiting}
 use Rattle.sctp_outbound.specs.declared.sender.Sender.{Sender}
-use Rattle.sctp_outbound.specs.Sender.{after_resending, can_send_next, fits_windows, sent_new, sent_one, sent_within}
+use Rattle.sctp_streams.specs.Streams.{StreamMap}
+use Rattle.sctp_outbound.specs.Abandonment.{abandoned_of, first_dropped, tail_given_up}
+use Rattle.sctp_outbound.specs.Forward.{forward_given}
+use Rattle.sctp_outbound.specs.Sender.{can_send_next, fits_windows, sent_new, sent_one, sent_within}
+use Rattle.sctp_directions.specs.Acts.{Act}
 use Rattle.sctp_assoc.specs.Calls.{is_established}
-use Rattle.sctp_assoc.specs.Gather.{ack_after, control_packets, data_polled, exchange_polled, fast_counted}
-use Rattle.sctp_assoc.specs.Gather.{polled, without_control}
-use Rattle.sctp_assoc.specs.Shown.{Shown}
+use Rattle.sctp_assoc.specs.Gather.{control_packets, data_polled, exchange_polled, fast_polled, is_due, late_dropped, polled}
+use Rattle.sctp_assoc.specs.Gather.{without_control}
+use Rattle.sctp_assoc.specs.Happened.{acts_of_ack, acts_of_data_poll, acts_of_forwarding, acts_of_new}
+use Rattle.sctp_assoc.specs.Happened.{acts_of_sending, first_sent, forwards_of_poll}
+use Rattle.sctp_assoc.specs.Shown.{Shown, uses_forward_tsn}
 use Rattle.sctp_assoc.proofs.PollsLeadOn.{both_first}
 use Rattle.sctp_sides.specs.Laws.{NewDataStaysInTheCongestionWindow}
-use Rattle.sctp_sides.proofs.TimersOverPolls.{resending_keeps_as_many}
-use Rattle.sctp_sides.proofs.WrittenIsHeld.{both_sender, sent_data_sender}
+use Rattle.sctp_sides.specs.SideLaws.{GivesUpOrAgain}
+use Rattle.sctp_sides.proofs.ActsOfChunks.{data_poll_acts, new_acts, old_acts, old_acts_are_old}
+use Rattle.sctp_sides.proofs.GivingUpKeeps.{KeptByPolls, drops_poll_kept, exchange_is}
 
 -- Of a sender.
 
@@ -110,48 +120,185 @@ new_if false s now bound e = ⊎_elim
 new_stays : (s : Sender) (now : ℕ) → s.congestion.cwnd < 2 ^ 32 → Stays s (sent_new s now).0
 new_stays s now bound = new_if _ s now bound refl
 
+-- as many pieces more are in flight as acts say
+
+one_counts : (ms : List Waiting) (s : Sender) (now : ℕ) → s.queue.pending ≡ ms → fits_windows s (slice_get ms 0) ≡ true
+    → length (sent_one ms s now).0.queue.in_flight ≡ length s.queue.in_flight + 1
+unfolding sent_one
+one_counts [] s now e fits = absurd (false≢true fits)
+one_counts (m ∷ ms) s now e fits =
+    let more = length-append s.queue.in_flight (sent_once now m ∷ []) in rw e (omega (arith, more))
+
+first_counts : (ms : List Waiting) (s : Sender) (now : ℕ) → s.queue.pending ≡ ms
+    → length (sent_one ms s now).0.queue.in_flight ≡ length s.queue.in_flight + length (first_sent ms now)
+unfolding sent_one
+first_counts [] s now e = omega arith
+first_counts (m ∷ ms) s now e =
+    let more = length-append s.queue.in_flight (sent_once now m ∷ []) in rw e (omega (arith, more))
+
+within_counts : (n : ℕ) (s : Sender) (now : ℕ)
+    → length (sent_within n s now).0.queue.in_flight
+    ≡ length s.queue.in_flight + length (acts_of_sending n s now)
+within_counts zero s now = omega arith
+within_counts (suc n) s now = ⊎_elim
+    (λ (fits : can_send_next s ≡ true).
+    let one = sent_one s.queue.pending s now in
+    let more = one_counts s.queue.pending s now refl fits in
+    let rest = within_counts n one.0 now in
+    rw fits (omega (arith, more, rest)))
+    (λ (full : can_send_next s ≡ false). rw full (omega arith))
+    (cases_Bool (can_send_next s))
+
+new_counts_if : (c : Bool) (s : Sender) (now : ℕ)
+    → length (if c then sent_one s.queue.pending s now else
+    sent_within (pieces_waiting s.queue.pending) s now).0.queue.in_flight
+    ≡ length s.queue.in_flight + length (if c then first_sent s.queue.pending now else
+    acts_of_sending (pieces_waiting s.queue.pending) s now)
+new_counts_if true s now = first_counts s.queue.pending s now refl
+new_counts_if false s now = within_counts (pieces_waiting s.queue.pending) s now
+
+new_counts : (s : Sender) (now : ℕ)
+    → length (sent_new s now).0.queue.in_flight ≡ length s.queue.in_flight + length (acts_of_new s now)
+new_counts s now = new_counts_if (eqb (length s.queue.in_flight) 0 && not (can_send_next s)) s now
+
+new_window : (s : Sender) (now : ℕ) → (sent_new s now).0.congestion.cwnd ≡ s.congestion.cwnd
+new_window s now =
+    window_if (eqb (length s.queue.in_flight) 0 && not (can_send_next s)) (sent_one s.queue.pending s now)
+    (sent_within (pieces_waiting s.queue.pending) s now) s.congestion.cwnd (one_window s.queue.pending s now)
+    (within_window (pieces_waiting s.queue.pending) s now)
+
+-- a first sending leaves what is outstanding within the window, or one piece
+sent_stays : (s : Sender) (now : ℕ) → s.congestion.cwnd < 2 ^ 32 → 0 < length (acts_of_new s now)
+    → IsWithinWindow (sent_new s now).0 ⊎ (length (sent_new s now).0.queue.in_flight ≡ 1)
+sent_stays s now bound some = ⊎_elim
+    (λ (few : length (sent_new s now).0.queue.in_flight ≤ length s.queue.in_flight).
+    let many = new_counts s now in absurd (omega (arith, few, many, some)))
+    (λ (h : IsWithinWindow (sent_new s now).0 ⊎ (length (sent_new s now).0.queue.in_flight ≡ 1)). h)
+    (new_stays s now bound)
+
+-- Which acts are first sendings.
+
+abbrev is_sent : Act → Bool
+is_sent (Act.Sent now) = true
+is_sent act = false
+
+old_is_not_sent : (act : Act) → GivesUpOrAgain act → is_sent act ≡ false
+old_is_not_sent (Act.Sent now) g = absurd g
+old_is_not_sent act g = refl
+
+neither : (a b : Bool) → a ≡ false → b ≡ false → (a || b) ≡ false
+neither a b e f = rw (e, f) refl
+
+none_sent : (acts : List Act) → AllByRecursion GivesUpOrAgain acts → list_any is_sent acts ≡ false
+none_sent [] g = refl
+none_sent (x ∷ xs) (g, gs) = neither (is_sent x) (list_any is_sent xs) (old_is_not_sent x g) (none_sent xs gs)
+
+any_at : (acts : List Act) (index at : ℕ) → slice_get acts index ≡ Some (Act.Sent at) → list_any is_sent acts ≡ true
+any_at [] index at e = absurd cc
+any_at (x ∷ xs) zero at e =
+    let same : x ≡ Act.Sent at = cc in or_left (is_sent x) (list_any is_sent xs) (ap is_sent same)
+any_at (x ∷ xs) (suc index) at e = or_right (is_sent x) (list_any is_sent xs) (any_at xs index at e)
+
+some_there : (acts : List Act) → list_any is_sent acts ≡ true → 0 < length acts
+some_there [] e = absurd (false≢true e)
+some_there (x ∷ xs) e = omega arith
+
+last_if : (due : Bool) (act : Act) → is_sent act ≡ false → list_any is_sent (if due then act ∷ [] else []) ≡ false
+last_if true act e = neither (is_sent act) false e refl
+last_if false act e = refl
+
+second_of : (a b : Bool) → (a || b) ≡ true → a ≡ false → b ≡ true
+second_of true b e f = absurd (true≢false f)
+second_of false b e f = e
+
+first_of : (a b : Bool) → (a || b) ≡ true → b ≡ false → a ≡ true
+first_of true b e f = refl
+first_of false b e f = absurd (false≢true (sym f ∙ e))
+
+-- a first sending among the acts of a poll is one of those by which new DATA goes out
+sent_is_new : (a : Shown) (now : ℕ)
+    → list_any is_sent (acts_of_data_poll a now ++ acts_of_ack a ++ acts_of_forwarding (forwards_of_poll a now)) ≡ true
+    → 0 < length (new_acts a now)
+sent_is_new a now e =
+    let ack = acts_of_ack a in
+    let forward = acts_of_forwarding (forwards_of_poll a now) in
+    let two = sym (list_any-append is_sent (acts_of_data_poll a now ++ ack) forward) ∙ e in
+    let one : list_any is_sent (acts_of_data_poll a now ++ ack) ≡ true =
+    first_of (list_any is_sent (acts_of_data_poll a now ++ ack)) (list_any is_sent forward) two
+    (last_if (forwards_of_poll a now) Act.Forwarded refl) in
+    let none : list_any is_sent (acts_of_data_poll a now) ≡ true =
+    first_of (list_any is_sent (acts_of_data_poll a now)) (list_any is_sent ack)
+    (sym (list_any-append is_sent (acts_of_data_poll a now) ack) ∙ one)
+    (last_if (is_due a.receiver.ack_state) Act.Reported refl) in
+    some_there (new_acts a now)
+    (second_of (list_any is_sent (old_acts a now)) (list_any is_sent (new_acts a now))
+    (sym (list_any-append is_sent (old_acts a now) (new_acts a now))
+    ∙ sym (ap (list_any is_sent) (data_poll_acts a now)) ∙ none)
+    (none_sent (old_acts a now) (old_acts_are_old a now)))
+
 -- Of an association.
 
--- what a poll leaves of the sender: in Established it gives new DATA behind what goes out again
-abbrev sender_polled : Bool → Sender → ℕ → Sender
-sender_polled established s now = if established then (sent_new (after_resending s) now).0 else s
+-- what is given up leaves the congestion window
+abbrev HasWindow : ℕ → Sender × StreamMap → Type 0
+HasWindow n x = x.0.congestion.cwnd ≡ n
 
-law_if : (established : Bool) (s t : Sender) (now : ℕ) → s.congestion.cwnd < 2 ^ 32
-    → t ≡ sender_polled established s now → length s.queue.in_flight < length t.queue.in_flight
-    → IsWithinWindow t ⊎ (length t.queue.in_flight ≡ 1)
-law_if false s t now bound e more =
-    let same = ap (λ (z : Sender). length z.queue.in_flight) e in absurd (omega (arith, same, more))
-law_if true s t now bound e more =
-    let many = resending_keeps_as_many s in
-    ⊎_elim
-    (λ (few : length (sent_new (after_resending s) now).0.queue.in_flight
-    ≤ length (after_resending s).queue.in_flight).
-    let same = ap (λ (z : Sender). length z.queue.in_flight) e in absurd (omega (arith, same, more, many, few)))
-    (λ (h : IsWithinWindow (sent_new (after_resending s) now).0
-    ⊎ (length (sent_new (after_resending s) now).0.queue.in_flight ≡ 1)).
-    subst (λ (z : Sender). IsWithinWindow z ⊎ (length z.queue.in_flight ≡ 1)) (sym e) h)
-    (new_stays (after_resending s) now bound)
+abandoned_window : (n index : ℕ) (x : Sender × StreamMap) → HasWindow n x → HasWindow n (abandoned_of index x)
+unfolding abandoned_of
+abandoned_window n index (s, m) e = e
 
-data_sender : (a : Shown) (now : ℕ) → (data_polled a now).0.sender ≡ (sent_new (after_resending a.sender) now).0
+tail_window : (n now : ℕ) (x : Sender × StreamMap) → HasWindow n x → HasWindow n (tail_given_up now x)
+unfolding tail_given_up
+tail_window n now (s, m) e = e
+
+dropped_window : (n now : ℕ) (x : Sender × StreamMap) → HasWindow n x → HasWindow n (first_dropped now x)
+unfolding first_dropped
+dropped_window n now (s, m) e = e
+
+polls_keep_the_window : (n : ℕ) (uses : Bool) (now : ℕ) → KeptByPolls (HasWindow n) uses now
+polls_keep_the_window n uses now = record {
+  given_up = λ used. record {
+    started = λ x e. e;
+    abandoned = abandoned_window n;
+    tail = tail_window n now;
+    dropped = dropped_window n now;
+  };
+  marked = λ x e. e;
+  missing = λ x e. e;
+  new = λ x e. new_window x.0 now ∙ e;
+}
+
+data_sender : (a : Shown) (now : ℕ)
+    → (data_polled a now).0.sender ≡ (sent_new (late_dropped (fast_polled a now) now).sender now).0
 unfolding data_polled
-data_sender a now = sent_data_sender (fast_counted a) now (sent_new (after_resending a.sender) now)
+data_sender a now = refl
 
-polled_sender_if : (c : Bool) (a : Shown) (now : ℕ)
-    → (if c then ack_after (data_polled a now) else (a, [])).0.sender ≡ sender_polled c a.sender now
-polled_sender_if true a now = both_sender (data_polled a now) ∙ data_sender a now
-polled_sender_if false a now = refl
-
-exchange_sender : (a : Shown) (now : ℕ)
-    → (exchange_polled a now).0.sender ≡ sender_polled (is_established a.state) a.sender now
-unfolding exchange_polled
-exchange_sender a now = polled_sender_if (is_established a.state) a now
-
-polled_sender : (a : Shown) (now : ℕ) → (polled a now).0.sender ≡ sender_polled (is_established a.state) a.sender now
-polled_sender a now =
+polled_sender : (a : Shown) (now : ℕ) → is_established a.state ≡ true
+    → (polled a now).0.sender
+    ≡ forward_given (sent_new (late_dropped (fast_polled a now) now).sender now).0
+polled_sender a now e =
+    let b : Shown = without_control a in
     ap (λ (z : Shown). z.sender)
-    (both_first (control_packets a.control) (exchange_polled (without_control a) now))
-    ∙ exchange_sender (without_control a) now
+    (both_first (control_packets a.control) (exchange_polled b now) ∙ exchange_is b now e)
+    ∙ ap (λ (z : Sender). forward_given z) (data_sender b now)
+
+window_in : (established : Bool) (a : Shown) (now index at : ℕ) → is_established a.state ≡ established
+    → a.sender.congestion.cwnd < 2 ^ 32
+    → slice_get (if established then
+    acts_of_data_poll a now ++ acts_of_ack a ++ acts_of_forwarding (forwards_of_poll a now) else []) index
+    ≡ Some (Act.Sent at)
+    → IsWithinWindow (polled a now).0.sender ⊎ (length (polled a now).0.sender.queue.in_flight ≡ 1)
+window_in false a now index at e bound sent = absurd cc
+window_in true a now index at e bound sent =
+    let d : Sender = (late_dropped (fast_polled a now) now).sender in
+    let same : d.congestion.cwnd ≡ a.sender.congestion.cwnd =
+    drops_poll_kept (HasWindow a.sender.congestion.cwnd) now a
+    (polls_keep_the_window a.sender.congestion.cwnd (uses_forward_tsn a) now) refl in
+    let some =
+    sent_is_new a now (any_at
+    (acts_of_data_poll a now ++ acts_of_ack a ++ acts_of_forwarding (forwards_of_poll a now)) index at sent) in
+    subst (λ (z : Sender). IsWithinWindow z ⊎ (length z.queue.in_flight ≡ 1)) (sym (polled_sender a now e))
+    (sent_stays d now (omega (arith, bound, same)) some)
 
 pub new_data_stays_in_the_congestion_window : NewDataStaysInTheCongestionWindow
-new_data_stays_in_the_congestion_window a now bound more =
-    law_if (is_established a.state) a.sender _ now bound (polled_sender a now) more
+new_data_stays_in_the_congestion_window a now index at bound sent =
+    window_in (is_established a.state) a now index at refl bound sent

@@ -33,6 +33,7 @@ use Rattle.sctp_fit.specs.Incoming.{tsn_before}
 use Rattle.sctp_assoc.specs.Chunks.{on_chunk}
 use Rattle.sctp_sides.specs.Intake.{HasStreamFor, MayTakeIn, refusal_of}
 use Rattle.sctp_sides.specs.Laws.{closes}
+use Rattle.sctp_sides.specs.SideLaws.{CouldPassOver}
 use Rattle.sctp_assoc.specs.Shown.{Shown}
 
 -- The causes
@@ -66,6 +67,12 @@ pub record LeavesNothingToRead (a : Shown) (h : History) (header : CommonHeader)
   pub stream : IsNewTsn h piece.tsn → HasStreamFor a piece.stream_identifier
   pub fits : MayTakeIn a h piece → refusal_of a piece ≡ None
   pub full : IsFullForGood a.receiver.buffer_size (done_all (acts_of_chunk a header (chunks.Data piece)) (parts a h))
+
+-- A FORWARD TSN, which is in use, passes over what lies ahead and leaves the receive buffer so.
+pub record PassesToNothingToRead (a : Shown) (h : History) (header : CommonHeader) (chunk : Chunk) (tsn : ℕ)
+    : Type 0 where
+  pub could : CouldPassOver a h tsn
+  pub full : IsFullForGood a.receiver.buffer_size (done_all (acts_of_chunk a header chunk) (parts a h))
 
 -- A cumulative TSN ack that is neither the acknowledged one nor the TSN of a piece in flight. The number that the SACK
 -- names counts modulo 2^32, as TSNs do.
@@ -115,6 +122,10 @@ IsCauseOfItsKind a h header (chunks.InitAck init) = BringsNoCookie a header init
 IsCauseOfItsKind a h header (chunks.CookieEcho cookie) = ⊥
 IsCauseOfItsKind a h header chunks.CookieAck = ⊥
 IsCauseOfItsKind a h header (chunks.Heartbeat heartbeat) = ⊥
+IsCauseOfItsKind a h header (chunks.ForwardTsn forward) =
+    PassesToNothingToRead a h header (chunks.ForwardTsn forward) forward.new_cumulative_tsn
+IsCauseOfItsKind a h header (chunks.IForwardTsn forward) =
+    PassesToNothingToRead a h header (chunks.IForwardTsn forward) forward.new_cumulative_tsn
 IsCauseOfItsKind a h header (chunks.Abort abort) = ⊤
 IsCauseOfItsKind a h header (chunks.Error error) = ⊤
 IsCauseOfItsKind a h header chunk = ⊤

@@ -19,7 +19,7 @@ use Rattle.sctp_streams.specs.declared.setting.Setting.{Setting}
 use Rattle.sctp_streams.specs.declared.event.Event.TheVariants as events
 use Rattle.sctp_streams.specs.Streams.{bytes_waiting, stream_at}
 use Rattle.sctp_outbound_queue.specs.Waiting.{Waiting}
-use Rattle.sctp_outbound_queue.specs.Message.{is_of}
+use Rattle.sctp_outbound_queue.specs.Message.{is_expired, is_of, started}
 use Rattle.sctp_outbound_queue.specs.Outbound.{Outbound, next_tsn_of, outstanding_of}
 use Rattle.sctp_inbound.specs.declared.receiver.AckTrigger.{AckTrigger}
 use Rattle.sctp_inbound.specs.declared.receiver.AckTrigger.TheVariants as triggers
@@ -31,18 +31,18 @@ use Rattle.sctp_serial.specs.Serial.{tsn}
 use Rattle.sctp_assoc.specs.declared.inbound.Flow.{Flow}
 use Rattle.sctp_assoc.specs.declared.inbound.Flow.TheVariants as flows
 use Rattle.sctp_assoc.specs.Leads.{Binds, parts}
-use Rattle.sctp_directions.specs.Acts.{History, all_data_given, reach_in}
+use Rattle.sctp_directions.specs.Acts.{Act, History, all_data_given, reach_in}
 use Rattle.sctp_fit.specs.Incoming.{tsn_before}
 use Rattle.sctp_assoc.specs.Calls.{accepted_stream, adjusted, is_established, opened, read_exhausts, read_from_stream}
 use Rattle.sctp_assoc.specs.Calls.{with_max_send_message_size, written}
 use Rattle.sctp_assoc.specs.Closing.{closed_by, is_closed_state}
 use Rattle.sctp_assoc.specs.Chunks.{after_packet, on_chunk}
-use Rattle.sctp_assoc.specs.Happened.{acts_of_poll}
+use Rattle.sctp_assoc.specs.Happened.{acts_of_poll, forwards_of_poll}
 use Rattle.sctp_assoc.specs.Gather.{control_packets, data_polled, is_due, packet_bytes, single_chunk_packet, polled}
-use Rattle.sctp_assoc.specs.Gather.{sack_chunk}
+use Rattle.sctp_assoc.specs.Gather.{forward_packet, sack_chunk}
 use Rattle.sctp_assoc.specs.Gather.{sack_packet}
 use Rattle.sctp_directions.specs.Reports.{SaysWhatWasTaken}
-use Rattle.sctp_assoc.specs.Shown.{Shown}
+use Rattle.sctp_assoc.specs.Shown.{Shown, uses_forward_tsn}
 use Rattle.sctp_assoc.specs.Timeouts.{after_timeouts}
 
 -- Sending
@@ -53,24 +53,29 @@ pub record IsNextWithNothingInFlight (a : Shown) (m : Waiting) : Type 0 where
   pub waits : a.sender.queue.pending ≡ m ∷ others
   pub flown : a.sender.queue.in_flight ≡ []
 
+-- A poll at this moment does not give the message up: FORWARD TSN is not in use, or the message has no lifetime, or
+-- that, which runs from the first poll on, is not over (RFC 3758 section 3.5).
+abbrev pub IsNotLate : Shown → ℕ → Waiting → Type 0
+IsNotLate a now m = uses_forward_tsn a ≡ true → is_expired now (started now m.message) ≡ false
+
 -- The DATA of a poll then begins with that message's next piece, whatever the windows are (RFC 4960 section 6.1, rules
--- A and B), if one DATA chunk has room for it.
+-- A and B), if the message is not given up and one DATA chunk has room for the piece.
 abbrev pub WhatWaitsIsPolled : Type 0
-WhatWaitsIsPolled = (a : Shown) (now : ℕ) (m : Waiting) → IsNextWithNothingInFlight a m
+WhatWaitsIsPolled = (a : Shown) (now : ℕ) (m : Waiting) → IsNextWithNothingInFlight a m → IsNotLate a now m
     → length m.user_data ≤ 65519
     → slice_get (all_of (data_polled a now).1) 0 ≡ Some (next_chunk_of m (next_tsn_of a.sender.queue))
 
 -- In Established its acts give that DATA, under the TSN of the first offset that is not acknowledged.
 abbrev pub WhatWaitsIsGiven : Type 0
 WhatWaitsIsGiven = (a : Shown) (h : History) (now : ℕ) (m : Waiting) → is_established a.state ≡ true → Binds a h
-    → IsNextWithNothingInFlight a m
+    → IsNextWithNothingInFlight a m → IsNotLate a now m
     → slice_get (all_data_given (acts_of_poll a now) (parts a h)) 0 ≡ Some (next_chunk_of m (tsn h.own h.base))
 
 -- A piece that one DATA chunk has room for is the first chunk of the first packet that goes out behind those that wait
 -- already; other DATA may be bundled with it (RFC 4960 section 6.10), of which the acts of the poll say what it is.
 abbrev pub PollsBeginWithWhatWaits : Type 0
 PollsBeginWithWhatWaits = (a : Shown) (now : ℕ) (m : Waiting) → is_established a.state ≡ true
-    → IsNextWithNothingInFlight a m
+    → IsNextWithNothingInFlight a m → IsNotLate a now m
     → length m.user_data ≤ 65519
     → (bundled : List ChunkPayloadData)
     × (slice_get (polled a now).1 (length (control_packets a.control)) ≡ Some
@@ -86,12 +91,12 @@ abbrev pub BundlesFitThePacket : Type 0
 BundlesFitThePacket = (a : Shown) (now : ℕ)
     → AllByRecursion (IsShortOrAlone (header_of a.handshake) a.sender.mtu) (data_polled a now).1
 
--- A poll that gives a TSN to new DATA leaves no more bytes outstanding than the congestion window has, or exactly one
--- piece in flight, as a probe is (RFC 4960 section 6.1, rules A and B). The window is a number of 32 bits, as
+-- A poll of which an act is a first sending leaves no more bytes outstanding than the congestion window has, or exactly
+-- one piece in flight, as a probe is (RFC 4960 section 6.1, rules A and B). The window is a number of 32 bits, as
 -- `Association::cwnd` is. Of the peer's window and of DATA that goes again this says nothing.
 abbrev pub NewDataStaysInTheCongestionWindow : Type 0
-NewDataStaysInTheCongestionWindow = (a : Shown) (now : ℕ) → a.sender.congestion.cwnd < 2 ^ 32
-    → length a.sender.queue.in_flight < length (polled a now).0.sender.queue.in_flight
+NewDataStaysInTheCongestionWindow = (a : Shown) (now index at : ℕ) → a.sender.congestion.cwnd < 2 ^ 32
+    → slice_get (acts_of_poll a now) index ≡ Some (Act.Sent at)
     → (outstanding_of (polled a now).0.sender.queue.in_flight ≤ (polled a now).0.sender.congestion.cwnd)
     ⊎ (length (polled a now).0.sender.queue.in_flight ≡ 1)
 
@@ -108,11 +113,23 @@ WritesAreHeld = (a : Shown) (id : ℕ) (named : Option PayloadProtocolIdentifier
     → is_some (stream_at a.streams id) ≡ true
     → is_held (written a id named bytes).sender.queue a.sender.queue.next_message_id ≡ true
 
--- A poll loses no message: what waited or was in flight does so after it.
+-- A poll at this moment drops the message of this number: FORWARD TSN is in use, nothing of the message was sent, and
+-- its lifetime is over.
+pub record IsDroppedAt (a : Shown) (now number : ℕ) : Type 0 where
+  pub used : uses_forward_tsn a ≡ true
+  pub index : ℕ
+  pub message : Waiting
+  pub there : slice_get a.sender.queue.pending index ≡ Some message
+  pub named : message.message.message_id ≡ number
+  pub unsent : message.begun ≡ false
+  pub late : is_expired now (started now message.message) ≡ true
+
+-- A poll loses no message but these: what waited or was in flight does so after it. Of a message that is abandoned a
+-- piece is in flight until it is acknowledged or passed over.
 abbrev pub PollsKeepWhatIsHeld : Type 0
 PollsKeepWhatIsHeld =
     (a : Shown) (now number : ℕ) → is_held a.sender.queue number ≡ true
-    → is_held (polled a now).0.sender.queue number ≡ true
+    → (is_held (polled a now).0.sender.queue number ≡ true) ⊎ IsDroppedAt a now number
 
 -- Closing
 
@@ -140,8 +157,8 @@ pub record TellsNothing (a b : Shown) : Type 0 where
   pub lost : b.lost ≡ a.lost
   pub events : b.events ≡ a.events
 
--- No write, setting, limit, opened or accepted stream, poll for packets or timer closes an association. A write may be
--- told as an event, but as no loss.
+-- No write, setting, limit, opened or accepted stream, poll for packets or timer closes an association. A write and a
+-- poll may be told as events, but as no loss.
 abbrev pub WritesDoNotClose : Type 0
 WritesDoNotClose = (a : Shown) (id : ℕ) (named : Option PayloadProtocolIdentifier) (bytes : List ℕ)
     → DoesNotClose a (written a id named bytes)
@@ -159,7 +176,7 @@ abbrev pub OpenedStreamsDoNotClose : Type 0
 OpenedStreamsDoNotClose = (a : Shown) (id : ℕ) (kind : PayloadProtocolIdentifier) → TellsNothing a (opened a id kind)
 
 abbrev pub PollsDoNotClose : Type 0
-PollsDoNotClose = (a : Shown) (now : ℕ) → TellsNothing a (polled a now).0
+PollsDoNotClose = (a : Shown) (now : ℕ) → DoesNotClose a (polled a now).0
 
 abbrev pub TimersDoNotClose : Type 0
 TimersDoNotClose = (a : Shown) (now : ℕ) → TellsNothing a (after_timeouts a now)
@@ -245,7 +262,16 @@ abbrev pub SacksAreSpelled : Type 0
 SacksAreSpelled = (a : Shown) → length (sack_of a.receiver (bytes_waiting a.streams)).gap_ack_blocks ≤ 16379
     → sack_packet a ≡ spelling (single_chunk_packet (header_of a.handshake) (sack_chunk a)) ∷ []
 
--- A SACK that is due goes out with the next poll in Established, as its last packet.
+-- A SACK that is due goes out with the next poll in Established, as its last packet, or with FORWARD TSN alone behind
+-- it.
 abbrev pub DueSacksGoOut : Type 0
 DueSacksGoOut = (a : Shown) (now : ℕ) → is_established a.state ≡ true → is_due a.receiver.ack_state ≡ true
-    → (packets : List (List ℕ)) × ((polled a now).1 ≡ packets ++ sack_packet a)
+    → (packets : List (List ℕ))
+    × ((polled a now).1
+    ≡ packets ++ sack_packet a ++ (if forwards_of_poll a now then forward_packet (polled a now).0 else []))
+
+-- FORWARD TSN goes out, as the last packet, with a poll in Established that finds it due, where pieces in front of all
+-- others in flight are abandoned once DATA was selected (RFC 3758 section 3.5).
+abbrev pub DueForwardsGoOut : Type 0
+DueForwardsGoOut = (a : Shown) (now : ℕ) → forwards_of_poll a now ≡ true
+    → (packets : List (List ℕ)) × ((polled a now).1 ≡ packets ++ forward_packet (polled a now).0)

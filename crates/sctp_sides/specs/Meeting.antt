@@ -32,13 +32,14 @@ pub record IsNoEarlier (s t : Stage) : Type 0 where
 
 -- What a packet of the handshake says of the side that gives it out, whose initial TSN is own: INIT and INIT ACK say
 -- that TSN, and INIT that the side is a client; an INIT ACK has a cookie; a COOKIE ECHO says that a client learnt the
--- peer's initial TSN, and a COOKIE ACK that the side is established or was. An ABORT says nothing of these.
+-- peer's initial TSN, and a COOKIE ACK that the side is established or was. An ABORT and an ERROR say nothing of these.
 abbrev pub Greets : ℕ → Stage → Chunk → Type 0
 Greets own s (chunks.Init init) = (init.initial_tsn ≡ own) × (s.side ≡ sides.Client)
 Greets own s (chunks.InitAck init) = (init.initial_tsn ≡ own) × (is_some (first_cookie init.params) ≡ true)
 Greets own s (chunks.CookieEcho cookie) = (s.side ≡ sides.Client) × (s.knows ≡ true)
 Greets own s chunks.CookieAck = s.completed ≡ true
 Greets own s (chunks.Abort abort) = ⊤
+Greets own s (chunks.Error error) = ⊤
 Greets own s chunk = ⊥
 
 -- Its initial TSN is own. Each packet that waits to go out says what is so, and keeps nothing under `Other` whose type

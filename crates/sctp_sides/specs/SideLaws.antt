@@ -5,9 +5,12 @@ use Rattle.std.specs.List.{AllByRecursion}
 use Rattle.sctp_serial.specs.Serial.{tsn_gt, tsn}
 use Rattle.sctp_wire_types.specs.declared.chunk.Chunk.{Chunk}
 use Rattle.sctp_wire_types.specs.declared.chunk.Chunk.TheVariants as chunks
+use Rattle.sctp_wire_types.specs.declared.chunk.ChunkForwardTsn.{ChunkForwardTsn}
+use Rattle.sctp_wire_types.specs.declared.chunk.ChunkIForwardTsn.{ChunkIForwardTsn}
 use Rattle.sctp_wire_types.specs.declared.chunk.ChunkInit.{ChunkInit}
 use Rattle.sctp_wire_types.specs.declared.chunk.ChunkPayloadData.{ChunkPayloadData}
 use Rattle.sctp_wire_types.specs.declared.chunk.ChunkSelectiveAck.{ChunkSelectiveAck}
+use Rattle.sctp_wire_types.specs.declared.chunk.SkippedStream.{SkippedStream}
 use Rattle.sctp_wire_types.specs.declared.ids.PayloadProtocolIdentifier.{PayloadProtocolIdentifier}
 use Rattle.sctp_wire_types.specs.declared.packet.CommonHeader.{CommonHeader}
 use Rattle.sctp_wire.specs.declared.packet.Packet.{Packet}
@@ -20,7 +23,8 @@ use Rattle.sctp_streams.specs.Stream.{StreamView}
 use Rattle.sctp_streams.specs.declared.setting.Setting.{Setting}
 use Rattle.sctp_streams.specs.Streams.{made, read_in, stream_at}
 use Rattle.sctp_inbound.specs.declared.receiver.AckTrigger.{AckTrigger}
-use Rattle.sctp_directions.specs.Acts.{Act, History, all_data_given, reach_in}
+use Rattle.sctp_outbound.specs.Forward.{forward_of}
+use Rattle.sctp_directions.specs.Acts.{Act, History, IsAhead, all_data_given, reach_in}
 use Rattle.sctp_assoc.specs.Leads.{Binds, LeadsOn, parts}
 use Rattle.sctp_fit.specs.Incoming.{tsn_before}
 use Rattle.sctp_assoc.specs.Calls.{event_polled, is_established, open_refusal, opened}
@@ -30,12 +34,13 @@ use Rattle.sctp_assoc.specs.Calls.{with_max_send_message_size}
 use Rattle.sctp_assoc.specs.Calls.{write_refusal, written}
 use Rattle.sctp_assoc.specs.Chunks.{after_packet, ended, on_chunk}
 use Rattle.sctp_outbound.specs.Sacks.{reports_of}
-use Rattle.sctp_assoc.specs.Happened.{Polls, acts_of_chunk, acts_of_poll, acts_of_timeouts}
+use Rattle.sctp_assoc.specs.Happened.{Polls, acts_of_chunk, acts_of_poll, acts_of_timeouts, forwards_of_poll}
 use Rattle.sctp_assoc.specs.Inbound.{taken_packet}
 use Rattle.sctp_sides.specs.Meeting.{Greets, GreetsOn, HasCome, IsEstablished, IsNoEarlier, IsTruthful, Stage, stage_of}
 use Rattle.sctp_assoc.specs.Gather.{AreControlReadAgain, WaitPlainly, control_packets, is_due, polled, without_control}
 use Rattle.sctp_directions.specs.Reports.{SaysWhatWasTaken}
-use Rattle.sctp_assoc.specs.Shown.{Shown}
+use Rattle.sctp_assoc.specs.Shown.{Shown, uses_forward_tsn}
+use Rattle.sctp_assoc.specs.Skipping.{skips_of}
 use Rattle.sctp_assoc.specs.Timeouts.{after_timeouts}
 use Rattle.sctp_assoc.specs.declared.control.ControlPacket.{ControlPacket}
 
@@ -171,10 +176,12 @@ pub record KeepsWorking (a b : Shown) : Type 0 where
   pub lost : b.lost ≡ a.lost
   pub size : b.sender.max_payload_size ≡ a.sender.max_payload_size
 
--- What a chunk leaves: DATA and SACKs leave the status.
+-- What a chunk leaves: DATA, SACKs and FORWARD TSNs leave the status.
 abbrev pub Leaves : Chunk → Shown → Shown → Type 0
 Leaves (chunks.Data piece) a b = IsSameStatus a b
 Leaves (chunks.SelectiveAck sack) a b = IsSameStatus a b
+Leaves (chunks.ForwardTsn forward) a b = IsSameStatus a b
+Leaves (chunks.IForwardTsn forward) a b = IsSameStatus a b
 Leaves chunk a b = KeepsWorking a b
 
 -- A chunk of a packet with this header made b of the association a: by its acts, and where it is one of a handshake,
@@ -340,12 +347,45 @@ GreetingsMakeThePeerKnown = (a : Shown) (header : CommonHeader) (init : ChunkIni
     → IsPeerKnown init (acts_of_chunk a header (chunks.Init init))
     × IsPeerKnown init (acts_of_chunk a header (chunks.InitAck init))
 
--- neither DATA nor a SACK, nor one that tells an initial TSN
+-- all up to a TSN was passed over, with these skips of ordered messages, or nothing was
+abbrev pub IsPassingOver : ℕ → List SkippedStream → List Act → Type 0
+IsPassingOver tsn skipped acts = (acts ≡ []) ⊎ (acts ≡ Act.PassedOver tsn skipped ∷ [])
+
+-- A FORWARD TSN passes over what it says, or does nothing to the directions (RFC 3758 section 3.6); so does an
+-- I-FORWARD-TSN, of which the entries of ordered messages count (RFC 8260 section 2.3.1).
+abbrev pub ForwardsPassOver : Type 0
+ForwardsPassOver = (a : Shown) (header : CommonHeader) (forward : ChunkForwardTsn)
+    → IsPassingOver forward.new_cumulative_tsn forward.streams (acts_of_chunk a header (chunks.ForwardTsn forward))
+
+abbrev pub IForwardsPassOver : Type 0
+IForwardsPassOver = (a : Shown) (header : CommonHeader) (forward : ChunkIForwardTsn)
+    → IsPassingOver forward.new_cumulative_tsn (skips_of forward.entries)
+    (acts_of_chunk a header (chunks.IForwardTsn forward))
+
+-- Where FORWARD TSN isn't in use it does nothing to the directions.
+abbrev pub UnusedForwardsDoNothing : Type 0
+UnusedForwardsDoNothing = (a : Shown) (header : CommonHeader) (forward : ChunkForwardTsn) → uses_forward_tsn a ≡ false
+    → acts_of_chunk a header (chunks.ForwardTsn forward) ≡ []
+
+-- What it passes over lies ahead of all that came in order, and FORWARD TSN is in use.
+pub record CouldPassOver (a : Shown) (h : History) (tsn : ℕ) : Type 0 where
+  pub used : uses_forward_tsn a ≡ true
+  pub ahead : IsAhead h tsn
+
+abbrev pub OnlyForwardsAheadPassOver : Type 0
+OnlyForwardsAheadPassOver = (a : Shown) (h : History) (header : CommonHeader) (forward : ChunkForwardTsn) → Binds a h
+    → acts_of_chunk a header (chunks.ForwardTsn forward)
+    ≡ Act.PassedOver forward.new_cumulative_tsn forward.streams ∷ []
+    → CouldPassOver a h forward.new_cumulative_tsn
+
+-- none of DATA, SACK and FORWARD TSN, nor one that tells an initial TSN
 abbrev pub IsOther : Chunk → Type 0
 IsOther (chunks.Data piece) = ⊥
 IsOther (chunks.SelectiveAck sack) = ⊥
 IsOther (chunks.Init init) = ⊥
 IsOther (chunks.InitAck init) = ⊥
+IsOther (chunks.ForwardTsn forward) = ⊥
+IsOther (chunks.IForwardTsn forward) = ⊥
 IsOther chunk = ⊤
 
 -- Any other chunk does nothing to the directions, unless it is a fault and closes.
@@ -355,25 +395,40 @@ OtherChunksDoNothing =
 
 -- The acts of a poll and of timeouts
 
--- acts that give out DATA
-abbrev pub GivesData : Act → Type 0
-GivesData (Act.Sent now) = ⊤
-GivesData (Act.SentAgain by index) = ⊤
-GivesData act = ⊥
+-- acts that give messages up, or give out DATA again: the times of messages run, messages are abandoned or dropped, and
+-- pieces in flight go out again
+abbrev pub GivesUpOrAgain : Act → Type 0
+GivesUpOrAgain (Act.Started now) = ⊤
+GivesUpOrAgain (Act.Abandoned index) = ⊤
+GivesUpOrAgain Act.TailAbandoned = ⊤
+GivesUpOrAgain (Act.Dropped k) = ⊤
+GivesUpOrAgain (Act.SentAgain by index) = ⊤
+GivesUpOrAgain act = ⊥
+
+-- acts that give out new DATA
+abbrev pub GivesNew : Act → Type 0
+GivesNew (Act.Sent now) = ⊤
+GivesNew act = ⊥
 
 -- an acknowledgement is due
 abbrev pub reports : Shown → Bool
 reports a = is_due a.receiver.ack_state
 
--- Acts that give out DATA, and then a report where one is due.
-pub record IsPolling (a : Shown) (acts : List Act) : Type 0 where
-  pub given : List Act
-  pub give : AllByRecursion GivesData given
-  pub are : acts ≡ given ++ (if reports a then Act.Reported ∷ [] else [])
+-- Acts that give messages up and give out DATA again, then acts that give out new DATA, a report where one is due, and
+-- at last a FORWARD TSN where it is given.
+pub record IsPolling (a : Shown) (forwards : Bool) (acts : List Act) : Type 0 where
+  pub old : List Act
+  pub old_are : AllByRecursion GivesUpOrAgain old
+  pub new : List Act
+  pub new_are : AllByRecursion GivesNew new
+  pub are : acts ≡ old ++ new ++ (if reports a then Act.Reported ∷ [] else [])
+      ++ (if forwards then Act.Forwarded ∷ [] else [])
 
--- A poll in Established gives DATA, and reports where that is due (RFC 4960 sections 6.1 and 6.2).
+-- A poll in Established gives up what is to be given up, gives DATA, reports where that is due, and says what is given
+-- up where that is (RFC 4960 sections 6.1 and 6.2, RFC 3758 section 3.5).
 abbrev pub PollsGiveAndReport : Type 0
-PollsGiveAndReport = (a : Shown) (now : ℕ) → is_established a.state ≡ true → IsPolling a (acts_of_poll a now)
+PollsGiveAndReport = (a : Shown) (now : ℕ) → is_established a.state ≡ true
+    → IsPolling a (forwards_of_poll a now) (acts_of_poll a now)
 
 -- In any other state a poll gives what waits to go out, and nothing else.
 abbrev pub PollsOutsideEstablishedGiveWhatWaits : Type 0
@@ -390,21 +445,26 @@ OfEachChunk Is (Some packet) = AllByRecursion Is packet.chunks
 abbrev pub IsWaitingToGo : Shown → Chunk → Type 0
 IsWaitingToGo a chunk = (k : ℕ) × (c : ControlPacket) × (slice_get a.control k ≡ Some c) × (c.chunk ≡ chunk)
 
--- a chunk that these acts of a poll give out: their DATA, or where a report is due a SACK that says what came
-abbrev pub IsExchanged : List Act → Shown → History → Chunk → Type 0
-IsExchanged acts a h (chunks.Data piece) = (k : ℕ) × (slice_get (all_data_given acts (parts a h)) k ≡ Some piece)
-IsExchanged acts a h (chunks.SelectiveAck sack) = (reports a ≡ true) × SaysWhatWasTaken h.peer (reach_in h) h.taken sack
-IsExchanged acts a h chunk = ⊥
+-- a chunk that these acts of a poll, which left b, give out: their DATA; where a report is due, a SACK that says what
+-- came; and where FORWARD TSN is given, that of what is in flight then
+abbrev pub IsExchanged : List Act → Bool → Shown → Shown → History → Chunk → Type 0
+IsExchanged acts forwards a b h (chunks.Data piece) =
+    (k : ℕ) × (slice_get (all_data_given acts (parts a h)) k ≡ Some piece)
+IsExchanged acts forwards a b h (chunks.SelectiveAck sack) =
+    (reports a ≡ true) × SaysWhatWasTaken h.peer (reach_in h) h.taken sack
+IsExchanged acts forwards a b h (chunks.ForwardTsn forward) = (forwards ≡ true) × (forward ≡ forward_of b.sender)
+IsExchanged acts forwards a b h chunk = ⊥
 
-abbrev pub IsGivenBy : List Act → Shown → History → Chunk → Type 0
-IsGivenBy acts a h chunk = IsWaitingToGo a chunk ⊎ IsExchanged acts a h chunk
+abbrev pub IsGivenBy : List Act → Bool → Shown → Shown → History → Chunk → Type 0
+IsGivenBy acts forwards a b h chunk = IsWaitingToGo a chunk ⊎ IsExchanged acts forwards a b h chunk
 
 -- The packets of a poll are of such chunks alone.
 abbrev pub PollsSayTheirActs : Type 0
-PollsSayTheirActs = (acts : List Act) (a b : Shown) (h : History) (packets : List (List ℕ)) → WaitPlainly a
-    → AreControlReadAgain a.control → is_established a.state ≡ true → Binds a h
-    → Polls acts a h b packets
-    → AllByRecursion (λ (bytes : List ℕ). OfEachChunk (IsGivenBy acts a h) (taken_packet (packet_at bytes))) packets
+PollsSayTheirActs = (acts : List Act) (forwards : Bool) (a b : Shown) (h : History) (packets : List (List ℕ))
+    → WaitPlainly a → AreControlReadAgain a.control → is_established a.state ≡ true → Binds a h
+    → Polls acts forwards a h b packets
+    → AllByRecursion (λ (bytes : List ℕ). OfEachChunk (IsGivenBy acts forwards a b h) (taken_packet (packet_at bytes)))
+    packets
 
 -- What waits goes out in packets of those chunks alone.
 abbrev pub WhatWaitsGoesOutAsItIs : Type 0

@@ -5,7 +5,8 @@
 
 ghost use Rattle.sctp_sides.specs.SideLaws.{AcceptedWritesFit, ChunksLeadOn, DataOpensOrTakes, EstablishedIsNotClosed};
 ghost use Rattle.sctp_sides.specs.SideLaws.{EstablishedSidesTalk, FaultsClose, FoundStreamsAreLive};
-ghost use Rattle.sctp_sides.specs.SideLaws.{GreetingsMakeThePeerKnown};
+ghost use Rattle.sctp_sides.specs.SideLaws.{ForwardsPassOver, GreetingsMakeThePeerKnown, IForwardsPassOver};
+ghost use Rattle.sctp_sides.specs.SideLaws.{OnlyForwardsAheadPassOver, UnusedForwardsDoNothing};
 ghost use Rattle.sctp_sides.specs.SideLaws.{AcceptedStreamsKeepTheStatus, ExhaustionCloses, GreetingsStayTrue};
 ghost use Rattle.sctp_sides.specs.SideLaws.{LostAssociationsTakeNothing, NoPacketChangesNothing, SettingsHoldNothing};
 ghost use Rattle.sctp_sides.specs.SideLaws.{LimitsKeepTheStatus, SettingsKeepTheStatus};
@@ -19,7 +20,10 @@ ghost use Rattle.sctp_sides.specs.SideLaws.{TimeoutsMarkAtMost, TimersKeepTheSta
 ghost use Rattle.sctp_sides.specs.SideLaws.{WhatHoldsNothingGivesNothing, WhatWaitsGoesOutAsItIs, WritesKeepTheStatus};
 ghost use Rattle.sctp_sides.specs.Causes.{CausesClose, ClosingPacketsHaveCauses, FaultsAreCauses};
 ghost use Rattle.sctp_sides.specs.Intake.{DataIsTakenIn, NothingElseIsTakenIn};
-ghost use Rattle.sctp_sides.specs.Laws.{DueSacksGoOut, FaultsAloneClose, OpenedStreamsDoNotClose, PollsDoNotClose};
+ghost use Rattle.sctp_sides.specs.Lifetimes.{CreatedSidesHaveNothingToSend, JoinedSidesHaveNothingToSend};
+ghost use Rattle.sctp_sides.specs.Lifetimes.{NothingLateGoesOut, RetriesAreKept};
+ghost use Rattle.sctp_sides.specs.Laws.{DueForwardsGoOut, DueSacksGoOut, FaultsAloneClose, OpenedStreamsDoNotClose};
+ghost use Rattle.sctp_sides.specs.Laws.{PollsDoNotClose};
 ghost use Rattle.sctp_sides.specs.Laws.{AcceptedStreamsDoNotClose, ClosesClose, ExhaustingReadsAloneClose};
 ghost use Rattle.sctp_sides.specs.Laws.{LimitsDoNotClose};
 ghost use Rattle.sctp_sides.specs.Laws.{PollsKeepWhatIsHeld, SacksAreSpelled, SacksNameTheLastTsn, SettingsDoNotClose};
@@ -33,7 +37,8 @@ ghost use Rattle.sctp_sides.specs.Witnesses.{JoinedSidesAreFresh, LossesAreToldO
 ghost use Rattle.sctp_sides.specs.Witnesses.{LostSidesWaitForNothing, NoHandshakeTimerRunsOnceEstablished};
 ghost use Rattle.sctp_sides.specs.Witnesses.{NothingInFlightIsNotTimed, OutstandingDataIsTimed, SentInitsAreTimed};
 
-/// Sending: the next piece that waits goes out with the next poll where nothing is in flight (RFC 4960 section 6.1).
+/// Sending: the next piece that waits goes out with the next poll where nothing is in flight (RFC 4960 section 6.1),
+/// unless its message is given up by then.
 pub fn polls_begin_with_what_waits()
     ensures polled { WhatWaitsIsPolled }
     ensures given { WhatWaitsIsGiven }
@@ -51,7 +56,24 @@ pub fn new_data_stays_in_the_congestion_window()
     ensures window { NewDataStaysInTheCongestionWindow }
 {}
 
-/// Keeping: what was just written waits or is in flight, and a poll that does not fail loses none of what does.
+/// Deadlines: over every list of calls of an association that begins with nothing to send, as both constructors leave
+/// it, and whatever the peer sends, no poll gives out DATA of a message at or past its deadline where FORWARD TSN is in
+/// use and the association has not failed (RFC 3758 section 3.5).
+pub fn nothing_late_goes_out()
+    ensures created { CreatedSidesHaveNothingToSend }
+    ensures joined { JoinedSidesHaveNothingToSend }
+    ensures late { NothingLateGoesOut }
+{}
+
+/// Retries: where FORWARD TSN is in use and the association has not failed, a piece of a message that may be sent again
+/// n times is given out at most n + 1 times, over every list of calls and whatever the peer sends (RFC 7496 section
+/// 3.1).
+pub fn retries_are_kept()
+    ensures retries { RetriesAreKept }
+{}
+
+/// Keeping: what was just written waits or is in flight, and a poll that does not fail loses none of what does, but
+/// messages whose lifetime is over before any of them was sent.
 pub fn writes_and_polls_lose_nothing()
     ensures written { WritesAreHeld }
     ensures polled { PollsKeepWhatIsHeld }
@@ -82,13 +104,14 @@ pub fn only_named_causes_close()
 {}
 
 /// Reporting: a SACK says what was taken in, is one datagram, and in Established goes out with the next poll where it
-/// is due (RFC 4960 sections 3.3.4 and 6.2).
+/// is due (RFC 4960 sections 3.3.4 and 6.2); so does FORWARD TSN, behind it (RFC 3758 section 3.5).
 pub fn sacks_name_the_last_tsn()
     ensures last_tsn { SacksNameTheLastTsn }
     ensures said { SacksSayWhatWasTaken }
     ensures window { SacksOfferTheBuffer }
     ensures spelled { SacksAreSpelled }
     ensures due { DueSacksGoOut }
+    ensures forward { DueForwardsGoOut }
 {}
 
 /// Intake: DATA that may be taken in is taken in, and nothing else is (RFC 4960 section 6.2).
@@ -154,6 +177,10 @@ pub fn calls_are_made_of_acts()
     ensures taken { TakenSacksAcknowledge }
     ensures older { OtherSacksDoNothing }
     ensures greeting { GreetingsMakeThePeerKnown }
+    ensures forward { ForwardsPassOver }
+    ensures i_forward { IForwardsPassOver }
+    ensures unused { UnusedForwardsDoNothing }
+    ensures ahead { OnlyForwardsAheadPassOver }
     ensures other { OtherChunksDoNothing }
     ensures poll { PollsGiveAndReport }
     ensures silent { PollsOutsideEstablishedGiveWhatWaits }

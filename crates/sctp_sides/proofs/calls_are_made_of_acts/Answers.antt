@@ -3,6 +3,8 @@ use Rattle.sctp_sides.proofs.Proved.{other_sacks_do_nothing}
 use Rattle.sctp_sides.proofs.Proved.{polls_give_and_report, polls_outside_established_give_what_waits}
 use Rattle.sctp_sides.proofs.Proved.{polls_say_their_acts, sacks_acknowledge, taken_sacks_acknowledge}
 use Rattle.sctp_sides.proofs.Proved.{timeouts_mark_at_most, what_waits_goes_out_as_it_is}
+use Rattle.sctp_sides.proofs.Proved.{forwards_pass_over, i_forwards_pass_over, only_forwards_ahead_pass_over}
+use Rattle.sctp_sides.proofs.Proved.{unused_forwards_do_nothing}
 use Rattle.sctp_sides.proofs.calls_are_made_of_acts.Goals as goal
 
 pub returns-clause-data : goal.returns-clause-data
@@ -37,3 +39,15 @@ returns-clause-greeting c = greetings_make_the_peer_known
 
 pub returns-clause-waiting : goal.returns-clause-waiting
 returns-clause-waiting c = what_waits_goes_out_as_it_is
+
+pub returns-clause-forward : goal.returns-clause-forward
+returns-clause-forward c = forwards_pass_over
+
+pub returns-clause-i_forward : goal.returns-clause-i_forward
+returns-clause-i_forward c = i_forwards_pass_over
+
+pub returns-clause-unused : goal.returns-clause-unused
+returns-clause-unused c = unused_forwards_do_nothing
+
+pub returns-clause-ahead : goal.returns-clause-ahead
+returns-clause-ahead c = only_forwards_ahead_pass_over

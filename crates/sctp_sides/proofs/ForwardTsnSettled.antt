@@ -1,0 +1,224 @@
+-- Once an association was established, whether FORWARD TSN is in use changes no more.
+use Rattle.std.proofs.Common.{◌≡◌, refl, sym, ap, ◌∙◌, subst, ◌⊎◌, ⊎_elim, inl, inr, ℕ, Bool, true, false}
+use Rattle.std.proofs.Common.{List, [], ◌∷◌, Option, Some, None, Result, Ok, Err}
+use Rattle.std.proofs.lemmas.Bool.{cond-false, false≢true}
+use Rattle.std.specs.Prelude.{⊤}
+use Rattle.std.specs.List.{AllByRecursion}
+use Rattle.sctp_wire_types.specs.declared.chunk.Chunk.{Chunk}
+use Rattle.sctp_wire_types.specs.declared.chunk.Chunk.TheVariants as chunks
+use Rattle.sctp_wire_types.specs.declared.chunk.ChunkHeartbeat.{ChunkHeartbeat}
+use Rattle.sctp_wire_types.specs.declared.chunk.ChunkInit.{ChunkInit}
+use Rattle.sctp_wire_types.specs.declared.error.Error.{Error}
+use Rattle.sctp_wire_types.specs.declared.packet.CommonHeader.{CommonHeader}
+use Rattle.sctp_wire_types.specs.Checks.{checked_chunk}
+use Rattle.sctp_wire.specs.declared.packet.Packet.{Packet}
+use Rattle.sctp_streams.specs.declared.event.AssociationError.{AssociationError}
+use Rattle.sctp_streams.specs.declared.event.AssociationError.TheVariants as reasons
+use Rattle.sctp_streams.specs.declared.event.Event.{Event}
+use Rattle.sctp_inbound.specs.declared.handshake.Handshake.{Handshake}
+use Rattle.sctp_inbound.specs.declared.receiver.AckTrigger.{AckTrigger}
+use Rattle.sctp_inbound.specs.declared.receiver.AckTrigger.TheVariants as triggers
+use Rattle.sctp_inbound.specs.Greeting.{information_of}
+use Rattle.sctp_inbound.specs.Handshake.{has_issued}
+use Rattle.sctp_assoc.specs.Calls.{event_polled, is_established, read_exhausts, read_from_stream}
+use Rattle.sctp_assoc.specs.Chunks.{after_chunks, after_packet, after_packet_of, checked_first, dispatched, ended}
+use Rattle.sctp_assoc.specs.Chunks.{on_chunk}
+use Rattle.sctp_assoc.specs.Closing.{closed_by, exhausted, is_closed_state}
+use Rattle.sctp_assoc.specs.Handshake.{information_returned, on_cookie_ack, on_cookie_echo, on_heartbeat, on_init}
+use Rattle.sctp_assoc.specs.Handshake.{on_init_ack}
+use Rattle.sctp_assoc.specs.Shown.{Shown, uses_forward_tsn}
+use Rattle.sctp_sides.specs.OneSide.{Call, carried_out, with_told}
+use Rattle.sctp_sides.specs.SideLaws.{Closes, Exhausts, IsSameStatus, with_read}
+use Rattle.sctp_sides.proofs.PacketLaws.{exhaustion_closes, faults_close, lost_associations_take_nothing}
+use Rattle.sctp_sides.proofs.PacketsByChunks.{chunks_carry}
+use Rattle.sctp_sides.proofs.Status.{accepted_streams_keep_the_status, chunk_leaves, limits_keep_the_status}
+use Rattle.sctp_sides.proofs.Status.{opened_streams_keep_the_status, polls_keep_the_status, reads_keep_the_status}
+use Rattle.sctp_sides.proofs.Status.{settings_keep_the_status, timers_keep_the_status, told_events_keep_the_status}
+use Rattle.sctp_sides.proofs.Status.{writes_keep_the_status}
+use Rattle.sctp_sides.proofs.TimersRun.{established_begins_no_more, established_shakes_no_hands}
+
+-- It is in Established, and FORWARD TSN is in use or not.
+pub record IsTalking (used : Bool) (a : Shown) : Type 0 where
+  pub state : is_established a.state ≡ true
+  pub uses : uses_forward_tsn a ≡ used
+
+-- It is in Established or was lost.
+pub record IsSettled (used : Bool) (a : Shown) : Type 0 where
+  pub over : (is_established a.state ≡ true) ⊎ (a.lost ≡ true)
+  pub uses : uses_forward_tsn a ≡ used
+
+talks_by : (used : Bool) (a b : Shown) → b.state ≡ a.state → b.handshake.use_forward_tsn ≡ a.handshake.use_forward_tsn
+    → IsTalking used a → IsTalking used b
+talks_by used a b state forward h = record { state = ap is_established state ∙ h.state; uses = forward ∙ h.uses }
+
+same_talks : (used : Bool) (a b : Shown) → IsSameStatus a b → IsTalking used a → IsTalking used b
+same_talks used a b s h = talks_by used a b s.state (ap (λ (k : Handshake). k.use_forward_tsn) s.handshake) h
+
+same_settles : (used : Bool) (a b : Shown) → IsSameStatus a b → IsSettled used a → IsSettled used b
+same_settles used a b s h = record {
+  over =
+      ⊎_elim (λ (e : is_established a.state ≡ true). inl (ap is_established s.state ∙ e))
+      (λ (e : a.lost ≡ true). inr (s.lost ∙ e)) h.over;
+  uses = ap (λ (k : Handshake). k.use_forward_tsn) s.handshake ∙ h.uses;
+}
+
+talking_settles : (used : Bool) (a : Shown) → IsTalking used a → IsSettled used a
+talking_settles used a h = record { over = inl h.state; uses = h.uses }
+
+-- The chunks of a packet that comes in Established
+
+init_talks : (used : Bool) (a : Shown) (header : CommonHeader) (init : ChunkInit) (trigger : AckTrigger)
+    → IsTalking used a → IsTalking used (on_init a header init trigger).0
+unfolding on_init
+init_talks used a header init trigger h = rw (established_begins_no_more a.state h.state) h
+
+init_ack_talks : (used : Bool) (a : Shown) (header : CommonHeader) (init : ChunkInit) (trigger : AckTrigger) (now : ℕ)
+    → IsTalking used a → IsTalking used (on_init_ack a header init trigger now).0
+unfolding on_init_ack
+init_ack_talks used a header init trigger now h = rw (established_shakes_no_hands a.state h.state).0 h
+
+cookie_echo_talks : (issued used : Bool) (a : Shown) (cookie : List ℕ) (trigger : AckTrigger)
+    → has_issued a.handshake cookie ≡ issued → IsTalking used a → IsTalking used (on_cookie_echo a cookie trigger).0
+unfolding on_cookie_echo
+cookie_echo_talks false used a cookie trigger e h = rw e h
+cookie_echo_talks true used a cookie trigger e h =
+    rw (e, established_begins_no_more a.state h.state, h.state) (talks_by used a _ refl refl h)
+
+cookie_ack_talks : (used : Bool) (a : Shown) (trigger : AckTrigger) → IsTalking used a
+    → IsTalking used (on_cookie_ack a trigger).0
+unfolding on_cookie_ack
+cookie_ack_talks used a trigger h = rw (established_shakes_no_hands a.state h.state).1 h
+
+information_talks : (o : Option (List ℕ)) (used : Bool) (a : Shown) → IsTalking used a
+    → IsTalking used (information_returned o a)
+information_talks None used a h = h
+information_talks (Some information) used a h = talks_by used a _ refl refl h
+
+heartbeat_talks : (used : Bool) (a : Shown) (heartbeat : ChunkHeartbeat) (trigger : AckTrigger) → IsTalking used a
+    → IsTalking used (on_heartbeat a heartbeat trigger).0
+unfolding on_heartbeat
+heartbeat_talks used a heartbeat trigger h = information_talks (information_of heartbeat.params) used a h
+
+checked_talks : (r : Result (Unit {0}) Error) (used : Bool) (a : Shown) (header : CommonHeader) (c : Chunk)
+    (trigger : AckTrigger) (now : ℕ) → IsTalking used a → IsTalking used (dispatched a header c trigger now).0
+    → IsTalking used (checked_first r a header c trigger now).0
+checked_talks (Err fault) used a header c trigger now h k = h
+checked_talks (Ok done) used a header c trigger now h k = k
+
+greeting_talks : (used : Bool) (a : Shown) (header : CommonHeader) (c : Chunk) (trigger : AckTrigger) (now : ℕ)
+    → IsTalking used a → IsTalking used (dispatched a header c trigger now).0
+    → IsTalking used (on_chunk a header c trigger now).0
+unfolding on_chunk
+greeting_talks used a header c trigger now h k = checked_talks (checked_chunk c) used a header c trigger now h k
+
+chunk_talks : (used : Bool) (header : CommonHeader) (c : Chunk) (a : Shown) (trigger : AckTrigger) (now : ℕ)
+    → IsTalking used a → IsTalking used (on_chunk a header c trigger now).0
+chunk_talks used header (chunks.Data piece) a trigger now h =
+    same_talks used a _ (chunk_leaves header (chunks.Data piece) a trigger now) h
+chunk_talks used header (chunks.SelectiveAck sack) a trigger now h =
+    same_talks used a _ (chunk_leaves header (chunks.SelectiveAck sack) a trigger now) h
+chunk_talks used header (chunks.ForwardTsn forward) a trigger now h =
+    same_talks used a _ (chunk_leaves header (chunks.ForwardTsn forward) a trigger now) h
+chunk_talks used header (chunks.IForwardTsn forward) a trigger now h =
+    same_talks used a _ (chunk_leaves header (chunks.IForwardTsn forward) a trigger now) h
+chunk_talks used header (chunks.Init init) a trigger now h =
+    greeting_talks used a header (chunks.Init init) trigger now h (init_talks used a header init trigger h)
+chunk_talks used header (chunks.InitAck init) a trigger now h =
+    greeting_talks used a header (chunks.InitAck init) trigger now h (init_ack_talks used a header init trigger now h)
+chunk_talks used header (chunks.CookieEcho cookie) a trigger now h =
+    greeting_talks used a header (chunks.CookieEcho cookie) trigger now h
+    (cookie_echo_talks (has_issued a.handshake cookie) used a cookie trigger refl h)
+chunk_talks used header chunks.CookieAck a trigger now h =
+    greeting_talks used a header chunks.CookieAck trigger now h (cookie_ack_talks used a trigger h)
+chunk_talks used header (chunks.Heartbeat heartbeat) a trigger now h =
+    greeting_talks used a header (chunks.Heartbeat heartbeat) trigger now h
+    (heartbeat_talks used a heartbeat trigger h)
+chunk_talks used header c a trigger now h = greeting_talks used a header c trigger now h h
+
+-- A close
+
+closes_settle : (closed used : Bool) (a b : Shown) → is_closed_state a.state ≡ closed → Closes a b
+    → IsSettled used a → IsSettled used b
+closes_settle true used a b e c h = subst (IsSettled used) (sym (c.stays e)) h
+closes_settle false used a b e c h =
+    record { over = inr (c.ends e).lost; uses = ap (λ (k : Handshake). k.use_forward_tsn) c.handshake ∙ h.uses }
+
+closed_settles : (used : Bool) (a : Shown) (reason : AssociationError) → IsSettled used a
+    → IsSettled used (closed_by a reason)
+closed_settles used a reason h =
+    closes_settle (is_closed_state a.state) used a (closed_by a reason) refl (faults_close a reason) h
+
+exhausts_settle : (closed used : Bool) (a b : Shown) → is_closed_state a.state ≡ closed → Exhausts a b
+    → IsSettled used a → IsSettled used b
+exhausts_settle true used a b e c h = same_settles used a b (c.stays e).1 h
+exhausts_settle false used a b e c h =
+    record { over = inr (c.ends e).lost; uses = ap (λ (k : Handshake). k.use_forward_tsn) c.handshake ∙ h.uses }
+
+exhausted_settles : (used : Bool) (a : Shown) → IsSettled used a → IsSettled used (exhausted a)
+exhausted_settles used a h =
+    exhausts_settle (is_closed_state a.state) used a (exhausted a) refl (exhaustion_closes a) h
+
+-- A packet
+
+all_of_them : (cs : List Chunk) → AllByRecursion (λ (c : Chunk). ⊤) cs
+all_of_them [] = tt
+all_of_them (c ∷ cs) = (tt, all_of_them cs)
+
+chunks_settle : (used : Bool) (header : CommonHeader) (cs : List Chunk) (a : Shown) (now : ℕ) → IsTalking used a
+    → IsSettled used (after_chunks header cs a triggers.None now)
+chunks_settle used header cs a now h =
+    chunks_carry (IsTalking used) (IsSettled used) (λ (c : Chunk). ⊤)
+    (λ header c b trigger at said k. chunk_talks used header c b trigger at k)
+    (λ b trigger at k. talking_settles used (ended b trigger at) (talks_by used b (ended b trigger at) refl refl k))
+    (λ b k. closed_settles used b reasons.AssociationClosed (talking_settles used b k))
+    (λ b k. exhausted_settles used b (talking_settles used b k))
+    header cs a triggers.None now (all_of_them cs) h
+
+packet_of_settles : (packet : Option Packet) (used : Bool) (a : Shown) (now : ℕ) → IsTalking used a
+    → IsSettled used (after_packet_of a packet now)
+packet_of_settles None used a now h = talking_settles used a h
+packet_of_settles (Some packet) used a now h =
+    chunks_settle used packet.common_header packet.chunks a now h
+
+packet_settles : (lost used : Bool) (a : Shown) (packet : Option Packet) (now : ℕ) → a.lost ≡ lost → IsSettled used a
+    → IsSettled used (after_packet a packet now)
+packet_settles true used a packet now e h =
+    subst (IsSettled used) (sym (lost_associations_take_nothing a packet now e)) h
+packet_settles false used a packet now e h =
+    let established : is_established a.state ≡ true =
+    ⊎_elim (λ (s : is_established a.state ≡ true). s) (λ (l : a.lost ≡ true). absurd (false≢true (sym e ∙ l))) h.over in
+    subst (IsSettled used) (sym (cond-false a.lost a (after_packet_of a packet now) e))
+    (packet_of_settles packet used a now (record { state = established; uses = h.uses }))
+
+-- Any call that is carried out
+
+read_settles : (exhausts used : Bool) (a : Shown) (id : ℕ) → read_exhausts a id ≡ exhausts → IsSettled used a
+    → IsSettled used (read_from_stream a id).0
+read_settles true used a id e h =
+    let r = reads_keep_the_status a id in
+    subst (IsSettled used) (sym (r.exhausts e))
+    (exhausted_settles used (with_read a id) (same_settles used a (with_read a id) r.same h))
+read_settles false used a id e h =
+    let r = reads_keep_the_status a id in
+    subst (IsSettled used) (sym (r.plainly e)) (same_settles used a (with_read a id) r.same h)
+
+told_settles : (x : Shown × Option Event) (used : Bool) (a : Shown) → event_polled a ≡ x → IsSettled used a
+    → IsSettled used (with_told x).0
+told_settles (b, event) used a e h = same_settles used a b (told_events_keep_the_status a b event e).0 h
+
+pub carried_settles : (call : Call) (used : Bool) (a : Shown) → IsSettled used a
+    → IsSettled used (carried_out call a).0
+carried_settles (Call.OpenStream id kind) used a h =
+    same_settles used a _ (opened_streams_keep_the_status a id kind) h
+carried_settles (Call.Write id named bytes) used a h =
+    same_settles used a _ (writes_keep_the_status a id named bytes) h
+carried_settles (Call.Set id setting) used a h = same_settles used a _ (settings_keep_the_status a id setting) h
+carried_settles Call.AcceptStream used a h = same_settles used a _ (accepted_streams_keep_the_status a).0 h
+carried_settles (Call.SetMaxSendMessageSize size) used a h =
+    same_settles used a _ (limits_keep_the_status a size).0 h
+carried_settles Call.Close used a h = closed_settles used a reasons.AssociationClosed h
+carried_settles (Call.Read id) used a h = read_settles (read_exhausts a id) used a id refl h
+carried_settles Call.Poll used a h = told_settles (event_polled a) used a refl h
+carried_settles (Call.PollTransmit now) used a h = same_settles used a _ (polls_keep_the_status a now) h
+carried_settles (Call.HandleTimeout now) used a h = same_settles used a _ (timers_keep_the_status a now).0 h
+carried_settles (Call.HandleEvent packet now) used a h = packet_settles a.lost used a packet now refl h
