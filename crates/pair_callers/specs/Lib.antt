@@ -6,3 +6,4 @@ pub mod Buffering
 pub mod Running
 pub mod Lasting
 pub mod Telling
+pub mod Exchanging

@@ -2,9 +2,9 @@
 ghost use Rattle.std.specs.Prelude.{◌≡◌, ◌*◌, None, true, IfOk, OnErr, OnOk};
 ghost use Rattle.sctp_assoc.specs.Calls.{stream_refusal, written};
 ghost use Rattle.sctp_assoc.specs.Chunks.{after_packet};
-ghost use Rattle.sctp_sides.specs.Laws.{is_held};
 ghost use Rattle.sctp_assoc.specs.Gather.{packets_of, polled};
 ghost use Rattle.sctp_pair.specs.Steps.{packet_in};
+ghost use Rattle.pair_callers.specs.Exchanging.{IsHeldOrDropped};
 
 use bytes::Bytes;
 use sctp_assoc::{Association, AssociationEvent, Error, Instant, Payload, StreamId, Transmit};
@@ -17,7 +17,7 @@ use std::net::SocketAddr;
 ///
 /// A failed association refuses all of this with nothing changed. Any other error is that of the first call which was
 /// refused; what the calls before it did stays done, and packets that were asked for are lost. Where the datagram is no
-/// packet, the message waits or is in flight.
+/// packet, the message waits or is in flight, or it had a lifetime of 0 ms and was dropped.
 pub fn exchange(
     association: &mut Association,
     id: StreamId,
@@ -33,7 +33,8 @@ pub fn exchange(
     ensures ok { OnOk result (association.new
         ≡ after_packet (polled (written association.old id None message.now) now).0 (packet_in datagram.now) now) }
     ensures held { OnOk result (packet_in datagram.now ≡ None
-        → is_held association.new.sender.queue association.old.sender.queue.next_message_id ≡ true) }
+        → IsHeldOrDropped (written association.old id None message.now) now association.new
+        association.old.sender.queue.next_message_id) }
 {
     let given = send(association, id, message, now)?;
     hand_in(association, datagram, remote, now)?;
@@ -50,8 +51,8 @@ fn send(
         → (result ≡ Err Error.ErrAssociationFailed) × (association.new ≡ association.old) }
     ensures ok { IfOk result
         (λ given. polled (written association.old id None message.now) now ≡ (association.new, packets_of given)) }
-    ensures held { OnOk result
-        (is_held association.new.sender.queue association.old.sender.queue.next_message_id ≡ true) }
+    ensures held { OnOk result (IsHeldOrDropped (written association.old id None message.now) now association.new
+        association.old.sender.queue.next_message_id) }
 {
     writes_and_polls_lose_nothing();
     write(association, id, message)?;

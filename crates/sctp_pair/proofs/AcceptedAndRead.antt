@@ -24,6 +24,7 @@ quiet_call step r side w initial quiet = record {
   adds = λ s. (quiet side s).0;
   reads = λ s. (quiet side s).1;
   brings = λ o n. absurd n;
+  passes = λ o n. absurd n;
   adds_alone = λ s. (quiet (other_side side) s).0;
   reads_alone = λ s. (quiet (other_side side) s).1;
 }
@@ -58,6 +59,7 @@ write_call step side id named bytes r w initial e none = record {
       (wrote_here r side id named bytes w s);
   reads = λ s. subst (λ o. None ≡ message_answered o r side s) (sym none) (none_answered r side s);
   brings = λ o b. absurd b;
+  passes = λ o b. absurd b;
   adds_alone = λ s. subst (λ o. [] ≡ accepted_of o r (other_side side) s w) (sym e)
       (wrote_there r side id named bytes w s);
   reads_alone =
@@ -87,6 +89,7 @@ read_call step side id r w initial none e = record {
   adds = λ s. subst (λ o. [] ≡ accepted_of o r side s w) (sym none) (none_accepted r side s w);
   reads = λ s. subst (λ o. read_by r id s ≡ message_answered o r side s) (sym e) (read_here r side id s);
   brings = λ o b. absurd b;
+  passes = λ o b. absurd b;
   adds_alone =
       λ s. subst (λ o. [] ≡ accepted_of o r (other_side side) s w) (sym none) (none_accepted r (other_side side) s w);
   reads_alone = λ s. subst (λ o. None ≡ message_answered o r (other_side side) s) (sym e) (read_there r side id s);

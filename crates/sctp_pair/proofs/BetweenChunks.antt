@@ -8,12 +8,12 @@ use Rattle.sctp_sides.specs.Meeting.{IsNoEarlier, Stage, stage_of}
 use Rattle.sctp_sides.specs.SideLaws.{IsSameStatus}
 use Rattle.sctp_assoc.specs.Shown.{Shown}
 use Rattle.sctp_pair.specs.Fits.{IsSilent, StagesAgree, StandsOpen}
-use Rattle.sctp_pair.proofs.BetweenDirections.{Goes, Holds, None_brought, OpenAt, Surroundings, moved}
+use Rattle.sctp_pair.proofs.BetweenDirections.{By, Goes, Holds, None_brought, OpenAt, Surroundings, moved}
 use Rattle.sctp_pair.proofs.HandshakeStages.{come_on, known_before, same_stage}
 
 -- Between two chunks of a packet: the association is open, stands between directions to which the packet led so far,
 -- and is in a stage to which it led.
-pub record Underway (x : Surroundings) (B : ℕ → Type 0) (a : Shown) : Type 0 where
+pub record Underway (x : Surroundings) (B : By → ℕ → Type 0) (a : Shown) : Type 0 where
   pub out2 : Direction
   pub coming2 : Direction
   pub goes_out : Goes None_brought x.out out2

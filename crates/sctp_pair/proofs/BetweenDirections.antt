@@ -6,7 +6,7 @@ use Rattle.std.specs.Prelude.{slice_get}
 use Rattle.std.proofs.lemmas.List.{append-nil}
 use Rattle.sctp_receive_queues.specs.Messages as letters
 use Rattle.sctp_model.specs.Messages.{Message}
-use Rattle.sctp_model.specs.Packets.{Data, Sack, mem}
+use Rattle.sctp_model.specs.Packets.{Data, Forward, Sack, mem}
 use Rattle.sctp_model.specs.Machine.{Direction, Event, Receiver, Sender, happens, run}
 use Rattle.sctp_model.specs.Invariants.{Invariant}
 use Rattle.sctp_model.specs.Safe.{IsWithin}
@@ -18,25 +18,33 @@ use Rattle.sctp_assoc.specs.Leads.{parts}
 use Rattle.sctp_assoc.specs.Calls.{is_established}
 use Rattle.sctp_sides.specs.Meeting.{IsNoEarlier, Stage}
 use Rattle.sctp_assoc.specs.Shown.{Shown}
-use Rattle.sctp_directions.specs.Events.{AcceptsAMessage, Brings, GivesAMessage, IsOfReceiving, IsOfSending}
-use Rattle.sctp_directions.specs.Events.{IsPlainEvent}
+use Rattle.sctp_directions.specs.Events.{AcceptsAMessage, Brings, BringsForward, GivesAMessage, IsOfReceiving}
+use Rattle.sctp_directions.specs.Events.{IsOfSending, IsPlainEvent}
 use Rattle.sctp_reassembly.specs.Stands.{IsReadAs}
 use Rattle.sctp_directions.specs.Between.{FitsBetween, IsSound}
-use Rattle.sctp_directions.proofs.Proved.{only_reads_give_messages, only_what_is_brought_is_taken_in}
+use Rattle.sctp_directions.proofs.Proved.{only_forwards_pass_over, only_reads_give_messages}
+use Rattle.sctp_directions.proofs.Proved.{only_what_is_brought_is_taken_in}
 use Rattle.sctp_directions.proofs.Proved.{only_settings_loosen, only_writes_accept, plain_events_keep_it_plain}
 use Rattle.sctp_directions.proofs.Proved.{receivers_events_are_received, senders_events_are_sent}
 use Rattle.sctp_pair.specs.Fits.{IsAt, IsSilent, StagesAgree, Stands, StandsClosed, StandsFailed, StandsOpen}
 
--- What stays and what grows of a direction by events that neither accept nor read: what they take in was there, or was
--- brought.
-pub record Goes (Brought : ℕ → Type 0) (w v : Direction) : Type 0 where
+-- By what the reach of what came may go on: DATA on an offset, or a FORWARD TSN up to a reach.
+pub data By : Type 0 where
+  ByData : By
+  ByForward : By
+
+-- What stays and what grows of a direction by events that neither accept nor read: what they take in or pass over was
+-- there, or was brought.
+pub record Goes (Brought : By → ℕ → Type 0) (w v : Direction) : Type 0 where
   pub events : List Event
   pub is : v ≡ run events w
   pub accepted : (s : ℕ) → v.sender.plan.accepted s ≡ w.sender.plan.accepted s
   pub size : v.sender.plan.size ≡ w.sender.plan.size
   pub reads : (s : ℕ) → v.reads s ≡ w.reads s
-  pub taken : (o : ℕ) → mem o v.receiver.taken ≡ true → (mem o w.receiver.taken ≡ true) ⊎ Brought o
+  pub taken : (o : ℕ) → mem o v.receiver.taken ≡ true → (mem o w.receiver.taken ≡ true) ⊎ Brought By.ByData o
+  pub passed : (v.receiver.passed ≡ w.receiver.passed) ⊎ Brought By.ByForward v.receiver.passed
   pub datas : (k : ℕ) (d : Data) → slice_get w.datas k ≡ Some d → slice_get v.datas k ≡ Some d
+  pub forwards : (k : ℕ) (f : Forward) → slice_get w.forwards k ≡ Some f → slice_get v.forwards k ≡ Some f
   pub sacks : (k : ℕ) (x : Sack) → slice_get w.sacks k ≡ Some x → slice_get v.sacks k ≡ Some x
   pub reach_on : w.sender.reach ≤ v.sender.reach
 
@@ -44,7 +52,7 @@ pub run_append : (es fs : List Event) (w : Direction) → run (es ++ fs) w ≡ r
 run_append [] fs w = refl
 run_append (e ∷ es) fs w = run_append es fs (happens w e)
 
-pub goes_nowhere : (B : ℕ → Type 0) (w : Direction) → Goes B w w
+pub goes_nowhere : (B : By → ℕ → Type 0) (w : Direction) → Goes B w w
 goes_nowhere B w = record {
   events = [];
   is = refl;
@@ -52,26 +60,38 @@ goes_nowhere B w = record {
   size = refl;
   reads = λ s. refl;
   taken = λ o m. inl m;
+  passed = inl refl;
   datas = λ k d e. e;
+  forwards = λ k f e. e;
   sacks = λ k x e. e;
   reach_on = omega arith;
 }
 
-pub goes_on : (B : ℕ → Type 0) (w v u : Direction) → Goes B w v → Goes B v u → Goes B w u
+-- what is passed over goes on
+pub passes_on : (B : By → ℕ → Type 0) (p q r : ℕ) → (q ≡ p) ⊎ B By.ByForward q → (r ≡ q) ⊎ B By.ByForward r
+    → (r ≡ p) ⊎ B By.ByForward r
+passes_on B p q r before (inr b) = inr b
+passes_on B p q r (inl e) (inl f) = inl (f ∙ e)
+passes_on B p q r (inr b) (inl f) = inr (subst (B By.ByForward) (sym f) b)
+
+pub goes_on : (B : By → ℕ → Type 0) (w v u : Direction) → Goes B w v → Goes B v u → Goes B w u
 goes_on B w v u g h = record {
   events = g.events ++ h.events;
   is = h.is ∙ ap (run h.events) g.is ∙ sym (run_append g.events h.events w);
   accepted = λ s. h.accepted s ∙ g.accepted s;
   size = h.size ∙ g.size;
   reads = λ s. h.reads s ∙ g.reads s;
-  taken = λ o m. ⊎_elim (λ (n : mem o v.receiver.taken ≡ true). g.taken o n) (λ (b : B o). inr b) (h.taken o m);
+  taken =
+      λ o m. ⊎_elim (λ (n : mem o v.receiver.taken ≡ true). g.taken o n) (λ (b : B By.ByData o). inr b) (h.taken o m);
+  passed = passes_on B w.receiver.passed v.receiver.passed u.receiver.passed g.passed h.passed;
   datas = λ k d e. h.datas k d (g.datas k d e);
+  forwards = λ k f e. h.forwards k f (g.forwards k f e);
   sacks = λ k x e. h.sacks k x (g.sacks k x e);
   reach_on = (let a = g.reach_on in let b = h.reach_on in omega arith);
 }
 
 -- one event at the sender that is no write
-pub goes_by_sender : (B : ℕ → Type 0) (w : Direction) (e : Event) → IsOfSending e → (AcceptsAMessage e → ⊥)
+pub goes_by_sender : (B : By → ℕ → Type 0) (w : Direction) (e : Event) → IsOfSending e → (AcceptsAMessage e → ⊥)
     → Goes B w (happens w e)
 goes_by_sender B w e at none =
     let sent = senders_events_are_sent w e at in
@@ -82,15 +102,18 @@ goes_by_sender B w e at none =
       size = sent.0.size;
       reads = λ s. ap (λ f. f s) sent.0.reads;
       taken = λ o m. inl (subst (λ (r : Receiver). mem o r.taken ≡ true) sent.0.receiver m);
+      passed = inl (ap (λ (r : Receiver). r.passed) sent.0.receiver);
       datas = sent.0.datas;
+      forwards = sent.0.forwards;
       sacks = λ k x g. subst (λ (ks : List Sack). slice_get ks k ≡ Some x) (sym sent.0.sacks) g;
       reach_on = sent.1;
     }
 
 -- one event at the receiver that is no read
-pub goes_by_receiver : (B : ℕ → Type 0) (w : Direction) (e : Event) → IsOfReceiving e → (GivesAMessage e → ⊥)
-    → ((o : ℕ) → Brings w e o → B o) → Goes B w (happens w e)
-goes_by_receiver B w e at none brings =
+pub goes_by_receiver : (B : By → ℕ → Type 0) (w : Direction) (e : Event) → IsOfReceiving e → (GivesAMessage e → ⊥)
+    → ((o : ℕ) → Brings w e o → B By.ByData o) → ((n : ℕ) → BringsForward w e n → B By.ByForward n)
+    → Goes B w (happens w e)
+goes_by_receiver B w e at none brings passes =
     let received = receivers_events_are_received w e at in
     record {
       events = e ∷ [];
@@ -101,7 +124,12 @@ goes_by_receiver B w e at none brings =
       taken =
           λ o m. ⊎_elim (λ (n : mem o w.receiver.taken ≡ true). inl n) (λ (b : Brings w e o). inr (brings o b))
           (only_what_is_brought_is_taken_in w e o at m);
+      passed = ⊎_elim
+          (λ (e : (happens w e).receiver.passed ≡ w.receiver.passed). inl e)
+          (λ (b : BringsForward w e (happens w e).receiver.passed). inr (passes (happens w e).receiver.passed b))
+          (only_forwards_pass_over w e at);
       datas = λ k d g. subst (λ (ds : List Data). slice_get ds k ≡ Some d) (sym received.datas) g;
+      forwards = λ k f g. subst (λ (fs : List Forward). slice_get fs k ≡ Some f) (sym received.forwards) g;
       sacks = received.sacks;
       reach_on = (let f = ap (λ (x : Sender). x.reach) received.sender in omega arith);
     }
@@ -161,22 +189,26 @@ pub orderly_acts_keep_order : (loose : ℕ → Bool) (act : Act) → IsOrderly a
 orderly_acts_keep_order loose act orderly p s tight h = only_settings_loosen act p s (orderly s) h
 
 -- Nothing is brought.
-abbrev pub None_brought : ℕ → Type 0
-None_brought o = ⊥
+abbrev pub None_brought : By → ℕ → Type 0
+None_brought by o = ⊥
 
 -- events by which associations send and receive so far are events at the sender and at the receiver
 at_sender : (e : Event) → IsOfSending e → IsAtSender e
 at_sender (Event.Write s m) at = tt
 at_sender (Event.PassOver s) at = tt
+at_sender (Event.Drop s i) at = tt
 at_sender (Event.Begin s i any) at = tt
 at_sender Event.GoOn at = tt
 at_sender (Event.Resend o) at = tt
+at_sender (Event.Abandon s i) at = tt
 at_sender (Event.SackComes k) at = tt
+at_sender Event.ForwardMade at = tt
 at_sender e at = absurd at
 
 at_receiver : (e : Event) → IsOfReceiving e → IsAtReceiver e
 at_receiver (Event.DataComes k) at = tt
 at_receiver Event.SackMade at = tt
+at_receiver (Event.ForwardComes k) at = tt
 at_receiver (Event.Open s) at = tt
 at_receiver (Event.Read s) at = tt
 at_receiver Event.Close at = tt
@@ -258,15 +290,17 @@ other_by_receiver x e at h =
     h
 
 -- What a call does to a direction: what it accepts there, what it reads, and what may be taken in.
-pub record Does (Added : ℕ → List Message) (Read : ℕ → Option letters.ReceivedMessage) (Brought : ℕ → Type 0)
+pub record Does (Added : ℕ → List Message) (Read : ℕ → Option letters.ReceivedMessage) (Brought : By → ℕ → Type 0)
     (w v : Direction) : Type 0 where
   pub events : List Event
   pub is : v ≡ run events w
   pub accepted : (s : ℕ) → v.sender.plan.accepted s ≡ w.sender.plan.accepted s ++ Added s
   pub size : v.sender.plan.size ≡ w.sender.plan.size
   pub reads : (s : ℕ) → IsReadAs (Read s) (w.reads s) (v.reads s)
-  pub taken : (o : ℕ) → mem o v.receiver.taken ≡ true → (mem o w.receiver.taken ≡ true) ⊎ Brought o
+  pub taken : (o : ℕ) → mem o v.receiver.taken ≡ true → (mem o w.receiver.taken ≡ true) ⊎ Brought By.ByData o
+  pub passed : (v.receiver.passed ≡ w.receiver.passed) ⊎ Brought By.ByForward v.receiver.passed
   pub datas : (k : ℕ) (d : Data) → slice_get w.datas k ≡ Some d → slice_get v.datas k ≡ Some d
+  pub forwards : (k : ℕ) (f : Forward) → slice_get w.forwards k ≡ Some f → slice_get v.forwards k ≡ Some f
   pub sacks : (k : ℕ) (x : Sack) → slice_get w.sacks k ≡ Some x → slice_get v.sacks k ≡ Some x
   pub reach_on : w.sender.reach ≤ v.sender.reach
 
@@ -276,7 +310,7 @@ nothing_added s = []
 abbrev pub nothing_read : ℕ → Option letters.ReceivedMessage
 nothing_read s = None
 
-pub does_by_goes : (B : ℕ → Type 0) (w v : Direction) → Goes B w v → Does nothing_added nothing_read B w v
+pub does_by_goes : (B : By → ℕ → Type 0) (w v : Direction) → Goes B w v → Does nothing_added nothing_read B w v
 does_by_goes B w v g = record {
   events = g.events;
   is = g.is;
@@ -284,7 +318,9 @@ does_by_goes B w v g = record {
   size = g.size;
   reads = g.reads;
   taken = g.taken;
+  passed = g.passed;
   datas = g.datas;
+  forwards = g.forwards;
   sacks = g.sacks;
   reach_on = g.reach_on;
 }
@@ -292,7 +328,7 @@ does_by_goes B w v g = record {
 -- One association's call leads from its surroundings to other directions and another stage, between which it stands
 -- then; the other association stands there too.
 pub record Settles (x : Surroundings) (b : Shown) (Added : ℕ → List Message)
-    (Read : ℕ → Option letters.ReceivedMessage) (Brought : ℕ → Type 0) : Type 0 where
+    (Read : ℕ → Option letters.ReceivedMessage) (Brought : By → ℕ → Type 0) : Type 0 where
   pub out2 : Direction
   pub coming2 : Direction
   pub here2 : Stage

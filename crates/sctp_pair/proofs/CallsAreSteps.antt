@@ -23,10 +23,12 @@ use Rattle.sctp_pair.specs.declared.step.Side2.TheVariants as sides
 use Rattle.sctp_pair.specs.declared.step.Step.{Step}
 use Rattle.sctp_pair.specs.Ends.{Ends, end_of}
 use Rattle.sctp_pair.specs.Steps.{Steps, packet_in}
-use Rattle.sctp_pair.specs.World.{HasData, IsDirectionStep, IsOpen, World, accepted_at, message_read, other_side}
+use Rattle.sctp_fit.specs.Incoming.{tsn_before}
+use Rattle.sctp_pair.specs.World.{HasData, HasForward, IsDirectionStep, IsOpen, World, accepted_at, message_read}
+use Rattle.sctp_pair.specs.World.{other_side}
 use Rattle.sctp_pair.specs.World.{IsOrderedAndReliable, loose_after, loose_of, loosens, packet_brought}
 use Rattle.sctp_pair.specs.Fits.{AreSaid, Fits, IsAt, IsSaidBy, IsSilent, LeadsSafely, Stands, StandsIn}
-use Rattle.sctp_pair.proofs.BetweenDirections.{Does, Faces, OpenAt, Settles, Surroundings, moved}
+use Rattle.sctp_pair.proofs.BetweenDirections.{By, Does, Faces, OpenAt, Settles, Surroundings, moved}
 use Rattle.sctp_pair.proofs.AcceptedInOrder.{accepted_in_order}
 use Rattle.sctp_pair.proofs.NeverTakenBack.{runs_are_onward}
 use Rattle.sctp_pair.proofs.Promised.{receives_or_stopped, safe_world}
@@ -122,16 +124,18 @@ faces_b step reply w f = record {
 -- What a step and its reply add, read and bring is at this side this alone, and at the other side nothing; the DATA
 -- that comes to this side has this initial TSN.
 pub record IsCallAt (step : Step) (reply : Reply) (side : Side2) (w : World) (initial : ℕ) (Added : ℕ → List Message)
-    (Read : ℕ → Option letters.ReceivedMessage) (Brought : ℕ → Type 0) : Type 0 where
+    (Read : ℕ → Option letters.ReceivedMessage) (Brought : By → ℕ → Type 0) : Type 0 where
   pub adds : (s : ℕ) → Added s ≡ accepted_at step reply side s w
   pub reads : (s : ℕ) → Read s ≡ message_read step reply side s
-  pub brings : (o : ℕ) → Brought o → HasData (packet_brought step reply side w) (tsn initial o)
+  pub brings : (o : ℕ) → Brought By.ByData o → HasData (packet_brought step reply side w) (tsn initial o)
+  pub passes : (n : ℕ) → Brought By.ByForward n
+      → HasForward (packet_brought step reply side w) (tsn_before (tsn initial n))
   pub adds_alone : (s : ℕ) → [] ≡ accepted_at step reply (other_side side) s w
   pub reads_alone : (s : ℕ) → None ≡ message_read step reply (other_side side) s
 
 -- What a call that settles leaves behind.
 module _ {x : Surroundings} {b : Shown} {Added : ℕ → List Message} {Read : ℕ → Option letters.ReceivedMessage}
-    {Brought : ℕ → Type 0} (s : Settles x b Added Read Brought) where
+    {Brought : By → ℕ → Type 0} (s : Settles x b Added Read Brought) where
   -- an association that is established is open
   is_open : IsOpen b ⊎ (s.out2.sender.plan.places ≡ x.out.sender.plan.places)
   is_open =
@@ -156,27 +160,39 @@ module _ {x : Surroundings} {b : Shown} {Added : ℕ → List Message} {Read : �
 
   -- its side goes on, and so does the other one
   own_goes_on : StageGoesOn x.here s.here2 x.out x.coming s.out2 s.coming2
-  own_goes_on = record { goes = s.goes; datas = s.does_out.datas; sacks = s.does_coming.sacks }
+  own_goes_on = record {
+    goes = s.goes;
+    datas = s.does_out.datas;
+    forwards = s.does_out.forwards;
+    sacks = s.does_coming.sacks;
+  }
 
   other_goes_on : StageGoesOn x.there x.there x.coming x.out s.coming2 s.out2
-  other_goes_on = record { goes = stays_put x.there; datas = s.does_coming.datas; sacks = s.does_out.sacks }
+  other_goes_on = record {
+    goes = stays_put x.there;
+    datas = s.does_coming.datas;
+    forwards = s.does_coming.forwards;
+    sacks = s.does_out.sacks;
+  }
 
 -- This step of the world's pair has this reply and leads to q.
 module _ (step : Step) (reply : Reply) (w : World) (q : Ends) where
   -- what a call does to a direction is what a step does there, where it adds, reads and brings the same
   module _ (sender receiver : Side2) (initial : ℕ) where
     direction_step : {before after : Direction} {Added : ℕ → List Message}
-        {Read : ℕ → Option letters.ReceivedMessage} {Brought : ℕ → Type 0} → Does Added Read Brought before after
+        {Read : ℕ → Option letters.ReceivedMessage} {Brought : By → ℕ → Type 0} → Does Added Read Brought before after
         → ((s : ℕ) → Added s ≡ accepted_at step reply sender s w)
         → ((s : ℕ) → Read s ≡ message_read step reply receiver s)
-        → ((o : ℕ) → Brought o → HasData (packet_brought step reply receiver w) (tsn initial o))
+        → ((o : ℕ) → Brought By.ByData o → HasData (packet_brought step reply receiver w) (tsn initial o))
+        → ((n : ℕ) → Brought By.ByForward n
+        → HasForward (packet_brought step reply receiver w) (tsn_before (tsn initial n)))
         → ((s : ℕ) → loose_of sender w s ≡ false
         → AllByRecursion IsOrderedAndReliable (accepted_at step reply sender s w))
         → IsOpen (end_of sender q) ⊎ (after.sender.plan.places ≡ before.sender.plan.places)
-        → IsSound before → IsSound after
+        → IsSound after
         → (after.receiver.is_open ≡ true) ⊎ (IsOpen (end_of receiver q) → ⊥)
         → IsDirectionStep step reply sender receiver w q initial before after
-    direction_step {before} {after} {Added} {Read} {Brought} d adds reads brings kept no_more was is receives = record {
+    direction_step {before} {after} {Added} {Read} {Brought} d adds reads brings passes kept no_more is receives = record {
       events = d.events;
       happened = d.is;
       accepted = λ s. d.accepted s ∙ ap (λ (z : List Message). before.sender.plan.accepted s ++ z) (adds s);
@@ -186,14 +202,17 @@ module _ (step : Step) (reply : Reply) (w : World) (q : Ends) where
           (reads s) (d.reads s);
       taken = λ o m. ⊎_elim
           (λ (n : mem o before.receiver.taken ≡ true). inl n)
-          (λ (b : Brought o). inr (brings o b))
+          (λ (b : Brought By.ByData o). inr (brings o b))
           (d.taken o m);
       reach_on = d.reach_on;
       no_more = no_more;
       size = d.size;
       span = λ s o. absurd (true≢false (sym o ∙ is.plain.span s));
       span_over = λ s o. ap (λ (z : Direction). z.over s) d.is ∙ (runs_are_onward d.events before).over s o;
-      passed = inl (is.plain.unskipped ∙ sym was.plain.unskipped);
+      passed = ⊎_elim
+          (λ (e : after.receiver.passed ≡ before.receiver.passed). inl e)
+          (λ (b : Brought By.ByForward after.receiver.passed). inr (passes after.receiver.passed b))
+          d.passed;
       given_up = λ s i g. inr (is.invariant.sending.given_up s i g).1;
       closes =
           ⊎_elim (λ (o : after.receiver.is_open ≡ true). inl o)
@@ -203,7 +222,7 @@ module _ (step : Step) (reply : Reply) (w : World) (q : Ends) where
 
   -- A call of A that settles leads from the world to one in which the pair stands: the packets that it gave out are A's
   -- next ones.
-  pub settled_a : {Added : ℕ → List Message} {Read : ℕ → Option letters.ReceivedMessage} {Brought : ℕ → Type 0}
+  pub settled_a : {Added : ℕ → List Message} {Read : ℕ → Option letters.ReceivedMessage} {Brought : By → ℕ → Type 0}
       (given : List (List ℕ)) (fits : Fits w.ends w) → q.b ≡ w.ends.b → q.packets_a ≡ w.ends.packets_a ++ given
       → q.packets_b ≡ w.ends.packets_b → Steps step w.ends reply q
       → (s : Settles (around_a step reply w fits) q.a Added Read Brought)
@@ -218,13 +237,13 @@ module _ (step : Step) (reply : Reply) (w : World) (q : Ends) where
       loose_a_is = λ s. refl;
       loose_b_is = λ s. refl;
       ab_step =
-          direction_step sides.A sides.B w.initial_a s.does_out call.adds call.reads_alone (λ o n. absurd n)
-          (accepted_in_order step reply w q fits ends sides.A) (is_open s) fits.stand.sound_ab s.sound_out
+          direction_step sides.A sides.B w.initial_a s.does_out call.adds call.reads_alone (λ o n. absurd n) (λ o n. absurd n)
+          (accepted_in_order step reply w q fits ends sides.A) (is_open s) s.sound_out
           (receives_or_stopped w.initial_b w.initial_a q.b s.coming2 s.out2 stands.side_b);
       ba_step =
-          direction_step sides.B sides.A w.initial_b s.does_coming call.adds_alone call.reads call.brings
+          direction_step sides.B sides.A w.initial_b s.does_coming call.adds_alone call.reads call.brings call.passes
           (accepted_in_order step reply w q fits ends sides.B)
-          (inr (ap (λ (z : Sender). z.plan.places) s.coming_still)) fits.stand.sound_ba s.sound_coming
+          (inr (ap (λ (z : Sender). z.plan.places) s.coming_still)) s.sound_coming
           (receives_or_stopped w.initial_a w.initial_b q.a s.out2 s.coming2 stands.side_a);
     },
     stands,
@@ -269,7 +288,7 @@ module _ (step : Step) (reply : Reply) (w : World) (q : Ends) where
       }
 
   -- The same of a call of B.
-  pub settled_b : {Added : ℕ → List Message} {Read : ℕ → Option letters.ReceivedMessage} {Brought : ℕ → Type 0}
+  pub settled_b : {Added : ℕ → List Message} {Read : ℕ → Option letters.ReceivedMessage} {Brought : By → ℕ → Type 0}
       (given : List (List ℕ)) (fits : Fits w.ends w) → q.a ≡ w.ends.a → q.packets_b ≡ w.ends.packets_b ++ given
       → q.packets_a ≡ w.ends.packets_a → Steps step w.ends reply q
       → (s : Settles (around_b step reply w fits) q.b Added Read Brought)
@@ -284,13 +303,13 @@ module _ (step : Step) (reply : Reply) (w : World) (q : Ends) where
       loose_a_is = λ s. refl;
       loose_b_is = λ s. refl;
       ab_step =
-          direction_step sides.A sides.B w.initial_a s.does_coming call.adds_alone call.reads call.brings
+          direction_step sides.A sides.B w.initial_a s.does_coming call.adds_alone call.reads call.brings call.passes
           (accepted_in_order step reply w q fits ends sides.A)
-          (inr (ap (λ (z : Sender). z.plan.places) s.coming_still)) fits.stand.sound_ab s.sound_coming
+          (inr (ap (λ (z : Sender). z.plan.places) s.coming_still)) s.sound_coming
           (receives_or_stopped w.initial_b w.initial_a q.b s.out2 s.coming2 stands.side_b);
       ba_step =
-          direction_step sides.B sides.A w.initial_b s.does_out call.adds call.reads_alone (λ o n. absurd n)
-          (accepted_in_order step reply w q fits ends sides.B) (is_open s) fits.stand.sound_ba s.sound_out
+          direction_step sides.B sides.A w.initial_b s.does_out call.adds call.reads_alone (λ o n. absurd n) (λ o n. absurd n)
+          (accepted_in_order step reply w q fits ends sides.B) (is_open s) s.sound_out
           (receives_or_stopped w.initial_a w.initial_b q.a s.coming2 s.out2 stands.side_a);
     },
     stands,

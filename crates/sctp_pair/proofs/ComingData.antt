@@ -1,74 +1,90 @@
--- What comes to one association: DATA of the other's direction is taken in, and reported, while its own direction
--- stands still.
+-- What comes to one association: DATA of the other's direction is taken in, what is given up there is passed over, and
+-- both is reported, while its own direction stands still.
 use Rattle.std.proofs.Common.{◌≡◌, refl, sym, ap, ◌∙◌, subst, ℕ, [], ◌∷◌, Some, None}
 use Rattle.std.specs.Prelude.{slice_get}
+use Rattle.sctp_wire_types.specs.declared.chunk.ChunkForwardTsn.{ChunkForwardTsn}
 use Rattle.sctp_wire_types.specs.declared.chunk.ChunkPayloadData.{ChunkPayloadData}
 use Rattle.sctp_wire_types.specs.declared.chunk.ChunkSelectiveAck.{ChunkSelectiveAck}
 use Rattle.sctp_wire_types.specs.declared.ids.PayloadProtocolIdentifier.{PayloadProtocolIdentifier}
-use Rattle.sctp_model.specs.Packets.{Data}
+use Rattle.sctp_model.specs.Packets.{Data, Forward}
 use Rattle.sctp_model.specs.Machine.{Direction, Event, happens}
 use Rattle.sctp_model.specs.Safe.{IsWithin}
 use Rattle.sctp_model.proofs.Proved.{each_event_keeps_the_invariant}
 use Rattle.sctp_streams.specs.Stream.{StreamView}
 use Rattle.sctp_streams.specs.Streams.{stream_at}
+use Rattle.sctp_fit.specs.Forwards.{IsForwardSaid}
 use Rattle.sctp_fit.specs.Incoming.{FitsIncoming, IsSaid}
 use Rattle.sctp_fit.specs.Outgoing.{FitsOutgoing}
 use Rattle.sctp_fit.proofs.DataTaken.{opened_streams_are_alike}
 use Rattle.sctp_fit.proofs.NothingToSend.{opened_streams_send_nothing}
 use Rattle.sctp_directions.specs.Acts.{Act, Can, History, IsNotPeerKnown, Parts, done, reach_in, receiving, sending}
-use Rattle.sctp_directions.specs.Events.{Brings, GivesAMessage, IsOfReceiving, IsPlainEvent, KeepsWithin}
+use Rattle.sctp_directions.specs.Events.{Brings, BringsForward, GivesAMessage, IsOfReceiving, IsPlainEvent}
+use Rattle.sctp_directions.specs.Events.{KeepsWithin}
 use Rattle.sctp_directions.specs.Reports.{SaysWhatWasTaken}
 use Rattle.sctp_directions.specs.Said.{IsMade}
 use Rattle.sctp_directions.proofs.Proved.{acts_keep_the_initial_tsns, events_keep_the_limits}
+use Rattle.sctp_directions.proofs.Proved.{forwards_it_takes_come}
 use Rattle.sctp_directions.proofs.Proved.{only_settings_loosen, receivers_events_are_received}
 use Rattle.sctp_directions.proofs.Proved.{reports_say_what_was_taken, what_comes_leaves_its_own}
 use Rattle.sctp_directions.proofs.Proved.{what_it_takes_in_comes}
-use Rattle.sctp_pair.proofs.BetweenDirections.{Goes, Holds, IsOrderly, Surroundings, goes_by_receiver, goes_nowhere}
+use Rattle.sctp_pair.proofs.BetweenDirections.{By, Goes, Holds, IsOrderly, Surroundings, goes_by_receiver}
+use Rattle.sctp_pair.proofs.BetweenDirections.{goes_nowhere}
 use Rattle.sctp_pair.proofs.BetweenDirections.{other_by_receiver, sound_after}
 
 -- What was done at the receiver of the direction that comes.
-pub record AfterComing (x : Surroundings) (p : Parts) (B : ℕ → Type 0) : Type 0 where
+pub record AfterComing (x : Surroundings) (p : Parts) (B : By → ℕ → Type 0) : Type 0 where
   pub coming2 : Direction
   pub goes : Goes B x.coming coming2
   pub still : coming2.sender ≡ x.coming.sender
   pub within : IsWithin coming2
   pub holds : Holds (record x { coming = coming2 }) p
 
-pub coming_nowhere : {x : Surroundings} {p : Parts} (B : ℕ → Type 0) → IsWithin x.coming → Holds x p
+pub coming_nowhere : {x : Surroundings} {p : Parts} (B : By → ℕ → Type 0) → IsWithin x.coming → Holds x p
     → AfterComing x p B
 coming_nowhere {x} B within h =
     record { coming2 = x.coming; goes = goes_nowhere B x.coming; still = refl; within = within; holds = h }
 
 -- Of an association with these parts, the act is this event at the receiver of the direction that comes, and no read.
-record IsReceiversEvent (x : Surroundings) (p : Parts) (B : ℕ → Type 0) (act : Act) (e : Event) : Type 0 where
+record IsReceiversEvent (x : Surroundings) (p : Parts) (B : By → ℕ → Type 0) (act : Act) (e : Event) : Type 0 where
   nobody : IsNotPeerKnown act
   orderly : IsOrderly act
   at : IsOfReceiving e
   none : GivesAMessage e → ⊥
   keeps : KeepsWithin e
   plain : IsPlainEvent e
-  brings : (o : ℕ) → Brings x.coming e o → B o
+  brings : (o : ℕ) → Brings x.coming e o → B By.ByData o
+  passes : (n : ℕ) → BringsForward x.coming e n → B By.ByForward n
   outgoing : FitsOutgoing (sending (done act p)) x.out
   incoming : FitsIncoming (receiving (done act p)) (happens x.coming e)
 
 -- The association may take in this piece of DATA, of a stream of its own, and what it brings is B.
-pub record MayTake (x : Surroundings) (p : Parts) (B : ℕ → Type 0) (piece : ChunkPayloadData) : Type 0 where
+pub record MayTake (x : Surroundings) (p : Parts) (B : By → ℕ → Type 0) (piece : ChunkPayloadData) : Type 0 where
   pub index : ℕ
   pub datum : Data
   pub there : slice_get x.coming.datas index ≡ Some datum
   pub said : IsSaid x.peer piece datum
-  pub brought : B datum.offset
+  pub brought : B By.ByData datum.offset
   pub known : p.history.peer ≡ x.peer
   pub can : Can (Act.Took piece) p
   pub stream : StreamView
   pub live : stream_at p.streams piece.stream_identifier ≡ Some stream
 
+-- The association may pass over what a FORWARD TSN says, and what that brings is B.
+pub record MayPass (x : Surroundings) (p : Parts) (B : By → ℕ → Type 0) (chunk : ChunkForwardTsn) : Type 0 where
+  pub index : ℕ
+  pub forward : Forward
+  pub there : slice_get x.coming.forwards index ≡ Some forward
+  pub said : IsForwardSaid x.peer chunk forward
+  pub brought : B By.ByForward forward.reach
+  pub known : p.history.peer ≡ x.peer
+  pub can : Can (Act.PassedOver chunk.new_cumulative_tsn chunk.streams) p
+
 -- The directions hold the association, and the one that comes to it is within the limits.
-module _ (x : Surroundings) (p : Parts) (B : ℕ → Type 0) (h : Holds x p) (within : IsWithin x.coming) where
+module _ (x : Surroundings) (p : Parts) (B : By → ℕ → Type 0) (h : Holds x p) (within : IsWithin x.coming) where
   act_at_receiver : (act : Act) (e : Event) → IsReceiversEvent x p B act e → AfterComing x (done act p) B
   act_at_receiver act e is = record {
     coming2 = happens x.coming e;
-    goes = goes_by_receiver B x.coming e is.at is.none is.brings;
+    goes = goes_by_receiver B x.coming e is.at is.none is.brings is.passes;
     still = (receivers_events_are_received x.coming e is.at).sender;
     within = events_keep_the_limits x.coming e is.keeps within;
     holds = record {
@@ -97,6 +113,7 @@ module _ (x : Surroundings) (p : Parts) (B : ℕ → Type 0) (h : Holds x p) (wi
         keeps = tt;
         plain = tt;
         brings = λ o n. absurd n;
+        passes = λ n b. absurd b;
         outgoing =
             opened_streams_send_nothing (sending p) id first kind x.out none (h.sound_out.plain.span id)
             h.sound_out.invariant h.sound_out.counts h.between.outgoing;
@@ -117,14 +134,41 @@ module _ (x : Surroundings) (p : Parts) (B : ℕ → Type 0) (h : Holds x p) (wi
         keeps = tt;
         plain = tt;
         brings = brings;
+        passes = λ n b. absurd b;
         outgoing = what_comes_leaves_its_own (Act.Took piece) p x.out tt h.between.outgoing;
         incoming = fits.1;
       }
     where
-      brings : (o : ℕ) → Brings x.coming (Event.DataComes m.index) o → B o
+      brings : (o : ℕ) → Brings x.coming (Event.DataComes m.index) o → B By.ByData o
       brings o (c, found, at) =
           let same : c ≡ m.datum = (let g : Some c ≡ Some m.datum = sym found ∙ m.there in cc) in
-          subst B (sym (at ∙ ap (λ (z : Data). z.offset) same)) m.brought
+          subst (B By.ByData) (sym (at ∙ ap (λ (z : Data). z.offset) same)) m.brought
+
+  pub act_passed : (chunk : ChunkForwardTsn) → MayPass x p B chunk
+      → AfterComing x (done (Act.PassedOver chunk.new_cumulative_tsn chunk.streams) p) B
+  act_passed chunk m =
+      let act : Act = Act.PassedOver chunk.new_cumulative_tsn chunk.streams in
+      let named = subst (λ i. IsForwardSaid i chunk m.forward) (sym m.known) m.said in
+      let fits =
+      forwards_it_takes_come p chunk m.index m.forward x.coming m.can m.there named within h.sound_coming.invariant
+      h.between.incoming in
+      act_at_receiver act (Event.ForwardComes m.index) record {
+        nobody = tt;
+        orderly = λ s n. n;
+        at = tt;
+        none = λ n. n;
+        keeps = tt;
+        plain = tt;
+        brings = λ o n. absurd n;
+        passes = passes;
+        outgoing = what_comes_leaves_its_own act p x.out tt h.between.outgoing;
+        incoming = fits.1;
+      }
+    where
+      passes : (n : ℕ) → BringsForward x.coming (Event.ForwardComes m.index) n → B By.ByForward n
+      passes n (f, found, at) =
+          let same : f ≡ m.forward = (let g : Some f ≡ Some m.forward = sym found ∙ m.there in cc) in
+          subst (B By.ByForward) (sym (at ∙ ap (λ (z : Forward). z.reach) same)) m.brought
 
 -- what says what came is a SACK that was made
 abbrev pub ReportsSaid : ℕ → History → Direction → Type 0
@@ -132,11 +176,11 @@ ReportsSaid peer h coming =
     (c : ChunkSelectiveAck) → SaysWhatWasTaken h.peer (reach_in h) h.taken c → IsMade peer coming c
 
 -- a SACK is made, which is any that says what came
-pub record AfterReport (x : Surroundings) (p : Parts) (B : ℕ → Type 0) : Type 0 where
+pub record AfterReport (x : Surroundings) (p : Parts) (B : By → ℕ → Type 0) : Type 0 where
   pub after : AfterComing x p B
   pub said : ReportsSaid x.peer p.history after.coming2
 
-pub act_reported : {x : Surroundings} {p : Parts} (B : ℕ → Type 0) → Holds x p → p.history.peer ≡ x.peer
+pub act_reported : {x : Surroundings} {p : Parts} (B : By → ℕ → Type 0) → Holds x p → p.history.peer ≡ x.peer
     → IsWithin x.coming → AfterReport x p B
 unfolding act_at_receiver
 act_reported {x} {p} B h known within =
@@ -151,6 +195,7 @@ act_reported {x} {p} B h known within =
             keeps = tt;
             plain = tt;
             brings = λ o n. absurd n;
+            passes = λ n b. absurd b;
             outgoing = h.between.outgoing;
             incoming = report.0;
           };

@@ -10,7 +10,7 @@ use Rattle.sctp_sides.specs.Meeting.{Greets, IsLearning, MayHear, stage_of}
 use Rattle.sctp_sides.specs.SideLaws.{TakesChunk}
 use Rattle.sctp_assoc.specs.Shown.{Shown}
 use Rattle.sctp_directions.proofs.Proved.{peer_known_is_no_event}
-use Rattle.sctp_pair.proofs.BetweenDirections.{Holds, Surroundings, moved}
+use Rattle.sctp_pair.proofs.BetweenDirections.{By, Holds, Surroundings, moved}
 use Rattle.sctp_pair.proofs.HandshakeStages.{goes_through, meets_on, works_on}
 use Rattle.sctp_pair.proofs.BetweenChunks.{Underway}
 
@@ -20,7 +20,7 @@ record KeepsHolding (x : Surroundings) (b : Shown) (k : History) : Type 0 where
   pub peer_is : is_some b.handshake.peer_initial_tsn ≡ true → k.peer ≡ x.peer
 
 -- the peer's initial TSN becomes known before anything came
-learnt : (x : Surroundings) {B : ℕ → Type 0} (acts : List Act) {a b : Shown} (k : History) (u : Underway x B a)
+learnt : (x : Surroundings) {B : By → ℕ → Type 0} (acts : List Act) {a b : Shown} (k : History) (u : Underway x B a)
     → parts b k ≡ done_all acts (parts a u.stands.past) → IsLearning x.peer acts a b
     → KeepsHolding (moved x u.out2 u.coming2) b k
 learnt x acts {a} {b} k u is (inl (none, same)) =
@@ -47,7 +47,7 @@ learnt x acts {a} {b} k u is (inr (met, deaf)) =
           outgoing = u.holds.between.outgoing;
           incoming =
               peer_known_is_no_event p x.peer u.coming2 (u.silent never) u.holds.sound_coming.invariant
-              u.holds.sound_coming.plain u.holds.between.incoming;
+              u.holds.between.incoming;
         };
         in_order = u.holds.in_order;
         other = u.holds.other;
@@ -56,7 +56,7 @@ learnt x acts {a} {b} k u is (inr (met, deaf)) =
     }
 
 -- The handshake goes on, and the directions stay.
-pub greet_step : {x : Surroundings} {B : ℕ → Type 0} (header : CommonHeader) (c : Chunk) {a b : Shown}
+pub greet_step : {x : Surroundings} {B : By → ℕ → Type 0} (header : CommonHeader) (c : Chunk) {a b : Shown}
     → TakesChunk header c a b → Greets x.peer x.there c → Underway x B a → Underway x B b
 greet_step {x} header c {a} {b} takes greeting u =
     let g = takes.greets x.own x.peer x.there greeting u.meets.one u.stands.truthful u.stands.come in

@@ -9,6 +9,7 @@ pub mod Counted
 pub mod OutgoingData
 pub mod ComingData
 pub mod FewInAll
+mod ForwardsMade
 pub mod HandshakeChunk
 pub mod HandshakeStages
 pub mod CountedRuns

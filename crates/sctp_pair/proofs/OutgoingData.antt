@@ -1,10 +1,14 @@
--- What one association gives out: DATA of its direction, sent for the first time or again, while what comes to it
--- stands still.
-use Rattle.std.proofs.Common.{◌≡◌, ◌∙◌, subst, List, [], ◌∷◌, ℕ, ◌+◌, Some}
+-- What one association gives up and gives out: DATA of its direction, sent for the first time or again, and FORWARD TSN,
+-- while what comes to it stands still.
+use Rattle.std.proofs.Common.{◌≡◌, ◌∙◌, refl, subst, List, [], ◌∷◌, ◌++◌, ℕ, ◌+◌, ◌≤◌, arith, Bool, true, false, Some}
 use Rattle.std.specs.Prelude.{slice_get}
 use Rattle.std.specs.List.{AllByRecursion}
+use Rattle.std.proofs.lemmas.Bool.{false≢true}
 use Rattle.sctp_wire_types.specs.declared.chunk.ChunkPayloadData.{ChunkPayloadData}
 use Rattle.sctp_wire_types.specs.declared.chunk.ChunkSelectiveAck.{ChunkSelectiveAck}
+use Rattle.sctp_serial.specs.Serial.{tsn}
+use Rattle.sctp_outbound.specs.declared.sender.Sender.{Sender}
+use Rattle.sctp_outbound.specs.Forward.{forward_of}
 use Rattle.sctp_model.specs.Packets.{Sack}
 use Rattle.sctp_model.specs.Machine.{Direction, Event, happens, run}
 use Rattle.sctp_model.specs.Safe.{IsWithin}
@@ -15,14 +19,18 @@ use Rattle.sctp_fit.proofs.NextPiece.{sent_pieces_are_events}
 use Rattle.sctp_directions.specs.Acts.{Act, Can, CanAll, IsOfItsOwn, IsNotPeerKnown, Parts, all_data_given, data_given}
 use Rattle.sctp_directions.specs.Acts.{done, done_all, sending}
 use Rattle.sctp_directions.specs.Between.{IsSound}
-use Rattle.sctp_directions.specs.Events.{AcceptsAMessage, IsOfSending, IsPlainEvent}
+use Rattle.sctp_directions.specs.Events.{AcceptsAMessage, IsForwardWithin, IsOfSending, IsPlainEvent}
+use Rattle.sctp_directions.specs.Said.{IsForwardMade}
 use Rattle.sctp_directions.specs.Reports.{SaysWhatWasTaken}
-use Rattle.sctp_directions.proofs.Proved.{its_acknowledgements_are_alike, acts_keep_the_initial_tsns}
+use Rattle.sctp_directions.proofs.Proved.{its_abandonments_are_alike, its_acknowledgements_are_alike}
+use Rattle.sctp_directions.proofs.Proved.{acts_keep_the_initial_tsns, its_drops_are_alike, its_forwards_say_the_same}
+use Rattle.sctp_directions.proofs.Proved.{its_starts_are_no_events, its_tails_are_abandoned_alike}
 use Rattle.sctp_directions.proofs.Proved.{events_keep_the_limits, only_beginnings_assign, own_acts_leave_what_comes}
 use Rattle.sctp_directions.proofs.Proved.{only_settings_loosen, its_pieces_are_given, senders_events_keep_the_invariant}
-use Rattle.sctp_sides.specs.SideLaws.{GivesData}
+use Rattle.sctp_sides.specs.SideLaws.{GivesNew, GivesUpOrAgain}
 use Rattle.sctp_pair.proofs.BetweenDirections.{Goes, Holds, IsOrderly, None_brought, OtherStands, Surroundings}
 use Rattle.sctp_pair.proofs.BetweenDirections.{goes_by_sender, goes_nowhere, goes_on, other_by_sender, sound_after}
+use Rattle.sctp_pair.proofs.ForwardsMade.{abandonments_take_no_room, drops_take_no_room, resends_take_no_room, room}
 
 -- What was done at the sender of the own direction, and the DATA that it gave out.
 pub record AfterOut (x : Surroundings) (p : Parts) (given : List ChunkPayloadData) : Type 0 where
@@ -31,6 +39,25 @@ pub record AfterOut (x : Surroundings) (p : Parts) (given : List ChunkPayloadDat
   pub holds : Holds (record x { out = out2 }) p
   pub said : AllByRecursion (IsGiven x.own out2) given
 
+-- What is given up besides, takes at most the one offset of a rest that waits.
+pub record AfterOld (x : Surroundings) (p : Parts) (given : List ChunkPayloadData) : Type 0 where
+  pub after : AfterOut x p given
+  pub room_is : room after.out2 ≤ room x.out
+
+-- FORWARD TSN went out, and is what this sender says.
+record AfterForward (x : Surroundings) (p : Parts) (s : Sender) : Type 0 where
+  out2 : Direction
+  goes : Goes None_brought x.out out2
+  holds : Holds (record x { out = out2 }) p
+  said : IsForwardMade x.own out2 (forward_of s)
+
+-- so it is where it went out
+pub record AfterForwardIf (forwards : Bool) (x : Surroundings) (p : Parts) (s : Sender) : Type 0 where
+  pub out2 : Direction
+  pub goes : Goes None_brought x.out out2
+  pub holds : Holds (record x { out = out2 }) p
+  pub said : forwards ≡ true → IsForwardMade x.own out2 (forward_of s)
+
 -- To this direction the own one went by events of its sender that are no writes, and the other association still stands
 -- between both.
 record IsAfterEvents (x : Surroundings) (out2 : Direction) : Type 0 where
@@ -38,20 +65,23 @@ record IsAfterEvents (x : Surroundings) (out2 : Direction) : Type 0 where
   sound : IsSound out2
   other : OtherStands (record x { out = out2 })
 
-after_event : (x : Surroundings) (e : Event) → IsOfSending e → (AcceptsAMessage e → ⊥) → IsPlainEvent e → IsSound x.out
-    → OtherStands x → IsAfterEvents x (happens x.out e)
-after_event x e at none plain sound other = record {
+after_event : (x : Surroundings) (e : Event) → IsOfSending e → (AcceptsAMessage e → ⊥) → IsPlainEvent e
+    → IsForwardWithin x.out e → IsSound x.out → OtherStands x → IsAfterEvents x (happens x.out e)
+after_event x e at none plain few sound other = record {
   goes = goes_by_sender None_brought x.out e at none;
-  sound = sound_after e plain (senders_events_keep_the_invariant x.out e at sound.invariant) sound;
+  sound = sound_after e plain (senders_events_keep_the_invariant x.out e at few sound.invariant) sound;
   other = other_by_sender x e at sound.invariant other;
 }
+
+after_nothing : (x : Surroundings) → IsSound x.out → OtherStands x → IsAfterEvents x x.out
+after_nothing x sound other = record { goes = goes_nowhere None_brought x.out; sound = sound; other = other }
 
 -- an event by which a piece goes out for the first time
 after_sending : (x : Surroundings) (e : Event) → SendsNext e → IsSound x.out → OtherStands x
     → IsAfterEvents x (happens x.out e)
-after_sending x (Event.PassOver s) t sound other = after_event x (Event.PassOver s) tt (λ n. n) tt sound other
-after_sending x (Event.Begin s i any) t sound other = after_event x (Event.Begin s i any) tt (λ n. n) tt sound other
-after_sending x Event.GoOn t sound other = after_event x Event.GoOn tt (λ n. n) tt sound other
+after_sending x (Event.PassOver s) t sound other = after_event x (Event.PassOver s) tt (λ n. n) tt tt sound other
+after_sending x (Event.Begin s i any) t sound other = after_event x (Event.Begin s i any) tt (λ n. n) tt tt sound other
+after_sending x Event.GoOn t sound other = after_event x Event.GoOn tt (λ n. n) tt tt sound other
 after_sending x e t sound other = absurd t
 
 -- a row of such events
@@ -101,15 +131,70 @@ module _ (x : Surroundings) (p : Parts) (h : Holds x p) where
       (λ s n. n)
       (after_sendings sent.0 x sent.1.sends h.sound_out h.other) sent.1.fits sent.1.given
 
-  one_given : (act : Act) → GivesData act → Can act p → AfterOut x (done act p) (data_given act p)
-  one_given (Act.Sent now) g can = act_sent now can
-  one_given (Act.SentAgain by index) g can =
+  -- an act by which a message is given up, or a piece goes out again
+  one_old : (act : Act) → GivesUpOrAgain act → Can act p → AfterOld x (done act p) (data_given act p)
+  unfolding act_at_sender
+  one_old (Act.Started now) g can = record {
+    after =
+        act_at_sender (Act.Started now) x.out [] tt tt (λ s n. n) (after_nothing x h.sound_out h.other)
+        (its_starts_are_no_events p now x.out h.between.outgoing) tt;
+    room_is = omega arith;
+  }
+  one_old (Act.Abandoned index) g can =
+      let gone =
+      its_abandonments_are_alike p index x.out can h.sound_out.invariant h.sound_out.counts h.between.outgoing in
+      let e : Event = Event.Abandon gone.0 gone.1 in record {
+        after =
+            act_at_sender (Act.Abandoned index) (happens x.out e) [] tt tt (λ s n. n)
+            (after_event x e tt (λ n. n) tt tt h.sound_out h.other) gone.2 tt;
+        room_is = abandonments_take_no_room x.out gone.0 gone.1;
+      }
+  one_old Act.TailAbandoned g can =
+      let gone =
+      its_tails_are_abandoned_alike p x.out can h.sound_out.invariant h.sound_out.counts h.between.outgoing in
+      let e : Event = Event.Abandon gone.0 gone.1 in record {
+        after =
+            act_at_sender Act.TailAbandoned (happens x.out e) [] tt tt (λ s n. n)
+            (after_event x e tt (λ n. n) tt tt h.sound_out h.other) gone.2 tt;
+        room_is = abandonments_take_no_room x.out gone.0 gone.1;
+      }
+  one_old (Act.Dropped k) g can =
+      let gone = its_drops_are_alike p k x.out can h.sound_out.invariant h.sound_out.counts h.between.outgoing in
+      let e : Event = Event.Drop gone.0 gone.1 in record {
+        after =
+            act_at_sender (Act.Dropped k) (happens x.out e) [] tt tt (λ s n. n)
+            (after_event x e tt (λ n. n) tt tt h.sound_out h.other) gone.2 tt;
+        room_is = drops_take_no_room x.out gone.0 gone.1;
+      }
+  one_old (Act.SentAgain by index) g can =
       let resent = its_pieces_are_given p by index x.out can h.sound_out.invariant h.between.outgoing in
-      let e : Event = Event.Resend (x.out.sender.reach + index) in
-      act_at_sender (Act.SentAgain by index) (happens x.out e) (data_given (Act.SentAgain by index) p) tt tt
-      (λ s n. n)
-      (after_event x e tt (λ n. n) tt h.sound_out h.other) resent.0 resent.1
-  one_given act g can = absurd g
+      let o = x.out.sender.reach + index in
+      let e : Event = Event.Resend o in record {
+        after =
+            act_at_sender (Act.SentAgain by index) (happens x.out e) (data_given (Act.SentAgain by index) p) tt tt
+            (λ s n. n)
+            (after_event x e tt (λ n. n) tt tt h.sound_out h.other) resent.0 resent.1;
+        room_is = resends_take_no_room x.out o;
+      }
+  one_old act g can = absurd g
+
+  -- FORWARD TSN goes out, and is the direction's
+  act_forwarded : (s : Sender) → Can Act.Forwarded p → s.queue ≡ p.queue
+      → p.queue.first_tsn ≡ tsn p.history.own p.history.base → IsForwardWithin x.out Event.ForwardMade
+      → AfterForward x p s
+  unfolding act_at_sender
+  act_forwarded s can same first few =
+      let made = its_forwards_say_the_same p s x.out can same first h.between.outgoing in
+      let e : Event = Event.ForwardMade in
+      let after =
+      act_at_sender Act.Forwarded (happens x.out e) [] tt tt (λ t n. n)
+      (after_event x e tt (λ n. n) tt few h.sound_out h.other) made.0 tt in
+      record {
+        out2 = after.out2;
+        goes = after.goes;
+        holds = after.holds;
+        said = subst (λ (o : ℕ). IsForwardMade o after.out2 (forward_of s)) h.own_is made.1;
+      }
 
 -- a SACK that acknowledges the first n pieces in flight and those that its gap ack blocks name, and reports some
 -- missing
@@ -124,30 +209,71 @@ unfolding act_at_sender
 act_acknowledged {x} {p} n k missing c sack h e says at can = (
   act_at_sender x p h (Act.Acknowledged n c.gap_ack_blocks missing) (happens x.out (Event.SackComes k)) [] tt tt
       (λ s n. n)
-      (after_event x (Event.SackComes k) tt (λ n. n) tt h.sound_out h.other)
+      (after_event x (Event.SackComes k) tt (λ n. n) tt tt h.sound_out h.other)
       (its_acknowledgements_are_alike p n k missing c sack x.out e says at can h.sound_out.invariant h.between.outgoing)
       tt,
   λ within. events_keep_the_limits x.out (Event.SackComes k) tt within,
   only_beginnings_assign x.out (Event.SackComes k) tt (λ n. n),
 )
 
-given_grows : (own : ℕ) (w v : Direction) (ds : List ChunkPayloadData) → Goes None_brought w v
+pub given_grows : (own : ℕ) (w v : Direction) (ds : List ChunkPayloadData) → Goes None_brought w v
     → AllByRecursion (IsGiven own w) ds → AllByRecursion (IsGiven own v) ds
 given_grows own w v ds g h =
     all_weaker (IsGiven own w) (IsGiven own v) ds
     (λ c given. (given.0, given.1, g.datas given.0 given.1 given.2, given.3)) h
 
--- acts that give out DATA, one after another
-pub all_given : (xs : List Act) (x : Surroundings) (p : Parts) → AllByRecursion GivesData xs → CanAll xs p → Holds x p
-    → AfterOut x (done_all xs p) (all_data_given xs p)
-all_given [] x p g can h = record { out2 = x.out; goes = goes_nowhere None_brought x.out; holds = h; said = tt }
-all_given (act ∷ acts) x p (g, gs) (can, cans) h =
-    let one = one_given x p h act g can in
-    let more = all_given acts (record x { out = one.out2 }) (done act p) gs cans one.holds in
+-- what was given out first, and then more
+after_both : (x : Surroundings) (p : Parts) (mid : Direction) (first second : List ChunkPayloadData)
+    → Goes None_brought x.out mid → AllByRecursion (IsGiven x.own mid) first
+    → AfterOut (record x { out = mid }) p second → AfterOut x p (first ++ second)
+after_both x p mid first second goes said more = record {
+  out2 = more.out2;
+  goes = goes_on None_brought x.out mid more.out2 goes more.goes;
+  holds = more.holds;
+  said = all_join (IsGiven x.own more.out2) first second (given_grows x.own mid more.out2 first more.goes said) more.said;
+}
+
+-- such acts, one after another
+pub all_old : (xs : List Act) (x : Surroundings) (p : Parts) → AllByRecursion GivesUpOrAgain xs → CanAll xs p
+    → Holds x p → AfterOld x (done_all xs p) (all_data_given xs p)
+unfolding after_both
+all_old [] x p g can h = record {
+  after = record { out2 = x.out; goes = goes_nowhere None_brought x.out; holds = h; said = tt };
+  room_is = omega arith;
+}
+all_old (act ∷ acts) x p (g, gs) (can, cans) h =
+    let one = one_old x p h act g can in
+    let mid : Surroundings = record x { out = one.after.out2 } in
+    let more = all_old acts mid (done act p) gs cans one.after.holds in
+    let a = one.room_is in
+    let b = more.room_is in
     record {
-      out2 = more.out2;
-      goes = goes_on None_brought x.out one.out2 more.out2 one.goes more.goes;
-      holds = more.holds;
-      said = all_join (IsGiven x.own more.out2) (data_given act p) (all_data_given acts (done act p))
-          (given_grows x.own one.out2 more.out2 (data_given act p) more.goes one.said) more.said;
+      after = after_both x (done_all (act ∷ acts) p) one.after.out2 (data_given act p)
+          (all_data_given acts (done act p)) one.after.goes one.after.said more.after;
+      room_is = omega (arith, a, b);
     }
+
+-- acts that give out new DATA, one after another
+pub all_new : (xs : List Act) (x : Surroundings) (p : Parts) → AllByRecursion GivesNew xs → CanAll xs p → Holds x p
+    → AfterOut x (done_all xs p) (all_data_given xs p)
+all_new [] x p g can h = record { out2 = x.out; goes = goes_nowhere None_brought x.out; holds = h; said = tt }
+all_new (Act.Sent now ∷ acts) x p (g, gs) (can, cans) h =
+    let one = act_sent x p h now can in
+    let q : Parts = done (Act.Sent now) p in
+    after_both x (done_all acts q) one.out2 (data_given (Act.Sent now) p) (all_data_given acts q) one.goes one.said
+    (all_new acts (record x { out = one.out2 }) q gs cans one.holds)
+all_new (act ∷ acts) x p (g, gs) (can, cans) h = absurd g
+
+-- FORWARD TSN, where it goes out
+pub forward_if : (forwards : Bool) (x : Surroundings) (p : Parts) (s : Sender) → (forwards ≡ true → Can Act.Forwarded p)
+    → s.queue ≡ p.queue → p.queue.first_tsn ≡ tsn p.history.own p.history.base
+    → IsForwardWithin x.out Event.ForwardMade → Holds x p → AfterForwardIf forwards x p s
+forward_if false x p s can same first few h = record {
+  out2 = x.out;
+  goes = goes_nowhere None_brought x.out;
+  holds = h;
+  said = λ e. absurd (false≢true e);
+}
+forward_if true x p s can same first few h =
+    let made = act_forwarded x p h s (can refl) same first few in
+    record { out2 = made.out2; goes = made.goes; holds = made.holds; said = λ e. made.said }

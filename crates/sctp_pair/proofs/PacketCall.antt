@@ -4,7 +4,6 @@ use Rattle.std.proofs.Common.{None}
 use Rattle.std.proofs.lemmas.Bool.{cases_Bool}
 use Rattle.sctp_wire.specs.declared.packet.Packet.{Packet}
 use Rattle.sctp_model.specs.Packets.{mem}
-use Rattle.sctp_serial.specs.Serial.{tsn}
 use Rattle.sctp_model.specs.Machine.{Direction, Event, happens}
 use Rattle.sctp_model.proofs.Proved.{each_event_keeps_the_invariant}
 use Rattle.sctp_directions.specs.Acts.{Parts}
@@ -21,12 +20,11 @@ use Rattle.sctp_pair.specs.Fits.{StagesAgree, StandsFailed}
 use Rattle.sctp_pair.specs.declared.step.Reply.{Reply}
 use Rattle.sctp_pair.specs.declared.step.Reply.TheVariants as replies
 use Rattle.sctp_pair.specs.Steps.{Fails, HadFailed, LacksMemory, TakesPacket}
-use Rattle.sctp_pair.specs.World.{HasData}
-use Rattle.sctp_pair.proofs.BetweenDirections.{ClosedAt, Faces, Holds, None_brought, OpenAt, Settles}
+use Rattle.sctp_pair.proofs.BetweenDirections.{By, ClosedAt, Faces, Holds, None_brought, OpenAt, Settles}
 use Rattle.sctp_pair.proofs.BetweenDirections.{SettlesQuietly, Surroundings, does_by_goes, goes_by_receiver}
 use Rattle.sctp_pair.proofs.BetweenDirections.{goes_nowhere, goes_on, moved, nothing_added, nothing_read}
 use Rattle.sctp_pair.proofs.BetweenDirections.{other_by_receiver, sound_after}
-use Rattle.sctp_pair.proofs.PacketChunks.{OtherSays, SaidIn, all_said_in, chunk_step}
+use Rattle.sctp_pair.proofs.PacketChunks.{Brings_of, OtherSays, SaidIn, all_said_in, chunk_step}
 use Rattle.sctp_pair.proofs.QuietCalls.{fails_settle, same_settles}
 use Rattle.sctp_pair.proofs.HandshakeStages.{stays_put, works_on}
 use Rattle.sctp_pair.proofs.BetweenChunks.{Underway, goes_same, meets_same, stands_by}
@@ -36,7 +34,7 @@ use Rattle.sctp_sides.specs.Meeting.{IsTruthful}
 -- The end of a packet
 
 -- an association that stands open settles where its call led
-settled_open : {x : Surroundings} {B : ℕ → Type 0} {a : Shown} → Underway x B a
+settled_open : {x : Surroundings} {B : By → ℕ → Type 0} {a : Shown} → Underway x B a
     → Settles x a nothing_added nothing_read B
 settled_open {x} {B} {a} u = record {
   out2 = u.out2;
@@ -55,7 +53,7 @@ settled_open {x} {B} {a} u = record {
   coming_still = u.coming_still;
 }
 
-end_step : {x : Surroundings} {B : ℕ → Type 0} (a b : Shown) → EndsPacket a b → Underway x B a
+end_step : {x : Surroundings} {B : By → ℕ → Type 0} (a b : Shown) → EndsPacket a b → Underway x B a
     → Settles x b nothing_added nothing_read B
 unfolding stands_by
 end_step {x} {B} a b ends u =
@@ -83,13 +81,13 @@ end_step {x} {B} a b ends u =
 -- Closing
 
 -- a fault closes an open association: its receiver closes
-over_step : {x : Surroundings} {B : ℕ → Type 0} (a b : Shown) → b.side ≡ a.side → b.handshake ≡ a.handshake
+over_step : {x : Surroundings} {B : By → ℕ → Type 0} (a b : Shown) → b.side ≡ a.side → b.handshake ≡ a.handshake
     → ((own : ℕ) → IsTruthful own a → IsTruthful own b) → IsOver b → Underway x B a
     → Settles x b nothing_added nothing_read B
 over_step {x} {B} a b side handshake truthful over u =
     let received = receivers_events_are_received u.coming2 Event.Close tt in
     let coming3 : Direction = happens u.coming2 Event.Close in
-    let goes = goes_by_receiver B u.coming2 Event.Close tt (λ n. n) (λ o n. absurd n) in
+    let goes = goes_by_receiver B u.coming2 Event.Close tt (λ n. n) (λ o n. absurd n) (λ o n. absurd n) in
     record {
       out2 = u.out2;
       coming2 = coming3;
@@ -118,7 +116,7 @@ over_step {x} {B} a b side handshake truthful over u =
     }
 
 -- a server that listens stays as it is
-close_step : {x : Surroundings} {B : ℕ → Type 0} (a b : Shown) → Closes a b → Underway x B a
+close_step : {x : Surroundings} {B : By → ℕ → Type 0} (a b : Shown) → Closes a b → Underway x B a
     → Settles x b nothing_added nothing_read B
 close_step {x} {B} a b closes u = ⊎_elim
     (λ (closed : is_closed_state a.state ≡ true).
@@ -135,7 +133,7 @@ close_step {x} {B} a b closes u = ⊎_elim
     (cases_Bool (is_closed_state a.state))
 
 -- an exhausted receive buffer does as a fault does, and an ABORT waits then, in a server that listens too
-exhaust_step : {x : Surroundings} {B : ℕ → Type 0} (a b : Shown) → Exhausts a b → Underway x B a
+exhaust_step : {x : Surroundings} {B : By → ℕ → Type 0} (a b : Shown) → Exhausts a b → Underway x B a
     → Settles x b nothing_added nothing_read B
 exhaust_step {x} {B} a b exhausts u = ⊎_elim
     (λ (closed : is_closed_state a.state ≡ true).
@@ -146,7 +144,7 @@ exhaust_step {x} {B} a b exhausts u = ⊎_elim
 
 -- A packet
 
-start_step : {x : Surroundings} {a : Shown} (B : ℕ → Type 0) → Faces x a → OpenAt x a → Underway x B a
+start_step : {x : Surroundings} {a : Shown} (B : By → ℕ → Type 0) → Faces x a → OpenAt x a → Underway x B a
 start_step {x} B f s = record {
   out2 = x.out;
   coming2 = x.coming;
@@ -169,10 +167,6 @@ start_step {x} B f s = record {
     other = f.other;
   };
 }
-
--- what a packet may bring to an association: its DATA
-abbrev pub Brings_of : Surroundings → Option Packet → ℕ → Type 0
-Brings_of x packet o = HasData packet (tsn x.peer o)
 
 -- The other side gave out a packet, and it comes at a moment.
 module _ (x : Surroundings) (a : Shown) (now : ℕ) where
@@ -213,7 +207,7 @@ module _ (x : Surroundings) (a : Shown) (now : ℕ) where
       (cases_Bool a.lost)
 
 -- what may be brought is more than nothing
-pub brings_more : {x : Surroundings} {b : Shown} (B : ℕ → Type 0) → SettlesQuietly x b
+pub brings_more : {x : Surroundings} {b : Shown} (B : By → ℕ → Type 0) → SettlesQuietly x b
     → Settles x b nothing_added nothing_read B
 brings_more {x} {b} B s = record {
   out2 = s.out2;
@@ -229,7 +223,11 @@ brings_more {x} {b} B s = record {
     taken =
         λ o m. ⊎_elim (λ (n : mem o x.coming.receiver.taken ≡ true). inl n) (λ (n : ⊥). absurd n)
         (s.does_coming.taken o m);
+    passed = ⊎_elim
+        (λ (e : s.coming2.receiver.passed ≡ x.coming.receiver.passed). inl e) (λ (n : ⊥). absurd n)
+        s.does_coming.passed;
     datas = s.does_coming.datas;
+    forwards = s.does_coming.forwards;
     sacks = s.does_coming.sacks;
     reach_on = s.does_coming.reach_on;
   };
@@ -278,5 +276,6 @@ pub packet_settles : {x : Surroundings} {a b : Shown} (now : ℕ) (packet : Opti
 packet_settles {x} {a} now packet replies.Done h said f =
     subst (λ z. Settles x z nothing_added nothing_read (Brings_of x packet)) (sym h.1)
     (processed_settles x a now packet said f)
-packet_settles now packet (replies.Refused n) h said f = refused_settles n h f
+packet_settles {x} now packet (replies.Refused n) h said f =
+    brings_more (Brings_of x None) (refused_settles n h f)
 packet_settles now packet r h said f = absurd h

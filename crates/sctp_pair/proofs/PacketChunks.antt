@@ -1,5 +1,5 @@
 -- What the chunks of a packet do to one association between its directions.
-use Rattle.std.proofs.Common.{◌≡◌, refl, sym, ap, ◌∙◌, subst, ◌⊎◌, ⊎_elim, inl, inr, ℕ, ◌+◌, ◌<◌, arith, true, false}
+use Rattle.std.proofs.Common.{◌≡◌, refl, sym, ap, ◌∙◌, subst, ◌⊎◌, ⊎_elim, inl, inr, ℕ, ◌+◌, ◌<◌, ◌≤◌, arith, true, false}
 use Rattle.std.proofs.Common.{List, [], ◌∷◌, ◌++◌, length, Option, Some}
 use Rattle.std.specs.Prelude.{⊤, slice_get}
 use Rattle.std.specs.List.{AllByRecursion}
@@ -7,37 +7,40 @@ use Rattle.std.proofs.lemmas.Bool.{cases_Bool}
 use Rattle.std.proofs.lemmas.List.{append_assoc}
 use Rattle.sctp_wire_types.specs.declared.chunk.Chunk.{Chunk}
 use Rattle.sctp_wire_types.specs.declared.chunk.Chunk.TheVariants as chunks
+use Rattle.sctp_wire_types.specs.declared.chunk.ChunkForwardTsn.{ChunkForwardTsn}
 use Rattle.sctp_wire_types.specs.declared.chunk.ChunkPayloadData.{ChunkPayloadData}
 use Rattle.sctp_wire_types.specs.declared.chunk.ChunkSelectiveAck.{ChunkSelectiveAck}
+use Rattle.sctp_wire_types.specs.declared.chunk.SkippedStream.{SkippedStream}
 use Rattle.sctp_wire_types.specs.declared.packet.CommonHeader.{CommonHeader}
 use Rattle.sctp_wire.specs.declared.packet.Packet.{Packet}
-use Rattle.sctp_model.specs.Invariants.{IsPiece}
+use Rattle.sctp_model.specs.Invariants.{IsForward, IsPiece}
 use Rattle.sctp_model.specs.Messages.{Place}
-use Rattle.sctp_model.specs.Packets.{Data}
+use Rattle.sctp_model.specs.Packets.{Data, Forward}
 use Rattle.sctp_serial.specs.Serial.{tsn}
 use Rattle.sctp_model.specs.Machine.{Sender}
 use Rattle.sctp_model.specs.Safe.{IsWithin}
 use Rattle.sctp_model.proofs.Lists.{all_get}
-use Rattle.sctp_fit.specs.Incoming.{IsSaid}
+use Rattle.sctp_fit.specs.Incoming.{IsSaid, tsn_before}
 use Rattle.sctp_fit.specs.Sendings.{IsGiven}
 use Rattle.sctp_directions.specs.Acts.{Act, CanAll, History, IsNotPeerKnown, Parts, done, done_all}
 use Rattle.sctp_directions.specs.Reports.{SaysWhatWasTaken}
-use Rattle.sctp_directions.specs.Said.{IsMade}
+use Rattle.sctp_directions.specs.Said.{IsForwardMade, IsMade}
 use Rattle.sctp_directions.proofs.Proved.{acts_keep_the_initial_tsns, sacks_mean_the_same}
 use Rattle.sctp_assoc.specs.Leads.{parts}
 use Rattle.sctp_assoc.specs.Happened.{acts_of_chunk}
 use Rattle.sctp_assoc.specs.Shown.{Shown}
 use Rattle.sctp_sides.specs.Meeting.{Greets}
-use Rattle.sctp_sides.specs.SideLaws.{IsAcknowledging, IsTaking, OpensAndTakes, OpensOnly, TakesChunk, TakesOnly}
-use Rattle.sctp_sides.proofs.Proved.{data_opens_or_takes, sacks_acknowledge}
+use Rattle.sctp_sides.specs.SideLaws.{IsAcknowledging, IsPassingOver, IsTaking, OpensAndTakes, OpensOnly, TakesChunk}
+use Rattle.sctp_sides.specs.SideLaws.{TakesOnly}
+use Rattle.sctp_sides.proofs.Proved.{data_opens_or_takes, forwards_pass_over, sacks_acknowledge}
 use Rattle.sctp_pair.specs.Fits.{IsSaidBy}
-use Rattle.sctp_pair.specs.World.{HasData}
-use Rattle.sctp_pair.proofs.BetweenDirections.{Holds, None_brought, Surroundings, goes_nowhere, goes_on, moved}
+use Rattle.sctp_pair.specs.World.{HasData, HasForward}
+use Rattle.sctp_pair.proofs.BetweenDirections.{By, Holds, None_brought, Surroundings, goes_nowhere, goes_on, moved}
 use Rattle.sctp_pair.proofs.OutgoingData.{AfterOut, act_acknowledged}
 use Rattle.sctp_pair.proofs.HandshakeStages.{hearers_know}
 use Rattle.sctp_pair.proofs.HandshakeChunk.{greet_step}
 use Rattle.sctp_pair.proofs.BetweenChunks.{Underway, goes_same, meets_same, stands_by}
-use Rattle.sctp_pair.proofs.ComingData.{AfterComing, act_opened, act_took, coming_nowhere}
+use Rattle.sctp_pair.proofs.ComingData.{AfterComing, act_opened, act_passed, act_took, coming_nowhere}
 
 -- DATA
 
@@ -45,7 +48,7 @@ none_below : (o : ℕ) → o < 0 → ⊥
 none_below o l = omega arith
 
 -- DATA comes where its giver was established, and so its receiver knows it
-data_is_known : {x : Surroundings} {B : ℕ → Type 0} {a : Shown} (k : ℕ) (d : Data) (u : Underway x B a)
+data_is_known : {x : Surroundings} {B : By → ℕ → Type 0} {a : Shown} (k : ℕ) (d : Data) (u : Underway x B a)
     → slice_get u.coming2.datas k ≡ Some d → u.stands.past.peer ≡ x.peer
 data_is_known {x} {a = a} k d u e = u.stands.peer_is (⊎_elim
     (λ (t : x.there.completed ≡ true). hearers_know a u.stands.come (u.meets.hears t))
@@ -55,11 +58,11 @@ data_is_known {x} {a = a} k d u e = u.stands.peer_is (⊎_elim
     (cases_Bool x.there.completed))
 
 -- what acts of DATA make of the direction that comes
-abbrev Comes : Surroundings → (ℕ → Type 0) → Parts → List Act → Type 0
+abbrev Comes : Surroundings → (By → ℕ → Type 0) → Parts → List Act → Type 0
 Comes x B p acts = AfterComing x (done_all acts p) B
 
 -- An association takes a piece of DATA between directions that hold it; what the piece brings is B.
-module _ (x : Surroundings) (B : ℕ → Type 0) (a : Shown) (h : History) (piece : ChunkPayloadData)
+module _ (x : Surroundings) (B : By → ℕ → Type 0) (a : Shown) (h : History) (piece : ChunkPayloadData)
     (known : h.peer ≡ x.peer) (within : IsWithin x.coming) (holds : Holds x (parts a h)) where
   data_opens : (acts : List Act) → OpensOnly a piece acts → Comes x B (parts a h) acts
   data_opens acts o =
@@ -68,7 +71,7 @@ module _ (x : Surroundings) (B : ℕ → Type 0) (a : Shown) (h : History) (piec
 
   -- the piece is one that was given out
   module _ (k : ℕ) (d : Data) (e : slice_get x.coming.datas k ≡ Some d) (said : IsSaid x.peer piece d)
-      (brought : B d.offset) (acts : List Act) (can : CanAll acts (parts a h)) where
+      (brought : B By.ByData d.offset) (acts : List Act) (can : CanAll acts (parts a h)) where
     data_takes : TakesOnly a piece acts → Comes x B (parts a h) acts
     data_takes t =
         let one = subst (λ zs. CanAll zs (parts a h)) t.are can in
@@ -111,7 +114,7 @@ module _ (x : Surroundings) (B : ℕ → Type 0) (a : Shown) (h : History) (piec
         }
 
   take_shape : (acts : List Act) → IsTaking a piece acts → CanAll acts (parts a h) → IsGiven x.peer x.coming piece
-      → ((o : ℕ) → piece.tsn ≡ tsn x.peer o → B o) → Comes x B (parts a h) acts
+      → ((o : ℕ) → piece.tsn ≡ tsn x.peer o → B By.ByData o) → Comes x B (parts a h) acts
   take_shape acts (inl n) can given brings =
       subst (Comes x B (parts a h)) (sym n) (coming_nowhere B within holds)
   take_shape acts (inr (inl o)) can given brings = data_opens acts o
@@ -128,9 +131,9 @@ taking_is_not_peer_known a piece acts (inr (inr (inl t))) =
     subst (AllByRecursion IsNotPeerKnown) (sym t.are) (tt, (tt, tt))
 taking_is_not_peer_known a piece acts (inr (inr (inr t))) = subst (AllByRecursion IsNotPeerKnown) (sym t.are) (tt, tt)
 
-data_step : {x : Surroundings} {B : ℕ → Type 0} (header : CommonHeader) (piece : ChunkPayloadData) {a b : Shown}
+data_step : {x : Surroundings} {B : By → ℕ → Type 0} (header : CommonHeader) (piece : ChunkPayloadData) {a b : Shown}
     → TakesChunk header (chunks.Data piece) a b → IsGiven x.peer x.coming piece
-    → ((o : ℕ) → piece.tsn ≡ tsn x.peer o → B o) → Underway x B a → Underway x B b
+    → ((o : ℕ) → piece.tsn ≡ tsn x.peer o → B By.ByData o) → Underway x B a → Underway x B b
 unfolding stands_by
 data_step {x} {B} header piece {a} {b} takes (k, d, e, said) brings u =
     let h : History = u.stands.past in
@@ -156,6 +159,84 @@ data_step {x} {B} header piece {a} {b} takes (k, d, e, said) brings u =
       places_same = u.places_same;
       coming_still = after.still ∙ u.coming_still;
       silent = λ f. ap (λ (z : Sender). z.plan.places) after.still ∙ u.silent f;
+      goes = goes_same a b takes.leaves u.goes;
+      meets = meets_same a b takes.leaves u.meets;
+      stands = stands_by next leads.0 u.stands takes.leaves leads.1.binds met refl holds;
+      holds = holds;
+    }
+
+-- FORWARD TSN
+
+-- it comes where its giver was established, too: it passes over an offset that was assigned
+forward_is_known : {x : Surroundings} {B : By → ℕ → Type 0} {a : Shown} (k : ℕ) (f : Forward) (u : Underway x B a)
+    → slice_get u.coming2.forwards k ≡ Some f → u.stands.past.peer ≡ x.peer
+forward_is_known {x} {a = a} k f u e = u.stands.peer_is (⊎_elim
+    (λ (t : x.there.completed ≡ true). hearers_know a u.stands.come (u.meets.hears t))
+    (λ (never : x.there.completed ≡ false).
+    let w = u.coming2 in
+    let made =
+    all_get (IsForward w.sender.plan w.sender.gone w.over w.sender.acknowledged w.sender.reach) w.forwards k f e
+    u.holds.sound_coming.invariant.forwards in
+    absurd (none_ahead f.start f.reach made.ahead
+    (subst (λ (ps : List Place). f.reach ≤ length ps) (u.silent never) made.known)))
+    (cases_Bool x.there.completed))
+  where
+    none_ahead : (m n : ℕ) → m < n → n ≤ 0 → ⊥
+    none_ahead m n l z = omega (arith, l, z)
+
+-- An association takes a FORWARD TSN between directions that hold it.
+forward_shape : (x : Surroundings) (B : By → ℕ → Type 0) (a : Shown) (h : History) (c : ChunkForwardTsn)
+    → h.peer ≡ x.peer → IsWithin x.coming → Holds x (parts a h) → (acts : List Act)
+    → IsPassingOver c.new_cumulative_tsn c.streams acts → CanAll acts (parts a h) → IsForwardMade x.peer x.coming c
+    → ((n : ℕ) → c.new_cumulative_tsn ≡ tsn_before (tsn x.peer n) → B By.ByForward n) → Comes x B (parts a h) acts
+forward_shape x B a h c known within holds acts (inl n) can made brings =
+    subst (Comes x B (parts a h)) (sym n) (coming_nowhere B within holds)
+forward_shape x B a h c known within holds acts (inr t) can (k, f, e, said) brings =
+    let one = subst (λ zs. CanAll zs (parts a h)) t can in
+    subst (Comes x B (parts a h)) (sym t) (act_passed x (parts a h) B holds within c record {
+      index = k;
+      forward = f;
+      there = e;
+      said = said;
+      brought = brings f.reach said.reach;
+      known = known;
+      can = one.0;
+    })
+
+passing_is_not_peer_known : (tsn : ℕ) (skipped : List SkippedStream) (acts : List Act) → IsPassingOver tsn skipped acts
+    → AllByRecursion IsNotPeerKnown acts
+passing_is_not_peer_known tsn skipped acts (inl n) = subst (AllByRecursion IsNotPeerKnown) (sym n) tt
+passing_is_not_peer_known tsn skipped acts (inr t) = subst (AllByRecursion IsNotPeerKnown) (sym t) (tt, tt)
+
+forward_step : {x : Surroundings} {B : By → ℕ → Type 0} (header : CommonHeader) (c : ChunkForwardTsn) {a b : Shown}
+    → TakesChunk header (chunks.ForwardTsn c) a b → IsForwardMade x.peer x.coming c
+    → ((n : ℕ) → c.new_cumulative_tsn ≡ tsn_before (tsn x.peer n) → B By.ByForward n) → Underway x B a → Underway x B b
+unfolding stands_by
+forward_step {x} {B} header c {a} {b} takes (k, f, e, said) brings u =
+    let h : History = u.stands.past in
+    let acts : List Act = acts_of_chunk a header (chunks.ForwardTsn c) in
+    let passing = forwards_pass_over a header c in
+    let leads = takes.leads h u.stands.binds in
+    let there = u.goes_coming.forwards k f e in
+    let now : Surroundings = moved x u.out2 u.coming2 in
+    let after =
+    forward_shape now B a h c (forward_is_known k f u there) u.within_coming u.holds acts passing leads.1.can
+    (k, f, there, said) brings in
+    let next : Surroundings = moved x u.out2 after.coming2 in
+    let holds : Holds next (parts b leads.0) = subst (Holds next) (sym leads.1.there) after.holds in
+    let met = ap (λ (p : Parts). p.history.peer) leads.1.there
+    ∙ (acts_keep_the_initial_tsns acts (parts a h)
+    (passing_is_not_peer_known c.new_cumulative_tsn c.streams acts passing)).1 in
+    record {
+      out2 = u.out2;
+      coming2 = after.coming2;
+      goes_out = u.goes_out;
+      goes_coming = goes_on B x.coming u.coming2 after.coming2 u.goes_coming after.goes;
+      within_out = u.within_out;
+      within_coming = after.within;
+      places_same = u.places_same;
+      coming_still = after.still ∙ u.coming_still;
+      silent = λ never. ap (λ (z : Sender). z.plan.places) after.still ∙ u.silent never;
       goes = goes_same a b takes.leaves u.goes;
       meets = meets_same a b takes.leaves u.meets;
       stands = stands_by next leads.0 u.stands takes.leaves leads.1.binds met refl holds;
@@ -190,7 +271,7 @@ sack_is_not_peer_known : (a : Shown) (h : History) (c : ChunkSelectiveAck) (acts
 sack_is_not_peer_known a h c acts (inl n) = subst (AllByRecursion IsNotPeerKnown) (sym n) tt
 sack_is_not_peer_known a h c acts (inr s) = subst (AllByRecursion IsNotPeerKnown) (sym s.are) (tt, tt)
 
-sack_step : {x : Surroundings} {B : ℕ → Type 0} (header : CommonHeader) (s : ChunkSelectiveAck) {a b : Shown}
+sack_step : {x : Surroundings} {B : By → ℕ → Type 0} (header : CommonHeader) (s : ChunkSelectiveAck) {a b : Shown}
     → TakesChunk header (chunks.SelectiveAck s) a b → IsMade x.own x.out s → Underway x B a → Underway x B b
 unfolding stands_by
 sack_step {x} {B} header s {a} {b} takes (k, sack, e, says) u =
@@ -223,8 +304,14 @@ sack_step {x} {B} header s {a} {b} takes (k, sack, e, says) u =
 
 -- Any chunk that the other side gave out, and that stands in the packet.
 
+-- what a packet may bring to an association: its DATA and its FORWARD TSNs
+abbrev pub Brings_of : Surroundings → Option Packet → By → ℕ → Type 0
+Brings_of x packet By.ByData o = HasData packet (tsn x.peer o)
+Brings_of x packet By.ByForward n = HasForward packet (tsn_before (tsn x.peer n))
+
 abbrev IsIn : Option Packet → Chunk → Type 0
 IsIn packet (chunks.Data piece) = HasData packet piece.tsn
+IsIn packet (chunks.ForwardTsn c) = HasForward packet c.new_cumulative_tsn
 IsIn packet chunk = ⊤
 
 -- the association that is faced may say this chunk
@@ -234,25 +321,29 @@ OtherSays x c = IsSaidBy x.peer x.own x.there x.coming x.out c
 abbrev pub SaidIn : Surroundings → Option Packet → Chunk → Type 0
 SaidIn x packet c = OtherSays x c × IsIn packet c
 
--- it is DATA, a SACK or the handshake's
+-- it is DATA, a SACK, a FORWARD TSN or the handshake's
 said_cases : (x : Surroundings) (packet : Option Packet) (P : Chunk → Type 0)
     → ((piece : ChunkPayloadData) → IsGiven x.peer x.coming piece → HasData packet piece.tsn → P (chunks.Data piece))
     → ((s : ChunkSelectiveAck) → IsMade x.own x.out s → P (chunks.SelectiveAck s))
+    → ((c : ChunkForwardTsn) → IsForwardMade x.peer x.coming c → HasForward packet c.new_cumulative_tsn
+    → P (chunks.ForwardTsn c))
     → ((c : Chunk) → Greets x.peer x.there c → P c)
     → (c : Chunk) → SaidIn x packet c → P c
-said_cases x packet P gives acks greets c (inr said, here) = greets c said
-said_cases x packet P gives acks greets (chunks.Data piece) (inl said, here) = gives piece said here
-said_cases x packet P gives acks greets (chunks.SelectiveAck s) (inl said, here) = acks s said
-said_cases x packet P gives acks greets c (inl said, here) = absurd said
+said_cases x packet P gives acks forwards greets c (inr said, here) = greets c said
+said_cases x packet P gives acks forwards greets (chunks.Data piece) (inl said, here) = gives piece said here
+said_cases x packet P gives acks forwards greets (chunks.SelectiveAck s) (inl said, here) = acks s said
+said_cases x packet P gives acks forwards greets (chunks.ForwardTsn c) (inl said, here) = forwards c said here
+said_cases x packet P gives acks forwards greets c (inl said, here) = absurd said
 
 pub chunk_step : {x : Surroundings} (packet : Option Packet) (header : CommonHeader) (c : Chunk) {a b : Shown}
-    → SaidIn x packet c → TakesChunk header c a b → Underway x (λ o. HasData packet (tsn x.peer o)) a
-    → Underway x (λ o. HasData packet (tsn x.peer o)) b
+    → SaidIn x packet c → TakesChunk header c a b → Underway x (Brings_of x packet) a
+    → Underway x (Brings_of x packet) b
 chunk_step {x} packet header c {a} {b} said takes u =
-    let B : ℕ → Type 0 = λ o. HasData packet (tsn x.peer o) in
+    let B : By → ℕ → Type 0 = Brings_of x packet in
     said_cases x packet (λ (z : Chunk). TakesChunk header z a b → Underway x B b)
     (λ piece given brought takes. data_step header piece takes given (λ o e. subst (HasData packet) e brought) u)
     (λ s made takes. sack_step header s takes made u)
+    (λ f made brought takes. forward_step header f takes made (λ n e. subst (HasForward packet) e brought) u)
     (λ z greeting takes. greet_step header z takes greeting u)
     c said takes
 
@@ -264,6 +355,7 @@ got_at (z ∷ xs) ys x = got_at xs ys x
 
 is_in : (packet : Packet) (c : Chunk) (k : ℕ) → slice_get packet.chunks k ≡ Some c → IsIn (Some packet) c
 is_in packet (chunks.Data piece) k e = (k, piece, e, refl)
+is_in packet (chunks.ForwardTsn c) k e = inl (k, c, e, refl)
 is_in packet c k e = tt
 
 pub all_said_in : (x : Surroundings) (packet : Packet) (front cs : List Chunk) → packet.chunks ≡ front ++ cs

@@ -1,5 +1,5 @@
 -- A poll of one association for packets.
-use Rattle.std.proofs.Common.{◌≡◌, refl, sym, ap, ◌∙◌, subst, ◌⊎◌, ⊎_elim, ℕ, Bool, true, false, if◌then◌else◌, List}
+use Rattle.std.proofs.Common.{◌≡◌, ◌<◌, refl, sym, ap, ◌∙◌, subst, ◌⊎◌, ⊎_elim, ℕ, Bool, true, false, if◌then◌else◌, List}
 use Rattle.std.proofs.Common.{[], ◌∷◌, ◌++◌, take, drop, inl, inr, Option, Some, None}
 use Rattle.std.specs.List.{AllByRecursion}
 use Rattle.std.proofs.lemmas.Bool.{cases_Bool, false≢true}
@@ -8,11 +8,11 @@ use Rattle.sctp_wire_types.specs.declared.chunk.Chunk.{Chunk}
 use Rattle.sctp_wire_types.specs.declared.chunk.Chunk.TheVariants as chunks
 use Rattle.sctp_wire.specs.declared.packet.Packet.{Packet}
 use Rattle.sctp_model.specs.Safe.{IsWithin}
-use Rattle.sctp_model.proofs.Lists.{all_front, all_get, all_weaker}
+use Rattle.sctp_model.proofs.Lists.{all_front, all_get, all_join, all_weaker}
 use Rattle.sctp_directions.specs.Acts.{Act, CanAll, History, Parts, all_data_given, done_all}
 use Rattle.sctp_assoc.specs.Leads.{parts}
 use Rattle.sctp_assoc.specs.Calls.{is_established}
-use Rattle.sctp_assoc.specs.Happened.{Polls, PollsOn, acts_of_poll}
+use Rattle.sctp_assoc.specs.Happened.{Polls, PollsOn, acts_of_poll, forwards_of_poll}
 use Rattle.sctp_assoc.specs.declared.control.ControlPacket.{ControlPacket}
 use Rattle.sctp_sides.specs.Meeting.{Greets, IsTruthful, Stage, stage_of}
 use Rattle.sctp_assoc.specs.Gather.{AreControlReadAgain, control_packets, has_something_to_give, polled}
@@ -20,18 +20,24 @@ use Rattle.sctp_assoc.specs.Gather.{without_control}
 use Rattle.sctp_sides.specs.SideLaws.{IsExchanged, IsGivenBy, IsPolling, IsSameStatus, IsWaitingToGo, OfEachChunk}
 use Rattle.sctp_sides.specs.SideLaws.{reports}
 use Rattle.sctp_assoc.specs.Shown.{Shown}
-use Rattle.sctp_sides.proofs.Proved.{done_append, established_sides_talk, given_append, polls_give_and_report}
+use Rattle.sctp_sides.proofs.Proved.{acts_tied, done_append, established_sides_talk, forwardings_are_silent}
+use Rattle.sctp_sides.proofs.Proved.{given_append, polls_give_and_report}
 use Rattle.sctp_sides.proofs.Proved.{polls_keep_the_status, polls_outside_established_give_what_waits}
 use Rattle.sctp_sides.proofs.Proved.{polls_say_their_acts, reports_are_silent, what_waits_goes_out_as_it_is}
 use Rattle.sctp_fit.specs.Sendings.{IsGiven}
-use Rattle.sctp_directions.specs.Said.{Says}
+use Rattle.sctp_serial.specs.Serial.{tsn}
+use Rattle.sctp_outbound_queue.specs.Outbound.{Outbound, abandoned_in_front_of}
+use Rattle.sctp_outbound.specs.declared.sender.Sender.{Sender}
+use Rattle.sctp_outbound.specs.Forward.{forward_of}
+use Rattle.sctp_directions.specs.Said.{IsForwardMade, Says}
 use Rattle.sctp_pair.specs.declared.step.Reply.{Reply}
 use Rattle.sctp_pair.specs.declared.step.Reply.TheVariants as replies
 use Rattle.sctp_pair.specs.Fits.{AreSaid, IsSaidBy}
 use Rattle.sctp_pair.specs.Steps.{Fails, GivesOut, HadFailed, LosesSome, packet_in}
-use Rattle.sctp_pair.proofs.BetweenDirections.{ClosedAt, Faces, Holds, None_brought, OpenAt, SettlesQuietly, StandsAt}
-use Rattle.sctp_pair.proofs.BetweenDirections.{Surroundings, does_by_goes, moved}
-use Rattle.sctp_pair.proofs.OutgoingData.{all_given}
+use Rattle.sctp_pair.proofs.BetweenDirections.{ClosedAt, Faces, Goes, Holds, None_brought, OpenAt, SettlesQuietly}
+use Rattle.sctp_pair.proofs.BetweenDirections.{StandsAt, Surroundings, does_by_goes, goes_on, moved}
+use Rattle.sctp_pair.proofs.ForwardsMade.{few_for_a_forward, new_data_says_the_same, with_queue}
+use Rattle.sctp_pair.proofs.OutgoingData.{all_new, all_old, forward_if, given_grows}
 use Rattle.sctp_pair.proofs.QuietCalls.{by_working, closed_on, fails_settle, same_settles, still}
 use Rattle.sctp_pair.proofs.HandshakeStages.{at_same, come_on, stays_put}
 use Rattle.sctp_pair.proofs.ComingData.{AfterComing, ReportsSaid, act_reported, coming_nowhere}
@@ -50,14 +56,17 @@ SaysAt x c = IsSaidBy x.own x.peer x.here x.out x.coming c
 abbrev SaidAt : Surroundings → List (List ℕ) → Type 0
 SaidAt x packets = AreSaid x.own x.peer x.here x.out x.coming packets
 
--- The association gave out what these acts give of its direction, and a report, where one is due, is of what came.
-module _ (x : Surroundings) (a : Shown) (h : History) (acts : List Act)
+-- The association gave out what these acts give of its direction; a report, where one is due, is of what came, and a
+-- FORWARD TSN, where one is given, is one that was made.
+module _ (x : Surroundings) (a b : Shown) (h : History) (acts : List Act) (forwards : Bool)
     (given : AllByRecursion (IsGiven x.own x.out) (all_data_given acts (parts a h)))
-    (made : reports a ≡ true → ReportsSaid x.peer h x.coming) where
-  exchanged_said : (c : Chunk) → IsExchanged acts a h c → Says x.own x.peer x.out x.coming c
+    (made : reports a ≡ true → ReportsSaid x.peer h x.coming)
+    (forwarded : forwards ≡ true → IsForwardMade x.own x.out (forward_of b.sender)) where
+  exchanged_said : (c : Chunk) → IsExchanged acts forwards a b h c → Says x.own x.peer x.out x.coming c
   exchanged_said (chunks.Data piece) (k, e) =
       all_get (IsGiven x.own x.out) (all_data_given acts (parts a h)) k piece e given
   exchanged_said (chunks.SelectiveAck sack) (due, says) = made due sack says
+  exchanged_said (chunks.ForwardTsn c) (e, is) = subst (IsForwardMade x.own x.out) (sym is) (forwarded e)
   exchanged_said c n = absurd n
 
 -- a chunk that waited to go out says what is so
@@ -94,22 +103,40 @@ report_does_nothing : (due : Bool) (p : Parts) → done_all (if due then Act.Rep
 report_does_nothing true p = refl
 report_does_nothing false p = refl
 
+-- FORWARD TSN leaves what the directions see, and goes out only where what is abandoned stands in front
+
+forward_does_nothing : (forwards : Bool) (p : Parts) → done_all (if forwards then Act.Forwarded ∷ [] else []) p ≡ p
+forward_does_nothing true p = refl
+forward_does_nothing false p = refl
+
+forward_could : (forwards : Bool) (p : Parts) → CanAll (if forwards then Act.Forwarded ∷ [] else []) p
+    → forwards ≡ true → 0 < abandoned_in_front_of p.queue.in_flight
+forward_could true p can e = can.0
+forward_could false p can e = absurd (false≢true e)
+
+can_back : (xs ys : List Act) (p : Parts) → CanAll (xs ++ ys) p → CanAll ys (done_all xs p)
+can_back [] ys p c = c
+can_back (x ∷ xs) ys p (c, cs) = can_back xs ys _ cs
+
 -- An association polls: what it gives out is what its directions have then, or says what is so of its handshake.
 pub record Polled (x : Surroundings) (b : Shown) (packets : List (List ℕ)) : Type 0 where
   pub settles : SettlesQuietly x b
   pub said : AreSaid x.own x.peer settles.here2 settles.out2 settles.coming2 packets
 
 -- A poll of an association gave these packets and left b.
-module _ {x : Surroundings} {a b : Shown} {packets : List (List ℕ)} (f : Faces x a) (same : IsSameStatus a b)
+module _ {x : Surroundings} {a b : Shown} {packets : List (List ℕ)} (f : Faces x a) (same_status : IsSameStatus a b)
     (again : AreControlReadAgain a.control) where
-  -- In Established DATA goes out, a report where it is due, and what waits.
-  open_polls : (acts : List Act) (s : OpenAt x a) → is_established a.state ≡ true → IsPolling a acts
-      → Polls acts a s.past b packets → Polled x b packets
-  open_polls acts s established polling poll =
+  -- In Established DATA goes out, a report where it is due, FORWARD TSN where it is given, and what waits. The direction
+  -- makes the FORWARD TSN before new DATA goes out, which says the same: only then few offsets are sure to be assigned.
+  open_polls : (acts : List Act) (forwards : Bool) (s : OpenAt x a) → is_established a.state ≡ true
+      → IsPolling a forwards acts → Polls acts forwards a s.past b packets → Polled x b packets
+  open_polls acts forwards s established polling poll =
       let h : History = s.past in
       let p : Parts = parts a h in
-      let ds : List Act = polling.given in
+      let os : List Act = polling.old in
+      let ns : List Act = polling.new in
       let ks : List Act = if reports a then Act.Reported ∷ [] else [] in
+      let fs : List Act = if forwards then Act.Forwarded ∷ [] else [] in
       let known : h.peer ≡ x.peer = s.peer_is (established_sides_talk a established s.come).known in
       let before : Holds x p = record {
         own_is = s.own_is;
@@ -119,60 +146,96 @@ module _ {x : Surroundings} {a b : Shown} {packets : List (List ℕ)} (f : Faces
         in_order = s.in_order;
         other = f.other;
       } in
-      let can : CanAll (ds ++ ks) p = subst (λ zs. CanAll zs p) polling.are poll.leads.can in
-      let given = all_given ds x p polling.give (can_front ds ks p can) before in
-      let there : parts b h ≡ done_all ds p =
-      poll.leads.there ∙ ap (λ zs. done_all zs p) polling.are ∙ done_append ds ks p
-      ∙ report_does_nothing (reports a) (done_all ds p) in
-      let past_is : h ≡ (done_all ds p).history = ap (λ (z : Parts). z.history) there in
-      let out : Surroundings = record x { out = given.out2 } in
+      let can : CanAll (os ++ ns ++ ks ++ fs) p = subst (λ zs. CanAll zs p) polling.are poll.leads.can in
+      let can_three : CanAll (os ++ ns ++ ks) p = can_front (os ++ ns ++ ks) fs p can in
+      let can_two : CanAll (os ++ ns) p = can_front (os ++ ns) ks p can_three in
+      let can_old : CanAll os p = can_front os ns p can_two in
+      let p1 : Parts = done_all os p in
+      let p2 : Parts = done_all ns p1 in
+      let two_is : done_all (os ++ ns) p ≡ p2 = done_append os ns p in
+      let three_is : done_all (os ++ ns ++ ks) p ≡ p2 =
+      done_append (os ++ ns) ks p ∙ ap (λ (z : Parts). done_all ks z) two_is ∙ report_does_nothing (reports a) p2 in
+      let all_is : done_all (os ++ ns ++ ks ++ fs) p ≡ p2 =
+      done_append (os ++ ns ++ ks) fs p ∙ ap (λ (z : Parts). done_all fs z) three_is
+      ∙ forward_does_nothing forwards p2 in
+      let there : parts b h ≡ p2 = poll.leads.there ∙ ap (λ zs. done_all zs p) polling.are ∙ all_is in
+      let old = all_old os x p polling.old_are can_old before in
+      let mid : Surroundings = record x { out = old.after.out2 } in
+      let same = new_data_says_the_same ns p1 polling.new_are in
+      let sender : Sender = with_queue p1.queue b.sender in
+      let could : forwards ≡ true → 0 < abandoned_in_front_of p1.queue.in_flight =
+      λ e. subst (λ (n : ℕ). 0 < n) same.front
+      (forward_could forwards p2 (subst (CanAll fs) three_is (can_back (os ++ ns ++ ks) fs p can)) e) in
+      let tied : p1.queue.first_tsn ≡ tsn p1.history.own p1.history.base = acts_tied os p can_old s.binds.first in
+      let few =
+      few_for_a_forward x.out old.after.out2 f.within_out old.room_is old.after.goes.reach_on in
+      let made = forward_if forwards mid p1 sender could refl tied few old.after.holds in
+      let mid2 : Surroundings = record x { out = made.out2 } in
+      let new = all_new ns mid2 p1 polling.new_are (can_back os ns p can_two) made.holds in
+      let to_new : Goes None_brought old.after.out2 new.out2 =
+      goes_on None_brought old.after.out2 made.out2 new.out2 made.goes new.goes in
+      let goes : Goes None_brought x.out new.out2 =
+      goes_on None_brought x.out old.after.out2 new.out2 old.after.goes to_new in
+      let past_is : h ≡ p2.history = ap (λ (z : Parts). z.history) there in
+      let out : Surroundings = record x { out = new.out2 } in
       let met = ap (λ (z : History). z.peer) (sym past_is) ∙ known in
-      let report = report_if (reports a) out (done_all ds p) met f.within_coming given.holds in
-      let now : Surroundings = moved x given.out2 report.0.coming2 in
+      let report = report_if (reports a) out p2 met f.within_coming new.holds in
+      let now : Surroundings = moved x new.out2 report.0.coming2 in
       let holds : Holds now (parts b h) = subst (Holds now) (sym there) report.0.holds in
-      let data_is : all_data_given acts p ≡ all_data_given ds p =
-      ap (λ zs. all_data_given zs p) polling.are ∙ given_append ds ks p
-      ∙ ap (λ z. all_data_given ds p ++ z) (reports_are_silent (reports a) (done_all ds p))
-      ∙ append-nil (all_data_given ds p) in
+      let given : AllByRecursion (IsGiven x.own new.out2) (all_data_given os p ++ all_data_given ns p1) =
+      all_join (IsGiven x.own new.out2) (all_data_given os p) (all_data_given ns p1)
+      (given_grows x.own old.after.out2 new.out2 (all_data_given os p) to_new old.after.said) new.said in
+      let data_is : all_data_given acts p ≡ all_data_given os p ++ all_data_given ns p1 =
+      ap (λ zs. all_data_given zs p) polling.are ∙ given_append (os ++ ns ++ ks) fs p
+      ∙ ap (λ z. all_data_given (os ++ ns ++ ks) p ++ z) (forwardings_are_silent forwards (done_all (os ++ ns ++ ks) p))
+      ∙ append-nil (all_data_given (os ++ ns ++ ks) p) ∙ given_append (os ++ ns) ks p
+      ∙ ap (λ z. all_data_given (os ++ ns) p ++ z) (reports_are_silent (reports a) (done_all (os ++ ns) p))
+      ∙ append-nil (all_data_given (os ++ ns) p) ∙ given_append os ns p in
+      let queue_is : b.sender.queue ≡ p2.queue = ap (λ (z : Parts). z.queue) there in
+      let chunk_is : forward_of b.sender ≡ forward_of sender =
+      ap (λ (q : Outbound). forward_of (with_queue q b.sender)) queue_is ∙ same.chunk b.sender in
+      let forwarded : forwards ≡ true → IsForwardMade x.own new.out2 (forward_of b.sender) =
+      λ e. subst (IsForwardMade x.own new.out2) (sym chunk_is)
+      (let m = made.said e in (m.0, m.1, new.goes.forwards m.0 m.1 m.2, m.3)) in
       let stands : OpenAt now b = record {
         past = h;
         own_is = s.own_is;
         peer_is = λ k. known;
         binds = poll.leads.binds;
-        working = same.failed ∙ s.working;
-        come = come_on a b same s.come;
-        present = same.lost ∙ s.present;
-        truthful = same.truthful x.own s.truthful;
-        size = given.goes.size ∙ s.size ∙ sym same.size;
+        working = same_status.failed ∙ s.working;
+        come = come_on a b same_status s.come;
+        present = same_status.lost ∙ s.present;
+        truthful = same_status.truthful x.own s.truthful;
+        size = goes.size ∙ s.size ∙ sym same_status.size;
         between = holds.between;
         in_order = holds.in_order;
       } in
-      let exchanged = exchanged_said now a h acts
-      (subst (λ z. AllByRecursion (IsGiven x.own given.out2) z) (sym data_is) given.said)
-      (λ due. subst (λ (z : History). ReportsSaid x.peer z report.0.coming2) (sym past_is) (report.1 due)) in
-      let said : (c : Chunk) → IsGivenBy acts a h c → SaysAt now c =
+      let exchanged = exchanged_said now a b h acts forwards
+      (subst (λ z. AllByRecursion (IsGiven x.own new.out2) z) (sym data_is) given)
+      (λ due. subst (λ (z : History). ReportsSaid x.peer z report.0.coming2) (sym past_is) (report.1 due)) forwarded in
+      let said : (c : Chunk) → IsGivenBy acts forwards a b h c → SaysAt now c =
       λ c. ⊎_elim
       (λ (w : IsWaitingToGo a c). waiting_said now a (f.at s.working) s.truthful c w)
-      (λ (e : IsExchanged acts a h c). inl (exchanged c e)) in
+      (λ (e : IsExchanged acts forwards a b h c). inl (exchanged c e)) in
       record {
         settles = record {
-          out2 = given.out2;
+          out2 = new.out2;
           coming2 = report.0.coming2;
           here2 = x.here;
-          does_out = does_by_goes None_brought x.out given.out2 given.goes;
+          does_out = does_by_goes None_brought x.out new.out2 goes;
           does_coming = does_by_goes None_brought x.coming report.0.coming2 report.0.goes;
           sound_out = holds.sound_out;
           sound_coming = holds.sound_coming;
           stands = inl stands;
           other = holds.other;
           goes = stays_put x.here;
-          at = at_same a b x.here same f.at;
+          at = at_same a b x.here same_status f.at;
           meets = f.meets;
-          no_more = inl (ap is_established same.state ∙ established, stands);
+          no_more = inl (ap is_established same_status.state ∙ established, stands);
           coming_still = report.0.still;
         };
-        said = each_packet (IsGivenBy acts a h) (SaysAt now) packets said
-            (polls_say_their_acts acts a b h packets s.truthful.plain again established s.binds poll);
+        said = each_packet (IsGivenBy acts forwards a b h) (SaysAt now) packets said
+            (polls_say_their_acts acts forwards a b h packets s.truthful.plain again established s.binds poll);
       }
 
   -- Outside Established what waits goes out, and nothing else happens.
@@ -187,7 +250,7 @@ module _ {x : Surroundings} {a b : Shown} {packets : List (List ℕ)} (f : Faces
       each_packet (IsWaitingToGo a) (SaysAt x) (control_packets a.control)
       (waiting_said x a (f.at working) truthful) (what_waits_goes_out_as_it_is a truthful.plain again) in
       record {
-        settles = still f (at_same a b x.here same f.at) there;
+        settles = still f (at_same a b x.here same_status f.at) there;
         said = subst (SaidAt x) (ap (λ (z : Shown × List (List ℕ)). z.1) gives) waited;
       }
 
@@ -225,14 +288,15 @@ closed_without x a same s = closed_on same s.nothing_left s
 
 -- any association that didn't fail before
 any_polls : {x : Surroundings} {a b : Shown} (now : ℕ) (packets : List (List ℕ)) → a.failed ≡ false
-    → polled a now ≡ (b, packets) → PollsOn (acts_of_poll a now) a b packets → Faces x a → Polled x b packets
+    → polled a now ≡ (b, packets) → PollsOn (acts_of_poll a now) (forwards_of_poll a now) a b packets → Faces x a
+    → Polled x b packets
 any_polls {x} {a} {b} now packets working e polls f =
     let same : IsSameStatus a b =
     subst (IsSameStatus a) (ap (λ (z : Shown × List (List ℕ)). z.0) e) (polls_keep_the_status a now) in
     by_working (Polled x b packets) working f
     (λ s. ⊎_elim
     (λ (established : is_established a.state ≡ true).
-    open_polls f same polls.control_again (acts_of_poll a now) s established
+    open_polls f same polls.control_again (acts_of_poll a now) (forwards_of_poll a now) s established
     (polls_give_and_report a now established) (polls.from s.past s.binds))
     (λ (outside : is_established a.state ≡ false).
     silent_polls f same polls.control_again now working e outside s.truthful

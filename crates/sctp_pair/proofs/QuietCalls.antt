@@ -13,7 +13,7 @@ use Rattle.sctp_fit.proofs.DataTaken.{opened_streams_are_alike}
 use Rattle.sctp_fit.proofs.NothingToSend.{opened_streams_send_nothing}
 use Rattle.sctp_directions.specs.Acts.{Act, History, IsKeptInOrder, IsNotPeerKnown, Parts, done, done_all, receiving}
 use Rattle.sctp_directions.specs.Acts.{sending}
-use Rattle.sctp_directions.specs.Events.{Brings, GivesAMessage, IsOfReceiving, IsPlainEvent}
+use Rattle.sctp_directions.specs.Events.{Brings, BringsForward, GivesAMessage, IsOfReceiving, IsPlainEvent}
 use Rattle.sctp_directions.proofs.Proved.{acts_keep_the_initial_tsns, closed_receivers_are_not_open}
 use Rattle.sctp_directions.proofs.Proved.{receivers_events_are_received}
 use Rattle.sctp_assoc.specs.Leads.{Leads, parts}
@@ -84,11 +84,12 @@ measures_same a r b h = absurd h
 -- an event of the receiver that is no read and brings nothing happened to the direction that comes, and the association
 -- stands between its directions then
 pub settles_by_receiver : {x : Surroundings} {a b : Shown} (e : Event) → Faces x a → IsOfReceiving e
-    → (GivesAMessage e → ⊥) → ((o : ℕ) → Brings x.coming e o → ⊥) → IsPlainEvent e → IsAt b x.here
+    → (GivesAMessage e → ⊥) → ((o : ℕ) → Brings x.coming e o → ⊥) → ((n : ℕ) → BringsForward x.coming e n → ⊥)
+    → IsPlainEvent e → IsAt b x.here
     → StandsAt (record x { coming = happens x.coming e }) b → SettlesQuietly x b
-settles_by_receiver {x} e f at none brings plain now s =
+settles_by_receiver {x} e f at none brings passes plain now s =
     let received = receivers_events_are_received x.coming e at in
-    let goes = goes_by_receiver None_brought x.coming e at none brings in
+    let goes = goes_by_receiver None_brought x.coming e at none brings passes in
     record {
       out2 = x.out;
       coming2 = happens x.coming e;
@@ -114,7 +115,7 @@ settles_by_receiver {x} e f at none brings plain now s =
 -- it.
 pub fails_settle : {x : Surroundings} {a b : Shown} → b.failed ≡ true → Faces x a → SettlesQuietly x b
 fails_settle {x} failed f =
-    settles_by_receiver Event.Close f tt (λ n. n) (λ o n. n) tt (λ working. absurd (true≢false (sym failed ∙ working)))
+    settles_by_receiver Event.Close f tt (λ n. n) (λ o n. n) (λ o n. n) tt (λ working. absurd (true≢false (sym failed ∙ working)))
     (inr (inr record { failed = failed; stopped = closed_receivers_are_not_open x.coming }))
 
 -- An open association goes on
@@ -213,7 +214,8 @@ module _ (x : Surroundings) (a : Shown) (id : ℕ) (kind : PayloadProtocolIdenti
             f.sound_out.invariant f.sound_out.counts s.between.outgoing;
         incoming = opened_streams_are_alike (receiving p) id first kind x.coming none s.between.incoming;
       } in
-      settles_by_receiver (Event.Open id) f tt (λ n. n) (λ o n. n) tt (at_same a (opened a id kind) x.here same f.at)
+      settles_by_receiver (Event.Open id) f tt (λ n. n) (λ o n. n) (λ o n. n) tt
+      (at_same a (opened a id kind) x.here same f.at)
       (inl stands)
 
   opened_settles : open_refusal a id ≡ None → SettlesQuietly x (opened a id kind)

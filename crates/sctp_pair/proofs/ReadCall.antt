@@ -7,7 +7,7 @@ use Rattle.std.proofs.lemmas.Bool.{cases_Bool, cases_eq, cond-false, cond-true, 
 use Rattle.std.proofs.lemmas.List.{append-nil}
 use Rattle.sctp_wire_types.specs.declared.error.Error.{Error}
 use Rattle.sctp_receive_queues.specs.Messages.{ReceivedMessage}
-use Rattle.sctp_model.specs.Packets.{Data, mem}
+use Rattle.sctp_model.specs.Packets.{Data, Forward, mem}
 use Rattle.sctp_model.specs.Reassembly.{Got}
 use Rattle.sctp_model.specs.Machine.{Direction, Event, happens, run}
 use Rattle.sctp_model.proofs.Proved.{each_event_keeps_the_invariant}
@@ -16,6 +16,7 @@ use Rattle.sctp_reassembly.specs.Stands.{IsReadAs}
 use Rattle.sctp_fit.proofs.ReadsAnswered.{reads_are_alike}
 use Rattle.sctp_directions.specs.Acts.{Act, receiving}
 use Rattle.sctp_directions.specs.Between.{IsSound}
+use Rattle.sctp_directions.proofs.Proved.{only_forwards_pass_over}
 use Rattle.sctp_directions.proofs.Proved.{closed_receivers_are_not_open}
 use Rattle.sctp_directions.proofs.Proved.{only_what_is_brought_is_taken_in, receivers_events_are_received}
 use Rattle.sctp_directions.proofs.Proved.{what_comes_leaves_its_own}
@@ -31,7 +32,7 @@ use Rattle.sctp_pair.specs.declared.step.Reply.{Reply}
 use Rattle.sctp_pair.specs.declared.step.Reply.TheVariants as replies
 use Rattle.sctp_pair.specs.Fits.{IsAt, StandsClosed}
 use Rattle.sctp_pair.specs.Steps.{Reads}
-use Rattle.sctp_pair.proofs.BetweenDirections.{orderly_acts_keep_order}
+use Rattle.sctp_pair.proofs.BetweenDirections.{orderly_acts_keep_order, passes_on}
 use Rattle.sctp_pair.proofs.BetweenDirections.{ClosedAt, Does, Faces, Goes, None_brought, OpenAt, OtherStands}
 use Rattle.sctp_pair.proofs.BetweenDirections.{Settles, SettlesQuietly, StandsAt, goes_by_receiver, run_append}
 use Rattle.sctp_pair.proofs.BetweenDirections.{Surroundings, does_by_goes, goes_nowhere, nothing_added}
@@ -77,7 +78,9 @@ read_does w id message here others =
       size = ap (λ x. x.plan.size) event.sender;
       reads = read_alone w.reads (happens w (Event.Read id)).reads id message here others;
       taken = λ o m. only_what_is_brought_is_taken_in w (Event.Read id) o tt m;
+      passed = only_forwards_pass_over w (Event.Read id) tt;
       datas = λ k d e. subst (λ (ds : List Data). slice_get ds k ≡ Some d) (sym event.datas) e;
+      forwards = λ k f e. subst (λ (fs : List Forward). slice_get fs k ≡ Some f) (sym event.forwards) e;
       sacks = event.sacks;
       reach_on = (let e = ap (λ x. x.reach) event.sender in omega arith);
     }
@@ -97,7 +100,9 @@ does_on R w v u d g = record {
   reads = λ s. subst (IsReadAs (R s) (w.reads s)) (sym (g.reads s)) (d.reads s);
   taken =
       λ o m. ⊎_elim (λ (n : mem o v.receiver.taken ≡ true). d.taken o n) (λ (n : ⊥). absurd n) (g.taken o m);
+  passed = passes_on None_brought w.receiver.passed v.receiver.passed u.receiver.passed d.passed g.passed;
   datas = λ k x e. g.datas k x (d.datas k x e);
+  forwards = λ k x e. g.forwards k x (d.forwards k x e);
   sacks = λ k x e. g.sacks k x (d.sacks k x e);
   reach_on = (let a = d.reach_on in let b = g.reach_on in omega arith);
 }
@@ -184,7 +189,7 @@ module _ {x : Surroundings} {a : Shown} (id : ℕ) (message : Option ReceivedMes
   unfolding happens
   read_closes b at over truthful =
       let coming2 = after_one x id in
-      let closes = goes_by_receiver None_brought coming2 Event.Close tt (λ n. n) (λ o n. n) in
+      let closes = goes_by_receiver None_brought coming2 Event.Close tt (λ n. n) (λ o n. n) (λ o n. n) in
       let stands : ClosedAt (record x { coming = happens coming2 Event.Close }) b = record {
         closed = over.closed;
         unestablished = over.unestablished;
@@ -287,7 +292,9 @@ none_read {x} id message e h =
             (subst (λ (z : Option ReceivedMessage). IsReadAs z (x.coming.reads id) (h.coming2.reads id)) (sym e)
             (d.reads id)) (λ s b. d.reads s);
         taken = d.taken;
+        passed = d.passed;
         datas = d.datas;
+        forwards = d.forwards;
         sacks = d.sacks;
         reach_on = d.reach_on;
       };

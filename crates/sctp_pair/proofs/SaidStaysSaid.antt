@@ -4,7 +4,7 @@ use Rattle.std.specs.Prelude.{slice_get}
 use Rattle.sctp_wire_types.specs.declared.chunk.Chunk.{Chunk}
 use Rattle.sctp_wire_types.specs.declared.chunk.Chunk.TheVariants as chunks
 use Rattle.sctp_wire.specs.declared.packet.Packet.{Packet}
-use Rattle.sctp_model.specs.Packets.{Data, Sack}
+use Rattle.sctp_model.specs.Packets.{Data, Forward, Sack}
 use Rattle.sctp_model.specs.Machine.{Direction}
 use Rattle.sctp_model.proofs.Lists.{all_weaker}
 use Rattle.sctp_sides.specs.Meeting.{IsNoEarlier, Stage}
@@ -18,6 +18,10 @@ use Rattle.sctp_pair.specs.Fits.{AreSaid, IsSaidBy}
 abbrev pub KeepsDatas : Direction → Direction → Type 0
 KeepsDatas w v = (k : ℕ) (d : Data) → slice_get w.datas k ≡ Some d → slice_get v.datas k ≡ Some d
 
+-- so does whatever FORWARD TSN was
+abbrev pub KeepsForwards : Direction → Direction → Type 0
+KeepsForwards w v = (k : ℕ) (f : Forward) → slice_get w.forwards k ≡ Some f → slice_get v.forwards k ≡ Some f
+
 -- and whatever SACK its receiver made stays made
 abbrev pub KeepsSacks : Direction → Direction → Type 0
 KeepsSacks w v = (k : ℕ) (x : Sack) → slice_get w.sacks k ≡ Some x → slice_get v.sacks k ≡ Some x
@@ -26,6 +30,7 @@ KeepsSacks w v = (k : ℕ) (x : Sack) → slice_get w.sacks k ≡ Some x → sli
 pub record StageGoesOn (s t : Stage) (out coming out2 coming2 : Direction) : Type 0 where
   pub goes : IsNoEarlier s t
   pub datas : KeepsDatas out out2
+  pub forwards : KeepsForwards out out2
   pub sacks : KeepsSacks coming coming2
 
 module _ (own peer : ℕ) {s t : Stage} {out coming out2 coming2 : Direction}
@@ -34,6 +39,7 @@ module _ (own peer : ℕ) {s t : Stage} {out coming out2 coming2 : Direction}
   chunk_grows : (c : Chunk) → Says own peer out coming c → Says own peer out2 coming2 c
   chunk_grows (chunks.Data c) (k, d, there, said) = (k, d, g.datas k d there, said)
   chunk_grows (chunks.SelectiveAck c) (k, x, there, made) = (k, x, g.sacks k x there, made)
+  chunk_grows (chunks.ForwardTsn c) (k, f, there, said) = (k, f, g.forwards k f there, said)
   chunk_grows c h = absurd h
 
   -- a chunk of the handshake says it of a later stage, too

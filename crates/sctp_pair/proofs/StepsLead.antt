@@ -27,13 +27,15 @@ use Rattle.sctp_pair.specs.Steps.{packet_in}
 use Rattle.sctp_streams.specs.declared.setting.Setting.TheVariants as settings
 use Rattle.sctp_streams.specs.Stream.{is_read_half_open, is_write_half_open, ordered_and_reliable, params_of}
 use Rattle.sctp_pair.specs.World.{is_loose, is_side, loose_after, loose_of}
-use Rattle.sctp_pair.specs.World.{HasData, World, other_side, packet_brought, packet_of_bytes}
+use Rattle.sctp_fit.specs.Incoming.{tsn_before}
+use Rattle.sctp_pair.specs.World.{HasData, HasForward, World, other_side, packet_brought, packet_of_bytes}
 use Rattle.sctp_pair.specs.Fits.{AreSaid, Fits, LeadsSafely}
 use Rattle.sctp_pair.proofs.BetweenDirections.{Faces, None_brought, Settles, SettlesQuietly, Surroundings}
 use Rattle.sctp_pair.proofs.BetweenDirections.{nothing_added, nothing_read}
 use Rattle.sctp_pair.proofs.CallsAreSteps.{IsCallAt, around_a, around_b, faces_a, faces_b, settled_a, settled_b}
 use Rattle.sctp_pair.proofs.AcceptedAndRead.{IsQuiet, quiet_call, read_call, write_call}
-use Rattle.sctp_pair.proofs.PacketCall.{Brings_of, brings_more, brought_by, packet_settles}
+use Rattle.sctp_pair.proofs.PacketCall.{brings_more, brought_by, packet_settles}
+use Rattle.sctp_pair.proofs.PacketChunks.{Brings_of}
 use Rattle.sctp_pair.proofs.PacketChunks.{OtherSays}
 use Rattle.sctp_pair.proofs.PollCall.{poll_settles}
 use Rattle.sctp_pair.proofs.ReadCall.{read_by, reads_settle}
@@ -161,6 +163,8 @@ module _ (q : Ends) (r : Reply) (w : World) (fits : Fits w.ends w) where
         adds = λ s. refl;
         reads = λ s. refl;
         brings = λ o b. subst (λ z. HasData z (tsn w.initial_b o)) (brought_here sides.A number now r w) b;
+        passes =
+            λ n b. subst (λ z. HasForward z (tsn_before (tsn w.initial_b n))) (brought_here sides.A number now r w) b;
         adds_alone = λ s. refl;
         reads_alone = λ s. refl;
       }
@@ -173,6 +177,8 @@ module _ (q : Ends) (r : Reply) (w : World) (fits : Fits w.ends w) where
         adds = λ s. refl;
         reads = λ s. refl;
         brings = λ o b. subst (λ z. HasData z (tsn w.initial_a o)) (brought_here sides.B number now r w) b;
+        passes =
+            λ n b. subst (λ z. HasForward z (tsn_before (tsn w.initial_a n))) (brought_here sides.B number now r w) b;
         adds_alone = λ s. refl;
         reads_alone = λ s. refl;
       }

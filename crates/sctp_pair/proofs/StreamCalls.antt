@@ -207,7 +207,7 @@ module _ (x : Surroundings) (a : Shown) (f : Faces x a) where
       (λ (opened : is_closed_state a.state ≡ false).
       let ended = closes.ends opened in
       by_working (SettlesQuietly x b) working f
-      (λ s. settles_by_receiver Event.Close f tt (λ n. n) (λ o n. n) tt
+      (λ s. settles_by_receiver Event.Close f tt (λ n. n) (λ o n. n) (λ o n. n) tt
       (λ works. (the_same_handshake_is_the_same_stage a b closes.side closes.handshake).0
       ∙ f.at (sym closes.failed ∙ works))
       (inr (inl record {

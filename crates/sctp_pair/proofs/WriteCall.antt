@@ -77,7 +77,9 @@ write_does a id n named bytes t w there some =
       size = sent.0.size;
       reads = λ s. ap (λ f. f s) sent.0.reads;
       taken = λ o m. inl (subst (λ (r : Receiver). mem o r.taken ≡ true) sent.0.receiver m);
+      passed = inl (ap (λ (r : Receiver). r.passed) sent.0.receiver);
       datas = sent.0.datas;
+      forwards = sent.0.forwards;
       sacks = λ k x e. subst (λ (ks : List Sack). slice_get ks k ≡ Some x) (sym sent.0.sacks) e;
       reach_on = sent.1;
     }
@@ -113,7 +115,7 @@ written_settles {x} {a} id n named bytes can f s =
       does_out = write_does a id n named bytes t x.out there can.some;
       does_coming = does_by_goes None_brought x.coming x.coming (goes_nowhere None_brought x.coming);
       sound_out =
-          sound_after e tt (senders_events_keep_the_invariant x.out e tt f.sound_out.invariant) f.sound_out;
+          sound_after e tt (senders_events_keep_the_invariant x.out e tt tt f.sound_out.invariant) f.sound_out;
       sound_coming = f.sound_coming;
       stands = inl stands;
       other = other_by_sender x e tt f.sound_out.invariant f.other;

@@ -71,8 +71,8 @@ pub record StagesAgree (s t : Stage) : Type 0 where
 abbrev pub IsSilent : Stage → Direction → Type 0
 IsSilent s w = s.completed ≡ false → w.sender.plan.places ≡ []
 
--- a chunk that a side in this stage gives out: DATA of its own direction, a SACK for the one that comes to it, or its
--- handshake's
+-- a chunk that a side in this stage gives out: DATA or FORWARD TSN of its own direction, a SACK for the one that comes
+-- to it, its handshake's, or an ERROR
 abbrev pub IsSaidBy : ℕ → ℕ → Stage → Direction → Direction → Chunk → Type 0
 IsSaidBy own peer s out coming chunk = Says own peer out coming chunk ⊎ Greets own s chunk
 

@@ -19,7 +19,7 @@ use Rattle.sctp_streams.specs.Streams.{live_ids, stream_at}
 use Rattle.sctp_assoc.specs.Calls.{open_refusal, opened, read_from_stream, refusal_to_write, stream_refusal}
 use Rattle.sctp_assoc.specs.Calls.{with_max_send_message_size, written}
 use Rattle.sctp_assoc.specs.Chunks.{after_packet}
-use Rattle.sctp_assoc.specs.Happened.{PollsOn, acts_of_poll}
+use Rattle.sctp_assoc.specs.Happened.{PollsOn, acts_of_poll, forwards_of_poll}
 use Rattle.sctp_assoc.specs.Inbound.{taken_packet}
 use Rattle.sctp_assoc.specs.Gather.{has_something_to_give, polled}
 use Rattle.sctp_assoc.specs.Shown.{HasFailed, Shown, answers_of}
@@ -152,7 +152,7 @@ Expires a now _ b = ⊥
 abbrev pub LosesSome : Shown → List (List ℕ) → ℕ → ℕ → Shown → List (List ℕ) → Type 0
 LosesSome a packets now n b more =
     (a.failed ≡ false) × (n ≡ refusal_number errors.ErrNoMemory) × ((polled a now).0 ≡ b)
-    × PollsOn (acts_of_poll a now) a b (polled a now).1
+    × PollsOn (acts_of_poll a now) (forwards_of_poll a now) a b (polled a now).1
     × ((kept : ℕ) × (kept < length (polled a now).1) × (more ≡ packets ++ take kept (polled a now).1))
 
 -- packets get the next numbers of their side, or where room is refused a front of them that is not all
@@ -169,11 +169,12 @@ Keeps packets given _ more = ⊥
 -- an answer of its own; memory is wanted only where there is something to give
 abbrev pub GivesOut : Shown → List (List ℕ) → ℕ → Reply → Shown → List (List ℕ) → Type 0
 GivesOut a packets now replies.NothingSent b more =
-    (a.failed ≡ false) × (polled a now ≡ (b, [])) × PollsOn (acts_of_poll a now) a b [] × (more ≡ packets)
+    (a.failed ≡ false) × (polled a now ≡ (b, [])) × PollsOn (acts_of_poll a now) (forwards_of_poll a now) a b []
+    × (more ≡ packets)
 GivesOut a packets now (replies.Sent first count) b more =
     (a.failed ≡ false) × (0 < count) × (first ≡ length packets) × (count ≡ length (polled a now).1)
     × ((polled a now).0 ≡ b)
-    × PollsOn (acts_of_poll a now) a b (polled a now).1 × (more ≡ packets ++ (polled a now).1)
+    × PollsOn (acts_of_poll a now) (forwards_of_poll a now) a b (polled a now).1 × (more ≡ packets ++ (polled a now).1)
 GivesOut a packets now (replies.Refused n) b more =
     (HadFailed a n b × (more ≡ packets))
     ⊎ (((has_something_to_give a now ≡ true) × Fails a n b × (more ≡ packets)) ⊎ LosesSome a packets now n b more)
