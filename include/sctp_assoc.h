@@ -11,7 +11,8 @@
  *   3. sctp_assoc_poll_event until it answers SCTP_ASSOC_NOTHING; at SCTP_ASSOC_EVENT_READABLE sctp_assoc_read until it
  *      does so too;
  *   4. sctp_assoc_poll_transmit until it answers SCTP_ASSOC_NOTHING, and send each datagram; do so also after each
- *      datagram that was handed in and after each write, since no timer runs for what waits to go out;
+ *      datagram that was handed in and after each write, since no timer runs for what waits to go out; where it may
+ *      give messages up (sctp_assoc_set_reliability), poll for events behind it, too;
  *   5. sleep until the moment of sctp_assoc_poll_timeout, or until a datagram comes.
  *
  * Each call may be made in any state, in any order and at any moment; what it can't do it refuses by a code. Beyond
@@ -52,8 +53,8 @@ typedef struct sctp_assoc {
 
 /* ---- Codes ----
  *
- * Each call answers one of these. What it gives is written where it answers SCTP_ASSOC_DONE, and a length also at
- * SCTP_ASSOC_NO_ROOM; at every other code what the pointers lead to stays as it was.
+ * Each call answers one of these. What it gives is written where it answers SCTP_ASSOC_DONE, and a length or a count
+ * also at SCTP_ASSOC_NO_ROOM; at every other code what the pointers lead to stays as it was.
  */
 typedef uint32_t sctp_assoc_code;
 
@@ -61,12 +62,12 @@ typedef uint32_t sctp_assoc_code;
 /* The slot is empty. Nothing changed. */
 #define SCTP_ASSOC_EMPTY_SLOT 1
 /* Memory was refused. What that leaves the call says; where it leaves the association failed,
- * sctp_assoc_is_failed tells so, and each later call answers SCTP_ASSOC_FAILED. */
+ * sctp_assoc_is_failed tells so, and each later call that has the code SCTP_ASSOC_FAILED answers it. */
 #define SCTP_ASSOC_NO_MEMORY 2
 /* There is none: no datagram is due, no event waits, no message is ready, no stream is to be accepted, or no timer
  * runs. */
 #define SCTP_ASSOC_NOTHING 3
-/* The buffer is too short. What is next stays, and `length` says how long it is. */
+/* The buffer is too short. What is next stays, and `length` says how long it is, or `count` how many there are. */
 #define SCTP_ASSOC_NO_ROOM 4
 
 /* Refusals. Nothing changed. */
@@ -120,7 +121,8 @@ typedef struct sctp_assoc_token {
     uint32_t window;               /* bytes */
     uint16_t num_outbound_streams;
     uint16_t num_inbound_streams;
-    bool forward_tsn;              /* its Supported Extensions list FORWARD TSN (RFC 3758 section 3.1) */
+    bool forward_tsn;              /* its Supported Extensions list FORWARD TSN (RFC 3758 section 3.1): where the
+                                    * peer's do, messages may be given up */
 } sctp_assoc_token;
 
 /* Writes the token of a side with this configuration. Answers SCTP_ASSOC_DONE. */
@@ -191,8 +193,9 @@ sctp_assoc_code sctp_assoc_handle_timeout(sctp_assoc *slot, uint64_t now);
 #define SCTP_ASSOC_EVENT_STREAM_ENDED 5         /* `stream` ended; `counters` are its last ones */
 #define SCTP_ASSOC_EVENT_OPENED 6               /* the peer opened `stream` by a message */
 #define SCTP_ASSOC_EVENT_READABLE 7             /* messages of `stream` can be read: read until there is none */
-#define SCTP_ASSOC_EVENT_BUFFERED_LOW 8         /* the buffered amount of `stream` fell to 0, its low mark here */
-#define SCTP_ASSOC_EVENT_BUFFERED_HIGH 9        /* not told here: no call sets a high mark */
+#define SCTP_ASSOC_EVENT_BUFFERED_LOW 8         /* the buffered amount of `stream` fell to its low mark or below, by a
+                                                 * datagram or by what sctp_assoc_poll_transmit gave up */
+#define SCTP_ASSOC_EVENT_BUFFERED_HIGH 9        /* a write took it to the high mark or above */
 #define SCTP_ASSOC_EVENT_FINISHED 10            /* not told so far: the peer ended its half of `stream` */
 #define SCTP_ASSOC_EVENT_RESET_COMPLETE 11      /* not told so far: the reset of `stream` ended in success */
 #define SCTP_ASSOC_EVENT_RESET_FAILED 12        /* not told so far: the reset of `stream` failed */
@@ -205,7 +208,8 @@ sctp_assoc_code sctp_assoc_handle_timeout(sctp_assoc *slot, uint64_t now);
 #define SCTP_ASSOC_REASON_BUFFER_EXHAUSTED 4    /* of LOST: the receive buffer is full of what can never be read */
 #define SCTP_ASSOC_REASON_OTHER 5               /* not told so far */
 
-/* Messages and bytes of a stream under the payload types of WebRTC application data (51, 53, 56, 57) alone. */
+/* Messages and bytes of a stream under the payload types of WebRTC application data (51, 53, 56, 57) alone. A number
+ * that reaches UINT64_MAX stays there. */
 typedef struct sctp_assoc_counters {
     uint64_t messages_sent;     /* accepted for sending */
     uint64_t bytes_sent;
@@ -236,6 +240,21 @@ sctp_assoc_code sctp_assoc_is_closed(sctp_assoc *slot, bool *answer);
 
 /* Whether an earlier call found no memory in its middle. Then the association is over. */
 sctp_assoc_code sctp_assoc_is_failed(sctp_assoc *slot, bool *answer);
+
+/* What an association counted since it was made. A number that reaches UINT64_MAX stays there. */
+typedef struct sctp_assoc_totals {
+    uint64_t data_chunks;             /* DATA chunks that came, those too that were dropped */
+    uint64_t sacks;                   /* SACK chunks that came */
+    uint64_t retransmission_timeouts; /* how often the timer of retransmissions expired (RFC 4960 section 6.3.3) */
+    uint64_t ack_timeouts;            /* how often the timer of delayed acknowledgements expired (section 6.2) */
+    uint64_t fast_retransmissions;    /* DATA chunks that were sent again fast (section 7.2.4) */
+} sctp_assoc_totals;
+
+/* Writes what the association counted. It can be asked in a failed association too. */
+sctp_assoc_code sctp_assoc_stats(sctp_assoc *slot, sctp_assoc_totals *totals);
+
+/* Writes the retransmission timeout, in ms (RFC 4960 section 6.3.1). It can be asked in a failed association too. */
+sctp_assoc_code sctp_assoc_rto(sctp_assoc *slot, uint64_t *ms);
 
 /* ---- Streams ----
  *
@@ -272,23 +291,56 @@ sctp_assoc_code sctp_assoc_write(sctp_assoc *slot, uint16_t stream, uint32_t pay
 sctp_assoc_code sctp_assoc_read(sctp_assoc *slot, uint16_t stream, uint8_t *buffer, size_t room, size_t *length,
                                 uint32_t *payload_type);
 
-/* Closes the write half of a stream. What was accepted goes out; the peer isn't told. Codes: DONE, EMPTY_SLOT, FAILED,
- * NO_STREAM. */
+/* Closes the write half of a stream. What was accepted goes out as before; the peer isn't told. Codes: DONE,
+ * EMPTY_SLOT, FAILED, NO_STREAM. */
 sctp_assoc_code sctp_assoc_finish(sctp_assoc *slot, uint16_t stream);
 
 /* How long a message is sent again (RFC 3758 section 4.1); any other number is SCTP_ASSOC_RELIABLE. */
 #define SCTP_ASSOC_RELIABLE 0 /* until it is acknowledged */
-#define SCTP_ASSOC_REXMIT 1   /* `value` times */
-#define SCTP_ASSOC_TIMED 2    /* for `value` ms */
+#define SCTP_ASSOC_REXMIT 1   /* `value` times; at 0 it goes out once */
+#define SCTP_ASSOC_TIMED 2    /* for `value` ms from the first sctp_assoc_poll_transmit behind the write; at 0 never */
 
-/* Sets how messages of a stream that are written from now on are sent: in order or not, and how long. So far no message
- * is given up. Codes: DONE, EMPTY_SLOT, FAILED, NO_STREAM. */
+/* From now on writes of all streams take messages of up to `bytes` bytes; what was accepted stays. At first this is
+ * max_send_message_size of the configuration. Codes: DONE (also where the association has failed, and then nothing
+ * changes), EMPTY_SLOT. */
+sctp_assoc_code sctp_assoc_set_max_send_message_size(sctp_assoc *slot, uint32_t bytes);
+
+/* Sets how messages of a stream that are written from now on are sent: in order or not, and how long. A message past
+ * that is given up whole by sctp_assoc_poll_transmit, and the peer reads all of it or nothing; no timer runs for it.
+ * Where the peer doesn't list FORWARD TSN, none is given up, and messages of SCTP_ASSOC_PPID_DCEP never are. Codes:
+ * DONE, EMPTY_SLOT, FAILED, NO_STREAM. */
 sctp_assoc_code sctp_assoc_set_reliability(sctp_assoc *slot, uint16_t stream, bool unordered, uint32_t kind,
                                            uint32_t value);
 
-/* Writes how many bytes were accepted on a stream and aren't acknowledged. Codes: DONE, EMPTY_SLOT, FAILED,
- * NO_STREAM. */
+/* Writes the identifiers of the streams to the front of `ids`, ascending: those that this side opened, and those on
+ * which the peer sent. `room` is how many identifiers fit, and `count` says how many there are. At NO_ROOM `ids` stays
+ * as it was. Codes: DONE, EMPTY_SLOT, NO_ROOM, FAILED, NO_MEMORY (nothing changed). */
+sctp_assoc_code sctp_assoc_stream_ids(sctp_assoc *slot, uint16_t *ids, size_t room, size_t *count);
+
+/* Each of the calls below is about one stream. Codes: DONE, EMPTY_SLOT, FAILED, NO_STREAM. Those that write a value
+ * change nothing. */
+
+/* Writes what the stream counted since it was opened. A message that waits for a longer buffer counts as read. */
+sctp_assoc_code sctp_assoc_stream_stats(sctp_assoc *slot, uint16_t stream, sctp_assoc_counters *counters);
+
+/* Writes the payload protocol identifier of messages whose write names none: that of sctp_assoc_open_stream, and
+ * SCTP_ASSOC_PPID_UNKNOWN for a stream that the peer opened; or sets it for messages that are written from now on. */
+sctp_assoc_code sctp_assoc_payload_type(sctp_assoc *slot, uint16_t stream, uint32_t *payload_type);
+sctp_assoc_code sctp_assoc_set_payload_type(sctp_assoc *slot, uint16_t stream, uint32_t payload_type);
+
+/* Writes the buffered amount: how many bytes were accepted on the stream and are neither acknowledged nor given up. */
 sctp_assoc_code sctp_assoc_buffered_amount(sctp_assoc *slot, uint16_t stream, size_t *bytes);
+
+/* Writes, or sets, the low mark, in bytes, at first 0. Where an acknowledgement, or what sctp_assoc_poll_transmit gives
+ * up, takes the buffered amount from above it to it or below, SCTP_ASSOC_EVENT_BUFFERED_LOW tells. Setting it tells
+ * nothing. */
+sctp_assoc_code sctp_assoc_low_mark(sctp_assoc *slot, uint16_t stream, size_t *bytes);
+sctp_assoc_code sctp_assoc_set_low_mark(sctp_assoc *slot, uint16_t stream, size_t bytes);
+
+/* Writes, or sets, the high mark, in bytes, at first SIZE_MAX. A write that takes the buffered amount from below it to
+ * it or above is told by SCTP_ASSOC_EVENT_BUFFERED_HIGH. Setting it tells nothing. */
+sctp_assoc_code sctp_assoc_high_mark(sctp_assoc *slot, uint16_t stream, size_t *bytes);
+sctp_assoc_code sctp_assoc_set_high_mark(sctp_assoc *slot, uint16_t stream, size_t bytes);
 
 /* ---- A heap of the program's own ----
  *

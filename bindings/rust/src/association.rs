@@ -36,6 +36,21 @@ pub enum Fate {
     RepeatedInit,
 }
 
+/// What an association counted since it was made. A number that reaches `u64::MAX` stays there.
+#[derive(Clone, Copy, Debug, Default, PartialEq, Eq)]
+pub struct Totals {
+    /// DATA chunks that came, those too that were dropped.
+    pub data_chunks: u64,
+    /// SACK chunks that came.
+    pub sacks: u64,
+    /// How often the timer of retransmissions expired (RFC 4960 section 6.3.3).
+    pub retransmission_timeouts: u64,
+    /// How often the timer of delayed acknowledgements expired (RFC 4960 section 6.2).
+    pub ack_timeouts: u64,
+    /// DATA chunks that were sent again fast (RFC 4960 section 7.2.4).
+    pub fast_retransmissions: u64,
+}
+
 impl Association {
     /// Makes a client, whose INIT waits for [`poll_transmit`](Association::poll_transmit).
     ///
@@ -97,7 +112,8 @@ impl Association {
     }
 
     /// Copies the next datagram that is due at `now` to the front of the buffer. None where none is due: call it until
-    /// then.
+    /// then. It gives up the messages that are past their [`Reliability`](crate::Reliability), and may leave
+    /// [`Event::BufferedAmountLow`] for that.
     ///
     /// Errors: `NoRoom` where the buffer is shorter than the datagram, which stays; `Failed`; `NoMemory`, where the
     /// association failed and what was due is lost.
@@ -170,6 +186,63 @@ impl Association {
         // the answer.
         unsafe { question(self.slot.get(), &mut answer) };
         answer
+    }
+
+    /// What the association counted. A failed one can be asked too.
+    pub fn stats(&self) -> Totals {
+        let mut told = sys::Totals::default();
+        // SAFETY: the slot holds an association that nobody else uses now, as `Association` is not `Sync`; it writes
+        // the totals.
+        unsafe { sys::sctp_assoc_stats(self.slot.get(), &mut told) };
+        Totals {
+            data_chunks: told.data_chunks,
+            sacks: told.sacks,
+            retransmission_timeouts: told.retransmission_timeouts,
+            ack_timeouts: told.ack_timeouts,
+            fast_retransmissions: told.fast_retransmissions,
+        }
+    }
+
+    /// The retransmission timeout (RFC 4960 section 6.3.1), in whole milliseconds. A failed association can be asked
+    /// too.
+    pub fn rto(&self) -> Duration {
+        let mut ms = 0;
+        // SAFETY: as in `stats`; it writes a number.
+        unsafe { sys::sctp_assoc_rto(self.slot.get(), &mut ms) };
+        Duration::from_millis(ms)
+    }
+
+    /// The identifiers of the streams, ascending: those that this side opened, and those on which the peer sent.
+    ///
+    /// Errors: `Failed`, `NoMemory`.
+    pub fn stream_ids(&self) -> Result<Vec<u16>, Error> {
+        let mut ids = Vec::new();
+        match self.write_stream_ids(&mut ids) {
+            Err(Error::NoRoom { needed }) => {
+                ids.resize(needed, 0);
+                self.write_stream_ids(&mut ids)?;
+            }
+            answer => answer?,
+        }
+        Ok(ids)
+    }
+
+    // `NoRoom` says how many there are.
+    fn write_stream_ids(&self, ids: &mut [u16]) -> Result<(), Error> {
+        let mut count = 0;
+        // SAFETY: as in `stats`; it writes to the identifiers and how many there are.
+        let code = unsafe { sys::sctp_assoc_stream_ids(self.slot.get(), ids.as_mut_ptr(), ids.len(), &mut count) };
+        match code {
+            sys::DONE => Ok(()),
+            refused => Err(Error::of(refused, count)),
+        }
+    }
+
+    /// From now on writes of all streams take messages of up to so many bytes; what was accepted stays. At first this
+    /// is `max_send_message_size` of the configuration. In a failed association nothing changes.
+    pub fn set_max_send_message_size(&mut self, bytes: u32) {
+        // SAFETY: the slot holds an association that nobody else uses now.
+        unsafe { sys::sctp_assoc_set_max_send_message_size(self.slot.get(), bytes) };
     }
 
     /// Makes a stream on this side. What is written on it carries this payload type where a write names none. Nothing

@@ -31,12 +31,12 @@ pub enum Event {
         stream: u16,
     },
     /// Messages of a stream can be read: read until there is none. Told for each DATA chunk that is taken in while one
-    /// is ready, so several may come of one event, and none of the next.
+    /// is ready, so several may come of one event, and none of the next; and where the peer gave up what stood before.
     Readable {
         /// The stream's identifier.
         stream: u16,
     },
-    /// The buffered amount of a stream fell to its low mark or below.
+    /// The buffered amount of a stream fell to its low mark or below, since messages were acknowledged or given up.
     BufferedAmountLow {
         /// The stream's identifier.
         stream: u16,
@@ -71,7 +71,8 @@ pub enum Reason {
     Other,
 }
 
-/// Messages and bytes of a stream under the payload types of WebRTC application data (51, 53, 56 and 57) alone.
+/// Messages and bytes of a stream under the payload types of WebRTC application data (51, 53, 56 and 57) alone. A
+/// number that reaches `u64::MAX` stays there.
 #[derive(Clone, Copy, Debug, Default, PartialEq, Eq)]
 pub struct Counters {
     /// Messages that were accepted for sending.
@@ -115,7 +116,7 @@ impl Reason {
 }
 
 impl Counters {
-    fn of(told: &sys::Counters) -> Counters {
+    pub(crate) fn of(told: &sys::Counters) -> Counters {
         Counters {
             messages_sent: told.messages_sent,
             bytes_sent: told.bytes_sent,

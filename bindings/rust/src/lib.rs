@@ -8,7 +8,8 @@
 //! 2. If a datagram came, hand it to [`handle_datagram`](Association::handle_datagram).
 //! 3. Call [`poll_event`](Association::poll_event) until it gives None; at [`Event::Readable`] call
 //!    [`read`](Stream::read) until it does so too.
-//! 4. Call [`poll_transmit`](Association::poll_transmit) until it gives None, and send each datagram.
+//! 4. Call [`poll_transmit`](Association::poll_transmit) until it gives None, and send each datagram. Where it may give
+//!    messages up ([`Reliability`]), poll for events behind it, too.
 //! 5. Sleep until the moment of `poll_timeout`, or until a datagram comes.
 //!
 //! `examples/echo.rs` does so over UDP (RFC 6951). Here a client and a server meet in memory:
@@ -54,7 +55,7 @@ mod payload;
 mod stream;
 mod sys;
 
-pub use association::{Association, Fate};
+pub use association::{Association, Fate, Totals};
 pub use config::{Config, Identity, Token};
 pub use error::Error;
 pub use event::{Counters, Event, Reason};

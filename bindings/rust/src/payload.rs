@@ -50,9 +50,10 @@ pub enum Reliability {
     /// Until it is acknowledged.
     #[default]
     Reliable,
-    /// So many times.
+    /// So many times; at 0 it goes out once.
     Retransmissions(u32),
-    /// So long after it was written; whole milliseconds count, up to 2^32 - 1.
+    /// So long after the first [`poll_transmit`](crate::Association::poll_transmit) behind its write; whole
+    /// milliseconds count, up to 2^32 - 1. At 0 it never goes out.
     Lifetime(Duration),
 }
 

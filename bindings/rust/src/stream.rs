@@ -1,6 +1,6 @@
 use crate::error::{done, done_or_nothing};
 use crate::sys;
-use crate::{Association, Error, PayloadType, Reliability};
+use crate::{Association, Counters, Error, PayloadType, Reliability};
 
 /// One stream of an association, by its identifier. Each call of one that is not there answers [`Error::NoStream`].
 #[derive(Debug)]
@@ -74,7 +74,7 @@ impl Stream<'_> {
         Ok(payload_type.map(|payload_type| (payload_type, bytes)))
     }
 
-    /// Closes the write half. What was accepted goes out all the same, and the peer is not told.
+    /// Closes the write half. What was accepted goes out as before, and the peer is not told.
     ///
     /// Errors: `Failed`, `NoStream`.
     pub fn finish(&mut self) -> Result<(), Error> {
@@ -82,8 +82,10 @@ impl Stream<'_> {
         done(unsafe { sys::sctp_assoc_finish(self.association.slot.get(), self.id) })
     }
 
-    /// Sets how messages are sent that are written from now on: in order or not, and how long they are sent again. So
-    /// far no message is given up.
+    /// Sets how messages are sent that are written from now on: in order or not, and how long they are sent again. A
+    /// message past that is given up whole by [`poll_transmit`](Association::poll_transmit), and the peer reads all of
+    /// it or nothing; no timer runs for it. Where the peer does not list FORWARD TSN (RFC 3758), none is given up, and
+    /// messages under [`PayloadType::Dcep`] never are.
     ///
     /// Errors: `Failed`, `NoStream`.
     pub fn set_reliability(&mut self, unordered: bool, reliability: Reliability) -> Result<(), Error> {
@@ -93,13 +95,81 @@ impl Stream<'_> {
         done(unsafe { sys::sctp_assoc_set_reliability(slot, self.id, unordered, kind, value) })
     }
 
-    /// Bytes that were accepted and are not acknowledged.
+    /// The payload type of messages whose write names none: that with which the stream was opened, and `Unknown` where
+    /// the peer opened it.
     ///
     /// Errors: `Failed`, `NoStream`.
-    pub fn buffered_amount(&mut self) -> Result<usize, Error> {
-        let mut bytes = 0;
+    pub fn payload_type(&self) -> Result<PayloadType, Error> {
+        let mut number = 0;
         // SAFETY: the slot holds an association that nobody else uses now; it writes a number.
-        done(unsafe { sys::sctp_assoc_buffered_amount(self.association.slot.get(), self.id, &mut bytes) })?;
+        done(unsafe { sys::sctp_assoc_payload_type(self.association.slot.get(), self.id, &mut number) })?;
+        Ok(PayloadType::of(number))
+    }
+
+    /// Sets it for messages that are written from now on.
+    ///
+    /// Errors: `Failed`, `NoStream`.
+    pub fn set_payload_type(&mut self, payload_type: PayloadType) -> Result<(), Error> {
+        let slot = self.association.slot.get();
+        // SAFETY: the slot holds an association that nobody else uses now.
+        done(unsafe { sys::sctp_assoc_set_payload_type(slot, self.id, payload_type.number()) })
+    }
+
+    /// What the stream counted since it was opened. A message that waits for a longer buffer counts as read.
+    ///
+    /// Errors: `Failed`, `NoStream`.
+    pub fn stats(&self) -> Result<Counters, Error> {
+        let mut told = sys::Counters::default();
+        // SAFETY: the slot holds an association that nobody else uses now; it writes the counters.
+        done(unsafe { sys::sctp_assoc_stream_stats(self.association.slot.get(), self.id, &mut told) })?;
+        Ok(Counters::of(&told))
+    }
+
+    /// The buffered amount: bytes that were accepted and are neither acknowledged nor given up.
+    ///
+    /// Errors: `Failed`, `NoStream`.
+    pub fn buffered_amount(&self) -> Result<usize, Error> {
+        self.ask(sys::sctp_assoc_buffered_amount)
+    }
+
+    /// The low mark, in bytes, at first 0: where an acknowledgement, or what a poll gives up, takes the buffered amount
+    /// from above it to it or below, that is told as
+    /// [`Event::BufferedAmountLow`](crate::Event::BufferedAmountLow).
+    ///
+    /// Errors: `Failed`, `NoStream`.
+    pub fn low_mark(&self) -> Result<usize, Error> {
+        self.ask(sys::sctp_assoc_low_mark)
+    }
+
+    /// Sets the low mark. That by itself is not told.
+    ///
+    /// Errors: `Failed`, `NoStream`.
+    pub fn set_low_mark(&mut self, bytes: usize) -> Result<(), Error> {
+        // SAFETY: the slot holds an association that nobody else uses now.
+        done(unsafe { sys::sctp_assoc_set_low_mark(self.association.slot.get(), self.id, bytes) })
+    }
+
+    /// The high mark, in bytes, at first `usize::MAX`: a write that takes the buffered amount from below it to it or
+    /// above is told as [`Event::BufferedAmountHigh`](crate::Event::BufferedAmountHigh).
+    ///
+    /// Errors: `Failed`, `NoStream`.
+    pub fn high_mark(&self) -> Result<usize, Error> {
+        self.ask(sys::sctp_assoc_high_mark)
+    }
+
+    /// Sets the high mark. That by itself is not told.
+    ///
+    /// Errors: `Failed`, `NoStream`.
+    pub fn set_high_mark(&mut self, bytes: usize) -> Result<(), Error> {
+        // SAFETY: the slot holds an association that nobody else uses now.
+        done(unsafe { sys::sctp_assoc_set_high_mark(self.association.slot.get(), self.id, bytes) })
+    }
+
+    fn ask(&self, question: unsafe extern "C" fn(*mut sys::Slot, u16, *mut usize) -> u32) -> Result<usize, Error> {
+        let mut bytes = 0;
+        // SAFETY: the slot holds an association that nobody else uses now, as `Association` is not `Sync`; it writes a
+        // number.
+        done(unsafe { question(self.association.slot.get(), self.id, &mut bytes) })?;
         Ok(bytes)
     }
 }

@@ -66,6 +66,16 @@ pub(crate) struct Event {
     pub(crate) counters: Counters,
 }
 
+#[repr(C)]
+#[derive(Default)]
+pub(crate) struct Totals {
+    pub(crate) data_chunks: u64,
+    pub(crate) sacks: u64,
+    pub(crate) retransmission_timeouts: u64,
+    pub(crate) ack_timeouts: u64,
+    pub(crate) fast_retransmissions: u64,
+}
+
 pub(crate) const DONE: u32 = 0;
 pub(crate) const NO_MEMORY: u32 = 2;
 pub(crate) const NOTHING: u32 = 3;
@@ -123,6 +133,8 @@ extern "C" {
     pub(crate) fn sctp_assoc_is_established(slot: *mut Slot, answer: *mut bool) -> u32;
     pub(crate) fn sctp_assoc_is_closed(slot: *mut Slot, answer: *mut bool) -> u32;
     pub(crate) fn sctp_assoc_is_failed(slot: *mut Slot, answer: *mut bool) -> u32;
+    pub(crate) fn sctp_assoc_stats(slot: *mut Slot, totals: *mut Totals) -> u32;
+    pub(crate) fn sctp_assoc_rto(slot: *mut Slot, ms: *mut u64) -> u32;
     pub(crate) fn sctp_assoc_open_stream(slot: *mut Slot, stream: u16, payload_type: u32) -> u32;
     pub(crate) fn sctp_assoc_accept_stream(slot: *mut Slot, stream: *mut u16) -> u32;
     pub(crate) fn sctp_assoc_write(
@@ -149,4 +161,13 @@ extern "C" {
         value: u32,
     ) -> u32;
     pub(crate) fn sctp_assoc_buffered_amount(slot: *mut Slot, stream: u16, bytes: *mut usize) -> u32;
+    pub(crate) fn sctp_assoc_set_max_send_message_size(slot: *mut Slot, bytes: u32) -> u32;
+    pub(crate) fn sctp_assoc_stream_ids(slot: *mut Slot, ids: *mut u16, room: usize, count: *mut usize) -> u32;
+    pub(crate) fn sctp_assoc_stream_stats(slot: *mut Slot, stream: u16, counters: *mut Counters) -> u32;
+    pub(crate) fn sctp_assoc_payload_type(slot: *mut Slot, stream: u16, payload_type: *mut u32) -> u32;
+    pub(crate) fn sctp_assoc_set_payload_type(slot: *mut Slot, stream: u16, payload_type: u32) -> u32;
+    pub(crate) fn sctp_assoc_low_mark(slot: *mut Slot, stream: u16, bytes: *mut usize) -> u32;
+    pub(crate) fn sctp_assoc_set_low_mark(slot: *mut Slot, stream: u16, bytes: usize) -> u32;
+    pub(crate) fn sctp_assoc_high_mark(slot: *mut Slot, stream: u16, bytes: *mut usize) -> u32;
+    pub(crate) fn sctp_assoc_set_high_mark(slot: *mut Slot, stream: u16, bytes: usize) -> u32;
 }

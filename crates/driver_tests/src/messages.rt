@@ -19,6 +19,12 @@ enum Scene {
     Finish,
     // The client closes.
     Close,
+    // A message is counted at both sides.
+    Counts,
+    // A message takes the client's buffered amount past both marks.
+    Marks,
+    // The client sets how long a message may be, and a stream's payload type.
+    Settings,
 }
 
 // Whether all went as it should. No other function here owns a driver, as each way out of one that does proves how it
@@ -45,6 +51,9 @@ fn play(
         Scene::Loss => comes_again(alloc, client, server),
         Scene::Finish => is_finished(client),
         Scene::Close => is_over(client),
+        Scene::Counts => is_counted(alloc, client, server),
+        Scene::Marks => passes_marks(alloc, client, server),
+        Scene::Settings => is_set(client),
     }
 }
 
@@ -156,6 +165,71 @@ fn is_over(client: &mut Driver) -> Result<bool, Fail> {
     Ok(client.is_closed() && !client.is_failed() && refused)
 }
 
+// Whether each side counts a message of ten bytes that goes from the client to the server, and its chunks.
+fn is_counted(alloc: Global, client: &mut Driver, server: &mut Driver) -> Result<bool, Fail> {
+    let initial = client.rto_ms() == 3000;
+    let bytes = pattern(alloc, 10)?;
+    let carried = is_carried(alloc, client, server, bytes.as_slice())?;
+    Ok(initial && carried && counts_sent(client)? && counts_received(server)?)
+}
+
+// One message and its SACK, whose round trip took no time: the timeout is the least one of one second.
+fn counts_sent(client: &mut Driver) -> Result<bool, Error> {
+    let counters = client.stream_stats(1)?;
+    let stats = client.stats();
+    let chunks = stats.get_num_sacks() == 1 && stats.get_num_datas() == 0;
+    let messages = counters.messages_sent == 1 && counters.messages_received == 0;
+    Ok(chunks && messages && counters.bytes_sent == 10 && client.rto_ms() == 1000)
+}
+
+fn counts_received(server: &mut Driver) -> Result<bool, Error> {
+    let counters = server.stream_stats(1)?;
+    let stats = server.stats();
+    let chunks = stats.get_num_datas() == 1 && stats.get_num_sacks() == 0;
+    let messages = counters.messages_received == 1 && counters.messages_sent == 0;
+    Ok(chunks && messages && counters.bytes_received == 10)
+}
+
+fn set_marks(client: &mut Driver) -> Result<bool, Error> {
+    client.set_buffered_amount_low_threshold(1, 10)?;
+    client.set_buffered_amount_high_threshold(1, 100)?;
+    let low = client.buffered_amount_low_threshold(1)?;
+    let high = client.buffered_amount_high_threshold(1)?;
+    Ok(low == 10 && high == 100)
+}
+
+// Whether a message of as many bytes as the high mark is told there, and its acknowledgement at the low mark.
+fn passes_marks(alloc: Global, client: &mut Driver, server: &mut Driver) -> Result<bool, Fail> {
+    let set = set_marks(client)?;
+    let bytes = pattern(alloc, 100)?;
+    let _ = write(client, bytes.as_slice())?;
+    let high = Event::Stream(StreamEvent::BufferedAmountHigh { id: 1 });
+    let low = Event::Stream(StreamEvent::BufferedAmountLow { id: 1 });
+    let reached = is_told(client, &high)?;
+    settle(alloc, client, server, 0)?;
+    Ok(is_told(client, &low)? && set && reached)
+}
+
+fn is_set(client: &mut Driver) -> Result<bool, Fail> {
+    let limited = is_limited(client);
+    client.set_default_payload_type(1, PayloadProtocolIdentifier::String)?;
+    let payload_type = client.default_payload_type(1)?;
+    let ids = client.stream_ids()?;
+    let alone = ids.len() == 1 && ids[0] == 1;
+    Ok(limited && alone && payload_type == PayloadProtocolIdentifier::String)
+}
+
+// Whether a message of five bytes is accepted, and one of six is not.
+fn is_limited(client: &mut Driver) -> bool {
+    client.set_max_send_message_size(5);
+    let accepted = matches!(write(client, b"short"), Ok(true));
+    let refused = matches!(
+        write(client, b"longer"),
+        Err(Error::ErrOutboundPacketTooLarge)
+    );
+    accepted && refused
+}
+
 #[test]
 fn a_message_is_read_whole_each_way(rt: HostRuntime) -> Result<(), Fail> {
     for size in [1, 1200, 65_536] {
@@ -187,6 +261,14 @@ fn data_that_is_lost_comes_again(rt: HostRuntime) -> Result<(), Fail> {
 #[test]
 fn nothing_is_written_once_finished_or_closed(rt: HostRuntime) -> Result<(), Fail> {
     for scene in [Scene::Finish, Scene::Close] {
+        assert!(rt; played(rt.alloc(), scene)?);
+    }
+    Ok(())
+}
+
+#[test]
+fn messages_are_counted_and_marks_told(rt: HostRuntime) -> Result<(), Fail> {
+    for scene in [Scene::Counts, Scene::Marks, Scene::Settings] {
         assert!(rt; played(rt.alloc(), scene)?);
     }
     Ok(())

@@ -1,2 +1,3 @@
 mod AsBox
+mod Listings
 mod Refusals

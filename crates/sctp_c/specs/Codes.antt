@@ -39,10 +39,14 @@ read_code (reads.Message kind n) = 0
 read_code reads.Nothing = 3
 read_code (reads.NoRoom n) = 4
 
--- a call that writes one number did so, or was refused
-abbrev pub IsAnswer : Result ℕ Error → ℕ → ℕ → Type 0
-IsAnswer (Ok n) code number = (code ≡ 0) × (number ≡ n)
-IsAnswer (Err e) code number = code ≡ refusal_code e
+-- a call wrote its answer in this form, or was refused and wrote nothing
+abbrev pub Writes : {T U : Type 0} → (T → U) → Result T Error → ℕ → U → U → Type 0
+Writes of (Ok answer) code before after = (code ≡ 0) × (after ≡ of answer)
+Writes of (Err e) code before after = (code ≡ refusal_code e) × (after ≡ before)
+
+-- a call that is asked for a number wrote it, or was refused and wrote nothing
+abbrev pub WritesNumber : Result ℕ Error → ℕ → ℕ → ℕ → Type 0
+WritesNumber answer code before after = Writes (λ (n : ℕ). n) answer code before after
 
 -- what a call answered, where it was not refused
 abbrev pub answer_in : {T : Type 0} → Result T Error → Option T

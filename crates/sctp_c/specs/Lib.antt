@@ -2,4 +2,6 @@ pub mod Codes
 pub mod Configs
 pub mod Events
 pub mod Handles
+pub mod Lists
 pub mod Slots
+pub mod Totals

@@ -3,7 +3,7 @@ ghost use Rattle.std.specs.Prelude.{◌≡◌, ◌≢◌, None};
 ghost use Rattle.sctp_streams.specs.declared.event.Event.TheVariants as events;
 ghost use Rattle.sctp_assoc.specs.Calls.{event_polled};
 ghost use Rattle.sctp_driver.specs.Driving.{with_association};
-ghost use Rattle.sctp_c.specs.Events.{event_with, happening, reason_number, told_of, Tells};
+ghost use Rattle.sctp_c.specs.Events.{counters_of, event_with, happening, reason_number, told_of, Tells};
 ghost use Rattle.sctp_c.specs.Slots.{OnAny};
 
 use crate::codes::{DONE, EMPTY_SLOT, NOTHING, refusal_code};
@@ -12,7 +12,7 @@ use sctp_assoc::{AssociationError, DataChannelStats};
 use sctp_driver::{Error, Event, StreamEvent};
 use std::alloc::Global;
 
-/// The last counters of a stream.
+/// What a stream counted.
 #[repr(C)]
 #[derive(Drop)]
 pub struct Counters {
@@ -98,6 +98,18 @@ fn event_of(kind: u32, reason: u32, stream: u16) -> Told
     }
 }
 
+/// The counters of a stream.
+pub(crate) fn counters_of(stats: DataChannelStats) -> Counters
+    ensures { result ≡ counters_of stats }
+{
+    Counters {
+        messages_sent: stats.messages_sent,
+        bytes_sent: stats.bytes_sent,
+        messages_received: stats.messages_received,
+        bytes_received: stats.bytes_received,
+    }
+}
+
 fn end_of(stats: DataChannelStats) -> Told
     ensures { result ≡ told_of (events.DataChannelStatsFinal stats) }
 {
@@ -105,12 +117,7 @@ fn end_of(stats: DataChannelStats) -> Told
         kind: STREAM_ENDED,
         reason: NO_REASON,
         stream: stats.stream_identifier,
-        counters: Counters {
-            messages_sent: stats.messages_sent,
-            bytes_sent: stats.bytes_sent,
-            messages_received: stats.messages_received,
-            bytes_received: stats.bytes_received,
-        },
+        counters: counters_of(stats),
     }
 }
 

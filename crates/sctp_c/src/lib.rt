@@ -13,10 +13,13 @@ mod datagrams;
 mod events;
 mod handle;
 mod questions;
+mod settings;
 mod slot;
+mod stats;
 mod streams;
 
 pub use config::{Config, Identity, Token};
 pub use events::{Counters, Told};
 pub use handle::Handle;
 pub use slot::Slot;
+pub use stats::Totals;

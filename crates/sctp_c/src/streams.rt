@@ -7,8 +7,7 @@ ghost use Rattle.sctp_assoc.specs.Calls.{accepted_stream, adjusted, open_refusal
 ghost use Rattle.sctp_assoc.specs.Calls.{stream_refusal, written};
 ghost use Rattle.sctp_driver.specs.Driving.{with_association};
 ghost use Rattle.sctp_driver.specs.Messages.{Reads, with_message};
-ghost use Rattle.sctp_driver.specs.Streams.{buffered_on};
-ghost use Rattle.sctp_c.specs.Codes.{IsAnswer, answer_in, code_of, code_with, found_by};
+ghost use Rattle.sctp_c.specs.Codes.{answer_in, code_of, code_with, found_by};
 ghost use Rattle.sctp_c.specs.Codes.{payload_type_by, read_by, read_code, reliability_by};
 ghost use Rattle.sctp_c.specs.Slots.{OnAny, OnHeld, RefusesBy, RefusesOrLacksMemoryBy};
 
@@ -211,30 +210,4 @@ pub extern "C" fn sctp_assoc_set_reliability(
     let answer = driver.set_reliability_params(stream, unordered, reliability_of(kind), value);
     slot.put(driver);
     code_of(answer)
-}
-
-/// Bytes of a stream that are accepted and not acknowledged.
-#[unsafe(no_mangle)]
-pub extern "C" fn sctp_assoc_buffered_amount(
-    slot: &mut Slot,
-    alloc: Global,
-    stream: u16,
-    bytes: &mut usize,
-) -> u32
-    ensures answer { OnAny slot.old.handle.driver slot.new.handle.driver (λ d e. (e ≡ d)
-        × IsAnswer (buffered_on d.association stream) result bytes.new) }
-    ensures empty { slot.old.handle.driver ≡ None → result ≡ 1 }
-{
-    let Some(mut driver) = slot.take(alloc) else {
-        return EMPTY_SLOT;
-    };
-    let answer = driver.buffered_amount(stream);
-    slot.put(driver);
-    match answer {
-        Ok(amount) => {
-            *bytes = amount;
-            DONE
-        }
-        Err(error) => refusal_code(error),
-    }
 }

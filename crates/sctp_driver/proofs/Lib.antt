@@ -1,3 +1,4 @@
 mod CutsLeft
 mod MadeDrivers
+mod PollsAsked
 mod TimersMet

@@ -1,9 +1,12 @@
 // A driver: how it is made, and its calls with datagrams and moments.
-ghost use Rattle.std.specs.Prelude.{◌≡◌, ◌≢◌, ◌↔◌, ◌⊎◌, [], None, Err, IsErrOf, IfOk, OnErr, OnOk, false, true};
+ghost use Rattle.std.specs.Prelude.{◌≡◌, ◌≢◌, ◌↔◌, ◌⊎◌, ◌-◌, ◌^◌, [], None, Err, IsErrOf, IfOk, OnErr, OnOk};
+ghost use Rattle.std.specs.Prelude.{false, min, true};
 ghost use Rattle.std.specs.Option.{option_copied};
 ghost use Rattle.sctp_wire.specs.Packets.{finished};
 ghost use Rattle.sctp_parts.specs.Timers.{least_moment};
+ghost use Rattle.sctp_streams.specs.Streams.{live_ids};
 ghost use Rattle.sctp_assoc.specs.Calls.{RefusesOrLacksMemory, event_polled, failed_refusal, is_established};
+ghost use Rattle.sctp_assoc.specs.Calls.{with_max_send_message_size};
 ghost use Rattle.sctp_assoc.specs.Chunks.{after_packet};
 ghost use Rattle.sctp_assoc.specs.Closing.{closed_by, is_closed_state};
 ghost use Rattle.sctp_assoc.specs.Created.{client, create_refusal, created, join_refusal, joined, server};
@@ -19,8 +22,9 @@ use crate::sending::{PollAnswer, packets_in, take_first};
 use crate::tags::{DatagramAnswer, first_chunk, judge};
 use bytes::Bytes;
 use sctp_assoc::{
-    Association, AssociationError, AssociationEvent, AssociationState, ChunkInit, Error, Event,
-    Instant, PartialDecode, Payload, ServerConfig, Transmit, TransportConfig,
+    Association, AssociationError, AssociationEvent, AssociationState, AssociationStats, ChunkInit,
+    Error, Event, Instant, PartialDecode, Payload, ServerConfig, StreamId, Transmit,
+    TransportConfig,
 };
 use std::alloc::Global;
 use std::collections::VecDeque;
@@ -343,6 +347,41 @@ impl Driver {
         ensures grows { (result ≡ Err Error.ErrNoMemory) → is_closed_state self.old.association.state ≡ false }
     {
         self.association.close()
+    }
+
+    /// From now on writes take messages of up to so many bytes; what was accepted stays. At first the limit is
+    /// `max_send_message_size` of the configuration. Never refused; in a failed association nothing changes.
+    pub fn set_max_send_message_size(&mut self, max_send_message_size: u32)
+        ensures { self.new ≡ with_association self.old
+            (with_max_send_message_size self.old.association max_send_message_size) }
+    {
+        self.association
+            .set_max_send_message_size(max_send_message_size);
+    }
+
+    /// The identifiers of the streams, ascending: those that this side opened, and those on which DATA came.
+    ///
+    /// Refused, in this order with nothing changed: `ErrAssociationFailed`, `ErrNoMemory`.
+    pub fn stream_ids(&self) -> Result<Vec<StreamId>, Error>
+        ensures refused { RefusesOrLacksMemory result (failed_refusal self.now.association) }
+        ensures ids { IfOk result (λ ids. ids.items ≡ live_ids self.now.association.streams) }
+    {
+        self.association.stream_ids()
+    }
+
+    /// What was counted since the association was made: DATA and SACK chunks that came, and expired timers (RFC 4960
+    /// sections 6.2 and 6.3), and DATA chunks that were retransmitted fast (section 7.2.4).
+    pub fn stats(&self) -> AssociationStats
+        ensures { result ≡ self.now.association.counts }
+    {
+        self.association.stats()
+    }
+
+    /// The retransmission timeout (RFC 4960 section 6.3.1), in ms, up to the greatest u64.
+    pub fn rto_ms(&self) -> u64
+        ensures { result ≡ min self.now.association.estimate.rto (2 ^ 64 - 1) }
+    {
+        self.association.rtt().as_millis().min(u64::MAX as u128) as u64
     }
 
     /// Whether the state is Established (RFC 4960 section 4): messages can be written.

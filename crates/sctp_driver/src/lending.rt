@@ -5,10 +5,11 @@ ghost use Rattle.sctp_streams.specs.Stream.{params_of};
 ghost use Rattle.sctp_assoc.specs.Calls.{Refuses, RefusesOrLacksMemory, accepted_stream, adjusted, open_refusal};
 ghost use Rattle.sctp_assoc.specs.Calls.{opened, read_from_stream, refusal_to_write, stream_refusal, written};
 ghost use Rattle.sctp_driver.specs.Messages.{StopsRead};
-ghost use Rattle.sctp_driver.specs.Streams.{buffered_on};
+ghost use Rattle.sctp_driver.specs.Streams.{asked_of, buffered_on};
 
 use sctp_assoc::{
-    Association, Chunks, Error, PayloadProtocolIdentifier, ReliabilityType, StreamId,
+    Association, Chunks, DataChannelStats, Error, PayloadProtocolIdentifier, ReliabilityType,
+    StreamId,
 };
 
 pub(crate) fn open_stream(
@@ -92,4 +93,82 @@ pub(crate) fn buffered_amount(association: &mut Association, id: StreamId) -> Re
 {
     let stream = association.stream(id)?;
     stream.buffered_amount()
+}
+
+pub(crate) fn stream_stats(
+    association: &mut Association,
+    id: StreamId,
+) -> Result<DataChannelStats, Error>
+    ensures answer { result ≡ asked_of (λ s. s.stats) association.old id }
+    ensures same { association.new ≡ association.old }
+{
+    let stream = association.stream(id)?;
+    stream.stats()
+}
+
+pub(crate) fn default_payload_type(
+    association: &mut Association,
+    id: StreamId,
+) -> Result<PayloadProtocolIdentifier, Error>
+    ensures answer { result ≡ asked_of (λ s. s.default_payload_type) association.old id }
+    ensures same { association.new ≡ association.old }
+{
+    let stream = association.stream(id)?;
+    stream.get_default_payload_type()
+}
+
+pub(crate) fn set_default_payload_type(
+    association: &mut Association,
+    id: StreamId,
+    payload_type: PayloadProtocolIdentifier,
+) -> Result<(), Error>
+    ensures refused { Refuses result (stream_refusal association.old id) }
+    ensures ok { OnOk result (association.new
+        ≡ adjusted association.old id (settings.DefaultPayloadType payload_type)) }
+    ensures err { OnErr result (association.new ≡ association.old) }
+{
+    let mut stream = association.stream(id)?;
+    stream.set_default_payload_type(payload_type)
+}
+
+pub(crate) fn low_mark(association: &mut Association, id: StreamId) -> Result<usize, Error>
+    ensures answer { result ≡ asked_of (λ s. s.low_mark) association.old id }
+    ensures same { association.new ≡ association.old }
+{
+    let stream = association.stream(id)?;
+    stream.buffered_amount_low_threshold()
+}
+
+pub(crate) fn set_low_mark(
+    association: &mut Association,
+    id: StreamId,
+    bytes: usize,
+) -> Result<(), Error>
+    ensures refused { Refuses result (stream_refusal association.old id) }
+    ensures ok { OnOk result (association.new ≡ adjusted association.old id (settings.LowMark bytes)) }
+    ensures err { OnErr result (association.new ≡ association.old) }
+{
+    let mut stream = association.stream(id)?;
+    stream.set_buffered_amount_low_threshold(bytes)
+}
+
+pub(crate) fn high_mark(association: &mut Association, id: StreamId) -> Result<usize, Error>
+    ensures answer { result ≡ asked_of (λ s. s.high_mark) association.old id }
+    ensures same { association.new ≡ association.old }
+{
+    let stream = association.stream(id)?;
+    stream.buffered_amount_high_threshold()
+}
+
+pub(crate) fn set_high_mark(
+    association: &mut Association,
+    id: StreamId,
+    bytes: usize,
+) -> Result<(), Error>
+    ensures refused { Refuses result (stream_refusal association.old id) }
+    ensures ok { OnOk result (association.new ≡ adjusted association.old id (settings.HighMark bytes)) }
+    ensures err { OnErr result (association.new ≡ association.old) }
+{
+    let mut stream = association.stream(id)?;
+    stream.set_buffered_amount_high_threshold(bytes)
 }

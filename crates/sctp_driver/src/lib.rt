@@ -7,7 +7,8 @@
 //! 1. If `poll_timeout` answers a moment that is not after `now`, call `handle_timeout`.
 //! 2. If a datagram came, hand it to `handle_datagram`. One that is no packet, or is not for this association, is left.
 //! 3. Call `poll_event` until it answers None. On `StreamEvent::Readable` call `read` until it answers `Nothing`.
-//! 4. Call `poll_transmit` until it answers `Nothing`, and send each datagram that it gives.
+//! 4. Call `poll_transmit` until it answers `Nothing`, and send each datagram that it gives. Where it gives messages
+//!    up, a stream may fall to its low mark: the next turn's `poll_event` tells, or one right behind it.
 //! 5. Sleep until the moment that `poll_timeout` answers, or until a datagram comes.
 //!
 //! Moments are nanoseconds from one that the user chooses. Each call is safe in each state and at each moment. What
@@ -24,8 +25,8 @@ mod tags;
 pub use driver::Driver;
 pub use messages::ReadAnswer;
 pub use sctp_assoc::{
-    ChunkInit, Error, Event, PayloadProtocolIdentifier, ReliabilityType, StreamEvent,
-    TransportConfig, token,
+    AssociationStats, ChunkInit, DataChannelStats, Error, Event, PayloadProtocolIdentifier,
+    ReliabilityType, StreamEvent, TransportConfig, token,
 };
 pub use sending::PollAnswer;
 pub use tags::DatagramAnswer;

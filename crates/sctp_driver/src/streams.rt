@@ -6,12 +6,12 @@ ghost use Rattle.sctp_assoc.specs.Calls.{Refuses, RefusesOrLacksMemory, accepted
 ghost use Rattle.sctp_assoc.specs.Calls.{opened, refusal_to_write, stream_refusal, written};
 ghost use Rattle.sctp_driver.specs.Driving.{with_association};
 ghost use Rattle.sctp_driver.specs.Messages.{Reads, ReadFails, with_message};
-ghost use Rattle.sctp_driver.specs.Streams.{buffered_on};
+ghost use Rattle.sctp_driver.specs.Streams.{asked_of, buffered_on};
 
 use crate::driver::Driver;
 use crate::lending;
 use crate::messages::{Kept, ReadAnswer, find, give};
-use sctp_assoc::{Error, PayloadProtocolIdentifier, ReliabilityType, StreamId};
+use sctp_assoc::{DataChannelStats, Error, PayloadProtocolIdentifier, ReliabilityType, StreamId};
 
 impl Driver {
     /// Makes a stream on this side. What is written on it carries `payload_type` where a write names none. Nothing is
@@ -97,7 +97,7 @@ impl Driver {
     }
 
     /// Closes the write half of a stream: from then on a write is refused as `ErrStreamClosed`. What was accepted goes
-    /// out all the same, and the peer isn't told.
+    /// out as it would without that, and the peer isn't told.
     ///
     /// Refused, in this order with nothing changed: `ErrAssociationFailed`, `ErrStreamNotExisted`.
     pub fn finish(&mut self, id: StreamId) -> Result<(), Error>
@@ -111,7 +111,8 @@ impl Driver {
 
     /// Sets how messages of a stream are sent that are written from now on: in order or not, and how long each is
     /// tried (RFC 3758 sections 3.5 and 4.1). `value` is the greatest number of retransmissions for `Rexmit` and the
-    /// lifetime in ms for `Timed`; for `Reliable` it says nothing. So far no message is given up.
+    /// lifetime in ms for `Timed`, which begins at the first `poll_transmit` after the write; for `Reliable` it says
+    /// nothing. Where the peer does not use FORWARD TSN no message is given up.
     ///
     /// Refused, in this order with nothing changed: `ErrAssociationFailed`, `ErrStreamNotExisted`.
     pub fn set_reliability_params(
@@ -130,11 +131,98 @@ impl Driver {
     }
 
     /// Bytes that were accepted on a stream and are not released: a SACK releases those of the DATA that it
-    /// acknowledges. Nothing changes. Refused: `ErrAssociationFailed`, `ErrStreamNotExisted`.
+    /// acknowledges, and `poll_transmit` those of messages that it gives up. Nothing changes. Refused:
+    /// `ErrAssociationFailed`, `ErrStreamNotExisted`.
     pub fn buffered_amount(&mut self, id: StreamId) -> Result<usize, Error>
         ensures answer { result ≡ buffered_on self.old.association id }
         ensures same { self.new ≡ self.old }
     {
         lending::buffered_amount(&mut self.association, id)
+    }
+
+    /// What the stream counted since it was opened: messages of WebRTC application data, and their bytes. Those that
+    /// wait in the driver count as read. Nothing changes. Refused: `ErrAssociationFailed`, `ErrStreamNotExisted`.
+    pub fn stream_stats(&mut self, id: StreamId) -> Result<DataChannelStats, Error>
+        ensures answer { result ≡ asked_of (λ s. s.stats) self.old.association id }
+        ensures same { self.new ≡ self.old }
+    {
+        lending::stream_stats(&mut self.association, id)
+    }
+
+    /// The payload type of writes that name none: at first that of `open_stream`, and `Unknown`, which is sent as 0, on
+    /// a stream that the peer opened. Nothing changes. Refused: `ErrAssociationFailed`, `ErrStreamNotExisted`.
+    pub fn default_payload_type(&mut self, id: StreamId) -> Result<PayloadProtocolIdentifier, Error>
+        ensures answer { result ≡ asked_of (λ s. s.default_payload_type) self.old.association id }
+        ensures same { self.new ≡ self.old }
+    {
+        lending::default_payload_type(&mut self.association, id)
+    }
+
+    /// Sets it for messages that are written from now on.
+    ///
+    /// Refused, in this order with nothing changed: `ErrAssociationFailed`, `ErrStreamNotExisted`.
+    pub fn set_default_payload_type(
+        &mut self,
+        id: StreamId,
+        payload_type: PayloadProtocolIdentifier,
+    ) -> Result<(), Error>
+        ensures refused { Refuses result (stream_refusal self.old.association id) }
+        ensures ok { OnOk result (self.new
+            ≡ with_association self.old (adjusted self.old.association id (settings.DefaultPayloadType payload_type))) }
+        ensures err { OnErr result (self.new ≡ self.old) }
+    {
+        lending::set_default_payload_type(&mut self.association, id, payload_type)
+    }
+
+    /// In bytes, at first 0: where a SACK, or a poll that gives messages up, takes the buffered amount from above it to
+    /// it or below, that is told as `StreamEvent::BufferedAmountLow`. Nothing changes. Refused: `ErrAssociationFailed`,
+    /// `ErrStreamNotExisted`.
+    pub fn buffered_amount_low_threshold(&mut self, id: StreamId) -> Result<usize, Error>
+        ensures answer { result ≡ asked_of (λ s. s.low_mark) self.old.association id }
+        ensures same { self.new ≡ self.old }
+    {
+        lending::low_mark(&mut self.association, id)
+    }
+
+    /// Sets it, in bytes; it tells nothing by itself.
+    ///
+    /// Refused, in this order with nothing changed: `ErrAssociationFailed`, `ErrStreamNotExisted`.
+    pub fn set_buffered_amount_low_threshold(
+        &mut self,
+        id: StreamId,
+        bytes: usize,
+    ) -> Result<(), Error>
+        ensures refused { Refuses result (stream_refusal self.old.association id) }
+        ensures ok { OnOk result (self.new
+            ≡ with_association self.old (adjusted self.old.association id (settings.LowMark bytes))) }
+        ensures err { OnErr result (self.new ≡ self.old) }
+    {
+        lending::set_low_mark(&mut self.association, id, bytes)
+    }
+
+    /// In bytes, at first the greatest usize: a write that takes the buffered amount from below it to it or above is
+    /// told as `StreamEvent::BufferedAmountHigh`. Nothing changes. Refused: `ErrAssociationFailed`,
+    /// `ErrStreamNotExisted`.
+    pub fn buffered_amount_high_threshold(&mut self, id: StreamId) -> Result<usize, Error>
+        ensures answer { result ≡ asked_of (λ s. s.high_mark) self.old.association id }
+        ensures same { self.new ≡ self.old }
+    {
+        lending::high_mark(&mut self.association, id)
+    }
+
+    /// Sets it, in bytes; it tells nothing by itself.
+    ///
+    /// Refused, in this order with nothing changed: `ErrAssociationFailed`, `ErrStreamNotExisted`.
+    pub fn set_buffered_amount_high_threshold(
+        &mut self,
+        id: StreamId,
+        bytes: usize,
+    ) -> Result<(), Error>
+        ensures refused { Refuses result (stream_refusal self.old.association id) }
+        ensures ok { OnOk result (self.new
+            ≡ with_association self.old (adjusted self.old.association id (settings.HighMark bytes))) }
+        ensures err { OnErr result (self.new ≡ self.old) }
+    {
+        lending::set_high_mark(&mut self.association, id, bytes)
     }
 }

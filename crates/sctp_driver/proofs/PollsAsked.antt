@@ -1,0 +1,44 @@
+-- A driver in which no datagram waits asks its association for packets.
+use Rattle.std.proofs.Common.{◌≡◌, refl, ap, sym, ◌∙◌, subst, ℕ, Bool, true, List, [], ◌∷◌, length, Result, Ok, Err}
+use Rattle.std.proofs.Common.{Option, arith, ◌==◌}
+use Rattle.std.specs.Prelude.{IsErrOf}
+use Rattle.std.proofs.lemmas.Bool.Decides.{nat_tests}
+use Rattle.sctp_wire_types.specs.declared.error.Error.{Error}
+use Rattle.sctp_wire.specs.declared.transmit.Transmit.{Transmit}
+use Rattle.sctp_assoc.specs.Gather.{has_something_to_give, polled}
+use Rattle.sctp_assoc.specs.Shown.{Shown}
+use Rattle.sctp_driver.specs.Driving.{Driving}
+use Rattle.sctp_driver.specs.Sending.{asked, asked_for, with_polled}
+
+zero_of : (n : ℕ) → (n == 0) ≡ true → n ≡ 0
+zero_of n e = grind (arith, nat_tests, e)
+
+pub nothing_waits : (len : ℕ) (waiting : List (List ℕ)) (empty : Bool) → length waiting ≡ len → empty ≡ (len == 0)
+    → empty ≡ true → waiting ≡ []
+nothing_waits len [] empty is e f = refl
+nothing_waits len (w ∷ ws) empty is e f =
+    let none : len ≡ 0 = zero_of len (sym e ∙ f) in
+    absurd (omega (arith, is, none))
+
+pub polled_then : (d : Driving) (b : Shown) (moment now : ℕ) (packets : List (List ℕ)) → moment ≡ now
+    → d.waiting ≡ [] → polled d.association moment ≡ (b, packets)
+    → record d { association = b; waiting = packets } ≡ asked d now
+polled_then d b moment now packets e none p =
+    sym (ap (λ (ws : List (List ℕ)). asked_for ws d now) none
+    ∙ ap (λ (m : ℕ). with_polled d (polled d.association m)) (sym e)
+    ∙ ap (with_polled d) p)
+
+error_of : Result (Unit {0}) Error → Error → Error
+error_of (Err x) z = x
+error_of (Ok x) z = z
+
+-- what lacks memory is the association's poll
+pub lacking_given : (r : Result (Unit {0}) Error) (inner error other : Error) (a : Shown) (moment now : ℕ)
+    → moment ≡ now → r ≡ Err error → error ≡ inner
+    → (IsErrOf {T = Option Transmit} (Err inner) other → has_something_to_give a moment ≡ true) → IsErrOf r other
+    → has_something_to_give a now ≡ true
+unfolding error_of
+lacking_given r inner error other a moment now e is same given lacks =
+    let error_is : error ≡ other = ap (λ (z : Result (Unit {0}) Error). error_of z error) (sym is ∙ lacks) in
+    subst (λ (m : ℕ). has_something_to_give a m ≡ true) e
+    (given (ap (λ (z : Error). let s : Result (Option Transmit) Error = Err z in s) (sym same ∙ error_is)))
