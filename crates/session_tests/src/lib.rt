@@ -2,6 +2,10 @@
 #![tactic(auto)]
 
 #[cfg(test)]
+mod giving_up;
+#[cfg(test)]
+mod network;
+#[cfg(test)]
 mod pair;
 #[cfg(test)]
 mod run;

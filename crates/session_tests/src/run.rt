@@ -60,8 +60,12 @@ fn run_on(alloc: Global, pair: &mut Pair, steps: &[Step]) -> Result<Shown, Error
     })
 }
 
-// The replies, a line each, and the counts that were asked for.
-fn told(alloc: Global, pair: &mut Pair, steps: &[Step]) -> Result<(String, Vec<u64>), Error> {
+/// The replies, a line each, and the counts that were asked for.
+pub(crate) fn told(
+    alloc: Global,
+    pair: &mut Pair,
+    steps: &[Step],
+) -> Result<(String, Vec<u64>), Error> {
     let mut replies = pair.run(steps)?;
     told_by(alloc, replies.as_mut_slice())
 }

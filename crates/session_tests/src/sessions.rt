@@ -233,8 +233,8 @@ accept B=none
 write B 1 61=refused 9
 ";
 
-/// Messages out of order and in order, with a retry limit and a lifetime that give up none so far; what is acknowledged
-/// takes the stream to its low mark.
+/// Messages out of order and in order, with a retry limit and a lifetime that give up none, since nothing is lost; what
+/// is acknowledged takes the stream to its low mark.
 static POLICIES: &str = "\
 snap 1200 100 500=ok
 open A 1 53=ok
@@ -265,6 +265,59 @@ event A=none
 buffered A 1=0
 ";
 
+/// A message without a retry is lost and given up: a FORWARD TSN lets what is behind it be read.
+static GIVEN_UP: &str = "\
+snap 1200 100 500=ok
+open A 1 53=ok
+policy A 1 o rexmit 0=ok
+write A 1 6c6f7374=wrote 4
+send A 0=packets 0 1
+policy A 1 o reliable 0=ok
+write A 1 68657265=wrote 4
+send A 0=packets 1 1
+deliver B 1 0=ok
+read B 1=none
+send B 0=packets 0 1
+deliver A 0 0=ok
+buffered A 1=4
+deadline A=at 3000
+time A 3000=ok
+send A 3000=packets 2 1
+buffered A 1=0
+deliver B 2 3000=ok
+read B 1=message 53 68657265
+read B 1=none
+deadline B=at 3200
+time B 3200=ok
+send B 3200=packets 1 1
+deliver A 1 3200=ok
+deadline A=none
+event A=connected
+event A=low 1
+event A=none
+";
+
+/// What came before a message that is given up is read all the same.
+static READ_LATE: &str = "\
+snap 1200 100 500=ok
+open A 1 53=ok
+policy A 1 o rexmit 0=ok
+write A 1 61=wrote 1
+send A 0=packets 0 1
+deliver B 0 0=ok
+write A 1 62=wrote 1
+send A 0=packets 1 1
+time B 200=ok
+send B 200=packets 0 1
+deliver A 0 200=ok
+deadline A=at 1200
+time A 1200=ok
+send A 1200=packets 2 1
+deliver B 2 1200=ok
+read B 1=message 53 61
+read B 1=none
+";
+
 #[test]
 fn sessions_give_their_replies(rt: HostRuntime) -> Result<(), Fail> {
     for text in [
@@ -277,6 +330,8 @@ fn sessions_give_their_replies(rt: HostRuntime) -> Result<(), Fail> {
         PIECES,
         CALLS,
         POLICIES,
+        GIVEN_UP,
+        READ_LATE,
     ] {
         check_replies(&rt, text)?;
     }
