@@ -1,0 +1,5 @@
+mod Walks
+mod Sets
+mod Counted
+mod HeldBack
+mod Repeats

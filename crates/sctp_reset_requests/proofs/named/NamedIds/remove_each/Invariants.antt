@@ -1,0 +1,12 @@
+use Rattle.std.proofs.Common.{◌≡◌, ◌-◌, ℕ, nat_cmp, take}
+use Rattle.std.specs.BTreeMap.{is_at}
+use Rattle.std.specs.List.{count_by}
+use Rattle.sctp_reset_requests.specs.Named.{count_at}
+use Rattle.sctp_reset_requests.proofs.named.NamedIds.remove_each.Given as goal
+
+abbrev pub invariant-loop-id : goal.invariant-loop-id
+invariant-loop-id l = record {
+  counts : (id : ℕ)
+      → count_at l.self id ≡ count_at l.fn.self id - count_by (is_at (nat_cmp id)) (take l.id-index l.ids);
+  same : l.self.all ≡ l.fn.self.all;
+}
