@@ -1,6 +1,6 @@
 -- A request is held back while DATA of its streams waits or is unacknowledged, or while another one is active.
-use Rattle.std.proofs.Common.{◌≡◌, refl, sym, ap, ◌∙◌, subst, ℕ, suc, ◌==◌, Bool, true, false, ◌&&◌, ◌||◌, not, cond}
-use Rattle.std.proofs.Common.{List, [], ◌∷◌, length, Option, Some, None, is_some, is_eq, nat_cmp, arith}
+use Rattle.std.proofs.Common.{◌≡◌, refl, sym, ap, ◌∙◌, ℕ, suc, ◌==◌, Bool, true, false, ◌&&◌, ◌||◌, not, cond}
+use Rattle.std.proofs.Common.{List, [], ◌∷◌, length, None, is_some, is_eq, nat_cmp, arith}
 use Rattle.std.proofs.lemmas.Bool.{false≢true}
 use Rattle.std.proofs.lemmas.Bool.Decides.{nat_tests}
 use Rattle.std.specs.List.{list_any}
@@ -8,7 +8,7 @@ use Rattle.sctp_outbound_queue.specs.Message.{is_of_stream, is_waiting_of_stream
 use Rattle.sctp_outbound_queue.specs.Outbound.{Outbound, has_stream}
 use Rattle.sctp_reset_requests.proofs.Sets.{found_same}
 use Rattle.sctp_reset_requests.specs.Ids.{has_id}
-use Rattle.sctp_reset_requests.specs.Own.{OwnView, asked, fits_chunk, is_quiet, resets, sent_first, sent_from}
+use Rattle.sctp_reset_requests.specs.Own.{is_quiet, resets, sent_from}
 use Rattle.sctp_reset_requests.specs.Laws.{OneIsActive, OneIsOpen, DataHoldsBack}
 use Rattle.sctp_reset_requests.specs.declared.own_request.OwnRequest.{OwnRequest}
 

@@ -1,20 +1,17 @@
 -- Requests of the peer that were completed stay so, and are known.
-use Rattle.std.proofs.Common.{◌≡◌, refl, sym, ap, ◌∙◌, subst, ⊎_elim, ℕ, suc, ◌+◌, ◌-◌, ◌%◌, ◌^◌, ◌<◌, ◌≤◌, ◌==◌}
-use Rattle.std.proofs.Common.{Bool, true, false, cond, List, [], ◌∷◌, length, Option, Some, None, is_some, arith}
+use Rattle.std.proofs.Common.{◌≡◌, refl, sym, ap, ◌∙◌, subst, ℕ, suc, ◌+◌, ◌^◌, ◌<◌, ◌≤◌, ◌==◌}
+use Rattle.std.proofs.Common.{Bool, true, false, cond, [], ◌∷◌, length, Option, Some, None, is_some, arith}
 use Rattle.std.proofs.Common.{eqb-true}
-use Rattle.std.proofs.lemmas.Bool.{cases_Bool, false≢true}
+use Rattle.std.proofs.lemmas.Bool.{false≢true}
 use Rattle.std.proofs.lemmas.Bool.Decides.{nat_tests}
 use Rattle.sctp_serial.specs.Serial.{tsn, tsn_after, tsn_lte}
-use Rattle.sctp_wire_types.specs.declared.param.ReconfigResult.TheVariants as results
 use Rattle.sctp_reset_requests.specs.Request.{PeerRequestView, is_due}
-use Rattle.sctp_reset_requests.specs.Peer.{PeerView, advanced, advanced_with, arrived, arrived_as, completed}
+use Rattle.sctp_reset_requests.specs.Peer.{PeerView, advanced, advanced_with, arrived_as, completed}
 use Rattle.sctp_reset_requests.specs.Peer.{is_completed, is_current, is_next, number_before, standing_of, taken_up}
 use Rattle.sctp_reset_requests.specs.Laws.{PeerEvent, Comes, Moves, after, after_all, HasNumber, IsCompletedUpTo}
 use Rattle.sctp_reset_requests.specs.Laws.{CompletedStayCompleted, CompletedAreKnown, AskedEndsNone}
 use Rattle.sctp_reset_requests.specs.declared.answer.Standing.{Standing}
 use Rattle.sctp_reset_requests.specs.declared.answer.Standing.TheVariants as standings
-use Rattle.sctp_reset_requests.specs.declared.answer.Arrival.{Arrival}
-use Rattle.sctp_reset_requests.specs.declared.answer.Arrival.TheVariants as arrivals
 
 -- Numbers
 

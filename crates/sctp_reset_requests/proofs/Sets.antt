@@ -1,15 +1,13 @@
 -- Sets of identifiers, as lists that ascend.
-use Rattle.std.proofs.Common.{◌≡◌, refl, sym, ap, ◌∙◌, ℕ, suc, ◌<◌, ◌==◌, Bool, true, false, ◌||◌, not, cond, List, []}
+use Rattle.std.proofs.Common.{◌≡◌, refl, sym, ap, ◌∙◌, ℕ, suc, ◌==◌, Bool, true, false, ◌||◌, not, cond, List, []}
 use Rattle.std.proofs.Common.{◌∷◌, fold, length, Ordering, Less, Equal, Greater, is_eq, nat_cmp, arith}
 use Rattle.std.specs.Ordering.{match_ordering}
 use Rattle.std.specs.BTreeMap.{is_at}
 use Rattle.std.specs.BTreeSet.{insert_key}
-use Rattle.std.specs.List.{AllByRecursion, filter}
+use Rattle.std.specs.List.{AllByRecursion}
 use Rattle.std.specs.List.Sorted.{IsStrictlySortedBy}
 use Rattle.std.specs.Set.{remove_key}
-use Rattle.std.proofs.lemmas.Bool.{false≢true}
 use Rattle.std.proofs.lemmas.Bool.Decides.{nat_tests}
-use Rattle.sctp_wire_types.specs.declared.param.ParamOutgoingResetRequest.{ParamOutgoingResetRequest}
 use Rattle.sctp_reset_requests.specs.Ids.{has_id, set_of, without}
 use Rattle.sctp_reset_requests.specs.Laws.{NamesAreThoseListed}
 

@@ -1,5 +1,5 @@
 -- What the application is still to be told of resets of streams, and which of them failed (RFC 8831 section 6.7).
-use Rattle.std.specs.Prelude.{ℕ, Bool, true, false, ◌+◌, ◌-◌, ◌||◌, if◌then◌else◌, nat_lt, List, [], Option, Some, None}
+use Rattle.std.specs.Prelude.{ℕ, Bool, ◌+◌, ◌-◌, ◌||◌, if◌then◌else◌, nat_lt, List, [], Option, Some, None}
 use Rattle.std.specs.Prelude.{is_some}
 use Rattle.std.specs.BTreeMap.{insert_entry, is_at}
 use Rattle.std.specs.BTreeSet.{insert_key}
@@ -10,7 +10,8 @@ use Rattle.std.specs.Set.{remove_key}
 use Rattle.sctp_reset_requests.specs.Ids.{has_id}
 
 pub record DebtsView : Type 0 where
-  -- for each stream how often the application was told that the peer ended it and is still to be told how its reset ended
+  -- for each stream how often the application was told that the peer ended it and is still to be told how its reset
+  -- ended
   pub owed : List (ℕ × ℕ)
   -- the streams whose last reset failed, ascending
   pub failed : List ℕ

@@ -1,6 +1,6 @@
 -- This side's requests to reset its outgoing streams (RFC 6525 section 5.1).
-use Rattle.std.specs.Prelude.{◌≡◌, ℕ, Bool, true, false, ◌==◌, ◌+◌, ◌≤◌, ◌<◌, ◌%◌, ◌^◌, ◌&&◌, ◌||◌, not, nat_le}
-use Rattle.std.specs.Prelude.{if◌then◌else◌, List, [], ◌∷◌, ◌++◌, filter, fold, length, take, sum_by, Option, Some, None}
+use Rattle.std.specs.Prelude.{◌≡◌, ℕ, Bool, true, false, ◌==◌, ◌≤◌, ◌&&◌, ◌||◌, not, nat_le}
+use Rattle.std.specs.Prelude.{if◌then◌else◌, List, [], ◌∷◌, ◌++◌, filter, length, take, sum_by, Option, Some, None}
 use Rattle.std.specs.Prelude.{is_some, Result, Ok, Err}
 use Rattle.std.specs.List.{count_by, list_any}
 use Rattle.std.specs.Ordering.{nat_cmp}
@@ -95,8 +95,8 @@ abbrev pub asked_for : List ℕ → Option ℕ → OwnView → OwnView × Bool
 asked_for ids None o = (o, false)
 asked_for ids (Some last) o = if length ids == 0 then (o, false) else (with_request o last false ids, true)
 
--- where no request is queued or active, one is made for the streams that wait and are quiet; its response number is that
--- of the last request of the peer that was completed
+-- where no request is queued or active, one is made for the streams that wait and are quiet; its response number is
+-- that of the last request of the peer that was completed
 abbrev pub asked : OwnView → Outbound → PeerView → OwnView × Bool
 asked o q p =
     if is_some o.active || not (length o.queued == 0) then (o, false) else
@@ -227,7 +227,8 @@ IsFollowed None o = Unit {0}
 IsFollowed (Some r) o = AreNumbered (r ∷ o.queued) o.next_number
 
 -- what is kept as requests come and go
-pub record AreKept (named : NamedView) (queued : List OwnRequest) (active : Option SentRequest) (next : ℕ) : Type 0 where
-  pub counted : AreCounted named (open_with active queued)
-  pub fits : FitsChunk active
-  pub numbered : AreNumbered (open_with active queued) next
+pub record AreKept (named : NamedView) (queued : List OwnRequest) (active : Option SentRequest) (next : ℕ) : Type 0
+  where
+    pub counted : AreCounted named (open_with active queued)
+    pub fits : FitsChunk active
+    pub numbered : AreNumbered (open_with active queued) next

@@ -94,8 +94,8 @@ impl Debts {
         owed
     }
 
-    /// A reset of a stream failed, of which the application is told (ResetFailed): one end less is owed. Where memory is
-    /// refused nothing changes.
+    /// A reset of a stream failed, of which the application is told (ResetFailed): one end less is owed. Where memory
+    /// is refused nothing changes.
     pub fn fail(&mut self, id: StreamId) -> Result<(), AllocError>
         ensures ok { OnOk result (self.new ≡ failed_at self.old id) }
         ensures err { OnErr result (self.new ≡ self.old) }

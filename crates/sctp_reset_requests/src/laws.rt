@@ -2,8 +2,8 @@
 ghost use Rattle.sctp_reset_requests.specs.Laws.{CompletedStayCompleted, CompletedAreKnown, AskedEndsNone};
 ghost use Rattle.sctp_reset_requests.specs.Laws.{OneIsActive, OneIsOpen, DataHoldsBack, NamesAreThoseListed};
 
-/// Whatever comes, a request of the peer that was completed stays so, and a repeat of it is answered as it was and resets
-/// nothing. What this side asks for ends no request of the peer that is in progress.
+/// Whatever comes, a request of the peer that was completed stays so, and a repeat of it is answered as it was and
+/// resets nothing. What this side asks for ends no request of the peer that is in progress.
 pub fn completed_requests_are_known()
     ensures stay { CompletedStayCompleted }
     ensures known { CompletedAreKnown }

@@ -167,9 +167,9 @@ impl OwnRequests {
         Ok(List::from_vec(ids))
     }
 
-    /// Sends the oldest request that was never sent, where none is active and no DATA of its streams waits to be sent or
-    /// is unacknowledged: it is active from then on. Its last TSN is fixed now (RFC 6525 section 5.1.2). Gives it as it
-    /// goes out. Where memory is refused nothing changes.
+    /// Sends the oldest request that was never sent, where none is active and no DATA of its streams waits to be sent
+    /// or is unacknowledged: it is active from then on. Its last TSN is fixed now (RFC 6525 section 5.1.2). Gives it as
+    /// it goes out. Where memory is refused nothing changes.
     pub fn send_first(
         &mut self,
         alloc: Global,
@@ -215,8 +215,8 @@ impl OwnRequests {
         }
     }
 
-    /// Gives the active request as it went out first, where it is to go out again: once for each expiry. Where memory is
-    /// refused nothing changes.
+    /// Gives the active request as it went out first, where it is to go out again: once for each expiry. Where memory
+    /// is refused nothing changes.
     pub fn repeat(&mut self, alloc: Global) -> Result<Option<ParamOutgoingResetRequest>, AllocError>
         ensures ok { IfOk result (λ sent. repeated self.old ≡ (self.new, sent)) }
         ensures room { IfOk result HasRoom }

@@ -36,8 +36,8 @@ impl OwnRequest {
     ghost use Rattle.sctp_reset_requests.specs.Own.{stream_identifiers_of, param_of, is_quiet, fits_chunk, may_go};
     ghost use Rattle.sctp_reset_requests.specs.Own.{HasRoom};
 
-    /// Whether no DATA of its streams waits to be sent or is unacknowledged. Goes over what waits and is in flight, once
-    /// for each of its streams.
+    /// Whether no DATA of its streams waits to be sent or is unacknowledged. Goes over what waits and is in flight,
+    /// once for each of its streams.
     pub fn is_quiet(&self, queue: &OutboundQueue) -> bool
         ensures { result ≡ is_quiet self.now queue.now }
     {
