@@ -1,0 +1,4 @@
+pub mod Retiring
+pub mod Deferred
+pub mod Skips
+pub mod Generations

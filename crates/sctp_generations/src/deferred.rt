@@ -1,0 +1,210 @@
+// DATA of generations that are not read yet.
+ghost use Rattle.std.specs.Prelude.{◌≡◌, ◌+◌, ◌-◌, ◌^◌, ◌<◌, ◌≤◌, ◌++◌, [], length, min, fold, OnOk, OnErr, IfOk, IfSome};
+ghost use Rattle.sctp_receive_queues.specs.Pieces.{bytes_of, index_of, last_of};
+ghost use Rattle.sctp_generations.specs.Deferred.{is_up_to, is_of, is_before, place_of, deferred_with, is_between};
+ghost use Rattle.sctp_generations.specs.Deferred.{has_between, is_due, released, still_deferred, without_stream};
+ghost use Rattle.std.specs.Prelude.{position, not, filter};
+ghost use Rattle.sctp_serial.specs.Serial.{tsn_lt};
+
+use crate::retiring::Retiring;
+use sctp_serial::{sna32lt, sna32lte};
+use sctp_wire_types::{ChunkPayloadData, StreamId};
+use std::alloc::{AllocError, Global};
+use std::collections::VecDeque;
+use std::marker::Model;
+
+/// Which DATA is given to the generation that is read now.
+#[derive(Clone, Copy, Debug)]
+pub(crate) enum Due {
+    /// That of all streams that do not retire.
+    NoneRetires,
+    /// That of one stream, up to a boundary if there is one.
+    Of(StreamId, Option<u32>),
+}
+
+/// DATA of generations that are not read yet, of all streams in the order of the TSNs, and the sum of its bytes.
+#[derive(Debug, Drop)]
+pub(crate) struct Deferred {
+    chunks: VecDeque<ChunkPayloadData>,
+    bytes: u64,
+}
+
+impl Model for Deferred {
+    ghost use Rattle.std.specs.Prelude.{◌≡◌, List};
+    ghost use Rattle.sctp_receive_queues.specs.Pieces.{bytes_of};
+    ghost use Rattle.sctp_wire_types.specs.declared.chunk.ChunkPayloadData.{ChunkPayloadData as Data};
+
+    ghost Value = { List Data };
+
+    ghost view = { λ d. d.chunks.items };
+
+    ghost invariant = { λ d. d.bytes ≡ bytes_of d.chunks.items };
+}
+
+impl Deferred {
+    pub(crate) fn new(alloc: Global) -> Self
+        ensures { result ≡ [] }
+    {
+        Deferred {
+            chunks: VecDeque::new(alloc),
+            bytes: 0,
+        }
+    }
+
+    pub(crate) fn bytes(&self) -> u64
+        ensures { result ≡ bytes_of self.now }
+    {
+        self.bytes
+    }
+
+    // Puts DATA at its place. Where memory is refused nothing changes; more bytes than a u64 can say count as that.
+    pub(crate) fn put(&mut self, chunk: ChunkPayloadData) -> Result<(), AllocError>
+        ensures ok { OnOk result (self.new ≡ deferred_with self.old chunk) }
+        ensures err { OnErr result (self.new ≡ self.old) }
+    {
+        let Some(bytes) = self.bytes.checked_add(chunk.user_data.len() as u64) else {
+            return Err(AllocError);
+        };
+        let index = place_of(&self.chunks, chunk.tsn);
+        self.chunks.insert(index, chunk)?;
+        self.bytes = bytes;
+        Ok(())
+    }
+
+    // Whether DATA of a stream waits that is past one boundary and at or below another.
+    pub(crate) fn has_between(&self, id: StreamId, after: Option<u32>, upto: u32) -> bool
+        ensures { result ≡ has_between id after upto self.now }
+    {
+        any_between(&self.chunks, id, after, upto)
+    }
+
+    // Takes out the DATA that is due, in the order of the TSNs. Where memory is refused nothing changes.
+    pub(crate) fn release(
+        &mut self,
+        alloc: Global,
+        due: Due,
+        retiring: &Retiring,
+    ) -> Result<VecDeque<ChunkPayloadData>, AllocError>
+        ensures given { IfOk result (λ given. given.items ≡ released due retiring.now self.old) }
+        ensures left { OnOk result (self.new ≡ still_deferred due retiring.now self.old) }
+        ensures err { OnErr result (self.new ≡ self.old) }
+    {
+        let given = take_due(alloc, &mut self.chunks, due, retiring)?;
+        self.bytes = add_bytes(&self.chunks);
+        Ok(given)
+    }
+
+    // Drops all DATA of a stream.
+    pub(crate) fn discard(&mut self, id: StreamId)
+        ensures { self.new ≡ without_stream id self.old }
+    {
+        drop_stream(&mut self.chunks, id);
+        self.bytes = add_bytes(&self.chunks);
+    }
+}
+
+// Behind all others where the last one is before this TSN, else in front of the first that is past it.
+fn place_of(chunks: &VecDeque<ChunkPayloadData>, tsn: u32) -> usize
+    ensures index { result ≡ place_of tsn chunks.now.items }
+    ensures bound { result ≤ length chunks.now.items }
+{
+    if is_before(chunks, tsn) {
+        return chunks.len();
+    }
+    match first_past(chunks, tsn) {
+        Some(index) => index,
+        None => chunks.len(),
+    }
+}
+
+fn is_before(chunks: &VecDeque<ChunkPayloadData>, tsn: u32) -> bool
+    ensures { result ≡ is_before (last_of chunks.now.items) tsn }
+{
+    match chunks.back() {
+        Some(last) => sna32lt(last.tsn, tsn),
+        None => true,
+    }
+}
+
+fn first_past(chunks: &VecDeque<ChunkPayloadData>, tsn: u32) -> Option<usize>
+    ensures first { result ≡ position (λ d. tsn_lt tsn d.tsn) chunks.now.items }
+    ensures bound { IfSome result (λ index. index < length chunks.now.items) }
+{
+    chunks.iter().position(|chunk| sna32lt(tsn, chunk.tsn))
+}
+
+fn any_between(
+    chunks: &VecDeque<ChunkPayloadData>,
+    id: StreamId,
+    after: Option<u32>,
+    upto: u32,
+) -> bool
+    ensures { result ≡ has_between id after upto chunks.now.items }
+{
+    chunks
+        .iter()
+        .any(|chunk| is_between(chunk, id, after, upto))
+}
+
+fn is_between(chunk: &ChunkPayloadData, id: StreamId, after: Option<u32>, upto: u32) -> bool
+    ensures { result ≡ is_between id after upto chunk.now }
+{
+    chunk.stream_identifier == id && !is_up_to(after, chunk.tsn) && sna32lte(chunk.tsn, upto)
+}
+
+pub(crate) fn is_up_to(boundary: Option<u32>, tsn: u32) -> bool
+    ensures { result ≡ is_up_to boundary tsn }
+{
+    match boundary {
+        Some(boundary) => sna32lte(tsn, boundary),
+        None => true,
+    }
+}
+
+fn is_due(chunk: &ChunkPayloadData, due: Due, retiring: &Retiring) -> bool
+    ensures { result ≡ is_due due retiring.now chunk.now }
+{
+    match due {
+        Due::NoneRetires => !retiring.contains(chunk.stream_identifier),
+        Due::Of(id, upto) => chunk.stream_identifier == id && is_up_to(upto, chunk.tsn),
+    }
+}
+
+// Takes out the DATA that is due; where memory is refused nothing changes.
+fn take_due(
+    alloc: Global,
+    chunks: &mut VecDeque<ChunkPayloadData>,
+    due: Due,
+    retiring: &Retiring,
+) -> Result<VecDeque<ChunkPayloadData>, AllocError>
+    ensures given { IfOk result (λ given. given.items ≡ released due retiring.now chunks.old.items) }
+    ensures left { OnOk result (chunks.new.items ≡ still_deferred due retiring.now chunks.old.items) }
+    ensures err { OnErr result (chunks.new.items ≡ chunks.old.items) }
+{
+    let mut given = VecDeque::with_capacity(alloc, chunks.len())?;
+    let mut left = VecDeque::with_capacity(alloc, chunks.len())?;
+    while let Some(chunk) = chunks.pop_front() {
+        if is_due(&chunk, due, retiring) {
+            given.push_back_reserved(chunk);
+        } else {
+            left.push_back_reserved(chunk);
+        }
+    }
+    *chunks = left;
+    Ok(given)
+}
+
+fn drop_stream(chunks: &mut VecDeque<ChunkPayloadData>, id: StreamId)
+    ensures { chunks.new.items ≡ without_stream id chunks.old.items }
+{
+    chunks.retain(|chunk| chunk.stream_identifier != id);
+}
+
+// The bytes of all, at most the greatest u64.
+fn add_bytes(chunks: &VecDeque<ChunkPayloadData>) -> u64
+    ensures { result ≡ fold (λ sum d. min (sum + length d.user_data) (2 ^ 64 - 1)) 0 chunks.now.items }
+{
+    chunks.iter().fold(0u64, |sum, chunk| {
+        sum.saturating_add(chunk.user_data.len() as u64)
+    })
+}
