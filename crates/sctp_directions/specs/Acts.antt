@@ -244,7 +244,7 @@ abbrev pub can_go_again : Option InFlight → Bool
 can_go_again None = false
 can_go_again (Some x) = is_outstanding x
 
--- DATA with this TSN is new: it is 1 to 65,535 past the cumulative TSN ack point, and did not come
+-- DATA with this TSN is new: it is 1 to 65,535 past the last TSN in order, and did not come
 pub record IsNewTsn (h : History) (t : ℕ) : Type 0 where
   pub small : t < 2 ^ 32
   pub near : offset_in h t < reach_in h + 65535
@@ -266,7 +266,7 @@ abbrev pub can_drop : Option Waiting → Bool
 can_drop None = false
 can_drop (Some x) = not x.begun && not (is_reliable (policy_of x.message.policy))
 
--- A TSN lies ahead: it is 1 to half the range past the cumulative TSN ack point.
+-- A TSN lies ahead: it is 1 to half the range past the last TSN in order.
 pub record IsAhead (h : History) (t : ℕ) : Type 0 where
   pub small : t < 2 ^ 32
   pub near : offset_in h t < reach_in h + 2 ^ 31

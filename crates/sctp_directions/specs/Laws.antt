@@ -1,5 +1,6 @@
--- The laws of an association between its directions: what writes, pieces that go again, acknowledgements, DATA and
--- reports are as events of the model, and what acts and events leave as it was.
+-- The laws of an association between its directions: what writes, pieces that go again, acknowledgements, messages that
+-- are abandoned or dropped, DATA, FORWARD TSN and reports are as events of the model, and what acts and events leave as
+-- it was.
 use Rattle.std.specs.Prelude.{◌≡◌, ◌⊎◌, ℕ, ◌+◌, ◌*◌, ◌<◌, ◌≤◌, ◌%◌, ◌^◌, true, false, List, [], ◌∷◌, ◌++◌}
 use Rattle.std.specs.Prelude.{if◌then◌else◌, length, slice_get, suc, ◌==◌, Option, Some}
 use Rattle.std.specs.List.{AllByRecursion}

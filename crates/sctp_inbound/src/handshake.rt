@@ -25,7 +25,7 @@ pub struct Handshake {
     /// Streams that this side may send on, and those that it may receive on.
     pub num_outbound_streams: u16,
     pub num_inbound_streams: u16,
-    /// Both sides may skip messages by FORWARD TSN.
+    /// The peer said that it takes FORWARD TSN (RFC 3758 section 3.1), so both sides may skip messages by it.
     pub use_forward_tsn: bool,
     /// The association was established once.
     pub completed: bool,

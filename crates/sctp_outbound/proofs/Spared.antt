@@ -17,7 +17,8 @@ use Rattle.sctp_outbound.proofs.MarkedPieces.{none_of}
 use Rattle.sctp_outbound.proofs.SenderSteps.{pieces_full, pieces_sent, pieces_skip}
 use Rattle.sctp_outbound.proofs.Unlimited.{index_on, index_skip, index_spent}
 
-some_is_none : (i : ℕ) → Some i ≡ None → ⊥
+-- an option that is there is not missing
+pub some_is_none : (i : ℕ) → Some i ≡ None → ⊥
 some_is_none i e = false≢true (sym (ap (λ (z : Option ℕ). is_some z) e))
 
 pub sparing_same : (k : Retransmission) (ps : List InFlight) → IsSparing k ps ps

@@ -48,7 +48,7 @@ allows_no_more Reliable count = false
 allows_no_more (Rexmit n) count = nat_lt n count
 allows_no_more (Timed ms) count = false
 
--- a piece was sent as often as its policy allows (RFC 7496 section 3.2)
+-- a piece was sent as often as its policy allows (RFC 7496 section 3.1)
 abbrev pub is_spent : InFlight → Bool
 is_spent p = allows_no_more p.message.policy p.sent_count
 

@@ -18,7 +18,7 @@ use Rattle.sctp_outbound.specs.declared.sender.Sender.{Sender}
 use Rattle.sctp_outbound.specs.Abandonment.{first_spent, given_up_before, is_spent, spent_index}
 use Rattle.sctp_outbound.specs.Sender.{alone_length_of, both_windows, fast_room, resends_alone, window_left}
 use Rattle.sctp_outbound.proofs.NoneLeft.{none_is_left}
-use Rattle.sctp_outbound.proofs.Spared.{alone_marked, due_index, marked_index}
+use Rattle.sctp_outbound.proofs.Spared.{alone_marked, due_index, marked_index, some_is_none}
 use Rattle.sctp_outbound.proofs.Unlimited.{index_on, index_skip, index_spent}
 use Rattle.sctp_directions.specs.Acts.{Act, CanAll, History, Parts, all_data_given, can_go_again, chunk_said}
 use Rattle.sctp_directions.specs.Acts.{data_given, done, done_all}
@@ -71,9 +71,6 @@ new_spare (Act.Sent now ∷ xs) p (one, more) = (tt, new_spare xs (done (Act.Sen
 new_spare (act ∷ xs) p (one, more) = absurd one
 
 -- What goes out again
-
-some_is_none : (i : ℕ) → Some i ≡ None → ⊥
-some_is_none i e = false≢true (sym (ap (λ (z : Option ℕ). is_some z) e))
 
 changed_in : (o : Option InFlight) (x : InFlight) (by : Retransmission) (q : Outbound) (index : ℕ) → o ≡ Some x
     → (changed_from (counted_again by) o q index).in_flight ≡ slice_set q.in_flight index (counted_again by x)

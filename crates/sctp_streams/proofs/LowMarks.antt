@@ -16,7 +16,8 @@ use Rattle.std.proofs.lemmas.Cmp.{eq_by_cmp_equiv, nat_cmp_total}
 use Rattle.std.proofs.lemmas.List.Elements.{filter_agree}
 use Rattle.std.proofs.lemmas.Map.{lookup-set_value}
 use Rattle.std.proofs.lemmas.List.{append-nil, append_assoc}
-use Rattle.sctp_streams.specs.LowMarks.{AreGathered, FallenView, Gathers, HasNoMore, IsGathered, ascending, ascending_with}
+use Rattle.sctp_streams.specs.LowMarks.{AreGathered, FallenView, Gathers, HasNoMore, IsGathered, ascending}
+use Rattle.sctp_streams.specs.LowMarks.{ascending_with}
 use Rattle.sctp_streams.specs.LowMarks.{fallen, falls_in, has_fallen, none_fallen}
 use Rattle.sctp_streams.specs.Stream.{StreamView, falls_to_low_mark, released_from}
 use Rattle.sctp_streams.specs.Streams.{StreamMap, falls_to_low_mark_in}
@@ -365,7 +366,8 @@ gathered_behind xs ys f g i x y = record {
       let later = y.whole r in
       let first = x.whole later.0 in
       (first.0, later.1 ∙ ap (λ z. z ++ ys) first.1 ∙ append_assoc f.ids xs ys);
-  some = λ r. ⊎_elim (λ s. ⊎_elim (λ t. inl t) (λ l. inr (longer xs ys l)) (x.some s)) (λ l. inr (last xs ys l)) (y.some r);
+  some =
+    λ r. ⊎_elim (λ s. ⊎_elim (λ t. inl t) (λ l. inr (longer xs ys l)) (x.some s)) (λ l. inr (last xs ys l)) (y.some r);
 }
 
 -- the stream of a release is gathered where it falls by it

@@ -16,8 +16,8 @@ pub enum StreamEvent {
     Opened {
         id: StreamId,
     },
-    /// A message came and can be read. Each that comes is told, so whoever reads until None may find nothing at the
-    /// next one.
+    /// A message came and can be read, or can be read since a FORWARD TSN passed over what was before it. Each that
+    /// comes is told, so whoever reads until None may find nothing at the next one.
     Readable {
         id: StreamId,
     },
