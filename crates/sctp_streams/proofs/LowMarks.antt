@@ -367,7 +367,7 @@ gathered_behind xs ys f g i x y = record {
       let first = x.whole later.0 in
       (first.0, later.1 ∙ ap (λ z. z ++ ys) first.1 ∙ append_assoc f.ids xs ys);
   some =
-    λ r. ⊎_elim (λ s. ⊎_elim (λ t. inl t) (λ l. inr (longer xs ys l)) (x.some s)) (λ l. inr (last xs ys l)) (y.some r);
+      λ r. ⊎_elim (λ s. ⊎_elim (λ t. inl t) (λ l. inr (longer xs ys l)) (x.some s)) (λ l. inr (last xs ys l)) (y.some r);
 }
 
 -- the stream of a release is gathered where it falls by it
