@@ -85,28 +85,6 @@ some_behind : (header : CommonHeader) (cs : List ChunkPayloadData) (c : ChunkPay
 some_behind header [] c = refl
 some_behind header (x ∷ xs) c = refl
 
--- what is being written, with DATA behind it
-pub more_written : (header : CommonHeader) (cs : List ChunkPayloadData) (c : ChunkPayloadData) (bytes : List ℕ)
-    → IsHeader header → AllByRecursion IsPayloadData cs → list_all data_fits cs ≡ true → IsPayloadData c
-    → data_fits c ≡ true
-    → bytes ≡ (started header ++ flat_map chunk_bytes (as_chunks cs)) ++ chunk_bytes (chunks.Data c)
-    → (data_in bytes ≡ cs ++ c ∷ []) × IsBeingWritten header bytes
-more_written header cs c bytes ports ranges fit range fits are =
-    let ds = cs ++ c ∷ [] in
-    let same : bytes ≡ being_written header (cs ++ c ∷ []) =
-    are ∙ sym (started_bytes header cs c) ∙ sym (some_behind header cs c) in
-    let all = ranges_more cs c ranges range in
-    let both = fit_more cs c fit fits in
-    let read : data_in bytes ≡ cs ++ c ∷ [] = ap data_in same ∙ read_back header ds all both in (
-      read,
-      record {
-        bytes_are = same ∙ ap (being_written header) (sym read);
-        ports = λ some. ports;
-        ranges = subst (AllByRecursion IsPayloadData) (sym read) all;
-        fit = ap (list_all data_fits) read ∙ both;
-      },
-    )
-
 -- Nothing is being written yet.
 
 pub nothing_in : data_in [] ≡ []
@@ -252,29 +230,51 @@ begun_before : (header : CommonHeader) (cs : List ChunkPayloadData)
     → begun header (unsummed (data_packet header cs)) ≡ unsummed (data_packet header cs)
 begun_before header cs = begun_already header _ _
 
--- DATA behind what is being written, or behind the common header
-behind : (header : CommonHeader) (bytes new : List ℕ) (ds : List ChunkPayloadData) (c : ChunkPayloadData)
-    → data_in bytes ≡ ds → IsBeingWritten header bytes → (bytes ≡ [] → IsHeader header) → IsPayloadData c
-    → data_fits c ≡ true → new ≡ begun header bytes ++ chunk_bytes (chunks.Data c)
-    → (data_in new ≡ ds ++ c ∷ []) × IsBeingWritten header new
-behind header bytes new [] c e h ports range fits are =
-    let none : bytes ≡ [] = h.bytes_are ∙ ap (being_written header) e in
-    more_written header [] c new (ports none) tt refl range fits
-    (are ∙ ap (λ (z : List ℕ). begun header z ++ chunk_bytes (chunks.Data c)) none
-    ∙ ap (λ (z : List ℕ). z ++ chunk_bytes (chunks.Data c)) (sym (append-nil (started header))))
-behind header bytes new (x ∷ xs) c e h ports range fits are =
-    let same : bytes ≡ unsummed (data_packet header (x ∷ xs)) = h.bytes_are ∙ ap (being_written header) e in
-    more_written header (x ∷ xs) c new (h.ports (λ none. some_bytes header (x ∷ xs) (sym same ∙ none)))
-    (subst (AllByRecursion IsPayloadData) e h.ranges) (ap (list_all data_fits) (sym e) ∙ h.fit) range fits
-    (are ∙ ap (λ (z : List ℕ). begun header z ++ chunk_bytes (chunks.Data c)) same
-    ∙ ap (λ (z : List ℕ). z ++ chunk_bytes (chunks.Data c)) (begun_before header (x ∷ xs)))
-  where
-    some_bytes : (header : CommonHeader) (cs : List ChunkPayloadData) → unsummed (data_packet header cs) ≡ [] → ⊥
-    some_bytes header cs none = cc
+some_bytes : (header : CommonHeader) (cs : List ChunkPayloadData) → unsummed (data_packet header cs) ≡ [] → ⊥
+some_bytes header cs none = cc
 
-pub more_on : (header : CommonHeader) (bytes new : List ℕ) (c : ChunkPayloadData) → IsBeingWritten header bytes
-    → (bytes ≡ [] → IsHeader header) → IsPayloadData c → data_fits c ≡ true
-    → new ≡ begun header bytes ++ chunk_bytes (chunks.Data c)
-    → (data_in new ≡ data_in bytes ++ c ∷ []) × IsBeingWritten header new
-more_on header bytes new c h ports range fits are =
-    behind header bytes new (data_in bytes) c refl h ports range fits are
+module _ (header : CommonHeader) (c : ChunkPayloadData) (range : IsPayloadData c) (fits : data_fits c ≡ true) where
+  -- what is being written, with DATA behind it
+  more_written : (cs : List ChunkPayloadData) (bytes : List ℕ) → IsHeader header → AllByRecursion IsPayloadData cs
+      → list_all data_fits cs ≡ true
+      → bytes ≡ (started header ++ flat_map chunk_bytes (as_chunks cs)) ++ chunk_bytes (chunks.Data c)
+      → (data_in bytes ≡ cs ++ c ∷ []) × IsBeingWritten header bytes
+  more_written cs bytes ports ranges fit are =
+      let ds = cs ++ c ∷ [] in
+      let same : bytes ≡ being_written header (cs ++ c ∷ []) =
+      are ∙ sym (started_bytes header cs c) ∙ sym (some_behind header cs c) in
+      let all = ranges_more cs c ranges range in
+      let both = fit_more cs c fit fits in
+      let read : data_in bytes ≡ cs ++ c ∷ [] = ap data_in same ∙ read_back header ds all both in (
+        read,
+        record {
+          bytes_are = same ∙ ap (being_written header) (sym read);
+          ports = λ some. ports;
+          ranges = subst (AllByRecursion IsPayloadData) (sym read) all;
+          fit = ap (list_all data_fits) read ∙ both;
+        },
+      )
+
+  -- DATA behind what is being written, or behind the common header
+  behind : (bytes new : List ℕ) (ds : List ChunkPayloadData) → data_in bytes ≡ ds → IsBeingWritten header bytes
+      → (bytes ≡ [] → IsHeader header) → new ≡ begun header bytes ++ chunk_bytes (chunks.Data c)
+      → (data_in new ≡ ds ++ c ∷ []) × IsBeingWritten header new
+  behind bytes new [] e h ports are =
+      let none : bytes ≡ [] = h.bytes_are ∙ ap (being_written header) e in
+      more_written [] new (ports none) tt refl
+      (are ∙ ap (λ (z : List ℕ). begun header z ++ chunk_bytes (chunks.Data c)) none
+      ∙ ap (λ (z : List ℕ). z ++ chunk_bytes (chunks.Data c)) (sym (append-nil (started header))))
+  behind bytes new (x ∷ xs) e h ports are =
+      let same : bytes ≡ unsummed (data_packet header (x ∷ xs)) = h.bytes_are ∙ ap (being_written header) e in
+      more_written (x ∷ xs) new (h.ports (λ none. some_bytes header (x ∷ xs) (sym same ∙ none)))
+      (subst (AllByRecursion IsPayloadData) e h.ranges) (ap (list_all data_fits) (sym e) ∙ h.fit)
+      (are ∙ ap (λ (z : List ℕ). begun header z ++ chunk_bytes (chunks.Data c)) same
+      ∙ ap (λ (z : List ℕ). z ++ chunk_bytes (chunks.Data c)) (begun_before header (x ∷ xs)))
+
+  -- what was being written is taken out, begun with the common header where it was empty, and DATA is put behind it
+  pub more_on : {bytes out first new : List ℕ} → IsBeingWritten header bytes → out ≡ bytes
+      → (out ≡ [] → IsHeader header) → first ≡ begun header out → new ≡ first ++ chunk_bytes (chunks.Data c)
+      → (data_in new ≡ data_in bytes ++ c ∷ []) × IsBeingWritten header new
+  more_on {bytes = bytes} {new = new} h were ports starts ends =
+      behind bytes new (data_in bytes) refl h (λ none. ports (were ∙ none))
+      (ends ∙ ap (λ (z : List ℕ). z ++ chunk_bytes (chunks.Data c)) (starts ∙ ap (begun header) were))

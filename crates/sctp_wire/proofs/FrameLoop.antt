@@ -25,26 +25,44 @@ done x = Ok x
 pub ok_is : {A : Type 0} (x y : A) → done x ≡ done y → x ≡ y
 ok_is x y e = cc
 
+-- the frame that these bytes begin with, and what follows it
+abbrev pub frame_found : List ℕ → Frame × List ℕ
+frame_found bytes = (
+  record { head = u16_at bytes 0; value = take (u16_at bytes 2 - 4) (drop 4 bytes) },
+  drop (padded_len (u16_at bytes 2)) bytes,
+)
+
+-- what holds where a frame was read: its length was long enough, and not past the end
+pub record FrameRead (bytes : List ℕ) (f : Frame) (rest : List ℕ) : Type 0 where
+  pub least : 4 ≤ u16_at bytes 2
+  pub room : u16_at bytes 2 ≤ length bytes
+  pub found : frame_found bytes ≡ (f, rest)
+
+pub frame_read : (bytes : List ℕ) (f : Frame) (rest : List ℕ) → frame_at bytes ≡ Ok (f, rest)
+    → FrameRead bytes f rest
+unfolding frame_at
+frame_read bytes f rest e =
+    let a =
+    guard_ok (ltb (length bytes) 4) Short (cond (ltb (u16_at bytes 2) 4) (Err Length)
+    (cond (ltb (length bytes) (u16_at bytes 2)) (Err Short) (Ok (frame_found bytes)))) (f, rest) e in
+    let b =
+    guard_ok (ltb (u16_at bytes 2) 4) Length
+    (cond (ltb (length bytes) (u16_at bytes 2)) (Err Short) (Ok (frame_found bytes))) (f, rest) a.1 in
+    let c = guard_ok (ltb (length bytes) (u16_at bytes 2)) Short (Ok (frame_found bytes)) (f, rest) b.1 in
+    record {
+      least = ltb-false _ _ b.0;
+      room = ltb-false _ _ c.0;
+      found = ok_is (frame_found bytes) (f, rest) c.1;
+    }
+
 -- what follows a frame is shorter
 pub frame_shorter : (bytes : List ℕ) (f : Frame) (rest : List ℕ) → frame_at bytes ≡ Ok (f, rest)
     → length rest < length bytes
-unfolding frame_at
 frame_shorter bytes f rest e =
-    let found : Frame × List ℕ = (
-      record { head = u16_at bytes 0; value = take (u16_at bytes 2 - 4) (drop 4 bytes) },
-      drop (padded_len (u16_at bytes 2)) bytes,
-    ) in
-    let a =
-    guard_ok (ltb (length bytes) 4) Short (cond (ltb (u16_at bytes 2) 4) (Err Length)
-    (cond (ltb (length bytes) (u16_at bytes 2)) (Err Short) (Ok found))) (f, rest) e in
-    let b =
-    guard_ok (ltb (u16_at bytes 2) 4) Length (cond (ltb (length bytes) (u16_at bytes 2)) (Err Short) (Ok found))
-    (f, rest) a.1 in
-    let c = guard_ok (ltb (length bytes) (u16_at bytes 2)) Short (Ok found) (f, rest) b.1 in
-    let rest-is : drop (padded_len (u16_at bytes 2)) bytes ≡ rest =
-    ap (λ (p : Frame × List ℕ). p.1) (ok_is found (f, rest) c.1) in
-    let long : 4 ≤ length bytes = ltb-false _ _ a.0 in
-    let least : 4 ≤ u16_at bytes 2 = ltb-false _ _ b.0 in
+    let r = frame_read bytes f rest e in
+    let least : 4 ≤ u16_at bytes 2 = r.least in
+    let room : u16_at bytes 2 ≤ length bytes = r.room in
+    let rest-is : drop (padded_len (u16_at bytes 2)) bytes ≡ rest = ap (λ (p : Frame × List ℕ). p.1) r.found in
     rw (← rest-is, length-drop) (omega arith)
 
 step_same : {A : Type 0} (f : Result (Frame × List ℕ) Fault) (item_of : Frame → Result A Fault)

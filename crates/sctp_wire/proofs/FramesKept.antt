@@ -3,16 +3,15 @@ use Rattle.std.proofs.Common.{◌≡◌, ℕ, zero, suc, ◌+◌, ◌-◌, ◌^�
 use Rattle.std.proofs.Common.{List, [], ◌∷◌, ◌++◌, length, get_or, take, drop, Result, Ok, Err, refl, ap, subst}
 use Rattle.std.proofs.Common.{◌∙◌, arith, inl, inr}
 use Rattle.std.specs.List.{AllByRecursion}
-use Rattle.std.proofs.lemmas.Bool.{cases_lt, ltb-false}
+use Rattle.std.proofs.lemmas.Bool.{cases_lt}
 use Rattle.std.proofs.lemmas.List.{length-append, length-take, length-drop, get_or-drop, get_or-take, get_or_past}
 use Rattle.sctp_wire_types.specs.declared.error.Fault.{Fault}
-use Rattle.sctp_wire_types.specs.declared.error.Fault.TheVariants.{Short, Length}
 use Rattle.sctp_wire.specs.declared.frame.Frame.{Frame}
 use Rattle.sctp_wire.specs.Results.{◌>>=◌}
 use Rattle.sctp_wire.specs.Numbers.{u16_at, u32_at}
-use Rattle.sctp_wire.specs.Frames.{pad_len, padded_len, frame_at, items_within, items_at, entries_at, zeros}
+use Rattle.sctp_wire.specs.Frames.{pad_len, frame_at, items_within, items_at, entries_at, zeros}
 use Rattle.sctp_wire.specs.Frames.{joined}
-use Rattle.sctp_wire.proofs.FrameLoop.{guard_ok, ok_is}
+use Rattle.sctp_wire.proofs.FrameLoop.{frame_found, frame_read, ok_is}
 use Rattle.sctp_wire.proofs.FramesAgain.{length-zeros}
 
 abbrev pub AreBytes : List ℕ → Type 0
@@ -63,23 +62,10 @@ pad_same n le = omega arith
 
 pub frame_kept : (bytes : List ℕ) (f : Frame) (rest : List ℕ) → AreBytes bytes → frame_at bytes ≡ Ok (f, rest)
     → FrameKept bytes f rest
-unfolding frame_at
 frame_kept bytes f rest h e =
-    let u : ℕ = u16_at bytes 2 in
-    let value : List ℕ = take (u16_at bytes 2 - 4) (drop 4 bytes) in
-    let found : Frame × List ℕ = (
-      record { head = u16_at bytes 0; value = take (u16_at bytes 2 - 4) (drop 4 bytes) },
-      drop (padded_len (u16_at bytes 2)) bytes,
-    ) in
-    let a =
-    guard_ok (ltb (length bytes) 4) Short (cond (ltb (u16_at bytes 2) 4) (Err Length)
-    (cond (ltb (length bytes) (u16_at bytes 2)) (Err Short) (Ok found))) (f, rest) e in
-    let b =
-    guard_ok (ltb (u16_at bytes 2) 4) Length (cond (ltb (length bytes) (u16_at bytes 2)) (Err Short) (Ok found))
-    (f, rest) a.1 in
-    let c = guard_ok (ltb (length bytes) (u16_at bytes 2)) Short (Ok found) (f, rest) b.1 in
-    let least : 4 ≤ u16_at bytes 2 = ltb-false _ _ b.0 in
-    let room : u16_at bytes 2 ≤ length bytes = ltb-false _ _ c.0 in
+    let read = frame_read bytes f rest e in
+    let least : 4 ≤ u16_at bytes 2 = read.least in
+    let room : u16_at bytes 2 ≤ length bytes = read.room in
     let below : u16_at bytes 2 < 2 ^ 16 = u16_below bytes 2 h in
     let len : length (take (u16_at bytes 2 - 4) (drop 4 bytes)) ≡ u16_at bytes 2 - 4 =
     omega (arith, length-take (u16_at bytes 2 - 4) (drop 4 bytes), length-drop 4 bytes) in
@@ -87,7 +73,7 @@ frame_kept bytes f rest h e =
     let left : length (drop (u16_at bytes 2 + pad_len (u16_at bytes 2)) bytes)
     ≡ length bytes - (u16_at bytes 2 + pad_len (u16_at bytes 2)) =
     length-drop (u16_at bytes 2 + pad_len (u16_at bytes 2)) bytes in
-    let kept : FrameKept bytes found.0 found.1 = record {
+    let kept : FrameKept bytes (frame_found bytes).0 (frame_found bytes).1 = record {
       head = u16_below bytes 0 h;
       short = omega arith;
       value = AreBytes-take (u16_at bytes 2 - 4) (drop 4 bytes) (AreBytes-drop 4 bytes h);
@@ -95,7 +81,7 @@ frame_kept bytes f rest h e =
       within = omega arith;
       after = λ (more : 0 < length (drop (u16_at bytes 2 + pad_len (u16_at bytes 2)) bytes)). rw len (omega arith);
     } in
-    subst (λ (p : Frame × List ℕ). FrameKept bytes p.0 p.1) (ok_is found (f, rest) c.1) kept
+    subst (λ (p : Frame × List ℕ). FrameKept bytes p.0 p.1) read.found kept
 
 -- ---- entries
 

@@ -1,7 +1,4 @@
-use Rattle.std.proofs.Common.{◌≡◌, ◌∙◌, ◌++◌, ap, refl}
-use Rattle.sctp_wire_types.specs.declared.chunk.Chunk.TheVariants as chunks
-use Rattle.sctp_wire.specs.Chunks.{chunk_bytes}
-use Rattle.sctp_wire.specs.DataPackets.{begun}
+use Rattle.std.proofs.Common.{◌∙◌, ap, refl}
 use Rattle.sctp_wire.proofs.DataWritten.{more_on, nothing_yet}
 use Rattle.sctp_wire.proofs.data_packets.DataPackets.put.Goals as goal
 
@@ -21,24 +18,16 @@ invariant_of-self-in_err-put_data c = (
 
 pub invariant_of-self-2 : goal.invariant_of-self-2
 invariant_of-self-2 c =
-    let were : c.replace-written.result.items ≡ c.self.inside.current.items =
-    ap (λ v. v.items) c.replace-written.ensures.value in
     let more =
-    more_on c.self.inside.header c.self.inside.current.items c.put_data.new.out.items c.args.piece.now
-    c.self.invariant.0 (λ none. c.in_ok-current.ensures.range (were ∙ none)) c.in_ok-put_data.ensures.range c.requires
-    (c.in_ok-put_data.ensures.bytes
-    ∙ ap (λ z. z ++ chunk_bytes (chunks.Data c.args.piece.now))
-    (c.in_ok-current.ensures.bytes ∙ ap (begun c.self.inside.header) were)) in
+    more_on c.self.inside.header c.args.piece.now c.in_ok-put_data.ensures.range c.requires c.self.invariant.0
+    (ap (λ v. v.items) c.replace-written.ensures.value) c.in_ok-current.ensures.range c.in_ok-current.ensures.bytes
+    c.in_ok-put_data.ensures.bytes in
     (more.1, c.self.invariant.1)
 
 pub returns : goal.returns
 returns c =
-    let were : c.replace-written.result.items ≡ c.self.inside.current.items =
-    ap (λ v. v.items) c.replace-written.ensures.value in
     let more =
-    more_on c.self.inside.header c.self.inside.current.items c.put_data.new.out.items c.args.piece.now
-    c.self.invariant.0 (λ none. c.in_ok-current.ensures.range (were ∙ none)) c.in_ok-put_data.ensures.range c.requires
-    (c.in_ok-put_data.ensures.bytes
-    ∙ ap (λ z. z ++ chunk_bytes (chunks.Data c.args.piece.now))
-    (c.in_ok-current.ensures.bytes ∙ ap (begun c.self.inside.header) were)) in
+    more_on c.self.inside.header c.args.piece.now c.in_ok-put_data.ensures.range c.requires c.self.invariant.0
+    (ap (λ v. v.items) c.replace-written.ensures.value) c.in_ok-current.ensures.range c.in_ok-current.ensures.bytes
+    c.in_ok-put_data.ensures.bytes in
     rw (← c.self.view_is, more.0) refl
