@@ -11,6 +11,7 @@ pub mod NumberWindows
 pub mod OffsetPlaces
 pub mod OffsetSets
 pub mod OffsetsAssigned
+pub mod OrderedHalves
 pub mod OrderedRanks
 pub mod PlansGrow
 pub mod Proved

@@ -15,6 +15,7 @@ use Rattle.sctp_model.specs.Invariants.{IsPlanned, IsSending, IsHeld, IsOrdered,
 use Rattle.sctp_model.proofs.Lists.{all_push, all_back, all_weaker, all_both, all_mem, map-join, filter-join, mem_left}
 use Rattle.sctp_model.proofs.Lists.{mem_none, distinct_insert, rising_push}
 use Rattle.sctp_model.proofs.NextOrdered.{IsDue, window, window_next, near_all, due_is}
+use Rattle.sctp_model.proofs.OrderedHalves.{ordered_kept}
 use Rattle.sctp_model.proofs.ReadsOfStreams.{read_end_push, read_ssn_push, run_got, ordered_read}
 
 -- of the numbers read, those of ordered messages are among the ordered ones
@@ -70,32 +71,8 @@ module _ (p : Plan) (gone : ℕ → ℕ → Bool) (current : Option Place) (next
       → (IsKeptOrdered p s → map letter_read reads' ≡ map letter_read reads)
       → IsOrderedHere low end q reads
       → IsOrderedHere low end (record q { complete = gs }) reads'
-  ordered_same low end q gs reads reads' more letters h = record {
-    cursor = h.cursor;
-    is = h.is;
-    above = h.above;
-    latest = h.latest;
-    origin = h.origin;
-    begun = h.begun;
-    going = h.going;
-    held = h.held;
-    past = h.past;
-    later = h.later;
-    link = h.link;
-    until = h.until;
-    gap = h.gap;
-    full = λ none.
-        let f = h.full none in
-        record {
-          unskipped = f.unskipped;
-          level = f.level;
-          exact = f.exact;
-          level_next = f.level_next;
-          held = f.held;
-          read = λ i l k. more i (f.read i l k);
-          letters = λ kept. letters kept ∙ f.letters kept;
-        };
-  }
+  ordered_same low end q gs reads reads' more letters h =
+      ordered_kept refl h.held (λ y m. m) (omega arith) (λ y a m f. f m) more letters h
 
   -- a complete unordered message is read
   read_complete : (q : Queue) (reads : List Got) (g : Got) (gs : List Got) → q.complete ≡ g ∷ gs

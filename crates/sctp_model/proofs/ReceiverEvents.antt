@@ -2,6 +2,7 @@
 use Rattle.std.proofs.Common.{ℕ, zero, suc, ◌+◌, ◌<◌, ◌≤◌, ◌≡◌, Bool, true, false, not, cond, eqb, leb, ◌||◌, ◌&&◌}
 use Rattle.std.proofs.Common.{List, [], ◌∷◌, ◌++◌, length, drop, Option, Some, None, refl, sym, ap, ◌∙◌, subst, inl}
 use Rattle.std.proofs.Common.{inr, ⊎_elim, arith}
+use Rattle.std.specs.List.{AllByRecursion}
 use Rattle.std.proofs.lemmas.Bool.{cases_Bool, cases_lt, cases_eq, and_parts, or_cases, or_left, or_right, lt-ltb}
 use Rattle.std.proofs.lemmas.Bool.{eqb-true, ltb-true, leb-true, true≢false, cond-true, cond-false, not-true}
 use Rattle.sctp_model.specs.Messages.{Plan, IsAt, place_at, bytes_at, bytes_below}
@@ -10,8 +11,8 @@ use Rattle.sctp_model.specs.Reassembly.{Queue, Got, Taken, next, push, push_orde
 use Rattle.sctp_model.specs.Machine.{Direction, put, live, reach, sack_of, is_new, took, moved, passes, acknowledged_by}
 use Rattle.sctp_model.specs.Machine.{gone_front, forward_of, opened, can_resend, none_of, none_goes_on, can_restart}
 use Rattle.sctp_model.specs.Safe.{IsWithin}
-use Rattle.sctp_model.specs.Invariants.{Invariant, IsPlanned, IsEarlier, IsPiece, IsHonest, IsForward, IsAccounted}
-use Rattle.sctp_model.specs.Invariants.{IsStream, gone_at}
+use Rattle.sctp_model.specs.Invariants.{Invariant, IsPlanned, IsAscending, IsEarlier, IsPiece, IsHonest, IsForward}
+use Rattle.sctp_model.specs.Invariants.{IsAccounted, IsStream, gone_at}
 use Rattle.sctp_model.proofs.OffsetSets.{reach_from, reach_below, reach_grows, sack_named}
 use Rattle.sctp_model.proofs.Lists.{all_weaker, all_push}
 use Rattle.sctp_model.proofs.PlansGrow.{at_put, off_put}
@@ -26,75 +27,58 @@ abbrev StreamWith : Direction → (ℕ → ℕ) → List ℕ → ℕ → ℕ →
 StreamWith w ssn taken passed skipped s q reads =
     IsStream w.sender.plan w.sender.gone w.sender.current (w.sender.next s) (ssn s) taken passed skipped s q reads
 
+-- more packets were given out, and nothing else changed
+given_out : (w : Direction) (datas : List Data) (sacks : List Sack) (forwards : List Forward)
+    → AllByRecursion (IsPiece w.sender.plan) datas
+    → AllByRecursion (IsHonest w.receiver.taken w.receiver.passed (reach w.receiver)) sacks
+    → AllByRecursion (IsForward w.sender.plan w.sender.gone w.over w.sender.acknowledged w.sender.reach) forwards
+    → Invariant w → Invariant (record w { datas = datas; sacks = sacks; forwards = forwards })
+given_out w datas sacks forwards pieces honest ahead h = record {
+  planned = h.planned;
+  sending = h.sending;
+  ascending = h.ascending;
+  datas = pieces;
+  taken = h.taken;
+  accounted = h.accounted;
+  passed = h.passed;
+  tails = h.tails;
+  sacks = honest;
+  acknowledged = h.acknowledged;
+  cumulative = h.cumulative;
+  behind = h.behind;
+  forwards = ahead;
+  released = h.released;
+  streams = h.streams;
+}
+
 pub keeps_resend : (w : Direction) (o : ℕ) → can_resend w.sender.plan o ≡ true → Invariant w
     → Invariant (record w { datas = w.datas ++ data_at w.sender.plan o ∷ [] })
 keeps_resend w o can h =
     let c = and_parts _ _ can in
-    record {
-      planned = h.planned;
-      sending = h.sending;
-      ascending = h.ascending;
-      datas = all_push _ w.datas _ h.datas record { known = ltb-true _ _ c.0; is = refl; sent = not-true _ c.1 };
-      taken = h.taken;
-      accounted = h.accounted;
-      passed = h.passed;
-      tails = h.tails;
-      sacks = h.sacks;
-      acknowledged = h.acknowledged;
-      cumulative = h.cumulative;
-      behind = h.behind;
-      forwards = h.forwards;
-      released = h.released;
-      streams = h.streams;
-    }
+    given_out w _ w.sacks w.forwards
+    (all_push _ w.datas _ h.datas record { known = ltb-true _ _ c.0; is = refl; sent = not-true _ c.1 })
+    h.sacks h.forwards h
 
 pub keeps_sack_made : (w : Direction) → Invariant w
     → Invariant (record w { sacks = w.sacks ++ sack_of w.receiver ∷ [] })
-keeps_sack_made w h = record {
-  planned = h.planned;
-  sending = h.sending;
-  ascending = h.ascending;
-  datas = h.datas;
-  taken = h.taken;
-  accounted = h.accounted;
-  passed = h.passed;
-  tails = h.tails;
-  sacks = all_push _ w.sacks _ h.sacks record {
-    reach = omega arith;
-    named = λ o n. ⊎_elim
-        (λ (l : o < reach w.receiver). reach_below w.receiver o l)
-        (λ (m : mem o w.receiver.taken ≡ true). inl m)
-        (sack_named w.receiver o n);
-  };
-  acknowledged = h.acknowledged;
-  cumulative = h.cumulative;
-  behind = h.behind;
-  forwards = h.forwards;
-  released = h.released;
-  streams = h.streams;
-}
+keeps_sack_made w h =
+    given_out w w.datas _ w.forwards h.datas
+    (all_push _ w.sacks _ h.sacks record {
+      reach = omega arith;
+      named = λ o n. ⊎_elim
+          (λ (l : o < reach w.receiver). reach_below w.receiver o l)
+          (λ (m : mem o w.receiver.taken ≡ true). inl m)
+          (sack_named w.receiver o n);
+    })
+    h.forwards h
 
 pub keeps_forward_made : (w : Direction) → length (gone_front w.sender) ≤ 16384 → 0 < length (gone_front w.sender)
     → Invariant w
     → Invariant (record w { forwards = w.forwards ++ forward_of w.sender w.over ∷ [] })
-keeps_forward_made w l some h = record {
-  planned = h.planned;
-  sending = h.sending;
-  ascending = h.ascending;
-  datas = h.datas;
-  taken = h.taken;
-  accounted = h.accounted;
-  passed = h.passed;
-  tails = h.tails;
-  sacks = h.sacks;
-  acknowledged = h.acknowledged;
-  cumulative = h.cumulative;
-  behind = h.behind;
-  forwards = all_push _ w.forwards _ h.forwards
-      (forward_made w.sender w.over h.planned h.sending h.ascending h.cumulative l some);
-  released = h.released;
-  streams = h.streams;
-}
+keeps_forward_made w l some h =
+    given_out w w.datas w.sacks _ h.datas h.sacks
+    (all_push _ w.forwards _ h.forwards
+    (forward_made w.sender w.over h.planned h.sending h.ascending h.cumulative l some)) h
 
 -- bytes acknowledged now for the first time
 bytes_added : (p : Plan) (gone : ℕ → ℕ → Bool) (acked named : ℕ → Bool) (s n : ℕ)
@@ -293,6 +277,76 @@ keeps_forward_comes w f t far l h = record {
     further : reach w.receiver ≤ reach (moved w.receiver f)
     further = reach_grows w.receiver (moved w.receiver f) (λ o m. m) (let b = reach_from w.receiver in omega arith)
 
+-- What else may become of the streams
+
+planned_span : (p : Plan) (over over' : ℕ → Bool) → ((s : ℕ) → over' s ≡ false → over s ≡ false) → IsPlanned p over
+    → IsPlanned p over'
+planned_span p over over' spans h = record {
+  size = h.size;
+  filled = h.filled;
+  known = h.known;
+  piece = h.piece;
+  one = h.one;
+  after = h.after;
+  before = h.before;
+  rises = h.rises;
+  pairs = λ s v. h.pairs s (spans s v);
+}
+
+-- a direction with the sequence numbers, the spans, the queues and the reads of another
+abbrev with_streams_of : Direction → Direction → Direction
+with_streams_of w v = record w {
+  sender = record w.sender { ssn = v.sender.ssn };
+  receiver = record w.receiver { queues = v.receiver.queues; is_open = v.receiver.is_open };
+  reads = v.reads;
+  over = v.over;
+}
+
+-- Some spans may be over now, and where a span isn't over the next sequence number stays.
+keeps_streams : (w v : Direction) → ((s : ℕ) → v.over s ≡ false → w.over s ≡ false)
+    → ((s : ℕ) → v.over s ≡ false → v.sender.ssn s ≡ w.sender.ssn s)
+    → IsAscending w.sender.plan w.sender.current v.sender.ssn w.sender.reach
+    → ((s : ℕ) → v.over s ≡ false
+    → StreamWith w w.sender.ssn w.receiver.taken w.receiver.passed (w.skipped s) s (live (v.receiver.queues s))
+    (v.reads s))
+    → Invariant w → Invariant (with_streams_of w v)
+keeps_streams w v spans same ascending streams h = record {
+  planned = planned_span w.sender.plan w.over v.over spans h.planned;
+  sending =
+      let g = h.sending in
+      record {
+        within = g.within;
+        counted = g.counted;
+        numbers = g.numbers;
+        earlier =
+            λ s i o a. subst (λ z. IsEarlier w.sender.plan s (w.sender.next s) z (place_at w.sender.plan o) o)
+            (sym (same s i)) (g.earlier s (spans s i) o a);
+        going = g.going;
+        closed = g.closed;
+        given_up = g.given_up;
+      };
+  ascending = ascending;
+  datas = h.datas;
+  taken = h.taken;
+  accounted = h.accounted;
+  passed = h.passed;
+  tails = h.tails;
+  sacks = h.sacks;
+  acknowledged = h.acknowledged;
+  cumulative = h.cumulative;
+  behind = h.behind;
+  forwards =
+      all_weaker _ _ _ (λ f. forward_later w.sender.plan w.sender.gone w.over v.over w.sender.acknowledged
+      w.sender.acknowledged
+      w.sender.reach w.sender.reach f (λ o m. m) (omega arith) spans) h.forwards;
+  released = h.released;
+  streams =
+      λ s i.
+      subst (λ z. IsStream w.sender.plan w.sender.gone w.sender.current (w.sender.next s) z w.receiver.taken
+      w.receiver.passed (w.skipped s) s (live (v.receiver.queues s)) (v.reads s))
+      (sym (same s i)) (streams s i);
+}
+
 -- The receiver's application
 
 pub keeps_read : (w : Direction) (s : ℕ) (q : Queue) (t : Taken) → w.receiver.queues s ≡ Some q → next q ≡ Some t
@@ -301,72 +355,52 @@ pub keeps_read : (w : Direction) (s : ℕ) (q : Queue) (t : Taken) → w.receive
       receiver = record w.receiver { queues = put w.receiver.queues s (Some t.rest) };
       reads = put w.reads s (w.reads s ++ t.got ∷ []);
     })
-keeps_read w s q t is e l h = record {
-  planned = h.planned;
-  sending = h.sending;
-  ascending = h.ascending;
-  datas = h.datas;
-  taken = h.taken;
-  accounted = h.accounted;
-  passed = h.passed;
-  tails = h.tails;
-  sacks = h.sacks;
-  acknowledged = h.acknowledged;
-  cumulative = h.cumulative;
-  behind = h.behind;
-  forwards = h.forwards;
-  released = h.released;
-  streams = λ r v. ⊎_elim
-      (λ (a : r ≡ s).
-      subst (λ z. StreamWith w w.sender.ssn w.receiver.taken w.receiver.passed (w.skipped r) r (live z)
-      (put w.reads s (w.reads s ++ t.got ∷ []) r)) (sym (at_put w.receiver.queues s r (Some t.rest) a))
-      (subst (λ z. StreamWith w w.sender.ssn w.receiver.taken w.receiver.passed (w.skipped r) r t.rest z)
-      (sym (at_put w.reads s r (w.reads s ++ t.got ∷ []) a))
-      (subst (λ z. StreamWith w w.sender.ssn w.receiver.taken w.receiver.passed (w.skipped z) z t.rest
-      (w.reads s ++ t.got ∷ [])) (sym a)
-      (stream_read t
-      h.planned (subst (λ z. w.over z ≡ false) a v) h.sending (λ o m. (h.taken o m).0) (l.unread s)
-      (subst (λ z. StreamWith w w.sender.ssn w.receiver.taken w.receiver.passed (w.skipped s) s (live z) (w.reads s)) is
-      (h.streams s (subst (λ z. w.over z ≡ false) a v))) e))))
-      (λ (ne : r ≡ s → ⊥).
-      subst (λ z. StreamWith w w.sender.ssn w.receiver.taken w.receiver.passed (w.skipped r) r (live z)
-      (put w.reads s (w.reads s ++ t.got ∷ []) r)) (sym (off_put w.receiver.queues s r (Some t.rest) ne))
-      (subst (λ z. StreamWith w w.sender.ssn w.receiver.taken w.receiver.passed (w.skipped r) r
-      (live (w.receiver.queues r)) z) (sym (off_put w.reads s r (w.reads s ++ t.got ∷ []) ne))
-      (h.streams r v)))
-      (cases_eq r s);
-}
+keeps_read w s q t is e l h =
+    keeps_streams w
+    (record w {
+      receiver = record w.receiver { queues = put w.receiver.queues s (Some t.rest) };
+      reads = put w.reads s (w.reads s ++ t.got ∷ []);
+    })
+    (λ r v. v) (λ r v. refl) h.ascending
+    (λ r v. ⊎_elim
+    (λ (a : r ≡ s).
+    subst (λ z. StreamWith w w.sender.ssn w.receiver.taken w.receiver.passed (w.skipped r) r (live z)
+    (put w.reads s (w.reads s ++ t.got ∷ []) r)) (sym (at_put w.receiver.queues s r (Some t.rest) a))
+    (subst (λ z. StreamWith w w.sender.ssn w.receiver.taken w.receiver.passed (w.skipped r) r t.rest z)
+    (sym (at_put w.reads s r (w.reads s ++ t.got ∷ []) a))
+    (subst (λ z. StreamWith w w.sender.ssn w.receiver.taken w.receiver.passed (w.skipped z) z t.rest
+    (w.reads s ++ t.got ∷ [])) (sym a)
+    (stream_read t
+    h.planned (subst (λ z. w.over z ≡ false) a v) h.sending (λ o m. (h.taken o m).0) (l.unread s)
+    (subst (λ z. StreamWith w w.sender.ssn w.receiver.taken w.receiver.passed (w.skipped s) s (live z) (w.reads s)) is
+    (h.streams s (subst (λ z. w.over z ≡ false) a v))) e))))
+    (λ (ne : r ≡ s → ⊥).
+    subst (λ z. StreamWith w w.sender.ssn w.receiver.taken w.receiver.passed (w.skipped r) r (live z)
+    (put w.reads s (w.reads s ++ t.got ∷ []) r)) (sym (off_put w.receiver.queues s r (Some t.rest) ne))
+    (subst (λ z. StreamWith w w.sender.ssn w.receiver.taken w.receiver.passed (w.skipped r) r
+    (live (w.receiver.queues r)) z) (sym (off_put w.reads s r (w.reads s ++ t.got ∷ []) ne))
+    (h.streams r v)))
+    (cases_eq r s))
+    h
 
 -- another queue for one stream that is over, or one that reads the same
 keeps_queue : (w : Direction) (s : ℕ) (q : Option Queue) → (w.over s ≡ false → live q ≡ live (w.receiver.queues s))
     → Invariant w
     → Invariant (record w { receiver = record w.receiver { queues = put w.receiver.queues s q } })
-keeps_queue w s q same h = record {
-  planned = h.planned;
-  sending = h.sending;
-  ascending = h.ascending;
-  datas = h.datas;
-  taken = h.taken;
-  accounted = h.accounted;
-  passed = h.passed;
-  tails = h.tails;
-  sacks = h.sacks;
-  acknowledged = h.acknowledged;
-  cumulative = h.cumulative;
-  behind = h.behind;
-  forwards = h.forwards;
-  released = h.released;
-  streams = λ r v. ⊎_elim
-      (λ (a : r ≡ s).
-      subst (λ z. StreamWith w w.sender.ssn w.receiver.taken w.receiver.passed (w.skipped r) r (live z) (w.reads r))
-      (sym (at_put w.receiver.queues s r q a))
-      (subst (λ z. StreamWith w w.sender.ssn w.receiver.taken w.receiver.passed (w.skipped r) r z (w.reads r))
-      (ap (λ z. live (w.receiver.queues z)) a ∙ sym (same (subst (λ z. w.over z ≡ false) a v))) (h.streams r v)))
-      (λ (ne : r ≡ s → ⊥).
-      subst (λ z. StreamWith w w.sender.ssn w.receiver.taken w.receiver.passed (w.skipped r) r (live z) (w.reads r))
-      (sym (off_put w.receiver.queues s r q ne)) (h.streams r v))
-      (cases_eq r s);
-}
+keeps_queue w s q same h =
+    keeps_streams w (record w { receiver = record w.receiver { queues = put w.receiver.queues s q } })
+    (λ r v. v) (λ r v. refl) h.ascending
+    (λ r v. ⊎_elim
+    (λ (a : r ≡ s).
+    subst (λ z. StreamWith w w.sender.ssn w.receiver.taken w.receiver.passed (w.skipped r) r (live z) (w.reads r))
+    (sym (at_put w.receiver.queues s r q a))
+    (subst (λ z. StreamWith w w.sender.ssn w.receiver.taken w.receiver.passed (w.skipped r) r z (w.reads r))
+    (ap (λ z. live (w.receiver.queues z)) a ∙ sym (same (subst (λ z. w.over z ≡ false) a v))) (h.streams r v)))
+    (λ (ne : r ≡ s → ⊥).
+    subst (λ z. StreamWith w w.sender.ssn w.receiver.taken w.receiver.passed (w.skipped r) r (live z) (w.reads r))
+    (sym (off_put w.receiver.queues s r q ne)) (h.streams r v))
+    (cases_eq r s))
+    h
 
 pub keeps_open : (w : Direction) (s : ℕ) → Invariant w
     → Invariant
@@ -383,71 +417,16 @@ keeps_replace w s q over h = keeps_queue w s q (λ v. absurd (true≢false (sym 
 
 pub keeps_close : (w : Direction) → Invariant w
     → Invariant (record w { receiver = record w.receiver { is_open = false } })
-keeps_close w h = record {
-  planned = h.planned;
-  sending = h.sending;
-  ascending = h.ascending;
-  datas = h.datas;
-  taken = h.taken;
-  accounted = h.accounted;
-  passed = h.passed;
-  tails = h.tails;
-  sacks = h.sacks;
-  acknowledged = h.acknowledged;
-  cumulative = h.cumulative;
-  behind = h.behind;
-  forwards = h.forwards;
-  released = h.released;
-  streams = h.streams;
-}
+keeps_close w h =
+    keeps_streams w (record w { receiver = record w.receiver { is_open = false } })
+    (λ s v. v) (λ s v. refl) h.ascending h.streams h
 
 -- Past a span
 
-planned_span : (p : Plan) (over over' : ℕ → Bool) → ((s : ℕ) → over' s ≡ false → over s ≡ false) → IsPlanned p over
-    → IsPlanned p over'
-planned_span p over over' spans h = record {
-  size = h.size;
-  filled = h.filled;
-  known = h.known;
-  piece = h.piece;
-  one = h.one;
-  after = h.after;
-  before = h.before;
-  rises = h.rises;
-  pairs = λ s v. h.pairs s (spans s v);
-}
-
 pub keeps_end : (w : Direction) (s : ℕ) → Invariant w → Invariant (record w { over = put w.over s true })
-keeps_end w s h = record {
-  planned = planned_span w.sender.plan w.over (put w.over s true) spans h.planned;
-  sending =
-      let g = h.sending in
-      record {
-        within = g.within;
-        counted = g.counted;
-        numbers = g.numbers;
-        earlier = λ t v. g.earlier t (spans t v);
-        going = g.going;
-        closed = g.closed;
-        given_up = g.given_up;
-      };
-  ascending = h.ascending;
-  datas = h.datas;
-  taken = h.taken;
-  accounted = h.accounted;
-  passed = h.passed;
-  tails = h.tails;
-  sacks = h.sacks;
-  acknowledged = h.acknowledged;
-  cumulative = h.cumulative;
-  behind = h.behind;
-  forwards =
-      all_weaker _ _ _ (λ f. forward_later w.sender.plan w.sender.gone w.over (put w.over s true) w.sender.acknowledged
-      w.sender.acknowledged
-      w.sender.reach w.sender.reach f (λ o m. m) (omega arith) spans) h.forwards;
-  released = h.released;
-  streams = λ t v. h.streams t (spans t v);
-}
+keeps_end w s h =
+    keeps_streams w (record w { over = put w.over s true }) spans (λ t v. refl) h.ascending
+    (λ t v. h.streams t (spans t v)) h
   where
     spans : (t : ℕ) → put w.over s true t ≡ false → w.over t ≡ false
     spans t v = ⊎_elim
@@ -457,39 +436,10 @@ keeps_end w s h = record {
 
 pub keeps_restart : (w : Direction) (s : ℕ) → can_restart w s ≡ true → Invariant w
     → Invariant (record w { sender = record w.sender { ssn = put w.sender.ssn s 0 } })
-keeps_restart w s can h = record {
-  planned = h.planned;
-  sending =
-      let g = h.sending in
-      record {
-        within = g.within;
-        counted = g.counted;
-        numbers = g.numbers;
-        earlier =
-            λ t v o a. subst (λ z. IsEarlier w.sender.plan t (w.sender.next t) z (place_at w.sender.plan o) o)
-            (sym (same t v)) (g.earlier t v o a);
-        going = g.going;
-        closed = g.closed;
-        given_up = g.given_up;
-      };
-  ascending = ascending_restart w.sender.plan w.sender.current w.sender.ssn w.sender.reach s rest.0 rest.1 h.ascending;
-  datas = h.datas;
-  taken = h.taken;
-  accounted = h.accounted;
-  passed = h.passed;
-  tails = h.tails;
-  sacks = h.sacks;
-  acknowledged = h.acknowledged;
-  cumulative = h.cumulative;
-  behind = h.behind;
-  forwards = h.forwards;
-  released = h.released;
-  streams =
-      λ t v.
-      subst (λ z. IsStream w.sender.plan w.sender.gone w.sender.current (w.sender.next t) z w.receiver.taken
-      w.receiver.passed (w.skipped t) t (live (w.receiver.queues t)) (w.reads t))
-      (sym (same t v)) (h.streams t v);
-}
+keeps_restart w s can h =
+    keeps_streams w (record w { sender = record w.sender { ssn = put w.sender.ssn s 0 } }) (λ t v. v) same
+    (ascending_restart w.sender.plan w.sender.current w.sender.ssn w.sender.reach s rest.0 rest.1 h.ascending)
+    h.streams h
   where
     parts : (w.over s ≡ true)
         × ((none_of s (drop w.sender.reach w.sender.plan.places) && none_goes_on s w.sender.current) ≡ true)

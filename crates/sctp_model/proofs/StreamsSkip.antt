@@ -20,6 +20,7 @@ use Rattle.sctp_model.proofs.Lists.{all_filter}
 use Rattle.sctp_model.proofs.NumberWindows.{up_to_is, next_is}
 use Rattle.sctp_model.proofs.CompleteRuns.{at_filter}
 use Rattle.sctp_model.proofs.NextOrdered.{window}
+use Rattle.sctp_model.proofs.OrderedHalves.{ordered_kept}
 
 -- Below the reach of a FORWARD TSN a message that stays is whole.
 
@@ -101,38 +102,9 @@ module _ (p : Plan) (gone : ℕ → ℕ → Bool) (current : Option Place) (next
   ordered_on : (low end : ℕ) (q q' : Queue) (reads : List Got) → q'.cursor ≡ q.cursor → q'.ordered ≡ q.ordered
       → passed ≤ passed' → IsOrderedPast passed low end q reads
       → IsOrderedPast passed' low end q' reads
-  ordered_on low end q q' reads c o far h = record {
-    cursor = h.cursor;
-    is = c ∙ h.is;
-    above = h.above;
-    latest = h.latest;
-    origin = ⊎_elim (λ (x : skipped ≡ 0). inl x) (λ (k : IsSkipped p gone passed s skipped). inr (record {
-      offset = k.offset;
-      below = let b = k.below in omega arith;
-      at = k.at;
-      given_up = k.given_up;
-      is = k.is;
-    })) h.origin;
-    begun = h.begun;
-    going = h.going;
-    held = subst (AllByRecursion (IsHeld p taken s true low)) (sym o) h.held;
-    past = λ y a l. ⊎_elim (λ (m : mem y taken ≡ true). inl m) (λ (b : y < passed). inr (omega arith)) (h.past y a l);
-    later = h.later;
-    link = h.link;
-    until = h.until;
-    gap = h.gap;
-    full = λ none.
-        let f = h.full none in
-        record {
-          unskipped = f.unskipped;
-          level = f.level;
-          exact = f.exact;
-          level_next = f.level_next;
-          held = λ y a m l. subst (λ z. at y z ≡ Some (data_at p y)) (sym o) (f.held y a m l);
-          read = f.read;
-          letters = f.letters;
-        };
-  }
+  ordered_on low end q q' reads c o far h =
+      ordered_kept c (subst (AllByRecursion (IsHeld p taken s true low)) (sym o) h.held) (λ y m. m) far
+      (λ y a m f. subst (λ z. at y z ≡ Some (data_at p y)) (sym o) (f m)) (λ i m. m) (λ kept. refl) h
 
 module _ {p : Plan} {over : ℕ → Bool} {current : Option Place} {next ssn : ℕ → ℕ} {begun gone : ℕ → ℕ → Bool}
     {taken : List ℕ} {passed skipped s : ℕ} {acked : ℕ → Bool} {now low end : ℕ} {q : Queue} {reads : List Got}

@@ -13,6 +13,7 @@ use Rattle.sctp_model.specs.Invariants.{IsPlanned, IsPiece, IsHeld, IsOrdered, I
 use Rattle.sctp_model.proofs.Lists.{all_weaker}
 use Rattle.sctp_model.proofs.NumberWindows.{before_is}
 use Rattle.sctp_model.proofs.NextOrdered.{window}
+use Rattle.sctp_model.proofs.OrderedHalves.{ordered_kept}
 
 -- taken in before, or just now
 pub mem_new : (x o : ℕ) (taken : List ℕ) → mem o (x ∷ taken) ≡ true → (x ≡ o) ⊎ (mem o taken ≡ true)
@@ -89,38 +90,15 @@ module _ (p : Plan) (gone : ℕ → ℕ → Bool) (current : Option Place) (next
       → q'.ordered ≡ q.ordered → (IsAt p s true x → ⊥)
       → IsOrderedOf taken low end q reads
       → IsOrderedOf (x ∷ taken) low end q' reads
-  ordered_aside {x = x} low end q q' reads c o apart h = record {
-    cursor = h.cursor;
-    is = c ∙ h.is;
-    above = h.above;
-    latest = h.latest;
-    origin = h.origin;
-    begun = h.begun;
-    going = h.going;
-    held =
-        subst (AllByRecursion (IsHeld p (x ∷ taken) s true low)) (sym o)
-        (all_weaker _ _ _ (λ d. held_more p taken x s low true d) h.held);
-    past =
-        λ y a l. ⊎_elim (λ (m : mem y taken ≡ true). inl (mem_old x y taken m)) (λ (b : y < passed). inr b)
-        (h.past y a l);
-    later = h.later;
-    link = h.link;
-    until = h.until;
-    gap = h.gap;
-    full = λ none.
-        let f = h.full none in
-        record {
-          unskipped = f.unskipped;
-          level = f.level;
-          exact = f.exact;
-          level_next = f.level_next;
-          held = λ y a m l. subst (λ z. at y z ≡ Some (data_at p y)) (sym o) (f.held y a
-              (⊎_elim (λ (e : x ≡ y). absurd (apart (subst (IsAt p s true) (sym e) a))) (λ (b : mem y taken ≡ true). b)
-              (mem_new x y taken m)) l);
-          read = f.read;
-          letters = f.letters;
-        };
-  }
+  ordered_aside {x = x} low end q q' reads c o apart h =
+      ordered_kept c
+      (subst (AllByRecursion (IsHeld p (x ∷ taken) s true low)) (sym o)
+      (all_weaker _ _ _ (λ d. held_more p taken x s low true d) h.held))
+      (λ y m. mem_old x y taken m) (omega arith)
+      (λ y a m f. subst (λ z. at y z ≡ Some (data_at p y)) (sym o) (f
+      (⊎_elim (λ (e : x ≡ y). absurd (apart (subst (IsAt p s true) (sym e) a))) (λ (b : mem y taken ≡ true). b)
+      (mem_new x y taken m))))
+      (λ i m. m) (λ kept. refl) h
 
   -- DATA of another stream
   pub stream_aside : (x : ℕ) (q : Queue) (reads : List Got) → ((place_at p x).stream ≡ s → ⊥)
@@ -168,48 +146,24 @@ module _ (p : Plan) (gone : ℕ → ℕ → Bool) (current : Option Place) (next
       (record q { ordered = d ∷ q.ordered }) reads
   ordered_pushed low end q reads near h = (
     cond-false (ssn_lt d.ssn q.cursor) q (record q { ordered = d ∷ q.ordered }) test,
-    record {
-      cursor = h.cursor;
-      is = h.is;
-      above = h.above;
-      latest = h.latest;
-      origin = h.origin;
-      begun = h.begun;
-      going = h.going;
-      held = (
-        record {
-          is = piece.is;
-          at = a;
-          sent = piece.sent;
-          taken_in = or_left _ _ (eq-eqb d.offset d.offset refl);
-          above = let b = ahead in let c = h.above in omega arith;
-        },
-        all_weaker _ _ _ (λ e. held_more p taken d.offset s low true e) h.held,
-      );
-      past =
-          λ y b l. ⊎_elim (λ (m : mem y taken ≡ true). inl (mem_old d.offset y taken m)) (λ (c : y < passed). inr c)
-          (h.past y b l);
-      later = h.later;
-      link = h.link;
-      until = h.until;
-      gap = h.gap;
-      full = λ none.
-          let f = h.full none in
-          record {
-            unskipped = f.unskipped;
-            level = f.level;
-            exact = f.exact;
-            level_next = f.level_next;
-            held = λ y b m l. ⊎_elim
-                (λ (e : eqb d.offset y ≡ true). cond-true (eqb d.offset y) (Some d) (at y q.ordered) e
-                ∙ ap Some (piece.is ∙ ap (data_at p) (eqb-true _ _ e)))
-                (λ (e : eqb d.offset y ≡ false). cond-false (eqb d.offset y) (Some d) (at y q.ordered) e
-                ∙ f.held y b (sym (ap (λ z. z || mem y taken) e) ∙ m) l)
-                (cases_Bool (eqb d.offset y));
-            read = f.read;
-            letters = f.letters;
-          };
-    },
+    ordered_kept refl (
+      record {
+        is = piece.is;
+        at = a;
+        sent = piece.sent;
+        taken_in = or_left _ _ (eq-eqb d.offset d.offset refl);
+        above = let b = ahead in let c = h.above in omega arith;
+      },
+      all_weaker _ _ _ (λ e. held_more p taken d.offset s low true e) h.held,
+    )
+        (λ y m. mem_old d.offset y taken m) (omega arith)
+        (λ y b m f. ⊎_elim
+        (λ (e : eqb d.offset y ≡ true). cond-true (eqb d.offset y) (Some d) (at y q.ordered) e
+        ∙ ap Some (piece.is ∙ ap (data_at p) (eqb-true _ _ e)))
+        (λ (e : eqb d.offset y ≡ false). cond-false (eqb d.offset y) (Some d) (at y q.ordered) e
+        ∙ f (sym (ap (λ z. z || mem y taken) e) ∙ m))
+        (cases_Bool (eqb d.offset y)))
+        (λ i m. m) (λ kept. refl) h,
   )
     where
       ahead : h.cursor ≤ (place_at p d.offset).ssn
