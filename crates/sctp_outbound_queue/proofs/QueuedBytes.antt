@@ -162,21 +162,21 @@ released_bound run next q id waiting outstanding marked settled kept =
 -- the kept sums after a change
 
 -- a message more waits, under a number that is its own
-pub kept_more : {ms2 : List Waiting} {w w2 o b all k s : ℕ} (run : Bool) (next : Option ℕ) (id : ℕ) (ms : List Waiting)
-    (ps : List InFlight) (m : Waiting) → AreKept ms ps w o k s run next → b ≡ min (message_bytes m) (2 ^ 64 - 1)
-    → w2 ≡ min (w + b) (2 ^ 64 - 1) → all ≡ min (w2 + o) (2 ^ 64 - 1) → (all ≡ 2 ^ 64 - 1 → ⊥)
-    → ms2 ≡ ms ++ accepted id m ∷ []
-    → AreKept ms2 ps w2 o k s (run && not (is_timed m.message.policy)) next
-kept_more run next id ms ps m kept bytes waiting total below more =
-    let push = sum_by_push message_bytes ms (accepted id m) in
-    rw more (
-      omega (arith, push, kept.0, bytes, waiting, total, below, kept.2),
-      kept.1,
-      omega (arith, push, kept.0, bytes, waiting, total, below, kept.2),
-      kept.3,
-      kept.4,
-      timely_more run next ms ps (accepted id m) refl kept.5,
-    )
+module _ (run : Bool) (next : Option ℕ) (id : ℕ) (ms : List Waiting) (ps : List InFlight) (m : Waiting) where
+  pub kept_more : {ms2 : List Waiting} {w w2 o b all k s : ℕ} → AreKept ms ps w o k s run next
+      → b ≡ min (message_bytes m) (2 ^ 64 - 1) → w2 ≡ min (w + b) (2 ^ 64 - 1) → all ≡ min (w2 + o) (2 ^ 64 - 1)
+      → (all ≡ 2 ^ 64 - 1 → ⊥) → ms2 ≡ ms ++ accepted id m ∷ []
+      → AreKept ms2 ps w2 o k s (run && not (is_timed m.message.policy)) next
+  kept_more kept bytes waiting total below more =
+      let push = sum_by_push message_bytes ms (accepted id m) in
+      rw more (
+        omega (arith, push, kept.0, bytes, waiting, total, below, kept.2),
+        kept.1,
+        omega (arith, push, kept.0, bytes, waiting, total, below, kept.2),
+        kept.3,
+        kept.4,
+        timely_more run next ms ps (accepted id m) refl kept.5,
+      )
 
 pub kept_sent : {ms2 : List Waiting} {ps1 ps2 : List InFlight} {w o k b s : ℕ} {p : InFlight} (run : Bool)
     (next : Option ℕ) (now : ℕ) (ms : List Waiting)

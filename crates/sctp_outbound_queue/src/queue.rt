@@ -359,9 +359,10 @@ impl OutboundQueue {
         }
     }
 
-    /// Abandons the message of the piece in flight that is `index` TSNs past the first whole (RFC 3758 section 3.5):
-    /// every piece of it that is in flight, an acknowledged one too, and its unsent pieces, for which a marker takes the
-    /// next TSN. Answers what is released; None where there is no such piece. Goes over what is in flight.
+    /// Abandons the message of the piece in flight that is `index` TSNs past the first whole (RFC 3758 section 3.5).
+    /// That is every piece of it in flight, an acknowledged one too, and its unsent pieces. For the unsent ones a
+    /// marker takes the next TSN. Answers what is released; None where there is no such piece. Goes over what is in
+    /// flight.
     pub fn abandon(&mut self, index: usize) -> Result<Option<Released>, AllocError>
         ensures ok { IfOk result (λ released. abandoned_at self.old index ≡ (self.new, released)) }
         ensures err { OnErr result (self.new ≡ self.old) }
