@@ -14,115 +14,179 @@ use Rattle.sctp_wire_types.specs.declared.error.Error.{Error}
 use Rattle.sctp_receive_queues.specs.Ascending.{Ascend, AreEndsBefore, AreEndsBehind, IsBefore, IsBehind}
 use Rattle.sctp_receive_queues.specs.Reassembly.{Group, grown, grown_at, put_at, index_of_ssn, index_for_ssn}
 
--- the test of serial numbers as two bounds
-abbrev IsLess : ℕ → ℕ → Type 0
-IsLess a b = (0 < ssn_past a b) × (ssn_past a b < 2 ^ 15)
+-- the test of serial numbers as bounds, where the first is in range
+record IsLess (a b : ℕ) : Type 0 where
+  pub in_range : a < 2 ^ 16
+  pub past : 0 < ssn_past a b
+  pub near : ssn_past a b < 2 ^ 15
 
-is_less : (a b : ℕ) → ssn_lt a b ≡ true → IsLess a b
-is_less a b e = grind (arith, nat_tests, e)
+is_less : (a b : ℕ) → a < 2 ^ 16 → ssn_lt a b ≡ true → IsLess a b
+is_less a b r e =
+    record { in_range = r; past = grind (arith, nat_tests, e); near = grind (arith, nat_tests, e) }
 
-less_is : (a b : ℕ) → IsLess a b → ssn_lt a b ≡ true
-less_is a b e = grind (arith, nat_tests, e.0, e.1)
+less_is : (a b : ℕ) → 0 < ssn_past a b → ssn_past a b < 2 ^ 15 → ssn_lt a b ≡ true
+less_is a b past near = grind (arith, nat_tests, past, near)
 
 -- an SSN between two that are before this one is before it too
-between_before : (f g l s : ℕ) → f < 2 ^ 16 → g < 2 ^ 16 → l < 2 ^ 16 → s < 2 ^ 16 → IsLess f g → IsLess g l
-    → IsLess f l → IsLess f s → IsLess l s → IsLess g s
-between_before f g l s bf bg bl bs fg gl fl fs ls = (
-  omega (arith, bf, bg, bl, fg.0, fg.1, gl.0, gl.1, fl.0, fl.1, fs.0, fs.1, ls.0, ls.1, bs),
-  omega (arith, bf, bg, bl, fg.0, fg.1, gl.0, gl.1, fl.0, fl.1, fs.0, fs.1, ls.0, ls.1, bs),
-)
+between_before : {f g l s : ℕ} → s < 2 ^ 16 → IsLess f g → IsLess g l → IsLess f l → IsLess f s → IsLess l s
+    → ssn_lt g s ≡ true
+between_before {g = g} {s = s} b fg gl fl fs ls =
+    less_is g s
+    (omega (
+      arith,
+      b,
+      fg.in_range,
+      gl.in_range,
+      ls.in_range,
+      fg.past,
+      fg.near,
+      gl.past,
+      gl.near,
+      fl.past,
+      fl.near,
+      fs.past,
+      fs.near,
+      ls.past,
+      ls.near,
+    ))
+    (omega (
+      arith,
+      b,
+      fg.in_range,
+      gl.in_range,
+      ls.in_range,
+      fg.past,
+      fg.near,
+      gl.past,
+      gl.near,
+      fl.past,
+      fl.near,
+      fs.past,
+      fs.near,
+      ls.past,
+      ls.near,
+    ))
 
 -- an SSN between two that are past this one is past it too
-between_behind : (f g l s : ℕ) → f < 2 ^ 16 → g < 2 ^ 16 → l < 2 ^ 16 → s < 2 ^ 16 → IsLess f g → IsLess g l
-    → IsLess f l → IsLess s f → IsLess s l → IsLess s g
-between_behind f g l s bf bg bl bs fg gl fl sf sl = (
-  omega (arith, bf, bg, bl, fg.0, fg.1, gl.0, gl.1, fl.0, fl.1, sf.0, sf.1, sl.0, sl.1, bs),
-  omega (arith, bf, bg, bl, fg.0, fg.1, gl.0, gl.1, fl.0, fl.1, sf.0, sf.1, sl.0, sl.1, bs),
-)
+between_behind : {f g l s : ℕ} → l < 2 ^ 16 → IsLess f g → IsLess g l → IsLess f l → IsLess s f → IsLess s l
+    → ssn_lt s g ≡ true
+between_behind {g = g} {s = s} b fg gl fl sf sl =
+    less_is s g
+    (omega (
+      arith,
+      b,
+      fg.in_range,
+      gl.in_range,
+      sf.in_range,
+      fg.past,
+      fg.near,
+      gl.past,
+      gl.near,
+      fl.past,
+      fl.near,
+      sf.past,
+      sf.near,
+      sl.past,
+      sl.near,
+    ))
+    (omega (
+      arith,
+      b,
+      fg.in_range,
+      gl.in_range,
+      sf.in_range,
+      fg.past,
+      fg.near,
+      gl.past,
+      gl.near,
+      fl.past,
+      fl.near,
+      sf.past,
+      sf.near,
+      sl.past,
+      sl.near,
+    ))
 
 -- an SSN before another is not the same
 less_apart : (a b : ℕ) → a < 2 ^ 16 → b < 2 ^ 16 → ssn_lt a b ≡ true → eqb a b ≡ false
-less_apart a b ba bb e = let l = is_less a b e in ne_eqb a b (λ same. omega (arith, same, l.0, ba, bb))
+less_apart a b ba bb e = let l = is_less a b ba e in ne_eqb a b (λ same. omega (arith, same, l.past, ba, bb))
 
 -- and that one is not before it
 less_one_way : (a b : ℕ) → a < 2 ^ 16 → b < 2 ^ 16 → ssn_lt a b ≡ true → ssn_lt b a ≡ false
 less_one_way a b ba bb e =
-    let l = is_less a b e in
+    let l = is_less a b ba e in
     ⊎_elim
-    (λ (r : ssn_lt b a ≡ true). let m = is_less b a r in absurd (omega (arith, l.0, l.1, m.0, m.1, ba, bb)))
+    (λ (r : ssn_lt b a ≡ true).
+    let m = is_less b a bb r in absurd (omega (arith, l.past, l.near, m.past, m.near, ba, bb)))
     (λ (r : ssn_lt b a ≡ false). r)
     (cases_Bool (ssn_lt b a))
 
 -- Ends speak for what is between them.
 
--- where the ends in front of an index are before an SSN, all in front of it are
-pub all_before : (gs : List Group) (index s : ℕ) → Ascend gs → index ≤ length gs → s < 2 ^ 16
-    → AreEndsBefore gs index s → (k : ℕ) (d : Group) → k < index → IsBefore s (get_or gs k d)
-all_before gs index s a le b e k d h =
-    let ends = e (omega (arith, h)) in
-    let first = ends.0 d in
-    let last = ends.1 d in
-    ⊎_elim
-    (λ (z : 0 < k).
-    ⊎_elim
-    (λ (w : k < index - 1).
-    let fg = a 0 k d z (omega (arith, h, le)) in
-    let gl = a k (index - 1) d w (omega (arith, h, le)) in
-    let fl = a 0 (index - 1) d (omega (arith, z, w)) (omega (arith, h, le)) in (
-      gl.0,
-      less_is (get_or gs k d).ssn s
-          (between_before (get_or gs 0 d).ssn (get_or gs k d).ssn (get_or gs (index - 1) d).ssn s first.0 gl.0 last.0 b
-          (is_less _ _ fg.1) (is_less _ _ gl.1) (is_less _ _ fl.1) (is_less _ _ first.1) (is_less _ _ last.1)),
-    ))
-    (λ (w : index - 1 ≤ k). let same : k ≡ index - 1 = omega (arith, h, w) in rw same last)
-    (cases_lt k (index - 1)))
-    (λ (z : k ≤ 0). let same : k ≡ 0 = omega (arith, z) in rw same first)
-    (cases_lt 0 k)
+-- an SSN, and messages whose SSNs ascend
+module _ (gs : List Group) (s : ℕ) (a : Ascend gs) (b : s < 2 ^ 16) where
+  -- where the ends in front of an index are before the SSN, all in front of it are
+  all_before : (index : ℕ) → index ≤ length gs → AreEndsBefore gs index s → (k : ℕ) (d : Group) → k < index
+      → IsBefore s (get_or gs k d)
+  all_before index le e k d h =
+      let ends = e (omega (arith, h)) in
+      let first = ends.0 d in
+      let last = ends.1 d in
+      ⊎_elim
+      (λ (z : 0 < k).
+      ⊎_elim
+      (λ (w : k < index - 1).
+      let fg = a 0 k d z (omega (arith, h, le)) in
+      let gl = a k (index - 1) d w (omega (arith, h, le)) in
+      let fl = a 0 (index - 1) d (omega (arith, z, w)) (omega (arith, h, le)) in (
+        gl.0,
+        between_before b (is_less _ _ fg.0 fg.1) (is_less _ _ gl.0 gl.1) (is_less _ _ fl.0 fl.1)
+            (is_less _ _ first.0 first.1) (is_less _ _ last.0 last.1),
+      ))
+      (λ (w : index - 1 ≤ k). let same : k ≡ index - 1 = omega (arith, h, w) in rw same last)
+      (cases_lt k (index - 1)))
+      (λ (z : k ≤ 0). let same : k ≡ 0 = omega (arith, z) in rw same first)
+      (cases_lt 0 k)
 
--- where the ends from an index on are past an SSN, all from it on are
-pub all_behind : (gs : List Group) (index s : ℕ) → Ascend gs → s < 2 ^ 16
-    → AreEndsBehind gs index s → (k : ℕ) (d : Group) → index ≤ k → k < length gs → IsBehind s (get_or gs k d)
-all_behind gs index s a b e k d le h =
-    let ends = e (omega (arith, le, h)) in
-    let first = ends.0 d in
-    let last = ends.1 d in
-    ⊎_elim
-    (λ (z : index < k).
-    ⊎_elim
-    (λ (w : k < length gs - 1).
-    let fg = a index k d z h in
-    let gl = a k (length gs - 1) d w (omega (arith, h)) in
-    let fl = a index (length gs - 1) d (omega (arith, z, w)) (omega (arith, h)) in (
-      gl.0,
-      less_is s (get_or gs k d).ssn
-          (between_behind (get_or gs index d).ssn (get_or gs k d).ssn (get_or gs (length gs - 1) d).ssn s first.0 gl.0
-          last.0 b
-          (is_less _ _ fg.1) (is_less _ _ gl.1) (is_less _ _ fl.1) (is_less _ _ first.1) (is_less _ _ last.1)),
-    ))
-    (λ (w : length gs - 1 ≤ k). let same : k ≡ length gs - 1 = omega (arith, h, w) in rw same last)
-    (cases_lt k (length gs - 1)))
-    (λ (z : k ≤ index). let same : k ≡ index = omega (arith, z, le) in rw same first)
-    (cases_lt index k)
+  -- where the ends from an index on are past the SSN, all from it on are
+  all_behind : (index : ℕ) → AreEndsBehind gs index s → (k : ℕ) (d : Group) → index ≤ k → k < length gs
+      → IsBehind s (get_or gs k d)
+  all_behind index e k d le h =
+      let ends = e (omega (arith, le, h)) in
+      let first = ends.0 d in
+      let last = ends.1 d in
+      ⊎_elim
+      (λ (z : index < k).
+      ⊎_elim
+      (λ (w : k < length gs - 1).
+      let fg = a index k d z h in
+      let gl = a k (length gs - 1) d w (omega (arith, h)) in
+      let fl = a index (length gs - 1) d (omega (arith, z, w)) (omega (arith, h)) in (
+        gl.0,
+        between_behind last.0 (is_less _ _ fg.0 fg.1) (is_less _ _ gl.0 gl.1) (is_less _ _ fl.0 fl.1)
+            (is_less _ _ b first.1) (is_less _ _ b last.1),
+      ))
+      (λ (w : length gs - 1 ≤ k). let same : k ≡ length gs - 1 = omega (arith, h, w) in rw same last)
+      (cases_lt k (length gs - 1)))
+      (λ (z : k ≤ index). let same : k ≡ index = omega (arith, z, le) in rw same first)
+      (cases_lt index k)
 
--- Searches from the end.
+  -- Searches from the end.
 
--- where its SSN is past the ends no message has it
-pub none_has : (gs : List Group) (s : ℕ) → Ascend gs → s < 2 ^ 16 → AreEndsBefore gs (length gs) s
-    → index_of_ssn s gs ≡ None
-none_has gs s a b e =
-    absent (λ (g : Group). eqb g.ssn s) gs
-    (λ k d h. let f = all_before gs (length gs) s a (omega arith) b e k d h in
-    less_apart (get_or gs k d).ssn s f.0 b f.1)
+  -- where the SSN is past the ends no message has it
+  pub none_has : AreEndsBefore gs (length gs) s → index_of_ssn s gs ≡ None
+  none_has e =
+      absent (λ (g : Group). eqb g.ssn s) gs
+      (λ k d h. let f = all_before (length gs) (omega arith) e k d h in less_apart (get_or gs k d).ssn s f.0 b f.1)
 
--- and its index is the end
-pub end_is_index : (gs : List Group) (s : ℕ) → Ascend gs → s < 2 ^ 16 → AreEndsBefore gs (length gs) s
-    → index_for_ssn s gs ≡ length gs
-end_is_index gs s a b e =
-    let none =
-    absent (λ (g : Group). ssn_lt s g.ssn) gs
-    (λ k d h. let f = all_before gs (length gs) s a (omega arith) b e k d h in
-    less_one_way (get_or gs k d).ssn s f.0 b f.1) in
-    rw none refl
+  -- and its index is the end
+  pub end_is_index : AreEndsBefore gs (length gs) s → index_for_ssn s gs ≡ length gs
+  end_is_index e =
+      let none =
+      absent (λ (g : Group). ssn_lt s g.ssn) gs
+      (λ k d h. let f = all_before (length gs) (omega arith) e k d h in
+      less_one_way (get_or gs k d).ssn s f.0 b f.1) in
+      rw none refl
 
 -- the last message's SSN is of no other
 pub newest_has : (gs : List Group) (last : Group) → Ascend gs → 0 < length gs → last.ssn < 2 ^ 16
@@ -144,54 +208,54 @@ above_place gs index x d k le h =
     get_or-insert_above gs index x d (k - 1) (omega (arith, h)) le
 
 -- a message between those before it and those past it
-pub insert_ascends : (gs : List Group) (index : ℕ) (x : Group) → Ascend gs → index ≤ length gs → x.ssn < 2 ^ 16
-    → AreEndsBefore gs index x.ssn → AreEndsBehind gs index x.ssn → Ascend (insert gs index x)
-insert_ascends gs index x a le b before behind i j d lt h =
-    let long : length (insert gs index x) ≡ length gs + 1 = length-insert gs index x le in
-    ⊎_elim
-    (λ (u : j < index).
-    rw (get_or-insert_below gs index x d i (omega (arith, u, lt)) le, get_or-insert_below gs index x d j u le)
-    (a i j d lt (omega (arith, u, le))))
-    (λ (u : index ≤ j).
-    ⊎_elim
-    (λ (v : index < j).
-    rw (above_place gs index x d j le v)
-    (⊎_elim
-    (λ (w : i < index).
-    rw (get_or-insert_below gs index x d i w le) (a i (j - 1) d (omega (arith, v, w)) (omega (arith, h, long, v))))
-    (λ (w : index ≤ i).
-    ⊎_elim
-    (λ (t : index < i).
-    rw (above_place gs index x d i le t)
-    (a (i - 1) (j - 1) d (omega (arith, t, lt)) (omega (arith, h, long, v))))
-    (λ (t : i ≤ index).
-    let same : i ≡ index = omega (arith, w, t) in
-    rw (same, get_or-insert_at gs index x d le)
-    (b, (all_behind gs index x.ssn a b behind (j - 1) d (omega (arith, v)) (omega (arith, h, long, v))).1))
-    (cases_lt index i))
-    (cases_lt i index)))
-    (λ (v : j ≤ index).
-    let same : j ≡ index = omega (arith, u, v) in
-    let below : i < index = omega (arith, lt, same) in
-    rw (get_or-insert_below gs index x d i below le, same, get_or-insert_at gs index x d le)
-    (all_before gs index x.ssn a le b before i d below))
-    (cases_lt index j))
-    (cases_lt j index)
+module _ (gs : List Group) (index : ℕ) (x : Group) (a : Ascend gs) (le : index ≤ length gs) (b : x.ssn < 2 ^ 16)
+    (before : AreEndsBefore gs index x.ssn) (behind : AreEndsBehind gs index x.ssn) where
+  pub insert_ascends : Ascend (insert gs index x)
+  insert_ascends i j d lt h =
+      let long : length (insert gs index x) ≡ length gs + 1 = length-insert gs index x le in
+      ⊎_elim
+      (λ (u : j < index).
+      rw (get_or-insert_below gs index x d i (omega (arith, u, lt)) le, get_or-insert_below gs index x d j u le)
+      (a i j d lt (omega (arith, u, le))))
+      (λ (u : index ≤ j).
+      ⊎_elim
+      (λ (v : index < j).
+      rw (above_place gs index x d j le v)
+      (⊎_elim
+      (λ (w : i < index).
+      rw (get_or-insert_below gs index x d i w le) (a i (j - 1) d (omega (arith, v, w)) (omega (arith, h, long, v))))
+      (λ (w : index ≤ i).
+      ⊎_elim
+      (λ (t : index < i).
+      rw (above_place gs index x d i le t)
+      (a (i - 1) (j - 1) d (omega (arith, t, lt)) (omega (arith, h, long, v))))
+      (λ (t : i ≤ index).
+      let same : i ≡ index = omega (arith, w, t) in
+      rw (same, get_or-insert_at gs index x d le)
+      (b, (all_behind gs x.ssn a b index behind (j - 1) d (omega (arith, v)) (omega (arith, h, long, v))).1))
+      (cases_lt index i))
+      (cases_lt i index)))
+      (λ (v : j ≤ index).
+      let same : j ≡ index = omega (arith, u, v) in
+      let below : i < index = omega (arith, lt, same) in
+      rw (get_or-insert_below gs index x d i below le, same, get_or-insert_at gs index x d le)
+      (all_before gs x.ssn a b index le before i d below))
+      (cases_lt index j))
+      (cases_lt j index)
 
--- a message in place of one with its SSN changes the SSN of no index
-same_ssn : (gs : List Group) (k i : ℕ) (y d : Group) → y.ssn ≡ (get_or gs k y).ssn → k < length gs
-    → (get_or (set gs k y) i d).ssn ≡ (get_or gs i d).ssn
-same_ssn gs k i y d e h =
-    ⊎_elim
-    (λ (same : i ≡ k).
-    rw (same, get_or-set_same gs k y d h) (e ∙ ap (λ (g : Group). g.ssn) (get_or_default gs k y d h)))
-    (λ (other : i ≢ k). rw (get_or-set_other gs k i y d other) refl)
-    (cases_eq i k)
+-- a message in place of one with its SSN
+module _ (gs : List Group) (k : ℕ) (y : Group) (e : y.ssn ≡ (get_or gs k y).ssn) (h : k < length gs) where
+  -- changes the SSN of no index
+  same_ssn : (i : ℕ) (d : Group) → (get_or (set gs k y) i d).ssn ≡ (get_or gs i d).ssn
+  same_ssn i d =
+      ⊎_elim
+      (λ (same : i ≡ k).
+      rw (same, get_or-set_same gs k y d h) (e ∙ ap (λ (g : Group). g.ssn) (get_or_default gs k y d h)))
+      (λ (other : i ≢ k). rw (get_or-set_other gs k i y d other) refl)
+      (cases_eq i k)
 
-set_ascends : (gs : List Group) (k : ℕ) (y : Group) → y.ssn ≡ (get_or gs k y).ssn → k < length gs → Ascend gs
-    → Ascend (set gs k y)
-set_ascends gs k y e h a i j d lt hj =
-    rw (same_ssn gs k i y d e h, same_ssn gs k j y d e h) (a i j d lt (rw (length-set gs k y) at hj))
+  set_ascends : Ascend gs → Ascend (set gs k y)
+  set_ascends a i j d lt hj = rw (same_ssn i d, same_ssn j d) (a i j d lt (rw (length-set gs k y) at hj))
 
 grown_ascends : (o : Option Group) (gs : List Group) (k : ℕ) (p : ChunkPayloadData) → slice_get gs k ≡ o
     → k < length gs → Ascend gs → Ascend (grown_at o k gs p)

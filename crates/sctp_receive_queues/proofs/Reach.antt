@@ -62,26 +62,27 @@ end_is_slot base s reach ps bb bs w r h =
 -- Pieces that come.
 
 -- with one more piece none is farther past than the farther of both
-insert_within : (base reach more i : ℕ) (p : ChunkPayloadData) (ps : List ChunkPayloadData) → i ≤ length ps
-    → AreWithin base ps reach → reach ≤ more → tsn_past base p.tsn ≤ more → AreWithin base (insert ps i p) more
-insert_within base reach more i p ps le w r n k d h =
-    ⊎_elim
-    (λ (u : k < i).
-    rw (get_or-insert_below ps i p d k u le) (let x = w k d (omega (arith, u, le)) in omega (arith, x, r)))
-    (λ (u : i ≤ k).
-    ⊎_elim
-    (λ (v : i < k).
-    let same : k - 1 + 1 ≡ k = omega (arith, v) in
-    let at : get_or (insert ps i p) k d ≡ get_or ps (k - 1) d =
-    ap (λ (n : ℕ). get_or (insert ps i p) n d) (sym same) ∙
-    get_or-insert_above ps i p d (k - 1) (omega (arith, v)) le in
-    let x = w (k - 1) d (omega (arith, v, h, length-insert ps i p le)) in
-    rw at (omega (arith, x, r)))
-    (λ (v : k ≤ i).
-    let same : k ≡ i = omega (arith, u, v) in
-    rw (same, get_or-insert_at ps i p d le) n)
-    (cases_lt i k))
-    (cases_lt k i)
+module _ (base reach more i : ℕ) (p : ChunkPayloadData) (ps : List ChunkPayloadData) (le : i ≤ length ps)
+    (w : AreWithin base ps reach) (r : reach ≤ more) (n : tsn_past base p.tsn ≤ more) where
+  insert_within : AreWithin base (insert ps i p) more
+  insert_within k d h =
+      ⊎_elim
+      (λ (u : k < i).
+      rw (get_or-insert_below ps i p d k u le) (let x = w k d (omega (arith, u, le)) in omega (arith, x, r)))
+      (λ (u : i ≤ k).
+      ⊎_elim
+      (λ (v : i < k).
+      let same : k - 1 + 1 ≡ k = omega (arith, v) in
+      let at : get_or (insert ps i p) k d ≡ get_or ps (k - 1) d =
+      ap (λ (n : ℕ). get_or (insert ps i p) n d) (sym same) ∙
+      get_or-insert_above ps i p d (k - 1) (omega (arith, v)) le in
+      let x = w (k - 1) d (omega (arith, v, h, length-insert ps i p le)) in
+      rw at (omega (arith, x, r)))
+      (λ (v : k ≤ i).
+      let same : k ≡ i = omega (arith, u, v) in
+      rw (same, get_or-insert_at ps i p d le) n)
+      (cases_lt i k))
+      (cases_lt k i)
 
 pub farther_within : (base i far : ℕ) (reach : Option ℕ) (p : ChunkPayloadData) (ps : List ChunkPayloadData)
     → i ≤ length ps → tsn_past base p.tsn ≡ far → IfSome reach (AreWithin base ps)

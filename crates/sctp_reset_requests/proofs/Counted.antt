@@ -96,12 +96,14 @@ numbered_more (a ∷ []) r next h e = (h ∙ sym e, ap tsn_after e)
 numbered_more (a ∷ b ∷ rs) r next (h, more) e = (h, numbered_more (b ∷ rs) r next more e)
 
 -- a request more is kept
-pub kept_more : (n m : NamedView) (queued : List OwnRequest) (active : Option SentRequest) (next : ℕ)
-    → AreKept n queued active next → (r : OwnRequest) → r.number ≡ next
-    → ((id : ℕ) → count_at m id ≡ count_at n id + count_by (is_at (nat_cmp id)) r.ids)
-    → m.all ≡ n.all + cond r.names_all 1 0 → AreKept m (queued ++ r ∷ []) active (tsn_after next)
-kept_more n m queued active next k r number counts all = record {
-  counted = rw (same_end active queued r) (counted_more n m (open_with active queued) r k.counted counts all);
-  fits = k.fits;
-  numbered = rw (same_end active queued r) (numbered_more (open_with active queued) r next k.numbered number);
-}
+module _ (n m : NamedView) (queued : List OwnRequest) (active : Option SentRequest) (next : ℕ)
+    (k : AreKept n queued active next) (r : OwnRequest) where
+  pub kept_more : r.number ≡ next
+      → ((id : ℕ) → count_at m id ≡ count_at n id + count_by (is_at (nat_cmp id)) r.ids)
+      → m.all ≡ n.all + cond r.names_all 1 0 → AreKept m (queued ++ r ∷ []) active (tsn_after next)
+  kept_more number counts all = record {
+    counted =
+        rw (same_end active queued r) (counted_more n m (open_with active queued) r k.counted counts all);
+    fits = k.fits;
+    numbered = rw (same_end active queued r) (numbered_more (open_with active queued) r next k.numbered number);
+  }

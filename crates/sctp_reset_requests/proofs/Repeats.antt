@@ -6,12 +6,14 @@ use Rattle.std.proofs.lemmas.Bool.{false≢true}
 use Rattle.std.proofs.lemmas.Bool.Decides.{nat_tests}
 use Rattle.sctp_serial.specs.Serial.{tsn, tsn_after, tsn_lte}
 use Rattle.sctp_reset_requests.specs.Request.{PeerRequestView, is_due}
-use Rattle.sctp_reset_requests.specs.Peer.{PeerView, advanced, advanced_with, arrived_as, completed}
+use Rattle.sctp_reset_requests.specs.Peer.{PeerView, advanced, advanced_with, arrived, arrived_as, completed}
 use Rattle.sctp_reset_requests.specs.Peer.{is_completed, is_current, is_next, number_before, standing_of, taken_up}
 use Rattle.sctp_reset_requests.specs.Laws.{PeerEvent, Comes, Moves, after, after_all, HasNumber, IsCompletedUpTo}
 use Rattle.sctp_reset_requests.specs.Laws.{CompletedStayCompleted, CompletedAreKnown, AskedEndsNone}
 use Rattle.sctp_reset_requests.specs.declared.answer.Standing.{Standing}
 use Rattle.sctp_reset_requests.specs.declared.answer.Standing.TheVariants as standings
+use Rattle.sctp_wire_types.specs.declared.param.ReconfigResult.TheVariants as results
+use Rattle.sctp_reset_requests.specs.declared.answer.Arrival.TheVariants as arrivals
 
 -- Numbers
 
@@ -134,19 +136,24 @@ not_current : (o : Option PeerRequestView) (first n k number : ℕ) → HasNumbe
 not_current None first n k number h e below near = refl
 not_current (Some r) first n k number h e below near = rw (h, e) (apart first n k below near)
 
+module _ (first n k : ℕ) (p : PeerView) (r : PeerRequestView) (cumulative_tsn : ℕ) where
+  is_known : IsCompletedUpTo first n p → k < n → n < k + 2 ^ 31 → r.number ≡ tsn first k
+      → arrived p r cumulative_tsn ≡ (p, arrivals.Answered results.SuccessPerformed)
+  is_known h below near e =
+      let current : is_current p.in_progress r.number ≡ false =
+      not_current p.in_progress first n k r.number h.current e below near in
+      let done : is_completed p.last_completed r.number ≡ true =
+      subst (λ last. is_completed last r.number ≡ true) (sym h.last)
+      (subst (λ number. tsn_lte number (number_before (tsn first n)) ≡ true) (sym e)
+      (at_or_below first n k below near)) in
+      ap (λ s. arrived_as s p r cumulative_tsn) (standing current done)
+    where
+      standing : is_current p.in_progress r.number ≡ false → is_completed p.last_completed r.number ≡ true
+          → standing_of p r.number ≡ standings.Completed
+      standing c d = rw (c, d) refl
+
 pub are_known : CompletedAreKnown
-are_known first n k p r t h below near e =
-    let current : is_current p.in_progress r.number ≡ false =
-    not_current p.in_progress first n k r.number h.current e below near in
-    let done : is_completed p.last_completed r.number ≡ true =
-    subst (λ last. is_completed last r.number ≡ true) (sym h.last)
-    (subst (λ number. tsn_lte number (number_before (tsn first n)) ≡ true) (sym e)
-    (at_or_below first n k below near)) in
-    ap (λ s. arrived_as s p r t) (standing current done)
-  where
-    standing : is_current p.in_progress r.number ≡ false → is_completed p.last_completed r.number ≡ true
-        → standing_of p r.number ≡ standings.Completed
-    standing c d = rw (c, d) refl
+are_known first n k p r cumulative_tsn = is_known first n k p r cumulative_tsn
 
 not_last : (o : Option PeerRequestView) (first n last : ℕ) → HasNumber o (tsn first n)
     → last ≡ number_before (tsn first n) → is_current o last ≡ false
