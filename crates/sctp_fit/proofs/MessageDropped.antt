@@ -24,7 +24,8 @@ use Rattle.sctp_model.proofs.ReleasedBytes.{released_within}
 use Rattle.sctp_model.proofs.SenderEvents.{keeps_drop, same_plan}
 use Rattle.sctp_fit.specs.Drops.{DropsAreAlike, dropped, without_at}
 use Rattle.sctp_fit.specs.Outgoing.{AreInFlight, ArePieces, AreUnsent, AreWaiting, FitsOutgoing, IsNumbered, IsOwnAt}
-use Rattle.sctp_fit.specs.Outgoing.{IsWaiting, Names, Sending, number_at, numbers_after, numbers_past}
+use Rattle.sctp_fit.specs.Outgoing.{CountsBegun, IsWaiting, Names, Sending, number_at, numbers_after, numbers_past}
+use Rattle.sctp_fit.specs.Outgoing.{policy_of}
 use Rattle.sctp_fit.proofs.BytesReleased.{own_less}
 use Rattle.sctp_fit.proofs.FirstPiece.{at_put_2, off_put_2}
 use Rattle.sctp_fit.proofs.NumbersMoveDown.{above_itself, after_without, one_if, steps, unsent_down, wrapped_down}
@@ -441,16 +442,22 @@ module _ (a : Sending) (k : ℕ) (x : Waiting) (w : Direction) (at : slice_get a
     own_streams = own_now;
   }
 
--- A message that isn't reliable and of which nothing was sent is dropped in the direction too.
+module _ (a : Sending) (k : ℕ) (x : Waiting) (w : Direction) (at : slice_get a.queue.pending k ≡ Some x)
+    (fresh : x.begun ≡ false) (unreliable : is_reliable (policy_of x.message.policy) ≡ false) (inv : Invariant w)
+    (count : CountsBegun w.sender) (f : FitsOutgoing a w) where
+  -- A message that isn't reliable and of which nothing was sent is dropped in the direction too.
+  drop_alike : (i : ℕ) × FitsOutgoing (dropped k x a) (happens w (Event.Drop x.message.stream_identifier i))
+  drop_alike =
+      let r =
+      found f.named w.sender.plan (is_unsent w.sender) inv.planned.known k x w.sender.ssn w.sender.current
+      a.queue.pending at fresh f.waiting in
+      let can : can_drop w.sender x.message.stream_identifier r.index ≡ true =
+      and_from (is_unsent w.sender x.message.stream_identifier r.index) _ r.is
+      (ap not (ap is_reliable (sym r.waits.message.policy) ∙ unreliable)) in (
+        r.index,
+        subst (FitsOutgoing (dropped k x a)) (sym (happens_drop w x.message.stream_identifier r.index can))
+            (fits_now a k x w at fresh inv f r (keeps_drop w x.message.stream_identifier r.index can inv)),
+      )
+
 pub drops_are_alike : DropsAreAlike
-drops_are_alike a k x w at fresh unreliable inv count f =
-    let r =
-    found f.named w.sender.plan (is_unsent w.sender) inv.planned.known k x w.sender.ssn w.sender.current
-    a.queue.pending at fresh f.waiting in
-    let can : can_drop w.sender x.message.stream_identifier r.index ≡ true =
-    and_from (is_unsent w.sender x.message.stream_identifier r.index) _ r.is
-    (ap not (ap is_reliable (sym r.waits.message.policy) ∙ unreliable)) in (
-      r.index,
-      subst (FitsOutgoing (dropped k x a)) (sym (happens_drop w x.message.stream_identifier r.index can))
-          (fits_now a k x w at fresh inv f r (keeps_drop w x.message.stream_identifier r.index can inv)),
-    )
+drops_are_alike = drop_alike
