@@ -323,8 +323,8 @@ module _ (own : ℕ) (a : Sending) (now : ℕ) (w : Direction) (inv : Invariant 
           → (events : List Event) × IsSentBy own a now w events
       by_events r there =
           let b =
-          happens_begin w s i x.message.stream_sequence_number x.message.unordered r.after c h.waits.message.ordered
-          h.is there in (
+          happens_begin w s i x.message.stream_sequence_number r.after c h.is x.message.unordered
+          h.waits.message.ordered there in (
             r.events,
             sent_by y (record {
               next = b.0;
