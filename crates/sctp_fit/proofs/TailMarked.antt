@@ -15,7 +15,6 @@ use Rattle.sctp_outbound_queue.specs.Outbound.{tail_dropped_from}
 use Rattle.sctp_streams.specs.Stream.{StreamView}
 use Rattle.sctp_streams.specs.Streams.{released_in, stream_at}
 use Rattle.sctp_model.specs.Messages.{Place, Plan, accepted_bytes, bytes_below, is_reliable, message_at, place_at}
-use Rattle.sctp_model.specs.Packets.{mem}
 use Rattle.sctp_model.specs.Machine.{Direction, Event, Sender, abandoned, can_abandon, happens, has_message, is_unsent}
 use Rattle.sctp_model.specs.Machine.{left, marked, put, put_2, tail_marked, unacknowledged, with_place}
 use Rattle.sctp_model.specs.Machine as machine
@@ -34,7 +33,7 @@ use Rattle.sctp_fit.proofs.BytesPartitioned.{GoesOnWith, IsOn, bytes_before, byt
 use Rattle.sctp_fit.proofs.BytesPartitioned.{pieces_bytes}
 use Rattle.sctp_fit.proofs.BytesReleased.{less, numbered_less, own_less, released_at}
 use Rattle.sctp_fit.proofs.FirstPiece.{at_put_2}
-use Rattle.sctp_fit.proofs.NextPiece.{flight_placed}
+use Rattle.sctp_fit.proofs.NextPiece.{flight_placed, none_past}
 use Rattle.sctp_fit.proofs.SentAgain.{flight_at}
 use Rattle.sctp_fit.proofs.UnsentKept.{AreUnsentAlike, attributes_kept, unsent_kept}
 use Rattle.sctp_fit.proofs.WholeAbandoned.{flagged_before, flight_bytes, flight_flagged, none_flagged}
@@ -51,13 +50,6 @@ same_unsent : (h b c g : Bool) → (c ≡ true → b ≡ true) → (h && (not b 
 same_unsent h b false g f = refl
 same_unsent h true true g f = refl
 same_unsent h false true g f = absurd (false≢true (f refl))
-
--- an offset past the last one isn't acknowledged
-none_past : (w : Direction) → Invariant w → (o : ℕ) → length w.sender.plan.places ≤ o → w.sender.acknowledged o ≡ false
-none_past w inv o l = false_from_ne_true _ (λ (a : w.sender.acknowledged o ≡ true). ⊎_elim
-    (λ (m : mem o w.receiver.taken ≡ true). let t = (inv.taken o m).0 in omega arith)
-    (λ (b : o < w.receiver.passed). let t = inv.passed in omega arith)
-    (inv.acknowledged o a))
 
 -- Message i of its stream has the attributes t, isn't reliable, stays so far, and has a piece on an offset.
 pub record CanBeAbandoned (n : Names) (x : Sender) (t : Attributes) (i : ℕ) : Type 0 where
