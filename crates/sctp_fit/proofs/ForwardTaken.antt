@@ -1,7 +1,6 @@
 -- A FORWARD TSN that comes and lies ahead is taken at an association as at the direction's receiver: each live stream
 -- skips and drops the same (RFC 3758 section 3.6).
-use Rattle.std.proofs.Common.{◌≡◌, refl, sym, ap, ◌∙◌, subst, ℕ, true, false, ltb, slice_get, Option, Some, None}
-use Rattle.std.proofs.Common.{suc}
+use Rattle.std.proofs.Common.{◌≡◌, refl, sym, ap, ◌∙◌, subst, ℕ, true, false, suc, ltb, slice_get, Option, Some, None}
 use Rattle.std.specs.Option.{option_map}
 use Rattle.sctp_receive_queues.specs.Reassembly.{unordered_skipped}
 use Rattle.sctp_streams.specs.Stream.{StreamView}
