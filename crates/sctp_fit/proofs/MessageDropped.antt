@@ -289,17 +289,18 @@ steps_here d =
     by_order false false f = absurd (true≢false (sym f))
 
 -- the stream of the message gives its next ordered one the number that this one had
-numbered_down : {n : Names} {high s : ℕ} (low by bytes : ℕ) (unordered : Bool) {t : StreamView} → high ≡ low + by
-    → by ≡ one_if (not unordered) → IsNumbered n high s t
-    → IsNumbered n low s (released_from (cond unordered t (with_ssn_given_back t)) bytes)
-numbered_down {n} {high} {s} low by bytes true {t} above e h = record {
-  generation = h.generation;
-  ssn = h.ssn ∙ ap (λ z. z % 65536) (let r : high ≡ low = omega (arith, above, e) in r);
-}
-numbered_down {n} {high} {s} low by bytes false {t} above e h = record {
-  generation = h.generation;
-  ssn = wrapped_down t.next_ssn high low by h.ssn above e;
-}
+module _ {n : Names} {high s : ℕ} {t : StreamView} (low by bytes : ℕ) (above : high ≡ low + by)
+    (h : IsNumbered n high s t) where
+  numbered_down : (unordered : Bool) → by ≡ one_if (not unordered)
+      → IsNumbered n low s (released_from (cond unordered t (with_ssn_given_back t)) bytes)
+  numbered_down true e = record {
+    generation = h.generation;
+    ssn = h.ssn ∙ ap (λ z. z % 65536) (let r : high ≡ low = omega (arith, above, e) in r);
+  }
+  numbered_down false e = record {
+    generation = h.generation;
+    ssn = wrapped_down t.next_ssn high low by h.ssn above e;
+  }
 
 -- it counts the message's bytes no longer
 own_down : (p : Plan) (freed s bytes : ℕ) (unordered : Bool) (t : StreamView) → freed + bytes ≤ accepted_bytes p s
@@ -385,9 +386,9 @@ module _ (a : Sending) (k : ℕ) (x : Waiting) (w : Direction) (at : slice_get a
       x.message.stream_identifier)
       (let same : released_from (cond x.message.unordered t (with_ssn_given_back t)) (message_bytes x) ≡ u = cc in same)
       (numbered_down (numbers_after w.sender.ssn (without_at k a.queue.pending) x.message.stream_identifier)
-      (steps x.message x.message.stream_identifier) (message_bytes x) x.message.unordered
-      ((after_without k x w.sender.ssn a.queue.pending at fresh).at x.message.stream_identifier) (steps_here x.message)
-      (f.live x.message.stream_identifier t e)))
+      (steps x.message x.message.stream_identifier) (message_bytes x)
+      ((after_without k x w.sender.ssn a.queue.pending at fresh).at x.message.stream_identifier)
+      (f.live x.message.stream_identifier t e) x.message.unordered (steps_here x.message)))
 
   -- and counts its bytes
   own_now : (s : ℕ) → w.over s ≡ false
