@@ -1,20 +1,24 @@
 -- The new DATA that an association takes in stands on the offset that its TSN spells, and is one event of its
 -- direction.
 use Rattle.std.proofs.Common.{◌≡◌, sym, ap, ◌∙◌, subst, ⊎_elim, ℕ, ◌+◌, ◌^◌, ◌<◌, ◌≤◌, arith, true, false, not, leb}
-use Rattle.std.proofs.Common.{List, length}
+use Rattle.std.proofs.Common.{List, Some, length, slice_get}
 use Rattle.std.proofs.lemmas.Bool.{and_from, cases_lt, le-leb}
 use Rattle.sctp_serial.specs.Serial.{tsn, tsn_past}
-use Rattle.sctp_model.specs.Packets.{mem}
+use Rattle.sctp_model.specs.Packets.{Data, mem}
 use Rattle.sctp_model.specs.Machine.{Direction, Event, Receiver, happens, is_new, reach}
 use Rattle.sctp_model.specs.Invariants.{Invariant, IsPiece}
 use Rattle.sctp_model.proofs.Lists.{all_get}
 use Rattle.sctp_model.proofs.OffsetSets.{reach_below}
 use Rattle.sctp_fit.specs.Arrivals.{took}
-use Rattle.sctp_fit.specs.Incoming.{FitsIncoming}
+use Rattle.sctp_fit.specs.Incoming.{FitsIncoming, IsSaid}
 use Rattle.sctp_fit.proofs.DataTaken.{same_reach}
 use Rattle.sctp_fit.proofs.DataTaken as fit
-use Rattle.sctp_directions.specs.Acts.{offset_in, reach_in, receiving}
+use Rattle.sctp_directions.specs.Acts.{Act, Can, Parts, done, offset_in, reach_in, receiving}
 use Rattle.sctp_directions.specs.Laws.{WhatItTakesInComes}
+use Rattle.sctp_wire_types.specs.declared.chunk.ChunkPayloadData.{ChunkPayloadData}
+use Rattle.sctp_model.specs.Safe.{IsWithin}
+use Rattle.sctp_streams.specs.Stream.{StreamView}
+use Rattle.sctp_streams.specs.Streams.{stream_at}
 
 -- each offset below the receiver's reach was assigned
 pub reach_known : (w : Direction) → Invariant w → reach w.receiver ≤ length w.sender.plan.places
@@ -40,38 +44,46 @@ new_at r at o taken reached same past missing =
     and_from (leb (reach r) o) (not (mem o r.taken)) (le-leb (reach r) o (omega arith))
     (ap (λ z. not (mem o z)) (sym same) ∙ ap not missing)
 
--- an association that takes in new DATA does what the model's receiver does
+module _ (p : Parts) (piece : ChunkPayloadData) (k : ℕ) (d : Data) (t : StreamView) (w : Direction)
+    (can : Can (Act.Took piece) p) (e : slice_get w.datas k ≡ Some d) (said : IsSaid p.history.peer piece d)
+    (there : stream_at p.streams piece.stream_identifier ≡ Some t) (span : w.over piece.stream_identifier ≡ false)
+    (within : IsWithin w) (inv : Invariant w) (fits : FitsIncoming (receiving p) w) where
+  -- an association that takes in new DATA does what the model's receiver does
+  taken_in_comes : (d.offset ≡ offset_in p.history piece.tsn)
+      × FitsIncoming (receiving (done (Act.Took piece) p)) (happens w (Event.DataComes k))
+  taken_in_comes = (
+    here,
+    subst (λ o. FitsIncoming (took (receiving p) piece o) (happens w (Event.DataComes k))) here
+        (fit.what_is_taken_in_comes (receiving p) piece k d t 0 w e said new there span within inv fits).0,
+  )
+    where
+      given : IsPiece w.sender.plan d
+      given = all_get (IsPiece w.sender.plan) w.datas k d e inv.datas
+
+      reached : reach_in p.history ≡ reach w.receiver
+      reached = same_reach (receiving p) w fits
+
+      small : d.offset < 2 ^ 31
+      small = let l = given.known in let m = within.offsets in omega arith
+
+      reach_small : reach_in p.history < 2 ^ 31
+      reach_small = let e = reached in let l = reach_known w inv in let m = within.offsets in omega arith
+
+      -- the offset that a TSN spells past the reach
+      spelt : ℕ → ℕ
+      spelt t = reach_in p.history + tsn_past (tsn p.history.peer (reach_in p.history)) t
+
+      here : d.offset ≡ offset_in p.history piece.tsn
+      here =
+          spelt_near p.history.peer (reach_in p.history) d.offset reach_small small
+          (subst (λ t. spelt t < reach_in p.history + 65535) said.carries.tsn can.near)
+          ∙ ap spelt (sym said.carries.tsn)
+
+      new : is_new w.receiver d.offset ≡ true
+      new =
+          new_at w.receiver (reach_in p.history) d.offset p.history.taken reached fits.taken
+          (let e = here in omega arith)
+          (ap (λ o. mem o p.history.taken) here ∙ can.missing)
+
 pub what_it_takes_in_comes : WhatItTakesInComes
-what_it_takes_in_comes p piece k d t w can e said there span within inv fits = (
-  here,
-  subst (λ o. FitsIncoming (took (receiving p) piece o) (happens w (Event.DataComes k))) here
-      (fit.what_is_taken_in_comes (receiving p) piece k d t 0 w e said new there span within inv fits).0,
-)
-  where
-    given : IsPiece w.sender.plan d
-    given = all_get (IsPiece w.sender.plan) w.datas k d e inv.datas
-
-    reached : reach_in p.history ≡ reach w.receiver
-    reached = same_reach (receiving p) w fits
-
-    small : d.offset < 2 ^ 31
-    small = let l = given.known in let m = within.offsets in omega arith
-
-    reach_small : reach_in p.history < 2 ^ 31
-    reach_small = let e = reached in let l = reach_known w inv in let m = within.offsets in omega arith
-
-    -- the offset that a TSN spells past the reach
-    spelt : ℕ → ℕ
-    spelt t = reach_in p.history + tsn_past (tsn p.history.peer (reach_in p.history)) t
-
-    here : d.offset ≡ offset_in p.history piece.tsn
-    here =
-        spelt_near p.history.peer (reach_in p.history) d.offset reach_small small
-        (subst (λ t. spelt t < reach_in p.history + 65535) said.carries.tsn can.near)
-        ∙ ap spelt (sym said.carries.tsn)
-
-    new : is_new w.receiver d.offset ≡ true
-    new =
-        new_at w.receiver (reach_in p.history) d.offset p.history.taken reached fits.taken
-        (let e = here in omega arith)
-        (ap (λ o. mem o p.history.taken) here ∙ can.missing)
+what_it_takes_in_comes = taken_in_comes

@@ -36,50 +36,66 @@ use Rattle.sctp_directions.proofs.SenderCases.{pass_over_cases, resend_cases, sa
 
 -- Which events there are
 
-by_sender : (P : Event → Type 0) → ((s : ℕ) (m : Message) → P (Event.Write s m)) → ((s : ℕ) → P (Event.PassOver s))
-    → ((s i : ℕ) → P (Event.Drop s i)) → ((s i any : ℕ) → P (Event.Begin s i any)) → P Event.GoOn
-    → ((o : ℕ) → P (Event.Resend o)) → ((s i : ℕ) → P (Event.Abandon s i)) → ((k : ℕ) → P (Event.SackComes k))
-    → P Event.ForwardMade → (e : Event) → IsOfSending e → P e
-by_sender P writes passes drops begins goes_on resends abandons sacks forwards (Event.Write s m) h = writes s m
-by_sender P writes passes drops begins goes_on resends abandons sacks forwards (Event.PassOver s) h = passes s
-by_sender P writes passes drops begins goes_on resends abandons sacks forwards (Event.Drop s i) h = drops s i
-by_sender P writes passes drops begins goes_on resends abandons sacks forwards (Event.Begin s i any) h = begins s i any
-by_sender P writes passes drops begins goes_on resends abandons sacks forwards Event.GoOn h = goes_on
-by_sender P writes passes drops begins goes_on resends abandons sacks forwards (Event.Resend o) h = resends o
-by_sender P writes passes drops begins goes_on resends abandons sacks forwards (Event.Abandon s i) h = abandons s i
-by_sender P writes passes drops begins goes_on resends abandons sacks forwards (Event.SackComes k) h = sacks k
-by_sender P writes passes drops begins goes_on resends abandons sacks forwards Event.ForwardMade h = forwards
-by_sender P writes passes drops begins goes_on resends abandons sacks forwards (Event.DataComes k) h = absurd h
-by_sender P writes passes drops begins goes_on resends abandons sacks forwards Event.SackMade h = absurd h
-by_sender P writes passes drops begins goes_on resends abandons sacks forwards (Event.ForwardComes k) h = absurd h
-by_sender P writes passes drops begins goes_on resends abandons sacks forwards (Event.Open s) h = absurd h
-by_sender P writes passes drops begins goes_on resends abandons sacks forwards (Event.Read s) h = absurd h
-by_sender P writes passes drops begins goes_on resends abandons sacks forwards Event.Close h = absurd h
-by_sender P writes passes drops begins goes_on resends abandons sacks forwards (Event.End s) h = absurd h
-by_sender P writes passes drops begins goes_on resends abandons sacks forwards (Event.Restart s) h = absurd h
-by_sender P writes passes drops begins goes_on resends abandons sacks forwards (Event.Replace s q) h = absurd h
+-- a proof for each event of the sender
+record BySender (P : Event → Type 0) : Type 0 where
+  writes : (s : ℕ) (m : Message) → P (Event.Write s m)
+  passes : (s : ℕ) → P (Event.PassOver s)
+  drops : (s i : ℕ) → P (Event.Drop s i)
+  begins : (s i any : ℕ) → P (Event.Begin s i any)
+  goes_on : P Event.GoOn
+  resends : (o : ℕ) → P (Event.Resend o)
+  abandons : (s i : ℕ) → P (Event.Abandon s i)
+  sacks : (k : ℕ) → P (Event.SackComes k)
+  forwards : P Event.ForwardMade
 
-by_receiver : (P : Event → Type 0) → ((k : ℕ) → P (Event.DataComes k)) → P Event.SackMade
-    → ((k : ℕ) → P (Event.ForwardComes k)) → ((s : ℕ) → P (Event.Open s)) → ((s : ℕ) → P (Event.Read s))
-    → P Event.Close → (e : Event) → IsOfReceiving e → P e
-by_receiver P comes made forwards opens reads closes (Event.Write s m) h = absurd h
-by_receiver P comes made forwards opens reads closes (Event.PassOver s) h = absurd h
-by_receiver P comes made forwards opens reads closes (Event.Drop s i) h = absurd h
-by_receiver P comes made forwards opens reads closes (Event.Begin s i any) h = absurd h
-by_receiver P comes made forwards opens reads closes Event.GoOn h = absurd h
-by_receiver P comes made forwards opens reads closes (Event.Resend o) h = absurd h
-by_receiver P comes made forwards opens reads closes (Event.Abandon s i) h = absurd h
-by_receiver P comes made forwards opens reads closes (Event.SackComes k) h = absurd h
-by_receiver P comes made forwards opens reads closes Event.ForwardMade h = absurd h
-by_receiver P comes made forwards opens reads closes (Event.DataComes k) h = comes k
-by_receiver P comes made forwards opens reads closes Event.SackMade h = made
-by_receiver P comes made forwards opens reads closes (Event.ForwardComes k) h = forwards k
-by_receiver P comes made forwards opens reads closes (Event.Open s) h = opens s
-by_receiver P comes made forwards opens reads closes (Event.Read s) h = reads s
-by_receiver P comes made forwards opens reads closes Event.Close h = closes
-by_receiver P comes made forwards opens reads closes (Event.End s) h = absurd h
-by_receiver P comes made forwards opens reads closes (Event.Restart s) h = absurd h
-by_receiver P comes made forwards opens reads closes (Event.Replace s q) h = absurd h
+by_sender : (P : Event → Type 0) → BySender P → (e : Event) → IsOfSending e → P e
+by_sender P each (Event.Write s m) h = each.writes s m
+by_sender P each (Event.PassOver s) h = each.passes s
+by_sender P each (Event.Drop s i) h = each.drops s i
+by_sender P each (Event.Begin s i any) h = each.begins s i any
+by_sender P each Event.GoOn h = each.goes_on
+by_sender P each (Event.Resend o) h = each.resends o
+by_sender P each (Event.Abandon s i) h = each.abandons s i
+by_sender P each (Event.SackComes k) h = each.sacks k
+by_sender P each Event.ForwardMade h = each.forwards
+by_sender P each (Event.DataComes k) h = absurd h
+by_sender P each Event.SackMade h = absurd h
+by_sender P each (Event.ForwardComes k) h = absurd h
+by_sender P each (Event.Open s) h = absurd h
+by_sender P each (Event.Read s) h = absurd h
+by_sender P each Event.Close h = absurd h
+by_sender P each (Event.End s) h = absurd h
+by_sender P each (Event.Restart s) h = absurd h
+by_sender P each (Event.Replace s q) h = absurd h
+
+-- a proof for each event of the receiver
+record ByReceiver (P : Event → Type 0) : Type 0 where
+  comes : (k : ℕ) → P (Event.DataComes k)
+  made : P Event.SackMade
+  forwards : (k : ℕ) → P (Event.ForwardComes k)
+  opens : (s : ℕ) → P (Event.Open s)
+  reads : (s : ℕ) → P (Event.Read s)
+  closes : P Event.Close
+
+by_receiver : (P : Event → Type 0) → ByReceiver P → (e : Event) → IsOfReceiving e → P e
+by_receiver P each (Event.Write s m) h = absurd h
+by_receiver P each (Event.PassOver s) h = absurd h
+by_receiver P each (Event.Drop s i) h = absurd h
+by_receiver P each (Event.Begin s i any) h = absurd h
+by_receiver P each Event.GoOn h = absurd h
+by_receiver P each (Event.Resend o) h = absurd h
+by_receiver P each (Event.Abandon s i) h = absurd h
+by_receiver P each (Event.SackComes k) h = absurd h
+by_receiver P each Event.ForwardMade h = absurd h
+by_receiver P each (Event.DataComes k) h = each.comes k
+by_receiver P each Event.SackMade h = each.made
+by_receiver P each (Event.ForwardComes k) h = each.forwards k
+by_receiver P each (Event.Open s) h = each.opens s
+by_receiver P each (Event.Read s) h = each.reads s
+by_receiver P each Event.Close h = each.closes
+by_receiver P each (Event.End s) h = absurd h
+by_receiver P each (Event.Restart s) h = absurd h
+by_receiver P each (Event.Replace s q) h = absurd h
 
 -- The sender's events
 
@@ -144,31 +160,35 @@ sent_nothing w = sent_same w w.sender refl (omega arith)
 pub senders_events_are_sent : SendersEventsAreSent
 senders_events_are_sent w e at =
     by_sender (λ (x : Event). IsSentFrom w (happens w x))
-    (λ s m. write_cases (IsSentFrom w) w s m (sent_nothing w) (sent_same w _ refl (omega arith)))
-    (λ s. pass_over_cases (IsSentFrom w) w s (sent_nothing w) (λ b. sent_same w _ refl (omega arith)))
-    (λ s i. drop_cases (IsSentFrom w) w s i (sent_nothing w) (λ b. sent_same w _ refl (omega arith)))
-    (λ s i any. begin_cases (IsSentFrom w) w s i any (sent_nothing w) (λ n f g. sent_more w _ _ refl (omega arith)))
-    (go_on_cases (IsSentFrom w) w (sent_nothing w) (λ y b. sent_more w _ _ refl (omega arith)))
-    (λ o. resend_cases (IsSentFrom w) w o (sent_nothing w) (sent_more w w.sender _ refl (omega arith)))
-    (λ s i. abandon_cases (IsSentFrom w) w s i (sent_nothing w) (sent_same w _ refl (omega arith))
-    (λ y. sent_same w _ refl (omega arith)))
-    (λ k. sack_cases (IsSentFrom w) w k (sent_nothing w) (λ x b l. sent_same w (acknowledged_by w.sender x) refl l))
-    (forward_made_cases (IsSentFrom w) w (sent_nothing w) (sent_forward w (forward_of w.sender w.over)))
-    e at
+    (record {
+      writes = λ s m. write_cases (IsSentFrom w) w s m (sent_nothing w) (sent_same w _ refl (omega arith));
+      passes = λ s. pass_over_cases (IsSentFrom w) w s (sent_nothing w) (λ b. sent_same w _ refl (omega arith));
+      drops = λ s i. drop_cases (IsSentFrom w) w s i (sent_nothing w) (λ b. sent_same w _ refl (omega arith));
+      begins = λ s i any. begin_cases (IsSentFrom w) w s i any (sent_nothing w)
+          (λ n f g. sent_more w _ _ refl (omega arith));
+      goes_on = go_on_cases (IsSentFrom w) w (sent_nothing w) (λ y b. sent_more w _ _ refl (omega arith));
+      resends = λ o. resend_cases (IsSentFrom w) w o (sent_nothing w) (sent_more w w.sender _ refl (omega arith));
+      abandons = λ s i. abandon_cases (IsSentFrom w) w s i (sent_nothing w) (sent_same w _ refl (omega arith))
+          (λ y. sent_same w _ refl (omega arith));
+      sacks = λ k. sack_cases (IsSentFrom w) w k (sent_nothing w)
+          (λ x b l. sent_same w (acknowledged_by w.sender x) refl l);
+      forwards = forward_made_cases (IsSentFrom w) w (sent_nothing w) (sent_forward w (forward_of w.sender w.over));
+    }) e at
 
 pub only_writes_accept : OnlyWritesAccept
 only_writes_accept w e at none =
     by_sender (λ (x : Event). (AcceptsAMessage x → ⊥) → P (happens w x))
-    (λ s m n. absurd (n tt))
-    (λ s n. pass_over_cases P w s refl (λ b. refl))
-    (λ s i n. drop_cases P w s i refl (λ b. refl))
-    (λ s i any n. begin_cases P w s i any refl (λ m f g. refl))
-    (λ n. go_on_cases P w refl (λ y b. refl))
-    (λ o n. resend_cases P w o refl refl)
-    (λ s i n. abandon_cases P w s i refl refl (λ y. refl))
-    (λ k n. sack_cases P w k refl (λ x b l. refl))
-    (λ n. forward_made_cases P w refl refl)
-    e at none
+    (record {
+      writes = λ s m n. absurd (n tt);
+      passes = λ s n. pass_over_cases P w s refl (λ b. refl);
+      drops = λ s i n. drop_cases P w s i refl (λ b. refl);
+      begins = λ s i any n. begin_cases P w s i any refl (λ m f g. refl);
+      goes_on = λ n. go_on_cases P w refl (λ y b. refl);
+      resends = λ o n. resend_cases P w o refl refl;
+      abandons = λ s i n. abandon_cases P w s i refl refl (λ y. refl);
+      sacks = λ k n. sack_cases P w k refl (λ x b l. refl);
+      forwards = λ n. forward_made_cases P w refl refl;
+    }) e at none
   where
     P : Direction → Type 0
     P v = v.sender.plan.accepted ≡ w.sender.plan.accepted
@@ -176,16 +196,17 @@ only_writes_accept w e at none =
 pub only_beginnings_assign : OnlyBeginningsAssign
 only_beginnings_assign w e at none =
     by_sender (λ (x : Event). (Assigns x → ⊥) → P (happens w x))
-    (λ s m n. write_cases P w s m refl refl)
-    (λ s n. pass_over_cases P w s refl (λ b. refl))
-    (λ s i n. drop_cases P w s i refl (λ b. refl))
-    (λ s i any n. absurd (n tt))
-    (λ n. absurd (n tt))
-    (λ o n. resend_cases P w o refl refl)
-    (λ s i n. absurd (n tt))
-    (λ k n. sack_cases P w k refl (λ x b l. refl))
-    (λ n. forward_made_cases P w refl refl)
-    e at none
+    (record {
+      writes = λ s m n. write_cases P w s m refl refl;
+      passes = λ s n. pass_over_cases P w s refl (λ b. refl);
+      drops = λ s i n. drop_cases P w s i refl (λ b. refl);
+      begins = λ s i any n. absurd (n tt);
+      goes_on = λ n. absurd (n tt);
+      resends = λ o n. resend_cases P w o refl refl;
+      abandons = λ s i n. absurd (n tt);
+      sacks = λ k n. sack_cases P w k refl (λ x b l. refl);
+      forwards = λ n. forward_made_cases P w refl refl;
+    }) e at none
   where
     P : Direction → Type 0
     P v = v.sender.plan.places ≡ w.sender.plan.places
@@ -200,32 +221,35 @@ abandonments_assign_one_offset w s i =
 pub only_forward_made_gives_forwards : OnlyForwardMadeGivesForwards
 only_forward_made_gives_forwards w e at none =
     by_sender (λ (x : Event). (MakesAForward x → ⊥) → P (happens w x))
-    (λ s m n. write_cases P w s m refl refl)
-    (λ s n. pass_over_cases P w s refl (λ b. refl))
-    (λ s i n. drop_cases P w s i refl (λ b. refl))
-    (λ s i any n. begin_cases P w s i any refl (λ m f g. refl))
-    (λ n. go_on_cases P w refl (λ y b. refl))
-    (λ o n. resend_cases P w o refl refl)
-    (λ s i n. abandon_cases P w s i refl refl (λ y. refl))
-    (λ k n. sack_cases P w k refl (λ x b l. refl))
-    (λ n. absurd (n tt))
-    e at none
+    (record {
+      writes = λ s m n. write_cases P w s m refl refl;
+      passes = λ s n. pass_over_cases P w s refl (λ b. refl);
+      drops = λ s i n. drop_cases P w s i refl (λ b. refl);
+      begins = λ s i any n. begin_cases P w s i any refl (λ m f g. refl);
+      goes_on = λ n. go_on_cases P w refl (λ y b. refl);
+      resends = λ o n. resend_cases P w o refl refl;
+      abandons = λ s i n. abandon_cases P w s i refl refl (λ y. refl);
+      sacks = λ k n. sack_cases P w k refl (λ x b l. refl);
+      forwards = λ n. absurd (n tt);
+    }) e at none
   where
     P : Direction → Type 0
     P v = v.forwards ≡ w.forwards
 
 pub senders_events_keep_the_invariant : SendersEventsKeepTheInvariant
 senders_events_keep_the_invariant w e at few h =
-    by_sender (λ (x : Event). IsForwardWithin w x → Invariant (happens w x)) (λ s m f. write_event_keeps w s m h)
-    (λ s f. pass_over_cases Invariant w s h (λ b. keeps_pass_over w s b h))
-    (λ s i f. drop_cases Invariant w s i h (λ b. keeps_drop w s i b h))
-    (λ s i any f. begin_event_keeps w s i any h)
-    (λ f. go_on_cases Invariant w h (λ y b. keeps_go_on w y b h))
-    (λ o f. resend_event_keeps w o h)
-    (λ s i f. abandon_event_keeps w s i h)
-    (λ k f. sack_event_keeps w k h)
-    (λ f. forward_made_event_keeps w f h)
-    e at few
+    by_sender (λ (x : Event). IsForwardWithin w x → Invariant (happens w x))
+    (record {
+      writes = λ s m f. write_event_keeps w s m h;
+      passes = λ s f. pass_over_cases Invariant w s h (λ b. keeps_pass_over w s b h);
+      drops = λ s i f. drop_cases Invariant w s i h (λ b. keeps_drop w s i b h);
+      begins = λ s i any f. begin_event_keeps w s i any h;
+      goes_on = λ f. go_on_cases Invariant w h (λ y b. keeps_go_on w y b h);
+      resends = λ o f. resend_event_keeps w o h;
+      abandons = λ s i f. abandon_event_keeps w s i h;
+      sacks = λ k f. sack_event_keeps w k h;
+      forwards = λ f. forward_made_event_keeps w f h;
+    }) e at few
 
 -- Writes
 
@@ -249,8 +273,15 @@ writes_are_accepted_last w s u t kind bytes some =
 
 pub receivers_events_are_received : ReceiversEventsAreReceived
 receivers_events_are_received w e at =
-    by_receiver (λ (x : Event). IsReceived w (happens w x)) (data_received w) (sack_received w) (forward_received w)
-    (open_received w) (read_received w) (close_received w) e at
+    by_receiver (λ (x : Event). IsReceived w (happens w x))
+    (record {
+      comes = data_received w;
+      made = sack_received w;
+      forwards = forward_received w;
+      opens = open_received w;
+      reads = read_received w;
+      closes = close_received w;
+    }) e at
 
 data_brings : (w : Direction) (k o : ℕ) → mem o (happens w (Event.DataComes k)).receiver.taken ≡ true
     → (mem o w.receiver.taken ≡ true) ⊎ Brings w (Event.DataComes k) o
@@ -272,25 +303,27 @@ pub only_what_is_brought_is_taken_in : OnlyWhatIsBroughtIsTakenIn
 only_what_is_brought_is_taken_in w e o at =
     by_receiver (λ (x : Event). mem o (happens w x).receiver.taken ≡ true
     → (mem o w.receiver.taken ≡ true) ⊎ Brings w x o)
-    (λ k m. data_brings w k o m)
-    (λ m. inl (subst (λ z. mem o z ≡ true) (sack_takes w) m))
-    (λ k m. inl (subst (λ z. mem o z ≡ true) (forward_takes w k) m))
-    (λ s m. inl (subst (λ z. mem o z ≡ true) (open_takes w s) m))
-    (λ s m. inl (subst (λ z. mem o z ≡ true) (read_takes w s) m))
-    (λ m. inl (subst (λ z. mem o z ≡ true) (close_takes w) m))
-    e at
+    (record {
+      comes = λ k m. data_brings w k o m;
+      made = λ m. inl (subst (λ z. mem o z ≡ true) (sack_takes w) m);
+      forwards = λ k m. inl (subst (λ z. mem o z ≡ true) (forward_takes w k) m);
+      opens = λ s m. inl (subst (λ z. mem o z ≡ true) (open_takes w s) m);
+      reads = λ s m. inl (subst (λ z. mem o z ≡ true) (read_takes w s) m);
+      closes = λ m. inl (subst (λ z. mem o z ≡ true) (close_takes w) m);
+    }) e at
 
 pub only_forwards_pass_over : OnlyForwardsPassOver
 only_forwards_pass_over w e at =
     by_receiver (λ (x : Event). ((happens w x).receiver.passed ≡ w.receiver.passed)
     ⊎ BringsForward w x (happens w x).receiver.passed)
-    (λ k. inl (data_passes w k))
-    (inl (sack_passes w))
-    (forward_passes w)
-    (λ s. inl (open_passes w s))
-    (λ s. inl (read_passes w s))
-    (inl (close_passes w))
-    e at
+    (record {
+      comes = λ k. inl (data_passes w k);
+      made = inl (sack_passes w);
+      forwards = forward_passes w;
+      opens = λ s. inl (open_passes w s);
+      reads = λ s. inl (read_passes w s);
+      closes = inl (close_passes w);
+    }) e at
 
 reads_made : (w : Direction) (s : ℕ) → (happens w Event.SackMade).reads s ≡ w.reads s
 unfolding happens
@@ -307,13 +340,14 @@ reads_closed w s = refl
 pub only_reads_give_messages : OnlyReadsGiveMessages
 only_reads_give_messages w e s at none =
     by_receiver (λ (x : Event). (GivesAMessage x → ⊥) → (happens w x).reads s ≡ w.reads s)
-    (λ k n. data_cases (λ v. v.reads s ≡ w.reads s) w k refl (λ d f. refl))
-    (λ n. reads_made w s)
-    (λ k n. forward_cases (λ v. v.reads s ≡ w.reads s) w k refl (λ f g. refl))
-    (λ id n. reads_opened w id s)
-    (λ id n. absurd (n tt))
-    (λ n. reads_closed w s)
-    e at none
+    (record {
+      comes = λ k n. data_cases (λ v. v.reads s ≡ w.reads s) w k refl (λ d f. refl);
+      made = λ n. reads_made w s;
+      forwards = λ k n. forward_cases (λ v. v.reads s ≡ w.reads s) w k refl (λ f g. refl);
+      opens = λ id n. reads_opened w id s;
+      reads = λ id n. absurd (n tt);
+      closes = λ n. reads_closed w s;
+    }) e at none
 
 pub closed_receivers_are_not_open : ClosedReceiversAreNotOpen
 closed_receivers_are_not_open = closed

@@ -116,15 +116,15 @@ skipped_params : (ns : List ℕ) (t : StreamView) → (skipped_by ns t).params �
 skipped_params [] t = refl
 skipped_params (n ∷ ns) t = skipped_params ns (stream_skipped n t)
 
-kept_passed : (tsn : ℕ) (ns : List ℕ) (o : Option StreamView) (m : StreamMap) (s : ℕ)
-    → stream_at m s ≡ option_map (passed_by tsn ns) o
-    → ((t : StreamView) → o ≡ Some t → t.params ≡ ordered_and_reliable)
-    → IsKeptInOrder m s
-kept_passed tsn ns None m s at kept u e = absurd (false≢true (ap is_some (sym at ∙ e)))
-kept_passed tsn ns (Some t) m s at kept u e =
-    let is : Some (passed_by tsn ns t) ≡ Some u = sym at ∙ e in
-    let same : passed_by tsn ns t ≡ u = cc in
-    ap (λ z. z.params) (sym same) ∙ skipped_params ns t ∙ kept t refl
+module _ (tsn : ℕ) (ns : List ℕ) (m : StreamMap) (s : ℕ) where
+  kept_passed : (o : Option StreamView) → stream_at m s ≡ option_map (passed_by tsn ns) o
+      → ((t : StreamView) → o ≡ Some t → t.params ≡ ordered_and_reliable)
+      → IsKeptInOrder m s
+  kept_passed None at kept u e = absurd (false≢true (ap is_some (sym at ∙ e)))
+  kept_passed (Some t) at kept u e =
+      let is : Some (passed_by tsn ns t) ≡ Some u = sym at ∙ e in
+      let same : passed_by tsn ns t ≡ u = cc in
+      ap (λ z. z.params) (sym same) ∙ skipped_params ns t ∙ kept t refl
 
 -- what the named pieces had outstanding was released
 kept_acknowledged : (named : ℕ → Bool) (j : ℕ) (xs : List InFlight) (m : StreamMap) (s : ℕ) → IsKeptInOrder m s
@@ -225,7 +225,7 @@ only_settings_loosen (Act.Dropped k) p s others kept = kept_dropped k (slice_get
 only_settings_loosen (Act.Started now) p s others kept = kept
 only_settings_loosen Act.Forwarded p s others kept = kept
 only_settings_loosen (Act.PassedOver tsn skipped) p s others kept =
-    kept_passed tsn (numbers_told s skipped) (stream_at p.streams s) (passed_over tsn skipped p.streams) s
+    kept_passed tsn (numbers_told s skipped) (passed_over tsn skipped p.streams) s (stream_at p.streams s)
     (at_passed tsn skipped p.streams s) kept
 only_settings_loosen (Act.Took piece) p s others kept =
     kept_pushed (stream_at p.streams piece.stream_identifier) p.streams piece.stream_identifier s piece refl kept

@@ -1,19 +1,19 @@
 -- What an association finds acknowledged is acknowledged at the direction's sender, and a SACK acknowledges as many
 -- offsets there as pieces here (RFC 4960 section 6.2.1).
-use Rattle.std.proofs.Common.{zero, suc, List, [], ◌∷◌, ◌++◌, ◌&&◌, map, take, drop, nat_lt}
+use Rattle.std.proofs.Common.{zero, suc, List, [], ◌∷◌, ◌++◌, ◌&&◌, map, take, drop, nat_lt, Some, slice_get}
 use Rattle.std.proofs.Common.{◌≡◌, sym, ap, ◌∙◌, ⊎_elim, ℕ, ◌+◌, ◌-◌, ◌<◌, ◌≤◌, ◌%◌, ◌^◌, ◌||◌, length, arith}
 use Rattle.std.proofs.lemmas.Bool.{cases_lt, le-ltb, lt-ltb}
 use Rattle.sctp_wire_types.specs.declared.chunk.ChunkSelectiveAck.{ChunkSelectiveAck}
 use Rattle.sctp_received.specs.Received.{is_named}
 use Rattle.sctp_model.specs.Packets.{Sack, mem, names}
-use Rattle.sctp_model.specs.Machine.{Event, happens, reach}
-use Rattle.sctp_model.specs.Invariants.{IsHonest}
+use Rattle.sctp_model.specs.Machine.{Direction, Event, happens, reach}
+use Rattle.sctp_model.specs.Invariants.{Invariant, IsHonest}
 use Rattle.sctp_model.proofs.Lists.{all_get}
 use Rattle.sctp_serial.specs.Serial.{tsn}
 use Rattle.sctp_fit.specs.Incoming.{tsn_before}
 use Rattle.sctp_fit.proofs.FlightAcknowledged as flight
 use Rattle.sctp_fit.proofs.SentAgain.{flight_length}
-use Rattle.sctp_directions.specs.Acts.{is_acknowledged_by, sending, with_acknowledged, with_reports}
+use Rattle.sctp_directions.specs.Acts.{Act, Parts, done, is_acknowledged_by, sending, with_acknowledged, with_reports}
 use Rattle.sctp_directions.proofs.OutgoingSentAgain.{same_piece}
 use Rattle.sctp_fit.proofs.MarksSayNothing as marks
 use Rattle.sctp_fit.specs.Sendings.{AreSamePieces, IsSamePiece}
@@ -23,6 +23,8 @@ use Rattle.std.proofs.lemmas.Bool.{cond_both}
 use Rattle.sctp_directions.specs.Laws.{ItsAcknowledgementsAreAlike, SacksMeanTheSame}
 use Rattle.sctp_directions.specs.Reports.{SaysWhatWasTaken}
 use Rattle.sctp_directions.proofs.IncomingTook.{reach_known}
+use Rattle.sctp_fit.specs.Outgoing.{FitsOutgoing}
+use Rattle.sctp_model.specs.Safe.{IsWithin}
 
 -- What a SACK names
 
@@ -59,30 +61,48 @@ first_reported zero xs = all_same xs
 first_reported (suc n) [] = tt
 first_reported (suc n) (x ∷ xs) = (same_reported x, first_reported n xs)
 
--- What a SACK acknowledges of the pieces in flight, it acknowledges at the direction's sender.
+module _ (p : Parts) (n k missing : ℕ) (c : ChunkSelectiveAck) (x : Sack) (w : Direction)
+    (there : slice_get w.sacks k ≡ Some x) (says : SaysWhatWasTaken p.history.own x.reach x.above c)
+    (far : x.reach ≡ w.sender.reach + n) (within : n ≤ length p.queue.in_flight) (inv : Invariant w)
+    (f : FitsOutgoing (sending p) w) where
+  -- What a SACK acknowledges of the pieces in flight, it acknowledges at the direction's sender.
+  acknowledged_alike : FitsOutgoing (sending (done (Act.Acknowledged n c.gap_ack_blocks missing) p))
+      (happens w (Event.SackComes k))
+  acknowledged_alike =
+      let left = with_acknowledged n c.gap_ack_blocks p in
+      marks.marks_are_no_events (sending left) (with_reports missing left).queue.in_flight
+      (happens w (Event.SackComes k)) (first_reported missing left.queue.in_flight)
+      (flight.acknowledgements_are_alike (sending p) n k (is_acknowledged_by n c.gap_ack_blocks) x w there far within
+      (λ j l. names_alike p.history.own w.sender.reach n j x c says far) inv f)
+
 pub its_acknowledgements_are_alike : ItsAcknowledgementsAreAlike
-its_acknowledgements_are_alike p n k missing c x w there says far within inv f =
-    let left = with_acknowledged n c.gap_ack_blocks p in
-    marks.marks_are_no_events (sending left) (with_reports missing left).queue.in_flight (happens w (Event.SackComes k))
-    (first_reported missing left.queue.in_flight)
-    (flight.acknowledgements_are_alike (sending p) n k (is_acknowledged_by n c.gap_ack_blocks) x w there far within
-    (λ j l. names_alike p.history.own w.sender.reach n j x c says far) inv f)
+its_acknowledgements_are_alike = acknowledged_alike
 
 -- What its cumulative TSN ack means
 
 -- two reaches of offsets that are known, and that are less than half the range of the TSNs
-same_reach : (own at p l t : ℕ) → t ≡ tsn_before (tsn own p) → t % 2 ^ 32 ≡ tsn_before (tsn own at) → at ≤ l → p ≤ l
-    → l < 2 ^ 31 → p ≡ at
-same_reach own at p l t e f within known small = omega arith
+module _ (own at p l t : ℕ) (e : t ≡ tsn_before (tsn own p)) (f : t % 2 ^ 32 ≡ tsn_before (tsn own at))
+    (within : at ≤ l) (known : p ≤ l) (small : l < 2 ^ 31) where
+  same_reach : p ≡ at
+  same_reach = omega arith
 
--- A SACK that was made acknowledges as many offsets as its cumulative TSN ack acknowledges pieces.
+module _ (p : Parts) (n t k : ℕ) (x : Sack) (w : Direction) (there : slice_get w.sacks k ≡ Some x)
+    (at : t ≡ tsn_before (tsn p.history.own x.reach))
+    (is : t % 2 ^ 32 ≡ tsn_before (tsn p.history.own (p.history.base + n))) (some : n ≤ length p.queue.in_flight)
+    (within : IsWithin w) (inv : Invariant w) (f : FitsOutgoing (sending p) w) where
+  -- A SACK that was made acknowledges as many offsets as its cumulative TSN ack acknowledges pieces.
+  sack_means_the_same : x.reach ≡ w.sender.reach + n
+  sack_means_the_same =
+      let honest =
+      all_get (IsHonest w.receiver.taken w.receiver.passed (reach w.receiver)) w.sacks k x there inv.sacks in
+      let known = reach_known w inv in
+      let length_is =
+      flight_length f.named w.sender.plan w.sender.acknowledged w.sender.gone w.sender.reach p.queue.in_flight
+      f.flight in
+      let base_is : p.history.base ≡ w.sender.reach = f.base in
+      same_reach p.history.own (p.history.base + n) x.reach (length w.sender.plan.places) t at is (omega arith)
+      (let r = honest.reach in omega arith) within.offsets
+      ∙ ap (λ b. b + n) base_is
+
 pub sacks_mean_the_same : SacksMeanTheSame
-sacks_mean_the_same p n t k x w there at is some within inv f =
-    let honest = all_get (IsHonest w.receiver.taken w.receiver.passed (reach w.receiver)) w.sacks k x there inv.sacks in
-    let known = reach_known w inv in
-    let length_is =
-    flight_length f.named w.sender.plan w.sender.acknowledged w.sender.gone w.sender.reach p.queue.in_flight f.flight in
-    let base_is : p.history.base ≡ w.sender.reach = f.base in
-    same_reach p.history.own (p.history.base + n) x.reach (length w.sender.plan.places) t at is (omega arith)
-    (let r = honest.reach in omega arith) within.offsets
-    ∙ ap (λ b. b + n) base_is
+sacks_mean_the_same = sack_means_the_same

@@ -19,8 +19,8 @@ ghost use Rattle.sctp_directions.specs.Laws.{ShortMessagesAreOnePiece, WhatComes
 ghost use Rattle.sctp_directions.specs.Laws.{WritesAreAcceptedLast};
 
 /// What an association writes, sends again, finds acknowledged, abandons and drops happens at the sender of its
-/// direction, and so does a FORWARD TSN that it makes; of marks, of deadlines and of what an application sets on a
-/// stream that one knows nothing.
+/// direction, and so does a FORWARD TSN that it makes. Of marks, of deadlines and of what an application sets on a
+/// stream that sender knows nothing.
 pub fn its_own_acts_are_events()
     ensures writes { ItsWritesAreAccepted }
     ensures pieces { ItsPiecesAreGiven }

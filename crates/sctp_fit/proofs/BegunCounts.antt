@@ -122,53 +122,50 @@ counts_passed accepted next begun gone s there h = record {
 }
 
 -- Message i of stream s begins: where it is ordered, it is the next one, and the next number moves past it.
-counts_unordered : (accepted : ℕ → List Message) (next : ℕ → ℕ) (begun gone : ℕ → ℕ → Bool) (s i : ℕ)
-    → i < length (accepted s) → (get_or (accepted s) i no_message).ordered ≡ false
-    → BegunIsCounted accepted next begun gone
-    → BegunIsCounted accepted next (put_2 begun s i) gone
-counts_unordered accepted next begun gone s i accepts unordered h = record {
-  known = λ t j b. ⊎_elim
+module _ (accepted : ℕ → List Message) (next : ℕ → ℕ) (begun gone : ℕ → ℕ → Bool) (s i : ℕ)
+    (accepts : i < length (accepted s)) (h : BegunIsCounted accepted next begun gone) where
+  -- what is begun then was accepted
+  known_then : (t j : ℕ) → put_2 begun s i t j ≡ true → j < length (accepted t)
+  known_then t j b = ⊎_elim
       (λ (a : (t ≡ s) × (j ≡ i)). subst (λ z. j < length (accepted z)) (sym a.0)
       (subst (λ z. z < length (accepted s)) (sym a.1) accepts))
       (λ (a : begun t j ≡ true). h.known t j a)
-      (gone_cases begun s i t j b);
-  below = λ t j b o. ⊎_elim
-      (λ (a : (t ≡ s) × (j ≡ i)).
-      absurd (true≢false (sym o ∙ ap (λ z. (get_or (accepted z) j no_message).ordered) a.0
-      ∙ ap (λ z. (get_or (accepted s) z no_message).ordered) a.1 ∙ unordered)))
-      (λ (a : begun t j ≡ true). h.below t j a o)
-      (gone_cases begun s i t j b);
-  behind = λ t j l k o. ⊎_elim
-      (λ (a : begun t j ≡ true). inl (gone_more begun s i t j a)) (λ (a : gone t j ≡ true). inr a)
-      (h.behind t j l k o);
-}
+      (gone_cases begun s i t j b)
 
-counts_ordered : (accepted : ℕ → List Message) (next : ℕ → ℕ) (begun gone : ℕ → ℕ → Bool) (s i : ℕ)
-    → i < length (accepted s) → i ≡ next s
-    → BegunIsCounted accepted next begun gone
-    → BegunIsCounted accepted (put next s (suc i)) (put_2 begun s i) gone
-counts_ordered accepted next begun gone s i accepts is h =
-    subst (λ z. BegunIsCounted accepted (put next s (suc z)) (put_2 begun s i) gone) (sym is) (record {
-      known = λ t j b. ⊎_elim
-          (λ (a : (t ≡ s) × (j ≡ i)). subst (λ z. j < length (accepted z)) (sym a.0)
-          (subst (λ z. z < length (accepted s)) (sym a.1) accepts))
-          (λ (a : begun t j ≡ true). h.known t j a)
-          (gone_cases begun s i t j b);
-      below = λ t j b o. ⊎_elim
-          (λ (a : (t ≡ s) × (j ≡ i)).
-          subst (λ z. j < z) (sym (at_put next s t (suc (next s)) a.0)) (let k = a.1 in omega arith))
-          (λ (a : begun t j ≡ true). next_more next s t j (h.below t j a o))
-          (gone_cases begun s i t j b);
-      behind = λ t j l k o. ⊎_elim
-          (λ (a : j < next t). ⊎_elim
-          (λ (b : begun t j ≡ true). inl (gone_more begun s i t j b)) (λ (g : gone t j ≡ true). inr g)
-          (h.behind t j a k o))
-          (λ (a : (t ≡ s) × (j ≡ next s)). inl (here t j a.0 (a.1 ∙ sym is)))
-          (next_cases next s t j l);
-    })
-  where
-    here : (t j : ℕ) → t ≡ s → j ≡ i → put_2 begun s i t j ≡ true
-    here t j a b = rw (eq-eqb t s a, eq-eqb j i b) refl
+  counts_unordered : (get_or (accepted s) i no_message).ordered ≡ false
+      → BegunIsCounted accepted next (put_2 begun s i) gone
+  counts_unordered unordered = record {
+    known = known_then;
+    below = λ t j b o. ⊎_elim
+        (λ (a : (t ≡ s) × (j ≡ i)).
+        absurd (true≢false (sym o ∙ ap (λ z. (get_or (accepted z) j no_message).ordered) a.0
+        ∙ ap (λ z. (get_or (accepted s) z no_message).ordered) a.1 ∙ unordered)))
+        (λ (a : begun t j ≡ true). h.below t j a o)
+        (gone_cases begun s i t j b);
+    behind = λ t j l k o. ⊎_elim
+        (λ (a : begun t j ≡ true). inl (gone_more begun s i t j a)) (λ (a : gone t j ≡ true). inr a)
+        (h.behind t j l k o);
+  }
+
+  counts_ordered : i ≡ next s → BegunIsCounted accepted (put next s (suc i)) (put_2 begun s i) gone
+  counts_ordered is =
+      subst (λ z. BegunIsCounted accepted (put next s (suc z)) (put_2 begun s i) gone) (sym is) (record {
+        known = known_then;
+        below = λ t j b o. ⊎_elim
+            (λ (a : (t ≡ s) × (j ≡ i)).
+            subst (λ z. j < z) (sym (at_put next s t (suc (next s)) a.0)) (let k = a.1 in omega arith))
+            (λ (a : begun t j ≡ true). next_more next s t j (h.below t j a o))
+            (gone_cases begun s i t j b);
+        behind = λ t j l k o. ⊎_elim
+            (λ (a : j < next t). ⊎_elim
+            (λ (b : begun t j ≡ true). inl (gone_more begun s i t j b)) (λ (g : gone t j ≡ true). inr g)
+            (h.behind t j a k o))
+            (λ (a : (t ≡ s) × (j ≡ next s)). inl (here t j a.0 (a.1 ∙ sym is)))
+            (next_cases next s t j l);
+      })
+    where
+      here : (t j : ℕ) → t ≡ s → j ≡ i → put_2 begun s i t j ≡ true
+      here t j a b = rw (eq-eqb t s a, eq-eqb j i b) refl
 
 -- Events at the sender
 
@@ -193,7 +190,7 @@ count_begin : (x : Sender) (s i number : ℕ) → can_begin x s i ≡ true → C
     → CountsBegun (counted (sent x (first_place s i number)) s i b)
 count_begin x s i number can h true o =
     counts_begun (counted (sent x (first_place s i number)) s i true)
-    (counts_ordered x.plan.accepted x.next x.begun x.gone s i accepts due (counts_of x h))
+    (counts_ordered x.plan.accepted x.next x.begun x.gone s i accepts (counts_of x h) due)
   where
     accepts : i < length (x.plan.accepted s)
     accepts = ltb-true _ _ (and_parts (has_message x.plan s i) _ (and_parts (is_unsent x s i) _ can).0).0
@@ -205,7 +202,7 @@ count_begin x s i number can h true o =
         (or_cases _ _ (and_parts (is_unsent x s i) _ can).1)
 count_begin x s i number can h false o =
     counts_begun (counted (sent x (first_place s i number)) s i false)
-    (counts_unordered x.plan.accepted x.next x.begun x.gone s i accepts o (counts_of x h))
+    (counts_unordered x.plan.accepted x.next x.begun x.gone s i accepts (counts_of x h) o)
   where
     accepts : i < length (x.plan.accepted s)
     accepts = ltb-true _ _ (and_parts (has_message x.plan s i) _ (and_parts (is_unsent x s i) _ can).0).0

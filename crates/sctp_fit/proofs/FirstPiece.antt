@@ -102,28 +102,29 @@ pub record PassesTo (w : Direction) (next : ℕ → ℕ) (last : Event) : Type 0
   pub sends : AllByRecursion SendsNext events
   pub leads : run events (with_next w next) ≡ happens (with_next w after) last
 
--- the messages of stream s before number i are passed over
-pub passes : (w : Direction) (s i : ℕ) (last : Event) → SendsNext last → (n : ℕ) (next : ℕ → ℕ) → next s + n ≡ i
-    → ((j : ℕ) → next s ≤ j → j < i → is_passable w.sender s j ≡ true)
-    → (r : PassesTo w next last) × (r.after s ≡ i)
-passes w s i last k zero next e pass = (
-  record { events = last ∷ []; after = next; sends = (k, tt); leads = refl },
-  (let l : next s ≡ i = omega (arith, e) in l),
-)
-passes w s i last k (suc n) next e pass =
-    let one = at_put next s s (suc (next s)) refl in
-    let r =
-    passes w s i last k n (put next s (suc (next s))) (omega arith) (λ j l b. pass j (omega arith) b) in (
-      record {
-        events = Event.PassOver s ∷ (r.0).events;
-        after = (r.0).after;
-        sends = (tt, (r.0).sends);
-        leads =
-            ap (run (r.0).events) (happens_pass_over w s next (pass (next s) (omega arith) (omega arith)))
-            ∙ (r.0).leads;
-      },
-      r.1,
-    )
+module _ (w : Direction) (s i : ℕ) (last : Event) (k : SendsNext last) where
+  -- the messages of stream s before number i are passed over
+  pub passes : (n : ℕ) (next : ℕ → ℕ) → next s + n ≡ i
+      → ((j : ℕ) → next s ≤ j → j < i → is_passable w.sender s j ≡ true)
+      → (r : PassesTo w next last) × (r.after s ≡ i)
+  passes zero next e pass = (
+    record { events = last ∷ []; after = next; sends = (k, tt); leads = refl },
+    (let l : next s ≡ i = omega (arith, e) in l),
+  )
+  passes (suc n) next e pass =
+      let one = at_put next s s (suc (next s)) refl in
+      let r =
+      passes n (put next s (suc (next s))) (omega arith) (λ j l b. pass j (omega arith) b) in (
+        record {
+          events = Event.PassOver s ∷ (r.0).events;
+          after = (r.0).after;
+          sends = (tt, (r.0).sends);
+          leads =
+              ap (run (r.0).events) (happens_pass_over w s next (pass (next s) (omega arith) (omega arith)))
+              ∙ (r.0).leads;
+        },
+        r.1,
+      )
 
 -- A piece goes out
 
@@ -143,46 +144,49 @@ with_piece w y c = record w {
   datas = w.datas ++ next_data w.sender y ∷ [];
 }
 
--- message i of stream s, unordered or not, begins; `any` is its number if it is unordered
-pub happens_begin : (w : Direction) (s i any : ℕ) (unordered : Bool) (next : ℕ → ℕ) → w.sender.current ≡ None
-    → unordered ≡ not (message_at w.sender.plan s i).ordered → is_unsent w.sender s i ≡ true
-    → (unordered ≡ false → next s ≡ i)
-    → (after : ℕ → ℕ) × (happens (with_next w next) (Event.Begin s i any)
-    ≡ with_piece w (first_place s i (if unordered then any else w.sender.ssn s)) (record {
-      next = after;
-      ssn = if unordered then w.sender.ssn else put w.sender.ssn s (suc (w.sender.ssn s));
-      begun = put_2 w.sender.begun s i;
-    }))
-unfolding happens
-happens_begin w s i any true next c u is due =
-    let o : (message_at w.sender.plan s i).ordered ≡ false =
-    false_from_ne_true _ (λ (b : (message_at w.sender.plan s i).ordered ≡ true). true≢false (u ∙ ap not b)) in (
-      next,
-      ap (begin_if (with_next w next) s i any) c
-          ∙ cond-true _ (begin (with_next w next) s i (number_for w.sender s i any)) (with_next w next)
-          (and_from _ _ is (or_left (not (message_at w.sender.plan s i).ordered) (eqb i (next s)) (ap not o)))
-          ∙ ap (begin (with_next w next) s i) (cond-false _ (w.sender.ssn s) any o)
-          ∙ ap
-          (λ (b : Bool). record w {
-            sender = counted (sent (with_next w next).sender (first_place s i any)) s i b;
-            datas = w.datas ++ next_data w.sender (first_place s i any) ∷ [];
-          }) o,
-    )
-happens_begin w s i any false next c u is due =
-    let o : (message_at w.sender.plan s i).ordered ≡ true =
-    true_from_ne_false _ (λ (b : (message_at w.sender.plan s i).ordered ≡ false). true≢false (sym (u ∙ ap not b))) in (
-      put next s (suc i),
-      ap (begin_if (with_next w next) s i any) c
-          ∙ cond-true _ (begin (with_next w next) s i (number_for w.sender s i any)) (with_next w next)
-          (and_from _ _ is
-          (or_right (not (message_at w.sender.plan s i).ordered) (eqb i (next s)) (eq-eqb i (next s) (sym (due refl)))))
-          ∙ ap (begin (with_next w next) s i) (cond-true _ (w.sender.ssn s) any o)
-          ∙ ap
-          (λ (b : Bool). record w {
-            sender = counted (sent (with_next w next).sender (first_place s i (w.sender.ssn s))) s i b;
-            datas = w.datas ++ next_data w.sender (first_place s i (w.sender.ssn s)) ∷ [];
-          }) o,
-    )
+-- message i of stream s begins; `any` is its number if it is unordered
+module _ (w : Direction) (s i any : ℕ) (next : ℕ → ℕ) (c : w.sender.current ≡ None)
+    (is : is_unsent w.sender s i ≡ true) where
+  pub happens_begin : (unordered : Bool) → unordered ≡ not (message_at w.sender.plan s i).ordered
+      → (unordered ≡ false → next s ≡ i)
+      → (after : ℕ → ℕ) × (happens (with_next w next) (Event.Begin s i any)
+      ≡ with_piece w (first_place s i (if unordered then any else w.sender.ssn s)) (record {
+        next = after;
+        ssn = if unordered then w.sender.ssn else put w.sender.ssn s (suc (w.sender.ssn s));
+        begun = put_2 w.sender.begun s i;
+      }))
+  unfolding happens
+  happens_begin true u due =
+      let o : (message_at w.sender.plan s i).ordered ≡ false =
+      false_from_ne_true _ (λ (b : (message_at w.sender.plan s i).ordered ≡ true). true≢false (u ∙ ap not b)) in (
+        next,
+        ap (begin_if (with_next w next) s i any) c
+            ∙ cond-true _ (begin (with_next w next) s i (number_for w.sender s i any)) (with_next w next)
+            (and_from _ _ is (or_left (not (message_at w.sender.plan s i).ordered) (eqb i (next s)) (ap not o)))
+            ∙ ap (begin (with_next w next) s i) (cond-false _ (w.sender.ssn s) any o)
+            ∙ ap
+            (λ (b : Bool). record w {
+              sender = counted (sent (with_next w next).sender (first_place s i any)) s i b;
+              datas = w.datas ++ next_data w.sender (first_place s i any) ∷ [];
+            }) o,
+      )
+  happens_begin false u due =
+      let o : (message_at w.sender.plan s i).ordered ≡ true =
+      true_from_ne_false _ (λ (b : (message_at w.sender.plan s i).ordered ≡ false).
+      true≢false (sym (u ∙ ap not b))) in (
+        put next s (suc i),
+        ap (begin_if (with_next w next) s i any) c
+            ∙ cond-true _ (begin (with_next w next) s i (number_for w.sender s i any)) (with_next w next)
+            (and_from _ _ is
+            (or_right (not (message_at w.sender.plan s i).ordered) (eqb i (next s))
+            (eq-eqb i (next s) (sym (due refl)))))
+            ∙ ap (begin (with_next w next) s i) (cond-true _ (w.sender.ssn s) any o)
+            ∙ ap
+            (λ (b : Bool). record w {
+              sender = counted (sent (with_next w next).sender (first_place s i (w.sender.ssn s))) s i b;
+              datas = w.datas ++ next_data w.sender (first_place s i (w.sender.ssn s)) ∷ [];
+            }) o,
+      )
 
 pub happens_go_on : (w : Direction) (y : Place) → w.sender.current ≡ Some y
     → happens w Event.GoOn ≡ with_piece w y (counters_of w.sender)

@@ -67,14 +67,15 @@ module _ (n : Names) (p : Plan) (before : ℕ → Bool) (gone : ℕ → ℕ → 
   )
 
 -- the pieces past the first ones are those of the offsets past theirs
-flight_dropped : (n : Names) (p : Plan) (acknowledged : ℕ → Bool) (gone : ℕ → ℕ → Bool) (o k : ℕ) (xs : List InFlight)
-    → k ≤ length xs → AreInFlight n p acknowledged gone o xs → AreInFlight n p acknowledged gone (o + k) (drop k xs)
-flight_dropped n p acknowledged gone o zero xs l h =
-    subst (λ z. AreInFlight n p acknowledged gone z xs) (let r : o ≡ o + 0 = omega arith in r) h
-flight_dropped n p acknowledged gone o (suc k) [] l h = absurd (omega (arith, l))
-flight_dropped n p acknowledged gone o (suc k) (x ∷ xs) l (h, hs) =
-    subst (λ z. AreInFlight n p acknowledged gone z (drop k xs)) (let r : suc o + k ≡ o + suc k = omega arith in r)
-    (flight_dropped n p acknowledged gone (suc o) k xs (omega (arith, l)) hs)
+module _ (n : Names) (p : Plan) (acknowledged : ℕ → Bool) (gone : ℕ → ℕ → Bool) where
+  flight_dropped : (o k : ℕ) (xs : List InFlight) → k ≤ length xs → AreInFlight n p acknowledged gone o xs
+      → AreInFlight n p acknowledged gone (o + k) (drop k xs)
+  flight_dropped o zero xs l h =
+      subst (λ z. AreInFlight n p acknowledged gone z xs) (let r : o ≡ o + 0 = omega arith in r) h
+  flight_dropped o (suc k) [] l h = absurd (omega (arith, l))
+  flight_dropped o (suc k) (x ∷ xs) l (h, hs) =
+      subst (λ z. AreInFlight n p acknowledged gone z (drop k xs)) (let r : suc o + k ≡ o + suc k = omega arith in r)
+      (flight_dropped (suc o) k xs (omega (arith, l)) hs)
 
 -- A SACK comes
 
@@ -85,11 +86,20 @@ unfolding happens
 happens_sack_comes w k x e l =
     ap (sack_comes w) e ∙ cond-false _ w (record w { sender = acknowledged_by w.sender x }) (le-ltb _ _ l)
 
-module _ (a : Sending) (n : ℕ) (named : ℕ → Bool) (x : Sack) (w : Direction) (far : x.reach ≡ w.sender.reach + n)
-    (within : n ≤ length a.queue.in_flight)
+module _ (a : Sending) (n k : ℕ) (named : ℕ → Bool) (x : Sack) (w : Direction) (e : slice_get w.sacks k ≡ Some x)
+    (far : x.reach ≡ w.sender.reach + n) (within : n ≤ length a.queue.in_flight)
     (said : (j : ℕ) → j < length a.queue.in_flight → names x (w.sender.reach + j) ≡ named j)
-    (inv : Invariant w) (after : Invariant (record w { sender = acknowledged_by w.sender x }))
-    (f : FitsOutgoing a w) where
+    (inv : Invariant w) (f : FitsOutgoing a w) where
+  -- it lies at or past the acknowledged reach
+  ahead : w.sender.reach ≤ x.reach
+  ahead = omega arith
+
+  -- so the invariant holds once it came
+  after : Invariant (record w { sender = acknowledged_by w.sender x })
+  after =
+      keeps_sack_comes w x ahead
+      (all_get (IsHonest w.receiver.taken w.receiver.passed (reach w.receiver)) w.sacks k x e inv.sacks) inv
+
   -- the SACK names the pieces by their numbers from 0
   said_from : (j : ℕ) → j < length a.queue.in_flight → names x (w.sender.reach + j) ≡ named (0 + j)
   said_from j l = said j l ∙ ap named (let r : j ≡ 0 + j = omega arith in r)
@@ -161,12 +171,10 @@ module _ (a : Sending) (n : ℕ) (named : ℕ → Bool) (x : Sack) (w : Directio
         (most s) (f.own_streams s e)));
   }
 
+  acknowledged_alike : FitsOutgoing (acknowledged n named a) (happens w (Event.SackComes k))
+  acknowledged_alike =
+      subst (FitsOutgoing (acknowledged n named a)) (sym (happens_sack_comes w k x e ahead)) fits_now
+
 -- What a SACK acknowledges at the association, it acknowledges at the direction's sender.
 pub acknowledgements_are_alike : AcknowledgementsAreAlike
-acknowledgements_are_alike a n k named x w e far within said inv f =
-    let ahead : w.sender.reach ≤ x.reach = omega arith in
-    subst (FitsOutgoing (acknowledged n named a)) (sym (happens_sack_comes w k x e ahead))
-    (fits_now a n named x w far within said inv
-    (keeps_sack_comes w x ahead
-    (all_get (IsHonest w.receiver.taken w.receiver.passed (reach w.receiver)) w.sacks k x e inv.sacks) inv)
-    f)
+acknowledgements_are_alike = acknowledged_alike

@@ -23,12 +23,12 @@ front_none : (x : InFlight) (xs : List InFlight) → x.abandoned ≡ false → a
 front_none x xs e = rw e refl
 
 -- a found number that is wrapped is that of the piece, where this is an ordered one of the stream
-found_here : (b c : Bool) (m k : ℕ) (found seen : Option ℕ) → b ≡ c → m ≡ k % 65536 → seen ≡ wrapped found
-    → cond b (Some m) seen ≡ wrapped (cond c (Some k) found)
-found_here true true m k found seen same number before = ap (λ z. Some z) number
-found_here false false m k found seen same number before = before
-found_here true false m k found seen same number before = absurd (true≢false same)
-found_here false true m k found seen same number before = absurd (false≢true same)
+module _ (m k : ℕ) (found seen : Option ℕ) (number : m ≡ k % 65536) (before : seen ≡ wrapped found) where
+  found_here : (b c : Bool) → b ≡ c → cond b (Some m) seen ≡ wrapped (cond c (Some k) found)
+  found_here true true same = ap (λ z. Some z) number
+  found_here false false same = before
+  found_here true false same = absurd (true≢false same)
+  found_here false true same = absurd (false≢true same)
 
 not_twice : (b : Bool) → not (not b) ≡ b
 not_twice true = refl
@@ -82,8 +82,8 @@ module _ (n : Names) (v : Sender) where
       ap (λ z. last_ordered s (take z (x ∷ xs)) seen) (front_more x xs b)
       ∙ numbers_alike s (suc o) xs (cond (is_ordered_of v.plan s y) (Some y.ssn) found)
       (cond (eqb x.message.stream_identifier s && not x.message.unordered) (Some x.message.stream_sequence_number) seen)
-      (found_here (eqb x.message.stream_identifier s && not x.message.unordered) (is_ordered_of v.plan s y)
-      x.message.stream_sequence_number y.ssn found seen (ordered_here s o x h) h.message.ssn same)
+      (found_here x.message.stream_sequence_number y.ssn found seen h.message.ssn same
+      (eqb x.message.stream_identifier s && not x.message.unordered) (is_ordered_of v.plan s y) (ordered_here s o x h))
       hs
       ∙ sym (told (cond-true _ (y ∷ rest) [] (sym h.abandoned ∙ b))))
       (λ (b : x.abandoned ≡ false).

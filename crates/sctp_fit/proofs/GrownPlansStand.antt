@@ -177,38 +177,38 @@ stands_kept p q e initial s r u h = record {
 
 -- Nothing was assigned
 
--- no group is held, since it would have an offset
-groups_anew : (initial t : ℕ) (p : Plan) (s : ℕ) (gs : List Group) (hs : List HeldMessage) → length p.places ≡ 0
-    → AreGroups initial p s gs hs → AreGroups t p s gs hs
-groups_anew initial t p s [] [] none a = tt
-groups_anew initial t p s [] (h ∷ hs) none a = absurd a
-groups_anew initial t p s (g ∷ gs) [] none a = absurd a
-groups_anew initial t p s (g ∷ gs) (h ∷ hs) none a = absurd (no_first h.offsets (a.0).some (a.0).mine)
-  where
-    no_first : (os : List ℕ) → 0 < length os → AllByRecursion (IsOf p s h.number) os → ⊥
-    no_first [] some m = omega arith
-    no_first (o ∷ os) some m = let l = (m.0).at.known in omega arith
+module _ (initial t : ℕ) (p : Plan) (s : ℕ) (none : length p.places ≡ 0) where
+  -- no group is held, since it would have an offset
+  groups_anew : (gs : List Group) (hs : List HeldMessage) → AreGroups initial p s gs hs → AreGroups t p s gs hs
+  groups_anew [] [] a = tt
+  groups_anew [] (h ∷ hs) a = absurd a
+  groups_anew (g ∷ gs) [] a = absurd a
+  groups_anew (g ∷ gs) (h ∷ hs) a = absurd (no_first h.offsets (a.0).some (a.0).mine)
+    where
+      no_first : (os : List ℕ) → 0 < length os → AllByRecursion (IsOf p s h.number) os → ⊥
+      no_first [] some m = omega arith
+      no_first (o ∷ os) some m = let l = (m.0).at.known in omega arith
 
-runs_anew : (initial t : ℕ) (p : Plan) (s : ℕ) (cs : List (List ChunkPayloadData)) (os : List ℕ)
-    → length p.places ≡ 0 → AllByRecursion (IsLoose p s) os
-    → AreRuns initial p cs (runs_of p os) → AreRuns t p cs (runs_of p os)
-runs_anew initial t p s [] [] none m a = tt
-runs_anew initial t p s (c ∷ cs) [] none m a = absurd a
-runs_anew initial t p s cs (o ∷ os) none m a = absurd (let l = (m.0).at.known in omega arith)
+  -- nor a piece of an unordered message
+  runs_anew : (cs : List (List ChunkPayloadData)) (os : List ℕ) → AllByRecursion (IsLoose p s) os
+      → AreRuns initial p cs (runs_of p os) → AreRuns t p cs (runs_of p os)
+  runs_anew [] [] m a = tt
+  runs_anew (c ∷ cs) [] m a = absurd a
+  runs_anew cs (o ∷ os) m a = absurd (let l = (m.0).at.known in omega arith)
 
 -- Where no offset was assigned, a reassembly stands for the same queue under any initial TSN.
 pub stands_anew : (initial t : ℕ) (p : Plan) (s : ℕ) (r : Reassembly) (u : Queue) → length p.places ≡ 0
     → StandsFor initial p s r u → StandsFor t p s r u
 stands_anew initial t p s r u none h = record {
   held = h.held;
-  groups = groups_anew initial t p s r.ordered h.held none h.groups;
+  groups = groups_anew initial t p s none r.ordered h.held h.groups;
   ascends = h.ascends;
   same = h.same;
   next = h.next;
   waiting = record {
     offsets = h.waiting.offsets;
     runs =
-        runs_anew initial t p s r.unordered h.waiting.offsets none h.waiting.mine h.waiting.runs;
+        runs_anew initial t p s none r.unordered h.waiting.offsets h.waiting.mine h.waiting.runs;
     ascends = h.waiting.ascends;
     mine = h.waiting.mine;
     same = h.waiting.same;

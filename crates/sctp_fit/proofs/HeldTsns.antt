@@ -39,16 +39,16 @@ held_is t [] = refl
 held_is t (x ∷ xs) = rw (at_is t x, held_is t xs) refl
 
 -- by the place that one number has against another
-by_order : (P : List ℕ → Type 0) (k x : ℕ) (a b c : List ℕ) → (k < x → P a) → (k ≡ x → P b) → (x < k → P c)
-    → P (match_ordering (nat_cmp k x) a b c)
-by_order P k x a b c less same more = ⊎_elim
-    (λ (t : ltb k x ≡ true). rw t (less (ltb-true k x t)))
-    (λ (t : ltb k x ≡ false). rw t (⊎_elim
-    (λ (u : eqb k x ≡ true). rw u (same (eqb-true k x u)))
-    (λ (u : eqb k x ≡ false).
-    rw u (more (let g = ltb-false k x t in let ne = eqb-false k x u in omega (arith, ne))))
-    (cases_Bool (eqb k x))))
-    (cases_Bool (ltb k x))
+module _ (P : List ℕ → Type 0) (k x : ℕ) (a b c : List ℕ) where
+  by_order : (k < x → P a) → (k ≡ x → P b) → (x < k → P c) → P (match_ordering (nat_cmp k x) a b c)
+  by_order less same more = ⊎_elim
+      (λ (t : ltb k x ≡ true). rw t (less (ltb-true k x t)))
+      (λ (t : ltb k x ≡ false). rw t (⊎_elim
+      (λ (u : eqb k x ≡ true). rw u (same (eqb-true k x u)))
+      (λ (u : eqb k x ≡ false).
+      rw u (more (let g = ltb-false k x t in let ne = eqb-false k x u in omega (arith, ne))))
+      (cases_Bool (eqb k x))))
+      (cases_Bool (ltb k x))
 
 less_from : (k x : ℕ) → k < x → nat_cmp k x ≡ Less
 less_from k x l = rw (lt-ltb k x l) refl
@@ -177,8 +177,9 @@ pub spells : (i r t : ℕ) → t < 2 ^ 32 → tsn i (r + tsn_past (tsn i r) t) �
 spells i r t l = omega arith
 
 -- offsets less than 65,535 past r have TSNs of their own
-pub same_offset : (i r x y : ℕ) → r ≤ x → x < r + 65535 → r ≤ y → y < r + 65535 → tsn i x ≡ tsn i y → x ≡ y
-same_offset i r x y a b c d e = omega arith
+module _ (i r x y : ℕ) (a : r ≤ x) (b : x < r + 65535) (c : r ≤ y) (d : y < r + 65535) where
+  pub same_offset : tsn i x ≡ tsn i y → x ≡ y
+  same_offset e = omega arith
 
 -- how far a TSN lies past the last TSN in order
 pub past_before : (i r x : ℕ) → r ≤ x → x < r + 65535 → tsn_past (before i r) (tsn i x) + r ≡ suc x

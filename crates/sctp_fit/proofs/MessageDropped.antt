@@ -24,7 +24,8 @@ use Rattle.sctp_model.proofs.ReleasedBytes.{released_within}
 use Rattle.sctp_model.proofs.SenderEvents.{keeps_drop, same_plan}
 use Rattle.sctp_fit.specs.Drops.{DropsAreAlike, dropped, without_at}
 use Rattle.sctp_fit.specs.Outgoing.{AreInFlight, ArePieces, AreUnsent, AreWaiting, FitsOutgoing, IsNumbered, IsOwnAt}
-use Rattle.sctp_fit.specs.Outgoing.{IsWaiting, Names, Sending, number_at, numbers_after, numbers_past}
+use Rattle.sctp_fit.specs.Outgoing.{CountsBegun, IsWaiting, Names, Sending, number_at, numbers_after, numbers_past}
+use Rattle.sctp_fit.specs.Outgoing.{policy_of}
 use Rattle.sctp_fit.proofs.BytesReleased.{own_less}
 use Rattle.sctp_fit.proofs.FirstPiece.{at_put_2, off_put_2}
 use Rattle.sctp_fit.proofs.NumbersMoveDown.{above_itself, after_without, one_if, steps, unsent_down, wrapped_down}
@@ -288,17 +289,18 @@ steps_here d =
     by_order false false f = absurd (true≢false (sym f))
 
 -- the stream of the message gives its next ordered one the number that this one had
-numbered_down : {n : Names} {high s : ℕ} (low by bytes : ℕ) (unordered : Bool) {t : StreamView} → high ≡ low + by
-    → by ≡ one_if (not unordered) → IsNumbered n high s t
-    → IsNumbered n low s (released_from (cond unordered t (with_ssn_given_back t)) bytes)
-numbered_down {n} {high} {s} low by bytes true {t} above e h = record {
-  generation = h.generation;
-  ssn = h.ssn ∙ ap (λ z. z % 65536) (let r : high ≡ low = omega (arith, above, e) in r);
-}
-numbered_down {n} {high} {s} low by bytes false {t} above e h = record {
-  generation = h.generation;
-  ssn = wrapped_down t.next_ssn high low by h.ssn above e;
-}
+module _ {n : Names} {high s : ℕ} {t : StreamView} (low by bytes : ℕ) (above : high ≡ low + by)
+    (h : IsNumbered n high s t) where
+  numbered_down : (unordered : Bool) → by ≡ one_if (not unordered)
+      → IsNumbered n low s (released_from (cond unordered t (with_ssn_given_back t)) bytes)
+  numbered_down true e = record {
+    generation = h.generation;
+    ssn = h.ssn ∙ ap (λ z. z % 65536) (let r : high ≡ low = omega (arith, above, e) in r);
+  }
+  numbered_down false e = record {
+    generation = h.generation;
+    ssn = wrapped_down t.next_ssn high low by h.ssn above e;
+  }
 
 -- it counts the message's bytes no longer
 own_down : (p : Plan) (freed s bytes : ℕ) (unordered : Bool) (t : StreamView) → freed + bytes ≤ accepted_bytes p s
@@ -384,9 +386,9 @@ module _ (a : Sending) (k : ℕ) (x : Waiting) (w : Direction) (at : slice_get a
       x.message.stream_identifier)
       (let same : released_from (cond x.message.unordered t (with_ssn_given_back t)) (message_bytes x) ≡ u = cc in same)
       (numbered_down (numbers_after w.sender.ssn (without_at k a.queue.pending) x.message.stream_identifier)
-      (steps x.message x.message.stream_identifier) (message_bytes x) x.message.unordered
-      ((after_without k x w.sender.ssn a.queue.pending at fresh).at x.message.stream_identifier) (steps_here x.message)
-      (f.live x.message.stream_identifier t e)))
+      (steps x.message x.message.stream_identifier) (message_bytes x)
+      ((after_without k x w.sender.ssn a.queue.pending at fresh).at x.message.stream_identifier)
+      (f.live x.message.stream_identifier t e) x.message.unordered (steps_here x.message)))
 
   -- and counts its bytes
   own_now : (s : ℕ) → w.over s ≡ false
@@ -441,16 +443,22 @@ module _ (a : Sending) (k : ℕ) (x : Waiting) (w : Direction) (at : slice_get a
     own_streams = own_now;
   }
 
--- A message that isn't reliable and of which nothing was sent is dropped in the direction too.
+module _ (a : Sending) (k : ℕ) (x : Waiting) (w : Direction) (at : slice_get a.queue.pending k ≡ Some x)
+    (fresh : x.begun ≡ false) (unreliable : is_reliable (policy_of x.message.policy) ≡ false) (inv : Invariant w)
+    (count : CountsBegun w.sender) (f : FitsOutgoing a w) where
+  -- A message that isn't reliable and of which nothing was sent is dropped in the direction too.
+  drop_alike : (i : ℕ) × FitsOutgoing (dropped k x a) (happens w (Event.Drop x.message.stream_identifier i))
+  drop_alike =
+      let r =
+      found f.named w.sender.plan (is_unsent w.sender) inv.planned.known k x w.sender.ssn w.sender.current
+      a.queue.pending at fresh f.waiting in
+      let can : can_drop w.sender x.message.stream_identifier r.index ≡ true =
+      and_from (is_unsent w.sender x.message.stream_identifier r.index) _ r.is
+      (ap not (ap is_reliable (sym r.waits.message.policy) ∙ unreliable)) in (
+        r.index,
+        subst (FitsOutgoing (dropped k x a)) (sym (happens_drop w x.message.stream_identifier r.index can))
+            (fits_now a k x w at fresh inv f r (keeps_drop w x.message.stream_identifier r.index can inv)),
+      )
+
 pub drops_are_alike : DropsAreAlike
-drops_are_alike a k x w at fresh unreliable inv count f =
-    let r =
-    found f.named w.sender.plan (is_unsent w.sender) inv.planned.known k x w.sender.ssn w.sender.current
-    a.queue.pending at fresh f.waiting in
-    let can : can_drop w.sender x.message.stream_identifier r.index ≡ true =
-    and_from (is_unsent w.sender x.message.stream_identifier r.index) _ r.is
-    (ap not (ap is_reliable (sym r.waits.message.policy) ∙ unreliable)) in (
-      r.index,
-      subst (FitsOutgoing (dropped k x a)) (sym (happens_drop w x.message.stream_identifier r.index can))
-          (fits_now a k x w at fresh inv f r (keeps_drop w x.message.stream_identifier r.index can inv)),
-    )
+drops_are_alike = drop_alike

@@ -428,32 +428,40 @@ module _ (a : Sending) (kind : PayloadProtocolIdentifier) (bytes : List ℕ) (x 
     own_streams = own_streams_written;
   }
 
--- A write on a live stream: the direction's sender accepts the message as the stream has it.
+module _ (a : Sending) (id : ℕ) (kind : PayloadProtocolIdentifier) (bytes : List ℕ) (x : Waiting) (t : StreamView)
+    (w : Direction) (live : stream_at a.streams id ≡ Some t) (some : 0 < length bytes)
+    (is : IsWritten t id a.size kind bytes x) (inv : Invariant w) (count : CountsBegun w.sender)
+    (f : FitsOutgoing a w) where
+  -- A write on a live stream: the direction's sender accepts the message as the stream has it.
+  write_accepted : FitsOutgoing (written a id kind (length bytes) x)
+      (happens w (Event.Write id (message_on t kind bytes)))
+  write_accepted =
+      subst (FitsOutgoing (written a id kind (length bytes) x))
+      (sym (happens_write w id (message_on t kind bytes) some (kept_as_written t kind bytes)))
+      (subst (λ o. FitsOutgoing
+      (record a {
+        streams = change_at (λ u. accepted_by u kind (length bytes)) o a.streams id;
+        queue = queue.with_message a.queue x;
+      })
+      (record w { sender = machine.written w.sender id (message_on t kind bytes) })) (sym live)
+      (on_stream id is.stream live is))
+    where
+      on_stream : (s : ℕ) → x.message.stream_identifier ≡ s → stream_at a.streams s ≡ Some t
+          → IsWritten t s a.size kind bytes x
+          → FitsOutgoing
+          (record a {
+            streams = with_stream a.streams s (accepted_by t kind (length bytes));
+            queue = queue.with_message a.queue x;
+          })
+          (record w { sender = machine.written w.sender s (message_on t kind bytes) })
+      on_stream s e = subst (λ (z : ℕ). stream_at a.streams z ≡ Some t → IsWritten t z a.size kind bytes x
+          → FitsOutgoing
+          (record a {
+            streams = with_stream a.streams z (accepted_by t kind (length bytes));
+            queue = queue.with_message a.queue x;
+          })
+          (record w { sender = machine.written w.sender z (message_on t kind bytes) })) e
+          (λ l i. fits_written a kind bytes x t w l i inv count f)
+
 pub writes_are_accepted : WritesAreAccepted
-writes_are_accepted a id kind bytes x t w live some is inv count f =
-    subst (FitsOutgoing (written a id kind (length bytes) x))
-    (sym (happens_write w id (message_on t kind bytes) some (kept_as_written t kind bytes)))
-    (subst (λ o. FitsOutgoing
-    (record a {
-      streams = change_at (λ u. accepted_by u kind (length bytes)) o a.streams id;
-      queue = queue.with_message a.queue x;
-    })
-    (record w { sender = machine.written w.sender id (message_on t kind bytes) })) (sym live)
-    (on_stream id is.stream live is))
-  where
-    on_stream : (s : ℕ) → x.message.stream_identifier ≡ s → stream_at a.streams s ≡ Some t
-        → IsWritten t s a.size kind bytes x
-        → FitsOutgoing
-        (record a {
-          streams = with_stream a.streams s (accepted_by t kind (length bytes));
-          queue = queue.with_message a.queue x;
-        })
-        (record w { sender = machine.written w.sender s (message_on t kind bytes) })
-    on_stream s e = subst (λ (z : ℕ). stream_at a.streams z ≡ Some t → IsWritten t z a.size kind bytes x
-        → FitsOutgoing
-        (record a {
-          streams = with_stream a.streams z (accepted_by t kind (length bytes));
-          queue = queue.with_message a.queue x;
-        })
-        (record w { sender = machine.written w.sender z (message_on t kind bytes) })) e
-        (λ l i. fits_written a kind bytes x t w l i inv count f)
+writes_are_accepted = write_accepted

@@ -33,14 +33,12 @@ use Rattle.sctp_fit.proofs.UnsentKept.{alike_same, attributes_kept, unsent_kept}
 use Rattle.sctp_fit.proofs.FirstPiece.{Counters, PassesTo, alike_begun, counters_of, happens_begin, happens_go_on}
 use Rattle.sctp_fit.proofs.FirstPiece.{passable, passes, with_piece}
 
--- an offset that isn't assigned isn't acknowledged
-not_acknowledged : (w : Direction) → Invariant w → w.sender.acknowledged (length w.sender.plan.places) ≡ false
-not_acknowledged w inv =
-    false_from_ne_true _ (λ (a : w.sender.acknowledged (length w.sender.plan.places) ≡ true). ⊎_elim
-    (λ (m : mem (length w.sender.plan.places) w.receiver.taken ≡ true).
-    let t = (inv.taken (length w.sender.plan.places) m).0 in omega arith)
-    (λ (b : length w.sender.plan.places < w.receiver.passed). let t = inv.passed in omega arith)
-    (inv.acknowledged (length w.sender.plan.places) a))
+-- an offset past the last one isn't acknowledged
+pub none_past : (w : Direction) → Invariant w → (o : ℕ) → length w.sender.plan.places ≤ o → w.sender.acknowledged o ≡ false
+none_past w inv o l = false_from_ne_true _ (λ (a : w.sender.acknowledged o ≡ true). ⊎_elim
+    (λ (m : mem o w.receiver.taken ≡ true). let t = (inv.taken o m).0 in omega arith)
+    (λ (b : o < w.receiver.passed). let t = inv.passed in omega arith)
+    (inv.acknowledged o a))
 
 -- Pieces
 
@@ -131,7 +129,7 @@ module _ (n : Names) (w : Direction) (inv : Invariant w) (x : Waiting) (y : Plac
     stream = h.stream ∙ ap (λ z. z.stream) (sym now_on);
     message = subst (λ z. IsMessage n (with_place w.sender.plan y) z.message z.ssn x.message) (sym now_on) message;
     piece = λ m. subst (λ z. IsPieceOf (with_place w.sender.plan y) z (sent_once now x)) (sym now_on) (carries now);
-    acked = sym (not_acknowledged w inv);
+    acked = sym (none_past w inv (length w.sender.plan.places) (omega arith));
     abandoned = sym (ap (λ z. w.sender.gone z.stream z.message) now_on ∙ h.stays);
   }
 
@@ -323,8 +321,8 @@ module _ (own : ℕ) (a : Sending) (now : ℕ) (w : Direction) (inv : Invariant 
           → (events : List Event) × IsSentBy own a now w events
       by_events r there =
           let b =
-          happens_begin w s i x.message.stream_sequence_number x.message.unordered r.after c h.waits.message.ordered
-          h.is there in (
+          happens_begin w s i x.message.stream_sequence_number r.after c h.is x.message.unordered
+          h.waits.message.ordered there in (
             r.events,
             sent_by y (record {
               next = b.0;

@@ -14,12 +14,14 @@ use Rattle.sctp_model.specs.Invariants.{Invariant, IsGot}
 use Rattle.sctp_model.proofs.Lists.{all_front}
 use Rattle.sctp_model.proofs.PlansGrow.{at_put, off_put}
 use Rattle.sctp_model.proofs.ReleasedBytes.{released_within}
-use Rattle.sctp_fit.specs.Outgoing.{AreUnsent, AreWaiting, IsNumbered, IsOwnAt, Names, numbers_after}
-use Rattle.sctp_fit.specs.Outgoing.{numbers_past}
+use Rattle.sctp_fit.specs.Outgoing.{AreUnsent, AreWaiting, CountsBegun, IsNumbered, IsOwnAt, Names, numbers_after}
+use Rattle.sctp_fit.specs.Outgoing.{FitsOutgoing, Sending, numbers_past}
 use Rattle.sctp_fit.specs.Writes.{FreshOnesFit, OpenedStreamsSendNothing}
 use Rattle.sctp_fit.proofs.NamesKept.{KeepsMessages, all_waiting_kept, flight_kept}
 use Rattle.sctp_fit.proofs.StreamsChanged.{each_made}
 use Rattle.sctp_fit.proofs.LastUnsent.{past_others}
+use Rattle.sctp_wire_types.specs.declared.ids.PayloadProtocolIdentifier.{PayloadProtocolIdentifier}
+use Rattle.sctp_streams.specs.Streams.{made, stream_at}
 
 -- On a stream on which nothing was accepted
 
@@ -89,59 +91,65 @@ module _ (p : Plan) (n : Names) (s generation : ℕ) (none : p.accepted s ≡ []
     messages = λ t i l. refl;
   }
 
--- A stream that is opened: nothing was accepted on it, and its numbers begin with the first.
+module _ (a : Sending) (id first : ℕ) (kind : PayloadProtocolIdentifier) (w : Direction)
+    (e : stream_at a.streams id ≡ None) (within : w.over id ≡ false) (inv : Invariant w)
+    (count : CountsBegun w.sender) (f : FitsOutgoing a w) where
+  -- A stream that is opened: nothing was accepted on it, and its numbers begin with the first.
+  opened_sends_nothing : FitsOutgoing (record a { streams = made a.streams id first kind }) w
+  opened_sends_nothing = record {
+    named = record f.named { generations = put f.named.generations id a.streams.next_generation };
+    names = record { below = f.names.below; one = f.names.one };
+    size = f.size;
+    base = f.base;
+    flight = flight_kept keeps w.sender.acknowledged w.sender.gone w.sender.reach a.queue.in_flight refl f.flight;
+    waiting = all_waiting_kept keeps (is_unsent w.sender) w.sender.ssn w.sender.current a.queue.pending f.waiting;
+    live =
+        each_made a.streams id first kind
+        (λ s o. (u : StreamView) → o ≡ Some u
+        → IsNumbered (record f.named { generations = put f.named.generations id a.streams.next_generation })
+        (numbers_after w.sender.ssn a.queue.pending s) s u) e
+        (λ s ne u d. record {
+          generation =
+              (f.live s u d).generation ∙ sym (off_put f.named.generations id s a.streams.next_generation ne);
+          ssn = (f.live s u d).ssn;
+        })
+        (λ u d. subst
+        (IsNumbered (record f.named { generations = put f.named.generations id a.streams.next_generation })
+        (numbers_after w.sender.ssn a.queue.pending id) id)
+        (let same : fresh_stream id a.streams.next_generation first kind ≡ u = cc in same) first_numbered);
+    own_streams =
+        each_made a.streams id first kind (λ s o. w.over s ≡ false → IsOwnAt w.sender.plan (w.sender.released s) s o) e
+        (λ s ne. f.own_streams s)
+        (λ still.
+        let most = released_within w.sender.plan w.over w.sender.acknowledged w.sender.gone id inv.planned in
+        let is = inv.released id in
+        let bytes = no_bytes w.sender.plan id none in
+        omega arith);
+  }
+    where
+      none : w.sender.plan.accepted id ≡ []
+      none = subst (IsOwnAt w.sender.plan (w.sender.released id) id) e (f.own_streams id within)
+
+      keeps : KeepsMessages f.named
+          (record f.named { generations = put f.named.generations id a.streams.next_generation })
+          w.sender.plan w.sender.plan
+      keeps = keeps_generations w.sender.plan f.named id a.streams.next_generation none
+
+      first_numbered : IsNumbered
+          (record f.named { generations = put f.named.generations id a.streams.next_generation })
+          (numbers_after w.sender.ssn a.queue.pending id) id
+          (fresh_stream id a.streams.next_generation first kind)
+      first_numbered = record {
+        generation = sym (at_put f.named.generations id id a.streams.next_generation refl);
+        ssn =
+            let behind = first_number_waiting w.sender.plan id none f.named (is_unsent w.sender) w.sender.ssn
+            w.sender.current a.queue.pending f.waiting in
+            let number = first_ssn w id none inv within in
+            sym (ap (λ z. z % 65536) (behind ∙ number));
+      }
+
 pub opened_streams_send_nothing : OpenedStreamsSendNothing
-opened_streams_send_nothing a id first kind w e within inv count f = record {
-  named = record f.named { generations = put f.named.generations id a.streams.next_generation };
-  names = record { below = f.names.below; one = f.names.one };
-  size = f.size;
-  base = f.base;
-  flight = flight_kept keeps w.sender.acknowledged w.sender.gone w.sender.reach a.queue.in_flight refl f.flight;
-  waiting = all_waiting_kept keeps (is_unsent w.sender) w.sender.ssn w.sender.current a.queue.pending f.waiting;
-  live =
-      each_made a.streams id first kind
-      (λ s o. (u : StreamView) → o ≡ Some u
-      → IsNumbered (record f.named { generations = put f.named.generations id a.streams.next_generation })
-      (numbers_after w.sender.ssn a.queue.pending s) s u) e
-      (λ s ne u d. record {
-        generation =
-            (f.live s u d).generation ∙ sym (off_put f.named.generations id s a.streams.next_generation ne);
-        ssn = (f.live s u d).ssn;
-      })
-      (λ u d. subst
-      (IsNumbered (record f.named { generations = put f.named.generations id a.streams.next_generation })
-      (numbers_after w.sender.ssn a.queue.pending id) id)
-      (let same : fresh_stream id a.streams.next_generation first kind ≡ u = cc in same) first_numbered);
-  own_streams =
-      each_made a.streams id first kind (λ s o. w.over s ≡ false → IsOwnAt w.sender.plan (w.sender.released s) s o) e
-      (λ s ne. f.own_streams s)
-      (λ still.
-      let most = released_within w.sender.plan w.over w.sender.acknowledged w.sender.gone id inv.planned in
-      let is = inv.released id in
-      let bytes = no_bytes w.sender.plan id none in
-      omega arith);
-}
-  where
-    none : w.sender.plan.accepted id ≡ []
-    none = subst (IsOwnAt w.sender.plan (w.sender.released id) id) e (f.own_streams id within)
-
-    keeps : KeepsMessages f.named
-        (record f.named { generations = put f.named.generations id a.streams.next_generation })
-        w.sender.plan w.sender.plan
-    keeps = keeps_generations w.sender.plan f.named id a.streams.next_generation none
-
-    first_numbered : IsNumbered
-        (record f.named { generations = put f.named.generations id a.streams.next_generation })
-        (numbers_after w.sender.ssn a.queue.pending id) id
-        (fresh_stream id a.streams.next_generation first kind)
-    first_numbered = record {
-      generation = sym (at_put f.named.generations id id a.streams.next_generation refl);
-      ssn =
-          let behind = first_number_waiting w.sender.plan id none f.named (is_unsent w.sender) w.sender.ssn
-          w.sender.current a.queue.pending f.waiting in
-          let number = first_ssn w id none inv within in
-          sym (ap (λ z. z % 65536) (behind ∙ number));
-    }
+opened_streams_send_nothing = opened_sends_nothing
 
 -- At first
 

@@ -3,15 +3,16 @@ use Rattle.std.proofs.Common.{◌≡◌, sym, ap, ◌∙◌, refl, ℕ, ◌<◌,
 use Rattle.std.proofs.Common.{Some, None}
 use Rattle.std.specs.List.{AllByRecursion}
 use Rattle.sctp_wire_types.specs.declared.chunk.ChunkPayloadData.{ChunkPayloadData}
-use Rattle.sctp_receive_queues.specs.Reassembly.{Group}
+use Rattle.sctp_receive_queues.specs.Reassembly.{Group, Reassembly}
 use Rattle.sctp_model.specs.Messages.{Plan}
 use Rattle.sctp_model.specs.Packets.{Data, data_at, mem}
 use Rattle.sctp_serial.specs.Serial.{tsn}
 use Rattle.sctp_model.proofs.Lists.{all_weaker}
 use Rattle.sctp_reassembly.specs.Stands.{AreGroups, AreRuns, AreWaiting, CarryDataOf, HeldMessage, IsLoose, IsOf}
-use Rattle.sctp_reassembly.specs.Stands.{offsets_in, runs_of}
+use Rattle.sctp_reassembly.specs.Stands.{StandsFor, offsets_in, runs_of}
 use Rattle.sctp_reassembly.proofs.OffsetRuns.{all_in, joined, joined_runs}
-use Rattle.sctp_fit.specs.Arrivals.{ReadersArePinned}
+use Rattle.sctp_fit.specs.Arrivals.{AreAlike, ReadersArePinned}
+use Rattle.sctp_model.specs.Reassembly.{Queue}
 
 -- offsets less than half the range of TSNs
 abbrev AreSmall : List ℕ → Type 0
@@ -80,19 +81,24 @@ module _ (initial : ℕ) (p : Plan) (s : ℕ) (near : length p.places < 2 ^ 31) 
       (all_in (λ (o : ℕ). o < 2 ^ 31) p y.offsets (small_loose y.offsets y.mine)))
       ∙ joined_runs p y.offsets
 
--- a reassembly stands for no two queues that answer differently
+module _ (initial : ℕ) (p : Plan) (s : ℕ) (r : Reassembly) (q u : Queue) (near : length p.places < 2 ^ 31)
+    (x : StandsFor initial p s r q) (y : StandsFor initial p s r u) where
+  -- a reassembly stands for no two queues that answer differently
+  queues_alike : AreAlike q u
+  queues_alike = record {
+    cursor = sym x.next ∙ y.next;
+    ordered =
+        λ o. x.same o
+        ∙ ap (λ z. cond (mem o z) (Some (data_at p o)) None)
+        (same_groups initial p s near r.ordered x.held y.held x.groups y.groups)
+        ∙ sym (y.same o);
+    unordered =
+        λ o. x.waiting.same o
+        ∙ ap (λ z. cond (mem o z) (Some (data_at p o)) None)
+        (same_waiting initial p s near r.unordered q.unordered u.unordered x.waiting y.waiting)
+        ∙ sym (y.waiting.same o);
+    complete = sym x.complete ∙ y.complete;
+  }
+
 pub readers_are_pinned : ReadersArePinned
-readers_are_pinned initial p s r q u near x y = record {
-  cursor = sym x.next ∙ y.next;
-  ordered =
-      λ o. x.same o
-      ∙ ap (λ z. cond (mem o z) (Some (data_at p o)) None)
-      (same_groups initial p s near r.ordered x.held y.held x.groups y.groups)
-      ∙ sym (y.same o);
-  unordered =
-      λ o. x.waiting.same o
-      ∙ ap (λ z. cond (mem o z) (Some (data_at p o)) None)
-      (same_waiting initial p s near r.unordered q.unordered u.unordered x.waiting y.waiting)
-      ∙ sym (y.waiting.same o);
-  complete = sym x.complete ∙ y.complete;
-}
+readers_are_pinned = queues_alike

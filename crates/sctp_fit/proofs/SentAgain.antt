@@ -7,7 +7,7 @@ use Rattle.std.proofs.lemmas.Bool.{and_parts, cond-true, false_from_ne_true, lt-
 use Rattle.sctp_outbound_queue.specs.declared.message.InFlight.{InFlight}
 use Rattle.sctp_outbound_queue.specs.declared.message.Retransmission.{Retransmission}
 use Rattle.sctp_outbound_queue.specs.declared.message.Retransmission.TheVariants as causes
-use Rattle.sctp_outbound_queue.specs.Message.{counted_again, one_sending_more}
+use Rattle.sctp_outbound_queue.specs.Message.{counted_again, is_outstanding, one_sending_more}
 use Rattle.sctp_outbound_queue.specs.Outbound.{changed_at, changed_from}
 use Rattle.sctp_outbound.specs.Sender.{chunk_of}
 use Rattle.sctp_serial.specs.Serial.{tsn}
@@ -15,31 +15,32 @@ use Rattle.sctp_model.specs.Messages.{Place, Plan, message_at, place_at}
 use Rattle.sctp_model.specs.Packets.{data_at, data_of}
 use Rattle.sctp_model.specs.Machine.{Direction, Event, happens}
 use Rattle.sctp_fit.specs.Incoming.{IsSaid}
-use Rattle.sctp_fit.specs.Outgoing.{AreInFlight, FitsOutgoing, IsInFlight, IsMessage, IsPieceOf, Names}
+use Rattle.sctp_fit.specs.Outgoing.{AreInFlight, FitsOutgoing, IsInFlight, IsMessage, IsPieceOf, Names, Sending}
 use Rattle.sctp_fit.specs.Sendings.{IsGiven, IsSamePiece, PiecesAreGiven}
 use Rattle.sctp_fit.proofs.MarksSayNothing.{in_flight_same}
+use Rattle.sctp_model.specs.Invariants.{Invariant}
 
 -- the last of a list
 pub got_last : {X : Type 0} (xs : List X) (x : X) → slice_get (xs ++ x ∷ []) (length xs) ≡ Some x
 got_last [] x = refl
 got_last (y ∷ ys) x = got_last ys x
 
--- a piece that carries what its place says is said to be DATA of the place's offset
-pub said_at : (initial : ℕ) (n : Names) (p : Plan) (o : ℕ) (y : Place) (x : InFlight)
-    → IsMessage n p y.message y.ssn x.message → x.message.stream_identifier ≡ y.stream → IsPieceOf p y x
-    → IsSaid initial (chunk_of x (tsn initial o)) (data_of p o y)
-said_at initial n p o y x m e k = record {
-  stream = e;
-  carries = record {
-    tsn = refl;
-    ssn = m.ssn;
-    ordered = m.ordered ∙ ap (λ s. not (message_at p s y.message).ordered) e;
-    first = k.first;
-    last = k.last;
-    payload_type = m.payload_type ∙ ap (λ s. (message_at p s y.message).payload_type) e;
-    bytes = k.bytes;
-  };
-}
+module _ (initial : ℕ) (n : Names) (p : Plan) (o : ℕ) (y : Place) (x : InFlight) where
+  -- a piece that carries what its place says is said to be DATA of the place's offset
+  pub said_at : IsMessage n p y.message y.ssn x.message → x.message.stream_identifier ≡ y.stream → IsPieceOf p y x
+      → IsSaid initial (chunk_of x (tsn initial o)) (data_of p o y)
+  said_at m e k = record {
+    stream = e;
+    carries = record {
+      tsn = refl;
+      ssn = m.ssn;
+      ordered = m.ordered ∙ ap (λ s. not (message_at p s y.message).ordered) e;
+      first = k.first;
+      last = k.last;
+      payload_type = m.payload_type ∙ ap (λ s. (message_at p s y.message).payload_type) e;
+      bytes = k.bytes;
+    };
+  }
 
 -- a piece is the same one, marked or not, however often it was sent and however often it was reported missing
 pub same_but_counts : (x : InFlight) (retransmit : Bool) (sent_count misses : ℕ)
@@ -104,47 +105,55 @@ happens_resend : (w : Direction) (o : ℕ) → o < length w.sender.plan.places
 unfolding happens
 happens_resend w o l m = cond-true _ (resent w o) w (rw (lt-ltb _ _ l, m) refl)
 
--- An outstanding piece that goes out again is that of its offset, and is DATA of the direction.
+module _ (own : ℕ) (a : Sending) (by : Retransmission) (index : ℕ) (x : InFlight) (w : Direction)
+    (e : slice_get a.queue.in_flight index ≡ Some x) (out : is_outstanding x ≡ true) (inv : Invariant w)
+    (f : FitsOutgoing a w) where
+  -- An outstanding piece that goes out again is that of its offset, and is DATA of the direction.
+  piece_given : FitsOutgoing (record a { queue = changed_at (counted_again by) a.queue index })
+      (happens w (Event.Resend (w.sender.reach + index)))
+      × IsGiven own (happens w (Event.Resend (w.sender.reach + index))) (chunk_of x (tsn own (a.base + index)))
+  piece_given = (
+    subst (FitsOutgoing (record a { queue = changed_at (counted_again by) a.queue index })) (sym event)
+        (subst (λ found. FitsOutgoing (record a { queue = changed_from (counted_again by) found a.queue index })
+        (resent w (w.sender.reach + index))) (sym e)
+        (record {
+          named = f.named;
+          names = f.names;
+          size = f.size;
+          base = f.base;
+          flight =
+              flight_again f.named w.sender.plan w.sender.acknowledged w.sender.gone by
+              w.sender.reach a.queue.in_flight index x e f.flight;
+          waiting = f.waiting;
+          live = f.live;
+          own_streams = f.own_streams;
+        })),
+    subst (λ v. IsGiven own v (chunk_of x (tsn own (a.base + index)))) (sym event) (
+      length w.datas,
+      data_at w.sender.plan (w.sender.reach + index),
+      got_last w.datas _,
+      subst (λ b. IsSaid own (chunk_of x (tsn own (b + index))) (data_at w.sender.plan (w.sender.reach + index)))
+          (sym f.base)
+          (said_at own f.named w.sender.plan (w.sender.reach + index) _ x here.message here.stream (here.piece sent)),
+    ),
+  )
+    where
+      here : IsInFlight f.named w.sender.plan w.sender.acknowledged w.sender.gone (w.sender.reach + index) x
+      here =
+          flight_at f.named w.sender.plan w.sender.acknowledged w.sender.gone w.sender.reach a.queue.in_flight index x
+          e f.flight
+
+      -- it stays, so its place is no marker
+      stays : x.abandoned ≡ false
+      stays = not-true _ (and_parts (not x.acked) (not x.abandoned) out).1
+
+      sent : (place_at w.sender.plan (w.sender.reach + index)).marker ≡ false
+      sent =
+          false_from_ne_true _ (λ (m : (place_at w.sender.plan (w.sender.reach + index)).marker ≡ true).
+          true≢false (sym (inv.tails (w.sender.reach + index) here.known m) ∙ sym here.abandoned ∙ stays))
+
+      event : happens w (Event.Resend (w.sender.reach + index)) ≡ resent w (w.sender.reach + index)
+      event = happens_resend w (w.sender.reach + index) here.known sent
+
 pub pieces_are_given : PiecesAreGiven
-pieces_are_given own a by index x w e out inv f = (
-  subst (FitsOutgoing (record a { queue = changed_at (counted_again by) a.queue index })) (sym event)
-      (subst (λ found. FitsOutgoing (record a { queue = changed_from (counted_again by) found a.queue index })
-      (resent w (w.sender.reach + index))) (sym e)
-      (record {
-        named = f.named;
-        names = f.names;
-        size = f.size;
-        base = f.base;
-        flight =
-            flight_again f.named w.sender.plan w.sender.acknowledged w.sender.gone by
-            w.sender.reach a.queue.in_flight index x e f.flight;
-        waiting = f.waiting;
-        live = f.live;
-        own_streams = f.own_streams;
-      })),
-  subst (λ v. IsGiven own v (chunk_of x (tsn own (a.base + index)))) (sym event) (
-    length w.datas,
-    data_at w.sender.plan (w.sender.reach + index),
-    got_last w.datas _,
-    subst (λ b. IsSaid own (chunk_of x (tsn own (b + index))) (data_at w.sender.plan (w.sender.reach + index)))
-        (sym f.base)
-        (said_at own f.named w.sender.plan (w.sender.reach + index) _ x here.message here.stream (here.piece sent)),
-  ),
-)
-  where
-    here : IsInFlight f.named w.sender.plan w.sender.acknowledged w.sender.gone (w.sender.reach + index) x
-    here =
-        flight_at f.named w.sender.plan w.sender.acknowledged w.sender.gone w.sender.reach a.queue.in_flight index x
-        e f.flight
-
-    -- it stays, so its place is no marker
-    stays : x.abandoned ≡ false
-    stays = not-true _ (and_parts (not x.acked) (not x.abandoned) out).1
-
-    sent : (place_at w.sender.plan (w.sender.reach + index)).marker ≡ false
-    sent =
-        false_from_ne_true _ (λ (m : (place_at w.sender.plan (w.sender.reach + index)).marker ≡ true).
-        true≢false (sym (inv.tails (w.sender.reach + index) here.known m) ∙ sym here.abandoned ∙ stays))
-
-    event : happens w (Event.Resend (w.sender.reach + index)) ≡ resent w (w.sender.reach + index)
-    event = happens_resend w (w.sender.reach + index) here.known sent
+pieces_are_given = piece_given

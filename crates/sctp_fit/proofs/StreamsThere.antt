@@ -1,18 +1,15 @@
 -- The live streams of an association, by their identifiers, once one of them was changed or made, and a live stream's
 -- queue in the model.
 use Rattle.std.proofs.Common.{◌≡◌, refl, sym, ap, ◌∙◌, subst, subst₂, ⊎_elim, ℕ, Bool, true, false, cond, eqb}
-use Rattle.std.proofs.Common.{List, [], ◌∷◌, Option, Some, None, is_some, arith, Ordering, Less, Equal, Greater}
+use Rattle.std.proofs.Common.{List, [], ◌∷◌, Option, Some, None, is_some, Ordering, Less, Equal, Greater}
 use Rattle.std.proofs.Common.{is_eq, nat_cmp}
 use Rattle.std.specs.Ordering.{match_ordering}
 use Rattle.std.proofs.lemmas.Bool.{cases_Bool, cond-true, cond-false, eqb-true, false≢true, true≢false}
-use Rattle.std.proofs.lemmas.Bool.Decides.{nat_tests}
-use Rattle.std.proofs.lemmas.Cmp.{eq_by_cmp_equiv, nat_cmp_total}
-use Rattle.std.proofs.lemmas.Map.{lookup-set_value}
 use Rattle.std.specs.BTreeMap.{is_at, insert_entry}
 use Rattle.std.specs.Map.{lookup}
 use Rattle.sctp_wire_types.specs.declared.ids.PayloadProtocolIdentifier.{PayloadProtocolIdentifier}
 use Rattle.sctp_streams.specs.Stream.{StreamView, fresh_stream}
-use Rattle.sctp_streams.specs.Streams.{StreamMap, made, stream_at, with_stream}
+use Rattle.sctp_streams.specs.Streams.{StreamMap, made, stream_at}
 use Rattle.sctp_model.specs.Messages.{Plan}
 use Rattle.sctp_model.specs.Reassembly.{Queue}
 use Rattle.sctp_model.specs.Machine.{Direction}
@@ -93,17 +90,17 @@ pub record IsChangedAt (a : Receiving) (w : Direction) (m : StreamMap) (f : ℕ 
   pub queues : (n : ℕ) → w.over n ≡ false → f n ≡ cond (eqb n id) (Some queue) (w.receiver.queues n)
   pub stands : StandsFor a.peer w.sender.plan id stream.reassembly queue
 
--- then each stream within its span has its queue as before
-pub queues_after : (a : Receiving) (w : Direction) (m : StreamMap) (f : ℕ → Option Queue) (id : ℕ)
-    → IsChangedAt a w m f id → FitsIncoming a w
-    → (n : ℕ) → w.over n ≡ false → IsQueueAt a.peer w.sender.plan n (stream_at m n) (f n)
-queues_after a w m f id x fits n v =
-    ⊎_elim
-    (λ (b : eqb n id ≡ true). subst₂ (IsQueueAt a.peer w.sender.plan n)
-    (sym (x.streams n ∙ cond-true (eqb n id) (Some x.stream) (stream_at a.streams n) b))
-    (sym (x.queues n v ∙ cond-true (eqb n id) (Some x.queue) (w.receiver.queues n) b))
-    (subst (λ z. StandsFor a.peer w.sender.plan z x.stream.reassembly x.queue) (sym (eqb-true n id b)) x.stands))
-    (λ (b : eqb n id ≡ false). subst₂ (IsQueueAt a.peer w.sender.plan n)
-    (sym (x.streams n ∙ cond-false (eqb n id) (Some x.stream) (stream_at a.streams n) b))
-    (sym (x.queues n v ∙ cond-false (eqb n id) (Some x.queue) (w.receiver.queues n) b)) (fits.queues n v))
-    (cases_Bool (eqb n id))
+module _ (a : Receiving) (w : Direction) (m : StreamMap) (f : ℕ → Option Queue) (id : ℕ)
+    (x : IsChangedAt a w m f id) (fits : FitsIncoming a w) where
+  -- then each stream within its span has its queue as before
+  pub queues_after : (n : ℕ) → w.over n ≡ false → IsQueueAt a.peer w.sender.plan n (stream_at m n) (f n)
+  queues_after n v =
+      ⊎_elim
+      (λ (b : eqb n id ≡ true). subst₂ (IsQueueAt a.peer w.sender.plan n)
+      (sym (x.streams n ∙ cond-true (eqb n id) (Some x.stream) (stream_at a.streams n) b))
+      (sym (x.queues n v ∙ cond-true (eqb n id) (Some x.queue) (w.receiver.queues n) b))
+      (subst (λ z. StandsFor a.peer w.sender.plan z x.stream.reassembly x.queue) (sym (eqb-true n id b)) x.stands))
+      (λ (b : eqb n id ≡ false). subst₂ (IsQueueAt a.peer w.sender.plan n)
+      (sym (x.streams n ∙ cond-false (eqb n id) (Some x.stream) (stream_at a.streams n) b))
+      (sym (x.queues n v ∙ cond-false (eqb n id) (Some x.queue) (w.receiver.queues n) b)) (fits.queues n v))
+      (cases_Bool (eqb n id))

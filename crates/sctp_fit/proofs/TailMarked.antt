@@ -1,7 +1,8 @@
 -- A message of which something was sent is abandoned whole by an association and its direction: what is in flight of
 -- it, and its tail that waits, for which a marker takes the next offset (RFC 3758 section 3.5).
-use Rattle.std.proofs.Common.{ℕ, suc, ◌+◌, ◌-◌, ◌<◌, ◌≤◌, ◌≡◌, Bool, true, false, not, cond, eqb, ◌&&◌, List, [], ◌∷◌}
+use Rattle.std.proofs.Common.{ℕ, suc, ◌+◌, ◌-◌, ◌≤◌, ◌≡◌, Bool, true, false, not, cond, eqb, ◌&&◌, List, [], ◌∷◌}
 use Rattle.std.proofs.Common.{◌++◌, length, map, Option, Some, None, refl, sym, ap, ◌∙◌, subst, ⊎_elim, arith}
+use Rattle.std.proofs.Common.{slice_get}
 use Rattle.std.specs.List.{list_any}
 use Rattle.std.proofs.lemmas.Bool.{and_from, and_parts, cases_eq, cond_both, cond-false, cond-true, eq-eqb, eqb-true}
 use Rattle.std.proofs.lemmas.Bool.{false_from_ne_true, false≢true, lt-ltb, ne_eqb, not-true, true≢false}
@@ -14,7 +15,6 @@ use Rattle.sctp_outbound_queue.specs.Outbound.{tail_dropped_from}
 use Rattle.sctp_streams.specs.Stream.{StreamView}
 use Rattle.sctp_streams.specs.Streams.{released_in, stream_at}
 use Rattle.sctp_model.specs.Messages.{Place, Plan, accepted_bytes, bytes_below, is_reliable, message_at, place_at}
-use Rattle.sctp_model.specs.Packets.{mem}
 use Rattle.sctp_model.specs.Machine.{Direction, Event, Sender, abandoned, can_abandon, happens, has_message, is_unsent}
 use Rattle.sctp_model.specs.Machine.{left, marked, put, put_2, tail_marked, unacknowledged, with_place}
 use Rattle.sctp_model.specs.Machine as machine
@@ -26,12 +26,14 @@ use Rattle.sctp_model.proofs.SenderEvents.{given_keeps, same_plan}
 use Rattle.sctp_model.proofs.ReleasedBytes.{bytes_none, bytes_same, bytes_tail, released_given, released_within}
 use Rattle.sctp_fit.specs.Outgoing.{AreInFlight, AreUnsent, AreWaiting, FitsOutgoing, IsGoingOn, IsInFlight, IsMessage}
 use Rattle.sctp_fit.specs.Outgoing.{IsNumbered, IsOwnAt, Names, Sending, numbers_after, numbers_past, policy_of}
-use Rattle.sctp_fit.specs.Abandonments.{AbandonmentsAreAlike, TailsAreAbandonedAlike}
+use Rattle.sctp_fit.specs.Outgoing.{CountsBegun}
+use Rattle.sctp_fit.specs.Abandonments as abandonments
+use Rattle.sctp_fit.specs.Abandonments.{AbandonmentsAreAlike, TailsAreAbandonedAlike, tail_abandoned}
 use Rattle.sctp_fit.proofs.BytesPartitioned.{GoesOnWith, IsOn, bytes_before, bytes_sent, bytes_split, goes_on_or_ends}
 use Rattle.sctp_fit.proofs.BytesPartitioned.{pieces_bytes}
 use Rattle.sctp_fit.proofs.BytesReleased.{less, numbered_less, own_less, released_at}
 use Rattle.sctp_fit.proofs.FirstPiece.{at_put_2}
-use Rattle.sctp_fit.proofs.NextPiece.{flight_placed}
+use Rattle.sctp_fit.proofs.NextPiece.{flight_placed, none_past}
 use Rattle.sctp_fit.proofs.SentAgain.{flight_at}
 use Rattle.sctp_fit.proofs.UnsentKept.{AreUnsentAlike, attributes_kept, unsent_kept}
 use Rattle.sctp_fit.proofs.WholeAbandoned.{flagged_before, flight_bytes, flight_flagged, none_flagged}
@@ -48,13 +50,6 @@ same_unsent : (h b c g : Bool) → (c ≡ true → b ≡ true) → (h && (not b 
 same_unsent h b false g f = refl
 same_unsent h true true g f = refl
 same_unsent h false true g f = absurd (false≢true (f refl))
-
--- an offset past the last one isn't acknowledged
-none_past : (w : Direction) → Invariant w → (o : ℕ) → length w.sender.plan.places ≤ o → w.sender.acknowledged o ≡ false
-none_past w inv o l = false_from_ne_true _ (λ (a : w.sender.acknowledged o ≡ true). ⊎_elim
-    (λ (m : mem o w.receiver.taken ≡ true). let t = (inv.taken o m).0 in omega arith)
-    (λ (b : o < w.receiver.passed). let t = inv.passed in omega arith)
-    (inv.acknowledged o a))
 
 -- Message i of its stream has the attributes t, isn't reliable, stays so far, and has a piece on an offset.
 pub record CanBeAbandoned (n : Names) (x : Sender) (t : Attributes) (i : ℕ) : Type 0 where
@@ -417,26 +412,33 @@ module _ (a : Sending) (w : Direction) (inv : Invariant w) (f : FitsOutgoing a w
       let n : can.offset + suc (length p.places - suc can.offset) ≡ length p.places = omega arith in
       n) can.on)
 
--- A message of which a piece is in flight is abandoned in the direction too.
+module _ (a : Sending) (index : ℕ) (x : InFlight) (w : Direction) (e : slice_get a.queue.in_flight index ≡ Some x)
+    (stays : x.abandoned ≡ false) (unreliable : is_reliable (policy_of x.message.policy) ≡ false) (inv : Invariant w)
+    (counts : CountsBegun w.sender) (f : FitsOutgoing a w) where
+  -- A message of which a piece is in flight is abandoned in the direction too.
+  abandoned_alike : (i : ℕ)
+      × FitsOutgoing (abandonments.abandoned x a) (happens w (Event.Abandon x.message.stream_identifier i))
+  abandoned_alike = (
+    (place_at w.sender.plan (w.sender.reach + index)).message,
+    abandoned_fits a w inv f x.message _ (record {
+      number = (place_at w.sender.plan (w.sender.reach + index)).ssn;
+      offset = w.sender.reach + index;
+      is = here.message;
+      stays =
+          ap (λ z. w.sender.gone z (place_at w.sender.plan (w.sender.reach + index)).message) here.stream
+          ∙ sym here.abandoned ∙ stays;
+      unreliable = unreliable;
+      on = record { known = here.known; stream = sym here.stream; message = refl };
+    }),
+  )
+    where
+      here : IsInFlight f.named w.sender.plan w.sender.acknowledged w.sender.gone (w.sender.reach + index) x
+      here =
+          flight_at f.named w.sender.plan w.sender.acknowledged w.sender.gone w.sender.reach a.queue.in_flight index x
+          e f.flight
+
 pub abandonments_are_alike : AbandonmentsAreAlike
-abandonments_are_alike a index x w e stays unreliable inv counts f = (
-  (place_at w.sender.plan (w.sender.reach + index)).message,
-  abandoned_fits a w inv f x.message _ (record {
-    number = (place_at w.sender.plan (w.sender.reach + index)).ssn;
-    offset = w.sender.reach + index;
-    is = here.message;
-    stays =
-        ap (λ z. w.sender.gone z (place_at w.sender.plan (w.sender.reach + index)).message) here.stream
-        ∙ sym here.abandoned ∙ stays;
-    unreliable = unreliable;
-    on = record { known = here.known; stream = sym here.stream; message = refl };
-  }),
-)
-  where
-    here : IsInFlight f.named w.sender.plan w.sender.acknowledged w.sender.gone (w.sender.reach + index) x
-    here =
-        flight_at f.named w.sender.plan w.sender.acknowledged w.sender.gone w.sender.reach a.queue.in_flight index x
-        e f.flight
+abandonments_are_alike = abandoned_alike
 
 -- a tail of which no piece is in flight is dropped alone
 alone_dropped : (id : ℕ) (q : Outbound) (ps : List Waiting) → list_any (is_of id) q.in_flight ≡ false
@@ -451,49 +453,57 @@ alone_dropped id q (m ∷ ms) e =
     ∙ ap (λ z. z ++ marker_of m.message ∷ []) (none_flagged id q.in_flight e)))
     (λ b. ap (λ z. record q { in_flight = z }) (none_flagged id q.in_flight e))
 
--- So is one of which no piece is in flight any more, and the rest waits.
-pub tails_are_abandoned_alike : TailsAreAbandonedAlike
-tails_are_abandoned_alike a x xs w e begun unreliable none inv counts f =
-    by_current w.sender.current refl
-    (subst (AreWaiting f.named w.sender.plan (is_unsent w.sender) w.sender.ssn w.sender.current) e f.waiting)
-  where
-    by_current : (c : Option Place) → w.sender.current ≡ c
-        → AreWaiting f.named w.sender.plan (is_unsent w.sender) w.sender.ssn c (x ∷ xs)
-        → (i : ℕ) × FitsOutgoing (record a {
-          queue = (tail_dropped a.queue x.message.message_id).0;
-          streams = released_in a.streams x.message.stream_identifier x.message.generation
-              (tail_dropped a.queue x.message.message_id).1;
-        }) (happens w (Event.Abandon x.message.stream_identifier i))
-    by_current None c (i, u, us) = absurd (true≢false (sym begun ∙ u.begun))
-    by_current (Some y) c (h, hs) =
-        let g = inv.sending.going y c in
-        let k = g.is in
-        let r =
-        abandoned_fits a w inv f x.message y.message (record {
-          number = y.ssn;
-          offset = g.last;
-          is = h.waits.message;
-          stays = ap (λ z. w.sender.gone z y.message) h.stream ∙ g.stays;
-          unreliable = unreliable;
-          on = record {
-            known = omega arith;
-            stream = sym g.follows.stream ∙ sym h.stream;
-            message = sym g.follows.message;
-          };
-        }) in
-        let bytes : outstanding_of_message x.message.message_id a.queue.in_flight
-        + (tail_dropped a.queue x.message.message_id).1
-        ≡ (tail_dropped a.queue x.message.message_id).1
-        = let n = none_outstanding x.message.message_id a.queue.in_flight none in omega arith in (
-          y.message,
-          subst (λ q. FitsOutgoing (record a {
-            queue = q;
+module _ (a : Sending) (x : Waiting) (xs : List Waiting) (w : Direction) (e : a.queue.pending ≡ x ∷ xs)
+    (begun : x.begun ≡ true) (unreliable : is_reliable (policy_of x.message.policy) ≡ false)
+    (none : list_any (is_of x.message.message_id) a.queue.in_flight ≡ false) (inv : Invariant w)
+    (counts : CountsBegun w.sender) (f : FitsOutgoing a w) where
+  -- So is one of which no piece is in flight any more, and the rest waits.
+  tail_abandoned_alike : (i : ℕ)
+      × FitsOutgoing (tail_abandoned x a) (happens w (Event.Abandon x.message.stream_identifier i))
+  tail_abandoned_alike =
+      by_current w.sender.current refl
+      (subst (AreWaiting f.named w.sender.plan (is_unsent w.sender) w.sender.ssn w.sender.current) e f.waiting)
+    where
+      by_current : (c : Option Place) → w.sender.current ≡ c
+          → AreWaiting f.named w.sender.plan (is_unsent w.sender) w.sender.ssn c (x ∷ xs)
+          → (i : ℕ) × FitsOutgoing (record a {
+            queue = (tail_dropped a.queue x.message.message_id).0;
             streams = released_in a.streams x.message.stream_identifier x.message.generation
                 (tail_dropped a.queue x.message.message_id).1;
-          }) (happens w (Event.Abandon x.message.stream_identifier y.message)))
-              (alone_dropped x.message.message_id a.queue a.queue.pending none)
-              (subst (λ b. FitsOutgoing (record a {
-                queue = all_flagged x.message.message_id (tail_dropped a.queue x.message.message_id).0;
-                streams = released_in a.streams x.message.stream_identifier x.message.generation b;
-              }) (happens w (Event.Abandon x.message.stream_identifier y.message))) bytes r),
-        )
+          }) (happens w (Event.Abandon x.message.stream_identifier i))
+      by_current None c (i, u, us) = absurd (true≢false (sym begun ∙ u.begun))
+      by_current (Some y) c (h, hs) =
+          let g = inv.sending.going y c in
+          let k = g.is in
+          let r =
+          abandoned_fits a w inv f x.message y.message (record {
+            number = y.ssn;
+            offset = g.last;
+            is = h.waits.message;
+            stays = ap (λ z. w.sender.gone z y.message) h.stream ∙ g.stays;
+            unreliable = unreliable;
+            on = record {
+              known = omega arith;
+              stream = sym g.follows.stream ∙ sym h.stream;
+              message = sym g.follows.message;
+            };
+          }) in
+          let bytes : outstanding_of_message x.message.message_id a.queue.in_flight
+          + (tail_dropped a.queue x.message.message_id).1
+          ≡ (tail_dropped a.queue x.message.message_id).1
+          = let n = none_outstanding x.message.message_id a.queue.in_flight none in omega arith in (
+            y.message,
+            subst (λ q. FitsOutgoing (record a {
+              queue = q;
+              streams = released_in a.streams x.message.stream_identifier x.message.generation
+                  (tail_dropped a.queue x.message.message_id).1;
+            }) (happens w (Event.Abandon x.message.stream_identifier y.message)))
+                (alone_dropped x.message.message_id a.queue a.queue.pending none)
+                (subst (λ b. FitsOutgoing (record a {
+                  queue = all_flagged x.message.message_id (tail_dropped a.queue x.message.message_id).0;
+                  streams = released_in a.streams x.message.stream_identifier x.message.generation b;
+                }) (happens w (Event.Abandon x.message.stream_identifier y.message))) bytes r),
+          )
+
+pub tails_are_abandoned_alike : TailsAreAbandonedAlike
+tails_are_abandoned_alike = tail_abandoned_alike

@@ -36,7 +36,7 @@ with_named named a = record a {
 }
 
 -- A cumulative TSN ack and its gap ack blocks acknowledge at once the first n pieces in flight and those that the
--- blocks name, where the association takes the first n one at a time, and then of those that are left the named ones.
+-- blocks name. The association takes the first n one at a time, and then of those that are left the named ones.
 -- Blocks count from the cumulative TSN ack, so the first piece that is left is their 1 (RFC 4960 section 3.3.4).
 abbrev pub SacksTakeWhatTheyName : Type 0
 SacksTakeWhatTheyName = (a : Sending) (n : ℕ) (blocks : List GapAckBlock) → n ≤ length a.queue.in_flight

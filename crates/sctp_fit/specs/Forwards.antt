@@ -58,7 +58,8 @@ PairsTellTheLast = (s : ℕ) (pieces : List InFlight)
     → numbers_told s (map skipped_stream (skipped_numbers pieces)) ≡ option_to_list (last_ordered s pieces None)
 
 -- A FORWARD TSN chunk is this one of a direction with this initial TSN: its new cumulative TSN is the one before that
--- of the reach, and its pairs tell of each stream that is skipped the number up to which it is, once, and of no other.
+-- of the reach. Its pairs tell of each stream that is skipped, once, the number up to which it is; they tell of no
+-- other stream.
 pub record IsForwardSaid (initial : ℕ) (c : ChunkForwardTsn) (f : Forward) : Type 0 where
   pub reach : c.new_cumulative_tsn ≡ tsn_before (tsn initial f.reach)
   pub streams : (s : ℕ) → numbers_told s c.streams ≡ option_to_list (skips f s)

@@ -1,6 +1,6 @@
--- The laws of the TSNs that are held past the receiver's last TSN in order: they are those of the offsets past the
--- reach that came, and a new one moves the last TSN in order with the reach (RFC 4960 sections 3.3.4 and 6.2), as a
--- FORWARD TSN does (RFC 3758 section 3.6).
+-- The laws of the TSNs that are held past the receiver's last TSN in order. They are those of the offsets past the
+-- reach that came. A new one moves the last TSN in order with the reach (RFC 4960 sections 3.3.4 and 6.2), and so does
+-- a FORWARD TSN (RFC 3758 section 3.6).
 use Rattle.std.specs.Prelude.{◌≡◌, ℕ, suc, ◌+◌, ◌-◌, ◌^◌, ◌<◌, ◌≤◌, ◌&&◌, not, true, List, [], ◌∷◌, length}
 use Rattle.std.specs.Prelude.{nat_lt}
 use Rattle.std.specs.List.{AllByRecursion, filter}
@@ -65,7 +65,7 @@ with_all_to a o = record a { passed = suc o }
 abbrev pub past_tsn : ℕ → List ℕ → List ℕ
 past_tsn t held = filter (λ s. not (tsn_lte s t)) held
 
--- A FORWARD TSN up to a TSN that is 1 to half the range past the last TSN in order moves the last TSN in order to that
+-- A FORWARD TSN names a TSN that is 1 to half the range past the last TSN in order. The last TSN in order moves to that
 -- TSN and over all that follows it, to the new reach; what is held after that is what lies past that.
 abbrev pub TheSetIsPassedOver : Type 0
 TheSetIsPassedOver = (a : Receiving) (held : List ℕ) (t n : ℕ) → t < 2 ^ 32 → HoldsPast a held

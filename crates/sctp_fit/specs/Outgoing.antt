@@ -1,6 +1,6 @@
--- How what an association has to send, has in flight and counts as buffered stands to the sender of a direction:
--- messages of several pieces, ordered or not, reliable or not, acknowledged in any order (RFC 4960 sections 6.1, 6.2.1,
--- 6.6 and 6.9; RFC 3758 section 3.5).
+-- How what an association has to send, has in flight and counts as buffered stands to the sender of a direction.
+-- Messages have several pieces, are ordered or not, reliable or not, and are acknowledged in any order (RFC 4960
+-- sections 6.1, 6.2.1, 6.6 and 6.9; RFC 3758 section 3.5).
 use Rattle.std.specs.Prelude.{◌≡◌, ℕ, suc, ◌+◌, ◌%◌, ◌<◌, ◌≤◌, Bool, true, false, not, ◌==◌, List, [], ◌∷◌}
 use Rattle.std.specs.Prelude.{length, if◌then◌else◌, Option, Some, None}
 use Rattle.sctp_wire_types.specs.Ids.{number_of}

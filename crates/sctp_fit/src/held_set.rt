@@ -2,9 +2,9 @@
 ghost use Rattle.sctp_fit.specs.HeldSet.{BlocksNameWhatCame, NewTsnsDidNotCome, NothingIsHeldAtFirst, TheSetFollows};
 ghost use Rattle.sctp_fit.specs.HeldSet.{TheSetIsPassedOver, TsnsAheadAreNotBehind};
 
-/// The TSNs that a receiver holds past its last TSN in order are those of the offsets past the reach that came;
-/// a new one moves the last TSN in order with the reach, so does a FORWARD TSN, and gap ack blocks made of them name
-/// what came (RFC 4960 sections 3.3.4 and 6.2, RFC 3758 section 3.6).
+/// The TSNs that a receiver holds past its last TSN in order are those of the offsets past the reach that came. A new
+/// one moves the last TSN in order with the reach, and so does a FORWARD TSN. Gap ack blocks made of them name what
+/// came (RFC 4960 sections 3.3.4 and 6.2, RFC 3758 section 3.6).
 pub fn the_set_holds_what_lies_past_the_reach()
     ensures new { NewTsnsDidNotCome }
     ensures follows { TheSetFollows }

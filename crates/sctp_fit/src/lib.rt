@@ -1,6 +1,7 @@
-//! How an association's queues and streams stand to the two directions of the model between which it is: as the sender
-//! of one, with messages of several pieces, ordered or not, reliable or not, and acknowledged in any order, and as the
-//! receiver of the other, with DATA in any order. No code runs here; each empty function carries laws that are proved.
+//! How an association's queues and streams stand to the two directions of the model between which it is. Of one it is
+//! the sender: its messages have several pieces, are ordered or not, reliable or not, and are acknowledged in any
+//! order. Of the other it is the receiver: DATA comes in any order. No code runs here; each empty function carries laws
+//! that are proved.
 #![tactic(auto)]
 
 mod abandonments;
