@@ -13,11 +13,8 @@ loop-done-init c = (
 
 pub returns-then-not-branch-clause-exact : goal.returns-then-not-branch-clause-exact
 returns-then-not-branch-clause-exact c =
-    ends_early c.args.why.now c.inflight_len-count.result c.loop-done.done (c.args.self.now, c.args.streams.now)
-    (c.loop-done.self, c.loop-done.streams) (c.abandon_next.new.self, c.abandon_next.new.streams)
-    c.loop-done.invariant.0 c.inflight_len-count.ensures
-    (sym c.in_ok-abandon_next.ensures.any ∙ c.if-not-branch.true)
-    c.in_ok-abandon_next.ensures.exact
+    ends_early c.loop-done.invariant.0 c.inflight_len-count.ensures
+    (sym c.in_ok-abandon_next.ensures.any ∙ c.if-not-branch.true) c.in_ok-abandon_next.ensures.exact
 
 pub returns-then-not-branch-clause-any : goal.returns-then-not-branch-clause-any
 returns-then-not-branch-clause-any c =
@@ -40,11 +37,8 @@ returns-in_err-abandon_next-clause-grows c =
 
 pub loop-done-preserved : goal.loop-done-preserved
 loop-done-preserved c = (
-  gives_up_more c.args.why.now c.inflight_len-count.result c.loop-done.done (c.args.self.now, c.args.streams.now)
-      (c.loop-done.self, c.loop-done.streams) (c.abandon_next.new.self, c.abandon_next.new.streams)
-      c.loop-done.invariant.0 c.loop-done-test.true
-      (sym c.in_ok-abandon_next.ensures.any ∙ c.if-not-branch.false)
-      c.in_ok-abandon_next.ensures.exact,
+  gives_up_more c.loop-done.invariant.0 c.loop-done-test.true
+      (sym c.in_ok-abandon_next.ensures.any ∙ c.if-not-branch.false) c.in_ok-abandon_next.ensures.exact,
   first_more c.args.why.now c.inflight_len-count.result (c.args.self.now, c.args.streams.now) c.args.fallen.now
       c.loop-done.done (c.loop-done.self, c.loop-done.streams) (c.abandon_next.new.self, c.abandon_next.new.streams)
       c.loop-done-test.true c.in_ok-abandon_next.ensures.exact c.loop-done.invariant.1
@@ -53,9 +47,7 @@ loop-done-preserved c = (
 
 pub returns-clause-exact : goal.returns-clause-exact
 returns-clause-exact c =
-    ends_late c.args.why.now c.inflight_len-count.result c.loop-done.done (c.args.self.now, c.args.streams.now)
-    (c.loop-done.self, c.loop-done.streams) c.loop-done.invariant.0 c.inflight_len-count.ensures
-    (omega (arith, c.loop-done-test.false))
+    ends_late c.loop-done.invariant.0 c.inflight_len-count.ensures (omega (arith, c.loop-done-test.false))
 
 pub returns-clause-any : goal.returns-clause-any
 returns-clause-any c =
