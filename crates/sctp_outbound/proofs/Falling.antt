@@ -40,8 +40,7 @@ pub falls_whole : {all rest : List ℕ} {f g : FallenView} → rest ≡ [] → F
 falls_whole {f = f} {g = g} e w =
     subst (λ z. AreGathered z f g) (sym (w.left ∙ ap (λ z. w.ids ++ z) e ∙ append-nil w.ids)) w.gathered
 
--- By `fell`, these fall in so many steps from a state on. From `before` on there are n steps, and streams were gathered
--- before them.
+-- `fell k all` are the streams that fall in k steps from `all` on. Of the n steps from `before` on, i are done.
 module _ (fell : ℕ → Sender × StreamMap → List ℕ) (n : ℕ) (before : Sender × StreamMap) (f : FallenView) where
   falls_at_first : FallsOn (fell n before) (fell (n - 0) before) f f
   falls_at_first =
@@ -57,14 +56,14 @@ module _ (fell : ℕ → Sender × StreamMap → List ℕ) (n : ℕ) (before : S
       let one : n - i ≡ suc (n - (i + 1)) = omega (arith, below) in
       falls_more (ap (λ k. fell k now) one ∙ step) w more
 
-  -- the last step before the others, in which none falls
+  -- in the steps that are left just some fall
   falls_early : (i : ℕ) (now : Sender × StreamMap) {m : ℕ} {some : List ℕ} {g h : FallenView} → n ≡ m
       → fell (n - i) now ≡ some ++ [] → FallsOn (fell n before) (fell (n - i) now) f g → AreGathered some g h
       → AreGathered (fell m before) f h
   falls_early i now {h = h} count step w more =
       subst (λ k. AreGathered (fell k before) f h) count (falls_whole refl (falls_more step w more))
 
-  -- all steps
+  -- no step is left
   falls_late : (i : ℕ) (now : Sender × StreamMap) {m : ℕ} {g : FallenView} → n ≡ m → n ≤ i → fell 0 now ≡ []
       → FallsOn (fell n before) (fell (n - i) now) f g → AreGathered (fell m before) f g
   falls_late i now {g = g} count past none w =
