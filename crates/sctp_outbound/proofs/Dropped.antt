@@ -40,25 +40,26 @@ drops_from n now all =
     let whole : n - 0 ≡ n = omega arith in
     ap (λ k. dropped_first k now all) whole
 
-pub drops_more : (n i now : ℕ) (before all then : Sender × StreamMap) → i < n
-    → dropped_first (n - i) now all ≡ dropped_first n now before → first_dropped now all ≡ then
-    → dropped_first (n - (i + 1)) now then ≡ dropped_first n now before
-drops_more n i now before all then below left is =
-    let one : n - i ≡ suc (n - (i + 1)) = omega (arith, below) in
-    ap (dropped_first (n - (i + 1)) now) (sym is) ∙ ap (λ k. dropped_first k now all) (sym one) ∙ left
+-- After i of n steps, that is what is left.
+module _ (n i now : ℕ) (before all : Sender × StreamMap)
+    (left : dropped_first (n - i) now all ≡ dropped_first n now before) where
+  pub drops_more : {then : Sender × StreamMap} → i < n → first_dropped now all ≡ then
+      → dropped_first (n - (i + 1)) now then ≡ dropped_first n now before
+  drops_more below is =
+      let one : n - i ≡ suc (n - (i + 1)) = omega (arith, below) in
+      ap (dropped_first (n - (i + 1)) now) (sym is) ∙ ap (λ k. dropped_first k now all) (sym one) ∙ left
 
-pub drop_ends_early : (n i now : ℕ) (before all then : Sender × StreamMap) → n ≡ length before.0.queue.pending
-    → dropped_first (n - i) now all ≡ dropped_first n now before
-    → is_some (after_expiry now all.0.queue).1 ≡ false → first_dropped now all ≡ then → all_dropped now before ≡ then
-drop_ends_early n i now before all then count left none is =
-    ap (λ k. dropped_first k now before) (sym count)
-    ∙ sym left
-    ∙ none_of_any (n - i) now all none
-    ∙ sym (none_dropped now all none)
-    ∙ is
+  pub drop_ends_early : {then : Sender × StreamMap} → n ≡ length before.0.queue.pending
+      → is_some (after_expiry now all.0.queue).1 ≡ false → first_dropped now all ≡ then
+      → all_dropped now before ≡ then
+  drop_ends_early count none is =
+      ap (λ k. dropped_first k now before) (sym count)
+      ∙ sym left
+      ∙ none_of_any (n - i) now all none
+      ∙ sym (none_dropped now all none)
+      ∙ is
 
-pub drop_ends_late : (n i now : ℕ) (before all : Sender × StreamMap) → n ≡ length before.0.queue.pending → n ≤ i
-    → dropped_first (n - i) now all ≡ dropped_first n now before → all_dropped now before ≡ all
-drop_ends_late n i now before all count past left =
-    let over : n - i ≡ 0 = omega (arith, past) in
-    ap (λ k. dropped_first k now before) (sym count) ∙ sym left ∙ ap (λ k. dropped_first k now all) over
+  pub drop_ends_late : n ≡ length before.0.queue.pending → n ≤ i → all_dropped now before ≡ all
+  drop_ends_late count past =
+      let over : n - i ≡ 0 = omega (arith, past) in
+      ap (λ k. dropped_first k now before) (sym count) ∙ sym left ∙ ap (λ k. dropped_first k now all) over

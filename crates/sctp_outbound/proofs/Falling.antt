@@ -23,22 +23,52 @@ pub record FallsOn (all rest : List ℕ) (f g : FallenView) : Type 0 where
   pub gathered : AreGathered ids f g
   pub left : all ≡ ids ++ rest
 
-pub falls_from : (all rest : List ℕ) (f : FallenView) → rest ≡ all → FallsOn all rest f f
-falls_from all rest f e = record { ids = []; gathered = none_gathered f; left = sym e }
+pub falls_from : {all rest : List ℕ} (f : FallenView) → rest ≡ all → FallsOn all rest f f
+falls_from f e = record { ids = []; gathered = none_gathered f; left = sym e }
 
 -- more are gathered
-pub falls_more : (all some rest now : List ℕ) (f g h : FallenView) → now ≡ some ++ rest → FallsOn all now f g
+pub falls_more : {all some rest now : List ℕ} {f g h : FallenView} → now ≡ some ++ rest → FallsOn all now f g
     → AreGathered some g h → FallsOn all rest f h
-falls_more all some rest now f g h e w more = record {
+falls_more {some = some} {rest = rest} {f = f} {g = g} {h = h} e w more = record {
   ids = w.ids ++ some;
   gathered = gathered_behind w.ids some f g h w.gathered more;
   left = w.left ∙ ap (λ z. w.ids ++ z) e ∙ sym (append_assoc w.ids some rest);
 }
 
 -- none is left
-pub falls_whole : (all rest : List ℕ) (f g : FallenView) → rest ≡ [] → FallsOn all rest f g → AreGathered all f g
-falls_whole all rest f g e w =
+pub falls_whole : {all rest : List ℕ} {f g : FallenView} → rest ≡ [] → FallsOn all rest f g → AreGathered all f g
+falls_whole {f = f} {g = g} e w =
     subst (λ z. AreGathered z f g) (sym (w.left ∙ ap (λ z. w.ids ++ z) e ∙ append-nil w.ids)) w.gathered
+
+-- `fell k all` are the streams that fall in k steps from `all` on. Of the n steps from `before` on, i are done.
+module _ (fell : ℕ → Sender × StreamMap → List ℕ) (n : ℕ) (before : Sender × StreamMap) (f : FallenView) where
+  falls_at_first : FallsOn (fell n before) (fell (n - 0) before) f f
+  falls_at_first =
+      let whole : n - 0 ≡ n = omega arith in
+      falls_from f (ap (λ k. fell k before) whole)
+
+  -- one more step
+  falls_further : (i : ℕ) (now next : Sender × StreamMap) {some : List ℕ} {g h : FallenView} → i < n
+      → fell (suc (n - (i + 1))) now ≡ some ++ fell (n - (i + 1)) next
+      → FallsOn (fell n before) (fell (n - i) now) f g → AreGathered some g h
+      → FallsOn (fell n before) (fell (n - (i + 1)) next) f h
+  falls_further i now next below step w more =
+      let one : n - i ≡ suc (n - (i + 1)) = omega (arith, below) in
+      falls_more (ap (λ k. fell k now) one ∙ step) w more
+
+  -- in the steps that are left just some fall
+  falls_early : (i : ℕ) (now : Sender × StreamMap) {m : ℕ} {some : List ℕ} {g h : FallenView} → n ≡ m
+      → fell (n - i) now ≡ some ++ [] → FallsOn (fell n before) (fell (n - i) now) f g → AreGathered some g h
+      → AreGathered (fell m before) f h
+  falls_early i now {h = h} count step w more =
+      subst (λ k. AreGathered (fell k before) f h) count (falls_whole refl (falls_more step w more))
+
+  -- no step is left
+  falls_late : (i : ℕ) (now : Sender × StreamMap) {m : ℕ} {g : FallenView} → n ≡ m → n ≤ i → fell 0 now ≡ []
+      → FallsOn (fell n before) (fell (n - i) now) f g → AreGathered (fell m before) f g
+  falls_late i now {g = g} count past none w =
+      let over : n - i ≡ 0 = omega (arith, past) in
+      subst (λ k. AreGathered (fell k before) f g) count (falls_whole (ap (λ k. fell k now) over ∙ none) w)
 
 -- Messages that are given up for a reason
 
@@ -51,43 +81,32 @@ none_first : (why : Reason) (n : ℕ) (all : Sender × StreamMap) → next_given
 none_first why zero all none = refl
 none_first why (suc n) all none = rw none (none_first why n all none)
 
-pub first_from : (why : Reason) (n : ℕ) (all : Sender × StreamMap) (f : FallenView)
-    → FallsOn (fell_first n why all) (fell_first (n - 0) why all) f f
-first_from why n all f =
-    let whole : n - 0 ≡ n = omega arith in
-    falls_from (fell_first n why all) (fell_first (n - 0) why all) f (ap (λ k. fell_first k why all) whole)
+module _ (why : Reason) (n : ℕ) (before : Sender × StreamMap) (f : FallenView) where
+  pub first_from : FallsOn (fell_first n why before) (fell_first (n - 0) why before) f f
+  first_from = falls_at_first (λ k all. fell_first k why all) n before f
 
-pub first_more : (why : Reason) (n i : ℕ) (before now next : Sender × StreamMap) (f g h : FallenView) → i < n
-    → abandoned_if (next_given_up why now.0) now ≡ next
-    → FallsOn (fell_first n why before) (fell_first (n - i) why now) f g
-    → AreGathered (fell_at (next_given_up why now.0) now) g h
-    → FallsOn (fell_first n why before) (fell_first (n - (i + 1)) why next) f h
-first_more why n i before now next f g h below is w more =
-    let one : n - i ≡ suc (n - (i + 1)) = omega (arith, below) in
-    falls_more (fell_first n why before) (fell_at (next_given_up why now.0) now) (fell_first (n - (i + 1)) why next)
-    (fell_first (n - i) why now) f g h
-    (ap (λ k. fell_first k why now) one
-    ∙ ap (λ z. fell_at (next_given_up why now.0) now ++ fell_first (n - (i + 1)) why z) is)
-    w more
+  pub first_more : (i : ℕ) (now next : Sender × StreamMap) {g h : FallenView} → i < n
+      → abandoned_if (next_given_up why now.0) now ≡ next
+      → FallsOn (fell_first n why before) (fell_first (n - i) why now) f g
+      → AreGathered (fell_at (next_given_up why now.0) now) g h
+      → FallsOn (fell_first n why before) (fell_first (n - (i + 1)) why next) f h
+  first_more i now next below is =
+      falls_further (λ k all. fell_first k why all) n before f i now next below
+      (ap (λ z. fell_at (next_given_up why now.0) now ++ fell_first (n - (i + 1)) why z) is)
 
--- where none is given up any more, all are gathered
-pub first_early : (why : Reason) (n m i : ℕ) (before now : Sender × StreamMap) (f g h : FallenView) → n ≡ m
-    → is_some (next_given_up why now.0) ≡ false
-    → FallsOn (fell_first n why before) (fell_first (n - i) why now) f g
-    → AreGathered (fell_at (next_given_up why now.0) now) g h → AreGathered (fell_first m why before) f h
-first_early why n m i before now f g h count e w more =
-    let none = none_of (next_given_up why now.0) e in
-    subst (λ k. AreGathered (fell_first k why before) f h) count
-    (falls_whole (fell_first n why before) [] f h refl
-    (falls_more (fell_first n why before) (fell_at (next_given_up why now.0) now) [] (fell_first (n - i) why now) f g h
-    (none_first why (n - i) now none ∙ ap (λ o. fell_at o now ++ []) (sym none)) w more))
+  -- where none is given up any more, all are gathered
+  pub first_early : (i : ℕ) (now : Sender × StreamMap) {m : ℕ} {g h : FallenView} → n ≡ m
+      → is_some (next_given_up why now.0) ≡ false
+      → FallsOn (fell_first n why before) (fell_first (n - i) why now) f g
+      → AreGathered (fell_at (next_given_up why now.0) now) g h → AreGathered (fell_first m why before) f h
+  first_early i now count e =
+      let none = none_of (next_given_up why now.0) e in
+      falls_early (λ k all. fell_first k why all) n before f i now count
+      (none_first why (n - i) now none ∙ ap (λ o. fell_at o now ++ []) (sym none))
 
-pub first_late : (why : Reason) (n m i : ℕ) (before now : Sender × StreamMap) (f g : FallenView) → n ≡ m → n ≤ i
-    → FallsOn (fell_first n why before) (fell_first (n - i) why now) f g → AreGathered (fell_first m why before) f g
-first_late why n m i before now f g count past w =
-    let over : n - i ≡ 0 = omega (arith, past) in
-    subst (λ k. AreGathered (fell_first k why before) f g) count
-    (falls_whole (fell_first n why before) (fell_first (n - i) why now) f g (ap (λ k. fell_first k why now) over) w)
+  pub first_late : (i : ℕ) (now : Sender × StreamMap) {m : ℕ} {g : FallenView} → n ≡ m → n ≤ i
+      → FallsOn (fell_first n why before) (fell_first (n - i) why now) f g → AreGathered (fell_first m why before) f g
+  first_late i now count past = falls_late (λ k all. fell_first k why all) n before f i now count past refl
 
 -- What is expired and begun
 
@@ -96,11 +115,12 @@ pub expired_none : (forward : Bool) (now : ℕ) (all : Sender × StreamMap) (f :
 expired_none forward now all f e = rw e (none_gathered f)
 
 -- what is expired in flight, and then a tail
-pub expired_all : (forward : Bool) (now : ℕ) (s b t : Sender) (m n : StreamMap) (f g h : FallenView) → forward ≡ true
+pub expired_all : (now : ℕ) (s : Sender) (m : StreamMap) {forward : Bool} {b t : Sender} {n : StreamMap}
+    {f g h : FallenView} → forward ≡ true
     → b ≡ with_started now s → all_given_up (reasons.Expired now) (b, m) ≡ (t, n)
     → AreGathered (fell_giving_up (reasons.Expired now) (b, m)) f g → AreGathered (fell_with_tail now (t, n)) g h
     → AreGathered (fell_expired forward now (s, m)) f h
-expired_all forward now s b t m n f g h uses started exact x y =
+expired_all now s m {f = f} {g = g} {h = h} uses started exact x y =
     rw uses
     (gathered_behind (fell_giving_up (reasons.Expired now) (with_started now s, m))
     (fell_with_tail now (late_given_up now (s, m))) f g h
@@ -123,44 +143,29 @@ none_dropping now (suc n) all none =
     ∙ ap (fell_dropped_first n now) (none_dropped now all none)
     ∙ none_dropping now n all none
 
-pub drops_from : (now n : ℕ) (all : Sender × StreamMap) (f : FallenView)
-    → FallsOn (fell_dropped_first n now all) (fell_dropped_first (n - 0) now all) f f
-drops_from now n all f =
-    let whole : n - 0 ≡ n = omega arith in
-    falls_from (fell_dropped_first n now all) (fell_dropped_first (n - 0) now all) f
-    (ap (λ k. fell_dropped_first k now all) whole)
+module _ (now n : ℕ) (before : Sender × StreamMap) (f : FallenView) where
+  pub drops_from : FallsOn (fell_dropped_first n now before) (fell_dropped_first (n - 0) now before) f f
+  drops_from = falls_at_first (λ k all. fell_dropped_first k now all) n before f
 
-pub drops_more : (now n i : ℕ) (before all next : Sender × StreamMap) (f g h : FallenView) → i < n
-    → first_dropped now all ≡ next
-    → FallsOn (fell_dropped_first n now before) (fell_dropped_first (n - i) now all) f g
-    → AreGathered (fell_dropping now all) g h
-    → FallsOn (fell_dropped_first n now before) (fell_dropped_first (n - (i + 1)) now next) f h
-drops_more now n i before all next f g h below is w more =
-    let one : n - i ≡ suc (n - (i + 1)) = omega (arith, below) in
-    falls_more (fell_dropped_first n now before) (fell_dropping now all) (fell_dropped_first (n - (i + 1)) now next)
-    (fell_dropped_first (n - i) now all) f g h
-    (ap (λ k. fell_dropped_first k now all) one
-    ∙ ap (λ z. fell_dropping now all ++ fell_dropped_first (n - (i + 1)) now z) is)
-    w more
+  pub drops_more : (i : ℕ) (all next : Sender × StreamMap) {g h : FallenView} → i < n → first_dropped now all ≡ next
+      → FallsOn (fell_dropped_first n now before) (fell_dropped_first (n - i) now all) f g
+      → AreGathered (fell_dropping now all) g h
+      → FallsOn (fell_dropped_first n now before) (fell_dropped_first (n - (i + 1)) now next) f h
+  drops_more i all next below is =
+      falls_further (λ k all. fell_dropped_first k now all) n before f i all next below
+      (ap (λ z. fell_dropping now all ++ fell_dropped_first (n - (i + 1)) now z) is)
 
--- where none is dropped any more, all are gathered
-pub drops_early : (now n m i : ℕ) (before all : Sender × StreamMap) (f g h : FallenView) → n ≡ m
-    → is_some (after_expiry now all.0.queue).1 ≡ false
-    → FallsOn (fell_dropped_first n now before) (fell_dropped_first (n - i) now all) f g
-    → AreGathered (fell_dropping now all) g h → AreGathered (fell_dropped_first m now before) f h
-drops_early now n m i before all f g h count none w more =
-    subst (λ k. AreGathered (fell_dropped_first k now before) f h) count
-    (falls_whole (fell_dropped_first n now before) [] f h refl
-    (falls_more (fell_dropped_first n now before) (fell_dropping now all) [] (fell_dropped_first (n - i) now all) f g h
-    (none_dropping now (n - i) all none
-    ∙ ap (λ z. z ++ []) (sym (nothing_released (after_expiry now all.0.queue).1 all.1 none)))
-    w more))
+  -- where none is dropped any more, all are gathered
+  pub drops_early : (i : ℕ) (all : Sender × StreamMap) {m : ℕ} {g h : FallenView} → n ≡ m
+      → is_some (after_expiry now all.0.queue).1 ≡ false
+      → FallsOn (fell_dropped_first n now before) (fell_dropped_first (n - i) now all) f g
+      → AreGathered (fell_dropping now all) g h → AreGathered (fell_dropped_first m now before) f h
+  drops_early i all count none =
+      falls_early (λ k all. fell_dropped_first k now all) n before f i all count
+      (none_dropping now (n - i) all none
+      ∙ ap (λ z. z ++ []) (sym (nothing_released (after_expiry now all.0.queue).1 all.1 none)))
 
-pub drops_late : (now n m i : ℕ) (before all : Sender × StreamMap) (f g : FallenView) → n ≡ m → n ≤ i
-    → FallsOn (fell_dropped_first n now before) (fell_dropped_first (n - i) now all) f g
-    → AreGathered (fell_dropped_first m now before) f g
-drops_late now n m i before all f g count past w =
-    let over : n - i ≡ 0 = omega (arith, past) in
-    subst (λ k. AreGathered (fell_dropped_first k now before) f g) count
-    (falls_whole (fell_dropped_first n now before) (fell_dropped_first (n - i) now all) f g
-    (ap (λ k. fell_dropped_first k now all) over) w)
+  pub drops_late : (i : ℕ) (all : Sender × StreamMap) {m : ℕ} {g : FallenView} → n ≡ m → n ≤ i
+      → FallsOn (fell_dropped_first n now before) (fell_dropped_first (n - i) now all) f g
+      → AreGathered (fell_dropped_first m now before) f g
+  drops_late i all count past = falls_late (λ k all. fell_dropped_first k now all) n before f i all count past refl

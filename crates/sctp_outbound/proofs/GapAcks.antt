@@ -261,44 +261,45 @@ acknowledges_both {a = a} {b = b} {s = s} {s3 = s3} {m = m} {m2 = m2} {k = k} {l
     })
     h
 
--- the piece at an index is marked, and its bytes are released
-pub acknowledges_one : (s : Sender) (q : Outbound) (m : StreamMap) (bytes i tsn first : ℕ) (p : InFlight)
-    → slice_get s.queue.in_flight i ≡ Some p
-    → s.queue.first_tsn < 2 ^ 32 → i < 65536 → tsn ≡ (s.queue.first_tsn + i) % 2 ^ 32
-    → acked_at s.queue tsn ≡ (q, bytes)
-    → AcknowledgesNamed (λ j. eqb j i) s (record s { queue = q; min_tsn2measure_rtt = first }) m
-    (streams_after (Some p) m)
-    (if_new true i p)
-acknowledges_one s q m bytes i tsn first p here small near e marked =
-    let place : tsn_past s.queue.first_tsn tsn ≡ i = omega arith in
-    let there : slice_get s.queue.in_flight (tsn_past s.queue.first_tsn tsn) ≡ Some p =
-    ap (slice_get s.queue.in_flight) place ∙ here in
-    record {
-      pieces =
-          ap (λ (z : Outbound × ℕ). record s { queue = z.0; min_tsn2measure_rtt = first }) (sym marked)
-          ∙ ap (λ o. record s {
-            queue = changed_from acked o s.queue (tsn_past s.queue.first_tsn tsn);
-            min_tsn2measure_rtt = first;
-          }) there
-          ∙ ap (λ k. with_measure s (set s.queue.in_flight k (acked p)) first) place
-          ∙ ap (λ z. with_measure s z first) (sym (one_acked i i 0 s.queue.in_flight p (omega arith) here));
-      released = sym (one_released i i 0 s.queue.in_flight m p (omega arith) here);
-      newest = sym (one_new i i 0 s.queue.in_flight p (omega arith) here);
-    }
+-- The piece at an index
+module _ (s : Sender) (m : StreamMap) (i : ℕ) where
+  -- it is marked, and its bytes are released
+  pub acknowledges_one : {q : Outbound} {bytes tsn : ℕ} (first : ℕ) (p : InFlight)
+      → slice_get s.queue.in_flight i ≡ Some p
+      → s.queue.first_tsn < 2 ^ 32 → i < 65536 → tsn ≡ (s.queue.first_tsn + i) % 2 ^ 32
+      → acked_at s.queue tsn ≡ (q, bytes)
+      → AcknowledgesNamed (λ j. eqb j i) s (record s { queue = q; min_tsn2measure_rtt = first }) m
+      (streams_after (Some p) m)
+      (if_new true i p)
+  acknowledges_one {tsn = tsn} first p here small near e marked =
+      let place : tsn_past s.queue.first_tsn tsn ≡ i = omega arith in
+      let there : slice_get s.queue.in_flight (tsn_past s.queue.first_tsn tsn) ≡ Some p =
+      ap (slice_get s.queue.in_flight) place ∙ here in
+      record {
+        pieces =
+            ap (λ (z : Outbound × ℕ). record s { queue = z.0; min_tsn2measure_rtt = first }) (sym marked)
+            ∙ ap (λ o. record s {
+              queue = changed_from acked o s.queue (tsn_past s.queue.first_tsn tsn);
+              min_tsn2measure_rtt = first;
+            }) there
+            ∙ ap (λ k. with_measure s (set s.queue.in_flight k (acked p)) first) place
+            ∙ ap (λ z. with_measure s z first) (sym (one_acked i i 0 s.queue.in_flight p (omega arith) here));
+        released = sym (one_released i i 0 s.queue.in_flight m p (omega arith) here);
+        newest = sym (one_new i i 0 s.queue.in_flight p (omega arith) here);
+      }
 
--- no piece is at the index
-pub acknowledges_past : (s : Sender) (m : StreamMap) (i : ℕ) → slice_get s.queue.in_flight i ≡ None
-    → AcknowledgesNamed (λ j. eqb j i) s s m m None
-acknowledges_past s m i none =
-    let past = none_past s.queue.in_flight i none in
-    acknowledges_none (λ j. eqb j i) s m (λ j l. ne_eqb j i (λ (f : j ≡ i). omega arith))
+  -- no piece is there
+  pub acknowledges_past : slice_get s.queue.in_flight i ≡ None → AcknowledgesNamed (λ j. eqb j i) s s m m None
+  acknowledges_past none =
+      let past = none_past s.queue.in_flight i none in
+      acknowledges_none (λ j. eqb j i) s m (λ j l. ne_eqb j i (λ (f : j ≡ i). omega arith))
 
 -- and where their round trips were measured besides, that is all that the blocks do
-pub all_taken : (now : ℕ) (blocks : List GapAckBlock) (s s2 : Sender) (e e2 : Estimate) (m m2 : StreamMap)
-    → {last : Option ℕ} → AcknowledgesNamed (λ j. is_named (j + 1) blocks) s s2 m m2 last
+pub all_taken : {s s2 : Sender} {m m2 : StreamMap} {last : Option ℕ} (now : ℕ) (blocks : List GapAckBlock)
+    (e e2 : Estimate) → AcknowledgesNamed (λ j. is_named (j + 1) blocks) s s2 m m2 last
     → (s2.min_tsn2measure_rtt, e2) ≡ blocks_timed now blocks s e
     → with_blocks now blocks (s, e, m) ≡ (s2, e2, m2)
-all_taken now blocks s s2 e e2 m m2 all measured =
+all_taken {s = s} {s2 = s2} {m = m} now blocks e e2 all measured =
     ap (λ (z : ℕ × Estimate). (
       with_measure s (acked_among (λ j. is_named (j + 1) blocks) 0 s.queue.in_flight) z.0,
       z.1,
@@ -313,17 +314,18 @@ all_taken now blocks s s2 e e2 m m2 all measured =
 abbrev pub passed : ℕ → ℕ → ℕ → ℕ → Bool
 passed first count i j = leb first j && (ltb j i && ltb j count)
 
-pub passed_none : (first count j : ℕ) → passed first count first j ≡ false
-passed_none first count j = grind (arith, nat_tests)
+module _ (first count : ℕ) where
+  pub passed_none : (j : ℕ) → passed first count first j ≡ false
+  passed_none j = grind (arith, nat_tests)
 
-pub passed_more : (first count i j : ℕ) → first ≤ i → i < count
-    → (passed first count i j || eqb j i) ≡ passed first count (i + 1) j
-passed_more first count i j l u = grind (arith, nat_tests)
+  pub passed_more : (i j : ℕ) → first ≤ i → i < count
+      → (passed first count i j || eqb j i) ≡ passed first count (i + 1) j
+  passed_more i j l u = grind (arith, nat_tests)
 
--- all of them are those that the block names of what is in flight
-pub passed_all : (b : GapAckBlock) (first count i n j : ℕ) → first ≡ b.start - 1 → count ≡ min b.end n → count ≤ i
-    → j < n → passed first count i j ≡ is_named_by b j
-passed_all b first count i n j f c l u = grind (arith, nat_tests, f, c, l, u)
+  -- all of them are those that the block names of what is in flight
+  pub passed_all : (b : GapAckBlock) (i n j : ℕ) → first ≡ b.start - 1 → count ≡ min b.end n → count ≤ i → j < n
+      → passed first count i j ≡ is_named_by b j
+  passed_all b i n j f c l u = grind (arith, nat_tests, f, c, l, u)
 
 -- What they measure
 

@@ -43,21 +43,6 @@ some_more why n zero before all g some =
     ap (λ (s : Sender). is_some (next_given_up why s)) (sym (g.none refl)) ∙ some
 some_more why n (suc i) before all g some = g.some (omega arith)
 
--- one more is abandoned
-pub gives_up_more : (why : Reason) (n i : ℕ) (before all then : Sender × StreamMap) → GivesUpOn why n i before all
-    → i < n → is_some (next_given_up why all.0) ≡ true → abandoned_if (next_given_up why all.0) all ≡ then
-    → GivesUpOn why n (i + 1) before then
-gives_up_more why n i before all then g below some is =
-    let one : n - i ≡ suc (n - (i + 1)) = omega (arith, below) in
-    record {
-      left =
-          ap (given_up_first (n - (i + 1)) why) (sym is)
-          ∙ ap (λ k. given_up_first k why all) (sym one)
-          ∙ g.left;
-      none = λ z. absurd (omega (arith, z));
-      some = λ l. some_more why n i before all g some;
-    }
-
 none_of : (o : Option ℕ) → is_some o ≡ false → o ≡ None
 none_of None e = refl
 none_of (Some index) e = absurd (true≢false e)
@@ -68,22 +53,37 @@ pub none_given_up : (why : Reason) (n : ℕ) (all : Sender × StreamMap) → nex
 none_given_up why zero all none = refl
 none_given_up why (suc n) all none = rw none (none_given_up why n all none)
 
-pub ends_early : (why : Reason) (n i : ℕ) (before all then : Sender × StreamMap) → GivesUpOn why n i before all
-    → n ≡ length before.0.queue.in_flight → is_some (next_given_up why all.0) ≡ false
-    → abandoned_if (next_given_up why all.0) all ≡ then → all_given_up why before ≡ then
-ends_early why n i before all then g count e is =
-    let none = none_of (next_given_up why all.0) e in
-    ap (λ k. given_up_first k why before) (sym count)
-    ∙ sym g.left
-    ∙ none_given_up why (n - i) all none
-    ∙ ap (λ o. abandoned_if o all) (sym none)
-    ∙ is
+-- so many messages were given up
+module _ {why : Reason} {n i : ℕ} {before all : Sender × StreamMap} (g : GivesUpOn why n i before all) where
+  -- one more is abandoned
+  pub gives_up_more : {then : Sender × StreamMap} → i < n → is_some (next_given_up why all.0) ≡ true
+      → abandoned_if (next_given_up why all.0) all ≡ then → GivesUpOn why n (i + 1) before then
+  gives_up_more below some is =
+      let one : n - i ≡ suc (n - (i + 1)) = omega (arith, below) in
+      record {
+        left =
+            ap (given_up_first (n - (i + 1)) why) (sym is)
+            ∙ ap (λ k. given_up_first k why all) (sym one)
+            ∙ g.left;
+        none = λ z. absurd (omega (arith, z));
+        some = λ l. some_more why n i before all g some;
+      }
 
-pub ends_late : (why : Reason) (n i : ℕ) (before all : Sender × StreamMap) → GivesUpOn why n i before all
-    → n ≡ length before.0.queue.in_flight → n ≤ i → all_given_up why before ≡ all
-ends_late why n i before all g count past =
-    let over : n - i ≡ 0 = omega (arith, past) in
-    ap (λ k. given_up_first k why before) (sym count) ∙ sym g.left ∙ ap (λ k. given_up_first k why all) over
+  pub ends_early : {then : Sender × StreamMap} → n ≡ length before.0.queue.in_flight
+      → is_some (next_given_up why all.0) ≡ false → abandoned_if (next_given_up why all.0) all ≡ then
+      → all_given_up why before ≡ then
+  ends_early count e is =
+      let none = none_of (next_given_up why all.0) e in
+      ap (λ k. given_up_first k why before) (sym count)
+      ∙ sym g.left
+      ∙ none_given_up why (n - i) all none
+      ∙ ap (λ o. abandoned_if o all) (sym none)
+      ∙ is
+
+  pub ends_late : n ≡ length before.0.queue.in_flight → n ≤ i → all_given_up why before ≡ all
+  ends_late count past =
+      let over : n - i ≡ 0 = omega (arith, past) in
+      ap (λ k. given_up_first k why before) (sym count) ∙ sym g.left ∙ ap (λ k. given_up_first k why all) over
 
 -- the answer of one that ended early
 pub any_early : (why : Reason) (n i : ℕ) (before all : Sender × StreamMap) → GivesUpOn why n i before all

@@ -25,20 +25,6 @@ abbrev pub done_by : ℕ → ℕ → Option ℕ → List GapAckBlock → ℕ →
 done_by n before last blocks window now s e m =
     reported_by (nat_lt 0 n) last (grown_by (nat_lt 0 n) before (all_acknowledged n blocks window now s e m))
 
-pub counts_with : (s : Sender) (cumulative_tsn_ack : ℕ) (blocks : List GapAckBlock) (window now : ℕ) (e : Estimate)
-    (m : StreamMap)
-    (n before : ℕ) (last : Option ℕ) (left : List InFlight)
-    → n ≡ tsns_up_to s cumulative_tsn_ack → before ≡ outstanding_of s.queue.in_flight
-    → last ≡ last_new (λ j. is_named (j + 1) blocks) 0 left → left ≡ drop n s.queue.in_flight
-    → sack_taken cumulative_tsn_ack blocks window now s e m ≡ done_by n before last blocks window now s e m
-counts_with s cumulative_tsn_ack blocks window now e m n before last left count bytes newest behind =
-    ap (λ k. done_by k (outstanding_of s.queue.in_flight)
-    (last_new (λ j. is_named (j + 1) blocks) 0 (drop k s.queue.in_flight)) blocks window now s e m) (sym count)
-    ∙ ap (λ b. done_by n b (last_new (λ j. is_named (j + 1) blocks) 0 (drop n s.queue.in_flight)) blocks window now s e
-    m) (sym bytes)
-    ∙ ap (λ l. done_by n before l blocks window now s e m)
-    (ap (last_new (λ j. is_named (j + 1) blocks) 0) (sym behind) ∙ sym newest)
-
 -- What a SACK reports missing is decided by what its cumulative TSN ack leaves in flight.
 
 same_missing : (moved : Bool) (last : Option ℕ) (s t : Sender) → s.recovery_exit ≡ t.recovery_exit
@@ -71,18 +57,28 @@ blocks_length : (now : ℕ) (blocks : List GapAckBlock) (x : Sender × Estimate 
     → length (with_blocks now blocks x).0.queue.in_flight ≡ length x.0.queue.in_flight
 blocks_length now blocks (s, e, m) = acked_length (λ j. is_named (j + 1) blocks) 0 s.queue.in_flight
 
-pub reports_are : (s : Sender) (cumulative_tsn_ack : ℕ) (blocks : List GapAckBlock) (window now : ℕ) (e : Estimate)
-    (m : StreamMap)
-    (n before : ℕ) → n ≡ tsns_up_to s cumulative_tsn_ack
-    → missing_of (nat_lt 0 n) (newest_of s cumulative_tsn_ack blocks)
-    (grown_by (nat_lt 0 n) before (all_acknowledged n blocks window now s e m)).0
-    ≡ reports_of s cumulative_tsn_ack blocks
-reports_are s cumulative_tsn_ack blocks window now e m n before count =
-    let x = acknowledged n now (before_acknowledging n window s, e, m) in
-    same_missing (nat_lt 0 n) (newest_of s cumulative_tsn_ack blocks)
-    (grown_by (nat_lt 0 n) before (with_blocks now blocks x)).0
-    (with_in_flight (past_recovery n s) (drop n s.queue.in_flight))
-    (blocks_exit now blocks x ∙ exit_stays n now (before_acknowledging n window s) e m)
-    (blocks_length now blocks x ∙ ap length (left_behind n now (before_acknowledging n window s) e m))
-    ∙ ap (λ k. missing_of (nat_lt 0 k) (newest_of s cumulative_tsn_ack blocks)
-    (with_in_flight (past_recovery k s) (drop k s.queue.in_flight))) count
+-- A SACK is taken in.
+module _ (s : Sender) (cumulative_tsn_ack : ℕ) (blocks : List GapAckBlock) (window now : ℕ) (e : Estimate)
+    (m : StreamMap) where
+  pub counts_with : {n before : ℕ} {last : Option ℕ} → n ≡ tsns_up_to s cumulative_tsn_ack
+      → before ≡ outstanding_of s.queue.in_flight → last ≡ newest_of s cumulative_tsn_ack blocks
+      → sack_taken cumulative_tsn_ack blocks window now s e m ≡ done_by n before last blocks window now s e m
+  counts_with {n = n} {before = before} count bytes newest =
+      ap (λ k. done_by k (outstanding_of s.queue.in_flight) (newest_of s cumulative_tsn_ack blocks) blocks window now
+      s e m) (sym count)
+      ∙ ap (λ b. done_by n b (newest_of s cumulative_tsn_ack blocks) blocks window now s e m) (sym bytes)
+      ∙ ap (λ l. done_by n before l blocks window now s e m) (sym newest)
+
+  pub reports_are : (n before : ℕ) → n ≡ tsns_up_to s cumulative_tsn_ack
+      → missing_of (nat_lt 0 n) (newest_of s cumulative_tsn_ack blocks)
+      (grown_by (nat_lt 0 n) before (all_acknowledged n blocks window now s e m)).0
+      ≡ reports_of s cumulative_tsn_ack blocks
+  reports_are n before count =
+      let x = acknowledged n now (before_acknowledging n window s, e, m) in
+      same_missing (nat_lt 0 n) (newest_of s cumulative_tsn_ack blocks)
+      (grown_by (nat_lt 0 n) before (with_blocks now blocks x)).0
+      (with_in_flight (past_recovery n s) (drop n s.queue.in_flight))
+      (blocks_exit now blocks x ∙ exit_stays n now (before_acknowledging n window s) e m)
+      (blocks_length now blocks x ∙ ap length (left_behind n now (before_acknowledging n window s) e m))
+      ∙ ap (λ k. missing_of (nat_lt 0 k) (newest_of s cumulative_tsn_ack blocks)
+      (with_in_flight (past_recovery k s) (drop k s.queue.in_flight))) count

@@ -10,7 +10,7 @@ use Rattle.sctp_parts.specs.Estimate.{Estimate}
 use Rattle.sctp_streams.specs.Streams.{StreamMap}
 use Rattle.sctp_outbound.specs.declared.sender.Sender.{Sender}
 use Rattle.sctp_outbound.specs.Sender.{acknowledged, after_first, sender_after_first, tsns_up_to}
-use Rattle.sctp_outbound.specs.Sacks.{progress_of}
+use Rattle.sctp_outbound.specs.Sacks.{newest_of, progress_of}
 use Rattle.sctp_outbound.specs.Progress.{acknowledges_at, any_new_up_to, is_new_piece, last_new}
 
 or_again : (a b c : Bool) → ((a || b) || c) ≡ (a || (b || c))
@@ -65,26 +65,30 @@ left_behind (suc n) now s e m =
     more : (n : ℕ) → 1 + n ≡ suc n
     more n = omega arith
 
--- what the parts of a SACK acknowledge together
-pub progress_is : (s : Sender) (cumulative_tsn_ack n : ℕ) (blocks : List GapAckBlock) (a b : Bool) (l : Option ℕ)
-    (left : List InFlight)
-    → n ≡ tsns_up_to s cumulative_tsn_ack → a ≡ any_new_up_to n s.queue.in_flight
-    → l ≡ last_new (λ j. is_named (j + 1) blocks) 0 left → left ≡ drop n s.queue.in_flight
-    → b ≡ acknowledges_at n blocks (position is_outstanding s.queue.in_flight)
-    → record { any_new = a || is_some l; earliest = b } ≡ progress_of s cumulative_tsn_ack blocks
-progress_is s cumulative_tsn_ack n blocks a b l left count any last behind earliest =
-    ap (λ z. record { any_new = z || is_some l; earliest = b }) any
-    ∙ ap (λ z. record { any_new = any_new_up_to n s.queue.in_flight || is_some z; earliest = b })
-    (last ∙ ap (last_new (λ j. is_named (j + 1) blocks) 0) behind)
-    ∙ ap (λ z. record {
-      any_new =
-          any_new_up_to n s.queue.in_flight
-          || is_some (last_new (λ j. is_named (j + 1) blocks) 0 (drop n s.queue.in_flight));
-      earliest = z;
-    }) earliest
-    ∙ ap (λ k. record {
-      any_new =
-          any_new_up_to k s.queue.in_flight
-          || is_some (last_new (λ j. is_named (j + 1) blocks) 0 (drop k s.queue.in_flight));
-      earliest = acknowledges_at k blocks (position is_outstanding s.queue.in_flight);
-    }) count
+-- what the parts of a SACK acknowledge together, where so many pieces are up to its cumulative TSN ack
+module _ (s : Sender) (cumulative_tsn_ack : ℕ) (blocks : List GapAckBlock) {n : ℕ}
+    (count : n ≡ tsns_up_to s cumulative_tsn_ack) where
+  -- the last index that its blocks newly acknowledge, of those that are left in flight
+  pub newest_is : {last : Option ℕ} {left : List InFlight} → last ≡ last_new (λ j. is_named (j + 1) blocks) 0 left
+      → left ≡ drop n s.queue.in_flight → last ≡ newest_of s cumulative_tsn_ack blocks
+  newest_is last behind =
+      last
+      ∙ ap (last_new (λ j. is_named (j + 1) blocks) 0)
+      (behind ∙ ap (λ (k : ℕ). drop k s.queue.in_flight) count)
+
+  pub progress_is : {any earliest : Bool} {last : Option ℕ} → any ≡ any_new_up_to n s.queue.in_flight
+      → last ≡ newest_of s cumulative_tsn_ack blocks
+      → earliest ≡ acknowledges_at n blocks (position is_outstanding s.queue.in_flight)
+      → record { any_new = any || is_some last; earliest = earliest } ≡ progress_of s cumulative_tsn_ack blocks
+  progress_is {earliest = earliest} {last = last} first newest names =
+      let up_to = tsns_up_to s cumulative_tsn_ack in
+      ap (λ z. record { any_new = z || is_some last; earliest = earliest })
+      (first ∙ ap (λ k. any_new_up_to k s.queue.in_flight) count)
+      ∙ ap (λ z. record {
+        any_new = any_new_up_to up_to s.queue.in_flight || is_some z;
+        earliest = earliest;
+      }) newest
+      ∙ ap (λ z. record {
+        any_new = any_new_up_to up_to s.queue.in_flight || is_some (newest_of s cumulative_tsn_ack blocks);
+        earliest = z;
+      }) (names ∙ ap (λ k. acknowledges_at k blocks (position is_outstanding s.queue.in_flight)) count)

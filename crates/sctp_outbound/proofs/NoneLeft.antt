@@ -222,42 +222,41 @@ marker_rests id a =
 record Fewer (q r : Outbound) : Type 0 where
   fewer : active_in r.in_flight + 1 ≤ active_in q.in_flight
 
-flagged_fewer : (q r : Outbound) (id i : ℕ) (p : InFlight) → slice_get q.in_flight i ≡ Some p → is_of id p ≡ true
-    → is_active p ≡ true → r.in_flight ≡ map (flagged id) q.in_flight → Fewer q r
-flagged_fewer q r id i p there own active is =
-    let less = flags_less id q.in_flight i p there own active in
-    let same = ap active_in is in
-    record { fewer = omega (arith, less, same) }
+-- The active piece at an index is of the message that is abandoned.
+module _ (q : Outbound) (id i : ℕ) (p : InFlight) (there : slice_get q.in_flight i ≡ Some p) (own : is_of id p ≡ true)
+    (active : is_active p ≡ true) where
+  flagged_fewer : (r : Outbound) → r.in_flight ≡ map (flagged id) q.in_flight → Fewer q r
+  flagged_fewer r is =
+      let less = flags_less id q.in_flight i p there own active in
+      let same = ap active_in is in
+      record { fewer = omega (arith, less, same) }
 
-marked_fewer : (q r : Outbound) (id i : ℕ) (p : InFlight) (a : Attributes) → slice_get q.in_flight i ≡ Some p
-    → is_of id p ≡ true → is_active p ≡ true → r.in_flight ≡ map (flagged id) (q.in_flight ++ marker_of a ∷ [])
-    → Fewer q r
-marked_fewer q r id i p a there own active is =
-    let less = flags_less id q.in_flight i p there own active in
-    let parts = is ∙ map-append (flagged id) q.in_flight (marker_of a ∷ []) in
-    let same = ap active_in parts in
-    let sum = sum_by-append one_if (map (flagged id) q.in_flight) (map (flagged id) (marker_of a ∷ [])) in
-    let none = marker_rests id a in
-    record { fewer = omega (arith, less, same, sum, none) }
+  marked_fewer : (r : Outbound) (a : Attributes) → r.in_flight ≡ map (flagged id) (q.in_flight ++ marker_of a ∷ [])
+      → Fewer q r
+  marked_fewer r a is =
+      let less = flags_less id q.in_flight i p there own active in
+      let parts = is ∙ map-append (flagged id) q.in_flight (marker_of a ∷ []) in
+      let same = ap active_in parts in
+      let sum = sum_by-append one_if (map (flagged id) q.in_flight) (map (flagged id) (marker_of a ∷ [])) in
+      let none = marker_rests id a in
+      record { fewer = omega (arith, less, same, sum, none) }
 
-dropped_fewer : (ms : List Waiting) (q : Outbound) (id i : ℕ) (p : InFlight) → slice_get q.in_flight i ≡ Some p
-    → is_of id p ≡ true → is_active p ≡ true
-    → Fewer q (let r = (tail_dropped_from ms q id).0 in record r { in_flight = map (flagged id) r.in_flight })
-dropped_fewer [] q id i p there own active = flagged_fewer q _ id i p there own active refl
-dropped_fewer (m ∷ ms) q id i p there own active =
-    ⊎_elim
-    (λ (a : eqb m.message.message_id id ≡ true).
-    rw a (marked_fewer q _ id i p m.message there own active refl))
-    (λ (a : eqb m.message.message_id id ≡ false). rw a (flagged_fewer q _ id i p there own active refl))
-    (cases_Bool (eqb m.message.message_id id))
+  dropped_fewer : (ms : List Waiting)
+      → Fewer q (let r = (tail_dropped_from ms q id).0 in record r { in_flight = map (flagged id) r.in_flight })
+  dropped_fewer [] = flagged_fewer _ refl
+  dropped_fewer (m ∷ ms) =
+      ⊎_elim
+      (λ (a : eqb m.message.message_id id ≡ true). rw a (marked_fewer _ m.message refl))
+      (λ (a : eqb m.message.message_id id ≡ false). rw a (flagged_fewer _ refl))
+      (cases_Bool (eqb m.message.message_id id))
 
 piece_fewer : (o : Option InFlight) (q : Outbound) (i : ℕ) (p : InFlight) → o ≡ Some p
     → slice_get q.in_flight i ≡ Some p
     → is_active p ≡ true → Fewer q (abandoned_from o q).0
 piece_fewer o q i p e there active =
     rw e
-    (dropped_fewer q.pending q p.message.message_id i p there
-    (eq-eqb p.message.message_id p.message.message_id refl) active)
+    (dropped_fewer q p.message.message_id i p there (eq-eqb p.message.message_id p.message.message_id refl) active
+    q.pending)
 
 abandoned_fewer : (s : Sender) (index : ℕ) → Gives s index → Fewer s.queue (abandoned_at s.queue index).0
 abandoned_fewer s index g =

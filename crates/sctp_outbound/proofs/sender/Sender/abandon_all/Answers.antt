@@ -13,11 +13,8 @@ loop-done-init c = (
 
 pub returns-then-not-branch-clause-exact : goal.returns-then-not-branch-clause-exact
 returns-then-not-branch-clause-exact c =
-    ends_early c.args.why.now c.inflight_len-count.result c.loop-done.done (c.args.self.now, c.args.streams.now)
-    (c.loop-done.self, c.loop-done.streams) (c.abandon_next.new.self, c.abandon_next.new.streams)
-    c.loop-done.invariant.0 c.inflight_len-count.ensures
-    (sym c.in_ok-abandon_next.ensures.any ∙ c.if-not-branch.true)
-    c.in_ok-abandon_next.ensures.exact
+    ends_early c.loop-done.invariant.0 c.inflight_len-count.ensures
+    (sym c.in_ok-abandon_next.ensures.any ∙ c.if-not-branch.true) c.in_ok-abandon_next.ensures.exact
 
 pub returns-then-not-branch-clause-any : goal.returns-then-not-branch-clause-any
 returns-then-not-branch-clause-any c =
@@ -27,10 +24,10 @@ returns-then-not-branch-clause-any c =
 
 pub returns-then-not-branch-clause-falls : goal.returns-then-not-branch-clause-falls
 returns-then-not-branch-clause-falls c =
-    first_early c.args.why.now c.inflight_len-count.result _ c.loop-done.done (c.args.self.now, c.args.streams.now)
-    (c.loop-done.self, c.loop-done.streams) c.args.fallen.now c.loop-done.fallen c.abandon_next.new.fallen
-    c.inflight_len-count.ensures (sym c.in_ok-abandon_next.ensures.any ∙ c.if-not-branch.true)
-    c.loop-done.invariant.1 c.in_ok-abandon_next.ensures.falls
+    first_early c.args.why.now c.inflight_len-count.result (c.args.self.now, c.args.streams.now) c.args.fallen.now
+    c.loop-done.done (c.loop-done.self, c.loop-done.streams) c.inflight_len-count.ensures
+    (sym c.in_ok-abandon_next.ensures.any ∙ c.if-not-branch.true) c.loop-done.invariant.1
+    c.in_ok-abandon_next.ensures.falls
 
 pub returns-in_err-abandon_next-clause-grows : goal.returns-in_err-abandon_next-clause-grows
 returns-in_err-abandon_next-clause-grows c =
@@ -40,22 +37,17 @@ returns-in_err-abandon_next-clause-grows c =
 
 pub loop-done-preserved : goal.loop-done-preserved
 loop-done-preserved c = (
-  gives_up_more c.args.why.now c.inflight_len-count.result c.loop-done.done (c.args.self.now, c.args.streams.now)
-      (c.loop-done.self, c.loop-done.streams) (c.abandon_next.new.self, c.abandon_next.new.streams)
-      c.loop-done.invariant.0 c.loop-done-test.true
-      (sym c.in_ok-abandon_next.ensures.any ∙ c.if-not-branch.false)
-      c.in_ok-abandon_next.ensures.exact,
-  first_more c.args.why.now c.inflight_len-count.result c.loop-done.done (c.args.self.now, c.args.streams.now)
-      (c.loop-done.self, c.loop-done.streams) (c.abandon_next.new.self, c.abandon_next.new.streams)
-      c.args.fallen.now c.loop-done.fallen c.abandon_next.new.fallen c.loop-done-test.true
-      c.in_ok-abandon_next.ensures.exact c.loop-done.invariant.1 c.in_ok-abandon_next.ensures.falls,
+  gives_up_more c.loop-done.invariant.0 c.loop-done-test.true
+      (sym c.in_ok-abandon_next.ensures.any ∙ c.if-not-branch.false) c.in_ok-abandon_next.ensures.exact,
+  first_more c.args.why.now c.inflight_len-count.result (c.args.self.now, c.args.streams.now) c.args.fallen.now
+      c.loop-done.done (c.loop-done.self, c.loop-done.streams) (c.abandon_next.new.self, c.abandon_next.new.streams)
+      c.loop-done-test.true c.in_ok-abandon_next.ensures.exact c.loop-done.invariant.1
+      c.in_ok-abandon_next.ensures.falls,
 )
 
 pub returns-clause-exact : goal.returns-clause-exact
 returns-clause-exact c =
-    ends_late c.args.why.now c.inflight_len-count.result c.loop-done.done (c.args.self.now, c.args.streams.now)
-    (c.loop-done.self, c.loop-done.streams) c.loop-done.invariant.0 c.inflight_len-count.ensures
-    (omega (arith, c.loop-done-test.false))
+    ends_late c.loop-done.invariant.0 c.inflight_len-count.ensures (omega (arith, c.loop-done-test.false))
 
 pub returns-clause-any : goal.returns-clause-any
 returns-clause-any c =
@@ -65,6 +57,6 @@ returns-clause-any c =
 
 pub returns-clause-falls : goal.returns-clause-falls
 returns-clause-falls c =
-    first_late c.args.why.now c.inflight_len-count.result _ c.loop-done.done (c.args.self.now, c.args.streams.now)
-    (c.loop-done.self, c.loop-done.streams) c.args.fallen.now c.loop-done.fallen c.inflight_len-count.ensures
+    first_late c.args.why.now c.inflight_len-count.result (c.args.self.now, c.args.streams.now) c.args.fallen.now
+    c.loop-done.done (c.loop-done.self, c.loop-done.streams) c.inflight_len-count.ensures
     (omega (arith, c.loop-done-test.false)) c.loop-done.invariant.1

@@ -6,17 +6,15 @@ use Rattle.sctp_outbound.proofs.sender.Sender.acknowledge_at.Goals as goal
 pub returns-in-Some-clause-pieces : goal.returns-in-Some-clause-pieces
 returns-in-Some-clause-pieces c =
     let here : slice_get c.args.self.now.queue.in_flight c.args.index ≡ Some c.in-Some.piece.now = search rules in
-    (acknowledges_one c.args.self.now c.mark_as_acked.new.self c.args.streams.now c.mark_as_acked.result
-    c.args.index _ c.measure.new.first c.in-Some.piece.now here (omega arith) c.requires
-    (omega arith) c.mark_as_acked.ensures).pieces
+    (acknowledges_one c.args.self.now c.args.streams.now c.args.index c.measure.new.first c.in-Some.piece.now here
+    (omega arith) c.requires (omega arith) c.mark_as_acked.ensures).pieces
 
 pub returns-in-Some-clause-released : goal.returns-in-Some-clause-released
 returns-in-Some-clause-released c =
     let here : slice_get c.args.self.now.queue.in_flight c.args.index ≡ Some c.in-Some.piece.now = search rules in
     c.release.ensures.released
-    ∙ (acknowledges_one c.args.self.now c.mark_as_acked.new.self c.args.streams.now c.mark_as_acked.result
-    c.args.index _ c.measure.new.first c.in-Some.piece.now here (omega arith) c.requires
-    (omega arith) c.mark_as_acked.ensures).released
+    ∙ (acknowledges_one c.args.self.now c.args.streams.now c.args.index c.measure.new.first c.in-Some.piece.now here
+    (omega arith) c.requires (omega arith) c.mark_as_acked.ensures).released
 
 pub returns-clause-pieces : goal.returns-clause-pieces
 returns-clause-pieces c =
@@ -35,9 +33,8 @@ pub returns-in-Some-clause-newest : goal.returns-in-Some-clause-newest
 returns-in-Some-clause-newest c =
     let here : slice_get c.args.self.now.queue.in_flight c.args.index ≡ Some c.in-Some.piece.now = search rules in
     c.place_if_new-newest.ensures
-    ∙ (acknowledges_one c.args.self.now c.mark_as_acked.new.self c.args.streams.now c.mark_as_acked.result
-    c.args.index _ c.measure.new.first c.in-Some.piece.now here (omega arith) c.requires (omega arith)
-    c.mark_as_acked.ensures).newest
+    ∙ (acknowledges_one c.args.self.now c.args.streams.now c.args.index c.measure.new.first c.in-Some.piece.now here
+    (omega arith) c.requires (omega arith) c.mark_as_acked.ensures).newest
 
 pub returns-clause-newest : goal.returns-clause-newest
 returns-clause-newest c =

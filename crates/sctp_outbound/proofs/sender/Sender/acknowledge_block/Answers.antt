@@ -49,7 +49,7 @@ loop-index-preserved c = (
 pub returns-clause-pieces : goal.returns-clause-pieces
 returns-clause-pieces c =
     (acknowledges_same (is_named_by c.args.block.now) c.loop-index.invariant.0
-    (λ j l. passed_all c.args.block.now c.saturating_sub-first.result c.min-count.result c.loop-index.index _ j
+    (λ j l. passed_all c.saturating_sub-first.result c.min-count.result c.args.block.now c.loop-index.index _ j
     (omega arith) (omega arith) c.loop-index-test.false l)).pieces
 
 pub returns-clause-measures : goal.returns-clause-measures
@@ -63,11 +63,11 @@ returns-clause-measures c =
 pub returns-clause-released : goal.returns-clause-released
 returns-clause-released c =
     (acknowledges_same (is_named_by c.args.block.now) c.loop-index.invariant.0
-    (λ j l. passed_all c.args.block.now c.saturating_sub-first.result c.min-count.result c.loop-index.index _ j
+    (λ j l. passed_all c.saturating_sub-first.result c.min-count.result c.args.block.now c.loop-index.index _ j
     (omega arith) (omega arith) c.loop-index-test.false l)).released
 
 pub returns-clause-newest : goal.returns-clause-newest
 returns-clause-newest c =
     (acknowledges_same (is_named_by c.args.block.now) c.loop-index.invariant.0
-    (λ j l. passed_all c.args.block.now c.saturating_sub-first.result c.min-count.result c.loop-index.index _ j
+    (λ j l. passed_all c.saturating_sub-first.result c.min-count.result c.args.block.now c.loop-index.index _ j
     (omega arith) (omega arith) c.loop-index-test.false l)).newest

@@ -57,8 +57,7 @@ returns-clause-exact c =
     ∙ c.loop-block.invariant.1
     ∙ ap (λ n. timed n (round_trips c.args.now c.args.blocks.now c.args.self.now.queue.in_flight)
     (c.args.self.now.min_tsn2measure_rtt, c.args.rto.now)) c.next_tsn-next_tsn.ensures in
-    all_taken c.args.now c.args.blocks.now c.args.self.now c.loop-block.self c.args.rto.now c.loop-block.rto
-    c.args.streams.now c.loop-block.streams
+    all_taken c.args.now c.args.blocks.now c.args.rto.now c.loop-block.rto
     (acknowledges_same (λ j. is_named (j + 1) c.args.blocks.now) c.loop-block.invariant.0
     (λ j l. named_all c.args.blocks.now c.as_slice-block-items.result.now c.loop-block.block-index j
     c.as_slice-block-items.ensures c.loop-block-test.false))

@@ -8,7 +8,5 @@ returns-then-not-forward-clause-falls c =
 
 pub returns-clause-falls : goal.returns-clause-falls
 returns-clause-falls c =
-    expired_all c.args.forward c.args.now c.args.self.now c.start_timed.new.self c.abandon_all.new.self
-    c.args.streams.now c.abandon_all.new.streams c.args.fallen.now c.abandon_all.new.fallen c.expire_tail.new.fallen
-    c.if-not-forward.false c.start_timed.ensures c.in_ok-any_sent.ensures.exact c.in_ok-any_sent.ensures.falls
-    c.in_ok-tail.ensures.falls
+    expired_all c.args.now c.args.self.now c.args.streams.now c.if-not-forward.false c.start_timed.ensures
+    c.in_ok-any_sent.ensures.exact c.in_ok-any_sent.ensures.falls c.in_ok-tail.ensures.falls

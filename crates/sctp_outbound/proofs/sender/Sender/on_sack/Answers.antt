@@ -9,7 +9,7 @@ use Rattle.sctp_outbound.specs.Recovery.{past_recovery}
 use Rattle.sctp_outbound.specs.Sacks.{grown_by, reported_by}
 use Rattle.sctp_outbound.specs.Sender.{acknowledged, t3_after_sack}
 use Rattle.sctp_outbound.proofs.MissingPieces.{counts_with}
-use Rattle.sctp_outbound.proofs.NewPieces.{left_behind, progress_is}
+use Rattle.sctp_outbound.proofs.NewPieces.{left_behind, newest_is, progress_is}
 use Rattle.sctp_streams.proofs.LowMarks.{gathers_both, gathers_nothing}
 use Rattle.sctp_outbound.proofs.sender.Sender.on_sack.Goals as goal
 
@@ -39,9 +39,9 @@ returns-clause-taken c =
     ∙ ap (λ (z : Sender). drop n z.queue.in_flight) past in
     λ _. rw (c.count_misses.ensures, c.grow_window.ensures)
     (counts_with s c.args.cumulative_tsn_ack c.args.blocks.now c.args.window c.args.now c.args.rto.now
-    c.args.streams.now n c.inflight_bytes-before.result c.acknowledge_blocks-newest.result
-    c.acknowledge-any_new.new.self.queue.in_flight c.count_to-count.ensures c.inflight_bytes-before.ensures
-    c.acknowledge_blocks-newest.ensures.newest left
+    c.args.streams.now c.count_to-count.ensures c.inflight_bytes-before.ensures
+    (newest_is s c.args.cumulative_tsn_ack c.args.blocks.now c.count_to-count.ensures
+    c.acknowledge_blocks-newest.ensures.newest left)
     ∙ ap (λ z. reported_by (nat_lt 0 n) c.acknowledge_blocks-newest.result
     (grown_by (nat_lt 0 n) c.inflight_bytes-before.result z))
     (ap (λ z. with_blocks c.args.now c.args.blocks.now
@@ -66,8 +66,8 @@ returns-clause-timer c =
       any_new = c.acknowledge-any_new.result || z;
       earliest = c.names_earliest-earliest.result;
     }) c.is_some.ensures
-    ∙ progress_is c.args.self.now c.args.cumulative_tsn_ack n c.args.blocks.now
-    c.acknowledge-any_new.result c.names_earliest-earliest.result c.acknowledge_blocks-newest.result
-    c.acknowledge-any_new.new.self.queue.in_flight c.count_to-count.ensures
+    ∙ progress_is c.args.self.now c.args.cumulative_tsn_ack c.args.blocks.now c.count_to-count.ensures
     (c.acknowledge-any_new.ensures.any ∙ ap (any_new_up_to n) pieces)
-    c.acknowledge_blocks-newest.ensures.newest left c.names_earliest-earliest.ensures.names)
+    (newest_is c.args.self.now c.args.cumulative_tsn_ack c.args.blocks.now c.count_to-count.ensures
+    c.acknowledge_blocks-newest.ensures.newest left)
+    c.names_earliest-earliest.ensures.names)
