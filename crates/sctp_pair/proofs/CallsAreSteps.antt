@@ -192,7 +192,7 @@ module _ (step : Step) (reply : Reply) (w : World) (q : Ends) where
         → IsSound after
         → (after.receiver.is_open ≡ true) ⊎ (IsOpen (end_of receiver q) → ⊥)
         → IsDirectionStep step reply sender receiver w q initial before after
-    direction_step {before} {after} {Added} {Read} {Brought} d adds reads brings passes kept no_more is receives = record {
+    direction_step {before} {after} {Brought = Brought} d adds reads brings passes kept no_more is receives = record {
       events = d.events;
       happened = d.is;
       accepted = λ s. d.accepted s ∙ ap (λ (z : List Message). before.sender.plan.accepted s ++ z) (adds s);
@@ -237,8 +237,8 @@ module _ (step : Step) (reply : Reply) (w : World) (q : Ends) where
       loose_a_is = λ s. refl;
       loose_b_is = λ s. refl;
       ab_step =
-          direction_step sides.A sides.B w.initial_a s.does_out call.adds call.reads_alone (λ o n. absurd n) (λ o n. absurd n)
-          (accepted_in_order step reply w q fits ends sides.A) (is_open s) s.sound_out
+          direction_step sides.A sides.B w.initial_a s.does_out call.adds call.reads_alone (λ o n. absurd n)
+          (λ o n. absurd n) (accepted_in_order step reply w q fits ends sides.A) (is_open s) s.sound_out
           (receives_or_stopped w.initial_b w.initial_a q.b s.coming2 s.out2 stands.side_b);
       ba_step =
           direction_step sides.B sides.A w.initial_b s.does_coming call.adds_alone call.reads call.brings call.passes
@@ -308,8 +308,8 @@ module _ (step : Step) (reply : Reply) (w : World) (q : Ends) where
           (inr (ap (λ (z : Sender). z.plan.places) s.coming_still)) s.sound_coming
           (receives_or_stopped w.initial_b w.initial_a q.b s.out2 s.coming2 stands.side_b);
       ba_step =
-          direction_step sides.B sides.A w.initial_b s.does_out call.adds call.reads_alone (λ o n. absurd n) (λ o n. absurd n)
-          (accepted_in_order step reply w q fits ends sides.B) (is_open s) s.sound_out
+          direction_step sides.B sides.A w.initial_b s.does_out call.adds call.reads_alone (λ o n. absurd n)
+          (λ o n. absurd n) (accepted_in_order step reply w q fits ends sides.B) (is_open s) s.sound_out
           (receives_or_stopped w.initial_a w.initial_b q.a s.coming2 s.out2 stands.side_a);
     },
     stands,
