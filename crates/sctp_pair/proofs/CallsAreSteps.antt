@@ -28,7 +28,7 @@ use Rattle.sctp_pair.specs.World.{HasData, HasForward, IsDirectionStep, IsOpen, 
 use Rattle.sctp_pair.specs.World.{other_side}
 use Rattle.sctp_pair.specs.World.{IsOrderedAndReliable, loose_after, loose_of, loosens, packet_brought}
 use Rattle.sctp_pair.specs.Fits.{AreSaid, Fits, IsAt, IsSaidBy, IsSilent, LeadsSafely, Stands, StandsIn}
-use Rattle.sctp_pair.proofs.BetweenDirections.{By, Does, Faces, OpenAt, Settles, Surroundings, moved}
+use Rattle.sctp_pair.proofs.BetweenDirections.{By, Does, Faces, OpenAt, Settles, Surroundings, moved, stands_between}
 use Rattle.sctp_pair.proofs.AcceptedInOrder.{accepted_in_order}
 use Rattle.sctp_pair.proofs.NeverTakenBack.{runs_are_onward}
 use Rattle.sctp_pair.proofs.Promised.{receives_or_stopped, safe_world}
@@ -39,19 +39,7 @@ use Rattle.sctp_pair.proofs.HandshakeStages.{stays_put, turned}
 loosened : {loose more : ℕ → Bool} {own peer : ℕ} {a : Shown} {out coming : Direction}
     → ((s : ℕ) → more s ≡ false → loose s ≡ false) → Stands loose own peer a out coming
     → Stands more own peer a out coming
-loosened fewer (inl s) = inl record {
-  past = s.past;
-  own_is = s.own_is;
-  peer_is = s.peer_is;
-  binds = s.binds;
-  working = s.working;
-  come = s.come;
-  present = s.present;
-  truthful = s.truthful;
-  size = s.size;
-  between = s.between;
-  in_order = λ t tight. s.in_order t (fewer t tight);
-}
+loosened fewer (inl s) = inl (stands_between s fewer refl s.between)
 loosened fewer (inr r) = inr r
 
 -- no step makes a stream send ordered, reliable messages again
