@@ -132,7 +132,7 @@ taking_is_not_peer_known a piece acts (inr (inr (inl t))) =
 taking_is_not_peer_known a piece acts (inr (inr (inr t))) = subst (AllByRecursion IsNotPeerKnown) (sym t.are) (tt, tt)
 
 -- Acts of a chunk, which leave the status and do not make the peer known, led the direction that comes on.
-came_on : {x : Surroundings} {B : By → ℕ → Type 0} {a b : Shown} (u : Underway x B a) (acts : List Act)
+pub came_on : {x : Surroundings} {B : By → ℕ → Type 0} {a b : Shown} (u : Underway x B a) (acts : List Act)
     (leads : (k : History) × Leads acts a u.stands.past b k) → IsSameStatus a b → AllByRecursion IsNotPeerKnown acts
     → Comes (moved x u.out2 u.coming2) B (parts a u.stands.past) acts → Underway x B b
 unfolding stands_by
