@@ -46,20 +46,22 @@ module _ (step : Step) (r : Reply) (p q : Ends)
       let y = x.2 few in
       (x.0, tells_accepted x.0 y.0, y.1)
 
--- What holds of all steps of a new pair holds where each side accepts few pieces in all.
-pub law_of_all : (Law : List Step → List Reply → Type 0) (m : Made) (ss : List Step) (rs : List Reply) (p q : Ends)
-    → CameBy m [] [] p → Runs ss rs p q → HoldsOn Law ss rs p → AcceptFew m.size_a m.size_b ss rs → Law ss rs
-law_of_all Law m ss rs p q new led holds few = holds m [] [] new (few_stay_few ss rs p q led m [] [] new few)
+-- These steps led a new pair to q.
+module _ {m : Made} {p : Ends} (new : CameBy m [] [] p) (ss : List Step) (rs : List Reply) (q : Ends)
+    (led : Runs ss rs p q) where
+  -- What holds of all steps of a new pair holds where each side accepts few pieces in all.
+  pub law_of_all : (Law : List Step → List Reply → Type 0) → HoldsOn Law ss rs p → AcceptFew m.size_a m.size_b ss rs
+      → Law ss rs
+  law_of_all Law holds few = holds m [] [] new (few_stay_few ss rs p q led m [] [] new few)
 
--- the same where one step more follows a run
-pub law_of_one_more : (Law : List Step → List Reply → Type 0) (m : Made) (ss : List Step) (rs : List Reply) (s : Step)
-    (r : Reply) (p u q : Ends) → CameBy m [] [] p → Runs ss rs p u → Steps s u r q → ComesOn ss rs p u
-    → HoldsOn Law (s ∷ []) (r ∷ []) u → AcceptFew m.size_a m.size_b (ss ++ s ∷ []) (rs ++ r ∷ [])
-    → Law (ss ++ s ∷ []) (rs ++ r ∷ [])
-law_of_one_more Law m ss rs s r p u q new led one on holds few =
-    let first = few_in_front m.size_a m.size_b ss rs p u led (s ∷ []) (r ∷ []) few in
-    let came = on m [] [] new (few_stay_few ss rs p u led m [] [] new first) in
-    holds m ss rs came (few_stay_few (s ∷ []) (r ∷ []) u q (q, one, refl) m ss rs came few)
+  -- the same where one step more follows the run
+  pub law_of_one_more : (Law : List Step → List Reply → Type 0) (s : Step) (r : Reply) (last : Ends)
+      → Steps s q r last → ComesOn ss rs p q → HoldsOn Law (s ∷ []) (r ∷ []) q
+      → AcceptFew m.size_a m.size_b (ss ++ s ∷ []) (rs ++ r ∷ []) → Law (ss ++ s ∷ []) (rs ++ r ∷ [])
+  law_of_one_more Law s r last one on holds few =
+      let first = few_in_front m.size_a m.size_b ss rs p q led (s ∷ []) (r ∷ []) few in
+      let came = on m [] [] new (few_stay_few ss rs p q led m [] [] new first) in
+      holds m ss rs came (few_stay_few (s ∷ []) (r ∷ []) q last (last, one, refl) m ss rs came few)
 
 -- what a pair was made with whose sides have the same payload size
 abbrev pub made_alike : ℕ → ℕ → ℕ → Made
@@ -70,26 +72,26 @@ made_alike size initial_a initial_b = record {
   initial_b = initial_b;
 }
 
--- What holds of all steps of a new pair, by the clauses of its run.
-pub hold_from_new : (size initial_a initial_b : ℕ) (ss : List Step) (rs : List Reply) (p q : Ends)
-    → CameBy (made_alike size initial_a initial_b) [] [] p → Runs ss rs p q → HoldsOn ReadsAreFronts ss rs p
-    → HoldsOn ReadsWereWritten ss rs p → HoldsOn NothingIsReadBeforeADelivery ss rs p → HoldFromNew size ss rs
-hold_from_new size initial_a initial_b ss rs p q new led front written undelivered =
-    let m = made_alike size initial_a initial_b in
-    record {
-      each = as_many_replies ss rs p q led;
-      hold = λ few. record {
-        front = law_of_all ReadsAreFronts m ss rs p q new led front few;
-        written = law_of_all ReadsWereWritten m ss rs p q new led written few;
-        undelivered = law_of_all NothingIsReadBeforeADelivery m ss rs p q new led undelivered few;
-      };
-    }
+-- These steps led a new pair to q whose sides have the same payload size.
+module _ {size initial_a initial_b : ℕ} {p : Ends} (new : CameBy (made_alike size initial_a initial_b) [] [] p)
+    (ss : List Step) (rs : List Reply) (q : Ends) (led : Runs ss rs p q) where
+  -- What holds of all steps of a new pair, by the clauses of its run.
+  pub hold_from_new : HoldsOn ReadsAreFronts ss rs p → HoldsOn ReadsWereWritten ss rs p
+      → HoldsOn NothingIsReadBeforeADelivery ss rs p → HoldFromNew size ss rs
+  hold_from_new front written undelivered = record {
+    each = as_many_replies ss rs p q led;
+    hold = λ few. record {
+      front = law_of_all new ss rs q led ReadsAreFronts front few;
+      written = law_of_all new ss rs q led ReadsWereWritten written few;
+      undelivered = law_of_all new ss rs q led NothingIsReadBeforeADelivery undelivered few;
+    };
+  }
 
 -- what holds of a value that was answered by four things that do
-pub if_ok_all : {A E : Type 0} (r : Result A E) (P Q R S T : A → Type 0) → IfOk r P → IfOk r Q → IfOk r R → IfOk r S
+pub if_ok_all : {A E : Type 0} {P Q R S T : A → Type 0} (r : Result A E) → IfOk r P → IfOk r Q → IfOk r R → IfOk r S
     → ((a : A) → P a → Q a → R a → S a → T a) → IfOk r T
-if_ok_all (Ok a) P Q R S T first second third fourth f = f a first second third fourth
-if_ok_all (Err e) P Q R S T first second third fourth f = first
+if_ok_all (Ok a) first second third fourth f = f a first second third fourth
+if_ok_all (Err e) first second third fourth f = first
 
 has_nothing : (size : ℕ) → HasNothing (fresh size)
 has_nothing size = record { accepted = λ s. refl; read = λ s. refl; span = λ s. refl }

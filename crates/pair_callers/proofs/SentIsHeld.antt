@@ -1,5 +1,6 @@
 -- What a side wrote waits or is in flight after the poll that follows, or is dropped by it.
-use Rattle.std.proofs.Common.{◌≡◌, sym, ap, ◌∙◌, subst, ⊎_elim, inl, inr, ℕ, true, List, Option, None, Result, Ok, Err, OnOk, IfOk, is_some}
+use Rattle.std.proofs.Common.{◌≡◌, sym, ap, ◌∙◌, subst, ⊎_elim, inl, inr, ℕ, true, List, Option, None, is_some}
+use Rattle.std.proofs.Common.{Result, Ok, Err, IfOk, OnOk}
 use Rattle.sctp_wire_types.specs.declared.error.Error.{Error}
 use Rattle.sctp_wire.specs.declared.transmit.Transmit.{Transmit}
 use Rattle.sctp_assoc.specs.Calls.{stream_refusal, written}

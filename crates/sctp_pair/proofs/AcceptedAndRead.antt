@@ -51,21 +51,22 @@ wrote_there r side id named bytes w s = refl
 none_answered : (r : Reply) (x : Side2) (s : ℕ) → None ≡ message_answered None r x s
 none_answered r x s = refl
 
-pub write_call : (step : Step) (side : Side2) (id : ℕ) (named : Option PayloadProtocolIdentifier) (bytes : List ℕ)
-    (r : Reply) (w : World) (initial : ℕ) → writing_of step ≡ writes side id named bytes → reading_of step ≡ None
-    → IsCallAt step r side w initial (written_by r (end_of side w.ends) id named bytes) nothing_read None_brought
-write_call step side id named bytes r w initial e none = record {
-  adds = λ s. subst (λ o. written_by r (end_of side w.ends) id named bytes s ≡ accepted_of o r side s w) (sym e)
-      (wrote_here r side id named bytes w s);
-  reads = λ s. subst (λ o. None ≡ message_answered o r side s) (sym none) (none_answered r side s);
-  brings = λ o b. absurd b;
-  passes = λ o b. absurd b;
-  adds_alone = λ s. subst (λ o. [] ≡ accepted_of o r (other_side side) s w) (sym e)
-      (wrote_there r side id named bytes w s);
-  reads_alone =
-      λ s. subst (λ o. None ≡ message_answered o r (other_side side) s) (sym none)
-      (none_answered r (other_side side) s);
-}
+module _ (step : Step) (side : Side2) (id : ℕ) (named : Option PayloadProtocolIdentifier) (bytes : List ℕ) (r : Reply)
+    (w : World) (initial : ℕ) where
+  pub write_call : writing_of step ≡ writes side id named bytes → reading_of step ≡ None
+      → IsCallAt step r side w initial (written_by r (end_of side w.ends) id named bytes) nothing_read None_brought
+  write_call e none = record {
+    adds = λ s. subst (λ o. written_by r (end_of side w.ends) id named bytes s ≡ accepted_of o r side s w) (sym e)
+        (wrote_here r side id named bytes w s);
+    reads = λ s. subst (λ o. None ≡ message_answered o r side s) (sym none) (none_answered r side s);
+    brings = λ o b. absurd b;
+    passes = λ o b. absurd b;
+    adds_alone = λ s. subst (λ o. [] ≡ accepted_of o r (other_side side) s w) (sym e)
+        (wrote_there r side id named bytes w s);
+    reads_alone =
+        λ s. subst (λ o. None ≡ message_answered o r (other_side side) s) (sym none)
+        (none_answered r (other_side side) s);
+  }
 
 -- A read reads at its side what its reply says, and nothing at the other side.
 

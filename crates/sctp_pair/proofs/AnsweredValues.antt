@@ -16,7 +16,9 @@ refused_by : (S : Type 0) (e : Error) (refusal : Option Error) → RefusesOrLack
 refused_by S e None h = inl h
 refused_by S e (Some fault) h = inr (ap Some (sym h))
 
--- where A is not refused, what B is refused with is answered
-pub second_refuses : {T : Type 0} (S : Type 0) (r : Result T Error) (y e : Error) (first second : Option Error)
-    → r ≡ Err y → y ≡ e → first ≡ None → RefusesOrLacksMemory {T = S} (Err e) second → JoinRefuses r first second
-second_refuses S r y e first second answered same none h = rw (answered, same, none) (refused_by S e second h)
+-- A refused call answers y; `first` is what refuses A, `second` what refuses B.
+module _ {T : Type 0} (S : Type 0) (r : Result T Error) (y e : Error) (first second : Option Error) where
+  -- where A is not refused, what B is refused with is answered
+  pub second_refuses : r ≡ Err y → y ≡ e → first ≡ None → RefusesOrLacksMemory {T = S} (Err e) second
+      → JoinRefuses r first second
+  second_refuses answered same none h = rw (answered, same, none) (refused_by S e second h)

@@ -223,29 +223,38 @@ sound_after {w} e plain invariant sound = record {
   plain = plain_events_keep_it_plain w e plain sound.plain;
 }
 
+-- An open association stands so between other directions, too, that fit what it has, and where more streams may be
+-- loose.
+pub stands_between : {loose more : ℕ → Bool} {own peer : ℕ} {a : Shown} {out coming out2 coming2 : Direction}
+    (s : StandsOpen loose own peer a out coming) → ((t : ℕ) → more t ≡ false → loose t ≡ false)
+    → out2.sender.plan.size ≡ out.sender.plan.size → FitsBetween (parts a s.past) out2 coming2
+    → StandsOpen more own peer a out2 coming2
+stands_between s fewer size between = record {
+  past = s.past;
+  own_is = s.own_is;
+  peer_is = s.peer_is;
+  binds = s.binds;
+  working = s.working;
+  come = s.come;
+  present = s.present;
+  truthful = s.truthful;
+  size = size ∙ s.size;
+  between = between;
+  in_order = λ t tight. s.in_order t (fewer t tight);
+}
+
 -- how the other association stands, where an event happened at this one's sender
 pub other_by_sender : (x : Surroundings) (e : Event) → IsOfSending e → Invariant x.out → OtherStands x
     → OtherStands (record x { out = happens x.out e })
 other_by_sender x e at invariant h =
     ⊎_elim
-    (λ (s : StandsOpen x.loose_there x.peer x.own x.other x.coming x.out). inl record {
-      past = s.past;
-      own_is = s.own_is;
-      peer_is = s.peer_is;
-      binds = s.binds;
-      working = s.working;
-      come = s.come;
-      present = s.present;
-      truthful = s.truthful;
-      size = s.size;
-      between = record {
-        outgoing = s.between.outgoing;
-        incoming =
-            senders_events_leave_what_comes (receiving (parts x.other s.past)) x.out e (at_sender e at) invariant
-            s.between.incoming;
-      };
-      in_order = s.in_order;
-    })
+    (λ (s : StandsOpen x.loose_there x.peer x.own x.other x.coming x.out).
+    inl (stands_between s (λ t tight. tight) refl record {
+      outgoing = s.between.outgoing;
+      incoming =
+          senders_events_leave_what_comes (receiving (parts x.other s.past)) x.out e (at_sender e at) invariant
+          s.between.incoming;
+    }))
     (λ (r : StandsClosed x.peer x.other x.out ⊎ StandsFailed x.other x.out).
     ⊎_elim
     (λ (s : StandsClosed x.peer x.other x.out). inr (inl record {
@@ -268,24 +277,14 @@ pub other_by_receiver : (x : Surroundings) (e : Event) → IsOfReceiving e → O
     → OtherStands (record x { coming = happens x.coming e })
 other_by_receiver x e at h =
     ⊎_elim
-    (λ (s : StandsOpen x.loose_there x.peer x.own x.other x.coming x.out). inl record {
-      past = s.past;
-      own_is = s.own_is;
-      peer_is = s.peer_is;
-      binds = s.binds;
-      working = s.working;
-      come = s.come;
-      present = s.present;
-      truthful = s.truthful;
-      size = ap (λ (z : Sender). z.plan.size) (receivers_events_are_received x.coming e at).sender ∙ s.size;
-      between = record {
-        outgoing =
-            receivers_events_leave_what_is_sent (sending (parts x.other s.past)) x.coming e (at_receiver e at)
-            s.between.outgoing;
-        incoming = s.between.incoming;
-      };
-      in_order = s.in_order;
-    })
+    (λ (s : StandsOpen x.loose_there x.peer x.own x.other x.coming x.out).
+    inl (stands_between s (λ t tight. tight)
+    (ap (λ (z : Sender). z.plan.size) (receivers_events_are_received x.coming e at).sender) record {
+      outgoing =
+          receivers_events_leave_what_is_sent (sending (parts x.other s.past)) x.coming e (at_receiver e at)
+          s.between.outgoing;
+      incoming = s.between.incoming;
+    }))
     (λ (r : StandsClosed x.peer x.other x.out ⊎ StandsFailed x.other x.out). inr r)
     h
 

@@ -95,33 +95,34 @@ wrote_if : (c : Bool) (ms : List Message) (bytes : List ℕ) → bytes_accepted 
 wrote_if true ms bytes e = e
 wrote_if false ms bytes e = refl
 
-told_written_at : (side x : Side2) (id count s : ℕ) (named : Option PayloadProtocolIdentifier) (bytes : List ℕ)
-    (w : World) (q : Ends) → AtSide side w.ends (λ a b. Writes a id named bytes (replies.Wrote count) b) q
-    → bytes_accepted (accepted_of (writes side id named bytes) (replies.Wrote count) x s w)
-    ≡ callers.bytes_accepted (writes side id named bytes) (replies.Wrote count) x s
-told_written_at sides.A sides.A id count s named bytes w q h =
-    wrote_if (eqb id s) (messages_on (stream_at w.ends.a.streams id) named bytes) bytes
-    (wrote_live w.ends.a q.a id count named bytes h.0)
-told_written_at sides.A sides.B id count s named bytes w q h = refl
-told_written_at sides.B sides.A id count s named bytes w q h = refl
-told_written_at sides.B sides.B id count s named bytes w q h =
-    wrote_if (eqb id s) (messages_on (stream_at w.ends.b.streams id) named bytes) bytes
-    (wrote_live w.ends.b q.b id count named bytes h.0)
+-- A step of the pair of the world w leads to q; s is a stream.
+module _ (s : ℕ) (w : World) (q : Ends) where
+  told_written_at : (side x : Side2) (id count : ℕ) (named : Option PayloadProtocolIdentifier) (bytes : List ℕ)
+      → AtSide side w.ends (λ a b. Writes a id named bytes (replies.Wrote count) b) q
+      → bytes_accepted (accepted_of (writes side id named bytes) (replies.Wrote count) x s w)
+      ≡ callers.bytes_accepted (writes side id named bytes) (replies.Wrote count) x s
+  told_written_at sides.A sides.A id count named bytes h =
+      wrote_if (eqb id s) (messages_on (stream_at w.ends.a.streams id) named bytes) bytes
+      (wrote_live w.ends.a q.a id count named bytes h.0)
+  told_written_at sides.A sides.B id count named bytes h = refl
+  told_written_at sides.B sides.A id count named bytes h = refl
+  told_written_at sides.B sides.B id count named bytes h =
+      wrote_if (eqb id s) (messages_on (stream_at w.ends.b.streams id) named bytes) bytes
+      (wrote_live w.ends.b q.b id count named bytes h.0)
 
--- what a reply says of a write is what was accepted
-told_written : (a : Step) (r : Reply) (x : Side2) (s : ℕ) (w : World) (q : Ends) → Steps a w.ends r q
-    → bytes_accepted (accepted_at a r x s w) ≡ bytes_written a r x s
-told_written (steps.Write side id bytes) (replies.Wrote count) x s w q h =
-    told_written_at side x id count s None bytes w q h
-told_written (steps.WriteWithPpi side id bytes kind) (replies.Wrote count) x s w q h =
-    told_written_at side x id count s (Some kind) bytes w q h
-told_written (steps.WriteSctp side id bytes kind) (replies.Wrote count) x s w q h =
-    told_written_at side x id count s (Some kind) bytes w q h
-told_written (steps.WriteChunk side id bytes) (replies.Wrote count) x s w q h =
-    told_written_at side x id count s None bytes w q h
-told_written (steps.WriteChunks side id chunks) (replies.Wrote count) x s w q h =
-    told_written_at side x id count s None (first_filled chunks.items) w q h
-told_written a r x s w q h = refl
+  -- what a reply says of a write is what was accepted
+  told_written : (a : Step) (r : Reply) (x : Side2) → Steps a w.ends r q
+      → bytes_accepted (accepted_at a r x s w) ≡ bytes_written a r x s
+  told_written (steps.Write side id bytes) (replies.Wrote count) x h = told_written_at side x id count None bytes h
+  told_written (steps.WriteWithPpi side id bytes kind) (replies.Wrote count) x h =
+      told_written_at side x id count (Some kind) bytes h
+  told_written (steps.WriteSctp side id bytes kind) (replies.Wrote count) x h =
+      told_written_at side x id count (Some kind) bytes h
+  told_written (steps.WriteChunk side id bytes) (replies.Wrote count) x h =
+      told_written_at side x id count None bytes h
+  told_written (steps.WriteChunks side id chunks) (replies.Wrote count) x h =
+      told_written_at side x id count None (first_filled chunks.items) h
+  told_written a r x h = refl
 
 -- what one step told to be loose is so in the next world, and nothing else
 loose_step : {a : Step} {r : Reply} {w v : World} (x : Side2) → IsWorldStep a w r v → (s : ℕ)
@@ -171,7 +172,7 @@ module _ (x : Side2) {a : Step} {r : Reply} {w v : World} (h : IsWorldStep a w r
   wrote_one s =
       ap bytes_accepted ((step_from x h).accepted s)
       ∙ map-append (λ (m : Message). m.bytes) ((from x w).sender.plan.accepted s) (accepted_at a r x s w)
-      ∙ ap (λ z. bytes_accepted ((from x w).sender.plan.accepted s) ++ z) (told_written a r x s w v.ends h.ends_step)
+      ∙ ap (λ z. bytes_accepted ((from x w).sender.plan.accepted s) ++ z) (told_written s w v.ends a r x h.ends_step)
 
   read_one : (s : ℕ)
       → bytes_got ((from x v).reads s) ≡ bytes_got ((from x w).reads s) ++ bytes_read a r (other_side x) s
@@ -206,7 +207,7 @@ module _ (x : Side2) {a : Step} {r : Reply} {w v : World} (h : IsWorldStep a w r
   told_one s ws t =
       subst (λ z. AreTold z (ws ++ message_accepted (writing_of a) r x s)) (sym ((step_from x h).accepted s))
       (told_join ((from x w).sender.plan.accepted s) ws (accepted_at a r x s w) (message_accepted (writing_of a) r x s)
-      t (told_accepted a r x s w v.ends h.ends_step))
+      t (told_accepted s w v.ends a r x h.ends_step))
 
   grew_on : {ss : List Step} {rs : List Reply} {after : Direction} → Grew (loose_of x v) ss rs x (from x v) after
       → Grew (loose_of x w) (a ∷ ss) (r ∷ rs) x (from x w) after
@@ -302,35 +303,37 @@ fresh_from sides.A p initial_a initial_b size_a size_b =
 fresh_from sides.B p initial_a initial_b size_a size_b =
     record { accepted = λ s. refl; unread = λ s. refl; untaken = λ o m. true≢false (sym m); within = λ s. refl }
 
-front_along : (loose : ℕ → Bool) (ss : List Step) (rs : List Reply) (x : Side2) (s : ℕ) (before after : Direction)
-    → NothingHappened before → loose s ≡ false → stays_in_order ss rs x s ≡ true
-    → Grew loose ss rs x before after → (after.over s ≡ false → IsSafe after s)
-    → IsFrontOf (read_in ss rs (other_side x) s) (written_in ss rs x s)
-front_along loose ss rs x s before after first tight stays grew safe =
-    let kept = grew.kept s stays tight (subst (AllByRecursion IsOrderedAndReliable) (sym (first.accepted s)) tt) in
-    let front = reads_are_a_front after s (safe (grew.span s (first.within s))) kept in
-    let wrote : bytes_accepted (after.sender.plan.accepted s) ≡ written_in ss rs x s =
-    grew.written s ∙ ap (λ ms. bytes_accepted ms ++ written_in ss rs x s) (first.accepted s) in
-    let read : bytes_got (after.reads s) ≡ read_in ss rs (other_side x) s =
-    grew.read s ∙ ap (λ gs. bytes_got gs ++ read_in ss rs (other_side x) s) (first.unread s) in
-    (front.0, sym wrote ∙ front.1 ∙ ap (λ z. z ++ front.0) read)
+-- Steps made the direction from side x, in which nothing had happened, what it is after them. Stream s is safe there if
+-- its span is not over.
+module _ {loose : ℕ → Bool} {ss : List Step} {rs : List Reply} {x : Side2} {before after : Direction}
+    (first : NothingHappened before) (grew : Grew loose ss rs x before after) (s : ℕ)
+    (safe : after.over s ≡ false → IsSafe after s) where
+  front_along : loose s ≡ false → stays_in_order ss rs x s ≡ true
+      → IsFrontOf (read_in ss rs (other_side x) s) (written_in ss rs x s)
+  front_along tight stays =
+      let kept = grew.kept s stays tight (subst (AllByRecursion IsOrderedAndReliable) (sym (first.accepted s)) tt) in
+      let front = reads_are_a_front after s (safe (grew.span s (first.within s))) kept in
+      let wrote : bytes_accepted (after.sender.plan.accepted s) ≡ written_in ss rs x s =
+      grew.written s ∙ ap (λ ms. bytes_accepted ms ++ written_in ss rs x s) (first.accepted s) in
+      let read : bytes_got (after.reads s) ≡ read_in ss rs (other_side x) s =
+      grew.read s ∙ ap (λ gs. bytes_got gs ++ read_in ss rs (other_side x) s) (first.unread s) in
+      (front.0, sym wrote ∙ front.1 ∙ ap (λ z. z ++ front.0) read)
 
--- each message that was read was written at an index of its own
-written_along : (loose : ℕ → Bool) (ss : List Step) (rs : List Reply) (x : Side2) (s : ℕ) (before after : Direction)
-    → NothingHappened before → Grew loose ss rs x before after → (after.over s ≡ false → IsSafe after s)
-    → (indexes : List ℕ) × AreDistinct indexes
-    × AreAt (messages_read ss rs (other_side x) s) indexes (messages_written ss rs x s)
-written_along loose ss rs x s before after first grew safe =
-    let named = (safe (grew.span s (first.within s))).read in
-    let told = grew.told s [] (subst (λ ms. AreTold ms []) (sym (first.accepted s)) tt) in
-    let letters : map letter_read (after.reads s) ≡ map letter_received (messages_read ss rs (other_side x) s) =
-    grew.letters s
-    ∙ ap (λ gs. map letter_read gs ++ map letter_received (messages_read ss rs (other_side x) s)) (first.unread s) in (
-      named.0,
-      named.1.once,
-      at_indexes after.sender.plan after.receiver.taken s (after.reads s) named.0
-          (messages_read ss rs (other_side x) s) (messages_written ss rs x s) named.1.named letters told,
-    )
+  -- each message that was read was written at an index of its own
+  written_along : (indexes : List ℕ) × AreDistinct indexes
+      × AreAt (messages_read ss rs (other_side x) s) indexes (messages_written ss rs x s)
+  written_along =
+      let named = (safe (grew.span s (first.within s))).read in
+      let told = grew.told s [] (subst (λ ms. AreTold ms []) (sym (first.accepted s)) tt) in
+      let letters : map letter_read (after.reads s) ≡ map letter_received (messages_read ss rs (other_side x) s) =
+      grew.letters s
+      ∙ ap (λ gs. map letter_read gs ++ map letter_received (messages_read ss rs (other_side x) s))
+      (first.unread s) in (
+        named.0,
+        named.1.once,
+        at_indexes after.sender.plan after.receiver.taken s (after.reads s) named.0
+            (messages_read ss rs (other_side x) s) (messages_written ss rs x s) named.1.named letters told,
+      )
 
 -- Before the first delivery
 
@@ -384,15 +387,13 @@ module _ {m : Made} {ss : List Step} {rs : List Reply} {p : Ends} (c : CameBy m 
   fronts : ReadsAreFronts ss rs
   fronts x s stays =
       let r = reached m ss rs (begun c) nothing_tallied p c.safely in
-      front_along (loose_of x (begun c)) ss rs x s (from x (begun c)) (from x r.last) (begun_fresh c x)
-      (begun_tight c x s) stays (r.grew x) (safe_from x s r.fits)
+      front_along (begun_fresh c x) (r.grew x) s (safe_from x s r.fits) (begun_tight c x s) stays
 
   -- Each message that was read was written.
   were_written : ReadsWereWritten ss rs
   were_written x s =
       let r = reached m ss rs (begun c) nothing_tallied p c.safely in
-      written_along (loose_of x (begun c)) ss rs x s (from x (begun c)) (from x r.last) (begun_fresh c x) (r.grew x)
-      (safe_from x s r.fits)
+      written_along (begun_fresh c x) (r.grew x) s (safe_from x s r.fits)
 
   -- Until a packet was handed to a side nothing is read there.
   unbrought : NothingIsReadBeforeADelivery ss rs

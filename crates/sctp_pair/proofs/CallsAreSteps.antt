@@ -28,7 +28,7 @@ use Rattle.sctp_pair.specs.World.{HasData, HasForward, IsDirectionStep, IsOpen, 
 use Rattle.sctp_pair.specs.World.{other_side}
 use Rattle.sctp_pair.specs.World.{IsOrderedAndReliable, loose_after, loose_of, loosens, packet_brought}
 use Rattle.sctp_pair.specs.Fits.{AreSaid, Fits, IsAt, IsSaidBy, IsSilent, LeadsSafely, Stands, StandsIn}
-use Rattle.sctp_pair.proofs.BetweenDirections.{By, Does, Faces, OpenAt, Settles, Surroundings, moved}
+use Rattle.sctp_pair.proofs.BetweenDirections.{By, Does, Faces, OpenAt, Settles, Surroundings, moved, stands_between}
 use Rattle.sctp_pair.proofs.AcceptedInOrder.{accepted_in_order}
 use Rattle.sctp_pair.proofs.NeverTakenBack.{runs_are_onward}
 use Rattle.sctp_pair.proofs.Promised.{receives_or_stopped, safe_world}
@@ -39,19 +39,7 @@ use Rattle.sctp_pair.proofs.HandshakeStages.{stays_put, turned}
 loosened : {loose more : ℕ → Bool} {own peer : ℕ} {a : Shown} {out coming : Direction}
     → ((s : ℕ) → more s ≡ false → loose s ≡ false) → Stands loose own peer a out coming
     → Stands more own peer a out coming
-loosened fewer (inl s) = inl record {
-  past = s.past;
-  own_is = s.own_is;
-  peer_is = s.peer_is;
-  binds = s.binds;
-  working = s.working;
-  come = s.come;
-  present = s.present;
-  truthful = s.truthful;
-  size = s.size;
-  between = s.between;
-  in_order = λ t tight. s.in_order t (fewer t tight);
-}
+loosened fewer (inl s) = inl (stands_between s fewer refl s.between)
 loosened fewer (inr r) = inr r
 
 -- no step makes a stream send ordered, reliable messages again
@@ -192,7 +180,7 @@ module _ (step : Step) (reply : Reply) (w : World) (q : Ends) where
         → IsSound after
         → (after.receiver.is_open ≡ true) ⊎ (IsOpen (end_of receiver q) → ⊥)
         → IsDirectionStep step reply sender receiver w q initial before after
-    direction_step {before} {after} {Added} {Read} {Brought} d adds reads brings passes kept no_more is receives = record {
+    direction_step {before} {after} {Brought = Brought} d adds reads brings passes kept no_more is receives = record {
       events = d.events;
       happened = d.is;
       accepted = λ s. d.accepted s ∙ ap (λ (z : List Message). before.sender.plan.accepted s ++ z) (adds s);
@@ -237,8 +225,8 @@ module _ (step : Step) (reply : Reply) (w : World) (q : Ends) where
       loose_a_is = λ s. refl;
       loose_b_is = λ s. refl;
       ab_step =
-          direction_step sides.A sides.B w.initial_a s.does_out call.adds call.reads_alone (λ o n. absurd n) (λ o n. absurd n)
-          (accepted_in_order step reply w q fits ends sides.A) (is_open s) s.sound_out
+          direction_step sides.A sides.B w.initial_a s.does_out call.adds call.reads_alone (λ o n. absurd n)
+          (λ o n. absurd n) (accepted_in_order step reply w q fits ends sides.A) (is_open s) s.sound_out
           (receives_or_stopped w.initial_b w.initial_a q.b s.coming2 s.out2 stands.side_b);
       ba_step =
           direction_step sides.B sides.A w.initial_b s.does_coming call.adds_alone call.reads call.brings call.passes
@@ -308,8 +296,8 @@ module _ (step : Step) (reply : Reply) (w : World) (q : Ends) where
           (inr (ap (λ (z : Sender). z.plan.places) s.coming_still)) s.sound_coming
           (receives_or_stopped w.initial_b w.initial_a q.b s.out2 s.coming2 stands.side_b);
       ba_step =
-          direction_step sides.B sides.A w.initial_b s.does_out call.adds call.reads_alone (λ o n. absurd n) (λ o n. absurd n)
-          (accepted_in_order step reply w q fits ends sides.B) (is_open s) s.sound_out
+          direction_step sides.B sides.A w.initial_b s.does_out call.adds call.reads_alone (λ o n. absurd n)
+          (λ o n. absurd n) (accepted_in_order step reply w q fits ends sides.B) (is_open s) s.sound_out
           (receives_or_stopped w.initial_a w.initial_b q.a s.coming2 s.out2 stands.side_a);
     },
     stands,

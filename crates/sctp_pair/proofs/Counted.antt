@@ -22,7 +22,6 @@ use Rattle.sctp_assoc.specs.Shown.{Shown}
 use Rattle.sctp_pair.specs.declared.step.Reply.{Reply}
 use Rattle.sctp_pair.specs.declared.step.Reply.TheVariants as replies
 use Rattle.sctp_pair.specs.declared.step.Side2.{Side2}
-use Rattle.sctp_pair.specs.declared.step.Side2.TheVariants as sides
 use Rattle.sctp_pair.specs.declared.step.Step.{Step}
 use Rattle.sctp_pair.specs.Ends.{Ends, end_of}
 use Rattle.sctp_pair.specs.Steps.{Runs, Steps, Writing, writing_of}
@@ -126,7 +125,7 @@ abbrev IsRead : (ℕ → ℕ) → Direction → Type 0
 IsRead waiting w = (s : ℕ) → length (w.sender.plan.accepted s) ≤ length (w.reads s) + waiting s
 
 -- A step of the direction from side x.
-module _ (x : Side2) (step : Step) (r : Reply) (w : World) (q : Ends) (initial : ℕ) (before after : Direction)
+module _ {x : Side2} {step : Step} {r : Reply} {w : World} {q : Ends} {initial : ℕ} {before after : Direction}
     (h : IsDirectionStep step r x (other_side x) w q initial before after) where
   pieces_counted : {n : ℕ} → HasAccepted n before → HasAccepted (n + pieces_of before.sender.plan.size x step r) after
   pieces_counted a =
@@ -145,22 +144,23 @@ module _ (x : Side2) (step : Step) (r : Reply) (w : World) (q : Ends) (initial :
       let old = a s in
       omega (arith, grown, both, one, read, old)
 
-  -- Where few are left, the next direction is within the limits.
-  stays_within : {loose : ℕ → Bool} (own peer : ℕ) (coming : Direction)
-      → Stands loose own peer (end_of x q) after coming → IsWithin before → IsSound after
-      → (begin : Shown) (pieces : ℕ) (waiting : ℕ → ℕ) → Since initial begin after coming
-      → IsFew pieces waiting initial begin → HasAccepted pieces after → IsRead waiting after → IsWithin after
-  stays_within own peer coming stands within sound begin pieces waiting since few accepted read =
-      let places = offsets_counted pieces after accepted sound.invariant in
-      record {
-        offsets = (let all = few.all in omega (arith, all, places));
-        flight = few_in_flight h own peer stands begin pieces since few.flight places within.flight;
-        unread = λ s.
-            let left = waiting_counted after s sound.invariant (sound.plain.span s) in
-            let some = read s in
-            let most = few.waiting s in
-            omega (arith, left, some, most);
-      }
+  -- Side x stands between the next direction and what comes, and these are since a call that began at `begin`.
+  module _ {loose : ℕ → Bool} {own peer : ℕ} {coming : Direction} {begin : Shown}
+      (stands : Stands loose own peer (end_of x q) after coming) (since : Since initial begin after coming) where
+    -- Where few are left, the next direction is within the limits.
+    stays_within : {pieces : ℕ} {waiting : ℕ → ℕ} → IsFew pieces waiting initial begin → IsWithin before
+        → IsSound after → HasAccepted pieces after → IsRead waiting after → IsWithin after
+    stays_within {pieces} few within sound accepted read =
+        let places = offsets_counted pieces after accepted sound.invariant in
+        record {
+          offsets = (let all = few.all in omega (arith, all, places));
+          flight = few_in_flight h own peer stands begin pieces since few.flight places within.flight;
+          unread = λ s.
+              let left = waiting_counted after s sound.invariant (sound.plain.span s) in
+              let some = read s in
+              let most = few.waiting s in
+              omega (arith, left, some, most);
+        }
 
 -- Steps of a pair
 
@@ -182,76 +182,74 @@ LeadsSince begin step r w t q =
     × (AreFew (tallied_in w step r t) w.initial_a w.initial_b begin
     → IsSafeWorld v × FitsCounted (tallied_in w step r t) q v)
 
-leads_since : (begin : Ends) (step : Step) (p q : Ends) (r : Reply) → Steps step p r q → (t : Tally) (w : World)
-    → FitsCounted t p w → SinceBoth begin w → LeadsSince begin step r w t q
-unfolding LeadsSince
-leads_since begin step p q r h t w f since =
-    let x = step_leads step p q r h w f.fits in
-    let v : World = x.0 in
-    let ab = x.1.ab_step in
-    let ba = x.1.ba_step in
-    let since_a = goes_on since.of_a ab.reach_on ba.stays_closed in
-    let since_b = goes_on since.of_b ba.reach_on ab.stays_closed in
-    let of_a = pieces_counted sides.A step r w v.ends w.initial_a w.ab v.ab ab f.of_a in
-    let of_b = pieces_counted sides.B step r w v.ends w.initial_b w.ba v.ba ba f.of_b in
-    let read_a = reads_counted sides.A step r w v.ends w.initial_a w.ab v.ab ab t.unread_a f.unread_a in
-    let read_b = reads_counted sides.B step r w v.ends w.initial_b w.ba v.ba ba t.unread_b f.unread_b in
-    let u : Tally = tallied_in w step r t in (
-      v,
-      x.1,
-      record {
-        of_a = subst (λ (z : ℕ). Since z begin.a v.ab v.ba) (sym x.1.same_a) since_a;
-        of_b = subst (λ (z : ℕ). Since z begin.b v.ba v.ab) (sym x.1.same_b) since_b;
-      },
-      λ few.
-          let within : IsWithinLimits v = (
-            stays_within sides.A step r w v.ends w.initial_a w.ab v.ab ab v.initial_a v.initial_b v.ba x.2.side_a
-                f.fits.within.0 x.2.sound_ab begin.a u.pieces_a u.unread_a since_a few.of_a of_a read_a,
-            stays_within sides.B step r w v.ends w.initial_b w.ba v.ba ba v.initial_b v.initial_a v.ab x.2.side_b
-                f.fits.within.1 x.2.sound_ba begin.b u.pieces_b u.unread_b since_b few.of_b of_b read_b,
-          ) in (
-            x.3 within,
-            record {
-              fits = record { within = within; stand = x.2 };
-              of_a = of_a;
-              of_b = of_b;
-              unread_a = read_a;
-              unread_b = read_b;
-            },
-          ),
-    )
+-- A step with this reply leads from p to q, and the pair fits the world w before it.
+module _ (step : Step) (p q : Ends) (r : Reply) (h : Steps step p r q) (t : Tally) (w : World)
+    (f : FitsCounted t p w) where
+  leads_since : (begin : Ends) → SinceBoth begin w → LeadsSince begin step r w t q
+  unfolding LeadsSince
+  leads_since begin since =
+      let x = step_leads step p q r h w f.fits in
+      let v : World = x.0 in
+      let ab = x.1.ab_step in
+      let ba = x.1.ba_step in
+      let since_a = goes_on since.of_a ab.reach_on ba.stays_closed in
+      let since_b = goes_on since.of_b ba.reach_on ab.stays_closed in
+      let of_a = pieces_counted ab f.of_a in
+      let of_b = pieces_counted ba f.of_b in
+      let read_a = reads_counted ab t.unread_a f.unread_a in
+      let read_b = reads_counted ba t.unread_b f.unread_b in (
+        v,
+        x.1,
+        record {
+          of_a = subst (λ (z : ℕ). Since z begin.a v.ab v.ba) (sym x.1.same_a) since_a;
+          of_b = subst (λ (z : ℕ). Since z begin.b v.ba v.ab) (sym x.1.same_b) since_b;
+        },
+        λ few.
+            let within : IsWithinLimits v = (
+              stays_within ab x.2.side_a since_a few.of_a f.fits.within.0 x.2.sound_ab of_a read_a,
+              stays_within ba x.2.side_b since_b few.of_b f.fits.within.1 x.2.sound_ba of_b read_b,
+            ) in (
+              x.3 within,
+              record {
+                fits = record { within = within; stand = x.2 };
+                of_a = of_a;
+                of_b = of_b;
+                unread_a = read_a;
+                unread_b = read_b;
+              },
+            ),
+      )
 
--- A step leads to a world that is safe where few are left.
-pub step_leads_counted : (step : Step) (p q : Ends) (r : Reply) → Steps step p r q → (t : Tally) (w : World)
-    → FitsCounted t p w → LeadsCounted step r w t q
-unfolding LeadsSince
-step_leads_counted step p q r h t w f =
-    let x = leads_since w.ends step p q r h t w f (both_begin t p w f) in (x.0, x.1, x.3)
+  -- The step leads to a world that is safe where few are left.
+  pub step_leads_counted : LeadsCounted step r w t q
+  unfolding LeadsSince
+  step_leads_counted = let x = leads_since w.ends (both_begin t p w f) in (x.0, x.1, x.3)
 
--- So does a row of steps.
-rows_lead : (begin : Ends) (ss : List Step) (rs : List Reply) (p q : Ends) → Runs ss rs p q → (t : Tally) (w : World)
-    → FitsCounted t p w → SinceBoth begin w → RunsCounted ss rs w t begin q
-unfolding LeadsSince
-rows_lead begin [] [] p q e t w fits since = subst (λ (z : Ends). FitsCounted t z w) (sym e) fits
-rows_lead begin (s ∷ ss) (r ∷ rs) p q (u, first, rest) t w fits since =
-    let x = leads_since begin s p u r first t w fits since in
-    let next : Tally = tallied_in w s r t in (
-      x.0,
-      x.1,
-      λ few.
-          let y = x.3 few in (
-            y.0,
-            subst (λ (z : Ends). FitsCounted next z x.0) y.1.fits.stand.is y.1,
-            rows_lead begin ss rs u q rest next x.0 y.1 x.2,
-          ),
-    )
-rows_lead begin [] (r ∷ rs) p q h t w fits since = absurd h
-rows_lead begin (s ∷ ss) [] p q h t w fits since = absurd h
+-- So does a row of steps, since `begin` and up to q.
+module _ (begin q : Ends) where
+  rows_lead : (ss : List Step) (rs : List Reply) (p : Ends) → Runs ss rs p q → (t : Tally) (w : World)
+      → FitsCounted t p w → SinceBoth begin w → RunsCounted ss rs w t begin q
+  unfolding LeadsSince
+  rows_lead [] [] p e t w fits since = subst (λ (z : Ends). FitsCounted t z w) (sym e) fits
+  rows_lead (s ∷ ss) (r ∷ rs) p (u, first, rest) t w fits since =
+      let x = leads_since s p u r first t w fits begin since in
+      let next : Tally = tallied_in w s r t in (
+        x.0,
+        x.1,
+        λ few.
+            let y = x.3 few in (
+              y.0,
+              subst (λ (z : Ends). FitsCounted next z x.0) y.1.fits.stand.is y.1,
+              rows_lead ss rs u rest next x.0 y.1 x.2,
+            ),
+      )
+  rows_lead [] (r ∷ rs) p h t w fits since = absurd h
+  rows_lead (s ∷ ss) [] p h t w fits since = absurd h
 
 pub runs_lead_counted : (ss : List Step) (rs : List Reply) (p q : Ends) → Runs ss rs p q → (t : Tally) (w : World)
     → FitsCounted t p w → RunsCounted ss rs w t p q
 runs_lead_counted ss rs p q h t w f =
-    rows_lead p ss rs p q h t w f
+    rows_lead p q ss rs p h t w f
     (subst (λ (z : Ends). SinceBoth z w) (sym f.fits.stand.is) (both_begin t p w f))
 
 -- A pair that fits the empty world fits it with nothing tallied.

@@ -41,26 +41,23 @@ one_piece true true size bytes some filled =
 one_piece true false size bytes some filled = omega arith
 one_piece false there size bytes some filled = omega arith
 
-covered_at : (side x : Side2) (id n s size : ℕ) (named : Option PayloadProtocolIdentifier) (bytes : List ℕ) (p q : Ends)
-    → 0 < size → AtSide side p (λ a b. Writes a id named bytes (replies.Wrote n) b) q
-    → one_accepted (writes side id named bytes) (replies.Wrote n) x s
-    ≤ pieces_accepted size x (writes side id named bytes) (replies.Wrote n)
-covered_at side x id n s size named bytes p q some h =
-    one_piece (is_side side x) (eqb id s) size (length bytes) some (filled_at side id n named bytes p q h)
+-- A step leads from p to q. The side x puts at most `size` bytes of a message into a piece; s is a stream.
+module _ (size : ℕ) (some : 0 < size) (x : Side2) (s : ℕ) (p q : Ends) where
+  covered_at : (side : Side2) (id n : ℕ) (named : Option PayloadProtocolIdentifier) (bytes : List ℕ)
+      → AtSide side p (λ a b. Writes a id named bytes (replies.Wrote n) b) q
+      → one_accepted (writes side id named bytes) (replies.Wrote n) x s
+      ≤ pieces_accepted size x (writes side id named bytes) (replies.Wrote n)
+  covered_at side id n named bytes h =
+      one_piece (is_side side x) (eqb id s) size (length bytes) some (filled_at side id n named bytes p q h)
 
-covered_by : (size : ℕ) (x : Side2) (s : ℕ) (step : Step) (p q : Ends) (r : Reply) → 0 < size → Steps step p r q
-    → one_written step r x s ≤ pieces_of size x step r
-covered_by size x s (steps.Write side id bytes) p q (replies.Wrote n) some h =
-    covered_at side x id n s size None bytes p q some h
-covered_by size x s (steps.WriteWithPpi side id bytes kind) p q (replies.Wrote n) some h =
-    covered_at side x id n s size (Some kind) bytes p q some h
-covered_by size x s (steps.WriteSctp side id bytes kind) p q (replies.Wrote n) some h =
-    covered_at side x id n s size (Some kind) bytes p q some h
-covered_by size x s (steps.WriteChunk side id bytes) p q (replies.Wrote n) some h =
-    covered_at side x id n s size None bytes p q some h
-covered_by size x s (steps.WriteChunks side id chunks) p q (replies.Wrote n) some h =
-    covered_at side x id n s size None (first_filled chunks.items) p q some h
-covered_by size x s step p q r some h = omega arith
+  covered_by : (step : Step) (r : Reply) → Steps step p r q → one_written step r x s ≤ pieces_of size x step r
+  covered_by (steps.Write side id bytes) (replies.Wrote n) h = covered_at side id n None bytes h
+  covered_by (steps.WriteWithPpi side id bytes kind) (replies.Wrote n) h = covered_at side id n (Some kind) bytes h
+  covered_by (steps.WriteSctp side id bytes kind) (replies.Wrote n) h = covered_at side id n (Some kind) bytes h
+  covered_by (steps.WriteChunk side id bytes) (replies.Wrote n) h = covered_at side id n None bytes h
+  covered_by (steps.WriteChunks side id chunks) (replies.Wrote n) h =
+      covered_at side id n None (first_filled chunks.items) h
+  covered_by step r h = omega arith
 
 -- No more messages wait to be read on a stream than pieces were accepted.
 record IsCovered (t : Tally) : Type 0 where
@@ -72,11 +69,11 @@ module _ (m : Made) (some_a : 0 < m.size_a) (some_b : 0 < m.size_b) where
       → IsCovered (tallied_by m step r t)
   covered_step step p q r h t c = record {
     of_a = λ s.
-        let one = covered_by m.size_a sides.A s step p q r some_a h in
+        let one = covered_by m.size_a some_a sides.A s p q step r h in
         let old = c.of_a s in
         omega (arith, one, old);
     of_b = λ s.
-        let one = covered_by m.size_b sides.B s step p q r some_b h in
+        let one = covered_by m.size_b some_b sides.B s p q step r h in
         let old = c.of_b s in
         omega (arith, one, old);
   }
@@ -138,34 +135,35 @@ tallied_b m t (a ∷ ss) (r ∷ rs) = let next = tallied_b m (tallied_by m a r t
 tallied_b m t [] rs = omega arith
 tallied_b m t (a ∷ ss) [] = omega arith
 
--- Where few are accepted in all steps, few are in the first ones.
-pub few_in_front : (size_a size_b : ℕ) (ss : List Step) (rs : List Reply) (p q : Ends) → Runs ss rs p q
-    → (more : List Step) (answers : List Reply) → AcceptFew size_a size_b (ss ++ more) (rs ++ answers)
-    → AcceptFew size_a size_b ss rs
-few_in_front size_a size_b ss rs p q led more answers few = record {
-  of_a =
-      (let all = few.of_a in
-      let sum = accepted_join size_a sides.A ss rs p q led more answers in
-      omega (arith, all, sum));
-  of_b =
-      (let all = few.of_b in
-      let sum = accepted_join size_b sides.B ss rs p q led more answers in
-      omega (arith, all, sum));
-}
+-- These steps led from p to q, and more are behind them.
+module _ (size_a size_b : ℕ) (ss : List Step) (rs : List Reply) (p q : Ends) (led : Runs ss rs p q)
+    (more : List Step) (answers : List Reply) where
+  -- Where few are accepted in all steps, few are in the first ones.
+  pub few_in_front : AcceptFew size_a size_b (ss ++ more) (rs ++ answers) → AcceptFew size_a size_b ss rs
+  few_in_front few = record {
+    of_a =
+        (let all = few.of_a in
+        let sum = accepted_join size_a sides.A ss rs p q led more answers in
+        omega (arith, all, sum));
+    of_b =
+        (let all = few.of_b in
+        let sum = accepted_join size_b sides.B ss rs p q led more answers in
+        omega (arith, all, sum));
+  }
 
--- Few pieces in all of the steps are few that stay.
-pub few_stay_few : (more : List Step) (answers : List Reply) (p q : Ends) → Runs more answers p q
-    → FewStayFew more answers p
-few_stay_few more answers p q led m ss rs c few =
-    let some_a : 0 < m.size_a = c.new.fits.stand.sound_ab.invariant.planned.size in
-    let some_b : 0 < m.size_b = c.new.fits.stand.sound_ba.invariant.planned.size in
-    let none : IsCovered nothing_tallied = record { of_a = λ s. omega arith; of_b = λ s. omega arith } in
-    let covered = covered_row m some_a some_b ss rs c.begin p c.led nothing_tallied none in
-    let first_a = tallied_a m nothing_tallied ss rs in
-    let first_b = tallied_b m nothing_tallied ss rs in
-    let sum_a = accepted_join m.size_a sides.A ss rs c.begin p c.led more answers in
-    let sum_b = accepted_join m.size_b sides.B ss rs c.begin p c.led more answers in
-    let few_a = few.of_a in
-    let few_b = few.of_b in
-    stays_few m some_a some_b more answers p q led (tally_of m ss rs) covered p (omega (arith, first_a, sum_a, few_a))
-    (omega (arith, first_b, sum_b, few_b))
+module _ (more : List Step) (answers : List Reply) (p q : Ends) (led : Runs more answers p q) where
+  -- Few pieces in all of the steps are few that stay.
+  pub few_stay_few : FewStayFew more answers p
+  few_stay_few m ss rs c few =
+      let some_a : 0 < m.size_a = c.new.fits.stand.sound_ab.invariant.planned.size in
+      let some_b : 0 < m.size_b = c.new.fits.stand.sound_ba.invariant.planned.size in
+      let none : IsCovered nothing_tallied = record { of_a = λ s. omega arith; of_b = λ s. omega arith } in
+      let covered = covered_row m some_a some_b ss rs c.begin p c.led nothing_tallied none in
+      let first_a = tallied_a m nothing_tallied ss rs in
+      let first_b = tallied_b m nothing_tallied ss rs in
+      let sum_a = accepted_join m.size_a sides.A ss rs c.begin p c.led more answers in
+      let sum_b = accepted_join m.size_b sides.B ss rs c.begin p c.led more answers in
+      let few_a = few.of_a in
+      let few_b = few.of_b in
+      stays_few m some_a some_b more answers p q led (tally_of m ss rs) covered p
+      (omega (arith, first_a, sum_a, few_a)) (omega (arith, first_b, sum_b, few_b))

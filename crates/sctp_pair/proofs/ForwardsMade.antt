@@ -1,9 +1,9 @@
 -- The FORWARD TSN of a poll: new DATA that goes out before it says the same, and what is given up before it leaves few
 -- offsets past the acknowledged reach.
-use Rattle.std.proofs.Common.{◌≡◌, refl, sym, ap, ◌∙◌, subst, ⊎_elim, ℕ, zero, suc, ◌+◌, ◌<◌, ◌≤◌, arith, Bool, true, false}
-use Rattle.std.proofs.Common.{◌-◌, ◌%◌, ◌^◌, map, not, if◌then◌else◌, is_some, take, List, [], ◌∷◌, ◌++◌, length, slice_get, Option, Some, None}
+use Rattle.std.proofs.Common.{◌≡◌, refl, ap, ◌∙◌, ℕ, zero, suc, ◌+◌, ◌-◌, ◌%◌, ◌^◌, ◌≤◌, arith, Bool, true, false}
+use Rattle.std.proofs.Common.{if◌then◌else◌, List, [], ◌∷◌, ◌++◌, length, map, take, Option, Some, None, is_some}
 use Rattle.std.specs.List.{AllByRecursion}
-use Rattle.std.proofs.lemmas.Bool.{cases_Bool, cond_both, false≢true}
+use Rattle.std.proofs.lemmas.Bool.{cond_both}
 use Rattle.std.proofs.lemmas.List.{length-append}
 use Rattle.sctp_wire_types.specs.declared.chunk.ChunkForwardTsn.{ChunkForwardTsn}
 use Rattle.sctp_outbound_queue.specs.declared.message.InFlight.{InFlight}
@@ -13,13 +13,13 @@ use Rattle.sctp_outbound_queue.specs.Waiting.{Waiting}
 use Rattle.sctp_outbound.specs.declared.sender.Sender.{Sender}
 use Rattle.sctp_outbound.specs.Forward.{forward_of, skipped_numbers, skipped_stream}
 use Rattle.sctp_model.specs.Messages.{Place}
-use Rattle.sctp_model.specs.Machine.{Direction, Event, abandoned, can_abandon, can_drop, can_resend, dropped, gone_front}
-use Rattle.sctp_model.specs.Machine.{happens}
+use Rattle.sctp_model.specs.Machine.{Direction, Event, abandoned, can_abandon, can_drop, can_resend, dropped}
+use Rattle.sctp_model.specs.Machine.{gone_front, happens}
 use Rattle.sctp_model.proofs.ForwardTsns.{front_within as gone_within}
 use Rattle.sctp_model.specs.Machine.{is_of, left, marked, tail_marked}
 use Rattle.sctp_model.specs.Packets.{data_at}
 use Rattle.sctp_model.specs.Safe.{IsWithin}
-use Rattle.sctp_directions.specs.Acts.{Act, CanAll, Parts, done, done_all}
+use Rattle.sctp_directions.specs.Acts.{Act, Parts, done, done_all}
 use Rattle.sctp_sides.specs.SideLaws.{GivesNew}
 
 -- New DATA behind what is abandoned

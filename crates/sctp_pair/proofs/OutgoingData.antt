@@ -1,5 +1,5 @@
--- What one association gives up and gives out: DATA of its direction, sent for the first time or again, and FORWARD TSN,
--- while what comes to it stands still.
+-- What one association gives up and gives out, while what comes to it stands still: DATA of its direction, sent for the
+-- first time or again, and FORWARD TSN.
 use Rattle.std.proofs.Common.{◌≡◌, ◌∙◌, refl, subst, List, [], ◌∷◌, ◌++◌, ℕ, ◌+◌, ◌≤◌, arith, Bool, true, false, Some}
 use Rattle.std.specs.Prelude.{slice_get}
 use Rattle.std.specs.List.{AllByRecursion}
@@ -230,7 +230,8 @@ after_both x p mid first second goes said more = record {
   out2 = more.out2;
   goes = goes_on None_brought x.out mid more.out2 goes more.goes;
   holds = more.holds;
-  said = all_join (IsGiven x.own more.out2) first second (given_grows x.own mid more.out2 first more.goes said) more.said;
+  said = all_join (IsGiven x.own more.out2) first second
+      (given_grows x.own mid more.out2 first more.goes said) more.said;
 }
 
 -- such acts, one after another

@@ -6,8 +6,6 @@ use Rattle.sctp_wire.specs.declared.packet.Packet.{Packet}
 use Rattle.sctp_model.specs.Packets.{mem}
 use Rattle.sctp_model.specs.Machine.{Direction, Event, happens}
 use Rattle.sctp_model.proofs.Proved.{each_event_keeps_the_invariant}
-use Rattle.sctp_directions.specs.Acts.{Parts}
-use Rattle.sctp_assoc.specs.Leads.{parts}
 use Rattle.sctp_assoc.specs.Closing.{is_closed_state}
 use Rattle.sctp_assoc.specs.Chunks.{after_packet}
 use Rattle.sctp_sides.specs.Meeting.{IsNoEarlier, Stage, stage_of}
@@ -20,14 +18,15 @@ use Rattle.sctp_pair.specs.Fits.{StagesAgree, StandsFailed}
 use Rattle.sctp_pair.specs.declared.step.Reply.{Reply}
 use Rattle.sctp_pair.specs.declared.step.Reply.TheVariants as replies
 use Rattle.sctp_pair.specs.Steps.{Fails, HadFailed, LacksMemory, TakesPacket}
-use Rattle.sctp_pair.proofs.BetweenDirections.{By, ClosedAt, Faces, Holds, None_brought, OpenAt, Settles}
+use Rattle.sctp_pair.proofs.BetweenDirections.{By, ClosedAt, Faces, None_brought, OpenAt, Settles}
 use Rattle.sctp_pair.proofs.BetweenDirections.{SettlesQuietly, Surroundings, does_by_goes, goes_by_receiver}
 use Rattle.sctp_pair.proofs.BetweenDirections.{goes_nowhere, goes_on, moved, nothing_added, nothing_read}
 use Rattle.sctp_pair.proofs.BetweenDirections.{other_by_receiver, sound_after}
-use Rattle.sctp_pair.proofs.PacketChunks.{Brings_of, OtherSays, SaidIn, all_said_in, chunk_step}
+use Rattle.sctp_pair.proofs.PacketChunks.{Brings_of, OtherSays, SaidIn, all_said_in, came_on, chunk_step}
 use Rattle.sctp_pair.proofs.QuietCalls.{fails_settle, same_settles}
 use Rattle.sctp_pair.proofs.HandshakeStages.{stays_put, works_on}
-use Rattle.sctp_pair.proofs.BetweenChunks.{Underway, goes_same, meets_same, stands_by}
+use Rattle.sctp_pair.proofs.BetweenChunks.{Underway}
+use Rattle.sctp_pair.proofs.ComingData.{coming_nowhere}
 use Rattle.sctp_sides.specs.SideLaws.{Exhausts, IsOver}
 use Rattle.sctp_sides.specs.Meeting.{IsTruthful}
 
@@ -55,28 +54,9 @@ settled_open {x} {B} {a} u = record {
 
 end_step : {x : Surroundings} {B : By → ℕ → Type 0} (a b : Shown) → EndsPacket a b → Underway x B a
     → Settles x b nothing_added nothing_read B
-unfolding stands_by
 end_step {x} {B} a b ends u =
-    let leads = ends.leads u.stands.past u.stands.binds in
-    let met = ap (λ (p : Parts). p.history.peer) leads.1.there in
-    let next : Surroundings = moved x u.out2 u.coming2 in
-    let holds : Holds next (parts b leads.0) = subst (Holds next) (sym leads.1.there) u.holds in
-    let ended : Underway x B b = record {
-      out2 = u.out2;
-      coming2 = u.coming2;
-      goes_out = u.goes_out;
-      goes_coming = u.goes_coming;
-      within_out = u.within_out;
-      within_coming = u.within_coming;
-      places_same = u.places_same;
-      coming_still = u.coming_still;
-      silent = u.silent;
-      goes = goes_same a b ends.same u.goes;
-      meets = meets_same a b ends.same u.meets;
-      stands = stands_by next leads.0 u.stands ends.same leads.1.binds met refl holds;
-      holds = holds;
-    } in
-    settled_open ended
+    settled_open (came_on u [] (ends.leads u.stands.past u.stands.binds) ends.same tt
+    (coming_nowhere B u.within_coming u.holds))
 
 -- Closing
 

@@ -1,6 +1,6 @@
 -- What the chunks of a packet do to one association between its directions.
-use Rattle.std.proofs.Common.{◌≡◌, refl, sym, ap, ◌∙◌, subst, ◌⊎◌, ⊎_elim, inl, inr, ℕ, ◌+◌, ◌<◌, ◌≤◌, arith, true, false}
-use Rattle.std.proofs.Common.{List, [], ◌∷◌, ◌++◌, length, Option, Some}
+use Rattle.std.proofs.Common.{◌≡◌, refl, sym, ap, ◌∙◌, subst, ◌⊎◌, ⊎_elim, inl, inr, ℕ, ◌+◌, ◌<◌, ◌≤◌, arith}
+use Rattle.std.proofs.Common.{true, false, List, [], ◌∷◌, ◌++◌, length, Option, Some}
 use Rattle.std.specs.Prelude.{⊤, slice_get}
 use Rattle.std.specs.List.{AllByRecursion}
 use Rattle.std.proofs.lemmas.Bool.{cases_Bool}
@@ -26,12 +26,12 @@ use Rattle.sctp_directions.specs.Acts.{Act, CanAll, History, IsNotPeerKnown, Par
 use Rattle.sctp_directions.specs.Reports.{SaysWhatWasTaken}
 use Rattle.sctp_directions.specs.Said.{IsForwardMade, IsMade}
 use Rattle.sctp_directions.proofs.Proved.{acts_keep_the_initial_tsns, sacks_mean_the_same}
-use Rattle.sctp_assoc.specs.Leads.{parts}
+use Rattle.sctp_assoc.specs.Leads.{Leads, parts}
 use Rattle.sctp_assoc.specs.Happened.{acts_of_chunk}
 use Rattle.sctp_assoc.specs.Shown.{Shown}
 use Rattle.sctp_sides.specs.Meeting.{Greets}
-use Rattle.sctp_sides.specs.SideLaws.{IsAcknowledging, IsPassingOver, IsTaking, OpensAndTakes, OpensOnly, TakesChunk}
-use Rattle.sctp_sides.specs.SideLaws.{TakesOnly}
+use Rattle.sctp_sides.specs.SideLaws.{IsAcknowledging, IsPassingOver, IsSameStatus, IsTaking, OpensAndTakes, OpensOnly}
+use Rattle.sctp_sides.specs.SideLaws.{TakesChunk, TakesOnly}
 use Rattle.sctp_sides.proofs.Proved.{data_opens_or_takes, forwards_pass_over, sacks_acknowledge}
 use Rattle.sctp_pair.specs.Fits.{IsSaidBy}
 use Rattle.sctp_pair.specs.World.{HasData, HasForward}
@@ -131,24 +131,16 @@ taking_is_not_peer_known a piece acts (inr (inr (inl t))) =
     subst (AllByRecursion IsNotPeerKnown) (sym t.are) (tt, (tt, tt))
 taking_is_not_peer_known a piece acts (inr (inr (inr t))) = subst (AllByRecursion IsNotPeerKnown) (sym t.are) (tt, tt)
 
-data_step : {x : Surroundings} {B : By → ℕ → Type 0} (header : CommonHeader) (piece : ChunkPayloadData) {a b : Shown}
-    → TakesChunk header (chunks.Data piece) a b → IsGiven x.peer x.coming piece
-    → ((o : ℕ) → piece.tsn ≡ tsn x.peer o → B By.ByData o) → Underway x B a → Underway x B b
+-- Acts of a chunk, which leave the status and do not make the peer known, led the direction that comes on.
+pub came_on : {x : Surroundings} {B : By → ℕ → Type 0} {a b : Shown} (u : Underway x B a) (acts : List Act)
+    (leads : (k : History) × Leads acts a u.stands.past b k) → IsSameStatus a b → AllByRecursion IsNotPeerKnown acts
+    → Comes (moved x u.out2 u.coming2) B (parts a u.stands.past) acts → Underway x B b
 unfolding stands_by
-data_step {x} {B} header piece {a} {b} takes (k, d, e, said) brings u =
-    let h : History = u.stands.past in
-    let acts : List Act = acts_of_chunk a header (chunks.Data piece) in
-    let taking = data_opens_or_takes a header piece in
-    let leads = takes.leads h u.stands.binds in
-    let there = u.goes_coming.datas k d e in
-    let now : Surroundings = moved x u.out2 u.coming2 in
-    let after =
-    take_shape now B a h piece (data_is_known k d u there) u.within_coming u.holds acts taking leads.1.can
-    (k, d, there, said) brings in
+came_on {x} {B} {a} {b} u acts leads same nobody after =
     let next : Surroundings = moved x u.out2 after.coming2 in
     let holds : Holds next (parts b leads.0) = subst (Holds next) (sym leads.1.there) after.holds in
     let met = ap (λ (p : Parts). p.history.peer) leads.1.there
-    ∙ (acts_keep_the_initial_tsns acts (parts a h) (taking_is_not_peer_known a piece acts taking)).1 in
+    ∙ (acts_keep_the_initial_tsns acts (parts a u.stands.past) nobody).1 in
     record {
       out2 = u.out2;
       coming2 = after.coming2;
@@ -158,12 +150,25 @@ data_step {x} {B} header piece {a} {b} takes (k, d, e, said) brings u =
       within_coming = after.within;
       places_same = u.places_same;
       coming_still = after.still ∙ u.coming_still;
-      silent = λ f. ap (λ (z : Sender). z.plan.places) after.still ∙ u.silent f;
-      goes = goes_same a b takes.leaves u.goes;
-      meets = meets_same a b takes.leaves u.meets;
-      stands = stands_by next leads.0 u.stands takes.leaves leads.1.binds met refl holds;
+      silent = λ never. ap (λ (z : Sender). z.plan.places) after.still ∙ u.silent never;
+      goes = goes_same a b same u.goes;
+      meets = meets_same a b same u.meets;
+      stands = stands_by next leads.0 u.stands same leads.1.binds met refl holds;
       holds = holds;
     }
+
+data_step : {x : Surroundings} {B : By → ℕ → Type 0} (header : CommonHeader) (piece : ChunkPayloadData) {a b : Shown}
+    → TakesChunk header (chunks.Data piece) a b → IsGiven x.peer x.coming piece
+    → ((o : ℕ) → piece.tsn ≡ tsn x.peer o → B By.ByData o) → Underway x B a → Underway x B b
+data_step {x} {B} header piece {a} {b} takes (k, d, e, said) brings u =
+    let h : History = u.stands.past in
+    let acts : List Act = acts_of_chunk a header (chunks.Data piece) in
+    let taking = data_opens_or_takes a header piece in
+    let leads = takes.leads h u.stands.binds in
+    let there = u.goes_coming.datas k d e in
+    came_on u acts leads takes.leaves (taking_is_not_peer_known a piece acts taking)
+    (take_shape (moved x u.out2 u.coming2) B a h piece (data_is_known k d u there) u.within_coming u.holds acts taking
+    leads.1.can (k, d, there, said) brings)
 
 -- FORWARD TSN
 
@@ -211,37 +216,15 @@ passing_is_not_peer_known tsn skipped acts (inr t) = subst (AllByRecursion IsNot
 forward_step : {x : Surroundings} {B : By → ℕ → Type 0} (header : CommonHeader) (c : ChunkForwardTsn) {a b : Shown}
     → TakesChunk header (chunks.ForwardTsn c) a b → IsForwardMade x.peer x.coming c
     → ((n : ℕ) → c.new_cumulative_tsn ≡ tsn_before (tsn x.peer n) → B By.ByForward n) → Underway x B a → Underway x B b
-unfolding stands_by
 forward_step {x} {B} header c {a} {b} takes (k, f, e, said) brings u =
     let h : History = u.stands.past in
     let acts : List Act = acts_of_chunk a header (chunks.ForwardTsn c) in
     let passing = forwards_pass_over a header c in
     let leads = takes.leads h u.stands.binds in
     let there = u.goes_coming.forwards k f e in
-    let now : Surroundings = moved x u.out2 u.coming2 in
-    let after =
-    forward_shape now B a h c (forward_is_known k f u there) u.within_coming u.holds acts passing leads.1.can
-    (k, f, there, said) brings in
-    let next : Surroundings = moved x u.out2 after.coming2 in
-    let holds : Holds next (parts b leads.0) = subst (Holds next) (sym leads.1.there) after.holds in
-    let met = ap (λ (p : Parts). p.history.peer) leads.1.there
-    ∙ (acts_keep_the_initial_tsns acts (parts a h)
-    (passing_is_not_peer_known c.new_cumulative_tsn c.streams acts passing)).1 in
-    record {
-      out2 = u.out2;
-      coming2 = after.coming2;
-      goes_out = u.goes_out;
-      goes_coming = goes_on B x.coming u.coming2 after.coming2 u.goes_coming after.goes;
-      within_out = u.within_out;
-      within_coming = after.within;
-      places_same = u.places_same;
-      coming_still = after.still ∙ u.coming_still;
-      silent = λ never. ap (λ (z : Sender). z.plan.places) after.still ∙ u.silent never;
-      goes = goes_same a b takes.leaves u.goes;
-      meets = meets_same a b takes.leaves u.meets;
-      stands = stands_by next leads.0 u.stands takes.leaves leads.1.binds met refl holds;
-      holds = holds;
-    }
+    came_on u acts leads takes.leaves (passing_is_not_peer_known c.new_cumulative_tsn c.streams acts passing)
+    (forward_shape (moved x u.out2 u.coming2) B a h c (forward_is_known k f u there) u.within_coming u.holds acts
+    passing leads.1.can (k, f, there, said) brings)
 
 -- SACK
 

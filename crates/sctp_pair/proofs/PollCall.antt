@@ -1,6 +1,6 @@
 -- A poll of one association for packets.
-use Rattle.std.proofs.Common.{◌≡◌, ◌<◌, refl, sym, ap, ◌∙◌, subst, ◌⊎◌, ⊎_elim, ℕ, Bool, true, false, if◌then◌else◌, List}
-use Rattle.std.proofs.Common.{[], ◌∷◌, ◌++◌, take, drop, inl, inr, Option, Some, None}
+use Rattle.std.proofs.Common.{◌≡◌, ◌<◌, refl, sym, ap, ◌∙◌, subst, ◌⊎◌, ⊎_elim, inl, inr, ℕ, Bool, true, false}
+use Rattle.std.proofs.Common.{if◌then◌else◌, List, [], ◌∷◌, ◌++◌, take, drop, Option, Some, None}
 use Rattle.std.specs.List.{AllByRecursion}
 use Rattle.std.proofs.lemmas.Bool.{cases_Bool, false≢true}
 use Rattle.std.proofs.lemmas.List.{append-nil, take-append-drop}
@@ -126,8 +126,9 @@ pub record Polled (x : Surroundings) (b : Shown) (packets : List (List ℕ)) : T
 -- A poll of an association gave these packets and left b.
 module _ {x : Surroundings} {a b : Shown} {packets : List (List ℕ)} (f : Faces x a) (same_status : IsSameStatus a b)
     (again : AreControlReadAgain a.control) where
-  -- In Established DATA goes out, a report where it is due, FORWARD TSN where it is given, and what waits. The direction
-  -- makes the FORWARD TSN before new DATA goes out, which says the same: only then few offsets are sure to be assigned.
+  -- In Established DATA goes out, a report where it is due, FORWARD TSN where it is given, and what waits. The
+  -- direction makes the FORWARD TSN before new DATA goes out, which says the same: only then few offsets are sure to be
+  -- assigned.
   open_polls : (acts : List Act) (forwards : Bool) (s : OpenAt x a) → is_established a.state ≡ true
       → IsPolling a forwards acts → Polls acts forwards a s.past b packets → Polled x b packets
   open_polls acts forwards s established polling poll =

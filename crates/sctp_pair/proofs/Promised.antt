@@ -70,16 +70,17 @@ ready_at None a s w there span within invariant fits =
 ready_at (Some t) a s w there span within invariant fits =
     the_same_streams_are_ready a s t w there span within invariant fits
 
--- what is released of a stream is what was accepted and isn't buffered, where the association can be asked for that
-released_if : (failed : Bool) (o : Option StreamView) (a : Sending) (s n : ℕ) (w : Direction)
-    → stream_at a.streams s ≡ o → w.over s ≡ false → FitsOutgoing a w
-    → (if failed then Err errors.ErrAssociationFailed else value_at (λ t. t.buffered) o) ≡ Ok n
-    → n + w.sender.released s ≡ accepted_bytes w.sender.plan s
-released_if true o a s n w there span fits e = absurd (true≢false (sym (ap is_ok e)))
-released_if false None a s n w there span fits e = absurd (true≢false (sym (ap is_ok e)))
-released_if false (Some t) a s n w there span fits e =
-    let same : t.buffered ≡ n = cc in
-    ap (λ z. z + w.sender.released s) (sym same) ∙ what_is_released_is_not_buffered a s t w there span fits
+-- A direction fits what its sender has; stream s is within its span.
+module _ (a : Sending) (s n : ℕ) (w : Direction) (span : w.over s ≡ false) (fits : FitsOutgoing a w) where
+  -- what is released of a stream is what was accepted and isn't buffered, where the association can be asked for that
+  released_if : (failed : Bool) (o : Option StreamView) → stream_at a.streams s ≡ o
+      → (if failed then Err errors.ErrAssociationFailed else value_at (λ t. t.buffered) o) ≡ Ok n
+      → n + w.sender.released s ≡ accepted_bytes w.sender.plan s
+  released_if true o there e = absurd (true≢false (sym (ap is_ok e)))
+  released_if false None there e = absurd (true≢false (sym (ap is_ok e)))
+  released_if false (Some t) there e =
+      let same : t.buffered ≡ n = cc in
+      ap (λ z. z + w.sender.released s) (sym same) ∙ what_is_released_is_not_buffered a s t w there span fits
 
 -- Where the sender and the receiver of a direction stand in it, and it is within the limits, the promise of it holds.
 module _ {loose loose_there : ℕ → Bool} {own peer : ℕ} {sender receiver : Shown} {w back : Direction}
@@ -95,8 +96,8 @@ module _ {loose loose_there : ℕ → Bool} {own peer : ℕ} {sender receiver : 
         h.between.incoming;
     released_is = λ o s n span e.
         let h = stands_open own peer sender w back o giving in
-        released_if sender.failed (stream_at sender.streams s) (sending (parts sender h.past)) s n w refl span
-        h.between.outgoing e;
+        released_if (sending (parts sender h.past)) s n w span h.between.outgoing sender.failed
+        (stream_at sender.streams s) refl e;
   }
 
 -- A world in which a pair stands is safe.

@@ -16,6 +16,7 @@ use Rattle.sctp_directions.specs.Acts.{sending}
 use Rattle.sctp_directions.specs.Events.{Brings, BringsForward, GivesAMessage, IsOfReceiving, IsPlainEvent}
 use Rattle.sctp_directions.proofs.Proved.{acts_keep_the_initial_tsns, closed_receivers_are_not_open}
 use Rattle.sctp_directions.proofs.Proved.{receivers_events_are_received}
+use Rattle.sctp_assoc.specs.Leads as assoc
 use Rattle.sctp_assoc.specs.Leads.{Leads, parts}
 use Rattle.sctp_assoc.specs.Calls.{is_established, open_refusal, opened}
 use Rattle.sctp_assoc.specs.Closing.{is_closed_state}
@@ -26,7 +27,7 @@ use Rattle.sctp_sides.proofs.Proved.{opened_streams_were_not_live}
 use Rattle.sctp_pair.specs.declared.step.Reply.{Reply}
 use Rattle.sctp_pair.specs.declared.step.Reply.TheVariants as replies
 use Rattle.sctp_pair.specs.Fits.{IsAt, StandsClosed, StandsFailed}
-use Rattle.sctp_pair.specs.Steps.{Buffers, Finds, Measures, Opens}
+use Rattle.sctp_pair.specs.Steps.{Buffers, Fails, Finds, HadFailed, Measures, Opens}
 use Rattle.sctp_pair.proofs.BetweenDirections.{ClosedAt, Faces, KeepsOrder, None_brought, OpenAt, SettlesQuietly}
 use Rattle.sctp_pair.proofs.BetweenDirections.{StandsAt, orderly_acts_keep_order}
 use Rattle.sctp_pair.proofs.BetweenDirections.{Surroundings, does_by_goes, goes_by_receiver, goes_nowhere, moved}
@@ -115,8 +116,15 @@ settles_by_receiver {x} e f at none brings passes plain now s =
 -- it.
 pub fails_settle : {x : Surroundings} {a b : Shown} → b.failed ≡ true → Faces x a → SettlesQuietly x b
 fails_settle {x} failed f =
-    settles_by_receiver Event.Close f tt (λ n. n) (λ o n. n) (λ o n. n) tt (λ working. absurd (true≢false (sym failed ∙ working)))
+    settles_by_receiver Event.Close f tt (λ n. n) (λ o n. n) (λ o n. n) tt
+    (λ working. absurd (true≢false (sym failed ∙ working)))
     (inr (inr record { failed = failed; stopped = closed_receivers_are_not_open x.coming }))
+
+-- a refused call: the association had failed before, or fails in it
+pub refused_call_settles : {x : Surroundings} {a b : Shown} {n : ℕ} {Due : Type 0}
+    → HadFailed a n b ⊎ (Due × Fails a n b) → Faces x a → SettlesQuietly x b
+refused_call_settles (inl had) f = same_settles had.2 f
+refused_call_settles (inr (due, fails)) f = fails_settle fails.2.marked f
 
 -- An open association goes on
 
@@ -191,6 +199,54 @@ by_working {x} {a} T working f opens closes = ⊎_elim
     (λ (s : StandsFailed a x.coming). absurd (true≢false (sym s.failed ∙ working)))
     r)
     f.stands
+
+-- Calls that the directions do not see
+
+-- where the streams are the same they hold nothing still
+pub empty_still : (a b : Shown) → b.streams ≡ a.streams → HoldsNothing a → HoldsNothing b
+empty_still a b e empty = subst (λ z. HoldsNothing (record b { streams = z })) (sym e) empty
+
+-- Acts lead from a to b, whose status is the same, and the directions fit what they did as they are.
+pub record IsUnseen (x : Surroundings) (a : Shown) (acts : List Act) (b : Shown) : Type 0 where
+  pub same : IsSameStatus a b
+  pub empty : HoldsNothing a → HoldsNothing b
+  pub leads : assoc.LeadsOn acts a b
+  pub nobody : AllByRecursion IsNotPeerKnown acts
+  pub orderly : AllByRecursion (KeepsOrder x.loose) acts
+  pub outgoing : (h : History) → FitsOutgoing (sending (parts a h)) x.out
+      → FitsOutgoing (sending (done_all acts (parts a h))) x.out
+  pub incoming : (h : History) → FitsIncoming (receiving (parts a h)) x.coming
+      → FitsIncoming (receiving (done_all acts (parts a h))) x.coming
+
+pub unseen_settles : {x : Surroundings} {a b : Shown} (acts : List Act) → IsUnseen x a acts b → a.failed ≡ false
+    → Faces x a → SettlesQuietly x b
+unseen_settles {x} {a} {b} acts u working f =
+    by_working (SettlesQuietly x b) working f
+    (λ s. let m = u.leads s.past s.binds in
+    still f (at_same a b x.here u.same f.at) (inl (open_on x acts s record {
+      past2 = m.0;
+      leads = m.1;
+      nobody = u.nobody;
+      orderly = u.orderly;
+      same = u.same;
+      size = refl;
+      outgoing = u.outgoing s.past s.between.outgoing;
+      incoming = u.incoming s.past s.between.incoming;
+    })))
+    (λ s. still f (at_same a b x.here u.same f.at) (inr (inl (closed_on u.same (u.empty s.nothing_left) s))))
+
+-- the same of a call without acts that leaves the streams as they are
+pub idle_settles : {x : Surroundings} {a b : Shown} → IsSameStatus a b × (b.streams ≡ a.streams) → assoc.LeadsOn [] a b
+    → a.failed ≡ false → Faces x a → SettlesQuietly x b
+idle_settles {x} {a} {b} stays leads working f = unseen_settles [] record {
+  same = stays.0;
+  empty = empty_still a b stays.1;
+  leads = leads;
+  nobody = tt;
+  orderly = tt;
+  outgoing = λ h fits. fits;
+  incoming = λ h fits. fits;
+} working f
 
 -- A stream is opened
 

@@ -30,11 +30,8 @@ use Rattle.sctp_pair.specs.declared.step.Reply.TheVariants as replies
 use Rattle.sctp_pair.specs.Steps.{AcceptsStream, ClosesOne, Limits, Lists, Sets, ShowsOrRefuses}
 use Rattle.sctp_pair.proofs.BetweenDirections.{KeepsOrder, orderly_acts_keep_order}
 use Rattle.sctp_pair.proofs.BetweenDirections.{Faces, SettlesQuietly, Surroundings}
-use Rattle.sctp_pair.proofs.QuietCalls.{by_working, closed_on, fails_settle, open_on, same_settles}
-use Rattle.sctp_pair.proofs.QuietCalls.{settles_by_receiver}
-use Rattle.sctp_pair.proofs.QuietCalls.{still}
-use Rattle.sctp_pair.proofs.TimedCalls.{empty_still}
-use Rattle.sctp_pair.proofs.HandshakeStages.{at_same}
+use Rattle.sctp_pair.proofs.QuietCalls.{by_working, idle_settles, refused_call_settles, same_settles}
+use Rattle.sctp_pair.proofs.QuietCalls.{settles_by_receiver, unseen_settles}
 
 -- Questions change nothing
 
@@ -54,25 +51,15 @@ shows_same a id answer r b (inr refused) = refused.3
 module _ (x : Surroundings) (a : Shown) (id : ℕ) (setting : Setting) (f : Faces x a) where
   adjusted_settles : KeepsOrder x.loose (Act.Adjusted id setting) → stream_refusal a id ≡ None
       → SettlesQuietly x (adjusted a id setting)
-  adjusted_settles orderly e =
-      let live = found_streams_are_live a id e in
-      let b : Shown = adjusted a id setting in
-      let same = settings_keep_the_status a id setting in
-      by_working (SettlesQuietly x b) live.working f
-      (λ s. let m = setting_leads_on a b id setting refl s.past s.binds in
-      still f (at_same a b x.here same f.at) (inl (open_on x (Act.Adjusted id setting ∷ []) s record {
-        past2 = m.0;
-        leads = m.1;
-        nobody = (tt, tt);
-        orderly = (orderly, tt);
-        same = same;
-        size = refl;
-        outgoing = settings_are_no_events (parts a s.past) id setting x.out s.between.outgoing;
-        incoming =
-            own_acts_leave_what_comes (Act.Adjusted id setting) (parts a s.past) x.coming tt s.between.incoming;
-      })))
-      (λ s. still f (at_same a b x.here same f.at)
-      (inr (inl (closed_on same (settings_hold_nothing a id setting s.nothing_left) s))))
+  adjusted_settles orderly e = unseen_settles (Act.Adjusted id setting ∷ []) record {
+    same = settings_keep_the_status a id setting;
+    empty = settings_hold_nothing a id setting;
+    leads = setting_leads_on a (adjusted a id setting) id setting refl;
+    nobody = (tt, tt);
+    orderly = (orderly, tt);
+    outgoing = λ h. settings_are_no_events (parts a h) id setting x.out;
+    incoming = λ h. own_acts_leave_what_comes (Act.Adjusted id setting) (parts a h) x.coming tt;
+  } (found_streams_are_live a id e).working f
 
 -- What is set on a live stream, but for its order and reliability, is nothing to the directions.
 pub sets_settle : {x : Surroundings} {a b : Shown} (id : ℕ) (setting : Setting) (r : Reply)
@@ -130,21 +117,9 @@ accepted_settles : {x : Surroundings} {a b : Shown} (id : Option ℕ) → a.fail
     → Faces x a → SettlesQuietly x b
 accepted_settles {x} {a} {b} id working e f =
     let is : (accepted_stream a).0 ≡ b = ap (λ (z : Shown × Option ℕ). z.0) e in
-    let stays = subst (λ z. IsSameStatus a z × (z.streams ≡ a.streams)) is (accepted_streams_keep_the_status a) in
-    by_working (SettlesQuietly x b) working f
-    (λ s. let m = accept_leads_on a b id e s.past s.binds in
-    still f (at_same a b x.here stays.0 f.at) (inl (open_on x [] s record {
-      past2 = m.0;
-      leads = m.1;
-      nobody = tt;
-      orderly = tt;
-      same = stays.0;
-      size = refl;
-      outgoing = s.between.outgoing;
-      incoming = s.between.incoming;
-    })))
-    (λ s. still f (at_same a b x.here stays.0 f.at)
-    (inr (inl (closed_on stays.0 (empty_still a b stays.1 s.nothing_left) s))))
+    idle_settles
+    (subst (λ z. IsSameStatus a z × (z.streams ≡ a.streams)) is (accepted_streams_keep_the_status a))
+    (accept_leads_on a b id e) working f
 
 accepted_if_failed : (a b : Shown) (id : Option ℕ) → a.failed ≡ true → accepted_stream a ≡ (b, id) → b ≡ a
 accepted_if_failed a b id failed e =
@@ -169,21 +144,9 @@ limit_if_failed a b size failed e =
 limit_settles : {x : Surroundings} {a b : Shown} (size : ℕ) → a.failed ≡ false
     → b ≡ with_max_send_message_size a size → Faces x a → SettlesQuietly x b
 limit_settles {x} {a} {b} size working e f =
-    let stays = subst (λ z. IsSameStatus a z × (z.streams ≡ a.streams)) (sym e) (limits_keep_the_status a size) in
-    by_working (SettlesQuietly x b) working f
-    (λ s. let m = limit_leads_on a b size e s.past s.binds in
-    still f (at_same a b x.here stays.0 f.at) (inl (open_on x [] s record {
-      past2 = m.0;
-      leads = m.1;
-      nobody = tt;
-      orderly = tt;
-      same = stays.0;
-      size = refl;
-      outgoing = s.between.outgoing;
-      incoming = s.between.incoming;
-    })))
-    (λ s. still f (at_same a b x.here stays.0 f.at)
-    (inr (inl (closed_on stays.0 (empty_still a b stays.1 s.nothing_left) s))))
+    idle_settles
+    (subst (λ z. IsSameStatus a z × (z.streams ≡ a.streams)) (sym e) (limits_keep_the_status a size))
+    (limit_leads_on a b size e) working f
 
 -- Writes take messages of up to so many bytes from now on.
 pub limits_settle : {x : Surroundings} {a b : Shown} (size : ℕ) (r : Reply) → Limits a size r b → Faces x a
@@ -224,6 +187,5 @@ module _ (x : Surroundings) (a : Shown) (f : Faces x a) where
 -- The application's close stops what comes where the association is open; where memory is refused it failed.
 pub closes_settle : {x : Surroundings} {a b : Shown} (r : Reply) → ClosesOne a r b → Faces x a → SettlesQuietly x b
 closes_settle {x} {a} replies.Done h f = subst (SettlesQuietly x) (sym h.1) (closed_settles x a f h.0)
-closes_settle (replies.Refused n) (inl had) f = same_settles had.2 f
-closes_settle (replies.Refused n) (inr (opened, fails)) f = fails_settle fails.2.marked f
+closes_settle (replies.Refused n) h f = refused_call_settles h f
 closes_settle r h f = absurd h

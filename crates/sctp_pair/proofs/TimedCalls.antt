@@ -12,7 +12,6 @@ use Rattle.sctp_assoc.specs.Calls.{event_polled}
 use Rattle.sctp_assoc.specs.Happened.{acts_of_timeouts}
 use Rattle.sctp_assoc.specs.Shown.{Shown}
 use Rattle.sctp_assoc.specs.Timeouts.{after_timeouts}
-use Rattle.sctp_sides.specs.SideLaws.{HoldsNothing}
 use Rattle.sctp_sides.proofs.Proved.{poll_leads_on, timeouts_lead_on, timeouts_mark_at_most, timers_keep_the_status}
 use Rattle.sctp_sides.proofs.Proved.{told_events_keep_the_status}
 use Rattle.sctp_pair.specs.declared.step.Reply.{Reply}
@@ -20,33 +19,15 @@ use Rattle.sctp_pair.specs.declared.step.Reply.TheVariants as replies
 use Rattle.sctp_pair.specs.Steps.{Expires, PollsEvent}
 use Rattle.sctp_pair.proofs.BetweenDirections.{orderly_acts_keep_order}
 use Rattle.sctp_pair.proofs.BetweenDirections.{Faces, KeepsOrder, SettlesQuietly, Surroundings}
-use Rattle.sctp_pair.proofs.QuietCalls.{by_working, closed_on, fails_settle, open_on, same_settles, still}
-use Rattle.sctp_pair.proofs.HandshakeStages.{at_same}
+use Rattle.sctp_pair.proofs.QuietCalls.{empty_still, idle_settles, refused_call_settles, same_settles}
+use Rattle.sctp_pair.proofs.QuietCalls.{unseen_settles}
 
 -- Events
-
--- where the streams are the same they hold nothing still
-pub empty_still : (a b : Shown) → b.streams ≡ a.streams → HoldsNothing a → HoldsNothing b
-empty_still a b e empty = subst (λ z. HoldsNothing (record b { streams = z })) (sym e) empty
 
 told_settles : {x : Surroundings} {a b : Shown} (event : Option Event) → a.failed ≡ false → event_polled a ≡ (b, event)
     → Faces x a → SettlesQuietly x b
 told_settles {x} {a} {b} event working e f =
-    let stays = told_events_keep_the_status a b event e in
-    by_working (SettlesQuietly x b) working f
-    (λ s. let m = poll_leads_on a b event e s.past s.binds in
-    still f (at_same a b x.here stays.0 f.at) (inl (open_on x [] s record {
-      past2 = m.0;
-      leads = m.1;
-      nobody = tt;
-      orderly = tt;
-      same = stays.0;
-      size = refl;
-      outgoing = s.between.outgoing;
-      incoming = s.between.incoming;
-    })))
-    (λ s. still f (at_same a b x.here stays.0 f.at)
-    (inr (inl (closed_on stays.0 (empty_still a b stays.1 s.nothing_left) s))))
+    idle_settles (told_events_keep_the_status a b event e) (poll_leads_on a b event e) working f
 
 -- The oldest event is told: the directions see nothing of it.
 pub tells_settle : {x : Surroundings} {a b : Shown} (r : Reply) → PollsEvent a r b → Faces x a → SettlesQuietly x b
@@ -84,29 +65,22 @@ timeouts_keep_order loose acts (inr marks) =
 expired_settles : {x : Surroundings} {a : Shown} (now : ℕ) → a.failed ≡ false → Faces x a
     → SettlesQuietly x (after_timeouts a now)
 expired_settles {x} {a} now working f =
-    let b : Shown = after_timeouts a now in
     let acts : List Act = acts_of_timeouts a now in
     let stays = timers_keep_the_status a now in
     let shape = timeouts_mark_at_most a now in
-    by_working (SettlesQuietly x b) working f
-    (λ s. let m = timeouts_lead_on a b now refl s.past s.binds in
-    still f (at_same a b x.here stays.0 f.at) (inl (open_on x acts s record {
-      past2 = m.0;
-      leads = m.1;
+    unseen_settles acts record {
+      same = stays.0;
+      empty = empty_still a (after_timeouts a now) stays.1;
+      leads = timeouts_lead_on a (after_timeouts a now) now refl;
       nobody = timeouts_are_not_peer_known acts shape;
       orderly = timeouts_keep_order x.loose acts shape;
-      same = stays.0;
-      size = refl;
-      outgoing = timeouts_out acts (parts a s.past) x.out shape s.between.outgoing;
-      incoming = timeouts_coming acts (parts a s.past) x.coming shape s.between.incoming;
-    })))
-    (λ s. still f (at_same a b x.here stays.0 f.at)
-    (inr (inl (closed_on stays.0 (empty_still a b stays.1 s.nothing_left) s))))
+      outgoing = λ h. timeouts_out acts (parts a h) x.out shape;
+      incoming = λ h. timeouts_coming acts (parts a h) x.coming shape;
+    } working f
 
 -- The timers are met as they are at a moment: at most, all that is outstanding is to go out again.
 pub expires_settle : {x : Surroundings} {a b : Shown} (now : ℕ) (r : Reply) → Expires a now r b → Faces x a
     → SettlesQuietly x b
 expires_settle {x} now replies.Done h f = subst (SettlesQuietly x) (sym h.1) (expired_settles now h.0 f)
-expires_settle now (replies.Refused n) (inl had) f = same_settles had.2 f
-expires_settle now (replies.Refused n) (inr (due, fails)) f = fails_settle fails.2.marked f
+expires_settle now (replies.Refused n) h f = refused_call_settles h f
 expires_settle now r h f = absurd h

@@ -73,30 +73,30 @@ told_if : (c : Bool) (ms : List Message) (w : WrittenMessage) → AreTold ms (w 
 told_if true ms w h = h
 told_if false ms w h = tt
 
-told_at : (side x : Side2) (id n s : ℕ) (named : Option PayloadProtocolIdentifier) (bytes : List ℕ) (w : World)
-    (q : Ends) → AtSide side w.ends (λ a b. Writes a id named bytes (replies.Wrote n) b) q
-    → AreTold (accepted_of (writes side id named bytes) (replies.Wrote n) x s w)
-    (message_accepted (writes side id named bytes) (replies.Wrote n) x s)
-told_at sides.A sides.A id n s named bytes w q h =
-    told_if (eqb id s) (messages_on (stream_at w.ends.a.streams id) named bytes)
-    (record { named = named; bytes = bytes }) (told_live w.ends.a q.a id n named bytes h.0)
-told_at sides.A sides.B id n s named bytes w q h = tt
-told_at sides.B sides.A id n s named bytes w q h = tt
-told_at sides.B sides.B id n s named bytes w q h =
-    told_if (eqb id s) (messages_on (stream_at w.ends.b.streams id) named bytes)
-    (record { named = named; bytes = bytes }) (told_live w.ends.b q.b id n named bytes h.0)
+-- A step of the pair of the world w leads to q; s is a stream.
+module _ (s : ℕ) (w : World) (q : Ends) where
+  told_at : (side x : Side2) (id n : ℕ) (named : Option PayloadProtocolIdentifier) (bytes : List ℕ)
+      → AtSide side w.ends (λ a b. Writes a id named bytes (replies.Wrote n) b) q
+      → AreTold (accepted_of (writes side id named bytes) (replies.Wrote n) x s w)
+      (message_accepted (writes side id named bytes) (replies.Wrote n) x s)
+  told_at sides.A sides.A id n named bytes h =
+      told_if (eqb id s) (messages_on (stream_at w.ends.a.streams id) named bytes)
+      (record { named = named; bytes = bytes }) (told_live w.ends.a q.a id n named bytes h.0)
+  told_at sides.A sides.B id n named bytes h = tt
+  told_at sides.B sides.A id n named bytes h = tt
+  told_at sides.B sides.B id n named bytes h =
+      told_if (eqb id s) (messages_on (stream_at w.ends.b.streams id) named bytes)
+      (record { named = named; bytes = bytes }) (told_live w.ends.b q.b id n named bytes h.0)
 
-pub told_accepted : (a : Step) (r : Reply) (x : Side2) (s : ℕ) (w : World) (q : Ends) → Steps a w.ends r q
-    → AreTold (accepted_at a r x s w) (message_accepted (writing_of a) r x s)
-told_accepted (steps.Write side id bytes) (replies.Wrote n) x s w q h = told_at side x id n s None bytes w q h
-told_accepted (steps.WriteWithPpi side id bytes kind) (replies.Wrote n) x s w q h =
-    told_at side x id n s (Some kind) bytes w q h
-told_accepted (steps.WriteSctp side id bytes kind) (replies.Wrote n) x s w q h =
-    told_at side x id n s (Some kind) bytes w q h
-told_accepted (steps.WriteChunk side id bytes) (replies.Wrote n) x s w q h = told_at side x id n s None bytes w q h
-told_accepted (steps.WriteChunks side id chunks) (replies.Wrote n) x s w q h =
-    told_at side x id n s None (first_filled chunks.items) w q h
-told_accepted a r x s w q h = tt
+  pub told_accepted : (a : Step) (r : Reply) (x : Side2) → Steps a w.ends r q
+      → AreTold (accepted_at a r x s w) (message_accepted (writing_of a) r x s)
+  told_accepted (steps.Write side id bytes) (replies.Wrote n) x h = told_at side x id n None bytes h
+  told_accepted (steps.WriteWithPpi side id bytes kind) (replies.Wrote n) x h = told_at side x id n (Some kind) bytes h
+  told_accepted (steps.WriteSctp side id bytes kind) (replies.Wrote n) x h = told_at side x id n (Some kind) bytes h
+  told_accepted (steps.WriteChunk side id bytes) (replies.Wrote n) x h = told_at side x id n None bytes h
+  told_accepted (steps.WriteChunks side id chunks) (replies.Wrote n) x h =
+      told_at side x id n None (first_filled chunks.items) h
+  told_accepted a r x h = tt
 
 -- What a read answers comes behind what was read before
 
