@@ -275,62 +275,53 @@ reported_parts a cumulative_tsn_ack blocks window now h within small =
     (outstanding_of a.sender.queue.in_flight)
     refl))
 
-sack_taken_leads : (a : Shown) (cumulative_tsn_ack : ℕ) (blocks : List GapAckBlock) (window now : ℕ) (h : History)
-    → Binds a h
-    → tsns_up_to a.sender cumulative_tsn_ack ≤ length a.sender.queue.in_flight
-    → Leads (Act.Acknowledged (tsns_up_to a.sender cumulative_tsn_ack) blocks
-    (reports_of a.sender cumulative_tsn_ack blocks) ∷ []) a h
-    (after_sack (counted_sack a) cumulative_tsn_ack blocks window now)
-    (record h { base = h.base + tsns_up_to a.sender cumulative_tsn_ack })
-sack_taken_leads a cumulative_tsn_ack blocks window now h binds within =
-    let n = tsns_up_to a.sender cumulative_tsn_ack in
-    let x = sack_taken cumulative_tsn_ack blocks window now a.sender a.estimate a.streams in
-    let k : History = record h { base = h.base + n } in
-    let small : a.sender.queue.first_tsn < 2 ^ 32 = rw binds.first (tsn_small h.own h.base) in
-    let same = acknowledged_parts (counted_sack a) (progress_of a.sender cumulative_tsn_ack blocks) now x k in
-    let all = reported_parts a cumulative_tsn_ack blocks window now h within small in
-    leads_by (Act.Acknowledged n blocks (reports_of a.sender cumulative_tsn_ack blocks) ∷ []) a
-    (after_sack (counted_sack a) cumulative_tsn_ack blocks window now) h binds
-    (within, tt) (same ∙ sym all)
-    (ap past_of (acknowledged_receiver (counted_sack a) (progress_of a.sender cumulative_tsn_ack blocks) now x))
-    (record { peer = refl; taken = refl; passed = refl })
+-- where a SACK leads
+module _ (a : Shown) (cumulative_tsn_ack : ℕ) (blocks : List GapAckBlock) (window : ℕ) (trigger : AckTrigger)
+    (now : ℕ) (h : History) (binds : Binds a h)
   where
-    tsn_small : (own base : ℕ) → tsn own base < 2 ^ 32
-    tsn_small own base = omega arith
+    sack_taken_leads : tsns_up_to a.sender cumulative_tsn_ack ≤ length a.sender.queue.in_flight
+        → Leads (Act.Acknowledged (tsns_up_to a.sender cumulative_tsn_ack) blocks
+        (reports_of a.sender cumulative_tsn_ack blocks) ∷ []) a h
+        (after_sack (counted_sack a) cumulative_tsn_ack blocks window now)
+        (record h { base = h.base + tsns_up_to a.sender cumulative_tsn_ack })
+    sack_taken_leads within =
+        let n = tsns_up_to a.sender cumulative_tsn_ack in
+        let x = sack_taken cumulative_tsn_ack blocks window now a.sender a.estimate a.streams in
+        let k : History = record h { base = h.base + n } in
+        let small : a.sender.queue.first_tsn < 2 ^ 32 = rw binds.first (tsn_small h.own h.base) in
+        let same = acknowledged_parts (counted_sack a) (progress_of a.sender cumulative_tsn_ack blocks) now x k in
+        let all = reported_parts a cumulative_tsn_ack blocks window now h within small in
+        leads_by (Act.Acknowledged n blocks (reports_of a.sender cumulative_tsn_ack blocks) ∷ []) a
+        (after_sack (counted_sack a) cumulative_tsn_ack blocks window now) h binds
+        (within, tt) (same ∙ sym all)
+        (ap past_of (acknowledged_receiver (counted_sack a) (progress_of a.sender cumulative_tsn_ack blocks) now x))
+        (record { peer = refl; taken = refl; passed = refl })
+      where
+        tsn_small : (own base : ℕ) → tsn own base < 2 ^ 32
+        tsn_small own base = omega arith
 
-outcome_leads : (o : SackOutcome) (a : Shown) (cumulative_tsn_ack : ℕ) (blocks : List GapAckBlock) (window : ℕ)
-    (trigger : AckTrigger) (now : ℕ) (h : History)
-    → sack_outcome a.sender cumulative_tsn_ack blocks ≡ o → Binds a h
-    → (k : History)
-    × Leads (acts_of_outcome o (tsns_up_to a.sender cumulative_tsn_ack) blocks
-    (reports_of a.sender cumulative_tsn_ack blocks)) a h
-    (on_counted_sack o (counted_sack a) cumulative_tsn_ack blocks window trigger now).0 k
-outcome_leads outcomes.Older a cumulative_tsn_ack blocks window trigger now h e binds =
-    (h, leads_nowhere a (counted_sack a) h binds refl refl)
-outcome_leads outcomes.NotInFlight a cumulative_tsn_ack blocks window trigger now h e binds =
-    (h, leads_nowhere a (counted_sack a) h binds refl refl)
-outcome_leads outcomes.NamesTheUnsent a cumulative_tsn_ack blocks window trigger now h e binds =
-    (h, leads_nowhere a (counted_sack a) h binds refl refl)
-outcome_leads outcomes.Taken a cumulative_tsn_ack blocks window trigger now h e binds = (
-  _,
-  sack_taken_leads a cumulative_tsn_ack blocks window now h binds
-      (taken_within (tsn_gt (cumulative_tsn_ack_point_of a.sender) cumulative_tsn_ack)
-      (nat_lt (length a.sender.queue.in_flight) (tsns_up_to a.sender cumulative_tsn_ack)) a.sender cumulative_tsn_ack
-      blocks refl refl e),
-)
+    outcome_leads : (o : SackOutcome) → sack_outcome a.sender cumulative_tsn_ack blocks ≡ o
+        → (k : History)
+        × Leads (acts_of_outcome o (tsns_up_to a.sender cumulative_tsn_ack) blocks
+        (reports_of a.sender cumulative_tsn_ack blocks)) a h
+        (on_counted_sack o (counted_sack a) cumulative_tsn_ack blocks window trigger now).0 k
+    outcome_leads outcomes.Older e = (h, leads_nowhere a (counted_sack a) h binds refl refl)
+    outcome_leads outcomes.NotInFlight e = (h, leads_nowhere a (counted_sack a) h binds refl refl)
+    outcome_leads outcomes.NamesTheUnsent e = (h, leads_nowhere a (counted_sack a) h binds refl refl)
+    outcome_leads outcomes.Taken e = (
+      _,
+      sack_taken_leads
+          (taken_within (tsn_gt (cumulative_tsn_ack_point_of a.sender) cumulative_tsn_ack)
+          (nat_lt (length a.sender.queue.in_flight) (tsns_up_to a.sender cumulative_tsn_ack)) a.sender
+          cumulative_tsn_ack blocks refl refl e),
+    )
 
-sack_leads : (c : Bool) (a : Shown) (cumulative_tsn_ack : ℕ) (blocks : List GapAckBlock) (window : ℕ)
-    (trigger : AckTrigger)
-    (now : ℕ) (h : History)
-    → is_established a.state ≡ c → Binds a h
-    → (k : History) × Leads (acts_of_sack a cumulative_tsn_ack blocks) a h
-    (on_sack a cumulative_tsn_ack blocks window trigger now).0 k
-unfolding on_sack
-sack_leads false a cumulative_tsn_ack blocks window trigger now h e binds =
-    rw e (h, leads_nowhere a a h binds refl refl)
-sack_leads true a cumulative_tsn_ack blocks window trigger now h e binds =
-    rw e (outcome_leads (sack_outcome a.sender cumulative_tsn_ack blocks) a cumulative_tsn_ack blocks window trigger now
-    h refl binds)
+    sack_leads : (c : Bool) → is_established a.state ≡ c
+        → (k : History) × Leads (acts_of_sack a cumulative_tsn_ack blocks) a h
+        (on_sack a cumulative_tsn_ack blocks window trigger now).0 k
+    unfolding on_sack
+    sack_leads false e = rw e (h, leads_nowhere a a h binds refl refl)
+    sack_leads true e = rw e (outcome_leads (sack_outcome a.sender cumulative_tsn_ack blocks) refl)
 
 -- the handshake
 
@@ -421,8 +412,8 @@ module _ (a : Shown) (trigger : AckTrigger) (h : History) (binds : Binds a h) wh
   kind_leads header (chunks.Data piece) now =
       next_leads (is_new_to a.receiver piece.tsn) a piece trigger h refl binds
   kind_leads header (chunks.SelectiveAck sack) now =
-      sack_leads (is_established a.state) a sack.cumulative_tsn_ack sack.gap_ack_blocks
-      sack.advertised_receiver_window_credit trigger now h refl binds
+      sack_leads a sack.cumulative_tsn_ack sack.gap_ack_blocks sack.advertised_receiver_window_credit trigger now h
+      binds (is_established a.state) refl
   kind_leads header (chunks.Init init) now = init_leads (is_beginning a.state) header init refl
   kind_leads header (chunks.InitAck init) now =
       init_ack_leads (is_cookie_wait a.state) (comes_back a.handshake header) header init now refl refl

@@ -127,23 +127,24 @@ spent_by_tests true false true room left e = absurd (false≢true e)
 spent_by_tests true false false room left e = absurd (false≢true e)
 spent_by_tests false s f room left e = absurd (false≢true e)
 
-comes_if : (k : Retransmission) (j room i : ℕ) (p : InFlight) (ps : List InFlight) (r : Reached)
-    → reached_at k room p ≡ r → ((left : ℕ) → spent_index k (j + 1) left ps ≡ Some i → Comes k (j + 1) ps i)
-    → spent_from r j (λ left. spent_index k (j + 1) left ps) ≡ Some i → Comes k j (p ∷ ps) i
-comes_if k j room i p ps (reached.On left) e rest at = comes_later k j i p ps (rest left at)
-comes_if k j room i p ps reached.Spent e rest at =
-    let tests = spent_by_tests (picks k p) (is_spent p) (nat_lt room (room_taken k p)) room (room - room_taken k p)
-    (ap is_reached_spent e) in
-    let same = same_number j i at in
-    record {
-      past = 0;
-      piece = p;
-      sum = omega (arith, same);
-      there = refl;
-      picked = tests.0;
-      spent = tests.1;
-    }
-comes_if k j room i p ps reached.Full e rest at = absurd (none_is_some i at)
+module _ (k : Retransmission) (j room i : ℕ) (p : InFlight) (ps : List InFlight) where
+  comes_if : (r : Reached) → reached_at k room p ≡ r
+      → ((left : ℕ) → spent_index k (j + 1) left ps ≡ Some i → Comes k (j + 1) ps i)
+      → spent_from r j (λ left. spent_index k (j + 1) left ps) ≡ Some i → Comes k j (p ∷ ps) i
+  comes_if (reached.On left) e rest at = comes_later k j i p ps (rest left at)
+  comes_if reached.Spent e rest at =
+      let tests = spent_by_tests (picks k p) (is_spent p) (nat_lt room (room_taken k p)) room (room - room_taken k p)
+      (ap is_reached_spent e) in
+      let same = same_number j i at in
+      record {
+        past = 0;
+        piece = p;
+        sum = omega (arith, same);
+        there = refl;
+        picked = tests.0;
+        spent = tests.1;
+      }
+  comes_if reached.Full e rest at = absurd (none_is_some i at)
 
 comes : (k : Retransmission) (j room i : ℕ) (ps : List InFlight) → spent_index k j room ps ≡ Some i → Comes k j ps i
 comes k j room i [] at = absurd (none_is_some i at)

@@ -34,25 +34,26 @@ unfolding with_skip
 skips_are [] a = refl
 skips_are (e ∷ es) a = skips_are es (with_skip e.stream_identifier e.stream_sequence_number a)
 
-passed_leads : (a b : Shown) (t : ℕ) (es : List SkippedStream) (h : History) → Binds a h → is_ahead a t ≡ true
-    → b.receiver ≡ a.receiver → b.sender ≡ a.sender → b.streams ≡ skipped_each es a.streams
-    → Leads (Act.PassedOver t es ∷ []) a h (with_passed b t) (passed_on h (offset_in h t))
-passed_leads a b t es h binds ahead receiver sender streams =
-    let k : History = passed_on h (offset_in h t) in
-    let n : StreamMap = passed_in b.streams t in record {
-      can = (lies_ahead h a.streams a.receiver t binds.peer_last_tsn binds.held ahead, tt);
-      there = rw (sender, streams) refl;
-      binds = record {
-        first = ap (λ (s : Sender). s.queue.first_tsn) sender ∙ binds.first;
-        peer_last_tsn =
-            ap (λ (r : Receiver). (passed_to r t).peer_last_tsn) receiver
-            ∙ last_tsn_passes h a.streams a.receiver t binds.peer_last_tsn binds.held ahead n;
-        held =
-            subst (λ (r : Receiver). HoldsPast (came_on k n) (passed_to r t).held) (sym receiver)
-            (held_passes h a.streams a.receiver t binds.peer_last_tsn binds.held ahead n);
-        marked = subst (λ (s : Sender). AreMarkedRight s.queue.in_flight) (sym sender) binds.marked;
-      };
-    }
+module _ (a : Shown) (t : ℕ) (es : List SkippedStream) (h : History) (binds : Binds a h) (ahead : is_ahead a t ≡ true)
+  where
+    passed_leads : (b : Shown) → b.receiver ≡ a.receiver → b.sender ≡ a.sender → b.streams ≡ skipped_each es a.streams
+        → Leads (Act.PassedOver t es ∷ []) a h (with_passed b t) (passed_on h (offset_in h t))
+    passed_leads b receiver sender streams =
+        let k : History = passed_on h (offset_in h t) in
+        let n : StreamMap = passed_in b.streams t in record {
+          can = (lies_ahead h a.streams a.receiver t binds.peer_last_tsn binds.held ahead, tt);
+          there = rw (sender, streams) refl;
+          binds = record {
+            first = ap (λ (s : Sender). s.queue.first_tsn) sender ∙ binds.first;
+            peer_last_tsn =
+                ap (λ (r : Receiver). (passed_to r t).peer_last_tsn) receiver
+                ∙ last_tsn_passes h a.streams a.receiver t binds.peer_last_tsn binds.held ahead n;
+            held =
+                subst (λ (r : Receiver). HoldsPast (came_on k n) (passed_to r t).held) (sym receiver)
+                (held_passes h a.streams a.receiver t binds.peer_last_tsn binds.held ahead n);
+            marked = subst (λ (s : Sender). AreMarkedRight s.queue.in_flight) (sym sender) binds.marked;
+          };
+        }
 
 asks_keeps_if : (e : Bool) (a : Shown) (f g : Flow) → (if◌then◌else◌ {A = Shown × Flow} e (a, f) (a, g)).0 ≡ a
 asks_keeps_if true a f g = refl
@@ -89,7 +90,7 @@ standing_leads standings.Ahead a t es trigger now h e binds =
       passed_on h (offset_in h t),
       subst (λ (z : Shown). Leads (Act.PassedOver t es ∷ []) a h z (passed_on h (offset_in h t)))
           (sym (asks_behind_keeps (with_passed b t) trigger))
-          (passed_leads a b t es h binds ahead (ap (λ (z : Shown). z.receiver) are) (ap (λ (z : Shown). z.sender) are)
+          (passed_leads a t es h binds ahead b (ap (λ (z : Shown). z.receiver) are) (ap (λ (z : Shown). z.sender) are)
           (ap (λ (z : Shown). z.streams) are)),
     )
 

@@ -153,12 +153,12 @@ acked_of (b, bundles) xs a h given same binds gives =
     leads_on xs (acts_of_ack a) mid ack
 
 -- FORWARD TSN behind other packets
-after_forward : (first : List (List ℕ)) (y : Shown × List (List ℕ))
+pub after_forward : (first : List (List ℕ)) (y : Shown × List (List ℕ))
     → forward_after (after_both first y) ≡ after_both (first ++ y.1) (forward_polled y.0)
 after_forward first (c, more) = refl
 
 -- the packets of DATA, of the acknowledgement and of FORWARD TSN
-packets_said : (x : Shown × List (List ChunkPayloadData)) (a : Shown) → IsSentBeside a x.0
+pub packets_said : (x : Shown × List (List ChunkPayloadData)) (a : Shown) → IsSentBeside a x.0
     → (forward_after (ack_after x)).1
     ≡ datagrams_of (header_of a.handshake) x.1 ++ acks_given a
     ++ (if gives_forward x.0.sender then packet_bytes (header_of a.handshake) (forward_chunk x.0) else [])
@@ -177,7 +177,7 @@ packets_said (b, bundles) a same =
     ∙ ap (λ (k : Handshake). datagrams_of (header_of k) bundles ++ acks_given a ++ (if gives_forward b.sender then
     packet_bytes (header_of a.handshake) (forward_chunk b) else [])) same.handshake
 
-after_is : (x : Shown × List (List ChunkPayloadData))
+pub after_is : (x : Shown × List (List ChunkPayloadData))
     → (forward_after (ack_after x)).0 ≡ (forward_polled (ack_polled x.0).0).0
 after_is (b, bundles) =
     ap (λ (z : Shown × List (List ℕ)). z.0)

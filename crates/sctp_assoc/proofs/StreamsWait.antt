@@ -25,26 +25,26 @@ abbrev all_bytes : ℕ → List (ℕ × StreamView) → ℕ
 all_bytes sum es = fold with_bytes sum (map (λ e. e.1) es)
 
 -- another view of a stream, with the same pieces
-set_if : (c : Bool) (test : ℕ → Bool) (e : ℕ × StreamView) (es : List (ℕ × StreamView)) (s t : StreamView) (sum : ℕ)
-    → (if c then Some e.1 else lookup test es) ≡ Some s → t.reassembly ≡ s.reassembly
-    → ((more : ℕ) → lookup test es ≡ Some s → all_bytes more (set_value test es t) ≡ all_bytes more es)
-    → all_bytes sum (if c then (e.0, t) ∷ es else e ∷ set_value test es t) ≡ all_bytes sum (e ∷ es)
-set_if true test e es s t sum there same rest =
-    let is : e.1 ≡ s = cc in
-    ap (λ (r : reassembly.Reassembly). all_bytes (min (sum + reassembly.bytes_waiting r) (2 ^ 64 - 1)) es)
-    (same ∙ ap (λ (z : StreamView). z.reassembly) (sym is))
-set_if false test e es s t sum there same rest = rest (with_bytes sum e.1) there
+module _ (test : ℕ → Bool) (s t : StreamView) (same : t.reassembly ≡ s.reassembly) where
+  set_if : (c : Bool) (e : ℕ × StreamView) (es : List (ℕ × StreamView)) (sum : ℕ)
+      → (if c then Some e.1 else lookup test es) ≡ Some s
+      → ((more : ℕ) → lookup test es ≡ Some s → all_bytes more (set_value test es t) ≡ all_bytes more es)
+      → all_bytes sum (if c then (e.0, t) ∷ es else e ∷ set_value test es t) ≡ all_bytes sum (e ∷ es)
+  set_if true e es sum there rest =
+      let is : e.1 ≡ s = cc in
+      ap (λ (r : reassembly.Reassembly). all_bytes (min (sum + reassembly.bytes_waiting r) (2 ^ 64 - 1)) es)
+      (same ∙ ap (λ (z : StreamView). z.reassembly) (sym is))
+  set_if false e es sum there rest = rest (with_bytes sum e.1) there
 
-set_same : (test : ℕ → Bool) (es : List (ℕ × StreamView)) (s t : StreamView) (sum : ℕ) → lookup test es ≡ Some s
-    → t.reassembly ≡ s.reassembly → all_bytes sum (set_value test es t) ≡ all_bytes sum es
-set_same test [] s t sum there same = refl
-set_same test (e ∷ es) s t sum there same =
-    set_if (test e.0) test e es s t sum there same (λ more found. set_same test es s t more found same)
+  set_same : (es : List (ℕ × StreamView)) (sum : ℕ) → lookup test es ≡ Some s
+      → all_bytes sum (set_value test es t) ≡ all_bytes sum es
+  set_same [] sum there = refl
+  set_same (e ∷ es) sum there = set_if (test e.0) e es sum there (λ more found. set_same es more found)
 
 changed_same : (f : StreamView → StreamView) (o : Option StreamView) (m : StreamMap) (id : ℕ) → stream_at m id ≡ o
     → ((s : StreamView) → (f s).reassembly ≡ s.reassembly) → bytes_waiting (change_at f o m id) ≡ bytes_waiting m
 changed_same f None m id e same = refl
-changed_same f (Some s) m id e same = set_same (is_at (nat_cmp id)) m.by_id s (f s) 0 e (same s)
+changed_same f (Some s) m id e same = set_same (is_at (nat_cmp id)) s (f s) (same s) m.by_id 0 e
 
 -- where the generation is live
 live_if : (c : Bool) (f : StreamView → StreamView) (m : StreamMap) (id : ℕ)

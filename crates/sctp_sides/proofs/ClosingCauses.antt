@@ -158,6 +158,21 @@ record CauseAmong (header : CommonHeader) (cs : List Chunk) (a : Shown) (trigger
 
 -- The first of these chunks is a cause, or leads to the others.
 module _ (header : CommonHeader) (c : Chunk) (cs : List Chunk) (a : Shown) (trigger : AckTrigger) (now : ℕ) where
+  first_is : (b : Shown) (h : History) → Binds a h → b.state ≡ a.state → not (is_closed_state b.state) ≡ true
+      → ((k : History) → Binds a k → IsCause a k header c) → CauseAmong header (c ∷ cs) a trigger now
+  first_is b h binds same n is_one = record {
+    index = 0;
+    chunk = c;
+    reached = a;
+    there = refl;
+    reaches = refl;
+    still_open =
+        λ closed. false≢true (sym (ap (λ (s : AssociationState). not (is_closed_state s)) (same ∙ closed)) ∙ n);
+    stands = h;
+    binds = binds;
+    is_cause = is_one;
+  }
+
   cause_here : (b : Shown) (h : History) (error : Error) → Binds a h
       → on_chunk a header c trigger now ≡ (b, flows.Fault error) → not (is_closed_state b.state) ≡ true
       → CauseAmong header (c ∷ cs) a trigger now
@@ -166,18 +181,7 @@ module _ (header : CommonHeader) (c : Chunk) (cs : List Chunk) (a : Shown) (trig
       let same : b.state ≡ a.state =
       sym (ap (λ (x : Shown × Flow). x.0.state) e)
       ∙ fault_leaves_state header c a trigger now error (ap fault_of fault) in
-      record {
-        index = 0;
-        chunk = c;
-        reached = a;
-        there = refl;
-        reaches = refl;
-        still_open =
-            λ closed. false≢true (sym (ap (λ (s : AssociationState). not (is_closed_state s)) (same ∙ closed)) ∙ n);
-        stands = h;
-        binds = binds;
-        is_cause = λ k stands. (faults_are_causes a k header c trigger now stands).0 (inl (error, fault));
-      }
+      first_is b h binds same n (λ k stands. (faults_are_causes a k header c trigger now stands).0 (inl (error, fault)))
 
   exhaustion_here : (b : Shown) (h : History) → Binds a h
       → on_chunk a header c trigger now ≡ (b, flows.Exhausted) → not (is_closed_state b.state) ≡ true
@@ -187,18 +191,7 @@ module _ (header : CommonHeader) (c : Chunk) (cs : List Chunk) (a : Shown) (trig
       let same : b.state ≡ a.state =
       sym (ap (λ (x : Shown × Flow). x.0.state) e)
       ∙ exhaustion_leaves_state header c a trigger now (ap exhausts_of exhausted) in
-      record {
-        index = 0;
-        chunk = c;
-        reached = a;
-        there = refl;
-        reaches = refl;
-        still_open =
-            λ closed. false≢true (sym (ap (λ (s : AssociationState). not (is_closed_state s)) (same ∙ closed)) ∙ n);
-        stands = h;
-        binds = binds;
-        is_cause = λ k stands. (faults_are_causes a k header c trigger now stands).0 (inr exhausted);
-      }
+      first_is b h binds same n (λ k stands. (faults_are_causes a k header c trigger now stands).0 (inr exhausted))
 
   cause_on : (b : Shown) (next : AckTrigger) → on_chunk a header c trigger now ≡ (b, flows.Next next)
       → CauseAmong header cs b next now → CauseAmong header (c ∷ cs) a trigger now

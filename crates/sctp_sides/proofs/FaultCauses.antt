@@ -547,25 +547,27 @@ cause_kind header (chunks.Abort x) a h trigger now binds cause = inl (errors.Err
 cause_kind header (chunks.Error x) a h trigger now binds cause = inl (errors.ErrAbortChunk, refl)
 cause_kind header c a h trigger now binds cause = inl (errors.ErrChunkTypeUnhandled, refl)
 
-fault_cause : (r : Result (Unit {0}) Error) (header : CommonHeader) (c : Chunk) (a : Shown) (h : History)
-    (trigger : AckTrigger) (now : ℕ) → checked_chunk c ≡ r → Binds a h
-    → IsFault (checked_first r a header c trigger now) → IsCause a h header c
-fault_cause (Err error) header c a h trigger now e binds f = inl (error, e)
-fault_cause (Ok done) header c a h trigger now e binds (inl (error, f)) =
-    inr (kind_cause header c a h trigger now error binds (ap fault_of f))
-fault_cause (Ok done) header c a h trigger now e binds (inr f) =
-    inr (kind_exhausts header c a h trigger now binds (ap exhausts_of f))
+-- of a chunk that its own check refuses, or accepts
+module _ (header : CommonHeader) (c : Chunk) (a : Shown) (h : History) (trigger : AckTrigger) (now : ℕ)
+    (binds : Binds a h)
+  where
+    fault_cause : (r : Result (Unit {0}) Error) → checked_chunk c ≡ r
+        → IsFault (checked_first r a header c trigger now) → IsCause a h header c
+    fault_cause (Err error) e f = inl (error, e)
+    fault_cause (Ok done) e (inl (error, f)) =
+        inr (kind_cause header c a h trigger now error binds (ap fault_of f))
+    fault_cause (Ok done) e (inr f) =
+        inr (kind_exhausts header c a h trigger now binds (ap exhausts_of f))
 
-cause_fault : (r : Result (Unit {0}) Error) (header : CommonHeader) (c : Chunk) (a : Shown) (h : History)
-    (trigger : AckTrigger) (now : ℕ) → checked_chunk c ≡ r → Binds a h
-    → IsCause a h header c → IsFault (checked_first r a header c trigger now)
-cause_fault (Err error) header c a h trigger now e binds cause = inl (error, refl)
-cause_fault (Ok done) header c a h trigger now e binds (inl (error, f)) = absurd (false≢true (ap is_ok (sym f ∙ e)))
-cause_fault (Ok done) header c a h trigger now e binds (inr kind) = cause_kind header c a h trigger now binds kind
+    cause_fault : (r : Result (Unit {0}) Error) → checked_chunk c ≡ r
+        → IsCause a h header c → IsFault (checked_first r a header c trigger now)
+    cause_fault (Err error) e cause = inl (error, refl)
+    cause_fault (Ok done) e (inl (error, f)) = absurd (false≢true (ap is_ok (sym f ∙ e)))
+    cause_fault (Ok done) e (inr kind) = cause_kind header c a h trigger now binds kind
 
 pub faults_are_causes : FaultsAreCauses
 unfolding on_chunk
 faults_are_causes a h header c trigger now binds = (
-  fault_cause (checked_chunk c) header c a h trigger now refl binds,
-  cause_fault (checked_chunk c) header c a h trigger now refl binds,
+  fault_cause header c a h trigger now binds (checked_chunk c) refl,
+  cause_fault header c a h trigger now binds (checked_chunk c) refl,
 )

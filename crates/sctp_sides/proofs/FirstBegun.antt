@@ -301,19 +301,19 @@ before_flagged m id (x ∷ xs) other (e, es) =
     (before_flagged_if (is_of id x) m id x _ other refl refl e, before_flagged m id xs other es)
 
 -- a message is abandoned, and what waits of it too
-abandoned_if : (c : Bool) (m : Waiting) (ms : List Waiting) (q : Outbound) (id n k : ℕ)
-    → eqb m.message.message_id id ≡ c → q.pending ≡ m ∷ ms → IsFirstBegun (m ∷ ms) q.in_flight q.next_message_id
-    → IsOrderly (all_flagged id (if◌then◌else◌ {A = Outbound × ℕ} c
-    (record q { pending = ms; in_flight = q.in_flight ++ marker_of m.message ∷ [] }, n) (q, k)).0)
-abandoned_if true m ms q id n k own e (before, rest) =
-    handed_on (suc m.message.message_id) ms (map (flagged id) (q.in_flight ++ marker_of m.message ∷ []))
-    q.next_message_id rest
-    (below_flagged (suc m.message.message_id) id (q.in_flight ++ marker_of m.message ∷ [])
-    (all_push (IsBelow (suc m.message.message_id)) q.in_flight (marker_of m.message) (all_up_to m q.in_flight before)
-    (omega arith)))
-abandoned_if false m ms q id n k own e (before, rest) =
-    subst (λ (z : List Waiting). IsFirstBegun z (map (flagged id) q.in_flight) q.next_message_id) (sym e)
-    (before_flagged m id q.in_flight own before, rest)
+module _ (m : Waiting) (ms : List Waiting) (q : Outbound) (id n k : ℕ) (e : q.pending ≡ m ∷ ms) where
+  abandoned_if : (c : Bool) → eqb m.message.message_id id ≡ c → IsFirstBegun (m ∷ ms) q.in_flight q.next_message_id
+      → IsOrderly (all_flagged id (if◌then◌else◌ {A = Outbound × ℕ} c
+      (record q { pending = ms; in_flight = q.in_flight ++ marker_of m.message ∷ [] }, n) (q, k)).0)
+  abandoned_if true own (before, rest) =
+      handed_on (suc m.message.message_id) ms (map (flagged id) (q.in_flight ++ marker_of m.message ∷ []))
+      q.next_message_id rest
+      (below_flagged (suc m.message.message_id) id (q.in_flight ++ marker_of m.message ∷ [])
+      (all_push (IsBelow (suc m.message.message_id)) q.in_flight (marker_of m.message) (all_up_to m q.in_flight before)
+      (omega arith)))
+  abandoned_if false own (before, rest) =
+      subst (λ (z : List Waiting). IsFirstBegun z (map (flagged id) q.in_flight) q.next_message_id) (sym e)
+      (before_flagged m id q.in_flight own before, rest)
 
 abandoned_orderly : (ms : List Waiting) (q : Outbound) (id : ℕ) → q.pending ≡ ms → IsOrderly q
     → IsOrderly (all_flagged id (tail_dropped_from ms q id).0)
@@ -322,7 +322,7 @@ abandoned_orderly [] q id e h =
     subst (λ (z : List Waiting). IsFirstBegun z (map (flagged id) q.in_flight) q.next_message_id) (sym e)
     (below_flagged q.next_message_id id q.in_flight own.0, tt)
 abandoned_orderly (m ∷ ms) q id e h =
-    abandoned_if (m.message.message_id == id) m ms q id _ _ refl e
+    abandoned_if m ms q id _ _ e (m.message.message_id == id) refl
     (subst (λ (z : List Waiting). IsFirstBegun z q.in_flight q.next_message_id) e h)
 
 given_up_orderly : (o : Option InFlight) (p : Parts) → IsOrderly p.queue → IsOrderly (with_abandoned o p).queue

@@ -71,20 +71,21 @@ call_orderly call a b h k acts d s = by_cases d.does
     by_cases (inr (inl u, e, l)) = inr (same_orderly a b h k u.same l s)
     by_cases (inr (inr f, e, l)) = inl f.failed.marked
 
--- it goes on from a call that did not fail, since one that failed stays so
-goes_on : (calls : List Call) (c b : Shown) (l k : History) (later : List Act) → DoInOrder calls c l later b k
-    → b.failed ≡ false → (StandsOrderly c l → StandsOrderly b k) → (c.failed ≡ true) ⊎ StandsOrderly c l
-    → StandsOrderly b k
-goes_on calls c b l k later more works on (inl failed) =
-    absurd (false≢true (sym works ∙ failed_for_good calls c b l k later more failed))
-goes_on calls c b l k later more works on (inr s) = on s
+module _ (b : Shown) (k : History) (works : b.failed ≡ false) where
+  -- it goes on from a call that did not fail, since one that failed stays so
+  goes_on : (calls : List Call) (c : Shown) (l : History) (later : List Act) → DoInOrder calls c l later b k
+      → (StandsOrderly c l → StandsOrderly b k) → (c.failed ≡ true) ⊎ StandsOrderly c l
+      → StandsOrderly b k
+  goes_on calls c l later more on (inl failed) =
+      absurd (false≢true (sym works ∙ failed_for_good calls c b l k later more failed))
+  goes_on calls c l later more on (inr s) = on s
 
-run_orderly : (calls : List Call) (a b : Shown) (h k : History) (acts : List Act) → DoInOrder calls a h acts b k
-    → b.failed ≡ false → StandsOrderly a h → StandsOrderly b k
-run_orderly [] a b h k acts (none, same, past) works s = same_orderly a b h k same past s
-run_orderly (call ∷ calls) a b h k acts (c, l, first, later, e, d, more) works s =
-    goes_on calls c b l k later more works (run_orderly calls c b l k later more works)
-    (call_orderly call a c h l first d s)
+  run_orderly : (calls : List Call) (a : Shown) (h : History) (acts : List Act) → DoInOrder calls a h acts b k
+      → StandsOrderly a h → StandsOrderly b k
+  run_orderly [] a h acts (none, same, past) s = same_orderly a b h k same past s
+  run_orderly (call ∷ calls) a h acts (c, l, first, later, e, d, more) s =
+      goes_on calls c l later more (run_orderly calls c l later more)
+      (call_orderly call a c h l first d s)
 
 -- where there is nothing to send, nothing is out of order
 begins_orderly : (a : Shown) → HasNothingToSend a → IsOrderly a.sender.queue
@@ -95,10 +96,12 @@ begins_orderly a (waits, flies) =
         → IsFirstBegun ms pieces a.sender.queue.next_message_id
     empty_orderly ms pieces e f = rw (e, f) (tt, tt)
 
-pub calls_keep_the_order : (calls : List Call) (a b : Shown) (h k : History) (acts : List Act) → HasNothingToSend a
-    → Binds a h → DoInOrder calls a h acts b k → b.failed ≡ false → StandsOrderly b k
-calls_keep_the_order calls a b h k acts nothing binds run works =
-    run_orderly calls a b h k acts run works (record { binds = binds; orderly = begins_orderly a nothing })
+module _ (calls : List Call) (a b : Shown) (h k : History) (acts : List Act) (nothing : HasNothingToSend a)
+    (binds : Binds a h)
+  where
+    pub calls_keep_the_order : DoInOrder calls a h acts b k → b.failed ≡ false → StandsOrderly b k
+    calls_keep_the_order run works =
+        run_orderly b k works calls a h acts run (record { binds = binds; orderly = begins_orderly a nothing })
 
 -- Beginning
 

@@ -1,5 +1,6 @@
 -- A FORWARD TSN is no fault, and closes exactly where it is in use, lies ahead and leaves nothing to read.
-use Rattle.std.proofs.Common.{◌≡◌, refl, sym, ap, ◌∙◌, subst, ◌⊎◌, ⊎_elim, inl, inr, ℕ, ◌+◌, ◌-◌, ◌%◌, ◌^◌, ◌<◌, ◌≤◌, ◌==◌, ◌&&◌}
+use Rattle.std.proofs.Common.{◌≡◌, refl, sym, ap, ◌∙◌, subst, ◌⊎◌, ⊎_elim, inl, inr, ℕ, ◌+◌, ◌-◌, ◌%◌, ◌^◌, ◌<◌, ◌≤◌}
+use Rattle.std.proofs.Common.{◌==◌, ◌&&◌}
 use Rattle.std.proofs.Common.{◌||◌, arith, Bool, true, false, nat_lt, not, if◌then◌else◌, List, None}
 use Rattle.std.proofs.lemmas.Bool.{and_from, and_parts, cases_Bool, eqb-true, le-ltb, lt-ltb}
 use Rattle.sctp_serial.specs.Serial.{tsn, tsn_lte, tsn_past}

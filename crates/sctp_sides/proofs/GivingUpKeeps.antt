@@ -1,14 +1,12 @@
 -- What messages that are given up leave of a sender and its streams, and what a poll does.
 use Rattle.std.proofs.Common.{◌≡◌, refl, ap, ◌∙◌, ℕ, zero, suc, Bool, true, false, List, []}
-use Rattle.std.proofs.Common.{◌++◌, length, Option, Some, None}
+use Rattle.std.proofs.Common.{length, Option, Some, None}
 use Rattle.std.proofs.lemmas.Bool.{cond-true}
 use Rattle.sctp_wire_types.specs.declared.chunk.ChunkPayloadData.{ChunkPayloadData}
-use Rattle.sctp_wire.specs.DataPackets.{datagrams_of}
 use Rattle.sctp_outbound_queue.specs.declared.message.Retransmission.{Retransmission}
 use Rattle.sctp_outbound_queue.specs.declared.message.Retransmission.TheVariants as causes
 use Rattle.sctp_streams.specs.Streams.{StreamMap}
 use Rattle.sctp_inbound.specs.declared.receiver.Receiver.{Receiver}
-use Rattle.sctp_inbound.specs.Handshake.{header_of}
 use Rattle.sctp_outbound.specs.declared.abandonment.Reason.{Reason}
 use Rattle.sctp_outbound.specs.declared.abandonment.Reason.TheVariants as reasons
 use Rattle.sctp_outbound.specs.declared.sender.Sender.{Sender}
@@ -18,11 +16,11 @@ use Rattle.sctp_outbound.specs.Abandonment.{next_given_up, tail_given_up, with_s
 use Rattle.sctp_outbound.specs.Forward.{forward_given}
 use Rattle.sctp_outbound.specs.Sender.{after_marked, after_missing, sent_new}
 use Rattle.sctp_assoc.specs.Calls.{is_established}
-use Rattle.sctp_assoc.specs.Gather.{ack_after, ack_polled, after_both, both_of, data_polled, exchange_polled}
+use Rattle.sctp_assoc.specs.Gather.{ack_after, ack_polled, both_of, data_polled, exchange_polled}
 use Rattle.sctp_assoc.specs.Gather.{fast_polled, forward_after, forward_polled, is_due, late_abandoned, late_dropped}
 use Rattle.sctp_assoc.specs.Gather.{marks_polled}
 use Rattle.sctp_assoc.specs.Shown.{Shown, uses_forward_tsn}
-use Rattle.sctp_assoc.proofs.PollsLeadOn.{both_first}
+use Rattle.sctp_assoc.proofs.PollsLeadOn.{after_is as left_by_both}
 
 -- Each step by which messages are given up at a moment keeps this of a sender and its streams.
 pub record KeptByGivingUp (P : Sender × StreamMap → Type 0) (now : ℕ) : Type 0 where
@@ -130,18 +128,12 @@ forward_is : (b : Shown) → (forward_polled b).0 ≡ record b { sender = forwar
 unfolding forward_polled
 forward_is b = refl
 
-after_forward : (first : List (List ℕ)) (y : Shown × List (List ℕ))
-    → forward_after (after_both first y) ≡ after_both (first ++ y.1) (forward_polled y.0)
-after_forward first (c, more) = refl
-
 pub after_is : (x : Shown × List (List ChunkPayloadData))
     → (forward_after (ack_after x)).0 ≡ after_data x.0 (ack_polled x.0).0.receiver
-after_is (b, bundles) =
-    let first = datagrams_of (header_of b.handshake) bundles in
-    ap (λ (z : Shown × List (List ℕ)). z.0) (after_forward first (ack_polled b))
-    ∙ both_first (first ++ (ack_polled b).1) (forward_polled (ack_polled b).0)
-    ∙ forward_is (ack_polled b).0
-    ∙ ap (λ (z : Shown). record z { sender = forward_given z.sender }) (ack_is b)
+after_is x =
+    left_by_both x
+    ∙ forward_is (ack_polled x.0).0
+    ∙ ap (λ (z : Shown). record z { sender = forward_given z.sender }) (ack_is x.0)
 
 -- in Established
 pub exchange_is : (a : Shown) (now : ℕ) → is_established a.state ≡ true

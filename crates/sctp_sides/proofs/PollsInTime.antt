@@ -8,13 +8,15 @@ use Rattle.sctp_wire_types.specs.declared.chunk.ChunkPayloadData.{ChunkPayloadDa
 use Rattle.sctp_assoc.specs.Gather.{both_of, fast_polled, fast_sent, is_due, late_abandoned, late_dropped}
 use Rattle.sctp_assoc.specs.Gather.{marks_polled, marks_sent}
 use Rattle.sctp_assoc.specs.Happened.{acts_of_ack, acts_of_data_poll, acts_of_fast_poll, acts_of_forwarding}
-use Rattle.sctp_assoc.specs.Happened.{acts_of_late, acts_of_marks_poll, acts_of_new, acts_of_unsent, forwards_of_poll}
+use Rattle.sctp_assoc.specs.Happened.{acts_of_late, acts_of_marks_poll, acts_of_new, acts_of_poll, acts_of_unsent}
+use Rattle.sctp_assoc.specs.Happened.{forwards_of_poll}
 use Rattle.sctp_assoc.specs.Leads.{Binds, parts}
 use Rattle.sctp_assoc.specs.Shown.{Shown, uses_forward_tsn}
 use Rattle.sctp_assoc.proofs.ActsKeepOffsets.{done_append}
 use Rattle.sctp_assoc.proofs.Giving.{Gives}
 use Rattle.sctp_assoc.proofs.PolledSteps.{drops_gives, fast, late, marks}
-use Rattle.sctp_sides.specs.Lifetimes.{GiveNothingLate, NothingLateGoesOut}
+use Rattle.sctp_sides.specs.Lifetimes.{DoInOrder, GiveNothingLate, HasNothingToSend, NothingLateGoesOut}
+use Rattle.sctp_sides.specs.OneSide.{Call}
 use Rattle.sctp_sides.proofs.ActsOfChunks.{fast_give, give_if, marks_give, new_gives, unsent_gives}
 use Rattle.sctp_sides.proofs.FirstBegun.{IsOrderly}
 use Rattle.sctp_sides.proofs.FirstBegunRuns.{calls_keep_the_order}
@@ -133,9 +135,16 @@ poll_if true now pieces acks forward p given quiet last =
     (quiet_acts now forward (done_all (pieces ++ acks) p) last)
 poll_if false now pieces acks forward p given quiet last = tt
 
+module _ (calls : List Call) (a b : Shown) (h k : History) (acts : List Act) (now : ℕ) (nothing : HasNothingToSend a)
+    (binds : Binds a h) (run : DoInOrder calls a h acts b k) (works : b.failed ≡ false)
+    (uses : uses_forward_tsn b ≡ true)
+  where
+    poll_in_time : GiveNothingLate now (acts_of_poll b now) (parts b k)
+    poll_in_time =
+        let s = calls_keep_the_order calls a b h k acts nothing binds run works in
+        poll_if (is_established b.state) now (acts_of_data_poll b now) (acts_of_ack b)
+        (acts_of_forwarding (forwards_of_poll b now)) (parts b k) (data_in_time b now k s.binds uses s.orderly)
+        (ack_is_quiet b) (forwarding_is_quiet (forwards_of_poll b now))
+
 pub nothing_late_goes_out : NothingLateGoesOut
-nothing_late_goes_out calls a b h k acts now nothing binds run works uses =
-    let s = calls_keep_the_order calls a b h k acts nothing binds run works in
-    poll_if (is_established b.state) now (acts_of_data_poll b now) (acts_of_ack b)
-    (acts_of_forwarding (forwards_of_poll b now)) (parts b k) (data_in_time b now k s.binds uses s.orderly)
-    (ack_is_quiet b) (forwarding_is_quiet (forwards_of_poll b now))
+nothing_late_goes_out = poll_in_time

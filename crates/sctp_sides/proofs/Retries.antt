@@ -1,6 +1,6 @@
 -- A piece of a message that may be sent again n times is given out at most n + 1 times, over every list of calls.
 use Rattle.std.proofs.Common.{◌≡◌, refl, sym, ap, ◌∙◌, subst, ◌⊎◌, ⊎_elim, inl, inr, ℕ, ◌+◌, ◌≤◌, Bool, true, false}
-use Rattle.std.proofs.Common.{if◌then◌else◌, List, [], ◌∷◌, ◌++◌, Option, Some, None}
+use Rattle.std.proofs.Common.{◌<◌, ◌-◌, ◌^◌, if◌then◌else◌, List, [], ◌∷◌, ◌++◌, Option, Some, None}
 use Rattle.std.proofs.lemmas.Bool.{false≢true}
 use Rattle.std.specs.Prelude.{⊤}
 use Rattle.std.specs.List.{AllByRecursion}
@@ -28,7 +28,7 @@ use Rattle.sctp_assoc.specs.Happened.{acts_of_packet_of, acts_of_read, acts_of_t
 use Rattle.sctp_assoc.specs.Leads.{Binds, Leads, parts}
 use Rattle.sctp_assoc.specs.Shown.{Shown, uses_forward_tsn}
 use Rattle.sctp_assoc.proofs.ActsKeepOffsets.{can_append}
-use Rattle.sctp_sides.specs.Lifetimes.{DoInOrder, RetriesAreKept, acts_of_call, times_given}
+use Rattle.sctp_sides.specs.Lifetimes.{DoInOrder, GivesUnder, RetriesAreKept, acts_of_call, times_given}
 use Rattle.sctp_sides.specs.OneSide.{Call, FailsInside, IsCarriedOut, IsFresh, IsUnchanged, carried_out}
 use Rattle.sctp_sides.specs.SideLaws.{IsPassingOver, IsPeerKnown, IsTaking}
 use Rattle.sctp_sides.proofs.ActsOfChunks.{checked_sack, data_opens_or_takes, forwards_pass_over}
@@ -175,87 +175,94 @@ carried_worked call told a c k (inr same) works =
     ap (λ (x : Shown × List Event). x.0.failed) (sym same) ∙ ap (λ (b : Shown). b.failed) (carried_is call told a c k)
     ∙ works
 
-does_worked : (call : Call) (told : List Event) (a c : Shown) (h l : History) (xs : List Act)
-    → DoesSo call told a h xs c l → c.failed ≡ false → a.failed ≡ false
-does_worked call told a c h l xs (inl (k, is, leads)) works =
-    carried_worked call told a c k (accepted_works call a k.accepted) works
-does_worked call told a c h l xs (inr (inl k, none, same)) works = ap (λ (b : Shown). b.failed) (sym k.same) ∙ works
-does_worked call told a c h l xs (inr (inr k, none, same)) works = k.working
+module _ (call : Call) (told : List Event) (a c : Shown) (h l : History) (xs : List Act) where
+  does_worked : DoesSo call told a h xs c l → c.failed ≡ false → a.failed ≡ false
+  does_worked (inl (k, is, leads)) works =
+      carried_worked call told a c k (accepted_works call a k.accepted) works
+  does_worked (inr (inl k, none, same)) works = ap (λ (b : Shown). b.failed) (sym k.same) ∙ works
+  does_worked (inr (inr k, none, same)) works = k.working
 
--- whether FORWARD TSN is in use stays once it is settled
-does_settles : (call : Call) (told : List Event) (used : Bool) (a c : Shown) (h l : History) (xs : List Act)
-    → DoesSo call told a h xs c l → c.failed ≡ false → IsSettled used a → IsSettled used c
-does_settles call told used a c h l xs (inl (k, is, leads)) works s =
-    subst (IsSettled used) (carried_is call told a c k) (carried_settles call used a s)
-does_settles call told used a c h l xs (inr (inl k, none, same)) works s = subst (IsSettled used) (sym k.same) s
-does_settles call told used a c h l xs (inr (inr k, none, same)) works s =
-    absurd (false≢true (sym works ∙ k.failed.marked))
+  -- whether FORWARD TSN is in use stays once it is settled
+  does_settles : (used : Bool) → DoesSo call told a h xs c l → c.failed ≡ false → IsSettled used a → IsSettled used c
+  does_settles used (inl (k, is, leads)) works s =
+      subst (IsSettled used) (carried_is call told a c k) (carried_settles call used a s)
+  does_settles used (inr (inl k, none, same)) works s = subst (IsSettled used) (sym k.same) s
+  does_settles used (inr (inr k, none, same)) works s =
+      absurd (false≢true (sym works ∙ k.failed.marked))
 
-led_nowhere : (xs : List Act) (a c : Shown) (h l : History) → xs ≡ [] → c ≡ a → l ≡ h → Binds a h
-    → LedOn xs a h c l
-led_nowhere xs a c h l e f g binds = rw (e, f, g) (record { can = tt; spares = tt; there = refl; binds = binds })
+  led_nowhere : xs ≡ [] → c ≡ a → l ≡ h → Binds a h → LedOn xs a h c l
+  led_nowhere e f g binds = rw (e, f, g) (record { can = tt; spares = tt; there = refl; binds = binds })
 
-does_lead : (call : Call) (told : List Event) (a c : Shown) (h l : History) (xs : List Act)
-    → DoesSo call told a h xs c l → c.failed ≡ false → Binds a h
-    → (is_established a.state ≡ true → uses_forward_tsn a ≡ true) → LedOn xs a h c l
-does_lead call told a c h l xs (inl (k, is, leads)) works binds uses = record {
-  can = leads.can;
-  spares = subst (λ (ys : List Act). AllSpare ys (parts a h)) (sym is) (call_spares call a h binds uses);
-  there = leads.there;
-  binds = leads.binds;
-}
-does_lead call told a c h l xs (inr (inl k, none, same)) works binds uses =
-    led_nowhere xs a c h l none k.same same binds
-does_lead call told a c h l xs (inr (inr k, none, same)) works binds uses =
-    absurd (false≢true (sym works ∙ k.failed.marked))
+  does_lead : DoesSo call told a h xs c l → c.failed ≡ false → Binds a h
+      → (is_established a.state ≡ true → uses_forward_tsn a ≡ true) → LedOn xs a h c l
+  does_lead (inl (k, is, leads)) works binds uses = record {
+    can = leads.can;
+    spares = subst (λ (ys : List Act). AllSpare ys (parts a h)) (sym is) (call_spares call a h binds uses);
+    there = leads.there;
+    binds = leads.binds;
+  }
+  does_lead (inr (inl k, none, same)) works binds uses = led_nowhere none k.same same binds
+  does_lead (inr (inr k, none, same)) works binds uses =
+      absurd (false≢true (sym works ∙ k.failed.marked))
 
 -- Calls, one after another
 
-order_worked : (calls : List Call) (a b : Shown) (h k : History) (acts : List Act) → DoInOrder calls a h acts b k
-    → b.failed ≡ false → a.failed ≡ false
-order_worked [] a b h k acts run works = ap (λ (c : Shown). c.failed) (sym run.1) ∙ works
-order_worked (call ∷ calls) a b h k acts (c, l, first, later, e, d, rest) works =
-    does_worked call d.told a c h l first d.does (order_worked calls c b l k later rest works)
+module _ (b : Shown) (k : History) (works : b.failed ≡ false) where
+  order_worked : (calls : List Call) (a : Shown) (h : History) (acts : List Act) → DoInOrder calls a h acts b k
+      → a.failed ≡ false
+  order_worked [] a h acts run = ap (λ (c : Shown). c.failed) (sym run.1) ∙ works
+  order_worked (call ∷ calls) a h acts (c, l, first, later, e, d, rest) =
+      does_worked call d.told a c h l first d.does (order_worked calls c l later rest)
 
-order_settles : (calls : List Call) (used : Bool) (a b : Shown) (h k : History) (acts : List Act)
-    → DoInOrder calls a h acts b k → b.failed ≡ false → IsSettled used a → IsSettled used b
-order_settles [] used a b h k acts run works s = subst (IsSettled used) (sym run.1) s
-order_settles (call ∷ calls) used a b h k acts (c, l, first, later, e, d, rest) works s =
-    order_settles calls used c b l k later rest works
-    (does_settles call d.told used a c h l first d.does (order_worked calls c b l k later rest works) s)
+  order_settles : (used : Bool) (calls : List Call) (a : Shown) (h : History) (acts : List Act)
+      → DoInOrder calls a h acts b k → IsSettled used a → IsSettled used b
+  order_settles used [] a h acts run s = subst (IsSettled used) (sym run.1) s
+  order_settles used (call ∷ calls) a h acts (c, l, first, later, e, d, rest) s =
+      order_settles used calls c l later rest
+      (does_settles call d.told a c h l first used d.does (order_worked calls c l later rest) s)
 
--- where FORWARD TSN is in use in the end, it was so whenever the association was established
-uses_before : (calls : List Call) (a b : Shown) (h k : History) (acts : List Act) → DoInOrder calls a h acts b k
-    → b.failed ≡ false → uses_forward_tsn b ≡ true → is_established a.state ≡ true → uses_forward_tsn a ≡ true
-uses_before calls a b h k acts run works uses established =
-    let s =
-    order_settles calls (uses_forward_tsn a) a b h k acts run works (record { over = inl established; uses = refl }) in
-    sym s.uses ∙ uses
+module _ (b : Shown) (k : History) (works : b.failed ≡ false) (uses : uses_forward_tsn b ≡ true) where
+  -- where FORWARD TSN is in use in the end, it was so whenever the association was established
+  uses_before : (calls : List Call) (a : Shown) (h : History) (acts : List Act) → DoInOrder calls a h acts b k
+      → is_established a.state ≡ true → uses_forward_tsn a ≡ true
+  uses_before calls a h acts run established =
+      let s =
+      order_settles b k works (uses_forward_tsn a) calls a h acts run
+      (record { over = inl established; uses = refl }) in
+      sym s.uses ∙ uses
 
-order_spares : (calls : List Call) (a b : Shown) (h k : History) (acts : List Act) → DoInOrder calls a h acts b k
-    → b.failed ≡ false → uses_forward_tsn b ≡ true → Binds a h
-    → CanAll acts (parts a h) × AllSpare acts (parts a h)
-order_spares [] a b h k acts run works uses binds =
-    subst (λ (xs : List Act). CanAll xs (parts a h) × AllSpare xs (parts a h)) (sym run.0) (tt, tt)
-order_spares (call ∷ calls) a b h k acts (c, l, first, later, e, d, rest) works uses binds =
-    let one =
-    does_lead call d.told a c h l first d.does (order_worked calls c b l k later rest works) binds
-    (uses_before (call ∷ calls) a b h k acts (c, l, first, later, e, d, rest) works uses) in
-    let more = order_spares calls c b l k later rest works uses one.binds in
-    subst (λ (xs : List Act). CanAll xs (parts a h) × AllSpare xs (parts a h)) (sym e) (
-      can_append first later (parts a h) one.can (subst (CanAll later) one.there more.0),
-      spare_join first later (parts a h) one.spares (subst (AllSpare later) one.there more.1),
-    )
+  order_spares : (calls : List Call) (a : Shown) (h : History) (acts : List Act) → DoInOrder calls a h acts b k
+      → Binds a h
+      → CanAll acts (parts a h) × AllSpare acts (parts a h)
+  order_spares [] a h acts run binds =
+      subst (λ (xs : List Act). CanAll xs (parts a h) × AllSpare xs (parts a h)) (sym run.0) (tt, tt)
+  order_spares (call ∷ calls) a h acts (c, l, first, later, e, d, rest) binds =
+      let one =
+      does_lead call d.told a c h l first d.does (order_worked b k works calls c l later rest) binds
+      (uses_before (call ∷ calls) a h acts (c, l, first, later, e, d, rest)) in
+      let more = order_spares calls c l later rest one.binds in
+      subst (λ (xs : List Act). CanAll xs (parts a h) × AllSpare xs (parts a h)) (sym e) (
+        can_append first later (parts a h) one.can (subst (CanAll later) one.there more.0),
+        spare_join first later (parts a h) one.spares (subst (AllSpare later) one.there more.1),
+      )
 
 -- nothing is in flight at first
 fresh_stands : (n o : ℕ) (a : Shown) (h : History) → IsFresh a → StandsIn false n o 0 (parts a h)
 fresh_stands n o a h fresh = stand_as refl (ap tallies fresh.unsent) (none_stand n o h.base)
 
+module _ (calls : List Call) (a b : Shown) (h k : History) (acts before after : List Act) (act : Act) (o n : ℕ)
+    (fresh : IsFresh a) (binds : Binds a h) (run : DoInOrder calls a h acts b k) (works : b.failed ≡ false)
+    (uses : uses_forward_tsn b ≡ true) (small : n < 2 ^ 32 - 1) (e : acts ≡ before ++ act ∷ after)
+    (under : GivesUnder n o act (done_all before (parts a h)))
+  where
+    times_are_few : times_given o acts (parts a h) ≤ n + 1
+    times_are_few =
+        let p : Parts = parts a h in
+        let all = order_spares b k works uses calls a h acts run binds in
+        let both : CanAll (before ++ act ∷ after) p × AllSpare (before ++ act ∷ after) p =
+        subst (λ (xs : List Act). CanAll xs p × AllSpare xs p) e all in
+        subst (λ (xs : List Act). times_given o xs p ≤ n + 1) (sym e)
+        (spared_offsets_are_kept n o before after act p small both.0 both.1 (fresh_stands n o a h fresh) under)
+
 pub retries_are_kept : RetriesAreKept
-retries_are_kept calls a b h k acts before after act o n fresh binds run works uses small e under =
-    let p : Parts = parts a h in
-    let all = order_spares calls a b h k acts run works uses binds in
-    let both : CanAll (before ++ act ∷ after) p × AllSpare (before ++ act ∷ after) p =
-    subst (λ (xs : List Act). CanAll xs p × AllSpare xs p) e all in
-    subst (λ (xs : List Act). times_given o xs p ≤ n + 1) (sym e)
-    (spared_offsets_are_kept n o before after act p small both.0 both.1 (fresh_stands n o a h fresh) under)
+retries_are_kept = times_are_few

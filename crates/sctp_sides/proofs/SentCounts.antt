@@ -125,86 +125,6 @@ stands_kept n o t base vs h = by_place (cases_lt o base)
     by_place (inl p) = h.passed p refl
     by_place (inr p) = flown (is_there vs (o - base)) p
 
--- The first pieces are acknowledged.
-pub dropped_stand : (under : Bool) (n o t base count : ℕ) (vs : List Tally) → Stands under n o t base vs
-    → Stands under n o t (base + count) (drop count vs)
-dropped_stand under n o t base count vs h = record {
-  passed = λ p u. stands_kept n o t base vs (subst (λ (c : Bool). Stands c n o t base vs) u h);
-  flying = λ index v e there.
-      h.flying (count + index) v (omega (arith, e)) (sym (get_dropped count vs index) ∙ there);
-  ahead = λ p. let l = length-drop count vs in h.ahead (omega (arith, l, p));
-}
-
--- what never goes out takes the next offset
-pub unsent_stand : (under : Bool) (n o t base : ℕ) (vs : List Tally) (p : Policy) → Stands under n o t base vs
-    → Stands under n o t base (vs ++ (0, p) ∷ [])
-unsent_stand under n o t base vs p h = record {
-  passed = h.passed;
-  flying = λ index v e there. pushed index v e (get_pushed vs (0, p) v index there);
-  ahead = λ q. let l = length-append vs ((0, p) ∷ []) in h.ahead (omega (arith, l, q));
-}
-  where
-    pushed : (index : ℕ) (v : Tally) → o ≡ base + index
-        → (slice_get vs index ≡ Some v) ⊎ ((index ≡ length vs) × (v ≡ (0, p))) → IsCounted under n t v
-    pushed index v e (inl there) = h.flying index v e there
-    pushed index v e (inr (i, is)) =
-        let before = h.ahead (omega (arith, e, i)) in
-        let none = before.0 in
-        let count : v.0 ≡ 0 = ap (λ (x : Tally). x.0) is in
-        record {
-          count = omega (arith, count, none);
-          policy = λ u. absurd (true≢false (sym u ∙ before.1));
-          kept = λ f. omega (arith, none);
-        }
-
--- a piece goes out for the first time, and takes the next offset
-pub sent_stand : (under : Bool) (n o t base : ℕ) (vs : List Tally) (p : Policy) → Stands under n o t base vs
-    → Stands under n o (is_given_at o (base + length vs) + t) base (vs ++ (1, p) ∷ [])
-sent_stand under n o t base vs p h =
-    ⊎_elim
-    (λ (c : eqb (base + length vs) o ≡ true).
-    let at = eqb-true (base + length vs) o c in
-    stand_as (ap (λ (b : Bool). (if b then 1 else 0) + t) c) refl (that at (h.ahead (omega (arith, at)))))
-    (λ (c : eqb (base + length vs) o ≡ false).
-    stand_as (ap (λ (b : Bool). (if b then 1 else 0) + t) c ∙ omega arith) refl
-    (other (eqb-false (base + length vs) o c)))
-    (cases_Bool (eqb (base + length vs) o))
-  where
-    l : length (vs ++ (1, p) ∷ []) ≡ length vs + 1
-    l = length-append vs ((1, p) ∷ [])
-
-    that : base + length vs ≡ o → (t ≡ 0) × (under ≡ false) → Stands under n o (1 + t) base (vs ++ (1, p) ∷ [])
-    that at (none, early) = record {
-      passed = λ q u. absurd (omega (arith, at, q));
-      flying = λ index v e there. pushed index v e (get_pushed vs (1, p) v index there);
-      ahead = λ q. absurd (omega (arith, at, l, q));
-    }
-      where
-        pushed : (index : ℕ) (v : Tally) → o ≡ base + index
-            → (slice_get vs index ≡ Some v) ⊎ ((index ≡ length vs) × (v ≡ (1, p))) → IsCounted under n (1 + t) v
-        pushed index v e (inl there) =
-            let within = slice_get_within vs index v there in
-            absurd (omega (arith, at, e, within))
-        pushed index v e (inr (i, is)) =
-            let count : v.0 ≡ 1 = ap (λ (x : Tally). x.0) is in
-            record {
-              count = omega (arith, count, none);
-              policy = λ u. absurd (true≢false (sym u ∙ early));
-              kept = λ f. omega (arith, none);
-            }
-
-    other : (base + length vs ≡ o → ⊥) → Stands under n o t base (vs ++ (1, p) ∷ [])
-    other away = record {
-      passed = h.passed;
-      flying = λ index v e there. pushed index v e (get_pushed vs (1, p) v index there);
-      ahead = λ q. h.ahead (omega (arith, l, q));
-    }
-      where
-        pushed : (index : ℕ) (v : Tally) → o ≡ base + index
-            → (slice_get vs index ≡ Some v) ⊎ ((index ≡ length vs) × (v ≡ (1, p))) → IsCounted under n t v
-        pushed index v e (inl there) = h.flying index v e there
-        pushed index v e (inr (i, is)) = absurd (away (omega (arith, e, i)))
-
 -- one sending more counts as one, up to the greatest count
 one_more_counts : (count t : ℕ) → count ≡ min t (2 ^ 32 - 1) → one_sending_more count ≡ min (1 + t) (2 ^ 32 - 1)
 one_more_counts count t e = omega (arith, e)
@@ -212,57 +132,139 @@ one_more_counts count t e = omega (arith, e)
 one_more_kept : (count n t : ℕ) → count ≡ min t (2 ^ 32 - 1) → n < 2 ^ 32 - 1 → count ≤ n → 1 + t ≤ n + 1
 one_more_kept count n t e small few = omega (arith, e, small, few)
 
--- a piece in flight goes out again, and was not sent too often before
-pub again_stand : (under : Bool) (n o t base index : ℕ) (v : Tally) (vs : List Tally) → n < 2 ^ 32 - 1
-    → slice_get vs index ≡ Some v → (v.1 ≡ Rexmit n → v.0 ≤ n) → Stands under n o t base vs
-    → Stands under n o (is_given_at o (base + index) + t) base (slice_set vs index (one_sending_more v.0, v.1))
-again_stand under n o t base index v vs small held spared h =
-    ⊎_elim
-    (λ (c : eqb (base + index) o ≡ true).
-    stand_as (ap (λ (b : Bool). (if b then 1 else 0) + t) c) refl (that (eqb-true (base + index) o c)))
-    (λ (c : eqb (base + index) o ≡ false).
-    stand_as (ap (λ (b : Bool). (if b then 1 else 0) + t) c ∙ omega arith) refl
-    (other (eqb-false (base + index) o c)))
-    (cases_Bool (eqb (base + index) o))
-  where
-    w : Tally
-    w = (one_sending_more v.0, v.1)
+-- what each act makes of where the offset stands
+module _ (under : Bool) (n o t base : ℕ) where
+  -- The first pieces are acknowledged.
+  pub dropped_stand : (count : ℕ) (vs : List Tally) → Stands under n o t base vs
+      → Stands under n o t (base + count) (drop count vs)
+  dropped_stand count vs h = record {
+    passed = λ p u. stands_kept n o t base vs (subst (λ (c : Bool). Stands c n o t base vs) u h);
+    flying = λ index v e there.
+        h.flying (count + index) v (omega (arith, e)) (sym (get_dropped count vs index) ∙ there);
+    ahead = λ p. let l = length-drop count vs in h.ahead (omega (arith, l, p));
+  }
 
-    within : index < length vs
-    within = slice_get_within vs index v held
+  -- what never goes out takes the next offset
+  pub unsent_stand : (vs : List Tally) (p : Policy) → Stands under n o t base vs
+      → Stands under n o t base (vs ++ (0, p) ∷ [])
+  unsent_stand vs p h = record {
+    passed = h.passed;
+    flying = λ index v e there. pushed index v e (get_pushed vs (0, p) v index there);
+    ahead = λ q. let l = length-append vs ((0, p) ∷ []) in h.ahead (omega (arith, l, q));
+  }
+    where
+      pushed : (index : ℕ) (v : Tally) → o ≡ base + index
+          → (slice_get vs index ≡ Some v) ⊎ ((index ≡ length vs) × (v ≡ (0, p))) → IsCounted under n t v
+      pushed index v e (inl there) = h.flying index v e there
+      pushed index v e (inr (i, is)) =
+          let before = h.ahead (omega (arith, e, i)) in
+          let none = before.0 in
+          let count : v.0 ≡ 0 = ap (λ (x : Tally). x.0) is in
+          record {
+            count = omega (arith, count, none);
+            policy = λ u. absurd (true≢false (sym u ∙ before.1));
+            kept = λ f. omega (arith, none);
+          }
 
-    l : length (slice_set vs index w) ≡ length vs
-    l = length-set vs index w
+  -- a piece goes out for the first time, and takes the next offset
+  pub sent_stand : (vs : List Tally) (p : Policy) → Stands under n o t base vs
+      → Stands under n o (is_given_at o (base + length vs) + t) base (vs ++ (1, p) ∷ [])
+  sent_stand vs p h =
+      ⊎_elim
+      (λ (c : eqb (base + length vs) o ≡ true).
+      let at = eqb-true (base + length vs) o c in
+      stand_as (ap (λ (b : Bool). (if b then 1 else 0) + t) c) refl (that at (h.ahead (omega (arith, at)))))
+      (λ (c : eqb (base + length vs) o ≡ false).
+      stand_as (ap (λ (b : Bool). (if b then 1 else 0) + t) c ∙ omega arith) refl
+      (other (eqb-false (base + length vs) o c)))
+      (cases_Bool (eqb (base + length vs) o))
+    where
+      l : length (vs ++ (1, p) ∷ []) ≡ length vs + 1
+      l = length-append vs ((1, p) ∷ [])
 
-    that : base + index ≡ o → Stands under n o (1 + t) base (slice_set vs index w)
-    that at = record {
-      passed = λ q u. absurd (omega (arith, at, q));
-      flying = λ j x e there. put j x e (get_set vs w x index j there);
-      ahead = λ q. absurd (omega (arith, at, l, within, q));
-    }
-      where
-        put : (j : ℕ) (x : Tally) → o ≡ base + j
-            → ((j ≡ index) × (x ≡ w)) ⊎ ((j ≡ index → ⊥) × (slice_get vs j ≡ Some x)) → IsCounted under n (1 + t) x
-        put j x e (inl (i, is)) =
-            let before = h.flying index v (sym at) held in
-            subst (λ (z : Tally). IsCounted under n (1 + t) z) (sym is) (record {
-              count = one_more_counts v.0 t before.count;
-              policy = before.policy;
-              kept = λ f. one_more_kept v.0 n t before.count small (spared f);
-            })
-        put j x e (inr (away, there)) = absurd (away (omega (arith, at, e)))
+      that : base + length vs ≡ o → (t ≡ 0) × (under ≡ false) → Stands under n o (1 + t) base (vs ++ (1, p) ∷ [])
+      that at (none, early) = record {
+        passed = λ q u. absurd (omega (arith, at, q));
+        flying = λ index v e there. pushed index v e (get_pushed vs (1, p) v index there);
+        ahead = λ q. absurd (omega (arith, at, l, q));
+      }
+        where
+          pushed : (index : ℕ) (v : Tally) → o ≡ base + index
+              → (slice_get vs index ≡ Some v) ⊎ ((index ≡ length vs) × (v ≡ (1, p))) → IsCounted under n (1 + t) v
+          pushed index v e (inl there) =
+              let within = slice_get_within vs index v there in
+              absurd (omega (arith, at, e, within))
+          pushed index v e (inr (i, is)) =
+              let count : v.0 ≡ 1 = ap (λ (x : Tally). x.0) is in
+              record {
+                count = omega (arith, count, none);
+                policy = λ u. absurd (true≢false (sym u ∙ early));
+                kept = λ f. omega (arith, none);
+              }
 
-    other : (base + index ≡ o → ⊥) → Stands under n o t base (slice_set vs index w)
-    other away = record {
-      passed = h.passed;
-      flying = λ j x e there. put j x e (get_set vs w x index j there);
-      ahead = λ q. h.ahead (omega (arith, l, q));
-    }
-      where
-        put : (j : ℕ) (x : Tally) → o ≡ base + j
-            → ((j ≡ index) × (x ≡ w)) ⊎ ((j ≡ index → ⊥) × (slice_get vs j ≡ Some x)) → IsCounted under n t x
-        put j x e (inl (i, is)) = absurd (away (omega (arith, e, i)))
-        put j x e (inr (apart, there)) = h.flying j x e there
+      other : (base + length vs ≡ o → ⊥) → Stands under n o t base (vs ++ (1, p) ∷ [])
+      other away = record {
+        passed = h.passed;
+        flying = λ index v e there. pushed index v e (get_pushed vs (1, p) v index there);
+        ahead = λ q. h.ahead (omega (arith, l, q));
+      }
+        where
+          pushed : (index : ℕ) (v : Tally) → o ≡ base + index
+              → (slice_get vs index ≡ Some v) ⊎ ((index ≡ length vs) × (v ≡ (1, p))) → IsCounted under n t v
+          pushed index v e (inl there) = h.flying index v e there
+          pushed index v e (inr (i, is)) = absurd (away (omega (arith, e, i)))
+
+  -- a piece in flight goes out again, and was not sent too often before
+  pub again_stand : (index : ℕ) (v : Tally) (vs : List Tally) → n < 2 ^ 32 - 1
+      → slice_get vs index ≡ Some v → (v.1 ≡ Rexmit n → v.0 ≤ n) → Stands under n o t base vs
+      → Stands under n o (is_given_at o (base + index) + t) base (slice_set vs index (one_sending_more v.0, v.1))
+  again_stand index v vs small held spared h =
+      ⊎_elim
+      (λ (c : eqb (base + index) o ≡ true).
+      stand_as (ap (λ (b : Bool). (if b then 1 else 0) + t) c) refl (that (eqb-true (base + index) o c)))
+      (λ (c : eqb (base + index) o ≡ false).
+      stand_as (ap (λ (b : Bool). (if b then 1 else 0) + t) c ∙ omega arith) refl
+      (other (eqb-false (base + index) o c)))
+      (cases_Bool (eqb (base + index) o))
+    where
+      w : Tally
+      w = (one_sending_more v.0, v.1)
+
+      within : index < length vs
+      within = slice_get_within vs index v held
+
+      l : length (slice_set vs index w) ≡ length vs
+      l = length-set vs index w
+
+      that : base + index ≡ o → Stands under n o (1 + t) base (slice_set vs index w)
+      that at = record {
+        passed = λ q u. absurd (omega (arith, at, q));
+        flying = λ j x e there. put j x e (get_set vs w x index j there);
+        ahead = λ q. absurd (omega (arith, at, l, within, q));
+      }
+        where
+          put : (j : ℕ) (x : Tally) → o ≡ base + j
+              → ((j ≡ index) × (x ≡ w)) ⊎ ((j ≡ index → ⊥) × (slice_get vs j ≡ Some x)) → IsCounted under n (1 + t) x
+          put j x e (inl (i, is)) =
+              let before = h.flying index v (sym at) held in
+              subst (λ (z : Tally). IsCounted under n (1 + t) z) (sym is) (record {
+                count = one_more_counts v.0 t before.count;
+                policy = before.policy;
+                kept = λ f. one_more_kept v.0 n t before.count small (spared f);
+              })
+          put j x e (inr (away, there)) = absurd (away (omega (arith, at, e)))
+
+      other : (base + index ≡ o → ⊥) → Stands under n o t base (slice_set vs index w)
+      other away = record {
+        passed = h.passed;
+        flying = λ j x e there. put j x e (get_set vs w x index j there);
+        ahead = λ q. h.ahead (omega (arith, l, q));
+      }
+        where
+          put : (j : ℕ) (x : Tally) → o ≡ base + j
+              → ((j ≡ index) × (x ≡ w)) ⊎ ((j ≡ index → ⊥) × (slice_get vs j ≡ Some x)) → IsCounted under n t x
+          put j x e (inl (i, is)) = absurd (away (omega (arith, e, i)))
+          put j x e (inr (apart, there)) = h.flying j x e there
 
 -- an offset that is in flight, of a message that may be sent again n times
 pub turned_stand : (n o t base : ℕ) (vs : List Tally) → IsUnder n o base vs → Stands false n o t base vs

@@ -423,8 +423,8 @@ data_polled_status : (a : Shown) (now : ℕ) → IsSameStatus a (data_polled a n
 unfolding data_polled
 data_polled_status a now =
     let size = a.sender.max_payload_size in
-    status_by a _ refl refl refl (data_poll_kept (HasSize size) now a (polls_keep_the_size size (uses_forward_tsn a) now) refl)
-    refl refl refl
+    status_by a _ refl refl refl
+    (data_poll_kept (HasSize size) now a (polls_keep_the_size size (uses_forward_tsn a) now) refl) refl refl refl
 
 exchanged_if : (established : Bool) (a : Shown) (now : ℕ) → is_established a.state ≡ established
     → IsSameStatus a (exchange_polled a now).0

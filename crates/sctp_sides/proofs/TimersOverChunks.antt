@@ -477,17 +477,7 @@ ended_ticks triggers.Delayed a now h = record {
   };
   acks = refl;
 }
-ended_ticks triggers.Immediate a now h = record {
-  working = h.working;
-  not_lost = h.not_lost;
-  fits = record {
-    flies = h.fits.flies;
-    inits = h.fits.inits;
-    cookies = h.fits.cookies;
-    unsent = h.fits.unsent;
-  };
-  acks = refl;
-}
+ended_ticks triggers.Immediate a now h = at_once_ticks a now h
 
 chunks_sound : (header : CommonHeader) (cs : List Chunk) (a : Shown) (trigger : AckTrigger) (now : ℕ) → Ticks a
     → IsSound (after_chunks header cs a trigger now)

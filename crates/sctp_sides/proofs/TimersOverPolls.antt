@@ -1,5 +1,5 @@
--- Polls for packets keep the timers where they should run: T3-rtx is restarted where DATA is sent for the first time, or
--- a message is given up whose time is over.
+-- Polls for packets keep the timers where they should run. T3-rtx is restarted where DATA is sent for the first time,
+-- and where a message is given up whose time is over.
 use Rattle.std.proofs.Common.{◌≡◌, refl, sym, ap, ◌∙◌, subst, ◌⊎◌, ⊎_elim, inl, inr, ℕ, zero, suc, ◌<◌, ◌-◌, ◌==◌}
 use Rattle.std.proofs.Common.{arith, Bool, true, false, eqb, ltb, ◌&&◌, not, if◌then◌else◌, List, [], ◌∷◌, ◌++◌, length}
 use Rattle.std.proofs.Common.{map, slice_get, Option, Some, None, is_some}
@@ -33,7 +33,8 @@ use Rattle.sctp_outbound.specs.Sender.{first_counted, resends_alone, resent_piec
 use Rattle.sctp_outbound.specs.Sender.{sent_within}
 use Rattle.sctp_assoc.specs.Calls.{is_beginning, is_established}
 use Rattle.sctp_assoc.specs.Gather.{ack_polled, after_fast, after_marks, both_of, control_packets, data_polled}
-use Rattle.sctp_assoc.specs.Gather.{exchange_polled, fell_in_poll, is_due, late_abandoned, late_dropped, polled, with_both}
+use Rattle.sctp_assoc.specs.Gather.{exchange_polled, fell_in_poll, is_due, late_abandoned, late_dropped, polled}
+use Rattle.sctp_assoc.specs.Gather.{with_both}
 use Rattle.sctp_assoc.specs.Gather.{with_low_told, with_sent_data, with_t3, without_control}
 use Rattle.sctp_assoc.specs.Shown.{Shown, uses_forward_tsn}
 use Rattle.sctp_assoc.proofs.PollsLeadOn.{both_first}

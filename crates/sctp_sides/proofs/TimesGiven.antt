@@ -219,63 +219,62 @@ module _ (under : Bool) (n o t : ℕ) (small : n < 2 ^ 32 - 1) where
 
 -- Acts, one after another
 
-acts_stand : (under : Bool) (n o t : ℕ) → n < 2 ^ 32 - 1 → (xs : List Act) (p : Parts) → CanAll xs p → AllSpare xs p
-    → StandsIn under n o t p → StandsIn under n o (times_given o xs p + t) (done_all xs p)
-acts_stand under n o t small [] p can spares h = same_stands under n o t small p p refl refl h
-acts_stand under n o t small (x ∷ xs) p (can, cans) (one, more) h =
-    let given : ℕ = if is_that o (offset_given x p) then 1 else 0 in
-    stand_as (omega arith) refl
-    (acts_stand under n o (given + t) small xs (done x p) cans more (act_stands under n o t small x p can one h))
+module _ (under : Bool) (n o : ℕ) (small : n < 2 ^ 32 - 1) where
+  acts_stand : (t : ℕ) (xs : List Act) (p : Parts) → CanAll xs p → AllSpare xs p
+      → StandsIn under n o t p → StandsIn under n o (times_given o xs p + t) (done_all xs p)
+  acts_stand t [] p can spares h = same_stands under n o t small p p refl refl h
+  acts_stand t (x ∷ xs) p (can, cans) (one, more) h =
+      let given : ℕ = if is_that o (offset_given x p) then 1 else 0 in
+      stand_as (omega arith) refl
+      (acts_stand (given + t) xs (done x p) cans more (act_stands under n o t small x p can one h))
 
 -- an act that gives out the offset, of such a message, has it in flight
 
-sent_under : (n o : ℕ) (ms : List Waiting) (now : ℕ) (p : Parts) (message : Attributes)
-    → o ≡ p.history.base + length p.queue.in_flight
-    → option_map (λ (m : Waiting). m.message) (slice_get ms 0) ≡ Some message → message.policy ≡ Rexmit n
-    → IsUnder n o p.history.base (tallies (sent_from ms p.queue now).in_flight)
-sent_under n o [] now p message at of policy = absurd (nothing_there message of)
-sent_under n o (m ∷ ms) now p message at of policy =
-    let l = length-map p.queue.in_flight tally in
-    record {
-      index = length (tallies p.queue.in_flight);
-      piece = (1, m.message.policy);
-      at = omega (arith, at, l);
-      there =
-          ap (λ (vs : List Tally). slice_get vs (length (tallies p.queue.in_flight)))
-          (map-append tally p.queue.in_flight (sent_once now m ∷ []))
-          ∙ get_behind (tallies p.queue.in_flight) [] (1, m.message.policy);
-      policy = ap (λ (a : Attributes). a.policy) (same_value m.message message of) ∙ policy;
-    }
+module _ (n o : ℕ) (p : Parts) (message : Attributes) (policy : message.policy ≡ Rexmit n) where
+  sent_under : (ms : List Waiting) (now : ℕ) → o ≡ p.history.base + length p.queue.in_flight
+      → option_map (λ (m : Waiting). m.message) (slice_get ms 0) ≡ Some message
+      → IsUnder n o p.history.base (tallies (sent_from ms p.queue now).in_flight)
+  sent_under [] now at of = absurd (nothing_there message of)
+  sent_under (m ∷ ms) now at of =
+      let l = length-map p.queue.in_flight tally in
+      record {
+        index = length (tallies p.queue.in_flight);
+        piece = (1, m.message.policy);
+        at = omega (arith, at, l);
+        there =
+            ap (λ (vs : List Tally). slice_get vs (length (tallies p.queue.in_flight)))
+            (map-append tally p.queue.in_flight (sent_once now m ∷ []))
+            ∙ get_behind (tallies p.queue.in_flight) [] (1, m.message.policy);
+        policy = ap (λ (a : Attributes). a.policy) (same_value m.message message of) ∙ policy;
+      }
 
-again_under : (n o : ℕ) (x : Option InFlight) (by : Retransmission) (index : ℕ) (p : Parts) (message : Attributes)
-    → slice_get p.queue.in_flight index ≡ x → o ≡ p.history.base + index
-    → option_map (λ (y : InFlight). y.message) x ≡ Some message → message.policy ≡ Rexmit n
-    → IsUnder n o p.history.base (tallies (changed_from (counted_again by) x p.queue index).in_flight)
-again_under n o None by index p message e at of policy = absurd (nothing_there message of)
-again_under n o (Some x) by index p message e at of policy =
-    let v : Tally = (one_sending_more x.sent_count, x.message.policy) in
-    record {
-      index = index;
-      piece = v;
-      at = at;
-      there =
-          ap (λ (vs : List Tally). slice_get vs index)
-          (tallies_set p.queue.in_flight index (counted_again by x)
-          ∙ ap (λ (z : Tally). slice_set (tallies p.queue.in_flight) index z) (counted_tally by x))
-          ∙ get_set_there (tallies p.queue.in_flight) v (tally x) index (tally_at p.queue.in_flight index x e);
-      policy = ap (λ (a : Attributes). a.policy) (same_value x.message message of) ∙ policy;
-    }
+  again_under : (x : Option InFlight) (by : Retransmission) (index : ℕ)
+      → slice_get p.queue.in_flight index ≡ x → o ≡ p.history.base + index
+      → option_map (λ (y : InFlight). y.message) x ≡ Some message
+      → IsUnder n o p.history.base (tallies (changed_from (counted_again by) x p.queue index).in_flight)
+  again_under None by index e at of = absurd (nothing_there message of)
+  again_under (Some x) by index e at of =
+      let v : Tally = (one_sending_more x.sent_count, x.message.policy) in
+      record {
+        index = index;
+        piece = v;
+        at = at;
+        there =
+            ap (λ (vs : List Tally). slice_get vs index)
+            (tallies_set p.queue.in_flight index (counted_again by x)
+            ∙ ap (λ (z : Tally). slice_set (tallies p.queue.in_flight) index z) (counted_tally by x))
+            ∙ get_set_there (tallies p.queue.in_flight) v (tally x) index (tally_at p.queue.in_flight index x e);
+        policy = ap (λ (a : Attributes). a.policy) (same_value x.message message of) ∙ policy;
+      }
 
-act_under : (n o : ℕ) (x : Act) (p : Parts) (message : Attributes) → offset_given x p ≡ Some o
-    → message_given x p.queue ≡ Some message → message.policy ≡ Rexmit n
-    → IsUnder n o (done x p).history.base (tallies (done x p).queue.in_flight)
-act_under n o (Act.Sent now) p message at of policy =
-    sent_under n o p.queue.pending now p message (sym (same_value (p.history.base + length p.queue.in_flight) o at))
-    of policy
-act_under n o (Act.SentAgain by index) p message at of policy =
-    again_under n o (slice_get p.queue.in_flight index) by index p message refl
-    (sym (same_value (p.history.base + index) o at)) of policy
-act_under n o act p message at of policy = absurd (nothing_there o at)
+  act_under : (x : Act) → offset_given x p ≡ Some o
+      → message_given x p.queue ≡ Some message
+      → IsUnder n o (done x p).history.base (tallies (done x p).queue.in_flight)
+  act_under (Act.Sent now) at of =
+      sent_under p.queue.pending now (sym (same_value (p.history.base + length p.queue.in_flight) o at)) of
+  act_under (Act.SentAgain by index) at of =
+      again_under (slice_get p.queue.in_flight index) by index refl (sym (same_value (p.history.base + index) o at)) of
+  act_under act at of = absurd (nothing_there o at)
 
 -- Acts in two parts
 
@@ -294,25 +293,26 @@ can_parts (x ∷ xs) ys p (one, more) = let rest = can_parts xs ys (done x p) mo
 
 -- Where no act gives out again what was sent as often as its policy allows, an offset whose message may be sent again n
 -- times is given out at most n + 1 times.
-pub spared_offsets_are_kept : (n o : ℕ) (before after : List Act) (act : Act) (p : Parts) → n < 2 ^ 32 - 1
-    → CanAll (before ++ act ∷ after) p → AllSpare (before ++ act ∷ after) p → StandsIn false n o 0 p
-    → GivesUnder n o act (done_all before p) → times_given o (before ++ act ∷ after) p ≤ n + 1
-spared_offsets_are_kept n o before after act p small can spares h under =
-    let cans = can_parts before (act ∷ after) p can in
-    let spared = spares_parts before (act ∷ after) p spares in
-    let q : Parts = done_all before p in
-    let r : Parts = done act q in
-    let given : ℕ = if is_that o (offset_given act q) then 1 else 0 in
-    let so_far : ℕ = given + (times_given o before p + 0) in
-    let there : StandsIn false n o so_far r =
-    act_stands false n o (times_given o before p + 0) small act q cans.1.0 spared.1.0
-    (acts_stand false n o 0 small before p cans.0 spared.0 h) in
-    let turned : StandsIn true n o so_far r =
-    turned_stand n o so_far r.history.base (tallies r.queue.in_flight)
-    (act_under n o act q under.message under.at under.of under.policy) there in
-    let last = acts_stand true n o so_far small after r cans.1.1 spared.1.1 turned in
-    let kept =
-    stands_kept n o (times_given o after r + so_far) (done_all after r).history.base
-    (tallies (done_all after r).queue.in_flight) last in
-    let joined = times_join o before (act ∷ after) p in
-    omega (arith, joined, kept)
+module _ (n o : ℕ) (before after : List Act) (act : Act) (p : Parts) (small : n < 2 ^ 32 - 1) where
+  pub spared_offsets_are_kept : CanAll (before ++ act ∷ after) p → AllSpare (before ++ act ∷ after) p
+      → StandsIn false n o 0 p → GivesUnder n o act (done_all before p)
+      → times_given o (before ++ act ∷ after) p ≤ n + 1
+  spared_offsets_are_kept can spares h under =
+      let cans = can_parts before (act ∷ after) p can in
+      let spared = spares_parts before (act ∷ after) p spares in
+      let q : Parts = done_all before p in
+      let r : Parts = done act q in
+      let given : ℕ = if is_that o (offset_given act q) then 1 else 0 in
+      let so_far : ℕ = given + (times_given o before p + 0) in
+      let there : StandsIn false n o so_far r =
+      act_stands false n o (times_given o before p + 0) small act q cans.1.0 spared.1.0
+      (acts_stand false n o small 0 before p cans.0 spared.0 h) in
+      let turned : StandsIn true n o so_far r =
+      turned_stand n o so_far r.history.base (tallies r.queue.in_flight)
+      (act_under n o q under.message under.policy act under.at under.of) there in
+      let last = acts_stand true n o small so_far after r cans.1.1 spared.1.1 turned in
+      let kept =
+      stands_kept n o (times_given o after r + so_far) (done_all after r).history.base
+      (tallies (done_all after r).queue.in_flight) last in
+      let joined = times_join o before (act ∷ after) p in
+      omega (arith, joined, kept)

@@ -1,6 +1,7 @@
 -- New DATA stays within the congestion window, or is alone in flight.
 use Rattle.std.proofs.Common.{◌≡◌, refl, sym, ap, ◌∙◌, subst, ◌⊎◌, ⊎_elim, inl, inr, ℕ, zero, suc, ◌<◌, ◌≤◌, ◌+◌, ◌-◌}
-use Rattle.std.proofs.Common.{◌^◌, arith, min, Bool, true, false, eqb, ◌&&◌, ◌||◌, not, if◌then◌else◌, List, [], ◌∷◌, ◌++◌}
+use Rattle.std.proofs.Common.{◌^◌, arith, min, Bool, true, false, eqb, ◌&&◌, ◌||◌, not, if◌then◌else◌, List, [], ◌∷◌}
+use Rattle.std.proofs.Common.{◌++◌}
 use Rattle.std.proofs.Common.{length, nat_le, slice_get, Some}
 use Rattle.std.specs.List.{AllByRecursion, list_any}
 use Rattle.std.proofs.lemmas.Bool.{and_parts, cases_Bool, eqb-true, false≢true, leb-true, or_left, or_right}
@@ -20,7 +21,8 @@ use Rattle.sctp_outbound.specs.Forward.{forward_given}
 use Rattle.sctp_outbound.specs.Sender.{can_send_next, fits_windows, sent_new, sent_one, sent_within}
 use Rattle.sctp_directions.specs.Acts.{Act}
 use Rattle.sctp_assoc.specs.Calls.{is_established}
-use Rattle.sctp_assoc.specs.Gather.{control_packets, data_polled, exchange_polled, fast_polled, is_due, late_dropped, polled}
+use Rattle.sctp_assoc.specs.Gather.{control_packets, data_polled, exchange_polled, fast_polled, is_due, late_dropped}
+use Rattle.sctp_assoc.specs.Gather.{polled}
 use Rattle.sctp_assoc.specs.Gather.{without_control}
 use Rattle.sctp_assoc.specs.Happened.{acts_of_ack, acts_of_data_poll, acts_of_forwarding, acts_of_new}
 use Rattle.sctp_assoc.specs.Happened.{acts_of_sending, first_sent, forwards_of_poll}

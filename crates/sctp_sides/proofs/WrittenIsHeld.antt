@@ -1,5 +1,6 @@
 -- What was written waits or is in flight, and a poll loses none of it but what is dropped, its lifetime being over.
-use Rattle.std.proofs.Common.{◌≡◌, refl, sym, ap, ◌∙◌, subst, ◌⊎◌, ⊎_elim, inl, inr, ℕ, zero, suc, ◌-◌, Bool, true, false}
+use Rattle.std.proofs.Common.{◌≡◌, refl, sym, ap, ◌∙◌, subst, ◌⊎◌, ⊎_elim, inl, inr, ℕ, zero, suc, ◌-◌, Bool, true}
+use Rattle.std.proofs.Common.{false}
 use Rattle.std.proofs.Common.{◌||◌, ◌&&◌, not, eqb, if◌then◌else◌, List, [], ◌∷◌, ◌++◌, length, map, nat_lt, slice_get}
 use Rattle.std.proofs.Common.{Option, Some, None, is_some}
 use Rattle.std.specs.List.{list_any}
@@ -16,14 +17,16 @@ use Rattle.sctp_outbound_queue.specs.declared.message.Retransmission.{Retransmis
 use Rattle.sctp_outbound_queue.specs.declared.message.Retransmission.TheVariants as causes
 use Rattle.sctp_outbound_queue.specs.Expiry.{after_tail_expiry_of, is_expired_tail, without_expired}
 use Rattle.sctp_outbound_queue.specs.Message.{accepted, counted_again, deadline_under, flagged, is_expired}
-use Rattle.sctp_outbound_queue.specs.Message.{is_expired_unsent, is_of, is_past, marker_of, moved_down, picks, room_taken}
+use Rattle.sctp_outbound_queue.specs.Message.{is_expired_unsent, is_of, is_past, marker_of, moved_down, picks}
+use Rattle.sctp_outbound_queue.specs.Message.{room_taken}
 use Rattle.sctp_outbound_queue.specs.Message.{sent_once, sent_started, share_ssns, started, waiting_started}
 use Rattle.sctp_outbound_queue.specs.Outbound.{Outbound, abandoned_from, left_behind, pieces_waiting, sent_from}
 use Rattle.sctp_outbound_queue.specs.Outbound.{tail_dropped, tail_dropped_from}
 use Rattle.sctp_outbound_queue.specs.Waiting.{Waiting}
 use Rattle.sctp_outbound.specs.declared.sender.Sender.{Sender}
 use Rattle.sctp_outbound.specs.Abandonment.{abandoned_of, first_dropped, tail_given_up, with_started}
-use Rattle.sctp_outbound.specs.Sender.{after_marked, after_missing, both_windows, can_send_next, fast_room, first_counted}
+use Rattle.sctp_outbound.specs.Sender.{after_marked, after_missing, both_windows, can_send_next, fast_room}
+use Rattle.sctp_outbound.specs.Sender.{first_counted}
 use Rattle.sctp_outbound.specs.Sender.{resends_alone, resent_pieces, sent_new, sent_one, sent_within, with_in_flight}
 use Rattle.sctp_outbound.proofs.SenderSteps.{pieces_full, pieces_sent, pieces_skip}
 use Rattle.sctp_streams.specs.Stream.{StreamView}
@@ -405,53 +408,56 @@ drop_held (m ∷ ms) now number e = ⊎_elim
         in
         ⊎_elim
         (λ (this : (m.message.message_id == number) ≡ true).
-        inl (ap (waits number) is ∙ or_left (m.message.message_id == number) (waits number (without_expired now ms)) this))
+        inl (ap (waits number) is
+        ∙ or_left (m.message.message_id == number) (waits number (without_expired now ms)) this))
         (λ (other : (m.message.message_id == number) ≡ false). ⊎_elim
         (λ (on : waits number (without_expired now ms) ≡ true).
-        inl (ap (waits number) is ∙ or_right (m.message.message_id == number) (waits number (without_expired now ms)) on))
+        inl (ap (waits number) is
+        ∙ or_right (m.message.message_id == number) (waits number (without_expired now ms)) on))
         (λ (w : WaitsLate now number ms). inr (later_late now number m ms w))
         (rest (or_other (m.message.message_id == number) (waits number ms) e other)))
         (cases_Bool (m.message.message_id == number))
 
 -- what is left of those that wait was late before
 
-tail_late : (c : Bool) (m : Waiting) (ms : List Waiting) (q : Outbound) (id now number : ℕ) → q.pending ≡ m ∷ ms
-    → (m.message.message_id == id) ≡ c → WaitsLate now number (tail_dropped_from (m ∷ ms) q id).0.pending
-    → WaitsLate now number q.pending
-tail_late true m ms q id now number waiting e w =
-    let is : (tail_dropped_from (m ∷ ms) q id).0.pending ≡ ms = rw e refl in
-    subst (WaitsLate now number) (sym waiting) (later_late now number m ms (subst (WaitsLate now number) is w))
-tail_late false m ms q id now number waiting e w =
-    let is : (tail_dropped_from (m ∷ ms) q id).0.pending ≡ q.pending = rw e refl in
-    subst (WaitsLate now number) is w
+module _ (now number : ℕ) where
+  tail_late : (c : Bool) (m : Waiting) (ms : List Waiting) (q : Outbound) (id : ℕ) → q.pending ≡ m ∷ ms
+      → (m.message.message_id == id) ≡ c → WaitsLate now number (tail_dropped_from (m ∷ ms) q id).0.pending
+      → WaitsLate now number q.pending
+  tail_late true m ms q id waiting e w =
+      let is : (tail_dropped_from (m ∷ ms) q id).0.pending ≡ ms = rw e refl in
+      subst (WaitsLate now number) (sym waiting) (later_late now number m ms (subst (WaitsLate now number) is w))
+  tail_late false m ms q id waiting e w =
+      let is : (tail_dropped_from (m ∷ ms) q id).0.pending ≡ q.pending = rw e refl in
+      subst (WaitsLate now number) is w
 
-tails_late : (ms : List Waiting) (q : Outbound) (id now number : ℕ) → q.pending ≡ ms
-    → WaitsLate now number (tail_dropped_from ms q id).0.pending → WaitsLate now number q.pending
-tails_late [] q id now number waiting w = w
-tails_late (m ∷ ms) q id now number waiting w =
-    tail_late (m.message.message_id == id) m ms q id now number waiting refl w
+  tails_late : (ms : List Waiting) (q : Outbound) (id : ℕ) → q.pending ≡ ms
+      → WaitsLate now number (tail_dropped_from ms q id).0.pending → WaitsLate now number q.pending
+  tails_late [] q id waiting w = w
+  tails_late (m ∷ ms) q id waiting w =
+      tail_late (m.message.message_id == id) m ms q id waiting refl w
 
-abandoned_late : (o : Option InFlight) (q : Outbound) (now number : ℕ)
-    → WaitsLate now number (abandoned_from o q).0.pending → WaitsLate now number q.pending
-abandoned_late None q now number w = w
-abandoned_late (Some p) q now number w = tails_late q.pending q p.message.message_id now number refl w
+  abandoned_late : (o : Option InFlight) (q : Outbound)
+      → WaitsLate now number (abandoned_from o q).0.pending → WaitsLate now number q.pending
+  abandoned_late None q w = w
+  abandoned_late (Some p) q w = tails_late q.pending q p.message.message_id refl w
 
-late_tails_late_if : (c : Bool) (m : Waiting) (ms : List Waiting) (q : Outbound) (at now number : ℕ)
-    → is_expired_tail at m q.in_flight ≡ c → WaitsLate now number (after_tail_expiry_of (m ∷ ms) q at).0.pending
-    → WaitsLate now number q.pending
-late_tails_late_if true m ms q at now number e w =
-    let is : (after_tail_expiry_of (m ∷ ms) q at).0.pending ≡ (tail_dropped q m.message.message_id).0.pending =
-    rw e refl in
-    tails_late q.pending q m.message.message_id now number refl (subst (WaitsLate now number) is w)
-late_tails_late_if false m ms q at now number e w =
-    let is : (after_tail_expiry_of (m ∷ ms) q at).0.pending ≡ q.pending = rw e refl in
-    subst (WaitsLate now number) is w
+  late_tails_late_if : (c : Bool) (m : Waiting) (ms : List Waiting) (q : Outbound) (at : ℕ)
+      → is_expired_tail at m q.in_flight ≡ c → WaitsLate now number (after_tail_expiry_of (m ∷ ms) q at).0.pending
+      → WaitsLate now number q.pending
+  late_tails_late_if true m ms q at e w =
+      let is : (after_tail_expiry_of (m ∷ ms) q at).0.pending ≡ (tail_dropped q m.message.message_id).0.pending =
+      rw e refl in
+      tails_late q.pending q m.message.message_id refl (subst (WaitsLate now number) is w)
+  late_tails_late_if false m ms q at e w =
+      let is : (after_tail_expiry_of (m ∷ ms) q at).0.pending ≡ q.pending = rw e refl in
+      subst (WaitsLate now number) is w
 
-late_tails_late : (ms : List Waiting) (q : Outbound) (at now number : ℕ)
-    → WaitsLate now number (after_tail_expiry_of ms q at).0.pending → WaitsLate now number q.pending
-late_tails_late [] q at now number w = w
-late_tails_late (m ∷ ms) q at now number w =
-    late_tails_late_if (is_expired_tail at m q.in_flight) m ms q at now number refl w
+  late_tails_late : (ms : List Waiting) (q : Outbound) (at : ℕ)
+      → WaitsLate now number (after_tail_expiry_of ms q at).0.pending → WaitsLate now number q.pending
+  late_tails_late [] q at w = w
+  late_tails_late (m ∷ ms) q at w =
+      late_tails_late_if (is_expired_tail at m q.in_flight) m ms q at refl w
 
 -- A message of this number is held, or was late among these; and what is late now was late among these.
 record HoldsOrDropped (now number : ℕ) (ms : List Waiting) (x : Sender × StreamMap) : Type 0 where
@@ -484,14 +490,14 @@ module _ (now number : ℕ) (ms : List Waiting) where
   abandoned_on index (s, m) h =
       held_on (s, m) (abandoned_of index (s, m))
       (abandoned_held (slice_get s.queue.in_flight index) s.queue number)
-      (abandoned_late (slice_get s.queue.in_flight index) s.queue now number) h
+      (abandoned_late now number (slice_get s.queue.in_flight index) s.queue) h
 
   tail_on : (at : ℕ) (x : Sender × StreamMap) → HoldsOrDropped now number ms x
       → HoldsOrDropped now number ms (tail_given_up at x)
   unfolding tail_given_up
   tail_on at (s, m) h =
       held_on (s, m) (tail_given_up at (s, m)) (late_tail_held s.queue.pending s.queue at number)
-      (late_tails_late s.queue.pending s.queue at now number) h
+      (late_tails_late now number s.queue.pending s.queue at) h
 
   dropped_on : (x : Sender × StreamMap) → HoldsOrDropped now number ms x
       → HoldsOrDropped now number ms (first_dropped now x)
