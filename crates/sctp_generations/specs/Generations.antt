@@ -73,7 +73,8 @@ retired_by retirements.Unchanged g id boundary = without_newest g id
 abbrev pub retired : GenerationsView → ℕ → ℕ → Bool → GenerationsView
 retired g id boundary is_drained = retired_by (retirement_of g id boundary is_drained) g id boundary
 
--- Where the readable generation of a stream ended and nothing of it is left to read, it is over; and whether it is.
+-- Where the readable generation of a stream ended and nothing of it is left to read, it is over. The test says whether
+-- it is.
 abbrev pub drained : GenerationsView → ℕ → ℕ → GenerationsView × Bool
 drained g id waiting =
     if retires g id && (waiting == 0) then (record g { retiring = passed g.retiring id }, true) else (g, false)

@@ -5,8 +5,8 @@ use Rattle.std.specs.Ordering.{nat_cmp}
 use Rattle.std.specs.BTreeMap.{is_at, insert_entry}
 use Rattle.std.specs.Map.{lookup, set_value, remove_entry}
 
--- The retiring streams, identifiers ascending, and of each the boundaries of its ended generations: the last TSNs that
--- the peer's reset requests named, that of the generation that is read first. At each stands one boundary at least.
+-- The retiring streams, identifiers ascending. Each has the boundaries of its ended generations, one at least: the last
+-- TSNs that the peer's reset requests named. That of the generation that is read stands first.
 abbrev pub RetiringMap : Type 0
 RetiringMap = List (ℕ × List ℕ)
 

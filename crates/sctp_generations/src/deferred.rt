@@ -1,9 +1,9 @@
 // DATA of generations that are not read yet.
-ghost use Rattle.std.specs.Prelude.{◌≡◌, ◌+◌, ◌-◌, ◌^◌, ◌<◌, ◌≤◌, ◌++◌, [], length, min, fold, OnOk, OnErr, IfOk, IfSome};
+ghost use Rattle.std.specs.Prelude.{◌≡◌, ◌+◌, ◌-◌, ◌^◌, ◌<◌, ◌≤◌, ◌++◌, [], length, min, fold};
 ghost use Rattle.sctp_receive_queues.specs.Pieces.{bytes_of, index_of, last_of};
 ghost use Rattle.sctp_generations.specs.Deferred.{is_up_to, is_of, is_before, place_of, deferred_with, is_between};
 ghost use Rattle.sctp_generations.specs.Deferred.{has_between, is_due, released, still_deferred, without_stream};
-ghost use Rattle.std.specs.Prelude.{position, not, filter};
+ghost use Rattle.std.specs.Prelude.{OnOk, OnErr, IfOk, IfSome, position, not, filter};
 ghost use Rattle.sctp_serial.specs.Serial.{tsn_lt};
 
 use crate::retiring::Retiring;

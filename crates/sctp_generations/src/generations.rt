@@ -158,8 +158,8 @@ impl Generations {
         }
     }
 
-    /// Takes out the DATA of the generation of a stream that is read now, in the order of the TSNs. `in_progress` is the
-    /// last TSN of a request in progress that names the stream. Where memory is refused nothing changes.
+    /// Takes out the DATA of the generation of a stream that is read now, in the order of the TSNs. `in_progress` is
+    /// the last TSN of a request in progress that names the stream. Where memory is refused nothing changes.
     pub fn release(
         &mut self,
         id: StreamId,
@@ -183,8 +183,8 @@ impl Generations {
         }
     }
 
-    /// Takes out the DATA of all streams that do not retire, in the order of the TSNs: a request was performed, and none
-    /// is in progress. Where memory is refused nothing changes.
+    /// Takes out the DATA of all streams that do not retire, in the order of the TSNs: a request was performed, and
+    /// none is in progress. Where memory is refused nothing changes.
     pub fn release_all(&mut self) -> Result<VecDeque<ChunkPayloadData>, AllocError>
         ensures given { IfOk result (λ given. given.items ≡ given_to_all self.old) }
         ensures left { OnOk result (self.new ≡ after_given_to_all self.old) }

@@ -1,5 +1,5 @@
-//! The generations of streams under reset (RFC 6525, RFC 8831 section 6.7): those that ended and are still read, and the
-//! DATA and skips of FORWARD TSN that wait for those behind them.
+//! The generations of streams under reset (RFC 6525, RFC 8831 section 6.7): those that ended and are still read, and
+//! the DATA and skips of FORWARD TSN that wait for those behind them.
 #![tactic(auto)]
 
 mod boundaries;

@@ -91,7 +91,7 @@ impl KeptSkips {
 }
 
 impl KeptSkip {
-    // Where this is of a generation of the stream that did not end before, that ends with this boundary.
+    // A skip of the generation of this stream that did not end before: that one ends with this boundary.
     fn end(&mut self, id: StreamId, boundary: u32)
         ensures { self.new ≡ with_boundary id boundary self.old }
     {
