@@ -103,8 +103,8 @@ impl Events {
         self.queue.pop_front()
     }
 
-    /// Takes out the event at an index, the oldest at 0; None where there is none at it. Moves the events of the shorter
-    /// side.
+    /// Takes out the event at an index, the oldest at 0; None where there is none at it. Moves the events of the
+    /// shorter side.
     pub fn take(&mut self, index: usize) -> Option<Event>
         ensures taken { result ≡ slice_get self.old index }
         ensures rest { self.new ≡ remove self.old index }
