@@ -1,3 +1,4 @@
 pub mod ReadableStreams
 pub mod WaitingBytes
 pub mod LowMarks
+pub mod StreamChanges

@@ -2,3 +2,4 @@ pub mod Stats
 pub mod Stream
 pub mod Streams
 pub mod LowMarks
+pub mod Events

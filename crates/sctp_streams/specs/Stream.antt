@@ -152,6 +152,10 @@ stream_skipped ssn s = record s { reassembly = skipped s.reassembly ssn }
 abbrev pub stream_passed : ℕ → StreamView → StreamView
 stream_passed tsn s = record s { reassembly = unordered_skipped s.reassembly tsn }
 
+-- all that waited to be read was dropped, and the message of SSN 0 is read next
+abbrev pub without_unread : StreamView → StreamView
+without_unread s = record s { reassembly = empty_reassembly }
+
 abbrev pub stream_pushed : StreamView → ChunkPayloadData → StreamView × Bool
 stream_pushed s p = (record s { reassembly = (pushed s.reassembly p).0 }, (pushed s.reassembly p).1)
 

@@ -4,13 +4,13 @@ use Rattle.std.specs.Prelude.{min, nat_lt, not, sum_by, Option, Some, None}
 use Rattle.std.specs.List.{list_any}
 use Rattle.std.specs.Ordering.{nat_cmp}
 use Rattle.std.specs.BTreeMap.{is_at, insert_entry}
-use Rattle.std.specs.Map.{lookup, set_value}
+use Rattle.std.specs.Map.{lookup, remove_entry, set_value}
 use Rattle.sctp_wire_types.specs.declared.ids.PayloadProtocolIdentifier.{PayloadProtocolIdentifier}
 use Rattle.sctp_wire_types.specs.declared.chunk.ChunkPayloadData.{ChunkPayloadData}
 use Rattle.sctp_wire_types.specs.declared.error.Error.{Error}
 use Rattle.sctp_streams.specs.declared.stats.DataChannelStats.{DataChannelStats}
 use Rattle.sctp_receive_queues.specs.Messages.{ReceivedMessage}
-use Rattle.sctp_receive_queues.specs.Reassembly.{is_ready, refusal, skipped}
+use Rattle.sctp_receive_queues.specs.Reassembly.{bounded, is_ready, refusal, skipped}
 use Rattle.sctp_receive_queues.specs.Reassembly as reassembly
 use Rattle.sctp_streams.specs.Stream.{StreamView, falls_to_low_mark, fresh_stream, gives_messages, reaches_high_mark}
 use Rattle.sctp_streams.specs.Stream.{released_from, stream_passed, stream_pushed, stream_read, with_ssn_given_back}
@@ -107,6 +107,15 @@ becomes_ready (Some s) ssn = not (is_ready s.reassembly) && is_ready (skipped s.
 abbrev pub becomes_ready_in : StreamMap → ℕ → ℕ → Bool
 becomes_ready_in m id ssn = becomes_ready (stream_at m id) ssn
 
+abbrev pub bound_of_skip_at : Option StreamView → ℕ → ℕ → ℕ
+bound_of_skip_at None ssn tsn = ssn
+bound_of_skip_at (Some s) ssn tsn = bounded s.reassembly.ordered ssn tsn
+
+-- how far a skip up to an SSN goes on a live stream among the messages that have no piece above a TSN; all the way
+-- where the stream is not live
+abbrev pub bound_of_skip_in : StreamMap → ℕ → ℕ → ℕ → ℕ
+bound_of_skip_in m id ssn tsn = bound_of_skip_at (stream_at m id) ssn tsn
+
 abbrev pub passed_each : ℕ → List (ℕ × StreamView) → List (ℕ × StreamView)
 passed_each tsn es = map (λ e. (e.0, stream_passed tsn e.1)) es
 
@@ -160,6 +169,14 @@ waiting_in es = sum_by (λ (s : StreamView). reassembly.bytes_waiting s.reassemb
 abbrev pub bytes_waiting : StreamMap → ℕ
 bytes_waiting m = fold (λ sum s. min (sum + reassembly.bytes_waiting s.reassembly) (2 ^ 64 - 1)) 0 (live_streams m)
 
+abbrev pub waiting_at : Option StreamView → ℕ
+waiting_at None = 0
+waiting_at (Some s) = reassembly.bytes_waiting s.reassembly
+
+-- the bytes that came on a live stream and were not read; none where it is not live
+abbrev pub waiting_of : StreamMap → ℕ → ℕ
+waiting_of m id = waiting_at (stream_at m id)
+
 abbrev pub first_ended_of : List (ℕ × StreamView) → ℕ → StreamMap × Option DataChannelStats
 first_ended_of [] next = (record { by_id = []; next_generation = next }, None)
 first_ended_of (e ∷ es) next = (record { by_id = es; next_generation = next }, Some e.1.stats)
@@ -167,6 +184,10 @@ first_ended_of (e ∷ es) next = (record { by_id = es; next_generation = next },
 -- what is left without the stream of the least identifier, and that stream's last counters
 abbrev pub first_ended : StreamMap → StreamMap × Option DataChannelStats
 first_ended m = first_ended_of m.by_id m.next_generation
+
+-- without the stream of this identifier, if it is live
+abbrev pub without_stream : StreamMap → ℕ → StreamMap
+without_stream m id = record m { by_id = remove_entry (is_at (nat_cmp id)) m.by_id }
 
 abbrev pub stats_of_each : List (ℕ × StreamView) → List DataChannelStats
 stats_of_each [] = []

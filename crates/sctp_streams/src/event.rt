@@ -1,10 +1,12 @@
 // Events that an application asks for.
 ghost use Rattle.std.specs.Prelude.{◌≡◌, [], ◌∷◌, ◌++◌, ◌<◌, ◌≤◌, OnOk, OnErr, option_to_list, slice_get};
-ghost use Rattle.std.specs.Prelude.{IsSome, length, ◌↔◌};
+ghost use Rattle.std.specs.Prelude.{IsSome, length, ◌↔◌, not, remove};
+ghost use Rattle.std.specs.List.{filter};
 ghost use Rattle.sctp_streams.specs.declared.event.AssociationError.TheVariants.{HandshakeFailed};
+ghost use Rattle.sctp_streams.specs.Events.{is_told_of};
 
 use crate::DataChannelStats;
-use sctp_wire_types::{Error, StreamEvent};
+use sctp_wire_types::{Error, StreamEvent, StreamId};
 use std::alloc::{AllocError, Global};
 use std::collections::VecDeque;
 use std::marker::Model;
@@ -101,11 +103,51 @@ impl Events {
         self.queue.pop_front()
     }
 
+    /// Takes out the event at an index, the oldest at 0; None where there is none at it. Moves the events of the
+    /// shorter side.
+    pub fn take(&mut self, index: usize) -> Option<Event>
+        ensures taken { result ≡ slice_get self.old index }
+        ensures rest { self.new ≡ remove self.old index }
+    {
+        self.queue.remove(index)
+    }
+
+    /// The events, oldest first.
+    pub fn as_queue(&self) -> &VecDeque<Event>
+        ensures { result.now.items ≡ self.now }
+    {
+        &self.queue
+    }
+
+    /// Tells no more that a stream was opened and that it can be read. Goes over all events.
+    pub fn untell(&mut self, id: StreamId)
+        ensures { self.new ≡ filter (λ e. not (is_told_of id e)) self.old }
+    {
+        drop_told(&mut self.queue, id);
+    }
+
     /// Takes out the newest event, so that a push is undone by it.
     pub fn take_back(&mut self) -> Option<Event>
         ensures newest { self.old ≡ self.new ++ option_to_list result }
         ensures some { IsSome result ↔ (0 < length self.old) }
     {
         self.queue.pop_back()
+    }
+}
+
+fn drop_told(queue: &mut VecDeque<Event>, id: StreamId)
+    ensures { queue.new.items ≡ filter (λ e. not (is_told_of id e)) queue.old.items }
+{
+    queue.retain(|event| !is_told_of(*event, id));
+}
+
+// Whether an event says that a stream was opened or can be read.
+fn is_told_of(event: Event, id: StreamId) -> bool
+    ensures { result ≡ is_told_of id event }
+{
+    match event {
+        Event::Stream(StreamEvent::Opened { id: of }) => of == id,
+        Event::Stream(StreamEvent::Readable { id: of }) => of == id,
+        _ => false,
     }
 }

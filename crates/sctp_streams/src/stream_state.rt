@@ -5,8 +5,8 @@ ghost use Rattle.sctp_streams.specs.Stream.{fresh_stream, params_for, accepted_b
 ghost use Rattle.sctp_streams.specs.Stream.{falls_to_low_mark, with_ssn_given_back, with_restarted_ssn, with_setting};
 ghost use Rattle.sctp_streams.specs.Stream.{with_halves, without_read_half, is_read_half_open, gives_messages};
 ghost use Rattle.sctp_streams.specs.Stream.{is_write_half_open, stream_passed, stream_pushed, stream_read};
-ghost use Rattle.sctp_streams.specs.Stream.{stream_skipped};
-ghost use Rattle.sctp_receive_queues.specs.Reassembly.{is_ready, bytes_waiting, refusal};
+ghost use Rattle.sctp_streams.specs.Stream.{stream_skipped, without_unread};
+ghost use Rattle.sctp_receive_queues.specs.Reassembly.{bounded, is_ready, bytes_waiting, refusal};
 
 use crate::{DataChannelStats, RecvSendState, ReliabilityParams, Setting};
 use sctp_receive_queues::{Chunks, ReassemblyQueue};
@@ -279,6 +279,22 @@ impl StreamState {
         ensures { self.new ≡ stream_passed tsn self.old }
     {
         self.reassembly.forward_tsn_for_unordered(tsn);
+    }
+
+    /// How far a skip up to an SSN goes among the messages that have no piece above a TSN: the greatest SSN up to this
+    /// one that is before every ordered message with such a piece. Goes over the ordered messages that wait.
+    pub fn bound_of_skip(&self, ssn: u16, tsn: u32) -> u16
+        ensures { result ≡ bounded self.now.reassembly.ordered ssn tsn }
+    {
+        self.reassembly
+            .applicable_forward_tsn_for_ordered_bounded(ssn, tsn)
+    }
+
+    /// Drops all that waits to be read; the message of SSN 0 is read next.
+    pub fn drop_unread(&mut self, alloc: Global)
+        ensures { self.new ≡ without_unread self.old }
+    {
+        self.reassembly = ReassemblyQueue::new(alloc);
     }
 
     /// Whether a message can be read.

@@ -2,7 +2,7 @@
 ghost use Rattle.std.specs.Prelude.{◌≡◌, ◌==◌, true, false, if◌then◌else◌, length, IfOk, OnOk, OnErr, is_some, IsOk};
 ghost use Rattle.std.specs.Prelude.{IfErr, ◌⊎◌, Some, None, min, ◌+◌, ◌-◌, ◌^◌};
 ghost use Rattle.std.specs.Prelude.{map};
-ghost use Rattle.std.specs.Option.{option_copied};
+ghost use Rattle.std.specs.Option.{option_copied, option_map};
 ghost use Rattle.sctp_receive_queues.specs.Reassembly.{bytes_waiting as waiting_on, saturated_bytes};
 ghost use Rattle.sctp_streams.specs.Streams.{no_stream, stream_at, has_room, made, generation_left, bytes_waiting};
 ghost use Rattle.sctp_streams.specs.Streams.{first_ended, changed_stream, released_in, is_generation, pushed_in};
@@ -10,8 +10,9 @@ ghost use Rattle.sctp_streams.specs.Streams.{refusal_in, read_in, is_readable_in
 ghost use Rattle.sctp_streams.specs.Streams.{reaches_high_mark_at, falls_to_low_mark_in, live_ids};
 ghost use Rattle.sctp_streams.specs.Streams.{some_gives_messages};
 ghost use Rattle.sctp_streams.specs.Streams.{becomes_ready_in, given_back_in, passed_in, passed_each};
-ghost use Rattle.sctp_streams.specs.Stream.{StreamView};
-ghost use Rattle.sctp_streams.specs.Stream.{accepted_by, stream_skipped, with_setting};
+ghost use Rattle.sctp_streams.specs.Streams.{bound_of_skip_in, waiting_of, without_stream};
+ghost use Rattle.sctp_streams.specs.Stream.{StreamView, with_halves, with_restarted_ssn, without_read_half};
+ghost use Rattle.sctp_streams.specs.Stream.{accepted_by, stream_skipped, with_setting, without_unread};
 ghost use Rattle.sctp_streams.specs.LowMarks.{IsGathered};
 
 use crate::{DataChannelStats, Fallen, Setting, StreamState};
@@ -311,6 +312,79 @@ impl Streams {
         ensures { result ≡ (length self.now.by_id == 0) }
     {
         self.by_id.is_empty()
+    }
+
+    /// Ends the live stream of an identifier and gives its last counters; None where it is not live.
+    pub fn end(&mut self, id: StreamId) -> Option<DataChannelStats>
+        ensures stats { result ≡ option_map (λ s. s.stats) (stream_at self.old id) }
+        ensures left { self.new ≡ without_stream self.old id }
+    {
+        let ended = self.by_id.remove(&id)?;
+        self.waiting = self.waiting.saturating_sub(ended.waiting_bytes());
+        let gave = one_if(ended.gives_messages());
+        self.readable = self.readable.saturating_sub(gave);
+        Some(ended.stats())
+    }
+
+    /// The own reset of a live stream ended in success: its SSNs begin again at 0 (RFC 6525 section 5.1.2). Where the
+    /// stream is not live nothing changes.
+    pub fn restart_ssn(&mut self, id: StreamId)
+        ensures { self.new ≡ changed_stream with_restarted_ssn self.old id }
+    {
+        let Some(stream) = self.by_id.get_mut(&id) else {
+            return;
+        };
+        stream.restart_ssn();
+    }
+
+    /// Closes the read half of a live stream: no read gives a message from then on. Where the stream is not live
+    /// nothing changes.
+    pub fn close_read_half(&mut self, id: StreamId)
+        ensures { self.new ≡ changed_stream (λ s. with_halves s (without_read_half s.halves)) self.old id }
+    {
+        let Some(stream) = self.by_id.get_mut(&id) else {
+            return;
+        };
+        let gave = stream.gives_messages();
+        stream.close_read_half();
+        self.readable = recounted(self.readable, gave, false, self.by_id.len() as u64);
+    }
+
+    /// Drops all that waits to be read on a live stream; the message of SSN 0 is read next. Where the stream is not
+    /// live nothing changes.
+    pub fn drop_unread(&mut self, alloc: Global, id: StreamId)
+        ensures { self.new ≡ changed_stream without_unread self.old id }
+    {
+        let Some(stream) = self.by_id.get_mut(&id) else {
+            return;
+        };
+        let gave = stream.gives_messages();
+        let dropped = stream.waiting_bytes();
+        stream.drop_unread(alloc);
+        self.readable = recounted(self.readable, gave, false, self.by_id.len() as u64);
+        self.waiting = self.waiting.saturating_sub(dropped);
+    }
+
+    /// How far a skip up to an SSN goes on a live stream among the messages that have no piece above a TSN: the
+    /// greatest SSN up to this one that is before every ordered message with such a piece. The SSN itself where the
+    /// stream is not live. Goes over the ordered messages that wait there.
+    pub fn bound_of_skip(&self, id: StreamId, ssn: u16, tsn: u32) -> u16
+        ensures { result ≡ bound_of_skip_in self.now id ssn tsn }
+    {
+        match self.get(id) {
+            Some(stream) => stream.bound_of_skip(ssn, tsn),
+            None => ssn,
+        }
+    }
+
+    /// Bytes that came on a live stream and were not read; 0 where it is not live.
+    pub fn waiting_bytes_of(&self, id: StreamId) -> u64
+        ensures { result ≡ waiting_of self.now id }
+    {
+        match self.get(id) {
+            Some(stream) => stream.waiting_bytes(),
+            None => 0,
+        }
     }
 
     /// Ends the live stream with the least identifier and gives its last counters.

@@ -1,0 +1,19 @@
+use Rattle.std.proofs.Common.{◌≡◌, ◌-◌, ap, ◌∙◌, sym, if◌then◌else◌, arith, rules, Bool}
+use Rattle.sctp_streams.proofs.StreamChanges.{ended_bytes, ended_count}
+use Rattle.sctp_streams.proofs.streams.Streams.end.Goals as goal
+
+pub invariant_of-self-2 : goal.invariant_of-self-2
+invariant_of-self-2 c =
+    let there = sym c.remove.ensures.value ∙ c.in_ok-ended.was in
+    let old = c.self.inside.by_id.entries in
+    let new = c.remove.new.self.entries in
+    let sum = ended_bytes c.args.id old new c.in_ok-ended.ended there c.remove.ensures.entries in
+    let count = ended_count c.args.id old new c.in_ok-ended.ended there c.remove.ensures.entries in
+    let bytes = c.waiting_bytes.ensures in
+    let gave = c.one_if-gave.ensures ∙ ap (λ (g : Bool). if g then 1 else 0) c.gives_messages.ensures in
+    let less : c.saturating_sub-self-inside.result ≡ c.self.inside.waiting - c.waiting_bytes.result = search rules in
+    let fewer : c.saturating_sub-self-inside-2.result ≡ c.self.inside.readable - c.one_if-gave.result =
+    search rules in (
+      omega (arith, sum, bytes, less, c.self.invariant.0),
+      omega (arith, count, gave, fewer, c.self.invariant.1),
+    )
