@@ -304,40 +304,14 @@ module _ (m : StreamMap) (id bytes : ℕ) (t u : StreamView) (there : stream_at 
         some = λ r. subst (λ z. 0 < length z) (sym more) (insert_some id (fallen before m));
       }
 
--- a release is gathered where its stream falls to its low mark by it
-pub gathers_release : (m : StreamMap) (id generation bytes : ℕ) (f g : FallenView)
-    → (falls_to_low_mark_in m id generation bytes ≡ true → g.refused ≡ false → g.ids ≡ f.ids ++ id ∷ [])
-    → (falls_to_low_mark_in m id generation bytes ≡ true → g.refused ≡ false → f.refused ≡ false)
-    → (falls_to_low_mark_in m id generation bytes ≡ false → g ≡ f)
-    → Gathers m f (released_in m id generation bytes) g
-unfolding Gathers
-gathers_release m id generation bytes f g adds keeps stays before h = at (stream_at m id) refl
-  where
-    at : (o : Option StreamView) → stream_at m id ≡ o → IsGathered before (released_in m id generation bytes) g
-    at None e = rw e (subst (IsGathered before m) (sym (stays (rw e refl))) h)
-    at (Some t) e = of (eqb t.stats.generation generation) refl
-      where
-        falling : (b : Bool) → falls_to_low_mark t bytes ≡ b → eqb t.stats.generation generation ≡ true
-            → IsGathered before (with_stream m id (released_from t bytes)) g
-        falling true b c =
-            is_gathered m id bytes t (released_from t bytes) e refl refl before f h g b (adds (rw (e, c, b) refl))
-            (keeps (rw (e, c, b) refl))
-        falling false b c =
-            subst (IsGathered before (with_stream m id (released_from t bytes))) (sym (stays (rw (e, c, b) refl)))
-            (stays_gathered m id bytes t (released_from t bytes) e refl refl before f h b)
-
-        of : (b : Bool) → eqb t.stats.generation generation ≡ b
-            → IsGathered before (released_in m id generation bytes) g
-        of true c = rw (e, c) (falling (falls_to_low_mark t bytes) refl c)
-        of false c = rw (e, c) (subst (IsGathered before m) (sym (stays (rw (e, c) refl))) h)
-
 pub gathers_nothing : (m : StreamMap) (f : FallenView) → Gathers m f m f
 unfolding Gathers
 gathers_nothing m f before h = h
 
-pub gathers_both : (m n k : StreamMap) (f g i : FallenView) → Gathers m f n g → Gathers n g k i → Gathers m f k i
-unfolding Gathers
-gathers_both m n k f g i x y before h = y before (x before h)
+module _ (m n k : StreamMap) (f g i : FallenView) where
+  pub gathers_both : Gathers m f n g → Gathers n g k i → Gathers m f k i
+  unfolding Gathers
+  gathers_both x y before h = y before (x before h)
 
 -- what was gathered since the streams were watched
 pub gathered_since : (m n : StreamMap) (f g : FallenView) → IsGathered m m f → Gathers m f n g → IsGathered m n g
@@ -366,19 +340,45 @@ gathered_behind xs ys f g i x y = record {
       let later = y.whole r in
       let first = x.whole later.0 in
       (first.0, later.1 ∙ ap (λ z. z ++ ys) first.1 ∙ append_assoc f.ids xs ys);
-  some =
-      λ r. ⊎_elim (λ s. ⊎_elim (λ t. inl t) (λ l. inr (longer xs ys l)) (x.some s)) (λ l. inr (last xs ys l)) (y.some r);
+  some = λ r. ⊎_elim
+      (λ s. ⊎_elim (λ t. inl t) (λ l. inr (longer xs ys l)) (x.some s))
+      (λ l. inr (last xs ys l))
+      (y.some r);
 }
 
--- the stream of a release is gathered where it falls by it
-pub release_gathered : (m : StreamMap) (id generation bytes : ℕ) (f g : FallenView)
-    → (falls_to_low_mark_in m id generation bytes ≡ true → g.refused ≡ false → g.ids ≡ f.ids ++ id ∷ [])
-    → (falls_to_low_mark_in m id generation bytes ≡ true → g.refused ≡ false → f.refused ≡ false)
-    → (falls_to_low_mark_in m id generation bytes ≡ false → g ≡ f)
-    → AreGathered (falls_in m id generation bytes) f g
-release_gathered m id generation bytes f g adds keeps stays = by (falls_to_low_mark_in m id generation bytes) refl
-  where
-    by : (b : Bool) → falls_to_low_mark_in m id generation bytes ≡ b
-        → AreGathered (if b then id ∷ [] else []) f g
-    by true e = record { whole = λ r. (keeps e r, adds e r); some = λ r. inr (omega arith) }
-    by false e = subst (AreGathered [] f) (sym (stays e)) (none_gathered f)
+-- a release, and what is gathered of it where its stream falls to its low mark by it
+module _ (m : StreamMap) (id generation bytes : ℕ) (f g : FallenView)
+    (adds : falls_to_low_mark_in m id generation bytes ≡ true → g.refused ≡ false → g.ids ≡ f.ids ++ id ∷ [])
+    (keeps : falls_to_low_mark_in m id generation bytes ≡ true → g.refused ≡ false → f.refused ≡ false)
+    (stays : falls_to_low_mark_in m id generation bytes ≡ false → g ≡ f) where
+  -- the stream is among those that have fallen
+  pub gathers_release : Gathers m f (released_in m id generation bytes) g
+  unfolding Gathers
+  gathers_release before h = at (stream_at m id) refl
+    where
+      at : (o : Option StreamView) → stream_at m id ≡ o → IsGathered before (released_in m id generation bytes) g
+      at None e = rw e (subst (IsGathered before m) (sym (stays (rw e refl))) h)
+      at (Some t) e = of (eqb t.stats.generation generation) refl
+        where
+          falling : (b : Bool) → falls_to_low_mark t bytes ≡ b → eqb t.stats.generation generation ≡ true
+              → IsGathered before (with_stream m id (released_from t bytes)) g
+          falling true b c =
+              is_gathered m id bytes t (released_from t bytes) e refl refl before f h g b (adds (rw (e, c, b) refl))
+              (keeps (rw (e, c, b) refl))
+          falling false b c =
+              subst (IsGathered before (with_stream m id (released_from t bytes))) (sym (stays (rw (e, c, b) refl)))
+              (stays_gathered m id bytes t (released_from t bytes) e refl refl before f h b)
+
+          of : (b : Bool) → eqb t.stats.generation generation ≡ b
+              → IsGathered before (released_in m id generation bytes) g
+          of true c = rw (e, c) (falling (falls_to_low_mark t bytes) refl c)
+          of false c = rw (e, c) (subst (IsGathered before m) (sym (stays (rw (e, c) refl))) h)
+
+  -- and the last of them
+  pub release_gathered : AreGathered (falls_in m id generation bytes) f g
+  release_gathered = by (falls_to_low_mark_in m id generation bytes) refl
+    where
+      by : (b : Bool) → falls_to_low_mark_in m id generation bytes ≡ b
+          → AreGathered (if b then id ∷ [] else []) f g
+      by true e = record { whole = λ r. (keeps e r, adds e r); some = λ r. inr (omega arith) }
+      by false e = subst (AreGathered [] f) (sym (stays e)) (none_gathered f)

@@ -42,20 +42,6 @@ at_most_all (e ∷ es) =
     at_most_one true = omega arith
     at_most_one false = omega arith
 
--- one stream's count is exchanged for the one that it has after a change
-pub count_exchanged : (id : ℕ) (m n : List (ℕ × StreamView)) (s t : StreamView) → lookup (is_at (nat_cmp id)) m ≡ Some s
-    → n ≡ set_value (is_at (nat_cmp id)) m t → readable_in n + readable_count s ≡ readable_in m + readable_count t
-count_exchanged id m n s t there is = rw is (sum_by-set_value readable_count (is_at (nat_cmp id)) m s t there)
-
--- a change that leaves alone whether the stream gives messages leaves their number
-pub still_readable : (id : ℕ) (m n : List (ℕ × StreamView)) (s t : StreamView)
-    → lookup (is_at (nat_cmp id)) m ≡ Some s → n ≡ set_value (is_at (nat_cmp id)) m t
-    → gives_messages t ≡ gives_messages s → readable_in n ≡ readable_in m
-still_readable id m n s t there is same =
-    let e = count_exchanged id m n s t there is in
-    let count : readable_count t ≡ readable_count s = ap (λ (g : Bool). if g then 1 else 0) same in
-    omega (arith, e, count)
-
 -- the number that the code reckons, of a stream that gave messages or not, and gives some or not
 pub counted_anew : (old new all : ℕ) (gave gives : Bool)
     → new + (if gave then 1 else 0) ≡ old + (if gives then 1 else 0) → new ≤ all → all < 2 ^ 63
@@ -65,17 +51,30 @@ counted_anew old new all true false is most small = grind (arith, is, most, smal
 counted_anew old new all false true is most small = grind (arith, is, most, small)
 counted_anew old new all false false is most small = grind (arith, is, most, small)
 
--- the number that the code reckons, after a change of one stream, is that of the streams as they are then
-pub count_is : (id : ℕ) (m n : List (ℕ × StreamView)) (s t : StreamView) (old all : ℕ) (gave gives : Bool)
-    → lookup (is_at (nat_cmp id)) m ≡ Some s → n ≡ set_value (is_at (nat_cmp id)) m t → old ≡ readable_in m
-    → gave ≡ gives_messages s → gives ≡ gives_messages t → all ≡ length n → all < 2 ^ 63
-    → min (min (old + (if gives then 1 else 0)) (2 ^ 64 - 1) - (if gave then 1 else 0)) all ≡ readable_in n
-count_is id m n s t old all gave gives there is count before after streams small =
-    let e = count_exchanged id m n s t there is in
-    let less : (if gave then 1 else 0) ≡ readable_count s = ap (λ (g : Bool). if g then 1 else 0) before in
-    let more : (if gives then 1 else 0) ≡ readable_count t = ap (λ (g : Bool). if g then 1 else 0) after in
-    counted_anew old (readable_in n) all gave gives (omega (arith, e, less, more, count))
-    (omega (arith, at_most_all n, streams)) small
+-- one stream changes, and the others stay
+module _ (id : ℕ) (m n : List (ℕ × StreamView)) (s t : StreamView) (there : lookup (is_at (nat_cmp id)) m ≡ Some s)
+    (is : n ≡ set_value (is_at (nat_cmp id)) m t) where
+  -- its count is exchanged for the one that it has after the change
+  count_exchanged : readable_in n + readable_count s ≡ readable_in m + readable_count t
+  count_exchanged = rw is (sum_by-set_value readable_count (is_at (nat_cmp id)) m s t there)
+
+  -- a change that leaves alone whether the stream gives messages leaves their number
+  pub still_readable : gives_messages t ≡ gives_messages s → readable_in n ≡ readable_in m
+  still_readable same =
+      let e = count_exchanged in
+      let count : readable_count t ≡ readable_count s = ap (λ (g : Bool). if g then 1 else 0) same in
+      omega (arith, e, count)
+
+  -- the number that the code reckons after the change is that of the streams as they are then
+  pub count_is : {old all : ℕ} {gave gives : Bool} → old ≡ readable_in m → gave ≡ gives_messages s
+      → gives ≡ gives_messages t → all ≡ length n → all < 2 ^ 63
+      → min (min (old + (if gives then 1 else 0)) (2 ^ 64 - 1) - (if gave then 1 else 0)) all ≡ readable_in n
+  count_is {old = old} {all = all} {gave = gave} {gives = gives} count before after streams small =
+      let e = count_exchanged in
+      let less : (if gave then 1 else 0) ≡ readable_count s = ap (λ (g : Bool). if g then 1 else 0) before in
+      let more : (if gives then 1 else 0) ≡ readable_count t = ap (λ (g : Bool). if g then 1 else 0) after in
+      counted_anew old (readable_in n) all gave gives (omega (arith, e, less, more, count))
+      (omega (arith, at_most_all n, streams)) small
 
 -- the write half's end leaves the read half as it is
 read_half_stays : (h : RecvSendState) → is_read_half_open (without_write_half h) ≡ is_read_half_open h

@@ -129,11 +129,11 @@ dropped_bytes s t p is =
     omega (arith, same, none)
 
 -- what a map has after a piece came on one of its streams
-pub pushed_is : (m : StreamMap) (id : ℕ) (p : ChunkPayloadData) (s t : StreamView) (kept : Bool)
-    (n : List (ℕ × StreamView)) → stream_at m id ≡ Some s → stream_pushed s p ≡ (t, kept)
+pub pushed_is : (m : StreamMap) (id : ℕ) (p : ChunkPayloadData) {s t : StreamView} {kept : Bool}
+    {n : List (ℕ × StreamView)} → stream_at m id ≡ Some s → stream_pushed s p ≡ (t, kept)
     → n ≡ set_value (is_at (nat_cmp id)) m.by_id t
     → pushed_in m id p ≡ (record { by_id = n; next_generation = m.next_generation }, kept)
-pushed_is m id p s t kept n there is e =
+pushed_is m id p {kept = kept} there is e =
     rw there (ap (λ (z : StreamView × Bool). (with_stream m id z.0, z.1)) is
     ∙ ap (λ (z : List (ℕ × StreamView)). (record { by_id = z; next_generation = m.next_generation }, kept)) (sym e))
 

@@ -18,8 +18,7 @@ invariant_of-self-then-kept c =
     c.in_ok-kept.ensures.pushed ∙ ap (λ (k : Bool). (last, k)) c.if-kept.true in
     let more : c.in-Some-checked_add.waiting ≡ c.self.inside.waiting + length c.args.piece.user_data = search rules in (
       omega (arith, e, kept_bytes s last c.args.piece kept, more, c.self.invariant.0),
-      c.recounted-self-inside.ensures ∙ count_is c.args.id old new s last c.self.inside.readable c.len-2.result
-          c.gives_messages-gave.result c.gives_messages-gives.result there holds c.self.invariant.1
+      c.recounted-self-inside.ensures ∙ count_is c.args.id old new s last there holds c.self.invariant.1
           c.gives_messages-gave.ensures c.gives_messages-gives.ensures c.len-2.ensures.len c.len-2.ensures.small,
     )
 
@@ -35,8 +34,7 @@ invariant_of-self-else-kept c =
     let dropped : stream_pushed s c.args.piece ≡ (last, false) =
     c.in_ok-kept.ensures.pushed ∙ ap (λ (k : Bool). (last, k)) c.if-kept.false in (
       omega (arith, e, dropped_bytes s last c.args.piece dropped, c.self.invariant.0),
-      c.recounted-self-inside.ensures ∙ count_is c.args.id old new s last c.self.inside.readable c.len-2.result
-          c.gives_messages-gave.result c.gives_messages-gives.result there holds c.self.invariant.1
+      c.recounted-self-inside.ensures ∙ count_is c.args.id old new s last there holds c.self.invariant.1
           c.gives_messages-gave.ensures c.gives_messages-gives.ensures c.len-2.ensures.len c.len-2.ensures.small,
     )
 
@@ -44,5 +42,5 @@ pub returns-then-kept-clause-pushed : goal.returns-then-kept-clause-pushed
 returns-then-kept-clause-pushed c =
     let there = sym c.get_mut.ensures.value ∙ ap option_copied_mut c.in-Some.is in
     let last = c.push.new.self in
-    rw (← c.self.view_is) (pushed_is _ c.args.id c.args.piece c.in-Some.stream.now last c.in_ok-kept.kept
-    (c.get_mut.follows.lender last).entries there c.in_ok-kept.ensures.pushed (c.get_mut.follows.holds last).0)
+    rw (← c.self.view_is) (pushed_is _ c.args.id c.args.piece there c.in_ok-kept.ensures.pushed
+    (c.get_mut.follows.holds last).0)

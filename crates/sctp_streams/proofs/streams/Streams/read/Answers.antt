@@ -14,11 +14,9 @@ invariant_of-self-in_err-message c =
     let new = (c.get_mut.follows.lender last).entries in
     let holds = (c.get_mut.follows.holds last).0 in
     let e = exchanged c.args.id old new s last there holds in
-    let bytes = read_bytes s last c.read-read.result c.read-read.ensures in
     let none : given c.read-read.result ≡ 0 = ap given c.in_err-message.was in (
-      omega (arith, e, bytes, none, c.self.invariant.0),
-      c.recounted-self-inside.ensures ∙ count_is c.args.id old new s last c.self.inside.readable c.len.result
-          c.gives_messages-gave.result c.gives_messages-still_gives.result there holds c.self.invariant.1
+      omega (arith, e, read_bytes s last c.read-read.result c.read-read.ensures, none, c.self.invariant.0),
+      c.recounted-self-inside.ensures ∙ count_is c.args.id old new s last there holds c.self.invariant.1
           c.gives_messages-gave.ensures c.gives_messages-still_gives.ensures c.len.ensures.len c.len.ensures.small,
     )
 
@@ -31,13 +29,11 @@ invariant_of-self-2 c =
     let new = (c.get_mut.follows.lender last).entries in
     let holds = (c.get_mut.follows.holds last).0 in
     let e = exchanged c.args.id old new s last there holds in
-    let bytes = read_bytes s last c.read-read.result c.read-read.ensures in
     let some : given c.read-read.result ≡ length (bytes_left c.in_ok-message.message) =
     ap given c.in_ok-message.was in
     let less : c.saturating_sub-self-inside.result
     ≡ c.self.inside.waiting - length (bytes_left c.in_ok-message.message) = search rules in (
-      omega (arith, e, bytes, some, less, c.self.invariant.0),
-      c.recounted-self-inside.ensures ∙ count_is c.args.id old new s last c.self.inside.readable c.len.result
-          c.gives_messages-gave.result c.gives_messages-still_gives.result there holds c.self.invariant.1
+      omega (arith, e, read_bytes s last c.read-read.result c.read-read.ensures, some, less, c.self.invariant.0),
+      c.recounted-self-inside.ensures ∙ count_is c.args.id old new s last there holds c.self.invariant.1
           c.gives_messages-gave.ensures c.gives_messages-still_gives.ensures c.len.ensures.len c.len.ensures.small,
     )

@@ -21,7 +21,6 @@ invariant_of-self-2 c =
     let rest : c.saturating_sub-self-inside.result ≡ c.self.inside.waiting - c.saturating_sub-dropped.result =
     search rules in (
       omega (arith, e, less, held, left, dropped, rest, c.self.invariant.0),
-      c.recounted-self-inside.ensures ∙ count_is c.args.id old new s last c.self.inside.readable c.len.result
-          c.gives_messages-gave.result c.gives_messages-gives.result there holds c.self.invariant.1
+      c.recounted-self-inside.ensures ∙ count_is c.args.id old new s last there holds c.self.invariant.1
           c.gives_messages-gave.ensures c.gives_messages-gives.ensures c.len.ensures.len c.len.ensures.small,
     )
