@@ -35,6 +35,7 @@ use Rattle.sctp_assoc.specs.Gather.{fast_gives, fast_polled, fast_sent, fell_in_
 use Rattle.sctp_assoc.specs.Gather.{marks_give, marks_polled, marks_sent, new_gives, new_sent}
 use Rattle.sctp_assoc.specs.Shown.{Shown, uses_forward_tsn}
 use Rattle.sctp_assoc.specs.Skipping.{some_is_told, with_skip}
+use Rattle.sctp_assoc.proofs.CallsLeadOn.{stream_receiver}
 use Rattle.sctp_assoc.proofs.PolledSteps.{data_poll_stays}
 use Rattle.sctp_assoc.proofs.PollsLeadOn.{ack_sender}
 use Rattle.sctp_assoc.proofs.SacksTell.{positive}
@@ -93,18 +94,10 @@ abbrev refuses : Shown → ChunkPayloadData → Bool
 refuses a piece = is_some (refusal_in a.streams piece.stream_identifier piece a.receiver.max_receive_message_size)
 
 -- a stream that is found or made leaves the receiver as it was
-receiver_kept : (there left : Bool) (a : Shown) (id : ℕ) → is_some (stream_at a.streams id) ≡ there
-    → generation_left a.streams ≡ left
-    → (stream_found a id).0.receiver ≡ a.receiver
-unfolding stream_found
-receiver_kept true left a id e f = rw e refl
-receiver_kept false true a id e f = rw (e, f) refl
-receiver_kept false false a id e f = rw (e, f) refl
-
 pub found_receiver : (a b : Shown) (id : ℕ) → stream_found a id ≡ (b, true) → b.receiver ≡ a.receiver
 found_receiver a b id e =
     sym (ap (λ (z : Shown × Bool). z.0.receiver) e)
-    ∙ receiver_kept (is_some (stream_at a.streams id)) (generation_left a.streams) a id refl refl
+    ∙ stream_receiver (is_some (stream_at a.streams id)) (generation_left a.streams) a id refl refl
 
 credit_and_room : (credit refused : Bool) → credit ≡ true → refused ≡ false → (credit && not refused) ≡ true
 credit_and_room credit refused e f = rw (e, f) refl
