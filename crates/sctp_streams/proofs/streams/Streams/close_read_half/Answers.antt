@@ -17,7 +17,6 @@ invariant_of-self-2 c =
     let silent = sym (ap gives_messages c.close_read_half.ensures ∙ closed_is_silent s) in (
       c.self.invariant.0 ∙ sym (unchanged c.args.id old new s last there holds
           (ap (λ (t : StreamView). t.reassembly) c.close_read_half.ensures)),
-      c.recounted-self-inside.ensures ∙ count_is c.args.id old new s last c.self.inside.readable c.len.result
-          c.gives_messages-gave.result _ there holds c.self.invariant.1
+      c.recounted-self-inside.ensures ∙ count_is c.args.id old new s last there holds c.self.invariant.1
           c.gives_messages-gave.ensures silent c.len.ensures.len c.len.ensures.small,
     )

@@ -23,7 +23,6 @@ invariant_of-self-2 c =
     search rules in
     let silent = sym (ap gives_messages c.drop_unread.ensures ∙ emptied_is_silent s) in (
       omega (arith, e, none, held, rest, c.self.invariant.0),
-      c.recounted-self-inside.ensures ∙ count_is c.args.id old new s last c.self.inside.readable c.len.result
-          c.gives_messages-gave.result _ there holds c.self.invariant.1
+      c.recounted-self-inside.ensures ∙ count_is c.args.id old new s last there holds c.self.invariant.1
           c.gives_messages-gave.ensures silent c.len.ensures.len c.len.ensures.small,
     )
