@@ -8,19 +8,22 @@ use Rattle.sctp_assoc.specs.Gather.{marks_polled, new_fell}
 use Rattle.sctp_assoc.specs.Shown.{Shown}
 
 -- those of the steps of a poll, one after another
-pub poll_gathers : (a late marked again : Shown) (now : ℕ) (f g h i j : FallenView) → late ≡ late_abandoned a now
-    → marked ≡ marks_polled a now → again ≡ fast_polled a now → AreGathered (late_fell a now) f g
-    → AreGathered (marks_fell late) g h → AreGathered (fast_fell marked) h i → AreGathered (new_fell again now) i j
-    → AreGathered (fell_in_poll a now) f j
-poll_gathers a late marked again now f g h i j k l m x y z w =
-    let first : List ℕ = late_fell a now in
-    let marks : List ℕ = marks_fell (late_abandoned a now) in
-    let fast : List ℕ = fast_fell (marks_polled a now) in
-    gathered_behind (first ++ marks ++ fast) (new_fell (fast_polled a now) now) f i j
-    (gathered_behind (first ++ marks) fast f h i
-    (gathered_behind first marks f g h x (subst (λ (b : Shown). AreGathered (marks_fell b) g h) k y))
-    (subst (λ (b : Shown). AreGathered (fast_fell b) h i) l z))
-    (subst (λ (b : Shown). AreGathered (new_fell b now) i j) m w)
+module _ (a : Shown) (now : ℕ) {late marked again : Shown} (is_late : late ≡ late_abandoned a now)
+    (is_marked : marked ≡ marks_polled a now) (is_again : again ≡ fast_polled a now) {f g h i j : FallenView}
+  where
+    pub poll_gathers : AreGathered (late_fell a now) f g → AreGathered (marks_fell late) g h
+        → AreGathered (fast_fell marked) h i → AreGathered (new_fell again now) i j
+        → AreGathered (fell_in_poll a now) f j
+    poll_gathers first_fell marks_fall fast_fall new_fall =
+        let first : List ℕ = late_fell a now in
+        let marks : List ℕ = marks_fell (late_abandoned a now) in
+        let fast : List ℕ = fast_fell (marks_polled a now) in
+        gathered_behind (first ++ marks ++ fast) (new_fell (fast_polled a now) now) f i j
+        (gathered_behind (first ++ marks) fast f h i
+        (gathered_behind first marks f g h first_fell
+        (subst (λ (b : Shown). AreGathered (marks_fell b) g h) is_late marks_fall))
+        (subst (λ (b : Shown). AreGathered (fast_fell b) h i) is_marked fast_fall))
+        (subst (λ (b : Shown). AreGathered (new_fell b now) i j) is_again new_fall)
 
 -- behind none they are all that is gathered
 pub all_told : (ids : List ℕ) (f g : FallenView) → f ≡ none_fallen → AreGathered ids f g → g.refused ≡ false

@@ -18,6 +18,7 @@ use Rattle.sctp_assoc.specs.Gather.{fell_in_poll, packet_bytes, single_chunk_pac
 use Rattle.sctp_streams.specs.declared.event.Event.{Event}
 use Rattle.sctp_streams.specs.LowMarks.{low_event}
 use Rattle.sctp_assoc.specs.Shown.{Shown}
+use Rattle.sctp_assoc.proofs.PollsLeadOn.{after_forward, both_first, both_second}
 
 one_spelled : (r : Result (List ℕ) Fault) (given bytes : List ℕ) → r ≡ Ok given → spelled r ≡ bytes ∷ [] → bytes ≡ given
 one_spelled (Ok x) given bytes e f = cc
@@ -32,28 +33,22 @@ unfolding packet_bytes
 read_again header chunk given e again plain bytes f =
     rw (one_spelled (written (single_chunk_packet header chunk)) given bytes e f) (again plain)
 
-both_first : (packets : List (List ℕ)) (x : Shown × List (List ℕ)) → (after_both packets x).0 ≡ x.0
-both_first packets (a, more) = refl
-
-both_second : (packets : List (List ℕ)) (x : Shown × List (List ℕ)) → (after_both packets x).1 ≡ packets ++ x.1
-both_second packets (a, more) = refl
-
 -- what the acknowledgement leaves
-pub acked_as : (x b d : Shown) (before packets : List (List ℕ)) → x ≡ b
-    → after_both before (ack_polled b) ≡ (d, packets) → (ack_polled x).0 ≡ d
-acked_as x b d before packets e f =
-    ap (λ (z : Shown). (ack_polled z).0) e ∙ sym (both_first before (ack_polled b))
-    ∙ ap (λ (z : Shown × List (List ℕ)). z.0) f
+module _ (before : List (List ℕ)) {x b d : Shown} {packets : List (List ℕ)} (left : x ≡ b)
+    (acks : after_both before (ack_polled b) ≡ (d, packets))
+  where
+    pub acked_as : (ack_polled x).0 ≡ d
+    acked_as =
+        ap (λ (z : Shown). (ack_polled z).0) left ∙ sym (both_first before (ack_polled b))
+        ∙ ap (λ (z : Shown × List (List ℕ)). z.0) acks
 
-pub poll_again : (a b d : Shown) (now : ℕ) (before packets : List (List ℕ)) → (data_polled a now).0 ≡ b
+pub poll_again : (a : Shown) (now : ℕ) (before : List (List ℕ)) {b d : Shown} {packets : List (List ℕ)}
+    → (data_polled a now).0 ≡ b
     → after_both before (ack_polled b) ≡ (d, packets)
     → AreReadAgain (header_of a.handshake) (data_polled a now).1 → AckIsReadAgain b → ForwardIsReadAgain d
     → ExchangeIsReadAgain a now
-poll_again a b d now before packets e f data_again ack_again forward_again = (
-  data_again,
-  rw e ack_again,
-  subst ForwardIsReadAgain (sym (acked_as (data_polled a now).0 b d before packets e f)) forward_again,
-)
+poll_again a now before left acks data_again ack_again forward_again =
+    (data_again, rw left ack_again, subst ForwardIsReadAgain (sym (acked_as before left acks)) forward_again)
 
 more_control_again : (cs : List ControlPacket) (c : ControlPacket) → AreControlReadAgain cs → ControlIsReadAgain c
     → AreControlReadAgain (cs ++ c ∷ [])
@@ -65,16 +60,17 @@ pub one_more_control_again : (cs : List ControlPacket) (c : ControlPacket) → A
     → AreControlReadAgain (cs ++ c ∷ [])
 one_more_control_again cs c all more = more_control_again cs c all more
 
--- what the parts of a poll bundle
-pub bundled_as : (a : Shown) (now : ℕ) (late marked again : Shown) (first second third out : DataWritten)
-    (header : CommonHeader) (mtu : ℕ) → late ≡ late_abandoned a now → marked ≡ marks_polled a now
-    → again ≡ fast_polled a now → header ≡ header_of a.handshake → mtu ≡ (late_abandoned a now).sender.mtu
-    → first ≡ nothing_written header mtu → second ≡ bundled first (marks_sent late)
-    → third ≡ bundled second (fast_sent marked) → out ≡ with_all third (new_sent again now)
-    → out ≡ with_all (bundled (bundled (nothing_written (header_of a.handshake) (late_abandoned a now).sender.mtu)
-    (marks_sent (late_abandoned a now))) (fast_sent (marks_polled a now))) (new_sent (fast_polled a now) now)
-bundled_as a now late marked again first second third out header mtu e f g h i j k l m =
-    m ∙ rw (l, k, j, h, i, g, f, e) refl
+-- what the parts of a poll bundle, each behind the packets that the one before it left
+module _ (a : Shown) (now : ℕ) {late marked again : Shown} (is_late : late ≡ late_abandoned a now)
+    (is_marked : marked ≡ marks_polled a now) (is_again : again ≡ fast_polled a now)
+  where
+    pub bundled_as : {first second third out : DataWritten}
+        → first ≡ nothing_written (header_of a.handshake) (late_abandoned a now).sender.mtu
+        → second ≡ bundled first (marks_sent late) → third ≡ bundled second (fast_sent marked)
+        → out ≡ with_all third (new_sent again now)
+        → out ≡ with_all (bundled (bundled (nothing_written (header_of a.handshake) (late_abandoned a now).sender.mtu)
+        (marks_sent (late_abandoned a now))) (fast_sent (marks_polled a now))) (new_sent (fast_polled a now) now)
+    bundled_as begun marks missing new = new ∙ rw (missing, marks, begun, is_again, is_marked, is_late) refl
 
 -- what a poll of DATA leaves, once it told of the streams that fell to their low mark
 pub data_left : (a b : Shown) (now : ℕ) (events : List Event) → b ≡ new_polled a now
@@ -107,27 +103,23 @@ behind_both : (xs ys : List (List ℕ)) (x : Shown × List (List ℕ))
     → after_both xs (after_both ys x) ≡ after_both (xs ++ ys) x
 behind_both xs ys (a, more) = ap (λ (z : List (List ℕ)). (a, z)) (sym (append_assoc xs ys more))
 
-after_forward : (first : List (List ℕ)) (y : Shown × List (List ℕ))
-    → forward_after (after_both first y) ≡ after_both (first ++ y.1) (forward_polled y.0)
-after_forward first (c, more) = refl
-
-pub exact_of : (x : Shown × List (List ChunkPayloadData)) (header : CommonHeader) (before mid more : List (List ℕ))
-    (d e : Shown) (acked packets : List (List ℕ)) → header_of x.0.handshake ≡ header → more ≡ datagrams_of header x.1
-    → mid ≡ before ++ more → after_both mid (ack_polled x.0) ≡ (d, acked)
-    → after_both acked (forward_polled d) ≡ (e, packets)
-    → after_both before (forward_after (ack_after x)) ≡ (e, packets)
-exact_of (b, bundles) header before mid more d e acked packets h f g acks forwards =
-    let first = datagrams_of (header_of b.handshake) bundles in
-    let y = ack_polled b in
-    let more_is : more ≡ first = f ∙ ap (λ (k : CommonHeader). datagrams_of k bundles) (sym h) in
-    let mid_is : mid ≡ before ++ first = g ∙ ap (λ (z : List (List ℕ)). before ++ z) more_is in
-    let there : y.0 ≡ d = sym (both_first mid y) ∙ ap (λ (z : Shown × List (List ℕ)). z.0) acks in
-    let given : before ++ (first ++ y.1) ≡ acked =
-    sym (append_assoc before first y.1)
-    ∙ ap (λ (z : List (List ℕ)). z ++ y.1) (sym mid_is)
-    ∙ sym (both_second mid y) ∙ ap (λ (z : Shown × List (List ℕ)). z.1) acks in
-    ap (after_both before) (after_forward first y)
-    ∙ behind_both before (first ++ y.1) (forward_polled y.0)
-    ∙ ap (λ (z : List (List ℕ)). after_both z (forward_polled y.0)) given
-    ∙ ap (λ (z : Shown). after_both acked (forward_polled z)) there
-    ∙ forwards
+module _ (before : List (List ℕ)) {header : CommonHeader} {mid more acked packets : List (List ℕ)} {d e : Shown} where
+  pub exact_of : (x : Shown × List (List ChunkPayloadData)) → header_of x.0.handshake ≡ header
+      → more ≡ datagrams_of header x.1 → mid ≡ before ++ more → after_both mid (ack_polled x.0) ≡ (d, acked)
+      → after_both acked (forward_polled d) ≡ (e, packets)
+      → after_both before (forward_after (ack_after x)) ≡ (e, packets)
+  exact_of (b, bundles) h f g acks forwards =
+      let first = datagrams_of (header_of b.handshake) bundles in
+      let y = ack_polled b in
+      let more_is : more ≡ first = f ∙ ap (λ (k : CommonHeader). datagrams_of k bundles) (sym h) in
+      let mid_is : mid ≡ before ++ first = g ∙ ap (λ (z : List (List ℕ)). before ++ z) more_is in
+      let there : y.0 ≡ d = sym (both_first mid y) ∙ ap (λ (z : Shown × List (List ℕ)). z.0) acks in
+      let given : before ++ (first ++ y.1) ≡ acked =
+      sym (append_assoc before first y.1)
+      ∙ ap (λ (z : List (List ℕ)). z ++ y.1) (sym mid_is)
+      ∙ sym (both_second mid y) ∙ ap (λ (z : Shown × List (List ℕ)). z.1) acks in
+      ap (after_both before) (after_forward first y)
+      ∙ behind_both before (first ++ y.1) (forward_polled y.0)
+      ∙ ap (λ (z : List (List ℕ)). after_both z (forward_polled y.0)) given
+      ∙ ap (λ (z : Shown). after_both acked (forward_polled z)) there
+      ∙ forwards

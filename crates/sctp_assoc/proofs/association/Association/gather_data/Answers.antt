@@ -2,17 +2,18 @@ use Rattle.std.proofs.Common.{◌≡◌, ◌∙◌, ap, sym, subst, ◌++◌, ma
 use Rattle.std.specs.Prelude.{IfOk, OnOk}
 use Rattle.std.specs.List.{AllByRecursion}
 use Rattle.std.proofs.lemmas.Result.{on_err_weaker, on_ok_weaker}
-use Rattle.sctp_wire.specs.DataPackets.{IsReadBack, datagrams_of}
+use Rattle.sctp_wire.specs.DataPackets.{IsReadBack, datagrams_of, nothing_written, with_all}
 use Rattle.sctp_streams.specs.LowMarks.{AreGathered, low_event}
 use Rattle.sctp_inbound.specs.Handshake.{header_of}
 use Rattle.sctp_outbound.proofs.SenderSteps.{on_err}
-use Rattle.sctp_assoc.specs.Gather.{AreReadAgain, after_fast, after_marks, after_new, data_polled, fast_gives}
-use Rattle.sctp_assoc.specs.Gather.{fast_polled, fell_in_poll, marks_polled, new_gives}
-use Rattle.sctp_assoc.specs.Gather.{new_polled}
+use Rattle.sctp_assoc.specs.Gather.{AreReadAgain, after_fast, after_marks, after_new, bundled, data_polled, fast_gives}
+use Rattle.sctp_assoc.specs.Gather.{fast_polled, fast_sent, fell_in_poll, late_abandoned, marks_polled, marks_sent}
+use Rattle.sctp_assoc.specs.Gather.{new_gives, new_polled, new_sent}
 use Rattle.sctp_assoc.specs.Shown.{Shown}
 use Rattle.sctp_assoc.proofs.MemoryTaken.{fast_is_given, last_is_given, low_is_told, new_is_given}
 use Rattle.sctp_assoc.proofs.PacketsReadAgain.{bundled_as, data_left, finished_as}
 use Rattle.sctp_assoc.proofs.FallsInPolls.{all_told, poll_gathers, some_falls}
+use Rattle.sctp_assoc.proofs.association.Association.gather_data.Goals.{In_ok-send_new}
 use Rattle.sctp_assoc.proofs.association.Association.gather_data.Goals as goal
 
 pub returns-in_err-resend_missing-clause-grows : goal.returns-in_err-resend_missing-clause-grows
@@ -32,15 +33,35 @@ returns-in_err-send_new-clause-grows c =
     (new_is_given c.args.self.now c.args.now
     (subst (λ (b : Shown). new_gives b c.args.now ≡ true) again c.in_err-send_new.ensures.grows))
 
+-- what fell in the steps of the poll is gathered before it is told
+all_gathered : (c : In_ok-send_new)
+    → AreGathered (fell_in_poll c.args.self.now c.args.now) c.new-fallen.result c.send_new.new.fallen
+all_gathered c =
+    let marked = c.in_ok-resend_marked.ensures.exact ∙ ap after_marks c.in_ok-expire.ensures.exact in
+    poll_gathers c.args.self.now c.args.now c.in_ok-expire.ensures.exact marked
+    (c.in_ok-resend_missing.ensures.exact ∙ ap after_fast marked) c.in_ok-expire.ensures.falls
+    c.in_ok-resend_marked.ensures.falls c.in_ok-resend_missing.ensures.falls c.in_ok-send_new.ensures.falls
+
+-- what the steps of the poll have bundled before the packets are finished
+all_bundled : (c : In_ok-send_new)
+    → c.send_new.new.packets
+    ≡ with_all (bundled (bundled (nothing_written (header_of c.args.self.now.handshake)
+    (late_abandoned c.args.self.now c.args.now).sender.mtu) (marks_sent (late_abandoned c.args.self.now c.args.now)))
+    (fast_sent (marks_polled c.args.self.now c.args.now)))
+    (new_sent (fast_polled c.args.self.now c.args.now) c.args.now)
+all_bundled c =
+    let late = c.self-2.view_is ∙ c.in_ok-expire.ensures.exact in
+    let marked = c.in_ok-resend_marked.ensures.exact ∙ ap after_marks c.in_ok-expire.ensures.exact in
+    let header = c.header.ensures ∙ ap (λ (a : Shown). header_of a.handshake) late in
+    bundled_as c.args.self.now c.args.now c.in_ok-expire.ensures.exact marked
+    (c.in_ok-resend_missing.ensures.exact ∙ ap after_fast marked)
+    (c.new-packets.ensures ∙ ap (λ h. nothing_written h c.self-2.inside.sender.mtu) header
+    ∙ ap (λ (a : Shown). nothing_written (header_of c.args.self.now.handshake) a.sender.mtu) late)
+    c.in_ok-resend_marked.ensures.packets c.in_ok-resend_missing.ensures.packets c.in_ok-send_new.ensures.packets
+
 pub returns-in_err-tell-clause-grows : goal.returns-in_err-tell-clause-grows
 returns-in_err-tell-clause-grows c =
-    let marked = c.in_ok-resend_marked.ensures.exact ∙ ap after_marks c.in_ok-expire.ensures.exact in
-    let gathered : AreGathered (fell_in_poll c.args.self.now c.args.now) c.new-fallen.result c.send_new.new.fallen =
-    poll_gathers c.args.self.now c.expire.new.self c.resend_marked.new.self c.resend_missing.new.self c.args.now
-    c.new-fallen.result c.expire.new.fallen c.resend_marked.new.fallen c.resend_missing.new.fallen
-    c.send_new.new.fallen c.in_ok-expire.ensures.exact marked
-    (c.in_ok-resend_missing.ensures.exact ∙ ap after_fast marked) c.in_ok-expire.ensures.falls
-    c.in_ok-resend_marked.ensures.falls c.in_ok-resend_missing.ensures.falls c.in_ok-send_new.ensures.falls in
+    let gathered = all_gathered (goal.at.returns-in_err-tell-clause-grows c).In_ok-send_new in
     on_err c.from_residual-in_err-tell.result
     (low_is_told c.args.self.now c.args.now
     (some_falls (fell_in_poll c.args.self.now c.args.now) c.new-fallen.result c.send_new.new.fallen c.new-fallen.ensures
@@ -52,13 +73,7 @@ returns-clause-exact c =
     c.in_ok-send_new.ensures.exact
     ∙ ap (λ (b : Shown). after_new b c.args.now) (c.in_ok-resend_missing.ensures.exact
     ∙ ap after_fast (c.in_ok-resend_marked.ensures.exact ∙ ap after_marks c.in_ok-expire.ensures.exact)) in
-    let marked = c.in_ok-resend_marked.ensures.exact ∙ ap after_marks c.in_ok-expire.ensures.exact in
-    let gathered : AreGathered (fell_in_poll c.args.self.now c.args.now) c.new-fallen.result c.send_new.new.fallen =
-    poll_gathers c.args.self.now c.expire.new.self c.resend_marked.new.self c.resend_missing.new.self c.args.now
-    c.new-fallen.result c.expire.new.fallen c.resend_marked.new.fallen c.resend_missing.new.fallen
-    c.send_new.new.fallen c.in_ok-expire.ensures.exact marked
-    (c.in_ok-resend_missing.ensures.exact ∙ ap after_fast marked) c.in_ok-expire.ensures.falls
-    c.in_ok-resend_marked.ensures.falls c.in_ok-resend_missing.ensures.falls c.in_ok-send_new.ensures.falls in
+    let gathered = all_gathered (goal.at.returns-clause-exact c).In_ok-send_new in
     on_ok_weaker c.finish.result
     (λ again. data_left c.args.self.now c.send_new.new.self c.args.now c.tell.new.events sent
     (c.in_ok-tell.ensures.told
@@ -71,16 +86,7 @@ returns-clause-exact c =
 
 pub returns-clause-packets : goal.returns-clause-packets
 returns-clause-packets c =
-    let late = c.self-2.view_is ∙ c.in_ok-expire.ensures.exact in
-    let marked = c.in_ok-resend_marked.ensures.exact ∙ ap after_marks c.in_ok-expire.ensures.exact in
-    let again = c.in_ok-resend_missing.ensures.exact ∙ ap after_fast marked in
-    let same =
-    bundled_as c.args.self.now c.args.now c.expire.new.self c.resend_marked.new.self c.resend_missing.new.self
-    c.new-packets.result c.resend_marked.new.packets c.resend_missing.new.packets c.send_new.new.packets
-    c.header.result c.self-2.inside.sender.mtu c.in_ok-expire.ensures.exact marked again
-    (c.header.ensures ∙ ap (λ (a : Shown). header_of a.handshake) late) (ap (λ (a : Shown). a.sender.mtu) late)
-    c.new-packets.ensures c.in_ok-resend_marked.ensures.packets c.in_ok-resend_missing.ensures.packets
-    c.in_ok-send_new.ensures.packets in
+    let same = all_bundled (goal.at.returns-clause-packets c).In_ok-send_new in
     let is = finished_as c.args.self.now c.args.now c.send_new.new.packets same in
     subst
     (λ h. IfOk c.finish.result (λ packets. packets.items ≡ datagrams_of h (data_polled c.args.self.now c.args.now).1))
@@ -90,16 +96,7 @@ returns-clause-packets c =
 
 pub returns-clause-again : goal.returns-clause-again
 returns-clause-again c =
-    let late = c.self-2.view_is ∙ c.in_ok-expire.ensures.exact in
-    let marked = c.in_ok-resend_marked.ensures.exact ∙ ap after_marks c.in_ok-expire.ensures.exact in
-    let again = c.in_ok-resend_missing.ensures.exact ∙ ap after_fast marked in
-    let same =
-    bundled_as c.args.self.now c.args.now c.expire.new.self c.resend_marked.new.self c.resend_missing.new.self
-    c.new-packets.result c.resend_marked.new.packets c.resend_missing.new.packets c.send_new.new.packets
-    c.header.result c.self-2.inside.sender.mtu c.in_ok-expire.ensures.exact marked again
-    (c.header.ensures ∙ ap (λ (a : Shown). header_of a.handshake) late) (ap (λ (a : Shown). a.sender.mtu) late)
-    c.new-packets.ensures c.in_ok-resend_marked.ensures.packets c.in_ok-resend_missing.ensures.packets
-    c.in_ok-send_new.ensures.packets in
+    let same = all_bundled (goal.at.returns-clause-again c).In_ok-send_new in
     let is = finished_as c.args.self.now c.args.now c.send_new.new.packets same in
     subst (λ h. OnOk c.finish.result (AreReadAgain h (data_polled c.args.self.now c.args.now).1)) is.0
     (subst (λ d. OnOk c.finish.result (AllByRecursion (IsReadBack c.send_new.new.packets.header) d)) is.1
@@ -107,15 +104,6 @@ returns-clause-again c =
 
 pub returns-clause-grows : goal.returns-clause-grows
 returns-clause-grows c =
-    let late = c.self-2.view_is ∙ c.in_ok-expire.ensures.exact in
-    let marked = c.in_ok-resend_marked.ensures.exact ∙ ap after_marks c.in_ok-expire.ensures.exact in
-    let again = c.in_ok-resend_missing.ensures.exact ∙ ap after_fast marked in
-    let same =
-    bundled_as c.args.self.now c.args.now c.expire.new.self c.resend_marked.new.self c.resend_missing.new.self
-    c.new-packets.result c.resend_marked.new.packets c.resend_missing.new.packets c.send_new.new.packets
-    c.header.result c.self-2.inside.sender.mtu c.in_ok-expire.ensures.exact marked again
-    (c.header.ensures ∙ ap (λ (a : Shown). header_of a.handshake) late) (ap (λ (a : Shown). a.sender.mtu) late)
-    c.new-packets.ensures c.in_ok-resend_marked.ensures.packets c.in_ok-resend_missing.ensures.packets
-    c.in_ok-send_new.ensures.packets in
+    let same = all_bundled (goal.at.returns-clause-grows c).In_ok-send_new in
     on_err_weaker c.finish.result (λ some. last_is_given c.args.self.now c.args.now c.send_new.new.packets same some)
     c.finish.ensures.grows

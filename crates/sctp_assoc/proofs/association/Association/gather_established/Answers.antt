@@ -11,9 +11,7 @@ use Rattle.sctp_assoc.proofs.association.Association.gather_established.Goals as
 
 pub returns-clause-exact : goal.returns-clause-exact
 returns-clause-exact c =
-    exact_of (data_polled c.args.self.now c.args.now) (header_of c.args.self.now.handshake) c.args.packets.now.items
-    c.put_all.new.packets.items c.in_ok-data.data.items c.gather_ack.new.self c.gather_forward.new.self
-    c.gather_ack.new.packets.items c.gather_forward.new.packets.items
+    exact_of c.args.packets.now.items (data_polled c.args.self.now c.args.now)
     (ap header_of (data_poll_stays c.args.self.now c.args.now).handshake) c.in_ok-data.ensures.packets
     c.in_ok-put_all.ensures.exact
     (ap (λ (b : Shown). after_both c.put_all.new.packets.items (ack_polled b)) c.in_ok-data.ensures.exact
@@ -22,9 +20,9 @@ returns-clause-exact c =
 
 pub returns-clause-again : goal.returns-clause-again
 returns-clause-again c =
-    poll_again c.args.self.now c.gather_data.new.self c.gather_ack.new.self c.args.now c.put_all.new.packets.items
-    c.gather_ack.new.packets.items c.in_ok-data.ensures.exact c.in_ok-gather_ack.ensures.exact
-    c.in_ok-data.ensures.again c.in_ok-gather_ack.ensures.again c.in_ok-gather_forward.ensures.again
+    poll_again c.args.self.now c.args.now c.put_all.new.packets.items c.in_ok-data.ensures.exact
+    c.in_ok-gather_ack.ensures.exact c.in_ok-data.ensures.again c.in_ok-gather_ack.ensures.again
+    c.in_ok-gather_forward.ensures.again
 
 pub returns-in_err-data-clause-grows : goal.returns-in_err-data-clause-grows
 returns-in_err-data-clause-grows c =
@@ -49,7 +47,5 @@ returns-in_err-gather_forward-clause-grows c =
     on_err c.from_residual-in_err-gather_forward.result
     (forward_is_given c.args.self.now c.args.now
     (subst (λ (b : Shown). gives_forward b.sender ≡ true)
-    (sym (acked_as (data_polled c.args.self.now c.args.now).0 c.gather_data.new.self c.gather_ack.new.self
-    c.put_all.new.packets.items c.gather_ack.new.packets.items c.in_ok-data.ensures.exact
-    c.in_ok-gather_ack.ensures.exact))
+    (sym (acked_as c.put_all.new.packets.items c.in_ok-data.ensures.exact c.in_ok-gather_ack.ensures.exact))
     c.in_err-gather_forward.ensures.grows))

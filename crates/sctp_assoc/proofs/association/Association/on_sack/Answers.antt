@@ -9,48 +9,52 @@ use Rattle.sctp_assoc.specs.declared.inbound.Flow.TheVariants as flows
 use Rattle.sctp_assoc.specs.Calls.{is_established}
 use Rattle.sctp_assoc.specs.Chunks.{counted_sack}
 use Rattle.sctp_assoc.proofs.SacksTell.{some_fell, taken_leaves, taken_takes}
+use Rattle.sctp_assoc.proofs.association.Association.on_sack.Goals.{In-Taken}
 use Rattle.sctp_assoc.proofs.association.Association.on_sack.Goals as goal
+
+-- what is known where the SACK is taken
+was_established : (c : In-Taken) → is_established c.args.self.now.state ≡ true
+was_established c = search rules
+
+was_taken : (c : In-Taken)
+    → sack_outcome c.args.self.now.sender c.args.cumulative_tsn_ack c.args.blocks.now ≡ outcomes.Taken
+was_taken c = rw (← c.self.view_is) (sym c.on_sack-outcome.ensures.outcome ∙ c.in-Taken.is)
+
+took : (c : In-Taken) → let sacked = c.on_sack-outcome.new in
+    sack_taken c.args.cumulative_tsn_ack c.args.blocks.now c.args.window c.args.now c.args.self.now.sender
+    c.args.self.now.estimate c.args.self.now.streams
+    ≡ (sacked.self, sacked.rto, sacked.streams)
+took c = rw (← c.self.view_is) (c.on_sack-outcome.ensures.taken c.in-Taken.is)
+
+those_gathered : (c : In-Taken)
+    → IsGathered c.args.self.now.streams c.on_sack-outcome.new.streams c.on_sack-outcome.new.fallen
+those_gathered c =
+    rw (← c.self.view_is)
+    (gathered_since c.self.inside.streams c.on_sack-outcome.new.streams c.watch-fallen.result
+    c.on_sack-outcome.new.fallen c.watch-fallen.ensures c.on_sack-outcome.ensures.gathers)
 
 pub returns-in_err-tell_ascending-in-Taken-clause-grows : goal.returns-in_err-tell_ascending-in-Taken-clause-grows
 returns-in_err-tell_ascending-in-Taken-clause-grows c =
-    let established : is_established c.args.self.now.state ≡ true = search rules in
     let sacked = c.on_sack-outcome.new in
-    let taken : sack_outcome c.args.self.now.sender c.args.cumulative_tsn_ack c.args.blocks.now ≡ outcomes.Taken =
-    rw (← c.self.view_is) (sym c.on_sack-outcome.ensures.outcome ∙ c.in-Taken.is) in
-    let is : sack_taken c.args.cumulative_tsn_ack c.args.blocks.now c.args.window c.args.now c.args.self.now.sender
-    c.args.self.now.estimate c.args.self.now.streams
-    ≡ (sacked.self, sacked.rto, sacked.streams) =
-    rw (← c.self.view_is) (c.on_sack-outcome.ensures.taken c.in-Taken.is) in
-    let gathered : IsGathered c.args.self.now.streams sacked.streams sacked.fallen =
-    rw (← c.self.view_is)
-    (gathered_since c.self.inside.streams sacked.streams c.watch-fallen.result sacked.fallen c.watch-fallen.ensures
-    c.on_sack-outcome.ensures.gathers) in
+    let arm = (goal.at.returns-in_err-tell_ascending-in-Taken-clause-grows c).In-Taken in
     on_err c.from_residual.result
     (taken_takes c.args.self.now c.args.cumulative_tsn_ack c.args.blocks.now c.args.window c.args.now sacked.self
-    sacked.rto sacked.streams established taken is
-    (some_fell c.args.self.now.streams sacked.streams sacked.fallen gathered c.in_err-tell_ascending-in-Taken.ensures.grows))
+    sacked.rto sacked.streams (was_established arm) (was_taken arm) (took arm)
+    (some_fell c.args.self.now.streams sacked.streams sacked.fallen (those_gathered arm)
+    c.in_err-tell_ascending-in-Taken.ensures.grows))
 
 pub returns-in_ok-tell_ascending-in-Taken-clause-exact : goal.returns-in_ok-tell_ascending-in-Taken-clause-exact
 returns-in_ok-tell_ascending-in-Taken-clause-exact c =
-    let established : is_established c.args.self.now.state ≡ true = search rules in
     let sacked = c.on_sack-outcome.new in
-    let taken : sack_outcome c.args.self.now.sender c.args.cumulative_tsn_ack c.args.blocks.now ≡ outcomes.Taken =
-    rw (← c.self.view_is) (sym c.on_sack-outcome.ensures.outcome ∙ c.in-Taken.is) in
-    let is : sack_taken c.args.cumulative_tsn_ack c.args.blocks.now c.args.window c.args.now c.args.self.now.sender
-    c.args.self.now.estimate c.args.self.now.streams
-    ≡ (sacked.self, sacked.rto, sacked.streams) =
-    rw (← c.self.view_is) (c.on_sack-outcome.ensures.taken c.in-Taken.is) in
-    let gathered : IsGathered c.args.self.now.streams sacked.streams sacked.fallen =
-    rw (← c.self.view_is)
-    (gathered_since c.self.inside.streams sacked.streams c.watch-fallen.result sacked.fallen c.watch-fallen.ensures
-    c.on_sack-outcome.ensures.gathers) in
+    let arm = (goal.at.returns-in_ok-tell_ascending-in-Taken-clause-exact c).In-Taken in
     rw c.inc_sacks.ensures
     (taken_leaves c.args.self.now c.args.cumulative_tsn_ack c.args.blocks.now c.args.window c.args.now sacked.self
-    sacked.rto sacked.streams established taken is c.args.trigger c.ask_for_forward_tsn.new.self sacked.timers
-    c.tell_ascending.new.events (ascending sacked.fallen.ids) (rw (← c.self.view_is) c.ask_for_forward_tsn.ensures)
+    sacked.rto sacked.streams (was_established arm) (was_taken arm) (took arm) c.args.trigger
+    c.ask_for_forward_tsn.new.self sacked.timers c.tell_ascending.new.events (ascending sacked.fallen.ids)
+    (rw (← c.self.view_is) c.ask_for_forward_tsn.ensures)
     (rw (← c.self.view_is) (c.on_sack-outcome.ensures.timer c.in-Taken.is))
     (rw (← c.self.view_is) c.in_ok-tell_ascending-in-Taken.ensures.told)
-    (gathered.whole c.in_ok-tell_ascending-in-Taken.ensures.whole)
+    ((those_gathered arm).whole c.in_ok-tell_ascending-in-Taken.ensures.whole)
     ∙ ap (λ z. (
       record (counted_sack z) {
         sender = c.ask_for_forward_tsn.new.self;
