@@ -26,7 +26,8 @@ const BEHIND: u8 = b'b';
 // A reliable message, one of ten bytes under this policy, and a reliable one.
 fn messages(alloc: Global, policy: &str) -> Result<String, Error> {
     Ok(format!(in alloc;
-        "open A 1 53\nwrite A 1 61\npolicy A 1 {policy}\nwrite A 1 78787878787878787878\npolicy A 1 o reliable 0\nwrite A 1 62\n"
+        "open A 1 53\nwrite A 1 61\npolicy A 1 {policy}\nwrite A 1 78787878787878787878\n\
+        policy A 1 o reliable 0\nwrite A 1 62\n"
     )?)
 }
 

@@ -8,7 +8,7 @@ use std::alloc::Global;
 /// What is still to be lost.
 #[derive(Clone, Copy, Debug)]
 pub(crate) struct Losses {
-    /// What each byte of a message is of which DATA is lost.
+    /// DATA is lost that begins with this letter.
     pub letter: u8,
     /// How much DATA of such messages is lost before the first comes through.
     pub data: u32,

@@ -8,7 +8,8 @@ use std::test::Fail;
 /// One message from A, its acknowledgement after 200 ms, and what both sides then answer; the last question is for a
 /// stream that is not live.
 static STEPS: &str =
-    "open A 1 53\nwrite A 1 6869\nsend A 0\ndeliver B 0 0\nread B 1\ndeadline B\ntime B 200\nsend B 200\ndeliver A 0 200\nbuffered A 1\ndeadline A\nrtt A\nread A 6\n";
+    "open A 1 53\nwrite A 1 6869\nsend A 0\ndeliver B 0 0\nread B 1\ndeadline B\ntime B 200\nsend B 200\n\
+    deliver A 0 200\nbuffered A 1\ndeadline A\nrtt A\nread A 6\n";
 
 static REPLIES: &str =
     "ok\nwrote 2\npackets 0 1\nok\nmessage 53 6869\nat 200\nok\npackets 0 1\nok\n0\nnone\n1000\nrefused 9\n";
@@ -79,10 +80,13 @@ fn the_greatest_message_is_set(rt: HostRuntime) -> Result<(), Fail> {
 /// What A's 3,601 bytes do to B, whose buffer has 2,000: two packets go out, and then nothing of it can be read or
 /// come.
 static EXHAUSTING_STEPS: &str =
-    "send A 0\ndeliver B 0 0\ntime B 200\nsend B 200\ndeliver A 0 200\nsend A 200\ndeliver B 1 200\nsend B 200\ndeliver A 1 200\nevent A\nevent A\nevent A\nevent A\nevent B\nevent B\nevent B\nevent B\nevent B\nevent B\nevent B\n";
+    "send A 0\ndeliver B 0 0\ntime B 200\nsend B 200\ndeliver A 0 200\nsend A 200\ndeliver B 1 200\nsend B 200\n\
+    deliver A 1 200\nevent A\nevent A\nevent A\nevent A\nevent B\nevent B\nevent B\nevent B\nevent B\nevent B\n\
+    event B\n";
 
 static EXHAUSTING_REPLIES: &str =
-    "ok\nwrote 3601\npackets 0 1\nok\nok\npackets 0 1\nok\npackets 1 1\nok\npackets 1 1\nok\nconnected\nfinal 0\nlost closed\nnone\nconnected\nopened 1\ndatagram\ndatagram\nfinal 0\nlost exhausted\nnone\n";
+    "ok\nwrote 3601\npackets 0 1\nok\nok\npackets 0 1\nok\npackets 1 1\nok\npackets 1 1\nok\nconnected\nfinal 0\n\
+    lost closed\nnone\nconnected\nopened 1\ndatagram\ndatagram\nfinal 0\nlost exhausted\nnone\n";
 
 /// B's ABORT with the cause Out of Resource, under the tag 1; the datagram was spelled apart from this code.
 static ABORT: &str = "1388138800000001a08b88b40600000800040004";

@@ -7,7 +7,8 @@ use std::test::Fail;
 
 /// Two bytes from A, which B reads and acknowledges, and A's events.
 static STEPS: &str =
-    "write A 1 6869\nsend A 0\ndeliver B 0 0\nread B 1\ntime B 200\nsend B 200\ndeliver A 0 200\nevent A\nevent A\nevent A\nevent A\n";
+    "write A 1 6869\nsend A 0\ndeliver B 0 0\nread B 1\ntime B 200\nsend B 200\ndeliver A 0 200\nevent A\n\
+    event A\nevent A\nevent A\n";
 
 /// The replies, from the stream's opening and its low and high mark on up to the read, and those behind it. The last
 /// two are for its counters, which a line doesn't show.

@@ -42,10 +42,14 @@ fn a_timeout_closes_the_window(rt: HostRuntime) -> Result<(), Fail> {
 
 /// Four messages in packets of their own, of which the first one is lost. Three SACKs report it missing.
 static MISSING: &str =
-    "open A 1 53\nwrite A 1 61\nsend A 0\nwrite A 1 62\nsend A 0\nwrite A 1 63\nsend A 0\nwrite A 1 64\nsend A 0\ndeliver B 1 0\nsend B 0\ndeliver A 0 0\ndeliver B 2 0\nsend B 0\ndeliver A 1 0\ndeliver B 3 0\nsend B 0\ndeliver A 2 0\nsend A 0\ndeliver B 4 0\nread B 1\nread B 1\nread B 1\nread B 1\n";
+    "open A 1 53\nwrite A 1 61\nsend A 0\nwrite A 1 62\nsend A 0\nwrite A 1 63\nsend A 0\nwrite A 1 64\n\
+    send A 0\ndeliver B 1 0\nsend B 0\ndeliver A 0 0\ndeliver B 2 0\nsend B 0\ndeliver A 1 0\ndeliver B 3 0\n\
+    send B 0\ndeliver A 2 0\nsend A 0\ndeliver B 4 0\nread B 1\nread B 1\nread B 1\nread B 1\n";
 
 static MISSING_REPLIES: &str =
-    "ok\nwrote 1\npackets 0 1\nwrote 1\npackets 1 1\nwrote 1\npackets 2 1\nwrote 1\npackets 3 1\nok\npackets 0 1\nok\nok\npackets 1 1\nok\nok\npackets 2 1\nok\npackets 4 1\nok\nmessage 53 61\nmessage 53 62\nmessage 53 63\nmessage 53 64\n";
+    "ok\nwrote 1\npackets 0 1\nwrote 1\npackets 1 1\nwrote 1\npackets 2 1\nwrote 1\npackets 3 1\nok\n\
+    packets 0 1\nok\nok\npackets 1 1\nok\nok\npackets 2 1\nok\npackets 4 1\nok\nmessage 53 61\nmessage 53 62\n\
+    message 53 63\nmessage 53 64\n";
 
 #[test]
 fn what_is_missing_three_times_goes_out_again(rt: HostRuntime) -> Result<(), Fail> {
