@@ -38,9 +38,9 @@ impl Debt {
     }
 }
 
-/// For each stream how often the application is to be told that the peer ended it (Finished), was told so, and is still
-/// to be told how its reset ended (ResetComplete, ResetFailed), and the streams whose last reset failed. A stream has no
-/// entry once nothing of this is open. Each call costs the logarithm of the streams that have one.
+/// For each stream how often the application is to be told that the peer ended it (Finished), was told so, and is to be
+/// told how its reset ended (ResetComplete, ResetFailed), and the streams whose last reset failed. A stream has no entry
+/// once nothing of this is open. Each call costs the logarithm of the streams that have one.
 #[derive(Debug, Drop)]
 pub struct Debts {
     by_id: BTreeMap<StreamId, Debt>,
