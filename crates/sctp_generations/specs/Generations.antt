@@ -1,17 +1,24 @@
 -- What is kept of the generations of streams beside the live ones (RFC 6525 section 5.2.2, RFC 8831 section 6.7).
 use Rattle.std.specs.Prelude.{ℕ, Bool, true, false, ◌==◌, ◌&&◌, ◌||◌, if◌then◌else◌, List, [], ◌∷◌, ◌++◌}
-use Rattle.std.specs.Prelude.{Option, Some, None}
+use Rattle.std.specs.Prelude.{Option, Some, None, not, length}
 use Rattle.sctp_wire_types.specs.declared.chunk.ChunkPayloadData.{ChunkPayloadData}
 use Rattle.sctp_generations.specs.declared.skips.KeptSkip.{KeptSkip}
 use Rattle.sctp_generations.specs.declared.deferred.Due.{Due}
 use Rattle.sctp_generations.specs.declared.deferred.Due.TheVariants as dues
 use Rattle.sctp_generations.specs.declared.retirement.Retirement.{Retirement}
 use Rattle.sctp_generations.specs.declared.retirement.Retirement.TheVariants as retirements
+use Rattle.sctp_wire_types.specs.declared.error.Error.{Error}
+use Rattle.sctp_generations.specs.declared.span.Span.{Span}
+use Rattle.sctp_generations.specs.declared.kept.Kept.TheVariants as kept
+use Rattle.sctp_generations.specs.Spans.{span_of}
+use Rattle.sctp_generations.specs.Kept.{kept_of}
+use Rattle.sctp_generations.specs.Refusals.{refusal_in}
 use Rattle.sctp_generations.specs.Retiring.{RetiringMap, is_retiring, newest_boundary, readable_boundary, retired_with}
 use Rattle.sctp_generations.specs.Retiring.{passed, forgotten}
 use Rattle.sctp_generations.specs.Deferred.{deferred_with, has_between, is_above, released, still_deferred}
 use Rattle.sctp_generations.specs.Deferred.{without_stream}
 use Rattle.sctp_generations.specs.Skips.{skips_of, skips_of_others, skips_ended, skips_of_other_streams}
+use Rattle.sctp_generations.specs.Skips.{skips_without_newest_of}
 
 pub record GenerationsView : Type 0 where
   -- the streams whose ended generations are still read, and the boundaries of these
@@ -43,6 +50,39 @@ new_skip id ssn tsn = record { id = id; boundary = None; ssn = ssn; tsn = tsn }
 abbrev pub with_skip : GenerationsView → ℕ → ℕ → ℕ → GenerationsView
 with_skip g id ssn tsn = record g { skips = g.skips ++ new_skip id ssn tsn ∷ [] }
 
+abbrev pub with_kept_skip : GenerationsView → KeptSkip → GenerationsView
+with_kept_skip g s = record g { skips = g.skips ++ s ∷ [] }
+
+-- a skip of some stream is kept
+abbrev pub has_skips : GenerationsView → Bool
+has_skips g = not (length g.skips == 0)
+
+-- a generation of some stream ended and is still read
+abbrev pub has_retiring : GenerationsView → Bool
+has_retiring g = not (length g.retiring == 0)
+
+-- why the DATA that waits of the generation of a new piece refuses, taken in the order of the TSNs with that piece
+abbrev pub refusal_of : GenerationsView → ChunkPayloadData → Option ℕ → ℕ → Option Error
+refusal_of g d in_progress limit =
+    refusal_in (span_of g.retiring d.stream_identifier d.tsn in_progress) g.deferred d limit
+
+-- the DATA that waits of the newest generation of a stream: past the newest boundary, and up to the last TSN of a
+-- request in progress that names the stream, if there is one
+abbrev pub newest_span : GenerationsView → ℕ → Option ℕ → Span
+newest_span g id in_progress = record { after = newest_boundary g.retiring id; upto = in_progress }
+
+-- A FORWARD TSN passed over the ordered messages of the newest generation of a stream up to an SSN: the pieces at or
+-- below its TSN of those that are not whole are dropped, and the skip is kept (RFC 3758 section 3.6).
+abbrev pub skipped : GenerationsView → ℕ → ℕ → ℕ → Option ℕ → GenerationsView
+skipped g id ssn tsn in_progress = record g {
+  deferred = kept_of (kept.Unskipped id (newest_span g id in_progress) ssn tsn) g.deferred;
+  skips = g.skips ++ new_skip id ssn tsn ∷ [];
+}
+
+-- it passed over all up to a TSN: pieces at or below that, of unordered messages that are not whole, are dropped
+abbrev pub unordered_skipped : GenerationsView → ℕ → GenerationsView
+unordered_skipped g tsn = record g { deferred = kept_of (kept.UnskippedUnordered tsn) g.deferred }
+
 -- The peer's request was performed.
 
 -- what becomes of a live stream that it names, whose readable generation is drained or is not
@@ -57,6 +97,10 @@ retirement_of g id boundary is_drained =
 -- the newest generation of a stream ended, and nothing of it is left
 abbrev pub without_newest : GenerationsView → ℕ → GenerationsView
 without_newest g id = record g { skips = skips_of_others id None g.skips }
+
+-- the newest generations of these streams or, where the set is empty, of all ended: their skips are dropped
+abbrev pub without_newest_of : GenerationsView → List ℕ → GenerationsView
+without_newest_of g ids = record g { skips = skips_without_newest_of ids g.skips }
 
 -- the newest generation of a stream ended with a boundary, and is still to be read
 abbrev pub with_boundary : GenerationsView → ℕ → ℕ → GenerationsView

@@ -17,6 +17,14 @@ boundaries_at m id = lookup (is_at (nat_cmp id)) m
 abbrev pub is_retiring : RetiringMap → ℕ → Bool
 is_retiring m id = is_some (boundaries_at m id)
 
+abbrev pub count_of : Option (List ℕ) → ℕ
+count_of None = 0
+count_of (Some boundaries) = length boundaries
+
+-- how many generations of a stream ended and are not drained
+abbrev pub count_at : RetiringMap → ℕ → ℕ
+count_at m id = count_of (boundaries_at m id)
+
 abbrev pub first_of : Option (List ℕ) → Option ℕ
 first_of None = None
 first_of (Some boundaries) = slice_get boundaries 0

@@ -1,7 +1,10 @@
 // The boundaries of the ended generations of one stream.
 ghost use Rattle.std.specs.Prelude.{◌≡◌, ◌==◌, ◌-◌, ◌++◌, ◌∷◌, [], length, slice_get, Some, OnOk, OnErr};
+ghost use Rattle.std.specs.Prelude.{fold};
 ghost use Rattle.sctp_generations.specs.Retiring.{behind_first};
+ghost use Rattle.sctp_generations.specs.Spans.{span_among, narrowed};
 
+use crate::span::Span;
 use std::alloc::{AllocError, Global};
 use std::collections::VecDeque;
 use std::marker::Model;
@@ -47,6 +50,21 @@ impl Boundaries {
         }
     }
 
+    // How many boundaries there are.
+    pub(crate) fn count(&self) -> usize
+        ensures { result ≡ length self.now }
+    {
+        self.others.len() + 1
+    }
+
+    // Between which of them a TSN lies.
+    pub(crate) fn span_of(&self, tsn: u32) -> Span
+        ensures { result ≡ span_among tsn self.now }
+    {
+        let first = Span::everything().narrowed(tsn, self.first);
+        span_from(first, tsn, &self.others)
+    }
+
     // Whether one boundary is left.
     pub(crate) fn is_single(&self) -> bool
         ensures { result ≡ (length self.now == 1) }
@@ -71,4 +89,12 @@ impl Boundaries {
             self.first = next;
         }
     }
+}
+
+fn span_from(first: Span, tsn: u32, boundaries: &VecDeque<u32>) -> Span
+    ensures { result ≡ fold (narrowed tsn) first boundaries.now.items }
+{
+    boundaries
+        .iter()
+        .fold(first, |span, boundary| span.narrowed(tsn, *boundary))
 }

@@ -4,11 +4,16 @@ ghost use Rattle.sctp_receive_queues.specs.Pieces.{bytes_of, index_of, last_of};
 ghost use Rattle.sctp_generations.specs.Deferred.{is_up_to, is_of, is_before, place_of, deferred_with, is_between};
 ghost use Rattle.sctp_generations.specs.Deferred.{has_between, is_due, released, still_deferred, without_stream};
 ghost use Rattle.std.specs.Prelude.{OnOk, OnErr, IfOk, IfSome, position, not, filter};
+ghost use Rattle.sctp_generations.specs.Kept.{kept_of};
+ghost use Rattle.sctp_generations.specs.Refusals.{refusal_in};
 ghost use Rattle.sctp_serial.specs.Serial.{tsn_lt};
 
+use crate::kept::{Kept, copies_of, copy_of};
+use crate::refusal::first_refusal;
 use crate::retiring::Retiring;
+use crate::span::Span;
 use sctp_serial::{sna32lt, sna32lte};
-use sctp_wire_types::{ChunkPayloadData, StreamId};
+use sctp_wire_types::{ChunkPayloadData, Error, StreamId};
 use std::alloc::{AllocError, Global};
 use std::collections::VecDeque;
 use std::marker::Model;
@@ -92,6 +97,40 @@ impl Deferred {
         let given = take_due(alloc, &mut self.chunks, due, retiring)?;
         self.bytes = add_bytes(&self.chunks);
         Ok(given)
+    }
+
+    pub(crate) fn clear(&mut self)
+        ensures { self.new ≡ [] }
+    {
+        self.chunks.clear();
+        self.bytes = 0;
+    }
+
+    // Why the DATA of a span refuses a new piece of its stream, all pieces taken in the order of the TSNs.
+    pub(crate) fn refusal(
+        &self,
+        alloc: Global,
+        piece: &ChunkPayloadData,
+        span: Span,
+        limit: u32,
+    ) -> Result<Option<Error>, AllocError>
+        ensures { IfOk result (λ refusal. refusal ≡ refusal_in span self.now piece.now limit) }
+    {
+        let mut pieces = copies_of(alloc, &self.chunks, Kept::Of(piece.stream_identifier, span))?;
+        let index = place_of(&pieces, piece.tsn);
+        pieces.insert(index, copy_of(piece)?)?;
+        first_refusal(alloc, &mut pieces, limit)
+    }
+
+    // The DATA that is kept.
+    pub(crate) fn kept(&self, alloc: Global, kept: Kept) -> Result<Deferred, AllocError>
+        ensures { IfOk result (λ left. left ≡ kept_of kept self.now) }
+    {
+        // A u64 can say the bytes of all, so it can say those of some.
+        let _all = self.bytes;
+        let chunks = copies_of(alloc, &self.chunks, kept)?;
+        let bytes = add_bytes(&chunks);
+        Ok(Deferred { chunks, bytes })
     }
 
     // Drops all DATA of a stream.

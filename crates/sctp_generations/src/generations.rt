@@ -5,14 +5,21 @@ ghost use Rattle.sctp_generations.specs.Generations.{no_generations, retires, is
 ghost use Rattle.sctp_generations.specs.Generations.{retirement_of, retired, without_newest, drained, readable_end};
 ghost use Rattle.sctp_generations.specs.Generations.{given_to, after_given_to, given_to_all, after_given_to_all};
 ghost use Rattle.sctp_generations.specs.Generations.{skips_given_to, after_skips_given_to, discarded, with_boundary};
+ghost use Rattle.sctp_generations.specs.Generations.{with_kept_skip, has_skips, has_retiring, without_newest_of};
+ghost use Rattle.sctp_generations.specs.Retiring.{count_at};
+ghost use Rattle.sctp_generations.specs.Skips.{skip_ids};
+ghost use Rattle.sctp_generations.specs.Spans.{span_of};
+ghost use Rattle.sctp_generations.specs.Generations.{refusal_of, newest_span, skipped, unordered_skipped};
 
 use crate::Retirement;
 use crate::deferred::{Deferred, Due, is_up_to};
+use crate::kept::Kept;
 use crate::retiring::Retiring;
 use crate::skips::{KeptSkip, KeptSkips};
-use sctp_wire_types::{ChunkPayloadData, StreamId};
+use crate::span::Span;
+use sctp_wire_types::{ChunkPayloadData, Error, StreamId};
 use std::alloc::{AllocError, Global};
-use std::collections::VecDeque;
+use std::collections::{BTreeSet, VecDeque};
 use std::marker::Model;
 
 /// The generations of streams that ended and are still read, and what came for those behind them. What is in no reset
@@ -88,6 +95,115 @@ impl Generations {
             ssn,
             tsn,
         })
+    }
+
+    /// Keeps a skip again that did not reach its SSN when it was applied. Where memory is refused nothing changes.
+    pub fn keep_skip(&mut self, skip: KeptSkip) -> Result<(), AllocError>
+        ensures ok { OnOk result (self.new ≡ with_kept_skip self.old skip) }
+        ensures err { OnErr result (self.new ≡ self.old) }
+    {
+        self.skips.keep(skip)
+    }
+
+    /// Whether a skip is kept.
+    pub fn has_skips(&self) -> bool
+        ensures { result ≡ has_skips self.now }
+    {
+        !self.skips.is_empty()
+    }
+
+    /// The streams of which a skip is kept, ascending. Walks over all skips.
+    pub fn skip_ids(&self, alloc: Global) -> Result<BTreeSet<StreamId>, AllocError>
+        ensures { IfOk result (λ ids. ids.keys ≡ skip_ids self.now.skips) }
+    {
+        self.skips.ids(alloc)
+    }
+
+    /// Whether a generation of some stream ended and is still read.
+    pub fn has_retiring(&self) -> bool
+        ensures { result ≡ has_retiring self.now }
+    {
+        !self.retiring.is_empty()
+    }
+
+    /// How many generations of a stream ended and are not drained.
+    pub fn count(&self, id: StreamId) -> usize
+        ensures { result ≡ count_at self.now.retiring id }
+    {
+        self.retiring.count(id)
+    }
+
+    /// What was to be skipped of the newest generations of these streams, or where the set is empty of all, is skipped
+    /// no more. Walks over all skips.
+    pub fn end_newest_of(&mut self, ids: &BTreeSet<StreamId>)
+        ensures { self.new ≡ without_newest_of self.old ids.now.keys }
+    {
+        self.skips.drop_newest(ids);
+    }
+
+    /// Why the DATA that waits of its generation refuses DATA that is new: the pieces of a message contradict one
+    /// another, or it gets too long; None where it does not. `in_progress` is as for `is_hidden`. Goes over all DATA
+    /// that waits, and takes a copy of each piece of the generation, which shares its bytes.
+    pub fn refusal(
+        &self,
+        piece: &ChunkPayloadData,
+        in_progress: Option<u32>,
+        limit: u32,
+    ) -> Result<Option<Error>, AllocError>
+        ensures { IfOk result (λ refusal. refusal ≡ refusal_of self.now piece.now in_progress limit) }
+    {
+        let span = self.span_of(piece.stream_identifier, piece.tsn, in_progress);
+        self.deferred.refusal(self.alloc, piece, span, limit)
+    }
+
+    fn span_of(&self, id: StreamId, tsn: u32, in_progress: Option<u32>) -> Span
+        ensures { result ≡ span_of self.now.retiring id tsn in_progress }
+    {
+        self.retiring.span_of(id, tsn).ended_by(tsn, in_progress)
+    }
+
+    /// A FORWARD TSN passed over the ordered messages of the newest generation of a stream up to an SSN: the pieces at
+    /// or below its TSN of those that are not whole are dropped, and it is kept for when that generation is read.
+    /// `in_progress` is as for `is_hidden`. Where memory is refused nothing changes. Goes over all DATA that waits, and
+    /// once more for each piece that may be dropped; takes a copy of each piece that stays, which shares its bytes.
+    pub fn skip(
+        &mut self,
+        id: StreamId,
+        ssn: u16,
+        tsn: u32,
+        in_progress: Option<u32>,
+    ) -> Result<(), AllocError>
+        ensures ok { OnOk result (self.new ≡ skipped self.old id ssn tsn in_progress) }
+        ensures err { OnErr result (self.new ≡ self.old) }
+    {
+        let span = self.newest_span(id, in_progress);
+        let left = self
+            .deferred
+            .kept(self.alloc, Kept::Unskipped(id, span, ssn, tsn))?;
+        self.defer_skip(id, ssn, tsn)?;
+        self.deferred = left;
+        Ok(())
+    }
+
+    fn newest_span(&self, id: StreamId, in_progress: Option<u32>) -> Span
+        ensures { result ≡ newest_span self.now id in_progress }
+    {
+        Span {
+            after: self.retiring.newest_boundary(id),
+            upto: in_progress,
+        }
+    }
+
+    /// It passed over all up to a TSN: pieces at or below that, of unordered messages that are not whole, are dropped
+    /// (RFC 3758 section 3.6). Where memory is refused nothing changes. Goes over all DATA that waits, and once more
+    /// for each piece that may be dropped; takes a copy of each piece that stays, which shares its bytes.
+    pub fn skip_unordered(&mut self, tsn: u32) -> Result<(), AllocError>
+        ensures ok { OnOk result (self.new ≡ unordered_skipped self.old tsn) }
+        ensures err { OnErr result (self.new ≡ self.old) }
+    {
+        let kept = Kept::UnskippedUnordered(tsn);
+        self.deferred = self.deferred.kept(self.alloc, kept)?;
+        Ok(())
     }
 
     /// A request of the peer with this last TSN was performed that names a live stream. `is_drained` says that its
@@ -203,6 +319,15 @@ impl Generations {
     {
         let boundary = self.retiring.readable_boundary(id);
         self.skips.release(self.alloc, id, boundary)
+    }
+
+    /// The association closes: nothing is kept.
+    pub fn clear(&mut self)
+        ensures { self.new ≡ no_generations }
+    {
+        self.retiring.clear();
+        self.deferred.clear();
+        self.skips.clear();
     }
 
     /// The application reads no more of a stream: its generations, and what came for those behind, are dropped.

@@ -5,9 +5,13 @@
 mod boundaries;
 mod deferred;
 mod generations;
+mod kept;
+mod refusal;
 mod retirement;
 mod retiring;
 mod skips;
+mod span;
+mod whole;
 
 pub use generations::Generations;
 pub use retirement::Retirement;

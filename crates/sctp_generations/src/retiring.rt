@@ -1,10 +1,12 @@
 // Which streams retire, and where their generations end.
-ghost use Rattle.std.specs.Prelude.{◌≡◌, [], OnOk, OnErr};
+ghost use Rattle.std.specs.Prelude.{◌≡◌, ◌==◌, [], length, OnOk, OnErr};
 ghost use Rattle.sctp_generations.specs.Retiring.{is_retiring, readable_boundary, newest_boundary, retired_with};
 ghost use Rattle.sctp_generations.specs.Retiring.{passed, first_passed, forgotten};
-ghost use Rattle.sctp_generations.specs.Retiring.{boundaries_at, is_single};
+ghost use Rattle.sctp_generations.specs.Retiring.{boundaries_at, is_single, count_at};
+ghost use Rattle.sctp_generations.specs.Spans.{span_at};
 
 use crate::boundaries::Boundaries;
+use crate::span::Span;
 use sctp_wire_types::StreamId;
 use std::alloc::{AllocError, Global};
 use std::collections::BTreeMap;
@@ -38,6 +40,33 @@ impl Retiring {
         ensures { result ≡ is_retiring self.now id }
     {
         self.by_id.contains_key(&id)
+    }
+
+    // Whether no stream retires.
+    pub(crate) fn is_empty(&self) -> bool
+        ensures { result ≡ (length self.now == 0) }
+    {
+        self.by_id.is_empty()
+    }
+
+    // Between which boundaries of a stream a TSN lies.
+    pub(crate) fn span_of(&self, id: StreamId, tsn: u32) -> Span
+        ensures { result ≡ span_at tsn (boundaries_at self.now id) }
+    {
+        match self.by_id.get(&id) {
+            Some(boundaries) => boundaries.span_of(tsn),
+            None => Span::everything(),
+        }
+    }
+
+    // How many generations of a stream ended and are not drained.
+    pub(crate) fn count(&self, id: StreamId) -> usize
+        ensures { result ≡ count_at self.now id }
+    {
+        match self.by_id.get(&id) {
+            Some(boundaries) => boundaries.count(),
+            None => 0,
+        }
     }
 
     // Where the generation ends that is read now; None where it did not end.
@@ -111,6 +140,13 @@ impl Retiring {
         if let Some(boundaries) = self.by_id.get_mut(&id) {
             boundaries.pass();
         }
+    }
+
+    // No stream retires any more.
+    pub(crate) fn clear(&mut self)
+        ensures { self.new ≡ [] }
+    {
+        self.by_id.clear();
     }
 
     // The stream retires no longer.

@@ -1,10 +1,12 @@
 // Skips of generations that are not read yet.
-ghost use Rattle.std.specs.Prelude.{◌≡◌, ◌++◌, ◌∷◌, [], filter, map, OnOk, OnErr, IfOk};
+ghost use Rattle.std.specs.Prelude.{◌≡◌, ◌++◌, ◌∷◌, ◌==◌, [], length, filter, map, OnOk, OnErr, IfOk};
 ghost use Rattle.sctp_generations.specs.Skips.{is_same, is_skip_of, skips_of, skips_of_others, with_boundary};
-ghost use Rattle.sctp_generations.specs.Skips.{skips_ended, skips_of_other_streams};
+ghost use Rattle.sctp_generations.specs.Skips.{skips_ended, skips_of_other_streams, is_newest_of};
+ghost use Rattle.sctp_generations.specs.Skips.{skips_without_newest_of, skip_ids};
 
 use sctp_wire_types::StreamId;
 use std::alloc::{AllocError, Global};
+use std::collections::BTreeSet;
 use std::marker::Model;
 
 /// A skip of FORWARD TSN that waits (RFC 3758 section 3.2): ordered messages of a stream up to an SSN are passed over.
@@ -82,6 +84,32 @@ impl KeptSkips {
         drop_each(&mut self.list, id, boundary);
     }
 
+    // Drops the skips of generations that did not end, of these streams or, where the set is empty, of all.
+    pub(crate) fn drop_newest(&mut self, ids: &BTreeSet<StreamId>)
+        ensures { self.new ≡ skips_without_newest_of ids.now.keys self.old }
+    {
+        drop_each_newest(&mut self.list, ids);
+    }
+
+    // The streams that have skips, ascending.
+    pub(crate) fn ids(&self, alloc: Global) -> Result<BTreeSet<StreamId>, AllocError>
+        ensures { IfOk result (λ ids. ids.keys ≡ skip_ids self.now) }
+    {
+        ids_of(alloc, self.list.as_slice())
+    }
+
+    pub(crate) fn is_empty(&self) -> bool
+        ensures { result ≡ (length self.now == 0) }
+    {
+        self.list.is_empty()
+    }
+
+    pub(crate) fn clear(&mut self)
+        ensures { self.new ≡ [] }
+    {
+        self.list.clear();
+    }
+
     // Drops all skips of a stream.
     pub(crate) fn discard(&mut self, id: StreamId)
         ensures { self.new ≡ skips_of_other_streams id self.old }
@@ -98,6 +126,13 @@ impl KeptSkip {
         if self.is_of(id, None) {
             self.boundary = Some(boundary);
         }
+    }
+
+    // Whether this is of a generation that did not end, of one of these streams or, where the set is empty, of any.
+    fn is_newest_of(&self, ids: &BTreeSet<StreamId>) -> bool
+        ensures { result ≡ is_newest_of ids.now.keys self.now }
+    {
+        self.boundary.is_none() && (ids.is_empty() || ids.contains(&self.id))
     }
 
     fn is_of(&self, id: StreamId, boundary: Option<u32>) -> bool
@@ -146,6 +181,22 @@ fn drop_each(skips: &mut Vec<KeptSkip>, id: StreamId, boundary: Option<u32>)
     ensures { skips.new.items ≡ skips_of_others id boundary skips.old.items }
 {
     skips.retain(|skip| !skip.is_of(id, boundary));
+}
+
+fn drop_each_newest(skips: &mut Vec<KeptSkip>, ids: &BTreeSet<StreamId>)
+    ensures { skips.new.items ≡ skips_without_newest_of ids.now.keys skips.old.items }
+{
+    skips.retain(|skip| !skip.is_newest_of(ids));
+}
+
+fn ids_of(alloc: Global, skips: &[KeptSkip]) -> Result<BTreeSet<StreamId>, AllocError>
+    ensures { IfOk result (λ ids. ids.keys ≡ skip_ids skips.now) }
+{
+    let mut ids = BTreeSet::new(alloc);
+    for skip in skips {
+        ids.insert(skip.id)?;
+    }
+    Ok(ids)
 }
 
 fn discard_each(skips: &mut Vec<KeptSkip>, id: StreamId)
